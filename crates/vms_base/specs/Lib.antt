@@ -1,3 +1,9 @@
 pub mod Numbers
 pub mod Groups
 pub mod Places
+pub mod Sizes
+pub mod Names
+pub mod Headers
+pub mod Thresholds
+pub mod Marks
+pub mod Watermarks

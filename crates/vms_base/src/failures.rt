@@ -1,5 +1,4 @@
 use std::alloc::{AllocError, AllocFailed};
-
 use thiserror::Error;
 
 /// Want of memory.

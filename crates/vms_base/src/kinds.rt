@@ -15,6 +15,19 @@ pub struct ZoneName {
     pub kind: ZoneKind,
 }
 
+impl ZoneName {
+    ghost use Rattle.std.specs.Prelude.{◌≡◌};
+    ghost use Rattle.vms_base.specs.Places.{rank_of};
+
+    /// Four times the node plus the kind's zone index: zones are ordered as these numbers are.
+    #[inline]
+    pub fn rank(self) -> u64
+        ensures { result ≡ rank_of self }
+    {
+        4 * u64::from(self.node) + self.kind as u64
+    }
+}
+
 /// A zone's managed pages and its three watermarks, in pages of 4096 bytes.
 #[derive(Clone, Copy, Debug, PartialEq, Eq)]
 pub struct ZoneSize {

@@ -2,9 +2,8 @@ ghost use Rattle.std.specs.Prelude.{◌≡◌, ◌++◌, ◌<◌, ◌≤◌, ◌
 ghost use Rattle.std.specs.Fmt.{signed_decimal};
 ghost use Rattle.vms_base.specs.Numbers.{word_of, number_of, bits_of};
 
-use itoa::Buffer;
-
 use crate::Memory;
+use itoa::Buffer;
 
 /// The two's-complement word of `v`.
 #[inline]
@@ -36,6 +35,7 @@ pub fn fls(x: u64) -> u32
     ensures value { result ≡ bits_of x }
     ensures above { x < 2 ^ result }
     ensures least { 0 < result → 2 ^ (result - 1) ≤ x }
+    ensures most { result ≤ 64 }
 {
     64 - x.leading_zeros()
 }

@@ -1,9 +1,8 @@
+use crate::Memory;
 use std::alloc::Global;
 use std::marker::Model;
 
-use crate::Memory;
-
-/// A list of a fixed length, such as the global values by counter.
+/// A list whose length stays, such as the global values by counter.
 #[derive(Debug, Drop)]
 pub struct Row<T> {
     items: Vec<T>,
@@ -18,8 +17,10 @@ impl<T> Model for Row<T> {
 }
 
 impl<T> Row<T> {
-    ghost use Rattle.std.specs.Prelude.{◌≡◌, ◌<◌, ◌^◌, length, replicate, slice_index_or, slice_set, IfOk};
+    ghost use Rattle.std.specs.Prelude.{◌≡◌, ◌<◌, ◌^◌, length};
 
+    /// The row of these items.
+    #[inline]
     pub fn make(items: Vec<T>) -> Row<T>
         ensures { result ≡ items.items }
     {
@@ -40,6 +41,15 @@ impl<T> Row<T> {
     {
         self.items.as_slice()
     }
+
+    /// The items themselves.
+    #[inline]
+    pub fn into_items(self) -> Vec<T>
+        ensures { result.items ≡ self }
+    {
+        let Row { items } = self;
+        items
+    }
 }
 
 impl<T: Copy> Row<T> {
@@ -49,8 +59,19 @@ impl<T: Copy> Row<T> {
     pub fn filled(alloc: Global, len: usize, value: T) -> Result<Row<T>, Memory>
         ensures { IfOk result (λ row. row ≡ replicate len value) }
     {
+        let mut items = Vec::with_capacity(alloc, len)?;
+        while items.len() < len {
+            items.push(value)?;
+        }
+        Ok(Row { items })
+    }
+
+    /// A row of the same items.
+    pub fn from_slice(alloc: Global, items: &[T]) -> Result<Row<T>, Memory>
+        ensures { IfOk result (λ row. row ≡ items.now) }
+    {
         Ok(Row {
-            items: vec![in alloc; value; len]?,
+            items: Vec::from_slice(alloc, items)?,
         })
     }
 

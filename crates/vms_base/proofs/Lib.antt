@@ -1,0 +1,10 @@
+pub mod Bits
+pub mod Lookups
+pub mod Zones
+pub mod Ranks
+pub mod Doubled
+pub mod Made
+pub mod Words
+pub mod Cells
+pub mod Counts
+pub mod Values

@@ -1,0 +1,14 @@
+pub mod CellLemmas
+pub mod ChangeLemmas
+pub mod Effects
+pub mod Shapes
+pub mod Bounds
+pub mod Sums
+pub mod Items
+pub mod PastThreshold
+pub mod PlainData
+pub mod CounterRanges
+pub mod WorkerSteps
+pub mod WithChange
+pub mod Following
+pub mod LevelStates

@@ -1,0 +1,120 @@
+-- What holds of plain data, and what keeps it.
+use Rattle.std.proofs.Common.{◌≡◌, ◌≢◌, ℕ, ◌+◌, ◌*◌, ◌/◌, ◌%◌, ◌^◌, ◌<◌, ◌≤◌, ℤ, pos, List, length, get_or, unsigned_abs, refl, sym, ap, arith, subst, ⊎_elim, ◌∙◌, length-set, get_or-set_same, get_or-set_other, take, drop, length-take, get_or-take, get_or-drop}
+use Rattle.std.proofs.Math.ListN.{set}
+use Rattle.std.proofs.Math.Nat.{mul-div_cancel_left, mul-zero}
+use Rattle.std.proofs.lemmas.Bool.{cases_eq, cases_lt}
+use Rattle.std.proofs.lemmas.List.{get_or_past}
+use Rattle.std.proofs.lemmas.Nat.{mul-add-lt, div-add-mod', div_below, mod_below}
+use Rattle.std.proofs.lemmas.Int.{ints}
+use Rattle.vms_base.specs.Groups.{IsByte, AreBytes}
+use Rattle.vms_base.specs.Places.{Shape, IsLayout, cell, counter_count, place_count}
+use Rattle.vms_base.specs.Thresholds.{most_threshold}
+use Rattle.vms_core.specs.declared.states.State.{State}
+use Rattle.vms_core.specs.Plain.{IsPlainBase}
+use Rattle.vms_core.specs.Cells.{HasShape, TellsGroup, counters_of, places_of}
+use Rattle.vms_core.specs.Plain.{IsPlain}
+
+-- what holds of each cell of a table, and of the default, holds at each index of its list
+each_index : {X : Type 0} (xs : List X) (default : X) (rows width : ℕ) (P : X → Type 0) → length xs ≡ rows * width
+    → ((c k : ℕ) → c < rows → k < width → P (get_or xs (cell width c k) default)) → P default
+    → (n : ℕ) → P (get_or xs n default)
+each_index {X} xs default rows width P full cells none n = ⊎_elim inside outside (cases_lt n (rows * width))
+  where
+    by_width : n < rows * width → (0 < width) → P (get_or xs n default)
+    by_width within some = subst (λ (i : ℕ). P (get_or xs i default)) (div-add-mod' n width)
+        (cells (n / width) (n % width) (div_below n width rows some within) (mod_below n width some))
+
+    inside : n < rows * width → P (get_or xs n default)
+    inside within = ⊎_elim (by_width within) (λ (none : width ≤ 0).
+        let no_width : width ≡ 0 = omega arith in
+        let nothing : rows * width ≡ 0 = rw (no_width, mul-zero) in absurd (omega arith)) (cases_lt 0 width)
+
+    outside : rows * width ≤ n → P (get_or xs n default)
+    outside past = rw (get_or_past xs n default (omega arith)) none
+
+module _ (s : State) (counters places : ℕ) (plain : IsPlain s counters places) where
+  pub diff_cell : (c k : ℕ) → c < length s.cpu → k < counters_of s → cell counters c k < length s.diff
+  diff_cell c k c_in k_in =
+      let width : counters ≡ counter_count plain.shape = plain.one_for_each_counter ∙ plain.shaped.place in
+      let row : c < plain.shape.cpus = omega (arith, plain.shaped.cpu) in
+      let column : k < counter_count plain.shape = omega (arith, plain.shaped.place) in
+      rw (plain.shaped.diff, width)
+      (omega (arith, mul-add-lt c (counter_count plain.shape) k plain.shape.cpus row column))
+
+  -- the eight cells of a group stand in the list
+  pub diff_cells : (c j : ℕ) → c < length s.cpu → j < counters_of s / 8 → cell counters c (8 * j) + 8 ≤ length s.diff
+  diff_cells c j c_in j_in = omega (arith, diff_cell c (8 * j + 7) c_in (omega arith))
+
+  -- each of them is a byte
+  pub AreBytes-part : (start : ℕ) → AreBytes (take 8 (drop start s.diff))
+  AreBytes-part start k = ⊎_elim
+      (λ (within : k < 8). rw (get_or-take 8 (drop start s.diff) k (pos 0) within, get_or-drop start s.diff k (pos 0))
+      (byte (get_or s.diff (start + k) (pos 0)) (plain.diffs (start + k))))
+      (λ (past : 8 ≤ k). rw (get_or_past (take 8 (drop start s.diff)) k (pos 0) (omega (arith, length-take 8 (drop start s.diff))))
+      (byte (pos 0) (omega arith)))
+      (cases_lt k 8)
+    where
+      byte : (z : ℤ) → unsigned_abs z ≤ most_threshold → IsByte z
+      byte z small = (omega (arith, ints), omega (arith, ints))
+
+  pub TellsGroup-part : (c j : ℕ) → TellsGroup s c j (take 8 (drop (cell counters c (8 * j)) s.diff))
+  TellsGroup-part c j i within =
+      rw (get_or-take 8 (drop (cell counters c (8 * j)) s.diff) i (pos 0) within, get_or-drop (cell counters c (8 * j)) s.diff i (pos 0))
+      (ap (λ n. get_or s.diff n (pos 0))
+      (let place : cell counters c (8 * j) + i ≡ cell counters c (8 * j + i) = omega arith in
+      place ∙ ap (λ (width : ℕ). cell width c (8 * j + i)) plain.one_for_each_counter))
+
+  pub IsPlain-put : (n : ℕ) (d : ℤ) → n < length s.diff → unsigned_abs d ≤ most_threshold
+      → IsPlain (record s { diff = set s.diff n d }) counters places
+  IsPlain-put n d within small = record {
+    shape = plain.shape;
+    is_layout = plain.is_layout;
+    shaped = record {
+      place = plain.shaped.place;
+      system = plain.shaped.system;
+      diff = length-set s.diff n d ∙ plain.shaped.diff;
+      threshold = plain.shaped.threshold;
+      mark = plain.shaped.mark;
+      cpu = plain.shaped.cpu;
+      acknowledged = plain.shaped.acknowledged;
+      threshold_sets = plain.shaped.threshold_sets;
+      mark_sets = plain.shaped.mark_sets;
+    };
+    one_for_each_counter = plain.one_for_each_counter;
+    one_for_each_place = plain.one_for_each_place;
+    diffs = λ m. ⊎_elim
+        (λ (same : m ≡ n). rw (same, get_or-set_same s.diff n d (pos 0) within) small)
+        (λ (other : m ≢ n). rw (get_or-set_other s.diff n m d (pos 0) other) (plain.diffs m))
+        (cases_eq m n);
+    thresholds = plain.thresholds;
+    diff_fits = rw (length-set s.diff n d) plain.diff_fits;
+    threshold_fits = plain.threshold_fits;
+  }
+
+module _ (shape : Shape) (s : State) (layout : IsLayout shape) (shaped : HasShape shape s) where
+  -- the number of a table's columns, from the length of its list
+  columns : (n len : ℕ) → len ≡ shape.cpus * n → len / length s.cpu ≡ n
+  columns n len full = rw (shaped.cpu, full) (mul-div_cancel_left n layout.cpus_least)
+
+  pub places_of-shaped : places_of s ≡ place_count shape
+  places_of-shaped = columns (place_count shape) (length s.threshold) shaped.threshold
+
+module _ (s : State) (base : IsPlainBase s) where
+  pub IsPlain-base : length s.diff < 2 ^ 63 → length s.threshold < 2 ^ 63
+      → IsPlain s (length s.diff / length s.cpu) (length s.threshold / length s.cpu)
+  IsPlain-base diff_fits threshold_fits = record {
+    shape = base.shape;
+    is_layout = base.is_layout;
+    shaped = base.opening.shaped;
+    one_for_each_counter = columns base.shape s base.is_layout base.opening.shaped (counter_count base.shape) (length s.diff) base.opening.shaped.diff ∙ sym base.opening.shaped.place;
+    one_for_each_place = refl;
+    diffs = each_index s.diff (pos 0) base.shape.cpus (counter_count base.shape) (λ d. unsigned_abs d ≤ most_threshold)
+        base.opening.shaped.diff
+        (λ c k c_in k_in. rw (← base.opening.shaped.place) (base.opening.diffs c k c_in k_in)) (omega arith);
+    thresholds = each_index s.threshold 0 base.shape.cpus (place_count base.shape) (λ t. t ≤ most_threshold)
+        base.opening.shaped.threshold
+        (λ c g c_in g_in. rw (← places_of-shaped base.shape s base.is_layout base.opening.shaped)
+        (base.opening.thresholds c g c_in g_in)) (omega arith);
+    diff_fits = diff_fits;
+    threshold_fits = threshold_fits;
+  }

@@ -1,0 +1,12 @@
+pub mod Cells
+pub mod Changes
+pub mod Steps
+pub mod Own
+pub mod Totals
+pub mod Peaks
+pub mod Bases
+pub mod Plain
+pub mod Conditions
+pub mod Pages
+pub mod Calls
+pub mod Following

@@ -1,0 +1,34 @@
+ghost use Rattle.std.specs.Prelude.{◌++◌};
+ghost use Rattle.vms_core.specs.declared.steps.Facts.{Facts};
+ghost use Rattle.vms_core.specs.Cells.{HasShape};
+ghost use Rattle.vms_core.specs.Pages.{History, IsLegal, state_after, KeepsTotals, KeepsSystemTotals, BoundsDifferentials};
+
+/// The lists of a state keep the lengths that the layout gives them.
+pub fn shape_is_kept()
+    ensures { (facts : Facts) (h : History) → IsLegal facts h → HasShape facts.layout (state_after facts h) }
+{}
+
+/// The global value of a counter, its differentials and what is carried for it add up to its true total.
+pub fn totals_are_kept()
+    ensures { (facts : Facts) (h : History) → IsLegal facts h → KeepsTotals facts h }
+{}
+
+/// The system-wide value of an item, the differentials of its counters and what is carried for it add up to its true
+/// total.
+pub fn systems_are_kept()
+    ensures { (facts : Facts) (h : History) → IsLegal facts h → KeepsSystemTotals facts h }
+{}
+
+/// A differential is at most the threshold that was used on it last.
+pub fn differentials_are_bounded()
+    ensures { (facts : Facts) (h : History) → IsLegal facts h → BoundsDifferentials facts h }
+{}
+
+/// Every beginning of a legal history is legal, so that all of this holds after each of its steps.
+pub fn each_beginning_is_kept()
+    ensures totals { (facts : Facts) (more h : History) → IsLegal facts (more ++ h) → KeepsTotals facts h }
+    ensures systems { (facts : Facts) (more h : History) → IsLegal facts (more ++ h) →
+        KeepsSystemTotals facts h }
+    ensures differentials { (facts : Facts) (more h : History) → IsLegal facts (more ++ h) →
+        BoundsDifferentials facts h }
+{}

@@ -1,0 +1,6 @@
+pub mod Own
+pub mod Prefixes
+pub mod PassLaws
+pub mod OwnAt
+pub mod SumLaws
+pub mod CallerSums

@@ -1,0 +1,4 @@
+pub mod Sums
+pub mod Events
+pub mod Passes
+pub mod Legal

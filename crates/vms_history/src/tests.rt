@@ -1,0 +1,73 @@
+ghost use Rattle.std.specs.Prelude.{◌≡◌, ℕ, suc, [], ◌∷◌, None};
+ghost use Rattle.vms_history.specs.Legal.{Machine, IsLegal, state_after};
+ghost use Rattle.vms_history.specs.Passes.Turn.{Works, Begins, Ends};
+ghost use Rattle.vms_history.specs.declared.events.Event.{Event};
+ghost use Rattle.vms_history.specs.declared.tests.Ring.TheVariants.{Open, Shut, Strike};
+
+use super::*;
+
+#[derive(Clone, Copy, Debug, PartialEq, Eq)]
+enum Ring {
+    Open(u32),
+    Shut(u32),
+    Strike,
+}
+
+/// A bell that each pass may strike; its state is how often it rang.
+struct Bell;
+
+impl Table for Bell {
+    type Facts = u32;
+
+    type Step = Ring;
+
+    ghost State = { ℕ };
+
+    ghost machine = { record {
+      turn = elim [ Open q ↦ Begins q None | Shut q ↦ Ends q | Strike ↦ Works ];
+      base = λ most. 0;
+      effect = λ most cpu step rung. elim step [ Open q ↦ rung | Shut q ↦ rung | Strike ↦ suc rung ];
+      CanBegin = λ most. Unit {0};
+      MayOwn = λ most cpu. Unit {0};
+      MayEnd = λ most own. Unit {0};
+      Meets = λ most h rung p step. Unit {0};
+    } };
+}
+
+/// Pass 1 begins, strikes the bell and ends: a legal history, after which the bell has rung once. A pass that has not
+/// begun may not strike it.
+fn rings_once()
+    ensures legal { IsLegal ⟦<Bell as Table>⟧.machine 3 (record { caller = 0; step = Shut 1 } ∷
+        record { caller = 1; step = Strike } ∷ record { caller = 0; step = Open 1 } ∷ []) }
+    ensures state { state_after ⟦<Bell as Table>⟧.machine 3 (record { caller = 0; step = Shut 1 } ∷
+        record { caller = 1; step = Strike } ∷ record { caller = 0; step = Open 1 } ∷ []) ≡ 1 }
+    ensures not_begun { IsLegal ⟦<Bell as Table>⟧.machine 3 (record { caller = 1; step = Strike } ∷ []) → ⊥ }
+{}
+
+#[test]
+fn laws_hold_of_a_bell() {
+    rings_once();
+    acting_goes_by_own_events::<Bell>();
+    ended_is_over::<Bell>();
+    histories_extend::<Bell>();
+    live_is_given::<Bell>();
+    main_changes_passes::<Bell>();
+    newest_event_is_legal::<Bell>();
+    newest_own_parts::<Bell>();
+    not_given_is_unused::<Bell>();
+    nothing_follows::<Bell>();
+    one_live_owner::<Bell>();
+    others_change_no_pass::<Bell>();
+    own_after_steps::<Bell>();
+    own_at_is_own::<Bell>();
+    own_events_are_legal::<Bell>();
+    own_of_list::<Bell>();
+    owner_stays::<Bell>();
+    prefix_is_legal::<Bell>();
+    steps_in_a_row::<Bell>();
+    sum_goes_by_values();
+    total_adds_up::<Bell>();
+    total_by_caller::<Bell>();
+    turn_changes_passes::<Bell>();
+    who_may_act::<Bell>();
+}

@@ -1,0 +1,34 @@
+-- The count of faults of a source or a sink.
+use Rattle.std.specs.Prelude.{◌≡◌, ℕ, ◌+◌, ◌-◌, ◌^◌, ◌<◌, ◌≤◌, min, List, Contains, Result, MatchResult}
+
+-- the count rose, or it stands at the last value that it has
+pub record Rose (before now : ℕ) : Type 0 where
+  pub rose : min (before + 1) (2 ^ 64 - 1) ≤ now
+  pub kept : before ≤ now
+  pub fits : now < 2 ^ 64
+
+-- a call that succeeds leaves the count of faults, and one that fails has raised it
+abbrev pub CountsFaults : {A E : Type 0} → ℕ → ℕ → Result A E → Type 0
+CountsFaults before now result = MatchResult result (λ _. now ≡ before) (λ _. Rose before now)
+
+-- the calls that are to fail, by their numbers from 1, how many were made, and how many failed
+pub record Tally : Type 0 where
+  pub fails : List ℕ
+  pub made : ℕ
+  pub failed : ℕ
+
+-- one more, and at most 2^64 - 1
+abbrev pub counted : ℕ → ℕ
+counted n = min (n + 1) (2 ^ 64 - 1)
+
+-- the next call is one of those that are to fail
+abbrev pub FailsNext : Tally → Type 0
+FailsNext tally = Contains tally.fails (counted tally.made)
+
+-- one more call was made
+abbrev pub after_call : Tally → Tally
+after_call tally = record tally { made = counted tally.made }
+
+-- one more call was made, and it failed
+abbrev pub after_fault : Tally → Tally
+after_fault tally = record tally { made = counted tally.made; failed = counted tally.failed }

@@ -1,0 +1,53 @@
+use crate::Failed;
+use std::marker::Model;
+
+/// The numbers of the calls that are to fail, from 1, and how many calls were made and failed.
+#[derive(Drop)]
+pub(crate) struct Calls {
+    fails: Vec<u32>,
+    made: u64,
+    failed: u64,
+}
+
+impl Model for Calls {
+    ghost use Rattle.std.specs.Prelude.{vec_items};
+    ghost use Rattle.vms_io.specs.Faults.{Tally};
+
+    ghost Value = { Tally };
+
+    ghost view = { λ calls. record { fails = vec_items calls.fails; made = calls.made; failed = calls.failed } };
+}
+
+ghost use Rattle.std.specs.Prelude.{◌≡◌, ◌↔◌, Contains, IsTrue};
+ghost use Rattle.vms_io.specs.Faults.{Rose, after_call, counted};
+
+impl Calls {
+    pub(crate) fn make(fails: Vec<u32>) -> Calls
+        ensures { result ≡ record { fails = fails.items; made = 0; failed = 0 } }
+    {
+        Calls {
+            fails,
+            made: 0,
+            failed: 0,
+        }
+    }
+
+    /// Counts one more call, and says whether it is to fail.
+    pub(crate) fn next(&mut self) -> bool
+        ensures fails { IsTrue result ↔ Contains self.new.fails self.new.made }
+        ensures made { self.new ≡ after_call self.old }
+    {
+        self.made = self.made.saturating_add(1);
+        let number = self.made;
+        self.fails.iter().any(|fails| u64::from(*fails) == number)
+    }
+
+    /// Counts one more fault.
+    pub(crate) fn fault(&mut self) -> Failed
+        ensures failed { self.new ≡ record self.old { failed = counted self.old.failed } }
+        ensures rose { Rose self.old.failed self.new.failed }
+    {
+        self.failed = self.failed.saturating_add(1);
+        Failed
+    }
+}
