@@ -1,0 +1,12 @@
+pub mod Digits
+pub mod Numbers
+pub mod Cuts
+pub mod Blanks
+pub mod Changes
+pub mod TextLaws
+pub mod NumberLaws
+pub mod HeadWords
+pub mod HeadMade
+pub mod HeadLaws
+pub mod Settled
+pub mod Ranges
