@@ -1,0 +1,13 @@
+pub mod Judging
+pub mod Output
+pub mod Phases
+pub mod Worlds
+pub mod FileOrder
+pub mod Ready
+pub mod Progress
+pub mod Standing
+pub mod Answers
+pub mod Running
+pub mod Courses
+pub mod Openings
+pub mod Commands

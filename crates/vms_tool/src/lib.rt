@@ -1,0 +1,21 @@
+//! The commands of the program, over any source and sink.
+#![tactic(auto)]
+
+mod commands;
+mod courses;
+mod items;
+mod judging;
+mod openings;
+mod replaying;
+mod reports;
+mod running;
+mod starting;
+mod statuses;
+mod stops;
+#[cfg(test)]
+mod tests;
+mod thresholds;
+
+pub use commands::{tool, tool_replay};
+pub use items::Item;
+pub use statuses::Status;
