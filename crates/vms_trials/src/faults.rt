@@ -1,0 +1,223 @@
+use crate::runs::{BEHIND, BETWEEN, Devices, HEADER, SOUND, run};
+use std::process::Abort;
+use std::test::Fail;
+use vms_tool::Status;
+
+/// A run over devices that fail.
+struct Row<'a> {
+    name: &'a str,
+    words: &'a [&'a str],
+    header: &'a str,
+    devices: Devices<'a>,
+    status: Status,
+    /// What is written with devices that never fail.
+    output: &'a [&'a str],
+    /// The fewest and the most bytes of the output that are written.
+    least: usize,
+    most: usize,
+}
+
+/// The header and this body have 135 bytes.
+const BODY: &str = "c0 mod 0 Normal nr_free_pages -32\nreport totals\n";
+
+const REPORT: &[&str] = &[
+    "line 7: report totals\n0 Normal nr_free_pages 9968\n",
+    BETWEEN,
+    "0 Normal nr_mlock 0\n",
+    BEHIND,
+    "done accepted 2 refused 0\n",
+];
+
+/// What stands before the last line of the report.
+const BEFORE_DONE: usize = 70 + BETWEEN.len() + BEHIND.len();
+
+const ROWS: [Row<'static>; 12] = [
+    Row {
+        name: "the first read fails",
+        words: &["replay"],
+        header: HEADER,
+        devices: Devices {
+            failing_reads: &[1],
+            ..SOUND
+        },
+        status: Status::ReadFault,
+        output: REPORT,
+        least: 0,
+        most: 0,
+    },
+    Row {
+        name: "a read fails within the header",
+        words: &["replay"],
+        header: HEADER,
+        devices: Devices {
+            read: 64,
+            failing_reads: &[2],
+            ..SOUND
+        },
+        status: Status::ReadFault,
+        output: REPORT,
+        least: 0,
+        most: 0,
+    },
+    Row {
+        name: "a read fails within the body",
+        words: &["replay"],
+        header: HEADER,
+        devices: Devices {
+            read: 64,
+            failing_reads: &[3],
+            ..SOUND
+        },
+        status: Status::ReadFault,
+        output: REPORT,
+        least: 0,
+        most: 0,
+    },
+    Row {
+        name: "the read that would tell the end fails",
+        words: &["replay"],
+        header: HEADER,
+        devices: Devices {
+            read: 64,
+            failing_reads: &[4],
+            write: 8,
+            ..SOUND
+        },
+        status: Status::ReadFault,
+        output: REPORT,
+        least: 0,
+        most: BEFORE_DONE,
+    },
+    Row {
+        name: "a read fails behind a header that is refused",
+        words: &["replay"],
+        header: "vmtrace 2\n",
+        devices: Devices {
+            read: 16,
+            failing_reads: &[2],
+            ..SOUND
+        },
+        status: Status::Header,
+        output: &["line 1: NotBuilt\n"],
+        least: 17,
+        most: 17,
+    },
+    Row {
+        name: "the first write fails",
+        words: &["replay"],
+        header: HEADER,
+        devices: Devices {
+            failing_writes: &[1],
+            ..SOUND
+        },
+        status: Status::WriteFault,
+        output: REPORT,
+        least: 0,
+        most: 0,
+    },
+    Row {
+        name: "the second write fails",
+        words: &["replay"],
+        header: HEADER,
+        devices: Devices {
+            write: 8,
+            failing_writes: &[2],
+            ..SOUND
+        },
+        status: Status::WriteFault,
+        output: REPORT,
+        least: 8,
+        most: 8,
+    },
+    Row {
+        name: "the room is used up",
+        words: &["replay"],
+        header: HEADER,
+        devices: Devices {
+            write: 8,
+            room: 100,
+            ..SOUND
+        },
+        status: Status::WriteFault,
+        output: REPORT,
+        least: 100,
+        most: 100,
+    },
+    Row {
+        name: "the last byte has no room",
+        words: &["replay"],
+        header: HEADER,
+        devices: Devices {
+            room: BEFORE_DONE + 25,
+            ..SOUND
+        },
+        status: Status::WriteFault,
+        output: REPORT,
+        least: BEFORE_DONE + 25,
+        most: BEFORE_DONE + 25,
+    },
+    Row {
+        name: "the write of a header's fault fails",
+        words: &["replay"],
+        header: "vmtrace 2\n",
+        devices: Devices {
+            write: 8,
+            failing_writes: &[2],
+            ..SOUND
+        },
+        status: Status::WriteFault,
+        output: &["line 1: NotBuilt\n"],
+        least: 8,
+        most: 8,
+    },
+    Row {
+        name: "the write of the usage fails",
+        words: &["run"],
+        header: HEADER,
+        devices: Devices {
+            failing_writes: &[1],
+            ..SOUND
+        },
+        status: Status::WriteFault,
+        output: &["usage: check | replay | run | gen SEED CPUS LINES\n"],
+        least: 0,
+        most: 0,
+    },
+    Row {
+        name: "other words read nothing",
+        words: &["run"],
+        header: HEADER,
+        devices: Devices {
+            failing_reads: &[1],
+            ..SOUND
+        },
+        status: Status::Words,
+        output: &["usage: check | replay | run | gen SEED CPUS LINES\n"],
+        least: 50,
+        most: 50,
+    },
+];
+
+/// Runs a row, and looks at its status and at what was written.
+fn try_row<R: AllocGlobal + Abort>(rt: &R, row: &Row<'_>) -> Result<(), Fail> {
+    let text = [row.header, BODY].concat(rt.alloc())?;
+    let output = row.output.concat(rt.alloc())?;
+    let (status, _src, out) = run(rt, row.words, text.as_bytes(), row.devices)?;
+    let written = out.bytes();
+    assert_eq!(rt; status, row.status, "{}", row.name);
+    assert!(rt; output.as_bytes().starts_with(written), "{}", row.name);
+    assert!(rt;
+        row.least <= written.len() && written.len() <= row.most,
+        "{}",
+        row.name
+    );
+    Ok(())
+}
+
+#[test]
+fn faults_leave_a_prefix_of_the_output(rt: HostRuntime) -> Result<(), Fail> {
+    for row in &ROWS {
+        try_row(&rt, row)?;
+    }
+    Ok(())
+}

@@ -1,0 +1,16 @@
+//! Trials of the whole program over sources and sinks in memory: traces with the output that is due, and faults of the
+//! devices.
+#![tactic(auto)]
+
+#[cfg(test)]
+mod faults;
+#[cfg(test)]
+mod headers;
+#[cfg(test)]
+mod limits;
+#[cfg(test)]
+mod replays;
+#[cfg(test)]
+mod runs;
+#[cfg(test)]
+mod usage;
