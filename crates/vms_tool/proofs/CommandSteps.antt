@@ -103,7 +103,10 @@ answers_refused left left' held held' taken at_end fault (Err WriteFault) consum
   written = refuses.written;
   consumes = consumes;
   appends = refuses.appends;
-  answer = begins_header taken at_end fault refuses.written refuses.outcome.0 refused refuses.outcome.1;
+  answer = (
+    elim refused.decided [ inl by_line ↦ inr (fault, by_line.0, by_line.1, by_line.2, by_line.3) | inr by_end ↦ inl by_end.2 ],
+    begins_header taken at_end fault refuses.written refuses.outcome.0 refused refuses.outcome.1,
+  );
 }
 answers_refused left left' held held' taken at_end fault (Err Memory) consumes refused ended refuses = record {
   taken = taken;

@@ -1,5 +1,5 @@
 -- The end of a course, and its beginning.
-use Rattle.std.proofs.Common.{◌≡◌, ◌≢◌, ℕ, suc, zero, ◌≤◌, true, List, [], ◌++◌, length, take, drop, take-append-drop, Option, Ok, Err, Result, refl, sym, ap, subst, ◌∙◌, append_assoc, append-nil, inr}
+use Rattle.std.proofs.Common.{inl, ◌≡◌, ◌≢◌, ℕ, suc, zero, ◌≤◌, true, List, [], ◌++◌, length, take, drop, take-append-drop, Option, Ok, Err, Result, refl, sym, ap, subst, ◌∙◌, append_assoc, append-nil, inr}
 use Rattle.std.specs.Io.KnownBytes.{Appends, IsAtEnd}
 use Rattle.vms_base.specs.declared.headers.Header.{Header}
 use Rattle.vms_core.specs.declared.states.State.{State}
@@ -65,7 +65,7 @@ module _ (header : Header) (count : ℕ) (from : State) (fed written : List ℕ)
       moved = take n waiting;
       appends = appends;
       outcome = subst (λ (s : Stop). Stops s (taken_by fed course) (written ++ take n waiting)) (sym cause)
-          (begins_part (taken_by fed course) written waiting n (replays (Unit {0}) tt).whole_output);
+          (inl is.within, begins_part (taken_by fed course) written waiting n (replays (Unit {0}) tt).whole_output);
     }
 
     -- the whole output was written

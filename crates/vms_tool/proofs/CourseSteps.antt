@@ -58,9 +58,11 @@ Writes-flushed header count from fed written course course' held held' (Err stop
       same_input = i;
       same_end = e;
       same_count = t;
-      outcome = subst (λ (s : Stop). Stops s (taken_by fed course) (written ++ take n bytes)) (sym cause)
-          (begins header count from fed (taken_by fed course) others.0 course.replay (written ++ take n bytes) (drop n bytes)
-          (subst (λ (b : List ℕ). Runs header count from fed course.replay b) (sym split) is.runs) others.1);
+      outcome = subst (λ (s : Stop). Stops s (taken_by fed course) (written ++ take n bytes)) (sym cause) (
+        inl is.within,
+        begins header count from fed (taken_by fed course) others.0 course.replay (written ++ take n bytes) (drop n bytes)
+            (subst (λ (b : List ℕ). Runs header count from fed course.replay b) (sym split) is.runs) others.1,
+      );
     }
 
 -- known bytes that stay are none taken

@@ -1,5 +1,5 @@
 -- What lines change and spend together.
-use Rattle.std.proofs.Common.{◌≡◌, ℕ, ◌+◌, ◌≤◌, nat_eq, Bool, true, false, ℤ, pos, ◌+ℤ◌, unsigned_abs, List, [], ◌∷◌, refl, sym, ap, ◌∙◌, subst, arith, if◌then◌else◌}
+use Rattle.std.proofs.Common.{◌≡◌, ℕ, ◌+◌, ◌≤◌, nat_eq, Bool, true, false, ℤ, pos, ◌+ℤ◌, unsigned_abs, List, [], ◌∷◌, ◌++◌, refl, sym, ap, ◌∙◌, subst, arith, if◌then◌else◌}
 use Rattle.std.specs.Prelude.{All}
 use Rattle.std.proofs.lemmas.Int.{ints}
 use Rattle.std.proofs.lemmas.List.Elements.{All-cons, All-tail}
@@ -21,6 +21,15 @@ item_is item first =
     ap (λ (lane : Lane). let it : Item = record { number = item.number; lane = lane; act = item.act } in it) first.2
     ∙ ap (λ (act : Act). let it : Item = record
     { number = item.number; lane = Cpu (record { number = 0 }); act = act } in it) first.3
+
+pub volume-append : (c k : ℕ) (items more : List Item) → volume c k (items ++ more) ≡ volume c k items + volume c k more
+volume-append c k [] more = omega arith
+volume-append c k (item ∷ items) more = omega (arith, volume-append c k items more)
+
+pub change_by_all-append : (k : ℕ) (items more : List Item)
+    → change_by_all k (items ++ more) ≡ change_by_all k items +ℤ change_by_all k more
+change_by_all-append k [] more = omega (arith, ints)
+change_by_all-append k (item ∷ items) more = omega (arith, ints, change_by_all-append k items more)
 
 pub volume-onto : (c k : ℕ) (items before : List Item) → volume c k (onto items before)
     ≡ volume c k items + volume c k before

@@ -139,8 +139,12 @@ module _ (held held' : List ℕ) (left left' : Option (List ℕ)) (n : ℕ) (get
 
             by : (b : Bool) → nat_eq n 0 ≡ b → (read_header (lines_of (take r held')) ≡ Err fault_here) × ((nat_eq n 0 ≡ true) ⊎ (line ≤ length (lines_of (take r held'))))
                 → ((whole : List ℕ) × (partial : List ℕ) × Cuts held' whole partial × RefusesAt (lines_of whole) fault_here)
-                ⊎ ((nat_eq n 0 ≡ true) × (read_header (lines_of held') ≡ Err fault_here))
-            by true at_end refused = inr (at_end, subst (λ (text : List ℕ). read_header (lines_of text) ≡ Err fault_here) (whole_text at_end) refused.0)
+                ⊎ ((nat_eq n 0 ≡ true) × (read_header (lines_of held') ≡ Err fault_here) × (length held' ≤ most_bytes))
+            by true at_end refused = inr (
+              at_end,
+              subst (λ (text : List ℕ). read_header (lines_of text) ≡ Err fault_here) (whole_text at_end) refused.0,
+              omega (arith, ended_same at_end, within_before),
+            )
             by false before refused = inl (
               take r held',
               drop r held',

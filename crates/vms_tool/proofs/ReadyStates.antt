@@ -1,7 +1,6 @@
 -- A phase of CPU 0's lines leads from a state between phases to another.
 use Rattle.std.proofs.Common.{◌≡◌, ℕ, zero, suc, ◌+◌, ◌/◌, ◌^◌, ◌<◌, ◌≤◌, ℤ, pos, ◌+ℤ◌, unsigned_abs, List, [], length, get_or, refl, sym, ap, ◌∙◌, subst, arith}
 use Rattle.std.proofs.Math.ListN.{set}
-use Rattle.std.specs.Prelude.{All}
 use Rattle.std.proofs.lemmas.Int.{ints}
 use Rattle.vms_base.specs.declared.headers.Header.{Header}
 use Rattle.vms_base.specs.declared.kinds.CpuState.TheVariants.{Online, Absent}
@@ -19,12 +18,12 @@ use Rattle.vms_core.specs.Plain.{IsPlainBase}
 use Rattle.vms_core.specs.Peaks.{largest_below, if_present, opening_peak, peak_sum}
 use Rattle.vms_tool.specs.declared.items.Item.{Item}
 use Rattle.vms_tool.specs.Judging.{change_by_all, volume}
+use Rattle.vms_tool.specs.OpenPhases.{HasNumbers, threshold_for, total_with, with_numbers}
 use Rattle.vms_tool.specs.Output.{plain_total}
 use Rattle.vms_tool.specs.Ready.{IsReady, CanReplay, IsFirstItem, facts_of, onto}
 use Rattle.vms_tool.specs.Worlds.{base_of}
 use Rattle.vms_tool.proofs.FirstStates.{InRange, at_zero, item_is_counter, base_of-small}
 use Rattle.vms_tool.proofs.LineSums.{volume-onto, change_by_all-onto, change_within_volume, All-onto}
-use Rattle.vms_tool.proofs.PhaseNumbers.{Numbers}
 use Rattle.vms_trace.specs.Head.{header_of}
 
 -- plain data may begin with such a state
@@ -45,28 +44,17 @@ largest_below-le f zero most each = omega arith
 largest_below-le f (suc n) most each =
     omega (arith, each n (omega arith), largest_below-le f n most (λ i below. each i (omega arith)))
 
--- the state with other values and differentials
-abbrev pub with_numbers : State → List ℤ → List ℤ → State
-with_numbers s p d = record s { place = p; system = p; diff = d }
-
--- the threshold of CPU 0 for a counter, and what values and differentials are to come to
-abbrev pub threshold_for : Shape → State → ℕ → ℕ
-threshold_for shape s k = threshold_at s 0 (place_of shape k)
-
-abbrev pub aim_of : State → List Item → ℕ → ℤ
-aim_of s items k = (value_at s k +ℤ diff_at s 0 k) +ℤ change_by_all k items
-
 -- bounds of a value, from what it comes to with a differential
-bounded_left : (v d r s e i : ℤ) → (v +ℤ d) +ℤ r ≡ (s +ℤ e) +ℤ i → unsigned_abs d ≤ 125 → unsigned_abs r ≤ 2 ^ 48
+bounded_left : (v d s e i : ℤ) → v +ℤ d ≡ (s +ℤ e) +ℤ i → unsigned_abs d ≤ 125
     → unsigned_abs s ≤ 2 ^ 60 → unsigned_abs e ≤ 125 → unsigned_abs i ≤ 2 ^ 48 → unsigned_abs v ≤ 2 ^ 61
-bounded_left v d r s e i sum d_in r_in s_in e_in i_in = omega (arith, ints)
+bounded_left v d s e i sum d_in s_in e_in i_in = omega (arith, ints)
 
 bounded_total : (v d b o : ℤ) → v +ℤ d ≡ b +ℤ o → unsigned_abs d ≤ 125 → unsigned_abs b ≤ 2 ^ 48
     → unsigned_abs o ≤ 2 ^ 48 → unsigned_abs v ≤ 2 ^ 60
 bounded_total v d b o sum d_in b_in o_in = omega (arith, ints)
 
-total_with : (w x b c i o : ℤ) → w +ℤ pos 0 ≡ x +ℤ i → x ≡ b +ℤ c → o ≡ i +ℤ c → w ≡ b +ℤ o
-total_with w x b c i o sum was all = omega (arith, ints)
+total_over : (w x b c i o : ℤ) → w ≡ x +ℤ i → x ≡ b +ℤ c → o ≡ i +ℤ c → w ≡ b +ℤ o
+total_over w x b c i o sum was all = omega (arith, ints)
 
 -- the first row of a table
 pub cell-first : (width k : ℕ) → cell width 0 k ≡ k
@@ -93,24 +81,29 @@ module _ (size : ZoneSize) (base : ℤ) (ranges : InRange size base) where
   with_change-is s p d k delta known =
       rw (item_is_counter size base ranges k known, cell-first (length p) k) refl
 
+  -- the numbers of a state between phases
+  pub HasNumbers-ready : (s : State) (before : List Item) → IsReady header before s
+      → HasNumbers 16 (threshold_for layout s) (total_with s []) s.place s.diff
+  HasNumbers-ready s before ready = record {
+    each_value = ready.base.opening.shaped.place;
+    each_diff = ready.base.opening.shaped.diff;
+    within = λ k known. subst (λ (z : ℤ). unsigned_abs z ≤ threshold_for layout s k) (diff_read k)
+        (ready.within k known);
+    balanced = λ k known. ap (λ z. value_at s k +ℤ z) (sym (diff_read k)) ∙ plus_none (value_at s k +ℤ diff_at s 0 k);
+  }
+    where
+      diff_read : (k : ℕ) → diff_at s 0 k ≡ get_or s.diff k (pos 0)
+      diff_read k = ap (λ n. get_or s.diff n (pos 0)) (cell-first (length s.place) k)
+
+      plus_none : (z : ℤ) → z ≡ z +ℤ pos 0
+      plus_none z = omega (arith, ints)
+
   module _ (s : State) (items : List Item) (can : CanReplay header items s) where
-    abbrev pub numbers_of : List Item → List ℤ → List ℤ → Type 0
-    numbers_of rest p d = Numbers (threshold_for layout s) (aim_of s items) rest p d
+    abbrev pub numbers_of : List ℤ → List ℤ → Type 0
+    numbers_of p d = HasNumbers 16 (threshold_for layout s) (total_with s items) p d
 
     pub affordable : (k : ℕ) → volume 0 k items ≤ most_volume
     affordable k = omega (arith, can.may_follow.affordable k, volume-onto 0 k items can.before)
-
-    diff_read : (k : ℕ) → diff_at s 0 k ≡ get_or s.diff k (pos 0)
-    diff_read k = ap (λ n. get_or s.diff n (pos 0)) (cell-first (length s.place) k)
-
-    pub Numbers-opening : numbers_of items s.place s.diff
-    Numbers-opening = record {
-      values = can.ready.base.opening.shaped.place;
-      diffs = can.ready.base.opening.shaped.diff;
-      within = λ k known. subst (λ (z : ℤ). unsigned_abs z ≤ threshold_for layout s k) (diff_read k)
-          (can.ready.within k known);
-      balanced = λ k known. ap (λ z. (value_at s k +ℤ z) +ℤ change_by_all k items) (sym (diff_read k));
-    }
 
     module _ (p d : List ℤ) where
       abbrev now : State
@@ -119,11 +112,11 @@ module _ (size : ZoneSize) (base : ℤ) (ranges : InRange size base) where
       pub now_diff : (k : ℕ) → diff_at now 0 k ≡ get_or d k (pos 0)
       now_diff k = ap (λ n. get_or d n (pos 0)) (cell-first (length p) k)
 
-      pub HasShape-numbers : (rest : List Item) → numbers_of rest p d → HasShape layout now
-      HasShape-numbers rest numbers = record {
-        place = numbers.values;
-        system = numbers.values;
-        diff = numbers.diffs;
+      pub HasShape-numbers : numbers_of p d → HasShape layout now
+      HasShape-numbers numbers = record {
+        place = numbers.each_value;
+        system = numbers.each_value;
+        diff = numbers.each_diff;
         threshold = can.ready.base.opening.shaped.threshold;
         mark = can.ready.base.opening.shaped.mark;
         cpu = can.ready.base.opening.shaped.cpu;
@@ -137,26 +130,23 @@ module _ (size : ZoneSize) (base : ℤ) (ranges : InRange size base) where
       diff_small k known small = omega
           (arith, can.ready.base.opening.thresholds 0 (k / 8) (omega arith) (omega arith))
 
-      -- while lines are left
-      pub value_bounded : (rest : List Item) (k : ℕ) → k < 16 → numbers_of rest p d → All IsFirstItem rest
-          → volume 0 k rest ≤ most_volume
-          → unsigned_abs (get_or p k (pos 0)) ≤ 2 ^ 61
-      value_bounded rest k known numbers all left =
-          bounded_left (get_or p k (pos 0)) (get_or d k (pos 0)) (change_by_all k rest) (value_at s k) (diff_at s 0 k)
+      pub value_bounded : (k : ℕ) → k < 16 → numbers_of p d → unsigned_abs (get_or p k (pos 0)) ≤ 2 ^ 61
+      value_bounded k known numbers =
+          bounded_left (get_or p k (pos 0)) (get_or d k (pos 0)) (value_at s k) (diff_at s 0 k)
           (change_by_all k items)
           (numbers.balanced k known) (diff_small k known (numbers.within k known))
-          (omega (arith, change_within_volume k rest all)) (can.ready.base.opening.values k known)
+          (can.ready.base.opening.values k known)
           (can.ready.base.opening.diffs 0 k (omega arith) known)
           (omega (arith, change_within_volume k items can.may_follow.each, affordable k))
 
-      module _ (numbers : numbers_of [] p d) where
+      module _ (numbers : numbers_of p d) where
         within_now : (k : ℕ) → k < 16 → unsigned_abs (diff_at now 0 k) ≤ threshold_for layout s k
         within_now k known = subst (λ (z : ℤ). unsigned_abs z ≤ threshold_for layout s k) (sym (now_diff k))
             (numbers.within k known)
 
         total_is : (k : ℕ) → k < 16 → get_or p k (pos 0) +ℤ get_or d k (pos 0)
             ≡ plain_total header (onto items can.before) k
-        total_is k known = total_with (get_or p k (pos 0) +ℤ get_or d k (pos 0)) (value_at s k +ℤ diff_at s 0 k)
+        total_is k known = total_over (get_or p k (pos 0) +ℤ get_or d k (pos 0)) (value_at s k +ℤ diff_at s 0 k)
             (base_of header k)
             (change_by_all k can.before) (change_by_all k items) (change_by_all k (onto items can.before))
             (numbers.balanced k known) (can.ready.balanced k known) (change_by_all-onto k items can.before)
@@ -199,7 +189,7 @@ module _ (size : ZoneSize) (base : ℤ) (ranges : InRange size base) where
             one_size_each = can.ready.base.one_size_each;
             sizes = can.ready.base.sizes;
             opening = record {
-              shaped = HasShape-numbers [] numbers;
+              shaped = HasShape-numbers numbers;
               some_online = can.ready.base.opening.some_online;
               values = value_small;
               systems = value_small;

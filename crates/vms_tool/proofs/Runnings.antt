@@ -199,10 +199,10 @@ Replays-done header count from taken replay last bytes written at_end runs stand
           ∙ sym (ap (λ (a : Above). a.refused) above) ∙ sym stands.refused;
       in_order = subst (λ (found : Result (Header × ℕ) Fault). HasHistory found (lines_of taken)) (sym runs.read) (record {
         start = from;
-        end = last.plain;
+        end = stands.leaves.opening;
         phases = stands.leaves.phases;
         is_start = runs.start;
-        leads = subst (λ (ended : List (List Item)). Leads header from ended stands.leaves.phases last.plain)
+        leads = subst (λ (ended : List (List Item)). Leads header from ended stands.leaves.phases stands.leaves.opening)
             (past_lines-phases header (progress_at (suc count)) lines refl) stands.leaves.leads;
       });
       whole_output = appended ∙ ap₂ (λ (front : List ℕ) (a : Above). front ++ done_line a) runs.prints above

@@ -50,6 +50,11 @@ pub record NotRefused (taken : List ℕ) : Type 0 where
   pub cuts : Cuts taken whole partial
   pub not_refused : (fault : Fault) → ¬ RefusesAt (lines_of whole) fault
 
+-- no more was taken than an input may have, unless whole lines of it refuse the header
+abbrev pub KeepsLimit : List ℕ → Type 0
+KeepsLimit taken = (length taken ≤ most_bytes)
+    ⊎ ((fault : Fault) × (whole : List ℕ) × (partial : List ℕ) × Cuts taken whole partial × RefusesAt (lines_of whole) fault)
+
 -- the input was read to its end, its header was accepted, and the whole output of the text was written, which is that
 -- of its file-order histories
 pub record Replays (refused : ℕ) (taken written : List ℕ) (at_end : Type 0) : Type 0 where
@@ -80,7 +85,7 @@ Says Words taken written at_end = ⊥
 Says HeaderStatus taken written at_end = HeaderRefused taken written at_end
 Says Refused taken written at_end = (n : ℕ) × Replays (suc n) taken written at_end
 Says ReadFault taken written at_end = (length taken ≤ most_bytes) × NotRefused taken × BeginsOutput taken written
-Says WriteFault taken written at_end = BeginsOutput taken written
+Says WriteFault taken written at_end = KeepsLimit taken × BeginsOutput taken written
 Says Memory taken written at_end = BeginsOutput taken written
 Says TooLong taken written at_end = (most_bytes < length taken) × NotRefused taken × BeginsOutput taken written
 
@@ -101,7 +106,7 @@ IsReplay words = words ≡ codes "replay" ∷ []
 abbrev pub SaysUnder : List (List ℕ) → Status → List ℕ → List ℕ → Type 0 → Type 0
 SaysUnder words Words taken written at_end = ¬ IsReplay words × (taken ≡ []) × (written ≡ usage_line)
 SaysUnder words WriteFault taken written at_end =
-    (IsReplay words × BeginsOutput taken written)
+    (IsReplay words × KeepsLimit taken × BeginsOutput taken written)
     ⊎ (¬ IsReplay words × (taken ≡ []) × ((unwritten : List ℕ) × (usage_line ≡ written ++ unwritten)))
 SaysUnder words status taken written at_end = IsReplay words × Says status taken written at_end
 

@@ -4,6 +4,7 @@ pub mod Phases
 pub mod Worlds
 pub mod FileOrder
 pub mod Ready
+pub mod OpenPhases
 pub mod Progress
 pub mod Standing
 pub mod Answers

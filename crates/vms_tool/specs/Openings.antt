@@ -46,7 +46,7 @@ pub record IsAccepted (taken : List ℕ) (at_end : Bool) (found : AcceptedHeader
 -- the header was refused by what was taken, and was open before the last piece
 pub record IsRefused (taken : List ℕ) (at_end : Bool) (fault : Fault) : Type 0 where
   pub decided : ((whole : List ℕ) × (partial : List ℕ) × Cuts taken whole partial × RefusesAt (lines_of whole) fault)
-      ⊎ ((at_end ≡ true) × (read_header (lines_of taken) ≡ Err fault))
+      ⊎ ((at_end ≡ true) × (read_header (lines_of taken) ≡ Err fault) × (length taken ≤ most_bytes))
   pub before : List ℕ
   pub piece : List ℕ
   pub pieces : taken ≡ before ++ piece

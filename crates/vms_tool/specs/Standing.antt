@@ -2,23 +2,23 @@
 use Rattle.std.specs.Prelude.{◌≡◌, ℕ, ◌+◌, ◌≤◌, ◌<◌, List, ◌++◌, slice_index_or, length}
 use Rattle.vms_base.specs.declared.headers.Header.{Header}
 use Rattle.vms_core.specs.declared.states.State.{State}
-use Rattle.vms_tool.specs.declared.items.Item.{Item}
 use Rattle.vms_tool.specs.declared.judging.Replay.{Replay}
 use Rattle.vms_tool.specs.FileOrder.{Phase, Leads}
 use Rattle.vms_tool.specs.Judging.{volume}
 use Rattle.vms_tool.specs.Progress.{Progress, past_lines, printed_past}
 use Rattle.vms_trace.specs.Text.{lines_of}
-use Rattle.vms_tool.specs.Ready.{IsFirstHeader, IsReady, MayFollow, onto}
+use Rattle.vms_tool.specs.OpenPhases.{IsOpen}
+use Rattle.vms_tool.specs.Ready.{IsFirstHeader, CanReplay, onto}
 
--- the open phase's lines stand behind those of the phases before; the counters are as those left them, and the phases
--- before lead there from a state
+-- the open phase's lines stand behind those of the phases before, which lead from a state to the one in which it began;
+-- its own lines lead from there to the counters as they stand
 pub record Leaves (header : Header) (from : State) (at : Progress) (s : State) : Type 0 where
-  pub before : List Item
-  pub all_items : onto at.items before ≡ at.above.items
-  pub ready : IsReady header before s
-  pub may_follow : MayFollow before at.items
+  pub opening : State
+  pub can : CanReplay header at.items opening
+  pub all_items : onto at.items can.before ≡ at.above.items
   pub phases : List Phase
-  pub leads : Leads header from at.ended phases s
+  pub leads : Leads header from at.ended phases opening
+  pub so_far : IsOpen header opening at.items s
 
 -- a replay that began with a state is at this line: its numbers are those that the lines above came to
 pub record Stands (header : Header) (from : State) (at : Progress) (replay : Replay) : Type 0 where
@@ -30,7 +30,6 @@ pub record Stands (header : Header) (from : State) (at : Progress) (replay : Rep
   pub counted : at.above.accepted + at.above.refused ≤ at.number
   pub each_volume : length replay.volumes ≡ 8
   pub volumes : (k : ℕ) → k < 8 → slice_index_or replay.volumes k 0 ≡ volume 0 k at.above.items
-  pub items : replay.items.items ≡ at.items
   pub leaves : Leaves header from at replay.plain
 
 -- a replay is at some line

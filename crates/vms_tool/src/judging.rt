@@ -1,10 +1,8 @@
-use crate::Item;
-use crate::replaying::replay_phase;
 use crate::reports::push_totals;
 use crate::starting::start;
 use itoa::Buffer;
 use std::alloc::Global;
-use vms_base::{CounterId, CpuId, Header, Memory, Row};
+use vms_base::{CounterId, CpuId, Header, Memory, Mode, Row};
 use vms_core::Plain;
 use vms_trace::{Act, Boundary, Lane, Line, LineCause, ReportKind, parse_line, split_line};
 
@@ -15,12 +13,10 @@ const MOST_VOLUME: u64 = 1 << 48;
 #[derive(Drop)]
 pub(crate) struct Replay {
     pub(crate) header: Header,
-    /// The page counters as the phases before the open one left them.
+    /// The page counters, which each line that counts changes at once.
     pub(crate) plain: Plain,
     /// What the CPU has changed each of the zone's counters by, in absolute sum.
     pub(crate) volumes: Row<u64>,
-    /// The lines of the open phase, which are replayed when it ends.
-    pub(crate) items: Vec<Item>,
     /// The number of the next line.
     pub(crate) number: u64,
     pub(crate) accepted: u64,
@@ -51,7 +47,6 @@ impl Replay {
         Ok(Replay {
             plain: Plain::make(state),
             volumes: Row::filled(alloc, 8, 0)?,
-            items: Vec::new(alloc),
             number: u64::from(lines) + 1,
             accepted: 0,
             refused: 0,
@@ -76,13 +71,11 @@ impl Replay {
         Ok(())
     }
 
-    /// Ends the open phase, and appends the last line.
-    pub(crate) fn finish(&mut self, out: &mut Vec<u8>) -> Result<(), Memory>
-        requires { IsReplay self.old }
-        ensures { OnOk result ((header : Header) (from : State) (at : Progress) → Stands header from at self.old →
-            Stands header from (past_phase at) self.new × (out.new.items ≡ out.old.items ++ done_line at.above)) }
+    /// Appends the last line. The end of the text ends the open phase.
+    pub(crate) fn finish(&self, out: &mut Vec<u8>) -> Result<(), Memory>
+        ensures { OnOk result ((header : Header) (from : State) (at : Progress) → Stands header from at self.now →
+            Stands header from (past_phase at) self.now × (out.new.items ≡ out.old.items ++ done_line at.above)) }
     {
-        self.end_phase();
         push_done(out, self.accepted, self.refused)
     }
 
@@ -140,7 +133,8 @@ impl Replay {
         let (counter, delta) = change_of(act);
         let volume = self.volumes.get(counter.number as usize) + delta.unsigned_abs();
         if volume <= MOST_VOLUME {
-            self.keep(lane, counter, delta, volume)
+            self.accept(lane, counter, delta, volume);
+            Ok(())
         } else {
             self.refuse(LineCause::Overflow, out)
         }
@@ -176,44 +170,26 @@ impl Replay {
         Ok(())
     }
 
-    /// Keeps a change as a line of the open phase; its volume was found to be within the limit.
-    fn keep(
-        &mut self,
-        lane: Lane,
-        counter: CounterId,
-        delta: i64,
-        volume: u64,
-    ) -> Result<(), Memory>
+    /// Makes a change, whose volume was found to be within the limit.
+    #[inline]
+    fn accept(&mut self, lane: Lane, counter: CounterId, delta: i64, volume: u64)
         requires number { self.old.number < 2 ^ 32 }
         requires replay { IsReplay self.old }
         requires said { IsFirstLine (Line.Lane lane (Act.Mod counter delta)) }
         requires volume { volume ≡ slice_index_or self.old.volumes counter.number 0 + unsigned_abs delta }
         requires affordable { volume ≤ most_volume }
-        ensures { OnOk result ((header : Header) (from : State) (at : Progress) → Stands header from at self.old →
-            Stands header from (past_line at (Ok (Line.Lane lane (Act.Mod counter delta)))) self.new) }
+        ensures { (header : Header) (from : State) (at : Progress) → Stands header from at self.old →
+            Stands header from (past_line at (Ok (Line.Lane lane (Act.Mod counter delta)))) self.new }
     {
-        self.items.push(Item {
-            number: self.number as u32,
-            lane,
-            act: Act::Mod(counter, delta),
-        })?;
+        let cpu = cpu_of(lane);
+        self.plain
+            .change(&self.header.layout, cpu, counter, delta, Mode::Mod);
         self.volumes.set(counter.number as usize, volume);
         self.accepted += 1;
         self.number += 1;
-        Ok(())
     }
 
-    /// Ends the open phase.
-    fn end_phase(&mut self)
-        requires replay { IsReplay self.old }
-        ensures { (header : Header) (from : State) (at : Progress) → Stands header from at self.old →
-            Stands header from (past_phase at) self.new }
-    {
-        replay_phase(&mut self.plain, &self.header, self.items.as_slice());
-        self.items.clear();
-    }
-
-    /// Ends the open phase and reports the totals.
+    /// Reports the totals, which ends the open phase.
     fn report_totals(&mut self, out: &mut Vec<u8>) -> Result<(), Memory>
         requires number { self.old.number < 2 ^ 32 }
         requires replay { IsReplay self.old }
@@ -221,7 +197,6 @@ impl Replay {
             Stands header from (past_line at (Ok (Line.Boundary (Boundary.Report ReportKind.Totals)))) self.new
             × (out.new.items ≡ out.old.items ++ printed_by header at (Ok (Line.Boundary (Boundary.Report ReportKind.Totals))))) }
     {
-        self.end_phase();
         push_prefix(out, self.number)?;
         out.extend_from_slice(b"report totals\n")?;
         push_totals(out, self.plain.state())?;
@@ -233,6 +208,16 @@ impl Replay {
 
 ghost use Rattle.std.specs.Prelude.{◌≡◌, ◌++◌, codes, decimal, OnOk};
 ghost use Rattle.vms_tool.specs.Output.{line_prefix, line_cause, newline};
+
+/// The CPU of a lane.
+#[inline]
+fn cpu_of(lane: Lane) -> CpuId
+    ensures { lane ≡ Lane.Cpu result }
+{
+    match lane {
+        Lane::Cpu(cpu) => cpu,
+    }
+}
 
 /// The counter that an act changes, and by how many pages.
 #[inline]

@@ -6,7 +6,6 @@ mod courses;
 mod items;
 mod judging;
 mod openings;
-mod replaying;
 mod reports;
 mod running;
 mod starting;

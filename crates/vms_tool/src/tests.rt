@@ -1,16 +1,11 @@
-ghost use Rattle.std.specs.Prelude.{◌≡◌, ◌≤◌, unsigned_abs};
-ghost use Rattle.vms_trace.specs.declared.lines.Act.TheVariants.{Mod};
-ghost use Rattle.vms_trace.specs.declared.lines.Lane.TheVariants.{Cpu};
+ghost use Rattle.std.specs.Prelude.{◌≤◌, length};
 
-use crate::Item;
-use crate::replaying::replay_phase;
-use crate::starting::start;
+use crate::judging::Replay;
 use crate::thresholds::{cover_mark, linux_mark, normal_threshold};
 use std::alloc::Global;
 use std::test::Fail;
-use vms_base::{CounterId, CpuId, ZoneSize};
-use vms_core::Plain;
-use vms_trace::{Act, HeaderError, Lane, parse_header};
+use vms_base::ZoneSize;
+use vms_trace::{HeaderError, parse_header};
 
 /// A zone of 1 GiB.
 const ZONE: ZoneSize = ZoneSize {
@@ -55,49 +50,41 @@ fn marks_cover_what_is_hidden(rt: HostRuntime) {
 const HEADER: &[u8] =
     b"vmtrace 1\ncpus 1\nzone 0 Normal 262144 100 125 150\nbase 0 Normal nr_free_pages 10000\ngo\n";
 
-/// A change of the free pages by CPU 0.
-fn line(delta: i64) -> Item
-    ensures { result ≡ record {
-      number = 6;
-      lane = Cpu (record { number = 0 });
-      act = Mod (record { number = 0 }) delta;
-    } }
+/// The free pages and their differential after some lines, and the zone's threshold and mark.
+fn after_lines(alloc: Global, text: &[u8]) -> Result<(i64, i64, u32, u64), HeaderError>
+    requires { length text.now ≤ 1000 }
 {
-    Item {
-        number: 6,
-        lane: Lane::Cpu(CpuId { number: 0 }),
-        act: Act::Mod(CounterId { number: 0 }, delta),
-    }
-}
-
-/// The free pages and their differential after three changes, and the zone's threshold and mark.
-fn after_changes(
-    alloc: Global,
-    first: i64,
-    second: i64,
-    third: i64,
-) -> Result<(i64, i64, u32, u64), HeaderError>
-    requires first { unsigned_abs first ≤ 100 }
-    requires second { unsigned_abs second ≤ 100 }
-    requires third { unsigned_abs third ≤ 100 }
-{
-    let (header, _, _) = parse_header(alloc, HEADER)?;
-    let state = start(alloc, &header)?;
-    let threshold = state.threshold.get(0);
-    let mark = state.mark.get(0);
-    let mut plain = Plain::make(state);
-    replay_phase(
-        &mut plain,
-        &header,
-        &[line(first), line(second), line(third)],
-    );
-    let left = plain.state();
-    Ok((left.place.get(0), left.diff.get(0), threshold, mark))
+    let (header, lines, _) = parse_header(alloc, HEADER)?;
+    let mut replay = Replay::begin(alloc, header, lines)?;
+    replay.pass_lines(text, &mut Vec::new(alloc))?;
+    let state = replay.plain.state();
+    Ok((
+        state.place.get(0),
+        state.diff.get(0),
+        state.threshold.get(0),
+        state.mark.get(0),
+    ))
 }
 
 #[test]
 fn a_change_past_the_threshold_is_carried(rt: HostRuntime) {
-    assert_eq!(rt; after_changes(rt.alloc(), -32, 0, 0), Ok((9968, 0, 10, 0)));
-    assert_eq!(rt; after_changes(rt.alloc(), 5, 5, 0), Ok((10000, 10, 10, 0)));
-    assert_eq!(rt; after_changes(rt.alloc(), 5, 5, 1), Ok((10011, 0, 10, 0)));
+    let alloc = rt.alloc();
+    assert_eq!(rt;
+        after_lines(alloc, b"c0 mod 0 Normal nr_free_pages -32\n"),
+        Ok((9968, 0, 10, 0))
+    );
+    assert_eq!(rt;
+        after_lines(
+            alloc,
+            b"c0 mod 0 Normal nr_free_pages 5\nc0 mod 0 Normal nr_free_pages 5\n"
+        ),
+        Ok((10000, 10, 10, 0))
+    );
+    assert_eq!(rt;
+        after_lines(
+            alloc,
+            b"c0 mod 0 Normal nr_free_pages 10\nreport totals\nc0 mod 0 Normal nr_free_pages 1\n"
+        ),
+        Ok((10011, 0, 10, 0))
+    );
 }
