@@ -6,16 +6,16 @@ use Rattle.vms_base.specs.declared.kinds.ZoneSize.{ZoneSize}
 use Rattle.vms_base.specs.Sizes.{IsValidSize}
 use Rattle.vms_base.specs.Thresholds.{most_threshold}
 
--- what is known of a closure that is called at a zone's size and a number of CPUs, and answers a number
-abbrev pub Called : Type 0 → Type 1
-Called F = Shared F (Bor ZoneSize × (ℕ × Unit {0})) ℕ
+-- the predicates of closures that are called at a zone's size and a number of CPUs and answer a number
+abbrev pub Predicates : Type 0 → Type 1
+Predicates F = Shared F (Bor ZoneSize × (ℕ × Unit {0})) ℕ
 
 -- a closure may be called at this size and number of CPUs
-pub record Accepts {F : Type 0} (g : Called F) (f : F) (size : ZoneSize) (online : ℕ) : Type 0 where
+pub record Accepts {F : Type 0} (g : Predicates F) (f : F) (size : ZoneSize) (online : ℕ) : Type 0 where
   pub callable : (shown : Bor ZoneSize) → shown.now ≡ size → g.pre f (shown, (online, tt))
 
 -- a number is what a closure may answer at this size and number of CPUs
-pub record Answers {F : Type 0} (g : Called F) (f : F) (size : ZoneSize) (online threshold : ℕ) : Type 0 where
+pub record Answers {F : Type 0} (g : Predicates F) (f : F) (size : ZoneSize) (online threshold : ℕ) : Type 0 where
   pub shown : Bor ZoneSize
   pub shows : shown.now ≡ size
   pub answered : g.post f (shown, (online, tt)) threshold

@@ -33,8 +33,9 @@ impl<F: Fn(&ZoneSize, u32) -> u32> Rule for F {
 
 /// A normal and a pressure rule by which thresholds are set, kept with the fact that each tells thresholds.
 ///
-/// A function that has rules is generic in `N: Rule` and `P: Rule`. Where the closures themselves are in sight, hand
-/// them to such a function, which makes the rules: the type of rules over a closure that is known has no proof yet.
+/// What takes rules is generic in `N: Rule` and `P: Rule`. Where the closures themselves are in sight, hand them to
+/// such a function and make the rules there, since a function that names the type of rules over a known closure gets no
+/// proof. Hand over a function of another crate as `|size: &ZoneSize, online: u32| f(size, online)`.
 #[derive(Drop)]
 pub struct Rules<N: Rule, P: Rule> {
     normal: N,
