@@ -1,0 +1,91 @@
+ghost use Rattle.std.specs.Prelude.{◌≡◌, ℕ, ◌≤◌};
+ghost use Rattle.vms_base.specs.declared.kinds.ZoneSize.{ZoneSize};
+ghost use Rattle.vms_base.specs.Sizes.{IsValidSize};
+ghost use Rattle.vms_base.specs.Thresholds.{most_threshold};
+ghost use Rattle.vms_calc.specs.Rules.{Accepts, Answers, TellsThresholds};
+
+use std::marker::Model;
+use vms_base::ZoneSize;
+
+/// What tells a threshold, in pages, from a zone's size and the number of online CPUs. Every closure over them is one.
+pub trait Rule: Drop {
+    // The rule may be asked at this size and number of CPUs.
+    ghost accepts: { Self → ZoneSize → ℕ → Type 0 };
+
+    // The last number is one that the rule may answer to them.
+    ghost answers: { Self → ZoneSize → ℕ → ℕ → Type 0 };
+
+    fn answer(&self, size: &ZoneSize, online: u32) -> u32
+        requires { accepts self.now size.now online }
+        ensures { answers self.now size.now online result };
+}
+
+impl<F: Fn(&ZoneSize, u32) -> u32> Rule for F {
+    ghost accepts = { Accepts F.Fn };
+
+    ghost answers = { Answers F.Fn };
+
+    #[inline]
+    fn answer(&self, size: &ZoneSize, online: u32) -> u32 {
+        self(size, online)
+    }
+}
+
+/// A normal and a pressure rule by which thresholds are set, kept with the fact that each tells thresholds.
+///
+/// What takes rules is generic in `N: Rule` and `P: Rule`. Where the closures themselves are in sight, hand them to
+/// such a function and make the rules there, since a function that names the type of rules over a known closure gets no
+/// proof. Hand over a function of another crate as `|size: &ZoneSize, online: u32| f(size, online)`.
+#[derive(Drop)]
+pub struct Rules<N: Rule, P: Rule> {
+    normal: N,
+    pressure: P,
+}
+
+impl<N: Rule, P: Rule> Model for Rules<N, P> {
+    ghost use Rattle.vms_calc.specs.Rules.{RulePair, TellsThresholds};
+
+    ghost Value = { RulePair N P };
+
+    ghost view = { λ rules. record { normal = rules.normal; pressure = rules.pressure } };
+
+    ghost invariant = { λ rules. TellsThresholds (N.accepts rules.normal) (N.answers rules.normal)
+        × TellsThresholds (P.accepts rules.pressure) (P.answers rules.pressure) };
+}
+
+impl<N: Rule, P: Rule> Rules<N, P> {
+    /// The rules that go by these closures.
+    pub fn make(normal: N, pressure: P) -> Rules<N, P>
+        requires normal { TellsThresholds (N.accepts normal) (N.answers normal) }
+        requires pressure { TellsThresholds (P.accepts pressure) (P.answers pressure) }
+        ensures { result ≡ record { normal = normal; pressure = pressure } }
+    {
+        Rules { normal, pressure }
+    }
+
+    /// What the normal rule answers.
+    #[inline]
+    pub fn normal(&self, size: &ZoneSize, online: u32) -> u32
+        requires size { IsValidSize size.now }
+        requires least_online { 1 ≤ online }
+        requires most_online { online ≤ 128 }
+        ensures answer { N.answers self.now.normal size.now online result }
+        ensures least { 1 ≤ result }
+        ensures most { result ≤ most_threshold }
+    {
+        self.normal.answer(size, online)
+    }
+
+    /// What the pressure rule answers.
+    #[inline]
+    pub fn pressure(&self, size: &ZoneSize, online: u32) -> u32
+        requires size { IsValidSize size.now }
+        requires least_online { 1 ≤ online }
+        requires most_online { online ≤ 128 }
+        ensures answer { P.answers self.now.pressure size.now online result }
+        ensures least { 1 ≤ result }
+        ensures most { result ≤ most_threshold }
+    {
+        self.pressure.answer(size, online)
+    }
+}
