@@ -1,11 +1,12 @@
 -- The states of the page counters between phases.
-use Rattle.std.specs.Prelude.{◌≡◌, ℕ, ◌*◌, ◌-◌, nat_eq, length, map, ℤ, pos, if◌then◌else◌, slice_index_or, None}
+use Rattle.std.specs.Prelude.{◌≡◌, ℕ, ◌≤◌, ◌*◌, ◌-◌, nat_eq, length, map, ℤ, pos, if◌then◌else◌, slice_index_or, None}
 use Rattle.vms_base.specs.declared.headers.Header.{Header}
 use Rattle.vms_base.specs.declared.kinds.CpuState.TheVariants.{Online}
 use Rattle.vms_base.specs.declared.kinds.ZoneKind.TheVariants.{Dma}
 use Rattle.vms_base.specs.declared.kinds.ZoneSize.{ZoneSize}
 use Rattle.vms_base.specs.Marks.{linux_mark_of, cover_mark_of}
 use Rattle.vms_base.specs.Places.{Shape, IsCpu, IsZone, IsNode, IsCounter, IsItem, IsPlace, counter_count, item_of}
+use Rattle.vms_base.specs.Sizes.{IsValidSize}
 use Rattle.vms_base.specs.Thresholds.{normal_threshold_of}
 use Rattle.vms_core.specs.declared.states.State.{State}
 use Rattle.vms_core.specs.Bases.{size_at}
@@ -32,6 +33,11 @@ zone_threshold header g = normal_threshold_of (size_at header.sizes g) header.la
 abbrev pub node_threshold : Header → ℕ → ℕ
 node_threshold header node =
     largest_below (λ g. if nat_eq (node_of_zone header.layout g) node then zone_threshold header g else 0) (length header.layout.zones)
+
+-- a rule that answers normal thresholds alone
+abbrev pub IsNormalRule : (ZoneSize → ℕ → ℕ → Type 0) → Type 0
+IsNormalRule answers = (size : ZoneSize) (online t : ℕ) → IsValidSize size → 1 ≤ online → online ≤ 128 →
+    answers size online t → t ≡ normal_threshold_of size online
 
 -- the mark of a zone when all CPUs are online and hide nothing
 abbrev pub opening_mark : ZoneSize → ℕ → ℕ → ℕ

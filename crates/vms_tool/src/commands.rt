@@ -2,7 +2,9 @@ ghost use Rattle.std.specs.Prelude.{◌≡◌, ◌↔◌, IfErr, IfOk, IsTrue, m
 ghost use Rattle.vms_tool.specs.Answers.{Answers, FaultsOfSink, FaultsOfSource, IsReplay, Says, SaysUnder};
 ghost use Rattle.vms_tool.specs.Commands.{AnswersFrom, IsPlainStatus, RefusesHeader, ShowsUsage};
 ghost use Rattle.vms_tool.specs.Output.{header_cause, header_line};
+ghost use Rattle.vms_calc.specs.Rules.{TellsThresholds};
 ghost use Rattle.vms_tool.specs.Running.{CountsReads, CountsWrites, IsNoReadFault};
+ghost use Rattle.vms_tool.specs.Worlds.{IsNormalRule};
 
 use crate::Status;
 use crate::courses::Course;
@@ -10,7 +12,8 @@ use crate::judging::push_prefix;
 use crate::openings::{Opening, open};
 use crate::stops::Stop;
 use std::alloc::Global;
-use vms_base::Memory;
+use vms_base::{Memory, ZoneSize};
+use vms_calc::{Rule, Rules, normal_threshold, pressure_threshold};
 use vms_io::{ReadBuffer, Sink, Source, write_all};
 use vms_trace::HeaderCause;
 
@@ -21,14 +24,46 @@ pub fn tool_replay<S: Source, K: Sink>(alloc: Global, src: &mut S, out: &mut K) 
     ensures reads { FaultsOfSource result (S.faults src.old) (S.faults src.new) }
     ensures writes { FaultsOfSink result (K.faults out.old) (K.faults out.new) }
 {
-    match replay(alloc, src, out) {
+    match replay(
+        alloc,
+        |size: &ZoneSize, online: u32| normal_threshold(size, online),
+        |size: &ZoneSize, online: u32| pressure_threshold(size, online),
+        src,
+        out,
+    ) {
         Ok(status) => status,
         Err(stop) => stop.status(),
     }
 }
 
-/// Replays the trace, or says why it stopped.
-fn replay<S: Source, K: Sink>(alloc: Global, src: &mut S, out: &mut K) -> Result<Status, Stop>
+/// Replays the trace with a normal and a pressure rule for thresholds, or says why it stopped.
+fn replay<N: Rule, P: Rule, S: Source, K: Sink>(
+    alloc: Global,
+    normal: N,
+    pressure: P,
+    src: &mut S,
+    out: &mut K,
+) -> Result<Status, Stop>
+    requires normal { TellsThresholds (N.accepts normal) (N.answers normal) }
+    requires pressure { TellsThresholds (P.accepts pressure) (P.answers pressure) }
+    requires exact { IsNormalRule (N.answers normal) }
+    ensures answers { AnswersFrom (S.remaining src.old) (S.remaining src.new) (K.written out.old) (K.written out.new) result }
+    ensures plain { IfOk result IsPlainStatus }
+    ensures reads { CountsReads result (S.faults src.old) (S.faults src.new) }
+    ensures writes { CountsWrites result (K.faults out.old) (K.faults out.new) }
+{
+    let rules = Rules::make(normal, pressure);
+    replay_by(alloc, &rules, src, out)
+}
+
+/// Replays the trace by rules, or says why it stopped.
+fn replay_by<N: Rule, P: Rule, S: Source, K: Sink>(
+    alloc: Global,
+    rules: &Rules<N, P>,
+    src: &mut S,
+    out: &mut K,
+) -> Result<Status, Stop>
+    requires { IsNormalRule (N.answers rules.now.normal) }
     ensures answers { AnswersFrom (S.remaining src.old) (S.remaining src.new) (K.written out.old) (K.written out.new) result }
     ensures plain { IfOk result IsPlainStatus }
     ensures reads { CountsReads result (S.faults src.old) (S.faults src.new) }
@@ -38,7 +73,7 @@ fn replay<S: Source, K: Sink>(alloc: Global, src: &mut S, out: &mut K) -> Result
     let (opening, at_end) = open(alloc, &mut input, src)?;
     match opening {
         Opening::Accepted(accepted) => {
-            let mut course = Course::begin(alloc, input, accepted, at_end)?;
+            let mut course = Course::begin(alloc, input, accepted, at_end, rules)?;
             course.finish(src, out)
         }
         Opening::Refused { line, cause } => refuse_header(alloc, out, line, cause),

@@ -5,6 +5,7 @@ use crate::running::{feed, flush, read};
 use crate::stops::Stop;
 use std::alloc::Global;
 use vms_base::Memory;
+use vms_calc::{Rule, Rules};
 use vms_io::{ReadBuffer, Sink, Source};
 
 /// The most bytes of an input.
@@ -32,19 +33,22 @@ impl Course {
     ghost use Rattle.vms_tool.specs.Commands.{IsPlainStatus};
     ghost use Rattle.vms_tool.specs.Openings.{IsAccepted};
     ghost use Rattle.vms_tool.specs.Running.{CountsReads, CountsWrites, IsNoReadFault, IsNoWriteFault};
+    ghost use Rattle.vms_tool.specs.Worlds.{IsNormalRule};
 
     /// A course behind the first look at an input whose header was accepted there.
-    pub(crate) fn begin(
+    pub(crate) fn begin<N: Rule, P: Rule>(
         alloc: Global,
         mut input: ReadBuffer,
         accepted: AcceptedHeader,
         at_end: bool,
+        rules: &Rules<N, P>,
     ) -> Result<Course, Memory>
-        requires { IsAccepted input at_end accepted }
+        requires accepted { IsAccepted input at_end accepted }
+        requires rules { IsNormalRule (N.answers rules.now.normal) }
         ensures { IfOk result (λ course. (from : State) × (fed : List ℕ) × IsCourse accepted.header accepted.lines from fed [] course
             × (taken_by fed course ≡ input) × (course.at_end ≡ at_end)) }
     {
-        let mut replay = Replay::begin(alloc, accepted.header, accepted.lines)?;
+        let mut replay = Replay::begin(alloc, accepted.header, accepted.lines, rules)?;
         let mut waiting = Vec::new(alloc);
         let taken = input.bytes().len();
         replay.pass_lines(&input.bytes()[accepted.bytes..accepted.size], &mut waiting)?;

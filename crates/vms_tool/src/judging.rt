@@ -3,6 +3,7 @@ use crate::starting::start;
 use itoa::Buffer;
 use std::alloc::Global;
 use vms_base::{CounterId, CpuId, Header, Memory, Mode, Row};
+use vms_calc::{Rule, Rules};
 use vms_core::Plain;
 use vms_trace::{Act, Boundary, Lane, Line, LineCause, ReportKind, parse_line, split_line};
 
@@ -34,16 +35,22 @@ impl Replay {
     ghost use Rattle.vms_tool.specs.Output.{done_line};
     ghost use Rattle.vms_tool.specs.Ready.{IsFirstHeader, IsFirstLine};
     ghost use Rattle.vms_tool.specs.Standing.{Stands, IsReplay};
-    ghost use Rattle.vms_tool.specs.Worlds.{IsStart};
+    ghost use Rattle.vms_tool.specs.Worlds.{IsNormalRule, IsStart};
     ghost use Rattle.vms_trace.specs.Text.{lines_of};
 
     /// A replay before the first line of a body, which follows a header of so many lines.
-    pub(crate) fn begin(alloc: Global, header: Header, lines: u32) -> Result<Replay, Memory>
-        requires { IsFirstHeader header }
+    pub(crate) fn begin<N: Rule, P: Rule>(
+        alloc: Global,
+        header: Header,
+        lines: u32,
+        rules: &Rules<N, P>,
+    ) -> Result<Replay, Memory>
+        requires header { IsFirstHeader header }
+        requires rules { IsNormalRule (N.answers rules.now.normal) }
         ensures { IfOk result (λ replay. (from : State) × IsStart header from
             × Stands header from (progress_at (lines + 1)) replay) }
     {
-        let state = start(alloc, &header)?;
+        let state = start(alloc, &header, rules)?;
         Ok(Replay {
             plain: Plain::make(state),
             volumes: Row::filled(alloc, 8, 0)?,

@@ -13,7 +13,6 @@ mod statuses;
 mod stops;
 #[cfg(test)]
 mod tests;
-mod thresholds;
 
 pub use commands::{tool, tool_replay};
 pub use items::Item;

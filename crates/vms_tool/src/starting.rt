@@ -2,22 +2,27 @@ ghost use Rattle.std.specs.Prelude.{◌≡◌, ◌<◌, ◌≤◌, ◌^◌, [], 
 ghost use Rattle.vms_base.specs.Places.{counter_count, place_count};
 ghost use Rattle.vms_base.specs.declared.kinds.CpuState.TheVariants.{Online};
 ghost use Rattle.vms_tool.specs.Ready.{IsFirstHeader, IsReady};
-ghost use Rattle.vms_tool.specs.Worlds.{IsStart};
+ghost use Rattle.vms_tool.specs.Worlds.{IsNormalRule, IsStart};
 
-use crate::thresholds::{cover_mark, linux_mark, normal_threshold};
 use std::alloc::Global;
 use vms_base::{CpuState, Header, Memory, Row};
+use vms_calc::{Rule, Rules, cover_mark, linux_mark};
 use vms_core::State;
 
 /// The page counters as a run begins, with one zone and one CPU: nothing is hidden, the threshold goes by the normal
 /// rule, and the zone's mark covers it (`refresh_zone_stat_thresholds` of mm/vmstat.c).
-pub(crate) fn start(alloc: Global, header: &Header) -> Result<State, Memory>
-    requires { IsFirstHeader header.now }
+pub(crate) fn start<N: Rule, P: Rule>(
+    alloc: Global,
+    header: &Header,
+    rules: &Rules<N, P>,
+) -> Result<State, Memory>
+    requires header { IsFirstHeader header.now }
+    requires rules { IsNormalRule (N.answers rules.now.normal) }
     ensures start { IfOk result (λ s. IsStart header.now s) }
     ensures ready { IfOk result (λ s. IsReady header.now [] s) }
 {
     let size = header.sizes.get(0);
-    let threshold = normal_threshold(&size, 1);
+    let threshold = rules.normal(&size, 1);
     let linux = linux_mark(&size, 1, threshold);
     let mark = cover_mark(&size, linux, u64::from(threshold));
     state_with(alloc, header, threshold, mark)

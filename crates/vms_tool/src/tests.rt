@@ -1,50 +1,13 @@
 ghost use Rattle.std.specs.Prelude.{◌≤◌, length};
+ghost use Rattle.vms_calc.specs.Rules.{TellsThresholds};
+ghost use Rattle.vms_tool.specs.Worlds.{IsNormalRule};
 
 use crate::judging::Replay;
-use crate::thresholds::{cover_mark, linux_mark, normal_threshold};
 use std::alloc::Global;
 use std::test::Fail;
 use vms_base::ZoneSize;
+use vms_calc::{Rule, Rules, normal_threshold, pressure_threshold};
 use vms_trace::{HeaderError, parse_header};
-
-/// A zone of 1 GiB.
-const ZONE: ZoneSize = ZoneSize {
-    managed: 262144,
-    min: 100,
-    low: 125,
-    high: 150,
-};
-
-/// A zone of 2 GiB.
-const LARGE: ZoneSize = ZoneSize {
-    managed: 524288,
-    ..ZONE
-};
-
-/// A zone of 2^40 pages.
-const LARGEST: ZoneSize = ZoneSize {
-    managed: 1 << 40,
-    ..ZONE
-};
-
-#[test]
-fn thresholds_grow_with_zones_and_cpus(rt: HostRuntime) {
-    assert_eq!(rt; normal_threshold(&ZONE, 1), 10);
-    assert_eq!(rt; normal_threshold(&ZONE, 4), 30);
-    assert_eq!(rt; normal_threshold(&LARGE, 64), 84);
-    assert_eq!(rt; normal_threshold(&LARGEST, 128), 125);
-}
-
-#[test]
-fn marks_cover_what_is_hidden(rt: HostRuntime) {
-    assert_eq!(rt; linux_mark(&ZONE, 1, 25), 0);
-    assert_eq!(rt; linux_mark(&ZONE, 1, 26), 176);
-    assert_eq!(rt; linux_mark(&ZONE, 4, 20), 230);
-    assert_eq!(rt; cover_mark(&ZONE, 0, 25), 0);
-    assert_eq!(rt; cover_mark(&ZONE, 0, 26), 176);
-    assert_eq!(rt; cover_mark(&ZONE, 230, 80), 230);
-    assert_eq!(rt; cover_mark(&ZONE, 230, 81), 231);
-}
 
 /// The zone of 1 GiB with 10,000 free pages, on one CPU.
 const HEADER: &[u8] =
@@ -54,8 +17,28 @@ const HEADER: &[u8] =
 fn after_lines(alloc: Global, text: &[u8]) -> Result<(i64, i64, u32, u64), HeaderError>
     requires { length text.now ≤ 1000 }
 {
+    by_rules(
+        alloc,
+        |size: &ZoneSize, online: u32| normal_threshold(size, online),
+        |size: &ZoneSize, online: u32| pressure_threshold(size, online),
+        text,
+    )
+}
+
+fn by_rules<N: Rule, P: Rule>(
+    alloc: Global,
+    normal: N,
+    pressure: P,
+    text: &[u8],
+) -> Result<(i64, i64, u32, u64), HeaderError>
+    requires normal { TellsThresholds (N.accepts normal) (N.answers normal) }
+    requires pressure { TellsThresholds (P.accepts pressure) (P.answers pressure) }
+    requires exact { IsNormalRule (N.answers normal) }
+    requires short { length text.now ≤ 1000 }
+{
     let (header, lines, _) = parse_header(alloc, HEADER)?;
-    let mut replay = Replay::begin(alloc, header, lines)?;
+    let rules = Rules::make(normal, pressure);
+    let mut replay = Replay::begin(alloc, header, lines, &rules)?;
     replay.pass_lines(text, &mut Vec::new(alloc))?;
     let state = replay.plain.state();
     Ok((

@@ -3,7 +3,7 @@ use Rattle.std.proofs.lemmas.Result.{err_from_is_err_and}
 use Rattle.vms_tool.proofs.CommandSteps.{answers_finished, answers_no_memory, answers_nothing, answers_refused}
 use Rattle.vms_tool.specs.Openings.{IsOpening}
 use Rattle.vms_tool.specs.declared.openings.Opening.{Opening}
-use Rattle.vms_tool.proofs.commands.replay.Goals as goal
+use Rattle.vms_tool.proofs.commands.replay_by.Goals as goal
 
 pub returns-in_err-input-clause-answers : goal.returns-in_err-input-clause-answers
 returns-in_err-input-clause-answers g c =
