@@ -8,5 +8,6 @@ pub mod Bases
 pub mod Plain
 pub mod Conditions
 pub mod Pages
+pub mod PeakLaws
 pub mod Calls
 pub mod Following
