@@ -19,3 +19,4 @@ pub mod PeakBounds
 pub mod MarkCovers
 pub mod SettingRanges
 pub mod LevelStates
+pub mod SettlingLegal

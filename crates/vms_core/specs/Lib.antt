@@ -9,5 +9,6 @@ pub mod Plain
 pub mod Conditions
 pub mod Pages
 pub mod PeakLaws
+pub mod Settling
 pub mod Calls
 pub mod Following
