@@ -17,6 +17,7 @@ pub mod PeakSteps
 pub mod Owners
 pub mod PeakBounds
 pub mod MarkCovers
+pub mod HiddenPages
 pub mod SettingRanges
 pub mod LevelStates
 pub mod SettlingLegal

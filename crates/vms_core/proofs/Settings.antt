@@ -168,7 +168,7 @@ module _ (facts : Facts) (e : Event Step) (h : History) (legal : IsLegal facts (
       sets-effect facts h (state_after facts h) e.caller layout shaped (owner_in turn h e.caller) e.step c g
       legal.2 g_in
 
-  cpu_at-newest : (c : ℕ) → cpu_at (state_after facts (e ∷ h)) c ≡ cpu_after c e.step (cpu_at (state_after facts h) c)
+  pub cpu_at-newest : (c : ℕ) → cpu_at (state_after facts (e ∷ h)) c ≡ cpu_after c e.step (cpu_at (state_after facts h) c)
   cpu_at-newest c =
       cpu_at-effect facts h (state_after facts h) e.caller layout shaped (owner_in turn h e.caller) e.step c legal.2
 

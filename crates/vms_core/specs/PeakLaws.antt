@@ -1,7 +1,7 @@
 -- What holds of thresholds, peaks, acknowledgements and marks after every legal history.
-use Rattle.std.specs.Prelude.{◌≡◌, ℕ, ◌^◌, ◌<◌, ◌≤◌, true, Some, unsigned_abs}
+use Rattle.std.specs.Prelude.{◌≡◌, ℕ, ◌^◌, ◌<◌, ◌≤◌, true, pos, Some, unsigned_abs}
 use Rattle.vms_base.specs.declared.ids.CpuId.{CpuId}
-use Rattle.vms_base.specs.declared.kinds.CpuState.TheVariants.{Online}
+use Rattle.vms_base.specs.declared.kinds.CpuState.TheVariants.{Online, Absent}
 use Rattle.vms_base.specs.Marks.{Covers}
 use Rattle.vms_base.specs.Places.{IsCpu, IsPlace, IsZone, IsCounter, place_of}
 use Rattle.vms_base.specs.Thresholds.{most_threshold}
@@ -13,7 +13,7 @@ use Rattle.vms_core.specs.Bases.{size_at}
 use Rattle.vms_core.specs.Cells.{diff_at, threshold_at, threshold_sets_at, mark_at, cpu_at, acknowledged_at}
 use Rattle.vms_core.specs.Own.{loaded}
 use Rattle.vms_core.specs.Pages.{History, state_after}
-use Rattle.vms_core.specs.Peaks.{sets, threshold_in, peak, cpu_in, peak_sum}
+use Rattle.vms_core.specs.Peaks.{sets, threshold_in, peak, cpu_in, count_below, peak_sum}
 use Rattle.vms_core.specs.Steps.{turn}
 use Rattle.vms_core.specs.Totals.{last_threshold}
 
@@ -36,6 +36,7 @@ pub record IsInRange (facts : Facts) (h : History) (c g : ℕ) : Type 0 where
   pub most : threshold_at (state_after facts h) c g ≤ most_threshold
   pub least : cpu_at (state_after facts h) c ≡ Online → 1 ≤ threshold_at (state_after facts h) c g
 
+-- every threshold is in its range
 abbrev pub KeepsThresholdsInRange : Facts → History → Type 0
 KeepsThresholdsInRange facts h = (c g : ℕ) → IsCpu facts.layout c → IsPlace facts.layout g → IsInRange facts h c g
 
@@ -48,6 +49,7 @@ pub record IsWithinPeak (facts : Facts) (h : History) (c k : ℕ) : Type 0 where
   pub differential : unsigned_abs (diff_at (state_after facts h) c k) ≤ last_threshold facts h c k
   pub last : last_threshold facts h c k ≤ peak facts c (place_of facts.layout k) h
 
+-- every differential is within the peak of its CPU and place
 abbrev pub BoundsByPeaks : Facts → History → Type 0
 BoundsByPeaks facts h = (c k : ℕ) → IsCpu facts.layout c → IsCounter facts.layout k → IsWithinPeak facts h c k
 
@@ -92,6 +94,7 @@ pub record IsSetNumber (facts : Facts) (h : History) (c g : ℕ) (told : Thresho
   pub within : told.number ≤ sets c g h
   pub newest : told.number ≡ sets c g h → told.t ≡ threshold_at (state_after facts h) c g
 
+-- so it is with what every owner of a CPU last loaded of a place
 abbrev pub LoadsSetNumbers : Facts → History → Type 0
 LoadsSetNumbers facts h = (p : ℕ) (c : CpuId) (g : ℕ) (told : Threshold) → OwnsNow h p c → IsPlace facts.layout g →
     loaded g (own h p) ≡ Some told → IsSetNumber facts h c.number g told
@@ -105,3 +108,14 @@ AcknowledgesSetNumbers facts h = (c g number : ℕ) → IsCpu facts.layout c →
 abbrev pub KeepsCovers : Facts → History → Type 0
 KeepsCovers facts h = (g : ℕ) → IsZone facts.layout g →
     Covers (size_at facts.sizes g) (mark_at (state_after facts h) g) (peak_sum facts g h)
+
+-- a CPU that is absent hides nothing
+abbrev pub HidesNothingAbsent : Facts → History → Type 0
+HidesNothingAbsent facts h = (c k : ℕ) → IsCpu facts.layout c → IsCounter facts.layout k →
+    cpu_at (state_after facts h) c ≡ Absent → diff_at (state_after facts h) c k ≡ pos 0
+
+-- so what all CPUs hide of a counter is at most the peaks of those that are online or dead
+abbrev pub BoundsHidden : Facts → History → Type 0
+BoundsHidden facts h = (k : ℕ) → IsCounter facts.layout k →
+    count_below (λ c. unsigned_abs (diff_at (state_after facts h) c k)) facts.layout.cpus
+    ≤ peak_sum facts (place_of facts.layout k) h

@@ -1,6 +1,6 @@
 ghost use Rattle.std.specs.Prelude.{◌++◌};
 ghost use Rattle.vms_core.specs.Pages.{History, IsLegal};
-ghost use Rattle.vms_core.specs.PeakLaws.{TellsThresholds, TellsNumbers, TellsCpus, KeepsThresholdsInRange, KeepsMarksInRange, BoundsByPeaks, BoundsThresholds, KeepsPeaksInRange, BoundsUsed, BoundsLoaded, BoundsLoadedByPeaks, LoadsSetNumbers, AcknowledgesSetNumbers, KeepsCovers};
+ghost use Rattle.vms_core.specs.PeakLaws.{TellsThresholds, TellsNumbers, TellsCpus, KeepsThresholdsInRange, KeepsMarksInRange, BoundsByPeaks, BoundsThresholds, KeepsPeaksInRange, BoundsUsed, BoundsLoaded, BoundsLoadedByPeaks, LoadsSetNumbers, AcknowledgesSetNumbers, KeepsCovers, HidesNothingAbsent, BoundsHidden};
 ghost use Rattle.vms_core.specs.declared.steps.Facts.{Facts};
 
 /// A history tells what stands in the state of the thresholds, of the numbers of their sets and of the CPUs.
@@ -41,9 +41,12 @@ pub fn acknowledged_bounds_use()
         AcknowledgesSetNumbers facts h }
 {}
 
-/// Every mark covers what the CPUs that are online or dead may hide of its zone.
+/// Every mark covers the peaks of its zone on the CPUs that are online or dead. What all CPUs together hide of a
+/// counter is at most these peaks, since an absent CPU hides nothing.
 pub fn marks_cover()
-    ensures { (facts : Facts) (h : History) → IsLegal facts h → KeepsCovers facts h }
+    ensures covers { (facts : Facts) (h : History) → IsLegal facts h → KeepsCovers facts h }
+    ensures hidden { (facts : Facts) (h : History) → IsLegal facts h → BoundsHidden facts h }
+    ensures absent { (facts : Facts) (h : History) → IsLegal facts h → HidesNothingAbsent facts h }
 {}
 
 /// Every beginning of a legal history is legal, so that all of this holds after each of its steps.
@@ -62,4 +65,6 @@ pub fn each_beginning_is_within_peaks()
         BoundsLoadedByPeaks facts h }
     ensures covers { (facts : Facts) (more h : History) → IsLegal facts (more ++ h) →
         KeepsCovers facts h }
+    ensures hidden { (facts : Facts) (more h : History) → IsLegal facts (more ++ h) →
+        BoundsHidden facts h }
 {}

@@ -1,5 +1,6 @@
 use Rattle.vms_history.proofs.Prefixes.{prefix_is_legal}
 use Rattle.vms_core.specs.Pages.{pages}
+use Rattle.vms_core.proofs.HiddenPages.{hidden-within}
 use Rattle.vms_core.proofs.MarkCovers.{covers-kept}
 use Rattle.vms_core.proofs.PeakBounds.{last-within, thresholds-within, peaks-in_range, used-bounded, loaded-bounded, loaded-within_peak}
 use Rattle.vms_core.proofs.laws.peaks.each_beginning_is_within_peaks.Goals as goal
@@ -13,4 +14,5 @@ returns c = record {
   loaded = λ facts more h legal. loaded-bounded facts h (prefix_is_legal pages facts more h legal);
   by_peaks = λ facts more h legal. loaded-within_peak facts h (prefix_is_legal pages facts more h legal);
   covers = λ facts more h legal. covers-kept facts h (prefix_is_legal pages facts more h legal);
+  hidden = λ facts more h legal. hidden-within facts h (prefix_is_legal pages facts more h legal);
 }
