@@ -12,7 +12,7 @@ use Rattle.vms_core.specs.Cells.{HasShape, places_of, threshold_at}
 use Rattle.vms_core.proofs.PlainData.{places_of-shaped}
 
 -- each entry of a list of copies is the copy, and past its end too where that is the default
-get_or-copies : {X : Type 0} (n i : ℕ) (x : X) → get_or (replicate n x) i x ≡ x
+pub get_or-copies : {X : Type 0} (n i : ℕ) (x : X) → get_or (replicate n x) i x ≡ x
 get_or-copies n i x = ⊎_elim
     (λ (within : i < n). get_or-replicate n i x x within)
     (λ (past : n ≤ i). get_or_past (replicate n x) i x (omega (arith, length-replicate n x)))

@@ -11,4 +11,13 @@ pub mod CounterRanges
 pub mod WorkerSteps
 pub mod WithChange
 pub mod Following
+pub mod Below
+pub mod Settings
+pub mod PeakSteps
+pub mod Owners
+pub mod PeakBounds
+pub mod MarkCovers
+pub mod HiddenPages
+pub mod SettingRanges
 pub mod LevelStates
+pub mod SettlingLegal

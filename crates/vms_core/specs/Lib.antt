@@ -8,5 +8,7 @@ pub mod Bases
 pub mod Plain
 pub mod Conditions
 pub mod Pages
+pub mod PeakLaws
+pub mod Settling
 pub mod Calls
 pub mod Following

@@ -3,6 +3,13 @@ ghost use Rattle.vms_core.specs.declared.steps.Facts.{Facts};
 ghost use Rattle.vms_core.specs.Cells.{HasShape};
 ghost use Rattle.vms_core.specs.Pages.{History, IsLegal, state_after, KeepsTotals, KeepsSystemTotals, BoundsDifferentials};
 
+mod peaks;
+
+pub use peaks::{
+    acknowledged_bounds_use, differentials_are_within_peaks, each_beginning_is_within_peaks,
+    history_tells_settings, marks_cover, settings_are_in_range,
+};
+
 /// The lists of a state keep the lengths that the layout gives them.
 pub fn shape_is_kept()
     ensures { (facts : Facts) (h : History) → IsLegal facts h → HasShape facts.layout (state_after facts h) }

@@ -13,8 +13,9 @@ mod tests;
 mod worlds;
 
 pub use laws::{
-    differentials_are_bounded, each_beginning_is_kept, shape_is_kept, systems_are_kept,
-    totals_are_kept,
+    acknowledged_bounds_use, differentials_are_bounded, differentials_are_within_peaks,
+    each_beginning_is_kept, each_beginning_is_within_peaks, history_tells_settings, marks_cover,
+    settings_are_in_range, shape_is_kept, systems_are_kept, totals_are_kept,
 };
 pub use plain::Plain;
 pub use states::{Acks, Longs, MarkRead, Marks, Smalls, State, States, Threshold};

@@ -10,6 +10,8 @@ use std::alloc::Global;
 use std::test::Fail;
 use vms_base::{CounterId, CpuId, CpuState, Layout, Memory, Mode, Row, ZoneKind, ZoneName};
 
+mod peaks;
+
 /// A state of the layout in which every CPU is online, and each global value and each threshold is the same.
 fn level(alloc: Global, layout: &Layout, value: i64, threshold: u32) -> Result<State, Memory>
     requires value { unsigned_abs value ≤ 2 ^ 60 }

@@ -1,0 +1,10 @@
+use Rattle.vms_core.proofs.SettlingLegal.{uncovered_threshold_illegal, uncovered_mark_illegal, acknowledged_early_illegal, acknowledged_other_illegal}
+use Rattle.vms_core.proofs.tests.peaks.uncovered_and_unearned_are_illegal.Goals as goal
+
+pub returns : goal.returns
+returns c = record {
+  threshold = uncovered_threshold_illegal;
+  mark = uncovered_mark_illegal;
+  early = acknowledged_early_illegal;
+  other = acknowledged_other_illegal;
+}
