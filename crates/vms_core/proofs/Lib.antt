@@ -12,3 +12,4 @@ pub mod WorkerSteps
 pub mod WithChange
 pub mod Following
 pub mod LevelStates
+pub mod Answering

@@ -9,4 +9,9 @@ pub mod Plain
 pub mod Conditions
 pub mod Pages
 pub mod Calls
+pub mod Lists
+pub mod Looking
+pub mod Reading
+pub mod Folding
+pub mod Controlling
 pub mod Following
