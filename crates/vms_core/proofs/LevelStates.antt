@@ -1,14 +1,14 @@
--- A state of a layout in which every CPU is online, and each global value and each threshold is the same.
+-- A state of a layout in which each global value and each threshold is the same.
 use Rattle.std.proofs.Common.{◌≡◌, ℕ, ◌*◌, ◌^◌, ◌<◌, ◌≤◌, ℤ, pos, length, get_or, replicate, None, arith, unsigned_abs, ⊎_elim}
 use Rattle.std.proofs.lemmas.Bool.{cases_lt}
 use Rattle.std.proofs.lemmas.List.{get_or_past, get_or-replicate, length-replicate}
 use Rattle.std.proofs.lemmas.Nat.{mul-add-lt}
-use Rattle.vms_base.specs.declared.kinds.CpuState.TheVariants.{Online, Absent}
+use Rattle.vms_base.specs.declared.kinds.CpuState.TheVariants.{Online}
 use Rattle.vms_base.specs.Places.{Shape, IsLayout, IsCpu, IsPlace, cell, counter_count, item_count, place_count}
 use Rattle.vms_base.specs.Thresholds.{most_threshold}
 use Rattle.vms_core.specs.declared.states.State.{State}
 use Rattle.vms_core.specs.Bases.{IsOpening}
-use Rattle.vms_core.specs.Cells.{HasShape, places_of, threshold_at}
+use Rattle.vms_core.specs.Cells.{HasShape, places_of, threshold_at, cpu_at}
 use Rattle.vms_core.proofs.PlainData.{places_of-shaped}
 
 -- each entry of a list of copies is the copy, and past its end too where that is the default
@@ -23,7 +23,7 @@ module _ (shape : Shape) (layout : IsLayout shape) (s : State) (value : ℤ) (t 
     (place : s.place ≡ replicate (counter_count shape) value) (system : s.system ≡ replicate (item_count shape) value)
     (diff : s.diff ≡ replicate (shape.cpus * counter_count shape) (pos 0))
     (threshold : s.threshold ≡ replicate (shape.cpus * place_count shape) t)
-    (mark : s.mark ≡ replicate (length shape.zones) 0) (cpu : s.cpu ≡ replicate shape.cpus Online)
+    (mark : s.mark ≡ replicate (length shape.zones) 0) (cpus : length s.cpu ≡ shape.cpus) (first : cpu_at s 0 ≡ Online)
     (acknowledged : s.acknowledged ≡ replicate (shape.cpus * length shape.zones) None)
     (threshold_sets : s.threshold_sets ≡ replicate (shape.cpus * place_count shape) 0)
     (mark_sets : s.mark_sets ≡ replicate (length shape.zones) 0) where
@@ -34,7 +34,7 @@ module _ (shape : Shape) (layout : IsLayout shape) (s : State) (value : ℤ) (t 
     diff = rw diff (length-replicate _ _);
     threshold = rw threshold (length-replicate _ _);
     mark = rw mark (length-replicate _ _);
-    cpu = rw cpu (length-replicate _ _);
+    cpu = cpus;
     acknowledged = rw acknowledged (length-replicate _ _);
     threshold_sets = rw threshold_sets (length-replicate _ _);
     mark_sets = rw mark_sets (length-replicate _ _);
@@ -49,7 +49,7 @@ module _ (shape : Shape) (layout : IsLayout shape) (s : State) (value : ℤ) (t 
   pub IsOpening-level : IsOpening shape s
   IsOpening-level = record {
     shaped = shaped;
-    some_online = (0, layout.cpus_least, rw cpu (get_or-replicate shape.cpus 0 Online Absent layout.cpus_least));
+    some_online = (0, layout.cpus_least, first);
     values = λ k known. rw (place, get_or-replicate (counter_count shape) k value (pos 0) known) small;
     systems = λ i known. rw (system, get_or-replicate (item_count shape) i value (pos 0) known) small;
     diffs = λ c k c_in k_in. rw (diff, get_or-copies (shape.cpus * counter_count shape) (cell (length s.place) c k) (pos 0)) (omega arith);

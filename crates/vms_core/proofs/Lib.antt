@@ -21,3 +21,4 @@ pub mod HiddenPages
 pub mod SettingRanges
 pub mod LevelStates
 pub mod SettlingLegal
+pub mod Answering

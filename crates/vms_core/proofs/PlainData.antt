@@ -1,5 +1,5 @@
 -- What holds of plain data, and what keeps it.
-use Rattle.std.proofs.Common.{◌≡◌, ◌≢◌, ℕ, ◌+◌, ◌*◌, ◌/◌, ◌%◌, ◌^◌, ◌<◌, ◌≤◌, ℤ, pos, List, length, get_or, unsigned_abs, refl, sym, ap, arith, subst, ⊎_elim, ◌∙◌, length-set, get_or-set_same, get_or-set_other, take, drop, length-take, get_or-take, get_or-drop}
+use Rattle.std.proofs.Common.{◌≡◌, ◌≢◌, ℕ, zero, suc, ◌+◌, ◌*◌, ◌/◌, ◌%◌, ◌^◌, ◌<◌, ◌≤◌, ℤ, pos, List, length, get_or, unsigned_abs, refl, sym, ap, arith, subst, ⊎_elim, ◌∙◌, length-set, get_or-set_same, get_or-set_other, take, drop, length-take, get_or-take, get_or-drop, lit<}
 use Rattle.std.proofs.Math.ListN.{set}
 use Rattle.std.proofs.Math.Nat.{mul-div_cancel_left, mul-zero}
 use Rattle.std.proofs.lemmas.Bool.{cases_eq, cases_lt}
@@ -11,8 +11,9 @@ use Rattle.vms_base.specs.Places.{Shape, IsLayout, cell, counter_count, place_co
 use Rattle.vms_base.specs.Thresholds.{most_threshold}
 use Rattle.vms_core.specs.declared.states.State.{State}
 use Rattle.vms_core.specs.Plain.{IsPlainBase}
-use Rattle.vms_core.specs.Cells.{HasShape, TellsGroup, counters_of, places_of}
+use Rattle.vms_core.specs.Cells.{HasShape, TellsGroup, counters_of, places_of, zones_of, zeroed}
 use Rattle.vms_core.specs.Plain.{IsPlain}
+use Rattle.vms_core.proofs.CellLemmas.{length-zeroed}
 
 -- what holds of each cell of a table, and of the default, holds at each index of its list
 each_index : {X : Type 0} (xs : List X) (default : X) (rows width : ℕ) (P : X → Type 0) → length xs ≡ rows * width
@@ -31,6 +32,14 @@ each_index {X} xs default rows width P full cells none n = ⊎_elim inside outsi
 
     outside : rows * width ≤ n → P (get_or xs n default)
     outside past = rw (get_or_past xs n default (omega arith)) none
+
+-- what holds of each number of a list holds after a write of one of which it holds
+each_set : {X : Type 0} (xs : List X) (n : ℕ) (v default : X) (P : X → Type 0) → n < length xs → P v
+    → ((m : ℕ) → P (get_or xs m default)) → (m : ℕ) → P (get_or (set xs n v) m default)
+each_set xs n v default P within here others m = ⊎_elim
+    (λ (same : m ≡ n). rw (same, get_or-set_same xs n v default within) here)
+    (λ (other : m ≢ n). rw (get_or-set_other xs n m v default other) (others m))
+    (cases_eq m n)
 
 module _ (s : State) (counters places : ℕ) (plain : IsPlain s counters places) where
   pub diff_cell : (c k : ℕ) → c < length s.cpu → k < counters_of s → cell counters c k < length s.diff
@@ -64,15 +73,24 @@ module _ (s : State) (counters places : ℕ) (plain : IsPlain s counters places)
       (let place : cell counters c (8 * j) + i ≡ cell counters c (8 * j + i) = omega arith in
       place ∙ ap (λ (width : ℕ). cell width c (8 * j + i)) plain.one_for_each_counter))
 
-  pub IsPlain-put : (n : ℕ) (d : ℤ) → n < length s.diff → unsigned_abs d ≤ most_threshold
-      → IsPlain (record s { diff = set s.diff n d }) counters places
-  IsPlain-put n d within small = record {
+  -- the cell of a zone stands in the list of acknowledgements
+  pub zone_cell : (c g : ℕ) → c < length s.cpu → g < zones_of s → cell (zones_of s) c g < length s.acknowledged
+  zone_cell c g c_in g_in =
+      let row : c < plain.shape.cpus = omega (arith, plain.shaped.cpu) in
+      let column : g < length plain.shape.zones = omega (arith, plain.shaped.mark) in
+      rw (plain.shaped.acknowledged, plain.shaped.mark)
+      (omega (arith, mul-add-lt c (length plain.shape.zones) g plain.shape.cpus row column))
+
+  -- other differentials, of which none is larger than a threshold may be
+  IsPlain-diffs : (ds : List ℤ) → length ds ≡ length s.diff → ((m : ℕ) → unsigned_abs (get_or ds m (pos 0)) ≤ most_threshold)
+      → IsPlain (record s { diff = ds }) counters places
+  IsPlain-diffs ds same small = record {
     shape = plain.shape;
     is_layout = plain.is_layout;
     shaped = record {
       place = plain.shaped.place;
       system = plain.shaped.system;
-      diff = length-set s.diff n d ∙ plain.shaped.diff;
+      diff = same ∙ plain.shaped.diff;
       threshold = plain.shaped.threshold;
       mark = plain.shaped.mark;
       cpu = plain.shaped.cpu;
@@ -82,14 +100,26 @@ module _ (s : State) (counters places : ℕ) (plain : IsPlain s counters places)
     };
     one_for_each_counter = plain.one_for_each_counter;
     one_for_each_place = plain.one_for_each_place;
-    diffs = λ m. ⊎_elim
-        (λ (same : m ≡ n). rw (same, get_or-set_same s.diff n d (pos 0) within) small)
-        (λ (other : m ≢ n). rw (get_or-set_other s.diff n m d (pos 0) other) (plain.diffs m))
-        (cases_eq m n);
+    diffs = small;
     thresholds = plain.thresholds;
-    diff_fits = rw (length-set s.diff n d) plain.diff_fits;
+    marks = plain.marks;
+    diff_fits = rw same plain.diff_fits;
     threshold_fits = plain.threshold_fits;
   }
+
+  pub IsPlain-put : (n : ℕ) (d : ℤ) → n < length s.diff → unsigned_abs d ≤ most_threshold
+      → IsPlain (record s { diff = set s.diff n d }) counters places
+  IsPlain-put n d within small = IsPlain-diffs (set s.diff n d) (length-set s.diff n d)
+      (each_set s.diff n d (pos 0) (λ z. unsigned_abs z ≤ most_threshold) within small plain.diffs)
+
+  pub IsPlain-take : (start : ℕ) → start + 8 ≤ length s.diff → IsPlain (record s { diff = zeroed s.diff start 8 }) counters places
+  unfolding zeroed
+  IsPlain-take start within = IsPlain-diffs (zeroed s.diff start 8) (length-zeroed s.diff start 8) (small 8 within)
+    where
+      small : (n : ℕ) → start + n ≤ length s.diff → (m : ℕ) → unsigned_abs (get_or (zeroed s.diff start n) m (pos 0)) ≤ most_threshold
+      small zero room = plain.diffs
+      small (suc n) room = each_set (zeroed s.diff start n) (start + n) (pos 0) (pos 0) (λ z. unsigned_abs z ≤ most_threshold)
+          (omega (arith, length-zeroed s.diff start n)) (omega arith) (small n (omega arith))
 
 module _ (shape : Shape) (s : State) (layout : IsLayout shape) (shaped : HasShape shape s) where
   -- the number of a table's columns, from the length of its list
@@ -115,6 +145,10 @@ module _ (s : State) (base : IsPlainBase s) where
         base.opening.shaped.threshold
         (λ c g c_in g_in. rw (← places_of-shaped base.shape s base.is_layout base.opening.shaped)
         (base.opening.thresholds c g c_in g_in)) (omega arith);
+    marks = λ n. ⊎_elim
+        (λ (within : n < length s.mark). base.opening.marks n (rw base.opening.shaped.mark at within))
+        (λ (past : length s.mark ≤ n). rw (get_or_past s.mark n 0 past) (lit< tt))
+        (cases_lt n (length s.mark));
     diff_fits = diff_fits;
     threshold_fits = threshold_fits;
   }

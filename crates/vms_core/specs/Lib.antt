@@ -11,4 +11,9 @@ pub mod Pages
 pub mod PeakLaws
 pub mod Settling
 pub mod Calls
+pub mod Lists
+pub mod Looking
+pub mod Reading
+pub mod Folding
+pub mod Controlling
 pub mod Following

@@ -1,6 +1,7 @@
 //! The page counters as a model: states, the eighteen kinds of atomic step, legal histories, and what holds of each.
 #![tactic(auto)]
 
+mod answers;
 mod changes;
 mod differentials;
 mod laws;
@@ -12,6 +13,7 @@ mod tables;
 mod tests;
 mod worlds;
 
+pub use answers::{answers_are_told, changes_miss_once};
 pub use laws::{
     acknowledged_bounds_use, differentials_are_bounded, differentials_are_within_peaks,
     each_beginning_is_kept, each_beginning_is_within_peaks, history_tells_settings, marks_cover,

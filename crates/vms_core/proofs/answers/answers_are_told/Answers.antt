@@ -1,0 +1,10 @@
+use Rattle.vms_core.proofs.Answering.{place_value-told, system_value-told, snapshot-told, test-told}
+use Rattle.vms_core.proofs.answers.answers_are_told.Goals as goal
+
+pub returns : goal.returns
+returns c = record {
+  place_value = place_value-told;
+  system_value = system_value-told;
+  snapshot = snapshot-told;
+  test = test-told;
+}

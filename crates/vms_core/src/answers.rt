@@ -1,0 +1,23 @@
+ghost use Rattle.std.specs.Prelude.{◌≤◌, ℤ, List};
+ghost use Rattle.vms_base.specs.declared.ids.CounterId.{CounterId};
+ghost use Rattle.vms_base.specs.declared.ids.CpuId.{CpuId};
+ghost use Rattle.vms_base.specs.declared.kinds.Mode.{Mode};
+ghost use Rattle.vms_base.specs.Places.{Shape};
+ghost use Rattle.vms_core.specs.declared.steps.Step.{Step};
+ghost use Rattle.vms_core.specs.Calls.{IsChange};
+ghost use Rattle.vms_core.specs.Folding.{misses};
+ghost use Rattle.vms_core.specs.Reading.{TellsPlaceValue, TellsSystemValue, TellsSnapshot, TellsTest};
+
+/// The steps of a call that looks at values tell its answer: so a history determines every answer.
+pub fn answers_are_told()
+    ensures place_value { TellsPlaceValue }
+    ensures system_value { TellsSystemValue }
+    ensures snapshot { TellsSnapshot }
+    ensures test { TellsTest }
+{}
+
+/// A change of a counter loses one exchange at most.
+pub fn changes_miss_once()
+    ensures { (shape : Shape) (cpu : CpuId) (k : CounterId) (delta : ℤ) (how : Mode) (steps : List Step) →
+        IsChange shape cpu k delta how steps → misses steps ≤ 1 }
+{}
