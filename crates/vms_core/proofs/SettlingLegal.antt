@@ -43,7 +43,7 @@ base = record {
       })
       (All-nil IsValidSize);
   opening = IsOpening-level one_zone.layout layout state_of_one (pos 0) 20 (omega arith) (omega arith) (omega arith)
-      refl refl refl refl refl refl refl refl refl;
+      refl refl refl refl refl refl refl refl refl refl;
   covered = λ g known.
       let only : g ≡ 0 = omega arith in
       subst (λ n. Covers (size_at one_zone.sizes n) (mark_at one_zone.base n) (peak_sum one_zone n [])) (sym only)
