@@ -1,0 +1,15 @@
+//! The event counters as a model: words, the six kinds of atomic step, legal histories, and what holds of each.
+#![tactic(auto)]
+
+mod laws;
+mod states;
+mod steps;
+mod tables;
+
+pub use laws::{
+    control_passes_carry, dead_words_move_once, each_beginning_is_kept, shape_is_kept,
+    spending_is_known, totals_are_kept, words_are_bounded,
+};
+pub use states::EventState;
+pub use steps::{Event, EventFacts, EventStep};
+pub use tables::Events;
