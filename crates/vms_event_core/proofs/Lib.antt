@@ -7,3 +7,4 @@ pub mod Spending
 pub mod Totals
 pub mod Bounds
 pub mod DeadCpus
+pub mod CallLemmas

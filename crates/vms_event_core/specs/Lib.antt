@@ -5,3 +5,4 @@ pub mod Totals
 pub mod Bases
 pub mod Conditions
 pub mod Events
+pub mod Calls
