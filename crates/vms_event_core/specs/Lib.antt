@@ -6,3 +6,4 @@ pub mod Bases
 pub mod Conditions
 pub mod Events
 pub mod Calls
+pub mod Judging

@@ -2,12 +2,15 @@
 #![tactic(auto)]
 
 mod calls;
+mod checking;
+mod judging;
 mod laws;
 mod states;
 mod steps;
 mod tables;
 
 pub use calls::{answers_are_read, folds_carry_nothing};
+pub use judging::{Judgement, judge};
 pub use laws::{
     control_passes_carry, dead_words_move_once, each_beginning_is_kept, shape_is_kept,
     spending_is_known, totals_are_kept, words_are_bounded,
