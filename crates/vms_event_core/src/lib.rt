@@ -8,6 +8,8 @@ mod laws;
 mod states;
 mod steps;
 mod tables;
+#[cfg(test)]
+mod tests;
 
 pub use calls::{answers_are_read, folds_carry_nothing};
 pub use judging::{Judgement, judge};
