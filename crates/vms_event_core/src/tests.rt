@@ -3,6 +3,7 @@ use CpuState::{Absent, Dead, Online};
 use EventStep::{AddE, AddF, Join, LoadE, Split, TakeE};
 use Judgement::{Illegal, Legal, NoBase};
 use std::alloc::Global;
+use std::process::Abort;
 use std::test::Fail;
 use vms_base::{CpuId, CpuState, EventId, Layout, Row, ZoneKind, ZoneName};
 
@@ -26,18 +27,51 @@ fn facts_of(
     })
 }
 
-fn cpu(number: u32) -> CpuId {
-    CpuId { number }
-}
+const CPU_0: CpuId = CpuId { number: 0 };
 
-fn event(number: u32) -> EventId {
-    EventId { number }
-}
+const CPU_1: CpuId = CpuId { number: 1 };
 
-/// A step of the main pass.
-fn main(step: EventStep) -> Event {
-    by(0, step)
-}
+const CPU_2: CpuId = CpuId { number: 2 };
+
+const CPU_3: CpuId = CpuId { number: 3 };
+
+const CPU_4: CpuId = CpuId { number: 4 };
+
+const EVENT_0: EventId = EventId { number: 0 };
+
+const EVENT_1: EventId = EventId { number: 1 };
+
+const EVENT_3: EventId = EventId { number: 3 };
+
+const EVENT_8: EventId = EventId { number: 8 };
+
+/// Pass 1 begins, which owns CPU 1.
+const BEGIN: Event = Event {
+    caller: 0,
+    step: Split(1, Some(CPU_1)),
+};
+
+/// Pass 1 begins, which is the control pass.
+const CONTROL: Event = Event {
+    caller: 0,
+    step: Split(1, None),
+};
+
+const END: Event = Event {
+    caller: 0,
+    step: Join(1),
+};
+
+/// The control pass takes CPU 0's count of event 0, and adds it to that of CPU 1.
+const TAKE: Event = Event {
+    caller: 1,
+    step: TakeE(CPU_0, EVENT_0, 5),
+};
+
+const FOLD: Event = Event {
+    caller: 1,
+    step: AddF(CPU_1, EVENT_0, 5),
+};
 
 fn by(caller: u32, step: EventStep) -> Event {
     Event { caller, step }
@@ -53,88 +87,77 @@ fn machine(alloc: Global) -> Result<EventFacts, Fail> {
     facts_of(alloc, 4, &[Dead, Online, Online, Absent], &WORDS)
 }
 
+/// One row of a table: what these events are judged to be.
+fn row(rt: &impl Abort, facts: &EventFacts, name: &str, history: &[Event], expected: Judgement) {
+    assert_eq!(rt; judge(facts, history), expected, "{name}");
+}
+
 #[test]
 fn legal_histories(rt: HostRuntime) -> Result<(), Fail> {
     let facts = machine(rt.alloc())?;
-    assert_eq!(rt; judge(&facts, &[]), Legal(true), "nothing was done");
-    assert_eq!(rt;
-        judge(
-            &facts,
-            &[
-                main(Split(1, Some(cpu(1)))),
-                by(1, AddE(event(0), 3)),
-                main(Join(1))
-            ]
-        ),
+    row(&rt, &facts, "nothing was done", &[], Legal(true));
+    row(
+        &rt,
+        &facts,
+        "a pass counts",
+        &[BEGIN, by(1, AddE(EVENT_0, 3)), END],
         Legal(true),
-        "a pass counts"
     );
-    assert_eq!(rt;
-        judge(
-            &facts,
-            &[main(Split(1, Some(cpu(1)))), by(1, AddE(event(0), 3))]
-        ),
+    row(
+        &rt,
+        &facts,
+        "the pass still lives",
+        &[BEGIN, by(1, AddE(EVENT_0, 3))],
         Legal(false),
-        "the pass still lives"
     );
-    assert_eq!(rt;
-        judge(
-            &facts,
-            &[
-                main(Split(1, Some(cpu(1)))),
-                main(Split(2, Some(cpu(2)))),
-                by(1, AddE(event(0), 3)),
-                by(2, LoadE(cpu(1), event(0), 13)),
-                by(2, AddE(event(0), 1)),
-                by(1, LoadE(cpu(2), event(0), 1)),
-                main(Join(2)),
-                main(Join(1))
-            ]
-        ),
+    row(
+        &rt,
+        &facts,
+        "two passes see what the other counted",
+        &[
+            BEGIN,
+            by(0, Split(2, Some(CPU_2))),
+            by(1, AddE(EVENT_0, 3)),
+            by(2, LoadE(CPU_1, EVENT_0, 13)),
+            by(2, AddE(EVENT_0, 1)),
+            by(1, LoadE(CPU_2, EVENT_0, 1)),
+            by(0, Join(2)),
+            END,
+        ],
         Legal(true),
-        "two passes see what the other counted"
     );
-    assert_eq!(rt;
-        judge(
-            &facts,
-            &[
-                main(Split(1, None)),
-                by(1, TakeE(cpu(0), event(0), 5)),
-                by(1, AddF(cpu(1), event(0), 5)),
-                by(1, TakeE(cpu(0), event(3), 7)),
-                by(1, AddF(cpu(1), event(3), 7)),
-                by(1, LoadE(cpu(1), event(0), 15)),
-                main(Join(1))
-            ]
-        ),
+    row(
+        &rt,
+        &facts,
+        "a dead CPU is folded",
+        &[
+            CONTROL,
+            TAKE,
+            FOLD,
+            by(1, TakeE(CPU_0, EVENT_3, 7)),
+            by(1, AddF(CPU_1, EVENT_3, 7)),
+            by(1, LoadE(CPU_1, EVENT_0, 15)),
+            END,
+        ],
         Legal(true),
-        "a dead CPU is folded"
     );
-    assert_eq!(rt;
-        judge(
-            &facts,
-            &[
-                main(Split(1, None)),
-                by(1, TakeE(cpu(0), event(0), 5)),
-                by(1, AddF(cpu(1), event(0), 5)),
-                by(1, TakeE(cpu(0), event(0), 0)),
-                main(Join(1))
-            ]
-        ),
+    row(
+        &rt,
+        &facts,
+        "a second take finds 0",
+        &[CONTROL, TAKE, FOLD, by(1, TakeE(CPU_0, EVENT_0, 0)), END],
         Legal(true),
-        "a second take finds 0"
     );
-    assert_eq!(rt;
-        judge(
-            &facts,
-            &[
-                main(Split(1, Some(cpu(1)))),
-                by(1, AddE(event(0), 281_474_976_710_656)),
-                by(1, AddE(event(1), 281_474_976_710_656))
-            ]
-        ),
+    row(
+        &rt,
+        &facts,
+        "each event has its own volume",
+        &[
+            BEGIN,
+            by(1, AddE(EVENT_0, 281_474_976_710_656)),
+            by(1, AddE(EVENT_1, 281_474_976_710_656)),
+        ],
         Legal(false),
-        "each event has its own volume"
     );
     Ok(())
 }
@@ -142,53 +165,54 @@ fn legal_histories(rt: HostRuntime) -> Result<(), Fail> {
 #[test]
 fn who_may_act(rt: HostRuntime) -> Result<(), Fail> {
     let facts = machine(rt.alloc())?;
-    assert_eq!(rt;
-        judge(&facts, &[main(AddE(event(0), 1))]),
+    row(
+        &rt,
+        &facts,
+        "the main pass counts",
+        &[by(0, AddE(EVENT_0, 1))],
         Illegal(0),
-        "the main pass counts"
     );
-    assert_eq!(rt;
-        judge(&facts, &[by(1, LoadE(cpu(0), event(0), 5))]),
+    row(
+        &rt,
+        &facts,
+        "a pass loads that has not begun",
+        &[by(1, LoadE(CPU_0, EVENT_0, 5))],
         Illegal(0),
-        "a pass loads that has not begun"
     );
-    assert_eq!(rt;
-        judge(
-            &facts,
-            &[
-                main(Split(1, Some(cpu(1)))),
-                main(Join(1)),
-                by(1, LoadE(cpu(0), event(0), 5))
-            ]
-        ),
+    row(
+        &rt,
+        &facts,
+        "a pass loads that has ended",
+        &[BEGIN, END, by(1, LoadE(CPU_0, EVENT_0, 5))],
         Illegal(2),
-        "a pass loads that has ended"
     );
-    assert_eq!(rt;
-        judge(
-            &facts,
-            &[main(Split(1, Some(cpu(1)))), by(1, Split(2, Some(cpu(2))))]
-        ),
+    row(
+        &rt,
+        &facts,
+        "another pass than the main pass begins one",
+        &[BEGIN, by(1, Split(2, Some(CPU_2)))],
         Illegal(1),
-        "another pass than the main pass begins one"
     );
-    assert_eq!(rt;
-        judge(&facts, &[main(Split(1, Some(cpu(1)))), by(1, Join(1))]),
+    row(
+        &rt,
+        &facts,
+        "another pass than the main pass ends one",
+        &[BEGIN, by(1, Join(1))],
         Illegal(1),
-        "another pass than the main pass ends one"
     );
-    assert_eq!(rt;
-        judge(&facts, &[main(Split(2, Some(cpu(1))))]),
+    row(
+        &rt,
+        &facts,
+        "a number is passed over",
+        &[by(0, Split(2, Some(CPU_1)))],
         Illegal(0),
-        "a number is passed over"
     );
-    assert_eq!(rt;
-        judge(
-            &facts,
-            &[main(Split(1, Some(cpu(1)))), main(Split(1, Some(cpu(2))))]
-        ),
+    row(
+        &rt,
+        &facts,
+        "a number is given twice",
+        &[BEGIN, by(0, Split(1, Some(CPU_2)))],
         Illegal(1),
-        "a number is given twice"
     );
     Ok(())
 }
@@ -196,53 +220,54 @@ fn who_may_act(rt: HostRuntime) -> Result<(), Fail> {
 #[test]
 fn which_passes_may_begin_and_end(rt: HostRuntime) -> Result<(), Fail> {
     let facts = machine(rt.alloc())?;
-    assert_eq!(rt;
-        judge(&facts, &[main(Split(1, Some(cpu(0))))]),
+    row(
+        &rt,
+        &facts,
+        "a pass owns a dead CPU",
+        &[by(0, Split(1, Some(CPU_0)))],
         Illegal(0),
-        "a pass owns a dead CPU"
     );
-    assert_eq!(rt;
-        judge(&facts, &[main(Split(1, Some(cpu(4))))]),
+    row(
+        &rt,
+        &facts,
+        "a pass owns a CPU that the layout lacks",
+        &[by(0, Split(1, Some(CPU_4)))],
         Illegal(0),
-        "a pass owns a CPU that the layout lacks"
     );
-    assert_eq!(rt;
-        judge(
-            &facts,
-            &[main(Split(1, Some(cpu(1)))), main(Split(2, Some(cpu(1))))]
-        ),
+    row(
+        &rt,
+        &facts,
+        "two passes own a CPU",
+        &[BEGIN, by(0, Split(2, Some(CPU_1)))],
         Illegal(1),
-        "two passes own a CPU"
     );
-    assert_eq!(rt;
-        judge(&facts, &[main(Split(1, None)), main(Split(2, None))]),
+    row(
+        &rt,
+        &facts,
+        "two control passes live",
+        &[CONTROL, by(0, Split(2, None))],
         Illegal(1),
-        "two control passes live"
     );
-    assert_eq!(rt;
-        judge(&facts, &[main(Join(1))]),
+    row(
+        &rt,
+        &facts,
+        "a pass ends that has not begun",
+        &[END],
         Illegal(0),
-        "a pass ends that has not begun"
     );
-    assert_eq!(rt;
-        judge(
-            &facts,
-            &[main(Split(1, Some(cpu(1)))), main(Join(1)), main(Join(1))]
-        ),
+    row(
+        &rt,
+        &facts,
+        "a pass ends twice",
+        &[BEGIN, END, END],
         Illegal(2),
-        "a pass ends twice"
     );
-    assert_eq!(rt;
-        judge(
-            &facts,
-            &[
-                main(Split(1, None)),
-                by(1, TakeE(cpu(0), event(0), 5)),
-                main(Join(1))
-            ]
-        ),
+    row(
+        &rt,
+        &facts,
+        "a pass ends that carries 5",
+        &[CONTROL, TAKE, END],
         Illegal(2),
-        "a pass ends that carries 5"
     );
     Ok(())
 }
@@ -250,45 +275,44 @@ fn which_passes_may_begin_and_end(rt: HostRuntime) -> Result<(), Fail> {
 #[test]
 fn counts(rt: HostRuntime) -> Result<(), Fail> {
     let facts = machine(rt.alloc())?;
-    assert_eq!(rt;
-        judge(&facts, &[main(Split(1, None)), by(1, AddE(event(0), 1))]),
+    row(
+        &rt,
+        &facts,
+        "the control pass counts",
+        &[CONTROL, by(1, AddE(EVENT_0, 1))],
         Illegal(1),
-        "the control pass counts"
     );
-    assert_eq!(rt;
-        judge(
-            &facts,
-            &[main(Split(1, Some(cpu(1)))), by(1, AddE(event(8), 1))]
-        ),
+    row(
+        &rt,
+        &facts,
+        "there is no event 8",
+        &[BEGIN, by(1, AddE(EVENT_8, 1))],
         Illegal(1),
-        "there is no event 8"
     );
-    assert_eq!(rt;
-        judge(
-            &facts,
-            &[
-                main(Split(1, Some(cpu(1)))),
-                by(1, AddE(event(0), 281_474_976_710_656)),
-                by(1, AddE(event(0), 1))
-            ]
-        ),
+    row(
+        &rt,
+        &facts,
+        "past the volume",
+        &[
+            BEGIN,
+            by(1, AddE(EVENT_0, 281_474_976_710_656)),
+            by(1, AddE(EVENT_0, 1)),
+        ],
         Illegal(2),
-        "past the volume"
     );
-    assert_eq!(rt;
-        judge(
-            &facts,
-            &[
-                main(Split(1, Some(cpu(1)))),
-                by(1, AddE(event(0), 281_474_976_710_656)),
-                main(Join(1)),
-                main(Split(2, Some(cpu(1)))),
-                by(2, AddE(event(0), 0)),
-                by(2, AddE(event(0), 1))
-            ]
-        ),
+    row(
+        &rt,
+        &facts,
+        "the volume is that of the CPU",
+        &[
+            BEGIN,
+            by(1, AddE(EVENT_0, 281_474_976_710_656)),
+            END,
+            by(0, Split(2, Some(CPU_1))),
+            by(2, AddE(EVENT_0, 0)),
+            by(2, AddE(EVENT_0, 1)),
+        ],
         Illegal(5),
-        "the volume is that of the CPU"
     );
     Ok(())
 }
@@ -296,50 +320,37 @@ fn counts(rt: HostRuntime) -> Result<(), Fail> {
 #[test]
 fn loads(rt: HostRuntime) -> Result<(), Fail> {
     let facts = machine(rt.alloc())?;
-    assert_eq!(rt;
-        judge(
-            &facts,
-            &[
-                main(Split(1, Some(cpu(1)))),
-                by(1, LoadE(cpu(1), event(0), 9))
-            ]
-        ),
+    row(
+        &rt,
+        &facts,
+        "the word is 10",
+        &[BEGIN, by(1, LoadE(CPU_1, EVENT_0, 9))],
         Illegal(1),
-        "the word is 10"
     );
-    assert_eq!(rt;
-        judge(
-            &facts,
-            &[
-                main(Split(1, Some(cpu(1)))),
-                by(1, AddE(event(0), 2)),
-                by(1, LoadE(cpu(1), event(0), 10))
-            ]
-        ),
+    row(
+        &rt,
+        &facts,
+        "the word is 12",
+        &[
+            BEGIN,
+            by(1, AddE(EVENT_0, 2)),
+            by(1, LoadE(CPU_1, EVENT_0, 10)),
+        ],
         Illegal(2),
-        "the word is 12"
     );
-    assert_eq!(rt;
-        judge(
-            &facts,
-            &[
-                main(Split(1, Some(cpu(1)))),
-                by(1, LoadE(cpu(4), event(0), 0))
-            ]
-        ),
+    row(
+        &rt,
+        &facts,
+        "there is no CPU 4",
+        &[BEGIN, by(1, LoadE(CPU_4, EVENT_0, 0))],
         Illegal(1),
-        "there is no CPU 4"
     );
-    assert_eq!(rt;
-        judge(
-            &facts,
-            &[
-                main(Split(1, Some(cpu(1)))),
-                by(1, LoadE(cpu(0), event(8), 10))
-            ]
-        ),
+    row(
+        &rt,
+        &facts,
+        "there is no event 8",
+        &[BEGIN, by(1, LoadE(CPU_0, EVENT_8, 10))],
         Illegal(1),
-        "there is no event 8"
     );
     Ok(())
 }
@@ -347,60 +358,47 @@ fn loads(rt: HostRuntime) -> Result<(), Fail> {
 #[test]
 fn takes(rt: HostRuntime) -> Result<(), Fail> {
     let facts = machine(rt.alloc())?;
-    assert_eq!(rt;
-        judge(
-            &facts,
-            &[
-                main(Split(1, Some(cpu(1)))),
-                by(1, TakeE(cpu(0), event(0), 5))
-            ]
-        ),
+    row(
+        &rt,
+        &facts,
+        "a pass takes that owns a CPU",
+        &[BEGIN, TAKE],
         Illegal(1),
-        "a pass takes that owns a CPU"
     );
-    assert_eq!(rt;
-        judge(
-            &facts,
-            &[main(Split(1, None)), by(1, TakeE(cpu(1), event(0), 10))]
-        ),
+    row(
+        &rt,
+        &facts,
+        "an online CPU is taken from",
+        &[CONTROL, by(1, TakeE(CPU_1, EVENT_0, 10))],
         Illegal(1),
-        "an online CPU is taken from"
     );
-    assert_eq!(rt;
-        judge(
-            &facts,
-            &[main(Split(1, None)), by(1, TakeE(cpu(3), event(0), 0))]
-        ),
+    row(
+        &rt,
+        &facts,
+        "an absent CPU is taken from",
+        &[CONTROL, by(1, TakeE(CPU_3, EVENT_0, 0))],
         Illegal(1),
-        "an absent CPU is taken from"
     );
-    assert_eq!(rt;
-        judge(
-            &facts,
-            &[main(Split(1, None)), by(1, TakeE(cpu(0), event(0), 4))]
-        ),
+    row(
+        &rt,
+        &facts,
+        "the word is 5",
+        &[CONTROL, by(1, TakeE(CPU_0, EVENT_0, 4))],
         Illegal(1),
-        "the word is 5"
     );
-    assert_eq!(rt;
-        judge(
-            &facts,
-            &[
-                main(Split(1, None)),
-                by(1, TakeE(cpu(0), event(0), 5)),
-                by(1, TakeE(cpu(0), event(0), 5))
-            ]
-        ),
+    row(
+        &rt,
+        &facts,
+        "the word is 0 after the first take",
+        &[CONTROL, TAKE, TAKE],
         Illegal(2),
-        "the word is 0 after the first take"
     );
-    assert_eq!(rt;
-        judge(
-            &facts,
-            &[main(Split(1, None)), by(1, TakeE(cpu(0), event(8), 10))]
-        ),
+    row(
+        &rt,
+        &facts,
+        "there is no event 8",
+        &[CONTROL, by(1, TakeE(CPU_0, EVENT_8, 10))],
         Illegal(1),
-        "there is no event 8"
     );
     Ok(())
 }
@@ -408,74 +406,47 @@ fn takes(rt: HostRuntime) -> Result<(), Fail> {
 #[test]
 fn additions_of_what_was_taken(rt: HostRuntime) -> Result<(), Fail> {
     let facts = machine(rt.alloc())?;
-    assert_eq!(rt;
-        judge(
-            &facts,
-            &[
-                main(Split(1, None)),
-                by(1, TakeE(cpu(0), event(0), 5)),
-                by(1, AddF(cpu(2), event(0), 5))
-            ]
-        ),
+    row(
+        &rt,
+        &facts,
+        "CPU 1 is online and lower",
+        &[CONTROL, TAKE, by(1, AddF(CPU_2, EVENT_0, 5))],
         Illegal(2),
-        "CPU 1 is online and lower"
     );
-    assert_eq!(rt;
-        judge(
-            &facts,
-            &[
-                main(Split(1, None)),
-                by(1, TakeE(cpu(0), event(0), 5)),
-                by(1, AddF(cpu(0), event(0), 5))
-            ]
-        ),
+    row(
+        &rt,
+        &facts,
+        "CPU 0 is dead",
+        &[CONTROL, TAKE, by(1, AddF(CPU_0, EVENT_0, 5))],
         Illegal(2),
-        "CPU 0 is dead"
     );
-    assert_eq!(rt;
-        judge(
-            &facts,
-            &[
-                main(Split(1, None)),
-                by(1, TakeE(cpu(0), event(0), 5)),
-                by(1, AddF(cpu(1), event(0), 4))
-            ]
-        ),
+    row(
+        &rt,
+        &facts,
+        "a part of what is carried",
+        &[CONTROL, TAKE, by(1, AddF(CPU_1, EVENT_0, 4))],
         Illegal(2),
-        "a part of what is carried"
     );
-    assert_eq!(rt;
-        judge(
-            &facts,
-            &[
-                main(Split(1, None)),
-                by(1, TakeE(cpu(0), event(0), 5)),
-                by(1, AddF(cpu(1), event(3), 5))
-            ]
-        ),
+    row(
+        &rt,
+        &facts,
+        "to another event",
+        &[CONTROL, TAKE, by(1, AddF(CPU_1, EVENT_3, 5))],
         Illegal(2),
-        "to another event"
     );
-    assert_eq!(rt;
-        judge(
-            &facts,
-            &[
-                main(Split(1, None)),
-                by(1, TakeE(cpu(0), event(0), 5)),
-                by(1, AddF(cpu(1), event(0), 5)),
-                by(1, AddF(cpu(1), event(0), 5))
-            ]
-        ),
+    row(
+        &rt,
+        &facts,
+        "a second time",
+        &[CONTROL, TAKE, FOLD, FOLD],
         Illegal(3),
-        "a second time"
     );
-    assert_eq!(rt;
-        judge(
-            &facts,
-            &[main(Split(1, None)), by(1, AddF(cpu(1), event(0), 0))]
-        ),
+    row(
+        &rt,
+        &facts,
+        "nothing",
+        &[CONTROL, by(1, AddF(CPU_1, EVENT_0, 0))],
         Illegal(1),
-        "nothing"
     );
     Ok(())
 }
@@ -487,38 +458,36 @@ fn facts_that_begin_no_history(rt: HostRuntime) -> Result<(), Fail> {
     let mut many = none;
     many[0] = 1_152_921_504_606_846_976;
     let most = facts_of(rt.alloc(), 2, &online, &many)?;
-    assert_eq!(rt; judge(&most, &[]), Legal(true), "2^60 in sum");
+    row(&rt, &most, "2^60 in sum", &[], Legal(true));
     many[0] += 1;
     let past = facts_of(rt.alloc(), 2, &online, &many)?;
-    assert_eq!(rt; judge(&past, &[]), NoBase, "past 2^60 in sum");
+    row(&rt, &past, "past 2^60 in sum", &[], NoBase);
     let mut counted = none;
     counted[9] = 1;
     let absent = facts_of(rt.alloc(), 2, &online, &counted)?;
-    assert_eq!(rt; judge(&absent, &[]), NoBase, "an absent CPU has counted");
+    row(&rt, &absent, "an absent CPU has counted", &[], NoBase);
     let dead = facts_of(rt.alloc(), 2, &[Dead, Absent], &none)?;
-    assert_eq!(rt; judge(&dead, &[]), NoBase, "no CPU is online");
+    row(&rt, &dead, "no CPU is online", &[], NoBase);
     let short = facts_of(rt.alloc(), 2, &[Online], &none)?;
-    assert_eq!(rt; judge(&short, &[]), NoBase, "a CPU has no state");
+    row(&rt, &short, "a CPU has no state", &[], NoBase);
     let words = facts_of(rt.alloc(), 2, &online, &[0; 17])?;
-    assert_eq!(rt; judge(&words, &[]), NoBase, "a word too many");
+    row(&rt, &words, "a word too many", &[], NoBase);
     Ok(())
 }
 
 #[test]
 fn the_first_event_at_fault_is_named(rt: HostRuntime) -> Result<(), Fail> {
     let facts = machine(rt.alloc())?;
-    let wrong = by(1, LoadE(cpu(1), event(0), 9));
-    assert_eq!(rt;
-        judge(&facts, &[main(Split(1, Some(cpu(1)))), wrong, wrong]),
+    let wrong = by(1, LoadE(CPU_1, EVENT_0, 9));
+    row(
+        &rt,
+        &facts,
+        "two wrong loads",
+        &[BEGIN, wrong, wrong],
         Illegal(1),
-        "two wrong loads"
     );
     let bare = facts_of(rt.alloc(), 2, &[Dead, Dead], &[0; 16])?;
-    assert_eq!(rt;
-        judge(&bare, &[wrong]),
-        NoBase,
-        "the facts are judged first"
-    );
+    row(&rt, &bare, "the facts are judged first", &[wrong], NoBase);
     Ok(())
 }
 
