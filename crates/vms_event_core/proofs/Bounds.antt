@@ -14,7 +14,7 @@ use Rattle.vms_event_core.specs.Events.{events, History, IsLegal, state_after, t
 use Rattle.vms_event_core.specs.Own.{carried}
 use Rattle.vms_event_core.specs.Steps.{turn}
 use Rattle.vms_event_core.specs.Totals.{spent}
-use Rattle.vms_event_core.specs.Words.{IsEvent, word_at}
+use Rattle.vms_event_core.specs.Words.{IsEvent, word_at, words_of}
 use Rattle.vms_event_core.proofs.Carrying.{carried-not_negative}
 use Rattle.vms_event_core.proofs.PartSums.{sum_below-not_negative, sum_below-part, sum_below-most}
 use Rattle.vms_event_core.proofs.Spending.{spent-affordable, counted-spent}
@@ -36,13 +36,15 @@ module _ (facts : EventFacts) (h : History) (legal : IsLegal facts h) where
   each_word : (k i : ℕ) → i < facts.layout.cpus → pos 0 ≤ℤ pos (word_at (state_after facts h) i k)
   each_word k i below = omega (arith, ints)
 
+  pub words_of-most : (k : ℕ) → IsEvent k → words_of facts.layout (state_after facts h) k ≤ℤ pos (most_in_sum facts.layout)
+  words_of-most k k_in =
+      let others = sum_below-not_negative (λ i. carried k (own h i)) (suc (begun_in turn h)) (each_carried k) in
+      omega (arith, ints, others, totals-kept facts h legal k k_in, true_total-most k k_in)
+
   word-most : (c k : ℕ) → IsCpu facts.layout c → IsEvent k → word_at (state_after facts h) c k ≤ most_in_sum facts.layout
   word-most c k c_in k_in =
       let part = sum_below-part (λ i. pos (word_at (state_after facts h) i k)) c facts.layout.cpus c_in (each_word k) in
-      let others = sum_below-not_negative (λ i. carried k (own h i)) (suc (begun_in turn h)) (each_carried k) in
-      let kept = totals-kept facts h legal k k_in in
-      let most = true_total-most k k_in in
-      let word : pos (word_at (state_after facts h) c k) ≤ℤ pos (most_in_sum facts.layout) = omega (arith, ints, part, others, kept, most) in
+      let word : pos (word_at (state_after facts h) c k) ≤ℤ pos (most_in_sum facts.layout) = omega (arith, ints, part, words_of-most k k_in) in
       omega (arith, ints, word)
 
   carried-most : (p k : ℕ) → IsEvent k → carried k (own h p) ≤ℤ pos (most_in_sum facts.layout)

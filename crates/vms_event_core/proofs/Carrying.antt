@@ -63,7 +63,8 @@ module _ (facts : EventFacts) where
   -- the control pass carries on where the step that it made, or that others made, ends no pass that carries
   stays_control : (e : Event EventStep) (h : History) (p k : ℕ) → IsLegal facts (e ∷ h) → IsEvent k
       → IsLiveControl h p → carried k (own (e ∷ h) p) ≢ pos 0 → IsLiveControl (e ∷ h) p
-  stays_control e h p k legal k_in before some = by (turn e.step) legal.1 (lives_in-turn events facts e h p legal.1) (owner_in-turn events facts e h p legal.1)
+  stays_control e h p k legal k_in before some =
+      by (turn e.step) legal.1 (lives_in-turn events facts e h p legal.1) (owner_in-turn events facts e h p legal.1)
     where
       given : (0 < p) × (p ≤ begun_in turn h)
       given = live_is_given events facts h p legal.0 before.lives

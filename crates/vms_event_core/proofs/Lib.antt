@@ -9,3 +9,4 @@ pub mod Bounds
 pub mod DeadCpus
 pub mod CallLemmas
 pub mod BegunPasses
+pub mod OnlineCpus

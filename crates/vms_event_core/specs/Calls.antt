@@ -1,14 +1,15 @@
 -- The steps that each call makes, oldest first, and what is read off them.
-use Rattle.std.specs.Prelude.{◌≡◌, ℕ, suc, zero, ◌+◌, List, [], ◌∷◌, ◌++◌, length, sum}
+use Rattle.std.specs.Prelude.{◌≡◌, ℕ, suc, zero, ◌+◌, ◌≤◌, List, [], ◌∷◌, ◌++◌, length, sum}
 use Rattle.vms_base.specs.declared.ids.CpuId.{CpuId}
 use Rattle.vms_base.specs.declared.ids.EventId.{EventId}
 use Rattle.vms_base.specs.declared.kinds.CpuState.{CpuState}
 use Rattle.vms_base.specs.declared.kinds.CpuState.TheVariants.{Online, Dead, Absent}
+use Rattle.vms_event_core.specs.declared.states.EventState.{EventState}
 use Rattle.vms_event_core.specs.declared.steps.EventFacts.{EventFacts}
 use Rattle.vms_event_core.specs.declared.steps.EventStep.{EventStep}
 use Rattle.vms_event_core.specs.declared.steps.EventStep.TheVariants.{AddE, LoadE, TakeE, AddF}
 use Rattle.vms_event_core.specs.Bases.{IsLowestOnline}
-use Rattle.vms_event_core.specs.Words.{event_count}
+use Rattle.vms_event_core.specs.Words.{event_count, word_at}
 
 -- the CPUs of these states that are online, in ascending order, where the first has number c
 abbrev pub online_from : ℕ → List CpuState → List ℕ
@@ -35,7 +36,8 @@ loads k (c ∷ cpus) (v ∷ found) = LoadE (record { number = c }) k v ∷ loads
 loads k _ _ = []
 
 -- the sum of an event over the CPUs that are online, each word loaded at its own step
-pub record IsAllEvents (facts : EventFacts) (k : EventId) (found : List ℕ) (steps : List EventStep) (answer : ℕ) : Type 0 where
+pub record IsAllEvents (facts : EventFacts) (k : EventId) (found : List ℕ) (steps : List EventStep)
+    (answer : ℕ) : Type 0 where
   pub one_each : length found ≡ length (online_cpus facts)
   pub in_order : steps ≡ loads k (online_cpus facts) found
   pub adds_up : answer ≡ sum found
@@ -68,3 +70,8 @@ read_fold_events (suc n) (TakeE c k zero ∷ steps) = (0 ∷ (read_fold_events n
 read_fold_events (suc n) (TakeE c k (suc v) ∷ AddF d l a ∷ steps) =
     (suc v ∷ (read_fold_events n steps).0, (read_fold_events n steps).1)
 read_fold_events n steps = ([], steps)
+
+-- each of these numbers is at most the word of its CPU
+abbrev pub AtMostStands : EventState → ℕ → List ℕ → List ℕ → Type 0
+AtMostStands s k (c ∷ cpus) (v ∷ found) = (v ≤ word_at s c k) × AtMostStands s k cpus found
+AtMostStands s k _ _ = Unit {0}

@@ -35,13 +35,15 @@ pub record FindsWord (facts : EventFacts) (s : EventState) (c : CpuId) (k : Even
   pub value : word_at s c.number k.number ≡ v
 
 -- the control pass takes a dead CPU's word
-pub record TakesWord (facts : EventFacts) (h : List (Event EventStep)) (s : EventState) (p : ℕ) (c : CpuId) (k : EventId) (v : ℕ) : Type 0 where
+pub record TakesWord (facts : EventFacts) (h : List (Event EventStep)) (s : EventState) (p : ℕ) (c : CpuId) (k : EventId)
+    (v : ℕ) : Type 0 where
   pub control : owner_in turn h p ≡ None
   pub dead : cpu_at facts c.number ≡ Dead
   pub finds : FindsWord facts s c k v
 
 -- all that the pass carries for an event is added to a word of the lowest-numbered CPU that is online
-pub record AddsCarried (facts : EventFacts) (h : List (Event EventStep)) (p : ℕ) (c : CpuId) (k : EventId) (v : ℕ) : Type 0 where
+pub record AddsCarried (facts : EventFacts) (h : List (Event EventStep)) (p : ℕ) (c : CpuId) (k : EventId)
+    (v : ℕ) : Type 0 where
   pub cpu : IsCpu facts.layout c.number
   pub lowest : IsLowestOnline facts c.number
   pub event : IsEvent k.number

@@ -75,7 +75,8 @@ most_in_sum shape = most_in_base + shape.cpus * most_volume
 pub record BoundsWords (facts : EventFacts) (h : History) : Type 0 where
   pub sums : (k : ℕ) → IsEvent k →
       (words_of facts.layout (state_after facts h) k +ℤ carried_by_all h k) ≤ℤ pos (most_in_sum facts.layout)
-  pub words : (c k : ℕ) → IsCpu facts.layout c → IsEvent k → word_at (state_after facts h) c k ≤ most_in_sum facts.layout
+  pub words : (c k : ℕ) → IsCpu facts.layout c → IsEvent k →
+      word_at (state_after facts h) c k ≤ most_in_sum facts.layout
   pub carried_least : (p k : ℕ) → pos 0 ≤ℤ carried k (own h p)
   pub carried_most : (p k : ℕ) → IsEvent k → carried k (own h p) ≤ℤ pos (most_in_sum facts.layout)
   pub below : most_in_sum facts.layout < 2 ^ 62

@@ -1,12 +1,14 @@
-ghost use Rattle.std.specs.Prelude.{◌≡◌, ℕ, List, length, ◌++◌};
+ghost use Rattle.std.specs.Prelude.{◌≡◌, ◌≤◌, ℕ, List, length, ◌++◌};
 ghost use Rattle.vms_base.specs.declared.ids.CpuId.{CpuId};
 ghost use Rattle.vms_base.specs.declared.ids.EventId.{EventId};
 ghost use Rattle.vms_event_core.specs.declared.steps.EventFacts.{EventFacts};
 ghost use Rattle.vms_event_core.specs.declared.steps.EventStep.{EventStep};
-ghost use Rattle.vms_event_core.specs.Calls.{IsCount, IsAllEvents, IsFoldEvents, read_count, read_all_events, read_fold_events, online_cpus};
-ghost use Rattle.vms_event_core.specs.Events.{History};
+ghost use Rattle.vms_event_core.specs.Calls.{AtMostStands, IsCount, IsAllEvents, IsFoldEvents, read_count, read_all_events, read_fold_events, online_cpus};
+ghost use Rattle.vms_event_core.specs.Events.{History, IsLegal, most_in_sum, state_after};
 ghost use Rattle.vms_event_core.specs.Own.{carried};
-ghost use Rattle.vms_event_core.specs.Words.{event_count};
+ghost use Rattle.vms_event_core.specs.Words.{IsEvent, event_count, word_at};
+ghost use Rattle.vms_event_core.specs.Bases.{cpu_at};
+ghost use Rattle.vms_base.specs.declared.kinds.CpuState.TheVariants.{Online};
 ghost use Rattle.vms_history.specs.Events.{after};
 
 /// What a call found and answered can be read off its steps, whatever steps follow.
@@ -24,4 +26,15 @@ pub fn answers_are_read()
 pub fn folds_carry_nothing()
     ensures { (facts : EventFacts) (from : CpuId) (found : List ℕ) (steps : List EventStep) (p k : ℕ) (h : History) →
         IsFoldEvents facts from found steps → carried k (after p steps h) ≡ carried k h }
+{}
+
+/// The words of a CPU that is online only grow. So the sum that the loads of a call found is at most what the words of
+/// an event may come to, whatever other callers count in between: each load found at most what stands afterwards.
+pub fn online_words_grow()
+    ensures grow { (facts : EventFacts) (m h : History) (c k : ℕ) → IsLegal facts (m ++ h) →
+        cpu_at facts c ≡ Online → IsEvent k →
+        word_at (state_after facts h) c k ≤ word_at (state_after facts (m ++ h)) c k }
+    ensures fits { (facts : EventFacts) (h : History) (k : EventId) (found : List ℕ) (steps : List EventStep)
+        (answer : ℕ) → IsLegal facts h → IsEvent k.number → IsAllEvents facts k found steps answer →
+        AtMostStands (state_after facts h) k.number (online_cpus facts) found → answer ≤ most_in_sum facts.layout }
 {}

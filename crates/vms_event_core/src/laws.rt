@@ -23,7 +23,8 @@ pub fn shape_is_kept()
 /// pass has ended, the words alone do.
 pub fn totals_are_kept()
     ensures always { (facts : EventFacts) (h : History) → IsLegal facts h → KeepsTotals facts h }
-    ensures ended { (facts : EventFacts) (h : History) (k : ℕ) → IsComplete facts h → IsEvent k → HoldsTotals facts h k }
+    ensures ended { (facts : EventFacts) (h : History) (k : ℕ) → IsComplete facts h → IsEvent k →
+        HoldsTotals facts h k }
 {}
 
 /// The words of an event and all that is carried for it are at most 2^60 and 2^48 for each CPU, in sum, which is below

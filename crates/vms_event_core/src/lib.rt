@@ -11,7 +11,7 @@ mod tables;
 #[cfg(test)]
 mod tests;
 
-pub use calls::{answers_are_read, folds_carry_nothing};
+pub use calls::{answers_are_read, folds_carry_nothing, online_words_grow};
 pub use judging::{Judgement, judge};
 pub use laws::{
     control_passes_carry, dead_words_move_once, each_beginning_is_kept, shape_is_kept,

@@ -498,6 +498,7 @@ fn laws_hold_of_the_event_table() {
     dead_words_move_once();
     each_beginning_is_kept();
     folds_carry_nothing();
+    online_words_grow();
     shape_is_kept();
     spending_is_known();
     totals_are_kept();
