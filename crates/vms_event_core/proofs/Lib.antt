@@ -1,0 +1,12 @@
+pub mod Owners
+pub mod WordLemmas
+pub mod Standing
+pub mod PartSums
+pub mod Carrying
+pub mod Spending
+pub mod Totals
+pub mod Bounds
+pub mod DeadCpus
+pub mod CallLemmas
+pub mod BegunPasses
+pub mod OnlineCpus

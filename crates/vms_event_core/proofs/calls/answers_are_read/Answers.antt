@@ -1,0 +1,5 @@
+use Rattle.vms_event_core.proofs.CallLemmas.{count-read, all_events-read, fold_events-read}
+use Rattle.vms_event_core.proofs.calls.answers_are_read.Goals as goal
+
+pub returns : goal.returns
+returns c = record { count = count-read; all_events = all_events-read; fold_events = fold_events-read }

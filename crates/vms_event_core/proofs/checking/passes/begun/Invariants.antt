@@ -1,0 +1,11 @@
+use Rattle.std.proofs.Common.{◌≡◌, ◌≤◌, take}
+use Rattle.std.specs.Prelude.{reverse}
+use Rattle.vms_event_core.specs.Steps.{turn}
+use Rattle.vms_history.specs.Passes.{begun_in}
+use Rattle.vms_event_core.proofs.checking.passes.begun.Given as goal
+
+abbrev pub invariant-loop-event : goal.invariant-loop-event
+invariant-loop-event l = record {
+  value : l.count ≡ begun_in turn (reverse (take l.event-index l.earlier));
+  bound : l.count ≤ l.event-index;
+}
