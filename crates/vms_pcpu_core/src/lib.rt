@@ -1,0 +1,15 @@
+//! The percpu counters as a model: states, the ten kinds of atomic step, legal histories, and what holds of each.
+#![tactic(auto)]
+
+mod laws;
+mod states;
+mod steps;
+mod tables;
+
+pub use laws::{
+    counts_drift_little, dead_locals_move_once, locals_are_bounded, numbers_are_small, one_holder,
+    shape_is_kept, totals_are_kept,
+};
+pub use states::PcpuState;
+pub use steps::{Event, PcpuFacts, PcpuStep};
+pub use tables::Percpu;
