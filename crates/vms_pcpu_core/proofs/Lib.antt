@@ -11,3 +11,4 @@ pub mod Sizes
 pub mod Drift
 pub mod Locks
 pub mod DeadLocals
+pub mod Readings

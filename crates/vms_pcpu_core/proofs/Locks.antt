@@ -31,7 +31,7 @@ pub record Agrees (locked : Bool) (who : Option ℕ) (holding : ℕ → Bool) (c
   pub own_events : (q : ℕ) → holding q ≡ is_holder who q
   pub others : (q : ℕ) → is_holder who q ≡ false → carrying q ≡ pos 0
 
-holds-after : (j : ℕ) (e : Event PcpuStep) (h : History) (q : ℕ)
+pub holds-after : (j : ℕ) (e : Event PcpuStep) (h : History) (q : ℕ)
     → holds j (own (e ∷ h) q) ≡ (if nat_eq e.caller q then holds_after j e.step (holds j (own h q)) else holds j (own h q))
 holds-after j e h q = own-fact (holds j) e h q
 

@@ -26,8 +26,8 @@ carried_by_all h j = sum_below (λ p. carried j (own h p)) (suc (begun_in turn h
 abbrev pub carried_sizes : History → ℕ → ℤ
 carried_sizes h j = sum_below (λ p. pos (unsigned_abs (carried j (own h p)))) (suc (begun_in turn h))
 
--- nothing is lost and nothing is counted twice: the shared part of a counter, its local parts and what is carried for it
--- add up to its true total
+-- nothing is lost and nothing is counted twice: the shared part of a counter, its local parts and what is carried for
+-- it add up to its true total
 abbrev pub KeepsTotals : PcpuFacts → History → Type 0
 KeepsTotals facts h = (j : ℕ) → IsPcpu facts j →
     (count_at (numbers_after facts h) j +ℤ locals facts.layout (numbers_after facts h) j) +ℤ carried_by_all h j
@@ -50,8 +50,8 @@ pub record HasOneHolder (facts : PcpuFacts) (h : History) (j : ℕ) : Type 0 whe
   pub others : (p : ℕ) → holds j (own h p) ≡ false → carried j (own h p) ≡ pos 0
   pub free : held_at (state_after facts h) j ≡ false → (p : ℕ) → carried j (own h p) ≡ pos 0
 
--- the shared part alone is off from the true total by a batch for each CPU that is online or dead and by what is carried,
--- at most
+-- the shared part alone is off from the true total by at most a batch for each CPU that is online or dead, and by what
+-- is carried
 abbrev pub DriftsLittle : PcpuFacts → History → Type 0
 DriftsLittle facts h = (j : ℕ) → IsPcpu facts j →
     pos (unsigned_abs (count_at (numbers_after facts h) j -ℤ true_total facts h j))

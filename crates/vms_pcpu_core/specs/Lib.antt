@@ -6,3 +6,5 @@ pub mod Totals
 pub mod Conditions
 pub mod Histories
 pub mod Laws
+pub mod Calls
+pub mod Readings
