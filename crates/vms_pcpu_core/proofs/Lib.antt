@@ -12,3 +12,4 @@ pub mod Drift
 pub mod Locks
 pub mod DeadLocals
 pub mod Readings
+pub mod Watched

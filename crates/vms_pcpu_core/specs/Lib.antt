@@ -8,3 +8,4 @@ pub mod Histories
 pub mod Laws
 pub mod Calls
 pub mod Readings
+pub mod Watching

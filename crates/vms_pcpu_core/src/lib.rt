@@ -7,6 +7,7 @@ mod laws;
 mod states;
 mod steps;
 mod tables;
+mod watching;
 
 pub use answers::Compare;
 pub use calls::{
@@ -20,3 +21,4 @@ pub use laws::{
 pub use states::PcpuState;
 pub use steps::{Event, PcpuFacts, PcpuStep};
 pub use tables::Percpu;
+pub use watching::{holder_acts_alone, own_part_stays, rough_sign_is_true, sum_is_true_total};
