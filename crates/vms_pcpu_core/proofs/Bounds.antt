@@ -36,7 +36,7 @@ module _ (cpus batch : ℕ) (who : Option CpuId) (count count' : ℤ) (local loc
 
 local-within : (facts : PcpuFacts) (h : History) → IsLegal facts h → (c j : ℕ) → IsCpu facts.layout c → IsPcpu facts j
     → unsigned_abs (local_at (numbers_after facts h) c j) ≤ batch_at facts.base j
-local-within facts [] legal c j c_in j_in = legal.locals c j c_in j_in
+local-within facts [] legal c j c_in j_in = (legal.locals c c_in j j_in).within
 local-within facts (e ∷ h) legal c j c_in j_in =
     let before = local-within facts h legal.0 c j c_in j_in in
     let batches = batch_at-state_after facts h j legal.0 in
@@ -47,7 +47,7 @@ local-within facts (e ∷ h) legal c j c_in j_in =
 
 absent-none : (facts : PcpuFacts) (h : History) → IsLegal facts h → (c j : ℕ) → IsCpu facts.layout c → cpu_at facts c ≡ Absent
     → IsPcpu facts j → local_at (numbers_after facts h) c j ≡ pos 0
-absent-none facts [] legal c j c_in is_absent j_in = legal.absent c j c_in is_absent j_in
+absent-none facts [] legal c j c_in is_absent j_in = (legal.locals c c_in j j_in).absent is_absent
 absent-none facts (e ∷ h) legal c j c_in is_absent j_in =
     let before = absent-none facts h legal.0 c j c_in is_absent j_in in
     ⊎_elim (λ same. same ∙ before)

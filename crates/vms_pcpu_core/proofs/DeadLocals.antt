@@ -17,7 +17,8 @@ use Rattle.vms_pcpu_core.specs.Steps.{turn}
 use Rattle.vms_pcpu_core.specs.Totals.{is_owned}
 use Rattle.vms_pcpu_core.specs.Histories.{percpu, History, IsLegal, state_after}
 use Rattle.vms_pcpu_core.specs.Laws.{numbers_after, taken_by, takings, MovesOnce}
-use Rattle.vms_pcpu_core.proofs.Effects.{local_after, local_at-effect}
+use Rattle.vms_pcpu_core.specs.Effects.{local_after}
+use Rattle.vms_pcpu_core.proofs.Effects.{local_at-effect}
 use Rattle.vms_pcpu_core.proofs.Owners.{owner_might_begin}
 use Rattle.vms_pcpu_core.proofs.Shapes.{HasShape-state_after}
 use Rattle.vms_pcpu_core.proofs.Totals.{owned}

@@ -57,9 +57,9 @@ pub locals-hide : (facts : PcpuFacts) (h : History) (j : ℕ) → IsLegal facts 
 locals-hide facts h j legal j_in =
     let base = base_can_begin percpu facts h legal in
     let bounds = locals-bounded facts h legal in
-    let all : take facts.layout.cpus facts.cpus ≡ facts.cpus = take_all facts.layout.cpus facts.cpus (omega (arith, base.one_state_each)) in
+    let all : take facts.layout.cpus facts.cpus ≡ facts.cpus = take_all facts.layout.cpus facts.cpus (omega (arith, base.lengths.one_state_each)) in
     rw all at (present-bound facts.cpus (λ c. pos (unsigned_abs (local_at (numbers_after facts h) c j))) (batch_at facts.base j) facts.layout.cpus
-    (omega (arith, base.one_state_each))
+    (omega (arith, base.lengths.one_state_each))
     (λ c below. let within = bounds.within c j below j_in in omega (arith, ints))
     (λ c below absent. let none = bounds.absent c j below absent j_in in omega (arith, ints)))
 

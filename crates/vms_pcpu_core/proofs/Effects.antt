@@ -1,5 +1,5 @@
 -- What a step that meets its condition makes of the numbers and locks of a state.
-use Rattle.std.proofs.Common.{◌≡◌, ℕ, ◌*◌, ◌&&◌, Bool, true, false, List, length, Option, Some, None, ℤ, pos, ◌+ℤ◌, refl, ap, ◌∙◌, length-set, if◌then◌else◌, nat_eq}
+use Rattle.std.proofs.Common.{◌≡◌, ℕ, ◌*◌, true, false, List, length, Option, Some, None, ℤ, pos, ◌+ℤ◌, refl, ap, ◌∙◌, length-set}
 use Rattle.vms_base.specs.declared.ids.CpuId.{CpuId}
 use Rattle.vms_base.specs.declared.ids.PcpuId.{PcpuId}
 use Rattle.vms_base.specs.Places.{IsCpu, cell}
@@ -9,8 +9,8 @@ use Rattle.vms_pcpu_core.specs.declared.steps.PcpuStep.{PcpuStep}
 use Rattle.vms_pcpu_core.specs.declared.steps.PcpuStep.TheVariants.{AddL, Won, TakeL, AddC, Unlock}
 use Rattle.vms_pcpu_core.specs.States.{LockedState, HasShape, counters_of, count_at, local_at, held_at, IsPcpu}
 use Rattle.vms_pcpu_core.specs.Conditions.{Meets}
+use Rattle.vms_pcpu_core.specs.Effects.{count_after, local_after, held_after}
 use Rattle.vms_pcpu_core.specs.Steps.{effect, with_own_added}
-use Rattle.vms_pcpu_core.specs.Totals.{is_owned}
 use Rattle.vms_pcpu_core.proofs.Cells.{get_or-set, get_or-added, get_or-set_cell, get_or-added_cell}
 
 HasShape-with_own_added : (facts : PcpuFacts) (who : Option CpuId) (j : PcpuId) (a : ℤ) (s : LockedState) → HasShape facts s
@@ -30,23 +30,6 @@ HasShape-effect facts who (AddC j a) s shaped =
     assumption (length-set s.numbers.count j.number (count_at s.numbers j.number +ℤ a) ∙ shaped.count)
 HasShape-effect facts who (Unlock j) s shaped = assumption (length-set s.held j.number false ∙ shaped.held)
 HasShape-effect facts who _ s shaped = shaped
-
--- the shared part of counter j after a step
-abbrev pub count_after : ℕ → PcpuStep → ℤ → ℤ
-count_after j (AddC i a) before = if nat_eq i.number j then before +ℤ a else before
-count_after j _ before = before
-
--- the local part of CPU c for counter j after a step of a pass that owns `who`
-abbrev pub local_after : Option CpuId → ℕ → ℕ → PcpuStep → ℤ → ℤ
-local_after who c j (AddL i a) before = if is_owned who c && nat_eq i.number j then before +ℤ a else before
-local_after who c j (TakeL i d v) before = if nat_eq d.number c && nat_eq i.number j then pos 0 else before
-local_after who c j _ before = before
-
--- whether the lock of counter j is held after a step
-abbrev pub held_after : ℕ → PcpuStep → Bool → Bool
-held_after j (Won i) before = if nat_eq i.number j then true else before
-held_after j (Unlock i) before = if nat_eq i.number j then false else before
-held_after j _ before = before
 
 module _ (facts : PcpuFacts) (h : List (Event PcpuStep)) (s : LockedState) (p : ℕ) (shaped : HasShape facts s) where
   counters-same : counters_of s.numbers ≡ counters_of facts.base

@@ -17,7 +17,8 @@ use Rattle.vms_pcpu_core.specs.Totals.{holder, holder_after}
 use Rattle.vms_pcpu_core.specs.Histories.{percpu, History, IsLegal, state_after}
 use Rattle.vms_pcpu_core.specs.Laws.{HasOneHolder}
 use Rattle.vms_pcpu_core.proofs.Callers.{own-fact}
-use Rattle.vms_pcpu_core.proofs.Effects.{held_after, held_at-effect}
+use Rattle.vms_pcpu_core.specs.Effects.{held_after}
+use Rattle.vms_pcpu_core.proofs.Effects.{held_at-effect}
 use Rattle.vms_pcpu_core.proofs.Shapes.{HasShape-state_after}
 
 -- whether p is the holder

@@ -12,8 +12,8 @@ pub HasShape-state_after : (facts : PcpuFacts) (h : History) → IsLegal facts h
 HasShape-state_after facts [] legal =
     record {
       batch = refl;
-      count = legal.one_count_each;
-      local = legal.one_local_each;
+      count = legal.lengths.one_count_each;
+      local = legal.lengths.one_local_each;
       held = length-replicate (counters_of facts.base) false;
     }
 HasShape-state_after facts (e ∷ h) legal =

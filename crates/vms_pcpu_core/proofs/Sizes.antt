@@ -150,9 +150,9 @@ pays facts h j legal j_in =
     let base = base_can_begin percpu facts h legal in
     let locals =
     sum_below-bound (λ c. pos (unsigned_abs (local_at facts.base c j))) facts.layout.cpus (2 ^ 16)
-    (λ c below. let small = base.locals c j below j_in in let batch = base.batch_most j j_in in omega (arith, ints)) in
+    (λ c below. let small = (base.locals c below j j_in).within in let batch = (base.counters j j_in).batch_most in omega (arith, ints)) in
     let volumes = sum_below-bound (λ c. pos (spent h c j)) facts.layout.cpus (2 ^ 48) (λ c below. let most = spent-most facts h c j legal in omega (arith, ints)) in
-    let count = base.counts j j_in in
+    let count = (base.counters j j_in).count in
     let cpus = base.layout.cpus_most in
     omega (arith, ints)
 

@@ -28,7 +28,8 @@ use Rattle.vms_pcpu_core.specs.Steps.{turn}
 use Rattle.vms_pcpu_core.specs.Totals.{amount_of, is_owned, spent, spent_by, true_total}
 use Rattle.vms_pcpu_core.specs.Watching.{IsLoad, AreLoads, Watches, added_by, added_since}
 use Rattle.vms_pcpu_core.proofs.Drift.{locals-hide}
-use Rattle.vms_pcpu_core.proofs.Effects.{count_after, local_after, count_at-effect, local_at-effect}
+use Rattle.vms_pcpu_core.specs.Effects.{count_after, local_after}
+use Rattle.vms_pcpu_core.proofs.Effects.{count_at-effect, local_at-effect}
 use Rattle.vms_pcpu_core.proofs.Locks.{holder-one, holds-after}
 use Rattle.vms_pcpu_core.proofs.Owners.{owner_might_begin}
 use Rattle.vms_pcpu_core.proofs.Shapes.{HasShape-state_after}

@@ -13,17 +13,27 @@ most_batch = 2 ^ 16
 abbrev pub most_count : ℕ
 most_count = 2 ^ 60
 
--- the lists fit the layout, some CPU runs, the numbers are in their ranges, and an absent CPU has no local parts
-pub record IsBase (facts : PcpuFacts) : Type 0 where
-  pub layout : IsLayout facts.layout
+-- the lists fit the layout
+pub record HasLengths (facts : PcpuFacts) : Type 0 where
   pub one_state_each : length facts.cpus ≡ facts.layout.cpus
   pub one_count_each : length facts.base.count ≡ counters_of facts.base
   pub one_local_each : length facts.base.local ≡ facts.layout.cpus * counters_of facts.base
+
+-- the batch and the shared part of a counter are in their ranges
+pub record IsCounterBase (facts : PcpuFacts) (j : ℕ) : Type 0 where
+  pub batch_least : 1 ≤ batch_at facts.base j
+  pub batch_most : batch_at facts.base j ≤ most_batch
+  pub count : unsigned_abs (count_at facts.base j) ≤ most_count
+
+-- a local part is within its batch, and an absent CPU has none
+pub record IsLocalBase (facts : PcpuFacts) (c j : ℕ) : Type 0 where
+  pub within : unsigned_abs (local_at facts.base c j) ≤ batch_at facts.base j
+  pub absent : cpu_at facts c ≡ Absent → local_at facts.base c j ≡ pos 0
+
+-- what a history may begin with: some CPU runs, and all numbers are in their ranges
+pub record IsBase (facts : PcpuFacts) : Type 0 where
+  pub layout : IsLayout facts.layout
+  pub lengths : HasLengths facts
   pub some_online : (c : ℕ) × IsCpu facts.layout c × (cpu_at facts c ≡ Online)
-  pub batch_least : (j : ℕ) → IsPcpu facts j → 1 ≤ batch_at facts.base j
-  pub batch_most : (j : ℕ) → IsPcpu facts j → batch_at facts.base j ≤ most_batch
-  pub counts : (j : ℕ) → IsPcpu facts j → unsigned_abs (count_at facts.base j) ≤ most_count
-  pub locals : (c j : ℕ) → IsCpu facts.layout c → IsPcpu facts j →
-      unsigned_abs (local_at facts.base c j) ≤ batch_at facts.base j
-  pub absent : (c j : ℕ) → IsCpu facts.layout c → cpu_at facts c ≡ Absent → IsPcpu facts j →
-      local_at facts.base c j ≡ pos 0
+  pub counters : (j : ℕ) → IsPcpu facts j → IsCounterBase facts j
+  pub locals : (c : ℕ) → IsCpu facts.layout c → (j : ℕ) → IsPcpu facts j → IsLocalBase facts c j

@@ -20,8 +20,8 @@ abbrev pub most_volume : ℕ
 most_volume = 2 ^ 48
 
 -- an addition to the own local part, which stays within the batch
-pub record AddsToLocal (facts : PcpuFacts) (h : List (Event PcpuStep)) (s : LockedState) (p : ℕ) (j : PcpuId) (amount : ℤ)
-    : Type 0 where
+pub record AddsToLocal (facts : PcpuFacts) (h : List (Event PcpuStep)) (s : LockedState) (p : ℕ)
+    (j : PcpuId) (amount : ℤ) : Type 0 where
   pub counter : IsPcpu facts j.number
   pub cpu : CpuId
   pub owner : owner_in turn h p ≡ Some cpu
@@ -55,8 +55,8 @@ MayTake facts (Some d) c = d ≡ c
 MayTake facts None c = cpu_at facts c.number ≡ Dead
 
 -- a local part is taken under the lock
-pub record TakesLocal (facts : PcpuFacts) (h : List (Event PcpuStep)) (s : LockedState) (p : ℕ) (j : PcpuId) (c : CpuId) (v : ℤ)
-    : Type 0 where
+pub record TakesLocal (facts : PcpuFacts) (h : List (Event PcpuStep)) (s : LockedState) (p : ℕ)
+    (j : PcpuId) (c : CpuId) (v : ℤ) : Type 0 where
   pub counter : IsPcpu facts j.number
   pub cpu : IsCpu facts.layout c.number
   pub holding : holds j.number (own h p) ≡ true
