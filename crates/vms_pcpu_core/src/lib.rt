@@ -14,6 +14,8 @@ mod standing;
 mod states;
 mod steps;
 mod tables;
+#[cfg(test)]
+mod tests;
 mod watching;
 
 pub use answers::Compare;
