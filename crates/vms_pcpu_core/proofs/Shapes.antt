@@ -1,0 +1,24 @@
+-- The lists of a state in every legal history, and the batches.
+use Rattle.std.proofs.Common.{◌≡◌, ℕ, false, [], ◌∷◌, get_or, refl, ap}
+use Rattle.std.proofs.lemmas.List.{length-replicate}
+use Rattle.vms_history.specs.Passes.{owner_in}
+use Rattle.vms_pcpu_core.specs.declared.steps.PcpuFacts.{PcpuFacts}
+use Rattle.vms_pcpu_core.specs.States.{HasShape, counters_of, batch_at}
+use Rattle.vms_pcpu_core.specs.Steps.{turn}
+use Rattle.vms_pcpu_core.specs.Histories.{History, IsLegal, state_after}
+use Rattle.vms_pcpu_core.proofs.Effects.{HasShape-effect}
+
+pub HasShape-state_after : (facts : PcpuFacts) (h : History) → IsLegal facts h → HasShape facts (state_after facts h)
+HasShape-state_after facts [] legal =
+    record {
+      batch = refl;
+      count = legal.lengths.one_count_each;
+      local = legal.lengths.one_local_each;
+      held = length-replicate (counters_of facts.base) false;
+    }
+HasShape-state_after facts (e ∷ h) legal =
+    HasShape-effect facts (owner_in turn h e.caller) e.step (state_after facts h) (HasShape-state_after facts h legal.0)
+
+pub batch_at-state_after : (facts : PcpuFacts) (h : History) (j : ℕ) → IsLegal facts h
+    → batch_at (state_after facts h).numbers j ≡ batch_at facts.base j
+batch_at-state_after facts h j legal = ap (λ bs. get_or bs j 0) (HasShape-state_after facts h legal).batch

@@ -1,0 +1,18 @@
+use Rattle.std.proofs.Common.{◌≡◌, arith}
+use Rattle.std.proofs.Common.{nat_eq, if◌then◌else◌, refl}
+use Rattle.vms_history.specs.Passes.{lives, lives_in, lives_after}
+use Rattle.vms_pcpu_core.specs.Steps.{turn}
+use Rattle.vms_pcpu_core.proofs.Callers.{own-fact}
+use Rattle.vms_pcpu_core.specs.Histories.{History}
+use Rattle.vms_pcpu_core.proofs.PastEvents.{past-none, fact-next}
+use Rattle.vms_pcpu_core.proofs.passes.lives.Goals as goal
+
+pub loop-i-init : goal.loop-i-init
+loop-i-init c = let none = past-none c.args.events.now in rw none refl
+
+pub loop-i-preserved : goal.loop-i-preserved
+loop-i-preserved c =
+    fact-next (λ (h : History). lives_in turn h c.args.q) (λ e h x. if nat_eq e.caller 0 then lives_after (turn e.step) c.args.q x else x) (λ e h. own-fact (λ es. lives turn es c.args.q) e h 0) c.args.events.now c.loop-i.i _ _ _ (omega arith) c.loop-i.invariant c.lives_next-living.ensures
+
+pub returns : goal.returns
+returns c = let done : c.loop-i.i ≡ c.args.n = omega arith in rw done at c.loop-i.invariant

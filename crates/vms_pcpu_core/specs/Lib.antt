@@ -1,0 +1,14 @@
+pub mod States
+pub mod Bases
+pub mod Steps
+pub mod Own
+pub mod Totals
+pub mod Effects
+pub mod Conditions
+pub mod Histories
+pub mod Laws
+pub mod Calls
+pub mod Readings
+pub mod Watching
+pub mod Past
+pub mod Verdicts

@@ -1,0 +1,8 @@
+/// What a comparison answers.
+#[derive(Clone, Copy, Debug, PartialEq, Eq)]
+pub struct Compare {
+    /// 1, 0 or -1: the counter is above the other number, equal to it or below it.
+    pub sign: i8,
+    /// Whether the shared part alone decided.
+    pub rough: bool,
+}
