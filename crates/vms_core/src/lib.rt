@@ -23,4 +23,6 @@ pub use plain::Plain;
 pub use states::{Acks, Longs, MarkRead, Marks, Smalls, State, States, Threshold};
 pub use steps::{Event, Facts, Step};
 pub use tables::Pages;
-pub use worlds::{EventState, PcpuState, World};
+pub use vms_event_core::EventState;
+pub use vms_pcpu_core::PcpuState;
+pub use worlds::World;
