@@ -21,3 +21,6 @@ pub mod HiddenPages
 pub mod SettingRanges
 pub mod LevelStates
 pub mod SettlingLegal
+pub mod Emptied
+pub mod DeadCpus
+pub mod OfflineGroups

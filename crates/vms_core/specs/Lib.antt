@@ -12,3 +12,4 @@ pub mod PeakLaws
 pub mod Settling
 pub mod Calls
 pub mod Following
+pub mod Taken

@@ -4,10 +4,15 @@ ghost use Rattle.vms_core.specs.Cells.{HasShape};
 ghost use Rattle.vms_core.specs.Pages.{History, IsLegal, state_after, KeepsTotals, KeepsSystemTotals, BoundsDifferentials};
 
 mod peaks;
+mod taken;
 
 pub use peaks::{
     acknowledged_bounds_use, differentials_are_within_peaks, each_beginning_is_within_peaks,
     history_tells_settings, marks_cover, settings_are_in_range,
+};
+pub use taken::{
+    dead_cpus_move_once, emptied_groups_stay_zero, offline_groups_are_found_once,
+    offline_groups_stay_taken,
 };
 
 /// The lists of a state keep the lengths that the layout gives them.
