@@ -23,4 +23,6 @@ pub mod LevelStates
 pub mod SettlingLegal
 pub mod Emptied
 pub mod DeadCpus
+pub mod CountLemmas
+pub mod Drift
 pub mod OfflineGroups

@@ -13,3 +13,4 @@ pub mod Settling
 pub mod Calls
 pub mod Following
 pub mod Taken
+pub mod Drift

@@ -3,9 +3,11 @@ ghost use Rattle.vms_core.specs.declared.steps.Facts.{Facts};
 ghost use Rattle.vms_core.specs.Cells.{HasShape};
 ghost use Rattle.vms_core.specs.Pages.{History, IsLegal, state_after, KeepsTotals, KeepsSystemTotals, BoundsDifferentials};
 
+mod drift;
 mod peaks;
 mod taken;
 
+pub use drift::{drift_is_bounded, system_drift_is_bounded};
 pub use peaks::{
     acknowledged_bounds_use, differentials_are_within_peaks, each_beginning_is_within_peaks,
     history_tells_settings, marks_cover, settings_are_in_range,
