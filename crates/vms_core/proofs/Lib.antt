@@ -25,4 +25,9 @@ pub mod Emptied
 pub mod DeadCpus
 pub mod CountLemmas
 pub mod Drift
+pub mod Moves
+pub mod Carrying
+pub mod Outflow
+pub mod ItemSums
+pub mod Magnitudes
 pub mod OfflineGroups

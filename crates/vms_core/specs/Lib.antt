@@ -14,3 +14,4 @@ pub mod Calls
 pub mod Following
 pub mod Taken
 pub mod Drift
+pub mod Bounded

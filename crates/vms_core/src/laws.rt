@@ -3,10 +3,12 @@ ghost use Rattle.vms_core.specs.declared.steps.Facts.{Facts};
 ghost use Rattle.vms_core.specs.Cells.{HasShape};
 ghost use Rattle.vms_core.specs.Pages.{History, IsLegal, state_after, KeepsTotals, KeepsSystemTotals, BoundsDifferentials};
 
+mod bounded;
 mod drift;
 mod peaks;
 mod taken;
 
+pub use bounded::{moves_are_bounded, numbers_stay_small, volumes_are_kept};
 pub use drift::{drift_is_bounded, system_drift_is_bounded};
 pub use peaks::{
     acknowledged_bounds_use, differentials_are_within_peaks, each_beginning_is_within_peaks,

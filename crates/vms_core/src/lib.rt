@@ -16,8 +16,9 @@ pub use laws::{
     acknowledged_bounds_use, dead_cpus_move_once, differentials_are_bounded,
     differentials_are_within_peaks, drift_is_bounded, each_beginning_is_kept,
     each_beginning_is_within_peaks, emptied_groups_stay_zero, history_tells_settings, marks_cover,
-    offline_groups_are_found_once, offline_groups_stay_taken, settings_are_in_range, shape_is_kept,
-    system_drift_is_bounded, systems_are_kept, totals_are_kept,
+    moves_are_bounded, numbers_stay_small, offline_groups_are_found_once,
+    offline_groups_stay_taken, settings_are_in_range, shape_is_kept, system_drift_is_bounded,
+    systems_are_kept, totals_are_kept, volumes_are_kept,
 };
 pub use plain::Plain;
 pub use states::{Acks, Longs, MarkRead, Marks, Smalls, State, States, Threshold};
