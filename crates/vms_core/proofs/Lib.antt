@@ -30,4 +30,9 @@ pub mod Carrying
 pub mod Outflow
 pub mod ItemSums
 pub mod Magnitudes
+pub mod LiveOwners
+pub mod Watching
+pub mod Exchanges
 pub mod OfflineGroups
+pub mod ControlSteps
+pub mod OwnSteps

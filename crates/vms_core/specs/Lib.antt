@@ -15,3 +15,4 @@ pub mod Following
 pub mod Taken
 pub mod Drift
 pub mod Bounded
+pub mod Knowledge
