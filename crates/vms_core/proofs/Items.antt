@@ -30,7 +30,7 @@ use Rattle.vms_core.proofs.Shapes.{HasShape-state_after}
 use Rattle.vms_core.proofs.Effects.{owned, group-within, diff_at-effect, system_at-effect}
 use Rattle.vms_core.proofs.Sums.{entry-told, differentials-write, put-adds_up, addition-adds_up}
 
-sum_below-split : (f : ℕ → ℤ) (m n : ℕ) → sum_below f (m + n) ≡ sum_below f m +ℤ sum_below (λ i. f (m + i)) n
+pub sum_below-split : (f : ℕ → ℤ) (m n : ℕ) → sum_below f (m + n) ≡ sum_below f m +ℤ sum_below (λ i. f (m + i)) n
 sum_below-split f m zero = let e : m + 0 ≡ m = omega arith in rw e (omega (arith, ints))
 sum_below-split f m (suc n) = let e : m + suc n ≡ suc (m + n) = omega arith in rw e (omega (arith, ints, sum_below-split f m n))
 
@@ -44,7 +44,7 @@ sum_below-part f start m n within zeros =
     let behind = sum_below-zeros (λ i. f ((start + m) + i)) rest (λ i less. zeros ((start + m) + i) (inr (omega arith))) in
     rw all (omega (arith, ints, sum_below-split f (start + m) rest, sum_below-split f start m, before, behind))
 
-if-sum : (b : Bool) (x y : ℤ) → (if b then x +ℤ y else pos 0) ≡ (if b then x else pos 0) +ℤ (if b then y else pos 0)
+pub if-sum : (b : Bool) (x y : ℤ) → (if b then x +ℤ y else pos 0) ≡ (if b then x else pos 0) +ℤ (if b then y else pos 0)
 if-sum true x y = refl
 if-sum false x y = refl
 
@@ -68,7 +68,7 @@ differentials_of_item-change shape s s' i change changed =
 
 module _ (is_in : ℕ → Bool) (n : ℕ) where
   -- a change of one counter
-  one_change : (l : ℕ) (v : ℤ) → l < n
+  pub one_change : (l : ℕ) (v : ℤ) → l < n
       → sum_below (λ k. if is_in k then (if nat_eq l k then v else pos 0) else pos 0) n ≡ (if is_in l then v else pos 0)
   one_change l v l_in =
       let change : ℕ → ℤ = λ k. if is_in k then (if nat_eq l k then v else pos 0) else pos 0 in
@@ -80,7 +80,7 @@ module _ (is_in : ℕ → Bool) (n : ℕ) where
       omega (arith, ints, part, here)
 
   -- changes of the counters of one group
-  group_change : (j : ℕ) (f : ℕ → ℤ) → j < n / 8
+  pub group_change : (j : ℕ) (f : ℕ → ℤ) → j < n / 8
       → sum_below (λ k. if is_in k then (if nat_eq j (group_of k) then f k else pos 0) else pos 0) n
       ≡ sum_below (λ i. if is_in (first_of j + i) then f (first_of j + i) else pos 0) 8
   group_change j f j_in =

@@ -35,7 +35,7 @@ entry-told s c j k values told same =
     told (k % 8) (omega arith) ∙ ap (diff_at s c) at
 
 -- one value of a sum is another, if at all
-sum_below-one_if : (f : ℕ → ℤ) (d n : ℕ) (b : Bool) (v : ℤ) → d < n
+pub sum_below-one_if : (f : ℕ → ℤ) (d n : ℕ) (b : Bool) (v : ℤ) → d < n
     → sum_below (λ c. if nat_eq d c && b then v else f c) n ≡ sum_below f n +ℤ (if b then v -ℤ f d else pos 0)
 sum_below-one_if f d n true v d_in =
     let same : nat_eq d d ≡ true = eq-eqb d d refl in

@@ -17,3 +17,7 @@ pub mod Reading
 pub mod Folding
 pub mod Controlling
 pub mod Following
+pub mod Taken
+pub mod Drift
+pub mod Bounded
+pub mod Knowledge

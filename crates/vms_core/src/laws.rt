@@ -3,11 +3,25 @@ ghost use Rattle.vms_core.specs.declared.steps.Facts.{Facts};
 ghost use Rattle.vms_core.specs.Cells.{HasShape};
 ghost use Rattle.vms_core.specs.Pages.{History, IsLegal, state_after, KeepsTotals, KeepsSystemTotals, BoundsDifferentials};
 
+mod bounded;
+mod drift;
+mod knowledge;
 mod peaks;
+mod taken;
 
+pub use bounded::{moves_are_bounded, numbers_stay_small, volumes_are_kept};
+pub use drift::{drift_is_bounded, system_drift_is_bounded};
+pub use knowledge::{
+    control_steps_stay_allowed, exchanges_win_or_miss, found_lists_stand, own_steps_stay_allowed,
+    owned_cpus_are_online, passes_know_what_they_own,
+};
 pub use peaks::{
     acknowledged_bounds_use, differentials_are_within_peaks, each_beginning_is_within_peaks,
     history_tells_settings, marks_cover, settings_are_in_range,
+};
+pub use taken::{
+    dead_cpus_move_once, emptied_groups_stay_zero, offline_groups_are_found_once,
+    offline_groups_stay_taken,
 };
 
 /// The lists of a state keep the lengths that the layout gives them.

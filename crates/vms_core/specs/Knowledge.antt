@@ -1,0 +1,82 @@
+-- What a pass that lives knows of the state by its own events.
+use Rattle.std.specs.Prelude.{◌≡◌, ℕ, ◌+◌, ◌≤◌, true, ◌⊎◌, ℤ, List, ◌∷◌, length, Some, unsigned_abs}
+use Rattle.vms_base.specs.declared.groups.Diffs.{Diffs}
+use Rattle.vms_base.specs.declared.ids.CounterId.{CounterId}
+use Rattle.vms_base.specs.declared.ids.CpuId.{CpuId}
+use Rattle.vms_base.specs.declared.kinds.CpuState.TheVariants.{Online}
+use Rattle.vms_base.specs.Places.{IsCpu, IsCounter, IsGroup, place_of, group_of}
+use Rattle.vms_history.specs.declared.events.Event.{Event}
+use Rattle.vms_history.specs.Events.{Extends, own}
+use Rattle.vms_history.specs.Passes.{lives_in, owner_in}
+use Rattle.vms_core.specs.declared.states.State.{State}
+use Rattle.vms_core.specs.declared.steps.Facts.{Facts}
+use Rattle.vms_core.specs.declared.steps.Step.{Step}
+use Rattle.vms_core.specs.Cells.{TellsGroup, cpu_at, eight_zeros}
+use Rattle.vms_core.specs.Conditions.{most_volume}
+use Rattle.vms_core.specs.Own.{found, loaded, CarriesNothing}
+use Rattle.vms_core.specs.Pages.{History, IsLegal, state_after}
+use Rattle.vms_core.specs.Peaks.{sets, threshold_in, cpu_in, peak, peak_sum}
+use Rattle.vms_core.specs.PeakLaws.{OwnsNow}
+use Rattle.vms_core.specs.Steps.{turn}
+use Rattle.vms_core.specs.Taken.{has_taken}
+use Rattle.vms_core.specs.Totals.{spent}
+
+-- the CPU of a pass is one of the layout and online
+abbrev pub OwnsOnline : Facts → History → Type 0
+OwnsOnline facts h = (p : ℕ) (c : CpuId) → owner_in turn h p ≡ Some c →
+    IsCpu facts.layout c.number × (cpu_at (state_after facts h) c.number ≡ Online)
+
+-- the group holds this list, or it was taken and holds eight zeros
+abbrev pub StandsOrTaken : State → ℕ → ℕ → List ℤ → Type 0
+StandsOrTaken s c j values = TellsGroup s c j values ⊎ TellsGroup s c j eight_zeros
+
+-- the list that the live owner of a CPU found last of a group stands, or all eight are 0
+abbrev pub KnowsFound : Facts → History → Type 0
+KnowsFound facts h = (p : ℕ) (c : CpuId) (j : ℕ) (values : List ℤ) → OwnsNow h p c → IsGroup facts.layout j →
+    length values ≡ 8 → found c j (own h p) ≡ Some values → StandsOrTaken (state_after facts h) c.number j values
+
+-- the history went on from an earlier one with steps of others: pass p lives in both and made none since
+pub record GoesOnWithout (facts : Facts) (later earlier : History) (p : ℕ) : Type 0 where
+  pub legal : IsLegal facts later
+  pub extends : Extends later earlier
+  pub lived : lives_in turn earlier p ≡ true
+  pub lives : lives_in turn later p ≡ true
+  pub own_same : own later p ≡ own earlier p
+
+-- what a pass that owns this CPU knows from an earlier history: it owns the CPU still, and the CPU spent no more
+pub record OwnerKnows (later earlier : History) (p : ℕ) (c : CpuId) : Type 0 where
+  pub owner : owner_in turn later p ≡ Some c
+  pub volumes : (k : ℕ) → spent later c.number k ≡ spent earlier c.number k
+
+-- what the control pass knows from an earlier history: thresholds, marks, the CPUs' states and the peaks are as they
+-- were
+pub record ControlKnows (facts : Facts) (later earlier : History) : Type 0 where
+  pub thresholds : (state_after facts later).threshold ≡ (state_after facts earlier).threshold
+  pub threshold_sets : (state_after facts later).threshold_sets ≡ (state_after facts earlier).threshold_sets
+  pub marks : (state_after facts later).mark ≡ (state_after facts earlier).mark
+  pub mark_sets : (state_after facts later).mark_sets ≡ (state_after facts earlier).mark_sets
+  pub cpus : (state_after facts later).cpu ≡ (state_after facts earlier).cpu
+  pub sets : (c g : ℕ) → sets c g later ≡ sets c g earlier
+  pub newest : (c g : ℕ) → threshold_in facts c g later ≡ threshold_in facts c g earlier
+  pub states : (c : ℕ) → cpu_in facts c later ≡ cpu_in facts c earlier
+  pub peaks : (c g : ℕ) → peak facts c g later ≡ peak facts c g earlier
+  pub peak_sums : (g : ℕ) → peak_sum facts g later ≡ peak_sum facts g earlier
+  -- and after a further event they come to the same
+  pub next_peak_sums : (e : Event Step) (g : ℕ) → peak_sum facts g (e ∷ later) ≡ peak_sum facts g (e ∷ earlier)
+
+-- the live owner of a CPU found this list of eight, loaded this threshold, carries nothing and may spend this much
+pub record MayExchange (facts : Facts) (h : History) (p : ℕ) (cpu : CpuId) (k : CounterId) (w : Diffs) (t : ℕ)
+    (delta : ℤ) : Type 0 where
+  pub legal : IsLegal facts h
+  pub owner : OwnsNow h p cpu
+  pub counter : IsCounter facts.layout k.number
+  pub eight : length w.values ≡ 8
+  pub as_found : found cpu (group_of k.number) (own h p) ≡ Some w.values
+  pub number : ℕ
+  pub as_loaded : loaded (place_of facts.layout k.number) (own h p) ≡ Some (record { t = t; number = number })
+  pub nothing_carried : CarriesNothing facts.layout (own h p)
+  pub affordable : spent h cpu.number k.number + unsigned_abs delta ≤ most_volume
+
+-- a caller took every group of a CPU
+abbrev pub HasTakenAll : Facts → ℕ → History → Type 0
+HasTakenAll facts c mine = (j : ℕ) → IsGroup facts.layout j → has_taken c j mine ≡ true
