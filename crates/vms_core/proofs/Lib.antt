@@ -13,3 +13,4 @@ pub mod WithChange
 pub mod Following
 pub mod LevelStates
 pub mod Answering
+pub mod FoldSums

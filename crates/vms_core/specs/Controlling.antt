@@ -39,8 +39,8 @@ threshold_steps g t cs = map (λ c. SetT c (record { number = g }) t) cs
 abbrev pub mark_steps : ℕ → ℕ → ℕ → List Step
 mark_steps g found mark = if nat_eq mark found then [] else SetM (record { number = g }) mark ∷ []
 
--- the mark that covers zone g once threshold t stands on these CPUs: Linux's mark of the usual threshold, raised to what
--- all CPUs may hide then, the dead ones too
+-- the mark that covers zone g once threshold t stands on these CPUs: Linux's mark of the usual threshold, raised to
+-- what all CPUs may hide then, the dead ones too
 abbrev pub mark_for : Facts → ℕ → List CpuId → History → ℕ → ℕ → ℕ → ℕ
 mark_for facts p online h g usual t = cover_mark_of (size_at facts.sizes g)
     (linux_mark_of (size_at facts.sizes g) (length online) usual)
@@ -99,8 +99,8 @@ abbrev pub largest_on : Shape → List ℕ → ℕ → ℕ
 largest_on shape ts node =
     largest_below (λ g. if nat_eq (node_of_zone shape g) node then slice_index_or ts g 0 else 0) (length shape.zones)
 
--- a call that looks which CPUs are online and then visits the zones of a node, under a rule: `set_pressure` with the rule
--- of pressure, `set_normal` with the normal rule
+-- a call that looks which CPUs are online and then visits the zones of a node, under a rule: `set_pressure` with the
+-- rule of pressure, `set_normal` with the normal rule
 pub record RatesNode (facts : Facts) (rule normal : ZoneSize → ℕ → ℕ → Type 0) (n : PlaceId) (p : ℕ) (h : History)
     (steps : List Step) : Type 0 where
   pub states : List CpuState

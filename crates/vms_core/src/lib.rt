@@ -13,7 +13,7 @@ mod tables;
 mod tests;
 mod worlds;
 
-pub use answers::{answers_are_told, changes_miss_once};
+pub use answers::{answers_are_told, changes_miss_once, folds_move_all};
 pub use laws::{
     differentials_are_bounded, each_beginning_is_kept, shape_is_kept, systems_are_kept,
     totals_are_kept,
