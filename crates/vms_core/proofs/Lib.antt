@@ -14,3 +14,4 @@ pub mod Following
 pub mod LevelStates
 pub mod Answering
 pub mod FoldSums
+pub mod Ratings

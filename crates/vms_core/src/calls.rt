@@ -6,6 +6,7 @@ ghost use Rattle.vms_base.specs.Places.{Shape, IsLayout};
 ghost use Rattle.vms_history.specs.declared.events.Event.{Event};
 ghost use Rattle.vms_core.specs.declared.steps.Step.{Step};
 ghost use Rattle.vms_core.specs.Calls.{IsChange};
+ghost use Rattle.vms_core.specs.Controlling.{RatingCovers};
 ghost use Rattle.vms_core.specs.Folding.{IsFold, CarriesAsBefore, misses};
 ghost use Rattle.vms_core.specs.Reading.{TellsPlaceValue, TellsSystemValue, TellsSnapshot, TellsTest};
 
@@ -27,4 +28,9 @@ pub fn changes_miss_once()
 pub fn folds_move_all()
     ensures { (shape : Shape) (is_own : Bool) (c : CpuId) (steps : List Step) → IsLayout shape
         → IsFold shape is_own c steps → (p : ℕ) (h : List (Event Step)) → CarriesAsBefore shape p steps h }
+{}
+
+/// The steps that rate a zone leave a mark that covers what all CPUs may hide then, whatever threshold they set.
+pub fn ratings_cover()
+    ensures { RatingCovers }
 {}
