@@ -37,3 +37,5 @@ pub mod Exchanges
 pub mod OfflineGroups
 pub mod ControlSteps
 pub mod OwnSteps
+pub mod FoldSums
+pub mod Ratings

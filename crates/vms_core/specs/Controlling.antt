@@ -4,7 +4,7 @@ use Rattle.vms_base.specs.declared.ids.CpuId.{CpuId}
 use Rattle.vms_base.specs.declared.ids.PlaceId.{PlaceId}
 use Rattle.vms_base.specs.declared.kinds.CpuState.{CpuState}
 use Rattle.vms_base.specs.declared.kinds.ZoneSize.{ZoneSize}
-use Rattle.vms_base.specs.Marks.{linux_mark_of, cover_mark_of}
+use Rattle.vms_base.specs.Marks.{Covers, linux_mark_of, cover_mark_of}
 use Rattle.vms_base.specs.Places.{Shape}
 use Rattle.vms_history.specs.Events.{after}
 use Rattle.vms_core.specs.declared.states.MarkRead.{MarkRead}
@@ -39,22 +39,27 @@ threshold_steps g t cs = map (λ c. SetT c (record { number = g }) t) cs
 abbrev pub mark_steps : ℕ → ℕ → ℕ → List Step
 mark_steps g found mark = if nat_eq mark found then [] else SetM (record { number = g }) mark ∷ []
 
--- the mark that covers zone g once threshold t stands on these CPUs: Linux's mark of the usual threshold, raised to what
--- all CPUs may hide then, the dead ones too
+-- the mark that covers zone g once threshold t stands on these CPUs: Linux's mark of the usual threshold, raised to
+-- what all CPUs may hide then, the dead ones too
 abbrev pub mark_for : Facts → ℕ → List CpuId → History → ℕ → ℕ → ℕ → ℕ
 mark_for facts p online h g usual t = cover_mark_of (size_at facts.sizes g)
     (linux_mark_of (size_at facts.sizes g) (length online) usual)
     (peak_sum facts g (after p (threshold_steps g t online) h))
 
+-- the steps that give zone g threshold t where mark m was found: the mark comes first
+abbrev pub rating_steps : Facts → ℕ → List CpuId → History → ℕ → ℕ → ℕ → ℕ → List Step
+rating_steps facts p online h g m usual t =
+    mark_steps g m (mark_for facts p online h g usual t) ++ threshold_steps g t online
+
 -- a rule tells which threshold a zone of a size may get where so many CPUs are online
 module _ (facts : Facts) (normal : ZoneSize → ℕ → ℕ → Type 0) (p : ℕ) (online : List CpuId) where
-  -- zone g gets threshold t by a rule: the mark comes first
+  -- zone g gets threshold t by a rule
   pub record Rates (rule : ZoneSize → ℕ → ℕ → Type 0) (g t m : ℕ) (h : History) (steps : List Step)
       : Type 0 where
     pub by_rule : rule (size_at facts.sizes g) (length online) t
     pub usual : ℕ
     pub by_normal : normal (size_at facts.sizes g) (length online) usual
-    pub in_order : steps ≡ mark_steps g m (mark_for facts p online h g usual t) ++ threshold_steps g t online
+    pub in_order : steps ≡ rating_steps facts p online h g m usual t
 
   -- the same where the zone's mark is not 0, and no step and threshold 0 where it is
   pub data RatesMarked (rule : ZoneSize → ℕ → ℕ → Type 0) (g : ℕ) : ℕ → ℕ → History → List Step → Type 0 where
@@ -99,8 +104,8 @@ abbrev pub largest_on : Shape → List ℕ → ℕ → ℕ
 largest_on shape ts node =
     largest_below (λ g. if nat_eq (node_of_zone shape g) node then slice_index_or ts g 0 else 0) (length shape.zones)
 
--- a call that looks which CPUs are online and then visits the zones of a node, under a rule: `set_pressure` with the rule
--- of pressure, `set_normal` with the normal rule
+-- a call that looks which CPUs are online and then visits the zones of a node, under a rule: `set_pressure` with the
+-- rule of pressure, `set_normal` with the normal rule
 pub record RatesNode (facts : Facts) (rule normal : ZoneSize → ℕ → ℕ → Type 0) (n : PlaceId) (p : ℕ) (h : History)
     (steps : List Step) : Type 0 where
   pub states : List CpuState
@@ -133,3 +138,18 @@ pub record Buries (facts : Facts) (normal : ZoneSize → ℕ → ℕ → Type 0)
   pub refresh : List Step
   pub refreshes : Refreshes facts normal p (after p (fold ++ (SetO c ∷ [])) h) refresh
   pub in_order : steps ≡ fold ++ (SetO c ∷ refresh)
+
+-- the mark of zone g that steps leave, where it was m before
+abbrev pub mark_left_by : ℕ → Step → ℕ → ℕ
+mark_left_by g (SetM f mark) m = if nat_eq f.number g then mark else m
+mark_left_by g _ m = m
+
+abbrev pub mark_left : ℕ → ℕ → List Step → ℕ
+mark_left g m [] = m
+mark_left g m (step ∷ steps) = mark_left g (mark_left_by g step m) steps
+
+-- rating a zone leaves a mark that covers what all CPUs may hide then
+abbrev pub RatingCovers : Type 0
+RatingCovers = (facts : Facts) (p : ℕ) (online : List CpuId) (h : History) (g m usual t : ℕ)
+    → Covers (size_at facts.sizes g) (mark_left g m (rating_steps facts p online h g m usual t))
+    (peak_sum facts g (after p (rating_steps facts p online h g m usual t) h))

@@ -1,11 +1,15 @@
 -- The steps of a fold of a CPU, and how often a change misses.
-use Rattle.std.specs.Prelude.{◌≡◌, ℕ, suc, zero, ◌/◌, ◌&&◌, nat_eq, nat_lt, Bool, true, false, ℤ, pos, ◌+ℤ◌, List, [], ◌∷◌, ◌++◌, length, if◌then◌else◌, All}
+use Rattle.std.specs.Prelude.{◌≡◌, ℕ, suc, zero, ◌+◌, ◌/◌, ◌&&◌, nat_eq, nat_lt, Bool, true, false, ℤ, pos, ◌+ℤ◌, List, [], ◌∷◌, ◌++◌, length, if◌then◌else◌, All, slice_index_or}
 use Rattle.vms_base.specs.declared.groups.Diffs.{Diffs}
 use Rattle.vms_base.specs.declared.ids.CpuId.{CpuId}
-use Rattle.vms_base.specs.Places.{Shape, place_count, item_count, counter_at, group_of, first_of, item_of}
+use Rattle.vms_base.specs.Places.{Shape, place_count, item_count, counter_at, group_of, first_of, item_of, IsItem}
+use Rattle.vms_history.specs.declared.events.Event.{Event}
+use Rattle.vms_history.specs.Events.{after}
+use Rattle.vms_history.specs.Sums.{sum_below}
 use Rattle.vms_core.specs.declared.states.Threshold.{Threshold}
 use Rattle.vms_core.specs.declared.steps.Step.{Step}
 use Rattle.vms_core.specs.declared.steps.Step.TheVariants.{LoadT, Take, AddG, AddS, SetA, Miss}
+use Rattle.vms_core.specs.Own.{carried, carried_of_item}
 use Rattle.vms_core.specs.Lists.{in_turn}
 
 -- the addition of an amount to the global value of counter k, and to the system-wide value of item i: none of 0
@@ -43,24 +47,25 @@ abbrev pub lists_of : List FoundPlace → List Diffs
 lists_of [] = []
 lists_of (found ∷ rest) = found.groups ++ lists_of rest
 
--- the sum of a list's entries for item i, whose first entry is that of counter k
-abbrev pub entries_of : Shape → ℕ → ℕ → List ℤ → ℤ
-entries_of shape i k [] = pos 0
-entries_of shape i k (d ∷ ds) = (if nat_eq (item_of shape k) i then d else pos 0) +ℤ entries_of shape i (suc k) ds
+-- the entries for item i in the list of group j
+abbrev pub entries_of : Shape → ℕ → ℕ → Diffs → ℤ
+entries_of shape i j w =
+    sum_below (λ n. if nat_eq (item_of shape (first_of j + n)) i then slice_index_or w.values n (pos 0) else pos 0) 8
 
 -- what was taken for item i, of the groups from j on
 abbrev pub taken_of_item : Shape → ℕ → ℕ → List Diffs → ℤ
 taken_of_item shape i j [] = pos 0
-taken_of_item shape i j (w ∷ ws) = entries_of shape i (first_of j) w.values +ℤ taken_of_item shape i (suc j) ws
+taken_of_item shape i j (w ∷ ws) = entries_of shape i j w +ℤ taken_of_item shape i (suc j) ws
 
 -- the additions to the items from i on, n of them
 abbrev pub system_steps : Shape → List Diffs → ℕ → ℕ → List Step
 system_steps shape ws i zero = []
 system_steps shape ws i (suc n) = to_system i (taken_of_item shape i 0 ws) ++ system_steps shape ws (suc i) n
 
--- a place has one group for eight positions
+-- a place has a group for each eight positions, and a group eight entries
 pub record HasGroups (shape : Shape) (found : FoundPlace) : Type 0 where
   pub one_each : length found.groups ≡ shape.positions / 8
+  pub eight_each : All (λ w. length w.values ≡ 8) found.groups
 
 -- a fold of a CPU, by its owner or by another: the places in order, and at the end the items
 pub record IsFold (shape : Shape) (is_own : Bool) (c : CpuId) (steps : List Step) : Type 0 where
@@ -78,3 +83,8 @@ misses_after _ n = n
 abbrev pub misses : List Step → ℕ
 misses [] = 0
 misses (step ∷ rest) = misses_after step (misses rest)
+
+-- a fold moves all that it takes: what its caller carried before it, for each counter and item, it carries after it
+pub record CarriesAsBefore (shape : Shape) (p : ℕ) (steps : List Step) (h : List (Event Step)) : Type 0 where
+  pub counters : (k : ℕ) → carried k (after p steps h) ≡ carried k h
+  pub items : (i : ℕ) → IsItem shape i → carried_of_item shape i (after p steps h) ≡ carried_of_item shape i h

@@ -1,7 +1,7 @@
 //! The page counters as a model: states, the eighteen kinds of atomic step, legal histories, and what holds of each.
 #![tactic(auto)]
 
-mod answers;
+mod calls;
 mod changes;
 mod differentials;
 mod laws;
@@ -13,7 +13,7 @@ mod tables;
 mod tests;
 mod worlds;
 
-pub use answers::{answers_are_told, changes_miss_once};
+pub use calls::{answers_are_told, changes_miss_once, folds_move_all, ratings_cover};
 pub use laws::{
     acknowledged_bounds_use, control_steps_stay_allowed, dead_cpus_move_once,
     differentials_are_bounded, differentials_are_within_peaks, drift_is_bounded,

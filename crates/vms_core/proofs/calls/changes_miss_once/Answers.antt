@@ -8,7 +8,7 @@ use Rattle.vms_core.specs.Calls.{Exchanges, Carries}
 use Rattle.vms_core.specs.Calls.Exchanges.{won, missed}
 use Rattle.vms_core.specs.Calls.Carries.{nothing, amount}
 use Rattle.vms_core.specs.Folding.{misses}
-use Rattle.vms_core.proofs.answers.changes_miss_once.Goals as goal
+use Rattle.vms_core.proofs.calls.changes_miss_once.Goals as goal
 
 carrying : (shape : Shape) (k : CounterId) (z : ℤ) (additions : List Step) → Carries shape k z additions → misses additions ≡ 0
 carrying shape k z additions nothing = omega arith

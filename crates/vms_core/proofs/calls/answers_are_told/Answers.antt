@@ -1,5 +1,5 @@
 use Rattle.vms_core.proofs.Answering.{place_value-told, system_value-told, snapshot-told, test-told}
-use Rattle.vms_core.proofs.answers.answers_are_told.Goals as goal
+use Rattle.vms_core.proofs.calls.answers_are_told.Goals as goal
 
 pub returns : goal.returns
 returns c = record {
