@@ -18,6 +18,8 @@ mod owners;
 mod passes;
 mod peaks;
 mod states;
+#[cfg(test)]
+mod tests;
 mod totals;
 mod worker;
 
