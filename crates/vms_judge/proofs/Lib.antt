@@ -1,0 +1,5 @@
+pub mod Prefixes
+pub mod Numbers
+pub mod StateLaws
+pub mod Beyond
+pub mod Given
