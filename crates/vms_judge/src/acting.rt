@@ -1,4 +1,4 @@
-ghost use Rattle.std.specs.Prelude.{◌≡◌, ◌≢◌, ◌≤◌, ◌<◌, ◌↔◌, ℕ, true, false, IsTrue, reverse};
+ghost use Rattle.std.specs.Prelude.{◌≡◌, ◌≢◌, ◌<◌, ◌↔◌, ℕ, true, false, IsTrue, reverse};
 ghost use Rattle.vms_history.specs.Legal.{Acts};
 ghost use Rattle.vms_history.specs.Passes.{IsFree, lives_in, owner_in};
 ghost use Rattle.vms_core.specs.Bases.{IsBase};

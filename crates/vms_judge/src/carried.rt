@@ -1,4 +1,4 @@
-ghost use Rattle.std.specs.Prelude.{◌≡◌, ◌≤◌, ◌+◌, ◌*◌, ◌^◌, ◌↔◌, IsTrue, reverse, length, unsigned_abs};
+ghost use Rattle.std.specs.Prelude.{◌≡◌, ◌≤◌, ◌+◌, ◌*◌, ◌^◌, reverse, unsigned_abs};
 ghost use Rattle.vms_base.specs.Places as places;
 ghost use Rattle.vms_history.specs.Events.{own};
 ghost use Rattle.vms_core.specs.Own as known;

@@ -1,4 +1,4 @@
-ghost use Rattle.std.specs.Prelude.{◌≡◌, ◌≤◌, ◌<◌, ◌↔◌, ℕ, pos, IsTrue, reverse};
+ghost use Rattle.std.specs.Prelude.{◌≡◌, ◌↔◌, ℕ, pos, IsTrue, reverse};
 ghost use Rattle.vms_base.specs.Places.{IsCounter, IsItem};
 ghost use Rattle.vms_history.specs.Events.{own};
 ghost use Rattle.vms_core.specs.Bases.{IsBase};

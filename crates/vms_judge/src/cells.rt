@@ -1,6 +1,6 @@
-ghost use Rattle.std.specs.Prelude.{◌≡◌, ◌<◌, ◌^◌};
+ghost use Rattle.std.specs.Prelude.{◌≡◌, ◌<◌};
 ghost use Rattle.vms_base.specs.Places as places;
-ghost use Rattle.vms_base.specs.Places.{IsCpu, IsPlace, IsZone, IsCounter, IsItem};
+ghost use Rattle.vms_base.specs.Places.{IsCpu, IsPlace, IsZone, IsCounter};
 ghost use Rattle.vms_core.specs.Cells as cells;
 ghost use Rattle.vms_core.specs.Cells.{HasShape};
 

@@ -1,4 +1,4 @@
-ghost use Rattle.std.specs.Prelude.{◌≡◌, ◌<◌, ◌≤◌, ◌↔◌, ◌∷◌, ℕ, pos, Option, IsTrue, reverse};
+ghost use Rattle.std.specs.Prelude.{◌≡◌, ◌<◌, ◌↔◌, ◌∷◌, ℕ, pos, Option, IsTrue, reverse};
 ghost use Rattle.vms_base.specs.Places.{IsCpu, IsCounter};
 ghost use Rattle.vms_core.specs.Bases.{IsBase};
 ghost use Rattle.vms_core.specs.Cells.{diff_at};

@@ -1,5 +1,5 @@
-ghost use Rattle.std.specs.Prelude.{◌≡◌, ◌<◌, ◌↔◌, ℕ, IsTrue, reverse};
-ghost use Rattle.vms_base.specs.Places.{IsCpu, IsGroup, IsZone, IsCounter, IsItem};
+ghost use Rattle.std.specs.Prelude.{◌≡◌, ◌<◌, ◌↔◌, IsTrue, reverse};
+ghost use Rattle.vms_base.specs.Places.{IsCpu, IsGroup, IsCounter, IsItem};
 ghost use Rattle.vms_core.specs.Bases.{IsBase};
 ghost use Rattle.vms_core.specs.Cells.{TellsGroup, value_at, system_at, cpu_at};
 ghost use Rattle.vms_core.specs.Conditions as conditions;

@@ -1,4 +1,4 @@
-ghost use Rattle.std.specs.Prelude.{◌≡◌, ◌≤◌, ◌<◌, ◌+◌, ◌*◌, ◌^◌, reverse, length};
+ghost use Rattle.std.specs.Prelude.{◌≡◌, ◌≤◌, ◌<◌, ◌+◌, ◌^◌, reverse};
 ghost use Rattle.vms_base.specs.Places.{IsCpu, IsPlace, IsZone};
 ghost use Rattle.vms_core.specs.Cells.{HasShape};
 ghost use Rattle.vms_core.specs.Peaks as peaks;

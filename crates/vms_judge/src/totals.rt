@@ -1,4 +1,4 @@
-ghost use Rattle.std.specs.Prelude.{◌≡◌, ◌≤◌, ◌+◌, ◌*◌, ◌^◌, reverse, length};
+ghost use Rattle.std.specs.Prelude.{◌≡◌, ◌≤◌, ◌+◌, ◌^◌, reverse};
 ghost use Rattle.vms_history.specs.Passes.{owner_in};
 ghost use Rattle.vms_core.specs.Steps.{turn};
 ghost use Rattle.vms_core.specs.Totals as totals;

@@ -1,4 +1,4 @@
-ghost use Rattle.std.specs.Prelude.{◌≡◌, ◌≢◌, ◌<◌, ◌≤◌, ◌+◌, ◌↔◌, ℕ, true, IsTrue, Some, reverse, unsigned_abs};
+ghost use Rattle.std.specs.Prelude.{◌≡◌, ◌<◌, ◌≤◌, ◌+◌, ◌↔◌, ℕ, true, IsTrue, Some, reverse, unsigned_abs};
 ghost use Rattle.vms_base.specs.Places.{IsGroup, place_of, first_of};
 ghost use Rattle.vms_history.specs.Events.{own};
 ghost use Rattle.vms_core.specs.Bases.{IsBase};
