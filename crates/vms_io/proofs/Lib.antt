@@ -1,3 +1,4 @@
 pub mod Rooms
 pub mod Written
 pub mod Pieces
+pub mod Searches

@@ -12,17 +12,19 @@ const LEAST_ROOM: usize = 65536;
 pub struct ReadBuffer {
     room: Vec<u8>,
     held: usize,
+    /// So many of the first bytes were searched, and no newline is among them.
+    searched: usize,
 }
 
 impl Model for ReadBuffer {
     ghost use Rattle.std.specs.Prelude.{ℕ, List, take, vec_len};
-    ghost use Rattle.vms_io.specs.Reading.{Roomy};
+    ghost use Rattle.vms_io.specs.Reading.{Roomy, Searched};
 
     ghost Value = { List ℕ };
 
     ghost view = { λ b. take b.held b.room.items };
 
-    ghost invariant = { λ b. Roomy b.held (vec_len b.room) };
+    ghost invariant = { λ b. Roomy b.held (vec_len b.room) × Searched b.room.items b.held b.searched };
 }
 
 ghost use Rattle.std.specs.Prelude.{◌≡◌, ℕ, ◌+◌, ◌<◌, ◌≤◌, max, List, [], length, take, drop, vec_len, IfOk, OnOk, OnErr, IsErrOf};
@@ -36,7 +38,11 @@ impl ReadBuffer {
         ensures { IfOk result (λ buffer. buffer ≡ []) }
     {
         let room = vec![in alloc; 0; LEAST_ROOM]?;
-        Ok(ReadBuffer { room, held: 0 })
+        Ok(ReadBuffer {
+            room,
+            held: 0,
+            searched: 0,
+        })
     }
 
     pub fn bytes(&self) -> &[u8]
@@ -45,14 +51,18 @@ impl ReadBuffer {
         &self.room[..self.held]
     }
 
-    /// How many of the bytes are whole lines: those up to the last newline, with it.
-    pub fn whole_lines(&self) -> usize
-        ensures { WholeLines self.now result }
+    /// How many of the bytes are whole lines: those up to the last newline, with it. Bytes without a newline are
+    /// searched once.
+    pub fn whole_lines(&mut self) -> usize
+        ensures lines { WholeLines self.old result }
+        ensures same { self.new ≡ self.old }
     {
-        match memrchr(b'\n', self.bytes()) {
-            Some(newline) => newline + 1,
-            None => 0,
+        let found = last_line_end(&self.room[self.searched..self.held]);
+        if found > 0 {
+            return self.searched + found;
         }
+        self.searched = self.held;
+        0
     }
 
     /// Forgets the first `count` bytes, and moves the others to the front of the room.
@@ -62,6 +72,7 @@ impl ReadBuffer {
     {
         self.room.copy_within(count..self.held, 0);
         self.held -= count;
+        self.searched = self.searched.saturating_sub(count);
     }
 
     /// Reads once, behind the bytes that are held, and says how many bytes more they are: 0 at the end of the
@@ -79,6 +90,16 @@ impl ReadBuffer {
         let taken = read_behind(src, self.room.as_mut_slice(), self.held)?;
         self.held += taken;
         Ok(taken)
+    }
+}
+
+/// How many bytes are whole lines.
+fn last_line_end(bytes: &[u8]) -> usize
+    ensures { WholeLines bytes.now result }
+{
+    match memrchr(b'\n', bytes) {
+        Some(newline) => newline + 1,
+        None => 0,
     }
 }
 

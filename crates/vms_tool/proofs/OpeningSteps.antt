@@ -1,5 +1,5 @@
 -- What a read and a look at the header come to.
-use Rattle.std.proofs.Common.{◌≡◌, ℕ, ◌<◌, ◌≤◌, ◌⊎◌, inl, inr, Bool, true, false, List, [], length, length-append, take, drop, take-append-drop, drop_of_length-le, take_all, le_of_eq, Contains, Option, Some, None, Ok, Err, nat_eq, refl, sym, ap, subst, ◌∙◌, append-nil, arith, eqb-true, true≢false}
+use Rattle.std.proofs.Common.{Result, ◌≡◌, ℕ, ◌<◌, ◌≤◌, ◌⊎◌, inl, inr, Bool, true, false, List, [], length, length-append, take, drop, take-append-drop, drop_of_length-le, take_all, le_of_eq, Contains, Option, Some, None, Ok, Err, nat_eq, refl, sym, ap, subst, ◌∙◌, append-nil, arith, eqb-true, true≢false}
 use Rattle.std.proofs.lemmas.Bool.Decides.{nat_tests}
 use Rattle.std.specs.Io.KnownBytes.{Consumes, Keeps}
 use Rattle.vms_io.specs.Reading.{Gets}
@@ -21,6 +21,12 @@ use Rattle.vms_trace.specs.Text.{lines_of}
 pub begins_nothing : (taken : List ℕ) → BeginsOutput taken []
 begins_nothing taken = let cut = cut_of taken in
     record { whole = cut.0; partial = cut.1; cuts = cut.2; more = []; unwritten = _; begins = refl }
+
+-- a read of the same bytes
+pub Turns-held : (held read held' : List ℕ) (left left' : Option (List ℕ)) (result : Result Turn Stop) → held' ≡ read
+    → Turns held read left left' result → Turns held held' left left' result
+Turns-held held read held' left left' result same turns =
+    subst (λ (bytes : List ℕ). Turns held bytes left left' result) (sym same) turns
 
 -- a read that failed
 pub Turns-failed : (held held' : List ℕ) (left left' : Option (List ℕ)) (stop : Stop) → held' ≡ held → Keeps left left' → IsReadStop stop

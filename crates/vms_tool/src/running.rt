@@ -39,11 +39,12 @@ pub(crate) fn flush<K: Sink>(out: &mut K, waiting: &mut Vec<u8>) -> Result<(), S
 }
 
 /// How many of the bytes that are held can be fed: all at the end of the input, and else those of whole lines.
-pub(crate) fn ready(input: &ReadBuffer, at_end: bool) -> usize
-    ensures within { result ≤ length input.now }
-    ensures end { at_end ≡ true → result ≡ length input.now }
-    ensures lines { at_end ≡ false → EndsLine (take result input.now) }
-    ensures behind { at_end ≡ false → ¬ Contains (drop result input.now) 10 }
+pub(crate) fn ready(input: &mut ReadBuffer, at_end: bool) -> usize
+    ensures within { result ≤ length input.old }
+    ensures end { at_end ≡ true → result ≡ length input.old }
+    ensures lines { at_end ≡ false → EndsLine (take result input.old) }
+    ensures behind { at_end ≡ false → ¬ Contains (drop result input.old) 10 }
+    ensures same { input.new ≡ input.old }
 {
     if at_end {
         input.bytes().len()
