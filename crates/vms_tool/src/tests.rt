@@ -5,7 +5,7 @@ ghost use Rattle.vms_tool.specs.Worlds.{IsNormalRule};
 use crate::judging::Replay;
 use std::alloc::Global;
 use std::test::Fail;
-use vms_base::ZoneSize;
+use vms_base::{Row, ZoneSize};
 use vms_calc::{Rule, Rules, normal_threshold, pressure_threshold};
 use vms_trace::{HeaderError, parse_header};
 
@@ -13,8 +13,16 @@ use vms_trace::{HeaderError, parse_header};
 const HEADER: &[u8] =
     b"vmtrace 1\ncpus 1\nzone 0 Normal 262144 100 125 150\nbase 0 Normal nr_free_pages 10000\ngo\n";
 
-/// The free pages and their differential after some lines, and the zone's threshold and mark.
-fn after_lines(alloc: Global, text: &[u8]) -> Result<(i64, i64, u32, u64), HeaderError>
+/// The free pages and their differential, and the zone's threshold and mark.
+type Found = (Option<i64>, Option<i64>, Option<u32>, Option<u64>);
+
+/// The first number of a list.
+fn first<T: Copy>(numbers: &Row<T>) -> Option<T> {
+    numbers.as_slice().first().copied()
+}
+
+/// What stands after some lines.
+fn after_lines(alloc: Global, text: &[u8]) -> Result<Found, HeaderError>
     requires { length text.now ≤ 1000 }
 {
     by_rules(
@@ -30,7 +38,7 @@ fn by_rules<N: Rule, P: Rule>(
     normal: N,
     pressure: P,
     text: &[u8],
-) -> Result<(i64, i64, u32, u64), HeaderError>
+) -> Result<Found, HeaderError>
     requires normal { TellsThresholds (N.accepts normal) (N.answers normal) }
     requires pressure { TellsThresholds (P.accepts pressure) (P.answers pressure) }
     requires exact { IsNormalRule (N.answers normal) }
@@ -42,10 +50,10 @@ fn by_rules<N: Rule, P: Rule>(
     replay.pass_lines(text, &mut Vec::new(alloc))?;
     let state = replay.plain.state();
     Ok((
-        state.place.get(0),
-        state.diff.get(0),
-        state.threshold.get(0),
-        state.mark.get(0),
+        first(&state.place),
+        first(&state.diff),
+        first(&state.threshold),
+        first(&state.mark),
     ))
 }
 
@@ -54,20 +62,20 @@ fn a_change_past_the_threshold_is_carried(rt: HostRuntime) {
     let alloc = rt.alloc();
     assert_eq!(rt;
         after_lines(alloc, b"c0 mod 0 Normal nr_free_pages -32\n"),
-        Ok((9968, 0, 10, 0))
+        Ok((Some(9968), Some(0), Some(10), Some(0)))
     );
     assert_eq!(rt;
         after_lines(
             alloc,
             b"c0 mod 0 Normal nr_free_pages 5\nc0 mod 0 Normal nr_free_pages 5\n"
         ),
-        Ok((10000, 10, 10, 0))
+        Ok((Some(10000), Some(10), Some(10), Some(0)))
     );
     assert_eq!(rt;
         after_lines(
             alloc,
             b"c0 mod 0 Normal nr_free_pages 10\nreport totals\nc0 mod 0 Normal nr_free_pages 1\n"
         ),
-        Ok((10011, 0, 10, 0))
+        Ok((Some(10011), Some(0), Some(10), Some(0)))
     );
 }
