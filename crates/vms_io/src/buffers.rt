@@ -65,11 +65,14 @@ impl ReadBuffer {
         0
     }
 
-    /// Forgets the first `count` bytes, and moves the others to the front of the room.
+    /// Forgets the first `count` bytes, and moves the others to the front of the room. Forgetting none moves none.
     pub fn drop_front(&mut self, count: usize)
         requires { count ≤ length self.old }
         ensures { self.new ≡ drop count self.old }
     {
+        if count == 0 {
+            return;
+        }
         self.room.copy_within(count..self.held, 0);
         self.held -= count;
         self.searched = self.searched.saturating_sub(count);
