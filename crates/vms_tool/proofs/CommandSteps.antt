@@ -16,8 +16,8 @@ use Rattle.vms_tool.specs.Courses.{Finishes, taken_by}
 use Rattle.vms_tool.specs.Openings.{IsRefused}
 use Rattle.vms_tool.specs.Output.{header_line, output, output_under, usage_line}
 use Rattle.vms_tool.specs.Running.{Stops}
-use Rattle.vms_trace.specs.Head.{Fault, read_header}
-use Rattle.vms_trace.specs.Text.{lines_of}
+use Rattle.vms_first.specs.Head.{Fault, read_header}
+use Rattle.vms_first.specs.Text.{lines_of}
 
 -- want of memory, with nothing written
 pub answers_no_memory : (left left' held : Option (List ℕ)) (taken : List ℕ) (stop : Stop) → Consumes left left' taken → stop ≡ Memory

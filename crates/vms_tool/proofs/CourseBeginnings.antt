@@ -13,7 +13,7 @@ use Rattle.vms_tool.specs.Openings.{IsAccepted}
 use Rattle.vms_tool.specs.Progress.{Progress, progress_at, past_lines, printed_past}
 use Rattle.vms_tool.specs.Standing.{Stands}
 use Rattle.vms_tool.specs.Worlds.{IsStart}
-use Rattle.vms_trace.specs.Text.{lines_of}
+use Rattle.vms_first.specs.Text.{lines_of}
 
 -- the bytes behind the header
 behind_header : (text rest : List ℕ) (bytes : ℕ) → bytes ≤ length text → take (length text - bytes) (drop bytes (text ++ rest)) ≡ drop bytes text

@@ -13,7 +13,7 @@ use Rattle.vms_tool.specs.Answers.{most_bytes, BeginsOutput}
 use Rattle.vms_tool.specs.Courses.{IsCourse, HasRead, Writes, Reads, Comes, taken_by}
 use Rattle.std.proofs.lemmas.Bool.Decides.{nat_tests}
 use Rattle.vms_tool.specs.Progress.{printed_past}
-use Rattle.vms_trace.specs.Text.{lines_of}
+use Rattle.vms_first.specs.Text.{lines_of}
 use Rattle.vms_tool.specs.Running.{EndsLine, Feeds, IsReadStop, Runs, Stops, progress_in}
 
 -- whole lines were fed, or nothing is held

@@ -6,9 +6,9 @@ use Rattle.vms_base.specs.Places.{counter_count}
 use Rattle.vms_core.specs.declared.states.State.{State}
 use Rattle.vms_tool.specs.declared.items.Item.{Item}
 use Rattle.vms_tool.specs.Ready.{IsFirstHeader, IsReady}
-use Rattle.vms_trace.proofs.Ranges.{read_header-first}
-use Rattle.vms_trace.specs.Head.{ReadsHeader}
-use Rattle.vms_trace.specs.Text.{lines_of}
+use Rattle.vms_first.proofs.Ranges.{read_header-first}
+use Rattle.vms_first.specs.Head.{ReadsHeader}
+use Rattle.vms_first.specs.Text.{lines_of}
 
 pub IsFirstHeader-read : (text : List ℕ) (header : Header) (lines bytes : ℕ)
     → ReadsHeader text (Ok (header, lines, bytes)) → IsFirstHeader header

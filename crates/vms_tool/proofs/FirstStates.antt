@@ -20,7 +20,7 @@ use Rattle.vms_core.specs.Peaks.{peak_sum}
 use Rattle.vms_history.specs.Sums.{sum_below}
 use Rattle.vms_tool.specs.Ready.{IsFirstHeader, IsReady, IsFirstItem, facts_of}
 use Rattle.vms_tool.specs.Worlds.{IsStart, opening_mark, base_of, zone_threshold, node_threshold}
-use Rattle.vms_trace.specs.Head.{header_of}
+use Rattle.vms_first.specs.Head.{header_of}
 
 -- the only number below 1
 pub at_zero : (P : ℕ → Type 0) → P 0 → (k : ℕ) → k < 1 → P k

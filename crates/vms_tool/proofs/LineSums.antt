@@ -6,10 +6,10 @@ use Rattle.std.proofs.lemmas.List.Elements.{All-cons, All-tail}
 use Rattle.vms_tool.specs.declared.items.Item.{Item}
 use Rattle.vms_tool.specs.Judging.{change_by, change_by_all, spent_by_lane, volume}
 use Rattle.vms_tool.specs.Ready.{onto, IsFirstItem}
-use Rattle.vms_trace.specs.declared.lines.Act.{Act}
-use Rattle.vms_trace.specs.declared.lines.Act.TheVariants.{Mod}
-use Rattle.vms_trace.specs.declared.lines.Lane.{Lane}
-use Rattle.vms_trace.specs.declared.lines.Lane.TheVariants.{Cpu}
+use Rattle.vms_first.specs.declared.lines.Act.{Act}
+use Rattle.vms_first.specs.declared.lines.Act.TheVariants.{Mod}
+use Rattle.vms_first.specs.declared.lines.Lane.{Lane}
+use Rattle.vms_first.specs.declared.lines.Lane.TheVariants.{Cpu}
 
 -- a line of CPU 0 that changes a counter
 abbrev pub first_item : ℕ → ℕ → ℤ → Item

@@ -6,14 +6,14 @@ use Rattle.vms_tool.specs.declared.judging.Replay.{Replay}
 use Rattle.vms_tool.specs.Progress.{Progress, judged_at, past_line, past_lines, printed_by, printed_past}
 use Rattle.vms_tool.specs.Ready.{IsFirstLine}
 use Rattle.vms_tool.specs.Standing.{Stands, Passing}
-use Rattle.vms_trace.proofs.TextLaws.{lines_of-begin}
-use Rattle.vms_trace.specs.Body.{read_line}
-use Rattle.vms_trace.specs.Text.{lines_of, SplitsLine}
-use Rattle.vms_trace.proofs.Ranges.{read_line-first}
-use Rattle.vms_trace.specs.declared.lines.Act.TheVariants.{Mod}
-use Rattle.vms_trace.specs.declared.lines.Lane.TheVariants.{Cpu}
-use Rattle.vms_trace.specs.declared.lines.Line.{Line}
-use Rattle.vms_trace.specs.declared.lines.Line.TheVariants.{Blank, Lane, Boundary}
+use Rattle.vms_first.proofs.TextLaws.{lines_of-begin}
+use Rattle.vms_first.specs.Body.{read_line}
+use Rattle.vms_first.specs.Text.{lines_of, SplitsLine}
+use Rattle.vms_first.proofs.Ranges.{read_line-first}
+use Rattle.vms_first.specs.declared.lines.Act.TheVariants.{Mod}
+use Rattle.vms_first.specs.declared.lines.Lane.TheVariants.{Cpu}
+use Rattle.vms_first.specs.declared.lines.Line.{Line}
+use Rattle.vms_first.specs.declared.lines.Line.TheVariants.{Blank, Lane, Boundary}
 
 -- a line that is read
 pub said-first : (header : Header) (line : List ℕ) (said : Line) → read_line header line ≡ Ok said → IsFirstLine said

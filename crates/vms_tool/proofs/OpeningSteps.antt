@@ -14,8 +14,8 @@ use Rattle.vms_tool.specs.declared.stops.Stop.TheVariants.{Memory, TooLong}
 use Rattle.vms_tool.specs.Answers.{most_bytes, BeginsOutput, Cuts, NotRefused, RefusesAt}
 use Rattle.vms_tool.specs.Openings.{Decides, is_refusal, IsBeyond, IsTurn, IsWithin, Opens, Turns}
 use Rattle.vms_tool.specs.Running.{EndsLine, IsReadStop, Stops}
-use Rattle.vms_trace.specs.Head.{Fault, read_header}
-use Rattle.vms_trace.specs.Text.{lines_of}
+use Rattle.vms_first.specs.Head.{Fault, read_header}
+use Rattle.vms_first.specs.Text.{lines_of}
 
 -- nothing begins every output
 pub begins_nothing : (taken : List ℕ) → BeginsOutput taken []

@@ -27,7 +27,7 @@ use Rattle.vms_tool.proofs.LineSums.{item_is, change_by_all-append}
 use Rattle.vms_tool.proofs.PhaseNumbers.{HasNumbers-next, HasNumbers-total, next_values, next_diffs, raised}
 use Rattle.vms_tool.proofs.PhaseHistories.{MakesLines-none, MayChange-item, MakesLines-item, closed_phase, IsPhase-closed, state_after-closed}
 use Rattle.vms_tool.proofs.ReadyStates.{with_change-is, HasNumbers-ready, HasShape-numbers, value_bounded, IsReady-next}
-use Rattle.vms_trace.specs.Head.{header_of}
+use Rattle.vms_first.specs.Head.{header_of}
 
 -- what a change of a counter by a CPU asks of the state
 pub record Changeable (header : Header) (s : State) (c k : ℕ) (delta : ℤ) : Type 0 where

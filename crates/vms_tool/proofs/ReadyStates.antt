@@ -24,7 +24,7 @@ use Rattle.vms_tool.specs.Ready.{IsReady, CanReplay, IsFirstItem, facts_of, onto
 use Rattle.vms_tool.specs.Worlds.{base_of}
 use Rattle.vms_tool.proofs.FirstStates.{InRange, at_zero, item_is_counter, base_of-small}
 use Rattle.vms_tool.proofs.LineSums.{volume-onto, change_by_all-onto, change_within_volume, All-onto}
-use Rattle.vms_trace.specs.Head.{header_of}
+use Rattle.vms_first.specs.Head.{header_of}
 
 -- plain data may begin with such a state
 pub IsPlainBase-ready : (header : Header) (before : List Item) (s : State) → IsReady header before s → IsPlainBase s

@@ -17,11 +17,11 @@ use Rattle.vms_tool.specs.Output.{output, output_under, done_line}
 use Rattle.vms_tool.specs.Progress.{Progress, progress_at, past_lines, past_phase, printed_past}
 use Rattle.vms_tool.specs.Running.{EndsLine, Runs, progress_in, printed_in}
 use Rattle.vms_tool.specs.Standing.{Stands}
-use Rattle.vms_trace.proofs.Settled.{read_header-settled}
-use Rattle.vms_trace.proofs.TextLaws.{lines_of-append, lines_of-ended, slice_split-append}
-use Rattle.vms_trace.specs.Head.{Fault, read_header}
-use Rattle.vms_trace.specs.Laws.{IsSettled}
-use Rattle.vms_trace.specs.Text.{lines_of, without_last_empty}
+use Rattle.vms_first.proofs.Settled.{read_header-settled}
+use Rattle.vms_first.proofs.TextLaws.{lines_of-append, lines_of-ended, slice_split-append}
+use Rattle.vms_first.specs.Head.{Fault, read_header}
+use Rattle.vms_first.specs.Laws.{IsSettled}
+use Rattle.vms_first.specs.Text.{lines_of, without_last_empty}
 
 -- the lines of whole lines and more
 pub lines_of-whole : (whole more : List ℕ) → EndsLine whole → lines_of (whole ++ more) ≡ lines_of whole ++ lines_of more

@@ -20,21 +20,21 @@ use Rattle.vms_tool.proofs.FirstStates.{get_or-same}
 use Rattle.vms_tool.proofs.LineSums.{volume-onto}
 use Rattle.vms_tool.proofs.PhaseRuns.{Changeable, changeable, Follows, IsOpen-none, IsOpen-follows, phase_of, ready_of}
 use Rattle.vms_tool.specs.Judging.{Above, volume, with_line, within_volume}
-use Rattle.vms_trace.specs.declared.causes.LineCause.{LineCause}
-use Rattle.vms_trace.specs.declared.causes.LineCause.TheVariants.{Overflow}
+use Rattle.vms_first.specs.declared.causes.LineCause.{LineCause}
+use Rattle.vms_first.specs.declared.causes.LineCause.TheVariants.{Overflow}
 use Rattle.vms_tool.specs.Phases.{as_phase}
 use Rattle.vms_tool.specs.Progress.{Progress, progress_at, past_line, past_phase}
 use Rattle.vms_tool.specs.Ready.{onto, first_layout, IsFirstHeader, IsReady, MayFollow, CanReplay, IsFirstItem}
 use Rattle.vms_tool.specs.Worlds.{settled}
 use Rattle.vms_tool.specs.Standing.{Stands, Leaves}
-use Rattle.vms_trace.specs.declared.lines.Act.{Act}
-use Rattle.vms_trace.specs.declared.lines.Act.TheVariants.{Mod}
-use Rattle.vms_trace.specs.declared.lines.Lane.{Lane as LaneOf}
-use Rattle.vms_trace.specs.declared.lines.Lane.TheVariants.{Cpu}
-use Rattle.vms_trace.specs.declared.lines.Boundary.{Boundary as BoundaryOf}
-use Rattle.vms_trace.specs.declared.lines.Boundary.TheVariants.{Report}
-use Rattle.vms_trace.specs.declared.lines.Line.TheVariants.{Blank, Lane, Boundary}
-use Rattle.vms_trace.specs.declared.lines.ReportKind.TheVariants.{Totals}
+use Rattle.vms_first.specs.declared.lines.Act.{Act}
+use Rattle.vms_first.specs.declared.lines.Act.TheVariants.{Mod}
+use Rattle.vms_first.specs.declared.lines.Lane.{Lane as LaneOf}
+use Rattle.vms_first.specs.declared.lines.Lane.TheVariants.{Cpu}
+use Rattle.vms_first.specs.declared.lines.Boundary.{Boundary as BoundaryOf}
+use Rattle.vms_first.specs.declared.lines.Boundary.TheVariants.{Report}
+use Rattle.vms_first.specs.declared.lines.Line.TheVariants.{Blank, Lane, Boundary}
+use Rattle.vms_first.specs.declared.lines.ReportKind.TheVariants.{Totals}
 
 -- a line at the end of the open phase is the newest of all
 pub onto-append : (items : List Item) (item : Item) (before : List Item) → onto (items ++ item ∷ []) before ≡ item ∷ onto items before

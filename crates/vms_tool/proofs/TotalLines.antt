@@ -10,7 +10,7 @@ use Rattle.vms_base.specs.Places.{place_of, position_of, IsCounter}
 use Rattle.vms_tool.specs.declared.items.Item.{Item}
 use Rattle.vms_tool.specs.Output.{blank, newline, place_words, plain_total, total_line, total_lines, totals_report, event_line}
 use Rattle.vms_tool.specs.Ready.{first_layout, IsFirstHeader}
-use Rattle.vms_trace.specs.Head.{header_of}
+use Rattle.vms_first.specs.Head.{header_of}
 
 -- the line of a counter, from the words of its place, its name and its total
 pub total_line-first : (header : Header) (items : List Item) (k : ℕ) (place name : List ℕ) (v : ℤ) → IsFirstHeader header

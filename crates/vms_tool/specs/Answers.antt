@@ -8,8 +8,8 @@ use Rattle.vms_tool.specs.declared.statuses.Status.TheVariants.{Done, Words, Hea
 use Rattle.vms_tool.specs.FileOrder.{HasFileOrder}
 use Rattle.vms_tool.specs.Judging.{nothing_above, come_to}
 use Rattle.vms_tool.specs.Output.{output, header_line, usage_line}
-use Rattle.vms_trace.specs.Head.{Fault, read_header}
-use Rattle.vms_trace.specs.Text.{lines_of}
+use Rattle.vms_first.specs.Head.{Fault, read_header}
+use Rattle.vms_first.specs.Text.{lines_of}
 
 -- the most bytes of an input
 abbrev pub most_bytes : ℕ

@@ -8,7 +8,7 @@ use Rattle.vms_tool.specs.declared.statuses.Status.{Status}
 use Rattle.vms_tool.specs.declared.statuses.Status.TheVariants.{Words, Header, ReadFault, WriteFault}
 use Rattle.vms_tool.specs.declared.stops.Stop.{Stop}
 use Rattle.vms_tool.specs.declared.stops.Stop.TheVariants as stops
-use Rattle.vms_trace.specs.Head.{Fault}
+use Rattle.vms_first.specs.Head.{Fault}
 
 -- what a status or a stop says of what was taken and written
 abbrev pub SaysOf : Result Status Stop → List ℕ → List ℕ → Type 0 → Type 0

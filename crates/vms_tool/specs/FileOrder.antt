@@ -14,12 +14,12 @@ use Rattle.vms_tool.specs.declared.items.Item.{Item}
 use Rattle.vms_tool.specs.Judging.{nothing_above}
 use Rattle.vms_tool.specs.Phases.{phases_from}
 use Rattle.vms_tool.specs.Worlds.{IsStart, settled}
-use Rattle.vms_trace.specs.declared.lines.Act.{Act}
-use Rattle.vms_trace.specs.declared.lines.Act.TheVariants.{Mod}
-use Rattle.vms_trace.specs.declared.lines.Lane.{Lane}
-use Rattle.vms_trace.specs.declared.lines.Lane.TheVariants.{Cpu}
-use Rattle.vms_trace.specs.Head.{Fault, read_header}
-use Rattle.vms_trace.specs.Text.{lines_of}
+use Rattle.vms_first.specs.declared.lines.Act.{Act}
+use Rattle.vms_first.specs.declared.lines.Act.TheVariants.{Mod}
+use Rattle.vms_first.specs.declared.lines.Lane.{Lane}
+use Rattle.vms_first.specs.declared.lines.Lane.TheVariants.{Cpu}
+use Rattle.vms_first.specs.Head.{Fault, read_header}
+use Rattle.vms_first.specs.Text.{lines_of}
 
 -- whether some line is of CPU c's lane
 abbrev pub is_lane : ℕ → Lane → Bool

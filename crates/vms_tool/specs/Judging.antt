@@ -3,15 +3,15 @@ use Rattle.std.specs.Prelude.{ℕ, suc, ◌+◌, nat_lt, nat_eq, List, [], ◌�
 use Rattle.vms_base.specs.declared.headers.Header.{Header}
 use Rattle.vms_core.specs.Conditions.{most_volume}
 use Rattle.vms_tool.specs.declared.items.Item.{Item}
-use Rattle.vms_trace.specs.Body.{read_line}
-use Rattle.vms_trace.specs.declared.causes.LineCause.{LineCause}
-use Rattle.vms_trace.specs.declared.causes.LineCause.TheVariants.{Overflow}
-use Rattle.vms_trace.specs.declared.lines.Act.{Act}
-use Rattle.vms_trace.specs.declared.lines.Act.TheVariants.{Mod}
-use Rattle.vms_trace.specs.declared.lines.Lane.{Lane as LaneOf}
-use Rattle.vms_trace.specs.declared.lines.Lane.TheVariants.{Cpu}
-use Rattle.vms_trace.specs.declared.lines.Line.{Line}
-use Rattle.vms_trace.specs.declared.lines.Line.TheVariants.{Blank, Lane, Boundary}
+use Rattle.vms_first.specs.Body.{read_line}
+use Rattle.vms_first.specs.declared.causes.LineCause.{LineCause}
+use Rattle.vms_first.specs.declared.causes.LineCause.TheVariants.{Overflow}
+use Rattle.vms_first.specs.declared.lines.Act.{Act}
+use Rattle.vms_first.specs.declared.lines.Act.TheVariants.{Mod}
+use Rattle.vms_first.specs.declared.lines.Lane.{Lane as LaneOf}
+use Rattle.vms_first.specs.declared.lines.Lane.TheVariants.{Cpu}
+use Rattle.vms_first.specs.declared.lines.Line.{Line}
+use Rattle.vms_first.specs.declared.lines.Line.TheVariants.{Blank, Lane, Boundary}
 
 -- what an act changes counter k by, in pages
 abbrev pub change_by : ℕ → Act → ℤ

@@ -8,8 +8,8 @@ use Rattle.vms_tool.specs.declared.openings.Opening.{Opening}
 use Rattle.vms_tool.specs.declared.openings.Turn.{Turn}
 use Rattle.vms_tool.specs.declared.openings.Opening.TheVariants.{Accepted, Refused}
 use Rattle.vms_tool.specs.declared.stops.Stop.{Stop}
-use Rattle.vms_trace.specs.Head.{Fault, ReadsHeader, read_header}
-use Rattle.vms_trace.specs.Text.{lines_of}
+use Rattle.vms_first.specs.Head.{Fault, ReadsHeader, read_header}
+use Rattle.vms_first.specs.Text.{lines_of}
 
 -- what a text decides: it has an accepted header; or one of its lines, or at the end the one after them, is at fault; or
 -- neither, before the end

@@ -8,16 +8,16 @@ use Rattle.vms_base.specs.Names.{event_names, kind_names}
 use Rattle.vms_base.specs.Places.{Shape, zone_index, zone_at, node_at, place_of, position_of, counter_count}
 use Rattle.vms_tool.specs.declared.items.Item.{Item}
 use Rattle.vms_tool.specs.Judging.{Above, nothing_above, change_by_all, judged, with_line, come_to}
-use Rattle.vms_trace.specs.declared.causes.HeaderCause.{HeaderCause}
-use Rattle.vms_trace.specs.declared.causes.HeaderCause.TheVariants.{NotBuilt as HeaderNotBuilt}
-use Rattle.vms_trace.specs.declared.causes.LineCause.{LineCause}
-use Rattle.vms_trace.specs.declared.causes.LineCause.TheVariants.{NotBuilt, Overflow}
-use Rattle.vms_trace.specs.declared.lines.Boundary.TheVariants.{Report}
-use Rattle.vms_trace.specs.declared.lines.Line.{Line}
-use Rattle.vms_trace.specs.declared.lines.Line.TheVariants.{Boundary}
-use Rattle.vms_trace.specs.declared.lines.ReportKind.TheVariants.{Totals}
-use Rattle.vms_trace.specs.Head.{Fault, read_header}
-use Rattle.vms_trace.specs.Text.{lines_of}
+use Rattle.vms_first.specs.declared.causes.HeaderCause.{HeaderCause}
+use Rattle.vms_first.specs.declared.causes.HeaderCause.TheVariants.{NotBuilt as HeaderNotBuilt}
+use Rattle.vms_first.specs.declared.causes.LineCause.{LineCause}
+use Rattle.vms_first.specs.declared.causes.LineCause.TheVariants.{NotBuilt, Overflow}
+use Rattle.vms_first.specs.declared.lines.Boundary.TheVariants.{Report}
+use Rattle.vms_first.specs.declared.lines.Line.{Line}
+use Rattle.vms_first.specs.declared.lines.Line.TheVariants.{Boundary}
+use Rattle.vms_first.specs.declared.lines.ReportKind.TheVariants.{Totals}
+use Rattle.vms_first.specs.Head.{Fault, read_header}
+use Rattle.vms_first.specs.Text.{lines_of}
 
 abbrev pub newline : List ℕ
 newline = 10 ∷ []

@@ -3,9 +3,9 @@ use Rattle.std.specs.Prelude.{ℕ, suc, List, [], ◌∷◌, ◌++◌, Result, O
 use Rattle.vms_base.specs.declared.headers.Header.{Header}
 use Rattle.vms_tool.specs.declared.items.Item.{Item}
 use Rattle.vms_tool.specs.Judging.{Above, judged, with_line}
-use Rattle.vms_trace.specs.declared.causes.LineCause.{LineCause}
-use Rattle.vms_trace.specs.declared.lines.Line.{Line}
-use Rattle.vms_trace.specs.declared.lines.Line.TheVariants.{Lane, Boundary}
+use Rattle.vms_first.specs.declared.causes.LineCause.{LineCause}
+use Rattle.vms_first.specs.declared.lines.Line.{Line}
+use Rattle.vms_first.specs.declared.lines.Line.TheVariants.{Lane, Boundary}
 
 -- the open phase with one line more, of this number: a boundary line ends it
 abbrev pub with_item : ℕ → Result Line LineCause → List Item → List Item

@@ -5,8 +5,8 @@ use Rattle.vms_tool.specs.declared.items.Item.{Item}
 use Rattle.vms_tool.specs.Judging.{Above, nothing_above, judged, with_line}
 use Rattle.vms_tool.specs.Output.{printed}
 use Rattle.vms_tool.specs.Phases.{as_phase, ended_by, with_item}
-use Rattle.vms_trace.specs.declared.causes.LineCause.{LineCause}
-use Rattle.vms_trace.specs.declared.lines.Line.{Line}
+use Rattle.vms_first.specs.declared.causes.LineCause.{LineCause}
+use Rattle.vms_first.specs.declared.lines.Line.{Line}
 
 -- the number of the next line, what the lines above came to, the phases that they ended, and the lines of the open one
 pub record Progress : Type 0 where

@@ -16,11 +16,11 @@ use Rattle.vms_tool.specs.declared.items.Item.{Item}
 use Rattle.vms_tool.specs.Judging.{volume}
 use Rattle.vms_tool.specs.Output.{plain_total}
 use Rattle.vms_tool.specs.Worlds.{settled}
-use Rattle.vms_trace.specs.declared.lines.Act.TheVariants.{Mod}
-use Rattle.vms_trace.specs.declared.lines.Lane.TheVariants.{Cpu}
-use Rattle.vms_trace.specs.declared.lines.Line.{Line}
-use Rattle.vms_trace.specs.declared.lines.Line.TheVariants.{Lane}
-use Rattle.vms_trace.specs.Head.{header_of}
+use Rattle.vms_first.specs.declared.lines.Act.TheVariants.{Mod}
+use Rattle.vms_first.specs.declared.lines.Lane.TheVariants.{Cpu}
+use Rattle.vms_first.specs.declared.lines.Line.{Line}
+use Rattle.vms_first.specs.declared.lines.Line.TheVariants.{Lane}
+use Rattle.vms_first.specs.Head.{header_of}
 
 -- the layout of a header as it is read: one CPU, one zone and one node
 abbrev pub first_layout : Shape

@@ -12,8 +12,8 @@ use Rattle.vms_tool.specs.Answers.{Says}
 use Rattle.vms_tool.specs.Progress.{Progress, progress_at, past_lines, printed_past}
 use Rattle.vms_tool.specs.Standing.{Stands}
 use Rattle.vms_tool.specs.Worlds.{IsStart}
-use Rattle.vms_trace.specs.Head.{read_header}
-use Rattle.vms_trace.specs.Text.{lines_of}
+use Rattle.vms_first.specs.Head.{read_header}
+use Rattle.vms_first.specs.Text.{lines_of}
 
 -- bytes that are whole lines
 abbrev pub EndsLine : List ℕ → Type 0

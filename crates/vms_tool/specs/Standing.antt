@@ -6,7 +6,7 @@ use Rattle.vms_tool.specs.declared.judging.Replay.{Replay}
 use Rattle.vms_tool.specs.FileOrder.{Phase, Leads}
 use Rattle.vms_tool.specs.Judging.{volume}
 use Rattle.vms_tool.specs.Progress.{Progress, past_lines, printed_past}
-use Rattle.vms_trace.specs.Text.{lines_of}
+use Rattle.vms_first.specs.Text.{lines_of}
 use Rattle.vms_tool.specs.OpenPhases.{IsOpen}
 use Rattle.vms_tool.specs.Ready.{IsFirstHeader, CanReplay, onto}
 

@@ -1,4 +1,4 @@
-use vms_trace::{Act, Lane};
+use vms_first::{Act, Lane};
 
 /// An accepted line of a lane.
 #[derive(Clone, Copy, Debug, PartialEq, Eq)]

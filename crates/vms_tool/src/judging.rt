@@ -5,7 +5,7 @@ use std::alloc::Global;
 use vms_base::{CounterId, CpuId, Header, Memory, Mode, Row};
 use vms_calc::{Rule, Rules};
 use vms_core::Plain;
-use vms_trace::{Act, Boundary, Lane, Line, LineCause, ReportKind, parse_line, split_line};
+use vms_first::{Act, Boundary, Lane, Line, LineCause, ReportKind, parse_line, split_line};
 
 /// What one CPU may change one counter by, in absolute sum over a run, in pages.
 const MOST_VOLUME: u64 = 1 << 48;
@@ -36,7 +36,7 @@ impl Replay {
     ghost use Rattle.vms_tool.specs.Ready.{IsFirstHeader, IsFirstLine};
     ghost use Rattle.vms_tool.specs.Standing.{Stands, IsReplay};
     ghost use Rattle.vms_tool.specs.Worlds.{IsNormalRule, IsStart};
-    ghost use Rattle.vms_trace.specs.Text.{lines_of};
+    ghost use Rattle.vms_first.specs.Text.{lines_of};
 
     /// A replay before the first line of a body, which follows a header of so many lines.
     pub(crate) fn begin<N: Rule, P: Rule>(

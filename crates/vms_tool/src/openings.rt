@@ -2,7 +2,7 @@ ghost use Rattle.std.specs.Prelude.{◌≡◌, ◌≤◌, ◌<◌, Bool, true, f
 ghost use Rattle.vms_tool.specs.Answers.{most_bytes, NotRefused};
 ghost use Rattle.vms_tool.specs.Openings.{Decides, IsBeyond, IsWithin, Opens, Turns};
 ghost use Rattle.vms_tool.specs.Running.{CountsReads, EndsLine, IsNoWriteFault};
-ghost use Rattle.vms_trace.specs.Text.{lines_of};
+ghost use Rattle.vms_first.specs.Text.{lines_of};
 
 use crate::courses::MOST_BYTES;
 use crate::running::{read, ready};
@@ -10,7 +10,7 @@ use crate::stops::Stop;
 use std::alloc::Global;
 use vms_base::{Header, Memory};
 use vms_io::{ReadBuffer, Source};
-use vms_trace::{HeaderCause, HeaderError, parse_header};
+use vms_first::{HeaderCause, HeaderError, parse_header};
 
 /// A header that was accepted.
 #[derive(Drop)]

@@ -7,7 +7,7 @@ ghost use Rattle.vms_io.specs.Reading.{Gets};
 ghost use Rattle.vms_tool.specs.Progress.{Progress, past_lines, printed_past};
 ghost use Rattle.vms_tool.specs.Running.{CountsReads, CountsWrites, EndsLine, Feeds, IsReadStop};
 ghost use Rattle.vms_tool.specs.Standing.{IsReplay, Stands};
-ghost use Rattle.vms_trace.specs.Text.{lines_of};
+ghost use Rattle.vms_first.specs.Text.{lines_of};
 
 use crate::judging::Replay;
 use crate::stops::{Stop, stop_of_read};

@@ -7,7 +7,7 @@ use std::alloc::Global;
 use std::test::Fail;
 use vms_base::{Row, ZoneSize};
 use vms_calc::{Rule, Rules, normal_threshold, pressure_threshold};
-use vms_trace::{HeaderError, parse_header};
+use vms_first::{HeaderError, parse_header};
 
 /// The zone of 1 GiB with 10,000 free pages, on one CPU.
 const HEADER: &[u8] =

@@ -3,7 +3,7 @@ use Rattle.vms_base.specs.declared.headers.Header.{Header}
 use Rattle.vms_core.specs.declared.states.State.{State}
 use Rattle.vms_tool.specs.Progress.{Progress, past_lines, printed_past}
 use Rattle.vms_tool.specs.Standing.{Stands}
-use Rattle.vms_trace.specs.Text.{lines_of}
+use Rattle.vms_first.specs.Text.{lines_of}
 use Rattle.vms_tool.proofs.running.feed.Goals as goal
 
 pub returns : goal.returns

@@ -3,7 +3,7 @@ use Rattle.vms_tool.proofs.CourseBeginnings.{first_numbers, IsCourse-begun}
 use Rattle.vms_tool.proofs.FirstHeaders.{IsFirstHeader-read}
 use Rattle.vms_tool.specs.Progress.{progress_at, past_lines, printed_past}
 use Rattle.vms_tool.specs.Standing.{Stands}
-use Rattle.vms_trace.specs.Text.{lines_of}
+use Rattle.vms_first.specs.Text.{lines_of}
 use Rattle.vms_tool.proofs.courses.Course.begin.Goals as goal
 
 pub begin-requires-clause-header : goal.begin-requires-clause-header

@@ -9,7 +9,7 @@ use Rattle.vms_core.specs.Following.{with_change}
 use Rattle.vms_tool.specs.OpenPhases.{cpu0}
 use Rattle.vms_tool.proofs.PhaseRuns.{Follows}
 use Rattle.vms_tool.proofs.Standings.{Changeable-here, Stands-made, Stands-on_lane}
-use Rattle.vms_trace.specs.declared.lines.Lane.TheVariants.{Cpu}
+use Rattle.vms_first.specs.declared.lines.Lane.TheVariants.{Cpu}
 use Rattle.vms_tool.proofs.judging.Replay.accept.Goals as goal
 
 pub change-requires-clause-value : goal.change-requires-clause-value

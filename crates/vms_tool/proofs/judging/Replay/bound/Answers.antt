@@ -3,8 +3,8 @@ use Rattle.std.proofs.lemmas.Result.{on_ok_weaker}
 use Rattle.vms_tool.proofs.Standings.{one_boundary}
 use Rattle.vms_tool.specs.Progress.{past_line, printed_by}
 use Rattle.vms_tool.specs.Standing.{Stands}
-use Rattle.vms_trace.specs.declared.lines.Boundary.{Boundary as BoundaryOf}
-use Rattle.vms_trace.specs.declared.lines.Line.TheVariants.{Boundary}
+use Rattle.vms_first.specs.declared.lines.Boundary.{Boundary as BoundaryOf}
+use Rattle.vms_first.specs.declared.lines.Line.TheVariants.{Boundary}
 use Rattle.vms_tool.proofs.judging.Replay.bound.Goals as goal
 
 pub returns : goal.returns

@@ -5,10 +5,10 @@ use Rattle.vms_tool.proofs.Standings.{judged-within, judged-over}
 use Rattle.vms_tool.specs.Progress.{past_line, printed_by}
 use Rattle.vms_tool.specs.Ready.{IsFirstLine}
 use Rattle.vms_tool.specs.Standing.{Stands}
-use Rattle.vms_trace.specs.declared.causes.LineCause.{LineCause}
-use Rattle.vms_trace.specs.declared.lines.Act.{Act}
-use Rattle.vms_trace.specs.declared.lines.Line.{Line}
-use Rattle.vms_trace.specs.declared.lines.Line.TheVariants.{Lane}
+use Rattle.vms_first.specs.declared.causes.LineCause.{LineCause}
+use Rattle.vms_first.specs.declared.lines.Act.{Act}
+use Rattle.vms_first.specs.declared.lines.Line.{Line}
+use Rattle.vms_first.specs.declared.lines.Line.TheVariants.{Lane}
 use Rattle.vms_tool.proofs.judging.Replay.change.Goals as goal
 
 pub returns-then-volume-le-MOST_VOLUME : goal.returns-then-volume-le-MOST_VOLUME

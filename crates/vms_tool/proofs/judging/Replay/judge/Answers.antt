@@ -3,7 +3,7 @@ use Rattle.std.proofs.lemmas.Result.{on_ok_weaker}
 use Rattle.vms_tool.specs.Judging.{judged_under}
 use Rattle.vms_tool.specs.Progress.{past_line, printed_by}
 use Rattle.vms_tool.specs.Standing.{Stands}
-use Rattle.vms_trace.specs.declared.lines.Line.{Line}
+use Rattle.vms_first.specs.declared.lines.Line.{Line}
 use Rattle.vms_tool.proofs.judging.Replay.judge.Goals as goal
 
 pub returns-in-Blank : goal.returns-in-Blank

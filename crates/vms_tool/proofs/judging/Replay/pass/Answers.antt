@@ -5,9 +5,9 @@ use Rattle.std.proofs.lemmas.Result.{on_ok_weaker}
 use Rattle.vms_tool.specs.Judging.{judged_under}
 use Rattle.vms_tool.specs.Progress.{past_line, printed_by}
 use Rattle.vms_tool.specs.Standing.{Stands}
-use Rattle.vms_trace.specs.Body.{read_line}
-use Rattle.vms_trace.specs.declared.causes.LineCause.{LineCause}
-use Rattle.vms_trace.specs.declared.lines.Line.{Line}
+use Rattle.vms_first.specs.Body.{read_line}
+use Rattle.vms_first.specs.declared.causes.LineCause.{LineCause}
+use Rattle.vms_first.specs.declared.lines.Line.{Line}
 use Rattle.vms_tool.proofs.judging.Replay.pass.Goals as goal
 
 pub judge-requires-clause-said : goal.judge-requires-clause-said

@@ -1,0 +1,49 @@
+-- Numbers that words spell lie in their ranges.
+use Rattle.std.proofs.Common.{ℕ, ◌≡◌, ◌≤◌, ◌^◌, ◌-◌, ◌&&◌, ◌==◌, Bool, true, false, cond, List, [], ◌∷◌, Option, Some, None, refl, arith, nat_le, ℤ, pos, negsuc, suc, zero, subst, option_map, w64}
+use Rattle.std.proofs.lemmas.Bool.Decides.{nat_tests}
+use Rattle.std.proofs.lemmas.Int.{ints}
+use Rattle.std.specs.Int.RustNames.{FitsSigned}
+use Rattle.std.specs.Str.Parse.{digits_value}
+use Rattle.vms_first.specs.Words.{is_numeral, negative_of, signed_of, unsigned_of}
+
+pub if_some : {A : Type 0} (b : Bool) (x y : A) → cond b (Some x) None ≡ Some y → (b ≡ true) × (x ≡ y)
+if_some true x y some = (refl, cc)
+if_some false x y some = absurd cc
+
+pub and_left : (a b : Bool) → (a && b) ≡ true → a ≡ true
+and_left true b both = refl
+and_left false b both = absurd cc
+
+pub and_right : (a b : Bool) → (a && b) ≡ true → b ≡ true
+and_right true b both = both
+and_right false b both = absurd cc
+
+pub below : (most value n : ℕ) → nat_le value most ≡ true → value ≡ n → n ≤ most
+below most value n small is = grind (arith, nat_tests)
+
+pub unsigned_of-le : (most : ℕ) (word : List ℕ) (n : ℕ) → unsigned_of most word ≡ Some n → n ≤ most
+unsigned_of-le most word n some =
+    let parts = if_some (is_numeral word && nat_le (digits_value 10 word) most) (digits_value 10 word) n some in
+    below most (digits_value 10 word) n (and_right (is_numeral word) (nat_le (digits_value 10 word) most) parts.0) parts.1
+
+negative_of-fits : (size : Option ℕ) (z : ℤ) → ((n : ℕ) → size ≡ Some n → n ≤ 2 ^ 63) → negative_of size ≡ Some z → FitsSigned w64 z
+negative_of-fits None z bound some = absurd cc
+negative_of-fits (Some zero) z bound some = absurd cc
+negative_of-fits (Some (suc n)) z bound some =
+    let is : negsuc n ≡ z = cc in
+    subst (FitsSigned w64) is (omega (arith, ints, bound (suc n) refl))
+
+positive-fits : (size : Option ℕ) (z : ℤ) → ((n : ℕ) → size ≡ Some n → n ≤ 2 ^ 63 - 1) → option_map pos size ≡ Some z → FitsSigned w64 z
+positive-fits None z bound some = absurd cc
+positive-fits (Some n) z bound some =
+    let is : pos n ≡ z = cc in
+    subst (FitsSigned w64) is (omega (arith, ints, bound n refl))
+
+-- a signed number has 64 bits
+pub signed_of-fits : (word : List ℕ) (z : ℤ) → signed_of word ≡ Some z → FitsSigned w64 z
+signed_of-fits [] z some = absurd cc
+signed_of-fits (byte ∷ word) z some =
+    elim (byte == 45) as (λ b. cond b (negative_of (unsigned_of (2 ^ 63) word)) (option_map pos (unsigned_of (2 ^ 63 - 1) (byte ∷ word))) ≡ Some z → FitsSigned w64 z) [
+      | true ↦ λ minus. negative_of-fits (unsigned_of (2 ^ 63) word) z (unsigned_of-le (2 ^ 63) word) minus
+      | false ↦ λ plain. positive-fits (unsigned_of (2 ^ 63 - 1) (byte ∷ word)) z (unsigned_of-le (2 ^ 63 - 1) (byte ∷ word)) plain
+    ] some
