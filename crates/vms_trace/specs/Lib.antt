@@ -1,0 +1,10 @@
+pub mod Reading
+pub mod Places
+pub mod Fields
+pub mod Rows
+pub mod Body
+pub mod Drafts
+pub mod HeadRows
+pub mod Head
+pub mod Spelling
+pub mod Laws

@@ -1,0 +1,10 @@
+//! The grammar of a trace: what a header and a line of the body say, the first cause why one says nothing, and their one
+//! spelling.
+#![tactic(auto)]
+
+mod causes;
+
+pub use causes::{HeaderCause, HeaderError, LineCause};
+pub use vms_text::{
+    Act, Boundary, Item, Lane, Line, ReportKind, is_name, next_word, read_signed, read_unsigned,
+};
