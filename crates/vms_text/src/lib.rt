@@ -6,6 +6,8 @@ mod cutting;
 mod names;
 mod numbers;
 mod scanning;
+#[cfg(test)]
+mod tests;
 
 pub use acts::{Act, Boundary, Item, Lane, Line, ReportKind};
 pub use cutting::{lines_append, lines_begin, split_line};
