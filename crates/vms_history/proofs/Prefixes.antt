@@ -1,6 +1,8 @@
--- What a legal history says of its newest event, and of its beginnings.
-use Rattle.std.proofs.Common.{List, [], ◌∷◌, ◌++◌}
+-- What a legal history says of its newest event and of its beginnings, and what every step keeps.
+use Rattle.std.proofs.Common.{List, [], ◌∷◌, ◌++◌, Option}
+use Rattle.vms_base.specs.declared.ids.CpuId.{CpuId}
 use Rattle.vms_history.specs.declared.events.Event.{Event}
+use Rattle.vms_history.specs.Passes.{owner_in}
 use Rattle.vms_history.specs.Legal.{Machine, IsLegal, Acts, state_after}
 
 module _ {F K S : Type 0} (machine : Machine F K S) (facts : F) where
@@ -22,3 +24,11 @@ module _ {F K S : Type 0} (machine : Machine F K S) (facts : F) where
   pub base_can_begin : (h : List (Event K)) → IsLegal machine facts h → machine.CanBegin facts
   base_can_begin [] legal = legal
   base_can_begin (e ∷ h) legal = base_can_begin h (legal_before e h legal)
+
+  -- what holds of the base, and after every step if it held before, holds after every history
+  pub state_after-keeps : (Holds : S → Type 0) → Holds (machine.base facts)
+      → ((who : Option CpuId) (step : K) (s : S) → Holds s → Holds (machine.effect facts who step s))
+      → (h : List (Event K)) → Holds (state_after machine facts h)
+  state_after-keeps Holds base step [] = base
+  state_after-keeps Holds base step (e ∷ h) =
+      step (owner_in machine.turn h e.caller) e.step (state_after machine facts h) (state_after-keeps Holds base step h)
