@@ -1,4 +1,4 @@
--- Sums over callers of what their own events come to.
+-- Totals as sums of parts, and sums over callers of what their own events come to.
 use Rattle.std.proofs.Common.{◌≡◌, ℕ, ◌<◌, List, [], ◌∷◌, ℤ, pos, ◌+ℤ◌, ◌-ℤ◌, refl, ap, sym, arith}
 use Rattle.std.proofs.lemmas.Int.{ints}
 use Rattle.vms_history.specs.declared.events.Event.{Event}
@@ -9,7 +9,7 @@ use Rattle.vms_history.specs.Legal.{Machine, IsLegal}
 use Rattle.vms_history.proofs.Own.{own-mine, own-others}
 use Rattle.vms_history.proofs.Prefixes.{legal_before}
 use Rattle.vms_history.proofs.PassLaws.{caller_is_below}
-use Rattle.vms_history.proofs.SumLaws.{sum_below-zeros, sum_below-changed}
+use Rattle.vms_history.proofs.SumLaws.{sum_below-same, sum_below-sum, sum_below-zeros, sum_below-changed}
 
 -- an event changes such a sum by what it changes of its caller
 pub sum_below-callers : {K : Type 0} (f : List (Event K) → ℤ) (e : Event K) (h : List (Event K)) (n : ℕ) → e.caller < n
@@ -34,3 +34,18 @@ total-by_caller machine facts measure (e ∷ h) n legal above =
     let callers = sum_below-callers (total measure) e h n below.0 in
     let before = total-by_caller machine facts measure h n (legal_before machine facts e h legal) below.1 in
     omega (arith, ints, callers, before)
+
+-- a total is the sum of n parts, where each legal event adds its measure to them
+pub total-by_parts : {F K S : Type 0} (machine : Machine F K S) (facts : F) (measure : K → ℤ)
+    (part : List (Event K) → ℕ → ℤ) (grown : Event K → List (Event K) → ℕ → ℤ) (n : ℕ)
+    → ((i : ℕ) → i < n → part [] i ≡ pos 0)
+    → ((e : Event K) (h : List (Event K)) (i : ℕ) → i < n → part (e ∷ h) i ≡ grown e h i +ℤ part h i)
+    → ((e : Event K) (h : List (Event K)) → IsLegal machine facts (e ∷ h) → sum_below (grown e h) n ≡ measure e.step)
+    → (h : List (Event K)) → IsLegal machine facts h → total measure h ≡ sum_below (part h) n
+total-by_parts machine facts measure part grown n none grows adds [] legal = sym (sum_below-zeros (part []) n none)
+total-by_parts machine facts measure part grown n none grows adds (e ∷ h) legal =
+    let before =
+    total-by_parts machine facts measure part grown n none grows adds h (legal_before machine facts e h legal) in
+    let each = sum_below-same (part (e ∷ h)) (λ i. grown e h i +ℤ part h i) n (grows e h) in
+    let both = sum_below-sum (grown e h) (part h) n in
+    omega (arith, ints, adds e h legal, each, both, before)

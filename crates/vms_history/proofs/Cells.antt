@@ -38,18 +38,19 @@ module _ (width n : ℕ) where
           ne_eqb _ _ (λ e. eqb-false k l columns (cell-injective width c k d l k_in l_in e).1)
       by false b rows columns = ne_eqb _ _ (λ e. eqb-false c d rows (cell-injective width c k d l k_in l_in e).0)
 
-  module _ {X : Type 0} (xs : List X) (full : length xs ≡ n * width) (c k d l : ℕ) where
-    pub get_or-set_cell : (v default : X) → c < n → k < width → l < width
-        → get_or (set xs (cell width c k) v) (cell width d l) default
-        ≡ (if nat_eq c d && nat_eq k l then v else get_or xs (cell width d l) default)
-    get_or-set_cell v default c_in k_in l_in =
-        rw (← cell-same c k d l k_in l_in)
-        (get_or-set xs (cell width c k) (cell width d l) v default (rw full (cell-lt width n c k c_in k_in)))
+  pub get_or-set_cell : {X : Type 0} (xs : List X) (c k d l : ℕ) (v default : X) → length xs ≡ n * width
+      → c < n → k < width → l < width
+      → get_or (set xs (cell width c k) v) (cell width d l) default
+      ≡ (if nat_eq c d && nat_eq k l then v else get_or xs (cell width d l) default)
+  get_or-set_cell xs c k d l v default full c_in k_in l_in =
+      rw (← cell-same c k d l k_in l_in)
+      (get_or-set xs (cell width c k) (cell width d l) v default (rw full (cell-lt width n c k c_in k_in)))
 
-    pub get_or-changed_cell : (f : X → X) (default : X) → c < n → k < width → l < width
-        → get_or (set xs (cell width c k) (f (get_or xs (cell width c k) default))) (cell width d l) default
-        ≡ (if nat_eq c d && nat_eq k l then f (get_or xs (cell width d l) default) else get_or xs
-        (cell width d l) default)
-    get_or-changed_cell f default c_in k_in l_in =
-        rw (← cell-same c k d l k_in l_in)
-        (get_or-changed f xs (cell width c k) (cell width d l) default (rw full (cell-lt width n c k c_in k_in)))
+  pub get_or-changed_cell : {X : Type 0} (f : X → X) (xs : List X) (c k d l : ℕ) (default : X) → length xs ≡ n * width
+      → c < n → k < width → l < width
+      → get_or (set xs (cell width c k) (f (get_or xs (cell width c k) default))) (cell width d l) default
+      ≡ (if nat_eq c d && nat_eq k l then f (get_or xs (cell width d l) default) else get_or xs
+      (cell width d l) default)
+  get_or-changed_cell f xs c k d l default full c_in k_in l_in =
+      rw (← cell-same c k d l k_in l_in)
+      (get_or-changed f xs (cell width c k) (cell width d l) default (rw full (cell-lt width n c k c_in k_in)))

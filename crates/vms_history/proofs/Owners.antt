@@ -1,13 +1,13 @@
 -- What legal histories say of the passes that own a CPU.
-use Rattle.std.proofs.Common.{◌≡◌, ℕ, ◌<◌, ◌≤◌, ◌==◌, cond, Bool, true, false, List, [], ◌∷◌, ◌++◌, Some, inl, inr, sym, ap, subst, ◌∙◌, arith}
+use Rattle.std.proofs.Common.{◌≡◌, ℕ, ◌<◌, ◌≤◌, ◌==◌, cond, Bool, true, false, List, [], ◌∷◌, Some, inl, inr, sym, ap, subst, ◌∙◌, arith}
 use Rattle.std.proofs.lemmas.Bool.{cases_lt}
 use Rattle.vms_base.specs.declared.ids.CpuId.{CpuId}
 use Rattle.vms_history.specs.declared.events.Event.{Event}
 use Rattle.vms_history.specs.Passes.{Turn, begun_in, lives_in, owner_after, owner_in}
 use Rattle.vms_history.specs.Passes.Turn.{Works, Begins, Ends}
 use Rattle.vms_history.specs.Legal.{Machine, IsLegal, Acts}
-use Rattle.vms_history.proofs.Prefixes.{legal_before, acts_of, prefix_is_legal}
-use Rattle.vms_history.proofs.PassLaws.{owner_in-append, owner_in-not_given, owner_in-turn, owner_acts_alone}
+use Rattle.vms_history.proofs.Prefixes.{legal_before, acts_of}
+use Rattle.vms_history.proofs.PassLaws.{owner_in-not_given, owner_in-turn, owner_acts_alone}
 
 -- two names of one number are one CPU
 pub same_cpu : (d c : CpuId) → d.number ≡ c.number → d ≡ c
@@ -49,13 +49,6 @@ module _ {F K S : Type 0} (machine : Machine F K S) (facts : F) where
       not_given : ((0 < q) × (q ≤ begun_in machine.turn h) → ⊥) → ⊥
       not_given none = let owns_none = owner_in-not_given machine facts h q legal none in let both =
           sym owns ∙ owns_none in cc
-
-  -- the CPU that a pass owned it owns later
-  pub owner_stays : (m h : List (Event K)) (q : ℕ) (c : CpuId) → IsLegal machine facts (m ++ h)
-      → owner_in machine.turn h q ≡ Some c → owner_in machine.turn (m ++ h) q ≡ Some c
-  owner_stays m h q c legal owns =
-      owner_in-append machine facts m h q legal (owner_is_given h q c (prefix_is_legal machine facts m h legal) owns).1
-      ∙ owns
 
   -- who acts for the CPU of a pass that lives is that pass
   pub owner_is_caller : (e : Event K) (h : List (Event K)) (p : ℕ) (c : CpuId) → IsLegal machine facts (e ∷ h)
