@@ -8,11 +8,12 @@ use Rattle.vms_history.specs.Passes.{begun_in}
 use Rattle.vms_history.specs.Sums.{sum_below}
 use Rattle.vms_history.proofs.CallerSums.{total-by_caller}
 use Rattle.vms_history.proofs.Own.{own-mine, own-others}
+use Rattle.vms_history.proofs.Prefixes.{own-keeps}
+use Rattle.vms_history.proofs.SumBounds.{sum_below-le}
 use Rattle.vms_core.specs.declared.steps.Facts.{Facts}
 use Rattle.vms_core.specs.declared.steps.Step.{Step}
 use Rattle.vms_core.specs.Pages.{pages, History, IsLegal}
 use Rattle.vms_core.specs.Steps.{turn}
-use Rattle.vms_core.proofs.CountLemmas.{sum_below-below}
 
 -- the sizes of all steps of a history together
 abbrev pub sizes : (Step → ℕ) → History → ℤ
@@ -27,7 +28,8 @@ sizes-own : (size : Step → ℕ) (h : History) (p : ℕ) → sizes size (own h 
 sizes-own size [] p = omega (arith, ints)
 sizes-own size (e ∷ h) p = by (nat_eq e.caller p) refl (sizes-own size h p)
   where
-    by : (b : Bool) → nat_eq e.caller p ≡ b → sizes size (own h p) ≤ℤ sizes size h → sizes size (own (e ∷ h) p) ≤ℤ sizes size (e ∷ h)
+    by : (b : Bool) → nat_eq e.caller p ≡ b → sizes size (own h p) ≤ℤ sizes size h
+        → sizes size (own (e ∷ h) p) ≤ℤ sizes size (e ∷ h)
     by true mine rest = rw (own-mine e h p (eqb-true e.caller p mine)) (omega (arith, ints))
     by false others rest = rw (own-others e h p (eqb-false e.caller p others)) (omega (arith, ints))
 
@@ -40,17 +42,11 @@ module _ (facts : Facts) (moved : Step → ℤ) (out added : Step → ℕ)
   Within mine = (sizes added mine +ℤ pos (unsigned_abs (total moved mine))) ≤ℤ sizes out mine
 
   own-within : (h : History) → IsLegal facts h → (p : ℕ) → Within (own h p)
-  own-within [] legal p = omega (arith, ints)
-  own-within (e ∷ h) legal p = by (nat_eq e.caller p) refl (own-within h legal.0 p)
-    where
-      by : (b : Bool) → nat_eq e.caller p ≡ b → Within (own h p) → Within (own (e ∷ h) p)
-      by true mine rest =
-          let caller : e.caller ≡ p = eqb-true e.caller p mine in
-          let step = rw caller at (kept e h legal) in
-          rw (own-mine e h p caller) (omega (arith, ints, step))
-      by false others rest = rw (own-others e h p (eqb-false e.caller p others)) rest
+  own-within = own-keeps pages facts Within (omega (arith, ints))
+      (λ e h legal before. omega (arith, ints, kept e h legal))
 
-  pub carried-within : (h : History) → IsLegal facts h → (p : ℕ) → pos (unsigned_abs (total moved (own h p))) ≤ℤ sizes out h
+  pub carried-within : (h : History) → IsLegal facts h → (p : ℕ)
+      → pos (unsigned_abs (total moved (own h p))) ≤ℤ sizes out h
   carried-within h legal p =
       omega (arith, ints, own-within h legal p, sizes-pos added (own h p), sizes-own out h p)
 
@@ -61,6 +57,6 @@ module _ (facts : Facts) (moved : Step → ℤ) (out added : Step → ℕ)
       total-by_caller pages facts (λ k. pos (added k)) h n legal (omega arith) in
       let all_out : sizes out h ≡ sum_below (λ p. sizes out (own h p)) n =
       total-by_caller pages facts (λ k. pos (out k)) h n legal (omega arith) in
-      let each = sum_below-below (λ p. sizes added (own h p)) (λ p. sizes out (own h p)) n
+      let each = sum_below-le (λ p. sizes added (own h p)) (λ p. sizes out (own h p)) n
       (λ p below. omega (arith, ints, own-within h legal p)) in
       rw (all_added, all_out) each

@@ -5,6 +5,7 @@ use Rattle.vms_base.specs.declared.ids.CpuId.{CpuId}
 use Rattle.vms_base.specs.declared.ids.PlaceId.{PlaceId}
 use Rattle.vms_base.specs.declared.kinds.CpuState.TheVariants.{Dead, Absent}
 use Rattle.vms_base.specs.Places.{IsCpu, group_of}
+use Rattle.vms_base.proofs.Counts.{group_of-lt}
 use Rattle.vms_history.specs.Events.{own}
 use Rattle.vms_history.proofs.Prefixes.{base_can_begin}
 use Rattle.vms_core.specs.declared.steps.Facts.{Facts}
@@ -14,7 +15,6 @@ use Rattle.vms_core.specs.Conditions.{IsControl, SetsThreshold, SetsMark, SetsAb
 use Rattle.vms_core.specs.Knowledge.{GoesOnWithout, HasTakenAll}
 use Rattle.vms_core.specs.Pages.{pages, History, IsLegal, state_after}
 use Rattle.vms_core.proofs.DeadCpus.{dead≢online}
-use Rattle.vms_core.proofs.CounterRanges.{group_known}
 use Rattle.vms_core.proofs.LiveOwners.{online-stays}
 use Rattle.vms_core.proofs.OfflineGroups.{offline-stay_taken}
 use Rattle.vms_core.proofs.Watching.{owner_in-goes_on, control-knows_later}
@@ -32,7 +32,11 @@ SetsThreshold-goes_on facts later earlier p c g t goes sets =
       least = sets.least;
       most = sets.most;
       covers = λ zone.
-          rw (ap (λ xs. get_or xs g.number 0) knows.marks, knows.next_peak_sums (record { caller = p; step = SetT c g t }) g.number)
+          rw (
+            ap (λ xs. get_or xs g.number 0) knows.marks,
+            knows.next_peak_sums
+                (record { caller = p; step = SetT c g t }) g.number,
+          )
           (sets.covers zone);
     }
 
@@ -55,11 +59,12 @@ SetsAbsent-taken facts h p c legal control c_in dead took = record {
   cpu = c_in;
   dead = dead;
   zeros = λ k k_in.
-      let group = group_known facts.layout (base_can_begin pages facts h legal).layout k k_in in
+      let group = group_of-lt facts.layout (base_can_begin pages facts h legal).layout k k_in in
       let at : 8 * group_of k + k % 8 ≡ k = omega arith in
       let zero =
       offline-stay_taken facts h legal p c.number (group_of k) c_in group
       (λ online. dead≢online (sym dead ∙ online-stays facts h c.number legal online)) (took (group_of k) group)
       (k % 8) (omega arith) in
-      ap (diff_at (state_after facts h) c.number) (sym at) ∙ sym zero ∙ get_or-replicate 8 (k % 8) (pos 0) (pos 0) (omega arith);
+      ap (diff_at (state_after facts h) c.number) (sym at) ∙ sym zero
+      ∙ get_or-replicate 8 (k % 8) (pos 0) (pos 0) (omega arith);
 }

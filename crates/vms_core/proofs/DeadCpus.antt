@@ -11,6 +11,8 @@ use Rattle.vms_base.specs.declared.kinds.CpuState.{CpuState}
 use Rattle.vms_base.specs.declared.kinds.CpuState.TheVariants.{Online, Dead, Absent}
 use Rattle.vms_base.specs.Places.{IsCounter, group_of}
 use Rattle.vms_history.specs.Passes.{owner_in}
+use Rattle.vms_history.proofs.Choices.{if-never}
+use Rattle.vms_history.proofs.TakenOnce.{TakenOnce, TakenOnce-none, TakenOnce-left, TakenOnce-taken}
 use Rattle.vms_core.specs.declared.states.State.{State}
 use Rattle.vms_core.specs.declared.steps.Facts.{Facts}
 use Rattle.vms_core.specs.declared.steps.Step.{Step}
@@ -47,13 +49,10 @@ online-in_base facts (e ∷ h) c legal is =
     online-in_base facts h c legal.0
     (online-before c e.step (cpu_at (state_after facts h) c) (sym (cpu_at-newest facts e h legal c) ∙ is))
 
-zero_or_stays : (b : Bool) (before : ℤ) → ((if b then pos 0 else before) ≡ pos 0) ⊎ ((if b then pos 0 else before) ≡ before)
+zero_or_stays : (b : Bool) (before : ℤ)
+    → ((if b then pos 0 else before) ≡ pos 0) ⊎ ((if b then pos 0 else before) ≡ before)
 zero_or_stays true before = inl refl
 zero_or_stays false before = inr refl
-
-put_elsewhere : (b : Bool) (new before : ℤ) → (b ≡ true → ⊥) → (if b then new else before) ≡ before
-put_elsewhere true new before elsewhere = absurd (elsewhere refl)
-put_elsewhere false new before elsewhere = refl
 
 take-leaves : (b : Bool) (told before : ℤ) → (b ≡ true → told ≡ before)
     → (if b then pos 0 else before) +ℤ (if b then told else pos 0) ≡ before
@@ -65,7 +64,8 @@ module _ (facts : Facts) (h : History) (s : State) (p : ℕ) (shaped : HasShape 
       → Puts facts h s p m w t delta → (cpu_at s c ≡ Online → ⊥) → (nat_eq d.number c && nat_eq l k) ≡ true → ⊥
   no_put d l w is m t delta puts offline here =
       let same : puts.cpu ≡ d = owned facts h s p shaped d puts.cpu is puts.owns in
-      let cpu : puts.cpu.number ≡ c = ap (λ (o : CpuId). o.number) same ∙ eqb-true d.number c (and_parts (nat_eq d.number c) (nat_eq l k) here).0 in
+      let cpu : puts.cpu.number ≡ c = ap (λ (o : CpuId). o.number) same
+      ∙ eqb-true d.number c (and_parts (nat_eq d.number c) (nat_eq l k) here).0 in
       offline (rw cpu at puts.online)
 
   -- a differential of a CPU that isn't online becomes 0 or stays
@@ -73,10 +73,13 @@ module _ (facts : Facts) (h : History) (s : State) (p : ℕ) (shaped : HasShape 
       → (cpu_at s c ≡ Online → ⊥)
       → (diff_after who c k step (diff_at s c k) ≡ pos 0) ⊎ (diff_after who c k step (diff_at s c k) ≡ diff_at s c k)
   diff_after-offline (Some d) (Put l w t delta how) is meets offline =
-      inr (put_elsewhere (nat_eq d.number c && nat_eq l.number k) (differential_after how t (entry w.values l.number) delta) (diff_at s c k)
+      inr (if-never (nat_eq d.number c && nat_eq l.number k) (differential_after how t (entry w.values l.number) delta)
+      (diff_at s c k)
       (no_put d l.number w is l t delta meets offline))
-  diff_after-offline (Some o) (Take d j w) is meets offline = zero_or_stays (nat_eq d.number c && nat_eq j.number (group_of k)) (diff_at s c k)
-  diff_after-offline None (Take d j w) is meets offline = zero_or_stays (nat_eq d.number c && nat_eq j.number (group_of k)) (diff_at s c k)
+  diff_after-offline (Some o) (Take d j w) is meets offline =
+      zero_or_stays (nat_eq d.number c && nat_eq j.number (group_of k)) (diff_at s c k)
+  diff_after-offline None (Take d j w) is meets offline =
+      zero_or_stays (nat_eq d.number c && nat_eq j.number (group_of k)) (diff_at s c k)
   diff_after-offline (Some o) _ is meets offline = inr refl
   diff_after-offline None _ is meets offline = inr refl
 
@@ -91,61 +94,59 @@ module _ (facts : Facts) (h : History) (s : State) (p : ℕ) (shaped : HasShape 
   taken_by-offline : (who : Option CpuId) (step : Step) → owner_in turn h p ≡ who → Meets facts h s p step
       → (cpu_at s c ≡ Online → ⊥) → diff_after who c k step (diff_at s c k) +ℤ taken_by c k step ≡ diff_at s c k
   taken_by-offline (Some d) (Put l w t delta how) is meets offline =
-      let stays = put_elsewhere (nat_eq d.number c && nat_eq l.number k) (differential_after how t (entry w.values l.number) delta)
+      let stays = if-never (nat_eq d.number c && nat_eq l.number k)
+      (differential_after how t (entry w.values l.number) delta)
       (diff_at s c k) (no_put d l.number w is l t delta meets offline) in
       omega (arith, ints, stays)
   taken_by-offline (Some o) (Take d j w) is meets offline =
-      take-leaves (nat_eq d.number c && nat_eq j.number (group_of k)) (entry w.values k) (diff_at s c k) (take-told d j w meets)
+      take-leaves (nat_eq d.number c && nat_eq j.number (group_of k)) (entry w.values k) (diff_at s c k)
+      (take-told d j w meets)
   taken_by-offline None (Take d j w) is meets offline =
-      take-leaves (nat_eq d.number c && nat_eq j.number (group_of k)) (entry w.values k) (diff_at s c k) (take-told d j w meets)
+      take-leaves (nat_eq d.number c && nat_eq j.number (group_of k)) (entry w.values k) (diff_at s c k)
+      (take-told d j w meets)
   taken_by-offline (Some o) _ is meets offline = omega (arith, ints)
   taken_by-offline None _ is meets offline = omega (arith, ints)
 
--- takes found something at most once: if one did, nothing is left
-pub record TookOnce (takings : ℕ) (left : ℤ) : Type 0 where
-  pub once : (takings ≡ 0) ⊎ ((takings ≡ 1) × (left ≡ pos 0))
-
-took_once-step : (n : ℕ) (left after amount : ℤ) → after +ℤ amount ≡ left → (after ≡ pos 0) ⊎ (after ≡ left) → TookOnce n left
-    → (b : Bool) → nat_lt 0 (unsigned_abs amount) ≡ b → TookOnce (if b then suc n else n) after
-took_once-step n left after amount adds_up changes before true some =
+-- a step that takes all or leaves all, and counts if it takes something
+TakenOnce-step : (was left taken : ℤ) (n : ℕ) (after amount : ℤ) → TakenOnce was left taken n → after +ℤ amount ≡ left
+    → (after ≡ pos 0) ⊎ (after ≡ left) → (b : Bool) → nat_lt 0 (unsigned_abs amount) ≡ b
+    → TakenOnce was after (amount +ℤ taken) (if b then suc n else n)
+TakenOnce-step was left taken n after amount before adds_up changes true some =
     let found : 0 < unsigned_abs amount = grind (arith, nat_tests) in
     let none_left : after ≡ pos 0 = ⊎_elim (λ zero. zero) (λ same. absurd (omega (arith, ints, same))) changes in
-    record {
-      once = ⊎_elim (λ none. inr (omega (arith, none), none_left)) (λ one. absurd (omega (arith, ints, one.1, none_left))) before.once;
-    }
-took_once-step n left after amount adds_up changes before false none =
+    let all : amount ≡ left = omega (arith, ints, none_left) in
+    rw (none_left, all)
+    (TakenOnce-taken was left taken n before (suc n) (inr ((λ none. absurd (omega (arith, ints, all, none))), refl)))
+TakenOnce-step was left taken n after amount before adds_up changes false none =
     let nothing : unsigned_abs amount ≤ 0 = grind (arith, nat_tests) in
-    let same : after ≡ left = omega (arith, ints) in record { once = rw same before.once }
+    let zero_amount : amount ≡ pos 0 = omega (arith, ints) in
+    let same : after ≡ left = omega (arith, ints) in
+    rw (same, zero_amount) (TakenOnce-left was left taken n before)
 
-pub record Offline (facts : Facts) (h : History) (c k : ℕ) : Type 0 where
-  pub total : diff_at (state_after facts h) c k +ℤ taken h c k ≡ diff_at facts.base c k
-  pub once : TookOnce (takings h c k) (diff_at (state_after facts h) c k)
-
-offline-moves : (facts : Facts) (h : History) (c k : ℕ) → IsLegal facts h → IsCounter facts.layout k
-    → (cpu_at facts.base c ≡ Online → ⊥) → Offline facts h c k
-offline-moves facts [] c k legal k_in offline = record { total = omega (arith, ints); once = record { once = inl refl } }
-offline-moves facts (e ∷ h) c k legal k_in offline =
+offline-taken_once : (facts : Facts) (h : History) (c k : ℕ) → IsLegal facts h → IsCounter facts.layout k
+    → (cpu_at facts.base c ≡ Online → ⊥)
+    → TakenOnce (diff_at facts.base c k) (diff_at (state_after facts h) c k) (taken h c k) (takings h c k)
+offline-taken_once facts [] c k legal k_in offline = TakenOnce-none (diff_at facts.base c k)
+offline-taken_once facts (e ∷ h) c k legal k_in offline =
     let s = state_after facts h in
     let who = owner_in turn h e.caller in
     let shaped = HasShape-state_after facts h legal.0 in
-    let before = offline-moves facts h c k legal.0 k_in offline in
     let off : cpu_at s c ≡ Online → ⊥ = λ online. offline (online-in_base facts h c legal.0 online) in
     let after : diff_at (state_after facts (e ∷ h)) c k ≡ diff_after who c k e.step (diff_at s c k) =
     diff_at-effect facts h s e.caller shaped who e.step c k refl legal.2 k_in in
-    let took = taken_by-offline facts h s e.caller shaped c k who e.step refl legal.2 off in
-    record {
-      total = omega (arith, ints, after, took, before.total);
-      once = rw after (took_once-step (takings h c k) (diff_at s c k) (diff_after who c k e.step (diff_at s c k)) (taken_by c k e.step)
-          took (diff_after-offline facts h s e.caller shaped c k who e.step refl legal.2 off) before.once
-          (nat_lt 0 (unsigned_abs (taken_by c k e.step))) refl);
-    }
+    rw after
+    (TakenOnce-step (diff_at facts.base c k) (diff_at s c k) (taken h c k) (takings h c k)
+    (diff_after who c k e.step (diff_at s c k)) (taken_by c k e.step)
+    (offline-taken_once facts h c k legal.0 k_in offline)
+    (taken_by-offline facts h s e.caller shaped c k who e.step refl legal.2 off)
+    (diff_after-offline facts h s e.caller shaped c k who e.step refl legal.2 off)
+    (nat_lt 0 (unsigned_abs (taken_by c k e.step))) refl)
 
 pub dead-move_once : (facts : Facts) (h : History) → IsLegal facts h → MovesDeadOnce facts h
 dead-move_once facts h legal c k c_in k_in dead =
-    let moves = offline-moves facts h c k legal k_in (λ online. dead≢online (sym dead ∙ online)) in
+    let moves = offline-taken_once facts h c k legal k_in (λ online. dead≢online (sym dead ∙ online)) in
     record {
       total = moves.total;
-      once = ⊎_elim (λ none. omega arith) (λ one. omega (arith, one.0)) moves.once.once;
-      all = λ now.
-          let none = absent-zero facts h legal c k c_in k_in now in omega (arith, ints, none, moves.total);
+      once = moves.once;
+      all = λ now. let none = absent-zero facts h legal c k c_in k_in now in omega (arith, ints, none, moves.total);
     }

@@ -1,5 +1,5 @@
 -- A global value is off by no more than the differentials and what is carried.
-use Rattle.std.proofs.Common.{ℕ, suc, ◌≤◌, Bool, true, false, ℤ, pos, unsigned_abs, arith, if◌then◌else◌, nat_eq}
+use Rattle.std.proofs.Common.{ℕ, suc, ◌≤◌, pos, unsigned_abs, arith, if◌then◌else◌, nat_eq}
 use Rattle.std.proofs.lemmas.Int.{ints}
 use Rattle.vms_base.specs.Places.{IsCounter, item_of, counter_count}
 use Rattle.vms_history.specs.Events.{own}
@@ -11,7 +11,7 @@ use Rattle.vms_core.specs.Own.{carried, carried_of_item}
 use Rattle.vms_core.specs.Pages.{History, IsLegal, state_after, carried_by_all, carried_of_item_by_all}
 use Rattle.vms_core.specs.Steps.{turn}
 use Rattle.vms_core.specs.Totals.{differentials, differentials_of_item, last_threshold}
-use Rattle.vms_core.proofs.Bounds.{diff_at-bounded}
+use Rattle.vms_core.proofs.Bounds.{within-if, diff_at-bounded}
 use Rattle.vms_core.proofs.CountLemmas.{sum_below-sizes}
 use Rattle.vms_core.proofs.Items.{system_totals-kept}
 use Rattle.vms_core.proofs.Sums.{totals-kept}
@@ -23,17 +23,15 @@ module _ (facts : Facts) (h : History) (legal : IsLegal facts h) where
       sum_below-sizes (λ c. diff_at (state_after facts h) c k) (λ c. last_threshold facts h c k) facts.layout.cpus
       (λ c c_in. diff_at-bounded facts h legal c k c_in k_in)
 
-  size-if : (b : Bool) (z : ℤ) (n : ℕ) → unsigned_abs z ≤ n → unsigned_abs (if b then z else pos 0) ≤ (if b then n else 0)
-  size-if true z n within = within
-  size-if false z n within = omega arith
-
   differentials_of_item-bounded : (i : ℕ)
       → unsigned_abs (differentials_of_item facts.layout (state_after facts h) i) ≤ last_thresholds_of_item facts h i
   differentials_of_item-bounded i =
-      sum_below-sizes (λ k. if nat_eq (item_of facts.layout k) i then differentials facts.layout (state_after facts h) k else pos 0)
+      sum_below-sizes (λ k. if nat_eq (item_of facts.layout k) i then differentials facts.layout
+      (state_after facts h) k else pos 0)
       (λ k. if nat_eq (item_of facts.layout k) i then last_thresholds facts h k else 0) (counter_count facts.layout)
-      (λ k k_in. size-if (nat_eq (item_of facts.layout k) i) (differentials facts.layout (state_after facts h) k)
-      (last_thresholds facts h k) (differentials-bounded k k_in))
+      (λ k k_in. within-if (nat_eq (item_of facts.layout k) i) (differentials facts.layout (state_after facts h) k)
+      (pos 0)
+      (last_thresholds facts h k) 0 (differentials-bounded k k_in) (omega arith))
 
   pub drift-bounded : BoundsDrift facts h
   drift-bounded k k_in =
@@ -46,6 +44,7 @@ module _ (facts : Facts) (h : History) (legal : IsLegal facts h) where
   system_drift-bounded i i_in =
       let shape = facts.layout in
       let carried_within : unsigned_abs (carried_of_item_by_all shape h i) ≤ carried_of_item_sizes shape h i =
-      sum_below-sizes (λ p. carried_of_item shape i (own h p)) (λ p. unsigned_abs (carried_of_item shape i (own h p))) (suc (begun_in turn h))
+      sum_below-sizes (λ p. carried_of_item shape i (own h p))
+      (λ p. unsigned_abs (carried_of_item shape i (own h p))) (suc (begun_in turn h))
       (λ p below. omega arith) in
       omega (arith, ints, system_totals-kept facts h legal i i_in, differentials_of_item-bounded i, carried_within)

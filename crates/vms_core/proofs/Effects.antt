@@ -5,6 +5,7 @@ use Rattle.vms_base.specs.Places.{Shape, cell, counter_count, IsCpu, IsCounter, 
 use Rattle.vms_history.specs.declared.events.Event.{Event}
 use Rattle.vms_history.specs.Passes.{owner_in}
 use Rattle.vms_base.specs.declared.kinds.CpuState.TheVariants.{Absent}
+use Rattle.vms_history.proofs.Cells.{get_or-changed, get_or-set_cell}
 use Rattle.vms_core.specs.declared.states.State.{State}
 use Rattle.vms_core.specs.declared.steps.Facts.{Facts}
 use Rattle.vms_core.specs.declared.steps.Step.{Step}
@@ -13,12 +14,14 @@ use Rattle.vms_core.specs.Cells.{HasShape, counters_of, places_of, zones_of, val
 use Rattle.vms_core.specs.Changes.{differential_after}
 use Rattle.vms_core.specs.Conditions.{Meets, Owns}
 use Rattle.vms_core.specs.Steps.{turn, effect, effect_of, own_effect}
-use Rattle.vms_core.proofs.CellLemmas.{get_or-added, get_or-set_cell, get_or-zeroed_cells, length-zeroed}
+use Rattle.vms_core.proofs.CellLemmas.{get_or-zeroed_cells, length-zeroed}
 
 -- a step leaves the lengths of all lists
 HasShape-effect_of : (shape : Shape) (step : Step) (s : State) → HasShape shape s → HasShape shape (effect_of step s)
-HasShape-effect_of shape (AddG k a) s shaped = assumption (length-set s.place k.number (value_at s k.number +ℤ a) ∙ shaped.place)
-HasShape-effect_of shape (AddS i a) s shaped = assumption (length-set s.system i.number (system_at s i.number +ℤ a) ∙ shaped.system)
+HasShape-effect_of shape (AddG k a) s shaped =
+    assumption (length-set s.place k.number (value_at s k.number +ℤ a) ∙ shaped.place)
+HasShape-effect_of shape (AddS i a) s shaped =
+    assumption (length-set s.system i.number (system_at s i.number +ℤ a) ∙ shaped.system)
 HasShape-effect_of shape (Take c j w) s shaped =
     assumption (length-zeroed s.diff (cell (counters_of s) c.number (8 * j.number)) 8 ∙ shaped.diff)
 HasShape-effect_of shape (SetT c g t) s shaped = assumption (
@@ -33,9 +36,11 @@ HasShape-effect_of shape (SetM g m) s shaped = assumption (
 HasShape-effect_of shape (SetO c) s shaped = assumption (length-set s.cpu c.number Absent ∙ shaped.cpu)
 HasShape-effect_of shape _ s shaped = shaped
 
-HasShape-own_effect : (shape : Shape) (c : CpuId) (step : Step) (s : State) → HasShape shape s → HasShape shape (own_effect c step s)
+HasShape-own_effect : (shape : Shape) (c : CpuId) (step : Step) (s : State) → HasShape shape s
+    → HasShape shape (own_effect c step s)
 HasShape-own_effect shape c (Put k w t delta how) s shaped =
-    assumption (length-set s.diff (cell (counters_of s) c.number k.number) (differential_after how t (entry w.values k.number) delta)
+    assumption (length-set s.diff (cell (counters_of s) c.number k.number)
+    (differential_after how t (entry w.values k.number) delta)
     ∙ shaped.diff)
 HasShape-own_effect shape c (SetA g a) s shaped =
     assumption (length-set s.acknowledged (cell (zones_of s) c.number g.number) (Some a) ∙ shaped.acknowledged)
@@ -79,7 +84,8 @@ module _ (shape : Shape) (s : State) (shaped : HasShape shape s) where
   diff_at-with_diff : (d l : ℕ) (v : ℤ) (c k : ℕ) → IsCpu shape d → IsCounter shape l → IsCounter shape k
       → diff_at (with_diff s d l v) c k ≡ (if nat_eq d c && nat_eq l k then v else diff_at s c k)
   diff_at-with_diff d l v c k d_in l_in k_in =
-      get_or-set_cell (counters_of s) shape.cpus s.diff d l c k v (pos 0) diffs-full d_in (rw shaped.place l_in) (rw shaped.place k_in)
+      get_or-set_cell (counters_of s) shape.cpus s.diff d l c k v (pos 0) diffs-full d_in (rw shaped.place l_in)
+      (rw shaped.place k_in)
 
   diff_at-with_group_zeroed : (d j c k : ℕ) → IsCpu shape d → IsGroup shape j → IsCounter shape k
       → diff_at (with_group_zeroed s d j) c k ≡ (if nat_eq d c && nat_eq j (group_of k) then pos 0 else diff_at s c k)
@@ -95,27 +101,34 @@ module _ (facts : Facts) (h : List (Event Step)) (s : State) (p : ℕ) (shaped :
       → IsCounter facts.layout k → diff_at (effect facts who step s) c k ≡ diff_after who c k step (diff_at s c k)
   diff_at-effect (Some o) (Put l w t delta how) c k is meets k_in =
       let same = owned o meets.cpu is meets.owns in
-      diff_at-with_diff facts.layout s shaped o.number l.number (differential_after how t (entry w.values l.number) delta) c k
+      diff_at-with_diff facts.layout s shaped o.number l.number
+      (differential_after how t (entry w.values l.number) delta) c k
       (rw same at meets.owns.within) meets.counter k_in
   diff_at-effect (Some o) (Take d j w) c k is meets k_in =
       diff_at-with_group_zeroed facts.layout s shaped d.number j.number c k meets.cpu meets.group k_in
   diff_at-effect None (Take d j w) c k is meets k_in =
       diff_at-with_group_zeroed facts.layout s shaped d.number j.number c k meets.cpu meets.group k_in
-  diff_at-effect (Some o) (AddG l a) c k is meets k_in = diff_at-with_value facts.layout s shaped l.number (value_at s l.number +ℤ a) c k
-  diff_at-effect None (AddG l a) c k is meets k_in = diff_at-with_value facts.layout s shaped l.number (value_at s l.number +ℤ a) c k
+  diff_at-effect (Some o) (AddG l a) c k is meets k_in =
+      diff_at-with_value facts.layout s shaped l.number (value_at s l.number +ℤ a) c k
+  diff_at-effect None (AddG l a) c k is meets k_in =
+      diff_at-with_value facts.layout s shaped l.number (value_at s l.number +ℤ a) c k
   diff_at-effect None _ c k is meets k_in = refl
   diff_at-effect (Some o) _ c k is meets k_in = refl
 
   pub value_at-effect : (who : Option CpuId) (step : Step) (k : ℕ) → Meets facts h s p step
       → value_at (effect facts who step s) k ≡ value_after k step (value_at s k)
-  value_at-effect None (AddG l a) k meets = get_or-added s.place l.number k a (rw shaped.place meets.counter)
-  value_at-effect (Some o) (AddG l a) k meets = get_or-added s.place l.number k a (rw shaped.place meets.counter)
+  value_at-effect None (AddG l a) k meets =
+      get_or-changed (λ v. v +ℤ a) s.place l.number k (pos 0) (rw shaped.place meets.counter)
+  value_at-effect (Some o) (AddG l a) k meets =
+      get_or-changed (λ v. v +ℤ a) s.place l.number k (pos 0) (rw shaped.place meets.counter)
   value_at-effect None _ k meets = refl
   value_at-effect (Some o) _ k meets = refl
 
   pub system_at-effect : (who : Option CpuId) (step : Step) (i : ℕ) → Meets facts h s p step
       → system_at (effect facts who step s) i ≡ system_after i step (system_at s i)
-  system_at-effect None (AddS l a) i meets = get_or-added s.system l.number i a (rw shaped.system meets.item)
-  system_at-effect (Some o) (AddS l a) i meets = get_or-added s.system l.number i a (rw shaped.system meets.item)
+  system_at-effect None (AddS l a) i meets =
+      get_or-changed (λ v. v +ℤ a) s.system l.number i (pos 0) (rw shaped.system meets.item)
+  system_at-effect (Some o) (AddS l a) i meets =
+      get_or-changed (λ v. v +ℤ a) s.system l.number i (pos 0) (rw shaped.system meets.item)
   system_at-effect None _ i meets = refl
   system_at-effect (Some o) _ i meets = refl

@@ -6,6 +6,7 @@ use Rattle.vms_base.specs.declared.ids.CpuId.{CpuId}
 use Rattle.vms_base.specs.declared.ids.GroupId.{GroupId}
 use Rattle.vms_base.specs.declared.kinds.Mode.{Mode}
 use Rattle.vms_base.specs.Places.{IsGroup, place_of, group_of}
+use Rattle.vms_base.proofs.Counts.{group_of-lt}
 use Rattle.vms_history.specs.Events.{own}
 use Rattle.vms_history.specs.Legal.{Acts}
 use Rattle.vms_history.specs.Passes.Turn.{Works}
@@ -18,7 +19,6 @@ use Rattle.vms_core.specs.Conditions.{Owns}
 use Rattle.vms_core.specs.Knowledge.{MayExchange, GoesOnWithout, StandsOrTaken}
 use Rattle.vms_core.specs.Own.{found, loaded, CarriesNothing}
 use Rattle.vms_core.specs.Pages.{pages, History, IsLegal, state_after}
-use Rattle.vms_core.proofs.CounterRanges.{group_known}
 use Rattle.vms_core.proofs.LiveOwners.{owned-online, found-stands}
 use Rattle.vms_core.proofs.Watching.{owner-knows}
 
@@ -33,7 +33,7 @@ module _ (facts : Facts) (h : History) (p : ℕ) (cpu : CpuId) (k : CounterId) (
       ((λ main. let some = given.0 in absurd (omega arith)), may.owner.lives)
 
   group_in : IsGroup facts.layout (group_of k.number)
-  group_in = group_known facts.layout (base_can_begin pages facts h may.legal).layout k.number may.counter
+  group_in = group_of-lt facts.layout (base_can_begin pages facts h may.legal).layout k.number may.counter
 
   stands : StandsOrTaken (state_after facts h) cpu.number (group_of k.number) w.values
   stands = found-stands facts h may.legal p cpu (group_of k.number) w.values may.owner group_in may.eight may.as_found
@@ -71,16 +71,20 @@ module _ (facts : Facts) (h : History) (p : ℕ) (cpu : CpuId) (k : CounterId) (
           group = subst (IsGroup facts.layout) (sym same) group_in;
           zeros = subst (λ n. TellsGroup (state_after facts h) cpu.number n eight_zeros) (sym same) zeros;
           as_found = subst (λ n. found cpu n (own h p) ≡ Some w.values) (sym same) may.as_found;
-          other = λ none. lost (subst (TellsGroup (state_after facts h) cpu.number (group_of k.number)) (sym none) zeros);
+          other = λ none. lost
+              (subst (TellsGroup (state_after facts h) cpu.number (group_of k.number)) (sym none) zeros);
         },
       )
 
   pub zeros-win : w.values ≡ eight_zeros → TellsGroup (state_after facts h) cpu.number (group_of k.number) w.values
   zeros-win none =
-      ⊎_elim (λ told. told) (λ taken. subst (TellsGroup (state_after facts h) cpu.number (group_of k.number)) (sym none) taken) stands
+      ⊎_elim (λ told. told)
+      (λ taken. subst (TellsGroup (state_after facts h) cpu.number (group_of k.number)) (sym none) taken) stands
 
-pub MayExchange-goes_on : (facts : Facts) (later earlier : History) (p : ℕ) (cpu : CpuId) (k : CounterId) (w : Diffs) (t : ℕ) (delta : ℤ)
-    → GoesOnWithout facts later earlier p → MayExchange facts earlier p cpu k w t delta → MayExchange facts later p cpu k w t delta
+pub MayExchange-goes_on : (facts : Facts) (later earlier : History) (p : ℕ) (cpu : CpuId) (k : CounterId) (w : Diffs)
+    (t : ℕ) (delta : ℤ)
+    → GoesOnWithout facts later earlier p → MayExchange facts earlier p cpu k w t delta
+    → MayExchange facts later p cpu k w t delta
 MayExchange-goes_on facts later earlier p cpu k w t delta goes may =
     let knows = owner-knows facts later earlier p cpu goes may.owner.owner in
     let same = goes.own_same in

@@ -13,8 +13,8 @@ use Rattle.vms_history.specs.Events.{total, after}
 use Rattle.vms_core.specs.declared.steps.Step.{Step}
 use Rattle.vms_core.specs.declared.steps.Step.TheVariants.{LoadT, SetA}
 use Rattle.vms_core.specs.Lists.{in_turn}
-use Rattle.vms_core.specs.Own.{moved, moved_of_item}
-use Rattle.vms_core.specs.Folding.{FoundPlace, HasGroups, IsFold, CarriesAsBefore, to_place, to_system, group_steps, place_steps, system_steps, acknowledges, lists_of, entries_of, taken_of_item}
+use Rattle.vms_core.specs.Own.{moved, moved_of_item, entries_of}
+use Rattle.vms_core.specs.Folding.{FoundPlace, HasGroups, IsFold, CarriesAsBefore, to_place, to_system, group_steps, place_steps, system_steps, acknowledges, lists_of, taken_of_item}
 
 -- the sum of a measure of steps
 abbrev sum_steps : (Step → ℤ) → List Step → ℤ

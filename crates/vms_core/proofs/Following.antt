@@ -1,5 +1,5 @@
 -- A change that meets no other caller follows any legal history in which its pass may make it.
-use Rattle.std.proofs.Common.{◌≡◌, ◌≢◌, ℕ, zero, suc, ◌+◌, nat_eq, ◌&&◌, Bool, true, false, ℤ, pos, negsuc, ◌+ℤ◌, List, [], ◌∷◌, Some, refl, sym, ap, ◌∙◌, subst, arith, eq-eqb, if◌then◌else◌, unsigned_abs, ◌⊎◌, inl, inr, ⊎_elim}
+use Rattle.std.proofs.Common.{◌≡◌, ◌≢◌, ℕ, ◌+◌, nat_eq, ◌&&◌, Bool, true, false, ℤ, pos, ◌+ℤ◌, List, [], ◌∷◌, Some, refl, sym, ap, ◌∙◌, subst, arith, eq-eqb, if◌then◌else◌, unsigned_abs, ⊎_elim}
 use Rattle.std.specs.Prelude.{neg_ℤ}
 use Rattle.std.proofs.lemmas.Int.{ints}
 use Rattle.std.proofs.lemmas.List.Elements.{All-from_recursion}
@@ -9,14 +9,15 @@ use Rattle.vms_base.specs.declared.ids.CpuId.{CpuId}
 use Rattle.vms_base.specs.declared.kinds.CpuState.TheVariants.{Online}
 use Rattle.vms_base.specs.declared.kinds.Mode.{Mode}
 use Rattle.vms_base.specs.Places.{IsLayout, place_of, group_of, item_of}
+use Rattle.vms_base.proofs.Counts.{place_of-lt, group_of-lt, item_of-lt}
 use Rattle.vms_history.specs.declared.events.Event.{Event}
 use Rattle.vms_history.specs.Events.{own}
 use Rattle.vms_history.specs.Passes.Turn.{Works}
 use Rattle.vms_history.proofs.Own.{own-after_others}
 use Rattle.vms_history.proofs.Prefixes.{base_can_begin}
-use Rattle.vms_core.proofs.CounterRanges.{place_known, group_known, item_known}
 use Rattle.vms_core.proofs.WorkerSteps.{event, Stands, Stands-next, owner_now, spent-next}
 use Rattle.vms_core.proofs.WithChange.{with_carried-nothing, with_change-steps}
+use Rattle.vms_history.proofs.Choices.{zero_or_not}
 use Rattle.vms_core.specs.declared.states.State.{State}
 use Rattle.vms_core.specs.declared.steps.Facts.{Facts}
 use Rattle.vms_core.specs.declared.steps.Step.{Step}
@@ -32,11 +33,6 @@ use Rattle.vms_core.specs.Own.{CarriesNothing, carried, carried_of_item, found, 
 use Rattle.vms_core.specs.Pages.{pages, History, state_after}
 use Rattle.vms_core.specs.Steps.{turn, own_effect, effect_of}
 use Rattle.vms_core.specs.Totals.{spent, spent_by}
-
-zero_or : (z : ℤ) → (z ≡ pos 0) ⊎ (z ≢ pos 0)
-zero_or (pos zero) = inl refl
-zero_or (pos (suc n)) = inr (λ e. omega (arith, ints))
-zero_or (negsuc n) = inr (λ e. omega (arith, ints))
 
 -- an amount that is moved where b is true, and added where b is true
 cancel : (b : Bool) (z rest : ℤ) → rest ≡ pos 0
@@ -99,7 +95,7 @@ module _ (facts : Facts) (h : History) (p : ℕ) (cpu : CpuId) (k : CounterId) (
   after_threshold = next (own h p) s h load_t refl start (record {
     cpu = cpu;
     owns = owned (own h p) s h start;
-    place = place_known facts.layout is_layout k.number may.counter_known;
+    place = place_of-lt facts.layout is_layout k.number may.counter_known;
     value = t_told;
     number = number_told;
   })
@@ -107,14 +103,15 @@ module _ (facts : Facts) (h : History) (p : ℕ) (cpu : CpuId) (k : CounterId) (
   after_diffs : Now (made load_d ∷ made load_t ∷ own h p) s (made load_d ∷ made load_t ∷ h)
   after_diffs = next (made load_t ∷ own h p) s (made load_t ∷ h) load_d refl after_threshold (record {
     cpu = may.cpu_known;
-    group = group_known facts.layout is_layout k.number may.counter_known;
+    group = group_of-lt facts.layout is_layout k.number may.counter_known;
     values = told;
   })
 
   found_there : found cpu (group_of k.number) (made load_d ∷ made load_t ∷ own h p) ≡ Some w.values
   found_there = rw (eq-eqb cpu.number cpu.number refl, eq-eqb (group_of k.number) (group_of k.number) refl)
 
-  loaded_there : loaded (place_of facts.layout k.number) (made load_d ∷ made load_t ∷ own h p) ≡ Some (record { t = t; number = number })
+  loaded_there : loaded (place_of facts.layout k.number) (made load_d ∷ made load_t ∷ own h p)
+      ≡ Some (record { t = t; number = number })
   loaded_there = rw (eq-eqb (place_of facts.layout k.number) (place_of facts.layout k.number) refl)
 
   nothing_yet : CarriesNothing facts.layout (made load_d ∷ made load_t ∷ own h p)
@@ -142,7 +139,8 @@ module _ (facts : Facts) (h : History) (p : ℕ) (cpu : CpuId) (k : CounterId) (
         number = number;
         as_loaded = ap (loaded (place_of facts.layout k.number)) after_diffs.mine_is ∙ loaded_there;
         online = subst (λ (now : State). cpu_at now cpu.number ≡ Online) s_is may.online;
-        nothing_carried = subst (λ (mine : History). CarriesNothing facts.layout mine) (sym after_diffs.mine_is) nothing_yet;
+        nothing_carried = subst (λ (mine : History). CarriesNothing facts.layout mine)
+            (sym after_diffs.mine_is) nothing_yet;
         affordable = rw spent_yet may.affordable;
       })
 
@@ -154,7 +152,8 @@ module _ (facts : Facts) (h : History) (p : ℕ) (cpu : CpuId) (k : CounterId) (
       ∙ ap (λ n. (if nat_eq cpu.number c && nat_eq k.number l then unsigned_abs delta else 0) + n) (spent_yet c l)
       ∙ by (nat_eq cpu.number c && nat_eq k.number l)
     where
-      by : (b : Bool) → (if b then unsigned_abs delta else 0) + spent h c l ≡ (if b then unsigned_abs delta + spent h c l else spent h c l)
+      by : (b : Bool) → (if b then unsigned_abs delta else 0) + spent h c l
+          ≡ (if b then unsigned_abs delta + spent h c l else spent h c l)
       by true = refl
       by false = omega arith
 
@@ -183,8 +182,10 @@ module _ (facts : Facts) (h : History) (p : ℕ) (cpu : CpuId) (k : CounterId) (
       legal = after_put.legal;
       state = after_put.state_is ∙ sym (with_carried-nothing facts.layout k.number z changed none) ∙ state_next;
       nothing_carried = subst (λ (mine : History). CarriesNothing facts.layout mine) (sym after_put.mine_is) (record {
-        counters = λ l. if_zero (nat_eq k.number l) z (carried l (made load_d ∷ made load_t ∷ own h p)) none (nothing_yet.counters l);
-        items = λ i. if_zero (nat_eq (item_of facts.layout k.number) i) z (carried_of_item facts.layout i (made load_d ∷ made load_t ∷ own h p)) none (nothing_yet.items i);
+        counters = λ l. if_zero (nat_eq k.number l) z (carried l (made load_d ∷ made load_t ∷ own h p)) none
+            (nothing_yet.counters l);
+        items = λ i. if_zero (nat_eq (item_of facts.layout k.number) i) z
+            (carried_of_item facts.layout i (made load_d ∷ made load_t ∷ own h p)) none (nothing_yet.items i);
       });
       others = λ q other. own-after_others p (load_t ∷ load_d ∷ put ∷ []) h q other;
       spends = spent_then;
@@ -222,9 +223,11 @@ module _ (facts : Facts) (h : History) (p : ℕ) (cpu : CpuId) (k : CounterId) (
     after_system : Now (made add_s ∷ made add_g ∷ mine_then)
         (with_carried facts.layout k.number z changed) (made add_s ∷ made add_g ∷ history_then)
     after_system = next (made add_g ∷ mine_then)
-        (with_value changed k.number (value_at changed k.number +ℤ z)) (made add_g ∷ history_then) add_s refl after_place (record {
-          item = item_known facts.layout is_layout k.number may.counter_known;
-          carries = ap (carried_of_item facts.layout (item_of facts.layout k.number)) after_place.mine_is ∙ carries_z_of_item;
+        (with_value changed k.number (value_at changed k.number +ℤ z))
+        (made add_g ∷ history_then) add_s refl after_place (record {
+          item = item_of-lt facts.layout is_layout k.number;
+          carries = ap (carried_of_item facts.layout (item_of facts.layout k.number)) after_place.mine_is
+              ∙ carries_z_of_item;
           some = some;
         })
 
@@ -247,22 +250,35 @@ module _ (facts : Facts) (h : History) (p : ℕ) (cpu : CpuId) (k : CounterId) (
       };
       legal = after_system.legal;
       state = after_system.state_is ∙ state_next;
-      nothing_carried = subst (λ (mine : History). CarriesNothing facts.layout mine) (sym after_system.mine_is) (record {
-        counters = λ l. omega (arith, ints, cancel (nat_eq k.number l) z (carried l (made load_d ∷ made load_t ∷ own h p)) (nothing_yet.counters l));
-        items = λ i. omega (arith, ints, cancel (nat_eq (item_of facts.layout k.number) i) z (carried_of_item facts.layout i (made load_d ∷ made load_t ∷ own h p)) (nothing_yet.items i));
-      });
+      nothing_carried = subst (λ (mine : History). CarriesNothing facts.layout mine) (sym after_system.mine_is)
+          (record {
+            counters = λ l. omega (
+              arith,
+              ints,
+              cancel (nat_eq k.number l) z (carried l (made load_d ∷ made load_t ∷ own h p))
+                  (nothing_yet.counters l),
+            );
+            items = λ i. omega (
+              arith,
+              ints,
+              cancel (nat_eq (item_of facts.layout k.number) i) z
+                  (carried_of_item facts.layout i (made load_d ∷ made load_t ∷ own h p)) (nothing_yet.items i),
+            );
+          });
       others = λ q other. own-after_others p (load_t ∷ load_d ∷ put ∷ add_g ∷ add_s ∷ []) h q other;
       spends = λ c l. omega (
         arith,
         spent_next (made add_g ∷ mine_then)
-            (with_value changed k.number (value_at changed k.number +ℤ z)) (made add_g ∷ history_then) add_s after_place c l,
+            (with_value changed k.number (value_at changed k.number +ℤ z))
+            (made add_g ∷ history_then) add_s after_place c l,
         spent_next mine_then changed history_then add_g after_put c l,
         spent_then c l,
       );
     }
 
-  pub follows_alone : (more : List Step) × FollowsAlone facts h p cpu k delta how more (with_change facts.layout cpu.number k.number delta how s)
+  pub follows_alone : (more : List Step) × FollowsAlone facts h p cpu k delta how more
+      (with_change facts.layout cpu.number k.number delta how s)
   follows_alone = ⊎_elim
       (λ (none : z ≡ pos 0). (load_t ∷ load_d ∷ put ∷ [], without_additions none))
       (λ (some : z ≢ pos 0). (load_t ∷ load_d ∷ put ∷ add_g some ∷ add_s some ∷ [], with_additions some))
-      (zero_or z)
+      (zero_or_not z)

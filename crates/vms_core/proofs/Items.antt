@@ -12,6 +12,7 @@ use Rattle.vms_base.specs.Places.{Shape, cell, IsCounter, group_of, first_of, it
 use Rattle.vms_history.specs.Events.{total}
 use Rattle.vms_history.specs.Passes.{owner_in, begun_in}
 use Rattle.vms_history.specs.Sums.{sum_below}
+use Rattle.vms_history.proofs.Choices.{if-same, if-cancels}
 use Rattle.vms_history.proofs.SumLaws.{sum_below-same, sum_below-sum, sum_below-zeros}
 use Rattle.vms_history.proofs.CallerSums.{total-by_caller}
 use Rattle.vms_core.specs.declared.states.State.{State}
@@ -32,7 +33,8 @@ use Rattle.vms_core.proofs.Sums.{entry-told, differentials-write, put-adds_up, a
 
 pub sum_below-split : (f : ℕ → ℤ) (m n : ℕ) → sum_below f (m + n) ≡ sum_below f m +ℤ sum_below (λ i. f (m + i)) n
 sum_below-split f m zero = let e : m + 0 ≡ m = omega arith in rw e (omega (arith, ints))
-sum_below-split f m (suc n) = let e : m + suc n ≡ suc (m + n) = omega arith in rw e (omega (arith, ints, sum_below-split f m n))
+sum_below-split f m (suc n) = let e : m + suc n ≡ suc (m + n) = omega arith in
+    rw e (omega (arith, ints, sum_below-split f m n))
 
 -- a sum is that of the part outside of which it has zeros
 sum_below-part : (f : ℕ → ℤ) (start m n : ℕ) → start + m ≤ n
@@ -41,16 +43,13 @@ sum_below-part f start m n within zeros =
     let rest = n - (start + m) in
     let all : n ≡ (start + m) + rest = omega arith in
     let before = sum_below-zeros f start (λ k less. zeros k (inl less)) in
-    let behind = sum_below-zeros (λ i. f ((start + m) + i)) rest (λ i less. zeros ((start + m) + i) (inr (omega arith))) in
+    let behind = sum_below-zeros (λ i. f ((start + m) + i)) rest
+    (λ i less. zeros ((start + m) + i) (inr (omega arith))) in
     rw all (omega (arith, ints, sum_below-split f (start + m) rest, sum_below-split f start m, before, behind))
 
 pub if-sum : (b : Bool) (x y : ℤ) → (if b then x +ℤ y else pos 0) ≡ (if b then x else pos 0) +ℤ (if b then y else pos 0)
 if-sum true x y = refl
 if-sum false x y = refl
-
-if-zero : (b : Bool) → (if b then pos 0 else pos 0) ≡ pos 0
-if-zero true = refl
-if-zero false = refl
 
 -- where each counter's differentials change, those of an item change by the sum over its counters
 differentials_of_item-change : (shape : Shape) (s s' : State) (i : ℕ) (change : ℕ → ℤ)
@@ -59,7 +58,8 @@ differentials_of_item-change : (shape : Shape) (s s' : State) (i : ℕ) (change 
     +ℤ sum_below (λ k. if nat_eq (item_of shape k) i then change k else pos 0) (counter_count shape)
 differentials_of_item-change shape s s' i change changed =
     sum_below-same (λ k. if nat_eq (item_of shape k) i then differentials shape s' k else pos 0)
-    (λ k. (if nat_eq (item_of shape k) i then differentials shape s k else pos 0) +ℤ (if nat_eq (item_of shape k) i then change k else pos 0))
+    (λ k. (if nat_eq (item_of shape k) i then differentials shape s k else pos 0) +ℤ
+    (if nat_eq (item_of shape k) i then change k else pos 0))
     (counter_count shape)
     (λ k k_in. ap (λ z. if nat_eq (item_of shape k) i then z else pos 0) (changed k k_in)
     ∙ if-sum (nat_eq (item_of shape k) i) (differentials shape s k) (change k))
@@ -74,7 +74,7 @@ module _ (is_in : ℕ → Bool) (n : ℕ) where
       let change : ℕ → ℤ = λ k. if is_in k then (if nat_eq l k then v else pos 0) else pos 0 in
       let part = sum_below-part change l 1 n (omega arith) (λ k other.
       let differ : nat_eq l k ≡ false = ne_eqb l k (⊎_elim (λ below e. omega arith) (λ above e. omega arith) other) in
-      rw differ (if-zero (is_in k))) in
+      rw differ (if-same (is_in k) (pos 0))) in
       let here : change (l + 0) ≡ (if is_in l then v else pos 0) =
       (let at : l + 0 ≡ l = omega arith in let same : nat_eq l l ≡ true = eq-eqb l l refl in rw (at, same) refl) in
       omega (arith, ints, part, here)
@@ -86,9 +86,11 @@ module _ (is_in : ℕ → Bool) (n : ℕ) where
   group_change j f j_in =
       let change : ℕ → ℤ = λ k. if is_in k then (if nat_eq j (group_of k) then f k else pos 0) else pos 0 in
       let part = sum_below-part change (8 * j) 8 n (group-within n j j_in) (λ k other.
-      let differ : nat_eq j (k / 8) ≡ false = ne_eqb j (k / 8) (⊎_elim (λ below e. omega arith) (λ above e. omega arith) other) in
-      rw differ (if-zero (is_in k))) in
-      part ∙ sum_below-same (λ i. change (8 * j + i)) (λ i. if is_in (8 * j + i) then f (8 * j + i) else pos 0) 8 (λ i less.
+      let differ : nat_eq j (k / 8) ≡ false =
+      ne_eqb j (k / 8) (⊎_elim (λ below e. omega arith) (λ above e. omega arith) other) in
+      rw differ (if-same (is_in k) (pos 0))) in
+      part ∙ sum_below-same (λ i. change (8 * j + i)) (λ i. if is_in (8 * j + i) then f (8 * j + i) else pos 0) 8
+      (λ i less.
       let same : nat_eq j ((8 * j + i) / 8) ≡ true = eq-eqb j ((8 * j + i) / 8) (omega arith) in rw same refl)
 
 at_one : (l k : ℕ) (f : ℕ → ℤ) → (if nat_eq l k then f k else pos 0) ≡ (if nat_eq l k then f l else pos 0)
@@ -98,14 +100,11 @@ at_one l k f = by (nat_eq l k) refl
     by true same = ap f (sym (eqb-true l k same))
     by false differ = refl
 
-cancels : (b : Bool) (x y : ℤ) → y ≡ x → (if b then pos 0 -ℤ x else pos 0) +ℤ (if b then y else pos 0) ≡ pos 0
-cancels true x y same = omega (arith, ints)
-cancels false x y same = refl
-
 module _ (facts : Facts) (h : History) (s : State) (p : ℕ) (shaped : HasShape facts.layout s) (i : ℕ) where
   -- what the system-wide value, the differentials and a step add up to in a state after it
   abbrev AddsUp : State → Step → Type 0
-  AddsUp after step = (system_at after i +ℤ differentials_of_item facts.layout after i) +ℤ moved_of_item facts.layout i step
+  AddsUp after step = (system_at after i +ℤ differentials_of_item facts.layout after i)
+      +ℤ moved_of_item facts.layout i step
       ≡ (system_at s i +ℤ differentials_of_item facts.layout s i) +ℤ change_of_item facts.layout i step
 
   AddsUp-put : (o : CpuId) (l : CounterId) (w : Diffs) (t : ℕ) (delta : ℤ) (how : Mode) → owner_in turn h p ≡ Some o
@@ -122,14 +121,21 @@ module _ (facts : Facts) (h : History) (s : State) (p : ℕ) (shaped : HasShape 
       rw same at (entry-told s puts.cpu.number (group_of l.number) l.number w.values puts.values refl) in
       let kept : nat_eq (item_of shape l.number) i ≡ true → after +ℤ moving ≡ found +ℤ delta = λ here.
       differential_after-carried_by how t (entry w.values l.number) delta ∙ ap (λ z. z +ℤ delta) told in
-      let changed = differentials_of_item-change shape s s' i (λ k. if nat_eq l.number k then after -ℤ found else pos 0) (λ k k_in.
+      let changed = differentials_of_item-change shape s s' i
+      (λ k. if nat_eq l.number k then after -ℤ found else pos 0) (λ k k_in.
       differentials-write shape s s' k o.number (nat_eq l.number k) after (rw same at puts.owns.within)
       (λ c. diff_at-effect facts h s p shaped (Some o) step c k is puts k_in)
       ∙ ap (λ z. differentials shape s k +ℤ z) (at_one l.number k (λ n. after -ℤ diff_at s o.number n))) in
-      rw (changed, one_change (λ k. nat_eq (item_of shape k) i) (counter_count shape) l.number (after -ℤ found) puts.counter)
-      (put-adds_up (nat_eq (item_of shape l.number) i) (system_at s i) found after moving delta kept (differentials_of_item shape s i))
+      rw (
+        changed,
+        one_change (λ k. nat_eq (item_of shape k) i) (counter_count shape) l.number
+            (after -ℤ found) puts.counter,
+      )
+      (put-adds_up (nat_eq (item_of shape l.number) i) (system_at s i) found after moving delta kept
+      (differentials_of_item shape s i))
 
-  AddsUp-take : (d : CpuId) (j : GroupId) (w : Diffs) (after : State) → FindsGroup facts s d j w → system_at after i ≡ system_at s i
+  AddsUp-take : (d : CpuId) (j : GroupId) (w : Diffs) (after : State) → FindsGroup facts s d j w
+      → system_at after i ≡ system_at s i
       → ((c k : ℕ) → IsCounter facts.layout k
       → diff_at after c k ≡ (if nat_eq d.number c && nat_eq j.number (group_of k) then pos 0 else diff_at s c k))
       → AddsUp after (Take d j w)
@@ -137,16 +143,22 @@ module _ (facts : Facts) (h : History) (s : State) (p : ℕ) (shaped : HasShape 
       let shape = facts.layout in
       let is_in : ℕ → Bool = λ k. nat_eq (item_of shape k) i in
       let out : ℕ → ℤ = λ k. pos 0 -ℤ diff_at s d.number k in
-      let changed = differentials_of_item-change shape s after i (λ k. if nat_eq j.number (group_of k) then out k else pos 0) (λ k k_in.
-      differentials-write shape s after k d.number (nat_eq j.number (group_of k)) (pos 0) finds.cpu (λ c. write c k k_in)) in
+      let changed = differentials_of_item-change shape s after i
+      (λ k. if nat_eq j.number (group_of k) then out k else pos 0) (λ k k_in.
+      differentials-write shape s after k d.number (nat_eq j.number (group_of k)) (pos 0) finds.cpu
+      (λ c. write c k k_in)) in
       let group = group_change is_in (counter_count shape) j.number out finds.group in
       let first : ℕ → ℤ = λ n. if is_in (first_of j.number + n) then out (first_of j.number + n) else pos 0 in
       let second : ℕ → ℤ = λ n. if is_in (first_of j.number + n) then get_or w.values n (pos 0) else pos 0 in
-      let none : sum_below (λ n. first n +ℤ second n) 8 ≡ pos 0 = sum_below-zeros (λ n. first n +ℤ second n) 8 (λ n less.
-      cancels (is_in (first_of j.number + n)) (diff_at s d.number (first_of j.number + n)) (get_or w.values n (pos 0)) (finds.values n less)) in
+      let none : sum_below (λ n. first n +ℤ second n) 8 ≡ pos 0 =
+      sum_below-zeros (λ n. first n +ℤ second n) 8 (λ n less.
+      if-cancels (is_in (first_of j.number + n)) (diff_at s d.number (first_of j.number + n))
+      (get_or w.values n (pos 0))
+      (λ here. finds.values n less)) in
       rw system_same (omega (arith, ints, changed, group, none, sum_below-sum first second 8))
 
-  AddsUp-addition : (l : ItemId) (a : ℤ) (after : State) → system_at after i ≡ (if nat_eq l.number i then system_at s i +ℤ a else system_at s i)
+  AddsUp-addition : (l : ItemId) (a : ℤ) (after : State)
+      → system_at after i ≡ (if nat_eq l.number i then system_at s i +ℤ a else system_at s i)
       → differentials_of_item facts.layout after i ≡ differentials_of_item facts.layout s i → AddsUp after (AddS l a)
   AddsUp-addition l a after added same =
       rw (added, same) (addition-adds_up (nat_eq l.number i) (system_at s i) a (differentials_of_item facts.layout s i))
@@ -156,10 +168,12 @@ module _ (facts : Facts) (h : History) (s : State) (p : ℕ) (shaped : HasShape 
       → differentials_of_item facts.layout (with_value s k v) i ≡ differentials_of_item facts.layout s i
   differentials_of_item-with_value k v =
       ap (λ n. sum_below (λ l. if nat_eq (item_of facts.layout l) i
-      then sum_below (λ c. get_or s.diff (cell n c l) (pos 0)) facts.layout.cpus else pos 0) (counter_count facts.layout))
+      then sum_below (λ c. get_or s.diff (cell n c l) (pos 0)) facts.layout.cpus else pos 0)
+      (counter_count facts.layout))
       (length-set s.place k v)
 
-  AddsUp-step : (who : Option CpuId) (step : Step) → owner_in turn h p ≡ who → Meets facts h s p step → AddsUp (effect facts who step s) step
+  AddsUp-step : (who : Option CpuId) (step : Step) → owner_in turn h p ≡ who → Meets facts h s p step
+      → AddsUp (effect facts who step s) step
   AddsUp-step None (Put l w t delta how) is meets = let owner = meets.owns.owner in absurd cc
   AddsUp-step (Some o) (Put l w t delta how) is meets = AddsUp-put o l w t delta how is meets
   AddsUp-step None (Take d j w) is meets =
@@ -169,9 +183,11 @@ module _ (facts : Facts) (h : History) (s : State) (p : ℕ) (shaped : HasShape 
       AddsUp-take d j w (effect facts (Some o) (Take d j w) s) meets refl
       (λ c k. diff_at-effect facts h s p shaped (Some o) (Take d j w) c k is meets)
   AddsUp-step None (AddS l a) is meets =
-      AddsUp-addition l a (effect facts None (AddS l a) s) (system_at-effect facts h s p shaped None (AddS l a) i meets) refl
+      AddsUp-addition l a (effect facts None (AddS l a) s)
+      (system_at-effect facts h s p shaped None (AddS l a) i meets) refl
   AddsUp-step (Some o) (AddS l a) is meets =
-      AddsUp-addition l a (effect facts (Some o) (AddS l a) s) (system_at-effect facts h s p shaped (Some o) (AddS l a) i meets) refl
+      AddsUp-addition l a (effect facts (Some o) (AddS l a) s)
+      (system_at-effect facts h s p shaped (Some o) (AddS l a) i meets) refl
   AddsUp-step None (AddG l a) is meets =
       ap (λ z. (system_at s i +ℤ z) +ℤ pos 0) (differentials_of_item-with_value l.number (value_at s l.number +ℤ a))
   AddsUp-step (Some o) (AddG l a) is meets =

@@ -2,10 +2,10 @@
 use Rattle.std.proofs.Common.{◌≡◌, ℕ, ◌*◌, ◌^◌, ◌<◌, ◌≤◌, ℤ, pos, length, get_or, replicate, None, arith, unsigned_abs, ⊎_elim}
 use Rattle.std.proofs.lemmas.Bool.{cases_lt}
 use Rattle.std.proofs.lemmas.List.{get_or_past, get_or-replicate, length-replicate}
-use Rattle.std.proofs.lemmas.Nat.{mul-add-lt}
 use Rattle.vms_base.specs.declared.kinds.CpuState.TheVariants.{Online}
 use Rattle.vms_base.specs.Places.{Shape, IsLayout, IsCpu, IsPlace, cell, counter_count, item_count, place_count}
 use Rattle.vms_base.specs.Thresholds.{most_threshold}
+use Rattle.vms_base.proofs.Cells.{cell-lt}
 use Rattle.vms_core.specs.declared.states.State.{State}
 use Rattle.vms_core.specs.Bases.{IsOpening}
 use Rattle.vms_core.specs.Cells.{HasShape, places_of, threshold_at, cpu_at}
@@ -44,7 +44,7 @@ module _ (shape : Shape) (layout : IsLayout shape) (s : State) (value : ℤ) (t 
   threshold_is c g c_in g_in =
       rw (places_of-shaped shape s layout shaped, threshold)
       (get_or-replicate (shape.cpus * place_count shape) (cell (place_count shape) c g) t 0
-      (omega (arith, mul-add-lt c (place_count shape) g shape.cpus c_in g_in)))
+      (cell-lt (place_count shape) shape.cpus c g c_in g_in))
 
   pub IsOpening-level : IsOpening shape s
   IsOpening-level = record {
@@ -52,12 +52,16 @@ module _ (shape : Shape) (layout : IsLayout shape) (s : State) (value : ℤ) (t 
     some_online = (0, layout.cpus_least, first);
     values = λ k known. rw (place, get_or-replicate (counter_count shape) k value (pos 0) known) small;
     systems = λ i known. rw (system, get_or-replicate (item_count shape) i value (pos 0) known) small;
-    diffs = λ c k c_in k_in. rw (diff, get_or-copies (shape.cpus * counter_count shape) (cell (length s.place) c k) (pos 0)) (omega arith);
-    absent = λ c k c_in gone k_in. rw diff (get_or-copies (shape.cpus * counter_count shape) (cell (length s.place) c k) (pos 0));
+    diffs = λ c k c_in k_in.
+        rw (diff, get_or-copies (shape.cpus * counter_count shape) (cell (length s.place) c k) (pos 0)) (omega arith);
+    absent = λ c k c_in gone k_in.
+        rw diff (get_or-copies (shape.cpus * counter_count shape) (cell (length s.place) c k) (pos 0));
     thresholds = λ c g c_in g_in. rw (threshold_is c g c_in g_in) most;
     online = λ c g c_in is_online g_in. rw (threshold_is c g c_in g_in) least;
     marks = λ g known. rw (mark, get_or-copies {X = ℕ} (length shape.zones) g 0) (omega arith);
-    unacknowledged = λ c g c_in g_in. rw acknowledged (get_or-copies (shape.cpus * length shape.zones) (cell (length s.mark) c g) None);
-    unset_thresholds = λ c g c_in g_in. rw threshold_sets (get_or-copies {X = ℕ} (shape.cpus * place_count shape) (cell (places_of s) c g) 0);
+    unacknowledged = λ c g c_in g_in.
+        rw acknowledged (get_or-copies (shape.cpus * length shape.zones) (cell (length s.mark) c g) None);
+    unset_thresholds = λ c g c_in g_in.
+        rw threshold_sets (get_or-copies {X = ℕ} (shape.cpus * place_count shape) (cell (places_of s) c g) 0);
     unset_marks = λ g known. rw mark_sets (get_or-copies {X = ℕ} (length shape.zones) g 0);
   }

@@ -3,6 +3,7 @@ use Rattle.std.proofs.Common.{◌≡◌, ◌≢◌, ℕ, ◌+◌, ◌*◌, ◌/�
 use Rattle.std.proofs.Math.ListN.{set}
 use Rattle.std.proofs.lemmas.Bool.{and_parts, eqb-false, ne_eqb}
 use Rattle.std.proofs.lemmas.List.{get_or-replicate}
+use Rattle.std.proofs.lemmas.Option.{same_Some}
 use Rattle.vms_base.specs.declared.groups.Diffs.{Diffs}
 use Rattle.vms_base.specs.declared.ids.CounterId.{CounterId}
 use Rattle.vms_base.specs.declared.ids.CpuId.{CpuId}
@@ -12,8 +13,10 @@ use Rattle.vms_base.specs.Places.{IsGroup, group_of, counter_count}
 use Rattle.vms_history.specs.declared.events.Event.{Event}
 use Rattle.vms_history.specs.Events.{own}
 use Rattle.vms_history.specs.Passes.{owner_in}
+use Rattle.vms_history.proofs.Cells.{get_or-set}
+use Rattle.vms_history.proofs.Choices.{if-never}
 use Rattle.vms_history.proofs.Own.{own-mine, own-others}
-use Rattle.vms_history.proofs.PassLaws.{owner_in-not_given, owner_acts_alone}
+use Rattle.vms_history.proofs.Owners.{same_cpu, owner_may_own, owner_is_caller}
 use Rattle.vms_core.specs.declared.states.State.{State}
 use Rattle.vms_core.specs.declared.steps.Facts.{Facts}
 use Rattle.vms_core.specs.declared.steps.Step.{Step}
@@ -27,10 +30,9 @@ use Rattle.vms_core.specs.Pages.{pages, History, IsLegal, state_after}
 use Rattle.vms_core.specs.Peaks.{cpu_after}
 use Rattle.vms_core.specs.PeakLaws.{OwnsNow}
 use Rattle.vms_core.specs.Steps.{turn}
-use Rattle.vms_core.proofs.Owners.{owner-may_own, OwnsNow-before}
+use Rattle.vms_core.proofs.Owners.{OwnsNow-before}
 use Rattle.vms_core.proofs.Settings.{cpu_at-newest}
 use Rattle.vms_core.proofs.DeadCpus.{dead≢online}
-use Rattle.vms_core.proofs.CellLemmas.{get_or-set}
 use Rattle.vms_core.proofs.Effects.{owned, group-within, diff_after, diff_at-effect}
 use Rattle.vms_core.proofs.Shapes.{HasShape-state_after}
 
@@ -53,12 +55,8 @@ online-stays facts (e ∷ h) c legal online =
 
 pub owned-online : (facts : Facts) (h : History) → IsLegal facts h → OwnsOnline facts h
 owned-online facts h legal p c is =
-    let known = owner-may_own facts h legal p c is in
+    let known = owner_may_own pages facts h p c legal is in
     (known.0, online-stays facts h c.number legal known.1)
-
--- two names of one number are one CPU
-pub same_cpu : (d c : CpuId) → d.number ≡ c.number → d ≡ c
-same_cpu d c same = ap (λ n. let o : CpuId = record { number = n } in o) same
 
 -- the eight differentials of a group, from a state to the next
 module _ (s s' : State) (c : CpuId) (j : ℕ) where
@@ -70,7 +68,8 @@ module _ (s s' : State) (c : CpuId) (j : ℕ) where
 
   StandsOrTaken-same : (values : List ℤ) → Same → StandsOrTaken s c.number j values → StandsOrTaken s' c.number j values
   StandsOrTaken-same values same before =
-      ⊎_elim (λ stands. inl (TellsGroup-same values same stands)) (λ taken. inr (TellsGroup-same eight_zeros same taken)) before
+      ⊎_elim (λ stands. inl (TellsGroup-same values same stands))
+      (λ taken. inr (TellsGroup-same eight_zeros same taken)) before
 
   zeros-told : ((n : ℕ) → n < 8 → diff_at s' c.number (8 * j + n) ≡ pos 0) → TellsGroup s' c.number j eight_zeros
   zeros-told zeros n less = get_or-replicate 8 n (pos 0) (pos 0) less ∙ sym (zeros n less)
@@ -80,13 +79,10 @@ module _ (s s' : State) (c : CpuId) (j : ℕ) where
   Changes who step = (n : ℕ) → n < 8
       → diff_at s' c.number (8 * j + n) ≡ diff_after who c.number (8 * j + n) step (diff_at s c.number (8 * j + n))
 
-  if-same : {X : Type 0} (b : Bool) (x y : X) → (b ≡ true → ⊥) → (if b then x else y) ≡ y
-  if-same true x y never = absurd (never refl)
-  if-same false x y never = refl
-
   take-empties : (values : List ℤ) (d : CpuId) (i : GroupId)
       → ((n : ℕ) → n < 8 → diff_at s' c.number (8 * j + n)
-      ≡ (if nat_eq d.number c.number && nat_eq i.number (group_of (8 * j + n)) then pos 0 else diff_at s c.number (8 * j + n)))
+      ≡ (if nat_eq d.number c.number && nat_eq i.number (group_of (8 * j + n)) then pos 0
+      else diff_at s c.number (8 * j + n)))
       → StandsOrTaken s c.number j values → StandsOrTaken s' c.number j values
   take-empties values d i changes before = by (nat_eq d.number c.number && nat_eq i.number j) at_group
     where
@@ -94,7 +90,8 @@ module _ (s s' : State) (c : CpuId) (j : ℕ) where
           ≡ (if nat_eq d.number c.number && nat_eq i.number j then pos 0 else diff_at s c.number (8 * j + n))
       at_group n less = let at : (8 * j + n) / 8 ≡ j = omega arith in rw at at (changes n less)
 
-      by : (b : Bool) → ((n : ℕ) → n < 8 → diff_at s' c.number (8 * j + n) ≡ (if b then pos 0 else diff_at s c.number (8 * j + n)))
+      by : (b : Bool) → ((n : ℕ) → n < 8
+          → diff_at s' c.number (8 * j + n) ≡ (if b then pos 0 else diff_at s c.number (8 * j + n)))
           → StandsOrTaken s' c.number j values
       by true zeros = inr (zeros-told zeros)
       by false same = StandsOrTaken-same values same before
@@ -104,9 +101,12 @@ module _ (s s' : State) (c : CpuId) (j : ℕ) where
       → StandsOrTaken s c.number j values → StandsOrTaken s' c.number j values
   others-leave values (Some d) (Put l w t delta how) other changes before =
       StandsOrTaken-same values (λ n less. changes n less
-      ∙ if-same (nat_eq d.number c.number && nat_eq l.number (8 * j + n)) (differential_after how t (entry w.values l.number) delta)
+      ∙ if-never (nat_eq d.number c.number && nat_eq l.number (8 * j + n))
+      (differential_after how t (entry w.values l.number) delta)
       (diff_at s c.number (8 * j + n)) (λ here.
-      other (ap (λ (o : CpuId). Some o) (same_cpu d c (eqb-true d.number c.number (and_parts (nat_eq d.number c.number) (nat_eq l.number (8 * j + n)) here).0)))))
+      other (ap (λ (o : CpuId). Some o)
+      (same_cpu d c (eqb-true d.number c.number
+      (and_parts (nat_eq d.number c.number) (nat_eq l.number (8 * j + n)) here).0)))))
       before
   others-leave values (Some o) (Take d i w) other changes before = take-empties values d i changes before
   others-leave values None (Take d i w) other changes before = take-empties values d i changes before
@@ -116,17 +116,16 @@ module _ (s s' : State) (c : CpuId) (j : ℕ) where
 -- a step of the owner itself
 module _ (facts : Facts) (h : History) (s s' : State) (p : ℕ) (shaped : HasShape facts.layout s) (c : CpuId) (j : ℕ)
     (is : owner_in turn h p ≡ Some c) (j_in : IsGroup facts.layout j) where
-  some-same : {X : Type 0} (x y : X) → Some x ≡ Some y → x ≡ y
-  some-same x y same = cc
-
   -- the list with the new differential in it
-  put-told : (k : CounterId) (w : Diffs) (t : ℕ) (delta : ℤ) (new : ℤ) → Puts facts h s p k w t delta → group_of k.number ≡ j
+  put-told : (k : CounterId) (w : Diffs) (t : ℕ) (delta : ℤ) (new : ℤ) → Puts facts h s p k w t delta
+      → group_of k.number ≡ j
       → length w.values ≡ 8
       → ((n : ℕ) → n < 8 → diff_at s' c.number (8 * j + n)
       ≡ (if nat_eq c.number c.number && nat_eq k.number (8 * j + n) then new else diff_at s c.number (8 * j + n)))
       → TellsGroup s' c.number j (set w.values (k.number % 8) new)
   put-told k w t delta new puts group full changes n less =
-      get_or-set w.values (k.number % 8) n new (pos 0) (rw full (omega arith)) ∙ by (nat_eq (k.number % 8) n) refl ∙ sym (changes n less)
+      get_or-set w.values (k.number % 8) n new (pos 0) (rw full (omega arith)) ∙ by (nat_eq (k.number % 8) n) refl
+      ∙ sym (changes n less)
     where
       same : puts.cpu ≡ c
       same = owned facts h s p shaped c puts.cpu is puts.owns
@@ -147,19 +146,21 @@ module _ (facts : Facts) (h : History) (s s' : State) (p : ℕ) (shaped : HasSha
           let mine : nat_eq c.number c.number ≡ true = eq-eqb c.number c.number refl in
           rw (mine, it) told
 
-  own-keeps : (before : Option (List ℤ)) (values : List ℤ) (step : Step) → Meets facts h s p step → Changes s s' c j (Some c) step
+  own-keeps : (before : Option (List ℤ)) (values : List ℤ) (step : Step) → Meets facts h s p step
+      → Changes s s' c j (Some c) step
       → length values ≡ 8
       → ((old : List ℤ) → length old ≡ 8 → before ≡ Some old → StandsOrTaken s c.number j old)
       → found_after c j step before ≡ Some values → StandsOrTaken s' c.number j values
   own-keeps before values (LoadD d i w) meets changes full stood now =
       by (nat_eq d.number c.number && nat_eq i.number j) refl now
     where
-      by : (b : Bool) → (nat_eq d.number c.number && nat_eq i.number j) ≡ b → (if b then Some w.values else before) ≡ Some values
+      by : (b : Bool) → (nat_eq d.number c.number && nat_eq i.number j) ≡ b
+          → (if b then Some w.values else before) ≡ Some values
           → StandsOrTaken s' c.number j values
       by true here is_now =
           let at = and_parts (nat_eq d.number c.number) (nat_eq i.number j) here in
           let told = rw (eqb-true d.number c.number at.0, eqb-true i.number j at.1) at meets.values in
-          inl (rw (some-same w.values values is_now) at (TellsGroup-same s s' c j w.values changes told))
+          inl (rw (same_Some w.values values is_now) at (TellsGroup-same s s' c j w.values changes told))
       by false other is_now = StandsOrTaken-same s s' c j values changes (stood values full is_now)
   own-keeps before values (Miss i w) meets changes full stood now = by (nat_eq i.number j) refl now
     where
@@ -177,55 +178,57 @@ module _ (facts : Facts) (h : History) (s s' : State) (p : ℕ) (shaped : HasSha
           ≡ (if nat_eq d.number c.number && nat_eq i.number j then pos 0 else diff_at s c.number (8 * j + n))
       at_group n less = let at : (8 * j + n) / 8 ≡ j = omega arith in rw at at (changes n less)
 
-      by : (b : Bool) → ((n : ℕ) → n < 8 → diff_at s' c.number (8 * j + n) ≡ (if b then pos 0 else diff_at s c.number (8 * j + n)))
+      by : (b : Bool) → ((n : ℕ) → n < 8
+          → diff_at s' c.number (8 * j + n) ≡ (if b then pos 0 else diff_at s c.number (8 * j + n)))
           → (if b then Some eight_zeros else before) ≡ Some values → StandsOrTaken s' c.number j values
       by true zeros is_now = inr (zeros-told s s' c j zeros)
       by false same is_now = StandsOrTaken-same s s' c j values same (stood values full is_now)
-  own-keeps before values (Put k w t delta how) meets changes full stood now = by (nat_eq (group_of k.number) j) refl now
+  own-keeps before values (Put k w t delta how) meets changes full stood now =
+      by (nat_eq (group_of k.number) j) refl now
     where
       by : (b : Bool) → nat_eq (group_of k.number) j ≡ b
-          → (if b then Some (set w.values (k.number % 8) (differential_after how t (entry w.values k.number) delta)) else before)
+          → (if b
+          then Some (set w.values (k.number % 8) (differential_after how t (entry w.values k.number) delta))
+          else before)
           ≡ Some values
           → StandsOrTaken s' c.number j values
       by true here is_now =
           let new = differential_after how t (entry w.values k.number) delta in
-          let same : set w.values (k.number % 8) new ≡ values = some-same (set w.values (k.number % 8) new) values is_now in
+          let same : set w.values (k.number % 8) new ≡ values =
+          same_Some (set w.values (k.number % 8) new) values is_now in
           let eight : length w.values ≡ 8 = sym (length-set w.values (k.number % 8) new) ∙ ap length same ∙ full in
           inl (rw same at (put-told k w t delta new meets (eqb-true (group_of k.number) j here) eight changes))
       by false other is_now =
           let new = differential_after how t (entry w.values k.number) delta in
           let elsewhere : group_of k.number ≢ j = eqb-false (group_of k.number) j other in
           StandsOrTaken-same s s' c j values (λ n less. changes n less
-          ∙ if-same s s' c j (nat_eq c.number c.number && nat_eq k.number (8 * j + n)) new (diff_at s c.number (8 * j + n)) (λ here.
-          let at : k.number ≡ 8 * j + n = eqb-true k.number (8 * j + n) (and_parts (nat_eq c.number c.number) (nat_eq k.number (8 * j + n)) here).1 in
+          ∙ if-never (nat_eq c.number c.number && nat_eq k.number (8 * j + n)) new (diff_at s c.number (8 * j + n))
+          (λ here.
+          let at : k.number ≡ 8 * j + n =
+          eqb-true k.number (8 * j + n)
+          (and_parts (nat_eq c.number c.number) (nat_eq k.number (8 * j + n)) here).1 in
           elsewhere (omega arith)))
           (stood values full is_now)
-  own-keeps before values _ meets changes full stood now = StandsOrTaken-same s s' c j values changes (stood values full now)
+  own-keeps before values _ meets changes full stood now =
+      StandsOrTaken-same s s' c j values changes (stood values full now)
 
-module _ (facts : Facts) (e : Event Step) (h : History) (legal : IsLegal facts (e ∷ h)) (p : ℕ) (c : CpuId) (was : OwnsNow h p c) where
+module _ (facts : Facts) (e : Event Step) (h : History) (legal : IsLegal facts (e ∷ h)) (p : ℕ) (c : CpuId)
+    (was : OwnsNow h p c) where
   -- while a pass lives, no other caller acts for the CPU that it owns
   others-own : e.caller ≢ p → owner_in turn h e.caller ≡ Some c → ⊥
-  others-own others is = by (nat_eq e.caller 0) refl
-    where
-      no_owner : None ≡ Some c → ⊥
-      no_owner same = cc
-
-      by : (b : Bool) → nat_eq e.caller 0 ≡ b → ⊥
-      by true main =
-          let first : e.caller ≡ 0 = eqb-true e.caller 0 main in
-          no_owner (sym (owner_in-not_given pages facts h e.caller legal.0 (λ some. let more = some.0 in omega arith)) ∙ is)
-      by false other =
-          others (owner_acts_alone pages facts e h p legal (eqb-false e.caller 0 other) was.lives (is ∙ sym was.owner))
+  others-own others is = others (owner_is_caller pages facts e h p c legal was.lives was.owner is)
 
   module _ (j : ℕ) (j_in : IsGroup facts.layout j) where
     event-changes : Changes (state_after facts h) (state_after facts (e ∷ h)) c j (owner_in turn h e.caller) e.step
     event-changes n less =
-        diff_at-effect facts h (state_after facts h) e.caller (HasShape-state_after facts h legal.0) (owner_in turn h e.caller) e.step
+        diff_at-effect facts h (state_after facts h) e.caller (HasShape-state_after facts h legal.0)
+        (owner_in turn h e.caller) e.step
         c.number (8 * j + n) refl legal.2 (omega (arith, group-within (counter_count facts.layout) j j_in))
 
     -- what was found before the event stood before it
     abbrev Stood : Type 0
-    Stood = (old : List ℤ) → length old ≡ 8 → found c j (own h p) ≡ Some old → StandsOrTaken (state_after facts h) c.number j old
+    Stood = (old : List ℤ) → length old ≡ 8 → found c j (own h p) ≡ Some old
+        → StandsOrTaken (state_after facts h) c.number j old
 
     found-mine : (values : List ℤ) → length values ≡ 8 → found c j (own (e ∷ h) p) ≡ Some values → Stood → e.caller ≡ p
         → StandsOrTaken (state_after facts (e ∷ h)) c.number j values
@@ -234,10 +237,12 @@ module _ (facts : Facts) (e : Event Step) (h : History) (legal : IsLegal facts (
         let is : owner_in turn h e.caller ≡ Some c = ap (owner_in turn h) mine ∙ was.owner in
         own-keeps facts h s (state_after facts (e ∷ h)) e.caller (HasShape-state_after facts h legal.0) c j is j_in
         (found c j (own h p)) values e.step legal.2
-        (λ n less. event-changes n less ∙ ap (λ who. diff_after who c.number (8 * j + n) e.step (diff_at s c.number (8 * j + n))) is)
+        (λ n less. event-changes n less
+        ∙ ap (λ who. diff_after who c.number (8 * j + n) e.step (diff_at s c.number (8 * j + n))) is)
         full before (sym (ap (found c j) (own-mine e h p mine)) ∙ told)
 
-    found-others : (values : List ℤ) → length values ≡ 8 → found c j (own (e ∷ h) p) ≡ Some values → Stood → e.caller ≢ p
+    found-others : (values : List ℤ) → length values ≡ 8 → found c j (own (e ∷ h) p) ≡ Some values → Stood
+        → e.caller ≢ p
         → StandsOrTaken (state_after facts (e ∷ h)) c.number j values
     found-others values full told before others =
         others-leave (state_after facts h) (state_after facts (e ∷ h)) c j values (owner_in turn h e.caller) e.step
@@ -247,7 +252,8 @@ pub found-stands : (facts : Facts) (h : History) → IsLegal facts h → KnowsFo
 found-stands facts [] legal p c j values live j_in full told = absurd cc
 found-stands facts (e ∷ h) legal p c j values live j_in full told =
     elim (OwnsNow-before facts e h legal p c live) [
-      | inl was ↦ by was (nat_eq e.caller p) refl (λ old old_full old_told. found-stands facts h legal.0 p c j old was j_in old_full old_told)
+      | inl was ↦ by was (nat_eq e.caller p) refl
+          (λ old old_full old_told. found-stands facts h legal.0 p c j old was j_in old_full old_told)
       | inr none ↦ absurd (none_found (sym (ap (found c j) none) ∙ told))
     ]
   where
@@ -256,5 +262,7 @@ found-stands facts (e ∷ h) legal p c j values live j_in full told =
 
     by : (was : OwnsNow h p c) (b : Bool) → nat_eq e.caller p ≡ b → Stood facts e h legal p c was j j_in
         → StandsOrTaken (state_after facts (e ∷ h)) c.number j values
-    by was true here before = found-mine facts e h legal p c was j j_in values full told before (eqb-true e.caller p here)
-    by was false other before = found-others facts e h legal p c was j j_in values full told before (eqb-false e.caller p other)
+    by was true here before =
+        found-mine facts e h legal p c was j j_in values full told before (eqb-true e.caller p here)
+    by was false other before =
+        found-others facts e h legal p c was j j_in values full told before (eqb-false e.caller p other)

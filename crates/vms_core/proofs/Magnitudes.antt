@@ -4,6 +4,7 @@ use Rattle.std.proofs.lemmas.Int.{ints}
 use Rattle.vms_base.specs.Places.{IsCpu, IsCounter}
 use Rattle.vms_history.specs.Passes.{owner_in}
 use Rattle.vms_history.proofs.Prefixes.{base_can_begin}
+use Rattle.vms_history.proofs.SumBounds.{sum_below-most}
 use Rattle.vms_core.specs.declared.steps.Facts.{Facts}
 use Rattle.vms_core.specs.declared.steps.Step.{Step}
 use Rattle.vms_core.specs.declared.steps.Step.TheVariants.{AddG, AddS}
@@ -14,7 +15,6 @@ use Rattle.vms_core.specs.Own.{moved, moved_of_item}
 use Rattle.vms_core.specs.Pages.{pages, History, IsLegal, state_after}
 use Rattle.vms_core.specs.Steps.{turn}
 use Rattle.vms_core.proofs.Carrying.{sizes, carried-within, added-within}
-use Rattle.vms_core.proofs.CountLemmas.{sum_below-most}
 use Rattle.vms_core.proofs.Effects.{value_after, value_at-effect, system_after, system_at-effect}
 use Rattle.vms_core.proofs.ItemSums.{item-most}
 use Rattle.vms_core.proofs.Moves.{volumes-kept, moves-bounded}
@@ -28,20 +28,24 @@ most_moved = 3 * 2 ^ 48 + 375
 abbrev most_moved_of_counter : ℕ
 most_moved_of_counter = 128 * (3 * 2 ^ 48 + 375)
 
-grows-if : (b : Bool) (value a : ℤ) → unsigned_abs (if b then value +ℤ a else value) ≤ unsigned_abs value + (if b then unsigned_abs a else 0)
+grows-if : (b : Bool) (value a : ℤ)
+    → unsigned_abs (if b then value +ℤ a else value) ≤ unsigned_abs value + (if b then unsigned_abs a else 0)
 grows-if true value a = omega (arith, ints)
 grows-if false value a = omega arith
 
-value_after-grows : (k : ℕ) (step : Step) (value : ℤ) → unsigned_abs (value_after k step value) ≤ unsigned_abs value + size_added k step
+value_after-grows : (k : ℕ) (step : Step) (value : ℤ)
+    → unsigned_abs (value_after k step value) ≤ unsigned_abs value + size_added k step
 value_after-grows k (AddG l a) value = grows-if (nat_eq l.number k) value a
 value_after-grows k _ value = omega arith
 
-system_after-grows : (i : ℕ) (step : Step) (value : ℤ) → unsigned_abs (system_after i step value) ≤ unsigned_abs value + size_added_of_item i step
+system_after-grows : (i : ℕ) (step : Step) (value : ℤ)
+    → unsigned_abs (system_after i step value) ≤ unsigned_abs value + size_added_of_item i step
 system_after-grows i (AddS l a) value = grows-if (nat_eq l.number i) value a
 system_after-grows i _ value = omega arith
 
 value_at-grows : (facts : Facts) (h : History) (k : ℕ) → IsLegal facts h
-    → pos (unsigned_abs (value_at (state_after facts h) k)) ≤ℤ (pos (unsigned_abs (value_at facts.base k)) +ℤ sizes (size_added k) h)
+    → pos (unsigned_abs (value_at (state_after facts h) k))
+    ≤ℤ (pos (unsigned_abs (value_at facts.base k)) +ℤ sizes (size_added k) h)
 value_at-grows facts [] k legal = omega (arith, ints)
 value_at-grows facts (e ∷ h) k legal =
     let s = state_after facts h in
@@ -51,7 +55,8 @@ value_at-grows facts (e ∷ h) k legal =
     rw after (omega (arith, ints, value_after-grows k e.step (value_at s k), value_at-grows facts h k legal.0))
 
 system_at-grows : (facts : Facts) (h : History) (i : ℕ) → IsLegal facts h
-    → pos (unsigned_abs (system_at (state_after facts h) i)) ≤ℤ (pos (unsigned_abs (system_at facts.base i)) +ℤ sizes (size_added_of_item i) h)
+    → pos (unsigned_abs (system_at (state_after facts h) i))
+    ≤ℤ (pos (unsigned_abs (system_at facts.base i)) +ℤ sizes (size_added_of_item i) h)
 system_at-grows facts [] i legal = omega (arith, ints)
 system_at-grows facts (e ∷ h) i legal =
     let s = state_after facts h in
@@ -66,7 +71,8 @@ module _ (facts : Facts) (h : History) (legal : IsLegal facts h) where
 
   one-moved : (c k : ℕ) → IsCpu facts.layout c → IsCounter facts.layout k → moved_out h c k ≤ most_moved
   one-moved c k c_in k_in =
-      omega (arith, moves-bounded facts h legal c k c_in k_in, volumes-kept facts h legal c k, base.opening.diffs c k c_in k_in)
+      let opening = base.opening.diffs c k c_in k_in in
+      omega (arith, moves-bounded facts h legal c k c_in k_in, volumes-kept facts h legal c k, opening)
 
   counter-moved : (k : ℕ) → IsCounter facts.layout k → sizes (size_out k) h ≤ℤ pos most_moved_of_counter
   counter-moved k k_in =
@@ -79,9 +85,11 @@ module _ (facts : Facts) (h : History) (legal : IsLegal facts h) where
       let all = item-most facts.layout base.layout i most_moved_of_counter (λ k. sizes (size_out k) h) counter-moved in
       omega (arith, ints, sizes_out_of_item-by_counter facts h i legal, all)
 
-  diff-below : (c k : ℕ) → IsCpu facts.layout c → IsCounter facts.layout k → unsigned_abs (diff_at (state_after facts h) c k) < size_limit
+  diff-below : (c k : ℕ) → IsCpu facts.layout c → IsCounter facts.layout k
+      → unsigned_abs (diff_at (state_after facts h) c k) < size_limit
   diff-below c k c_in k_in =
-      omega (arith, moves-bounded facts h legal c k c_in k_in, volumes-kept facts h legal c k, base.opening.diffs c k c_in k_in)
+      let opening = base.opening.diffs c k c_in k_in in
+      omega (arith, moves-bounded facts h legal c k c_in k_in, volumes-kept facts h legal c k, opening)
 
   pub magnitudes-bounded : StaysBelow facts h
   magnitudes-bounded = record {

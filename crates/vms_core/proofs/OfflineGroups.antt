@@ -9,6 +9,7 @@ use Rattle.vms_base.specs.declared.kinds.CpuState.TheVariants.{Online}
 use Rattle.vms_base.specs.Places.{group_of}
 use Rattle.vms_history.specs.Events.{own}
 use Rattle.vms_history.specs.Passes.{owner_in}
+use Rattle.vms_history.proofs.Choices.{if-same}
 use Rattle.vms_core.specs.declared.states.State.{State}
 use Rattle.vms_core.specs.declared.steps.Facts.{Facts}
 use Rattle.vms_core.specs.declared.steps.Step.{Step}
@@ -23,10 +24,6 @@ use Rattle.vms_core.proofs.Effects.{owned}
 use Rattle.vms_core.proofs.Emptied.{emptied-kept}
 use Rattle.vms_core.proofs.Shapes.{HasShape-state_after}
 
-either : (b : Bool) → (if b then true else true) ≡ true
-either true = refl
-either false = refl
-
 emptied_after-offline : (facts : Facts) (h : History) (s : State) (p : ℕ) (shaped : HasShape facts.layout s) (c j : ℕ)
     (who : Option CpuId) (step : Step) → owner_in turn h p ≡ who → Meets facts h s p step → (cpu_at s c ≡ Online → ⊥)
     → emptied_after who c j step true ≡ true
@@ -37,12 +34,16 @@ emptied_after-offline facts h s p shaped c j (Some d) (Put k w t delta how) is m
     by true here =
         let same : meets.cpu ≡ d = owned facts h s p shaped d meets.cpu is meets.owns in
         let cpu : meets.cpu.number ≡ c =
-        ap (λ (o : CpuId). o.number) same ∙ eqb-true d.number c (and_parts (nat_eq d.number c) (nat_eq (group_of k.number) j) here).0 in
+        ap (λ (o : CpuId). o.number) same
+        ∙ eqb-true d.number c (and_parts (nat_eq d.number c) (nat_eq (group_of k.number) j) here).0 in
         absurd (offline (rw cpu at meets.online))
     by false other = refl
-emptied_after-offline facts h s p shaped c j (Some d) (Miss i w) is meets offline = either (nat_eq d.number c && nat_eq i.number j)
-emptied_after-offline facts h s p shaped c j (Some o) (Take d i w) is meets offline = either (nat_eq d.number c && nat_eq i.number j)
-emptied_after-offline facts h s p shaped c j None (Take d i w) is meets offline = either (nat_eq d.number c && nat_eq i.number j)
+emptied_after-offline facts h s p shaped c j (Some d) (Miss i w) is meets offline =
+    if-same (nat_eq d.number c && nat_eq i.number j) true
+emptied_after-offline facts h s p shaped c j (Some o) (Take d i w) is meets offline =
+    if-same (nat_eq d.number c && nat_eq i.number j) true
+emptied_after-offline facts h s p shaped c j None (Take d i w) is meets offline =
+    if-same (nat_eq d.number c && nat_eq i.number j) true
 emptied_after-offline facts h s p shaped c j (Some o) _ is meets offline = refl
 emptied_after-offline facts h s p shaped c j None _ is meets offline = refl
 
@@ -61,7 +62,7 @@ has_taken-own (e ∷ h) p c j took = by (nat_eq e.caller p) (has_taken-own h p c
     more _ mine all rest now = rest now
 
     keeps : (step : Step) (all : Bool) → all ≡ true → has_taken_after c j step all ≡ true
-    keeps (Take d i w) all is = rw is (either (nat_eq d.number c && nat_eq i.number j))
+    keeps (Take d i w) all is = rw is (if-same (nat_eq d.number c && nat_eq i.number j) true)
     keeps _ all is = is
 
     by : (b : Bool) → (has_taken c j (own h p) ≡ true → has_taken c j h ≡ true)
@@ -75,8 +76,10 @@ is_emptied-taken : (facts : Facts) (h : History) (c j : ℕ) → IsLegal facts h
 is_emptied-taken facts [] c j legal offline took = took
 is_emptied-taken facts (e ∷ h) c j legal offline took =
     let s = state_after facts h in
-    step (owner_in turn h e.caller) e.step (has_taken c j h) (is_emptied h c j) (is_emptied-taken facts h c j legal.0 offline)
-    (emptied_after-offline facts h s e.caller (HasShape-state_after facts h legal.0) c j (owner_in turn h e.caller) e.step
+    step (owner_in turn h e.caller) e.step (has_taken c j h) (is_emptied h c j)
+    (is_emptied-taken facts h c j legal.0 offline)
+    (emptied_after-offline facts h s e.caller (HasShape-state_after facts h legal.0) c j
+    (owner_in turn h e.caller) e.step
     refl legal.2 (λ online. offline (online-in_base facts h c legal.0 online))) took
   where
     if-true : (b before after : Bool) → (before ≡ true → after ≡ true) → (if b then true else before) ≡ true
@@ -85,9 +88,12 @@ is_emptied-taken facts (e ∷ h) c j legal offline took =
     if-true false before after rest now = rest now
 
     step : (who : Option CpuId) (k : Step) (before emptied : Bool) → (before ≡ true → emptied ≡ true)
-        → emptied_after who c j k true ≡ true → has_taken_after c j k before ≡ true → emptied_after who c j k emptied ≡ true
-    step (Some o) (Take d i w) before emptied rest stays now = if-true (nat_eq d.number c && nat_eq i.number j) before emptied rest now
-    step None (Take d i w) before emptied rest stays now = if-true (nat_eq d.number c && nat_eq i.number j) before emptied rest now
+        → emptied_after who c j k true ≡ true → has_taken_after c j k before ≡ true
+        → emptied_after who c j k emptied ≡ true
+    step (Some o) (Take d i w) before emptied rest stays now =
+        if-true (nat_eq d.number c && nat_eq i.number j) before emptied rest now
+    step None (Take d i w) before emptied rest stays now =
+        if-true (nat_eq d.number c && nat_eq i.number j) before emptied rest now
     step who k before emptied rest stays now = rw (rest now) stays
 
 pub offline-stay_taken : (facts : Facts) (h : History) → IsLegal facts h → KeepsOfflineTaken facts h

@@ -1,5 +1,5 @@
 -- What leaves the differentials, by counter, by CPU and by item, and what of it callers may carry.
-use Rattle.std.proofs.Common.{◌≡◌, ℕ, ◌+◌, ◌*◌, ◌/◌, ◌%◌, ◌<◌, ◌≤◌, ◌&&◌, Bool, true, false, [], ◌∷◌, Option, Some, None, get_or, ℤ, pos, neg_ℤ, ◌+ℤ◌, ◌-ℤ◌, unsigned_abs, refl, sym, ◌∙◌, arith, if◌then◌else◌, nat_eq, eqb-true}
+use Rattle.std.proofs.Common.{◌≡◌, ℕ, ◌+◌, ◌*◌, ◌/◌, ◌%◌, ◌<◌, ◌≤◌, ◌&&◌, Bool, true, false, ◌∷◌, Option, Some, None, get_or, ℤ, pos, neg_ℤ, ◌+ℤ◌, unsigned_abs, refl, sym, ap, ◌∙◌, arith, if◌then◌else◌, nat_eq, eqb-true}
 use Rattle.std.proofs.lemmas.Int.{ints}
 use Rattle.vms_base.specs.declared.groups.Diffs.{Diffs}
 use Rattle.vms_base.specs.declared.ids.CounterId.{CounterId}
@@ -10,7 +10,9 @@ use Rattle.vms_history.specs.declared.events.Event.{Event}
 use Rattle.vms_history.specs.Events.{own, total}
 use Rattle.vms_history.specs.Passes.{owner_in}
 use Rattle.vms_history.specs.Sums.{sum_below}
-use Rattle.vms_history.proofs.SumLaws.{sum_below-same, sum_below-sum, sum_below-zeros}
+use Rattle.vms_history.proofs.CallerSums.{total-by_parts}
+use Rattle.vms_history.proofs.Choices.{if-map, if-same}
+use Rattle.vms_history.proofs.SumLaws.{sum_below-same, sum_below-zeros, sum_below-only}
 use Rattle.vms_core.specs.declared.states.State.{State}
 use Rattle.vms_core.specs.declared.steps.Facts.{Facts}
 use Rattle.vms_core.specs.declared.steps.Step.{Step}
@@ -20,19 +22,20 @@ use Rattle.vms_core.specs.Cells.{HasShape, entry}
 use Rattle.vms_core.specs.Changes.{carried_by}
 use Rattle.vms_core.specs.Conditions.{Meets}
 use Rattle.vms_core.specs.Own.{moved, moved_of_item, carried, carried_of_item}
-use Rattle.vms_core.specs.Pages.{History, IsLegal, state_after}
+use Rattle.vms_core.specs.Pages.{pages, History, IsLegal, state_after}
 use Rattle.vms_core.specs.Peaks.{count_below}
 use Rattle.vms_core.specs.Steps.{turn}
+use Rattle.vms_core.proofs.Bounds.{within-if}
 use Rattle.vms_core.proofs.Carrying.{sizes}
 use Rattle.vms_core.proofs.CountLemmas.{sum_below-sizes, pos-count_below}
 use Rattle.vms_core.proofs.Effects.{owned}
 use Rattle.vms_core.proofs.Items.{one_change, group_change, if-sum}
 use Rattle.vms_core.proofs.Shapes.{HasShape-state_after}
-use Rattle.vms_core.proofs.Sums.{sum_below-one_if}
 
 -- the size of what a step moves out of the differentials of counter k, and of what it adds to its global value
 abbrev pub size_out : ℕ → Step → ℕ
-size_out k (Put l w t delta how) = if nat_eq l.number k then unsigned_abs (carried_by how t (entry w.values l.number) delta) else 0
+size_out k (Put l w t delta how) =
+    if nat_eq l.number k then unsigned_abs (carried_by how t (entry w.values l.number) delta) else 0
 size_out k (Take c j w) = if nat_eq j.number (group_of k) then unsigned_abs (entry w.values k) else 0
 size_out k _ = 0
 
@@ -45,7 +48,8 @@ abbrev pub size_out_of_item : Shape → ℕ → Step → ℕ
 size_out_of_item shape i (Put l w t delta how) =
     if nat_eq (item_of shape l.number) i then unsigned_abs (carried_by how t (entry w.values l.number) delta) else 0
 size_out_of_item shape i (Take c j w) =
-    count_below (λ n. if nat_eq (item_of shape (first_of j.number + n)) i then unsigned_abs (get_or w.values n (pos 0)) else 0) 8
+    count_below (λ n. if nat_eq (item_of shape (first_of j.number + n)) i
+    then unsigned_abs (get_or w.values n (pos 0)) else 0) 8
 size_out_of_item shape i _ = 0
 
 abbrev pub size_added_of_item : ℕ → Step → ℕ
@@ -58,22 +62,16 @@ moved-size true z carrying = omega (arith, ints)
 moved-size false z carrying = omega (arith, ints)
 
 added-size : (b : Bool) (a carrying : ℤ) → (b ≡ true → carrying ≡ a)
-    → (if b then unsigned_abs a else 0) + unsigned_abs ((if b then neg_ℤ a else pos 0) +ℤ carrying) ≤ unsigned_abs carrying + 0
+    → (if b then unsigned_abs a else 0) + unsigned_abs ((if b then neg_ℤ a else pos 0) +ℤ carrying)
+    ≤ unsigned_abs carrying + 0
 added-size true a carrying all = omega (arith, ints, all refl)
 added-size false a carrying all = omega (arith, ints)
-
-size-if : (b : Bool) (z : ℤ) → unsigned_abs (if b then z else pos 0) ≤ (if b then unsigned_abs z else 0)
-size-if true z = omega arith
-size-if false z = omega arith
-
-pos-if : (b : Bool) (n : ℕ) → pos (if b then n else 0) ≡ (if b then pos n else pos 0)
-pos-if true n = refl
-pos-if false n = refl
 
 -- a caller's carried amount takes up no more than what the step moves out, and an addition is of all that is carried
 module _ (facts : Facts) (h : History) (s : State) (p : ℕ) where
   kept_by_step : (k : ℕ) (step : Step) → Meets facts h s p step
-      → size_added k step + unsigned_abs (moved k step +ℤ carried k (own h p)) ≤ unsigned_abs (carried k (own h p)) + size_out k step
+      → size_added k step + unsigned_abs (moved k step +ℤ carried k (own h p))
+      ≤ unsigned_abs (carried k (own h p)) + size_out k step
   kept_by_step k (Put l w t delta how) meets =
       moved-size (nat_eq l.number k) (carried_by how t (entry w.values l.number) delta) (carried k (own h p))
   kept_by_step k (Take c j w) meets = moved-size (nat_eq j.number (group_of k)) (entry w.values k) (carried k (own h p))
@@ -82,7 +80,8 @@ module _ (facts : Facts) (h : History) (s : State) (p : ℕ) where
   kept_by_step k _ meets = omega (arith, ints)
 
   kept_by_step_of_item : (i : ℕ) (step : Step) → Meets facts h s p step
-      → size_added_of_item i step + unsigned_abs (moved_of_item facts.layout i step +ℤ carried_of_item facts.layout i (own h p))
+      → size_added_of_item i step
+      + unsigned_abs (moved_of_item facts.layout i step +ℤ carried_of_item facts.layout i (own h p))
       ≤ unsigned_abs (carried_of_item facts.layout i (own h p)) + size_out_of_item facts.layout i step
   kept_by_step_of_item i (Put l w t delta how) meets =
       moved-size (nat_eq (item_of facts.layout l.number) i) (carried_by how t (entry w.values l.number) delta)
@@ -90,10 +89,13 @@ module _ (facts : Facts) (h : History) (s : State) (p : ℕ) where
   kept_by_step_of_item i (Take c j w) meets =
       let is_in : ℕ → Bool = λ n. nat_eq (item_of facts.layout (first_of j.number + n)) i in
       let all = sum_below-sizes (λ n. if is_in n then get_or w.values n (pos 0) else pos 0)
-      (λ n. if is_in n then unsigned_abs (get_or w.values n (pos 0)) else 0) 8 (λ n below. size-if (is_in n) (get_or w.values n (pos 0))) in
+      (λ n. if is_in n then unsigned_abs (get_or w.values n (pos 0)) else 0) 8
+      (λ n below. within-if (is_in n) (get_or w.values n (pos 0)) (pos 0)
+      (unsigned_abs (get_or w.values n (pos 0))) 0 (omega arith) (omega arith)) in
       omega (arith, ints, all)
   kept_by_step_of_item i (AddS l a) meets =
-      added-size (nat_eq l.number i) a (carried_of_item facts.layout i (own h p)) (λ here. rw (eqb-true l.number i here) at meets.carries)
+      added-size (nat_eq l.number i) a (carried_of_item facts.layout i (own h p))
+      (λ here. rw (eqb-true l.number i here) at meets.carries)
   kept_by_step_of_item i _ meets = omega (arith, ints)
 
 pub kept_by_event : (facts : Facts) (k : ℕ) (e : Event Step) (h : History) → IsLegal facts (e ∷ h)
@@ -102,29 +104,23 @@ pub kept_by_event : (facts : Facts) (k : ℕ) (e : Event Step) (h : History) →
 kept_by_event facts k e h legal = kept_by_step facts h (state_after facts h) e.caller k e.step legal.2
 
 pub kept_by_event_of_item : (facts : Facts) (i : ℕ) (e : Event Step) (h : History) → IsLegal facts (e ∷ h)
-    → size_added_of_item i e.step + unsigned_abs (moved_of_item facts.layout i e.step +ℤ total (moved_of_item facts.layout i) (own h e.caller))
+    → size_added_of_item i e.step
+    + unsigned_abs (moved_of_item facts.layout i e.step +ℤ total (moved_of_item facts.layout i) (own h e.caller))
     ≤ unsigned_abs (total (moved_of_item facts.layout i) (own h e.caller)) + size_out_of_item facts.layout i e.step
 kept_by_event_of_item facts i e h legal = kept_by_step_of_item facts h (state_after facts h) e.caller i e.step legal.2
 
 -- by CPU: what leaves the differentials of a counter leaves that of one CPU
-one_cpu : (d n : ℕ) (b : Bool) (v : ℕ) → d < n → pos (if b then v else 0) ≡ sum_below (λ c. pos (if nat_eq d c && b then v else 0)) n
-one_cpu d n b v d_in =
-    let zeros = sum_below-zeros (λ c. pos 0) n (λ c c_in. refl) in
-    let same = sum_below-same (λ c. pos (if nat_eq d c && b then v else 0)) (λ c. if nat_eq d c && b then pos v else pos 0) n
-    (λ c c_in. pos-if (nat_eq d c && b) v) in
-    let one = sum_below-one_if (λ c. pos 0) d n b (pos v) d_in in
-    rw (same, one, zeros, pos-if b v) (by b)
-  where
-    by : (b : Bool) → (if b then pos v else pos 0) ≡ pos 0 +ℤ (if b then pos v -ℤ pos 0 else pos 0)
-    by true = omega (arith, ints)
-    by false = omega (arith, ints)
+one_cpu : (d n : ℕ) (b : Bool) (v : ℕ) → d < n
+    → pos (if b then v else 0) ≡ sum_below (λ c. pos (if nat_eq d c && b then v else 0)) n
+one_cpu d n b v d_in = sym (sum_below-only pos 0 v d n b refl d_in)
 
 module _ (facts : Facts) (h : History) (s : State) (p : ℕ) (shaped : HasShape facts.layout s) (k : ℕ) where
   size_out-by_cpu : (who : Option CpuId) (step : Step) → owner_in turn h p ≡ who → Meets facts h s p step
       → pos (size_out k step) ≡ sum_below (λ c. pos (moved_out_by who c k step)) facts.layout.cpus
   size_out-by_cpu None (Put l w t delta how) is meets = let owner = meets.owns.owner in absurd cc
   size_out-by_cpu (Some d) (Put l w t delta how) is meets =
-      one_cpu d.number facts.layout.cpus (nat_eq l.number k) (unsigned_abs (carried_by how t (entry w.values l.number) delta))
+      one_cpu d.number facts.layout.cpus (nat_eq l.number k)
+      (unsigned_abs (carried_by how t (entry w.values l.number) delta))
       (rw (owned facts h s p shaped d meets.cpu is meets.owns) at meets.owns.within)
   size_out-by_cpu (Some o) (Take d j w) is meets =
       one_cpu d.number facts.layout.cpus (nat_eq j.number (group_of k)) (unsigned_abs (entry w.values k)) meets.cpu
@@ -135,15 +131,14 @@ module _ (facts : Facts) (h : History) (s : State) (p : ℕ) (shaped : HasShape 
 
 pub sizes_out-by_cpu : (facts : Facts) (h : History) (k : ℕ) → IsLegal facts h
     → sizes (size_out k) h ≡ sum_below (λ c. pos (moved_out h c k)) facts.layout.cpus
-sizes_out-by_cpu facts [] k legal = sym (sum_below-zeros (λ c. pos 0) facts.layout.cpus (λ c c_in. refl))
-sizes_out-by_cpu facts (e ∷ h) k legal =
-    let who = owner_in turn h e.caller in
-    let n = facts.layout.cpus in
-    let step = size_out-by_cpu facts h (state_after facts h) e.caller (HasShape-state_after facts h legal.0) k who e.step refl legal.2 in
-    let parts = sum_below-same (λ c. pos (moved_out (e ∷ h) c k)) (λ c. pos (moved_out_by who c k e.step) +ℤ pos (moved_out h c k)) n
-    (λ c c_in. omega (arith, ints)) in
-    let both = sum_below-sum (λ c. pos (moved_out_by who c k e.step)) (λ c. pos (moved_out h c k)) n in
-    omega (arith, ints, step, parts, both, sizes_out-by_cpu facts h k legal.0)
+sizes_out-by_cpu facts h k =
+    total-by_parts pages facts (λ step. pos (size_out k step)) (λ g c. pos (moved_out g c k))
+    (λ e g c. pos (moved_out_by (owner_in turn g e.caller) c k e.step)) facts.layout.cpus
+    (λ c c_in. refl) (λ e g c c_in. omega (arith, ints))
+    (λ e g legal.
+    sym (size_out-by_cpu facts g (state_after facts g) e.caller (HasShape-state_after facts g legal.0) k
+    (owner_in turn g e.caller) e.step refl legal.2))
+    h
 
 -- by counter: what leaves the differentials of an item leaves those of its counters
 module _ (facts : Facts) (h : History) (s : State) (p : ℕ) (i : ℕ) where
@@ -153,36 +148,34 @@ module _ (facts : Facts) (h : History) (s : State) (p : ℕ) (i : ℕ) where
   abbrev over_item : (ℕ → ℤ) → ℤ
   over_item f = sum_below (λ k. if is_in k then f k else pos 0) (counter_count facts.layout)
 
-  if-pos_if : (a b : Bool) (n : ℕ) → (if a then pos (if b then n else 0) else pos 0) ≡ (if a then (if b then pos n else pos 0) else pos 0)
-  if-pos_if true b n = pos-if b n
-  if-pos_if false b n = refl
-
-  no_counter : (a : Bool) → (if a then pos 0 else pos 0) ≡ pos 0
-  no_counter true = refl
-  no_counter false = refl
-
   size_out_of_item-put : (l : CounterId) (v : ℕ) → IsCounter facts.layout l.number
       → pos (if is_in l.number then v else 0) ≡ over_item (λ k. pos (if nat_eq l.number k then v else 0))
   size_out_of_item-put l v l_in =
-      pos-if (is_in l.number) v ∙ sym (one_change is_in (counter_count facts.layout) l.number (pos v) l_in)
+      if-map pos (is_in l.number) v 0 ∙ sym (one_change is_in (counter_count facts.layout) l.number (pos v) l_in)
       ∙ sym (sum_below-same (λ k. if is_in k then pos (if nat_eq l.number k then v else 0) else pos 0)
       (λ k. if is_in k then (if nat_eq l.number k then pos v else pos 0) else pos 0) (counter_count facts.layout)
-      (λ k k_in. if-pos_if (is_in k) (nat_eq l.number k) v))
+      (λ k k_in. ap (λ z. if is_in k then z else pos 0) (if-map pos (nat_eq l.number k) v 0)))
 
   size_out_of_item-take : (c : CpuId) (j : GroupId) (w : Diffs) → j.number < counter_count facts.layout / 8
       → pos (size_out_of_item facts.layout i (Take c j w)) ≡ over_item (λ k. pos (size_out k (Take c j w)))
   size_out_of_item-take c j w j_in =
-      let told : ℕ → ℤ = λ n. if is_in (first_of j.number + n) then pos (unsigned_abs (get_or w.values n (pos 0))) else pos 0 in
+      let told : ℕ → ℤ = λ n.
+      if is_in (first_of j.number + n) then pos (unsigned_abs (get_or w.values n (pos 0))) else pos 0 in
       let f : ℕ → ℤ = λ k. pos (unsigned_abs (entry w.values k)) in
-      let first = pos-count_below (λ n. if is_in (first_of j.number + n) then unsigned_abs (get_or w.values n (pos 0)) else 0) 8 in
-      let second = sum_below-same (λ n. pos (if is_in (first_of j.number + n) then unsigned_abs (get_or w.values n (pos 0)) else 0))
+      let first = pos-count_below
+      (λ n. if is_in (first_of j.number + n) then unsigned_abs (get_or w.values n (pos 0)) else 0) 8 in
+      let second = sum_below-same
+      (λ n. pos (if is_in (first_of j.number + n) then unsigned_abs (get_or w.values n (pos 0)) else 0))
       (λ n. if is_in (first_of j.number + n) then f (first_of j.number + n) else pos 0) 8 (λ n less.
       let at : (8 * j.number + n) % 8 ≡ n = omega arith in
-      rw at (pos-if (is_in (first_of j.number + n)) (unsigned_abs (get_or w.values n (pos 0))))) in
+      rw at (if-map pos (is_in (first_of j.number + n)) (unsigned_abs (get_or w.values n (pos 0))) 0)) in
       let third = group_change is_in (counter_count facts.layout) j.number f j_in in
       let fourth = sum_below-same (λ k. if is_in k then pos (size_out k (Take c j w)) else pos 0)
-      (λ k. if is_in k then (if nat_eq j.number (group_of k) then f k else pos 0) else pos 0) (counter_count facts.layout)
-      (λ k k_in. if-pos_if (is_in k) (nat_eq j.number (group_of k)) (unsigned_abs (entry w.values k))) in
+      (λ k. if is_in k then (if nat_eq j.number (group_of k) then f k else pos 0) else pos 0)
+      (counter_count facts.layout)
+      (λ k k_in.
+      ap (λ z. if is_in k then z else pos 0)
+      (if-map pos (nat_eq j.number (group_of k)) (unsigned_abs (entry w.values k)) 0)) in
       first ∙ second ∙ sym third ∙ sym fourth
 
   size_out_of_item-by_counter : (step : Step) → Meets facts h s p step
@@ -191,25 +184,18 @@ module _ (facts : Facts) (h : History) (s : State) (p : ℕ) (i : ℕ) where
       size_out_of_item-put l (unsigned_abs (carried_by how t (entry w.values l.number) delta)) meets.counter
   size_out_of_item-by_counter (Take c j w) meets = size_out_of_item-take c j w meets.group
   size_out_of_item-by_counter _ meets =
-      sym (sum_below-zeros (λ k. if is_in k then pos 0 else pos 0) (counter_count facts.layout) (λ k k_in. no_counter (is_in k)))
+      sym (sum_below-zeros (λ k. if is_in k then pos 0 else pos 0) (counter_count facts.layout)
+      (λ k k_in. if-same (is_in k) (pos 0)))
 
 pub sizes_out_of_item-by_counter : (facts : Facts) (h : History) (i : ℕ) → IsLegal facts h
     → sizes (size_out_of_item facts.layout i) h
-    ≡ sum_below (λ k. if nat_eq (item_of facts.layout k) i then sizes (size_out k) h else pos 0) (counter_count facts.layout)
-sizes_out_of_item-by_counter facts [] i legal =
-    sym (sum_below-zeros (λ k. if nat_eq (item_of facts.layout k) i then pos 0 else pos 0) (counter_count facts.layout)
-    (λ k k_in. none (nat_eq (item_of facts.layout k) i)))
-  where
-    none : (a : Bool) → (if a then pos 0 else pos 0) ≡ pos 0
-    none true = refl
-    none false = refl
-sizes_out_of_item-by_counter facts (e ∷ h) i legal =
-    let n = counter_count facts.layout in
-    let is_in : ℕ → Bool = λ k. nat_eq (item_of facts.layout k) i in
-    let step = size_out_of_item-by_counter facts h (state_after facts h) e.caller i e.step legal.2 in
-    let parts = sum_below-same (λ k. if is_in k then pos (size_out k e.step) +ℤ sizes (size_out k) h else pos 0)
-    (λ k. (if is_in k then pos (size_out k e.step) else pos 0) +ℤ (if is_in k then sizes (size_out k) h else pos 0)) n
-    (λ k k_in. if-sum (is_in k) (pos (size_out k e.step)) (sizes (size_out k) h)) in
-    let both = sum_below-sum (λ k. if is_in k then pos (size_out k e.step) else pos 0)
-    (λ k. if is_in k then sizes (size_out k) h else pos 0) n in
-    omega (arith, ints, step, parts, both, sizes_out_of_item-by_counter facts h i legal.0)
+    ≡ sum_below (λ k. if nat_eq (item_of facts.layout k) i then sizes (size_out k) h else pos 0)
+    (counter_count facts.layout)
+sizes_out_of_item-by_counter facts h i =
+    total-by_parts pages facts (λ step. pos (size_out_of_item facts.layout i step))
+    (λ g k. if nat_eq (item_of facts.layout k) i then sizes (size_out k) g else pos 0)
+    (λ e g k. if nat_eq (item_of facts.layout k) i then pos (size_out k e.step) else pos 0) (counter_count facts.layout)
+    (λ k k_in. if-same (nat_eq (item_of facts.layout k) i) (pos 0))
+    (λ e g k k_in. if-sum (nat_eq (item_of facts.layout k) i) (pos (size_out k e.step)) (sizes (size_out k) g))
+    (λ e g legal. sym (size_out_of_item-by_counter facts g (state_after facts g) e.caller i e.step legal.2))
+    h

@@ -1,5 +1,5 @@
--- The owners of CPUs: a CPU that is owned is one of the layout, and an owner after an event was one before or is new.
-use Rattle.std.proofs.Common.{◌≡◌, ℕ, suc, Bool, true, false, [], ◌∷◌, Some, ◌⊎◌, inl, inr, refl, sym, subst, ◌∙◌, arith, if◌then◌else◌, nat_eq, eqb-true}
+-- An owner after an event was one before or is new.
+use Rattle.std.proofs.Common.{◌≡◌, ℕ, suc, Bool, true, false, [], ◌∷◌, Some, ◌⊎◌, inl, inr, refl, sym, ◌∙◌, arith, if◌then◌else◌, nat_eq, eqb-true}
 use Rattle.vms_base.specs.declared.ids.CpuId.{CpuId}
 use Rattle.vms_history.specs.declared.events.Event.{Event}
 use Rattle.vms_history.specs.Events.{own}
@@ -10,26 +10,9 @@ use Rattle.vms_history.proofs.Own.{own-others}
 use Rattle.vms_history.proofs.PassLaws.{lives_in-turn, owner_in-turn, own-not_given}
 use Rattle.vms_core.specs.declared.steps.Facts.{Facts}
 use Rattle.vms_core.specs.declared.steps.Step.{Step}
-use Rattle.vms_core.specs.Pages.{pages, MayOwn, History, IsLegal}
+use Rattle.vms_core.specs.Pages.{pages, History, IsLegal}
 use Rattle.vms_core.specs.PeakLaws.{OwnsNow}
 use Rattle.vms_core.specs.Steps.{turn}
-
--- a pass owns no CPU but one that it may own
-pub owner-may_own : (facts : Facts) (h : History) → IsLegal facts h → (p : ℕ) (c : CpuId) → owner_in turn h p ≡ Some c
-    → MayOwn facts (Some c)
-owner-may_own facts [] legal p c is = absurd cc
-owner-may_own facts (e ∷ h) legal p c is =
-    by (turn e.step) legal.1 (owner-may_own facts h legal.0 p c) (sym (owner_in-turn pages facts e h p legal.1) ∙ is)
-  where
-    by : (t : Turn) → Acts pages facts h e.caller t → (owner_in turn h p ≡ Some c → MayOwn facts (Some c))
-        → owner_after t p (owner_in turn h p) ≡ Some c → MayOwn facts (Some c)
-    by Works acts before owner = before owner
-    by (Ends r) acts before owner = before owner
-    by (Begins r who) acts before owner = at (nat_eq r p) owner
-      where
-        at : (b : Bool) → (if b then who else owner_in turn h p) ≡ Some c → MayOwn facts (Some c)
-        at true new = subst (MayOwn facts) new acts.2
-        at false old = before old
 
 -- an owner after an event was one before, or has made no event
 pub OwnsNow-before : (facts : Facts) (e : Event Step) (h : History) → IsLegal facts (e ∷ h) → (p : ℕ) (c : CpuId)

@@ -4,10 +4,12 @@ use Rattle.std.proofs.lemmas.Bool.{cases_eq}
 use Rattle.vms_base.specs.declared.ids.CpuId.{CpuId}
 use Rattle.vms_base.specs.Places.{IsLayout, IsCpu, IsPlace, IsZone, IsCounter, place_of, counter_at, group_of}
 use Rattle.vms_base.specs.Thresholds.{most_threshold}
+use Rattle.vms_base.proofs.Counts.{place_of-lt, position_of-lt, counter_at-whole}
 use Rattle.vms_history.specs.declared.events.Event.{Event}
 use Rattle.vms_history.specs.Events.{own}
 use Rattle.vms_history.specs.Passes.{owner_in}
 use Rattle.vms_history.proofs.Own.{own-mine, own-others}
+use Rattle.vms_history.proofs.Owners.{owner_may_own}
 use Rattle.vms_history.proofs.PassLaws.{caller_lives, live_is_given, owner_in-not_given, one_live_owner}
 use Rattle.vms_history.proofs.Prefixes.{base_can_begin}
 use Rattle.vms_core.specs.declared.states.Threshold.{Threshold}
@@ -23,8 +25,8 @@ use Rattle.vms_core.specs.Steps.{turn}
 use Rattle.vms_core.specs.Totals.{last_threshold}
 use Rattle.vms_core.proofs.Below.{largest_below-least, largest_below-most}
 use Rattle.vms_core.proofs.Bounds.{diff_at-bounded}
-use Rattle.vms_core.proofs.CounterRanges.{place_known, position_known, counter_at-place, counter_at-known, first-known, counter_at-first}
-use Rattle.vms_core.proofs.Owners.{owner-may_own, OwnsNow-before}
+use Rattle.vms_core.proofs.CounterRanges.{counter_at-known, first-known, counter_at-first}
+use Rattle.vms_core.proofs.Owners.{OwnsNow-before}
 use Rattle.vms_core.proofs.PeakSteps.{View, IsBounded, IsTold, IsBounded-forgets, view_after, IsBounded-mine, IsBounded-others}
 use Rattle.vms_core.proofs.Settings.{acknowledged_in, threshold_at-state_after, sets-state_after, acknowledged_at-state_after}
 
@@ -65,12 +67,12 @@ module _ (facts : Facts) (c : CpuId) (g k : ℕ) (c_in : IsCpu facts.layout c.nu
     last_within =
         let position : ℕ = k % facts.layout.positions in
         let is : k ≡ counter_at facts.layout g position =
-        counter_at-place facts.layout k ∙ ap (λ n. counter_at facts.layout n position) there in
+        sym (counter_at-whole facts.layout layout k) ∙ ap (λ n. counter_at facts.layout n position) there in
         let same : unsigned_abs (diff_at facts.base c.number k) ≡ differential position =
         ap (λ n. unsigned_abs (diff_at facts.base c.number n)) is in
         omega (
           arith,
-          largest_below-least differential facts.layout.positions position (position_known facts.layout layout k),
+          largest_below-least differential facts.layout.positions position (position_of-lt facts.layout layout k),
         );
     acknowledged_within = λ number is. absurd cc;
     last_acknowledged = λ is. absurd cc;
@@ -181,7 +183,7 @@ module _ (facts : Facts) (h : History) (legal : IsLegal facts h) where
       → AreBounded facts c (place_of facts.layout k) k h
   of_counter c k c_in k_in =
       AreBounded-legal facts c (place_of facts.layout k) k c_in
-      (place_known facts.layout (base_can_begin pages facts h legal).layout k k_in) k_in refl h legal
+      (place_of-lt facts.layout (base_can_begin pages facts h legal).layout k k_in) k_in refl h legal
 
   of_place : (c : CpuId) (g : ℕ) → IsCpu facts.layout c.number → IsPlace facts.layout g
       → AreBounded facts c g (counter_at facts.layout g 0) h
@@ -225,7 +227,7 @@ module _ (facts : Facts) (h : History) (legal : IsLegal facts h) where
 
   -- a live owner's CPU, and what it loaded last
   owned : (p : ℕ) (c : CpuId) → OwnsNow h p c → IsCpu facts.layout c.number
-  owned p c owns = (owner-may_own facts h legal p c owns.owner).0
+  owned p c owns = (owner_may_own pages facts h p c legal owns.owner).0
 
   told_of : (p : ℕ) (c : CpuId) (g : ℕ) (told : Threshold) → OwnsNow h p c → IsPlace facts.layout g
       → loaded g (own h p) ≡ Some told → IsTold (view_in facts c g (counter_at facts.layout g 0) h (own h p)) told

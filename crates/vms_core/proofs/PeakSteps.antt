@@ -6,6 +6,7 @@ use Rattle.vms_base.specs.declared.ids.CpuId.{CpuId}
 use Rattle.vms_base.specs.declared.ids.PlaceId.{PlaceId}
 use Rattle.vms_base.specs.Places.{IsLayout, IsCounter, IsZone, place_of, group_of}
 use Rattle.vms_base.specs.Thresholds.{most_threshold}
+use Rattle.vms_base.proofs.Counts.{group_of-lt, place_of-group}
 use Rattle.vms_history.specs.Events.{own}
 use Rattle.vms_history.specs.Passes.{owner_in}
 use Rattle.vms_core.specs.declared.states.State.{State}
@@ -20,7 +21,6 @@ use Rattle.vms_core.specs.Pages.{History}
 use Rattle.vms_core.specs.Peaks.{sets_after, threshold_after, is_number, peak_after}
 use Rattle.vms_core.specs.Steps.{turn}
 use Rattle.vms_core.specs.Totals.{last_after}
-use Rattle.vms_core.proofs.CounterRanges.{group_known, place_of-first}
 use Rattle.vms_core.proofs.Settings.{acknowledged_after}
 
 -- the numbers of one CPU for a place and one of its counters, with what an owner loaded of the place and whether it
@@ -268,8 +268,8 @@ module _ (c : CpuId) (g k : ℕ) where
         taken
         ∙ ap (λ n. took c n (group_of k) (own h p)) (sym (place here))
         ∙ ap (λ (o : CpuId). took o f.number (group_of k) (own h p)) (sym same)
-        ∙ meets.took_each (group_of k) (group_known facts.layout layout k k_in)
-        (place_of-first facts.layout layout k ∙ there ∙ sym (place here)))
+        ∙ meets.took_each (group_of k) (group_of-lt facts.layout layout k k_in)
+        (place_of-group facts.layout layout k ∙ there ∙ sym (place here)))
         bounded
       where
         place : (nat_eq c.number c.number && nat_eq f.number g) ≡ true → f.number ≡ g

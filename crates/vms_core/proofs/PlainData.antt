@@ -4,11 +4,12 @@ use Rattle.std.proofs.Math.ListN.{set}
 use Rattle.std.proofs.Math.Nat.{mul-div_cancel_left, mul-zero}
 use Rattle.std.proofs.lemmas.Bool.{cases_eq, cases_lt}
 use Rattle.std.proofs.lemmas.List.{get_or_past}
-use Rattle.std.proofs.lemmas.Nat.{mul-add-lt, div-add-mod', div_below, mod_below}
+use Rattle.std.proofs.lemmas.Nat.{div-add-mod', div_below, mod_below}
 use Rattle.std.proofs.lemmas.Int.{ints}
 use Rattle.vms_base.specs.Groups.{IsByte, AreBytes}
 use Rattle.vms_base.specs.Places.{Shape, IsLayout, cell, counter_count, place_count}
 use Rattle.vms_base.specs.Thresholds.{most_threshold}
+use Rattle.vms_base.proofs.Cells.{cell-lt}
 use Rattle.vms_core.specs.declared.states.State.{State}
 use Rattle.vms_core.specs.Plain.{IsPlainBase}
 use Rattle.vms_core.specs.Cells.{HasShape, TellsGroup, counters_of, places_of, zones_of, zeroed}
@@ -48,7 +49,7 @@ module _ (s : State) (counters places : ℕ) (plain : IsPlain s counters places)
       let row : c < plain.shape.cpus = omega (arith, plain.shaped.cpu) in
       let column : k < counter_count plain.shape = omega (arith, plain.shaped.place) in
       rw (plain.shaped.diff, width)
-      (omega (arith, mul-add-lt c (counter_count plain.shape) k plain.shape.cpus row column))
+      (cell-lt (counter_count plain.shape) plain.shape.cpus c k row column)
 
   -- the eight cells of a group stand in the list
   pub diff_cells : (c j : ℕ) → c < length s.cpu → j < counters_of s / 8 → cell counters c (8 * j) + 8 ≤ length s.diff
@@ -59,7 +60,8 @@ module _ (s : State) (counters places : ℕ) (plain : IsPlain s counters places)
   AreBytes-part start k = ⊎_elim
       (λ (within : k < 8). rw (get_or-take 8 (drop start s.diff) k (pos 0) within, get_or-drop start s.diff k (pos 0))
       (byte (get_or s.diff (start + k) (pos 0)) (plain.diffs (start + k))))
-      (λ (past : 8 ≤ k). rw (get_or_past (take 8 (drop start s.diff)) k (pos 0) (omega (arith, length-take 8 (drop start s.diff))))
+      (λ (past : 8 ≤ k).
+      rw (get_or_past (take 8 (drop start s.diff)) k (pos 0) (omega (arith, length-take 8 (drop start s.diff))))
       (byte (pos 0) (omega arith)))
       (cases_lt k 8)
     where
@@ -68,7 +70,11 @@ module _ (s : State) (counters places : ℕ) (plain : IsPlain s counters places)
 
   pub TellsGroup-part : (c j : ℕ) → TellsGroup s c j (take 8 (drop (cell counters c (8 * j)) s.diff))
   TellsGroup-part c j i within =
-      rw (get_or-take 8 (drop (cell counters c (8 * j)) s.diff) i (pos 0) within, get_or-drop (cell counters c (8 * j)) s.diff i (pos 0))
+      rw (
+        get_or-take 8 (drop (cell counters c (8 * j)) s.diff) i (pos 0) within,
+        get_or-drop
+            (cell counters c (8 * j)) s.diff i (pos 0),
+      )
       (ap (λ n. get_or s.diff n (pos 0))
       (let place : cell counters c (8 * j) + i ≡ cell counters c (8 * j + i) = omega arith in
       place ∙ ap (λ (width : ℕ). cell width c (8 * j + i)) plain.one_for_each_counter))
@@ -79,10 +85,11 @@ module _ (s : State) (counters places : ℕ) (plain : IsPlain s counters places)
       let row : c < plain.shape.cpus = omega (arith, plain.shaped.cpu) in
       let column : g < length plain.shape.zones = omega (arith, plain.shaped.mark) in
       rw (plain.shaped.acknowledged, plain.shaped.mark)
-      (omega (arith, mul-add-lt c (length plain.shape.zones) g plain.shape.cpus row column))
+      (cell-lt (length plain.shape.zones) plain.shape.cpus c g row column)
 
   -- other differentials, of which none is larger than a threshold may be
-  IsPlain-diffs : (ds : List ℤ) → length ds ≡ length s.diff → ((m : ℕ) → unsigned_abs (get_or ds m (pos 0)) ≤ most_threshold)
+  IsPlain-diffs : (ds : List ℤ) → length ds ≡ length s.diff
+      → ((m : ℕ) → unsigned_abs (get_or ds m (pos 0)) ≤ most_threshold)
       → IsPlain (record s { diff = ds }) counters places
   IsPlain-diffs ds same small = record {
     shape = plain.shape;
@@ -112,13 +119,16 @@ module _ (s : State) (counters places : ℕ) (plain : IsPlain s counters places)
   IsPlain-put n d within small = IsPlain-diffs (set s.diff n d) (length-set s.diff n d)
       (each_set s.diff n d (pos 0) (λ z. unsigned_abs z ≤ most_threshold) within small plain.diffs)
 
-  pub IsPlain-take : (start : ℕ) → start + 8 ≤ length s.diff → IsPlain (record s { diff = zeroed s.diff start 8 }) counters places
+  pub IsPlain-take : (start : ℕ) → start + 8 ≤ length s.diff
+      → IsPlain (record s { diff = zeroed s.diff start 8 }) counters places
   unfolding zeroed
   IsPlain-take start within = IsPlain-diffs (zeroed s.diff start 8) (length-zeroed s.diff start 8) (small 8 within)
     where
-      small : (n : ℕ) → start + n ≤ length s.diff → (m : ℕ) → unsigned_abs (get_or (zeroed s.diff start n) m (pos 0)) ≤ most_threshold
+      small : (n : ℕ) → start + n ≤ length s.diff → (m : ℕ)
+          → unsigned_abs (get_or (zeroed s.diff start n) m (pos 0)) ≤ most_threshold
       small zero room = plain.diffs
-      small (suc n) room = each_set (zeroed s.diff start n) (start + n) (pos 0) (pos 0) (λ z. unsigned_abs z ≤ most_threshold)
+      small (suc n) room = each_set (zeroed s.diff start n) (start + n) (pos 0) (pos 0)
+          (λ z. unsigned_abs z ≤ most_threshold)
           (omega (arith, length-zeroed s.diff start n)) (omega arith) (small n (omega arith))
 
 module _ (shape : Shape) (s : State) (layout : IsLayout shape) (shaped : HasShape shape s) where
@@ -136,7 +146,9 @@ module _ (s : State) (base : IsPlainBase s) where
     shape = base.shape;
     is_layout = base.is_layout;
     shaped = base.opening.shaped;
-    one_for_each_counter = columns base.shape s base.is_layout base.opening.shaped (counter_count base.shape) (length s.diff) base.opening.shaped.diff ∙ sym base.opening.shaped.place;
+    one_for_each_counter =
+        columns base.shape s base.is_layout base.opening.shaped (counter_count base.shape)
+        (length s.diff) base.opening.shaped.diff ∙ sym base.opening.shaped.place;
     one_for_each_place = refl;
     diffs = each_index s.diff (pos 0) base.shape.cpus (counter_count base.shape) (λ d. unsigned_abs d ≤ most_threshold)
         base.opening.shaped.diff

@@ -1,5 +1,5 @@
 -- Rating a zone leaves a mark that covers what the CPUs may hide.
-use Rattle.std.proofs.Common.{◌≡◌, ℕ, suc, zero, ◌+◌, Bool, true, false, ◌&&◌, nat_eq, nat_le, if◌then◌else◌, max, List, [], ◌∷◌, ◌++◌, length, refl, sym, ap, ◌∙◌, arith, eq-eqb, eqb-true, subst}
+use Rattle.std.proofs.Common.{◌≡◌, ℕ, ◌+◌, Bool, true, false, ◌&&◌, nat_eq, nat_le, if◌then◌else◌, max, List, [], ◌∷◌, ◌++◌, length, refl, sym, ap, ◌∙◌, arith, eq-eqb, eqb-true, subst}
 use Rattle.std.proofs.lemmas.Bool.Decides.{nat_tests}
 use Rattle.vms_base.specs.declared.ids.CpuId.{CpuId}
 use Rattle.vms_base.specs.declared.kinds.ZoneSize.{ZoneSize}
@@ -13,7 +13,8 @@ use Rattle.vms_core.specs.declared.steps.Step.TheVariants.{SetM}
 use Rattle.vms_core.specs.Bases.{size_at}
 use Rattle.vms_core.specs.Controlling.{RatingCovers, mark_left, threshold_steps, mark_for}
 use Rattle.vms_core.specs.Pages.{History}
-use Rattle.vms_core.specs.Peaks.{sets, sets_after, threshold_in, threshold_after, peak, peak_after, cpu_in, cpu_after, if_present, count_below, peak_sum}
+use Rattle.vms_core.specs.Peaks.{sets, sets_after, threshold_in, threshold_after, peak, peak_after, cpu_in, cpu_after, if_present, peak_sum}
+use Rattle.vms_core.proofs.CountLemmas.{count_below-same}
 
 cover_mark-covers : (size : ZoneSize) (linux hidden : ℕ) → Covers size (cover_mark_of size linux hidden) hidden
 cover_mark-covers size linux hidden = by (nat_eq linux 0) (nat_le hidden (gap_of size)) refl
@@ -52,15 +53,12 @@ SamePeaks-after facts g p (step ∷ steps) h k same =
     SamePeaks-after facts g p steps (record { caller = p; step = step } ∷ h) (record { caller = p; step = step } ∷ k)
     (SamePeaks-next facts g h k (record { caller = p; step = step }) same)
 
-count-same : (f f' : ℕ → ℕ) → ((c : ℕ) → f c ≡ f' c) → (n : ℕ) → count_below f n ≡ count_below f' n
-count-same f f' same zero = refl
-count-same f f' same (suc n) = omega (arith, same n, count-same f f' same n)
-
 peak_sum-same : (facts : Facts) (g : ℕ) (h k : History) → SamePeaks facts g h k → peak_sum facts g h ≡ peak_sum facts g k
 peak_sum-same facts g h k same =
-    count-same (λ c. if_present (cpu_in facts c h) (peak facts c g h)) (λ c. if_present (cpu_in facts c k) (peak facts c g k))
-    (λ c. ap (λ n. if_present (cpu_in facts c h) n) (same.same_peaks c) ∙ ap (λ x. if_present x (peak facts c g k)) (same.same_cpus c))
-    facts.layout.cpus
+    count_below-same (λ c. if_present (cpu_in facts c h) (peak facts c g h))
+    (λ c. if_present (cpu_in facts c k) (peak facts c g k)) facts.layout.cpus
+    (λ c c_in. ap (λ n. if_present (cpu_in facts c h) n) (same.same_peaks c)
+    ∙ ap (λ x. if_present x (peak facts c g k)) (same.same_cpus c))
 
 thresholds-keep : (g t : ℕ) (cs : List CpuId) (m : ℕ) → mark_left g m (threshold_steps g t cs) ≡ m
 thresholds-keep g t [] m = refl

@@ -1,8 +1,7 @@
 -- What a step that meets its condition makes of thresholds, numbers of sets, marks, CPU states and acknowledgements,
 -- and what stands of them after a legal history.
-use Rattle.std.proofs.Common.{◌≡◌, ℕ, suc, ◌+◌, ◌*◌, ◌/◌, ◌&&◌, Bool, true, false, [], ◌∷◌, List, length, get_or, Option, Some, None, refl, ap, ◌∙◌, add-one, length-set, if◌then◌else◌, nat_eq, eqb-true}
+use Rattle.std.proofs.Common.{◌≡◌, ℕ, suc, ◌+◌, ◌*◌, ◌/◌, ◌&&◌, [], ◌∷◌, List, length, get_or, Option, Some, None, refl, ap, ◌∙◌, add-one, length-set, if◌then◌else◌, nat_eq}
 use Rattle.std.proofs.Math.ListN.{set}
-use Rattle.std.proofs.lemmas.Bool.{and_parts}
 use Rattle.vms_base.specs.declared.ids.CpuId.{CpuId}
 use Rattle.vms_base.specs.declared.kinds.CpuState.{CpuState}
 use Rattle.vms_base.specs.declared.kinds.CpuState.TheVariants.{Absent}
@@ -10,6 +9,7 @@ use Rattle.vms_base.specs.Places.{IsLayout, IsCpu, IsPlace, IsZone, cell, place_
 use Rattle.vms_history.specs.declared.events.Event.{Event}
 use Rattle.vms_history.specs.Passes.{owner_in}
 use Rattle.vms_history.proofs.Prefixes.{base_can_begin}
+use Rattle.vms_history.proofs.Cells.{get_or-set, get_or-set_cell, get_or-changed_cell}
 use Rattle.vms_core.specs.declared.states.State.{State}
 use Rattle.vms_core.specs.declared.steps.Facts.{Facts}
 use Rattle.vms_core.specs.declared.steps.Step.{Step}
@@ -20,7 +20,6 @@ use Rattle.vms_core.specs.Pages.{pages, History, IsLegal, state_after}
 use Rattle.vms_core.specs.Peaks.{sets_after, threshold_after, cpu_after}
 use Rattle.vms_core.specs.PeakLaws.{TellsThresholds, TellsNumbers, TellsCpus}
 use Rattle.vms_core.specs.Steps.{turn, effect}
-use Rattle.vms_core.proofs.CellLemmas.{get_or-set, get_or-set_cell}
 use Rattle.vms_core.proofs.Effects.{owned}
 use Rattle.vms_core.proofs.PlainData.{places_of-shaped}
 use Rattle.vms_core.proofs.Shapes.{HasShape-state_after}
@@ -92,19 +91,9 @@ module _ (facts : Facts) (h : List (Event Step)) (s : State) (p : ℕ) (layout :
   sets-set d f t c g d_in f_in g_in =
       ap (λ n. get_or (set s.threshold_sets (cell (places_of s) d f) (threshold_sets_at s d f + 1)) (cell n c g) 0)
       (places-threshold (cell (places_of s) d f) t)
-      ∙ get_or-set_cell (places_of s) facts.layout.cpus s.threshold_sets d f c g (threshold_sets_at s d f + 1) 0
+      ∙ get_or-changed_cell (places_of s) facts.layout.cpus (λ n. n + 1) s.threshold_sets d f c g 0
       sets-full d_in (rw places f_in) (rw places g_in)
-      ∙ by (nat_eq d c && nat_eq f g) refl
-    where
-      by : (b : Bool) → (nat_eq d c && nat_eq f g) ≡ b
-          → (if b then threshold_sets_at s d f + 1 else threshold_sets_at s c g)
-          ≡ (if b then suc (threshold_sets_at s c g) else threshold_sets_at s c g)
-      by false other = refl
-      by true here =
-          let parts = and_parts (nat_eq d c) (nat_eq f g) here in
-          add-one (threshold_sets_at s d f)
-          ∙ ap (λ n. suc (threshold_sets_at s n f)) (eqb-true d c parts.0)
-          ∙ ap (λ n. suc (threshold_sets_at s c n)) (eqb-true f g parts.1)
+      ∙ ap (λ n. if nat_eq d c && nat_eq f g then n else threshold_sets_at s c g) (add-one (threshold_sets_at s c g))
 
   pub sets-effect : (who : Option CpuId) (step : Step) (c g : ℕ) → Meets facts h s p step → IsPlace facts.layout g
       → threshold_sets_at (effect facts who step s) c g ≡ sets_after c g step (threshold_sets_at s c g)
@@ -168,7 +157,8 @@ module _ (facts : Facts) (e : Event Step) (h : History) (legal : IsLegal facts (
       sets-effect facts h (state_after facts h) e.caller layout shaped (owner_in turn h e.caller) e.step c g
       legal.2 g_in
 
-  pub cpu_at-newest : (c : ℕ) → cpu_at (state_after facts (e ∷ h)) c ≡ cpu_after c e.step (cpu_at (state_after facts h) c)
+  pub cpu_at-newest : (c : ℕ) → cpu_at (state_after facts (e ∷ h)) c
+      ≡ cpu_after c e.step (cpu_at (state_after facts h) c)
   cpu_at-newest c =
       cpu_at-effect facts h (state_after facts h) e.caller layout shaped (owner_in turn h e.caller) e.step c legal.2
 

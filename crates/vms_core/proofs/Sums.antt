@@ -1,7 +1,6 @@
 -- Nothing is lost: values, differentials and what is carried add up to the true totals.
-use Rattle.std.proofs.Common.{◌≡◌, ℕ, suc, ◌+◌, ◌*◌, ◌%◌, ◌<◌, ◌&&◌, Bool, true, false, List, [], ◌∷◌, Option, Some, None, ℤ, pos, neg_ℤ, ◌+ℤ◌, ◌-ℤ◌, refl, sym, ap, ◌∙◌, arith, if◌then◌else◌, nat_eq, eq-eqb, eqb-true}
+use Rattle.std.proofs.Common.{◌≡◌, ℕ, suc, ◌+◌, ◌*◌, ◌%◌, ◌&&◌, Bool, true, false, List, [], ◌∷◌, Option, Some, None, ℤ, pos, neg_ℤ, ◌+ℤ◌, ◌-ℤ◌, refl, ap, ◌∙◌, arith, if◌then◌else◌, nat_eq, eqb-true}
 use Rattle.std.proofs.lemmas.Int.{ints}
-use Rattle.std.proofs.lemmas.Bool.{ne_eqb}
 use Rattle.vms_base.specs.declared.groups.Diffs.{Diffs}
 use Rattle.vms_base.specs.declared.ids.CounterId.{CounterId}
 use Rattle.vms_base.specs.declared.ids.CpuId.{CpuId}
@@ -10,8 +9,8 @@ use Rattle.vms_base.specs.declared.kinds.Mode.{Mode}
 use Rattle.vms_base.specs.Places.{Shape, IsCpu, IsCounter, group_of}
 use Rattle.vms_history.specs.Events.{total}
 use Rattle.vms_history.specs.Passes.{owner_in, begun_in}
-use Rattle.vms_history.specs.Sums.{sum_below}
-use Rattle.vms_history.proofs.SumLaws.{sum_below-same, sum_below-changed}
+use Rattle.vms_history.proofs.Choices.{if-cancels}
+use Rattle.vms_history.proofs.SumLaws.{sum_below-same, sum_below-one}
 use Rattle.vms_history.proofs.CallerSums.{total-by_caller}
 use Rattle.vms_core.specs.declared.states.State.{State}
 use Rattle.vms_core.specs.declared.steps.Facts.{Facts}
@@ -29,36 +28,20 @@ use Rattle.vms_core.proofs.Shapes.{HasShape-state_after}
 use Rattle.vms_core.proofs.Effects.{owned, value_at-effect, diff_at-effect}
 
 -- what a list of a group tells of one counter
-pub entry-told : (s : State) (c j k : ℕ) (values : List ℤ) → TellsGroup s c j values → j ≡ group_of k → entry values k ≡ diff_at s c k
+pub entry-told : (s : State) (c j k : ℕ) (values : List ℤ) → TellsGroup s c j values → j ≡ group_of k
+    → entry values k ≡ diff_at s c k
 entry-told s c j k values told same =
     let at : 8 * j + k % 8 ≡ k = omega arith in
     told (k % 8) (omega arith) ∙ ap (diff_at s c) at
-
--- one value of a sum is another, if at all
-pub sum_below-one_if : (f : ℕ → ℤ) (d n : ℕ) (b : Bool) (v : ℤ) → d < n
-    → sum_below (λ c. if nat_eq d c && b then v else f c) n ≡ sum_below f n +ℤ (if b then v -ℤ f d else pos 0)
-sum_below-one_if f d n true v d_in =
-    let same : nat_eq d d ≡ true = eq-eqb d d refl in
-    let changed =
-    sum_below-changed f (λ c. if nat_eq d c && true then v else f c) d n d_in
-    (λ c c_in other. let differ : nat_eq d c ≡ false = ne_eqb d c (λ e. other (sym e)) in rw differ refl) in
-    let here : (if nat_eq d d && true then v else f d) ≡ v = rw same refl in
-    omega (arith, ints, changed, here)
-sum_below-one_if f d n false v d_in =
-    let all = sum_below-same (λ c. if nat_eq d c && false then v else f c) f n (λ c c_in. by (nat_eq d c) (f c)) in
-    omega (arith, ints, all)
-  where
-    by : (b : Bool) (x : ℤ) → (if b && false then v else x) ≡ x
-    by true x = refl
-    by false x = refl
 
 -- the differentials of one counter after a write to one of them, if it is of that counter
 pub differentials-write : (shape : Shape) (s s' : State) (k d : ℕ) (b : Bool) (v : ℤ) → IsCpu shape d
     → ((c : ℕ) → diff_at s' c k ≡ (if nat_eq d c && b then v else diff_at s c k))
     → differentials shape s' k ≡ differentials shape s k +ℤ (if b then v -ℤ diff_at s d k else pos 0)
 differentials-write shape s s' k d b v d_in write =
-    sum_below-same (λ c. diff_at s' c k) (λ c. if nat_eq d c && b then v else diff_at s c k) shape.cpus (λ c c_in. write c)
-    ∙ sum_below-one_if (λ c. diff_at s c k) d shape.cpus b v d_in
+    sum_below-same (λ c. diff_at s' c k) (λ c. if nat_eq d c && b then v else diff_at s c k) shape.cpus
+    (λ c c_in. write c)
+    ∙ sum_below-one (λ z. z) (λ c. diff_at s c k) (λ c. v) d shape.cpus b d_in
 
 -- what a put does to one counter: b says whether it is the counter of the put
 pub put-adds_up : (b : Bool) (values found after moving delta : ℤ) → (b ≡ true → after +ℤ moving ≡ found +ℤ delta)
@@ -67,17 +50,13 @@ pub put-adds_up : (b : Bool) (values found after moving delta : ℤ) → (b ≡ 
 put-adds_up true values found after moving delta kept sum = omega (arith, ints, kept refl)
 put-adds_up false values found after moving delta kept sum = omega (arith, ints)
 
-take-adds_up : (b : Bool) (values found told : ℤ) → (b ≡ true → told ≡ found)
-    → (sum : ℤ) → (values +ℤ (sum +ℤ (if b then pos 0 -ℤ found else pos 0))) +ℤ (if b then told else pos 0) ≡ (values +ℤ sum) +ℤ pos 0
-take-adds_up true values found told kept sum = omega (arith, ints, kept refl)
-take-adds_up false values found told kept sum = omega (arith, ints)
-
 pub addition-adds_up : (b : Bool) (value amount sum : ℤ)
     → ((if b then value +ℤ amount else value) +ℤ sum) +ℤ (if b then neg_ℤ amount else pos 0) ≡ (value +ℤ sum) +ℤ pos 0
 addition-adds_up true value amount sum = omega (arith, ints)
 addition-adds_up false value amount sum = omega (arith, ints)
 
-module _ (facts : Facts) (h : History) (s : State) (p : ℕ) (shaped : HasShape facts.layout s) (k : ℕ) (k_in : IsCounter facts.layout k) where
+module _ (facts : Facts) (h : History) (s : State) (p : ℕ) (shaped : HasShape facts.layout s) (k : ℕ)
+    (k_in : IsCounter facts.layout k) where
   -- what the values, the differentials and a step add up to in a state after it
   abbrev AddsUp : State → Step → Type 0
   AddsUp after step = (value_at after k +ℤ differentials facts.layout after k) +ℤ moved k step
@@ -98,17 +77,23 @@ module _ (facts : Facts) (h : History) (s : State) (p : ℕ) (shaped : HasShape 
       let kept : nat_eq l.number k ≡ true → after +ℤ moving ≡ diff_at s o.number k +ℤ delta = λ here.
       differential_after-carried_by how t (entry w.values l.number) delta
       ∙ ap (λ found. found +ℤ delta) (told ∙ ap (diff_at s o.number) (eqb-true l.number k here)) in
-      rw write (put-adds_up (nat_eq l.number k) (value_at s k) (diff_at s o.number k) after moving delta kept (differentials facts.layout s k))
+      rw write (put-adds_up (nat_eq l.number k) (value_at s k) (diff_at s o.number k) after moving delta kept
+      (differentials facts.layout s k))
 
-  AddsUp-take : (d : CpuId) (j : GroupId) (w : Diffs) (after : State) → FindsGroup facts s d j w → value_at after k ≡ value_at s k
-      → ((c : ℕ) → diff_at after c k ≡ (if nat_eq d.number c && nat_eq j.number (group_of k) then pos 0 else diff_at s c k))
+  AddsUp-take : (d : CpuId) (j : GroupId) (w : Diffs) (after : State) → FindsGroup facts s d j w
+      → value_at after k ≡ value_at s k
+      → ((c : ℕ) → diff_at after c k
+      ≡ (if nat_eq d.number c && nat_eq j.number (group_of k) then pos 0 else diff_at s c k))
       → AddsUp after (Take d j w)
   AddsUp-take d j w after finds value_same write =
-      let zeroed = differentials-write facts.layout s after k d.number (nat_eq j.number (group_of k)) (pos 0) finds.cpu write in
-      rw (value_same, zeroed) (take-adds_up (nat_eq j.number (group_of k)) (value_at s k) (diff_at s d.number k) (entry w.values k)
-      (λ here. entry-told s d.number j.number k w.values finds.values (eqb-true j.number (group_of k) here)) (differentials facts.layout s k))
+      let zeroed = differentials-write facts.layout s after k d.number (nat_eq j.number (group_of k))
+      (pos 0) finds.cpu write in
+      let all = if-cancels (nat_eq j.number (group_of k)) (diff_at s d.number k) (entry w.values k) (λ here.
+      entry-told s d.number j.number k w.values finds.values (eqb-true j.number (group_of k) here)) in
+      rw (value_same, zeroed) (omega (arith, ints, all))
 
-  AddsUp-addition : (l : CounterId) (a : ℤ) (after : State) → value_at after k ≡ (if nat_eq l.number k then value_at s k +ℤ a else value_at s k)
+  AddsUp-addition : (l : CounterId) (a : ℤ) (after : State)
+      → value_at after k ≡ (if nat_eq l.number k then value_at s k +ℤ a else value_at s k)
       → ((c : ℕ) → diff_at after c k ≡ diff_at s c k) → AddsUp after (AddG l a)
   AddsUp-addition l a after added same =
       let all : differentials facts.layout after k ≡ differentials facts.layout s k =
@@ -129,7 +114,8 @@ module _ (facts : Facts) (h : History) (s : State) (p : ℕ) (shaped : HasShape 
       AddsUp-addition l a (effect facts None (AddG l a) s) (value_at-effect facts h s p shaped None (AddG l a) k meets)
       (λ c. diff_at-effect facts h s p shaped None (AddG l a) c k is meets k_in)
   AddsUp-step (Some o) (AddG l a) is meets =
-      AddsUp-addition l a (effect facts (Some o) (AddG l a) s) (value_at-effect facts h s p shaped (Some o) (AddG l a) k meets)
+      AddsUp-addition l a (effect facts (Some o) (AddG l a) s)
+      (value_at-effect facts h s p shaped (Some o) (AddG l a) k meets)
       (λ c. diff_at-effect facts h s p shaped (Some o) (AddG l a) c k is meets k_in)
   AddsUp-step None _ is meets = refl
   AddsUp-step (Some o) _ is meets = refl
@@ -147,5 +133,6 @@ value_at-moved facts (e ∷ h) k legal k_in =
 
 pub totals-kept : (facts : Facts) (h : History) → IsLegal facts h → KeepsTotals facts h
 totals-kept facts h legal k k_in =
-    let all : total (moved k) h ≡ carried_by_all h k = total-by_caller pages facts (moved k) h (suc (begun_in turn h)) legal (omega arith) in
+    let all : total (moved k) h ≡ carried_by_all h k =
+    total-by_caller pages facts (moved k) h (suc (begun_in turn h)) legal (omega arith) in
     rw all at (value_at-moved facts h k legal k_in)

@@ -1,17 +1,19 @@
 -- The state after a change that meets no other caller.
-use Rattle.std.proofs.Common.{◌≡◌, ℕ, ◌+◌, ◌*◌, ◌%◌, ◌<◌, Bool, true, false, nat_le, ℤ, pos, ◌+ℤ◌, List, length, if◌then◌else◌, refl, ap, ◌∙◌, arith, unsigned_abs, length-set, get_or-set_same}
+use Rattle.std.proofs.Common.{◌≡◌, ℕ, ◌<◌, ℤ, pos, ◌+ℤ◌, List, length, refl, ◌∙◌, arith, length-set, get_or-set_same}
 use Rattle.std.proofs.lemmas.Int.{ints}
 use Rattle.std.proofs.lemmas.List.{set-get_or}
-use Rattle.std.proofs.lemmas.Nat.{mul-add-lt}
-use Rattle.std.specs.Prelude.{neg_ℤ}
 use Rattle.vms_base.specs.declared.kinds.Mode.{Mode}
 use Rattle.vms_base.specs.Places.{Shape, IsCpu, IsCounter, IsItem, cell, counter_count, place_of, group_of, item_of}
+use Rattle.vms_base.proofs.Cells.{cell-lt}
 use Rattle.vms_core.specs.declared.states.State.{State}
 use Rattle.vms_core.specs.Cells.{HasShape, TellsGroup, counters_of, entry, value_at, system_at, diff_at, threshold_at, with_diff}
-use Rattle.vms_core.specs.Changes.{overstep_of, differential_after, carried_by}
+use Rattle.vms_core.specs.Changes.{differential_after, carried_by}
 use Rattle.vms_core.specs.Following.{with_carried, with_change_of, with_change}
+use Rattle.vms_core.proofs.ChangeLemmas.{differential_after-carried_by}
+use Rattle.vms_core.proofs.Sums.{entry-told}
 
-pub with_carried-nothing : (shape : Shape) (k : ℕ) (amount : ℤ) (s : State) → amount ≡ pos 0 → with_carried shape k amount s ≡ s
+pub with_carried-nothing : (shape : Shape) (k : ℕ) (amount : ℤ) (s : State) → amount ≡ pos 0
+    → with_carried shape k amount s ≡ s
 with_carried-nothing shape k amount s none =
     let value : value_at s k +ℤ amount ≡ value_at s k = omega (arith, ints) in
     let system : system_at s (item_of shape k) +ℤ amount ≡ system_at s (item_of shape k) = omega (arith, ints) in
@@ -26,11 +28,6 @@ pub system-with_carried : (shape : Shape) (k : ℕ) (amount : ℤ) (s : State) �
 system-with_carried shape k amount s within =
     get_or-set_same s.system (item_of shape k) (system_at s (item_of shape k) +ℤ amount) (pos 0) within
 
--- the list of a counter's group tells its differential
-pub entry_told : (s : State) (c k : ℕ) (values : List ℤ) → TellsGroup s c (group_of k) values → entry values k ≡ diff_at s c k
-entry_told s c k values told =
-    told (k % 8) (omega arith) ∙ ap (diff_at s c) (let whole : 8 * group_of k + k % 8 ≡ k = omega arith in whole)
-
 -- the steps of a change make it
 pub with_change-steps : (shape : Shape) (s : State) (c k t : ℕ) (values : List ℤ) (delta : ℤ) (how : Mode)
     → threshold_at s c (place_of shape k) ≡ t → TellsGroup s c (group_of k) values
@@ -38,17 +35,8 @@ pub with_change-steps : (shape : Shape) (s : State) (c k t : ℕ) (values : List
     (with_diff s c k (differential_after how t (entry values k) delta))
     ≡ with_change shape c k delta how s
 unfolding with_change_of
-with_change-steps shape s c k t values delta how t_told told = rw (t_told, ← entry_told s c k values told) refl
-
--- nothing is lost
-pub differential-carried : (how : Mode) (t : ℕ) (found delta : ℤ)
-    → carried_by how t found delta +ℤ differential_after how t found delta ≡ found +ℤ delta
-differential-carried how t found delta = by (nat_le (unsigned_abs (found +ℤ delta)) t)
-  where
-    by : (b : Bool) → (if b then pos 0 else (found +ℤ delta) +ℤ overstep_of how t)
-        +ℤ (if b then found +ℤ delta else neg_ℤ (overstep_of how t)) ≡ found +ℤ delta
-    by true = omega (arith, ints)
-    by false = omega (arith, ints)
+with_change-steps shape s c k t values delta how t_told told =
+    rw (t_told, ← entry-told s c (group_of k) k values told refl) refl
 
 module _ (shape : Shape) (s : State) (c k : ℕ) (delta : ℤ) (how : Mode) (shaped : HasShape shape s) where
   pub HasShape-with_change : HasShape shape (with_change shape c k delta how s)
@@ -67,7 +55,7 @@ module _ (shape : Shape) (s : State) (c k : ℕ) (delta : ℤ) (how : Mode) (sha
 
   module _ (c_in : IsCpu shape c) (k_in : IsCounter shape k) (i_in : IsItem shape (item_of shape k)) where
     in_diff : cell (counters_of s) c k < length s.diff
-    in_diff = rw (shaped.diff, shaped.place) (omega (arith, mul-add-lt c (counter_count shape) k shape.cpus c_in k_in))
+    in_diff = rw (shaped.diff, shaped.place) (cell-lt (counter_count shape) shape.cpus c k c_in k_in)
 
     diff-with_change : diff_at (with_change shape c k delta how s) c k
         ≡ differential_after how (threshold_at s c (place_of shape k)) (diff_at s c k) delta
@@ -84,23 +72,25 @@ module _ (shape : Shape) (s : State) (c k : ℕ) (delta : ℤ) (how : Mode) (sha
     unfolding with_change_of
     system-with_change = get_or-set_same s.system (item_of shape k) _ (pos 0) (rw shaped.system i_in)
 
-    pub total-with_change : value_at (with_change shape c k delta how s) k +ℤ diff_at (with_change shape c k delta how s) c k
+    pub total-with_change : value_at (with_change shape c k delta how s) k +ℤ diff_at
+        (with_change shape c k delta how s) c k
         ≡ (value_at s k +ℤ diff_at s c k) +ℤ delta
     total-with_change = omega (
       arith,
       ints,
       value-with_change,
       diff-with_change,
-      differential-carried how (threshold_at s c (place_of shape k)) (diff_at s c k) delta,
+      differential_after-carried_by how (threshold_at s c (place_of shape k)) (diff_at s c k) delta,
     )
 
     pub total_of_item-with_change :
-        system_at (with_change shape c k delta how s) (item_of shape k) +ℤ diff_at (with_change shape c k delta how s) c k
+        system_at (with_change shape c k delta how s) (item_of shape k) +ℤ diff_at
+        (with_change shape c k delta how s) c k
         ≡ (system_at s (item_of shape k) +ℤ diff_at s c k) +ℤ delta
     total_of_item-with_change = omega (
       arith,
       ints,
       system-with_change,
       diff-with_change,
-      differential-carried how (threshold_at s c (place_of shape k)) (diff_at s c k) delta,
+      differential_after-carried_by how (threshold_at s c (place_of shape k)) (diff_at s c k) delta,
     )

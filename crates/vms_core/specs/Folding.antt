@@ -1,15 +1,14 @@
 -- The steps of a fold of a CPU, and how often a change misses.
-use Rattle.std.specs.Prelude.{◌≡◌, ℕ, suc, zero, ◌+◌, ◌/◌, ◌&&◌, nat_eq, nat_lt, Bool, true, false, ℤ, pos, ◌+ℤ◌, List, [], ◌∷◌, ◌++◌, length, if◌then◌else◌, All, slice_index_or}
+use Rattle.std.specs.Prelude.{◌≡◌, ℕ, suc, zero, ◌/◌, ◌&&◌, nat_lt, Bool, true, false, ℤ, pos, ◌+ℤ◌, List, [], ◌∷◌, ◌++◌, length, All}
 use Rattle.vms_base.specs.declared.groups.Diffs.{Diffs}
 use Rattle.vms_base.specs.declared.ids.CpuId.{CpuId}
-use Rattle.vms_base.specs.Places.{Shape, place_count, item_count, counter_at, group_of, first_of, item_of, IsItem}
+use Rattle.vms_base.specs.Places.{Shape, place_count, item_count, counter_at, group_of, first_of, IsItem}
 use Rattle.vms_history.specs.declared.events.Event.{Event}
 use Rattle.vms_history.specs.Events.{after}
-use Rattle.vms_history.specs.Sums.{sum_below}
 use Rattle.vms_core.specs.declared.states.Threshold.{Threshold}
 use Rattle.vms_core.specs.declared.steps.Step.{Step}
 use Rattle.vms_core.specs.declared.steps.Step.TheVariants.{LoadT, Take, AddG, AddS, SetA, Miss}
-use Rattle.vms_core.specs.Own.{carried, carried_of_item}
+use Rattle.vms_core.specs.Own.{entries_of, carried, carried_of_item}
 use Rattle.vms_core.specs.Lists.{in_turn}
 
 -- the addition of an amount to the global value of counter k, and to the system-wide value of item i: none of 0
@@ -46,11 +45,6 @@ acknowledges shape is_own g = is_own && nat_lt g (length shape.zones)
 abbrev pub lists_of : List FoundPlace → List Diffs
 lists_of [] = []
 lists_of (found ∷ rest) = found.groups ++ lists_of rest
-
--- the entries for item i in the list of group j
-abbrev pub entries_of : Shape → ℕ → ℕ → Diffs → ℤ
-entries_of shape i j w =
-    sum_below (λ n. if nat_eq (item_of shape (first_of j + n)) i then slice_index_or w.values n (pos 0) else pos 0) 8
 
 -- what was taken for item i, of the groups from j on
 abbrev pub taken_of_item : Shape → ℕ → ℕ → List Diffs → ℤ

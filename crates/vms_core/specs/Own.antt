@@ -1,5 +1,6 @@
 -- What a caller knows and carries, by its own events alone, the newest first.
 use Rattle.std.specs.Prelude.{◌≡◌, ℕ, ◌+◌, ◌%◌, nat_eq, ◌&&◌, Bool, true, false, ℤ, pos, neg_ℤ, List, [], ◌∷◌, slice_index_or, slice_set, if◌then◌else◌, Option, Some, None}
+use Rattle.vms_base.specs.declared.groups.Diffs.{Diffs}
 use Rattle.vms_base.specs.declared.ids.CpuId.{CpuId}
 use Rattle.vms_base.specs.Places.{Shape, place_of, group_of, first_of, item_of}
 use Rattle.vms_history.specs.declared.events.Event.{Event}
@@ -63,13 +64,17 @@ moved k (Take c j w) = if nat_eq j.number (group_of k) then entry w.values k els
 moved k (AddG l a) = if nat_eq l.number k then neg_ℤ a else pos 0
 moved k _ = pos 0
 
+-- the entries for item i in the list of group j
+abbrev pub entries_of : Shape → ℕ → ℕ → Diffs → ℤ
+entries_of shape i j w =
+    sum_below (λ n. if nat_eq (item_of shape (first_of j + n)) i then slice_index_or w.values n (pos 0) else pos 0) 8
+
 -- the same for an item: what a step moves out of the differentials of its counters, less what it adds to its
 -- system-wide value
 abbrev pub moved_of_item : Shape → ℕ → Step → ℤ
 moved_of_item shape i (Put l w t delta how) =
     if nat_eq (item_of shape l.number) i then carried_by how t (entry w.values l.number) delta else pos 0
-moved_of_item shape i (Take c j w) =
-    sum_below (λ n. if nat_eq (item_of shape (first_of j.number + n)) i then slice_index_or w.values n (pos 0) else pos 0) 8
+moved_of_item shape i (Take c j w) = entries_of shape i j.number w
 moved_of_item shape i (AddS l a) = if nat_eq l.number i then neg_ℤ a else pos 0
 moved_of_item shape i _ = pos 0
 

@@ -272,3 +272,17 @@ fn sets(rt: HostRuntime) -> Result<(), Fail> {
     see_each(&rt, plain.state());
     Ok(())
 }
+
+/// A dead CPU whose differentials are 0 becomes absent, and the other stays online.
+#[test]
+fn sets_absent(rt: HostRuntime) -> Result<(), Fail> {
+    let layout = Layout::make(&[DMA, NORMAL], 2)?;
+    let cpus = [CpuState::Online, CpuState::Dead];
+    let mut plain = Plain::make(level(rt.alloc(), &layout, &cpus, 0, 20)?);
+    plain.set_absent(CpuId { number: 1 });
+    assert_eq!(rt;
+        plain.state().cpu.as_slice(),
+        [CpuState::Online, CpuState::Absent].as_slice()
+    );
+    Ok(())
+}

@@ -7,6 +7,7 @@ use Rattle.vms_history.specs.Events.{own}
 use Rattle.vms_history.specs.Passes.{begun_in}
 use Rattle.vms_history.proofs.PassLaws.{own-not_given}
 use Rattle.vms_history.proofs.Prefixes.{base_can_begin}
+use Rattle.vms_history.proofs.SumBounds.{sum_below-not_negative, sum_below-each, sum_below-most}
 use Rattle.vms_event_core.specs.declared.steps.EventFacts.{EventFacts}
 use Rattle.vms_event_core.specs.Bases.{IsBase, most_in_base}
 use Rattle.vms_event_core.specs.Conditions.{most_volume}
@@ -16,7 +17,6 @@ use Rattle.vms_event_core.specs.Steps.{turn}
 use Rattle.vms_event_core.specs.Totals.{spent}
 use Rattle.vms_event_core.specs.Words.{IsEvent, word_at, words_of}
 use Rattle.vms_event_core.proofs.Carrying.{carried-not_negative}
-use Rattle.vms_event_core.proofs.PartSums.{sum_below-not_negative, sum_below-part, sum_below-most}
 use Rattle.vms_event_core.proofs.Spending.{spent-affordable, counted-spent}
 use Rattle.vms_event_core.proofs.Totals.{totals-kept}
 
@@ -26,8 +26,10 @@ module _ (facts : EventFacts) (h : History) (legal : IsLegal facts h) where
 
   true_total-most : (k : ℕ) → IsEvent k → true_total facts h k ≤ℤ pos (most_in_sum facts.layout)
   true_total-most k k_in =
-      let spending = sum_below-most (λ c. spent h c k) most_volume facts.layout.cpus (λ c c_in. spent-affordable facts h c k legal) in
-      let split : pos (most_in_sum facts.layout) ≡ pos most_in_base +ℤ pos (facts.layout.cpus * most_volume) = omega (arith, ints) in
+      let spending = sum_below-most (λ c. pos (spent h c k)) facts.layout.cpus most_volume
+      (λ c c_in. let most = spent-affordable facts h c k legal in omega (arith, ints, most)) in
+      let split : pos (most_in_sum facts.layout) ≡ pos most_in_base +ℤ pos (facts.layout.cpus * most_volume) =
+      omega (arith, ints) in
       omega (arith, ints, base.sums k k_in, counted-spent facts h k legal, spending, split)
 
   each_carried : (k i : ℕ) → i < suc (begun_in turn h) → pos 0 ≤ℤ carried k (own h i)
@@ -36,22 +38,26 @@ module _ (facts : EventFacts) (h : History) (legal : IsLegal facts h) where
   each_word : (k i : ℕ) → i < facts.layout.cpus → pos 0 ≤ℤ pos (word_at (state_after facts h) i k)
   each_word k i below = omega (arith, ints)
 
-  pub words_of-most : (k : ℕ) → IsEvent k → words_of facts.layout (state_after facts h) k ≤ℤ pos (most_in_sum facts.layout)
+  pub words_of-most : (k : ℕ) → IsEvent k
+      → words_of facts.layout (state_after facts h) k ≤ℤ pos (most_in_sum facts.layout)
   words_of-most k k_in =
       let others = sum_below-not_negative (λ i. carried k (own h i)) (suc (begun_in turn h)) (each_carried k) in
       omega (arith, ints, others, totals-kept facts h legal k k_in, true_total-most k k_in)
 
-  word-most : (c k : ℕ) → IsCpu facts.layout c → IsEvent k → word_at (state_after facts h) c k ≤ most_in_sum facts.layout
+  word-most : (c k : ℕ) → IsCpu facts.layout c → IsEvent k
+      → word_at (state_after facts h) c k ≤ most_in_sum facts.layout
   word-most c k c_in k_in =
-      let part = sum_below-part (λ i. pos (word_at (state_after facts h) i k)) c facts.layout.cpus c_in (each_word k) in
-      let word : pos (word_at (state_after facts h) c k) ≤ℤ pos (most_in_sum facts.layout) = omega (arith, ints, part, words_of-most k k_in) in
+      let part = sum_below-each (λ i. pos (word_at (state_after facts h) i k)) c facts.layout.cpus c_in (each_word k) in
+      let word : pos (word_at (state_after facts h) c k) ≤ℤ pos (most_in_sum facts.layout) =
+      omega (arith, ints, part, words_of-most k k_in) in
       omega (arith, ints, word)
 
   carried-most : (p k : ℕ) → IsEvent k → carried k (own h p) ≤ℤ pos (most_in_sum facts.layout)
   carried-most p k k_in = elim (cases_lt p (suc (begun_in turn h))) [
     | inl given ↦
-        let part = sum_below-part (λ i. carried k (own h i)) p (suc (begun_in turn h)) given (each_carried k) in
-        let others = sum_below-not_negative (λ i. pos (word_at (state_after facts h) i k)) facts.layout.cpus (each_word k) in
+        let part = sum_below-each (λ i. carried k (own h i)) p (suc (begun_in turn h)) given (each_carried k) in
+        let others = sum_below-not_negative (λ i. pos (word_at (state_after facts h) i k)) facts.layout.cpus
+        (each_word k) in
         omega (arith, ints, part, others, totals-kept facts h legal k k_in, true_total-most k k_in)
     | inr later ↦
         let none : carried k (own h p) ≡ pos 0 = ap (carried k) (own-not_given events facts h p legal (omega arith)) in

@@ -13,7 +13,8 @@ use Rattle.vms_event_core.specs.Events.{History}
 use Rattle.vms_event_core.specs.Own.{carried}
 use Rattle.vms_event_core.specs.Words.{event_count}
 
-pub count-read : (k : EventId) (n : ℕ) (steps rest : List EventStep) → IsCount k n steps → read_count (steps ++ rest) ≡ rest
+pub count-read : (k : EventId) (n : ℕ) (steps rest : List EventStep) → IsCount k n steps
+    → read_count (steps ++ rest) ≡ rest
 count-read k n steps rest call = rw call.in_order refl
 
 read-loads : (k : EventId) (cpus found : List ℕ) (rest : List EventStep) → length found ≡ length cpus
@@ -26,7 +27,8 @@ read-loads k (c ∷ cpus) (v ∷ found) rest same =
     ∙ ap (λ n. (n, rest)) (sym (sum_by-cons (λ x. x) v found))
 
 pub all_events-read : (facts : EventFacts) (k : EventId) (found : List ℕ) (steps rest : List EventStep) (answer : ℕ)
-    → IsAllEvents facts k found steps answer → read_all_events (length (online_cpus facts)) (steps ++ rest) ≡ (answer, rest)
+    → IsAllEvents facts k found steps answer
+    → read_all_events (length (online_cpus facts)) (steps ++ rest) ≡ (answer, rest)
 all_events-read facts k found steps rest answer call =
     rw (call.in_order, call.adds_up) (read-loads k (online_cpus facts) found rest call.one_each)
 
@@ -54,11 +56,13 @@ folds-carry from into k l p (zero ∷ found) h = folds-carry from into (suc k) l
     by false = omega (arith, ints)
 folds-carry from into k l p (suc v ∷ found) h = folds-carry from into (suc k) l p found _ ∙ by (nat_eq k l)
   where
-    by : (b : Bool) → (if b then neg_ℤ (pos (suc v)) else pos 0) +ℤ ((if b then pos (suc v) else pos 0) +ℤ carried l h) ≡ carried l h
+    by : (b : Bool) → (if b then neg_ℤ (pos (suc v)) else pos 0) +ℤ ((if b then pos (suc v) else pos 0) +ℤ carried l h)
+        ≡ carried l h
     by true = omega (arith, ints)
     by false = omega (arith, ints)
 
-pub fold_events-carry : (facts : EventFacts) (from : CpuId) (found : List ℕ) (steps : List EventStep) (p l : ℕ) (h : History)
+pub fold_events-carry : (facts : EventFacts) (from : CpuId) (found : List ℕ) (steps : List EventStep) (p l : ℕ)
+    (h : History)
     → IsFoldEvents facts from found steps → carried l (after p steps h) ≡ carried l h
 fold_events-carry facts from found steps p l h call =
     rw call.in_order (folds-carry from call.into 0 l p found h)

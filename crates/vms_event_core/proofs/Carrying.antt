@@ -1,5 +1,5 @@
 -- Who carries something, and that no amount carried is negative.
-use Rattle.std.proofs.Common.{◌≡◌, ◌≢◌, ℕ, zero, suc, negsuc, cond, ne_eqb, ◌<◌, ◌≤◌, ◌==◌, Bool, true, false, true≢false, [], ◌∷◌, ℤ, pos, neg_ℤ, ◌+ℤ◌, ◌≤ℤ◌, ◌⊎◌, inl, inr, refl, sym, ap, ◌∙◌, subst, arith, if◌then◌else◌, nat_eq, eqb-true}
+use Rattle.std.proofs.Common.{◌≡◌, ◌≢◌, ℕ, suc, cond, ne_eqb, ◌<◌, ◌≤◌, ◌==◌, Bool, true, false, true≢false, [], ◌∷◌, pos, neg_ℤ, ◌+ℤ◌, ◌≤ℤ◌, inl, inr, refl, sym, ap, ◌∙◌, subst, arith, if◌then◌else◌, nat_eq, eqb-true}
 use Rattle.std.proofs.lemmas.Int.{ints}
 use Rattle.std.proofs.lemmas.Bool.{eqb-false}
 use Rattle.vms_history.specs.declared.events.Event.{Event}
@@ -7,6 +7,8 @@ use Rattle.vms_history.specs.Events.{own}
 use Rattle.vms_history.specs.Legal.{Acts}
 use Rattle.vms_history.specs.Passes.{Turn, begun_in, lives_after, lives_in, owner_after, owner_in}
 use Rattle.vms_history.specs.Passes.Turn.{Works, Begins, Ends}
+use Rattle.vms_history.proofs.Choices.{zero_or_not}
+use Rattle.vms_history.proofs.Prefixes.{own-keeps}
 use Rattle.vms_history.proofs.SumLaws.{sum_below-zeros}
 use Rattle.vms_history.proofs.PassLaws.{live_is_given, lives_in-turn, owner_in-turn}
 use Rattle.vms_history.proofs.Own.{own-mine, own-others}
@@ -21,7 +23,8 @@ use Rattle.vms_event_core.specs.Words.{IsEvent}
 use Rattle.vms_event_core.specs.declared.states.EventState.{EventState}
 
 -- a step that meets its condition leaves no negative amount
-carried-after : (facts : EventFacts) (h : History) (s : EventState) (p k : ℕ) (step : EventStep) → Meets facts h s p step
+carried-after : (facts : EventFacts) (h : History) (s : EventState) (p k : ℕ) (step : EventStep)
+    → Meets facts h s p step
     → pos 0 ≤ℤ carried k (own h p) → pos 0 ≤ℤ (moved k step +ℤ carried k (own h p))
 carried-after facts h s p k (TakeE c l v) meets before = by (nat_eq l.number k)
   where
@@ -32,29 +35,25 @@ carried-after facts h s p k (AddF c l v) meets before = by (nat_eq l.number k) r
   where
     by : (b : Bool) → nat_eq l.number k ≡ b → pos 0 ≤ℤ ((if b then neg_ℤ (pos v) else pos 0) +ℤ carried k (own h p))
     by true same =
-        let all : carried k (own h p) ≡ pos v = ap (λ n. carried n (own h p)) (sym (eqb-true l.number k same)) ∙ meets.carries in
+        let all : carried k (own h p) ≡ pos v = ap (λ n. carried n (own h p)) (sym (eqb-true l.number k same))
+        ∙ meets.carries in
         omega (arith, ints, all)
     by false other = omega (arith, ints)
 carried-after facts h s p k _ meets before = omega (arith, ints)
 
-pub carried-not_negative : (facts : EventFacts) (h : History) (p k : ℕ) → IsLegal facts h → pos 0 ≤ℤ carried k (own h p)
-carried-not_negative facts [] p k legal = omega (arith, ints)
-carried-not_negative facts (e ∷ h) p k legal = by (e.caller == p) refl (carried-not_negative facts h p k legal.0)
-  where
-    by : (b : Bool) → (e.caller == p) ≡ b → pos 0 ≤ℤ carried k (own h p) → pos 0 ≤ℤ carried k (own (e ∷ h) p)
-    by true mine before =
-        let is : e.caller ≡ p = eqb-true e.caller p mine in
-        let meets : Meets facts h (state_after facts h) p e.step = subst (λ q. Meets facts h (state_after facts h) q e.step) is legal.2 in
-        subst (λ (es : History). pos 0 ≤ℤ carried k es) (sym (own-mine e h p is))
-        (carried-after facts h (state_after facts h) p k e.step meets before)
-    by false others before =
-        subst (λ (es : History). pos 0 ≤ℤ carried k es) (sym (own-others e h p (eqb-false e.caller p others))) before
+pub carried-not_negative : (facts : EventFacts) (h : History) (p k : ℕ) → IsLegal facts h
+    → pos 0 ≤ℤ carried k (own h p)
+carried-not_negative facts h p k legal =
+    own-keeps events facts (λ es. pos 0 ≤ℤ carried k es) (omega (arith, ints))
+    (λ e g legal before. carried-after facts g (state_after facts g) e.caller k e.step legal.2 before) h legal p
 
 -- a pass that takes is a control pass that lives, and so is one that carries
-control_before : (facts : EventFacts) (h : History) (s : EventState) (p k : ℕ) (step : EventStep) → Acts events facts h p (turn step)
+control_before : (facts : EventFacts) (h : History) (s : EventState) (p k : ℕ) (step : EventStep)
+    → Acts events facts h p (turn step)
     → Meets facts h s p step → ((l : ℕ) → IsEvent l → carried l (own h p) ≢ pos 0 → IsLiveControl h p)
     → IsEvent k → moved k step +ℤ carried k (own h p) ≢ pos 0 → IsLiveControl h p
-control_before facts h s p k (TakeE c l v) acts meets before k_in some = record { lives = acts.1; control = meets.control }
+control_before facts h s p k (TakeE c l v) acts meets before k_in some =
+    record { lives = acts.1; control = meets.control }
 control_before facts h s p k (AddF c l v) acts meets before k_in some =
     before l.number meets.event (λ none. absurd (omega (arith, ints, none, meets.carries, meets.some)))
 control_before facts h s p k _ acts meets before k_in some = before k k_in (λ none. some (omega (arith, ints, none)))
@@ -73,7 +72,8 @@ module _ (facts : EventFacts) where
           → owner_in turn (e ∷ h) p ≡ owner_after t p (owner_in turn h p) → IsLiveControl (e ∷ h) p
       by Works may lives owner = record { lives = lives ∙ before.lives; control = owner ∙ before.control }
       by (Begins r who) may lives owner =
-          let other : (r == p) ≡ false = ne_eqb r p (let next : r ≡ suc (begun_in turn h) = may.1 in omega (arith, given.1)) in
+          let other : (r == p) ≡ false =
+          ne_eqb r p (let next : r ≡ suc (begun_in turn h) = may.1 in omega (arith, given.1)) in
           record {
             lives = lives ∙ ap (λ b. cond b true (lives_in turn h p)) other ∙ before.lives;
             control = owner ∙ ap (λ b. cond b who (owner_in turn h p)) other ∙ before.control;
@@ -91,30 +91,29 @@ module _ (facts : EventFacts) where
             control = owner ∙ before.control;
           }
 
-  pub carries_as_control : (h : History) (p k : ℕ) → IsLegal facts h → IsEvent k → carried k (own h p) ≢ pos 0 → IsLiveControl h p
+  pub carries_as_control : (h : History) (p k : ℕ) → IsLegal facts h → IsEvent k → carried k (own h p) ≢ pos 0
+      → IsLiveControl h p
   carries_as_control [] p k legal k_in some = absurd (some refl)
   carries_as_control (e ∷ h) p k legal k_in some =
       stays_control e h p k legal k_in (by (e.caller == p) refl (λ l l_in. carries_as_control h p l legal.0 l_in)) some
     where
-      by : (b : Bool) → (e.caller == p) ≡ b → ((l : ℕ) → IsEvent l → carried l (own h p) ≢ pos 0 → IsLiveControl h p) → IsLiveControl h p
+      by : (b : Bool) → (e.caller == p) ≡ b → ((l : ℕ) → IsEvent l → carried l (own h p) ≢ pos 0 → IsLiveControl h p)
+          → IsLiveControl h p
       by true mine before =
           let is : e.caller ≡ p = eqb-true e.caller p mine in
           control_before facts h (state_after facts h) p k e.step
           (subst (λ q. Acts events facts h q (turn e.step)) is legal.1)
           (subst (λ q. Meets facts h (state_after facts h) q e.step) is legal.2)
           before k_in (λ none. some (ap (carried k) (own-mine e h p is) ∙ none))
-      by false others before = before k k_in (λ none. some (ap (carried k) (own-others e h p (eqb-false e.caller p others)) ∙ none))
+      by false others before =
+          before k k_in (λ none. some (ap (carried k) (own-others e h p (eqb-false e.caller p others)) ∙ none))
 
   -- so where no pass lives, the words are all that there is
   pub nothing_carried : (h : History) (k : ℕ) → IsComplete facts h → IsEvent k → carried_by_all h k ≡ pos 0
   nothing_carried h k complete k_in =
       sum_below-zeros (λ p. carried k (own h p)) (suc (begun_in turn h)) (λ p given.
-      elim (zero_or (carried k (own h p))) [
+      elim (zero_or_not (carried k (own h p))) [
         | inl none ↦ none
-        | inr some ↦ absurd (true≢false (sym (carries_as_control h p k complete.legal k_in some).lives ∙ complete.ended p))
+        | inr some ↦ absurd (true≢false
+            (sym (carries_as_control h p k complete.legal k_in some).lives ∙ complete.ended p))
       ])
-    where
-      zero_or : (z : ℤ) → (z ≡ pos 0) ⊎ (z ≢ pos 0)
-      zero_or (pos zero) = inl refl
-      zero_or (pos (suc n)) = inr (λ e. omega (arith, ints))
-      zero_or (negsuc n) = inr (λ e. omega (arith, ints))

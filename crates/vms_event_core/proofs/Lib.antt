@@ -1,7 +1,5 @@
-pub mod Owners
 pub mod WordLemmas
 pub mod Standing
-pub mod PartSums
 pub mod Carrying
 pub mod Spending
 pub mod Totals

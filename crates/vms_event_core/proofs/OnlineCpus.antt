@@ -39,12 +39,16 @@ kept_if facts d c b word online is_dead = by (nat_eq d c) refl
         absurd (cc)
     by false other = omega arith
 
-word_after-grows : (facts : EventFacts) (h : History) (s : EventState) (p c k word : ℕ) (who : Option CpuId) (step : EventStep)
+word_after-grows : (facts : EventFacts) (h : History) (s : EventState) (p c k word : ℕ) (who : Option CpuId)
+    (step : EventStep)
     → cpu_at facts c ≡ Online → Meets facts h s p step → word ≤ word_after who c k step word
-word_after-grows facts h s p c k word (Some o) (AddE l n) online meets = grows_if (nat_eq o.number c && nat_eq l.number k) word n
+word_after-grows facts h s p c k word (Some o) (AddE l n) online meets =
+    grows_if (nat_eq o.number c && nat_eq l.number k) word n
 word_after-grows facts h s p c k word None (AddE l n) online meets = omega arith
-word_after-grows facts h s p c k word (Some o) (AddF d l v) online meets = grows_if (nat_eq d.number c && nat_eq l.number k) word v
-word_after-grows facts h s p c k word None (AddF d l v) online meets = grows_if (nat_eq d.number c && nat_eq l.number k) word v
+word_after-grows facts h s p c k word (Some o) (AddF d l v) online meets =
+    grows_if (nat_eq d.number c && nat_eq l.number k) word v
+word_after-grows facts h s p c k word None (AddF d l v) online meets =
+    grows_if (nat_eq d.number c && nat_eq l.number k) word v
 word_after-grows facts h s p c k word (Some o) (TakeE d l v) online meets =
     kept_if facts d.number c (nat_eq l.number k) word online meets.dead
 word_after-grows facts h s p c k word None (TakeE d l v) online meets =
@@ -60,10 +64,15 @@ word_in-grows facts (e ∷ m) h c k legal online =
     (owner_in turn (m ++ h) e.caller) e.step online legal.2 in
     omega (arith, step, word_in-grows facts m h c k legal.0 online)
 
-pub words-grow : (facts : EventFacts) (m h : History) (c k : ℕ) → IsLegal facts (m ++ h) → cpu_at facts c ≡ Online → IsEvent k
+pub words-grow : (facts : EventFacts) (m h : History) (c k : ℕ) → IsLegal facts (m ++ h) → cpu_at facts c ≡ Online
+    → IsEvent k
     → word_at (state_after facts h) c k ≤ word_at (state_after facts (m ++ h)) c k
 words-grow facts m h c k legal online k_in =
-    rw (word_at-state_after facts h c k (prefix_is_legal events facts m h legal) k_in, word_at-state_after facts (m ++ h) c k legal k_in)
+    rw (
+      word_at-state_after facts h c k (prefix_is_legal events facts m h legal) k_in,
+      word_at-state_after facts
+          (m ++ h) c k legal k_in,
+    )
     (word_in-grows facts m h c k legal online)
 
 module _ (s : EventState) (k : ℕ) where
@@ -97,14 +106,16 @@ module _ (s : EventState) (k : ℕ) where
       omega (arith, ints, rest, at)
 
 -- so what loads of them found, each before h was whole, is not too large in sum
-pub all_events-most : (facts : EventFacts) (h : History) (k : EventId) (found : List ℕ) (steps : List EventStep) (answer : ℕ)
+pub all_events-most : (facts : EventFacts) (h : History) (k : EventId) (found : List ℕ) (steps : List EventStep)
+    (answer : ℕ)
     → IsLegal facts h → IsEvent k.number → IsAllEvents facts k found steps answer
     → AtMostStands (state_after facts h) k.number (online_cpus facts) found → answer ≤ most_in_sum facts.layout
 all_events-most facts h k found steps answer legal k_in call most =
     let part = found-most (state_after facts h) k.number 0 facts.cpus found call.one_each most in
     let one_each : 0 + length facts.cpus ≡ facts.layout.cpus =
     (let states = (base_can_begin events facts h legal).one_state_each in omega arith) in
-    let all : words_below (state_after facts h) k.number (0 + length facts.cpus) ≡ words_of facts.layout (state_after facts h) k.number =
+    let all : words_below (state_after facts h) k.number (0 + length facts.cpus)
+    ≡ words_of facts.layout (state_after facts h) k.number =
     ap (words_below (state_after facts h) k.number) one_each in
     let sum_most : pos (sum found) ≤ℤ pos (most_in_sum facts.layout) =
     omega (arith, ints, part, all, words_of-most facts h legal k.number k_in) in

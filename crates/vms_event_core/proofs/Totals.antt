@@ -6,7 +6,8 @@ use Rattle.vms_base.specs.Places.{IsCpu}
 use Rattle.vms_history.specs.Events.{total}
 use Rattle.vms_history.specs.Passes.{begun_in, owner_in}
 use Rattle.vms_history.specs.Sums.{sum_below}
-use Rattle.vms_history.proofs.SumLaws.{sum_below-same}
+use Rattle.vms_history.proofs.Choices.{if-cancels}
+use Rattle.vms_history.proofs.SumLaws.{sum_below-same, sum_below-one}
 use Rattle.vms_history.proofs.CallerSums.{total-by_caller}
 use Rattle.vms_event_core.specs.declared.states.EventState.{EventState}
 use Rattle.vms_event_core.specs.declared.steps.EventFacts.{EventFacts}
@@ -19,40 +20,38 @@ use Rattle.vms_event_core.specs.Steps.{turn}
 use Rattle.vms_event_core.specs.Totals.{counted, word_after, word_in}
 use Rattle.vms_event_core.specs.Words.{IsEvent, word_at, words_of}
 use Rattle.vms_event_core.proofs.Carrying.{nothing_carried}
-use Rattle.vms_event_core.proofs.PartSums.{sum_below-one}
 use Rattle.vms_event_core.proofs.Standing.{owner_known, word_at-state_after}
 
 -- b says whether the step is on the event that is summed
-addition-adds_up : (b : Bool) (sum after : ℤ) (word n : ℕ) → after ≡ sum +ℤ (if b then pos (word + n) -ℤ pos word else pos 0)
-    → (after +ℤ pos 0 ≡ sum +ℤ (if b then pos n else pos 0)) × (after +ℤ (if b then neg_ℤ (pos n) else pos 0) ≡ sum +ℤ pos 0)
+addition-adds_up : (b : Bool) (sum after : ℤ) (word n : ℕ)
+    → after ≡ sum +ℤ (if b then pos (word + n) -ℤ pos word else pos 0)
+    → (after +ℤ pos 0 ≡ sum +ℤ (if b then pos n else pos 0))
+    × (after +ℤ (if b then neg_ℤ (pos n) else pos 0) ≡ sum +ℤ pos 0)
 addition-adds_up true sum after word n is = (omega (arith, ints), omega (arith, ints))
 addition-adds_up false sum after word n is = (omega (arith, ints), omega (arith, ints))
 
-take-adds_up : (b : Bool) (sum after : ℤ) (word v : ℕ) → (b ≡ true → v ≡ word)
-    → after ≡ sum +ℤ (if b then pos 0 -ℤ pos word else pos 0) → after +ℤ (if b then pos v else pos 0) ≡ sum +ℤ pos 0
-take-adds_up true sum after word v told is = let same = told refl in omega (arith, ints)
-take-adds_up false sum after word v told is = omega (arith, ints)
-
-module _ (facts : EventFacts) (h : History) (s : EventState) (p k : ℕ) (f : ℕ → ℕ) (told : (c : ℕ) → word_at s c k ≡ f c) where
+module _ (facts : EventFacts) (h : History) (s : EventState) (p k : ℕ) (f : ℕ → ℕ)
+    (told : (c : ℕ) → word_at s c k ≡ f c) where
   -- the words after a step, and what it moved, are the words before it and what it counted
   AddsUp-step : (who : Option CpuId) (step : EventStep) → owner_in turn h p ≡ who
       → ((o : CpuId) → who ≡ Some o → IsCpu facts.layout o.number) → Meets facts h s p step
       → sum_below (λ c. pos (word_after who c k step (f c))) facts.layout.cpus +ℤ moved k step
       ≡ sum_below (λ c. pos (f c)) facts.layout.cpus +ℤ counted k step
   AddsUp-step (Some o) (AddE l n) is known meets =
-      let one = sum_below-one f (λ c. f c + n) o.number facts.layout.cpus (nat_eq l.number k) (known o refl) in
+      let one = sum_below-one pos f (λ c. f c + n) o.number facts.layout.cpus (nat_eq l.number k) (known o refl) in
       (addition-adds_up (nat_eq l.number k) (sum_below (λ c. pos (f c)) facts.layout.cpus) _ (f o.number) n one).0
   AddsUp-step None (AddE l n) is known meets = let owns = meets.owns in absurd (cc)
   AddsUp-step (Some o) (TakeE d l v) is known meets = let owns = meets.control in absurd (cc)
   AddsUp-step None (TakeE d l v) is known meets =
-      let one = sum_below-one f (λ c. 0) d.number facts.layout.cpus (nat_eq l.number k) meets.finds.cpu in
-      take-adds_up (nat_eq l.number k) (sum_below (λ c. pos (f c)) facts.layout.cpus) _ (f d.number) v
-      (λ same. sym meets.finds.value ∙ ap (word_at s d.number) (eqb-true l.number k same) ∙ told d.number) one
+      let one = sum_below-one pos f (λ c. 0) d.number facts.layout.cpus (nat_eq l.number k) meets.finds.cpu in
+      let all = if-cancels (nat_eq l.number k) (pos (f d.number)) (pos v) (λ same.
+      ap pos (sym meets.finds.value ∙ ap (word_at s d.number) (eqb-true l.number k same) ∙ told d.number)) in
+      omega (arith, ints, one, all)
   AddsUp-step (Some o) (AddF d l v) is known meets =
-      let one = sum_below-one f (λ c. f c + v) d.number facts.layout.cpus (nat_eq l.number k) meets.cpu in
+      let one = sum_below-one pos f (λ c. f c + v) d.number facts.layout.cpus (nat_eq l.number k) meets.cpu in
       (addition-adds_up (nat_eq l.number k) (sum_below (λ c. pos (f c)) facts.layout.cpus) _ (f d.number) v one).1
   AddsUp-step None (AddF d l v) is known meets =
-      let one = sum_below-one f (λ c. f c + v) d.number facts.layout.cpus (nat_eq l.number k) meets.cpu in
+      let one = sum_below-one pos f (λ c. f c + v) d.number facts.layout.cpus (nat_eq l.number k) meets.cpu in
       (addition-adds_up (nat_eq l.number k) (sum_below (λ c. pos (f c)) facts.layout.cpus) _ (f d.number) v one).1
   AddsUp-step None _ is known meets = refl
   AddsUp-step (Some o) _ is known meets = refl

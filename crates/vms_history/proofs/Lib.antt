@@ -1,6 +1,12 @@
+pub mod Choices
 pub mod Own
 pub mod Prefixes
 pub mod PassLaws
+pub mod Owners
 pub mod OwnAt
+pub mod GoesOn
 pub mod SumLaws
+pub mod SumBounds
 pub mod CallerSums
+pub mod Cells
+pub mod TakenOnce

@@ -8,12 +8,14 @@ use Rattle.vms_history.proofs.Own.{Extends-same, Extends-both, own-append, own-o
 use Rattle.vms_history.proofs.Prefixes.{legal_before, prefix_is_legal}
 
 module _ {K : Type 0} where
-  pub own_at-events : (h : List (Event K)) (p : ℕ) → map (λ (at : Event K × List (Event K)). at.0) (own_at h p) ≡ own h p
+  pub own_at-events : (h : List (Event K)) (p : ℕ)
+      → map (λ (at : Event K × List (Event K)). at.0) (own_at h p) ≡ own h p
   own_at-events [] p = refl
   own_at-events (e ∷ h) p = by (e.caller == p) (own_at-events h p)
     where
       by : (b : Bool) → map (λ (at : Event K × List (Event K)). at.0) (own_at h p) ≡ own h p
-          → map (λ (at : Event K × List (Event K)). at.0) (cond b ((e, h) ∷ own_at h p) (own_at h p)) ≡ cond b (e ∷ own h p) (own h p)
+          → map (λ (at : Event K × List (Event K)). at.0) (cond b ((e, h) ∷ own_at h p) (own_at h p))
+          ≡ cond b (e ∷ own h p) (own h p)
       by true rest = ap (λ es. e ∷ es) rest
       by false rest = rest
 
@@ -22,9 +24,11 @@ module _ {K : Type 0} where
   own_at-append [] h p = refl
   own_at-append (e ∷ m) h p = by (e.caller == p) (own_at-append m h p)
     where
-      by : (b : Bool) → own_at (m ++ h) p ≡ map (λ (at : Event K × List (Event K)). (at.0, at.1 ++ h)) (own_at m p) ++ own_at h p
+      by : (b : Bool) → own_at (m ++ h) p
+          ≡ map (λ (at : Event K × List (Event K)). (at.0, at.1 ++ h)) (own_at m p) ++ own_at h p
           → cond b ((e, m ++ h) ∷ own_at (m ++ h) p) (own_at (m ++ h) p)
-          ≡ map (λ (at : Event K × List (Event K)). (at.0, at.1 ++ h)) (cond b ((e, m) ∷ own_at m p) (own_at m p)) ++ own_at h p
+          ≡ map (λ (at : Event K × List (Event K)). (at.0, at.1 ++ h))
+          (cond b ((e, m) ∷ own_at m p) (own_at m p)) ++ own_at h p
       by true rest = ap (λ ats. (e, m ++ h) ∷ ats) rest
       by false rest = rest
 
@@ -66,28 +70,34 @@ module _ {K : Type 0} where
       by [] is = refl
       by (at ∷ ats) is = absurd cc
 
-  pub own_at-newest : (h : List (Event K)) (p : ℕ) (e : Event K) (earlier : List (Event K)) (newest : NewestOwn h p e earlier)
+  pub own_at-newest : (h : List (Event K)) (p : ℕ) (e : Event K) (earlier : List (Event K))
+      (newest : NewestOwn h p e earlier)
       → own_at h p ≡ (e, newest.before) ∷ own_at newest.before p
   own_at-newest h p e earlier newest =
       ap (λ es. own_at es p) newest.parts
       ∙ own_at-append newest.since (e ∷ newest.before) p
-      ∙ ap (λ ats. map (λ (at : Event K × List (Event K)). (at.0, at.1 ++ (e ∷ newest.before))) ats ++ own_at (e ∷ newest.before) p)
+      ∙ ap (λ ats. map (λ (at : Event K × List (Event K)). (at.0, at.1 ++ (e ∷ newest.before))) ats
+      ++ own_at (e ∷ newest.before) p)
       (own_at-none newest.since p newest.none_since)
-      ∙ ap (λ b. cond b ((e, newest.before) ∷ own_at newest.before p) (own_at newest.before p)) (eq-eqb e.caller p newest.mine)
+      ∙ ap (λ b. cond b ((e, newest.before) ∷ own_at newest.before p) (own_at newest.before p))
+      (eq-eqb e.caller p newest.mine)
 
   -- the last of the steps that p made in a row on top of an earlier history; what stood before it goes on from there
   pub last_in_row : (later earlier : List (Event K)) (p : ℕ) (ks : List K) (k : K) → Extends later earlier
       → own later p ≡ after p (ks ++ k ∷ []) (own earlier p)
-      → (newest : NewestOwn later p (record { caller = p; step = k }) (after p ks (own earlier p))) × Extends newest.before earlier
+      → (newest : NewestOwn later p (record { caller = p; step = k }) (after p ks (own earlier p)))
+      × Extends newest.before earlier
   last_in_row later earlier p ks k more made =
       let e : Event K = record { caller = p; step = k } in
       let on_top : own more.0 p ≡ e ∷ after p ks [] =
-      own-on_top more.0 earlier p (ks ++ k ∷ []) (sym (ap (λ es. own es p) more.1) ∙ made) ∙ after-steps p ks (k ∷ []) [] in
+      own-on_top more.0 earlier p (ks ++ k ∷ []) (sym (ap (λ es. own es p) more.1) ∙ made)
+      ∙ after-steps p ks (k ∷ []) [] in
       let newest = newest_own more.0 p e (after p ks []) on_top in (
         record {
           since = newest.since;
           before = newest.before ++ earlier;
-          parts = more.1 ∙ ap (λ es. es ++ earlier) newest.parts ∙ append_assoc newest.since (e ∷ newest.before) earlier;
+          parts = more.1 ∙ ap (λ es. es ++ earlier) newest.parts
+              ∙ append_assoc newest.since (e ∷ newest.before) earlier;
           none_since = newest.none_since;
           own_before =
               own-append newest.before earlier p ∙ ap (λ es. es ++ own earlier p) newest.own_before
@@ -119,7 +129,8 @@ module _ {F K S : Type 0} (machine : Machine F K S) (facts : F) where
     where
       by : (b : Bool) → (e.caller == p) ≡ b
           → All (λ (at : Event K × List (Event K)). MadeAt machine facts (e ∷ h) p at.0 at.1) (own_at h p)
-          → All (λ (at : Event K × List (Event K)). MadeAt machine facts (e ∷ h) p at.0 at.1) (cond b ((e, h) ∷ own_at h p) (own_at h p))
+          → All (λ (at : Event K × List (Event K)). MadeAt machine facts (e ∷ h) p at.0 at.1)
+          (cond b ((e, h) ∷ own_at h p) (own_at h p))
       by true mine rest =
           All-cons (λ (at : Event K × List (Event K)). MadeAt machine facts (e ∷ h) p at.0 at.1) (e, h) (own_at h p)
           (record { mine = eqb-true e.caller p mine; later = Extends-same (e ∷ h); legal = legal }) rest
@@ -131,5 +142,6 @@ module _ {F K S : Type 0} (machine : Machine F K S) (facts : F) where
       record {
         mine = newest.mine;
         later = (newest.since, newest.parts);
-        legal = prefix_is_legal machine facts newest.since (e ∷ newest.before) (subst (IsLegal machine facts) newest.parts legal);
+        legal = prefix_is_legal machine facts newest.since (e ∷ newest.before)
+            (subst (IsLegal machine facts) newest.parts legal);
       }

@@ -55,25 +55,29 @@ module _ {F K S : Type 0} (machine : Machine F K S) (facts : F) where
         → begun_in machine.turn (e ∷ h) ≡ begun_after (machine.turn e.step) (begun_in machine.turn h)
     begun_in-turn acts =
         ⊎_elim (begun_in-main machine.turn e h)
-        (λ other. begun_in-others machine.turn e h other.0 ∙ ap (λ t. begun_after t (begun_in machine.turn h)) (sym other.1))
+        (λ other. begun_in-others machine.turn e h other.0
+        ∙ ap (λ t. begun_after t (begun_in machine.turn h)) (sym other.1))
         (main_or_works h e.caller (machine.turn e.step) acts)
 
     pub lives_in-turn : (q : ℕ) → Acts machine facts h e.caller (machine.turn e.step)
         → lives_in machine.turn (e ∷ h) q ≡ lives_after (machine.turn e.step) q (lives_in machine.turn h q)
     lives_in-turn q acts =
         ⊎_elim (lives_in-main machine.turn e h q)
-        (λ other. lives_in-others machine.turn e h q other.0 ∙ ap (λ t. lives_after t q (lives_in machine.turn h q)) (sym other.1))
+        (λ other. lives_in-others machine.turn e h q other.0
+        ∙ ap (λ t. lives_after t q (lives_in machine.turn h q)) (sym other.1))
         (main_or_works h e.caller (machine.turn e.step) acts)
 
     pub owner_in-turn : (q : ℕ) → Acts machine facts h e.caller (machine.turn e.step)
         → owner_in machine.turn (e ∷ h) q ≡ owner_after (machine.turn e.step) q (owner_in machine.turn h q)
     owner_in-turn q acts =
         ⊎_elim (owner_in-main machine.turn e h q)
-        (λ other. owner_in-others machine.turn e h q other.0 ∙ ap (λ t. owner_after t q (owner_in machine.turn h q)) (sym other.1))
+        (λ other. owner_in-others machine.turn e h q other.0
+        ∙ ap (λ t. owner_after t q (owner_in machine.turn h q)) (sym other.1))
         (main_or_works h e.caller (machine.turn e.step) acts)
 
   -- who may act is told by the main pass's own events, and where a pass ends by that pass's too
-  pub Acts-same : (h g : List (Event K)) (p : ℕ) (t : Turn) → own g 0 ≡ own h 0 → ((q : ℕ) → t ≡ Ends q → own g q ≡ own h q)
+  pub Acts-same : (h g : List (Event K)) (p : ℕ) (t : Turn) → own g 0 ≡ own h 0
+      → ((q : ℕ) → t ≡ Ends q → own g q ≡ own h q)
       → Acts machine facts h p t → Acts machine facts g p t
   Acts-same h g p Works main ending acts = (acts.0, ap (λ es. lives machine.turn es p) main ∙ acts.1)
   Acts-same h g p (Begins q who) main ending acts = (
@@ -81,7 +85,8 @@ module _ {F K S : Type 0} (machine : Machine F K S) (facts : F) where
     acts.1 ∙ ap (λ es. suc (begun machine.turn es)) (sym main),
     acts.2,
     λ r r_lives owns.
-        acts.3 r (ap (λ es. lives machine.turn es r) (sym main) ∙ r_lives) (ap (λ es. owner machine.turn es r) (sym main) ∙ owns),
+        acts.3 r (ap (λ es. lives machine.turn es r) (sym main) ∙ r_lives)
+        (ap (λ es. owner machine.turn es r) (sym main) ∙ owns),
   )
   Acts-same h g p (Ends q) main ending acts = (
     acts.0,
@@ -121,7 +126,8 @@ module _ {F K S : Type 0} (machine : Machine F K S) (facts : F) where
           at false is = let given = before is in (given.0, omega arith)
 
   -- a caller other than the main pass lives when it acts, and begins and ends no pass
-  pub caller_lives : (h : List (Event K)) (p : ℕ) (t : Turn) → Acts machine facts h p t → p ≢ 0 → lives_in machine.turn h p ≡ true
+  pub caller_lives : (h : List (Event K)) (p : ℕ) (t : Turn) → Acts machine facts h p t → p ≢ 0
+      → lives_in machine.turn h p ≡ true
   caller_lives h p Works acts others = acts.1
   caller_lives h p (Begins q c) acts others = absurd (others acts.0)
   caller_lives h p (Ends q) acts others = absurd (others acts.0)
@@ -136,8 +142,19 @@ module _ {F K S : Type 0} (machine : Machine F K S) (facts : F) where
   caller_is_given h p (Begins q c) legal acts = let main : p ≡ 0 = acts.0 in omega arith
   caller_is_given h p (Ends q) legal acts = let main : p ≡ 0 = acts.0 in omega arith
 
+  -- so who makes an event has a number below those not begun yet, before it and after it
+  pub caller_is_below : (e : Event K) (h : List (Event K)) (n : ℕ) → IsLegal machine facts (e ∷ h)
+      → begun_in machine.turn (e ∷ h) < n → (e.caller < n) × (begun_in machine.turn h < n)
+  caller_is_below e h n legal above =
+      let grows : begun_in machine.turn h ≤ begun_in machine.turn (e ∷ h) = begun_in-append machine.turn (e ∷ []) h in
+      let given : e.caller ≤ begun_in machine.turn h =
+      caller_is_given h e.caller (machine.turn e.step) (legal_before machine facts e h legal)
+      (acts_of machine facts e h legal) in
+      (omega arith, omega arith)
+
   -- a number that is not yet given has no event
-  pub own-not_given : (h : List (Event K)) (q : ℕ) → IsLegal machine facts h → begun_in machine.turn h < q → own h q ≡ []
+  pub own-not_given : (h : List (Event K)) (q : ℕ) → IsLegal machine facts h → begun_in machine.turn h < q
+      → own h q ≡ []
   own-not_given [] q legal later = refl
   own-not_given (e ∷ h) q legal later =
       let before = legal_before machine facts e h legal in
@@ -156,7 +173,8 @@ module _ {F K S : Type 0} (machine : Machine F K S) (facts : F) where
       let grows : begun_in machine.turn h ≤ begun_in machine.turn (e ∷ h) = begun_in-append machine.turn (e ∷ []) h in
       owner_in-turn e h q acts
       ∙ by (machine.turn e.step) acts (begun_in-turn e h acts)
-      (owner_in-not_given h q (legal_before machine facts e h legal) (λ given. not_given (given.0, omega (arith, given.1))))
+      (owner_in-not_given h q (legal_before machine facts e h legal)
+      (λ given. not_given (given.0, omega (arith, given.1))))
     where
       by : (t : Turn) → Acts machine facts h e.caller t
           → begun_in machine.turn (e ∷ h) ≡ begun_after t (begun_in machine.turn h)
@@ -230,7 +248,8 @@ module _ {F K S : Type 0} (machine : Machine F K S) (facts : F) where
       own-others e (m ++ h) q (λ mine. by (machine.turn e.step) (acts_of machine facts e (m ++ h) legal) mine still)
       ∙ own-ended m h q before some given ended
     where
-      by : (t : Turn) → Acts machine facts (m ++ h) e.caller t → e.caller ≡ q → lives_in machine.turn (m ++ h) q ≡ false → ⊥
+      by : (t : Turn) → Acts machine facts (m ++ h) e.caller t → e.caller ≡ q
+          → lives_in machine.turn (m ++ h) q ≡ false → ⊥
       by Works may mine still =
           true≢false (sym may.1 ∙ ap (lives_in machine.turn (m ++ h)) mine ∙ still)
       by (Begins r c) may mine still = let main : e.caller ≡ 0 = may.0 in omega arith
@@ -262,7 +281,8 @@ module _ {F K S : Type 0} (machine : Machine F K S) (facts : F) where
           at true false q_new r_old q_at r_at at_both = absurd (may.3 r r_at (sym at_both))
           at false true q_old r_new q_at r_at at_both = absurd (may.3 q q_at at_both)
           at false false q_old r_old q_at r_at at_both = before q_at r_at at_both
-      by (Ends s) may before q_is r_is owners = before (at (s == q) (lives_in machine.turn h q) q_is) (at (s == r) (lives_in machine.turn h r) r_is) owners
+      by (Ends s) may before q_is r_is owners =
+          before (at (s == q) (lives_in machine.turn h q) q_is) (at (s == r) (lives_in machine.turn h r) r_is) owners
         where
           at : (b was : Bool) → cond b false was ≡ true → was ≡ true
           at true was is = absurd (true≢false (sym is))
@@ -290,7 +310,8 @@ module _ {F K S : Type 0} (machine : Machine F K S) (facts : F) where
           nonempty is = cc
 
       by : (t : Turn) → Acts machine facts (m ++ h) e.caller t
-          → lives_in machine.turn (e ∷ (m ++ h)) e.caller ≡ lives_after t e.caller (lives_in machine.turn (m ++ h) e.caller) → ⊥
+          → lives_in machine.turn (e ∷ (m ++ h)) e.caller
+          ≡ lives_after t e.caller (lives_in machine.turn (m ++ h) e.caller) → ⊥
       by Works may is = true≢false (sym may.1 ∙ sym is ∙ ended e.caller)
       by (Begins r c) may is = not_main may.0
       by (Ends r) may is = not_main may.0

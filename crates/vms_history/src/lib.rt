@@ -14,6 +14,6 @@ pub use laws::{
     Table, acting_goes_by_own_events, ended_is_over, histories_extend, live_is_given,
     main_changes_passes, newest_event_is_legal, newest_own_parts, not_given_is_unused,
     nothing_follows, one_live_owner, others_change_no_pass, own_after_steps, own_at_is_own,
-    own_events_are_legal, own_of_list, owner_stays, prefix_is_legal, steps_in_a_row,
+    own_events_are_legal, own_of_list, owner_may_own, owner_stays, prefix_is_legal, steps_in_a_row,
     sum_goes_by_values, total_adds_up, total_by_caller, turn_changes_passes, who_may_act,
 };

@@ -62,6 +62,7 @@ fn laws_hold_of_a_bell() {
     own_at_is_own::<Bell>();
     own_events_are_legal::<Bell>();
     own_of_list::<Bell>();
+    owner_may_own::<Bell>();
     owner_stays::<Bell>();
     prefix_is_legal::<Bell>();
     steps_in_a_row::<Bell>();

@@ -14,7 +14,7 @@ use Rattle.vms_core.specs.Cells.{HasShape, places_of, zones_of, threshold_at, th
 use Rattle.vms_core.specs.Conditions.{Meets}
 use Rattle.vms_core.specs.Peaks.{threshold_after, sets_after, cpu_after}
 use Rattle.vms_core.specs.Steps.{turn, effect}
-use Rattle.vms_core.proofs.CellLemmas.{get_or-set, get_or-set_cell}
+use Rattle.vms_history.proofs.Cells.{get_or-set, get_or-set_cell}
 use Rattle.vms_core.proofs.Effects.{owned}
 use Rattle.vms_core.proofs.PlainData.{places_of-shaped}
 use Rattle.vms_judge.specs.Numbers.{mark_after, mark_sets_after, acknowledged_after}

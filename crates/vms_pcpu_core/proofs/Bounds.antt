@@ -1,37 +1,32 @@
 -- A local part stays within its batch, and one of an absent CPU stays 0.
-use Rattle.std.proofs.Common.{◌≡◌, ◌≢◌, ℕ, ◌≤◌, Bool, true, false, [], ◌∷◌, Option, Some, ℤ, pos, unsigned_abs, refl, sym, ap, ◌∙◌, arith, ◌⊎◌, inl, inr, ⊎_elim, nat_eq, eqb-true}
-use Rattle.std.proofs.lemmas.Bool.{eqb-false}
+use Rattle.std.proofs.Common.{◌≡◌, ℕ, ◌≤◌, [], ◌∷◌, Option, Some, ℤ, pos, unsigned_abs, sym, ap, ◌∙◌, arith, ◌⊎◌, inl, inr, ⊎_elim}
+use Rattle.std.proofs.lemmas.Bool.{cases_eq}
 use Rattle.vms_base.specs.declared.ids.CpuId.{CpuId}
 use Rattle.vms_base.specs.declared.kinds.CpuState.{CpuState}
 use Rattle.vms_base.specs.declared.kinds.CpuState.TheVariants.{Online, Absent}
 use Rattle.vms_base.specs.Places.{IsCpu}
+use Rattle.vms_history.proofs.Owners.{owner_may_own}
 use Rattle.vms_pcpu_core.specs.declared.steps.PcpuFacts.{PcpuFacts}
 use Rattle.vms_pcpu_core.specs.States.{batch_at, local_at, cpu_at, IsPcpu}
 use Rattle.vms_pcpu_core.specs.Histories.{percpu, History, IsLegal}
 use Rattle.vms_pcpu_core.specs.Laws.{numbers_after, BoundsLocals}
 use Rattle.vms_pcpu_core.proofs.Changes.{Change}
 use Rattle.vms_pcpu_core.proofs.Changes.Change.{rests, grows, takes, adds}
-use Rattle.vms_pcpu_core.proofs.Owners.{owner_might_begin}
 use Rattle.vms_pcpu_core.proofs.Shapes.{batch_at-state_after}
 use Rattle.vms_pcpu_core.proofs.Totals.{newest-change}
 
--- two numbers are one or not
-pub same_or_other : (c d : ℕ) → (c ≡ d) ⊎ (c ≢ d)
-same_or_other c d = by (nat_eq c d) refl
-  where
-    by : (b : Bool) → nat_eq c d ≡ b → (c ≡ d) ⊎ (c ≢ d)
-    by true is = inl (eqb-true c d is)
-    by false is = inr (eqb-false c d is)
-
-module _ (cpus batch : ℕ) (who : Option CpuId) (count count' : ℤ) (local local' : ℕ → ℤ) (carrying carrying' amount : ℤ) where
+module _ (cpus batch : ℕ) (who : Option CpuId) (count count' : ℤ) (local local' : ℕ → ℤ)
+    (carrying carrying' amount : ℤ) where
   -- a local part after a step: as it was, or 0, or what the owner of the CPU left within the batch
   pub change-local : Change cpus who batch count count' local local' carrying carrying' amount → (c : ℕ)
-      → (local' c ≡ local c) ⊎ ((local' c ≡ pos 0) ⊎ ((d : CpuId) × (who ≡ Some d) × (d.number ≡ c) × (unsigned_abs (local' c) ≤ batch)))
+      → (local' c ≡ local c)
+      ⊎ ((local' c ≡ pos 0) ⊎ ((d : CpuId) × (who ≡ Some d) × (d.number ≡ c) × (unsigned_abs (local' c) ≤ batch)))
   change-local (rests counts same carries none) c = inl (same c)
   change-local (grows d is d_in counts others here within carries) c =
-      ⊎_elim (λ (at : c ≡ d.number). inr (inr (d, is, sym at, rw at within))) (λ other. inl (others c other)) (same_or_other c d.number)
+      ⊎_elim (λ (at : c ≡ d.number). inr (inr (d, is, sym at, rw at within)))
+      (λ other. inl (others c other)) (cases_eq c d.number)
   change-local (takes d d_in counts others here carries none) c =
-      ⊎_elim (λ (at : c ≡ d.number). inr (inl (rw at here))) (λ other. inl (others c other)) (same_or_other c d.number)
+      ⊎_elim (λ (at : c ≡ d.number). inr (inl (rw at here))) (λ other. inl (others c other)) (cases_eq c d.number)
   change-local (adds counts same carries control) c = inl (same c)
 
 local-within : (facts : PcpuFacts) (h : History) → IsLegal facts h → (c j : ℕ) → IsCpu facts.layout c → IsPcpu facts j
@@ -42,10 +37,12 @@ local-within facts (e ∷ h) legal c j c_in j_in =
     let batches = batch_at-state_after facts h j legal.0 in
     ⊎_elim (λ same. rw same before)
     (⊎_elim (λ none. rw none (omega arith)) (λ grown. rw batches at grown.3))
-    (change-local facts.layout.cpus _ _ _ _ (λ i. local_at (numbers_after facts h) i j) (λ i. local_at (numbers_after facts (e ∷ h)) i j)
+    (change-local facts.layout.cpus _ _ _ _ (λ i. local_at (numbers_after facts h) i j)
+    (λ i. local_at (numbers_after facts (e ∷ h)) i j)
     _ _ _ (newest-change facts e h j legal j_in) c)
 
-absent-none : (facts : PcpuFacts) (h : History) → IsLegal facts h → (c j : ℕ) → IsCpu facts.layout c → cpu_at facts c ≡ Absent
+absent-none : (facts : PcpuFacts) (h : History) → IsLegal facts h → (c j : ℕ) → IsCpu facts.layout c
+    → cpu_at facts c ≡ Absent
     → IsPcpu facts j → local_at (numbers_after facts h) c j ≡ pos 0
 absent-none facts [] legal c j c_in is_absent j_in = (legal.locals c c_in j j_in).absent is_absent
 absent-none facts (e ∷ h) legal c j c_in is_absent j_in =
@@ -53,9 +50,11 @@ absent-none facts (e ∷ h) legal c j c_in is_absent j_in =
     ⊎_elim (λ same. same ∙ before)
     (⊎_elim (λ none. none)
     (λ grown.
-    let online : cpu_at facts grown.0.number ≡ Online = (owner_might_begin percpu facts h e.caller grown.0 legal.0 grown.1).1 in
+    let online : cpu_at facts grown.0.number ≡ Online =
+    (owner_may_own percpu facts h e.caller grown.0 legal.0 grown.1).1 in
     absurd (apart (sym (ap (cpu_at facts) grown.2) ∙ online) is_absent)))
-    (change-local facts.layout.cpus _ _ _ _ (λ i. local_at (numbers_after facts h) i j) (λ i. local_at (numbers_after facts (e ∷ h)) i j)
+    (change-local facts.layout.cpus _ _ _ _ (λ i. local_at (numbers_after facts h) i j)
+    (λ i. local_at (numbers_after facts (e ∷ h)) i j)
     _ _ _ (newest-change facts e h j legal j_in) c)
   where
     apart : {x : CpuState} → x ≡ Online → x ≡ Absent → ⊥

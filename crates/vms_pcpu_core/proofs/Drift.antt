@@ -10,6 +10,7 @@ use Rattle.vms_history.specs.Events.{own}
 use Rattle.vms_history.specs.Passes.{begun_in}
 use Rattle.vms_history.specs.Sums.{sum_below}
 use Rattle.vms_history.proofs.Prefixes.{base_can_begin}
+use Rattle.vms_history.proofs.SumBounds.{sum_below-size}
 use Rattle.vms_pcpu_core.specs.declared.steps.PcpuFacts.{PcpuFacts}
 use Rattle.vms_pcpu_core.specs.States.{batch_at, local_at, IsPcpu}
 use Rattle.vms_pcpu_core.specs.Own.{carried}
@@ -19,7 +20,6 @@ use Rattle.vms_pcpu_core.specs.Histories.{percpu, History, IsLegal}
 use Rattle.vms_pcpu_core.specs.Laws.{numbers_after, DriftsLittle}
 use Rattle.vms_pcpu_core.proofs.Bounds.{locals-bounded}
 use Rattle.vms_pcpu_core.proofs.Sizes.{sizes}
-use Rattle.vms_pcpu_core.proofs.Sums.{sum_below-size}
 use Rattle.vms_pcpu_core.proofs.Totals.{totals-kept}
 
 -- a sum over CPUs in which each present one has at most b and an absent one nothing
@@ -39,7 +39,8 @@ present-bound cpus f b (suc n) within below none =
     counts is rest =
         let more : count_by is_present (take (suc n) cpus) ≡ count_by is_present (take n cpus) + 1 =
         rw next at (count_by_more_yes is_present cpus n Absent (omega arith) is) in
-        let product : b * (count_by is_present (take n cpus) + 1) ≡ b * count_by is_present (take n cpus) + b = omega arith in
+        let product : b * (count_by is_present (take n cpus) + 1) ≡ b * count_by is_present (take n cpus) + b =
+        omega arith in
         rw more (omega (arith, ints, product, below n (omega arith), rest))
 
     by : (x : CpuState) → get_or cpus n Absent ≡ x → sum_below f n ≤ℤ pos (b * count_by is_present (take n cpus))
@@ -57,8 +58,10 @@ pub locals-hide : (facts : PcpuFacts) (h : History) (j : ℕ) → IsLegal facts 
 locals-hide facts h j legal j_in =
     let base = base_can_begin percpu facts h legal in
     let bounds = locals-bounded facts h legal in
-    let all : take facts.layout.cpus facts.cpus ≡ facts.cpus = take_all facts.layout.cpus facts.cpus (omega (arith, base.lengths.one_state_each)) in
-    rw all at (present-bound facts.cpus (λ c. pos (unsigned_abs (local_at (numbers_after facts h) c j))) (batch_at facts.base j) facts.layout.cpus
+    let all : take facts.layout.cpus facts.cpus ≡ facts.cpus =
+    take_all facts.layout.cpus facts.cpus (omega (arith, base.lengths.one_state_each)) in
+    rw all at (present-bound facts.cpus (λ c. pos (unsigned_abs (local_at (numbers_after facts h) c j)))
+    (batch_at facts.base j) facts.layout.cpus
     (omega (arith, base.lengths.one_state_each))
     (λ c below. let within = bounds.within c j below j_in in omega (arith, ints))
     (λ c below absent. let none = bounds.absent c j below absent j_in in omega (arith, ints)))

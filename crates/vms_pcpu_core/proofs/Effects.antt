@@ -4,6 +4,7 @@ use Rattle.vms_base.specs.declared.ids.CpuId.{CpuId}
 use Rattle.vms_base.specs.declared.ids.PcpuId.{PcpuId}
 use Rattle.vms_base.specs.Places.{IsCpu, cell}
 use Rattle.vms_history.specs.declared.events.Event.{Event}
+use Rattle.vms_history.proofs.Cells.{get_or-set, get_or-changed, get_or-set_cell, get_or-changed_cell}
 use Rattle.vms_pcpu_core.specs.declared.steps.PcpuFacts.{PcpuFacts}
 use Rattle.vms_pcpu_core.specs.declared.steps.PcpuStep.{PcpuStep}
 use Rattle.vms_pcpu_core.specs.declared.steps.PcpuStep.TheVariants.{AddL, Won, TakeL, AddC, Unlock}
@@ -11,9 +12,9 @@ use Rattle.vms_pcpu_core.specs.States.{LockedState, HasShape, counters_of, count
 use Rattle.vms_pcpu_core.specs.Conditions.{Meets}
 use Rattle.vms_pcpu_core.specs.Effects.{count_after, local_after, held_after}
 use Rattle.vms_pcpu_core.specs.Steps.{effect, with_own_added}
-use Rattle.vms_pcpu_core.proofs.Cells.{get_or-set, get_or-added, get_or-set_cell, get_or-added_cell}
 
-HasShape-with_own_added : (facts : PcpuFacts) (who : Option CpuId) (j : PcpuId) (a : ℤ) (s : LockedState) → HasShape facts s
+HasShape-with_own_added : (facts : PcpuFacts) (who : Option CpuId) (j : PcpuId) (a : ℤ) (s : LockedState)
+    → HasShape facts s
     → HasShape facts (with_own_added who j a s)
 HasShape-with_own_added facts None j a s shaped = shaped
 HasShape-with_own_added facts (Some c) j a s shaped =
@@ -40,7 +41,8 @@ module _ (facts : PcpuFacts) (h : List (Event PcpuStep)) (s : LockedState) (p : 
 
   pub count_at-effect : (who : Option CpuId) (step : PcpuStep) (j : ℕ) → Meets facts h s p step
       → count_at (effect facts who step s).numbers j ≡ count_after j step (count_at s.numbers j)
-  count_at-effect who (AddC i a) j meets = get_or-added s.numbers.count i.number j a (rw shaped.count meets.counter)
+  count_at-effect who (AddC i a) j meets =
+      get_or-changed (λ count. count +ℤ a) s.numbers.count i.number j (pos 0) (rw shaped.count meets.counter)
   count_at-effect None (AddL i a) j meets = refl
   count_at-effect (Some c) (AddL i a) j meets = refl
   count_at-effect who _ j meets = refl
@@ -53,14 +55,15 @@ module _ (facts : PcpuFacts) (h : List (Event PcpuStep)) (s : LockedState) (p : 
   held_at-effect (Some c) (AddL i a) j meets = refl
   held_at-effect who _ j meets = refl
 
-  pub local_at-effect : (who : Option CpuId) (step : PcpuStep) (c j : ℕ) → ((d : CpuId) → who ≡ Some d → IsCpu facts.layout d.number)
+  pub local_at-effect : (who : Option CpuId) (step : PcpuStep) (c j : ℕ)
+      → ((d : CpuId) → who ≡ Some d → IsCpu facts.layout d.number)
       → Meets facts h s p step → IsPcpu facts j
       → local_at (effect facts who step s).numbers c j ≡ local_after who c j step (local_at s.numbers c j)
   local_at-effect None (AddL i a) c j owned meets j_in = refl
   local_at-effect (Some d) (AddL i a) c j owned meets j_in =
-      get_or-added_cell (counters_of s.numbers) facts.layout.cpus s.numbers.local d.number i.number c j a locals-full
-      (owned d refl) (rw counters-same meets.counter) (rw counters-same j_in)
+      get_or-changed_cell (counters_of s.numbers) facts.layout.cpus (λ local. local +ℤ a) s.numbers.local
+      d.number i.number c j (pos 0) locals-full (owned d refl) (rw counters-same meets.counter) (rw counters-same j_in)
   local_at-effect who (TakeL i d v) c j owned meets j_in =
-      get_or-set_cell (counters_of s.numbers) facts.layout.cpus s.numbers.local d.number i.number c j (pos 0) (pos 0) locals-full
-      meets.cpu (rw counters-same meets.counter) (rw counters-same j_in)
+      get_or-set_cell (counters_of s.numbers) facts.layout.cpus s.numbers.local d.number i.number c j (pos 0) (pos 0)
+      locals-full meets.cpu (rw counters-same meets.counter) (rw counters-same j_in)
   local_at-effect who _ c j owned meets j_in = refl

@@ -1,10 +1,6 @@
-pub mod Cells
-pub mod Owners
 pub mod Effects
 pub mod Shapes
 pub mod Changes
-pub mod Callers
-pub mod Sums
 pub mod Totals
 pub mod Bounds
 pub mod Sizes

@@ -5,6 +5,8 @@ use Rattle.vms_history.specs.declared.events.Event.{Event}
 use Rattle.vms_history.specs.Events.{own}
 use Rattle.vms_history.specs.Legal.{Acts}
 use Rattle.vms_history.specs.Passes.{lives_in, lives_after, owner_in}
+use Rattle.vms_history.proofs.Choices.{if-same}
+use Rattle.vms_history.proofs.Own.{own-fact}
 use Rattle.vms_history.proofs.PassLaws.{lives_in-turn}
 use Rattle.vms_pcpu_core.specs.declared.steps.PcpuFacts.{PcpuFacts}
 use Rattle.vms_pcpu_core.specs.declared.steps.PcpuStep.{PcpuStep}
@@ -16,7 +18,6 @@ use Rattle.vms_pcpu_core.specs.Steps.{turn}
 use Rattle.vms_pcpu_core.specs.Totals.{holder, holder_after}
 use Rattle.vms_pcpu_core.specs.Histories.{percpu, History, IsLegal, state_after}
 use Rattle.vms_pcpu_core.specs.Laws.{HasOneHolder}
-use Rattle.vms_pcpu_core.proofs.Callers.{own-fact}
 use Rattle.vms_pcpu_core.specs.Effects.{held_after}
 use Rattle.vms_pcpu_core.proofs.Effects.{held_at-effect}
 use Rattle.vms_pcpu_core.proofs.Shapes.{HasShape-state_after}
@@ -33,16 +34,14 @@ pub record Agrees (locked : Bool) (who : Option ℕ) (holding : ℕ → Bool) (c
   pub others : (q : ℕ) → is_holder who q ≡ false → carrying q ≡ pos 0
 
 pub holds-after : (j : ℕ) (e : Event PcpuStep) (h : History) (q : ℕ)
-    → holds j (own (e ∷ h) q) ≡ (if nat_eq e.caller q then holds_after j e.step (holds j (own h q)) else holds j (own h q))
+    → holds j (own (e ∷ h) q)
+    ≡ (if nat_eq e.caller q then holds_after j e.step (holds j (own h q)) else holds j (own h q))
 holds-after j e h q = own-fact (holds j) e h q
 
 carried-after : (j : ℕ) (e : Event PcpuStep) (h : History) (q : ℕ)
-    → carried j (own (e ∷ h) q) ≡ (if nat_eq e.caller q then carried_after j e.step (carried j (own h q)) else carried j (own h q))
+    → carried j (own (e ∷ h) q)
+    ≡ (if nat_eq e.caller q then carried_after j e.step (carried j (own h q)) else carried j (own h q))
 carried-after j e h q = own-fact (carried j) e h q
-
-if-same : {X : Type 0} (b : Bool) (x : X) → (if b then x else x) ≡ x
-if-same true x = refl
-if-same false x = refl
 
 -- a holder by own events is the holder
 is-holder : (who : Option ℕ) (p : ℕ) → is_holder who p ≡ true → who ≡ Some p
@@ -56,8 +55,10 @@ free-none : (who : Option ℕ) → is_some who ≡ false → who ≡ None
 free-none None is = refl
 free-none (Some q) is = absurd cc
 
-module _ (locked : Bool) (who : Option ℕ) (holding : ℕ → Bool) (carrying : ℕ → ℤ) (before : Agrees locked who holding carrying) (p : ℕ) where
-  Agrees-rest : Agrees locked who (λ q. if nat_eq p q then holding q else holding q) (λ q. if nat_eq p q then carrying q else carrying q)
+module _ (locked : Bool) (who : Option ℕ) (holding : ℕ → Bool) (carrying : ℕ → ℤ)
+    (before : Agrees locked who holding carrying) (p : ℕ) where
+  Agrees-rest : Agrees locked who (λ q. if nat_eq p q then holding q else holding q)
+      (λ q. if nat_eq p q then carrying q else carrying q)
   Agrees-rest =
       record {
         held = before.held;
@@ -67,7 +68,8 @@ module _ (locked : Bool) (who : Option ℕ) (holding : ℕ → Bool) (carrying :
 
   Agrees-won : (b : Bool) → (b ≡ true → locked ≡ false)
       → Agrees (if b then true else locked) (if b then Some p else who)
-      (λ q. if nat_eq p q then (if b then true else holding q) else holding q) (λ q. if nat_eq p q then carrying q else carrying q)
+      (λ q. if nat_eq p q then (if b then true else holding q) else holding q)
+      (λ q. if nat_eq p q then carrying q else carrying q)
   Agrees-won false free = Agrees-rest
   Agrees-won true free =
       let none : who ≡ None = free-none who (sym before.held ∙ free refl) in
@@ -83,7 +85,8 @@ module _ (locked : Bool) (who : Option ℕ) (holding : ℕ → Bool) (carrying :
 
   Agrees-unlocked : (b : Bool) → (b ≡ true → holding p ≡ true) → (b ≡ true → carrying p ≡ pos 0)
       → Agrees (if b then false else locked) (if b then None else who)
-      (λ q. if nat_eq p q then (if b then false else holding q) else holding q) (λ q. if nat_eq p q then carrying q else carrying q)
+      (λ q. if nat_eq p q then (if b then false else holding q) else holding q)
+      (λ q. if nat_eq p q then carrying q else carrying q)
   Agrees-unlocked false holds nothing = Agrees-rest
   Agrees-unlocked true holds nothing =
       let mine : who ≡ Some p = is-holder who p (sym (before.own_events p) ∙ holds refl) in
@@ -112,7 +115,8 @@ module _ (locked : Bool) (who : Option ℕ) (holding : ℕ → Bool) (carrying :
         others = λ q other. at (nat_eq p q) q refl other;
       }
     where
-      at : (t : Bool) (q : ℕ) → nat_eq p q ≡ t → is_holder who q ≡ false → (if t then next (carrying q) else carrying q) ≡ pos 0
+      at : (t : Bool) (q : ℕ) → nat_eq p q ≡ t → is_holder who q ≡ false
+          → (if t then next (carrying q) else carrying q) ≡ pos 0
       at true q same other =
           let mine : is_holder who q ≡ true = rw (eqb-true p q same) at (sym (before.own_events p) ∙ holds refl) in
           absurd (true≢false (sym mine ∙ other))
@@ -120,13 +124,15 @@ module _ (locked : Bool) (who : Option ℕ) (holding : ℕ → Bool) (carrying :
 
 module _ (facts : PcpuFacts) (h : History) (s : LockedState) (p j : ℕ) where
   -- a step that meets its condition keeps them together
-  Agrees-step : (step : PcpuStep) → Agrees (held_at s j) (holder j h) (λ q. holds j (own h q)) (λ q. carried j (own h q))
+  Agrees-step : (step : PcpuStep)
+      → Agrees (held_at s j) (holder j h) (λ q. holds j (own h q)) (λ q. carried j (own h q))
       → Meets facts h s p step
       → Agrees (held_after j step (held_at s j)) (holder_after p j step (holder j h))
       (λ q. if nat_eq p q then holds_after j step (holds j (own h q)) else holds j (own h q))
       (λ q. if nat_eq p q then carried_after j step (carried j (own h q)) else carried j (own h q))
   Agrees-step (Won i) before meets =
-      Agrees-won _ _ _ _ before p (nat_eq i.number j) (λ here. subst (λ n. held_at s n ≡ false) (eqb-true i.number j here) meets.free)
+      Agrees-won _ _ _ _ before p (nat_eq i.number j)
+      (λ here. subst (λ n. held_at s n ≡ false) (eqb-true i.number j here) meets.free)
   Agrees-step (Unlock i) before meets =
       Agrees-unlocked _ _ _ _ before p (nat_eq i.number j)
       (λ here. subst (λ n. holds n (own h p) ≡ true) (eqb-true i.number j here) meets.holding)
@@ -142,13 +148,19 @@ module _ (facts : PcpuFacts) (h : History) (s : LockedState) (p j : ℕ) where
 pub Agrees-state_after : (facts : PcpuFacts) (h : History) (j : ℕ) → IsLegal facts h → IsPcpu facts j
     → Agrees (held_at (state_after facts h) j) (holder j h) (λ q. holds j (own h q)) (λ q. carried j (own h q))
 Agrees-state_after facts [] j legal j_in =
-    record { held = get_or-replicate (counters_of facts.base) j false false j_in; own_events = λ q. refl; others = λ q other. refl }
+    record {
+      held = get_or-replicate (counters_of facts.base) j false false j_in;
+      own_events = λ q. refl;
+      others =
+          λ q other. refl;
+    }
 Agrees-state_after facts (e ∷ h) j legal j_in =
     let s = state_after facts h in
     let step = Agrees-step facts h s e.caller j e.step (Agrees-state_after facts h j legal.0 j_in) legal.2 in
     record {
       held =
-          held_at-effect facts h s e.caller (HasShape-state_after facts h legal.0) (owner_in turn h e.caller) e.step j legal.2 ∙ step.held;
+          held_at-effect facts h s e.caller (HasShape-state_after facts h legal.0)
+          (owner_in turn h e.caller) e.step j legal.2 ∙ step.held;
       own_events = λ q. holds-after j e h q ∙ step.own_events q;
       others = λ q other. carried-after j e h q ∙ step.others q other;
     }
@@ -166,7 +178,8 @@ holder-lives facts (e ∷ h) j p legal j_in is =
     begins true x is = refl
     begins false x is = is
 
-    by : (step : PcpuStep) → Acts percpu facts h e.caller (turn step) → holder_after e.caller j step (holder j h) ≡ Some p
+    by : (step : PcpuStep) → Acts percpu facts h e.caller (turn step)
+        → holder_after e.caller j step (holder j h) ≡ Some p
         → (holder j h ≡ Some p → lives_in turn h p ≡ true) → (holder j h ≡ Some p → holds j (own h p) ≡ true)
         → lives_after (turn step) p (lives_in turn h p) ≡ true
     by (Split q who) acts is before mine = begins (nat_eq q p) (lives_in turn h p) (before is)

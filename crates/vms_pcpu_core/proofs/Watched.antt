@@ -1,7 +1,8 @@
 -- What others cannot change while a pass makes only loads.
-use Rattle.std.proofs.Common.{◌≡◌, ℕ, zero, suc, ◌<◌, ◌≤◌, ◌&&◌, Bool, true, false, [], ◌∷◌, ◌++◌, Option, Some, None, ℤ, pos, negsuc, ◌+ℤ◌, ◌-ℤ◌, unsigned_abs, refl, sym, ap, subst, ◌∙◌, arith, inl, inr, if◌then◌else◌, nat_eq, eq-eqb, eqb-true}
+use Rattle.std.proofs.Common.{◌≡◌, ℕ, zero, suc, ◌<◌, ◌≤◌, ◌&&◌, Bool, true, false, [], ◌∷◌, ◌++◌, Option, Some, None, ℤ, pos, negsuc, ◌+ℤ◌, ◌-ℤ◌, unsigned_abs, refl, sym, ap, subst, ◌∙◌, arith, if◌then◌else◌, nat_eq, eq-eqb, eqb-true}
+use Rattle.std.proofs.Math.Bool.{and-false}
 use Rattle.std.proofs.lemmas.Int.{ints}
-use Rattle.std.proofs.lemmas.Bool.{eqb-false, cases_lt}
+use Rattle.std.proofs.lemmas.Bool.{eqb-false}
 use Rattle.vms_base.specs.declared.ids.CpuId.{CpuId}
 use Rattle.vms_base.specs.declared.ids.PcpuId.{PcpuId}
 use Rattle.vms_base.specs.declared.kinds.CpuState.{CpuState}
@@ -11,9 +12,11 @@ use Rattle.vms_history.specs.declared.events.Event.{Event}
 use Rattle.vms_history.specs.Events.{own}
 use Rattle.vms_history.specs.Passes.{lives_in, owner_in, begun_in}
 use Rattle.vms_history.specs.Sums.{sum_below}
+use Rattle.vms_history.proofs.GoesOn.{holds_while_live}
 use Rattle.vms_history.proofs.Own.{own-mine}
-use Rattle.vms_history.proofs.PassLaws.{owner_in-append, owner_in-not_given, owner_acts_alone, lives_in-before}
+use Rattle.vms_history.proofs.Owners.{same_cpu, owner_may_own, owner_is_caller, owner_is_given}
 use Rattle.vms_history.proofs.Prefixes.{prefix_is_legal}
+use Rattle.vms_history.proofs.SumBounds.{sum_below-size}
 use Rattle.vms_history.proofs.SumLaws.{sum_below-same, sum_below-sum, sum_below-zeros}
 use Rattle.vms_pcpu_core.specs.declared.steps.PcpuFacts.{PcpuFacts}
 use Rattle.vms_pcpu_core.specs.declared.steps.PcpuStep.{PcpuStep}
@@ -31,50 +34,17 @@ use Rattle.vms_pcpu_core.proofs.Drift.{locals-hide}
 use Rattle.vms_pcpu_core.specs.Effects.{count_after, local_after}
 use Rattle.vms_pcpu_core.proofs.Effects.{count_at-effect, local_at-effect}
 use Rattle.vms_pcpu_core.proofs.Locks.{holder-one, holds-after}
-use Rattle.vms_pcpu_core.proofs.Owners.{owner_might_begin}
 use Rattle.vms_pcpu_core.proofs.Shapes.{HasShape-state_after}
-use Rattle.vms_pcpu_core.proofs.Sums.{sum_below-size}
 use Rattle.vms_pcpu_core.proofs.Totals.{owned, totals-kept}
 
 -- the newest event is a load if it is an own one, and the earlier own ones are loads
 loads-before : (e : Event PcpuStep) (more : History) (p : ℕ) → AreLoads (own (e ∷ more) p) → (nat_eq e.caller p ≡ true → IsLoad e.step) × AreLoads (own more p)
 loads-before e more p are = by (nat_eq e.caller p) are
   where
-    by : (b : Bool) → AreLoads (if b then e ∷ own more p else own more p) → (b ≡ true → IsLoad e.step) × AreLoads (own more p)
+    by : (b : Bool) → AreLoads (if b then e ∷ own more p else own more p)
+        → (b ≡ true → IsLoad e.step) × AreLoads (own more p)
     by true all = (λ mine. all.0, all.1)
     by false all = (λ mine. absurd cc, all)
-
--- the CPU that a pass owned it owns later
-owner-stays : (facts : PcpuFacts) (more h : History) (p : ℕ) (c : CpuId) → IsLegal facts (more ++ h) → owner_in turn h p ≡ Some c
-    → owner_in turn (more ++ h) p ≡ Some c
-owner-stays facts more h p c legal is = elim (cases_lt (begun_in turn h) p) [
-  | inl later ↦ absurd (none (owner_in-not_given percpu facts h p (prefix_is_legal percpu facts more h legal) (λ given. let most = given.1 in absurd (omega arith))))
-  | inr given ↦ owner_in-append percpu facts more h p legal given ∙ is
-]
-  where
-    none : owner_in turn h p ≡ None → ⊥
-    none is_none = let both = sym is ∙ is_none in absurd cc
-
-lives-earlier : (facts : PcpuFacts) (e : Event PcpuStep) (h : History) (p : ℕ) → IsLegal facts (e ∷ h) → p ≤ begun_in turn h
-    → lives_in turn (e ∷ h) p ≡ true → lives_in turn h p ≡ true
-lives-earlier facts e h p legal given lives = lives_in-before percpu facts (e ∷ []) h p legal given lives
-
--- who owns a CPU has been given a number
-owner-given : (facts : PcpuFacts) (h : History) (p : ℕ) (c : CpuId) → IsLegal facts h → owner_in turn h p ≡ Some c
-    → (0 < p) × (p ≤ begun_in turn h)
-owner-given facts h p c legal is = elim (cases_lt (begun_in turn h) p) [
-  | inl later ↦ absurd (none (owner_in-not_given percpu facts h p legal (λ given. let most = given.1 in absurd (omega arith))))
-  | inr given ↦ (
-    elim (cases_lt 0 p) [
-      | inl some ↦ some
-      | inr main ↦ absurd (none (owner_in-not_given percpu facts h p legal (λ given. let least = given.0 in absurd (omega arith))))
-    ],
-    given,
-  )
-]
-  where
-    none : owner_in turn h p ≡ None → ⊥
-    none is_none = let both = sym is ∙ is_none in absurd cc
 
 module _ (facts : PcpuFacts) (h : History) (s : LockedState) (p : ℕ) (c : CpuId) (j : ℕ) where
   load-local : (who : Option CpuId) (step : PcpuStep) (x : ℤ) → IsLoad step → local_after who c.number j step x ≡ x
@@ -113,7 +83,8 @@ module _ (facts : PcpuFacts) (h : History) (s : LockedState) (p : ℕ) (c : CpuI
   others-local who _ x is meets other online = refl
 
 -- no other pass owns the CPU of a pass that lives
-other-owns : (facts : PcpuFacts) (e : Event PcpuStep) (h : History) (p : ℕ) (c : CpuId) → IsLegal facts (e ∷ h) → lives_in turn h p ≡ true
+other-owns : (facts : PcpuFacts) (e : Event PcpuStep) (h : History) (p : ℕ) (c : CpuId) → IsLegal facts (e ∷ h)
+    → lives_in turn h p ≡ true
     → owner_in turn h p ≡ Some c → nat_eq e.caller p ≡ false → is_owned (owner_in turn h e.caller) c.number ≡ false
 other-owns facts e h p c legal lives owner other = by (owner_in turn h e.caller) refl
   where
@@ -123,76 +94,88 @@ other-owns facts e h p c legal lives owner other = by (owner_in turn h e.caller)
       where
         at : (b : Bool) → nat_eq d.number c.number ≡ b → b ≡ false
         at true same =
-            let number : d.number ≡ c.number = eqb-true d.number c.number same in
-            let cpus : d ≡ c = ap (λ (n : ℕ). record { number = n }) number in
-            let given = owner-given facts h e.caller d legal.0 is in
+            let cpus : d ≡ c = same_cpu d c (eqb-true d.number c.number same) in
             absurd (eqb-false e.caller p other
-            (owner_acts_alone percpu facts e h p legal (omega arith) lives (is ∙ ap Some cpus ∙ sym owner)))
+            (owner_is_caller percpu facts e h p c legal lives owner (is ∙ ap Some cpus)))
         at false differ = refl
 
 -- of all before the newest event
-watches-before : (facts : PcpuFacts) (e : Event PcpuStep) (more h : History) (p : ℕ) → Watches facts (e ∷ more) h p → Watches facts more h p
-watches-before facts e more h p watches = record { legal = watches.legal.0; loads = (loads-before e more p watches.loads).1 }
+watches-before : (facts : PcpuFacts) (e : Event PcpuStep) (more h : History) (p : ℕ) → Watches facts (e ∷ more) h p
+    → Watches facts more h p
+watches-before facts e more h p watches =
+    record { legal = watches.legal.0; loads = (loads-before e more p watches.loads).1 }
 
-pub local-stays : (facts : PcpuFacts) (more h : History) (p : ℕ) (c : CpuId) (j : ℕ) → Watches facts more h p
-    → lives_in turn (more ++ h) p ≡ true → owner_in turn h p ≡ Some c → IsPcpu facts j
-    → local_at (numbers_after facts (more ++ h)) c.number j ≡ local_at (numbers_after facts h) c.number j
-local-stays facts [] h p c j watches lives owner j_in = refl
-local-stays facts (e ∷ more) h p c j watches lives owner j_in =
-    let legal = watches.legal in
-    let g : History = more ++ h in
-    let s = state_after facts g in
-    let who = owner_in turn g e.caller in
-    let owner_now = owner-stays facts more h p c legal.0 owner in
-    let lives_before = lives-earlier facts e g p legal (owner-given facts g p c legal.0 owner_now).1 lives in
-    let online : cpu_at facts c.number ≡ Online = (owner_might_begin percpu facts g p c legal.0 owner_now).1 in
-    local_at-effect facts g s e.caller (HasShape-state_after facts g legal.0) who e.step c.number j
-    (λ d is. owned facts g e.caller d legal.0 is) legal.2 j_in
-    ∙ by (nat_eq e.caller p) refl who refl lives_before owner_now online
-    ∙ local-stays facts more h p c j (watches-before facts e more h p watches) lives_before owner j_in
-  where
-    g : History
-    g = more ++ h
+-- while the pass lives, an event leaves the local parts of its CPU, and spends none of its volume, unless the pass made it
+-- and it is no load
+module _ (facts : PcpuFacts) (e : Event PcpuStep) (h : History) (p : ℕ) (c : CpuId) (j : ℕ)
+    (legal : IsLegal facts (e ∷ h))
+    (lives : lives_in turn h p ≡ true) (owner : owner_in turn h p ≡ Some c)
+    (load : nat_eq e.caller p ≡ true → IsLoad e.step) where
+  local_after-kept : (x : ℤ) → local_after (owner_in turn h e.caller) c.number j e.step x ≡ x
+  local_after-kept x = by (nat_eq e.caller p) refl
+    where
+      who : Option CpuId
+      who = owner_in turn h e.caller
 
-    x : ℤ
-    x = local_at (numbers_after facts g) c.number j
+      s : LockedState
+      s = state_after facts h
 
-    by : (b : Bool) → nat_eq e.caller p ≡ b → (who : Option CpuId) → owner_in turn g e.caller ≡ who → lives_in turn g p ≡ true
-        → owner_in turn g p ≡ Some c → cpu_at facts c.number ≡ Online → local_after who c.number j e.step x ≡ x
-    by true mine who is lives_before owner_now online =
-        load-local facts g (state_after facts g) e.caller c j who e.step x ((loads-before e more p watches.loads).0 mine)
-    by false other who is lives_before owner_now online =
-        others-local facts g (state_after facts g) e.caller c j who e.step x is watches.legal.2
-        (ap (λ w. is_owned w c.number) (sym is) ∙ other-owns facts e g p c watches.legal lives_before owner_now other) online
+      by : (b : Bool) → nat_eq e.caller p ≡ b → local_after who c.number j e.step x ≡ x
+      by true mine = load-local facts h s e.caller c j who e.step x (load mine)
+      by false other =
+          let online : cpu_at facts c.number ≡ Online = (owner_may_own percpu facts h p c legal.0 owner).1 in
+          others-local facts h s e.caller c j who e.step x refl legal.2
+          (other-owns facts e h p c legal lives owner other) online
 
-pub spent-stays : (facts : PcpuFacts) (more h : History) (p : ℕ) (c : CpuId) (j : ℕ) → Watches facts more h p
-    → lives_in turn (more ++ h) p ≡ true → owner_in turn h p ≡ Some c → spent (more ++ h) c.number j ≡ spent h c.number j
-spent-stays facts [] h p c j watches lives owner = refl
-spent-stays facts (e ∷ more) h p c j watches lives owner =
-    let legal = watches.legal in
-    let owner_now = owner-stays facts more h p c legal.0 owner in
-    let lives_before = lives-earlier facts e (more ++ h) p legal (owner-given facts (more ++ h) p c legal.0 owner_now).1 lives in
-    let none : spent_by (owner_in turn (more ++ h) e.caller) c.number j (carried j (own (more ++ h) e.caller)) e.step ≡ 0 =
-    by (nat_eq e.caller p) refl lives_before owner_now in
-    omega (arith, none, spent-stays facts more h p c j (watches-before facts e more h p watches) lives_before owner)
-  where
-    g : History
-    g = more ++ h
+  spent_by-none : spent_by (owner_in turn h e.caller) c.number j (carried j (own h e.caller)) e.step ≡ 0
+  spent_by-none = by (nat_eq e.caller p) refl
+    where
+      if_zero : (b : Bool) (n : ℕ) → n ≡ 0 → (if b then n else 0) ≡ 0
+      if_zero true n is = is
+      if_zero false n is = refl
 
-    if_zero : (b : Bool) (n : ℕ) → n ≡ 0 → (if b then n else 0) ≡ 0
-    if_zero true n is = is
-    if_zero false n is = refl
+      by : (b : Bool) → nat_eq e.caller p ≡ b
+          → spent_by (owner_in turn h e.caller) c.number j (carried j (own h e.caller)) e.step ≡ 0
+      by true mine =
+          let none = load-amount facts h (state_after facts h) e.caller c j e.step (carried j (own h e.caller))
+          (load mine) in
+          if_zero (is_owned (owner_in turn h e.caller) c.number)
+          (unsigned_abs (amount_of j (carried j (own h e.caller)) e.step)) (ap unsigned_abs none)
+      by false other = let none = other-owns facts e h p c legal lives owner other in rw none refl
 
-    by : (b : Bool) → nat_eq e.caller p ≡ b → lives_in turn g p ≡ true → owner_in turn g p ≡ Some c
-        → spent_by (owner_in turn g e.caller) c.number j (carried j (own g e.caller)) e.step ≡ 0
-    by true mine lives_before owner_now =
-        if_zero (is_owned (owner_in turn g e.caller) c.number) (unsigned_abs (amount_of j (carried j (own g e.caller)) e.step))
-        (ap unsigned_abs (load-amount facts g (state_after facts g) e.caller c j e.step (carried j (own g e.caller)) ((loads-before e more p watches.loads).0 mine)))
-    by false other lives_before owner_now = let none = other-owns facts e g p c watches.legal lives_before owner_now other in rw none refl
+module _ (facts : PcpuFacts) (more h : History) (p : ℕ) (c : CpuId) (j : ℕ) (watches : Watches facts more h p)
+    (lives : lives_in turn (more ++ h) p ≡ true) (owner : owner_in turn h p ≡ Some c) where
+  given : p ≤ begun_in turn h
+  given = (owner_is_given percpu facts h p c (prefix_is_legal percpu facts more h watches.legal) owner).1
+
+  pub local-stays : IsPcpu facts j
+      → local_at (numbers_after facts (more ++ h)) c.number j ≡ local_at (numbers_after facts h) c.number j
+  local-stays j_in =
+      holds_while_live percpu facts h p
+      (λ g. local_at (numbers_after facts g) c.number j ≡ local_at (numbers_after facts h) c.number j)
+      AreLoads (λ e es loads. loads.1)
+      (λ e m legal lived same loads before.
+      let g : History = m ++ h in
+      local_at-effect facts g (state_after facts g) e.caller (HasShape-state_after facts g legal.0)
+      (owner_in turn g e.caller)
+      e.step c.number j (λ d is. owned facts g e.caller d legal.0 is) legal.2 j_in
+      ∙ local_after-kept facts e g p c j legal lived (same ∙ owner) (loads-before e m p loads).0
+      (local_at (numbers_after facts g) c.number j)
+      ∙ before)
+      given refl more watches.legal lives watches.loads
+
+  pub spent-stays : spent (more ++ h) c.number j ≡ spent h c.number j
+  spent-stays =
+      holds_while_live percpu facts h p (λ g. spent g c.number j ≡ spent h c.number j) AreLoads (λ e es loads. loads.1)
+      (λ e m legal lived same loads before.
+      let none = spent_by-none facts e (m ++ h) p c j legal lived (same ∙ owner) (loads-before e m p loads).0 in
+      omega (arith, none, before))
+      given refl more watches.legal lives watches.loads
 
 -- under the lock
 
-load-holds : (j : ℕ) (e : Event PcpuStep) (h : History) (p : ℕ) → (nat_eq e.caller p ≡ true → IsLoad e.step) → holds j (own (e ∷ h) p) ≡ holds j (own h p)
+load-holds : (j : ℕ) (e : Event PcpuStep) (h : History) (p : ℕ) → (nat_eq e.caller p ≡ true → IsLoad e.step)
+    → holds j (own (e ∷ h) p) ≡ holds j (own h p)
 load-holds j e h p loads = holds-after j e h p ∙ by (nat_eq e.caller p) loads
   where
     at : (step : PcpuStep) (x : Bool) → IsLoad step → holds_after j step x ≡ x
@@ -200,7 +183,8 @@ load-holds j e h p loads = holds-after j e h p ∙ by (nat_eq e.caller p) loads
     at (LoadC i v) x is = refl
     at _ x is = absurd is
 
-    by : (b : Bool) → (b ≡ true → IsLoad e.step) → (if b then holds_after j e.step (holds j (own h p)) else holds j (own h p)) ≡ holds j (own h p)
+    by : (b : Bool) → (b ≡ true → IsLoad e.step)
+        → (if b then holds_after j e.step (holds j (own h p)) else holds j (own h p)) ≡ holds j (own h p)
     by true loads = at e.step (holds j (own h p)) (loads refl)
     by false loads = refl
 
@@ -212,7 +196,8 @@ holds-stays facts (e ∷ more) h p j watches holding =
     ∙ holds-stays facts more h p j (watches-before facts e more h p watches) holding
 
 -- a step of another than the holder neither takes a local part of the counter nor adds to its shared part
-module _ (facts : PcpuFacts) (e : Event PcpuStep) (h : History) (p c j : ℕ) (legal : IsLegal facts (e ∷ h)) (j_in : IsPcpu facts j)
+module _ (facts : PcpuFacts) (e : Event PcpuStep) (h : History) (p c j : ℕ) (legal : IsLegal facts (e ∷ h))
+    (j_in : IsPcpu facts j)
     (holding : holds j (own h p) ≡ true) (loads : nat_eq e.caller p ≡ true → IsLoad e.step) where
   not_under_lock : (i : ℕ) → holds i (own h e.caller) ≡ true → (IsLoad e.step → ⊥) → nat_eq i j ≡ false
   not_under_lock i theirs no_load = by (nat_eq i j) refl
@@ -224,40 +209,42 @@ module _ (facts : PcpuFacts) (e : Event PcpuStep) (h : History) (p c j : ℕ) (l
           absurd (no_load (loads (rw one (eq-eqb p p refl))))
       by false differ = refl
 
-  holder-count : (step : PcpuStep) (x : ℤ) → e.step ≡ step → Meets facts h (state_after facts h) e.caller step → count_after j step x ≡ x
+  holder-count : (step : PcpuStep) (x : ℤ) → e.step ≡ step → Meets facts h (state_after facts h) e.caller step
+      → count_after j step x ≡ x
   holder-count (AddC i a) x is meets =
       let other = not_under_lock i.number meets.holding (λ load. subst IsLoad is load) in
       rw other refl
   holder-count _ x is meets = refl
 
-  and_false : (b : Bool) → (b && false) ≡ false
-  and_false true = refl
-  and_false false = refl
-
   if-added : (b : Bool) (x a : ℤ) → (if b then x +ℤ a else x) ≡ x +ℤ (if b then a else pos 0)
   if-added true x a = refl
   if-added false x a = omega (arith, ints)
 
-  holder-local : (who : Option CpuId) (step : PcpuStep) (x : ℤ) → e.step ≡ step → Meets facts h (state_after facts h) e.caller step
+  holder-local : (who : Option CpuId) (step : PcpuStep) (x : ℤ) → e.step ≡ step
+      → Meets facts h (state_after facts h) e.caller step
       → local_after who c j step x ≡ x +ℤ added_by who c j step
   holder-local who (AddL i a) x is meets = if-added (is_owned who c && nat_eq i.number j) x a
   holder-local who (TakeL i d v) x is meets =
       let other = not_under_lock i.number meets.holding (λ load. subst IsLoad is load) in
-      rw (other, and_false (nat_eq d.number c)) (omega (arith, ints))
+      rw (other, and-false (nat_eq d.number c)) (omega (arith, ints))
   holder-local who _ x is meets = omega (arith, ints)
 
-pub count-stays : (facts : PcpuFacts) (more h : History) (p j : ℕ) → Watches facts more h p → IsPcpu facts j → holds j (own h p) ≡ true
+pub count-stays : (facts : PcpuFacts) (more h : History) (p j : ℕ) → Watches facts more h p → IsPcpu facts j
+    → holds j (own h p) ≡ true
     → count_at (numbers_after facts (more ++ h)) j ≡ count_at (numbers_after facts h) j
 count-stays facts [] h p j watches j_in holding = refl
 count-stays facts (e ∷ more) h p j watches j_in holding =
     let g : History = more ++ h in
     let before = watches-before facts e more h p watches in
-    count_at-effect facts g (state_after facts g) e.caller (HasShape-state_after facts g before.legal) (owner_in turn g e.caller) e.step j watches.legal.2
-    ∙ holder-count facts e g p 0 j watches.legal j_in (holds-stays facts more h p j before holding) (loads-before e more p watches.loads).0
+    count_at-effect facts g (state_after facts g) e.caller (HasShape-state_after facts g before.legal)
+    (owner_in turn g e.caller) e.step j watches.legal.2
+    ∙ holder-count facts e g p 0 j watches.legal j_in (holds-stays facts more h p j before holding)
+    (loads-before e more p watches.loads).0
     e.step (count_at (numbers_after facts g) j) refl watches.legal.2
     ∙ count-stays facts more h p j before j_in holding
 
-pub local-grows : (facts : PcpuFacts) (more h : History) (p c j : ℕ) → Watches facts more h p → IsPcpu facts j → holds j (own h p) ≡ true
+pub local-grows : (facts : PcpuFacts) (more h : History) (p c j : ℕ) → Watches facts more h p → IsPcpu facts j
+    → holds j (own h p) ≡ true
     → local_at (numbers_after facts (more ++ h)) c j ≡ local_at (numbers_after facts h) c j +ℤ added_since more h c j
 local-grows facts [] h p c j watches j_in holding = omega (arith, ints)
 local-grows facts (e ∷ more) h p c j watches j_in holding =
@@ -268,12 +255,14 @@ local-grows facts (e ∷ more) h p c j watches j_in holding =
     local_at-effect facts g (state_after facts g) e.caller (HasShape-state_after facts g before.legal) who e.step c j
     (λ d is. owned facts g e.caller d before.legal is) watches.legal.2 j_in in
     let step =
-    holder-local facts e g p c j watches.legal j_in (holds-stays facts more h p j before holding) (loads-before e more p watches.loads).0
+    holder-local facts e g p c j watches.legal j_in (holds-stays facts more h p j before holding)
+    (loads-before e more p watches.loads).0
     who e.step (local_at (numbers_after facts g) c j) refl watches.legal.2 in
     omega (arith, ints, effect, step, local-grows facts more h p c j before j_in holding)
 
 -- nothing is carried when a lock was won
-won-carried : (facts : PcpuFacts) (h : History) (p : ℕ) (j : PcpuId) → IsLegal facts (record { caller = p; step = Won j } ∷ h)
+won-carried : (facts : PcpuFacts) (h : History) (p : ℕ) (j : PcpuId)
+    → IsLegal facts (record { caller = p; step = Won j } ∷ h)
     → carried_by_all (record { caller = p; step = Won j } ∷ h) j.number ≡ pos 0
 won-carried facts h p j legal =
     let e : Event PcpuStep = record { caller = p; step = Won j } in
@@ -311,7 +300,8 @@ sum-true facts h found moments p j finds watches =
     (λ c. local_at (numbers_after facts won) c j.number +ℤ added_since (moments c) won c j.number) facts.layout.cpus
     (λ c c_in. local-grows facts (moments c) won p c j.number (watches c c_in) j_in holding) in
     let parts =
-    sum_below-sum (λ c. local_at (numbers_after facts won) c j.number) (λ c. added_since (moments c) won c j.number) facts.layout.cpus in
+    sum_below-sum (λ c. local_at (numbers_after facts won) c j.number)
+    (λ c. added_since (moments c) won c j.number) facts.layout.cpus in
     omega (arith, ints, kept, nothing, count, each, parts)
 
 -- numbers that are further off than they differ have one sign
@@ -325,10 +315,12 @@ sign-same (negsuc n) (negsuc m) u far near = refl
 
 pub rough-sign : (facts : PcpuFacts) (h : History) (j : ℕ) (rhs : ℤ) → IsLegal facts h → IsPcpu facts j
     → unknown facts j < unsigned_abs (count_at (numbers_after facts h) j -ℤ rhs)
-    → sign_of (count_at (numbers_after facts h) j -ℤ rhs) ≡ sign_of ((true_total facts h j -ℤ carried_by_all h j) -ℤ rhs)
+    → sign_of (count_at (numbers_after facts h) j -ℤ rhs)
+    ≡ sign_of ((true_total facts h j -ℤ carried_by_all h j) -ℤ rhs)
 rough-sign facts h j rhs legal j_in far =
     let kept = totals-kept facts h legal j j_in in
     let size = sum_below-size (λ c. local_at (numbers_after facts h) c j) facts.layout.cpus in
     let hidden = locals-hide facts h j legal j_in in
-    sign-same (count_at (numbers_after facts h) j -ℤ rhs) ((true_total facts h j -ℤ carried_by_all h j) -ℤ rhs) (unknown facts j) far
+    sign-same (count_at (numbers_after facts h) j -ℤ rhs) ((true_total facts h j -ℤ carried_by_all h j) -ℤ rhs)
+    (unknown facts j) far
     (omega (arith, ints))

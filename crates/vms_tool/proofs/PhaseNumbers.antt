@@ -6,19 +6,9 @@ use Rattle.std.proofs.lemmas.Bool.{cases_eq}
 use Rattle.std.proofs.lemmas.Bool.Decides.{nat_tests}
 use Rattle.std.proofs.lemmas.Int.{ints}
 use Rattle.vms_base.specs.declared.kinds.Mode.TheVariants.{Mod as Modify}
-use Rattle.vms_core.proofs.WithChange.{differential-carried}
+use Rattle.vms_core.proofs.ChangeLemmas.{differential_after-within, differential_after-carried_by}
 use Rattle.vms_core.specs.Changes.{differential_after, carried_by}
 use Rattle.vms_tool.specs.OpenPhases.{HasNumbers}
-
-module _ (t : ℕ) (found delta : ℤ) where
-  -- a change leaves a differential within the threshold
-  pub within_threshold : unsigned_abs (differential_after Modify t found delta) ≤ t
-  within_threshold = by (nat_le (unsigned_abs (found +ℤ delta)) t) refl
-    where
-      by : (b : Bool) → nat_le (unsigned_abs (found +ℤ delta)) t ≡ b
-          → unsigned_abs (if b then found +ℤ delta else neg_ℤ (pos 0)) ≤ t
-      by true is = grind (arith, nat_tests)
-      by false is = omega arith
 
 -- a total of one counter that grows by a change
 abbrev pub raised : ℕ → ℤ → (ℕ → ℤ) → ℕ → ℤ
@@ -46,7 +36,7 @@ module _ (count : ℕ) (t : ℕ → ℕ) (total : ℕ → ℤ) (p d : List ℤ) 
     within = λ l l_in. ⊎_elim
         (λ (same : l ≡ k). rw
         (same, get_or-set_same d k (differential_after Modify (t k) (get_or d k (pos 0)) delta) (pos 0) in_diffs)
-        (within_threshold (t k) (get_or d k (pos 0)) delta))
+        (differential_after-within Modify (t k) (get_or d k (pos 0)) delta))
         (λ (other : l ≢ k). rw
         (get_or-set_other d k l (differential_after Modify (t k) (get_or d k (pos 0)) delta) (pos 0) other)
         (before.within l l_in))
@@ -65,9 +55,9 @@ module _ (count : ℕ) (t : ℕ → ℕ) (total : ℕ → ℤ) (p d : List ℤ) 
           )
           (at_k (get_or p k (pos 0)) (get_or d k (pos 0)) (carried_by Modify (t k) (get_or d k (pos 0)) delta)
           (differential_after Modify (t k) (get_or d k (pos 0)) delta) (total k)
-          (differential-carried Modify (t k) (get_or d k (pos 0)) delta) (before.balanced k known))
+          (differential_after-carried_by Modify (t k) (get_or d k (pos 0)) delta) (before.balanced k known))
         where
-          at_k : (v f c a z : ℤ) → c +ℤ a ≡ f +ℤ delta → v +ℤ f ≡ z → (v +ℤ c) +ℤ a ≡ z +ℤ delta
+          at_k : (v f c a z : ℤ) → a +ℤ c ≡ f +ℤ delta → v +ℤ f ≡ z → (v +ℤ c) +ℤ a ≡ z +ℤ delta
           at_k v f c a z lost was = omega (arith, ints)
 
       elsewhere : (l : ℕ) → l < count → l ≢ k

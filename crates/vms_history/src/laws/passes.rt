@@ -1,4 +1,5 @@
-ghost use Rattle.std.specs.Prelude.{◌≡◌, ◌≢◌, ℕ, ◌<◌, ◌≤◌, true, false, Option, None, List, [], ◌∷◌, ◌++◌};
+ghost use Rattle.std.specs.Prelude.{◌≡◌, ◌≢◌, ℕ, ◌<◌, ◌≤◌, true, false, Option, Some, None, List, [], ◌∷◌, ◌++◌};
+ghost use Rattle.vms_base.specs.declared.ids.CpuId.{CpuId};
 ghost use Rattle.vms_history.specs.declared.events.Event.{Event};
 ghost use Rattle.vms_history.specs.Events.{own};
 ghost use Rattle.vms_history.specs.Legal.{IsLegal, Acts};
@@ -42,6 +43,16 @@ pub fn owner_stays<T: Table>()
     ensures owner { (facts : T.Facts) (m h : List (Event T.Step)) (q : ℕ) →
         IsLegal T.machine facts (m ++ h) → q ≤ begun_in T.machine.turn h →
         owner_in T.machine.turn (m ++ h) q ≡ owner_in T.machine.turn h q }
+{}
+
+/// Who owns a CPU has been given its number, and the table lets its passes own that CPU.
+pub fn owner_may_own<T: Table>()
+    ensures may { (facts : T.Facts) (h : List (Event T.Step)) (q : ℕ) (c : CpuId) →
+        IsLegal T.machine facts h → owner_in T.machine.turn h q ≡ Some c →
+        T.machine.MayOwn facts (Some c) }
+    ensures given { (facts : T.Facts) (h : List (Event T.Step)) (q : ℕ) (c : CpuId) →
+        IsLegal T.machine facts h → owner_in T.machine.turn h q ≡ Some c →
+        (0 < q) × (q ≤ begun_in T.machine.turn h) }
 {}
 
 /// A pass that has ended doesn't live again, so that one that lives has lived since it began, and makes no further

@@ -1,6 +1,6 @@
 use Rattle.vms_event_core.specs.Events.{events}
 use Rattle.vms_event_core.proofs.Carrying.{carries_as_control}
-use Rattle.vms_event_core.proofs.Owners.{owner_may_own}
+use Rattle.vms_history.proofs.Owners.{owner_may_own}
 use Rattle.vms_event_core.proofs.laws.control_passes_carry.Goals as goal
 
 pub returns : goal.returns

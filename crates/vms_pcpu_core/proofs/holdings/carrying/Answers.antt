@@ -2,7 +2,7 @@ use Rattle.std.proofs.Common.{◌≡◌, arith}
 use Rattle.std.proofs.Common.{nat_eq, if◌then◌else◌, refl}
 use Rattle.vms_history.specs.Events.{own}
 use Rattle.vms_pcpu_core.specs.Own.{carried, carried_after}
-use Rattle.vms_pcpu_core.proofs.Callers.{own-fact}
+use Rattle.vms_history.proofs.Own.{own-fact}
 use Rattle.vms_pcpu_core.specs.Histories.{History}
 use Rattle.std.proofs.Common.{ℕ, ◌^◌, ◌≤◌, List, length, ℤ, unsigned_abs, ap}
 use Rattle.std.proofs.Common.{◌∙◌}

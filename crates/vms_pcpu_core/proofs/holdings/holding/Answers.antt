@@ -2,7 +2,7 @@ use Rattle.std.proofs.Common.{◌≡◌, arith}
 use Rattle.std.proofs.Common.{nat_eq, if◌then◌else◌, refl}
 use Rattle.vms_history.specs.Events.{own}
 use Rattle.vms_pcpu_core.specs.Own.{holds, holds_after}
-use Rattle.vms_pcpu_core.proofs.Callers.{own-fact}
+use Rattle.vms_history.proofs.Own.{own-fact}
 use Rattle.vms_pcpu_core.specs.Histories.{History}
 use Rattle.vms_pcpu_core.proofs.PastEvents.{past-none, fact-next}
 use Rattle.vms_pcpu_core.proofs.holdings.holding.Goals as goal

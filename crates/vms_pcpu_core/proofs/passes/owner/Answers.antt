@@ -2,7 +2,7 @@ use Rattle.std.proofs.Common.{◌≡◌, arith}
 use Rattle.std.proofs.Common.{nat_eq, if◌then◌else◌, refl}
 use Rattle.vms_history.specs.Passes.{owner, owner_in, owner_after}
 use Rattle.vms_pcpu_core.specs.Steps.{turn}
-use Rattle.vms_pcpu_core.proofs.Callers.{own-fact}
+use Rattle.vms_history.proofs.Own.{own-fact}
 use Rattle.vms_pcpu_core.specs.Histories.{History}
 use Rattle.vms_pcpu_core.proofs.PastEvents.{past-none, fact-next}
 use Rattle.vms_pcpu_core.proofs.passes.owner.Goals as goal

@@ -5,7 +5,7 @@ use Rattle.vms_core.specs.declared.states.State.{State}
 use Rattle.vms_core.specs.declared.steps.Step.{Step}
 use Rattle.vms_core.specs.Cells.{threshold_at, threshold_sets_at}
 use Rattle.vms_core.specs.Following.{FollowsAlone, with_change}
-use Rattle.vms_core.proofs.CounterRanges.{place_known, item_known}
+use Rattle.vms_base.proofs.Counts.{place_of-lt, item_of-lt}
 use Rattle.vms_core.proofs.Following.{follows_alone}
 use Rattle.vms_core.proofs.PlainData.{places_of-shaped}
 use Rattle.vms_core.proofs.WithChange.{value-with_carried, system-with_carried, with_change-steps, total-with_change, total_of_item-with_change}
@@ -15,15 +15,19 @@ use Rattle.vms_core.proofs.plain.Plain.change.Goals.{After-carry}
 pub load_threshold-threshold-requires-clause-place :
     goal.load_threshold-threshold-requires-clause-place
 load_threshold-threshold-requires-clause-place c =
-    rw (places_of-shaped c.args.layout.now c.args.self.now c.place_of.ensures.is_layout c.requires.shaped, c.place_of.ensures.value)
-    (place_known c.args.layout.now c.place_of.ensures.is_layout c.args.counter.number c.requires.counter)
+    rw (
+      places_of-shaped c.args.layout.now c.args.self.now c.place_of.ensures.is_layout c.requires.shaped,
+      c.place_of.ensures.value,
+    )
+    (place_of-lt c.args.layout.now c.place_of.ensures.is_layout c.args.counter.number c.requires.counter)
 
 pub returns-clause-after : goal.returns-clause-after
 returns-clause-after c =
     let delta_fits : SFits w64 c.args.delta = search rules in
     let carried_fits : SFits w64 c.put-carried.result = search rules in
     let t_told : threshold_at c.args.self.now c.args.cpu.number (place_of c.args.layout.now c.args.counter.number)
-    ≡ c.load_threshold-threshold.result.t = rw (← c.place_of.ensures.value) (sym c.load_threshold-threshold.ensures.t) in
+    ≡ c.load_threshold-threshold.result.t =
+    rw (← c.place_of.ensures.value) (sym c.load_threshold-threshold.ensures.t) in
     rw (
       c.carry.ensures,
       c.put-carried.ensures.diff,
@@ -45,7 +49,8 @@ returns-clause-follows c facts h p may same_layout same_state =
     c.load_diffs-found.result refl refl (rw (← c.group.ensures.value) c.load_diffs-found.ensures) in
     let next : with_change facts.layout c.args.cpu.number c.args.counter.number c.args.delta c.args.mode c.args.self.now
     ≡ c.carry.new.self =
-    ap (λ (shape : Shape). with_change shape c.args.cpu.number c.args.counter.number c.args.delta c.args.mode c.args.self.now) same_layout
+    ap (λ (shape : Shape).
+    with_change shape c.args.cpu.number c.args.counter.number c.args.delta c.args.mode c.args.self.now) same_layout
     ∙ sym (returns-clause-after c) in (
       follows.0,
       subst (λ (now : State). FollowsAlone facts h p c.args.cpu c.args.counter c.args.delta c.args.mode follows.0 now)
@@ -54,15 +59,16 @@ returns-clause-follows c facts h p may same_layout same_state =
 
 pub returns-clause-total : goal.returns-clause-total
 returns-clause-total c =
-    rw (returns-clause-after c) (total-with_change c.args.layout.now c.args.self.now c.args.cpu.number c.args.counter.number
+    rw (returns-clause-after c)
+    (total-with_change c.args.layout.now c.args.self.now c.args.cpu.number c.args.counter.number
     c.args.delta c.args.mode c.requires.shaped c.requires.cpu c.requires.counter
-    (item_known c.args.layout.now c.place_of.ensures.is_layout c.args.counter.number c.requires.counter))
+    (item_of-lt c.args.layout.now c.place_of.ensures.is_layout c.args.counter.number))
 
 pub returns-clause-total_of_item : goal.returns-clause-total_of_item
 returns-clause-total_of_item c =
     rw (returns-clause-after c) (total_of_item-with_change c.args.layout.now c.args.self.now c.args.cpu.number
     c.args.counter.number c.args.delta c.args.mode c.requires.shaped c.requires.cpu c.requires.counter
-    (item_known c.args.layout.now c.place_of.ensures.is_layout c.args.counter.number c.requires.counter))
+    (item_of-lt c.args.layout.now c.place_of.ensures.is_layout c.args.counter.number))
 
 pub returns-clause-value : goal.returns-clause-value
 returns-clause-value c =
@@ -83,7 +89,7 @@ returns-clause-system c =
       c.carry.ensures,
       system-with_carried c.args.layout.now c.args.counter.number _ c.put-carried.new.self
           (rw (c.put-carried.ensures.diff, c.requires.shaped.system)
-          (item_known c.args.layout.now c.place_of.ensures.is_layout c.args.counter.number c.requires.counter)),
+          (item_of-lt c.args.layout.now c.place_of.ensures.is_layout c.args.counter.number)),
       to_z-of_z w64 c.put-carried.result carried_fits,
       c.put-carried.ensures.diff,
     )

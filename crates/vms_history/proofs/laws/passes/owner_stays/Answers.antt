@@ -2,4 +2,8 @@ use Rattle.vms_history.proofs.PassLaws as passes
 use Rattle.vms_history.proofs.laws.passes.owner_stays.Goals as goal
 
 pub returns : goal.returns
-returns g c = record { begun = passes.begun_in-append g.T.Table.machine.turn; owner = passes.owner_in-append g.T.Table.machine }
+returns g c = record {
+  begun = passes.begun_in-append g.T.Table.machine.turn;
+  owner =
+      passes.owner_in-append g.T.Table.machine;
+}
