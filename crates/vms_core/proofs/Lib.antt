@@ -39,3 +39,6 @@ pub mod ControlSteps
 pub mod OwnSteps
 pub mod FoldSums
 pub mod Ratings
+pub mod Agreeing
+pub mod Running
+pub mod LookSteps

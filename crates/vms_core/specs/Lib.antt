@@ -21,3 +21,5 @@ pub mod Taken
 pub mod Drift
 pub mod Bounded
 pub mod Knowledge
+pub mod Making
+pub mod MakingCalls
