@@ -42,3 +42,6 @@ pub mod Ratings
 pub mod Agreeing
 pub mod Running
 pub mod LookSteps
+pub mod RatingRuns
+pub mod ControlCalls
+pub mod VisitRuns

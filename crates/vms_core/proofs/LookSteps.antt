@@ -29,9 +29,11 @@ module _ (facts : Facts) (layout : IsLayout facts.layout) (p : ℕ) (who : Optio
 
   pub snapshot-runs : (k : CounterId) (steps : List Step) (answer : ℕ) (h : History) → IsCounter facts.layout k.number
       → IsSnapshot facts.layout k steps answer → Runs facts p who steps h (λ then. Unit {0})
-  snapshot-runs k steps answer h k_in call = subst (λ ks. Runs facts p who ks h (λ then. Unit {0})) (sym call.in_order)
-      (λ knows. k_in, λ knows told. looks-run (group_of k.number) 0 call.looks _ (group_known facts.layout layout k.number k_in)
-      (let count = call.one_each in omega arith))
+  snapshot-runs k steps answer h k_in call = subst (λ ks. Runs facts p who ks h (λ then. Unit {0})) (sym call.in_order) (
+    λ knows. k_in,
+    λ knows told. looks-run (group_of k.number) 0 call.looks _ (group_known facts.layout layout k.number k_in)
+        (let count = call.one_each in omega arith),
+  )
 
   further-runs : (k : CounterId) (doubt : Bool) (value : ℤ) (steps : List Step) (free : ℕ) (h : History)
       → IsCounter facts.layout k.number → Frees facts.layout k doubt value steps free → Runs facts p who steps h (λ then. Unit {0})
@@ -59,7 +61,15 @@ test-may facts h p g limit steps answer living zone call =
     let k = free_pages facts.layout g in
     let k_in : IsCounter facts.layout k.number = first-known facts.layout layout g.number (omega arith) in
     runs-may facts p h living steps
-    (subst (λ ks. Runs facts p (owner_in turn h p) ks h (λ then. Unit {0})) (sym call.in_order)
-    (λ knows. zone, λ knows told. (λ knows. k_in, λ knows told. (λ knows. zone, λ knows told.
-    further-runs facts layout p (owner_in turn h p) k (is_doubtful call.first call.value call.second) call.value call.further
-    answer.free _ k_in call.frees))))
+    (subst (λ ks. Runs facts p (owner_in turn h p) ks h (λ then. Unit {0})) (sym call.in_order) (
+      λ knows. zone,
+      λ knows told. (
+        λ knows. k_in,
+        λ knows told. (
+          λ knows. zone,
+          λ knows told.
+              further-runs facts layout p (owner_in turn h p) k (is_doubtful call.first call.value call.second) call.value call.further
+              answer.free _ k_in call.frees,
+        ),
+      ),
+    ))

@@ -1,14 +1,20 @@
 -- The steps of whole calls may be made, whatever other callers do between them.
-use Rattle.std.specs.Prelude.{ℕ, ℤ, List, ◌≡◌, length, Some, ◌+◌, ◌≤◌, unsigned_abs}
+use Rattle.std.specs.Prelude.{◌≡◌, ℕ, ◌≤◌, List, length, All}
 use Rattle.vms_base.specs.declared.ids.CounterId.{CounterId}
+use Rattle.vms_base.specs.declared.ids.CpuId.{CpuId}
 use Rattle.vms_base.specs.declared.ids.ItemId.{ItemId}
 use Rattle.vms_base.specs.declared.ids.PlaceId.{PlaceId}
-use Rattle.vms_base.specs.Places.{IsZone, IsCounter, IsItem}
+use Rattle.vms_base.specs.declared.kinds.CpuState.TheVariants.{Online}
+use Rattle.vms_base.specs.declared.kinds.ZoneSize.{ZoneSize}
+use Rattle.vms_base.specs.Places.{IsCpu, IsZone, IsCounter, IsItem}
+use Rattle.vms_core.specs.declared.states.State.{State}
 use Rattle.vms_core.specs.declared.steps.Facts.{Facts}
 use Rattle.vms_core.specs.declared.steps.Step.{Step}
+use Rattle.vms_core.specs.Cells.{mark_at, cpu_at}
+use Rattle.vms_core.specs.Controlling.{Rates, RatesNode, Refreshes}
 use Rattle.vms_core.specs.Looking.{Verdict, IsPlaceValue, IsSystemValue, IsSnapshot, IsWatermarkTest}
-use Rattle.vms_core.specs.Making.{MayMake, LivesIn}
-use Rattle.vms_core.specs.Pages.{History}
+use Rattle.vms_core.specs.Making.{MayMake, LivesIn, ControlsIn}
+use Rattle.vms_core.specs.Pages.{History, state_after}
 
 -- every pass may load the value of a counter, and of an item
 abbrev pub MakesPlaceValue : Type 0
@@ -30,3 +36,24 @@ abbrev pub MakesTest : Type 0
 MakesTest = (facts : Facts) (h : History) (p : ℕ) (g : PlaceId) (limit : ℕ) (steps : List Step) (answer : Verdict) →
     LivesIn facts h p → IsZone facts.layout g.number → IsWatermarkTest facts.layout g limit steps answer →
     MayMake facts p h steps
+
+-- these CPUs of the layout are online
+abbrev pub AreOnline : Facts → State → List CpuId → Type 0
+AreOnline facts s online = All (λ c. IsCpu facts.layout c.number × (cpu_at s c.number ≡ Online)) online
+
+-- the control pass may rate a zone: give it a threshold by a rule, where it found its mark and which CPUs are online
+abbrev pub MakesRating : (rule normal : ZoneSize → ℕ → ℕ → Type 0) → Type 0
+MakesRating rule normal = (facts : Facts) (h : History) (p : ℕ) (online : List CpuId) (g t m : ℕ) (steps : List Step) →
+    ControlsIn facts h p → AreOnline facts (state_after facts h) online → length online ≤ facts.layout.cpus →
+    IsZone facts.layout g → mark_at (state_after facts h) g ≡ m → Rates facts normal p online rule g t m h steps →
+    MayMake facts p h steps
+
+-- it may set the thresholds of a node's zones under a rule
+abbrev pub MakesNodeRating : (rule normal : ZoneSize → ℕ → ℕ → Type 0) → Type 0
+MakesNodeRating rule normal = (facts : Facts) (h : History) (p : ℕ) (n : PlaceId) (steps : List Step) →
+    ControlsIn facts h p → RatesNode facts rule normal n p h steps → MayMake facts p h steps
+
+-- and refresh all thresholds
+abbrev pub MakesRefresh : (ZoneSize → ℕ → ℕ → Type 0) → Type 0
+MakesRefresh normal = (facts : Facts) (h : History) (p : ℕ) (steps : List Step) →
+    ControlsIn facts h p → Refreshes facts normal p h steps → MayMake facts p h steps

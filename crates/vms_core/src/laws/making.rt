@@ -1,4 +1,7 @@
-ghost use Rattle.vms_core.specs.MakingCalls.{MakesPlaceValue, MakesSystemValue, MakesSnapshot, MakesTest};
+ghost use Rattle.std.specs.Prelude.{ℕ};
+ghost use Rattle.vms_base.specs.declared.kinds.ZoneSize.{ZoneSize};
+ghost use Rattle.vms_core.specs.Making.{GivesThresholds};
+ghost use Rattle.vms_core.specs.MakingCalls.{MakesPlaceValue, MakesSystemValue, MakesSnapshot, MakesTest, MakesRating, MakesNodeRating, MakesRefresh};
 
 /// The steps of the calls that look at values may be made by every live pass, whatever others do between them.
 pub fn looks_may_be_made()
@@ -6,4 +9,20 @@ pub fn looks_may_be_made()
     ensures system_value { MakesSystemValue }
     ensures snapshot { MakesSnapshot }
     ensures test { MakesTest }
+{}
+
+/// The rules of a call that gives zones thresholds: its own and the normal one, each as the thresholds that it may give
+/// where so many CPUs are online.
+pub trait ThresholdRules {
+    ghost rule: { ZoneSize → ℕ → ℕ → Type 0 };
+
+    ghost normal: { ZoneSize → ℕ → ℕ → Type 0 };
+}
+
+/// The control pass may make the steps that set thresholds and marks, whatever others do between them, where its rules
+/// give thresholds of 1 to 125.
+pub fn thresholds_may_be_set<R: ThresholdRules>()
+    ensures zone { GivesThresholds R.rule → GivesThresholds R.normal → MakesRating R.rule R.normal }
+    ensures node { GivesThresholds R.rule → GivesThresholds R.normal → MakesNodeRating R.rule R.normal }
+    ensures refresh { GivesThresholds R.normal → MakesRefresh R.normal }
 {}
