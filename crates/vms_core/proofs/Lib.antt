@@ -45,3 +45,6 @@ pub mod LookSteps
 pub mod RatingRuns
 pub mod ControlCalls
 pub mod VisitRuns
+pub mod TakenSteps
+pub mod FoldRuns
+pub mod FoldCalls

@@ -1,5 +1,5 @@
 -- The steps of whole calls may be made, whatever other callers do between them.
-use Rattle.std.specs.Prelude.{◌≡◌, ℕ, ◌≤◌, List, length, All}
+use Rattle.std.specs.Prelude.{◌≡◌, ℕ, ◌≤◌, Bool, true, List, length, All, Some}
 use Rattle.vms_base.specs.declared.ids.CounterId.{CounterId}
 use Rattle.vms_base.specs.declared.ids.CpuId.{CpuId}
 use Rattle.vms_base.specs.declared.ids.ItemId.{ItemId}
@@ -8,13 +8,18 @@ use Rattle.vms_base.specs.declared.kinds.CpuState.TheVariants.{Online}
 use Rattle.vms_base.specs.declared.kinds.ZoneSize.{ZoneSize}
 use Rattle.vms_base.specs.Places.{IsCpu, IsZone, IsCounter, IsItem}
 use Rattle.vms_core.specs.declared.states.State.{State}
+use Rattle.vms_history.specs.Events.{own}
+use Rattle.vms_history.specs.Passes.{owner_in}
 use Rattle.vms_core.specs.declared.steps.Facts.{Facts}
 use Rattle.vms_core.specs.declared.steps.Step.{Step}
 use Rattle.vms_core.specs.Cells.{mark_at, cpu_at}
 use Rattle.vms_core.specs.Controlling.{Rates, RatesNode, Refreshes}
+use Rattle.vms_core.specs.Folding.{IsFold}
 use Rattle.vms_core.specs.Looking.{Verdict, IsPlaceValue, IsSystemValue, IsSnapshot, IsWatermarkTest}
 use Rattle.vms_core.specs.Making.{MayMake, LivesIn, ControlsIn}
+use Rattle.vms_core.specs.Own.{CarriesNothing}
 use Rattle.vms_core.specs.Pages.{History, state_after}
+use Rattle.vms_core.specs.Steps.{turn}
 
 -- every pass may load the value of a counter, and of an item
 abbrev pub MakesPlaceValue : Type 0
@@ -57,3 +62,9 @@ MakesNodeRating rule normal = (facts : Facts) (h : History) (p : ℕ) (n : Place
 abbrev pub MakesRefresh : (ZoneSize → ℕ → ℕ → Type 0) → Type 0
 MakesRefresh normal = (facts : Facts) (h : History) (p : ℕ) (steps : List Step) →
     ControlsIn facts h p → Refreshes facts normal p h steps → MayMake facts p h steps
+
+-- a pass that carries nothing may fold a CPU, and with acknowledgements the one that it owns
+abbrev pub MakesFold : Type 0
+MakesFold = (facts : Facts) (h : History) (p : ℕ) (is_own : Bool) (c : CpuId) (steps : List Step) →
+    LivesIn facts h p → IsCpu facts.layout c.number → (is_own ≡ true → owner_in turn h p ≡ Some c) →
+    CarriesNothing facts.layout (own h p) → IsFold facts.layout is_own c steps → MayMake facts p h steps
