@@ -29,13 +29,13 @@ all-one_of P c (d ∷ ds) all is = ⊎_elim
     is
 
 module _ (facts : Facts) (h : History) (p : ℕ) (controls : ControlsIn facts h p) where
-  base : IsBase facts
+  pub base : IsBase facts
   base = base_can_begin pages facts h controls.living.legal
 
-  valid_sizes : (z : ℕ) → IsZone facts.layout z → IsValidSize (size_at facts.sizes z)
+  pub valid_sizes : (z : ℕ) → IsZone facts.layout z → IsValidSize (size_at facts.sizes z)
   valid_sizes z zone = base.sizes z (record { managed = 0; min = 0; low = 0; high = 0 }) (let each = base.one_size_each in omega arith)
 
-  control-may : (steps : List Step) → Runs facts p None steps h (λ then. Unit {0}) → MayMake facts p h steps
+  pub control-may : (steps : List Step) → Runs facts p None steps h (λ then. Unit {0}) → MayMake facts p h steps
   control-may steps runs = runs-may facts p h controls.living steps
       (subst (λ who. Runs facts p who steps h (λ then. Unit {0})) (sym controls.control) runs)
 

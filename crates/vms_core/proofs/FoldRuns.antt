@@ -170,8 +170,7 @@ module _ (facts : Facts) (layout : IsLayout facts.layout) (p : ℕ) (who : Optio
             λ knows. (z_in, (c, knows.owner ∙ own_place.1)),
             λ knows told. runs-append facts p who groups set told_then P
                 (groups-run (group_of (counter_at facts.layout z 0)) found.groups told_then (λ now. Runs facts p who set now P) within has.eight_each
-                (λ k. total-next (moved k) load g ∙ omega (arith, ints, none k))
-                (
+                (λ k. total-next (moved k) load g ∙ omega (arith, ints, none k)) (
                   λ knows. acknowledged own_place.0 own_place.1 g knows,
                   λ knows told. subst P (after-steps p groups set told_then) rest,
                 )),

@@ -48,3 +48,6 @@ pub mod VisitRuns
 pub mod TakenSteps
 pub mod FoldRuns
 pub mod FoldCalls
+pub mod BurialRuns
+pub mod BurialCalls
+pub mod ChangeRuns

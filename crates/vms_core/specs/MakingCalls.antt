@@ -1,10 +1,11 @@
 -- The steps of whole calls may be made, whatever other callers do between them.
-use Rattle.std.specs.Prelude.{◌≡◌, ℕ, ◌≤◌, Bool, true, List, length, All, Some}
+use Rattle.std.specs.Prelude.{◌≡◌, ℕ, ◌≤◌, Bool, true, ℤ, List, length, All, Some}
 use Rattle.vms_base.specs.declared.ids.CounterId.{CounterId}
 use Rattle.vms_base.specs.declared.ids.CpuId.{CpuId}
 use Rattle.vms_base.specs.declared.ids.ItemId.{ItemId}
 use Rattle.vms_base.specs.declared.ids.PlaceId.{PlaceId}
-use Rattle.vms_base.specs.declared.kinds.CpuState.TheVariants.{Online}
+use Rattle.vms_base.specs.declared.kinds.CpuState.TheVariants.{Online, Dead}
+use Rattle.vms_base.specs.declared.kinds.Mode.{Mode}
 use Rattle.vms_base.specs.declared.kinds.ZoneSize.{ZoneSize}
 use Rattle.vms_base.specs.Places.{IsCpu, IsZone, IsCounter, IsItem}
 use Rattle.vms_core.specs.declared.states.State.{State}
@@ -12,9 +13,11 @@ use Rattle.vms_history.specs.Events.{own}
 use Rattle.vms_history.specs.Passes.{owner_in}
 use Rattle.vms_core.specs.declared.steps.Facts.{Facts}
 use Rattle.vms_core.specs.declared.steps.Step.{Step}
+use Rattle.vms_core.specs.Calls.{IsChange}
 use Rattle.vms_core.specs.Cells.{mark_at, cpu_at}
-use Rattle.vms_core.specs.Controlling.{Rates, RatesNode, Refreshes}
+use Rattle.vms_core.specs.Controlling.{Rates, RatesNode, Refreshes, Buries}
 use Rattle.vms_core.specs.Folding.{IsFold}
+use Rattle.vms_core.specs.Following.{MayChange}
 use Rattle.vms_core.specs.Looking.{Verdict, IsPlaceValue, IsSystemValue, IsSnapshot, IsWatermarkTest}
 use Rattle.vms_core.specs.Making.{MayMake, LivesIn, ControlsIn}
 use Rattle.vms_core.specs.Own.{CarriesNothing}
@@ -68,3 +71,15 @@ abbrev pub MakesFold : Type 0
 MakesFold = (facts : Facts) (h : History) (p : ℕ) (is_own : Bool) (c : CpuId) (steps : List Step) →
     LivesIn facts h p → IsCpu facts.layout c.number → (is_own ≡ true → owner_in turn h p ≡ Some c) →
     CarriesNothing facts.layout (own h p) → IsFold facts.layout is_own c steps → MayMake facts p h steps
+
+-- the control pass that carries nothing may bury a dead CPU
+abbrev pub MakesBurial : (ZoneSize → ℕ → ℕ → Type 0) → Type 0
+MakesBurial normal = (facts : Facts) (h : History) (p : ℕ) (c : CpuId) (steps : List Step) →
+    ControlsIn facts h p → IsCpu facts.layout c.number → cpu_at (state_after facts h) c.number ≡ Dead →
+    CarriesNothing facts.layout (own h p) → Buries facts normal c p h steps → MayMake facts p h steps
+
+-- the owner of a CPU that may change a counter may make the steps of the change
+abbrev pub MakesChange : Type 0
+MakesChange = (facts : Facts) (h : History) (p : ℕ) (cpu : CpuId) (k : CounterId) (delta : ℤ) (how : Mode)
+    (steps : List Step) → MayChange facts h p cpu k delta → (change : IsChange facts.layout cpu k delta how steps) →
+    length change.first.values ≡ 8 → MayMake facts p h steps

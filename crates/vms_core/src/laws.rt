@@ -16,7 +16,10 @@ pub use knowledge::{
     control_steps_stay_allowed, exchanges_win_or_miss, found_lists_stand, own_steps_stay_allowed,
     owned_cpus_are_online, passes_know_what_they_own,
 };
-pub use making::{ThresholdRules, folds_may_be_made, looks_may_be_made, thresholds_may_be_set};
+pub use making::{
+    ThresholdRules, changes_may_be_made, folds_may_be_made, looks_may_be_made,
+    thresholds_may_be_set,
+};
 pub use peaks::{
     acknowledged_bounds_use, differentials_are_within_peaks, each_beginning_is_within_peaks,
     history_tells_settings, marks_cover, settings_are_in_range,

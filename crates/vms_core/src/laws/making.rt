@@ -1,7 +1,7 @@
 ghost use Rattle.std.specs.Prelude.{ℕ};
 ghost use Rattle.vms_base.specs.declared.kinds.ZoneSize.{ZoneSize};
 ghost use Rattle.vms_core.specs.Making.{GivesThresholds};
-ghost use Rattle.vms_core.specs.MakingCalls.{MakesPlaceValue, MakesSystemValue, MakesSnapshot, MakesTest, MakesRating, MakesNodeRating, MakesRefresh, MakesFold};
+ghost use Rattle.vms_core.specs.MakingCalls.{MakesPlaceValue, MakesSystemValue, MakesSnapshot, MakesTest, MakesRating, MakesNodeRating, MakesRefresh, MakesFold, MakesBurial, MakesChange};
 
 /// The steps of the calls that look at values may be made by every live pass, whatever others do between them.
 pub fn looks_may_be_made()
@@ -25,10 +25,17 @@ pub fn thresholds_may_be_set<R: ThresholdRules>()
     ensures zone { GivesThresholds R.rule → GivesThresholds R.normal → MakesRating R.rule R.normal }
     ensures node { GivesThresholds R.rule → GivesThresholds R.normal → MakesNodeRating R.rule R.normal }
     ensures refresh { GivesThresholds R.normal → MakesRefresh R.normal }
+    ensures burial { GivesThresholds R.normal → MakesBurial R.normal }
 {}
 
 /// Every live pass that carries nothing may make the steps of a fold, whatever others do between them; of its own CPU it
 /// may acknowledge the thresholds too.
 pub fn folds_may_be_made()
     ensures { MakesFold }
+{}
+
+/// The owner of a CPU may make the steps of a change, whatever others do between them, where it carries nothing and the
+/// CPU has volume left.
+pub fn changes_may_be_made()
+    ensures { MakesChange }
 {}
