@@ -51,3 +51,4 @@ pub mod FoldCalls
 pub mod BurialRuns
 pub mod BurialCalls
 pub mod ChangeRuns
+pub mod TurnReading

@@ -23,3 +23,5 @@ pub mod Bounded
 pub mod Knowledge
 pub mod Making
 pub mod MakingCalls
+pub mod Balancing
+pub mod Turning

@@ -11,6 +11,7 @@ mod steps;
 mod tables;
 #[cfg(test)]
 mod tests;
+mod turns;
 mod worlds;
 
 pub use calls::{answers_are_told, changes_miss_once, folds_move_all, ratings_cover};
@@ -29,6 +30,7 @@ pub use plain::Plain;
 pub use states::{Acks, Longs, MarkRead, Marks, Smalls, State, States, Threshold};
 pub use steps::{Event, Facts, Step};
 pub use tables::Pages;
+pub use turns::turns_are_told;
 pub use vms_event_core::EventState;
 pub use vms_pcpu_core::PcpuState;
 pub use worlds::World;
