@@ -52,3 +52,4 @@ pub mod BurialRuns
 pub mod BurialCalls
 pub mod ChangeRuns
 pub mod TurnReading
+pub mod TurnThresholds

@@ -1,4 +1,4 @@
-ghost use Rattle.vms_core.specs.Turning.{TellsOrderTest, TellsBalance, TellsTurn};
+ghost use Rattle.vms_core.specs.Turning.{TellsOrderTest, TellsBalance, TellsTurn, LeavesNormal, LeavesPressure};
 
 use crate::laws::ThresholdRules;
 
@@ -8,4 +8,11 @@ pub fn turns_are_told<R: ThresholdRules>()
     ensures order { TellsOrderTest }
     ensures balance { TellsBalance }
     ensures turn { TellsTurn R.rule R.normal }
+{}
+
+/// After yes a turn leaves thresholds of the normal rule on the CPUs that it found online, after no those of the pressure
+/// rule, in each zone of the node whose mark its last call on thresholds found not 0.
+pub fn turns_leave_rules<R: ThresholdRules>()
+    ensures after_yes { LeavesNormal R.rule R.normal }
+    ensures after_no { LeavesPressure R.rule R.normal }
 {}
