@@ -53,3 +53,4 @@ pub mod BurialCalls
 pub mod ChangeRuns
 pub mod TurnReading
 pub mod TurnThresholds
+pub mod TurnRuns

@@ -7,7 +7,7 @@ use Rattle.vms_history.proofs.Prefixes.{base_can_begin}
 use Rattle.vms_core.specs.declared.steps.Facts.{Facts}
 use Rattle.vms_core.specs.declared.steps.Step.{Step}
 use Rattle.vms_core.specs.Lists.{in_turn}
-use Rattle.vms_core.specs.Looking.{Look, Frees, IsSnapshot, look_steps, is_doubtful, free_pages}
+use Rattle.vms_core.specs.Looking.{Look, Verdict, Frees, IsSnapshot, IsWatermarkTest, look_steps, is_doubtful, free_pages}
 use Rattle.vms_core.specs.Looking.Look.{online, other}
 use Rattle.vms_core.specs.MakingCalls.{MakesPlaceValue, MakesSystemValue, MakesSnapshot, MakesTest}
 use Rattle.vms_core.specs.Pages.{pages, History}
@@ -15,6 +15,7 @@ use Rattle.vms_core.specs.Steps.{turn}
 use Rattle.vms_core.proofs.CounterRanges.{group_known, first-known}
 use Rattle.vms_core.proofs.Running.{Runs, runs-may}
 use Rattle.vms_base.specs.declared.ids.CpuId.{CpuId}
+use Rattle.vms_base.specs.declared.ids.PlaceId.{PlaceId}
 use Rattle.vms_base.specs.Places.{IsLayout}
 use Rattle.std.specs.Prelude.{Option}
 
@@ -40,6 +41,23 @@ module _ (facts : Facts) (layout : IsLayout facts.layout) (p : ℕ) (who : Optio
   further-runs k true value steps free h k_in frees = snapshot-runs k steps free h k_in frees
   further-runs k false value steps free h k_in frees = subst (λ ks. Runs facts p who ks h (λ then. Unit {0})) (sym frees.0) tt
 
+  pub test-runs : (g : PlaceId) (limit : ℕ) (steps : List Step) (answer : Verdict) (h : History) → IsZone facts.layout g.number
+      → IsWatermarkTest facts.layout g limit steps answer → Runs facts p who steps h (λ now. Unit {0})
+  test-runs g limit steps answer h zone call =
+      let k = free_pages facts.layout g in
+      let k_in : IsCounter facts.layout k.number = first-known facts.layout layout g.number (omega arith) in
+      subst (λ ks. Runs facts p who ks h (λ now. Unit {0})) (sym call.in_order) (
+        λ knows. zone,
+        λ knows told. (
+          λ knows. k_in,
+          λ knows told. (
+            λ knows. zone,
+            λ knows told.
+                further-runs k (is_doubtful call.first call.value call.second) call.value call.further answer.free _ k_in call.frees,
+          ),
+        ),
+      )
+
 pub place_value-may : MakesPlaceValue
 place_value-may facts h p k steps answer living k_in call =
     runs-may facts p h living steps
@@ -57,19 +75,5 @@ snapshot-may facts h p k steps answer living k_in call =
 
 pub test-may : MakesTest
 test-may facts h p g limit steps answer living zone call =
-    let layout = (base_can_begin pages facts h living.legal).layout in
-    let k = free_pages facts.layout g in
-    let k_in : IsCounter facts.layout k.number = first-known facts.layout layout g.number (omega arith) in
     runs-may facts p h living steps
-    (subst (λ ks. Runs facts p (owner_in turn h p) ks h (λ then. Unit {0})) (sym call.in_order) (
-      λ knows. zone,
-      λ knows told. (
-        λ knows. k_in,
-        λ knows told. (
-          λ knows. zone,
-          λ knows told.
-              further-runs facts layout p (owner_in turn h p) k (is_doubtful call.first call.value call.second) call.value call.further
-              answer.free _ k_in call.frees,
-        ),
-      ),
-    ))
+    (test-runs facts (base_can_begin pages facts h living.legal).layout p (owner_in turn h p) g limit steps answer h zone call)

@@ -120,11 +120,11 @@ module _ (facts : Facts) (p : ℕ) where
     runs-append (x ∷ xs) ys g P runs =
         (runs.0, λ knows informs. runs-append xs ys (event facts p x ∷ g) P (runs.1 knows informs))
 
-    pub runs-weaker : (xs : List Step) (g : History) (P Q : History → Type 0) → ((then : History) → P then → Q then)
-        → Runs xs g P → Runs xs g Q
-    runs-weaker [] g P Q weaker runs = weaker g runs
-    runs-weaker (x ∷ xs) g P Q weaker runs =
-        (runs.0, λ knows informs. runs-weaker xs (event facts p x ∷ g) P Q weaker (runs.1 knows informs))
+    -- what holds of the history after steps in a row holds once they ran
+    pub runs-then : (xs : List Step) (g : History) (P : History → Type 0) → Runs xs g (λ now. Unit {0}) → P (after p xs g) → Runs xs g P
+    runs-then [] g P runs holds = holds
+    runs-then (x ∷ xs) g P runs holds =
+        (runs.0, λ knows informs. runs-then xs (event facts p x ∷ g) P (runs.1 knows informs) holds)
 
     -- all that these steps told
     abbrev Told : List Step → History → Type 0

@@ -31,10 +31,10 @@ use Rattle.vms_core.proofs.Below.{largest_below-least, largest_below-most}
 use Rattle.vms_core.proofs.RatingRuns.{IsOneOf, AreOnline, MaySet, rating-runs, thresholds-run}
 use Rattle.vms_core.proofs.Running.{Runs, runs-append}
 
-all-first : {X : Type 0} (P : X → Type 0) (x : X) (xs : List X) → All P (x ∷ xs) → P x
+pub all-first : {X : Type 0} (P : X → Type 0) (x : X) (xs : List X) → All P (x ∷ xs) → P x
 all-first P x xs all = all 0 x (omega arith)
 
-all-rest : {X : Type 0} (P : X → Type 0) (x : X) (xs : List X) → All P (x ∷ xs) → All P xs
+pub all-rest : {X : Type 0} (P : X → Type 0) (x : X) (xs : List X) → All P (x ∷ xs) → All P xs
 all-rest P x xs all = λ n d less. all (suc n) d (omega arith)
 
 length-numbers_below : (n : ℕ) → length (numbers_below n) ≡ n

@@ -1,5 +1,5 @@
 -- What the steps of a turn of kswapd tell of its answer, and which thresholds they leave.
-use Rattle.std.specs.Prelude.{◌≡◌, ◌≢◌, ℕ, suc, zero, ◌≤◌, nat_eq, ◌&&◌, Bool, true, false, List, [], ◌∷◌, ◌++◌, length, drop, Contains, if◌then◌else◌, Option, Some, None, is_some}
+use Rattle.std.specs.Prelude.{◌≡◌, ◌≢◌, ℕ, suc, zero, ◌<◌, ◌≤◌, nat_eq, ◌&&◌, Bool, true, false, List, [], ◌∷◌, ◌++◌, length, drop, All, Contains, if◌then◌else◌, Option, Some, None, is_some}
 use Rattle.vms_base.specs.declared.ids.CpuId.{CpuId}
 use Rattle.vms_base.specs.declared.ids.PlaceId.{PlaceId}
 use Rattle.vms_base.specs.declared.kinds.CpuState.{CpuState}
@@ -14,6 +14,7 @@ use Rattle.vms_core.specs.Balancing.Balance.{Yes, No}
 use Rattle.vms_core.specs.Bases.{size_at}
 use Rattle.vms_core.specs.Controlling.{RatesNode, online_from, zones_on}
 use Rattle.vms_core.specs.Looking.{Verdict}
+use Rattle.vms_core.specs.Making.{HasMade, MayMake, LivesIn, ControlsIn}
 use Rattle.vms_core.specs.Pages.{History}
 use Rattle.vms_core.specs.Reading.{mark_told, online_told, read_snapshot, read_test}
 
@@ -161,3 +162,38 @@ abbrev pub LeavesPressure : (pressure normal : ZoneSize → ℕ → ℕ → Type
 LeavesPressure pressure normal = (facts : Facts) (areas : List Area) (n : PlaceId) (order most p : ℕ) (h : History)
     (steps : List Step) (turn : IsTurn facts areas pressure normal n order most p h steps No)
     → LeavesByRule facts pressure turn.presses.states turn.pressed steps
+
+-- the areas are zone items of the layout
+abbrev pub AreItems : Shape → List Area → Type 0
+AreItems shape areas = All (λ area. area.position < shape.positions) areas
+
+-- a live pass may test whether a node is balanced, whatever others do between its steps
+abbrev pub MakesBalanceTest : Type 0
+MakesBalanceTest = (facts : Facts) (areas : List Area) (n : PlaceId) (order most p : ℕ) (h : History)
+    (steps : List Step) (answer : Balance) → LivesIn facts h p → AreItems facts.layout areas →
+    IsBalanceTest facts areas n order most steps answer → MayMake facts p h steps
+
+-- and the control pass may make a turn
+abbrev pub MakesTurn : (pressure normal : ZoneSize → ℕ → ℕ → Type 0) → Type 0
+MakesTurn pressure normal = (facts : Facts) (areas : List Area) (n : PlaceId) (order most p : ℕ) (h : History)
+    (steps : List Step) (answer : Balance) → ControlsIn facts h p → AreItems facts.layout areas →
+    IsTurn facts areas pressure normal n order most p h steps answer → MayMake facts p h steps
+
+-- in a legal history the calls of a turn find a CPU online
+abbrev pub FindsOnline : (pressure normal : ZoneSize → ℕ → ℕ → Type 0) → Type 0
+FindsOnline pressure normal = (facts : Facts) (areas : List Area) (n : PlaceId) (order most p : ℕ) (later h : History)
+    (steps : List Step) (answer : Balance) (turn : IsTurn facts areas pressure normal n order most p h steps answer) →
+    HasMade facts later h p steps → SomeOnline turn.presses.states
+    × SettlesOnline facts normal n p answer (after p (turn.pressed ++ turn.test) h) turn.further turn.settles
+
+-- a zone that passed for an order: the answer is yes, and above order 0 a free block as large was found
+pub record HasPassed (facts : Facts) (n : PlaceId) (order most : ℕ) (g : PlaceId) (verdict : OrderVerdict) : Type 0 where
+  pub one_of : Contains (zones_up_to facts.layout most (node_number facts.layout n)) g.number
+  pub passed : verdict.yes ≡ true
+  pub block : order ≢ 0 → (o : ℕ) × (verdict.area ≡ Some o) × (order ≤ o)
+
+-- a balance test names a zone of the node that passed
+abbrev pub NamesPassed : Type 0
+NamesPassed = (facts : Facts) (areas : List Area) (n : PlaceId) (order most : ℕ) (steps : List Step) (g : PlaceId)
+    (verdict : OrderVerdict) → IsBalanceTest facts areas n order most steps (Yes g verdict) →
+    HasPassed facts n order most g verdict

@@ -1,4 +1,5 @@
-ghost use Rattle.vms_core.specs.Turning.{TellsOrderTest, TellsBalance, TellsTurn, LeavesNormal, LeavesPressure};
+ghost use Rattle.vms_core.specs.Making.{GivesThresholds};
+ghost use Rattle.vms_core.specs.Turning.{TellsOrderTest, TellsBalance, TellsTurn, LeavesNormal, LeavesPressure, MakesBalanceTest, MakesTurn};
 
 use crate::laws::ThresholdRules;
 
@@ -15,4 +16,11 @@ pub fn turns_are_told<R: ThresholdRules>()
 pub fn turns_leave_rules<R: ThresholdRules>()
     ensures after_yes { LeavesNormal R.rule R.normal }
     ensures after_no { LeavesPressure R.rule R.normal }
+{}
+
+/// Every live pass may make the steps of a balance test, and the control pass those of a turn, whatever others do between
+/// them, where its rules give thresholds of 1 to 125.
+pub fn turns_may_be_made<R: ThresholdRules>()
+    ensures test { MakesBalanceTest }
+    ensures turn { GivesThresholds R.rule → GivesThresholds R.normal → MakesTurn R.rule R.normal }
 {}
