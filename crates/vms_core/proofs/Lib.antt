@@ -54,3 +54,4 @@ pub mod ChangeRuns
 pub mod TurnReading
 pub mod TurnThresholds
 pub mod TurnRuns
+pub mod TurnFinds

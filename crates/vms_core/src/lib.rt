@@ -30,7 +30,7 @@ pub use plain::Plain;
 pub use states::{Acks, Longs, MarkRead, Marks, Smalls, State, States, Threshold};
 pub use steps::{Event, Facts, Step};
 pub use tables::Pages;
-pub use turns::{turns_are_told, turns_leave_rules, turns_may_be_made};
+pub use turns::{turns_are_told, turns_find_what_they_name, turns_leave_rules, turns_may_be_made};
 pub use vms_event_core::EventState;
 pub use vms_pcpu_core::PcpuState;
 pub use worlds::World;

@@ -1,5 +1,5 @@
 ghost use Rattle.vms_core.specs.Making.{GivesThresholds};
-ghost use Rattle.vms_core.specs.Turning.{TellsOrderTest, TellsBalance, TellsTurn, LeavesNormal, LeavesPressure, MakesBalanceTest, MakesTurn};
+ghost use Rattle.vms_core.specs.Turning.{TellsOrderTest, TellsBalance, TellsTurn, LeavesNormal, LeavesPressure, MakesBalanceTest, MakesTurn, NamesPassed, FindsOnline};
 
 use crate::laws::ThresholdRules;
 
@@ -23,4 +23,11 @@ pub fn turns_leave_rules<R: ThresholdRules>()
 pub fn turns_may_be_made<R: ThresholdRules>()
     ensures test { MakesBalanceTest }
     ensures turn { GivesThresholds R.rule → GivesThresholds R.normal → MakesTurn R.rule R.normal }
+{}
+
+/// A balance test that answers yes names a zone that passed, and above order 0 a free block as large as was asked for. In
+/// a legal history the calls of a turn find a CPU online, so that its steps tell its answer.
+pub fn turns_find_what_they_name<R: ThresholdRules>()
+    ensures named { NamesPassed }
+    ensures online { FindsOnline R.rule R.normal }
 {}
