@@ -25,3 +25,4 @@ pub mod Making
 pub mod MakingCalls
 pub mod Balancing
 pub mod Turning
+pub mod TurnExamples

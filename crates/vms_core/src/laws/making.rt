@@ -1,7 +1,7 @@
-ghost use Rattle.std.specs.Prelude.{ℕ};
-ghost use Rattle.vms_base.specs.declared.kinds.ZoneSize.{ZoneSize};
 ghost use Rattle.vms_core.specs.Making.{GivesThresholds};
 ghost use Rattle.vms_core.specs.MakingCalls.{MakesPlaceValue, MakesSystemValue, MakesSnapshot, MakesTest, MakesRating, MakesNodeRating, MakesRefresh, MakesFold, MakesBurial, MakesChange};
+
+use crate::ThresholdRules;
 
 /// The steps of the calls that look at values may be made by every live pass, whatever others do between them.
 pub fn looks_may_be_made()
@@ -10,14 +10,6 @@ pub fn looks_may_be_made()
     ensures snapshot { MakesSnapshot }
     ensures test { MakesTest }
 {}
-
-/// The rules of a call that gives zones thresholds: its own and the normal one, each as the thresholds that it may give
-/// where so many CPUs are online.
-pub trait ThresholdRules {
-    ghost rule: { ZoneSize → ℕ → ℕ → Type 0 };
-
-    ghost normal: { ZoneSize → ℕ → ℕ → Type 0 };
-}
 
 /// The control pass may make the steps that set thresholds and marks, whatever others do between them, where its rules
 /// give thresholds of 1 to 125.
