@@ -3,11 +3,10 @@
 use Rattle.std.proofs.Common.{◌≡◌, ◌≢◌, ℕ, ◌+◌, ◌≤◌, true, List, [], ◌∷◌, ◌++◌, Some, None, get_or, refl, sym, ap, ◌∙◌, subst, arith, append_assoc}
 use Rattle.std.proofs.lemmas.List.{append-nil}
 use Rattle.vms_base.specs.declared.ids.CpuId.{CpuId}
-use Rattle.vms_base.specs.Places.{IsZone}
 use Rattle.vms_history.specs.declared.events.Event.{Event}
 use Rattle.vms_history.specs.Events.{own, after}
-use Rattle.vms_history.specs.Passes.{lives, owner, owner_in, lives_in, begun_in}
-use Rattle.vms_history.proofs.Own.{own-mine, own-others, own-after_others, after-steps}
+use Rattle.vms_history.specs.Passes.{owner, owner_in, lives_in, begun_in}
+use Rattle.vms_history.proofs.Own.{own-mine, own-others, after-steps}
 use Rattle.vms_history.proofs.OwnAt.{last_in_row}
 use Rattle.vms_history.proofs.PassLaws.{live_is_given, lives_in-before, begun_in-append}
 use Rattle.vms_history.proofs.Prefixes.{prefix_is_legal}

@@ -1,12 +1,12 @@
 -- The steps of a burial meet their conditions in a row.
-use Rattle.std.proofs.Common.{◌≡◌, ℕ, suc, ◌+◌, ◌*◌, ◌/◌, ◌<◌, ◌≤◌, ◌⊎◌, ⊎_elim, zero, false, ℤ, pos, negsuc, true≢false, List, [], ◌∷◌, ◌++◌, length, None, refl, sym, ap, ◌∙◌, subst, arith}
+use Rattle.std.proofs.Common.{◌≡◌, ℕ, suc, ◌+◌, ◌<◌, ◌≤◌, ◌⊎◌, ⊎_elim, zero, false, ℤ, pos, negsuc, true≢false, List, [], ◌∷◌, ◌++◌, length, None, refl, sym, ap, ◌∙◌, subst, arith}
 use Rattle.std.specs.Prelude.{All}
 use Rattle.std.proofs.lemmas.Bool.{cases_lt}
 use Rattle.vms_base.specs.declared.groups.Diffs.{Diffs}
 use Rattle.vms_base.specs.declared.ids.CpuId.{CpuId}
 use Rattle.vms_base.specs.declared.kinds.CpuState.TheVariants.{Dead}
 use Rattle.vms_base.specs.declared.kinds.ZoneSize.{ZoneSize}
-use Rattle.vms_base.specs.Places.{IsLayout, IsCpu, IsZone, IsGroup, place_count, group_count, item_count, counter_at, group_of}
+use Rattle.vms_base.specs.Places.{IsLayout, IsCpu, IsZone, IsGroup, place_count, item_count, counter_at, group_of}
 use Rattle.vms_base.specs.Sizes.{IsValidSize}
 use Rattle.vms_history.specs.Events.{own, after}
 use Rattle.vms_history.proofs.Own.{own-after, after-steps}

@@ -1,5 +1,5 @@
 -- The steps of a change meet their conditions in a row.
-use Rattle.std.proofs.Common.{◌≡◌, ◌≢◌, ℕ, ◌+◌, ◌≤◌, nat_eq, Bool, true, false, ℤ, pos, List, [], ◌∷◌, ◌++◌, length, Option, Some, None, refl, sym, ap, ◌∙◌, subst, arith, eq-eqb, if◌then◌else◌, unsigned_abs}
+use Rattle.std.proofs.Common.{◌≡◌, ℕ, ◌+◌, ◌≤◌, nat_eq, true, ℤ, List, [], ◌∷◌, ◌++◌, length, Option, Some, None, refl, sym, ap, ◌∙◌, subst, arith, eq-eqb, unsigned_abs}
 use Rattle.std.proofs.lemmas.Int.{ints}
 use Rattle.vms_base.specs.declared.groups.Diffs.{Diffs}
 use Rattle.vms_base.specs.declared.ids.CounterId.{CounterId}
@@ -7,21 +7,20 @@ use Rattle.vms_base.specs.declared.ids.CpuId.{CpuId}
 use Rattle.vms_base.specs.declared.ids.GroupId.{GroupId}
 use Rattle.vms_base.specs.declared.ids.PlaceId.{PlaceId}
 use Rattle.vms_base.specs.declared.kinds.Mode.{Mode}
-use Rattle.vms_base.specs.Places.{IsLayout, IsCpu, IsCounter, place_of, group_of, item_of}
+use Rattle.vms_base.specs.Places.{IsLayout, IsCounter, place_of, group_of, item_of}
 use Rattle.vms_history.specs.Events.{own, after}
 use Rattle.vms_history.specs.Passes.{owner_in}
 use Rattle.vms_history.proofs.Own.{own-mine, own-after}
 use Rattle.vms_history.proofs.Prefixes.{base_can_begin}
 use Rattle.vms_core.specs.declared.steps.Facts.{Facts}
 use Rattle.vms_core.specs.declared.steps.Step.{Step}
-use Rattle.vms_core.specs.declared.steps.Step.TheVariants.{LoadT, LoadD, Put, Miss, AddG, AddS}
-use Rattle.vms_core.specs.Calls.{IsChange, Carries, Exchanges}
+use Rattle.vms_core.specs.declared.steps.Step.TheVariants.{LoadT, LoadD, Put, Miss, AddG}
+use Rattle.vms_core.specs.Calls.{Carries, Exchanges}
 use Rattle.vms_core.specs.Calls.Carries.{nothing, amount}
 use Rattle.vms_core.specs.Calls.Exchanges.{won, missed}
 use Rattle.vms_core.specs.Cells.{entry}
 use Rattle.vms_core.specs.Changes.{carried_by}
 use Rattle.vms_core.specs.Conditions.{most_volume}
-use Rattle.vms_core.specs.Following.{MayChange}
 use Rattle.vms_core.specs.MakingCalls.{MakesChange}
 use Rattle.vms_core.specs.Own.{CarriesNothing, carried, carried_of_item, found, loaded}
 use Rattle.vms_core.specs.Pages.{pages, History}
@@ -29,7 +28,7 @@ use Rattle.vms_core.specs.Steps.{turn}
 use Rattle.vms_core.specs.Totals.{spent, spent_by}
 use Rattle.vms_core.proofs.Agreeing.{event}
 use Rattle.vms_core.proofs.CounterRanges.{place_known, group_known, item_known}
-use Rattle.vms_core.proofs.Running.{Runs, Exchanging, runs-append, runs-may}
+use Rattle.vms_core.proofs.Running.{Runs, Exchanging, runs-may}
 
 module _ (facts : Facts) (layout : IsLayout facts.layout) (p : ℕ) (cpu : CpuId) (k : CounterId)
     (k_in : IsCounter facts.layout k.number) where

@@ -1,5 +1,5 @@
 -- The control pass may make the steps that set thresholds and marks.
-use Rattle.std.proofs.Common.{◌≡◌, ℕ, suc, ◌≤◌, List, [], ◌∷◌, length, None, ⊎_elim, refl, sym, ap, ◌∙◌, subst, arith}
+use Rattle.std.proofs.Common.{◌≡◌, ℕ, suc, List, [], ◌∷◌, length, None, ⊎_elim, sym, ◌∙◌, subst, arith}
 use Rattle.std.specs.Prelude.{All}
 use Rattle.vms_base.specs.declared.ids.CpuId.{CpuId}
 use Rattle.vms_base.specs.declared.kinds.CpuState.TheVariants.{Online}
@@ -19,7 +19,6 @@ use Rattle.vms_core.proofs.RatingRuns.{IsOneOf, rating-runs}
 use Rattle.vms_core.proofs.Running.{Runs, runs-may}
 use Rattle.vms_core.proofs.Settings.{cpu_at-state_after}
 use Rattle.vms_core.proofs.VisitRuns.{node-runs, refresh-runs}
-use Rattle.vms_base.specs.declared.ids.PlaceId.{PlaceId}
 
 all-one_of : (P : CpuId → Type 0) (c : CpuId) (cs : List CpuId) → All P cs → IsOneOf c cs → P c
 all-one_of P c [] all is = absurd is

@@ -1,5 +1,4 @@
 -- A pass may make the steps of a fold.
-use Rattle.std.proofs.Common.{ℕ}
 use Rattle.vms_history.specs.Passes.{owner_in}
 use Rattle.vms_history.proofs.Prefixes.{base_can_begin}
 use Rattle.vms_core.specs.MakingCalls.{MakesFold}

@@ -1,5 +1,5 @@
 -- The steps of a fold meet their conditions in a row.
-use Rattle.std.proofs.Common.{◌≡◌, ◌≢◌, ℕ, suc, zero, ◌+◌, ◌*◌, ◌/◌, ◌<◌, ◌≤◌, ◌⊎◌, inl, inr, ⊎_elim, Bool, true, false, nat_eq, nat_lt, if◌then◌else◌, ℤ, pos, negsuc, neg_ℤ, ◌+ℤ◌, List, [], ◌∷◌, ◌++◌, length, Option, Some, refl, sym, ap, ◌∙◌, subst, arith, eq-eqb}
+use Rattle.std.proofs.Common.{◌≡◌, ◌≢◌, ℕ, suc, zero, ◌+◌, ◌/◌, ◌<◌, ◌≤◌, inl, ⊎_elim, Bool, true, false, nat_eq, nat_lt, if◌then◌else◌, ℤ, pos, negsuc, neg_ℤ, ◌+ℤ◌, List, [], ◌∷◌, ◌++◌, length, Option, Some, refl, sym, ap, ◌∙◌, subst, arith, eq-eqb}
 use Rattle.std.specs.Prelude.{All}
 use Rattle.std.proofs.lemmas.Bool.{and_parts, ltb-true, ne_eqb}
 use Rattle.std.proofs.lemmas.Int.{ints}
@@ -18,9 +18,9 @@ use Rattle.vms_core.specs.Own.{CarriesNothing, moved, moved_of_item, carried, ca
 use Rattle.vms_core.specs.Pages.{History}
 use Rattle.vms_core.proofs.Agreeing.{event}
 use Rattle.vms_core.proofs.Effects.{group-within}
-use Rattle.vms_core.proofs.FoldSums.{sum_steps, total-after, sum-append, amount, amount-outside, amount-group, group-moved, group-of_item, worths, place-sum, places-sum, next_group, nothing-worth, item-worth}
+use Rattle.vms_core.proofs.FoldSums.{sum_steps, total-after, amount, amount-outside, amount-group, group-moved, group-of_item, place-sum, places-sum, nothing-worth, item-worth}
 use Rattle.vms_core.proofs.Running.{Runs, Knows, runs-append}
-use Rattle.vms_core.proofs.TakenSteps.{OnlyMoves, HasTake, only-append, cpus-kept, has_taken-made, loaded-kept, put-kept, took-made, only-groups, has-group, has-left, has-right}
+use Rattle.vms_core.proofs.TakenSteps.{OnlyMoves, loaded-kept, put-kept, took-made, only-groups, has-group}
 
 skip-zero : (b : Bool) (x : ℤ) → (if b then pos 0 else pos 0) +ℤ x ≡ x
 skip-zero true x = omega (arith, ints)

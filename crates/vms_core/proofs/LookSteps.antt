@@ -1,5 +1,5 @@
 -- The steps of the calls that look at values may be made.
-use Rattle.std.proofs.Common.{◌≡◌, ℕ, suc, ◌+◌, ◌≤◌, ℤ, Bool, true, false, List, [], ◌∷◌, length, sym, subst, arith}
+use Rattle.std.proofs.Common.{ℕ, suc, ◌+◌, ◌≤◌, ℤ, Bool, true, false, List, [], ◌∷◌, length, sym, subst, arith}
 use Rattle.vms_base.specs.declared.ids.CounterId.{CounterId}
 use Rattle.vms_base.specs.Places.{IsCounter, IsGroup, IsZone, group_of}
 use Rattle.vms_history.specs.Passes.{owner_in}

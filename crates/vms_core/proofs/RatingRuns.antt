@@ -1,5 +1,5 @@
 -- The steps that rate zones and nodes meet their conditions in a row.
-use Rattle.std.proofs.Common.{◌≡◌, ℕ, suc, zero, ◌+◌, ◌*◌, ◌^◌, ◌<◌, ◌≤◌, Bool, true, false, ◌&&◌, nat_eq, nat_le, nat_lt, max, if◌then◌else◌, List, [], ◌∷◌, ◌++◌, length, None, ◌⊎◌, inl, inr, refl, sym, ap, ◌∙◌, subst, arith, eq-eqb, eqb-true}
+use Rattle.std.proofs.Common.{◌≡◌, ℕ, suc, zero, ◌+◌, ◌*◌, ◌^◌, ◌<◌, ◌≤◌, Bool, true, false, ◌&&◌, nat_eq, nat_le, nat_lt, max, if◌then◌else◌, List, [], ◌∷◌, ◌++◌, length, None, ◌⊎◌, inl, inr, refl, sym, ◌∙◌, subst, arith, eq-eqb, eqb-true}
 use Rattle.std.proofs.lemmas.Bool.Decides.{nat_tests}
 use Rattle.std.proofs.Math.Nat.{mul-le-mul_left}
 use Rattle.vms_base.specs.declared.ids.CpuId.{CpuId}
@@ -21,7 +21,7 @@ use Rattle.vms_core.specs.Peaks.{peak, peak_sum, cpu_in, if_present, count_below
 use Rattle.vms_core.proofs.Agreeing.{event, mark_in}
 use Rattle.vms_core.proofs.Below.{count_below-least}
 use Rattle.vms_core.proofs.MarkCovers.{if_present-least, Covers-less}
-use Rattle.vms_core.proofs.Ratings.{SamePeaks, SamePeaks-after, peak_sum-same, cover_mark-covers}
+use Rattle.vms_core.proofs.Ratings.{SamePeaks-after, peak_sum-same, cover_mark-covers}
 use Rattle.vms_core.proofs.Running.{Runs, Knows}
 
 -- n numbers of at most `most` each

@@ -1,6 +1,6 @@
 -- The condition of each step by the history in which a pass's steps stand in a row, and that the steps may then be made
 -- while others act.
-use Rattle.std.proofs.Common.{◌≡◌, ◌≢◌, ℕ, ◌+◌, ◌≤◌, ℤ, List, [], ◌∷◌, ◌++◌, unsigned_abs, length, Option, Some, None, refl, sym, ap, ◌∙◌, subst, arith, ⊎_elim}
+use Rattle.std.proofs.Common.{◌≡◌, ◌≢◌, ℕ, ◌+◌, ◌≤◌, ℤ, List, [], ◌∷◌, ◌++◌, unsigned_abs, length, Option, Some, None, sym, ap, ◌∙◌, subst, arith, ⊎_elim}
 use Rattle.vms_base.specs.declared.groups.Diffs.{Diffs}
 use Rattle.vms_base.specs.declared.ids.CounterId.{CounterId}
 use Rattle.vms_base.specs.declared.ids.CpuId.{CpuId}
@@ -16,7 +16,6 @@ use Rattle.vms_history.specs.Passes.{owner, owner_in}
 use Rattle.vms_history.specs.Passes.Turn.{Works}
 use Rattle.vms_history.proofs.Own.{own-after_others}
 use Rattle.vms_history.proofs.PassLaws.{live_is_given}
-use Rattle.vms_core.specs.declared.states.State.{State}
 use Rattle.vms_core.specs.declared.steps.Facts.{Facts}
 use Rattle.vms_core.specs.declared.steps.Step.{Step}
 use Rattle.vms_core.specs.declared.steps.Step.TheVariants.{LoadT, LoadD, Put, Miss, AddG, AddS, Take, LoadG, LoadS, LoadM, LoadO, SetT, SetM, SetO, SetA, LoadA, Split, Join}

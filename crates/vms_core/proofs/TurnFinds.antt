@@ -1,5 +1,5 @@
 -- In a legal history the calls of a turn find a CPU online, and a balance test names a zone that passed.
-use Rattle.std.proofs.Common.{◌≡◌, ◌≢◌, ℕ, suc, zero, ◌+◌, ◌<◌, ◌≤◌, inl, inr, ⊎_elim, Bool, true, false, true≢false, nat_le, if◌then◌else◌, List, [], ◌∷◌, ◌++◌, length, Option, Some, None, is_some, get_or, refl, sym, ap, ◌∙◌, subst, arith, append_assoc}
+use Rattle.std.proofs.Common.{◌≡◌, ◌≢◌, ℕ, suc, zero, ◌+◌, ◌<◌, ◌≤◌, ⊎_elim, Bool, true, false, true≢false, nat_le, if◌then◌else◌, List, [], ◌∷◌, ◌++◌, length, Option, Some, None, is_some, refl, sym, ap, ◌∙◌, subst, arith, append_assoc}
 use Rattle.std.specs.Prelude.{All, Contains}
 use Rattle.std.proofs.lemmas.Bool.{cases_eq, leb-true}
 use Rattle.std.proofs.lemmas.List.{append-nil}
@@ -14,7 +14,7 @@ use Rattle.vms_history.proofs.Prefixes.{base_can_begin}
 use Rattle.vms_core.specs.declared.steps.Facts.{Facts}
 use Rattle.vms_core.specs.declared.steps.Step.{Step}
 use Rattle.vms_core.specs.declared.steps.Step.TheVariants.{LoadO}
-use Rattle.vms_core.specs.Balancing.{Area, OrderVerdict, Balance, FindsBlock, Further, Blocks, Balances, IsOrderTest, Settles, has_room, areas_from, high_limit, node_number, zones_up_to}
+use Rattle.vms_core.specs.Balancing.{Area, OrderVerdict, Balance, FindsBlock, Further, Blocks, Balances, Settles, has_room, areas_from, high_limit, node_number, zones_up_to}
 use Rattle.vms_core.specs.Balancing.Balance.{Yes, No}
 use Rattle.vms_core.specs.Balancing.FindsBlock.{nowhere, empty, some}
 use Rattle.vms_core.specs.Balancing.Balances.{no_zone, fails, passes}

@@ -1,5 +1,5 @@
 -- The steps of a test of a zone for an order, of a balance test and of a turn tell their answers.
-use Rattle.std.proofs.Common.{◌≡◌, ◌≢◌, ℕ, suc, zero, ◌≤◌, ◌+◌, Bool, true, false, nat_eq, if◌then◌else◌, List, [], ◌∷◌, ◌++◌, length, drop, Option, Some, None, is_some, refl, sym, ap, ◌∙◌, subst, arith, append_assoc, ne_eqb, eqb-true}
+use Rattle.std.proofs.Common.{◌≡◌, ℕ, suc, zero, ◌≤◌, Bool, true, false, nat_eq, if◌then◌else◌, List, [], ◌∷◌, ◌++◌, length, drop, Option, None, is_some, refl, sym, ap, ◌∙◌, arith, append_assoc, ne_eqb}
 use Rattle.vms_base.specs.declared.ids.CpuId.{CpuId}
 use Rattle.vms_base.specs.declared.ids.PlaceId.{PlaceId}
 use Rattle.vms_base.specs.declared.kinds.CpuState.{CpuState}
@@ -9,7 +9,7 @@ use Rattle.vms_history.specs.Events.{after}
 use Rattle.vms_core.specs.declared.steps.Facts.{Facts}
 use Rattle.vms_core.specs.declared.steps.Step.{Step}
 use Rattle.vms_core.specs.declared.steps.Step.TheVariants.{LoadM, SetM}
-use Rattle.vms_core.specs.Balancing.{Area, OrderVerdict, Balance, FindsBlock, Further, Blocks, Balances, IsOrderTest, Settles, areas_from, blocks_at, has_room, high_limit, node_number, zones_up_to}
+use Rattle.vms_core.specs.Balancing.{Area, OrderVerdict, Balance, FindsBlock, Further, Blocks, Balances, Settles, areas_from, blocks_at, has_room, high_limit, node_number, zones_up_to}
 use Rattle.vms_core.specs.Balancing.FindsBlock.{nowhere, empty, some}
 use Rattle.vms_core.specs.Balancing.Balances.{no_zone, fails, passes}
 use Rattle.vms_core.specs.Balancing.Balance.{Yes, No}
@@ -19,7 +19,7 @@ use Rattle.vms_core.specs.Controlling.VisitsEach.{none, next}
 use Rattle.vms_core.specs.Lists.{in_turn}
 use Rattle.vms_core.specs.Looking.{Verdict}
 use Rattle.vms_core.specs.Pages.{History}
-use Rattle.vms_core.specs.Reading.{is_online, read_snapshot, read_test}
+use Rattle.vms_core.specs.Reading.{is_online, read_snapshot}
 use Rattle.vms_core.specs.Turning.{TellsOrderTest, TellsBalance, TellsTurn, SomeOnline, SettlesOnline, block_or, read_blocks, without_blocks, with_blocks, read_areas, read_order_test, passed_or, read_zones, read_balance, count_told, without_rating, without_marked, without_load, without_visits, without_node, settled_read, read_turn}
 use Rattle.vms_core.proofs.Answering.{snapshot-told, test-told}
 

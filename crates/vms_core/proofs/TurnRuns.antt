@@ -1,15 +1,12 @@
 -- The steps of a balance test and of a turn may be made.
-use Rattle.std.proofs.Common.{◌≡◌, ◌≢◌, ℕ, suc, zero, ◌+◌, ◌<◌, ◌≤◌, ◌⊎◌, ⊎_elim, Bool, true, false, nat_eq, nat_le, map, if◌then◌else◌, List, [], ◌∷◌, ◌++◌, length, Option, Some, None, get_or, refl, sym, ap, ◌∙◌, subst, arith, append_assoc}
-use Rattle.std.specs.Prelude.{All, Contains}
-use Rattle.std.proofs.lemmas.Bool.{cases_eq}
+use Rattle.std.proofs.Common.{ℕ, suc, zero, ◌<◌, Bool, true, false, nat_eq, nat_le, map, List, ◌++◌, length, Option, None, get_or, sym, subst, arith}
+use Rattle.std.specs.Prelude.{All}
 use Rattle.std.proofs.lemmas.List.Elements.{All-filter}
 use Rattle.vms_base.specs.declared.ids.CpuId.{CpuId}
 use Rattle.vms_base.specs.declared.ids.PlaceId.{PlaceId}
-use Rattle.vms_base.specs.declared.kinds.CpuState.{CpuState}
-use Rattle.vms_base.specs.declared.kinds.CpuState.TheVariants.{Online}
 use Rattle.vms_base.specs.declared.kinds.ZoneName.{ZoneName}
 use Rattle.vms_base.specs.declared.kinds.ZoneSize.{ZoneSize}
-use Rattle.vms_base.specs.Places.{IsLayout, IsCpu, IsZone, zone_index}
+use Rattle.vms_base.specs.Places.{IsLayout, IsZone, zone_index}
 use Rattle.vms_base.specs.Sizes.{IsValidSize}
 use Rattle.vms_history.specs.Events.{after}
 use Rattle.vms_history.specs.Passes.{owner_in}
@@ -17,7 +14,6 @@ use Rattle.vms_history.proofs.Own.{after-steps}
 use Rattle.vms_history.proofs.Prefixes.{base_can_begin}
 use Rattle.vms_core.specs.declared.steps.Facts.{Facts}
 use Rattle.vms_core.specs.declared.steps.Step.{Step}
-use Rattle.vms_core.specs.declared.steps.Step.TheVariants.{LoadO}
 use Rattle.vms_core.specs.Balancing.{Area, OrderVerdict, Balance, FindsBlock, Further, Blocks, Balances, IsOrderTest, IsBalanceTest, IsTurn, Settles, has_room, areas_from, blocks_at, high_limit, node_number, zones_up_to}
 use Rattle.vms_core.specs.Balancing.Balance.{Yes, No}
 use Rattle.vms_core.specs.Balancing.FindsBlock.{nowhere, empty, some}

@@ -1,5 +1,5 @@
 -- Which thresholds the steps of a turn leave.
-use Rattle.std.proofs.Common.{◌≡◌, ◌≢◌, ℕ, suc, zero, ◌+◌, ◌<◌, ◌&&◌, ◌⊎◌, inl, inr, ⊎_elim, Bool, true, false, nat_eq, if◌then◌else◌, List, [], ◌∷◌, ◌++◌, length, ℤ, Option, Some, None, get_or, refl, sym, ap, ◌∙◌, subst, arith, append_assoc, eq-eqb, ne_eqb, eqb-true}
+use Rattle.std.proofs.Common.{◌≡◌, ◌≢◌, ℕ, suc, zero, ◌&&◌, inl, inr, ⊎_elim, Bool, true, false, nat_eq, if◌then◌else◌, List, [], ◌∷◌, ◌++◌, length, ℤ, Option, Some, None, refl, sym, ap, ◌∙◌, subst, arith, append_assoc, eq-eqb, ne_eqb}
 use Rattle.std.specs.Prelude.{Contains}
 use Rattle.std.proofs.lemmas.Bool.{and_right, cases_eq}
 use Rattle.vms_base.specs.declared.ids.CounterId.{CounterId}
@@ -12,19 +12,19 @@ use Rattle.vms_history.specs.Events.{after}
 use Rattle.vms_core.specs.declared.steps.Facts.{Facts}
 use Rattle.vms_core.specs.declared.steps.Step.{Step}
 use Rattle.vms_core.specs.declared.steps.Step.TheVariants.{LoadM, SetT, SetM}
-use Rattle.vms_core.specs.Balancing.{Area, OrderVerdict, Balance, FindsBlock, Further, Blocks, Balances, IsOrderTest, IsBalanceTest, has_room, areas_from, high_limit, node_number, zones_up_to}
-use Rattle.vms_core.specs.Balancing.Balance.{Yes, No}
+use Rattle.vms_core.specs.Balancing.{Area, OrderVerdict, Balance, FindsBlock, Further, Blocks, Balances, IsOrderTest, has_room, areas_from, high_limit, node_number, zones_up_to}
+use Rattle.vms_core.specs.Balancing.Balance.{No}
 use Rattle.vms_core.specs.Balancing.FindsBlock.{nowhere, empty, some}
 use Rattle.vms_core.specs.Balancing.Balances.{no_zone, fails, passes}
 use Rattle.vms_core.specs.Bases.{size_at}
-use Rattle.vms_core.specs.Controlling.{RatesNode, RatesMarked, Visits, VisitsEach, acknowledged_steps, state_steps, online_from, threshold_steps, mark_for, mark_steps, rating_steps, zones_on}
+use Rattle.vms_core.specs.Controlling.{RatesNode, RatesMarked, Visits, VisitsEach, acknowledged_steps, state_steps, online_from, threshold_steps, mark_for, mark_steps, zones_on}
 use Rattle.vms_core.specs.Controlling.RatesMarked.{unmarked, marked}
 use Rattle.vms_core.specs.Controlling.VisitsEach.{none, next}
 use Rattle.vms_core.specs.Lists.{in_turn}
 use Rattle.vms_core.specs.Looking.{Look, Verdict, Frees, IsSnapshot, IsWatermarkTest, look_steps, is_doubtful, free_pages}
 use Rattle.vms_core.specs.Looking.Look.{online, other}
 use Rattle.vms_core.specs.Pages.{History}
-use Rattle.vms_core.specs.Turning.{HasByRule, LeavesByRule, LeavesNormal, LeavesPressure, last_mark, last_set}
+use Rattle.vms_core.specs.Turning.{LeavesByRule, LeavesNormal, LeavesPressure, last_mark, last_set}
 use Rattle.vms_core.proofs.RatingRuns.{IsOneOf}
 
 last_mark-append : (g : ℕ) (xs ys : List Step) (before : ℕ) → last_mark g (xs ++ ys) before ≡ last_mark g ys (last_mark g xs before)

@@ -12,7 +12,7 @@ use Rattle.vms_core.specs.declared.steps.Step.TheVariants.{LoadM, SetT, SetM}
 use Rattle.vms_core.specs.Balancing.{Area, OrderVerdict, Balance, IsOrderTest, IsBalanceTest, IsTurn, Settles, areas_from, blocks_at, has_room, high_limit, node_number, zones_up_to}
 use Rattle.vms_core.specs.Balancing.Balance.{Yes, No}
 use Rattle.vms_core.specs.Bases.{size_at}
-use Rattle.vms_core.specs.Controlling.{RatesNode, online_from, zones_on}
+use Rattle.vms_core.specs.Controlling.{online_from, zones_on}
 use Rattle.vms_core.specs.Looking.{Verdict}
 use Rattle.vms_core.specs.Making.{HasMade, MayMake, LivesIn, ControlsIn}
 use Rattle.vms_core.specs.Pages.{History}
