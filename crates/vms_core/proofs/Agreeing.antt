@@ -37,9 +37,11 @@ abbrev pub mark_in : Facts → ℕ → History → ℕ
 mark_in facts g [] = mark_at facts.base g
 mark_in facts g (e ∷ h) = mark_after g e.step (mark_in facts g h)
 
-pub mark_at-told : (facts : Facts) (h : History) → IsLegal facts h → (g : ℕ) → mark_at (state_after facts h) g ≡ mark_in facts g h
+pub mark_at-told : (facts : Facts) (h : History) → IsLegal facts h → (g : ℕ)
+    → mark_at (state_after facts h) g ≡ mark_in facts g h
 mark_at-told facts [] legal g = refl
-mark_at-told facts (e ∷ h) legal g = mark_at-newest facts e h legal g ∙ ap (mark_after g e.step) (mark_at-told facts h legal.0 g)
+mark_at-told facts (e ∷ h) legal g = mark_at-newest facts e h legal g
+    ∙ ap (mark_after g e.step) (mark_at-told facts h legal.0 g)
 
 module _ (facts : Facts) (p : ℕ) where
   abbrev pub event : Step → Event Step
@@ -83,7 +85,8 @@ module _ (facts : Facts) (p : ℕ) where
       apart g = ap (λ es. owner turn es p) (own-others (event k) g 0 some)
 
   -- steps of others change nothing of it
-  Agrees-goes_on : (later h ideal : History) → GoesOnWithout facts later h p → IsLegal facts h → Agrees h ideal → Agrees later ideal
+  Agrees-goes_on : (later h ideal : History) → GoesOnWithout facts later h p → IsLegal facts h → Agrees h ideal
+      → Agrees later ideal
   Agrees-goes_on later h ideal goes legal agrees =
       let same = owner_in-goes_on facts later h p goes in
       record {
@@ -118,12 +121,14 @@ module _ (facts : Facts) (p : ℕ) where
       let parts = last_in_row later earlier p ks k has.extends has.made in
       let newest = parts.0 in
       let legal : IsLegal facts (event k ∷ newest.before) =
-      prefix_is_legal pages facts newest.since (event k ∷ newest.before) (subst (IsLegal facts) newest.parts has.legal) in
+      prefix_is_legal pages facts newest.since (event k ∷ newest.before)
+      (subst (IsLegal facts) newest.parts has.legal) in
       let earlier_legal : IsLegal facts earlier =
       prefix_is_legal pages facts has.extends.0 earlier (subst (IsLegal facts) has.extends.1 has.legal) in
       let given : p ≤ begun_in turn earlier = (live_is_given pages facts earlier p earlier_legal has.lived).1 in
       let grows : begun_in turn earlier ≤ begun_in turn newest.before =
-      subst (λ (g : History). begun_in turn earlier ≤ begun_in turn g) (sym parts.1.1) (begun_in-append turn parts.1.0 earlier) in
+      subst (λ (g : History). begun_in turn earlier ≤ begun_in turn g) (sym parts.1.1)
+      (begun_in-append turn parts.1.0 earlier) in
       let whole : later ≡ (newest.since ++ (event k ∷ [])) ++ newest.before =
       newest.parts ∙ sym (append_assoc newest.since (event k ∷ []) newest.before) in
       let lived_before : lives_in turn newest.before p ≡ true =

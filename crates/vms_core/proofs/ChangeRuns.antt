@@ -42,7 +42,8 @@ module _ (facts : Facts) (layout : IsLayout facts.layout) (p : ℕ) (cpu : CpuId
     λ knows told. (
       λ knows. record {
         item = item_known facts.layout layout k.number k_in;
-        carries = ap (carried_of_item facts.layout (item_of facts.layout k.number)) (own-mine (event facts p (AddG k a)) g p refl)
+        carries = ap (carried_of_item facts.layout (item_of facts.layout k.number))
+            (own-mine (event facts p (AddG k a)) g p refl)
             ∙ omega (arith, ints, item);
         some = some;
       },
@@ -54,7 +55,8 @@ module _ (facts : Facts) (layout : IsLayout facts.layout) (p : ℕ) (cpu : CpuId
       (affordable : spent h cpu.number k.number + unsigned_abs delta ≤ most_volume) (t number : ℕ) (first : Diffs)
       (eight : length first.values ≡ 8) where
     abbrev loads : List Step
-    loads = LoadT (record { number = place_of facts.layout k.number }) t number ∷ LoadD cpu (record { number = group_of k.number }) first ∷ []
+    loads = LoadT (record { number = place_of facts.layout k.number }) t number ∷ LoadD cpu
+        (record { number = group_of k.number }) first ∷ []
 
     abbrev looked : History
     looked = after p loads h
@@ -80,13 +82,17 @@ module _ (facts : Facts) (layout : IsLayout facts.layout) (p : ℕ) (cpu : CpuId
     -- what a put carries where nothing was carried before
     module _ (g more : History) (w : Diffs) (mine : own g p ≡ more) (none : CarriesNothing facts.layout more) where
       own_now : own (event facts p (Put k w t delta how) ∷ g) p ≡ event facts p (Put k w t delta how) ∷ more
-      own_now = own-mine (event facts p (Put k w t delta how)) g p refl ∙ ap (λ es. event facts p (Put k w t delta how) ∷ es) mine
+      own_now = own-mine (event facts p (Put k w t delta how)) g p refl
+          ∙ ap (λ es. event facts p (Put k w t delta how) ∷ es) mine
 
-      put-counter : carried k.number (own (event facts p (Put k w t delta how) ∷ g) p) ≡ carried_by how t (entry w.values k.number) delta
+      put-counter : carried k.number (own (event facts p (Put k w t delta how) ∷ g) p)
+          ≡ carried_by how t (entry w.values k.number) delta
       put-counter = ap (carried k.number) own_now
-          ∙ (let same : nat_eq k.number k.number ≡ true = eq-eqb k.number k.number refl in rw same (omega (arith, ints, none.counters k.number)))
+          ∙ (let same : nat_eq k.number k.number ≡ true = eq-eqb k.number k.number refl in
+          rw same (omega (arith, ints, none.counters k.number)))
 
-      put-item : carried_of_item facts.layout (item_of facts.layout k.number) (own (event facts p (Put k w t delta how) ∷ g) p)
+      put-item : carried_of_item facts.layout (item_of facts.layout k.number)
+          (own (event facts p (Put k w t delta how) ∷ g) p)
           ≡ carried_by how t (entry w.values k.number) delta
       put-item = ap (carried_of_item facts.layout (item_of facts.layout k.number)) own_now
           ∙ (let same : nat_eq (item_of facts.layout k.number) (item_of facts.layout k.number) ≡ true =
@@ -128,7 +134,8 @@ module _ (facts : Facts) (layout : IsLayout facts.layout) (p : ℕ) (cpu : CpuId
     spent_yet = omega (
       arith,
       load-spends (owner_in turn h p) cpu.number k.number (record { number = place_of facts.layout k.number }) t number,
-      look-spends (owner_in turn (event facts p (LoadT (record { number = place_of facts.layout k.number }) t number) ∷ h) p)
+      look-spends (owner_in turn
+          (event facts p (LoadT (record { number = place_of facts.layout k.number }) t number) ∷ h) p)
           cpu.number k.number (record { number = group_of k.number }) first,
     )
 
@@ -145,7 +152,8 @@ module _ (facts : Facts) (layout : IsLayout facts.layout) (p : ℕ) (cpu : CpuId
         let miss : Step = Miss (record { number = group_of k.number }) first in
         let lost : History = event facts p miss ∷ looked in
         let then_seen : History = event facts p miss ∷ seen in
-        let mine_then : own lost p ≡ then_seen = own-mine (event facts p miss) looked p refl ∙ ap (λ es. event facts p miss ∷ es) mine in
+        let mine_then : own lost p ≡ then_seen = own-mine (event facts p miss) looked p refl
+        ∙ ap (λ es. event facts p miss ∷ es) mine in
         let none_then : CarriesNothing facts.layout then_seen = record {
           counters = λ l. omega (arith, ints, none_yet.counters l);
           items = λ i. omega (arith, ints, none_yet.items i);
@@ -154,17 +162,24 @@ module _ (facts : Facts) (layout : IsLayout facts.layout) (p : ℕ) (cpu : CpuId
             k = k;
             t = t;
             delta = delta;
-            exchanging = exchanging looked seen first knows.owner mine eight found_there loaded_there none_yet spent_yet;
+            exchanging =
+                exchanging looked seen first knows.owner mine eight found_there loaded_there none_yet spent_yet;
             group = refl;
           },
           λ knows told. (
             λ knows. exchanging lost then_seen zeros knows.owner mine_then (ap length are)
                 (rw (eq-eqb (group_of k.number) (group_of k.number) refl) (ap Some (sym are)))
                 loaded_there none_then
-                (omega (arith, miss-spends (owner_in turn looked p) cpu.number k.number (record { number = group_of k.number }) first, spent_yet)),
+                (omega (
+                  arith,
+                  miss-spends (owner_in turn looked p) cpu.number k.number
+                      (record { number = group_of k.number }) first,
+                  spent_yet,
+                )),
             λ knows told. additions-run (carried_by how t (entry zeros.values k.number) delta) additions
                 (event facts p (Put k zeros t delta how) ∷ lost)
-                (put-counter lost then_seen zeros mine_then none_then) (put-item lost then_seen zeros mine_then none_then) carries,
+                (put-counter lost then_seen zeros mine_then none_then)
+                (put-item lost then_seen zeros mine_then none_then) carries,
           ),
         )
 
@@ -177,7 +192,8 @@ change-may facts h p cpu k delta how steps may change eight =
       λ knows. (place_known facts.layout layout k.number may.counter_known, (cpu, knows.owner)),
       λ knows told. (
         λ knows. (may.cpu_known, group_known facts.layout layout k.number may.counter_known),
-        λ knows told. exchange-run facts layout p cpu k may.counter_known h delta how may.nothing_carried may.affordable change.t change.number
+        λ knows told. exchange-run facts layout p cpu k may.counter_known h delta how may.nothing_carried
+            may.affordable change.t change.number
             change.first eight change.last change.exchange change.additions change.exchanges change.carries,
       ),
     )))

@@ -10,5 +10,6 @@ use Rattle.vms_core.proofs.Running.{runs-may}
 pub fold-may : MakesFold
 fold-may facts h p is_own c steps living c_in owner nothing fold =
     runs-may facts p h living steps
-    (fold-runs facts (base_can_begin pages facts h living.legal).layout p (owner_in turn h p) c c_in is_own owner steps h
+    (fold-runs facts (base_can_begin pages facts h living.legal).layout p (owner_in turn h p)
+    c c_in is_own owner steps h
     (λ now. Unit {0}) fold nothing tt)

@@ -32,10 +32,12 @@ less-one false d x = omega (arith, ints)
 
 module _ (facts : Facts) (layout : IsLayout facts.layout) (p : ℕ) (who : Option CpuId) where
   -- what a measure of own steps adds up to after further ones
-  total-own : (m : Step → ℤ) (ks : List Step) (g : History) → total m (own (after p ks g) p) ≡ sum_steps m ks +ℤ total m (own g p)
+  total-own : (m : Step → ℤ) (ks : List Step) (g : History)
+      → total m (own (after p ks g) p) ≡ sum_steps m ks +ℤ total m (own g p)
   total-own m ks g = ap (total m) (own-after p ks g) ∙ total-after m p ks (own g p)
 
-  total-next : (m : Step → ℤ) (k : Step) (g : History) → total m (own (event facts p k ∷ g) p) ≡ m k +ℤ total m (own g p)
+  total-next : (m : Step → ℤ) (k : Step) (g : History)
+      → total m (own (event facts p k ∷ g) p) ≡ m k +ℤ total m (own g p)
   total-next m k g = ap (total m) (own-mine (event facts p k) g p refl)
 
   -- nothing is carried for counters
@@ -52,7 +54,8 @@ module _ (facts : Facts) (layout : IsLayout facts.layout) (p : ℕ) (who : Optio
     λ knows. record {
       counter = n_in;
       carries =
-          carries n ∙ (let same : nat_eq n n ≡ true = eq-eqb n n refl in rw same (omega (arith, ints, amount-outside n (suc n) ds (inl (omega arith)))));
+          carries n ∙ (let same : nat_eq n n ≡ true = eq-eqb n n refl in
+          rw same (omega (arith, ints, amount-outside n (suc n) ds (inl (omega arith)))));
       some = some;
     },
     λ knows told. more (λ k. total-next (moved k) (AddG (record { number = n }) d) g
@@ -69,10 +72,12 @@ module _ (facts : Facts) (layout : IsLayout facts.layout) (p : ℕ) (who : Optio
       adds-run (suc n) ds g P (omega arith) (λ k. carries k ∙ skip-zero (nat_eq n k) (amount k (suc n) ds)) rest
   adds-run n (pos (suc d) ∷ ds) g P within carries rest =
       one-run n (pos (suc d)) ds g P (omega arith) carries (λ e. omega (arith, ints))
-      (λ left. adds-run (suc n) ds (event facts p (AddG (record { number = n }) (pos (suc d))) ∷ g) P (omega arith) left rest)
+      (λ left. adds-run (suc n) ds (event facts p (AddG (record { number = n }) (pos (suc d))) ∷ g) P (omega arith)
+      left rest)
   adds-run n (negsuc d ∷ ds) g P within carries rest =
       one-run n (negsuc d) ds g P (omega arith) carries (λ e. omega (arith, ints))
-      (λ left. adds-run (suc n) ds (event facts p (AddG (record { number = n }) (negsuc d)) ∷ g) P (omega arith) left rest)
+      (λ left. adds-run (suc n) ds (event facts p (AddG (record { number = n }) (negsuc d)) ∷ g) P (omega arith)
+      left rest)
 
   module _ (c : CpuId) (c_in : IsCpu facts.layout c.number) where
     group-run : (j : ℕ) (w : Diffs) (g : History) (P : History → Type 0) → IsGroup facts.layout j → length w.values ≡ 8
@@ -91,7 +96,8 @@ module _ (facts : Facts) (layout : IsLayout facts.layout) (p : ℕ) (who : Optio
           rest,
     )
 
-    groups-run : (j : ℕ) (ws : List Diffs) (g : History) (P : History → Type 0) → j + length ws ≤ group_count facts.layout
+    groups-run : (j : ℕ) (ws : List Diffs) (g : History) (P : History → Type 0)
+        → j + length ws ≤ group_count facts.layout
         → All (λ w. length w.values ≡ 8) ws → NoneCarried g → P (after p (in_turn (group_steps c) j ws) g)
         → Runs facts p who (in_turn (group_steps c) j ws) g P
     groups-run j [] g P within eights none rest = rest
@@ -106,7 +112,8 @@ module _ (facts : Facts) (layout : IsLayout facts.layout) (p : ℕ) (who : Optio
         (subst P (after-steps p first more g) rest)))
 
     -- the groups of a place are the layout's
-    groups-within : (z : ℕ) → IsPlace facts.layout z → group_of (counter_at facts.layout z 0) + facts.layout.positions / 8 ≤ group_count facts.layout
+    groups-within : (z : ℕ) → IsPlace facts.layout z
+        → group_of (counter_at facts.layout z 0) + facts.layout.positions / 8 ≤ group_count facts.layout
     groups-within z z_in = ⊎_elim
         (λ (e : facts.layout.positions ≡ 8). rw e (omega arith))
         (λ (e : facts.layout.positions ≡ 16). rw e (omega arith))
@@ -114,7 +121,8 @@ module _ (facts : Facts) (layout : IsLayout facts.layout) (p : ℕ) (who : Optio
 
     -- and they stand where the place's groups do
     group-place : (z j : ℕ) → place_of facts.layout (first_of j) ≡ z
-        → (group_of (counter_at facts.layout z 0) ≤ j) × (j < group_of (counter_at facts.layout z 0) + facts.layout.positions / 8)
+        → (group_of (counter_at facts.layout z 0) ≤ j) ×
+        (j < group_of (counter_at facts.layout z 0) + facts.layout.positions / 8)
     group-place z j = ⊎_elim
         (λ (e : facts.layout.positions ≡ 8). rw e (λ at. (omega arith, omega arith)))
         (λ (e : facts.layout.positions ≡ 16). rw e (λ at. (omega arith, omega arith)))
@@ -136,27 +144,32 @@ module _ (facts : Facts) (layout : IsLayout facts.layout) (p : ℕ) (who : Optio
 
       acknowledged : IsZone facts.layout z → who ≡ Some c → (g : History)
           → Knows facts p who (after p groups (event facts p load ∷ g))
-          → Acknowledges facts (after p groups (event facts p load ∷ g)) p (record { number = z }) found.threshold.number
+          → Acknowledges facts (after p groups (event facts p load ∷ g)) p (record { number = z })
+          found.threshold.number
       acknowledged zone owner g knows = record {
         cpu = c;
         owns = record { owner = knows.owner ∙ owner; within = c_in };
         zone = zone;
         t = found.threshold.t;
-        as_loaded = ap (loaded z) mine ∙ loaded-kept p z groups (event facts p load ∷ own g p) only ∙ (let same : nat_eq z z ≡ true = eq-eqb z z refl in rw same refl);
+        as_loaded = ap (loaded z) mine ∙ loaded-kept p z groups (event facts p load ∷ own g p) only
+            ∙ (let same : nat_eq z z ≡ true = eq-eqb z z refl in rw same refl);
         took_each = λ j j_in at.
             ap (took c z j) mine
             ∙ took-made p c z j groups (event facts p load ∷ own g p) only
             (let place = group-place z j at in
             let count = has.one_each in
             has-group c (group_of (counter_at facts.layout z 0)) found.groups j place.0 (omega arith));
-        put_nothing = ap (has_put facts.layout z) mine ∙ put-kept p facts.layout z groups (event facts p load ∷ own g p) only ∙ (let same : nat_eq z z ≡ true = eq-eqb z z refl in rw same refl);
+        put_nothing = ap (has_put facts.layout z) mine
+            ∙ put-kept p facts.layout z groups (event facts p load ∷ own g p) only
+            ∙ (let same : nat_eq z z ≡ true = eq-eqb z z refl in rw same refl);
       }
         where
           only : OnlyMoves groups
           only = only-groups c (group_of (counter_at facts.layout z 0)) found.groups
 
           mine : own (after p groups (event facts p load ∷ g)) p ≡ after p groups (event facts p load ∷ own g p)
-          mine = own-after p groups (event facts p load ∷ g) ∙ ap (after p groups) (own-mine (event facts p load) g p refl)
+          mine = own-after p groups (event facts p load ∷ g)
+              ∙ ap (after p groups) (own-mine (event facts p load) g p refl)
 
       place-run : (b : Bool) (g : History) (P : History → Type 0) → (b ≡ true → IsZone facts.layout z × (who ≡ Some c))
           → NoneCarried g → P (after p (place_steps facts.layout b c z found) g)
@@ -169,7 +182,8 @@ module _ (facts : Facts) (layout : IsLayout facts.layout) (p : ℕ) (who : Optio
           let told_then : History = event facts p load ∷ g in (
             λ knows. (z_in, (c, knows.owner ∙ own_place.1)),
             λ knows told. runs-append facts p who groups set told_then P
-                (groups-run (group_of (counter_at facts.layout z 0)) found.groups told_then (λ now. Runs facts p who set now P) within has.eight_each
+                (groups-run (group_of (counter_at facts.layout z 0)) found.groups told_then (λ now.
+                Runs facts p who set now P) within has.eight_each
                 (λ k. total-next (moved k) load g ∙ omega (arith, ints, none k)) (
                   λ knows. acknowledged own_place.0 own_place.1 g knows,
                   λ knows told. subst P (after-steps p groups set told_then) rest,
@@ -178,9 +192,11 @@ module _ (facts : Facts) (layout : IsLayout facts.layout) (p : ℕ) (who : Optio
 
     -- the steps on the places from z on
     abbrev visits : Bool → ℕ → List FoundPlace → List Step
-    visits is_own z places = in_turn (λ g found. place_steps facts.layout (acknowledges facts.layout is_own g) c g found) z places
+    visits is_own z places =
+        in_turn (λ g found. place_steps facts.layout (acknowledges facts.layout is_own g) c g found) z places
 
-    places-run : (is_own : Bool) → (is_own ≡ true → who ≡ Some c) → (z : ℕ) (places : List FoundPlace) (g : History) (P : History → Type 0)
+    places-run : (is_own : Bool) → (is_own ≡ true → who ≡ Some c)
+        → (z : ℕ) (places : List FoundPlace) (g : History) (P : History → Type 0)
         → z + length places ≤ place_count facts.layout → All (HasGroups facts.layout) places → NoneCarried g
         → P (after p (visits is_own z places) g) → Runs facts p who (visits is_own z places) g P
     places-run is_own owner z [] g P within has none rest = rest
@@ -189,11 +205,13 @@ module _ (facts : Facts) (layout : IsLayout facts.layout) (p : ℕ) (who : Optio
         let more = visits is_own (suc z) places in
         let here : HasGroups facts.layout found = has 0 found (omega arith) in
         runs-append facts p who first more g P
-        (place-run z (omega arith) found here (acknowledges facts.layout is_own z) g (λ now. Runs facts p who more now P)
+        (place-run z (omega arith) found here (acknowledges facts.layout is_own z) g (λ now.
+        Runs facts p who more now P)
         (λ is. let parts = and_parts is_own (nat_lt z (length facts.layout.zones)) is in
         (ltb-true z (length facts.layout.zones) parts.1, owner parts.0))
         none
-        (places-run is_own owner (suc z) places (after p first g) P (omega arith) (λ n d less. has (suc n) d (omega arith))
+        (places-run is_own owner (suc z) places (after p first g) P (omega arith) (λ n d less.
+        has (suc n) d (omega arith))
         (λ k. omega (
           arith,
           ints,
@@ -207,17 +225,20 @@ module _ (facts : Facts) (layout : IsLayout facts.layout) (p : ℕ) (who : Optio
 
     -- the items from i on get what was taken for them
     systems-run : (ws : List Diffs) (i n : ℕ) (g : History) (P : History → Type 0) → i + n ≤ item_count facts.layout
-        → ((l : ℕ) → i ≤ l → IsItem facts.layout l → carried_of_item facts.layout l (own g p) ≡ taken_of_item facts.layout l 0 ws)
+        → ((l : ℕ) → i ≤ l → IsItem facts.layout l
+        → carried_of_item facts.layout l (own g p) ≡ taken_of_item facts.layout l 0 ws)
         → P (after p (system_steps facts.layout ws i n) g) → Runs facts p who (system_steps facts.layout ws i n) g P
     systems-run ws i zero g P within carries rest = rest
     systems-run ws i (suc n) g P within carries rest =
-        by (taken_of_item facts.layout i 0 ws) refl (λ h left last. systems-run ws (suc i) n h P (omega arith) left last) rest
+        by (taken_of_item facts.layout i 0 ws) refl (λ h left last.
+        systems-run ws (suc i) n h P (omega arith) left last) rest
       where
         more : List Step
         more = system_steps facts.layout ws (suc i) n
 
         Left : History → Type 0
-        Left h = (l : ℕ) → suc i ≤ l → IsItem facts.layout l → carried_of_item facts.layout l (own h p) ≡ taken_of_item facts.layout l 0 ws
+        Left h = (l : ℕ) → suc i ≤ l → IsItem facts.layout l
+            → carried_of_item facts.layout l (own h p) ≡ taken_of_item facts.layout l 0 ws
 
         add : ℤ → Step
         add d = AddS (record { number = i }) d
@@ -229,7 +250,8 @@ module _ (facts : Facts) (layout : IsLayout facts.layout) (p : ℕ) (who : Optio
           λ knows. record { item = omega arith; carries = carries i (omega arith) (omega arith) ∙ is; some = some },
           λ knows told. next (event facts p (add d) ∷ g)
               (λ l later l_in. total-next (moved_of_item facts.layout l) (add d) g
-              ∙ (let other : nat_eq i l ≡ false = ne_eqb i l (λ e. omega arith) in rw other (omega (arith, ints, carries l (omega arith) l_in))))
+              ∙ (let other : nat_eq i l ≡ false = ne_eqb i l (λ e. omega arith) in
+              rw other (omega (arith, ints, carries l (omega arith) l_in))))
               last,
         )
 
@@ -240,18 +262,23 @@ module _ (facts : Facts) (layout : IsLayout facts.layout) (p : ℕ) (who : Optio
         by (pos (suc d)) is next last = one (pos (suc d)) is (λ e. omega (arith, ints)) next last
         by (negsuc d) is next last = one (negsuc d) is (λ e. omega (arith, ints)) next last
 
-    pub fold-runs : (is_own : Bool) → (is_own ≡ true → who ≡ Some c) → (steps : List Step) (g : History) (P : History → Type 0)
-        → IsFold facts.layout is_own c steps → CarriesNothing facts.layout (own g p) → P (after p steps g) → Runs facts p who steps g P
-    fold-runs is_own owner steps g P fold nothing rest = subst (λ ks. P (after p ks g) → Runs facts p who ks g P) (sym fold.in_order)
+    pub fold-runs : (is_own : Bool) → (is_own ≡ true → who ≡ Some c)
+        → (steps : List Step) (g : History) (P : History → Type 0)
+        → IsFold facts.layout is_own c steps → CarriesNothing facts.layout (own g p) → P (after p steps g)
+        → Runs facts p who steps g P
+    fold-runs is_own owner steps g P fold nothing rest =
+        subst (λ ks. P (after p ks g) → Runs facts p who ks g P) (sym fold.in_order)
         (λ last. runs-append facts p who places systems g P
-        (places-run is_own owner 0 fold.places g (λ now. Runs facts p who systems now P) (let count = fold.one_each in omega arith) fold.groups
+        (places-run is_own owner 0 fold.places g (λ now. Runs facts p who systems now P) (let count = fold.one_each in
+        omega arith) fold.groups
         nothing.counters
         (systems-run (lists_of fold.places) 0 (item_count facts.layout) (after p places g) P (omega arith)
         (λ l from l_in. omega (
           arith,
           ints,
           total-own (moved_of_item facts.layout l) places g,
-          places-sum (moved_of_item facts.layout l) c (entries_of facts.layout l) (group-of_item facts.layout l c) facts.layout layout
+          places-sum (moved_of_item facts.layout l) c (entries_of facts.layout l) (group-of_item facts.layout l c)
+              facts.layout layout
               (λ z t a. refl) (λ z a. refl) is_own 0 fold.places fold.groups,
           item-worth facts.layout l c (group_of (counter_at facts.layout 0 0)) (lists_of fold.places),
           ap (λ j. taken_of_item facts.layout l j (lists_of fold.places)) first_group,

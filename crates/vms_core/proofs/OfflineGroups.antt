@@ -23,7 +23,7 @@ use Rattle.vms_core.proofs.Effects.{owned}
 use Rattle.vms_core.proofs.Emptied.{emptied-kept}
 use Rattle.vms_core.proofs.Shapes.{HasShape-state_after}
 
-either : (b : Bool) → (if b then true else true) ≡ true
+pub either : (b : Bool) → (if b then true else true) ≡ true
 either true = refl
 either false = refl
 

@@ -64,12 +64,14 @@ some-of c (d ∷ ds) is = omega arith
 module _ (facts : Facts) (layout : IsLayout facts.layout) (p : ℕ) where
   -- thresholds that are set raise peaks only, and not above a threshold
   module _ (z t : ℕ) where
-    pub peaks-grow : (cs : List CpuId) (g : History) → peak_sum facts z g ≤ peak_sum facts z (after p (threshold_steps z t cs) g)
+    pub peaks-grow : (cs : List CpuId) (g : History)
+        → peak_sum facts z g ≤ peak_sum facts z (after p (threshold_steps z t cs) g)
     peaks-grow [] g = omega arith
     peaks-grow (c ∷ cs) g =
         let set = event facts p (SetT c (record { number = z }) t) in
         let first : peak_sum facts z g ≤ peak_sum facts z (set ∷ g) = count_below-least
-        (λ d. if_present (cpu_in facts d g) (peak facts d z g)) (λ d. if_present (cpu_in facts d g) (peak facts d z (set ∷ g)))
+        (λ d. if_present (cpu_in facts d g) (peak facts d z g)) (λ d.
+        if_present (cpu_in facts d g) (peak facts d z (set ∷ g)))
         facts.layout.cpus (λ d d_in. if_present-least (cpu_in facts d g) (peak facts d z g) (peak facts d z (set ∷ g))
         (grows (nat_eq c.number d && nat_eq z z) (peak facts d z g))) in
         omega (arith, first, peaks-grow cs (set ∷ g))
@@ -85,7 +87,8 @@ module _ (facts : Facts) (layout : IsLayout facts.layout) (p : ℕ) where
         peaks-within cs (event facts p (SetT c (record { number = z }) t) ∷ g) (λ e is. small e (inr is)) d
         (still (nat_eq c.number d && nat_eq z z) (small c (inl refl)))
       where
-        still : (b : Bool) → t ≤ most_threshold → (if b then max t (peak facts d z g) else peak facts d z g) ≤ most_threshold
+        still : (b : Bool) → t ≤ most_threshold
+            → (if b then max t (peak facts d z g) else peak facts d z g) ≤ most_threshold
         still true less = omega arith
         still false less = within
 
@@ -126,21 +129,27 @@ module _ (facts : Facts) (layout : IsLayout facts.layout) (p : ℕ) where
         )
 
     -- the steps that rate a zone
-    module _ (size : (z : ℕ) → IsZone facts.layout z → IsValidSize (size_at facts.sizes z)) (z : ℕ) (zone : IsZone facts.layout z) where
+    module _ (size : (z : ℕ) → IsZone facts.layout z
+        → IsValidSize (size_at facts.sizes z)) (z : ℕ) (zone : IsZone facts.layout z) where
       mark_for-below : (g : History) (usual t : ℕ) → MaySet usual → MaySet t → Knows facts p None g
           → mark_for facts p online g z usual t < 2 ^ 43
       mark_for-below g usual t usual_may may knows =
           let hidden = peak_sum facts z (after p (threshold_steps z t online) g) in
           let each : (c : ℕ) → c < facts.layout.cpus
-          → if_present (cpu_in facts c (after p (threshold_steps z t online) g)) (peak facts c z (after p (threshold_steps z t online) g)) ≤ 125 =
-          λ c c_in. present (cpu_in facts c (after p (threshold_steps z t online) g)) (peak facts c z (after p (threshold_steps z t online) g))
-          (peaks-within z t online g (λ d is. (may (some-of d online is)).1) c (knows.peaks refl c z c_in (omega arith))) in
+          → if_present (cpu_in facts c (after p (threshold_steps z t online) g))
+          (peak facts c z (after p (threshold_steps z t online) g)) ≤ 125 =
+          λ c c_in. present (cpu_in facts c (after p (threshold_steps z t online) g))
+          (peak facts c z (after p (threshold_steps z t online) g))
+          (peaks-within z t online g (λ d is. (may (some-of d online is)).1) c
+          (knows.peaks refl c z c_in (omega arith))) in
           let sum : hidden ≤ facts.layout.cpus * 125 = count_below-most
-          (λ c. if_present (cpu_in facts c (after p (threshold_steps z t online) g)) (peak facts c z (after p (threshold_steps z t online) g)))
+          (λ c. if_present (cpu_in facts c (after p (threshold_steps z t online) g))
+          (peak facts c z (after p (threshold_steps z t online) g)))
           facts.layout.cpus 125 each in
           let cpus = layout.cpus_most in
           let linux = linux_mark-below (size_at facts.sizes z) (length online) usual few (λ some. (usual_may some).1) in
-          let cover = cover_mark-below (size_at facts.sizes z) (linux_mark_of (size_at facts.sizes z) (length online) usual) hidden linux (omega arith) in
+          let cover = cover_mark-below (size_at facts.sizes z)
+          (linux_mark_of (size_at facts.sizes z) (length online) usual) hidden linux (omega arith) in
           let high = (size z zone).high_most in
           omega arith
         where
@@ -149,8 +158,10 @@ module _ (facts : Facts) (layout : IsLayout facts.layout) (p : ℕ) where
           present Dead n less = less
           present Absent n less = omega arith
 
-      pub rating-runs : (g : History) (P : History → Type 0) (m usual t : ℕ) → AreOnline g → mark_in facts z g ≡ m → MaySet usual → MaySet t
-          → (AreOnline (after p (rating_steps facts p online g z m usual t) g) → P (after p (rating_steps facts p online g z m usual t) g))
+      pub rating-runs : (g : History) (P : History → Type 0) (m usual t : ℕ) → AreOnline g → mark_in facts z g ≡ m
+          → MaySet usual → MaySet t
+          → (AreOnline (after p (rating_steps facts p online g z m usual t) g)
+          → P (after p (rating_steps facts p online g z m usual t) g))
           → Runs facts p None (rating_steps facts p online g z m usual t) g P
       rating-runs g P m usual t online_now stands usual_may may rest = by (nat_eq mark m) refl rest
         where
@@ -167,11 +178,13 @@ module _ (facts : Facts) (layout : IsLayout facts.layout) (p : ℕ) where
           marked = event facts p (SetM (record { number = z }) mark) ∷ g
 
           covers : Covered z mark (after p thresholds g)
-          covers = cover_mark-covers (size_at facts.sizes z) (linux_mark_of (size_at facts.sizes z) (length online) usual)
+          covers = cover_mark-covers (size_at facts.sizes z)
+              (linux_mark_of (size_at facts.sizes z) (length online) usual)
               (peak_sum facts z (after p thresholds g))
 
           by : (b : Bool) → nat_eq mark m ≡ b
-              → (AreOnline (after p ((if b then [] else set) ++ thresholds) g) → P (after p ((if b then [] else set) ++ thresholds) g))
+              → (AreOnline (after p ((if b then [] else set) ++ thresholds) g)
+              → P (after p ((if b then [] else set) ++ thresholds) g))
               → Runs facts p None ((if b then [] else set) ++ thresholds) g P
           by true same rest =
               let here : mark ≡ mark_in facts z g = eqb-true mark m same ∙ sym stands in
@@ -182,16 +195,25 @@ module _ (facts : Facts) (layout : IsLayout facts.layout) (p : ℕ) where
               control = knows.owner;
               zone = zone;
               below = mark_for-below g usual t usual_may may knows;
-              covers = Covers-less (size_at facts.sizes z) mark (peak_sum facts z (after p thresholds g)) (peak_sum facts z g)
+              covers = Covers-less (size_at facts.sizes z) mark (peak_sum facts z (after p thresholds g))
+                  (peak_sum facts z g)
                   (peaks-grow z t online g) covers;
             },
             λ knows told.
-                let here : mark ≡ mark_in facts z marked = (let same : nat_eq z z ≡ true = eq-eqb z z refl in rw same refl) in
+                let here : mark ≡ mark_in facts z marked =
+                (let same : nat_eq z z ≡ true = eq-eqb z z refl in rw same refl) in
                 let sums : peak_sum facts z (after p thresholds marked) ≡ peak_sum facts z (after p thresholds g) =
                 peak_sum-same facts z (after p thresholds marked) (after p thresholds g)
                 (SamePeaks-after facts z p thresholds marked g
-                (record { same_sets = λ c. refl; same_thresholds = λ c. refl; same_peaks = λ c. refl; same_cpus = λ c. refl })) in
+                (record {
+                  same_sets = λ c. refl;
+                  same_thresholds = λ c. refl;
+                  same_peaks = λ c. refl;
+                  same_cpus = λ c.
+                      refl;
+                })) in
                 thresholds-run z t online marked P (λ c is. is) online_now may (omega arith)
-                (λ zone. subst (λ n. Covers (size_at facts.sizes z) n (peak_sum facts z (after p thresholds marked))) here
+                (λ zone. subst (λ n. Covers (size_at facts.sizes z) n (peak_sum facts z (after p thresholds marked)))
+                here
                 (subst (λ n. Covers (size_at facts.sizes z) mark n) (sym sums) covers)) rest,
           )

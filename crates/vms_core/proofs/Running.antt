@@ -106,7 +106,8 @@ module _ (facts : Facts) (p : ℕ) where
   -- what a pass that owns `who` knows at each step
   pub record Knows (who : Option CpuId) (g : History) : Type 0 where
     pub owner : owner_in turn g p ≡ who
-    pub peaks : who ≡ None → (c z : ℕ) → IsCpu facts.layout c → IsPlace facts.layout z → peak facts c z g ≤ most_threshold
+    pub peaks : who ≡ None → (c z : ℕ) → IsCpu facts.layout c → IsPlace facts.layout z
+        → peak facts c z g ≤ most_threshold
 
   module _ (who : Option CpuId) where
     -- each of these steps in a row meets its condition, and afterwards P holds
@@ -114,13 +115,15 @@ module _ (facts : Facts) (p : ℕ) where
     Runs [] g P = P g
     Runs (k ∷ ks) g P = (Knows who g → Fits g k) × (Knows who g → Informs g k → Runs ks (event facts p k ∷ g) P)
 
-    pub runs-append : (xs ys : List Step) (g : History) (P : History → Type 0) → Runs xs g (λ then. Runs ys then P) → Runs (xs ++ ys) g P
+    pub runs-append : (xs ys : List Step) (g : History) (P : History → Type 0) → Runs xs g (λ then. Runs ys then P)
+        → Runs (xs ++ ys) g P
     runs-append [] ys g P runs = runs
     runs-append (x ∷ xs) ys g P runs =
         (runs.0, λ knows informs. runs-append xs ys (event facts p x ∷ g) P (runs.1 knows informs))
 
     -- what holds of the history after steps in a row holds once they ran
-    pub runs-then : (xs : List Step) (g : History) (P : History → Type 0) → Runs xs g (λ now. Unit {0}) → P (after p xs g) → Runs xs g P
+    pub runs-then : (xs : List Step) (g : History) (P : History → Type 0) → Runs xs g (λ now. Unit {0})
+        → P (after p xs g) → Runs xs g P
     runs-then [] g P runs holds = holds
     runs-then (x ∷ xs) g P runs holds =
         (runs.0, λ knows informs. runs-then xs (event facts p x ∷ g) P (runs.1 knows informs) holds)
@@ -130,7 +133,8 @@ module _ (facts : Facts) (p : ℕ) where
     Told [] g = Unit {0}
     Told (k ∷ ks) g = Knows who g × Informs g k × Told ks (event facts p k ∷ g)
 
-    told-more : (ks : List Step) (k : Step) (g : History) → Told ks g → Knows who (after p ks g) → Informs (after p ks g) k
+    told-more : (ks : List Step) (k : Step) (g : History) → Told ks g → Knows who (after p ks g)
+        → Informs (after p ks g) k
         → Told (ks ++ (k ∷ [])) g
     told-more [] k g told knows informs = (knows, informs, tt)
     told-more (x ∷ ks) k g told knows informs =
@@ -149,13 +153,16 @@ module _ (facts : Facts) (p : ℕ) where
       knows-of = record {
         owner = owned_by;
         peaks = λ control c z c_in z_in.
-            subst (λ n. n ≤ most_threshold) ((agrees.peaks (owned_by ∙ control) z).same_peaks c) (peaks-in_range facts h legal c z c_in z_in);
+            subst (λ n. n ≤ most_threshold) ((agrees.peaks (owned_by ∙ control) z).same_peaks c)
+            (peaks-in_range facts h legal c z c_in z_in);
       }
 
       informs-of : (k : Step) → Meets facts h (state_after facts h) p k → Informs ideal k
-      informs-of (LoadM z m a) meets = λ control. sym (agrees.marks control z.number) ∙ sym (mark_at-told facts h legal z.number) ∙ meets.value
+      informs-of (LoadM z m a) meets = λ control. sym (agrees.marks control z.number)
+          ∙ sym (mark_at-told facts h legal z.number) ∙ meets.value
       informs-of (LoadO c x) meets = λ control.
-          sym ((agrees.peaks control 0).same_cpus c.number) ∙ sym (cpu_at-state_after facts h legal c.number meets.0) ∙ meets.1
+          sym ((agrees.peaks control 0).same_cpus c.number) ∙ sym (cpu_at-state_after facts h legal c.number meets.0)
+          ∙ meets.1
       informs-of _ meets = tt
 
       module _ (acts : Acts pages facts h p Works) where
@@ -176,7 +183,8 @@ module _ (facts : Facts) (p : ℕ) where
           affordable = rw (agrees.volumes e.cpu e.owner k.number) e.affordable;
         }
 
-        online_now : IsControl ideal p → (c : ℕ) → IsCpu facts.layout c → cpu_at (state_after facts h) c ≡ cpu_in facts c ideal
+        online_now : IsControl ideal p → (c : ℕ) → IsCpu facts.layout c
+            → cpu_at (state_after facts h) c ≡ cpu_in facts c ideal
         online_now control c c_in = cpu_at-state_after facts h legal c c_in ∙ (agrees.peaks control 0).same_cpus c
 
         mark_now : IsControl ideal p → (z : ℕ) → mark_at (state_after facts h) z ≡ mark_in facts z ideal
@@ -201,16 +209,23 @@ module _ (facts : Facts) (p : ℕ) where
         may-make (Put k w t delta how) fits tells =
             let may = may_exchange k w t delta fits in
             put-follows facts h p fits.cpu k w t delta may how
-            (⊎_elim (λ told. told) (zeros-win facts h p fits.cpu k w t delta may) (tells fits.cpu (agrees.owner ∙ fits.owner)))
+            (⊎_elim (λ told. told) (zeros-win facts h p fits.cpu k w t delta may)
+            (tells fits.cpu (agrees.owner ∙ fits.owner)))
         may-make (Miss j w) fits tells =
             let e = fits.exchanging in
-            miss-follows facts h p e.cpu fits.k w fits.t fits.delta (may_exchange fits.k w fits.t fits.delta e) j fits.group
+            miss-follows facts h p e.cpu fits.k w fits.t fits.delta (may_exchange fits.k w fits.t fits.delta e)
+            j fits.group
             (λ told. tells e.cpu (agrees.owner ∙ e.owner)
             (subst (λ n. TellsGroup (state_after facts h) e.cpu.number n w.values) (sym fits.group) told))
         may-make (AddG k a) fits tells = (
           legal,
           acts,
-          record { counter = fits.counter; carries = ap (carried k.number) agrees.mine ∙ fits.carries; some = fits.some },
+          record {
+            counter = fits.counter;
+            carries = ap (carried k.number) agrees.mine
+                ∙ fits.carries;
+            some = fits.some;
+          },
         )
         may-make (AddS i a) fits tells = (
           legal,
@@ -227,9 +242,11 @@ module _ (facts : Facts) (p : ℕ) where
         may-make (LoadO c x) fits tells = (legal, acts, (fits, tells))
         may-make (SetT c z t) fits tells =
             let mark_is = mark_now fits.control z.number in
-            let sum_is : peak_sum facts z.number (event facts p (SetT c z t) ∷ h) ≡ peak_sum facts z.number (event facts p (SetT c z t) ∷ ideal) =
+            let sum_is : peak_sum facts z.number (event facts p (SetT c z t) ∷ h)
+            ≡ peak_sum facts z.number (event facts p (SetT c z t) ∷ ideal) =
             peak_sum-same facts z.number (event facts p (SetT c z t) ∷ h) (event facts p (SetT c z t) ∷ ideal)
-            (SamePeaks-next facts z.number h ideal (event facts p (SetT c z t)) (agrees.peaks fits.control z.number)) in (
+            (SamePeaks-next facts z.number h ideal (event facts p (SetT c z t)) (agrees.peaks fits.control z.number))
+            in (
               legal,
               acts,
               record {
@@ -240,8 +257,10 @@ module _ (facts : Facts) (p : ℕ) where
                 least = fits.least;
                 most = fits.most;
                 covers = λ zone.
-                    subst (λ n. Covers (size_at facts.sizes z.number) n (peak_sum facts z.number (event facts p (SetT c z t) ∷ h))) (sym mark_is)
-                    (subst (λ n. Covers (size_at facts.sizes z.number) (mark_in facts z.number ideal) n) (sym sum_is) (fits.covers zone));
+                    subst (λ n. Covers (size_at facts.sizes z.number) n
+                    (peak_sum facts z.number (event facts p (SetT c z t) ∷ h))) (sym mark_is)
+                    (subst (λ n. Covers (size_at facts.sizes z.number) (mark_in facts z.number ideal) n) (sym sum_is)
+                    (fits.covers zone));
               },
             )
         may-make (SetM z m) fits tells =
@@ -258,7 +277,8 @@ module _ (facts : Facts) (p : ℕ) where
         may-make (SetO c) fits tells = (
           legal,
           acts,
-          SetsAbsent-taken facts h p c legal (control_now fits.control) fits.cpu (online_now fits.control c.number fits.cpu ∙ fits.dead)
+          SetsAbsent-taken facts h p c legal (control_now fits.control) fits.cpu
+              (online_now fits.control c.number fits.cpu ∙ fits.dead)
               (subst (λ es. HasTakenAll facts c.number es) (sym agrees.mine) fits.took_all),
         )
         may-make (SetA z a) fits tells = (
@@ -307,4 +327,5 @@ module _ (facts : Facts) (p : ℕ) where
         let ideal = after p done earlier in
         let now = runs-after who done (k ∷ rest) earlier (λ then. Unit {0})
         (subst (λ ks. Runs who ks earlier (λ then. Unit {0})) parts runs) (made-told done later has) in
-        may-make who later ideal has.legal agrees (owned_by done) (given, has.lives) k (now.0 (knows-of who later ideal has.legal agrees (owned_by done))) tells
+        may-make who later ideal has.legal agrees (owned_by done) (given, has.lives) k
+        (now.0 (knows-of who later ideal has.legal agrees (owned_by done))) tells

@@ -1,5 +1,5 @@
 -- What a caller took and loaded, by the steps that take groups and add to global values.
-use Rattle.std.proofs.Common.{◌≡◌, ℕ, suc, ◌+◌, ◌<◌, ◌≤◌, zero, ◌⊎◌, inl, inr, ⊎_elim, ◌&&◌, Bool, true, false, nat_eq, if◌then◌else◌, ℤ, pos, negsuc, List, [], ◌∷◌, ◌++◌, length, refl, arith, eq-eqb}
+use Rattle.std.proofs.Common.{◌≡◌, ℕ, suc, ◌+◌, ◌<◌, ◌≤◌, zero, ◌⊎◌, inl, inr, ⊎_elim, ◌&&◌, Bool, true, nat_eq, if◌then◌else◌, ℤ, pos, negsuc, List, [], ◌∷◌, ◌++◌, length, refl, arith, eq-eqb}
 use Rattle.std.proofs.lemmas.Bool.{cases_eq}
 use Rattle.vms_base.specs.declared.groups.Diffs.{Diffs}
 use Rattle.vms_base.specs.declared.ids.CpuId.{CpuId}
@@ -15,6 +15,7 @@ use Rattle.vms_core.specs.Own.{loaded, took, has_put}
 use Rattle.vms_core.specs.Pages.{History}
 use Rattle.vms_core.specs.Peaks.{cpu_in}
 use Rattle.vms_core.specs.Taken.{has_taken}
+use Rattle.vms_core.proofs.OfflineGroups.{either}
 
 -- steps that take groups and add to global values
 abbrev pub OnlyMoves : List Step → Type 0
@@ -29,10 +30,6 @@ abbrev pub HasTake : ℕ → ℕ → List Step → Type 0
 HasTake c j [] = ⊥
 HasTake c j (Take d i w ∷ ks) = ((d.number ≡ c) × (i.number ≡ j)) ⊎ HasTake c j ks
 HasTake c j (_ ∷ ks) = HasTake c j ks
-
-either : (b : Bool) → (if b then true else true) ≡ true
-either true = refl
-either false = refl
 
 at_cell : (d c i j : ℕ) (before : Bool) → d ≡ c → i ≡ j → (if nat_eq d c && nat_eq i j then true else before) ≡ true
 at_cell d c i j before same_cpu same_group = rw (eq-eqb d c same_cpu, eq-eqb i j same_group) refl
@@ -53,9 +50,11 @@ module _ (p : ℕ) where
   put-kept shape z (AddS i a ∷ ks) es only = put-kept shape z ks (record { caller = p; step = AddS i a } ∷ es) only
   put-kept shape z (_ ∷ ks) es only = absurd only
 
-  pub cpus-kept : (facts : Facts) (c : ℕ) (ks : List Step) (es : History) → OnlyMoves ks → cpu_in facts c (after p ks es) ≡ cpu_in facts c es
+  pub cpus-kept : (facts : Facts) (c : ℕ) (ks : List Step) (es : History) → OnlyMoves ks
+      → cpu_in facts c (after p ks es) ≡ cpu_in facts c es
   cpus-kept facts c [] es only = refl
-  cpus-kept facts c (Take d i w ∷ ks) es only = cpus-kept facts c ks (record { caller = p; step = Take d i w } ∷ es) only
+  cpus-kept facts c (Take d i w ∷ ks) es only =
+      cpus-kept facts c ks (record { caller = p; step = Take d i w } ∷ es) only
   cpus-kept facts c (AddG k a ∷ ks) es only = cpus-kept facts c ks (record { caller = p; step = AddG k a } ∷ es) only
   cpus-kept facts c (AddS i a ∷ ks) es only = cpus-kept facts c ks (record { caller = p; step = AddS i a } ∷ es) only
   cpus-kept facts c (_ ∷ ks) es only = absurd only
@@ -66,8 +65,10 @@ module _ (p : ℕ) where
   took-stays c z j (Take d i w ∷ ks) es only is =
       took-stays c z j ks (record { caller = p; step = Take d i w } ∷ es) only
       (rw is (either (nat_eq d.number c.number && nat_eq i.number j)))
-  took-stays c z j (AddG k a ∷ ks) es only is = took-stays c z j ks (record { caller = p; step = AddG k a } ∷ es) only is
-  took-stays c z j (AddS i a ∷ ks) es only is = took-stays c z j ks (record { caller = p; step = AddS i a } ∷ es) only is
+  took-stays c z j (AddG k a ∷ ks) es only is =
+      took-stays c z j ks (record { caller = p; step = AddG k a } ∷ es) only is
+  took-stays c z j (AddS i a ∷ ks) es only is =
+      took-stays c z j ks (record { caller = p; step = AddS i a } ∷ es) only is
   took-stays c z j (_ ∷ ks) es only is = absurd only
 
   pub took-made : (c : CpuId) (z j : ℕ) (ks : List Step) (es : History) → OnlyMoves ks → HasTake c.number j ks
@@ -80,11 +81,14 @@ module _ (p : ℕ) where
       took-stays c z j ks (event ∷ es) only (at_cell d.number c.number i.number j (took c z j es) here.0 here.1))
       (λ (later : HasTake c.number j ks). took-made c z j ks (event ∷ es) only later)
       has
-  took-made c z j (AddG k a ∷ ks) es only has = took-made c z j ks (record { caller = p; step = AddG k a } ∷ es) only has
-  took-made c z j (AddS i a ∷ ks) es only has = took-made c z j ks (record { caller = p; step = AddS i a } ∷ es) only has
+  took-made c z j (AddG k a ∷ ks) es only has =
+      took-made c z j ks (record { caller = p; step = AddG k a } ∷ es) only has
+  took-made c z j (AddS i a ∷ ks) es only has =
+      took-made c z j ks (record { caller = p; step = AddS i a } ∷ es) only has
   took-made c z j (_ ∷ ks) es only has = absurd only
 
-  has_taken-stays : (c j : ℕ) (ks : List Step) (es : History) → has_taken c j es ≡ true → has_taken c j (after p ks es) ≡ true
+  has_taken-stays : (c j : ℕ) (ks : List Step) (es : History) → has_taken c j es ≡ true
+      → has_taken c j (after p ks es) ≡ true
   has_taken-stays c j [] es is = is
   has_taken-stays c j (Take d i w ∷ ks) es is =
       has_taken-stays c j ks (record { caller = p; step = Take d i w } ∷ es)
@@ -133,9 +137,12 @@ only-groups c j (w ∷ ws) = only-append (in_turn to_place (first_of j) w.values
 pub has-group : (c : CpuId) (first : ℕ) (ws : List Diffs) (j : ℕ) → first ≤ j → j < first + length ws
     → HasTake c.number j (in_turn (group_steps c) first ws)
 has-group c first [] j from to = absurd (omega arith)
-has-group c first (w ∷ ws) j from to = by (cases_eq first j) (λ (more : suc first ≤ j). has-group c (suc first) ws j more (omega arith))
+has-group c first (w ∷ ws) j from to =
+    by (cases_eq first j) (λ (more : suc first ≤ j). has-group c (suc first) ws j more (omega arith))
   where
     by : (first ≡ j) ⊎ (first ≡ j → ⊥) → (suc first ≤ j → HasTake c.number j (in_turn (group_steps c) (suc first) ws))
         → HasTake c.number j (in_turn (group_steps c) first (w ∷ ws))
     by (inl here) rest = inl (refl, here)
-    by (inr other) rest = inr (has-right c.number j (in_turn to_place (first_of first) w.values) (in_turn (group_steps c) (suc first) ws) (rest (omega arith)))
+    by (inr other) rest =
+        inr (has-right c.number j (in_turn to_place (first_of first) w.values)
+        (in_turn (group_steps c) (suc first) ws) (rest (omega arith)))

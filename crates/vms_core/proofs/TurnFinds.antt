@@ -34,20 +34,25 @@ module _ (facts : Facts) (p : ℕ) (earlier : History) where
   made-first : (xs ys : List Step) (later : History) → HasMade facts later earlier p (xs ++ ys)
       → (before : History) × HasMade facts before earlier p xs
   made-first xs = by_last
-      (λ ys. (later : History) → HasMade facts later earlier p (xs ++ ys) → (before : History) × HasMade facts before earlier p xs)
+      (λ ys. (later : History) → HasMade facts later earlier p (xs ++ ys)
+      → (before : History) × HasMade facts before earlier p xs)
       (λ later has. (later, subst (HasMade facts later earlier p) (append-nil xs) has))
       (λ ks k rest later has.
-      let last = made-last facts p later earlier (xs ++ ks) k (subst (HasMade facts later earlier p) (sym (append_assoc xs ks (k ∷ []))) has) in
+      let last = made-last facts p later earlier (xs ++ ks) k
+      (subst (HasMade facts later earlier p) (sym (append_assoc xs ks (k ∷ []))) has) in
       rest last.before last.made)
 
   -- a CPU that is online in the base was found online
-  found-online : (d : ℕ) → cpu_at facts.base d ≡ Online → (c : ℕ) (states : List CpuState) (xs ys : List Step) (later : History)
+  found-online : (d : ℕ) → cpu_at facts.base d ≡ Online
+      → (c : ℕ) (states : List CpuState) (xs ys : List Step) (later : History)
       → HasMade facts later earlier p (xs ++ (in_turn state_steps c states ++ ys)) → c ≤ d → d < c + length states
       → 1 ≤ length (online_from c states)
   found-online d online c [] xs ys later has from to = absurd (omega arith)
   found-online d online c (x ∷ states) xs ys later has from to = ⊎_elim
       (λ (here : c ≡ d). at (is_online x) (ap is_online (sym (told here))))
-      (λ (other : c ≡ d → ⊥). more (is_online x) (found-online d online (suc c) states (xs ++ (load ∷ [])) ys later parts (omega arith) (omega arith)))
+      (λ (other : c ≡ d → ⊥).
+      more (is_online x) (found-online d online (suc c) states (xs ++ (load ∷ [])) ys later parts (omega arith)
+      (omega arith)))
       (cases_eq c d)
     where
       load : Step
@@ -65,7 +70,8 @@ module _ (facts : Facts) (p : ℕ) (earlier : History) where
           let last = made-last facts p first.0 earlier xs load first.1 in
           sym last.legal.2.1 ∙ online-stays facts last.before c last.made.legal (ap (cpu_at facts.base) here ∙ online)
 
-      at : (b : Bool) → true ≡ b → 1 ≤ length (if b then record { number = c } ∷ online_from (suc c) states else online_from (suc c) states)
+      at : (b : Bool) → true ≡ b
+          → 1 ≤ length (if b then record { number = c } ∷ online_from (suc c) states else online_from (suc c) states)
       at true is = omega arith
       at false is = absurd (true≢false is)
 
@@ -75,7 +81,8 @@ module _ (facts : Facts) (p : ℕ) (earlier : History) where
       more false found = found
 
   call-online : (rule normal : ZoneSize → ℕ → ℕ → Type 0) (n : PlaceId) (h : History) (call xs ys : List Step)
-      (rates : RatesNode facts rule normal n p h call) (later : History) → HasMade facts later earlier p (xs ++ (call ++ ys))
+      (rates : RatesNode facts rule normal n p h call) (later : History)
+      → HasMade facts later earlier p (xs ++ (call ++ ys))
       → SomeOnline rates.states
   call-online rule normal n h call xs ys rates later has =
       let base = (base_can_begin pages facts later has.legal) in
@@ -83,11 +90,14 @@ module _ (facts : Facts) (p : ℕ) (earlier : History) where
       let loads = in_turn state_steps 0 rates.states in
       let same : xs ++ (call ++ ys) ≡ xs ++ (loads ++ (rates.further ++ ys)) =
       ap (λ ks. xs ++ ks) (ap (λ ks. ks ++ ys) rates.in_order ∙ append_assoc loads rates.further ys) in
-      found-online up.0 up.2 0 rates.states xs (rates.further ++ ys) later (subst (HasMade facts later earlier p) same has)
+      found-online up.0 up.2 0 rates.states xs (rates.further ++ ys) later
+      (subst (HasMade facts later earlier p) same has)
       (omega arith) (let count = rates.one_each in let within = up.1 in omega arith)
 
-  settles-online : (normal : ZoneSize → ℕ → ℕ → Type 0) (n : PlaceId) (answer : Balance) (h : History) (steps xs : List Step)
-      (settles : Settles facts normal n p answer h steps) (later : History) → HasMade facts later earlier p (xs ++ steps)
+  settles-online : (normal : ZoneSize → ℕ → ℕ
+      → Type 0) (n : PlaceId) (answer : Balance) (h : History) (steps xs : List Step)
+      (settles : Settles facts normal n p answer h steps) (later : History)
+      → HasMade facts later earlier p (xs ++ steps)
       → SettlesOnline facts normal n p answer h steps settles
   settles-online normal n (Yes g verdict) h steps xs settles later has =
       call-online normal normal n h steps xs [] settles later
@@ -98,7 +108,8 @@ pub finds-online : (pressure normal : ZoneSize → ℕ → ℕ → Type 0) → F
 finds-online pressure normal facts areas n order most p later h steps answer call has =
     let whole = subst (HasMade facts later h p) call.in_order has in (
       call-online facts p h pressure normal n h call.pressed [] (call.test ++ call.further) call.presses later whole,
-      settles-online facts p h normal n answer (after p (call.pressed ++ call.test) h) call.further (call.pressed ++ call.test) call.settles later
+      settles-online facts p h normal n answer (after p (call.pressed ++ call.test) h) call.further
+          (call.pressed ++ call.test) call.settles later
           (subst (HasMade facts later h p) (sym (append_assoc call.pressed call.test call.further)) whole),
     )
 
@@ -114,16 +125,23 @@ module _ (shape : Shape) (g : PlaceId) (order : ℕ) where
       let least = leb-true order area.order (each 0 area (omega arith)) in
       omega arith
 
-  block-of : (areas : List Area) (room : Bool) (steps : List Step) (answer : OrderVerdict) → Blocks shape areas g order room steps answer
+  block-of : (areas : List Area) (room : Bool) (steps : List Step) (answer : OrderVerdict)
+      → Blocks shape areas g order room steps answer
       → answer.yes ≡ true → (o : ℕ) × (answer.area ≡ Some o) × (order ≤ o)
   block-of areas false steps answer blocks passed = absurd (true≢false (sym passed ∙ blocks.1))
   block-of areas true steps answer blocks passed = by answer.area refl
     where
       by : (found : Option ℕ) → answer.area ≡ found → (o : ℕ) × (answer.area ≡ Some o) × (order ≤ o)
       by None is = absurd (true≢false (sym passed ∙ blocks.1 ∙ ap is_some is))
-      by (Some o) is = (o, is, large (areas_from order areas) steps answer.area blocks.0 (filter_passes (λ area. nat_le order area.order) areas) o is)
+      by (Some o) is = (
+        o,
+        is,
+        large (areas_from order areas) steps answer.area blocks.0
+            (filter_passes (λ area. nat_le order area.order) areas) o is,
+      )
 
-block-found : (shape : Shape) (areas : List Area) (g : PlaceId) (limit order : ℕ) (verdict : Verdict) (steps : List Step) (answer : OrderVerdict)
+block-found : (shape : Shape) (areas : List Area) (g : PlaceId) (limit order : ℕ) (verdict : Verdict)
+    (steps : List Step) (answer : OrderVerdict)
     → Further shape areas g limit order verdict steps answer → answer.yes ≡ true → order ≢ 0
     → (o : ℕ) × (answer.area ≡ Some o) × (order ≤ o)
 block-found shape areas g limit zero verdict steps answer blocks passed above = absurd (above refl)
@@ -140,12 +158,15 @@ abbrev NamedBy : List ℕ → ℕ → Balance → Type 0
 NamedBy gs order (Yes g verdict) = Named gs order g verdict
 NamedBy gs order No = Unit {0}
 
-named-more : (g : ℕ) (gs : List ℕ) (order : ℕ) (answer : Balance) → NamedBy gs order answer → NamedBy (g ∷ gs) order answer
+named-more : (g : ℕ) (gs : List ℕ) (order : ℕ) (answer : Balance) → NamedBy gs order answer
+    → NamedBy (g ∷ gs) order answer
 named-more g gs order (Yes z verdict) named =
-    let at = named.one_of in record { one_of = (suc at.0, omega (arith, at.1), at.2); passed = named.passed; block = named.block }
+    let at = named.one_of in
+    record { one_of = (suc at.0, omega (arith, at.1), at.2); passed = named.passed; block = named.block }
 named-more g gs order No named = tt
 
-balance-named : (shape : Shape) (areas : List Area) (limit : ℕ → ℕ) (order : ℕ) (gs : List ℕ) (steps : List Step) (answer : Balance)
+balance-named : (shape : Shape) (areas : List Area) (limit : ℕ
+    → ℕ) (order : ℕ) (gs : List ℕ) (steps : List Step) (answer : Balance)
     → Balances shape areas limit order gs steps answer → NamedBy gs order answer
 balance-named shape areas limit order gs steps answer no_zone = tt
 balance-named shape areas limit order gs steps answer (fails g gs' first more verdict answer' test failed later) =
@@ -153,7 +174,8 @@ balance-named shape areas limit order gs steps answer (fails g gs' first more ve
 balance-named shape areas limit order gs steps answer (passes g gs' steps' verdict test passed) = record {
   one_of = (0, omega arith, refl);
   passed = passed;
-  block = block-found shape areas (record { number = g }) (limit g) order test.verdict test.further verdict test.blocks passed;
+  block = block-found shape areas (record { number = g }) (limit g)
+      order test.verdict test.further verdict test.blocks passed;
 }
 
 pub names-passed : NamesPassed

@@ -28,11 +28,14 @@ module _ (shape : Shape) (g : PlaceId) where
       → (rest : List Step) → read_blocks shape g areas (steps ++ rest) ≡ (found, rest)
   blocks-told areas steps found nowhere rest = refl
   blocks-told areas steps found (empty area areas' first more found' snapshot later) rest =
-      ap (λ ks. block_or area.order (read_snapshot shape (blocks_at shape g area) ks) (read_blocks shape g areas')) (append_assoc first more rest)
-      ∙ ap (λ (told : ℕ × List Step). block_or area.order told (read_blocks shape g areas')) (snapshot-told shape (blocks_at shape g area) first 0 snapshot (more ++ rest))
+      ap (λ ks. block_or area.order (read_snapshot shape (blocks_at shape g area) ks) (read_blocks shape g areas'))
+      (append_assoc first more rest)
+      ∙ ap (λ (told : ℕ × List Step). block_or area.order told (read_blocks shape g areas'))
+      (snapshot-told shape (blocks_at shape g area) first 0 snapshot (more ++ rest))
       ∙ blocks-told areas' more found' later rest
   blocks-told areas steps found (some area areas' steps' blocks snapshot there) rest =
-      ap (λ (told : ℕ × List Step). block_or area.order told (read_blocks shape g areas')) (snapshot-told shape (blocks_at shape g area) steps' blocks snapshot rest)
+      ap (λ (told : ℕ × List Step). block_or area.order told (read_blocks shape g areas'))
+      (snapshot-told shape (blocks_at shape g area) steps' blocks snapshot rest)
       ∙ (let differ : nat_eq blocks 0 ≡ false = ne_eqb blocks 0 there in rw differ refl)
 
   abbrev made : List Step → Bool → ℕ → Bool → Option ℕ → OrderVerdict × List Step
@@ -45,10 +48,12 @@ module _ (shape : Shape) (g : PlaceId) where
       ∙ ap (λ q. made rest answer.yes answer.free q a) (sym same_fast)
       ∙ ap (λ a. made rest answer.yes answer.free answer.fast a) (sym same_area)
 
-  module _ (areas : List Area) (limit : ℕ) (verdict : Verdict) (answer : OrderVerdict) (free : answer.free ≡ verdict.free)
+  module _ (areas : List Area) (limit : ℕ) (verdict : Verdict) (answer : OrderVerdict)
+      (free : answer.free ≡ verdict.free)
       (fast : answer.fast ≡ verdict.fast) (rest : List Step) where
     blocks-read : (n : ℕ) (room : Bool) (steps : List Step) → Blocks shape areas g n room steps answer
-        → (if room then with_blocks verdict (read_blocks shape g (areas_from n areas) (steps ++ rest)) else without_blocks false verdict (steps ++ rest))
+        → (if room then with_blocks verdict (read_blocks shape g (areas_from n areas) (steps ++ rest))
+        else without_blocks false verdict (steps ++ rest))
         ≡ (answer, rest)
     blocks-read n true steps blocks =
         ap (with_blocks verdict) (blocks-told (areas_from n areas) steps answer.area blocks.0 rest)
@@ -68,10 +73,12 @@ pub order_test-told : TellsOrderTest
 order_test-told shape areas g limit order steps answer call rest =
     ap (λ ks. read_order_test shape areas g limit order (ks ++ rest)) call.in_order
     ∙ ap (λ ks. read_order_test shape areas g limit order ks) (append_assoc call.test call.further rest)
-    ∙ ap (λ (told : Verdict × List Step). read_areas shape areas g limit order told) (test-told shape g limit call.test call.verdict call.tests (call.further ++ rest))
+    ∙ ap (λ (told : Verdict × List Step). read_areas shape areas g limit order told)
+    (test-told shape g limit call.test call.verdict call.tests (call.further ++ rest))
     ∙ further-told shape g areas limit call.verdict answer call.free call.fast rest order call.further call.blocks
 
-zones-told : (shape : Shape) (areas : List Area) (limit : ℕ → ℕ) (order : ℕ) (gs : List ℕ) (steps : List Step) (answer : Balance)
+zones-told : (shape : Shape) (areas : List Area) (limit : ℕ
+    → ℕ) (order : ℕ) (gs : List ℕ) (steps : List Step) (answer : Balance)
     → Balances shape areas limit order gs steps answer → (rest : List Step)
     → read_zones shape areas limit order gs (steps ++ rest) ≡ (answer, rest)
 zones-told shape areas limit order gs steps answer no_zone rest = refl
@@ -87,7 +94,8 @@ zones-told shape areas limit order gs steps answer (passes g gs' steps' verdict 
 
 pub balance-told : TellsBalance
 balance-told facts areas n order most steps answer call rest =
-    zones-told facts.layout areas (high_limit facts most) order (zones_up_to facts.layout most (node_number facts.layout n)) steps answer call rest
+    zones-told facts.layout areas (high_limit facts most) order
+    (zones_up_to facts.layout most (node_number facts.layout n)) steps answer call rest
 
 -- the loads of the CPUs' states
 states-counted : (c : ℕ) (states : List CpuState) (rest : List Step)
@@ -96,22 +104,26 @@ states-counted c [] rest = refl
 states-counted c (x ∷ xs) rest = by (is_online x) (states-counted (suc c) xs rest)
   where
     by : (b : Bool) → count_told (length xs) (in_turn state_steps (suc c) xs ++ rest) ≡ length (online_from (suc c) xs)
-        → (if b then suc (count_told (length xs) (in_turn state_steps (suc c) xs ++ rest)) else count_told (length xs) (in_turn state_steps (suc c) xs ++ rest))
+        → (if b then suc (count_told (length xs) (in_turn state_steps (suc c) xs ++ rest)) else count_told (length xs)
+        (in_turn state_steps (suc c) xs ++ rest))
         ≡ length (if b then record { number = c } ∷ online_from (suc c) xs else online_from (suc c) xs)
     by true more = ap suc more
     by false more = more
 
-states-dropped : (c : ℕ) (states : List CpuState) (rest : List Step) → drop (length states) (in_turn state_steps c states ++ rest) ≡ rest
+states-dropped : (c : ℕ) (states : List CpuState) (rest : List Step)
+    → drop (length states) (in_turn state_steps c states ++ rest) ≡ rest
 states-dropped c [] rest = refl
 states-dropped c (x ∷ xs) rest = states-dropped (suc c) xs rest
 
-acknowledged-dropped : (z : ℕ) (cs : List CpuId) (numbers : List (Option ℕ)) (rest : List Step) → length numbers ≡ length cs
+acknowledged-dropped : (z : ℕ) (cs : List CpuId) (numbers : List (Option ℕ)) (rest : List Step)
+    → length numbers ≡ length cs
     → drop (length cs) (acknowledged_steps z cs numbers ++ rest) ≡ rest
 acknowledged-dropped z [] numbers rest same = refl
 acknowledged-dropped z (c ∷ cs) [] rest same = absurd (omega arith)
 acknowledged-dropped z (c ∷ cs) (x ∷ xs) rest same = acknowledged-dropped z cs xs rest (omega arith)
 
-thresholds-dropped : (z t : ℕ) (cs : List CpuId) (rest : List Step) → drop (length cs) (threshold_steps z t cs ++ rest) ≡ rest
+thresholds-dropped : (z t : ℕ) (cs : List CpuId) (rest : List Step)
+    → drop (length cs) (threshold_steps z t cs ++ rest) ≡ rest
 thresholds-dropped z t [] rest = refl
 thresholds-dropped z t (c ∷ cs) rest = thresholds-dropped z t cs rest
 
@@ -121,7 +133,8 @@ thresholds-first : (z t : ℕ) (cs : List CpuId) (rest : List Step) → 1 ≤ le
 thresholds-first z t [] rest found = absurd (omega arith)
 thresholds-first z t (c ∷ cs) rest found = thresholds-dropped z t cs rest
 
-module _ (facts : Facts) (rule normal : ZoneSize → ℕ → ℕ → Type 0) (p : ℕ) (online : List CpuId) (found : 1 ≤ length online) where
+module _ (facts : Facts) (rule normal : ZoneSize → ℕ → ℕ
+    → Type 0) (p : ℕ) (online : List CpuId) (found : 1 ≤ length online) where
   rating-read : (h : History) (z m usual t : ℕ) (rest : List Step)
       → without_rating (length online) (rating_steps facts p online h z m usual t ++ rest) ≡ rest
   rating-read h z m usual t rest = by (nat_eq mark m)
@@ -129,27 +142,33 @@ module _ (facts : Facts) (rule normal : ZoneSize → ℕ → ℕ → Type 0) (p 
       mark : ℕ
       mark = mark_for facts p online h z usual t
 
-      by : (b : Bool) → without_rating (length online) (((if b then [] else SetM (record { number = z }) mark ∷ []) ++ threshold_steps z t online) ++ rest) ≡ rest
+      by : (b : Bool) → without_rating (length online)
+          (((if b then [] else SetM (record { number = z }) mark ∷ []) ++ threshold_steps z t online) ++ rest) ≡ rest
       by true = thresholds-first z t online rest found
       by false = thresholds-dropped z t online rest
 
-  marked-read : (z t m : ℕ) (h : History) (steps : List Step) → RatesMarked facts normal p online rule z t m h steps → (rest : List Step)
+  marked-read : (z t m : ℕ) (h : History) (steps : List Step) → RatesMarked facts normal p online rule z t m h steps
+      → (rest : List Step)
       → without_marked (length online) m (steps ++ rest) ≡ rest
   marked-read z t m h steps (unmarked g) rest = refl
   marked-read z t m h steps (marked t' m' g ks other rates) rest =
       let differ : nat_eq m' 0 ≡ false = ne_eqb m' 0 other in
-      rw differ (ap (λ ks. without_rating (length online) (ks ++ rest)) rates.in_order ∙ rating-read g z m' rates.usual t' rest)
+      rw differ (ap (λ ks. without_rating (length online) (ks ++ rest)) rates.in_order
+      ∙ rating-read g z m' rates.usual t' rest)
 
-  visit-read : (z t : ℕ) (h : History) (steps : List Step) → Visits facts normal p online (RatesMarked facts normal p online rule) z t h steps
+  visit-read : (z t : ℕ) (h : History) (steps : List Step)
+      → Visits facts normal p online (RatesMarked facts normal p online rule) z t h steps
       → (rest : List Step) → without_load (length online) (drop (length online) (steps ++ rest)) ≡ rest
   visit-read z t h steps visit rest =
       let loads = acknowledged_steps z online visit.numbers in
       let load : Step = LoadM (record { number = z }) visit.mark.mark visit.mark.number in
       let parts : steps ++ rest ≡ loads ++ (load ∷ (visit.further ++ rest)) =
       ap (λ ks. ks ++ rest) (visit.in_order ∙ ap (λ ks. ks ++ visit.further) visit.loads_are)
-      ∙ append_assoc (loads ++ (load ∷ [])) visit.further rest ∙ append_assoc loads (load ∷ []) (visit.further ++ rest) in
+      ∙ append_assoc (loads ++ (load ∷ [])) visit.further rest
+      ∙ append_assoc loads (load ∷ []) (visit.further ++ rest) in
       ap (λ ks. without_load (length online) (drop (length online) ks)) parts
-      ∙ ap (without_load (length online)) (acknowledged-dropped z online visit.numbers (load ∷ (visit.further ++ rest)) visit.one_each)
+      ∙ ap (without_load (length online))
+      (acknowledged-dropped z online visit.numbers (load ∷ (visit.further ++ rest)) visit.one_each)
       ∙ marked-read z t visit.mark.mark (after p visit.loads h) visit.further visit.rated rest
 
   visits-read : (gs ts : List ℕ) (h : History) (steps : List Step)
@@ -157,11 +176,13 @@ module _ (facts : Facts) (rule normal : ZoneSize → ℕ → ℕ → Type 0) (p 
       → (rest : List Step) → without_visits (length online) gs (steps ++ rest) ≡ rest
   visits-read gs ts h steps (none g) rest = refl
   visits-read gs ts h steps (next z t gs' ts' g first more visit visits) rest =
-      ap (λ ks. without_visits (length online) gs' (without_load (length online) (drop (length online) ks))) (append_assoc first more rest)
+      ap (λ ks. without_visits (length online) gs' (without_load (length online) (drop (length online) ks)))
+      (append_assoc first more rest)
       ∙ ap (without_visits (length online) gs') (visit-read z t g first visit (more ++ rest))
       ∙ visits-read gs' ts' (after p first g) more visits rest
 
-node-read : (facts : Facts) (rule normal : ZoneSize → ℕ → ℕ → Type 0) (n : PlaceId) (p : ℕ) (h : History) (steps : List Step)
+node-read : (facts : Facts) (rule normal : ZoneSize → ℕ → ℕ
+    → Type 0) (n : PlaceId) (p : ℕ) (h : History) (steps : List Step)
     (rates : RatesNode facts rule normal n p h steps) → SomeOnline rates.states → (rest : List Step)
     → without_node facts n (steps ++ rest) ≡ rest
 node-read facts rule normal n p h steps rates found rest =
@@ -172,12 +193,17 @@ node-read facts rule normal n p h steps rates found rest =
     let all = loads ++ (rates.further ++ rest) in
     ap (without_node facts n) parts
     ∙ ap (λ cpus. without_visits (count_told cpus all) zones (drop cpus all)) (sym rates.one_each)
-    ∙ ap (λ count. without_visits count zones (drop (length rates.states) all)) (states-counted 0 rates.states (rates.further ++ rest))
-    ∙ ap (without_visits (length (online_from 0 rates.states)) zones) (states-dropped 0 rates.states (rates.further ++ rest))
-    ∙ visits-read facts rule normal p (online_from 0 rates.states) found zones rates.thresholds (after p loads h) rates.further rates.visits rest
+    ∙ ap (λ count. without_visits count zones (drop (length rates.states) all))
+    (states-counted 0 rates.states (rates.further ++ rest))
+    ∙ ap (without_visits (length (online_from 0 rates.states)) zones)
+    (states-dropped 0 rates.states (rates.further ++ rest))
+    ∙ visits-read facts rule normal p (online_from 0 rates.states) found zones rates.thresholds (after p loads h)
+    rates.further rates.visits rest
 
-settled-told : (facts : Facts) (normal : ZoneSize → ℕ → ℕ → Type 0) (n : PlaceId) (p : ℕ) (answer : Balance) (h : History)
-    (steps : List Step) (settles : Settles facts normal n p answer h steps) → SettlesOnline facts normal n p answer h steps settles
+settled-told : (facts : Facts) (normal : ZoneSize → ℕ → ℕ
+    → Type 0) (n : PlaceId) (p : ℕ) (answer : Balance) (h : History)
+    (steps : List Step) (settles : Settles facts normal n p answer h steps)
+    → SettlesOnline facts normal n p answer h steps settles
     → (rest : List Step) → settled_read facts n (answer, steps ++ rest) ≡ (answer, rest)
 settled-told facts normal n p (Yes g verdict) h steps settles found rest =
     ap (λ ks. (Yes g verdict, ks)) (node-read facts normal normal n p h steps settles found rest)
@@ -191,5 +217,7 @@ turn-told pressure normal facts areas n order most p h steps answer turn some_fi
     ap (read_turn facts areas n order most) parts
     ∙ ap (λ ks. settled_read facts n (read_balance facts areas n order most ks))
     (node-read facts pressure normal n p h turn.pressed turn.presses some_first (turn.test ++ (turn.further ++ rest)))
-    ∙ ap (settled_read facts n) (balance-told facts areas n order most turn.test answer turn.tests (turn.further ++ rest))
-    ∙ settled-told facts normal n p answer (after p (turn.pressed ++ turn.test) h) turn.further turn.settles some_last rest
+    ∙ ap (settled_read facts n)
+    (balance-told facts areas n order most turn.test answer turn.tests (turn.further ++ rest))
+    ∙ settled-told facts normal n p answer (after p (turn.pressed ++ turn.test) h)
+    turn.further turn.settles some_last rest

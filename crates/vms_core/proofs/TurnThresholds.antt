@@ -27,14 +27,17 @@ use Rattle.vms_core.specs.Pages.{History}
 use Rattle.vms_core.specs.Turning.{LeavesByRule, LeavesNormal, LeavesPressure, last_mark, last_set}
 use Rattle.vms_core.proofs.RatingRuns.{IsOneOf}
 
-last_mark-append : (g : ℕ) (xs ys : List Step) (before : ℕ) → last_mark g (xs ++ ys) before ≡ last_mark g ys (last_mark g xs before)
+last_mark-append : (g : ℕ) (xs ys : List Step) (before : ℕ)
+    → last_mark g (xs ++ ys) before ≡ last_mark g ys (last_mark g xs before)
 last_mark-append g [] ys before = refl
 last_mark-append g (LoadM f m a ∷ xs) ys before = last_mark-append g xs ys (if nat_eq f.number g then m else before)
 last_mark-append g (_ ∷ xs) ys before = last_mark-append g xs ys before
 
-last_set-append : (c g : ℕ) (xs ys : List Step) (before : Option ℕ) → last_set c g (xs ++ ys) before ≡ last_set c g ys (last_set c g xs before)
+last_set-append : (c g : ℕ) (xs ys : List Step) (before : Option ℕ)
+    → last_set c g (xs ++ ys) before ≡ last_set c g ys (last_set c g xs before)
 last_set-append c g [] ys before = refl
-last_set-append c g (SetT d f t ∷ xs) ys before = last_set-append c g xs ys (if nat_eq d.number c && nat_eq f.number g then Some t else before)
+last_set-append c g (SetT d f t ∷ xs) ys before =
+    last_set-append c g xs ys (if nat_eq d.number c && nat_eq f.number g then Some t else before)
 last_set-append c g (_ ∷ xs) ys before = last_set-append c g xs ys before
 
 -- steps that set no threshold
@@ -58,42 +61,53 @@ looks-none j c [] = tt
 looks-none j c (online w ∷ looks) = looks-none j (suc c) looks
 looks-none j c (other x differs ∷ looks) = looks-none j (suc c) looks
 
-snapshot-none : (shape : Shape) (k : CounterId) (steps : List Step) (answer : ℕ) → IsSnapshot shape k steps answer → SetsNone steps
-snapshot-none shape k steps answer call = subst SetsNone (sym call.in_order) (looks-none (group_of k.number) 0 call.looks)
+snapshot-none : (shape : Shape) (k : CounterId) (steps : List Step) (answer : ℕ) → IsSnapshot shape k steps answer
+    → SetsNone steps
+snapshot-none shape k steps answer call =
+    subst SetsNone (sym call.in_order) (looks-none (group_of k.number) 0 call.looks)
 
 frees-none : (shape : Shape) (k : CounterId) (doubt : Bool) (value : ℤ) (steps : List Step) (free : ℕ)
     → Frees shape k doubt value steps free → SetsNone steps
 frees-none shape k true value steps free frees = snapshot-none shape k steps free frees
 frees-none shape k false value steps free frees = subst SetsNone (sym frees.0) tt
 
-test-none : (shape : Shape) (g : PlaceId) (limit : ℕ) (steps : List Step) (answer : Verdict) → IsWatermarkTest shape g limit steps answer → SetsNone steps
+test-none : (shape : Shape) (g : PlaceId) (limit : ℕ) (steps : List Step) (answer : Verdict)
+    → IsWatermarkTest shape g limit steps answer → SetsNone steps
 test-none shape g limit steps answer call = subst SetsNone (sym call.in_order)
-    (frees-none shape (free_pages shape g) (is_doubtful call.first call.value call.second) call.value call.further answer.free call.frees)
+    (frees-none shape (free_pages shape g) (is_doubtful call.first call.value call.second)
+    call.value call.further answer.free call.frees)
 
-finds-none : (shape : Shape) (g : PlaceId) (areas : List Area) (steps : List Step) (found : Option ℕ) → FindsBlock shape g areas steps found → SetsNone steps
+finds-none : (shape : Shape) (g : PlaceId) (areas : List Area) (steps : List Step) (found : Option ℕ)
+    → FindsBlock shape g areas steps found → SetsNone steps
 finds-none shape g areas steps found nowhere = tt
 finds-none shape g areas steps found (empty area areas' first more found' snapshot later) =
     none-append first more (snapshot-none shape _ first 0 snapshot) (finds-none shape g areas' more found' later)
-finds-none shape g areas steps found (some area areas' steps' blocks snapshot there) = snapshot-none shape _ steps' blocks snapshot
+finds-none shape g areas steps found (some area areas' steps' blocks snapshot there) =
+    snapshot-none shape _ steps' blocks snapshot
 
-blocks-none : (shape : Shape) (areas : List Area) (g : PlaceId) (n : ℕ) (room : Bool) (steps : List Step) (answer : OrderVerdict)
+blocks-none : (shape : Shape) (areas : List Area) (g : PlaceId) (n : ℕ) (room : Bool) (steps : List Step)
+    (answer : OrderVerdict)
     → Blocks shape areas g n room steps answer → SetsNone steps
-blocks-none shape areas g n true steps answer blocks = finds-none shape g (areas_from n areas) steps answer.area blocks.0
+blocks-none shape areas g n true steps answer blocks =
+    finds-none shape g (areas_from n areas) steps answer.area blocks.0
 blocks-none shape areas g n false steps answer blocks = subst SetsNone (sym blocks.0) tt
 
-further-none : (shape : Shape) (areas : List Area) (g : PlaceId) (limit order : ℕ) (verdict : Verdict) (steps : List Step) (answer : OrderVerdict)
+further-none : (shape : Shape) (areas : List Area) (g : PlaceId) (limit order : ℕ) (verdict : Verdict)
+    (steps : List Step) (answer : OrderVerdict)
     → Further shape areas g limit order verdict steps answer → SetsNone steps
 further-none shape areas g limit zero verdict steps answer blocks = subst SetsNone (sym blocks.0) tt
 further-none shape areas g limit (suc n) verdict steps answer blocks =
     blocks-none shape areas g (suc n) (has_room limit (suc n) verdict.free) steps answer blocks
 
-order-none : (shape : Shape) (areas : List Area) (g : PlaceId) (limit order : ℕ) (steps : List Step) (answer : OrderVerdict)
+order-none : (shape : Shape) (areas : List Area) (g : PlaceId) (limit order : ℕ) (steps : List Step)
+    (answer : OrderVerdict)
     → IsOrderTest shape areas g limit order steps answer → SetsNone steps
 order-none shape areas g limit order steps answer call = subst SetsNone (sym call.in_order)
     (none-append call.test call.further (test-none shape g limit call.test call.verdict call.tests)
     (further-none shape areas g limit order call.verdict call.further answer call.blocks))
 
-balance-none : (shape : Shape) (areas : List Area) (limit : ℕ → ℕ) (order : ℕ) (gs : List ℕ) (steps : List Step) (answer : Balance)
+balance-none : (shape : Shape) (areas : List Area) (limit : ℕ
+    → ℕ) (order : ℕ) (gs : List ℕ) (steps : List Step) (answer : Balance)
     → Balances shape areas limit order gs steps answer → SetsNone steps
 balance-none shape areas limit order gs steps answer no_zone = tt
 balance-none shape areas limit order gs steps answer (fails g gs' first more verdict answer' test failed later) =
@@ -105,7 +119,8 @@ balance-none shape areas limit order gs steps answer (passes g gs' steps' verdic
 -- the thresholds of one CPU in one zone
 module _ (facts : Facts) (rule normal : ZoneSize → ℕ → ℕ → Type 0) (p : ℕ) (online : List CpuId) (c : CpuId)
     (among : IsOneOf c online) (g : ℕ) where
-  states-mark : (n : ℕ) (states : List CpuState) (before : ℕ) → last_mark g (in_turn state_steps n states) before ≡ before
+  states-mark : (n : ℕ) (states : List CpuState) (before : ℕ)
+      → last_mark g (in_turn state_steps n states) before ≡ before
   states-mark n [] before = refl
   states-mark n (x ∷ xs) before = states-mark (suc n) xs before
 
@@ -128,7 +143,8 @@ module _ (facts : Facts) (rule normal : ZoneSize → ℕ → ℕ → Type 0) (p 
   thresholds-mark z t [] before = refl
   thresholds-mark z t (d ∷ cs) before = thresholds-mark z t cs before
 
-  thresholds-elsewhere : (z t : ℕ) (cs : List CpuId) (before : Option ℕ) → z ≢ g → last_set c.number g (threshold_steps z t cs) before ≡ before
+  thresholds-elsewhere : (z t : ℕ) (cs : List CpuId) (before : Option ℕ) → z ≢ g
+      → last_set c.number g (threshold_steps z t cs) before ≡ before
   thresholds-elsewhere z t [] before elsewhere = refl
   thresholds-elsewhere z t (d ∷ cs) before elsewhere =
       ap (λ (b : Bool). last_set c.number g (threshold_steps z t cs) (if b then Some t else before))
@@ -138,21 +154,25 @@ module _ (facts : Facts) (rule normal : ZoneSize → ℕ → ℕ → Type 0) (p 
   thresholds-stay : (t : ℕ) (cs : List CpuId) → last_set c.number g (threshold_steps g t cs) (Some t) ≡ Some t
   thresholds-stay t [] = refl
   thresholds-stay t (d ∷ cs) =
-      ap (last_set c.number g (threshold_steps g t cs)) (same (nat_eq d.number c.number && nat_eq g g)) ∙ thresholds-stay t cs
+      ap (last_set c.number g (threshold_steps g t cs)) (same (nat_eq d.number c.number && nat_eq g g))
+      ∙ thresholds-stay t cs
     where
       same : (b : Bool) → (if b then Some t else Some t) ≡ Some t
       same true = refl
       same false = refl
 
-  thresholds-here : (t : ℕ) (cs : List CpuId) (before : Option ℕ) → IsOneOf c cs → last_set c.number g (threshold_steps g t cs) before ≡ Some t
+  thresholds-here : (t : ℕ) (cs : List CpuId) (before : Option ℕ) → IsOneOf c cs
+      → last_set c.number g (threshold_steps g t cs) before ≡ Some t
   thresholds-here t [] before is = absurd is
   thresholds-here t (d ∷ cs) before is = ⊎_elim
       (λ (here : c ≡ d).
       let cpu : nat_eq d.number c.number ≡ true = eq-eqb d.number c.number (ap (λ (o : CpuId). o.number) (sym here)) in
       let zone : nat_eq g g ≡ true = eq-eqb g g refl in
       let both : (nat_eq d.number c.number && nat_eq g g) ≡ true = rw (cpu, zone) refl in
-      ap (λ (b : Bool). last_set c.number g (threshold_steps g t cs) (if b then Some t else before)) both ∙ thresholds-stay t cs)
-      (λ (later : IsOneOf c cs). thresholds-here t cs (if nat_eq d.number c.number && nat_eq g g then Some t else before) later)
+      ap (λ (b : Bool). last_set c.number g (threshold_steps g t cs) (if b then Some t else before)) both
+      ∙ thresholds-stay t cs)
+      (λ (later : IsOneOf c cs).
+      thresholds-here t cs (if nat_eq d.number c.number && nat_eq g g then Some t else before) later)
       is
 
   -- where the mark was found to be this, the threshold that was set last is one of the rule
@@ -191,12 +211,15 @@ module _ (facts : Facts) (rule normal : ZoneSize → ℕ → ℕ → Type 0) (p 
       ∙ thresholds-mark z t' online n in
       let set_is : last_set c.number g ks set ≡ last_set c.number g thresholds set =
       ap (λ xs. last_set c.number g xs set) parts ∙ last_set-append c.number g set_mark thresholds set
-      ∙ ap (last_set c.number g thresholds) (last_set-none c.number g set_mark set (mark_steps-none z m' (mark_for facts p online h' z rates.usual t'))) in
+      ∙ ap (last_set c.number g thresholds)
+      (last_set-none c.number g set_mark set (mark_steps-none z m' (mark_for facts p online h' z rates.usual t')))
+      in
       ⊎_elim
       (λ (here : z ≡ g). λ other. (
         t',
         subst (λ n. rule (size_at facts.sizes n) (length online) t') here rates.by_rule,
-        set_is ∙ ap (λ n. last_set c.number g (threshold_steps n t' online) set) here ∙ thresholds-here t' online set among,
+        set_is ∙ ap (λ n. last_set c.number g (threshold_steps n t' online) set) here
+            ∙ thresholds-here t' online set among,
       ))
       (λ (elsewhere : z ≡ g → ⊥).
       let kept : last_set c.number g ks set ≡ set = set_is ∙ thresholds-elsewhere z t' online set elsewhere in
@@ -205,7 +228,8 @@ module _ (facts : Facts) (rule normal : ZoneSize → ℕ → ℕ → Type 0) (p 
       subst (λ n. Has n (last_set c.number g ks set)) (sym same) (subst (λ o. Has mark o) (sym kept) has))
       (cases_eq z g)
 
-  visit-has : (z t : ℕ) (h : History) (steps : List Step) → Visits facts normal p online (RatesMarked facts normal p online rule) z t h steps
+  visit-has : (z t : ℕ) (h : History) (steps : List Step)
+      → Visits facts normal p online (RatesMarked facts normal p online rule) z t h steps
       → (mark : ℕ) (set : Option ℕ) → Has mark set → Has (last_mark g steps mark) (last_set c.number g steps set)
   visit-has z t h steps visit mark set has =
       let found = acknowledged_steps z online visit.numbers in
@@ -217,7 +241,8 @@ module _ (facts : Facts) (rule normal : ZoneSize → ℕ → ℕ → Type 0) (p 
       ∙ ap (last_mark g (load ∷ visit.further)) (acknowledged-mark z online visit.numbers mark) in
       let set_is : last_set c.number g steps set ≡ last_set c.number g visit.further set =
       ap (λ ks. last_set c.number g ks set) parts ∙ last_set-append c.number g found (load ∷ visit.further) set
-      ∙ ap (last_set c.number g (load ∷ visit.further)) (last_set-none c.number g found set (acknowledged-none z online visit.numbers)) in
+      ∙ ap (last_set c.number g (load ∷ visit.further))
+      (last_set-none c.number g found set (acknowledged-none z online visit.numbers)) in
       subst (λ n. Has n (last_set c.number g steps set)) (sym mark_is)
       (subst (λ o. Has (last_mark g visit.further (if nat_eq z g then visit.mark.mark else mark)) o) (sym set_is)
       (marked-has z t visit.mark.mark (after p visit.loads h) visit.further visit.rated mark set has))
@@ -238,7 +263,8 @@ one-of_contained c (d ∷ ds) (zero, less, is) = inl (sym is)
 one-of_contained c (d ∷ ds) (suc i, less, is) = inr (one-of_contained c ds (i, omega arith, is))
 
 -- after steps that came before, a call leaves thresholds of its rule
-node-leaves : (facts : Facts) (rule normal : ZoneSize → ℕ → ℕ → Type 0) (n : PlaceId) (p : ℕ) (h : History) (call before : List Step)
+node-leaves : (facts : Facts) (rule normal : ZoneSize → ℕ → ℕ
+    → Type 0) (n : PlaceId) (p : ℕ) (h : History) (call before : List Step)
     (rates : RatesNode facts rule normal n p h call) → LeavesByRule facts rule rates.states call (before ++ call)
 node-leaves facts rule normal n p h call before rates g c found is =
     let online = online_from 0 rates.states in
@@ -251,8 +277,10 @@ node-leaves facts rule normal n p h call before rates g c found is =
     let set_is : last_set c.number g (before ++ call) None ≡ last_set c.number g rates.further earlier =
     last_set-append c.number g before call None ∙ ap (λ ks. last_set c.number g ks earlier) rates.in_order
     ∙ last_set-append c.number g loads rates.further earlier
-    ∙ ap (last_set c.number g rates.further) (last_set-none c.number g loads earlier (states-none facts rule normal p online c among g 0 rates.states)) in
-    let has = visits-have facts rule normal p online c among g (zones_on facts.layout (node_number facts.layout n)) rates.thresholds
+    ∙ ap (last_set c.number g rates.further)
+    (last_set-none c.number g loads earlier (states-none facts rule normal p online c among g 0 rates.states)) in
+    let has = visits-have facts rule normal p online c among g (zones_on facts.layout (node_number facts.layout n))
+    rates.thresholds
     (after p loads h) rates.further rates.visits 0 earlier (λ some. absurd (some refl)) in
     let by_rule = has (λ none. found (mark_is ∙ none)) in
     record { t = by_rule.0; by_rule = by_rule.1; last = set_is ∙ by_rule.2 }
@@ -261,12 +289,14 @@ pub leaves-normal : (pressure normal : ZoneSize → ℕ → ℕ → Type 0) → 
 leaves-normal pressure normal facts areas n order most p h steps g verdict turn =
     subst (λ ks. LeavesByRule facts normal turn.settles.states turn.further ks)
     (append_assoc turn.pressed turn.test turn.further ∙ sym turn.in_order)
-    (node-leaves facts normal normal n p (after p (turn.pressed ++ turn.test) h) turn.further (turn.pressed ++ turn.test) turn.settles)
+    (node-leaves facts normal normal n p (after p (turn.pressed ++ turn.test) h) turn.further
+    (turn.pressed ++ turn.test) turn.settles)
 
 pub leaves-pressure : (pressure normal : ZoneSize → ℕ → ℕ → Type 0) → LeavesPressure pressure normal
 leaves-pressure pressure normal facts areas n order most p h steps turn g c found is =
     let left = node-leaves facts pressure normal n p h turn.pressed [] turn.presses g c found is in
-    let nothing = balance-none facts.layout areas (high_limit facts most) order (zones_up_to facts.layout most (node_number facts.layout n))
+    let nothing = balance-none facts.layout areas (high_limit facts most) order
+    (zones_up_to facts.layout most (node_number facts.layout n))
     turn.test No turn.tests in
     let same : last_set c.number g steps None ≡ last_set c.number g turn.pressed None =
     ap (λ ks. last_set c.number g ks None) (turn.in_order ∙ ap (λ ks. turn.pressed ++ (turn.test ++ ks)) turn.settles)

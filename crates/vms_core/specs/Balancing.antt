@@ -1,5 +1,5 @@
--- The steps of a balance test of a node and of a turn of kswapd, and what each answers (`zone_watermark_ok`,
--- `pgdat_balanced` and `balance_pgdat` of mm).
+-- The steps of a balance test of a node and of a turn of kswapd, and what each answers (`__zone_watermark_ok` of
+-- mm/page_alloc.c, `pgdat_balanced` and `kswapd_try_to_sleep` of mm/vmscan.c).
 use Rattle.std.specs.Prelude.{◌≡◌, ◌≢◌, ℕ, suc, zero, ◌+◌, ◌-◌, ◌^◌, nat_le, nat_lt, Bool, true, false, List, [], ◌∷◌, ◌++◌, length, map, filter, slice_index_or, Option, Some, None, is_some}
 use Rattle.vms_base.specs.declared.ids.CounterId.{CounterId}
 use Rattle.vms_base.specs.declared.ids.PlaceId.{PlaceId}
@@ -86,7 +86,8 @@ pub data Balances (shape : Shape) (areas : List Area) (limit : ℕ → ℕ) (ord
   no_zone : Balances shape areas limit order [] [] No
   fails : (g : ℕ) (gs : List ℕ) (first rest : List Step) (verdict : OrderVerdict) (answer : Balance)
       → IsOrderTest shape areas (record { number = g }) (limit g) order first verdict → verdict.yes ≡ false
-      → Balances shape areas limit order gs rest answer → Balances shape areas limit order (g ∷ gs) (first ++ rest) answer
+      → Balances shape areas limit order gs rest answer
+      → Balances shape areas limit order (g ∷ gs) (first ++ rest) answer
   passes : (g : ℕ) (gs : List ℕ) (steps : List Step) (verdict : OrderVerdict)
       → IsOrderTest shape areas (record { number = g }) (limit g) order steps verdict → verdict.yes ≡ true
       → Balances shape areas limit order (g ∷ gs) steps (Yes (record { number = g }) verdict)

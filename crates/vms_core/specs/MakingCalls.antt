@@ -24,7 +24,7 @@ use Rattle.vms_core.specs.Own.{CarriesNothing}
 use Rattle.vms_core.specs.Pages.{History, state_after}
 use Rattle.vms_core.specs.Steps.{turn}
 
--- every pass may load the value of a counter, and of an item
+-- a live pass may load the value of a counter, and of an item
 abbrev pub MakesPlaceValue : Type 0
 MakesPlaceValue = (facts : Facts) (h : History) (p : ℕ) (k : CounterId) (steps : List Step) (answer : ℕ) →
     LivesIn facts h p → IsCounter facts.layout k.number → IsPlaceValue k steps answer → MayMake facts p h steps
@@ -33,13 +33,13 @@ abbrev pub MakesSystemValue : Type 0
 MakesSystemValue = (facts : Facts) (h : History) (p : ℕ) (i : ItemId) (steps : List Step) (answer : ℕ) →
     LivesIn facts h p → IsItem facts.layout i.number → IsSystemValue i steps answer → MayMake facts p h steps
 
--- take a snapshot of a counter
+-- a live pass may take a snapshot of a counter
 abbrev pub MakesSnapshot : Type 0
 MakesSnapshot = (facts : Facts) (h : History) (p : ℕ) (k : CounterId) (steps : List Step) (answer : ℕ) →
     LivesIn facts h p → IsCounter facts.layout k.number → IsSnapshot facts.layout k steps answer →
     MayMake facts p h steps
 
--- and test a watermark of a zone
+-- a live pass may test a watermark of a zone
 abbrev pub MakesTest : Type 0
 MakesTest = (facts : Facts) (h : History) (p : ℕ) (g : PlaceId) (limit : ℕ) (steps : List Step) (answer : Verdict) →
     LivesIn facts h p → IsZone facts.layout g.number → IsWatermarkTest facts.layout g limit steps answer →
@@ -56,23 +56,23 @@ MakesRating rule normal = (facts : Facts) (h : History) (p : ℕ) (online : List
     IsZone facts.layout g → mark_at (state_after facts h) g ≡ m → Rates facts normal p online rule g t m h steps →
     MayMake facts p h steps
 
--- it may set the thresholds of a node's zones under a rule
+-- the control pass may set the thresholds of a node's zones under a rule
 abbrev pub MakesNodeRating : (rule normal : ZoneSize → ℕ → ℕ → Type 0) → Type 0
 MakesNodeRating rule normal = (facts : Facts) (h : History) (p : ℕ) (n : PlaceId) (steps : List Step) →
     ControlsIn facts h p → RatesNode facts rule normal n p h steps → MayMake facts p h steps
 
--- and refresh all thresholds
+-- the control pass may refresh all thresholds
 abbrev pub MakesRefresh : (ZoneSize → ℕ → ℕ → Type 0) → Type 0
 MakesRefresh normal = (facts : Facts) (h : History) (p : ℕ) (steps : List Step) →
     ControlsIn facts h p → Refreshes facts normal p h steps → MayMake facts p h steps
 
--- a pass that carries nothing may fold a CPU, and with acknowledgements the one that it owns
+-- a live pass that carries nothing may fold a CPU, with acknowledgements where it owns the CPU
 abbrev pub MakesFold : Type 0
 MakesFold = (facts : Facts) (h : History) (p : ℕ) (is_own : Bool) (c : CpuId) (steps : List Step) →
     LivesIn facts h p → IsCpu facts.layout c.number → (is_own ≡ true → owner_in turn h p ≡ Some c) →
     CarriesNothing facts.layout (own h p) → IsFold facts.layout is_own c steps → MayMake facts p h steps
 
--- the control pass that carries nothing may bury a dead CPU
+-- the control pass may bury a dead CPU where it carries nothing
 abbrev pub MakesBurial : (ZoneSize → ℕ → ℕ → Type 0) → Type 0
 MakesBurial normal = (facts : Facts) (h : History) (p : ℕ) (c : CpuId) (steps : List Step) →
     ControlsIn facts h p → IsCpu facts.layout c.number → cpu_at (state_after facts h) c.number ≡ Dead →

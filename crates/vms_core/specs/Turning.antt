@@ -33,7 +33,8 @@ with_blocks verdict (area, rest) =
     (record { yes = is_some area; free = verdict.free; fast = verdict.fast; area = area }, rest)
 
 abbrev pub without_blocks : Bool → Verdict → List Step → OrderVerdict × List Step
-without_blocks passed verdict rest = (record { yes = passed; free = verdict.free; fast = verdict.fast; area = None }, rest)
+without_blocks passed verdict rest =
+    (record { yes = passed; free = verdict.free; fast = verdict.fast; area = None }, rest)
 
 abbrev pub read_areas : Shape → List Area → PlaceId → ℕ → ℕ → Verdict × List Step → OrderVerdict × List Step
 read_areas shape areas g limit zero (verdict, rest) = without_blocks verdict.yes verdict rest
@@ -101,7 +102,7 @@ read_turn facts areas n order most steps =
 abbrev pub SomeOnline : List CpuState → Type 0
 SomeOnline states = 1 ≤ length (online_from 0 states)
 
--- so did those of the calls of a turn that set thresholds
+-- so did those of the call that follows the balance test of a turn, where there is one
 abbrev pub SettlesOnline : (facts : Facts) (normal : ZoneSize → ℕ → ℕ → Type 0) (n : PlaceId) (p : ℕ) (answer : Balance)
     (h : History) (steps : List Step) → Settles facts normal n p answer h steps → Type 0
 SettlesOnline facts normal n p (Yes g verdict) h steps rates = SomeOnline rates.states
@@ -144,7 +145,8 @@ pub record HasByRule (facts : Facts) (rule : ZoneSize → ℕ → ℕ → Type 0
   pub by_rule : rule (size_at facts.sizes g) online t
   pub last : last_set c g steps None ≡ Some t
 
--- in each zone whose mark the call found not 0 the steps leave, on each CPU that it found online, a threshold of the rule
+-- in each zone whose mark the call found not 0 the steps leave, on each CPU that it found online, a threshold of the
+-- rule
 abbrev pub LeavesByRule : (facts : Facts) (rule : ZoneSize → ℕ → ℕ → Type 0) (states : List CpuState)
     (call steps : List Step) → Type 0
 LeavesByRule facts rule states call steps = (g : ℕ) (c : CpuId) → last_mark g call 0 ≢ 0 →
@@ -157,7 +159,7 @@ LeavesNormal pressure normal = (facts : Facts) (areas : List Area) (n : PlaceId)
     (turn : IsTurn facts areas pressure normal n order most p h steps (Yes g verdict))
     → LeavesByRule facts normal turn.settles.states turn.further steps
 
--- after no those of the pressure rule
+-- after no a turn leaves thresholds of the pressure rule
 abbrev pub LeavesPressure : (pressure normal : ZoneSize → ℕ → ℕ → Type 0) → Type 0
 LeavesPressure pressure normal = (facts : Facts) (areas : List Area) (n : PlaceId) (order most p : ℕ) (h : History)
     (steps : List Step) (turn : IsTurn facts areas pressure normal n order most p h steps No)
@@ -173,7 +175,7 @@ MakesBalanceTest = (facts : Facts) (areas : List Area) (n : PlaceId) (order most
     (steps : List Step) (answer : Balance) → LivesIn facts h p → AreItems facts.layout areas →
     IsBalanceTest facts areas n order most steps answer → MayMake facts p h steps
 
--- and the control pass may make a turn
+-- the control pass may make a turn, whatever others do between its steps
 abbrev pub MakesTurn : (pressure normal : ZoneSize → ℕ → ℕ → Type 0) → Type 0
 MakesTurn pressure normal = (facts : Facts) (areas : List Area) (n : PlaceId) (order most p : ℕ) (h : History)
     (steps : List Step) (answer : Balance) → ControlsIn facts h p → AreItems facts.layout areas →
@@ -187,7 +189,8 @@ FindsOnline pressure normal = (facts : Facts) (areas : List Area) (n : PlaceId) 
     × SettlesOnline facts normal n p answer (after p (turn.pressed ++ turn.test) h) turn.further turn.settles
 
 -- a zone that passed for an order: the answer is yes, and above order 0 a free block as large was found
-pub record HasPassed (facts : Facts) (n : PlaceId) (order most : ℕ) (g : PlaceId) (verdict : OrderVerdict) : Type 0 where
+pub record HasPassed (facts : Facts) (n : PlaceId) (order most : ℕ) (g : PlaceId) (verdict : OrderVerdict)
+    : Type 0 where
   pub one_of : Contains (zones_up_to facts.layout most (node_number facts.layout n)) g.number
   pub passed : verdict.yes ≡ true
   pub block : order ≢ 0 → (o : ℕ) × (verdict.area ≡ Some o) × (order ≤ o)

@@ -23,9 +23,16 @@ covered : MayMake one_zone 2 begun (SetT cpu zone 5 ∷ [])
 covered = rating-may any any (λ size n t valid some few range. range) (λ size n t valid some few range. range)
     one_zone begun 2 (cpu ∷ []) 0 5 0 (SetT cpu zone 5 ∷ []) begun_control
     (All-cons (λ c. IsCpu one_zone.layout c.number × (cpu_at (state_after one_zone begun) c.number ≡ Online)) cpu []
-    (omega arith, refl) (All-nil (λ c. IsCpu one_zone.layout c.number × (cpu_at (state_after one_zone begun) c.number ≡ Online))))
+    (omega arith, refl) (All-nil (λ c.
+    IsCpu one_zone.layout c.number × (cpu_at (state_after one_zone begun) c.number ≡ Online))))
     (omega arith) (omega arith) refl
-    (record { by_rule = (omega arith, omega arith); usual = 20; by_normal = (omega arith, omega arith); in_order = refl })
+    (record {
+      by_rule = (omega arith, omega arith);
+      usual = 20;
+      by_normal = (omega arith, omega arith);
+      in_order =
+          refl;
+    })
 
 pub returns : goal.returns
 returns c = record {
