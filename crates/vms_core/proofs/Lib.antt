@@ -55,3 +55,4 @@ pub mod TurnReading
 pub mod TurnThresholds
 pub mod TurnRuns
 pub mod TurnFinds
+pub mod InRow

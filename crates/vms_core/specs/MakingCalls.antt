@@ -9,19 +9,21 @@ use Rattle.vms_base.specs.declared.kinds.Mode.{Mode}
 use Rattle.vms_base.specs.declared.kinds.ZoneSize.{ZoneSize}
 use Rattle.vms_base.specs.Places.{IsCpu, IsZone, IsCounter, IsItem}
 use Rattle.vms_core.specs.declared.states.State.{State}
-use Rattle.vms_history.specs.Events.{own}
+use Rattle.vms_history.specs.Events.{own, after}
 use Rattle.vms_history.specs.Passes.{owner_in}
 use Rattle.vms_core.specs.declared.steps.Facts.{Facts}
 use Rattle.vms_core.specs.declared.steps.Step.{Step}
 use Rattle.vms_core.specs.Calls.{IsChange}
 use Rattle.vms_core.specs.Cells.{mark_at, cpu_at}
-use Rattle.vms_core.specs.Controlling.{Rates, RatesNode, Refreshes, Buries}
+use Rattle.vms_core.specs.Conditions.{IsControl}
+use Rattle.vms_core.specs.Controlling.{Rates, RatesNode, Refreshes, Buries, mark_left}
 use Rattle.vms_core.specs.Folding.{IsFold}
 use Rattle.vms_core.specs.Following.{MayChange}
 use Rattle.vms_core.specs.Looking.{Verdict, IsPlaceValue, IsSystemValue, IsSnapshot, IsWatermarkTest}
-use Rattle.vms_core.specs.Making.{MayMake, LivesIn, ControlsIn}
+use Rattle.vms_core.specs.Making.{HasMade, MayMake, LivesIn, ControlsIn}
 use Rattle.vms_core.specs.Own.{CarriesNothing}
 use Rattle.vms_core.specs.Pages.{History, state_after}
+use Rattle.vms_core.specs.Peaks.{sets, threshold_in, peak, cpu_in, peak_sum}
 use Rattle.vms_core.specs.Steps.{turn}
 
 -- a live pass may load the value of a counter, and of an item
@@ -83,3 +85,20 @@ abbrev pub MakesChange : Type 0
 MakesChange = (facts : Facts) (h : History) (p : ℕ) (cpu : CpuId) (k : CounterId) (delta : ℤ) (how : Mode)
     (steps : List Step) → MayChange facts h p cpu k delta → (change : IsChange facts.layout cpu k delta how steps) →
     length change.first.values ≡ 8 → MayMake facts p h steps
+
+-- peaks, thresholds, marks and the CPUs' states are what these steps of pass p in a row make of the earlier history
+pub record AreAsInRow (facts : Facts) (later earlier : History) (p : ℕ) (steps : List Step) : Type 0 where
+  pub sets : (c g : ℕ) → sets c g later ≡ sets c g (after p steps earlier)
+  pub thresholds : (c g : ℕ) → threshold_in facts c g later ≡ threshold_in facts c g (after p steps earlier)
+  pub peaks : (c g : ℕ) → peak facts c g later ≡ peak facts c g (after p steps earlier)
+  pub cpus : (c : ℕ) → cpu_in facts c later ≡ cpu_in facts c (after p steps earlier)
+  pub marks : (g : ℕ) →
+      mark_at (state_after facts later) g ≡ mark_left g (mark_at (state_after facts earlier) g) steps
+  -- and what further steps of the pass would make of the sum of the peaks is the same
+  pub peak_sums : (more : List Step) (g : ℕ) →
+      peak_sum facts g (after p more later) ≡ peak_sum facts g (after p more (after p steps earlier))
+
+-- so it is for what the control pass made while others acted
+abbrev pub KnowsByOwnSteps : Type 0
+KnowsByOwnSteps = (facts : Facts) (later earlier : History) (p : ℕ) (steps : List Step) →
+    HasMade facts later earlier p steps → IsControl earlier p → AreAsInRow facts later earlier p steps

@@ -17,7 +17,8 @@ pub use knowledge::{
     owned_cpus_are_online, passes_know_what_they_own,
 };
 pub use making::{
-    changes_may_be_made, folds_may_be_made, looks_may_be_made, thresholds_may_be_set,
+    changes_may_be_made, control_passes_know_by_own_steps, folds_may_be_made, looks_may_be_made,
+    thresholds_may_be_set,
 };
 pub use peaks::{
     acknowledged_bounds_use, differentials_are_within_peaks, each_beginning_is_within_peaks,

@@ -1,5 +1,5 @@
 ghost use Rattle.vms_core.specs.Making.{GivesThresholds};
-ghost use Rattle.vms_core.specs.MakingCalls.{MakesPlaceValue, MakesSystemValue, MakesSnapshot, MakesTest, MakesRating, MakesNodeRating, MakesRefresh, MakesFold, MakesBurial, MakesChange};
+ghost use Rattle.vms_core.specs.MakingCalls.{MakesPlaceValue, MakesSystemValue, MakesSnapshot, MakesTest, MakesRating, MakesNodeRating, MakesRefresh, MakesFold, MakesBurial, MakesChange, KnowsByOwnSteps};
 
 use crate::ThresholdRules;
 
@@ -30,4 +30,10 @@ pub fn folds_may_be_made()
 /// CPU has volume left.
 pub fn changes_may_be_made()
     ensures { MakesChange }
+{}
+
+/// The control pass knows peaks, thresholds, marks and the CPUs' states by its own steps alone, whatever others did
+/// between them: so the sum of peaks that it computed still stands when it sets a mark and thresholds.
+pub fn control_passes_know_by_own_steps()
+    ensures { KnowsByOwnSteps }
 {}

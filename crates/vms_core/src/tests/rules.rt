@@ -46,6 +46,7 @@ fn rules_and_turns() {
     turns_leave_rules::<AnyThreshold>();
     turns_may_be_made::<AnyThreshold>();
     changes_may_be_made();
+    control_passes_know_by_own_steps();
     folds_may_be_made();
     looks_may_be_made();
 }
