@@ -17,16 +17,16 @@ use Rattle.vms_core.specs.Own.{moved, moved_of_item, entries_of}
 use Rattle.vms_core.specs.Folding.{FoundPlace, HasGroups, IsFold, CarriesAsBefore, to_place, to_system, group_steps, place_steps, system_steps, acknowledges, lists_of, taken_of_item}
 
 -- the sum of a measure of steps
-abbrev sum_steps : (Step → ℤ) → List Step → ℤ
+abbrev pub sum_steps : (Step → ℤ) → List Step → ℤ
 sum_steps m [] = pos 0
 sum_steps m (step ∷ steps) = m step +ℤ sum_steps m steps
 
-total-after : (m : Step → ℤ) (p : ℕ) (steps : List Step) (h : List (Event Step))
+pub total-after : (m : Step → ℤ) (p : ℕ) (steps : List Step) (h : List (Event Step))
     → total m (after p steps h) ≡ sum_steps m steps +ℤ total m h
 total-after m p [] h = omega (arith, ints)
 total-after m p (step ∷ steps) h = omega (arith, ints, total-after m p steps (record { caller = p; step = step } ∷ h))
 
-sum-append : (m : Step → ℤ) (xs ys : List Step) → sum_steps m (xs ++ ys) ≡ sum_steps m xs +ℤ sum_steps m ys
+pub sum-append : (m : Step → ℤ) (xs ys : List Step) → sum_steps m (xs ++ ys) ≡ sum_steps m xs +ℤ sum_steps m ys
 sum-append m [] ys = omega (arith, ints)
 sum-append m (x ∷ xs) ys = omega (arith, ints, sum-append m xs ys)
 
@@ -60,11 +60,11 @@ to_system-of_counter k n (pos (suc d)) = omega (arith, ints)
 to_system-of_counter k n (negsuc d) = omega (arith, ints)
 
 -- the numbers for counter k in a list whose first number is for counter n
-abbrev amount : ℕ → ℕ → List ℤ → ℤ
+abbrev pub amount : ℕ → ℕ → List ℤ → ℤ
 amount k n [] = pos 0
 amount k n (d ∷ ds) = (if nat_eq n k then d else pos 0) +ℤ amount k (suc n) ds
 
-amount-outside : (k n : ℕ) (ds : List ℤ) → (k < n) ⊎ (n + length ds ≤ k) → amount k n ds ≡ pos 0
+pub amount-outside : (k n : ℕ) (ds : List ℤ) → (k < n) ⊎ (n + length ds ≤ k) → amount k n ds ≡ pos 0
 amount-outside k n [] out = refl
 amount-outside k n (d ∷ ds) out =
     let differ : nat_eq n k ≡ false = ne_eqb n k (⊎_elim (λ below e. omega arith) (λ above e. omega arith) out) in
@@ -82,7 +82,7 @@ amount-inside n (suc i) (d ∷ ds) =
     let rest : amount (n + suc i) (suc n) ds ≡ get_or ds i (pos 0) = rw at (amount-inside (suc n) i ds) in
     rw differ (omega (arith, ints, rest))
 
-amount-group : (j k : ℕ) (ds : List ℤ) → length ds ≡ 8
+pub amount-group : (j k : ℕ) (ds : List ℤ) → length ds ≡ 8
     → amount k (8 * j) ds ≡ (if nat_eq j (k / 8) then get_or ds (k % 8) (pos 0) else pos 0)
 amount-group j k ds eight = by (nat_eq j (k / 8)) refl
   where
@@ -105,7 +105,7 @@ adds-moved k n (d ∷ ds) = omega (
   adds-moved k (suc n) ds,
 )
 
-group-moved : (k : ℕ) (c : CpuId) (j : ℕ) (w : Diffs) → length w.values ≡ 8 → sum_steps (moved k) (group_steps c j w) ≡ pos 0
+pub group-moved : (k : ℕ) (c : CpuId) (j : ℕ) (w : Diffs) → length w.values ≡ 8 → sum_steps (moved k) (group_steps c j w) ≡ pos 0
 group-moved k c j w eight = omega (arith, ints, adds-moved k (8 * j) w.values, amount-group j k w.values eight)
 
 adds-of_item : (shape : Shape) (i n : ℕ) (ds : List ℤ) → sum_steps (moved_of_item shape i) (in_turn to_place n ds) ≡ pos 0
@@ -118,14 +118,14 @@ adds-of_item shape i n (d ∷ ds) = omega (
   adds-of_item shape i (suc n) ds,
 )
 
-group-of_item : (shape : Shape) (i : ℕ) (c : CpuId) (j : ℕ) (w : Diffs) → length w.values ≡ 8
+pub group-of_item : (shape : Shape) (i : ℕ) (c : CpuId) (j : ℕ) (w : Diffs) → length w.values ≡ 8
     → sum_steps (moved_of_item shape i) (group_steps c j w) ≡ entries_of shape i j w
 group-of_item shape i c j w eight = omega (arith, ints, adds-of_item shape i (8 * j) w.values)
 
 -- what holds of the steps on each group sums up over the places
 module _ (m : Step → ℤ) (c : CpuId) (worth : ℕ → Diffs → ℤ)
     (group : (j : ℕ) (w : Diffs) → length w.values ≡ 8 → sum_steps m (group_steps c j w) ≡ worth j w) where
-  abbrev worths : ℕ → List Diffs → ℤ
+  abbrev pub worths : ℕ → List Diffs → ℤ
   worths j [] = pos 0
   worths j (w ∷ ws) = worth j w +ℤ worths (suc j) ws
 
@@ -147,7 +147,7 @@ module _ (m : Step → ℤ) (c : CpuId) (worth : ℕ → Diffs → ℤ)
 
   module _ (shape : Shape) (layout : IsLayout shape) (loads : (g : PlaceId) (t a : ℕ) → m (LoadT g t a) ≡ pos 0)
       (sets : (g : PlaceId) (a : ℕ) → m (SetA g a) ≡ pos 0) where
-    place-sum : (b : Bool) (g : ℕ) (found : FoundPlace) → HasGroups shape found
+    pub place-sum : (b : Bool) (g : ℕ) (found : FoundPlace) → HasGroups shape found
         → sum_steps m (place_steps shape b c g found) ≡ worths (group_of (counter_at shape g 0)) found.groups
     place-sum true g found has = omega (
       arith,
@@ -160,10 +160,10 @@ module _ (m : Step → ℤ) (c : CpuId) (worth : ℕ → Diffs → ℤ)
     )
     place-sum false g found has = groups-sum (group_of (counter_at shape g 0)) found.groups has.eight_each
 
-    next_group : (g : ℕ) → group_of (counter_at shape g 0) + shape.positions / 8 ≡ group_of (counter_at shape (suc g) 0)
+    pub next_group : (g : ℕ) → group_of (counter_at shape g 0) + shape.positions / 8 ≡ group_of (counter_at shape (suc g) 0)
     next_group g = ⊎_elim (λ (e : shape.positions ≡ 8). rw e (omega arith)) (λ (e : shape.positions ≡ 16). rw e (omega arith)) layout.positions
 
-    places-sum : (is_own : Bool) (g : ℕ) (places : List FoundPlace) → All (HasGroups shape) places
+    pub places-sum : (is_own : Bool) (g : ℕ) (places : List FoundPlace) → All (HasGroups shape) places
         → sum_steps m (in_turn (λ g found. place_steps shape (acknowledges shape is_own g) c g found) g places)
         ≡ worths (group_of (counter_at shape g 0)) (lists_of places)
     places-sum is_own g [] has = refl
@@ -181,11 +181,11 @@ module _ (m : Step → ℤ) (c : CpuId) (worth : ℕ → Diffs → ℤ)
           ap (λ j. worths j (lists_of places)) at,
         )
 
-nothing-worth : (k : ℕ) (c : CpuId) (j : ℕ) (ws : List Diffs) → worths (moved k) c (λ j w. pos 0) (group-moved k c) j ws ≡ pos 0
+pub nothing-worth : (k : ℕ) (c : CpuId) (j : ℕ) (ws : List Diffs) → worths (moved k) c (λ j w. pos 0) (group-moved k c) j ws ≡ pos 0
 nothing-worth k c j [] = refl
 nothing-worth k c j (w ∷ ws) = omega (arith, ints, nothing-worth k c (suc j) ws)
 
-item-worth : (shape : Shape) (i : ℕ) (c : CpuId) (j : ℕ) (ws : List Diffs)
+pub item-worth : (shape : Shape) (i : ℕ) (c : CpuId) (j : ℕ) (ws : List Diffs)
     → worths (moved_of_item shape i) c (entries_of shape i) (group-of_item shape i c) j ws ≡ taken_of_item shape i j ws
 item-worth shape i c j [] = refl
 item-worth shape i c j (w ∷ ws) = omega (arith, ints, item-worth shape i c (suc j) ws)

@@ -19,13 +19,13 @@ use Rattle.vms_core.proofs.Below.{count_below-least}
 use Rattle.vms_core.proofs.PeakBounds.{threshold_in-within}
 use Rattle.vms_core.proofs.Settings.{mark_after, mark_at-newest}
 
-if_present-least : (x : CpuState) (n m : ℕ) → n ≤ m → if_present x n ≤ if_present x m
+pub if_present-least : (x : CpuState) (n m : ℕ) → n ≤ m → if_present x n ≤ if_present x m
 if_present-least Absent n m less = omega arith
 if_present-least Online n m less = less
 if_present-least Dead n m less = less
 
 -- what covers more covers less
-Covers-less : (size : ZoneSize) (mark more less : ℕ) → less ≤ more → Covers size mark more → Covers size mark less
+pub Covers-less : (size : ZoneSize) (mark more less : ℕ) → less ≤ more → Covers size mark more → Covers size mark less
 Covers-less size mark more less fewer covers = record {
   unset = λ none. omega (arith, covers.unset none);
   set = λ some. omega (arith, covers.set some);

@@ -16,7 +16,7 @@ use Rattle.vms_core.specs.Pages.{History}
 use Rattle.vms_core.specs.Peaks.{sets, sets_after, threshold_in, threshold_after, peak, peak_after, cpu_in, cpu_after, if_present, peak_sum}
 use Rattle.vms_core.proofs.CountLemmas.{count_below-same}
 
-cover_mark-covers : (size : ZoneSize) (linux hidden : ℕ) → Covers size (cover_mark_of size linux hidden) hidden
+pub cover_mark-covers : (size : ZoneSize) (linux hidden : ℕ) → Covers size (cover_mark_of size linux hidden) hidden
 cover_mark-covers size linux hidden = by (nat_eq linux 0) (nat_le hidden (gap_of size)) refl
   where
     by : (a b : Bool) → nat_le hidden (gap_of size) ≡ b
@@ -29,13 +29,13 @@ cover_mark-covers size linux hidden = by (nat_eq linux 0) (nat_le hidden (gap_of
     by false b is = record { unset = λ none. omega arith; set = λ some. omega arith }
 
 -- two histories that differ in no threshold, acknowledgement or CPU state of a zone
-record SamePeaks (facts : Facts) (g : ℕ) (h k : History) : Type 0 where
-  same_sets : (c : ℕ) → sets c g h ≡ sets c g k
-  same_thresholds : (c : ℕ) → threshold_in facts c g h ≡ threshold_in facts c g k
-  same_peaks : (c : ℕ) → peak facts c g h ≡ peak facts c g k
-  same_cpus : (c : ℕ) → cpu_in facts c h ≡ cpu_in facts c k
+pub record SamePeaks (facts : Facts) (g : ℕ) (h k : History) : Type 0 where
+  pub same_sets : (c : ℕ) → sets c g h ≡ sets c g k
+  pub same_thresholds : (c : ℕ) → threshold_in facts c g h ≡ threshold_in facts c g k
+  pub same_peaks : (c : ℕ) → peak facts c g h ≡ peak facts c g k
+  pub same_cpus : (c : ℕ) → cpu_in facts c h ≡ cpu_in facts c k
 
-SamePeaks-next : (facts : Facts) (g : ℕ) (h k : History) (e : Event Step) → SamePeaks facts g h k
+pub SamePeaks-next : (facts : Facts) (g : ℕ) (h k : History) (e : Event Step) → SamePeaks facts g h k
     → SamePeaks facts g (e ∷ h) (e ∷ k)
 SamePeaks-next facts g h k e same = record {
   same_sets = λ c. ap (sets_after c g e.step) (same.same_sets c);
@@ -46,14 +46,14 @@ SamePeaks-next facts g h k e same = record {
   same_cpus = λ c. ap (cpu_after c e.step) (same.same_cpus c);
 }
 
-SamePeaks-after : (facts : Facts) (g p : ℕ) (steps : List Step) (h k : History) → SamePeaks facts g h k
+pub SamePeaks-after : (facts : Facts) (g p : ℕ) (steps : List Step) (h k : History) → SamePeaks facts g h k
     → SamePeaks facts g (after p steps h) (after p steps k)
 SamePeaks-after facts g p [] h k same = same
 SamePeaks-after facts g p (step ∷ steps) h k same =
     SamePeaks-after facts g p steps (record { caller = p; step = step } ∷ h) (record { caller = p; step = step } ∷ k)
     (SamePeaks-next facts g h k (record { caller = p; step = step }) same)
 
-peak_sum-same : (facts : Facts) (g : ℕ) (h k : History) → SamePeaks facts g h k → peak_sum facts g h ≡ peak_sum facts g k
+pub peak_sum-same : (facts : Facts) (g : ℕ) (h k : History) → SamePeaks facts g h k → peak_sum facts g h ≡ peak_sum facts g k
 peak_sum-same facts g h k same =
     count_below-same (λ c. if_present (cpu_in facts c h) (peak facts c g h))
     (λ c. if_present (cpu_in facts c k) (peak facts c g k)) facts.layout.cpus

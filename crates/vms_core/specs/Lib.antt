@@ -21,3 +21,8 @@ pub mod Taken
 pub mod Drift
 pub mod Bounded
 pub mod Knowledge
+pub mod Making
+pub mod MakingCalls
+pub mod Balancing
+pub mod Turning
+pub mod TurnExamples

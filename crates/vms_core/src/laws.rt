@@ -6,6 +6,7 @@ ghost use Rattle.vms_core.specs.Pages.{History, IsLegal, state_after, KeepsTotal
 mod bounded;
 mod drift;
 mod knowledge;
+mod making;
 mod peaks;
 mod taken;
 
@@ -14,6 +15,10 @@ pub use drift::{drift_is_bounded, system_drift_is_bounded};
 pub use knowledge::{
     control_steps_stay_allowed, exchanges_win_or_miss, found_lists_stand, own_steps_stay_allowed,
     owned_cpus_are_online, passes_know_what_they_own,
+};
+pub use making::{
+    changes_may_be_made, control_passes_know_by_own_steps, folds_may_be_made, looks_may_be_made,
+    thresholds_may_be_set,
 };
 pub use peaks::{
     acknowledged_bounds_use, differentials_are_within_peaks, each_beginning_is_within_peaks,
