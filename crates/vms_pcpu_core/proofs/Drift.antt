@@ -13,9 +13,10 @@ use Rattle.vms_history.proofs.Prefixes.{base_can_begin}
 use Rattle.vms_history.proofs.SumBounds.{sum_below-size}
 use Rattle.vms_pcpu_core.specs.declared.steps.PcpuFacts.{PcpuFacts}
 use Rattle.vms_pcpu_core.specs.States.{batch_at, local_at, IsPcpu}
+use Rattle.vms_pcpu_core.specs.Calls.{unknown}
 use Rattle.vms_pcpu_core.specs.Own.{carried}
 use Rattle.vms_pcpu_core.specs.Steps.{turn}
-use Rattle.vms_pcpu_core.specs.Totals.{is_present, present}
+use Rattle.vms_pcpu_core.specs.Totals.{is_present, locals, present}
 use Rattle.vms_pcpu_core.specs.Histories.{percpu, History, IsLegal}
 use Rattle.vms_pcpu_core.specs.Laws.{numbers_after, DriftsLittle}
 use Rattle.vms_pcpu_core.proofs.Bounds.{locals-bounded}
@@ -23,7 +24,7 @@ use Rattle.vms_pcpu_core.proofs.Sizes.{sizes}
 use Rattle.vms_pcpu_core.proofs.Totals.{totals-kept}
 
 -- a sum over CPUs in which each present one has at most b and an absent one nothing
-present-bound : (cpus : List CpuState) (f : ℕ → ℤ) (b n : ℕ) → n ≤ length cpus
+pub present-bound : (cpus : List CpuState) (f : ℕ → ℤ) (b n : ℕ) → n ≤ length cpus
     → ((c : ℕ) → c < n → f c ≤ℤ pos b) → ((c : ℕ) → c < n → get_or cpus c Absent ≡ Absent → f c ≤ℤ pos 0)
     → sum_below f n ≤ℤ pos (b * count_by is_present (take n cpus))
 present-bound cpus f b zero within below none = omega (arith, ints)
@@ -65,6 +66,13 @@ locals-hide facts h j legal j_in =
     (omega (arith, base.lengths.one_state_each))
     (λ c below. let within = bounds.within c j below j_in in omega (arith, ints))
     (λ c below absent. let none = bounds.absent c j below absent j_in in omega (arith, ints)))
+
+-- the local parts together hide no more than `unknown`
+pub locals-size : (facts : PcpuFacts) (h : History) (j : ℕ) → IsLegal facts h → IsPcpu facts j
+    → pos (unsigned_abs (locals facts.layout (numbers_after facts h) j)) ≤ℤ pos (unknown facts j)
+locals-size facts h j legal j_in =
+    let size = sum_below-size (λ c. local_at (numbers_after facts h) c j) facts.layout.cpus in
+    omega (arith, ints, size, locals-hide facts h j legal j_in)
 
 pub counts-drift : (facts : PcpuFacts) (h : History) → IsLegal facts h → DriftsLittle facts h
 counts-drift facts h legal j j_in =

@@ -10,5 +10,8 @@ pub mod Laws
 pub mod Calls
 pub mod Readings
 pub mod Watching
+pub mod Making
+pub mod Summing
+pub mod Limits
 pub mod Past
 pub mod Verdicts

@@ -9,10 +9,13 @@ mod checking;
 mod conditions;
 mod holdings;
 mod laws;
+mod limits;
+mod making;
 mod passes;
 mod standing;
 mod states;
 mod steps;
+mod summing;
 mod tables;
 #[cfg(test)]
 mod tests;
@@ -28,7 +31,10 @@ pub use laws::{
     counts_drift_little, dead_locals_move_once, locals_are_bounded, numbers_are_small, one_holder,
     shape_is_kept, totals_are_kept,
 };
+pub use limits::{limited_add_alone_is_exact, limited_add_keeps_limit};
+pub use making::calls_stand_in_histories;
 pub use states::PcpuState;
 pub use steps::{Event, PcpuFacts, PcpuStep};
+pub use summing::{compare_tells_sign, sum_reads_true_total};
 pub use tables::Percpu;
 pub use watching::{holder_acts_alone, own_part_stays, rough_sign_is_true, sum_is_true_total};

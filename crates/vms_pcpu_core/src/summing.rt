@@ -1,0 +1,30 @@
+ghost use Rattle.std.specs.Prelude.{◌≡◌, ℕ, ℤ, true, false, List};
+ghost use Rattle.vms_base.specs.declared.ids.PcpuId.{PcpuId};
+ghost use Rattle.vms_pcpu_core.specs.declared.answers.Compare.{Compare};
+ghost use Rattle.vms_pcpu_core.specs.declared.steps.PcpuFacts.{PcpuFacts};
+ghost use Rattle.vms_pcpu_core.specs.declared.steps.PcpuStep.{PcpuStep};
+ghost use Rattle.vms_pcpu_core.specs.Calls.{IsCompare, IsSum, present_cpus, unknown};
+ghost use Rattle.vms_pcpu_core.specs.Histories.{History};
+ghost use Rattle.vms_pcpu_core.specs.Making.{MadeSteps};
+ghost use Rattle.vms_pcpu_core.specs.Summing.{SumsUp, TellsRoughly, TellsBySum};
+
+/// A sum answers the true total when it won the lock, and what each CPU added to its local part from there to the load
+/// of that part.
+pub fn sum_reads_true_total()
+    ensures { (facts : PcpuFacts) (earlier later : History) (p : ℕ) (j : PcpuId) (steps : List PcpuStep)
+        (answer : ℤ) → MadeSteps facts earlier later p steps → IsSum (present_cpus facts) j steps answer →
+        SumsUp facts earlier later p j answer }
+{}
+
+/// A rough comparison tells the sign of the true total, less what is carried, less the other number, when it loaded
+/// the count; one that is not rough tells that of a sum.
+pub fn compare_tells_sign()
+    ensures rough { (facts : PcpuFacts) (earlier later : History) (p : ℕ) (j : PcpuId) (rhs : ℤ)
+        (steps : List PcpuStep) (answer : Compare) → MadeSteps facts earlier later p steps →
+        IsCompare (unknown facts j.number) (present_cpus facts) j rhs steps answer →
+        answer.rough ≡ true → TellsRoughly facts earlier later p j rhs answer }
+    ensures by_sum { (facts : PcpuFacts) (earlier later : History) (p : ℕ) (j : PcpuId) (rhs : ℤ)
+        (steps : List PcpuStep) (answer : Compare) → MadeSteps facts earlier later p steps →
+        IsCompare (unknown facts j.number) (present_cpus facts) j rhs steps answer →
+        answer.rough ≡ false → TellsBySum facts earlier later p j rhs answer }
+{}
