@@ -14,6 +14,7 @@ mod tests;
 mod worlds;
 
 pub use calls::{answers_are_told, changes_miss_once, folds_move_all, ratings_cover};
+pub use differentials::overstep;
 pub use laws::{
     acknowledged_bounds_use, control_steps_stay_allowed, dead_cpus_move_once,
     differentials_are_bounded, differentials_are_within_peaks, drift_is_bounded,
