@@ -13,6 +13,3 @@ pub mod Locks
 pub mod DeadLocals
 pub mod Readings
 pub mod Watched
-pub mod PastEvents
-pub mod PastNumbers
-pub mod Checks

@@ -10,5 +10,3 @@ pub mod Laws
 pub mod Calls
 pub mod Readings
 pub mod Watching
-pub mod Past
-pub mod Verdicts
