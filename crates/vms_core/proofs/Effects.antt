@@ -13,6 +13,7 @@ use Rattle.vms_core.specs.declared.steps.Step.TheVariants.{Put, AddG, AddS, Take
 use Rattle.vms_core.specs.Cells.{HasShape, counters_of, places_of, zones_of, value_at, system_at, threshold_sets_at, mark_sets_at, diff_at, entry, with_value, with_diff, with_group_zeroed}
 use Rattle.vms_core.specs.Changes.{differential_after}
 use Rattle.vms_core.specs.Conditions.{Meets, Owns}
+pub use Rattle.vms_core.specs.Effects.{diff_after, value_after, system_after}
 use Rattle.vms_core.specs.Steps.{turn, effect, effect_of, own_effect}
 use Rattle.vms_core.proofs.CellLemmas.{get_or-zeroed_cells, length-zeroed}
 
@@ -51,24 +52,6 @@ pub HasShape-effect : (shape : Shape) (facts : Facts) (who : Option CpuId) (step
 HasShape-effect shape facts None step s shaped = HasShape-effect_of shape step s shaped
 HasShape-effect shape facts (Some c) step s shaped =
     HasShape-own_effect shape c step (effect_of step s) (HasShape-effect_of shape step s shaped)
-
--- the differential of CPU c for counter k after a step of a pass that owns `who`
-abbrev pub diff_after : Option CpuId → ℕ → ℕ → Step → ℤ → ℤ
-diff_after (Some d) c k (Put l w t delta how) before =
-    if nat_eq d.number c && nat_eq l.number k then differential_after how t (entry w.values l.number) delta else before
-diff_after who c k (Take d j w) before =
-    if nat_eq d.number c && nat_eq j.number (group_of k) then pos 0 else before
-diff_after who c k _ before = before
-
--- the global value of counter k after a step
-abbrev pub value_after : ℕ → Step → ℤ → ℤ
-value_after k (AddG l a) before = if nat_eq l.number k then before +ℤ a else before
-value_after k _ before = before
-
--- the system-wide value of item i after a step
-abbrev pub system_after : ℕ → Step → ℤ → ℤ
-system_after i (AddS l a) before = if nat_eq l.number i then before +ℤ a else before
-system_after i _ before = before
 
 -- a group ends within the counters
 pub group-within : (n j : ℕ) → j < n / 8 → 8 * j + 8 ≤ n

@@ -16,6 +16,7 @@ use Rattle.vms_core.specs.declared.steps.Step.{Step}
 use Rattle.vms_core.specs.declared.steps.Step.TheVariants.{SetT, SetM, SetO, SetA}
 use Rattle.vms_core.specs.Cells.{HasShape, places_of, zones_of, threshold_at, threshold_sets_at, mark_at, cpu_at, acknowledged_at}
 use Rattle.vms_core.specs.Conditions.{Meets}
+pub use Rattle.vms_core.specs.Effects.{mark_after, acknowledged_after}
 use Rattle.vms_core.specs.Pages.{pages, History, IsLegal, state_after}
 use Rattle.vms_core.specs.Peaks.{sets_after, threshold_after, cpu_after}
 use Rattle.vms_core.specs.PeakLaws.{TellsThresholds, TellsNumbers, TellsCpus}
@@ -24,19 +25,10 @@ use Rattle.vms_core.proofs.Effects.{owned}
 use Rattle.vms_core.proofs.PlainData.{places_of-shaped}
 use Rattle.vms_core.proofs.Shapes.{HasShape-state_after}
 
--- what a CPU acknowledged last of a zone, after a step of a pass that owns `who`; no node's threshold is acknowledged
-abbrev pub acknowledged_after : Option CpuId → ℕ → ℕ → Step → Option ℕ → Option ℕ
-acknowledged_after (Some d) c g (SetA f a) before = if nat_eq d.number c && nat_eq f.number g then Some a else before
-acknowledged_after who c g _ before = before
-
+-- what a CPU acknowledged last of a zone in a history
 abbrev pub acknowledged_in : ℕ → ℕ → History → Option ℕ
 acknowledged_in c g [] = None
 acknowledged_in c g (e ∷ h) = acknowledged_after (owner_in turn h e.caller) c g e.step (acknowledged_in c g h)
-
--- the mark of a zone after a step
-abbrev pub mark_after : ℕ → Step → ℕ → ℕ
-mark_after g (SetM f m) before = if nat_eq f.number g then m else before
-mark_after g _ before = before
 
 module _ (facts : Facts) (h : List (Event Step)) (s : State) (p : ℕ) (layout : IsLayout facts.layout)
     (shaped : HasShape facts.layout s) where
@@ -167,7 +159,7 @@ module _ (facts : Facts) (e : Event Step) (h : History) (legal : IsLegal facts (
   mark_at-newest g =
       mark_at-effect facts h (state_after facts h) e.caller layout shaped (owner_in turn h e.caller) e.step g legal.2
 
-  acknowledged_at-newest : (c g : ℕ) → IsZone facts.layout g → acknowledged_at (state_after facts (e ∷ h)) c g
+  pub acknowledged_at-newest : (c g : ℕ) → IsZone facts.layout g → acknowledged_at (state_after facts (e ∷ h)) c g
       ≡ acknowledged_after (owner_in turn h e.caller) c g e.step (acknowledged_at (state_after facts h) c g)
   acknowledged_at-newest c g zone =
       acknowledged_at-effect facts h (state_after facts h) e.caller layout shaped (owner_in turn h e.caller) e.step c g

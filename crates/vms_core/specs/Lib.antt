@@ -1,6 +1,7 @@
 pub mod Cells
 pub mod Changes
 pub mod Steps
+pub mod Effects
 pub mod Own
 pub mod Totals
 pub mod Peaks

@@ -16,6 +16,7 @@ mod turns;
 mod worlds;
 
 pub use calls::{answers_are_told, changes_miss_once, folds_move_all, ratings_cover};
+pub use differentials::overstep;
 pub use laws::{
     acknowledged_bounds_use, changes_may_be_made, control_passes_know_by_own_steps,
     control_steps_stay_allowed, dead_cpus_move_once, differentials_are_bounded,

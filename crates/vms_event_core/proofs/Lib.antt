@@ -6,5 +6,4 @@ pub mod Totals
 pub mod Bounds
 pub mod DeadCpus
 pub mod CallLemmas
-pub mod BegunPasses
 pub mod OnlineCpus

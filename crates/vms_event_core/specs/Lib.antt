@@ -6,4 +6,3 @@ pub mod Bases
 pub mod Conditions
 pub mod Events
 pub mod Calls
-pub mod Judging

@@ -2,8 +2,6 @@
 #![tactic(auto)]
 
 mod calls;
-mod checking;
-mod judging;
 mod laws;
 mod states;
 mod steps;
@@ -12,7 +10,6 @@ mod tables;
 mod tests;
 
 pub use calls::{answers_are_read, folds_carry_nothing, online_words_grow};
-pub use judging::{Judgement, judge};
 pub use laws::{
     control_passes_carry, dead_words_move_once, each_beginning_is_kept, shape_is_kept,
     spending_is_known, totals_are_kept, words_are_bounded,

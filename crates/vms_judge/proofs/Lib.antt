@@ -1,5 +1,3 @@
 pub mod Prefixes
-pub mod Numbers
-pub mod StateLaws
-pub mod Beyond
 pub mod Given
+pub mod OneVerdict

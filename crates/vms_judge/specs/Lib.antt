@@ -1,3 +1,2 @@
-pub mod Numbers
-pub mod Openings
-pub mod Judging
+pub mod Turns
+pub mod Verdicts

@@ -1,26 +1,22 @@
-//! A plain, slow program whose contract is the definition of a legal history of page steps.
+//! Judges a list of events by the definition of a legal history, for every table.
+//!
+//! A table answers of its base, of one pass and of one step whether what its machine asks holds. What the passes may
+//! do, and which event is the first that isn't legal, stands here once. Nothing takes memory.
 #![tactic(auto)]
 
 mod acting;
-mod bases;
-mod carried;
-mod carrying;
-mod cells;
-mod changes;
-mod conditions;
-mod control;
-mod covering;
 mod judging;
-mod loads;
-mod openings;
-mod own;
-mod owners;
+mod laws;
 mod passes;
-mod peaks;
-mod states;
+mod tables;
 #[cfg(test)]
 mod tests;
-mod totals;
-mod worker;
+mod turns;
+mod verdicts;
 
-pub use judging::{Verdict, judge};
+pub use judging::judge;
+pub use laws::one_verdict;
+pub use passes::{begun, lives, owner};
+pub use tables::{Judged, Turning};
+pub use turns::Turn;
+pub use verdicts::Verdict;

@@ -22,6 +22,3 @@ pub mod WithoutLock
 pub mod UnderLock
 pub mod LimitedAdds
 pub mod Alone
-pub mod PastEvents
-pub mod PastNumbers
-pub mod Checks

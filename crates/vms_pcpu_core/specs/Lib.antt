@@ -13,5 +13,3 @@ pub mod Watching
 pub mod Making
 pub mod Summing
 pub mod Limits
-pub mod Past
-pub mod Verdicts

@@ -1,24 +1,15 @@
 //! The percpu counters as a model: states, the ten kinds of atomic step, legal histories, and what holds of each.
 #![tactic(auto)]
 
-mod acting;
 mod answers;
-mod bases;
 mod calls;
-mod checking;
-mod conditions;
-mod holdings;
 mod laws;
 mod limits;
 mod making;
-mod passes;
-mod standing;
 mod states;
 mod steps;
 mod summing;
 mod tables;
-#[cfg(test)]
-mod tests;
 mod watching;
 
 pub use answers::Compare;
@@ -26,7 +17,6 @@ pub use calls::{
     add_is_told, compare_is_told, fold_dead_is_told, limited_add_is_told, read_is_told,
     sum_is_told, sync_is_told,
 };
-pub use checking::{Verdict, check};
 pub use laws::{
     counts_drift_little, dead_locals_move_once, locals_are_bounded, numbers_are_small, one_holder,
     shape_is_kept, totals_are_kept,

@@ -1,9 +1,7 @@
-use Rattle.std.proofs.Common.{◌≡◌, ◌<◌, ℕ}
+use Rattle.std.proofs.Common.{◌≡◌, ◌<◌, ℕ, false}
 use Rattle.std.specs.Prelude.{reverse}
-use Rattle.std.proofs.Common.{false}
 use Rattle.vms_history.specs.Passes.{lives_in}
-use Rattle.vms_core.specs.Steps.{turn}
 use Rattle.vms_judge.proofs.acting.none_lives.Given as goal
 
 abbrev pub invariant-loop-pass : goal.invariant-loop-pass
-invariant-loop-pass l = (q : ℕ) → q < l.pass → lives_in turn (reverse l.past) q ≡ false
+invariant-loop-pass g l = (q : ℕ) → q < l.pass → lives_in g.T.Table.machine.turn (reverse l.past) q ≡ false

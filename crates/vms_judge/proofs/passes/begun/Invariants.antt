@@ -1,11 +1,10 @@
 use Rattle.std.proofs.Common.{◌≡◌, ◌≤◌, take}
 use Rattle.std.specs.Prelude.{reverse}
-use Rattle.vms_core.specs.Steps.{turn}
-use Rattle.vms_history.specs.Passes as passes
+use Rattle.vms_history.specs.Passes.{begun_in}
 use Rattle.vms_judge.proofs.passes.begun.Given as goal
 
 abbrev pub invariant-loop-event : goal.invariant-loop-event
-invariant-loop-event l = record {
-  value : l.count ≡ passes.begun_in turn (reverse (take l.event-index l.past));
+invariant-loop-event g l = record {
+  value : l.count ≡ begun_in g.T.Table.machine.turn (reverse (take l.event-index l.past));
   bound : l.count ≤ l.event-index;
 }

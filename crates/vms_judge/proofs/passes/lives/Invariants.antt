@@ -1,8 +1,7 @@
 use Rattle.std.proofs.Common.{◌≡◌, take}
 use Rattle.std.specs.Prelude.{reverse}
-use Rattle.vms_core.specs.Steps.{turn}
-use Rattle.vms_history.specs.Passes as passes
+use Rattle.vms_history.specs.Passes.{lives_in}
 use Rattle.vms_judge.proofs.passes.lives.Given as goal
 
 abbrev pub invariant-loop-event : goal.invariant-loop-event
-invariant-loop-event l = l.told ≡ passes.lives_in turn (reverse (take l.event-index l.past)) l.pass
+invariant-loop-event g l = l.told ≡ lives_in g.T.Table.machine.turn (reverse (take l.event-index l.past)) l.pass

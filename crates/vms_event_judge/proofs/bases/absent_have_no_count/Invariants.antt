@@ -1,0 +1,9 @@
+use Rattle.std.proofs.Common.{◌≡◌, ℕ, ◌<◌}
+use Rattle.vms_base.specs.declared.kinds.CpuState.TheVariants.{Absent}
+use Rattle.vms_event_core.specs.Bases.{cpu_at}
+use Rattle.vms_event_core.specs.Words.{IsEvent, word_at}
+use Rattle.vms_event_judge.proofs.bases.absent_have_no_count.Given as goal
+
+abbrev pub invariant-loop-number : goal.invariant-loop-number
+invariant-loop-number l =
+    (c : ℕ) → c < l.number → cpu_at l.facts c ≡ Absent → (k : ℕ) → IsEvent k → word_at l.facts.base c k ≡ 0

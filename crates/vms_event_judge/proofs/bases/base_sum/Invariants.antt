@@ -1,0 +1,10 @@
+use Rattle.std.proofs.Common.{◌≡◌, ◌≤◌, ◌*◌, ◌^◌, pos}
+use Rattle.vms_history.specs.Sums.{sum_below}
+use Rattle.vms_event_core.specs.Words.{word_at}
+use Rattle.vms_event_judge.proofs.bases.base_sum.Given as goal
+
+abbrev pub invariant-loop-number : goal.invariant-loop-number
+invariant-loop-number l = record {
+  value : pos l.sum ≡ sum_below (λ c. pos (word_at l.facts.base c l.k.number)) l.number;
+  bound : l.sum ≤ l.number * 2 ^ 64;
+}

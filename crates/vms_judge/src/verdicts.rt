@@ -1,0 +1,12 @@
+/// What facts and a list of events are, the oldest event first.
+#[derive(Clone, Copy, Debug, PartialEq, Eq)]
+pub enum Verdict {
+    /// No history may begin with the facts.
+    NoBase,
+    /// The event at this index is the first that isn't legal.
+    Illegal(usize),
+    /// A legal history, in which some pass lives.
+    Open,
+    /// A legal history, in which every pass has ended.
+    Complete,
+}

@@ -1,0 +1,3 @@
+pub mod MarkSets
+pub mod StateLaws
+pub mod Beyond

@@ -1,0 +1,11 @@
+use Rattle.std.proofs.Common.{◌≡◌, ◌≤◌, ◌*◌, ◌+◌, ◌^◌, take, unsigned_abs}
+use Rattle.std.specs.Prelude.{reverse}
+use Rattle.vms_core.specs.Cells as cells
+use Rattle.vms_core.specs.Pages.{state_after}
+use Rattle.vms_page_judge.proofs.states.system_now.Given as goal
+
+abbrev pub invariant-loop-event : goal.invariant-loop-event
+invariant-loop-event l = record {
+  value : l.value ≡ cells.system_at (state_after l.facts (reverse (take l.event-index l.past))) l.item.number;
+  bound : unsigned_abs l.value ≤ 2 ^ 63 + 2 ^ 63 * l.event-index;
+}

@@ -1,0 +1,181 @@
+ghost use Rattle.std.specs.Prelude.{◌≡◌, ◌<◌, ◌≤◌, ◌^◌, ◌↔◌, ℕ, [], All, IsTrue, length, unsigned_abs};
+ghost use Rattle.vms_base.specs.Marks.{Covers};
+ghost use Rattle.vms_base.specs.Places.{IsCpu, IsZone, IsCounter, IsItem};
+ghost use Rattle.vms_base.specs.Sizes.{IsValidSize};
+ghost use Rattle.vms_base.specs.declared.kinds.CpuState.TheVariants.{Online};
+ghost use Rattle.vms_core.specs.Bases.{IsBase, IsOpening, size_at};
+ghost use Rattle.vms_core.specs.Cells.{HasShape, value_at, system_at, mark_at, mark_sets_at, cpu_at};
+ghost use Rattle.vms_core.specs.Peaks as peaks;
+ghost use Rattle.vms_page_judge.specs.Openings.{OpensCpu};
+
+use crate::covering::{covers, size_of_zone};
+use crate::openings::opens_cpu;
+use crate::peaks::peak_sum;
+use vms_base::{CpuId, CpuState, Layout, PlaceId, ZoneSize};
+use vms_core::{Facts, State};
+
+/// Whether a history may begin with these facts.
+pub fn is_base(facts: &Facts) -> bool
+    ensures { IsTrue result ↔ IsBase facts.now }
+{
+    is_shaped(&facts.layout, &facts.base)
+        && facts.sizes.len() == facts.layout.zones().len()
+        && has_valid_sizes(facts)
+        && is_opening(&facts.layout, &facts.base)
+        && is_covered(facts)
+}
+
+/// Whether the lists of a state have the lengths of a layout.
+fn is_shaped(layout: &Layout, state: &State) -> bool
+    ensures { IsTrue result ↔ HasShape layout.now state.now }
+{
+    let cpus = layout.cpus() as usize;
+    let zones = layout.zones().len();
+    let counters = layout.counters() as usize;
+    let places = layout.places() as usize;
+    state.place.len() == counters
+        && state.system.len() == layout.items() as usize
+        && state.diff.len() == cpus * counters
+        && state.threshold.len() == cpus * places
+        && state.mark.len() == zones
+        && state.cpu.len() == cpus
+        && state.acknowledged.len() == cpus * zones
+        && state.threshold_sets.len() == cpus * places
+        && state.mark_sets.len() == zones
+}
+
+fn has_valid_sizes(facts: &Facts) -> bool
+    ensures { IsTrue result ↔ All IsValidSize facts.now.sizes }
+{
+    facts
+        .sizes
+        .as_slice()
+        .iter()
+        .all(|size| is_valid_size(*size))
+}
+
+fn is_valid_size(size: ZoneSize) -> bool
+    ensures { IsTrue result ↔ IsValidSize size }
+{
+    size.managed >= 1
+        && size.managed <= 1 << 40
+        && size.min <= size.low
+        && size.low <= size.high
+        && size.high <= 1 << 42
+}
+
+/// Whether a state may stand between two phases.
+fn is_opening(layout: &Layout, state: &State) -> bool
+    requires { HasShape layout.now state.now }
+    ensures { IsTrue result ↔ IsOpening layout.now state.now }
+{
+    if !some_cpu_is_online(layout, state) {
+        return false;
+    }
+    if !values_fit(layout, state) || !systems_fit(layout, state) {
+        return false;
+    }
+    if !opens_cpus(layout, state) {
+        return false;
+    }
+    marks_fit(layout, state) && no_mark_is_set(layout, state)
+}
+
+fn some_cpu_is_online(layout: &Layout, state: &State) -> bool
+    requires { HasShape layout.now state.now }
+    ensures { IsTrue result ↔ ((c : ℕ) × IsCpu layout.now c × (cpu_at state.now c ≡ Online)) }
+{
+    for number in 0..layout.cpus() {
+        if state.cpu.get(number as usize) == CpuState::Online {
+            return true;
+        }
+    }
+    false
+}
+
+fn values_fit(layout: &Layout, state: &State) -> bool
+    requires { HasShape layout.now state.now }
+    ensures { IsTrue result ↔ ((k : ℕ) → IsCounter layout.now k → unsigned_abs (value_at state.now k) ≤ 2 ^ 60) }
+{
+    for number in 0..layout.counters() {
+        if state.place.get(number as usize).unsigned_abs() > 1 << 60 {
+            return false;
+        }
+    }
+    true
+}
+
+fn systems_fit(layout: &Layout, state: &State) -> bool
+    requires { HasShape layout.now state.now }
+    ensures { IsTrue result ↔ ((i : ℕ) → IsItem layout.now i → unsigned_abs (system_at state.now i) ≤ 2 ^ 60) }
+{
+    for number in 0..layout.items() {
+        if state.system.get(number as usize).unsigned_abs() > 1 << 60 {
+            return false;
+        }
+    }
+    true
+}
+
+fn opens_cpus(layout: &Layout, state: &State) -> bool
+    requires { HasShape layout.now state.now }
+    ensures { IsTrue result ↔ ((c : ℕ) → IsCpu layout.now c → OpensCpu layout.now state.now c) }
+{
+    for number in 0..layout.cpus() {
+        if !opens_cpu(layout, state, CpuId { number }) {
+            return false;
+        }
+    }
+    true
+}
+
+fn marks_fit(layout: &Layout, state: &State) -> bool
+    requires { HasShape layout.now state.now }
+    ensures { IsTrue result ↔ ((g : ℕ) → IsZone layout.now g → mark_at state.now g < 2 ^ 43) }
+{
+    for g in 0..layout.zones().len() {
+        if state.mark.get(g) >= 1 << 43 {
+            return false;
+        }
+    }
+    true
+}
+
+fn no_mark_is_set(layout: &Layout, state: &State) -> bool
+    requires { HasShape layout.now state.now }
+    ensures { IsTrue result ↔ ((g : ℕ) → IsZone layout.now g → mark_sets_at state.now g ≡ 0) }
+{
+    for g in 0..layout.zones().len() {
+        if state.mark_sets.get(g) != 0 {
+            return false;
+        }
+    }
+    true
+}
+
+/// Whether every mark covers what the CPUs may hide.
+fn is_covered(facts: &Facts) -> bool
+    requires shaped { HasShape facts.now.layout facts.now.base }
+    requires sizes { length facts.now.sizes ≡ length facts.now.layout.zones }
+    ensures { IsTrue result ↔ ((g : ℕ) → IsZone facts.now.layout g →
+        Covers (size_at facts.now.sizes g) (mark_at facts.now.base g) (peaks.peak_sum facts.now g [])) }
+{
+    for number in 0..facts.layout.zones().len() as u32 {
+        let zone = PlaceId { number };
+        let mark = facts.base.mark.get(number as usize);
+        if !covers(size_of_zone(facts, zone), mark, opening_sum(facts, zone)) {
+            return false;
+        }
+    }
+    true
+}
+
+/// What the CPUs may hide of a zone together, as a history begins.
+fn opening_sum(facts: &Facts, zone: PlaceId) -> u128
+    requires shaped { HasShape facts.now.layout facts.now.base }
+    requires zone { IsZone facts.now.layout zone.number }
+    ensures value { result ≡ peaks.peak_sum facts.now zone.number [] }
+    ensures bound { result ≤ 2 ^ 96 }
+{
+    peak_sum(facts, &[], zone)
+}

@@ -1,0 +1,24 @@
+//! The conditions of page steps, each decided as it is defined, so that `judge` of `vms_judge` judges page histories.
+#![tactic(auto)]
+
+mod bases;
+mod carried;
+mod carrying;
+mod cells;
+mod changes;
+mod conditions;
+mod control;
+mod covering;
+mod loads;
+mod openings;
+mod own;
+mod owners;
+mod peaks;
+mod states;
+mod tables;
+#[cfg(test)]
+mod tests;
+mod totals;
+mod worker;
+
+pub use tables::JudgedPages;

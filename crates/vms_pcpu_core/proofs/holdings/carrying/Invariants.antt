@@ -1,8 +1,0 @@
-use Rattle.std.proofs.Common.{◌≡◌}
-use Rattle.vms_history.specs.Events.{own}
-use Rattle.vms_pcpu_core.specs.Own.{carried}
-use Rattle.vms_pcpu_core.specs.Past.{past}
-use Rattle.vms_pcpu_core.proofs.holdings.carrying.Given as goal
-
-abbrev pub invariant-loop-i : goal.invariant-loop-i
-invariant-loop-i l = l.amount ≡ carried l.counter.number (own (past l.events l.i) l.p)

@@ -1,8 +1,0 @@
-use Rattle.std.proofs.Common.{◌≡◌}
-use Rattle.vms_history.specs.Passes.{lives_in}
-use Rattle.vms_pcpu_core.specs.Steps.{turn}
-use Rattle.vms_pcpu_core.specs.Past.{past}
-use Rattle.vms_pcpu_core.proofs.passes.lives.Given as goal
-
-abbrev pub invariant-loop-i : goal.invariant-loop-i
-invariant-loop-i l = l.living ≡ lives_in turn (past l.events l.i) l.q

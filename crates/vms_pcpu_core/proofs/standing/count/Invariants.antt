@@ -1,8 +1,0 @@
-use Rattle.std.proofs.Common.{◌≡◌}
-use Rattle.vms_pcpu_core.specs.Laws.{numbers_after}
-use Rattle.vms_pcpu_core.specs.States.{count_at}
-use Rattle.vms_pcpu_core.specs.Past.{past}
-use Rattle.vms_pcpu_core.proofs.standing.count.Given as goal
-
-abbrev pub invariant-loop-i : goal.invariant-loop-i
-invariant-loop-i l = l.sum ≡ count_at (numbers_after l.facts (past l.events l.i)) l.counter.number

@@ -1,0 +1,53 @@
+ghost use Rattle.vms_pcpu_core.specs.States.{LockedState};
+ghost use Rattle.vms_pcpu_core.specs.Histories.{percpu};
+
+use crate::bases::is_base;
+use crate::conditions::meets;
+use crate::holdings::holds_no_lock;
+use crate::owners::may_own;
+use vms_base::CpuId;
+use vms_history::Table;
+use vms_judge::{Judged, Turn, Turning};
+use vms_pcpu_core::{Event, PcpuFacts, PcpuStep};
+
+/// The table of percpu counters, whose histories can be judged.
+#[derive(Debug, Drop)]
+pub struct JudgedPercpu;
+
+impl Table for JudgedPercpu {
+    type Facts = PcpuFacts;
+
+    type Step = PcpuStep;
+
+    ghost State = { LockedState };
+
+    ghost machine = { percpu };
+}
+
+impl Turning for JudgedPercpu {
+    fn turn(step: &PcpuStep) -> Turn {
+        match *step {
+            PcpuStep::Split(pass, who) => Turn::Begins(pass, who),
+            PcpuStep::Join(pass) => Turn::Ends(pass),
+            _ => Turn::Works,
+        }
+    }
+}
+
+impl Judged for JudgedPercpu {
+    fn can_begin(facts: &PcpuFacts) -> bool {
+        is_base(facts)
+    }
+
+    fn may_own(facts: &PcpuFacts, who: Option<CpuId>) -> bool {
+        may_own(facts, who)
+    }
+
+    fn may_end(facts: &PcpuFacts, past: &[Event], pass: u32) -> bool {
+        holds_no_lock(facts, past, pass)
+    }
+
+    fn meets(facts: &PcpuFacts, past: &[Event], _longer: &[Event], event: &Event) -> bool {
+        meets(facts, past, event.caller, &event.step)
+    }
+}
