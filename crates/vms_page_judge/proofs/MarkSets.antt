@@ -11,7 +11,7 @@ use Rattle.vms_core.specs.Cells.{HasShape, mark_sets_at, with_mark}
 use Rattle.vms_core.specs.Conditions.{Meets}
 use Rattle.vms_core.specs.Effects.{mark_sets_after}
 use Rattle.vms_core.specs.Steps.{effect}
-use Rattle.vms_core.proofs.CellLemmas.{get_or-set}
+use Rattle.vms_history.proofs.Cells.{get_or-set}
 
 module _ (facts : Facts) (h : List (Event Step)) (s : State) (p : ℕ) (shaped : HasShape facts.layout s) where
   mark_sets_at-with_mark : (f m g : ℕ) → IsZone facts.layout f
