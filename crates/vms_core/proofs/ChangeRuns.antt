@@ -27,7 +27,7 @@ use Rattle.vms_core.specs.Pages.{pages, History}
 use Rattle.vms_core.specs.Steps.{turn}
 use Rattle.vms_core.specs.Totals.{spent, spent_by}
 use Rattle.vms_core.proofs.Agreeing.{event}
-use Rattle.vms_core.proofs.CounterRanges.{place_known, group_known, item_known}
+use Rattle.vms_base.proofs.Counts.{place_of-lt, group_of-lt, item_of-lt}
 use Rattle.vms_core.proofs.Running.{Runs, Exchanging, runs-may}
 
 module _ (facts : Facts) (layout : IsLayout facts.layout) (p : ℕ) (cpu : CpuId) (k : CounterId)
@@ -41,7 +41,7 @@ module _ (facts : Facts) (layout : IsLayout facts.layout) (p : ℕ) (cpu : CpuId
     λ knows. record { counter = k_in; carries = counter; some = some },
     λ knows told. (
       λ knows. record {
-        item = item_known facts.layout layout k.number k_in;
+        item = item_of-lt facts.layout layout k.number;
         carries = ap (carried_of_item facts.layout (item_of facts.layout k.number))
             (own-mine (event facts p (AddG k a)) g p refl)
             ∙ omega (arith, ints, item);
@@ -189,9 +189,9 @@ change-may facts h p cpu k delta how steps may change eight =
     runs-may facts p h (record { legal = may.legal; lives = may.lives }) steps
     (subst (λ who. Runs facts p who steps h (λ now. Unit {0})) (sym may.owner)
     (subst (λ ks. Runs facts p (Some cpu) ks h (λ now. Unit {0})) (sym change.in_order) (
-      λ knows. (place_known facts.layout layout k.number may.counter_known, (cpu, knows.owner)),
+      λ knows. (place_of-lt facts.layout layout k.number may.counter_known, (cpu, knows.owner)),
       λ knows told. (
-        λ knows. (may.cpu_known, group_known facts.layout layout k.number may.counter_known),
+        λ knows. (may.cpu_known, group_of-lt facts.layout layout k.number may.counter_known),
         λ knows told. exchange-run facts layout p cpu k may.counter_known h delta how may.nothing_carried
             may.affordable change.t change.number
             change.first eight change.last change.exchange change.additions change.exchanges change.carries,

@@ -12,7 +12,8 @@ use Rattle.vms_core.specs.Looking.Look.{online, other}
 use Rattle.vms_core.specs.MakingCalls.{MakesPlaceValue, MakesSystemValue, MakesSnapshot, MakesTest}
 use Rattle.vms_core.specs.Pages.{pages, History}
 use Rattle.vms_core.specs.Steps.{turn}
-use Rattle.vms_core.proofs.CounterRanges.{group_known, first-known}
+use Rattle.vms_core.proofs.CounterRanges.{first-known}
+use Rattle.vms_base.proofs.Counts.{group_of-lt}
 use Rattle.vms_core.proofs.Running.{Runs, runs-may}
 use Rattle.vms_base.specs.declared.ids.CpuId.{CpuId}
 use Rattle.vms_base.specs.declared.ids.PlaceId.{PlaceId}
@@ -37,7 +38,7 @@ module _ (facts : Facts) (layout : IsLayout facts.layout) (p : ℕ) (who : Optio
   snapshot-runs k steps answer h k_in call =
       subst (λ ks. Runs facts p who ks h (λ then. Unit {0})) (sym call.in_order) (
         λ knows. k_in,
-        λ knows told. looks-run (group_of k.number) 0 call.looks _ (group_known facts.layout layout k.number k_in)
+        λ knows told. looks-run (group_of k.number) 0 call.looks _ (group_of-lt facts.layout layout k.number k_in)
             (let count = call.one_each in omega arith),
       )
 

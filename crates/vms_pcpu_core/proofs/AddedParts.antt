@@ -18,7 +18,7 @@ use Rattle.vms_pcpu_core.specs.Steps.{turn}
 use Rattle.vms_pcpu_core.specs.Totals.{amount_of}
 use Rattle.vms_pcpu_core.specs.Watching.{IsLoad, AreLoads, added_by, added, added_since}
 use Rattle.vms_pcpu_core.proofs.OtherChanges.{rise-fall, rise-least, fall-least}
-use Rattle.vms_pcpu_core.proofs.Sums.{sum_below-le}
+use Rattle.vms_history.proofs.SumBounds.{sum_below-le}
 use Rattle.vms_pcpu_core.proofs.Totals.{owned}
 use Rattle.vms_pcpu_core.proofs.Watched.{loads-before}
 

@@ -26,7 +26,7 @@ use Rattle.vms_pcpu_core.specs.Totals.{locals}
 use Rattle.vms_pcpu_core.proofs.Bounds.{locals-bounded}
 use Rattle.vms_pcpu_core.proofs.Drift.{present-bound}
 use Rattle.vms_pcpu_core.proofs.Found.{legal-earlier}
-use Rattle.vms_pcpu_core.proofs.Sums.{sum_below-size}
+use Rattle.vms_history.proofs.SumBounds.{sum_below-size}
 
 -- with one local part moved by an amount, within its batch, the local parts still hide no more than `unknown`
 pub locals-moved : (facts : PcpuFacts) (h : History) (c j : ℕ) (a : ℤ) → IsLegal facts h → IsPcpu facts j

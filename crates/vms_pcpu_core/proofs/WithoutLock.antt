@@ -23,7 +23,7 @@ use Rattle.vms_pcpu_core.specs.Watching.{AreLoads}
 use Rattle.vms_pcpu_core.proofs.Found.{legal-earlier}
 use Rattle.vms_pcpu_core.proofs.Judged.{room-up, room-down}
 use Rattle.vms_pcpu_core.proofs.OtherChanges.{rise-least, fall-least, by_self, by_self-others, by_self-step, by_others-grows, carried_by_others-least, carried_by_others-locked, carried_by_all-others, true_total-between}
-use Rattle.vms_pcpu_core.proofs.Owners.{owner_might_begin}
+use Rattle.vms_history.proofs.Owners.{owner_may_own}
 use Rattle.vms_pcpu_core.proofs.Runs.{Run, own-others_on}
 use Rattle.vms_pcpu_core.proofs.Totals.{totals-kept}
 use Rattle.vms_pcpu_core.proofs.Watched.{local-stays}
@@ -52,7 +52,7 @@ module _ (facts : PcpuFacts) (earlier later : History) (p : ℕ) (cpu : CpuId) (
       let owned_then : owner_in turn begun p ≡ Some cpu =
       owner-then facts later begun p (LoadL j cpu l) cpu legal to_first owner in
       let j_in : IsPcpu facts j.number = read_legal.2.counter in
-      let might = owner_might_begin percpu facts begun p cpu first_legal.0 owned_then in
+      let might = owner_may_own percpu facts begun p cpu first_legal.0 owned_then in
       let own_load : own (others ++ e ∷ []) p ≡ e ∷ [] = own-others_on others (e ∷ []) p none ∙ own-mine e [] p refl in
       let regroup : (others ++ e ∷ []) ++ begun ≡ loaded = append_assoc others (e ∷ []) begun in
       let stays =
