@@ -12,9 +12,9 @@ use Rattle.vms_core.specs.declared.steps.Facts.{Facts}
 use Rattle.vms_core.specs.declared.steps.Step.{Step}
 use Rattle.vms_core.specs.declared.steps.Step.TheVariants.{LoadT, AddG, AddS, Take, SetA}
 use Rattle.vms_core.specs.Conditions.{Acknowledges}
-use Rattle.vms_core.specs.Folding.{FoundPlace, HasGroups, IsFold, to_place, to_system, group_steps, place_steps, system_steps, acknowledges, lists_of, taken_of_item, entries_of}
+use Rattle.vms_core.specs.Folding.{FoundPlace, HasGroups, IsFold, to_place, to_system, group_steps, place_steps, system_steps, acknowledges, lists_of, taken_of_item}
 use Rattle.vms_core.specs.Lists.{in_turn}
-use Rattle.vms_core.specs.Own.{CarriesNothing, moved, moved_of_item, carried, carried_of_item, loaded, took, has_put}
+use Rattle.vms_core.specs.Own.{CarriesNothing, moved, moved_of_item, carried, carried_of_item, loaded, took, has_put, entries_of}
 use Rattle.vms_core.specs.Pages.{History}
 use Rattle.vms_core.proofs.Agreeing.{event}
 use Rattle.vms_core.proofs.Effects.{group-within}
