@@ -25,7 +25,7 @@ if_present-least Online n m less = less
 if_present-least Dead n m less = less
 
 -- what covers more covers less
-Covers-less : (size : ZoneSize) (mark more less : ℕ) → less ≤ more → Covers size mark more → Covers size mark less
+pub Covers-less : (size : ZoneSize) (mark more less : ℕ) → less ≤ more → Covers size mark more → Covers size mark less
 Covers-less size mark more less fewer covers = record {
   unset = λ none. omega (arith, covers.unset none);
   set = λ some. omega (arith, covers.set some);
