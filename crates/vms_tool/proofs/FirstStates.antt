@@ -17,6 +17,7 @@ use Rattle.vms_core.specs.declared.states.State.{State}
 use Rattle.vms_core.specs.Bases.{size_at}
 use Rattle.vms_core.specs.Cells.{threshold_at, mark_at, cpu_at}
 use Rattle.vms_core.specs.Peaks.{peak_sum}
+use Rattle.vms_core.proofs.LevelStates.{get_or-copies}
 use Rattle.vms_history.specs.Sums.{sum_below}
 use Rattle.vms_tool.specs.Ready.{IsFirstHeader, IsReady, IsFirstItem, facts_of}
 use Rattle.vms_tool.specs.Worlds.{IsStart, opening_mark, base_of, zone_threshold, node_threshold}
@@ -25,12 +26,6 @@ use Rattle.vms_first.specs.Head.{header_of}
 -- the only number below 1
 pub at_zero : (P : ℕ → Type 0) → P 0 → (k : ℕ) → k < 1 → P k
 at_zero P here k below = subst P (let is : 0 ≡ k = omega arith in is) here
-
--- a list of equal elements reads the same everywhere
-pub get_or-same : {A : Type 0} (n i : ℕ) (a : A) → get_or (replicate n a) i a ≡ a
-get_or-same zero i a = refl
-get_or-same (suc n) zero a = refl
-get_or-same (suc n) (suc i) a = get_or-same n i a
 
 zero-plus : (z : ℤ) → pos 0 +ℤ z ≡ z
 zero-plus z = omega (arith, ints)
@@ -104,7 +99,7 @@ module _ (size : ZoneSize) (base : ℤ) (ranges : InRange size base) where
 
   pub base_of-small : (k : ℕ) → unsigned_abs (base_of header k) ≤ 2 ^ 48
   base_of-small zero = ranges.within
-  base_of-small (suc k) = rw (get_or-same 15 k (pos 0)) (omega arith)
+  base_of-small (suc k) = rw (get_or-copies 15 k (pos 0)) (omega arith)
 
   module _ (t m : ℕ) (least : 1 ≤ t) (most : t ≤ most_threshold) (below : m < 2 ^ 43) (covers : Covers size m t) where
     abbrev pub first_state : State
@@ -138,16 +133,16 @@ module _ (size : ZoneSize) (base : ℤ) (ranges : InRange size base) where
       };
       values = λ k known. refl;
       systems = λ i known. sym (sum_of-one (base_of header) (item_of layout) i 16 known item_is_counter);
-      diffs = λ c k c_in k_in. get_or-same 16 (c * 16 + k) (pos 0);
+      diffs = λ c k c_in k_in. get_or-copies 16 (c * 16 + k) (pos 0);
       zones = λ c g c_in g_in. threshold_read c g c_in (omega arith)
           ∙ at_zero (λ g. t ≡ zone_threshold header g) t_is g g_in;
       nodes = λ c g c_in g_in. threshold_read c g c_in g_in.1 ∙ of_node g g_in.0 g_in.1;
       marks = at_zero (λ g. mark_at first_state g ≡ opening_mark (size_at header.sizes g) 1 (zone_threshold header g))
           (m_is ∙ ap (λ x. opening_mark size 1 x) t_is);
       online = at_zero (λ c. cpu_at first_state c ≡ Online) refl;
-      unacknowledged = λ c g c_in g_in. get_or-same 1 (c * 1 + g) None;
-      unset_thresholds = λ c g c_in g_in. get_or-same 2 (c * 2 + g) 0;
-      unset_marks = λ g g_in. get_or-same 1 g 0;
+      unacknowledged = λ c g c_in g_in. get_or-copies 1 (c * 1 + g) None;
+      unset_thresholds = λ c g c_in g_in. get_or-copies 2 (c * 2 + g) 0;
+      unset_marks = λ g g_in. get_or-copies 1 g 0;
     }
       where
         of_node : (g : ℕ) → 1 ≤ g → g < 2 → t ≡ node_threshold header (get_or (0 ∷ []) (g - 1) 0)
@@ -179,14 +174,14 @@ module _ (size : ZoneSize) (base : ℤ) (ranges : InRange size base) where
           some_online = (0, omega arith, refl);
           values = λ k known. omega (arith, base_of-small k);
           systems = λ i known. omega (arith, base_of-small i);
-          diffs = λ c k c_in k_in. rw (get_or-same 16 (c * 16 + k) (pos 0)) (omega arith);
-          absent = λ c k c_in off k_in. get_or-same 16 (c * 16 + k) (pos 0);
+          diffs = λ c k c_in k_in. rw (get_or-copies 16 (c * 16 + k) (pos 0)) (omega arith);
+          absent = λ c k c_in off k_in. get_or-copies 16 (c * 16 + k) (pos 0);
           thresholds = λ c g c_in g_in. rw (threshold_read c g c_in g_in) most;
           online = λ c g c_in on g_in. rw (threshold_read c g c_in g_in) least;
           marks = at_zero (λ g. get_or (m ∷ []) g 0 < 2 ^ 43) below;
-          unacknowledged = λ c g c_in g_in. get_or-same 1 (c * 1 + g) None;
-          unset_thresholds = λ c g c_in g_in. get_or-same 2 (c * 2 + g) 0;
-          unset_marks = λ g g_in. get_or-same 1 g 0;
+          unacknowledged = λ c g c_in g_in. get_or-copies 1 (c * 1 + g) None;
+          unset_thresholds = λ c g c_in g_in. get_or-copies 2 (c * 2 + g) 0;
+          unset_marks = λ g g_in. get_or-copies 1 g 0;
         };
         covered = at_zero (λ g. Covers (size_at header.sizes g) (mark_at first_state g)
             (peak_sum (facts_of header first_state) g []))
@@ -195,9 +190,9 @@ module _ (size : ZoneSize) (base : ℤ) (ranges : InRange size base) where
       };
       settled_state = refl;
       online = refl;
-      within = λ k known. rw (get_or-same 16 (0 * 16 + k) (pos 0)) (omega arith);
+      within = λ k known. rw (get_or-copies 16 (0 * 16 + k) (pos 0)) (omega arith);
       systems = refl;
-      balanced = λ k known. ap (λ d. base_of header k +ℤ d) (get_or-same 16 (0 * 16 + k) (pos 0));
+      balanced = λ k known. ap (λ d. base_of header k +ℤ d) (get_or-copies 16 (0 * 16 + k) (pos 0));
     }
 
 pub ranges_of : (h : Header) (first : IsFirstHeader h) → InRange first.size first.base

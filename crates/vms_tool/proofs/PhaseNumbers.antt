@@ -1,9 +1,7 @@
 -- What a change makes of the global values and the differentials of the one CPU.
-use Rattle.std.proofs.Common.{◌≡◌, ◌≢◌, ℕ, ◌<◌, ◌≤◌, nat_eq, nat_le, Bool, true, false, ℤ, pos, ◌+ℤ◌, unsigned_abs, List, length, get_or, refl, sym, ◌∙◌, arith, if◌then◌else◌, ⊎_elim, length-set, get_or-set_same, get_or-set_other, eq-eqb, ne_eqb}
-use Rattle.std.specs.Prelude.{neg_ℤ}
+use Rattle.std.proofs.Common.{◌≡◌, ◌≢◌, ℕ, ◌<◌, nat_eq, ℤ, pos, ◌+ℤ◌, List, length, get_or, refl, sym, ◌∙◌, arith, if◌then◌else◌, ⊎_elim, length-set, get_or-set_same, get_or-set_other, eq-eqb, ne_eqb}
 use Rattle.std.proofs.Math.ListN.{set}
 use Rattle.std.proofs.lemmas.Bool.{cases_eq}
-use Rattle.std.proofs.lemmas.Bool.Decides.{nat_tests}
 use Rattle.std.proofs.lemmas.Int.{ints}
 use Rattle.vms_base.specs.declared.kinds.Mode.TheVariants.{Mod as Modify}
 use Rattle.vms_core.proofs.ChangeLemmas.{differential_after-within, differential_after-carried_by}

@@ -1,5 +1,5 @@
 -- A phase of CPU 0's lines leads from a state between phases to another.
-use Rattle.std.proofs.Common.{◌≡◌, ℕ, zero, suc, ◌+◌, ◌/◌, ◌^◌, ◌<◌, ◌≤◌, ℤ, pos, ◌+ℤ◌, unsigned_abs, List, [], length, get_or, refl, sym, ap, ◌∙◌, subst, arith}
+use Rattle.std.proofs.Common.{◌≡◌, ℕ, ◌+◌, ◌/◌, ◌^◌, ◌<◌, ◌≤◌, ℤ, pos, ◌+ℤ◌, unsigned_abs, List, [], length, get_or, refl, sym, ap, ◌∙◌, subst, arith}
 use Rattle.std.proofs.Math.ListN.{set}
 use Rattle.std.proofs.lemmas.Int.{ints}
 use Rattle.vms_base.specs.declared.headers.Header.{Header}
@@ -15,7 +15,9 @@ use Rattle.vms_core.specs.Changes.{differential_after, carried_by}
 use Rattle.vms_core.specs.Conditions.{most_volume}
 use Rattle.vms_core.specs.Following.{with_change_of, with_change}
 use Rattle.vms_core.specs.Plain.{IsPlainBase}
-use Rattle.vms_core.specs.Peaks.{largest_below, if_present, opening_peak, peak_sum}
+use Rattle.vms_core.specs.Peaks.{if_present, opening_peak, peak_sum}
+use Rattle.vms_core.proofs.Below.{largest_below-most}
+use Rattle.vms_core.proofs.MarkCovers.{Covers-less}
 use Rattle.vms_tool.specs.declared.items.Item.{Item}
 use Rattle.vms_tool.specs.Judging.{change_by_all, volume}
 use Rattle.vms_tool.specs.OpenPhases.{HasNumbers, threshold_for, total_with, with_numbers}
@@ -30,19 +32,6 @@ use Rattle.vms_first.specs.Head.{header_of}
 pub IsPlainBase-ready : (header : Header) (before : List Item) (s : State) → IsReady header before s → IsPlainBase s
 IsPlainBase-ready header before s ready =
     record { shape = header.layout; is_layout = ready.base.layout; opening = ready.base.opening }
-
--- a mark covers less than what it covers
-pub Covers-less : (size : ZoneSize) (mark hidden less : ℕ) → less ≤ hidden → Covers size mark hidden
-    → Covers size mark less
-Covers-less size mark hidden less below covers = record {
-  unset = λ none. omega (arith, covers.unset none);
-  set = λ some. omega (arith, covers.set some);
-}
-
-pub largest_below-le : (f : ℕ → ℕ) (n most : ℕ) → ((i : ℕ) → i < n → f i ≤ most) → largest_below f n ≤ most
-largest_below-le f zero most each = omega arith
-largest_below-le f (suc n) most each =
-    omega (arith, each n (omega arith), largest_below-le f n most (λ i below. each i (omega arith)))
 
 -- bounds of a value, from what it comes to with a differential
 bounded_left : (v d s e i : ℤ) → v +ℤ d ≡ (s +ℤ e) +ℤ i → unsigned_abs d ≤ 125
@@ -170,7 +159,7 @@ module _ (size : ZoneSize) (base : ℤ) (ranges : InRange size base) where
               arith,
               peak_sum-one s can.ready.online,
               peak_sum-one now can.ready.online,
-              largest_below-le
+              largest_below-most
                   (λ n. unsigned_abs (diff_at now 0 (counter_at layout 0 n))) 8 (threshold_at s 0 0) each,
             ))
             (can.ready.base.covered 0 (omega arith))

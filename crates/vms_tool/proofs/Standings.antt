@@ -12,11 +12,11 @@ use Rattle.vms_tool.specs.declared.items.Item.{Item}
 use Rattle.vms_tool.specs.declared.judging.Replay.{Replay}
 use Rattle.vms_core.specs.Pages.{state_after}
 use Rattle.vms_core.specs.Following.{with_change}
+use Rattle.vms_core.proofs.LevelStates.{get_or-copies}
 use Rattle.vms_base.specs.declared.kinds.Mode.TheVariants.{Mod as Modify}
 use Rattle.vms_tool.specs.FileOrder.{Phase, IsPhase, Leads}
 use Rattle.vms_tool.specs.OpenPhases.{IsOpen, cpu0}
 use Rattle.std.specs.Prelude.{replicate}
-use Rattle.vms_tool.proofs.FirstStates.{get_or-same}
 use Rattle.vms_tool.proofs.LineSums.{volume-onto}
 use Rattle.vms_tool.proofs.PhaseRuns.{Changeable, changeable, Follows, IsOpen-none, IsOpen-follows, phase_of, ready_of}
 use Rattle.vms_tool.specs.Judging.{Above, volume, with_line, within_volume}
@@ -295,7 +295,7 @@ Stands-begun header from n replay first ready h p is_n a r vs = record {
   refused = r;
   counted = omega arith;
   each_volume = ap length vs;
-  volumes = λ k below. ap (λ volumes. get_or volumes k 0) vs ∙ get_or-same 8 k 0;
+  volumes = λ k below. ap (λ volumes. get_or volumes k 0) vs ∙ get_or-copies 8 k 0;
   leaves = subst (λ s. Leaves header from (progress_at n) s) (sym p) (record {
     opening = from;
     can = record { before = []; ready = ready; may_follow = record { each = All-nil IsFirstItem; affordable = λ k. omega arith } };
