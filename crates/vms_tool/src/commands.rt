@@ -14,8 +14,8 @@ use crate::stops::Stop;
 use std::alloc::Global;
 use vms_base::{Memory, ZoneSize};
 use vms_calc::{Rule, Rules, normal_threshold, pressure_threshold};
-use vms_io::{ReadBuffer, Sink, Source, write_all};
 use vms_first::HeaderCause;
+use vms_io::{ReadBuffer, Sink, Source, write_all};
 
 /// Replays the trace that the source gives, in file order, and writes what it prints.
 pub fn tool_replay<S: Source, K: Sink>(alloc: Global, src: &mut S, out: &mut K) -> Status

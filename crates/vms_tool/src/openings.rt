@@ -9,8 +9,8 @@ use crate::running::{read, ready};
 use crate::stops::Stop;
 use std::alloc::Global;
 use vms_base::{Header, Memory};
-use vms_io::{ReadBuffer, Source};
 use vms_first::{HeaderCause, HeaderError, parse_header};
+use vms_io::{ReadBuffer, Source};
 
 /// A header that was accepted.
 #[derive(Drop)]
