@@ -1,0 +1,4 @@
+pub mod Pieces
+pub mod Machines
+pub mod Jobs
+pub mod Answers
