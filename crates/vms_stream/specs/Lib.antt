@@ -2,3 +2,4 @@ pub mod Pieces
 pub mod Machines
 pub mod Jobs
 pub mod Answers
+pub mod Courses
