@@ -9,6 +9,8 @@ mod passing;
 mod statuses;
 mod stops;
 mod streaming;
+#[cfg(test)]
+mod tests;
 
 pub use endings::Ending;
 pub use halts::Halt;
