@@ -15,7 +15,8 @@ parts_of-rest rest none =
     (λ k d below. ne_eqb _ 10 (λ is. none (k, below, get_or_default rest k 10 d below ∙ is)))
 
 -- whole lines, and bytes without a newline behind them
-parts_of-cut : (front rest : List ℕ) → ¬ Contains rest 10 → parts_of ((front ++ 10 ∷ []) ++ rest) ≡ parts_of front ++ (rest ∷ [])
+parts_of-cut : (front rest : List ℕ) → ¬ Contains rest 10
+    → parts_of ((front ++ 10 ∷ []) ++ rest) ≡ parts_of front ++ (rest ∷ [])
 parts_of-cut front rest none =
     ap parts_of (append_assoc front (10 ∷ []) rest) ∙ slice_split-append (λ byte. byte == 10) front 10 rest refl
     ∙ ap (λ (parts : List (List ℕ)). parts_of front ++ parts) (parts_of-rest rest none)
@@ -23,7 +24,8 @@ parts_of-cut front rest none =
 one_more : (rest : List ℕ) → 0 < length (rest ∷ [])
 one_more rest = omega arith
 
-whole_lines-cut : (front rest : List ℕ) → ¬ Contains rest 10 → whole_lines ((front ++ 10 ∷ []) ++ rest) ≡ lines_of (front ++ 10 ∷ [])
+whole_lines-cut : (front rest : List ℕ) → ¬ Contains rest 10
+    → whole_lines ((front ++ 10 ∷ []) ++ rest) ≡ lines_of (front ++ 10 ∷ [])
 whole_lines-cut front rest none =
     ap front_of (parts_of-cut front rest none) ∙ front_of-append (parts_of front) (rest ∷ []) (one_more rest)
     ∙ sym (lines_of-ended front [])

@@ -26,7 +26,8 @@ module _ {S : Type 0} (machine : Machine S) where
     all_written = subst (λ (b : Bool). written ≡ printed machine machine.start (lines_judged b taken)) at_end is.all_written
 
     -- there was no memory for the last words
-    pub Finishes-unended : (sunk : Option (List ℕ)) (stop : Stop) → stop ≡ Memory → Finishes machine taken written sunk sunk (Err stop)
+    pub Finishes-unended : (sunk : Option (List ℕ)) (stop : Stop) → stop ≡ Memory
+        → Finishes machine taken written sunk sunk (Err stop)
     Finishes-unended sunk stop memory = record {
       moved = [];
       appends = Appends-nil sunk;
@@ -41,11 +42,13 @@ module _ {S : Type 0} (machine : Machine S) where
           (closes (past machine machine.start (lines_of taken)) (subst (λ (b : Bool). stands (past machine machine.start (lines_judged b taken))) at_end is.stands_behind))
 
       whole : written ++ waiting ≡ output machine (lines_of taken)
-      whole = ap (λ (front : List ℕ). front ++ waiting) all_written ∙ ap (λ (rest : List ℕ). printed machine machine.start (lines_of taken) ++ rest) closed.prints
+      whole = ap (λ (front : List ℕ). front ++ waiting) all_written
+          ∙ ap (λ (rest : List ℕ). printed machine machine.start (lines_of taken) ++ rest) closed.prints
           ∙ sym (output-open machine (lines_of taken) none_halts)
 
       -- the last write failed
-      pub Finishes-unwritten : (sunk sunk' : Option (List ℕ)) (n : ℕ) (stop : Stop) → Appends sunk sunk' (take n waiting) → stop ≡ WriteFault
+      pub Finishes-unwritten : (sunk sunk' : Option (List ℕ)) (n : ℕ) (stop : Stop)
+          → Appends sunk sunk' (take n waiting) → stop ≡ WriteFault
           → Finishes machine taken written sunk sunk' (Err stop)
       Finishes-unwritten sunk sunk' n stop appends cause = record {
         moved = take n waiting;
@@ -60,7 +63,8 @@ module _ {S : Type 0} (machine : Machine S) where
       ends ended = record { ended = ended; within = is.within; none_halts = none_halts; ending_is = sym closed.ends; whole_output = whole }
 
       -- all was written
-      pub Finishes-ended : (sunk sunk' : Option (List ℕ)) (status : Status) → Appends sunk sunk' waiting → status ≡ status_at_end ending
+      pub Finishes-ended : (sunk sunk' : Option (List ℕ)) (status : Status) → Appends sunk sunk' waiting
+          → status ≡ status_at_end ending
           → Finishes machine taken written sunk sunk' (Ok status)
       Finishes-ended sunk sunk' status appends told = record {
         moved = waiting;
@@ -68,7 +72,8 @@ module _ {S : Type 0} (machine : Machine S) where
         outcome = λ left ended. subst (λ (s : Status). Says machine s taken (written ++ waiting) (IsAtEnd left)) (sym told) (by ending (ends ended));
       }
         where
-          by : {E : Type 0} (e : Ending) → Ends machine e taken (written ++ waiting) E → Says machine (status_at_end e) taken (written ++ waiting) E
+          by : {E : Type 0} (e : Ending) → Ends machine e taken (written ++ waiting) E
+              → Says machine (status_at_end e) taken (written ++ waiting) E
           by endings.Done done = done
           by endings.Refused done = done
           by endings.HeaderRefused done = inr done
@@ -76,7 +81,8 @@ module _ {S : Type 0} (machine : Machine S) where
 
   -- a course that goes on, stops or ends behind what was taken and written before
   pub Answers-stopped : (stands : S → Type 0) (taken written : List ℕ) (course : Course) (left left' left'' sunk sunk' sunk'' : Option (List ℕ)) (stop : Stop)
-      → Consumes left left' taken → Appends sunk sunk' written → Steps machine stands taken written course left' left'' sunk' sunk'' (Err stop)
+      → Consumes left left' taken → Appends sunk sunk' written
+      → Steps machine stands taken written course left' left'' sunk' sunk'' (Err stop)
       → Answers left left'' sunk sunk'' (status_of stop) (Says machine)
   Answers-stopped stands taken written course left left' left'' sunk sunk' sunk'' stop consumes appends steps = record {
     taken = taken ++ steps.more;
@@ -87,7 +93,8 @@ module _ {S : Type 0} (machine : Machine S) where
   }
 
   pub Answers-ended : (taken written : List ℕ) (left left' sunk sunk' sunk'' : Option (List ℕ)) (result : Result Status Stop)
-      → Consumes left left' taken → IsAtEnd left' → Appends sunk sunk' written → Finishes machine taken written sunk' sunk'' result
+      → Consumes left left' taken → IsAtEnd left' → Appends sunk sunk' written
+      → Finishes machine taken written sunk' sunk'' result
       → Answers left left' sunk sunk'' (status_in result) (Says machine)
   Answers-ended taken written left left' sunk sunk' sunk'' result consumes ended appends finishes = record {
     taken = taken;

@@ -29,7 +29,8 @@ SplitsLine-shorter text line rest splits some = elim splits.parts [
 
 module _ {S : Type 0} (machine : Machine S) (stands : S → Type 0) where
   -- past one line: it is passed, refused, or passes a limit
-  pub GoesPast-line : (s : S) (line out out' : List ℕ) → machine.halts s line ≡ None → out' ≡ out ++ machine.prints s line
+  pub GoesPast-line : (s : S) (line out out' : List ℕ) → machine.halts s line ≡ None
+      → out' ≡ out ++ machine.prints s line
       → stands (machine.next s line) → GoesPast machine stands s (line ∷ []) None out out'
   GoesPast-line s line out out' open_line prints behind = record {
     halt_of = ap (λ (halt : Option Halt). first_halt halt None) (sym open_line);
@@ -38,7 +39,8 @@ module _ {S : Type 0} (machine : Machine S) (stands : S → Type 0) where
     stands_behind = λ _. behind;
   }
 
-  pub GoesPast-refused : (s : S) (line out out' : List ℕ) → machine.halts s line ≡ Some Refuses → out' ≡ out ++ machine.prints s line
+  pub GoesPast-refused : (s : S) (line out out' : List ℕ) → machine.halts s line ≡ Some Refuses
+      → out' ≡ out ++ machine.prints s line
       → GoesPast machine stands s (line ∷ []) (Some Refuses) out out'
   GoesPast-refused s line out out' refused prints = record {
     halt_of = ap (λ (halt : Option Halt). first_halt halt None) (sym refused);
@@ -50,13 +52,16 @@ module _ {S : Type 0} (machine : Machine S) (stands : S → Type 0) where
       → GoesPast machine stands s (line ∷ []) (Some Passes) out out'
   GoesPast-limit s line out out' past_limit same = record {
     halt_of = ap (λ (halt : Option Halt). first_halt halt None) (sym past_limit);
-    prints = same ∙ sym (append-nil out) ∙ ap (λ (bytes : List ℕ). out ++ bytes) (ap (λ (halt : Option Halt). printed_from halt (machine.prints s line) []) (sym past_limit));
+    prints = same ∙ sym (append-nil out)
+        ∙ ap (λ (bytes : List ℕ). out ++ bytes) (ap (λ (halt : Option Halt). printed_from halt (machine.prints s line) []) (sym past_limit));
     stands_behind = λ none. absurd cc;
   }
 
   -- past lines of which none stops it, and then past more
-  pub GoesPast-both : (s : S) (lines more all : List (List ℕ)) (halt : Option Halt) (first out out' : List ℕ) → halted machine s lines ≡ None
-      → out ≡ first ++ printed machine s lines → lines ++ more ≡ all → GoesPast machine stands (past machine s lines) more halt out out'
+  pub GoesPast-both : (s : S) (lines more all : List (List ℕ)) (halt : Option Halt) (first out out' : List ℕ)
+      → halted machine s lines ≡ None
+      → out ≡ first ++ printed machine s lines → lines ++ more ≡ all
+      → GoesPast machine stands (past machine s lines) more halt out out'
       → GoesPast machine stands s all halt first out'
   GoesPast-both s lines more all halt first out out' none written joined goes =
       subst (λ (ls : List (List ℕ)). GoesPast machine stands s ls halt first out') joined (record {
@@ -68,7 +73,8 @@ module _ {S : Type 0} (machine : Machine S) (stands : S → Type 0) where
       })
 
   -- what stands behind a line that stops it doesn't matter
-  pub GoesPast-stopped : (s : S) (lines more : List (List ℕ)) (halt : Halt) (out out' : List ℕ) → GoesPast machine stands s lines (Some halt) out out'
+  pub GoesPast-stopped : (s : S) (lines more : List (List ℕ)) (halt : Halt) (out out' : List ℕ)
+      → GoesPast machine stands s lines (Some halt) out out'
       → GoesPast machine stands s (lines ++ more) (Some halt) out out'
   GoesPast-stopped s lines more halt out out' goes =
       let stops = halted-stops machine s lines more halt (sym goes.halt_of) in
@@ -88,7 +94,8 @@ module _ {S : Type 0} (machine : Machine S) (stands : S → Type 0) where
   }
 
 -- a line is behind the lines above it
-pub one_further : (all above : List (List ℕ)) (rest line behind : List ℕ) → all ≡ above ++ lines_of rest → rest ≢ [] → SplitsLine rest line behind
+pub one_further : (all above : List (List ℕ)) (rest line behind : List ℕ) → all ≡ above ++ lines_of rest
+    → rest ≢ [] → SplitsLine rest line behind
     → all ≡ (above ++ (line ∷ [])) ++ lines_of behind
 one_further all above rest line behind parts some splits =
     parts ∙ ap (λ (lines : List (List ℕ)). above ++ lines) (lines_of-begin rest line behind splits some)
@@ -114,7 +121,8 @@ module _ {S : Type 0} (machine : Machine S) (stands now next : S → Type 0) (al
 
 -- at the end of the text
 pub passes_end : {S : Type 0} (machine : Machine S) (stands now : S → Type 0) (all above : List (List ℕ)) (rest first out : List ℕ) → all ≡ above ++ lines_of rest → rest ≡ []
-    → ((s : S) → stands s → GoesPast machine now s above None first out) → (s : S) → stands s → GoesPast machine now s all None first out
+    → ((s : S) → stands s → GoesPast machine now s above None first out) → (s : S) → stands s
+    → GoesPast machine now s all None first out
 passes_end machine stands now all above rest first out parts none passed s here =
     subst (λ (lines : List (List ℕ)). GoesPast machine now s lines None first out)
     (sym (parts ∙ ap (λ (bytes : List ℕ). above ++ lines_of bytes) none ∙ append-nil above)) (passed s here)

@@ -15,7 +15,8 @@ lines_counted true taken = lines_of taken
 lines_counted false taken = lines_taken taken
 
 -- all lines of a text, those that count first
-pub lines_of-counted : (at_end : Bool) (text : List ℕ) → (others : List (List ℕ)) × (lines_of text ≡ lines_counted at_end text ++ others)
+pub lines_of-counted : (at_end : Bool) (text : List ℕ)
+    → (others : List (List ℕ)) × (lines_of text ≡ lines_counted at_end text ++ others)
 lines_of-counted true text = ([], sym (append-nil (lines_of text)))
 lines_of-counted false text = (
   lines_of (partial_line (take most_bytes text) ++ drop most_bytes text),
@@ -26,7 +27,8 @@ lines_of-counted false text = (
 pub lines_taken-within : (taken : List ℕ) → length taken ≤ most_bytes → lines_taken taken ≡ whole_lines taken
 lines_taken-within taken within = ap whole_lines (take_all most_bytes taken within)
 
-pub lines_counted-within : (at_end : Bool) (taken : List ℕ) → length taken ≤ most_bytes → lines_counted at_end taken ≡ lines_judged at_end taken
+pub lines_counted-within : (at_end : Bool) (taken : List ℕ) → length taken ≤ most_bytes
+    → lines_counted at_end taken ≡ lines_judged at_end taken
 lines_counted-within true taken within = refl
 lines_counted-within false taken within = lines_taken-within taken within
 

@@ -5,7 +5,8 @@ use Rattle.vms_stream.specs.declared.halts.Halt.TheVariants.{Refuses, Passes}
 use Rattle.vms_stream.specs.Machines.{Machine, past, first_halt, halted, printed_from, printed, last_words, output}
 
 module _ {S : Type 0} (machine : Machine S) where
-  pub past-append : (s : S) (lines more : List (List ℕ)) → past machine s (lines ++ more) ≡ past machine (past machine s lines) more
+  pub past-append : (s : S) (lines more : List (List ℕ))
+      → past machine s (lines ++ more) ≡ past machine (past machine s lines) more
   past-append s [] more = refl
   past-append s (line ∷ lines) more = past-append (machine.next s line) lines more
 
@@ -41,18 +42,21 @@ module _ {S : Type 0} (machine : Machine S) where
   begins_from (Some Refuses) line printed all later = ([], sym (append-nil line))
   begins_from (Some Passes) line printed all later = ([], refl)
 
-  pub printed-begins : (s : S) (lines more : List (List ℕ)) → (rest : List ℕ) × (printed machine s (lines ++ more) ≡ printed machine s lines ++ rest)
+  pub printed-begins : (s : S) (lines more : List (List ℕ))
+      → (rest : List ℕ) × (printed machine s (lines ++ more) ≡ printed machine s lines ++ rest)
   printed-begins s [] more = (printed machine s more, refl)
   printed-begins s (line ∷ lines) more =
       begins_from (machine.halts s line) (machine.prints s line) (printed machine (machine.next s line) lines)
       (printed machine (machine.next s line) (lines ++ more)) (printed-begins (machine.next s line) lines more)
 
-  pub output-begins : (lines more : List (List ℕ)) → (rest : List ℕ) × (output machine (lines ++ more) ≡ printed machine machine.start lines ++ rest)
+  pub output-begins : (lines more : List (List ℕ))
+      → (rest : List ℕ) × (output machine (lines ++ more) ≡ printed machine machine.start lines ++ rest)
   output-begins lines more =
       let begins = printed-begins machine.start lines more in
       let words = last_words (halted machine machine.start (lines ++ more)) (machine.last (past machine machine.start (lines ++ more))) in (
         begins.0 ++ words,
-        ap (λ (front : List ℕ). front ++ words) begins.1 ∙ append_assoc (printed machine machine.start lines) begins.0 words,
+        ap (λ (front : List ℕ). front ++ words) begins.1
+            ∙ append_assoc (printed machine machine.start lines) begins.0 words,
       )
 
   -- the whole output where no line stops the machine
@@ -60,6 +64,12 @@ module _ {S : Type 0} (machine : Machine S) where
       → output machine lines ≡ printed machine machine.start lines ++ machine.last (past machine machine.start lines)
   output-open lines none =
       ap (λ (halt : Option Halt). printed machine machine.start lines ++ last_words halt (machine.last (past machine machine.start lines))) none
+
+  -- nothing is printed behind a line that stops it
+  stopped-prints : (halt : Halt) (line later other : List ℕ)
+      → printed_from (Some halt) line later ≡ printed_from (Some halt) line other
+  stopped-prints Refuses line later other = refl
+  stopped-prints Passes line later other = refl
 
   -- where a line of the first part stops it
   pub halted-stops : (s : S) (lines more : List (List ℕ)) (halt : Halt) → halted machine s lines ≡ Some halt
@@ -79,15 +89,11 @@ module _ {S : Type 0} (machine : Machine S) where
             ap (λ (first : Option Halt). first_halt first (halted machine next (lines ++ more))) is ∙ stops.0,
             ap (λ (rest : List ℕ). printed_from (machine.halts s line) (machine.prints s line) rest) stops.1,
           )
-      by (Some Refuses) is again = (
-        ap (λ (first : Option Halt). first_halt first (halted machine (machine.next s line) (lines ++ more))) is
-            ∙ sym (ap (λ (first : Option Halt). first_halt first (halted machine (machine.next s line) lines)) is) ∙ some,
-        ap (λ (first : Option Halt). printed_from first (machine.prints s line) (printed machine (machine.next s line) (lines ++ more))) is
-            ∙ sym (ap (λ (first : Option Halt). printed_from first (machine.prints s line) (printed machine (machine.next s line) lines)) is),
-      )
-      by (Some Passes) is again = (
-        ap (λ (first : Option Halt). first_halt first (halted machine (machine.next s line) (lines ++ more))) is
-            ∙ sym (ap (λ (first : Option Halt). first_halt first (halted machine (machine.next s line) lines)) is) ∙ some,
-        ap (λ (first : Option Halt). printed_from first (machine.prints s line) (printed machine (machine.next s line) (lines ++ more))) is
-            ∙ sym (ap (λ (first : Option Halt). printed_from first (machine.prints s line) (printed machine (machine.next s line) lines)) is),
-      )
+      by (Some first) is again =
+          let next = machine.next s line in (
+            ap (λ (found : Option Halt). first_halt found (halted machine next (lines ++ more))) is
+            ∙ sym (ap (λ (found : Option Halt). first_halt found (halted machine next lines)) is) ∙ some,
+            ap (λ (found : Option Halt). printed_from found (machine.prints s line) (printed machine next (lines ++ more))) is
+            ∙ stopped-prints first (machine.prints s line) (printed machine next (lines ++ more)) (printed machine next lines)
+            ∙ sym (ap (λ (found : Option Halt). printed_from found (machine.prints s line) (printed machine next lines)) is),
+          )

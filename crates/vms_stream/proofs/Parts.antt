@@ -28,7 +28,8 @@ last_of-append (part ∷ (next ∷ parts)) more some = last_of-append (next ∷ 
 parts_of-newline : (byte : ℕ) (text : List ℕ) → is_end byte ≡ true → parts_of (byte ∷ text) ≡ [] ∷ parts_of text
 parts_of-newline byte text newline = slice_split-cons_yes is_end byte text newline
 
-whole_lines-newline : (byte : ℕ) (text : List ℕ) → is_end byte ≡ true → whole_lines (byte ∷ text) ≡ [] ∷ whole_lines text
+whole_lines-newline : (byte : ℕ) (text : List ℕ) → is_end byte ≡ true
+    → whole_lines (byte ∷ text) ≡ [] ∷ whole_lines text
 whole_lines-newline byte text newline =
     ap front_of (parts_of-newline byte text newline) ∙ front_of-append ([] ∷ []) (parts_of text) (parts_of-filled text)
 
@@ -45,7 +46,8 @@ onto_parts byte (part ∷ []) more other some = sym (slice_split-cons_no is_end 
 onto_parts byte (part ∷ (next ∷ parts)) more other some = refl
 
 -- the parts of a text and more are its whole lines, and the parts of what stands behind them and more
-pub parts_of-append : (text more : List ℕ) → parts_of (text ++ more) ≡ whole_lines text ++ parts_of (partial_line text ++ more)
+pub parts_of-append : (text more : List ℕ)
+    → parts_of (text ++ more) ≡ whole_lines text ++ parts_of (partial_line text ++ more)
 parts_of-append [] more = refl
 parts_of-append (byte ∷ text) more =
     elim (is_end byte) as (λ b. is_end byte ≡ b → parts_of (byte ∷ (text ++ more)) ≡ whole_lines (byte ∷ text) ++ parts_of (partial_line (byte ∷ text) ++ more)) [
@@ -59,7 +61,8 @@ parts_of-append (byte ∷ text) more =
           ∙ ap (λ (parts : List (List ℕ)). front_of parts ++ parts_of (last_of parts ++ more)) (sym (slice_split-cons_no is_end byte text other))
     ] refl
 
-pub whole_lines-append : (text more : List ℕ) → whole_lines (text ++ more) ≡ whole_lines text ++ whole_lines (partial_line text ++ more)
+pub whole_lines-append : (text more : List ℕ)
+    → whole_lines (text ++ more) ≡ whole_lines text ++ whole_lines (partial_line text ++ more)
 whole_lines-append text more =
     ap front_of (parts_of-append text more)
     ∙ front_of-append (whole_lines text) (parts_of (partial_line text ++ more)) (parts_of-filled (partial_line text ++ more))
@@ -69,12 +72,14 @@ partial_line-append text more =
     ap last_of (parts_of-append text more)
     ∙ last_of-append (whole_lines text) (parts_of (partial_line text ++ more)) (parts_of-filled (partial_line text ++ more))
 
-pub lines_of-parts : (text more : List ℕ) → lines_of (text ++ more) ≡ whole_lines text ++ lines_of (partial_line text ++ more)
+pub lines_of-parts : (text more : List ℕ)
+    → lines_of (text ++ more) ≡ whole_lines text ++ lines_of (partial_line text ++ more)
 lines_of-parts text more =
     ap without_last_empty (parts_of-append text more)
     ∙ without_last_empty-append (whole_lines text) (parts_of (partial_line text ++ more)) (parts_of-filled (partial_line text ++ more))
 
-last_of-onto : (byte : ℕ) (parts : List (List ℕ)) → length (last_of (onto_first byte parts)) ≤ length (last_of parts) + 1
+last_of-onto : (byte : ℕ) (parts : List (List ℕ))
+    → length (last_of (onto_first byte parts)) ≤ length (last_of parts) + 1
 last_of-onto byte [] = omega arith
 last_of-onto byte (part ∷ []) = omega arith
 last_of-onto byte (part ∷ (next ∷ parts)) = omega arith

@@ -21,22 +21,26 @@ use Rattle.vms_text.specs.Lines.{lines_of}
 
 module _ {S : Type 0} (machine : Machine S) where
   -- what the first lines print, or a part of it, begins the output
-  pub begins : (text : List ℕ) (lines others : List (List ℕ)) (written unwritten : List ℕ) → lines_of text ≡ lines ++ others
+  pub begins : (text : List ℕ) (lines others : List (List ℕ)) (written unwritten : List ℕ)
+      → lines_of text ≡ lines ++ others
       → written ++ unwritten ≡ printed machine machine.start lines → BeginsOutput machine text written
   begins text lines others written unwritten parts prints =
       let whole = output-begins machine lines others in
       record {
         unwritten = unwritten ++ whole.0;
-        begins = ap (output machine) parts ∙ whole.1 ∙ ap (λ (front : List ℕ). front ++ whole.0) (sym prints) ∙ append_assoc written unwritten whole.0;
+        begins = ap (output machine) parts ∙ whole.1 ∙ ap (λ (front : List ℕ). front ++ whole.0) (sym prints)
+            ∙ append_assoc written unwritten whole.0;
       }
 
   -- the first n bytes of what waits
   part_written : (written waiting : List ℕ) (n : ℕ) → (written ++ take n waiting) ++ drop n waiting ≡ written ++ waiting
   part_written written waiting n =
-      append_assoc written (take n waiting) (drop n waiting) ∙ ap (λ (rest : List ℕ). written ++ rest) (take-append-drop n waiting)
+      append_assoc written (take n waiting) (drop n waiting)
+      ∙ ap (λ (rest : List ℕ). written ++ rest) (take-append-drop n waiting)
 
   -- a course before the end of its input
-  pub before_end : {stands : S → Type 0} (taken written : List ℕ) (course : Course) → IsCourse machine stands taken written course
+  pub before_end : {stands : S → Type 0} (taken written : List ℕ) (course : Course)
+      → IsCourse machine stands taken written course
       → course.at_end ≡ false → GoesOn machine taken written × stands (past machine machine.start (whole_lines taken))
   before_end {stands} taken written course is isnt = (
     record {
@@ -48,7 +52,8 @@ module _ {S : Type 0} (machine : Machine S) where
   )
 
   -- nothing is taken and nothing written
-  nothing_more : (stop : Stop) (taken written : List ℕ) (at_end : Type 0) → Says machine (status_of stop) taken written at_end
+  nothing_more : (stop : Stop) (taken written : List ℕ) (at_end : Type 0)
+      → Says machine (status_of stop) taken written at_end
       → Says machine (status_of stop) (taken ++ []) (written ++ []) at_end
   nothing_more stop taken written at_end says =
       subst (λ (bytes : List ℕ). Says machine (status_of stop) (taken ++ []) bytes at_end) (sym (append-nil written))
@@ -56,14 +61,16 @@ module _ {S : Type 0} (machine : Machine S) where
 
   module _ {stands : S → Type 0} (stands' : S → Type 0) (taken written : List ℕ) (course : Course)
       (is : IsCourse machine stands taken written course) (isnt : course.at_end ≡ false) where
-    unread : (stop : Stop) (at_end : Type 0) → (stop ≡ ReadFault) ⊎ (stop ≡ Memory) → Says machine (status_of stop) taken written at_end
+    unread : (stop : Stop) (at_end : Type 0) → (stop ≡ ReadFault) ⊎ (stop ≡ Memory)
+        → Says machine (status_of stop) taken written at_end
     unread stop at_end (inl fault) = subst (λ (s : Stop). Says machine (status_of s) taken written at_end) (sym fault) (before_end taken written course is isnt).0
     unread stop at_end (inr memory) = subst (λ (s : Stop). Says machine (status_of s) taken written at_end) (sym memory)
         (begins taken (whole_lines taken) (lines_of (partial_line taken ++ [])) written []
         (ap lines_of (sym (append-nil taken)) ∙ lines_of-parts taken []) (append-nil written ∙ (before_end taken written course is isnt).0.all_written))
 
     -- the read failed, or there was no memory for it
-    pub Steps-unread : (last : Course) (left left' held : Option (List ℕ)) (stop : Stop) → Keeps left left' → (stop ≡ ReadFault) ⊎ (stop ≡ Memory)
+    pub Steps-unread : (last : Course) (left left' held : Option (List ℕ)) (stop : Stop) → Keeps left left'
+        → (stop ≡ ReadFault) ⊎ (stop ≡ Memory)
         → Steps machine stands' taken written last left left' held held (Err stop)
     Steps-unread last left left' held stop keeps cause = record {
       more = [];
@@ -143,7 +150,8 @@ module _ {S : Type 0} (machine : Machine S) where
             (waits ∙ is.nothing_waits) (judges (past machine machine.start (whole_lines taken)) before.1))
 
         -- the write failed
-        pub Steps-unwritten : (last : Course) (held held' : Option (List ℕ)) (n : ℕ) (stop : Stop) → Appends held held' (take n waiting) → stop ≡ WriteFault
+        pub Steps-unwritten : (last : Course) (held held' : Option (List ℕ)) (n : ℕ) (stop : Stop)
+            → Appends held held' (take n waiting) → stop ≡ WriteFault
             → Steps machine stands' taken written last left left' held held' (Err stop)
         Steps-unwritten last held held' n stop appends cause =
             let others = lines_of-counted read.at_end text in
@@ -171,12 +179,14 @@ module _ {S : Type 0} (machine : Machine S) where
             counts true end = let there = at_the_end end in inr (there.0, there.1, refl)
             counts false before = inl refl
 
-        says_halt : (h : Halt) → halt ≡ Some h → Says machine (status_of (stop_of_halt h)) text (written ++ waiting) (IsAtEnd left')
+        says_halt : (h : Halt) → halt ≡ Some h
+            → Says machine (status_of (stop_of_halt h)) text (written ++ waiting) (IsAtEnd left')
         says_halt Refuses stopped = inl (halts Refuses stopped)
         says_halt Passes stopped = inl (halts Passes stopped)
 
         -- there are too many bytes
-        says_beyond : (b : Bool) → read.at_end ≡ b → halt ≡ None → most_bytes < length text → Says machine (status_of TooLong) text (written ++ waiting) (IsAtEnd left')
+        says_beyond : (b : Bool) → read.at_end ≡ b → halt ≡ None → most_bytes < length text
+            → Says machine (status_of TooLong) text (written ++ waiting) (IsAtEnd left')
         says_beyond true end none beyond = absurd (omega (arith, beyond, (at_the_end end).1))
         says_beyond false before none beyond =
             let same : lines_counted read.at_end text ≡ lines_taken text = ap (λ (b : Bool). lines_counted b text) before in
@@ -204,10 +214,12 @@ module _ {S : Type 0} (machine : Machine S) where
                 stands_behind = subst (λ (lines : List (List ℕ)). stands' (past machine machine.start lines)) same (judged.stands_behind none);
                 all_written = judged.prints ∙ ap (printed machine machine.start) same;
                 nothing_waits = nothing_waits;
-                held = λ before. held (sym same_end ∙ before) within ∙ ap partial_line read_held ∙ sym (partial_line-append taken more);
+                held = λ before. held (sym same_end ∙ before) within ∙ ap partial_line read_held
+                    ∙ sym (partial_line-append taken more);
               }
 
-          pub Steps-judged : (sunk sunk' : Option (List ℕ)) (result : Result (Unit {0}) Stop) → Appends sunk sunk' waiting → StopsAt halt last.taken result
+          pub Steps-judged : (sunk sunk' : Option (List ℕ)) (result : Result (Unit {0}) Stop)
+              → Appends sunk sunk' waiting → StopsAt halt last.taken result
               → Steps machine stands' taken written last left left' sunk sunk' result
           Steps-judged sunk sunk' result appends stops = by halt refl result (subst (λ (n : ℕ). StopsAt halt n result) same_count stops)
             where

@@ -36,7 +36,8 @@ pub record IsLastPiece {S : Type 0} (machine : Machine S) (taken : List ℕ) : T
   pub none_before : halted machine machine.start (whole_lines before) ≡ None
 
 -- a line stopped the command, and all was written that is printed up to it
-pub record Halts {S : Type 0} (machine : Machine S) (halt : Halt) (taken written : List ℕ) (at_end : Type 0) : Type 0 where
+pub record Halts {S : Type 0} (machine : Machine S) (halt : Halt) (taken written : List ℕ)
+    (at_end : Type 0) : Type 0 where
   pub lines : List (List ℕ)
   pub judged : IsJudged taken lines at_end
   pub halt_is : halted machine machine.start lines ≡ Some halt
@@ -51,7 +52,8 @@ pub record Oversteps {S : Type 0} (machine : Machine S) (taken written : List �
   pub last_piece : IsLastPiece machine taken
 
 -- the command came to the end of its input, and the whole output was written
-pub record Ends {S : Type 0} (machine : Machine S) (ending : Ending) (taken written : List ℕ) (at_end : Type 0) : Type 0 where
+pub record Ends {S : Type 0} (machine : Machine S) (ending : Ending) (taken written : List ℕ)
+    (at_end : Type 0) : Type 0 where
   pub ended : at_end
   pub within : length taken ≤ most_bytes
   pub none_halts : halted machine machine.start (lines_of taken) ≡ None

@@ -41,10 +41,12 @@ status_in (Err stop) = status_of stop
 
 -- the counts of faults rise only with the stops that faults cause
 abbrev pub CountsReads : {A : Type 0} → Result A Stop → ℕ → ℕ → Type 0
-CountsReads result before now = MatchResult result (λ _. now ≡ before) (λ stop. FaultsOfSource (status_of stop) before now)
+CountsReads result before now =
+    MatchResult result (λ _. now ≡ before) (λ stop. FaultsOfSource (status_of stop) before now)
 
 abbrev pub CountsWrites : {A : Type 0} → Result A Stop → ℕ → ℕ → Type 0
-CountsWrites result before now = MatchResult result (λ _. now ≡ before) (λ stop. FaultsOfSink (status_of stop) before now)
+CountsWrites result before now =
+    MatchResult result (λ _. now ≡ before) (λ stop. FaultsOfSink (status_of stop) before now)
 
 -- the lines that are judged: the whole ones, and at the end of the input all
 abbrev pub lines_judged : Bool → List ℕ → List (List ℕ)
@@ -61,7 +63,8 @@ lines_held course = lines_judged course.at_end (take (counted_bytes course) cour
 
 -- a course between two pieces: the job stands behind the lines that were taken, all was written that they print, and
 -- what stands behind the last newline is held
-pub record IsCourse {S : Type 0} (machine : Machine S) (stands : S → Type 0) (taken written : List ℕ) (course : Course) : Type 0 where
+pub record IsCourse {S : Type 0} (machine : Machine S) (stands : S → Type 0) (taken written : List ℕ)
+    (course : Course) : Type 0 where
   pub counted : course.taken ≡ length taken
   pub within : length taken ≤ most_bytes
   pub none_halts : halted machine machine.start (lines_judged course.at_end taken) ≡ None
@@ -78,7 +81,8 @@ pub record Steps {S : Type 0} (machine : Machine S) (stands : S → Type 0) (tak
   pub consumes : Consumes left left' more
   pub appends : Appends held held' moved
   pub outcome : MatchResult result
-      (λ _. IsCourse machine stands (taken ++ more) (written ++ moved) course' × (course'.at_end ≡ true → IsAtEnd left'))
+      (λ _. IsCourse machine stands (taken ++ more) (written ++ moved) course'
+      × (course'.at_end ≡ true → IsAtEnd left'))
       (λ stop. Says machine (status_of stop) (taken ++ more) (written ++ moved) (IsAtEnd left'))
 
 -- the end of a course
@@ -86,9 +90,11 @@ pub record Finishes {S : Type 0} (machine : Machine S) (taken written : List ℕ
     (result : Result Status Stop) : Type 0 where
   pub moved : List ℕ
   pub appends : Appends held held' moved
-  pub outcome : (left : Option (List ℕ)) → IsAtEnd left → Says machine (status_in result) taken (written ++ moved) (IsAtEnd left)
+  pub outcome : (left : Option (List ℕ)) → IsAtEnd left
+      → Says machine (status_in result) taken (written ++ moved) (IsAtEnd left)
 
 -- a command stops at a line that stops it, and else behind too many bytes
 abbrev pub StopsAt : Option Halt → ℕ → Result (Unit {0}) Stop → Type 0
 StopsAt (Some halt) taken result = result ≡ Err (stop_of_halt halt)
-StopsAt None taken result = MatchResult result (λ _. taken ≤ most_bytes) (λ stop. (stop ≡ TooLong) × (most_bytes < taken))
+StopsAt None taken result =
+    MatchResult result (λ _. taken ≤ most_bytes) (λ stop. (stop ≡ TooLong) × (most_bytes < taken))

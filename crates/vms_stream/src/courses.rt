@@ -22,18 +22,21 @@ pub(crate) struct Course {
 }
 
 impl Course {
-    ghost use Rattle.std.specs.Prelude.{◌≡◌, ℕ, ◌+◌, ◌-◌, ◌<◌, ◌≤◌, ◌⊎◌, true, false, List, [], length, take, drop, OnOk, IfOk, IfErr, OnErr};
+    ghost use Rattle.std.specs.Prelude.{◌≡◌, ℕ, ◌+◌, ◌-◌, ◌<◌, ◌≤◌, ◌⊎◌, true, false, List, [], length, take, drop};
+    ghost use Rattle.std.specs.Prelude.{IfErr, IfOk, OnErr, OnOk};
     ghost use Rattle.std.specs.Io.KnownBytes.{Appends, Keeps};
     ghost use Rattle.vms_io.specs.Reading.{Gets};
     ghost use Rattle.vms_stream.specs.Answers.{FaultsOfSource, FaultsOfSink, most_bytes};
-    ghost use Rattle.vms_stream.specs.Courses.{CountsReads, CountsWrites, Finishes, IsCourse, Steps, lines_held, status_in};
+    ghost use Rattle.vms_stream.specs.Courses.{CountsReads, CountsWrites, Finishes, IsCourse, Steps};
+    ghost use Rattle.vms_stream.specs.Courses.{lines_held, status_in};
     ghost use Rattle.vms_stream.specs.Jobs.{GoesPast};
     ghost use Rattle.vms_stream.specs.Pieces.{partial_line};
     ghost use Rattle.vms_text.specs.Lines.{lines_of};
 
     /// Before the first piece.
     pub(crate) fn begin(alloc: Global) -> Result<Course, Memory>
-        ensures { IfOk result (λ course. (course.input ≡ []) × (course.waiting.items ≡ []) × (course.taken ≡ 0) × (course.at_end ≡ false)) }
+        ensures { IfOk result (λ course. (course.input ≡ []) × (course.waiting.items ≡ [])
+            × (course.taken ≡ 0) × (course.at_end ≡ false)) }
     {
         Ok(Course {
             input: ReadBuffer::make(alloc)?,
@@ -47,7 +50,8 @@ impl Course {
     fn read<S: Source>(&mut self, src: &mut S) -> Result<(), Stop>
         requires counted { self.old.taken ≤ most_bytes }
         requires held { length self.old.input ≤ self.old.taken }
-        ensures ok { OnOk result (Gets self.old.input self.new.input (S.remaining src.old) (S.remaining src.new) (self.new.taken - self.old.taken)) }
+        ensures ok { OnOk result (Gets self.old.input self.new.input (S.remaining src.old) (S.remaining src.new)
+            (self.new.taken - self.old.taken)) }
         ensures counted { OnOk result (self.old.taken ≤ self.new.taken) }
         ensures end { OnOk result (self.new.at_end ≡ true → self.new.taken ≡ self.old.taken) }
         ensures more { OnOk result (self.new.at_end ≡ false → self.old.taken < self.new.taken) }
@@ -68,7 +72,8 @@ impl Course {
         ensures within { result ≤ length self.old.input }
         ensures same { self.new ≡ self.old }
         ensures lines { lines_of (take result self.old.input) ≡ lines_held self.old }
-        ensures behind { self.old.at_end ≡ false → self.old.taken ≤ most_bytes → drop result self.old.input ≡ partial_line self.old.input }
+        ensures behind { self.old.at_end ≡ false → self.old.taken ≤ most_bytes →
+            drop result self.old.input ≡ partial_line self.old.input }
     {
         let held = self.input.bytes().len();
         let beyond = self.taken.saturating_sub(MOST_BYTES);
@@ -86,8 +91,10 @@ impl Course {
         requires job { (s : J.State) × J.Stands job.old s }
         requires counted { self.old.taken ≤ most_bytes + length self.old.input }
         ensures lines { IfOk result (λ halt. (s : J.State) → J.Stands job.old s →
-            GoesPast J.machine (J.Stands job.new) s (lines_held self.old) halt self.old.waiting.items self.new.waiting.items) }
-        ensures held { OnOk result (self.old.at_end ≡ false → self.old.taken ≤ most_bytes → self.new.input ≡ partial_line self.old.input) }
+            GoesPast J.machine (J.Stands job.new) s (lines_held self.old) halt
+            self.old.waiting.items self.new.waiting.items) }
+        ensures held { OnOk result (self.old.at_end ≡ false → self.old.taken ≤ most_bytes →
+            self.new.input ≡ partial_line self.old.input) }
         ensures same_count { self.new.taken ≡ self.old.taken }
         ensures same_end { self.new.at_end ≡ self.old.at_end }
     {
@@ -101,7 +108,8 @@ impl Course {
     fn flush<K: Sink>(&mut self, out: &mut K) -> Result<(), Stop>
         ensures ok { OnOk result (Appends (K.written out.old) (K.written out.new) self.old.waiting.items) }
         ensures empty { OnOk result (self.new.waiting.items ≡ []) }
-        ensures err { OnErr result ((n : ℕ) × Appends (K.written out.old) (K.written out.new) (take n self.old.waiting.items)) }
+        ensures err { OnErr result ((n : ℕ)
+            × Appends (K.written out.old) (K.written out.new) (take n self.old.waiting.items)) }
         ensures cause { IfErr result (λ stop. stop ≡ Stop.WriteFault) }
         ensures same_input { self.new.input ≡ self.old.input }
         ensures same_count { self.new.taken ≡ self.old.taken }
@@ -120,9 +128,11 @@ impl Course {
         src: &mut S,
         out: &mut K,
     ) -> Result<(), Stop>
-        requires course { (taken : List ℕ) × (written : List ℕ) × IsCourse J.machine (J.Stands job.old) taken written self.old }
+        requires course { (taken : List ℕ) × (written : List ℕ)
+            × IsCourse J.machine (J.Stands job.old) taken written self.old }
         requires before_end { self.old.at_end ≡ false }
-        ensures steps { (taken : List ℕ) (written : List ℕ) → IsCourse J.machine (J.Stands job.old) taken written self.old →
+        ensures steps { (taken : List ℕ) (written : List ℕ) →
+            IsCourse J.machine (J.Stands job.old) taken written self.old →
             Steps J.machine (J.Stands job.new) taken written self.new (S.remaining src.old) (S.remaining src.new)
             (K.written out.old) (K.written out.new) result }
         ensures reads { CountsReads result (S.faults src.old) (S.faults src.new) }
@@ -141,9 +151,11 @@ impl Course {
         job: &mut J,
         out: &mut K,
     ) -> Result<Status, Stop>
-        requires course { (taken : List ℕ) × (written : List ℕ) × IsCourse J.machine (J.Stands job.old) taken written self.old }
+        requires course { (taken : List ℕ) × (written : List ℕ)
+            × IsCourse J.machine (J.Stands job.old) taken written self.old }
         requires at_end { self.old.at_end ≡ true }
-        ensures finishes { (taken : List ℕ) (written : List ℕ) → IsCourse J.machine (J.Stands job.old) taken written self.old →
+        ensures finishes { (taken : List ℕ) (written : List ℕ) →
+            IsCourse J.machine (J.Stands job.old) taken written self.old →
             Finishes J.machine taken written (K.written out.old) (K.written out.new) result }
         ensures reads { (n : ℕ) → FaultsOfSource (status_in result) n n }
         ensures writes { FaultsOfSink (status_in result) (K.faults out.old) (K.faults out.new) }
