@@ -92,8 +92,8 @@ module _ {S : Type 0} (machine : Machine S) where
       by (Some first) is again =
           let next = machine.next s line in (
             ap (λ (found : Option Halt). first_halt found (halted machine next (lines ++ more))) is
-            ∙ sym (ap (λ (found : Option Halt). first_halt found (halted machine next lines)) is) ∙ some,
+                ∙ sym (ap (λ (found : Option Halt). first_halt found (halted machine next lines)) is) ∙ some,
             ap (λ (found : Option Halt). printed_from found (machine.prints s line) (printed machine next (lines ++ more))) is
-            ∙ stopped-prints first (machine.prints s line) (printed machine next (lines ++ more)) (printed machine next lines)
-            ∙ sym (ap (λ (found : Option Halt). printed_from found (machine.prints s line) (printed machine next lines)) is),
+                ∙ stopped-prints first (machine.prints s line) (printed machine next (lines ++ more)) (printed machine next lines)
+                ∙ sym (ap (λ (found : Option Halt). printed_from found (machine.prints s line) (printed machine next lines)) is),
           )
