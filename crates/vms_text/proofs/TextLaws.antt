@@ -35,7 +35,8 @@ without_last_empty-cons part [] some = absurd (omega arith)
 without_last_empty-cons [] (next ∷ parts) some = refl
 without_last_empty-cons (byte ∷ part) (next ∷ parts) some = refl
 
-without_last_empty-append : (parts more : List (List ℕ)) → 0 < length more → without_last_empty (parts ++ more) ≡ parts ++ without_last_empty more
+-- the last part alone may be left out
+pub without_last_empty-append : (parts more : List (List ℕ)) → 0 < length more → without_last_empty (parts ++ more) ≡ parts ++ without_last_empty more
 without_last_empty-append [] more some = refl
 without_last_empty-append (part ∷ parts) more some =
     without_last_empty-cons part (parts ++ more) (omega (arith, length-append parts more))

@@ -1,0 +1,104 @@
+-- What each status says of the bytes that were taken and of those that were written.
+use Rattle.std.specs.Prelude.{◌≡◌, ℕ, ◌^◌, ◌<◌, ◌≤◌, ◌⊎◌, max, List, ◌++◌, length, take, Option, Some, None}
+use Rattle.std.specs.Io.KnownBytes.{Appends, Consumes, IsAtEnd}
+use Rattle.vms_io.specs.Faults.{Rose}
+use Rattle.vms_stream.specs.declared.endings.Ending.{Ending}
+use Rattle.vms_stream.specs.declared.endings.Ending.TheVariants as endings
+use Rattle.vms_stream.specs.declared.halts.Halt.{Halt}
+use Rattle.vms_stream.specs.declared.halts.Halt.TheVariants.{Refuses, Passes}
+use Rattle.vms_stream.specs.declared.statuses.Status.{Status}
+use Rattle.vms_stream.specs.declared.statuses.Status.TheVariants.{Done, Words, Header, Refused, ReadFault, WriteFault, Memory, TooLong, NotBuilt}
+use Rattle.vms_stream.specs.Machines.{Machine, past, halted, printed, output}
+use Rattle.vms_stream.specs.Pieces.{whole_lines, partial_line}
+use Rattle.vms_text.specs.Lines.{lines_of}
+
+-- the most bytes of an input
+abbrev pub most_bytes : ℕ
+most_bytes = 2 ^ 26
+
+-- the whole lines of what was taken; those among the first 64 MiB alone count
+abbrev pub lines_taken : List ℕ → List (List ℕ)
+lines_taken taken = whole_lines (take most_bytes taken)
+
+-- the lines that count: the whole lines, or at the end of the input all
+abbrev pub IsJudged : List ℕ → List (List ℕ) → Type 0 → Type 0
+IsJudged taken lines at_end =
+    (lines ≡ lines_taken taken) ⊎ (at_end × (length taken ≤ most_bytes) × (lines ≡ lines_of taken))
+
+-- nothing was read behind the piece that decided: before it the command went on. A piece has 64 KiB at most, or as many
+-- bytes as the line in which it begins had before it
+pub record IsLastPiece {S : Type 0} (machine : Machine S) (taken : List ℕ) : Type 0 where
+  pub before : List ℕ
+  pub piece : List ℕ
+  pub pieces : taken ≡ before ++ piece
+  pub one_piece : length piece ≤ max 65536 (length (partial_line before))
+  pub within_before : length before ≤ most_bytes
+  pub none_before : halted machine machine.start (whole_lines before) ≡ None
+
+-- a line stopped the command, and all was written that is printed up to it
+pub record Halts {S : Type 0} (machine : Machine S) (halt : Halt) (taken written : List ℕ)
+    (at_end : Type 0) : Type 0 where
+  pub lines : List (List ℕ)
+  pub judged : IsJudged taken lines at_end
+  pub halt_is : halted machine machine.start lines ≡ Some halt
+  pub whole_output : written ≡ printed machine machine.start lines
+  pub last_piece : IsLastPiece machine taken
+
+-- the input has too many bytes, and no whole line that counts stops the command
+pub record Oversteps {S : Type 0} (machine : Machine S) (taken written : List ℕ) : Type 0 where
+  pub beyond : most_bytes < length taken
+  pub none_halts : halted machine machine.start (lines_taken taken) ≡ None
+  pub whole_output : written ≡ printed machine machine.start (lines_taken taken)
+  pub last_piece : IsLastPiece machine taken
+
+-- the command came to the end of its input, and the whole output was written
+pub record Ends {S : Type 0} (machine : Machine S) (ending : Ending) (taken written : List ℕ)
+    (at_end : Type 0) : Type 0 where
+  pub ended : at_end
+  pub within : length taken ≤ most_bytes
+  pub none_halts : halted machine machine.start (lines_of taken) ≡ None
+  pub ending_is : machine.ends (past machine machine.start (lines_of taken)) ≡ ending
+  pub whole_output : written ≡ output machine (lines_of taken)
+
+-- the command went on, and all was written that the whole lines print
+pub record GoesOn {S : Type 0} (machine : Machine S) (taken written : List ℕ) : Type 0 where
+  pub within : length taken ≤ most_bytes
+  pub none_halts : halted machine machine.start (whole_lines taken) ≡ None
+  pub all_written : written ≡ printed machine machine.start (whole_lines taken)
+
+-- what was written begins the output of what was taken, as if the input ended there
+pub record BeginsOutput {S : Type 0} (machine : Machine S) (taken written : List ℕ) : Type 0 where
+  pub unwritten : List ℕ
+  pub begins : output machine (lines_of taken) ≡ written ++ unwritten
+
+-- what each status of a command says
+abbrev pub Says : {S : Type 0} → Machine S → Status → List ℕ → List ℕ → Type 0 → Type 0
+Says machine Done taken written at_end = Ends machine endings.Done taken written at_end
+Says machine Words taken written at_end = ⊥
+Says machine Header taken written at_end =
+    Halts machine Refuses taken written at_end ⊎ Ends machine endings.HeaderRefused taken written at_end
+Says machine Refused taken written at_end = Ends machine endings.Refused taken written at_end
+Says machine ReadFault taken written at_end = GoesOn machine taken written
+Says machine WriteFault taken written at_end = BeginsOutput machine taken written
+Says machine Memory taken written at_end = BeginsOutput machine taken written
+Says machine TooLong taken written at_end =
+    Halts machine Passes taken written at_end ⊎ Oversteps machine taken written
+Says machine NotBuilt taken written at_end = Ends machine endings.NotBuilt taken written at_end
+
+-- a command took these bytes from its source and wrote these to its sink, and its status says what they are
+pub record Answers (left left' held held' : Option (List ℕ)) (status : Status)
+    (says : Status → List ℕ → List ℕ → Type 0 → Type 0) : Type 0 where
+  pub taken : List ℕ
+  pub written : List ℕ
+  pub consumes : Consumes left left' taken
+  pub appends : Appends held held' written
+  pub answer : says status taken written (IsAtEnd left')
+
+-- the counts of faults: that of the source rises only with a failed read, that of the sink only with a failed write
+abbrev pub FaultsOfSource : Status → ℕ → ℕ → Type 0
+FaultsOfSource ReadFault before now = Rose before now
+FaultsOfSource _ before now = now ≡ before
+
+abbrev pub FaultsOfSink : Status → ℕ → ℕ → Type 0
+FaultsOfSink WriteFault before now = Rose before now
+FaultsOfSink _ before now = now ≡ before

@@ -1,0 +1,100 @@
+-- A command on its way through its input.
+use Rattle.std.specs.Prelude.{◌≡◌, ℕ, ◌-◌, ◌≤◌, ◌<◌, Bool, true, false, List, [], ◌++◌, length, take, Option, Some, None, Result, Ok, Err, MatchResult}
+use Rattle.std.specs.Io.KnownBytes.{Appends, Consumes, IsAtEnd}
+use Rattle.vms_stream.specs.declared.courses.Course.{Course}
+use Rattle.vms_stream.specs.declared.endings.Ending.{Ending}
+use Rattle.vms_stream.specs.declared.endings.Ending.TheVariants as endings
+use Rattle.vms_stream.specs.declared.halts.Halt.{Halt}
+use Rattle.vms_stream.specs.declared.halts.Halt.TheVariants as halts
+use Rattle.vms_stream.specs.declared.statuses.Status.{Status}
+use Rattle.vms_stream.specs.declared.statuses.Status.TheVariants as statuses
+use Rattle.vms_stream.specs.declared.stops.Stop.{Stop}
+use Rattle.vms_stream.specs.declared.stops.Stop.TheVariants.{Header, ReadFault, WriteFault, Memory, TooLong}
+use Rattle.vms_stream.specs.Answers.{most_bytes, FaultsOfSource, FaultsOfSink, Says}
+use Rattle.vms_stream.specs.Machines.{Machine, past, halted, printed}
+use Rattle.vms_stream.specs.Pieces.{whole_lines, partial_line}
+use Rattle.vms_text.specs.Lines.{lines_of}
+
+-- the status of a command that stopped
+abbrev pub status_of : Stop → Status
+status_of Header = statuses.Header
+status_of ReadFault = statuses.ReadFault
+status_of WriteFault = statuses.WriteFault
+status_of Memory = statuses.Memory
+status_of TooLong = statuses.TooLong
+
+-- why a line stops a command
+abbrev pub stop_of_halt : Halt → Stop
+stop_of_halt halts.Refuses = Header
+stop_of_halt halts.Passes = TooLong
+
+-- the status of a command that came to the end of its input
+abbrev pub status_at_end : Ending → Status
+status_at_end endings.Done = statuses.Done
+status_at_end endings.Refused = statuses.Refused
+status_at_end endings.HeaderRefused = statuses.Header
+status_at_end endings.NotBuilt = statuses.NotBuilt
+
+abbrev pub status_in : Result Status Stop → Status
+status_in (Ok status) = status
+status_in (Err stop) = status_of stop
+
+-- the counts of faults rise only with the stops that faults cause
+abbrev pub CountsReads : {A : Type 0} → Result A Stop → ℕ → ℕ → Type 0
+CountsReads result before now =
+    MatchResult result (λ _. now ≡ before) (λ stop. FaultsOfSource (status_of stop) before now)
+
+abbrev pub CountsWrites : {A : Type 0} → Result A Stop → ℕ → ℕ → Type 0
+CountsWrites result before now =
+    MatchResult result (λ _. now ≡ before) (λ stop. FaultsOfSink (status_of stop) before now)
+
+-- the lines that are judged: the whole ones, and at the end of the input all
+abbrev pub lines_judged : Bool → List ℕ → List (List ℕ)
+lines_judged true taken = lines_of taken
+lines_judged false taken = whole_lines taken
+
+-- so many bytes of what is held count: those of the first 64 MiB that were taken
+abbrev pub counted_bytes : Course → ℕ
+counted_bytes course = length course.input - (course.taken - most_bytes)
+
+-- the lines of what is held that can be judged
+abbrev pub lines_held : Course → List (List ℕ)
+lines_held course = lines_judged course.at_end (take (counted_bytes course) course.input)
+
+-- a course between two pieces: the job stands behind the lines that were taken, all was written that they print, and
+-- what stands behind the last newline is held
+pub record IsCourse {S : Type 0} (machine : Machine S) (stands : S → Type 0) (taken written : List ℕ)
+    (course : Course) : Type 0 where
+  pub counted : course.taken ≡ length taken
+  pub within : length taken ≤ most_bytes
+  pub none_halts : halted machine machine.start (lines_judged course.at_end taken) ≡ None
+  pub stands_behind : stands (past machine machine.start (lines_judged course.at_end taken))
+  pub all_written : written ≡ printed machine machine.start (lines_judged course.at_end taken)
+  pub nothing_waits : course.waiting.items ≡ []
+  pub held : course.at_end ≡ false → course.input ≡ partial_line taken
+
+-- one piece further: bytes were taken and bytes were written, and the course goes on or stops
+pub record Steps {S : Type 0} (machine : Machine S) (stands : S → Type 0) (taken written : List ℕ) (course' : Course)
+    (left left' held held' : Option (List ℕ)) (result : Result (Unit {0}) Stop) : Type 0 where
+  pub more : List ℕ
+  pub moved : List ℕ
+  pub consumes : Consumes left left' more
+  pub appends : Appends held held' moved
+  pub outcome : MatchResult result
+      (λ _. IsCourse machine stands (taken ++ more) (written ++ moved) course'
+      × (course'.at_end ≡ true → IsAtEnd left'))
+      (λ stop. Says machine (status_of stop) (taken ++ more) (written ++ moved) (IsAtEnd left'))
+
+-- the end of a course
+pub record Finishes {S : Type 0} (machine : Machine S) (taken written : List ℕ) (held held' : Option (List ℕ))
+    (result : Result Status Stop) : Type 0 where
+  pub moved : List ℕ
+  pub appends : Appends held held' moved
+  pub outcome : (left : Option (List ℕ)) → IsAtEnd left
+      → Says machine (status_in result) taken (written ++ moved) (IsAtEnd left)
+
+-- a command stops at a line that stops it, and else behind too many bytes
+abbrev pub StopsAt : Option Halt → ℕ → Result (Unit {0}) Stop → Type 0
+StopsAt (Some halt) taken result = result ≡ Err (stop_of_halt halt)
+StopsAt None taken result =
+    MatchResult result (λ _. taken ≤ most_bytes) (λ stop. (stop ≡ TooLong) × (most_bytes < taken))

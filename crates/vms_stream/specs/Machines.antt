@@ -1,0 +1,57 @@
+-- What a command says of the lines of its input.
+use Rattle.std.specs.Prelude.{ℕ, List, [], ◌∷◌, ◌++◌, Option, Some, None}
+use Rattle.vms_stream.specs.declared.endings.Ending.{Ending}
+use Rattle.vms_stream.specs.declared.halts.Halt.{Halt}
+use Rattle.vms_stream.specs.declared.halts.Halt.TheVariants.{Refuses, Passes}
+
+-- a command as a machine that goes from line to line, with a state between them
+pub record Machine (S : Type 0) : Type 0 where
+  -- before the first line
+  pub start : S
+  -- behind a line
+  pub next : S → List ℕ → S
+  -- what the line prints
+  pub prints : S → List ℕ → List ℕ
+  -- why the command stops at the line, if it does
+  pub halts : S → List ℕ → Option Halt
+  -- what is printed at the end of the input
+  pub last : S → List ℕ
+  -- how the command ends there
+  pub ends : S → Ending
+
+-- the state behind these lines
+abbrev pub past : {S : Type 0} → Machine S → S → List (List ℕ) → S
+past machine s [] = s
+past machine s (line ∷ lines) = past machine (machine.next s line) lines
+
+-- the first reason, if there is one, and else the later one
+abbrev pub first_halt : Option Halt → Option Halt → Option Halt
+first_halt (Some halt) later = Some halt
+first_halt None later = later
+
+-- why the command stops at the first of these lines at which it does
+abbrev pub halted : {S : Type 0} → Machine S → S → List (List ℕ) → Option Halt
+halted machine s [] = None
+halted machine s (line ∷ lines) = first_halt (machine.halts s line) (halted machine (machine.next s line) lines)
+
+-- what is printed from a line on: nothing behind one that stops the command, and that one prints where it refuses
+abbrev pub printed_from : Option Halt → List ℕ → List ℕ → List ℕ
+printed_from None line later = line ++ later
+printed_from (Some Refuses) line later = line
+printed_from (Some Passes) line later = []
+
+-- what these lines print
+abbrev pub printed : {S : Type 0} → Machine S → S → List (List ℕ) → List ℕ
+printed machine s [] = []
+printed machine s (line ∷ lines) =
+    printed_from (machine.halts s line) (machine.prints s line) (printed machine (machine.next s line) lines)
+
+-- what is printed behind the lines: the last words, unless the command stopped
+abbrev pub last_words : Option Halt → List ℕ → List ℕ
+last_words None words = words
+last_words (Some halt) words = []
+
+-- the whole output of a text of these lines
+abbrev pub output : {S : Type 0} → Machine S → List (List ℕ) → List ℕ
+output machine lines = printed machine machine.start lines
+    ++ last_words (halted machine machine.start lines) (machine.last (past machine machine.start lines))

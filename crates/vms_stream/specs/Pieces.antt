@@ -1,0 +1,26 @@
+-- The whole lines of a text that was taken in part.
+use Rattle.std.specs.Prelude.{ℕ, ◌==◌, List, [], ◌∷◌}
+use Rattle.std.specs.List.{slice_split}
+
+-- what stands between the newlines of a text, before the first one and behind the last
+abbrev pub parts_of : List ℕ → List (List ℕ)
+parts_of text = slice_split (λ byte. byte == 10) text
+
+-- the parts but for the last, and the last
+abbrev pub front_of : List (List ℕ) → List (List ℕ)
+front_of [] = []
+front_of (part ∷ []) = []
+front_of (part ∷ (next ∷ parts)) = part ∷ front_of (next ∷ parts)
+
+abbrev pub last_of : List (List ℕ) → List ℕ
+last_of [] = []
+last_of (part ∷ []) = part
+last_of (part ∷ (next ∷ parts)) = last_of (next ∷ parts)
+
+-- the lines of a text that end with a newline
+abbrev pub whole_lines : List ℕ → List (List ℕ)
+whole_lines text = front_of (parts_of text)
+
+-- what stands behind the last newline, or all where there is none
+abbrev pub partial_line : List ℕ → List ℕ
+partial_line text = last_of (parts_of text)

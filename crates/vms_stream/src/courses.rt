@@ -1,0 +1,215 @@
+use crate::passing::pass_lines;
+use crate::stops::{Stop, stop_of_halt, stop_of_read};
+use crate::{Ending, Halt, Job, Status};
+use memchr::memrchr;
+use std::alloc::Global;
+use vms_base::Memory;
+use vms_io::{ReadBuffer, Sink, Source, write_all};
+
+/// The most bytes of an input.
+const MOST_BYTES: usize = 1 << 26;
+
+/// A command on its way through its input.
+#[derive(Drop)]
+pub(crate) struct Course {
+    /// What was read and not judged yet.
+    pub(crate) input: ReadBuffer,
+    /// What was printed and not written yet.
+    pub(crate) waiting: Vec<u8>,
+    /// How many bytes were read.
+    pub(crate) taken: usize,
+    pub(crate) at_end: bool,
+}
+
+impl Course {
+    ghost use Rattle.std.specs.Prelude.{◌≡◌, ℕ, ◌+◌, ◌-◌, ◌<◌, ◌≤◌, ◌⊎◌, true, false, List, [], length, take, drop};
+    ghost use Rattle.std.specs.Prelude.{IfErr, IfOk, OnErr, OnOk};
+    ghost use Rattle.std.specs.Io.KnownBytes.{Appends, Keeps};
+    ghost use Rattle.vms_io.specs.Reading.{Gets};
+    ghost use Rattle.vms_stream.specs.Answers.{FaultsOfSource, FaultsOfSink, most_bytes};
+    ghost use Rattle.vms_stream.specs.Courses.{CountsReads, CountsWrites, Finishes, IsCourse, Steps};
+    ghost use Rattle.vms_stream.specs.Courses.{lines_held, status_in};
+    ghost use Rattle.vms_stream.specs.Jobs.{GoesPast};
+    ghost use Rattle.vms_stream.specs.Pieces.{partial_line};
+    ghost use Rattle.vms_text.specs.Lines.{lines_of};
+
+    /// Before the first piece.
+    pub(crate) fn begin(alloc: Global) -> Result<Course, Memory>
+        ensures { IfOk result (λ course. (course.input ≡ []) × (course.waiting.items ≡ [])
+            × (course.taken ≡ 0) × (course.at_end ≡ false)) }
+    {
+        Ok(Course {
+            input: ReadBuffer::make(alloc)?,
+            waiting: Vec::new(alloc),
+            taken: 0,
+            at_end: false,
+        })
+    }
+
+    /// Reads once more.
+    fn read<S: Source>(&mut self, src: &mut S) -> Result<(), Stop>
+        requires counted { self.old.taken ≤ most_bytes }
+        requires held { length self.old.input ≤ self.old.taken }
+        ensures ok { OnOk result (Gets self.old.input self.new.input (S.remaining src.old) (S.remaining src.new)
+            (self.new.taken - self.old.taken)) }
+        ensures counted { OnOk result (self.old.taken ≤ self.new.taken) }
+        ensures end { OnOk result (self.new.at_end ≡ true → self.new.taken ≡ self.old.taken) }
+        ensures more { OnOk result (self.new.at_end ≡ false → self.old.taken < self.new.taken) }
+        ensures waits { OnOk result (self.new.waiting ≡ self.old.waiting) }
+        ensures unread { OnErr result (Keeps (S.remaining src.old) (S.remaining src.new)) }
+        ensures cause { IfErr result (λ stop. (stop ≡ Stop.ReadFault) ⊎ (stop ≡ Stop.Memory)) }
+        ensures counts { CountsReads result (S.faults src.old) (S.faults src.new) }
+    {
+        let count = read(&mut self.input, src)?;
+        self.taken += count;
+        self.at_end = count == 0;
+        Ok(())
+    }
+
+    /// How many of the bytes that are held can be judged.
+    fn ready(&mut self) -> usize
+        requires { self.old.taken ≤ most_bytes + length self.old.input }
+        ensures within { result ≤ length self.old.input }
+        ensures same { self.new ≡ self.old }
+        ensures lines { lines_of (take result self.old.input) ≡ lines_held self.old }
+        ensures behind { self.old.at_end ≡ false → self.old.taken ≤ most_bytes →
+            drop result self.old.input ≡ partial_line self.old.input }
+    {
+        let held = self.input.bytes().len();
+        let beyond = self.taken.saturating_sub(MOST_BYTES);
+        if self.at_end {
+            held - beyond
+        } else if beyond > 0 {
+            last_line_end(&self.input.bytes()[..held - beyond])
+        } else {
+            self.input.whole_lines()
+        }
+    }
+
+    /// Judges the lines of what is held.
+    fn judge<J: Job>(&mut self, job: &mut J) -> Result<Option<Halt>, Memory>
+        requires job { (s : J.State) × J.Stands job.old s }
+        requires counted { self.old.taken ≤ most_bytes + length self.old.input }
+        ensures lines { IfOk result (λ halt. (s : J.State) → J.Stands job.old s →
+            GoesPast J.machine (J.Stands job.new) s (lines_held self.old) halt
+            self.old.waiting.items self.new.waiting.items) }
+        ensures held { OnOk result (self.old.at_end ≡ false → self.old.taken ≤ most_bytes →
+            self.new.input ≡ partial_line self.old.input) }
+        ensures same_count { self.new.taken ≡ self.old.taken }
+        ensures same_end { self.new.at_end ≡ self.old.at_end }
+    {
+        let ready = self.ready();
+        let halt = pass_lines(job, &self.input.bytes()[..ready], &mut self.waiting)?;
+        self.input.drop_front(ready);
+        Ok(halt)
+    }
+
+    /// Writes what waits, after which nothing does.
+    fn flush<K: Sink>(&mut self, out: &mut K) -> Result<(), Stop>
+        ensures ok { OnOk result (Appends (K.written out.old) (K.written out.new) self.old.waiting.items) }
+        ensures empty { OnOk result (self.new.waiting.items ≡ []) }
+        ensures err { OnErr result ((n : ℕ)
+            × Appends (K.written out.old) (K.written out.new) (take n self.old.waiting.items)) }
+        ensures cause { IfErr result (λ stop. stop ≡ Stop.WriteFault) }
+        ensures same_input { self.new.input ≡ self.old.input }
+        ensures same_count { self.new.taken ≡ self.old.taken }
+        ensures same_end { self.new.at_end ≡ self.old.at_end }
+        ensures counts { CountsWrites result (K.faults out.old) (K.faults out.new) }
+    {
+        write_all(out, self.waiting.as_slice())?;
+        self.waiting.clear();
+        Ok(())
+    }
+
+    /// Goes one piece of the input further.
+    pub(crate) fn step<J: Job, S: Source, K: Sink>(
+        &mut self,
+        job: &mut J,
+        src: &mut S,
+        out: &mut K,
+    ) -> Result<(), Stop>
+        requires course { (taken : List ℕ) × (written : List ℕ)
+            × IsCourse J.machine (J.Stands job.old) taken written self.old }
+        requires before_end { self.old.at_end ≡ false }
+        ensures steps { (taken : List ℕ) (written : List ℕ) →
+            IsCourse J.machine (J.Stands job.old) taken written self.old →
+            Steps J.machine (J.Stands job.new) taken written self.new (S.remaining src.old) (S.remaining src.new)
+            (K.written out.old) (K.written out.new) result }
+        ensures reads { CountsReads result (S.faults src.old) (S.faults src.new) }
+        ensures writes { CountsWrites result (K.faults out.old) (K.faults out.new) }
+        ensures nearer { OnOk result (self.new.at_end ≡ false → self.old.taken < self.new.taken) }
+    {
+        self.read(src)?;
+        let halt = self.judge(job)?;
+        self.flush(out)?;
+        stop_at(halt, self.taken)
+    }
+
+    /// Ends the job and writes what is left to write.
+    pub(crate) fn finish<J: Job, K: Sink>(
+        &mut self,
+        job: &mut J,
+        out: &mut K,
+    ) -> Result<Status, Stop>
+        requires course { (taken : List ℕ) × (written : List ℕ)
+            × IsCourse J.machine (J.Stands job.old) taken written self.old }
+        requires at_end { self.old.at_end ≡ true }
+        ensures finishes { (taken : List ℕ) (written : List ℕ) →
+            IsCourse J.machine (J.Stands job.old) taken written self.old →
+            Finishes J.machine taken written (K.written out.old) (K.written out.new) result }
+        ensures reads { (n : ℕ) → FaultsOfSource (status_in result) n n }
+        ensures writes { FaultsOfSink (status_in result) (K.faults out.old) (K.faults out.new) }
+    {
+        let ending = job.end(&mut self.waiting)?;
+        self.flush(out)?;
+        Ok(status_of(ending))
+    }
+}
+
+ghost use Rattle.std.specs.Prelude.{◌≡◌, ◌⊎◌, IfErr, IfOk, OnErr};
+ghost use Rattle.std.specs.Io.KnownBytes.{Keeps};
+ghost use Rattle.vms_io.specs.Reading.{Gets, WholeLines};
+ghost use Rattle.vms_stream.specs.Courses.{CountsReads, StopsAt, status_at_end};
+
+/// Reads once more, and says how many bytes.
+fn read<S: Source>(input: &mut ReadBuffer, src: &mut S) -> Result<usize, Stop>
+    ensures ok { IfOk result (Gets input.old input.new (S.remaining src.old) (S.remaining src.new)) }
+    ensures unread { OnErr result (Keeps (S.remaining src.old) (S.remaining src.new)) }
+    ensures cause { IfErr result (λ stop. (stop ≡ Stop.ReadFault) ⊎ (stop ≡ Stop.Memory)) }
+    ensures counts { CountsReads result (S.faults src.old) (S.faults src.new) }
+{
+    input.read_more(src).map_err(stop_of_read)
+}
+
+/// How many of these bytes are whole lines.
+fn last_line_end(bytes: &[u8]) -> usize
+    ensures { WholeLines bytes.now result }
+{
+    match memrchr(b'\n', bytes) {
+        Some(newline) => newline + 1,
+        None => 0,
+    }
+}
+
+/// Stops at a line that stops the command, and else behind too many bytes.
+fn stop_at(halt: Option<Halt>, taken: usize) -> Result<(), Stop>
+    ensures { StopsAt halt taken result }
+{
+    match halt {
+        Some(halt) => Err(stop_of_halt(halt)),
+        None if taken > MOST_BYTES => Err(Stop::TooLong),
+        None => Ok(()),
+    }
+}
+
+/// The status of a command that came to the end of its input.
+fn status_of(ending: Ending) -> Status
+    ensures { result ≡ status_at_end ending }
+{
+    match ending {
+        Ending::Done => Status::Done,
+        Ending::Refused => Status::Refused,
+        Ending::HeaderRefused => Status::Header,
+        Ending::NotBuilt => Status::NotBuilt,
+    }
+}

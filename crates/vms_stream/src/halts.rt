@@ -1,0 +1,8 @@
+/// Why a command stops at a line of its input.
+#[derive(Clone, Copy, Debug, PartialEq, Eq)]
+pub enum Halt {
+    /// The header is refused at the line, and what the line prints says so.
+    Refuses,
+    /// The line passes a limit. It prints nothing.
+    Passes,
+}

@@ -1,0 +1,29 @@
+ghost use Rattle.std.specs.Prelude.{List, ℕ, IfOk, ◌∷◌, []};
+ghost use Rattle.vms_stream.specs.Machines.{Machine};
+ghost use Rattle.vms_stream.specs.Jobs.{Closes, GoesPast};
+
+use crate::{Ending, Halt};
+use vms_base::Memory;
+
+/// A command over the lines of its input. Its machine says what it prints, and where and how it ends.
+pub trait Job {
+    ghost State: { Type 0 };
+
+    ghost machine: { Machine State };
+
+    // The job stands behind lines that bring the machine to this state.
+    ghost Stands: { Self → State → Type 0 };
+
+    /// Goes past a line, which is without its newline, and appends what it prints. Says why the command stops at the
+    /// line, if it does.
+    fn pass(&mut self, line: &[u8], out: &mut Vec<u8>) -> Result<Option<Halt>, Memory>
+        requires { (s : State) × Stands self.old s }
+        ensures { IfOk result (λ halt. (s : State) → Stands self.old s →
+            GoesPast machine (Stands self.new) s (line.now ∷ []) halt out.old.items out.new.items) };
+
+    /// Comes to the end of the input, appends what is printed there, and says how the command ends.
+    fn end(&mut self, out: &mut Vec<u8>) -> Result<Ending, Memory>
+        requires { (s : State) × Stands self.old s }
+        ensures { IfOk result (λ ending. (s : State) → Stands self.old s →
+            Closes machine s ending out.old.items out.new.items) };
+}

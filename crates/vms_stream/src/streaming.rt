@@ -1,0 +1,49 @@
+ghost use Rattle.std.specs.Prelude.{List, ℕ};
+ghost use Rattle.vms_stream.specs.Answers.{Answers, FaultsOfSink, FaultsOfSource, Says};
+ghost use Rattle.vms_stream.specs.Courses.{status_in};
+
+use crate::courses::Course;
+use crate::stops::Stop;
+use crate::{Job, Status};
+use std::alloc::Global;
+use vms_io::{Sink, Source};
+
+/// Hands the lines of the input to a job, one after another, and writes what it prints, a piece at a time: what the
+/// lines of a piece print is written before the next piece is read.
+pub fn stream<J: Job, S: Source, K: Sink>(
+    alloc: Global,
+    job: &mut J,
+    src: &mut S,
+    out: &mut K,
+) -> Status
+    requires { J.Stands job.old J.machine.start }
+    ensures answers { Answers (S.remaining src.old) (S.remaining src.new) (K.written out.old) (K.written out.new)
+        result (Says J.machine) }
+    ensures reads { FaultsOfSource result (S.faults src.old) (S.faults src.new) }
+    ensures writes { FaultsOfSink result (K.faults out.old) (K.faults out.new) }
+{
+    match run(alloc, job, src, out) {
+        Ok(status) => status,
+        Err(stop) => stop.status(),
+    }
+}
+
+/// Goes through the input to its end, or to where the command stops.
+fn run<J: Job, S: Source, K: Sink>(
+    alloc: Global,
+    job: &mut J,
+    src: &mut S,
+    out: &mut K,
+) -> Result<Status, Stop>
+    requires { J.Stands job.old J.machine.start }
+    ensures answers { Answers (S.remaining src.old) (S.remaining src.new) (K.written out.old) (K.written out.new)
+        (status_in result) (Says J.machine) }
+    ensures reads { FaultsOfSource (status_in result) (S.faults src.old) (S.faults src.new) }
+    ensures writes { FaultsOfSink (status_in result) (K.faults out.old) (K.faults out.new) }
+{
+    let mut course = Course::begin(alloc)?;
+    'pieces: while !course.at_end {
+        course.step(job, src, out)?;
+    }
+    course.finish(job, out)
+}
