@@ -17,7 +17,8 @@ module _ {F K S : Type 0} (machine : Machine F K S) (facts : F) (events : List (
   legal_refuses n legal first = first.refused (legal_first machine facts events (n + 1) legal)
 
   -- nor is one before the first that is
-  earlier_is_legal : (n m : ℕ) → IsFirstIllegal machine facts events n → IsFirstIllegal machine facts events m → n < m → ⊥
+  earlier_is_legal : (n m : ℕ) → IsFirstIllegal machine facts events n → IsFirstIllegal machine facts events m
+      → n < m → ⊥
   earlier_is_legal n m first second before =
       first.refused (subst (λ es. IsLegal machine facts (reverse es)) (take-take (n + 1) m events (omega arith))
       (legal_first machine facts (take m events) (n + 1) second.before))
@@ -31,13 +32,15 @@ module _ {F K S : Type 0} (machine : Machine F K S) (facts : F) (events : List (
   not_both : IsOpen machine facts (reverse events) → IsComplete machine facts (reverse events) → ⊥
   not_both some none = true≢false (sym some.alive.1 ∙ none.ended some.alive.0)
 
-  pub one_verdict : (first second : Verdict) → IsVerdict machine facts events first → IsVerdict machine facts events second
-      → first ≡ second
+  pub one_verdict : (first second : Verdict) → IsVerdict machine facts events first
+      → IsVerdict machine facts events second → first ≡ second
   one_verdict NoBase NoBase is also = refl
-  one_verdict NoBase (Illegal m) is also = absurd (is (base_can_begin machine facts (reverse (take m events)) also.before))
+  one_verdict NoBase (Illegal m) is also =
+      absurd (is (base_can_begin machine facts (reverse (take m events)) also.before))
   one_verdict NoBase Open is also = absurd (is (base_can_begin machine facts (reverse events) also.legal))
   one_verdict NoBase Complete is also = absurd (is (base_can_begin machine facts (reverse events) also.legal))
-  one_verdict (Illegal n) NoBase is also = absurd (also (base_can_begin machine facts (reverse (take n events)) is.before))
+  one_verdict (Illegal n) NoBase is also =
+      absurd (also (base_can_begin machine facts (reverse (take n events)) is.before))
   one_verdict (Illegal n) (Illegal m) is also = ap Illegal (same_number n m is also)
   one_verdict (Illegal n) Open is also = absurd (legal_refuses n also.legal is)
   one_verdict (Illegal n) Complete is also = absurd (legal_refuses n also.legal is)

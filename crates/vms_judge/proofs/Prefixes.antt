@@ -18,7 +18,8 @@ module _ {F K S : Type 0} (machine : Machine F K S) (facts : F) where
   legal_first xs n legal =
       let parts : reverse xs ≡ reverse (drop n xs) ++ reverse (take n xs) =
       ap reverse (sym (take-append-drop n xs)) ∙ reverse-append (take n xs) (drop n xs) in
-      prefix_is_legal machine facts (reverse (drop n xs)) (reverse (take n xs)) (subst (IsLegal machine facts) parts legal)
+      prefix_is_legal machine facts (reverse (drop n xs)) (reverse (take n xs))
+      (subst (IsLegal machine facts) parts legal)
 
   -- and each of its events with those before it too
   pub legal_more : (xs : List (Event K)) (i : ℕ) (d : Event K) → i < length xs → IsLegal machine facts (reverse xs)

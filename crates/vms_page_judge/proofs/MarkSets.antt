@@ -1,5 +1,5 @@
 -- How often a zone's mark was set, after a step that meets its condition.
-use Rattle.std.proofs.Common.{◌≡◌, ℕ, suc, ◌+◌, Bool, true, false, List, Option, Some, None, refl, ap, ◌∙◌, if◌then◌else◌, nat_eq, eqb-true, add-one}
+use Rattle.std.proofs.Common.{◌≡◌, ℕ, suc, ◌+◌, Bool, true, false, List, Option, Some, None, refl, ◌∙◌, if◌then◌else◌, nat_eq, eqb-true, add-one}
 use Rattle.vms_base.specs.declared.ids.CpuId.{CpuId}
 use Rattle.vms_base.specs.Places.{IsZone}
 use Rattle.vms_history.specs.declared.events.Event.{Event}

@@ -16,8 +16,8 @@ use Rattle.vms_pcpu_core.proofs.Shapes.{HasShape-state_after}
 use Rattle.vms_pcpu_core.proofs.Totals.{owned}
 
 -- event i of a legal history, which is given oldest first
-module _ (facts : PcpuFacts) (xs : List (Event PcpuStep)) (legal : IsLegal facts (reverse xs)) (i : ℕ) (d : Event PcpuStep)
-    (within : i < length xs) where
+module _ (facts : PcpuFacts) (xs : List (Event PcpuStep)) (legal : IsLegal facts (reverse xs)) (i : ℕ)
+    (d : Event PcpuStep) (within : i < length xs) where
   abbrev e : Event PcpuStep
   e = get_or xs i d
 

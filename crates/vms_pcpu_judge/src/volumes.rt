@@ -27,8 +27,8 @@ pub fn affords(facts: &PcpuFacts, past: &[Event], cpu: CpuId, counter: PcpuId, s
 }
 
 /// What a CPU has spent on a counter in a legal history.
-fn spending(_facts: &PcpuFacts, past: &[Event], cpu: CpuId, counter: PcpuId) -> u128
-    requires { IsLegal _facts.now (reverse past.now) }
+fn spending(facts: &PcpuFacts, past: &[Event], cpu: CpuId, counter: PcpuId) -> u128
+    requires { IsLegal facts.now (reverse past.now) }
     ensures value { result ≡ spent (reverse past.now) cpu.number counter.number }
     ensures most { result ≤ most_volume }
 {

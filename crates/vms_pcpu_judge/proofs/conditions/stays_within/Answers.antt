@@ -12,8 +12,8 @@ test-holds n m = grind (arith, nat_tests)
 pub returns : goal.returns
 returns c =
     let size : c.unsigned_abs.result
-    ≡ unsigned_abs (local_at (numbers_after c.args.facts.now (reverse c.args.past.now)) c.args.cpu.number c.args.counter.number
-    +ℤ c.args.amount) =
+    ≡ unsigned_abs (local_at (numbers_after c.args.facts.now (reverse c.args.past.now)) c.args.cpu.number
+    c.args.counter.number +ℤ c.args.amount) =
     omega (arith, ints, c.local.ensures.value, c.local.ensures.bound, c.unsigned_abs.ensures.value) in
     let batch = c.get.ensures 0 in
     rw (size, sym batch) (test-holds _ _)

@@ -18,11 +18,11 @@ small facts past i c j sum legal is =
 
 pub overflow_add-sum : goal.overflow_add-sum
 overflow_add-sum c =
-    let most = small c.args._facts.now c.args.past.now c.loop-i.i c.args.cpu.number c.args.counter.number c.loop-i.sum c.requires
-    c.loop-i.invariant in
+    let most = small c.args.facts.now c.args.past.now c.loop-i.i c.args.cpu.number c.args.counter.number c.loop-i.sum
+    c.requires c.loop-i.invariant in
     omega (arith, most, c.spent_at-sum.ensures.bound)
 
 pub returns-clause-most : goal.returns-clause-most
 returns-clause-most c =
-    small c.args._facts.now c.args.past.now c.loop-i.i c.args.cpu.number c.args.counter.number c.loop-i.sum c.requires
+    small c.args.facts.now c.args.past.now c.loop-i.i c.args.cpu.number c.args.counter.number c.loop-i.sum c.requires
     c.loop-i.invariant
