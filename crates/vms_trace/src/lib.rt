@@ -3,8 +3,10 @@
 #![tactic(auto)]
 
 mod causes;
+mod spelling;
 
 pub use causes::{HeaderCause, HeaderError, LineCause};
+pub use spelling::write_line;
 pub use vms_text::{
     Act, Boundary, Item, Lane, Line, ReportKind, is_name, next_word, read_signed, read_unsigned,
 };
