@@ -3,9 +3,11 @@
 #![tactic(auto)]
 
 mod causes;
+mod reading_back;
 mod spelling;
 
 pub use causes::{HeaderCause, HeaderError, LineCause};
+pub use reading_back::lines_read_back;
 pub use spelling::write_line;
 pub use vms_text::{
     Act, Boundary, Item, Lane, Line, ReportKind, is_name, next_word, read_signed, read_unsigned,
