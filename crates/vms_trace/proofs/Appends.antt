@@ -1,5 +1,5 @@
 -- What stands in a list after words were put behind it.
-use Rattle.std.proofs.Common.{ℕ, ◌≡◌, ◌+◌, ◌<◌, ◌≤◌, arith, drop, List, [], ◌∷◌, ◌++◌, sym, ◌∙◌, ap, append_assoc, append-nil, map, take, length, get_or}
+use Rattle.std.proofs.Common.{ℕ, ◌≡◌, ◌+◌, ◌<◌, ◌≤◌, arith, drop, List, [], ◌∷◌, ◌++◌, sym, ◌∙◌, ap, append_assoc, append-nil, flat_map, map, take, length, get_or}
 use Rattle.std.proofs.lemmas.Grind.{flat_map-append}
 use Rattle.std.proofs.lemmas.List.{map_more}
 use Rattle.std.specs.List.{join_with_byte}
@@ -22,6 +22,10 @@ Begins-behind before middle piece after is begins =
 pub OnErr-true : {T E : Type 0} (r : Result T E) (P : Type 0) → P → OnErr r P
 OnErr-true (Ok done) P fact = tt
 OnErr-true (Err cause) P fact = fact
+
+pub OnErr-from : {T E : Type 0} (r : Result T E) (P Q : Type 0) → (P → Q) → OnErr r P → OnErr r Q
+OnErr-from (Ok done) P Q from fact = tt
+OnErr-from (Err cause) P Q from fact = from fact
 
 pub OnOk-from : {T E : Type 0} (r : Result T E) (P Q : Type 0) → (P → Q) → OnOk r P → OnOk r Q
 OnOk-from (Ok done) P Q from fact = from fact
@@ -54,3 +58,10 @@ joined-parts words rest d some is = ap (λ more. text_of (get_or words 0 d) ++ s
 
 pub sentence-cons : (word : List ℕ) (words : List (List ℕ)) → sentence (word ∷ words) ≡ word ++ spaced words ++ 10 ∷ []
 sentence-cons word words = ap (λ text. text ++ 10 ∷ []) (joined-cons word words)
+
+-- one line more
+pub lines-take_more : {X : Type 0} (f : X → List (List ℕ)) (xs : List X) (i : ℕ) (d : X) → i < length xs
+    → flat_map sentence (map f (take (i + 1) xs)) ≡ flat_map sentence (map f (take i xs)) ++ sentence (f (get_or xs i d))
+lines-take_more f xs i d within =
+    ap (flat_map sentence) (map_more f xs i d within) ∙ flat_map-append sentence (map f (take i xs)) (f (get_or xs i d) ∷ [])
+    ∙ ap (λ last. flat_map sentence (map f (take i xs)) ++ last) (append-nil (sentence (f (get_or xs i d))))

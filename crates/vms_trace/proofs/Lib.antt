@@ -10,3 +10,5 @@ pub mod PlacesRead
 pub mod FieldsRead
 pub mod RowsRead
 pub mod LinesRead
+pub mod BaseLines
+pub mod HeaderLines
