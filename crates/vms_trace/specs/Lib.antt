@@ -8,3 +8,4 @@ pub mod HeadRows
 pub mod Head
 pub mod Spelling
 pub mod Laws
+pub mod Writing

@@ -1,0 +1,14 @@
+pub mod Appends
+pub mod ItemsBehind
+pub mod Entries
+pub mod Sentences
+pub mod NameLookups
+pub mod SpelledNumbers
+pub mod Apart
+pub mod ItemNames
+pub mod PlacesRead
+pub mod FieldsRead
+pub mod RowsRead
+pub mod LinesRead
+pub mod BaseLines
+pub mod HeaderLines
