@@ -1,0 +1,26 @@
+-- Laws of what a check writes.
+use Rattle.std.specs.Prelude.{◌≡◌, ℕ, suc, List, [], ◌++◌, length, drop, None, Result, Ok, Err}
+use Rattle.vms_base.specs.declared.headers.Header.{Header}
+use Rattle.vms_text.specs.Lines.{lines_of}
+use Rattle.vms_trace.specs.Head.{read_header}
+use Rattle.vms_trace.specs.Spelling.{header_words, spelled_header}
+use Rattle.vms_stream.specs.Machines.{halted, output}
+use Rattle.vms_check.specs.Checking.{Above, check, check_output, checked_end, checked_lines, come_to, nothing_above}
+
+-- a text within the limits: what is written of it line by line is its header and its body as they are defined by the lines of each
+abbrev pub WritesItsText : Type 0
+WritesItsText = (text : List ℕ) → halted check check.start (lines_of text) ≡ None →
+    output check (lines_of text) ≡ check_output text
+
+-- what is written of a header and of the lines of a body is accepted again: the same header, the same lines count, and none is refused
+pub record IsAcceptedAgain (header : Header) (n : ℕ) (body : List (List ℕ)) (written : List ℕ) : Type 0 where
+  pub same_header : read_header (lines_of written) ≡ Ok (header, length (header_words header))
+  pub same_lines : (come_to header nothing_above (drop (length (header_words header)) (lines_of written))).lines
+      ≡ (come_to header nothing_above body).lines
+  pub none_refused : (come_to header nothing_above (drop (length (header_words header)) (lines_of written))).refused ≡ 0
+
+abbrev pub ChecksAgain : Type 0
+ChecksAgain = (lines : List (List ℕ)) (header : Header) (count : ℕ) → read_header lines ≡ Ok (header, count) →
+    IsAcceptedAgain header (suc count) (drop count lines)
+    (spelled_header header ++ checked_lines header (suc count) nothing_above (drop count lines)
+    ++ checked_end (come_to header nothing_above (drop count lines)))

@@ -1,0 +1,4 @@
+pub mod Limits
+pub mod Printing
+pub mod Checking
+pub mod Laws

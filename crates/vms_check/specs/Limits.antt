@@ -1,0 +1,39 @@
+-- The limits on the lines of an input.
+use Rattle.std.specs.Prelude.{ℕ, suc, nat_le, ◌&&◌, if◌then◌else◌, Bool, true, false, List, [], ◌∷◌, Result, Ok, Err}
+use Rattle.vms_text.specs.declared.acts.Boundary.TheVariants.{Report}
+use Rattle.vms_text.specs.declared.acts.Line.{Line}
+use Rattle.vms_text.specs.declared.acts.Line.TheVariants.{Blank, Lane, Boundary}
+use Rattle.vms_trace.specs.declared.causes.LineCause.{LineCause}
+
+-- the most lines of an input, phases that have a lane line, and reports
+abbrev pub most_lines : ℕ
+most_lines = 1000000
+
+abbrev pub most_phases : ℕ
+most_phases = 10000
+
+abbrev pub most_reports : ℕ
+most_reports = 1000
+
+-- whether a lane line opens a phase behind these lines that count, the newest first: none is open at the start and behind a boundary line
+abbrev pub opens_phase : List Line → Bool
+opens_phase (Lane lane act ∷ lines) = false
+opens_phase _ = true
+
+-- how many phases these lines opened
+abbrev pub phases_in : List Line → ℕ
+phases_in [] = 0
+phases_in (Lane lane act ∷ lines) = if opens_phase lines then suc (phases_in lines) else phases_in lines
+phases_in (line ∷ lines) = phases_in lines
+
+-- how many of these lines are reports
+abbrev pub reports_in : List Line → ℕ
+reports_in [] = 0
+reports_in (Boundary (Report kind) ∷ lines) = suc (reports_in lines)
+reports_in (line ∷ lines) = reports_in lines
+
+-- whether a line that counts passes the limit on phases or on reports, behind these lines that count
+abbrev pub passes_limit : List Line → Result Line LineCause → Bool
+passes_limit lines (Ok (Lane lane act)) = opens_phase lines && nat_le most_phases (phases_in lines)
+passes_limit lines (Ok (Boundary (Report kind))) = nat_le most_reports (reports_in lines)
+passes_limit lines _ = false
