@@ -12,3 +12,11 @@ pub mod RowsRead
 pub mod LinesRead
 pub mod BaseLines
 pub mod HeaderLines
+pub mod HeaderSteps
+pub mod HeaderItems
+pub mod Shapes
+pub mod Middles
+pub mod HeaderZones
+pub mod HeaderBases
+pub mod HeaderCounters
+pub mod HeadersRead

@@ -9,7 +9,7 @@ mod spelling;
 
 pub use causes::{HeaderCause, HeaderError, LineCause};
 pub use header_spelling::write_header;
-pub use reading_back::lines_read_back;
+pub use reading_back::{headers_read_back, lines_read_back};
 pub use spelling::write_line;
 pub use vms_text::{
     Act, Boundary, Item, Lane, Line, ReportKind, is_name, next_word, read_signed, read_unsigned,
