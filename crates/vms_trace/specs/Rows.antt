@@ -1,17 +1,15 @@
 -- What the words behind a lane's word say, a line of the table each.
-use Rattle.std.specs.Prelude.{ℕ, ◌^◌, ◌-◌, nat_le, ◌==◌, ◌&&◌, Bool, true, false, not, if◌then◌else◌, List, [], ◌∷◌, length, map, codes, bytes_eq, slice_get, Option, Some, None, Result, Ok, Err}
+use Rattle.std.specs.Prelude.{ℕ, ◌^◌, ◌-◌, nat_le, ◌==◌, ◌&&◌, Bool, if◌then◌else◌, List, [], ◌∷◌, codes, bytes_eq, Option, Some, None, Result, Ok, Err}
 use Rattle.std.specs.List.{list_any}
 use Rattle.vms_base.specs.declared.headers.Header.{Header}
-use Rattle.vms_base.specs.declared.ids.PlaceId.{PlaceId}
 use Rattle.vms_base.specs.declared.kinds.WaterMark.{WaterMark}
-use Rattle.vms_base.specs.declared.kinds.ZoneName.{ZoneName}
 use Rattle.vms_base.specs.Places.{zone_index, node_at}
 use Rattle.vms_text.specs.declared.acts.Act.{Act}
 use Rattle.vms_text.specs.declared.acts.Act.TheVariants.{Mod, Inc, Dec, Ev, Cnt, Lim, Cmp, Sum, Rough, Csync, EvSum, Fold, Water, Val, Snap, Sys, Pressure, Normal, Dead, Kswapd}
 use Rattle.vms_trace.specs.declared.causes.LineCause.{LineCause}
 use Rattle.vms_trace.specs.declared.causes.LineCause.TheVariants.{Malformed, UnknownPlace}
 use Rattle.vms_trace.specs.Reading.{and_then}
-use Rattle.vms_trace.specs.Fields.{number_field, number_up_to, amount_field, limit_field, cpu_field, zone_field, node_field, counter_field, event_field, pcpu_field, system_field, mark_named, in_pages, page_counter}
+use Rattle.vms_trace.specs.Fields.{number_up_to, amount_field, limit_field, cpu_field, zone_field, node_field, counter_field, event_field, pcpu_field, system_field, mark_named, in_pages, page_counter}
 
 -- `mod PLACE ITEM DELTA`
 abbrev pub mod_row : Header → List (List ℕ) → Result Act LineCause

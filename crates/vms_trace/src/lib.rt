@@ -3,6 +3,7 @@
 #![tactic(auto)]
 
 mod causes;
+mod cutting;
 
 pub use causes::{HeaderCause, HeaderError, LineCause};
 pub use vms_text::{
