@@ -68,7 +68,7 @@ IsCut-none line = record { behind = omega arith; run = λ k d low high. absurd (
 clean-word : (byte : ℕ) → is_word_byte byte ≡ true → not (is_wrong_byte byte) ≡ true
 clean-word byte is = grind (arith, nat_tests)
 
-clean-other : (byte : ℕ) → is_word_byte byte ≡ false → not (is_wrong_byte byte) ≡ is_blank_byte byte
+pub clean-other : (byte : ℕ) → is_word_byte byte ≡ false → not (is_wrong_byte byte) ≡ is_blank_byte byte
 clean-other byte is = rw is (or_false (is_blank_byte byte))
   where
     or_false : (b : Bool) → not (not (b || false)) ≡ b
@@ -153,7 +153,7 @@ not_all p (byte ∷ bytes) (suc k) within fails = rw (not_all p bytes k (omega a
     and_false true = refl
     and_false false = refl
 
-word_byte-not_blank : (byte : ℕ) → is_word_byte byte ≡ true → is_blank_byte byte ≡ false
+pub word_byte-not_blank : (byte : ℕ) → is_word_byte byte ≡ true → is_blank_byte byte ≡ false
 word_byte-not_blank byte word = grind (arith, nat_tests)
 
 comment-first : (word : List ℕ) (words : List (List ℕ)) → 0 < length word → is_comment (word ∷ words) ≡ (get_or word 0 0 == 35)

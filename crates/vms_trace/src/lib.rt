@@ -4,8 +4,13 @@
 
 mod causes;
 mod cutting;
+mod fields;
+mod parsing;
+mod places;
+mod rows;
 
 pub use causes::{HeaderCause, HeaderError, LineCause};
+pub use parsing::{lines_are_known, parse_line};
 pub use vms_text::{
     Act, Boundary, Item, Lane, Line, ReportKind, is_name, next_word, read_signed, read_unsigned,
 };
