@@ -1,7 +1,8 @@
 #!/usr/bin/env bash
-# Measures the proved program beside bench/replay.rs, the same job in plain Rust, on a trace of 1,000,000 changes.
+# Measures the proved program beside the same job in plain Rust, bench/replay.rs or bench/check.rs, on a trace of
+# 1,000,000 lines: for `replay` changes of one form, for `check` lines of every form (bench/mixed.py).
 #
-#     bench/run.sh [N]
+#     bench/run.sh replay|check [N]
 #
 # Both read the trace from a file and write to /dev/null, N times each (21 where no N is given), one after the other in
 # turn. Printed are the median wall time of each, from start to end of its process, the ratio of the medians, and the
@@ -15,11 +16,12 @@
 # says little before such a run, by VOZHKELL, has shown how far it varies.
 set -u
 top=$(cd "$(dirname "${BASH_SOURCE[0]}")/.." && pwd) || exit 2
-rounds=${1:-21}
+command=${1:-}
+rounds=${2:-21}
 proved=${VOZHKELL:-$top/crates/vozhkell/out/vozhkell}
 
-if ! [[ $rounds =~ ^[1-9][0-9]*$ ]]; then
-    echo "usage: bench/run.sh [N]" >&2
+if ! [[ $command =~ ^(replay|check)$ && $rounds =~ ^[1-9][0-9]*$ ]]; then
+    echo "usage: bench/run.sh replay|check [N]" >&2
     exit 2
 fi
 if ! [ -x "$proved" ]; then
@@ -28,16 +30,20 @@ if ! [ -x "$proved" ]; then
 fi
 work=$(mktemp -d) || exit 2
 trap 'rm -rf "$work"' EXIT
-rustc -O --edition 2021 -o "$work/plain" "$top/bench/replay.rs" || exit 2
+rustc -O --edition 2021 -o "$work/plain" "$top/bench/$command.rs" || exit 2
 
-awk 'BEGIN {
-    print "vmtrace 1\ncpus 1\nzone 0 Normal 262144 100 125 150\nbase 0 Normal nr_free_pages 10000\ngo"
-    for (line = 0; line < 1000000; line++) print "c0 mod 0 Normal nr_free_pages 3"
-}' >"$work/trace" || exit 2
+if [ "$command" = check ]; then
+    python3 "$top/bench/mixed.py" >"$work/trace" || exit 2
+else
+    awk 'BEGIN {
+        print "vmtrace 1\ncpus 1\nzone 0 Normal 262144 100 125 150\nbase 0 Normal nr_free_pages 10000\ngo"
+        for (line = 0; line < 1000000; line++) print "c0 mod 0 Normal nr_free_pages 3"
+    }' >"$work/trace" || exit 2
+fi
 
-"$proved" replay <"$work/trace" >"$work/proved.out"
+"$proved" "$command" <"$work/trace" >"$work/proved.out"
 proved_status=$?
-"$work/plain" replay <"$work/trace" >"$work/plain.out"
+"$work/plain" "$command" <"$work/trace" >"$work/plain.out"
 plain_status=$?
 if ! cmp "$work/proved.out" "$work/plain.out" || [ $proved_status != $plain_status ]; then
     echo "the outputs or statuses differ: proved $proved_status, plain $plain_status" >&2
@@ -51,13 +57,13 @@ import subprocess
 import sys
 import time
 
-rounds, trace = int(sys.argv[1]), sys.argv[2]
-programs = {"proved": sys.argv[3], "plain": sys.argv[4]}
+rounds, trace, command = int(sys.argv[1]), sys.argv[2], sys.argv[3]
+programs = {"proved": sys.argv[4], "plain": sys.argv[5]}
 
 
 def start(program):
     with open(trace, "rb") as text:
-        return subprocess.Popen([program, "replay"], stdin=text, stdout=subprocess.DEVNULL)
+        return subprocess.Popen([program, command], stdin=text, stdout=subprocess.DEVNULL)
 
 
 def seconds(program):
@@ -88,4 +94,4 @@ least = {name: min(taken) for name, taken in times.items()}
 print(f"proved / plain: {medians['proved'] / medians['plain']:.2f} by medians, "
       f"{least['proved'] / least['plain']:.2f} by least times")
 PYTHON
-python3 /dev/fd/3 "$rounds" "$work/trace" "$proved" "$work/plain"
+python3 /dev/fd/3 "$rounds" "$work/trace" "$command" "$proved" "$work/plain"

@@ -14,7 +14,7 @@ use Rattle.vms_base.specs.declared.ids.CounterId.{CounterId}
 use Rattle.vms_base.specs.declared.ids.EventId.{EventId}
 use Rattle.vms_base.specs.declared.ids.ItemId.{ItemId}
 use Rattle.vms_base.specs.declared.ids.PcpuId.{PcpuId}
-use Rattle.vms_base.specs.Headers.{IsHeader, IsValidDecl, class_names, is_of_node}
+use Rattle.vms_base.specs.Headers.{IsHeader, IsNamed, IsValidDecl, class_names, is_of_node}
 use Rattle.vms_base.specs.Names.{event_names}
 use Rattle.vms_base.specs.Places.{IsCpu, place_of, position_of}
 use Rattle.vms_base.proofs.Counts.{counter_at-whole, place_of-lt}
@@ -24,12 +24,12 @@ use Rattle.vms_trace.specs.Fields.{amount_field, counter_field, cpu_field, event
 use Rattle.vms_trace.specs.Laws.{IsDeclared, IsKnown, IsKnownValue}
 use Rattle.vms_trace.specs.Places.{is_in_bytes}
 use Rattle.vms_trace.specs.Reading.{and_then}
-use Rattle.vms_trace.specs.Spelling.{counter_words, entry, event_word, pcpu_word, spelled_amount, system_word}
+use Rattle.vms_trace.specs.Spelling.{counter_words, entry, event_word, pcpu_word, place_words, spelled_amount, system_word}
 use Rattle.vms_trace.proofs.Apart.{all_differ-pairs}
 use Rattle.vms_trace.proofs.Entries.{entry-within}
 use Rattle.vms_trace.proofs.ItemNames.{class_names-apart, class_names-differ, class_names-short, name-short}
 use Rattle.vms_trace.proofs.NameLookups.{bytes_eq-other, position-name, position-nowhere}
-use Rattle.vms_trace.proofs.PlacesRead.{place-spelled, place_field-spelled}
+use Rattle.vms_trace.proofs.PlacesRead.{SpellsPlace, place-spelled, place_field-spelled}
 use Rattle.vms_trace.proofs.Sentences.{is_short}
 use Rattle.vms_trace.proofs.SpelledNumbers.{decimal-short, number_within-spelled, signed_of-spelled, unsigned_of-decimal}
 
@@ -104,13 +104,21 @@ module _ (header : Header) (is : IsHeader header) where
       }
 
   -- counters
-  item_word-short : (node : Bool) (n : ℕ) → n < length (class_names node header.items) → is_short (get_or (class_names node header.items) n []) ≡ true
+  pub item_word-short : (node : Bool) (n : ℕ) → n < length (class_names node header.items) → is_short (get_or (class_names node header.items) n []) ≡ true
   item_word-short node n within =
       AllPass-from_list_all is_short (class_names node header.items) (class_names-short header.items is.items_valid is.items_differ node) n [] within
 
-  item_word-found : (node : Bool) (n : ℕ) → n < length (class_names node header.items) → position (bytes_eq (get_or (class_names node header.items) n [])) (class_names node header.items) ≡ Some n
+  pub item_word-found : (node : Bool) (n : ℕ) → n < length (class_names node header.items) → position (bytes_eq (get_or (class_names node header.items) n [])) (class_names node header.items) ≡ Some n
   item_word-found node n within =
       position-name (class_names node header.items) n (class_names-differ header.items is.items_valid is.items_differ node) within
+
+  -- the words of a counter, of those of its place
+  pub counter_words-at : (counter : ℕ) (spells : SpellsPlace header.layout (place_words header (place_of header.layout counter)) (place_of header.layout counter)) → IsNamed header counter
+      → counter_words header counter ≡ decimal spells.node ∷ spells.kind ∷ get_or (class_names (is_of_node header.layout counter) header.items) (position_of header.layout counter) [] ∷ []
+  counter_words-at counter spells named =
+      let names = class_names (is_of_node header.layout counter) header.items in
+      let n = position_of header.layout counter in
+      ap (λ words. words ++ entry names n) spells.words_are ∙ ap (λ words. decimal spells.node ∷ spells.kind ∷ words) (entry-within names n [] named)
 
   pub counter-spelled : (counter : ℕ) → IsKnown header counter → SpellsCounter header counter
   counter-spelled counter known =
@@ -124,7 +132,7 @@ module _ (header : Header) (is : IsHeader header) where
         node = decimal spells.node;
         kind = spells.kind;
         item = get_or names n [];
-        words_are = ap (λ words. words ++ entry names n) spells.words_are ∙ ap (λ words. decimal spells.node ∷ spells.kind ∷ words) (entry-within names n [] known.1);
+        words_are = counter_words-at counter spells known.1;
         node_short = decimal-short spells.node (omega arith);
         kind_short = spells.short;
         item_short = item_word-short node n known.1;

@@ -147,6 +147,17 @@ shared_row header verb fields =
     else if bytes_eq verb (codes "sys") then sys_row header fields
     else Err Malformed
 
+-- the lines of a CPU's lane on percpu counters, and those that each lane has
+abbrev pub pcpu_row : Header → List ℕ → List (List ℕ) → Result Act LineCause
+pcpu_row header verb fields =
+    if bytes_eq verb (codes "cnt") then cnt_row header fields
+    else if bytes_eq verb (codes "lim") then lim_row header fields
+    else if bytes_eq verb (codes "cmp") then cmp_row header fields
+    else if bytes_eq verb (codes "sum") then sum_row header fields
+    else if bytes_eq verb (codes "rough") then rough_row header fields
+    else if bytes_eq verb (codes "csync") then csync_row header fields
+    else shared_row header verb fields
+
 -- the lines of a CPU's lane
 abbrev pub cpu_row : Header → List ℕ → List (List ℕ) → Result Act LineCause
 cpu_row header verb fields =
@@ -154,13 +165,7 @@ cpu_row header verb fields =
     else if bytes_eq verb (codes "inc") then inc_row header fields
     else if bytes_eq verb (codes "dec") then dec_row header fields
     else if bytes_eq verb (codes "ev") then ev_row header fields
-    else if bytes_eq verb (codes "cnt") then cnt_row header fields
-    else if bytes_eq verb (codes "lim") then lim_row header fields
-    else if bytes_eq verb (codes "cmp") then cmp_row header fields
-    else if bytes_eq verb (codes "sum") then sum_row header fields
-    else if bytes_eq verb (codes "rough") then rough_row header fields
-    else if bytes_eq verb (codes "csync") then csync_row header fields
-    else shared_row header verb fields
+    else pcpu_row header verb fields
 
 -- the lines of the control lane; `kswapd` only where a place has sixteen items
 abbrev pub control_row : Header → List ℕ → List (List ℕ) → Result Act LineCause

@@ -3,13 +3,19 @@
 #![tactic(auto)]
 
 mod causes;
+mod cutting;
+mod fields;
 mod header_spelling;
+mod parsing;
+mod places;
 mod reading_back;
+mod rows;
 mod spelling;
 
 pub use causes::{HeaderCause, HeaderError, LineCause};
 pub use header_spelling::write_header;
-pub use reading_back::lines_read_back;
+pub use parsing::{lines_are_known, parse_line};
+pub use reading_back::{headers_read_back, lines_read_back};
 pub use spelling::write_line;
 pub use vms_text::{
     Act, Boundary, Item, Lane, Line, ReportKind, is_name, next_word, read_signed, read_unsigned,
