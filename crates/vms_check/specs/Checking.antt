@@ -1,6 +1,6 @@
 -- What `check` writes of a text: its header and each line that counts in the one spelling, and a comment in the place of each line
 -- that doesn't.
-use Rattle.std.specs.Prelude.{ℕ, suc, nat_lt, if◌then◌else◌, List, [], ◌∷◌, ◌++◌, length, drop, codes, Option, Some, None, Result, Ok, Err}
+use Rattle.std.specs.Prelude.{Bool, ℕ, suc, nat_lt, if◌then◌else◌, List, [], ◌∷◌, ◌++◌, length, drop, codes, Option, Some, None, Result, Ok, Err}
 use Rattle.vms_base.specs.declared.headers.Header.{Header}
 use Rattle.vms_text.specs.declared.acts.Line.{Line}
 use Rattle.vms_text.specs.declared.acts.Line.TheVariants.{Blank}
@@ -34,10 +34,14 @@ abbrev pub with_judged : Result Line LineCause → Above → Above
 with_judged (Ok line) above = record above { lines = counted (Ok line) above.lines }
 with_judged (Err cause) above = record above { refused = suc above.refused }
 
+-- what is written for a line that counts, and nothing for a blank one
+abbrev pub accepted_line : Header → Line → List ℕ
+accepted_line header Blank = []
+accepted_line header line = spelled_line header line
+
 -- what is written for line n, of which this was judged
 abbrev pub checked_line : Header → ℕ → Result Line LineCause → List ℕ
-checked_line header n (Ok Blank) = []
-checked_line header n (Ok line) = spelled_line header line
+checked_line header n (Ok line) = accepted_line header line
 checked_line header n (Err cause) = codes "# " ++ refused_line n cause
 
 -- the last line

@@ -1,5 +1,6 @@
 -- The limits on the lines of an input.
 use Rattle.std.specs.Prelude.{ℕ, suc, nat_le, ◌&&◌, if◌then◌else◌, Bool, true, false, List, [], ◌∷◌, Result, Ok, Err}
+use Rattle.vms_text.specs.declared.acts.Boundary.{Boundary as BoundaryOf}
 use Rattle.vms_text.specs.declared.acts.Boundary.TheVariants.{Report}
 use Rattle.vms_text.specs.declared.acts.Line.{Line}
 use Rattle.vms_text.specs.declared.acts.Line.TheVariants.{Blank, Lane, Boundary}
@@ -26,14 +27,19 @@ phases_in [] = 0
 phases_in (Lane lane act ∷ lines) = if opens_phase lines then suc (phases_in lines) else phases_in lines
 phases_in (line ∷ lines) = phases_in lines
 
+-- whether a boundary line is a report
+abbrev pub is_report : BoundaryOf → Bool
+is_report (Report kind) = true
+is_report _ = false
+
 -- how many of these lines are reports
 abbrev pub reports_in : List Line → ℕ
 reports_in [] = 0
-reports_in (Boundary (Report kind) ∷ lines) = suc (reports_in lines)
+reports_in (Boundary boundary ∷ lines) = if is_report boundary then suc (reports_in lines) else reports_in lines
 reports_in (line ∷ lines) = reports_in lines
 
 -- whether a line that counts passes the limit on phases or on reports, behind these lines that count
 abbrev pub passes_limit : List Line → Result Line LineCause → Bool
 passes_limit lines (Ok (Lane lane act)) = opens_phase lines && nat_le most_phases (phases_in lines)
-passes_limit lines (Ok (Boundary (Report kind))) = nat_le most_reports (reports_in lines)
+passes_limit lines (Ok (Boundary boundary)) = is_report boundary && nat_le most_reports (reports_in lines)
 passes_limit lines _ = false

@@ -2,6 +2,11 @@
 //! count.
 #![tactic(auto)]
 
-mod laws;
+mod bodies;
+mod checks;
+mod printing;
+mod stubs;
+mod tallies;
+mod tool;
 
-pub use laws::writes_its_text;
+pub use tool::tool_check;

@@ -1,0 +1,20 @@
+-- The numbers that a check keeps of the lines of a body.
+use Rattle.std.specs.Prelude.{◌≡◌, ℕ, length, not, Option, None, Result, Ok}
+use Rattle.vms_text.specs.declared.acts.Line.{Line}
+use Rattle.vms_stream.specs.declared.halts.Halt.{Halt}
+use Rattle.vms_check.specs.declared.tallies.Tally.{Tally}
+use Rattle.vms_check.specs.Checking.{Above, passes, with_judged}
+use Rattle.vms_check.specs.Limits.{opens_phase, passes_limit, phases_in, reports_in}
+
+-- the numbers are those of what the lines came to
+pub record Tells (above : Above) (tally : Tally) : Type 0 where
+  pub accepted : tally.accepted ≡ length above.lines
+  pub refused : tally.refused ≡ above.refused
+  pub phases : tally.phases ≡ phases_in above.lines
+  pub reports : tally.reports ≡ reports_in above.lines
+  pub in_phase : tally.in_phase ≡ not (opens_phase above.lines)
+
+-- a line that counts was added to what the lines came to, unless it passes a limit
+pub record Adds (above : Above) (line : Line) (halt : Option Halt) (tally : Tally) : Type 0 where
+  pub halt_is : halt ≡ passes (passes_limit above.lines (Ok line))
+  pub tells : halt ≡ None → Tells (with_judged (Ok line) above) tally
