@@ -8,6 +8,8 @@ mod fields;
 mod parsing;
 mod places;
 mod rows;
+#[cfg(test)]
+mod tests;
 
 pub use causes::{HeaderCause, HeaderError, LineCause};
 pub use parsing::{lines_are_known, parse_line};
