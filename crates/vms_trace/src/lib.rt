@@ -11,12 +11,12 @@ mod places;
 mod reading_back;
 mod rows;
 mod spelling;
+#[cfg(test)]
+mod tests;
 
 pub use causes::{HeaderCause, HeaderError, LineCause};
 pub use header_spelling::write_header;
 pub use parsing::{lines_are_known, parse_line};
 pub use reading_back::{headers_read_back, lines_read_back};
 pub use spelling::write_line;
-pub use vms_text::{
-    Act, Boundary, Item, Lane, Line, ReportKind, is_name, next_word, read_signed, read_unsigned,
-};
+pub use vms_text::{Act, Boundary, Item, Lane, Line, ReportKind, is_name, next_word, read_signed, read_unsigned};
