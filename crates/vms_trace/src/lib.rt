@@ -6,6 +6,8 @@ mod causes;
 mod header_spelling;
 mod reading_back;
 mod spelling;
+#[cfg(test)]
+mod tests;
 
 pub use causes::{HeaderCause, HeaderError, LineCause};
 pub use header_spelling::write_header;
