@@ -5,6 +5,10 @@ pub mod Rows
 pub mod Body
 pub mod Drafts
 pub mod HeadRows
+pub mod HeadWords
 pub mod Head
+pub mod DraftFacts
+pub mod Readers
 pub mod Spelling
 pub mod Laws
+pub mod HeaderSteps

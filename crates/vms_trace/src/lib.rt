@@ -4,14 +4,24 @@
 
 mod causes;
 mod cutting;
+mod drafts;
 mod fields;
+mod head_lines;
+mod head_rows;
+mod head_words;
+mod header_parsing;
+mod heads;
+mod layouts;
 mod parsing;
 mod places;
 mod rows;
+mod said;
 #[cfg(test)]
 mod tests;
 
-pub use causes::{HeaderCause, HeaderError, LineCause};
+pub use causes::{HeaderCause, HeaderError, LineCause, ReadError};
+pub use header_parsing::{header_is_settled, headers_are_writable, parse_header};
+pub use heads::{HeaderReader, HeaderStep};
 pub use parsing::{lines_are_known, parse_line};
 pub use vms_text::{
     Act, Boundary, Item, Lane, Line, ReportKind, is_name, next_word, read_signed, read_unsigned,
