@@ -61,11 +61,15 @@ impl LineJudge {
             Act::Mod(counter, pages) => self
                 .counters
                 .spend(cpu, counter.number, pages.unsigned_abs()),
-            Act::Inc(counter) | Act::Dec(counter) => self.counters.spend(cpu, counter.number, 1),
+            Act::Inc(counter) => self.counters.spend(cpu, counter.number, 1),
+            Act::Dec(counter) => self.counters.spend(cpu, counter.number, 1),
             Act::Ev(event, n) => self.events.spend(cpu, event.number, n),
-            Act::Cnt(counter, amount) | Act::Lim(counter, _, amount) => {
-                self.pcpu.spend(cpu, counter.number, amount.unsigned_abs())
-            }
+            Act::Cnt(counter, amount) => self
+                .pcpu
+                .spend(cpu, counter.number, amount.unsigned_abs()),
+            Act::Lim(counter, _, amount) => self
+                .pcpu
+                .spend(cpu, counter.number, amount.unsigned_abs()),
             _ => Ok(()),
         }
     }
