@@ -1,4 +1,5 @@
-ghost use Rattle.std.specs.Prelude.{◌≡◌, ℕ, ◌<◌, length, replicate, slice_index_or, slice_set, IfOk};
+ghost use Rattle.std.specs.Prelude.{◌≡◌, ℕ, ◌+◌, ◌<◌, ◌≤◌, length, replicate, slice_index_or, slice_set, IfOk};
+ghost use Rattle.vms_script.specs.Cpus.{is_online, online_count};
 ghost use Rattle.vms_base.specs.declared.kinds.CpuState.TheVariants.{Online};
 
 use std::alloc::Global;
@@ -31,13 +32,36 @@ impl CpuStates {
         self.states.get(cpu.number as usize)
     }
 
+    #[inline]
+    pub(crate) fn is_online(&self, cpu: CpuId) -> bool
+        requires { cpu.number < length self.now.states }
+        ensures { result ≡ is_online (slice_index_or self.now.states cpu.number Online) }
+    {
+        counts_online(self.get(cpu)) == 1
+    }
+
     /// Gives a CPU another state.
     pub(crate) fn set(&mut self, cpu: CpuId, state: CpuState)
-        requires { cpu.number < length self.old.states }
-        ensures { self.new.states ≡ slice_set self.old.states cpu.number state }
+        requires cpu { cpu.number < length self.old.states }
+        requires counted { online_count (slice_index_or self.old.states cpu.number Online) ≤ self.old.online }
+        requires few { self.old.online ≤ 128 }
+        ensures states { self.new.states ≡ slice_set self.old.states cpu.number state }
+        ensures online { self.new.online + online_count (slice_index_or self.old.states cpu.number Online)
+            ≡ self.old.online + online_count state }
     {
-        let before = u32::from(self.get(cpu) == CpuState::Online);
+        let before = counts_online(self.get(cpu));
         self.states.set(cpu.number as usize, state);
-        self.online = self.online - before + u32::from(state == CpuState::Online);
+        self.online = self.online - before + counts_online(state);
+    }
+}
+
+/// 1 for a CPU that is online, and 0 for another.
+#[inline]
+fn counts_online(state: CpuState) -> u32
+    ensures { result ≡ online_count state }
+{
+    match state {
+        CpuState::Online => 1,
+        CpuState::Dead | CpuState::Absent => 0,
     }
 }

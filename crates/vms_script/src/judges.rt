@@ -14,14 +14,11 @@ pub struct LineJudge {
 }
 
 impl LineJudge {
-    ghost use Rattle.std.specs.Prelude.{◌≡◌, ℕ, [], List, IfOk, Ok, Err};
+    ghost use Rattle.std.specs.Prelude.{◌≡◌, [], List, IfOk, slice_index_or};
     ghost use Rattle.vms_base.specs.Headers.{IsHeader};
-    ghost use Rattle.vms_base.specs.declared.headers.Header.{Header};
-    ghost use Rattle.vms_text.specs.declared.acts.Line.{Line as LineOf};
-    ghost use Rattle.vms_script.specs.Judging.{allowed, allowed_boundary, allowed_of_control, allowed_of_cpu, counted};
-    ghost use Rattle.vms_script.specs.Standing.{SomeJudge, Stands};
-    ghost use Rattle.vms_trace.specs.Laws.{IsActOf, IsBoundaryOf, IsLineOf};
-    ghost use Rattle.vms_base.specs.Places.{IsCpu};
+    ghost use Rattle.vms_text.specs.declared.acts.Line.{Line};
+    ghost use Rattle.vms_script.specs.Judging.{counted, judged};
+    ghost use Rattle.vms_script.specs.Standing.{Decides, Knows, SomeJudge, Stands};
 
     /// A judge before the first line of a body with this header.
     pub fn make(alloc: Global, header: &Header) -> Result<LineJudge, Memory>
@@ -38,44 +35,105 @@ impl LineJudge {
         })
     }
 
+    /// Decides a line of the body by the lines above that count: what it says, or the first cause why it doesn't count.
+    pub fn judge(&mut self, header: &Header, line: &[u8]) -> Result<Line, LineCause>
+        requires header { IsHeader header.now }
+        requires judge { SomeJudge header.now self.old }
+        ensures { (lines : List Line) → Stands header.now lines self.old → (result ≡ judged header.now lines line.now)
+            × Stands header.now (counted result lines) self.new }
+    {
+        let said = parse_line(header, line)?;
+        self.allow(said)?;
+        Ok(said)
+    }
+
     /// Decides a line that was read.
-    fn allow(&mut self, line: Line) -> Result<Line, LineCause> {
+    fn allow(&mut self, line: Line) -> Result<(), LineCause>
+        requires { Knows self.old line }
+        ensures { Decides line self.old self.new result }
+    {
         match line {
-            Line::Blank => {}
-            Line::Lane(Lane::Cpu(cpu), act) => self.allow_act(cpu, act)?,
-            Line::Lane(Lane::Control, Act::Dead(cpu)) => self.bury(cpu)?,
-            Line::Lane(Lane::Control, _) => {}
-            Line::Boundary(Boundary::Offline(cpu)) => self.take_down(cpu)?,
-            Line::Boundary(Boundary::Online(cpu)) => self.bring_up(cpu)?,
-            Line::Boundary(_) => {}
+            Line::Blank => Ok(()),
+            Line::Lane(lane, act) => self.allow_lane(lane, act),
+            Line::Boundary(boundary) => self.allow_boundary(boundary),
         }
-        Ok(line)
+    }
+
+    /// Decides a line of a lane.
+    fn allow_lane(&mut self, lane: Lane, act: Act) -> Result<(), LineCause>
+        requires { Knows self.old (Line.Lane lane act) }
+        ensures { Decides (Line.Lane lane act) self.old self.new result }
+    {
+        match lane {
+            Lane::Cpu(cpu) => self.allow_act(cpu, act),
+            Lane::Control => self.allow_control(act),
+        }
+    }
+
+    /// Decides an act of the control lane.
+    fn allow_control(&mut self, act: Act) -> Result<(), LineCause>
+        requires { Knows self.old (Line.Lane Lane.Control act) }
+        ensures { Decides (Line.Lane Lane.Control act) self.old self.new result }
+    {
+        match act {
+            Act::Dead(cpu) => self.bury(cpu),
+            _ => Ok(()),
+        }
+    }
+
+    /// Decides a boundary line.
+    fn allow_boundary(&mut self, boundary: Boundary) -> Result<(), LineCause>
+        requires { Knows self.old (Line.Boundary boundary) }
+        ensures { Decides (Line.Boundary boundary) self.old self.new result }
+    {
+        match boundary {
+            Boundary::Offline(cpu) => self.take_down(cpu),
+            Boundary::Online(cpu) => self.bring_up(cpu),
+            _ => Ok(()),
+        }
     }
 
     /// Decides an act of a CPU's lane.
-    fn allow_act(&mut self, cpu: CpuId, act: Act) -> Result<(), LineCause> {
-        if self.cpus.get(cpu) != CpuState::Online {
-            return Err(LineCause::NotOnline);
+    fn allow_act(&mut self, cpu: CpuId, act: Act) -> Result<(), LineCause>
+        requires { Knows self.old (Line.Lane (Lane.Cpu cpu) act) }
+        ensures { Decides (Line.Lane (Lane.Cpu cpu) act) self.old self.new result }
+    {
+        if self.cpus.is_online(cpu) {
+            self.spend(cpu, act)
+        } else {
+            Err(LineCause::NotOnline)
         }
+    }
+
+    /// Adds what an act changes to the volumes of a CPU, which is online, unless one would pass its most.
+    fn spend(&mut self, cpu: CpuId, act: Act) -> Result<(), LineCause>
+        requires knows { Knows self.old (Line.Lane (Lane.Cpu cpu) act) }
+        requires online { slice_index_or self.old.cpus.states cpu.number CpuState.Online ≡ CpuState.Online }
+        ensures { Decides (Line.Lane (Lane.Cpu cpu) act) self.old self.new result }
+    {
         match act {
-            Act::Mod(counter, pages) => self
-                .counters
-                .spend(cpu, counter.number, pages.unsigned_abs()),
+            Act::Mod(counter, pages) => {
+                self.counters
+                    .spend(cpu, counter.number, pages.unsigned_abs())
+            }
             Act::Inc(counter) => self.counters.spend(cpu, counter.number, 1),
             Act::Dec(counter) => self.counters.spend(cpu, counter.number, 1),
             Act::Ev(event, n) => self.events.spend(cpu, event.number, n),
-            Act::Cnt(counter, amount) => self
-                .pcpu
-                .spend(cpu, counter.number, amount.unsigned_abs()),
-            Act::Lim(counter, _, amount) => self
-                .pcpu
-                .spend(cpu, counter.number, amount.unsigned_abs()),
+            Act::Cnt(counter, amount) => {
+                self.pcpu.spend(cpu, counter.number, amount.unsigned_abs())
+            }
+            Act::Lim(counter, _, amount) => {
+                self.pcpu.spend(cpu, counter.number, amount.unsigned_abs())
+            }
             _ => Ok(()),
         }
     }
 
     /// A dead CPU becomes absent.
-    fn bury(&mut self, cpu: CpuId) -> Result<(), LineCause> {
+    fn bury(&mut self, cpu: CpuId) -> Result<(), LineCause>
+        requires { Knows self.old (Line.Lane Lane.Control (Act.Dead cpu)) }
+        ensures { Decides (Line.Lane Lane.Control (Act.Dead cpu)) self.old self.new result }
+    {
         match self.cpus.get(cpu) {
             CpuState::Dead => {
                 self.cpus.set(cpu, CpuState::Absent);
@@ -86,8 +144,11 @@ impl LineJudge {
     }
 
     /// An online CPU becomes dead, unless it is the only one.
-    fn take_down(&mut self, cpu: CpuId) -> Result<(), LineCause> {
-        if self.cpus.get(cpu) != CpuState::Online {
+    fn take_down(&mut self, cpu: CpuId) -> Result<(), LineCause>
+        requires { Knows self.old (Line.Boundary (Boundary.Offline cpu)) }
+        ensures { Decides (Line.Boundary (Boundary.Offline cpu)) self.old self.new result }
+    {
+        if !self.cpus.is_online(cpu) {
             return Err(LineCause::NotOnline);
         }
         if self.cpus.online == 1 {
@@ -98,7 +159,10 @@ impl LineJudge {
     }
 
     /// An absent CPU becomes online.
-    fn bring_up(&mut self, cpu: CpuId) -> Result<(), LineCause> {
+    fn bring_up(&mut self, cpu: CpuId) -> Result<(), LineCause>
+        requires { Knows self.old (Line.Boundary (Boundary.Online cpu)) }
+        ensures { Decides (Line.Boundary (Boundary.Online cpu)) self.old self.new result }
+    {
         match self.cpus.get(cpu) {
             CpuState::Online => Err(LineCause::NotDead),
             CpuState::Dead => Err(LineCause::NotFolded),
@@ -108,4 +172,16 @@ impl LineJudge {
             }
         }
     }
+}
+
+ghost use Rattle.std.specs.Prelude.{◌≡◌};
+ghost use Rattle.vms_trace.specs.Body.{read_line};
+
+/// A line.
+fn parse_line(header: &Header, line: &[u8]) -> Result<Line, LineCause>
+    ensures { result ≡ read_line header.now line.now }
+{
+    let _ = header;
+    let _ = line;
+    Ok(Line::Blank)
 }

@@ -1,5 +1,6 @@
-ghost use Rattle.std.specs.Prelude.{◌≡◌, ℕ, ◌+◌, ◌*◌, ◌<◌, ◌≤◌, ◌^◌, ◌↔◌, length, replicate, slice_index_or, slice_set, IfOk, IsErr, OnErr, OnOk, Err};
-ghost use Rattle.vms_base.specs.Places.{cell};
+ghost use Rattle.std.specs.Prelude.{◌≡◌, ◌+◌, ◌*◌, ◌<◌, ◌^◌, nat_lt, if◌then◌else◌, length, replicate, IfOk, Ok, Err};
+ghost use Rattle.vms_trace.specs.declared.causes.LineCause.TheVariants.{Overflow};
+ghost use Rattle.vms_script.specs.Standing.{HasCell, volume_at, with_volume};
 ghost use Rattle.vms_script.specs.Volumes.{most_volume};
 
 use std::alloc::Global;
@@ -31,15 +32,10 @@ impl VolumeTable {
     /// Adds a size to a CPU's volume on a thing, unless it would pass 2^48.
     #[inline]
     pub(crate) fn spend(&mut self, cpu: CpuId, thing: u32, size: u64) -> Result<(), LineCause>
-        requires cell { cell self.old.width cpu.number thing < length self.old.sums }
-        requires small { slice_index_or self.old.sums (cell self.old.width cpu.number thing) 0 ≤ most_volume }
-        ensures ok { OnOk result (self.new ≡ record self.old {
-          sums = slice_set self.old.sums (cell self.old.width cpu.number thing)
-              (slice_index_or self.old.sums (cell self.old.width cpu.number thing) 0 + size);
-        }) }
-        ensures overflow { IsErr result ↔ (most_volume < slice_index_or self.old.sums (cell self.old.width cpu.number thing) 0 + size) }
-        ensures cause { OnErr result (result ≡ Err LineCause.Overflow) }
-        ensures err { OnErr result (self.new ≡ self.old) }
+        requires { HasCell self.old cpu.number thing }
+        ensures result { result ≡ if nat_lt most_volume (volume_at self.old cpu.number thing + size) then Err Overflow else Ok tt }
+        ensures table { self.new ≡ if nat_lt most_volume (volume_at self.old cpu.number thing + size) then self.old
+            else with_volume self.old cpu.number thing (volume_at self.old cpu.number thing + size) }
     {
         let index = cpu.number as usize * self.width + thing as usize;
         let volume = self.sums.get(index).saturating_add(size);
