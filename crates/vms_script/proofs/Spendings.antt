@@ -1,37 +1,32 @@
 -- What a judge decides of an act of a CPU's lane.
-use Rattle.std.proofs.Common.{◌≡◌, ℕ, ◌+◌, ◌<◌, ◌≤◌, List, ◌∷◌, length, get_or, set, Bool, true, false, nat_eq, nat_lt, if◌then◌else◌, refl, sym, ap, subst, ◌∙◌, arith, ℤ, unsigned_abs, Result, Ok, Err, eq-eqb}
+use Rattle.std.proofs.Common.{◌≡◌, ℕ, ◌+◌, ◌<◌, List, ◌∷◌, length, get_or, Bool, true, false, nat_lt, if◌then◌else◌, refl, sym, ap, subst, ◌∙◌, ℤ, Result, Ok, Err}
 use Rattle.std.proofs.lemmas.Bool.{ltb-false}
-use Rattle.std.proofs.lemmas.Bool.Decides.{nat_tests}
 use Rattle.vms_base.specs.declared.headers.Header.{Header}
 use Rattle.vms_base.specs.declared.ids.CounterId.{CounterId}
 use Rattle.vms_base.specs.declared.ids.CpuId.{CpuId}
 use Rattle.vms_base.specs.declared.ids.EventId.{EventId}
 use Rattle.vms_base.specs.declared.ids.PcpuId.{PcpuId}
 use Rattle.vms_base.specs.declared.kinds.CpuState.{CpuState}
-use Rattle.vms_base.specs.declared.kinds.CpuState.TheVariants.{Online as IsOnline, Dead as IsDead, Absent}
-use Rattle.vms_base.specs.Headers.{IsHeader}
+use Rattle.vms_base.specs.declared.kinds.CpuState.TheVariants.{Online as IsOnline}
 use Rattle.vms_base.specs.Places.{counter_count}
 use Rattle.vms_text.specs.declared.acts.Act.{Act}
 use Rattle.vms_text.specs.declared.acts.Act.TheVariants.{Mod, Inc, Dec, Ev, Cnt, Lim, Dead}
-use Rattle.vms_text.specs.declared.acts.Boundary.{Boundary as BoundaryOf}
-use Rattle.vms_text.specs.declared.acts.Boundary.TheVariants.{Sync, Offline, Online, Flush, Report}
-use Rattle.vms_text.specs.declared.acts.Lane.TheVariants.{Cpu, Control}
+use Rattle.vms_text.specs.declared.acts.Lane.TheVariants.{Cpu}
 use Rattle.vms_text.specs.declared.acts.Line.{Line}
-use Rattle.vms_text.specs.declared.acts.Line.TheVariants.{Blank, Lane, Boundary}
+use Rattle.vms_text.specs.declared.acts.Line.TheVariants.{Lane}
 use Rattle.vms_trace.specs.declared.causes.LineCause.{LineCause}
-use Rattle.vms_trace.specs.declared.causes.LineCause.TheVariants.{NotOnline, Overflow, NotDead, NotFolded, LastCpu}
-use Rattle.vms_trace.specs.Laws.{IsActOf, IsLineOf}
-use Rattle.vms_script.specs.declared.cpus.CpuStates.{CpuStates}
+use Rattle.vms_trace.specs.declared.causes.LineCause.TheVariants.{NotOnline, Overflow}
+use Rattle.vms_trace.specs.Laws.{IsActOf}
 use Rattle.vms_script.specs.declared.judges.LineJudge.{LineJudge}
 use Rattle.vms_script.specs.declared.volumes.VolumeTable.{VolumeTable}
-use Rattle.vms_script.specs.Cpus.{cpu_state, state_past, is_online, online_below, online_count}
+use Rattle.vms_script.specs.Cpus.{cpu_state, state_past, is_online}
 use Rattle.vms_script.specs.Judging.{allowed, counted}
 use Rattle.vms_script.specs.Volumes.{most_volume, overflows, spent_on_counter, spent_on_event, spent_on_pcpu, volume}
-use Rattle.vms_script.specs.Standing.{Decides, Stands, TellsCpus, answered, volume_at, with_volume}
+use Rattle.vms_script.specs.Standing.{Decides, Stands, answered, volume_at, with_volume}
 use Rattle.vms_script.proofs.CpuCounts.{TellsCpus-still}
 use Rattle.vms_script.proofs.Decisions.{Decides-kept, Decides-refused}
-use Rattle.vms_script.proofs.Standings.{AddsNothing, Stands-still}
-use Rattle.vms_script.proofs.VolumeSums.{TellsVolumes-still, TellsVolumes-spent, by_cpu-nothing, measure-here, measure-other, volume_at-is}
+use Rattle.vms_script.proofs.Standings.{Stands-still}
+use Rattle.vms_script.proofs.VolumeSums.{TellsVolumes-still, TellsVolumes-spent, by_cpu-nothing, volume_at-is}
 
 -- an act of a CPU that is online, by whether it passes the most volume
 judged_by : (over : Bool) (header : Header) (lines : List Line) (cpu : CpuId) (act : Act) (put : VolumeTable → LineJudge) (old spent new : VolumeTable) (result : Result (Unit {0}) LineCause)

@@ -1,9 +1,8 @@
 -- Where a judge stands behind a line.
-use Rattle.std.proofs.Common.{◌≡◌, ℕ, zero, suc, ◌+◌, ◌*◌, ◌^◌, ◌<◌, ◌≤◌, List, [], ◌∷◌, length, get_or, replicate, refl, sym, ap, ◌∙◌, arith}
+use Rattle.std.proofs.Common.{◌≡◌, ℕ, zero, suc, ◌*◌, ◌^◌, ◌<◌, List, [], ◌∷◌, length, get_or, replicate, refl, sym, ap, ◌∙◌, arith}
 use Rattle.std.proofs.lemmas.List.{length-replicate, get_or-replicate}
 use Rattle.std.proofs.Math.Nat.{mul-le-mul}
 use Rattle.vms_base.specs.declared.headers.Header.{Header}
-use Rattle.vms_base.specs.declared.ids.CpuId.{CpuId}
 use Rattle.vms_base.specs.declared.kinds.CpuState.{CpuState}
 use Rattle.vms_base.specs.declared.kinds.CpuState.TheVariants.{Online as IsOnline}
 use Rattle.vms_base.specs.Headers.{IsHeader}
@@ -15,8 +14,8 @@ use Rattle.vms_text.specs.declared.acts.Line.{Line}
 use Rattle.vms_script.specs.declared.cpus.CpuStates.{CpuStates}
 use Rattle.vms_script.specs.declared.judges.LineJudge.{LineJudge}
 use Rattle.vms_script.specs.declared.volumes.VolumeTable.{VolumeTable}
-use Rattle.vms_script.specs.Cpus.{cpu_state, state_past, online_below}
-use Rattle.vms_script.specs.Volumes.{by_cpu, most_volume, spent_on_counter, spent_on_event, spent_on_pcpu, volume}
+use Rattle.vms_script.specs.Cpus.{state_past, online_below}
+use Rattle.vms_script.specs.Volumes.{by_cpu, spent_on_counter, spent_on_event, spent_on_pcpu, volume}
 use Rattle.vms_script.specs.Standing.{Stands, TellsCpus, TellsVolumes}
 use Rattle.vms_script.proofs.CpuCounts.{TellsCpus-still}
 use Rattle.vms_script.proofs.VolumeSums.{TellsVolumes-still}

@@ -1,10 +1,9 @@
 -- Scripts: the lane lines of a phase that count, as they are collected.
-use Rattle.std.specs.Prelude.{ℕ, suc, List, [], ◌∷◌, ◌++◌, Result, Ok, Err}
+use Rattle.std.specs.Prelude.{ℕ, List, [], ◌∷◌, ◌++◌}
 use Rattle.vms_base.specs.declared.headers.Header.{Header}
 use Rattle.vms_text.specs.declared.acts.Item.{Item}
 use Rattle.vms_text.specs.declared.acts.Line.{Line}
 use Rattle.vms_text.specs.declared.acts.Line.TheVariants.{Blank, Lane, Boundary}
-use Rattle.vms_trace.specs.declared.causes.LineCause.{LineCause}
 use Rattle.vms_script.specs.declared.scripters.Fed.{Fed}
 use Rattle.vms_script.specs.declared.scripters.Fed.TheVariants.{Blank as FedBlank, Kept, Boundary as FedBoundary}
 

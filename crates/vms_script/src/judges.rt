@@ -2,7 +2,7 @@ use crate::cpus::CpuStates;
 use crate::volumes::VolumeTable;
 use std::alloc::Global;
 use vms_base::{CpuId, CpuState, Header, Memory};
-use vms_trace::{Act, Boundary, Lane, Line, LineCause};
+use vms_trace::{Act, Boundary, Lane, Line, LineCause, parse_line};
 
 /// Decides the lines of a body by the lines above them. It keeps the CPUs' states and volumes, and no line.
 #[derive(Drop)]
@@ -172,16 +172,4 @@ impl LineJudge {
             }
         }
     }
-}
-
-ghost use Rattle.std.specs.Prelude.{◌≡◌};
-ghost use Rattle.vms_trace.specs.Body.{read_line};
-
-/// A line.
-fn parse_line(header: &Header, line: &[u8]) -> Result<Line, LineCause>
-    ensures { result ≡ read_line header.now line.now }
-{
-    let _ = header;
-    let _ = line;
-    Ok(Line::Blank)
 }

@@ -1,15 +1,13 @@
 -- What a line of the body says: the grammar of lane lines and boundary lines.
-use Rattle.std.specs.Prelude.{ℕ, nat_lt, ◌==◌, ◌&&◌, Bool, true, false, not, if◌then◌else◌, List, [], ◌∷◌, length, codes, bytes_eq, Option, Some, None, Result, Ok, Err}
+use Rattle.std.specs.Prelude.{ℕ, nat_lt, ◌==◌, ◌&&◌, Bool, false, if◌then◌else◌, List, [], ◌∷◌, length, codes, bytes_eq, Result, Ok, Err}
 use Rattle.std.specs.Str.Parse.{digits_value}
 use Rattle.vms_base.specs.declared.headers.Header.{Header}
 use Rattle.vms_text.specs.declared.acts.Act.{Act}
-use Rattle.vms_text.specs.declared.acts.Boundary.{Boundary as BoundaryOf}
 use Rattle.vms_text.specs.declared.acts.Boundary.TheVariants.{Sync, Offline, Online, Flush, Report}
 use Rattle.vms_text.specs.declared.acts.Lane.{Lane as LaneOf}
 use Rattle.vms_text.specs.declared.acts.Lane.TheVariants.{Cpu, Control}
 use Rattle.vms_text.specs.declared.acts.Line.{Line}
 use Rattle.vms_text.specs.declared.acts.Line.TheVariants.{Blank, Lane, Boundary}
-use Rattle.vms_text.specs.declared.acts.ReportKind.{ReportKind}
 use Rattle.vms_text.specs.declared.acts.ReportKind.TheVariants.{Vmstat, Zoneinfo, Totals, Counters}
 use Rattle.vms_text.specs.Numbers.{is_numeral}
 use Rattle.vms_text.specs.Words.{words_of}

@@ -1,5 +1,5 @@
 -- What the lines of a header have said so far, and the header that they make.
-use Rattle.std.specs.Prelude.{◌≡◌, ℕ, ◌+◌, ◌*◌, nat_lt, nat_eq, ◌==◌, Bool, true, false, not, cond, if◌then◌else◌, ℤ, pos, List, [], ◌∷◌, ◌++◌, length, map, filter, replicate, slice_set, sum_by, Option, Some, None}
+use Rattle.std.specs.Prelude.{ℕ, nat_lt, nat_eq, Bool, not, if◌then◌else◌, ℤ, pos, List, [], ◌∷◌, map, filter, replicate, slice_set, sum_by, Option, Some, None}
 use Rattle.vms_base.specs.declared.headers.Decl.{Decl}
 use Rattle.vms_base.specs.declared.headers.Header.{Header}
 use Rattle.vms_base.specs.declared.headers.ItemDecl.{ItemDecl}

@@ -1,5 +1,5 @@
 -- The fields of a line of the body: each gives what its words say, or the first cause why it doesn't count.
-use Rattle.std.specs.Prelude.{ℕ, ◌+◌, ◌^◌, nat_lt, nat_le, ◌==◌, Bool, true, false, if◌then◌else◌, ℤ, pos, unsigned_abs, int_div, int_rem, List, [], ◌∷◌, length, map, codes, bytes_eq, position, Option, Some, None, option_map, ok_or, Result, Ok, Err, ◌%◌}
+use Rattle.std.specs.Prelude.{ℕ, ◌+◌, ◌^◌, nat_lt, nat_le, ◌==◌, true, false, if◌then◌else◌, ℤ, pos, unsigned_abs, int_div, List, map, codes, bytes_eq, position, Option, Some, None, option_map, ok_or, Result, Ok, Err, ◌%◌}
 use Rattle.vms_base.specs.declared.headers.Header.{Header}
 use Rattle.vms_base.specs.declared.ids.CounterId.{CounterId}
 use Rattle.vms_base.specs.declared.ids.CpuId.{CpuId}

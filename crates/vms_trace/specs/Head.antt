@@ -1,16 +1,16 @@
 -- The header of a trace, and the first line at fault.
-use Rattle.std.specs.Prelude.{ℕ, suc, ◌≡◌, ◌≤◌, nat_lt, nat_le, nat_eq, ◌==◌, ◌&&◌, ◌||◌, Bool, true, false, not, if◌then◌else◌, List, [], ◌∷◌, length, take, drop, codes, bytes_eq, Option, Result, Ok, Err}
+use Rattle.std.specs.Prelude.{ℕ, suc, ◌≡◌, ◌≤◌, nat_lt, nat_le, ◌&&◌, Bool, true, false, if◌then◌else◌, List, [], ◌∷◌, length, take, drop, codes, bytes_eq, Result, Ok, Err}
 use Rattle.std.specs.Cmp.Lexicographic.{pointwise}
 use Rattle.vms_base.specs.declared.headers.Header.{Header}
 use Rattle.vms_text.specs.Lines.{lines_of}
 use Rattle.vms_text.specs.Words.{words_of}
 use Rattle.vms_trace.specs.declared.causes.HeaderCause.{HeaderCause}
-use Rattle.vms_trace.specs.declared.causes.HeaderCause.TheVariants.{BadMagic, BadCpus, NoZone, MissingGo, Malformed, LineTooLong}
+use Rattle.vms_trace.specs.declared.causes.HeaderCause.TheVariants.{BadMagic, BadCpus, MissingGo, Malformed, LineTooLong}
 use Rattle.vms_trace.specs.declared.causes.HeaderError.{HeaderError}
 use Rattle.vms_trace.specs.declared.causes.HeaderError.TheVariants.{Bad, Memory}
 use Rattle.vms_trace.specs.Reading.{and_then, most_line, is_ignored, is_clean}
 use Rattle.vms_trace.specs.Drafts.{Draft, Part, part_index, first_draft, most_cpus, header_of}
-use Rattle.vms_trace.specs.Drafts.Part.{AtCpus, AtItems, AtZones, AtBases, AtCounters}
+use Rattle.vms_trace.specs.Drafts.Part.{AtCpus, AtItems, AtZones, AtBases}
 use Rattle.vms_trace.specs.HeadRows.{any_number, watermarks_row, item_row, any_zone_row, behind_zones, base_row, counter_row}
 
 -- a header's line that is refused, counted from 1, and why

@@ -1,18 +1,15 @@
 -- What the lines of a header say behind `cpus`, a line of the table each: what was said with it, or the first cause why it is at
 -- fault.
-use Rattle.std.specs.Prelude.{ℕ, ◌*◌, ◌+◌, ◌^◌, ◌-◌, nat_lt, nat_le, nat_eq, max, ◌==◌, ◌&&◌, ◌||◌, Bool, true, false, not, if◌then◌else◌, ℤ, unsigned_abs, List, [], ◌∷◌, ◌++◌, length, map, codes, bytes_eq, position, Option, Some, None, ok_or, Result, Ok, Err}
+use Rattle.std.specs.Prelude.{ℕ, ◌*◌, ◌^◌, nat_lt, nat_le, nat_eq, max, ◌&&◌, ◌||◌, Bool, true, false, if◌then◌else◌, ℤ, unsigned_abs, List, [], ◌∷◌, ◌++◌, length, map, codes, bytes_eq, Option, Some, None, ok_or, Result, Ok, Err}
 use Rattle.std.specs.List.{list_any}
-use Rattle.vms_base.specs.declared.headers.Decl.{Decl}
 use Rattle.vms_base.specs.declared.headers.ItemDecl.{ItemDecl}
 use Rattle.vms_base.specs.declared.kinds.ZoneKind.{ZoneKind}
-use Rattle.vms_base.specs.declared.kinds.ZoneName.{ZoneName}
-use Rattle.vms_base.specs.declared.kinds.ZoneSize.{ZoneSize}
 use Rattle.vms_base.specs.Names.{is_name, zone_items, node_items}
 use Rattle.vms_base.specs.Places.{rank_of, counter_at}
 use Rattle.vms_text.specs.Numbers.{number_within, unsigned_of, signed_of}
 use Rattle.vms_trace.specs.declared.causes.HeaderCause.{HeaderCause}
 use Rattle.vms_trace.specs.declared.causes.HeaderCause.TheVariants.{BadNumber, NoZone, DoubledZone, TooManyZones, BadMarks, UnknownName, DoubledCounter, BadBatch, Malformed, TooManyCounters, DoubledItem, TooManyItems}
-use Rattle.vms_trace.specs.Drafts.{Zone, Share, Base, Draft, with_zone, shape_of}
+use Rattle.vms_trace.specs.Drafts.{Zone, Share, Draft, with_zone, shape_of}
 use Rattle.vms_trace.specs.Drafts.Part.{AtWatermarks, AtItems, AtZones, AtBases, AtCounters}
 use Rattle.vms_trace.specs.Places.{kind_named, place_named, item_named, declared_items}
 use Rattle.vms_trace.specs.Reading.{and_then}

@@ -1,5 +1,5 @@
 -- Laws of the grammar, each for every text, header and line.
-use Rattle.std.specs.Prelude.{◌≡◌, ℕ, ◌^◌, ◌+◌, ◌<◌, ◌≤◌, ◌-◌, IsTrue, true, false, nat_lt, MatchBool, unsigned_abs, List, [], ◌∷◌, ◌++◌, length, All, IfSome, IsSome, Result, Ok, Err}
+use Rattle.std.specs.Prelude.{◌≡◌, ℕ, ◌^◌, ◌+◌, ◌<◌, ◌≤◌, ◌-◌, IsTrue, true, false, nat_lt, MatchBool, unsigned_abs, List, [], ◌∷◌, ◌++◌, length, All, IfSome, Result, Ok, Err}
 use Rattle.std.specs.Int.{w64}
 use Rattle.std.specs.Int.RustNames.{FitsSigned}
 use Rattle.vms_base.specs.declared.headers.Header.{Header}

@@ -1,11 +1,11 @@
 -- The names of kinds, places and items, as the words of a line give them.
-use Rattle.std.specs.Prelude.{ℕ, zero, suc, ◌+◌, ◌-◌, nat_lt, ◌==◌, Bool, true, false, not, cond, if◌then◌else◌, List, [], ◌∷◌, length, map, filter, codes, bytes_eq, position, slice_get, Option, Some, None, option_map, option_and_then}
+use Rattle.std.specs.Prelude.{ℕ, ◌-◌, nat_lt, Bool, false, not, cond, if◌then◌else◌, List, length, filter, codes, bytes_eq, position, slice_get, Option, Some, None, option_and_then}
 use Rattle.vms_base.specs.declared.headers.Header.{Header}
 use Rattle.vms_base.specs.declared.headers.ItemDecl.{ItemDecl}
 use Rattle.vms_base.specs.declared.kinds.ZoneKind.{ZoneKind}
 use Rattle.vms_base.specs.declared.kinds.ZoneKind.TheVariants.{Dma, Dma32, Normal, Movable}
 use Rattle.vms_base.specs.Headers.{class_names, is_of_node}
-use Rattle.vms_base.specs.Places.{Shape, zone_place, node_place, place_of, position_of}
+use Rattle.vms_base.specs.Places.{Shape, zone_place, node_place, position_of}
 
 -- the kind of zones that a word names
 abbrev pub kind_named : List ℕ → Option ZoneKind

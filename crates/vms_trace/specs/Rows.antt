@@ -1,17 +1,15 @@
 -- What the words behind a lane's word say, a line of the table each.
-use Rattle.std.specs.Prelude.{ℕ, ◌^◌, ◌-◌, nat_le, ◌==◌, ◌&&◌, Bool, true, false, not, if◌then◌else◌, List, [], ◌∷◌, length, map, codes, bytes_eq, slice_get, Option, Some, None, Result, Ok, Err}
+use Rattle.std.specs.Prelude.{ℕ, ◌^◌, ◌-◌, nat_le, ◌==◌, ◌&&◌, Bool, if◌then◌else◌, List, [], ◌∷◌, codes, bytes_eq, Option, Some, None, Result, Ok, Err}
 use Rattle.std.specs.List.{list_any}
 use Rattle.vms_base.specs.declared.headers.Header.{Header}
-use Rattle.vms_base.specs.declared.ids.PlaceId.{PlaceId}
 use Rattle.vms_base.specs.declared.kinds.WaterMark.{WaterMark}
-use Rattle.vms_base.specs.declared.kinds.ZoneName.{ZoneName}
 use Rattle.vms_base.specs.Places.{zone_index, node_at}
 use Rattle.vms_text.specs.declared.acts.Act.{Act}
 use Rattle.vms_text.specs.declared.acts.Act.TheVariants.{Mod, Inc, Dec, Ev, Cnt, Lim, Cmp, Sum, Rough, Csync, EvSum, Fold, Water, Val, Snap, Sys, Pressure, Normal, Dead, Kswapd}
 use Rattle.vms_trace.specs.declared.causes.LineCause.{LineCause}
 use Rattle.vms_trace.specs.declared.causes.LineCause.TheVariants.{Malformed, UnknownPlace}
 use Rattle.vms_trace.specs.Reading.{and_then}
-use Rattle.vms_trace.specs.Fields.{number_field, number_up_to, amount_field, limit_field, cpu_field, zone_field, node_field, counter_field, event_field, pcpu_field, system_field, mark_named, in_pages, page_counter}
+use Rattle.vms_trace.specs.Fields.{number_up_to, amount_field, limit_field, cpu_field, zone_field, node_field, counter_field, event_field, pcpu_field, system_field, mark_named, in_pages, page_counter}
 
 -- `mod PLACE ITEM DELTA`
 abbrev pub mod_row : Header → List (List ℕ) → Result Act LineCause
@@ -149,6 +147,17 @@ shared_row header verb fields =
     else if bytes_eq verb (codes "sys") then sys_row header fields
     else Err Malformed
 
+-- the lines of a CPU's lane on percpu counters, and those that each lane has
+abbrev pub pcpu_row : Header → List ℕ → List (List ℕ) → Result Act LineCause
+pcpu_row header verb fields =
+    if bytes_eq verb (codes "cnt") then cnt_row header fields
+    else if bytes_eq verb (codes "lim") then lim_row header fields
+    else if bytes_eq verb (codes "cmp") then cmp_row header fields
+    else if bytes_eq verb (codes "sum") then sum_row header fields
+    else if bytes_eq verb (codes "rough") then rough_row header fields
+    else if bytes_eq verb (codes "csync") then csync_row header fields
+    else shared_row header verb fields
+
 -- the lines of a CPU's lane
 abbrev pub cpu_row : Header → List ℕ → List (List ℕ) → Result Act LineCause
 cpu_row header verb fields =
@@ -156,13 +165,7 @@ cpu_row header verb fields =
     else if bytes_eq verb (codes "inc") then inc_row header fields
     else if bytes_eq verb (codes "dec") then dec_row header fields
     else if bytes_eq verb (codes "ev") then ev_row header fields
-    else if bytes_eq verb (codes "cnt") then cnt_row header fields
-    else if bytes_eq verb (codes "lim") then lim_row header fields
-    else if bytes_eq verb (codes "cmp") then cmp_row header fields
-    else if bytes_eq verb (codes "sum") then sum_row header fields
-    else if bytes_eq verb (codes "rough") then rough_row header fields
-    else if bytes_eq verb (codes "csync") then csync_row header fields
-    else shared_row header verb fields
+    else pcpu_row header verb fields
 
 -- the lines of the control lane; `kswapd` only where a place has sixteen items
 abbrev pub control_row : Header → List ℕ → List (List ℕ) → Result Act LineCause

@@ -1,18 +1,17 @@
 -- The one spelling of a header and of a line.
-use Rattle.std.specs.Prelude.{ℕ, zero, suc, nat_lt, nat_eq, ◌==◌, Bool, true, false, if◌then◌else◌, ℤ, pos, ◌*ℤ◌, List, [], ◌∷◌, ◌++◌, length, map, zip, flat_map, codes, decimal, slice_index_or, slice_get, Option, Some, None, option_to_list, ◌-◌}
+use Rattle.std.specs.Prelude.{ℕ, zero, suc, nat_lt, ◌==◌, true, false, if◌then◌else◌, ℤ, pos, ◌*ℤ◌, List, [], ◌∷◌, ◌++◌, length, map, zip, flat_map, codes, decimal, slice_get, option_to_list, ◌-◌}
 use Rattle.std.specs.Fmt.{signed_decimal}
 use Rattle.std.specs.List.{join_with_byte}
 use Rattle.vms_base.specs.declared.headers.Decl.{Decl}
 use Rattle.vms_base.specs.declared.headers.Header.{Header}
 use Rattle.vms_base.specs.declared.headers.ItemDecl.{ItemDecl}
-use Rattle.vms_base.specs.declared.ids.CounterId.{CounterId}
 use Rattle.vms_base.specs.declared.kinds.WaterMark.{WaterMark}
 use Rattle.vms_base.specs.declared.kinds.WaterMark.TheVariants.{Min, Low, High}
 use Rattle.vms_base.specs.declared.kinds.ZoneName.{ZoneName}
 use Rattle.vms_base.specs.declared.kinds.ZoneSize.{ZoneSize}
 use Rattle.vms_base.specs.Headers.{class_names, is_of_node}
 use Rattle.vms_base.specs.Names.{event_names, kind_names}
-use Rattle.vms_base.specs.Places.{zone_at, node_at, zone_index, place_of, position_of, counter_count}
+use Rattle.vms_base.specs.Places.{zone_at, node_at, zone_index, place_of, position_of}
 use Rattle.vms_text.specs.declared.acts.Act.{Act}
 use Rattle.vms_text.specs.declared.acts.Act.TheVariants.{Mod, Inc, Dec, Ev, Cnt, Lim, Cmp, Sum, Rough, Csync, EvSum, Fold, Water, Val, Snap, Sys, Pressure, Normal, Dead, Kswapd}
 use Rattle.vms_text.specs.declared.acts.Boundary.{Boundary as BoundaryOf}

@@ -1,4 +1,4 @@
-use Rattle.std.proofs.Common.{◌≡◌, sym, subst, Ok}
+use Rattle.std.proofs.Common.{sym, subst, Ok}
 use Rattle.vms_text.specs.declared.acts.Line.{Line}
 use Rattle.vms_script.specs.Standing.{Decides}
 use Rattle.vms_script.proofs.Decisions.{Decides-blank}

@@ -1,4 +1,4 @@
-use Rattle.std.proofs.Common.{◌≡◌, ap, sym, ◌∙◌, arith}
+use Rattle.std.proofs.Common.{◌∙◌, arith}
 use Rattle.vms_script.proofs.CpuCounts.{online_below-most}
 use Rattle.vms_script.proofs.Decisions.{Decides-up, Decides-up_refused, Decides-up_unfolded}
 use Rattle.vms_script.proofs.judges.LineJudge.bring_up.Goals as goal

@@ -1,4 +1,4 @@
-use Rattle.std.proofs.Common.{◌≡◌, ap, sym, ◌∙◌, arith, inl, inr}
+use Rattle.std.proofs.Common.{◌∙◌, arith, inl, inr}
 use Rattle.vms_script.proofs.CpuCounts.{online_below-most}
 use Rattle.vms_script.proofs.Decisions.{Decides-buried, Decides-burial_refused}
 use Rattle.vms_script.proofs.judges.LineJudge.bury.Goals as goal

@@ -1,4 +1,4 @@
-use Rattle.std.proofs.Common.{◌≡◌, ap, sym, ◌∙◌, arith}
+use Rattle.std.proofs.Common.{ap, sym, ◌∙◌, arith}
 use Rattle.vms_script.proofs.CpuCounts.{online_below-has, online_below-most}
 use Rattle.vms_script.proofs.Decisions.{Decides-down, Decides-down_refused, Decides-last_refused}
 use Rattle.vms_script.specs.Cpus.{online_count}
