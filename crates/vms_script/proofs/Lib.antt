@@ -1,0 +1,5 @@
+pub mod CpuCounts
+pub mod VolumeSums
+pub mod Standings
+pub mod Decisions
+pub mod Spendings

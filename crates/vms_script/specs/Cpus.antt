@@ -1,0 +1,34 @@
+-- Which CPUs are online behind the lines that count, the newest first.
+use Rattle.std.specs.Prelude.{ℕ, zero, suc, nat_eq, if◌then◌else◌, List, [], ◌∷◌, Bool, true, false}
+use Rattle.vms_base.specs.declared.kinds.CpuState.{CpuState}
+use Rattle.vms_base.specs.declared.kinds.CpuState.TheVariants.{Online as IsOnline, Dead as IsDead, Absent}
+use Rattle.vms_text.specs.declared.acts.Act.TheVariants.{Dead}
+use Rattle.vms_text.specs.declared.acts.Boundary.TheVariants.{Offline, Online}
+use Rattle.vms_text.specs.declared.acts.Line.{Line}
+use Rattle.vms_text.specs.declared.acts.Line.TheVariants.{Lane, Boundary}
+
+-- what a line makes of the state of CPU c: `offline` makes it dead, `dead` makes it absent, `online` makes it online
+abbrev pub state_past : ℕ → Line → CpuState → CpuState
+state_past c (Boundary (Offline cpu)) before = if nat_eq cpu.number c then IsDead else before
+state_past c (Boundary (Online cpu)) before = if nat_eq cpu.number c then IsOnline else before
+state_past c (Lane lane (Dead cpu)) before = if nat_eq cpu.number c then Absent else before
+state_past c _ before = before
+
+-- the state of CPU c behind these lines: at first every CPU is online
+abbrev pub cpu_state : ℕ → List Line → CpuState
+cpu_state c [] = IsOnline
+cpu_state c (line ∷ lines) = state_past c line (cpu_state c lines)
+
+abbrev pub is_online : CpuState → Bool
+is_online IsOnline = true
+is_online _ = false
+
+-- 1 for the state of a CPU that is online, and 0 for another
+abbrev pub online_count : CpuState → ℕ
+online_count IsOnline = 1
+online_count _ = 0
+
+-- how many of the CPUs below n are online
+abbrev pub online_below : ℕ → List Line → ℕ
+online_below zero lines = 0
+online_below (suc n) lines = if is_online (cpu_state n lines) then suc (online_below n lines) else online_below n lines

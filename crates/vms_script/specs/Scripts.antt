@@ -1,0 +1,34 @@
+-- Scripts: the lane lines of a phase that count, as they are collected.
+use Rattle.std.specs.Prelude.{ℕ, List, [], ◌∷◌, ◌++◌}
+use Rattle.vms_base.specs.declared.headers.Header.{Header}
+use Rattle.vms_text.specs.declared.acts.Item.{Item}
+use Rattle.vms_text.specs.declared.acts.Line.{Line}
+use Rattle.vms_text.specs.declared.acts.Line.TheVariants.{Blank, Lane, Boundary}
+use Rattle.vms_script.specs.declared.scripters.Fed.{Fed}
+use Rattle.vms_script.specs.declared.scripters.Fed.TheVariants.{Blank as FedBlank, Kept, Boundary as FedBoundary}
+
+-- what a scripter has come to: the header it was made for, the lines that count, the newest first, and the lane lines that it
+-- holds, the oldest first
+pub record Script : Type 0 where
+  pub header : Header
+  pub lines : List Line
+  pub items : List Item
+
+-- before the first line
+abbrev pub first_script : Header → Script
+first_script header = record { header = header; lines = []; items = [] }
+
+-- the script with line n, which counts
+abbrev pub with_line : ℕ → Line → Script → Script
+with_line n Blank script = script
+with_line n (Lane lane act) script = record script {
+  lines = Lane lane act ∷ script.lines;
+  items = script.items ++ record { number = n; lane = lane; act = act } ∷ [];
+}
+with_line n (Boundary boundary) script = record script { lines = Boundary boundary ∷ script.lines }
+
+-- what is told of a line that counts, or is blank
+abbrev pub fed_of : Line → Fed
+fed_of Blank = FedBlank
+fed_of (Lane lane act) = Kept
+fed_of (Boundary boundary) = FedBoundary boundary

@@ -1,0 +1,51 @@
+-- What the lines that count change, in absolute sum.
+use Rattle.std.specs.Prelude.{ℕ, ◌+◌, ◌^◌, nat_eq, nat_lt, if◌then◌else◌, unsigned_abs, List, [], ◌∷◌, Bool, false}
+use Rattle.vms_text.specs.declared.acts.Act.{Act}
+use Rattle.vms_text.specs.declared.acts.Act.TheVariants.{Mod, Inc, Dec, Ev, Cnt, Lim}
+use Rattle.vms_text.specs.declared.acts.Lane.TheVariants.{Cpu}
+use Rattle.vms_text.specs.declared.acts.Line.{Line}
+use Rattle.vms_text.specs.declared.acts.Line.TheVariants.{Lane}
+
+-- the most that one CPU may change one counter, event or percpu counter by over a run
+abbrev pub most_volume : ℕ
+most_volume = 2 ^ 48
+
+-- the size of what an act changes a counter by, in pages
+abbrev pub spent_on_counter : ℕ → Act → ℕ
+spent_on_counter k (Mod counter pages) = if nat_eq counter.number k then unsigned_abs pages else 0
+spent_on_counter k (Inc counter) = if nat_eq counter.number k then 1 else 0
+spent_on_counter k (Dec counter) = if nat_eq counter.number k then 1 else 0
+spent_on_counter k _ = 0
+
+-- how often an act counts an event
+abbrev pub spent_on_event : ℕ → Act → ℕ
+spent_on_event e (Ev event n) = if nat_eq event.number e then n else 0
+spent_on_event e _ = 0
+
+-- the size of what an act adds to a percpu counter, also where a limited add adds nothing
+abbrev pub spent_on_pcpu : ℕ → Act → ℕ
+spent_on_pcpu j (Cnt counter amount) = if nat_eq counter.number j then unsigned_abs amount else 0
+spent_on_pcpu j (Lim counter limit amount) = if nat_eq counter.number j then unsigned_abs amount else 0
+spent_on_pcpu j _ = 0
+
+-- a measure of the act of a line, if it is one of CPU c's lane
+abbrev pub by_cpu : ℕ → (Act → ℕ) → Line → ℕ
+by_cpu c measure (Lane (Cpu cpu) act) = if nat_eq cpu.number c then measure act else 0
+by_cpu c measure _ = 0
+
+-- the volume of CPU c behind these lines: the sum of a measure of its lane's acts
+abbrev pub volume : (Act → ℕ) → ℕ → List Line → ℕ
+volume measure c [] = 0
+volume measure c (line ∷ lines) = by_cpu c measure line + volume measure c lines
+
+-- whether a line of CPU c would pass the most volume on what it changes
+abbrev pub overflows : List Line → ℕ → Act → Bool
+overflows lines c (Mod counter pages) =
+    nat_lt most_volume (volume (spent_on_counter counter.number) c lines + unsigned_abs pages)
+overflows lines c (Inc counter) = nat_lt most_volume (volume (spent_on_counter counter.number) c lines + 1)
+overflows lines c (Dec counter) = nat_lt most_volume (volume (spent_on_counter counter.number) c lines + 1)
+overflows lines c (Ev event n) = nat_lt most_volume (volume (spent_on_event event.number) c lines + n)
+overflows lines c (Cnt counter amount) = nat_lt most_volume (volume (spent_on_pcpu counter.number) c lines + unsigned_abs amount)
+overflows lines c (Lim counter limit amount) =
+    nat_lt most_volume (volume (spent_on_pcpu counter.number) c lines + unsigned_abs amount)
+overflows lines c _ = false
