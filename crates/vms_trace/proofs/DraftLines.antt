@@ -35,7 +35,7 @@ use Rattle.vms_trace.specs.Reading.{and_then, is_clean, is_ignored, most_line}
 use Rattle.vms_trace.proofs.Keeps.{and_then-ok, if-ok, number_in-within, ok-same, ok_or-ok, or-false, past, unless-ok, with_new_zone-keeps, none-here, with_item-keeps, with_share-keeps}
 use Rattle.vms_trace.proofs.HeadNames.{list_any-map}
 use Rattle.vms_trace.proofs.Positions.{position-lt}
-use Rattle.vms_trace.proofs.LaidShapes.{names-rise, nodes_of-from, nodes_of-rises, nodes_of-to}
+use Rattle.vms_trace.proofs.Shapes.{names-rise, nodes_of-from, nodes_of-rises, nodes_of-to}
 
 -- positions of a version
 positions-wide : (wide : Bool) → (positions_of wide ≡ 8) ⊎ (positions_of wide ≡ 16)

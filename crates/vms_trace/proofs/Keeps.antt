@@ -20,7 +20,7 @@ use Rattle.vms_trace.specs.Drafts.Part.{AtWatermarks, AtItems, AtZones}
 use Rattle.vms_trace.specs.HeadRows.{is_item_name, number_in, with_item, with_new_zone}
 use Rattle.vms_trace.specs.Places.{declared_items}
 use Rattle.vms_trace.specs.Reading.{and_then}
-use Rattle.vms_trace.proofs.LaidShapes.{contains-split, contains-tail, rises-cons, rises-head, rises-tail}
+use Rattle.vms_trace.proofs.Shapes.{contains-split, contains-tail, rises-cons, rises-head, rises-tail}
 
 -- what a step gives goes back to what it was given
 pub and_then-ok : {A B E : Type 0} (r : Result A E) (next : A → Result B E) (b : B) → and_then r next ≡ Ok b → (a : A) × (r ≡ Ok a) × (next a ≡ Ok b)

@@ -4,7 +4,7 @@ use Rattle.std.specs.List.{All}
 use Rattle.vms_base.specs.Places.{IsRefused, LaysOut}
 use Rattle.vms_trace.specs.Drafts.{most_cpus, names_of, positions_of}
 use Rattle.vms_trace.specs.Readers.{draft_of}
-use Rattle.vms_trace.proofs.LaidShapes.{LaysOut-ranked, names-rise, not-refused}
+use Rattle.vms_trace.proofs.Shapes.{LaysOut-ranked, names-rise, not-refused}
 use Rattle.vms_trace.proofs.layouts.layout_of.Goals as goal
 
 pub make_layout-requires : goal.make_layout-requires
