@@ -29,4 +29,6 @@ pub use heads::{HeaderReader, HeaderStep};
 pub use parsing::{lines_are_known, parse_line};
 pub use reading_back::{headers_read_back, lines_read_back};
 pub use spelling::write_line;
-pub use vms_text::{Act, Boundary, Item, Lane, Line, ReportKind, is_name, next_word, read_signed, read_unsigned};
+pub use vms_text::{
+    Act, Boundary, Item, Lane, Line, ReportKind, is_name, next_word, read_signed, read_unsigned,
+};
