@@ -1,5 +1,4 @@
 use Rattle.std.proofs.Common.{◌≤◌, ◌^◌, Bool, true, false, refl, rules, length, ◌≡◌, ◌∷◌, [], ◌++◌, ap, ◌∙◌, sym, subst, arith, ℕ, List, ℤ, pos, negsuc, replicate, set}
-use Rattle.std.proofs.lemmas.Grind.{common_steps}
 use Rattle.std.proofs.lemmas.List.Elements.{All-from_recursion, All-nil}
 use Rattle.std.specs.Prelude.{codes, slice_set, unsigned_abs}
 use Rattle.vms_base.specs.declared.headers.Decl.{Decl}
