@@ -1,1 +1,2 @@
+mod headers;
 mod lines;
