@@ -1,1 +1,6 @@
-
+pub mod CpuCounts
+pub mod VolumeSums
+pub mod Standings
+pub mod Decisions
+pub mod Spendings
+pub mod Feeding

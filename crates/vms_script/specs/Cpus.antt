@@ -23,6 +23,11 @@ abbrev pub is_online : CpuState → Bool
 is_online IsOnline = true
 is_online _ = false
 
+-- 1 for the state of a CPU that is online, and 0 for another
+abbrev pub online_count : CpuState → ℕ
+online_count IsOnline = 1
+online_count _ = 0
+
 -- how many of the CPUs below n are online
 abbrev pub online_below : ℕ → List Line → ℕ
 online_below zero lines = 0

@@ -1,5 +1,5 @@
 -- Which lines of a body count. It is a function of the text alone: of the line and of the lines above that count, the newest first.
-use Rattle.std.specs.Prelude.{ℕ, nat_eq, if◌then◌else◌, List, [], ◌∷◌, Bool, Result, Ok, Err}
+use Rattle.std.specs.Prelude.{ℕ, nat_eq, if◌then◌else◌, List, [], ◌∷◌, Result, Ok, Err}
 use Rattle.vms_base.specs.declared.headers.Header.{Header}
 use Rattle.vms_base.specs.declared.kinds.CpuState.{CpuState}
 use Rattle.vms_base.specs.declared.kinds.CpuState.TheVariants.{Online as IsOnline, Dead as IsDead, Absent}
@@ -7,7 +7,6 @@ use Rattle.vms_text.specs.declared.acts.Act.{Act}
 use Rattle.vms_text.specs.declared.acts.Act.TheVariants.{Dead}
 use Rattle.vms_text.specs.declared.acts.Boundary.{Boundary as BoundaryOf}
 use Rattle.vms_text.specs.declared.acts.Boundary.TheVariants.{Offline, Online}
-use Rattle.vms_text.specs.declared.acts.Lane.{Lane as LaneOf}
 use Rattle.vms_text.specs.declared.acts.Lane.TheVariants.{Cpu, Control}
 use Rattle.vms_text.specs.declared.acts.Line.{Line}
 use Rattle.vms_text.specs.declared.acts.Line.TheVariants.{Blank, Lane, Boundary}

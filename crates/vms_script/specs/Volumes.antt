@@ -1,5 +1,5 @@
 -- What the lines that count change, in absolute sum.
-use Rattle.std.specs.Prelude.{ℕ, ◌+◌, ◌^◌, nat_eq, nat_lt, if◌then◌else◌, unsigned_abs, List, [], ◌∷◌, Bool, true, false}
+use Rattle.std.specs.Prelude.{ℕ, ◌+◌, ◌^◌, nat_eq, nat_lt, if◌then◌else◌, unsigned_abs, List, [], ◌∷◌, Bool, false}
 use Rattle.vms_text.specs.declared.acts.Act.{Act}
 use Rattle.vms_text.specs.declared.acts.Act.TheVariants.{Mod, Inc, Dec, Ev, Cnt, Lim}
 use Rattle.vms_text.specs.declared.acts.Lane.TheVariants.{Cpu}

@@ -1,6 +1,10 @@
 //! Which lines of a body count, by the lines above them, and the scripts of their phases.
 #![tactic(auto)]
 
+mod cpus;
+mod judges;
 mod scripters;
+mod volumes;
 
-pub use scripters::{Fed, FeedError, PhaseScript};
+pub use judges::LineJudge;
+pub use scripters::{Fed, FeedError, PhaseScript, Scripter};

@@ -116,10 +116,9 @@ lines_of-behind front line next one more =
     ∙ sym (append_assoc (lines_of front) (line ∷ []) (lines_of next))
 
 -- one line on
-pub Reaches-line : (text : List ℕ) (count : ℕ) (rest line after : List ℕ) → Reaches text count rest → SplitsLine rest line after → line ≢ [] → Reaches text (count + 1) after
-Reaches-line text count rest line after reaches splits filled = elim splits.parts [
+pub Reaches-line : (text : List ℕ) (count : ℕ) (rest line after : List ℕ) → Reaches text count rest → SplitsLine rest line after → rest ≢ [] → Reaches text (count + 1) after
+Reaches-line text count rest line after reaches splits some = elim splits.parts [
   | inl ended ↦
-      let some : rest ≢ [] = λ empty. absurd (omega (arith, ap length (sym empty ∙ ended), length-append line (10 ∷ after))) in
       let own = reaches.more some (line ++ (10 ∷ [])) ∙ ap (λ lines. lines_of reaches.front ++ lines) (lines_of-line line splits.one_line) in
       record {
         front = reaches.front ++ (line ++ (10 ∷ []));
@@ -128,7 +127,7 @@ Reaches-line text count rest line after reaches splits filled = elim splits.part
         more = λ behind next. lines_of-behind reaches.front line next splits.one_line (reaches.more some) ∙ ap (λ lines. lines ++ lines_of next) (sym own);
       }
   | inr whole ↦
-      let some : rest ≢ [] = λ empty. filled (sym whole.0 ∙ empty) in
+      let filled : line ≢ [] = λ empty. some (whole.0 ∙ empty) in
       let own = reaches.more some line ∙ ap (λ lines. lines_of reaches.front ++ lines) (lines_of-last line splits.one_line filled) in
       record {
         front = reaches.front ++ line;

@@ -35,7 +35,7 @@ use Rattle.vms_trace.proofs.HeaderItems.{drafted, due, list_any-none}
 use Rattle.vms_trace.proofs.HeaderSteps.{Leads, leads-cons, leads-none, leads-one}
 use Rattle.vms_trace.proofs.HeaderZones.{zone_of}
 use Rattle.vms_trace.proofs.Middles.{All-middle, map-zip_first}
-use Rattle.vms_trace.proofs.PlacesRead.{SpellsPlace, place-spelled}
+use Rattle.vms_trace.proofs.PlacesRead.{SpellsPlace, below-other, place-spelled}
 use Rattle.vms_trace.proofs.Sentences.{IsFew}
 use Rattle.vms_trace.proofs.Shapes.{LaysOut-ranked}
 use Rattle.vms_trace.proofs.SpelledNumbers.{decimal-short, signed-short, signed_of-spelled, unsigned_of-decimal}
@@ -90,9 +90,6 @@ set-middle (first ∷ done) rest x y = ap (λ more. first ∷ more) (set-middle 
 
 base_fits : (value : ℤ) → unsigned_abs value ≤ 2 ^ 48 → FitsSigned w64 value
 base_fits value small = omega (arith, ints)
-
-below-other : (a b : ℕ) → a < b → nat_eq a b ≡ false
-below-other a b below = grind (arith, nat_tests)
 
 module _ (header : Header) (is : IsHeader header) where
   abbrev at : Part → List Base → Draft

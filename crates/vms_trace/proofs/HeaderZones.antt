@@ -25,7 +25,7 @@ use Rattle.vms_trace.proofs.Apart.{AllPairs-from_map}
 use Rattle.vms_trace.proofs.HeaderItems.{drafted, due, list_any-none}
 use Rattle.vms_trace.proofs.HeaderSteps.{Leads, leads-cons, leads-none, leads-one}
 use Rattle.vms_trace.proofs.Middles.{All-from_map, All-middle, AllPairs-middle, map-zip_first, map-zip_second}
-use Rattle.vms_trace.proofs.PlacesRead.{kind_named-word, kind_word, kind_word-entry, kind_word-short, zone_node-most}
+use Rattle.vms_trace.proofs.PlacesRead.{below-other, kind_named-word, kind_word, kind_word-entry, kind_word-short, zone_node-most}
 use Rattle.vms_trace.proofs.Sentences.{IsFew}
 use Rattle.vms_trace.proofs.SpelledNumbers.{decimal-short, number_within-spelled}
 
@@ -93,9 +93,6 @@ module _ (name : ZoneName) (size : ZoneSize) (is : IsSaid name size) where
         first,
         second,
       ) refl
-
-below-other : (a b : ℕ) → a < b → nat_eq a b ≡ false
-below-other a b below = grind (arith, nat_tests)
 
 module _ (header : Header) (is : IsWritable header) where
   firsts : map (λ pair. pair.0) (zip header.layout.zones header.sizes) ≡ header.layout.zones

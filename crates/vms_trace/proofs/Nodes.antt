@@ -1,6 +1,6 @@
 -- Nodes that a layout lacks.
 use Rattle.std.proofs.Common.{ℕ, ◌≡◌, ◌≢◌, ◌==◌, ◌+◌, false, None, subst, ap, arith, length, option_map, map, get_or}
-use Rattle.std.proofs.lemmas.Bool.Decides.{nat_tests}
+use Rattle.std.proofs.lemmas.Bool.{ne_eqb}
 use Rattle.std.proofs.lemmas.List.{get_or-map, length-map}
 use Rattle.std.proofs.lemmas.List.Elements.{All-contains, Contains-get_or}
 use Rattle.std.specs.List.{All, Contains}
@@ -10,12 +10,9 @@ use Rattle.vms_base.specs.Places.{IsLayout, Shape, node_place, rank_of, zone_pla
 use Rattle.vms_base.proofs.Zones.{rank_of-injective}
 use Rattle.vms_trace.proofs.Positions.{position-none}
 
-differs : (m n : ℕ) → m ≢ n → (m == n) ≡ false
-differs m n differ = grind (arith, nat_tests)
-
 pub node_place-absent : (shape : Shape) (node : ℕ) → All (λ number. number ≢ node) shape.nodes → node_place shape node ≡ None
 node_place-absent shape node absent =
-    ap (option_map (λ index. length shape.zones + index)) (position-none (λ number. number == node) shape.nodes (λ k d below. differs (get_or shape.nodes k d) node (absent k d below)))
+    ap (option_map (λ index. length shape.zones + index)) (position-none (λ number. number == node) shape.nodes (λ k d below. ne_eqb (get_or shape.nodes k d) node (absent k d below)))
 
 pub zone_place-absent : (shape : Shape) (node : ℕ) (kind : ZoneKind) → IsLayout shape → All (λ number. number ≢ node) shape.nodes → zone_place shape (record { node = node; kind = kind }) ≡ None
 zone_place-absent shape node kind layout absent = position-none (λ zone. rank_of zone == rank_of name) shape.zones other
@@ -24,7 +21,7 @@ zone_place-absent shape node kind layout absent = position-none (λ zone. rank_o
     name = record { node = node; kind = kind }
 
     other : All (λ zone. rank_of zone == rank_of name ≡ false) shape.zones
-    other k d below = differs (rank_of zone) (rank_of name) (λ same. absent_zone (ap (λ one. one.node) (rank_of-injective zone name same)))
+    other k d below = ne_eqb (rank_of zone) (rank_of name) (λ same. absent_zone (ap (λ one. one.node) (rank_of-injective zone name same)))
       where
         zone : ZoneName
         zone = get_or shape.zones k d

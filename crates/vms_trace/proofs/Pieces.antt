@@ -1,6 +1,7 @@
 -- The words of a line, cut at each byte that isn't one of a word.
 use Rattle.std.proofs.Common.{ℕ, zero, suc, ◌≡◌, ◌<◌, ◌≤◌, ◌+◌, ◌-◌, ◌==◌, ◌&&◌, ◌||◌, Bool, true, false, not, List, [], ◌∷◌, ◌++◌, inl, inr, refl, sym, subst, ◌∙◌, ap, arith, append-nil, append_assoc, take, drop, length, get_or}
 use Rattle.std.proofs.lemmas.Bool.Decides.{nat_tests}
+use Rattle.std.proofs.Math.Bool.{and-false, and-true, and_assoc, or-false}
 use Rattle.std.proofs.lemmas.Bool.{cases_lt}
 use Rattle.std.proofs.lemmas.List.{at_drop_all, at_drop_more, drop-drop, drop_more, get_or-drop, get_or-take, get_or_default, length-drop, length-take-le, length_push, take-append-drop, take_all, take_at, take_rest}
 use Rattle.std.proofs.lemmas.List.Splits.{slice_split_at, slice_split_none}
@@ -69,11 +70,11 @@ clean-word : (byte : ℕ) → is_word_byte byte ≡ true → not (is_wrong_byte 
 clean-word byte is = grind (arith, nat_tests)
 
 pub clean-other : (byte : ℕ) → is_word_byte byte ≡ false → not (is_wrong_byte byte) ≡ is_blank_byte byte
-clean-other byte is = rw is (or_false (is_blank_byte byte))
+clean-other byte is = rw is (not_not_or (is_blank_byte byte))
   where
-    or_false : (b : Bool) → not (not (b || false)) ≡ b
-    or_false true = refl
-    or_false false = refl
+    not_not_or : (b : Bool) → not (not (b || false)) ≡ b
+    not_not_or true = refl
+    not_not_or false = refl
 
 -- at a byte of a word
 pub IsCut-word : (line : List ℕ) (words : List (List ℕ)) (clean : Bool) (begin at : ℕ) → at < length line → is_word_byte (get_or line at 0) ≡ true → IsCut line words clean begin at → IsCut line words clean begin (at + 1)
@@ -114,10 +115,6 @@ IsCut-other line words words' clean begin at within other added cut =
     step : is_clean (drop at line) ≡ (is_blank_byte (get_or line at 0) && is_clean (drop (at + 1) line))
     step = at_drop_more is_clean line at 0 within ∙ ap (λ b. b && is_clean (drop (at + 1) line)) (clean-other (get_or line at 0) other)
 
-    and_assoc : (a b c : Bool) → ((a && b) && c) ≡ (a && (b && c))
-    and_assoc true b c = refl
-    and_assoc false b c = refl
-
 -- at the end of the line, where the last run is added to the words
 pub words_of-cut : (line : List ℕ) (words words' : List (List ℕ)) (clean : Bool) (begin at : ℕ) → at ≡ length line → words' ≡ take 8 (words ++ word_of (take (length line - begin) (drop begin line))) → IsCut line words clean begin at → (words' ≡ take 8 (words_of line)) × (clean ≡ is_clean line)
 words_of-cut line words words' clean begin at done added cut =
@@ -125,12 +122,8 @@ words_of-cut line words words' clean begin at done added cut =
     let behind : begin ≤ length line = omega (arith, cut.behind) in
     let nothing : is_clean (drop at line) ≡ true = at_drop_all is_clean line at (omega arith) in (
       added ∙ ap (λ more. take 8 (words ++ more)) (sym (words_of-last_run line begin behind run)) ∙ cut.words_are,
-      sym (ap (λ more. clean && more) nothing ∙ and_true clean) ∙ cut.clean_is,
+      sym (ap (λ more. clean && more) nothing ∙ and-true clean) ∙ cut.clean_is,
     )
-  where
-    and_true : (b : Bool) → (b && true) ≡ b
-    and_true true = refl
-    and_true false = refl
 
 -- eight words at most, with one more where there is room and it isn't empty
 pub take-full : (words : List (List ℕ)) (more : List (List ℕ)) → length words ≡ 8 → words ≡ take 8 (words ++ more)
@@ -147,11 +140,7 @@ take-filled words (byte ∷ piece) room filled = sym (take_all 8 (words ++ (byte
 not_all : (p : ℕ → Bool) (bytes : List ℕ) (k : ℕ) → k < length bytes → p (get_or bytes k 0) ≡ false → list_all p bytes ≡ false
 not_all p [] k within fails = absurd (omega arith)
 not_all p (byte ∷ bytes) zero within fails = rw fails refl
-not_all p (byte ∷ bytes) (suc k) within fails = rw (not_all p bytes k (omega arith) fails) (and_false (p byte))
-  where
-    and_false : (b : Bool) → (b && false) ≡ false
-    and_false true = refl
-    and_false false = refl
+not_all p (byte ∷ bytes) (suc k) within fails = rw (not_all p bytes k (omega arith) fails) (and-false (p byte))
 
 pub word_byte-not_blank : (byte : ℕ) → is_word_byte byte ≡ true → is_blank_byte byte ≡ false
 word_byte-not_blank byte word = grind (arith, nat_tests)
@@ -176,8 +165,4 @@ is_ignored-word line begin end word =
 
 -- a line with no word is ignored where it holds nothing but blanks
 pub is_ignored-none : (line : List ℕ) → words_of line ≡ [] → list_all is_blank_byte line ≡ is_ignored line
-is_ignored-none line none = sym (ap (λ words. list_all is_blank_byte line || is_comment words) none ∙ or_false (list_all is_blank_byte line))
-  where
-    or_false : (b : Bool) → (b || false) ≡ b
-    or_false true = refl
-    or_false false = refl
+is_ignored-none line none = sym (ap (λ words. list_all is_blank_byte line || is_comment words) none ∙ or-false (list_all is_blank_byte line))

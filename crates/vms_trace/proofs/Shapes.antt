@@ -4,14 +4,18 @@ use Rattle.std.proofs.lemmas.Bool.Decides.{nat_tests}
 use Rattle.std.proofs.lemmas.List.{get_or-map, length-map}
 use Rattle.std.proofs.lemmas.List.Elements.{Contains-get_or, filter_passes}
 use Rattle.std.proofs.lemmas.List.Kept.{AllPairs-from_increasing, IsStrictlyIncreasing-filter}
-use Rattle.std.proofs.lemmas.List.Sorted.{Contains-permutation, IsPermutation-map, IsPermutation-sym}
+use Rattle.std.proofs.lemmas.List.Sorted.{Contains-permutation, IsPermutation-map, IsPermutation-refl, IsPermutation-sym}
 use Rattle.std.specs.List.{Contains, filter}
 use Rattle.std.specs.List.Sorted.{IsStrictlyIncreasing}
 use Rattle.vms_base.specs.declared.kinds.ZoneName.{ZoneName}
-use Rattle.vms_base.specs.Places.{LaysOut, Shape, rank_of}
+use Rattle.vms_base.specs.declared.places.LayoutError.{LayoutError}
+use Rattle.vms_base.specs.declared.places.LayoutError.TheVariants.{NoZone, TooManyZones, DoubledZone, BadCpus}
+use Rattle.vms_base.specs.Places.{IsRefused, LaysOut, Shape, rank_of}
+use Rattle.vms_base.proofs.Doubled.{not-HasDoubled}
 use Rattle.vms_base.proofs.Ranks.{rises}
 use Rattle.vms_base.proofs.Zones.{node-le, rank_of-injective}
-use Rattle.vms_trace.specs.Drafts.{nodes_of}
+use Rattle.vms_trace.specs.DraftFacts.{IsDraft}
+use Rattle.vms_trace.specs.Drafts.{Draft, Zone, most_cpus, names_of, nodes_of}
 
 pub contains-tail : {X : Type 0} (x : X) (xs : List X) (n : X) → Contains xs n → Contains (x ∷ xs) n
 contains-tail x xs n found = (suc found.0, omega (arith, found.1), found.2)
@@ -163,3 +167,22 @@ LaysOut-ranked zones cpus positions shape up lays =
     (λ n found. nodes_of-to shape.zones n ((lays.is_layout.nodes_named n).0 found))
     (λ n found. (lays.is_layout.nodes_named n).1 (nodes_of-from shape.zones n found)) in
     same_shape zones (nodes_of zones) cpus positions shape zones_are (nodes_are ∙ ap nodes_of zones_are) lays.same_cpus lays.same_positions
+
+pub ranks-names : (zones : List Zone) → map rank_of (names_of zones) ≡ map (λ zone. rank_of zone.name) zones
+ranks-names [] = refl
+ranks-names (zone ∷ zones) = ap (λ ranks. rank_of zone.name ∷ ranks) (ranks-names zones)
+
+-- the zones of a draft stand by rank
+pub names-rise : (draft : Draft) → IsDraft draft → IsStrictlyIncreasing (map rank_of (names_of draft.zones))
+names-rise draft is = subst IsStrictlyIncreasing (sym (ranks-names draft.zones)) is.zones_ascend
+
+too_many : (cpus most : ℕ) → 1 ≤ cpus → cpus ≤ most → (cpus ≡ 0) ⊎ (most < cpus) → ⊥
+too_many cpus most least within (inl none) = omega arith
+too_many cpus most least within (inr past) = omega arith
+
+-- no layout is refused of what lines said
+pub not-refused : (draft : Draft) (error : LayoutError) → IsDraft draft → 0 < length draft.zones → IsRefused (most_cpus draft.wide) (names_of draft.zones) draft.cpus error → ⊥
+not-refused draft NoZone is some refused = omega (arith, ap length refused, length-map draft.zones (λ zone. zone.name))
+not-refused draft TooManyZones is some refused = omega (arith, refused, is.zones_most, length-map draft.zones (λ zone. zone.name))
+not-refused draft DoubledZone is some refused = not-HasDoubled (names_of draft.zones) (names_of draft.zones) (IsPermutation-refl (names_of draft.zones)) (names-rise draft is) refused.1
+not-refused draft BadCpus is some refused = too_many draft.cpus (most_cpus draft.wide) is.cpus_least is.cpus_most refused.3

@@ -5,23 +5,11 @@ use Rattle.vms_base.specs.declared.headers.Header.{Header}
 use Rattle.vms_base.specs.declared.headers.ItemDecl.{ItemDecl}
 use Rattle.vms_base.specs.declared.kinds.ZoneName.{ZoneName}
 use Rattle.vms_base.specs.declared.kinds.ZoneSize.{ZoneSize}
+pub use Rattle.vms_trace.specs.declared.said.Base.{Base}
+pub use Rattle.vms_trace.specs.declared.said.Share.{Share}
+pub use Rattle.vms_trace.specs.declared.said.Zone.{Zone}
 use Rattle.vms_base.specs.Places.{Shape, rank_of, counter_count}
 use Rattle.vms_base.specs.Watermarks.{zone_marks_of}
-
--- a zone with its size
-pub record Zone : Type 0 where
-  pub name : ZoneName
-  pub size : ZoneSize
-
--- what a `watermarks` line says
-pub record Share : Type 0 where
-  pub kbytes : ℕ
-  pub scale : ℕ
-
--- a base value of a counter
-pub record Base : Type 0 where
-  pub counter : ℕ
-  pub value : ℤ
 
 -- the kinds of lines behind `cpus`, in the order in which they stand
 pub data Part : Type 0 where
@@ -101,6 +89,11 @@ shape_of draft = record {
 -- all managed pages
 abbrev pub managed_pages : List Zone → ℕ
 managed_pages zones = sum_by (λ zone. zone.size.managed) zones
+
+-- a zone's size, of so many pages in all zones: as its line says it, or with the marks of a `watermarks` line
+abbrev pub size_under : Option Share → ZoneSize → ℕ → ZoneSize
+size_under None size total = size
+size_under (Some share) size total = zone_marks_of share.kbytes share.scale size.managed total
 
 -- the sizes of the zones: as their lines say them, or with the marks of a `watermarks` line
 abbrev pub sizes_under : Option Share → List Zone → List ZoneSize

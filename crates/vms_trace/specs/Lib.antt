@@ -5,7 +5,11 @@ pub mod Rows
 pub mod Body
 pub mod Drafts
 pub mod HeadRows
+pub mod HeadWords
 pub mod Head
+pub mod DraftFacts
+pub mod Readers
 pub mod Spelling
 pub mod Laws
 pub mod Writing
+pub mod HeaderSteps

@@ -58,6 +58,38 @@ impl From<Memory> for HeaderError {
     }
 }
 
+/// Why a line of a header was not read.
+#[derive(Clone, Copy, Debug, PartialEq, Eq, thiserror::Error)]
+pub enum ReadError {
+    /// The line is at fault.
+    #[error("the line is refused")]
+    Refused(HeaderCause),
+    #[error("out of memory")]
+    Memory,
+}
+
+impl From<HeaderCause> for ReadError {
+    ghost use Rattle.std.specs.Prelude.{◌≡◌};
+    ghost use Rattle.vms_trace.specs.declared.causes.ReadError.TheVariants as errors;
+
+    ghost from_gives = { λ cause error. error ≡ errors.Refused cause };
+
+    fn from(cause: HeaderCause) -> ReadError {
+        ReadError::Refused(cause)
+    }
+}
+
+impl From<Memory> for ReadError {
+    ghost use Rattle.std.specs.Prelude.{◌≡◌};
+    ghost use Rattle.vms_trace.specs.declared.causes.ReadError.TheVariants as errors;
+
+    ghost from_gives = { λ _ error. error ≡ errors.Memory };
+
+    fn from(_error: Memory) -> ReadError {
+        ReadError::Memory
+    }
+}
+
 /// Why a line of the body doesn't count. The first cause that holds is told.
 #[derive(Clone, Copy, Debug, PartialEq, Eq)]
 pub enum LineCause {

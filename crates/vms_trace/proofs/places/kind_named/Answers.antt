@@ -1,4 +1,5 @@
-use Rattle.std.proofs.Common.{[], bytes_eq, slice_index_or, rules, tests, ◌∙◌, sym, Option, Some, None, option_map, refl, ◌≡◌}
+use Rattle.std.proofs.Common.{[], bytes_eq, slice_index_or, rules, tests, ◌∙◌, sym}
+use Rattle.std.proofs.lemmas.Iterator.Adapters.{option_map_id}
 use Rattle.std.proofs.lemmas.Iterator.Consumers.{YieldsList-at, YieldsList-from_copied}
 use Rattle.std.proofs.lemmas.Iterator.Search.{find_from_yields_List}
 use Rattle.std.proofs.lemmas.Iterator.{YieldsList-from_slice}
@@ -6,13 +7,9 @@ use Rattle.vms_base.specs.Names.{kind_names}
 use Rattle.vms_base.specs.Places.{zone_index}
 use Rattle.vms_trace.proofs.places.kind_named.Goals as goal
 
-option_map-same : {A : Type 0} (found : Option A) → option_map (λ x. x) found ≡ found
-option_map-same None = refl
-option_map-same (Some x) = refl
-
 pub returns : goal.returns
 returns c =
     let found = find_from_yields_List (λ kind. bytes_eq c.args.word.now (slice_index_or kind_names (zone_index kind) [])) _ _ c.find.result c.find.ensures.ran
     (YieldsList-from_copied (YieldsList-at c.copied.ensures.source (YieldsList-from_slice _ c.iter.ensures.rest)))
     (λ x b q k. search (rules, tests)) in
-    sym (option_map-same c.find.result) ∙ found
+    sym (option_map_id c.find.result) ∙ found

@@ -1,0 +1,44 @@
+use Rattle.std.proofs.Common.{◌≡◌, sym, ap, ◌∙◌, Ok, Result}
+use Rattle.std.proofs.lemmas.Result.{IfOk-at_ok, err_from_is_err_and}
+use Rattle.vms_text.specs.declared.acts.Line.{Line}
+use Rattle.vms_trace.specs.declared.causes.LineCause.{LineCause}
+use Rattle.vms_trace.specs.Body.{read_line}
+use Rattle.vms_trace.specs.Laws.{IsLineOf}
+use Rattle.vms_trace.specs.Reading.{and_then}
+use Rattle.vms_trace.proofs.LinesKnown.{read_line-known}
+use Rattle.vms_script.specs.Judging.{allowed}
+use Rattle.vms_script.proofs.judges.LineJudge.judge.Goals as goal
+
+pub allow-requires : goal.allow-requires
+allow-requires c =
+    let header = c.args.header.now in
+    let read : read_line header c.args.line.now ≡ Ok c.in_ok-said.said = sym c.parse_line.ensures ∙ c.in_ok-said.was in
+    record {
+      header = header;
+      lines = c.requires.judge.lines;
+      is_header = c.requires.header;
+      is_line = IfOk-at_ok (IsLineOf header) read (read_line-known header c.requires.header c.args.line.now);
+      stands = c.requires.judge.stands;
+    }
+
+pub returns-in_err-allow : goal.returns-in_err-allow
+returns-in_err-allow c = λ lines stands.
+    let header = c.args.header.now in
+    let refused = err_from_is_err_and c.from_residual-in_err-allow.result c.from_residual-in_err-allow.ensures.1 in
+    let read : read_line header c.args.line.now ≡ Ok c.in_ok-said.said = sym c.parse_line.ensures ∙ c.in_ok-said.was in
+    let is_line = IfOk-at_ok (IsLineOf header) read (read_line-known header c.requires.header c.args.line.now) in
+    let decides = c.in_err-allow.ensures in
+    let found = decides.by header lines c.requires.header is_line stands in
+    rw (refused.1, refused.2)
+    (found.0 ∙ sym (ap (λ (r : Result Line LineCause). and_then r (allowed header lines)) read), found.1)
+
+pub returns : goal.returns
+returns c = λ lines stands.
+    let header = c.args.header.now in
+    let read : read_line header c.args.line.now ≡ Ok c.in_ok-said.said = sym c.parse_line.ensures ∙ c.in_ok-said.was in
+    let is_line = IfOk-at_ok (IsLineOf header) read (read_line-known header c.requires.header c.args.line.now) in
+    let decides = c.in_ok-allow.ensures in
+    let found = decides.by header lines c.requires.header is_line stands in (
+      found.0 ∙ sym (ap (λ (r : Result Line LineCause). and_then r (allowed header lines)) read),
+      found.1,
+    )

@@ -1,0 +1,48 @@
+ghost use Rattle.std.specs.Prelude.{◌≡◌, ◌+◌, ◌*◌, ◌<◌, ◌^◌, nat_lt, if◌then◌else◌, length, replicate, IfOk, Ok, Err};
+ghost use Rattle.vms_trace.specs.declared.causes.LineCause.TheVariants.{Overflow};
+ghost use Rattle.vms_script.specs.Standing.{HasCell, volume_at, with_volume};
+ghost use Rattle.vms_script.specs.Volumes.{most_volume};
+
+use std::alloc::Global;
+use vms_base::{CpuId, Memory, Row};
+use vms_trace::LineCause;
+
+/// What one CPU may change one counter, event or percpu counter by over a run, in absolute sum.
+const MOST_VOLUME: u64 = 1 << 48;
+
+/// What each CPU has changed each of so many things by, in absolute sum, by CPU and then thing.
+#[derive(Drop)]
+pub(crate) struct VolumeTable {
+    pub(crate) width: usize,
+    pub(crate) sums: Row<u64>,
+}
+
+impl VolumeTable {
+    /// No volume yet, of any CPU.
+    pub(crate) fn make(alloc: Global, cpus: usize, width: usize) -> Result<VolumeTable, Memory>
+        requires { cpus * width < 2 ^ 32 }
+        ensures { IfOk result (λ table. table ≡ record { width = width; sums = replicate (cpus * width) 0 }) }
+    {
+        Ok(VolumeTable {
+            width,
+            sums: Row::filled(alloc, cpus * width, 0)?,
+        })
+    }
+
+    /// Adds a size to a CPU's volume on a thing, unless it would pass 2^48.
+    #[inline]
+    pub(crate) fn spend(&mut self, cpu: CpuId, thing: u32, size: u64) -> Result<(), LineCause>
+        requires { HasCell self.old cpu.number thing }
+        ensures result { result ≡ if nat_lt most_volume (volume_at self.old cpu.number thing + size) then Err Overflow else Ok tt }
+        ensures table { self.new ≡ if nat_lt most_volume (volume_at self.old cpu.number thing + size) then self.old
+            else with_volume self.old cpu.number thing (volume_at self.old cpu.number thing + size) }
+    {
+        let index = cpu.number as usize * self.width + thing as usize;
+        let volume = self.sums.get(index).saturating_add(size);
+        if volume > MOST_VOLUME {
+            return Err(LineCause::Overflow);
+        }
+        self.sums.set(index, volume);
+        Ok(())
+    }
+}

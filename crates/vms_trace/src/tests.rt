@@ -1,0 +1,3 @@
+mod headers;
+mod lines;
+mod spelling;
