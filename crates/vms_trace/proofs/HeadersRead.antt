@@ -1,5 +1,6 @@
 -- What is spelled of a header is read back as that header.
 use Rattle.std.proofs.Common.{ℕ, ◌≡◌, ◌+◌, ◌<◌, ◌≤◌, ◌^◌, ◌⊎◌, Bool, true, false, nat_eq, nat_le, List, [], ◌∷◌, ◌++◌, ℤ, pos, refl, sym, ◌∙◌, ap, arith, append_assoc, inl, inr, length, length-append, map, replicate}
+use Rattle.std.specs.List.{All}
 use Rattle.std.proofs.lemmas.Bool.Decides.{nat_tests}
 use Rattle.std.proofs.lemmas.List.{map-append}
 use Rattle.std.proofs.lemmas.List.Elements.{All-append, All-cons, All-nil}
@@ -125,11 +126,16 @@ module _ (header : Header) (is : IsWritable header) where
   go_read : (draft : Draft) → nat_eq (length draft.zones) 0 ≡ false → stage_line (Drafting draft) true (codes "go" ∷ []) ≡ Ok (Ends draft)
   go_read draft some = rw some refl
 
+  header-few : All IsFew (header_words header)
+  header-few =
+      let go = codes "go" ∷ [] in
+      All-append IsFew front (go ∷ []) front_leads.leads.few (All-cons IsFew go [] go_few (All-nil IsFew))
+
   header-read : (more : List (List ℕ)) → read_header (lines_of (spelled_header header) ++ more) ≡ Ok (header, length (header_words header))
   header-read more =
       let all = front_leads in
       let go = codes "go" ∷ [] in
-      let few = All-append IsFew front (go ∷ []) all.leads.few (All-cons IsFew go [] go_few (All-nil IsFew)) in
+      let few = header-few in
       let size : 1 + length front ≡ length (header_words header) = omega (arith, length-append front (go ∷ [])) in
       ap (λ lines. read_header (lines ++ more)) (lines_of-sentences (header_words header) few)
       ∙ ap (λ lines. read_header (lines ++ more)) (map-append joined front (go ∷ []))
@@ -138,6 +144,10 @@ module _ (header : Header) (is : IsWritable header) where
       ∙ ends-one (Drafting all.draft) all.draft go (1 + length front) more go_few (go_read all.draft all.some)
       ∙ ap (λ (found : Header). Ok (found, 1 + length front)) all.same
       ∙ ap (λ n. Ok (header, n)) size
+
+-- each line of a header has few words
+pub header_words-few : (header : Header) → IsWritable header → All IsFew (header_words header)
+header_words-few header is = header-few header is
 
 pub headers-read_back : HeadersReadBack
 headers-read_back header more is = header-read header is more
