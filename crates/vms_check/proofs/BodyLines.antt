@@ -8,12 +8,12 @@ use Rattle.vms_trace.specs.declared.causes.LineCause.{LineCause}
 use Rattle.vms_stream.specs.declared.halts.Halt.{Halt}
 use Rattle.vms_script.specs.Judging.{counted, judged}
 use Rattle.vms_check.specs.declared.bodies.BodyCheck.{BodyCheck}
-use Rattle.vms_check.specs.declared.stubs.LineJudge.{LineJudge}
+use Rattle.vms_script.specs.declared.judges.LineJudge.{LineJudge}
 use Rattle.vms_check.specs.Checking.{Above, checked_line, passes, with_judged}
 use Rattle.vms_check.specs.Limits.{passes_limit}
 use Rattle.vms_check.specs.Printing.{refused_line}
 use Rattle.vms_check.specs.Standing.{Accepts, PassesLine, StandsBehind}
-use Rattle.vms_check.specs.Stubs.{Stands}
+use Rattle.vms_script.specs.Standing.{Stands}
 use Rattle.vms_check.specs.Tallies.{Tells}
 
 -- what a judge answered to a line

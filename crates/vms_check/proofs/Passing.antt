@@ -1,5 +1,5 @@
 -- How a check goes past a line, and ends.
-use Rattle.std.proofs.Common.{◌≡◌, ◌≢◌, ℕ, suc, ◌+◌, ◌<◌, ◌≤◌, nat_lt, Bool, true, false, List, [], ◌∷◌, ◌++◌, length, Option, Some, None, refl, sym, ap, subst, ◌∙◌, arith, IfOk}
+use Rattle.std.proofs.Common.{◌≡◌, ◌≢◌, ℕ, suc, ◌+◌, ◌<◌, ◌≤◌, nat_lt, Bool, true, false, List, [], ◌∷◌, length, Option, Some, None, refl, sym, subst, ◌∙◌, arith, IfOk}
 use Rattle.std.specs.Prelude.{OnOk, Result, Ok, Err}
 use Rattle.std.proofs.lemmas.Bool.Decides.{nat_tests}
 use Rattle.vms_base.specs.declared.failures.Memory.{Memory}
@@ -40,7 +40,7 @@ never_passes (Ok turn) is = absurd cc
 never_passes (Err cause) is = absurd cc
 
 -- a line adds one at most
-one_more : (result : Result Line LineCause) (above : Above)
+pub one_more : (result : Result Line LineCause) (above : Above)
     → length (with_judged result above).lines + (with_judged result above).refused ≤ length above.lines + above.refused + 1
 one_more (Ok said.Blank) above = omega arith
 one_more (Ok (said.Lane lane act)) above = omega arith

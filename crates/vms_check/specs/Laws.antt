@@ -1,11 +1,12 @@
 -- Laws of what a check writes.
-use Rattle.std.specs.Prelude.{◌≡◌, ℕ, suc, List, [], ◌++◌, length, drop, None, Result, Ok, Err}
+use Rattle.std.specs.Prelude.{◌≡◌, ◌≤◌, ℕ, suc, List, ◌++◌, length, drop, None, Ok}
 use Rattle.vms_base.specs.declared.headers.Header.{Header}
 use Rattle.vms_text.specs.Lines.{lines_of}
 use Rattle.vms_trace.specs.Head.{read_header}
 use Rattle.vms_trace.specs.Spelling.{header_words, spelled_header}
 use Rattle.vms_stream.specs.Machines.{halted, output}
-use Rattle.vms_check.specs.Checking.{Above, check, check_output, checked_end, checked_lines, come_to, nothing_above}
+use Rattle.vms_check.specs.Checking.{check, check_output, checked_end, checked_lines, come_to, nothing_above}
+use Rattle.vms_check.specs.Limits.{most_lines}
 
 -- a text within the limits: what is written of it line by line is its header and its body as they are defined by the lines of each
 abbrev pub WritesItsText : Type 0
@@ -19,8 +20,9 @@ pub record IsAcceptedAgain (header : Header) (n : ℕ) (body : List (List ℕ)) 
       ≡ (come_to header nothing_above body).lines
   pub none_refused : (come_to header nothing_above (drop (length (header_words header)) (lines_of written))).refused ≡ 0
 
+-- so it is of each text of no more lines than the limit: a remark with a longer number could be too long a line
 abbrev pub ChecksAgain : Type 0
-ChecksAgain = (lines : List (List ℕ)) (header : Header) (count : ℕ) → read_header lines ≡ Ok (header, count) →
+ChecksAgain = (lines : List (List ℕ)) (header : Header) (count : ℕ) → length lines ≤ most_lines → read_header lines ≡ Ok (header, count) →
     IsAcceptedAgain header (suc count) (drop count lines)
     (spelled_header header ++ checked_lines header (suc count) nothing_above (drop count lines)
     ++ checked_end (come_to header nothing_above (drop count lines)))

@@ -2,6 +2,5 @@ pub mod Limits
 pub mod Printing
 pub mod Checking
 pub mod Laws
-pub mod Stubs
 pub mod Tallies
 pub mod Standing

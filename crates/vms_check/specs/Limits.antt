@@ -1,9 +1,9 @@
 -- The limits on the lines of an input.
-use Rattle.std.specs.Prelude.{ℕ, suc, nat_le, ◌&&◌, if◌then◌else◌, Bool, true, false, List, [], ◌∷◌, Result, Ok, Err}
+use Rattle.std.specs.Prelude.{ℕ, suc, nat_le, ◌&&◌, if◌then◌else◌, Bool, true, false, List, [], ◌∷◌, Result, Ok}
 use Rattle.vms_text.specs.declared.acts.Boundary.{Boundary as BoundaryOf}
 use Rattle.vms_text.specs.declared.acts.Boundary.TheVariants.{Report}
 use Rattle.vms_text.specs.declared.acts.Line.{Line}
-use Rattle.vms_text.specs.declared.acts.Line.TheVariants.{Blank, Lane, Boundary}
+use Rattle.vms_text.specs.declared.acts.Line.TheVariants.{Lane, Boundary}
 use Rattle.vms_trace.specs.declared.causes.LineCause.{LineCause}
 
 -- the most lines of an input, phases that have a lane line, and reports

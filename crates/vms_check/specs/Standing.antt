@@ -1,5 +1,5 @@
 -- Where a check stands in a trace.
-use Rattle.std.specs.Prelude.{◌≡◌, ℕ, ◌+◌, ◌<◌, ◌≤◌, suc, List, ◌++◌, length, Option, Some, None, Result, Ok, Err}
+use Rattle.std.specs.Prelude.{◌≡◌, ℕ, ◌+◌, ◌<◌, ◌≤◌, suc, List, ◌++◌, length, Option, Some, None, Result, Ok}
 use Rattle.vms_base.specs.declared.headers.Header.{Header}
 use Rattle.vms_text.specs.declared.acts.Line.{Line}
 use Rattle.vms_stream.specs.declared.halts.Halt.{Halt}
@@ -18,7 +18,7 @@ use Rattle.vms_check.specs.declared.checks.Part.TheVariants as parts
 use Rattle.vms_check.specs.Checking.{Above, Progress, accepted_line, checked_line, nothing_above, passes, printed_head, refuses, with_judged}
 use Rattle.vms_check.specs.Checking.Progress.{Heading, Body}
 use Rattle.vms_check.specs.Limits.{most_lines, passes_limit}
-use Rattle.vms_check.specs.Stubs.{Stands}
+use Rattle.vms_script.specs.Standing.{Stands}
 use Rattle.vms_check.specs.Tallies.{Adds, Tells}
 
 -- a body's check behind lines that came to this

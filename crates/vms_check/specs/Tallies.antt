@@ -1,5 +1,5 @@
 -- The numbers that a check keeps of the lines of a body.
-use Rattle.std.specs.Prelude.{◌≡◌, ℕ, length, not, Option, None, Result, Ok}
+use Rattle.std.specs.Prelude.{◌≡◌, length, not, Option, None, Ok}
 use Rattle.vms_text.specs.declared.acts.Line.{Line}
 use Rattle.vms_stream.specs.declared.halts.Halt.{Halt}
 use Rattle.vms_check.specs.declared.tallies.Tally.{Tally}

@@ -1,8 +1,8 @@
 use crate::printing::{write_done_line, write_refused_line};
-use crate::stubs::LineJudge;
 use crate::tallies::Tally;
 use std::alloc::Global;
 use vms_base::{Header, Memory};
+use vms_script::LineJudge;
 use vms_stream::{Ending, Halt};
 use vms_trace::{Line, write_line};
 

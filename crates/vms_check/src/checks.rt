@@ -1,11 +1,10 @@
 use crate::bodies::BodyCheck;
 use crate::printing::write_header_line;
-use crate::stubs::{HeaderReader, HeaderStep, ReadError};
 use std::alloc::Global;
 use std::mem::replace;
 use vms_base::{Header, Memory};
 use vms_stream::{Ending, Halt, Job};
-use vms_trace::write_header;
+use vms_trace::{HeaderReader, HeaderStep, ReadError, write_header};
 
 /// The most lines of a trace.
 const MOST_LINES: u32 = 1_000_000;

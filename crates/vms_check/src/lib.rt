@@ -4,9 +4,10 @@
 
 mod bodies;
 mod checks;
+mod laws;
 mod printing;
-mod stubs;
 mod tallies;
 mod tool;
 
+pub use laws::{checks_again, writes_its_text};
 pub use tool::tool_check;

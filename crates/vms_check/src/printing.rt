@@ -36,11 +36,7 @@ pub(crate) fn write_refused_line(
 }
 
 /// Appends the comment that ends a trace: `# done accepted A refused R`.
-pub(crate) fn write_done_line(
-    out: &mut Vec<u8>,
-    accepted: u32,
-    refused: u32,
-) -> Result<(), Memory>
+pub(crate) fn write_done_line(out: &mut Vec<u8>, accepted: u32, refused: u32) -> Result<(), Memory>
     ensures { OnOk result (out.new.items ≡ out.old.items ++ (codes "# " ++ done_line accepted refused)) }
 {
     out.extend_from_slice(b"# done accepted ")?;

@@ -1,11 +1,11 @@
-use Rattle.std.proofs.Common.{sym, subst, ◌∙◌, ◌≡◌, List}
-use Rattle.std.specs.Prelude.{Ok, Err, Result}
+use Rattle.std.proofs.Common.{sym, subst, ◌∙◌, ◌≡◌}
+use Rattle.std.specs.Prelude.{Result}
 use Rattle.vms_base.specs.declared.headers.Header.{Header}
 use Rattle.vms_base.specs.Headers.{IsHeader}
 use Rattle.vms_text.specs.declared.acts.Line.{Line}
 use Rattle.vms_trace.specs.declared.causes.LineCause.{LineCause}
 use Rattle.vms_script.specs.Judging.{counted, judged}
-use Rattle.vms_check.specs.Stubs.{Stands}
+use Rattle.vms_script.specs.Standing.{Stands}
 use Rattle.vms_check.proofs.BodyLines.{accepts-passes, refused-passes}
 use Rattle.vms_check.proofs.Known.{judged-known}
 use Rattle.vms_check.proofs.bodies.BodyCheck.pass.Goals as goal

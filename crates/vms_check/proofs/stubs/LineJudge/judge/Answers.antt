@@ -1,4 +1,0 @@
-use Rattle.vms_check.proofs.stubs.LineJudge.judge.Goals as goal
-
-pub returns : goal.returns
-returns c = ?
