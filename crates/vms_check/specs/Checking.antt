@@ -1,5 +1,5 @@
--- What `check` writes of a text: its header and each line that counts in the one spelling, and a comment in the place of each line
--- that doesn't.
+-- What `check` writes of a text: its header and each line that counts in the one spelling, and a comment in the place of
+-- each line that doesn't.
 use Rattle.std.specs.Prelude.{Bool, ℕ, suc, nat_lt, if◌then◌else◌, List, [], ◌∷◌, ◌++◌, length, drop, codes, Option, Some, None, Result, Ok, Err}
 use Rattle.vms_base.specs.declared.headers.Header.{Header}
 use Rattle.vms_text.specs.declared.acts.Line.{Line}
@@ -61,7 +61,8 @@ come_to header above (text ∷ texts) = come_to header (with_judged (judged head
 -- what is written for the lines of a text: the one line of a refused header, or header and body
 abbrev pub checked_under : Result (Header × ℕ) Fault → List (List ℕ) → List ℕ
 checked_under (Err fault) lines = header_line fault
-checked_under (Ok (header, count)) lines = spelled_header header ++ checked_lines header (suc count) nothing_above (drop count lines)
+checked_under (Ok (header, count)) lines = spelled_header header
+    ++ checked_lines header (suc count) nothing_above (drop count lines)
     ++ checked_end (come_to header nothing_above (drop count lines))
 
 abbrev pub check_output : List ℕ → List ℕ
@@ -97,7 +98,8 @@ abbrev pub printed_line : Progress → List ℕ → List ℕ
 printed_line (Heading n stage) line = printed_head n (head_line stage line)
 printed_line (Body n header above) line = checked_line header n (judged header above.lines line)
 
--- why a check stops at a line: it is one line too many, or at fault in the header, or opens a phase or is a report too many
+-- why a check stops at a line: it is one line too many, or at fault in the header, or opens a phase too many or is a
+-- report too many
 abbrev pub halted_at : ℕ → Option Halt → Option Halt
 halted_at n halt = if nat_lt most_lines n then Some Passes else halt
 

@@ -8,12 +8,14 @@ use Rattle.vms_stream.specs.Machines.{halted, output}
 use Rattle.vms_check.specs.Checking.{check, check_output, checked_end, checked_lines, come_to, nothing_above}
 use Rattle.vms_check.specs.Limits.{most_lines}
 
--- a text within the limits: what is written of it line by line is its header and its body as they are defined by the lines of each
+-- what is written line by line of a text within the limits is its header and its body as they are defined by the lines of
+-- each
 abbrev pub WritesItsText : Type 0
 WritesItsText = (text : List ℕ) → halted check check.start (lines_of text) ≡ None →
     output check (lines_of text) ≡ check_output text
 
--- what is written of a header and of the lines of a body is accepted again: the same header, the same lines count, and none is refused
+-- what is written of a header and of the lines of a body is accepted again: the same header, the same lines count, and
+-- none is refused
 pub record IsAcceptedAgain (header : Header) (n : ℕ) (body : List (List ℕ)) (written : List ℕ) : Type 0 where
   pub same_header : read_header (lines_of written) ≡ Ok (header, length (header_words header))
   pub same_lines : (come_to header nothing_above (drop (length (header_words header)) (lines_of written))).lines
@@ -22,7 +24,8 @@ pub record IsAcceptedAgain (header : Header) (n : ℕ) (body : List (List ℕ)) 
 
 -- so it is of each text of no more lines than the limit: a remark with a longer number could be too long a line
 abbrev pub ChecksAgain : Type 0
-ChecksAgain = (lines : List (List ℕ)) (header : Header) (count : ℕ) → length lines ≤ most_lines → read_header lines ≡ Ok (header, count) →
+ChecksAgain = (lines : List (List ℕ)) (header : Header) (count : ℕ) → length lines ≤ most_lines →
+    read_header lines ≡ Ok (header, count) →
     IsAcceptedAgain header (suc count) (drop count lines)
     (spelled_header header ++ checked_lines header (suc count) nothing_above (drop count lines)
     ++ checked_end (come_to header nothing_above (drop count lines)))

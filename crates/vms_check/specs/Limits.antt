@@ -16,7 +16,8 @@ most_phases = 10000
 abbrev pub most_reports : ℕ
 most_reports = 1000
 
--- whether a lane line opens a phase behind these lines that count, the newest first: none is open at the start and behind a boundary line
+-- whether a lane line opens a phase behind these lines that count, the newest first: none is open at the start and behind
+-- a boundary line
 abbrev pub opens_phase : List Line → Bool
 opens_phase (Lane lane act ∷ lines) = false
 opens_phase _ = true

@@ -58,4 +58,5 @@ refused_line n cause = line_prefix n ++ codes "refused: " ++ line_cause cause ++
 
 -- `done accepted A refused R`
 abbrev pub done_line : ℕ → ℕ → List ℕ
-done_line accepted refused = codes "done accepted " ++ decimal accepted ++ codes " refused " ++ decimal refused ++ newline
+done_line accepted refused =
+    codes "done accepted " ++ decimal accepted ++ codes " refused " ++ decimal refused ++ newline

@@ -44,7 +44,8 @@ pub record PassesLine (header : Header) (n : ℕ) (above : Above) (line : List �
   pub stands : halt ≡ None → StandsBehind header (with_judged (judged header above.lines line) above) body
 
 -- a body's check counted a line and printed it: nothing is printed of one that passes a limit
-pub record Accepts (body : BodyCheck) (line : Line) (halt : Option Halt) (out out' : List ℕ) (body' : BodyCheck) : Type 0 where
+pub record Accepts (body : BodyCheck) (line : Line) (halt : Option Halt) (out out' : List ℕ)
+    (body' : BodyCheck) : Type 0 where
   pub same_header : body'.header ≡ body.header
   pub same_judge : body'.judge ≡ body.judge
   pub adds : (above : Above) → Tells above body.tally → Adds above line halt body'.tally
@@ -68,7 +69,8 @@ IsTurned (Ok (Ends draft)) (parts.Body body) = StandsBehind (header_of draft) no
 IsTurned turn part = ⊥
 
 -- line n of a header was read, of which this was said
-pub record PassesHead (n : ℕ) (turn : Result Turn HeaderCause) (halt : Option Halt) (out out' : List ℕ) (part : Part) : Type 0 where
+pub record PassesHead (n : ℕ) (turn : Result Turn HeaderCause) (halt : Option Halt) (out out' : List ℕ)
+    (part : Part) : Type 0 where
   pub halt_is : halt ≡ refuses turn
   pub printed : out' ≡ out ++ printed_head n turn
   pub turned : halt ≡ None → IsTurned turn part

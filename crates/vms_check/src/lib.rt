@@ -7,6 +7,8 @@ mod checks;
 mod laws;
 mod printing;
 mod tallies;
+#[cfg(test)]
+mod tests;
 mod tool;
 
 pub use laws::{checks_again, writes_its_text};
