@@ -1,5 +1,5 @@
 -- What a check writes line by line is what is defined by the header and the body.
-use Rattle.std.proofs.Common.{◌≡◌, ℕ, zero, suc, Bool, true, false, nat_lt, if◌then◌else◌, List, [], ◌∷◌, ◌++◌, drop, Option, Some, None, refl, sym, ap, ◌∙◌, append_assoc}
+use Rattle.std.proofs.Common.{◌≡◌, ◌≢◌, ℕ, zero, suc, Bool, true, false, nat_lt, if◌then◌else◌, List, [], ◌∷◌, ◌++◌, drop, Option, Some, None, refl, sym, ap, ◌∙◌, append_assoc, append-nil}
 use Rattle.std.specs.Prelude.{Result, Ok, Err}
 use Rattle.vms_base.specs.declared.headers.Header.{Header}
 use Rattle.vms_text.specs.Lines.{lines_of}
@@ -11,21 +11,30 @@ use Rattle.vms_trace.specs.Head.Turn.{Goes, Ends}
 use Rattle.vms_trace.specs.Spelling.{spelled_header}
 use Rattle.vms_script.specs.Judging.{judged}
 use Rattle.vms_stream.specs.declared.halts.Halt.{Halt}
-use Rattle.vms_stream.specs.declared.halts.Halt.TheVariants.{Passes}
-use Rattle.vms_stream.specs.Machines.{first_halt, halted, past, printed, printed_from}
-use Rattle.vms_stream.proofs.MachineLaws.{output-open}
-use Rattle.vms_check.specs.Checking.{Above, Progress, check, checked_end, checked_line, checked_lines, checked_under, come_to, nothing_above, past_head, printed_head, refuses, with_judged}
+use Rattle.vms_stream.specs.declared.halts.Halt.TheVariants.{Passes, Refuses}
+use Rattle.vms_stream.specs.Machines.{first_halt, halted, last_words, past, printed, printed_from}
+use Rattle.vms_check.specs.Checking.{Above, Progress, check, checked_end, checked_line, checked_lines, checked_under, come_to, halted_at, nothing_above, passes, past_head, printed_head, refuses, with_judged}
 use Rattle.vms_check.specs.Checking.Progress.{Heading, Body}
 use Rattle.vms_check.specs.Laws.{WritesItsText}
-use Rattle.vms_check.specs.Limits.{most_lines}
+use Rattle.vms_check.specs.Limits.{most_lines, passes_limit}
 
-none_first : (first later : Option Halt) → first_halt first later ≡ None → (first ≡ None) × (later ≡ None)
-none_first None later none = (refl, none)
-none_first (Some halt) later none = absurd cc
+-- where no limit is passed, a line stops the check for what it says alone
+unless_beyond : (b : Bool) (halt : Option Halt) → (if b then Some Passes else halt) ≢ Some Passes → (if b then Some Passes else halt) ≡ halt
+unless_beyond true halt within = absurd (within refl)
+unless_beyond false halt within = refl
 
-unless_beyond : (b : Bool) (halt : Option Halt) → (if b then Some Passes else halt) ≡ None → halt ≡ None
-unless_beyond true halt none = absurd cc
-unless_beyond false halt none = none
+within_at : (n : ℕ) (halt : Option Halt) → halted_at n halt ≢ Some Passes → halted_at n halt ≡ halt
+within_at n halt within = unless_beyond (nat_lt most_lines n) halt within
+
+unless_over : (over : Bool) → passes over ≢ Some Passes → passes over ≡ None
+unless_over true within = absurd (within refl)
+unless_over false within = refl
+
+first_within : (first later : Option Halt) → first_halt first later ≢ Some Passes → first ≢ Some Passes
+first_within first later within = λ is. within (ap (λ (halt : Option Halt). first_halt halt later) is)
+
+later_within : (first later : Option Halt) → first ≡ None → first_halt first later ≢ Some Passes → later ≢ Some Passes
+later_within first later none within = λ is. within (ap (λ (halt : Option Halt). first_halt halt later) none ∙ is)
 
 -- what stands behind an element
 behind : (k : ℕ) (all : List (List ℕ)) (line : List ℕ) (lines : List (List ℕ)) → drop k all ≡ line ∷ lines → drop (suc k) all ≡ lines
@@ -34,47 +43,70 @@ behind zero (first ∷ all) line lines is = cc
 behind (suc k) [] line lines is = absurd cc
 behind (suc k) (first ∷ all) line lines is = behind k all line lines is
 
--- what is written of lines none of which stops the check, and at their end
+-- what is written from a line on that stops the check so, of what the line prints, what later lines print and the last words
+abbrev written_at : Option Halt → List ℕ → List ℕ → Option Halt → List ℕ → List ℕ
+written_at halt line later rest words = printed_from halt line later ++ last_words (first_halt halt rest) words
+
+written-on : (halt : Option Halt) (line later : List ℕ) (rest : Option Halt) (words : List ℕ) → halt ≡ None
+    → written_at halt line later rest words ≡ line ++ (later ++ last_words rest words)
+written-on halt line later rest words none =
+    ap (λ (at : Option Halt). written_at at line later rest words) none ∙ append_assoc line later (last_words rest words)
+
+written-refused : (halt : Option Halt) (line later : List ℕ) (rest : Option Halt) (words : List ℕ) → halt ≡ Some Refuses
+    → written_at halt line later rest words ≡ line
+written-refused halt line later rest words refused = ap (λ (at : Option Halt). written_at at line later rest words) refused ∙ append-nil line
+
+-- what is written of lines, and at their end
 abbrev written_from : Progress → List (List ℕ) → List ℕ
-written_from s lines = printed check s lines ++ check.last (past check s lines)
+written_from s lines = printed check s lines ++ last_words (halted check s lines) (check.last (past check s lines))
 
-written-cons : (s : Progress) (line : List ℕ) (lines : List (List ℕ)) → check.halts s line ≡ None
-    → written_from s (line ∷ lines) ≡ check.prints s line ++ written_from (check.next s line) lines
-written-cons s line lines none =
-    let later = printed check (check.next s line) lines in
-    let last = check.last (past check (check.next s line) lines) in
-    ap (λ (halt : Option Halt). printed_from halt (check.prints s line) later ++ last) none ∙ append_assoc (check.prints s line) later last
-
-body_written : (n : ℕ) (header : Header) (above : Above) (lines : List (List ℕ)) → halted check (Body n header above) lines ≡ None
+body_written : (n : ℕ) (header : Header) (above : Above) (lines : List (List ℕ)) → halted check (Body n header above) lines ≢ Some Passes
     → written_from (Body n header above) lines ≡ checked_lines header n above lines ++ checked_end (come_to header above lines)
-body_written n header above [] none = refl
-body_written n header above (line ∷ lines) none =
+body_written n header above [] within = refl
+body_written n header above (line ∷ lines) within =
     let result = judged header above.lines line in
-    let both = none_first (check.halts (Body n header above) line) (halted check (check.next (Body n header above) line) lines) none in
-    written-cons (Body n header above) line lines both.0
-    ∙ ap (λ (rest : List ℕ). checked_line header n result ++ rest) (body_written (suc n) header (with_judged result above) lines both.1)
+    let next = Body (suc n) header (with_judged result above) in
+    let over = passes_limit above.lines result in
+    let here = first_within (halted_at n (passes over)) (halted check next lines) within in
+    let same = within_at n (passes over) here in
+    let none = same ∙ unless_over over (λ is. here (same ∙ is)) in
+    written-on (halted_at n (passes over)) (checked_line header n result) (printed check next lines) (halted check next lines) (check.last (past check next lines)) none
+    ∙ ap (λ (rest : List ℕ). checked_line header n result ++ rest)
+    (body_written (suc n) header (with_judged result above) lines (later_within (halted_at n (passes over)) (halted check next lines) none within))
     ∙ sym (append_assoc (checked_line header n result) (checked_lines header (suc n) (with_judged result above) lines) (checked_end (come_to header (with_judged result above) lines)))
 
-turn_written : (k : ℕ) (stage : Stage) (turn : Result Turn HeaderCause) (lines all : List (List ℕ)) → drop (suc k) all ≡ lines → refuses turn ≡ None
-    → halted check (past_head (suc k) stage turn) lines ≡ None
-    → ((next : Stage) → halted check (Heading (suc (suc k)) next) lines ≡ None → written_from (Heading (suc (suc k)) next) lines ≡ checked_under (header_from (suc (suc k)) next lines) all)
-    → printed_head (suc k) turn ++ written_from (past_head (suc k) stage turn) lines ≡ checked_under (on_turn (suc k) turn (λ next. header_from (suc (suc k)) next lines)) all
-turn_written k stage (Ok (Goes next)) lines all is unstopped none follows = follows next none
-turn_written k stage (Ok (Ends draft)) lines all is unstopped none follows =
+-- what is written from a header's line on, of its turn
+turn_written : (k : ℕ) (stage : Stage) (turn : Result Turn HeaderCause) (lines all : List (List ℕ)) → drop (suc k) all ≡ lines
+    → first_halt (halted_at (suc k) (refuses turn)) (halted check (past_head (suc k) stage turn) lines) ≢ Some Passes
+    → ((next : Stage) → halted check (Heading (suc (suc k)) next) lines ≢ Some Passes
+    → written_from (Heading (suc (suc k)) next) lines ≡ checked_under (header_from (suc (suc k)) next lines) all)
+    → written_at (halted_at (suc k) (refuses turn)) (printed_head (suc k) turn) (printed check (past_head (suc k) stage turn) lines) (halted check (past_head (suc k) stage turn) lines) (check.last (past check (past_head (suc k) stage turn) lines))
+    ≡ checked_under (on_turn (suc k) turn (λ next. header_from (suc (suc k)) next lines)) all
+turn_written k stage (Ok (Goes next)) lines all is within follows =
+    let at = Heading (suc (suc k)) next in
+    let none = within_at (suc k) None (first_within (halted_at (suc k) None) (halted check at lines) within) in
+    written-on (halted_at (suc k) None) [] (printed check at lines) (halted check at lines) (check.last (past check at lines)) none
+    ∙ follows next (later_within (halted_at (suc k) None) (halted check at lines) none within)
+turn_written k stage (Ok (Ends draft)) lines all is within follows =
     let header = header_of draft in
-    ap (λ (bytes : List ℕ). spelled_header header ++ bytes) (body_written (suc (suc k)) header nothing_above lines none)
+    let at = Body (suc (suc k)) header nothing_above in
+    let none = within_at (suc k) None (first_within (halted_at (suc k) None) (halted check at lines) within) in
+    written-on (halted_at (suc k) None) (spelled_header header) (printed check at lines) (halted check at lines) (check.last (past check at lines)) none
+    ∙ ap (λ (bytes : List ℕ). spelled_header header ++ bytes)
+    (body_written (suc (suc k)) header nothing_above lines (later_within (halted_at (suc k) None) (halted check at lines) none within))
     ∙ ap (λ (body : List (List ℕ)). spelled_header header ++ (checked_lines header (suc (suc k)) nothing_above body ++ checked_end (come_to header nothing_above body))) (sym is)
     ∙ sym (append_assoc (spelled_header header) (checked_lines header (suc (suc k)) nothing_above (drop (suc k) all)) (checked_end (come_to header nothing_above (drop (suc k) all))))
-turn_written k stage (Err cause) lines all is unstopped none follows = absurd cc
+turn_written k stage (Err cause) lines all is within follows =
+    let at = Heading (suc k) stage in
+    let refused = within_at (suc k) (Some Refuses) (first_within (halted_at (suc k) (Some Refuses)) (halted check at lines) within) in
+    written-refused (halted_at (suc k) (Some Refuses)) (printed_head (suc k) (Err cause)) (printed check at lines) (halted check at lines) (check.last (past check at lines)) refused
 
-head_written : (k : ℕ) (stage : Stage) (lines all : List (List ℕ)) → drop k all ≡ lines → halted check (Heading (suc k) stage) lines ≡ None
+head_written : (k : ℕ) (stage : Stage) (lines all : List (List ℕ)) → drop k all ≡ lines → halted check (Heading (suc k) stage) lines ≢ Some Passes
     → written_from (Heading (suc k) stage) lines ≡ checked_under (header_from (suc k) stage lines) all
-head_written k stage [] all is none = refl
-head_written k stage (line ∷ lines) all is none =
-    let both = none_first (check.halts (Heading (suc k) stage) line) (halted check (check.next (Heading (suc k) stage) line) lines) none in
-    written-cons (Heading (suc k) stage) line lines both.0
-    ∙ turn_written k stage (head_line stage line) lines all (behind k all line lines is) (unless_beyond (nat_lt most_lines (suc k)) (refuses (head_line stage line)) both.0) both.1
-    (λ next unstopped. head_written (suc k) next lines all (behind k all line lines is) unstopped)
+head_written k stage [] all is within = refl
+head_written k stage (line ∷ lines) all is within =
+    turn_written k stage (head_line stage line) lines all (behind k all line lines is) within
+    (λ next follows. head_written (suc k) next lines all (behind k all line lines is) follows)
 
 pub writes-text : WritesItsText
-writes-text text none = output-open check (lines_of text) none ∙ head_written 0 Opening (lines_of text) (lines_of text) refl none
+writes-text text within = head_written 0 Opening (lines_of text) (lines_of text) refl within

@@ -1,9 +1,10 @@
 -- Laws of what a check writes.
-use Rattle.std.specs.Prelude.{◌≡◌, ◌≤◌, ℕ, suc, List, ◌++◌, length, drop, None, Ok}
+use Rattle.std.specs.Prelude.{◌≡◌, ◌≢◌, ◌≤◌, ℕ, suc, List, ◌++◌, length, drop, Some, Ok}
 use Rattle.vms_base.specs.declared.headers.Header.{Header}
 use Rattle.vms_text.specs.Lines.{lines_of}
 use Rattle.vms_trace.specs.Head.{read_header}
 use Rattle.vms_trace.specs.Spelling.{header_words, spelled_header}
+use Rattle.vms_stream.specs.declared.halts.Halt.TheVariants.{Passes}
 use Rattle.vms_stream.specs.Machines.{halted, output}
 use Rattle.vms_check.specs.Checking.{check, check_output, checked_end, checked_lines, come_to, nothing_above}
 use Rattle.vms_check.specs.Limits.{most_lines}
@@ -11,7 +12,7 @@ use Rattle.vms_check.specs.Limits.{most_lines}
 -- what is written line by line of a text within the limits is its header and its body as they are defined by the lines of
 -- each
 abbrev pub WritesItsText : Type 0
-WritesItsText = (text : List ℕ) → halted check check.start (lines_of text) ≡ None →
+WritesItsText = (text : List ℕ) → halted check check.start (lines_of text) ≢ Some Passes →
     output check (lines_of text) ≡ check_output text
 
 -- what is written of a header and of the lines of a body is accepted again: the same header, the same lines count, and
