@@ -8,7 +8,8 @@ use std::test::Fail;
 use vms_base::{Decl, Header, ItemDecl, Layout, Row, ZoneKind, ZoneName, ZoneSize};
 use vms_trace::LineCause;
 
-/// Two CPUs, one zone of one node, sixteen items a place, the node's item `slab` in bytes, and the percpu counter `gauge`.
+/// Two CPUs, one zone of one node, sixteen items a place, the node's item `slab` in bytes, and the
+/// percpu counter `gauge`.
 fn header(alloc: Global) -> Result<Header, Fail>
     ensures { IfOk result (λ header. IsHeader header) }
 {
