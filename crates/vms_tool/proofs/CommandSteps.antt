@@ -6,11 +6,12 @@ use Rattle.vms_tool.proofs.CourseTurns.{Appends-none, Consumes-none, Consumes-bo
 use Rattle.vms_tool.proofs.OpeningSteps.{begins_nothing}
 use Rattle.vms_tool.proofs.Runnings.{cut_of}
 use Rattle.vms_tool.specs.declared.courses.Course.{Course}
-use Rattle.vms_tool.specs.declared.statuses.Status.{Status}
-use Rattle.vms_tool.specs.declared.statuses.Status.TheVariants as statuses
+use Rattle.vms_stream.specs.declared.statuses.Status.{Status}
+use Rattle.vms_stream.specs.declared.statuses.Status.TheVariants as statuses
 use Rattle.vms_tool.specs.declared.stops.Stop.{Stop}
 use Rattle.vms_tool.specs.declared.stops.Stop.TheVariants.{ReadFault, WriteFault, Memory, TooLong}
-use Rattle.vms_tool.specs.Answers.{Answers, BeginsOutput, IsReplay, Says, SaysUnder}
+use Rattle.vms_stream.specs.Answers.{Answers}
+use Rattle.vms_tool.specs.Answers.{BeginsOutput, IsReplay, Says, SaysUnder}
 use Rattle.vms_tool.specs.Commands.{AnswersFrom, RefusedAs, RefusesHeader, ShownAs, ShowsUsage}
 use Rattle.vms_tool.specs.Courses.{Finishes, taken_by}
 use Rattle.vms_tool.specs.Openings.{IsRefused}

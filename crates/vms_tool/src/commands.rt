@@ -1,5 +1,6 @@
 ghost use Rattle.std.specs.Prelude.{◌≡◌, ◌↔◌, IfErr, IfOk, IsTrue, map, string_bytes};
-ghost use Rattle.vms_tool.specs.Answers.{Answers, FaultsOfSink, FaultsOfSource, IsReplay, Says, SaysUnder};
+ghost use Rattle.vms_stream.specs.Answers.{Answers, FaultsOfSink, FaultsOfSource};
+ghost use Rattle.vms_tool.specs.Answers.{Says, SaysUnder};
 ghost use Rattle.vms_tool.specs.Commands.{AnswersFrom, IsPlainStatus, RefusesHeader, ShowsUsage};
 ghost use Rattle.vms_tool.specs.Output.{header_cause, header_line};
 ghost use Rattle.vms_calc.specs.Rules.{TellsThresholds};
@@ -126,20 +127,40 @@ pub fn tool<S: Source, K: Sink>(alloc: Global, words: &[String], src: &mut S, ou
     ensures reads { FaultsOfSource result (S.faults src.old) (S.faults src.new) }
     ensures writes { FaultsOfSink result (K.faults out.old) (K.faults out.new) }
 {
-    if is_replay(words) {
-        tool_replay(alloc, src, out)
-    } else {
-        show_usage(out)
+    match command(words) {
+        Some(Command::Check) => tool_check(alloc, src, out),
+        Some(Command::Replay) => tool_replay(alloc, src, out),
+        None => show_usage(out),
     }
 }
 
-/// Whether the words are the one word `replay`.
-fn is_replay(words: &[String]) -> bool
-    ensures { IsTrue result ↔ IsReplay (map (λ word. string_bytes word) words.now) }
+/// A command that is built.
+#[derive(Clone, Copy, Debug, PartialEq, Eq)]
+pub(crate) enum Command {
+    Check,
+    Replay,
+}
+
+/// The command that the words name.
+fn command(words: &[String]) -> Option<Command>
+    ensures { result ≡ command_of (map (λ word. string_bytes word) words.now) }
 {
     match words {
-        [word] => word.as_str() == "replay",
-        _ => false,
+        [word] => command_named(word.as_str()),
+        _ => None,
+    }
+}
+
+/// The command of one word.
+fn command_named(word: &str) -> Option<Command>
+    ensures { result ≡ command_of (word.now ∷ []) }
+{
+    if word == "check" {
+        Some(Command::Check)
+    } else if word == "replay" {
+        Some(Command::Replay)
+    } else {
+        None
     }
 }
 

@@ -9,11 +9,11 @@ mod openings;
 mod reports;
 mod running;
 mod starting;
-mod statuses;
 mod stops;
 #[cfg(test)]
 mod tests;
 
 pub use commands::{tool, tool_replay};
 pub use items::Item;
-pub use statuses::Status;
+pub use vms_check::tool_check;
+pub use vms_stream::Status;
