@@ -3,3 +3,4 @@ pub mod VolumeSums
 pub mod Standings
 pub mod Decisions
 pub mod Spendings
+pub mod Feeding

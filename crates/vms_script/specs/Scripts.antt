@@ -1,10 +1,16 @@
 -- Scripts: the lane lines of a phase that count, as they are collected.
-use Rattle.std.specs.Prelude.{ℕ, List, [], ◌∷◌, ◌++◌}
+use Rattle.std.specs.Prelude.{◌≡◌, ℕ, ◌≤◌, List, [], ◌∷◌, ◌++◌, length, map, Result, Ok, Err}
+use Rattle.std.specs.List.Sorted.{IsStrictlyIncreasing}
 use Rattle.vms_base.specs.declared.headers.Header.{Header}
 use Rattle.vms_text.specs.declared.acts.Item.{Item}
 use Rattle.vms_text.specs.declared.acts.Line.{Line}
 use Rattle.vms_text.specs.declared.acts.Line.TheVariants.{Blank, Lane, Boundary}
 use Rattle.vms_script.specs.declared.scripters.Fed.{Fed}
+use Rattle.vms_script.specs.declared.scripters.FeedError.{FeedError}
+use Rattle.vms_script.specs.declared.scripters.FeedError.TheVariants.{Refused, Memory}
+use Rattle.vms_script.specs.declared.scripters.Scripter.{Scripter}
+use Rattle.vms_script.specs.Judging.{judged}
+use Rattle.vms_script.specs.Standing.{Stands}
 use Rattle.vms_script.specs.declared.scripters.Fed.TheVariants.{Blank as FedBlank, Kept, Boundary as FedBoundary}
 
 -- what a scripter has come to: the header it was made for, the lines that count, the newest first, and the lane lines that it
@@ -32,3 +38,23 @@ abbrev pub fed_of : Line → Fed
 fed_of Blank = FedBlank
 fed_of (Lane lane act) = Kept
 fed_of (Boundary boundary) = FedBoundary boundary
+
+-- a scripter that has come to this: the numbers of the items ascend
+pub record Holds (script : Script) (scripter : Scripter) : Type 0 where
+  pub stands : Stands script.header script.lines scripter.judge
+  pub items : scripter.items.items ≡ script.items
+  pub ascend : IsStrictlyIncreasing (map (λ item. item.number) script.items)
+  pub few : length script.items ≤ 1000000
+
+-- a scripter of a body with this header
+pub record SomeScripter (header : Header) (scripter : Scripter) : Type 0 where
+  pub script : Script
+  pub of : script.header ≡ header
+  pub holds : Holds script scripter
+
+-- what a scripter comes to past line n of this text: a line that doesn't count, and want of memory, leave it
+abbrev pub Feeds : ℕ → List ℕ → Script → Scripter → Result Fed FeedError → Type 0
+Feeds n text script scripter (Ok fed) =
+    (line : Line) × (judged script.header script.lines text ≡ Ok line) × (fed ≡ fed_of line) × Holds (with_line n line script) scripter
+Feeds n text script scripter (Err (Refused cause)) = (judged script.header script.lines text ≡ Err cause) × Holds script scripter
+Feeds n text script scripter (Err Memory) = Holds script scripter

@@ -7,4 +7,4 @@ mod scripters;
 mod volumes;
 
 pub use judges::LineJudge;
-pub use scripters::{Fed, FeedError, PhaseScript};
+pub use scripters::{Fed, FeedError, PhaseScript, Scripter};

@@ -1,4 +1,7 @@
-use vms_trace::{Boundary, Item, LineCause};
+use crate::LineJudge;
+use std::alloc::{AllocError, Global};
+use vms_base::{Header, Memory};
+use vms_trace::{Boundary, Item, Line, LineCause};
 
 /// What a line that was fed came to.
 #[derive(Clone, Copy, Debug, PartialEq, Eq)]
@@ -22,3 +25,88 @@ pub enum FeedError {
 
 /// The lane lines of a phase that count, in the order of the text.
 pub type PhaseScript = Vec<Item>;
+
+impl From<AllocError> for FeedError {
+    ghost use Rattle.std.specs.Prelude.{◌≡◌};
+    ghost use Rattle.vms_script.specs.declared.scripters.FeedError.TheVariants as errors;
+
+    ghost from_gives = { λ _ error. error ≡ errors.Memory };
+
+    fn from(_error: AllocError) -> FeedError {
+        FeedError::Memory
+    }
+}
+
+/// Collects the lane lines of a body that count, phase by phase.
+#[derive(Drop)]
+pub struct Scripter {
+    pub(crate) judge: LineJudge,
+    /// The lane lines since the last phase was taken.
+    pub(crate) items: Vec<Item>,
+    pub(crate) alloc: Global,
+}
+
+impl Scripter {
+    ghost use Rattle.std.specs.Prelude.{◌≡◌, ◌<◌, [], All, IfOk, map, vec_capacity, vec_len};
+    ghost use Rattle.std.specs.List.Sorted.{IsStrictlyIncreasing};
+    ghost use Rattle.vms_base.specs.Headers.{IsHeader};
+    ghost use Rattle.vms_script.specs.Scripts.{Feeds, Holds, Script, SomeScripter, fed_of, first_script, with_line};
+
+    /// A scripter before the first line of a body with this header.
+    pub fn make(alloc: Global, header: &Header) -> Result<Scripter, Memory>
+        requires { IsHeader header.now }
+        ensures { IfOk result (λ scripter. Holds (first_script header.now) scripter) }
+    {
+        Ok(Scripter {
+            judge: LineJudge::make(alloc, header)?,
+            items: Vec::new(alloc),
+            alloc,
+        })
+    }
+
+    /// Takes in a line of the body, which has this number in the text.
+    ///
+    /// # Errors
+    ///
+    /// [`FeedError::Refused`] where the line doesn't count.
+    pub fn feed(&mut self, header: &Header, number: u32, line: &[u8]) -> Result<Fed, FeedError>
+        requires header { IsHeader header.now }
+        requires scripter { SomeScripter header.now self.old }
+        requires number { All (λ item. item.number < number) self.old.items.items }
+        requires few { vec_len self.old.items < 1000000 }
+        ensures { (script : Script) → script.header ≡ header.now → Holds script self.old →
+            Feeds number line.now script self.new result }
+    {
+        self.items.reserve(1)?;
+        match self.judge.judge(header, line) {
+            Ok(said) => Ok(self.keep(number, said)),
+            Err(cause) => Err(FeedError::Refused(cause)),
+        }
+    }
+
+    /// The lane lines so far, in the order of the text, of which the scripter then holds none.
+    pub fn take_phase(&mut self) -> PhaseScript
+        ensures { (script : Script) → Holds script self.old →
+            (result.items ≡ script.items) × Holds (record script { items = [] }) self.new }
+    {
+        std::mem::replace(&mut self.items, Vec::new(self.alloc))
+    }
+
+    /// Keeps a line that counts, if it is one of a lane.
+    fn keep(&mut self, number: u32, said: Line) -> Fed
+        requires { vec_len self.old.items < vec_capacity self.old.items }
+        ensures fed { result ≡ fed_of said }
+        ensures judge { self.new.judge ≡ self.old.judge }
+        ensures items { (script : Script) → self.old.items.items ≡ script.items →
+            self.new.items.items ≡ (with_line number said script).items }
+    {
+        match said {
+            Line::Blank => Fed::Blank,
+            Line::Lane(lane, act) => {
+                self.items.push_reserved(Item { number, lane, act });
+                Fed::Kept
+            }
+            Line::Boundary(boundary) => Fed::Boundary(boundary),
+        }
+    }
+}

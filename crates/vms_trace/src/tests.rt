@@ -1,2 +1,3 @@
+mod headers;
 mod lines;
 mod spelling;

@@ -1,0 +1,36 @@
+use Rattle.std.proofs.Common.{◌≡◌, ◌<◌, List, length, sym, ap, subst, ◌∙◌, arith, All, Ok, Err}
+use Rattle.vms_base.specs.declared.headers.Header.{Header}
+use Rattle.vms_text.specs.declared.acts.Item.{Item}
+use Rattle.vms_script.specs.Judging.{counted, judged}
+use Rattle.vms_script.specs.Standing.{Stands}
+use Rattle.vms_script.proofs.Feeding.{Holds-past}
+use Rattle.vms_script.proofs.scripters.Scripter.feed.Goals as goal
+
+pub returns-in-Ok : goal.returns-in-Ok
+returns-in-Ok c = λ script of holds.
+    let here = subst (λ (header : Header). Stands header script.lines c.args.self.now.judge) of holds.stands in
+    let judged_here = c.in-Ok.ensures script.lines here in
+    let kept = c.reserve.ensures.items ∙ holds.items in (
+      c.in-Ok.said,
+      subst (λ (header : Header). judged header script.lines c.args.line.now ≡ Ok c.in-Ok.said) (sym of) (sym judged_here.0),
+      c.keep.ensures.fed,
+      Holds-past c.args.number c.in-Ok.said script c.args.self.now c.keep.new.self holds
+          (subst (λ (header : Header). Stands header (counted (Ok c.in-Ok.said) script.lines) c.keep.new.self.judge) (sym of)
+          (rw c.keep.ensures.judge judged_here.1))
+          (c.keep.ensures.items script kept)
+          (subst (λ (items : List Item). All (λ item. item.number < c.args.number) items) holds.items c.requires.number)
+          (omega (arith, ap (λ (items : List Item). length items) holds.items, c.requires.few)),
+    )
+
+pub returns-in-Err : goal.returns-in-Err
+returns-in-Err c = λ script of holds.
+    let here = subst (λ (header : Header). Stands header script.lines c.args.self.now.judge) of holds.stands in
+    let judged_here = c.in-Err.ensures script.lines here in (
+      subst (λ (header : Header). judged header script.lines c.args.line.now ≡ Err c.in-Err.cause) (sym of) (sym judged_here.0),
+      record {
+        stands = subst (λ (header : Header). Stands header script.lines c.judge.new.self) (sym of) judged_here.1;
+        items = c.reserve.ensures.items ∙ holds.items;
+        ascend = holds.ascend;
+        few = holds.few;
+      },
+    )
