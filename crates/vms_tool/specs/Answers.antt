@@ -1,5 +1,5 @@
 -- What each status says of the bytes that were taken and of those that were written.
-use Rattle.std.specs.Prelude.{◌≡◌, ℕ, suc, ◌<◌, ◌≤◌, ◌⊎◌, List, [], ◌∷◌, ◌++◌, length, drop, Contains, codes, bytes_eq, if◌then◌else◌, Option, Some, None, Result, Ok, Err}
+use Rattle.std.specs.Prelude.{◌≡◌, ℕ, suc, ◌<◌, ◌≤◌, ◌⊎◌, List, [], ◌∷◌, ◌++◌, length, drop, Contains, Option, Some, None, Result, Ok, Err}
 use Rattle.vms_base.specs.declared.headers.Header.{Header}
 use Rattle.vms_check.specs.Checking.{check}
 use Rattle.vms_stream.specs.declared.statuses.Status.{Status}
@@ -7,7 +7,10 @@ use Rattle.vms_stream.specs.declared.statuses.Status.TheVariants.{Done, Words, H
 use Rattle.vms_stream.specs.Answers.{most_bytes, Says as CheckSays}
 use Rattle.vms_tool.specs.FileOrder.{HasFileOrder}
 use Rattle.vms_tool.specs.Judging.{nothing_above, come_to}
+use Rattle.vms_tool.specs.Naming.{command_of}
 use Rattle.vms_tool.specs.Output.{output, header_line, usage_line}
+use Rattle.vms_tool.specs.declared.naming.Command.{Command}
+use Rattle.vms_tool.specs.declared.naming.Command.TheVariants.{Check, Replay}
 use Rattle.vms_first.specs.Head.{Fault, read_header}
 use Rattle.vms_first.specs.Text.{lines_of}
 
@@ -85,19 +88,6 @@ Says WriteFault taken written at_end = KeepsLimit taken × BeginsOutput taken wr
 Says Memory taken written at_end = BeginsOutput taken written
 Says NotBuilt taken written at_end = ⊥
 Says TooLong taken written at_end = (most_bytes < length taken) × NotRefused taken × BeginsOutput taken written
-
--- the commands that are built
-pub data Command : Type 0 where
-  Check : Command
-  Replay : Command
-
--- the command that the words name: they are its one word
-abbrev pub command_of : List (List ℕ) → Option Command
-command_of (word ∷ []) =
-    if bytes_eq word (codes "check") then Some Check
-    else if bytes_eq word (codes "replay") then Some Replay
-    else None
-command_of _ = None
 
 -- what each status says of a command; with words that name none nothing is read, and the usage line is written
 abbrev pub SaysOf : Option Command → Status → List ℕ → List ℕ → Type 0 → Type 0

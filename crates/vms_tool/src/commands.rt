@@ -7,9 +7,10 @@ ghost use Rattle.vms_calc.specs.Rules.{TellsThresholds};
 ghost use Rattle.vms_tool.specs.Running.{CountsReads, CountsWrites, IsNoReadFault};
 ghost use Rattle.vms_tool.specs.Worlds.{IsNormalRule};
 
-use crate::Status;
+use crate::{Status, tool_check};
 use crate::courses::Course;
 use crate::judging::push_prefix;
+use crate::naming::{Command, named_by};
 use crate::openings::{Opening, open};
 use crate::stops::Stop;
 use std::alloc::Global;
@@ -127,40 +128,10 @@ pub fn tool<S: Source, K: Sink>(alloc: Global, words: &[String], src: &mut S, ou
     ensures reads { FaultsOfSource result (S.faults src.old) (S.faults src.new) }
     ensures writes { FaultsOfSink result (K.faults out.old) (K.faults out.new) }
 {
-    match command(words) {
+    match named_by(words) {
         Some(Command::Check) => tool_check(alloc, src, out),
         Some(Command::Replay) => tool_replay(alloc, src, out),
         None => show_usage(out),
-    }
-}
-
-/// A command that is built.
-#[derive(Clone, Copy, Debug, PartialEq, Eq)]
-pub(crate) enum Command {
-    Check,
-    Replay,
-}
-
-/// The command that the words name.
-fn command(words: &[String]) -> Option<Command>
-    ensures { result ≡ command_of (map (λ word. string_bytes word) words.now) }
-{
-    match words {
-        [word] => command_named(word.as_str()),
-        _ => None,
-    }
-}
-
-/// The command of one word.
-fn command_named(word: &str) -> Option<Command>
-    ensures { result ≡ command_of (word.now ∷ []) }
-{
-    if word == "check" {
-        Some(Command::Check)
-    } else if word == "replay" {
-        Some(Command::Replay)
-    } else {
-        None
     }
 }
 

@@ -5,6 +5,7 @@ mod commands;
 mod courses;
 mod items;
 mod judging;
+mod naming;
 mod openings;
 mod reports;
 mod running;
@@ -15,5 +16,6 @@ mod tests;
 
 pub use commands::{tool, tool_replay};
 pub use items::Item;
+pub use naming::Command;
 pub use vms_check::tool_check;
 pub use vms_stream::Status;
