@@ -7,12 +7,12 @@ ghost use Rattle.vms_calc.specs.Rules.{TellsThresholds};
 ghost use Rattle.vms_tool.specs.Running.{CountsReads, CountsWrites, IsNoReadFault};
 ghost use Rattle.vms_tool.specs.Worlds.{IsNormalRule};
 
-use crate::{Status, tool_check};
 use crate::courses::Course;
 use crate::judging::push_prefix;
 use crate::naming::{Command, named_by};
 use crate::openings::{Opening, open};
 use crate::stops::Stop;
+use crate::{Status, tool_check};
 use std::alloc::Global;
 use vms_base::{Memory, ZoneSize};
 use vms_calc::{Rule, Rules, normal_threshold, pressure_threshold};
