@@ -19,7 +19,8 @@ online_count-most IsOnline = omega arith
 online_count-most IsDead = omega arith
 online_count-most Absent = omega arith
 
-online_below-more : (n : ℕ) (lines : List Line) → online_below (suc n) lines ≡ online_below n lines + online_count (cpu_state n lines)
+online_below-more : (n : ℕ) (lines : List Line)
+    → online_below (suc n) lines ≡ online_below n lines + online_count (cpu_state n lines)
 online_below-more n lines = online_count-onto (cpu_state n lines) (online_below n lines)
 
 -- at most all of them are online
@@ -39,7 +40,8 @@ online_below-has (suc n) c lines within = elim (cases_eq c n) [
 
 module _ (lines : List Line) (line : Line) where
   -- a line that changes no state of the first CPUs
-  online_below-same : (n : ℕ) → ((k : ℕ) (s : CpuState) → k < n → state_past k line s ≡ s) → online_below n (line ∷ lines) ≡ online_below n lines
+  online_below-same : (n : ℕ) → ((k : ℕ) (s : CpuState) → k < n → state_past k line s ≡ s)
+      → online_below n (line ∷ lines) ≡ online_below n lines
   online_below-same zero same = refl
   online_below-same (suc n) same =
       let now : online_count (cpu_state n (line ∷ lines)) ≡ online_count (cpu_state n lines) =
@@ -54,7 +56,8 @@ module _ (lines : List Line) (line : Line) where
 
   -- a line that changes the state of CPU c alone
   online_below-moved : (n c : ℕ) → ((k : ℕ) (s : CpuState) → k ≢ c → state_past k line s ≡ s) → c < n
-      → online_below n (line ∷ lines) + online_count (cpu_state c lines) ≡ online_below n lines + online_count (cpu_state c (line ∷ lines))
+      → online_below n (line ∷ lines) + online_count (cpu_state c lines) ≡ online_below n lines + online_count
+      (cpu_state c (line ∷ lines))
   online_below-moved zero c same within = absurd (omega arith)
   online_below-moved (suc n) c same within = elim (cases_eq c n) [
     | inl is ↦ subst (λ k. online_below (suc n) (line ∷ lines) + online_count (cpu_state k lines)
@@ -78,7 +81,8 @@ module _ (lines : List Line) (line : Line) where
   ]
 
   -- the states behind a line that changes none
-  pub TellsCpus-still : (cpus : ℕ) (states : CpuStates) → ((k : ℕ) (s : CpuState) → state_past k line s ≡ s) → TellsCpus cpus lines states → TellsCpus cpus (line ∷ lines) states
+  pub TellsCpus-still : (cpus : ℕ) (states : CpuStates) → ((k : ℕ) (s : CpuState) → state_past k line s ≡ s)
+      → TellsCpus cpus lines states → TellsCpus cpus (line ∷ lines) states
   TellsCpus-still cpus states same tells = record {
     each = tells.each;
     state = λ k within. tells.state k within ∙ sym (same k (cpu_state k lines));
@@ -86,7 +90,8 @@ module _ (lines : List Line) (line : Line) where
   }
 
   -- the states behind a line that changes that of CPU c
-  pub TellsCpus-set : (cpus c : ℕ) (state : CpuState) (old new : CpuStates) → ((k : ℕ) (s : CpuState) → k ≢ c → state_past k line s ≡ s)
+  pub TellsCpus-set : (cpus c : ℕ) (state : CpuState) (old new : CpuStates) → ((k : ℕ) (s : CpuState) → k ≢ c
+      → state_past k line s ≡ s)
       → state_past c line (cpu_state c lines) ≡ state → c < cpus → new.states ≡ set old.states c state
       → new.online + online_count (get_or old.states c IsOnline) ≡ old.online + online_count state
       → TellsCpus cpus lines old → TellsCpus cpus (line ∷ lines) new
@@ -100,7 +105,8 @@ module _ (lines : List Line) (line : Line) where
           ∙ tells.state k below ∙ sym (same k (cpu_state k lines) other)
     ];
     online =
-        let before : online_count (get_or old.states c IsOnline) ≡ online_count (cpu_state c lines) = ap online_count (tells.state c within) in
+        let before : online_count (get_or old.states c IsOnline) ≡ online_count
+        (cpu_state c lines) = ap online_count (tells.state c within) in
         let after : online_count (cpu_state c (line ∷ lines)) ≡ online_count state = ap online_count becomes in
         omega (arith, before, after, online, tells.online, online_below-moved cpus c same within);
   }

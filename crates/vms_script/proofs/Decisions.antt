@@ -29,13 +29,15 @@ Decides-blank judge = record { by = λ header lines is line stands. (refl, stand
 
 -- a line that is refused leaves the judge
 pub Decides-refused : (line : Line) (judge : LineJudge) (cause : LineCause)
-    → ((header : Header) (lines : List Line) → IsLineOf header line → Stands header lines judge → allowed header lines line ≡ Err cause)
+    → ((header : Header) (lines : List Line) → IsLineOf header line → Stands header lines judge
+    → allowed header lines line ≡ Err cause)
     → Decides line judge judge (Err cause)
 Decides-refused line judge cause why =
     record { by = λ header lines is is_line stands. (sym (why header lines is_line stands), stands) }
 
 -- a line that counts
-pub Decides-kept : (line : Line) (judge judge' : LineJudge) → ((lines : List Line) → counted (Ok line) lines ≡ line ∷ lines)
+pub Decides-kept : (line : Line) (judge judge' : LineJudge) → ((lines : List Line)
+    → counted (Ok line) lines ≡ line ∷ lines)
     → ((header : Header) (lines : List Line) → IsLineOf header line → Stands header lines judge
     → (allowed header lines line ≡ Ok line) × Stands header (line ∷ lines) judge')
     → Decides line judge judge' (Ok tt)
@@ -65,7 +67,8 @@ adds_nothing-control act = record { counters = λ c k. refl; events = λ c e. re
 
 module _ (cpu : CpuId) (judge : LineJudge) where
   -- what the judge has of the CPU is its state
-  state_is : (header : Header) (lines : List Line) (s : CpuState) → Stands header lines judge → cpu.number < header.layout.cpus
+  state_is : (header : Header) (lines : List Line) (s : CpuState) → Stands header lines judge
+      → cpu.number < header.layout.cpus
       → get_or judge.cpus.states cpu.number IsOnline ≡ s → cpu_state cpu.number lines ≡ s
   state_is header lines s stands below read = sym (stands.cpus.state cpu.number below) ∙ read
 
@@ -81,13 +84,15 @@ module _ (cpu : CpuId) (judge : LineJudge) where
       → Decides (Boundary (Offline cpu)) judge judge (Err NotOnline)
   Decides-down_refused off = Decides-refused (Boundary (Offline cpu)) judge NotOnline
       (λ header lines is_line stands.
-      let e : is_online (cpu_state cpu.number lines) ≡ false = ap is_online (sym (stands.cpus.state cpu.number is_line)) ∙ off in rw e refl)
+      let e : is_online (cpu_state cpu.number lines) ≡ false = ap is_online (sym
+      (stands.cpus.state cpu.number is_line)) ∙ off in rw e refl)
 
   pub Decides-last_refused : is_online (get_or judge.cpus.states cpu.number IsOnline) ≡ true → judge.cpus.online ≡ 1
       → Decides (Boundary (Offline cpu)) judge judge (Err LastCpu)
   Decides-last_refused on one = Decides-refused (Boundary (Offline cpu)) judge LastCpu
       (λ header lines is_line stands.
-      let e : is_online (cpu_state cpu.number lines) ≡ true = ap is_online (sym (stands.cpus.state cpu.number is_line)) ∙ on in
+      let e : is_online (cpu_state cpu.number lines) ≡ true = ap is_online (sym
+      (stands.cpus.state cpu.number is_line)) ∙ on in
       let last = eq-eqb (online_below header.layout.cpus lines) 1 (sym stands.cpus.online ∙ one) in rw (e, last) refl)
 
   pub Decides-up_refused : get_or judge.cpus.states cpu.number IsOnline ≡ IsOnline
@@ -106,47 +111,63 @@ module _ (cpu : CpuId) (judge : LineJudge) where
         → ((k : ℕ) (s : CpuState) → (k ≡ cpu.number → ⊥) → state_past k line s ≡ s)
         → state_past cpu.number line (cpu_state cpu.number lines) ≡ state → AddsNothing line
         → cpu.number < header.layout.cpus → states.states ≡ set judge.cpus.states cpu.number state
-        → states.online + online_count (get_or judge.cpus.states cpu.number IsOnline) ≡ judge.cpus.online + online_count state
+        → states.online + online_count (get_or judge.cpus.states cpu.number IsOnline) ≡ judge.cpus.online +
+        online_count state
         → Stands header lines judge → Stands header (line ∷ lines) (record judge { cpus = states })
     moves header lines line state others becomes adds below same online stands =
         Stands-moved header lines line judge states adds
-        (TellsCpus-set lines line header.layout.cpus cpu.number state judge.cpus states others becomes below same online stands.cpus) stands
+        (TellsCpus-set lines line header.layout.cpus cpu.number state judge.cpus states others becomes below same
+        online stands.cpus) stands
 
-    pub Decides-buried : get_or judge.cpus.states cpu.number IsOnline ≡ IsDead → states.states ≡ set judge.cpus.states cpu.number Absent
-        → states.online + online_count (get_or judge.cpus.states cpu.number IsOnline) ≡ judge.cpus.online + online_count Absent
+    pub Decides-buried : get_or judge.cpus.states cpu.number IsOnline ≡ IsDead
+        → states.states ≡ set judge.cpus.states cpu.number Absent
+        → states.online + online_count (get_or judge.cpus.states cpu.number IsOnline) ≡ judge.cpus.online +
+        online_count Absent
         → Decides (Lane Control (Dead cpu)) judge (record judge { cpus = states }) (Ok tt)
-    Decides-buried read same online = Decides-kept (Lane Control (Dead cpu)) judge (record judge { cpus = states }) (λ lines. refl)
+    Decides-buried read same online = Decides-kept (Lane Control (Dead cpu)) judge
+        (record judge { cpus = states }) (λ lines. refl)
         (λ header lines is_line stands. let e = state_is header lines IsDead stands is_line.1.1 read in (
           rw e refl,
           moves header lines (Lane Control (Dead cpu)) Absent (λ k s other. if_state_other cpu.number k s Absent other)
-              (if_state_same cpu.number (cpu_state cpu.number lines) Absent) (adds_nothing-control (Dead cpu)) is_line.1.1 same online stands,
+              (if_state_same cpu.number (cpu_state cpu.number lines) Absent) (adds_nothing-control
+              (Dead cpu)) is_line.1.1 same online stands,
         ))
 
     pub Decides-down : is_online (get_or judge.cpus.states cpu.number IsOnline) ≡ true → (judge.cpus.online ≡ 1 → ⊥)
         → states.states ≡ set judge.cpus.states cpu.number IsDead
-        → states.online + online_count (get_or judge.cpus.states cpu.number IsOnline) ≡ judge.cpus.online + online_count IsDead
+        → states.online + online_count (get_or judge.cpus.states cpu.number IsOnline) ≡ judge.cpus.online +
+        online_count IsDead
         → Decides (Boundary (Offline cpu)) judge (record judge { cpus = states }) (Ok tt)
-    Decides-down on more same online = Decides-kept (Boundary (Offline cpu)) judge (record judge { cpus = states }) (λ lines. refl)
+    Decides-down on more same online = Decides-kept (Boundary (Offline cpu)) judge
+        (record judge { cpus = states }) (λ lines. refl)
         (λ header lines is_line stands.
-        let e : is_online (cpu_state cpu.number lines) ≡ true = ap is_online (sym (stands.cpus.state cpu.number is_line)) ∙ on in
+        let e : is_online (cpu_state cpu.number lines) ≡ true = ap is_online (sym
+        (stands.cpus.state cpu.number is_line)) ∙ on in
         let several = ne-eqb (online_below header.layout.cpus lines) 1 (λ one. more (stands.cpus.online ∙ one)) in (
           rw (e, several) refl,
           moves header lines (Boundary (Offline cpu)) IsDead (λ k s other. if_state_other cpu.number k s IsDead other)
-              (if_state_same cpu.number (cpu_state cpu.number lines) IsDead) (adds_nothing-boundary (Offline cpu)) is_line same online stands,
+              (if_state_same cpu.number (cpu_state cpu.number lines) IsDead) (adds_nothing-boundary
+              (Offline cpu)) is_line same online stands,
         ))
 
-    pub Decides-up : get_or judge.cpus.states cpu.number IsOnline ≡ Absent → states.states ≡ set judge.cpus.states cpu.number IsOnline
-        → states.online + online_count (get_or judge.cpus.states cpu.number IsOnline) ≡ judge.cpus.online + online_count IsOnline
+    pub Decides-up : get_or judge.cpus.states cpu.number IsOnline ≡ Absent
+        → states.states ≡ set judge.cpus.states cpu.number IsOnline
+        → states.online + online_count (get_or judge.cpus.states cpu.number IsOnline) ≡ judge.cpus.online +
+        online_count IsOnline
         → Decides (Boundary (Online cpu)) judge (record judge { cpus = states }) (Ok tt)
-    Decides-up read same online = Decides-kept (Boundary (Online cpu)) judge (record judge { cpus = states }) (λ lines. refl)
+    Decides-up read same online = Decides-kept (Boundary (Online cpu)) judge (record judge { cpus = states })
+        (λ lines. refl)
         (λ header lines is_line stands. let e = state_is header lines Absent stands is_line read in (
           rw e refl,
-          moves header lines (Boundary (Online cpu)) IsOnline (λ k s other. if_state_other cpu.number k s IsOnline other)
-              (if_state_same cpu.number (cpu_state cpu.number lines) IsOnline) (adds_nothing-boundary (Online cpu)) is_line same online stands,
+          moves header lines (Boundary (Online cpu)) IsOnline
+              (λ k s other. if_state_other cpu.number k s IsOnline other)
+              (if_state_same cpu.number (cpu_state cpu.number lines) IsOnline) (adds_nothing-boundary
+              (Online cpu)) is_line same online stands,
         ))
 
 -- another act of the control lane counts, and changes nothing here
-pub Decides-control : (act : Act) (judge : LineJudge) → ((cpu : CpuId) → act ≡ Dead cpu → ⊥) → Decides (Lane Control act) judge judge (Ok tt)
+pub Decides-control : (act : Act) (judge : LineJudge) → ((cpu : CpuId) → act ≡ Dead cpu → ⊥)
+    → Decides (Lane Control act) judge judge (Ok tt)
 Decides-control (Dead cpu) judge no_burial = absurd (no_burial cpu refl)
 Decides-control act judge no_burial = Decides-kept (Lane Control act) judge judge (λ lines. refl)
     (λ header lines is_line stands. (
@@ -155,7 +176,8 @@ Decides-control act judge no_burial = Decides-kept (Lane Control act) judge judg
     ))
 
 -- another boundary line counts, and changes nothing here
-pub Decides-boundary : (boundary : BoundaryOf) (judge : LineJudge) → ((cpu : CpuId) → boundary ≡ Offline cpu → ⊥) → ((cpu : CpuId) → boundary ≡ Online cpu → ⊥)
+pub Decides-boundary : (boundary : BoundaryOf) (judge : LineJudge) → ((cpu : CpuId) → boundary ≡ Offline cpu → ⊥)
+    → ((cpu : CpuId) → boundary ≡ Online cpu → ⊥)
     → Decides (Boundary boundary) judge judge (Ok tt)
 Decides-boundary (Offline cpu) judge no_offline no_online = absurd (no_offline cpu refl)
 Decides-boundary (Online cpu) judge no_offline no_online = absurd (no_online cpu refl)

@@ -14,7 +14,8 @@ use Rattle.vms_script.specs.Scripts.{Holds, Script, with_line}
 use Rattle.vms_script.specs.Standing.{Stands}
 
 -- numbers that rise, with one more above them all
-IsStrictlyIncreasing-onto : (xs : List ℕ) (y : ℕ) → IsStrictlyIncreasing xs → All (λ x. x < y) xs → IsStrictlyIncreasing (xs ++ y ∷ [])
+IsStrictlyIncreasing-onto : (xs : List ℕ) (y : ℕ) → IsStrictlyIncreasing xs → All (λ x. x < y) xs
+    → IsStrictlyIncreasing (xs ++ y ∷ [])
 IsStrictlyIncreasing-onto xs y rise below k within = elim (cases_eq (k + 1) (length xs)) [
   | inl last ↦
       let new : get_or (xs ++ y ∷ []) (k + 1) 0 ≡ y =
@@ -30,7 +31,8 @@ IsStrictlyIncreasing-onto xs y rise below k within = elim (cases_eq (k + 1) (len
 
 -- a scripter past a line that counts, or a blank one
 pub Holds-past : (n : ℕ) (line : Line) (script : Script) (old new : Scripter) → Holds script old
-    → Stands script.header (counted (Ok line) script.lines) new.judge → new.items.items ≡ (with_line n line script).items
+    → Stands script.header (counted (Ok line) script.lines) new.judge
+    → new.items.items ≡ (with_line n line script).items
     → All (λ item. item.number < n) script.items → length script.items < 1000000 → Holds (with_line n line script) new
 Holds-past n Blank script old new holds stands items below few =
     record { stands = stands; items = items; ascend = holds.ascend; few = holds.few }

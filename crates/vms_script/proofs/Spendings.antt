@@ -29,9 +29,11 @@ use Rattle.vms_script.proofs.Standings.{Stands-still}
 use Rattle.vms_script.proofs.VolumeSums.{TellsVolumes-still, TellsVolumes-spent, by_cpu-nothing, volume_at-is}
 
 -- an act of a CPU that is online, by whether it passes the most volume
-judged_by : (over : Bool) (header : Header) (lines : List Line) (cpu : CpuId) (act : Act) (put : VolumeTable → LineJudge) (old spent new : VolumeTable) (result : Result (Unit {0}) LineCause)
+judged_by : (over : Bool) (header : Header) (lines : List Line) (cpu : CpuId) (act : Act) (put : VolumeTable
+    → LineJudge) (old spent new : VolumeTable) (result : Result (Unit {0}) LineCause)
     → overflows lines cpu.number act ≡ over → is_online (cpu_state cpu.number lines) ≡ true
-    → result ≡ (if over then Err Overflow else Ok tt) → new ≡ (if over then old else spent) → Stands header lines (put old)
+    → result ≡ (if over then Err Overflow else Ok tt) → new ≡ (if over then old else spent)
+    → Stands header lines (put old)
     → (over ≡ false → Stands header (Lane (Cpu cpu) act ∷ lines) (put spent))
     → (answered (Lane (Cpu cpu) act) result ≡ allowed header lines (Lane (Cpu cpu) act))
     × Stands header (counted (answered (Lane (Cpu cpu) act) result) lines) (put new)
@@ -39,16 +41,19 @@ judged_by true header lines cpu act put old spent new result passes online r n s
     let refused : allowed header lines (Lane (Cpu cpu) act) ≡ Err Overflow = rw (online, passes) refl in (
       ap (answered (Lane (Cpu cpu) act)) r ∙ sym refused,
       subst (λ (t : VolumeTable). Stands header (counted (answered (Lane (Cpu cpu) act) result) lines) (put t)) (sym n)
-          (subst (λ (a : Result (Unit {0}) LineCause). Stands header (counted (answered (Lane (Cpu cpu) act) a) lines) (put old)) (sym r) stands),
+          (subst (λ (a : Result (Unit {0}) LineCause). Stands header (counted (answered (Lane
+          (Cpu cpu) act) a) lines) (put old)) (sym r) stands),
     )
 judged_by false header lines cpu act put old spent new result passes online r n stands past =
     let counts : allowed header lines (Lane (Cpu cpu) act) ≡ Ok (Lane (Cpu cpu) act) = rw (online, passes) refl in (
       ap (answered (Lane (Cpu cpu) act)) r ∙ sym counts,
       subst (λ (t : VolumeTable). Stands header (counted (answered (Lane (Cpu cpu) act) result) lines) (put t)) (sym n)
-          (subst (λ (a : Result (Unit {0}) LineCause). Stands header (counted (answered (Lane (Cpu cpu) act) a) lines) (put spent)) (sym r) (past refl)),
+          (subst (λ (a : Result (Unit {0}) LineCause). Stands header (counted (answered (Lane
+          (Cpu cpu) act) a) lines) (put spent)) (sym r) (past refl)),
     )
 
-module _ (judge : LineJudge) (cpu : CpuId) (act : Act) (thing size : ℕ) (new : VolumeTable) (result : Result (Unit {0}) LineCause)
+module _ (judge : LineJudge) (cpu : CpuId) (act : Act) (thing size : ℕ) (new : VolumeTable) (result : Result
+    (Unit {0}) LineCause)
     (online : get_or judge.cpus.states cpu.number IsOnline ≡ IsOnline)
     (still : (c : ℕ) (s : CpuState) → state_past c (Lane (Cpu cpu) act) s ≡ s) where
   is_online_here : (header : Header) (lines : List Line) → Stands header lines judge → cpu.number < header.layout.cpus
@@ -60,14 +65,16 @@ module _ (judge : LineJudge) (cpu : CpuId) (act : Act) (thing size : ℕ) (new :
       → ((e : ℕ) → spent_on_event e act ≡ 0)
       → ((j : ℕ) → spent_on_pcpu j act ≡ 0)
       → ((header : Header) → IsActOf header (Cpu cpu) act → thing < counter_count header.layout)
-      → ((lines : List Line) → overflows lines cpu.number act ≡ nat_lt most_volume (volume (spent_on_counter thing) cpu.number lines + size))
+      → ((lines : List Line) → overflows lines cpu.number act ≡ nat_lt most_volume (volume
+      (spent_on_counter thing) cpu.number lines + size))
       → result ≡ (if nat_lt most_volume (volume_at judge.counters cpu.number thing + size) then Err Overflow else Ok tt)
       → new ≡ (if nat_lt most_volume (volume_at judge.counters cpu.number thing + size) then judge.counters
       else with_volume judge.counters cpu.number thing (volume_at judge.counters cpu.number thing + size))
       → Decides (Lane (Cpu cpu) act) judge (record judge { counters = new }) result
   Decides-counters adds others nothing_events nothing_pcpu known passes answer table = record {
     by = λ header lines is is_line stands.
-        let here = volume_at-is header.layout.cpus (counter_count header.layout) (λ c k. volume (spent_on_counter k) c lines) judge.counters cpu.number thing
+        let here = volume_at-is header.layout.cpus (counter_count header.layout) (λ c k. volume
+        (spent_on_counter k) c lines) judge.counters cpu.number thing
         stands.counters is_line.0 (known header is_line.1) in
         judged_by (nat_lt most_volume (volume_at judge.counters cpu.number thing + size)) header lines cpu act
         (λ (t : VolumeTable). record judge { counters = t }) judge.counters
@@ -76,10 +83,13 @@ module _ (judge : LineJudge) (cpu : CpuId) (act : Act) (thing size : ℕ) (new :
         (is_online_here header lines stands is_line.0) answer table stands
         (λ within. record {
           cpus = TellsCpus-still lines (Lane (Cpu cpu) act) header.layout.cpus judge.cpus still stands.cpus;
-          counters = TellsVolumes-spent spent_on_counter cpu act thing size adds others _ _ lines judge.counters is_line.0 (known header is_line.1)
+          counters = TellsVolumes-spent spent_on_counter cpu act thing size adds others _ _ lines judge.counters
+              is_line.0 (known header is_line.1)
               (ltb-false most_volume (volume_at judge.counters cpu.number thing + size) within) stands.counters;
-          events = TellsVolumes-still _ _ spent_on_event lines (Lane (Cpu cpu) act) judge.events (λ c e. by_cpu-nothing (spent_on_event e) c cpu act (nothing_events e)) stands.events;
-          pcpu = TellsVolumes-still _ _ spent_on_pcpu lines (Lane (Cpu cpu) act) judge.pcpu (λ c j. by_cpu-nothing (spent_on_pcpu j) c cpu act (nothing_pcpu j)) stands.pcpu;
+          events = TellsVolumes-still _ _ spent_on_event lines (Lane (Cpu cpu) act) judge.events
+              (λ c e. by_cpu-nothing (spent_on_event e) c cpu act (nothing_events e)) stands.events;
+          pcpu = TellsVolumes-still _ _ spent_on_pcpu lines (Lane (Cpu cpu) act) judge.pcpu (λ c j. by_cpu-nothing
+              (spent_on_pcpu j) c cpu act (nothing_pcpu j)) stands.pcpu;
         });
   }
 
@@ -88,14 +98,16 @@ module _ (judge : LineJudge) (cpu : CpuId) (act : Act) (thing size : ℕ) (new :
       → ((k : ℕ) → spent_on_counter k act ≡ 0)
       → ((j : ℕ) → spent_on_pcpu j act ≡ 0)
       → ((header : Header) → IsActOf header (Cpu cpu) act → thing < 8)
-      → ((lines : List Line) → overflows lines cpu.number act ≡ nat_lt most_volume (volume (spent_on_event thing) cpu.number lines + size))
+      → ((lines : List Line) → overflows lines cpu.number act ≡ nat_lt most_volume (volume
+      (spent_on_event thing) cpu.number lines + size))
       → result ≡ (if nat_lt most_volume (volume_at judge.events cpu.number thing + size) then Err Overflow else Ok tt)
       → new ≡ (if nat_lt most_volume (volume_at judge.events cpu.number thing + size) then judge.events
       else with_volume judge.events cpu.number thing (volume_at judge.events cpu.number thing + size))
       → Decides (Lane (Cpu cpu) act) judge (record judge { events = new }) result
   Decides-events adds others nothing_counters nothing_pcpu known passes answer table = record {
     by = λ header lines is is_line stands.
-        let here = volume_at-is header.layout.cpus (8) (λ c k. volume (spent_on_event k) c lines) judge.events cpu.number thing
+        let here = volume_at-is header.layout.cpus (8) (λ c k. volume
+        (spent_on_event k) c lines) judge.events cpu.number thing
         stands.events is_line.0 (known header is_line.1) in
         judged_by (nat_lt most_volume (volume_at judge.events cpu.number thing + size)) header lines cpu act
         (λ (t : VolumeTable). record judge { events = t }) judge.events
@@ -104,10 +116,13 @@ module _ (judge : LineJudge) (cpu : CpuId) (act : Act) (thing size : ℕ) (new :
         (is_online_here header lines stands is_line.0) answer table stands
         (λ within. record {
           cpus = TellsCpus-still lines (Lane (Cpu cpu) act) header.layout.cpus judge.cpus still stands.cpus;
-          counters = TellsVolumes-still _ _ spent_on_counter lines (Lane (Cpu cpu) act) judge.counters (λ c k. by_cpu-nothing (spent_on_counter k) c cpu act (nothing_counters k)) stands.counters;
-          events = TellsVolumes-spent spent_on_event cpu act thing size adds others _ _ lines judge.events is_line.0 (known header is_line.1)
+          counters = TellsVolumes-still _ _ spent_on_counter lines (Lane (Cpu cpu) act) judge.counters
+              (λ c k. by_cpu-nothing (spent_on_counter k) c cpu act (nothing_counters k)) stands.counters;
+          events = TellsVolumes-spent spent_on_event cpu act thing size adds others _ _ lines judge.events
+              is_line.0 (known header is_line.1)
               (ltb-false most_volume (volume_at judge.events cpu.number thing + size) within) stands.events;
-          pcpu = TellsVolumes-still _ _ spent_on_pcpu lines (Lane (Cpu cpu) act) judge.pcpu (λ c j. by_cpu-nothing (spent_on_pcpu j) c cpu act (nothing_pcpu j)) stands.pcpu;
+          pcpu = TellsVolumes-still _ _ spent_on_pcpu lines (Lane (Cpu cpu) act) judge.pcpu (λ c j. by_cpu-nothing
+              (spent_on_pcpu j) c cpu act (nothing_pcpu j)) stands.pcpu;
         });
   }
 
@@ -116,14 +131,16 @@ module _ (judge : LineJudge) (cpu : CpuId) (act : Act) (thing size : ℕ) (new :
       → ((k : ℕ) → spent_on_counter k act ≡ 0)
       → ((e : ℕ) → spent_on_event e act ≡ 0)
       → ((header : Header) → IsActOf header (Cpu cpu) act → thing < length header.counters)
-      → ((lines : List Line) → overflows lines cpu.number act ≡ nat_lt most_volume (volume (spent_on_pcpu thing) cpu.number lines + size))
+      → ((lines : List Line) → overflows lines cpu.number act ≡ nat_lt most_volume (volume
+      (spent_on_pcpu thing) cpu.number lines + size))
       → result ≡ (if nat_lt most_volume (volume_at judge.pcpu cpu.number thing + size) then Err Overflow else Ok tt)
       → new ≡ (if nat_lt most_volume (volume_at judge.pcpu cpu.number thing + size) then judge.pcpu
       else with_volume judge.pcpu cpu.number thing (volume_at judge.pcpu cpu.number thing + size))
       → Decides (Lane (Cpu cpu) act) judge (record judge { pcpu = new }) result
   Decides-pcpu adds others nothing_counters nothing_events known passes answer table = record {
     by = λ header lines is is_line stands.
-        let here = volume_at-is header.layout.cpus (length header.counters) (λ c k. volume (spent_on_pcpu k) c lines) judge.pcpu cpu.number thing
+        let here = volume_at-is header.layout.cpus (length header.counters) (λ c k. volume
+        (spent_on_pcpu k) c lines) judge.pcpu cpu.number thing
         stands.pcpu is_line.0 (known header is_line.1) in
         judged_by (nat_lt most_volume (volume_at judge.pcpu cpu.number thing + size)) header lines cpu act
         (λ (t : VolumeTable). record judge { pcpu = t }) judge.pcpu
@@ -132,9 +149,12 @@ module _ (judge : LineJudge) (cpu : CpuId) (act : Act) (thing size : ℕ) (new :
         (is_online_here header lines stands is_line.0) answer table stands
         (λ within. record {
           cpus = TellsCpus-still lines (Lane (Cpu cpu) act) header.layout.cpus judge.cpus still stands.cpus;
-          counters = TellsVolumes-still _ _ spent_on_counter lines (Lane (Cpu cpu) act) judge.counters (λ c k. by_cpu-nothing (spent_on_counter k) c cpu act (nothing_counters k)) stands.counters;
-          events = TellsVolumes-still _ _ spent_on_event lines (Lane (Cpu cpu) act) judge.events (λ c e. by_cpu-nothing (spent_on_event e) c cpu act (nothing_events e)) stands.events;
-          pcpu = TellsVolumes-spent spent_on_pcpu cpu act thing size adds others _ _ lines judge.pcpu is_line.0 (known header is_line.1)
+          counters = TellsVolumes-still _ _ spent_on_counter lines (Lane (Cpu cpu) act) judge.counters
+              (λ c k. by_cpu-nothing (spent_on_counter k) c cpu act (nothing_counters k)) stands.counters;
+          events = TellsVolumes-still _ _ spent_on_event lines (Lane (Cpu cpu) act) judge.events
+              (λ c e. by_cpu-nothing (spent_on_event e) c cpu act (nothing_events e)) stands.events;
+          pcpu = TellsVolumes-spent spent_on_pcpu cpu act thing size adds others _ _ lines judge.pcpu is_line.0
+              (known header is_line.1)
               (ltb-false most_volume (volume_at judge.pcpu cpu.number thing + size) within) stands.pcpu;
         });
   }
@@ -178,7 +198,8 @@ module _ (judge : LineJudge) (cpu : CpuId) (online : get_or judge.cpus.states cp
   Decides-quiet act none = Decides-kept (Lane (Cpu cpu) act) judge judge (λ lines. refl)
       (λ header lines is_line stands.
       let nothing = quiet header cpu act none is_line.1 in
-      let up : is_online (cpu_state cpu.number lines) ≡ true = ap is_online (sym (stands.cpus.state cpu.number is_line.0) ∙ online) in
+      let up : is_online (cpu_state cpu.number lines) ≡ true = ap is_online (sym
+      (stands.cpus.state cpu.number is_line.0) ∙ online) in
       let fits = nothing.affordable lines cpu.number in (
         rw (up, fits) refl,
         Stands-still header lines (Lane (Cpu cpu) act) judge (nothing.still cpu) (record {
@@ -189,8 +210,10 @@ module _ (judge : LineJudge) (cpu : CpuId) (online : get_or judge.cpus.states cp
       ))
 
 -- an act of a CPU that isn't online is refused
-pub Decides-not_online : (judge : LineJudge) (cpu : CpuId) (act : Act) → is_online (get_or judge.cpus.states cpu.number IsOnline) ≡ false
+pub Decides-not_online : (judge : LineJudge) (cpu : CpuId) (act : Act)
+    → is_online (get_or judge.cpus.states cpu.number IsOnline) ≡ false
     → Decides (Lane (Cpu cpu) act) judge judge (Err NotOnline)
 Decides-not_online judge cpu act off = Decides-refused (Lane (Cpu cpu) act) judge NotOnline
     (λ header lines is_line stands.
-    let down : is_online (cpu_state cpu.number lines) ≡ false = ap is_online (sym (stands.cpus.state cpu.number is_line.0)) ∙ off in rw down refl)
+    let down : is_online (cpu_state cpu.number lines) ≡ false = ap is_online (sym
+    (stands.cpus.state cpu.number is_line.0)) ∙ off in rw down refl)

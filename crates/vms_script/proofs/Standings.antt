@@ -24,7 +24,8 @@ use Rattle.vms_script.proofs.VolumeSums.{TellsVolumes-still}
 module _ (header : Header) (is : IsHeader header) where
   pub counters_few : header.layout.cpus * counter_count header.layout < 2 ^ 32
   counters_few =
-      let most = mul-le-mul is.is_layout.cpus_most (counter_count-most header.layout is.is_layout) in omega (arith, most)
+      let most = mul-le-mul is.is_layout.cpus_most (counter_count-most header.layout is.is_layout) in omega
+      (arith, most)
 
   pub events_few : header.layout.cpus * 8 < 2 ^ 32
   events_few = omega (arith, is.is_layout.cpus_most)
@@ -37,14 +38,17 @@ online_below-first : (n : ℕ) → online_below n [] ≡ n
 online_below-first zero = refl
 online_below-first (suc n) = ap suc (online_below-first n)
 
-pub TellsCpus-first : (cpus : ℕ) (states : CpuStates) → states ≡ record { states = replicate cpus IsOnline; online = cpus } → TellsCpus cpus [] states
+pub TellsCpus-first : (cpus : ℕ) (states : CpuStates)
+    → states ≡ record { states = replicate cpus IsOnline; online = cpus } → TellsCpus cpus [] states
 TellsCpus-first cpus states is = record {
   each = ap (λ (s : CpuStates). length s.states) is ∙ length-replicate cpus IsOnline;
-  state = λ c below. ap (λ (s : CpuStates). get_or s.states c IsOnline) is ∙ get_or-replicate cpus c IsOnline IsOnline below;
+  state = λ c below. ap (λ (s : CpuStates). get_or s.states c IsOnline) is ∙ get_or-replicate cpus c IsOnline
+      IsOnline below;
   online = ap (λ (s : CpuStates). s.online) is ∙ sym (online_below-first cpus);
 }
 
-pub TellsVolumes-first : (cpus width : ℕ) (measure : ℕ → Act → ℕ) (table : VolumeTable) → table ≡ record { width = width; sums = replicate (cpus * width) 0 }
+pub TellsVolumes-first : (cpus width : ℕ) (measure : ℕ → Act → ℕ) (table : VolumeTable)
+    → table ≡ record { width = width; sums = replicate (cpus * width) 0 }
     → TellsVolumes cpus width (λ c k. volume (measure k) c []) table
 TellsVolumes-first cpus width measure table is = record {
   same_width = ap (λ (t : VolumeTable). t.width) is;

@@ -21,12 +21,14 @@ if_other : (a b x y : ℕ) → (a ≡ b → ⊥) → (if nat_eq a b then x else 
 if_other a b x y other = grind (arith, nat_tests)
 
 -- what a table that tells the volumes has at a CPU and a thing
-pub volume_at-is : (cpus width : ℕ) (spent : ℕ → ℕ → ℕ) (table : VolumeTable) (c thing : ℕ) → TellsVolumes cpus width spent table → c < cpus → thing < width
+pub volume_at-is : (cpus width : ℕ) (spent : ℕ → ℕ → ℕ) (table : VolumeTable) (c thing : ℕ)
+    → TellsVolumes cpus width spent table → c < cpus → thing < width
     → volume_at table c thing ≡ spent c thing
 volume_at-is cpus width spent table c thing tells below within =
     ap (λ w. get_or table.sums (cell w c thing) 0) tells.same_width ∙ tells.is c thing below within
 
-pub HasCell-of : (cpus width : ℕ) (spent : ℕ → ℕ → ℕ) (table : VolumeTable) (c thing : ℕ) → TellsVolumes cpus width spent table → c < cpus → thing < width
+pub HasCell-of : (cpus width : ℕ) (spent : ℕ → ℕ → ℕ) (table : VolumeTable) (c thing : ℕ)
+    → TellsVolumes cpus width spent table → c < cpus → thing < width
     → cpus * width < 2 ^ 32 → HasCell table c thing
 HasCell-of cpus width spent table c thing tells below within few = record {
   within = subst (λ w. cell w c thing < length table.sums) (sym tells.same_width)
@@ -36,7 +38,8 @@ HasCell-of cpus width spent table c thing tells below within few = record {
 }
 
 -- the volumes behind a line that adds to none
-pub TellsVolumes-still : (cpus width : ℕ) (measure : ℕ → Act → ℕ) (lines : List Line) (line : Line) (table : VolumeTable)
+pub TellsVolumes-still : (cpus width : ℕ) (measure : ℕ → Act
+    → ℕ) (lines : List Line) (line : Line) (table : VolumeTable)
     → ((c k : ℕ) → by_cpu c (measure k) line ≡ 0)
     → TellsVolumes cpus width (λ c k. volume (measure k) c lines) table
     → TellsVolumes cpus width (λ c k. volume (measure k) c (line ∷ lines)) table
@@ -64,9 +67,11 @@ module _ (measure : ℕ → Act → ℕ) (cpu : CpuId) (act : Act) (thing size :
   by_cpu-apart c k other = if_other cpu.number c (measure k act) 0 (λ e. other (sym e))
 
   -- the list with one volume more says what the volumes are past the act
-  spent_is : (cpus width : ℕ) (lines : List Line) (sums : List ℕ) (c k : ℕ) → cell width cpu.number thing < length sums → thing < width → k < width
+  spent_is : (cpus width : ℕ) (lines : List Line) (sums : List ℕ) (c k : ℕ)
+      → cell width cpu.number thing < length sums → thing < width → k < width
       → get_or sums (cell width c k) 0 ≡ volume (measure k) c lines
-      → get_or (set sums (cell width cpu.number thing) (get_or sums (cell width cpu.number thing) 0 + size)) (cell width c k) 0
+      → get_or (set sums (cell width cpu.number thing) (get_or sums (cell width cpu.number thing) 0 + size))
+      (cell width c k) 0
       ≡ by_cpu c (measure k) (Lane (Cpu cpu) act) + volume (measure k) c lines
   spent_is cpus width lines sums c k in_sums within k_within before = elim (cases_eq k thing) [
     | inl is ↦ elim (cases_eq c cpu.number) [
@@ -108,7 +113,8 @@ module _ (measure : ℕ → Act → ℕ) (cpu : CpuId) (act : Act) (thing size :
     | inl is ↦ elim (cases_eq c cpu.number) [
       | inl same ↦
           subst (λ d. by_cpu d (measure k) (Lane (Cpu cpu) act) + volume (measure k) d lines ≤ most_volume) (sym same)
-          (subst (λ j. by_cpu cpu.number (measure j) (Lane (Cpu cpu) act) + volume (measure j) cpu.number lines ≤ most_volume) (sym is)
+          (subst (λ j. by_cpu cpu.number (measure j) (Lane (Cpu cpu) act) + volume
+          (measure j) cpu.number lines ≤ most_volume) (sym is)
           (omega (arith, by_cpu-here, affordable)))
       | inr apart ↦ omega (arith, by_cpu-apart c k apart, before)
     ]
@@ -123,19 +129,28 @@ module _ (measure : ℕ → Act → ℕ) (cpu : CpuId) (act : Act) (thing size :
       (with_volume table cpu.number thing (volume_at table cpu.number thing + size))
   TellsVolumes-spent cpus width lines table below within affordable tells = record {
     same_width = tells.same_width;
-    each = length-set table.sums (cell table.width cpu.number thing) (volume_at table cpu.number thing + size) ∙ tells.each;
+    each = length-set table.sums (cell table.width cpu.number thing)
+        (volume_at table cpu.number thing + size) ∙ tells.each;
     is = λ c k c_below k_within.
-        subst (λ w. get_or (set table.sums (cell w cpu.number thing) (get_or table.sums (cell w cpu.number thing) 0 + size)) (cell width c k) 0
+        subst (λ w. get_or (set table.sums (cell w cpu.number thing) (get_or table.sums
+        (cell w cpu.number thing) 0 + size)) (cell width c k) 0
         ≡ by_cpu c (measure k) (Lane (Cpu cpu) act) + volume (measure k) c lines) (sym tells.same_width)
-        (spent_is cpus width lines table.sums c k (omega (arith, cell-lt width cpus cpu.number thing below within, tells.each))
+        (spent_is cpus width lines table.sums c k (omega
+        (arith, cell-lt width cpus cpu.number thing below within, tells.each))
         within k_within (tells.is c k c_below k_within));
     most = λ c k c_below k_within. spent_most lines c k
-        (omega (arith, affordable, volume_at-is cpus width (λ d j. volume (measure j) d lines) table cpu.number thing tells below within))
+        (omega (
+          arith,
+          affordable,
+          volume_at-is cpus width (λ d j. volume
+              (measure j) d lines) table cpu.number thing tells below within,
+        ))
         (tells.most c k c_below k_within);
   }
 
 -- an act that adds nothing, whose lane it is in
-pub by_cpu-nothing : (measure : Act → ℕ) (c : ℕ) (cpu : CpuId) (act : Act) → measure act ≡ 0 → by_cpu c measure (Lane (Cpu cpu) act) ≡ 0
+pub by_cpu-nothing : (measure : Act → ℕ) (c : ℕ) (cpu : CpuId) (act : Act) → measure act ≡ 0
+    → by_cpu c measure (Lane (Cpu cpu) act) ≡ 0
 by_cpu-nothing measure c cpu act nothing = elim (cases_eq cpu.number c) [
   | inl same ↦ if_same cpu.number c (measure act) 0 same ∙ nothing
   | inr apart ↦ if_other cpu.number c (measure act) 0 apart

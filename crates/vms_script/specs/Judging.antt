@@ -1,4 +1,5 @@
--- Which lines of a body count. It is a function of the text alone: of the line and of the lines above that count, the newest first.
+-- Which lines of a body count. It is a function of the text alone: of the line and of the lines above that count,
+-- the newest first.
 use Rattle.std.specs.Prelude.{ℕ, nat_eq, if◌then◌else◌, List, [], ◌∷◌, Result, Ok, Err}
 use Rattle.vms_base.specs.declared.headers.Header.{Header}
 use Rattle.vms_base.specs.declared.kinds.CpuState.{CpuState}

@@ -13,7 +13,8 @@ use Rattle.vms_script.specs.Judging.{judged}
 use Rattle.vms_script.specs.Standing.{Stands}
 use Rattle.vms_script.specs.declared.scripters.Fed.TheVariants.{Blank as FedBlank, Kept, Boundary as FedBoundary}
 
--- what a scripter has come to: the header it was made for, the lines that count, the newest first, and the lane lines that it
+-- what a scripter has come to: the header it was made for, the lines that count, the newest first, and the lane
+-- lines that it
 -- holds, the oldest first
 pub record Script : Type 0 where
   pub header : Header
@@ -55,6 +56,8 @@ pub record SomeScripter (header : Header) (scripter : Scripter) : Type 0 where
 -- what a scripter comes to past line n of this text: a line that doesn't count, and want of memory, leave it
 abbrev pub Feeds : ℕ → List ℕ → Script → Scripter → Result Fed FeedError → Type 0
 Feeds n text script scripter (Ok fed) =
-    (line : Line) × (judged script.header script.lines text ≡ Ok line) × (fed ≡ fed_of line) × Holds (with_line n line script) scripter
-Feeds n text script scripter (Err (Refused cause)) = (judged script.header script.lines text ≡ Err cause) × Holds script scripter
+    (line : Line) × (judged script.header script.lines text ≡ Ok line) × (fed ≡ fed_of line) × Holds
+    (with_line n line script) scripter
+Feeds n text script scripter (Err (Refused cause)) =
+    (judged script.header script.lines text ≡ Err cause) × Holds script scripter
 Feeds n text script scripter (Err Memory) = Holds script scripter

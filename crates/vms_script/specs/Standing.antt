@@ -44,9 +44,11 @@ pub record TellsVolumes (cpus width : ℕ) (spent : ℕ → ℕ → ℕ) (table 
 -- a judge behind these lines that count, the newest first, of a body with this header
 pub record Stands (header : Header) (lines : List Line) (judge : LineJudge) : Type 0 where
   pub cpus : TellsCpus header.layout.cpus lines judge.cpus
-  pub counters : TellsVolumes header.layout.cpus (counter_count header.layout) (λ c k. volume (spent_on_counter k) c lines) judge.counters
+  pub counters : TellsVolumes header.layout.cpus (counter_count header.layout) (λ c k. volume
+      (spent_on_counter k) c lines) judge.counters
   pub events : TellsVolumes header.layout.cpus 8 (λ c e. volume (spent_on_event e) c lines) judge.events
-  pub pcpu : TellsVolumes header.layout.cpus (length header.counters) (λ c j. volume (spent_on_pcpu j) c lines) judge.pcpu
+  pub pcpu : TellsVolumes header.layout.cpus (length header.counters) (λ c j. volume
+      (spent_on_pcpu j) c lines) judge.pcpu
 
 -- what is answered to a line that was read, by what its judge says
 abbrev pub answered : Line → Result (Unit {0}) LineCause → Result Line LineCause
@@ -61,7 +63,8 @@ pub record Knows (judge : LineJudge) (line : Line) : Type 0 where
   pub is_line : IsLineOf header line
   pub stands : Stands header lines judge
 
--- a judge decides a line that was read, behind whatever lines it stands, and then stands behind that line too if it counts
+-- a judge decides a line that was read, behind whatever lines it stands, and then stands behind that line too if it
+-- counts
 pub record Decides (line : Line) (judge judge' : LineJudge) (result : Result (Unit {0}) LineCause) : Type 0 where
   pub by : (header : Header) (lines : List Line) → IsHeader header → IsLineOf header line → Stands header lines judge →
       (answered line result ≡ allowed header lines line) × Stands header (counted (answered line result) lines) judge'

@@ -45,7 +45,8 @@ overflows lines c (Mod counter pages) =
 overflows lines c (Inc counter) = nat_lt most_volume (volume (spent_on_counter counter.number) c lines + 1)
 overflows lines c (Dec counter) = nat_lt most_volume (volume (spent_on_counter counter.number) c lines + 1)
 overflows lines c (Ev event n) = nat_lt most_volume (volume (spent_on_event event.number) c lines + n)
-overflows lines c (Cnt counter amount) = nat_lt most_volume (volume (spent_on_pcpu counter.number) c lines + unsigned_abs amount)
+overflows lines c (Cnt counter amount) = nat_lt most_volume (volume
+    (spent_on_pcpu counter.number) c lines + unsigned_abs amount)
 overflows lines c (Lim counter limit amount) =
     nat_lt most_volume (volume (spent_on_pcpu counter.number) c lines + unsigned_abs amount)
 overflows lines c _ = false

@@ -4,6 +4,8 @@
 mod cpus;
 mod judges;
 mod scripters;
+#[cfg(test)]
+mod tests;
 mod volumes;
 
 pub use judges::LineJudge;

@@ -64,11 +64,7 @@ impl Scripter {
         })
     }
 
-    /// Takes in a line of the body, which has this number in the text.
-    ///
-    /// # Errors
-    ///
-    /// [`FeedError::Refused`] where the line doesn't count.
+    /// Takes in a line of the body, which has this number in the text. It is refused where it doesn't count.
     pub fn feed(&mut self, header: &Header, number: u32, line: &[u8]) -> Result<Fed, FeedError>
         requires header { IsHeader header.now }
         requires scripter { SomeScripter header.now self.old }

@@ -33,7 +33,8 @@ impl VolumeTable {
     #[inline]
     pub(crate) fn spend(&mut self, cpu: CpuId, thing: u32, size: u64) -> Result<(), LineCause>
         requires { HasCell self.old cpu.number thing }
-        ensures result { result ≡ if nat_lt most_volume (volume_at self.old cpu.number thing + size) then Err Overflow else Ok tt }
+        ensures result { result ≡ if nat_lt most_volume (volume_at self.old cpu.number thing + size)
+            then Err Overflow else Ok tt }
         ensures table { self.new ≡ if nat_lt most_volume (volume_at self.old cpu.number thing + size) then self.old
             else with_volume self.old cpu.number thing (volume_at self.old cpu.number thing + size) }
     {

@@ -1,19 +1,22 @@
 -- What the parts of a command come to.
-use Rattle.std.proofs.Common.{◌≡◌, ℕ, inl, inr, Bool, true, List, [], ◌++◌, take, drop, take-append-drop, Option, Ok, Err, Result, refl, sym, ap, subst, ◌∙◌, append-nil}
+use Rattle.std.proofs.Common.{◌≡◌, ℕ, inl, inr, Bool, true, List, [], ◌++◌, take, drop, take-append-drop, Option, None, Ok, Err, Result, refl, sym, ap, subst, ◌∙◌, append-nil}
 use Rattle.std.specs.Io.KnownBytes.{Appends, Consumes, IsAtEnd}
 use Rattle.vms_base.specs.declared.headers.Header.{Header}
 use Rattle.vms_tool.proofs.CourseTurns.{Appends-none, Consumes-none, Consumes-both}
 use Rattle.vms_tool.proofs.OpeningSteps.{begins_nothing}
 use Rattle.vms_tool.proofs.Runnings.{cut_of}
 use Rattle.vms_tool.specs.declared.courses.Course.{Course}
-use Rattle.vms_tool.specs.declared.statuses.Status.{Status}
-use Rattle.vms_tool.specs.declared.statuses.Status.TheVariants as statuses
+use Rattle.vms_stream.specs.declared.statuses.Status.{Status}
+use Rattle.vms_stream.specs.declared.statuses.Status.TheVariants as statuses
 use Rattle.vms_tool.specs.declared.stops.Stop.{Stop}
 use Rattle.vms_tool.specs.declared.stops.Stop.TheVariants.{ReadFault, WriteFault, Memory, TooLong}
-use Rattle.vms_tool.specs.Answers.{Answers, BeginsOutput, IsReplay, Says, SaysUnder}
+use Rattle.vms_stream.specs.Answers.{Answers}
+use Rattle.vms_tool.specs.Answers.{BeginsOutput, Says, SaysOf, SaysUnder}
 use Rattle.vms_tool.specs.Commands.{AnswersFrom, RefusedAs, RefusesHeader, ShownAs, ShowsUsage}
 use Rattle.vms_tool.specs.Courses.{Finishes, taken_by}
+use Rattle.vms_tool.specs.Naming.{command_of}
 use Rattle.vms_tool.specs.Openings.{IsRefused}
+use Rattle.vms_tool.specs.declared.naming.Command.{Command}
 use Rattle.vms_tool.specs.Output.{header_line, output, output_under, usage_line}
 use Rattle.vms_tool.specs.Running.{Stops}
 use Rattle.vms_first.specs.Head.{Fault, read_header}
@@ -135,10 +138,22 @@ shows_unwritten held held' n appends = record {
   outcome = (drop n usage_line, sym (take-append-drop n usage_line));
 }
 
+-- what a command answers is what its words say
+pub answers_as : (left left' held held' : Option (List ℕ)) (words : List (List ℕ)) (named : Option Command) (status : Status)
+    → command_of words ≡ named → Answers left left' held held' status (SaysOf named)
+    → Answers left left' held held' status (SaysUnder words)
+answers_as left left' held held' words named status is answers = record {
+  taken = answers.taken;
+  written = answers.written;
+  consumes = answers.consumes;
+  appends = answers.appends;
+  answer = subst (λ (n : Option Command). SaysOf n status answers.taken answers.written (IsAtEnd left')) (sym is) answers.answer;
+}
+
 -- words that name no command
-pub answers_usage : (left held held' : Option (List ℕ)) (words : List (List ℕ)) (status : Status) → ¬ IsReplay words → ShowsUsage held held' status
-    → Answers left left held held' status (SaysUnder words)
-answers_usage left held held' words status isnt shows = record {
+pub answers_usage : (left held held' : Option (List ℕ)) (status : Status) → ShowsUsage held held' status
+    → Answers left left held held' status (SaysOf None)
+answers_usage left held held' status shows = record {
   taken = [];
   written = shows.written;
   consumes = Consumes-none left;
@@ -146,12 +161,13 @@ answers_usage left held held' words status isnt shows = record {
   answer = of_status status shows.outcome;
 }
   where
-    of_status : (s : Status) → ShownAs s shows.written → SaysUnder words s [] shows.written (IsAtEnd left)
-    of_status statuses.Words is = (isnt, refl, is)
-    of_status statuses.WriteFault is = inr (isnt, refl, is)
+    of_status : (s : Status) → ShownAs s shows.written → SaysOf None s [] shows.written (IsAtEnd left)
+    of_status statuses.Words is = (refl, is)
+    of_status statuses.WriteFault is = (refl, is)
     of_status statuses.Done is = absurd is
     of_status statuses.Header is = absurd is
     of_status statuses.Refused is = absurd is
     of_status statuses.ReadFault is = absurd is
     of_status statuses.Memory is = absurd is
     of_status statuses.TooLong is = absurd is
+    of_status statuses.NotBuilt is = absurd is

@@ -7,7 +7,7 @@ use Rattle.vms_tool.proofs.Runnings.{header-within, length-lines_of}
 use Rattle.vms_tool.specs.declared.courses.Course.{Course}
 use Rattle.vms_tool.specs.declared.judging.Replay.{Replay}
 use Rattle.vms_tool.specs.declared.openings.AcceptedHeader.{AcceptedHeader}
-use Rattle.vms_tool.specs.Answers.{most_bytes}
+use Rattle.vms_stream.specs.Answers.{most_bytes}
 use Rattle.vms_tool.specs.Courses.{IsCourse, taken_by}
 use Rattle.vms_tool.specs.Openings.{IsAccepted}
 use Rattle.vms_tool.specs.Progress.{Progress, progress_at, past_lines, printed_past}

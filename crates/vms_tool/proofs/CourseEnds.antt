@@ -7,11 +7,12 @@ use Rattle.vms_tool.proofs.CourseTurns.{Appends-none, Appends-both}
 use Rattle.vms_tool.proofs.Runnings.{begins, cut_of, lines_of-taken, Replays-done}
 use Rattle.vms_tool.specs.declared.courses.Course.{Course}
 use Rattle.vms_tool.specs.declared.judging.Replay.{Replay}
-use Rattle.vms_tool.specs.declared.statuses.Status.{Status}
-use Rattle.vms_tool.specs.declared.statuses.Status.TheVariants as statuses
+use Rattle.vms_stream.specs.declared.statuses.Status.{Status}
+use Rattle.vms_stream.specs.declared.statuses.Status.TheVariants as statuses
 use Rattle.vms_tool.specs.declared.stops.Stop.{Stop}
 use Rattle.vms_tool.specs.declared.stops.Stop.TheVariants.{WriteFault, Memory}
-use Rattle.vms_tool.specs.Answers.{most_bytes, BeginsOutput, Replays, Says}
+use Rattle.vms_stream.specs.Answers.{most_bytes}
+use Rattle.vms_tool.specs.Answers.{BeginsOutput, Replays, Says}
 use Rattle.vms_tool.specs.Courses.{IsCourse, Ends, Finishes, Goes, taken_by}
 use Rattle.vms_tool.specs.Output.{output, done_line}
 use Rattle.vms_tool.specs.Progress.{past_phase}

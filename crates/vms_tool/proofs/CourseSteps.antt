@@ -9,7 +9,8 @@ use Rattle.vms_tool.specs.declared.courses.Course.{Course}
 use Rattle.vms_tool.specs.declared.judging.Replay.{Replay}
 use Rattle.vms_tool.specs.declared.stops.Stop.{Stop}
 use Rattle.vms_tool.specs.declared.stops.Stop.TheVariants.{WriteFault, Memory, TooLong}
-use Rattle.vms_tool.specs.Answers.{most_bytes, BeginsOutput}
+use Rattle.vms_stream.specs.Answers.{most_bytes}
+use Rattle.vms_tool.specs.Answers.{BeginsOutput}
 use Rattle.vms_tool.specs.Courses.{IsCourse, HasRead, Writes, Reads, Comes, taken_by}
 use Rattle.std.proofs.lemmas.Bool.Decides.{nat_tests}
 use Rattle.vms_tool.specs.Progress.{printed_past}

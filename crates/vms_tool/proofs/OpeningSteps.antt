@@ -11,7 +11,8 @@ use Rattle.vms_tool.specs.declared.openings.Opening.TheVariants.{Accepted, Refus
 use Rattle.vms_tool.specs.declared.openings.Turn.{Turn}
 use Rattle.vms_tool.specs.declared.stops.Stop.{Stop}
 use Rattle.vms_tool.specs.declared.stops.Stop.TheVariants.{Memory, TooLong}
-use Rattle.vms_tool.specs.Answers.{most_bytes, BeginsOutput, Cuts, NotRefused, RefusesAt}
+use Rattle.vms_stream.specs.Answers.{most_bytes}
+use Rattle.vms_tool.specs.Answers.{BeginsOutput, Cuts, NotRefused, RefusesAt}
 use Rattle.vms_tool.specs.Openings.{Decides, is_refusal, IsBeyond, IsTurn, IsWithin, Opens, Turns}
 use Rattle.vms_tool.specs.Running.{EndsLine, IsReadStop, Stops}
 use Rattle.vms_first.specs.Head.{Fault, read_header}

@@ -9,7 +9,8 @@ use Rattle.vms_base.specs.declared.headers.Header.{Header}
 use Rattle.vms_core.specs.declared.states.State.{State}
 use Rattle.vms_tool.proofs.PastLines.{past_lines-append, printed_past-append, printed_past-from, past_lines-above, past_lines-phases, past_lines-number}
 use Rattle.vms_tool.specs.declared.judging.Replay.{Replay}
-use Rattle.vms_tool.specs.Answers.{most_bytes, Cuts, BeginsOutput, NotRefused, Replays, refused_under}
+use Rattle.vms_stream.specs.Answers.{most_bytes}
+use Rattle.vms_tool.specs.Answers.{Cuts, BeginsOutput, NotRefused, Replays, refused_under}
 use Rattle.vms_tool.specs.declared.items.Item.{Item}
 use Rattle.vms_tool.specs.FileOrder.{HasHistory, Leads}
 use Rattle.vms_tool.specs.Judging.{Above, come_to, nothing_above}

@@ -1,19 +1,18 @@
 -- What each status says of the bytes that were taken and of those that were written.
-use Rattle.std.specs.Prelude.{◌≡◌, ℕ, suc, ◌^◌, ◌<◌, ◌≤◌, ◌⊎◌, List, [], ◌∷◌, ◌++◌, length, drop, Contains, codes, Option, Result, Ok, Err}
-use Rattle.std.specs.Io.KnownBytes.{Appends, Consumes, IsAtEnd}
+use Rattle.std.specs.Prelude.{◌≡◌, ℕ, suc, ◌<◌, ◌≤◌, ◌⊎◌, List, [], ◌∷◌, ◌++◌, length, drop, Contains, Option, Some, None, Result, Ok, Err}
 use Rattle.vms_base.specs.declared.headers.Header.{Header}
-use Rattle.vms_io.specs.Faults.{Rose}
-use Rattle.vms_tool.specs.declared.statuses.Status.{Status}
-use Rattle.vms_tool.specs.declared.statuses.Status.TheVariants.{Done, Words, Header as HeaderStatus, Refused, ReadFault, WriteFault, Memory, TooLong}
+use Rattle.vms_check.specs.Checking.{check}
+use Rattle.vms_stream.specs.declared.statuses.Status.{Status}
+use Rattle.vms_stream.specs.declared.statuses.Status.TheVariants.{Done, Words, Header as HeaderStatus, Refused, ReadFault, WriteFault, Memory, TooLong, NotBuilt}
+use Rattle.vms_stream.specs.Answers.{most_bytes, Says as CheckSays}
 use Rattle.vms_tool.specs.FileOrder.{HasFileOrder}
 use Rattle.vms_tool.specs.Judging.{nothing_above, come_to}
+use Rattle.vms_tool.specs.Naming.{command_of}
 use Rattle.vms_tool.specs.Output.{output, header_line, usage_line}
+use Rattle.vms_tool.specs.declared.naming.Command.{Command}
+use Rattle.vms_tool.specs.declared.naming.Command.TheVariants.{Check, Replay}
 use Rattle.vms_first.specs.Head.{Fault, read_header}
 use Rattle.vms_first.specs.Text.{lines_of}
-
--- the most bytes of an input
-abbrev pub most_bytes : ℕ
-most_bytes = 2 ^ 26
 
 -- how many lines of a text are refused behind its header
 abbrev pub refused_under : Result (Header × ℕ) Fault → List (List ℕ) → ℕ
@@ -87,34 +86,16 @@ Says Refused taken written at_end = (n : ℕ) × Replays (suc n) taken written a
 Says ReadFault taken written at_end = (length taken ≤ most_bytes) × NotRefused taken × BeginsOutput taken written
 Says WriteFault taken written at_end = KeepsLimit taken × BeginsOutput taken written
 Says Memory taken written at_end = BeginsOutput taken written
+Says NotBuilt taken written at_end = ⊥
 Says TooLong taken written at_end = (most_bytes < length taken) × NotRefused taken × BeginsOutput taken written
 
--- a command took these bytes from its source and wrote these to its sink, and its status says what they are
-pub record Answers (left left' held held' : Option (List ℕ)) (status : Status) (says : Status → List ℕ → List ℕ → Type 0 → Type 0) : Type 0 where
-  pub taken : List ℕ
-  pub written : List ℕ
-  pub consumes : Consumes left left' taken
-  pub appends : Appends held held' written
-  pub answer : says status taken written (IsAtEnd left')
+-- what each status says of a command; with words that name none nothing is read, and the usage line is written
+abbrev pub SaysOf : Option Command → Status → List ℕ → List ℕ → Type 0 → Type 0
+SaysOf (Some Check) status taken written at_end = CheckSays check status taken written at_end
+SaysOf (Some Replay) status taken written at_end = Says status taken written at_end
+SaysOf None Words taken written at_end = (taken ≡ []) × (written ≡ usage_line)
+SaysOf None WriteFault taken written at_end = (taken ≡ []) × ((unwritten : List ℕ) × (usage_line ≡ written ++ unwritten))
+SaysOf None _ taken written at_end = ⊥
 
--- the words are the one word of the command that is built
-abbrev pub IsReplay : List (List ℕ) → Type 0
-IsReplay words = words ≡ codes "replay" ∷ []
-
--- what each status says of a command with words: with words that name no command nothing is read, and the usage line is
--- written
 abbrev pub SaysUnder : List (List ℕ) → Status → List ℕ → List ℕ → Type 0 → Type 0
-SaysUnder words Words taken written at_end = ¬ IsReplay words × (taken ≡ []) × (written ≡ usage_line)
-SaysUnder words WriteFault taken written at_end =
-    (IsReplay words × KeepsLimit taken × BeginsOutput taken written)
-    ⊎ (¬ IsReplay words × (taken ≡ []) × ((unwritten : List ℕ) × (usage_line ≡ written ++ unwritten)))
-SaysUnder words status taken written at_end = IsReplay words × Says status taken written at_end
-
--- the counts of faults: that of the source rises only with a failed read, that of the sink only with a failed write
-abbrev pub FaultsOfSource : Status → ℕ → ℕ → Type 0
-FaultsOfSource ReadFault before now = Rose before now
-FaultsOfSource _ before now = now ≡ before
-
-abbrev pub FaultsOfSink : Status → ℕ → ℕ → Type 0
-FaultsOfSink WriteFault before now = Rose before now
-FaultsOfSink _ before now = now ≡ before
+SaysUnder words status taken written at_end = SaysOf (command_of words) status taken written at_end

@@ -4,8 +4,8 @@ use Rattle.std.specs.Io.KnownBytes.{Appends, Consumes, IsAtEnd}
 use Rattle.vms_tool.specs.Answers.{Says}
 use Rattle.vms_tool.specs.Output.{header_line, usage_line}
 use Rattle.vms_tool.specs.Running.{Stops}
-use Rattle.vms_tool.specs.declared.statuses.Status.{Status}
-use Rattle.vms_tool.specs.declared.statuses.Status.TheVariants.{Words, Header, ReadFault, WriteFault}
+use Rattle.vms_stream.specs.declared.statuses.Status.{Status}
+use Rattle.vms_stream.specs.declared.statuses.Status.TheVariants.{Words, Header, ReadFault, WriteFault}
 use Rattle.vms_tool.specs.declared.stops.Stop.{Stop}
 use Rattle.vms_tool.specs.declared.stops.Stop.TheVariants as stops
 use Rattle.vms_first.specs.Head.{Fault}

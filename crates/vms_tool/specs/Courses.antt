@@ -3,10 +3,11 @@ use Rattle.std.specs.Prelude.{◌≡◌, ℕ, ◌≤◌, ◌<◌, true, false, L
 use Rattle.std.specs.Io.KnownBytes.{Appends, Consumes, IsAtEnd}
 use Rattle.vms_base.specs.declared.headers.Header.{Header}
 use Rattle.vms_core.specs.declared.states.State.{State}
-use Rattle.vms_tool.specs.Answers.{most_bytes, Says}
+use Rattle.vms_stream.specs.Answers.{most_bytes}
+use Rattle.vms_tool.specs.Answers.{Says}
 use Rattle.vms_tool.specs.Running.{EndsLine, Runs, Stops}
 use Rattle.vms_tool.specs.declared.courses.Course.{Course}
-use Rattle.vms_tool.specs.declared.statuses.Status.{Status}
+use Rattle.vms_stream.specs.declared.statuses.Status.{Status}
 use Rattle.vms_tool.specs.declared.stops.Stop.{Stop}
 
 -- what was taken so far: the bytes that were fed and those that are held

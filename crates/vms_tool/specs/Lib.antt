@@ -7,6 +7,7 @@ pub mod Ready
 pub mod OpenPhases
 pub mod Progress
 pub mod Standing
+pub mod Naming
 pub mod Answers
 pub mod Running
 pub mod Courses

@@ -1,7 +1,8 @@
 -- How the header of a trace is decided.
 use Rattle.std.specs.Prelude.{◌≡◌, ℕ, ◌≤◌, ◌<◌, ◌⊎◌, Bool, true, false, List, [], ◌++◌, length, Contains, Option, Some, None, Result, Ok, Err, MatchResult}
 use Rattle.std.specs.Io.KnownBytes.{Consumes, IsAtEnd}
-use Rattle.vms_tool.specs.Answers.{most_bytes, Cuts, NotRefused, RefusesAt}
+use Rattle.vms_stream.specs.Answers.{most_bytes}
+use Rattle.vms_tool.specs.Answers.{Cuts, NotRefused, RefusesAt}
 use Rattle.vms_tool.specs.Running.{EndsLine, Stops}
 use Rattle.vms_tool.specs.declared.openings.AcceptedHeader.{AcceptedHeader}
 use Rattle.vms_tool.specs.declared.openings.Opening.{Opening}

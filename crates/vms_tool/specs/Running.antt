@@ -4,10 +4,10 @@ use Rattle.vms_base.specs.declared.headers.Header.{Header}
 use Rattle.vms_core.specs.declared.states.State.{State}
 use Rattle.vms_io.specs.Faults.{Rose}
 use Rattle.vms_tool.specs.declared.judging.Replay.{Replay}
-use Rattle.vms_tool.specs.declared.statuses.Status.{Status}
+use Rattle.vms_stream.specs.declared.statuses.Status.{Status}
 use Rattle.vms_tool.specs.declared.stops.Stop.{Stop}
 use Rattle.vms_tool.specs.declared.stops.Stop.TheVariants.{ReadFault, WriteFault, Memory, TooLong}
-use Rattle.vms_tool.specs.declared.statuses.Status.TheVariants as statuses
+use Rattle.vms_stream.specs.declared.statuses.Status.TheVariants as statuses
 use Rattle.vms_tool.specs.Answers.{Says}
 use Rattle.vms_tool.specs.Progress.{Progress, progress_at, past_lines, printed_past}
 use Rattle.vms_tool.specs.Standing.{Stands}

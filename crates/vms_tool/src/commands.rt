@@ -1,14 +1,16 @@
 ghost use Rattle.std.specs.Prelude.{◌≡◌, ◌↔◌, IfErr, IfOk, IsTrue, map, string_bytes};
-ghost use Rattle.vms_tool.specs.Answers.{Answers, FaultsOfSink, FaultsOfSource, IsReplay, Says, SaysUnder};
+ghost use Rattle.vms_stream.specs.Answers.{Answers, FaultsOfSink, FaultsOfSource};
+ghost use Rattle.vms_tool.specs.Answers.{Says, SaysUnder};
 ghost use Rattle.vms_tool.specs.Commands.{AnswersFrom, IsPlainStatus, RefusesHeader, ShowsUsage};
 ghost use Rattle.vms_tool.specs.Output.{header_cause, header_line};
 ghost use Rattle.vms_calc.specs.Rules.{TellsThresholds};
 ghost use Rattle.vms_tool.specs.Running.{CountsReads, CountsWrites, IsNoReadFault};
 ghost use Rattle.vms_tool.specs.Worlds.{IsNormalRule};
 
-use crate::Status;
+use crate::{Status, tool_check};
 use crate::courses::Course;
 use crate::judging::push_prefix;
+use crate::naming::{Command, named_by};
 use crate::openings::{Opening, open};
 use crate::stops::Stop;
 use std::alloc::Global;
@@ -126,20 +128,10 @@ pub fn tool<S: Source, K: Sink>(alloc: Global, words: &[String], src: &mut S, ou
     ensures reads { FaultsOfSource result (S.faults src.old) (S.faults src.new) }
     ensures writes { FaultsOfSink result (K.faults out.old) (K.faults out.new) }
 {
-    if is_replay(words) {
-        tool_replay(alloc, src, out)
-    } else {
-        show_usage(out)
-    }
-}
-
-/// Whether the words are the one word `replay`.
-fn is_replay(words: &[String]) -> bool
-    ensures { IsTrue result ↔ IsReplay (map (λ word. string_bytes word) words.now) }
-{
-    match words {
-        [word] => word.as_str() == "replay",
-        _ => false,
+    match named_by(words) {
+        Some(Command::Check) => tool_check(alloc, src, out),
+        Some(Command::Replay) => tool_replay(alloc, src, out),
+        None => show_usage(out),
     }
 }
 

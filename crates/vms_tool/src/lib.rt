@@ -5,15 +5,17 @@ mod commands;
 mod courses;
 mod items;
 mod judging;
+mod naming;
 mod openings;
 mod reports;
 mod running;
 mod starting;
-mod statuses;
 mod stops;
 #[cfg(test)]
 mod tests;
 
 pub use commands::{tool, tool_replay};
 pub use items::Item;
-pub use statuses::Status;
+pub use naming::Command;
+pub use vms_check::tool_check;
+pub use vms_stream::Status;

@@ -1,5 +1,6 @@
 ghost use Rattle.std.specs.Prelude.{◌≡◌, ◌≤◌, ◌<◌, Bool, true, false, [], length, count_by, ◌==◌, IfErr, IfOk, MatchResult, Ok};
-ghost use Rattle.vms_tool.specs.Answers.{most_bytes, NotRefused};
+ghost use Rattle.vms_stream.specs.Answers.{most_bytes};
+ghost use Rattle.vms_tool.specs.Answers.{NotRefused};
 ghost use Rattle.vms_tool.specs.Openings.{Decides, IsBeyond, IsWithin, Opens, Turns};
 ghost use Rattle.vms_tool.specs.Running.{CountsReads, EndsLine, IsNoWriteFault};
 ghost use Rattle.vms_first.specs.Text.{lines_of};

@@ -1,7 +1,7 @@
 -- The exit status of the program.
 use Rattle.std.specs.Prelude.{ℕ}
-use Rattle.vms_tool.specs.declared.statuses.Status.{Status}
-use Rattle.vms_tool.specs.declared.statuses.Status.TheVariants.{Done, Words, Header, Refused, ReadFault, WriteFault, Memory, TooLong}
+use Rattle.vms_stream.specs.declared.statuses.Status.{Status}
+use Rattle.vms_stream.specs.declared.statuses.Status.TheVariants.{Done, Words, Header, Refused, ReadFault, WriteFault, Memory, TooLong, NotBuilt}
 
 -- the exit status of a run, by how its command ended
 abbrev pub code_of : Status → ℕ
@@ -13,3 +13,4 @@ code_of ReadFault = 4
 code_of WriteFault = 5
 code_of Memory = 6
 code_of TooLong = 7
+code_of NotBuilt = 8

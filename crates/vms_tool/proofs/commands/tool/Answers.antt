@@ -1,7 +1,7 @@
-use Rattle.std.proofs.Common.{sym, true≢false, ◌∙◌}
-use Rattle.vms_tool.proofs.CommandSteps.{answers_usage}
+use Rattle.std.proofs.Common.{None, map, string_bytes, sym, ◌∙◌}
+use Rattle.vms_tool.proofs.CommandSteps.{answers_as, answers_usage}
 use Rattle.vms_tool.proofs.commands.tool.Goals as goal
 
-pub returns-else-is_replay-clause-answers : goal.returns-else-is_replay-clause-answers
-returns-else-is_replay-clause-answers g c = answers_usage _ _ _ _ c.show_usage.result
-    (λ is. absurd (true≢false (sym (c.is_replay.ensures.1 is) ∙ c.if-is_replay.false))) c.show_usage.ensures.usage
+pub returns-in-None-clause-answers : goal.returns-in-None-clause-answers
+returns-in-None-clause-answers g c = answers_as _ _ _ _ (map (λ word. string_bytes word) c.args.words.now) None c.show_usage.result
+    (sym c.named_by.ensures ∙ c.in-None.is) (answers_usage _ _ _ c.show_usage.result c.show_usage.ensures.usage)

@@ -1,6 +1,7 @@
 use Rattle.std.proofs.Common.{◌≡◌, ◌+◌, ◌-◌, ◌^◌, ◌≤◌, length}
 use Rattle.std.specs.Io.KnownBytes.{Consumes}
-use Rattle.vms_tool.specs.Answers.{most_bytes, NotRefused}
+use Rattle.vms_stream.specs.Answers.{most_bytes}
+use Rattle.vms_tool.specs.Answers.{NotRefused}
 use Rattle.vms_tool.proofs.openings.open.Given as goal
 
 abbrev pub invariant-pieces : goal.invariant-pieces

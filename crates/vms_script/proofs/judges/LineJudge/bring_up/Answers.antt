@@ -6,7 +6,12 @@ use Rattle.vms_script.proofs.judges.LineJudge.bring_up.Goals as goal
 pub set-requires-clause-few : goal.set-requires-clause-few
 set-requires-clause-few c =
     let knows = c.requires in
-    omega (arith, knows.stands.cpus.online, online_below-most knows.header.layout.cpus knows.lines, knows.is_header.is_layout.cpus_most)
+    omega (
+      arith,
+      knows.stands.cpus.online,
+      online_below-most knows.header.layout.cpus knows.lines,
+      knows.is_header.is_layout.cpus_most,
+    )
 
 pub returns-in-Online : goal.returns-in-Online
 returns-in-Online c = Decides-up_refused c.args.cpu c.args.self.now (c.get.ensures ∙ c.in-Online.is)
@@ -16,4 +21,5 @@ returns-in-Dead c = Decides-up_unfolded c.args.cpu c.args.self.now (c.get.ensure
 
 pub returns-in-Absent : goal.returns-in-Absent
 returns-in-Absent c =
-    Decides-up c.args.cpu c.args.self.now c.set.new.self (c.get.ensures ∙ c.in-Absent.is) c.set.ensures.states c.set.ensures.online
+    Decides-up c.args.cpu c.args.self.now c.set.new.self
+    (c.get.ensures ∙ c.in-Absent.is) c.set.ensures.states c.set.ensures.online

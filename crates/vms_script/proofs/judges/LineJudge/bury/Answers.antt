@@ -6,11 +6,17 @@ use Rattle.vms_script.proofs.judges.LineJudge.bury.Goals as goal
 pub set-requires-clause-few : goal.set-requires-clause-few
 set-requires-clause-few c =
     let knows = c.requires in
-    omega (arith, knows.stands.cpus.online, online_below-most knows.header.layout.cpus knows.lines, knows.is_header.is_layout.cpus_most)
+    omega (
+      arith,
+      knows.stands.cpus.online,
+      online_below-most knows.header.layout.cpus knows.lines,
+      knows.is_header.is_layout.cpus_most,
+    )
 
 pub returns-in-Dead : goal.returns-in-Dead
 returns-in-Dead c =
-    Decides-buried c.args.cpu c.args.self.now c.set.new.self (c.get.ensures ∙ c.in-Dead.is) c.set.ensures.states c.set.ensures.online
+    Decides-buried c.args.cpu c.args.self.now c.set.new.self
+    (c.get.ensures ∙ c.in-Dead.is) c.set.ensures.states c.set.ensures.online
 
 pub returns-in-Online : goal.returns-in-Online
 returns-in-Online c =

@@ -15,14 +15,18 @@ pub returns : goal.returns
 returns c = record {
   cpus = subst (λ n. TellsCpus n [] c.in_ok-make.field-0) c.cpus-cpus.ensures.value
       (TellsCpus-first c.cpus-cpus.result c.in_ok-make.field-0 c.in_ok-make.ensures);
-  counters = subst (λ n. TellsVolumes n (counter_count c.args.header.now.layout) (λ d k. volume (spent_on_counter k) d []) c.in_ok-make-2.field-0)
+  counters = subst (λ n. TellsVolumes n (counter_count c.args.header.now.layout) (λ d k. volume
+      (spent_on_counter k) d []) c.in_ok-make-2.field-0)
       c.cpus-cpus.ensures.value
       (subst (λ w. TellsVolumes c.cpus-cpus.result w (λ d k. volume (spent_on_counter k) d []) c.in_ok-make-2.field-0)
       c.counters-width.ensures.value
-      (TellsVolumes-first c.cpus-cpus.result c.counters-width.result spent_on_counter c.in_ok-make-2.field-0 c.in_ok-make-2.ensures));
-  events = subst (λ n. TellsVolumes n 8 (λ d e. volume (spent_on_event e) d []) c.in_ok-make-3.field-0) c.cpus-cpus.ensures.value
+      (TellsVolumes-first c.cpus-cpus.result c.counters-width.result spent_on_counter c.in_ok-make-2.field-0
+      c.in_ok-make-2.ensures));
+  events = subst (λ n. TellsVolumes n 8 (λ d e. volume
+      (spent_on_event e) d []) c.in_ok-make-3.field-0) c.cpus-cpus.ensures.value
       (TellsVolumes-first c.cpus-cpus.result 8 spent_on_event c.in_ok-make-3.field-0 c.in_ok-make-3.ensures);
-  pcpu = subst (λ n. TellsVolumes n (length c.args.header.now.counters) (λ d j. volume (spent_on_pcpu j) d []) c.in_ok-make-4.field-0)
+  pcpu = subst (λ n. TellsVolumes n (length c.args.header.now.counters) (λ d j. volume
+      (spent_on_pcpu j) d []) c.in_ok-make-4.field-0)
       c.cpus-cpus.ensures.value
       (subst (λ w. TellsVolumes c.cpus-cpus.result w (λ d j. volume (spent_on_pcpu j) d []) c.in_ok-make-4.field-0)
       c.len.ensures.len

@@ -10,7 +10,8 @@ returns-then-not-is_online c =
 
 pub returns-then-self-eq1 : goal.returns-then-self-eq1
 returns-then-self-eq1 c =
-    Decides-last_refused c.args.cpu c.args.self.now (sym c.is_online.ensures ∙ c.if-not-is_online.false) c.if-self-eq1.true
+    Decides-last_refused c.args.cpu c.args.self.now
+    (sym c.is_online.ensures ∙ c.if-not-is_online.false) c.if-self-eq1.true
 
 pub set-requires-clause-counted : goal.set-requires-clause-counted
 set-requires-clause-counted c =
@@ -25,9 +26,15 @@ set-requires-clause-counted c =
 pub set-requires-clause-few : goal.set-requires-clause-few
 set-requires-clause-few c =
     let knows = c.requires in
-    omega (arith, knows.stands.cpus.online, online_below-most knows.header.layout.cpus knows.lines, knows.is_header.is_layout.cpus_most)
+    omega (
+      arith,
+      knows.stands.cpus.online,
+      online_below-most knows.header.layout.cpus knows.lines,
+      knows.is_header.is_layout.cpus_most,
+    )
 
 pub returns : goal.returns
 returns c =
-    Decides-down c.args.cpu c.args.self.now c.set.new.self (sym c.is_online.ensures ∙ c.if-not-is_online.false) c.if-self-eq1.false
+    Decides-down c.args.cpu c.args.self.now c.set.new.self
+    (sym c.is_online.ensures ∙ c.if-not-is_online.false) c.if-self-eq1.false
     c.set.ensures.states c.set.ensures.online

@@ -12,10 +12,12 @@ returns-in-Ok c = λ script of holds.
     let judged_here = c.in-Ok.ensures script.lines here in
     let kept = c.reserve.ensures.items ∙ holds.items in (
       c.in-Ok.said,
-      subst (λ (header : Header). judged header script.lines c.args.line.now ≡ Ok c.in-Ok.said) (sym of) (sym judged_here.0),
+      subst (λ (header : Header). judged header script.lines c.args.line.now ≡ Ok c.in-Ok.said) (sym of)
+          (sym judged_here.0),
       c.keep.ensures.fed,
       Holds-past c.args.number c.in-Ok.said script c.args.self.now c.keep.new.self holds
-          (subst (λ (header : Header). Stands header (counted (Ok c.in-Ok.said) script.lines) c.keep.new.self.judge) (sym of)
+          (subst (λ (header : Header). Stands header (counted
+          (Ok c.in-Ok.said) script.lines) c.keep.new.self.judge) (sym of)
           (rw c.keep.ensures.judge judged_here.1))
           (c.keep.ensures.items script kept)
           (subst (λ (items : List Item). All (λ item. item.number < c.args.number) items) holds.items c.requires.number)
@@ -26,7 +28,8 @@ pub returns-in-Err : goal.returns-in-Err
 returns-in-Err c = λ script of holds.
     let here = subst (λ (header : Header). Stands header script.lines c.args.self.now.judge) of holds.stands in
     let judged_here = c.in-Err.ensures script.lines here in (
-      subst (λ (header : Header). judged header script.lines c.args.line.now ≡ Err c.in-Err.cause) (sym of) (sym judged_here.0),
+      subst (λ (header : Header). judged header script.lines c.args.line.now ≡ Err c.in-Err.cause) (sym of)
+          (sym judged_here.0),
       record {
         stands = subst (λ (header : Header). Stands header script.lines c.judge.new.self) (sym of) judged_here.1;
         items = c.reserve.ensures.items ∙ holds.items;
