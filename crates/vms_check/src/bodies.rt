@@ -15,7 +15,7 @@ pub(crate) struct BodyCheck {
 }
 
 impl BodyCheck {
-    ghost use Rattle.std.specs.Prelude.{◌≡◌, ℕ, ◌++◌, ◌+◌, ◌<◌, ◌≤◌, ◌^◌, IfOk, OnOk, nat_lt, if◌then◌else◌};
+    ghost use Rattle.std.specs.Prelude.{◌≡◌, ◌++◌, ◌+◌, ◌<◌, ◌≤◌, ◌^◌, IfOk, OnOk, nat_lt, if◌then◌else◌};
     ghost use Rattle.vms_base.specs.Headers.{IsHeader};
     ghost use Rattle.vms_base.specs.declared.headers.Header.{Header};
     ghost use Rattle.vms_trace.specs.Laws.{IsLineOf, IsWritable};

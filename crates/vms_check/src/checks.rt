@@ -28,7 +28,7 @@ pub(crate) enum Part {
 }
 
 impl Check {
-    ghost use Rattle.std.specs.Prelude.{◌≡◌, ℕ, ◌≤◌, ◌<◌, ◌+◌, ◌∷◌, [], IfOk, OnOk};
+    ghost use Rattle.std.specs.Prelude.{◌≡◌, ◌≤◌, ◌∷◌, [], IfOk, OnOk};
     ghost use Rattle.vms_check.specs.Checking.{Progress, check};
     ghost use Rattle.vms_check.specs.Checking.Progress.{Heading};
     ghost use Rattle.vms_check.specs.Limits.{most_lines};

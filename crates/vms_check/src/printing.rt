@@ -1,4 +1,5 @@
-ghost use Rattle.std.specs.Prelude.{◌≡◌, ◌++◌, ◌≤◌, OnOk, codes};
+ghost use Rattle.std.specs.Prelude.{◌≡◌, ◌++◌, OnOk, codes};
+ghost use Rattle.std.specs.Fmt.{decimal};
 ghost use Rattle.vms_check.specs.Printing.{done_line, header_cause, header_line, line_cause, line_prefix, refused_line};
 
 use itoa::Buffer;
@@ -56,8 +57,6 @@ fn write_prefix(out: &mut Vec<u8>, line: u32) -> Result<(), Memory>
     out.extend_from_slice(b": ")?;
     Ok(())
 }
-
-ghost use Rattle.std.specs.Fmt.{decimal};
 
 fn write_number(out: &mut Vec<u8>, number: u32) -> Result<(), Memory>
     ensures { OnOk result (out.new.items ≡ out.old.items ++ decimal number) }
