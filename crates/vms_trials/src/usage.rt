@@ -6,7 +6,7 @@ use vms_tool::Status;
 const WORDS: [&[&str]; 8] = [
     &[],
     &[""],
-    &["check"],
+    &["check", "x"],
     &["run"],
     &["gen", "1", "1", "1"],
     &["replay", "x"],
