@@ -4,3 +4,5 @@ pub mod Standings
 pub mod Decisions
 pub mod Spendings
 pub mod Feeding
+pub mod Sizes
+pub mod Changes

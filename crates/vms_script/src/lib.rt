@@ -6,7 +6,9 @@ mod judges;
 mod scripters;
 #[cfg(test)]
 mod tests;
+mod totals;
 mod volumes;
 
 pub use judges::LineJudge;
 pub use scripters::{Fed, FeedError, PhaseScript, Scripter};
+pub use totals::{PageTotals, plain_totals};
