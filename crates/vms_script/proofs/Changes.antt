@@ -66,20 +66,21 @@ change_by-set totals act change k some within = elim (cases_eq change.0.number k
       ∙ ap (λ n. get_or totals change.0.number (pos 0) +ℤ n) (sym by))
   | inr other ↦
       let by : change_by k act ≡ pos 0 = change_by-some k act change some ∙ grind (arith, nat_tests) in
-      get_or-set_other totals change.0.number k (get_or totals change.0.number (pos 0) +ℤ change.1) (pos 0) (λ e. other (sym e))
-      ∙ omega (arith, ints, by)
+      get_or-set_other totals change.0.number k (get_or totals change.0.number (pos 0) +ℤ change.1) (pos 0)
+      (λ e. other (sym e)) ∙ omega (arith, ints, by)
 ]
 
 -- the size of the change of the counter that it is of
 pub spent_on_counter-some : (act : Act) (change : CounterId × ℤ) → change_of act ≡ Some change
     → spent_on_counter change.0.number act ≡ unsigned_abs change.1
 spent_on_counter-some act change some =
-    let by : change_by change.0.number act ≡ change.1 = change_by-some change.0.number act change some ∙ grind (arith, nat_tests) in
+    let by : change_by change.0.number act ≡ change.1 =
+    change_by-some change.0.number act change some ∙ grind (arith, nat_tests) in
     sym (unsigned_abs-change_by change.0.number act) ∙ ap unsigned_abs by
 
 -- totals of every counter have one of the counter that an act changes
-HasTotal-of : (header : Header) (lane : Lane) (act : Act) (totals : List ℤ) → length totals ≡ counter_count header.layout
-    → IsActOf header lane act → HasTotal totals act
+HasTotal-of : (header : Header) (lane : Lane) (act : Act) (totals : List ℤ)
+    → length totals ≡ counter_count header.layout → IsActOf header lane act → HasTotal totals act
 HasTotal-of header lane (Mod counter pages) totals each known = omega (arith, known.1.0)
 HasTotal-of header lane (Inc counter) totals each known = omega (arith, known.1.0)
 HasTotal-of header lane (Dec counter) totals each known = omega (arith, known.1.0)
@@ -91,8 +92,10 @@ pub change_of-within : (totals first : List ℤ) (items : List Item) (i : ℕ) (
     → i < length items → change_of (get_or items i d).act ≡ Some change → length totals ≡ length first
     → All (λ item. HasTotal first item.act) items → change.0.number < length totals
 change_of-within totals first items i d change here some each known =
-    let has : HasTotal first (get_or items i d).act = All-get_or (λ item. HasTotal first item.act) items i d here known in
-    let within : change.0.number < length first = subst (λ found. IfSome found (λ change. change.0.number < length first)) some has in
+    let has : HasTotal first (get_or items i d).act =
+    All-get_or (λ item. HasTotal first item.act) items i d here known in
+    let within : change.0.number < length first =
+    subst (λ found. IfSome found (λ change. change.0.number < length first)) some has in
     omega arith
 
 -- totals on the way: what is left to add leads each to what is wanted of it, and its size leaves room
@@ -108,10 +111,10 @@ pub Leads-past : (count : ℕ) (wanted change left left' : ℕ → ℤ) (size si
     → ((k : ℕ) → unsigned_abs (change k) ≤ size k)
     → ((k : ℕ) → left k ≡ change k +ℤ left' k) → ((k : ℕ) → sizes k ≡ size k + sizes' k)
     → Leads count wanted left sizes totals → Leads count wanted left' sizes' totals'
-Leads-past count wanted change left left' size sizes sizes' totals totals' each changed most first firsts leads = record {
+Leads-past count wanted change left left' size sizes sizes' totals totals' each changed most next nexts leads = record {
   each = each ∙ leads.each;
-  is = λ k within. omega (arith, ints, changed k within, first k, leads.is k within);
-  room = λ k within. omega (arith, ints, changed k within, most k, firsts k, leads.room k within);
+  is = λ k within. omega (arith, ints, changed k within, next k, leads.is k within);
+  room = λ k within. omega (arith, ints, changed k within, most k, nexts k, leads.room k within);
 }
 
 -- past one item of a phase
@@ -122,8 +125,8 @@ pub Leads-item : (count : ℕ) (wanted : ℕ → ℤ) (items : List Item) (i : �
     → Leads count wanted (λ k. changes_by k (drop (i + 1) items)) (λ k. sizes_by k (drop (i + 1) items)) totals'
 Leads-item count wanted items i d totals totals' here each changed leads =
     Leads-past count wanted (λ k. change_by k (get_or items i d).act) (λ k. changes_by k (drop i items))
-    (λ k. changes_by k (drop (i + 1) items)) (λ k. spent_on_counter k (get_or items i d).act) (λ k. sizes_by k (drop i items))
-    (λ k. sizes_by k (drop (i + 1) items)) totals totals' each changed
+    (λ k. changes_by k (drop (i + 1) items)) (λ k. spent_on_counter k (get_or items i d).act)
+    (λ k. sizes_by k (drop i items)) (λ k. sizes_by k (drop (i + 1) items)) totals totals' each changed
     (λ k. omega (arith, unsigned_abs-change_by k (get_or items i d).act))
     (λ k. at_drop_more (changes_by k) items i d here) (λ k. at_drop_more (sizes_by k) items i d here) leads
 
@@ -174,7 +177,8 @@ module _ {X : Type 0} (items_of : X → List Item) where
       (λ k. sizes_by_all k (map items_of (drop (i + 1) phases))) totals'
   Leads-phase count wanted phases i d totals totals' here each changed leads =
       Leads-past count wanted (λ k. changes_by k (items_of (get_or phases i d)))
-      (λ k. changes_by_all k (map items_of (drop i phases))) (λ k. changes_by_all k (map items_of (drop (i + 1) phases)))
+      (λ k. changes_by_all k (map items_of (drop i phases)))
+      (λ k. changes_by_all k (map items_of (drop (i + 1) phases)))
       (λ k. sizes_by k (items_of (get_or phases i d))) (λ k. sizes_by_all k (map items_of (drop i phases)))
       (λ k. sizes_by_all k (map items_of (drop (i + 1) phases))) totals totals' each changed
       (λ k. unsigned_abs-changes_by k (items_of (get_or phases i d)))
@@ -186,7 +190,8 @@ module _ {X : Type 0} (items_of : X → List Item) where
       → ArePhases header (map items_of phases) → i < length phases → length totals ≡ counter_count header.layout
       → All (λ item. HasTotal totals item.act) (items_of (get_or phases i d))
   HasTotal-each header phases i d totals are here each =
-      let known = subst (λ items. All (λ item. IsLineOf header (line_of item)) items) (get_or-map items_of phases i d (items_of d) here)
+      let known = subst (λ items. All (λ item. IsLineOf header (line_of item)) items)
+      (get_or-map items_of phases i d (items_of d) here)
       (All-get_or (All (λ item. IsLineOf header (line_of item))) (map items_of phases) i (items_of d)
       (omega (arith, length-map phases items_of)) are.known) in
       λ k item below. HasTotal-of header (get_or (items_of (get_or phases i d)) k item).lane

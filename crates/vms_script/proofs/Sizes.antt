@@ -88,14 +88,19 @@ module _ (header : Header) (k : ℕ) where
   -- each change of a counter is one of a CPU of the layout
   spent_by_first : (lane : LaneOf) (act : Act) → IsLineOf header (Lane lane act)
       → spent_on_counter k act ≡ by_first header.layout.cpus (spent_on_counter k) (Lane lane act)
-  spent_by_first (Cpu cpu) act known = sym (if_below-most cpu.number header.layout.cpus (spent_on_counter k act) known.0)
+  spent_by_first (Cpu cpu) act known =
+      sym (if_below-most cpu.number header.layout.cpus (spent_on_counter k act) known.0)
   spent_by_first Control act known = spent_by_control header k act known.1
 
   sizes_by-is : (items : List Item) → All (λ item. IsLineOf header (line_of item)) items
       → sizes_by k items ≡ volume_of_first header.layout.cpus (spent_on_counter k) (map line_of items)
   sizes_by-is [] known = refl
   sizes_by-is (item ∷ items) known =
-      omega (arith, spent_by_first item.lane item.act (known 0 item (omega arith)), sizes_by-is items (λ j d below. known (suc j) d (omega arith)))
+      omega (
+        arith,
+        spent_by_first item.lane item.act (known 0 item (omega arith)),
+        sizes_by-is items (λ j d below. known (suc j) d (omega arith)),
+      )
 
   sizes_by_all-is : (phases : List (List Item)) → All (All (λ item. IsLineOf header (line_of item))) phases
       → sizes_by_all k phases ≡ volume_of_first header.layout.cpus (spent_on_counter k) (lines_of_phases phases)
@@ -108,8 +113,8 @@ module _ (header : Header) (k : ℕ) where
   )
 
 -- all the changes of a counter together
-pub sizes_by_all-most : (header : Header) (k : ℕ) (phases : List (List Item)) → IsHeader header → ArePhases header phases
-    → IsCounter header.layout k → sizes_by_all k phases ≤ 128 * most_volume
+pub sizes_by_all-most : (header : Header) (k : ℕ) (phases : List (List Item)) → IsHeader header
+    → ArePhases header phases → IsCounter header.layout k → sizes_by_all k phases ≤ 128 * most_volume
 sizes_by_all-most header k phases is_header are counter = omega (
   arith,
   is_header.is_layout.cpus_most,

@@ -1,4 +1,4 @@
-//! Which lines of a body count, by the lines above them, and the scripts of their phases.
+//! Which lines of a body count, by the lines above them, the scripts of their phases, and the plain totals of those.
 #![tactic(auto)]
 
 mod cpus;

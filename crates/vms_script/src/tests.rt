@@ -1,1 +1,4 @@
+mod headers;
 mod judges;
+mod scripters;
+mod totals;

@@ -10,7 +10,7 @@ use vms_trace::{Act, Item};
 /// What the counters come to, in pages, by counter.
 pub type PageTotals = Row<i64>;
 
-/// The bases of the counters, and what the lines of these phases change them by.
+/// What each counter comes to: its base and all that the lines of these phases change it by.
 pub fn plain_totals(
     alloc: Global,
     header: &Header,

@@ -1,50 +1,11 @@
-ghost use Rattle.std.specs.Prelude.{IfOk};
 ghost use Rattle.vms_base.specs.Headers.{IsHeader};
 ghost use Rattle.vms_script.specs.Standing.{SomeJudge};
 
+use super::headers::header;
 use crate::LineJudge;
-use std::alloc::Global;
 use std::test::Fail;
-use vms_base::{Decl, Header, ItemDecl, Layout, Row, ZoneKind, ZoneName, ZoneSize};
+use vms_base::Header;
 use vms_trace::LineCause;
-
-/// Two CPUs, one zone of one node, sixteen items a place, the node's item `slab` in bytes, and the
-/// percpu counter `gauge`.
-fn header(alloc: Global) -> Result<Header, Fail>
-    ensures { IfOk result (λ header. IsHeader header) }
-{
-    let zone = ZoneName {
-        node: 0,
-        kind: ZoneKind::Normal,
-    };
-    let size = ZoneSize {
-        managed: 262_144,
-        min: 100,
-        low: 125,
-        high: 150,
-    };
-    let gauge = Decl {
-        name: Row::from_slice(alloc, b"gauge")?,
-        batch: 32,
-    };
-    let slab = ItemDecl {
-        name: Row::from_slice(alloc, b"slab")?,
-        node: true,
-        bytes: true,
-    };
-    let layout = Layout::make_wide(&[zone], 2)?;
-    let sizes = Row::filled(alloc, layout.zones().len(), size)?;
-    let bases = Row::filled(alloc, layout.counters() as usize, 0)?;
-    let counters = Row::make(vec![in alloc; gauge]?);
-    let items = Row::make(vec![in alloc; slab]?);
-    Ok(Header {
-        layout,
-        sizes,
-        bases,
-        counters,
-        items,
-    })
-}
 
 /// The cause why a line doesn't count behind those that the judge was asked of before.
 fn fault(judge: &mut LineJudge, header: &Header, line: &str) -> Option<LineCause>

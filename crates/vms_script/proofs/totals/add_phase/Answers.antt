@@ -32,8 +32,8 @@ loop-item-preserved c = elim c.match-change_of.branch [
       let pages : to_z w64 (of_z w64 w.in-Some.pages) ≡ w.in-Some.pages = search rules in
       let kept = to_z-of_z (subst (λ n. FitsSigned w64 (n +ℤ w.in-Some.pages)) (w.get.ensures (pos 0)) fits) in
       rw (w.totals-is, w.set.ensures, found, pages)
-      (Leads-some _ _ c.args.items.now c.loop-item.item-index _ c.loop-item.totals (w.in-Some.counter, w.in-Some.pages) _
-      c.loop-item-test.true (sym w.in-Some.ensures) within
+      (Leads-some _ _ c.args.items.now c.loop-item.item-index _ c.loop-item.totals
+      (w.in-Some.counter, w.in-Some.pages) _ c.loop-item-test.true (sym w.in-Some.ensures) within
       (kept ∙ ap (λ n. n +ℤ w.in-Some.pages) (sym (w.get.ensures (pos 0)))) c.loop-item.invariant)
   | in_default w ↦ rw w.totals-is
       (Leads-none _ _ c.args.items.now c.loop-item.item-index _ c.loop-item.totals c.loop-item-test.true

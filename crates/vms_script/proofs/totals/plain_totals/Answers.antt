@@ -9,8 +9,8 @@ loop-phase-init c = rw (c.in_ok-totals.ensures, c.as_slice.ensures)
 
 pub add_phase-requires-clause-known : goal.add_phase-requires-clause-known
 add_phase-requires-clause-known c = rw (c.as_slice-in-loop-phase.ensures.value, c.phase-item.is)
-    (HasTotal-each (λ script. script.items) c.args.header.now c.args.phases.now c.loop-phase.phase-index c.phase-item.result
-    c.loop-phase.totals c.requires.phases c.loop-phase-test.true c.loop-phase.invariant.each)
+    (HasTotal-each (λ script. script.items) c.args.header.now c.args.phases.now c.loop-phase.phase-index
+    c.phase-item.result c.loop-phase.totals c.requires.phases c.loop-phase-test.true c.loop-phase.invariant.each)
 
 pub loop-phase-preserved : goal.loop-phase-preserved
 loop-phase-preserved c =
