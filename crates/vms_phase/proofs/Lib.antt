@@ -1,0 +1,4 @@
+pub mod Mapping
+pub mod ItemSums
+pub mod Rows
+pub mod Starts
