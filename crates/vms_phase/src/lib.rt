@@ -4,5 +4,7 @@
 mod settings;
 mod starting;
 mod summing;
+#[cfg(test)]
+mod tests;
 
 pub use starting::start;
