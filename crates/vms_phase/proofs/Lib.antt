@@ -4,3 +4,6 @@ pub mod Rows
 pub mod Starts
 pub mod Openings
 pub mod LineHistories
+pub mod Closings
+pub mod Lanes
+pub mod PhaseEnds

@@ -1,5 +1,10 @@
 -- The histories of a phase in file order: the lanes' passes begin, the lines follow one another, the passes end.
-use Rattle.std.specs.Prelude.{ℕ, zero, suc, nat_eq, ◌||◌, Bool, true, false, pos, negsuc, List, [], ◌∷◌, ◌++◌, if◌then◌else◌, Option, Some, None}
+use Rattle.std.specs.Prelude.{◌≡◌, ℕ, zero, suc, nat_eq, ◌||◌, Bool, true, false, pos, negsuc, List, [], ◌∷◌, ◌++◌, if◌then◌else◌, Option, Some, None}
+use Rattle.vms_phase.specs.Worlds.{settled}
+use Rattle.vms_core.specs.Pages.{pages, History, state_after, KeepsTotals, BoundsDifferentials}
+use Rattle.vms_core.specs.declared.states.State.{State}
+use Rattle.vms_history.specs.Legal.{IsComplete}
+use Rattle.vms_base.specs.declared.headers.Header.{Header}
 use Rattle.vms_base.specs.declared.ids.CpuId.{CpuId}
 use Rattle.vms_base.specs.declared.kinds.Mode.TheVariants.{Mod as Modify, Inc as Raise, Dec as Lower}
 use Rattle.vms_base.specs.Places.{Shape}
@@ -8,7 +13,6 @@ use Rattle.vms_core.specs.Calls.{IsChangeAlone}
 use Rattle.vms_core.specs.declared.steps.Facts.{Facts}
 use Rattle.vms_core.specs.declared.steps.Step.{Step}
 use Rattle.vms_core.specs.declared.steps.Step.TheVariants.{Split, Join}
-use Rattle.vms_core.specs.Pages.{History}
 use Rattle.vms_text.specs.declared.acts.Act.{Act}
 use Rattle.vms_text.specs.declared.acts.Act.TheVariants.{Mod, Inc, Dec}
 use Rattle.vms_text.specs.declared.acts.Item.{Item}
@@ -77,3 +81,32 @@ pub data Follow (facts : Facts) (lanes : List Lane) : List Item → History → 
   none : (h : History) → Follow facts lanes [] h h
   line : (item : Item) (items : List Item) (steps : List Step) (h h' : History) → Makes facts item.lane item.act steps →
       Follow facts lanes items (after (pass_of lanes item.lane) steps h) h' → Follow facts lanes (item ∷ items) h h'
+
+-- the history of one phase: passes for the lanes with lines begin, the lines follow one another, the passes end
+pub record IsFileOrder (facts : Facts) (items : List Item) (h : History) : Type 0 where
+  pub lines : History
+  pub follow : Follow facts (lanes_of facts.layout items) items (opening_of (lanes_of facts.layout items)) lines
+  pub ends : h ≡ after 0 (joins_from 1 (lanes_of facts.layout items)) lines
+
+-- the facts and the history of one phase
+pub record Phase : Type 0 where
+  pub facts : Facts
+  pub history : History
+
+-- a phase of these lines from this state: its history is in file order and legal, all its passes have ended, and at
+-- every moment nothing is lost and every differential is within the threshold that was used last
+pub record IsPhase (header : Header) (s : State) (items : List Item) (phase : Phase) : Type 0 where
+  pub layout : phase.facts.layout ≡ header.layout
+  pub sizes : phase.facts.sizes ≡ header.sizes
+  pub base : phase.facts.base ≡ s
+  pub in_order : IsFileOrder phase.facts items phase.history
+  pub complete : IsComplete pages phase.facts phase.history
+  pub totals : (more h : History) → phase.history ≡ more ++ h → KeepsTotals phase.facts h
+  pub bounds : (more h : History) → phase.history ≡ more ++ h → BoundsDifferentials phase.facts h
+
+-- the phases of these lines lead from one state to another, each from where the one before ended
+abbrev pub Leads : Header → State → List (List Item) → List Phase → State → Type 0
+Leads header s [] [] s' = s ≡ s'
+Leads header s (items ∷ more) (phase ∷ phases) s' =
+    IsPhase header s items phase × Leads header (settled (state_after phase.facts phase.history)) more phases s'
+Leads header s _ _ s' = ⊥

@@ -1,19 +1,22 @@
 -- How far the phase that is still open has come.
 use Rattle.std.specs.Prelude.{◌≡◌, ◌≢◌, ℕ, ◌+◌, nat_eq, true, false, ℤ, pos, negsuc, unsigned_abs, List, [], ◌∷◌, ◌++◌, All, if◌then◌else◌}
+use Rattle.vms_base.specs.declared.headers.Header.{Header}
 use Rattle.vms_base.specs.declared.ids.CounterId.{CounterId}
 use Rattle.vms_base.specs.declared.ids.CpuId.{CpuId}
+use Rattle.vms_base.specs.declared.kinds.CpuState.TheVariants.{Online}
 use Rattle.vms_base.specs.declared.kinds.Mode.{Mode}
 use Rattle.vms_base.specs.declared.kinds.Mode.TheVariants.{Mod as Modify, Inc as Raise, Dec as Lower}
-use Rattle.vms_base.specs.Places.{Shape}
+use Rattle.vms_base.specs.Places.{Shape, IsCpu}
 use Rattle.vms_history.specs.Events.{own}
 use Rattle.vms_core.specs.declared.states.State.{State}
 use Rattle.vms_core.specs.declared.steps.Facts.{Facts}
 use Rattle.vms_core.specs.declared.steps.Step.{Step}
+use Rattle.vms_core.specs.Cells.{cpu_at}
 use Rattle.vms_core.specs.Following.{MayChange, FollowsAlone}
 use Rattle.vms_core.specs.Own.{CarriesNothing}
 use Rattle.vms_core.specs.Pages.{History, MayOwn, IsLegal, state_after}
 use Rattle.vms_core.specs.Totals.{spent}
-use Rattle.vms_phase.specs.FileOrder.{Follow, is_among, opening_of, owner_of}
+use Rattle.vms_phase.specs.FileOrder.{Follow, is_among, opening_of, owner_of, Phase, Leads}
 use Rattle.vms_text.specs.declared.acts.Act.{Act}
 use Rattle.vms_text.specs.declared.acts.Act.TheVariants.{Mod, Inc, Dec}
 use Rattle.vms_text.specs.declared.acts.Item.{Item}
@@ -83,3 +86,14 @@ abbrev pub Follows : Shape → CpuId → CounterId → ℤ → Mode → State �
 Follows shape cpu k delta how now next = (facts : Facts) (h : History) (p : ℕ) → MayChange facts h p cpu k delta →
     facts.layout ≡ shape → state_after facts h ≡ now →
     (steps : List Step) × FollowsAlone facts h p cpu k delta how steps next
+
+-- a line of a CPU that was online when the phase began
+pub record IsOfOnline (facts : Facts) (item : Item) : Type 0 where
+  pub cpu : CpuId
+  pub lane : item.lane ≡ Cpu cpu
+  pub known : IsCpu facts.layout cpu.number
+  pub online : cpu_at facts.base cpu.number ≡ Online
+
+-- one phase, of these lines, leads from one state to another
+abbrev pub EndsPhase : Header → State → List Item → State → Type 0
+EndsPhase header s items now = (phase : Phase) × Leads header s (items ∷ []) (phase ∷ []) now

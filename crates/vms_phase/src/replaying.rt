@@ -10,18 +10,20 @@ pub struct PhaseReplay {
 }
 
 impl Model for PhaseReplay {
+    ghost use Rattle.std.specs.Prelude.{◌≡◌};
     ghost use Rattle.vms_core.specs.Cells.{HasShape};
     ghost use Rattle.vms_phase.specs.OpenPhases.{Moment};
+    ghost use Rattle.vms_phase.specs.Worlds.{settled};
 
     ghost Value = { Moment };
 
     ghost view = { λ replay. record { shape = replay.layout; state = replay.plain } };
 
-    ghost invariant = { λ replay. HasShape replay.layout replay.plain };
+    ghost invariant = { λ replay. HasShape replay.layout replay.plain × (settled replay.plain ≡ replay.plain) };
 }
 
 impl PhaseReplay {
-    ghost use Rattle.std.specs.Prelude.{◌≡◌, ℕ, ◌≤◌, ◌^◌, ◌++◌, List, [], ◌∷◌, unsigned_abs};
+    ghost use Rattle.std.specs.Prelude.{◌≡◌, ℕ, ◌≤◌, ◌^◌, ◌++◌, List, [], ◌∷◌, All, unsigned_abs};
     ghost use Rattle.vms_base.specs.Places.{IsCpu, IsCounter, item_of};
     ghost use Rattle.vms_base.specs.declared.kinds.CpuState.TheVariants.{Online};
     ghost use Rattle.vms_core.specs.Bases.{IsBase, IsOpening};
@@ -29,12 +31,16 @@ impl PhaseReplay {
     ghost use Rattle.vms_core.specs.Conditions.{most_volume};
     ghost use Rattle.vms_core.specs.Following.{with_change};
     ghost use Rattle.vms_core.specs.declared.steps.Facts.{Facts};
-    ghost use Rattle.vms_phase.specs.OpenPhases.{IsDelta, IsOpen, change_item, volume};
+    ghost use Rattle.vms_phase.specs.OpenPhases.{EndsPhase, IsDelta, IsOfOnline, IsOpen, change_item, volume};
+    ghost use Rattle.vms_phase.specs.Worlds.{facts_of, settled};
+    ghost use Rattle.vms_base.specs.declared.headers.Header.{Header};
+    ghost use Rattle.vms_core.specs.declared.states.State.{State};
     ghost use Rattle.vms_text.specs.declared.acts.Item.{Item};
 
     /// A phase that begins with this state.
     pub fn begin(layout: Layout, state: State) -> PhaseReplay
-        requires { IsOpening layout state }
+        requires opening { IsOpening layout state }
+        requires settled { settled state ≡ state }
         ensures value { result ≡ record { shape = layout; state = state } }
         ensures opens { (facts : Facts) → IsBase facts → facts.base ≡ state → IsOpen facts [] result.state }
     {
@@ -51,6 +57,15 @@ impl PhaseReplay {
         ensures { result.now ≡ self.now.state }
     {
         self.plain.state()
+    }
+
+    /// Ends the phase: its passes join, and the next phase begins with the same page counters.
+    pub fn end_phase(&self)
+        ensures settled { settled self.now.state ≡ self.now.state }
+        ensures ends { (header : Header) (from : State) (items : List Item) → IsOpen (facts_of header from) items self.now.state
+            → All (IsOfOnline (facts_of header from)) items → EndsPhase header from items self.now.state }
+    {
+        let _ = self.plain.state();
     }
 
     /// Makes the change of a line: `delta` pages by a CPU, which are 1 and -1 where the mode is to raise and to lower.

@@ -1,10 +1,24 @@
 -- The change follows each history of the lines before.
-use Rattle.std.proofs.Common.{◌≡◌, ℤ, ap, subst, sym, ◌∙◌, to_z-of_z}
+use Rattle.std.proofs.Common.{of_z, to_z, w64, ◌≡◌, ℤ, ap, subst, sym, ◌∙◌, to_z-of_z}
 use Rattle.vms_base.specs.Places.{Shape, IsCpu, IsCounter}
 use Rattle.vms_core.specs.declared.states.State.{State}
 use Rattle.vms_phase.specs.OpenPhases.{Follows}
+use Rattle.vms_core.specs.Following.{with_change}
+use Rattle.vms_phase.specs.Worlds.{settled}
+use Rattle.vms_phase.proofs.PhaseEnds.{settled-change}
 use Rattle.vms_phase.proofs.LineHistories.{IsOpen-line}
 use Rattle.vms_phase.proofs.replaying.PhaseReplay.change.Goals as goal
+
+pub invariant_of-self : goal.invariant_of-self
+invariant_of-self c =
+    let shape = c.self.inside.layout in
+    let delta = to_z w64 (of_z w64 c.args.delta) in (
+      c.change.ensures.shaped,
+      ap settled c.change.ensures.after
+          ∙ settled-change shape c.args.cpu.number c.args.counter.number delta c.args.mode c.self.inside.plain
+          ∙ ap (λ s. with_change shape c.args.cpu.number c.args.counter.number delta c.args.mode s) c.self.invariant.1
+          ∙ sym c.change.ensures.after,
+    )
 
 pub returns-clause-opens : goal.returns-clause-opens
 returns-clause-opens c = λ facts items n layout_is opened affordable.
