@@ -7,3 +7,4 @@ pub mod LineHistories
 pub mod Closings
 pub mod Lanes
 pub mod PhaseEnds
+pub mod CounterTotals

@@ -32,6 +32,7 @@ impl PhaseReplay {
     ghost use Rattle.vms_core.specs.Following.{with_change};
     ghost use Rattle.vms_core.specs.declared.steps.Facts.{Facts};
     ghost use Rattle.vms_phase.specs.OpenPhases.{EndsPhase, IsDelta, IsOfOnline, IsOpen, change_item, volume};
+    ghost use Rattle.vms_phase.specs.Totals.{AddsUp};
     ghost use Rattle.vms_phase.specs.Worlds.{facts_of, settled};
     ghost use Rattle.vms_base.specs.declared.headers.Header.{Header};
     ghost use Rattle.vms_core.specs.declared.states.State.{State};
@@ -84,6 +85,8 @@ impl PhaseReplay {
             → IsOpen facts items self.old.state
             → volume cpu.number counter.number (items ++ change_item n cpu counter delta mode ∷ []) ≤ most_volume
             → IsOpen facts (items ++ change_item n cpu counter delta mode ∷ []) self.new.state }
+        ensures totals { (from : State) (items : List Item) (n : ℕ) → AddsUp self.old.shape from items self.old.state
+            → AddsUp self.old.shape from (items ++ change_item n cpu counter delta mode ∷ []) self.new.state }
     {
         self.plain.change(&self.layout, cpu, counter, delta, mode);
     }

@@ -1,11 +1,14 @@
 -- The change follows each history of the lines before.
-use Rattle.std.proofs.Common.{of_z, to_z, w64, ◌≡◌, ℤ, ap, subst, sym, ◌∙◌, to_z-of_z}
+use Rattle.std.proofs.Common.{◌+ℤ◌, of_z, to_z, w64, ◌≡◌, ℤ, ap, subst, sym, ◌∙◌, to_z-of_z}
 use Rattle.vms_base.specs.Places.{Shape, IsCpu, IsCounter}
 use Rattle.vms_core.specs.declared.states.State.{State}
 use Rattle.vms_phase.specs.OpenPhases.{Follows}
 use Rattle.vms_core.specs.Following.{with_change}
 use Rattle.vms_phase.specs.Worlds.{settled}
 use Rattle.vms_phase.proofs.PhaseEnds.{settled-change}
+use Rattle.vms_core.specs.Cells.{HasShape, value_at, diff_at}
+use Rattle.vms_phase.specs.OpenPhases.{Moment}
+use Rattle.vms_phase.proofs.CounterTotals.{AddsUp-line}
 use Rattle.vms_phase.proofs.LineHistories.{IsOpen-line}
 use Rattle.vms_phase.proofs.replaying.PhaseReplay.change.Goals as goal
 
@@ -33,3 +36,21 @@ returns-clause-opens c = λ facts items n layout_is opened affordable.
     IsOpen-line facts items now.state c.change.new.self n c.args.cpu c.args.counter c.args.delta c.args.mode c.requires.fits opened
     (subst (λ (shape : Shape). IsCpu shape c.args.cpu.number) (sym layout_is) c.requires.cpu) c.requires.online
     (subst (λ (shape : Shape). IsCounter shape c.args.counter.number) (sym layout_is) c.requires.counter) affordable follows
+
+pub returns-clause-totals : goal.returns-clause-totals
+returns-clause-totals c = λ from items n before.
+    let now = c.args.self.now in
+    let cpu = c.args.cpu.number in
+    let k = c.args.counter.number in
+    let next = c.change.new.self in
+    let passed = to_z-of_z c.ranges.delta in
+    AddsUp-line now.shape from now.state next items n c.args.cpu c.args.counter c.args.delta c.args.mode
+    (subst (λ (m : Moment). HasShape m.shape m.state) c.self.view_is c.self.invariant.0)
+    c.requires.cpu c.requires.counter c.requires.fits
+    (c.change.ensures.after
+    ∙ ap (λ z. with_change c.self.inside.layout cpu k z c.args.mode c.self.inside.plain) passed
+    ∙ ap (λ m. with_change m.shape cpu k c.args.delta c.args.mode m.state) c.self.view_is)
+    (c.change.ensures.total
+    ∙ ap (λ z. (value_at c.self.inside.plain k +ℤ diff_at c.self.inside.plain cpu k) +ℤ z) passed
+    ∙ ap (λ m. (value_at m.state k +ℤ diff_at m.state cpu k) +ℤ c.args.delta) c.self.view_is)
+    before
