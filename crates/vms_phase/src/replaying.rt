@@ -27,12 +27,12 @@ impl PhaseReplay {
     ghost use Rattle.vms_base.specs.Places.{IsCpu, IsCounter, item_of};
     ghost use Rattle.vms_base.specs.declared.kinds.CpuState.TheVariants.{Online};
     ghost use Rattle.vms_core.specs.Bases.{IsBase, IsOpening};
-    ghost use Rattle.vms_core.specs.Cells.{cpu_at, value_at, system_at};
+    ghost use Rattle.vms_core.specs.Cells.{cpu_at, diff_at, value_at, system_at};
     ghost use Rattle.vms_core.specs.Conditions.{most_volume};
     ghost use Rattle.vms_core.specs.Following.{with_change};
     ghost use Rattle.vms_core.specs.declared.steps.Facts.{Facts};
     ghost use Rattle.vms_phase.specs.OpenPhases.{EndsPhase, IsDelta, IsOfOnline, IsOpen, change_item, volume};
-    ghost use Rattle.vms_phase.specs.Totals.{AddsUp};
+    ghost use Rattle.vms_phase.specs.Totals.{AddsUp, counter_total};
     ghost use Rattle.vms_phase.specs.Worlds.{facts_of, settled};
     ghost use Rattle.vms_base.specs.declared.headers.Header.{Header};
     ghost use Rattle.vms_core.specs.declared.states.State.{State};
@@ -89,5 +89,30 @@ impl PhaseReplay {
             → AddsUp self.old.shape from (items ++ change_item n cpu counter delta mode ∷ []) self.new.state }
     {
         self.plain.change(&self.layout, cpu, counter, delta, mode);
+    }
+
+    /// The differential of a CPU for a counter.
+    #[inline]
+    fn differential(&self, cpu: CpuId, counter: CounterId) -> i64
+        requires cpu { IsCpu self.now.shape cpu.number }
+        requires counter { IsCounter self.now.shape counter.number }
+        ensures value { result ≡ diff_at self.now.state cpu.number counter.number }
+        ensures bound { unsigned_abs result ≤ 128 }
+    {
+        let found = self.plain.load_diffs(cpu, self.layout.group(counter));
+        found.values[(counter.number % 8) as usize]
+    }
+
+    /// What a counter adds up to, in pages: its global value and the differentials of all CPUs.
+    pub fn total(&self, counter: CounterId) -> i64
+        requires counter { IsCounter self.now.shape counter.number }
+        requires value { unsigned_abs (value_at self.now.state counter.number) ≤ 2 ^ 61 }
+        ensures { result ≡ counter_total self.now.shape self.now.state counter.number }
+    {
+        let mut total = self.plain.load_place(counter);
+        for number in 0..self.layout.cpus() {
+            total += self.differential(CpuId { number }, counter);
+        }
+        total
     }
 }
