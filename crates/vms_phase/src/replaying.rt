@@ -23,7 +23,7 @@ impl Model for PhaseReplay {
 }
 
 impl PhaseReplay {
-    ghost use Rattle.std.specs.Prelude.{◌≡◌, ℕ, ◌≤◌, ◌^◌, ◌++◌, List, [], ◌∷◌, All, unsigned_abs};
+    ghost use Rattle.std.specs.Prelude.{◌≡◌, ℕ, ◌+◌, ◌≤◌, ◌^◌, ◌++◌, List, [], ◌∷◌, All, unsigned_abs};
     ghost use Rattle.vms_base.specs.Places.{IsCpu, IsCounter, item_of};
     ghost use Rattle.vms_base.specs.declared.kinds.CpuState.TheVariants.{Online};
     ghost use Rattle.vms_core.specs.Bases.{IsBase, IsOpening};
@@ -81,6 +81,11 @@ impl PhaseReplay {
         ensures after { self.new ≡ record self.old {
           state = with_change self.old.shape cpu.number counter.number delta mode self.old.state;
         } }
+        ensures cpus { self.new.state.cpu ≡ self.old.state.cpu }
+        ensures value { unsigned_abs (value_at self.new.state counter.number)
+            ≤ unsigned_abs (value_at self.old.state counter.number) + (unsigned_abs delta + 253) }
+        ensures system { unsigned_abs (system_at self.new.state (item_of self.old.shape counter.number))
+            ≤ unsigned_abs (system_at self.old.state (item_of self.old.shape counter.number)) + (unsigned_abs delta + 253) }
         ensures opens { (facts : Facts) (items : List Item) (n : ℕ) → facts.layout ≡ self.old.shape
             → IsOpen facts items self.old.state
             → volume cpu.number counter.number (items ++ change_item n cpu counter delta mode ∷ []) ≤ most_volume
