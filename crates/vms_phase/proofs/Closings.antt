@@ -66,7 +66,8 @@ module _ (facts : Facts) where
   ended-joins : (m : ℕ) (ls : List Lane) (h : History)
       → ((q : ℕ) → lives_in turn h q ≡ true → (m ≤ q) × (q < m + length ls))
       → (q : ℕ) → lives_in turn (after 0 (joins_from m ls) h) q ≡ false
-  ended-joins m [] h only q = no_more (lives_in turn h q) (λ live. let at = only q live in absurd (omega (arith, at.0, at.1)))
+  ended-joins m [] h only q = no_more (lives_in turn h q) (λ live. let at = only q live in absurd (omega
+      (arith, at.0, at.1)))
   ended-joins m (l ∷ ls) h only q =
       ended-joins (suc m) ls (record { caller = 0; step = Join m } ∷ h) (λ r. by r (nat_eq m r) refl (only r)) q
     where
@@ -78,7 +79,8 @@ module _ (facts : Facts) where
           let other : m ≢ r = grind (arith, nat_tests) in
           (omega (arith, at.0), omega (arith, at.1))
 
-  module _ (lanes : List Lane) (items : List Item) (h : History) (now : State) (makes : MakesLines facts lanes items h now) where
+  module _ (lanes : List Lane) (items : List Item) (h : History) (now : State)
+      (makes : MakesLines facts lanes items h now) where
     abbrev pub closed : History
     closed = after 0 (joins_from 1 lanes) h
 

@@ -101,9 +101,11 @@ module _ (facts : Facts) where
       first = all 0 item (omega arith)
 
       by : (b : Bool) → same_lane item.lane (lane_at c) ≡ b → (b || has_line (lane_at c) items) ≡ true
-          → (has_line (lane_at c) items ≡ true → MayOwn facts (owner_of (lane_at c))) → MayOwn facts (owner_of (lane_at c))
+          → (has_line (lane_at c) items ≡ true → MayOwn facts (owner_of (lane_at c)))
+          → MayOwn facts (owner_of (lane_at c))
       by true same either rest =
-          let mine : nat_eq first.cpu.number c ≡ true = subst (λ (l : Lane). same_lane l (lane_at c) ≡ true) first.lane same in
+          let mine : nat_eq first.cpu.number c ≡ true = subst (λ (l : Lane). same_lane l
+          (lane_at c) ≡ true) first.lane same in
           let is : first.cpu.number ≡ c = grind (arith, nat_tests) in
           (subst (IsCpu facts.layout) is first.known, subst (λ (n : ℕ). cpu_at facts.base n ≡ Online) is first.online)
       by false same either rest = rest either
@@ -129,7 +131,8 @@ module _ (facts : Facts) where
 
   lanes-cpus : (items : List Item) → All (IsOfOnline facts) items
       → lanes_below facts.layout.cpus items ≡ lanes_of facts.layout items
-  lanes-cpus items all = sym (ap (λ b. lanes_below facts.layout.cpus items ++ (if b then Control ∷ [] else [])) (no_control items all)
+  lanes-cpus items all = sym (ap (λ b. lanes_below facts.layout.cpus items ++
+      (if b then Control ∷ [] else [])) (no_control items all)
       ∙ append-nil (lanes_below facts.layout.cpus items))
 
   pub MayOpen-lanes : (items : List Item) → All (IsOfOnline facts) items → MayOpen facts (lanes_of facts.layout items)
@@ -145,7 +148,8 @@ module _ (facts : Facts) where
       (subst (λ (l : Lane). is_among l (lanes_below facts.layout.cpus more) ≡ true) (sym first.lane)
       (below-all facts.layout.cpus first.cpu.number more first.known (has first.cpu.number here)))
       (lines-among more items (All-tail (IsOfOnline facts) item items all)
-      (λ c later. has c (ap (λ b. same_lane item.lane (lane_at c) || b) later ∙ or_true (same_lane item.lane (lane_at c)))))
+      (λ c later. has c (ap (λ b. same_lane item.lane (lane_at c) || b) later
+      ∙ or_true (same_lane item.lane (lane_at c)))))
     where
       first : IsOfOnline facts item
       first = all 0 item (omega arith)
@@ -162,5 +166,6 @@ module _ (facts : Facts) where
 
   pub among-lanes : (items : List Item) → All (IsOfOnline facts) items
       → All (λ item. is_among item.lane (lanes_of facts.layout items) ≡ true) items
-  among-lanes items all = subst (λ (lanes : List Lane). All (λ item. is_among item.lane lanes ≡ true) items) (lanes-cpus items all)
+  among-lanes items all = subst (λ (lanes : List Lane). All (λ item. is_among item.lane lanes ≡ true) items)
+      (lanes-cpus items all)
       (lines-among items items all (λ c has. has))

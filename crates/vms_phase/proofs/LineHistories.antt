@@ -108,7 +108,11 @@ module _ (facts : Facts) (lanes : List Lane) (items : List Item) (h : History) (
     legal = makes.legal;
     other_than_main = p-other;
     lives = ap (λ es. lives turn es p) makes.main
-        ∙ lives-lane 1 lanes [] p (pass_of-least lanes (Cpu cpu) among) (omega (arith, pass_of-most lanes (Cpu cpu) among));
+        ∙ lives-lane 1 lanes [] p (pass_of-least lanes (Cpu cpu) among) (omega (
+          arith,
+          pass_of-most lanes
+              (Cpu cpu) among,
+        ));
     owner = ap (λ es. owner turn es p) makes.main
         ∙ (let at : 0 + p ≡ p = omega arith in
         subst (λ (q : ℕ). owner turn (opening_of lanes) q ≡ Some cpu) at (owner-lane 0 lanes [] (Cpu cpu) among));
@@ -116,7 +120,8 @@ module _ (facts : Facts) (lanes : List Lane) (items : List Item) (h : History) (
     counter_known = known;
     online = ap (λ s. cpu_at s cpu.number) makes.state ∙ online;
     nothing_carried = makes.nothing_carried p p-other;
-    affordable = at (nat_eq cpu.number cpu.number && nat_eq k.number k.number) (grind (arith, nat_tests)) (volume-item cpu.number k.number);
+    affordable = at (nat_eq cpu.number cpu.number && nat_eq k.number k.number) (grind (arith, nat_tests))
+        (volume-item cpu.number k.number);
   }
     where
       at : (b : Bool) → b ≡ true → volume cpu.number k.number (items ++ item ∷ [])
@@ -135,14 +140,18 @@ module _ (facts : Facts) (lanes : List Lane) (items : List Item) (h : History) (
         (line item more steps h h' (Makes-change facts cpu k delta how steps fits follows.change) follow));
     main = follows.others 0 (λ same. p-other (sym same)) ∙ makes.main;
     nothing_carried = λ q other. ⊎_elim
-        (λ (mine : q ≡ p). subst (λ (r : ℕ). CarriesNothing facts.layout (own (after p steps h) r)) (sym mine) follows.nothing_carried)
-        (λ (others : q ≢ p). subst (CarriesNothing facts.layout) (sym (follows.others q others)) (makes.nothing_carried q other))
+        (λ (mine : q ≡ p). subst (λ (r : ℕ). CarriesNothing facts.layout (own (after p steps h) r))
+        (sym mine) follows.nothing_carried)
+        (λ (others : q ≢ p). subst (CarriesNothing facts.layout) (sym (follows.others q others))
+        (makes.nothing_carried q other))
         (cases_eq q p);
-    spends = λ c l. by c l (nat_eq cpu.number c && nat_eq k.number l) (follows.spends c l) (volume-item c l) (makes.spends c l);
+    spends = λ c l. by c l (nat_eq cpu.number c && nat_eq k.number l) (follows.spends c l) (volume-item c l)
+        (makes.spends c l);
     state = follows.state;
   }
     where
-      by : (c l : ℕ) (b : Bool) → spent (after p steps h) c l ≡ (if b then unsigned_abs delta + spent h c l else spent h c l)
+      by : (c l : ℕ) (b : Bool) → spent (after p steps h) c l ≡
+          (if b then unsigned_abs delta + spent h c l else spent h c l)
           → volume c l (items ++ item ∷ []) ≡ volume c l items + ((if b then unsigned_abs delta else 0) + 0)
           → spent h c l ≡ volume c l items → spent (after p steps h) c l ≡ volume c l (items ++ item ∷ [])
       by c l true spends volumes was = omega arith
@@ -160,9 +169,11 @@ module _ (facts : Facts) (items : List Item) (now next : State) (n : ℕ) (cpu :
   IsOpen-line open_phase cpu_known online known affordable follows = λ lanes may among.
       let before = open_phase lanes may (All-front (λ (item : Item). is_among item.lane lanes ≡ true) items
       (change_item n cpu k delta how) among) in
-      let mine = All-last (λ (item : Item). is_among item.lane lanes ≡ true) items (change_item n cpu k delta how) among in
+      let mine = All-last (λ (item : Item). is_among item.lane lanes ≡ true) items
+      (change_item n cpu k delta how) among in
       let made = follows facts before.0 (pass_of lanes (Cpu cpu))
-      (MayChange-line facts lanes items before.0 now before.1 n cpu k delta how fits mine cpu_known online known affordable)
+      (MayChange-line facts lanes items before.0 now before.1 n cpu k delta how fits mine cpu_known online known
+      affordable)
       refl before.1.state in (
         after (pass_of lanes (Cpu cpu)) made.0 before.0,
         MakesLines-line facts lanes items before.0 now before.1 n cpu k delta how fits mine made.0 next made.1,

@@ -36,7 +36,8 @@ pub owner-before : (m : ℕ) (ls : List Lane) (g : History) (q : ℕ) → q < m
 owner-before m [] g q below = refl
 owner-before m (l ∷ ls) g q below =
     owner-before (suc m) ls (record { caller = 0; step = Split m (owner_of l) } ∷ g) q (omega arith)
-    ∙ (let other : nat_eq m q ≡ false = grind (arith, nat_tests) in ap (λ b. if b then owner_of l else owner turn g q) other)
+    ∙ (let other : nat_eq m q ≡ false = grind (arith, nat_tests) in ap
+    (λ b. if b then owner_of l else owner turn g q) other)
 
 pub lives-before : (m : ℕ) (ls : List Lane) (g : History) (q : ℕ) → q < m
     → lives turn (after 0 (splits_from m ls) g) q ≡ lives turn g q
@@ -58,7 +59,8 @@ owner-lane m (l ∷ ls) g lane among = by (same_lane l lane) refl among
     by : (b : Bool) → same_lane l lane ≡ b → (b || is_among lane ls) ≡ true
         → (is_among lane ls ≡ true
         → owner turn (after 0 (splits_from (suc (suc m)) ls) e) (suc m + pass_of ls lane) ≡ owner_of lane)
-        → owner turn (after 0 (splits_from (suc (suc m)) ls) e) (m + (if b then 1 else suc (pass_of ls lane))) ≡ owner_of lane
+        → owner turn (after 0 (splits_from (suc (suc m)) ls) e) (m + (if b then 1 else suc
+        (pass_of ls lane))) ≡ owner_of lane
     by true same either rest =
         let at : m + 1 ≡ suc m = omega arith in
         let mine : nat_eq (suc m) (m + 1) ≡ true = grind (arith, nat_tests) in
@@ -79,7 +81,8 @@ lives-lane m (l ∷ ls) g q least below = by (nat_eq m q) refl
 
     by : (b : Bool) → nat_eq m q ≡ b → (suc m ≤ q → lives turn (after 0 (splits_from (suc m) ls) e) q ≡ true)
         → lives turn (after 0 (splits_from (suc m) ls) e) q ≡ true
-    by true is rest = lives-before (suc m) ls e q (grind (arith, nat_tests)) ∙ ap (λ b. if b then true else lives turn g q) is
+    by true is rest = lives-before (suc m) ls e q (grind (arith, nat_tests))
+        ∙ ap (λ b. if b then true else lives turn g q) is
     by false is rest = rest (grind (arith, nat_tests))
 
 pub pass_of-least : (ls : List Lane) (lane : Lane) → is_among lane ls ≡ true → 1 ≤ pass_of ls lane
@@ -160,8 +163,11 @@ IsLegal-splits facts m (l ∷ ls) g may legal mine count free =
         → (if nat_eq (suc m) q then owner_of l else owner turn g q) ≡ owner_of a → ⊥
     free_there a among q = by (nat_eq (suc m) q)
       where
-        by : (b : Bool) → (if b then true else lives turn g q) ≡ true → (if b then owner_of l else owner turn g q) ≡ owner_of a → ⊥
+        by : (b : Bool) → (if b then true else lives turn g q) ≡ true
+            → (if b then owner_of l else owner turn g q) ≡ owner_of a → ⊥
         by true lives_there owns =
-            let one : is_among l ls ≡ true = subst (λ (x : Lane). is_among x ls ≡ true) (sym (owner_of-injective l a owns)) among in
+            let one : is_among l ls ≡ true = subst (λ (x : Lane). is_among x ls ≡ true) (sym
+            (owner_of-injective l a owns)) among in
             let both : true ≡ false = sym one ∙ may.1 in absurd cc
-        by false lives_there owns = free a (ap (λ b. same_lane l a || b) among ∙ or-true (same_lane l a)) q lives_there owns
+        by false lives_there owns = free a (ap (λ b. same_lane l a || b) among
+            ∙ or-true (same_lane l a)) q lives_there owns

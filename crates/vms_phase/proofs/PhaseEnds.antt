@@ -24,7 +24,8 @@ pub settled-change : (shape : Shape) (c k : ℕ) (delta : ℤ) (how : Mode) (s :
 unfolding with_change_of
 settled-change shape c k delta how s = refl
 
-pub EndsPhase-open : (header : Header) (s : State) (items : List Item) (now : State) → IsOpen (facts_of header s) items now
+pub EndsPhase-open : (header : Header) (s : State) (items : List Item) (now : State)
+    → IsOpen (facts_of header s) items now
     → All (IsOfOnline (facts_of header s)) items → settled now ≡ now → EndsPhase header s items now
 EndsPhase-open header s items now opened all quiet =
     let facts = facts_of header s in
@@ -37,7 +38,12 @@ EndsPhase-open header s items now opened all quiet =
           layout = refl;
           sizes = refl;
           base = refl;
-          in_order = record { lines = made.0; follow = follows-closed facts lanes items made.0 now made.1; ends = refl };
+          in_order = record {
+            lines = made.0;
+            follow = follows-closed facts lanes items made.0 now made.1;
+            ends =
+                refl;
+          };
           complete = complete;
           totals = λ more earlier parts. totals-kept facts earlier
               (prefix_is_legal pages facts more earlier (subst (IsLegal facts) parts complete.legal));

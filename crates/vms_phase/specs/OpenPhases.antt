@@ -64,8 +64,8 @@ abbrev pub MayOpen : Facts → List Lane → Type 0
 MayOpen facts [] = Unit {0}
 MayOpen facts (l ∷ ls) = MayOwn facts (owner_of l) × (is_among l ls ≡ false) × MayOpen facts ls
 
--- the history of these lines, in which passes of these lanes have begun and may go on: further lines may follow it, and
--- `now` is its state
+-- the history of these lines, in which passes of these lanes have begun and may go on: further lines may follow it,
+-- and `now` is its state
 pub record MakesLines (facts : Facts) (lanes : List Lane) (items : List Item) (h : History) (now : State) : Type 0 where
   pub legal : IsLegal facts h
   pub follow : (more : List Item) (h' : History) → Follow facts lanes more h h' →

@@ -26,7 +26,8 @@ base_of header k = slice_index_or header.bases k (pos 0)
 
 abbrev pub base_of_item : Header → ℕ → ℤ
 base_of_item header i =
-    sum_below (λ k. if nat_eq (item_of header.layout k) i then base_of header k else pos 0) (counter_count header.layout)
+    sum_below (λ k. if nat_eq (item_of header.layout k) i then base_of header k else pos 0)
+    (counter_count header.layout)
 
 -- the node of a zone; past the zones, node 0
 abbrev pub node_of_zone : List ZoneName → ℕ → ℕ

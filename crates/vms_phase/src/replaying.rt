@@ -63,7 +63,8 @@ impl PhaseReplay {
     /// Ends the phase: its passes join, and the next phase begins with the same page counters.
     pub fn end_phase(&self)
         ensures settled { settled self.now.state ≡ self.now.state }
-        ensures ends { (header : Header) (from : State) (items : List Item) → IsOpen (facts_of header from) items self.now.state
+        ensures ends { (header : Header) (from : State) (items : List Item)
+            → IsOpen (facts_of header from) items self.now.state
             → All (IsOfOnline (facts_of header from)) items → EndsPhase header from items self.now.state }
     {
         let _ = self.plain.state();
@@ -85,7 +86,8 @@ impl PhaseReplay {
         ensures value { unsigned_abs (value_at self.new.state counter.number)
             ≤ unsigned_abs (value_at self.old.state counter.number) + (unsigned_abs delta + 253) }
         ensures system { unsigned_abs (system_at self.new.state (item_of self.old.shape counter.number))
-            ≤ unsigned_abs (system_at self.old.state (item_of self.old.shape counter.number)) + (unsigned_abs delta + 253) }
+            ≤ unsigned_abs (system_at self.old.state (item_of self.old.shape counter.number)) +
+            (unsigned_abs delta + 253) }
         ensures opens { (facts : Facts) (items : List Item) (n : ℕ) → facts.layout ≡ self.old.shape
             → IsOpen facts items self.old.state
             → volume cpu.number counter.number (items ++ change_item n cpu counter delta mode ∷ []) ≤ most_volume

@@ -13,8 +13,10 @@ same_word z base is small =
 pub add_at-requires-clause-bound : goal.add_at-requires-clause-bound
 add_at-requires-clause-bound c =
     let most = base_of-most c.args.header.now c.requires in
-    let amount = same_word c.get.result (base_of c.args.header.now c.loop-number.number) (c.get.ensures (pos 0)) (most c.loop-number.number) in
-    let small = more_small c.args.header.now c.requires.is_layout most c.loop-number.number c.loop-number.values c.loop-number.invariant in
+    let amount = same_word c.get.result (base_of c.args.header.now c.loop-number.number) (c.get.ensures
+    (pos 0)) (most c.loop-number.number) in
+    let small = more_small c.args.header.now c.requires.is_layout most c.loop-number.number c.loop-number.values
+    c.loop-number.invariant in
     rw (c.item_of-item.ensures.value, amount) (omega (
       arith,
       small,
@@ -26,9 +28,11 @@ add_at-requires-clause-bound c =
 pub loop-number-preserved : goal.loop-number-preserved
 loop-number-preserved c =
     let most = base_of-most c.args.header.now c.requires in
-    let amount = same_word c.get.result (base_of c.args.header.now c.loop-number.number) (c.get.ensures (pos 0)) (most c.loop-number.number) in
+    let amount = same_word c.get.result (base_of c.args.header.now c.loop-number.number) (c.get.ensures
+    (pos 0)) (most c.loop-number.number) in
     rw (c.add_at.ensures, c.item_of-item.ensures.value, amount)
-    (HasBases-more c.args.header.now c.requires.is_layout most c.loop-number.number c.loop-number.values c.loop-number.invariant)
+    (HasBases-more c.args.header.now c.requires.is_layout most c.loop-number.number c.loop-number.values
+    c.loop-number.invariant)
 
 pub returns-clause-most : goal.returns-clause-most
 returns-clause-most c i known = omega (

@@ -29,13 +29,18 @@ returns-clause-opens c = λ facts items n layout_is opened affordable.
     let shapes : c.self.inside.layout ≡ facts.layout = ap (λ m. m.shape) c.self.view_is ∙ sym layout_is in
     let states : c.self.inside.plain ≡ now.state = ap (λ m. m.state) c.self.view_is in
     let follows : Follows facts.layout c.args.cpu c.args.counter c.args.delta c.args.mode now.state c.change.new.self
-    = subst (λ (shape : Shape). Follows shape c.args.cpu c.args.counter c.args.delta c.args.mode now.state c.change.new.self) shapes
-    (subst (λ (s : State). Follows c.self.inside.layout c.args.cpu c.args.counter c.args.delta c.args.mode s c.change.new.self) states
-    (subst (λ (z : ℤ). Follows c.self.inside.layout c.args.cpu c.args.counter z c.args.mode c.self.inside.plain c.change.new.self)
+    = subst (λ (shape : Shape). Follows shape c.args.cpu c.args.counter c.args.delta c.args.mode now.state
+    c.change.new.self) shapes
+    (subst (λ (s : State). Follows c.self.inside.layout c.args.cpu c.args.counter c.args.delta c.args.mode s
+    c.change.new.self) states
+    (subst (λ (z : ℤ). Follows c.self.inside.layout c.args.cpu c.args.counter z c.args.mode c.self.inside.plain
+    c.change.new.self)
     (to_z-of_z c.ranges.delta) c.change.ensures.follows)) in
-    IsOpen-line facts items now.state c.change.new.self n c.args.cpu c.args.counter c.args.delta c.args.mode c.requires.fits opened
+    IsOpen-line facts items now.state c.change.new.self n c.args.cpu c.args.counter c.args.delta c.args.mode
+    c.requires.fits opened
     (subst (λ (shape : Shape). IsCpu shape c.args.cpu.number) (sym layout_is) c.requires.cpu) c.requires.online
-    (subst (λ (shape : Shape). IsCounter shape c.args.counter.number) (sym layout_is) c.requires.counter) affordable follows
+    (subst (λ (shape : Shape). IsCounter shape c.args.counter.number)
+    (sym layout_is) c.requires.counter) affordable follows
 
 pub returns-clause-totals : goal.returns-clause-totals
 returns-clause-totals c = λ from items n before.

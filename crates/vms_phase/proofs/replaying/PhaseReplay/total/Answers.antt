@@ -26,12 +26,19 @@ loop-number-preserved c =
     let n = c.loop-number.number in
     let s = c.args.self.now.state in
     let k = c.args.counter.number in
-    let few : n < 128 = omega (arith, c.loop-number-test.true, c.cpus-number-end.ensures.value, c.cpus-number-end.ensures.is_layout.cpus_most) in
+    let few : n < 128 = omega (
+      arith,
+      c.loop-number-test.true,
+      c.cpus-number-end.ensures.value,
+      c.cpus-number-end.ensures.is_layout.cpus_most,
+    ) in
     record {
-      total = added-total (to_z w64 c.loop-number.total-bits) c.differential-total.result (value_at s k) (λ d. diff_at s d k) n
+      total = added-total (to_z w64 c.loop-number.total-bits) c.differential-total.result (value_at s k)
+          (λ d. diff_at s d k) n
           c.loop-number.invariant.total c.differential-total.ensures.value c.loop-number.invariant.bound
           c.differential-total.ensures.bound few;
-      bound = added-bound (to_z w64 c.loop-number.total-bits) c.differential-total.result (value_at s k) (λ d. diff_at s d k) n
+      bound = added-bound (to_z w64 c.loop-number.total-bits) c.differential-total.result (value_at s k)
+          (λ d. diff_at s d k) n
           c.loop-number.invariant.total c.differential-total.ensures.value c.loop-number.invariant.bound
           c.differential-total.ensures.bound few;
     }
