@@ -75,8 +75,8 @@ pub record MakesLines (facts : Facts) (lanes : List Lane) (items : List Item) (h
   pub spends : (c k : ℕ) → spent h c k ≡ volume c k items
   pub state : state_after facts h ≡ now
 
--- the lines of a phase that is still open lead to this state: whichever lanes have passes, as long as those of the lines
--- have, there is a history of the lines
+-- the lines of a phase that is still open lead to this state: whichever lanes have passes, as long as those of the
+-- lines have, there is a history of the lines
 abbrev pub IsOpen : Facts → List Item → State → Type 0
 IsOpen facts items now = (lanes : List Lane) → MayOpen facts lanes →
     All (λ item. is_among item.lane lanes ≡ true) items → (h : History) × MakesLines facts lanes items h now
