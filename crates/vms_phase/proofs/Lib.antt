@@ -1,0 +1,10 @@
+pub mod Mapping
+pub mod ItemSums
+pub mod Rows
+pub mod Starts
+pub mod Openings
+pub mod LineHistories
+pub mod Closings
+pub mod Lanes
+pub mod PhaseEnds
+pub mod CounterTotals

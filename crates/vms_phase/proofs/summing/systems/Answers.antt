@@ -1,0 +1,44 @@
+-- A counter more adds its base to its item.
+use Rattle.std.proofs.Common.{◌≡◌, ◌≤◌, ◌^◌, w64, ℤ, pos, unsigned_abs, to_z, of_z, FitsSigned, sym, ◌∙◌, arith}
+use Rattle.std.proofs.lemmas.Int.{ints, to_z-of_z}
+use Rattle.vms_base.proofs.Counts.{counter_count-most}
+use Rattle.vms_phase.specs.Worlds.{base_of}
+use Rattle.vms_phase.proofs.ItemSums.{HasBases-more, more_small, base_of-most}
+use Rattle.vms_phase.proofs.summing.systems.Goals as goal
+
+same_word : (z base : ℤ) → base ≡ z → unsigned_abs base ≤ 2 ^ 48 → to_z w64 (of_z w64 z) ≡ base
+same_word z base is small =
+    let fits : FitsSigned w64 z = omega (arith, ints) in to_z-of_z w64 z fits ∙ sym is
+
+pub add_at-requires-clause-bound : goal.add_at-requires-clause-bound
+add_at-requires-clause-bound c =
+    let most = base_of-most c.args.header.now c.requires in
+    let amount = same_word c.get.result (base_of c.args.header.now c.loop-number.number) (c.get.ensures
+    (pos 0)) (most c.loop-number.number) in
+    let small = more_small c.args.header.now c.requires.is_layout most c.loop-number.number c.loop-number.values
+    c.loop-number.invariant in
+    rw (c.item_of-item.ensures.value, amount) (omega (
+      arith,
+      small,
+      c.loop-number-test.true,
+      c.counters-number-end.ensures.value,
+      counter_count-most c.args.header.now.layout c.requires.is_layout,
+    ))
+
+pub loop-number-preserved : goal.loop-number-preserved
+loop-number-preserved c =
+    let most = base_of-most c.args.header.now c.requires in
+    let amount = same_word c.get.result (base_of c.args.header.now c.loop-number.number) (c.get.ensures
+    (pos 0)) (most c.loop-number.number) in
+    rw (c.add_at.ensures, c.item_of-item.ensures.value, amount)
+    (HasBases-more c.args.header.now c.requires.is_layout most c.loop-number.number c.loop-number.values
+    c.loop-number.invariant)
+
+pub returns-clause-most : goal.returns-clause-most
+returns-clause-most c i known = omega (
+  arith,
+  c.loop-number.invariant.small i known,
+  c.loop-number.auto.«number-end»,
+  c.counters-number-end.ensures.value,
+  counter_count-most c.args.header.now.layout c.requires.is_layout,
+)

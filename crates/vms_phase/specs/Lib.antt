@@ -1,0 +1,4 @@
+pub mod Worlds
+pub mod FileOrder
+pub mod OpenPhases
+pub mod Totals

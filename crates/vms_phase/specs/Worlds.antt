@@ -1,0 +1,102 @@
+-- The states of the page counters between phases.
+use Rattle.std.specs.Prelude.{◌≡◌, ℕ, ◌≤◌, ◌*◌, ◌-◌, nat_eq, List, length, map, replicate, ℤ, pos, if◌then◌else◌, slice_index, slice_index_or, None}
+use Rattle.vms_base.specs.declared.headers.Header.{Header}
+use Rattle.vms_base.specs.declared.kinds.CpuState.TheVariants.{Online}
+use Rattle.vms_base.specs.declared.kinds.ZoneKind.TheVariants.{Dma}
+use Rattle.vms_base.specs.declared.kinds.ZoneName.{ZoneName}
+use Rattle.vms_base.specs.declared.kinds.ZoneSize.{ZoneSize}
+use Rattle.vms_base.specs.Marks.{linux_mark_of, cover_mark_of}
+use Rattle.vms_base.specs.Places.{IsCpu, IsZone, IsNode, IsPlace, IsCounter, IsItem, counter_count, place_count, item_of}
+use Rattle.vms_base.specs.Sizes.{IsValidSize}
+use Rattle.vms_base.specs.Thresholds.{normal_threshold_of}
+use Rattle.vms_core.specs.declared.states.State.{State}
+use Rattle.vms_core.specs.declared.steps.Facts.{Facts}
+use Rattle.vms_core.specs.Bases.{size_at}
+use Rattle.vms_core.specs.Cells.{HasShape, value_at, system_at, diff_at, threshold_at, threshold_sets_at, mark_at, mark_sets_at, cpu_at, acknowledged_at}
+use Rattle.vms_core.specs.Peaks.{largest_below}
+use Rattle.vms_history.specs.Sums.{sum_below}
+
+-- what the page table is told of a phase from this state
+abbrev pub facts_of : Header → State → Facts
+facts_of header s = record { layout = header.layout; sizes = header.sizes; base = s }
+
+-- the base of a counter, and of an item: the sum over its counters
+abbrev pub base_of : Header → ℕ → ℤ
+base_of header k = slice_index_or header.bases k (pos 0)
+
+abbrev pub base_of_item : Header → ℕ → ℤ
+base_of_item header i =
+    sum_below (λ k. if nat_eq (item_of header.layout k) i then base_of header k else pos 0)
+    (counter_count header.layout)
+
+-- the node of a zone; past the zones, node 0
+abbrev pub node_of_zone : List ZoneName → ℕ → ℕ
+node_of_zone zones g = (slice_index_or zones g (record { node = 0; kind = Dma })).node
+
+-- the largest of these thresholds of zones over the zones of a node
+abbrev pub largest_of_node : List ZoneName → (ℕ → ℕ) → ℕ → ℕ
+largest_of_node zones threshold node =
+    largest_below (λ g. if nat_eq (node_of_zone zones g) node then threshold g else 0) (length zones)
+
+-- the kernel's normal rule, and a rule that answers as it does
+abbrev pub normal_rule : ZoneSize → ℕ → ℕ → Type 0
+normal_rule size online t = t ≡ normal_threshold_of size online
+
+abbrev pub IsNormalRule : (ZoneSize → ℕ → ℕ → Type 0) → Type 0
+IsNormalRule answers = (size : ZoneSize) (online t : ℕ) → IsValidSize size → 1 ≤ online → online ≤ 128 →
+    answers size online t → normal_rule size online t
+
+-- the mark of a zone when all CPUs are online and hide nothing
+abbrev pub opening_mark : ZoneSize → ℕ → ℕ → ℕ
+opening_mark size cpus t = cover_mark_of size (linux_mark_of size cpus t) (cpus * t)
+
+-- the state that a run begins with under these thresholds of the zones: every CPU online, the global values from the
+-- bases, nothing hidden, the threshold of a node the largest of its zones, and marks that cover the thresholds
+-- (`refresh_zone_stat_thresholds`)
+pub record IsStartUnder (header : Header) (thresholds : List ℕ) (s : State) : Type 0 where
+  pub shaped : HasShape header.layout s
+  pub values : (k : ℕ) → IsCounter header.layout k → value_at s k ≡ base_of header k
+  pub systems : (i : ℕ) → IsItem header.layout i → system_at s i ≡ base_of_item header i
+  pub diffs : (c k : ℕ) → IsCpu header.layout c → IsCounter header.layout k → diff_at s c k ≡ pos 0
+  pub zones : (c g : ℕ) → IsCpu header.layout c → IsZone header.layout g →
+      threshold_at s c g ≡ slice_index thresholds g
+  pub nodes : (c g : ℕ) → IsCpu header.layout c → IsNode header.layout g →
+      threshold_at s c g ≡ largest_of_node header.layout.zones (slice_index thresholds)
+      (slice_index header.layout.nodes (g - length header.layout.zones))
+  pub marks : (g : ℕ) → IsZone header.layout g →
+      mark_at s g ≡ opening_mark (size_at header.sizes g) header.layout.cpus (slice_index thresholds g)
+  pub online : (c : ℕ) → IsCpu header.layout c → cpu_at s c ≡ Online
+  pub unacknowledged : (c g : ℕ) → IsCpu header.layout c → IsZone header.layout g → acknowledged_at s c g ≡ None
+  pub unset_thresholds : (c g : ℕ) → IsCpu header.layout c → IsPlace header.layout g →
+      threshold_sets_at s c g ≡ 0
+  pub unset_marks : (g : ℕ) → IsZone header.layout g → mark_sets_at s g ≡ 0
+
+-- the state that a run begins with: the thresholds of the zones are what a rule answers for all CPUs
+pub record IsStart (header : Header) (answers : ZoneSize → ℕ → ℕ → Type 0) (s : State) : Type 0 where
+  pub thresholds : List ℕ
+  pub by_rule : (g : ℕ) → IsZone header.layout g →
+      answers (size_at header.sizes g) header.layout.cpus (slice_index thresholds g)
+  pub state : IsStartUnder header thresholds s
+
+-- the state of these system-wide values, thresholds and marks in which each counter has its base, every CPU is online,
+-- and nothing is hidden, acknowledged or set
+abbrev pub quiet_state : Header → List ℤ → List ℕ → List ℕ → State
+quiet_state header system threshold mark = record {
+  place = header.bases;
+  system = system;
+  diff = replicate (header.layout.cpus * counter_count header.layout) (pos 0);
+  threshold = threshold;
+  mark = mark;
+  cpu = replicate header.layout.cpus Online;
+  acknowledged = replicate (header.layout.cpus * length header.layout.zones) None;
+  threshold_sets = replicate (header.layout.cpus * place_count header.layout) 0;
+  mark_sets = replicate (length header.layout.zones) 0;
+}
+
+-- a state as the next phase begins with it: nothing acknowledged, and nothing set
+abbrev pub settled : State → State
+settled s = record s {
+  acknowledged = map (λ _. None) s.acknowledged;
+  threshold_sets = map (λ _. 0) s.threshold_sets;
+  mark_sets = map (λ _. 0) s.mark_sets;
+}

@@ -1,0 +1,12 @@
+//! The page counters of a run, in file order: the state that it begins with, and the histories that its changes make.
+#![tactic(auto)]
+
+mod replaying;
+mod settings;
+mod starting;
+mod summing;
+#[cfg(test)]
+mod tests;
+
+pub use replaying::PhaseReplay;
+pub use starting::start;

@@ -1,0 +1,145 @@
+ghost use Rattle.std.specs.Prelude.{◌≡◌, ◌≤◌, ◌^◌, unsigned_abs, All, IfOk};
+ghost use Rattle.vms_base.specs.Headers.{IsHeader};
+ghost use Rattle.vms_base.specs.Sizes.{IsValidSize};
+ghost use Rattle.vms_core.specs.Bases.{IsOpening};
+ghost use Rattle.vms_phase.specs.Worlds.{settled};
+ghost use Rattle.vms_calc.specs.Rules.{TellsThresholds};
+
+use crate::{PhaseReplay, start};
+use std::alloc::Global;
+use std::process::Abort;
+use std::test::Fail;
+use vms_base::{CounterId, CpuState, Header, Layout, Memory, Row, ZoneKind, ZoneName, ZoneSize};
+use vms_calc::{Rule, Rules, normal_threshold, pressure_threshold};
+use vms_core::State;
+
+/// 100 and 200 free pages, and 5 and 7 pages of two other counters.
+const BASES: [i64; 24] = [
+    100, 0, 0, 0, 0, 0, 0, 0, 200, 0, 0, 0, 0, 0, 0, 5, 7, 0, 0, 0, 0, 0, 0, 0,
+];
+
+/// A size that is seen to be valid.
+fn size(rt: &impl Abort, managed: u64, min: u64, low: u64, high: u64) -> ZoneSize
+    ensures { IsValidSize result }
+{
+    assert!(rt; 1 <= managed && managed <= 1 << 40);
+    assert!(rt; min <= low && low <= high && high <= 1 << 42);
+    ZoneSize {
+        managed,
+        min,
+        low,
+        high,
+    }
+}
+
+/// A header of these zones with eight items a place.
+fn header(
+    rt: &impl Abort,
+    alloc: Global,
+    zones: &[ZoneName],
+    cpus: u32,
+    sizes: &[ZoneSize],
+    bases: &[i64],
+) -> Result<Header, Fail>
+    requires nodes { All (λ zone. zone.node ≤ 15) zones.now }
+    requires sizes { All IsValidSize sizes.now }
+    requires bases { All (λ base. unsigned_abs base ≤ 2 ^ 48) bases.now }
+    ensures { IfOk result (λ header. IsHeader header) }
+{
+    let layout = Layout::make(zones, cpus)?;
+    assert_eq!(rt; sizes.len(), layout.zones().len());
+    assert_eq!(rt; bases.len(), layout.counters() as usize);
+    Ok(Header {
+        layout,
+        sizes: Row::from_slice(alloc, sizes)?,
+        bases: Row::from_slice(alloc, bases)?,
+        counters: Row::make(Vec::new(alloc)),
+        items: Row::make(Vec::new(alloc)),
+    })
+}
+
+/// The state that a run begins with by the kernel's rules.
+fn started(alloc: Global, header: &Header) -> Result<State, Memory>
+    requires { IsHeader header.now }
+    ensures opening { IfOk result (λ s. IsOpening header.now.layout s) }
+    ensures settled { IfOk result (λ s. settled s ≡ s) }
+{
+    by_rules(
+        alloc,
+        header,
+        |size: &ZoneSize, online: u32| normal_threshold(size, online),
+        |size: &ZoneSize, online: u32| pressure_threshold(size, online),
+    )
+}
+
+fn by_rules<N: Rule, P: Rule>(
+    alloc: Global,
+    header: &Header,
+    normal: N,
+    pressure: P,
+) -> Result<State, Memory>
+    requires header { IsHeader header.now }
+    requires normal { TellsThresholds (N.accepts normal) (N.answers normal) }
+    requires pressure { TellsThresholds (P.accepts pressure) (P.answers pressure) }
+    ensures opening { IfOk result (λ s. IsOpening header.now.layout s) }
+    ensures settled { IfOk result (λ s. settled s ≡ s) }
+{
+    start(alloc, header, &Rules::make(normal, pressure))
+}
+
+/// The header of two zones of node 0, on four CPUs.
+fn two_zones(rt: &impl Abort, alloc: Global) -> Result<Header, Fail>
+    ensures { IfOk result (λ header. IsHeader header) }
+{
+    let zones = [
+        ZoneName {
+            node: 0,
+            kind: ZoneKind::Dma32,
+        },
+        ZoneName {
+            node: 0,
+            kind: ZoneKind::Normal,
+        },
+    ];
+    let sizes = [
+        size(rt, 262144, 100, 125, 150),
+        size(rt, 32768, 10, 200, 300),
+    ];
+    header(rt, alloc, &zones, 4, &sizes, &BASES)
+}
+
+#[test]
+fn a_run_begins_on_four_cpus(rt: HostRuntime) -> Result<(), Fail> {
+    let header = two_zones(&rt, rt.alloc())?;
+    let state = started(rt.alloc(), &header)?;
+    assert_eq!(rt; state.place.as_slice(), BASES.as_slice());
+    assert_eq!(rt;
+        state.system.as_slice(),
+        [300, 0, 0, 0, 0, 0, 0, 5, 7, 0, 0, 0, 0, 0, 0, 0].as_slice()
+    );
+    assert_eq!(rt; state.diff.as_slice(), [0; 96].as_slice());
+    // 2 * 3 * (1 + 4) and 2 * 3 * (1 + 1): 4 CPUs have three digits, 8 blocks four and one block one
+    assert_eq!(rt;
+        state.threshold.as_slice(),
+        [30, 12, 30, 30, 12, 30, 30, 12, 30, 30, 12, 30].as_slice()
+    );
+    // 120 hidden pages are more than 25, so the mark is that many above 150; 48 are fewer than 190
+    assert_eq!(rt; state.mark.as_slice(), [270, 0].as_slice());
+    assert_eq!(rt; state.cpu.as_slice(), [CpuState::Online; 4].as_slice());
+    assert_eq!(rt; state.acknowledged.as_slice(), [None; 8].as_slice());
+    assert_eq!(rt; state.threshold_sets.as_slice(), [0; 12].as_slice());
+    assert_eq!(rt; state.mark_sets.as_slice(), [0; 2].as_slice());
+    Ok(())
+}
+
+#[test]
+fn a_phase_begins_with_its_totals(rt: HostRuntime) -> Result<(), Fail> {
+    let header = two_zones(&rt, rt.alloc())?;
+    let state = started(rt.alloc(), &header)?;
+    assert_eq!(rt; header.layout.counters(), 24);
+    let replay = PhaseReplay::begin(header.layout.copied(), state);
+    assert_eq!(rt; replay.total(CounterId { number: 8 }), 200);
+    replay.end_phase();
+    assert_eq!(rt; replay.state().place.as_slice().get(8), Some(&200));
+    Ok(())
+}
