@@ -3,43 +3,13 @@
 //! It writes what the proved program writes, and ends with its statuses: 0, 1 for other words, 2 for a refused header,
 //! 3 where a line was refused, 4 for a failed read and 5 for a failed write, 7 past a limit on lines, phases or reports.
 
+mod names;
+
+use names::{EVENTS, NODE_ITEMS, ZONE_ITEMS};
 use std::fmt::{self, Display};
 use std::io::{self, BufRead, BufReader, BufWriter, Write};
 use std::process::ExitCode;
 use std::str;
-
-const ZONE_ITEMS: [&str; 8] = [
-    "nr_free_pages",
-    "nr_zone_inactive_anon",
-    "nr_zone_active_anon",
-    "nr_zone_inactive_file",
-    "nr_zone_active_file",
-    "nr_zone_unevictable",
-    "nr_zone_write_pending",
-    "nr_mlock",
-];
-
-const NODE_ITEMS: [&str; 8] = [
-    "nr_inactive_anon",
-    "nr_active_anon",
-    "nr_inactive_file",
-    "nr_active_file",
-    "nr_unevictable",
-    "nr_anon_pages",
-    "nr_file_pages",
-    "nr_dirty",
-];
-
-const EVENTS: [&str; 8] = [
-    "pgpgin",
-    "pgpgout",
-    "pswpin",
-    "pswpout",
-    "pgfree",
-    "pgactivate",
-    "pgdeactivate",
-    "pgfault",
-];
 
 const KINDS: [&str; 4] = ["DMA", "DMA32", "Normal", "Movable"];
 const MARKS: [&str; 3] = ["min", "low", "high"];
