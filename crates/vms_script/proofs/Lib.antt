@@ -3,6 +3,11 @@ pub mod VolumeSums
 pub mod Standings
 pub mod Decisions
 pub mod Spendings
+pub mod Known
+pub mod LineVolumes
+pub mod Elements
+pub mod PhaseLines
+pub mod Phases
 pub mod Feeding
 pub mod Sizes
 pub mod Changes

@@ -11,19 +11,21 @@ use Rattle.vms_script.specs.declared.scripters.FeedError.TheVariants.{Refused, M
 use Rattle.vms_script.specs.declared.scripters.Scripter.{Scripter}
 use Rattle.vms_script.specs.Judging.{judged}
 use Rattle.vms_script.specs.Standing.{Stands}
+use Rattle.vms_script.specs.Totals.{ArePhases, lines_of_phases}
+use Rattle.vms_script.specs.Volumes.{spent_on_counter, volume}
 use Rattle.vms_script.specs.declared.scripters.Fed.TheVariants.{Blank as FedBlank, Kept, Boundary as FedBoundary}
 
--- what a scripter has come to: the header it was made for, the lines that count, the newest first, and the lane
--- lines that it
--- holds, the oldest first
+-- what a scripter has come to: the header it was made for, the lines that count, the newest first, the phases that
+-- were taken, the oldest first, and the lane lines that it holds, the oldest first
 pub record Script : Type 0 where
   pub header : Header
   pub lines : List Line
+  pub taken : List (List Item)
   pub items : List Item
 
 -- before the first line
 abbrev pub first_script : Header → Script
-first_script header = record { header = header; lines = []; items = [] }
+first_script header = record { header = header; lines = []; taken = []; items = [] }
 
 -- the script with line n, which counts
 abbrev pub with_line : ℕ → Line → Script → Script
@@ -34,23 +36,42 @@ with_line n (Lane lane act) script = record script {
 }
 with_line n (Boundary boundary) script = record script { lines = Boundary boundary ∷ script.lines }
 
+-- the script when its lane lines were taken
+abbrev pub with_taken : Script → Script
+with_taken script = record script { taken = script.taken ++ script.items ∷ []; items = [] }
+
+-- the phases that were taken and the one that is held
+abbrev pub phases_of : Script → List (List Item)
+phases_of script = script.taken ++ script.items ∷ []
+
 -- what is told of a line that counts, or is blank
 abbrev pub fed_of : Line → Fed
 fed_of Blank = FedBlank
 fed_of (Lane lane act) = Kept
 fed_of (Boundary boundary) = FedBoundary boundary
 
--- a scripter that has come to this: the numbers of the items ascend
+-- a scripter that has come to this: the numbers of the items ascend, and the phases are those of the body, with the
+-- volumes of the lines that count
 pub record Holds (script : Script) (scripter : Scripter) : Type 0 where
   pub stands : Stands script.header script.lines scripter.judge
   pub items : scripter.items.items ≡ script.items
   pub ascend : IsStrictlyIncreasing (map (λ item. item.number) script.items)
   pub few : length script.items ≤ 1000000
+  pub phases : ArePhases script.header (phases_of script)
+  pub volumes : (c k : ℕ) → volume (spent_on_counter k) c (lines_of_phases (phases_of script))
+      ≡ volume (spent_on_counter k) c script.lines
 
 -- a scripter of a body with this header
 pub record SomeScripter (header : Header) (scripter : Scripter) : Type 0 where
   pub script : Script
   pub of : script.header ≡ header
+  pub holds : Holds script scripter
+
+-- a scripter of a body with this header that gave these phases
+pub record Gave (header : Header) (phases : List (List Item)) (scripter : Scripter) : Type 0 where
+  pub script : Script
+  pub of : script.header ≡ header
+  pub taken : script.taken ≡ phases
   pub holds : Holds script scripter
 
 -- what a scripter comes to past line n of this text: a line that doesn't count, and want of memory, leave it

@@ -47,10 +47,10 @@ pub struct Scripter {
 }
 
 impl Scripter {
-    ghost use Rattle.std.specs.Prelude.{◌≡◌, ◌<◌, [], All, IfOk, map, vec_capacity, vec_len};
+    ghost use Rattle.std.specs.Prelude.{◌≡◌, ◌<◌, All, IfOk, map, vec_capacity, vec_len};
     ghost use Rattle.std.specs.List.Sorted.{IsStrictlyIncreasing};
     ghost use Rattle.vms_base.specs.Headers.{IsHeader};
-    ghost use Rattle.vms_script.specs.Scripts.{Feeds, Holds, Script, SomeScripter, fed_of, first_script, with_line};
+    ghost use Rattle.vms_script.specs.Scripts.{Feeds, Holds, Script, SomeScripter, fed_of, first_script, with_line, with_taken};
 
     /// A scripter before the first line of a body with this header.
     pub fn make(alloc: Global, header: &Header) -> Result<Scripter, Memory>
@@ -83,7 +83,7 @@ impl Scripter {
     /// The lane lines so far, in the order of the text, of which the scripter then holds none.
     pub fn take_phase(&mut self) -> PhaseScript
         ensures { (script : Script) → Holds script self.old →
-            (result.items ≡ script.items) × Holds (record script { items = [] }) self.new }
+            (result.items ≡ script.items) × Holds (with_taken script) self.new }
     {
         std::mem::replace(&mut self.items, Vec::new(self.alloc))
     }

@@ -1,4 +1,5 @@
 mod headers;
 mod judges;
+mod phases;
 mod scripters;
 mod totals;

@@ -1,9 +1,11 @@
 use Rattle.std.proofs.Common.{◌≡◌, ◌<◌, List, length, sym, ap, subst, ◌∙◌, arith, All, Ok, Err}
 use Rattle.vms_base.specs.declared.headers.Header.{Header}
 use Rattle.vms_text.specs.declared.acts.Item.{Item}
+use Rattle.vms_trace.specs.Laws.{IsLineOf}
 use Rattle.vms_script.specs.Judging.{counted, judged}
 use Rattle.vms_script.specs.Standing.{Stands}
 use Rattle.vms_script.proofs.Feeding.{Holds-past}
+use Rattle.vms_script.proofs.Known.{judged-known}
 use Rattle.vms_script.proofs.scripters.Scripter.feed.Goals as goal
 
 pub returns-in-Ok : goal.returns-in-Ok
@@ -20,6 +22,8 @@ returns-in-Ok c = λ script of holds.
           (Ok c.in-Ok.said) script.lines) c.keep.new.self.judge) (sym of)
           (rw c.keep.ensures.judge judged_here.1))
           (c.keep.ensures.items script kept)
+          (subst (λ (header : Header). IsLineOf header c.in-Ok.said) (sym of) (judged-known c.args.header.now script.lines
+          c.args.line.now c.in-Ok.said c.requires.header (sym judged_here.0)))
           (subst (λ (items : List Item). All (λ item. item.number < c.args.number) items) holds.items c.requires.number)
           (omega (arith, ap (λ (items : List Item). length items) holds.items, c.requires.few)),
     )
@@ -35,5 +39,7 @@ returns-in-Err c = λ script of holds.
         items = c.reserve.ensures.items ∙ holds.items;
         ascend = holds.ascend;
         few = holds.few;
+        phases = holds.phases;
+        volumes = holds.volumes;
       },
     )

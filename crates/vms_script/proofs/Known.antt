@@ -1,0 +1,88 @@
+-- A line that counts is what was read, and is one of its header.
+use Rattle.std.proofs.Common.{◌≡◌, ℕ, Bool, true, false, if◌then◌else◌, List, ap}
+use Rattle.std.specs.Prelude.{nat_eq, Result, Ok, Err}
+use Rattle.std.proofs.lemmas.Result.{IfOk-at_ok}
+use Rattle.vms_base.specs.declared.headers.Header.{Header}
+use Rattle.vms_base.specs.declared.kinds.CpuState.{CpuState}
+use Rattle.vms_base.specs.declared.kinds.CpuState.TheVariants as states
+use Rattle.vms_base.specs.Headers.{IsHeader}
+use Rattle.vms_text.specs.declared.acts.Act.{Act}
+use Rattle.vms_text.specs.declared.acts.Act.TheVariants.{Dead}
+use Rattle.vms_text.specs.declared.acts.Boundary.{Boundary as BoundaryOf}
+use Rattle.vms_text.specs.declared.acts.Boundary.TheVariants.{Offline, Online}
+use Rattle.vms_text.specs.declared.acts.Lane.TheVariants.{Cpu, Control}
+use Rattle.vms_text.specs.declared.acts.Line.{Line}
+use Rattle.vms_text.specs.declared.acts.Line.TheVariants.{Blank, Lane, Boundary}
+use Rattle.vms_trace.specs.declared.causes.LineCause.{LineCause}
+use Rattle.vms_trace.specs.declared.causes.LineCause.TheVariants.{NotOnline, Overflow, LastCpu}
+use Rattle.vms_trace.specs.Body.{read_line}
+use Rattle.vms_trace.specs.Laws.{IsLineOf}
+use Rattle.vms_trace.specs.Reading.{and_then}
+use Rattle.vms_trace.proofs.LinesKnown.{read_line-known}
+use Rattle.vms_script.specs.Cpus.{cpu_state, is_online, online_below}
+use Rattle.vms_script.specs.Judging.{allowed, allowed_boundary, allowed_burial, allowed_of_control, allowed_online, judged}
+use Rattle.vms_script.specs.Volumes.{overflows}
+
+-- the line itself, if any
+abbrev Keeps : Line → Result Line LineCause → Type 0
+Keeps said result = (line : Line) → result ≡ Ok line → said ≡ line
+
+keeps-ok : (said : Line) → Keeps said (Ok said)
+keeps-ok said = λ line is. cc
+
+keeps-err : (said : Line) (cause : LineCause) → Keeps said (Err cause)
+keeps-err said cause = λ line is. absurd cc
+
+keeps-either : (said : Line) (b : Bool) (x y : Result Line LineCause) → Keeps said x → Keeps said y
+    → Keeps said (if b then x else y)
+keeps-either said true x y first second = first
+keeps-either said false x y first second = second
+
+keeps-burial : (said : Line) (state : CpuState) → Keeps said (allowed_burial state said)
+keeps-burial said states.Dead = keeps-ok said
+keeps-burial said states.Online = λ line is. absurd cc
+keeps-burial said states.Absent = λ line is. absurd cc
+
+keeps-online : (said : Line) (state : CpuState) → Keeps said (allowed_online state said)
+keeps-online said states.Absent = keeps-ok said
+keeps-online said states.Online = λ line is. absurd cc
+keeps-online said states.Dead = λ line is. absurd cc
+
+keeps-control : (lines : List Line) (act : Act) (said : Line) → Keeps said (allowed_of_control lines act said)
+keeps-control lines (Dead cpu) said = keeps-burial said (cpu_state cpu.number lines)
+keeps-control lines act said = keeps-ok said
+
+keeps-boundary : (header : Header) (lines : List Line) (boundary : BoundaryOf) (said : Line)
+    → Keeps said (allowed_boundary header lines boundary said)
+keeps-boundary header lines (Offline cpu) said =
+    keeps-either said (is_online (cpu_state cpu.number lines)) _ _
+    (keeps-either said (nat_eq (online_below header.layout.cpus lines) 1) _ _ (keeps-err said LastCpu)
+    (keeps-ok said)) (keeps-err said NotOnline)
+keeps-boundary header lines (Online cpu) said = keeps-online said (cpu_state cpu.number lines)
+keeps-boundary header lines boundary said = keeps-ok said
+
+keeps-allowed : (header : Header) (lines : List Line) (said : Line) → Keeps said (allowed header lines said)
+keeps-allowed header lines Blank = keeps-ok Blank
+keeps-allowed header lines (Lane (Cpu cpu) act) =
+    keeps-either (Lane (Cpu cpu) act) (is_online (cpu_state cpu.number lines)) _ _
+    (keeps-either (Lane (Cpu cpu) act) (overflows lines cpu.number act) _ _
+    (keeps-err (Lane (Cpu cpu) act) Overflow) (keeps-ok (Lane (Cpu cpu) act)))
+    (keeps-err (Lane (Cpu cpu) act) NotOnline)
+keeps-allowed header lines (Lane Control act) = keeps-control lines act (Lane Control act)
+keeps-allowed header lines (Boundary boundary) = keeps-boundary header lines boundary (Boundary boundary)
+
+module _ (header : Header) (lines : List Line) where
+  read-from : (read : Result Line LineCause) (line : Line) → and_then read (allowed header lines) ≡ Ok line
+      → read ≡ Ok line
+  read-from (Ok said) line is = ap Ok (keeps-allowed header lines said line is)
+  read-from (Err cause) line is = absurd cc
+
+  -- a line that counts was read as what it says
+  pub judged-read : (text : List ℕ) (line : Line) → judged header lines text ≡ Ok line
+      → read_line header text ≡ Ok line
+  judged-read text line is = read-from (read_line header text) line is
+
+  pub judged-known : (text : List ℕ) (line : Line) → IsHeader header → judged header lines text ≡ Ok line
+      → IsLineOf header line
+  judged-known text line is_header is =
+      IfOk-at_ok (IsLineOf header) (judged-read text line is) (read_line-known header is_header text)
