@@ -13,15 +13,16 @@ use Rattle.vms_core.specs.declared.states.State.{State}
 use Rattle.vms_core.specs.Cells.{HasShape, counters_of, value_at, diff_at}
 use Rattle.vms_core.specs.Following.{with_change_of, with_change}
 use Rattle.vms_phase.specs.OpenPhases.{IsDelta, act_of, change_item}
-use Rattle.vms_phase.specs.Totals.{counter_total, change_by, change_by_all, AddsUp}
+use Rattle.vms_script.specs.Totals.{change_by, changes_by}
+use Rattle.vms_phase.specs.Totals.{counter_total, AddsUp}
 use Rattle.vms_text.specs.declared.acts.Item.{Item}
 
-change_by_all-append : (k : ℕ) (items more : List Item)
-    → change_by_all k (items ++ more) ≡ change_by_all k items +ℤ change_by_all k more
-change_by_all-append k [] more = omega (arith, ints)
-change_by_all-append k (item ∷ items) more = omega (arith, ints, change_by_all-append k items more)
+pub changes_by-append : (k : ℕ) (items more : List Item)
+    → changes_by k (items ++ more) ≡ changes_by k items +ℤ changes_by k more
+changes_by-append k [] more = omega (arith, ints)
+changes_by-append k (item ∷ items) more = omega (arith, ints, changes_by-append k items more)
 
-change_by-act : (l : ℕ) (k : CounterId) (delta : ℤ) (how : Mode) → IsDelta how delta
+pub change_by-act : (l : ℕ) (k : CounterId) (delta : ℤ) (how : Mode) → IsDelta how delta
     → change_by l (act_of how k delta) ≡ (if nat_eq k.number l then delta else pos 0)
 change_by-act l k delta Modify fits = refl
 change_by-act l k delta Raise fits = ap (λ z. if nat_eq k.number l then z else pos 0) (sym fits)
@@ -31,18 +32,18 @@ module _ (shape : Shape) (s : State) (c k : ℕ) (delta : ℤ) (how : Mode) (sha
   abbrev next : State
   next = with_change shape c k delta how s
 
-  diff-other : (d l : ℕ) → cell (counters_of s) d l ≢ cell (counters_of s) c k → diff_at next d l ≡ diff_at s d l
+  pub diff-other : (d l : ℕ) → cell (counters_of s) d l ≢ cell (counters_of s) c k → diff_at next d l ≡ diff_at s d l
   unfolding with_change_of
   diff-other d l differ = rw (length-set s.place k)
       (get_or-set_other s.diff (cell (counters_of s) c k) (cell (counters_of s) d l) _ (pos 0) differ)
 
-  value-other : (l : ℕ) → l ≢ k → value_at next l ≡ value_at s l
+  pub value-other : (l : ℕ) → l ≢ k → value_at next l ≡ value_at s l
   unfolding with_change_of
   value-other l other = get_or-set_other s.place k l _ (pos 0) other
 
   module _ (c_in : IsCpu shape c) (k_in : IsCounter shape k)
       (here : value_at next k +ℤ diff_at next c k ≡ (value_at s k +ℤ diff_at s c k) +ℤ delta) where
-    in_row : (l : ℕ) → IsCounter shape l → l < counters_of s
+    pub in_row : (l : ℕ) → IsCounter shape l → l < counters_of s
     in_row l known = omega (arith, shaped.place)
 
     total-same : counter_total shape next k ≡ counter_total shape s k +ℤ delta
@@ -94,6 +95,6 @@ AddsUp-line shape from s next items n cpu k delta how shaped c_in k_in fits is h
       ap (λ x. counter_total shape x l) is,
       moved,
       before l known,
-      change_by_all-append l items (change_item n cpu k delta how ∷ []),
+      changes_by-append l items (change_item n cpu k delta how ∷ []),
       change_by-act l k delta how fits,
     )

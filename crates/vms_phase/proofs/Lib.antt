@@ -8,3 +8,10 @@ pub mod Closings
 pub mod Lanes
 pub mod PhaseEnds
 pub mod CounterTotals
+pub mod RunTotals
+pub mod RunChanges
+pub mod RunStates
+pub mod RunStarts
+pub mod RunLines
+pub mod RunEnds
+pub mod PhaseLaws

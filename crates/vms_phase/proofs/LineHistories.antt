@@ -1,9 +1,7 @@
 -- The lines of an open phase make a history.
-use Rattle.std.proofs.Common.{◌≡◌, ◌≢◌, ℕ, ◌+◌, ◌≤◌, nat_eq, ◌&&◌, Bool, true, false, ℤ, unsigned_abs, List, [], ◌∷◌, ◌++◌, length, Some, refl, sym, ap, subst, ◌∙◌, arith, if◌then◌else◌, ⊎_elim, append_assoc, length-append}
-use Rattle.std.specs.Prelude.{All}
+use Rattle.std.proofs.Common.{◌≡◌, ◌≢◌, ℕ, ◌+◌, ◌≤◌, nat_eq, ◌&&◌, Bool, true, false, ℤ, unsigned_abs, List, [], ◌∷◌, ◌++◌, map, Some, refl, sym, ap, subst, ◌∙◌, arith, if◌then◌else◌, ⊎_elim, append_assoc}
 use Rattle.std.proofs.lemmas.Bool.{cases_eq}
-use Rattle.std.proofs.lemmas.List.{get_or_append_left, get_or_push}
-use Rattle.std.proofs.lemmas.List.Elements.{All-get_or, All-from_get_or}
+use Rattle.std.proofs.lemmas.List.{map-append}
 use Rattle.std.proofs.lemmas.Bool.Decides.{nat_tests}
 use Rattle.vms_base.specs.declared.ids.CounterId.{CounterId}
 use Rattle.vms_base.specs.declared.ids.CpuId.{CpuId}
@@ -27,21 +25,16 @@ use Rattle.vms_core.specs.Steps.{turn}
 use Rattle.vms_core.specs.Totals.{spent}
 use Rattle.vms_phase.specs.FileOrder.{Follow, Makes, is_among, opening_of, pass_of, splits_from}
 use Rattle.vms_phase.specs.FileOrder.Follow.{line}
-use Rattle.vms_phase.specs.OpenPhases.{MayOpen, MakesLines, IsOpen, IsDelta, Follows, act_of, change_item, spent_by_act, spent_by_lane, volume}
+use Rattle.vms_phase.specs.OpenPhases.{MayOpen, MakesLines, IsOpen, IsDelta, Follows, act_of, change_item, volume}
 use Rattle.vms_phase.proofs.Openings.{IsLegal-splits, own-main, own-other, owner-lane, lives-lane, pass_of-least, pass_of-most, spent-none, state_after-splits}
+use Rattle.vms_script.proofs.Elements.{All-front, All-last}
+use Rattle.vms_script.proofs.PhaseLines.{volume-append as volume_of_lines-append}
+use Rattle.vms_script.specs.Totals.{line_of}
+use Rattle.vms_script.specs.Volumes.{by_cpu, spent_on_counter, volume as volume_of_lines}
 use Rattle.vms_text.specs.declared.acts.Item.{Item}
 use Rattle.vms_text.specs.declared.acts.Lane.{Lane}
 use Rattle.vms_text.specs.declared.acts.Lane.TheVariants.{Cpu}
-
--- all items but the last, and the last
-All-front : {X : Type 0} (P : X → Type 0) (xs : List X) (x : X) → All P (xs ++ x ∷ []) → All P xs
-All-front P xs x all = All-from_get_or P xs x (λ i within.
-    subst P (get_or_append_left xs (x ∷ []) x i within)
-    (All-get_or P (xs ++ x ∷ []) i x (omega (arith, length-append xs (x ∷ []))) all))
-
-All-last : {X : Type 0} (P : X → Type 0) (xs : List X) (x : X) → All P (xs ++ x ∷ []) → P x
-All-last P xs x all = subst P (get_or_push xs x x (length xs) refl)
-    (All-get_or P (xs ++ x ∷ []) (length xs) x (omega (arith, length-append xs (x ∷ []))) all)
+use Rattle.vms_text.specs.declared.acts.Line.TheVariants.{Lane as LaneLine}
 
 pub MakesLines-none : (facts : Facts) (lanes : List Lane) → IsBase facts → MayOpen facts lanes
     → MakesLines facts lanes [] (opening_of lanes) facts.base
@@ -56,25 +49,31 @@ MakesLines-none facts lanes base may = record {
 }
 
 volume-append : (c k : ℕ) (items more : List Item) → volume c k (items ++ more) ≡ volume c k items + volume c k more
-volume-append c k [] more = omega arith
-volume-append c k (item ∷ items) more = omega (arith, volume-append c k items more)
+volume-append c k items more = ap (volume_of_lines (spent_on_counter k) c) (map-append line_of items more)
+    ∙ volume_of_lines-append (spent_on_counter k) c (map line_of items) (map line_of more)
 
 -- what a change spends
 spent_by-change : (c l : ℕ) (cpu : CpuId) (k : CounterId) (delta : ℤ) (how : Mode) → IsDelta how delta
-    → spent_by_lane c l (Cpu cpu) (act_of how k delta)
+    → by_cpu c (spent_on_counter l) (LaneLine (Cpu cpu) (act_of how k delta))
     ≡ (if nat_eq cpu.number c && nat_eq k.number l then unsigned_abs delta else 0)
 spent_by-change c l cpu k delta how fits = by (nat_eq cpu.number c)
   where
-    of_act : (b : Bool) (how : Mode) → IsDelta how delta → spent_by_act l (act_of how k delta)
+    of_act : (b : Bool) (how : Mode) → IsDelta how delta → spent_on_counter l (act_of how k delta)
         ≡ (if nat_eq k.number l then unsigned_abs delta else 0)
     of_act b Modify fits = refl
     of_act b Raise fits = ap (λ z. if nat_eq k.number l then unsigned_abs z else 0) (sym fits)
     of_act b Lower fits = ap (λ z. if nat_eq k.number l then unsigned_abs z else 0) (sym fits)
 
-    by : (b : Bool) → (if b then spent_by_act l (act_of how k delta) else 0)
+    by : (b : Bool) → (if b then spent_on_counter l (act_of how k delta) else 0)
         ≡ (if b && nat_eq k.number l then unsigned_abs delta else 0)
     by true = of_act true how fits
     by false = refl
+
+pub volume-item : (items : List Item) (n : ℕ) (cpu : CpuId) (k : CounterId) (delta : ℤ) (how : Mode) → IsDelta how delta
+    → (c l : ℕ) → volume c l (items ++ change_item n cpu k delta how ∷ [])
+    ≡ volume c l items + ((if nat_eq cpu.number c && nat_eq k.number l then unsigned_abs delta else 0) + 0)
+volume-item items n cpu k delta how fits c l = volume-append c l items (change_item n cpu k delta how ∷ [])
+    ∙ ap (λ v. volume c l items + (v + 0)) (spent_by-change c l cpu k delta how fits)
 
 Makes-change : (facts : Facts) (cpu : CpuId) (k : CounterId) (delta : ℤ) (how : Mode) (steps : List Step)
     → IsDelta how delta → IsChangeAlone facts.layout cpu k delta how steps
@@ -97,11 +96,6 @@ module _ (facts : Facts) (lanes : List Lane) (items : List Item) (h : History) (
   p-other : p ≢ 0
   p-other same = absurd (omega (arith, pass_of-least lanes (Cpu cpu) among))
 
-  volume-item : (c l : ℕ) → volume c l (items ++ item ∷ [])
-      ≡ volume c l items + ((if nat_eq cpu.number c && nat_eq k.number l then unsigned_abs delta else 0) + 0)
-  volume-item c l = volume-append c l items (item ∷ [])
-      ∙ ap (λ v. volume c l items + (v + 0)) (spent_by-change c l cpu k delta how fits)
-
   pub MayChange-line : IsCpu facts.layout cpu.number → cpu_at now cpu.number ≡ Online → IsCounter facts.layout k.number
       → volume cpu.number k.number (items ++ item ∷ []) ≤ most_volume → MayChange facts h p cpu k delta
   MayChange-line cpu_known online known affordable = record {
@@ -121,7 +115,7 @@ module _ (facts : Facts) (lanes : List Lane) (items : List Item) (h : History) (
     online = ap (λ s. cpu_at s cpu.number) makes.state ∙ online;
     nothing_carried = makes.nothing_carried p p-other;
     affordable = at (nat_eq cpu.number cpu.number && nat_eq k.number k.number) (grind (arith, nat_tests))
-        (volume-item cpu.number k.number);
+        (volume-item items n cpu k delta how fits cpu.number k.number);
   }
     where
       at : (b : Bool) → b ≡ true → volume cpu.number k.number (items ++ item ∷ [])
@@ -145,7 +139,8 @@ module _ (facts : Facts) (lanes : List Lane) (items : List Item) (h : History) (
         (λ (others : q ≢ p). subst (CarriesNothing facts.layout) (sym (follows.others q others))
         (makes.nothing_carried q other))
         (cases_eq q p);
-    spends = λ c l. by c l (nat_eq cpu.number c && nat_eq k.number l) (follows.spends c l) (volume-item c l)
+    spends = λ c l. by c l (nat_eq cpu.number c && nat_eq k.number l) (follows.spends c l)
+        (volume-item items n cpu k delta how fits c l)
         (makes.spends c l);
     state = follows.state;
   }

@@ -9,12 +9,11 @@ use Rattle.vms_history.proofs.Prefixes.{prefix_is_legal}
 use Rattle.vms_core.specs.declared.states.State.{State}
 use Rattle.vms_core.specs.Following.{with_change, with_change_of}
 use Rattle.vms_core.specs.Pages.{pages, IsLegal}
-use Rattle.vms_core.proofs.Bounds.{diff_at-bounded}
-use Rattle.vms_core.proofs.Sums.{totals-kept}
 use Rattle.vms_phase.specs.FileOrder.{lanes_of}
 use Rattle.vms_phase.specs.OpenPhases.{IsOpen, IsOfOnline, EndsPhase}
 use Rattle.vms_phase.specs.Worlds.{facts_of, settled}
 use Rattle.vms_phase.proofs.Closings.{closed, follows-closed, IsComplete-closed, state_after-closed}
+use Rattle.vms_phase.proofs.PhaseLaws.{KeepsLaws-legal}
 use Rattle.vms_phase.proofs.Lanes.{MayOpen-lanes, among-lanes}
 use Rattle.vms_text.specs.declared.acts.Item.{Item}
 
@@ -45,9 +44,7 @@ EndsPhase-open header s items now opened all quiet =
                 refl;
           };
           complete = complete;
-          totals = λ more earlier parts. totals-kept facts earlier
-              (prefix_is_legal pages facts more earlier (subst (IsLegal facts) parts complete.legal));
-          bounds = λ more earlier parts. diff_at-bounded facts earlier
+          laws = λ more earlier parts. KeepsLaws-legal facts earlier
               (prefix_is_legal pages facts more earlier (subst (IsLegal facts) parts complete.legal));
         },
         ap settled (state_after-closed facts lanes items made.0 now made.1) ∙ quiet,

@@ -1,7 +1,8 @@
 -- The histories of a phase in file order: the lanes' passes begin, the lines follow one another, the passes end.
 use Rattle.std.specs.Prelude.{◌≡◌, ℕ, zero, suc, nat_eq, ◌||◌, Bool, true, false, pos, negsuc, List, [], ◌∷◌, ◌++◌, if◌then◌else◌, Option, Some, None}
 use Rattle.vms_phase.specs.Worlds.{settled}
-use Rattle.vms_core.specs.Pages.{pages, History, state_after, KeepsTotals, BoundsDifferentials}
+use Rattle.vms_phase.specs.PhaseLaws.{KeepsLaws}
+use Rattle.vms_core.specs.Pages.{pages, History, state_after}
 use Rattle.vms_core.specs.declared.states.State.{State}
 use Rattle.vms_history.specs.Legal.{IsComplete}
 use Rattle.vms_base.specs.declared.headers.Header.{Header}
@@ -94,15 +95,14 @@ pub record Phase : Type 0 where
   pub history : History
 
 -- a phase of these lines from this state: its history is in file order and legal, all its passes have ended, and at
--- every moment nothing is lost and every differential is within the threshold that was used last
+-- every moment it keeps the laws
 pub record IsPhase (header : Header) (s : State) (items : List Item) (phase : Phase) : Type 0 where
   pub layout : phase.facts.layout ≡ header.layout
   pub sizes : phase.facts.sizes ≡ header.sizes
   pub base : phase.facts.base ≡ s
   pub in_order : IsFileOrder phase.facts items phase.history
   pub complete : IsComplete pages phase.facts phase.history
-  pub totals : (more h : History) → phase.history ≡ more ++ h → KeepsTotals phase.facts h
-  pub bounds : (more h : History) → phase.history ≡ more ++ h → BoundsDifferentials phase.facts h
+  pub laws : (more h : History) → phase.history ≡ more ++ h → KeepsLaws phase.facts h
 
 -- the phases of these lines lead from one state to another, each from where the one before ended
 abbrev pub Leads : Header → State → List (List Item) → List Phase → State → Type 0

@@ -2,3 +2,5 @@ pub mod Worlds
 pub mod FileOrder
 pub mod OpenPhases
 pub mod Totals
+pub mod Runs
+pub mod PhaseLaws

@@ -1,5 +1,5 @@
 -- How far the phase that is still open has come.
-use Rattle.std.specs.Prelude.{◌≡◌, ◌≢◌, ℕ, ◌+◌, nat_eq, true, false, ℤ, pos, negsuc, unsigned_abs, List, [], ◌∷◌, ◌++◌, All, if◌then◌else◌}
+use Rattle.std.specs.Prelude.{◌≡◌, ◌≢◌, ℕ, true, false, ℤ, pos, negsuc, List, [], ◌∷◌, ◌++◌, map, All}
 use Rattle.vms_base.specs.declared.headers.Header.{Header}
 use Rattle.vms_base.specs.declared.ids.CounterId.{CounterId}
 use Rattle.vms_base.specs.declared.ids.CpuId.{CpuId}
@@ -17,6 +17,8 @@ use Rattle.vms_core.specs.Own.{CarriesNothing}
 use Rattle.vms_core.specs.Pages.{History, MayOwn, IsLegal, state_after}
 use Rattle.vms_core.specs.Totals.{spent}
 use Rattle.vms_phase.specs.FileOrder.{Follow, is_among, opening_of, owner_of, Phase, Leads}
+use Rattle.vms_script.specs.Totals.{line_of}
+use Rattle.vms_script.specs.Volumes.{spent_on_counter, volume as volume_of_lines}
 use Rattle.vms_text.specs.declared.acts.Act.{Act}
 use Rattle.vms_text.specs.declared.acts.Act.TheVariants.{Mod, Inc, Dec}
 use Rattle.vms_text.specs.declared.acts.Item.{Item}
@@ -28,21 +30,9 @@ pub record Moment : Type 0 where
   pub shape : Shape
   pub state : State
 
--- what an act spends of a volume on counter k: the size of its change, in pages
-abbrev pub spent_by_act : ℕ → Act → ℕ
-spent_by_act k (Mod j delta) = if nat_eq j.number k then unsigned_abs delta else 0
-spent_by_act k (Inc j) = if nat_eq j.number k then 1 else 0
-spent_by_act k (Dec j) = if nat_eq j.number k then 1 else 0
-spent_by_act k _ = 0
-
-abbrev pub spent_by_lane : ℕ → ℕ → Lane → Act → ℕ
-spent_by_lane c k (Cpu d) act = if nat_eq d.number c then spent_by_act k act else 0
-spent_by_lane c k _ act = 0
-
 -- the volume of CPU c on counter k: the absolute sum of what these lines change it by
 abbrev pub volume : ℕ → ℕ → List Item → ℕ
-volume c k [] = 0
-volume c k (item ∷ items) = spent_by_lane c k item.lane item.act + volume c k items
+volume c k items = volume_of_lines (spent_on_counter k) c (map line_of items)
 
 -- the act that changes a counter in a mode, whose delta is 1 or -1 where the mode says so
 abbrev pub act_of : Mode → CounterId → ℤ → Act

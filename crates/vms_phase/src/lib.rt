@@ -2,6 +2,7 @@
 #![tactic(auto)]
 
 mod replaying;
+mod runs;
 mod settings;
 mod starting;
 mod summing;
@@ -9,4 +10,5 @@ mod summing;
 mod tests;
 
 pub use replaying::PhaseReplay;
+pub use runs::RunReplay;
 pub use starting::start;

@@ -5,6 +5,8 @@ ghost use Rattle.vms_core.specs.Bases.{IsOpening};
 ghost use Rattle.vms_phase.specs.Worlds.{settled};
 ghost use Rattle.vms_calc.specs.Rules.{TellsThresholds};
 
+mod runs;
+
 use crate::{PhaseReplay, start};
 use std::alloc::Global;
 use std::process::Abort;
@@ -88,7 +90,7 @@ fn by_rules<N: Rule, P: Rule>(
 }
 
 /// The header of two zones of node 0, on four CPUs.
-fn two_zones(rt: &impl Abort, alloc: Global) -> Result<Header, Fail>
+pub(crate) fn two_zones(rt: &impl Abort, alloc: Global) -> Result<Header, Fail>
     ensures { IfOk result (λ header. IsHeader header) }
 {
     let zones = [
