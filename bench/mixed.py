@@ -9,6 +9,10 @@ NODE = ("nr_inactive_anon nr_active_anon nr_inactive_file nr_active_file nr_unev
         "nr_file_pages nr_dirty").split()
 ZONES = [(0, "DMA32"), (0, "Normal"), (1, "Normal"), (1, "Movable")]
 COUNTERS = "files inodes dentries".split()
+HEAD = ["vmtrace 2", "cpus 8", "watermarks 67584", "item zone area4", "item node slab bytes"]
+HEAD += [f"zone {node} {kind} {262144 << n}" for n, (node, kind) in enumerate(ZONES)]
+HEAD += ["base 0 Normal nr_free_pages 100000", "base 1 node nr_file_pages 5000"]
+HEAD += [f"counter {name}" for name in COUNTERS] + ["go"]
 rng = random.Random(1)
 draw = rng.randrange
 pick = rng.choice
@@ -79,14 +83,10 @@ def line(n):
 
 def main():
     out = sys.stdout
-    head = ["vmtrace 2", "cpus 8", "watermarks 67584", "item zone area4", "item node slab bytes"]
-    head += [f"zone {node} {kind} {262144 << n}" for n, (node, kind) in enumerate(ZONES)]
-    head += ["base 0 Normal nr_free_pages 100000", "base 1 node nr_file_pages 5000"]
-    head += [f"counter {name}" for name in COUNTERS] + ["go"]
-    for text in head:
+    for text in HEAD:
         out.write(text + "\n")
     boundaries = {1000: "offline 7", 1001: "k dead 7", 1002: "online 7"}
-    for n in range(len(head) + 1, 1_000_001):
+    for n in range(len(HEAD) + 1, 1_000_001):
         text = boundaries.get(n)
         if text is None:
             if n % 200 == 0:
@@ -98,4 +98,5 @@ def main():
         out.write(text + "\n")
 
 
-main()
+if __name__ == "__main__":
+    main()

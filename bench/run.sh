@@ -1,6 +1,7 @@
 #!/usr/bin/env bash
 # Measures the proved program beside the same job in plain Rust, bench/replay.rs or bench/check.rs, on a trace of
-# 1,000,000 lines: for `replay` changes of one form, for `check` lines of every form (bench/mixed.py).
+# 1,000,000 lines: for `replay` changes of counters (bench/changes.py), for `check` lines of every form
+# (bench/mixed.py).
 #
 #     bench/run.sh replay|check [N]
 #
@@ -9,7 +10,7 @@
 # most memory that each held (VmHWM of /proc, read through one more run that isn't timed). The status is 1 if the two
 # write different outputs or end with different statuses, and 2 if there is nothing to measure.
 #
-# Needed are Linux, bash, awk, python3, rustc, and the proved program, which `./vozhkell replay < examples/first.vmtrace`
+# Needed are Linux, bash, python3, rustc, and the proved program, which `./vozhkell replay < examples/first.vmtrace`
 # builds. Another program may be named in VOZHKELL. Times vary with what else the machine does: with the plain program
 # in both places, five runs of 21 on a shared machine gave ratios of the medians of 0.90, 0.96, 0.99, 1.01 and 1.44. So
 # the ratio of the least times is printed too, which differed from 1 by at most 4 in 100 there, and a ratio of medians
@@ -32,14 +33,8 @@ work=$(mktemp -d) || exit 2
 trap 'rm -rf "$work"' EXIT
 rustc -O --edition 2021 -o "$work/plain" "$top/bench/$command.rs" || exit 2
 
-if [ "$command" = check ]; then
-    python3 "$top/bench/mixed.py" >"$work/trace" || exit 2
-else
-    awk 'BEGIN {
-        print "vmtrace 1\ncpus 1\nzone 0 Normal 262144 100 125 150\nbase 0 Normal nr_free_pages 10000\ngo"
-        for (line = 0; line < 1000000; line++) print "c0 mod 0 Normal nr_free_pages 3"
-    }' >"$work/trace" || exit 2
-fi
+declare -A generators=([replay]=changes [check]=mixed)
+python3 -B "$top/bench/${generators[$command]}.py" >"$work/trace" || exit 2
 
 "$proved" "$command" <"$work/trace" >"$work/proved.out"
 proved_status=$?

@@ -21,7 +21,7 @@ use Rattle.vms_trace.specs.Reading.{and_then, most_line}
 use Rattle.vms_trace.proofs.Sentences.{IsShort-from}
 use Rattle.vms_trace.proofs.SpelledNumbers.{decimal-short}
 use Rattle.vms_script.specs.Judging.{allowed, judged}
-use Rattle.vms_check.specs.Printing.{done_line, line_cause, line_prefix, refused_line}
+use Rattle.vms_command.specs.Printing.{done_line, line_cause, line_prefix, refused_line}
 
 -- a text of at most this many bytes, on one line
 record IsPiece (most : ℕ) (text : List ℕ) : Type 0 where

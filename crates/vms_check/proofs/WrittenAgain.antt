@@ -15,7 +15,7 @@ use Rattle.vms_trace.specs.declared.causes.LineCause.{LineCause}
 use Rattle.vms_trace.specs.Head.{Fault, read_header}
 use Rattle.vms_trace.specs.Laws.{IsSettled, IsWritable, ReadsBack}
 use Rattle.vms_trace.specs.Reading.{and_then}
-use Rattle.vms_trace.specs.Spelling.{header_words, sentence, spelled_header, spelled_line}
+use Rattle.vms_trace.specs.Spelling.{header_words, sentence, spelled_line}
 use Rattle.vms_trace.proofs.HeaderSteps.{lines_of-sentences}
 use Rattle.vms_trace.proofs.HeadersRead.{header_words-few, headers-read_back}
 use Rattle.vms_trace.proofs.LinesRead.{lines-read_back}
@@ -23,11 +23,13 @@ use Rattle.vms_trace.proofs.Sentences.{IsFew, few-one_line}
 use Rattle.vms_trace.proofs.Settling.{read_header-settled}
 use Rattle.vms_trace.proofs.Written.{read_header-writable}
 use Rattle.vms_script.specs.Judging.{allowed, judged}
-use Rattle.vms_check.specs.Checking.{Above, checked_end, checked_line, checked_lines, come_to, nothing_above, with_judged}
+use Rattle.vms_command.specs.Limits.{most_lines}
+use Rattle.vms_command.specs.Lines.{Above, come_to, nothing_above, with_judged}
+use Rattle.vms_command.proofs.BodyLines.{one_more}
+use Rattle.vms_script.proofs.Known.{judged-known, judged-read}
+use Rattle.vms_command.specs.Texts.{printed_of}
+use Rattle.vms_check.specs.Checking.{checked_end, checked_line, checking}
 use Rattle.vms_check.specs.Laws.{ChecksAgain}
-use Rattle.vms_check.specs.Limits.{most_lines}
-use Rattle.vms_check.proofs.Known.{judged-known, judged-read}
-use Rattle.vms_check.proofs.Passing.{one_more}
 use Rattle.vms_check.proofs.Remarks.{IsRemark, done_is_remark, refused_is_remark, remark-judged, remark-one_line}
 
 -- with none refused
@@ -66,12 +68,12 @@ module _ (header : Header) (is_header : IsHeader header) where
 
   -- what is written of a body counts again
   body_again : (n : ℕ) (above : Above) (texts : List (List ℕ)) (rest : List ℕ) → n + length texts ≤ 10 ^ 7
-      → come_to header (with_none_refused above) (lines_of (checked_lines header n above texts ++ rest))
+      → come_to header (with_none_refused above) (lines_of (printed_of checking header n above texts ++ rest))
       ≡ come_to header (with_none_refused (come_to header above texts)) (lines_of rest)
   body_again n above [] rest fits = refl
   body_again n above (text ∷ texts) rest fits =
       let result = judged header above.lines text in
-      let later = checked_lines header (suc n) (with_judged result above) texts in
+      let later = printed_of checking header (suc n) (with_judged result above) texts in
       ap (λ (bytes : List ℕ). come_to header (with_none_refused above) (lines_of bytes)) (append_assoc (checked_line header n result) later rest)
       ∙ one_again n above text (later ++ rest) result refl (omega arith)
       ∙ body_again (suc n) (with_judged result above) texts rest (omega arith)
@@ -85,7 +87,7 @@ module _ (header : Header) (is_header : IsHeader header) where
 
   -- what is written of a body, and of its end
   whole_again : (n : ℕ) (texts : List (List ℕ)) → n + length texts ≤ most_lines + 1
-      → come_to header nothing_above (lines_of (checked_lines header n nothing_above texts ++ checked_end (come_to header nothing_above texts)))
+      → come_to header nothing_above (lines_of (printed_of checking header n nothing_above texts ++ checked_end (come_to header nothing_above texts)))
       ≡ with_none_refused (come_to header nothing_above texts)
   whole_again n texts fits =
       let above = come_to header nothing_above texts in
@@ -111,8 +113,8 @@ checks-again lines header count few is =
     let words_few = header_words-few header writable in
     let body = drop count lines in
     let above = come_to header nothing_above body in
-    let rest = checked_lines header (suc count) nothing_above body ++ checked_end above in
-    let split = ap lines_of (append_assoc (spelled_header header) (checked_lines header (suc count) nothing_above body) (checked_end above)) ∙ sentences_split words rest words_few in
+    let rest = printed_of checking header (suc count) nothing_above body ++ checked_end above in
+    let split = sentences_split words rest words_few in
     let behind = ap (drop (length words)) split ∙ drop_at (map joined words) (lines_of rest) (length words) (length-map words joined) in
     let again = ap (come_to header nothing_above) behind ∙ whole_again header writable.is_header (suc count) body (omega (arith, few, settled.1, length-drop count lines)) in
     record {

@@ -6,8 +6,10 @@ use Rattle.vms_trace.specs.Head.{read_header}
 use Rattle.vms_trace.specs.Spelling.{header_words, spelled_header}
 use Rattle.vms_stream.specs.declared.halts.Halt.TheVariants.{Passes}
 use Rattle.vms_stream.specs.Machines.{halted, output}
-use Rattle.vms_check.specs.Checking.{check, check_output, checked_end, checked_lines, come_to, nothing_above}
-use Rattle.vms_check.specs.Limits.{most_lines}
+use Rattle.vms_command.specs.Limits.{most_lines}
+use Rattle.vms_command.specs.Lines.{come_to, nothing_above}
+use Rattle.vms_command.specs.Texts.{body_text}
+use Rattle.vms_check.specs.Checking.{check, check_output, checking}
 
 -- what is written line by line of a text within the limits is its header and its body as they are defined by the lines of
 -- each
@@ -28,5 +30,4 @@ abbrev pub ChecksAgain : Type 0
 ChecksAgain = (lines : List (List ℕ)) (header : Header) (count : ℕ) → length lines ≤ most_lines →
     read_header lines ≡ Ok (header, count) →
     IsAcceptedAgain header (suc count) (drop count lines)
-    (spelled_header header ++ checked_lines header (suc count) nothing_above (drop count lines)
-    ++ checked_end (come_to header nothing_above (drop count lines)))
+    (spelled_header header ++ body_text checking header (suc count) (drop count lines))

@@ -1,100 +1,59 @@
-use crate::printing::{write_done_line, write_refused_line};
-use crate::tallies::Tally;
 use std::alloc::Global;
 use vms_base::{Header, Memory};
-use vms_script::LineJudge;
-use vms_stream::{Ending, Halt};
-use vms_trace::{Line, write_line};
+use vms_command::{Body, ending_of, write_done_line, write_refused_line};
+use vms_stream::Ending;
+use vms_trace::{Line, LineCause, write_header, write_line};
 
-/// A check on its way through a body. It keeps of the lines what later ones are judged by, and no line.
+/// The body of a check.
 #[derive(Drop)]
-pub(crate) struct BodyCheck {
-    pub(crate) header: Header,
-    pub(crate) judge: LineJudge,
-    pub(crate) tally: Tally,
-}
+pub(crate) struct CheckBody;
 
-impl BodyCheck {
-    ghost use Rattle.std.specs.Prelude.{◌≡◌, ◌++◌, ◌+◌, ◌<◌, ◌≤◌, ◌^◌, IfOk, OnOk, nat_lt, if◌then◌else◌};
-    ghost use Rattle.vms_base.specs.Headers.{IsHeader};
-    ghost use Rattle.vms_base.specs.declared.headers.Header.{Header};
-    ghost use Rattle.vms_trace.specs.Laws.{IsLineOf, IsWritable};
-    ghost use Rattle.vms_check.specs.Checking.{Above, checked_end, nothing_above};
-    ghost use Rattle.vms_check.specs.Standing.{Accepts, PassesLine, SomeBody, StandsBehind};
-    ghost use Rattle.vms_check.specs.Limits.{most_lines};
+impl Body for CheckBody {
+    ghost use Rattle.vms_check.specs.Checking.{checking};
 
-    /// Before the first line.
-    pub(crate) fn begin(alloc: Global, header: Header) -> Result<BodyCheck, Memory>
-        requires { IsWritable header }
-        ensures { IfOk result (λ body. StandsBehind header nothing_above body) }
-    {
-        let judge = LineJudge::make(alloc, &header)?;
-        Ok(BodyCheck {
-            header,
-            judge,
-            tally: Tally::zero(),
-        })
+    ghost Kept = { Unit {0} };
+
+    ghost command = { checking };
+
+    ghost Stands = { λ body header above kept. Unit {0} };
+
+    ghost Shows = { λ header above kept. Unit {0} };
+
+    fn begin(_alloc: Global, header: &Header, out: &mut Vec<u8>) -> Result<CheckBody, Memory> {
+        write_header(out, header)?;
+        Ok(CheckBody)
     }
 
-    /// Judges the line of this number, and appends what is printed of it.
-    pub(crate) fn pass(
+    fn pass(
         &mut self,
+        header: &Header,
         number: u32,
-        line: &[u8],
+        judged: &Result<Line, LineCause>,
         out: &mut Vec<u8>,
-    ) -> Result<Option<Halt>, Memory>
-        requires body { SomeBody number self.old }
-        requires most { number ≤ most_lines }
-        ensures { IfOk result (λ halt. (header : Header) (above : Above) → StandsBehind header above self.old →
-            PassesLine header number above line.now halt out.old.items out.new.items self.new) }
-    {
-        match self.judge.judge(&self.header, line) {
-            Ok(said) => self.accept(&said, out),
-            Err(cause) => {
-                self.tally.refused += 1;
-                write_refused_line(out, number, cause)?;
-                Ok(None)
-            }
+    ) -> Result<(), Memory> {
+        match judged {
+            Ok(line) => write_accepted(out, header, line),
+            Err(cause) => write_refused(out, number, *cause),
         }
     }
 
-    /// Counts a line and appends it in its one spelling, unless it is blank or passes a limit.
-    fn accept(&mut self, line: &Line, out: &mut Vec<u8>) -> Result<Option<Halt>, Memory>
-        requires header { IsHeader self.old.header }
-        requires line { IsLineOf self.old.header line.now }
-        requires room { self.old.tally.accepted + 1 < 2 ^ 32 }
-        ensures { IfOk result (λ halt. Accepts self.old line.now halt out.old.items out.new.items self.new) }
-    {
-        if let Some(halt) = self.tally.add(line) {
-            return Ok(Some(halt));
-        }
-        write_accepted(out, &self.header, line)?;
-        Ok(None)
-    }
-
-    /// Appends the last line.
-    pub(crate) fn write_end(&self, out: &mut Vec<u8>) -> Result<(), Memory>
-        ensures { OnOk result ((header : Header) (above : Above) → StandsBehind header above self.now →
-            out.new.items ≡ out.old.items ++ checked_end above) }
-    {
-        write_done_line(out, self.tally.accepted, self.tally.refused)
-    }
-
-    /// How a trace ends that ends here.
-    pub(crate) fn ending(&self) -> Ending
-        ensures { result ≡ (if nat_lt 0 self.now.tally.refused then Ending.Refused else Ending.Done) }
-    {
-        if self.tally.refused > 0 {
-            Ending::Refused
-        } else {
-            Ending::Done
-        }
+    fn end(
+        &mut self,
+        _header: &Header,
+        accepted: u32,
+        refused: u32,
+        out: &mut Vec<u8>,
+    ) -> Result<Ending, Memory> {
+        out.extend_from_slice(b"# ")?;
+        write_done_line(out, accepted, refused)?;
+        Ok(ending_of(refused))
     }
 }
 
-ghost use Rattle.std.specs.Prelude.{◌≡◌, ◌++◌, OnOk};
+ghost use Rattle.std.specs.Prelude.{◌≡◌, ◌++◌, OnOk, codes};
 ghost use Rattle.vms_base.specs.Headers.{IsHeader};
 ghost use Rattle.vms_trace.specs.Laws.{IsLineOf};
+ghost use Rattle.vms_command.specs.Printing.{refused_line};
 ghost use Rattle.vms_check.specs.Checking.{accepted_line};
 
 /// Appends a line that counts in its one spelling, and nothing for a blank one.
@@ -107,4 +66,12 @@ fn write_accepted(out: &mut Vec<u8>, header: &Header, line: &Line) -> Result<(),
         Line::Blank => Ok(()),
         Line::Lane(_, _) | Line::Boundary(_) => write_line(out, header, line),
     }
+}
+
+/// Appends the comment that stands in the place of a line that doesn't count.
+fn write_refused(out: &mut Vec<u8>, number: u32, cause: LineCause) -> Result<(), Memory>
+    ensures { OnOk result (out.new.items ≡ out.old.items ++ (codes "# " ++ refused_line number cause)) }
+{
+    out.extend_from_slice(b"# ")?;
+    write_refused_line(out, number, cause)
 }

@@ -3,10 +3,7 @@
 #![tactic(auto)]
 
 mod bodies;
-mod checks;
 mod laws;
-mod printing;
-mod tallies;
 #[cfg(test)]
 mod tests;
 mod tool;

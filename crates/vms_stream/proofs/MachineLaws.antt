@@ -97,3 +97,13 @@ module _ {S : Type 0} (machine : Machine S) where
                 ∙ stopped-prints first (machine.prints s line) (printed machine next (lines ++ more)) (printed machine next lines)
                 ∙ sym (ap (λ (found : Option Halt). printed_from found (machine.prints s line) (printed machine next lines)) is),
           )
+
+  -- where no line of both parts stops it, none of the first does
+  pub halted-first : (s : S) (lines more : List (List ℕ)) → halted machine s (lines ++ more) ≡ None
+      → halted machine s lines ≡ None
+  halted-first s lines more none = by (halted machine s lines) refl
+    where
+      by : (found : Option Halt) → halted machine s lines ≡ found → halted machine s lines ≡ None
+      by None is = is
+      by (Some halt) is =
+          let stops : Some halt ≡ None = sym (halted-stops s lines more halt is).0 ∙ none in absurd cc

@@ -19,18 +19,31 @@ use Rattle.vms_stream.proofs.Parts.{lines_of-parts, partial_line-append}
 use Rattle.vms_stream.proofs.GoingPast.{GoesPast-behind, GoesPast-both}
 use Rattle.vms_text.specs.Lines.{lines_of}
 
-module _ {S : Type 0} (machine : Machine S) where
+module _ {S : Type 0} (machine : Machine S) (shows : S → Type 0) where
   -- what the first lines print, or a part of it, begins the output
   pub begins : (text : List ℕ) (lines others : List (List ℕ)) (written unwritten : List ℕ)
       → lines_of text ≡ lines ++ others
-      → written ++ unwritten ≡ printed machine machine.start lines → BeginsOutput machine text written
-  begins text lines others written unwritten parts prints =
+      → written ++ unwritten ≡ printed machine machine.start lines → IsLastPiece machine text → BeginsOutput machine text written
+  begins text lines others written unwritten parts prints last_piece =
       let whole = output-begins machine lines others in
       record {
         unwritten = unwritten ++ whole.0;
         begins = ap (output machine) parts ∙ whole.1 ∙ ap (λ (front : List ℕ). front ++ whole.0) (sym prints)
             ∙ append_assoc written unwritten whole.0;
+        last_piece = last_piece;
       }
+
+  -- no piece is open
+  pub no_piece : (taken : List ℕ) → length taken ≤ most_bytes → halted machine machine.start (whole_lines taken) ≡ None
+      → IsLastPiece machine taken
+  no_piece taken within none = record {
+    before = taken;
+    piece = [];
+    pieces = sym (append-nil taken);
+    one_piece = omega arith;
+    within_before = within;
+    none_before = none;
+  }
 
   -- the first n bytes of what waits
   part_written : (written waiting : List ℕ) (n : ℕ) → (written ++ take n waiting) ++ drop n waiting ≡ written ++ waiting
@@ -53,25 +66,26 @@ module _ {S : Type 0} (machine : Machine S) where
 
   -- nothing is taken and nothing written
   nothing_more : (stop : Stop) (taken written : List ℕ) (at_end : Type 0)
-      → Says machine (status_of stop) taken written at_end
-      → Says machine (status_of stop) (taken ++ []) (written ++ []) at_end
+      → Says machine shows (status_of stop) taken written at_end
+      → Says machine shows (status_of stop) (taken ++ []) (written ++ []) at_end
   nothing_more stop taken written at_end says =
-      subst (λ (bytes : List ℕ). Says machine (status_of stop) (taken ++ []) bytes at_end) (sym (append-nil written))
-      (subst (λ (bytes : List ℕ). Says machine (status_of stop) bytes written at_end) (sym (append-nil taken)) says)
+      subst (λ (bytes : List ℕ). Says machine shows (status_of stop) (taken ++ []) bytes at_end) (sym (append-nil written))
+      (subst (λ (bytes : List ℕ). Says machine shows (status_of stop) bytes written at_end) (sym (append-nil taken)) says)
 
   module _ {stands : S → Type 0} (stands' : S → Type 0) (taken written : List ℕ) (course : Course)
       (is : IsCourse machine stands taken written course) (isnt : course.at_end ≡ false) where
     unread : (stop : Stop) (at_end : Type 0) → (stop ≡ ReadFault) ⊎ (stop ≡ Memory)
-        → Says machine (status_of stop) taken written at_end
-    unread stop at_end (inl fault) = subst (λ (s : Stop). Says machine (status_of s) taken written at_end) (sym fault) (before_end taken written course is isnt).0
-    unread stop at_end (inr memory) = subst (λ (s : Stop). Says machine (status_of s) taken written at_end) (sym memory)
+        → Says machine shows (status_of stop) taken written at_end
+    unread stop at_end (inl fault) = subst (λ (s : Stop). Says machine shows (status_of s) taken written at_end) (sym fault) (before_end taken written course is isnt).0
+    unread stop at_end (inr memory) = subst (λ (s : Stop). Says machine shows (status_of s) taken written at_end) (sym memory)
         (begins taken (whole_lines taken) (lines_of (partial_line taken ++ [])) written []
-        (ap lines_of (sym (append-nil taken)) ∙ lines_of-parts taken []) (append-nil written ∙ (before_end taken written course is isnt).0.all_written))
+        (ap lines_of (sym (append-nil taken)) ∙ lines_of-parts taken []) (append-nil written ∙ (before_end taken written course is isnt).0.all_written)
+        (no_piece taken is.within (before_end taken written course is isnt).0.none_halts))
 
     -- the read failed, or there was no memory for it
     pub Steps-unread : (last : Course) (left left' held : Option (List ℕ)) (stop : Stop) → Keeps left left'
         → (stop ≡ ReadFault) ⊎ (stop ≡ Memory)
-        → Steps machine stands' taken written last left left' held held (Err stop)
+        → Steps machine stands' shows taken written last left left' held held (Err stop)
     Steps-unread last left left' held stop keeps cause = record {
       more = [];
       moved = [];
@@ -128,15 +142,15 @@ module _ {S : Type 0} (machine : Machine S) where
 
       -- there was no memory to judge it
       pub Steps-unjudged : (last : Course) (held : Option (List ℕ)) (stop : Stop) → stop ≡ Memory
-          → Steps machine stands' taken written last left left' held held (Err stop)
+          → Steps machine stands' shows taken written last left left' held held (Err stop)
       Steps-unjudged last held stop memory = record {
         more = more;
         moved = [];
         consumes = gets.consumes;
         appends = Appends-nil held;
-        outcome = subst (λ (s : Stop). Says machine (status_of s) text (written ++ []) (IsAtEnd left')) (sym memory)
+        outcome = subst (λ (s : Stop). Says machine shows (status_of s) text (written ++ []) (IsAtEnd left')) (sym memory)
             (begins text (whole_lines taken) (lines_of (partial_line taken ++ more)) (written ++ []) [] (lines_of-parts taken more)
-            (append-nil (written ++ []) ∙ append-nil written ∙ (before_end taken written course is isnt).0.all_written));
+            (append-nil (written ++ []) ∙ append-nil written ∙ (before_end taken written course is isnt).0.all_written) last_piece);
       }
 
       module _ (halt : Option Halt) (waiting : List ℕ)
@@ -152,7 +166,7 @@ module _ {S : Type 0} (machine : Machine S) where
         -- the write failed
         pub Steps-unwritten : (last : Course) (held held' : Option (List ℕ)) (n : ℕ) (stop : Stop)
             → Appends held held' (take n waiting) → stop ≡ WriteFault
-            → Steps machine stands' taken written last left left' held held' (Err stop)
+            → Steps machine stands' shows taken written last left left' held held' (Err stop)
         Steps-unwritten last held held' n stop appends cause =
             let others = lines_of-counted read.at_end text in
             record {
@@ -160,9 +174,9 @@ module _ {S : Type 0} (machine : Machine S) where
               moved = take n waiting;
               consumes = gets.consumes;
               appends = appends;
-              outcome = subst (λ (s : Stop). Says machine (status_of s) text (written ++ take n waiting) (IsAtEnd left')) (sym cause)
+              outcome = subst (λ (s : Stop). Says machine shows (status_of s) text (written ++ take n waiting) (IsAtEnd left')) (sym cause)
                   (begins text (lines_counted read.at_end text) others.0 (written ++ take n waiting) (drop n waiting) others.1
-                  (part_written written waiting n ∙ judged.prints));
+                  (part_written written waiting n ∙ judged.prints) last_piece);
             }
 
         -- a line stops the command
@@ -180,13 +194,13 @@ module _ {S : Type 0} (machine : Machine S) where
             counts false before = inl refl
 
         says_halt : (h : Halt) → halt ≡ Some h
-            → Says machine (status_of (stop_of_halt h)) text (written ++ waiting) (IsAtEnd left')
+            → Says machine shows (status_of (stop_of_halt h)) text (written ++ waiting) (IsAtEnd left')
         says_halt Refuses stopped = inl (halts Refuses stopped)
         says_halt Passes stopped = inl (halts Passes stopped)
 
         -- there are too many bytes
         says_beyond : (b : Bool) → read.at_end ≡ b → halt ≡ None → most_bytes < length text
-            → Says machine (status_of TooLong) text (written ++ waiting) (IsAtEnd left')
+            → Says machine shows (status_of TooLong) text (written ++ waiting) (IsAtEnd left')
         says_beyond true end none beyond = absurd (omega (arith, beyond, (at_the_end end).1))
         says_beyond false before none beyond =
             let same : lines_counted read.at_end text ≡ lines_taken text = ap (λ (b : Bool). lines_counted b text) before in
@@ -220,12 +234,12 @@ module _ {S : Type 0} (machine : Machine S) where
 
           pub Steps-judged : (sunk sunk' : Option (List ℕ)) (result : Result (Unit {0}) Stop)
               → Appends sunk sunk' waiting → StopsAt halt last.taken result
-              → Steps machine stands' taken written last left left' sunk sunk' result
+              → Steps machine stands' shows taken written last left left' sunk sunk' result
           Steps-judged sunk sunk' result appends stops = by halt refl result (subst (λ (n : ℕ). StopsAt halt n result) same_count stops)
             where
               by : (found : Option Halt) → halt ≡ found → (r : Result (Unit {0}) Stop) → StopsAt found read.taken r
-                  → Steps machine stands' taken written last left left' sunk sunk' r
-              by (Some h) is_found r stopped = subst (λ (r : Result (Unit {0}) Stop). Steps machine stands' taken written last left left' sunk sunk' r) (sym stopped) (record {
+                  → Steps machine stands' shows taken written last left left' sunk sunk' r
+              by (Some h) is_found r stopped = subst (λ (r : Result (Unit {0}) Stop). Steps machine stands' shows taken written last left left' sunk sunk' r) (sym stopped) (record {
                 more = more;
                 moved = waiting;
                 consumes = gets.consumes;
@@ -244,6 +258,6 @@ module _ {S : Type 0} (machine : Machine S) where
                 moved = waiting;
                 consumes = gets.consumes;
                 appends = appends;
-                outcome = subst (λ (s : Stop). Says machine (status_of s) text (written ++ waiting) (IsAtEnd left')) (sym beyond.0)
+                outcome = subst (λ (s : Stop). Says machine shows (status_of s) text (written ++ waiting) (IsAtEnd left')) (sym beyond.0)
                     (says_beyond read.at_end refl is_found (subst (λ (n : ℕ). most_bytes < n) text_count beyond.1));
               }

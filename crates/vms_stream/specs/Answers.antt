@@ -51,14 +51,15 @@ pub record Oversteps {S : Type 0} (machine : Machine S) (taken written : List �
   pub whole_output : written ≡ printed machine machine.start (lines_taken taken)
   pub last_piece : IsLastPiece machine taken
 
--- the command came to the end of its input, and the whole output was written
-pub record Ends {S : Type 0} (machine : Machine S) (ending : Ending) (taken written : List ℕ)
+-- the command came to the end of its input, the whole output was written, and the job showed what it does there
+pub record Ends {S : Type 0} (machine : Machine S) (shows : S → Type 0) (ending : Ending) (taken written : List ℕ)
     (at_end : Type 0) : Type 0 where
   pub ended : at_end
   pub within : length taken ≤ most_bytes
   pub none_halts : halted machine machine.start (lines_of taken) ≡ None
   pub ending_is : machine.ends (past machine machine.start (lines_of taken)) ≡ ending
   pub whole_output : written ≡ output machine (lines_of taken)
+  pub shown : shows (past machine machine.start (lines_of taken))
 
 -- the command went on, and all was written that the whole lines print
 pub record GoesOn {S : Type 0} (machine : Machine S) (taken written : List ℕ) : Type 0 where
@@ -66,24 +67,26 @@ pub record GoesOn {S : Type 0} (machine : Machine S) (taken written : List ℕ) 
   pub none_halts : halted machine machine.start (whole_lines taken) ≡ None
   pub all_written : written ≡ printed machine machine.start (whole_lines taken)
 
--- what was written begins the output of what was taken, as if the input ended there
+-- what was written begins the output of what was taken, as if the input ended there; nothing was read behind a piece
+-- in which a line stopped the command or in which the bytes passed 64 MiB
 pub record BeginsOutput {S : Type 0} (machine : Machine S) (taken written : List ℕ) : Type 0 where
   pub unwritten : List ℕ
   pub begins : output machine (lines_of taken) ≡ written ++ unwritten
+  pub last_piece : IsLastPiece machine taken
 
--- what each status of a command says
-abbrev pub Says : {S : Type 0} → Machine S → Status → List ℕ → List ℕ → Type 0 → Type 0
-Says machine Done taken written at_end = Ends machine endings.Done taken written at_end
-Says machine Words taken written at_end = ⊥
-Says machine Header taken written at_end =
-    Halts machine Refuses taken written at_end ⊎ Ends machine endings.HeaderRefused taken written at_end
-Says machine Refused taken written at_end = Ends machine endings.Refused taken written at_end
-Says machine ReadFault taken written at_end = GoesOn machine taken written
-Says machine WriteFault taken written at_end = BeginsOutput machine taken written
-Says machine Memory taken written at_end = BeginsOutput machine taken written
-Says machine TooLong taken written at_end =
+-- what each status of a command says, whose job shows this at the end of its input
+abbrev pub Says : {S : Type 0} → Machine S → (S → Type 0) → Status → List ℕ → List ℕ → Type 0 → Type 0
+Says machine shows Done taken written at_end = Ends machine shows endings.Done taken written at_end
+Says machine shows Words taken written at_end = ⊥
+Says machine shows Header taken written at_end =
+    Halts machine Refuses taken written at_end ⊎ Ends machine shows endings.HeaderRefused taken written at_end
+Says machine shows Refused taken written at_end = Ends machine shows endings.Refused taken written at_end
+Says machine shows ReadFault taken written at_end = GoesOn machine taken written
+Says machine shows WriteFault taken written at_end = BeginsOutput machine taken written
+Says machine shows Memory taken written at_end = BeginsOutput machine taken written
+Says machine shows TooLong taken written at_end =
     Halts machine Passes taken written at_end ⊎ Oversteps machine taken written
-Says machine NotBuilt taken written at_end = Ends machine endings.NotBuilt taken written at_end
+Says machine shows NotBuilt taken written at_end = Ends machine shows endings.NotBuilt taken written at_end
 
 -- a command took these bytes from its source and wrote these to its sink, and its status says what they are
 pub record Answers (left left' held held' : Option (List ℕ)) (status : Status)

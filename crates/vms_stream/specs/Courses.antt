@@ -74,7 +74,7 @@ pub record IsCourse {S : Type 0} (machine : Machine S) (stands : S → Type 0) (
   pub held : course.at_end ≡ false → course.input ≡ partial_line taken
 
 -- one piece further: bytes were taken and bytes were written, and the course goes on or stops
-pub record Steps {S : Type 0} (machine : Machine S) (stands : S → Type 0) (taken written : List ℕ) (course' : Course)
+pub record Steps {S : Type 0} (machine : Machine S) (stands shows : S → Type 0) (taken written : List ℕ) (course' : Course)
     (left left' held held' : Option (List ℕ)) (result : Result (Unit {0}) Stop) : Type 0 where
   pub more : List ℕ
   pub moved : List ℕ
@@ -83,15 +83,15 @@ pub record Steps {S : Type 0} (machine : Machine S) (stands : S → Type 0) (tak
   pub outcome : MatchResult result
       (λ _. IsCourse machine stands (taken ++ more) (written ++ moved) course'
       × (course'.at_end ≡ true → IsAtEnd left'))
-      (λ stop. Says machine (status_of stop) (taken ++ more) (written ++ moved) (IsAtEnd left'))
+      (λ stop. Says machine shows (status_of stop) (taken ++ more) (written ++ moved) (IsAtEnd left'))
 
 -- the end of a course
-pub record Finishes {S : Type 0} (machine : Machine S) (taken written : List ℕ) (held held' : Option (List ℕ))
-    (result : Result Status Stop) : Type 0 where
+pub record Finishes {S : Type 0} (machine : Machine S) (shows : S → Type 0) (taken written : List ℕ)
+    (held held' : Option (List ℕ)) (result : Result Status Stop) : Type 0 where
   pub moved : List ℕ
   pub appends : Appends held held' moved
   pub outcome : (left : Option (List ℕ)) → IsAtEnd left
-      → Says machine (status_in result) taken (written ++ moved) (IsAtEnd left)
+      → Says machine shows (status_in result) taken (written ++ moved) (IsAtEnd left)
 
 -- a command stops at a line that stops it, and else behind too many bytes
 abbrev pub StopsAt : Option Halt → ℕ → Result (Unit {0}) Stop → Type 0

@@ -12,7 +12,9 @@ pub record GoesPast {S : Type 0} (machine : Machine S) (stands : S → Type 0) (
   pub prints : out' ≡ out ++ printed machine s lines
   pub stands_behind : halt ≡ None → stands (past machine s lines)
 
--- a job ended its input
-pub record Closes {S : Type 0} (machine : Machine S) (s : S) (ending : Ending) (out out' : List ℕ) : Type 0 where
+-- a job ended its input, and shows something of the state that its machine came to
+pub record Closes {S : Type 0} (machine : Machine S) (shows : S → Type 0) (s : S) (ending : Ending)
+    (out out' : List ℕ) : Type 0 where
   pub ends : ending ≡ machine.ends s
   pub prints : out' ≡ out ++ machine.last s
+  pub shown : shows s

@@ -133,7 +133,7 @@ impl Course {
         requires before_end { self.old.at_end ≡ false }
         ensures steps { (taken : List ℕ) (written : List ℕ) →
             IsCourse J.machine (J.Stands job.old) taken written self.old →
-            Steps J.machine (J.Stands job.new) taken written self.new (S.remaining src.old) (S.remaining src.new)
+            Steps J.machine (J.Stands job.new) J.Shows taken written self.new (S.remaining src.old) (S.remaining src.new)
             (K.written out.old) (K.written out.new) result }
         ensures reads { CountsReads result (S.faults src.old) (S.faults src.new) }
         ensures writes { CountsWrites result (K.faults out.old) (K.faults out.new) }
@@ -156,7 +156,7 @@ impl Course {
         requires at_end { self.old.at_end ≡ true }
         ensures finishes { (taken : List ℕ) (written : List ℕ) →
             IsCourse J.machine (J.Stands job.old) taken written self.old →
-            Finishes J.machine taken written (K.written out.old) (K.written out.new) result }
+            Finishes J.machine J.Shows taken written (K.written out.old) (K.written out.new) result }
         ensures reads { (n : ℕ) → FaultsOfSource (status_in result) n n }
         ensures writes { FaultsOfSink (status_in result) (K.faults out.old) (K.faults out.new) }
     {

@@ -14,6 +14,9 @@ pub trait Job {
     // The job stands behind lines that bring the machine to this state.
     ghost Stands: { Self → State → Type 0 };
 
+    // What the job shows at the end of its input of the state that the machine came to.
+    ghost Shows: { State → Type 0 };
+
     /// Goes past a line, which is without its newline, and appends what it prints. Says why the command stops at the
     /// line, if it does.
     fn pass(&mut self, line: &[u8], out: &mut Vec<u8>) -> Result<Option<Halt>, Memory>
@@ -25,5 +28,5 @@ pub trait Job {
     fn end(&mut self, out: &mut Vec<u8>) -> Result<Ending, Memory>
         requires { (s : State) × Stands self.old s }
         ensures { IfOk result (λ ending. (s : State) → Stands self.old s →
-            Closes machine s ending out.old.items out.new.items) };
+            Closes machine Shows s ending out.old.items out.new.items) };
 }

@@ -18,7 +18,7 @@ pub fn stream<J: Job, S: Source, K: Sink>(
 ) -> Status
     requires { J.Stands job.old J.machine.start }
     ensures answers { Answers (S.remaining src.old) (S.remaining src.new) (K.written out.old) (K.written out.new)
-        result (Says J.machine) }
+        result (Says J.machine J.Shows) }
     ensures reads { FaultsOfSource result (S.faults src.old) (S.faults src.new) }
     ensures writes { FaultsOfSink result (K.faults out.old) (K.faults out.new) }
 {
@@ -37,7 +37,7 @@ fn run<J: Job, S: Source, K: Sink>(
 ) -> Result<Status, Stop>
     requires { J.Stands job.old J.machine.start }
     ensures answers { Answers (S.remaining src.old) (S.remaining src.new) (K.written out.old) (K.written out.new)
-        (status_in result) (Says J.machine) }
+        (status_in result) (Says J.machine J.Shows) }
     ensures reads { FaultsOfSource (status_in result) (S.faults src.old) (S.faults src.new) }
     ensures writes { FaultsOfSink (status_in result) (K.faults out.old) (K.faults out.new) }
 {

@@ -30,6 +30,8 @@ impl Job for Repeats {
 
     ghost Stands = { λ job lines. (job.lines ≡ lines) × (lines ≤ 4) };
 
+    ghost Shows = { λ lines. lines ≤ 4 };
+
     fn pass(&mut self, line: &[u8], out: &mut Vec<u8>) -> Result<Option<Halt>, Memory> {
         if self.lines == 4 {
             return Ok(Some(Halt::Passes));

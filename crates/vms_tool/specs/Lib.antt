@@ -1,15 +1,2 @@
-pub mod Judging
-pub mod Output
-pub mod Phases
-pub mod Worlds
-pub mod FileOrder
-pub mod Ready
-pub mod OpenPhases
-pub mod Progress
-pub mod Standing
 pub mod Naming
 pub mod Answers
-pub mod Running
-pub mod Courses
-pub mod Openings
-pub mod Commands

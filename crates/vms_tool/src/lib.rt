@@ -2,20 +2,10 @@
 #![tactic(auto)]
 
 mod commands;
-mod courses;
-mod items;
-mod judging;
 mod naming;
-mod openings;
-mod reports;
-mod running;
-mod starting;
-mod stops;
-#[cfg(test)]
-mod tests;
 
-pub use commands::{tool, tool_replay};
-pub use items::Item;
+pub use commands::tool;
 pub use naming::Command;
 pub use vms_check::tool_check;
+pub use vms_replay::tool_replay;
 pub use vms_stream::Status;

@@ -7,7 +7,7 @@ use vms_tool::Status;
 struct Row<'a> {
     name: &'a str,
     words: &'a [&'a str],
-    header: &'a str,
+    text: &'a [&'a str],
     devices: Devices<'a>,
     status: Status,
     /// What is written with devices that never fail.
@@ -28,14 +28,14 @@ const REPORT: &[&str] = &[
     "done accepted 2 refused 0\n",
 ];
 
-/// What stands before the last line of the report.
+/// What stands before the last line of the output.
 const BEFORE_DONE: usize = 70 + BETWEEN.len() + BEHIND.len();
 
-const ROWS: [Row<'static>; 12] = [
+const ROWS: [Row<'static>; 14] = [
     Row {
         name: "the first read fails",
         words: &["replay"],
-        header: HEADER,
+        text: &[HEADER, BODY],
         devices: Devices {
             failing_reads: &[1],
             ..SOUND
@@ -48,7 +48,7 @@ const ROWS: [Row<'static>; 12] = [
     Row {
         name: "a read fails within the header",
         words: &["replay"],
-        header: HEADER,
+        text: &[HEADER, BODY],
         devices: Devices {
             read: 64,
             failing_reads: &[2],
@@ -62,7 +62,7 @@ const ROWS: [Row<'static>; 12] = [
     Row {
         name: "a read fails within the body",
         words: &["replay"],
-        header: HEADER,
+        text: &[HEADER, BODY],
         devices: Devices {
             read: 64,
             failing_reads: &[3],
@@ -76,7 +76,7 @@ const ROWS: [Row<'static>; 12] = [
     Row {
         name: "the read that would tell the end fails",
         words: &["replay"],
-        header: HEADER,
+        text: &[HEADER, BODY],
         devices: Devices {
             read: 64,
             failing_reads: &[4],
@@ -86,26 +86,40 @@ const ROWS: [Row<'static>; 12] = [
         status: Status::ReadFault,
         output: REPORT,
         least: 0,
-        most: BEFORE_DONE,
+        most: 0,
+    },
+    Row {
+        name: "a read fails behind a line that is refused and one that isn't replayed",
+        words: &["replay"],
+        text: &[HEADER, "c9 fold 0\nk fold 0\n", BODY],
+        devices: Devices {
+            read: 64,
+            failing_reads: &[3],
+            ..SOUND
+        },
+        status: Status::ReadFault,
+        output: &[],
+        least: 0,
+        most: 0,
     },
     Row {
         name: "a read fails behind a header that is refused",
         words: &["replay"],
-        header: "vmtrace 2\n",
+        text: &["vmtrace 3\n", BODY],
         devices: Devices {
             read: 16,
             failing_reads: &[2],
             ..SOUND
         },
         status: Status::Header,
-        output: &["line 1: NotBuilt\n"],
+        output: &["line 1: BadMagic\n"],
         least: 17,
         most: 17,
     },
     Row {
         name: "the first write fails",
         words: &["replay"],
-        header: HEADER,
+        text: &[HEADER, BODY],
         devices: Devices {
             failing_writes: &[1],
             ..SOUND
@@ -118,7 +132,7 @@ const ROWS: [Row<'static>; 12] = [
     Row {
         name: "the second write fails",
         words: &["replay"],
-        header: HEADER,
+        text: &[HEADER, BODY],
         devices: Devices {
             write: 8,
             failing_writes: &[2],
@@ -132,7 +146,7 @@ const ROWS: [Row<'static>; 12] = [
     Row {
         name: "the room is used up",
         words: &["replay"],
-        header: HEADER,
+        text: &[HEADER, BODY],
         devices: Devices {
             write: 8,
             room: 100,
@@ -146,7 +160,7 @@ const ROWS: [Row<'static>; 12] = [
     Row {
         name: "the last byte has no room",
         words: &["replay"],
-        header: HEADER,
+        text: &[HEADER, BODY],
         devices: Devices {
             room: BEFORE_DONE + 25,
             ..SOUND
@@ -159,21 +173,35 @@ const ROWS: [Row<'static>; 12] = [
     Row {
         name: "the write of a header's fault fails",
         words: &["replay"],
-        header: "vmtrace 2\n",
+        text: &["vmtrace 3\n", BODY],
         devices: Devices {
             write: 8,
             failing_writes: &[2],
             ..SOUND
         },
         status: Status::WriteFault,
-        output: &["line 1: NotBuilt\n"],
+        output: &["line 1: BadMagic\n"],
         least: 8,
         most: 8,
     },
     Row {
+        name: "nothing is written where a line isn't replayed",
+        words: &["replay"],
+        text: &[HEADER, "k fold 0\n", BODY],
+        devices: Devices {
+            failing_writes: &[1],
+            room: 0,
+            ..SOUND
+        },
+        status: Status::NotBuilt,
+        output: &[],
+        least: 0,
+        most: 0,
+    },
+    Row {
         name: "the write of the usage fails",
         words: &["run"],
-        header: HEADER,
+        text: &[HEADER, BODY],
         devices: Devices {
             failing_writes: &[1],
             ..SOUND
@@ -186,7 +214,7 @@ const ROWS: [Row<'static>; 12] = [
     Row {
         name: "other words read nothing",
         words: &["run"],
-        header: HEADER,
+        text: &[HEADER, BODY],
         devices: Devices {
             failing_reads: &[1],
             ..SOUND
@@ -200,7 +228,7 @@ const ROWS: [Row<'static>; 12] = [
 
 /// Runs a row, and looks at its status and at what was written.
 fn try_row<R: AllocGlobal + Abort>(rt: &R, row: &Row<'_>) -> Result<(), Fail> {
-    let text = [row.header, BODY].concat(rt.alloc())?;
+    let text = row.text.concat(rt.alloc())?;
     let output = row.output.concat(rt.alloc())?;
     let (status, _src, out) = run(rt, row.words, text.as_bytes(), row.devices)?;
     let written = out.bytes();

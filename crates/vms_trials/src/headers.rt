@@ -3,52 +3,74 @@ use std::test::Fail;
 use vms_tool::Status;
 
 /// Texts whose header is refused, and the output.
-const ROWS: [(&str, &str); 16] = [
-    ("", "line 1: NotBuilt\n"),
-    ("\n", "line 1: NotBuilt\n"),
-    ("vmtrace 2\ncpus 2\n", "line 1: NotBuilt\n"),
-    ("vmtrace 1", "line 2: NotBuilt\n"),
-    ("vmtrace 1\ncpus 2\nzone", "line 2: NotBuilt\n"),
-    ("vmtrace 1\n\ncpus 1\n", "line 2: NotBuilt\n"),
+const ROWS: [(&str, &str); 23] = [
+    ("", "line 1: BadMagic\n"),
+    ("\n", "line 2: BadMagic\n"),
+    ("vmtrace 3\ncpus 2\n", "line 1: BadMagic\n"),
+    ("vmtrace 1", "line 2: MissingGo\n"),
+    ("vmtrace 1\ncpus 2\nzone", "line 3: Malformed\n"),
+    ("vmtrace 1\n\ncpus 65\n", "line 3: BadCpus\n"),
+    ("vmtrace 2\n# up to 128\ncpus 129\n", "line 3: BadCpus\n"),
     (
         "vmtrace 1\ncpus 1\nzone 0 Normal 262144 100 90 150\n",
-        "line 3: NotBuilt\n",
+        "line 3: BadMarks\n",
     ),
     (
         "vmtrace 1\ncpus 1\nzone 0 Normal 262144 100 125 124\n",
-        "line 3: NotBuilt\n",
+        "line 3: BadMarks\n",
     ),
     (
         "vmtrace 1\ncpus 1\nzone 0 Normal 0 100 125 150\n",
-        "line 3: NotBuilt\n",
+        "line 3: BadNumber\n",
     ),
     (
         "vmtrace 1\ncpus 1\nzone 0 Normal 1099511627777 100 125 150\n",
-        "line 3: NotBuilt\n",
+        "line 3: BadNumber\n",
     ),
     (
         "vmtrace 1\ncpus 1\nzone 0 Normal 262144 100 125\n",
-        "line 3: NotBuilt\n",
+        "line 3: Malformed\n",
+    ),
+    (
+        "vmtrace 1\ncpus 1\nzone 0 High 262144 100 125 150\n",
+        "line 3: UnknownName\n",
     ),
     (
         "vmtrace 1\ncpus 1\nzone 0 Normal 262144 100 125 150\nbase 0 Normal nr_free_pages 281474976710657\n",
-        "line 4: NotBuilt\n",
+        "line 4: BadNumber\n",
     ),
     (
         "vmtrace 1\ncpus 1\nzone 0 Normal 262144 100 125 150\nbase 0 Normal nr_free_pages -281474976710657\n",
-        "line 4: NotBuilt\n",
+        "line 4: BadNumber\n",
     ),
     (
-        "vmtrace 1\ncpus 1\nzone 0 Normal 262144 100 125 150\ngo\n",
-        "line 4: NotBuilt\n",
+        "vmtrace 1\ncpus 1\nzone 0 Normal 262144 100 125 150\nbase 0 Normal nr_dirty 1\n",
+        "line 4: UnknownName\n",
+    ),
+    ("vmtrace 1\ncpus 1\ngo\n", "line 3: NoZone\n"),
+    (
+        "vmtrace 1\ncpus 1\nzone 0 Normal 262144 100 125 150\nzone 0 Normal 1 0 0 0\n",
+        "line 4: DoubledZone\n",
+    ),
+    (
+        "vmtrace 1\ncpus 1\nzone 0 Normal 262144 100 125 150\ncounter files\ncounter files 8\n",
+        "line 5: DoubledCounter\n",
+    ),
+    (
+        "vmtrace 1\ncpus 1\nzone 0 Normal 262144 100 125 150\ncounter files 0\n",
+        "line 4: BadBatch\n",
+    ),
+    (
+        "vmtrace 2\ncpus 1\nitem zone nr_dirty\n",
+        "line 3: DoubledItem\n",
     ),
     (
         "vmtrace 1\ncpus 1\nzone 0 Normal 262144 100 125 150\nbase 0 Normal nr_free_pages 10000\n",
-        "line 5: NotBuilt\n",
+        "line 5: MissingGo\n",
     ),
     (
         "vmtrace 1\ncpus 1\nzone 0 Normal 262144 100 125 150\nbase 0 Normal nr_free_pages 10000\ngone\n",
-        "line 5: NotBuilt\n",
+        "line 5: Malformed\n",
     ),
 ];
 

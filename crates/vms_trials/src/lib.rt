@@ -15,4 +15,10 @@ mod replays;
 #[cfg(test)]
 mod runs;
 #[cfg(test)]
+mod spellings;
+#[cfg(test)]
+mod totals;
+#[cfg(test)]
+mod unbuilt;
+#[cfg(test)]
 mod usage;

@@ -35,9 +35,9 @@ report totals
         output: &["done accepted 0 refused 0\n"],
     },
     Row {
-        name: "blank lines",
+        name: "lines that are ignored",
         header: HEADER,
-        body: "\n\n",
+        body: "\n \t\r\n# a remark\n\n #c0 inc 0 Normal nr_mlock\n",
         status: Status::Done,
         output: &["done accepted 0 refused 0\n"],
     },
@@ -104,51 +104,57 @@ report totals
         ],
     },
     Row {
-        name: "an act that is not built",
+        name: "single pages up and down, and blanks between words",
         header: HEADER,
         body: "c0 inc 0 Normal nr_mlock
-report totals
+c0 dec 0 Normal nr_free_pages
+ \tc0  inc\t0 Normal nr_mlock \r
+sync
+c0 mod 0 Normal nr_free_pages 1 
+ report  totals
 ",
-        status: Status::Refused,
+        status: Status::Done,
         output: &[
-            "line 6: refused: NotBuilt\nline 7: report totals\n0 Normal nr_free_pages 10000\n",
+            "line 11: report totals\n0 Normal nr_free_pages 10000\n",
             BETWEEN,
-            "0 Normal nr_mlock 0\n",
+            "0 Normal nr_mlock 2\n",
             BEHIND,
-            "done accepted 1 refused 1\n",
+            "done accepted 6 refused 0\n",
         ],
     },
     Row {
-        name: "lines of no form",
+        name: "lines that are refused",
         header: HEADER,
         body: "c1 mod 0 Normal nr_mlock 1
-c0 mod 0 node nr_dirty 1
 c0 mod 0 Normal nr_dirty 1
 c0 mod 0 Normal nr_mlock
 c0 mod 0 Normal nr_mlock +1
 c0 mod 0 Normal nr_mlock -0
 c0 mod 0 Normal nr_mlock 01
-c0 mod 0 Normal nr_mlock 1 
+c0 mod 1 Normal nr_mlock 1
+c0 inc 0 Normal nr_mlock 1
 c0 mod 0 Normal nr_mlock 9223372036854775808
- report totals
-report vmstat
+report total
+report totals 1
+sync 1
 go
 ",
         status: Status::Refused,
         output: &[
-            "line 6: refused: NotBuilt
-line 7: refused: NotBuilt
-line 8: refused: NotBuilt
-line 9: refused: NotBuilt
-line 10: refused: NotBuilt
-line 11: refused: NotBuilt
-line 12: refused: NotBuilt
-line 13: refused: NotBuilt
-line 14: refused: NotBuilt
-line 15: refused: NotBuilt
-line 16: refused: NotBuilt
-line 17: refused: NotBuilt
-done accepted 0 refused 12
+            "line 6: refused: UnknownLane
+line 7: refused: UnknownItem
+line 8: refused: Malformed
+line 9: refused: BadNumber
+line 10: refused: BadNumber
+line 11: refused: BadNumber
+line 12: refused: UnknownPlace
+line 13: refused: Malformed
+line 14: refused: BadNumber
+line 15: refused: Malformed
+line 16: refused: Malformed
+line 17: refused: Malformed
+line 18: refused: Malformed
+done accepted 0 refused 13
 ",
         ],
     },

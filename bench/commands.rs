@@ -1,0 +1,254 @@
+//! What the commands on a trace do alike, for the plain programs: they read the lines, judge which of them count, keep
+//! to the limits, and end with a status.
+
+use crate::names::EVENTS;
+use crate::trace::{Act, Cause, Header, Lane, Line, head_line};
+use std::io::{self, BufRead, BufReader, BufWriter, Read, StdinLock, StdoutLock, Take, Write};
+use std::process::ExitCode;
+
+const MOST_BYTES: u64 = 1 << 26;
+const MOST_LINES: u64 = 1_000_000;
+const MOST_PHASES: u64 = 10_000;
+const MOST_REPORTS: u64 = 1_000;
+/// What one CPU may change one counter by, in absolute sum over a run.
+const MOST_VOLUME: u64 = 1 << 48;
+const BUFFER: usize = 1 << 16;
+
+pub enum Failure {
+    /// The header's first line at fault.
+    Header(u64, Cause),
+    TooLong,
+    Read,
+    Write,
+}
+
+impl From<io::Error> for Failure {
+    fn from(_: io::Error) -> Failure {
+        Failure::Write
+    }
+}
+
+/// What the lines of a body came to, in numbers.
+#[derive(Default)]
+pub struct Tally {
+    accepted: u64,
+    refused: u64,
+    phases: u64,
+    reports: u64,
+    in_phase: bool,
+}
+
+impl Tally {
+    fn add(&mut self, line: Line) -> Result<(), Failure> {
+        let in_phase = matches!(line, Line::Lane(..));
+        self.phases += u64::from(in_phase && !self.in_phase);
+        self.reports += u64::from(matches!(line, Line::Report(_)));
+        if self.phases > MOST_PHASES || self.reports > MOST_REPORTS {
+            return Err(Failure::TooLong);
+        }
+        self.in_phase = in_phase;
+        self.accepted += 1;
+        Ok(())
+    }
+
+    pub fn write(&self, out: &mut impl Write) -> io::Result<()> {
+        writeln!(out, "done accepted {} refused {}", self.accepted, self.refused)
+    }
+
+    /// The status of an input that was read to its end.
+    pub fn status(&self) -> u8 {
+        if self.refused > 0 { 3 } else { 0 }
+    }
+}
+
+#[derive(Clone, Copy, PartialEq)]
+enum State {
+    Online,
+    Dead,
+    Absent,
+}
+
+/// Which lines count, by the lines above.
+struct Judge {
+    states: Vec<State>,
+    counters: Vec<u64>,
+    events: Vec<u64>,
+    pcpu: Vec<u64>,
+}
+
+impl Judge {
+    fn new(header: &Header) -> Judge {
+        Judge {
+            states: vec![State::Online; header.cpus],
+            counters: vec![0; header.cpus * header.bases.len()],
+            events: vec![0; header.cpus * EVENTS.len()],
+            pcpu: vec![0; header.cpus * 16],
+        }
+    }
+
+    fn spend(volume: &mut u64, size: u64) -> Result<(), Cause> {
+        match volume.checked_add(size) {
+            Some(sum) if sum <= MOST_VOLUME => {
+                *volume = sum;
+                Ok(())
+            }
+            _ => Err(Cause::Overflow),
+        }
+    }
+
+    fn judge(&mut self, line: Line) -> Result<(), Cause> {
+        match line {
+            Line::Lane(Lane::Cpu(cpu), act) => {
+                if self.states[cpu] != State::Online {
+                    return Err(Cause::NotOnline);
+                }
+                let width = self.counters.len() / self.states.len();
+                match act {
+                    Act::Mod(counter, pages) => {
+                        Judge::spend(&mut self.counters[cpu * width + counter], pages.unsigned_abs())
+                    }
+                    Act::Inc(counter) | Act::Dec(counter) => {
+                        Judge::spend(&mut self.counters[cpu * width + counter], 1)
+                    }
+                    Act::Ev(event, n) => Judge::spend(&mut self.events[cpu * EVENTS.len() + event], n),
+                    Act::Cnt(counter, n) | Act::Lim(counter, _, n) => {
+                        Judge::spend(&mut self.pcpu[cpu * 16 + counter], n.unsigned_abs())
+                    }
+                    _ => Ok(()),
+                }
+            }
+            Line::Lane(Lane::Control, Act::Dead(cpu)) => {
+                if self.states[cpu] != State::Dead {
+                    return Err(Cause::NotDead);
+                }
+                self.states[cpu] = State::Absent;
+                Ok(())
+            }
+            Line::Offline(cpu) => {
+                if self.states[cpu] != State::Online {
+                    return Err(Cause::NotOnline);
+                }
+                if self.states.iter().filter(|&&state| state == State::Online).count() == 1 {
+                    return Err(Cause::LastCpu);
+                }
+                self.states[cpu] = State::Dead;
+                Ok(())
+            }
+            Line::Online(cpu) => match self.states[cpu] {
+                State::Online => Err(Cause::NotDead),
+                State::Dead => Err(Cause::NotFolded),
+                State::Absent => {
+                    self.states[cpu] = State::Online;
+                    Ok(())
+                }
+            },
+            _ => Ok(()),
+        }
+    }
+}
+
+/// The lines of standard input, each read into one buffer.
+pub struct Input {
+    source: BufReader<Take<StdinLock<'static>>>,
+    line: Vec<u8>,
+    bytes: u64,
+    number: u64,
+}
+
+impl Input {
+    fn make() -> Input {
+        let source = io::stdin().lock().take(MOST_BYTES + 1);
+        Input { source: BufReader::with_capacity(BUFFER, source), line: Vec::new(), bytes: 0, number: 0 }
+    }
+
+    /// The next line, without its newline, or nothing at the end.
+    fn next(&mut self) -> Result<Option<&[u8]>, Failure> {
+        self.line.clear();
+        let count = self.source.read_until(b'\n', &mut self.line).map_err(|_| Failure::Read)?;
+        if count == 0 {
+            return Ok(None);
+        }
+        self.bytes += count as u64;
+        self.number += 1;
+        if self.bytes > MOST_BYTES || self.number > MOST_LINES {
+            return Err(Failure::TooLong);
+        }
+        if self.line.last() == Some(&b'\n') {
+            self.line.pop();
+        }
+        Ok(Some(&self.line))
+    }
+
+    /// Reads the header up to its `go` line.
+    pub fn header(&mut self) -> Result<Header, Failure> {
+        let (mut header, mut part) = (Header::empty(), 0);
+        loop {
+            let found = match self.next()? {
+                None => {
+                    let cause = if part == 0 { Cause::BadMagic } else { Cause::MissingGo };
+                    return Err(Failure::Header(self.number + 1, cause));
+                }
+                Some(line) => head_line(&mut header, &mut part, line),
+            };
+            match found {
+                Ok(true) => return Ok(header),
+                Ok(false) => {}
+                Err(cause) => return Err(Failure::Header(self.number, cause)),
+            }
+        }
+    }
+
+    /// Hands each further line that isn't ignored to a command, by its number and what it comes to.
+    pub fn body(
+        &mut self,
+        header: &Header,
+        mut take: impl FnMut(u64, Result<Line, Cause>) -> Result<(), Failure>,
+    ) -> Result<Tally, Failure> {
+        let mut judge = Judge::new(header);
+        let mut tally = Tally::default();
+        while let Some(text) = self.next()? {
+            let judged = header.line(text).and_then(|line| judge.judge(line).map(|()| line));
+            match judged {
+                Ok(Line::Blank) => continue,
+                Ok(line) => tally.add(line)?,
+                Err(_) => tally.refused += 1,
+            }
+            take(self.number, judged)?;
+        }
+        Ok(tally)
+    }
+}
+
+pub type Output = BufWriter<StdoutLock<'static>>;
+
+/// Runs a command over standard input and standard output if its word alone was given.
+pub fn run(word: &str, command: impl FnOnce(&mut Input, &mut Output) -> Result<u8, Failure>) -> ExitCode {
+    let mut out = BufWriter::with_capacity(BUFFER, io::stdout().lock());
+    let status = match answer(word, command, &mut out).and_then(|status| out.flush().map(|()| status)) {
+        Ok(status) => status,
+        Err(_) => 5,
+    };
+    ExitCode::from(status)
+}
+
+/// The status, unless a write failed.
+fn answer(
+    word: &str,
+    command: impl FnOnce(&mut Input, &mut Output) -> Result<u8, Failure>,
+    out: &mut Output,
+) -> io::Result<u8> {
+    if std::env::args_os().skip(1).ne([word]) {
+        writeln!(out, "usage: check | replay | run | gen SEED CPUS LINES")?;
+        return Ok(1);
+    }
+    Ok(match command(&mut Input::make(), out) {
+        Ok(status) => status,
+        Err(Failure::Header(line, cause)) => {
+            writeln!(out, "line {line}: {cause}")?;
+            2
+        }
+        Err(Failure::TooLong) => 7,
+        Err(Failure::Read) => 4,
+        Err(Failure::Write) => 5,
+    })
+}

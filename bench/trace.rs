@@ -1,0 +1,612 @@
+//! The grammar of a trace, for the plain programs: what its header and a line of its body say, and their causes.
+
+// Each program uses a part of it.
+#![allow(dead_code)]
+
+use crate::names::{EVENTS, NODE_ITEMS, ZONE_ITEMS};
+use std::fmt::{self, Display};
+use std::io::{self, Write};
+use std::str;
+
+pub const KINDS: [&str; 4] = ["DMA", "DMA32", "Normal", "Movable"];
+pub const MARKS: [&str; 3] = ["min", "low", "high"];
+pub const REPORTS: [&str; 4] = ["vmstat", "zoneinfo", "totals", "counters"];
+
+const MOST_LINE: usize = 200;
+const MOST_PAGES: u64 = 1 << 40;
+const MOST_BASE: u64 = 1 << 48;
+const MOST_LIMIT: u64 = 1 << 60;
+pub const BYTES_OF_PAGE: i64 = 4096;
+
+/// The causes of headers and of lines; Debug prints their names.
+#[derive(Clone, Copy, Debug, PartialEq)]
+pub enum Cause {
+    BadMagic,
+    BadNumber,
+    BadCpus,
+    NoZone,
+    DoubledZone,
+    TooManyZones,
+    BadMarks,
+    UnknownName,
+    DoubledCounter,
+    BadBatch,
+    MissingGo,
+    Malformed,
+    TooManyCounters,
+    LineTooLong,
+    DoubledItem,
+    TooManyItems,
+    UnknownLane,
+    UnknownPlace,
+    UnknownItem,
+    UnknownCounter,
+    NotOnline,
+    Overflow,
+    NotDead,
+    NotFolded,
+    LastCpu,
+    NotPages,
+}
+
+impl Display for Cause {
+    fn fmt(&self, f: &mut fmt::Formatter) -> fmt::Result {
+        write!(f, "{self:?}")
+    }
+}
+
+pub struct Zone {
+    pub node: u64,
+    pub kind: usize,
+    pub managed: u64,
+    pub marks: [u64; 3],
+}
+
+pub struct Item {
+    pub name: String,
+    pub node: bool,
+    pub bytes: bool,
+}
+
+pub struct Counter {
+    pub name: String,
+    pub batch: u64,
+}
+
+/// What the header says. The zones stand by node and kind, `items` has the names of each class by position.
+#[derive(Default)]
+pub struct Header {
+    pub wide: bool,
+    pub cpus: usize,
+    share: Option<(u64, u64)>,
+    pub declared: Vec<Item>,
+    pub zones: Vec<Zone>,
+    pub nodes: Vec<u64>,
+    pub bases: Vec<Option<i64>>,
+    pub counters: Vec<Counter>,
+    zone_items: Vec<String>,
+    node_items: Vec<String>,
+}
+
+#[derive(Clone, Copy)]
+pub enum Lane {
+    Cpu(usize),
+    Control,
+}
+
+#[derive(Clone, Copy)]
+pub enum Act {
+    Mod(usize, i64),
+    Inc(usize),
+    Dec(usize),
+    Ev(usize, u64),
+    Cnt(usize, i64),
+    Lim(usize, i64, i64),
+    Cmp(usize, i64),
+    Sum(usize),
+    Rough(usize),
+    Csync(usize),
+    EvSum(usize),
+    Fold(usize),
+    Water(usize, usize, u64),
+    Val(usize),
+    Snap(usize),
+    Sys(usize),
+    Pressure(usize),
+    Normal(usize),
+    Dead(usize),
+    Kswapd(usize, u64, u64),
+}
+
+#[derive(Clone, Copy)]
+pub enum Line {
+    Blank,
+    Lane(Lane, Act),
+    Sync,
+    Offline(usize),
+    Online(usize),
+    Flush,
+    Report(usize),
+}
+
+fn is_blank(byte: u8) -> bool {
+    matches!(byte, b' ' | b'\t' | b'\r')
+}
+
+/// A line cut into its first eight words.
+struct Cut<'a> {
+    words: [&'a [u8]; 8],
+    count: usize,
+    /// Whether each byte of the line is a blank or one of a word.
+    clean: bool,
+}
+
+impl<'a> Cut<'a> {
+    fn of(line: &'a [u8]) -> Cut<'a> {
+        let mut cut = Cut { words: [b""; 8], count: 0, clean: true };
+        let mut begin = 0;
+        for (at, &byte) in line.iter().enumerate() {
+            if !byte.is_ascii_graphic() {
+                cut.clean &= is_blank(byte);
+                cut.add(&line[begin..at]);
+                begin = at + 1;
+            }
+        }
+        cut.add(&line[begin..]);
+        cut
+    }
+
+    fn add(&mut self, word: &'a [u8]) {
+        if !word.is_empty() && self.count < 8 {
+            self.words[self.count] = word;
+            self.count += 1;
+        }
+    }
+
+    fn words(&self) -> &[&'a [u8]] {
+        &self.words[..self.count]
+    }
+
+    fn is_ignored(&self) -> bool {
+        match self.words() {
+            [first, ..] => first[0] == b'#',
+            [] => self.clean,
+        }
+    }
+}
+
+fn unsigned(word: &[u8]) -> Option<u64> {
+    if !is_numeral(word) {
+        return None;
+    }
+    word.iter().try_fold(0u64, |n, digit| n.checked_mul(10)?.checked_add(u64::from(digit - b'0')))
+}
+
+fn is_numeral(word: &[u8]) -> bool {
+    match word {
+        [b'0'] => true,
+        [b'1'..=b'9', rest @ ..] => rest.iter().all(u8::is_ascii_digit),
+        _ => false,
+    }
+}
+
+fn signed(word: &[u8]) -> Option<i64> {
+    match word.strip_prefix(b"-") {
+        None => unsigned(word).and_then(|n| i64::try_from(n).ok()),
+        Some(digits) => match unsigned(digits)? {
+            0 => None,
+            size => 0i64.checked_sub_unsigned(size),
+        },
+    }
+}
+
+fn number(word: &[u8], least: u64, most: u64) -> Result<u64, Cause> {
+    unsigned(word).filter(|n| (least..=most).contains(n)).ok_or(Cause::BadNumber)
+}
+
+fn amount(word: &[u8]) -> Result<i64, Cause> {
+    signed(word).ok_or(Cause::BadNumber)
+}
+
+fn limit(word: &[u8]) -> Result<i64, Cause> {
+    signed(word).filter(|n| n.unsigned_abs() <= MOST_LIMIT).ok_or(Cause::BadNumber)
+}
+
+fn named<S: AsRef<str>>(names: &[S], word: &[u8]) -> Option<usize> {
+    names.iter().position(|name| name.as_ref().as_bytes() == word)
+}
+
+fn name(word: &[u8]) -> Result<String, Cause> {
+    let is_name = word.len() <= 16
+        && word.first().is_some_and(u8::is_ascii_lowercase)
+        && word.iter().all(|byte| matches!(byte, b'a'..=b'z' | b'0'..=b'9' | b'_'));
+    if !is_name {
+        return Err(Cause::UnknownName);
+    }
+    Ok(str::from_utf8(word).unwrap().to_owned())
+}
+
+impl Header {
+    /// Before the first line.
+    pub fn empty() -> Header {
+        Header {
+            zone_items: ZONE_ITEMS.iter().map(|&name| name.to_owned()).collect(),
+            node_items: NODE_ITEMS.iter().map(|&name| name.to_owned()).collect(),
+            ..Header::default()
+        }
+    }
+
+    pub fn positions(&self) -> usize {
+        if self.wide { 16 } else { 8 }
+    }
+
+    pub fn names(&self, node: bool) -> &[String] {
+        if node { &self.node_items } else { &self.zone_items }
+    }
+
+    pub fn is_node(&self, place: usize) -> bool {
+        place >= self.zones.len()
+    }
+
+    fn zone(&self, node: u64, kind: &[u8]) -> Option<usize> {
+        let kind = named(&KINDS, kind)?;
+        self.zones.iter().position(|zone| zone.node == node && zone.kind == kind)
+    }
+
+    fn node(&self, node: u64) -> Option<usize> {
+        self.nodes.iter().position(|&other| other == node).map(|n| self.zones.len() + n)
+    }
+
+    fn place(&self, node: u64, kind: &[u8]) -> Option<usize> {
+        if kind == b"node" { self.node(node) } else { self.zone(node, kind) }
+    }
+
+    pub fn in_bytes(&self, counter: usize) -> bool {
+        let (place, position) = (counter / self.positions(), counter % self.positions());
+        let mut of_class = self.declared.iter().filter(|item| item.node == self.is_node(place));
+        position >= 8 && of_class.nth(position - 8).is_some_and(|item| item.bytes)
+    }
+
+    // The rows of the header, each of which adds what its line says.
+
+    fn watermarks(&mut self, fields: &[&[u8]]) -> Result<(), Cause> {
+        let (kbytes, scale) = match fields {
+            [kbytes] => (number(kbytes, 0, 1 << 40)?, 10),
+            [kbytes, scale] => (number(kbytes, 0, 1 << 40)?, number(scale, 1, 3000)?),
+            _ => return Err(Cause::Malformed),
+        };
+        self.share = Some((kbytes, scale));
+        Ok(())
+    }
+
+    fn item(&mut self, fields: &[&[u8]]) -> Result<(), Cause> {
+        let (class, word, unit) = match *fields {
+            [class, name] => (class, name, None),
+            [class, name, unit] => (class, name, Some(unit)),
+            _ => return Err(Cause::Malformed),
+        };
+        let node = match class {
+            b"zone" => false,
+            b"node" => true,
+            _ => return Err(Cause::UnknownName),
+        };
+        let name = name(word)?;
+        let bytes = match unit {
+            None => false,
+            Some(b"bytes") => true,
+            Some(_) => return Err(Cause::UnknownName),
+        };
+        if named(&self.zone_items, word).is_some() || named(&self.node_items, word).is_some() {
+            return Err(Cause::DoubledItem);
+        }
+        let names = if node { &mut self.node_items } else { &mut self.zone_items };
+        if names.len() == 16 {
+            return Err(Cause::TooManyItems);
+        }
+        names.push(name.clone());
+        self.declared.push(Item { name, node, bytes });
+        Ok(())
+    }
+
+    fn add_zone(&mut self, fields: &[&[u8]]) -> Result<(), Cause> {
+        let (node, kind, managed, marks) = match (self.share, fields) {
+            (None, &[node, kind, managed, min, low, high]) => (node, kind, managed, Some([min, low, high])),
+            (Some(_), &[node, kind, managed]) => (node, kind, managed, None),
+            _ => return Err(Cause::Malformed),
+        };
+        let node = number(node, 0, 15)?;
+        let kind = named(&KINDS, kind).ok_or(Cause::UnknownName)?;
+        let managed = number(managed, 1, MOST_PAGES)?;
+        let marks = match marks {
+            None => [0; 3],
+            Some([min, low, high]) => {
+                [number(min, 0, MOST_PAGES)?, number(low, 0, MOST_PAGES)?, number(high, 0, MOST_PAGES)?]
+            }
+        };
+        if marks[0] > marks[1] || marks[1] > marks[2] {
+            return Err(Cause::BadMarks);
+        }
+        if self.zones.iter().any(|zone| zone.node == node && zone.kind == kind) {
+            return Err(Cause::DoubledZone);
+        }
+        if self.zones.len() == 16 {
+            return Err(Cause::TooManyZones);
+        }
+        self.zones.push(Zone { node, kind, managed, marks });
+        Ok(())
+    }
+
+    /// Puts the zones into order, once the last zone line was read.
+    fn settle(&mut self) {
+        if !self.nodes.is_empty() {
+            return;
+        }
+        self.zones.sort_by_key(|zone| (zone.node, zone.kind));
+        let total: u128 = self.zones.iter().map(|zone| u128::from(zone.managed)).sum();
+        if let Some((kbytes, scale)) = self.share {
+            for zone in &mut self.zones {
+                let min = (u128::from(kbytes / 4) * u128::from(zone.managed) / total) as u64;
+                let step = (min / 4).max((u128::from(zone.managed) * u128::from(scale) / 10000) as u64);
+                zone.marks = [min, min + step, min + 2 * step];
+            }
+        }
+        self.nodes = self.zones.iter().map(|zone| zone.node).collect();
+        self.nodes.dedup();
+        self.bases = vec![None; self.positions() * (self.zones.len() + self.nodes.len())];
+    }
+
+    fn base(&mut self, fields: &[&[u8]]) -> Result<(), Cause> {
+        let &[node, kind, item, value] = fields else {
+            return Err(Cause::Malformed);
+        };
+        if self.zones.is_empty() {
+            return Err(Cause::NoZone);
+        }
+        self.settle();
+        let node = number(node, 0, u64::MAX)?;
+        let place = self.place(node, kind).ok_or(Cause::UnknownName)?;
+        let position = named(self.names(self.is_node(place)), item).ok_or(Cause::UnknownName)?;
+        let value = signed(value).filter(|n| n.unsigned_abs() <= MOST_BASE).ok_or(Cause::BadNumber)?;
+        let counter = self.positions() * place + position;
+        if self.bases[counter].is_some() {
+            return Err(Cause::DoubledCounter);
+        }
+        self.bases[counter] = Some(value);
+        Ok(())
+    }
+
+    fn counter(&mut self, fields: &[&[u8]]) -> Result<(), Cause> {
+        let (word, batch) = match *fields {
+            [name] => (name, None),
+            [name, batch] => (name, Some(batch)),
+            _ => return Err(Cause::Malformed),
+        };
+        if self.zones.is_empty() {
+            return Err(Cause::NoZone);
+        }
+        let name = name(word)?;
+        let batch = match batch {
+            None => (2 * self.cpus as u64).max(32),
+            Some(batch) => number(batch, 0, u64::MAX)?,
+        };
+        if self.counters.iter().any(|counter| counter.name == name) {
+            return Err(Cause::DoubledCounter);
+        }
+        if !(1..=65536).contains(&batch) {
+            return Err(Cause::BadBatch);
+        }
+        if self.counters.len() == 16 {
+            return Err(Cause::TooManyCounters);
+        }
+        self.counters.push(Counter { name, batch });
+        Ok(())
+    }
+
+    // The fields of the body's lines.
+
+    fn cpu(&self, word: &[u8]) -> Result<usize, Cause> {
+        let cpu = number(word, 0, u64::MAX)?;
+        if cpu < self.cpus as u64 { Ok(cpu as usize) } else { Err(Cause::UnknownLane) }
+    }
+
+    fn counter_of(&self, node: &[u8], kind: &[u8], item: &[u8]) -> Result<usize, Cause> {
+        let node = number(node, 0, u64::MAX)?;
+        let place = self.place(node, kind).ok_or(Cause::UnknownPlace)?;
+        let position = named(self.names(self.is_node(place)), item).ok_or(Cause::UnknownItem)?;
+        Ok(self.positions() * place + position)
+    }
+
+    fn pages(&self, counter: usize, amount: i64) -> Result<i64, Cause> {
+        if !self.in_bytes(counter) {
+            Ok(amount)
+        } else if amount % BYTES_OF_PAGE == 0 {
+            Ok(amount / BYTES_OF_PAGE)
+        } else {
+            Err(Cause::NotPages)
+        }
+    }
+
+    fn in_pages(&self, counter: usize) -> Result<usize, Cause> {
+        if self.in_bytes(counter) { Err(Cause::NotPages) } else { Ok(counter) }
+    }
+
+    fn event(&self, word: &[u8]) -> Result<usize, Cause> {
+        named(&EVENTS, word).ok_or(Cause::UnknownItem)
+    }
+
+    fn pcpu(&self, word: &[u8]) -> Result<usize, Cause> {
+        self.counters
+            .iter()
+            .position(|counter| counter.name.as_bytes() == word)
+            .ok_or(Cause::UnknownCounter)
+    }
+
+    fn node_of(&self, word: &[u8]) -> Result<usize, Cause> {
+        self.node(number(word, 0, u64::MAX)?).ok_or(Cause::UnknownPlace)
+    }
+
+    fn act(&self, control: bool, words: &[&[u8]]) -> Result<Act, Cause> {
+        match (control, words) {
+            (false, &[b"mod", node, kind, item, delta]) => {
+                let counter = self.counter_of(node, kind, item)?;
+                let delta = amount(delta)?;
+                Ok(Act::Mod(counter, self.pages(counter, delta)?))
+            }
+            (false, &[b"inc", node, kind, item]) => {
+                Ok(Act::Inc(self.in_pages(self.counter_of(node, kind, item)?)?))
+            }
+            (false, &[b"dec", node, kind, item]) => {
+                Ok(Act::Dec(self.in_pages(self.counter_of(node, kind, item)?)?))
+            }
+            (false, &[b"ev", event, n]) => Ok(Act::Ev(self.event(event)?, number(n, 0, (1 << 63) - 1)?)),
+            (false, &[b"cnt", name, n]) => Ok(Act::Cnt(self.pcpu(name)?, amount(n)?)),
+            (false, &[b"lim", name, most, n]) => Ok(Act::Lim(self.pcpu(name)?, limit(most)?, amount(n)?)),
+            (false, &[b"cmp", name, n]) => Ok(Act::Cmp(self.pcpu(name)?, limit(n)?)),
+            (false, &[b"sum", name]) => Ok(Act::Sum(self.pcpu(name)?)),
+            (false, &[b"rough", name]) => Ok(Act::Rough(self.pcpu(name)?)),
+            (false, &[b"csync", name]) => Ok(Act::Csync(self.pcpu(name)?)),
+            (true, &[b"pressure", node]) => Ok(Act::Pressure(self.node_of(node)?)),
+            (true, &[b"normal", node]) => Ok(Act::Normal(self.node_of(node)?)),
+            (true, &[b"dead", cpu]) => Ok(Act::Dead(self.cpu(cpu)?)),
+            (true, &[b"kswapd", node, order, index]) if self.wide => {
+                let place = self.node_of(node)?;
+                let (order, index) = (number(order, 0, 10)?, number(index, 0, 3)?);
+                let node = self.nodes[place - self.zones.len()];
+                if !self.zones.iter().any(|zone| zone.node == node && zone.kind as u64 <= index) {
+                    return Err(Cause::UnknownPlace);
+                }
+                Ok(Act::Kswapd(place, order, index))
+            }
+            (_, &[b"evsum", event]) => Ok(Act::EvSum(self.event(event)?)),
+            (_, &[b"fold", cpu]) => Ok(Act::Fold(self.cpu(cpu)?)),
+            (_, &[b"ok", node, kind, mark, index]) => {
+                let mark = named(&MARKS, mark).ok_or(Cause::Malformed)?;
+                let zone = self.zone(number(node, 0, u64::MAX)?, kind).ok_or(Cause::UnknownPlace)?;
+                Ok(Act::Water(zone, mark, number(index, 0, 3)?))
+            }
+            (_, &[b"val", node, kind, item]) => Ok(Act::Val(self.counter_of(node, kind, item)?)),
+            (_, &[b"snap", node, kind, item]) => Ok(Act::Snap(self.counter_of(node, kind, item)?)),
+            (_, &[b"sys", item]) => match (named(&self.zone_items, item), named(&self.node_items, item)) {
+                (Some(position), _) => Ok(Act::Sys(position)),
+                (None, Some(position)) => Ok(Act::Sys(self.positions() + position)),
+                (None, None) => Err(Cause::UnknownItem),
+            },
+            _ => Err(Cause::Malformed),
+        }
+    }
+
+    /// What a line of the body says.
+    pub fn line(&self, line: &[u8]) -> Result<Line, Cause> {
+        if line.len() > MOST_LINE {
+            return Err(Cause::LineTooLong);
+        }
+        let cut = Cut::of(line);
+        if cut.is_ignored() {
+            return Ok(Line::Blank);
+        }
+        if !cut.clean {
+            return Err(Cause::Malformed);
+        }
+        match *cut.words() {
+            [b"k", ref act @ ..] => Ok(Line::Lane(Lane::Control, self.act(true, act)?)),
+            [[b'c', number @ ..], ref act @ ..] if is_numeral(number) => {
+                let act = self.act(false, act);
+                if let Err(Cause::Malformed) = act {
+                    return Err(Cause::Malformed);
+                }
+                match unsigned(number) {
+                    Some(cpu) if cpu < self.cpus as u64 => Ok(Line::Lane(Lane::Cpu(cpu as usize), act?)),
+                    _ => Err(Cause::UnknownLane),
+                }
+            }
+            [b"sync"] => Ok(Line::Sync),
+            [b"flush"] => Ok(Line::Flush),
+            [b"offline", cpu] => Ok(Line::Offline(self.cpu(cpu)?)),
+            [b"online", cpu] => Ok(Line::Online(self.cpu(cpu)?)),
+            [b"report", kind] => Ok(Line::Report(named(&REPORTS, kind).ok_or(Cause::Malformed)?)),
+            _ => Err(Cause::Malformed),
+        }
+    }
+
+    // The words of a counter, for output.
+
+    pub fn write_place(&self, out: &mut impl Write, place: usize) -> io::Result<()> {
+        match self.zones.get(place) {
+            Some(zone) => write!(out, "{} {}", zone.node, KINDS[zone.kind]),
+            None => write!(out, "{} node", self.node_number(place)),
+        }
+    }
+
+    pub fn write_counter(&self, out: &mut impl Write, counter: usize) -> io::Result<()> {
+        let place = counter / self.positions();
+        self.write_place(out, place)?;
+        write!(out, " {}", self.names(self.is_node(place))[counter % self.positions()])
+    }
+
+    pub fn node_number(&self, place: usize) -> u64 {
+        self.nodes[place - self.zones.len()]
+    }
+}
+
+/// Whether a line is the header's last. `part` is 0 before the first line, 1 behind it, then a number for each kind of
+/// line.
+pub fn head_line(header: &mut Header, part: &mut u32, line: &[u8]) -> Result<bool, Cause> {
+    if line.len() > MOST_LINE {
+        return Err(Cause::LineTooLong);
+    }
+    let cut = Cut::of(line);
+    if cut.is_ignored() {
+        return Ok(false);
+    }
+    if *part == 0 {
+        header.wide = match *cut.words() {
+            [b"vmtrace", b"1"] => false,
+            [b"vmtrace", b"2"] => true,
+            _ => return Err(Cause::BadMagic),
+        };
+    }
+    if !cut.clean {
+        return Err(Cause::Malformed);
+    }
+    let next = match (*part, cut.words()) {
+        (0, _) => 1,
+        (1, &[b"cpus", cpus]) => {
+            let cpus = number(cpus, 0, u64::MAX)?;
+            if cpus < 1 || cpus > if header.wide { 128 } else { 64 } {
+                return Err(Cause::BadCpus);
+            }
+            header.cpus = cpus as usize;
+            2
+        }
+        (2, &[b"watermarks", ref fields @ ..]) => {
+            header.watermarks(fields)?;
+            3
+        }
+        (2..=4, &[b"item", ref fields @ ..]) if header.wide => {
+            header.item(fields)?;
+            4
+        }
+        (2..=5, &[b"zone", ref fields @ ..]) => {
+            header.add_zone(fields)?;
+            5
+        }
+        (2..=6, &[b"base", ref fields @ ..]) => {
+            header.base(fields)?;
+            6
+        }
+        (2..=7, &[b"counter", ref fields @ ..]) => {
+            header.counter(fields)?;
+            7
+        }
+        (2..=7, &[b"go"]) => {
+            if header.zones.is_empty() {
+                return Err(Cause::NoZone);
+            }
+            header.settle();
+            return Ok(true);
+        }
+        _ => return Err(Cause::Malformed),
+    };
+    *part = next;
+    Ok(false)
+}

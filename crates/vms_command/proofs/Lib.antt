@@ -1,0 +1,4 @@
+pub mod BodyLines
+pub mod HeadLines
+pub mod Passing
+pub mod WholeText

@@ -1,0 +1,6 @@
+use Rattle.vms_command.proofs.Passing.{SomeBody-in_part}
+use Rattle.vms_command.proofs.trace_jobs.TraceJobJob.end.Goals as goal
+
+pub end-requires : goal.end-requires
+end-requires g c =
+    (c.args.self.now.line, SomeBody-in_part g.B.Body.Stands c.args.self.now.line c.requires.0 c.args.self.now.part c.in-Body.body c.in-Body.is c.requires.1.part)

@@ -1,0 +1,24 @@
+-- What the lines of a body came to.
+use Rattle.std.specs.Prelude.{ℕ, suc, List, [], ◌∷◌, Result, Ok, Err}
+use Rattle.vms_base.specs.declared.headers.Header.{Header}
+use Rattle.vms_text.specs.declared.acts.Line.{Line}
+use Rattle.vms_trace.specs.declared.causes.LineCause.{LineCause}
+use Rattle.vms_script.specs.Judging.{judged, counted}
+
+-- the lines that count, the newest first, and how many were refused
+pub record Above : Type 0 where
+  pub lines : List Line
+  pub refused : ℕ
+
+abbrev pub nothing_above : Above
+nothing_above = record { lines = []; refused = 0 }
+
+-- with one line more, of which this was judged
+abbrev pub with_judged : Result Line LineCause → Above → Above
+with_judged (Ok line) above = record above { lines = counted (Ok line) above.lines }
+with_judged (Err cause) above = record above { refused = suc above.refused }
+
+-- with these lines more
+abbrev pub come_to : Header → Above → List (List ℕ) → Above
+come_to header above [] = above
+come_to header above (text ∷ texts) = come_to header (with_judged (judged header above.lines text) above) texts

@@ -1,0 +1,44 @@
+-- What a command writes of a text, by its header and its body.
+use Rattle.std.specs.Prelude.{◌≡◌, ◌≢◌, ℕ, suc, List, [], ◌∷◌, ◌++◌, drop, Some, Result, Ok, Err}
+use Rattle.vms_base.specs.declared.headers.Header.{Header}
+use Rattle.vms_text.specs.Lines.{lines_of}
+use Rattle.vms_trace.specs.Head.{Fault, read_header}
+use Rattle.vms_script.specs.Judging.{judged}
+use Rattle.vms_stream.specs.declared.halts.Halt.TheVariants.{Passes}
+use Rattle.vms_stream.specs.Machines.{halted, output}
+use Rattle.vms_command.specs.Commands.{Command, following}
+use Rattle.vms_command.specs.Lines.{Above, come_to, nothing_above, with_judged}
+use Rattle.vms_command.specs.Printing.{header_line}
+
+-- what a command keeps behind these lines of a body, the first of them line n
+abbrev pub kept_of : {K : Type 0} → Command K → Header → ℕ → Above → K → List (List ℕ) → K
+kept_of command header n above kept [] = kept
+kept_of command header n above kept (text ∷ texts) =
+    kept_of command header (suc n) (with_judged (judged header above.lines text) above)
+    (command.next header n above (judged header above.lines text) kept) texts
+
+-- what it prints of them
+abbrev pub printed_of : {K : Type 0} → Command K → Header → ℕ → Above → List (List ℕ) → List ℕ
+printed_of command header n above [] = []
+printed_of command header n above (text ∷ texts) = command.prints header n above (judged header above.lines text)
+    ++ printed_of command header (suc n) (with_judged (judged header above.lines text) above) texts
+
+-- what it writes of a body, the first line of which is line n, and at the end
+abbrev pub body_text : {K : Type 0} → Command K → Header → ℕ → List (List ℕ) → List ℕ
+body_text command header n lines = printed_of command header n nothing_above lines
+    ++ command.last header (come_to header nothing_above lines)
+    (kept_of command header n nothing_above (command.begins header) lines)
+
+-- what it writes of the lines of a text: the one line of a refused header, or header and body
+abbrev pub text_under : {K : Type 0} → Command K → Result (Header × ℕ) Fault → List (List ℕ) → List ℕ
+text_under command (Err fault) lines = header_line fault
+text_under command (Ok (header, count)) lines =
+    command.opens header ++ body_text command header (suc count) (drop count lines)
+
+abbrev pub text_of : {K : Type 0} → Command K → List ℕ → List ℕ
+text_of command text = text_under command (read_header (lines_of text)) (lines_of text)
+
+-- what a command writes line by line of a text within the limits is that
+abbrev pub WritesTexts : {K : Type 0} → Command K → Type 0
+WritesTexts command = (text : List ℕ) → halted (following command) (following command).start (lines_of text) ≢ Some Passes →
+    output (following command) (lines_of text) ≡ text_of command text

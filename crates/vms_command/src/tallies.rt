@@ -1,0 +1,117 @@
+ghost use Rattle.std.specs.Prelude.{◌≡◌, ◌+◌, ◌<◌, ◌^◌, Ok};
+ghost use Rattle.vms_command.specs.Limits.{is_report};
+
+use vms_stream::Halt;
+use vms_trace::{Boundary, Line, LineCause};
+
+/// The most phases that have a lane line.
+const MOST_PHASES: u32 = 10_000;
+
+/// The most reports.
+const MOST_REPORTS: u32 = 1_000;
+
+/// What the lines of a body came to, in numbers.
+#[derive(Clone, Copy, Debug)]
+pub(crate) struct Tally {
+    /// The lines that count.
+    pub(crate) accepted: u32,
+    /// The lines that don't count and aren't ignored.
+    pub(crate) refused: u32,
+    /// The phases that have a lane line.
+    pub(crate) phases: u32,
+    pub(crate) reports: u32,
+    /// Whether the last line that counts is a lane's.
+    pub(crate) in_phase: bool,
+}
+
+impl Tally {
+    ghost use Rattle.vms_text.specs.declared.acts.Act.{Act};
+    ghost use Rattle.vms_text.specs.declared.acts.Lane.{Lane};
+    ghost use Rattle.vms_command.specs.Lines.{Above, nothing_above};
+    ghost use Rattle.vms_command.specs.Tallies.{Adds, Tells};
+
+    /// Before the first line.
+    pub(crate) fn zero() -> Tally
+        ensures { Tells nothing_above result }
+    {
+        Tally {
+            accepted: 0,
+            refused: 0,
+            phases: 0,
+            reports: 0,
+            in_phase: false,
+        }
+    }
+
+    /// Adds a line of which this was judged, unless it passes a limit.
+    pub(crate) fn count(&mut self, judged: &Result<Line, LineCause>) -> Option<Halt>
+        requires accepted { self.old.accepted + 1 < 2 ^ 32 }
+        requires refused { self.old.refused + 1 < 2 ^ 32 }
+        ensures { (above : Above) → Tells above self.old → Adds above judged.now result self.new }
+    {
+        match judged {
+            Ok(line) => self.add(line),
+            Err(_) => {
+                self.refused += 1;
+                None
+            }
+        }
+    }
+
+    /// Adds a line that counts, unless it opens a phase too many or is a report too many. A blank line changes nothing.
+    fn add(&mut self, line: &Line) -> Option<Halt>
+        requires { self.old.accepted + 1 < 2 ^ 32 }
+        ensures { (above : Above) → Tells above self.old → Adds above (Ok line.now) result self.new }
+    {
+        match *line {
+            Line::Blank => None,
+            Line::Lane(_, _) => self.add_lane(),
+            Line::Boundary(boundary) => self.add_boundary(boundary),
+        }
+    }
+
+    /// Adds a line of a lane.
+    fn add_lane(&mut self) -> Option<Halt>
+        requires { self.old.accepted + 1 < 2 ^ 32 }
+        ensures { (above : Above) (lane : Lane) (act : Act) → Tells above self.old →
+            Adds above (Ok (Line.Lane lane act)) result self.new }
+    {
+        if self.in_phase {
+            self.accepted += 1;
+            return None;
+        }
+        if self.phases >= MOST_PHASES {
+            return Some(Halt::Passes);
+        }
+        self.phases += 1;
+        self.in_phase = true;
+        self.accepted += 1;
+        None
+    }
+
+    /// Adds a boundary line.
+    fn add_boundary(&mut self, boundary: Boundary) -> Option<Halt>
+        requires { self.old.accepted + 1 < 2 ^ 32 }
+        ensures { (above : Above) → Tells above self.old → Adds above (Ok (Line.Boundary boundary)) result self.new }
+    {
+        if !is_report(boundary) {
+            self.in_phase = false;
+            self.accepted += 1;
+            return None;
+        }
+        if self.reports >= MOST_REPORTS {
+            return Some(Halt::Passes);
+        }
+        self.reports += 1;
+        self.in_phase = false;
+        self.accepted += 1;
+        None
+    }
+}
+
+/// Whether a boundary line is a report.
+fn is_report(boundary: Boundary) -> bool
+    ensures { result ≡ is_report boundary }
+{
+    matches!(boundary, Boundary::Report(_))
+}

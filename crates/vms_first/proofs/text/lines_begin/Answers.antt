@@ -1,5 +1,0 @@
-use Rattle.vms_first.proofs.TextLaws.{lines_of-first, lines_of-last}
-use Rattle.vms_first.proofs.text.lines_begin.Goals as goal
-
-pub returns : goal.returns
-returns c = record { first = lines_of-first; last = lines_of-last }

@@ -1,5 +1,0 @@
-pub mod Text
-pub mod Words
-pub mod Head
-pub mod Body
-pub mod Laws

@@ -1,0 +1,16 @@
+-- Laws of what a replay prints.
+use Rattle.std.specs.Prelude.{◌≡◌, ◌≢◌, ℕ, List, [], Some}
+use Rattle.vms_stream.specs.declared.halts.Halt.TheVariants.{Refuses, Passes}
+use Rattle.vms_stream.specs.Machines.{halted, output, printed}
+use Rattle.vms_replay.specs.Replaying.{replay, replay_output}
+use Rattle.vms_text.specs.Lines.{lines_of}
+
+-- lines print nothing before the end of their trace, unless one of them refuses the header
+abbrev pub WaitsForItsEnd : Type 0
+WaitsForItsEnd = (lines : List (List ℕ)) → halted replay replay.start lines ≢ Some Refuses →
+    printed replay replay.start lines ≡ []
+
+-- what is written line by line of a text within the limits is what is defined by its header and its body
+abbrev pub WritesItsText : Type 0
+WritesItsText = (text : List ℕ) → halted replay replay.start (lines_of text) ≢ Some Passes →
+    output replay (lines_of text) ≡ replay_output text

@@ -1,0 +1,4 @@
+pub mod Reports
+pub mod Replaying
+pub mod Standing
+pub mod Laws
