@@ -1,9 +1,12 @@
 pub mod Numbers
 pub mod Groups
 pub mod Places
+pub mod Cpus
+pub mod Volumes
 pub mod Sizes
 pub mod Names
 pub mod Headers
+pub mod Areas
 pub mod Thresholds
 pub mod Marks
 pub mod Watermarks

@@ -8,7 +8,8 @@ abbrev pub linux_mark_of : ZoneSize → ℕ → ℕ → ℕ
 linux_mark_of size online threshold =
     if nat_lt (gap_of size) (online * threshold) then (size.high + online * threshold) else 0
 
--- a mark covers what CPUs hide, if a test that takes the plain value can't miss that `low` was breached
+-- a mark covers what CPUs hide: under mark 0 that is at most the pages between `min` and `low`, so a test of `low` that
+-- takes the plain value keeps `min`; any other mark is at least `high` and what they hide
 pub record Covers (size : ZoneSize) (mark hidden : ℕ) : Type 0 where
   pub unset : mark ≡ 0 → hidden ≤ gap_of size
   pub set : 0 < mark → size.high + hidden ≤ mark

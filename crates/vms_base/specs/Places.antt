@@ -1,5 +1,5 @@
 -- Where zones, nodes, counters, items and groups stand in a layout.
-use Rattle.std.specs.Prelude.{◌≡◌, ℕ, ◌+◌, ◌-◌, ◌*◌, ◌/◌, ◌%◌, ◌<◌, ◌≤◌, ◌==◌, nat_lt, if◌then◌else◌, ◌⊎◌, ◌↔◌, List, [], length, map, All, Contains, Option, None, slice_get, option_map, position, IsPermutation}
+use Rattle.std.specs.Prelude.{◌≡◌, ℕ, ◌+◌, ◌-◌, ◌*◌, ◌/◌, ◌%◌, ◌<◌, ◌≤◌, ◌==◌, nat_lt, if◌then◌else◌, ◌⊎◌, ◌↔◌, List, [], length, map, All, Contains, Option, None, slice_get, slice_index_or, option_map, position, IsPermutation}
 use Rattle.std.specs.List.Sorted.{IsStrictlyIncreasing}
 use Rattle.vms_base.specs.declared.kinds.ZoneKind.{ZoneKind}
 use Rattle.vms_base.specs.declared.kinds.ZoneKind.TheVariants.{Dma, Dma32, Normal, Movable}
@@ -104,6 +104,10 @@ zone_at shape place = slice_get shape.zones place
 abbrev pub node_at : Shape → ℕ → Option ℕ
 node_at shape place =
     if nat_lt place (length shape.zones) then None else slice_get shape.nodes (place - length shape.zones)
+
+-- the number of the node of zone g
+abbrev pub node_of_zone : Shape → ℕ → ℕ
+node_of_zone shape g = slice_index_or (map (λ zone. zone.node) shape.zones) g 0
 
 -- the place of a zone, if the layout has that zone
 abbrev pub zone_place : Shape → ZoneName → Option ℕ

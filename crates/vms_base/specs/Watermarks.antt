@@ -4,7 +4,10 @@ use Rattle.vms_base.specs.declared.kinds.ZoneKind.{ZoneKind}
 use Rattle.vms_base.specs.declared.kinds.ZoneKind.TheVariants.{Dma, Dma32, Normal, Movable}
 use Rattle.vms_base.specs.declared.kinds.ZoneName.{ZoneName}
 use Rattle.vms_base.specs.declared.kinds.ZoneSize.{ZoneSize}
+use Rattle.vms_base.specs.declared.kinds.WaterMark.{WaterMark}
+use Rattle.vms_base.specs.declared.headers.Header.{Header}
 use Rattle.vms_base.specs.Places.{Shape, zone_index}
+use Rattle.vms_base.specs.Sizes.{size_at, watermark_of}
 
 -- `__setup_per_zone_wmarks`: the zone's share of `kbytes` KiB is `min`, and the next marks stand one step above another
 abbrev pub zone_marks_of : ℕ → ℕ → ℕ → ℕ → ZoneSize
@@ -38,3 +41,9 @@ reserve_at shape sizes (Some zone) most =
 -- `setup_per_zone_lowmem_reserve`, of the zone at a place
 abbrev pub reserve_of : Shape → List ZoneSize → ℕ → ℕ → ℕ
 reserve_of shape sizes place most = reserve_at shape sizes (slice_get shape.zones place) most
+
+-- what the free pages of a zone have to exceed, so that a test of a watermark passes for requests that may use the zones
+-- up to an index: the watermark and the zone's reserve against them
+abbrev pub limit_of : Header → ℕ → WaterMark → ℕ → ℕ
+limit_of header g mark most =
+    watermark_of (size_at header.sizes g) mark + reserve_of header.layout header.sizes g most

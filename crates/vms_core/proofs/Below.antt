@@ -1,7 +1,7 @@
 -- Numbers f 0 to f (n - 1): the largest of them, and their sum.
 use Rattle.std.proofs.Common.{◌≡◌, ℕ, zero, suc, ◌<◌, ◌≤◌, ap, arith, ⊎_elim}
 use Rattle.std.proofs.lemmas.Bool.{cases_eq}
-use Rattle.vms_core.specs.Peaks.{largest_below, count_below}
+use Rattle.vms_history.specs.Sums.{largest_below, count_below}
 
 -- each is at most the largest
 pub largest_below-least : (f : ℕ → ℕ) (n i : ℕ) → i < n → f i ≤ largest_below f n

@@ -12,7 +12,7 @@ use Rattle.vms_core.specs.Pages.{History, IsLegal, state_after, carried_by_all, 
 use Rattle.vms_core.specs.Steps.{turn}
 use Rattle.vms_core.specs.Totals.{differentials, differentials_of_item, last_threshold}
 use Rattle.vms_core.proofs.Bounds.{within-if, diff_at-bounded}
-use Rattle.vms_core.proofs.CountLemmas.{sum_below-sizes}
+use Rattle.vms_history.proofs.CountLemmas.{sum_below-sizes}
 use Rattle.vms_core.proofs.Items.{system_totals-kept}
 use Rattle.vms_core.proofs.Sums.{totals-kept}
 

@@ -9,7 +9,7 @@ use Rattle.vms_base.specs.Places.{IsZone}
 use Rattle.vms_core.specs.declared.steps.Facts.{Facts}
 use Rattle.vms_core.specs.declared.steps.Step.{Step}
 use Rattle.vms_core.specs.declared.steps.Step.TheVariants.{SetT, SetM, SetO, LoadA}
-use Rattle.vms_core.specs.Bases.{size_at}
+use Rattle.vms_base.specs.Sizes.{size_at}
 use Rattle.vms_core.specs.Cells.{mark_at}
 use Rattle.vms_core.specs.Conditions.{Meets}
 use Rattle.vms_core.specs.Pages.{History, IsLegal, state_after}

@@ -15,7 +15,8 @@ use Rattle.vms_core.specs.declared.steps.Step.TheVariants.{Put, Take}
 use Rattle.vms_core.specs.Bounded.{moved_out_by, KeepsVolumes, BoundsMoves}
 use Rattle.vms_core.specs.Cells.{HasShape, diff_at, entry}
 use Rattle.vms_core.specs.Changes.{overstep_of, differential_after, carried_by}
-use Rattle.vms_core.specs.Conditions.{Meets, most_volume}
+use Rattle.vms_core.specs.Conditions.{Meets}
+use Rattle.vms_base.specs.Volumes.{most_volume}
 use Rattle.vms_core.specs.Pages.{History, IsLegal, state_after}
 use Rattle.vms_core.specs.Steps.{turn}
 use Rattle.vms_core.specs.Totals.{spent, spent_by}

@@ -9,7 +9,7 @@ use Rattle.vms_base.specs.Places.{Shape, IsCounter, group_of, first_of, item_of,
 use Rattle.vms_history.specs.declared.events.Event.{Event}
 use Rattle.vms_history.specs.Events.{own, total}
 use Rattle.vms_history.specs.Passes.{owner_in}
-use Rattle.vms_history.specs.Sums.{sum_below}
+use Rattle.vms_history.specs.Sums.{sum_below, count_below}
 use Rattle.vms_history.proofs.CallerSums.{total-by_parts}
 use Rattle.vms_history.proofs.Choices.{if-map, if-same}
 use Rattle.vms_history.proofs.SumLaws.{sum_below-same, sum_below-zeros, sum_below-only}
@@ -23,11 +23,10 @@ use Rattle.vms_core.specs.Changes.{carried_by}
 use Rattle.vms_core.specs.Conditions.{Meets}
 use Rattle.vms_core.specs.Own.{moved, moved_of_item, carried, carried_of_item}
 use Rattle.vms_core.specs.Pages.{pages, History, IsLegal, state_after}
-use Rattle.vms_core.specs.Peaks.{count_below}
 use Rattle.vms_core.specs.Steps.{turn}
 use Rattle.vms_core.proofs.Bounds.{within-if}
 use Rattle.vms_core.proofs.Carrying.{sizes}
-use Rattle.vms_core.proofs.CountLemmas.{sum_below-sizes, pos-count_below}
+use Rattle.vms_history.proofs.CountLemmas.{sum_below-sizes, pos-count_below}
 use Rattle.vms_core.proofs.Effects.{owned}
 use Rattle.vms_core.proofs.Items.{one_change, group_change, if-sum}
 use Rattle.vms_core.proofs.Shapes.{HasShape-state_after}

@@ -4,10 +4,10 @@ use Rattle.std.proofs.lemmas.List.Elements.{All-nil, All-cons}
 use Rattle.vms_base.specs.declared.groups.Diffs.{Diffs}
 use Rattle.vms_base.specs.Marks.{Covers}
 use Rattle.vms_base.specs.Places.{IsLayout, cell}
-use Rattle.vms_base.specs.Sizes.{IsValidSize}
+use Rattle.vms_base.specs.Sizes.{IsValidSize, size_at}
 use Rattle.vms_history.specs.Events.{own}
 use Rattle.vms_core.specs.declared.states.Threshold.{Threshold}
-use Rattle.vms_core.specs.Bases.{IsBase, size_at}
+use Rattle.vms_core.specs.Bases.{IsBase}
 use Rattle.vms_core.specs.Cells.{mark_at, eight_zeros}
 use Rattle.vms_core.specs.Own.{took}
 use Rattle.vms_core.specs.Pages.{IsLegal}

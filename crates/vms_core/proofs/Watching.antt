@@ -23,7 +23,7 @@ use Rattle.vms_core.specs.Pages.{pages, History, IsLegal, state_after}
 use Rattle.vms_core.specs.Peaks.{sets, sets_after, threshold_in, threshold_after, peak, peak_after, peak_sum, cpu_in, cpu_after, if_present}
 use Rattle.vms_core.specs.Steps.{turn, effect}
 use Rattle.vms_core.specs.Totals.{spent, spent_by}
-use Rattle.vms_core.proofs.CountLemmas.{count_below-same}
+use Rattle.vms_history.proofs.CountLemmas.{count_below-same}
 
 -- a step of a caller that isn't the control pass leaves what the control pass alone sets
 module _ (facts : Facts) (g : History) (s : State) (q : ℕ) (elsewhere : q ≢ 0 → owner_in turn g q ≡ None → ⊥) where

@@ -1,9 +1,9 @@
 -- The states that a history may begin with.
-use Rattle.std.specs.Prelude.{◌≡◌, ℕ, ◌^◌, ◌<◌, ◌≤◌, pos, List, [], length, All, slice_index_or, None, unsigned_abs}
+use Rattle.std.specs.Prelude.{◌≡◌, ℕ, ◌^◌, ◌<◌, ◌≤◌, pos, [], length, All, None, unsigned_abs}
 use Rattle.vms_base.specs.declared.kinds.CpuState.TheVariants.{Online, Absent}
-use Rattle.vms_base.specs.declared.kinds.ZoneSize.{ZoneSize}
+use Rattle.vms_base.specs.Cpus.{HasOnline}
 use Rattle.vms_base.specs.Places.{Shape, IsLayout, IsCpu, IsPlace, IsZone, IsCounter, IsItem}
-use Rattle.vms_base.specs.Sizes.{IsValidSize}
+use Rattle.vms_base.specs.Sizes.{IsValidSize, size_at}
 use Rattle.vms_base.specs.Marks.{Covers}
 use Rattle.vms_base.specs.Thresholds.{most_threshold}
 use Rattle.vms_core.specs.declared.states.State.{State}
@@ -11,15 +11,11 @@ use Rattle.vms_core.specs.declared.steps.Facts.{Facts}
 use Rattle.vms_core.specs.Cells.{HasShape, value_at, system_at, diff_at, threshold_at, threshold_sets_at, mark_at, mark_sets_at, cpu_at, acknowledged_at}
 use Rattle.vms_core.specs.Peaks.{peak_sum}
 
--- the size of a zone; past the zones there is an empty one
-abbrev pub size_at : List ZoneSize → ℕ → ZoneSize
-size_at sizes g = slice_index_or sizes g (record { managed = 0; min = 0; low = 0; high = 0 })
-
 -- a state between two phases: its numbers are in their ranges, an absent CPU hides nothing, and nothing was set or
 -- acknowledged yet
 pub record IsOpening (shape : Shape) (s : State) : Type 0 where
   pub shaped : HasShape shape s
-  pub some_online : (c : ℕ) × IsCpu shape c × (cpu_at s c ≡ Online)
+  pub some_online : HasOnline shape s.cpu
   pub values : (k : ℕ) → IsCounter shape k → unsigned_abs (value_at s k) ≤ 2 ^ 60
   pub systems : (i : ℕ) → IsItem shape i → unsigned_abs (system_at s i) ≤ 2 ^ 60
   pub diffs : (c k : ℕ) → IsCpu shape c → IsCounter shape k → unsigned_abs (diff_at s c k) ≤ most_threshold

@@ -9,7 +9,7 @@ use Rattle.vms_core.specs.declared.steps.Step.{Step}
 use Rattle.vms_core.specs.declared.steps.Step.TheVariants.{Put, Take}
 use Rattle.vms_core.specs.Cells.{value_at, system_at, diff_at, entry}
 use Rattle.vms_core.specs.Changes.{carried_by}
-use Rattle.vms_core.specs.Conditions.{most_volume}
+use Rattle.vms_base.specs.Volumes.{most_volume}
 use Rattle.vms_core.specs.Own.{carried, carried_of_item}
 use Rattle.vms_core.specs.Pages.{History, state_after}
 use Rattle.vms_core.specs.Steps.{turn}

@@ -2,7 +2,7 @@
 use Rattle.std.specs.Prelude.{◌≡◌, ℕ, suc, zero, ◌+◌, ◌*◌, ◌/◌, ◌%◌, ◌<◌, ℤ, pos, List, length, slice_index_or, slice_set, replicate, Option, Some, None}
 use Rattle.vms_base.specs.Places.{Shape, cell, place_count, counter_count, item_count}
 use Rattle.vms_base.specs.declared.kinds.CpuState.{CpuState}
-use Rattle.vms_base.specs.declared.kinds.CpuState.TheVariants.{Absent}
+use Rattle.vms_base.specs.Cpus.{state_at}
 use Rattle.vms_core.specs.declared.states.State.{State}
 
 -- how many counters, places and zones a state has
@@ -43,15 +43,16 @@ mark_sets_at s g = slice_index_or s.mark_sets g 0
 
 -- whether a CPU is online, dead or absent
 abbrev pub cpu_at : State → ℕ → CpuState
-cpu_at s c = slice_index_or s.cpu c Absent
+cpu_at s c = state_at s.cpu c
 
 -- the number that a CPU acknowledged last of a zone's threshold
 abbrev pub acknowledged_at : State → ℕ → ℕ → Option ℕ
 acknowledged_at s c g = slice_index_or s.acknowledged (cell (zones_of s) c g) None
 
--- these are the eight differentials of a CPU in group j
-abbrev pub TellsGroup : State → ℕ → ℕ → List ℤ → Type 0
-TellsGroup s c j values = (i : ℕ) → i < 8 → slice_index_or values i (pos 0) ≡ diff_at s c (8 * j + i)
+-- the list has eight entries, and these are the differentials of a CPU in group j
+pub record TellsGroup (s : State) (c j : ℕ) (values : List ℤ) : Type 0 where
+  pub eight : length values ≡ 8
+  pub each : (i : ℕ) → i < 8 → slice_index_or values i (pos 0) ≡ diff_at s c (8 * j + i)
 
 -- the entry of counter k in a list of its group
 abbrev pub entry : List ℤ → ℕ → ℤ

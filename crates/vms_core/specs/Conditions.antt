@@ -7,6 +7,7 @@ use Rattle.vms_base.specs.declared.ids.GroupId.{GroupId}
 use Rattle.vms_base.specs.declared.ids.ItemId.{ItemId}
 use Rattle.vms_base.specs.declared.ids.PlaceId.{PlaceId}
 use Rattle.vms_base.specs.declared.kinds.CpuState.TheVariants.{Online, Dead}
+use Rattle.vms_base.specs.Volumes.{most_volume}
 use Rattle.vms_base.specs.Places.{IsCpu, IsPlace, IsZone, IsCounter, IsGroup, IsItem, place_of, group_of, first_of}
 use Rattle.vms_base.specs.Marks.{Covers}
 use Rattle.vms_base.specs.Thresholds.{most_threshold}
@@ -22,11 +23,7 @@ use Rattle.vms_core.specs.Steps.{turn}
 use Rattle.vms_core.specs.Own.{found, loaded, took, has_put, carried, carried_of_item, CarriesNothing}
 use Rattle.vms_core.specs.Totals.{spent}
 use Rattle.vms_core.specs.Peaks.{peak_sum}
-use Rattle.vms_core.specs.Bases.{size_at}
-
--- what one CPU may change one counter by, in absolute sum
-abbrev pub most_volume : ℕ
-most_volume = 2 ^ 48
+use Rattle.vms_base.specs.Sizes.{size_at}
 
 -- the pass owns this CPU
 pub record Owns (facts : Facts) (h : List (Event Step)) (p : ℕ) (c : CpuId) : Type 0 where

@@ -1,20 +1,21 @@
 -- What a pass that lives knows of the state by its own events.
-use Rattle.std.specs.Prelude.{◌≡◌, ℕ, ◌+◌, ◌≤◌, true, ◌⊎◌, ℤ, List, ◌∷◌, length, Some, unsigned_abs}
+use Rattle.std.specs.Prelude.{◌≡◌, ℕ, ◌+◌, ◌≤◌, true, ◌⊎◌, ℤ, List, ◌∷◌, Some, unsigned_abs}
 use Rattle.vms_base.specs.declared.groups.Diffs.{Diffs}
 use Rattle.vms_base.specs.declared.ids.CounterId.{CounterId}
 use Rattle.vms_base.specs.declared.ids.CpuId.{CpuId}
 use Rattle.vms_base.specs.declared.kinds.CpuState.TheVariants.{Online}
 use Rattle.vms_base.specs.Places.{IsCpu, IsCounter, IsGroup, place_of, group_of}
 use Rattle.vms_history.specs.declared.events.Event.{Event}
-use Rattle.vms_history.specs.Events.{Extends, own}
+use Rattle.vms_history.specs.Events.{own}
+use Rattle.vms_history.specs.Making as making
 use Rattle.vms_history.specs.Passes.{lives_in, owner_in}
 use Rattle.vms_core.specs.declared.states.State.{State}
 use Rattle.vms_core.specs.declared.steps.Facts.{Facts}
 use Rattle.vms_core.specs.declared.steps.Step.{Step}
 use Rattle.vms_core.specs.Cells.{TellsGroup, cpu_at, eight_zeros}
-use Rattle.vms_core.specs.Conditions.{most_volume}
+use Rattle.vms_base.specs.Volumes.{most_volume}
 use Rattle.vms_core.specs.Own.{found, loaded, CarriesNothing}
-use Rattle.vms_core.specs.Pages.{History, IsLegal, state_after}
+use Rattle.vms_core.specs.Pages.{pages, History, IsLegal, state_after}
 use Rattle.vms_core.specs.Peaks.{sets, threshold_in, cpu_in, peak, peak_sum}
 use Rattle.vms_core.specs.PeakLaws.{OwnsNow}
 use Rattle.vms_core.specs.Steps.{turn}
@@ -33,15 +34,11 @@ StandsOrTaken s c j values = TellsGroup s c j values ⊎ TellsGroup s c j eight_
 -- the list that the live owner of a CPU found last of a group stands, or all eight are 0
 abbrev pub KnowsFound : Facts → History → Type 0
 KnowsFound facts h = (p : ℕ) (c : CpuId) (j : ℕ) (values : List ℤ) → OwnsNow h p c → IsGroup facts.layout j →
-    length values ≡ 8 → found c j (own h p) ≡ Some values → StandsOrTaken (state_after facts h) c.number j values
+    found c j (own h p) ≡ Some values → StandsOrTaken (state_after facts h) c.number j values
 
 -- the history went on from an earlier one with steps of others: pass p lives in both and made none since
-pub record GoesOnWithout (facts : Facts) (later earlier : History) (p : ℕ) : Type 0 where
-  pub legal : IsLegal facts later
-  pub extends : Extends later earlier
-  pub lived : lives_in turn earlier p ≡ true
-  pub lives : lives_in turn later p ≡ true
-  pub own_same : own later p ≡ own earlier p
+abbrev pub GoesOnWithout : Facts → History → History → ℕ → Type 0
+GoesOnWithout facts later earlier p = making.GoesOnWithout pages facts later earlier p
 
 -- what a pass that owns this CPU knows from an earlier history: it owns the CPU still, and the CPU spent no more
 pub record OwnerKnows (later earlier : History) (p : ℕ) (c : CpuId) : Type 0 where
@@ -70,7 +67,6 @@ pub record MayExchange (facts : Facts) (h : History) (p : ℕ) (cpu : CpuId) (k 
   pub legal : IsLegal facts h
   pub owner : OwnsNow h p cpu
   pub counter : IsCounter facts.layout k.number
-  pub eight : length w.values ≡ 8
   pub as_found : found cpu (group_of k.number) (own h p) ≡ Some w.values
   pub number : ℕ
   pub as_loaded : loaded (place_of facts.layout k.number) (own h p) ≡ Some (record { t = t; number = number })

@@ -1,5 +1,6 @@
 pub mod Cells
 pub mod Changes
+pub mod ChangedStates
 pub mod Steps
 pub mod Effects
 pub mod Own
@@ -11,19 +12,7 @@ pub mod Conditions
 pub mod Pages
 pub mod PeakLaws
 pub mod Settling
-pub mod Calls
-pub mod Lists
-pub mod Looking
-pub mod Reading
-pub mod Folding
-pub mod Controlling
-pub mod Following
 pub mod Taken
 pub mod Drift
 pub mod Bounded
 pub mod Knowledge
-pub mod Making
-pub mod MakingCalls
-pub mod Balancing
-pub mod Turning
-pub mod TurnExamples

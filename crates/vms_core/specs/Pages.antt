@@ -1,7 +1,7 @@
 -- The table of page counters, and what holds of each of its legal histories.
-use Rattle.std.specs.Prelude.{◌≡◌, ℕ, suc, ◌≤◌, ℤ, ◌+ℤ◌, List, Option, Some, None, unsigned_abs}
+use Rattle.std.specs.Prelude.{◌≡◌, ℕ, suc, ◌≤◌, ℤ, ◌+ℤ◌, List, Option, unsigned_abs}
 use Rattle.vms_base.specs.declared.ids.CpuId.{CpuId}
-use Rattle.vms_base.specs.declared.kinds.CpuState.TheVariants.{Online}
+use Rattle.vms_base.specs.Cpus.{MayOwnCpu}
 use Rattle.vms_base.specs.Places.{Shape, IsCpu, IsCounter, IsItem}
 use Rattle.vms_history.specs.declared.events.Event.{Event}
 use Rattle.vms_history.specs.Events.{own}
@@ -13,7 +13,7 @@ use Rattle.vms_core.specs.declared.states.State.{State}
 use Rattle.vms_core.specs.declared.steps.Facts.{Facts}
 use Rattle.vms_core.specs.declared.steps.Step.{Step}
 use Rattle.vms_core.specs.Bases.{IsBase}
-use Rattle.vms_core.specs.Cells.{value_at, system_at, diff_at, cpu_at}
+use Rattle.vms_core.specs.Cells.{value_at, system_at, diff_at}
 use Rattle.vms_core.specs.Conditions.{Meets}
 use Rattle.vms_core.specs.Own.{CarriesNothing, carried, carried_of_item}
 use Rattle.vms_core.specs.Steps.{turn, effect}
@@ -21,8 +21,7 @@ use Rattle.vms_core.specs.Totals.{true_total, true_total_of_item, differentials,
 
 -- a pass may own a CPU that is online, and a control pass may always begin
 abbrev pub MayOwn : Facts → Option CpuId → Type 0
-MayOwn facts (Some c) = IsCpu facts.layout c.number × (cpu_at facts.base c.number ≡ Online)
-MayOwn facts None = Unit {0}
+MayOwn facts who = MayOwnCpu facts.layout facts.base.cpu who
 
 -- the page counters' table
 abbrev pub pages : Machine Facts Step State

@@ -9,11 +9,12 @@ use Rattle.vms_history.specs.Events.{own}
 use Rattle.vms_history.specs.Passes.{lives_in, owner_in}
 use Rattle.vms_core.specs.declared.states.Threshold.{Threshold}
 use Rattle.vms_core.specs.declared.steps.Facts.{Facts}
-use Rattle.vms_core.specs.Bases.{size_at}
+use Rattle.vms_base.specs.Sizes.{size_at}
 use Rattle.vms_core.specs.Cells.{diff_at, threshold_at, threshold_sets_at, mark_at, cpu_at, acknowledged_at}
 use Rattle.vms_core.specs.Own.{loaded}
 use Rattle.vms_core.specs.Pages.{History, state_after}
-use Rattle.vms_core.specs.Peaks.{sets, threshold_in, peak, cpu_in, count_below, peak_sum}
+use Rattle.vms_core.specs.Peaks.{sets, threshold_in, peak, cpu_in, peak_sum}
+use Rattle.vms_history.specs.Sums.{count_below}
 use Rattle.vms_core.specs.Steps.{turn}
 use Rattle.vms_core.specs.Totals.{last_threshold}
 

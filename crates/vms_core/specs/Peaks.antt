@@ -1,9 +1,10 @@
 -- The largest thresholds that a CPU may still be using, and what all CPUs may hide of a zone's pages.
-use Rattle.std.specs.Prelude.{ℕ, suc, zero, ◌+◌, max, nat_eq, ◌&&◌, Bool, false, List, [], ◌∷◌, if◌then◌else◌, Option, Some, None, unsigned_abs}
+use Rattle.std.specs.Prelude.{ℕ, suc, max, nat_eq, ◌&&◌, Bool, false, List, [], ◌∷◌, if◌then◌else◌, Option, Some, None, unsigned_abs}
 use Rattle.vms_base.specs.declared.kinds.CpuState.{CpuState}
 use Rattle.vms_base.specs.declared.kinds.CpuState.TheVariants.{Absent}
 use Rattle.vms_base.specs.Places.{Shape, counter_at}
 use Rattle.vms_history.specs.declared.events.Event.{Event}
+use Rattle.vms_history.specs.Sums.{count_below, largest_below}
 use Rattle.vms_core.specs.declared.states.State.{State}
 use Rattle.vms_core.specs.declared.steps.Facts.{Facts}
 use Rattle.vms_core.specs.declared.steps.Step.{Step}
@@ -32,11 +33,6 @@ threshold_in facts c g (e ∷ h) = threshold_after c g e.step (threshold_in fact
 abbrev pub is_number : Option ℕ → ℕ → Bool
 is_number None n = false
 is_number (Some x) n = nat_eq x n
-
--- the largest of f 0 to f (n - 1), or 0
-abbrev pub largest_below : (ℕ → ℕ) → ℕ → ℕ
-largest_below f zero = 0
-largest_below f (suc n) = max (f n) (largest_below f n)
 
 -- the largest of a CPU's threshold in a zone and of its differentials there
 abbrev pub opening_peak : Shape → State → ℕ → ℕ → ℕ
@@ -68,11 +64,6 @@ cpu_in facts c (e ∷ h) = cpu_after c e.step (cpu_in facts c h)
 abbrev pub if_present : CpuState → ℕ → ℕ
 if_present Absent n = 0
 if_present _ n = n
-
--- f 0 + .. + f (n - 1)
-abbrev pub count_below : (ℕ → ℕ) → ℕ → ℕ
-count_below f zero = 0
-count_below f (suc n) = f n + count_below f n
 
 -- what the CPUs that are online or dead may hide of zone g together
 abbrev pub peak_sum : Facts → ℕ → List (Event Step) → ℕ

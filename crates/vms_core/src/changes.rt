@@ -2,14 +2,11 @@ use crate::Plain;
 use vms_base::{CounterId, CpuId, Layout, Mode};
 
 impl Plain {
-    ghost use Rattle.std.specs.Prelude.{◌≡◌, ℕ, ◌+◌, ◌^◌, ◌<◌, ◌≤◌, ◌+ℤ◌, List, unsigned_abs};
+    ghost use Rattle.std.specs.Prelude.{◌≡◌, ◌+◌, ◌^◌, ◌<◌, ◌≤◌, ◌+ℤ◌, unsigned_abs};
     ghost use Rattle.vms_base.specs.Places.{IsCpu, IsCounter, item_of};
     ghost use Rattle.vms_base.specs.declared.kinds.CpuState.TheVariants.{Online};
-    ghost use Rattle.vms_core.specs.declared.steps.Facts.{Facts};
-    ghost use Rattle.vms_core.specs.declared.steps.Step.{Step};
     ghost use Rattle.vms_core.specs.Cells.{HasShape, cpu_at, value_at, system_at, diff_at};
-    ghost use Rattle.vms_core.specs.Following.{MayChange, FollowsAlone, with_carried, with_change};
-    ghost use Rattle.vms_core.specs.Pages.{History, state_after};
+    ghost use Rattle.vms_core.specs.ChangedStates.{with_carried, with_change};
 
     /// Changes a counter on a CPU, as a caller does that meets no other (`mod_zone_page_state`, `inc_zone_page_state` and
     /// `dec_zone_page_state` of mm/vmstat.c, and those of the nodes): `delta` pages, which are 1 and -1 in the kernel's
@@ -31,9 +28,6 @@ impl Plain {
         requires value { unsigned_abs (value_at self.old counter.number) ≤ 2 ^ 61 }
         requires system { unsigned_abs (system_at self.old (item_of layout.now counter.number)) ≤ 2 ^ 61 }
         ensures after { self.new ≡ with_change layout.now cpu.number counter.number delta mode self.old }
-        ensures follows { (facts : Facts) (h : History) (p : ℕ) → MayChange facts h p cpu counter delta
-            → facts.layout ≡ layout.now → state_after facts h ≡ self.old
-            → (steps : List Step) × FollowsAlone facts h p cpu counter delta mode steps self.new }
         ensures total { value_at self.new counter.number +ℤ diff_at self.new cpu.number counter.number
             ≡ (value_at self.old counter.number +ℤ diff_at self.old cpu.number counter.number) +ℤ delta }
         ensures total_of_item { system_at self.new (item_of layout.now counter.number)

@@ -6,7 +6,6 @@ ghost use Rattle.vms_core.specs.Pages.{History, IsLegal, state_after, KeepsTotal
 mod bounded;
 mod drift;
 mod knowledge;
-mod making;
 mod peaks;
 mod taken;
 
@@ -14,11 +13,7 @@ pub use bounded::{moves_are_bounded, numbers_stay_small, volumes_are_kept};
 pub use drift::{drift_is_bounded, system_drift_is_bounded};
 pub use knowledge::{
     control_steps_stay_allowed, exchanges_win_or_miss, found_lists_stand, own_steps_stay_allowed,
-    owned_cpus_are_online, passes_know_what_they_own,
-};
-pub use making::{
-    changes_may_be_made, control_passes_know_by_own_steps, folds_may_be_made, looks_may_be_made,
-    thresholds_may_be_set,
+    groups_are_lists, owned_cpus_are_online, passes_know_what_they_own,
 };
 pub use peaks::{
     acknowledged_bounds_use, differentials_are_within_peaks, each_beginning_is_within_peaks,

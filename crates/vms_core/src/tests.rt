@@ -15,7 +15,6 @@ use vms_base::{
 };
 
 mod peaks;
-mod rules;
 
 /// A state of the layout with these CPUs, in which each global value and each threshold is the same.
 fn level(

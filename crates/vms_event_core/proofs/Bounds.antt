@@ -10,7 +10,7 @@ use Rattle.vms_history.proofs.Prefixes.{base_can_begin}
 use Rattle.vms_history.proofs.SumBounds.{sum_below-not_negative, sum_below-each, sum_below-most}
 use Rattle.vms_event_core.specs.declared.steps.EventFacts.{EventFacts}
 use Rattle.vms_event_core.specs.Bases.{IsBase, most_in_base}
-use Rattle.vms_event_core.specs.Conditions.{most_volume}
+use Rattle.vms_base.specs.Volumes.{most_volume}
 use Rattle.vms_event_core.specs.Events.{events, History, IsLegal, state_after, true_total, most_in_sum, BoundsWords}
 use Rattle.vms_event_core.specs.Own.{carried}
 use Rattle.vms_event_core.specs.Steps.{turn}

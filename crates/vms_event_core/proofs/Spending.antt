@@ -17,7 +17,8 @@ use Rattle.vms_event_core.specs.declared.states.EventState.{EventState}
 use Rattle.vms_event_core.specs.declared.steps.EventFacts.{EventFacts}
 use Rattle.vms_event_core.specs.declared.steps.EventStep.{EventStep}
 use Rattle.vms_event_core.specs.declared.steps.EventStep.TheVariants.{AddE}
-use Rattle.vms_event_core.specs.Conditions.{Meets, most_volume}
+use Rattle.vms_event_core.specs.Conditions.{Meets}
+use Rattle.vms_base.specs.Volumes.{most_volume}
 use Rattle.vms_event_core.specs.Events.{events, History, IsLegal, KeepsSpending, state_after}
 use Rattle.vms_event_core.specs.Steps.{turn}
 use Rattle.vms_event_core.specs.Totals.{counted, spent, spent_by}

@@ -1,14 +1,15 @@
 -- The facts that a history may begin with.
-use Rattle.std.specs.Prelude.{◌≡◌, ◌≢◌, ℕ, ◌^◌, ◌<◌, pos, ◌≤ℤ◌, length, slice_index_or}
+use Rattle.std.specs.Prelude.{◌≡◌, ◌≢◌, ℕ, ◌^◌, ◌<◌, pos, ◌≤ℤ◌, length}
 use Rattle.vms_base.specs.declared.kinds.CpuState.{CpuState}
 use Rattle.vms_base.specs.declared.kinds.CpuState.TheVariants.{Online, Absent}
+use Rattle.vms_base.specs.Cpus.{state_at, HasOnline}
 use Rattle.vms_base.specs.Places.{IsLayout, IsCpu}
 use Rattle.vms_event_core.specs.declared.steps.EventFacts.{EventFacts}
 use Rattle.vms_event_core.specs.Words.{IsEvent, HasShape, word_at, words_of}
 
 -- whether a CPU is online, dead or absent
 abbrev pub cpu_at : EventFacts → ℕ → CpuState
-cpu_at facts c = slice_index_or facts.cpus c Absent
+cpu_at facts c = state_at facts.cpus c
 
 -- the lowest-numbered CPU that is online
 pub record IsLowestOnline (facts : EventFacts) (c : ℕ) : Type 0 where
@@ -25,6 +26,6 @@ pub record IsBase (facts : EventFacts) : Type 0 where
   pub layout : IsLayout facts.layout
   pub one_state_each : length facts.cpus ≡ facts.layout.cpus
   pub shaped : HasShape facts.layout facts.base
-  pub some_online : (c : ℕ) × IsCpu facts.layout c × (cpu_at facts c ≡ Online)
+  pub some_online : HasOnline facts.layout facts.cpus
   pub absent : (c k : ℕ) → IsCpu facts.layout c → cpu_at facts c ≡ Absent → IsEvent k → word_at facts.base c k ≡ 0
   pub sums : (k : ℕ) → IsEvent k → words_of facts.layout facts.base k ≤ℤ pos most_in_base

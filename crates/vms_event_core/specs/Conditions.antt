@@ -3,6 +3,7 @@ use Rattle.std.specs.Prelude.{◌≡◌, ◌≢◌, ℕ, ◌+◌, ◌^◌, ◌�
 use Rattle.vms_base.specs.declared.ids.CpuId.{CpuId}
 use Rattle.vms_base.specs.declared.ids.EventId.{EventId}
 use Rattle.vms_base.specs.declared.kinds.CpuState.TheVariants.{Dead}
+use Rattle.vms_base.specs.Volumes.{most_volume}
 use Rattle.vms_base.specs.Places.{IsCpu}
 use Rattle.vms_history.specs.declared.events.Event.{Event}
 use Rattle.vms_history.specs.Events.{own}
@@ -16,10 +17,6 @@ use Rattle.vms_event_core.specs.Steps.{turn}
 use Rattle.vms_event_core.specs.Own.{carried}
 use Rattle.vms_event_core.specs.Totals.{spent}
 use Rattle.vms_event_core.specs.Bases.{cpu_at, IsLowestOnline}
-
--- what one CPU may count of one event
-abbrev pub most_volume : ℕ
-most_volume = 2 ^ 48
 
 -- a pass that owns a CPU counts, within the volume of that CPU
 pub record Counts (h : List (Event EventStep)) (p : ℕ) (k : EventId) (n : ℕ) : Type 0 where

@@ -1,7 +1,7 @@
 -- The table of event counters, and what holds of each of its legal histories.
 use Rattle.std.specs.Prelude.{◌≡◌, ◌≢◌, ℕ, suc, true, ◌+◌, ◌*◌, ◌≤◌, ◌<◌, ◌^◌, ℤ, pos, ◌+ℤ◌, ◌≤ℤ◌, List, Option, Some, None}
 use Rattle.vms_base.specs.declared.ids.CpuId.{CpuId}
-use Rattle.vms_base.specs.declared.kinds.CpuState.TheVariants.{Online}
+use Rattle.vms_base.specs.Cpus.{MayOwnCpu}
 use Rattle.vms_base.specs.Places.{Shape, IsCpu}
 use Rattle.vms_history.specs.declared.events.Event.{Event}
 use Rattle.vms_history.specs.Events.{own, total}
@@ -16,13 +16,13 @@ use Rattle.vms_event_core.specs.Words.{IsEvent, word_at, words_of}
 use Rattle.vms_event_core.specs.Steps.{turn, effect}
 use Rattle.vms_event_core.specs.Own.{carried, CarriesNothing}
 use Rattle.vms_event_core.specs.Totals.{counted, taken_from, takes, spent}
-use Rattle.vms_event_core.specs.Bases.{IsBase, cpu_at, most_in_base}
-use Rattle.vms_event_core.specs.Conditions.{Meets, most_volume}
+use Rattle.vms_event_core.specs.Bases.{IsBase, most_in_base}
+use Rattle.vms_event_core.specs.Conditions.{Meets}
+use Rattle.vms_base.specs.Volumes.{most_volume}
 
 -- a pass may own a CPU that is online, and a control pass may always begin
 abbrev pub MayOwn : EventFacts → Option CpuId → Type 0
-MayOwn facts (Some c) = IsCpu facts.layout c.number × (cpu_at facts c.number ≡ Online)
-MayOwn facts None = Unit {0}
+MayOwn facts who = MayOwnCpu facts.layout facts.cpus who
 
 -- the event counters' table
 abbrev pub events : Machine EventFacts EventStep EventState

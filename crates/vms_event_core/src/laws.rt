@@ -3,7 +3,7 @@ ghost use Rattle.vms_base.specs.declared.ids.CpuId.{CpuId};
 ghost use Rattle.vms_base.specs.declared.kinds.CpuState.TheVariants.{Dead};
 ghost use Rattle.vms_event_core.specs.declared.steps.EventFacts.{EventFacts};
 ghost use Rattle.vms_event_core.specs.Bases.{cpu_at};
-ghost use Rattle.vms_event_core.specs.Conditions.{most_volume};
+ghost use Rattle.vms_base.specs.Volumes.{most_volume};
 ghost use Rattle.vms_event_core.specs.Events.{History, IsLegal, IsComplete, state_after, MayOwn, KeepsTotals, HoldsTotals, BoundsWords, MovesOnce, CarriesAsControl, KeepsSpending};
 ghost use Rattle.vms_event_core.specs.Steps.{turn};
 ghost use Rattle.vms_event_core.specs.Totals.{spent, word_in};

@@ -7,6 +7,7 @@ pub mod OwnAt
 pub mod GoesOn
 pub mod SumLaws
 pub mod SumBounds
+pub mod CountLemmas
 pub mod CallerSums
 pub mod Cells
 pub mod TakenOnce

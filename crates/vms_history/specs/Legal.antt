@@ -23,6 +23,13 @@ pub record Machine (F K S : Type 0) : Type 1 where
   -- the condition of a step that works: the facts, the history and the state before it, the caller, the step
   pub Meets : F → List (Event K) → S → ℕ → K → Type 0
 
+-- a step that begins or ends a pass leaves the state, and its condition asks nothing beyond the rules of the passes
+pub record IsQuiet {F K S : Type 0} (machine : Machine F K S) : Type 0 where
+  pub leaves : (facts : F) (who : Option CpuId) (step : K) (s : S) → machine.turn step ≢ Works →
+      machine.effect facts who step s ≡ s
+  pub asks_nothing : (facts : F) (h : List (Event K)) (s : S) (p : ℕ) (step : K) → machine.turn step ≢ Works →
+      machine.Meets facts h s p step
+
 -- who may make a step: the main pass alone begins and ends passes, each new one under the next number, and the
 -- others act while they live
 abbrev pub Acts : {F K S : Type 0} → Machine F K S → F → List (Event K) → ℕ → Turn → Type 0

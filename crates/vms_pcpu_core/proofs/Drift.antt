@@ -16,7 +16,8 @@ use Rattle.vms_pcpu_core.specs.States.{batch_at, local_at, IsPcpu}
 use Rattle.vms_pcpu_core.specs.Calls.{unknown}
 use Rattle.vms_pcpu_core.specs.Own.{carried}
 use Rattle.vms_pcpu_core.specs.Steps.{turn}
-use Rattle.vms_pcpu_core.specs.Totals.{is_present, locals, present}
+use Rattle.vms_pcpu_core.specs.Totals.{locals, present}
+use Rattle.vms_base.specs.Cpus.{is_present}
 use Rattle.vms_pcpu_core.specs.Histories.{percpu, History, IsLegal}
 use Rattle.vms_pcpu_core.specs.Laws.{numbers_after, DriftsLittle}
 use Rattle.vms_pcpu_core.proofs.Bounds.{locals-bounded}

@@ -14,11 +14,11 @@ use Rattle.vms_pcpu_core.specs.declared.steps.PcpuFacts.{PcpuFacts}
 use Rattle.vms_pcpu_core.specs.declared.steps.PcpuStep.{PcpuStep}
 use Rattle.vms_pcpu_core.specs.declared.steps.PcpuStep.TheVariants.{LoadL}
 use Rattle.vms_pcpu_core.specs.States.{local_at}
-use Rattle.vms_pcpu_core.specs.Calls.{LoadsEach, present_from}
+use Rattle.vms_pcpu_core.specs.Calls.{LoadsEach}
+use Rattle.vms_base.specs.Cpus.{present_from, is_present}
 use Rattle.vms_pcpu_core.specs.Calls.LoadsEach.{no_cpu, one_cpu}
 use Rattle.vms_pcpu_core.specs.Histories.{percpu, History, IsLegal}
 use Rattle.vms_pcpu_core.specs.Laws.{numbers_after}
-use Rattle.vms_pcpu_core.specs.Totals.{is_present}
 use Rattle.vms_pcpu_core.specs.Watching.{AreLoads}
 use Rattle.vms_pcpu_core.proofs.Runs.{Run, own-others_on, run-extends}
 use Rattle.vms_pcpu_core.specs.Making.{event}

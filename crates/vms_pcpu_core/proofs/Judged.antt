@@ -19,7 +19,8 @@ use Rattle.vms_pcpu_core.specs.Histories.{History, IsLegal}
 use Rattle.vms_pcpu_core.specs.Laws.{numbers_after}
 use Rattle.vms_pcpu_core.specs.Limits.{rise, fall, by_others, by_others_between, carried_by_others}
 use Rattle.vms_pcpu_core.specs.Own.{holds, carried}
-use Rattle.vms_pcpu_core.specs.Totals.{is_present, locals, true_total}
+use Rattle.vms_pcpu_core.specs.Totals.{locals, true_total}
+use Rattle.vms_base.specs.Cpus.{is_present}
 use Rattle.vms_pcpu_core.specs.Watching.{IsLoad, AreLoads}
 use Rattle.vms_pcpu_core.proofs.AddedParts.{added-most, added-least}
 use Rattle.vms_pcpu_core.proofs.Drift.{locals-size}

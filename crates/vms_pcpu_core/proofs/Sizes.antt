@@ -15,7 +15,8 @@ use Rattle.vms_history.proofs.SumLaws.{sum_below-same, sum_below-changed, sum_be
 use Rattle.vms_pcpu_core.specs.declared.steps.PcpuFacts.{PcpuFacts}
 use Rattle.vms_pcpu_core.specs.declared.steps.PcpuStep.{PcpuStep}
 use Rattle.vms_pcpu_core.specs.declared.steps.PcpuStep.TheVariants.{AddL, LoadL, LoadC, TakeL, AddC}
-use Rattle.vms_pcpu_core.specs.Conditions.{Meets, MayAdd, most_volume}
+use Rattle.vms_pcpu_core.specs.Conditions.{Meets, MayAdd}
+use Rattle.vms_base.specs.Volumes.{most_volume}
 use Rattle.vms_pcpu_core.specs.States.{LockedState, count_at, local_at, IsPcpu}
 use Rattle.vms_pcpu_core.specs.Own.{carried}
 use Rattle.vms_pcpu_core.specs.Steps.{turn}

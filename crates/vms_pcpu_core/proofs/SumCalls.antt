@@ -21,7 +21,8 @@ use Rattle.vms_pcpu_core.specs.Histories.{percpu, History, IsLegal}
 use Rattle.vms_pcpu_core.specs.Laws.{numbers_after}
 use Rattle.vms_pcpu_core.specs.Making.{event, MadeSteps}
 use Rattle.vms_pcpu_core.specs.Summing.{SumsUp, TellsRoughly, TellsBySum}
-use Rattle.vms_pcpu_core.specs.Totals.{is_present, true_total}
+use Rattle.vms_pcpu_core.specs.Totals.{true_total}
+use Rattle.vms_base.specs.Cpus.{is_present}
 use Rattle.vms_pcpu_core.specs.Watching.{AreLoads, added_since}
 use Rattle.vms_pcpu_core.proofs.Bounds.{locals-bounded}
 use Rattle.vms_pcpu_core.proofs.CallsWithin.{call-ran, run-locks}

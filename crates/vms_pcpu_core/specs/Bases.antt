@@ -1,6 +1,7 @@
 -- The facts that a history may begin with.
 use Rattle.std.specs.Prelude.{◌≡◌, ℕ, ◌*◌, ◌^◌, ◌≤◌, pos, length, unsigned_abs}
-use Rattle.vms_base.specs.declared.kinds.CpuState.TheVariants.{Online, Absent}
+use Rattle.vms_base.specs.declared.kinds.CpuState.TheVariants.{Absent}
+use Rattle.vms_base.specs.Cpus.{HasOnline}
 use Rattle.vms_base.specs.Places.{IsLayout, IsCpu}
 use Rattle.vms_pcpu_core.specs.declared.steps.PcpuFacts.{PcpuFacts}
 use Rattle.vms_pcpu_core.specs.States.{counters_of, batch_at, count_at, local_at, cpu_at, IsPcpu}
@@ -34,6 +35,6 @@ pub record IsLocalBase (facts : PcpuFacts) (c j : ℕ) : Type 0 where
 pub record IsBase (facts : PcpuFacts) : Type 0 where
   pub layout : IsLayout facts.layout
   pub lengths : HasLengths facts
-  pub some_online : (c : ℕ) × IsCpu facts.layout c × (cpu_at facts c ≡ Online)
+  pub some_online : HasOnline facts.layout facts.cpus
   pub counters : (j : ℕ) → IsPcpu facts j → IsCounterBase facts j
   pub locals : (c : ℕ) → IsCpu facts.layout c → (j : ℕ) → IsPcpu facts j → IsLocalBase facts c j

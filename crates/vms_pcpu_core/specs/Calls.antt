@@ -2,19 +2,13 @@
 use Rattle.std.specs.Prelude.{◌≡◌, ◌≢◌, ℕ, suc, zero, ◌*◌, ◌<◌, ◌≤◌, Bool, true, false, ℤ, pos, negsuc, ◌+ℤ◌, ◌-ℤ◌, ◌≤ℤ◌, ◌<ℤ◌, int_le, int_lt, List, [], ◌∷◌, ◌++◌, if◌then◌else◌, unsigned_abs}
 use Rattle.vms_base.specs.declared.ids.CpuId.{CpuId}
 use Rattle.vms_base.specs.declared.ids.PcpuId.{PcpuId}
-use Rattle.vms_base.specs.declared.kinds.CpuState.{CpuState}
 use Rattle.vms_pcpu_core.specs.declared.answers.Compare.{Compare}
 use Rattle.vms_pcpu_core.specs.declared.steps.PcpuFacts.{PcpuFacts}
 use Rattle.vms_pcpu_core.specs.declared.steps.PcpuStep.{PcpuStep}
 use Rattle.vms_pcpu_core.specs.declared.steps.PcpuStep.TheVariants.{AddL, LoadL, LoadC, Won, Missed, TakeL, AddC, Unlock}
 use Rattle.vms_pcpu_core.specs.States.{batch_at}
-use Rattle.vms_pcpu_core.specs.Totals.{is_present, present}
-
--- the CPUs that are online or dead, in ascending order, of those from number n on
-abbrev pub present_from : ℕ → List CpuState → List CpuId
-present_from n [] = []
-present_from n (x ∷ xs) =
-    if is_present x then record { number = n } ∷ present_from (suc n) xs else present_from (suc n) xs
+use Rattle.vms_pcpu_core.specs.Totals.{present}
+use Rattle.vms_base.specs.Cpus.{present_from}
 
 abbrev pub present_cpus : PcpuFacts → List CpuId
 present_cpus facts = present_from 0 facts.cpus

@@ -3,6 +3,7 @@ use Rattle.std.specs.Prelude.{◌≡◌, ℕ, ◌+◌, ◌^◌, ◌≤◌, true,
 use Rattle.vms_base.specs.declared.ids.CpuId.{CpuId}
 use Rattle.vms_base.specs.declared.ids.PcpuId.{PcpuId}
 use Rattle.vms_base.specs.declared.kinds.CpuState.TheVariants.{Dead}
+use Rattle.vms_base.specs.Volumes.{most_volume}
 use Rattle.vms_base.specs.Places.{IsCpu}
 use Rattle.vms_history.specs.declared.events.Event.{Event}
 use Rattle.vms_history.specs.Events.{own}
@@ -14,10 +15,6 @@ use Rattle.vms_pcpu_core.specs.States.{LockedState, batch_at, count_at, local_at
 use Rattle.vms_pcpu_core.specs.Own.{holds, carried}
 use Rattle.vms_pcpu_core.specs.Steps.{turn}
 use Rattle.vms_pcpu_core.specs.Totals.{spent}
-
--- what one CPU may change one counter by, in absolute sum
-abbrev pub most_volume : ℕ
-most_volume = 2 ^ 48
 
 -- an addition to the own local part, which stays within the batch
 pub record AddsToLocal (facts : PcpuFacts) (h : List (Event PcpuStep)) (s : LockedState) (p : ℕ)

@@ -1,8 +1,7 @@
 -- The machine of the percpu counters, and its legal histories.
-use Rattle.std.specs.Prelude.{◌≡◌, List, Option, Some, None}
+use Rattle.std.specs.Prelude.{List, Option}
 use Rattle.vms_base.specs.declared.ids.CpuId.{CpuId}
-use Rattle.vms_base.specs.declared.kinds.CpuState.TheVariants.{Online}
-use Rattle.vms_base.specs.Places.{IsCpu}
+use Rattle.vms_base.specs.Cpus.{MayOwnCpu}
 use Rattle.vms_history.specs.declared.events.Event.{Event}
 use Rattle.vms_history.specs.Legal.{Machine}
 use Rattle.vms_history.specs.Legal as legal
@@ -11,13 +10,12 @@ use Rattle.vms_pcpu_core.specs.declared.steps.PcpuStep.{PcpuStep}
 use Rattle.vms_pcpu_core.specs.Bases.{IsBase}
 use Rattle.vms_pcpu_core.specs.Conditions.{Meets}
 use Rattle.vms_pcpu_core.specs.Own.{HoldsNoLock}
-use Rattle.vms_pcpu_core.specs.States.{LockedState, cpu_at, unlocked}
+use Rattle.vms_pcpu_core.specs.States.{LockedState, unlocked}
 use Rattle.vms_pcpu_core.specs.Steps.{turn, effect}
 
 -- a pass may own a CPU that is online, and a control pass may always begin
 abbrev pub MayOwn : PcpuFacts → Option CpuId → Type 0
-MayOwn facts (Some c) = IsCpu facts.layout c.number × (cpu_at facts c.number ≡ Online)
-MayOwn facts None = Unit {0}
+MayOwn facts who = MayOwnCpu facts.layout facts.cpus who
 
 -- the percpu counters' table
 abbrev pub percpu : Machine PcpuFacts PcpuStep LockedState

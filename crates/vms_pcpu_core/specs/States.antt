@@ -2,7 +2,7 @@
 use Rattle.std.specs.Prelude.{◌≡◌, ℕ, ◌*◌, ◌<◌, Bool, false, ℤ, pos, List, length, slice_index_or, slice_set, replicate}
 use Rattle.vms_base.specs.Places.{cell}
 use Rattle.vms_base.specs.declared.kinds.CpuState.{CpuState}
-use Rattle.vms_base.specs.declared.kinds.CpuState.TheVariants.{Absent}
+use Rattle.vms_base.specs.Cpus.{state_at}
 use Rattle.vms_pcpu_core.specs.declared.states.PcpuState.{PcpuState}
 use Rattle.vms_pcpu_core.specs.declared.steps.PcpuFacts.{PcpuFacts}
 
@@ -33,7 +33,7 @@ held_at s j = slice_index_or s.held j false
 
 -- whether a CPU is online, dead or absent
 abbrev pub cpu_at : PcpuFacts → ℕ → CpuState
-cpu_at facts c = slice_index_or facts.cpus c Absent
+cpu_at facts c = state_at facts.cpus c
 
 -- the number of a counter
 abbrev pub IsPcpu : PcpuFacts → ℕ → Type 0

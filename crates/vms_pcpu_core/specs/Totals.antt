@@ -1,8 +1,7 @@
 -- What a whole history changed, and who holds the locks.
 use Rattle.std.specs.Prelude.{ℕ, ◌+◌, nat_eq, Bool, true, false, ℤ, pos, ◌+ℤ◌, ◌-ℤ◌, List, [], ◌∷◌, if◌then◌else◌, Option, Some, None, unsigned_abs, count_by}
 use Rattle.vms_base.specs.declared.ids.CpuId.{CpuId}
-use Rattle.vms_base.specs.declared.kinds.CpuState.{CpuState}
-use Rattle.vms_base.specs.declared.kinds.CpuState.TheVariants.{Absent}
+use Rattle.vms_base.specs.Cpus.{is_present}
 use Rattle.vms_base.specs.Places.{Shape}
 use Rattle.vms_history.specs.declared.events.Event.{Event}
 use Rattle.vms_history.specs.Events.{own}
@@ -60,11 +59,6 @@ holder_after p j _ before = before
 abbrev pub holder : ℕ → List (Event PcpuStep) → Option ℕ
 holder j [] = None
 holder j (e ∷ h) = holder_after e.caller j e.step (holder j h)
-
--- a CPU that is online or dead
-abbrev pub is_present : CpuState → Bool
-is_present Absent = false
-is_present _ = true
 
 -- how many CPUs are online or dead
 abbrev pub present : PcpuFacts → ℕ

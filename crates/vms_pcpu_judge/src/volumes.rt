@@ -1,7 +1,7 @@
 ghost use Rattle.std.specs.Prelude.{◌≡◌, ◌≤◌, ◌+◌, ◌^◌, ◌↔◌, IsTrue, reverse, unsigned_abs};
 ghost use Rattle.vms_history.specs.Events.{own};
 ghost use Rattle.vms_history.specs.Passes.{owner_in};
-ghost use Rattle.vms_pcpu_core.specs.Conditions.{most_volume};
+ghost use Rattle.vms_base.specs.Volumes.{most_volume};
 ghost use Rattle.vms_pcpu_core.specs.Histories.{IsLegal};
 ghost use Rattle.vms_pcpu_core.specs.Own.{carried};
 ghost use Rattle.vms_pcpu_core.specs.Steps.{turn};

@@ -11,7 +11,7 @@ use Rattle.vms_base.proofs.Cells.{cell-injective}
 use Rattle.vms_history.proofs.SumLaws.{sum_below-changed, sum_below-same}
 use Rattle.vms_core.specs.declared.states.State.{State}
 use Rattle.vms_core.specs.Cells.{HasShape, counters_of, value_at, diff_at}
-use Rattle.vms_core.specs.Following.{with_change_of, with_change}
+use Rattle.vms_core.specs.ChangedStates.{with_change_of, with_change}
 use Rattle.vms_phase.specs.OpenPhases.{IsDelta, act_of, change_item}
 use Rattle.vms_script.specs.Totals.{change_by, changes_by}
 use Rattle.vms_phase.specs.Totals.{counter_total, AddsUp}

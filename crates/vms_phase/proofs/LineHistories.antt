@@ -15,10 +15,10 @@ use Rattle.vms_core.specs.declared.states.State.{State}
 use Rattle.vms_core.specs.declared.steps.Facts.{Facts}
 use Rattle.vms_core.specs.declared.steps.Step.{Step}
 use Rattle.vms_core.specs.Bases.{IsBase}
-use Rattle.vms_core.specs.Calls.{IsChangeAlone}
+use Rattle.vms_calls.specs.Calls.{IsChangeAlone}
 use Rattle.vms_core.specs.Cells.{cpu_at}
-use Rattle.vms_core.specs.Conditions.{most_volume}
-use Rattle.vms_core.specs.Following.{MayChange, FollowsAlone}
+use Rattle.vms_base.specs.Volumes.{most_volume}
+use Rattle.vms_calls.specs.Following.{MayChange, FollowsAlone}
 use Rattle.vms_core.specs.Own.{CarriesNothing}
 use Rattle.vms_core.specs.Pages.{History}
 use Rattle.vms_core.specs.Steps.{turn}

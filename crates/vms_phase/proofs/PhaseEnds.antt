@@ -7,7 +7,7 @@ use Rattle.vms_base.specs.Places.{Shape}
 use Rattle.std.proofs.Common.{ℕ, ℤ}
 use Rattle.vms_history.proofs.Prefixes.{prefix_is_legal}
 use Rattle.vms_core.specs.declared.states.State.{State}
-use Rattle.vms_core.specs.Following.{with_change, with_change_of}
+use Rattle.vms_core.specs.ChangedStates.{with_change, with_change_of}
 use Rattle.vms_core.specs.Pages.{pages, IsLegal}
 use Rattle.vms_phase.specs.FileOrder.{lanes_of}
 use Rattle.vms_phase.specs.OpenPhases.{IsOpen, IsOfOnline, EndsPhase}

@@ -12,7 +12,7 @@ use Rattle.vms_history.proofs.SumLaws.{sum_below-changed}
 use Rattle.vms_core.specs.declared.states.State.{State}
 use Rattle.vms_core.specs.Cells.{HasShape, counters_of, value_at, system_at, diff_at, threshold_at, mark_at, cpu_at, acknowledged_at, threshold_sets_at, mark_sets_at}
 use Rattle.vms_core.specs.Changes.{differential_after, carried_by}
-use Rattle.vms_core.specs.Following.{with_change_of, with_change}
+use Rattle.vms_core.specs.ChangedStates.{with_change_of, with_change}
 use Rattle.vms_core.proofs.ChangeLemmas.{differential_after-within}
 use Rattle.vms_phase.specs.Runs.{HasSettings, values_of_item}
 use Rattle.vms_phase.proofs.CounterTotals.{diff-other, value-other}

@@ -12,8 +12,8 @@ use Rattle.vms_base.proofs.Counts.{item_of-lt}
 use Rattle.vms_core.specs.declared.states.State.{State}
 use Rattle.vms_core.specs.Cells.{HasShape, value_at, system_at, diff_at, threshold_at, cpu_at}
 use Rattle.vms_core.specs.declared.steps.Facts.{Facts}
-use Rattle.vms_core.specs.Conditions.{most_volume}
-use Rattle.vms_core.specs.Following.{with_change}
+use Rattle.vms_base.specs.Volumes.{most_volume}
+use Rattle.vms_core.specs.ChangedStates.{with_change}
 use Rattle.vms_core.proofs.WithChange.{HasShape-with_change}
 use Rattle.vms_phase.specs.OpenPhases.{IsDelta, IsOfOnline, IsOpen, Moment, change_item, volume}
 use Rattle.vms_phase.specs.Runs.{HasSettings, IsRun, MayGoOn, values_of_item}

@@ -10,7 +10,8 @@ use Rattle.vms_base.proofs.Counts.{place_of-lt, counter_at-place}
 use Rattle.vms_history.proofs.SumBounds.{sum_below-most, sum_below-size}
 use Rattle.vms_history.proofs.SumLaws.{sum_below-same}
 use Rattle.vms_core.specs.declared.states.State.{State}
-use Rattle.vms_core.specs.Bases.{IsBase, size_at}
+use Rattle.vms_core.specs.Bases.{IsBase}
+use Rattle.vms_base.specs.Sizes.{size_at}
 use Rattle.vms_core.specs.Cells.{value_at, system_at, diff_at, threshold_at, mark_at, cpu_at}
 use Rattle.vms_core.specs.Peaks.{if_present, opening_peak, peak_sum}
 use Rattle.vms_core.specs.Totals.{differentials}

@@ -15,7 +15,8 @@ use Rattle.vms_phase.proofs.CounterTotals.{changes_by-append}
 use Rattle.vms_phase.proofs.ItemSums.{base_of-most}
 use Rattle.vms_phase.proofs.LineHistories.{volume-item}
 use Rattle.vms_script.specs.Totals.{ArePhases, change_by, changes_by_all, line_of, lines_of_phases, plain_total, sizes_by_all}
-use Rattle.vms_script.specs.Volumes.{most_volume, spent_on_counter, volume as volume_of_lines}
+use Rattle.vms_script.specs.Volumes.{spent_on_counter, volume as volume_of_lines}
+use Rattle.vms_base.specs.Volumes.{most_volume}
 use Rattle.vms_script.proofs.Elements.{All-last}
 use Rattle.vms_script.proofs.PhaseLines.{lines_of_phases-append, volume-append as volume_of_lines-append}
 use Rattle.vms_script.proofs.Changes.{unsigned_abs-changes_by}

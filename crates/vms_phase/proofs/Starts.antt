@@ -15,12 +15,13 @@ use Rattle.vms_base.specs.declared.kinds.ZoneSize.{ZoneSize}
 use Rattle.vms_base.specs.Headers.{IsHeader}
 use Rattle.vms_base.specs.Marks.{Covers}
 use Rattle.vms_base.specs.Places.{Shape, IsCpu, IsPlace, IsZone, IsNode, cell, counter_at, counter_count, item_count, place_count}
-use Rattle.vms_base.specs.Sizes.{IsValidSize}
+use Rattle.vms_base.specs.Sizes.{IsValidSize, size_at}
 use Rattle.vms_base.specs.Thresholds.{most_threshold}
 use Rattle.vms_core.specs.declared.states.State.{State}
-use Rattle.vms_core.specs.Bases.{IsBase, size_at}
+use Rattle.vms_core.specs.Bases.{IsBase}
 use Rattle.vms_core.specs.Cells.{HasShape, places_of, threshold_at, mark_at, threshold_sets_at, mark_sets_at, acknowledged_at, diff_at, cpu_at}
-use Rattle.vms_core.specs.Peaks.{opening_peak, count_below, peak_sum, if_present}
+use Rattle.vms_core.specs.Peaks.{opening_peak, peak_sum, if_present}
+use Rattle.vms_history.specs.Sums.{count_below}
 use Rattle.vms_core.proofs.Below.{largest_below-least, largest_below-most}
 use Rattle.vms_core.proofs.LevelStates.{get_or-copies}
 use Rattle.vms_core.proofs.PlainData.{places_of-shaped}

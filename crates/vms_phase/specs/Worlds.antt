@@ -7,14 +7,12 @@ use Rattle.vms_base.specs.declared.kinds.ZoneName.{ZoneName}
 use Rattle.vms_base.specs.declared.kinds.ZoneSize.{ZoneSize}
 use Rattle.vms_base.specs.Marks.{linux_mark_of, cover_mark_of}
 use Rattle.vms_base.specs.Places.{IsCpu, IsZone, IsNode, IsPlace, IsCounter, IsItem, counter_count, place_count, item_of}
-use Rattle.vms_base.specs.Sizes.{IsValidSize}
+use Rattle.vms_base.specs.Sizes.{IsValidSize, size_at}
 use Rattle.vms_base.specs.Thresholds.{normal_threshold_of}
 use Rattle.vms_core.specs.declared.states.State.{State}
 use Rattle.vms_core.specs.declared.steps.Facts.{Facts}
-use Rattle.vms_core.specs.Bases.{size_at}
 use Rattle.vms_core.specs.Cells.{HasShape, value_at, system_at, diff_at, threshold_at, threshold_sets_at, mark_at, mark_sets_at, cpu_at, acknowledged_at}
-use Rattle.vms_core.specs.Peaks.{largest_below}
-use Rattle.vms_history.specs.Sums.{sum_below}
+use Rattle.vms_history.specs.Sums.{largest_below, sum_below}
 
 -- what the page table is told of a phase from this state
 abbrev pub facts_of : Header → State → Facts

@@ -28,8 +28,8 @@ impl PhaseReplay {
     ghost use Rattle.vms_base.specs.declared.kinds.CpuState.TheVariants.{Online};
     ghost use Rattle.vms_core.specs.Bases.{IsBase, IsOpening};
     ghost use Rattle.vms_core.specs.Cells.{cpu_at, diff_at, value_at, system_at};
-    ghost use Rattle.vms_core.specs.Conditions.{most_volume};
-    ghost use Rattle.vms_core.specs.Following.{with_change};
+    ghost use Rattle.vms_base.specs.Volumes.{most_volume};
+    ghost use Rattle.vms_core.specs.ChangedStates.{with_change};
     ghost use Rattle.vms_core.specs.declared.steps.Facts.{Facts};
     ghost use Rattle.vms_phase.specs.OpenPhases.{EndsPhase, IsDelta, IsOfOnline, IsOpen, change_item, volume};
     ghost use Rattle.vms_phase.specs.Totals.{AddsUp, counter_total};

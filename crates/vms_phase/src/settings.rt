@@ -1,9 +1,8 @@
 ghost use Rattle.std.specs.Prelude.{◌≡◌, ℕ, ◌+◌, ◌*◌, ◌<◌, ◌≤◌, ◌^◌, ◌++◌, length, map, slice_index, IfOk, All};
 ghost use Rattle.std.specs.List.{repeat};
 ghost use Rattle.vms_base.specs.Marks.{Covers};
-ghost use Rattle.vms_base.specs.Sizes.{IsValidSize};
+ghost use Rattle.vms_base.specs.Sizes.{IsValidSize, size_at};
 ghost use Rattle.vms_base.specs.Thresholds.{most_threshold};
-ghost use Rattle.vms_core.specs.Bases.{size_at};
 ghost use Rattle.vms_phase.specs.Worlds.{largest_of_node, opening_mark};
 
 use std::alloc::Global;

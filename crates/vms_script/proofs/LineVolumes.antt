@@ -6,7 +6,8 @@ use Rattle.vms_base.specs.declared.headers.Header.{Header}
 use Rattle.vms_base.specs.declared.ids.CpuId.{CpuId}
 use Rattle.vms_script.specs.Cpus.{cpu_state, is_online}
 use Rattle.vms_script.specs.Judging.{allowed, judged}
-use Rattle.vms_script.specs.Volumes.{by_cpu, most_volume, overflows, spent_on_counter, volume}
+use Rattle.vms_script.specs.Volumes.{by_cpu, overflows, spent_on_counter, volume}
+use Rattle.vms_base.specs.Volumes.{most_volume}
 use Rattle.vms_script.proofs.Known.{judged-read}
 use Rattle.vms_script.proofs.VolumeSums.{by_cpu-nothing}
 use Rattle.vms_text.specs.declared.acts.Act.{Act}

@@ -5,7 +5,8 @@ use Rattle.std.proofs.lemmas.List.Elements.{All-cons, All-nil, All-push}
 use Rattle.vms_base.specs.declared.headers.Header.{Header}
 use Rattle.vms_base.specs.Places.{IsCpu, IsCounter}
 use Rattle.vms_script.specs.Totals.{ArePhases, line_of, lines_of_phases}
-use Rattle.vms_script.specs.Volumes.{by_cpu, most_volume, spent_on_counter, volume}
+use Rattle.vms_script.specs.Volumes.{by_cpu, spent_on_counter, volume}
+use Rattle.vms_base.specs.Volumes.{most_volume}
 use Rattle.vms_script.proofs.Elements.{All-front, All-last}
 use Rattle.vms_script.proofs.PhaseLines.{lines_of_phases-append, lines_of_phases-open, volume-append, volume-item}
 use Rattle.vms_text.specs.declared.acts.Item.{Item}

@@ -21,7 +21,8 @@ use Rattle.vms_script.specs.declared.judges.LineJudge.{LineJudge}
 use Rattle.vms_script.specs.declared.volumes.VolumeTable.{VolumeTable}
 use Rattle.vms_script.specs.Cpus.{cpu_state, state_past, is_online}
 use Rattle.vms_script.specs.Judging.{allowed, counted}
-use Rattle.vms_script.specs.Volumes.{most_volume, overflows, spent_on_counter, spent_on_event, spent_on_pcpu, volume}
+use Rattle.vms_script.specs.Volumes.{overflows, spent_on_counter, spent_on_event, spent_on_pcpu, volume}
+use Rattle.vms_base.specs.Volumes.{most_volume}
 use Rattle.vms_script.specs.Standing.{Decides, Stands, answered, volume_at, with_volume}
 use Rattle.vms_script.proofs.CpuCounts.{TellsCpus-still}
 use Rattle.vms_script.proofs.Decisions.{Decides-kept, Decides-refused}

@@ -10,7 +10,8 @@ use Rattle.vms_text.specs.declared.acts.Lane.TheVariants.{Cpu}
 use Rattle.vms_text.specs.declared.acts.Line.{Line}
 use Rattle.vms_text.specs.declared.acts.Line.TheVariants.{Lane}
 use Rattle.vms_script.specs.declared.volumes.VolumeTable.{VolumeTable}
-use Rattle.vms_script.specs.Volumes.{by_cpu, most_volume, volume}
+use Rattle.vms_script.specs.Volumes.{by_cpu, volume}
+use Rattle.vms_base.specs.Volumes.{most_volume}
 use Rattle.vms_script.specs.Standing.{HasCell, TellsVolumes, volume_at, with_volume}
 
 -- the test of a number by another

@@ -1,7 +1,8 @@
 -- Which CPUs are online behind the lines that count, the newest first.
-use Rattle.std.specs.Prelude.{ℕ, zero, suc, nat_eq, if◌then◌else◌, List, [], ◌∷◌, Bool, true, false}
+use Rattle.std.specs.Prelude.{ℕ, zero, suc, nat_eq, if◌then◌else◌, List, [], ◌∷◌}
 use Rattle.vms_base.specs.declared.kinds.CpuState.{CpuState}
 use Rattle.vms_base.specs.declared.kinds.CpuState.TheVariants.{Online as IsOnline, Dead as IsDead, Absent}
+use Rattle.vms_base.specs.Cpus.{is_online}
 use Rattle.vms_text.specs.declared.acts.Act.TheVariants.{Dead}
 use Rattle.vms_text.specs.declared.acts.Boundary.TheVariants.{Offline, Online}
 use Rattle.vms_text.specs.declared.acts.Line.{Line}
@@ -18,10 +19,6 @@ state_past c _ before = before
 abbrev pub cpu_state : ℕ → List Line → CpuState
 cpu_state c [] = IsOnline
 cpu_state c (line ∷ lines) = state_past c line (cpu_state c lines)
-
-abbrev pub is_online : CpuState → Bool
-is_online IsOnline = true
-is_online _ = false
 
 -- 1 for the state of a CPU that is online, and 0 for another
 abbrev pub online_count : CpuState → ℕ

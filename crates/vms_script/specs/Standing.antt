@@ -12,7 +12,8 @@ use Rattle.vms_trace.specs.declared.causes.LineCause.{LineCause}
 use Rattle.vms_trace.specs.Laws.{IsLineOf}
 use Rattle.vms_script.specs.Cpus.{cpu_state, online_below}
 use Rattle.vms_script.specs.Judging.{allowed, counted}
-use Rattle.vms_script.specs.Volumes.{most_volume, spent_on_counter, spent_on_event, spent_on_pcpu, volume}
+use Rattle.vms_script.specs.Volumes.{spent_on_counter, spent_on_event, spent_on_pcpu, volume}
+use Rattle.vms_base.specs.Volumes.{most_volume}
 
 -- the states of so many CPUs, and how many are online, behind these lines
 pub record TellsCpus (cpus : ℕ) (lines : List Line) (states : CpuStates) : Type 0 where

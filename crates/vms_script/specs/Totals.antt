@@ -9,7 +9,8 @@ use Rattle.vms_text.specs.declared.acts.Item.{Item}
 use Rattle.vms_text.specs.declared.acts.Line.{Line}
 use Rattle.vms_text.specs.declared.acts.Line.TheVariants.{Lane}
 use Rattle.vms_trace.specs.Laws.{IsLineOf}
-use Rattle.vms_script.specs.Volumes.{most_volume, spent_on_counter, volume}
+use Rattle.vms_script.specs.Volumes.{spent_on_counter, volume}
+use Rattle.vms_base.specs.Volumes.{most_volume}
 
 -- what an act changes counter k by, in pages
 abbrev pub change_by : ℕ → Act → ℤ

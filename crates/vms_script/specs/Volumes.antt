@@ -1,14 +1,11 @@
 -- What the lines that count change, in absolute sum.
-use Rattle.std.specs.Prelude.{ℕ, ◌+◌, ◌^◌, nat_eq, nat_lt, if◌then◌else◌, unsigned_abs, List, [], ◌∷◌, Bool, false}
+use Rattle.std.specs.Prelude.{ℕ, ◌+◌, nat_eq, nat_lt, if◌then◌else◌, unsigned_abs, List, [], ◌∷◌, Bool, false}
+use Rattle.vms_base.specs.Volumes.{most_volume}
 use Rattle.vms_text.specs.declared.acts.Act.{Act}
 use Rattle.vms_text.specs.declared.acts.Act.TheVariants.{Mod, Inc, Dec, Ev, Cnt, Lim}
 use Rattle.vms_text.specs.declared.acts.Lane.TheVariants.{Cpu}
 use Rattle.vms_text.specs.declared.acts.Line.{Line}
 use Rattle.vms_text.specs.declared.acts.Line.TheVariants.{Lane}
-
--- the most that one CPU may change one counter, event or percpu counter by over a run
-abbrev pub most_volume : ℕ
-most_volume = 2 ^ 48
 
 -- the size of what an act changes a counter by, in pages
 abbrev pub spent_on_counter : ℕ → Act → ℕ

@@ -6,7 +6,8 @@ use Rattle.vms_base.specs.declared.ids.CpuId.{CpuId}
 use Rattle.vms_base.specs.declared.ids.PcpuId.{PcpuId}
 use Rattle.vms_history.specs.Passes.{owner_in}
 use Rattle.vms_pcpu_core.specs.declared.steps.PcpuFacts.{PcpuFacts}
-use Rattle.vms_pcpu_core.specs.Conditions.{AddsToLocal, most_volume}
+use Rattle.vms_pcpu_core.specs.Conditions.{AddsToLocal}
+use Rattle.vms_base.specs.Volumes.{most_volume}
 use Rattle.vms_pcpu_core.specs.Histories.{History, IsLegal, state_after}
 use Rattle.vms_pcpu_core.specs.Laws.{numbers_after}
 use Rattle.vms_pcpu_core.specs.States.{IsPcpu, batch_at, local_at}

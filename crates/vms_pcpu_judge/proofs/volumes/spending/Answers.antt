@@ -4,7 +4,7 @@ use Rattle.vms_judge.proofs.Prefixes.{legal_first}
 use Rattle.vms_history.specs.declared.events.Event.{Event}
 use Rattle.vms_pcpu_core.specs.declared.steps.PcpuFacts.{PcpuFacts}
 use Rattle.vms_pcpu_core.specs.declared.steps.PcpuStep.{PcpuStep}
-use Rattle.vms_pcpu_core.specs.Conditions.{most_volume}
+use Rattle.vms_base.specs.Volumes.{most_volume}
 use Rattle.vms_pcpu_core.specs.Histories.{percpu, IsLegal}
 use Rattle.vms_pcpu_core.specs.Totals.{spent}
 use Rattle.vms_pcpu_core.proofs.Sizes.{spent-most}

@@ -1,5 +1,5 @@
 use Rattle.std.proofs.Common.{◌≡◌, nat_eq, get_or, if◌then◌else◌}
-use Rattle.vms_core.specs.Peaks.{largest_below}
+use Rattle.vms_history.specs.Sums.{largest_below}
 use Rattle.vms_phase.specs.Worlds.{node_of_zone}
 use Rattle.vms_phase.proofs.settings.node_threshold.Given as goal
 

@@ -1,6 +1,6 @@
 use Rattle.std.proofs.Common.{◌≡◌, ℕ, ◌*◌, ◌<◌, ◌^◌, length, get_or}
 use Rattle.vms_base.specs.Marks.{Covers}
-use Rattle.vms_core.specs.Bases.{size_at}
+use Rattle.vms_base.specs.Sizes.{size_at}
 use Rattle.vms_phase.specs.Worlds.{opening_mark}
 use Rattle.vms_phase.proofs.settings.zone_marks.Given as goal
 

@@ -2,11 +2,9 @@ use Rattle.std.proofs.Common.{◌≡◌, refl, sym, ap, ◌∙◌, subst, rules,
 use Rattle.std.proofs.lemmas.Int.{ints, to_z-of_z}
 use Rattle.vms_base.specs.Places.{Shape, place_of}
 use Rattle.vms_core.specs.declared.states.State.{State}
-use Rattle.vms_core.specs.declared.steps.Step.{Step}
-use Rattle.vms_core.specs.Cells.{threshold_at, threshold_sets_at}
-use Rattle.vms_core.specs.Following.{FollowsAlone, with_change}
+use Rattle.vms_core.specs.Cells.{threshold_at}
+use Rattle.vms_core.specs.ChangedStates.{with_change}
 use Rattle.vms_base.proofs.Counts.{place_of-lt, item_of-lt}
-use Rattle.vms_core.proofs.Following.{follows_alone}
 use Rattle.vms_core.proofs.PlainData.{places_of-shaped}
 use Rattle.vms_core.proofs.WithChange.{value-with_carried, system-with_carried, with_change-steps, total-with_change, total_of_item-with_change}
 use Rattle.vms_core.proofs.plain.Plain.change.Goals as goal
@@ -38,24 +36,6 @@ returns-clause-after c =
     (with_change-steps c.args.layout.now c.args.self.now c.args.cpu.number c.args.counter.number
     c.load_threshold-threshold.result.t c.load_diffs-found.result.values c.args.delta c.args.mode t_told
     (rw (← c.group.ensures.value) c.load_diffs-found.ensures))
-
-pub returns-clause-follows : goal.returns-clause-follows
-returns-clause-follows c facts h p may same_layout same_state =
-    let follows : (steps : List Step) × FollowsAlone facts h p c.args.cpu c.args.counter c.args.delta c.args.mode steps
-    (with_change facts.layout c.args.cpu.number c.args.counter.number c.args.delta c.args.mode c.args.self.now) =
-    follows_alone facts h p c.args.cpu c.args.counter c.args.delta c.args.mode may c.args.self.now same_state
-    (threshold_at c.args.self.now c.args.cpu.number (place_of facts.layout c.args.counter.number))
-    (threshold_sets_at c.args.self.now c.args.cpu.number (place_of facts.layout c.args.counter.number))
-    c.load_diffs-found.result refl refl (rw (← c.group.ensures.value) c.load_diffs-found.ensures) in
-    let next : with_change facts.layout c.args.cpu.number c.args.counter.number c.args.delta c.args.mode c.args.self.now
-    ≡ c.carry.new.self =
-    ap (λ (shape : Shape).
-    with_change shape c.args.cpu.number c.args.counter.number c.args.delta c.args.mode c.args.self.now) same_layout
-    ∙ sym (returns-clause-after c) in (
-      follows.0,
-      subst (λ (now : State). FollowsAlone facts h p c.args.cpu c.args.counter c.args.delta c.args.mode follows.0 now)
-          next follows.1,
-    )
 
 pub returns-clause-total : goal.returns-clause-total
 returns-clause-total c =

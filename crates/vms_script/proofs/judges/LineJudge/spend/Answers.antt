@@ -5,7 +5,8 @@ use Rattle.vms_text.specs.declared.acts.Lane.TheVariants.{Cpu}
 use Rattle.vms_text.specs.declared.acts.Line.TheVariants.{Lane}
 use Rattle.vms_trace.specs.Laws.{IsActOf}
 use Rattle.vms_script.specs.Standing.{Decides}
-use Rattle.vms_script.specs.Volumes.{most_volume, spent_on_counter, spent_on_pcpu, volume}
+use Rattle.vms_script.specs.Volumes.{spent_on_counter, spent_on_pcpu, volume}
+use Rattle.vms_base.specs.Volumes.{most_volume}
 use Rattle.vms_script.proofs.Spendings.{Decides-counters, Decides-events, Decides-pcpu, Decides-quiet}
 use Rattle.vms_script.proofs.Standings.{counters_few, events_few, pcpu_few}
 use Rattle.vms_script.proofs.VolumeSums.{HasCell-of, measure-here, measure-other}

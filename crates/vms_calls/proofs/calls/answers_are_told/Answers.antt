@@ -1,0 +1,10 @@
+use Rattle.vms_calls.proofs.Answering.{place_value-told, system_value-told, snapshot-told, test-told}
+use Rattle.vms_calls.proofs.calls.answers_are_told.Goals as goal
+
+pub returns : goal.returns
+returns c = record {
+  place_value = place_value-told;
+  system_value = system_value-told;
+  snapshot = snapshot-told;
+  test = test-told;
+}

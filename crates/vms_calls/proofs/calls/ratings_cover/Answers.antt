@@ -1,0 +1,5 @@
+use Rattle.vms_calls.proofs.Ratings.{rating-covers}
+use Rattle.vms_calls.proofs.calls.ratings_cover.Goals as goal
+
+pub returns : goal.returns
+returns c = rating-covers

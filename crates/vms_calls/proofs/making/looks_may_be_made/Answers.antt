@@ -1,0 +1,10 @@
+use Rattle.vms_calls.proofs.LookSteps.{place_value-may, system_value-may, snapshot-may, test-may}
+use Rattle.vms_calls.proofs.making.looks_may_be_made.Goals as goal
+
+pub returns : goal.returns
+returns c = record {
+  place_value = place_value-may;
+  system_value = system_value-may;
+  snapshot = snapshot-may;
+  test = test-may;
+}

@@ -1,0 +1,42 @@
+use Rattle.std.proofs.Common.{◌≡◌, ℕ, ◌≤◌, [], ◌∷◌, refl, arith}
+use Rattle.std.proofs.lemmas.List.Elements.{All-nil, All-cons}
+use Rattle.vms_base.specs.declared.kinds.CpuState.TheVariants.{Online}
+use Rattle.vms_base.specs.declared.kinds.ZoneSize.{ZoneSize}
+use Rattle.vms_base.specs.Places.{IsCpu}
+use Rattle.vms_base.specs.Thresholds.{most_threshold}
+use Rattle.vms_core.specs.declared.steps.Step.TheVariants.{SetT}
+use Rattle.vms_core.specs.Cells.{cpu_at}
+use Rattle.vms_calls.specs.Making.{MayMake, ControlsIn}
+use Rattle.vms_core.specs.Pages.{state_after}
+use Rattle.vms_core.specs.Settling.{one_zone, begun, cpu, zone}
+use Rattle.vms_calls.proofs.ControlCalls.{rating-may}
+use Rattle.vms_core.proofs.SettlingLegal.{lowered_legal, uncovered_threshold_illegal}
+use Rattle.vms_calls.proofs.tests.covered_threshold_may_be_set.Goals as goal
+
+abbrev any : ZoneSize → ℕ → ℕ → Type 0
+any size up t = (1 ≤ t) × (t ≤ most_threshold)
+
+begun_control : ControlsIn one_zone begun 2
+begun_control = record { living = record { legal = lowered_legal.0; lives = refl }; control = refl }
+
+covered : MayMake one_zone 2 begun (SetT cpu zone 5 ∷ [])
+covered = rating-may any any (λ size n t valid some few range. range) (λ size n t valid some few range. range)
+    one_zone begun 2 (cpu ∷ []) 0 5 0 (SetT cpu zone 5 ∷ []) begun_control
+    (All-cons (λ c. IsCpu one_zone.layout c.number × (cpu_at (state_after one_zone begun) c.number ≡ Online)) cpu []
+    (omega arith, refl) (All-nil (λ c.
+    IsCpu one_zone.layout c.number × (cpu_at (state_after one_zone begun) c.number ≡ Online))))
+    (omega arith) (omega arith) refl
+    (record {
+      by_rule = (omega arith, omega arith);
+      usual = 20;
+      by_normal = (omega arith, omega arith);
+      in_order =
+          refl;
+    })
+
+pub returns : goal.returns
+returns c = record {
+  covered = covered;
+  uncovered = λ may. uncovered_threshold_illegal (may begun [] (SetT cpu zone 31) [] refl
+      (record { legal = lowered_legal.0; extends = ([], refl); lived = refl; lives = refl; made = refl }) tt);
+}

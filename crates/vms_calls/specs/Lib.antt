@@ -1,0 +1,12 @@
+pub mod Calls
+pub mod Lists
+pub mod Looking
+pub mod Reading
+pub mod Folding
+pub mod Controlling
+pub mod Following
+pub mod Making
+pub mod MakingCalls
+pub mod Balancing
+pub mod Turning
+pub mod TurnExamples

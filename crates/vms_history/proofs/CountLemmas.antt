@@ -1,0 +1,22 @@
+-- Sums of natural numbers below a bound, beside sums of integers.
+use Rattle.std.proofs.Common.{◌≡◌, ℕ, zero, suc, ◌<◌, ◌≤◌, ℤ, pos, unsigned_abs, refl, arith}
+use Rattle.std.proofs.lemmas.Int.{ints}
+use Rattle.vms_history.specs.Sums.{sum_below, count_below}
+use Rattle.vms_history.proofs.SumBounds.{sum_below-le, sum_below-size}
+
+pub pos-count_below : (g : ℕ → ℕ) (n : ℕ) → pos (count_below g n) ≡ sum_below (λ k. pos (g k)) n
+pos-count_below g zero = refl
+pos-count_below g (suc n) = omega (arith, ints, pos-count_below g n)
+
+-- the size of a sum is at most the sum of bounds of the sizes
+pub sum_below-sizes : (f : ℕ → ℤ) (g : ℕ → ℕ) (n : ℕ) → ((k : ℕ) → k < n → unsigned_abs (f k) ≤ g k)
+    → unsigned_abs (sum_below f n) ≤ count_below g n
+sum_below-sizes f g n within =
+    let each = sum_below-le (λ k. pos (unsigned_abs (f k))) (λ k. pos (g k)) n
+    (λ k below. let small = within k below in omega (arith, ints)) in
+    omega (arith, ints, sum_below-size f n, each, pos-count_below g n)
+
+pub count_below-same : (f g : ℕ → ℕ) (n : ℕ) → ((k : ℕ) → k < n → f k ≡ g k) → count_below f n ≡ count_below g n
+count_below-same f g zero same = refl
+count_below-same f g (suc n) same =
+    omega (arith, same n (omega arith), count_below-same f g n (λ k below. same k (omega arith)))
