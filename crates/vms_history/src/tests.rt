@@ -35,7 +35,7 @@ impl Table for Bell {
 
     ghost quiet = { record {
       leaves = λ most who. elim [
-        Open q ↦ λ rung differs. refl
+        | Open q ↦ λ rung differs. refl
         | Shut q ↦ λ rung differs. refl
         | Strike ↦ λ rung differs. absurd (differs refl)
       ];
