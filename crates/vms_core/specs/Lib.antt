@@ -12,6 +12,7 @@ pub mod Conditions
 pub mod Pages
 pub mod Quiet
 pub mod PeakLaws
+pub mod MarkNumbers
 pub mod Settling
 pub mod Taken
 pub mod Drift
