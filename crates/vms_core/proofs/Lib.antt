@@ -36,4 +36,5 @@ pub mod Exchanges
 pub mod OfflineGroups
 pub mod ControlSteps
 pub mod OwnSteps
+pub mod Spending
 pub mod GroupLists

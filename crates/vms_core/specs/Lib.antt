@@ -18,3 +18,5 @@ pub mod Taken
 pub mod Drift
 pub mod Bounded
 pub mod Knowledge
+pub mod Spending
+pub mod Ends

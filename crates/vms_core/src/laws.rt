@@ -8,6 +8,7 @@ mod drift;
 mod knowledge;
 mod marks;
 mod peaks;
+mod spending;
 mod taken;
 
 pub use bounded::{moves_are_bounded, numbers_stay_small, volumes_are_kept};
@@ -22,6 +23,7 @@ pub use peaks::{
     acknowledged_bounds_use, differentials_are_within_peaks, each_beginning_is_within_peaks,
     history_tells_settings, marks_cover, settings_are_in_range,
 };
+pub use spending::{owners_spend_by_own_steps, spending_adds_up};
 pub use taken::{
     dead_cpus_move_once, emptied_groups_stay_zero, offline_groups_are_found_once,
     offline_groups_stay_taken,

@@ -20,8 +20,9 @@ pub use laws::{
     history_tells_settings, lists_have_eight, main_pass_knows_what_is_free, mark_numbers_grow,
     marks_cover, marks_stand_between_loads, moves_are_bounded, numbers_stay_small,
     offline_groups_are_found_once, offline_groups_stay_taken, own_steps_stay_allowed,
-    owned_cpus_are_online, passes_know_what_they_own, settings_are_in_range, shape_is_kept,
-    system_drift_is_bounded, systems_are_kept, totals_are_kept, volumes_are_kept,
+    owned_cpus_are_online, owners_spend_by_own_steps, passes_know_what_they_own,
+    settings_are_in_range, shape_is_kept, spending_adds_up, system_drift_is_bounded,
+    systems_are_kept, totals_are_kept, volumes_are_kept,
 };
 pub use plain::Plain;
 pub use states::{Acks, Longs, MarkRead, Marks, Smalls, State, States, Threshold};
