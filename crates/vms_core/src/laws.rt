@@ -5,6 +5,7 @@ ghost use Rattle.vms_core.specs.Pages.{History, IsLegal, state_after, KeepsTotal
 
 mod bounded;
 mod drift;
+mod ends;
 mod knowledge;
 mod marks;
 mod peaks;
@@ -13,6 +14,7 @@ mod taken;
 
 pub use bounded::{moves_are_bounded, numbers_stay_small, volumes_are_kept};
 pub use drift::{drift_is_bounded, excess_is_bounded, system_drift_is_bounded};
+pub use ends::{complete_histories_carry_nothing, settled_ends_may_begin, systems_keep_off};
 pub use knowledge::{
     control_steps_stay_allowed, exchanges_win_or_miss, found_lists_stand, groups_are_lists,
     lists_have_eight, main_pass_knows_what_is_free, own_steps_stay_allowed, owned_cpus_are_online,
