@@ -40,3 +40,4 @@ pub mod Spending
 pub mod CarriedNothing
 pub mod SettledEnds
 pub mod GroupLists
+pub mod KeptLaws
