@@ -148,14 +148,14 @@ module _ (facts : Facts) (e : Event Step) (h : History) (legal : IsLegal facts (
   shaped : HasShape facts.layout (state_after facts h)
   shaped = HasShape-state_after facts h legal.0
 
-  threshold_at-newest : (c g : ℕ) → IsPlace facts.layout g
+  pub threshold_at-newest : (c g : ℕ) → IsPlace facts.layout g
       → threshold_at (state_after facts (e ∷ h)) c g
       ≡ threshold_after c g e.step (threshold_at (state_after facts h) c g)
   threshold_at-newest c g g_in =
       threshold_at-effect facts h (state_after facts h) e.caller layout shaped (owner_in turn h e.caller) e.step c g
       legal.2 g_in
 
-  sets-newest : (c g : ℕ) → IsPlace facts.layout g
+  pub sets-newest : (c g : ℕ) → IsPlace facts.layout g
       → threshold_sets_at (state_after facts (e ∷ h)) c g
       ≡ sets_after c g e.step (threshold_sets_at (state_after facts h) c g)
   sets-newest c g g_in =
