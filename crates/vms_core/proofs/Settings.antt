@@ -1,5 +1,5 @@
--- What a step that meets its condition makes of thresholds, numbers of sets, marks, CPU states and acknowledgements,
--- and what stands of them after a legal history.
+-- For other crates too: what a step that meets its condition makes of thresholds, numbers of sets, marks, CPU states
+-- and acknowledgements, and what stands of them after a legal history.
 use Rattle.std.proofs.Common.{◌≡◌, ℕ, suc, ◌+◌, ◌*◌, ◌/◌, ◌&&◌, [], ◌∷◌, List, length, get_or, Option, Some, None, refl, ap, ◌∙◌, add-one, length-set, if◌then◌else◌, nat_eq}
 use Rattle.std.proofs.Math.ListN.{set}
 use Rattle.vms_base.specs.declared.ids.CpuId.{CpuId}
