@@ -108,7 +108,8 @@ module _ (facts : Facts) (owners : ℕ → Option CpuId) (n c k : ℕ) where
 
   spent-parts : (h : History) → IsLegal facts h → begun_in turn h < n → Agrees owners h
       → pos (spent h c k) ≡ sum_below (part h) n
-  spent-parts [] legal above agrees = sym (sum_below-zeros (part []) n (λ p below. if-same (is_owner (owners p) c) (pos 0)))
+  spent-parts [] legal above agrees =
+      sym (sum_below-zeros (part []) n (λ p below. if-same (is_owner (owners p) c) (pos 0)))
   spent-parts (e ∷ h) legal above agrees =
       let below = caller_is_below pages facts e h n legal above in
       let before = spent-parts h legal.0 below.1 agrees.1 in
