@@ -22,3 +22,4 @@ pub mod WithoutLock
 pub mod UnderLock
 pub mod LimitedAdds
 pub mod Alone
+pub mod OwnSteps

@@ -3,6 +3,7 @@ pub mod Bases
 pub mod Steps
 pub mod Own
 pub mod Totals
+pub mod OwnSteps
 pub mod Effects
 pub mod Conditions
 pub mod Histories

@@ -2,6 +2,7 @@
 #![tactic(auto)]
 
 mod answers;
+mod callers;
 mod calls;
 mod laws;
 mod limits;
@@ -13,6 +14,7 @@ mod tables;
 mod watching;
 
 pub use answers::Compare;
+pub use callers::{callers_go_by_own_steps, calls_add_their_amounts, calls_leave_callers_idle};
 pub use calls::{
     add_is_told, compare_is_told, fold_dead_is_told, limited_add_is_told, read_is_told,
     sum_is_told, sync_is_told,
