@@ -23,3 +23,5 @@ pub mod UnderLock
 pub mod LimitedAdds
 pub mod Alone
 pub mod OwnSteps
+pub mod ByCaller
+pub mod BaseAgain

@@ -8,6 +8,7 @@ pub mod Effects
 pub mod Conditions
 pub mod Histories
 pub mod Laws
+pub mod Endings
 pub mod Calls
 pub mod Readings
 pub mod Watching

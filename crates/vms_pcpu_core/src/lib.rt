@@ -4,6 +4,7 @@
 mod answers;
 mod callers;
 mod calls;
+mod endings;
 mod laws;
 mod limits;
 mod making;
@@ -19,6 +20,7 @@ pub use calls::{
     add_is_told, compare_is_told, fold_dead_is_told, limited_add_is_told, read_is_told,
     sum_is_told, sync_is_told,
 };
+pub use endings::{complete_histories_hold_totals, complete_histories_leave_bases};
 pub use laws::{
     counts_drift_little, dead_locals_move_once, locals_are_bounded, numbers_are_small, one_holder,
     shape_is_kept, totals_are_kept,
