@@ -25,3 +25,4 @@ pub mod Alone
 pub mod OwnSteps
 pub mod ByCaller
 pub mod BaseAgain
+pub mod AllLaws

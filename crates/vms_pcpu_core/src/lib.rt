@@ -21,10 +21,7 @@ pub use calls::{
     sum_is_told, sync_is_told,
 };
 pub use endings::{complete_histories_hold_totals, complete_histories_leave_bases};
-pub use laws::{
-    counts_drift_little, dead_locals_move_once, locals_are_bounded, numbers_are_small, one_holder,
-    shape_is_kept, totals_are_kept,
-};
+pub use laws::{laws_are_kept, passes_leave_the_state, steps_name_small_numbers};
 pub use limits::{limited_add_alone_is_exact, limited_add_keeps_limit};
 pub use making::calls_stand_in_histories;
 pub use states::PcpuState;
