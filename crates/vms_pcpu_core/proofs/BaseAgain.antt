@@ -145,9 +145,11 @@ module _ (facts : PcpuFacts) (h : History) (earlier : ℕ → ℕ → ℕ) (comp
   volumes-begin_again =
       let again = begins-again facts h complete volumes-leave_room in
       let shape = HasShape-state_after facts h complete.legal in
-      let same : counters_of (numbers_after facts h) ≡ counters_of facts.base = ap length shape.batch in
-      (again, λ j j_in.
-      let known : IsPcpu facts j = rw same at j_in in
-      subst (λ (z : ℤ). pos (unsigned_abs z)
-      ≤ℤ (pos most_start +ℤ sum_below (λ c. pos (spent_by_now earlier h c j)) facts.layout.cpus))
-      (sym (again.totals j known)) (total-paid j known))
+      let same : counters_of (numbers_after facts h) ≡ counters_of facts.base = ap length shape.batch in (
+        again,
+        λ j j_in.
+            let known : IsPcpu facts j = rw same at j_in in
+            subst (λ (z : ℤ). pos (unsigned_abs z)
+            ≤ℤ (pos most_start +ℤ sum_below (λ c. pos (spent_by_now earlier h c j)) facts.layout.cpus))
+            (sym (again.totals j known)) (total-paid j known),
+      )
