@@ -26,3 +26,5 @@ pub mod OwnSteps
 pub mod ByCaller
 pub mod BaseAgain
 pub mod AllLaws
+pub mod FoldedCpus
+pub mod SumSizes
