@@ -31,7 +31,7 @@ use Rattle.vms_pcpu_core.proofs.Shapes.{HasShape-state_after}
 use Rattle.vms_pcpu_core.proofs.Totals.{owned}
 
 -- the newest event, as what it makes of a local part
-local-after_event : (facts : PcpuFacts) (e : Event PcpuStep) (h : History) (c j : ℕ) → IsLegal facts (e ∷ h)
+pub local-after_event : (facts : PcpuFacts) (e : Event PcpuStep) (h : History) (c j : ℕ) → IsLegal facts (e ∷ h)
     → IsPcpu facts j
     → local_at (numbers_after facts (e ∷ h)) c j
     ≡ local_after (owner_in turn h e.caller) c j e.step (local_at (numbers_after facts h) c j)

@@ -28,3 +28,4 @@ pub mod BaseAgain
 pub mod AllLaws
 pub mod FoldedCpus
 pub mod SumSizes
+pub mod MayMake

@@ -15,3 +15,4 @@ pub mod Watching
 pub mod Making
 pub mod Summing
 pub mod Limits
+pub mod MakingCalls
