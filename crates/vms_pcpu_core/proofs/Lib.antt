@@ -29,3 +29,4 @@ pub mod AllLaws
 pub mod FoldedCpus
 pub mod SumSizes
 pub mod MayMake
+pub mod MadeCalls

@@ -212,7 +212,7 @@ module _ (i : ℕ) where
       subst (λ a. Does i (Unlock j ∷ []) (nat_eq j.number i) false (pos 0) (pos 0) a)
       (sym (if-same (nat_eq j.number i) (pos 0))) (does-unlock j (pos 0))
 
-  does-sync : (cpu : CpuId) (j : PcpuId) (ks : List PcpuStep) → IsSync cpu j ks
+  pub does-sync : (cpu : CpuId) (j : PcpuId) (ks : List PcpuStep) → IsSync cpu j ks
       → Does i ks false false (pos 0) (pos 0) (pos 0)
   does-sync cpu j ks (moved v locking locks) =
       does-then locking (TakeL j cpu v ∷ AddC j v ∷ Unlock j ∷ []) false (nat_eq j.number i) false (pos 0) (pos 0)
@@ -220,14 +220,14 @@ module _ (i : ℕ) where
       (subst (λ a. Does i (TakeL j cpu v ∷ AddC j v ∷ Unlock j ∷ []) (nat_eq j.number i) false (pos 0) (pos 0) a)
       (if-same (nat_eq j.number i) (pos 0)) (does-move j cpu v v (pos 0) (omega (arith, ints))))
 
-  does-fold : (dead : CpuId) (n : ℕ) (ks : List PcpuStep) → IsFoldDead dead n ks
+  pub does-fold : (dead : CpuId) (n : ℕ) (ks : List PcpuStep) → IsFoldDead dead n ks
       → Does i ks false false (pos 0) (pos 0) (pos 0)
   does-fold dead n ks no_counter = does-nothing false (pos 0)
   does-fold dead n ks (one_counter m front back before sync) =
       does-then front back false false false (pos 0) (pos 0) (pos 0) (pos 0) (does-fold dead m front before)
       (does-sync dead (record { number = m }) back sync)
 
-  does-sum : (cpus : List CpuId) (j : PcpuId) (ks : List PcpuStep) (answer : ℤ) → IsSum cpus j ks answer
+  pub does-sum : (cpus : List CpuId) (j : PcpuId) (ks : List PcpuStep) (answer : ℤ) → IsSum cpus j ks answer
       → Does i ks false false (pos 0) (pos 0) (pos 0)
   does-sum cpus j ks answer (summed v sum locking loads locks each) =
       does-then locking (LoadC j v ∷ (loads ++ Unlock j ∷ [])) false (nat_eq j.number i) false (pos 0) (pos 0) (pos 0)
@@ -236,20 +236,20 @@ module _ (i : ℕ) where
       (does-then loads (Unlock j ∷ []) (nat_eq j.number i) (nat_eq j.number i) false (pos 0) (pos 0) (pos 0) (pos 0)
       (does-loads j cpus loads sum (nat_eq j.number i) (pos 0) each) (does-unlock j (pos 0))))
 
-  does-compare : (unknown : ℕ) (cpus : List CpuId) (j : PcpuId) (rhs : ℤ) (ks : List PcpuStep) (answer : Compare)
+  pub does-compare : (unknown : ℕ) (cpus : List CpuId) (j : PcpuId) (rhs : ℤ) (ks : List PcpuStep) (answer : Compare)
       → IsCompare unknown cpus j rhs ks answer → Does i ks false false (pos 0) (pos 0) (pos 0)
   does-compare unknown cpus j rhs ks answer (far v past) =
       does-load_c j v [] false false (pos 0) (pos 0) (pos 0) (does-nothing false (pos 0))
   does-compare unknown cpus j rhs ks answer (near v sum steps within is_sum) =
       does-load_c j v steps false false (pos 0) (pos 0) (pos 0) (does-sum cpus j steps sum is_sum)
 
-  does-read : (j : PcpuId) (ks : List PcpuStep) (answer : ℤ) → IsRead j ks answer
+  pub does-read : (j : PcpuId) (ks : List PcpuStep) (answer : ℤ) → IsRead j ks answer
       → Does i ks false false (pos 0) (pos 0) (pos 0)
   does-read j ks answer is =
       subst (λ (ls : List PcpuStep). Does i ls false false (pos 0) (pos 0) (pos 0)) (sym is)
       (does-load_c j answer [] false false (pos 0) (pos 0) (pos 0) (does-nothing false (pos 0)))
 
-  does-add : (batch : ℕ) (cpu : CpuId) (j : PcpuId) (amount : ℤ) (ks : List PcpuStep) → IsAdd batch cpu j amount ks
+  pub does-add : (batch : ℕ) (cpu : CpuId) (j : PcpuId) (amount : ℤ) (ks : List PcpuStep) → IsAdd batch cpu j amount ks
       → Does i ks false false (pos 0) (pos 0) (if nat_eq j.number i then amount else pos 0)
   does-add batch cpu j amount ks (below l small) =
       does-load_l j cpu l (AddL j amount ∷ []) false false (pos 0) (pos 0) (if nat_eq j.number i then amount else pos 0)
@@ -261,7 +261,7 @@ module _ (i : ℕ) where
       (pos 0) (pos 0) (if nat_eq j.number i then amount else pos 0) (does-lock j locking (pos 0) locks)
       (does-move j cpu v (v +ℤ amount) amount refl))
 
-  does-limited_add : (batch unknown : ℕ) (cpus : List CpuId) (cpu : CpuId) (j : PcpuId) (limit amount : ℤ)
+  pub does-limited_add : (batch unknown : ℕ) (cpus : List CpuId) (cpu : CpuId) (j : PcpuId) (limit amount : ℤ)
       (ks : List PcpuStep) (answer : Bool) → IsLimitedAdd batch unknown cpus cpu j limit amount ks answer
       → Does i ks false false (pos 0) (pos 0)
       (if nat_eq j.number i then (if answer then amount else pos 0) else pos 0)

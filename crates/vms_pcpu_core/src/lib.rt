@@ -25,7 +25,7 @@ pub use endings::{complete_histories_hold_totals, complete_histories_leave_bases
 pub use folding::fold_dead_empties_local_parts;
 pub use laws::{laws_are_kept, passes_leave_the_state, steps_name_small_numbers};
 pub use limits::{limited_add_alone_is_exact, limited_add_keeps_limit};
-pub use making::calls_stand_in_histories;
+pub use making::{calls_may_be_made, calls_stand_in_histories};
 pub use states::PcpuState;
 pub use steps::{Event, PcpuFacts, PcpuStep};
 pub use summing::{compare_tells_sign, sum_reads_true_total, sums_are_small};
