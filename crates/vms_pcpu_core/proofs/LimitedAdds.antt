@@ -1,4 +1,4 @@
--- A limited addition keeps its limit, but for what others change and carry.
+-- For other crates too: a limited addition keeps its limit, but for what others change and carry.
 use Rattle.std.proofs.Common.{◌≡◌, ◌≢◌, ℕ, Bool, true, false, true≢false, List, [], ◌∷◌, ◌++◌, Some, ℤ, pos, ◌+ℤ◌, refl, sym, ◌∙◌}
 use Rattle.vms_base.specs.declared.ids.CpuId.{CpuId}
 use Rattle.vms_base.specs.declared.ids.PcpuId.{PcpuId}

@@ -1,4 +1,4 @@
--- The steps of a call are read back: its answer, and the steps after it.
+-- For other crates too: the steps of a call are read back as its answer and the steps after it.
 use Rattle.std.proofs.Common.{◌≡◌, ◌≢◌, ℕ, suc, zero, nat_lt, nat_eq, Bool, true, false, List, [], ◌∷◌, ◌++◌, ℤ, pos, ◌+ℤ◌, ◌-ℤ◌, unsigned_abs, refl, ap, ◌∙◌, append_assoc, arith}
 use Rattle.std.proofs.lemmas.Int.{ints}
 use Rattle.std.proofs.lemmas.Bool.Decides.{nat_tests}

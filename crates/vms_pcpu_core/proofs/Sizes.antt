@@ -1,4 +1,5 @@
--- The numbers of a counter stay small: their sizes are paid by the base and by what was spent.
+-- For other crates too: the numbers of a counter stay small, since their sizes are paid by the base and by what was
+-- spent.
 use Rattle.std.proofs.Common.{◌≡◌, ◌≢◌, ℕ, suc, ◌+◌, ◌^◌, ◌<◌, ◌≤◌, Bool, true, false, [], ◌∷◌, Option, Some, None, ℤ, pos, ◌+ℤ◌, ◌-ℤ◌, ◌≤ℤ◌, unsigned_abs, refl, sym, subst, ap, ◌∙◌, arith, inl, inr, if◌then◌else◌, nat_eq, eq-eqb, eqb-true}
 use Rattle.std.proofs.lemmas.Int.{ints}
 use Rattle.std.proofs.lemmas.Bool.{ne_eqb, cases_lt}
