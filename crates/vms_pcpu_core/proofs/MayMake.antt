@@ -1,6 +1,6 @@
 -- For other crates too: what the CPU of a pass spends, the condition of each step by what a pass has done and known since an
 -- earlier history, and that steps which meet these conditions may be made while others act.
-use Rattle.std.proofs.Common.{◌≡◌, ◌≢◌, ℕ, suc, ◌+◌, ◌<◌, ◌≤◌, ◌&&◌, Bool, true, false, true≢false, List, [], ◌∷◌, ◌++◌, Option, Some, None, ℤ, pos, ◌+ℤ◌, ◌-ℤ◌, ◌≤ℤ◌, unsigned_abs, refl, sym, ap, subst, ◌∙◌, append_assoc, if◌then◌else◌, nat_eq, eqb-true, eq-eqb, arith}
+use Rattle.std.proofs.Common.{◌≡◌, ◌≢◌, ℕ, ◌+◌, ◌<◌, ◌≤◌, ◌&&◌, Bool, true, false, true≢false, List, [], ◌∷◌, ◌++◌, Option, Some, None, ℤ, pos, ◌+ℤ◌, ◌-ℤ◌, ◌≤ℤ◌, unsigned_abs, refl, sym, ap, subst, ◌∙◌, if◌then◌else◌, nat_eq, eqb-true, eq-eqb, arith}
 use Rattle.std.proofs.lemmas.Int.{ints}
 use Rattle.std.proofs.lemmas.Bool.{and_parts}
 use Rattle.vms_base.specs.declared.ids.CpuId.{CpuId}
@@ -12,7 +12,7 @@ use Rattle.vms_history.specs.Events.{own, after}
 use Rattle.vms_history.specs.Legal.{Acts}
 use Rattle.vms_history.specs.Making.{HasMade}
 use Rattle.vms_history.specs.Passes.{begun_in, lives_in, owner_in}
-use Rattle.vms_history.proofs.Own.{own-append, own-mine, own-on_top}
+use Rattle.vms_history.proofs.Own.{own-append, own-on_top}
 use Rattle.vms_history.proofs.PassLaws.{begun_in-append, lives_in-before, live_is_given, owner_in-append}
 use Rattle.vms_history.proofs.Prefixes.{prefix_is_legal}
 use Rattle.vms_pcpu_core.specs.declared.steps.PcpuFacts.{PcpuFacts}
@@ -28,7 +28,7 @@ use Rattle.vms_pcpu_core.specs.Own.{holds, holds_after, carried, carried_after}
 use Rattle.vms_pcpu_core.specs.OwnSteps.{size_of, added_through, own_added, IsIdle, AddsAmount}
 use Rattle.vms_pcpu_core.specs.States.{IsPcpu, batch_at, local_at}
 use Rattle.vms_pcpu_core.specs.Steps.{turn}
-use Rattle.vms_pcpu_core.specs.Totals.{amount_of, is_owned, spent, spent_by}
+use Rattle.vms_pcpu_core.specs.Totals.{spent, spent_by}
 use Rattle.vms_pcpu_core.proofs.FoldedCpus.{local-after_event}
 use Rattle.vms_pcpu_core.proofs.OwnSteps.{goes_by_own_steps}
 use Rattle.vms_pcpu_core.proofs.Shapes.{batch_at-state_after}

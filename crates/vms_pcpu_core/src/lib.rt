@@ -13,6 +13,8 @@ mod states;
 mod steps;
 mod summing;
 mod tables;
+#[cfg(test)]
+mod tests;
 mod watching;
 
 pub use answers::Compare;
