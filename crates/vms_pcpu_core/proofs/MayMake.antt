@@ -1,5 +1,5 @@
--- For other crates too: what the CPU of a pass spends, the condition of each step by what a pass has done and known since an
--- earlier history, and that steps which meet these conditions may be made while others act.
+-- For other crates too: what the CPU of a pass spends, the condition of each step by what a pass has done and known
+-- since an earlier history, and that steps which meet these conditions may be made while others act.
 use Rattle.std.proofs.Common.{◌≡◌, ◌≢◌, ℕ, ◌+◌, ◌<◌, ◌≤◌, ◌&&◌, Bool, true, false, true≢false, List, [], ◌∷◌, ◌++◌, Option, Some, None, ℤ, pos, ◌+ℤ◌, ◌-ℤ◌, ◌≤ℤ◌, unsigned_abs, refl, sym, ap, subst, ◌∙◌, if◌then◌else◌, nat_eq, eqb-true, eq-eqb, arith}
 use Rattle.std.proofs.lemmas.Int.{ints}
 use Rattle.std.proofs.lemmas.Bool.{and_parts}

@@ -105,8 +105,8 @@ watches-before : (facts : PcpuFacts) (e : Event PcpuStep) (more h : History) (p 
 watches-before facts e more h p watches =
     record { legal = watches.legal.0; loads = (loads-before e more p watches.loads).1 }
 
--- while the pass lives, an event leaves the local parts of its CPU, and spends none of its volume, unless the pass made it
--- and it is no load
+-- while the pass lives, an event leaves the local parts of its CPU and spends none of its volume, unless the pass made
+-- it and it is no load
 module _ (facts : PcpuFacts) (e : Event PcpuStep) (h : History) (p : ℕ) (c : CpuId) (j : ℕ)
     (legal : IsLegal facts (e ∷ h))
     (lives : lives_in turn h p ≡ true) (owner : owner_in turn h p ≡ Some c)

@@ -23,7 +23,8 @@ pub record HoldsTotals (facts : PcpuFacts) (h : History) (j : ℕ) : Type 0 wher
   pub free : held_at (state_after facts h) j ≡ false
   pub nothing_in_hand : (p : ℕ) → carried j (own h p) ≡ pos 0
   pub nothing_carried : carried_by_all h j ≡ pos 0
-  pub numbers : count_at (numbers_after facts h) j +ℤ locals facts.layout (numbers_after facts h) j ≡ true_total facts h j
+  pub numbers : count_at (numbers_after facts h) j +ℤ locals facts.layout (numbers_after facts h) j ≡
+      true_total facts h j
 
 -- the facts for a history that begins with the numbers that this one leaves
 abbrev pub ending : PcpuFacts → History → PcpuFacts

@@ -13,10 +13,10 @@ ghost use Rattle.vms_pcpu_core.specs.Own.{carried};
 ghost use Rattle.vms_pcpu_core.specs.States.{batch_at};
 ghost use Rattle.vms_pcpu_core.specs.Steps.{turn};
 
-/// What the answer of a limited addition means, for a pass that owns a CPU and carried nothing before. A `yes` keeps the
-/// limit if nobody else adds during the call. Others can push the total past the limit by no more than what they added
-/// since the call began, plus what they still carried when it loaded the shared part without the lock. A `no` comes only
-/// where the amount would pass the limit, together with what others added while the call held the lock.
+/// What the answer of a limited addition means, for a pass that owns a CPU and carried nothing before. A `yes` keeps
+/// the limit if nobody else adds during the call. Others can push the total past the limit by no more than what they
+/// added since the call began, plus what they still carried when it loaded the shared part without the lock. A `no`
+/// comes only where the amount would pass the limit, together with what others added while the call held the lock.
 pub fn limited_add_keeps_limit()
     ensures yes_keeps { (facts : PcpuFacts) (earlier later : History) (p : ℕ) (cpu : CpuId) (j : PcpuId)
         (limit amount : ℤ) (steps : List PcpuStep) → MadeSteps facts earlier later p steps →
