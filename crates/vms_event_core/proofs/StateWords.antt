@@ -1,4 +1,4 @@
--- The words in every legal history.
+-- For other crates too: the words in every legal history are those that the steps made.
 use Rattle.std.proofs.Common.{◌≡◌, ℕ, [], ◌∷◌, Some, refl, ap, ◌∙◌}
 use Rattle.vms_base.specs.declared.ids.CpuId.{CpuId}
 use Rattle.vms_base.specs.Places.{IsCpu}
