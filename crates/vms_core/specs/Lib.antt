@@ -12,8 +12,11 @@ pub mod Conditions
 pub mod Pages
 pub mod Quiet
 pub mod PeakLaws
+pub mod MarkNumbers
 pub mod Settling
 pub mod Taken
 pub mod Drift
 pub mod Bounded
 pub mod Knowledge
+pub mod Spending
+pub mod Ends

@@ -6,19 +6,24 @@ ghost use Rattle.vms_core.specs.Pages.{History, IsLegal, state_after, KeepsTotal
 mod bounded;
 mod drift;
 mod knowledge;
+mod marks;
 mod peaks;
+mod spending;
 mod taken;
 
 pub use bounded::{moves_are_bounded, numbers_stay_small, volumes_are_kept};
-pub use drift::{drift_is_bounded, system_drift_is_bounded};
+pub use drift::{drift_is_bounded, excess_is_bounded, system_drift_is_bounded};
 pub use knowledge::{
     control_steps_stay_allowed, exchanges_win_or_miss, found_lists_stand, groups_are_lists,
-    lists_have_eight, own_steps_stay_allowed, owned_cpus_are_online, passes_know_what_they_own,
+    lists_have_eight, main_pass_knows_what_is_free, own_steps_stay_allowed, owned_cpus_are_online,
+    passes_know_what_they_own,
 };
+pub use marks::{mark_numbers_grow, marks_stand_between_loads};
 pub use peaks::{
     acknowledged_bounds_use, differentials_are_within_peaks, each_beginning_is_within_peaks,
     history_tells_settings, marks_cover, settings_are_in_range,
 };
+pub use spending::{owners_spend_by_own_steps, spending_adds_up};
 pub use taken::{
     dead_cpus_move_once, emptied_groups_stay_zero, offline_groups_are_found_once,
     offline_groups_stay_taken,

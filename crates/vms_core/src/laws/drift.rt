@@ -1,5 +1,5 @@
 ghost use Rattle.vms_core.specs.declared.steps.Facts.{Facts};
-ghost use Rattle.vms_core.specs.Drift.{BoundsDrift, BoundsSystemDrift};
+ghost use Rattle.vms_core.specs.Drift.{BoundsDrift, BoundsSystemDrift, BoundsExcess};
 ghost use Rattle.vms_core.specs.Pages.{History, IsLegal};
 
 /// The global value of a counter is off from its true total by at most the thresholds that the CPUs used last on it
@@ -12,4 +12,10 @@ pub fn drift_is_bounded()
 /// the callers carry for the item: between the two additions of one change an amount is carried for the item alone.
 pub fn system_drift_is_bounded()
     ensures { (facts : Facts) (h : History) → IsLegal facts h → BoundsSystemDrift facts h }
+{}
+
+/// The global value of a counter and its differentials exceed the true total by at most the sizes of the negative
+/// amounts that the callers carry for it.
+pub fn excess_is_bounded()
+    ensures { (facts : Facts) (h : History) → IsLegal facts h → BoundsExcess facts h }
 {}
