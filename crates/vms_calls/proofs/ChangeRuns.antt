@@ -21,14 +21,14 @@ use Rattle.vms_calls.specs.Calls.Exchanges.{won, missed}
 use Rattle.vms_core.specs.Cells.{entry}
 use Rattle.vms_core.specs.Changes.{carried_by}
 use Rattle.vms_base.specs.Volumes.{most_volume}
-use Rattle.vms_calls.specs.MakingCalls.{MakesChange}
+use Rattle.vms_calls.specs.MayCall.{MakesChange}
 use Rattle.vms_core.specs.Own.{CarriesNothing, carried, carried_of_item, found, loaded}
 use Rattle.vms_core.specs.Pages.{pages, History}
 use Rattle.vms_core.specs.Steps.{turn}
 use Rattle.vms_core.specs.Totals.{spent, spent_by}
-use Rattle.vms_calls.proofs.Agreeing.{event}
+use Rattle.vms_calls.proofs.Agreement.{event}
 use Rattle.vms_base.proofs.Counts.{place_of-lt, group_of-lt, item_of-lt}
-use Rattle.vms_calls.proofs.Running.{Runs, Exchanging, runs-may}
+use Rattle.vms_calls.proofs.Runs.{Runs, Exchanging, runs-may}
 
 module _ (facts : Facts) (layout : IsLayout facts.layout) (p : ℕ) (cpu : CpuId) (k : CounterId)
     (k_in : IsCounter facts.layout k.number) where
