@@ -63,8 +63,7 @@ SetsAbsent-taken facts h p c legal control c_in dead took = record {
       let at : 8 * group_of k + k % 8 ≡ k = omega arith in
       let zero =
       offline-stay_taken facts h legal p c.number (group_of k) c_in group
-      (λ online. dead≢online (sym dead ∙ online-stays facts h c.number legal online)) (took (group_of k) group)
-      (k % 8) (omega arith) in
-      ap (diff_at (state_after facts h) c.number) (sym at) ∙ sym zero
+      (λ online. dead≢online (sym dead ∙ online-stays facts h c.number legal online)) (took (group_of k) group) in
+      ap (diff_at (state_after facts h) c.number) (sym at) ∙ sym (zero.each (k % 8) (omega arith))
       ∙ get_or-replicate 8 (k % 8) (pos 0) (pos 0) (omega arith);
 }

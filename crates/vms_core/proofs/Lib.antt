@@ -34,3 +34,4 @@ pub mod Exchanges
 pub mod OfflineGroups
 pub mod ControlSteps
 pub mod OwnSteps
+pub mod GroupLists

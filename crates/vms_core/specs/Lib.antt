@@ -10,6 +10,7 @@ pub mod Bases
 pub mod Plain
 pub mod Conditions
 pub mod Pages
+pub mod Quiet
 pub mod PeakLaws
 pub mod Settling
 pub mod Taken

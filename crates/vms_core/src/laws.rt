@@ -12,8 +12,8 @@ mod taken;
 pub use bounded::{moves_are_bounded, numbers_stay_small, volumes_are_kept};
 pub use drift::{drift_is_bounded, system_drift_is_bounded};
 pub use knowledge::{
-    control_steps_stay_allowed, exchanges_win_or_miss, found_lists_stand, own_steps_stay_allowed,
-    groups_are_lists, owned_cpus_are_online, passes_know_what_they_own,
+    control_steps_stay_allowed, exchanges_win_or_miss, found_lists_stand, groups_are_lists,
+    lists_have_eight, own_steps_stay_allowed, owned_cpus_are_online, passes_know_what_they_own,
 };
 pub use peaks::{
     acknowledged_bounds_use, differentials_are_within_peaks, each_beginning_is_within_peaks,

@@ -5,4 +5,5 @@ pub mod Totals
 pub mod Bases
 pub mod Conditions
 pub mod Events
+pub mod Quiet
 pub mod Calls

@@ -6,6 +6,7 @@ pub mod Totals
 pub mod Effects
 pub mod Conditions
 pub mod Histories
+pub mod Quiet
 pub mod Laws
 pub mod Calls
 pub mod Readings

@@ -1,4 +1,4 @@
--- A line that counts is what was read, and is one of its header.
+-- For other crates too: a line that counts is what was read, and is one of its header.
 use Rattle.std.proofs.Common.{◌≡◌, ℕ, Bool, true, false, if◌then◌else◌, List, ap}
 use Rattle.std.specs.Prelude.{nat_eq, Result, Ok, Err}
 use Rattle.std.proofs.lemmas.Result.{IfOk-at_ok}
