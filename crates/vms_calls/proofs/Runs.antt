@@ -44,7 +44,6 @@ module _ (facts : Facts) (p : ℕ) where
     pub cpu : CpuId
     pub owner : owner_in turn g p ≡ Some cpu
     pub counter : IsCounter facts.layout k.number
-    pub eight : length w.values ≡ 8
     pub as_found : found cpu (group_of k.number) (own g p) ≡ Some w.values
     pub number : ℕ
     pub as_loaded : loaded (place_of facts.layout k.number) (own g p) ≡ Some (record { t = t; number = number })
@@ -176,7 +175,6 @@ module _ (facts : Facts) (p : ℕ) where
           legal = legal;
           owner = record { lives = acts.1; owner = agrees.owner ∙ e.owner };
           counter = e.counter;
-          eight = e.eight;
           as_found = ap (found e.cpu (group_of k.number)) agrees.mine ∙ e.as_found;
           number = e.number;
           as_loaded = ap (loaded (place_of facts.layout k.number)) agrees.mine ∙ e.as_loaded;
