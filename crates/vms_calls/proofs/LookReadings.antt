@@ -8,9 +8,9 @@ use Rattle.vms_base.specs.Places.{Shape, group_of}
 use Rattle.vms_core.specs.declared.steps.Step.{Step}
 use Rattle.vms_core.specs.Cells.{entry}
 use Rattle.vms_calls.specs.Lists.{in_turn}
-use Rattle.vms_calls.specs.Looking.{Look, Verdict, Frees, look_steps, hidden, at_least_zero, is_doubtful, free_pages}
-use Rattle.vms_calls.specs.Looking.Look.{online, other}
-use Rattle.vms_calls.specs.Reading.{TellsPlaceValue, TellsSystemValue, TellsSnapshot, TellsTest, read_looks, read_further, verdict_of}
+use Rattle.vms_calls.specs.Looks.{Look, Verdict, Frees, look_steps, hidden, at_least_zero, is_doubtful, free_pages}
+use Rattle.vms_calls.specs.Looks.Look.{online, other}
+use Rattle.vms_calls.specs.LookReadings.{TellsPlaceValue, TellsSystemValue, TellsSnapshot, TellsTest, read_looks, read_further, verdict_of}
 use Rattle.vms_base.specs.Cpus.{is_online}
 
 pub place_value-told : TellsPlaceValue

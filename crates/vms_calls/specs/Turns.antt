@@ -11,8 +11,8 @@ use Rattle.vms_history.specs.Events.{after}
 use Rattle.vms_core.specs.declared.steps.Facts.{Facts}
 use Rattle.vms_core.specs.declared.steps.Step.{Step}
 use Rattle.vms_base.specs.Sizes.{size_at}
-use Rattle.vms_calls.specs.Controlling.{RatesNode, zones_on}
-use Rattle.vms_calls.specs.Looking.{Verdict, IsSnapshot, IsWatermarkTest}
+use Rattle.vms_calls.specs.Ratings.{RatesNode, zones_on}
+use Rattle.vms_calls.specs.Looks.{Verdict, IsSnapshot, IsWatermarkTest}
 use Rattle.vms_core.specs.Pages.{History}
 
 -- the counter of an area of zone g

@@ -24,18 +24,18 @@ use Rattle.vms_core.specs.Cells.{TellsGroup, mark_at, cpu_at}
 use Rattle.vms_core.specs.Conditions.{Meets, AddsToPlace, AddsToSystem, Acknowledges, SetsMark, IsControl}
 use Rattle.vms_base.specs.Volumes.{most_volume}
 use Rattle.vms_core.specs.Knowledge.{MayExchange, HasTakenAll}
-use Rattle.vms_calls.specs.Making.{HasMade, Tells, MayMake, LivesIn}
+use Rattle.vms_calls.specs.MayMake.{HasMade, Tells, MayMake, LivesIn}
 use Rattle.vms_core.specs.Own.{CarriesNothing, carried, carried_of_item, found, loaded, took, has_put}
 use Rattle.vms_core.specs.Pages.{pages, History, IsLegal, state_after}
 use Rattle.vms_core.specs.Peaks.{peak, peak_sum, cpu_in}
 use Rattle.vms_core.specs.Steps.{turn}
 use Rattle.vms_core.specs.Totals.{spent}
-use Rattle.vms_calls.proofs.Agreeing.{Agrees, by_last, event, mark_in, mark_at-told, made-last, made-agrees}
+use Rattle.vms_calls.proofs.Agreement.{Agrees, by_last, event, mark_in, mark_at-told, made-last, made-agrees}
 use Rattle.vms_core.proofs.ControlSteps.{SetsAbsent-taken}
 use Rattle.vms_core.proofs.Exchanges.{put-follows, miss-follows, zeros-win}
 use Rattle.vms_core.proofs.LiveOwners.{owned-online}
 use Rattle.vms_core.proofs.PeakBounds.{peaks-in_range}
-use Rattle.vms_calls.proofs.Ratings.{SamePeaks-next, peak_sum-same}
+use Rattle.vms_calls.proofs.RatingCovers.{SamePeaks-next, peak_sum-same}
 use Rattle.vms_core.proofs.Settings.{cpu_at-state_after}
 
 module _ (facts : Facts) (p : ℕ) where
@@ -44,7 +44,6 @@ module _ (facts : Facts) (p : ℕ) where
     pub cpu : CpuId
     pub owner : owner_in turn g p ≡ Some cpu
     pub counter : IsCounter facts.layout k.number
-    pub eight : length w.values ≡ 8
     pub as_found : found cpu (group_of k.number) (own g p) ≡ Some w.values
     pub number : ℕ
     pub as_loaded : loaded (place_of facts.layout k.number) (own g p) ≡ Some (record { t = t; number = number })
@@ -176,7 +175,6 @@ module _ (facts : Facts) (p : ℕ) where
           legal = legal;
           owner = record { lives = acts.1; owner = agrees.owner ∙ e.owner };
           counter = e.counter;
-          eight = e.eight;
           as_found = ap (found e.cpu (group_of k.number)) agrees.mine ∙ e.as_found;
           number = e.number;
           as_loaded = ap (loaded (place_of facts.layout k.number)) agrees.mine ∙ e.as_loaded;

@@ -7,14 +7,14 @@ use Rattle.vms_history.proofs.Prefixes.{base_can_begin}
 use Rattle.vms_core.specs.declared.steps.Facts.{Facts}
 use Rattle.vms_core.specs.declared.steps.Step.{Step}
 use Rattle.vms_calls.specs.Lists.{in_turn}
-use Rattle.vms_calls.specs.Looking.{Look, Verdict, Frees, IsSnapshot, IsWatermarkTest, look_steps, is_doubtful, free_pages}
-use Rattle.vms_calls.specs.Looking.Look.{online, other}
-use Rattle.vms_calls.specs.MakingCalls.{MakesPlaceValue, MakesSystemValue, MakesSnapshot, MakesTest}
+use Rattle.vms_calls.specs.Looks.{Look, Verdict, Frees, IsSnapshot, IsWatermarkTest, look_steps, is_doubtful, free_pages}
+use Rattle.vms_calls.specs.Looks.Look.{online, other}
+use Rattle.vms_calls.specs.MayCall.{MakesPlaceValue, MakesSystemValue, MakesSnapshot, MakesTest}
 use Rattle.vms_core.specs.Pages.{pages, History}
 use Rattle.vms_core.specs.Steps.{turn}
 use Rattle.vms_core.proofs.CounterRanges.{first-known}
 use Rattle.vms_base.proofs.Counts.{group_of-lt}
-use Rattle.vms_calls.proofs.Running.{Runs, runs-may}
+use Rattle.vms_calls.proofs.Runs.{Runs, runs-may}
 use Rattle.vms_base.specs.declared.ids.CpuId.{CpuId}
 use Rattle.vms_base.specs.declared.ids.PlaceId.{PlaceId}
 use Rattle.vms_base.specs.Places.{IsLayout}

@@ -9,16 +9,16 @@ use Rattle.vms_history.specs.Events.{after}
 use Rattle.vms_core.specs.declared.steps.Facts.{Facts}
 use Rattle.vms_core.specs.declared.steps.Step.{Step}
 use Rattle.vms_core.specs.declared.steps.Step.TheVariants.{LoadM, SetT, SetM}
-use Rattle.vms_calls.specs.Balancing.{OrderVerdict, Balance, IsOrderTest, IsBalanceTest, IsTurn, Settles, blocks_at, has_room, high_limit, node_number, zones_up_to}
+use Rattle.vms_calls.specs.Turns.{OrderVerdict, Balance, IsOrderTest, IsBalanceTest, IsTurn, Settles, blocks_at, has_room, high_limit, node_number, zones_up_to}
 use Rattle.vms_base.specs.Areas.{Area, areas_from}
-use Rattle.vms_calls.specs.Balancing.Balance.{Yes, No}
+use Rattle.vms_calls.specs.Turns.Balance.{Yes, No}
 use Rattle.vms_base.specs.Sizes.{size_at}
-use Rattle.vms_calls.specs.Controlling.{zones_on}
+use Rattle.vms_calls.specs.Ratings.{zones_on}
 use Rattle.vms_base.specs.Cpus.{online_from}
-use Rattle.vms_calls.specs.Looking.{Verdict}
-use Rattle.vms_calls.specs.Making.{HasMade, MayMake, LivesIn, ControlsIn}
+use Rattle.vms_calls.specs.Looks.{Verdict}
+use Rattle.vms_calls.specs.MayMake.{HasMade, MayMake, LivesIn, ControlsIn}
 use Rattle.vms_core.specs.Pages.{History}
-use Rattle.vms_calls.specs.Reading.{mark_told, online_told, read_snapshot, read_test}
+use Rattle.vms_calls.specs.LookReadings.{mark_told, online_told, read_snapshot, read_test}
 
 -- the order of the first area whose snapshot isn't 0
 abbrev pub block_or : ℕ → ℕ × List Step → (List Step → Option ℕ × List Step) → Option ℕ × List Step

@@ -10,7 +10,7 @@ use Rattle.vms_history.specs.Events.{after}
 use Rattle.vms_core.specs.declared.steps.Facts.{Facts}
 use Rattle.vms_core.specs.declared.steps.Step.{Step}
 use Rattle.vms_core.specs.declared.steps.Step.TheVariants.{SetM}
-use Rattle.vms_calls.specs.Controlling.{RatingCovers, mark_left, threshold_steps, mark_for}
+use Rattle.vms_calls.specs.Ratings.{RatingCovers, mark_left, threshold_steps, mark_for}
 use Rattle.vms_core.specs.Pages.{History}
 use Rattle.vms_core.specs.Peaks.{sets, sets_after, threshold_in, threshold_after, peak, peak_after, cpu_in, cpu_after, if_present, peak_sum}
 use Rattle.vms_history.proofs.CountLemmas.{count_below-same}

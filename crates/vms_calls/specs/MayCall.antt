@@ -16,11 +16,11 @@ use Rattle.vms_core.specs.declared.steps.Step.{Step}
 use Rattle.vms_calls.specs.Calls.{IsChange}
 use Rattle.vms_core.specs.Cells.{mark_at, cpu_at}
 use Rattle.vms_core.specs.Conditions.{IsControl}
-use Rattle.vms_calls.specs.Controlling.{Rates, RatesNode, Refreshes, Buries, mark_left}
-use Rattle.vms_calls.specs.Folding.{IsFold}
+use Rattle.vms_calls.specs.Ratings.{Rates, RatesNode, Refreshes, Buries, mark_left}
+use Rattle.vms_calls.specs.Folds.{IsFold}
 use Rattle.vms_calls.specs.Following.{MayChange}
-use Rattle.vms_calls.specs.Looking.{Verdict, IsPlaceValue, IsSystemValue, IsSnapshot, IsWatermarkTest}
-use Rattle.vms_calls.specs.Making.{HasMade, MayMake, LivesIn, ControlsIn}
+use Rattle.vms_calls.specs.Looks.{Verdict, IsPlaceValue, IsSystemValue, IsSnapshot, IsWatermarkTest}
+use Rattle.vms_calls.specs.MayMake.{HasMade, MayMake, LivesIn, ControlsIn}
 use Rattle.vms_core.specs.Own.{CarriesNothing}
 use Rattle.vms_core.specs.Pages.{History, state_after}
 use Rattle.vms_core.specs.Peaks.{sets, threshold_in, peak, cpu_in, peak_sum}

@@ -9,21 +9,21 @@ use Rattle.vms_history.specs.Events.{after}
 use Rattle.vms_core.specs.declared.steps.Facts.{Facts}
 use Rattle.vms_core.specs.declared.steps.Step.{Step}
 use Rattle.vms_core.specs.declared.steps.Step.TheVariants.{LoadM, SetM}
-use Rattle.vms_calls.specs.Balancing.{OrderVerdict, Balance, FindsBlock, Further, Blocks, Balances, Settles, blocks_at, has_room, high_limit, node_number, zones_up_to}
+use Rattle.vms_calls.specs.Turns.{OrderVerdict, Balance, FindsBlock, Further, Blocks, Balances, Settles, blocks_at, has_room, high_limit, node_number, zones_up_to}
 use Rattle.vms_base.specs.Areas.{Area, areas_from}
-use Rattle.vms_calls.specs.Balancing.FindsBlock.{nowhere, empty, some}
-use Rattle.vms_calls.specs.Balancing.Balances.{no_zone, fails, passes}
-use Rattle.vms_calls.specs.Balancing.Balance.{Yes, No}
-use Rattle.vms_calls.specs.Controlling.{RatesNode, RatesMarked, Visits, VisitsEach, acknowledged_steps, state_steps, threshold_steps, mark_for, rating_steps, zones_on}
+use Rattle.vms_calls.specs.Turns.FindsBlock.{nowhere, empty, some}
+use Rattle.vms_calls.specs.Turns.Balances.{no_zone, fails, passes}
+use Rattle.vms_calls.specs.Turns.Balance.{Yes, No}
+use Rattle.vms_calls.specs.Ratings.{RatesNode, RatesMarked, Visits, VisitsEach, acknowledged_steps, state_steps, threshold_steps, mark_for, rating_steps, zones_on}
 use Rattle.vms_base.specs.Cpus.{online_from, is_online}
-use Rattle.vms_calls.specs.Controlling.RatesMarked.{unmarked, marked}
-use Rattle.vms_calls.specs.Controlling.VisitsEach.{none, next}
+use Rattle.vms_calls.specs.Ratings.RatesMarked.{unmarked, marked}
+use Rattle.vms_calls.specs.Ratings.VisitsEach.{none, next}
 use Rattle.vms_calls.specs.Lists.{in_turn}
-use Rattle.vms_calls.specs.Looking.{Verdict}
+use Rattle.vms_calls.specs.Looks.{Verdict}
 use Rattle.vms_core.specs.Pages.{History}
-use Rattle.vms_calls.specs.Reading.{read_snapshot}
-use Rattle.vms_calls.specs.Turning.{TellsOrderTest, TellsBalance, TellsTurn, SomeOnline, SettlesOnline, block_or, read_blocks, without_blocks, with_blocks, read_areas, read_order_test, passed_or, read_zones, read_balance, count_told, without_rating, without_marked, without_load, without_visits, without_node, settled_read, read_turn}
-use Rattle.vms_calls.proofs.Answering.{snapshot-told, test-told}
+use Rattle.vms_calls.specs.LookReadings.{read_snapshot}
+use Rattle.vms_calls.specs.TurnReadings.{TellsOrderTest, TellsBalance, TellsTurn, SomeOnline, SettlesOnline, block_or, read_blocks, without_blocks, with_blocks, read_areas, read_order_test, passed_or, read_zones, read_balance, count_told, without_rating, without_marked, without_load, without_visits, without_node, settled_read, read_turn}
+use Rattle.vms_calls.proofs.LookReadings.{snapshot-told, test-told}
 
 module _ (shape : Shape) (g : PlaceId) where
   blocks-told : (areas : List Area) (steps : List Step) (found : Option ℕ) → FindsBlock shape g areas steps found

@@ -12,7 +12,7 @@ use Rattle.vms_core.specs.declared.steps.Facts.{Facts}
 use Rattle.vms_core.specs.declared.steps.Step.{Step}
 use Rattle.vms_core.specs.declared.steps.Step.TheVariants.{LoadM, LoadO, LoadA, SetT, SetM, SetO}
 use Rattle.vms_base.specs.Sizes.{size_at}
-use Rattle.vms_calls.specs.Folding.{IsFold}
+use Rattle.vms_calls.specs.Folds.{IsFold}
 use Rattle.vms_calls.specs.Lists.{in_turn}
 use Rattle.vms_core.specs.Pages.{History}
 use Rattle.vms_core.specs.Peaks.{peak_sum}

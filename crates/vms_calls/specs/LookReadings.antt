@@ -9,7 +9,7 @@ use Rattle.vms_core.specs.declared.states.MarkRead.{MarkRead}
 use Rattle.vms_core.specs.declared.steps.Step.{Step}
 use Rattle.vms_core.specs.declared.steps.Step.TheVariants.{LoadD, LoadG, LoadS, LoadM, LoadO}
 use Rattle.vms_core.specs.Cells.{entry}
-use Rattle.vms_calls.specs.Looking.{Verdict, IsPlaceValue, IsSystemValue, IsSnapshot, IsWatermarkTest, at_least_zero, is_doubtful, free_pages}
+use Rattle.vms_calls.specs.Looks.{Verdict, IsPlaceValue, IsSystemValue, IsSnapshot, IsWatermarkTest, at_least_zero, is_doubtful, free_pages}
 
 -- the value that a load tells, the differential of counter k, the mark, and whether a CPU is online
 abbrev pub value_told : Step → ℤ

@@ -14,11 +14,11 @@ use Rattle.vms_core.specs.declared.steps.Facts.{Facts}
 use Rattle.vms_core.specs.declared.steps.Step.{Step}
 use Rattle.vms_core.specs.Cells.{mark_at}
 use Rattle.vms_core.specs.Knowledge.{GoesOnWithout}
-use Rattle.vms_calls.specs.Making.{HasMade}
+use Rattle.vms_calls.specs.MayMake.{HasMade}
 use Rattle.vms_core.specs.Pages.{pages, History, IsLegal, state_after}
 use Rattle.vms_core.specs.Steps.{turn}
 use Rattle.vms_core.specs.Totals.{spent, spent_by}
-use Rattle.vms_calls.proofs.Ratings.{SamePeaks, SamePeaks-next}
+use Rattle.vms_calls.proofs.RatingCovers.{SamePeaks, SamePeaks-next}
 use Rattle.vms_core.proofs.Settings.{mark_after, mark_at-newest}
 use Rattle.vms_core.proofs.Watching.{owner_in-goes_on, owner-knows, control-knows_later}
 
