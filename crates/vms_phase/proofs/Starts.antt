@@ -25,7 +25,7 @@ use Rattle.vms_history.specs.Sums.{count_below}
 use Rattle.vms_core.proofs.Below.{largest_below-least, largest_below-most}
 use Rattle.vms_core.proofs.LevelStates.{get_or-copies}
 use Rattle.vms_core.proofs.PlainData.{places_of-shaped}
-use Rattle.vms_calls.specs.Controlling.{largest_on}
+use Rattle.vms_calls.specs.Ratings.{largest_on}
 use Rattle.vms_phase.specs.Worlds.{IsStart, IsStartUnder, IsNormalRule, normal_rule, base_of_item, opening_mark, quiet_state, facts_of, settled}
 use Rattle.vms_phase.proofs.ItemSums.{base_of-most}
 use Rattle.vms_phase.proofs.Rows.{length-repeat, get_or-repeat}

@@ -9,7 +9,7 @@ use Rattle.vms_base.specs.Sizes.{IsValidSize, size_at}
 use Rattle.vms_base.specs.Thresholds.{normal_threshold_of}
 use Rattle.vms_core.specs.declared.states.State.{State}
 use Rattle.vms_core.specs.declared.steps.Facts.{Facts}
-use Rattle.vms_calls.specs.Controlling.{largest_on}
+use Rattle.vms_calls.specs.Ratings.{largest_on}
 use Rattle.vms_core.specs.Cells.{HasShape, value_at, system_at, diff_at, threshold_at, threshold_sets_at, mark_at, mark_sets_at, cpu_at, acknowledged_at}
 use Rattle.vms_history.specs.Sums.{sum_below}
 

@@ -3,7 +3,7 @@ ghost use Rattle.std.specs.List.{repeat};
 ghost use Rattle.vms_base.specs.Marks.{Covers};
 ghost use Rattle.vms_base.specs.Sizes.{IsValidSize, size_at};
 ghost use Rattle.vms_base.specs.Thresholds.{most_threshold};
-ghost use Rattle.vms_calls.specs.Controlling.{largest_on};
+ghost use Rattle.vms_calls.specs.Ratings.{largest_on};
 ghost use Rattle.vms_phase.specs.Worlds.{opening_mark};
 
 use std::alloc::Global;

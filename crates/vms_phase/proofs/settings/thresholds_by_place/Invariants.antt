@@ -1,5 +1,5 @@
 use Rattle.std.proofs.Common.{◌≡◌, ◌++◌, map, take, get_or}
-use Rattle.vms_calls.specs.Controlling.{largest_on}
+use Rattle.vms_calls.specs.Ratings.{largest_on}
 use Rattle.vms_phase.proofs.settings.thresholds_by_place.Given as goal
 
 -- the zones' thresholds, and those of the nodes so far
