@@ -37,4 +37,7 @@ pub mod OfflineGroups
 pub mod ControlSteps
 pub mod OwnSteps
 pub mod Spending
+pub mod CarriedNothing
+pub mod SettledEnds
 pub mod GroupLists
+pub mod KeptLaws

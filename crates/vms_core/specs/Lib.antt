@@ -19,4 +19,5 @@ pub mod Drift
 pub mod Bounded
 pub mod Knowledge
 pub mod Spending
+pub mod Laws
 pub mod Ends
