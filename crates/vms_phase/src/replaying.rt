@@ -13,7 +13,7 @@ impl Model for PhaseReplay {
     ghost use Rattle.std.specs.Prelude.{◌≡◌};
     ghost use Rattle.vms_core.specs.Cells.{HasShape};
     ghost use Rattle.vms_phase.specs.OpenPhases.{Moment};
-    ghost use Rattle.vms_core.specs.Bases.{settled, IsBase, IsOpening};
+    ghost use Rattle.vms_core.specs.Bases.{settled};
 
     ghost Value = { Moment };
 
@@ -26,6 +26,7 @@ impl PhaseReplay {
     ghost use Rattle.std.specs.Prelude.{◌≡◌, ℕ, ◌+◌, ◌≤◌, ◌^◌, ◌++◌, List, [], ◌∷◌, All, unsigned_abs};
     ghost use Rattle.vms_base.specs.Places.{IsCpu, IsCounter, item_of};
     ghost use Rattle.vms_base.specs.declared.kinds.CpuState.TheVariants.{Online};
+    ghost use Rattle.vms_core.specs.Bases.{IsBase, IsOpening, settled};
     ghost use Rattle.vms_core.specs.Cells.{cpu_at, diff_at, value_at, system_at};
     ghost use Rattle.vms_base.specs.Volumes.{most_volume};
     ghost use Rattle.vms_core.specs.ChangedStates.{with_change};
