@@ -1,7 +1,7 @@
 ghost use Rattle.std.specs.Prelude.{◌≡◌, ◌≤◌, All, IfOk};
 ghost use Rattle.vms_base.specs.Sizes.{IsValidSize};
 ghost use Rattle.vms_base.specs.Thresholds.{normal_threshold_of};
-ghost use Rattle.vms_calc.specs.Rules.{TellsThresholds};
+ghost use Rattle.vms_calc.specs.Rules.{IsThresholdRule};
 
 use crate::{
     Rule, Rules, cover_mark, linux_mark, normal_threshold, pressure_threshold, reserve, zone_marks,
@@ -298,8 +298,8 @@ fn by_rules<N: Rule + Sync, P: Rule + Sync>(
     size: &ZoneSize,
     cpus: u32,
 ) -> u32
-    requires normal { TellsThresholds (N.accepts normal) (N.answers normal) }
-    requires pressure { TellsThresholds (P.accepts pressure) (P.answers pressure) }
+    requires normal { IsThresholdRule (N.accepts normal) (N.answers normal) }
+    requires pressure { IsThresholdRule (P.accepts pressure) (P.answers pressure) }
     requires size { IsValidSize size.now }
     requires least { 1 ≤ cpus }
     requires most { cpus ≤ 128 }
@@ -325,8 +325,8 @@ fn shared<T: Sync>(_: &T) {}
 
 /// Asks stored rules at four sizes, each of which has one threshold under pressure.
 fn check_rules<N: Rule, P: Rule>(rt: &impl Abort, normal: N, pressure: P, answers: [u32; 4])
-    requires normal { TellsThresholds (N.accepts normal) (N.answers normal) }
-    requires pressure { TellsThresholds (P.accepts pressure) (P.answers pressure) }
+    requires normal { IsThresholdRule (N.accepts normal) (N.answers normal) }
+    requires pressure { IsThresholdRule (P.accepts pressure) (P.answers pressure) }
 {
     let rules = Rules::make(normal, pressure);
     for (index, managed, low, cpus, threshold) in [

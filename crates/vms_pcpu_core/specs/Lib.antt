@@ -7,6 +7,7 @@ pub mod OwnSteps
 pub mod Effects
 pub mod Conditions
 pub mod Histories
+pub mod Quiet
 pub mod Laws
 pub mod Endings
 pub mod Calls
