@@ -33,7 +33,8 @@ no-holder facts h j complete j_in = by (holder j h) refl
         let one = holder-one facts h complete.legal j j_in in
         absurd (true≢false (sym (one.lives p ((one.own_events p).1 is)) ∙ complete.ended p))
 
-pub totals-hold : (facts : PcpuFacts) (h : History) (j : ℕ) → IsComplete facts h → IsPcpu facts j → HoldsTotals facts h j
+pub totals-hold : (facts : PcpuFacts) (h : History) (j : ℕ) → IsComplete facts h → IsPcpu facts j
+    → HoldsTotals facts h j
 totals-hold facts h j complete j_in =
     let one = holder-one facts h complete.legal j j_in in
     let free : held_at (state_after facts h) j ≡ false = one.held ∙ ap is_some (no-holder facts h j complete j_in) in

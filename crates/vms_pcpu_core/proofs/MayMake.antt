@@ -320,7 +320,8 @@ spends-amount facts earlier later p cpu j amount steps has adds idle owner i =
     let made : own m p ≡ after p steps [] =
     own-on_top m earlier p steps (ap (λ es. own es p) (sym is) ∙ has.made) in
     let spends = spends-own facts earlier p given.1 cpu owner m i legal lives (idle.nothing_carried i) in
-    let goes : own_added size_of i (after p steps []) ≡ own_added size_of i [] +ℤ added_through size_of i steps (pos 0) =
+    let goes : own_added size_of i (after p steps []) ≡ own_added size_of i [] +ℤ added_through size_of i steps
+    (pos 0) =
     (goes_by_own_steps p steps []).added size_of i in
     let own_is : own_added size_of i (own m p) ≡ own_added size_of i (after p steps []) =
     ap (own_added size_of i) made in

@@ -72,8 +72,8 @@ module _ (cpus batch : ℕ) (count count' : ℤ) (local local' : ℕ → ℤ) (c
   change-control (takes d d_in counts others here carries none) = none
   change-control (adds counts same carries control) = control refl
 
-pub no_amount : (who : Option CpuId) {cpus batch : ℕ} {count count' : ℤ} {local local' : ℕ
-    → ℤ} {carrying carrying' amount : ℤ}
+pub no_amount : (who : Option CpuId) {cpus batch : ℕ} {count count' : ℤ}
+    {local local' : ℕ → ℤ} {carrying carrying' amount : ℤ}
     → Change cpus who batch count count' local local' carrying carrying' amount → who ≡ None → amount ≡ pos 0
 no_amount None change is = change-control _ _ _ _ _ _ _ _ _ change
 no_amount (Some d) change is = absurd cc

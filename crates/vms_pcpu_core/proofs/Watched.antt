@@ -38,7 +38,8 @@ use Rattle.vms_pcpu_core.proofs.Shapes.{HasShape-state_after}
 use Rattle.vms_pcpu_core.proofs.Totals.{owned, totals-kept}
 
 -- the newest event is a load if it is an own one, and the earlier own ones are loads
-pub loads-before : (e : Event PcpuStep) (more : History) (p : ℕ) → AreLoads (own (e ∷ more) p) → (nat_eq e.caller p ≡ true → IsLoad e.step) × AreLoads (own more p)
+pub loads-before : (e : Event PcpuStep) (more : History) (p : ℕ) → AreLoads (own (e ∷ more) p)
+    → (nat_eq e.caller p ≡ true → IsLoad e.step) × AreLoads (own more p)
 loads-before e more p are = by (nat_eq e.caller p) are
   where
     by : (b : Bool) → AreLoads (if b then e ∷ own more p else own more p)
