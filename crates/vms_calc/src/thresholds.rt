@@ -27,7 +27,7 @@ pub fn normal_threshold(size: &ZoneSize, online: u32) -> u32
 /// memory is short. Together the CPUs then hide no more than the pages between `min` and `low`, unless these are fewer
 /// than the CPUs.
 ///
-/// Linux holds these pages in an `int`, so from 2^31 on its threshold differs.
+/// Linux holds these pages in an `int`, so from 2^31 on its threshold may differ.
 #[inline]
 pub fn pressure_threshold(size: &ZoneSize, online: u32) -> u32
     requires size { IsValidSize size.now }

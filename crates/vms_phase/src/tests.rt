@@ -3,7 +3,8 @@ ghost use Rattle.vms_base.specs.Headers.{IsHeader};
 ghost use Rattle.vms_base.specs.Sizes.{IsValidSize};
 ghost use Rattle.vms_core.specs.Bases.{IsOpening};
 ghost use Rattle.vms_phase.specs.Worlds.{settled};
-ghost use Rattle.vms_calc.specs.Rules.{TellsThresholds};
+ghost use Rattle.vms_base.specs.Thresholds.{GivesThresholds};
+ghost use Rattle.vms_calc.specs.Rules.{MayBeAsked};
 
 mod runs;
 
@@ -81,8 +82,10 @@ fn by_rules<N: Rule, P: Rule>(
     pressure: P,
 ) -> Result<State, Memory>
     requires header { IsHeader header.now }
-    requires normal { TellsThresholds (N.accepts normal) (N.answers normal) }
-    requires pressure { TellsThresholds (P.accepts pressure) (P.answers pressure) }
+    requires normal_asked { MayBeAsked (N.accepts normal) }
+    requires normal { GivesThresholds (N.answers normal) }
+    requires pressure_asked { MayBeAsked (P.accepts pressure) }
+    requires pressure { GivesThresholds (P.answers pressure) }
     ensures opening { IfOk result (λ s. IsOpening header.now.layout s) }
     ensures settled { IfOk result (λ s. settled s ≡ s) }
 {
