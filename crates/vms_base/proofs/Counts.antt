@@ -1,4 +1,4 @@
--- How many places, counters, groups and items a layout has, and which belongs to which.
+-- For other crates too: how many places, counters, groups and items a layout has, and which belongs to which.
 use Rattle.std.proofs.Common.{◌≡◌, ℕ, zero, suc, sym, subst, ◌+◌, ◌*◌, ◌/◌, ◌<◌, ◌≤◌, List, length, get_or, arith, inl, inr}
 use Rattle.std.specs.List.Sorted.{IsStrictlyIncreasing}
 use Rattle.std.proofs.lemmas.Bool.Decides.{nat_tests}

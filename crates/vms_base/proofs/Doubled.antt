@@ -1,4 +1,4 @@
--- When one zone stands at two places of a list.
+-- For other crates too: when one zone stands at two places of a list.
 use Rattle.std.proofs.Common.{◌≡◌, ◌≢◌, ℕ, ◌<◌, List, length, get_or, take, map, arith, sym, ◌∙◌, ap}
 use Rattle.std.specs.Prelude.{IsPermutation, Contains, AllPairs, ◌==◌, Some}
 use Rattle.std.specs.List.Sorted.{IsStrictlyIncreasing}

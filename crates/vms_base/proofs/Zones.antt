@@ -1,4 +1,4 @@
--- What the places of zones and nodes say of their lists.
+-- For other crates too: what the places of zones and nodes say of their lists.
 use Rattle.std.proofs.Common.{◌≡◌, ℕ, zero, suc, ◌+◌, ◌-◌, ◌<◌, ◌≤◌, ◌↔◌, ◌∙◌, ap, sym, refl, arith, eq-eqb, true, false, nat_lt, length, option_map, Option, Some, None}
 use Rattle.std.specs.Prelude.{◌==◌, position, Contains, IsSome, IfSome, is_some}
 use Rattle.std.proofs.lemmas.Bool.{eqb-true}

@@ -4,6 +4,7 @@ use Rattle.std.specs.Fn.{Shared}
 use denote.Ref.{Bor}
 use Rattle.vms_base.specs.declared.kinds.ZoneSize.{ZoneSize}
 use Rattle.vms_base.specs.Sizes.{IsValidSize}
+use Rattle.vms_base.specs.Thresholds.{GivesThresholds}
 
 -- the predicates of closures that are called at a zone's size and a number of CPUs and answer a number
 abbrev pub Predicates : Type 0 → Type 1
@@ -19,9 +20,10 @@ pub record Answers {F : Type 0} (g : Predicates F) (f : F) (size : ZoneSize) (on
   pub shows : shown.now ≡ size
   pub answered : g.post f (shown, (online, tt)) threshold
 
--- a rule may be asked at every valid size and 1 to 128 CPUs
-pub record MayBeAsked (accepts : ZoneSize → ℕ → Type 0) : Type 0 where
+-- a rule may be asked at every valid size and 1 to 128 CPUs, and each of its answers is a threshold
+pub record IsThresholdRule (accepts : ZoneSize → ℕ → Type 0) (answers : ZoneSize → ℕ → ℕ → Type 0) : Type 0 where
   pub callable : (size : ZoneSize) (online : ℕ) → IsValidSize size → 1 ≤ online → online ≤ 128 → accepts size online
+  pub gives : GivesThresholds answers
 
 -- a normal and a pressure rule are kept together
 pub record RulePair (N P : Type 0) : Type 0 where

@@ -2,7 +2,7 @@ ghost use Rattle.std.specs.Prelude.{◌≡◌, ℕ, ◌≤◌};
 ghost use Rattle.vms_base.specs.declared.kinds.ZoneSize.{ZoneSize};
 ghost use Rattle.vms_base.specs.Sizes.{IsValidSize};
 ghost use Rattle.vms_base.specs.Thresholds.{most_threshold, GivesThresholds};
-ghost use Rattle.vms_calc.specs.Rules.{Accepts, Answers, MayBeAsked};
+ghost use Rattle.vms_calc.specs.Rules.{Accepts, Answers, IsThresholdRule};
 
 use std::marker::Model;
 use vms_base::ZoneSize;
@@ -43,36 +43,32 @@ pub struct Rules<N: Rule, P: Rule> {
 }
 
 impl<N: Rule, P: Rule> Model for Rules<N, P> {
-    ghost use Rattle.vms_base.specs.Thresholds.{GivesThresholds};
-    ghost use Rattle.vms_calc.specs.Rules.{RulePair, MayBeAsked};
+    ghost use Rattle.vms_calc.specs.Rules.{RulePair, IsThresholdRule};
 
     ghost Value = { RulePair N P };
 
     ghost view = { λ rules. record { normal = rules.normal; pressure = rules.pressure } };
 
-    ghost invariant = { λ rules. MayBeAsked (N.accepts rules.normal) × GivesThresholds (N.answers rules.normal)
-        × MayBeAsked (P.accepts rules.pressure) × GivesThresholds (P.answers rules.pressure) };
+    ghost invariant = { λ rules. IsThresholdRule (N.accepts rules.normal) (N.answers rules.normal)
+        × IsThresholdRule (P.accepts rules.pressure) (P.answers rules.pressure) };
 }
 
 impl<N: Rule, P: Rule> Rules<N, P> {
     /// The rules that go by these closures.
     pub fn make(normal: N, pressure: P) -> Rules<N, P>
-        requires normal_asked { MayBeAsked (N.accepts normal) }
-        requires normal { GivesThresholds (N.answers normal) }
-        requires pressure_asked { MayBeAsked (P.accepts pressure) }
-        requires pressure { GivesThresholds (P.answers pressure) }
+        requires normal { IsThresholdRule (N.accepts normal) (N.answers normal) }
+        requires pressure { IsThresholdRule (P.accepts pressure) (P.answers pressure) }
         ensures { result ≡ record { normal = normal; pressure = pressure } }
     {
         Rules { normal, pressure }
     }
 
-    /// What these rules answer are thresholds. A caller that has rules gets this fact back from them.
-    #[inline]
+    /// Both rules tell thresholds, 1 to 125 pages, for every valid size and 1 to 128 CPUs: whoever holds rules may rely
+    /// on it, however they were made.
     pub fn tells(&self)
         ensures normal { GivesThresholds (N.answers self.now.normal) }
         ensures pressure { GivesThresholds (P.answers self.now.pressure) }
     {
-        // The fact that the rules were made with is known where a field is used.
         let _ = &self.normal;
     }
 

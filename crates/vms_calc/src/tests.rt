@@ -1,7 +1,7 @@
 ghost use Rattle.std.specs.Prelude.{◌≡◌, ◌≤◌, All, IfOk};
 ghost use Rattle.vms_base.specs.Sizes.{IsValidSize};
-ghost use Rattle.vms_base.specs.Thresholds.{GivesThresholds, normal_threshold_of};
-ghost use Rattle.vms_calc.specs.Rules.{MayBeAsked};
+ghost use Rattle.vms_base.specs.Thresholds.{normal_threshold_of};
+ghost use Rattle.vms_calc.specs.Rules.{IsThresholdRule};
 
 use crate::{
     Rule, Rules, cover_mark, linux_mark, normal_threshold, pressure_threshold, reserve, zone_marks,
@@ -298,17 +298,14 @@ fn by_rules<N: Rule + Sync, P: Rule + Sync>(
     size: &ZoneSize,
     cpus: u32,
 ) -> u32
-    requires normal_asked { MayBeAsked (N.accepts normal) }
-    requires normal { GivesThresholds (N.answers normal) }
-    requires pressure_asked { MayBeAsked (P.accepts pressure) }
-    requires pressure { GivesThresholds (P.answers pressure) }
+    requires normal { IsThresholdRule (N.accepts normal) (N.answers normal) }
+    requires pressure { IsThresholdRule (P.accepts pressure) (P.answers pressure) }
     requires size { IsValidSize size.now }
     requires least { 1 ≤ cpus }
     requires most { cpus ≤ 128 }
     ensures { N.answers normal size.now cpus result }
 {
     let rules = Rules::make(normal, pressure);
-    rules.tells();
     shared(&rules);
     rules.normal(size, cpus)
 }
@@ -328,10 +325,8 @@ fn shared<T: Sync>(_: &T) {}
 
 /// Asks stored rules at four sizes, each of which has one threshold under pressure.
 fn check_rules<N: Rule, P: Rule>(rt: &impl Abort, normal: N, pressure: P, answers: [u32; 4])
-    requires normal_asked { MayBeAsked (N.accepts normal) }
-    requires normal { GivesThresholds (N.answers normal) }
-    requires pressure_asked { MayBeAsked (P.accepts pressure) }
-    requires pressure { GivesThresholds (P.answers pressure) }
+    requires normal { IsThresholdRule (N.accepts normal) (N.answers normal) }
+    requires pressure { IsThresholdRule (P.accepts pressure) (P.answers pressure) }
 {
     let rules = Rules::make(normal, pressure);
     for (index, managed, low, cpus, threshold) in [

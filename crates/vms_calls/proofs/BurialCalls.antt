@@ -2,7 +2,7 @@
 use Rattle.std.proofs.Common.{ℕ, sym, ◌∙◌}
 use Rattle.vms_base.specs.declared.kinds.ZoneSize.{ZoneSize}
 use Rattle.vms_base.specs.Thresholds.{GivesThresholds}
-use Rattle.vms_calls.specs.MakingCalls.{MakesBurial}
+use Rattle.vms_calls.specs.MayCall.{MakesBurial}
 use Rattle.vms_calls.proofs.BurialRuns.{burial-runs}
 use Rattle.vms_calls.proofs.ControlCalls.{base, valid_sizes, control-may}
 use Rattle.vms_core.proofs.Settings.{cpu_at-state_after}

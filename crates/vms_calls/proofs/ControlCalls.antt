@@ -11,13 +11,13 @@ use Rattle.vms_core.specs.declared.steps.Facts.{Facts}
 use Rattle.vms_core.specs.declared.steps.Step.{Step}
 use Rattle.vms_core.specs.Bases.{IsBase}
 use Rattle.vms_core.specs.Cells.{cpu_at}
-use Rattle.vms_calls.specs.Making.{MayMake, ControlsIn}
+use Rattle.vms_calls.specs.MayMake.{MayMake, ControlsIn}
 use Rattle.vms_base.specs.Thresholds.{GivesThresholds}
-use Rattle.vms_calls.specs.MakingCalls.{MakesRating, MakesNodeRating, MakesRefresh}
+use Rattle.vms_calls.specs.MayCall.{MakesRating, MakesNodeRating, MakesRefresh}
 use Rattle.vms_core.specs.Pages.{pages, History, state_after}
-use Rattle.vms_calls.proofs.Agreeing.{mark_at-told}
+use Rattle.vms_calls.proofs.Agreement.{mark_at-told}
 use Rattle.vms_calls.proofs.RatingRuns.{IsOneOf, rating-runs}
-use Rattle.vms_calls.proofs.Running.{Runs, runs-may}
+use Rattle.vms_calls.proofs.Runs.{Runs, runs-may}
 use Rattle.vms_core.proofs.Settings.{cpu_at-state_after}
 use Rattle.vms_calls.proofs.VisitRuns.{node-runs, refresh-runs}
 

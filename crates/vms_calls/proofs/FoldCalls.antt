@@ -1,11 +1,11 @@
 -- A pass may make the steps of a fold.
 use Rattle.vms_history.specs.Passes.{owner_in}
 use Rattle.vms_history.proofs.Prefixes.{base_can_begin}
-use Rattle.vms_calls.specs.MakingCalls.{MakesFold}
+use Rattle.vms_calls.specs.MayCall.{MakesFold}
 use Rattle.vms_core.specs.Pages.{pages}
 use Rattle.vms_core.specs.Steps.{turn}
 use Rattle.vms_calls.proofs.FoldRuns.{fold-runs}
-use Rattle.vms_calls.proofs.Running.{runs-may}
+use Rattle.vms_calls.proofs.Runs.{runs-may}
 
 pub fold-may : MakesFold
 fold-may facts h p is_own c steps living c_in owner nothing fold =

@@ -12,14 +12,14 @@ use Rattle.vms_core.specs.declared.steps.Facts.{Facts}
 use Rattle.vms_core.specs.declared.steps.Step.{Step}
 use Rattle.vms_core.specs.declared.steps.Step.TheVariants.{LoadT, AddG, AddS, Take, SetA}
 use Rattle.vms_core.specs.Conditions.{Acknowledges}
-use Rattle.vms_calls.specs.Folding.{FoundPlace, HasGroups, IsFold, to_place, to_system, group_steps, place_steps, system_steps, acknowledges, lists_of, taken_of_item}
+use Rattle.vms_calls.specs.Folds.{FoundPlace, HasGroups, IsFold, to_place, to_system, group_steps, place_steps, system_steps, acknowledges, lists_of, taken_of_item}
 use Rattle.vms_calls.specs.Lists.{in_turn}
 use Rattle.vms_core.specs.Own.{CarriesNothing, moved, moved_of_item, carried, carried_of_item, loaded, took, has_put, entries_of}
 use Rattle.vms_core.specs.Pages.{History}
-use Rattle.vms_calls.proofs.Agreeing.{event}
+use Rattle.vms_calls.proofs.Agreement.{event}
 use Rattle.vms_core.proofs.Effects.{group-within}
 use Rattle.vms_calls.proofs.FoldSums.{sum_steps, total-after, amount, amount-outside, amount-group, group-moved, group-of_item, place-sum, places-sum, nothing-worth, item-worth}
-use Rattle.vms_calls.proofs.Running.{Runs, Knows, runs-append}
+use Rattle.vms_calls.proofs.Runs.{Runs, Knows, runs-append}
 use Rattle.vms_calls.proofs.TakenSteps.{OnlyMoves, loaded-kept, put-kept, took-made, only-groups, has-group}
 
 skip-zero : (b : Bool) (x : ℤ) → (if b then pos 0 else pos 0) +ℤ x ≡ x

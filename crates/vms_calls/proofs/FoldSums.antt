@@ -14,7 +14,7 @@ use Rattle.vms_core.specs.declared.steps.Step.{Step}
 use Rattle.vms_core.specs.declared.steps.Step.TheVariants.{LoadT, SetA}
 use Rattle.vms_calls.specs.Lists.{in_turn}
 use Rattle.vms_core.specs.Own.{moved, moved_of_item, entries_of}
-use Rattle.vms_calls.specs.Folding.{FoundPlace, HasGroups, IsFold, CarriesAsBefore, to_place, to_system, group_steps, place_steps, system_steps, acknowledges, lists_of, taken_of_item}
+use Rattle.vms_calls.specs.Folds.{FoundPlace, HasGroups, IsFold, CarriesAsBefore, to_place, to_system, group_steps, place_steps, system_steps, acknowledges, lists_of, taken_of_item}
 
 -- the sum of a measure of steps
 abbrev pub sum_steps : (Step → ℤ) → List Step → ℤ

@@ -8,12 +8,12 @@ use Rattle.vms_history.proofs.Prefixes.{prefix_is_legal}
 use Rattle.vms_core.specs.declared.steps.Facts.{Facts}
 use Rattle.vms_core.specs.declared.steps.Step.{Step}
 use Rattle.vms_core.specs.declared.steps.Step.TheVariants.{SetM}
-use Rattle.vms_calls.specs.Controlling.{mark_left, mark_left_by}
-use Rattle.vms_calls.specs.MakingCalls.{KnowsByOwnSteps}
+use Rattle.vms_calls.specs.Ratings.{mark_left, mark_left_by}
+use Rattle.vms_calls.specs.MayCall.{KnowsByOwnSteps}
 use Rattle.vms_core.specs.Pages.{pages, History, IsLegal}
 use Rattle.vms_core.specs.Steps.{turn}
-use Rattle.vms_calls.proofs.Agreeing.{event, mark_in, mark_at-told, made-agrees}
-use Rattle.vms_calls.proofs.Ratings.{SamePeaks-after, peak_sum-same}
+use Rattle.vms_calls.proofs.Agreement.{event, mark_in, mark_at-told, made-agrees}
+use Rattle.vms_calls.proofs.RatingCovers.{SamePeaks-after, peak_sum-same}
 use Rattle.vms_core.proofs.Settings.{mark_after}
 
 mark_left_by-after : (g m : ℕ) (step : Step) → mark_after g step m ≡ mark_left_by g step m

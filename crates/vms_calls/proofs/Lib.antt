@@ -1,10 +1,10 @@
 pub mod Following
-pub mod Answering
+pub mod LookReadings
 pub mod FoldSums
-pub mod Ratings
-pub mod Agreeing
-pub mod Running
-pub mod LookSteps
+pub mod RatingCovers
+pub mod Agreement
+pub mod Runs
+pub mod LookRuns
 pub mod RatingRuns
 pub mod ControlCalls
 pub mod VisitRuns
@@ -14,7 +14,7 @@ pub mod FoldCalls
 pub mod BurialRuns
 pub mod BurialCalls
 pub mod ChangeRuns
-pub mod TurnReading
+pub mod TurnReadings
 pub mod TurnThresholds
 pub mod TurnRuns
 pub mod TurnFinds

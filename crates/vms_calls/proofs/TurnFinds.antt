@@ -14,20 +14,20 @@ use Rattle.vms_history.proofs.Prefixes.{base_can_begin}
 use Rattle.vms_core.specs.declared.steps.Facts.{Facts}
 use Rattle.vms_core.specs.declared.steps.Step.{Step}
 use Rattle.vms_core.specs.declared.steps.Step.TheVariants.{LoadO}
-use Rattle.vms_calls.specs.Balancing.{OrderVerdict, Balance, FindsBlock, Further, Blocks, Balances, Settles, has_room, high_limit, node_number, zones_up_to}
+use Rattle.vms_calls.specs.Turns.{OrderVerdict, Balance, FindsBlock, Further, Blocks, Balances, Settles, has_room, high_limit, node_number, zones_up_to}
 use Rattle.vms_base.specs.Areas.{Area, areas_from}
-use Rattle.vms_calls.specs.Balancing.Balance.{Yes, No}
-use Rattle.vms_calls.specs.Balancing.FindsBlock.{nowhere, empty, some}
-use Rattle.vms_calls.specs.Balancing.Balances.{no_zone, fails, passes}
+use Rattle.vms_calls.specs.Turns.Balance.{Yes, No}
+use Rattle.vms_calls.specs.Turns.FindsBlock.{nowhere, empty, some}
+use Rattle.vms_calls.specs.Turns.Balances.{no_zone, fails, passes}
 use Rattle.vms_core.specs.Cells.{cpu_at}
-use Rattle.vms_calls.specs.Controlling.{RatesNode, state_steps}
+use Rattle.vms_calls.specs.Ratings.{RatesNode, state_steps}
 use Rattle.vms_base.specs.Cpus.{online_from, is_online}
 use Rattle.vms_calls.specs.Lists.{in_turn}
-use Rattle.vms_calls.specs.Looking.{Verdict}
-use Rattle.vms_calls.specs.Making.{HasMade}
+use Rattle.vms_calls.specs.Looks.{Verdict}
+use Rattle.vms_calls.specs.MayMake.{HasMade}
 use Rattle.vms_core.specs.Pages.{pages, History}
-use Rattle.vms_calls.specs.Turning.{FindsOnline, NamesPassed, SomeOnline, SettlesOnline}
-use Rattle.vms_calls.proofs.Agreeing.{by_last, made-last}
+use Rattle.vms_calls.specs.TurnReadings.{FindsOnline, NamesPassed, SomeOnline, SettlesOnline}
+use Rattle.vms_calls.proofs.Agreement.{by_last, made-last}
 use Rattle.vms_core.proofs.LiveOwners.{online-stays}
 
 module _ (facts : Facts) (p : ℕ) (earlier : History) where

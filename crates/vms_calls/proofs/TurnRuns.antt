@@ -14,21 +14,21 @@ use Rattle.vms_history.proofs.Own.{after-steps}
 use Rattle.vms_history.proofs.Prefixes.{base_can_begin}
 use Rattle.vms_core.specs.declared.steps.Facts.{Facts}
 use Rattle.vms_core.specs.declared.steps.Step.{Step}
-use Rattle.vms_calls.specs.Balancing.{OrderVerdict, Balance, FindsBlock, Further, Blocks, Balances, IsOrderTest, IsBalanceTest, IsTurn, Settles, has_room, blocks_at, high_limit, node_number, zones_up_to}
+use Rattle.vms_calls.specs.Turns.{OrderVerdict, Balance, FindsBlock, Further, Blocks, Balances, IsOrderTest, IsBalanceTest, IsTurn, Settles, has_room, blocks_at, high_limit, node_number, zones_up_to}
 use Rattle.vms_base.specs.Areas.{Area, areas_from}
-use Rattle.vms_calls.specs.Balancing.Balance.{Yes, No}
-use Rattle.vms_calls.specs.Balancing.FindsBlock.{nowhere, empty, some}
-use Rattle.vms_calls.specs.Balancing.Balances.{no_zone, fails, passes}
-use Rattle.vms_calls.specs.Controlling.{numbers_below, zones_on}
-use Rattle.vms_calls.specs.Looking.{Verdict}
+use Rattle.vms_calls.specs.Turns.Balance.{Yes, No}
+use Rattle.vms_calls.specs.Turns.FindsBlock.{nowhere, empty, some}
+use Rattle.vms_calls.specs.Turns.Balances.{no_zone, fails, passes}
+use Rattle.vms_calls.specs.Ratings.{numbers_below, zones_on}
+use Rattle.vms_calls.specs.Looks.{Verdict}
 use Rattle.vms_base.specs.Thresholds.{GivesThresholds}
 use Rattle.vms_core.specs.Pages.{pages, History}
 use Rattle.vms_core.specs.Steps.{turn}
-use Rattle.vms_calls.specs.Turning.{AreItems, MakesBalanceTest, MakesTurn}
+use Rattle.vms_calls.specs.TurnReadings.{AreItems, MakesBalanceTest, MakesTurn}
 use Rattle.vms_calls.proofs.ControlCalls.{base, valid_sizes, control-may}
 use Rattle.vms_core.proofs.CounterRanges.{counter_at-known}
-use Rattle.vms_calls.proofs.LookSteps.{snapshot-runs, test-runs}
-use Rattle.vms_calls.proofs.Running.{Runs, runs-append, runs-then, runs-may}
+use Rattle.vms_calls.proofs.LookRuns.{snapshot-runs, test-runs}
+use Rattle.vms_calls.proofs.Runs.{Runs, runs-append, runs-then, runs-may}
 use Rattle.vms_calls.proofs.VisitRuns.{numbers_below-below, node-runs}
 
 module _ (facts : Facts) (layout : IsLayout facts.layout) (p : ℕ) (who : Option CpuId) where

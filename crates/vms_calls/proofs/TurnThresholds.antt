@@ -12,21 +12,21 @@ use Rattle.vms_history.specs.Events.{after}
 use Rattle.vms_core.specs.declared.steps.Facts.{Facts}
 use Rattle.vms_core.specs.declared.steps.Step.{Step}
 use Rattle.vms_core.specs.declared.steps.Step.TheVariants.{LoadM, SetT, SetM}
-use Rattle.vms_calls.specs.Balancing.{OrderVerdict, Balance, FindsBlock, Further, Blocks, Balances, IsOrderTest, has_room, high_limit, node_number, zones_up_to}
+use Rattle.vms_calls.specs.Turns.{OrderVerdict, Balance, FindsBlock, Further, Blocks, Balances, IsOrderTest, has_room, high_limit, node_number, zones_up_to}
 use Rattle.vms_base.specs.Areas.{Area, areas_from}
-use Rattle.vms_calls.specs.Balancing.Balance.{No}
-use Rattle.vms_calls.specs.Balancing.FindsBlock.{nowhere, empty, some}
-use Rattle.vms_calls.specs.Balancing.Balances.{no_zone, fails, passes}
+use Rattle.vms_calls.specs.Turns.Balance.{No}
+use Rattle.vms_calls.specs.Turns.FindsBlock.{nowhere, empty, some}
+use Rattle.vms_calls.specs.Turns.Balances.{no_zone, fails, passes}
 use Rattle.vms_base.specs.Sizes.{size_at}
-use Rattle.vms_calls.specs.Controlling.{RatesNode, RatesMarked, Visits, VisitsEach, acknowledged_steps, state_steps, threshold_steps, mark_for, mark_steps, zones_on}
+use Rattle.vms_calls.specs.Ratings.{RatesNode, RatesMarked, Visits, VisitsEach, acknowledged_steps, state_steps, threshold_steps, mark_for, mark_steps, zones_on}
 use Rattle.vms_base.specs.Cpus.{online_from}
-use Rattle.vms_calls.specs.Controlling.RatesMarked.{unmarked, marked}
-use Rattle.vms_calls.specs.Controlling.VisitsEach.{none, next}
+use Rattle.vms_calls.specs.Ratings.RatesMarked.{unmarked, marked}
+use Rattle.vms_calls.specs.Ratings.VisitsEach.{none, next}
 use Rattle.vms_calls.specs.Lists.{in_turn}
-use Rattle.vms_calls.specs.Looking.{Look, Verdict, Frees, IsSnapshot, IsWatermarkTest, look_steps, is_doubtful, free_pages}
-use Rattle.vms_calls.specs.Looking.Look.{online, other}
+use Rattle.vms_calls.specs.Looks.{Look, Verdict, Frees, IsSnapshot, IsWatermarkTest, look_steps, is_doubtful, free_pages}
+use Rattle.vms_calls.specs.Looks.Look.{online, other}
 use Rattle.vms_core.specs.Pages.{History}
-use Rattle.vms_calls.specs.Turning.{LeavesByRule, LeavesNormal, LeavesPressure, last_mark, last_set}
+use Rattle.vms_calls.specs.TurnReadings.{LeavesByRule, LeavesNormal, LeavesPressure, last_mark, last_set}
 use Rattle.vms_calls.proofs.RatingRuns.{IsOneOf}
 
 last_mark-append : (g : ℕ) (xs ys : List Step) (before : ℕ)

@@ -17,17 +17,17 @@ use Rattle.vms_history.proofs.Own.{after-steps}
 use Rattle.vms_core.specs.declared.steps.Facts.{Facts}
 use Rattle.vms_core.specs.declared.steps.Step.{Step}
 use Rattle.vms_core.specs.declared.steps.Step.TheVariants.{LoadM, LoadO, LoadA}
-use Rattle.vms_calls.specs.Controlling.{Rates, RatesMarked, Visits, VisitsEach, RatesNode, Refreshes, acknowledged_steps, state_steps, threshold_steps, numbers_below, zones_on, largest_on}
+use Rattle.vms_calls.specs.Ratings.{Rates, RatesMarked, Visits, VisitsEach, RatesNode, Refreshes, acknowledged_steps, state_steps, threshold_steps, numbers_below, zones_on, largest_on}
 use Rattle.vms_base.specs.Cpus.{online_from, is_online}
-use Rattle.vms_calls.specs.Controlling.RatesMarked.{unmarked, marked}
-use Rattle.vms_calls.specs.Controlling.VisitsEach.{none, next}
+use Rattle.vms_calls.specs.Ratings.RatesMarked.{unmarked, marked}
+use Rattle.vms_calls.specs.Ratings.VisitsEach.{none, next}
 use Rattle.vms_calls.specs.Lists.{in_turn}
 use Rattle.vms_core.specs.Pages.{History}
 use Rattle.vms_core.specs.Peaks.{cpu_in}
-use Rattle.vms_calls.proofs.Agreeing.{event, mark_in}
+use Rattle.vms_calls.proofs.Agreement.{event, mark_in}
 use Rattle.vms_core.proofs.Below.{largest_below-least, largest_below-most}
 use Rattle.vms_calls.proofs.RatingRuns.{IsOneOf, AreOnline, MaySet, rating-runs, thresholds-run}
-use Rattle.vms_calls.proofs.Running.{Runs, runs-append}
+use Rattle.vms_calls.proofs.Runs.{Runs, runs-append}
 
 length-numbers_below : (n : ℕ) → length (numbers_below n) ≡ n
 length-numbers_below zero = refl

@@ -6,10 +6,10 @@ ghost use Rattle.vms_base.specs.Places.{Shape, IsLayout};
 ghost use Rattle.vms_history.specs.declared.events.Event.{Event};
 ghost use Rattle.vms_core.specs.declared.steps.Step.{Step};
 ghost use Rattle.vms_calls.specs.Calls.{IsChange};
-ghost use Rattle.vms_calls.specs.Controlling.{RatingCovers};
-ghost use Rattle.vms_calls.specs.Folding.{IsFold, CarriesAsBefore, misses};
+ghost use Rattle.vms_calls.specs.Ratings.{RatingCovers};
+ghost use Rattle.vms_calls.specs.Folds.{IsFold, CarriesAsBefore, misses};
 ghost use Rattle.vms_calls.specs.Following.{GoesOnWithChange};
-ghost use Rattle.vms_calls.specs.Reading.{TellsPlaceValue, TellsSystemValue, TellsSnapshot, TellsTest};
+ghost use Rattle.vms_calls.specs.LookReadings.{TellsPlaceValue, TellsSystemValue, TellsSnapshot, TellsTest};
 
 /// The steps of a call that looks at values tell its answer: so a history determines every answer.
 pub fn answers_are_told()

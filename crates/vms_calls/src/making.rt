@@ -1,5 +1,5 @@
 ghost use Rattle.vms_base.specs.Thresholds.{GivesThresholds};
-ghost use Rattle.vms_calls.specs.MakingCalls.{MakesPlaceValue, MakesSystemValue, MakesSnapshot, MakesTest, MakesRating, MakesNodeRating, MakesRefresh, MakesFold, MakesBurial, MakesChange, KnowsByOwnSteps};
+ghost use Rattle.vms_calls.specs.MayCall.{MakesPlaceValue, MakesSystemValue, MakesSnapshot, MakesTest, MakesRating, MakesNodeRating, MakesRefresh, MakesFold, MakesBurial, MakesChange, KnowsByOwnSteps};
 
 use crate::ThresholdRules;
 

@@ -1,11 +1,11 @@
 ghost use Rattle.std.specs.Prelude.{◌≡◌, ℕ, ◌≤◌, true, pos, [], ◌∷◌, ◌++◌, Some, None};
 ghost use Rattle.vms_base.specs.Thresholds.{most_threshold};
 ghost use Rattle.vms_core.specs.declared.steps.Step.TheVariants.{SetT};
-ghost use Rattle.vms_calls.specs.Balancing.Balance.{Yes, No};
-ghost use Rattle.vms_calls.specs.Making.{MayMake};
+ghost use Rattle.vms_calls.specs.Turns.Balance.{Yes, No};
+ghost use Rattle.vms_calls.specs.MayMake.{MayMake};
 ghost use Rattle.vms_core.specs.Settling.{one_zone, begun, cpu, zone};
 ghost use Rattle.vms_calls.specs.TurnExamples.{node, areas, visit, look, block};
-ghost use Rattle.vms_calls.specs.Turning.{read_turn};
+ghost use Rattle.vms_calls.specs.TurnReadings.{read_turn};
 
 use crate::*;
 

@@ -1,5 +1,5 @@
 ghost use Rattle.vms_base.specs.Thresholds.{GivesThresholds};
-ghost use Rattle.vms_calls.specs.Turning.{TellsOrderTest, TellsBalance, TellsTurn, LeavesNormal, LeavesPressure, MakesBalanceTest, MakesTurn, NamesPassed, FindsOnline};
+ghost use Rattle.vms_calls.specs.TurnReadings.{TellsOrderTest, TellsBalance, TellsTurn, LeavesNormal, LeavesPressure, MakesBalanceTest, MakesTurn, NamesPassed, FindsOnline};
 
 use crate::ThresholdRules;
 

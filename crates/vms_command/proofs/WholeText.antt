@@ -1,4 +1,4 @@
--- What a command writes line by line is what is defined by the header and the body.
+-- For other crates too: what a command writes line by line is what is defined by the header and the body.
 use Rattle.std.proofs.Common.{◌≡◌, ◌≢◌, ℕ, zero, suc, Bool, true, false, nat_lt, if◌then◌else◌, List, [], ◌∷◌, ◌++◌, drop, Option, Some, None, refl, sym, ap, ◌∙◌, append_assoc, append-nil}
 use Rattle.std.specs.Prelude.{Result, Ok, Err}
 use Rattle.vms_base.specs.declared.headers.Header.{Header}

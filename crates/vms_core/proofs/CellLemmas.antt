@@ -1,10 +1,11 @@
--- What reads find in a list after a row of zeros was written.
-use Rattle.std.proofs.Common.{◌≡◌, ◌≢◌, ℕ, zero, suc, ◌+◌, ◌*◌, ◌/◌, ◌%◌, ◌<◌, ◌≤◌, Bool, true, false, ◌&&◌, List, length, get_or, ℤ, pos, refl, sym, ◌∙◌, arith, eqb-true, length-set, get_or-set_other, if◌then◌else◌, nat_eq}
+-- What reads find in a list after a row of zeros was written, and in a row of eight.
+use Rattle.std.proofs.Common.{◌≡◌, ◌≢◌, ℕ, zero, suc, ◌+◌, ◌*◌, ◌/◌, ◌%◌, ◌<◌, ◌≤◌, Bool, true, false, ◌&&◌, List, length, get_or, ℤ, pos, refl, sym, ◌∙◌, arith, eqb-true, length-set, get_or-set_other, take, drop, length-take, length-drop, get_or-take, get_or-drop, ap, if◌then◌else◌, nat_eq}
 use Rattle.std.proofs.lemmas.Bool.{eqb-false}
 use Rattle.vms_base.specs.Places.{cell}
 use Rattle.vms_base.proofs.Cells.{cell-injective, cell-lt}
 use Rattle.vms_history.proofs.Cells.{get_or-set}
-use Rattle.vms_core.specs.Cells.{zeroed}
+use Rattle.vms_core.specs.declared.states.State.{State}
+use Rattle.vms_core.specs.Cells.{TellsGroup, counters_of, zeroed}
 
 pub length-zeroed : (xs : List ℤ) (start n : ℕ) → length (zeroed xs start n) ≡ length xs
 unfolding zeroed
@@ -58,3 +59,16 @@ module _ (width n : ℕ) where
       by true true rows groups = inside (eqb-true c d rows) (eqb-true j (l / 8) groups)
       by true false rows groups = outside (λ row group. eqb-false j (l / 8) groups group)
       by false b rows groups = outside (λ row group. eqb-false c d rows row)
+
+-- the eight differentials of a group stand one after the other in the list
+pub TellsGroup-cells : (s : State) (c j : ℕ) → cell (counters_of s) c (8 * j) + 8 ≤ length s.diff
+    → TellsGroup s c j (take 8 (drop (cell (counters_of s) c (8 * j)) s.diff))
+TellsGroup-cells s c j within =
+    let start = cell (counters_of s) c (8 * j) in
+    record {
+      eight = omega (arith, length-take 8 (drop start s.diff), length-drop start s.diff);
+      each = λ i less.
+          rw (get_or-take 8 (drop start s.diff) i (pos 0) less, get_or-drop start s.diff i (pos 0))
+          (let place : start + i ≡ cell (counters_of s) c (8 * j + i) = omega arith in
+          ap (λ n. get_or s.diff n (pos 0)) place);
+    }

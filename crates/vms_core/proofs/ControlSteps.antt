@@ -1,9 +1,9 @@
 -- What the control pass may set stays so while others act, and a dead CPU that it emptied may become absent.
-use Rattle.std.proofs.Common.{◌≡◌, ℕ, ◌+◌, ◌*◌, ◌%◌, pos, get_or, sym, ap, ◌∙◌, arith}
+use Rattle.std.proofs.Common.{◌≡◌, ℕ, ◌+◌, ◌*◌, ◌%◌, pos, sym, ap, ◌∙◌, arith}
 use Rattle.std.proofs.lemmas.List.{get_or-replicate}
 use Rattle.vms_base.specs.declared.ids.CpuId.{CpuId}
 use Rattle.vms_base.specs.declared.ids.PlaceId.{PlaceId}
-use Rattle.vms_base.specs.declared.kinds.CpuState.TheVariants.{Dead, Absent}
+use Rattle.vms_base.specs.declared.kinds.CpuState.TheVariants.{Dead}
 use Rattle.vms_base.specs.Places.{IsCpu, group_of}
 use Rattle.vms_base.proofs.Counts.{group_of-lt}
 use Rattle.vms_history.specs.Events.{own}
@@ -28,12 +28,12 @@ SetsThreshold-goes_on facts later earlier p c g t goes sets =
       control = owner_in-goes_on facts later earlier p goes ∙ sets.control;
       cpu = sets.cpu;
       place = sets.place;
-      online = ap (λ xs. get_or xs c.number Absent) knows.cpus ∙ sets.online;
+      online = knows.cpus c.number ∙ sets.online;
       least = sets.least;
       most = sets.most;
       covers = λ zone.
           rw (
-            ap (λ xs. get_or xs g.number 0) knows.marks,
+            knows.marks g.number,
             knows.next_peak_sums
                 (record { caller = p; step = SetT c g t }) g.number,
           )
@@ -63,8 +63,7 @@ SetsAbsent-taken facts h p c legal control c_in dead took = record {
       let at : 8 * group_of k + k % 8 ≡ k = omega arith in
       let zero =
       offline-stay_taken facts h legal p c.number (group_of k) c_in group
-      (λ online. dead≢online (sym dead ∙ online-stays facts h c.number legal online)) (took (group_of k) group)
-      (k % 8) (omega arith) in
-      ap (diff_at (state_after facts h) c.number) (sym at) ∙ sym zero
+      (λ online. dead≢online (sym dead ∙ online-stays facts h c.number legal online)) (took (group_of k) group) in
+      ap (diff_at (state_after facts h) c.number) (sym at) ∙ sym (zero.each (k % 8) (omega arith))
       ∙ get_or-replicate 8 (k % 8) (pos 0) (pos 0) (omega arith);
 }

@@ -1,6 +1,6 @@
 -- The differentials of a group that was emptied are 0 until its owner's next put.
 use Rattle.std.proofs.Common.{◌≡◌, ℕ, ◌+◌, ◌*◌, ◌/◌, ◌%◌, ◌&&◌, Bool, true, false, true≢false, [], ◌∷◌, Option, Some, None, ℤ, pos, refl, sym, ap, ◌∙◌, arith, if◌then◌else◌, nat_eq, eqb-true, eq-eqb}
-use Rattle.std.proofs.lemmas.List.{get_or-replicate}
+use Rattle.std.proofs.lemmas.List.{get_or-replicate, length-replicate}
 use Rattle.std.proofs.lemmas.Bool.{and_parts}
 use Rattle.vms_base.specs.declared.ids.CpuId.{CpuId}
 use Rattle.vms_base.specs.Places.{IsCounter, group_of, counter_count}
@@ -76,8 +76,13 @@ diff_at-emptied facts (e ∷ h) legal c k k_in still =
     (diff_at-emptied facts h legal.0 c k k_in) who e.step refl legal.2 still
 
 pub emptied-kept : (facts : Facts) (h : History) → IsLegal facts h → KeepsEmptied facts h
-emptied-kept facts h legal c j c_in j_in still i less =
-    let group : (8 * j + i) / 8 ≡ j = omega arith in
-    let known : IsCounter facts.layout (8 * j + i) = omega (arith, group-within (counter_count facts.layout) j j_in) in
-    let zero = diff_at-emptied facts h legal c (8 * j + i) known (rw group still) in
-    get_or-replicate 8 i (pos 0) (pos 0) less ∙ sym zero
+emptied-kept facts h legal c j c_in j_in still =
+    record {
+      eight = length-replicate 8 (pos 0);
+      each = λ i less.
+          let group : (8 * j + i) / 8 ≡ j = omega arith in
+          let known : IsCounter facts.layout (8 * j + i) =
+          omega (arith, group-within (counter_count facts.layout) j j_in) in
+          let zero = diff_at-emptied facts h legal c (8 * j + i) known (rw group still) in
+          get_or-replicate 8 i (pos 0) (pos 0) less ∙ sym zero;
+    }

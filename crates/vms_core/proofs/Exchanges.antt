@@ -36,7 +36,7 @@ module _ (facts : Facts) (h : History) (p : ℕ) (cpu : CpuId) (k : CounterId) (
   group_in = group_of-lt facts.layout (base_can_begin pages facts h may.legal).layout k.number may.counter
 
   stands : StandsOrTaken (state_after facts h) cpu.number (group_of k.number) w.values
-  stands = found-stands facts h may.legal p cpu (group_of k.number) w.values may.owner group_in may.eight may.as_found
+  stands = found-stands facts h may.legal p cpu (group_of k.number) w.values may.owner group_in may.as_found
 
   pub put-follows : (how : Mode) → TellsGroup (state_after facts h) cpu.number (group_of k.number) w.values
       → IsLegal facts (record { caller = p; step = Put k w t delta how } ∷ h)
@@ -92,7 +92,6 @@ MayExchange-goes_on facts later earlier p cpu k w t delta goes may =
       legal = goes.legal;
       owner = record { lives = goes.lives; owner = knows.owner };
       counter = may.counter;
-      eight = may.eight;
       as_found = ap (found cpu (group_of k.number)) same ∙ may.as_found;
       number = may.number;
       as_loaded = ap (loaded (place_of facts.layout k.number)) same ∙ may.as_loaded;

@@ -154,7 +154,7 @@ module _ (facts : Facts) (h : History) (s : State) (p : ℕ) (shaped : HasShape 
       sum_below-zeros (λ n. first n +ℤ second n) 8 (λ n less.
       if-cancels (is_in (first_of j.number + n)) (diff_at s d.number (first_of j.number + n))
       (get_or w.values n (pos 0))
-      (λ here. finds.values n less)) in
+      (λ here. finds.values.each n less)) in
       rw system_same (omega (arith, ints, changed, group, none, sum_below-sum first second 8))
 
   AddsUp-addition : (l : ItemId) (a : ℤ) (after : State)

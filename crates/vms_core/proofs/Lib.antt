@@ -16,6 +16,7 @@ pub mod PeakSteps
 pub mod Owners
 pub mod PeakBounds
 pub mod MarkCovers
+pub mod MarkNumbers
 pub mod HiddenPages
 pub mod SettingRanges
 pub mod LevelStates
@@ -30,7 +31,13 @@ pub mod ItemSums
 pub mod Magnitudes
 pub mod LiveOwners
 pub mod Watching
+pub mod FreeCpus
 pub mod Exchanges
 pub mod OfflineGroups
 pub mod ControlSteps
 pub mod OwnSteps
+pub mod Spending
+pub mod CarriedNothing
+pub mod SettledEnds
+pub mod GroupLists
+pub mod KeptLaws

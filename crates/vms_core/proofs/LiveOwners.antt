@@ -1,8 +1,8 @@
 -- The CPU of a pass is online, and what its live owner found last stands or was taken.
-use Rattle.std.proofs.Common.{◌≡◌, ◌≢◌, ℕ, ◌+◌, ◌*◌, ◌/◌, ◌%◌, ◌<◌, ◌&&◌, inl, inr, ⊎_elim, Bool, true, false, List, [], ◌∷◌, length, Option, Some, None, ℤ, pos, get_or, refl, sym, ap, ◌∙◌, arith, if◌then◌else◌, nat_eq, eqb-true, eq-eqb, length-set}
+use Rattle.std.proofs.Common.{◌≡◌, ◌≢◌, ℕ, ◌+◌, ◌*◌, ◌/◌, ◌%◌, ◌<◌, ◌&&◌, inl, inr, ⊎_elim, Bool, true, false, List, [], ◌∷◌, Option, Some, None, ℤ, pos, get_or, refl, sym, ap, ◌∙◌, arith, if◌then◌else◌, nat_eq, eqb-true, eq-eqb, length-set}
 use Rattle.std.proofs.Math.ListN.{set}
 use Rattle.std.proofs.lemmas.Bool.{and_parts, eqb-false, ne_eqb}
-use Rattle.std.proofs.lemmas.List.{get_or-replicate}
+use Rattle.std.proofs.lemmas.List.{get_or-replicate, length-replicate}
 use Rattle.std.proofs.lemmas.Option.{same_Some}
 use Rattle.vms_base.specs.declared.groups.Diffs.{Diffs}
 use Rattle.vms_base.specs.declared.ids.CounterId.{CounterId}
@@ -64,7 +64,8 @@ module _ (s s' : State) (c : CpuId) (j : ℕ) where
   Same = (n : ℕ) → n < 8 → diff_at s' c.number (8 * j + n) ≡ diff_at s c.number (8 * j + n)
 
   TellsGroup-same : (values : List ℤ) → Same → TellsGroup s c.number j values → TellsGroup s' c.number j values
-  TellsGroup-same values same told n less = told n less ∙ sym (same n less)
+  TellsGroup-same values same told =
+      record { eight = told.eight; each = λ n less. told.each n less ∙ sym (same n less) }
 
   StandsOrTaken-same : (values : List ℤ) → Same → StandsOrTaken s c.number j values → StandsOrTaken s' c.number j values
   StandsOrTaken-same values same before =
@@ -72,7 +73,10 @@ module _ (s s' : State) (c : CpuId) (j : ℕ) where
       (λ taken. inr (TellsGroup-same eight_zeros same taken)) before
 
   zeros-told : ((n : ℕ) → n < 8 → diff_at s' c.number (8 * j + n) ≡ pos 0) → TellsGroup s' c.number j eight_zeros
-  zeros-told zeros n less = get_or-replicate 8 n (pos 0) (pos 0) less ∙ sym (zeros n less)
+  zeros-told zeros = record {
+    eight = length-replicate 8 (pos 0);
+    each = λ n less. get_or-replicate 8 n (pos 0) (pos 0) less ∙ sym (zeros n less);
+  }
 
   -- what a step of a pass that owns `who` leaves
   abbrev Changes : Option CpuId → Step → Type 0
@@ -119,39 +123,40 @@ module _ (facts : Facts) (h : History) (s s' : State) (p : ℕ) (shaped : HasSha
   -- the list with the new differential in it
   put-told : (k : CounterId) (w : Diffs) (t : ℕ) (delta : ℤ) (new : ℤ) → Puts facts h s p k w t delta
       → group_of k.number ≡ j
-      → length w.values ≡ 8
       → ((n : ℕ) → n < 8 → diff_at s' c.number (8 * j + n)
       ≡ (if nat_eq c.number c.number && nat_eq k.number (8 * j + n) then new else diff_at s c.number (8 * j + n)))
       → TellsGroup s' c.number j (set w.values (k.number % 8) new)
-  put-told k w t delta new puts group full changes n less =
-      get_or-set w.values (k.number % 8) n new (pos 0) (rw full (omega arith)) ∙ by (nat_eq (k.number % 8) n) refl
-      ∙ sym (changes n less)
+  put-told k w t delta new puts group changes = record {
+    eight = length-set w.values (k.number % 8) new ∙ puts.values.eight;
+    each = λ n less.
+        get_or-set w.values (k.number % 8) n new (pos 0) (rw puts.values.eight (omega arith))
+        ∙ by n less (nat_eq (k.number % 8) n) refl ∙ sym (changes n less);
+  }
     where
       same : puts.cpu ≡ c
       same = owned facts h s p shaped c puts.cpu is puts.owns
 
-      told : get_or w.values n (pos 0) ≡ diff_at s c.number (8 * j + n)
-      told = rw (same, group) at (puts.values n less)
+      told : (n : ℕ) → n < 8 → get_or w.values n (pos 0) ≡ diff_at s c.number (8 * j + n)
+      told n less = rw (same, group) at (puts.values.each n less)
 
-      by : (b : Bool) → nat_eq (k.number % 8) n ≡ b → (if b then new else get_or w.values n (pos 0))
+      by : (n : ℕ) → n < 8 → (b : Bool) → nat_eq (k.number % 8) n ≡ b → (if b then new else get_or w.values n (pos 0))
           ≡ (if nat_eq c.number c.number && nat_eq k.number (8 * j + n) then new else diff_at s c.number (8 * j + n))
-      by true here =
+      by n less true here =
           let at : k.number % 8 ≡ n = eqb-true (k.number % 8) n here in
           let it : nat_eq k.number (8 * j + n) ≡ true = eq-eqb k.number (8 * j + n) (omega arith) in
           let mine : nat_eq c.number c.number ≡ true = eq-eqb c.number c.number refl in
           rw (mine, it) refl
-      by false other =
+      by n less false other =
           let off : k.number % 8 ≢ n = eqb-false (k.number % 8) n other in
           let it : nat_eq k.number (8 * j + n) ≡ false = ne_eqb k.number (8 * j + n) (λ e. off (omega arith)) in
           let mine : nat_eq c.number c.number ≡ true = eq-eqb c.number c.number refl in
-          rw (mine, it) told
+          rw (mine, it) (told n less)
 
   own-keeps : (before : Option (List ℤ)) (values : List ℤ) (step : Step) → Meets facts h s p step
       → Changes s s' c j (Some c) step
-      → length values ≡ 8
-      → ((old : List ℤ) → length old ≡ 8 → before ≡ Some old → StandsOrTaken s c.number j old)
+      → ((old : List ℤ) → before ≡ Some old → StandsOrTaken s c.number j old)
       → found_after c j step before ≡ Some values → StandsOrTaken s' c.number j values
-  own-keeps before values (LoadD d i w) meets changes full stood now =
+  own-keeps before values (LoadD d i w) meets changes stood now =
       by (nat_eq d.number c.number && nat_eq i.number j) refl now
     where
       by : (b : Bool) → (nat_eq d.number c.number && nat_eq i.number j) ≡ b
@@ -161,8 +166,8 @@ module _ (facts : Facts) (h : History) (s s' : State) (p : ℕ) (shaped : HasSha
           let at = and_parts (nat_eq d.number c.number) (nat_eq i.number j) here in
           let told = rw (eqb-true d.number c.number at.0, eqb-true i.number j at.1) at meets.values in
           inl (rw (same_Some w.values values is_now) at (TellsGroup-same s s' c j w.values changes told))
-      by false other is_now = StandsOrTaken-same s s' c j values changes (stood values full is_now)
-  own-keeps before values (Miss i w) meets changes full stood now = by (nat_eq i.number j) refl now
+      by false other is_now = StandsOrTaken-same s s' c j values changes (stood values is_now)
+  own-keeps before values (Miss i w) meets changes stood now = by (nat_eq i.number j) refl now
     where
       by : (b : Bool) → nat_eq i.number j ≡ b → (if b then Some eight_zeros else before) ≡ Some values
           → StandsOrTaken s' c.number j values
@@ -170,8 +175,8 @@ module _ (facts : Facts) (h : History) (s s' : State) (p : ℕ) (shaped : HasSha
           let same : meets.cpu ≡ c = owned facts h s p shaped c meets.cpu is meets.owns in
           let told = rw (same, eqb-true i.number j here) at meets.zeros in
           inr (TellsGroup-same s s' c j eight_zeros changes told)
-      by false other is_now = StandsOrTaken-same s s' c j values changes (stood values full is_now)
-  own-keeps before values (Take d i w) meets changes full stood now =
+      by false other is_now = StandsOrTaken-same s s' c j values changes (stood values is_now)
+  own-keeps before values (Take d i w) meets changes stood now =
       by (nat_eq d.number c.number && nat_eq i.number j) at_group now
     where
       at_group : (n : ℕ) → n < 8 → diff_at s' c.number (8 * j + n)
@@ -182,8 +187,8 @@ module _ (facts : Facts) (h : History) (s s' : State) (p : ℕ) (shaped : HasSha
           → diff_at s' c.number (8 * j + n) ≡ (if b then pos 0 else diff_at s c.number (8 * j + n)))
           → (if b then Some eight_zeros else before) ≡ Some values → StandsOrTaken s' c.number j values
       by true zeros is_now = inr (zeros-told s s' c j zeros)
-      by false same is_now = StandsOrTaken-same s s' c j values same (stood values full is_now)
-  own-keeps before values (Put k w t delta how) meets changes full stood now =
+      by false same is_now = StandsOrTaken-same s s' c j values same (stood values is_now)
+  own-keeps before values (Put k w t delta how) meets changes stood now =
       by (nat_eq (group_of k.number) j) refl now
     where
       by : (b : Bool) → nat_eq (group_of k.number) j ≡ b
@@ -196,8 +201,7 @@ module _ (facts : Facts) (h : History) (s s' : State) (p : ℕ) (shaped : HasSha
           let new = differential_after how t (entry w.values k.number) delta in
           let same : set w.values (k.number % 8) new ≡ values =
           same_Some (set w.values (k.number % 8) new) values is_now in
-          let eight : length w.values ≡ 8 = sym (length-set w.values (k.number % 8) new) ∙ ap length same ∙ full in
-          inl (rw same at (put-told k w t delta new meets (eqb-true (group_of k.number) j here) eight changes))
+          inl (rw same at (put-told k w t delta new meets (eqb-true (group_of k.number) j here) changes))
       by false other is_now =
           let new = differential_after how t (entry w.values k.number) delta in
           let elsewhere : group_of k.number ≢ j = eqb-false (group_of k.number) j other in
@@ -208,9 +212,9 @@ module _ (facts : Facts) (h : History) (s s' : State) (p : ℕ) (shaped : HasSha
           eqb-true k.number (8 * j + n)
           (and_parts (nat_eq c.number c.number) (nat_eq k.number (8 * j + n)) here).1 in
           elsewhere (omega arith)))
-          (stood values full is_now)
-  own-keeps before values _ meets changes full stood now =
-      StandsOrTaken-same s s' c j values changes (stood values full now)
+          (stood values is_now)
+  own-keeps before values _ meets changes stood now =
+      StandsOrTaken-same s s' c j values changes (stood values now)
 
 module _ (facts : Facts) (e : Event Step) (h : History) (legal : IsLegal facts (e ∷ h)) (p : ℕ) (c : CpuId)
     (was : OwnsNow h p c) where
@@ -227,33 +231,33 @@ module _ (facts : Facts) (e : Event Step) (h : History) (legal : IsLegal facts (
 
     -- what was found before the event stood before it
     abbrev Stood : Type 0
-    Stood = (old : List ℤ) → length old ≡ 8 → found c j (own h p) ≡ Some old
+    Stood = (old : List ℤ) → found c j (own h p) ≡ Some old
         → StandsOrTaken (state_after facts h) c.number j old
 
-    found-mine : (values : List ℤ) → length values ≡ 8 → found c j (own (e ∷ h) p) ≡ Some values → Stood → e.caller ≡ p
+    found-mine : (values : List ℤ) → found c j (own (e ∷ h) p) ≡ Some values → Stood → e.caller ≡ p
         → StandsOrTaken (state_after facts (e ∷ h)) c.number j values
-    found-mine values full told before mine =
+    found-mine values told before mine =
         let s = state_after facts h in
         let is : owner_in turn h e.caller ≡ Some c = ap (owner_in turn h) mine ∙ was.owner in
         own-keeps facts h s (state_after facts (e ∷ h)) e.caller (HasShape-state_after facts h legal.0) c j is j_in
         (found c j (own h p)) values e.step legal.2
         (λ n less. event-changes n less
         ∙ ap (λ who. diff_after who c.number (8 * j + n) e.step (diff_at s c.number (8 * j + n))) is)
-        full before (sym (ap (found c j) (own-mine e h p mine)) ∙ told)
+        before (sym (ap (found c j) (own-mine e h p mine)) ∙ told)
 
-    found-others : (values : List ℤ) → length values ≡ 8 → found c j (own (e ∷ h) p) ≡ Some values → Stood
+    found-others : (values : List ℤ) → found c j (own (e ∷ h) p) ≡ Some values → Stood
         → e.caller ≢ p
         → StandsOrTaken (state_after facts (e ∷ h)) c.number j values
-    found-others values full told before others =
+    found-others values told before others =
         others-leave (state_after facts h) (state_after facts (e ∷ h)) c j values (owner_in turn h e.caller) e.step
-        (others-own others) event-changes (before values full (sym (ap (found c j) (own-others e h p others)) ∙ told))
+        (others-own others) event-changes (before values (sym (ap (found c j) (own-others e h p others)) ∙ told))
 
 pub found-stands : (facts : Facts) (h : History) → IsLegal facts h → KnowsFound facts h
-found-stands facts [] legal p c j values live j_in full told = absurd cc
-found-stands facts (e ∷ h) legal p c j values live j_in full told =
+found-stands facts [] legal p c j values live j_in told = absurd cc
+found-stands facts (e ∷ h) legal p c j values live j_in told =
     elim (OwnsNow-before facts e h legal p c live) [
       | inl was ↦ by was (nat_eq e.caller p) refl
-          (λ old old_full old_told. found-stands facts h legal.0 p c j old was j_in old_full old_told)
+          (λ old old_told. found-stands facts h legal.0 p c j old was j_in old_told)
       | inr none ↦ absurd (none_found (sym (ap (found c j) none) ∙ told))
     ]
   where
@@ -263,6 +267,6 @@ found-stands facts (e ∷ h) legal p c j values live j_in full told =
     by : (was : OwnsNow h p c) (b : Bool) → nat_eq e.caller p ≡ b → Stood facts e h legal p c was j j_in
         → StandsOrTaken (state_after facts (e ∷ h)) c.number j values
     by was true here before =
-        found-mine facts e h legal p c was j j_in values full told before (eqb-true e.caller p here)
+        found-mine facts e h legal p c was j j_in values told before (eqb-true e.caller p here)
     by was false other before =
-        found-others facts e h legal p c was j j_in values full told before (eqb-false e.caller p other)
+        found-others facts e h legal p c was j j_in values told before (eqb-false e.caller p other)

@@ -106,5 +106,5 @@ pub offline-found_once : (facts : Facts) (h : History) (q : ℕ) (c : CpuId) (j 
     → has_taken c.number j.number h ≡ true → (n : ℕ) → n < 8 → get_or w.values n (pos 0) ≡ pos 0
 offline-found_once facts h q c j w legal offline took n less =
     let emptied = is_emptied-taken facts h c.number j.number legal.0 offline took in
-    let zeros = emptied-kept facts h legal.0 c.number j.number legal.2.cpu legal.2.group emptied n less in
-    legal.2.values n less ∙ sym zeros ∙ get_or-replicate 8 n (pos 0) (pos 0) less
+    let zeros = emptied-kept facts h legal.0 c.number j.number legal.2.cpu legal.2.group emptied in
+    legal.2.values.each n less ∙ sym (zeros.each n less) ∙ get_or-replicate 8 n (pos 0) (pos 0) less

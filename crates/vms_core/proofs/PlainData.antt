@@ -1,5 +1,5 @@
 -- What holds of plain data, and what keeps it.
-use Rattle.std.proofs.Common.{◌≡◌, ◌≢◌, ℕ, zero, suc, ◌+◌, ◌*◌, ◌/◌, ◌%◌, ◌^◌, ◌<◌, ◌≤◌, ℤ, pos, List, length, get_or, unsigned_abs, refl, sym, ap, arith, subst, ⊎_elim, ◌∙◌, length-set, get_or-set_same, get_or-set_other, take, drop, length-take, get_or-take, get_or-drop, lit<}
+use Rattle.std.proofs.Common.{◌≡◌, ◌≢◌, ℕ, zero, suc, ◌+◌, ◌*◌, ◌/◌, ◌%◌, ◌^◌, ◌<◌, ◌≤◌, ℤ, pos, List, length, get_or, unsigned_abs, refl, sym, arith, subst, ⊎_elim, ◌∙◌, length-set, get_or-set_same, get_or-set_other, take, drop, length-take, get_or-take, get_or-drop, lit<}
 use Rattle.std.proofs.Math.ListN.{set}
 use Rattle.std.proofs.Math.Nat.{mul-div_cancel_left, mul-zero}
 use Rattle.std.proofs.lemmas.Bool.{cases_eq, cases_lt}
@@ -14,7 +14,7 @@ use Rattle.vms_core.specs.declared.states.State.{State}
 use Rattle.vms_core.specs.Plain.{IsPlainBase}
 use Rattle.vms_core.specs.Cells.{HasShape, TellsGroup, counters_of, places_of, zones_of, zeroed}
 use Rattle.vms_core.specs.Plain.{IsPlain}
-use Rattle.vms_core.proofs.CellLemmas.{length-zeroed}
+use Rattle.vms_core.proofs.CellLemmas.{TellsGroup-cells, length-zeroed}
 
 -- what holds of each cell of a table, and of the default, holds at each index of its list
 each_index : {X : Type 0} (xs : List X) (default : X) (rows width : ℕ) (P : X → Type 0) → length xs ≡ rows * width
@@ -68,16 +68,11 @@ module _ (s : State) (counters places : ℕ) (plain : IsPlain s counters places)
       byte : (z : ℤ) → unsigned_abs z ≤ most_threshold → IsByte z
       byte z small = (omega (arith, ints), omega (arith, ints))
 
-  pub TellsGroup-part : (c j : ℕ) → TellsGroup s c j (take 8 (drop (cell counters c (8 * j)) s.diff))
-  TellsGroup-part c j i within =
-      rw (
-        get_or-take 8 (drop (cell counters c (8 * j)) s.diff) i (pos 0) within,
-        get_or-drop
-            (cell counters c (8 * j)) s.diff i (pos 0),
-      )
-      (ap (λ n. get_or s.diff n (pos 0))
-      (let place : cell counters c (8 * j) + i ≡ cell counters c (8 * j + i) = omega arith in
-      place ∙ ap (λ (width : ℕ). cell width c (8 * j + i)) plain.one_for_each_counter))
+  pub TellsGroup-part : (c j : ℕ) → c < length s.cpu → j < counters_of s / 8
+      → TellsGroup s c j (take 8 (drop (cell counters c (8 * j)) s.diff))
+  TellsGroup-part c j c_in j_in =
+      let same = plain.one_for_each_counter in
+      rw same (TellsGroup-cells s c j (rw same at (diff_cells c j c_in j_in)))
 
   -- the cell of a zone stands in the list of acknowledgements
   pub zone_cell : (c g : ℕ) → c < length s.cpu → g < zones_of s → cell (zones_of s) c g < length s.acknowledged

@@ -1,5 +1,5 @@
 -- Which histories of a lowered threshold are legal, and which aren't.
-use Rattle.std.proofs.Common.{◌≡◌, ℕ, ◌+◌, ◌*◌, ◌≤◌, Bool, true, false, true≢false, [], get_or, Option, Some, None, inl, pos, refl, sym, ap, ◌∙◌, arith, subst, if◌then◌else◌, nat_eq}
+use Rattle.std.proofs.Common.{◌≡◌, ℕ, ◌+◌, ◌*◌, ◌≤◌, Bool, true, false, true≢false, [], length, get_or, Option, Some, None, inl, pos, refl, sym, ap, ◌∙◌, arith, subst, if◌then◌else◌, nat_eq}
 use Rattle.std.proofs.lemmas.List.Elements.{All-nil, All-cons}
 use Rattle.vms_base.specs.declared.groups.Diffs.{Diffs}
 use Rattle.vms_base.specs.Marks.{Covers}
@@ -95,9 +95,12 @@ module _ (zeros : Diffs) (are : zeros.values ≡ eight_zeros) where
     record {
       cpu = omega arith;
       group = omega arith;
-      values = λ i within.
-          ap (λ values. get_or values i (pos 0)) are ∙ get_or-copies 8 i (pos 0)
-          ∙ sym (get_or-copies 16 (cell 16 0 (8 * 0 + i)) (pos 0));
+      values = record {
+        eight = ap length are;
+        each = λ i within.
+            ap (λ values. get_or values i (pos 0)) are ∙ get_or-copies 8 i (pos 0)
+            ∙ sym (get_or-copies 16 (cell 16 0 (8 * 0 + i)) (pos 0));
+      };
     },
   )
 

@@ -32,7 +32,7 @@ pub entry-told : (s : State) (c j k : ℕ) (values : List ℤ) → TellsGroup s 
     → entry values k ≡ diff_at s c k
 entry-told s c j k values told same =
     let at : 8 * j + k % 8 ≡ k = omega arith in
-    told (k % 8) (omega arith) ∙ ap (diff_at s c) at
+    told.each (k % 8) (omega arith) ∙ ap (diff_at s c) at
 
 -- the differentials of one counter after a write to one of them, if it is of that counter
 pub differentials-write : (shape : Shape) (s s' : State) (k d : ℕ) (b : Bool) (v : ℤ) → IsCpu shape d

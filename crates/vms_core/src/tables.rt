@@ -1,5 +1,6 @@
 ghost use Rattle.vms_core.specs.declared.states.State.{State};
 ghost use Rattle.vms_core.specs.Pages.{pages};
+ghost use Rattle.vms_core.specs.Quiet.{quiet_pages};
 
 use crate::{Facts, Step};
 use vms_history::Table;
@@ -16,4 +17,6 @@ impl Table for Pages {
     ghost State = { State };
 
     ghost machine = { pages };
+
+    ghost quiet = { quiet_pages };
 }

@@ -9,10 +9,9 @@ pub mod DeadCpus
 pub mod OnlineCpus
 pub mod Keeping
 pub mod Ends
-pub mod Quiet
 pub mod CallReading
 pub mod CallCarrying
-pub mod MadeSteps
+pub mod Callers
 pub mod CallSpending
 pub mod FoldedWords
 pub mod Making

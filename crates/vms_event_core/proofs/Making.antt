@@ -27,7 +27,7 @@ use Rattle.vms_event_core.specs.Totals.{counted, spent}
 use Rattle.vms_event_core.specs.Words.{IsEvent, event_count}
 use Rattle.vms_event_core.proofs.CallCarrying.{empty_take-moves, take_and_add-move}
 use Rattle.vms_event_core.proofs.CallSpending.{spent-made}
-use Rattle.vms_event_core.proofs.MadeSteps.{made-given, made-owner}
+use Rattle.vms_event_core.proofs.Callers.{made-given, made-owner}
 
 module _ (facts : EventFacts) (p : ℕ) (earlier : History) where
   -- a pass that has counted nothing since may count

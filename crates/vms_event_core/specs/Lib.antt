@@ -5,6 +5,7 @@ pub mod Totals
 pub mod Bases
 pub mod Conditions
 pub mod Events
+pub mod Quiet
 pub mod Laws
 pub mod Ends
 pub mod Calls

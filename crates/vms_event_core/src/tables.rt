@@ -1,5 +1,6 @@
 ghost use Rattle.vms_event_core.specs.declared.states.EventState.{EventState};
 ghost use Rattle.vms_event_core.specs.Events.{events};
+ghost use Rattle.vms_event_core.specs.Quiet.{quiet_events};
 
 use crate::{EventFacts, EventStep};
 use vms_history::Table;
@@ -16,4 +17,6 @@ impl Table for Events {
     ghost State = { EventState };
 
     ghost machine = { events };
+
+    ghost quiet = { quiet_events };
 }

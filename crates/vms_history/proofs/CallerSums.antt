@@ -1,4 +1,4 @@
--- Totals as sums of parts, and sums over callers of what their own events come to.
+-- For other crates too: totals as sums of parts, and sums over callers of what their own events come to.
 use Rattle.std.proofs.Common.{◌≡◌, ℕ, ◌<◌, List, [], ◌∷◌, ℤ, pos, ◌+ℤ◌, ◌-ℤ◌, refl, ap, sym, arith}
 use Rattle.std.proofs.lemmas.Int.{ints}
 use Rattle.vms_history.specs.declared.events.Event.{Event}

@@ -1,4 +1,4 @@
--- What reads find after a write: of one place of a list, and of one cell of a table.
+-- For other crates too: what reads find after a write: of one place of a list, and of one cell of a table.
 use Rattle.std.proofs.Common.{◌≡◌, ℕ, ◌*◌, ◌<◌, ◌&&◌, Bool, true, false, List, length, get_or, refl, sym, ap, ◌∙◌, eq-eqb, eqb-true, get_or-set_same, get_or-set_other, if◌then◌else◌, nat_eq}
 use Rattle.std.proofs.Math.ListN.{set}
 use Rattle.std.proofs.lemmas.Bool.{eqb-false, ne_eqb}

@@ -1,4 +1,4 @@
--- What holds of a choice between two values by a test.
+-- For other crates too: what holds of a choice between two values by a test.
 use Rattle.std.proofs.Common.{◌≡◌, ◌≢◌, zero, suc, Bool, true, false, ◌⊎◌, inl, inr, ℤ, pos, negsuc, ◌+ℤ◌, ◌-ℤ◌, refl, arith, if◌then◌else◌}
 use Rattle.std.proofs.lemmas.Int.{ints}
 

@@ -1,4 +1,4 @@
--- Sums of natural numbers below a bound, beside sums of integers.
+-- For other crates too: sums of natural numbers below a bound, beside sums of integers.
 use Rattle.std.proofs.Common.{◌≡◌, ℕ, zero, suc, ◌<◌, ◌≤◌, ℤ, pos, unsigned_abs, refl, arith}
 use Rattle.std.proofs.lemmas.Int.{ints}
 use Rattle.vms_history.specs.Sums.{sum_below, count_below}

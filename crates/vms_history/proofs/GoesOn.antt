@@ -1,4 +1,5 @@
--- What holds of a history that goes on while a pass lives, as long as that pass's own events leave it be.
+-- For other crates too: what holds of a history that goes on while a pass lives, as long as that pass's own events
+-- leave it be.
 use Rattle.std.proofs.Common.{◌≡◌, ℕ, ◌≤◌, nat_eq, if◌then◌else◌, Bool, true, false, List, [], ◌∷◌, ◌++◌, arith}
 use Rattle.vms_history.specs.declared.events.Event.{Event}
 use Rattle.vms_history.specs.Events.{own}

@@ -5,6 +5,8 @@ pub mod PassLaws
 pub mod Owners
 pub mod OwnAt
 pub mod GoesOn
+pub mod FreeOwners
+pub mod MadeSteps
 pub mod SumLaws
 pub mod SumBounds
 pub mod CountLemmas

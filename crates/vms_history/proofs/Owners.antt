@@ -1,4 +1,4 @@
--- What legal histories say of the passes that own a CPU.
+-- For other crates too: what legal histories say of the passes that own a CPU.
 use Rattle.std.proofs.Common.{◌≡◌, ℕ, ◌<◌, ◌≤◌, ◌==◌, cond, Bool, true, false, List, [], ◌∷◌, Some, inl, inr, sym, ap, subst, ◌∙◌, arith}
 use Rattle.std.proofs.lemmas.Bool.{cases_lt}
 use Rattle.vms_base.specs.declared.ids.CpuId.{CpuId}

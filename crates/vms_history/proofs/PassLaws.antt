@@ -1,4 +1,4 @@
--- What legal histories say of passes: which are given, live and own a CPU, and who makes events.
+-- For other crates too: what legal histories say of passes: which are given, live and own a CPU, and who makes events.
 use Rattle.std.proofs.Common.{◌≡◌, ◌≢◌, ℕ, suc, ◌<◌, ◌≤◌, ◌==◌, cond, Bool, true, false, true≢false, List, [], ◌∷◌, ◌++◌, None, ◌⊎◌, inl, inr, ⊎_elim, refl, ap, sym, subst, ◌∙◌, arith, ne_eqb, eqb-true}
 use Rattle.vms_history.specs.declared.events.Event.{Event}
 use Rattle.vms_history.specs.Events.{own}

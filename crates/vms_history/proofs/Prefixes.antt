@@ -1,4 +1,4 @@
--- What a legal history says of its newest event and of its beginnings, and what every step keeps.
+-- For other crates too: what a legal history says of its newest event and of its beginnings, and what every step keeps.
 use Rattle.std.proofs.Common.{◌≡◌, ℕ, nat_eq, if◌then◌else◌, Bool, true, false, List, [], ◌∷◌, ◌++◌, Option, refl, subst, eqb-true}
 use Rattle.vms_base.specs.declared.ids.CpuId.{CpuId}
 use Rattle.vms_history.specs.declared.events.Event.{Event}

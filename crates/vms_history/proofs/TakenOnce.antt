@@ -1,4 +1,4 @@
--- What takes make of a number: all of it is taken at once, or nothing.
+-- For other crates too: what takes make of a number: all of it is taken at once, or nothing.
 use Rattle.std.proofs.Common.{◌≡◌, ◌≢◌, ℕ, suc, ◌<◌, ◌≤◌, ◌⊎◌, inl, inr, ℤ, pos, ◌+ℤ◌, refl, arith}
 use Rattle.std.proofs.lemmas.Int.{ints}
 use Rattle.std.proofs.lemmas.Bool.{cases_lt}

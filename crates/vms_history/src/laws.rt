@@ -1,12 +1,14 @@
-ghost use Rattle.vms_history.specs.Legal.{Machine};
+ghost use Rattle.vms_history.specs.Legal.{Machine, IsQuiet};
 
 mod callers;
+mod making;
 mod own_at;
 mod passes;
 mod prefixes;
 mod sums;
 
 pub use callers::{histories_extend, own_after_steps, own_of_list, steps_in_a_row};
+pub use making::{free_cpus_are_left_alone, histories_go_on, made_steps_add_up, quiet_steps_leave};
 pub use own_at::{newest_own_parts, own_at_is_own, own_events_are_legal};
 pub use passes::{
     acting_goes_by_own_events, ended_is_over, live_is_given, main_changes_passes,
@@ -28,4 +30,7 @@ pub trait Table {
     ghost State: { Type 0 };
 
     ghost machine: { Machine Self.Facts Self.Step State };
+
+    // What begins or ends a pass leaves the table as it is.
+    ghost quiet: { IsQuiet machine };
 }

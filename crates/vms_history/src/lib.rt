@@ -11,9 +11,10 @@ mod tests;
 
 pub use events::Event;
 pub use laws::{
-    Table, acting_goes_by_own_events, ended_is_over, histories_extend, live_is_given,
-    main_changes_passes, newest_event_is_legal, newest_own_parts, not_given_is_unused,
-    nothing_follows, one_live_owner, others_change_no_pass, own_after_steps, own_at_is_own,
-    own_events_are_legal, own_of_list, owner_may_own, owner_stays, prefix_is_legal, steps_in_a_row,
-    sum_goes_by_values, total_adds_up, total_by_caller, turn_changes_passes, who_may_act,
+    Table, acting_goes_by_own_events, ended_is_over, free_cpus_are_left_alone, histories_extend,
+    histories_go_on, live_is_given, made_steps_add_up, main_changes_passes, newest_event_is_legal,
+    newest_own_parts, not_given_is_unused, nothing_follows, one_live_owner, others_change_no_pass,
+    own_after_steps, own_at_is_own, own_events_are_legal, own_of_list, owner_may_own, owner_stays,
+    prefix_is_legal, quiet_steps_leave, steps_in_a_row, sum_goes_by_values, total_adds_up,
+    total_by_caller, turn_changes_passes, who_may_act,
 };

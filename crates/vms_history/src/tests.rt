@@ -1,4 +1,4 @@
-ghost use Rattle.std.specs.Prelude.{◌≡◌, ℕ, suc, [], ◌∷◌, None};
+ghost use Rattle.std.specs.Prelude.{◌≡◌, ℕ, suc, [], ◌∷◌, None, refl};
 ghost use Rattle.vms_history.specs.Legal.{Machine, IsLegal, state_after};
 ghost use Rattle.vms_history.specs.Passes.Turn.{Works, Begins, Ends};
 ghost use Rattle.vms_history.specs.declared.events.Event.{Event};
@@ -31,6 +31,15 @@ impl Table for Bell {
       MayOwn = λ most cpu. Unit {0};
       MayEnd = λ most own. Unit {0};
       Meets = λ most h rung p step. Unit {0};
+    } };
+
+    ghost quiet = { record {
+      leaves = λ most who. elim [
+        | Open q ↦ λ rung differs. refl
+        | Shut q ↦ λ rung differs. refl
+        | Strike ↦ λ rung differs. absurd (differs refl)
+      ];
+      asks_nothing = λ most h rung p step differs. tt;
     } };
 }
 
@@ -65,6 +74,10 @@ fn laws_hold_of_a_bell() {
     owner_may_own::<Bell>();
     owner_stays::<Bell>();
     prefix_is_legal::<Bell>();
+    quiet_steps_leave::<Bell>();
+    histories_go_on::<Bell>();
+    made_steps_add_up::<Bell>();
+    free_cpus_are_left_alone::<Bell>();
     steps_in_a_row::<Bell>();
     sum_goes_by_values();
     total_adds_up::<Bell>();

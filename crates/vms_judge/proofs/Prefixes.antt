@@ -1,4 +1,4 @@
--- The history of the first events of a list, one event longer.
+-- For other crates too: the history of the first events of a list, one event longer.
 use Rattle.std.proofs.Common.{◌≡◌, ℕ, ◌+◌, ◌<◌, List, [], ◌∷◌, ◌++◌, length, get_or, take, drop, sym, ap, ◌∙◌, subst}
 use Rattle.std.specs.Prelude.{reverse}
 use Rattle.std.proofs.lemmas.List.{take_more, reverse-append, take-append-drop}

@@ -1,5 +1,6 @@
 ghost use Rattle.vms_pcpu_core.specs.States.{LockedState};
 ghost use Rattle.vms_pcpu_core.specs.Histories.{percpu};
+ghost use Rattle.vms_pcpu_core.specs.Quiet.{quiet_percpu};
 
 use crate::{PcpuFacts, PcpuStep};
 use vms_history::Table;
@@ -16,4 +17,6 @@ impl Table for Percpu {
     ghost State = { LockedState };
 
     ghost machine = { percpu };
+
+    ghost quiet = { quiet_percpu };
 }

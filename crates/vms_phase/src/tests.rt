@@ -1,10 +1,8 @@
 ghost use Rattle.std.specs.Prelude.{◌≡◌, ◌≤◌, ◌^◌, unsigned_abs, All, IfOk};
 ghost use Rattle.vms_base.specs.Headers.{IsHeader};
 ghost use Rattle.vms_base.specs.Sizes.{IsValidSize};
-ghost use Rattle.vms_core.specs.Bases.{IsOpening};
-ghost use Rattle.vms_phase.specs.Worlds.{settled};
-ghost use Rattle.vms_base.specs.Thresholds.{GivesThresholds};
-ghost use Rattle.vms_calc.specs.Rules.{MayBeAsked};
+ghost use Rattle.vms_core.specs.Bases.{IsOpening, settled};
+ghost use Rattle.vms_calc.specs.Rules.{IsThresholdRule};
 
 mod runs;
 
@@ -82,10 +80,8 @@ fn by_rules<N: Rule, P: Rule>(
     pressure: P,
 ) -> Result<State, Memory>
     requires header { IsHeader header.now }
-    requires normal_asked { MayBeAsked (N.accepts normal) }
-    requires normal { GivesThresholds (N.answers normal) }
-    requires pressure_asked { MayBeAsked (P.accepts pressure) }
-    requires pressure { GivesThresholds (P.answers pressure) }
+    requires normal { IsThresholdRule (N.accepts normal) (N.answers normal) }
+    requires pressure { IsThresholdRule (P.accepts pressure) (P.answers pressure) }
     ensures opening { IfOk result (λ s. IsOpening header.now.layout s) }
     ensures settled { IfOk result (λ s. settled s ≡ s) }
 {

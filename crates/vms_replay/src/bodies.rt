@@ -25,8 +25,7 @@ impl Replay {
     ghost use Rattle.vms_base.specs.Places.{IsCounter, counter_count};
     ghost use Rattle.vms_command.specs.Lines.{Above, nothing_above};
     ghost use Rattle.vms_command.specs.Printing.{line_prefix};
-    ghost use Rattle.vms_base.specs.Thresholds.{GivesThresholds};
-    ghost use Rattle.vms_calc.specs.Rules.{MayBeAsked};
+    ghost use Rattle.vms_calc.specs.Rules.{IsThresholdRule};
     ghost use Rattle.vms_phase.specs.Worlds.{IsNormalRule};
     ghost use Rattle.vms_replay.specs.Replaying.{Kept, boundary_text, first_kept, phases_so_far};
     ghost use Rattle.vms_replay.specs.Standing.{Continues, Goes, Runs, SomeLine, StandsBehind};
@@ -53,10 +52,8 @@ impl Replay {
         pressure: P,
     ) -> Result<Replay, Memory>
         requires header { IsHeader header.now }
-        requires normal_asked { MayBeAsked (N.accepts normal) }
-        requires normal { GivesThresholds (N.answers normal) }
-        requires pressure_asked { MayBeAsked (P.accepts pressure) }
-        requires pressure { GivesThresholds (P.answers pressure) }
+        requires normal { IsThresholdRule (N.accepts normal) (N.answers normal) }
+        requires pressure { IsThresholdRule (P.accepts pressure) (P.answers pressure) }
         requires exact { IsNormalRule (N.answers normal) }
         ensures { IfOk result (λ replay. StandsBehind replay header.now nothing_above first_kept) }
     {

@@ -1,4 +1,4 @@
--- What an act changes the totals by.
+-- For other crates too: what an act changes the totals by.
 use Rattle.std.proofs.Common.{◌≡◌, ℕ, ℤ, pos, negsuc, ◌+ℤ◌, ◌+◌, ◌<◌, ◌≤◌, ◌^◌, List, [], ◌∷◌, map, length, drop, get_or, set, length-set, get_or-set_same, get_or-set_other, nat_eq, if◌then◌else◌, unsigned_abs, refl, sym, ap, subst, ◌∙◌, arith, inl, inr, Some, None, All, IfSome, w64, FitsSigned}
 use Rattle.std.proofs.lemmas.Bool.{cases_eq}
 use Rattle.std.proofs.lemmas.Bool.Decides.{nat_tests}

@@ -1,4 +1,4 @@
--- All elements but the last, and the last.
+-- For other crates too: all elements but the last, and the last.
 use Rattle.std.proofs.Common.{List, [], ◌∷◌, ◌++◌, length, refl, subst, arith, length-append}
 use Rattle.std.specs.Prelude.{All}
 use Rattle.std.proofs.lemmas.List.{get_or_append_left, get_or_push}

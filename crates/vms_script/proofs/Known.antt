@@ -1,4 +1,4 @@
--- A line that counts is what was read, and is one of its header.
+-- For other crates too: a line that counts is what was read, and is one of its header.
 use Rattle.std.proofs.Common.{◌≡◌, ℕ, Bool, true, false, if◌then◌else◌, List, ap}
 use Rattle.std.specs.Prelude.{nat_eq, Result, Ok, Err}
 use Rattle.std.proofs.lemmas.Result.{IfOk-at_ok}
@@ -19,7 +19,8 @@ use Rattle.vms_trace.specs.Body.{read_line}
 use Rattle.vms_trace.specs.Laws.{IsLineOf}
 use Rattle.vms_trace.specs.Reading.{and_then}
 use Rattle.vms_trace.proofs.LinesKnown.{read_line-known}
-use Rattle.vms_script.specs.Cpus.{cpu_state, is_online, online_below}
+use Rattle.vms_script.specs.Cpus.{cpu_state, online_below}
+use Rattle.vms_base.specs.Cpus.{is_online}
 use Rattle.vms_script.specs.Judging.{allowed, allowed_boundary, allowed_burial, allowed_of_control, allowed_online, judged}
 use Rattle.vms_script.specs.Volumes.{overflows}
 

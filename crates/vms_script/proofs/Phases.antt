@@ -1,4 +1,4 @@
--- The phases of a body, as they come to have more lines.
+-- For other crates too: the phases of a body, as they come to have more lines.
 use Rattle.std.proofs.Common.{ℕ, ◌+◌, ◌≤◌, List, [], ◌∷◌, ◌++◌, sym, ap, subst, arith}
 use Rattle.std.specs.Prelude.{All}
 use Rattle.std.proofs.lemmas.List.Elements.{All-cons, All-nil, All-push}

@@ -1,4 +1,4 @@
--- How a job goes past lines in two parts.
+-- For other crates too: how a job goes past lines in two parts.
 use Rattle.std.proofs.Common.{◌≡◌, ◌≢◌, ℕ, ◌<◌, ◌==◌, Bool, true, false, List, [], ◌∷◌, ◌++◌, length, length-append, Option, Some, None, inl, inr, refl, sym, ap, subst, ◌∙◌, append_assoc, append-nil, true≢false, eqb-true, arith}
 use Rattle.vms_stream.specs.declared.halts.Halt.{Halt}
 use Rattle.vms_stream.specs.declared.halts.Halt.TheVariants.{Refuses, Passes}

@@ -1,4 +1,4 @@
--- A list cut at each element that passes a test.
+-- For other crates too: a list cut at each element that passes a test.
 use Rattle.std.proofs.Common.{ℕ, ◌≡◌, ◌+◌, ◌<◌, ◌≤◌, Bool, true, false, List, [], ◌∷◌, Some, None, refl, subst, ◌∙◌, ap, arith, take, drop, length, get_or, position, not, ◌++◌, sym}
 use Rattle.std.proofs.lemmas.Bool.Decides.{nat_tests}
 use Rattle.std.proofs.lemmas.List.Splits.{slice_split-cons_no, slice_split_first}

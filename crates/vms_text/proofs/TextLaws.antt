@@ -1,4 +1,4 @@
--- Where the lines of a text end.
+-- For other crates too: where the lines of a text end.
 use Rattle.std.proofs.Common.{ℕ, ◌≡◌, ◌≢◌, ◌<◌, ◌==◌, Bool, true, false, List, [], ◌∷◌, ◌++◌, refl, sym, ◌∙◌, ap, arith, length, length-append, append-nil, Some, None, inl, inr, position, take, drop, get_or, ◌+◌, ◌-◌, ◌≤◌, append_assoc}
 use Rattle.std.proofs.Common.{Option, le-ltb, lt-ltb, le_refl, lt_irrefl, le_of_lt, zero-le}
 use Rattle.std.proofs.lemmas.List.Sums.{position_or_len_is}

@@ -1,4 +1,4 @@
--- Numbers that words spell lie in their ranges.
+-- For other crates too: numbers that words spell lie in their ranges.
 use Rattle.std.proofs.Common.{ℕ, ◌≡◌, ◌≤◌, ◌^◌, ◌-◌, ◌&&◌, ◌==◌, Bool, true, false, cond, List, [], ◌∷◌, Option, Some, None, refl, arith, nat_le, ℤ, pos, negsuc, suc, zero, subst, option_map, w64}
 use Rattle.std.proofs.lemmas.Bool.Decides.{nat_tests}
 use Rattle.std.proofs.lemmas.Int.{ints}

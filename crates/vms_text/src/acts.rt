@@ -44,9 +44,10 @@ pub enum Act {
     Snap(CounterId),
     /// Reads a system-wide value in pages (`global_zone_page_state` of include/linux/vmstat.h).
     Sys(ItemId),
-    /// Puts the thresholds of the pressure rule on a node's zones (`set_pgdat_percpu_threshold` of mm/vmstat.c).
+    /// Gives a node's zones the thresholds of the pressure rule, which may also be larger than those that stand
+    /// (`set_pgdat_percpu_threshold` of mm/vmstat.c).
     Pressure(PlaceId),
-    /// Puts the thresholds of the normal rule on a node's zones (`set_pgdat_percpu_threshold` of mm/vmstat.c).
+    /// Gives a node's zones the thresholds of the normal rule (`set_pgdat_percpu_threshold` of mm/vmstat.c).
     Normal(PlaceId),
     /// Buries a dead CPU: folds what it left (`page_alloc_cpu_dead` of mm/page_alloc.c).
     Dead(CpuId),
@@ -84,7 +85,7 @@ pub enum Boundary {
 /// A line of the body.
 #[derive(Clone, Copy, Debug, PartialEq, Eq)]
 pub enum Line {
-    /// Nothing but blanks, or a remark behind `#`.
+    /// Nothing but blanks, or a remark after `#`.
     Blank,
     Lane(Lane, Act),
     Boundary(Boundary),

@@ -1,4 +1,4 @@
--- A header is read line by line, each as the words that were spelled.
+-- For other crates too: a header is read line by line, each as the words that were spelled.
 use Rattle.std.proofs.Common.{ℕ, suc, ◌≡◌, ◌+◌, true, List, [], ◌∷◌, ◌++◌, refl, ◌∙◌, ap, arith, append_assoc, flat_map, length, length-append, map}
 use Rattle.std.proofs.lemmas.List.{map-append}
 use Rattle.std.specs.List.{All}

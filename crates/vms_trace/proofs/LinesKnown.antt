@@ -1,4 +1,4 @@
--- Every line that is read is one of its header.
+-- For other crates too: every line that is read is one of its header.
 use Rattle.std.proofs.Common.{ℕ, ◌≡◌, ◌<◌, ◌≤◌, ◌^◌, ◌-◌, ◌==◌, false, cond, List, [], ◌∷◌, Option, Some, None, Result, Ok, Err, IfOk, bytes_eq, codes, length, nat_lt, sym, subst, arith, w64, unsigned_abs}
 use Rattle.std.proofs.lemmas.Bool.Decides.{nat_tests}
 use Rattle.std.specs.Int.RustNames.{FitsSigned}

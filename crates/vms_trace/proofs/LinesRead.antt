@@ -1,4 +1,4 @@
--- What is spelled of a line is read back as that line.
+-- For other crates too: what is spelled of a line is read back as that line.
 use Rattle.std.proofs.Common.{ℕ, ◌≡◌, true, nat_lt, List, [], ◌∷◌, refl, ap, arith}
 use Rattle.std.proofs.lemmas.Bool.Decides.{nat_tests}
 use Rattle.std.specs.Fmt.{decimal}

@@ -1,4 +1,4 @@
--- What is spelled of a few short words is one line, and is read as these words.
+-- For other crates too: what is spelled of a few short words is one line, and is read as these words.
 use Rattle.std.proofs.Common.{ℕ, ◌≡◌, ◌≢◌, ◌*◌, ◌<◌, ◌≤◌, ◌&&◌, ◌||◌, Bool, true, false, not, nat_le, nat_lt, List, [], ◌∷◌, ◌++◌, refl, subst, ◌∙◌, ap, arith, length, get_or, length-append}
 use Rattle.std.proofs.lemmas.Bool.{false≢true}
 use Rattle.std.proofs.lemmas.Bool.Decides.{nat_tests}

@@ -1,4 +1,4 @@
--- A header rests on the lines up to its end, or up to its fault.
+-- For other crates too: a header rests on the lines up to its end, or up to its fault.
 use Rattle.std.proofs.Common.{ℕ, suc, ◌≡◌, ◌+◌, ◌<◌, ◌≤◌, List, [], ◌∷◌, ◌++◌, length, Result, Ok, Err, refl, ap, ◌∙◌, arith}
 use Rattle.vms_base.specs.declared.headers.Header.{Header}
 use Rattle.vms_trace.specs.Head.{Fault, Stage, head_line, header_from, on_turn, read_header}

@@ -1,4 +1,4 @@
--- Numbers are read back from their digits.
+-- For other crates too: numbers are read back from their digits.
 use Rattle.std.proofs.Common.{ℕ, suc, ◌≡◌, ◌<◌, ◌≤◌, ◌^◌, ◌-◌, ◌&&◌, true, nat_le, List, [], ◌∷◌, ℤ, pos, negsuc, Some, refl, ◌∙◌, ap, arith, w64, length}
 use Rattle.std.proofs.lemmas.Bool.Decides.{nat_tests}
 use Rattle.std.proofs.lemmas.Fmt.{decimal_nonempty, length-decimal-le}

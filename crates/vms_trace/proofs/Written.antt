@@ -1,4 +1,4 @@
--- The header of a draft with a zone can be written.
+-- For other crates too: the header of a draft with a zone can be written.
 use Rattle.std.proofs.Common.{ℕ, ◌≡◌, ◌≢◌, ◌*◌, ◌/◌, ◌^◌, ◌<◌, ◌≤◌, Bool, true, false, List, [], ◌∷◌, length, get_or, replicate, Option, Some, None, IfSome, refl, sym, subst, ◌∙◌, arith, pos, unsigned_abs, suc, Result, Ok, Err, zero}
 use Rattle.std.proofs.Math.Nat.{div-le_of_le-mul, mul-le-mul_left}
 use Rattle.std.proofs.lemmas.List.Sums.{get_or-le-sum_by}

@@ -1,8 +1,7 @@
 ghost use Rattle.std.specs.Prelude.{◌≡◌, ◌≤◌, pos, negsuc, [], ◌∷◌, IfOk};
 ghost use Rattle.vms_base.specs.declared.kinds.Mode.TheVariants.{Mod, Dec};
 ghost use Rattle.vms_base.specs.Headers.{IsHeader};
-ghost use Rattle.vms_base.specs.Thresholds.{GivesThresholds};
-ghost use Rattle.vms_calc.specs.Rules.{MayBeAsked};
+ghost use Rattle.vms_calc.specs.Rules.{IsThresholdRule};
 ghost use Rattle.vms_phase.specs.OpenPhases.{change_item};
 ghost use Rattle.vms_phase.specs.Runs.{IsRun};
 ghost use Rattle.vms_phase.specs.Worlds.{IsNormalRule};
@@ -36,10 +35,8 @@ fn by_rules<N: Rule, P: Rule>(
 ) -> Result<RunReplay, Memory>
     requires header { IsHeader header.now }
     requires exact { IsNormalRule (N.answers normal) }
-    requires normal_asked { MayBeAsked (N.accepts normal) }
-    requires normal { GivesThresholds (N.answers normal) }
-    requires pressure_asked { MayBeAsked (P.accepts pressure) }
-    requires pressure { GivesThresholds (P.answers pressure) }
+    requires normal { IsThresholdRule (N.accepts normal) (N.answers normal) }
+    requires pressure { IsThresholdRule (P.accepts pressure) (P.answers pressure) }
     ensures shape { IfOk result (λ run. run.shape ≡ header.now.layout) }
     ensures begins { IfOk result (λ run. IsRun header.now [] [] run.state) }
 {

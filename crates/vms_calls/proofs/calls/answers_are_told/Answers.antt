@@ -1,4 +1,4 @@
-use Rattle.vms_calls.proofs.Answering.{place_value-told, system_value-told, snapshot-told, test-told}
+use Rattle.vms_calls.proofs.LookReadings.{place_value-told, system_value-told, snapshot-told, test-told}
 use Rattle.vms_calls.proofs.calls.answers_are_told.Goals as goal
 
 pub returns : goal.returns

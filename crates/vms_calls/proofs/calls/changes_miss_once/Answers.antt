@@ -7,7 +7,7 @@ use Rattle.vms_core.specs.declared.steps.Step.{Step}
 use Rattle.vms_calls.specs.Calls.{Exchanges, Carries}
 use Rattle.vms_calls.specs.Calls.Exchanges.{won, missed}
 use Rattle.vms_calls.specs.Calls.Carries.{nothing, amount}
-use Rattle.vms_calls.specs.Folding.{misses}
+use Rattle.vms_calls.specs.Folds.{misses}
 use Rattle.vms_calls.proofs.calls.changes_miss_once.Goals as goal
 
 carrying : (shape : Shape) (k : CounterId) (z : ℤ) (additions : List Step) → Carries shape k z additions → misses additions ≡ 0

@@ -1,4 +1,4 @@
-use Rattle.vms_calls.proofs.Ratings.{rating-covers}
+use Rattle.vms_calls.proofs.RatingCovers.{rating-covers}
 use Rattle.vms_calls.proofs.calls.ratings_cover.Goals as goal
 
 pub returns : goal.returns

@@ -1,4 +1,4 @@
-use Rattle.vms_calls.proofs.LookSteps.{place_value-may, system_value-may, snapshot-may, test-may}
+use Rattle.vms_calls.proofs.LookRuns.{place_value-may, system_value-may, snapshot-may, test-may}
 use Rattle.vms_calls.proofs.making.looks_may_be_made.Goals as goal
 
 pub returns : goal.returns

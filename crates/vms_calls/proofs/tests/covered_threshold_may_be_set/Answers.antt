@@ -6,7 +6,7 @@ use Rattle.vms_base.specs.Places.{IsCpu}
 use Rattle.vms_base.specs.Thresholds.{most_threshold}
 use Rattle.vms_core.specs.declared.steps.Step.TheVariants.{SetT}
 use Rattle.vms_core.specs.Cells.{cpu_at}
-use Rattle.vms_calls.specs.Making.{MayMake, ControlsIn}
+use Rattle.vms_calls.specs.MayMake.{MayMake, ControlsIn}
 use Rattle.vms_core.specs.Pages.{state_after}
 use Rattle.vms_core.specs.Settling.{one_zone, begun, cpu, zone}
 use Rattle.vms_calls.proofs.ControlCalls.{rating-may}

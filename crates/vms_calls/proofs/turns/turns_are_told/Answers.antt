@@ -1,4 +1,4 @@
-use Rattle.vms_calls.proofs.TurnReading.{order_test-told, balance-told, turn-told}
+use Rattle.vms_calls.proofs.TurnReadings.{order_test-told, balance-told, turn-told}
 use Rattle.vms_calls.proofs.turns.turns_are_told.Goals as goal
 
 pub returns : goal.returns

@@ -1,9 +1,7 @@
-use Rattle.std.proofs.Common.{◌≡◌, refl, sym, ap, ◌∙◌, subst, rules, SFits, w64, List, arith}
+use Rattle.std.proofs.Common.{◌≡◌, sym, rules, SFits, w64, arith}
 use Rattle.std.proofs.lemmas.Int.{ints, to_z-of_z}
-use Rattle.vms_base.specs.Places.{Shape, place_of}
-use Rattle.vms_core.specs.declared.states.State.{State}
+use Rattle.vms_base.specs.Places.{place_of}
 use Rattle.vms_core.specs.Cells.{threshold_at}
-use Rattle.vms_core.specs.ChangedStates.{with_change}
 use Rattle.vms_base.proofs.Counts.{place_of-lt, item_of-lt}
 use Rattle.vms_core.proofs.PlainData.{places_of-shaped}
 use Rattle.vms_core.proofs.WithChange.{value-with_carried, system-with_carried, with_change-steps, total-with_change, total_of_item-with_change}

@@ -23,4 +23,5 @@ invariant_of-result c = record {
 
 pub returns : goal.returns
 returns c = rw (c.eight_from.ensures, c.as_slice.ensures, c.cell-at.ensures, ← c.self.view_is)
-    (TellsGroup-part c.self.inside.state _ _ c.self.invariant c.args.cpu.number c.args.group.number)
+    (TellsGroup-part c.self.inside.state _ _ c.self.invariant c.args.cpu.number c.args.group.number
+    (rw c.self.view_is c.requires.cpu) (rw c.self.view_is c.requires.group))
