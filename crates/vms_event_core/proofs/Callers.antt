@@ -6,7 +6,7 @@ use Rattle.vms_history.proofs.Prefixes.{prefix_is_legal}
 use Rattle.vms_event_core.specs.declared.steps.EventFacts.{EventFacts}
 use Rattle.vms_event_core.specs.declared.steps.EventStep.{EventStep}
 use Rattle.vms_event_core.specs.Events.{events, History, IsLegal}
-use Rattle.vms_event_core.specs.Making.{HasMade}
+use Rattle.vms_event_core.specs.MadeCalls.{HasMade}
 use Rattle.vms_event_core.specs.Steps.{turn}
 
 module _ (facts : EventFacts) (later earlier : History) (p : ℕ) (steps : List EventStep)

@@ -7,11 +7,11 @@ pub mod Bounds
 pub mod OfflineCpus
 pub mod DeadCpus
 pub mod OnlineCpus
-pub mod Keeping
+pub mod AllLaws
 pub mod Ends
 pub mod CallReading
 pub mod CallCarrying
 pub mod Callers
 pub mod CallSpending
 pub mod FoldedWords
-pub mod Making
+pub mod FittingSteps

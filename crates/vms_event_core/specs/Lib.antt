@@ -9,4 +9,4 @@ pub mod Quiet
 pub mod Laws
 pub mod Ends
 pub mod Calls
-pub mod Making
+pub mod MadeCalls

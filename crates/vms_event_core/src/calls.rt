@@ -8,7 +8,7 @@ ghost use Rattle.vms_event_core.specs.Bases.{cpu_at};
 ghost use Rattle.vms_event_core.specs.Calls.{AtMostStands, IsCount, IsAllEvents, IsFoldEvents, read_count, read_all_events, read_fold_events, online_cpus};
 ghost use Rattle.vms_event_core.specs.Events.{History, IsLegal, state_after};
 ghost use Rattle.vms_event_core.specs.Laws.{most_in_sum};
-ghost use Rattle.vms_event_core.specs.Making.{HasMade, MakesCount, MakesAllEvents, MakesFoldEvents, CarryAsBefore, SpendNothing, SpendsSince, KeepsSpending, counted_of, LeavesZeros};
+ghost use Rattle.vms_event_core.specs.MadeCalls.{HasMade, MakesCount, MakesAllEvents, MakesFoldEvents, CarryAsBefore, SpendNothing, SpendsSince, KeepsSpending, counted_of, LeavesZeros};
 ghost use Rattle.vms_event_core.specs.Words.{IsEvent, event_count, word_at};
 
 /// What a call found and answered can be read off its steps, whatever steps follow.

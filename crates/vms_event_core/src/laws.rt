@@ -4,7 +4,7 @@ ghost use Rattle.vms_event_core.specs.Bases.{IsBase};
 ghost use Rattle.vms_event_core.specs.Ends.{facts_at_end, FitsBase, CountsBefore, StaysWithinVolumes, GoesOnAfter};
 ghost use Rattle.vms_event_core.specs.Events.{History, IsLegal, IsComplete};
 ghost use Rattle.vms_event_core.specs.Laws.{KeepsLaws, HoldsTotals};
-ghost use Rattle.vms_event_core.specs.Making.{KeepsSpending};
+ghost use Rattle.vms_event_core.specs.MadeCalls.{KeepsSpending};
 ghost use Rattle.vms_event_core.specs.Steps.{turn};
 ghost use Rattle.vms_event_core.specs.Words.{IsEvent};
 ghost use Rattle.vms_history.specs.Events.{own};

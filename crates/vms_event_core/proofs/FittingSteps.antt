@@ -20,7 +20,7 @@ use Rattle.vms_event_core.specs.declared.steps.EventStep.TheVariants.{AddE, Load
 use Rattle.vms_event_core.specs.Bases.{cpu_at, IsBase, IsLowestOnline}
 use Rattle.vms_event_core.specs.Calls.{loads, folds, online_cpus}
 use Rattle.vms_event_core.specs.Events.{events, History, IsLegal}
-use Rattle.vms_event_core.specs.Making.{HasMade, Tells, MayMake, MakesCount, MakesAllEvents, MakesFoldEvents}
+use Rattle.vms_event_core.specs.MadeCalls.{HasMade, Tells, MayMake, MakesCount, MakesAllEvents, MakesFoldEvents}
 use Rattle.vms_event_core.specs.Own.{carried, CarriesNothing}
 use Rattle.vms_event_core.specs.Steps.{turn}
 use Rattle.vms_event_core.specs.Totals.{counted, spent}
