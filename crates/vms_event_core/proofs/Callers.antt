@@ -11,7 +11,7 @@ use Rattle.vms_event_core.specs.Steps.{turn}
 
 module _ (facts : EventFacts) (later earlier : History) (p : ℕ) (steps : List EventStep)
     (made : HasMade facts later earlier p steps) where
-  joined-legal : IsLegal facts (made.extends.0 ++ earlier)
+  pub joined-legal : IsLegal facts (made.extends.0 ++ earlier)
   joined-legal = subst (IsLegal facts) made.extends.1 made.legal
 
   pub earlier-legal : IsLegal facts earlier
