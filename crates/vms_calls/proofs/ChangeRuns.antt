@@ -15,7 +15,7 @@ use Rattle.vms_history.proofs.Prefixes.{base_can_begin}
 use Rattle.vms_core.specs.declared.steps.Facts.{Facts}
 use Rattle.vms_core.specs.declared.steps.Step.{Step}
 use Rattle.vms_core.specs.declared.steps.Step.TheVariants.{LoadT, LoadD, Put, Miss, AddG}
-use Rattle.vms_calls.specs.Calls.{Carries, Exchanges}
+use Rattle.vms_calls.specs.Calls.{Carries, Exchanges, IsChange}
 use Rattle.vms_calls.specs.Calls.Carries.{nothing, amount}
 use Rattle.vms_calls.specs.Calls.Exchanges.{won, missed}
 use Rattle.vms_core.specs.Cells.{entry}
@@ -26,6 +26,7 @@ use Rattle.vms_core.specs.Own.{CarriesNothing, carried, carried_of_item, found, 
 use Rattle.vms_core.specs.Pages.{pages, History}
 use Rattle.vms_core.specs.Steps.{turn}
 use Rattle.vms_core.specs.Totals.{spent, spent_by}
+use Rattle.vms_calls.proofs.MayBegin.{call-begins}
 use Rattle.vms_calls.proofs.Agreement.{event}
 use Rattle.vms_base.proofs.Counts.{place_of-lt, group_of-lt, item_of-lt}
 use Rattle.vms_calls.proofs.Runs.{Runs, Exchanging, runs-may}
@@ -182,8 +183,9 @@ module _ (facts : Facts) (layout : IsLayout facts.layout) (p : ℕ) (cpu : CpuId
         )
 
 pub change-may : MakesChange
-change-may facts h p cpu k delta how steps may change =
+change-may facts h p cpu k delta how may =
     let layout = (base_can_begin pages facts h may.legal).layout in
+    call-begins facts p h (λ steps. IsChange facts.layout cpu k delta how steps) (λ steps change.
     runs-may facts p h (record { legal = may.legal; lives = may.lives }) steps
     (subst (λ who. Runs facts p who steps h (λ now. Unit {0})) (sym may.owner)
     (subst (λ ks. Runs facts p (Some cpu) ks h (λ now. Unit {0})) (sym change.in_order) (
@@ -194,4 +196,4 @@ change-may facts h p cpu k delta how steps may change =
             may.affordable change.t change.number
             change.first change.last change.exchange change.additions change.exchanges change.carries,
       ),
-    )))
+    ))))

@@ -7,14 +7,16 @@ use Rattle.std.proofs.lemmas.List.{get_or_past}
 use Rattle.vms_base.specs.declared.groups.Diffs.{Diffs}
 use Rattle.vms_base.specs.declared.ids.CpuId.{CpuId}
 use Rattle.vms_base.specs.declared.ids.PlaceId.{PlaceId}
-use Rattle.vms_base.specs.Places.{Shape, IsLayout, item_count, counter_at, group_of}
+use Rattle.vms_base.specs.Places.{Shape, IsLayout, item_count, item_of, counter_at, group_of, first_of}
 use Rattle.vms_history.specs.declared.events.Event.{Event}
 use Rattle.vms_history.specs.Events.{total, after}
+use Rattle.vms_history.proofs.SumLaws.{sum_below-zeros}
+use Rattle.vms_base.proofs.Counts.{item_of-lt}
 use Rattle.vms_core.specs.declared.steps.Step.{Step}
 use Rattle.vms_core.specs.declared.steps.Step.TheVariants.{LoadT, SetA}
 use Rattle.vms_calls.specs.Lists.{in_turn}
 use Rattle.vms_core.specs.Own.{moved, moved_of_item, entries_of}
-use Rattle.vms_calls.specs.Folds.{FoundPlace, HasGroups, IsFold, CarriesAsBefore, to_place, to_system, group_steps, place_steps, system_steps, acknowledges, lists_of, taken_of_item}
+use Rattle.vms_calls.specs.Folds.{FoundPlace, HasGroups, IsFold, to_place, to_system, group_steps, place_steps, system_steps, acknowledges, lists_of, taken_of_item}
 
 -- the sum of a measure of steps
 abbrev pub sum_steps : (Step → ℤ) → List Step → ℤ
@@ -240,37 +242,67 @@ module _ (shape : Shape) (ws : List Diffs) (i : ℕ) where
           let other : l ≢ i = eqb-false l i is in
           omega (arith, ints, split, first false is, more (omega arith))
 
-pub fold-carries : (shape : Shape) → IsLayout shape → (is_own : Bool) (c : CpuId) (steps : List Step) → IsFold shape is_own c steps
-    → (p : ℕ) (h : List (Event Step)) → CarriesAsBefore shape p steps h
-fold-carries shape layout is_own c steps folds p h = record {
-  counters = λ k. omega (
+-- nothing is taken for what is no item of the layout
+module _ (shape : Shape) (layout : IsLayout shape) (i : ℕ) (past : item_count shape ≤ i) where
+  entries-past : (j : ℕ) (w : Diffs) → entries_of shape i j w ≡ pos 0
+  entries-past j w = sum_below-zeros
+      (λ n. if nat_eq (item_of shape (first_of j + n)) i then get_or w.values n (pos 0) else pos 0) 8
+      (λ n below.
+      let within = item_of-lt shape layout (first_of j + n) in
+      let other : nat_eq (item_of shape (first_of j + n)) i ≡ false =
+      ne_eqb (item_of shape (first_of j + n)) i (λ e. omega arith) in
+      ap (λ (b : Bool). if b then get_or w.values n (pos 0) else pos 0) other)
+
+  taken-past : (j : ℕ) (ws : List Diffs) → taken_of_item shape i j ws ≡ pos 0
+  taken-past j [] = refl
+  taken-past j (w ∷ ws) = omega (arith, ints, entries-past j w, taken-past (suc j) ws)
+
+module _ (shape : Shape) (layout : IsLayout shape) (is_own : Bool) (c : CpuId) (steps : List Step)
+    (folds : IsFold shape is_own c steps) where
+  abbrev fold_visits : List Step
+  fold_visits = in_turn (λ g found. place_steps shape (acknowledges shape is_own g) c g found) 0 folds.places
+
+  abbrev fold_lists : List Diffs
+  fold_lists = lists_of folds.places
+
+  abbrev fold_systems : List Step
+  fold_systems = system_steps shape fold_lists 0 (item_count shape)
+
+  -- what a fold takes for a counter it adds to it
+  pub fold-moves : (k : ℕ) → sum_steps (moved k) steps ≡ pos 0
+  fold-moves k = omega (
     arith,
     ints,
-    total-after (moved k) p steps h,
     ap (sum_steps (moved k)) folds.in_order,
-    sum-append (moved k) visits systems,
+    sum-append (moved k) fold_visits fold_systems,
     places-sum (moved k) c (λ j w. pos 0) (group-moved k c) shape layout (λ g t a. refl) (λ g a. refl) is_own 0 folds.places folds.groups,
-    nothing-worth k c (group_of (counter_at shape 0 0)) (lists_of folds.places),
-    systems-of_counter shape (lists_of folds.places) k 0 (item_count shape),
-  );
-  items = λ i i_in. omega (
+    nothing-worth k c (group_of (counter_at shape 0 0)) fold_lists,
+    systems-of_counter shape fold_lists k 0 (item_count shape),
+  )
+
+  -- what it adds for an item is what it takes for the item
+  systems-all : (i : ℕ) → sum_steps (moved_of_item shape i) fold_systems ≡ neg_ℤ (taken_of_item shape i 0 fold_lists)
+  systems-all i = ⊎_elim
+      (λ (within : i < item_count shape). systems-sum shape fold_lists i 0 (item_count shape) (omega arith) (omega arith))
+      (λ (past : item_count shape ≤ i). omega (
+        arith,
+        ints,
+        systems-below shape fold_lists i 0 (item_count shape) (inr (omega arith)),
+        taken-past shape layout i past 0 fold_lists,
+      ))
+      (cases_lt i (item_count shape))
+
+  pub fold-moves_of_item : (i : ℕ) → sum_steps (moved_of_item shape i) steps ≡ pos 0
+  fold-moves_of_item i = omega (
     arith,
     ints,
-    total-after (moved_of_item shape i) p steps h,
     ap (sum_steps (moved_of_item shape i)) folds.in_order,
-    sum-append (moved_of_item shape i) visits systems,
+    sum-append (moved_of_item shape i) fold_visits fold_systems,
     places-sum (moved_of_item shape i) c (entries_of shape i) (group-of_item shape i c) shape layout (λ g t a. refl) (λ g a. refl) is_own 0 folds.places folds.groups,
-    item-worth shape i c (group_of (counter_at shape 0 0)) (lists_of folds.places),
-    ap (λ j. taken_of_item shape i j (lists_of folds.places)) first_group,
-    systems-sum shape (lists_of folds.places) i 0 (item_count shape) (omega arith) (omega arith),
-  );
-}
-  where
-    visits : List Step
-    visits = in_turn (λ g found. place_steps shape (acknowledges shape is_own g) c g found) 0 folds.places
-
-    systems : List Step
-    systems = system_steps shape (lists_of folds.places) 0 (item_count shape)
-
-    first_group : group_of (counter_at shape 0 0) ≡ 0
-    first_group = omega arith
+    item-worth shape i c (group_of (counter_at shape 0 0)) fold_lists,
+    ap (λ j. taken_of_item shape i j fold_lists) first_group,
+    systems-all i,
+  )
+    where
+      first_group : group_of (counter_at shape 0 0) ≡ 0
+      first_group = omega arith

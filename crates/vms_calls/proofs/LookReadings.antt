@@ -12,6 +12,7 @@ use Rattle.vms_calls.specs.Looks.{Look, Verdict, Frees, look_steps, hidden, at_l
 use Rattle.vms_calls.specs.Looks.Look.{online, other}
 use Rattle.vms_calls.specs.LookReadings.{TellsPlaceValue, TellsSystemValue, TellsSnapshot, TellsTest, read_looks, read_further, verdict_of}
 use Rattle.vms_base.specs.Cpus.{is_online}
+use Rattle.vms_base.specs.Watermarks.{limit_of}
 
 pub place_value-told : TellsPlaceValue
 place_value-told k steps answer call rest = rw (call.in_order, call.answers) refl
@@ -64,6 +65,7 @@ further-told shape k limit false value further answer frees fast enough rest =
     ∙ ap (λ y. verdict y true) (sym enough) ∙ ap (λ f. verdict answer.yes f) (sym fast)
 
 pub test-told : TellsTest
-test-told shape g limit steps answer call rest =
-    rw call.in_order (further-told shape (free_pages shape g) limit (is_doubtful call.first call.value call.second) call.value
+test-told header g mark most steps answer call rest =
+    rw call.in_order (further-told header.layout (free_pages header.layout g) (limit_of header g.number mark most)
+    (is_doubtful call.first call.value call.second) call.value
     call.further answer call.frees call.fast call.yes rest)

@@ -1,5 +1,5 @@
--- The steps that a change of a counter makes.
-use Rattle.std.specs.Prelude.{◌≡◌, ◌≢◌, ℕ, ℤ, pos, List, [], ◌∷◌, ◌++◌, All}
+-- The steps that a change of a counter makes, and how often it misses.
+use Rattle.std.specs.Prelude.{◌≡◌, ◌≢◌, ℕ, suc, ℤ, pos, List, [], ◌∷◌, ◌++◌, All}
 use Rattle.vms_base.specs.declared.groups.Diffs.{Diffs}
 use Rattle.vms_base.specs.declared.ids.CounterId.{CounterId}
 use Rattle.vms_base.specs.declared.ids.CpuId.{CpuId}
@@ -45,3 +45,12 @@ HasWon _ = Unit {0}
 pub record IsChangeAlone (shape : Shape) (cpu : CpuId) (k : CounterId) (delta : ℤ) (how : Mode) (steps : List Step) : Type 0 where
   pub change : IsChange shape cpu k delta how steps
   pub alone : All HasWon steps
+
+-- how many exchanges of these steps lost
+abbrev pub misses_after : Step → ℕ → ℕ
+misses_after (Miss j w) n = suc n
+misses_after _ n = n
+
+abbrev pub misses : List Step → ℕ
+misses [] = 0
+misses (step ∷ rest) = misses_after step (misses rest)

@@ -1,8 +1,11 @@
 -- What the steps of a call tell of its answer: each function gives the answer, and the steps that follow the call's.
 use Rattle.std.specs.Prelude.{◌≡◌, ℕ, suc, zero, nat_lt, Bool, true, false, ℤ, pos, ◌+ℤ◌, List, [], ◌∷◌, ◌++◌, if◌then◌else◌}
+use Rattle.vms_base.specs.declared.headers.Header.{Header}
 use Rattle.vms_base.specs.declared.ids.CounterId.{CounterId}
 use Rattle.vms_base.specs.declared.ids.ItemId.{ItemId}
 use Rattle.vms_base.specs.declared.ids.PlaceId.{PlaceId}
+use Rattle.vms_base.specs.declared.kinds.WaterMark.{WaterMark}
+use Rattle.vms_base.specs.Watermarks.{limit_of}
 use Rattle.vms_base.specs.Cpus.{is_online}
 use Rattle.vms_base.specs.Places.{Shape}
 use Rattle.vms_core.specs.declared.states.MarkRead.{MarkRead}
@@ -58,10 +61,11 @@ abbrev pub read_further : Shape → CounterId → ℕ → Bool → ℤ → List 
 read_further shape k limit true value rest = verdict_of limit false (read_snapshot shape k rest)
 read_further shape k limit false value rest = verdict_of limit true (at_least_zero value, rest)
 
-abbrev pub read_test : Shape → PlaceId → ℕ → List Step → Verdict × List Step
-read_test shape g limit (first ∷ load ∷ second ∷ rest) = read_further shape (free_pages shape g) limit
+abbrev pub read_test : Header → PlaceId → WaterMark → ℕ → List Step → Verdict × List Step
+read_test header g mark most (first ∷ load ∷ second ∷ rest) =
+    read_further header.layout (free_pages header.layout g) (limit_of header g.number mark most)
     (is_doubtful (mark_told first) (value_told load) (mark_told second)) (value_told load) rest
-read_test shape g limit _ = (record { yes = false; free = 0; fast = false }, [])
+read_test header g mark most _ = (record { yes = false; free = 0; fast = false }, [])
 
 -- the steps of a call tell its answer, whatever follows them
 abbrev pub TellsPlaceValue : Type 0
@@ -77,6 +81,6 @@ TellsSnapshot = (shape : Shape) (k : CounterId) (steps : List Step) (answer : �
     → (rest : List Step) → read_snapshot shape k (steps ++ rest) ≡ (answer, rest)
 
 abbrev pub TellsTest : Type 0
-TellsTest = (shape : Shape) (g : PlaceId) (limit : ℕ) (steps : List Step) (answer : Verdict)
-    → IsWatermarkTest shape g limit steps answer
-    → (rest : List Step) → read_test shape g limit (steps ++ rest) ≡ (answer, rest)
+TellsTest = (header : Header) (g : PlaceId) (mark : WaterMark) (most : ℕ) (steps : List Step) (answer : Verdict)
+    → IsWatermarkTest header g mark most steps answer
+    → (rest : List Step) → read_test header g mark most (steps ++ rest) ≡ (answer, rest)
