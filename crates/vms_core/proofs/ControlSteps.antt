@@ -1,9 +1,10 @@
--- What the control pass may set stays so while others act, and a dead CPU that it emptied may become absent.
-use Rattle.std.proofs.Common.{◌≡◌, ℕ, ◌+◌, ◌*◌, ◌%◌, pos, get_or, sym, ap, ◌∙◌, arith}
+-- For other crates too: what the control pass may set stays so while others act, and a dead CPU that it emptied may
+-- become absent.
+use Rattle.std.proofs.Common.{◌≡◌, ℕ, ◌+◌, ◌*◌, ◌%◌, pos, sym, ap, ◌∙◌, arith}
 use Rattle.std.proofs.lemmas.List.{get_or-replicate}
 use Rattle.vms_base.specs.declared.ids.CpuId.{CpuId}
 use Rattle.vms_base.specs.declared.ids.PlaceId.{PlaceId}
-use Rattle.vms_base.specs.declared.kinds.CpuState.TheVariants.{Dead, Absent}
+use Rattle.vms_base.specs.declared.kinds.CpuState.TheVariants.{Dead}
 use Rattle.vms_base.specs.Places.{IsCpu, group_of}
 use Rattle.vms_base.proofs.Counts.{group_of-lt}
 use Rattle.vms_history.specs.Events.{own}
@@ -28,12 +29,12 @@ SetsThreshold-goes_on facts later earlier p c g t goes sets =
       control = owner_in-goes_on facts later earlier p goes ∙ sets.control;
       cpu = sets.cpu;
       place = sets.place;
-      online = ap (λ xs. get_or xs c.number Absent) knows.cpus ∙ sets.online;
+      online = knows.cpus c.number ∙ sets.online;
       least = sets.least;
       most = sets.most;
       covers = λ zone.
           rw (
-            ap (λ xs. get_or xs g.number 0) knows.marks,
+            knows.marks g.number,
             knows.next_peak_sums
                 (record { caller = p; step = SetT c g t }) g.number,
           )

@@ -1,12 +1,13 @@
 -- A global value is off by no more than the differentials and what is carried.
-use Rattle.std.proofs.Common.{ℕ, suc, ◌≤◌, pos, unsigned_abs, arith, if◌then◌else◌, nat_eq}
+use Rattle.std.proofs.Common.{ℕ, zero, suc, ◌≤◌, ℤ, pos, negsuc, ◌+ℤ◌, ◌≤ℤ◌, unsigned_abs, arith, if◌then◌else◌, nat_eq}
 use Rattle.std.proofs.lemmas.Int.{ints}
 use Rattle.vms_base.specs.Places.{IsCounter, item_of, counter_count}
 use Rattle.vms_history.specs.Events.{own}
 use Rattle.vms_history.specs.Passes.{begun_in}
+use Rattle.vms_history.specs.Sums.{count_below, sum_below}
 use Rattle.vms_core.specs.declared.steps.Facts.{Facts}
 use Rattle.vms_core.specs.Cells.{diff_at}
-use Rattle.vms_core.specs.Drift.{BoundsDrift, BoundsSystemDrift, last_thresholds, last_thresholds_of_item, carried_sizes, carried_of_item_sizes}
+use Rattle.vms_core.specs.Drift.{BoundsDrift, BoundsSystemDrift, BoundsExcess, size_below_zero, last_thresholds, last_thresholds_of_item, carried_sizes, carried_of_item_sizes}
 use Rattle.vms_core.specs.Own.{carried, carried_of_item}
 use Rattle.vms_core.specs.Pages.{History, IsLegal, state_after, carried_by_all, carried_of_item_by_all}
 use Rattle.vms_core.specs.Steps.{turn}
@@ -15,6 +16,15 @@ use Rattle.vms_core.proofs.Bounds.{within-if, diff_at-bounded}
 use Rattle.vms_history.proofs.CountLemmas.{sum_below-sizes}
 use Rattle.vms_core.proofs.Items.{system_totals-kept}
 use Rattle.vms_core.proofs.Sums.{totals-kept}
+
+-- integers add up to at least minus the sizes of those below 0
+negative_least : (f : ℕ → ℤ) (n : ℕ) → pos 0 ≤ℤ (sum_below f n +ℤ pos (count_below (λ i. size_below_zero (f i)) n))
+negative_least f zero = omega (arith, ints)
+negative_least f (suc n) = omega (arith, ints, one (f n), negative_least f n)
+  where
+    one : (z : ℤ) → pos 0 ≤ℤ (z +ℤ pos (size_below_zero z))
+    one (pos m) = omega (arith, ints)
+    one (negsuc m) = omega (arith, ints)
 
 module _ (facts : Facts) (h : History) (legal : IsLegal facts h) where
   differentials-bounded : (k : ℕ) → IsCounter facts.layout k
@@ -48,3 +58,9 @@ module _ (facts : Facts) (h : History) (legal : IsLegal facts h) where
       (λ p. unsigned_abs (carried_of_item shape i (own h p))) (suc (begun_in turn h))
       (λ p below. omega arith) in
       omega (arith, ints, system_totals-kept facts h legal i i_in, differentials_of_item-bounded i, carried_within)
+
+  -- what the callers carry together is at least minus the sizes of the negative amounts
+  pub excess-bounded : BoundsExcess facts h
+  excess-bounded k k_in =
+      let least = negative_least (λ p. carried k (own h p)) (suc (begun_in turn h)) in
+      omega (arith, ints, totals-kept facts h legal k k_in, least)

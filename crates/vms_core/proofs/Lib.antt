@@ -12,10 +12,12 @@ pub mod WorkerSteps
 pub mod WithChange
 pub mod Below
 pub mod Settings
+pub mod NumberChanges
 pub mod PeakSteps
 pub mod Owners
 pub mod PeakBounds
 pub mod MarkCovers
+pub mod MarkNumbers
 pub mod HiddenPages
 pub mod SettingRanges
 pub mod LevelStates
@@ -30,8 +32,13 @@ pub mod ItemSums
 pub mod Magnitudes
 pub mod LiveOwners
 pub mod Watching
+pub mod FreeCpus
 pub mod Exchanges
 pub mod OfflineGroups
 pub mod ControlSteps
 pub mod OwnSteps
+pub mod Spending
+pub mod CarriedNothing
+pub mod SettledEnds
 pub mod GroupLists
+pub mod KeptLaws

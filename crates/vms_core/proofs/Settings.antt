@@ -1,5 +1,5 @@
--- What a step that meets its condition makes of thresholds, numbers of sets, marks, CPU states and acknowledgements,
--- and what stands of them after a legal history.
+-- For other crates too: what a step that meets its condition makes of thresholds, numbers of sets, marks, CPU states
+-- and acknowledgements, and what stands of them after a legal history.
 use Rattle.std.proofs.Common.{◌≡◌, ℕ, suc, ◌+◌, ◌*◌, ◌/◌, ◌&&◌, [], ◌∷◌, List, length, get_or, Option, Some, None, refl, ap, ◌∙◌, add-one, length-set, if◌then◌else◌, nat_eq}
 use Rattle.std.proofs.Math.ListN.{set}
 use Rattle.vms_base.specs.declared.ids.CpuId.{CpuId}
@@ -9,14 +9,14 @@ use Rattle.vms_base.specs.Places.{IsLayout, IsCpu, IsPlace, IsZone, cell, place_
 use Rattle.vms_history.specs.declared.events.Event.{Event}
 use Rattle.vms_history.specs.Passes.{owner_in}
 use Rattle.vms_history.proofs.Prefixes.{base_can_begin}
-use Rattle.vms_history.proofs.Cells.{get_or-set, get_or-set_cell, get_or-changed_cell}
+use Rattle.vms_history.proofs.Cells.{get_or-set, get_or-changed, get_or-set_cell, get_or-changed_cell}
 use Rattle.vms_core.specs.declared.states.State.{State}
 use Rattle.vms_core.specs.declared.steps.Facts.{Facts}
 use Rattle.vms_core.specs.declared.steps.Step.{Step}
 use Rattle.vms_core.specs.declared.steps.Step.TheVariants.{SetT, SetM, SetO, SetA}
-use Rattle.vms_core.specs.Cells.{HasShape, places_of, zones_of, threshold_at, threshold_sets_at, mark_at, cpu_at, acknowledged_at}
+use Rattle.vms_core.specs.Cells.{HasShape, places_of, zones_of, threshold_at, threshold_sets_at, mark_at, mark_sets_at, cpu_at, acknowledged_at, with_mark}
 use Rattle.vms_core.specs.Conditions.{Meets}
-pub use Rattle.vms_core.specs.Effects.{mark_after, acknowledged_after}
+pub use Rattle.vms_core.specs.Effects.{mark_after, mark_sets_after, acknowledged_after}
 use Rattle.vms_core.specs.Pages.{pages, History, IsLegal, state_after}
 use Rattle.vms_core.specs.Peaks.{sets_after, threshold_after, cpu_after}
 use Rattle.vms_core.specs.PeakLaws.{TellsThresholds, TellsNumbers, TellsCpus}
@@ -112,6 +112,19 @@ module _ (facts : Facts) (h : List (Event Step)) (s : State) (p : ℕ) (layout :
   mark_at-effect None _ g meets = refl
   mark_at-effect (Some o) _ g meets = refl
 
+  mark_sets_at-set : (f m g : ℕ) → IsZone facts.layout f
+      → mark_sets_at (with_mark s f m) g ≡ (if nat_eq f g then suc (mark_sets_at s g) else mark_sets_at s g)
+  mark_sets_at-set f m g f_in =
+      get_or-changed (λ n. n + 1) s.mark_sets f g 0 (rw shaped.mark_sets f_in)
+      ∙ ap (λ n. if nat_eq f g then n else mark_sets_at s g) (add-one (mark_sets_at s g))
+
+  pub mark_sets_at-effect : (who : Option CpuId) (step : Step) (g : ℕ) → Meets facts h s p step
+      → mark_sets_at (effect facts who step s) g ≡ mark_sets_after g step (mark_sets_at s g)
+  mark_sets_at-effect None (SetM f m) g meets = mark_sets_at-set f.number m g meets.zone
+  mark_sets_at-effect (Some o) (SetM f m) g meets = mark_sets_at-set f.number m g meets.zone
+  mark_sets_at-effect None _ g meets = refl
+  mark_sets_at-effect (Some o) _ g meets = refl
+
   pub acknowledged_at-effect : (who : Option CpuId) (step : Step) (c g : ℕ) → owner_in turn h p ≡ who
       → Meets facts h s p step → IsZone facts.layout g
       → acknowledged_at (effect facts who step s) c g ≡ acknowledged_after who c g step (acknowledged_at s c g)
@@ -135,14 +148,14 @@ module _ (facts : Facts) (e : Event Step) (h : History) (legal : IsLegal facts (
   shaped : HasShape facts.layout (state_after facts h)
   shaped = HasShape-state_after facts h legal.0
 
-  threshold_at-newest : (c g : ℕ) → IsPlace facts.layout g
+  pub threshold_at-newest : (c g : ℕ) → IsPlace facts.layout g
       → threshold_at (state_after facts (e ∷ h)) c g
       ≡ threshold_after c g e.step (threshold_at (state_after facts h) c g)
   threshold_at-newest c g g_in =
       threshold_at-effect facts h (state_after facts h) e.caller layout shaped (owner_in turn h e.caller) e.step c g
       legal.2 g_in
 
-  sets-newest : (c g : ℕ) → IsPlace facts.layout g
+  pub sets-newest : (c g : ℕ) → IsPlace facts.layout g
       → threshold_sets_at (state_after facts (e ∷ h)) c g
       ≡ sets_after c g e.step (threshold_sets_at (state_after facts h) c g)
   sets-newest c g g_in =
@@ -158,6 +171,12 @@ module _ (facts : Facts) (e : Event Step) (h : History) (legal : IsLegal facts (
       → mark_at (state_after facts (e ∷ h)) g ≡ mark_after g e.step (mark_at (state_after facts h) g)
   mark_at-newest g =
       mark_at-effect facts h (state_after facts h) e.caller layout shaped (owner_in turn h e.caller) e.step g legal.2
+
+  pub mark_sets_at-newest : (g : ℕ)
+      → mark_sets_at (state_after facts (e ∷ h)) g ≡ mark_sets_after g e.step (mark_sets_at (state_after facts h) g)
+  mark_sets_at-newest g =
+      mark_sets_at-effect facts h (state_after facts h) e.caller layout shaped (owner_in turn h e.caller) e.step g
+      legal.2
 
   pub acknowledged_at-newest : (c g : ℕ) → IsZone facts.layout g → acknowledged_at (state_after facts (e ∷ h)) c g
       ≡ acknowledged_after (owner_in turn h e.caller) c g e.step (acknowledged_at (state_after facts h) c g)

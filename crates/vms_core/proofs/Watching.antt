@@ -1,4 +1,4 @@
--- What a pass that made no step since knows of a history that went on.
+-- For other crates too: what a pass that made no step since knows of a history that went on.
 use Rattle.std.proofs.Common.{◌≡◌, ◌≢◌, ℕ, ◌≤◌, ◌&&◌, true, [], ◌∷◌, ◌++◌, Option, Some, None, refl, sym, ap, ◌∙◌, subst, arith, nat_eq, eqb-true, unsigned_abs}
 use Rattle.std.proofs.lemmas.Bool.{and_parts}
 use Rattle.vms_base.specs.declared.ids.CpuId.{CpuId}
@@ -81,7 +81,7 @@ next_peak_sum-same facts later earlier sets_same newest_same states_same peaks_s
     (λ c. if_present (cpu_in facts c (e ∷ earlier)) (peak facts c g (e ∷ earlier))) facts.layout.cpus
     (λ c c_in. rw (sets_same c g, newest_same c g, states_same c, peaks_same c g) refl)
 
-event-leaves : (facts : Facts) (e : Event Step) (g : History) → IsLegal facts (e ∷ g)
+pub event-leaves : (facts : Facts) (e : Event Step) (g : History) → IsLegal facts (e ∷ g)
     → (e.caller ≢ 0 → owner_in turn g e.caller ≡ None → ⊥) → ControlKnows facts (e ∷ g) g
 event-leaves facts e g legal elsewhere =
     let s = state_after facts g in
@@ -96,11 +96,11 @@ event-leaves facts e g legal elsewhere =
     let states : (c : ℕ) → cpu_in facts c (e ∷ g) ≡ cpu_in facts c g = λ c.
     cpu_after-others facts g s e.caller elsewhere c e.step (cpu_in facts c g) legal.1 legal.2 in
     record {
-      thresholds = leaves.thresholds;
-      threshold_sets = leaves.threshold_sets;
-      marks = leaves.marks;
-      mark_sets = leaves.mark_sets;
-      cpus = leaves.cpus;
+      thresholds = λ c z. rw (leaves.thresholds, leaves.cpus) refl;
+      threshold_sets = λ c z. rw (leaves.thresholds, leaves.threshold_sets, leaves.cpus) refl;
+      marks = λ z. rw leaves.marks refl;
+      mark_sets = λ z. rw leaves.mark_sets refl;
+      cpus = λ c. rw leaves.cpus refl;
       sets = numbers;
       newest = newest;
       states = states;
@@ -113,8 +113,40 @@ event-leaves facts e g legal elsewhere =
       next_peak_sums = next_peak_sum-same facts (e ∷ g) g numbers newest states peaks;
     }
 
+-- nothing changed in no time, and what stood twice stood all the time
+pub knows-none : (facts : Facts) (h : History) → ControlKnows facts h h
+knows-none facts h = record {
+  thresholds = λ c g. refl;
+  threshold_sets = λ c g. refl;
+  marks = λ g. refl;
+  mark_sets = λ g. refl;
+  cpus = λ c. refl;
+  sets = λ c g. refl;
+  newest = λ c g. refl;
+  states = λ c. refl;
+  peaks = λ c g. refl;
+  peak_sums = λ g. refl;
+  next_peak_sums = λ next g. refl;
+}
+
+pub knows-both : (facts : Facts) (last later earlier : History) → ControlKnows facts last later
+    → ControlKnows facts later earlier → ControlKnows facts last earlier
+knows-both facts last later earlier second first = record {
+  thresholds = λ c g. second.thresholds c g ∙ first.thresholds c g;
+  threshold_sets = λ c g. second.threshold_sets c g ∙ first.threshold_sets c g;
+  marks = λ g. second.marks g ∙ first.marks g;
+  mark_sets = λ g. second.mark_sets g ∙ first.mark_sets g;
+  cpus = λ c. second.cpus c ∙ first.cpus c;
+  sets = λ c g. second.sets c g ∙ first.sets c g;
+  newest = λ c g. second.newest c g ∙ first.newest c g;
+  states = λ c. second.states c ∙ first.states c;
+  peaks = λ c g. second.peaks c g ∙ first.peaks c g;
+  peak_sums = λ g. second.peak_sums g ∙ first.peak_sums g;
+  next_peak_sums = λ next g. second.next_peak_sums next g ∙ first.next_peak_sums next g;
+}
+
 -- a step of another than the owner of a CPU spends nothing of it
-spent_by-others : (who : Option CpuId) (c : CpuId) (k : ℕ) (step : Step) → who ≢ Some c
+pub spent_by-others : (who : Option CpuId) (c : CpuId) (k : ℕ) (step : Step) → who ≢ Some c
     → spent_by who c.number k step ≡ 0
 spent_by-others (Some d) c k (Put l w t delta how) other =
     if-never (nat_eq d.number c.number && nat_eq l.number k) (unsigned_abs delta) 0 (λ here.
@@ -155,19 +187,7 @@ module _ (facts : Facts) (later earlier : History) (p : ℕ) (goes : GoesOnWitho
   pub control-knows_later : owner_in turn earlier p ≡ None → ControlKnows facts later earlier
   control-knows_later control =
       holds_later (λ g. ControlKnows facts g earlier) knows
-      (record {
-        thresholds = refl;
-        threshold_sets = refl;
-        marks = refl;
-        mark_sets = refl;
-        cpus = refl;
-        sets = λ c g. refl;
-        newest = λ c g. refl;
-        states = λ c. refl;
-        peaks = λ c g. refl;
-        peak_sums = λ g. refl;
-        next_peak_sums = λ next g. refl;
-      })
+      (knows-none facts earlier)
     where
       knows : (e : Event Step) (m : History) → IsLegal facts (e ∷ (m ++ earlier))
           → lives_in turn (m ++ earlier) p ≡ true
@@ -176,19 +196,7 @@ module _ (facts : Facts) (later earlier : History) (p : ℕ) (goes : GoesOnWitho
       knows e m legal lives same others before =
           let leaves = event-leaves facts e (m ++ earlier) legal (λ other none.
           others (owner_acts_alone pages facts e (m ++ earlier) p legal other lives (none ∙ sym (same ∙ control)))) in
-          record {
-            thresholds = leaves.thresholds ∙ before.thresholds;
-            threshold_sets = leaves.threshold_sets ∙ before.threshold_sets;
-            marks = leaves.marks ∙ before.marks;
-            mark_sets = leaves.mark_sets ∙ before.mark_sets;
-            cpus = leaves.cpus ∙ before.cpus;
-            sets = λ c g. leaves.sets c g ∙ before.sets c g;
-            newest = λ c g. leaves.newest c g ∙ before.newest c g;
-            states = λ c. leaves.states c ∙ before.states c;
-            peaks = λ c g. leaves.peaks c g ∙ before.peaks c g;
-            peak_sums = λ g. leaves.peak_sums g ∙ before.peak_sums g;
-            next_peak_sums = λ next g. leaves.next_peak_sums next g ∙ before.next_peak_sums next g;
-          }
+          knows-both facts (e ∷ (m ++ earlier)) (m ++ earlier) earlier leaves before
 
 -- a pass that owns a CPU knows what the CPU spent
 pub owner-knows : (facts : Facts) (later earlier : History) (p : ℕ) (c : CpuId) → GoesOnWithout facts later earlier p

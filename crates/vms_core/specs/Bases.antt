@@ -1,5 +1,5 @@
 -- The states that a history may begin with.
-use Rattle.std.specs.Prelude.{◌≡◌, ℕ, ◌^◌, ◌<◌, ◌≤◌, pos, [], length, All, None, unsigned_abs}
+use Rattle.std.specs.Prelude.{◌≡◌, ℕ, ◌^◌, ◌<◌, ◌≤◌, pos, [], length, map, All, None, unsigned_abs}
 use Rattle.vms_base.specs.declared.kinds.CpuState.TheVariants.{Online, Absent}
 use Rattle.vms_base.specs.Cpus.{HasOnline}
 use Rattle.vms_base.specs.Places.{Shape, IsLayout, IsCpu, IsPlace, IsZone, IsCounter, IsItem}
@@ -26,6 +26,18 @@ pub record IsOpening (shape : Shape) (s : State) : Type 0 where
   pub unacknowledged : (c g : ℕ) → IsCpu shape c → IsZone shape g → acknowledged_at s c g ≡ None
   pub unset_thresholds : (c g : ℕ) → IsCpu shape c → IsPlace shape g → threshold_sets_at s c g ≡ 0
   pub unset_marks : (g : ℕ) → IsZone shape g → mark_sets_at s g ≡ 0
+
+-- a state as the next phase begins with it: nothing acknowledged, and nothing set
+abbrev pub settled : State → State
+settled s = record s {
+  acknowledged = map (λ _. None) s.acknowledged;
+  threshold_sets = map (λ _. 0) s.threshold_sets;
+  mark_sets = map (λ _. 0) s.mark_sets;
+}
+
+-- the same layout and sizes, with a settled state as the base
+abbrev pub next_facts : Facts → State → Facts
+next_facts facts s = record facts { base = settled s }
 
 -- facts that a history may begin with: the sizes fit the layout, the state may open a phase, and every mark covers what
 -- the CPUs may hide

@@ -1,5 +1,5 @@
 -- How far a global value is from the truth.
-use Rattle.std.specs.Prelude.{ℕ, suc, ◌+◌, ◌≤◌, nat_eq, ◌-ℤ◌, if◌then◌else◌, unsigned_abs}
+use Rattle.std.specs.Prelude.{ℕ, suc, ◌+◌, ◌≤◌, nat_eq, ℤ, pos, negsuc, ◌+ℤ◌, ◌-ℤ◌, ◌≤ℤ◌, if◌then◌else◌, unsigned_abs}
 use Rattle.vms_base.specs.Places.{Shape, IsCounter, IsItem, item_of, counter_count}
 use Rattle.vms_history.specs.Events.{own}
 use Rattle.vms_history.specs.Passes.{begun_in}
@@ -9,7 +9,7 @@ use Rattle.vms_core.specs.Own.{carried, carried_of_item}
 use Rattle.vms_core.specs.Pages.{History, state_after}
 use Rattle.vms_history.specs.Sums.{count_below}
 use Rattle.vms_core.specs.Steps.{turn}
-use Rattle.vms_core.specs.Totals.{last_threshold, true_total, true_total_of_item}
+use Rattle.vms_core.specs.Totals.{last_threshold, differentials, true_total, true_total_of_item}
 
 -- the thresholds that the CPUs used last on counter k together
 abbrev pub last_thresholds : Facts → History → ℕ → ℕ
@@ -28,6 +28,21 @@ carried_sizes h k = count_below (λ p. unsigned_abs (carried k (own h p))) (suc 
 abbrev pub carried_of_item_sizes : Shape → History → ℕ → ℕ
 carried_of_item_sizes shape h i =
     count_below (λ p. unsigned_abs (carried_of_item shape i (own h p))) (suc (begun_in turn h))
+
+-- the size of a number that is below 0, and 0 of any other
+abbrev pub size_below_zero : ℤ → ℕ
+size_below_zero (pos n) = 0
+size_below_zero (negsuc n) = suc n
+
+-- the sizes of the negative amounts that the callers carry for counter k together
+abbrev pub negative_carried : History → ℕ → ℕ
+negative_carried h k = count_below (λ p. size_below_zero (carried k (own h p))) (suc (begun_in turn h))
+
+-- the global value of a counter and its differentials exceed the true total by at most these amounts
+abbrev pub BoundsExcess : Facts → History → Type 0
+BoundsExcess facts h = (k : ℕ) → IsCounter facts.layout k →
+    (value_at (state_after facts h) k +ℤ differentials facts.layout (state_after facts h) k)
+    ≤ℤ (true_total facts h k +ℤ pos (negative_carried h k))
 
 -- the global value of a counter is off by no more than the thresholds that were used last and what is carried for it
 abbrev pub BoundsDrift : Facts → History → Type 0

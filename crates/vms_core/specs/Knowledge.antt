@@ -4,16 +4,16 @@ use Rattle.vms_base.specs.declared.groups.Diffs.{Diffs}
 use Rattle.vms_base.specs.declared.ids.CounterId.{CounterId}
 use Rattle.vms_base.specs.declared.ids.CpuId.{CpuId}
 use Rattle.vms_base.specs.declared.kinds.CpuState.TheVariants.{Online}
-use Rattle.vms_base.specs.Places.{IsCpu, IsCounter, IsGroup, place_of, group_of}
+use Rattle.vms_base.specs.Places.{IsCpu, IsZone, IsCounter, IsGroup, place_of, group_of}
 use Rattle.vms_history.specs.declared.events.Event.{Event}
-use Rattle.vms_history.specs.Events.{own}
+use Rattle.vms_history.specs.Events.{Extends, own}
 use Rattle.vms_history.specs.Making as making
 use Rattle.vms_history.specs.Passes.{owner_in}
 use Rattle.vms_core.specs.declared.states.State.{State}
 use Rattle.vms_core.specs.declared.steps.Facts.{Facts}
 use Rattle.vms_core.specs.declared.steps.Step.{Step}
 use Rattle.vms_core.specs.declared.steps.Step.TheVariants.{LoadD, Put, Miss, Take}
-use Rattle.vms_core.specs.Cells.{TellsGroup, cpu_at, eight_zeros}
+use Rattle.vms_core.specs.Cells.{TellsGroup, threshold_at, threshold_sets_at, mark_at, mark_sets_at, cpu_at, acknowledged_at, eight_zeros}
 use Rattle.vms_base.specs.Volumes.{most_volume}
 use Rattle.vms_core.specs.Own.{found, loaded, CarriesNothing}
 use Rattle.vms_core.specs.Pages.{pages, History, IsLegal, state_after}
@@ -67,11 +67,12 @@ pub record OwnerKnows (later earlier : History) (p : ℕ) (c : CpuId) : Type 0 w
 -- what the control pass knows from an earlier history: thresholds, marks, the CPUs' states and the peaks are as they
 -- were
 pub record ControlKnows (facts : Facts) (later earlier : History) : Type 0 where
-  pub thresholds : (state_after facts later).threshold ≡ (state_after facts earlier).threshold
-  pub threshold_sets : (state_after facts later).threshold_sets ≡ (state_after facts earlier).threshold_sets
-  pub marks : (state_after facts later).mark ≡ (state_after facts earlier).mark
-  pub mark_sets : (state_after facts later).mark_sets ≡ (state_after facts earlier).mark_sets
-  pub cpus : (state_after facts later).cpu ≡ (state_after facts earlier).cpu
+  pub thresholds : (c g : ℕ) → threshold_at (state_after facts later) c g ≡ threshold_at (state_after facts earlier) c g
+  pub threshold_sets : (c g : ℕ) →
+      threshold_sets_at (state_after facts later) c g ≡ threshold_sets_at (state_after facts earlier) c g
+  pub marks : (g : ℕ) → mark_at (state_after facts later) g ≡ mark_at (state_after facts earlier) g
+  pub mark_sets : (g : ℕ) → mark_sets_at (state_after facts later) g ≡ mark_sets_at (state_after facts earlier) g
+  pub cpus : (c : ℕ) → cpu_at (state_after facts later) c ≡ cpu_at (state_after facts earlier) c
   pub sets : (c g : ℕ) → sets c g later ≡ sets c g earlier
   pub newest : (c g : ℕ) → threshold_in facts c g later ≡ threshold_in facts c g earlier
   pub states : (c : ℕ) → cpu_in facts c later ≡ cpu_in facts c earlier
@@ -79,6 +80,18 @@ pub record ControlKnows (facts : Facts) (later earlier : History) : Type 0 where
   pub peak_sums : (g : ℕ) → peak_sum facts g later ≡ peak_sum facts g earlier
   -- and after a further event they come to the same
   pub next_peak_sums : (e : Event Step) (g : ℕ) → peak_sum facts g (e ∷ later) ≡ peak_sum facts g (e ∷ earlier)
+
+-- the history went on from an earlier one, and the main pass made no event since
+pub record GoesOnWithoutMain (facts : Facts) (later earlier : History) : Type 0 where
+  pub legal : IsLegal facts later
+  pub extends : Extends later earlier
+  pub own_same : own later 0 ≡ own earlier 0
+
+-- what stands of a CPU while no pass owns it: what it spent and what it acknowledged
+pub record StandsFree (facts : Facts) (later earlier : History) (c : ℕ) : Type 0 where
+  pub volumes : (k : ℕ) → spent later c k ≡ spent earlier c k
+  pub acknowledged : (g : ℕ) → IsZone facts.layout g →
+      acknowledged_at (state_after facts later) c g ≡ acknowledged_at (state_after facts earlier) c g
 
 -- the live owner of a CPU found this list, loaded this threshold, carries nothing and may spend this much
 pub record MayExchange (facts : Facts) (h : History) (p : ℕ) (cpu : CpuId) (k : CounterId) (w : Diffs) (t : ℕ)

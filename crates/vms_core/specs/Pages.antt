@@ -42,6 +42,10 @@ History = List (Event Step)
 abbrev pub IsLegal : Facts → History → Type 0
 IsLegal facts h = legal.IsLegal pages facts h
 
+-- a legal history in which every pass has ended
+abbrev pub IsComplete : Facts → History → Type 0
+IsComplete facts h = legal.IsComplete pages facts h
+
 abbrev pub state_after : Facts → History → State
 state_after facts h = legal.state_after pages facts h
 

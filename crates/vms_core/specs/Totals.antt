@@ -23,6 +23,11 @@ abbrev pub change_of_item : Shape → ℕ → Step → ℤ
 change_of_item shape i (Put l w t delta how) = if nat_eq (item_of shape l.number) i then delta else pos 0
 change_of_item shape i _ = pos 0
 
+-- the global values of all counters of item i
+abbrev pub values_of_item : Shape → State → ℕ → ℤ
+values_of_item shape s i =
+    sum_below (λ k. if nat_eq (item_of shape k) i then value_at s k else pos 0) (counter_count shape)
+
 -- the differentials of all CPUs for counter k
 abbrev pub differentials : Shape → State → ℕ → ℤ
 differentials shape s k = sum_below (λ c. diff_at s c k) shape.cpus
@@ -50,6 +55,11 @@ spent_by _ c k _ = 0
 abbrev pub spent : List (Event Step) → ℕ → ℕ → ℕ
 spent [] c k = 0
 spent (e ∷ h) c k = spent_by (owner_in turn h e.caller) c k e.step + spent h c k
+
+-- the size of what a step changes counter k by
+abbrev pub change_size : ℕ → Step → ℤ
+change_size k (Put l w t delta how) = if nat_eq l.number k then pos (unsigned_abs delta) else pos 0
+change_size k _ = pos 0
 
 -- the threshold that bounds the differential of CPU c for counter k: that of the last put on it, 0 after a later take
 -- of its group, and before both the size of the differential in the base

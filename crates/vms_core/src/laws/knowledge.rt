@@ -9,34 +9,14 @@ ghost use Rattle.vms_base.specs.declared.ids.PlaceId.{PlaceId};
 ghost use Rattle.vms_base.specs.declared.kinds.CpuState.TheVariants.{Dead};
 ghost use Rattle.vms_base.specs.Places.{IsCpu, group_of};
 ghost use Rattle.vms_history.specs.Events.{own};
-ghost use Rattle.vms_history.specs.Passes.{owner_in};
+ghost use Rattle.vms_history.specs.Passes.{owner_in, IsFree};
 ghost use Rattle.vms_core.specs.declared.steps.Facts.{Facts};
 ghost use Rattle.vms_core.specs.declared.steps.Step.TheVariants.{Put, Miss};
 ghost use Rattle.vms_core.specs.Cells.{TellsGroup, cpu_at, eight_zeros};
-ghost use Rattle.vms_core.specs.Knowledge.{NameEight, GroupsAreLists, OwnsOnline, KnowsFound, GoesOnWithout, OwnerKnows, ControlKnows, MayExchange, HasTakenAll};
+ghost use Rattle.vms_core.specs.Knowledge.{GoesOnWithout, GoesOnWithoutMain, OwnerKnows, ControlKnows, StandsFree, MayExchange, HasTakenAll};
 ghost use Rattle.vms_core.specs.Conditions.{Owns, AddsToPlace, AddsToSystem, Acknowledges, IsControl, SetsThreshold, SetsMark, SetsAbsent};
 ghost use Rattle.vms_core.specs.Pages.{History, IsLegal, state_after};
 ghost use Rattle.vms_core.specs.Steps.{turn};
-
-/// The CPU that a pass owns is one of the layout and online.
-pub fn owned_cpus_are_online()
-    ensures { (facts : Facts) (h : History) → IsLegal facts h → OwnsOnline facts h }
-{}
-
-/// Every list of differentials that a step of a legal history names has eight entries.
-pub fn lists_have_eight()
-    ensures { (facts : Facts) (h : History) → IsLegal facts h → NameEight h }
-{}
-
-/// In every state of a legal history the differentials of a group stand as a list of eight, each of which is a byte.
-pub fn groups_are_lists()
-    ensures { (facts : Facts) (h : History) → IsLegal facts h → GroupsAreLists facts h }
-{}
-
-/// The list that the live owner of a CPU found last of a group stands, or all eight are 0.
-pub fn found_lists_stand()
-    ensures { (facts : Facts) (h : History) → IsLegal facts h → KnowsFound facts h }
-{}
 
 /// A pass that lives knows of what went on without it: the owner of a CPU, that it owns the CPU still and that the CPU
 /// spent no more; the control pass, that thresholds, marks, the CPUs' states and the peaks are as they were.
@@ -45,6 +25,15 @@ pub fn passes_know_what_they_own()
         GoesOnWithout facts later earlier p → owner_in turn earlier p ≡ Some c → OwnerKnows later earlier p c }
     ensures control { (facts : Facts) (later earlier : History) (p : ℕ) →
         GoesOnWithout facts later earlier p → owner_in turn earlier p ≡ None → ControlKnows facts later earlier }
+{}
+
+/// What the main pass knows while it makes no event. Of a CPU that no pass owns, that it spent and acknowledged no more;
+/// where no control pass lives, that thresholds, marks, the CPUs' states and the peaks are as they were.
+pub fn main_pass_knows_what_is_free()
+    ensures cpu { (facts : Facts) (later earlier : History) → GoesOnWithoutMain facts later earlier →
+        (c : CpuId) → IsFree turn earlier (Some c) → StandsFree facts later earlier c.number }
+    ensures control { (facts : Facts) (later earlier : History) → GoesOnWithoutMain facts later earlier →
+        IsFree turn earlier None → ControlKnows facts later earlier }
 {}
 
 /// An exchange by the live owner of what it found wins where the group still holds that list, and otherwise misses. One
