@@ -104,7 +104,7 @@ module _ (facts : Facts) (p : ℕ) where
             };
         marks = λ control g.
             let knows = control-knows_later facts later h p goes (agrees.owner ∙ control) in
-            sym (mark_at-told facts later goes.legal g) ∙ ap (λ xs. get_or xs g 0) knows.marks
+            sym (mark_at-told facts later goes.legal g) ∙ knows.marks g
             ∙ mark_at-told facts h legal g ∙ agrees.marks control g;
       }
 
