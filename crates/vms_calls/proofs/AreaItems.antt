@@ -1,5 +1,5 @@
 -- The areas of a valid header are zone items of its layout.
-use Rattle.std.proofs.Common.{◌≡◌, ℕ, suc, ◌+◌, ◌<◌, ◌≤◌, ◌⊎◌, ⊎_elim, Bool, false, not, ◌&&◌, List, [], ◌∷◌, ◌++◌, length, map, filter, position, Option, Some, None, refl, sym, ap, subst, arith}
+use Rattle.std.proofs.Common.{◌≡◌, ℕ, suc, ◌+◌, ◌<◌, ◌≤◌, ⊎_elim, Bool, false, not, ◌&&◌, List, [], ◌∷◌, length, filter, position, Option, Some, None, refl, ap, subst, arith}
 use Rattle.std.specs.Prelude.{All}
 use Rattle.std.specs.Str.{bytes_eq}
 use Rattle.std.proofs.lemmas.List.{length-map}

@@ -19,14 +19,14 @@ use Rattle.vms_history.specs.Events.{after}
 use Rattle.vms_core.specs.declared.states.State.{State}
 use Rattle.vms_core.specs.declared.steps.Facts.{Facts}
 use Rattle.vms_core.specs.declared.steps.Step.{Step}
-use Rattle.vms_core.specs.declared.steps.Step.TheVariants.{LoadT, LoadD, AddG, AddS, Take, LoadG, LoadS, LoadM, LoadO, SetT, SetM, SetO, SetA, LoadA}
+use Rattle.vms_core.specs.declared.steps.Step.TheVariants.{LoadT, LoadD, AddG, AddS, Take, LoadG, LoadS, LoadM, LoadO, SetT, SetM, SetA, LoadA}
 use Rattle.vms_core.specs.Pages.{History}
 use Rattle.vms_calls.specs.Folds.{FoundPlace, IsFold, to_place, to_system, group_steps, place_steps, system_steps, acknowledges, lists_of, taken_of_item}
 use Rattle.vms_calls.specs.HeaderFacts.{facts_of}
 use Rattle.vms_calls.specs.Lists.{in_turn}
 use Rattle.vms_calls.specs.Looks.{Look, Verdict, Frees, IsSnapshot, IsWatermarkTest, look_steps, is_doubtful, free_pages}
 use Rattle.vms_calls.specs.Looks.Look.{online, other}
-use Rattle.vms_calls.specs.Ratings.{Choice, ByNormal, ByPressure, Rates, RatesMarked, Visits, VisitsEach, RatesNode, Refreshes, acknowledged_steps, state_steps, threshold_steps, mark_steps, mark_for, rating_steps, node_number, numbers_below, zones_on, largest_on}
+use Rattle.vms_calls.specs.Ratings.{Choice, ByNormal, ByPressure, Rates, RatesMarked, VisitsEach, RatesNode, Refreshes, acknowledged_steps, state_steps, threshold_steps, mark_steps, mark_for, node_number, numbers_below, zones_on, largest_on}
 use Rattle.vms_calls.specs.Ratings.RatesMarked.{unmarked, marked}
 use Rattle.vms_calls.specs.Ratings.VisitsEach.{none, next}
 use Rattle.vms_calls.specs.Turns.{OrderVerdict, Balance, FindsBlock, Further, Blocks, Balances, IsOrderTest, IsTurn, Settles, has_room, zones_up_to}

@@ -7,7 +7,6 @@ use Rattle.vms_base.specs.declared.ids.CpuId.{CpuId}
 use Rattle.vms_base.specs.declared.kinds.Mode.{Mode}
 use Rattle.vms_base.specs.declared.kinds.ZoneSize.{ZoneSize}
 use Rattle.vms_base.specs.Places.{Shape, IsLayout, place_of, group_of, item_of}
-use Rattle.vms_history.specs.declared.events.Event.{Event}
 use Rattle.vms_history.specs.Events.{own, after}
 use Rattle.vms_history.specs.Passes.{owner, owner_after, owner_in}
 use Rattle.vms_history.specs.Passes.Turn.{Works}
@@ -19,13 +18,14 @@ use Rattle.vms_core.specs.Changes.{carried_by}
 use Rattle.vms_core.specs.Own.{moved, moved_of_item}
 use Rattle.vms_core.specs.Pages.{History}
 use Rattle.vms_core.specs.Steps.{turn}
-use Rattle.vms_core.specs.Totals.{spent, spent_by}
-use Rattle.vms_calls.specs.CallerLaws.{CarriesAsBefore, LeavesCaller, ChangesCarry, ChangesSpend}
+use Rattle.vms_core.specs.Totals.{change_size, spent, spent_by}
+use Rattle.vms_calls.specs.CallerLaws.{CarriesAsBefore, LeavesCaller, ChangesLeave, ChangesSpend}
 use Rattle.vms_calls.specs.Calls.{Carries, Exchanges, IsChange}
 use Rattle.vms_calls.specs.Calls.Carries.{nothing, amount}
 use Rattle.vms_calls.specs.Calls.Exchanges.{won, missed}
 use Rattle.vms_calls.specs.Folds.{IsFold}
 use Rattle.vms_calls.specs.Ratings.{Buries}
+use Rattle.vms_calls.proofs.Amounts.{if-neg_zero, if-cancelled}
 use Rattle.vms_calls.proofs.CallSteps.{Each, OfLooks, OfRatings, OfFolds, each-append, fold-each, refresh-each}
 use Rattle.vms_calls.proofs.FoldSums.{sum_steps, total-after, sum-append, fold-moves, fold-moves_of_item}
 
@@ -86,18 +86,22 @@ step-moves_of_item shape i (AddG l a) still = absurd still
 step-moves_of_item shape i (AddS l a) still = absurd still
 step-moves_of_item shape i _ still = refl
 
-sum-still : (m : Step → ℤ) → ((step : Step) → IsStill step → m step ≡ pos 0) → (steps : List Step)
-    → Each IsStill steps → sum_steps m steps ≡ pos 0
-sum-still m none [] still = refl
-sum-still m none (step ∷ steps) still =
-    omega (arith, ints, none step still.0, sum-still m none steps still.1)
+sum-none : (Kind : Step → Type 0) (m : Step → ℤ) → ((step : Step) → Kind step → m step ≡ pos 0)
+    → (steps : List Step) → Each Kind steps → sum_steps m steps ≡ pos 0
+sum-none Kind m none [] each = refl
+sum-none Kind m none (step ∷ steps) each =
+    omega (arith, ints, none step each.0, sum-none Kind m none steps each.1)
+
+step-changes : (k : ℕ) (step : Step) → IsNoPut step → change_size k step ≡ pos 0
+step-changes k (Put l w t delta how) no_put = absurd no_put
+step-changes k _ no_put = refl
 
 step-spends : (who : Option CpuId) (c k : ℕ) (step : Step) → IsNoPut step → spent_by who c k step ≡ 0
 step-spends None c k step no_put = refl
 step-spends (Some d) c k (Put l w t delta how) no_put = absurd no_put
 step-spends (Some d) c k _ no_put = refl
 
-spent-no_put : (p : ℕ) (steps : List Step) (h : History) → Each IsNoPut steps → (c k : ℕ)
+pub spent-no_put : (p : ℕ) (steps : List Step) (h : History) → Each IsNoPut steps → (c k : ℕ)
     → spent (after p steps h) c k ≡ spent h c k
 spent-no_put p [] h no_put c k = refl
 spent-no_put p (step ∷ steps) h no_put c k = omega (
@@ -120,8 +124,8 @@ balanced-carries shape steps balanced p h = record {
 
 still-balanced : (shape : Shape) (steps : List Step) → Each IsStill steps → Balanced shape steps
 still-balanced shape steps still = record {
-  counters = λ k. sum-still (moved k) (step-moves k) steps still;
-  items = λ i. sum-still (moved_of_item shape i) (step-moves_of_item shape i) steps still;
+  counters = λ k. sum-none IsStill (moved k) (step-moves k) steps still;
+  items = λ i. sum-none IsStill (moved_of_item shape i) (step-moves_of_item shape i) steps still;
 }
 
 append-balanced : (shape : Shape) (xs ys : List Step) → Balanced shape xs → Balanced shape ys
@@ -134,7 +138,16 @@ append-balanced shape xs ys first second = record {
 balanced-leaves : (shape : Shape) (steps : List Step) → Balanced shape steps → Each IsNoPut steps → (p : ℕ)
     (h : History) → LeavesCaller shape p steps h
 balanced-leaves shape steps balanced no_put p h =
-    record { carries = balanced-carries shape steps balanced p h; spends = spent-no_put p steps h no_put }
+    record {
+      carries = balanced-carries shape steps balanced p h;
+      changes = λ k. omega (
+        arith,
+        ints,
+        total-after (change_size k) p steps h,
+        sum-none IsNoPut (change_size k) (step-changes k) steps no_put,
+      );
+      spends = spent-no_put p steps h no_put;
+    }
 
 -- steps that move nothing leave all
 pub still-leaves : (shape : Shape) (p : ℕ) (steps : List Step) (h : History) → Each IsStill steps
@@ -175,22 +188,14 @@ burial-leaves facts normal layout c p began steps buries h =
     (each-no_put (SetO c ∷ buries.refresh) still)) p h)
 
 -- what a change moves: the exchange carries an amount, and the additions add it
-if-cancels : (b : Bool) (z : ℤ) → (if b then z else pos 0) +ℤ (if b then neg_ℤ z else pos 0) ≡ pos 0
-if-cancels true z = omega (arith, ints)
-if-cancels false z = refl
-
-if-none : (b : Bool) → (if b then neg_ℤ (pos 0) else pos 0) ≡ pos 0
-if-none true = refl
-if-none false = refl
-
 additions-move : (shape : Shape) (k : CounterId) (z : ℤ) (steps : List Step) → Carries shape k z steps → (l : ℕ)
     → sum_steps (moved l) steps ≡ (if nat_eq k.number l then neg_ℤ z else pos 0)
-additions-move shape k z steps nothing l = sym (if-none (nat_eq k.number l))
+additions-move shape k z steps nothing l = sym (if-neg_zero (nat_eq k.number l))
 additions-move shape k z steps (amount a some) l = omega (arith, ints)
 
 additions-move_of_item : (shape : Shape) (k : CounterId) (z : ℤ) (steps : List Step) → Carries shape k z steps
     → (i : ℕ) → sum_steps (moved_of_item shape i) steps ≡ (if nat_eq (item_of shape k.number) i then neg_ℤ z else pos 0)
-additions-move_of_item shape k z steps nothing i = sym (if-none (nat_eq (item_of shape k.number) i))
+additions-move_of_item shape k z steps nothing i = sym (if-neg_zero (nat_eq (item_of shape k.number) i))
 additions-move_of_item shape k z steps (amount a some) i = omega (arith, ints)
 
 exchange-moves : (k : CounterId) (w : Diffs) (t : ℕ) (delta : ℤ) (how : Mode) (last : Diffs) (steps : List Step)
@@ -207,7 +212,8 @@ exchange-moves_of_item : (shape : Shape) (k : CounterId) (w : Diffs) (t : ℕ) (
 exchange-moves_of_item shape k w t delta how last steps won i = omega (arith, ints)
 exchange-moves_of_item shape k w t delta how last steps (missed zeros are) i = omega (arith, ints)
 
-pub change-carries : ChangesCarry
+change-carries : (shape : Shape) (cpu : CpuId) (k : CounterId) (delta : ℤ) (how : Mode) (steps : List Step)
+    → IsChange shape cpu k delta how steps → (p : ℕ) (h : History) → CarriesAsBefore shape p steps h
 change-carries shape cpu k delta how steps change p h =
     subst (λ ks. CarriesAsBefore shape p ks h) (sym change.in_order)
     (balanced-carries shape _ (record {
@@ -218,7 +224,7 @@ change-carries shape cpu k delta how steps change p h =
         exchange-moves k change.first change.t delta how change.last change.exchange change.exchanges l,
         additions-move shape k (carried_by how change.t (entry change.last.values k.number) delta) change.additions
             change.carries l,
-        if-cancels (nat_eq k.number l) (carried_by how change.t (entry change.last.values k.number) delta),
+        if-cancelled (nat_eq k.number l) (carried_by how change.t (entry change.last.values k.number) delta) (pos 0),
       );
       items = λ i. omega (
         arith,
@@ -227,10 +233,36 @@ change-carries shape cpu k delta how steps change p h =
         exchange-moves_of_item shape k change.first change.t delta how change.last change.exchange change.exchanges i,
         additions-move_of_item shape k (carried_by how change.t (entry change.last.values k.number) delta)
             change.additions change.carries i,
-        if-cancels (nat_eq (item_of shape k.number) i)
-            (carried_by how change.t (entry change.last.values k.number) delta),
+        if-cancelled (nat_eq (item_of shape k.number) i)
+            (carried_by how change.t (entry change.last.values k.number) delta) (pos 0),
       );
     }) p h)
+
+additions-change : (shape : Shape) (k : CounterId) (z : ℤ) (steps : List Step) → Carries shape k z steps → (l : ℕ)
+    → sum_steps (change_size l) steps ≡ pos 0
+additions-change shape k z steps nothing l = refl
+additions-change shape k z steps (amount a some) l = refl
+
+exchange-changes : (k : CounterId) (w : Diffs) (t : ℕ) (delta : ℤ) (how : Mode) (last : Diffs) (steps : List Step)
+    → Exchanges k w t delta how last steps → (l : ℕ)
+    → sum_steps (change_size l) steps ≡ (if nat_eq k.number l then pos (unsigned_abs delta) else pos 0)
+exchange-changes k w t delta how last steps won l = omega (arith, ints)
+exchange-changes k w t delta how last steps (missed zeros are) l = omega (arith, ints)
+
+pub change-leaves : ChangesLeave
+change-leaves shape cpu k delta how steps change p h = record {
+  carries = change-carries shape cpu k delta how steps change p h;
+  changes = λ l. omega (
+    arith,
+    ints,
+    total-after (change_size l) p steps h,
+    ap (sum_steps (change_size l)) change.in_order,
+    sum-append (change_size l) change.exchange change.additions,
+    exchange-changes k change.first change.t delta how change.last change.exchange change.exchanges l,
+    additions-change shape k (carried_by how change.t (entry change.last.values k.number) delta) change.additions
+        change.carries l,
+  );
+}
 
 -- a step that works leaves the owners
 owner-stays : (p : ℕ) (step : Step) (h : History) (q : ℕ) → turn step ≡ Works

@@ -1,5 +1,5 @@
 -- The steps of a change meet their conditions in a row.
-use Rattle.std.proofs.Common.{◌≡◌, ℕ, ◌+◌, ◌≤◌, nat_eq, true, ℤ, List, [], ◌∷◌, ◌++◌, length, Option, Some, None, refl, sym, ap, ◌∙◌, subst, arith, eq-eqb, unsigned_abs}
+use Rattle.std.proofs.Common.{◌≡◌, ℕ, ◌+◌, ◌≤◌, nat_eq, true, ℤ, List, [], ◌∷◌, ◌++◌, Option, Some, None, refl, sym, ap, ◌∙◌, subst, arith, eq-eqb, unsigned_abs}
 use Rattle.std.proofs.lemmas.Int.{ints}
 use Rattle.vms_base.specs.declared.groups.Diffs.{Diffs}
 use Rattle.vms_base.specs.declared.ids.CounterId.{CounterId}
@@ -26,6 +26,7 @@ use Rattle.vms_core.specs.Own.{CarriesNothing, carried, carried_of_item, found, 
 use Rattle.vms_core.specs.Pages.{pages, History}
 use Rattle.vms_core.specs.Steps.{turn}
 use Rattle.vms_core.specs.Totals.{spent, spent_by}
+use Rattle.vms_calls.proofs.CallerLaws.{spent-no_put}
 use Rattle.vms_calls.proofs.MayBegin.{call-begins}
 use Rattle.vms_calls.proofs.Agreement.{event}
 use Rattle.vms_base.proofs.Counts.{place_of-lt, group_of-lt, item_of-lt}
@@ -117,26 +118,8 @@ module _ (facts : Facts) (layout : IsLayout facts.layout) (p : ℕ) (cpu : CpuId
       items = λ i. omega (arith, ints, carries_none.items i);
     }
 
-    load-spends : (who : Option CpuId) (c l : ℕ) (g : PlaceId) (told a : ℕ) → spent_by who c l (LoadT g told a) ≡ 0
-    load-spends None c l g told a = refl
-    load-spends (Some o) c l g told a = refl
-
-    look-spends : (who : Option CpuId) (c l : ℕ) (j : GroupId) (w : Diffs) → spent_by who c l (LoadD cpu j w) ≡ 0
-    look-spends None c l j w = refl
-    look-spends (Some o) c l j w = refl
-
-    miss-spends : (who : Option CpuId) (c l : ℕ) (j : GroupId) (w : Diffs) → spent_by who c l (Miss j w) ≡ 0
-    miss-spends None c l j w = refl
-    miss-spends (Some o) c l j w = refl
-
     spent_yet : spent looked cpu.number k.number ≡ spent h cpu.number k.number
-    spent_yet = omega (
-      arith,
-      load-spends (owner_in turn h p) cpu.number k.number (record { number = place_of facts.layout k.number }) t number,
-      look-spends (owner_in turn
-          (event facts p (LoadT (record { number = place_of facts.layout k.number }) t number) ∷ h) p)
-          cpu.number k.number (record { number = group_of k.number }) first,
-    )
+    spent_yet = spent-no_put p loads h (tt, (tt, tt)) cpu.number k.number
 
     exchange-run : (last : Diffs) (exchange additions : List Step) → Exchanges k first t delta how last exchange
         → Carries facts.layout k (carried_by how t (entry last.values k.number) delta) additions
@@ -169,12 +152,7 @@ module _ (facts : Facts) (layout : IsLayout facts.layout) (p : ℕ) (cpu : CpuId
             λ knows. exchanging lost then_seen zeros knows.owner mine_then
                 (rw (eq-eqb (group_of k.number) (group_of k.number) refl) (ap Some (sym are)))
                 loaded_there none_then
-                (omega (
-                  arith,
-                  miss-spends (owner_in turn looked p) cpu.number k.number
-                      (record { number = group_of k.number }) first,
-                  spent_yet,
-                )),
+                (spent-no_put p (miss ∷ []) looked (tt, tt) cpu.number k.number ∙ spent_yet),
             λ knows told. additions-run (carried_by how t (entry zeros.values k.number) delta) additions
                 (event facts p (Put k zeros t delta how) ∷ lost)
                 (put-counter lost then_seen zeros mine_then none_then)

@@ -14,6 +14,7 @@ use Rattle.vms_history.proofs.SumLaws.{sum_below-zeros}
 use Rattle.vms_base.proofs.Counts.{item_of-lt}
 use Rattle.vms_core.specs.declared.steps.Step.{Step}
 use Rattle.vms_core.specs.declared.steps.Step.TheVariants.{LoadT, SetA}
+use Rattle.vms_calls.proofs.Amounts.{if-neg, if-neg_zero}
 use Rattle.vms_calls.specs.Lists.{in_turn}
 use Rattle.vms_core.specs.Own.{moved, moved_of_item, entries_of}
 use Rattle.vms_calls.specs.Folds.{FoundPlace, HasGroups, IsFold, to_place, to_system, group_steps, place_steps, system_steps, acknowledges, lists_of, taken_of_item}
@@ -32,22 +33,14 @@ pub sum-append : (m : Step → ℤ) (xs ys : List Step) → sum_steps m (xs ++ y
 sum-append m [] ys = omega (arith, ints)
 sum-append m (x ∷ xs) ys = omega (arith, ints, sum-append m xs ys)
 
-neg-if : (b : Bool) (d : ℤ) → (if b then neg_ℤ d else pos 0) ≡ neg_ℤ (if b then d else pos 0)
-neg-if true d = refl
-neg-if false d = refl
-
-if-zero : (b : Bool) → (if b then neg_ℤ (pos 0) else pos 0) ≡ pos 0
-if-zero true = refl
-if-zero false = refl
-
 to_place-moved : (k n : ℕ) (d : ℤ) → sum_steps (moved k) (to_place n d) ≡ (if nat_eq n k then neg_ℤ d else pos 0)
-to_place-moved k n (pos zero) = sym (if-zero (nat_eq n k))
+to_place-moved k n (pos zero) = sym (if-neg_zero (nat_eq n k))
 to_place-moved k n (pos (suc d)) = omega (arith, ints)
 to_place-moved k n (negsuc d) = omega (arith, ints)
 
 to_system-moved : (shape : Shape) (i n : ℕ) (d : ℤ)
     → sum_steps (moved_of_item shape i) (to_system n d) ≡ (if nat_eq n i then neg_ℤ d else pos 0)
-to_system-moved shape i n (pos zero) = sym (if-zero (nat_eq n i))
+to_system-moved shape i n (pos zero) = sym (if-neg_zero (nat_eq n i))
 to_system-moved shape i n (pos (suc d)) = omega (arith, ints)
 to_system-moved shape i n (negsuc d) = omega (arith, ints)
 
@@ -103,7 +96,7 @@ adds-moved k n (d ∷ ds) = omega (
   ints,
   sum-append (moved k) (to_place n d) (in_turn to_place (suc n) ds),
   to_place-moved k n d,
-  neg-if (nat_eq n k) d,
+  if-neg (nat_eq n k) d,
   adds-moved k (suc n) ds,
 )
 

@@ -17,6 +17,7 @@ use Rattle.vms_history.proofs.Own.{own-after_others}
 use Rattle.vms_history.proofs.Prefixes.{base_can_begin}
 use Rattle.vms_core.proofs.WorkerSteps.{event, Stands, Stands-next, owner_now, spent-next}
 use Rattle.vms_core.proofs.WithChange.{with_carried-nothing, with_change-steps}
+use Rattle.vms_calls.proofs.Amounts.{if-cancelled}
 use Rattle.vms_history.proofs.Choices.{zero_or_not}
 use Rattle.vms_core.specs.declared.states.State.{State}
 use Rattle.vms_core.specs.declared.steps.Facts.{Facts}
@@ -35,12 +36,6 @@ use Rattle.vms_core.specs.Own.{CarriesNothing, carried, carried_of_item, found, 
 use Rattle.vms_core.specs.Pages.{pages, History, state_after}
 use Rattle.vms_core.specs.Steps.{turn, own_effect, effect_of}
 use Rattle.vms_core.specs.Totals.{spent, spent_by}
-
--- an amount that is moved where b is true, and added where b is true
-cancel : (b : Bool) (z rest : ℤ) → rest ≡ pos 0
-    → (if b then neg_ℤ z else pos 0) +ℤ ((if b then z else pos 0) +ℤ rest) ≡ pos 0
-cancel true z rest e = omega (arith, ints)
-cancel false z rest e = omega (arith, ints)
 
 if_zero : (b : Bool) (z rest : ℤ) → z ≡ pos 0 → rest ≡ pos 0 → (if b then z else pos 0) +ℤ rest ≡ pos 0
 if_zero true z rest none e = omega (arith, ints)
@@ -257,14 +252,15 @@ module _ (facts : Facts) (h : History) (p : ℕ) (cpu : CpuId) (k : CounterId) (
             counters = λ l. omega (
               arith,
               ints,
-              cancel (nat_eq k.number l) z (carried l (made load_d ∷ made load_t ∷ own h p))
-                  (nothing_yet.counters l),
+              if-cancelled (nat_eq k.number l) z (carried l (made load_d ∷ made load_t ∷ own h p)),
+              nothing_yet.counters l,
             );
             items = λ i. omega (
               arith,
               ints,
-              cancel (nat_eq (item_of facts.layout k.number) i) z
-                  (carried_of_item facts.layout i (made load_d ∷ made load_t ∷ own h p)) (nothing_yet.items i),
+              if-cancelled (nat_eq (item_of facts.layout k.number) i) z
+                  (carried_of_item facts.layout i (made load_d ∷ made load_t ∷ own h p)),
+              nothing_yet.items i,
             );
           });
       others = λ q other. own-after_others p (load_t ∷ load_d ∷ put ∷ add_g ∷ add_s ∷ []) h q other;

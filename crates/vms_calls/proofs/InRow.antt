@@ -12,7 +12,6 @@ use Rattle.vms_calls.specs.Ratings.{mark_left, mark_left_by}
 use Rattle.vms_calls.specs.MayCall.{KnowsByOwnSteps}
 use Rattle.vms_core.specs.Pages.{pages, History, IsLegal}
 use Rattle.vms_core.specs.Steps.{turn}
-use Rattle.vms_calls.specs.CallerLaws.{SpendsByOwnSteps}
 use Rattle.vms_calls.specs.MayMake.{HasMade}
 use Rattle.vms_calls.proofs.Agreement.{Agrees, event, mark_in, mark_at-told, made-agrees}
 use Rattle.vms_calls.proofs.RatingCovers.{SamePeaks-after, peak_sum-same}
@@ -42,10 +41,6 @@ module _ (facts : Facts) (later earlier : History) (p : ℕ) (steps : List Step)
 
   owner_same : owner_in turn (after p steps earlier) p ≡ owner_in turn earlier p
   owner_same = ap (λ es. owner turn es p) (own-after_others p steps earlier 0 (λ main. given (sym main)))
-
-pub spends-by_own_steps : SpendsByOwnSteps
-spends-by_own_steps facts later earlier p steps cpu has is k =
-    (agrees facts later earlier p steps has).volumes cpu (owner_same facts later earlier p steps has ∙ is) k
 
 pub knows-by_own_steps : KnowsByOwnSteps
 knows-by_own_steps facts later earlier p steps has control =

@@ -3,6 +3,7 @@ pub mod LookReadings
 pub mod ChangeReadings
 pub mod FoldReadings
 pub mod RatingReadings
+pub mod Amounts
 pub mod FoldSums
 pub mod RatingCovers
 pub mod Agreement

@@ -1,7 +1,6 @@
 -- The steps of the calls that set thresholds, and of a burial, tell where they end.
 use Rattle.std.proofs.Common.{◌≡◌, ℕ, suc, ◌+◌, ◌≤◌, Bool, true, false, nat_eq, if◌then◌else◌, List, [], ◌∷◌, ◌++◌, length, Option, refl, sym, ap, ◌∙◌, arith, append_assoc, ne_eqb}
 use Rattle.vms_base.specs.declared.ids.CpuId.{CpuId}
-use Rattle.vms_base.specs.declared.ids.PlaceId.{PlaceId}
 use Rattle.vms_base.specs.declared.kinds.CpuState.{CpuState}
 use Rattle.vms_base.specs.declared.kinds.ZoneSize.{ZoneSize}
 use Rattle.vms_base.specs.Cpus.{online_from, is_online}
@@ -11,8 +10,8 @@ use Rattle.vms_core.specs.declared.steps.Step.{Step}
 use Rattle.vms_core.specs.declared.steps.Step.TheVariants.{LoadM, SetM, SetO}
 use Rattle.vms_core.specs.Pages.{History}
 use Rattle.vms_calls.specs.Lists.{in_turn}
-use Rattle.vms_calls.specs.RatingReadings.{SomeOnline, TellsNodeRating, TellsRefresh, TellsBurial, counted, read_states, read_mark, without_sets, without_rating, without_marked, without_visits, without_rated, without_ratings, without_nodes, read_zones_of, read_node_rating, read_all, read_refresh, read_removal, read_burial}
-use Rattle.vms_calls.specs.Ratings.{Choice, ByNormal, Rates, RatesNode, RatesMarked, Refreshes, Visits, VisitsEach, acknowledged_steps, state_steps, threshold_steps, mark_for, rating_steps, node_number, numbers_below, zones_on, largest_on}
+use Rattle.vms_calls.specs.RatingReadings.{TellsNodeRating, TellsRefresh, TellsBurial, counted, read_states, read_mark, without_sets, without_rating, without_marked, without_visits, without_rated, without_ratings, without_nodes, read_zones_of, read_node_rating, read_all, read_refresh, read_removal, read_burial}
+use Rattle.vms_calls.specs.Ratings.{Choice, ByNormal, Rates, RatesMarked, Visits, VisitsEach, acknowledged_steps, state_steps, threshold_steps, mark_for, rating_steps, node_number, numbers_below, zones_on, largest_on}
 use Rattle.vms_calls.specs.Ratings.RatesMarked.{unmarked, marked}
 use Rattle.vms_calls.specs.Ratings.VisitsEach.{none, next}
 use Rattle.vms_calls.proofs.FoldReadings.{fold-told}

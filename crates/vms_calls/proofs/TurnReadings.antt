@@ -1,5 +1,5 @@
 -- The steps of a test of a zone for an order, of a balance test and of a turn tell their answers.
-use Rattle.std.proofs.Common.{◌≡◌, ℕ, suc, zero, Bool, true, false, nat_eq, if◌then◌else◌, List, [], ◌∷◌, ◌++◌, Option, None, is_some, refl, sym, ap, ◌∙◌, append_assoc, ne_eqb}
+use Rattle.std.proofs.Common.{◌≡◌, ℕ, suc, zero, Bool, true, false, nat_eq, if◌then◌else◌, List, ◌∷◌, ◌++◌, Option, None, is_some, refl, sym, ap, ◌∙◌, append_assoc, ne_eqb}
 use Rattle.vms_base.specs.declared.headers.Header.{Header}
 use Rattle.vms_base.specs.declared.ids.PlaceId.{PlaceId}
 use Rattle.vms_base.specs.declared.kinds.WaterMark.{WaterMark}

@@ -1,17 +1,17 @@
 -- How a legal history goes on with a change that meets no other caller.
-use Rattle.std.specs.Prelude.{◌≡◌, ◌≢◌, ℕ, ◌+◌, ◌≤◌, nat_eq, ◌&&◌, true, ℤ, ◌+ℤ◌, List, if◌then◌else◌, Some, unsigned_abs}
+use Rattle.std.specs.Prelude.{◌≡◌, ◌≢◌, ℕ, ◌+◌, ◌≤◌, nat_eq, ◌&&◌, true, ℤ, List, if◌then◌else◌, Some, unsigned_abs}
 use Rattle.vms_base.specs.declared.ids.CounterId.{CounterId}
 use Rattle.vms_base.specs.declared.ids.CpuId.{CpuId}
 use Rattle.vms_base.specs.declared.kinds.CpuState.TheVariants.{Online}
 use Rattle.vms_base.specs.declared.kinds.Mode.{Mode}
-use Rattle.vms_base.specs.Places.{Shape, IsCpu, IsCounter, place_of, item_of}
+use Rattle.vms_base.specs.Places.{IsCpu, IsCounter}
 use Rattle.vms_history.specs.Events.{own, after}
 use Rattle.vms_history.specs.Passes.{lives_in, owner_in}
 use Rattle.vms_core.specs.declared.states.State.{State}
 use Rattle.vms_core.specs.declared.steps.Facts.{Facts}
 use Rattle.vms_core.specs.declared.steps.Step.{Step}
 use Rattle.vms_calls.specs.Calls.{IsChangeAlone}
-use Rattle.vms_core.specs.Cells.{value_at, system_at, diff_at, threshold_at, cpu_at, with_value, with_system, with_diff}
+use Rattle.vms_core.specs.Cells.{cpu_at}
 use Rattle.vms_core.specs.ChangedStates.{with_change}
 use Rattle.vms_base.specs.Volumes.{most_volume}
 use Rattle.vms_core.specs.Own.{CarriesNothing}

@@ -8,7 +8,7 @@ ghost use Rattle.vms_base.specs.declared.kinds.WaterMark.{WaterMark};
 ghost use Rattle.vms_base.specs.Places.{Shape, IsLayout};
 ghost use Rattle.vms_core.specs.declared.states.State.{State};
 ghost use Rattle.vms_core.specs.declared.steps.Facts.{Facts};
-ghost use Rattle.vms_calls.specs.CallerLaws.{Leaves, SpendsByOwnSteps};
+ghost use Rattle.vms_calls.specs.CallerLaws.{Leaves};
 ghost use Rattle.vms_calls.specs.Folds.{IsFold};
 ghost use Rattle.vms_calls.specs.Looks.{Verdict, IsPlaceValue, IsSystemValue, IsSnapshot, IsWatermarkTest};
 ghost use Rattle.vms_calls.specs.MayCall.{KnowsByOwnSteps};
@@ -54,10 +54,8 @@ pub fn ratings_leave_their_caller<R: ThresholdRules>()
         × IsTurn header base R.pressure R.normal n order most p h steps answer) }
 {}
 
-/// What the owner of a CPU spent, and for the control pass peaks, thresholds, marks and the CPUs' states, follow from its
-/// own steps alone, whatever others did between them. So the sum of peaks that the control pass computed still stands
-/// when it sets a mark and thresholds.
-pub fn passes_know_by_own_steps()
-    ensures owner { SpendsByOwnSteps }
-    ensures control { KnowsByOwnSteps }
+/// The control pass knows peaks, thresholds, marks and the CPUs' states by its own steps alone, whatever others did
+/// between them: so the sum of peaks that it computed still stands when it sets a mark and thresholds.
+pub fn control_passes_know_by_own_steps()
+    ensures { KnowsByOwnSteps }
 {}

@@ -4,7 +4,7 @@ ghost use Rattle.vms_base.specs.declared.ids.CpuId.{CpuId};
 ghost use Rattle.vms_base.specs.declared.kinds.Mode.{Mode};
 ghost use Rattle.vms_base.specs.Places.{Shape};
 ghost use Rattle.vms_core.specs.declared.steps.Step.{Step};
-ghost use Rattle.vms_calls.specs.CallerLaws.{ChangesCarry, ChangesSpend};
+ghost use Rattle.vms_calls.specs.CallerLaws.{ChangesLeave, ChangesSpend};
 ghost use Rattle.vms_calls.specs.Calls.{IsChange, misses};
 ghost use Rattle.vms_calls.specs.Following.{GoesOnWithChange};
 
@@ -23,6 +23,6 @@ pub fn changes_follow()
 /// After a change its caller carries what it carried before, and its CPU has spent the size of the change more on the
 /// counter, whether or not an exchange was lost.
 pub fn changes_spend_their_size()
-    ensures carries { ChangesCarry }
+    ensures leaves { ChangesLeave }
     ensures spends { ChangesSpend }
 {}

@@ -12,7 +12,7 @@ mod rules;
 mod tests;
 
 pub use callers::{
-    folds_leave_their_caller, looks_leave_their_caller, passes_know_by_own_steps,
+    folds_leave_their_caller, looks_leave_their_caller, control_passes_know_by_own_steps,
     ratings_leave_their_caller,
 };
 pub use changes::{changes_follow, changes_miss_once, changes_spend_their_size};

@@ -65,5 +65,5 @@ fn rules_and_turns() {
     folds_may_be_made();
     looks_leave_their_caller();
     looks_may_be_made();
-    passes_know_by_own_steps();
+    control_passes_know_by_own_steps();
 }
