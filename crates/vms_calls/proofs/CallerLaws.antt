@@ -20,9 +20,9 @@ use Rattle.vms_core.specs.Pages.{History}
 use Rattle.vms_core.specs.Steps.{turn}
 use Rattle.vms_core.specs.Totals.{change_size, spent, spent_by}
 use Rattle.vms_calls.specs.CallerLaws.{CarriesAsBefore, LeavesCaller, ChangesLeave, ChangesSpend}
-use Rattle.vms_calls.specs.Calls.{Carries, Exchanges, IsChange}
-use Rattle.vms_calls.specs.Calls.Carries.{nothing, amount}
-use Rattle.vms_calls.specs.Calls.Exchanges.{won, missed}
+use Rattle.vms_calls.specs.Changes.{Carries, Exchanges, IsChange}
+use Rattle.vms_calls.specs.Changes.Carries.{nothing, amount}
+use Rattle.vms_calls.specs.Changes.Exchanges.{won, missed}
 use Rattle.vms_calls.specs.Folds.{IsFold}
 use Rattle.vms_calls.specs.Ratings.{Buries}
 use Rattle.vms_calls.proofs.Amounts.{if-neg_zero, if-cancelled}

@@ -7,9 +7,9 @@ use Rattle.vms_base.specs.Places.{Shape}
 use Rattle.vms_core.specs.declared.steps.Step.{Step}
 use Rattle.vms_core.specs.Cells.{entry}
 use Rattle.vms_core.specs.Changes.{carried_by}
-use Rattle.vms_calls.specs.Calls.{Carries, Exchanges}
-use Rattle.vms_calls.specs.Calls.Carries.{nothing, amount}
-use Rattle.vms_calls.specs.Calls.Exchanges.{won, missed}
+use Rattle.vms_calls.specs.Changes.{Carries, Exchanges}
+use Rattle.vms_calls.specs.Changes.Carries.{nothing, amount}
+use Rattle.vms_calls.specs.Changes.Exchanges.{won, missed}
 use Rattle.vms_calls.specs.ChangeReadings.{TellsChange, read_additions, read_exchange, read_change}
 
 additions-told : (shape : Shape) (k : CounterId) (z : ℤ) (steps rest : List Step) → Carries shape k z steps

@@ -15,9 +15,9 @@ use Rattle.vms_history.proofs.Prefixes.{base_can_begin}
 use Rattle.vms_core.specs.declared.steps.Facts.{Facts}
 use Rattle.vms_core.specs.declared.steps.Step.{Step}
 use Rattle.vms_core.specs.declared.steps.Step.TheVariants.{LoadT, LoadD, Put, Miss, AddG}
-use Rattle.vms_calls.specs.Calls.{Carries, Exchanges, IsChange}
-use Rattle.vms_calls.specs.Calls.Carries.{nothing, amount}
-use Rattle.vms_calls.specs.Calls.Exchanges.{won, missed}
+use Rattle.vms_calls.specs.Changes.{Carries, Exchanges, IsChange}
+use Rattle.vms_calls.specs.Changes.Carries.{nothing, amount}
+use Rattle.vms_calls.specs.Changes.Exchanges.{won, missed}
 use Rattle.vms_core.specs.Cells.{entry}
 use Rattle.vms_core.specs.Changes.{carried_by}
 use Rattle.vms_base.specs.Volumes.{most_volume}

@@ -100,10 +100,12 @@ adds-moved k n (d ∷ ds) = omega (
   adds-moved k (suc n) ds,
 )
 
-pub group-moved : (k : ℕ) (c : CpuId) (j : ℕ) (w : Diffs) → length w.values ≡ 8 → sum_steps (moved k) (group_steps c j w) ≡ pos 0
+pub group-moved : (k : ℕ) (c : CpuId) (j : ℕ) (w : Diffs) → length w.values ≡ 8
+    → sum_steps (moved k) (group_steps c j w) ≡ pos 0
 group-moved k c j w eight = omega (arith, ints, adds-moved k (8 * j) w.values, amount-group j k w.values eight)
 
-adds-of_item : (shape : Shape) (i n : ℕ) (ds : List ℤ) → sum_steps (moved_of_item shape i) (in_turn to_place n ds) ≡ pos 0
+adds-of_item : (shape : Shape) (i n : ℕ) (ds : List ℤ) → sum_steps (moved_of_item shape i) (in_turn to_place n ds)
+    ≡ pos 0
 adds-of_item shape i n [] = refl
 adds-of_item shape i n (d ∷ ds) = omega (
   arith,
@@ -130,7 +132,8 @@ module _ (m : Step → ℤ) (c : CpuId) (worth : ℕ → Diffs → ℤ)
       let at : j + suc (length ws) ≡ suc j + length ws = omega arith in
       rw at (omega (arith, ints, worths-append (suc j) ws vs))
 
-  groups-sum : (j : ℕ) (ws : List Diffs) → All (λ w. length w.values ≡ 8) ws → sum_steps m (in_turn (group_steps c) j ws) ≡ worths j ws
+  groups-sum : (j : ℕ) (ws : List Diffs) → All (λ w. length w.values ≡ 8) ws
+      → sum_steps m (in_turn (group_steps c) j ws) ≡ worths j ws
   groups-sum j [] eights = refl
   groups-sum j (w ∷ ws) eights = omega (
     arith,
@@ -155,8 +158,10 @@ module _ (m : Step → ℤ) (c : CpuId) (worth : ℕ → Diffs → ℤ)
     )
     place-sum false g found has = groups-sum (group_of (counter_at shape g 0)) found.groups has.eight_each
 
-    pub next_group : (g : ℕ) → group_of (counter_at shape g 0) + shape.positions / 8 ≡ group_of (counter_at shape (suc g) 0)
-    next_group g = ⊎_elim (λ (e : shape.positions ≡ 8). rw e (omega arith)) (λ (e : shape.positions ≡ 16). rw e (omega arith)) layout.positions
+    pub next_group : (g : ℕ) → group_of (counter_at shape g 0) + shape.positions / 8
+        ≡ group_of (counter_at shape (suc g) 0)
+    next_group g = ⊎_elim (λ (e : shape.positions ≡ 8). rw e (omega arith))
+        (λ (e : shape.positions ≡ 16). rw e (omega arith)) layout.positions
 
     pub places-sum : (is_own : Bool) (g : ℕ) (places : List FoundPlace) → All (HasGroups shape) places
         → sum_steps m (in_turn (λ g found. place_steps shape (acknowledges shape is_own g) c g found) g places)
@@ -164,7 +169,8 @@ module _ (m : Step → ℤ) (c : CpuId) (worth : ℕ → Diffs → ℤ)
     places-sum is_own g [] has = refl
     places-sum is_own g (found ∷ places) has =
         let here = has 0 found (omega arith) in
-        let at : group_of (counter_at shape g 0) + length found.groups ≡ group_of (counter_at shape (suc g) 0) = rw here.one_each (next_group g) in
+        let at : group_of (counter_at shape g 0) + length found.groups ≡ group_of (counter_at shape (suc g) 0) =
+        rw here.one_each (next_group g) in
         omega (
           arith,
           ints,
@@ -176,7 +182,8 @@ module _ (m : Step → ℤ) (c : CpuId) (worth : ℕ → Diffs → ℤ)
           ap (λ j. worths j (lists_of places)) at,
         )
 
-pub nothing-worth : (k : ℕ) (c : CpuId) (j : ℕ) (ws : List Diffs) → worths (moved k) c (λ j w. pos 0) (group-moved k c) j ws ≡ pos 0
+pub nothing-worth : (k : ℕ) (c : CpuId) (j : ℕ) (ws : List Diffs)
+    → worths (moved k) c (λ j w. pos 0) (group-moved k c) j ws ≡ pos 0
 nothing-worth k c j [] = refl
 nothing-worth k c j (w ∷ ws) = omega (arith, ints, nothing-worth k c (suc j) ws)
 
@@ -185,7 +192,8 @@ pub item-worth : (shape : Shape) (i : ℕ) (c : CpuId) (j : ℕ) (ws : List Diff
 item-worth shape i c j [] = refl
 item-worth shape i c j (w ∷ ws) = omega (arith, ints, item-worth shape i c (suc j) ws)
 
-systems-of_counter : (shape : Shape) (ws : List Diffs) (k i n : ℕ) → sum_steps (moved k) (system_steps shape ws i n) ≡ pos 0
+systems-of_counter : (shape : Shape) (ws : List Diffs) (k i n : ℕ) → sum_steps (moved k) (system_steps shape ws i n)
+    ≡ pos 0
 systems-of_counter shape ws k i zero = refl
 systems-of_counter shape ws k i (suc n) = omega (
   arith,
@@ -196,12 +204,14 @@ systems-of_counter shape ws k i (suc n) = omega (
 )
 
 module _ (shape : Shape) (ws : List Diffs) (i : ℕ) where
-  systems-below : (l n : ℕ) → (i < l) ⊎ (l + n ≤ i) → sum_steps (moved_of_item shape i) (system_steps shape ws l n) ≡ pos 0
+  systems-below : (l n : ℕ) → (i < l) ⊎ (l + n ≤ i) → sum_steps (moved_of_item shape i) (system_steps shape ws l n)
+      ≡ pos 0
   systems-below l zero out = refl
   systems-below l (suc n) out =
       let differ : nat_eq l i ≡ false = ne_eqb l i (⊎_elim (λ below e. omega arith) (λ above e. omega arith) out) in
       let none : sum_steps (moved_of_item shape i) (to_system l (taken_of_item shape l 0 ws)) ≡ pos 0 =
-      to_system-moved shape i l (taken_of_item shape l 0 ws) ∙ ap (λ (b : Bool). if b then neg_ℤ (taken_of_item shape l 0 ws) else pos 0) differ in
+      to_system-moved shape i l (taken_of_item shape l 0 ws)
+      ∙ ap (λ (b : Bool). if b then neg_ℤ (taken_of_item shape l 0 ws) else pos 0) differ in
       omega (
         arith,
         ints,
@@ -213,12 +223,14 @@ module _ (shape : Shape) (ws : List Diffs) (i : ℕ) where
   systems-sum : (l n : ℕ) → l ≤ i → i < l + n
       → sum_steps (moved_of_item shape i) (system_steps shape ws l n) ≡ neg_ℤ (taken_of_item shape i 0 ws)
   systems-sum l zero from to = absurd (omega arith)
-  systems-sum l (suc n) from to = by (nat_eq l i) refl (λ (later : suc l ≤ i). systems-sum (suc l) n later (omega arith))
+  systems-sum l (suc n) from to =
+      by (nat_eq l i) refl (λ (later : suc l ≤ i). systems-sum (suc l) n later (omega arith))
     where
       split : sum_steps (moved_of_item shape i) (system_steps shape ws l (suc n))
           ≡ sum_steps (moved_of_item shape i) (to_system l (taken_of_item shape l 0 ws))
           +ℤ sum_steps (moved_of_item shape i) (system_steps shape ws (suc l) n)
-      split = sum-append (moved_of_item shape i) (to_system l (taken_of_item shape l 0 ws)) (system_steps shape ws (suc l) n)
+      split = sum-append (moved_of_item shape i) (to_system l (taken_of_item shape l 0 ws))
+          (system_steps shape ws (suc l) n)
 
       first : (b : Bool) → nat_eq l i ≡ b → sum_steps (moved_of_item shape i) (to_system l (taken_of_item shape l 0 ws))
           ≡ (if b then neg_ℤ (taken_of_item shape l 0 ws) else pos 0)
@@ -226,11 +238,20 @@ module _ (shape : Shape) (ws : List Diffs) (i : ℕ) where
           ∙ ap (λ (b : Bool). if b then neg_ℤ (taken_of_item shape l 0 ws) else pos 0) is
 
       by : (b : Bool) → nat_eq l i ≡ b
-          → (suc l ≤ i → sum_steps (moved_of_item shape i) (system_steps shape ws (suc l) n) ≡ neg_ℤ (taken_of_item shape i 0 ws))
+          → (suc l ≤ i → sum_steps (moved_of_item shape i) (system_steps shape ws (suc l) n)
+          ≡ neg_ℤ (taken_of_item shape i 0 ws))
           → sum_steps (moved_of_item shape i) (system_steps shape ws l (suc n)) ≡ neg_ℤ (taken_of_item shape i 0 ws)
       by true is more =
           let same : l ≡ i = eqb-true l i is in
-          omega (arith, ints, split, first true is, systems-below (suc l) n (inl (omega arith)), ap (λ l. taken_of_item shape l 0 ws) same)
+          omega (
+            arith,
+            ints,
+            split,
+            first true is,
+            systems-below (suc l) n (inl (omega arith)),
+            ap
+                (λ l. taken_of_item shape l 0 ws) same,
+          )
       by false is more =
           let other : l ≢ i = eqb-false l i is in
           omega (arith, ints, split, first false is, more (omega arith))
@@ -268,7 +289,8 @@ module _ (shape : Shape) (layout : IsLayout shape) (is_own : Bool) (c : CpuId) (
     ints,
     ap (sum_steps (moved k)) folds.in_order,
     sum-append (moved k) fold_visits fold_systems,
-    places-sum (moved k) c (λ j w. pos 0) (group-moved k c) shape layout (λ g t a. refl) (λ g a. refl) is_own 0 folds.places folds.groups,
+    places-sum (moved k) c (λ j w. pos 0) (group-moved k c) shape layout (λ g t a. refl)
+        (λ g a. refl) is_own 0 folds.places folds.groups,
     nothing-worth k c (group_of (counter_at shape 0 0)) fold_lists,
     systems-of_counter shape fold_lists k 0 (item_count shape),
   )
@@ -276,7 +298,8 @@ module _ (shape : Shape) (layout : IsLayout shape) (is_own : Bool) (c : CpuId) (
   -- what it adds for an item is what it takes for the item
   systems-all : (i : ℕ) → sum_steps (moved_of_item shape i) fold_systems ≡ neg_ℤ (taken_of_item shape i 0 fold_lists)
   systems-all i = ⊎_elim
-      (λ (within : i < item_count shape). systems-sum shape fold_lists i 0 (item_count shape) (omega arith) (omega arith))
+      (λ (within : i < item_count shape). systems-sum shape fold_lists i 0 (item_count shape) (omega arith)
+      (omega arith))
       (λ (past : item_count shape ≤ i). omega (
         arith,
         ints,
@@ -291,7 +314,8 @@ module _ (shape : Shape) (layout : IsLayout shape) (is_own : Bool) (c : CpuId) (
     ints,
     ap (sum_steps (moved_of_item shape i)) folds.in_order,
     sum-append (moved_of_item shape i) fold_visits fold_systems,
-    places-sum (moved_of_item shape i) c (entries_of shape i) (group-of_item shape i c) shape layout (λ g t a. refl) (λ g a. refl) is_own 0 folds.places folds.groups,
+    places-sum (moved_of_item shape i) c (entries_of shape i) (group-of_item shape i c) shape layout (λ g t a. refl)
+        (λ g a. refl) is_own 0 folds.places folds.groups,
     item-worth shape i c (group_of (counter_at shape 0 0)) fold_lists,
     ap (λ j. taken_of_item shape i j fold_lists) first_group,
     systems-all i,

@@ -1,4 +1,4 @@
-pub mod Following
+pub mod LoneChanges
 pub mod LookReadings
 pub mod ChangeReadings
 pub mod FoldReadings

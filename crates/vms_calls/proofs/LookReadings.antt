@@ -36,7 +36,8 @@ looks-told : (k j c : ℕ) (looks : List Look) (sum : ℤ) (rest : List Step)
 looks-told k j c [] sum rest =
     let none : sum ≡ sum +ℤ pos 0 = omega (arith, ints) in ap (λ z. (z, rest)) none
 looks-told k j c (online w ∷ looks) sum rest =
-    let regrouped : (sum +ℤ entry w.values k) +ℤ hidden k looks ≡ sum +ℤ (entry w.values k +ℤ hidden k looks) = omega (arith, ints) in
+    let regrouped : (sum +ℤ entry w.values k) +ℤ hidden k looks ≡ sum +ℤ (entry w.values k +ℤ hidden k looks) =
+    omega (arith, ints) in
     looks-told k j (suc c) looks (sum +ℤ entry w.values k) rest ∙ ap (λ z. (z, rest)) regrouped
 looks-told k j c (other x differs ∷ looks) sum rest =
     other-told k (length looks) c x differs sum (in_turn (look_steps j) (suc c) looks ++ rest)
@@ -51,7 +52,8 @@ snapshot-told shape k steps answer call rest = rw (
 )
     refl
 
-further-told : (shape : Shape) (k : CounterId) (limit : ℕ) (doubt : Bool) (value : ℤ) (further : List Step) (answer : Verdict)
+further-told : (shape : Shape) (k : CounterId) (limit : ℕ) (doubt : Bool) (value : ℤ) (further : List Step)
+    (answer : Verdict)
     → Frees shape k doubt value further answer.free → answer.fast ≡ not doubt → answer.yes ≡ nat_lt limit answer.free
     → (rest : List Step) → read_further shape k limit doubt value (further ++ rest) ≡ (answer, rest)
 further-told shape k limit true value further answer frees fast enough rest =

@@ -71,7 +71,8 @@ module _ (facts : Facts) (Chooses : Choice) (rule : ZoneSize → ℕ → ℕ →
   acknowledged-mark z (d ∷ cs) [] before = refl
   acknowledged-mark z (d ∷ cs) (x ∷ xs) before = acknowledged-mark z cs xs before
 
-  acknowledged-none : (z : ℕ) (cs : List CpuId) (numbers : List (Option ℕ)) → Each SetsNone (acknowledged_steps z cs numbers)
+  acknowledged-none : (z : ℕ) (cs : List CpuId) (numbers : List (Option ℕ))
+      → Each SetsNone (acknowledged_steps z cs numbers)
   acknowledged-none z [] numbers = tt
   acknowledged-none z (d ∷ cs) [] = tt
   acknowledged-none z (d ∷ cs) (x ∷ xs) = (tt, acknowledged-none z cs xs)

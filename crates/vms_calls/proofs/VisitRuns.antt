@@ -301,25 +301,29 @@ module _ (facts : Facts) (layout : IsLayout facts.layout)
       Runs facts p None refresh.further now (λ later. Runs facts p None nodes later (λ end. Unit {0})))
       (let count = refresh.one_each in omega arith)
       (λ known. visits-run facts layout size p (ByNormal normal) (normal-gives normal normals) online few
-      (Rates facts p online (ByNormal normal)) (rates-run facts layout size p (ByNormal normal) (normal-gives normal normals) online few)
+      (Rates facts p online (ByNormal normal))
+      (rates-run facts layout size p (ByNormal normal) (normal-gives normal normals) online few)
       (numbers_below (length facts.layout.zones)) refresh.thresholds (after p loads g) refresh.further
       (λ later. Runs facts p None nodes later (λ end. Unit {0}))
       (numbers_below-below (length facts.layout.zones))
       known refresh.visits (λ known_then.
-      nodes-run facts layout size p (ByNormal normal) (normal-gives normal normals) online few refresh.thresholds 0 facts.layout.nodes
+      nodes-run facts layout size p (ByNormal normal)
+      (normal-gives normal normals) online few refresh.thresholds 0 facts.layout.nodes
       (after p refresh.further (after p loads g)) (λ end. Unit {0}) (omega arith) each_may known_then (λ end. tt))))))
     where
       online : List CpuId
       online = online_from 0 refresh.states
 
       few : length online ≤ 128
-      few = few_found facts layout size p (ByNormal normal) (normal-gives normal normals) refresh.states refresh.one_each
+      few = few_found facts layout size p (ByNormal normal)
+          (normal-gives normal normals) refresh.states refresh.one_each
 
       loads : List Step
       loads = in_turn state_steps 0 refresh.states
 
       nodes : List Step
-      nodes = in_turn (node_steps facts layout size p (ByNormal normal) (normal-gives normal normals) online few refresh.thresholds)
+      nodes = in_turn (node_steps facts layout size p (ByNormal normal)
+          (normal-gives normal normals) online few refresh.thresholds)
           0 facts.layout.nodes
 
       each_may : All (λ node. MaySet facts layout p online few (largest_on facts.layout refresh.thresholds node))

@@ -11,7 +11,7 @@ use Rattle.vms_core.specs.Own.{carried, carried_of_item}
 use Rattle.vms_core.specs.Pages.{History}
 use Rattle.vms_core.specs.Steps.{turn}
 use Rattle.vms_core.specs.Totals.{change_size, spent}
-use Rattle.vms_calls.specs.Calls.{IsChange}
+use Rattle.vms_calls.specs.Changes.{IsChange}
 
 -- what a caller carried before these steps, for each counter and item, it carries after them
 pub record CarriesAsBefore (shape : Shape) (p : ℕ) (steps : List Step) (h : History) : Type 0 where

@@ -8,7 +8,7 @@ use Rattle.vms_core.specs.declared.steps.Step.{Step}
 use Rattle.vms_core.specs.declared.steps.Step.TheVariants.{LoadT, LoadD, Put, Miss, AddG, AddS}
 use Rattle.vms_core.specs.Cells.{entry}
 use Rattle.vms_core.specs.Changes.{carried_by}
-use Rattle.vms_calls.specs.Calls.{IsChange}
+use Rattle.vms_calls.specs.Changes.{IsChange}
 
 -- the additions of an amount, which are there where it isn't 0
 abbrev pub read_two : List Step → Unit {0} × List Step

@@ -1,8 +1,8 @@
 pub mod Lists
 pub mod HeaderFacts
-pub mod Calls
+pub mod Changes
 pub mod ChangeReadings
-pub mod Following
+pub mod LoneChanges
 pub mod Looks
 pub mod LookReadings
 pub mod Folds

@@ -90,6 +90,7 @@ pub record IsWatermarkTest (header : Header) (g : PlaceId) (mark : WaterMark) (m
   pub further : List Step
   pub in_order : steps ≡ LoadM g first.mark first.number ∷ LoadG (free_pages header.layout g) value
       ∷ LoadM g second.mark second.number ∷ further
-  pub frees : Frees header.layout (free_pages header.layout g) (is_doubtful first value second) value further answer.free
+  pub frees : Frees header.layout (free_pages header.layout g)
+      (is_doubtful first value second) value further answer.free
   pub fast : answer.fast ≡ not (is_doubtful first value second)
   pub yes : answer.yes ≡ nat_lt (limit_of header g.number mark most) answer.free

@@ -23,9 +23,9 @@ use Rattle.vms_core.specs.Own.{CarriesNothing}
 use Rattle.vms_core.specs.Pages.{History, state_after}
 use Rattle.vms_core.specs.Peaks.{sets, threshold_in, peak, cpu_in, peak_sum}
 use Rattle.vms_core.specs.Steps.{turn}
-use Rattle.vms_calls.specs.Calls.{IsChange}
+use Rattle.vms_calls.specs.Changes.{IsChange}
 use Rattle.vms_calls.specs.Folds.{IsFold}
-use Rattle.vms_calls.specs.Following.{MayChange}
+use Rattle.vms_calls.specs.LoneChanges.{MayChange}
 use Rattle.vms_calls.specs.HeaderFacts.{facts_of}
 use Rattle.vms_calls.specs.Looks.{Verdict, IsPlaceValue, IsSystemValue, IsSnapshot, IsWatermarkTest}
 use Rattle.vms_calls.specs.MayMake.{HasMade, MayBegin, LivesIn, ControlsIn}

@@ -48,7 +48,8 @@ read_areas header g mark most (suc n) (verdict, rest) =
     else without_blocks false verdict rest
 
 abbrev pub read_order_test : Header → PlaceId → WaterMark → (most order : ℕ) → List Step → OrderVerdict × List Step
-read_order_test header g mark most order steps = read_areas header g mark most order (read_test header g mark most steps)
+read_order_test header g mark most order steps =
+    read_areas header g mark most order (read_test header g mark most steps)
 
 -- the answer of a balance test of these zones
 abbrev pub passed_or : ℕ → OrderVerdict × List Step → (List Step → Balance × List Step) → Balance × List Step

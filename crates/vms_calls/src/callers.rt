@@ -17,7 +17,8 @@ ghost use Rattle.vms_calls.specs.Turns.{OrderVerdict, Balance, IsOrderTest, IsBa
 
 use crate::ThresholdRules;
 
-/// After a call that looks at values or tests them its caller carries what it carried before, and no CPU has spent more.
+/// After a call that looks at values or tests them its caller carries what it carried before, and no CPU has spent
+/// more.
 pub fn looks_leave_their_caller()
     ensures place_value { (shape : Shape) (k : CounterId) → Leaves shape
         (λ p h steps. (answer : ℕ) × IsPlaceValue k steps answer) }
@@ -25,10 +26,11 @@ pub fn looks_leave_their_caller()
         (λ p h steps. (answer : ℕ) × IsSystemValue i steps answer) }
     ensures snapshot { (shape : Shape) (k : CounterId) → Leaves shape
         (λ p h steps. (answer : ℕ) × IsSnapshot shape k steps answer) }
-    ensures test { (header : Header) (g : PlaceId) (mark : WaterMark) (most : ℕ) → Leaves header.layout
-        (λ p h steps. (answer : Verdict) × IsWatermarkTest header g mark most steps answer) }
-    ensures order { (header : Header) (g : PlaceId) (mark : WaterMark) (most order : ℕ) → Leaves header.layout
-        (λ p h steps. (answer : OrderVerdict) × IsOrderTest header g mark most order steps answer) }
+    ensures test { (header : Header) (g : PlaceId) (mark : WaterMark) (most : ℕ) →
+        Leaves header.layout (λ p h steps. (answer : Verdict) × IsWatermarkTest header g mark most steps answer) }
+    ensures order { (header : Header) (g : PlaceId) (mark : WaterMark) (most order : ℕ) →
+        Leaves header.layout (λ p h steps. (answer : OrderVerdict)
+        × IsOrderTest header g mark most order steps answer) }
     ensures balance { (header : Header) (n : PlaceId) (order most : ℕ) → Leaves header.layout
         (λ p h steps. (answer : Balance) × IsBalanceTest header n order most steps answer) }
 {}
@@ -39,18 +41,19 @@ pub fn folds_leave_their_caller()
         (λ p h steps. IsFold shape is_own c steps) }
 {}
 
-/// After a call that sets thresholds, a burial or a turn of kswapd its caller carries what it carried before, and no CPU
-/// has spent more.
+/// After a call that sets thresholds, a burial or a turn of kswapd its caller carries what it carried before, and no
+/// CPU has spent more.
 pub fn ratings_leave_their_caller<R: ThresholdRules>()
     ensures pressure { (facts : Facts) (n : PlaceId) → Leaves facts.layout
         (λ p h steps. SetsPressure facts R.pressure R.normal n p h steps) }
     ensures normal { (facts : Facts) (n : PlaceId) → Leaves facts.layout
         (λ p h steps. SetsNormal facts R.normal n p h steps) }
-    ensures refresh { (facts : Facts) → Leaves facts.layout (λ p h steps. Refreshes facts R.normal p h steps) }
+    ensures refresh { (facts : Facts) → Leaves facts.layout
+        (λ p h steps. Refreshes facts R.normal p h steps) }
     ensures burial { (facts : Facts) (c : CpuId) → IsLayout facts.layout → Leaves facts.layout
         (λ p h steps. Buries facts R.normal c p h steps) }
-    ensures turn { (header : Header) (base : State) (n : PlaceId) (order most : ℕ) → Leaves header.layout
-        (λ p h steps. (answer : Balance)
+    ensures turn { (header : Header) (base : State) (n : PlaceId) (order most : ℕ) →
+        Leaves header.layout (λ p h steps. (answer : Balance)
         × IsTurn header base R.pressure R.normal n order most p h steps answer) }
 {}
 

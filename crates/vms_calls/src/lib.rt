@@ -1,5 +1,5 @@
-//! The calls on the page counters: which steps each makes, what these tell of its answer and of where they end, what they
-//! leave as it was, and that a pass may make them whatever other callers do meanwhile.
+//! The calls on the page counters: which steps each makes, what these tell of its answer and of where they end, what
+//! they leave as it was, and that a pass may make them whatever other callers do meanwhile.
 #![tactic(auto)]
 
 mod callers;
@@ -12,7 +12,7 @@ mod rules;
 mod tests;
 
 pub use callers::{
-    folds_leave_their_caller, looks_leave_their_caller, control_passes_know_by_own_steps,
+    control_passes_know_by_own_steps, folds_leave_their_caller, looks_leave_their_caller,
     ratings_leave_their_caller,
 };
 pub use changes::{changes_follow, changes_miss_once, changes_spend_their_size};

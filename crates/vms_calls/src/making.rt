@@ -26,11 +26,12 @@ pub fn thresholds_may_be_set<R: ThresholdRules>()
     ensures normal { GivesThresholds R.normal → MakesNodeRating (ByNormal R.normal) }
     ensures refresh { GivesThresholds R.normal → MakesRefresh R.normal }
     ensures burial { GivesThresholds R.normal → MakesBurial R.normal }
-    ensures turn { GivesThresholds R.pressure → GivesThresholds R.normal → MakesTurn R.pressure R.normal }
+    ensures turn { GivesThresholds R.pressure → GivesThresholds R.normal →
+        MakesTurn R.pressure R.normal }
 {}
 
-/// Every live pass that carries nothing may make the steps of a fold, whatever others do between them; of its own CPU it
-/// may acknowledge the thresholds too.
+/// Every live pass that carries nothing may make the steps of a fold, whatever others do between them; of its own CPU
+/// it may acknowledge the thresholds too.
 pub fn folds_may_be_made()
     ensures { MakesFold }
 {}

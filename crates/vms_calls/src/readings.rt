@@ -25,8 +25,8 @@ pub fn changes_and_folds_are_told()
     ensures fold { TellsFold }
 {}
 
-/// The steps of a call that sets thresholds, of a burial and of a turn of kswapd tell where they end, and those of a turn
-/// its answer, where each call found a CPU online.
+/// The steps of a call that sets thresholds, of a burial and of a turn of kswapd tell where they end, and those of a
+/// turn its answer, where each call found a CPU online.
 pub fn ratings_are_told<R: ThresholdRules>()
     ensures pressure { TellsNodeRating (ByPressure R.pressure R.normal) }
     ensures normal { TellsNodeRating (ByNormal R.normal) }

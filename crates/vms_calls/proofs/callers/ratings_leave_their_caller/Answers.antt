@@ -7,7 +7,8 @@ pub returns : goal.returns
 returns g c = record {
   pressure = λ facts n p began steps call h.
       still-leaves facts.layout p steps h
-      (node-each IsStill ratings-still facts (ByPressure g.R.ThresholdRules.pressure g.R.ThresholdRules.normal) n p began
+      (node-each IsStill ratings-still facts
+      (ByPressure g.R.ThresholdRules.pressure g.R.ThresholdRules.normal) n p began
       steps call);
   normal = λ facts n p began steps call h.
       still-leaves facts.layout p steps h

@@ -1,4 +1,4 @@
-use Rattle.vms_calls.proofs.Following.{goes_on_with_change}
+use Rattle.vms_calls.proofs.LoneChanges.{goes_on_with_change}
 use Rattle.vms_calls.proofs.changes.changes_follow.Goals as goal
 
 pub returns : goal.returns

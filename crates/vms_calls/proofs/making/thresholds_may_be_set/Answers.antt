@@ -10,7 +10,8 @@ returns g c = record {
   pressure_zone = λ pressures normals.
       rating-may (ByPressure g.R.ThresholdRules.pressure g.R.ThresholdRules.normal)
       (pressure-gives g.R.ThresholdRules.pressure g.R.ThresholdRules.normal pressures normals);
-  normal_zone = λ normals. rating-may (ByNormal g.R.ThresholdRules.normal) (normal-gives g.R.ThresholdRules.normal normals);
+  normal_zone = λ normals. rating-may (ByNormal g.R.ThresholdRules.normal)
+      (normal-gives g.R.ThresholdRules.normal normals);
   pressure = λ pressures normals.
       node-may (ByPressure g.R.ThresholdRules.pressure g.R.ThresholdRules.normal)
       (pressure-gives g.R.ThresholdRules.pressure g.R.ThresholdRules.normal pressures normals);

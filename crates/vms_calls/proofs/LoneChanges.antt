@@ -23,14 +23,14 @@ use Rattle.vms_core.specs.declared.states.State.{State}
 use Rattle.vms_core.specs.declared.steps.Facts.{Facts}
 use Rattle.vms_core.specs.declared.steps.Step.{Step}
 use Rattle.vms_core.specs.declared.steps.Step.TheVariants.{LoadT, LoadD, Put, AddG, AddS}
-use Rattle.vms_calls.specs.Calls.{Carries, HasWon}
-use Rattle.vms_calls.specs.Calls.Carries.{nothing, amount}
-use Rattle.vms_calls.specs.Calls.Exchanges.{won}
+use Rattle.vms_calls.specs.Changes.{Carries, HasWon}
+use Rattle.vms_calls.specs.Changes.Carries.{nothing, amount}
+use Rattle.vms_calls.specs.Changes.Exchanges.{won}
 use Rattle.vms_core.specs.Cells.{TellsGroup, entry, value_at, threshold_at, threshold_sets_at, cpu_at, with_value, with_diff}
 use Rattle.vms_core.proofs.GroupLists.{group_is_list}
 use Rattle.vms_core.specs.Changes.{differential_after, carried_by}
 use Rattle.vms_core.specs.Conditions.{Meets, Owns}
-use Rattle.vms_calls.specs.Following.{MayChange, FollowsAlone, GoesOnWithChange}
+use Rattle.vms_calls.specs.LoneChanges.{MayChange, FollowsAlone, GoesOnWithChange}
 use Rattle.vms_core.specs.ChangedStates.{with_carried, with_change}
 use Rattle.vms_core.specs.Own.{CarriesNothing, carried, carried_of_item, found, loaded}
 use Rattle.vms_core.specs.Pages.{pages, History, state_after}

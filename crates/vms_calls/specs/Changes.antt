@@ -24,7 +24,8 @@ pub data Exchanges (k : CounterId) (w : Diffs) (t : ℕ) (delta : ℤ) (how : Mo
 
 -- a change of a counter by the owner of a CPU, oldest step first: the threshold and the group are loaded, the list is
 -- exchanged, and what the change carries is added
-pub record IsChange (shape : Shape) (cpu : CpuId) (k : CounterId) (delta : ℤ) (how : Mode) (steps : List Step) : Type 0 where
+pub record IsChange (shape : Shape) (cpu : CpuId) (k : CounterId) (delta : ℤ) (how : Mode)
+    (steps : List Step) : Type 0 where
   pub t : ℕ
   pub number : ℕ
   pub first : Diffs
@@ -42,7 +43,8 @@ HasWon (Miss j w) = ⊥
 HasWon _ = Unit {0}
 
 -- a change that met no other caller
-pub record IsChangeAlone (shape : Shape) (cpu : CpuId) (k : CounterId) (delta : ℤ) (how : Mode) (steps : List Step) : Type 0 where
+pub record IsChangeAlone (shape : Shape) (cpu : CpuId) (k : CounterId) (delta : ℤ) (how : Mode)
+    (steps : List Step) : Type 0 where
   pub change : IsChange shape cpu k delta how steps
   pub alone : All HasWon steps
 

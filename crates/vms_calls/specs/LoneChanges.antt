@@ -10,7 +10,7 @@ use Rattle.vms_history.specs.Passes.{lives_in, owner_in}
 use Rattle.vms_core.specs.declared.states.State.{State}
 use Rattle.vms_core.specs.declared.steps.Facts.{Facts}
 use Rattle.vms_core.specs.declared.steps.Step.{Step}
-use Rattle.vms_calls.specs.Calls.{IsChangeAlone}
+use Rattle.vms_calls.specs.Changes.{IsChangeAlone}
 use Rattle.vms_core.specs.Cells.{cpu_at}
 use Rattle.vms_core.specs.ChangedStates.{with_change}
 use Rattle.vms_base.specs.Volumes.{most_volume}
