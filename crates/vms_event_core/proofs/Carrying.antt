@@ -16,7 +16,8 @@ use Rattle.vms_event_core.specs.declared.steps.EventFacts.{EventFacts}
 use Rattle.vms_event_core.specs.declared.steps.EventStep.{EventStep}
 use Rattle.vms_event_core.specs.declared.steps.EventStep.TheVariants.{TakeE, AddF}
 use Rattle.vms_event_core.specs.Conditions.{Meets}
-use Rattle.vms_event_core.specs.Events.{events, History, IsLegal, IsComplete, IsLiveControl, state_after, carried_by_all}
+use Rattle.vms_event_core.specs.Events.{events, History, IsLegal, IsComplete, state_after, carried_by_all}
+use Rattle.vms_event_core.specs.Laws.{IsLiveControl}
 use Rattle.vms_event_core.specs.Own.{moved, carried}
 use Rattle.vms_event_core.specs.Steps.{turn}
 use Rattle.vms_event_core.specs.Words.{IsEvent}

@@ -14,13 +14,14 @@ use Rattle.vms_event_core.specs.declared.steps.EventFacts.{EventFacts}
 use Rattle.vms_event_core.specs.declared.steps.EventStep.{EventStep}
 use Rattle.vms_event_core.specs.declared.steps.EventStep.TheVariants.{AddE, TakeE, AddF}
 use Rattle.vms_event_core.specs.Conditions.{Meets}
-use Rattle.vms_event_core.specs.Events.{events, History, IsLegal, state_after, carried_by_all, true_total, KeepsTotals, IsComplete, HoldsTotals}
+use Rattle.vms_event_core.specs.Events.{events, History, IsLegal, state_after, carried_by_all, true_total, IsComplete}
+use Rattle.vms_event_core.specs.Laws.{KeepsTotals, HoldsTotals}
 use Rattle.vms_event_core.specs.Own.{moved}
 use Rattle.vms_event_core.specs.Steps.{turn}
 use Rattle.vms_event_core.specs.Totals.{counted, word_after, word_in}
 use Rattle.vms_event_core.specs.Words.{IsEvent, word_at, words_of}
 use Rattle.vms_event_core.proofs.Carrying.{nothing_carried}
-use Rattle.vms_event_core.proofs.Standing.{owner_known, word_at-state_after}
+use Rattle.vms_event_core.proofs.StateWords.{owner_known, word_at-state_after}
 
 -- b says whether the step is on the event that is summed
 addition-adds_up : (b : Bool) (sum after : ℤ) (word n : ℕ)

@@ -3,13 +3,13 @@ use super::*;
 #[test]
 fn laws_hold_of_the_event_table() {
     answers_are_read();
-    control_passes_carry();
-    dead_words_move_once();
-    each_beginning_is_kept();
-    folds_carry_nothing();
+    calls_carry_nothing();
+    calls_may_be_made();
+    ends_are_bases();
+    counts_alone_spend();
+    folded_words_are_zero();
+    laws_are_kept();
     online_words_grow();
-    shape_is_kept();
     spending_is_known();
-    totals_are_kept();
-    words_are_bounded();
+    table_is_quiet();
 }

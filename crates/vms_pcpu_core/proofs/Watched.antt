@@ -111,7 +111,7 @@ module _ (facts : PcpuFacts) (e : Event PcpuStep) (h : History) (p : ℕ) (c : C
     (legal : IsLegal facts (e ∷ h))
     (lives : lives_in turn h p ≡ true) (owner : owner_in turn h p ≡ Some c)
     (load : nat_eq e.caller p ≡ true → IsLoad e.step) where
-  local_after-kept : (x : ℤ) → local_after (owner_in turn h e.caller) c.number j e.step x ≡ x
+  pub local_after-kept : (x : ℤ) → local_after (owner_in turn h e.caller) c.number j e.step x ≡ x
   local_after-kept x = by (nat_eq e.caller p) refl
     where
       who : Option CpuId
@@ -127,7 +127,7 @@ module _ (facts : PcpuFacts) (e : Event PcpuStep) (h : History) (p : ℕ) (c : C
           others-local facts h s e.caller c j who e.step x refl legal.2
           (other-owns facts e h p c legal lives owner other) online
 
-  spent_by-none : spent_by (owner_in turn h e.caller) c.number j (carried j (own h e.caller)) e.step ≡ 0
+  pub spent_by-none : spent_by (owner_in turn h e.caller) c.number j (carried j (own h e.caller)) e.step ≡ 0
   spent_by-none = by (nat_eq e.caller p) refl
     where
       if_zero : (b : Bool) (n : ℕ) → n ≡ 0 → (if b then n else 0) ≡ 0
