@@ -20,7 +20,7 @@ use Rattle.vms_calls.specs.Lists.{in_turn}
 use Rattle.vms_calls.specs.MayMake.{HasMade}
 use Rattle.vms_calls.specs.RatingReadings.{SomeOnline, NodeFindsOnline, RefreshFindsOnline, BurialFindsOnline}
 use Rattle.vms_calls.specs.Ratings.{Choice, ByNormal, ByPressure, RatesNode, Refreshes, state_steps, threshold_steps, largest_on}
-use Rattle.vms_calls.specs.TurnLaws.{FindsOnline}
+use Rattle.vms_calls.specs.TurnLaws.{TurnFindsOnline}
 use Rattle.vms_calls.specs.TurnReadings.{SettlesOnline}
 use Rattle.vms_calls.specs.Turns.{Balance, Settles}
 use Rattle.vms_calls.specs.Turns.Balance.{Yes, No}
@@ -131,7 +131,7 @@ burial-online normal facts c p later h steps buries has =
     (subst (HasMade facts later h p)
     (buries.in_order ∙ sym (append_assoc buries.fold (SetO c ∷ []) buries.refresh)) has)
 
-pub turn-online : (pressure normal : ZoneSize → ℕ → ℕ → Type 0) → FindsOnline pressure normal
+pub turn-online : (pressure normal : ZoneSize → ℕ → ℕ → Type 0) → TurnFindsOnline pressure normal
 turn-online pressure normal header base n order most p later h steps answer call has =
     let facts = facts_of header base in
     let whole = subst (HasMade facts later h p) call.in_order has in (

@@ -49,7 +49,7 @@ module _ (shape : Shape) (g : PlaceId) where
       ∙ ap (λ q. made rest answer.yes answer.free q a) (sym same_fast)
       ∙ ap (λ a. made rest answer.yes answer.free answer.fast a) (sym same_area)
 
--- What a test of a watermark leaves to a test for an order, in a header's zone
+-- what a test of a watermark leaves to a test for an order, in a header's zone
 module _ (header : Header) (g : PlaceId) (mark : WaterMark) (most : ℕ) (verdict : Verdict) (answer : OrderVerdict)
     (free : answer.free ≡ verdict.free) (fast : answer.fast ≡ verdict.fast) (rest : List Step) where
   blocks-read : (n : ℕ) (room : Bool) (steps : List Step) → Blocks header g n room steps answer

@@ -13,7 +13,8 @@ use Rattle.vms_core.specs.Steps.{turn}
 use Rattle.vms_core.specs.Totals.{change_size, spent}
 use Rattle.vms_calls.specs.Changes.{IsChange}
 
--- what a caller carried before these steps, for each counter and item, it carries after them
+-- what a caller carried before these steps, for each counter and item, it carries after them: `h` are its own events
+-- before
 pub record CarriesAsBefore (shape : Shape) (p : ℕ) (steps : List Step) (h : History) : Type 0 where
   pub counters : (k : ℕ) → carried k (after p steps h) ≡ carried k h
   pub items : (i : ℕ) → carried_of_item shape i (after p steps h) ≡ carried_of_item shape i h

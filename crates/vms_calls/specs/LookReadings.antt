@@ -54,16 +54,17 @@ read_snapshot shape k [] = (0, [])
 read_snapshot shape k (load ∷ rest) = clamped (read_looks k.number shape.cpus (value_told load) rest)
 
 -- the answer of a test of a watermark, from whether there is doubt, the value and the steps after the loads
-abbrev pub verdict_of : ℕ → Bool → ℕ × List Step → Verdict × List Step
-verdict_of limit fast (free, rest) = (record { yes = nat_lt limit free; free = free; fast = fast }, rest)
+abbrev pub verdict_of : Header → PlaceId → WaterMark → ℕ → Bool → ℕ × List Step → Verdict × List Step
+verdict_of header g mark most fast (free, rest) =
+    (record { yes = nat_lt (limit_of header g.number mark most) free; free = free; fast = fast }, rest)
 
-abbrev pub read_further : Shape → CounterId → ℕ → Bool → ℤ → List Step → Verdict × List Step
-read_further shape k limit true value rest = verdict_of limit false (read_snapshot shape k rest)
-read_further shape k limit false value rest = verdict_of limit true (at_least_zero value, rest)
+abbrev pub read_further : Header → PlaceId → WaterMark → ℕ → Bool → ℤ → List Step → Verdict × List Step
+read_further header g mark most true value rest =
+    verdict_of header g mark most false (read_snapshot header.layout (free_pages header.layout g) rest)
+read_further header g mark most false value rest = verdict_of header g mark most true (at_least_zero value, rest)
 
 abbrev pub read_test : Header → PlaceId → WaterMark → ℕ → List Step → Verdict × List Step
-read_test header g mark most (first ∷ load ∷ second ∷ rest) =
-    read_further header.layout (free_pages header.layout g) (limit_of header g.number mark most)
+read_test header g mark most (first ∷ load ∷ second ∷ rest) = read_further header g mark most
     (is_doubtful (mark_told first) (value_told load) (mark_told second)) (value_told load) rest
 read_test header g mark most _ = (record { yes = false; free = 0; fast = false }, [])
 

@@ -11,7 +11,7 @@ use Rattle.vms_base.specs.declared.kinds.Mode.{Mode}
 use Rattle.vms_base.specs.declared.kinds.WaterMark.{WaterMark}
 use Rattle.vms_base.specs.declared.kinds.ZoneSize.{ZoneSize}
 use Rattle.vms_base.specs.Headers.{IsHeader}
-use Rattle.vms_base.specs.Places.{IsCpu, IsZone, IsCounter, IsItem}
+use Rattle.vms_base.specs.Places.{Shape, IsCpu, IsZone, IsCounter, IsItem}
 use Rattle.vms_history.specs.Events.{own, after}
 use Rattle.vms_history.specs.Passes.{owner_in}
 use Rattle.vms_core.specs.declared.states.State.{State}
@@ -75,13 +75,13 @@ MakesTurn pressure normal = (header : Header) (base : State) (h : History) (p : 
     (λ steps. (answer : Balance) × IsTurn header base pressure normal n order most p h steps answer)
 
 -- these CPUs of the layout are online
-abbrev pub AreOnline : Facts → State → List CpuId → Type 0
-AreOnline facts s online = All (λ c. IsCpu facts.layout c.number × (cpu_at s c.number ≡ Online)) online
+abbrev pub AreOnline : Shape → State → List CpuId → Type 0
+AreOnline shape s online = All (λ c. IsCpu shape c.number × (cpu_at s c.number ≡ Online)) online
 
 -- the control pass may rate a zone: give it a threshold, where it found its mark and which CPUs are online
 abbrev pub MakesRating : Choice → Type 0
 MakesRating Chooses = (facts : Facts) (h : History) (p : ℕ) (online : List CpuId) (g t m : ℕ) →
-    ControlsIn facts h p → AreOnline facts (state_after facts h) online → length online ≤ facts.layout.cpus →
+    ControlsIn facts h p → AreOnline facts.layout (state_after facts h) online → length online ≤ facts.layout.cpus →
     IsZone facts.layout g → mark_at (state_after facts h) g ≡ m →
     MayBegin facts p h (λ steps. Rates facts p online Chooses g t m h steps)
 

@@ -61,8 +61,8 @@ LeavesPressure pressure normal = (header : Header) (base : State) (n : PlaceId) 
     → LeavesByRule header.sizes pressure turn.presses.states turn.pressed steps
 
 -- in a legal history the calls of a turn find a CPU online
-abbrev pub FindsOnline : (pressure normal : ZoneSize → ℕ → ℕ → Type 0) → Type 0
-FindsOnline pressure normal = (header : Header) (base : State) (n : PlaceId) (order most p : ℕ) (later h : History)
+abbrev pub TurnFindsOnline : (pressure normal : ZoneSize → ℕ → ℕ → Type 0) → Type 0
+TurnFindsOnline pressure normal = (header : Header) (base : State) (n : PlaceId) (order most p : ℕ) (later h : History)
     (steps : List Step) (answer : Balance)
     (turn : IsTurn header base pressure normal n order most p h steps answer) →
     HasMade (facts_of header base) later h p steps → SomeOnline turn.presses.states

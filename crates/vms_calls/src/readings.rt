@@ -3,7 +3,7 @@ ghost use Rattle.vms_calls.specs.FoldReadings.{TellsFold};
 ghost use Rattle.vms_calls.specs.LookReadings.{TellsPlaceValue, TellsSystemValue, TellsSnapshot, TellsTest};
 ghost use Rattle.vms_calls.specs.RatingReadings.{TellsNodeRating, TellsRefresh, TellsBurial, NodeFindsOnline, RefreshFindsOnline, BurialFindsOnline};
 ghost use Rattle.vms_calls.specs.Ratings.{ByNormal, ByPressure};
-ghost use Rattle.vms_calls.specs.TurnLaws.{FindsOnline};
+ghost use Rattle.vms_calls.specs.TurnLaws.{TurnFindsOnline};
 ghost use Rattle.vms_calls.specs.TurnReadings.{TellsOrderTest, TellsBalance, TellsTurn};
 
 use crate::ThresholdRules;
@@ -41,5 +41,5 @@ pub fn ratings_find_a_cpu<R: ThresholdRules>()
     ensures normal { NodeFindsOnline (ByNormal R.normal) }
     ensures refresh { RefreshFindsOnline R.normal }
     ensures burial { BurialFindsOnline R.normal }
-    ensures turn { FindsOnline R.pressure R.normal }
+    ensures turn { TurnFindsOnline R.pressure R.normal }
 {}
