@@ -12,6 +12,7 @@ pub mod WorkerSteps
 pub mod WithChange
 pub mod Below
 pub mod Settings
+pub mod NumberChanges
 pub mod PeakSteps
 pub mod Owners
 pub mod PeakBounds

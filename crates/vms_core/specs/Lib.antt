@@ -11,6 +11,7 @@ pub mod Plain
 pub mod Conditions
 pub mod Pages
 pub mod Quiet
+pub mod NumberChanges
 pub mod PeakLaws
 pub mod MarkNumbers
 pub mod Settling

@@ -1,6 +1,9 @@
-ghost use Rattle.std.specs.Prelude.{◌++◌};
+ghost use Rattle.std.specs.Prelude.{◌∷◌, ◌++◌};
+ghost use Rattle.vms_history.specs.declared.events.Event.{Event};
 ghost use Rattle.vms_core.specs.declared.steps.Facts.{Facts};
+ghost use Rattle.vms_core.specs.declared.steps.Step.{Step};
 ghost use Rattle.vms_core.specs.Laws.{KeepsLaws};
+ghost use Rattle.vms_core.specs.NumberChanges.{ChangesNumbers};
 ghost use Rattle.vms_core.specs.Pages.{History, IsLegal};
 
 mod ends;
@@ -22,4 +25,9 @@ pub use taken::offline_groups_are_found_once;
 /// hold after each of its steps.
 pub fn laws_are_kept()
     ensures { (facts : Facts) (more h : History) → IsLegal facts (more ++ h) → KeepsLaws facts h }
+{}
+
+/// What the newest event of a legal history makes of each number of the state.
+pub fn steps_change_numbers()
+    ensures { (facts : Facts) (e : Event Step) (h : History) → IsLegal facts (e ∷ h) → ChangesNumbers facts e h }
 {}
