@@ -8,7 +8,7 @@ ghost use Rattle.vms_base.specs.declared.kinds.WaterMark.{WaterMark};
 ghost use Rattle.vms_base.specs.Places.{Shape, IsLayout};
 ghost use Rattle.vms_core.specs.declared.states.State.{State};
 ghost use Rattle.vms_core.specs.declared.steps.Facts.{Facts};
-ghost use Rattle.vms_calls.specs.CallerLaws.{Leaves};
+ghost use Rattle.vms_calls.specs.CallerLaws.{Leaves, CallsLeaveMeanwhile, ChangesLeaveMeanwhile};
 ghost use Rattle.vms_calls.specs.Folds.{IsFold};
 ghost use Rattle.vms_calls.specs.Looks.{Verdict, IsPlaceValue, IsSystemValue, IsSnapshot, IsWatermarkTest};
 ghost use Rattle.vms_calls.specs.MayCall.{KnowsByOwnSteps};
@@ -55,6 +55,13 @@ pub fn ratings_leave_their_caller<R: ThresholdRules>()
     ensures turn { (header : Header) (base : State) (n : PlaceId) (order most : ℕ) →
         Leaves header.layout (λ p h steps. (answer : Balance)
         × IsTurn header base R.pressure R.normal n order most p h steps answer) }
+{}
+
+/// A call that was made while others acted leaves its caller as its steps in a row do: the caller carries what it carried
+/// before, and its CPU has spent no more, after a change the size of the change more.
+pub fn made_calls_leave_their_caller()
+    ensures call { CallsLeaveMeanwhile }
+    ensures change { ChangesLeaveMeanwhile }
 {}
 
 /// The control pass knows peaks, thresholds, marks and the CPUs' states by its own steps alone, whatever others did
