@@ -1,8 +1,7 @@
 -- A call that was made while others acted leaves its caller as its steps in a row do.
-use Rattle.std.proofs.Common.{◌≡◌, ℕ, ◌+◌, Bool, true, false, nat_eq, if◌then◌else◌, ℤ, pos, ◌+ℤ◌, List, [], Some, ap, ◌∙◌, arith, unsigned_abs}
+use Rattle.std.proofs.Common.{◌≡◌, ℕ, ◌+◌, Bool, true, false, nat_eq, if◌then◌else◌, pos, ◌+ℤ◌, List, [], Some, ap, ◌∙◌, arith, unsigned_abs}
 use Rattle.std.proofs.lemmas.Int.{ints}
 use Rattle.vms_base.specs.declared.ids.CpuId.{CpuId}
-use Rattle.vms_base.specs.Places.{Shape}
 use Rattle.vms_history.specs.Events.{own, after, total}
 use Rattle.vms_history.specs.Passes.{owner_in}
 use Rattle.vms_core.specs.declared.steps.Facts.{Facts}
