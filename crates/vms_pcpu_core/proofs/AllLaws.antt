@@ -1,15 +1,7 @@
--- For other crates too: all laws of a legal history together, and that passes leave the state.
-use Rattle.std.proofs.Common.{◌≡◌, ◌≢◌, ℕ, ◌++◌, Option, refl}
-use Rattle.vms_base.specs.declared.ids.CpuId.{CpuId}
-use Rattle.vms_history.specs.Legal.{IsQuiet}
-use Rattle.vms_history.specs.Passes.Turn.{Works}
+-- For other crates too: all laws of a legal history together.
+use Rattle.std.proofs.Common.{◌++◌}
 use Rattle.vms_history.proofs.Prefixes.{prefix_is_legal}
 use Rattle.vms_pcpu_core.specs.declared.steps.PcpuFacts.{PcpuFacts}
-use Rattle.vms_pcpu_core.specs.declared.steps.PcpuStep.{PcpuStep}
-use Rattle.vms_pcpu_core.specs.Conditions.{Meets}
-use Rattle.vms_pcpu_core.specs.States.{LockedState}
-use Rattle.vms_pcpu_core.specs.Steps.{turn, effect}
-use Rattle.vms_pcpu_core.specs.declared.steps.PcpuStep.TheVariants.{Split, Join}
 use Rattle.vms_pcpu_core.specs.Histories.{percpu, History, IsLegal}
 use Rattle.vms_pcpu_core.specs.Laws.{KeepsLaws}
 use Rattle.vms_pcpu_core.proofs.Bounds.{locals-bounded}
@@ -36,18 +28,3 @@ all-kept facts h legal = record {
 
 pub laws-kept : (facts : PcpuFacts) (more h : History) → IsLegal facts (more ++ h) → KeepsLaws facts h
 laws-kept facts more h legal = all-kept facts h (prefix_is_legal percpu facts more h legal)
-
-pub percpu-quiet : IsQuiet percpu
-percpu-quiet = record { leaves = leaves; asks_nothing = asks_nothing }
-  where
-    leaves : (facts : PcpuFacts) (who : Option CpuId) (step : PcpuStep) (s : LockedState) → turn step ≢ Works
-        → effect facts who step s ≡ s
-    leaves facts who (Split q w) s passes = refl
-    leaves facts who (Join q) s passes = refl
-    leaves facts who _ s passes = absurd (passes refl)
-
-    asks_nothing : (facts : PcpuFacts) (h : History) (s : LockedState) (p : ℕ) (step : PcpuStep) → turn step ≢ Works
-        → Meets facts h s p step
-    asks_nothing facts h s p (Split q w) passes = tt
-    asks_nothing facts h s p (Join q) passes = tt
-    asks_nothing facts h s p _ passes = absurd (passes refl)

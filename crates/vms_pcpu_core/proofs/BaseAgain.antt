@@ -1,23 +1,22 @@
 -- For other crates too: how a complete history ends, and that it leaves a base.
-use Rattle.std.proofs.Common.{◌≡◌, ℕ, zero, suc, ◌+◌, ◌*◌, ◌<◌, ◌≤◌, ◌^◌, Bool, true, false, true≢false, List, [], ◌∷◌, length, get_or, replicate, Option, Some, None, is_some, ℤ, pos, ◌+ℤ◌, ◌≤ℤ◌, unsigned_abs, refl, sym, ap, subst, ◌∙◌, arith}
+use Rattle.std.proofs.Common.{◌≡◌, ℕ, zero, suc, ◌*◌, ◌<◌, Bool, false, true≢false, List, [], ◌∷◌, length, get_or, replicate, Option, Some, None, is_some, ℤ, pos, ◌+ℤ◌, ◌≤ℤ◌, unsigned_abs, refl, sym, ap, subst, ◌∙◌, arith}
 use Rattle.std.proofs.lemmas.Int.{ints}
-use Rattle.vms_base.specs.Places.{IsCpu}
 use Rattle.vms_base.specs.Volumes.{most_volume}
 use Rattle.vms_history.specs.Events.{own}
-use Rattle.vms_history.specs.Passes.{begun_in, lives_in}
+use Rattle.vms_history.specs.Passes.{begun_in}
 use Rattle.vms_history.specs.Sums.{sum_below}
 use Rattle.vms_history.proofs.Prefixes.{base_can_begin}
-use Rattle.vms_history.proofs.SumBounds.{sum_below-size, sum_below-most, sum_below-le}
+use Rattle.vms_history.proofs.SumBounds.{sum_below-size, sum_below-most}
 use Rattle.vms_history.proofs.SumLaws.{sum_below-same, sum_below-sum, sum_below-zeros}
 use Rattle.vms_pcpu_core.specs.declared.steps.PcpuFacts.{PcpuFacts}
-use Rattle.vms_pcpu_core.specs.Bases.{IsBase, most_batch}
+use Rattle.vms_pcpu_core.specs.Bases.{most_batch}
 use Rattle.vms_pcpu_core.specs.Endings.{IsComplete, HoldsTotals, ending, LeavesRoom, BeginsAgain, most_start, IsPaid, StaysWithinVolumes, spent_by_now}
 use Rattle.vms_pcpu_core.specs.Histories.{percpu, History, IsLegal, state_after}
 use Rattle.vms_pcpu_core.specs.Laws.{numbers_after, carried_by_all}
-use Rattle.vms_pcpu_core.specs.Own.{holds, carried}
-use Rattle.vms_pcpu_core.specs.States.{IsPcpu, counters_of, batch_at, count_at, local_at, held_at, unlocked}
+use Rattle.vms_pcpu_core.specs.Own.{carried}
+use Rattle.vms_pcpu_core.specs.States.{IsPcpu, counters_of, batch_at, local_at, held_at}
 use Rattle.vms_pcpu_core.specs.Steps.{turn}
-use Rattle.vms_pcpu_core.specs.Totals.{amounts, holder, locals, spent, true_total}
+use Rattle.vms_pcpu_core.specs.Totals.{holder, locals, spent, true_total}
 use Rattle.vms_pcpu_core.proofs.Bounds.{locals-bounded}
 use Rattle.vms_pcpu_core.proofs.Locks.{holder-one}
 use Rattle.vms_pcpu_core.proofs.Shapes.{HasShape-state_after, batch_at-state_after}
@@ -34,7 +33,8 @@ no-holder facts h j complete j_in = by (holder j h) refl
         let one = holder-one facts h complete.legal j j_in in
         absurd (true≢false (sym (one.lives p ((one.own_events p).1 is)) ∙ complete.ended p))
 
-pub totals-hold : (facts : PcpuFacts) (h : History) (j : ℕ) → IsComplete facts h → IsPcpu facts j → HoldsTotals facts h j
+pub totals-hold : (facts : PcpuFacts) (h : History) (j : ℕ) → IsComplete facts h → IsPcpu facts j
+    → HoldsTotals facts h j
 totals-hold facts h j complete j_in =
     let one = holder-one facts h complete.legal j j_in in
     let free : held_at (state_after facts h) j ≡ false = one.held ∙ ap is_some (no-holder facts h j complete j_in) in
@@ -110,6 +110,7 @@ begins-again facts h complete room =
                   absent = λ is. bounded.absent c j c_in is known;
                 };
           };
+      batches = shape.batch;
       state =
           ap (λ (held : List Bool). record (state_after facts h) { held = held })
           (all-false (state_after facts h).held (counters_of (numbers_after facts h)) (shape.held ∙ sym same)

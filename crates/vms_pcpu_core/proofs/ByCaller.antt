@@ -1,6 +1,6 @@
 -- For other crates too: what a history adds to a counter is the sum over its callers, and what a CPU spends is the sum
 -- over the passes that own it.
-use Rattle.std.proofs.Common.{◌≡◌, ◌≢◌, ℕ, suc, ◌<◌, ◌≤◌, Bool, true, false, List, [], ◌∷◌, Option, Some, None, ℤ, pos, ◌+ℤ◌, ◌-ℤ◌, unsigned_abs, refl, sym, ap, ◌∙◌, inl, inr, if◌then◌else◌, nat_eq, arith}
+use Rattle.std.proofs.Common.{◌≡◌, ◌≢◌, ℕ, suc, ◌<◌, Bool, true, false, [], ◌∷◌, Option, ℤ, pos, ◌+ℤ◌, unsigned_abs, refl, sym, ap, ◌∙◌, inl, inr, if◌then◌else◌, arith}
 use Rattle.std.proofs.lemmas.Int.{ints}
 use Rattle.std.proofs.lemmas.Bool.{cases_lt}
 use Rattle.vms_base.specs.declared.ids.CpuId.{CpuId}
@@ -9,10 +9,9 @@ use Rattle.vms_history.specs.Events.{own}
 use Rattle.vms_history.specs.Passes.{begun_in, owner_in}
 use Rattle.vms_history.specs.Sums.{sum_below}
 use Rattle.vms_history.proofs.CallerSums.{sum_below-callers}
-use Rattle.vms_history.proofs.Choices.{if-same}
 use Rattle.vms_history.proofs.Own.{own-mine, own-others}
 use Rattle.vms_history.proofs.PassLaws.{own-not_given, caller_is_below, caller_is_given, owner_in-append}
-use Rattle.vms_history.proofs.SumLaws.{sum_below-same, sum_below-changed, sum_below-zeros}
+use Rattle.vms_history.proofs.SumLaws.{sum_below-changed, sum_below-zeros}
 use Rattle.vms_pcpu_core.specs.declared.steps.PcpuFacts.{PcpuFacts}
 use Rattle.vms_pcpu_core.specs.declared.steps.PcpuStep.{PcpuStep}
 use Rattle.vms_pcpu_core.specs.Histories.{percpu, History, IsLegal}

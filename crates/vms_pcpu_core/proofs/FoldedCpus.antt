@@ -1,5 +1,5 @@
 -- For other crates too: the local parts of a dead CPU are 0 once they were folded.
-use Rattle.std.proofs.Common.{◌≡◌, ℕ, suc, ◌<◌, Bool, true, false, List, [], ◌∷◌, ◌++◌, Option, ℤ, pos, refl, sym, ap, subst, ◌∙◌, inl, inr, if◌then◌else◌, nat_eq, eq-eqb, arith}
+use Rattle.std.proofs.Common.{◌≡◌, ℕ, ◌<◌, true, false, List, [], ◌∷◌, ◌++◌, Option, pos, refl, ap, subst, ◌∙◌, inl, inr, nat_eq, eq-eqb, arith}
 use Rattle.std.proofs.lemmas.Bool.{cases_lt}
 use Rattle.vms_base.specs.declared.ids.CpuId.{CpuId}
 use Rattle.vms_base.specs.declared.ids.PcpuId.{PcpuId}
@@ -16,7 +16,7 @@ use Rattle.vms_pcpu_core.specs.Calls.{IsSync, IsFoldDead}
 use Rattle.vms_pcpu_core.specs.Calls.IsSync.{moved}
 use Rattle.vms_pcpu_core.specs.Calls.IsFoldDead.{no_counter, one_counter}
 use Rattle.vms_pcpu_core.specs.Effects.{local_after}
-use Rattle.vms_pcpu_core.specs.Histories.{percpu, History, IsLegal, state_after}
+use Rattle.vms_pcpu_core.specs.Histories.{History, IsLegal, state_after}
 use Rattle.vms_pcpu_core.specs.Laws.{numbers_after}
 use Rattle.vms_pcpu_core.specs.Making.{event, MadeSteps}
 use Rattle.vms_pcpu_core.specs.States.{cpu_at, local_at, IsPcpu}

@@ -1,21 +1,20 @@
 -- For other crates too: the steps of each call may be made, whatever other callers do between them.
-use Rattle.std.proofs.Common.{◌≡◌, ℕ, suc, ◌+◌, ◌≤◌, ◌<◌, Bool, true, false, List, [], ◌∷◌, ◌++◌, length, Option, Some, None, ℤ, pos, ◌+ℤ◌, ◌-ℤ◌, ◌≤ℤ◌, unsigned_abs, refl, sym, ap, subst, ◌∙◌, append_assoc, if◌then◌else◌, nat_eq, eq-eqb, arith}
+use Rattle.std.proofs.Common.{◌≡◌, ℕ, suc, ◌+◌, ◌≤◌, ◌<◌, Bool, true, false, List, [], ◌∷◌, ◌++◌, length, Option, Some, None, ℤ, pos, ◌+ℤ◌, ◌-ℤ◌, unsigned_abs, refl, sym, ap, subst, ◌∙◌, if◌then◌else◌, nat_eq, eq-eqb, arith}
 use Rattle.std.proofs.lemmas.Int.{ints}
 use Rattle.vms_base.specs.declared.ids.CpuId.{CpuId}
 use Rattle.vms_base.specs.declared.ids.PcpuId.{PcpuId}
 use Rattle.vms_base.specs.declared.kinds.CpuState.{CpuState}
 use Rattle.vms_base.specs.Cpus.{is_present, present_from}
 use Rattle.vms_base.specs.Places.{IsCpu}
-use Rattle.vms_base.specs.Volumes.{most_volume}
-use Rattle.vms_history.specs.Events.{own, after}
+use Rattle.vms_history.specs.Events.{after}
 use Rattle.vms_history.specs.Passes.{owner_in}
 use Rattle.vms_history.proofs.Owners.{owner_may_own}
 use Rattle.vms_history.proofs.Prefixes.{base_can_begin}
 use Rattle.vms_pcpu_core.specs.declared.answers.Compare.{Compare}
 use Rattle.vms_pcpu_core.specs.declared.steps.PcpuFacts.{PcpuFacts}
 use Rattle.vms_pcpu_core.specs.declared.steps.PcpuStep.{PcpuStep}
-use Rattle.vms_pcpu_core.specs.declared.steps.PcpuStep.TheVariants.{AddL, LoadL, LoadC, Won, Missed, TakeL, AddC, Unlock}
-use Rattle.vms_pcpu_core.specs.Calls.{Locks, IsRead, IsAdd, IsSync, IsFoldDead, LoadsEach, IsSum, IsCompare, Probes, Judges, Settles, IsLimitedAdd, present_cpus, unknown}
+use Rattle.vms_pcpu_core.specs.declared.steps.PcpuStep.TheVariants.{AddL, LoadL, LoadC, Missed, TakeL, AddC, Unlock}
+use Rattle.vms_pcpu_core.specs.Calls.{Locks, IsAdd, IsSync, IsFoldDead, LoadsEach, IsSum, IsCompare, Probes, Judges, Settles, IsLimitedAdd, present_cpus, unknown}
 use Rattle.vms_pcpu_core.specs.Calls.Locks.{won, missed}
 use Rattle.vms_pcpu_core.specs.Calls.IsAdd.{below, reached}
 use Rattle.vms_pcpu_core.specs.Calls.IsSync.{moved}
@@ -30,13 +29,12 @@ use Rattle.vms_pcpu_core.specs.Calls.IsLimitedAdd.{nothing, unlocked, locked}
 use Rattle.vms_pcpu_core.specs.Conditions.{MayTake, MayAdd}
 use Rattle.vms_pcpu_core.specs.Histories.{percpu, History, IsLegal}
 use Rattle.vms_pcpu_core.specs.Making.{event}
-use Rattle.vms_pcpu_core.specs.MakingCalls.{MayCall, MayChange, MakesRead, MakesSum, MakesCompare, MakesAdd, MakesLimitedAdd, MakesSync, MakesFoldDead}
+use Rattle.vms_pcpu_core.specs.MakingCalls.{MakesRead, MakesSum, MakesCompare, MakesAdd, MakesLimitedAdd, MakesSync, MakesFoldDead}
 use Rattle.vms_pcpu_core.specs.Own.{holds, carried}
 use Rattle.vms_pcpu_core.specs.OwnSteps.{holds_through, carried_through, size_of, added_through, own_added}
 use Rattle.vms_pcpu_core.specs.States.{IsPcpu, batch_at, counters_of}
 use Rattle.vms_pcpu_core.specs.Steps.{turn}
-use Rattle.vms_pcpu_core.specs.Totals.{spent}
-use Rattle.vms_pcpu_core.proofs.MayMake.{found_own, FitsAmount, Fits, AllFit, all-fit-append, who_of, fit-may}
+use Rattle.vms_pcpu_core.proofs.MayMake.{found_own, FitsAmount, AllFit, all-fit-append, fit-may}
 use Rattle.vms_pcpu_core.proofs.OwnSteps.{Does, goes_by_own_steps, does-then, does-lock, does-loads, does-judges, does-probes, does-load_l, does-load_c, does-nothing, does-fold}
 use Rattle.vms_pcpu_core.proofs.Sizes.{spent-most}
 

@@ -1,6 +1,6 @@
--- The condition of each step by what a pass has done and known since an earlier history, and that steps which meet
--- these conditions may be made while others act.
-use Rattle.std.proofs.Common.{◌≡◌, ◌≢◌, ℕ, suc, ◌+◌, ◌<◌, ◌≤◌, ◌&&◌, Bool, true, false, true≢false, List, [], ◌∷◌, ◌++◌, Option, Some, None, ℤ, pos, ◌+ℤ◌, ◌-ℤ◌, ◌≤ℤ◌, unsigned_abs, refl, sym, ap, subst, ◌∙◌, append_assoc, if◌then◌else◌, nat_eq, eqb-true, eq-eqb, arith}
+-- For other crates too: what the CPU of a pass spends, the condition of each step by what a pass has done and known
+-- since an earlier history, and that steps which meet these conditions may be made while others act.
+use Rattle.std.proofs.Common.{◌≡◌, ◌≢◌, ℕ, ◌+◌, ◌<◌, ◌≤◌, ◌&&◌, Bool, true, false, true≢false, List, [], ◌∷◌, ◌++◌, Option, Some, None, ℤ, pos, ◌+ℤ◌, ◌-ℤ◌, ◌≤ℤ◌, unsigned_abs, refl, sym, ap, subst, ◌∙◌, if◌then◌else◌, nat_eq, eqb-true, eq-eqb, arith}
 use Rattle.std.proofs.lemmas.Int.{ints}
 use Rattle.std.proofs.lemmas.Bool.{and_parts}
 use Rattle.vms_base.specs.declared.ids.CpuId.{CpuId}
@@ -12,8 +12,9 @@ use Rattle.vms_history.specs.Events.{own, after}
 use Rattle.vms_history.specs.Legal.{Acts}
 use Rattle.vms_history.specs.Making.{HasMade}
 use Rattle.vms_history.specs.Passes.{begun_in, lives_in, owner_in}
-use Rattle.vms_history.proofs.Own.{own-append, own-mine, own-on_top}
+use Rattle.vms_history.proofs.Own.{own-append, own-on_top}
 use Rattle.vms_history.proofs.PassLaws.{begun_in-append, lives_in-before, live_is_given, owner_in-append}
+use Rattle.vms_history.proofs.Prefixes.{prefix_is_legal}
 use Rattle.vms_pcpu_core.specs.declared.steps.PcpuFacts.{PcpuFacts}
 use Rattle.vms_pcpu_core.specs.declared.steps.PcpuStep.{PcpuStep}
 use Rattle.vms_pcpu_core.specs.declared.steps.PcpuStep.TheVariants.{AddL, LoadL, LoadC, Won, Missed, TakeL, AddC, Unlock, Split, Join}
@@ -24,11 +25,12 @@ use Rattle.vms_pcpu_core.specs.Laws.{numbers_after}
 use Rattle.vms_pcpu_core.specs.Making.{event}
 use Rattle.vms_pcpu_core.specs.MakingCalls.{Tells, MayMake, MayCall}
 use Rattle.vms_pcpu_core.specs.Own.{holds, holds_after, carried, carried_after}
-use Rattle.vms_pcpu_core.specs.OwnSteps.{size_of, own_added, IsIdle}
+use Rattle.vms_pcpu_core.specs.OwnSteps.{size_of, added_through, own_added, IsIdle, AddsAmount}
 use Rattle.vms_pcpu_core.specs.States.{IsPcpu, batch_at, local_at}
 use Rattle.vms_pcpu_core.specs.Steps.{turn}
-use Rattle.vms_pcpu_core.specs.Totals.{amount_of, is_owned, spent, spent_by}
+use Rattle.vms_pcpu_core.specs.Totals.{spent, spent_by}
 use Rattle.vms_pcpu_core.proofs.FoldedCpus.{local-after_event}
+use Rattle.vms_pcpu_core.proofs.OwnSteps.{goes_by_own_steps}
 use Rattle.vms_pcpu_core.proofs.Shapes.{batch_at-state_after}
 use Rattle.vms_pcpu_core.proofs.Watched.{local_after-kept, spent_by-none}
 
@@ -303,3 +305,30 @@ module _ (facts : PcpuFacts) (earlier : History) (p : ℕ) (calls : MayCall fact
       (may-make m (subst (IsLegal facts) is has.legal) (subst (λ es. lives_in turn es p ≡ true) is has.lives) k
       (subst (λ o. Fits facts earlier who_of o k) (sym made) fits)
       (subst (λ es. Tells facts es p k) is tells))
+
+-- what the CPU of a pass spends by steps that add one amount
+pub spends-amount : (facts : PcpuFacts) (earlier later : History) (p : ℕ) (cpu : CpuId) (j : PcpuId) (amount : ℤ)
+    (steps : List PcpuStep) → HasMade percpu facts later earlier p steps → AddsAmount j amount steps
+    → IsIdle (own earlier p) → owner_in turn earlier p ≡ Some cpu → (i : ℕ)
+    → spent later cpu.number i ≡ spent earlier cpu.number i + (if nat_eq j.number i then unsigned_abs amount else 0)
+spends-amount facts earlier later p cpu j amount steps has adds idle owner i =
+    let m : History = has.extends.0 in
+    let is : later ≡ m ++ earlier = has.extends.1 in
+    let legal : IsLegal facts (m ++ earlier) = subst (IsLegal facts) is has.legal in
+    let lives : lives_in turn (m ++ earlier) p ≡ true = subst (λ es. lives_in turn es p ≡ true) is has.lives in
+    let given = live_is_given percpu facts earlier p (prefix_is_legal percpu facts m earlier legal) has.lived in
+    let made : own m p ≡ after p steps [] =
+    own-on_top m earlier p steps (ap (λ es. own es p) (sym is) ∙ has.made) in
+    let spends = spends-own facts earlier p given.1 cpu owner m i legal lives (idle.nothing_carried i) in
+    let goes : own_added size_of i (after p steps []) ≡ own_added size_of i [] +ℤ added_through size_of i steps
+    (pos 0) =
+    (goes_by_own_steps p steps []).added size_of i in
+    let own_is : own_added size_of i (own m p) ≡ own_added size_of i (after p steps []) =
+    ap (own_added size_of i) made in
+    let whole : spent later cpu.number i ≡ spent (m ++ earlier) cpu.number i = ap (λ es. spent es cpu.number i) is in
+    let sizes = adds.sizes i ∙ at (nat_eq j.number i) in
+    omega (arith, ints, spends, goes, own_is, whole, sizes)
+  where
+    at : (b : Bool) → (if b then size_of amount else pos 0) ≡ pos (if b then unsigned_abs amount else 0)
+    at true = refl
+    at false = refl

@@ -1,4 +1,5 @@
--- The numbers of a counter stay small: their sizes are paid by the base and by what was spent.
+-- For other crates too: the numbers of a counter stay small, since their sizes are paid by the base and by what was
+-- spent.
 use Rattle.std.proofs.Common.{◌≡◌, ◌≢◌, ℕ, suc, ◌+◌, ◌^◌, ◌<◌, ◌≤◌, Bool, true, false, [], ◌∷◌, Option, Some, None, ℤ, pos, ◌+ℤ◌, ◌-ℤ◌, ◌≤ℤ◌, unsigned_abs, refl, sym, subst, ap, ◌∙◌, arith, inl, inr, if◌then◌else◌, nat_eq, eq-eqb, eqb-true}
 use Rattle.std.proofs.lemmas.Int.{ints}
 use Rattle.std.proofs.lemmas.Bool.{ne_eqb, cases_lt}
@@ -71,8 +72,8 @@ module _ (cpus batch : ℕ) (count count' : ℤ) (local local' : ℕ → ℤ) (c
   change-control (takes d d_in counts others here carries none) = none
   change-control (adds counts same carries control) = control refl
 
-pub no_amount : (who : Option CpuId) {cpus batch : ℕ} {count count' : ℤ} {local local' : ℕ
-    → ℤ} {carrying carrying' amount : ℤ}
+pub no_amount : (who : Option CpuId) {cpus batch : ℕ} {count count' : ℤ}
+    {local local' : ℕ → ℤ} {carrying carrying' amount : ℤ}
     → Change cpus who batch count count' local local' carrying carrying' amount → who ≡ None → amount ≡ pos 0
 no_amount None change is = change-control _ _ _ _ _ _ _ _ _ change
 no_amount (Some d) change is = absurd cc

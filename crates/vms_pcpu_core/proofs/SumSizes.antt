@@ -1,12 +1,11 @@
 -- For other crates too: the answer of a sum is small.
-use Rattle.std.proofs.Common.{◌≡◌, ℕ, suc, ◌+◌, ◌*◌, ◌≤◌, Bool, true, false, List, [], ◌∷◌, ◌++◌, length, ℤ, pos, ◌+ℤ◌, ◌≤ℤ◌, unsigned_abs, refl, sym, ap, subst, ◌∙◌, if◌then◌else◌, arith}
+use Rattle.std.proofs.Common.{◌≡◌, ℕ, suc, ◌+◌, ◌*◌, ◌≤◌, Bool, true, false, List, [], ◌∷◌, ◌++◌, length, ℤ, pos, ◌≤ℤ◌, unsigned_abs, subst, if◌then◌else◌, arith}
 use Rattle.std.proofs.lemmas.Int.{ints}
 use Rattle.vms_base.specs.declared.ids.CpuId.{CpuId}
 use Rattle.vms_base.specs.declared.ids.PcpuId.{PcpuId}
 use Rattle.vms_base.specs.declared.kinds.CpuState.{CpuState}
 use Rattle.vms_base.specs.Cpus.{is_present, present_from}
 use Rattle.vms_history.specs.declared.events.Event.{Event}
-use Rattle.vms_history.specs.Events.{Extends}
 use Rattle.vms_history.proofs.Prefixes.{base_can_begin}
 use Rattle.vms_pcpu_core.specs.declared.steps.PcpuFacts.{PcpuFacts}
 use Rattle.vms_pcpu_core.specs.declared.steps.PcpuStep.{PcpuStep}
@@ -16,9 +15,9 @@ use Rattle.vms_pcpu_core.specs.Calls.{LoadsEach, IsSum, present_cpus}
 use Rattle.vms_pcpu_core.specs.Calls.LoadsEach.{no_cpu, one_cpu}
 use Rattle.vms_pcpu_core.specs.Calls.IsSum.{summed}
 use Rattle.vms_pcpu_core.specs.Histories.{percpu, History, IsLegal}
-use Rattle.vms_pcpu_core.specs.Laws.{numbers_after, most_number}
+use Rattle.vms_pcpu_core.specs.Laws.{most_number}
 use Rattle.vms_pcpu_core.specs.Making.{event, MadeSteps}
-use Rattle.vms_pcpu_core.specs.States.{batch_at, local_at}
+use Rattle.vms_pcpu_core.specs.States.{batch_at}
 use Rattle.vms_pcpu_core.specs.Summing.{most_sum}
 use Rattle.vms_pcpu_core.proofs.Bounds.{locals-bounded}
 use Rattle.vms_pcpu_core.proofs.CallsWithin.{call-ran}

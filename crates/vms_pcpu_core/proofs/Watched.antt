@@ -38,7 +38,8 @@ use Rattle.vms_pcpu_core.proofs.Shapes.{HasShape-state_after}
 use Rattle.vms_pcpu_core.proofs.Totals.{owned, totals-kept}
 
 -- the newest event is a load if it is an own one, and the earlier own ones are loads
-pub loads-before : (e : Event PcpuStep) (more : History) (p : ℕ) → AreLoads (own (e ∷ more) p) → (nat_eq e.caller p ≡ true → IsLoad e.step) × AreLoads (own more p)
+pub loads-before : (e : Event PcpuStep) (more : History) (p : ℕ) → AreLoads (own (e ∷ more) p)
+    → (nat_eq e.caller p ≡ true → IsLoad e.step) × AreLoads (own more p)
 loads-before e more p are = by (nat_eq e.caller p) are
   where
     by : (b : Bool) → AreLoads (if b then e ∷ own more p else own more p)
@@ -105,8 +106,8 @@ watches-before : (facts : PcpuFacts) (e : Event PcpuStep) (more h : History) (p 
 watches-before facts e more h p watches =
     record { legal = watches.legal.0; loads = (loads-before e more p watches.loads).1 }
 
--- while the pass lives, an event leaves the local parts of its CPU, and spends none of its volume, unless the pass made it
--- and it is no load
+-- while the pass lives, an event leaves the local parts of its CPU and spends none of its volume, unless the pass made
+-- it and it is no load
 module _ (facts : PcpuFacts) (e : Event PcpuStep) (h : History) (p : ℕ) (c : CpuId) (j : ℕ)
     (legal : IsLegal facts (e ∷ h))
     (lives : lives_in turn h p ≡ true) (owner : owner_in turn h p ≡ Some c)

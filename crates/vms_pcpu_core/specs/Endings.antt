@@ -1,5 +1,5 @@
 -- How a complete history of percpu counters ends, and that the next one may begin with its numbers.
-use Rattle.std.specs.Prelude.{◌≡◌, ℕ, ◌+◌, ◌*◌, ◌^◌, ◌≤◌, false, ℤ, pos, ◌+ℤ◌, ◌≤ℤ◌, List, [], unsigned_abs}
+use Rattle.std.specs.Prelude.{◌≡◌, ℕ, ◌+◌, ◌*◌, ◌^◌, ◌≤◌, false, pos, ◌+ℤ◌, ◌≤ℤ◌, [], unsigned_abs}
 use Rattle.vms_base.specs.Places.{IsCpu}
 use Rattle.vms_base.specs.Volumes.{most_volume}
 use Rattle.vms_history.specs.Events.{own}
@@ -7,7 +7,7 @@ use Rattle.vms_history.specs.Legal as legal
 use Rattle.vms_history.specs.Sums.{sum_below}
 use Rattle.vms_pcpu_core.specs.declared.steps.PcpuFacts.{PcpuFacts}
 use Rattle.vms_pcpu_core.specs.Bases.{IsBase, most_batch, most_count}
-use Rattle.vms_pcpu_core.specs.Histories.{percpu, History, IsLegal, state_after}
+use Rattle.vms_pcpu_core.specs.Histories.{percpu, History, state_after}
 use Rattle.vms_pcpu_core.specs.Laws.{numbers_after, carried_by_all}
 use Rattle.vms_pcpu_core.specs.Own.{carried}
 use Rattle.vms_pcpu_core.specs.States.{IsPcpu, count_at, held_at, unlocked}
@@ -23,7 +23,8 @@ pub record HoldsTotals (facts : PcpuFacts) (h : History) (j : ℕ) : Type 0 wher
   pub free : held_at (state_after facts h) j ≡ false
   pub nothing_in_hand : (p : ℕ) → carried j (own h p) ≡ pos 0
   pub nothing_carried : carried_by_all h j ≡ pos 0
-  pub numbers : count_at (numbers_after facts h) j +ℤ locals facts.layout (numbers_after facts h) j ≡ true_total facts h j
+  pub numbers : count_at (numbers_after facts h) j +ℤ locals facts.layout (numbers_after facts h) j ≡
+      true_total facts h j
 
 -- the facts for a history that begins with the numbers that this one leaves
 abbrev pub ending : PcpuFacts → History → PcpuFacts
@@ -34,9 +35,11 @@ abbrev pub LeavesRoom : PcpuFacts → History → Type 0
 LeavesRoom facts h = (j : ℕ) → IsPcpu facts j →
     unsigned_abs (true_total facts h j) + facts.layout.cpus * most_batch ≤ most_count
 
--- a complete history leaves a base, with the state that the next history begins with and the same true totals
+-- a complete history leaves a base, with the batches that it had, the state that the next history begins with, and the
+-- same true totals
 pub record BeginsAgain (facts : PcpuFacts) (h : History) : Type 0 where
   pub base : IsBase (ending facts h)
+  pub batches : (numbers_after facts h).batch ≡ facts.base.batch
   pub state : state_after facts h ≡ unlocked (ending facts h)
   pub totals : (j : ℕ) → IsPcpu facts j → true_total (ending facts h) [] j ≡ true_total facts h j
 

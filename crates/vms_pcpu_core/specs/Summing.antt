@@ -32,7 +32,7 @@ pub record SumsUp (facts : PcpuFacts) (earlier later : History) (p : ℕ) (j : P
   pub total : sum ≡
       true_total facts won j.number +ℤ sum_below (λ c. added_since (between c) won c j.number) facts.layout.cpus
 
--- when the shared part was loaded, it was further off from the other number than the local parts could hide, so that the
+-- when the shared part was loaded, it was further off from the other number than the local parts could hide. So the
 -- true total, less what was carried, was off on the same side
 pub record TellsRoughly (facts : PcpuFacts) (earlier later : History) (p : ℕ) (j : PcpuId) (rhs : ℤ) (answer : Compare)
     : Type 0 where

@@ -1,14 +1,18 @@
-ghost use Rattle.std.specs.Prelude.{◌≡◌, ℕ, ℤ, pos, Bool, List, if◌then◌else◌};
+ghost use Rattle.std.specs.Prelude.{◌≡◌, ℕ, nat_eq, ◌+◌, ℤ, pos, Bool, Some, List, if◌then◌else◌, unsigned_abs};
 ghost use Rattle.vms_base.specs.declared.ids.CpuId.{CpuId};
 ghost use Rattle.vms_base.specs.declared.ids.PcpuId.{PcpuId};
 ghost use Rattle.vms_history.specs.Events.{own};
+ghost use Rattle.vms_history.specs.Making.{HasMade};
+ghost use Rattle.vms_history.specs.Passes.{owner_in};
 ghost use Rattle.vms_pcpu_core.specs.declared.answers.Compare.{Compare};
 ghost use Rattle.vms_pcpu_core.specs.declared.steps.PcpuFacts.{PcpuFacts};
 ghost use Rattle.vms_pcpu_core.specs.declared.steps.PcpuStep.{PcpuStep};
 ghost use Rattle.vms_pcpu_core.specs.Calls.{IsRead, IsAdd, IsSync, IsFoldDead, IsSum, IsCompare, IsLimitedAdd};
-ghost use Rattle.vms_pcpu_core.specs.Histories.{History};
+ghost use Rattle.vms_pcpu_core.specs.Histories.{percpu, History};
 ghost use Rattle.vms_pcpu_core.specs.Making.{MadeSteps};
 ghost use Rattle.vms_pcpu_core.specs.OwnSteps.{IsIdle, GoesByOwnSteps, AddsAmount, LeavesIdle};
+ghost use Rattle.vms_pcpu_core.specs.Steps.{turn};
+ghost use Rattle.vms_pcpu_core.specs.Totals.{spent};
 
 /// What a caller holds and carries after steps in a row, and what it has added, goes by these steps and by what it held
 /// and carried before.
@@ -43,4 +47,14 @@ pub fn calls_leave_callers_idle()
     ensures { (facts : PcpuFacts) (earlier later : History) (p : ℕ) (j : PcpuId) (amount : ℤ)
         (steps : List PcpuStep) → MadeSteps facts earlier later p steps → AddsAmount j amount steps →
         IsIdle (own earlier p) → LeavesIdle earlier later p j amount }
+{}
+
+/// While a pass that owns a CPU makes such a call, the CPU spends the size of the amount of the call's counter, and
+/// nothing of another counter, whatever others do meanwhile.
+pub fn calls_spend_their_amounts()
+    ensures { (facts : PcpuFacts) (earlier later : History) (p : ℕ) (cpu : CpuId) (j : PcpuId) (amount : ℤ)
+        (steps : List PcpuStep) → HasMade percpu facts later earlier p steps → AddsAmount j amount steps →
+        IsIdle (own earlier p) → owner_in turn earlier p ≡ Some cpu → (i : ℕ) →
+        spent later cpu.number i ≡
+        spent earlier cpu.number i + (if nat_eq j.number i then unsigned_abs amount else 0) }
 {}

@@ -13,10 +13,15 @@ mod states;
 mod steps;
 mod summing;
 mod tables;
+#[cfg(test)]
+mod tests;
 mod watching;
 
 pub use answers::Compare;
-pub use callers::{callers_go_by_own_steps, calls_add_their_amounts, calls_leave_callers_idle};
+pub use callers::{
+    callers_go_by_own_steps, calls_add_their_amounts, calls_leave_callers_idle,
+    calls_spend_their_amounts,
+};
 pub use calls::{
     add_is_told, compare_is_told, fold_dead_is_told, limited_add_is_told, read_is_told,
     sum_is_told, sync_is_told,

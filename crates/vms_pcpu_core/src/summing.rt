@@ -8,16 +8,16 @@ ghost use Rattle.vms_pcpu_core.specs.Histories.{History};
 ghost use Rattle.vms_pcpu_core.specs.Making.{MadeSteps};
 ghost use Rattle.vms_pcpu_core.specs.Summing.{SumsUp, TellsRoughly, TellsBySum, most_sum};
 
-/// A sum answers the true total when it won the lock, and what each CPU added to its local part from there to the load
-/// of that part.
+/// A sum answers the true total of the moment when it won the lock, plus what each CPU added to its local part from
+/// there until the sum loaded that part.
 pub fn sum_reads_true_total()
     ensures { (facts : PcpuFacts) (earlier later : History) (p : ℕ) (j : PcpuId) (steps : List PcpuStep)
         (answer : ℤ) → MadeSteps facts earlier later p steps → IsSum (present_cpus facts) j steps answer →
         SumsUp facts earlier later p j answer }
 {}
 
-/// A rough comparison tells the sign of the true total, less what is carried, less the other number, when it loaded
-/// the count; one that is not rough tells that of a sum.
+/// A rough comparison tells the sign of the true total minus the other number, at the moment of its load and apart from
+/// what was carried then. A comparison that is not rough tells the sign of a sum minus the other number.
 pub fn compare_tells_sign()
     ensures rough { (facts : PcpuFacts) (earlier later : History) (p : ℕ) (j : PcpuId) (rhs : ℤ)
         (steps : List PcpuStep) (answer : Compare) → MadeSteps facts earlier later p steps →

@@ -20,14 +20,14 @@ use Rattle.vms_event_core.specs.declared.steps.EventStep.TheVariants.{AddE, Load
 use Rattle.vms_event_core.specs.Bases.{cpu_at, IsBase, IsLowestOnline}
 use Rattle.vms_event_core.specs.Calls.{loads, folds, online_cpus}
 use Rattle.vms_event_core.specs.Events.{events, History, IsLegal}
-use Rattle.vms_event_core.specs.Making.{HasMade, Tells, MayMake, MakesCount, MakesAllEvents, MakesFoldEvents}
+use Rattle.vms_event_core.specs.MadeCalls.{HasMade, Tells, MayMake, MakesCount, MakesAllEvents, MakesFoldEvents}
 use Rattle.vms_event_core.specs.Own.{carried, CarriesNothing}
 use Rattle.vms_event_core.specs.Steps.{turn}
 use Rattle.vms_event_core.specs.Totals.{counted, spent}
 use Rattle.vms_event_core.specs.Words.{IsEvent, event_count}
 use Rattle.vms_event_core.proofs.CallCarrying.{empty_take-moves, take_and_add-move}
 use Rattle.vms_event_core.proofs.CallSpending.{spent-made}
-use Rattle.vms_event_core.proofs.MadeSteps.{made-given, made-owner}
+use Rattle.vms_event_core.proofs.Callers.{made-given, made-owner}
 
 module _ (facts : EventFacts) (p : ℕ) (earlier : History) where
   -- a pass that has counted nothing since may count

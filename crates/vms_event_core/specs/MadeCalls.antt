@@ -12,7 +12,7 @@ use Rattle.vms_event_core.specs.declared.steps.EventFacts.{EventFacts}
 use Rattle.vms_event_core.specs.declared.steps.EventStep.{EventStep}
 use Rattle.vms_event_core.specs.declared.steps.EventStep.TheVariants.{LoadE, TakeE}
 use Rattle.vms_event_core.specs.Bases.{cpu_at, IsLowestOnline}
-use Rattle.vms_event_core.specs.Calls.{IsCount, IsAllEvents, IsFoldEvents, online_cpus}
+use Rattle.vms_event_core.specs.Calls.{IsCount, IsAllEvents, IsFoldEvents, AtMostStands, online_cpus, sum_over}
 use Rattle.vms_event_core.specs.Events.{events, History, IsLegal, state_after}
 use Rattle.vms_event_core.specs.Own.{carried, CarriesNothing}
 use Rattle.vms_event_core.specs.Steps.{turn}
@@ -79,3 +79,11 @@ abbrev pub LeavesZeros : Type 0
 LeavesZeros = (facts : EventFacts) (more later earlier : History) (p : ℕ) (from into : CpuId) (found : List ℕ)
     (steps : List EventStep) (k : ℕ) → HasMade facts later earlier p steps → IsFoldEvents from into found steps →
     IsLegal facts (more ++ later) → IsEvent k → word_at (state_after facts (more ++ later)) from.number k ≡ 0
+
+-- once the sum of an event is made, whatever others did in between, each load found at most what stands, and the answer
+-- lies between what the words of the CPUs were in sum when the call began and what they are
+pub record SumsBetween (facts : EventFacts) (later earlier : History) (k : EventId) (found : List ℕ)
+    (answer : ℕ) : Type 0 where
+  pub stands : AtMostStands (state_after facts later) k.number (online_cpus facts) found
+  pub least : sum_over (state_after facts earlier) k.number (online_cpus facts) ≤ answer
+  pub most : answer ≤ sum_over (state_after facts later) k.number (online_cpus facts)

@@ -1,4 +1,4 @@
--- What stands of a pass that has made some steps while others acted.
+-- What stands of a caller that has made some steps while others acted.
 use Rattle.std.proofs.Common.{◌≡◌, ℕ, ◌<◌, ◌≤◌, List, ◌++◌, ap, ◌∙◌, subst}
 use Rattle.vms_history.specs.Passes.{begun_in, owner_in}
 use Rattle.vms_history.proofs.PassLaws.{live_is_given, owner_in-append}
@@ -6,12 +6,12 @@ use Rattle.vms_history.proofs.Prefixes.{prefix_is_legal}
 use Rattle.vms_event_core.specs.declared.steps.EventFacts.{EventFacts}
 use Rattle.vms_event_core.specs.declared.steps.EventStep.{EventStep}
 use Rattle.vms_event_core.specs.Events.{events, History, IsLegal}
-use Rattle.vms_event_core.specs.Making.{HasMade}
+use Rattle.vms_event_core.specs.MadeCalls.{HasMade}
 use Rattle.vms_event_core.specs.Steps.{turn}
 
 module _ (facts : EventFacts) (later earlier : History) (p : ℕ) (steps : List EventStep)
     (made : HasMade facts later earlier p steps) where
-  joined-legal : IsLegal facts (made.extends.0 ++ earlier)
+  pub joined-legal : IsLegal facts (made.extends.0 ++ earlier)
   joined-legal = subst (IsLegal facts) made.extends.1 made.legal
 
   pub earlier-legal : IsLegal facts earlier
