@@ -1,5 +1,5 @@
--- For other crates too: the state that a complete history leaves may open the next phase, and its totals grew by no more
--- than the volumes.
+-- For other crates too: the state that a complete history leaves may open the next phase, and its totals grew by no
+-- more than the volumes.
 use Rattle.std.proofs.Common.{◌≡◌, ℕ, zero, suc, ◌+◌, ◌*◌, ◌^◌, ◌<◌, ◌≤◌, Bool, true, false, [], ℤ, pos, ◌+ℤ◌, ◌-ℤ◌, unsigned_abs, None, refl, ap, ◌∙◌, subst, arith, if◌then◌else◌, nat_eq}
 use Rattle.std.proofs.Math.ListN.{get_or-map}
 use Rattle.std.proofs.lemmas.List.{length-map}
@@ -135,7 +135,8 @@ module _ (facts : Facts) (h : History) where
       → opening_peak shape (settled ended) c g ≤ peak facts c g h
   opening_peaks-within legal c g c_in g_in =
       let layout = (base_can_begin pages facts h legal).layout in
-      let each : (n : ℕ) → n < shape.positions → unsigned_abs (diff_at ended c (counter_at shape g n)) ≤ peak facts c g h =
+      let each : (n : ℕ) → n < shape.positions
+      → unsigned_abs (diff_at ended c (counter_at shape g n)) ≤ peak facts c g h =
       λ n n_in.
       let k = counter_at shape g n in
       let within = last-within facts h legal c k c_in (counter_at-known shape layout g n g_in n_in) in
