@@ -107,8 +107,8 @@ online_cpus-online : (facts : EventFacts) → All (λ d. cpu_at facts d.number �
 online_cpus-online facts =
     listed-online (cpu_at facts) 0 facts.cpus (λ i. let place : 0 + i ≡ i = omega arith in ap (cpu_at facts) place)
 
-module _ (facts : EventFacts) (now earlier : History) (legal : IsLegal facts now) (legal_earlier : IsLegal facts earlier)
-    (k : EventId) (k_in : IsEvent k.number) where
+module _ (facts : EventFacts) (now earlier : History) (legal : IsLegal facts now)
+    (legal_earlier : IsLegal facts earlier) (k : EventId) (k_in : IsEvent k.number) where
   -- loads that found such numbers found such a sum
   record LoadsBetween (cpus : List CpuId) (found : List ℕ) : Type 0 where
     stands : AtMostStands (state_after facts now) k.number cpus found
