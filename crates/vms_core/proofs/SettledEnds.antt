@@ -13,7 +13,7 @@ use Rattle.vms_history.specs.Events.{total}
 use Rattle.vms_history.specs.Sums.{sum_below, count_below}
 use Rattle.vms_history.proofs.Choices.{if-same}
 use Rattle.vms_history.proofs.CallerSums.{total-by_parts}
-use Rattle.vms_history.proofs.CountLemmas.{pos-count_below}
+use Rattle.vms_history.proofs.CountLemmas.{pos-count_below, count_below-least, largest_below-most}
 use Rattle.vms_history.proofs.Prefixes.{base_can_begin}
 use Rattle.vms_history.proofs.SumBounds.{sum_below-most, sum_below-size}
 use Rattle.vms_history.proofs.SumLaws.{sum_below-same, sum_below-sum, sum_below-zeros}
@@ -28,7 +28,6 @@ use Rattle.vms_core.specs.Ends.{grown, AreVolumes, IsWithinVolumes}
 use Rattle.vms_core.specs.Pages.{pages, History, IsLegal, IsComplete, state_after}
 use Rattle.vms_core.specs.Peaks.{opening_peak, peak, peak_sum, cpu_in, if_present}
 use Rattle.vms_core.specs.Totals.{change_of, change_of_item, differentials, differentials_of_item, values_of_item, true_total, true_total_of_item, spent}
-use Rattle.vms_core.proofs.Below.{count_below-least, largest_below-most}
 use Rattle.vms_core.proofs.CarriedNothing.{none-carried, none-carried_of_item}
 use Rattle.vms_core.proofs.CounterRanges.{counter_at-known}
 use Rattle.vms_core.proofs.HiddenPages.{absent-zero}
