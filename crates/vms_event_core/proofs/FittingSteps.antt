@@ -27,7 +27,7 @@ use Rattle.vms_event_core.specs.Totals.{counted, spent}
 use Rattle.vms_event_core.specs.Words.{IsEvent, event_count}
 use Rattle.vms_event_core.proofs.CallCarrying.{empty_take-moves, take_and_add-move}
 use Rattle.vms_event_core.proofs.CallSpending.{spent-made}
-use Rattle.vms_event_core.proofs.Callers.{made-given, made-owner}
+use Rattle.vms_history.proofs.MadeSteps.{made-given, made-owner}
 
 module _ (facts : EventFacts) (p : ℕ) (earlier : History) where
   -- a pass that has counted nothing since may count
@@ -73,10 +73,10 @@ module _ (facts : EventFacts) (p : ℕ) (earlier : History) where
 
   module _ (later : History) (done : List EventStep) (made : HasMade facts later earlier p done) where
     given : p ≢ 0
-    given main = let first = (made-given facts later earlier p done made).0 in omega arith
+    given main = let first = (made-given events facts later earlier p done made).0 in omega arith
 
     owner : owner_in turn later p ≡ owner_in turn earlier p
-    owner = made-owner facts later earlier p done made
+    owner = made-owner events facts later earlier p done made
 
     fits-may : (step : EventStep) → Fits (own later p) step → Tells facts later p step
         → IsLegal facts (record { caller = p; step = step } ∷ later)

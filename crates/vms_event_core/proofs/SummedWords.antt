@@ -16,11 +16,11 @@ use Rattle.vms_event_core.specs.declared.steps.EventStep.{EventStep}
 use Rattle.vms_event_core.specs.declared.steps.EventStep.TheVariants.{LoadE}
 use Rattle.vms_event_core.specs.Bases.{cpu_at}
 use Rattle.vms_event_core.specs.Calls.{AtMostStands, IsAllEvents, loads, online_cpus, sum_over}
-use Rattle.vms_event_core.specs.Events.{History, IsLegal, state_after}
+use Rattle.vms_event_core.specs.Events.{events, History, IsLegal, state_after}
 use Rattle.vms_event_core.specs.MadeCalls.{HasMade, SumsBetween}
 use Rattle.vms_event_core.specs.Totals.{word_in}
 use Rattle.vms_event_core.specs.Words.{IsEvent}
-use Rattle.vms_event_core.proofs.Callers.{joined-legal, earlier-legal}
+use Rattle.vms_history.proofs.MadeSteps.{joined-legal, earlier-legal}
 use Rattle.vms_event_core.proofs.OnlineCpus.{word_in-grows}
 use Rattle.vms_event_core.proofs.StateWords.{word_at-state_after}
 
@@ -143,10 +143,10 @@ sums-between facts later earlier p k found steps answer made k_in call =
     let events : EventsBetween facts earlier later (after p steps []) =
     subst (EventsBetween facts earlier later) on_top
     (subst (λ g. EventsBetween facts earlier g (own made.extends.0 p)) (sym is)
-    (own-between facts earlier made.extends.0 p (joined-legal facts later earlier p steps made))) in
+    (own-between facts earlier made.extends.0 p (joined-legal events facts later earlier p steps made))) in
     let each : StepsBetween facts earlier later (loads k (online_cpus facts) found) =
     subst (StepsBetween facts earlier later) call.in_order (steps-between facts earlier later p steps [] events).0 in
-    let all = loads-between facts later earlier made.legal (earlier-legal facts later earlier p steps made) k k_in
+    let all = loads-between facts later earlier made.legal (earlier-legal events facts later earlier p steps made) k k_in
     (online_cpus facts) found (online_cpus-online facts) call.one_each each in
     record {
       stands = all.stands;
