@@ -140,12 +140,12 @@ sums-between facts later earlier p k found steps answer made k_in call =
     let is : later ≡ made.extends.0 ++ earlier = made.extends.1 in
     let on_top : own made.extends.0 p ≡ after p steps [] =
     own-on_top made.extends.0 earlier p steps (sym (ap (λ es. own es p) is) ∙ made.made) in
-    let events : EventsBetween facts earlier later (after p steps []) =
+    let between : EventsBetween facts earlier later (after p steps []) =
     subst (EventsBetween facts earlier later) on_top
     (subst (λ g. EventsBetween facts earlier g (own made.extends.0 p)) (sym is)
     (own-between facts earlier made.extends.0 p (joined-legal events facts later earlier p steps made))) in
     let each : StepsBetween facts earlier later (loads k (online_cpus facts) found) =
-    subst (StepsBetween facts earlier later) call.in_order (steps-between facts earlier later p steps [] events).0 in
+    subst (StepsBetween facts earlier later) call.in_order (steps-between facts earlier later p steps [] between).0 in
     let all = loads-between facts later earlier made.legal (earlier-legal events facts later earlier p steps made) k k_in
     (online_cpus facts) found (online_cpus-online facts) call.one_each each in
     record {
