@@ -13,8 +13,8 @@ use Rattle.vms_history.proofs.Own.{own-after, after-steps}
 use Rattle.vms_core.specs.declared.steps.Facts.{Facts}
 use Rattle.vms_core.specs.declared.steps.Step.{Step}
 use Rattle.vms_core.specs.declared.steps.Step.TheVariants.{SetO}
-use Rattle.vms_calls.specs.Controlling.{Buries, Refreshes}
-use Rattle.vms_calls.specs.Folding.{FoundPlace, HasGroups, IsFold, place_steps, system_steps, to_system, group_steps, lists_of, taken_of_item, acknowledges}
+use Rattle.vms_calls.specs.Ratings.{Buries, Refreshes}
+use Rattle.vms_calls.specs.Folds.{FoundPlace, HasGroups, IsFold, place_steps, system_steps, to_system, group_steps, lists_of, taken_of_item, acknowledges}
 use Rattle.vms_core.specs.Knowledge.{HasTakenAll}
 use Rattle.vms_calls.specs.Lists.{in_turn}
 use Rattle.vms_base.specs.Thresholds.{GivesThresholds}
@@ -22,10 +22,10 @@ use Rattle.vms_core.specs.Own.{CarriesNothing, moved}
 use Rattle.vms_core.specs.Pages.{History}
 use Rattle.vms_core.specs.Peaks.{cpu_in}
 use Rattle.vms_core.specs.Taken.{has_taken}
-use Rattle.vms_calls.proofs.Agreeing.{event}
+use Rattle.vms_calls.proofs.Agreement.{event}
 use Rattle.vms_calls.proofs.FoldRuns.{fold-runs}
 use Rattle.vms_calls.proofs.FoldSums.{group-moved, next_group}
-use Rattle.vms_calls.proofs.Running.{Runs, runs-append}
+use Rattle.vms_calls.proofs.Runs.{Runs, runs-append}
 use Rattle.vms_calls.proofs.TakenSteps.{OnlyMoves, HasTake, only-append, only-groups, has-group, has-left, has-right, has_taken-made, cpus-kept}
 use Rattle.vms_calls.proofs.VisitRuns.{refresh-runs}
 

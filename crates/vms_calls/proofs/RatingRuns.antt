@@ -14,15 +14,15 @@ use Rattle.vms_history.specs.Events.{after}
 use Rattle.vms_core.specs.declared.steps.Facts.{Facts}
 use Rattle.vms_core.specs.declared.steps.Step.{Step}
 use Rattle.vms_core.specs.declared.steps.Step.TheVariants.{SetT, SetM}
-use Rattle.vms_calls.specs.Controlling.{threshold_steps, mark_for, rating_steps}
+use Rattle.vms_calls.specs.Ratings.{threshold_steps, mark_for, rating_steps}
 use Rattle.vms_core.specs.Pages.{History}
 use Rattle.vms_core.specs.Peaks.{peak, peak_sum, cpu_in, if_present}
 use Rattle.vms_history.specs.Sums.{count_below}
-use Rattle.vms_calls.proofs.Agreeing.{event, mark_in}
-use Rattle.vms_core.proofs.Below.{count_below-least}
+use Rattle.vms_calls.proofs.Agreement.{event, mark_in}
+use Rattle.vms_history.proofs.CountLemmas.{count_below-least}
 use Rattle.vms_core.proofs.MarkCovers.{if_present-least, Covers-less}
-use Rattle.vms_calls.proofs.Ratings.{SamePeaks-after, peak_sum-same, cover_mark-covers}
-use Rattle.vms_calls.proofs.Running.{Runs, Knows}
+use Rattle.vms_calls.proofs.RatingCovers.{SamePeaks-after, peak_sum-same, cover_mark-covers}
+use Rattle.vms_calls.proofs.Runs.{Runs, Knows}
 
 -- n numbers of at most `most` each
 count_below-most : (f : ℕ → ℕ) (n most : ℕ) → ((c : ℕ) → c < n → f c ≤ most) → count_below f n ≤ n * most

@@ -9,7 +9,7 @@ use Rattle.vms_history.specs.Events.{after}
 use Rattle.vms_core.specs.declared.steps.Facts.{Facts}
 use Rattle.vms_core.specs.declared.steps.Step.{Step}
 use Rattle.vms_core.specs.declared.steps.Step.TheVariants.{AddG, AddS, Take}
-use Rattle.vms_calls.specs.Folding.{to_place, group_steps}
+use Rattle.vms_calls.specs.Folds.{to_place, group_steps}
 use Rattle.vms_calls.specs.Lists.{in_turn}
 use Rattle.vms_core.specs.Own.{loaded, took, has_put}
 use Rattle.vms_core.specs.Pages.{History}

@@ -11,7 +11,8 @@ use Rattle.vms_history.proofs.SumBounds.{sum_below-not_negative, sum_below-each,
 use Rattle.vms_event_core.specs.declared.steps.EventFacts.{EventFacts}
 use Rattle.vms_event_core.specs.Bases.{IsBase, most_in_base}
 use Rattle.vms_base.specs.Volumes.{most_volume}
-use Rattle.vms_event_core.specs.Events.{events, History, IsLegal, state_after, true_total, most_in_sum, BoundsWords}
+use Rattle.vms_event_core.specs.Events.{events, History, IsLegal, state_after, true_total}
+use Rattle.vms_event_core.specs.Laws.{most_in_sum, BoundsWords}
 use Rattle.vms_event_core.specs.Own.{carried}
 use Rattle.vms_event_core.specs.Steps.{turn}
 use Rattle.vms_event_core.specs.Totals.{spent}

@@ -5,7 +5,6 @@ use Rattle.vms_base.specs.declared.ids.CpuId.{CpuId}
 use Rattle.vms_base.specs.declared.kinds.CpuState.TheVariants.{Online, Dead}
 use Rattle.vms_history.specs.Events.{total}
 use Rattle.vms_history.specs.Passes.{owner_in}
-use Rattle.vms_history.proofs.Owners.{owner_may_own}
 use Rattle.vms_history.proofs.TakenOnce.{TakenOnce, TakenOnce-none, TakenOnce-left, TakenOnce-taken}
 use Rattle.vms_event_core.specs.declared.states.EventState.{EventState}
 use Rattle.vms_event_core.specs.declared.steps.EventFacts.{EventFacts}
@@ -13,11 +12,13 @@ use Rattle.vms_event_core.specs.declared.steps.EventStep.{EventStep}
 use Rattle.vms_event_core.specs.declared.steps.EventStep.TheVariants.{AddE, TakeE, AddF}
 use Rattle.vms_event_core.specs.Bases.{cpu_at}
 use Rattle.vms_event_core.specs.Conditions.{Meets}
-use Rattle.vms_event_core.specs.Events.{events, History, IsLegal, state_after, MovesOnce}
+use Rattle.vms_event_core.specs.Events.{History, IsLegal, state_after}
+use Rattle.vms_event_core.specs.Laws.{MovesOnce}
 use Rattle.vms_event_core.specs.Steps.{turn}
 use Rattle.vms_event_core.specs.Totals.{taken_from, takes_by, takes, found_some, word_after, word_in}
 use Rattle.vms_event_core.specs.Words.{IsEvent, word_at}
-use Rattle.vms_event_core.proofs.Standing.{word_at-state_after}
+use Rattle.vms_event_core.proofs.StateWords.{word_at-state_after}
+use Rattle.vms_event_core.proofs.OfflineCpus.{owner-online, added-elsewhere}
 
 module _ (facts : EventFacts) (h : History) (s : EventState) (p c k word : ℕ) (dead : cpu_at facts c ≡ Dead)
     (told : word_at s c k ≡ word) (was taken : ℤ) (takings : ℕ) (before : TakenOnce was (pos word) taken takings) where
@@ -45,14 +46,8 @@ module _ (facts : EventFacts) (h : History) (s : EventState) (p c k word : ℕ) 
 
   untouched : (d l n : ℕ) → cpu_at facts d ≡ Online
       → Makes (if nat_eq d c && nat_eq l k then word + n else word) (pos 0) 0
-  untouched d l n online = by (nat_eq d c) (nat_eq l k) refl
-    where
-      by : (a b : Bool) → nat_eq d c ≡ a → Makes (if a && b then word + n else word) (pos 0) 0
-      by true b same =
-          let both : cpu_at facts d ≡ cpu_at facts c = ap (cpu_at facts) (eqb-true d c same) in
-          let apart : Online ≡ Dead = sym online ∙ both ∙ dead in
-          absurd cc
-      by false b same = stays
+  untouched d l n online =
+      rw (added-elsewhere facts c (λ is_online. absurd cc) d (nat_eq l k) word n online) stays
 
   TakenOnce-step : (who : Option CpuId) (step : EventStep) → owner_in turn h p ≡ who
       → ((o : CpuId) → who ≡ Some o → cpu_at facts o.number ≡ Online) → Meets facts h s p step
@@ -78,7 +73,7 @@ TakenOnce-history facts (e ∷ h) c k legal dead k_in =
     (word_at-state_after facts h c k legal.0 k_in) (pos (word_at facts.base c k)) (total (taken_from c k) h)
     (takes c k h)
     (TakenOnce-history facts h c k legal.0 dead k_in) (owner_in turn h e.caller) e.step refl
-    (λ o owns. (owner_may_own events facts h e.caller o legal.0 owns).1) legal.2
+    (owner-online facts h e.caller legal.0) legal.2
 
 pub moves-once : (facts : EventFacts) (h : History) (c k : ℕ) → IsLegal facts h → cpu_at facts c ≡ Dead → IsEvent k
     → MovesOnce facts h c k

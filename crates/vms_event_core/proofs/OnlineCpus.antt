@@ -7,6 +7,7 @@ use Rattle.vms_base.specs.declared.ids.CpuId.{CpuId}
 use Rattle.vms_base.specs.declared.ids.EventId.{EventId}
 use Rattle.vms_base.specs.declared.kinds.CpuState.{CpuState}
 use Rattle.vms_base.specs.declared.kinds.CpuState.TheVariants.{Online, Dead, Absent}
+use Rattle.vms_base.specs.Cpus.{online_from}
 use Rattle.vms_history.specs.Passes.{owner_in}
 use Rattle.vms_history.specs.Sums.{sum_below}
 use Rattle.vms_history.proofs.Prefixes.{base_can_begin, prefix_is_legal}
@@ -15,14 +16,15 @@ use Rattle.vms_event_core.specs.declared.steps.EventFacts.{EventFacts}
 use Rattle.vms_event_core.specs.declared.steps.EventStep.{EventStep}
 use Rattle.vms_event_core.specs.declared.steps.EventStep.TheVariants.{AddE, TakeE, AddF}
 use Rattle.vms_event_core.specs.Bases.{cpu_at}
-use Rattle.vms_event_core.specs.Calls.{online_from, online_cpus, AtMostStands, IsAllEvents}
+use Rattle.vms_event_core.specs.Calls.{online_cpus, AtMostStands, IsAllEvents}
 use Rattle.vms_event_core.specs.Conditions.{Meets}
-use Rattle.vms_event_core.specs.Events.{events, History, IsLegal, state_after, most_in_sum}
+use Rattle.vms_event_core.specs.Events.{events, History, IsLegal, state_after}
+use Rattle.vms_event_core.specs.Laws.{most_in_sum}
 use Rattle.vms_event_core.specs.Steps.{turn}
 use Rattle.vms_event_core.specs.Totals.{word_after, word_in}
 use Rattle.vms_event_core.specs.Words.{IsEvent, word_at, words_of}
 use Rattle.vms_event_core.proofs.Bounds.{words_of-most}
-use Rattle.vms_event_core.proofs.Standing.{word_at-state_after}
+use Rattle.vms_event_core.proofs.StateWords.{word_at-state_after}
 
 grows_if : (b : Bool) (word n : ℕ) → word ≤ (if b then word + n else word)
 grows_if true word n = omega arith
@@ -56,7 +58,7 @@ word_after-grows facts h s p c k word None (TakeE d l v) online meets =
 word_after-grows facts h s p c k word (Some o) _ online meets = omega arith
 word_after-grows facts h s p c k word None _ online meets = omega arith
 
-word_in-grows : (facts : EventFacts) (m h : History) (c k : ℕ) → IsLegal facts (m ++ h) → cpu_at facts c ≡ Online
+pub word_in-grows : (facts : EventFacts) (m h : History) (c k : ℕ) → IsLegal facts (m ++ h) → cpu_at facts c ≡ Online
     → word_in facts h c k ≤ word_in facts (m ++ h) c k
 word_in-grows facts [] h c k legal online = omega arith
 word_in-grows facts (e ∷ m) h c k legal online =
@@ -108,7 +110,7 @@ module _ (s : EventState) (k : ℕ) where
 -- so what loads of them found, each before h was whole, is not too large in sum
 pub all_events-most : (facts : EventFacts) (h : History) (k : EventId) (found : List ℕ) (steps : List EventStep)
     (answer : ℕ)
-    → IsLegal facts h → IsEvent k.number → IsAllEvents facts k found steps answer
+    → IsLegal facts h → IsEvent k.number → IsAllEvents (online_cpus facts) k found steps answer
     → AtMostStands (state_after facts h) k.number (online_cpus facts) found → answer ≤ most_in_sum facts.layout
 all_events-most facts h k found steps answer legal k_in call most =
     let part = found-most (state_after facts h) k.number 0 facts.cpus found call.one_each most in

@@ -1,16 +1,17 @@
 -- What each CPU has counted of an event: its bound, its sum over the CPUs, and who knows it.
-use Rattle.std.proofs.Common.{◌≡◌, ◌≢◌, ℕ, ◌+◌, ◌≤◌, ◌&&◌, Bool, true, false, [], ◌∷◌, ◌++◌, Option, Some, None, pos, refl, ap, ◌∙◌, arith, if◌then◌else◌, nat_eq, eqb-true}
+use Rattle.std.proofs.Common.{◌≡◌, ◌≢◌, ℕ, ◌+◌, ◌≤◌, ◌&&◌, Bool, true, false, [], ◌∷◌, ◌++◌, Option, Some, None, pos, ◌+ℤ◌, refl, ap, ◌∙◌, arith, if◌then◌else◌, nat_eq, eq-eqb, eqb-true}
 use Rattle.std.proofs.lemmas.Int.{ints}
-use Rattle.std.proofs.lemmas.Bool.{and_parts}
+use Rattle.std.proofs.lemmas.Bool.{and_parts, eqb-false}
 use Rattle.vms_base.specs.declared.ids.CpuId.{CpuId}
 use Rattle.vms_base.specs.Places.{IsCpu}
+use Rattle.vms_history.specs.declared.events.Event.{Event}
 use Rattle.vms_history.specs.Events.{own, total}
 use Rattle.vms_history.specs.Passes.{begun_in, lives_in, owner_in}
 use Rattle.vms_history.specs.Sums.{sum_below}
 use Rattle.vms_history.proofs.CallerSums.{total-by_parts}
 use Rattle.vms_history.proofs.Choices.{if-map, if-never}
 use Rattle.vms_history.proofs.GoesOn.{holds_while_live}
-use Rattle.vms_history.proofs.Own.{own-none}
+use Rattle.vms_history.proofs.Own.{own-mine, own-others, own-append}
 use Rattle.vms_history.proofs.Owners.{same_cpu, owner_is_caller}
 use Rattle.vms_history.proofs.SumLaws.{sum_below-zeros, sum_below-only}
 use Rattle.vms_event_core.specs.declared.states.EventState.{EventState}
@@ -19,10 +20,11 @@ use Rattle.vms_event_core.specs.declared.steps.EventStep.{EventStep}
 use Rattle.vms_event_core.specs.declared.steps.EventStep.TheVariants.{AddE}
 use Rattle.vms_event_core.specs.Conditions.{Meets}
 use Rattle.vms_base.specs.Volumes.{most_volume}
-use Rattle.vms_event_core.specs.Events.{events, History, IsLegal, KeepsSpending, state_after}
+use Rattle.vms_event_core.specs.Events.{events, History, IsLegal, state_after}
+use Rattle.vms_event_core.specs.MadeCalls.{KeepsSpending}
 use Rattle.vms_event_core.specs.Steps.{turn}
 use Rattle.vms_event_core.specs.Totals.{counted, spent, spent_by}
-use Rattle.vms_event_core.proofs.Standing.{owner_known}
+use Rattle.vms_event_core.proofs.StateWords.{owner_known}
 
 spent_by-affordable : (facts : EventFacts) (h : History) (s : EventState) (p c k : ℕ) (who : Option CpuId)
     (step : EventStep)
@@ -82,16 +84,54 @@ spent_by-others (Some o) c k (AddE l n) other = if-never (nat_eq o.number c.numb
 spent_by-others (Some o) c k _ other = refl
 spent_by-others None c k _ other = refl
 
+-- a step of the CPU's owner spends what it counts
+pub spent_by-owner : (c : CpuId) (k : ℕ) (step : EventStep) → pos (spent_by (Some c) c.number k step) ≡ counted k step
+spent_by-owner c k (AddE l n) = rw (eq-eqb c.number c.number refl) (by (nat_eq l.number k))
+  where
+    by : (b : Bool) → pos (if true && b then n else 0) ≡ (if b then pos n else pos 0)
+    by true = refl
+    by false = refl
+spent_by-owner c k _ = refl
+
+-- the sums on both sides go the same way, whoever made the newest event
+module _ (facts : EventFacts) (h : History) (p : ℕ) (c : CpuId) (k : ℕ) (owns : owner_in turn h p ≡ Some c) where
+  -- what the CPU counted since is what its owner counted since
+  abbrev pub GoesAlong : History → Type 0
+  GoesAlong g = pos (spent g c.number k) +ℤ total (counted k) (own h p)
+      ≡ pos (spent h c.number k) +ℤ total (counted k) (own g p)
+
+  GoesAlong-next : (e : Event EventStep) (g : History) → IsLegal facts (e ∷ g) → lives_in turn g p ≡ true
+      → owner_in turn g p ≡ Some c → GoesAlong g → GoesAlong (e ∷ g)
+  GoesAlong-next e g legal lives now before = by (nat_eq e.caller p) refl
+    where
+      by : (b : Bool) → nat_eq e.caller p ≡ b → GoesAlong (e ∷ g)
+      by true same =
+          let mine : e.caller ≡ p = eqb-true e.caller p same in
+          let grown : spent_by (owner_in turn g e.caller) c.number k e.step ≡ spent_by (Some c) c.number k e.step =
+          ap (λ who. spent_by who c.number k e.step) (ap (owner_in turn g) mine ∙ now) in
+          let own_grown : total (counted k) (own (e ∷ g) p) ≡ counted k e.step +ℤ total (counted k) (own g p) =
+          ap (total (counted k)) (own-mine e g p mine) in
+          omega (arith, ints, grown, own_grown, spent_by-owner c k e.step, before)
+      by false differ =
+          let others = eqb-false e.caller p differ in
+          let nothing = spent_by-others (owner_in turn g e.caller) c k e.step (λ acts_for.
+          others (owner_is_caller events facts e g p c legal lives now acts_for)) in
+          let own_same : total (counted k) (own (e ∷ g) p) ≡ total (counted k) (own g p) =
+          ap (total (counted k)) (own-others e g p others) in
+          omega (arith, ints, nothing, own_same, before)
+
+  pub spent-goes_along : (m : History) → IsLegal facts (m ++ h) → lives_in turn (m ++ h) p ≡ true
+      → p ≤ begun_in turn h → GoesAlong (m ++ h)
+  spent-goes_along m legal lives given =
+      holds_while_live events facts h p GoesAlong (λ es. Unit {0}) (λ e es none. tt)
+      (λ e m legal lives owner none before. GoesAlong-next e (m ++ h) legal lives (owner ∙ owns) before)
+      given refl m legal lives tt
+
 -- so what its CPU has counted is known to a pass that lives
 pub spending-known : (facts : EventFacts) (m h : History) (p : ℕ) → IsLegal facts (m ++ h)
     → lives_in turn (m ++ h) p ≡ true
     → p ≤ begun_in turn h → own m p ≡ [] → KeepsSpending (m ++ h) h p
 spending-known facts m h p legal lives given none c k owns =
-    holds_while_live events facts h p (λ g. spent g c.number k ≡ spent h c.number k) (λ es. es ≡ [])
-    (λ e es is. absurd cc)
-    (λ e m legal lives owner none before.
-    let others = (own-none e m p none).0 in
-    let nothing = spent_by-others (owner_in turn (m ++ h) e.caller) c k e.step (λ acts_for.
-    others (owner_is_caller events facts e (m ++ h) p c legal lives (owner ∙ owns) acts_for)) in
-    omega (arith, nothing, before))
-    given refl m legal lives none
+    let own_same : total (counted k) (own (m ++ h) p) ≡ total (counted k) (own h p) =
+    ap (total (counted k)) (own-append m h p ∙ ap (λ es. es ++ own h p) none) in
+    omega (arith, ints, spent-goes_along facts h p c k owns m legal lives given, own_same)

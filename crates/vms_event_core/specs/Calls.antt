@@ -1,48 +1,40 @@
--- The steps that each call makes, oldest first, and what is read off them.
+-- The steps that each call makes, oldest first, and what is read off them: its answer, and the steps after the call's.
 use Rattle.std.specs.Prelude.{◌≡◌, ℕ, suc, zero, ◌+◌, ◌≤◌, List, [], ◌∷◌, ◌++◌, length, sum}
 use Rattle.vms_base.specs.declared.ids.CpuId.{CpuId}
 use Rattle.vms_base.specs.declared.ids.EventId.{EventId}
-use Rattle.vms_base.specs.declared.kinds.CpuState.{CpuState}
-use Rattle.vms_base.specs.declared.kinds.CpuState.TheVariants.{Online, Dead, Absent}
+use Rattle.vms_base.specs.Cpus.{online_from}
 use Rattle.vms_event_core.specs.declared.states.EventState.{EventState}
 use Rattle.vms_event_core.specs.declared.steps.EventFacts.{EventFacts}
 use Rattle.vms_event_core.specs.declared.steps.EventStep.{EventStep}
 use Rattle.vms_event_core.specs.declared.steps.EventStep.TheVariants.{AddE, LoadE, TakeE, AddF}
-use Rattle.vms_event_core.specs.Bases.{IsLowestOnline}
 use Rattle.vms_event_core.specs.Words.{event_count, word_at}
 
--- the CPUs of these states that are online, in ascending order, where the first has number c
-abbrev pub online_from : ℕ → List CpuState → List ℕ
-online_from c [] = []
-online_from c (Online ∷ states) = c ∷ online_from (suc c) states
-online_from c (Dead ∷ states) = online_from (suc c) states
-online_from c (Absent ∷ states) = online_from (suc c) states
-
-abbrev pub online_cpus : EventFacts → List ℕ
+-- the CPUs that are online, in ascending order
+abbrev pub online_cpus : EventFacts → List CpuId
 online_cpus facts = online_from 0 facts.cpus
 
 -- a count of an event by its own CPU
 pub record IsCount (k : EventId) (n : ℕ) (steps : List EventStep) : Type 0 where
   pub in_order : steps ≡ AddE k n ∷ []
 
--- what is left of a caller's steps after a count
-abbrev pub read_count : List EventStep → List EventStep
-read_count (AddE k n ∷ steps) = steps
-read_count steps = steps
+-- a count answers nothing
+abbrev pub read_count : List EventStep → Unit {0} × List EventStep
+read_count (AddE k n ∷ steps) = (tt, steps)
+read_count steps = (tt, steps)
 
 -- loads of the words of these CPUs, which found these numbers
-abbrev pub loads : EventId → List ℕ → List ℕ → List EventStep
-loads k (c ∷ cpus) (v ∷ found) = LoadE (record { number = c }) k v ∷ loads k cpus found
+abbrev pub loads : EventId → List CpuId → List ℕ → List EventStep
+loads k (c ∷ cpus) (v ∷ found) = LoadE c k v ∷ loads k cpus found
 loads k _ _ = []
 
--- the sum of an event over the CPUs that are online, each word loaded at its own step
-pub record IsAllEvents (facts : EventFacts) (k : EventId) (found : List ℕ) (steps : List EventStep)
+-- the sum of an event over these CPUs, each word loaded at its own step
+pub record IsAllEvents (cpus : List CpuId) (k : EventId) (found : List ℕ) (steps : List EventStep)
     (answer : ℕ) : Type 0 where
-  pub one_each : length found ≡ length (online_cpus facts)
-  pub in_order : steps ≡ loads k (online_cpus facts) found
+  pub one_each : length found ≡ length cpus
+  pub in_order : steps ≡ loads k cpus found
   pub adds_up : answer ≡ sum found
 
--- the sum that so many loads found, and what is left of a caller's steps after them
+-- the sum that so many loads found
 abbrev pub read_all_events : ℕ → List EventStep → ℕ × List EventStep
 read_all_events (suc n) (LoadE c k v ∷ steps) = (v + (read_all_events n steps).0, (read_all_events n steps).1)
 read_all_events n steps = (0, steps)
@@ -57,14 +49,12 @@ abbrev pub folds : CpuId → CpuId → ℕ → List ℕ → List EventStep
 folds from into k [] = []
 folds from into k (v ∷ found) = moves from into k v ++ folds from into (suc k) found
 
--- every event of a dead CPU is folded into the word of the lowest-numbered CPU that is online
-pub record IsFoldEvents (facts : EventFacts) (from : CpuId) (found : List ℕ) (steps : List EventStep) : Type 0 where
-  pub into : CpuId
-  pub lowest : IsLowestOnline facts into.number
+-- every event of a CPU is folded into the word of another
+pub record IsFoldEvents (from into : CpuId) (found : List ℕ) (steps : List EventStep) : Type 0 where
   pub one_each : length found ≡ event_count
   pub in_order : steps ≡ folds from into 0 found
 
--- what a fold of so many events found, and what is left of a caller's steps after it
+-- what a fold of so many events found
 abbrev pub read_fold_events : ℕ → List EventStep → List ℕ × List EventStep
 read_fold_events (suc n) (TakeE c k zero ∷ steps) = (0 ∷ (read_fold_events n steps).0, (read_fold_events n steps).1)
 read_fold_events (suc n) (TakeE c k (suc v) ∷ AddF d l a ∷ steps) =
@@ -72,6 +62,11 @@ read_fold_events (suc n) (TakeE c k (suc v) ∷ AddF d l a ∷ steps) =
 read_fold_events n steps = ([], steps)
 
 -- each of these numbers is at most the word of its CPU
-abbrev pub AtMostStands : EventState → ℕ → List ℕ → List ℕ → Type 0
-AtMostStands s k (c ∷ cpus) (v ∷ found) = (v ≤ word_at s c k) × AtMostStands s k cpus found
+abbrev pub AtMostStands : EventState → ℕ → List CpuId → List ℕ → Type 0
+AtMostStands s k (c ∷ cpus) (v ∷ found) = (v ≤ word_at s c.number k) × AtMostStands s k cpus found
 AtMostStands s k _ _ = Unit {0}
+
+-- the words of these CPUs for an event, in sum
+abbrev pub sum_over : EventState → ℕ → List CpuId → ℕ
+sum_over s k [] = 0
+sum_over s k (c ∷ cpus) = word_at s c.number k + sum_over s k cpus

@@ -1,5 +1,5 @@
 -- What each kind of step asks, in the words before it and of the history before it.
-use Rattle.std.specs.Prelude.{◌≡◌, ◌≢◌, ℕ, ◌+◌, ◌^◌, ◌≤◌, pos, List, Some, None}
+use Rattle.std.specs.Prelude.{◌≡◌, ◌≢◌, ℕ, ◌+◌, ◌≤◌, pos, List, Some, None}
 use Rattle.vms_base.specs.declared.ids.CpuId.{CpuId}
 use Rattle.vms_base.specs.declared.ids.EventId.{EventId}
 use Rattle.vms_base.specs.declared.kinds.CpuState.TheVariants.{Dead}
@@ -32,8 +32,8 @@ pub record FindsWord (facts : EventFacts) (s : EventState) (c : CpuId) (k : Even
   pub value : word_at s c.number k.number ≡ v
 
 -- the control pass takes a dead CPU's word
-pub record TakesWord (facts : EventFacts) (h : List (Event EventStep)) (s : EventState) (p : ℕ) (c : CpuId) (k : EventId)
-    (v : ℕ) : Type 0 where
+pub record TakesWord (facts : EventFacts) (h : List (Event EventStep)) (s : EventState) (p : ℕ) (c : CpuId)
+    (k : EventId) (v : ℕ) : Type 0 where
   pub control : owner_in turn h p ≡ None
   pub dead : cpu_at facts c.number ≡ Dead
   pub finds : FindsWord facts s c k v

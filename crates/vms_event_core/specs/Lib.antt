@@ -6,4 +6,7 @@ pub mod Bases
 pub mod Conditions
 pub mod Events
 pub mod Quiet
+pub mod Laws
+pub mod Endings
 pub mod Calls
+pub mod MadeCalls

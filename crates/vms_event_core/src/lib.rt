@@ -9,10 +9,13 @@ mod tables;
 #[cfg(test)]
 mod tests;
 
-pub use calls::{answers_are_read, folds_carry_nothing, online_words_grow};
+pub use calls::{
+    answers_are_read, calls_carry_nothing, calls_may_be_made, counts_alone_spend,
+    folded_words_are_zero, online_words_grow,
+};
 pub use laws::{
-    control_passes_carry, dead_words_move_once, each_beginning_is_kept, shape_is_kept,
-    spending_is_known, totals_are_kept, words_are_bounded,
+    complete_histories_hold_totals, complete_histories_leave_bases, laws_are_kept,
+    owners_spend_by_own_steps, spending_is_known,
 };
 pub use states::EventState;
 pub use steps::{Event, EventFacts, EventStep};

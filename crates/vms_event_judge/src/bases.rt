@@ -1,6 +1,7 @@
 //! Whether a history may begin with these facts.
 
 ghost use Rattle.std.specs.Prelude.{◌≡◌, ◌↔◌, ℕ, ◌*◌, ◌<◌, IsTrue, length, pos, ◌≤ℤ◌};
+ghost use Rattle.vms_base.specs.Cpus.{HasOnline};
 ghost use Rattle.vms_base.specs.Places.{IsLayout, IsCpu};
 ghost use Rattle.vms_base.specs.declared.kinds.CpuState.TheVariants.{Online, Absent};
 ghost use Rattle.vms_event_core.specs.Bases as bases;
@@ -56,7 +57,7 @@ fn has_shape(facts: &EventFacts) -> bool
 
 /// Whether some CPU is online.
 fn has_online(facts: &EventFacts) -> bool
-    ensures { IsTrue result ↔ (c : ℕ) × IsCpu facts.now.layout c × (bases.cpu_at facts.now c ≡ Online) }
+    ensures { IsTrue result ↔ HasOnline facts.now.layout facts.now.cpus }
 {
     for number in 0..facts.layout.cpus() {
         if is_online(facts, CpuId { number }) {

@@ -8,21 +8,23 @@ use Rattle.vms_base.specs.declared.ids.CpuId.{CpuId}
 use Rattle.vms_base.specs.declared.kinds.CpuState.TheVariants.{Online}
 use Rattle.vms_base.specs.declared.kinds.Mode.{Mode}
 use Rattle.vms_base.specs.declared.kinds.Mode.TheVariants.{Mod as Modify, Inc as Raise, Dec as Lower}
-use Rattle.vms_base.specs.Places.{IsCpu, IsCounter}
+use Rattle.vms_base.specs.Places.{Shape, IsCpu, IsCounter}
 use Rattle.vms_history.specs.Events.{own, after}
 use Rattle.vms_history.specs.Passes.{lives, owner}
 use Rattle.vms_core.specs.declared.states.State.{State}
 use Rattle.vms_core.specs.declared.steps.Facts.{Facts}
 use Rattle.vms_core.specs.declared.steps.Step.{Step}
 use Rattle.vms_core.specs.Bases.{IsBase}
-use Rattle.vms_calls.specs.Calls.{IsChangeAlone}
+use Rattle.vms_calls.specs.Changes.{IsChangeAlone}
 use Rattle.vms_core.specs.Cells.{cpu_at}
 use Rattle.vms_base.specs.Volumes.{most_volume}
-use Rattle.vms_calls.specs.Following.{MayChange, FollowsAlone}
+use Rattle.vms_calls.specs.LoneChanges.{MayChange, FollowsAlone}
 use Rattle.vms_core.specs.Own.{CarriesNothing}
-use Rattle.vms_core.specs.Pages.{History}
+use Rattle.vms_core.specs.ChangedStates.{with_change}
+use Rattle.vms_core.specs.Pages.{History, state_after}
 use Rattle.vms_core.specs.Steps.{turn}
 use Rattle.vms_core.specs.Totals.{spent}
+use Rattle.vms_calls.proofs.LoneChanges.{goes_on_with_change}
 use Rattle.vms_phase.specs.FileOrder.{Follow, Makes, is_among, opening_of, pass_of, splits_from}
 use Rattle.vms_phase.specs.FileOrder.Follow.{line}
 use Rattle.vms_phase.specs.OpenPhases.{MayOpen, MakesLines, IsOpen, IsDelta, Follows, act_of, change_item, volume}
@@ -35,6 +37,16 @@ use Rattle.vms_text.specs.declared.acts.Item.{Item}
 use Rattle.vms_text.specs.declared.acts.Lane.{Lane}
 use Rattle.vms_text.specs.declared.acts.Lane.TheVariants.{Cpu}
 use Rattle.vms_text.specs.declared.acts.Line.TheVariants.{Lane as LaneLine}
+
+-- what plain data makes of a change is the end of one in a history
+pub Follows-change : (shape : Shape) (cpu : CpuId) (k : CounterId) (delta : ℤ) (how : Mode) (now next : State)
+    → next ≡ with_change shape cpu.number k.number delta how now → Follows shape cpu k delta how now next
+Follows-change shape cpu k delta how now next is facts h p may layout_is state_is =
+    let goes = goes_on_with_change facts h p cpu k delta how may in
+    let same : with_change facts.layout cpu.number k.number delta how (state_after facts h) ≡ next =
+    ap (with_change facts.layout cpu.number k.number delta how) state_is
+    ∙ ap (λ (s : Shape). with_change s cpu.number k.number delta how now) layout_is ∙ sym is in
+    (goes.0, subst (λ (s : State). FollowsAlone facts h p cpu k delta how goes.0 s) same goes.1)
 
 pub MakesLines-none : (facts : Facts) (lanes : List Lane) → IsBase facts → MayOpen facts lanes
     → MakesLines facts lanes [] (opening_of lanes) facts.base

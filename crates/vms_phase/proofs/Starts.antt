@@ -5,39 +5,36 @@ use Rattle.std.specs.Prelude.{Contains, Result, Ok, Err, IfOk}
 use Rattle.std.proofs.lemmas.Bool.{cases_lt}
 use Rattle.std.proofs.lemmas.List.Elements.{All-get_or, Contains-get_or}
 use Rattle.std.proofs.lemmas.Bool.Decides.{nat_tests}
-use Rattle.std.proofs.lemmas.List.{get_or-replicate, length-replicate, get_or_append_left, get_or-append_right, length-map, get_or-map}
+use Rattle.std.proofs.lemmas.List.{get_or-replicate, length-replicate, get_or_append_left, get_or-append_right, length-map, get_or-map, get_or_default}
 use Rattle.vms_base.specs.declared.failures.Memory.{Memory}
 use Rattle.vms_base.specs.declared.headers.Header.{Header}
 use Rattle.vms_base.specs.declared.kinds.CpuState.TheVariants.{Online, Absent}
-use Rattle.vms_base.specs.declared.kinds.ZoneKind.TheVariants.{Dma}
-use Rattle.vms_base.specs.declared.kinds.ZoneName.{ZoneName}
 use Rattle.vms_base.specs.declared.kinds.ZoneSize.{ZoneSize}
 use Rattle.vms_base.specs.Headers.{IsHeader}
 use Rattle.vms_base.specs.Marks.{Covers}
-use Rattle.vms_base.specs.Places.{Shape, IsCpu, IsPlace, IsZone, IsNode, cell, counter_at, counter_count, item_count, place_count}
+use Rattle.vms_base.specs.Places.{Shape, IsCpu, IsPlace, IsZone, IsNode, cell, counter_at, counter_count, item_count, place_count, node_of_zone}
 use Rattle.vms_base.specs.Sizes.{IsValidSize, size_at}
 use Rattle.vms_base.specs.Thresholds.{most_threshold}
 use Rattle.vms_core.specs.declared.states.State.{State}
-use Rattle.vms_core.specs.Bases.{IsBase}
+use Rattle.vms_core.specs.Bases.{IsBase, settled}
 use Rattle.vms_core.specs.Cells.{HasShape, places_of, threshold_at, mark_at, threshold_sets_at, mark_sets_at, acknowledged_at, diff_at, cpu_at}
 use Rattle.vms_core.specs.Peaks.{opening_peak, peak_sum, if_present}
 use Rattle.vms_history.specs.Sums.{count_below}
-use Rattle.vms_core.proofs.Below.{largest_below-least, largest_below-most}
+use Rattle.vms_history.proofs.CountLemmas.{largest_below-least, largest_below-most}
 use Rattle.vms_core.proofs.LevelStates.{get_or-copies}
 use Rattle.vms_core.proofs.PlainData.{places_of-shaped}
-use Rattle.vms_phase.specs.Worlds.{IsStart, IsStartUnder, IsNormalRule, normal_rule, base_of_item, largest_of_node, node_of_zone, opening_mark, quiet_state, facts_of, settled}
+use Rattle.vms_calls.specs.Ratings.{largest_on}
+use Rattle.vms_phase.specs.Worlds.{IsStart, IsStartUnder, IsNormalRule, normal_rule, base_of_item, opening_mark, quiet_state}
+use Rattle.vms_calls.specs.HeaderFacts.{facts_of}
 use Rattle.vms_phase.proofs.ItemSums.{base_of-most}
 use Rattle.vms_phase.proofs.Rows.{length-repeat, get_or-repeat}
-
-abbrev no_zone : ZoneName
-no_zone = record { node = 0; kind = Dma }
 
 abbrev no_size : ZoneSize
 no_size = record { managed = 0; min = 0; low = 0; high = 0 }
 
 -- the thresholds of a CPU by place, from those of the zones
 abbrev pub by_place : Shape → List ℕ → List ℕ
-by_place shape zones = zones ++ map (largest_of_node shape.zones (λ g. get_or zones g 0)) shape.nodes
+by_place shape zones = zones ++ map (largest_on shape zones) shape.nodes
 
 -- what holds of a state holds of a result that is this state
 pub IfOk-is : (P : State → Type 0) (s : State) → P s → (result : Result State Memory) → IfOk result (λ t. t ≡ s)
@@ -87,13 +84,13 @@ module _ (header : Header) (valid : IsHeader header) (zones : List ℕ) (system 
   zones_long : length zones ≡ length layout.zones
   zones_long = made.each_zone ∙ valid.sizes_length
 
-  nodes_long : length (map (largest_of_node layout.zones (λ g. get_or zones g 0)) layout.nodes) ≡ length layout.nodes
-  nodes_long = length-map layout.nodes (largest_of_node layout.zones (λ g. get_or zones g 0))
+  nodes_long : length (map (largest_on layout zones) layout.nodes) ≡ length layout.nodes
+  nodes_long = length-map layout.nodes (largest_on layout zones)
 
   row_long : length row ≡ place_count layout
   row_long = omega (
     arith,
-    length-append zones (map (largest_of_node layout.zones (λ g. get_or zones g 0)) layout.nodes),
+    length-append zones (map (largest_on layout zones) layout.nodes),
     nodes_long,
     zones_long,
   )
@@ -124,19 +121,19 @@ module _ (header : Header) (valid : IsHeader header) (zones : List ℕ) (system 
   zone_read : (c g : ℕ) → IsCpu layout c → IsZone layout g → threshold_at s c g ≡ get_or zones g 0
   zone_read c g c_in g_in =
       row_read c g c_in (omega arith)
-      ∙ get_or_append_left zones (map (largest_of_node layout.zones (λ z. get_or zones z 0)) layout.nodes) 0 g
+      ∙ get_or_append_left zones (map (largest_on layout zones) layout.nodes) 0 g
       (omega (arith, zones_long))
 
   abbrev node_at : ℕ → ℕ
   node_at g = get_or layout.nodes (g - length layout.zones) 0
 
   node_read : (c g : ℕ) → IsCpu layout c → IsNode layout g
-      → threshold_at s c g ≡ largest_of_node layout.zones (λ z. get_or zones z 0) (node_at g)
+      → threshold_at s c g ≡ largest_on layout zones (node_at g)
   node_read c g c_in g_in =
       row_read c g c_in g_in.1
-      ∙ get_or-append_right zones (map (largest_of_node layout.zones (λ z. get_or zones z 0)) layout.nodes)
+      ∙ get_or-append_right zones (map (largest_on layout zones) layout.nodes)
       (length layout.zones) g 0 zones_long g_in.0
-      ∙ get_or-map (largest_of_node layout.zones (λ z. get_or zones z 0)) layout.nodes (g - length layout.zones) 0 0
+      ∙ get_or-map (largest_on layout zones) layout.nodes (g - length layout.zones) 0 0
       (omega (arith, g_in.0, g_in.1))
 
   -- CPU 0 is one
@@ -182,38 +179,38 @@ module _ (header : Header) (valid : IsHeader header) (zones : List ℕ) (system 
 
   -- the threshold of a zone for a node: its own where it is the node's
   abbrev of_node : ℕ → ℕ → ℕ
-  of_node node z = if nat_eq (node_of_zone layout.zones z) node then get_or zones z 0 else 0
+  of_node node z = if nat_eq (node_of_zone layout z) node then get_or zones z 0 else 0
 
   of_node-most : (node z : ℕ) → IsZone layout z → (b : Bool) → (if b then get_or zones z 0 else 0) ≤ most_threshold
   of_node-most node z known true = made.most z (size_in z known)
   of_node-most node z known false = omega arith
 
-  of_node-least : (node z : ℕ) → IsZone layout z → (b : Bool) → nat_eq (node_of_zone layout.zones z) node ≡ b
-      → node_of_zone layout.zones z ≡ node → 1 ≤ (if b then get_or zones z 0 else 0)
+  of_node-least : (node z : ℕ) → IsZone layout z → (b : Bool) → nat_eq (node_of_zone layout z) node ≡ b
+      → node_of_zone layout z ≡ node → 1 ≤ (if b then get_or zones z 0 else 0)
   of_node-least node z known true is same = made.least z (size_in z known)
   of_node-least node z known false is same = absurd (grind (arith, nat_tests))
 
-  node_most : (node : ℕ) → largest_of_node layout.zones (λ z. get_or zones z 0) node ≤ most_threshold
+  node_most : (node : ℕ) → largest_on layout zones node ≤ most_threshold
   node_most node = largest_below-most (of_node node) (length layout.zones) most_threshold
-      (λ z known. of_node-most node z known (nat_eq (node_of_zone layout.zones z) node))
+      (λ z known. of_node-most node z known (nat_eq (node_of_zone layout z) node))
 
   -- a node has a zone
   node_least : (n : ℕ) → n < length layout.nodes
-      → 1 ≤ largest_of_node layout.zones (λ z. get_or zones z 0) (get_or layout.nodes n 0)
+      → 1 ≤ largest_on layout zones (get_or layout.nodes n 0)
   node_least n known = by ((valid.is_layout.nodes_named node).0 (Contains-get_or layout.nodes n 0 known))
     where
       node : ℕ
       node = get_or layout.nodes n 0
 
       by : Contains (map (λ zone. zone.node) layout.zones) node
-          → 1 ≤ largest_of_node layout.zones (λ z. get_or zones z 0) node
+          → 1 ≤ largest_on layout zones node
       by (z, in_map, is) =
           let inside : z < length layout.zones = omega (arith, length-map layout.zones (λ zone. zone.node)) in
-          let named : node_of_zone layout.zones z ≡ node =
-          sym (get_or-map (λ zone. zone.node) layout.zones z no_zone node inside) ∙ is in
+          let named : node_of_zone layout z ≡ node =
+          get_or_default (map (λ zone. zone.node) layout.zones) z 0 node in_map ∙ is in
           omega (
             arith,
-            of_node-least node z inside (nat_eq (node_of_zone layout.zones z) node) refl named,
+            of_node-least node z inside (nat_eq (node_of_zone layout z) node) refl named,
             largest_below-least (of_node node) (length layout.zones) z inside,
           )
 

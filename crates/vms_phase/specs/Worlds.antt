@@ -1,22 +1,16 @@
 -- The states of the page counters between phases.
-use Rattle.std.specs.Prelude.{◌≡◌, ℕ, ◌≤◌, ◌*◌, ◌-◌, nat_eq, List, length, map, replicate, ℤ, pos, if◌then◌else◌, slice_index, slice_index_or, None}
+use Rattle.std.specs.Prelude.{◌≡◌, ℕ, ◌≤◌, ◌*◌, ◌-◌, nat_eq, List, length, replicate, ℤ, pos, if◌then◌else◌, slice_index, slice_index_or, None}
 use Rattle.vms_base.specs.declared.headers.Header.{Header}
 use Rattle.vms_base.specs.declared.kinds.CpuState.TheVariants.{Online}
-use Rattle.vms_base.specs.declared.kinds.ZoneKind.TheVariants.{Dma}
-use Rattle.vms_base.specs.declared.kinds.ZoneName.{ZoneName}
 use Rattle.vms_base.specs.declared.kinds.ZoneSize.{ZoneSize}
 use Rattle.vms_base.specs.Marks.{linux_mark_of, cover_mark_of}
 use Rattle.vms_base.specs.Places.{IsCpu, IsZone, IsNode, IsPlace, IsCounter, IsItem, counter_count, place_count, item_of}
 use Rattle.vms_base.specs.Sizes.{IsValidSize, size_at}
 use Rattle.vms_base.specs.Thresholds.{normal_threshold_of}
 use Rattle.vms_core.specs.declared.states.State.{State}
-use Rattle.vms_core.specs.declared.steps.Facts.{Facts}
+use Rattle.vms_calls.specs.Ratings.{largest_on}
 use Rattle.vms_core.specs.Cells.{HasShape, value_at, system_at, diff_at, threshold_at, threshold_sets_at, mark_at, mark_sets_at, cpu_at, acknowledged_at}
-use Rattle.vms_history.specs.Sums.{largest_below, sum_below}
-
--- what the page table is told of a phase from this state
-abbrev pub facts_of : Header → State → Facts
-facts_of header s = record { layout = header.layout; sizes = header.sizes; base = s }
+use Rattle.vms_history.specs.Sums.{sum_below}
 
 -- the base of a counter, and of an item: the sum over its counters
 abbrev pub base_of : Header → ℕ → ℤ
@@ -26,15 +20,6 @@ abbrev pub base_of_item : Header → ℕ → ℤ
 base_of_item header i =
     sum_below (λ k. if nat_eq (item_of header.layout k) i then base_of header k else pos 0)
     (counter_count header.layout)
-
--- the node of a zone; past the zones, node 0
-abbrev pub node_of_zone : List ZoneName → ℕ → ℕ
-node_of_zone zones g = (slice_index_or zones g (record { node = 0; kind = Dma })).node
-
--- the largest of these thresholds of zones over the zones of a node
-abbrev pub largest_of_node : List ZoneName → (ℕ → ℕ) → ℕ → ℕ
-largest_of_node zones threshold node =
-    largest_below (λ g. if nat_eq (node_of_zone zones g) node then threshold g else 0) (length zones)
 
 -- the kernel's normal rule, and a rule that answers as it does
 abbrev pub normal_rule : ZoneSize → ℕ → ℕ → Type 0
@@ -59,7 +44,7 @@ pub record IsStartUnder (header : Header) (thresholds : List ℕ) (s : State) : 
   pub zones : (c g : ℕ) → IsCpu header.layout c → IsZone header.layout g →
       threshold_at s c g ≡ slice_index thresholds g
   pub nodes : (c g : ℕ) → IsCpu header.layout c → IsNode header.layout g →
-      threshold_at s c g ≡ largest_of_node header.layout.zones (slice_index thresholds)
+      threshold_at s c g ≡ largest_on header.layout thresholds
       (slice_index header.layout.nodes (g - length header.layout.zones))
   pub marks : (g : ℕ) → IsZone header.layout g →
       mark_at s g ≡ opening_mark (size_at header.sizes g) header.layout.cpus (slice_index thresholds g)
@@ -89,12 +74,4 @@ quiet_state header system threshold mark = record {
   acknowledged = replicate (header.layout.cpus * length header.layout.zones) None;
   threshold_sets = replicate (header.layout.cpus * place_count header.layout) 0;
   mark_sets = replicate (length header.layout.zones) 0;
-}
-
--- a state as the next phase begins with it: nothing acknowledged, and nothing set
-abbrev pub settled : State → State
-settled s = record s {
-  acknowledged = map (λ _. None) s.acknowledged;
-  threshold_sets = map (λ _. 0) s.threshold_sets;
-  mark_sets = map (λ _. 0) s.mark_sets;
 }

@@ -3,10 +3,11 @@ ghost use Rattle.std.specs.List.{repeat};
 ghost use Rattle.vms_base.specs.Marks.{Covers};
 ghost use Rattle.vms_base.specs.Sizes.{IsValidSize, size_at};
 ghost use Rattle.vms_base.specs.Thresholds.{most_threshold};
-ghost use Rattle.vms_phase.specs.Worlds.{largest_of_node, opening_mark};
+ghost use Rattle.vms_calls.specs.Ratings.{largest_on};
+ghost use Rattle.vms_phase.specs.Worlds.{opening_mark};
 
 use std::alloc::Global;
-use vms_base::{Layout, Memory, Row, ZoneName, ZoneSize};
+use vms_base::{Layout, Memory, Row, ZoneSize};
 use vms_calc::{Rule, Rules, cover_mark, linux_mark};
 
 /// The thresholds of zones of these sizes, in pages, with so many CPUs online.
@@ -75,12 +76,12 @@ fn opening_mark(size: &ZoneSize, online: u32, threshold: u32) -> u64
 }
 
 /// The largest threshold of the zones of a node.
-fn node_threshold(zones: &[ZoneName], thresholds: &[u32], node: u32) -> u32
-    requires length { length zones.now ≤ length thresholds.now }
-    ensures { result ≡ largest_of_node zones.now (λ g. slice_index thresholds.now g) node }
+fn node_threshold(layout: &Layout, thresholds: &[u32], node: u32) -> u32
+    requires length { length layout.now.zones ≤ length thresholds.now }
+    ensures { result ≡ largest_on layout.now thresholds.now node }
 {
     let mut largest = 0;
-    for (g, zone) in zones.iter().enumerate() {
+    for (g, zone) in layout.zones().iter().enumerate() {
         if zone.node == node {
             largest = largest.max(thresholds[g]);
         }
@@ -92,11 +93,11 @@ fn node_threshold(zones: &[ZoneName], thresholds: &[u32], node: u32) -> u32
 fn thresholds_by_place(alloc: Global, layout: &Layout, zones: &[u32]) -> Result<Vec<u32>, Memory>
     requires { length zones.now ≡ length layout.now.zones }
     ensures { IfOk result (λ row. row.items ≡ zones.now
-        ++ map (largest_of_node layout.now.zones (λ g. slice_index zones.now g)) layout.now.nodes) }
+        ++ map (largest_on layout.now zones.now) layout.now.nodes) }
 {
     let mut thresholds = Vec::from_slice(alloc, zones)?;
     for node in layout.nodes() {
-        thresholds.push(node_threshold(layout.zones(), zones, *node))?;
+        thresholds.push(node_threshold(layout, zones, *node))?;
     }
     Ok(thresholds)
 }
@@ -105,7 +106,7 @@ fn thresholds_by_place(alloc: Global, layout: &Layout, zones: &[u32]) -> Result<
 pub(crate) fn thresholds(alloc: Global, layout: &Layout, zones: &[u32]) -> Result<Row<u32>, Memory>
     requires { length zones.now ≡ length layout.now.zones }
     ensures { IfOk result (λ row. row ≡ repeat layout.now.cpus (zones.now
-        ++ map (largest_of_node layout.now.zones (λ g. slice_index zones.now g)) layout.now.nodes)) }
+        ++ map (largest_on layout.now zones.now) layout.now.nodes)) }
 {
     let row = thresholds_by_place(alloc, layout, zones)?;
     Ok(Row::make(row.as_slice().repeat(alloc, layout.cpus() as usize)?))

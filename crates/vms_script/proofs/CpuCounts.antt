@@ -5,7 +5,8 @@ use Rattle.vms_base.specs.declared.kinds.CpuState.{CpuState}
 use Rattle.vms_base.specs.declared.kinds.CpuState.TheVariants.{Online as IsOnline, Dead as IsDead, Absent}
 use Rattle.vms_text.specs.declared.acts.Line.{Line}
 use Rattle.vms_script.specs.declared.cpus.CpuStates.{CpuStates}
-use Rattle.vms_script.specs.Cpus.{cpu_state, state_past, is_online, online_count, online_below}
+use Rattle.vms_script.specs.Cpus.{cpu_state, state_past, online_count, online_below}
+use Rattle.vms_base.specs.Cpus.{is_online}
 use Rattle.vms_script.specs.Standing.{TellsCpus}
 
 -- how many are online, with one CPU more

@@ -17,7 +17,8 @@ use Rattle.vms_trace.specs.declared.causes.LineCause.TheVariants.{NotOnline, Not
 use Rattle.vms_trace.specs.Laws.{IsLineOf}
 use Rattle.vms_script.specs.declared.cpus.CpuStates.{CpuStates}
 use Rattle.vms_script.specs.declared.judges.LineJudge.{LineJudge}
-use Rattle.vms_script.specs.Cpus.{cpu_state, state_past, is_online, online_below, online_count}
+use Rattle.vms_script.specs.Cpus.{cpu_state, state_past, online_below, online_count}
+use Rattle.vms_base.specs.Cpus.{is_online}
 use Rattle.vms_script.specs.Judging.{allowed, counted}
 use Rattle.vms_script.specs.Standing.{Decides, Stands}
 use Rattle.vms_script.proofs.CpuCounts.{TellsCpus-set}

@@ -15,7 +15,8 @@ use Rattle.vms_trace.specs.declared.causes.LineCause.{LineCause}
 use Rattle.vms_trace.specs.declared.causes.LineCause.TheVariants.{NotOnline, Overflow, NotDead, NotFolded, LastCpu}
 use Rattle.vms_trace.specs.Body.{read_line}
 use Rattle.vms_trace.specs.Reading.{and_then}
-use Rattle.vms_script.specs.Cpus.{cpu_state, is_online, online_below}
+use Rattle.vms_script.specs.Cpus.{cpu_state, online_below}
+use Rattle.vms_base.specs.Cpus.{is_online}
 use Rattle.vms_script.specs.Volumes.{overflows}
 
 -- a line of CPU c's lane counts where the CPU is online and no volume passes its most

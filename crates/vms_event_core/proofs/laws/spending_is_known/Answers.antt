@@ -1,5 +1,6 @@
-use Rattle.vms_event_core.proofs.Spending.{spent-affordable, spending-known}
+-- What others do changes no spending of the pass's CPU.
+use Rattle.vms_event_core.proofs.Spending.{spending-known}
 use Rattle.vms_event_core.proofs.laws.spending_is_known.Goals as goal
 
 pub returns : goal.returns
-returns c = record { affordable = spent-affordable; known = spending-known }
+returns c = spending-known

@@ -1,8 +1,8 @@
-use Rattle.std.proofs.Common.{◌≡◌, ◌++◌, map, take, get_or}
-use Rattle.vms_phase.specs.Worlds.{largest_of_node}
+use Rattle.std.proofs.Common.{◌≡◌, ◌++◌, map, take}
+use Rattle.vms_calls.specs.Ratings.{largest_on}
 use Rattle.vms_phase.proofs.settings.thresholds_by_place.Given as goal
 
 -- the zones' thresholds, and those of the nodes so far
 abbrev pub invariant-loop-node : goal.invariant-loop-node
 invariant-loop-node l = l.thresholds.items ≡ l.zones
-    ++ map (largest_of_node l.layout.zones (λ g. get_or l.zones g 0)) (take l.node-index l.layout.nodes)
+    ++ map (largest_on l.layout l.zones) (take l.node-index l.layout.nodes)

@@ -1,15 +1,13 @@
 -- The change follows each history of the lines before.
 use Rattle.std.proofs.Common.{◌+ℤ◌, of_z, to_z, w64, ◌≡◌, ℤ, ap, subst, sym, ◌∙◌, to_z-of_z}
 use Rattle.vms_base.specs.Places.{Shape, IsCpu, IsCounter}
-use Rattle.vms_core.specs.declared.states.State.{State}
-use Rattle.vms_phase.specs.OpenPhases.{Follows}
 use Rattle.vms_core.specs.ChangedStates.{with_change}
-use Rattle.vms_phase.specs.Worlds.{settled}
+use Rattle.vms_core.specs.Bases.{settled}
 use Rattle.vms_phase.proofs.PhaseEnds.{settled-change}
 use Rattle.vms_core.specs.Cells.{HasShape, value_at, diff_at}
 use Rattle.vms_phase.specs.OpenPhases.{Moment}
 use Rattle.vms_phase.proofs.CounterTotals.{AddsUp-line}
-use Rattle.vms_phase.proofs.LineHistories.{IsOpen-line}
+use Rattle.vms_phase.proofs.LineHistories.{Follows-change, IsOpen-line}
 use Rattle.vms_phase.proofs.replaying.PhaseReplay.change.Goals as goal
 
 pub invariant_of-self : goal.invariant_of-self
@@ -26,21 +24,20 @@ invariant_of-self c =
 pub returns-clause-opens : goal.returns-clause-opens
 returns-clause-opens c = λ facts items n layout_is opened affordable.
     let now = c.args.self.now in
-    let shapes : c.self.inside.layout ≡ facts.layout = ap (λ m. m.shape) c.self.view_is ∙ sym layout_is in
-    let states : c.self.inside.plain ≡ now.state = ap (λ m. m.state) c.self.view_is in
-    let follows : Follows facts.layout c.args.cpu c.args.counter c.args.delta c.args.mode now.state c.change.new.self
-    = subst (λ (shape : Shape). Follows shape c.args.cpu c.args.counter c.args.delta c.args.mode now.state
-    c.change.new.self) shapes
-    (subst (λ (s : State). Follows c.self.inside.layout c.args.cpu c.args.counter c.args.delta c.args.mode s
-    c.change.new.self) states
-    (subst (λ (z : ℤ). Follows c.self.inside.layout c.args.cpu c.args.counter z c.args.mode c.self.inside.plain
-    c.change.new.self)
-    (to_z-of_z c.ranges.delta) c.change.ensures.follows)) in
+    let next : c.change.new.self ≡ with_change facts.layout c.args.cpu.number c.args.counter.number c.args.delta c.args.mode
+    now.state =
+    c.change.ensures.after
+    ∙ ap (λ z. with_change c.self.inside.layout c.args.cpu.number c.args.counter.number z c.args.mode c.self.inside.plain)
+    (to_z-of_z c.ranges.delta)
+    ∙ ap (λ m. with_change m.shape c.args.cpu.number c.args.counter.number c.args.delta c.args.mode m.state) c.self.view_is
+    ∙ ap (λ (shape : Shape). with_change shape c.args.cpu.number c.args.counter.number c.args.delta c.args.mode now.state)
+    (sym layout_is) in
     IsOpen-line facts items now.state c.change.new.self n c.args.cpu c.args.counter c.args.delta c.args.mode
     c.requires.fits opened
     (subst (λ (shape : Shape). IsCpu shape c.args.cpu.number) (sym layout_is) c.requires.cpu) c.requires.online
     (subst (λ (shape : Shape). IsCounter shape c.args.counter.number)
-    (sym layout_is) c.requires.counter) affordable follows
+    (sym layout_is) c.requires.counter) affordable
+    (Follows-change facts.layout c.args.cpu c.args.counter c.args.delta c.args.mode now.state c.change.new.self next)
 
 pub returns-clause-totals : goal.returns-clause-totals
 returns-clause-totals c = λ from items n before.
