@@ -17,19 +17,11 @@ use Rattle.vms_core.specs.declared.steps.Step.TheVariants.{SetT, SetM}
 use Rattle.vms_calls.specs.Ratings.{threshold_steps, mark_for, rating_steps}
 use Rattle.vms_core.specs.Pages.{History}
 use Rattle.vms_core.specs.Peaks.{peak, peak_sum, cpu_in, if_present}
-use Rattle.vms_history.specs.Sums.{count_below}
 use Rattle.vms_calls.proofs.Agreement.{event, mark_in}
-use Rattle.vms_history.proofs.CountLemmas.{count_below-least}
+use Rattle.vms_history.proofs.CountLemmas.{count_below-least, count_below-most}
 use Rattle.vms_core.proofs.MarkCovers.{if_present-least, Covers-less}
 use Rattle.vms_calls.proofs.RatingCovers.{SamePeaks-after, peak_sum-same, cover_mark-covers}
 use Rattle.vms_calls.proofs.Runs.{Runs, Knows}
-
--- n numbers of at most `most` each
-count_below-most : (f : ℕ → ℕ) (n most : ℕ) → ((c : ℕ) → c < n → f c ≤ most) → count_below f n ≤ n * most
-count_below-most f zero most within = omega arith
-count_below-most f (suc n) most within =
-    let more : suc n * most ≡ n * most + most = omega arith in
-    rw more (omega (arith, within n (omega arith), count_below-most f n most (λ c below. within c (omega arith))))
 
 -- Linux's mark stays near the high watermark
 linux_mark-below : (size : ZoneSize) (online usual : ℕ) → online ≤ 128 → (1 ≤ online → usual ≤ most_threshold)

@@ -1,15 +1,15 @@
 -- For other crates too: the differentials of a group stand as one list of eight, and so do the lists that steps name.
 use Rattle.std.proofs.Common.{◌≡◌, ℕ, ◌+◌, ◌*◌, ◌%◌, ◌<◌, ◌≤◌, ◌&&◌, Bool, true, false, List, [], ◌∷◌, length, take, drop, Option, Some, None, ℤ, pos, ◌∙◌, ⊎_elim, arith, length-set, if◌then◌else◌, nat_eq, unsigned_abs}
 use Rattle.std.proofs.lemmas.Bool.{cases_lt}
-use Rattle.std.proofs.lemmas.Int.{ints}
 use Rattle.std.proofs.lemmas.List.{get_or_past, length-replicate}
 use Rattle.vms_base.specs.declared.ids.CpuId.{CpuId}
-use Rattle.vms_base.specs.Groups.{IsByte, AreBytes}
+use Rattle.vms_base.specs.Groups.{AreBytes}
 use Rattle.vms_base.specs.Places.{IsCounter, cell, counter_count, group_of, place_of}
 use Rattle.vms_base.specs.Thresholds.{most_threshold}
 use Rattle.vms_base.proofs.Counts.{place_of-lt}
 use Rattle.vms_history.specs.Events.{own}
 use Rattle.vms_history.proofs.Prefixes.{base_can_begin, own-keeps}
+use Rattle.vms_core.proofs.PlainData.{byte}
 use Rattle.vms_core.specs.declared.states.State.{State}
 use Rattle.vms_core.specs.declared.steps.Facts.{Facts}
 use Rattle.vms_core.specs.declared.steps.Step.{Step}
@@ -79,9 +79,6 @@ AreBytes-told s c j values told small k = ⊎_elim
     (λ (within : k < 8). rw (told.each k within) (byte (diff_at s c (8 * j + k)) (small k within)))
     (λ (past : 8 ≤ k). rw (get_or_past values k (pos 0) (rw told.eight past)) (byte (pos 0) (omega arith)))
     (cases_lt k 8)
-  where
-    byte : (z : ℤ) → unsigned_abs z ≤ most_threshold → IsByte z
-    byte z small = (omega (arith, ints), omega (arith, ints))
 
 pub group_is_list : (facts : Facts) (h : History) → IsLegal facts h → GroupsAreLists facts h
 group_is_list facts h legal c j c_in j_in =

@@ -43,7 +43,7 @@ each_set xs n v default P within here others m = ⊎_elim
     (λ (other : m ≢ n). rw (get_or-set_other xs n m v default other) (others m))
     (cases_eq m n)
 
-byte : (z : ℤ) → unsigned_abs z ≤ most_threshold → IsByte z
+pub byte : (z : ℤ) → unsigned_abs z ≤ most_threshold → IsByte z
 byte z small = (omega (arith, ints), omega (arith, ints))
 
 -- the differentials of a state that may open a phase are bytes

@@ -1,6 +1,6 @@
 -- For other crates too: the state that a complete history leaves may open the next phase, and its totals grew by no
 -- more than the volumes.
-use Rattle.std.proofs.Common.{◌≡◌, ℕ, ◌+◌, ◌*◌, ◌^◌, ◌<◌, ◌≤◌, Bool, [], ℤ, pos, ◌+ℤ◌, ◌-ℤ◌, unsigned_abs, None, ap, ◌∙◌, subst, arith, if◌then◌else◌, nat_eq, zero, suc, refl}
+use Rattle.std.proofs.Common.{◌≡◌, ℕ, ◌+◌, ◌*◌, ◌^◌, ◌<◌, ◌≤◌, Bool, [], ℤ, pos, ◌+ℤ◌, ◌-ℤ◌, unsigned_abs, None, ap, ◌∙◌, subst, arith, if◌then◌else◌, nat_eq}
 use Rattle.std.proofs.Math.ListN.{get_or-map}
 use Rattle.std.proofs.lemmas.List.{length-map}
 use Rattle.std.proofs.lemmas.Int.{ints}
@@ -13,7 +13,7 @@ use Rattle.vms_history.specs.Events.{total}
 use Rattle.vms_history.specs.Sums.{sum_below, count_below}
 use Rattle.vms_history.proofs.Choices.{if-map, if-same}
 use Rattle.vms_history.proofs.CallerSums.{total-by_parts}
-use Rattle.vms_history.proofs.CountLemmas.{pos-count_below, count_below-least, largest_below-most}
+use Rattle.vms_history.proofs.CountLemmas.{pos-count_below, count_below-least, largest_below-most, count_below-sum, count_below-most}
 use Rattle.vms_history.proofs.Prefixes.{base_can_begin}
 use Rattle.vms_history.proofs.SumBounds.{sum_below-most, sum_below-size}
 use Rattle.vms_history.proofs.SumLaws.{sum_below-same, sum_below-sum, sum_below-zeros}
@@ -83,18 +83,6 @@ changes_of_item-by_counter facts i h =
     (λ e g k k_in. if-sum (nat_eq (item_of facts.layout k) i) (change_of k e.step) (total (change_of k) g))
     (λ e g legal. change_of_item-by_counter facts i g (state_after facts g) e.caller e.step legal.2)
     h
-
--- sums add up
-count_below-sum : (f g : ℕ → ℕ) (n : ℕ) → count_below (λ i. f i + g i) n ≡ count_below f n + count_below g n
-count_below-sum f g zero = refl
-count_below-sum f g (suc n) = omega (arith, count_below-sum f g n)
-
--- numbers of at most `most` add up to at most n times as much
-count_below-most : (f : ℕ → ℕ) (n most : ℕ) → ((i : ℕ) → i < n → f i ≤ most) → count_below f n ≤ n * most
-count_below-most f zero most within = omega arith
-count_below-most f (suc n) most within =
-    let more : suc n * most ≡ n * most + most = omega arith in
-    omega (arith, more, within n (omega arith), count_below-most f n most (λ i below. within i (omega arith)))
 
 -- the values of an item's counters are small together, where each is: an item has at most sixteen counters
 pub values_of_item-most : (shape : Shape) → IsLayout shape → (s : State) (i most : ℕ)

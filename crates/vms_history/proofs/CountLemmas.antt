@@ -1,5 +1,5 @@
 -- For other crates too: sums of natural numbers below a bound, beside sums of integers, and the largest of such numbers.
-use Rattle.std.proofs.Common.{◌≡◌, ℕ, zero, suc, ◌<◌, ◌≤◌, ℤ, pos, unsigned_abs, refl, ap, arith, ⊎_elim}
+use Rattle.std.proofs.Common.{◌≡◌, ℕ, zero, suc, ◌+◌, ◌*◌, ◌<◌, ◌≤◌, ℤ, pos, unsigned_abs, refl, ap, arith, ⊎_elim}
 use Rattle.std.proofs.lemmas.Bool.{cases_eq}
 use Rattle.std.proofs.lemmas.Int.{ints}
 use Rattle.vms_history.specs.Sums.{sum_below, count_below, largest_below}
@@ -41,3 +41,15 @@ pub count_below-least : (f g : ℕ → ℕ) (n : ℕ) → ((i : ℕ) → i < n �
 count_below-least f g zero each = omega arith
 count_below-least f g (suc n) each =
     omega (arith, each n (omega arith), count_below-least f g n (λ i below. each i (omega arith)))
+
+-- sums add up
+pub count_below-sum : (f g : ℕ → ℕ) (n : ℕ) → count_below (λ i. f i + g i) n ≡ count_below f n + count_below g n
+count_below-sum f g zero = refl
+count_below-sum f g (suc n) = omega (arith, count_below-sum f g n)
+
+-- n numbers of at most `most` each
+pub count_below-most : (f : ℕ → ℕ) (n most : ℕ) → ((i : ℕ) → i < n → f i ≤ most) → count_below f n ≤ n * most
+count_below-most f zero most within = omega arith
+count_below-most f (suc n) most within =
+    let more : suc n * most ≡ n * most + most = omega arith in
+    omega (arith, more, within n (omega arith), count_below-most f n most (λ i below. within i (omega arith)))

@@ -1,14 +1,13 @@
 -- For other crates too: a limited addition of a caller that is alone with the counter is exact.
-use Rattle.std.proofs.Common.{◌≡◌, ◌≢◌, ℕ, suc, Bool, true, false, true≢false, List, [], ◌∷◌, ◌++◌, length, length-append, ◌+◌, Some, ℤ, pos, ◌+ℤ◌, ◌-ℤ◌, ◌≤ℤ◌, ◌<ℤ◌, refl, sym, ap, subst, ◌∙◌, if◌then◌else◌, nat_eq, arith}
+use Rattle.std.proofs.Common.{◌≡◌, ◌≢◌, ℕ, Bool, true, false, true≢false, List, [], ◌∷◌, ◌++◌, length, length-append, ◌+◌, Some, ℤ, pos, ◌+ℤ◌, ◌-ℤ◌, ◌≤ℤ◌, ◌<ℤ◌, refl, sym, ap, subst, ◌∙◌, if◌then◌else◌, nat_eq, arith}
 use Rattle.std.proofs.lemmas.Int.{ints}
 use Rattle.std.proofs.lemmas.Bool.{eqb-false}
 use Rattle.vms_base.specs.declared.ids.CpuId.{CpuId}
 use Rattle.vms_base.specs.declared.ids.PcpuId.{PcpuId}
 use Rattle.vms_history.specs.declared.events.Event.{Event}
 use Rattle.vms_history.specs.Events.{Extends, own}
-use Rattle.vms_history.specs.Passes.{begun_in, owner_in}
+use Rattle.vms_history.specs.Passes.{owner_in}
 use Rattle.vms_history.proofs.Own.{Extends-same, Extends-both, own-append, own-mine}
-use Rattle.vms_history.proofs.SumLaws.{sum_below-zeros}
 use Rattle.vms_pcpu_core.specs.declared.steps.PcpuFacts.{PcpuFacts}
 use Rattle.vms_pcpu_core.specs.declared.steps.PcpuStep.{PcpuStep}
 use Rattle.vms_pcpu_core.specs.declared.steps.PcpuStep.TheVariants.{LoadC}
@@ -22,7 +21,7 @@ use Rattle.vms_pcpu_core.specs.Steps.{turn}
 use Rattle.vms_pcpu_core.specs.Totals.{amount_of, true_total}
 use Rattle.vms_pcpu_core.proofs.LimitedAdds.{limited-says}
 use Rattle.vms_pcpu_core.proofs.Saying.{SaysYes, SaysNo, Says}
-use Rattle.vms_pcpu_core.proofs.OtherChanges.{by_self, by_self-others, true_total-between}
+use Rattle.vms_pcpu_core.proofs.OtherChanges.{by_self, by_self-others, others-carry_nothing, true_total-between}
 
 module _ (earlier later : History) (p j : ℕ) (alone : IsAlone earlier later p j)
     (part : ℤ → ℤ) (none : part (pos 0) ≡ pos 0) where
@@ -52,12 +51,7 @@ module _ (earlier later : History) (p j : ℕ) (alone : IsAlone earlier later p 
 
   pub alone-carries : (h : History) → Extends h earlier → Extends later h → carried_by_others part p j h ≡ pos 0
   alone-carries h since kept =
-      sum_below-zeros (λ q. if nat_eq q p then pos 0 else part (carried j (own h q))) (suc (begun_in turn h))
-      (λ q below. by (nat_eq q p) q refl)
-    where
-      by : (b : Bool) (q : ℕ) → nat_eq q p ≡ b → (if b then pos 0 else part (carried j (own h q))) ≡ pos 0
-      by true q same = refl
-      by false q other = ap part (alone.carries h since kept q (eqb-false q p other)) ∙ none
+      others-carry_nothing part p j h none (λ q other. alone.carries h since kept q (eqb-false q p other))
 
 module _ (facts : PcpuFacts) (earlier later : History) (p : ℕ) (j : PcpuId) (limit amount : ℤ)
     (alone : IsAlone earlier later p j.number)

@@ -15,6 +15,10 @@ use Rattle.vms_pcpu_core.proofs.Changes.Change.{rests, grows, takes, adds}
 use Rattle.vms_pcpu_core.proofs.Shapes.{batch_at-state_after}
 use Rattle.vms_pcpu_core.proofs.Totals.{newest-change}
 
+-- a CPU that is online isn't absent
+pub apart : {x : CpuState} → x ≡ Online → x ≡ Absent → ⊥
+apart online absent = cc
+
 module _ (cpus batch : ℕ) (who : Option CpuId) (count count' : ℤ) (local local' : ℕ → ℤ)
     (carrying carrying' amount : ℤ) where
   -- a local part after a step: as it was, or 0, or what the owner of the CPU left within the batch
@@ -56,9 +60,6 @@ absent-none facts (e ∷ h) legal c j c_in is_absent j_in =
     (change-local facts.layout.cpus _ _ _ _ (λ i. local_at (numbers_after facts h) i j)
     (λ i. local_at (numbers_after facts (e ∷ h)) i j)
     _ _ _ (newest-change facts e h j legal j_in) c)
-  where
-    apart : {x : CpuState} → x ≡ Online → x ≡ Absent → ⊥
-    apart online absent = cc
 
 pub locals-bounded : (facts : PcpuFacts) (h : History) → IsLegal facts h → BoundsLocals facts h
 locals-bounded facts h legal = record { within = local-within facts h legal; absent = absent-none facts h legal }

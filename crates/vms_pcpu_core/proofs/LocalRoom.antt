@@ -4,7 +4,6 @@ use Rattle.std.proofs.lemmas.Int.{ints}
 use Rattle.std.proofs.lemmas.Bool.{ne_eqb}
 use Rattle.std.proofs.lemmas.List.{take_all}
 use Rattle.vms_base.specs.declared.ids.CpuId.{CpuId}
-use Rattle.vms_base.specs.declared.kinds.CpuState.{CpuState}
 use Rattle.vms_base.specs.declared.kinds.CpuState.TheVariants.{Online, Absent}
 use Rattle.vms_base.specs.Places.{IsCpu}
 use Rattle.vms_history.specs.Events.{Extends}
@@ -14,6 +13,7 @@ use Rattle.vms_history.proofs.Own.{Extends-both}
 use Rattle.vms_history.proofs.PassLaws.{owner_in-append, caller_is_given}
 use Rattle.vms_history.proofs.Prefixes.{base_can_begin}
 use Rattle.vms_history.proofs.SumLaws.{sum_below-changed}
+use Rattle.vms_pcpu_core.proofs.Bounds.{apart}
 use Rattle.vms_pcpu_core.specs.declared.steps.PcpuFacts.{PcpuFacts}
 use Rattle.vms_pcpu_core.specs.declared.steps.PcpuStep.{PcpuStep}
 use Rattle.vms_pcpu_core.specs.States.{batch_at, local_at, cpu_at, IsPcpu}
@@ -52,9 +52,6 @@ locals-moved facts h c j a legal j_in c_in online within =
     (λ k below absent. at_none (nat_eq k c) k refl absent (bounds.absent k j below absent j_in))) in
     omega (arith, ints, sum, here, size, bound)
   where
-    apart : {x : CpuState} → x ≡ Online → x ≡ Absent → ⊥
-    apart is_online is_absent = cc
-
     at_most : (b : Bool) (k : ℕ) → nat_eq k c ≡ b
         → unsigned_abs (local_at (numbers_after facts h) k j) ≤ batch_at facts.base j
         → pos (unsigned_abs (if b then local_at (numbers_after facts h) k j +ℤ a else local_at (numbers_after facts h) k

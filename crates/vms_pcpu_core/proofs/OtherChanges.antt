@@ -61,6 +61,17 @@ pub true_total-between : (facts : PcpuFacts) (p j : ℕ) (h g : History)
     +ℤ (by_others_between rise p j h g -ℤ by_others_between fall p j h g)
 true_total-between facts p j h g = omega (arith, ints, amounts-parts p j h, amounts-parts p j g)
 
+-- where no other caller carries anything, what others carry is 0
+pub others-carry_nothing : (part : ℤ → ℤ) (p j : ℕ) (h : History) → part (pos 0) ≡ pos 0
+    → ((q : ℕ) → nat_eq q p ≡ false → carried j (own h q) ≡ pos 0) → carried_by_others part p j h ≡ pos 0
+others-carry_nothing part p j h none nothing =
+    sum_below-zeros (λ q. if nat_eq q p then pos 0 else part (carried j (own h q))) (suc (begun_in turn h))
+    (λ q below. by (nat_eq q p) q refl)
+  where
+    by : (b : Bool) (q : ℕ) → nat_eq q p ≡ b → (if b then pos 0 else part (carried j (own h q))) ≡ pos 0
+    by true q same = refl
+    by false q other = ap part (nothing q other) ∙ none
+
 module _ (part : ℤ → ℤ) (least : (x : ℤ) → pos 0 ≤ℤ part x) (p j : ℕ) where
   by_others-append : (m h : History) → by_others part p j h ≤ℤ by_others part p j (m ++ h)
   by_others-append [] h = omega (arith, ints)
@@ -95,18 +106,13 @@ module _ (part : ℤ → ℤ) (least : (x : ℤ) → pos 0 ≤ℤ part x) (p j :
       → part (pos 0) ≡ pos 0
       → holds j (own h p) ≡ true → carried_by_others part p j h ≡ pos 0
   carried_by_others-locked facts h legal j_in none holding =
-      sum_below-zeros (λ q. if nat_eq q p then pos 0 else part (carried j (own h q))) (suc (begun_in turn h))
-      (λ q below. by (nat_eq q p) q refl)
+      others-carry_nothing part p j h none (λ q other. nothing (holds j (own h q)) q refl other)
     where
       nothing : (b : Bool) (q : ℕ) → holds j (own h q) ≡ b → nat_eq q p ≡ false → carried j (own h q) ≡ pos 0
       nothing true q held other =
           let same : q ≡ p = (holder-one facts h legal j j_in).one q p held holding in
           absurd (true≢false (sym (eq-eqb q p same) ∙ other))
       nothing false q held other = (holder-one facts h legal j j_in).others q held
-
-      by : (b : Bool) (q : ℕ) → nat_eq q p ≡ b → (if b then pos 0 else part (carried j (own h q))) ≡ pos 0
-      by true q same = refl
-      by false q other = ap part (nothing (holds j (own h q)) q refl other) ∙ none
 
 -- what all carry is what others carry up less what they carry down, where p carries nothing
 pub carried_by_all-others : (p j : ℕ) (h : History) → carried j (own h p) ≡ pos 0

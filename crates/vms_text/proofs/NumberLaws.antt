@@ -36,7 +36,7 @@ decimal-numeral zero fits = rw (decimal_digit 0 (omega arith)) refl
 decimal-numeral (suc n) fits =
     numeral-from_digits (decimal (suc n)) (digits_decimal own (suc n) fits) (decimal_nonempty (suc n) fits) (λ leads. absurd (omega (arith, first_decimal (suc n) (omega arith) fits, leads)))
 
-number_within-decimal : (least most n : ℕ) → n < 2 ^ 64 → least ≤ n → n ≤ most → number_within least most (decimal n) ≡ Some n
+pub number_within-decimal : (least most n : ℕ) → n < 2 ^ 64 → least ≤ n → n ≤ most → number_within least most (decimal n) ≡ Some n
 number_within-decimal least most n fits large small =
     let above : nat_le least n ≡ true = grind (arith, nat_tests) in
     let within : nat_le n most ≡ true = grind (arith, nat_tests) in

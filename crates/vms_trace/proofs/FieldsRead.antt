@@ -31,7 +31,8 @@ use Rattle.vms_trace.proofs.ItemNames.{class_names-apart, class_names-differ, cl
 use Rattle.vms_trace.proofs.NameLookups.{bytes_eq-other, position-name, position-nowhere}
 use Rattle.vms_trace.proofs.PlacesRead.{SpellsPlace, place-spelled, place_field-spelled}
 use Rattle.vms_trace.proofs.Sentences.{is_short}
-use Rattle.vms_trace.proofs.SpelledNumbers.{decimal-short, number_within-spelled, signed_of-spelled, unsigned_of-decimal}
+use Rattle.vms_text.proofs.NumberLaws.{number_within-decimal}
+use Rattle.vms_trace.proofs.SpelledNumbers.{decimal-short, signed_of-spelled, unsigned_of-decimal}
 
 -- one word that is read as a value
 pub record SpellsOne (A : Type 0) (field : List ℕ → Result A LineCause) (words : List (List ℕ)) (value : A) : Type 0 where
@@ -53,7 +54,7 @@ pub record SpellsCounter (header : Header) (counter : ℕ) : Type 0 where
 
 -- numbers
 pub number_up_to-spelled : (most n : ℕ) → n < 2 ^ 64 → n ≤ most → number_up_to most (decimal n) ≡ Ok n
-number_up_to-spelled most n fits small = ap (λ found. ok_or found BadNumber) (number_within-spelled 0 most n fits (omega arith) small)
+number_up_to-spelled most n fits small = ap (λ found. ok_or found BadNumber) (number_within-decimal 0 most n fits (omega arith) small)
 
 pub amount_field-spelled : (z : ℤ) → FitsSigned w64 z → amount_field (signed_decimal z) ≡ Ok z
 amount_field-spelled z fits = ap (λ found. ok_or found BadNumber) (signed_of-spelled z fits)

@@ -27,7 +27,8 @@ use Rattle.vms_trace.proofs.HeaderSteps.{Leads, leads-cons, leads-none, leads-on
 use Rattle.vms_trace.proofs.Middles.{All-from_map, All-middle, AllPairs-middle, map-zip_first, map-zip_second}
 use Rattle.vms_trace.proofs.PlacesRead.{below-other, kind_named-word, kind_word, kind_word-entry, kind_word-short, zone_node-most}
 use Rattle.vms_trace.proofs.Sentences.{IsFew}
-use Rattle.vms_trace.proofs.SpelledNumbers.{decimal-short, number_within-spelled}
+use Rattle.vms_text.proofs.NumberLaws.{number_within-decimal}
+use Rattle.vms_trace.proofs.SpelledNumbers.{decimal-short}
 
 abbrev pub zone_of : ZoneName × ZoneSize → Zone
 zone_of pair = record { name = pair.0; size = pair.1 }
@@ -84,12 +85,12 @@ module _ (name : ZoneName) (size : ZoneSize) (is : IsSaid name size) where
       rw (
         is_at,
         marked,
-        number_within-spelled 0 15 name.node (omega arith) (omega arith) node,
+        number_within-decimal 0 15 name.node (omega arith) (omega arith) node,
         kind_named-word name.kind,
-        number_within-spelled 1 (2 ^ 40) size.managed (omega arith) least managed,
-        number_within-spelled 0 (2 ^ 40) size.min (omega arith) (omega arith) (omega arith),
-        number_within-spelled 0 (2 ^ 40) size.low (omega arith) (omega arith) (omega arith),
-        number_within-spelled 0 (2 ^ 40) size.high (omega arith) (omega arith) most,
+        number_within-decimal 1 (2 ^ 40) size.managed (omega arith) least managed,
+        number_within-decimal 0 (2 ^ 40) size.min (omega arith) (omega arith) (omega arith),
+        number_within-decimal 0 (2 ^ 40) size.low (omega arith) (omega arith) (omega arith),
+        number_within-decimal 0 (2 ^ 40) size.high (omega arith) (omega arith) most,
         first,
         second,
       ) refl

@@ -66,7 +66,7 @@ pub record IsCut (line : List ℕ) (words : List (List ℕ)) (clean : Bool) (beg
 pub IsCut-none : (line : List ℕ) → IsCut line [] true 0 0
 IsCut-none line = record { behind = omega arith; run = λ k d low high. absurd (omega arith); words_are = refl; clean_is = refl }
 
-clean-word : (byte : ℕ) → is_word_byte byte ≡ true → not (is_wrong_byte byte) ≡ true
+pub clean-word : (byte : ℕ) → is_word_byte byte ≡ true → not (is_wrong_byte byte) ≡ true
 clean-word byte is = grind (arith, nat_tests)
 
 pub clean-other : (byte : ℕ) → is_word_byte byte ≡ false → not (is_wrong_byte byte) ≡ is_blank_byte byte

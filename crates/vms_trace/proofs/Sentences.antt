@@ -18,6 +18,7 @@ use Rattle.vms_trace.specs.Laws.{ReadsBack}
 use Rattle.vms_trace.specs.Reading.{is_clean, is_comment, is_ignored, most_line}
 use Rattle.vms_trace.specs.Spelling.{line_words, sentence}
 use Rattle.vms_trace.specs.Writing.{spaced}
+use Rattle.vms_trace.proofs.Pieces.{clean-word}
 use Rattle.vms_trace.proofs.Appends.{joined-cons}
 
 -- a word of at most 21 bytes
@@ -61,13 +62,10 @@ or_true : (b : Bool) → (b || true) ≡ true
 or_true true = refl
 or_true false = refl
 
-clean_byte : (byte : ℕ) → is_word_byte byte ≡ true → not (is_wrong_byte byte) ≡ true
-clean_byte byte is = ap (λ of_word. not (not (is_blank_byte byte || of_word))) is ∙ ap (λ b. not (not b)) (or_true (is_blank_byte byte))
-
 clean_word : (word : List ℕ) → list_all is_word_byte word ≡ true → is_clean word ≡ true
 clean_word [] bytes = refl
 clean_word (byte ∷ word) bytes =
-    let first = clean_byte byte (and_left (is_word_byte byte) (list_all is_word_byte word) bytes) in
+    let first = clean-word byte (and_left (is_word_byte byte) (list_all is_word_byte word) bytes) in
     let rest = clean_word word (and_right (is_word_byte byte) (list_all is_word_byte word) bytes) in
     ap (λ b. b && is_clean word) first ∙ rest
 

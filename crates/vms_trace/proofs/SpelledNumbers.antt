@@ -1,12 +1,12 @@
 -- For other crates too: numbers are read back from their digits.
-use Rattle.std.proofs.Common.{ℕ, suc, ◌≡◌, ◌<◌, ◌≤◌, ◌^◌, ◌-◌, ◌&&◌, true, nat_le, List, [], ◌∷◌, ℤ, pos, negsuc, Some, refl, ◌∙◌, ap, arith, w64, length}
+use Rattle.std.proofs.Common.{ℕ, suc, ◌≡◌, ◌<◌, ◌≤◌, ◌^◌, ◌-◌, ◌&&◌, true, List, [], ◌∷◌, ℤ, pos, negsuc, Some, refl, ◌∙◌, ap, arith, w64, length}
 use Rattle.std.proofs.lemmas.Bool.Decides.{nat_tests}
 use Rattle.std.proofs.lemmas.Fmt.{decimal_nonempty, length-decimal-le}
 use Rattle.std.proofs.lemmas.Int.{ints}
 use Rattle.std.specs.Fmt.{decimal, signed_decimal}
 use Rattle.std.specs.Int.RustNames.{FitsSigned}
 use Rattle.std.specs.List.{list_all}
-use Rattle.vms_text.specs.Numbers.{is_digit, number_within, signed_of, unsigned_of}
+use Rattle.vms_text.specs.Numbers.{is_digit, signed_of, unsigned_of}
 use Rattle.vms_text.specs.Words.{is_word_byte}
 use Rattle.vms_text.proofs.NumberLaws.{signed_of-reads, unsigned_of-reads}
 use Rattle.vms_text.proofs.Values.{IsWithin, and_left, and_right, number_within-is, numeral-digits}
@@ -18,13 +18,6 @@ decimal-is n fits = number_within-is 0 (2 ^ 64 - 1) (decimal n) n ((unsigned_of-
 
 pub unsigned_of-decimal : (n : ℕ) → n < 2 ^ 64 → unsigned_of (decimal n) ≡ Some n
 unsigned_of-decimal n fits = (unsigned_of-reads n (decimal n) fits).1 refl
-
-pub number_within-spelled : (least most n : ℕ) → n < 2 ^ 64 → least ≤ n → n ≤ most → number_within least most (decimal n) ≡ Some n
-number_within-spelled least most n fits large small =
-    let is = decimal-is n fits in
-    let above : nat_le least n ≡ true = grind (arith, nat_tests) in
-    let below : nat_le n most ≡ true = grind (arith, nat_tests) in
-    rw (is.value, is.numeral, above, below) refl
 
 pub signed_of-spelled : (z : ℤ) → FitsSigned w64 z → signed_of (signed_decimal z) ≡ Some z
 signed_of-spelled z fits = (signed_of-reads z (signed_decimal z) fits).1 refl
