@@ -2,9 +2,9 @@
 """Gives the examples of documents to the program, and compares its answers: examples.py FORMATS OTHER.. -- PROGRAM WORD..
 
 Of each document: a block ``` WORD STATUS ``` is what the program writes, with that status, when it is called with that
-word and reads the last block ``` trace ```. Of the first document also: a row of the table of headers has the lines of an
-input and `line N: CAUSE` or `accepted`; a row of the table of body lines has a line, to be read after the block
-``` header ``` and the lines above it, and `CAUSE`, `counts` or `ignored`.
+word and reads the last block ``` trace ```; a line `...` stands for any lines. Of the first document also: a row of the
+table of headers has the lines of an input and `line N: CAUSE` or `accepted`; a row of the table of body lines has a line,
+to be read after the block ``` header ``` and the lines above it, and `CAUSE`, `counts` or `ignored`.
 """
 import re
 import subprocess
@@ -49,6 +49,14 @@ def between(first, last):
     return ["".join(a if a == b else str(n) for a, b in words) for n in range(low, high + 1)]
 
 
+def shortened(text, wanted):
+    """The text with `...` for what stands between the parts of what is wanted, if it has these parts in their order."""
+    parts = wanted.split("...\n")
+    if len(parts) == 2 and text.startswith(parts[0]) and text.endswith(parts[1]):
+        return wanted
+    return text
+
+
 def check_blocks(program, name, document):
     trace = None
     for info, text in blocks(document):
@@ -56,7 +64,8 @@ def check_blocks(program, name, document):
         if words == ["trace"]:
             trace = text
         elif len(words) == 2 and words[0] in ("check", "replay"):
-            yield name + ": " + info, run(program, words[0], trace), (int(words[1]), text)
+            status, found = run(program, words[0], trace)
+            yield name + ": " + info, (status, shortened(found, text)), (int(words[1]), text)
 
 
 def check_headers(program, name, document):
