@@ -1,5 +1,5 @@
 -- The steps of a change meet their conditions in a row.
-use Rattle.std.proofs.Common.{◌≡◌, ℕ, ◌+◌, ◌≤◌, nat_eq, true, ℤ, List, [], ◌∷◌, ◌++◌, length, Option, Some, None, refl, sym, ap, ◌∙◌, subst, arith, eq-eqb, unsigned_abs}
+use Rattle.std.proofs.Common.{◌≡◌, ℕ, ◌+◌, ◌≤◌, nat_eq, true, ℤ, List, [], ◌∷◌, ◌++◌, Option, Some, None, refl, sym, ap, ◌∙◌, subst, arith, eq-eqb, unsigned_abs}
 use Rattle.std.proofs.lemmas.Int.{ints}
 use Rattle.vms_base.specs.declared.groups.Diffs.{Diffs}
 use Rattle.vms_base.specs.declared.ids.CounterId.{CounterId}
@@ -15,9 +15,9 @@ use Rattle.vms_history.proofs.Prefixes.{base_can_begin}
 use Rattle.vms_core.specs.declared.steps.Facts.{Facts}
 use Rattle.vms_core.specs.declared.steps.Step.{Step}
 use Rattle.vms_core.specs.declared.steps.Step.TheVariants.{LoadT, LoadD, Put, Miss, AddG}
-use Rattle.vms_calls.specs.Calls.{Carries, Exchanges}
-use Rattle.vms_calls.specs.Calls.Carries.{nothing, amount}
-use Rattle.vms_calls.specs.Calls.Exchanges.{won, missed}
+use Rattle.vms_calls.specs.Changes.{Carries, Exchanges, IsChange}
+use Rattle.vms_calls.specs.Changes.Carries.{nothing, amount}
+use Rattle.vms_calls.specs.Changes.Exchanges.{won, missed}
 use Rattle.vms_core.specs.Cells.{entry}
 use Rattle.vms_core.specs.Changes.{carried_by}
 use Rattle.vms_base.specs.Volumes.{most_volume}
@@ -26,6 +26,8 @@ use Rattle.vms_core.specs.Own.{CarriesNothing, carried, carried_of_item, found, 
 use Rattle.vms_core.specs.Pages.{pages, History}
 use Rattle.vms_core.specs.Steps.{turn}
 use Rattle.vms_core.specs.Totals.{spent, spent_by}
+use Rattle.vms_calls.proofs.CallerLaws.{spent-no_put}
+use Rattle.vms_calls.proofs.MayBegin.{call-begins}
 use Rattle.vms_calls.proofs.Agreement.{event}
 use Rattle.vms_base.proofs.Counts.{place_of-lt, group_of-lt, item_of-lt}
 use Rattle.vms_calls.proofs.Runs.{Runs, Exchanging, runs-may}
@@ -116,26 +118,8 @@ module _ (facts : Facts) (layout : IsLayout facts.layout) (p : ℕ) (cpu : CpuId
       items = λ i. omega (arith, ints, carries_none.items i);
     }
 
-    load-spends : (who : Option CpuId) (c l : ℕ) (g : PlaceId) (told a : ℕ) → spent_by who c l (LoadT g told a) ≡ 0
-    load-spends None c l g told a = refl
-    load-spends (Some o) c l g told a = refl
-
-    look-spends : (who : Option CpuId) (c l : ℕ) (j : GroupId) (w : Diffs) → spent_by who c l (LoadD cpu j w) ≡ 0
-    look-spends None c l j w = refl
-    look-spends (Some o) c l j w = refl
-
-    miss-spends : (who : Option CpuId) (c l : ℕ) (j : GroupId) (w : Diffs) → spent_by who c l (Miss j w) ≡ 0
-    miss-spends None c l j w = refl
-    miss-spends (Some o) c l j w = refl
-
     spent_yet : spent looked cpu.number k.number ≡ spent h cpu.number k.number
-    spent_yet = omega (
-      arith,
-      load-spends (owner_in turn h p) cpu.number k.number (record { number = place_of facts.layout k.number }) t number,
-      look-spends (owner_in turn
-          (event facts p (LoadT (record { number = place_of facts.layout k.number }) t number) ∷ h) p)
-          cpu.number k.number (record { number = group_of k.number }) first,
-    )
+    spent_yet = spent-no_put p loads h (tt, (tt, tt)) cpu.number k.number
 
     exchange-run : (last : Diffs) (exchange additions : List Step) → Exchanges k first t delta how last exchange
         → Carries facts.layout k (carried_by how t (entry last.values k.number) delta) additions
@@ -168,12 +152,7 @@ module _ (facts : Facts) (layout : IsLayout facts.layout) (p : ℕ) (cpu : CpuId
             λ knows. exchanging lost then_seen zeros knows.owner mine_then
                 (rw (eq-eqb (group_of k.number) (group_of k.number) refl) (ap Some (sym are)))
                 loaded_there none_then
-                (omega (
-                  arith,
-                  miss-spends (owner_in turn looked p) cpu.number k.number
-                      (record { number = group_of k.number }) first,
-                  spent_yet,
-                )),
+                (spent-no_put p (miss ∷ []) looked (tt, tt) cpu.number k.number ∙ spent_yet),
             λ knows told. additions-run (carried_by how t (entry zeros.values k.number) delta) additions
                 (event facts p (Put k zeros t delta how) ∷ lost)
                 (put-counter lost then_seen zeros mine_then none_then)
@@ -182,8 +161,9 @@ module _ (facts : Facts) (layout : IsLayout facts.layout) (p : ℕ) (cpu : CpuId
         )
 
 pub change-may : MakesChange
-change-may facts h p cpu k delta how steps may change =
+change-may facts h p cpu k delta how may =
     let layout = (base_can_begin pages facts h may.legal).layout in
+    call-begins facts p h (λ steps. IsChange facts.layout cpu k delta how steps) (λ steps change.
     runs-may facts p h (record { legal = may.legal; lives = may.lives }) steps
     (subst (λ who. Runs facts p who steps h (λ now. Unit {0})) (sym may.owner)
     (subst (λ ks. Runs facts p (Some cpu) ks h (λ now. Unit {0})) (sym change.in_order) (
@@ -194,4 +174,4 @@ change-may facts h p cpu k delta how steps may change =
             may.affordable change.t change.number
             change.first change.last change.exchange change.additions change.exchanges change.carries,
       ),
-    )))
+    ))))

@@ -16,6 +16,9 @@ use Rattle.vms_base.specs.Thresholds.{GivesThresholds}
 use Rattle.vms_calls.specs.MayCall.{MakesRating, MakesNodeRating, MakesRefresh}
 use Rattle.vms_core.specs.Pages.{pages, History, state_after}
 use Rattle.vms_calls.proofs.Agreement.{mark_at-told}
+use Rattle.vms_calls.specs.Ratings.{Choice, Rates, RatesNode, Refreshes}
+use Rattle.vms_calls.proofs.ChoiceRanges.{GivesBoth}
+use Rattle.vms_calls.proofs.MayBegin.{call-begins}
 use Rattle.vms_calls.proofs.RatingRuns.{IsOneOf, rating-runs}
 use Rattle.vms_calls.proofs.Runs.{Runs, runs-may}
 use Rattle.vms_core.proofs.Settings.{cpu_at-state_after}
@@ -40,9 +43,9 @@ module _ (facts : Facts) (h : History) (p : ℕ) (controls : ControlsIn facts h 
   control-may steps runs = runs-may facts p h controls.living steps
       (subst (λ who. Runs facts p who steps h (λ then. Unit {0})) (sym controls.control) runs)
 
-pub rating-may : (rule normal : ZoneSize → ℕ → ℕ → Type 0) → GivesThresholds rule → GivesThresholds normal
-    → MakesRating rule normal
-rating-may rule normal rules normals facts h p online g t m steps controls online_now few zone stands rates =
+pub rating-may : (Chooses : Choice) → GivesBoth Chooses → MakesRating Chooses
+rating-may Chooses gives facts h p online g t m controls online_now few zone stands =
+    call-begins facts p h (λ steps. Rates facts p online Chooses g t m h steps) (λ steps rates.
     let base = base facts h p controls in
     let legal = controls.living.legal in
     let most = base.layout.cpus_most in
@@ -54,20 +57,22 @@ rating-may rule normal rules normals facts h p online g t m steps controls onlin
     IsCpu facts.layout c.number × (cpu_at (state_after facts h) c.number ≡ Online)) c online online_now is in
     (known.0, sym (cpu_at-state_after facts h legal c.number known.0) ∙ known.1))
     (sym (mark_at-told facts h legal g) ∙ stands)
-    (λ some. normals (size_at facts.sizes g) (length online) rates.usual (size g zone) some (omega arith)
-    rates.by_normal)
-    (λ some. rules (size_at facts.sizes g) (length online) t (size g zone) some (omega arith) rates.by_rule)
-    (λ known. tt)))
+    (λ some. (gives (size_at facts.sizes g) (length online) t rates.usual (size g zone) some (omega arith)
+    rates.chosen).1)
+    (λ some. (gives (size_at facts.sizes g) (length online) t rates.usual (size g zone) some (omega arith)
+    rates.chosen).0)
+    (λ known. tt))))
 
-pub node-may : (rule normal : ZoneSize → ℕ → ℕ → Type 0) → GivesThresholds rule → GivesThresholds normal
-    → MakesNodeRating rule normal
-node-may rule normal rules normals facts h p n steps controls rates =
+pub node-may : (Chooses : Choice) → GivesBoth Chooses → MakesNodeRating Chooses
+node-may Chooses gives facts h p n controls =
+    call-begins facts p h (λ steps. RatesNode facts Chooses n p h steps) (λ steps rates.
     control-may facts h p controls steps
     (node-runs facts (base facts h p controls).layout (valid_sizes facts h p controls)
-    p rule normal rules normals n h steps rates)
+    p Chooses gives n h steps rates))
 
 pub refresh-may : (normal : ZoneSize → ℕ → ℕ → Type 0) → GivesThresholds normal → MakesRefresh normal
-refresh-may normal normals facts h p steps controls refresh =
+refresh-may normal normals facts h p controls =
+    call-begins facts p h (λ steps. Refreshes facts normal p h steps) (λ steps refresh.
     control-may facts h p controls steps
     (refresh-runs facts (base facts h p controls).layout (valid_sizes facts h p controls)
-    p normal normals h steps refresh)
+    p normal normals h steps refresh))

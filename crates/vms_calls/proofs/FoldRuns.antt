@@ -16,19 +16,12 @@ use Rattle.vms_calls.specs.Folds.{FoundPlace, HasGroups, IsFold, to_place, to_sy
 use Rattle.vms_calls.specs.Lists.{in_turn}
 use Rattle.vms_core.specs.Own.{CarriesNothing, moved, moved_of_item, carried, carried_of_item, loaded, took, has_put, entries_of}
 use Rattle.vms_core.specs.Pages.{History}
+use Rattle.vms_calls.proofs.Amounts.{if-zero_more, if-cancelled}
 use Rattle.vms_calls.proofs.Agreement.{event}
 use Rattle.vms_core.proofs.Effects.{group-within}
 use Rattle.vms_calls.proofs.FoldSums.{sum_steps, total-after, amount, amount-outside, amount-group, group-moved, group-of_item, place-sum, places-sum, nothing-worth, item-worth}
 use Rattle.vms_calls.proofs.Runs.{Runs, Knows, runs-append}
 use Rattle.vms_calls.proofs.TakenSteps.{OnlyMoves, loaded-kept, put-kept, took-made, only-groups, has-group}
-
-skip-zero : (b : Bool) (x : ℤ) → (if b then pos 0 else pos 0) +ℤ x ≡ x
-skip-zero true x = omega (arith, ints)
-skip-zero false x = omega (arith, ints)
-
-less-one : (b : Bool) (d x : ℤ) → (if b then neg_ℤ d else pos 0) +ℤ ((if b then d else pos 0) +ℤ x) ≡ x
-less-one true d x = omega (arith, ints)
-less-one false d x = omega (arith, ints)
 
 module _ (facts : Facts) (layout : IsLayout facts.layout) (p : ℕ) (who : Option CpuId) where
   -- what a measure of own steps adds up to after further ones
@@ -60,7 +53,7 @@ module _ (facts : Facts) (layout : IsLayout facts.layout) (p : ℕ) (who : Optio
     },
     λ knows told. more (λ k. total-next (moved k) (AddG (record { number = n }) d) g
         ∙ ap (λ x. (if nat_eq n k then neg_ℤ d else pos 0) +ℤ x) (carries k)
-        ∙ less-one (nat_eq n k) d (amount k (suc n) ds)),
+        ∙ if-cancelled (nat_eq n k) d (amount k (suc n) ds)),
   )
 
   -- the counters from n on get these numbers, which are carried for them
@@ -69,7 +62,7 @@ module _ (facts : Facts) (layout : IsLayout facts.layout) (p : ℕ) (who : Optio
       → Runs facts p who (in_turn to_place n ds) g P
   adds-run n [] g P within carries rest = rest
   adds-run n (pos zero ∷ ds) g P within carries rest =
-      adds-run (suc n) ds g P (omega arith) (λ k. carries k ∙ skip-zero (nat_eq n k) (amount k (suc n) ds)) rest
+      adds-run (suc n) ds g P (omega arith) (λ k. carries k ∙ if-zero_more (nat_eq n k) (amount k (suc n) ds)) rest
   adds-run n (pos (suc d) ∷ ds) g P within carries rest =
       one-run n (pos (suc d)) ds g P (omega arith) carries (λ e. omega (arith, ints))
       (λ left. adds-run (suc n) ds (event facts p (AddG (record { number = n }) (pos (suc d))) ∷ g) P (omega arith)

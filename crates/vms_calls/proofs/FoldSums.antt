@@ -7,14 +7,17 @@ use Rattle.std.proofs.lemmas.List.{get_or_past}
 use Rattle.vms_base.specs.declared.groups.Diffs.{Diffs}
 use Rattle.vms_base.specs.declared.ids.CpuId.{CpuId}
 use Rattle.vms_base.specs.declared.ids.PlaceId.{PlaceId}
-use Rattle.vms_base.specs.Places.{Shape, IsLayout, item_count, counter_at, group_of}
+use Rattle.vms_base.specs.Places.{Shape, IsLayout, item_count, item_of, counter_at, group_of, first_of}
 use Rattle.vms_history.specs.declared.events.Event.{Event}
 use Rattle.vms_history.specs.Events.{total, after}
+use Rattle.vms_history.proofs.SumLaws.{sum_below-zeros}
+use Rattle.vms_base.proofs.Counts.{item_of-lt}
 use Rattle.vms_core.specs.declared.steps.Step.{Step}
 use Rattle.vms_core.specs.declared.steps.Step.TheVariants.{LoadT, SetA}
+use Rattle.vms_calls.proofs.Amounts.{if-neg, if-neg_zero}
 use Rattle.vms_calls.specs.Lists.{in_turn}
 use Rattle.vms_core.specs.Own.{moved, moved_of_item, entries_of}
-use Rattle.vms_calls.specs.Folds.{FoundPlace, HasGroups, IsFold, CarriesAsBefore, to_place, to_system, group_steps, place_steps, system_steps, acknowledges, lists_of, taken_of_item}
+use Rattle.vms_calls.specs.Folds.{FoundPlace, HasGroups, IsFold, to_place, to_system, group_steps, place_steps, system_steps, acknowledges, lists_of, taken_of_item}
 
 -- the sum of a measure of steps
 abbrev pub sum_steps : (Step → ℤ) → List Step → ℤ
@@ -30,22 +33,14 @@ pub sum-append : (m : Step → ℤ) (xs ys : List Step) → sum_steps m (xs ++ y
 sum-append m [] ys = omega (arith, ints)
 sum-append m (x ∷ xs) ys = omega (arith, ints, sum-append m xs ys)
 
-neg-if : (b : Bool) (d : ℤ) → (if b then neg_ℤ d else pos 0) ≡ neg_ℤ (if b then d else pos 0)
-neg-if true d = refl
-neg-if false d = refl
-
-if-zero : (b : Bool) → (if b then neg_ℤ (pos 0) else pos 0) ≡ pos 0
-if-zero true = refl
-if-zero false = refl
-
 to_place-moved : (k n : ℕ) (d : ℤ) → sum_steps (moved k) (to_place n d) ≡ (if nat_eq n k then neg_ℤ d else pos 0)
-to_place-moved k n (pos zero) = sym (if-zero (nat_eq n k))
+to_place-moved k n (pos zero) = sym (if-neg_zero (nat_eq n k))
 to_place-moved k n (pos (suc d)) = omega (arith, ints)
 to_place-moved k n (negsuc d) = omega (arith, ints)
 
 to_system-moved : (shape : Shape) (i n : ℕ) (d : ℤ)
     → sum_steps (moved_of_item shape i) (to_system n d) ≡ (if nat_eq n i then neg_ℤ d else pos 0)
-to_system-moved shape i n (pos zero) = sym (if-zero (nat_eq n i))
+to_system-moved shape i n (pos zero) = sym (if-neg_zero (nat_eq n i))
 to_system-moved shape i n (pos (suc d)) = omega (arith, ints)
 to_system-moved shape i n (negsuc d) = omega (arith, ints)
 
@@ -101,14 +96,16 @@ adds-moved k n (d ∷ ds) = omega (
   ints,
   sum-append (moved k) (to_place n d) (in_turn to_place (suc n) ds),
   to_place-moved k n d,
-  neg-if (nat_eq n k) d,
+  if-neg (nat_eq n k) d,
   adds-moved k (suc n) ds,
 )
 
-pub group-moved : (k : ℕ) (c : CpuId) (j : ℕ) (w : Diffs) → length w.values ≡ 8 → sum_steps (moved k) (group_steps c j w) ≡ pos 0
+pub group-moved : (k : ℕ) (c : CpuId) (j : ℕ) (w : Diffs) → length w.values ≡ 8
+    → sum_steps (moved k) (group_steps c j w) ≡ pos 0
 group-moved k c j w eight = omega (arith, ints, adds-moved k (8 * j) w.values, amount-group j k w.values eight)
 
-adds-of_item : (shape : Shape) (i n : ℕ) (ds : List ℤ) → sum_steps (moved_of_item shape i) (in_turn to_place n ds) ≡ pos 0
+adds-of_item : (shape : Shape) (i n : ℕ) (ds : List ℤ) → sum_steps (moved_of_item shape i) (in_turn to_place n ds)
+    ≡ pos 0
 adds-of_item shape i n [] = refl
 adds-of_item shape i n (d ∷ ds) = omega (
   arith,
@@ -135,7 +132,8 @@ module _ (m : Step → ℤ) (c : CpuId) (worth : ℕ → Diffs → ℤ)
       let at : j + suc (length ws) ≡ suc j + length ws = omega arith in
       rw at (omega (arith, ints, worths-append (suc j) ws vs))
 
-  groups-sum : (j : ℕ) (ws : List Diffs) → All (λ w. length w.values ≡ 8) ws → sum_steps m (in_turn (group_steps c) j ws) ≡ worths j ws
+  groups-sum : (j : ℕ) (ws : List Diffs) → All (λ w. length w.values ≡ 8) ws
+      → sum_steps m (in_turn (group_steps c) j ws) ≡ worths j ws
   groups-sum j [] eights = refl
   groups-sum j (w ∷ ws) eights = omega (
     arith,
@@ -160,8 +158,10 @@ module _ (m : Step → ℤ) (c : CpuId) (worth : ℕ → Diffs → ℤ)
     )
     place-sum false g found has = groups-sum (group_of (counter_at shape g 0)) found.groups has.eight_each
 
-    pub next_group : (g : ℕ) → group_of (counter_at shape g 0) + shape.positions / 8 ≡ group_of (counter_at shape (suc g) 0)
-    next_group g = ⊎_elim (λ (e : shape.positions ≡ 8). rw e (omega arith)) (λ (e : shape.positions ≡ 16). rw e (omega arith)) layout.positions
+    pub next_group : (g : ℕ) → group_of (counter_at shape g 0) + shape.positions / 8
+        ≡ group_of (counter_at shape (suc g) 0)
+    next_group g = ⊎_elim (λ (e : shape.positions ≡ 8). rw e (omega arith))
+        (λ (e : shape.positions ≡ 16). rw e (omega arith)) layout.positions
 
     pub places-sum : (is_own : Bool) (g : ℕ) (places : List FoundPlace) → All (HasGroups shape) places
         → sum_steps m (in_turn (λ g found. place_steps shape (acknowledges shape is_own g) c g found) g places)
@@ -169,7 +169,8 @@ module _ (m : Step → ℤ) (c : CpuId) (worth : ℕ → Diffs → ℤ)
     places-sum is_own g [] has = refl
     places-sum is_own g (found ∷ places) has =
         let here = has 0 found (omega arith) in
-        let at : group_of (counter_at shape g 0) + length found.groups ≡ group_of (counter_at shape (suc g) 0) = rw here.one_each (next_group g) in
+        let at : group_of (counter_at shape g 0) + length found.groups ≡ group_of (counter_at shape (suc g) 0) =
+        rw here.one_each (next_group g) in
         omega (
           arith,
           ints,
@@ -181,7 +182,8 @@ module _ (m : Step → ℤ) (c : CpuId) (worth : ℕ → Diffs → ℤ)
           ap (λ j. worths j (lists_of places)) at,
         )
 
-pub nothing-worth : (k : ℕ) (c : CpuId) (j : ℕ) (ws : List Diffs) → worths (moved k) c (λ j w. pos 0) (group-moved k c) j ws ≡ pos 0
+pub nothing-worth : (k : ℕ) (c : CpuId) (j : ℕ) (ws : List Diffs)
+    → worths (moved k) c (λ j w. pos 0) (group-moved k c) j ws ≡ pos 0
 nothing-worth k c j [] = refl
 nothing-worth k c j (w ∷ ws) = omega (arith, ints, nothing-worth k c (suc j) ws)
 
@@ -190,7 +192,8 @@ pub item-worth : (shape : Shape) (i : ℕ) (c : CpuId) (j : ℕ) (ws : List Diff
 item-worth shape i c j [] = refl
 item-worth shape i c j (w ∷ ws) = omega (arith, ints, item-worth shape i c (suc j) ws)
 
-systems-of_counter : (shape : Shape) (ws : List Diffs) (k i n : ℕ) → sum_steps (moved k) (system_steps shape ws i n) ≡ pos 0
+systems-of_counter : (shape : Shape) (ws : List Diffs) (k i n : ℕ) → sum_steps (moved k) (system_steps shape ws i n)
+    ≡ pos 0
 systems-of_counter shape ws k i zero = refl
 systems-of_counter shape ws k i (suc n) = omega (
   arith,
@@ -201,12 +204,14 @@ systems-of_counter shape ws k i (suc n) = omega (
 )
 
 module _ (shape : Shape) (ws : List Diffs) (i : ℕ) where
-  systems-below : (l n : ℕ) → (i < l) ⊎ (l + n ≤ i) → sum_steps (moved_of_item shape i) (system_steps shape ws l n) ≡ pos 0
+  systems-below : (l n : ℕ) → (i < l) ⊎ (l + n ≤ i) → sum_steps (moved_of_item shape i) (system_steps shape ws l n)
+      ≡ pos 0
   systems-below l zero out = refl
   systems-below l (suc n) out =
       let differ : nat_eq l i ≡ false = ne_eqb l i (⊎_elim (λ below e. omega arith) (λ above e. omega arith) out) in
       let none : sum_steps (moved_of_item shape i) (to_system l (taken_of_item shape l 0 ws)) ≡ pos 0 =
-      to_system-moved shape i l (taken_of_item shape l 0 ws) ∙ ap (λ (b : Bool). if b then neg_ℤ (taken_of_item shape l 0 ws) else pos 0) differ in
+      to_system-moved shape i l (taken_of_item shape l 0 ws)
+      ∙ ap (λ (b : Bool). if b then neg_ℤ (taken_of_item shape l 0 ws) else pos 0) differ in
       omega (
         arith,
         ints,
@@ -218,12 +223,14 @@ module _ (shape : Shape) (ws : List Diffs) (i : ℕ) where
   systems-sum : (l n : ℕ) → l ≤ i → i < l + n
       → sum_steps (moved_of_item shape i) (system_steps shape ws l n) ≡ neg_ℤ (taken_of_item shape i 0 ws)
   systems-sum l zero from to = absurd (omega arith)
-  systems-sum l (suc n) from to = by (nat_eq l i) refl (λ (later : suc l ≤ i). systems-sum (suc l) n later (omega arith))
+  systems-sum l (suc n) from to =
+      by (nat_eq l i) refl (λ (later : suc l ≤ i). systems-sum (suc l) n later (omega arith))
     where
       split : sum_steps (moved_of_item shape i) (system_steps shape ws l (suc n))
           ≡ sum_steps (moved_of_item shape i) (to_system l (taken_of_item shape l 0 ws))
           +ℤ sum_steps (moved_of_item shape i) (system_steps shape ws (suc l) n)
-      split = sum-append (moved_of_item shape i) (to_system l (taken_of_item shape l 0 ws)) (system_steps shape ws (suc l) n)
+      split = sum-append (moved_of_item shape i) (to_system l (taken_of_item shape l 0 ws))
+          (system_steps shape ws (suc l) n)
 
       first : (b : Bool) → nat_eq l i ≡ b → sum_steps (moved_of_item shape i) (to_system l (taken_of_item shape l 0 ws))
           ≡ (if b then neg_ℤ (taken_of_item shape l 0 ws) else pos 0)
@@ -231,46 +238,88 @@ module _ (shape : Shape) (ws : List Diffs) (i : ℕ) where
           ∙ ap (λ (b : Bool). if b then neg_ℤ (taken_of_item shape l 0 ws) else pos 0) is
 
       by : (b : Bool) → nat_eq l i ≡ b
-          → (suc l ≤ i → sum_steps (moved_of_item shape i) (system_steps shape ws (suc l) n) ≡ neg_ℤ (taken_of_item shape i 0 ws))
+          → (suc l ≤ i → sum_steps (moved_of_item shape i) (system_steps shape ws (suc l) n)
+          ≡ neg_ℤ (taken_of_item shape i 0 ws))
           → sum_steps (moved_of_item shape i) (system_steps shape ws l (suc n)) ≡ neg_ℤ (taken_of_item shape i 0 ws)
       by true is more =
           let same : l ≡ i = eqb-true l i is in
-          omega (arith, ints, split, first true is, systems-below (suc l) n (inl (omega arith)), ap (λ l. taken_of_item shape l 0 ws) same)
+          omega (
+            arith,
+            ints,
+            split,
+            first true is,
+            systems-below (suc l) n (inl (omega arith)),
+            ap
+                (λ l. taken_of_item shape l 0 ws) same,
+          )
       by false is more =
           let other : l ≢ i = eqb-false l i is in
           omega (arith, ints, split, first false is, more (omega arith))
 
-pub fold-carries : (shape : Shape) → IsLayout shape → (is_own : Bool) (c : CpuId) (steps : List Step) → IsFold shape is_own c steps
-    → (p : ℕ) (h : List (Event Step)) → CarriesAsBefore shape p steps h
-fold-carries shape layout is_own c steps folds p h = record {
-  counters = λ k. omega (
+-- nothing is taken for what is no item of the layout
+module _ (shape : Shape) (layout : IsLayout shape) (i : ℕ) (past : item_count shape ≤ i) where
+  entries-past : (j : ℕ) (w : Diffs) → entries_of shape i j w ≡ pos 0
+  entries-past j w = sum_below-zeros
+      (λ n. if nat_eq (item_of shape (first_of j + n)) i then get_or w.values n (pos 0) else pos 0) 8
+      (λ n below.
+      let within = item_of-lt shape layout (first_of j + n) in
+      let other : nat_eq (item_of shape (first_of j + n)) i ≡ false =
+      ne_eqb (item_of shape (first_of j + n)) i (λ e. omega arith) in
+      ap (λ (b : Bool). if b then get_or w.values n (pos 0) else pos 0) other)
+
+  taken-past : (j : ℕ) (ws : List Diffs) → taken_of_item shape i j ws ≡ pos 0
+  taken-past j [] = refl
+  taken-past j (w ∷ ws) = omega (arith, ints, entries-past j w, taken-past (suc j) ws)
+
+module _ (shape : Shape) (layout : IsLayout shape) (is_own : Bool) (c : CpuId) (steps : List Step)
+    (folds : IsFold shape is_own c steps) where
+  abbrev fold_visits : List Step
+  fold_visits = in_turn (λ g found. place_steps shape (acknowledges shape is_own g) c g found) 0 folds.places
+
+  abbrev fold_lists : List Diffs
+  fold_lists = lists_of folds.places
+
+  abbrev fold_systems : List Step
+  fold_systems = system_steps shape fold_lists 0 (item_count shape)
+
+  -- what a fold takes for a counter it adds to it
+  pub fold-moves : (k : ℕ) → sum_steps (moved k) steps ≡ pos 0
+  fold-moves k = omega (
     arith,
     ints,
-    total-after (moved k) p steps h,
     ap (sum_steps (moved k)) folds.in_order,
-    sum-append (moved k) visits systems,
-    places-sum (moved k) c (λ j w. pos 0) (group-moved k c) shape layout (λ g t a. refl) (λ g a. refl) is_own 0 folds.places folds.groups,
-    nothing-worth k c (group_of (counter_at shape 0 0)) (lists_of folds.places),
-    systems-of_counter shape (lists_of folds.places) k 0 (item_count shape),
-  );
-  items = λ i i_in. omega (
+    sum-append (moved k) fold_visits fold_systems,
+    places-sum (moved k) c (λ j w. pos 0) (group-moved k c) shape layout (λ g t a. refl)
+        (λ g a. refl) is_own 0 folds.places folds.groups,
+    nothing-worth k c (group_of (counter_at shape 0 0)) fold_lists,
+    systems-of_counter shape fold_lists k 0 (item_count shape),
+  )
+
+  -- what it adds for an item is what it takes for the item
+  systems-all : (i : ℕ) → sum_steps (moved_of_item shape i) fold_systems ≡ neg_ℤ (taken_of_item shape i 0 fold_lists)
+  systems-all i = ⊎_elim
+      (λ (within : i < item_count shape). systems-sum shape fold_lists i 0 (item_count shape) (omega arith)
+      (omega arith))
+      (λ (past : item_count shape ≤ i). omega (
+        arith,
+        ints,
+        systems-below shape fold_lists i 0 (item_count shape) (inr (omega arith)),
+        taken-past shape layout i past 0 fold_lists,
+      ))
+      (cases_lt i (item_count shape))
+
+  pub fold-moves_of_item : (i : ℕ) → sum_steps (moved_of_item shape i) steps ≡ pos 0
+  fold-moves_of_item i = omega (
     arith,
     ints,
-    total-after (moved_of_item shape i) p steps h,
     ap (sum_steps (moved_of_item shape i)) folds.in_order,
-    sum-append (moved_of_item shape i) visits systems,
-    places-sum (moved_of_item shape i) c (entries_of shape i) (group-of_item shape i c) shape layout (λ g t a. refl) (λ g a. refl) is_own 0 folds.places folds.groups,
-    item-worth shape i c (group_of (counter_at shape 0 0)) (lists_of folds.places),
-    ap (λ j. taken_of_item shape i j (lists_of folds.places)) first_group,
-    systems-sum shape (lists_of folds.places) i 0 (item_count shape) (omega arith) (omega arith),
-  );
-}
-  where
-    visits : List Step
-    visits = in_turn (λ g found. place_steps shape (acknowledges shape is_own g) c g found) 0 folds.places
-
-    systems : List Step
-    systems = system_steps shape (lists_of folds.places) 0 (item_count shape)
-
-    first_group : group_of (counter_at shape 0 0) ≡ 0
-    first_group = omega arith
+    sum-append (moved_of_item shape i) fold_visits fold_systems,
+    places-sum (moved_of_item shape i) c (entries_of shape i) (group-of_item shape i c) shape layout (λ g t a. refl)
+        (λ g a. refl) is_own 0 folds.places folds.groups,
+    item-worth shape i c (group_of (counter_at shape 0 0)) fold_lists,
+    ap (λ j. taken_of_item shape i j fold_lists) first_group,
+    systems-all i,
+  )
+    where
+      first_group : group_of (counter_at shape 0 0) ≡ 0
+      first_group = omega arith

@@ -12,7 +12,8 @@ use Rattle.vms_calls.specs.Ratings.{mark_left, mark_left_by}
 use Rattle.vms_calls.specs.MayCall.{KnowsByOwnSteps}
 use Rattle.vms_core.specs.Pages.{pages, History, IsLegal}
 use Rattle.vms_core.specs.Steps.{turn}
-use Rattle.vms_calls.proofs.Agreement.{event, mark_in, mark_at-told, made-agrees}
+use Rattle.vms_calls.specs.MayMake.{HasMade}
+use Rattle.vms_calls.proofs.Agreement.{Agrees, event, mark_in, mark_at-told, made-agrees}
 use Rattle.vms_calls.proofs.RatingCovers.{SamePeaks-after, peak_sum-same}
 use Rattle.vms_core.proofs.Settings.{mark_after}
 
@@ -27,15 +28,26 @@ mark_in-after facts p g (step ∷ steps) h =
     mark_in-after facts p g steps (event facts p step ∷ h)
     ∙ ap (λ m. mark_left g m steps) (mark_left_by-after g (mark_in facts g h) step)
 
+module _ (facts : Facts) (later earlier : History) (p : ℕ) (steps : List Step)
+    (has : HasMade facts later earlier p steps) where
+  legal : IsLegal facts earlier
+  legal = prefix_is_legal pages facts has.extends.0 earlier (subst (IsLegal facts) has.extends.1 has.legal)
+
+  given : p ≢ 0
+  given main = let first = (live_is_given pages facts earlier p legal has.lived).0 in absurd (omega arith)
+
+  agrees : Agrees facts p later (after p steps earlier)
+  agrees = made-agrees facts p earlier given legal steps later has
+
+  owner_same : owner_in turn (after p steps earlier) p ≡ owner_in turn earlier p
+  owner_same = ap (λ es. owner turn es p) (own-after_others p steps earlier 0 (λ main. given (sym main)))
+
 pub knows-by_own_steps : KnowsByOwnSteps
 knows-by_own_steps facts later earlier p steps has control =
-    let legal : IsLegal facts earlier =
-    prefix_is_legal pages facts has.extends.0 earlier (subst (IsLegal facts) has.extends.1 has.legal) in
-    let some : p ≢ 0 =
-    (λ main. let first = (live_is_given pages facts earlier p legal has.lived).0 in absurd (omega arith)) in
-    let agrees = made-agrees facts p earlier some legal steps later has in
+    let agrees = agrees facts later earlier p steps has in
     let none : owner_in turn (after p steps earlier) p ≡ None =
-    ap (λ es. owner turn es p) (own-after_others p steps earlier 0 (λ main. some (sym main))) ∙ control in
+    owner_same facts later earlier p steps has ∙ control in
+    let legal = legal facts later earlier p steps has in
     record {
       sets = λ c g. (agrees.peaks none g).same_sets c;
       thresholds = λ c g. (agrees.peaks none g).same_thresholds c;

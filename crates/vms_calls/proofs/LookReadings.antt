@@ -3,7 +3,9 @@ use Rattle.std.proofs.Common.{◌≡◌, ◌≢◌, ℕ, suc, Bool, true, false,
 use Rattle.std.proofs.lemmas.Int.{ints}
 use Rattle.vms_base.specs.declared.kinds.CpuState.{CpuState}
 use Rattle.vms_base.specs.declared.kinds.CpuState.TheVariants.{Online, Dead, Absent}
-use Rattle.vms_base.specs.declared.ids.CounterId.{CounterId}
+use Rattle.vms_base.specs.declared.headers.Header.{Header}
+use Rattle.vms_base.specs.declared.ids.PlaceId.{PlaceId}
+use Rattle.vms_base.specs.declared.kinds.WaterMark.{WaterMark}
 use Rattle.vms_base.specs.Places.{Shape, group_of}
 use Rattle.vms_core.specs.declared.steps.Step.{Step}
 use Rattle.vms_core.specs.Cells.{entry}
@@ -12,6 +14,7 @@ use Rattle.vms_calls.specs.Looks.{Look, Verdict, Frees, look_steps, hidden, at_l
 use Rattle.vms_calls.specs.Looks.Look.{online, other}
 use Rattle.vms_calls.specs.LookReadings.{TellsPlaceValue, TellsSystemValue, TellsSnapshot, TellsTest, read_looks, read_further, verdict_of}
 use Rattle.vms_base.specs.Cpus.{is_online}
+use Rattle.vms_base.specs.Watermarks.{limit_of}
 
 pub place_value-told : TellsPlaceValue
 place_value-told k steps answer call rest = rw (call.in_order, call.answers) refl
@@ -35,7 +38,8 @@ looks-told : (k j c : ℕ) (looks : List Look) (sum : ℤ) (rest : List Step)
 looks-told k j c [] sum rest =
     let none : sum ≡ sum +ℤ pos 0 = omega (arith, ints) in ap (λ z. (z, rest)) none
 looks-told k j c (online w ∷ looks) sum rest =
-    let regrouped : (sum +ℤ entry w.values k) +ℤ hidden k looks ≡ sum +ℤ (entry w.values k +ℤ hidden k looks) = omega (arith, ints) in
+    let regrouped : (sum +ℤ entry w.values k) +ℤ hidden k looks ≡ sum +ℤ (entry w.values k +ℤ hidden k looks) =
+    omega (arith, ints) in
     looks-told k j (suc c) looks (sum +ℤ entry w.values k) rest ∙ ap (λ z. (z, rest)) regrouped
 looks-told k j c (other x differs ∷ looks) sum rest =
     other-told k (length looks) c x differs sum (in_turn (look_steps j) (suc c) looks ++ rest)
@@ -50,20 +54,23 @@ snapshot-told shape k steps answer call rest = rw (
 )
     refl
 
-further-told : (shape : Shape) (k : CounterId) (limit : ℕ) (doubt : Bool) (value : ℤ) (further : List Step) (answer : Verdict)
-    → Frees shape k doubt value further answer.free → answer.fast ≡ not doubt → answer.yes ≡ nat_lt limit answer.free
-    → (rest : List Step) → read_further shape k limit doubt value (further ++ rest) ≡ (answer, rest)
-further-told shape k limit true value further answer frees fast enough rest =
-    let verdict : Bool → Bool → Verdict × List Step = λ y f. (record { yes = y; free = answer.free; fast = f }, rest) in
-    ap (verdict_of limit false) (snapshot-told shape k further answer.free frees rest)
-    ∙ ap (λ y. verdict y false) (sym enough) ∙ ap (λ f. verdict answer.yes f) (sym fast)
-further-told shape k limit false value further answer frees fast enough rest =
-    let verdict : Bool → Bool → Verdict × List Step = λ y f. (record { yes = y; free = answer.free; fast = f }, rest) in
-    ap (λ (more : List Step). verdict_of limit true (at_least_zero value, more ++ rest)) frees.0
-    ∙ ap (λ (n : ℕ). verdict_of limit true (n, rest)) (sym frees.1)
-    ∙ ap (λ y. verdict y true) (sym enough) ∙ ap (λ f. verdict answer.yes f) (sym fast)
+module _ (header : Header) (g : PlaceId) (mark : WaterMark) (most : ℕ) where
+  further-told : (doubt : Bool) (value : ℤ) (further : List Step) (answer : Verdict)
+      → Frees header.layout (free_pages header.layout g) doubt value further answer.free
+      → answer.fast ≡ not doubt → answer.yes ≡ nat_lt (limit_of header g.number mark most) answer.free
+      → (rest : List Step) → read_further header g mark most doubt value (further ++ rest) ≡ (answer, rest)
+  further-told true value further answer frees fast enough rest =
+      let verdict : Bool → Bool → Verdict × List Step = λ y f. (record { yes = y; free = answer.free; fast = f }, rest) in
+      ap (verdict_of header g mark most false)
+      (snapshot-told header.layout (free_pages header.layout g) further answer.free frees rest)
+      ∙ ap (λ y. verdict y false) (sym enough) ∙ ap (λ f. verdict answer.yes f) (sym fast)
+  further-told false value further answer frees fast enough rest =
+      let verdict : Bool → Bool → Verdict × List Step = λ y f. (record { yes = y; free = answer.free; fast = f }, rest) in
+      ap (λ (more : List Step). verdict_of header g mark most true (at_least_zero value, more ++ rest)) frees.0
+      ∙ ap (λ (n : ℕ). verdict_of header g mark most true (n, rest)) (sym frees.1)
+      ∙ ap (λ y. verdict y true) (sym enough) ∙ ap (λ f. verdict answer.yes f) (sym fast)
 
 pub test-told : TellsTest
-test-told shape g limit steps answer call rest =
-    rw call.in_order (further-told shape (free_pages shape g) limit (is_doubtful call.first call.value call.second) call.value
+test-told header g mark most steps answer call rest =
+    rw call.in_order (further-told header g mark most (is_doubtful call.first call.value call.second) call.value
     call.further answer call.frees call.fast call.yes rest)

@@ -7,14 +7,19 @@ use Rattle.vms_history.proofs.Prefixes.{base_can_begin}
 use Rattle.vms_core.specs.declared.steps.Facts.{Facts}
 use Rattle.vms_core.specs.declared.steps.Step.{Step}
 use Rattle.vms_calls.specs.Lists.{in_turn}
-use Rattle.vms_calls.specs.Looks.{Look, Verdict, Frees, IsSnapshot, IsWatermarkTest, look_steps, is_doubtful, free_pages}
+use Rattle.vms_calls.specs.HeaderFacts.{facts_of}
+use Rattle.vms_calls.specs.Looks.{Look, Verdict, Frees, IsPlaceValue, IsSystemValue, IsSnapshot, IsWatermarkTest, look_steps, is_doubtful, free_pages}
 use Rattle.vms_calls.specs.Looks.Look.{online, other}
 use Rattle.vms_calls.specs.MayCall.{MakesPlaceValue, MakesSystemValue, MakesSnapshot, MakesTest}
 use Rattle.vms_core.specs.Pages.{pages, History}
 use Rattle.vms_core.specs.Steps.{turn}
 use Rattle.vms_core.proofs.CounterRanges.{first-known}
 use Rattle.vms_base.proofs.Counts.{group_of-lt}
+use Rattle.vms_calls.proofs.MayBegin.{call-begins}
 use Rattle.vms_calls.proofs.Runs.{Runs, runs-may}
+use Rattle.vms_base.specs.declared.headers.Header.{Header}
+use Rattle.vms_base.specs.declared.kinds.WaterMark.{WaterMark}
+use Rattle.vms_core.specs.declared.states.State.{State}
 use Rattle.vms_base.specs.declared.ids.CpuId.{CpuId}
 use Rattle.vms_base.specs.declared.ids.PlaceId.{PlaceId}
 use Rattle.vms_base.specs.Places.{IsLayout}
@@ -49,12 +54,15 @@ module _ (facts : Facts) (layout : IsLayout facts.layout) (p : ℕ) (who : Optio
   further-runs k false value steps free h k_in frees =
       subst (λ ks. Runs facts p who ks h (λ then. Unit {0})) (sym frees.0) tt
 
-  pub test-runs : (g : PlaceId) (limit : ℕ) (steps : List Step) (answer : Verdict) (h : History)
-      → IsZone facts.layout g.number
-      → IsWatermarkTest facts.layout g limit steps answer → Runs facts p who steps h (λ now. Unit {0})
-  test-runs g limit steps answer h zone call =
-      let k = free_pages facts.layout g in
-      let k_in : IsCounter facts.layout k.number = first-known facts.layout layout g.number (omega arith) in
+-- a test of a watermark, in a phase of a header
+module _ (header : Header) (base : State) (layout : IsLayout header.layout) (p : ℕ) (who : Option CpuId) where
+  pub test-runs : (g : PlaceId) (mark : WaterMark) (most : ℕ) (steps : List Step) (answer : Verdict) (h : History)
+      → IsZone header.layout g.number → IsWatermarkTest header g mark most steps answer
+      → Runs (facts_of header base) p who steps h (λ now. Unit {0})
+  test-runs g mark most steps answer h zone call =
+      let facts = facts_of header base in
+      let k = free_pages header.layout g in
+      let k_in : IsCounter header.layout k.number = first-known header.layout layout g.number (omega arith) in
       subst (λ ks. Runs facts p who ks h (λ now. Unit {0})) (sym call.in_order) (
         λ knows. zone,
         λ knows told. (
@@ -62,36 +70,42 @@ module _ (facts : Facts) (layout : IsLayout facts.layout) (p : ℕ) (who : Optio
           λ knows told. (
             λ knows. zone,
             λ knows told.
-                further-runs k (is_doubtful call.first call.value call.second)
+                further-runs facts layout p who k (is_doubtful call.first call.value call.second)
                 call.value call.further answer.free _ k_in call.frees,
           ),
         ),
       )
 
 pub place_value-may : MakesPlaceValue
-place_value-may facts h p k steps answer living k_in call =
+place_value-may facts h p k living k_in =
+    call-begins facts p h (λ steps. (answer : ℕ) × IsPlaceValue k steps answer) (λ steps call.
     runs-may facts p h living steps
-    (subst (λ ks. Runs facts p (owner_in turn h p) ks h (λ then. Unit {0})) (sym call.in_order) (
+    (subst (λ ks. Runs facts p (owner_in turn h p) ks h (λ then. Unit {0})) (sym call.1.in_order) (
       λ knows. k_in,
       λ knows told. tt,
-    ))
+    )))
 
 pub system_value-may : MakesSystemValue
-system_value-may facts h p i steps answer living i_in call =
+system_value-may facts h p i living i_in =
+    call-begins facts p h (λ steps. (answer : ℕ) × IsSystemValue i steps answer) (λ steps call.
     runs-may facts p h living steps
-    (subst (λ ks. Runs facts p (owner_in turn h p) ks h (λ then. Unit {0})) (sym call.in_order) (
+    (subst (λ ks. Runs facts p (owner_in turn h p) ks h (λ then. Unit {0})) (sym call.1.in_order) (
       λ knows. i_in,
       λ knows told. tt,
-    ))
+    )))
 
 pub snapshot-may : MakesSnapshot
-snapshot-may facts h p k steps answer living k_in call =
+snapshot-may facts h p k living k_in =
+    call-begins facts p h (λ steps. (answer : ℕ) × IsSnapshot facts.layout k steps answer) (λ steps call.
     runs-may facts p h living steps
     (snapshot-runs facts (base_can_begin pages facts h living.legal).layout p (owner_in turn h p)
-    k steps answer h k_in call)
+    k steps call.0 h k_in call.1))
 
 pub test-may : MakesTest
-test-may facts h p g limit steps answer living zone call =
+test-may header base h p g mark most living zone =
+    let facts = facts_of header base in
+    call-begins facts p h (λ steps. (answer : Verdict) × IsWatermarkTest header g mark most steps answer)
+    (λ steps call.
     runs-may facts p h living steps
-    (test-runs facts (base_can_begin pages facts h living.legal).layout p (owner_in turn h p)
-    g limit steps answer h zone call)
+    (test-runs header base (base_can_begin pages facts h living.legal).layout p (owner_in turn h p)
+    g mark most steps call.0 h zone call.1))

@@ -39,7 +39,8 @@ pub SamePeaks-next : (facts : Facts) (g : ℕ) (h k : History) (e : Event Step) 
 SamePeaks-next facts g h k e same = record {
   same_sets = λ c. ap (sets_after c g e.step) (same.same_sets c);
   same_thresholds = λ c. ap (threshold_after c g e.step) (same.same_thresholds c);
-  same_peaks = λ c. ap (λ (n : ℕ). peak_after n (threshold_in facts c g h) c g e.step (peak facts c g h)) (same.same_sets c)
+  same_peaks = λ c. ap (λ (n : ℕ). peak_after n (threshold_in facts c g h) c g e.step (peak facts c g h))
+      (same.same_sets c)
       ∙ ap (λ (n : ℕ). peak_after (sets c g k) n c g e.step (peak facts c g h)) (same.same_thresholds c)
       ∙ ap (peak_after (sets c g k) (threshold_in facts c g k) c g e.step) (same.same_peaks c);
   same_cpus = λ c. ap (cpu_after c e.step) (same.same_cpus c);
@@ -52,7 +53,8 @@ SamePeaks-after facts g p (step ∷ steps) h k same =
     SamePeaks-after facts g p steps (record { caller = p; step = step } ∷ h) (record { caller = p; step = step } ∷ k)
     (SamePeaks-next facts g h k (record { caller = p; step = step }) same)
 
-pub peak_sum-same : (facts : Facts) (g : ℕ) (h k : History) → SamePeaks facts g h k → peak_sum facts g h ≡ peak_sum facts g k
+pub peak_sum-same : (facts : Facts) (g : ℕ) (h k : History) → SamePeaks facts g h k → peak_sum facts g h
+    ≡ peak_sum facts g k
 peak_sum-same facts g h k same =
     count_below-same (λ c. if_present (cpu_in facts c h) (peak facts c g h))
     (λ c. if_present (cpu_in facts c k) (peak facts c g k)) facts.layout.cpus
@@ -83,12 +85,20 @@ rating-covers facts p online h g m usual t = by (nat_eq mark m) refl
         let here : mark_left g m thresholds ≡ mark = thresholds-keep g t online m ∙ sym (eqb-true mark m same) in
         subst (λ (n : ℕ). Covers (size_at facts.sizes g) n (peak_sum facts g (after p thresholds h))) (sym here) covers
     by false differ =
-        let set : (if nat_eq g g then mark else m) ≡ mark = (let same : nat_eq g g ≡ true = eq-eqb g g refl in rw same refl) in
+        let set : (if nat_eq g g then mark else m) ≡ mark =
+        (let same : nat_eq g g ≡ true = eq-eqb g g refl in rw same refl) in
         let here : mark_left g (if nat_eq g g then mark else m) thresholds ≡ mark =
         thresholds-keep g t online (if nat_eq g g then mark else m) ∙ set in
         let event : Event Step = record { caller = p; step = SetM (record { number = g }) mark } in
         let peaks = peak_sum-same facts g (after p thresholds (event ∷ h)) (after p thresholds h)
         (SamePeaks-after facts g p thresholds (event ∷ h) h
-        (record { same_sets = λ c. refl; same_thresholds = λ c. refl; same_peaks = λ c. refl; same_cpus = λ c. refl })) in
-        subst (λ (n : ℕ). Covers (size_at facts.sizes g) n (peak_sum facts g (after p thresholds (event ∷ h)))) (sym here)
+        (record {
+          same_sets = λ c. refl;
+          same_thresholds = λ c. refl;
+          same_peaks = λ c. refl;
+          same_cpus =
+              λ c. refl;
+        })) in
+        subst (λ (n : ℕ). Covers (size_at facts.sizes g) n (peak_sum facts g (after p thresholds (event ∷ h))))
+        (sym here)
         (subst (λ (n : ℕ). Covers (size_at facts.sizes g) mark n) (sym peaks) covers)

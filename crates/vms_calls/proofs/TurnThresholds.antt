@@ -1,32 +1,27 @@
 -- Which thresholds the steps of a turn leave.
-use Rattle.std.proofs.Common.{◌≡◌, ◌≢◌, ℕ, suc, zero, ◌&&◌, inl, inr, ⊎_elim, Bool, true, false, nat_eq, if◌then◌else◌, List, [], ◌∷◌, ◌++◌, length, ℤ, Option, Some, None, refl, sym, ap, ◌∙◌, subst, arith, append_assoc, eq-eqb, ne_eqb}
+use Rattle.std.proofs.Common.{◌≡◌, ◌≢◌, ℕ, suc, zero, ◌&&◌, inl, inr, ⊎_elim, Bool, true, false, nat_eq, if◌then◌else◌, List, [], ◌∷◌, ◌++◌, length, Option, Some, None, refl, sym, ap, ◌∙◌, subst, arith, append_assoc, eq-eqb, ne_eqb}
 use Rattle.std.specs.Prelude.{Contains}
 use Rattle.std.proofs.lemmas.Bool.{and_right, cases_eq}
-use Rattle.vms_base.specs.declared.ids.CounterId.{CounterId}
 use Rattle.vms_base.specs.declared.ids.CpuId.{CpuId}
 use Rattle.vms_base.specs.declared.ids.PlaceId.{PlaceId}
 use Rattle.vms_base.specs.declared.kinds.CpuState.{CpuState}
 use Rattle.vms_base.specs.declared.kinds.ZoneSize.{ZoneSize}
-use Rattle.vms_base.specs.Places.{Shape, group_of}
+use Rattle.vms_base.specs.Cpus.{online_from}
+use Rattle.vms_base.specs.Sizes.{size_at}
 use Rattle.vms_history.specs.Events.{after}
 use Rattle.vms_core.specs.declared.steps.Facts.{Facts}
 use Rattle.vms_core.specs.declared.steps.Step.{Step}
 use Rattle.vms_core.specs.declared.steps.Step.TheVariants.{LoadM, SetT, SetM}
-use Rattle.vms_calls.specs.Turns.{OrderVerdict, Balance, FindsBlock, Further, Blocks, Balances, IsOrderTest, has_room, high_limit, node_number, zones_up_to}
-use Rattle.vms_base.specs.Areas.{Area, areas_from}
-use Rattle.vms_calls.specs.Turns.Balance.{No}
-use Rattle.vms_calls.specs.Turns.FindsBlock.{nowhere, empty, some}
-use Rattle.vms_calls.specs.Turns.Balances.{no_zone, fails, passes}
-use Rattle.vms_base.specs.Sizes.{size_at}
-use Rattle.vms_calls.specs.Ratings.{RatesNode, RatesMarked, Visits, VisitsEach, acknowledged_steps, state_steps, threshold_steps, mark_for, mark_steps, zones_on}
-use Rattle.vms_base.specs.Cpus.{online_from}
+use Rattle.vms_core.specs.Pages.{History}
+use Rattle.vms_calls.specs.HeaderFacts.{facts_of}
+use Rattle.vms_calls.specs.Lists.{in_turn}
+use Rattle.vms_calls.specs.Ratings.{Choice, ByNormal, ByPressure, RatesNode, RatesMarked, Visits, VisitsEach, acknowledged_steps, state_steps, threshold_steps, mark_for, mark_steps, node_number, zones_on}
 use Rattle.vms_calls.specs.Ratings.RatesMarked.{unmarked, marked}
 use Rattle.vms_calls.specs.Ratings.VisitsEach.{none, next}
-use Rattle.vms_calls.specs.Lists.{in_turn}
-use Rattle.vms_calls.specs.Looks.{Look, Verdict, Frees, IsSnapshot, IsWatermarkTest, look_steps, is_doubtful, free_pages}
-use Rattle.vms_calls.specs.Looks.Look.{online, other}
-use Rattle.vms_core.specs.Pages.{History}
-use Rattle.vms_calls.specs.TurnReadings.{LeavesByRule, LeavesNormal, LeavesPressure, last_mark, last_set}
+use Rattle.vms_calls.specs.TurnLaws.{LeavesByRule, LeavesNormal, LeavesPressure, last_mark, last_set}
+use Rattle.vms_calls.specs.Turns.{zones_up_to}
+use Rattle.vms_calls.specs.Turns.Balance.{No}
+use Rattle.vms_calls.proofs.CallSteps.{Each, OfLooks, balance-each, states-each}
 use Rattle.vms_calls.proofs.RatingRuns.{IsOneOf}
 
 last_mark-append : (g : ℕ) (xs ys : List Step) (before : ℕ)
@@ -42,93 +37,33 @@ last_set-append c g (SetT d f t ∷ xs) ys before =
     last_set-append c g xs ys (if nat_eq d.number c && nat_eq f.number g then Some t else before)
 last_set-append c g (_ ∷ xs) ys before = last_set-append c g xs ys before
 
--- steps that set no threshold
-abbrev SetsNone : List Step → Type 0
-SetsNone [] = Unit {0}
-SetsNone (SetT d f t ∷ xs) = ⊥
-SetsNone (_ ∷ xs) = SetsNone xs
+-- a step that sets no threshold
+abbrev SetsNone : Step → Type 0
+SetsNone (SetT d f t) = ⊥
+SetsNone _ = Unit {0}
 
-none-append : (xs ys : List Step) → SetsNone xs → SetsNone ys → SetsNone (xs ++ ys)
-none-append [] ys first second = second
-none-append (SetT d f t ∷ xs) ys first second = absurd first
-none-append (_ ∷ xs) ys first second = none-append xs ys first second
+looks-set_none : OfLooks SetsNone
+looks-set_none = record {
+  value = λ k v. tt;
+  system = λ i v. tt;
+  group = λ c j w. tt;
+  mark = λ g m a. tt;
+  cpu = λ c x. tt;
+}
 
-last_set-none : (c g : ℕ) (xs : List Step) (before : Option ℕ) → SetsNone xs → last_set c g xs before ≡ before
+last_set-none : (c g : ℕ) (xs : List Step) (before : Option ℕ) → Each SetsNone xs → last_set c g xs before ≡ before
 last_set-none c g [] before nothing = refl
-last_set-none c g (SetT d f t ∷ xs) before nothing = absurd nothing
-last_set-none c g (_ ∷ xs) before nothing = last_set-none c g xs before nothing
-
-looks-none : (j c : ℕ) (looks : List Look) → SetsNone (in_turn (look_steps j) c looks)
-looks-none j c [] = tt
-looks-none j c (online w ∷ looks) = looks-none j (suc c) looks
-looks-none j c (other x differs ∷ looks) = looks-none j (suc c) looks
-
-snapshot-none : (shape : Shape) (k : CounterId) (steps : List Step) (answer : ℕ) → IsSnapshot shape k steps answer
-    → SetsNone steps
-snapshot-none shape k steps answer call =
-    subst SetsNone (sym call.in_order) (looks-none (group_of k.number) 0 call.looks)
-
-frees-none : (shape : Shape) (k : CounterId) (doubt : Bool) (value : ℤ) (steps : List Step) (free : ℕ)
-    → Frees shape k doubt value steps free → SetsNone steps
-frees-none shape k true value steps free frees = snapshot-none shape k steps free frees
-frees-none shape k false value steps free frees = subst SetsNone (sym frees.0) tt
-
-test-none : (shape : Shape) (g : PlaceId) (limit : ℕ) (steps : List Step) (answer : Verdict)
-    → IsWatermarkTest shape g limit steps answer → SetsNone steps
-test-none shape g limit steps answer call = subst SetsNone (sym call.in_order)
-    (frees-none shape (free_pages shape g) (is_doubtful call.first call.value call.second)
-    call.value call.further answer.free call.frees)
-
-finds-none : (shape : Shape) (g : PlaceId) (areas : List Area) (steps : List Step) (found : Option ℕ)
-    → FindsBlock shape g areas steps found → SetsNone steps
-finds-none shape g areas steps found nowhere = tt
-finds-none shape g areas steps found (empty area areas' first more found' snapshot later) =
-    none-append first more (snapshot-none shape _ first 0 snapshot) (finds-none shape g areas' more found' later)
-finds-none shape g areas steps found (some area areas' steps' blocks snapshot there) =
-    snapshot-none shape _ steps' blocks snapshot
-
-blocks-none : (shape : Shape) (areas : List Area) (g : PlaceId) (n : ℕ) (room : Bool) (steps : List Step)
-    (answer : OrderVerdict)
-    → Blocks shape areas g n room steps answer → SetsNone steps
-blocks-none shape areas g n true steps answer blocks =
-    finds-none shape g (areas_from n areas) steps answer.area blocks.0
-blocks-none shape areas g n false steps answer blocks = subst SetsNone (sym blocks.0) tt
-
-further-none : (shape : Shape) (areas : List Area) (g : PlaceId) (limit order : ℕ) (verdict : Verdict)
-    (steps : List Step) (answer : OrderVerdict)
-    → Further shape areas g limit order verdict steps answer → SetsNone steps
-further-none shape areas g limit zero verdict steps answer blocks = subst SetsNone (sym blocks.0) tt
-further-none shape areas g limit (suc n) verdict steps answer blocks =
-    blocks-none shape areas g (suc n) (has_room limit (suc n) verdict.free) steps answer blocks
-
-order-none : (shape : Shape) (areas : List Area) (g : PlaceId) (limit order : ℕ) (steps : List Step)
-    (answer : OrderVerdict)
-    → IsOrderTest shape areas g limit order steps answer → SetsNone steps
-order-none shape areas g limit order steps answer call = subst SetsNone (sym call.in_order)
-    (none-append call.test call.further (test-none shape g limit call.test call.verdict call.tests)
-    (further-none shape areas g limit order call.verdict call.further answer call.blocks))
-
-balance-none : (shape : Shape) (areas : List Area) (limit : ℕ
-    → ℕ) (order : ℕ) (gs : List ℕ) (steps : List Step) (answer : Balance)
-    → Balances shape areas limit order gs steps answer → SetsNone steps
-balance-none shape areas limit order gs steps answer no_zone = tt
-balance-none shape areas limit order gs steps answer (fails g gs' first more verdict answer' test failed later) =
-    none-append first more (order-none shape areas (record { number = g }) (limit g) order first verdict test)
-    (balance-none shape areas limit order gs' more answer' later)
-balance-none shape areas limit order gs steps answer (passes g gs' steps' verdict test passed) =
-    order-none shape areas (record { number = g }) (limit g) order steps' verdict test
+last_set-none c g (SetT d f t ∷ xs) before nothing = absurd nothing.0
+last_set-none c g (_ ∷ xs) before nothing = last_set-none c g xs before nothing.1
 
 -- the thresholds of one CPU in one zone
-module _ (facts : Facts) (rule normal : ZoneSize → ℕ → ℕ → Type 0) (p : ℕ) (online : List CpuId) (c : CpuId)
-    (among : IsOneOf c online) (g : ℕ) where
+module _ (facts : Facts) (Chooses : Choice) (rule : ZoneSize → ℕ → ℕ → Type 0)
+    (by_rule : (size : ZoneSize) (online t usual : ℕ) → Chooses size online t usual → rule size online t) (p : ℕ)
+    (online : List CpuId) (c : CpuId) (among : IsOneOf c online) (g : ℕ) where
   states-mark : (n : ℕ) (states : List CpuState) (before : ℕ)
       → last_mark g (in_turn state_steps n states) before ≡ before
   states-mark n [] before = refl
   states-mark n (x ∷ xs) before = states-mark (suc n) xs before
-
-  states-none : (n : ℕ) (states : List CpuState) → SetsNone (in_turn state_steps n states)
-  states-none n [] = tt
-  states-none n (x ∷ xs) = states-none (suc n) xs
 
   acknowledged-mark : (z : ℕ) (cs : List CpuId) (numbers : List (Option ℕ)) (before : ℕ)
       → last_mark g (acknowledged_steps z cs numbers) before ≡ before
@@ -136,10 +71,11 @@ module _ (facts : Facts) (rule normal : ZoneSize → ℕ → ℕ → Type 0) (p 
   acknowledged-mark z (d ∷ cs) [] before = refl
   acknowledged-mark z (d ∷ cs) (x ∷ xs) before = acknowledged-mark z cs xs before
 
-  acknowledged-none : (z : ℕ) (cs : List CpuId) (numbers : List (Option ℕ)) → SetsNone (acknowledged_steps z cs numbers)
+  acknowledged-none : (z : ℕ) (cs : List CpuId) (numbers : List (Option ℕ))
+      → Each SetsNone (acknowledged_steps z cs numbers)
   acknowledged-none z [] numbers = tt
   acknowledged-none z (d ∷ cs) [] = tt
-  acknowledged-none z (d ∷ cs) (x ∷ xs) = acknowledged-none z cs xs
+  acknowledged-none z (d ∷ cs) (x ∷ xs) = (tt, acknowledged-none z cs xs)
 
   thresholds-mark : (z t : ℕ) (cs : List CpuId) (before : ℕ) → last_mark g (threshold_steps z t cs) before ≡ before
   thresholds-mark z t [] before = refl
@@ -188,14 +124,14 @@ module _ (facts : Facts) (rule normal : ZoneSize → ℕ → ℕ → Type 0) (p 
       by true = refl
       by false = refl
 
-  mark_steps-none : (z found mark : ℕ) → SetsNone (mark_steps z found mark)
+  mark_steps-none : (z found mark : ℕ) → Each SetsNone (mark_steps z found mark)
   mark_steps-none z found mark = by (nat_eq mark found)
     where
-      by : (b : Bool) → SetsNone (if b then [] else SetM (record { number = z }) mark ∷ [])
+      by : (b : Bool) → Each SetsNone (if b then [] else SetM (record { number = z }) mark ∷ [])
       by true = tt
-      by false = tt
+      by false = (tt, tt)
 
-  marked-has : (z t m : ℕ) (h : History) (steps : List Step) → RatesMarked facts normal p online rule z t m h steps
+  marked-has : (z t m : ℕ) (h : History) (steps : List Step) → RatesMarked facts p online Chooses z t m h steps
       → (mark : ℕ) (set : Option ℕ) → Has mark set
       → Has (last_mark g steps (if nat_eq z g then m else mark)) (last_set c.number g steps set)
   marked-has z t m h steps (unmarked h') mark set has = by (nat_eq z g)
@@ -219,7 +155,8 @@ module _ (facts : Facts) (rule normal : ZoneSize → ℕ → ℕ → Type 0) (p 
       ⊎_elim
       (λ (here : z ≡ g). λ other. (
         t',
-        subst (λ n. rule (size_at facts.sizes n) (length online) t') here rates.by_rule,
+        subst (λ n. rule (size_at facts.sizes n) (length online) t') here
+            (by_rule (size_at facts.sizes z) (length online) t' rates.usual rates.chosen),
         set_is ∙ ap (λ n. last_set c.number g (threshold_steps n t' online) set) here
             ∙ thresholds-here t' online set among,
       ))
@@ -231,7 +168,7 @@ module _ (facts : Facts) (rule normal : ZoneSize → ℕ → ℕ → Type 0) (p 
       (cases_eq z g)
 
   visit-has : (z t : ℕ) (h : History) (steps : List Step)
-      → Visits facts normal p online (RatesMarked facts normal p online rule) z t h steps
+      → Visits facts p online (RatesMarked facts p online Chooses) z t h steps
       → (mark : ℕ) (set : Option ℕ) → Has mark set → Has (last_mark g steps mark) (last_set c.number g steps set)
   visit-has z t h steps visit mark set has =
       let found = acknowledged_steps z online visit.numbers in
@@ -250,7 +187,7 @@ module _ (facts : Facts) (rule normal : ZoneSize → ℕ → ℕ → Type 0) (p 
       (marked-has z t visit.mark.mark (after p visit.loads h) visit.further visit.rated mark set has))
 
   visits-have : (gs ts : List ℕ) (h : History) (steps : List Step)
-      → VisitsEach facts normal p online (RatesMarked facts normal p online rule) gs ts h steps
+      → VisitsEach facts p online (RatesMarked facts p online Chooses) gs ts h steps
       → (mark : ℕ) (set : Option ℕ) → Has mark set → Has (last_mark g steps mark) (last_set c.number g steps set)
   visits-have gs ts h steps (none h') mark set has = has
   visits-have gs ts h steps (next z t gs' ts' h' first more visit visits) mark set has =
@@ -265,41 +202,42 @@ one-of_contained c (d ∷ ds) (zero, less, is) = inl (sym is)
 one-of_contained c (d ∷ ds) (suc i, less, is) = inr (one-of_contained c ds (i, omega arith, is))
 
 -- after steps that came before, a call leaves thresholds of its rule
-node-leaves : (facts : Facts) (rule normal : ZoneSize → ℕ → ℕ
-    → Type 0) (n : PlaceId) (p : ℕ) (h : History) (call before : List Step)
-    (rates : RatesNode facts rule normal n p h call) → LeavesByRule facts rule rates.states call (before ++ call)
-node-leaves facts rule normal n p h call before rates g c found is =
+node-leaves : (facts : Facts) (Chooses : Choice) (rule : ZoneSize → ℕ → ℕ → Type 0)
+    (by_rule : (size : ZoneSize) (online t usual : ℕ) → Chooses size online t usual → rule size online t)
+    (n : PlaceId) (p : ℕ) (h : History) (call before : List Step)
+    (rates : RatesNode facts Chooses n p h call) → LeavesByRule facts.sizes rule rates.states call (before ++ call)
+node-leaves facts Chooses rule by_rule n p h call before rates g c found is =
     let online = online_from 0 rates.states in
     let among = one-of_contained c online is in
     let loads = in_turn state_steps 0 rates.states in
     let earlier = last_set c.number g before None in
     let mark_is : last_mark g call 0 ≡ last_mark g rates.further 0 =
     ap (λ ks. last_mark g ks 0) rates.in_order ∙ last_mark-append g loads rates.further 0
-    ∙ ap (last_mark g rates.further) (states-mark facts rule normal p online c among g 0 rates.states 0) in
+    ∙ ap (last_mark g rates.further) (states-mark facts Chooses rule by_rule p online c among g 0 rates.states 0) in
     let set_is : last_set c.number g (before ++ call) None ≡ last_set c.number g rates.further earlier =
     last_set-append c.number g before call None ∙ ap (λ ks. last_set c.number g ks earlier) rates.in_order
     ∙ last_set-append c.number g loads rates.further earlier
     ∙ ap (last_set c.number g rates.further)
-    (last_set-none c.number g loads earlier (states-none facts rule normal p online c among g 0 rates.states)) in
-    let has = visits-have facts rule normal p online c among g (zones_on facts.layout (node_number facts.layout n))
-    rates.thresholds
+    (last_set-none c.number g loads earlier (states-each SetsNone looks-set_none 0 rates.states)) in
+    let has = visits-have facts Chooses rule by_rule p online c among g
+    (zones_on facts.layout (node_number facts.layout n)) rates.thresholds
     (after p loads h) rates.further rates.visits 0 earlier (λ some. absurd (some refl)) in
-    let by_rule = has (λ none. found (mark_is ∙ none)) in
-    record { t = by_rule.0; by_rule = by_rule.1; last = set_is ∙ by_rule.2 }
+    let left = has (λ none. found (mark_is ∙ none)) in
+    record { t = left.0; by_rule = left.1; last = set_is ∙ left.2 }
 
 pub leaves-normal : (pressure normal : ZoneSize → ℕ → ℕ → Type 0) → LeavesNormal pressure normal
-leaves-normal pressure normal facts areas n order most p h steps g verdict turn =
-    subst (λ ks. LeavesByRule facts normal turn.settles.states turn.further ks)
+leaves-normal pressure normal header base n order most p h steps g verdict turn =
+    subst (λ ks. LeavesByRule header.sizes normal turn.settles.states turn.further ks)
     (append_assoc turn.pressed turn.test turn.further ∙ sym turn.in_order)
-    (node-leaves facts normal normal n p (after p (turn.pressed ++ turn.test) h) turn.further
-    (turn.pressed ++ turn.test) turn.settles)
+    (node-leaves (facts_of header base) (ByNormal normal) normal (λ size online t usual chosen. chosen.0) n p
+    (after p (turn.pressed ++ turn.test) h) turn.further (turn.pressed ++ turn.test) turn.settles)
 
 pub leaves-pressure : (pressure normal : ZoneSize → ℕ → ℕ → Type 0) → LeavesPressure pressure normal
-leaves-pressure pressure normal facts areas n order most p h steps turn g c found is =
-    let left = node-leaves facts pressure normal n p h turn.pressed [] turn.presses g c found is in
-    let nothing = balance-none facts.layout areas (high_limit facts most) order
-    (zones_up_to facts.layout most (node_number facts.layout n))
-    turn.test No turn.tests in
+leaves-pressure pressure normal header base n order most p h steps turn g c found is =
+    let left = node-leaves (facts_of header base) (ByPressure pressure normal) pressure
+    (λ size online t usual chosen. chosen.0) n p h turn.pressed [] turn.presses g c found is in
+    let nothing = balance-each SetsNone looks-set_none header most order
+    (zones_up_to header.layout most (node_number header.layout n)) turn.test No turn.tests in
     let same : last_set c.number g steps None ≡ last_set c.number g turn.pressed None =
     ap (λ ks. last_set c.number g ks None) (turn.in_order ∙ ap (λ ks. turn.pressed ++ (turn.test ++ ks)) turn.settles)
     ∙ last_set-append c.number g turn.pressed (turn.test ++ []) None

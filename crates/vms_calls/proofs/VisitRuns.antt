@@ -1,5 +1,5 @@
 -- The steps that visit zones, and those that set the thresholds of nodes, meet their conditions in a row.
-use Rattle.std.proofs.Common.{◌≡◌, ℕ, suc, zero, ◌+◌, ◌-◌, ◌<◌, ◌≤◌, Bool, true, false, nat_eq, if◌then◌else◌, List, [], ◌∷◌, ◌++◌, length, map, get_or, Option, None, inl, inr, ⊎_elim, refl, sym, ap, ◌∙◌, subst, arith, eq-eqb, length-append}
+use Rattle.std.proofs.Common.{◌≡◌, ℕ, suc, zero, ◌+◌, ◌<◌, ◌≤◌, Bool, true, false, nat_eq, if◌then◌else◌, List, [], ◌∷◌, ◌++◌, length, map, get_or, Option, None, inl, inr, ⊎_elim, refl, sym, ap, ◌∙◌, subst, arith, eq-eqb, length-append}
 use Rattle.std.specs.Prelude.{All}
 use Rattle.std.proofs.lemmas.List.{get_or_default, length-map}
 use Rattle.std.proofs.lemmas.List.Elements.{All-append, All-weaker, All-filter, All-head, All-tail}
@@ -17,13 +17,14 @@ use Rattle.vms_history.proofs.Own.{after-steps}
 use Rattle.vms_core.specs.declared.steps.Facts.{Facts}
 use Rattle.vms_core.specs.declared.steps.Step.{Step}
 use Rattle.vms_core.specs.declared.steps.Step.TheVariants.{LoadM, LoadO, LoadA}
-use Rattle.vms_calls.specs.Ratings.{Rates, RatesMarked, Visits, VisitsEach, RatesNode, Refreshes, acknowledged_steps, state_steps, threshold_steps, numbers_below, zones_on, largest_on}
+use Rattle.vms_calls.specs.Ratings.{Choice, ByNormal, node_number, Rates, RatesMarked, Visits, VisitsEach, RatesNode, Refreshes, acknowledged_steps, state_steps, threshold_steps, numbers_below, zones_on, largest_on}
 use Rattle.vms_base.specs.Cpus.{online_from, is_online}
 use Rattle.vms_calls.specs.Ratings.RatesMarked.{unmarked, marked}
 use Rattle.vms_calls.specs.Ratings.VisitsEach.{none, next}
 use Rattle.vms_calls.specs.Lists.{in_turn}
 use Rattle.vms_core.specs.Pages.{History}
 use Rattle.vms_core.specs.Peaks.{cpu_in}
+use Rattle.vms_calls.proofs.ChoiceRanges.{GivesBoth, normal-gives}
 use Rattle.vms_calls.proofs.Agreement.{event, mark_in}
 use Rattle.vms_core.proofs.Below.{largest_below-least, largest_below-most}
 use Rattle.vms_calls.proofs.RatingRuns.{IsOneOf, AreOnline, MaySet, rating-runs, thresholds-run}
@@ -101,7 +102,7 @@ online_from-few c (x ∷ xs) = by (is_online x) (online_from-few (suc c) xs)
 
 module _ (facts : Facts) (layout : IsLayout facts.layout)
     (size : (z : ℕ) → IsZone facts.layout z → IsValidSize (size_at facts.sizes z)) (p : ℕ)
-    (rule normal : ZoneSize → ℕ → ℕ → Type 0) (rules : GivesThresholds rule) (normals : GivesThresholds normal)
+    (Chooses : Choice) (gives : GivesBoth Chooses)
     (online : List CpuId) (few : length online ≤ 128) where
   -- what is asked of steps that rate a zone
   abbrev Rating : (ℕ → ℕ → ℕ → History → List Step → Type 0) → Type 1
@@ -109,16 +110,16 @@ module _ (facts : Facts) (layout : IsLayout facts.layout)
       → AreOnline facts layout p online few g → mark_in facts z g ≡ m → Rated z t m g steps
       → (AreOnline facts layout p online few (after p steps g) → P (after p steps g)) → Runs facts p None steps g P
 
-  pub rates-run : Rating (Rates facts normal p online rule)
+  pub rates-run : Rating (Rates facts p online Chooses)
   rates-run z t m g steps P zone online_now stands rates rest = subst
       (λ ks. (AreOnline facts layout p online few (after p ks g) → P (after p ks g))
       → Runs facts p None ks g P) (sym rates.in_order)
       (rating-runs facts layout p online few size z zone g P m rates.usual t online_now stands
-      (λ some. normals (size_at facts.sizes z) (length online) rates.usual (size z zone) some few rates.by_normal)
-      (λ some. rules (size_at facts.sizes z) (length online) t (size z zone) some few rates.by_rule))
+      (λ some. (gives (size_at facts.sizes z) (length online) t rates.usual (size z zone) some few rates.chosen).1)
+      (λ some. (gives (size_at facts.sizes z) (length online) t rates.usual (size z zone) some few rates.chosen).0))
       rest
 
-  pub marked-run : Rating (RatesMarked facts normal p online rule)
+  pub marked-run : Rating (RatesMarked facts p online Chooses)
   marked-run z t m g steps P zone online_now stands (unmarked h) rest = rest online_now
   marked-run z t m g steps P zone online_now stands (marked t' m' h ks some rates) rest =
       rates-run z t' m' h ks P zone online_now stands rates rest
@@ -140,7 +141,7 @@ module _ (facts : Facts) (layout : IsLayout facts.layout)
 
   module _ (Rated : ℕ → ℕ → ℕ → History → List Step → Type 0) (rated_runs : Rating Rated) where
     visit-runs : (z t : ℕ) (g : History) (steps : List Step) (P : History → Type 0) → IsZone facts.layout z
-        → AreOnline facts layout p online few g → Visits facts normal p online Rated z t g steps
+        → AreOnline facts layout p online few g → Visits facts p online Rated z t g steps
         → (AreOnline facts layout p online few (after p steps g) → P (after p steps g)) → Runs facts p None steps g P
     visit-runs z t g steps P zone online_now visit rest = subst
         (λ ks. (AreOnline facts layout p online few (after p ks g) → P (after p ks g))
@@ -181,7 +182,7 @@ module _ (facts : Facts) (layout : IsLayout facts.layout)
 
     pub visits-run : (gs ts : List ℕ) (g : History) (steps : List Step) (P : History → Type 0)
         → All (IsZone facts.layout) gs
-        → AreOnline facts layout p online few g → VisitsEach facts normal p online Rated gs ts g steps
+        → AreOnline facts layout p online few g → VisitsEach facts p online Rated gs ts g steps
         → (AreOnline facts layout p online few (after p steps g) → P (after p steps g)) → Runs facts p None steps g P
     visits-run gs ts g steps P zones online_now (none h) rest = rest online_now
     visits-run gs ts g steps P zones online_now (next z t gs' ts' h first more visit visits) rest =
@@ -194,12 +195,12 @@ module _ (facts : Facts) (layout : IsLayout facts.layout)
 
   -- the thresholds of the zones that were visited may be set
   visited-may : (gs ts : List ℕ) (g : History) (steps : List Step) → All (IsZone facts.layout) gs
-      → VisitsEach facts normal p online (Rates facts normal p online rule) gs ts g steps
+      → VisitsEach facts p online (Rates facts p online Chooses) gs ts g steps
       → (i : ℕ) → i < length gs → MaySet facts layout p online few (get_or ts i 0)
   visited-may gs ts g steps zones (none h) i less = absurd (omega arith)
   visited-may gs ts g steps zones (next z t gs' ts' h first more visit visits) zero less = λ some.
-      rules (size_at facts.sizes z) (length online) t (size z (All-head (IsZone facts.layout) z gs' zones))
-      some few visit.rated.by_rule
+      (gives (size_at facts.sizes z) (length online) t visit.rated.usual
+      (size z (All-head (IsZone facts.layout) z gs' zones)) some few visit.rated.chosen).0
   visited-may gs ts g steps zones (next z t gs' ts' h first more visit visits) (suc i) less =
       visited-may gs' ts' (after p first h) more (All-tail (IsZone facts.layout) z gs' zones) visits i (omega arith)
 
@@ -258,18 +259,18 @@ module _ (facts : Facts) (layout : IsLayout facts.layout)
 
 module _ (facts : Facts) (layout : IsLayout facts.layout)
     (size : (z : ℕ) → IsZone facts.layout z → IsValidSize (size_at facts.sizes z)) (p : ℕ)
-    (rule normal : ZoneSize → ℕ → ℕ → Type 0) (rules : GivesThresholds rule) (normals : GivesThresholds normal) where
+    (Chooses : Choice) (gives : GivesBoth Chooses) where
   few_found : (states : List CpuState) → length states ≡ facts.layout.cpus → length (online_from 0 states) ≤ 128
   few_found states each = let few = online_from-few 0 states in let most = layout.cpus_most in omega arith
 
-  pub node-runs : (n : PlaceId) (g : History) (steps : List Step) → RatesNode facts rule normal n p g steps
+  pub node-runs : (n : PlaceId) (g : History) (steps : List Step) → RatesNode facts Chooses n p g steps
       → Runs facts p None steps g (λ now. Unit {0})
   node-runs n g steps rates = subst (λ ks. Runs facts p None ks g (λ now. Unit {0})) (sym rates.in_order)
       (runs-append facts p None loads rates.further g (λ now. Unit {0})
       (states-run facts p 0 rates.states g (λ now. Runs facts p None rates.further now (λ later. Unit {0}))
       (let count = rates.one_each in omega arith)
-      (λ known. visits-run facts layout size p rule normal rules normals online few
-      (RatesMarked facts normal p online rule) (marked-run facts layout size p rule normal rules normals online few)
+      (λ known. visits-run facts layout size p Chooses gives online few
+      (RatesMarked facts p online Chooses) (marked-run facts layout size p Chooses gives online few)
       (zones_on facts.layout node) rates.thresholds (after p loads g) rates.further (λ later. Unit {0})
       (All-filter (λ z. nat_eq (node_of_zone facts.layout z) node) (IsZone facts.layout)
       (numbers_below (length facts.layout.zones))
@@ -277,7 +278,7 @@ module _ (facts : Facts) (layout : IsLayout facts.layout)
       known rates.visits (λ now. tt))))
     where
       node : ℕ
-      node = get_or facts.layout.nodes (n.number - length facts.layout.zones) 0
+      node = node_number facts.layout n
 
       online : List CpuId
       online = online_from 0 rates.states
@@ -299,33 +300,37 @@ module _ (facts : Facts) (layout : IsLayout facts.layout)
       (states-run facts p 0 refresh.states g (λ now.
       Runs facts p None refresh.further now (λ later. Runs facts p None nodes later (λ end. Unit {0})))
       (let count = refresh.one_each in omega arith)
-      (λ known. visits-run facts layout size p normal normal normals normals online few
-      (Rates facts normal p online normal) (rates-run facts layout size p normal normal normals normals online few)
+      (λ known. visits-run facts layout size p (ByNormal normal) (normal-gives normal normals) online few
+      (Rates facts p online (ByNormal normal))
+      (rates-run facts layout size p (ByNormal normal) (normal-gives normal normals) online few)
       (numbers_below (length facts.layout.zones)) refresh.thresholds (after p loads g) refresh.further
       (λ later. Runs facts p None nodes later (λ end. Unit {0}))
       (numbers_below-below (length facts.layout.zones))
       known refresh.visits (λ known_then.
-      nodes-run facts layout size p normal normal normals normals online few refresh.thresholds 0 facts.layout.nodes
+      nodes-run facts layout size p (ByNormal normal)
+      (normal-gives normal normals) online few refresh.thresholds 0 facts.layout.nodes
       (after p refresh.further (after p loads g)) (λ end. Unit {0}) (omega arith) each_may known_then (λ end. tt))))))
     where
       online : List CpuId
       online = online_from 0 refresh.states
 
       few : length online ≤ 128
-      few = few_found facts layout size p normal normal normals normals refresh.states refresh.one_each
+      few = few_found facts layout size p (ByNormal normal)
+          (normal-gives normal normals) refresh.states refresh.one_each
 
       loads : List Step
       loads = in_turn state_steps 0 refresh.states
 
       nodes : List Step
-      nodes = in_turn (node_steps facts layout size p normal normal normals normals online few refresh.thresholds)
+      nodes = in_turn (node_steps facts layout size p (ByNormal normal)
+          (normal-gives normal normals) online few refresh.thresholds)
           0 facts.layout.nodes
 
       each_may : All (λ node. MaySet facts layout p online few (largest_on facts.layout refresh.thresholds node))
           facts.layout.nodes
       each_may = λ i node less.
-          largest-may facts layout size p normal normal normals normals online few refresh.thresholds
-          (λ z zone. visited-may facts layout size p normal normal normals normals online few
+          largest-may facts layout size p (ByNormal normal) (normal-gives normal normals) online few refresh.thresholds
+          (λ z zone. visited-may facts layout size p (ByNormal normal) (normal-gives normal normals) online few
           (numbers_below (length facts.layout.zones))
           refresh.thresholds (after p loads g) refresh.further (numbers_below-below (length facts.layout.zones))
           refresh.visits z

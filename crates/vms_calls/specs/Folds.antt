@@ -1,14 +1,12 @@
--- The steps of a fold of a CPU, and how often a change misses.
+-- The steps of a fold of a CPU.
 use Rattle.std.specs.Prelude.{◌≡◌, ℕ, suc, zero, ◌/◌, ◌&&◌, nat_lt, Bool, true, false, ℤ, pos, ◌+ℤ◌, List, [], ◌∷◌, ◌++◌, length, All}
 use Rattle.vms_base.specs.declared.groups.Diffs.{Diffs}
 use Rattle.vms_base.specs.declared.ids.CpuId.{CpuId}
-use Rattle.vms_base.specs.Places.{Shape, place_count, item_count, counter_at, group_of, first_of, IsItem}
-use Rattle.vms_history.specs.declared.events.Event.{Event}
-use Rattle.vms_history.specs.Events.{after}
+use Rattle.vms_base.specs.Places.{Shape, place_count, item_count, counter_at, group_of, first_of}
 use Rattle.vms_core.specs.declared.states.Threshold.{Threshold}
 use Rattle.vms_core.specs.declared.steps.Step.{Step}
-use Rattle.vms_core.specs.declared.steps.Step.TheVariants.{LoadT, Take, AddG, AddS, SetA, Miss}
-use Rattle.vms_core.specs.Own.{entries_of, carried, carried_of_item}
+use Rattle.vms_core.specs.declared.steps.Step.TheVariants.{LoadT, Take, AddG, AddS, SetA}
+use Rattle.vms_core.specs.Own.{entries_of}
 use Rattle.vms_calls.specs.Lists.{in_turn}
 
 -- the addition of an amount to the global value of counter k, and to the system-wide value of item i: none of 0
@@ -68,17 +66,3 @@ pub record IsFold (shape : Shape) (is_own : Bool) (c : CpuId) (steps : List Step
   pub groups : All (HasGroups shape) places
   pub in_order : steps ≡ in_turn (λ g found. place_steps shape (acknowledges shape is_own g) c g found) 0 places
       ++ system_steps shape (lists_of places) 0 (item_count shape)
-
--- how many exchanges of these steps lost
-abbrev pub misses_after : Step → ℕ → ℕ
-misses_after (Miss j w) n = suc n
-misses_after _ n = n
-
-abbrev pub misses : List Step → ℕ
-misses [] = 0
-misses (step ∷ rest) = misses_after step (misses rest)
-
--- a fold moves all that it takes: what its caller carried before it, for each counter and item, it carries after it
-pub record CarriesAsBefore (shape : Shape) (p : ℕ) (steps : List Step) (h : List (Event Step)) : Type 0 where
-  pub counters : (k : ℕ) → carried k (after p steps h) ≡ carried k h
-  pub items : (i : ℕ) → IsItem shape i → carried_of_item shape i (after p steps h) ≡ carried_of_item shape i h

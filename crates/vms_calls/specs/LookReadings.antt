@@ -1,8 +1,11 @@
 -- What the steps of a call tell of its answer: each function gives the answer, and the steps that follow the call's.
 use Rattle.std.specs.Prelude.{◌≡◌, ℕ, suc, zero, nat_lt, Bool, true, false, ℤ, pos, ◌+ℤ◌, List, [], ◌∷◌, ◌++◌, if◌then◌else◌}
+use Rattle.vms_base.specs.declared.headers.Header.{Header}
 use Rattle.vms_base.specs.declared.ids.CounterId.{CounterId}
 use Rattle.vms_base.specs.declared.ids.ItemId.{ItemId}
 use Rattle.vms_base.specs.declared.ids.PlaceId.{PlaceId}
+use Rattle.vms_base.specs.declared.kinds.WaterMark.{WaterMark}
+use Rattle.vms_base.specs.Watermarks.{limit_of}
 use Rattle.vms_base.specs.Cpus.{is_online}
 use Rattle.vms_base.specs.Places.{Shape}
 use Rattle.vms_core.specs.declared.states.MarkRead.{MarkRead}
@@ -51,17 +54,19 @@ read_snapshot shape k [] = (0, [])
 read_snapshot shape k (load ∷ rest) = clamped (read_looks k.number shape.cpus (value_told load) rest)
 
 -- the answer of a test of a watermark, from whether there is doubt, the value and the steps after the loads
-abbrev pub verdict_of : ℕ → Bool → ℕ × List Step → Verdict × List Step
-verdict_of limit fast (free, rest) = (record { yes = nat_lt limit free; free = free; fast = fast }, rest)
+abbrev pub verdict_of : Header → PlaceId → WaterMark → ℕ → Bool → ℕ × List Step → Verdict × List Step
+verdict_of header g mark most fast (free, rest) =
+    (record { yes = nat_lt (limit_of header g.number mark most) free; free = free; fast = fast }, rest)
 
-abbrev pub read_further : Shape → CounterId → ℕ → Bool → ℤ → List Step → Verdict × List Step
-read_further shape k limit true value rest = verdict_of limit false (read_snapshot shape k rest)
-read_further shape k limit false value rest = verdict_of limit true (at_least_zero value, rest)
+abbrev pub read_further : Header → PlaceId → WaterMark → ℕ → Bool → ℤ → List Step → Verdict × List Step
+read_further header g mark most true value rest =
+    verdict_of header g mark most false (read_snapshot header.layout (free_pages header.layout g) rest)
+read_further header g mark most false value rest = verdict_of header g mark most true (at_least_zero value, rest)
 
-abbrev pub read_test : Shape → PlaceId → ℕ → List Step → Verdict × List Step
-read_test shape g limit (first ∷ load ∷ second ∷ rest) = read_further shape (free_pages shape g) limit
+abbrev pub read_test : Header → PlaceId → WaterMark → ℕ → List Step → Verdict × List Step
+read_test header g mark most (first ∷ load ∷ second ∷ rest) = read_further header g mark most
     (is_doubtful (mark_told first) (value_told load) (mark_told second)) (value_told load) rest
-read_test shape g limit _ = (record { yes = false; free = 0; fast = false }, [])
+read_test header g mark most _ = (record { yes = false; free = 0; fast = false }, [])
 
 -- the steps of a call tell its answer, whatever follows them
 abbrev pub TellsPlaceValue : Type 0
@@ -77,6 +82,6 @@ TellsSnapshot = (shape : Shape) (k : CounterId) (steps : List Step) (answer : �
     → (rest : List Step) → read_snapshot shape k (steps ++ rest) ≡ (answer, rest)
 
 abbrev pub TellsTest : Type 0
-TellsTest = (shape : Shape) (g : PlaceId) (limit : ℕ) (steps : List Step) (answer : Verdict)
-    → IsWatermarkTest shape g limit steps answer
-    → (rest : List Step) → read_test shape g limit (steps ++ rest) ≡ (answer, rest)
+TellsTest = (header : Header) (g : PlaceId) (mark : WaterMark) (most : ℕ) (steps : List Step) (answer : Verdict)
+    → IsWatermarkTest header g mark most steps answer
+    → (rest : List Step) → read_test header g mark most (steps ++ rest) ≡ (answer, rest)

@@ -1,12 +1,15 @@
 -- The steps of the calls that look at values, what each call answers, and how its steps tell the answer.
 use Rattle.std.specs.Prelude.{◌≡◌, ◌≢◌, ℕ, ◌&&◌, ◌||◌, not, nat_eq, nat_lt, Bool, true, false, ℤ, pos, negsuc, ◌+ℤ◌, List, [], ◌∷◌, length}
 use Rattle.vms_base.specs.declared.groups.Diffs.{Diffs}
+use Rattle.vms_base.specs.declared.headers.Header.{Header}
 use Rattle.vms_base.specs.declared.ids.CounterId.{CounterId}
 use Rattle.vms_base.specs.declared.ids.ItemId.{ItemId}
 use Rattle.vms_base.specs.declared.ids.PlaceId.{PlaceId}
 use Rattle.vms_base.specs.declared.kinds.CpuState.{CpuState}
 use Rattle.vms_base.specs.declared.kinds.CpuState.TheVariants.{Online}
+use Rattle.vms_base.specs.declared.kinds.WaterMark.{WaterMark}
 use Rattle.vms_base.specs.Places.{Shape, group_of, counter_at}
+use Rattle.vms_base.specs.Watermarks.{limit_of}
 use Rattle.vms_core.specs.declared.states.MarkRead.{MarkRead}
 use Rattle.vms_core.specs.declared.steps.Step.{Step}
 use Rattle.vms_core.specs.declared.steps.Step.TheVariants.{LoadD, LoadG, LoadS, LoadM, LoadO}
@@ -77,16 +80,17 @@ abbrev pub Frees : Shape → CounterId → Bool → ℤ → List Step → ℕ �
 Frees shape k true value steps free = IsSnapshot shape k steps free
 Frees shape k false value steps free = (steps ≡ []) × (free ≡ at_least_zero value)
 
--- a test whether a zone has more free pages than `limit`, which is a watermark and a reserve: the mark is loaded before
--- and after the free pages
-pub record IsWatermarkTest (shape : Shape) (g : PlaceId) (limit : ℕ) (steps : List Step) (answer : Verdict)
-    : Type 0 where
+-- a test whether a zone has more free pages than a watermark asks for, for requests that may use the zones up to an
+-- index: the zone's drift mark is loaded before and after its free pages
+pub record IsWatermarkTest (header : Header) (g : PlaceId) (mark : WaterMark) (most : ℕ) (steps : List Step)
+    (answer : Verdict) : Type 0 where
   pub first : MarkRead
   pub value : ℤ
   pub second : MarkRead
   pub further : List Step
-  pub in_order : steps ≡ LoadM g first.mark first.number ∷ LoadG (free_pages shape g) value
+  pub in_order : steps ≡ LoadM g first.mark first.number ∷ LoadG (free_pages header.layout g) value
       ∷ LoadM g second.mark second.number ∷ further
-  pub frees : Frees shape (free_pages shape g) (is_doubtful first value second) value further answer.free
+  pub frees : Frees header.layout (free_pages header.layout g)
+      (is_doubtful first value second) value further answer.free
   pub fast : answer.fast ≡ not (is_doubtful first value second)
-  pub yes : answer.yes ≡ nat_lt limit answer.free
+  pub yes : answer.yes ≡ nat_lt (limit_of header g.number mark most) answer.free

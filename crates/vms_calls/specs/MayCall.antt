@@ -1,90 +1,116 @@
--- The steps of whole calls may be made, whatever other callers do between them.
+-- The steps of each call may be made one after another, whatever other callers do between them, and whatever the later
+-- ones will tell.
 use Rattle.std.specs.Prelude.{◌≡◌, ℕ, ◌≤◌, Bool, true, ℤ, List, length, All, Some}
+use Rattle.vms_base.specs.declared.headers.Header.{Header}
 use Rattle.vms_base.specs.declared.ids.CounterId.{CounterId}
 use Rattle.vms_base.specs.declared.ids.CpuId.{CpuId}
 use Rattle.vms_base.specs.declared.ids.ItemId.{ItemId}
 use Rattle.vms_base.specs.declared.ids.PlaceId.{PlaceId}
 use Rattle.vms_base.specs.declared.kinds.CpuState.TheVariants.{Online, Dead}
 use Rattle.vms_base.specs.declared.kinds.Mode.{Mode}
+use Rattle.vms_base.specs.declared.kinds.WaterMark.{WaterMark}
 use Rattle.vms_base.specs.declared.kinds.ZoneSize.{ZoneSize}
-use Rattle.vms_base.specs.Places.{IsCpu, IsZone, IsCounter, IsItem}
-use Rattle.vms_core.specs.declared.states.State.{State}
+use Rattle.vms_base.specs.Headers.{IsHeader}
+use Rattle.vms_base.specs.Places.{Shape, IsCpu, IsZone, IsCounter, IsItem}
 use Rattle.vms_history.specs.Events.{own, after}
 use Rattle.vms_history.specs.Passes.{owner_in}
+use Rattle.vms_core.specs.declared.states.State.{State}
 use Rattle.vms_core.specs.declared.steps.Facts.{Facts}
 use Rattle.vms_core.specs.declared.steps.Step.{Step}
-use Rattle.vms_calls.specs.Calls.{IsChange}
 use Rattle.vms_core.specs.Cells.{mark_at, cpu_at}
 use Rattle.vms_core.specs.Conditions.{IsControl}
-use Rattle.vms_calls.specs.Ratings.{Rates, RatesNode, Refreshes, Buries, mark_left}
-use Rattle.vms_calls.specs.Folds.{IsFold}
-use Rattle.vms_calls.specs.Following.{MayChange}
-use Rattle.vms_calls.specs.Looks.{Verdict, IsPlaceValue, IsSystemValue, IsSnapshot, IsWatermarkTest}
-use Rattle.vms_calls.specs.MayMake.{HasMade, MayMake, LivesIn, ControlsIn}
 use Rattle.vms_core.specs.Own.{CarriesNothing}
 use Rattle.vms_core.specs.Pages.{History, state_after}
 use Rattle.vms_core.specs.Peaks.{sets, threshold_in, peak, cpu_in, peak_sum}
 use Rattle.vms_core.specs.Steps.{turn}
+use Rattle.vms_calls.specs.Changes.{IsChange}
+use Rattle.vms_calls.specs.Folds.{IsFold}
+use Rattle.vms_calls.specs.LoneChanges.{MayChange}
+use Rattle.vms_calls.specs.HeaderFacts.{facts_of}
+use Rattle.vms_calls.specs.Looks.{Verdict, IsPlaceValue, IsSystemValue, IsSnapshot, IsWatermarkTest}
+use Rattle.vms_calls.specs.MayMake.{HasMade, MayBegin, LivesIn, ControlsIn}
+use Rattle.vms_calls.specs.Ratings.{Choice, Rates, RatesNode, Refreshes, Buries, mark_left}
+use Rattle.vms_calls.specs.Turns.{OrderVerdict, Balance, IsOrderTest, IsBalanceTest, IsTurn}
 
 -- a live pass may load the value of a counter, and of an item
 abbrev pub MakesPlaceValue : Type 0
-MakesPlaceValue = (facts : Facts) (h : History) (p : ℕ) (k : CounterId) (steps : List Step) (answer : ℕ) →
-    LivesIn facts h p → IsCounter facts.layout k.number → IsPlaceValue k steps answer → MayMake facts p h steps
+MakesPlaceValue = (facts : Facts) (h : History) (p : ℕ) (k : CounterId) → LivesIn facts h p →
+    IsCounter facts.layout k.number → MayBegin facts p h (λ steps. (answer : ℕ) × IsPlaceValue k steps answer)
 
 abbrev pub MakesSystemValue : Type 0
-MakesSystemValue = (facts : Facts) (h : History) (p : ℕ) (i : ItemId) (steps : List Step) (answer : ℕ) →
-    LivesIn facts h p → IsItem facts.layout i.number → IsSystemValue i steps answer → MayMake facts p h steps
+MakesSystemValue = (facts : Facts) (h : History) (p : ℕ) (i : ItemId) → LivesIn facts h p →
+    IsItem facts.layout i.number → MayBegin facts p h (λ steps. (answer : ℕ) × IsSystemValue i steps answer)
 
 -- a live pass may take a snapshot of a counter
 abbrev pub MakesSnapshot : Type 0
-MakesSnapshot = (facts : Facts) (h : History) (p : ℕ) (k : CounterId) (steps : List Step) (answer : ℕ) →
-    LivesIn facts h p → IsCounter facts.layout k.number → IsSnapshot facts.layout k steps answer →
-    MayMake facts p h steps
+MakesSnapshot = (facts : Facts) (h : History) (p : ℕ) (k : CounterId) → LivesIn facts h p →
+    IsCounter facts.layout k.number →
+    MayBegin facts p h (λ steps. (answer : ℕ) × IsSnapshot facts.layout k steps answer)
 
 -- a live pass may test a watermark of a zone
 abbrev pub MakesTest : Type 0
-MakesTest = (facts : Facts) (h : History) (p : ℕ) (g : PlaceId) (limit : ℕ) (steps : List Step) (answer : Verdict) →
-    LivesIn facts h p → IsZone facts.layout g.number → IsWatermarkTest facts.layout g limit steps answer →
-    MayMake facts p h steps
+MakesTest = (header : Header) (base : State) (h : History) (p : ℕ) (g : PlaceId) (mark : WaterMark) (most : ℕ) →
+    LivesIn (facts_of header base) h p → IsZone header.layout g.number →
+    MayBegin (facts_of header base) p h
+    (λ steps. (answer : Verdict) × IsWatermarkTest header g mark most steps answer)
+
+-- a live pass may test a zone for an order
+abbrev pub MakesOrderTest : Type 0
+MakesOrderTest = (header : Header) (base : State) (h : History) (p : ℕ) (g : PlaceId) (mark : WaterMark)
+    (most order : ℕ) → IsHeader header → LivesIn (facts_of header base) h p → IsZone header.layout g.number →
+    MayBegin (facts_of header base) p h
+    (λ steps. (answer : OrderVerdict) × IsOrderTest header g mark most order steps answer)
+
+-- a live pass may test whether a node is balanced
+abbrev pub MakesBalanceTest : Type 0
+MakesBalanceTest = (header : Header) (base : State) (h : History) (p : ℕ) (n : PlaceId) (order most : ℕ) →
+    IsHeader header → LivesIn (facts_of header base) h p →
+    MayBegin (facts_of header base) p h (λ steps. (answer : Balance) × IsBalanceTest header n order most steps answer)
+
+-- the control pass may make a turn
+abbrev pub MakesTurn : (pressure normal : ZoneSize → ℕ → ℕ → Type 0) → Type 0
+MakesTurn pressure normal = (header : Header) (base : State) (h : History) (p : ℕ) (n : PlaceId) (order most : ℕ) →
+    IsHeader header → ControlsIn (facts_of header base) h p →
+    MayBegin (facts_of header base) p h
+    (λ steps. (answer : Balance) × IsTurn header base pressure normal n order most p h steps answer)
 
 -- these CPUs of the layout are online
-abbrev pub AreOnline : Facts → State → List CpuId → Type 0
-AreOnline facts s online = All (λ c. IsCpu facts.layout c.number × (cpu_at s c.number ≡ Online)) online
+abbrev pub AreOnline : Shape → State → List CpuId → Type 0
+AreOnline shape s online = All (λ c. IsCpu shape c.number × (cpu_at s c.number ≡ Online)) online
 
--- the control pass may rate a zone: give it a threshold by a rule, where it found its mark and which CPUs are online
-abbrev pub MakesRating : (rule normal : ZoneSize → ℕ → ℕ → Type 0) → Type 0
-MakesRating rule normal = (facts : Facts) (h : History) (p : ℕ) (online : List CpuId) (g t m : ℕ) (steps : List Step) →
-    ControlsIn facts h p → AreOnline facts (state_after facts h) online → length online ≤ facts.layout.cpus →
-    IsZone facts.layout g → mark_at (state_after facts h) g ≡ m → Rates facts normal p online rule g t m h steps →
-    MayMake facts p h steps
+-- the control pass may rate a zone: give it a threshold, where it found its mark and which CPUs are online
+abbrev pub MakesRating : Choice → Type 0
+MakesRating Chooses = (facts : Facts) (h : History) (p : ℕ) (online : List CpuId) (g t m : ℕ) →
+    ControlsIn facts h p → AreOnline facts.layout (state_after facts h) online → length online ≤ facts.layout.cpus →
+    IsZone facts.layout g → mark_at (state_after facts h) g ≡ m →
+    MayBegin facts p h (λ steps. Rates facts p online Chooses g t m h steps)
 
--- the control pass may set the thresholds of a node's zones under a rule
-abbrev pub MakesNodeRating : (rule normal : ZoneSize → ℕ → ℕ → Type 0) → Type 0
-MakesNodeRating rule normal = (facts : Facts) (h : History) (p : ℕ) (n : PlaceId) (steps : List Step) →
-    ControlsIn facts h p → RatesNode facts rule normal n p h steps → MayMake facts p h steps
+-- the control pass may set the thresholds of a node's zones
+abbrev pub MakesNodeRating : Choice → Type 0
+MakesNodeRating Chooses = (facts : Facts) (h : History) (p : ℕ) (n : PlaceId) → ControlsIn facts h p →
+    MayBegin facts p h (λ steps. RatesNode facts Chooses n p h steps)
 
 -- the control pass may refresh all thresholds
 abbrev pub MakesRefresh : (ZoneSize → ℕ → ℕ → Type 0) → Type 0
-MakesRefresh normal = (facts : Facts) (h : History) (p : ℕ) (steps : List Step) →
-    ControlsIn facts h p → Refreshes facts normal p h steps → MayMake facts p h steps
+MakesRefresh normal = (facts : Facts) (h : History) (p : ℕ) → ControlsIn facts h p →
+    MayBegin facts p h (λ steps. Refreshes facts normal p h steps)
 
 -- a live pass that carries nothing may fold a CPU, with acknowledgements where it owns the CPU
 abbrev pub MakesFold : Type 0
-MakesFold = (facts : Facts) (h : History) (p : ℕ) (is_own : Bool) (c : CpuId) (steps : List Step) →
-    LivesIn facts h p → IsCpu facts.layout c.number → (is_own ≡ true → owner_in turn h p ≡ Some c) →
-    CarriesNothing facts.layout (own h p) → IsFold facts.layout is_own c steps → MayMake facts p h steps
+MakesFold = (facts : Facts) (h : History) (p : ℕ) (is_own : Bool) (c : CpuId) → LivesIn facts h p →
+    IsCpu facts.layout c.number → (is_own ≡ true → owner_in turn h p ≡ Some c) →
+    CarriesNothing facts.layout (own h p) → MayBegin facts p h (λ steps. IsFold facts.layout is_own c steps)
 
 -- the control pass may bury a dead CPU where it carries nothing
 abbrev pub MakesBurial : (ZoneSize → ℕ → ℕ → Type 0) → Type 0
-MakesBurial normal = (facts : Facts) (h : History) (p : ℕ) (c : CpuId) (steps : List Step) →
-    ControlsIn facts h p → IsCpu facts.layout c.number → cpu_at (state_after facts h) c.number ≡ Dead →
-    CarriesNothing facts.layout (own h p) → Buries facts normal c p h steps → MayMake facts p h steps
+MakesBurial normal = (facts : Facts) (h : History) (p : ℕ) (c : CpuId) → ControlsIn facts h p →
+    IsCpu facts.layout c.number → cpu_at (state_after facts h) c.number ≡ Dead →
+    CarriesNothing facts.layout (own h p) → MayBegin facts p h (λ steps. Buries facts normal c p h steps)
 
 -- the owner of a CPU that may change a counter may make the steps of the change
 abbrev pub MakesChange : Type 0
-MakesChange = (facts : Facts) (h : History) (p : ℕ) (cpu : CpuId) (k : CounterId) (delta : ℤ) (how : Mode)
-    (steps : List Step) → MayChange facts h p cpu k delta → IsChange facts.layout cpu k delta how steps →
-    MayMake facts p h steps
+MakesChange = (facts : Facts) (h : History) (p : ℕ) (cpu : CpuId) (k : CounterId) (delta : ℤ) (how : Mode) →
+    MayChange facts h p cpu k delta → MayBegin facts p h (λ steps. IsChange facts.layout cpu k delta how steps)
 
 -- peaks, thresholds, marks and the CPUs' states are what these steps of pass p in a row make of the earlier history
 pub record AreAsInRow (facts : Facts) (later earlier : History) (p : ℕ) (steps : List Step) : Type 0 where

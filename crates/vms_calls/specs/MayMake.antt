@@ -41,6 +41,11 @@ Tells facts h p _ = Unit {0}
 abbrev pub MayMake : Facts → ℕ → History → List Step → Type 0
 MayMake facts p earlier steps = making.MayMake pages Tells facts p earlier steps
 
+-- the same of a call of which the first steps alone are known: whichever steps may still follow, the next one may be
+-- made if it tells what stands
+abbrev pub MayBegin : Facts → ℕ → History → (List Step → Type 0) → Type 0
+MayBegin facts p earlier IsCall = making.MayBegin pages Tells facts p earlier IsCall
+
 -- a pass lives in a legal history
 pub record LivesIn (facts : Facts) (h : History) (p : ℕ) : Type 0 where
   pub legal : IsLegal facts h

@@ -48,21 +48,31 @@ abbrev pub rating_steps : Facts → ℕ → List CpuId → History → ℕ → �
 rating_steps facts p online h g m usual t =
     mark_steps g m (mark_for facts p online h g usual t) ++ threshold_steps g t online
 
--- a rule tells which threshold a zone of a size may get where so many CPUs are online
-module _ (facts : Facts) (normal : ZoneSize → ℕ → ℕ → Type 0) (p : ℕ) (online : List CpuId) where
-  -- zone g gets threshold t by a rule
-  pub record Rates (rule : ZoneSize → ℕ → ℕ → Type 0) (g t m : ℕ) (h : History) (steps : List Step)
-      : Type 0 where
-    pub by_rule : rule (size_at facts.sizes g) (length online) t
+-- which two thresholds a call may choose for a zone of a size where so many CPUs are online: the one that it sets, and
+-- the usual one, which Linux's mark is for
+abbrev pub Choice : Type 1
+Choice = ZoneSize → ℕ → ℕ → ℕ → Type 0
+
+-- the normal rule is asked once: the threshold that is set is the usual one
+abbrev pub ByNormal : (ZoneSize → ℕ → ℕ → Type 0) → Choice
+ByNormal normal size online t usual = normal size online t × (usual ≡ t)
+
+-- under pressure each rule is asked once: that of pressure for the threshold that is set, the normal one for the usual
+abbrev pub ByPressure : (pressure normal : ZoneSize → ℕ → ℕ → Type 0) → Choice
+ByPressure pressure normal size online t usual = pressure size online t × normal size online usual
+
+module _ (facts : Facts) (p : ℕ) (online : List CpuId) where
+  -- zone g gets threshold t
+  pub record Rates (Chooses : Choice) (g t m : ℕ) (h : History) (steps : List Step) : Type 0 where
     pub usual : ℕ
-    pub by_normal : normal (size_at facts.sizes g) (length online) usual
+    pub chosen : Chooses (size_at facts.sizes g) (length online) t usual
     pub in_order : steps ≡ rating_steps facts p online h g m usual t
 
   -- the same where the zone's mark is not 0, and no step and threshold 0 where it is
-  pub data RatesMarked (rule : ZoneSize → ℕ → ℕ → Type 0) (g : ℕ) : ℕ → ℕ → History → List Step → Type 0 where
-    unmarked : (h : History) → RatesMarked rule g 0 0 h []
-    marked : (t m : ℕ) (h : History) (steps : List Step) → m ≢ 0 → Rates rule g t m h steps
-        → RatesMarked rule g t m h steps
+  pub data RatesMarked (Chooses : Choice) (g : ℕ) : ℕ → ℕ → History → List Step → Type 0 where
+    unmarked : (h : History) → RatesMarked Chooses g 0 0 h []
+    marked : (t m : ℕ) (h : History) (steps : List Step) → m ≢ 0 → Rates Chooses g t m h steps
+        → RatesMarked Chooses g t m h steps
 
   -- a visit of zone g: what was acknowledged and the mark are loaded, and then the zone is rated
   pub record Visits (Rated : ℕ → ℕ → ℕ → History → List Step → Type 0) (g t : ℕ) (h : History) (steps : List Step)
@@ -84,6 +94,10 @@ module _ (facts : Facts) (normal : ZoneSize → ℕ → ℕ → Type 0) (p : ℕ
     next : (g t : ℕ) (gs ts : List ℕ) (h : History) (first rest : List Step) → Visits Rated g t h first
         → VisitsEach Rated gs ts (after p first h) rest → VisitsEach Rated (g ∷ gs) (t ∷ ts) h (first ++ rest)
 
+-- the number of the node at a place
+abbrev pub node_number : Shape → PlaceId → ℕ
+node_number shape n = slice_index_or shape.nodes (n.number - length shape.zones) 0
+
 -- the numbers below n, in order
 abbrev pub numbers_below : ℕ → List ℕ
 numbers_below zero = []
@@ -98,18 +112,24 @@ abbrev pub largest_on : Shape → List ℕ → ℕ → ℕ
 largest_on shape ts node =
     largest_below (λ g. if nat_eq (node_of_zone shape g) node then slice_index_or ts g 0 else 0) (length shape.zones)
 
--- a call that looks which CPUs are online and then visits the zones of a node, under a rule: `set_pressure` with the
--- rule of pressure, `set_normal` with the normal rule
-pub record RatesNode (facts : Facts) (rule normal : ZoneSize → ℕ → ℕ → Type 0) (n : PlaceId) (p : ℕ) (h : History)
-    (steps : List Step) : Type 0 where
+-- a call that looks which CPUs are online and then visits the zones of a node
+pub record RatesNode (facts : Facts) (Chooses : Choice) (n : PlaceId) (p : ℕ) (h : History) (steps : List Step)
+    : Type 0 where
   pub states : List CpuState
   pub one_each : length states ≡ facts.layout.cpus
   pub thresholds : List ℕ
   pub further : List Step
-  pub visits : VisitsEach facts normal p (online_from 0 states) (RatesMarked facts normal p (online_from 0 states) rule)
-      (zones_on facts.layout (slice_index_or facts.layout.nodes (n.number - length facts.layout.zones) 0)) thresholds
-      (after p (in_turn state_steps 0 states) h) further
+  pub visits : VisitsEach facts p (online_from 0 states) (RatesMarked facts p (online_from 0 states) Chooses)
+      (zones_on facts.layout (node_number facts.layout n)) thresholds (after p (in_turn state_steps 0 states) h) further
   pub in_order : steps ≡ in_turn state_steps 0 states ++ further
+
+-- `set_pressure`, and `set_normal`
+abbrev pub SetsPressure : Facts → (pressure normal : ZoneSize → ℕ → ℕ → Type 0) → PlaceId → ℕ → History → List Step
+    → Type 0
+SetsPressure facts pressure normal n p h steps = RatesNode facts (ByPressure pressure normal) n p h steps
+
+abbrev pub SetsNormal : Facts → (normal : ZoneSize → ℕ → ℕ → Type 0) → PlaceId → ℕ → History → List Step → Type 0
+SetsNormal facts normal n p h steps = RatesNode facts (ByNormal normal) n p h steps
 
 -- a refresh: every zone gets its normal threshold, and then every node the largest of its zones
 pub record Refreshes (facts : Facts) (normal : ZoneSize → ℕ → ℕ → Type 0) (p : ℕ) (h : History) (steps : List Step)
@@ -118,7 +138,7 @@ pub record Refreshes (facts : Facts) (normal : ZoneSize → ℕ → ℕ → Type
   pub one_each : length states ≡ facts.layout.cpus
   pub thresholds : List ℕ
   pub further : List Step
-  pub visits : VisitsEach facts normal p (online_from 0 states) (Rates facts normal p (online_from 0 states) normal)
+  pub visits : VisitsEach facts p (online_from 0 states) (Rates facts p (online_from 0 states) (ByNormal normal))
       (numbers_below (length facts.layout.zones)) thresholds (after p (in_turn state_steps 0 states) h) further
   pub in_order : steps ≡ (in_turn state_steps 0 states ++ further)
       ++ in_turn (λ i node. threshold_steps (length facts.layout.zones + i) (largest_on facts.layout thresholds node)

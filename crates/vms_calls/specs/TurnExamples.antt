@@ -1,19 +1,35 @@
 -- Steps of turns of kswapd on a machine of one CPU, one zone and one node, where the zone has no mark.
-use Rattle.std.specs.Prelude.{pos, List, [], ◌∷◌, None}
+use Rattle.std.specs.Prelude.{ℕ, pos, false, List, [], ◌∷◌, codes, replicate, None}
+use Rattle.vms_base.specs.declared.headers.Header.{Header}
+use Rattle.vms_base.specs.declared.headers.ItemDecl.{ItemDecl}
 use Rattle.vms_base.specs.declared.ids.PlaceId.{PlaceId}
 use Rattle.vms_base.specs.declared.kinds.CpuState.TheVariants.{Online, Absent}
+use Rattle.vms_base.specs.declared.kinds.ZoneKind.TheVariants.{Normal}
 use Rattle.vms_core.specs.declared.steps.Step.{Step}
 use Rattle.vms_core.specs.declared.steps.Step.TheVariants.{LoadG, LoadM, LoadO, LoadA}
-use Rattle.vms_base.specs.Areas.{Area}
 use Rattle.vms_core.specs.Settling.{cpu, zone}
+
+-- an item of the zones that counts pages
+abbrev pub zone_item : List ℕ → ItemDecl
+zone_item name = record { name = name; node = false; bytes = false }
+
+-- a header of the machine with these items
+abbrev pub header_with : List ItemDecl → Header
+header_with items = record {
+  layout = record { zones = record { node = 0; kind = Normal } ∷ []; nodes = 0 ∷ []; cpus = 1; positions = 16 };
+  sizes = record { managed = 1000; min = 100; low = 130; high = 160 } ∷ [];
+  bases = replicate 32 (pos 0);
+  counters = [];
+  items = items;
+}
+
+-- its zones count blocks of 16 pages
+abbrev pub with_area : Header
+with_area = header_with (zone_item (codes "area4") ∷ [])
 
 -- the node's place
 abbrev pub node : PlaceId
 node = record { number = 1 }
-
--- blocks of 16 pages are counted at position 3 of a zone
-abbrev pub areas : List Area
-areas = record { order = 4; position = 3 } ∷ []
 
 -- a call on thresholds that finds the CPU online, nothing acknowledged and no mark
 abbrev pub visit : List Step
@@ -25,4 +41,4 @@ look = LoadM zone 0 0 ∷ LoadG (record { number = 0 }) (pos 190) ∷ LoadM zone
 
 -- a snapshot of the blocks of 16 pages that finds one and no CPU online
 abbrev pub block : List Step
-block = LoadG (record { number = 3 }) (pos 1) ∷ LoadO cpu Absent ∷ []
+block = LoadG (record { number = 8 }) (pos 1) ∷ LoadO cpu Absent ∷ []

@@ -1,19 +1,23 @@
--- The steps of a balance test of a node and of a turn of kswapd, and what each answers (`__zone_watermark_ok` of
--- mm/page_alloc.c, `pgdat_balanced` and `kswapd_try_to_sleep` of mm/vmscan.c).
-use Rattle.std.specs.Prelude.{◌≡◌, ◌≢◌, ℕ, suc, zero, ◌+◌, ◌-◌, ◌^◌, nat_le, nat_lt, Bool, true, false, List, [], ◌∷◌, ◌++◌, length, map, filter, slice_index_or, Option, Some, None, is_some}
+-- The steps of a test for an order, of a balance test of a node and of a turn of kswapd, and what each answers
+-- (`__zone_watermark_ok` of mm/page_alloc.c, `pgdat_balanced` and `kswapd_try_to_sleep` of mm/vmscan.c).
+use Rattle.std.specs.Prelude.{◌≡◌, ◌≢◌, ℕ, suc, zero, ◌+◌, ◌-◌, ◌^◌, nat_le, nat_lt, Bool, true, false, List, [], ◌∷◌, ◌++◌, map, filter, slice_index_or, Option, Some, None, is_some}
+use Rattle.vms_base.specs.declared.headers.Header.{Header}
 use Rattle.vms_base.specs.declared.ids.CounterId.{CounterId}
 use Rattle.vms_base.specs.declared.ids.PlaceId.{PlaceId}
+use Rattle.vms_base.specs.declared.kinds.WaterMark.{WaterMark}
+use Rattle.vms_base.specs.declared.kinds.WaterMark.TheVariants.{High}
 use Rattle.vms_base.specs.declared.kinds.ZoneSize.{ZoneSize}
-use Rattle.vms_base.specs.Areas.{Area, areas_from}
+use Rattle.vms_base.specs.Areas.{Area, areas_of, areas_from}
 use Rattle.vms_base.specs.Places.{Shape, counter_at, zone_index}
-use Rattle.vms_base.specs.Watermarks.{reserve_of}
+use Rattle.vms_base.specs.Watermarks.{limit_of}
 use Rattle.vms_history.specs.Events.{after}
+use Rattle.vms_core.specs.declared.states.State.{State}
 use Rattle.vms_core.specs.declared.steps.Facts.{Facts}
 use Rattle.vms_core.specs.declared.steps.Step.{Step}
-use Rattle.vms_base.specs.Sizes.{size_at}
-use Rattle.vms_calls.specs.Ratings.{RatesNode, zones_on}
-use Rattle.vms_calls.specs.Looks.{Verdict, IsSnapshot, IsWatermarkTest}
 use Rattle.vms_core.specs.Pages.{History}
+use Rattle.vms_calls.specs.HeaderFacts.{facts_of}
+use Rattle.vms_calls.specs.Looks.{Verdict, IsSnapshot, IsWatermarkTest}
+use Rattle.vms_calls.specs.Ratings.{SetsPressure, SetsNormal, node_number, zones_on}
 
 -- the counter of an area of zone g
 abbrev pub blocks_at : Shape → PlaceId → Area → CounterId
@@ -43,26 +47,27 @@ has_room limit order free = nat_lt (limit + (2 ^ order - 1)) free
 
 -- the steps after those of the watermark test, where blocks above order 0 are asked for, from whether there is room: a
 -- look for a block, or none and no
-abbrev pub Blocks : Shape → List Area → PlaceId → ℕ → Bool → List Step → OrderVerdict → Type 0
-Blocks shape areas g order true steps answer =
-    FindsBlock shape g (areas_from order areas) steps answer.area × (answer.yes ≡ is_some answer.area)
-Blocks shape areas g order false steps answer = (steps ≡ []) × (answer.yes ≡ false) × (answer.area ≡ None)
+abbrev pub Blocks : Header → PlaceId → ℕ → Bool → List Step → OrderVerdict → Type 0
+Blocks header g order true steps answer =
+    FindsBlock header.layout g (areas_from order (areas_of header.items)) steps answer.area
+    × (answer.yes ≡ is_some answer.area)
+Blocks header g order false steps answer = (steps ≡ []) × (answer.yes ≡ false) × (answer.area ≡ None)
 
 -- the same for every order: at order 0 there is none, and the answer is that of the watermark test
-abbrev pub Further : Shape → List Area → PlaceId → ℕ → ℕ → Verdict → List Step → OrderVerdict → Type 0
-Further shape areas g limit zero verdict steps answer =
+abbrev pub Further : Header → PlaceId → WaterMark → (most order : ℕ) → Verdict → List Step → OrderVerdict → Type 0
+Further header g mark most zero verdict steps answer =
     (steps ≡ []) × (answer.yes ≡ verdict.yes) × (answer.area ≡ None)
-Further shape areas g limit (suc n) verdict steps answer =
-    Blocks shape areas g (suc n) (has_room limit (suc n) verdict.free) steps answer
+Further header g mark most (suc n) verdict steps answer =
+    Blocks header g (suc n) (has_room (limit_of header g.number mark most) (suc n) verdict.free) steps answer
 
--- a test whether zone g has more free pages than `limit`, and a free block of an order or larger
-pub record IsOrderTest (shape : Shape) (areas : List Area) (g : PlaceId) (limit order : ℕ) (steps : List Step)
+-- a test whether zone g has more free pages than a watermark asks for, and a free block of an order or larger
+pub record IsOrderTest (header : Header) (g : PlaceId) (mark : WaterMark) (most order : ℕ) (steps : List Step)
     (answer : OrderVerdict) : Type 0 where
   pub verdict : Verdict
   pub test : List Step
-  pub tests : IsWatermarkTest shape g limit test verdict
+  pub tests : IsWatermarkTest header g mark most test verdict
   pub further : List Step
-  pub blocks : Further shape areas g limit order verdict further answer
+  pub blocks : Further header g mark most order verdict further answer
   pub in_order : steps ≡ test ++ further
   pub free : answer.free ≡ verdict.free
   pub fast : answer.fast ≡ verdict.fast
@@ -72,21 +77,16 @@ pub data Balance : Type 0 where
   Yes : PlaceId → OrderVerdict → Balance
   No : Balance
 
--- tests of these zones in order, up to the first that passes
-pub data Balances (shape : Shape) (areas : List Area) (limit : ℕ → ℕ) (order : ℕ)
-    : List ℕ → List Step → Balance → Type 0 where
-  no_zone : Balances shape areas limit order [] [] No
+-- tests of these zones in order, up to the first that passes: each of the zone's high watermark
+pub data Balances (header : Header) (most order : ℕ) : List ℕ → List Step → Balance → Type 0 where
+  no_zone : Balances header most order [] [] No
   fails : (g : ℕ) (gs : List ℕ) (first rest : List Step) (verdict : OrderVerdict) (answer : Balance)
-      → IsOrderTest shape areas (record { number = g }) (limit g) order first verdict → verdict.yes ≡ false
-      → Balances shape areas limit order gs rest answer
-      → Balances shape areas limit order (g ∷ gs) (first ++ rest) answer
+      → IsOrderTest header (record { number = g }) High most order first verdict → verdict.yes ≡ false
+      → Balances header most order gs rest answer
+      → Balances header most order (g ∷ gs) (first ++ rest) answer
   passes : (g : ℕ) (gs : List ℕ) (steps : List Step) (verdict : OrderVerdict)
-      → IsOrderTest shape areas (record { number = g }) (limit g) order steps verdict → verdict.yes ≡ true
-      → Balances shape areas limit order (g ∷ gs) steps (Yes (record { number = g }) verdict)
-
--- the number of the node at a place
-abbrev pub node_number : Shape → PlaceId → ℕ
-node_number shape n = slice_index_or shape.nodes (n.number - length shape.zones) 0
+      → IsOrderTest header (record { number = g }) High most order steps verdict → verdict.yes ≡ true
+      → Balances header most order (g ∷ gs) steps (Yes (record { number = g }) verdict)
 
 -- the zones of a node whose zone index is at most `most`
 abbrev pub zones_up_to : Shape → ℕ → ℕ → List ℕ
@@ -94,28 +94,24 @@ zones_up_to shape most node = filter
     (λ g. nat_le (slice_index_or (map (λ zone. zone_index zone.kind) shape.zones) g 0) most)
     (zones_on shape node)
 
--- a zone's high watermark and its reserve against requests that may use the zones up to an index
-abbrev pub high_limit : Facts → ℕ → ℕ → ℕ
-high_limit facts most g = (size_at facts.sizes g).high + reserve_of facts.layout facts.sizes g most
-
 -- a test whether a node is balanced for an order and a highest zone index
-abbrev pub IsBalanceTest : Facts → List Area → PlaceId → ℕ → ℕ → List Step → Balance → Type 0
-IsBalanceTest facts areas n order most steps answer =
-    Balances facts.layout areas (high_limit facts most) order
-    (zones_up_to facts.layout most (node_number facts.layout n)) steps answer
+abbrev pub IsBalanceTest : Header → PlaceId → (order most : ℕ) → List Step → Balance → Type 0
+IsBalanceTest header n order most steps answer =
+    Balances header most order (zones_up_to header.layout most (node_number header.layout n)) steps answer
 
 -- what follows the balance test: after yes the normal thresholds are set, after no nothing
 abbrev pub Settles : Facts → (ZoneSize → ℕ → ℕ → Type 0) → PlaceId → ℕ → Balance → History → List Step → Type 0
-Settles facts normal n p (Yes g verdict) h steps = RatesNode facts normal normal n p h steps
+Settles facts normal n p (Yes g verdict) h steps = SetsNormal facts normal n p h steps
 Settles facts normal n p No h steps = steps ≡ []
 
--- a turn of kswapd on a node: thresholds under pressure, the balance test, and after yes normal thresholds
-pub record IsTurn (facts : Facts) (areas : List Area) (pressure normal : ZoneSize → ℕ → ℕ → Type 0) (n : PlaceId)
+-- a turn of kswapd on a node, from a state in which a phase of the header began: thresholds under pressure, the balance
+-- test, and after yes normal thresholds
+pub record IsTurn (header : Header) (base : State) (pressure normal : ZoneSize → ℕ → ℕ → Type 0) (n : PlaceId)
     (order most p : ℕ) (h : History) (steps : List Step) (answer : Balance) : Type 0 where
   pub pressed : List Step
-  pub presses : RatesNode facts pressure normal n p h pressed
+  pub presses : SetsPressure (facts_of header base) pressure normal n p h pressed
   pub test : List Step
-  pub tests : IsBalanceTest facts areas n order most test answer
+  pub tests : IsBalanceTest header n order most test answer
   pub further : List Step
-  pub settles : Settles facts normal n p answer (after p (pressed ++ test) h) further
+  pub settles : Settles (facts_of header base) normal n p answer (after p (pressed ++ test) h) further
   pub in_order : steps ≡ pressed ++ (test ++ further)

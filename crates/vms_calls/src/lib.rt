@@ -1,20 +1,26 @@
-//! The calls on the page counters: which steps each makes, what these tell of its answer, and that a pass may make them
-//! whatever other callers do meanwhile.
+//! The calls on the page counters: which steps each makes, what these tell of its answer and of where they end, what
+//! they leave as it was, and that a pass may make them whatever other callers do meanwhile.
 #![tactic(auto)]
 
-mod calls;
+mod callers;
+mod changes;
 mod making;
+mod ratings;
+mod readings;
 mod rules;
 #[cfg(test)]
 mod tests;
-mod turns;
 
-pub use calls::{
-    answers_are_told, changes_follow, changes_miss_once, folds_move_all, ratings_cover,
+pub use callers::{
+    control_passes_know_by_own_steps, folds_leave_their_caller, looks_leave_their_caller,
+    ratings_leave_their_caller,
 };
+pub use changes::{changes_follow, changes_miss_once, changes_spend_their_size};
 pub use making::{
-    changes_may_be_made, control_passes_know_by_own_steps, folds_may_be_made, looks_may_be_made,
-    thresholds_may_be_set,
+    changes_may_be_made, folds_may_be_made, looks_may_be_made, thresholds_may_be_set,
+};
+pub use ratings::{balance_tests_name_what_passed, ratings_cover, turns_leave_rules};
+pub use readings::{
+    answers_are_told, changes_and_folds_are_told, ratings_are_told, ratings_find_a_cpu,
 };
 pub use rules::ThresholdRules;
-pub use turns::{turns_are_told, turns_find_what_they_name, turns_leave_rules, turns_may_be_made};

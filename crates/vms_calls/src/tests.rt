@@ -1,11 +1,12 @@
-ghost use Rattle.std.specs.Prelude.{◌≡◌, ℕ, ◌≤◌, true, pos, [], ◌∷◌, ◌++◌, Some, None};
+ghost use Rattle.std.specs.Prelude.{◌≡◌, ℕ, ◌≤◌, true, pos, [], ◌∷◌, ◌++◌, codes, Some, None};
+ghost use Rattle.vms_base.specs.Areas.{areas_of, areas_from};
 ghost use Rattle.vms_base.specs.Thresholds.{most_threshold};
 ghost use Rattle.vms_core.specs.declared.steps.Step.TheVariants.{SetT};
-ghost use Rattle.vms_calls.specs.Turns.Balance.{Yes, No};
-ghost use Rattle.vms_calls.specs.MayMake.{MayMake};
 ghost use Rattle.vms_core.specs.Settling.{one_zone, begun, cpu, zone};
-ghost use Rattle.vms_calls.specs.TurnExamples.{node, areas, visit, look, block};
+ghost use Rattle.vms_calls.specs.MayMake.{MayMake};
+ghost use Rattle.vms_calls.specs.TurnExamples.{header_with, with_area, zone_item, node, visit, look, block};
 ghost use Rattle.vms_calls.specs.TurnReadings.{read_turn};
+ghost use Rattle.vms_calls.specs.Turns.Balance.{Yes, No};
 
 use crate::*;
 
@@ -13,7 +14,7 @@ use crate::*;
 struct AnyThreshold;
 
 impl ThresholdRules for AnyThreshold {
-    ghost rule = { λ size online t. (1 ≤ t) × (t ≤ most_threshold) };
+    ghost pressure = { λ size online t. (1 ≤ t) × (t ≤ most_threshold) };
 
     ghost normal = { λ size online t. (1 ≤ t) × (t ≤ most_threshold) };
 }
@@ -28,26 +29,41 @@ fn covered_threshold_may_be_set()
 /// A zone with 190 free pages and a high watermark of 160 is balanced for single pages. For blocks of 8 it is so where
 /// one of 16 is free, and for blocks of 64 it isn't, since 127 pages are left beside one.
 fn turns_are_read()
-    ensures single { read_turn one_zone [] node 0 2 (visit ++ (look ++ visit)) ≡
+    ensures single { read_turn (header_with []) node 0 2 (visit ++ (look ++ visit)) ≡
         (Yes zone (record { yes = true; free = 190; fast = true; area = None }), []) }
-    ensures no_block { read_turn one_zone [] node 3 2 (visit ++ look) ≡ (No, []) }
-    ensures block { read_turn one_zone areas node 3 2 (visit ++ (look ++ (block ++ visit))) ≡
+    ensures no_block { read_turn (header_with []) node 3 2 (visit ++ look) ≡ (No, []) }
+    ensures block { read_turn with_area node 3 2 (visit ++ (look ++ (block ++ visit))) ≡
         (Yes zone (record { yes = true; free = 190; fast = true; area = Some 4 }), []) }
-    ensures no_room { read_turn one_zone areas node 6 2 (visit ++ look) ≡ (No, []) }
+    ensures no_room { read_turn with_area node 6 2 (visit ++ look) ≡ (No, []) }
+{}
+
+/// Blocks of 8 pages are looked for before those of 32, though the item of those of 32 is declared first.
+fn areas_ascend()
+    ensures { areas_from 3 (areas_of (zone_item (codes "area5") ∷ zone_item (codes "area3") ∷ [])) ≡
+        record { order = 3; position = 9 } ∷ record { order = 5; position = 8 } ∷ [] }
 {}
 
 #[test]
 fn rules_and_turns() {
     covered_threshold_may_be_set();
     turns_are_read();
+    areas_ascend();
     thresholds_may_be_set::<AnyThreshold>();
-    turns_are_told::<AnyThreshold>();
-    turns_find_what_they_name::<AnyThreshold>();
+    ratings_are_told::<AnyThreshold>();
+    ratings_find_a_cpu::<AnyThreshold>();
+    ratings_leave_their_caller::<AnyThreshold>();
     turns_leave_rules::<AnyThreshold>();
-    turns_may_be_made::<AnyThreshold>();
+    balance_tests_name_what_passed();
+    ratings_cover();
+    answers_are_told();
+    changes_and_folds_are_told();
     changes_may_be_made();
-    control_passes_know_by_own_steps();
-    folds_may_be_made();
-    looks_may_be_made();
+    changes_miss_once();
+    changes_spend_their_size();
     changes_follow();
+    folds_leave_their_caller();
+    folds_may_be_made();
+    looks_leave_their_caller();
+    looks_may_be_made();
+    control_passes_know_by_own_steps();
 }

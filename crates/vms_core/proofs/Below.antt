@@ -1,4 +1,4 @@
--- Numbers f 0 to f (n - 1): the largest of them, and their sum.
+-- For other crates too: the numbers f 0 to f (n - 1): the largest of them, and their sum.
 use Rattle.std.proofs.Common.{◌≡◌, ℕ, zero, suc, ◌<◌, ◌≤◌, ap, arith, ⊎_elim}
 use Rattle.std.proofs.lemmas.Bool.{cases_eq}
 use Rattle.vms_history.specs.Sums.{largest_below, count_below}

@@ -1,4 +1,5 @@
--- What the control pass may set stays so while others act, and a dead CPU that it emptied may become absent.
+-- For other crates too: what the control pass may set stays so while others act, and a dead CPU that it emptied may
+-- become absent.
 use Rattle.std.proofs.Common.{◌≡◌, ℕ, ◌+◌, ◌*◌, ◌%◌, pos, sym, ap, ◌∙◌, arith}
 use Rattle.std.proofs.lemmas.List.{get_or-replicate}
 use Rattle.vms_base.specs.declared.ids.CpuId.{CpuId}

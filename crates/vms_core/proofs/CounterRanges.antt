@@ -1,4 +1,4 @@
--- The counters of a place of a layout are the layout's.
+-- For other crates too: the counters of a place of a layout are the layout's.
 use Rattle.std.proofs.Common.{◌≡◌, ℕ, ◌<◌, arith}
 use Rattle.std.proofs.lemmas.Nat.{mul-add-lt}
 use Rattle.vms_base.specs.Places.{Shape, IsLayout, IsCounter, IsPlace, place_count, counter_at, place_of}

@@ -1,4 +1,5 @@
--- What a step that meets its condition makes of the lists of a state, and of its global values and differentials.
+-- For other crates too: what a step that meets its condition makes of the lists of a state, and of its global values
+-- and differentials.
 use Rattle.std.proofs.Common.{◌≡◌, ℕ, ◌+◌, ◌*◌, ◌/◌, ◌<◌, ◌≤◌, ◌&&◌, List, length, get_or, Option, Some, None, ℤ, pos, ◌+ℤ◌, refl, ap, ◌∙◌, arith, length-set, if◌then◌else◌, nat_eq}
 use Rattle.vms_base.specs.declared.ids.CpuId.{CpuId}
 use Rattle.vms_base.specs.Places.{Shape, cell, counter_count, IsCpu, IsCounter, IsGroup, group_of}

@@ -1,4 +1,4 @@
--- An exchange of what its owner found wins, or the group was taken.
+-- For other crates too: an exchange of what its owner found wins, or the group was taken.
 use Rattle.std.proofs.Common.{◌≡◌, ℕ, ⊎_elim, ◌∷◌, Some, ℤ, sym, ap, ◌∙◌, subst, arith}
 use Rattle.vms_base.specs.declared.groups.Diffs.{Diffs}
 use Rattle.vms_base.specs.declared.ids.CounterId.{CounterId}

@@ -1,4 +1,4 @@
--- What stands of a CPU while no pass owns it, and of all settings while no control pass lives.
+-- For other crates too: what stands of a CPU while no pass owns it, and of all settings while no control pass lives.
 use Rattle.std.proofs.Common.{◌≡◌, ◌≢◌, ℕ, ◌&&◌, [], ◌∷◌, ◌++◌, Option, Some, None, refl, sym, ap, ◌∙◌, subst, arith, nat_eq, eqb-true}
 use Rattle.std.proofs.lemmas.Bool.{and_parts}
 use Rattle.vms_base.specs.declared.ids.CpuId.{CpuId}

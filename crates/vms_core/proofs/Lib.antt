@@ -12,6 +12,7 @@ pub mod WorkerSteps
 pub mod WithChange
 pub mod Below
 pub mod Settings
+pub mod NumberChanges
 pub mod PeakSteps
 pub mod Owners
 pub mod PeakBounds
@@ -37,4 +38,7 @@ pub mod OfflineGroups
 pub mod ControlSteps
 pub mod OwnSteps
 pub mod Spending
+pub mod CarriedNothing
+pub mod SettledEnds
 pub mod GroupLists
+pub mod KeptLaws

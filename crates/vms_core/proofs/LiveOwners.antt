@@ -1,4 +1,4 @@
--- The CPU of a pass is online, and what its live owner found last stands or was taken.
+-- For other crates too: the CPU of a pass is online, and what its live owner found last stands or was taken.
 use Rattle.std.proofs.Common.{◌≡◌, ◌≢◌, ℕ, ◌+◌, ◌*◌, ◌/◌, ◌%◌, ◌<◌, ◌&&◌, inl, inr, ⊎_elim, Bool, true, false, List, [], ◌∷◌, Option, Some, None, ℤ, pos, get_or, refl, sym, ap, ◌∙◌, arith, if◌then◌else◌, nat_eq, eqb-true, eq-eqb, length-set}
 use Rattle.std.proofs.Math.ListN.{set}
 use Rattle.std.proofs.lemmas.Bool.{and_parts, eqb-false, ne_eqb}

@@ -1,4 +1,4 @@
--- Every mark covers what the CPUs may hide of its zone.
+-- For other crates too: every mark covers what the CPUs may hide of its zone.
 use Rattle.std.proofs.Common.{◌≡◌, ◌≢◌, ℕ, ◌≤◌, max, ◌&&◌, Bool, true, false, [], ◌∷◌, refl, sym, subst, arith, ⊎_elim, if◌then◌else◌, nat_eq, eqb-true, ne_eqb}
 use Rattle.std.proofs.lemmas.Bool.{and_right, cases_eq}
 use Rattle.vms_base.specs.declared.kinds.CpuState.{CpuState}

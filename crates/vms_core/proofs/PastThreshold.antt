@@ -1,4 +1,4 @@
--- What a change leaves and carries once it passes the threshold.
+-- For other crates too: what a change leaves and carries once it passes the threshold.
 use Rattle.std.proofs.Common.{◌≡◌, ℕ, ◌<◌, false, ℤ, ◌+ℤ◌, unsigned_abs, arith, nat_le}
 use Rattle.std.proofs.lemmas.Bool.Decides.{nat_tests}
 use Rattle.std.specs.Prelude.{neg_ℤ}

@@ -1,4 +1,4 @@
--- The bounds of peaks, acknowledgements and loads in every legal history.
+-- For other crates too: the bounds of peaks, acknowledgements and loads in every legal history.
 use Rattle.std.proofs.Common.{◌≡◌, ◌≢◌, ℕ, ◌%◌, ◌≤◌, true≢false, [], ◌∷◌, Option, Some, None, unsigned_abs, refl, sym, ap, ◌∙◌, subst, arith, ⊎_elim}
 use Rattle.std.proofs.lemmas.Bool.{cases_eq}
 use Rattle.vms_base.specs.declared.ids.CpuId.{CpuId}

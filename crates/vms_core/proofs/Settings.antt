@@ -1,5 +1,5 @@
--- What a step that meets its condition makes of thresholds, numbers of sets, marks, CPU states and acknowledgements,
--- and what stands of them after a legal history.
+-- For other crates too: what a step that meets its condition makes of thresholds, numbers of sets, marks, CPU states
+-- and acknowledgements, and what stands of them after a legal history.
 use Rattle.std.proofs.Common.{◌≡◌, ℕ, suc, ◌+◌, ◌*◌, ◌/◌, ◌&&◌, [], ◌∷◌, List, length, get_or, Option, Some, None, refl, ap, ◌∙◌, add-one, length-set, if◌then◌else◌, nat_eq}
 use Rattle.std.proofs.Math.ListN.{set}
 use Rattle.vms_base.specs.declared.ids.CpuId.{CpuId}
@@ -148,14 +148,14 @@ module _ (facts : Facts) (e : Event Step) (h : History) (legal : IsLegal facts (
   shaped : HasShape facts.layout (state_after facts h)
   shaped = HasShape-state_after facts h legal.0
 
-  threshold_at-newest : (c g : ℕ) → IsPlace facts.layout g
+  pub threshold_at-newest : (c g : ℕ) → IsPlace facts.layout g
       → threshold_at (state_after facts (e ∷ h)) c g
       ≡ threshold_after c g e.step (threshold_at (state_after facts h) c g)
   threshold_at-newest c g g_in =
       threshold_at-effect facts h (state_after facts h) e.caller layout shaped (owner_in turn h e.caller) e.step c g
       legal.2 g_in
 
-  sets-newest : (c g : ℕ) → IsPlace facts.layout g
+  pub sets-newest : (c g : ℕ) → IsPlace facts.layout g
       → threshold_sets_at (state_after facts (e ∷ h)) c g
       ≡ sets_after c g e.step (threshold_sets_at (state_after facts h) c g)
   sets-newest c g g_in =

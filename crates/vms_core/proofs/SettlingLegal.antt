@@ -1,4 +1,4 @@
--- Which histories of a lowered threshold are legal, and which aren't.
+-- For other crates too: which histories of a lowered threshold are legal, and which aren't.
 use Rattle.std.proofs.Common.{◌≡◌, ℕ, ◌+◌, ◌*◌, ◌≤◌, Bool, true, false, true≢false, [], length, get_or, Option, Some, None, inl, pos, refl, sym, ap, ◌∙◌, arith, subst, if◌then◌else◌, nat_eq}
 use Rattle.std.proofs.lemmas.List.Elements.{All-nil, All-cons}
 use Rattle.vms_base.specs.declared.groups.Diffs.{Diffs}

@@ -1,4 +1,4 @@
--- The lists of a state in every legal history.
+-- For other crates too: the lists of a state in every legal history.
 use Rattle.vms_history.proofs.Prefixes.{base_can_begin, state_after-keeps}
 use Rattle.vms_core.specs.declared.steps.Facts.{Facts}
 use Rattle.vms_core.specs.Cells.{HasShape}

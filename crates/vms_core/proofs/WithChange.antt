@@ -1,4 +1,4 @@
--- The state after a change that meets no other caller.
+-- For other crates too: the state after a change that meets no other caller.
 use Rattle.std.proofs.Common.{◌≡◌, ℕ, ◌<◌, ℤ, pos, ◌+ℤ◌, List, length, refl, ◌∙◌, arith, length-set, get_or-set_same}
 use Rattle.std.proofs.lemmas.Int.{ints}
 use Rattle.std.proofs.lemmas.List.{set-get_or}

@@ -1,4 +1,4 @@
--- A pass that owns a CPU makes steps on top of a legal history, and no other caller does.
+-- For other crates too: a pass that owns a CPU makes steps on top of a legal history, and no other caller does.
 use Rattle.std.proofs.Common.{◌≡◌, ◌≢◌, ℕ, ◌+◌, true, ◌∷◌, Some, refl, sym, ap, ◌∙◌, subst}
 use Rattle.vms_base.specs.declared.ids.CpuId.{CpuId}
 use Rattle.vms_history.specs.declared.events.Event.{Event}

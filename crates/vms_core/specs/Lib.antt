@@ -11,6 +11,7 @@ pub mod Plain
 pub mod Conditions
 pub mod Pages
 pub mod Quiet
+pub mod NumberChanges
 pub mod PeakLaws
 pub mod MarkNumbers
 pub mod Settling
@@ -19,4 +20,5 @@ pub mod Drift
 pub mod Bounded
 pub mod Knowledge
 pub mod Spending
+pub mod Laws
 pub mod Ends

@@ -13,16 +13,10 @@ mod tests;
 
 pub use differentials::overstep;
 pub use laws::{
-    acknowledged_bounds_use, control_steps_stay_allowed, dead_cpus_move_once,
-    differentials_are_bounded, differentials_are_within_peaks, drift_is_bounded,
-    each_beginning_is_kept, each_beginning_is_within_peaks, emptied_groups_stay_zero,
-    excess_is_bounded, exchanges_win_or_miss, found_lists_stand, groups_are_lists,
-    history_tells_settings, lists_have_eight, main_pass_knows_what_is_free, mark_numbers_grow,
-    marks_cover, marks_stand_between_loads, moves_are_bounded, numbers_stay_small,
-    offline_groups_are_found_once, offline_groups_stay_taken, own_steps_stay_allowed,
-    owned_cpus_are_online, owners_spend_by_own_steps, passes_know_what_they_own,
-    settings_are_in_range, shape_is_kept, spending_adds_up, system_drift_is_bounded,
-    systems_are_kept, totals_are_kept, volumes_are_kept,
+    complete_histories_carry_nothing, control_steps_stay_allowed, exchanges_win_or_miss,
+    laws_are_kept, main_pass_knows_what_is_free, mark_numbers_grow, marks_stand_between_loads,
+    offline_groups_are_found_once, own_steps_stay_allowed, owners_spend_by_own_steps,
+    passes_know_what_they_own, settled_ends_may_begin, steps_change_numbers, systems_keep_off,
 };
 pub use plain::Plain;
 pub use states::{Acks, Longs, MarkRead, Marks, Smalls, State, States, Threshold};

@@ -5,7 +5,7 @@ use Rattle.vms_base.specs.declared.ids.CpuId.{CpuId}
 use Rattle.vms_base.specs.declared.ids.EventId.{EventId}
 use Rattle.vms_event_core.specs.declared.steps.EventStep.{EventStep}
 use Rattle.vms_event_core.specs.Calls.{loads, folds, IsCount, IsAllEvents, IsFoldEvents}
-use Rattle.vms_event_core.specs.Making.{CarryAsBefore}
+use Rattle.vms_event_core.specs.MadeCalls.{CarryAsBefore}
 use Rattle.vms_event_core.specs.Own.{carried}
 
 -- what a take that found 0 moves, and what a take and its addition move together, is nothing

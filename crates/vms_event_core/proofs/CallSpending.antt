@@ -11,10 +11,10 @@ use Rattle.vms_event_core.specs.declared.steps.EventStep.{EventStep}
 use Rattle.vms_event_core.specs.declared.steps.EventStep.TheVariants.{LoadE, TakeE, AddF}
 use Rattle.vms_event_core.specs.Calls.{loads, folds, IsCount, IsAllEvents, IsFoldEvents}
 use Rattle.vms_event_core.specs.Events.{History, IsLegal}
-use Rattle.vms_event_core.specs.Making.{HasMade, SpendNothing, SpendsSince, KeepsSpending, counted_of}
+use Rattle.vms_event_core.specs.MadeCalls.{HasMade, SpendNothing, SpendsSince, KeepsSpending, counted_of}
 use Rattle.vms_event_core.specs.Steps.{turn}
 use Rattle.vms_event_core.specs.Totals.{counted, spent, spent_by}
-use Rattle.vms_event_core.proofs.MadeSteps.{made-given}
+use Rattle.vms_event_core.proofs.Callers.{made-given}
 use Rattle.vms_event_core.proofs.Spending.{spent_by-owner, GoesAlong, spent-goes_along}
 
 module _ (facts : EventFacts) (later earlier : History) (p : ℕ) (steps : List EventStep)

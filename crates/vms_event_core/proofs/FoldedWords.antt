@@ -14,7 +14,7 @@ use Rattle.vms_event_core.specs.Bases.{cpu_at}
 use Rattle.vms_event_core.specs.Calls.{folds}
 use Rattle.vms_event_core.specs.Conditions.{Meets}
 use Rattle.vms_event_core.specs.Events.{History, IsLegal, state_after}
-use Rattle.vms_event_core.specs.Making.{LeavesZeros}
+use Rattle.vms_event_core.specs.MadeCalls.{LeavesZeros}
 use Rattle.vms_event_core.specs.Steps.{turn}
 use Rattle.vms_event_core.specs.Totals.{word_after, word_in}
 use Rattle.vms_event_core.proofs.OfflineCpus.{zero-stays}

@@ -7,12 +7,12 @@ pub mod Bounds
 pub mod OfflineCpus
 pub mod DeadCpus
 pub mod OnlineCpus
-pub mod Keeping
+pub mod AllLaws
 pub mod Ends
-pub mod Quiet
 pub mod CallReading
 pub mod CallCarrying
-pub mod MadeSteps
+pub mod Callers
 pub mod CallSpending
 pub mod FoldedWords
-pub mod Making
+pub mod FittingSteps
+pub mod SummedWords

@@ -58,7 +58,7 @@ word_after-grows facts h s p c k word None (TakeE d l v) online meets =
 word_after-grows facts h s p c k word (Some o) _ online meets = omega arith
 word_after-grows facts h s p c k word None _ online meets = omega arith
 
-word_in-grows : (facts : EventFacts) (m h : History) (c k : ℕ) → IsLegal facts (m ++ h) → cpu_at facts c ≡ Online
+pub word_in-grows : (facts : EventFacts) (m h : History) (c k : ℕ) → IsLegal facts (m ++ h) → cpu_at facts c ≡ Online
     → word_in facts h c k ≤ word_in facts (m ++ h) c k
 word_in-grows facts [] h c k legal online = omega arith
 word_in-grows facts (e ∷ m) h c k legal online =

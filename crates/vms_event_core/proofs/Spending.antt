@@ -21,7 +21,7 @@ use Rattle.vms_event_core.specs.declared.steps.EventStep.TheVariants.{AddE}
 use Rattle.vms_event_core.specs.Conditions.{Meets}
 use Rattle.vms_base.specs.Volumes.{most_volume}
 use Rattle.vms_event_core.specs.Events.{events, History, IsLegal, state_after}
-use Rattle.vms_event_core.specs.Making.{KeepsSpending}
+use Rattle.vms_event_core.specs.MadeCalls.{KeepsSpending}
 use Rattle.vms_event_core.specs.Steps.{turn}
 use Rattle.vms_event_core.specs.Totals.{counted, spent, spent_by}
 use Rattle.vms_event_core.proofs.StateWords.{owner_known}

@@ -65,3 +65,8 @@ read_fold_events n steps = ([], steps)
 abbrev pub AtMostStands : EventState → ℕ → List CpuId → List ℕ → Type 0
 AtMostStands s k (c ∷ cpus) (v ∷ found) = (v ≤ word_at s c.number k) × AtMostStands s k cpus found
 AtMostStands s k _ _ = Unit {0}
+
+-- the words of these CPUs for an event, in sum
+abbrev pub sum_over : EventState → ℕ → List CpuId → ℕ
+sum_over s k [] = 0
+sum_over s k (c ∷ cpus) = word_at s c.number k + sum_over s k cpus

@@ -8,7 +8,7 @@ ghost use Rattle.vms_event_core.specs.Bases.{cpu_at};
 ghost use Rattle.vms_event_core.specs.Calls.{AtMostStands, IsCount, IsAllEvents, IsFoldEvents, read_count, read_all_events, read_fold_events, online_cpus};
 ghost use Rattle.vms_event_core.specs.Events.{History, IsLegal, state_after};
 ghost use Rattle.vms_event_core.specs.Laws.{most_in_sum};
-ghost use Rattle.vms_event_core.specs.Making.{HasMade, MakesCount, MakesAllEvents, MakesFoldEvents, CarryAsBefore, SpendNothing, SpendsSince, KeepsSpending, counted_of, LeavesZeros};
+ghost use Rattle.vms_event_core.specs.MadeCalls.{HasMade, MakesCount, MakesAllEvents, MakesFoldEvents, CarryAsBefore, SpendNothing, SpendsSince, KeepsSpending, counted_of, LeavesZeros, SumsBetween};
 ghost use Rattle.vms_event_core.specs.Words.{IsEvent, event_count, word_at};
 
 /// What a call found and answered can be read off its steps, whatever steps follow.
@@ -51,12 +51,16 @@ pub fn counts_alone_spend()
         HasMade facts later earlier p steps → SpendNothing steps → KeepsSpending later earlier p }
 {}
 
-/// The words of a CPU that is online only grow. So the sum that the loads of a call found is at most what the words of
-/// an event may come to, whatever other callers count in between: each load found at most what stands afterwards.
+/// The words of a CPU that is online only grow. So the sum of an event lies between what the words were in sum when the
+/// call began and what they are when it ends, and is at most what the words of an event may come to, whatever others
+/// count in between.
 pub fn online_words_grow()
     ensures grow { (facts : EventFacts) (m h : History) (c k : ℕ) → IsLegal facts (m ++ h) →
         cpu_at facts c ≡ Online → IsEvent k →
         word_at (state_after facts h) c k ≤ word_at (state_after facts (m ++ h)) c k }
+    ensures between { (facts : EventFacts) (later earlier : History) (p : ℕ) (k : EventId) (found : List ℕ)
+        (steps : List EventStep) (answer : ℕ) → HasMade facts later earlier p steps → IsEvent k.number →
+        IsAllEvents (online_cpus facts) k found steps answer → SumsBetween facts later earlier k found answer }
     ensures fits { (facts : EventFacts) (h : History) (k : EventId) (found : List ℕ) (steps : List EventStep)
         (answer : ℕ) → IsLegal facts h → IsEvent k.number → IsAllEvents (online_cpus facts) k found steps answer →
         AtMostStands (state_after facts h) k.number (online_cpus facts) found → answer ≤ most_in_sum facts.layout }

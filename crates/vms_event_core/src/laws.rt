@@ -2,13 +2,12 @@ ghost use Rattle.std.specs.Prelude.{◌≡◌, ◌≤◌, ℕ, true, [], ◌++�
 ghost use Rattle.vms_event_core.specs.declared.steps.EventFacts.{EventFacts};
 ghost use Rattle.vms_event_core.specs.Bases.{IsBase};
 ghost use Rattle.vms_event_core.specs.Ends.{facts_at_end, FitsBase, CountsBefore, StaysWithinVolumes, GoesOnAfter};
-ghost use Rattle.vms_event_core.specs.Events.{events, History, IsLegal, IsComplete};
+ghost use Rattle.vms_event_core.specs.Events.{History, IsLegal, IsComplete};
 ghost use Rattle.vms_event_core.specs.Laws.{KeepsLaws, HoldsTotals};
-ghost use Rattle.vms_event_core.specs.Making.{KeepsSpending};
+ghost use Rattle.vms_event_core.specs.MadeCalls.{KeepsSpending};
 ghost use Rattle.vms_event_core.specs.Steps.{turn};
 ghost use Rattle.vms_event_core.specs.Words.{IsEvent};
 ghost use Rattle.vms_history.specs.Events.{own};
-ghost use Rattle.vms_history.specs.Legal.{IsQuiet};
 ghost use Rattle.vms_history.specs.Passes.{begun_in, lives_in};
 
 /// All laws of the event counters hold at every moment of a legal history, after each of its steps.
@@ -32,9 +31,4 @@ pub fn ends_are_bases()
 pub fn spending_is_known()
     ensures { (facts : EventFacts) (m h : History) (p : ℕ) → IsLegal facts (m ++ h) →
         lives_in turn (m ++ h) p ≡ true → p ≤ begun_in turn h → own m p ≡ [] → KeepsSpending (m ++ h) h p }
-{}
-
-/// Beginning and ending a pass leaves the words and asks nothing of them.
-pub fn table_is_quiet()
-    ensures { IsQuiet events }
 {}

@@ -13,7 +13,7 @@ pub use calls::{
     answers_are_read, calls_carry_nothing, calls_may_be_made, counts_alone_spend,
     folded_words_are_zero, online_words_grow,
 };
-pub use laws::{ends_are_bases, laws_are_kept, spending_is_known, table_is_quiet};
+pub use laws::{ends_are_bases, laws_are_kept, spending_is_known};
 pub use states::EventState;
 pub use steps::{Event, EventFacts, EventStep};
 pub use tables::Events;

@@ -1,4 +1,5 @@
 use super::*;
+use vms_history::quiet_steps_leave;
 
 #[test]
 fn laws_hold_of_the_event_table() {
@@ -10,6 +11,6 @@ fn laws_hold_of_the_event_table() {
     folded_words_are_zero();
     laws_are_kept();
     online_words_grow();
+    quiet_steps_leave::<Events>();
     spending_is_known();
-    table_is_quiet();
 }

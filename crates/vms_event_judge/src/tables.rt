@@ -1,5 +1,6 @@
 ghost use Rattle.vms_event_core.specs.declared.states.EventState.{EventState};
 ghost use Rattle.vms_event_core.specs.Events.{events};
+ghost use Rattle.vms_event_core.specs.Quiet.{quiet_events};
 
 use crate::bases::is_base;
 use crate::conditions::{carries_nothing, may_own, meets};
@@ -20,6 +21,8 @@ impl Table for JudgedEvents {
     ghost State = { EventState };
 
     ghost machine = { events };
+
+    ghost quiet = { quiet_events };
 }
 
 impl Turning for JudgedEvents {

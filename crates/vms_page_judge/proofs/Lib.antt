@@ -1,3 +1,2 @@
-pub mod MarkSets
 pub mod StateLaws
 pub mod Beyond

@@ -1,5 +1,5 @@
 -- What one more event of a legal history makes of the numbers of its state.
-use Rattle.std.proofs.Common.{◌≡◌, ℕ, ◌+◌, ◌<◌, List, ◌∷◌, length, get_or, take, refl, sym, ap, ◌∙◌, subst}
+use Rattle.std.proofs.Common.{◌≡◌, ℕ, ◌+◌, ◌<◌, List, ◌∷◌, length, get_or, take, sym, ap, ◌∙◌, subst}
 use Rattle.std.specs.Prelude.{reverse}
 use Rattle.vms_base.specs.Places.{IsCounter, IsZone}
 use Rattle.vms_history.specs.declared.events.Event.{Event}
@@ -7,14 +7,12 @@ use Rattle.vms_history.specs.Passes.{owner_in}
 use Rattle.vms_judge.proofs.Prefixes.{reverse_more, legal_first}
 use Rattle.vms_core.specs.declared.steps.Facts.{Facts}
 use Rattle.vms_core.specs.declared.steps.Step.{Step}
-use Rattle.vms_core.specs.Cells.{HasShape, value_at, system_at, diff_at, mark_at, mark_sets_at, acknowledged_at}
+use Rattle.vms_core.specs.Cells.{value_at, system_at, diff_at, mark_at, mark_sets_at, acknowledged_at}
 use Rattle.vms_core.specs.Effects.{value_after, system_after, diff_after, mark_after, mark_sets_after, acknowledged_after}
+use Rattle.vms_core.specs.NumberChanges.{ChangesNumbers}
 use Rattle.vms_core.specs.Pages.{IsLegal, pages, state_after}
 use Rattle.vms_core.specs.Steps.{turn}
-use Rattle.vms_core.proofs.Effects.{value_at-effect, system_at-effect, diff_at-effect}
-use Rattle.vms_core.proofs.Settings.{mark_at-newest, acknowledged_at-newest}
-use Rattle.vms_core.proofs.Shapes.{HasShape-state_after}
-use Rattle.vms_page_judge.proofs.MarkSets.{mark_sets_at-effect}
+use Rattle.vms_core.proofs.NumberChanges.{numbers-change}
 
 -- event i of a legal history, which is given oldest first
 module _ (facts : Facts) (xs : List (Event Step)) (legal : IsLegal facts (reverse xs)) (i : ℕ) (e : Event Step)
@@ -28,40 +26,31 @@ module _ (facts : Facts) (xs : List (Event Step)) (legal : IsLegal facts (revers
   legal_next : IsLegal facts (e ∷ h)
   legal_next = subst (IsLegal facts) next (legal_first pages facts xs (i + 1) legal)
 
-  shaped : HasShape facts.layout (state_after facts h)
-  shaped = HasShape-state_after facts h legal_next.0
+  changes : ChangesNumbers facts e h
+  changes = numbers-change facts e h legal_next
 
   pub value_at-more : (k : ℕ) → value_at (state_after facts (reverse (take (i + 1) xs))) k
       ≡ value_after k e.step (value_at (state_after facts h) k)
-  value_at-more k =
-      ap (λ h. value_at (state_after facts h) k) next
-      ∙ value_at-effect facts h (state_after facts h) e.caller shaped (owner_in turn h e.caller) e.step k legal_next.2
+  value_at-more k = ap (λ h. value_at (state_after facts h) k) next ∙ changes.values k
 
   pub system_at-more : (k : ℕ) → system_at (state_after facts (reverse (take (i + 1) xs))) k
       ≡ system_after k e.step (system_at (state_after facts h) k)
-  system_at-more k =
-      ap (λ h. system_at (state_after facts h) k) next
-      ∙ system_at-effect facts h (state_after facts h) e.caller shaped (owner_in turn h e.caller) e.step k legal_next.2
+  system_at-more k = ap (λ h. system_at (state_after facts h) k) next ∙ changes.systems k
 
   pub diff_at-more : (c k : ℕ) → IsCounter facts.layout k → diff_at (state_after facts (reverse (take (i + 1) xs))) c k
       ≡ diff_after (owner_in turn h e.caller) c k e.step (diff_at (state_after facts h) c k)
-  diff_at-more c k k_in =
-      ap (λ h. diff_at (state_after facts h) c k) next
-      ∙ diff_at-effect facts h (state_after facts h) e.caller shaped (owner_in turn h e.caller) e.step c k refl
-      legal_next.2 k_in
+  diff_at-more c k k_in = ap (λ h. diff_at (state_after facts h) c k) next ∙ changes.diffs c k k_in
 
   pub mark_at-more : (g : ℕ) → mark_at (state_after facts (reverse (take (i + 1) xs))) g
       ≡ mark_after g e.step (mark_at (state_after facts h) g)
-  mark_at-more g = ap (λ h. mark_at (state_after facts h) g) next ∙ mark_at-newest facts e h legal_next g
+  mark_at-more g = ap (λ h. mark_at (state_after facts h) g) next ∙ changes.marks g
 
   pub mark_sets_at-more : (g : ℕ) → mark_sets_at (state_after facts (reverse (take (i + 1) xs))) g
       ≡ mark_sets_after g e.step (mark_sets_at (state_after facts h) g)
-  mark_sets_at-more g =
-      ap (λ h. mark_sets_at (state_after facts h) g) next
-      ∙ mark_sets_at-effect facts h (state_after facts h) e.caller shaped (owner_in turn h e.caller) e.step g legal_next.2
+  mark_sets_at-more g = ap (λ h. mark_sets_at (state_after facts h) g) next ∙ changes.mark_sets g
 
   pub acknowledged_at-more : (c g : ℕ) → IsZone facts.layout g
       → acknowledged_at (state_after facts (reverse (take (i + 1) xs))) c g
       ≡ acknowledged_after (owner_in turn h e.caller) c g e.step (acknowledged_at (state_after facts h) c g)
   acknowledged_at-more c g g_in =
-      ap (λ h. acknowledged_at (state_after facts h) c g) next ∙ acknowledged_at-newest facts e h legal_next c g g_in
+      ap (λ h. acknowledged_at (state_after facts h) c g) next ∙ changes.acknowledged c g g_in

@@ -1,7 +1,7 @@
 ghost use Rattle.std.specs.Prelude.{◌≡◌, ◌≤◌, ◌<◌, ◌^◌, ◌↔◌, IsTrue, length};
+ghost use Rattle.vms_base.specs.Sizes.{size_at};
 ghost use Rattle.vms_base.specs.Marks.{Covers};
 ghost use Rattle.vms_base.specs.Places.{IsZone};
-ghost use Rattle.vms_core.specs.Bases as bases;
 
 use vms_base::{PlaceId, ZoneSize};
 use vms_core::Facts;
@@ -22,7 +22,7 @@ pub fn covers(size: ZoneSize, mark: u64, hidden: u128) -> bool
 pub fn size_of_zone(facts: &Facts, zone: PlaceId) -> ZoneSize
     requires base { length facts.now.sizes ≡ length facts.now.layout.zones }
     requires zone { IsZone facts.now.layout zone.number }
-    ensures { result ≡ bases.size_at facts.now.sizes zone.number }
+    ensures { result ≡ size_at facts.now.sizes zone.number }
 {
     facts.sizes.get(zone.number as usize)
 }

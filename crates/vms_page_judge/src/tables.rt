@@ -1,5 +1,6 @@
 ghost use Rattle.vms_core.specs.declared.states.State.{State};
 ghost use Rattle.vms_core.specs.Pages.{pages};
+ghost use Rattle.vms_core.specs.Quiet.{quiet_pages};
 
 use crate::bases::is_base;
 use crate::carrying::carries_nothing;
@@ -22,6 +23,8 @@ impl Table for JudgedPages {
     ghost State = { State };
 
     ghost machine = { pages };
+
+    ghost quiet = { quiet_pages };
 }
 
 impl Turning for JudgedPages {

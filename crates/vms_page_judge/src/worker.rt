@@ -1,5 +1,6 @@
 ghost use Rattle.std.specs.Prelude.{◌≡◌, ◌<◌, ◌≤◌, ◌+◌, ◌↔◌, ℕ, true, IsTrue, Some, reverse, unsigned_abs};
 ghost use Rattle.vms_base.specs.Places.{IsGroup, place_of, first_of};
+ghost use Rattle.vms_base.specs.Volumes.{most_volume};
 ghost use Rattle.vms_history.specs.Events.{own};
 ghost use Rattle.vms_core.specs.Bases.{IsBase};
 ghost use Rattle.vms_core.specs.Conditions as conditions;
@@ -79,7 +80,7 @@ fn has_loaded(past: &[Event], caller: u32, place: PlaceId, t: u32) -> bool
 /// Whether a CPU may change a counter by so much more.
 fn is_affordable(past: &[Event], cpu: CpuId, counter: CounterId, delta: i64) -> bool
     ensures { IsTrue result ↔ (totals.spent (reverse past.now) cpu.number counter.number + unsigned_abs delta
-        ≤ conditions.most_volume) }
+        ≤ most_volume) }
 {
     spent(past, cpu, counter) + delta.unsigned_abs() as u128 <= 1 << 48
 }

@@ -29,7 +29,13 @@ added_part part (e ∷ h) c j = part (added_by (owner_in turn h e.caller) c j e.
 
 added-parts : (h : History) (c j : ℕ) → added h c j ≡ added_part rise h c j -ℤ added_part fall h c j
 added-parts [] c j = omega (arith, ints)
-added-parts (e ∷ h) c j = omega (arith, ints, rise-fall (added_by (owner_in turn h e.caller) c j e.step), added-parts h c j)
+added-parts (e ∷ h) c j = omega (
+  arith,
+  ints,
+  rise-fall (added_by (owner_in turn h e.caller) c j e.step),
+  added-parts h
+      c j,
+)
 
 module _ (part : ℤ → ℤ) (least : (x : ℤ) → pos 0 ≤ℤ part x) (none : part (pos 0) ≡ pos 0) where
   added_part-append : (m h : History) (c j : ℕ) → added_part part h c j ≤ℤ added_part part (m ++ h) c j
@@ -38,7 +44,8 @@ module _ (part : ℤ → ℤ) (least : (x : ℤ) → pos 0 ≤ℤ part x) (none 
       omega (arith, ints, least (added_by (owner_in turn (m ++ h) e.caller) c j e.step), added_part-append m h c j)
 
   added_part-grows : (g h : History) (c j : ℕ) → Extends g h → added_part part h c j ≤ℤ added_part part g c j
-  added_part-grows g h c j more = subst (λ es. added_part part h c j ≤ℤ added_part part es c j) (sym more.1) (added_part-append more.0 h c j)
+  added_part-grows g h c j more = subst (λ es. added_part part h c j ≤ℤ added_part part es c j) (sym more.1)
+      (added_part-append more.0 h c j)
 
   no_parts : (f : ℕ → ℤ) (n : ℕ) → ((c : ℕ) → f c ≡ pos 0) → sum_below (λ c. part (f c)) n ≡ pos 0
   no_parts f n zeros = sum_below-zeros (λ c. part (f c)) n (λ c below. ap part (zeros c) ∙ none)
@@ -48,13 +55,20 @@ module _ (part : ℤ → ℤ) (least : (x : ℤ) → pos 0 ≤ℤ part x) (none 
       → ((d : CpuId) → who ≡ Some d → d.number < n)
       → sum_below (λ c. part (added_by who c j step)) n ≤ℤ part (amount_of j carrying step)
   step-parts None n j carrying (AddL i a) within =
-      omega (arith, ints, no_parts (λ c. added_by None c j (AddL i a)) n (λ c. refl), least (amount_of j carrying (AddL i a)))
+      omega (
+        arith,
+        ints,
+        no_parts (λ c. added_by None c j (AddL i a)) n (λ c. refl),
+        least
+            (amount_of j carrying (AddL i a)),
+      )
   step-parts (Some d) n j carrying (AddL i a) within = at (nat_eq i.number j)
     where
       one : (b : Bool) → sum_below (λ c. part (if nat_eq d.number c && b then a else pos 0)) n
           ≡ sum_below (λ c. pos 0) n +ℤ (part (if nat_eq d.number d.number && b then a else pos 0) -ℤ pos 0)
       one b =
-          sum_below-changed (λ c. pos 0) (λ c. part (if nat_eq d.number c && b then a else pos 0)) d.number n (within d refl)
+          sum_below-changed (λ c. pos 0) (λ c. part (if nat_eq d.number c && b then a else pos 0)) d.number n
+          (within d refl)
           (λ c below other.
           ap (λ (t : Bool). part (if t && b then a else pos 0)) (ne_eqb d.number c (λ same. other (sym same))) ∙ none)
 
@@ -64,7 +78,13 @@ module _ (part : ℤ → ℤ) (least : (x : ℤ) → pos 0 ≤ℤ part x) (none 
       at : (b : Bool)
           → sum_below (λ c. part (if nat_eq d.number c && b then a else pos 0)) n ≤ℤ part (if b then a else pos 0)
       at b = omega (arith, ints, one b, here b, sum_below-zeros (λ c. pos 0) n (λ c below. refl))
-  step-parts who n j carrying step within = omega (arith, ints, no_parts (λ c. pos 0) n (λ c. refl), least (amount_of j carrying step))
+  step-parts who n j carrying step within = omega (
+    arith,
+    ints,
+    no_parts (λ c. pos 0) n (λ c. refl),
+    least
+        (amount_of j carrying step),
+  )
 
   -- since the lock was won, while p makes only loads
   parts-below : (facts : PcpuFacts) (m won : History) (p j : ℕ) → IsLegal facts (m ++ won) → AreLoads (own m p)
@@ -72,7 +92,8 @@ module _ (part : ℤ → ℤ) (least : (x : ℤ) → pos 0 ≤ℤ part x) (none 
       ≤ℤ by_others_between part p j won (m ++ won)
   parts-below facts [] won p j legal own_are =
       let zeros =
-      sum_below-zeros (λ c. added_part part won c j -ℤ added_part part won c j) facts.layout.cpus (λ c below. omega (arith, ints)) in
+      sum_below-zeros (λ c. added_part part won c j -ℤ added_part part won c j) facts.layout.cpus
+      (λ c below. omega (arith, ints)) in
       omega (arith, ints, zeros)
   parts-below facts (e ∷ m) won p j legal own_are =
       let g : History = m ++ won in
@@ -80,7 +101,8 @@ module _ (part : ℤ → ℤ) (least : (x : ℤ) → pos 0 ≤ℤ part x) (none 
       let before = loads-before e m p own_are in
       let rest = parts-below facts m won p j legal.0 before.1 in
       let two =
-      sum_below-sum (λ c. part (added_by who c j e.step)) (λ c. added_part part g c j -ℤ added_part part won c j) facts.layout.cpus in
+      sum_below-sum (λ c. part (added_by who c j e.step)) (λ c. added_part part g c j -ℤ added_part part won c j)
+      facts.layout.cpus in
       let same =
       sum_below-le (λ c. added_part part (e ∷ g) c j -ℤ added_part part won c j)
       (λ c. part (added_by who c j e.step) +ℤ (added_part part g c j -ℤ added_part part won c j)) facts.layout.cpus
@@ -99,21 +121,30 @@ module _ (part : ℤ → ℤ) (least : (x : ℤ) → pos 0 ≤ℤ part x) (none 
           → sum_below (λ c. part (added_by who c j e.step)) facts.layout.cpus
           ≤ℤ (if b then pos 0 else part (amount_of j carrying e.step))
       by true who carrying load within =
-          omega (arith, ints, no_parts (λ c. added_by who c j e.step) facts.layout.cpus (load-parts e.step who (load refl)))
+          omega (
+            arith,
+            ints,
+            no_parts (λ c. added_by who c j e.step) facts.layout.cpus
+                (load-parts e.step who (load refl)),
+          )
       by false who carrying load within = step-parts who facts.layout.cpus j carrying e.step within
 
 -- the local parts that are found since the lock was won have moved by what others added up and down in all
-module _ (facts : PcpuFacts) (m won : History) (between : ℕ → History) (p j : ℕ) (legal : IsLegal facts (m ++ won)) (own_are : AreLoads (own m p))
+module _ (facts : PcpuFacts) (m won : History)
+    (between : ℕ → History) (p j : ℕ) (legal : IsLegal facts (m ++ won)) (own_are : AreLoads (own m p))
     (kept : (c : ℕ) → IsCpu facts.layout c → Extends (m ++ won) (between c ++ won)) where
   since-parts : (c : ℕ)
       → added_since (between c) won c j
-      ≡ (added_part rise (between c ++ won) c j -ℤ added_part rise won c j) -ℤ (added_part fall (between c ++ won) c j -ℤ added_part fall won c j)
+      ≡ (added_part rise (between c ++ won) c j -ℤ added_part rise won c j) -ℤ
+      (added_part fall (between c ++ won) c j -ℤ added_part fall won c j)
   since-parts c = omega (arith, ints, added-parts (between c ++ won) c j, added-parts won c j)
 
-  pub added-most : sum_below (λ c. added_since (between c) won c j) facts.layout.cpus ≤ℤ by_others_between rise p j won (m ++ won)
+  pub added-most : sum_below (λ c. added_since (between c) won c j) facts.layout.cpus ≤ℤ by_others_between rise p j won
+      (m ++ won)
   added-most =
       let each =
-      sum_below-le (λ c. added_since (between c) won c j) (λ c. added_part rise (m ++ won) c j -ℤ added_part rise won c j) facts.layout.cpus
+      sum_below-le (λ c. added_since (between c) won c j) (λ c. added_part rise (m ++ won) c j -ℤ added_part rise won c
+      j) facts.layout.cpus
       (λ c below.
       omega (
         arith,
@@ -124,11 +155,13 @@ module _ (facts : PcpuFacts) (m won : History) (between : ℕ → History) (p j 
       )) in
       omega (arith, ints, each, parts-below rise rise-least refl facts m won p j legal own_are)
 
-  pub added-least : pos 0 ≤ℤ (sum_below (λ c. added_since (between c) won c j) facts.layout.cpus +ℤ by_others_between fall p j won (m ++ won))
+  pub added-least : pos 0 ≤ℤ (sum_below (λ c. added_since (between c) won c j) facts.layout.cpus +ℤ by_others_between
+      fall p j won (m ++ won))
   added-least =
       let each =
       sum_below-le (λ c. pos 0)
-      (λ c. added_since (between c) won c j +ℤ (added_part fall (m ++ won) c j -ℤ added_part fall won c j)) facts.layout.cpus
+      (λ c. added_since (between c) won c j +ℤ (added_part fall (m ++ won) c j -ℤ added_part fall won c j))
+      facts.layout.cpus
       (λ c below.
       omega (
         arith,
@@ -138,7 +171,8 @@ module _ (facts : PcpuFacts) (m won : History) (between : ℕ → History) (p j 
         added_part-grows rise rise-least refl (between c ++ won) won c j (between c, refl),
       )) in
       let two =
-      sum_below-sum (λ c. added_since (between c) won c j) (λ c. added_part fall (m ++ won) c j -ℤ added_part fall won c j) facts.layout.cpus in
+      sum_below-sum (λ c. added_since (between c) won c j) (λ c. added_part fall (m ++ won) c j -ℤ added_part fall won c
+      j) facts.layout.cpus in
       omega (
         arith,
         ints,

@@ -1,4 +1,4 @@
--- A limited addition of a caller that is alone with the counter is exact.
+-- For other crates too: a limited addition of a caller that is alone with the counter is exact.
 use Rattle.std.proofs.Common.{◌≡◌, ◌≢◌, ℕ, suc, Bool, true, false, true≢false, List, [], ◌∷◌, ◌++◌, length, length-append, ◌+◌, Some, ℤ, pos, ◌+ℤ◌, ◌-ℤ◌, ◌≤ℤ◌, ◌<ℤ◌, refl, sym, ap, subst, ◌∙◌, if◌then◌else◌, nat_eq, arith}
 use Rattle.std.proofs.lemmas.Int.{ints}
 use Rattle.std.proofs.lemmas.Bool.{eqb-false}
@@ -24,14 +24,17 @@ use Rattle.vms_pcpu_core.proofs.LimitedAdds.{limited-says}
 use Rattle.vms_pcpu_core.proofs.Saying.{SaysYes, SaysNo, Says}
 use Rattle.vms_pcpu_core.proofs.OtherChanges.{by_self, by_self-others, true_total-between}
 
-module _ (earlier later : History) (p j : ℕ) (alone : IsAlone earlier later p j) (part : ℤ → ℤ) (none : part (pos 0) ≡ pos 0) where
+module _ (earlier later : History) (p j : ℕ) (alone : IsAlone earlier later p j)
+    (part : ℤ → ℤ) (none : part (pos 0) ≡ pos 0) where
   alone-append : (m h : History) → Extends h earlier → Extends later (m ++ h)
       → by_others part p j (m ++ h) ≡ by_others part p j h
   alone-append [] h since kept = refl
   alone-append (e ∷ m) h since kept =
       let below : Extends later (m ++ h) = Extends-both later (e ∷ (m ++ h)) (m ++ h) kept (e ∷ [], refl) in
-      let here : (if nat_eq e.caller p then pos 0 else part (amount_of j (carried j (own (m ++ h) e.caller)) e.step)) ≡ pos 0 =
-      by (nat_eq e.caller p) refl (λ other. alone.adds e (m ++ h) (Extends-both (m ++ h) h earlier (m, refl) since) kept other) in
+      let here : (if nat_eq e.caller p then pos 0 else part (amount_of j (carried j (own (m ++ h) e.caller))
+      e.step)) ≡ pos 0 =
+      by (nat_eq e.caller p) refl (λ other. alone.adds e (m ++ h) (Extends-both (m ++ h) h earlier (m, refl) since) kept
+      other) in
       omega (arith, ints, here, alone-append m h since below)
     where
       by : (b : Bool) → nat_eq e.caller p ≡ b
@@ -49,13 +52,15 @@ module _ (earlier later : History) (p j : ℕ) (alone : IsAlone earlier later p 
 
   pub alone-carries : (h : History) → Extends h earlier → Extends later h → carried_by_others part p j h ≡ pos 0
   alone-carries h since kept =
-      sum_below-zeros (λ q. if nat_eq q p then pos 0 else part (carried j (own h q))) (suc (begun_in turn h)) (λ q below. by (nat_eq q p) q refl)
+      sum_below-zeros (λ q. if nat_eq q p then pos 0 else part (carried j (own h q))) (suc (begun_in turn h))
+      (λ q below. by (nat_eq q p) q refl)
     where
       by : (b : Bool) (q : ℕ) → nat_eq q p ≡ b → (if b then pos 0 else part (carried j (own h q))) ≡ pos 0
       by true q same = refl
       by false q other = ap part (alone.carries h since kept q (eqb-false q p other)) ∙ none
 
-module _ (facts : PcpuFacts) (earlier later : History) (p : ℕ) (j : PcpuId) (limit amount : ℤ) (alone : IsAlone earlier later p j.number)
+module _ (facts : PcpuFacts) (earlier later : History) (p : ℕ) (j : PcpuId) (limit amount : ℤ)
+    (alone : IsAlone earlier later p j.number)
     (more : Extends later earlier) where
   -- the true total moves by what p adds
   alone-total : (g h : History) → Extends h earlier → Extends g h → Extends later g
@@ -70,7 +75,8 @@ module _ (facts : PcpuFacts) (earlier later : History) (p : ℕ) (j : PcpuId) (l
       )
 
   last-total : (answer : Bool) (says : Says facts earlier later p j limit amount answer)
-      → true_total facts later j.number ≡ true_total facts earlier j.number +ℤ (by_self p j.number says.end -ℤ by_self p j.number earlier)
+      → true_total facts later j.number ≡ true_total facts earlier j.number +ℤ
+      (by_self p j.number says.end -ℤ by_self p j.number earlier)
   last-total answer says =
       let same = by_self-others p j.number says.kept.0 says.end says.none_since in
       let whole = ap (by_self p j.number) says.kept.1 in
@@ -114,11 +120,13 @@ module _ (facts : PcpuFacts) (earlier later : History) (p : ℕ) (j : PcpuId) (l
       let total = alone-total passes.won earlier (Extends-same earlier) no_says.won_on no_says.won_kept in
       let last_on : Extends passes.last passes.won = passes.reads.since in
       let last_kept : Extends later passes.last =
-      Extends-both later (event p passes.reading ∷ passes.last) passes.last passes.reads.kept (event p passes.reading ∷ [], refl) in
+      Extends-both later (event p passes.reading ∷ passes.last) passes.last passes.reads.kept
+      (event p passes.reading ∷ [], refl) in
       let rises =
       alone-changes earlier later p j.number alone rise refl passes.last passes.won no_says.won_on last_on
       last_kept in
-      let falls = alone-changes earlier later p j.number alone fall refl passes.last passes.won no_says.won_on last_on last_kept in (
+      let falls = alone-changes earlier later p j.number alone fall refl passes.last passes.won no_says.won_on last_on
+      last_kept in (
         λ up. let bound = passes.most up in omega (arith, ints, no_says.own_won),
         λ down. let bound = passes.least down in omega (arith, ints, no_says.own_won),
       )
@@ -126,7 +134,8 @@ module _ (facts : PcpuFacts) (earlier later : History) (p : ℕ) (j : PcpuId) (l
 pub limited-exact : (facts : PcpuFacts) (earlier later : History) (p : ℕ) (cpu : CpuId) (j : PcpuId) (limit amount : ℤ)
     (steps : List PcpuStep) (answer : Bool) → MadeSteps facts earlier later p steps → owner_in turn later p ≡ Some cpu
     → carried j.number (own earlier p) ≡ pos 0 → IsAlone earlier later p j.number → amount ≢ pos 0
-    → IsLimitedAdd (batch_at facts.base j.number) (unknown facts j.number) (present_cpus facts) cpu j limit amount steps answer
+    → IsLimitedAdd (batch_at facts.base j.number) (unknown facts j.number) (present_cpus facts) cpu j limit amount steps
+    answer
     → IsExact facts earlier later j.number limit amount answer
 limited-exact facts earlier later p cpu j limit amount steps answer calls owner nothing_carried alone some is =
     by answer (limited-says facts earlier later p cpu j limit amount steps answer calls owner nothing_carried is)
@@ -186,7 +195,8 @@ module _ (earlier later : History) (p j : ℕ) (others_rest : (q : ℕ) → q �
         carries =
             λ h since kept q other.
             let made = made-then h q other since kept in
-            ap (λ es. carried j (own es q)) since.1 ∙ ap (carried j) (own-append since.0 earlier q ∙ ap (λ es. es ++ own earlier q) made.1)
+            ap (λ es. carried j (own es q)) since.1
+            ∙ ap (carried j) (own-append since.0 earlier q ∙ ap (λ es. es ++ own earlier q) made.1)
             ∙ others_carry q other;
       }
     where

@@ -1,4 +1,4 @@
--- The steps of a call, where they stand in a history.
+-- For other crates too: the steps of a call, where they stand in a history.
 use Rattle.std.proofs.Common.{◌≡◌, ℕ, List, [], ◌∷◌, ◌++◌, refl, sym, ap, ◌∙◌, append-nil}
 use Rattle.vms_base.specs.declared.ids.PcpuId.{PcpuId}
 use Rattle.vms_history.specs.Events.{Extends, own, after}

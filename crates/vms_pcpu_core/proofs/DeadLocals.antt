@@ -1,4 +1,4 @@
--- The local part of a dead CPU moves once.
+-- For other crates too: the local part of a dead CPU moves once.
 use Rattle.std.proofs.Common.{◌≡◌, ◌≢◌, ℕ, suc, ◌&&◌, Bool, true, false, [], ◌∷◌, Option, Some, None, ℤ, pos, ◌+ℤ◌, unsigned_abs, refl, sym, ap, ◌∙◌, arith, ◌⊎◌, inl, inr, if◌then◌else◌, nat_eq, eqb-true}
 use Rattle.std.proofs.lemmas.Int.{ints}
 use Rattle.std.proofs.lemmas.Bool.{and_parts, eqb-false}
@@ -54,6 +54,24 @@ module _ (facts : PcpuFacts) (h : History) (s : LockedState) (p c j : ℕ) (was 
       rw others (TakenOnce-left was (local_at s.numbers c j) taken takings before)
   TakenOnce-step who _ meets others = TakenOnce-left was (local_at s.numbers c j) taken takings before
 
+-- no pass owns a dead CPU
+pub dead-owned : (facts : PcpuFacts) (h : History) (p c : ℕ) → IsLegal facts h → cpu_at facts c ≡ Dead
+    → is_owned (owner_in turn h p) c ≡ false
+dead-owned facts h p c legal dead = by_owner (owner_in turn h p) refl
+  where
+    apart : {x : CpuState} → x ≡ Online → x ≡ Dead → ⊥
+    apart online dead = cc
+
+    by_owner : (who : Option CpuId) → owner_in turn h p ≡ who → is_owned who c ≡ false
+    by_owner None is = refl
+    by_owner (Some d) is = by (nat_eq d.number c) refl
+      where
+        by : (b : Bool) → nat_eq d.number c ≡ b → b ≡ false
+        by true same =
+            let online : cpu_at facts d.number ≡ Online = (owner_may_own percpu facts h p d legal is).1 in
+            absurd (apart (ap (cpu_at facts) (sym (eqb-true d.number c same)) ∙ online) dead)
+        by false other = refl
+
 TakenOnce-history : (facts : PcpuFacts) (h : History) → IsLegal facts h → (c j : ℕ) → IsPcpu facts j
     → cpu_at facts c ≡ Dead
     → TakenOnce (local_at facts.base c j) (local_at (numbers_after facts h) c j) (total (taken_by c j) h)
@@ -66,20 +84,7 @@ TakenOnce-history facts (e ∷ h) legal c j j_in dead =
     local_at-effect facts h s e.caller (HasShape-state_after facts h legal.0) who e.step c j
     (λ d is. owned facts h e.caller d legal.0 is) legal.2 j_in in
     rw after (TakenOnce-step facts h s e.caller c j (local_at facts.base c j) (total (taken_by c j) h) (takings c j h)
-    (TakenOnce-history facts h legal.0 c j j_in dead) who e.step legal.2 (not_owned who refl))
-  where
-    apart : {x : CpuState} → x ≡ Online → x ≡ Dead → ⊥
-    apart online dead = cc
-
-    not_owned : (who : Option CpuId) → owner_in turn h e.caller ≡ who → is_owned who c ≡ false
-    not_owned None is = refl
-    not_owned (Some d) is = by (nat_eq d.number c) refl
-      where
-        by : (b : Bool) → nat_eq d.number c ≡ b → b ≡ false
-        by true same =
-            let online : cpu_at facts d.number ≡ Online = (owner_may_own percpu facts h e.caller d legal.0 is).1 in
-            absurd (apart (ap (cpu_at facts) (sym (eqb-true d.number c same)) ∙ online) dead)
-        by false other = refl
+    (TakenOnce-history facts h legal.0 c j j_in dead) who e.step legal.2 (dead-owned facts h e.caller c legal.0 dead))
 
 pub dead-moves_once : (facts : PcpuFacts) (h : History) → IsLegal facts h → (c j : ℕ) → IsCpu facts.layout c
     → IsPcpu facts j

@@ -1,4 +1,4 @@
--- The shared part alone is off from the true total by little.
+-- For other crates too: the shared part alone is off from the true total by little.
 use Rattle.std.proofs.Common.{◌≡◌, ℕ, zero, suc, ◌+◌, ◌*◌, ◌<◌, ◌≤◌, true, List, length, take, get_or, ℤ, pos, ◌≤ℤ◌, unsigned_abs, refl, ap, arith}
 use Rattle.std.specs.List.{count_by}
 use Rattle.std.proofs.lemmas.Int.{ints}

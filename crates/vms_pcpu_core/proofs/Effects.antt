@@ -1,4 +1,4 @@
--- What a step that meets its condition makes of the numbers and locks of a state.
+-- For other crates too: what a step that meets its condition makes of the numbers and locks of a state.
 use Rattle.std.proofs.Common.{◌≡◌, ℕ, ◌*◌, true, false, List, length, Option, Some, None, ℤ, pos, ◌+ℤ◌, refl, ap, ◌∙◌, length-set}
 use Rattle.vms_base.specs.declared.ids.CpuId.{CpuId}
 use Rattle.vms_base.specs.declared.ids.PcpuId.{PcpuId}

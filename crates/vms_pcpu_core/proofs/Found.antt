@@ -48,7 +48,8 @@ pub sum_below-listed : (f : ℕ → ℤ) (n m : ℕ) (xs : List CpuState) → m 
 sum_below-listed f n m [] is none = let same : m ≡ n = omega arith in rw same (omega (arith, ints))
 sum_below-listed f n m (x ∷ xs) is none =
     let rest =
-    sum_below-listed f (suc n) m xs (omega arith) (λ i c at below absent. none (suc i) c (omega arith) (omega arith) absent) in
+    sum_below-listed f (suc n) m xs (omega arith) (λ i c at below absent. none (suc i) c (omega arith) (omega arith)
+    absent) in
     omega (arith, ints, rest, here x (none 0 n (omega arith) (omega arith)))
   where
     here : (y : CpuState) → (y ≡ Absent → f n ≡ pos 0) → (if is_present y then f n else pos 0) ≡ f n
@@ -128,9 +129,11 @@ module _ (facts : PcpuFacts) (p : ℕ) (j : PcpuId) (won g : History) (legal : I
             let value : local_at (numbers_after facts (before ++ won)) n j.number ≡ d =
             (legal-earlier facts g (e ∷ (before ++ won)) legal later).2.value in
             let at_first : f n ≡ d = ap (λ es. local_at (numbers_after facts (es ++ won)) n j.number) at_n ∙ value in
-            let at_rest : listed f (suc n) xs ≡ listed (λ k. local_at (numbers_after facts (tail.between k ++ won)) k j.number) (suc n) xs =
+            let at_rest : listed f (suc n) xs ≡ listed (λ k. local_at (numbers_after facts (tail.between k ++ won)) k
+            j.number) (suc n) xs =
             listed-same f (λ k. local_at (numbers_after facts (tail.between k ++ won)) k j.number) (suc n) xs
-            (λ k above. ap (λ es. local_at (numbers_after facts (es ++ won)) k j.number) (others_are k (omega arith))) in
+            (λ k above. ap (λ es. local_at (numbers_after facts (es ++ won)) k j.number) (others_are k (omega arith)))
+            in
             let at_here : (if is_present x then f n else pos 0) ≡ f n = rw here refl in
             omega (arith, ints, tail.total, at_first, at_rest, at_here);
       }
@@ -163,7 +166,8 @@ module _ (facts : PcpuFacts) (p : ℕ) (j : PcpuId) (won g : History) (legal : I
             at-next (λ k. (v : ℤ) × Extends g (event p (LoadL j (record { number = k }) v) ∷ (rest.between k ++ won)))
             n Absent xs true (λ present. absurd (true≢false (sym present))) rest.loads;
         below = λ c c_below. rest.below c (omega arith);
-        no_load = at-next (λ k. rest.between k ≡ []) n Absent xs false (λ absent. rest.below n (omega arith)) rest.no_load;
+        no_load = at-next (λ k. rest.between k ≡ []) n Absent xs false (λ absent. rest.below n (omega arith))
+            rest.no_load;
         total = omega (arith, ints, rest.total);
       }
   found-loads (Online ∷ xs) n m loads sum own_are each run =

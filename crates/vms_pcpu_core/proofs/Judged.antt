@@ -52,11 +52,13 @@ pub loads-each : (j : PcpuId) (cpus : List CpuId) (loads : List PcpuStep) (sum :
 loads-each j cpus loads sum no_cpu = tt
 loads-each j cpus loads sum (one_cpu c d others steps rest each) = (tt, loads-each j others steps rest each)
 
-pub judges-loads : (unknown : ℕ) (limit : ℤ) (cpus : List CpuId) (j : PcpuId) (amount value : ℤ) (loads : List PcpuStep) (answer : Bool)
+pub judges-loads : (unknown : ℕ) (limit : ℤ) (cpus : List CpuId) (j : PcpuId) (amount value : ℤ) (loads : List PcpuStep)
+    (answer : Bool)
     → Judges unknown limit cpus j amount value loads answer → LoadSteps loads
 judges-loads unknown limit cpus j amount value loads answer (beyond out) = tt
 judges-loads unknown limit cpus j amount value loads answer (inside fits) = tt
-judges-loads unknown limit cpus j amount value loads answer (close steps sum out fits each) = loads-each j cpus steps sum each
+judges-loads unknown limit cpus j amount value loads answer (close steps sum out fits each) = loads-each j cpus steps
+    sum each
 
 -- from the winning of a lock on, by p
 module _ (facts : PcpuFacts) (p : ℕ) (j : PcpuId) (free : History) where
@@ -122,7 +124,8 @@ module _ (facts : PcpuFacts) (p : ℕ) (j : PcpuId) (free : History) where
       let since : Extends last.1 winning = last.3 in
       let top : own (e ∷ since.0) p ≡ after p (LoadC j v ∷ loads) [] =
       own-on_top (e ∷ since.0) winning p (LoadC j v ∷ loads)
-      (ap (λ es. own (e ∷ es) p) (sym since.1) ∙ ap (λ es. own es p) (sym last.2) ∙ run-own p (LoadC j v ∷ loads) winning g run) in
+      (ap (λ es. own (e ∷ es) p) (sym since.1) ∙ ap (λ es. own es p) (sym last.2)
+      ∙ run-own p (LoadC j v ∷ loads) winning g run) in
       let all : AreLoads (own (e ∷ since.0) p) =
       subst AreLoads (sym top) (own-loads p j.number loads (event p (LoadC j v) ∷ []) are (tt, tt)) in
       let parts = loads-before e since.0 p all in
@@ -149,12 +152,17 @@ module _ (facts : PcpuFacts) (p : ℕ) (j : PcpuId) (free : History) where
       let legal_last : IsLegal facts (m ++ winning) =
       subst (IsLegal facts) is (legal-earlier facts g read.last legal (e ∷ [], read.is)) in
       let kept : (c : ℕ) → IsCpu facts.layout c → Extends (m ++ winning) (parts.between c ++ winning) =
-      λ c c_in. subst (λ es. Extends es (parts.between c ++ winning)) is (by (is_present (cpu_at facts c)) c c_in refl) in
+      λ c c_in. subst (λ es. Extends es (parts.between c ++ winning)) is (by (is_present (cpu_at facts c)) c c_in refl)
+      in
       let most = added-most facts m winning parts.between p j.number legal_last read.own_are kept in
       let least = added-least facts m winning parts.between p j.number legal_last read.own_are kept in
       let rises = ap (by_others rise p j.number) is in
       let falls = ap (by_others fall p j.number) is in
-      record { most = omega (arith, ints, parts.total, most, rises); least = omega (arith, ints, parts.total, least, falls) }
+      record {
+        most = omega (arith, ints, parts.total, most, rises);
+        least = omega
+            (arith, ints, parts.total, least, falls);
+      }
     where
       by : (b : Bool) (c : ℕ) → IsCpu facts.layout c → is_present (cpu_at facts c) ≡ b
           → Extends read.last (parts.between c ++ winning)
@@ -162,8 +170,10 @@ module _ (facts : PcpuFacts) (p : ℕ) (j : PcpuId) (free : History) where
           let load = parts.loads c c_in present in
           Extends-below (event p read.reading) (event p (LoadL j (record { number = c }) load.0))
           read.last (parts.between c ++ winning)
-          (subst (λ es. Extends es (event p (LoadL j (record { number = c }) load.0) ∷ (parts.between c ++ winning))) read.is load.1)
-      by false c c_in absent = subst (λ es. Extends read.last (es ++ winning)) (sym (parts.no_load c c_in absent)) read.since
+          (subst (λ es. Extends es (event p (LoadL j (record { number = c }) load.0) ∷ (parts.between c ++ winning)))
+          read.is load.1)
+      by false c c_in absent = subst (λ es. Extends read.last (es ++ winning)) (sym (parts.no_load c c_in absent))
+          read.since
 
   -- what a yes and a no know of the true total when the lock was won
   pub record Knows (limit amount : ℤ) (last : History) (answer : Bool) : Type 0 where
@@ -233,12 +243,14 @@ module _ (facts : PcpuFacts) (p : ℕ) (j : PcpuId) (free : History) where
       let is : g ≡ event p (LoadC j v) ∷ (run.0 ++ winning) = run.2 in
       let same : run.0 ++ winning ≡ read.last = let there = read.is in cc in
       subst (λ es. Knows limit amount es false) same
-      (rough-knows limit amount v false run.0 run.1 (subst (IsLegal facts) is legal) (λ never. absurd (true≢false (sym never))) (λ so. out))
+      (rough-knows limit amount v false run.0 run.1 (subst (IsLegal facts) is legal)
+      (λ never. absurd (true≢false (sym never))) (λ so. out))
   judged limit amount v answer loads g read legal run (inside fits) =
       let is : g ≡ event p (LoadC j v) ∷ (run.0 ++ winning) = run.2 in
       let same : run.0 ++ winning ≡ read.last = let there = read.is in cc in
       subst (λ es. Knows limit amount es true) same
-      (rough-knows limit amount v true run.0 run.1 (subst (IsLegal facts) is legal) (λ so. fits) (λ never. absurd (true≢false never)))
+      (rough-knows limit amount v true run.0 run.1 (subst (IsLegal facts) is legal) (λ so. fits)
+      (λ never. absurd (true≢false never)))
   judged limit amount v answer loads g read legal run (close steps sum out fits each) =
       sum-knows limit amount v sum read.last
       (summed-near g (v +ℤ sum) read legal (sums-up facts p j free g v sum steps legal each run))

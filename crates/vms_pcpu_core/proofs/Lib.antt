@@ -22,3 +22,11 @@ pub mod WithoutLock
 pub mod UnderLock
 pub mod LimitedAdds
 pub mod Alone
+pub mod OwnSteps
+pub mod ByCaller
+pub mod BaseAgain
+pub mod AllLaws
+pub mod FoldedCpus
+pub mod SumSizes
+pub mod MayMake
+pub mod MadeCalls

@@ -1,4 +1,4 @@
--- A limited addition keeps its limit, but for what others change and carry.
+-- For other crates too: a limited addition keeps its limit, but for what others change and carry.
 use Rattle.std.proofs.Common.{◌≡◌, ◌≢◌, ℕ, Bool, true, false, true≢false, List, [], ◌∷◌, ◌++◌, Some, ℤ, pos, ◌+ℤ◌, refl, sym, ◌∙◌}
 use Rattle.vms_base.specs.declared.ids.CpuId.{CpuId}
 use Rattle.vms_base.specs.declared.ids.PcpuId.{PcpuId}
@@ -25,7 +25,8 @@ use Rattle.vms_pcpu_core.proofs.UnderLock.{locked-keeps, locked-passes}
 pub limited-says : (facts : PcpuFacts) (earlier later : History) (p : ℕ) (cpu : CpuId) (j : PcpuId) (limit amount : ℤ)
     (steps : List PcpuStep) (answer : Bool) → MadeSteps facts earlier later p steps → owner_in turn later p ≡ Some cpu
     → carried j.number (own earlier p) ≡ pos 0
-    → IsLimitedAdd (batch_at facts.base j.number) (unknown facts j.number) (present_cpus facts) cpu j limit amount steps answer
+    → IsLimitedAdd (batch_at facts.base j.number) (unknown facts j.number) (present_cpus facts) cpu j limit amount steps
+    answer
     → Says facts earlier later p j limit amount answer
 limited-says facts earlier later p cpu j limit amount steps answer calls owner nothing_carried (nothing none) =
     let ran = call-ran facts earlier later p [] calls in
@@ -36,7 +37,8 @@ limited-says facts earlier later p cpu j limit amount steps answer calls owner n
       on_yes = λ is some. absurd (some none);
       on_no = λ is. absurd (true≢false is);
     }
-limited-says facts earlier later p cpu j limit amount steps answer calls owner nothing_carried (unlocked l v other fits enough) =
+limited-says facts earlier later p cpu j limit amount steps answer calls owner nothing_carried
+    (unlocked l v other fits enough) =
     let ran = call-ran facts earlier later p (LoadL j cpu l ∷ LoadC j v ∷ AddL j amount ∷ []) calls in
     record {
       end = ran.end;
@@ -44,12 +46,14 @@ limited-says facts earlier later p cpu j limit amount steps answer calls owner n
       none_since = ran.none_since;
       on_yes =
           λ is some.
-          unlocked-keeps facts earlier later p cpu j limit amount calls.legal owner nothing_carried l v ran.end fits enough ran.run ran.kept;
+          unlocked-keeps facts earlier later p cpu j limit amount calls.legal owner nothing_carried l v ran.end fits
+          enough ran.run ran.kept;
       on_no = λ is. absurd (true≢false is);
     }
 limited-says facts earlier later p cpu j limit amount steps answer calls owner nothing_carried
     (locked v verdict probing locking loads ending other probes locks judges settles) =
-    by verdict ending judges settles calls.made (call-ran facts earlier later p (probing ++ locking ++ LoadC j v ∷ (loads ++ ending)) calls)
+    by verdict ending judges settles calls.made (call-ran facts earlier later p
+    (probing ++ locking ++ LoadC j v ∷ (loads ++ ending)) calls)
   where
     by : (verdict : Bool) (ending : List PcpuStep)
         → Judges (unknown facts j.number) limit (present_cpus facts) j amount (v +ℤ amount) loads verdict
@@ -64,7 +68,8 @@ limited-says facts earlier later p cpu j limit amount steps answer calls owner n
           none_since = ran.none_since;
           on_yes =
               λ is some.
-              locked-keeps facts earlier later p cpu j limit amount calls.legal owner nothing_carried v u probing locking loads ran.end
+              locked-keeps facts earlier later p cpu j limit amount calls.legal owner nothing_carried v u probing
+              locking loads ran.end
               probes locks judges ran.run ran.kept;
           on_no = λ is. absurd (true≢false is);
         }
@@ -76,23 +81,31 @@ limited-says facts earlier later p cpu j limit amount steps answer calls owner n
           on_yes = λ is some. absurd (true≢false (sym is));
           on_no =
               λ is.
-              locked-passes facts earlier later p cpu j limit amount calls.legal owner nothing_carried v probing locking loads ran.end
+              locked-passes facts earlier later p cpu j limit amount calls.legal owner nothing_carried v probing locking
+              loads ran.end
               probes locks judges ran.run
-              (made ∙ sym (run-own p (probing ++ locking ++ LoadC j v ∷ (loads ++ Unlock j ∷ [])) earlier ran.end ran.run)) ran.kept;
+              (made ∙ sym (run-own p (probing ++ locking ++ LoadC j v ∷ (loads ++ Unlock j ∷ [])) earlier ran.end
+              ran.run)) ran.kept;
         }
 
-pub limited-yes : (facts : PcpuFacts) (earlier later : History) (p : ℕ) (cpu : CpuId) (j : PcpuId) (limit amount : ℤ) (steps : List PcpuStep)
+pub limited-yes : (facts : PcpuFacts) (earlier later : History) (p : ℕ) (cpu : CpuId) (j : PcpuId) (limit amount : ℤ)
+    (steps : List PcpuStep)
     → MadeSteps facts earlier later p steps → owner_in turn later p ≡ Some cpu
     → carried j.number (own earlier p) ≡ pos 0 → amount ≢ pos 0
-    → IsLimitedAdd (batch_at facts.base j.number) (unknown facts j.number) (present_cpus facts) cpu j limit amount steps true
+    → IsLimitedAdd (batch_at facts.base j.number) (unknown facts j.number) (present_cpus facts) cpu j limit amount steps
+    true
     → KeepsLimit facts earlier later p j limit amount
 limited-yes facts earlier later p cpu j limit amount steps calls owner nothing_carried some is =
-    ((limited-says facts earlier later p cpu j limit amount steps true calls owner nothing_carried is).on_yes refl some).keeps
+    ((limited-says facts earlier later p cpu j limit amount steps true calls owner nothing_carried is).on_yes refl
+    some).keeps
 
-pub limited-no : (facts : PcpuFacts) (earlier later : History) (p : ℕ) (cpu : CpuId) (j : PcpuId) (limit amount : ℤ) (steps : List PcpuStep)
+pub limited-no : (facts : PcpuFacts) (earlier later : History) (p : ℕ) (cpu : CpuId) (j : PcpuId) (limit amount : ℤ)
+    (steps : List PcpuStep)
     → MadeSteps facts earlier later p steps → owner_in turn later p ≡ Some cpu
     → carried j.number (own earlier p) ≡ pos 0
-    → IsLimitedAdd (batch_at facts.base j.number) (unknown facts j.number) (present_cpus facts) cpu j limit amount steps false
+    → IsLimitedAdd (batch_at facts.base j.number) (unknown facts j.number) (present_cpus facts) cpu j limit amount steps
+    false
     → PassesLimit facts earlier later p j limit amount
 limited-no facts earlier later p cpu j limit amount steps calls owner nothing_carried is =
-    ((limited-says facts earlier later p cpu j limit amount steps false calls owner nothing_carried is).on_no refl).passes
+    ((limited-says facts earlier later p cpu j limit amount steps false calls owner nothing_carried is).on_no
+    refl).passes

@@ -57,7 +57,8 @@ locals-moved facts h c j a legal j_in c_in online within =
 
     at_most : (b : Bool) (k : ℕ) → nat_eq k c ≡ b
         → unsigned_abs (local_at (numbers_after facts h) k j) ≤ batch_at facts.base j
-        → pos (unsigned_abs (if b then local_at (numbers_after facts h) k j +ℤ a else local_at (numbers_after facts h) k j))
+        → pos (unsigned_abs (if b then local_at (numbers_after facts h) k j +ℤ a else local_at (numbers_after facts h) k
+        j))
         ≤ℤ pos (batch_at facts.base j)
     at_most true k same below =
         let is : k ≡ c = eqb-true k c same in
@@ -67,7 +68,8 @@ locals-moved facts h c j a legal j_in c_in online within =
 
     at_none : (b : Bool) (k : ℕ) → nat_eq k c ≡ b → get_or facts.cpus k Absent ≡ Absent
         → local_at (numbers_after facts h) k j ≡ pos 0
-        → pos (unsigned_abs (if b then local_at (numbers_after facts h) k j +ℤ a else local_at (numbers_after facts h) k j)) ≤ℤ pos 0
+        → pos (unsigned_abs (if b then local_at (numbers_after facts h) k j +ℤ a else local_at (numbers_after facts h) k
+        j)) ≤ℤ pos 0
     at_none true k same absent none =
         absurd (apart (subst (λ i. get_or facts.cpus i Absent ≡ Online) (sym (eqb-true k c same)) online) absent)
     at_none false k other absent none = omega (arith, ints)
@@ -79,5 +81,6 @@ owner-then facts later h p k cpu legal more owner =
     let acted : IsLegal facts (event p k ∷ h) = legal-earlier facts later (event p k ∷ h) legal more in
     let below : Extends later h = Extends-both later (event p k ∷ h) h more (event p k ∷ [], refl) in
     let stays =
-    owner_in-append percpu facts below.0 h p (subst (IsLegal facts) below.1 legal) (caller_is_given percpu facts h p (turn k) acted.0 acted.1) in
+    owner_in-append percpu facts below.0 h p (subst (IsLegal facts) below.1 legal)
+    (caller_is_given percpu facts h p (turn k) acted.0 acted.1) in
     sym stays ∙ ap (λ es. owner_in turn es p) (sym below.1) ∙ owner

@@ -1,4 +1,4 @@
--- A lock has one holder at most, who alone carries something for its counter.
+-- For other crates too: a lock has one holder at most, who alone carries something for its counter.
 use Rattle.std.proofs.Common.{◌≡◌, ℕ, Bool, true, false, true≢false, [], ◌∷◌, Option, Some, None, is_some, ℤ, pos, ◌+ℤ◌, refl, sym, ap, subst, ◌∙◌, if◌then◌else◌, nat_eq, eq-eqb, eqb-true}
 use Rattle.std.proofs.lemmas.List.{get_or-replicate}
 use Rattle.vms_history.specs.declared.events.Event.{Event}

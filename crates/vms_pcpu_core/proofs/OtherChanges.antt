@@ -35,13 +35,15 @@ fall-least (negsuc n) = omega (arith, ints)
 -- the amounts that p adds to counter j
 abbrev pub by_self : ℕ → ℕ → History → ℤ
 by_self p j [] = pos 0
-by_self p j (e ∷ h) = (if nat_eq e.caller p then amount_of j (carried j (own h e.caller)) e.step else pos 0) +ℤ by_self p j h
+by_self p j (e ∷ h) = (if nat_eq e.caller p then amount_of j (carried j (own h e.caller)) e.step else pos 0) +ℤ by_self
+    p j h
 
 pub amounts-parts : (p j : ℕ) (h : History)
     → amounts j h ≡ by_self p j h +ℤ (by_others rise p j h -ℤ by_others fall p j h)
 amounts-parts p j [] = omega (arith, ints)
 amounts-parts p j (e ∷ h) =
-    parts (nat_eq e.caller p) (amount_of j (carried j (own h e.caller)) e.step) (by_self p j h) (by_others rise p j h) (by_others fall p j h) (amounts j h)
+    parts (nat_eq e.caller p) (amount_of j (carried j (own h e.caller)) e.step) (by_self p j h) (by_others rise p j h)
+    (by_others fall p j h) (amounts j h)
     (amounts-parts p j h)
   where
     parts : (b : Bool) (x self up down rest : ℤ) → rest ≡ self +ℤ (up -ℤ down)
@@ -60,7 +62,8 @@ module _ (part : ℤ → ℤ) (least : (x : ℤ) → pos 0 ≤ℤ part x) (p j :
   by_others-append : (m h : History) → by_others part p j h ≤ℤ by_others part p j (m ++ h)
   by_others-append [] h = omega (arith, ints)
   by_others-append (e ∷ m) h =
-      let more : pos 0 ≤ℤ (if nat_eq e.caller p then pos 0 else part (amount_of j (carried j (own (m ++ h) e.caller)) e.step)) =
+      let more : pos 0 ≤ℤ (if nat_eq e.caller p then pos 0 else part (amount_of j (carried j (own (m ++ h) e.caller))
+      e.step)) =
       some (nat_eq e.caller p) (amount_of j (carried j (own (m ++ h) e.caller)) e.step) in
       omega (arith, ints, more, by_others-append m h)
     where
@@ -70,7 +73,8 @@ module _ (part : ℤ → ℤ) (least : (x : ℤ) → pos 0 ≤ℤ part x) (p j :
 
   -- what others add up, or down, grows
   pub by_others-grows : (g h : History) → Extends g h → by_others part p j h ≤ℤ by_others part p j g
-  by_others-grows g h more = subst (λ es. by_others part p j h ≤ℤ by_others part p j es) (sym more.1) (by_others-append more.0 h)
+  by_others-grows g h more = subst (λ es. by_others part p j h ≤ℤ by_others part p j es) (sym more.1)
+      (by_others-append more.0 h)
 
   pub carried_by_others-least : (h : History) → pos 0 ≤ℤ carried_by_others part p j h
   carried_by_others-least h = below (suc (begun_in turn h))
@@ -107,7 +111,8 @@ pub carried_by_all-others : (p j : ℕ) (h : History) → carried j (own h p) �
 carried_by_all-others p j h nothing = below (suc (begun_in turn h))
   where
     each : (b : Bool) (q : ℕ) → nat_eq q p ≡ b
-        → carried j (own h q) ≡ (if b then pos 0 else rise (carried j (own h q))) -ℤ (if b then pos 0 else fall (carried j (own h q)))
+        → carried j (own h q) ≡ (if b then pos 0 else rise (carried j (own h q))) -ℤ
+        (if b then pos 0 else fall (carried j (own h q)))
     each true q same = ap (λ r. carried j (own h r)) (eqb-true q p same) ∙ nothing
     each false q other = rise-fall (carried j (own h q))
 

@@ -39,7 +39,8 @@ own-parts (d ∷ m) p e newer older is = by (nat_eq d.caller p) refl newer is (�
           since = d ∷ earlier.since;
           before = earlier.before;
           parts = ap (λ es. d ∷ es) earlier.parts;
-          own_since = own-mine d earlier.since p (eqb-true d.caller p mine) ∙ ap (λ es. d ∷ es) earlier.own_since ∙ ap (λ x. x ∷ newer) same;
+          own_since = own-mine d earlier.since p (eqb-true d.caller p mine) ∙ ap (λ es. d ∷ es) earlier.own_since
+              ∙ ap (λ x. x ∷ newer) same;
           own_before = earlier.own_before;
         }
     by false other newer is rest =

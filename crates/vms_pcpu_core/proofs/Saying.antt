@@ -8,14 +8,16 @@ use Rattle.vms_pcpu_core.specs.Limits.{KeepsLimit, PassesLimit}
 use Rattle.vms_pcpu_core.proofs.OtherChanges.{by_self}
 
 -- a yes and a no, with what the call itself added
-pub record SaysYes (facts : PcpuFacts) (earlier later : History) (p : ℕ) (j : PcpuId) (limit amount : ℤ) (end : History) : Type 0 where
+pub record SaysYes (facts : PcpuFacts) (earlier later : History) (p : ℕ) (j : PcpuId) (limit amount : ℤ)
+    (end : History) : Type 0 where
   pub keeps : KeepsLimit facts earlier later p j limit amount
   pub changed_kept : Extends later keeps.changed
   pub changed_on : Extends keeps.changed earlier
   pub own_change : by_self p j.number keeps.changed ≡ by_self p j.number earlier +ℤ amount
   pub own_end : by_self p j.number end ≡ by_self p j.number keeps.changed
 
-pub record SaysNo (facts : PcpuFacts) (earlier later : History) (p : ℕ) (j : PcpuId) (limit amount : ℤ) (end : History) : Type 0 where
+pub record SaysNo (facts : PcpuFacts) (earlier later : History) (p : ℕ) (j : PcpuId) (limit amount : ℤ)
+    (end : History) : Type 0 where
   pub passes : PassesLimit facts earlier later p j limit amount
   pub won_kept : Extends later passes.won
   pub won_on : Extends passes.won earlier
@@ -23,7 +25,8 @@ pub record SaysNo (facts : PcpuFacts) (earlier later : History) (p : ℕ) (j : P
   pub own_end : by_self p j.number end ≡ by_self p j.number earlier
 
 -- what a limited addition says, and that p did nothing more
-pub record Says (facts : PcpuFacts) (earlier later : History) (p : ℕ) (j : PcpuId) (limit amount : ℤ) (answer : Bool) : Type 0 where
+pub record Says (facts : PcpuFacts) (earlier later : History) (p : ℕ) (j : PcpuId) (limit amount : ℤ)
+    (answer : Bool) : Type 0 where
   pub end : History
   pub kept : Extends later end
   pub none_since : own kept.0 p ≡ []

@@ -1,4 +1,4 @@
--- The lists of a state in every legal history, and the batches.
+-- For other crates too: the lists of a state in every legal history, and the batches.
 use Rattle.std.proofs.Common.{◌≡◌, ℕ, false, get_or, refl, ap}
 use Rattle.std.proofs.lemmas.List.{length-replicate}
 use Rattle.vms_history.proofs.Prefixes.{base_can_begin, state_after-keeps}

@@ -1,4 +1,5 @@
--- The numbers of a counter stay small: their sizes are paid by the base and by what was spent.
+-- For other crates too: the numbers of a counter stay small, since their sizes are paid by the base and by what was
+-- spent.
 use Rattle.std.proofs.Common.{◌≡◌, ◌≢◌, ℕ, suc, ◌+◌, ◌^◌, ◌<◌, ◌≤◌, Bool, true, false, [], ◌∷◌, Option, Some, None, ℤ, pos, ◌+ℤ◌, ◌-ℤ◌, ◌≤ℤ◌, unsigned_abs, refl, sym, subst, ap, ◌∙◌, arith, inl, inr, if◌then◌else◌, nat_eq, eq-eqb, eqb-true}
 use Rattle.std.proofs.lemmas.Int.{ints}
 use Rattle.std.proofs.lemmas.Bool.{ne_eqb, cases_lt}
@@ -20,7 +21,7 @@ use Rattle.vms_base.specs.Volumes.{most_volume}
 use Rattle.vms_pcpu_core.specs.States.{LockedState, count_at, local_at, IsPcpu}
 use Rattle.vms_pcpu_core.specs.Own.{carried}
 use Rattle.vms_pcpu_core.specs.Steps.{turn}
-use Rattle.vms_pcpu_core.specs.Totals.{amount_of, spent, spent_by, is_owned}
+use Rattle.vms_pcpu_core.specs.Totals.{amount_of, amounts, spent, spent_by, is_owned}
 use Rattle.vms_pcpu_core.specs.Histories.{percpu, History, IsLegal, state_after}
 use Rattle.vms_pcpu_core.specs.Laws.{numbers_after, most_number, number_of, IsSmall}
 use Rattle.vms_pcpu_core.proofs.Changes.{Change}
@@ -71,8 +72,8 @@ module _ (cpus batch : ℕ) (count count' : ℤ) (local local' : ℕ → ℤ) (c
   change-control (takes d d_in counts others here carries none) = none
   change-control (adds counts same carries control) = control refl
 
-pub no_amount : (who : Option CpuId) {cpus batch : ℕ} {count count' : ℤ} {local local' : ℕ
-    → ℤ} {carrying carrying' amount : ℤ}
+pub no_amount : (who : Option CpuId) {cpus batch : ℕ} {count count' : ℤ}
+    {local local' : ℕ → ℤ} {carrying carrying' amount : ℤ}
     → Change cpus who batch count count' local local' carrying carrying' amount → who ≡ None → amount ≡ pos 0
 no_amount None change is = change-control _ _ _ _ _ _ _ _ _ change
 no_amount (Some d) change is = absurd cc
@@ -173,6 +174,18 @@ spent-most facts (e ∷ h) c j legal =
             omega (arith, here)
         at false differ = omega arith
     by (Some d) _ is meets before mine = omega arith
+
+-- what a history adds is paid by what was spent
+pub amounts-most : (facts : PcpuFacts) (h : History) (j : ℕ) → IsLegal facts h → IsPcpu facts j
+    → pos (unsigned_abs (amounts j h)) ≤ℤ sum_below (λ c. pos (spent h c j)) facts.layout.cpus
+amounts-most facts [] j legal j_in =
+    omega (arith, ints, sum_below-zeros (λ c. pos 0) facts.layout.cpus (λ c below. refl))
+amounts-most facts (e ∷ h) j legal j_in =
+    let who = owner_in turn h e.caller in
+    let spending =
+    spent-grows facts.layout.cpus (λ c. spent h c j) who j (carried j (own h e.caller)) e.step
+    (λ d is. owned facts h e.caller d legal.0 is) (no_amount who (newest-change facts e h j legal j_in)) in
+    omega (arith, ints, spending, amounts-most facts h j legal.0 j_in)
 
 -- what pays for the sizes is at most the largest number
 pays : (facts : PcpuFacts) (h : History) (j : ℕ) → IsLegal facts h → IsPcpu facts j

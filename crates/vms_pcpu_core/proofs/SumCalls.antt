@@ -1,4 +1,4 @@
--- What a call that sums a counter found.
+-- For other crates too: what a call that sums a counter found.
 use Rattle.std.proofs.Common.{◌≡◌, ℕ, ◌<◌, true, false, true≢false, List, [], ◌∷◌, ◌++◌, get_or, ℤ, ◌+ℤ◌, ◌-ℤ◌, unsigned_abs, refl, sym, ap, subst, ◌∙◌, arith}
 use Rattle.std.proofs.lemmas.Int.{ints}
 use Rattle.vms_base.specs.declared.ids.PcpuId.{PcpuId}
@@ -62,14 +62,20 @@ sums-up facts p j free g v sum loads legal each run =
     let true_sum =
     sum-true facts free run.0 parts.between p j
     (record { legal = counted.0; loads = subst AreLoads (sym run.1) tt })
-    (λ c c_in. record { legal = legal-earlier facts g (parts.between c ++ won) legal (parts.kept c); loads = parts.own_loads c }) in
+    (λ c c_in. record {
+      legal = legal-earlier facts g (parts.between c ++ won) legal (parts.kept c);
+      loads = parts.own_loads c;
+    }) in
     let all =
-    sum_below-listed (λ c. local_at (numbers_after facts (parts.between c ++ won)) c j.number) 0 facts.layout.cpus facts.cpus
+    sum_below-listed (λ c. local_at (numbers_after facts (parts.between c ++ won)) c j.number) 0 facts.layout.cpus
+    facts.cpus
     (omega (arith, base.lengths.one_state_each))
     (λ i c at below absent.
     let same : i ≡ c = omega arith in
-    (locals-bounded facts (parts.between c ++ won) (legal-earlier facts g (parts.between c ++ won) legal (parts.kept c))).absent
-    c j.number (omega (arith, base.lengths.one_state_each)) (subst (λ (k : ℕ). get_or facts.cpus k Absent ≡ Absent) same absent) j_in) in
+    (locals-bounded facts (parts.between c ++ won) (legal-earlier facts g (parts.between c ++ won) legal
+    (parts.kept c))).absent
+    c j.number (omega (arith, base.lengths.one_state_each)) (subst (λ (k : ℕ). get_or facts.cpus k Absent ≡ Absent) same
+    absent) j_in) in
     record {
       between = parts.between;
       kept = parts.kept;
@@ -116,7 +122,8 @@ sum-call facts earlier later p j steps answer calls (summed v sum locking loads 
       total = parts.total;
     }
 
-pub compare-rough : (facts : PcpuFacts) (earlier later : History) (p : ℕ) (j : PcpuId) (rhs : ℤ) (steps : List PcpuStep) (answer : Compare)
+pub compare-rough : (facts : PcpuFacts) (earlier later : History) (p : ℕ) (j : PcpuId) (rhs : ℤ) (steps : List PcpuStep)
+    (answer : Compare)
     → MadeSteps facts earlier later p steps → IsCompare (unknown facts j.number) (present_cpus facts) j rhs steps answer
     → answer.rough ≡ true → TellsRoughly facts earlier later p j rhs answer
 compare-rough facts earlier later p j rhs steps answer calls (far v off) is =
@@ -139,9 +146,11 @@ compare-rough facts earlier later p j rhs steps answer calls (far v off) is =
           ∙ rough-sign facts loaded j.number rhs legal.0 legal.2.counter
           (subst (λ (x : ℤ). unknown facts j.number < unsigned_abs (x -ℤ rhs)) (sym count) off);
     }
-compare-rough facts earlier later p j rhs steps answer calls (near v sum rest at_most is_sum) is = absurd (true≢false (sym is))
+compare-rough facts earlier later p j rhs steps answer calls (near v sum rest at_most is_sum) is = absurd
+    (true≢false (sym is))
 
-pub compare-by_sum : (facts : PcpuFacts) (earlier later : History) (p : ℕ) (j : PcpuId) (rhs : ℤ) (steps : List PcpuStep) (answer : Compare)
+pub compare-by_sum : (facts : PcpuFacts) (earlier later : History) (p : ℕ) (j : PcpuId) (rhs : ℤ)
+    (steps : List PcpuStep) (answer : Compare)
     → MadeSteps facts earlier later p steps → IsCompare (unknown facts j.number) (present_cpus facts) j rhs steps answer
     → answer.rough ≡ false → TellsBySum facts earlier later p j rhs answer
 compare-by_sum facts earlier later p j rhs steps answer calls (far v off) is = absurd (true≢false is)
@@ -162,7 +171,10 @@ compare-by_sum facts earlier later p j rhs steps answer calls (near v sum rest a
       sums_up =
           record {
             free = sums.free;
-            wins = record { since = Extends-both sums.free loaded earlier sums.wins.since since; kept = sums.wins.kept };
+            wins = record {
+              since = Extends-both sums.free loaded earlier sums.wins.since since;
+              kept = sums.wins.kept;
+            };
             won = sums.won;
             after_win = sums.after_win;
             between = sums.between;

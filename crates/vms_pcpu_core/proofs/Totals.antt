@@ -1,4 +1,5 @@
--- Nothing is lost: the shared part, the local parts and what is carried add up to the true total.
+-- For other crates too: nothing is lost. The shared part, the local parts and what is carried add up to the true
+-- total.
 use Rattle.std.proofs.Common.{◌≡◌, ℕ, suc, ◌<◌, [], ◌∷◌, Option, Some, ℤ, pos, ◌+ℤ◌, refl, arith}
 use Rattle.std.proofs.lemmas.Int.{ints}
 use Rattle.vms_base.specs.declared.ids.CpuId.{CpuId}

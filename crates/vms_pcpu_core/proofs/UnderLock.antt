@@ -36,7 +36,8 @@ idle-probes : (p batch hides : ℕ) (limit : ℤ) (cpu : CpuId) (j : PcpuId) (am
 idle-probes p batch hides limit cpu j amount probing (large l above) = (λ x. refl, tt)
 idle-probes p batch hides limit cpu j amount probing (narrow l v fits small) = (λ x. refl, (λ x. refl, tt))
 
-module _ (facts : PcpuFacts) (earlier later : History) (p : ℕ) (cpu : CpuId) (j : PcpuId) (limit amount : ℤ) (legal : IsLegal facts later)
+module _ (facts : PcpuFacts) (earlier later : History) (p : ℕ) (cpu : CpuId) (j : PcpuId) (limit amount : ℤ)
+    (legal : IsLegal facts later)
     (owner : owner_in turn later p ≡ Some cpu) (nothing_carried : carried j.number (own earlier p) ≡ pos 0) where
   -- by the lock: the first step, the winning of the lock, the readings under it, and the rest
   pub record Under (v : ℤ) (loads ending : List PcpuStep) (end : History) : Type 0 where
@@ -88,7 +89,8 @@ module _ (facts : PcpuFacts) (earlier later : History) (p : ℕ) (cpu : CpuId) (
         idle =
             ap (by_self p j.number) (sym wins.1)
             ∙ by_self-idle p j.number locking front.0 whole.0 (idle-locks p j locking locks) front.2
-            ∙ by_self-idle p j.number probing earlier front.0 (idle-probes p batch hides limit cpu j amount probing probes) front.1;
+            ∙ by_self-idle p j.number probing earlier front.0 (idle-probes p batch hides limit cpu j amount probing
+            probes) front.1;
         read_end = back.0;
         reads = back.1;
         ends = back.2;
@@ -156,7 +158,8 @@ module _ (facts : PcpuFacts) (earlier later : History) (p : ℕ) (cpu : CpuId) (
   pub locked-keeps : (v u : ℤ) (probing locking loads : List PcpuStep) (end : History)
       → Probes (batch_at facts.base j.number) (unknown facts j.number) limit cpu j amount probing → Locks j locking
       → Judges (unknown facts j.number) limit (present_cpus facts) j amount (v +ℤ amount) loads true
-      → Run p (probing ++ locking ++ LoadC j v ∷ (loads ++ TakeL j cpu u ∷ AddC j (u +ℤ amount) ∷ Unlock j ∷ [])) earlier end
+      → Run p (probing ++ locking ++ LoadC j v ∷ (loads ++ TakeL j cpu u ∷ AddC j (u +ℤ amount) ∷ Unlock j ∷ []))
+      earlier end
       → Extends later end → SaysYes facts earlier later p j limit amount end
   locked-keeps v u probing locking loads end probes locks judges run more =
       let ending : List PcpuStep = TakeL j cpu u ∷ AddC j (u +ℤ amount) ∷ Unlock j ∷ [] in
@@ -203,7 +206,8 @@ module _ (facts : PcpuFacts) (earlier later : History) (p : ℕ) (cpu : CpuId) (
       ∙ ap (λ (b : Bool). if b then carried j.number (own read_end p) +ℤ u else carried j.number (own read_end p)) here
       ∙ omega (arith, ints, carries_read) in
       let amount_is : amount_of j.number (carried j.number (own unchanged p)) (AddC j (u +ℤ amount)) ≡ amount =
-      ap (λ (b : Bool). if b then (u +ℤ amount) -ℤ carried j.number (own unchanged p) else pos 0) here ∙ omega (arith, ints, carries) in
+      ap (λ (b : Bool). if b then (u +ℤ amount) -ℤ carried j.number (own unchanged p) else pos 0) here
+      ∙ omega (arith, ints, carries) in
       let change_step = by_self-step p j.number (AddC j (u +ℤ amount)) unchanged in
       let taken_others = by_self-others p j.number parts.ends.2.0 (take ∷ untaken) parts.ends.2.1 in
       let take_step = by_self-step p j.number (TakeL j cpu u) untaken in
@@ -272,7 +276,8 @@ module _ (facts : PcpuFacts) (earlier later : History) (p : ℕ) (cpu : CpuId) (
       record {
         keeps = keeps;
         changed_kept = to_changed;
-        changed_on = Extends-both changed won earlier changed_on (Extends-both won parts.begun earlier begun_on parts.since);
+        changed_on = Extends-both changed won earlier changed_on (Extends-both won parts.begun earlier begun_on
+            parts.since);
         own_change = omega (arith, ints, parts.idle);
         own_end = ap (by_self p j.number) parts.ends.2.2.2 ∙ omega (arith, ints);
       }

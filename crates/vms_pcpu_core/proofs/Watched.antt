@@ -38,7 +38,8 @@ use Rattle.vms_pcpu_core.proofs.Shapes.{HasShape-state_after}
 use Rattle.vms_pcpu_core.proofs.Totals.{owned, totals-kept}
 
 -- the newest event is a load if it is an own one, and the earlier own ones are loads
-pub loads-before : (e : Event PcpuStep) (more : History) (p : ℕ) → AreLoads (own (e ∷ more) p) → (nat_eq e.caller p ≡ true → IsLoad e.step) × AreLoads (own more p)
+pub loads-before : (e : Event PcpuStep) (more : History) (p : ℕ) → AreLoads (own (e ∷ more) p)
+    → (nat_eq e.caller p ≡ true → IsLoad e.step) × AreLoads (own more p)
 loads-before e more p are = by (nat_eq e.caller p) are
   where
     by : (b : Bool) → AreLoads (if b then e ∷ own more p else own more p)
@@ -105,13 +106,13 @@ watches-before : (facts : PcpuFacts) (e : Event PcpuStep) (more h : History) (p 
 watches-before facts e more h p watches =
     record { legal = watches.legal.0; loads = (loads-before e more p watches.loads).1 }
 
--- while the pass lives, an event leaves the local parts of its CPU, and spends none of its volume, unless the pass made it
--- and it is no load
+-- while the pass lives, an event leaves the local parts of its CPU and spends none of its volume, unless the pass made
+-- it and it is no load
 module _ (facts : PcpuFacts) (e : Event PcpuStep) (h : History) (p : ℕ) (c : CpuId) (j : ℕ)
     (legal : IsLegal facts (e ∷ h))
     (lives : lives_in turn h p ≡ true) (owner : owner_in turn h p ≡ Some c)
     (load : nat_eq e.caller p ≡ true → IsLoad e.step) where
-  local_after-kept : (x : ℤ) → local_after (owner_in turn h e.caller) c.number j e.step x ≡ x
+  pub local_after-kept : (x : ℤ) → local_after (owner_in turn h e.caller) c.number j e.step x ≡ x
   local_after-kept x = by (nat_eq e.caller p) refl
     where
       who : Option CpuId
@@ -127,7 +128,7 @@ module _ (facts : PcpuFacts) (e : Event PcpuStep) (h : History) (p : ℕ) (c : C
           others-local facts h s e.caller c j who e.step x refl legal.2
           (other-owns facts e h p c legal lives owner other) online
 
-  spent_by-none : spent_by (owner_in turn h e.caller) c.number j (carried j (own h e.caller)) e.step ≡ 0
+  pub spent_by-none : spent_by (owner_in turn h e.caller) c.number j (carried j (own h e.caller)) e.step ≡ 0
   spent_by-none = by (nat_eq e.caller p) refl
     where
       if_zero : (b : Bool) (n : ℕ) → n ≡ 0 → (if b then n else 0) ≡ 0

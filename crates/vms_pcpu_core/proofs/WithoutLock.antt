@@ -30,7 +30,8 @@ use Rattle.vms_pcpu_core.proofs.Watched.{local-stays}
 use Rattle.vms_pcpu_core.proofs.Saying.{SaysYes}
 use Rattle.vms_pcpu_core.proofs.LocalRoom.{locals-moved, owner-then}
 
-module _ (facts : PcpuFacts) (earlier later : History) (p : ℕ) (cpu : CpuId) (j : PcpuId) (limit amount : ℤ) (legal : IsLegal facts later)
+module _ (facts : PcpuFacts) (earlier later : History) (p : ℕ) (cpu : CpuId) (j : PcpuId) (limit amount : ℤ)
+    (legal : IsLegal facts later)
     (owner : owner_in turn later p ≡ Some cpu) (nothing_carried : carried j.number (own earlier p) ≡ pos 0) where
   -- without the lock: what the count and the local parts were when the count was loaded
   unlocked-near : (l v : ℤ) (begun others : History) → own others p ≡ [] → own begun p ≡ own earlier p
@@ -57,19 +58,27 @@ module _ (facts : PcpuFacts) (earlier later : History) (p : ℕ) (cpu : CpuId) (
       let regroup : (others ++ e ∷ []) ++ begun ≡ loaded = append_assoc others (e ∷ []) begun in
       let stays =
       local-stays facts (others ++ e ∷ []) begun p cpu j.number
-      (record { legal = subst (IsLegal facts) (sym regroup) read_legal.0; loads = subst AreLoads (sym own_load) (tt, tt) })
+      (record {
+        legal = subst (IsLegal facts) (sym regroup) read_legal.0;
+        loads = subst AreLoads (sym own_load) (tt, tt);
+      })
       (subst (λ es. lives_in turn es p ≡ true) (sym regroup) read_legal.1.1) owned_then j_in in
       let local : local_at (numbers_after facts loaded) cpu.number j.number ≡ l =
       ap (λ es. local_at (numbers_after facts es) cpu.number j.number) (sym regroup) ∙ stays ∙ first_legal.2.value in
-      let within : unsigned_abs (local_at (numbers_after facts loaded) cpu.number j.number +ℤ amount) ≤ batch_at facts.base j.number =
+      let within : unsigned_abs (local_at (numbers_after facts loaded) cpu.number j.number +ℤ amount) ≤ batch_at
+      facts.base j.number =
       rw local fits in
       let size = locals-moved facts loaded cpu.number j.number amount read_legal.0 j_in might.0 might.1 within in
       let mine : own loaded p ≡ e ∷ own earlier p =
       own-others_on others (e ∷ begun) p none ∙ own-mine e begun p refl ∙ ap (λ es. e ∷ es) same_own in
       let carries : carried j.number (own loaded p) ≡ pos 0 = ap (carried j.number) mine ∙ nothing_carried in
       let all = carried_by_all-others p j.number loaded carries in
-      let kept = totals-kept facts loaded read_legal.0 j.number j_in in
-      (locals facts.layout (numbers_after facts loaded) j.number, omega (arith, ints, size), omega (arith, ints, kept, all, read_legal.2.value))
+      let kept = totals-kept facts loaded read_legal.0 j.number j_in in (
+        locals facts.layout (numbers_after facts loaded) j.number,
+        omega (arith, ints, size),
+        omega
+            (arith, ints, kept, all, read_legal.2.value),
+      )
 
   pub unlocked-keeps : (l v : ℤ) (end : History) → unsigned_abs (l +ℤ amount) ≤ batch_at facts.base j.number
       → pos (unknown facts j.number) ≤ℤ room limit amount v
@@ -134,10 +143,12 @@ module _ (facts : PcpuFacts) (earlier later : History) (p : ℕ) (cpu : CpuId) (
         after_change = refl {a = changed};
         rises_locked =
             λ held.
-            carried_by_others-locked rise rise-least p j.number facts loaded read_legal.0 j_in refl (sym same_lock ∙ held);
+            carried_by_others-locked rise rise-least p j.number facts loaded read_legal.0 j_in refl (sym same_lock
+            ∙ held);
         falls_locked =
             λ held.
-            carried_by_others-locked fall fall-least p j.number facts loaded read_legal.0 j_in refl (sym same_lock ∙ held);
+            carried_by_others-locked fall fall-least p j.number facts loaded read_legal.0 j_in refl (sym same_lock
+            ∙ held);
         most =
             λ up.
             let at = room-up limit amount v up in

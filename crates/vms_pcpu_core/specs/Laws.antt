@@ -1,18 +1,20 @@
 -- What holds of every legal history of percpu counters.
 use Rattle.std.specs.Prelude.{◌≡◌, ℕ, suc, ◌+◌, ◌*◌, ◌^◌, ◌<◌, ◌≤◌, nat_eq, ◌&&◌, true, false, ℤ, pos, ◌+ℤ◌, ◌-ℤ◌, ◌≤ℤ◌, [], ◌∷◌, ◌↔◌, if◌then◌else◌, Some, is_some, unsigned_abs}
-use Rattle.vms_base.specs.declared.kinds.CpuState.TheVariants.{Absent}
+use Rattle.vms_base.specs.declared.kinds.CpuState.TheVariants.{Dead, Absent}
 use Rattle.vms_base.specs.Places.{IsCpu}
+use Rattle.vms_base.specs.Volumes.{most_volume}
 use Rattle.vms_history.specs.Events.{own, total}
-use Rattle.vms_history.specs.Passes.{begun_in, lives_in}
+use Rattle.vms_history.specs.Passes.{begun_in, lives_in, owner_in}
 use Rattle.vms_history.specs.Sums.{sum_below}
 use Rattle.vms_pcpu_core.specs.declared.states.PcpuState.{PcpuState}
 use Rattle.vms_pcpu_core.specs.declared.steps.PcpuFacts.{PcpuFacts}
 use Rattle.vms_pcpu_core.specs.declared.steps.PcpuStep.{PcpuStep}
 use Rattle.vms_pcpu_core.specs.declared.steps.PcpuStep.TheVariants.{AddL, LoadL, LoadC, TakeL, AddC}
-use Rattle.vms_pcpu_core.specs.States.{batch_at, count_at, local_at, held_at, cpu_at, IsPcpu}
+use Rattle.vms_pcpu_core.specs.States.{HasShape, batch_at, count_at, local_at, held_at, cpu_at, IsPcpu}
 use Rattle.vms_pcpu_core.specs.Own.{holds, carried}
+use Rattle.vms_pcpu_core.specs.OwnSteps.{as_is, size_of, own_added}
 use Rattle.vms_pcpu_core.specs.Steps.{turn}
-use Rattle.vms_pcpu_core.specs.Totals.{locals, true_total, holder, present}
+use Rattle.vms_pcpu_core.specs.Totals.{locals, true_total, holder, present, amounts, spent, is_owned}
 use Rattle.vms_pcpu_core.specs.Histories.{History, state_after}
 
 -- the numbers of the counters after a history
@@ -95,3 +97,37 @@ pub record MovesOnce (facts : PcpuFacts) (h : History) (c j : ℕ) : Type 0 wher
   pub total : local_at (numbers_after facts h) c j +ℤ total (taken_by c j) h ≡ local_at facts.base c j
   pub once : takings c j h ≤ 1
   pub all : 0 < takings c j h → local_at (numbers_after facts h) c j ≡ pos 0
+
+-- what a history adds to a counter is the sum over its callers of what their own events add
+abbrev pub AddsByCaller : History → Type 0
+AddsByCaller h = (j : ℕ) → amounts j h ≡ sum_below (λ p. own_added as_is j (own h p)) (suc (begun_in turn h))
+
+-- what pass p spent of the volume of CPU c on counter j: all that it added where it owns that CPU
+abbrev pub spent_by_pass : History → ℕ → ℕ → ℕ → ℤ
+spent_by_pass h c j p = if is_owned (owner_in turn h p) c then own_added size_of j (own h p) else pos 0
+
+-- no CPU spends more than its volume, and it spends what the passes that own it add
+pub record KeepsVolumes (h : History) : Type 0 where
+  pub most : (c j : ℕ) → spent h c j ≤ most_volume
+  pub by_pass : (c j : ℕ) → pos (spent h c j) ≡ sum_below (spent_by_pass h c j) (suc (begun_in turn h))
+
+-- what holds after every legal history, and so after each beginning of one
+pub record KeepsLaws (facts : PcpuFacts) (h : History) : Type 0 where
+  -- the batches stay those of the base, and the lists keep their lengths
+  pub shape : HasShape facts (state_after facts h)
+  -- the shared part, the local parts and what is carried add up to the true total
+  pub totals : KeepsTotals facts h
+  -- a local part is at most its batch, and 0 where the CPU is absent
+  pub local_parts : BoundsLocals facts h
+  -- a lock has at most one holder, who lives and alone carries something
+  pub holders : (j : ℕ) → IsPcpu facts j → HasOneHolder facts h j
+  -- the shared part alone is off from the true total by little
+  pub drift : DriftsLittle facts h
+  -- every number is below 2^61
+  pub numbers : (j : ℕ) → IsPcpu facts j → IsSmall facts h j
+  -- the local part of a dead CPU moves once
+  pub dead_parts : (c j : ℕ) → IsCpu facts.layout c → IsPcpu facts j → cpu_at facts c ≡ Dead → MovesOnce facts h c j
+  -- the amounts of a history are those of its callers
+  pub callers : AddsByCaller h
+  -- no CPU spends more than its volume
+  pub volumes : KeepsVolumes h

@@ -3,14 +3,17 @@ pub mod Bases
 pub mod Steps
 pub mod Own
 pub mod Totals
+pub mod OwnSteps
 pub mod Effects
 pub mod Conditions
 pub mod Histories
 pub mod Quiet
 pub mod Laws
+pub mod Endings
 pub mod Calls
 pub mod Readings
 pub mod Watching
 pub mod Making
 pub mod Summing
 pub mod Limits
+pub mod MakingCalls

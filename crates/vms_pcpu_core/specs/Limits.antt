@@ -29,7 +29,8 @@ fall (negsuc n) = pos (suc n)
 abbrev pub by_others : (ℤ → ℤ) → ℕ → ℕ → History → ℤ
 by_others part p j [] = pos 0
 by_others part p j (e ∷ h) =
-    (if nat_eq e.caller p then pos 0 else part (amount_of j (carried j (own h e.caller)) e.step)) +ℤ by_others part p j h
+    (if nat_eq e.caller p then pos 0 else part (amount_of j (carried j (own h e.caller)) e.step)) +ℤ
+    by_others part p j h
 
 -- the same of what they added from an earlier history to a later one
 abbrev pub by_others_between : (ℤ → ℤ) → ℕ → ℕ → History → History → ℤ

@@ -10,7 +10,8 @@ use Rattle.vms_pcpu_core.specs.Histories.{History, IsLegal}
 abbrev pub event : ℕ → PcpuStep → Event PcpuStep
 event p step = record { caller = p; step = step }
 
--- a history went on from an earlier one, and caller p made these steps since, the oldest first; others made any
+-- a history went on from an earlier one, and caller p made these steps since, the oldest first; others made any. The
+-- generic HasMade asks besides that p is a pass that lives in both, which the laws of single calls don't need
 pub record MadeSteps (facts : PcpuFacts) (earlier later : History) (p : ℕ) (steps : List PcpuStep) : Type 0 where
   pub legal : IsLegal facts later
   pub goes_on : Extends later earlier

@@ -1,14 +1,15 @@
 -- What the sum of a counter is, while others act.
-use Rattle.std.specs.Prelude.{◌≡◌, ℕ, ◌<◌, true, false, ℤ, pos, ◌+ℤ◌, ◌-ℤ◌, ◌≤ℤ◌, [], ◌∷◌, ◌++◌, unsigned_abs}
+use Rattle.std.specs.Prelude.{◌≡◌, ℕ, ◌+◌, ◌*◌, ◌<◌, true, false, ℤ, pos, ◌+ℤ◌, ◌-ℤ◌, ◌≤ℤ◌, [], ◌∷◌, ◌++◌, unsigned_abs}
 use Rattle.vms_base.specs.declared.ids.PcpuId.{PcpuId}
 use Rattle.vms_base.specs.Places.{IsCpu}
 use Rattle.vms_history.specs.Sums.{sum_below}
 use Rattle.vms_pcpu_core.specs.declared.answers.Compare.{Compare}
 use Rattle.vms_pcpu_core.specs.declared.steps.PcpuFacts.{PcpuFacts}
 use Rattle.vms_pcpu_core.specs.declared.steps.PcpuStep.TheVariants.{LoadL, LoadC, Won}
+use Rattle.vms_pcpu_core.specs.Bases.{most_batch}
 use Rattle.vms_pcpu_core.specs.Calls.{sign_of, unknown}
 use Rattle.vms_pcpu_core.specs.Histories.{History}
-use Rattle.vms_pcpu_core.specs.Laws.{carried_by_all}
+use Rattle.vms_pcpu_core.specs.Laws.{carried_by_all, most_number}
 use Rattle.vms_pcpu_core.specs.Making.{event, MadeBetween}
 use Rattle.vms_pcpu_core.specs.States.{cpu_at}
 use Rattle.vms_pcpu_core.specs.Totals.{true_total}
@@ -31,7 +32,7 @@ pub record SumsUp (facts : PcpuFacts) (earlier later : History) (p : ℕ) (j : P
   pub total : sum ≡
       true_total facts won j.number +ℤ sum_below (λ c. added_since (between c) won c j.number) facts.layout.cpus
 
--- when the shared part was loaded, it was further off from the other number than the local parts could hide, so that the
+-- when the shared part was loaded, it was further off from the other number than the local parts could hide. So the
 -- true total, less what was carried, was off on the same side
 pub record TellsRoughly (facts : PcpuFacts) (earlier later : History) (p : ℕ) (j : PcpuId) (rhs : ℤ) (answer : Compare)
     : Type 0 where
@@ -49,3 +50,7 @@ pub record TellsBySum (facts : PcpuFacts) (earlier later : History) (p : ℕ) (j
   pub sum : ℤ
   pub sums_up : SumsUp facts earlier later p j sum
   pub sign : answer.sign ≡ sign_of (sum -ℤ rhs)
+
+-- the largest absolute size of a sum: that of a shared part, and a batch for each of 128 CPUs
+abbrev pub most_sum : ℕ
+most_sum = most_number + 128 * most_batch

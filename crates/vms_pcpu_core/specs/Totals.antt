@@ -1,5 +1,5 @@
 -- What a whole history changed, and who holds the locks.
-use Rattle.std.specs.Prelude.{ℕ, ◌+◌, nat_eq, Bool, true, false, ℤ, pos, ◌+ℤ◌, ◌-ℤ◌, List, [], ◌∷◌, if◌then◌else◌, Option, Some, None, unsigned_abs, count_by}
+use Rattle.std.specs.Prelude.{ℕ, ◌+◌, nat_eq, Bool, false, ℤ, pos, ◌+ℤ◌, ◌-ℤ◌, List, [], ◌∷◌, if◌then◌else◌, Option, Some, None, unsigned_abs, count_by}
 use Rattle.vms_base.specs.declared.ids.CpuId.{CpuId}
 use Rattle.vms_base.specs.Cpus.{is_present}
 use Rattle.vms_base.specs.Places.{Shape}

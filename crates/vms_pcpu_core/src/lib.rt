@@ -2,7 +2,10 @@
 #![tactic(auto)]
 
 mod answers;
+mod callers;
 mod calls;
+mod endings;
+mod folding;
 mod laws;
 mod limits;
 mod making;
@@ -10,21 +13,26 @@ mod states;
 mod steps;
 mod summing;
 mod tables;
+#[cfg(test)]
+mod tests;
 mod watching;
 
 pub use answers::Compare;
+pub use callers::{
+    callers_go_by_own_steps, calls_add_their_amounts, calls_leave_callers_idle,
+    calls_spend_their_amounts,
+};
 pub use calls::{
     add_is_told, compare_is_told, fold_dead_is_told, limited_add_is_told, read_is_told,
     sum_is_told, sync_is_told,
 };
-pub use laws::{
-    counts_drift_little, dead_locals_move_once, locals_are_bounded, numbers_are_small, one_holder,
-    shape_is_kept, totals_are_kept,
-};
+pub use endings::{complete_histories_hold_totals, complete_histories_leave_bases};
+pub use folding::fold_dead_empties_local_parts;
+pub use laws::{laws_are_kept, passes_leave_the_state, steps_name_small_numbers};
 pub use limits::{limited_add_alone_is_exact, limited_add_keeps_limit};
-pub use making::calls_stand_in_histories;
+pub use making::{calls_may_be_made, calls_stand_in_histories};
 pub use states::PcpuState;
 pub use steps::{Event, PcpuFacts, PcpuStep};
-pub use summing::{compare_tells_sign, sum_reads_true_total};
+pub use summing::{compare_tells_sign, sum_reads_true_total, sums_are_small};
 pub use tables::Percpu;
 pub use watching::{holder_acts_alone, own_part_stays, rough_sign_is_true, sum_is_true_total};

@@ -13,9 +13,10 @@ ghost use Rattle.vms_pcpu_core.specs.Own.{carried};
 ghost use Rattle.vms_pcpu_core.specs.States.{batch_at};
 ghost use Rattle.vms_pcpu_core.specs.Steps.{turn};
 
-/// A limited addition of a pass that owns a CPU and carries nothing. After a yes the true total is past the limit at
-/// most by what others changed and carried meanwhile; a no comes only where the amount, with what others changed
-/// meanwhile, would pass it.
+/// What the answer of a limited addition means, for a pass that owns a CPU and carried nothing before. A `yes` keeps
+/// the limit if nobody else adds during the call. Others can push the total past the limit by no more than what they
+/// added since the call began, plus what they still carried when it loaded the shared part without the lock. A `no`
+/// comes only where the amount would pass the limit, together with what others added while the call held the lock.
 pub fn limited_add_keeps_limit()
     ensures yes_keeps { (facts : PcpuFacts) (earlier later : History) (p : ℕ) (cpu : CpuId) (j : PcpuId)
         (limit amount : ℤ) (steps : List PcpuStep) → MadeSteps facts earlier later p steps →
@@ -31,8 +32,8 @@ pub fn limited_add_keeps_limit()
         PassesLimit facts earlier later p j limit amount }
 {}
 
-/// Where no other caller adds an amount to the counter or carries one for it, the answer is exact; so it is where no
-/// other caller makes a step and none carried anything before.
+/// The answer is exact if nobody else adds to the counter during the call or carries something for it. That is so if no
+/// other caller makes a step meanwhile and none carried anything before.
 pub fn limited_add_alone_is_exact()
     ensures exact { (facts : PcpuFacts) (earlier later : History) (p : ℕ) (cpu : CpuId) (j : PcpuId)
         (limit amount : ℤ) (steps : List PcpuStep) (answer : Bool) → MadeSteps facts earlier later p steps →

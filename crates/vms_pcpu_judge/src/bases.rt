@@ -1,7 +1,8 @@
 ghost use Rattle.std.specs.Prelude.{◌≡◌, ◌≤◌, ◌<◌, ◌*◌, ◌↔◌, ℕ, pos, IsTrue, length, unsigned_abs};
+ghost use Rattle.vms_base.specs.Cpus.{HasOnline};
 ghost use Rattle.vms_base.specs.Places.{IsCpu, IsLayout};
 ghost use Rattle.vms_pcpu_core.specs.Bases.{IsBase, HasLengths, IsCounterBase, IsLocalBase};
-ghost use Rattle.vms_pcpu_core.specs.States.{IsPcpu, counters_of, cpu_at};
+ghost use Rattle.vms_pcpu_core.specs.States.{IsPcpu, counters_of};
 
 use crate::facts::state_of;
 use crate::standing::base_local;
@@ -46,7 +47,7 @@ fn has_lengths(facts: &PcpuFacts) -> bool
 }
 
 fn some_online(facts: &PcpuFacts) -> bool
-    ensures { IsTrue result ↔ ((c : ℕ) × IsCpu facts.now.layout c × (cpu_at facts.now c ≡ CpuState.Online)) }
+    ensures { IsTrue result ↔ HasOnline facts.now.layout facts.now.cpus }
 {
     for c in 0..facts.layout.cpus() {
         if state_of(facts, CpuId { number: c }) == CpuState::Online {

@@ -1,5 +1,6 @@
 ghost use Rattle.vms_pcpu_core.specs.States.{LockedState};
 ghost use Rattle.vms_pcpu_core.specs.Histories.{percpu};
+ghost use Rattle.vms_pcpu_core.specs.Quiet.{quiet_percpu};
 
 use crate::bases::is_base;
 use crate::conditions::meets;
@@ -22,6 +23,8 @@ impl Table for JudgedPercpu {
     ghost State = { LockedState };
 
     ghost machine = { percpu };
+
+    ghost quiet = { quiet_percpu };
 }
 
 impl Turning for JudgedPercpu {

@@ -14,4 +14,3 @@ pub mod RunStates
 pub mod RunStarts
 pub mod RunLines
 pub mod RunEnds
-pub mod PhaseLaws

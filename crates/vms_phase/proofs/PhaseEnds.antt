@@ -11,9 +11,10 @@ use Rattle.vms_core.specs.ChangedStates.{with_change, with_change_of}
 use Rattle.vms_core.specs.Pages.{pages, IsLegal}
 use Rattle.vms_phase.specs.FileOrder.{lanes_of}
 use Rattle.vms_phase.specs.OpenPhases.{IsOpen, IsOfOnline, EndsPhase}
-use Rattle.vms_phase.specs.Worlds.{facts_of, settled}
+use Rattle.vms_phase.specs.Worlds.{facts_of}
+use Rattle.vms_core.specs.Bases.{settled}
 use Rattle.vms_phase.proofs.Closings.{closed, follows-closed, IsComplete-closed, state_after-closed}
-use Rattle.vms_phase.proofs.PhaseLaws.{KeepsLaws-legal}
+use Rattle.vms_core.proofs.KeptLaws.{laws-kept}
 use Rattle.vms_phase.proofs.Lanes.{MayOpen-lanes, among-lanes}
 use Rattle.vms_text.specs.declared.acts.Item.{Item}
 
@@ -44,7 +45,7 @@ EndsPhase-open header s items now opened all quiet =
                 refl;
           };
           complete = complete;
-          laws = λ more earlier parts. KeepsLaws-legal facts earlier
+          laws = λ more earlier parts. laws-kept facts earlier
               (prefix_is_legal pages facts more earlier (subst (IsLegal facts) parts complete.legal));
         },
         ap settled (state_after-closed facts lanes items made.0 now made.1) ∙ quiet,

@@ -18,7 +18,7 @@ use Rattle.vms_base.specs.Places.{Shape, IsCpu, IsPlace, IsZone, IsNode, cell, c
 use Rattle.vms_base.specs.Sizes.{IsValidSize, size_at}
 use Rattle.vms_base.specs.Thresholds.{most_threshold}
 use Rattle.vms_core.specs.declared.states.State.{State}
-use Rattle.vms_core.specs.Bases.{IsBase}
+use Rattle.vms_core.specs.Bases.{IsBase, settled}
 use Rattle.vms_core.specs.Cells.{HasShape, places_of, threshold_at, mark_at, threshold_sets_at, mark_sets_at, acknowledged_at, diff_at, cpu_at}
 use Rattle.vms_core.specs.Peaks.{opening_peak, peak_sum, if_present}
 use Rattle.vms_history.specs.Sums.{count_below}
@@ -26,7 +26,7 @@ use Rattle.vms_core.proofs.Below.{largest_below-least, largest_below-most}
 use Rattle.vms_core.proofs.LevelStates.{get_or-copies}
 use Rattle.vms_core.proofs.PlainData.{places_of-shaped}
 use Rattle.vms_calls.specs.Ratings.{largest_on}
-use Rattle.vms_phase.specs.Worlds.{IsStart, IsStartUnder, IsNormalRule, normal_rule, base_of_item, opening_mark, quiet_state, facts_of, settled}
+use Rattle.vms_phase.specs.Worlds.{IsStart, IsStartUnder, IsNormalRule, normal_rule, base_of_item, opening_mark, quiet_state, facts_of}
 use Rattle.vms_phase.proofs.ItemSums.{base_of-most}
 use Rattle.vms_phase.proofs.Rows.{length-repeat, get_or-repeat}
 

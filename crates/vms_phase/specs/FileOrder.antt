@@ -1,7 +1,7 @@
 -- The histories of a phase in file order: the lanes' passes begin, the lines follow one another, the passes end.
 use Rattle.std.specs.Prelude.{◌≡◌, ℕ, zero, suc, nat_eq, ◌||◌, Bool, true, false, pos, negsuc, List, [], ◌∷◌, ◌++◌, if◌then◌else◌, Option, Some, None}
-use Rattle.vms_phase.specs.Worlds.{settled}
-use Rattle.vms_phase.specs.PhaseLaws.{KeepsLaws}
+use Rattle.vms_core.specs.Bases.{settled}
+use Rattle.vms_core.specs.Laws.{KeepsLaws}
 use Rattle.vms_core.specs.Pages.{pages, History, state_after}
 use Rattle.vms_core.specs.declared.states.State.{State}
 use Rattle.vms_history.specs.Legal.{IsComplete}

@@ -3,4 +3,3 @@ pub mod FileOrder
 pub mod OpenPhases
 pub mod Totals
 pub mod Runs
-pub mod PhaseLaws

@@ -80,11 +80,3 @@ quiet_state header system threshold mark = record {
   threshold_sets = replicate (header.layout.cpus * place_count header.layout) 0;
   mark_sets = replicate (length header.layout.zones) 0;
 }
-
--- a state as the next phase begins with it: nothing acknowledged, and nothing set
-abbrev pub settled : State → State
-settled s = record s {
-  acknowledged = map (λ _. None) s.acknowledged;
-  threshold_sets = map (λ _. 0) s.threshold_sets;
-  mark_sets = map (λ _. 0) s.mark_sets;
-}

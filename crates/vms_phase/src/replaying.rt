@@ -13,7 +13,7 @@ impl Model for PhaseReplay {
     ghost use Rattle.std.specs.Prelude.{◌≡◌};
     ghost use Rattle.vms_core.specs.Cells.{HasShape};
     ghost use Rattle.vms_phase.specs.OpenPhases.{Moment};
-    ghost use Rattle.vms_phase.specs.Worlds.{settled};
+    ghost use Rattle.vms_core.specs.Bases.{settled};
 
     ghost Value = { Moment };
 
@@ -26,14 +26,14 @@ impl PhaseReplay {
     ghost use Rattle.std.specs.Prelude.{◌≡◌, ℕ, ◌+◌, ◌≤◌, ◌^◌, ◌++◌, List, [], ◌∷◌, All, unsigned_abs};
     ghost use Rattle.vms_base.specs.Places.{IsCpu, IsCounter, item_of};
     ghost use Rattle.vms_base.specs.declared.kinds.CpuState.TheVariants.{Online};
-    ghost use Rattle.vms_core.specs.Bases.{IsBase, IsOpening};
+    ghost use Rattle.vms_core.specs.Bases.{IsBase, IsOpening, settled};
     ghost use Rattle.vms_core.specs.Cells.{cpu_at, diff_at, value_at, system_at};
     ghost use Rattle.vms_base.specs.Volumes.{most_volume};
     ghost use Rattle.vms_core.specs.ChangedStates.{with_change};
     ghost use Rattle.vms_core.specs.declared.steps.Facts.{Facts};
     ghost use Rattle.vms_phase.specs.OpenPhases.{EndsPhase, IsDelta, IsOfOnline, IsOpen, change_item, volume};
     ghost use Rattle.vms_phase.specs.Totals.{AddsUp, counter_total};
-    ghost use Rattle.vms_phase.specs.Worlds.{facts_of, settled};
+    ghost use Rattle.vms_phase.specs.Worlds.{facts_of};
     ghost use Rattle.vms_base.specs.declared.headers.Header.{Header};
     ghost use Rattle.vms_core.specs.declared.states.State.{State};
     ghost use Rattle.vms_text.specs.declared.acts.Item.{Item};

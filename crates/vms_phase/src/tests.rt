@@ -1,8 +1,7 @@
 ghost use Rattle.std.specs.Prelude.{◌≡◌, ◌≤◌, ◌^◌, unsigned_abs, All, IfOk};
 ghost use Rattle.vms_base.specs.Headers.{IsHeader};
 ghost use Rattle.vms_base.specs.Sizes.{IsValidSize};
-ghost use Rattle.vms_core.specs.Bases.{IsOpening};
-ghost use Rattle.vms_phase.specs.Worlds.{settled};
+ghost use Rattle.vms_core.specs.Bases.{IsOpening, settled};
 ghost use Rattle.vms_calc.specs.Rules.{IsThresholdRule};
 
 mod runs;

@@ -24,7 +24,7 @@ use Rattle.vms_base.specs.Cpus.{is_online}
 use Rattle.vms_script.specs.Judging.{allowed, counted}
 use Rattle.vms_script.specs.Volumes.{overflows, spent_on_counter, spent_on_event, spent_on_pcpu, volume}
 use Rattle.vms_base.specs.Volumes.{most_volume}
-use Rattle.vms_script.specs.Standing.{Decides, Stands, answered, volume_at, with_volume}
+use Rattle.vms_script.specs.Standing.{Decides, Stands, TellsCpus, TellsVolumes, answered, volume_at, with_volume}
 use Rattle.vms_script.proofs.CpuCounts.{TellsCpus-still}
 use Rattle.vms_script.proofs.Decisions.{Decides-kept, Decides-refused}
 use Rattle.vms_script.proofs.Standings.{Stands-still}
@@ -54,13 +54,57 @@ judged_by false header lines cpu act put old spent new result passes online r n 
           (Cpu cpu) act) a) lines) (put spent)) (sym r) (past refl)),
     )
 
+-- an act that adds to a volume of one table: `put` makes the judge with that table, and `old` is the table that it has
+module _ (cpu : CpuId) (act : Act) (thing size : ℕ) (old new : VolumeTable) (result : Result (Unit {0}) LineCause)
+    (put : VolumeTable → LineJudge) (measure : ℕ → Act → ℕ) (width : Header → ℕ)
+    (online : get_or (put old).cpus.states cpu.number IsOnline ≡ IsOnline) where
+  abbrev spent : VolumeTable
+  spent = with_volume old cpu.number thing (volume_at old cpu.number thing + size)
+
+  abbrev Tells : Header → List Line → VolumeTable → Type 0
+  Tells header lines table = TellsVolumes header.layout.cpus (width header) (λ c k. volume (measure k) c lines) table
+
+  Decides-spent : measure thing act ≡ size → ((k : ℕ) → (k ≡ thing → ⊥) → measure k act ≡ 0)
+      → ((header : Header) (lines : List Line) → Stands header lines (put old) → Tells header lines old)
+      → ((header : Header) (lines : List Line) → Stands header lines (put old)
+      → Tells header (Lane (Cpu cpu) act ∷ lines) spent → Stands header (Lane (Cpu cpu) act ∷ lines) (put spent))
+      → ((header : Header) → IsActOf header (Cpu cpu) act → thing < width header)
+      → ((lines : List Line) → overflows lines cpu.number act ≡ nat_lt most_volume (volume
+      (measure thing) cpu.number lines + size))
+      → result ≡ (if nat_lt most_volume (volume_at old cpu.number thing + size) then Err Overflow else Ok tt)
+      → new ≡ (if nat_lt most_volume (volume_at old cpu.number thing + size) then old else spent)
+      → Decides (Lane (Cpu cpu) act) (put old) (put new) result
+  Decides-spent adds others tells goes_on known passes answer table = record {
+    by = λ header lines is is_line stands.
+        let before : Tells header lines old = tells header lines stands in
+        let within : thing < width header = known header is_line.1 in
+        let here = volume_at-is header.layout.cpus (width header) (λ c k. volume (measure k) c lines) old cpu.number
+        thing before is_line.0 within in
+        judged_by (nat_lt most_volume (volume_at old cpu.number thing + size)) header lines cpu act put old spent new
+        result (passes lines ∙ ap (λ n. nat_lt most_volume (n + size)) (sym here))
+        (ap is_online (sym (stands.cpus.state cpu.number is_line.0) ∙ online)) answer table stands
+        (λ fits. goes_on header lines stands
+        (TellsVolumes-spent measure cpu act thing size adds others _ _ lines old is_line.0 within
+        (ltb-false most_volume (volume_at old cpu.number thing + size) fits) before));
+  }
+
 module _ (judge : LineJudge) (cpu : CpuId) (act : Act) (thing size : ℕ) (new : VolumeTable) (result : Result
     (Unit {0}) LineCause)
     (online : get_or judge.cpus.states cpu.number IsOnline ≡ IsOnline)
     (still : (c : ℕ) (s : CpuState) → state_past c (Lane (Cpu cpu) act) s ≡ s) where
-  is_online_here : (header : Header) (lines : List Line) → Stands header lines judge → cpu.number < header.layout.cpus
-      → is_online (cpu_state cpu.number lines) ≡ true
-  is_online_here header lines stands below = ap is_online (sym (stands.cpus.state cpu.number below) ∙ online)
+  -- the states of the CPUs, and a table whose volumes the act leaves, say the same after the act
+  cpus_stand : (header : Header) (lines : List Line) → Stands header lines judge
+      → TellsCpus header.layout.cpus (Lane (Cpu cpu) act ∷ lines) judge.cpus
+  cpus_stand header lines stands =
+      TellsCpus-still lines (Lane (Cpu cpu) act) header.layout.cpus judge.cpus still stands.cpus
+
+  table_stands : (cpus width : ℕ) (measure : ℕ → Act → ℕ) (lines : List Line) (table : VolumeTable)
+      → ((k : ℕ) → measure k act ≡ 0)
+      → TellsVolumes cpus width (λ c k. volume (measure k) c lines) table
+      → TellsVolumes cpus width (λ c k. volume (measure k) c (Lane (Cpu cpu) act ∷ lines)) table
+  table_stands cpus width measure lines table nothing =
+      TellsVolumes-still cpus width measure lines (Lane (Cpu cpu) act) table
+      (λ c k. by_cpu-nothing (measure k) c cpu act (nothing k))
 
   -- an act that adds to the volume of a page counter
   pub Decides-counters : spent_on_counter thing act ≡ size → ((k : ℕ) → (k ≡ thing → ⊥) → spent_on_counter k act ≡ 0)
@@ -73,27 +117,15 @@ module _ (judge : LineJudge) (cpu : CpuId) (act : Act) (thing size : ℕ) (new :
       → new ≡ (if nat_lt most_volume (volume_at judge.counters cpu.number thing + size) then judge.counters
       else with_volume judge.counters cpu.number thing (volume_at judge.counters cpu.number thing + size))
       → Decides (Lane (Cpu cpu) act) judge (record judge { counters = new }) result
-  Decides-counters adds others nothing_events nothing_pcpu known passes answer table = record {
-    by = λ header lines is is_line stands.
-        let here = volume_at-is header.layout.cpus (counter_count header.layout) (λ c k. volume
-        (spent_on_counter k) c lines) judge.counters cpu.number thing
-        stands.counters is_line.0 (known header is_line.1) in
-        judged_by (nat_lt most_volume (volume_at judge.counters cpu.number thing + size)) header lines cpu act
-        (λ (t : VolumeTable). record judge { counters = t }) judge.counters
-        (with_volume judge.counters cpu.number thing (volume_at judge.counters cpu.number thing + size)) new result
-        (passes lines ∙ ap (λ n. nat_lt most_volume (n + size)) (sym here))
-        (is_online_here header lines stands is_line.0) answer table stands
-        (λ within. record {
-          cpus = TellsCpus-still lines (Lane (Cpu cpu) act) header.layout.cpus judge.cpus still stands.cpus;
-          counters = TellsVolumes-spent spent_on_counter cpu act thing size adds others _ _ lines judge.counters
-              is_line.0 (known header is_line.1)
-              (ltb-false most_volume (volume_at judge.counters cpu.number thing + size) within) stands.counters;
-          events = TellsVolumes-still _ _ spent_on_event lines (Lane (Cpu cpu) act) judge.events
-              (λ c e. by_cpu-nothing (spent_on_event e) c cpu act (nothing_events e)) stands.events;
-          pcpu = TellsVolumes-still _ _ spent_on_pcpu lines (Lane (Cpu cpu) act) judge.pcpu (λ c j. by_cpu-nothing
-              (spent_on_pcpu j) c cpu act (nothing_pcpu j)) stands.pcpu;
-        });
-  }
+  Decides-counters adds others nothing_events nothing_pcpu =
+      Decides-spent cpu act thing size judge.counters new result (λ (t : VolumeTable). record judge { counters = t })
+      spent_on_counter (λ header. counter_count header.layout) online adds others (λ header lines stands. stands.counters)
+      (λ header lines stands tells. record {
+        cpus = cpus_stand header lines stands;
+        counters = tells;
+        events = table_stands _ _ spent_on_event lines judge.events nothing_events stands.events;
+        pcpu = table_stands _ _ spent_on_pcpu lines judge.pcpu nothing_pcpu stands.pcpu;
+      })
 
   -- an act that adds to that of an event
   pub Decides-events : spent_on_event thing act ≡ size → ((k : ℕ) → (k ≡ thing → ⊥) → spent_on_event k act ≡ 0)
@@ -106,27 +138,15 @@ module _ (judge : LineJudge) (cpu : CpuId) (act : Act) (thing size : ℕ) (new :
       → new ≡ (if nat_lt most_volume (volume_at judge.events cpu.number thing + size) then judge.events
       else with_volume judge.events cpu.number thing (volume_at judge.events cpu.number thing + size))
       → Decides (Lane (Cpu cpu) act) judge (record judge { events = new }) result
-  Decides-events adds others nothing_counters nothing_pcpu known passes answer table = record {
-    by = λ header lines is is_line stands.
-        let here = volume_at-is header.layout.cpus (8) (λ c k. volume
-        (spent_on_event k) c lines) judge.events cpu.number thing
-        stands.events is_line.0 (known header is_line.1) in
-        judged_by (nat_lt most_volume (volume_at judge.events cpu.number thing + size)) header lines cpu act
-        (λ (t : VolumeTable). record judge { events = t }) judge.events
-        (with_volume judge.events cpu.number thing (volume_at judge.events cpu.number thing + size)) new result
-        (passes lines ∙ ap (λ n. nat_lt most_volume (n + size)) (sym here))
-        (is_online_here header lines stands is_line.0) answer table stands
-        (λ within. record {
-          cpus = TellsCpus-still lines (Lane (Cpu cpu) act) header.layout.cpus judge.cpus still stands.cpus;
-          counters = TellsVolumes-still _ _ spent_on_counter lines (Lane (Cpu cpu) act) judge.counters
-              (λ c k. by_cpu-nothing (spent_on_counter k) c cpu act (nothing_counters k)) stands.counters;
-          events = TellsVolumes-spent spent_on_event cpu act thing size adds others _ _ lines judge.events
-              is_line.0 (known header is_line.1)
-              (ltb-false most_volume (volume_at judge.events cpu.number thing + size) within) stands.events;
-          pcpu = TellsVolumes-still _ _ spent_on_pcpu lines (Lane (Cpu cpu) act) judge.pcpu (λ c j. by_cpu-nothing
-              (spent_on_pcpu j) c cpu act (nothing_pcpu j)) stands.pcpu;
-        });
-  }
+  Decides-events adds others nothing_counters nothing_pcpu =
+      Decides-spent cpu act thing size judge.events new result (λ (t : VolumeTable). record judge { events = t })
+      spent_on_event (λ header. 8) online adds others (λ header lines stands. stands.events)
+      (λ header lines stands tells. record {
+        cpus = cpus_stand header lines stands;
+        counters = table_stands _ _ spent_on_counter lines judge.counters nothing_counters stands.counters;
+        events = tells;
+        pcpu = table_stands _ _ spent_on_pcpu lines judge.pcpu nothing_pcpu stands.pcpu;
+      })
 
   -- an act that adds to that of a percpu counter
   pub Decides-pcpu : spent_on_pcpu thing act ≡ size → ((k : ℕ) → (k ≡ thing → ⊥) → spent_on_pcpu k act ≡ 0)
@@ -139,27 +159,15 @@ module _ (judge : LineJudge) (cpu : CpuId) (act : Act) (thing size : ℕ) (new :
       → new ≡ (if nat_lt most_volume (volume_at judge.pcpu cpu.number thing + size) then judge.pcpu
       else with_volume judge.pcpu cpu.number thing (volume_at judge.pcpu cpu.number thing + size))
       → Decides (Lane (Cpu cpu) act) judge (record judge { pcpu = new }) result
-  Decides-pcpu adds others nothing_counters nothing_events known passes answer table = record {
-    by = λ header lines is is_line stands.
-        let here = volume_at-is header.layout.cpus (length header.counters) (λ c k. volume
-        (spent_on_pcpu k) c lines) judge.pcpu cpu.number thing
-        stands.pcpu is_line.0 (known header is_line.1) in
-        judged_by (nat_lt most_volume (volume_at judge.pcpu cpu.number thing + size)) header lines cpu act
-        (λ (t : VolumeTable). record judge { pcpu = t }) judge.pcpu
-        (with_volume judge.pcpu cpu.number thing (volume_at judge.pcpu cpu.number thing + size)) new result
-        (passes lines ∙ ap (λ n. nat_lt most_volume (n + size)) (sym here))
-        (is_online_here header lines stands is_line.0) answer table stands
-        (λ within. record {
-          cpus = TellsCpus-still lines (Lane (Cpu cpu) act) header.layout.cpus judge.cpus still stands.cpus;
-          counters = TellsVolumes-still _ _ spent_on_counter lines (Lane (Cpu cpu) act) judge.counters
-              (λ c k. by_cpu-nothing (spent_on_counter k) c cpu act (nothing_counters k)) stands.counters;
-          events = TellsVolumes-still _ _ spent_on_event lines (Lane (Cpu cpu) act) judge.events
-              (λ c e. by_cpu-nothing (spent_on_event e) c cpu act (nothing_events e)) stands.events;
-          pcpu = TellsVolumes-spent spent_on_pcpu cpu act thing size adds others _ _ lines judge.pcpu is_line.0
-              (known header is_line.1)
-              (ltb-false most_volume (volume_at judge.pcpu cpu.number thing + size) within) stands.pcpu;
-        });
-  }
+  Decides-pcpu adds others nothing_counters nothing_events =
+      Decides-spent cpu act thing size judge.pcpu new result (λ (t : VolumeTable). record judge { pcpu = t })
+      spent_on_pcpu (λ header. length header.counters) online adds others (λ header lines stands. stands.pcpu)
+      (λ header lines stands tells. record {
+        cpus = cpus_stand header lines stands;
+        counters = table_stands _ _ spent_on_counter lines judge.counters nothing_counters stands.counters;
+        events = table_stands _ _ spent_on_event lines judge.events nothing_events stands.events;
+        pcpu = tells;
+      })
 
 -- an act that adds to no volume, and leaves the states of the CPUs
 record Quiet (act : Act) : Type 0 where

@@ -13,30 +13,10 @@ ghost use Rattle.vms_history.specs.Passes.{owner_in, IsFree};
 ghost use Rattle.vms_core.specs.declared.steps.Facts.{Facts};
 ghost use Rattle.vms_core.specs.declared.steps.Step.TheVariants.{Put, Miss};
 ghost use Rattle.vms_core.specs.Cells.{TellsGroup, cpu_at, eight_zeros};
-ghost use Rattle.vms_core.specs.Knowledge.{NameEight, GroupsAreLists, OwnsOnline, KnowsFound, GoesOnWithout, GoesOnWithoutMain, OwnerKnows, ControlKnows, StandsFree, MayExchange, HasTakenAll};
+ghost use Rattle.vms_core.specs.Knowledge.{GoesOnWithout, GoesOnWithoutMain, OwnerKnows, ControlKnows, StandsFree, MayExchange, HasTakenAll};
 ghost use Rattle.vms_core.specs.Conditions.{Owns, AddsToPlace, AddsToSystem, Acknowledges, IsControl, SetsThreshold, SetsMark, SetsAbsent};
 ghost use Rattle.vms_core.specs.Pages.{History, IsLegal, state_after};
 ghost use Rattle.vms_core.specs.Steps.{turn};
-
-/// The CPU that a pass owns is one of the layout and online.
-pub fn owned_cpus_are_online()
-    ensures { (facts : Facts) (h : History) → IsLegal facts h → OwnsOnline facts h }
-{}
-
-/// Every list of differentials that a step of a legal history names has eight entries.
-pub fn lists_have_eight()
-    ensures { (facts : Facts) (h : History) → IsLegal facts h → NameEight h }
-{}
-
-/// In every state of a legal history the differentials of a group stand as a list of eight, each of which is a byte.
-pub fn groups_are_lists()
-    ensures { (facts : Facts) (h : History) → IsLegal facts h → GroupsAreLists facts h }
-{}
-
-/// The list that the live owner of a CPU found last of a group stands, or all eight are 0.
-pub fn found_lists_stand()
-    ensures { (facts : Facts) (h : History) → IsLegal facts h → KnowsFound facts h }
-{}
 
 /// A pass that lives knows of what went on without it: the owner of a CPU, that it owns the CPU still and that the CPU
 /// spent no more; the control pass, that thresholds, marks, the CPUs' states and the peaks are as they were.

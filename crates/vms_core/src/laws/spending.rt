@@ -5,17 +5,9 @@ ghost use Rattle.vms_history.specs.Making.{HasMade};
 ghost use Rattle.vms_history.specs.Passes.{owner_in};
 ghost use Rattle.vms_core.specs.declared.steps.Facts.{Facts};
 ghost use Rattle.vms_core.specs.declared.steps.Step.{Step};
-ghost use Rattle.vms_core.specs.Pages.{pages, History, IsLegal};
-ghost use Rattle.vms_core.specs.Spending.{SumsSpending, SumsChanges};
+ghost use Rattle.vms_core.specs.Pages.{pages, History};
 ghost use Rattle.vms_core.specs.Steps.{turn};
 ghost use Rattle.vms_core.specs.Totals.{change_size, spent};
-
-/// What a CPU spent on a counter is what the own events of its owners changed the counter by, in absolute sum; and all
-/// CPUs together spent what all steps changed it by.
-pub fn spending_adds_up()
-    ensures owners { (facts : Facts) (h : History) → IsLegal facts h → SumsSpending h }
-    ensures cpus { (facts : Facts) (h : History) → IsLegal facts h → SumsChanges facts h }
-{}
 
 /// While a pass owns a CPU, the CPU spends what the pass's own steps change, and no more.
 pub fn owners_spend_by_own_steps()

@@ -7,23 +7,7 @@ ghost use Rattle.vms_core.specs.declared.steps.Facts.{Facts};
 ghost use Rattle.vms_core.specs.declared.steps.Step.TheVariants.{Take};
 ghost use Rattle.vms_core.specs.Cells.{cpu_at};
 ghost use Rattle.vms_core.specs.Pages.{History, IsLegal};
-ghost use Rattle.vms_core.specs.Taken.{KeepsEmptied, KeepsOfflineTaken, MovesDeadOnce, has_taken};
-
-/// After a take or a miss, a group's differentials are 0 until its owner's next put into it.
-pub fn emptied_groups_stay_zero()
-    ensures { (facts : Facts) (h : History) → IsLegal facts h → KeepsEmptied facts h }
-{}
-
-/// What a CPU hid that is dead from the start is taken once: its differential and what was taken of it are that of the
-/// base, at most one take found something, and once the CPU is absent all was taken.
-pub fn dead_cpus_move_once()
-    ensures { (facts : Facts) (h : History) → IsLegal facts h → MovesDeadOnce facts h }
-{}
-
-/// Once a caller took a group of a CPU that isn't online, the group's differentials are 0, whatever others do.
-pub fn offline_groups_stay_taken()
-    ensures { (facts : Facts) (h : History) → IsLegal facts h → KeepsOfflineTaken facts h }
-{}
+ghost use Rattle.vms_core.specs.Taken.{has_taken};
 
 /// Of a CPU that isn't online, every take of a group but the first finds eight zeros, whoever makes it.
 pub fn offline_groups_are_found_once()

@@ -9,7 +9,10 @@ use Rattle.vms_core.specs.Cells.{cpu_at}
 use Rattle.vms_calls.specs.MayMake.{MayMake, ControlsIn}
 use Rattle.vms_core.specs.Pages.{state_after}
 use Rattle.vms_core.specs.Settling.{one_zone, begun, cpu, zone}
+use Rattle.vms_calls.specs.Ratings.{ByPressure, Rates}
+use Rattle.vms_calls.proofs.ChoiceRanges.{pressure-gives}
 use Rattle.vms_calls.proofs.ControlCalls.{rating-may}
+use Rattle.vms_calls.proofs.MayBegin.{call-whole}
 use Rattle.vms_core.proofs.SettlingLegal.{lowered_legal, uncovered_threshold_illegal}
 use Rattle.vms_calls.proofs.tests.covered_threshold_may_be_set.Goals as goal
 
@@ -20,19 +23,16 @@ begun_control : ControlsIn one_zone begun 2
 begun_control = record { living = record { legal = lowered_legal.0; lives = refl }; control = refl }
 
 covered : MayMake one_zone 2 begun (SetT cpu zone 5 ∷ [])
-covered = rating-may any any (λ size n t valid some few range. range) (λ size n t valid some few range. range)
-    one_zone begun 2 (cpu ∷ []) 0 5 0 (SetT cpu zone 5 ∷ []) begun_control
+covered = call-whole one_zone 2 begun (λ steps. Rates one_zone 2 (cpu ∷ []) (ByPressure any any) 0 5 0 begun steps)
+    (rating-may (ByPressure any any)
+    (pressure-gives any any (λ size n t valid some few range. range) (λ size n t valid some few range. range))
+    one_zone begun 2 (cpu ∷ []) 0 5 0 begun_control
     (All-cons (λ c. IsCpu one_zone.layout c.number × (cpu_at (state_after one_zone begun) c.number ≡ Online)) cpu []
     (omega arith, refl) (All-nil (λ c.
     IsCpu one_zone.layout c.number × (cpu_at (state_after one_zone begun) c.number ≡ Online))))
-    (omega arith) (omega arith) refl
-    (record {
-      by_rule = (omega arith, omega arith);
-      usual = 20;
-      by_normal = (omega arith, omega arith);
-      in_order =
-          refl;
-    })
+    (omega arith) (omega arith) refl)
+    (SetT cpu zone 5 ∷ [])
+    (record { usual = 20; chosen = ((omega arith, omega arith), (omega arith, omega arith)); in_order = refl })
 
 pub returns : goal.returns
 returns c = record {

@@ -1,5 +1,5 @@
 -- The laws hold of every beginning.
-use Rattle.vms_event_core.proofs.Keeping.{beginnings-kept}
+use Rattle.vms_event_core.proofs.AllLaws.{beginnings-kept}
 use Rattle.vms_event_core.proofs.laws.laws_are_kept.Goals as goal
 
 pub returns : goal.returns

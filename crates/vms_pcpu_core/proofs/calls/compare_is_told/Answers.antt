@@ -1,5 +1,5 @@
-use Rattle.vms_pcpu_core.proofs.Readings.{told_by_compare-call}
+use Rattle.vms_pcpu_core.proofs.Readings.{read_compare-call}
 use Rattle.vms_pcpu_core.proofs.calls.compare_is_told.Goals as goal
 
 pub returns : goal.returns
-returns c = told_by_compare-call
+returns c = read_compare-call

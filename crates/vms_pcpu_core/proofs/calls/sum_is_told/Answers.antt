@@ -1,5 +1,5 @@
-use Rattle.vms_pcpu_core.proofs.Readings.{told_by_sum-call}
+use Rattle.vms_pcpu_core.proofs.Readings.{read_sum-call}
 use Rattle.vms_pcpu_core.proofs.calls.sum_is_told.Goals as goal
 
 pub returns : goal.returns
-returns c = told_by_sum-call
+returns c = read_sum-call

@@ -2,7 +2,8 @@ use Rattle.std.proofs.Common.{◌≡◌, ℕ, ◌+◌, ◌*◌, ◌^◌, ◌<◌
 use Rattle.vms_base.proofs.Cells.{cell-lt}
 use Rattle.vms_pcpu_judge.proofs.standing.base_local.Goals as goal
 
-small : (cpus cpu width full counters counter : ℕ) → cpu < cpus → counter < counters → width ≡ counters → full ≡ cpus * counters → full < 2 ^ 63
+small : (cpus cpu width full counters counter : ℕ) → cpu < cpus → counter < counters → width ≡ counters
+    → full ≡ cpus * counters → full < 2 ^ 63
     → cpu * width + counter < 2 ^ 63
 small cpus cpu width full counters counter cpu_in counter_in is filled bound =
     let inside : cpu * counters + counter < cpus * counters = cell-lt counters cpus cpu counter cpu_in counter_in in

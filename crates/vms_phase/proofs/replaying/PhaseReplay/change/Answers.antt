@@ -3,7 +3,7 @@ use Rattle.std.proofs.Common.{◌+ℤ◌, of_z, to_z, w64, ◌≡◌, ℤ, ap, s
 use Rattle.vms_base.specs.Places.{Shape, IsCpu, IsCounter}
 use Rattle.vms_core.specs.declared.states.State.{State}
 use Rattle.vms_core.specs.ChangedStates.{with_change}
-use Rattle.vms_phase.specs.Worlds.{settled}
+use Rattle.vms_core.specs.Bases.{settled}
 use Rattle.vms_phase.proofs.PhaseEnds.{settled-change}
 use Rattle.vms_core.specs.Cells.{HasShape, value_at, diff_at}
 use Rattle.vms_phase.specs.OpenPhases.{Moment}

@@ -1,7 +1,7 @@
 -- The open phase can end.
 use Rattle.std.proofs.Common.{◌≡◌, ap, subst}
 use Rattle.vms_core.specs.declared.states.State.{State}
-use Rattle.vms_phase.specs.Worlds.{settled}
+use Rattle.vms_core.specs.Bases.{settled}
 use Rattle.vms_phase.proofs.PhaseEnds.{EndsPhase-open}
 use Rattle.vms_phase.proofs.replaying.PhaseReplay.end_phase.Goals as goal
 

@@ -1,5 +1,0 @@
-use Rattle.vms_calls.proofs.Following.{goes_on_with_change}
-use Rattle.vms_calls.proofs.calls.changes_follow.Goals as goal
-
-pub returns : goal.returns
-returns c = goes_on_with_change

@@ -1,5 +1,0 @@
-use Rattle.vms_calls.proofs.RatingCovers.{rating-covers}
-use Rattle.vms_calls.proofs.calls.ratings_cover.Goals as goal
-
-pub returns : goal.returns
-returns c = rating-covers

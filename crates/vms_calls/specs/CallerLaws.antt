@@ -1,0 +1,51 @@
+-- What each call leaves as it was: what its caller carries, and what the CPUs have spent.
+use Rattle.std.specs.Prelude.{◌≡◌, ℕ, ◌+◌, nat_eq, ◌&&◌, ℤ, pos, ◌+ℤ◌, List, if◌then◌else◌, Some, unsigned_abs}
+use Rattle.vms_base.specs.declared.ids.CounterId.{CounterId}
+use Rattle.vms_base.specs.declared.ids.CpuId.{CpuId}
+use Rattle.vms_base.specs.declared.kinds.Mode.{Mode}
+use Rattle.vms_base.specs.Places.{Shape}
+use Rattle.vms_history.specs.Events.{after, total}
+use Rattle.vms_history.specs.Passes.{owner_in}
+use Rattle.vms_core.specs.declared.steps.Step.{Step}
+use Rattle.vms_core.specs.Own.{carried, carried_of_item}
+use Rattle.vms_core.specs.Pages.{History}
+use Rattle.vms_core.specs.Steps.{turn}
+use Rattle.vms_core.specs.Totals.{change_size, spent}
+use Rattle.vms_calls.specs.Changes.{IsChange}
+
+-- what a caller carried before these steps, for each counter and item, it carries after them: `h` are its own events
+-- before
+pub record CarriesAsBefore (shape : Shape) (p : ℕ) (steps : List Step) (h : History) : Type 0 where
+  pub counters : (k : ℕ) → carried k (after p steps h) ≡ carried k h
+  pub items : (i : ℕ) → carried_of_item shape i (after p steps h) ≡ carried_of_item shape i h
+
+-- so it is after a call that changes no counter, and no CPU has spent more than before
+pub record LeavesCaller (shape : Shape) (p : ℕ) (steps : List Step) (h : History) : Type 0 where
+  pub carries : CarriesAsBefore shape p steps h
+  -- the caller's own steps changed each counter by as much as before
+  pub changes : (k : ℕ) → total (change_size k) (after p steps h) ≡ total (change_size k) h
+  pub spends : (c k : ℕ) → spent (after p steps h) c k ≡ spent h c k
+
+-- whatever steps such a call makes from whatever history on
+abbrev pub Leaves : Shape → (ℕ → History → List Step → Type 0) → Type 0
+Leaves shape IsCall = (p : ℕ) (began : History) (steps : List Step) → IsCall p began steps →
+    (h : History) → LeavesCaller shape p steps h
+
+-- a change: its caller carries what it carried before, and its own steps changed the counter by the size of the change
+-- more, whether or not it missed
+pub record LeavesChanger (shape : Shape) (k : CounterId) (delta : ℤ) (p : ℕ) (steps : List Step) (h : History)
+    : Type 0 where
+  pub carries : CarriesAsBefore shape p steps h
+  pub changes : (l : ℕ) → total (change_size l) (after p steps h) ≡
+      (if nat_eq k.number l then pos (unsigned_abs delta) else pos 0) +ℤ total (change_size l) h
+
+abbrev pub ChangesLeave : Type 0
+ChangesLeave = (shape : Shape) (cpu : CpuId) (k : CounterId) (delta : ℤ) (how : Mode) (steps : List Step) →
+    IsChange shape cpu k delta how steps → (p : ℕ) (h : History) → LeavesChanger shape k delta p steps h
+
+-- where the caller owns a CPU, that CPU has spent the size of the change more on the counter
+abbrev pub ChangesSpend : Type 0
+ChangesSpend = (shape : Shape) (cpu : CpuId) (k : CounterId) (delta : ℤ) (how : Mode) (steps : List Step) →
+    IsChange shape cpu k delta how steps → (p : ℕ) (h : History) → owner_in turn h p ≡ Some cpu → (c l : ℕ) →
+    spent (after p steps h) c l ≡
+    (if nat_eq cpu.number c && nat_eq k.number l then unsigned_abs delta + spent h c l else spent h c l)

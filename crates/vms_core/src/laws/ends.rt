@@ -1,0 +1,39 @@
+ghost use Rattle.std.specs.Prelude.{◌≡◌, ℕ, ◌≤◌, ◌-ℤ◌};
+ghost use Rattle.vms_base.specs.Places.{IsCpu, IsPlace, IsItem};
+ghost use Rattle.vms_history.specs.Events.{own};
+ghost use Rattle.vms_core.specs.declared.steps.Facts.{Facts};
+ghost use Rattle.vms_core.specs.Bases.{IsBase, settled, next_facts};
+ghost use Rattle.vms_core.specs.Cells.{system_at};
+ghost use Rattle.vms_core.specs.Ends.{grown, AreVolumes, IsWithinVolumes};
+ghost use Rattle.vms_core.specs.Own.{CarriesNothing};
+ghost use Rattle.vms_core.specs.Pages.{History, IsLegal, IsComplete, state_after};
+ghost use Rattle.vms_core.specs.Peaks.{opening_peak, peak};
+ghost use Rattle.vms_core.specs.Totals.{values_of_item};
+
+/// After a complete history nobody carries anything.
+pub fn complete_histories_carry_nothing()
+    ensures { (facts : Facts) (h : History) → IsComplete facts h → (p : ℕ) →
+        CarriesNothing facts.layout (own h p) }
+{}
+
+/// The state that a complete history leaves may open the next phase, once it is settled, and its totals are within the
+/// grown volumes, as those of its base are within the volumes.
+pub fn settled_ends_may_begin()
+    ensures base { (facts : Facts) (h : History) → IsComplete facts h → (volume : ℕ → ℕ → ℕ) →
+        IsWithinVolumes facts.layout volume facts.base → AreVolumes facts.layout (grown volume h) →
+        IsBase (next_facts facts (state_after facts h)) }
+    ensures totals { (facts : Facts) (h : History) → IsComplete facts h → (volume : ℕ → ℕ → ℕ) →
+        IsWithinVolumes facts.layout volume facts.base → AreVolumes facts.layout (grown volume h) →
+        IsWithinVolumes facts.layout (grown volume h) (settled (state_after facts h)) }
+    ensures peaks { (facts : Facts) (h : History) → IsLegal facts h →
+        (c g : ℕ) → IsCpu facts.layout c → IsPlace facts.layout g →
+        opening_peak facts.layout (settled (state_after facts h)) c g ≤ peak facts c g h }
+{}
+
+/// By how much the system-wide value of an item is above the sum of the global values of its counters, every complete
+/// history keeps.
+pub fn systems_keep_off()
+    ensures { (facts : Facts) (h : History) → IsComplete facts h → (i : ℕ) → IsItem facts.layout i →
+        system_at (state_after facts h) i -ℤ values_of_item facts.layout (state_after facts h) i
+        ≡ system_at facts.base i -ℤ values_of_item facts.layout facts.base i }
+{}

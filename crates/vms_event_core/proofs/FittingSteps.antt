@@ -1,0 +1,222 @@
+-- The steps of each call may be made while others act.
+use Rattle.std.proofs.Common.{◌≡◌, ◌≢◌, ℕ, zero, suc, ◌+◌, ◌<◌, ◌≤◌, Bool, true, false, List, [], ◌∷◌, ◌++◌, length, Some, None, All, inl, inr, pos, refl, sym, ap, ◌∙◌, subst, arith, if◌then◌else◌, nat_eq, eq-eqb}
+use Rattle.std.proofs.lemmas.Int.{ints}
+use Rattle.std.proofs.lemmas.Bool.{cases_lt}
+use Rattle.std.proofs.lemmas.List.{get_or_past}
+use Rattle.std.proofs.lemmas.List.Elements.{All-nil, All-cons, All-head, All-tail, All-weaker}
+use Rattle.vms_base.specs.declared.ids.CpuId.{CpuId}
+use Rattle.vms_base.specs.declared.ids.EventId.{EventId}
+use Rattle.vms_base.specs.declared.kinds.CpuState.{CpuState}
+use Rattle.vms_base.specs.declared.kinds.CpuState.TheVariants.{Online, Dead, Absent}
+use Rattle.vms_base.specs.Cpus.{online_from, is_online, state_at}
+use Rattle.vms_base.specs.Places.{IsCpu}
+use Rattle.vms_base.specs.Volumes.{most_volume}
+use Rattle.vms_history.specs.Events.{own, after, total}
+use Rattle.vms_history.specs.Passes.{owner_in}
+use Rattle.vms_history.proofs.Prefixes.{base_can_begin}
+use Rattle.vms_event_core.specs.declared.steps.EventFacts.{EventFacts}
+use Rattle.vms_event_core.specs.declared.steps.EventStep.{EventStep}
+use Rattle.vms_event_core.specs.declared.steps.EventStep.TheVariants.{AddE, LoadE, TakeE, AddF, Split, Join}
+use Rattle.vms_event_core.specs.Bases.{cpu_at, IsBase, IsLowestOnline}
+use Rattle.vms_event_core.specs.Calls.{loads, folds, online_cpus}
+use Rattle.vms_event_core.specs.Events.{events, History, IsLegal}
+use Rattle.vms_event_core.specs.MadeCalls.{HasMade, Tells, MayMake, MakesCount, MakesAllEvents, MakesFoldEvents}
+use Rattle.vms_event_core.specs.Own.{carried, CarriesNothing}
+use Rattle.vms_event_core.specs.Steps.{turn}
+use Rattle.vms_event_core.specs.Totals.{counted, spent}
+use Rattle.vms_event_core.specs.Words.{IsEvent, event_count}
+use Rattle.vms_event_core.proofs.CallCarrying.{empty_take-moves, take_and_add-move}
+use Rattle.vms_event_core.proofs.CallSpending.{spent-made}
+use Rattle.vms_event_core.proofs.Callers.{made-given, made-owner}
+
+module _ (facts : EventFacts) (p : ℕ) (earlier : History) where
+  -- a pass that has counted nothing since may count
+  record MayCount (g : History) (k : EventId) (n : ℕ) : Type 0 where
+    cpu : CpuId
+    owns : owner_in turn earlier p ≡ Some cpu
+    event : IsEvent k.number
+    affordable : spent earlier cpu.number k.number + n ≤ most_volume
+    none_since : total (counted k.number) g ≡ total (counted k.number) (own earlier p)
+
+  -- the control pass may take a word
+  record MayTake (c : CpuId) (k : EventId) : Type 0 where
+    control : owner_in turn earlier p ≡ None
+    dead : cpu_at facts c.number ≡ Dead
+    cpu : IsCpu facts.layout c.number
+    event : IsEvent k.number
+
+  -- it may add what it carries
+  record MayAdd (g : History) (c : CpuId) (k : EventId) (v : ℕ) : Type 0 where
+    cpu : IsCpu facts.layout c.number
+    lowest : IsLowestOnline facts c.number
+    event : IsEvent k.number
+    carries : carried k.number g ≡ pos v
+    some : v ≢ 0
+
+  -- the condition of a step by the caller's own events, but for what the step tells
+  abbrev Fits : History → EventStep → Type 0
+  Fits g (AddE k n) = MayCount g k n
+  Fits g (LoadE c k v) = IsCpu facts.layout c.number × IsEvent k.number
+  Fits g (TakeE c k v) = MayTake c k
+  Fits g (AddF c k v) = MayAdd g c k v
+  Fits g _ = ⊥
+
+  -- each of these steps fits once the ones before it are made
+  abbrev Runs : List EventStep → History → Type 0
+  Runs [] g = Unit {0}
+  Runs (step ∷ steps) g = Fits g step × Runs steps (record { caller = p; step = step } ∷ g)
+
+  runs-at : (done rest : List EventStep) (step : EventStep) (g : History) → Runs (done ++ (step ∷ rest)) g
+      → Fits (after p done g) step
+  runs-at [] rest step g runs = runs.0
+  runs-at (first ∷ done) rest step g runs = runs-at done rest step (record { caller = p; step = first } ∷ g) runs.1
+
+  module _ (later : History) (done : List EventStep) (made : HasMade facts later earlier p done) where
+    given : p ≢ 0
+    given main = let first = (made-given facts later earlier p done made).0 in omega arith
+
+    owner : owner_in turn later p ≡ owner_in turn earlier p
+    owner = made-owner facts later earlier p done made
+
+    fits-may : (step : EventStep) → Fits (own later p) step → Tells facts later p step
+        → IsLegal facts (record { caller = p; step = step } ∷ later)
+    fits-may (AddE k n) fits tells =
+        let along = spent-made facts later earlier p done made fits.cpu k.number fits.owns in
+        let since : total (counted k.number) (after p done (own earlier p))
+        ≡ total (counted k.number) (own earlier p) =
+        ap (total (counted k.number)) (sym made.made) ∙ fits.none_since in
+        let same : spent later fits.cpu.number k.number ≡ spent earlier fits.cpu.number k.number =
+        omega (arith, ints, along, since) in (
+          made.legal,
+          (given, made.lives),
+          record {
+            cpu = fits.cpu;
+            owns = owner ∙ fits.owns;
+            event = fits.event;
+            affordable = omega (arith, same, fits.affordable);
+          },
+        )
+    fits-may (LoadE c k v) fits tells =
+        (made.legal, (given, made.lives), record { cpu = fits.0; event = fits.1; value = tells })
+    fits-may (TakeE c k v) fits tells = (
+      made.legal,
+      (given, made.lives),
+      record {
+        control = owner ∙ fits.control;
+        dead = fits.dead;
+        finds = record { cpu = fits.cpu; event = fits.event; value = tells };
+      },
+    )
+    fits-may (AddF c k v) fits tells = (
+      made.legal,
+      (given, made.lives),
+      record {
+        cpu = fits.cpu;
+        lowest = fits.lowest;
+        event = fits.event;
+        carries = fits.carries;
+        some = fits.some;
+      },
+    )
+    fits-may (Split q who) fits tells = absurd fits
+    fits-may (Join q) fits tells = absurd fits
+
+  -- steps that fit one after another may be made while others act
+  runs-may : (steps : List EventStep) → (IsBase facts → Runs steps (own earlier p)) → MayMake facts p earlier steps
+  runs-may steps runs later done step rest parts made tells =
+      let base = base_can_begin events facts later made.legal in
+      let fits = runs-at done rest step (own earlier p)
+      (subst (λ ks. Runs ks (own earlier p)) parts (runs base)) in
+      fits-may later done made step (subst (λ es. Fits es step) (sym made.made) fits) tells
+
+  loads-run : (k : EventId) (cpus : List CpuId) (found : List ℕ) (g : History) → IsEvent k.number
+      → All (λ c. IsCpu facts.layout c.number) cpus → Runs (loads k cpus found) g
+  loads-run k [] found g k_in known = tt
+  loads-run k (c ∷ cpus) [] g k_in known = tt
+  loads-run k (c ∷ cpus) (v ∷ found) g k_in known = (
+    (All-head (λ d. IsCpu facts.layout d.number) c cpus known, k_in),
+    loads-run k cpus found _ k_in (All-tail (λ d. IsCpu facts.layout d.number) c cpus known),
+  )
+
+  module _ (from into : CpuId) (control : owner_in turn earlier p ≡ None) (from_in : IsCpu facts.layout from.number)
+      (dead : cpu_at facts from.number ≡ Dead) (into_in : IsCpu facts.layout into.number)
+      (lowest : IsLowestOnline facts into.number) where
+    may_take : (k : ℕ) → IsEvent k → MayTake from (record { number = k })
+    may_take k k_in = record { control = control; dead = dead; cpu = from_in; event = k_in }
+
+    folds-run : (k : ℕ) (found : List ℕ) (g : History) → CarriesNothing g → k + length found ≤ event_count
+        → Runs (folds from into k found) g
+    folds-run k [] g nothing few = tt
+    folds-run k (zero ∷ found) g nothing few = (
+      may_take k (omega arith),
+      folds-run (suc k) found _ (λ l l_in. empty_take-moves (nat_eq k l) (carried l g) ∙ nothing l l_in) (omega arith),
+    )
+    folds-run k (suc v ∷ found) g nothing few =
+        let same : nat_eq k k ≡ true = eq-eqb k k refl in
+        let taken : (if nat_eq k k then pos (suc v) else pos 0) ≡ pos (suc v) = rw same refl in
+        let none = nothing k (omega arith) in
+        let adds : MayAdd (record { caller = p; step = TakeE from (record { number = k }) (suc v) } ∷ g) into
+        (record { number = k }) (suc v) = record {
+          cpu = into_in;
+          lowest = lowest;
+          event = omega arith;
+          carries = omega (arith, ints, taken, none);
+          some = λ e. omega arith;
+        } in (
+          may_take k (omega arith),
+          (
+            adds,
+            folds-run (suc k) found _
+                (λ l l_in. take_and_add-move (nat_eq k l) (suc v) (carried l g) ∙ nothing l l_in) (omega arith),
+          ),
+        )
+
+-- a CPU that is online is one of those that have a state
+online-known : (states : List CpuState) (c : ℕ) → state_at states c ≡ Online → c < length states
+online-known states c online = elim (cases_lt c (length states)) [
+  | inl below ↦ below
+  | inr past ↦
+      let is_absent : state_at states c ≡ Absent = get_or_past states c Absent past in
+      absurd cc
+]
+
+-- so are those that are listed as online
+online_from-known : (c : ℕ) (states : List CpuState) → All (λ d. d.number < c + length states) (online_from c states)
+online_from-known c [] = All-nil (λ d. d.number < c + 0)
+online_from-known c (x ∷ states) =
+    by (is_online x) (All-weaker (λ d. d.number < suc c + length states) (λ d. d.number < c + suc (length states))
+    (λ d below. omega arith) (online_from (suc c) states) (online_from-known (suc c) states))
+  where
+    by : (b : Bool) → All (λ d. d.number < c + suc (length states)) (online_from (suc c) states)
+        → All (λ d. d.number < c + suc (length states))
+        (if b then record { number = c } ∷ online_from (suc c) states else online_from (suc c) states)
+    by true rest =
+        All-cons (λ d. d.number < c + suc (length states)) (record { number = c }) (online_from (suc c) states)
+        (omega arith) rest
+    by false rest = rest
+
+online_cpus-known : (facts : EventFacts) → IsBase facts → All (λ c. IsCpu facts.layout c.number) (online_cpus facts)
+online_cpus-known facts base =
+    All-weaker (λ d. d.number < 0 + length facts.cpus) (λ d. IsCpu facts.layout d.number)
+    (λ d below. let each = base.one_state_each in omega arith) (online_cpus facts) (online_from-known 0 facts.cpus)
+
+pub count-may : MakesCount
+count-may facts h p cpu k n steps owns k_in affordable call =
+    runs-may facts p h steps (λ base. subst (λ ks. Runs facts p h ks (own h p)) (sym call.in_order) (
+      record { cpu = cpu; owns = owns; event = k_in; affordable = affordable; none_since = refl },
+      tt,
+    ))
+
+pub all_events-may : MakesAllEvents
+all_events-may facts h p k found steps answer k_in call =
+    runs-may facts p h steps (λ base. subst (λ ks. Runs facts p h ks (own h p)) (sym call.in_order)
+    (loads-run facts p h k (online_cpus facts) found (own h p) k_in (online_cpus-known facts base)))
+
+pub fold_events-may : MakesFoldEvents
+fold_events-may facts h p from into found steps control nothing from_in dead lowest call =
+    runs-may facts p h steps (λ base.
+    let known = online-known facts.cpus into.number lowest.online in
+    let into_in : IsCpu facts.layout into.number = (let each = base.one_state_each in omega arith) in
+    subst (λ ks. Runs facts p h ks (own h p)) (sym call.in_order)
+    (folds-run facts p h from into control from_in dead into_in lowest 0 found (own h p) nothing
+    (let eight = call.one_each in omega arith)))
