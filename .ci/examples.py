@@ -12,7 +12,7 @@ import sys
 
 
 def run(program, word, text):
-    done = subprocess.run(program + [word], input=text.encode(), capture_output=True, timeout=600)
+    done = subprocess.run(program + [word], input=text.encode(), capture_output=True, timeout=60)
     return done.returncode, done.stdout.decode(errors="replace")
 
 
@@ -101,6 +101,8 @@ def check_lines(program, name, document):
 def main(words):
     split = words.index("--")
     names, program = words[:split], words[split + 1 :]
+    # the first call may build the program, which takes minutes
+    subprocess.run(program + ["usage"], stdin=subprocess.DEVNULL, capture_output=True)
     tried = wrong = 0
     for name in names:
         with open(name, encoding="utf-8") as file:
