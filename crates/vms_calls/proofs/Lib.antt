@@ -23,6 +23,7 @@ pub mod ChangeRuns
 pub mod AreaItems
 pub mod CallSteps
 pub mod CallerLaws
+pub mod MadeCalls
 pub mod TurnReadings
 pub mod TurnThresholds
 pub mod TurnRuns

@@ -6,7 +6,7 @@ use Rattle.vms_base.specs.declared.kinds.CpuState.TheVariants.{Online, Dead, Abs
 use Rattle.vms_base.specs.declared.headers.Header.{Header}
 use Rattle.vms_base.specs.declared.ids.PlaceId.{PlaceId}
 use Rattle.vms_base.specs.declared.kinds.WaterMark.{WaterMark}
-use Rattle.vms_base.specs.Places.{Shape, group_of}
+use Rattle.vms_base.specs.Places.{group_of}
 use Rattle.vms_core.specs.declared.steps.Step.{Step}
 use Rattle.vms_core.specs.Cells.{entry}
 use Rattle.vms_calls.specs.Lists.{in_turn}
@@ -60,12 +60,14 @@ module _ (header : Header) (g : PlaceId) (mark : WaterMark) (most : ℕ) where
       → answer.fast ≡ not doubt → answer.yes ≡ nat_lt (limit_of header g.number mark most) answer.free
       → (rest : List Step) → read_further header g mark most doubt value (further ++ rest) ≡ (answer, rest)
   further-told true value further answer frees fast enough rest =
-      let verdict : Bool → Bool → Verdict × List Step = λ y f. (record { yes = y; free = answer.free; fast = f }, rest) in
+      let verdict : Bool → Bool → Verdict × List Step =
+      λ y f. (record { yes = y; free = answer.free; fast = f }, rest) in
       ap (verdict_of header g mark most false)
       (snapshot-told header.layout (free_pages header.layout g) further answer.free frees rest)
       ∙ ap (λ y. verdict y false) (sym enough) ∙ ap (λ f. verdict answer.yes f) (sym fast)
   further-told false value further answer frees fast enough rest =
-      let verdict : Bool → Bool → Verdict × List Step = λ y f. (record { yes = y; free = answer.free; fast = f }, rest) in
+      let verdict : Bool → Bool → Verdict × List Step =
+      λ y f. (record { yes = y; free = answer.free; fast = f }, rest) in
       ap (λ (more : List Step). verdict_of header g mark most true (at_least_zero value, more ++ rest)) frees.0
       ∙ ap (λ (n : ℕ). verdict_of header g mark most true (n, rest)) (sym frees.1)
       ∙ ap (λ y. verdict y true) (sym enough) ∙ ap (λ f. verdict answer.yes f) (sym fast)

@@ -4,14 +4,16 @@ use Rattle.vms_base.specs.declared.ids.CounterId.{CounterId}
 use Rattle.vms_base.specs.declared.ids.CpuId.{CpuId}
 use Rattle.vms_base.specs.declared.kinds.Mode.{Mode}
 use Rattle.vms_base.specs.Places.{Shape}
-use Rattle.vms_history.specs.Events.{after, total}
+use Rattle.vms_history.specs.Events.{own, after, total}
 use Rattle.vms_history.specs.Passes.{owner_in}
+use Rattle.vms_core.specs.declared.steps.Facts.{Facts}
 use Rattle.vms_core.specs.declared.steps.Step.{Step}
 use Rattle.vms_core.specs.Own.{carried, carried_of_item}
 use Rattle.vms_core.specs.Pages.{History}
 use Rattle.vms_core.specs.Steps.{turn}
 use Rattle.vms_core.specs.Totals.{change_size, spent}
 use Rattle.vms_calls.specs.Changes.{IsChange}
+use Rattle.vms_calls.specs.MayMake.{HasMade}
 
 -- what a caller carried before these steps, for each counter and item, it carries after them: `h` are its own events
 -- before
@@ -49,3 +51,25 @@ ChangesSpend = (shape : Shape) (cpu : CpuId) (k : CounterId) (delta : ℤ) (how 
     IsChange shape cpu k delta how steps → (p : ℕ) (h : History) → owner_in turn h p ≡ Some cpu → (c l : ℕ) →
     spent (after p steps h) c l ≡
     (if nat_eq cpu.number c && nat_eq k.number l then unsigned_abs delta + spent h c l else spent h c l)
+
+-- what pass p has made since an earlier history, whatever others did in between, leaves what it carries
+pub record CarriesAsEarlier (shape : Shape) (later earlier : History) (p : ℕ) : Type 0 where
+  pub counters : (k : ℕ) → carried k (own later p) ≡ carried k (own earlier p)
+  pub items : (i : ℕ) → carried_of_item shape i (own later p) ≡ carried_of_item shape i (own earlier p)
+
+-- so it is where the pass made a call that changes no counter, and its CPU has spent no more since
+abbrev pub CallsLeaveMeanwhile : Type 0
+CallsLeaveMeanwhile = (facts : Facts) (later earlier : History) (p : ℕ) (steps : List Step) →
+    HasMade facts later earlier p steps → LeavesCaller facts.layout p steps (own earlier p) →
+    CarriesAsEarlier facts.layout later earlier p
+    × ((c : CpuId) → owner_in turn earlier p ≡ Some c → (k : ℕ) →
+    spent later c.number k ≡ spent earlier c.number k)
+
+-- and where the owner of a CPU made a change: the CPU has spent the size of the change more on the counter
+abbrev pub ChangesLeaveMeanwhile : Type 0
+ChangesLeaveMeanwhile = (facts : Facts) (later earlier : History) (p : ℕ) (cpu : CpuId) (k : CounterId) (delta : ℤ)
+    (how : Mode) (steps : List Step) → HasMade facts later earlier p steps → owner_in turn earlier p ≡ Some cpu →
+    IsChange facts.layout cpu k delta how steps →
+    CarriesAsEarlier facts.layout later earlier p
+    × ((l : ℕ) → spent later cpu.number l ≡
+    (if nat_eq k.number l then unsigned_abs delta + spent earlier cpu.number l else spent earlier cpu.number l))

@@ -8,7 +8,7 @@ ghost use Rattle.vms_base.specs.declared.kinds.WaterMark.{WaterMark};
 ghost use Rattle.vms_base.specs.Places.{Shape, IsLayout};
 ghost use Rattle.vms_core.specs.declared.states.State.{State};
 ghost use Rattle.vms_core.specs.declared.steps.Facts.{Facts};
-ghost use Rattle.vms_calls.specs.CallerLaws.{Leaves};
+ghost use Rattle.vms_calls.specs.CallerLaws.{Leaves, CallsLeaveMeanwhile, ChangesLeaveMeanwhile};
 ghost use Rattle.vms_calls.specs.Folds.{IsFold};
 ghost use Rattle.vms_calls.specs.Looks.{Verdict, IsPlaceValue, IsSystemValue, IsSnapshot, IsWatermarkTest};
 ghost use Rattle.vms_calls.specs.MayCall.{KnowsByOwnSteps};
@@ -27,7 +27,8 @@ pub fn looks_leave_their_caller()
     ensures snapshot { (shape : Shape) (k : CounterId) → Leaves shape
         (λ p h steps. (answer : ℕ) × IsSnapshot shape k steps answer) }
     ensures test { (header : Header) (g : PlaceId) (mark : WaterMark) (most : ℕ) →
-        Leaves header.layout (λ p h steps. (answer : Verdict) × IsWatermarkTest header g mark most steps answer) }
+        Leaves header.layout (λ p h steps. (answer : Verdict)
+        × IsWatermarkTest header g mark most steps answer) }
     ensures order { (header : Header) (g : PlaceId) (mark : WaterMark) (most order : ℕ) →
         Leaves header.layout (λ p h steps. (answer : OrderVerdict)
         × IsOrderTest header g mark most order steps answer) }
@@ -55,6 +56,13 @@ pub fn ratings_leave_their_caller<R: ThresholdRules>()
     ensures turn { (header : Header) (base : State) (n : PlaceId) (order most : ℕ) →
         Leaves header.layout (λ p h steps. (answer : Balance)
         × IsTurn header base R.pressure R.normal n order most p h steps answer) }
+{}
+
+/// A call that was made while others acted leaves its caller as its steps in a row do: the caller carries what it
+/// carried before, and its CPU has spent no more, after a change the size of the change more.
+pub fn made_calls_leave_their_caller()
+    ensures call { CallsLeaveMeanwhile }
+    ensures change { ChangesLeaveMeanwhile }
 {}
 
 /// The control pass knows peaks, thresholds, marks and the CPUs' states by its own steps alone, whatever others did

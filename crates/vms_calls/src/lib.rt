@@ -13,7 +13,7 @@ mod tests;
 
 pub use callers::{
     control_passes_know_by_own_steps, folds_leave_their_caller, looks_leave_their_caller,
-    ratings_leave_their_caller,
+    made_calls_leave_their_caller, ratings_leave_their_caller,
 };
 pub use changes::{changes_follow, changes_miss_once, changes_spend_their_size};
 pub use making::{

@@ -65,5 +65,6 @@ fn rules_and_turns() {
     folds_may_be_made();
     looks_leave_their_caller();
     looks_may_be_made();
+    made_calls_leave_their_caller();
     control_passes_know_by_own_steps();
 }

@@ -1,6 +1,9 @@
 -- What reads find in a list after a row of zeros was written, and in a row of eight.
-use Rattle.std.proofs.Common.{◌≡◌, ◌≢◌, ℕ, zero, suc, ◌+◌, ◌*◌, ◌/◌, ◌%◌, ◌<◌, ◌≤◌, Bool, true, false, ◌&&◌, List, length, get_or, ℤ, pos, refl, sym, ◌∙◌, arith, eqb-true, length-set, get_or-set_other, take, drop, length-take, length-drop, get_or-take, get_or-drop, ap, if◌then◌else◌, nat_eq}
-use Rattle.std.proofs.lemmas.Bool.{eqb-false}
+use Rattle.std.proofs.Common.{◌≡◌, ◌≢◌, ℕ, zero, suc, ◌+◌, ◌*◌, ◌/◌, ◌%◌, ◌<◌, ◌≤◌, Bool, true, false, ◌&&◌, List, length, get_or, ℤ, pos, refl, sym, ◌∙◌, arith, eqb-true, length-set, get_or-set_other, take, drop, length-take, length-drop, get_or-take, get_or-drop, ap, ⊎_elim, if◌then◌else◌, nat_eq}
+use Rattle.std.proofs.lemmas.Bool.{eqb-false, cases_lt}
+use Rattle.std.proofs.lemmas.Int.{ints}
+use Rattle.std.proofs.lemmas.List.{get_or_past}
+use Rattle.vms_base.specs.Groups.{AreBytes}
 use Rattle.vms_base.specs.Places.{cell}
 use Rattle.vms_base.proofs.Cells.{cell-injective, cell-lt}
 use Rattle.vms_history.proofs.Cells.{get_or-set}
@@ -72,3 +75,12 @@ TellsGroup-cells s c j within =
           (let place : start + i ≡ cell (counters_of s) c (8 * j + i) = omega arith in
           ap (λ n. get_or s.diff n (pos 0)) place);
     }
+
+-- eight of a list of bytes are bytes
+pub AreBytes-cells : (xs : List ℤ) (start : ℕ) → AreBytes xs → AreBytes (take 8 (drop start xs))
+AreBytes-cells xs start each k = ⊎_elim
+    (λ (within : k < 8). rw (get_or-take 8 (drop start xs) k (pos 0) within, get_or-drop start xs k (pos 0))
+    (each (start + k)))
+    (λ (past : 8 ≤ k). rw (get_or_past (take 8 (drop start xs)) k (pos 0) (omega (arith, length-take 8 (drop start xs))))
+    (omega (arith, ints), omega (arith, ints)))
+    (cases_lt k 8)

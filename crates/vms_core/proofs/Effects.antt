@@ -3,6 +3,7 @@
 use Rattle.std.proofs.Common.{◌≡◌, ℕ, ◌+◌, ◌*◌, ◌/◌, ◌<◌, ◌≤◌, ◌&&◌, List, length, get_or, Option, Some, None, ℤ, pos, ◌+ℤ◌, refl, ap, ◌∙◌, arith, length-set, if◌then◌else◌, nat_eq}
 use Rattle.vms_base.specs.declared.ids.CpuId.{CpuId}
 use Rattle.vms_base.specs.Places.{Shape, cell, counter_count, IsCpu, IsCounter, IsGroup, group_of}
+use Rattle.vms_base.proofs.Cells.{cell-lt}
 use Rattle.vms_history.specs.declared.events.Event.{Event}
 use Rattle.vms_history.specs.Passes.{owner_in}
 use Rattle.vms_base.specs.declared.kinds.CpuState.TheVariants.{Absent}
@@ -57,6 +58,14 @@ HasShape-effect shape facts (Some c) step s shaped =
 -- a group ends within the counters
 pub group-within : (n j : ℕ) → j < n / 8 → 8 * j + 8 ≤ n
 group-within n j j_in = omega arith
+
+-- the eight cells of a group stand in the list
+pub group-cells : (shape : Shape) (s : State) → HasShape shape s → (c j : ℕ) → IsCpu shape c → IsGroup shape j
+    → cell (counters_of s) c (8 * j) + 8 ≤ length s.diff
+group-cells shape s shaped c j c_in j_in =
+    let whole = group-within (counter_count shape) j j_in in
+    let last = cell-lt (counter_count shape) shape.cpus c (8 * j + 7) c_in (omega (arith, whole)) in
+    rw (shaped.place, shaped.diff) (omega (arith, last))
 
 module _ (shape : Shape) (s : State) (shaped : HasShape shape s) where
   diffs-full : length s.diff ≡ shape.cpus * counters_of s

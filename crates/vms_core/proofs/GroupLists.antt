@@ -7,7 +7,6 @@ use Rattle.vms_base.specs.declared.ids.CpuId.{CpuId}
 use Rattle.vms_base.specs.Groups.{IsByte, AreBytes}
 use Rattle.vms_base.specs.Places.{IsCounter, cell, counter_count, group_of, place_of}
 use Rattle.vms_base.specs.Thresholds.{most_threshold}
-use Rattle.vms_base.proofs.Cells.{cell-lt}
 use Rattle.vms_base.proofs.Counts.{place_of-lt}
 use Rattle.vms_history.specs.Events.{own}
 use Rattle.vms_history.proofs.Prefixes.{base_can_begin, own-keeps}
@@ -21,7 +20,7 @@ use Rattle.vms_core.specs.Knowledge.{NamesEight, NameEight, GroupsAreLists}
 use Rattle.vms_core.specs.Own.{found, found_after}
 use Rattle.vms_core.specs.Pages.{pages, History, IsLegal, state_after}
 use Rattle.vms_core.proofs.CellLemmas.{TellsGroup-cells}
-use Rattle.vms_core.proofs.Effects.{group-within}
+use Rattle.vms_core.proofs.Effects.{group-within, group-cells}
 use Rattle.vms_core.proofs.PeakBounds.{last-within, peaks-in_range}
 use Rattle.vms_core.proofs.Shapes.{HasShape-state_after}
 
@@ -90,8 +89,7 @@ group_is_list facts h legal c j c_in j_in =
     let shaped = HasShape-state_after facts h legal in
     let known : (i : ℕ) → i < 8 → IsCounter facts.layout (8 * j + i) =
     λ i less. omega (arith, group-within (counter_count facts.layout) j j_in) in
-    let last = cell-lt (counter_count facts.layout) facts.layout.cpus c (8 * j + 7) c_in (known 7 (omega arith)) in
-    let told = TellsGroup-cells s c j (rw (shaped.place, shaped.diff) (omega (arith, last))) in
+    let told = TellsGroup-cells s c j (group-cells facts.layout s shaped c j c_in j_in) in
     let layout = (base_can_begin pages facts h legal).layout in
     let small : (i : ℕ) → i < 8 → unsigned_abs (diff_at s c (8 * j + i)) ≤ most_threshold = λ i less.
     let place = place_of facts.layout (8 * j + i) in

@@ -1,5 +1,5 @@
 -- For other crates too: what holds of plain data and what keeps it, and how many places a state has.
-use Rattle.std.proofs.Common.{◌≡◌, ◌≢◌, ℕ, zero, suc, ◌+◌, ◌*◌, ◌/◌, ◌%◌, ◌^◌, ◌<◌, ◌≤◌, ℤ, pos, List, length, get_or, unsigned_abs, refl, sym, arith, subst, ⊎_elim, ◌∙◌, length-set, get_or-set_same, get_or-set_other, take, drop, length-take, get_or-take, get_or-drop, lit<}
+use Rattle.std.proofs.Common.{◌≡◌, ◌≢◌, ℕ, zero, suc, ◌+◌, ◌*◌, ◌/◌, ◌%◌, ◌^◌, ◌<◌, ◌≤◌, ℤ, pos, List, length, get_or, unsigned_abs, refl, sym, arith, subst, ⊎_elim, ◌∙◌, length-set, get_or-set_same, get_or-set_other, take, drop, lit<}
 use Rattle.std.proofs.Math.ListN.{set}
 use Rattle.std.proofs.Math.Nat.{mul-div_cancel_left, mul-zero}
 use Rattle.std.proofs.lemmas.Bool.{cases_eq, cases_lt}
@@ -11,10 +11,11 @@ use Rattle.vms_base.specs.Places.{Shape, IsLayout, cell, counter_count, place_co
 use Rattle.vms_base.specs.Thresholds.{most_threshold}
 use Rattle.vms_base.proofs.Cells.{cell-lt}
 use Rattle.vms_core.specs.declared.states.State.{State}
+use Rattle.vms_core.specs.Bases.{IsOpening}
 use Rattle.vms_core.specs.Plain.{IsPlainBase}
 use Rattle.vms_core.specs.Cells.{HasShape, TellsGroup, counters_of, places_of, zones_of, zeroed}
 use Rattle.vms_core.specs.Plain.{IsPlain}
-use Rattle.vms_core.proofs.CellLemmas.{TellsGroup-cells, length-zeroed}
+use Rattle.vms_core.proofs.CellLemmas.{TellsGroup-cells, AreBytes-cells, length-zeroed}
 
 -- what holds of each cell of a table, and of the default, holds at each index of its list
 each_index : {X : Type 0} (xs : List X) (default : X) (rows width : ℕ) (P : X → Type 0) → length xs ≡ rows * width
@@ -42,6 +43,17 @@ each_set xs n v default P within here others m = ⊎_elim
     (λ (other : m ≢ n). rw (get_or-set_other xs n m v default other) (others m))
     (cases_eq m n)
 
+byte : (z : ℤ) → unsigned_abs z ≤ most_threshold → IsByte z
+byte z small = (omega (arith, ints), omega (arith, ints))
+
+-- the differentials of a state that may open a phase are bytes
+pub AreBytes-opening : (shape : Shape) (s : State) → IsOpening shape s → AreBytes s.diff
+AreBytes-opening shape s opening k =
+    byte (get_or s.diff k (pos 0))
+    (each_index s.diff (pos 0) shape.cpus (counter_count shape) (λ d. unsigned_abs d ≤ most_threshold)
+    opening.shaped.diff
+    (λ c l c_in l_in. rw (← opening.shaped.place) (opening.diffs c l c_in l_in)) (omega arith) k)
+
 module _ (s : State) (counters places : ℕ) (plain : IsPlain s counters places) where
   pub diff_cell : (c k : ℕ) → c < length s.cpu → k < counters_of s → cell counters c k < length s.diff
   diff_cell c k c_in k_in =
@@ -57,16 +69,7 @@ module _ (s : State) (counters places : ℕ) (plain : IsPlain s counters places)
 
   -- each of them is a byte
   pub AreBytes-part : (start : ℕ) → AreBytes (take 8 (drop start s.diff))
-  AreBytes-part start k = ⊎_elim
-      (λ (within : k < 8). rw (get_or-take 8 (drop start s.diff) k (pos 0) within, get_or-drop start s.diff k (pos 0))
-      (byte (get_or s.diff (start + k) (pos 0)) (plain.diffs (start + k))))
-      (λ (past : 8 ≤ k).
-      rw (get_or_past (take 8 (drop start s.diff)) k (pos 0) (omega (arith, length-take 8 (drop start s.diff))))
-      (byte (pos 0) (omega arith)))
-      (cases_lt k 8)
-    where
-      byte : (z : ℤ) → unsigned_abs z ≤ most_threshold → IsByte z
-      byte z small = (omega (arith, ints), omega (arith, ints))
+  AreBytes-part start = AreBytes-cells s.diff start (λ k. byte (get_or s.diff k (pos 0)) (plain.diffs k))
 
   pub TellsGroup-part : (c j : ℕ) → c < length s.cpu → j < counters_of s / 8
       → TellsGroup s c j (take 8 (drop (cell counters c (8 * j)) s.diff))

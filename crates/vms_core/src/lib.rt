@@ -5,6 +5,7 @@ mod changes;
 mod differentials;
 mod laws;
 mod plain;
+mod readers;
 mod states;
 mod steps;
 mod tables;

@@ -57,7 +57,7 @@ ghost use Rattle.vms_core.specs.Cells.{zeroed};
 
 /// Where the number of a CPU for one of `width` things stands in a list.
 #[inline]
-fn cell(width: usize, cpu: CpuId, thing: usize) -> usize
+pub(crate) fn cell(width: usize, cpu: CpuId, thing: usize) -> usize
     requires { places.cell width cpu.number thing < 2 ^ 63 }
     ensures { result ≡ places.cell width cpu.number thing }
 {
@@ -66,7 +66,7 @@ fn cell(width: usize, cpu: CpuId, thing: usize) -> usize
 
 /// The eight numbers of a list from a place on.
 #[inline]
-fn eight_from(numbers: &[i64], start: usize) -> [i64; 8]
+pub(crate) fn eight_from(numbers: &[i64], start: usize) -> [i64; 8]
     requires { start + 8 ≤ length numbers.now }
     ensures { result ≡ take 8 (drop start numbers.now) }
 {

@@ -4,7 +4,6 @@
 mod bases;
 mod carried;
 mod carrying;
-mod cells;
 mod changes;
 mod conditions;
 mod control;

@@ -5,7 +5,6 @@ ghost use Rattle.vms_core.specs.Cells as cells;
 ghost use Rattle.vms_core.specs.Cells.{HasShape};
 ghost use Rattle.vms_page_judge.specs.Openings.{OpensCpu};
 
-use crate::cells::{acknowledged_at, diff_at, threshold_at, threshold_sets_at};
 use vms_base::{CounterId, CpuId, CpuState, Layout, PlaceId};
 use vms_core::State;
 
@@ -32,7 +31,11 @@ fn diffs_fit(layout: &Layout, state: &State, cpu: CpuId) -> bool
         unsigned_abs (cells.diff_at state.now cpu.number k) ≤ most_threshold) }
 {
     for number in 0..layout.counters() {
-        if diff_at(layout, state, cpu, CounterId { number }).unsigned_abs() > 125 {
+        if state
+            .diff_at(layout, cpu, CounterId { number })
+            .unsigned_abs()
+            > 125
+        {
             return false;
         }
     }
@@ -47,7 +50,7 @@ fn hides_nothing(layout: &Layout, state: &State, cpu: CpuId) -> bool
         cells.diff_at state.now cpu.number k ≡ pos 0) }
 {
     for number in 0..layout.counters() {
-        if diff_at(layout, state, cpu, CounterId { number }) != 0 {
+        if state.diff_at(layout, cpu, CounterId { number }) != 0 {
             return false;
         }
     }
@@ -63,7 +66,7 @@ fn thresholds_fit(layout: &Layout, state: &State, cpu: CpuId, least: u32) -> boo
         × (cells.threshold_at state.now cpu.number g ≤ most_threshold)) }
 {
     for number in 0..layout.places() {
-        let t = threshold_at(layout, state, cpu, PlaceId { number });
+        let t = state.threshold_at(layout, cpu, PlaceId { number }).t;
         if t < least || t > 125 {
             return false;
         }
@@ -79,7 +82,7 @@ fn none_is_set(layout: &Layout, state: &State, cpu: CpuId) -> bool
         cells.threshold_sets_at state.now cpu.number g ≡ 0) }
 {
     for number in 0..layout.places() {
-        if threshold_sets_at(layout, state, cpu, PlaceId { number }) != 0 {
+        if state.threshold_at(layout, cpu, PlaceId { number }).number != 0 {
             return false;
         }
     }
@@ -94,7 +97,10 @@ fn none_is_acknowledged(layout: &Layout, state: &State, cpu: CpuId) -> bool
         cells.acknowledged_at state.now cpu.number g ≡ None) }
 {
     for number in 0..layout.zones().len() as u32 {
-        if acknowledged_at(layout, state, cpu, PlaceId { number }).is_some() {
+        if state
+            .acknowledged_at(layout, cpu, PlaceId { number })
+            .is_some()
+        {
             return false;
         }
     }

@@ -3,7 +3,6 @@ ghost use Rattle.vms_base.specs.Places.{IsCpu, IsPlace, IsZone};
 ghost use Rattle.vms_core.specs.Cells.{HasShape};
 ghost use Rattle.vms_core.specs.Peaks as peaks;
 
-use crate::cells::{diff_at, threshold_at};
 use vms_base::{CpuId, CpuState, PlaceId};
 use vms_core::{Event, Facts, Step};
 
@@ -26,7 +25,7 @@ pub fn thresholds_in(facts: &Facts, past: &[Event], cpu: CpuId, place: PlaceId) 
 {
     let mut last = Thresholds {
         sets: 0,
-        threshold: threshold_at(&facts.layout, &facts.base, cpu, place),
+        threshold: facts.base.threshold_at(&facts.layout, cpu, place).t,
         peak: opening_peak(facts, cpu, place),
     };
     for event in past {
@@ -73,15 +72,13 @@ fn opening_peak(facts: &Facts, cpu: CpuId, place: PlaceId) -> u64
 {
     let mut largest = 0;
     for n in 0..facts.layout.positions() {
-        let diff = diff_at(
-            &facts.layout,
-            &facts.base,
-            cpu,
-            facts.layout.counter(place, n),
-        );
+        let diff = facts
+            .base
+            .diff_at(&facts.layout, cpu, facts.layout.counter(place, n));
         largest = diff.unsigned_abs().max(largest);
     }
-    largest.max(threshold_at(&facts.layout, &facts.base, cpu, place) as u64)
+    let threshold = facts.base.threshold_at(&facts.layout, cpu, place).t;
+    largest.max(threshold as u64)
 }
 
 /// Whether a CPU is online, dead or absent after a history.

@@ -8,7 +8,6 @@ ghost use Rattle.vms_core.specs.Pages.{IsLegal, state_after};
 ghost use Rattle.vms_core.specs.Steps.{turn};
 
 use crate::JudgedPages;
-use crate::cells::{acknowledged_at, diff_at};
 use crate::changes::differential_after;
 use crate::peaks::{Thresholds, cpu_in, thresholds_in};
 use vms_base::{CounterId, CpuId, CpuState, ItemId, PlaceId};
@@ -72,7 +71,7 @@ pub fn diff_now(facts: &Facts, past: &[Event], cpu: CpuId, counter: CounterId) -
     ensures { result ≡ cells.diff_at (state_after facts.now (reverse past.now)) cpu.number counter.number }
 {
     let count = past.len();
-    let mut diff = diff_at(&facts.layout, &facts.base, cpu, counter);
+    let mut diff = facts.base.diff_at(&facts.layout, cpu, counter);
     for i in 0..count {
         diff = diff_of_step(&past[..i], past[i], cpu, counter, diff);
     }
@@ -172,7 +171,7 @@ pub fn acknowledged_now(facts: &Facts, past: &[Event], cpu: CpuId, zone: PlaceId
         cells.acknowledged_at (state_after facts.now (reverse past.now)) cpu.number zone.number }
 {
     let count = past.len();
-    let mut last = acknowledged_at(&facts.layout, &facts.base, cpu, zone);
+    let mut last = facts.base.acknowledged_at(&facts.layout, cpu, zone);
     for i in 0..count {
         last = acknowledged_of_step(&past[..i], past[i], cpu, zone, last);
     }

@@ -2,13 +2,14 @@
 use Rattle.std.proofs.Common.{◌≡◌, ℕ, List, [], ◌∷◌, ◌++◌, refl, sym, ap, ◌∙◌, append-nil}
 use Rattle.vms_base.specs.declared.ids.PcpuId.{PcpuId}
 use Rattle.vms_history.specs.Events.{Extends, own, after}
+use Rattle.vms_history.specs.Making.{HasMade}
 use Rattle.vms_history.proofs.Own.{Extends-both, own-on_top}
 use Rattle.vms_pcpu_core.specs.declared.steps.PcpuFacts.{PcpuFacts}
 use Rattle.vms_pcpu_core.specs.declared.steps.PcpuStep.{PcpuStep}
 use Rattle.vms_pcpu_core.specs.declared.steps.PcpuStep.TheVariants.{Won, Missed}
 use Rattle.vms_pcpu_core.specs.Calls.{Locks}
 use Rattle.vms_pcpu_core.specs.Calls.Locks.{won, missed}
-use Rattle.vms_pcpu_core.specs.Histories.{History, IsLegal}
+use Rattle.vms_pcpu_core.specs.Histories.{percpu, History, IsLegal}
 use Rattle.vms_pcpu_core.specs.Making.{MadeWithin, event, MadeSteps}
 use Rattle.vms_pcpu_core.proofs.Found.{legal-earlier}
 use Rattle.vms_pcpu_core.proofs.Runs.{run-made, run-append, run-own, run-extends, Run}
@@ -71,3 +72,9 @@ made-within facts h p before steps more legal made =
       kept = kept;
       own_before = run-own p before [] parts.0 parts.1;
     }
+
+-- what a living pass has made, a caller has made
+pub made-by_living : (facts : PcpuFacts) (earlier later : History) (p : ℕ) (steps : List PcpuStep)
+    → HasMade percpu facts later earlier p steps → MadeSteps facts earlier later p steps
+made-by_living facts earlier later p steps has =
+    record { legal = has.legal; goes_on = has.extends; made = has.made }

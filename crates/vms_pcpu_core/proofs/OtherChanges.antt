@@ -4,6 +4,7 @@ use Rattle.std.proofs.lemmas.Int.{ints}
 use Rattle.vms_history.specs.Events.{Extends, own, after}
 use Rattle.vms_history.specs.Passes.{begun_in}
 use Rattle.vms_history.specs.Sums.{sum_below}
+use Rattle.vms_history.proofs.Own.{own-mine}
 use Rattle.vms_history.proofs.SumLaws.{sum_below-zeros}
 use Rattle.vms_pcpu_core.specs.declared.steps.PcpuFacts.{PcpuFacts}
 use Rattle.vms_pcpu_core.specs.declared.steps.PcpuStep.{PcpuStep}
@@ -13,11 +14,12 @@ use Rattle.vms_pcpu_core.specs.Histories.{History, IsLegal}
 use Rattle.vms_pcpu_core.specs.Laws.{carried_by_all}
 use Rattle.vms_pcpu_core.specs.Limits.{rise, fall, by_others, by_others_between, carried_by_others}
 use Rattle.vms_pcpu_core.specs.Own.{holds, carried}
+use Rattle.vms_pcpu_core.specs.OwnSteps.{as_is, own_added}
 use Rattle.vms_pcpu_core.specs.Steps.{turn}
 use Rattle.vms_pcpu_core.specs.Totals.{amount_of, amounts, true_total}
 use Rattle.vms_pcpu_core.specs.Watching.{IsLoad, AreLoads}
 use Rattle.vms_pcpu_core.proofs.Locks.{holder-one}
-use Rattle.vms_pcpu_core.proofs.Runs.{Run}
+use Rattle.vms_pcpu_core.proofs.Runs.{Run, own-others_on}
 use Rattle.vms_pcpu_core.specs.Making.{event}
 
 pub rise-fall : (x : ℤ) → x ≡ rise x -ℤ fall x
@@ -34,23 +36,24 @@ fall-least (negsuc n) = omega (arith, ints)
 
 -- the amounts that p adds to counter j
 abbrev pub by_self : ℕ → ℕ → History → ℤ
-by_self p j [] = pos 0
-by_self p j (e ∷ h) = (if nat_eq e.caller p then amount_of j (carried j (own h e.caller)) e.step else pos 0) +ℤ by_self
-    p j h
+by_self p j h = own_added as_is j (own h p)
 
 pub amounts-parts : (p j : ℕ) (h : History)
     → amounts j h ≡ by_self p j h +ℤ (by_others rise p j h -ℤ by_others fall p j h)
 amounts-parts p j [] = omega (arith, ints)
-amounts-parts p j (e ∷ h) =
-    parts (nat_eq e.caller p) (amount_of j (carried j (own h e.caller)) e.step) (by_self p j h) (by_others rise p j h)
-    (by_others fall p j h) (amounts j h)
-    (amounts-parts p j h)
+amounts-parts p j (e ∷ h) = parts (nat_eq e.caller p) refl (amounts-parts p j h)
   where
-    parts : (b : Bool) (x self up down rest : ℤ) → rest ≡ self +ℤ (up -ℤ down)
-        → x +ℤ rest ≡ ((if b then x else pos 0) +ℤ self)
-        +ℤ (((if b then pos 0 else rise x) +ℤ up) -ℤ ((if b then pos 0 else fall x) +ℤ down))
-    parts true x self up down rest is = omega (arith, ints)
-    parts false x self up down rest is = omega (arith, ints, rise-fall x)
+    parts : (b : Bool) → nat_eq e.caller p ≡ b
+        → amounts j h ≡ by_self p j h +ℤ (by_others rise p j h -ℤ by_others fall p j h)
+        → amount_of j (carried j (own h e.caller)) e.step +ℤ amounts j h
+        ≡ own_added as_is j (if b then e ∷ own h p else own h p)
+        +ℤ (((if b then pos 0 else rise (amount_of j (carried j (own h e.caller)) e.step)) +ℤ by_others rise p j h)
+        -ℤ ((if b then pos 0 else fall (amount_of j (carried j (own h e.caller)) e.step)) +ℤ by_others fall p j h))
+    parts true mine is =
+        let same : amount_of j (carried j (own h e.caller)) e.step ≡ amount_of j (carried j (own h p)) e.step =
+        ap (λ q. amount_of j (carried j (own h q)) e.step) (eqb-true e.caller p mine) in
+        omega (arith, ints, is, same)
+    parts false other is = omega (arith, ints, is, rise-fall (amount_of j (carried j (own h e.caller)) e.step))
 
 -- from a history to a later one the true total moves by what p adds, and by what others add up and down
 pub true_total-between : (facts : PcpuFacts) (p j : ℕ) (h g : History)
@@ -129,39 +132,30 @@ LoadSteps (k ∷ ks) = IsLoad k × LoadSteps ks
 
 module _ (p j : ℕ) where
   pub by_self-others : (others h : History) → own others p ≡ [] → by_self p j (others ++ h) ≡ by_self p j h
-  by_self-others [] h none = refl
-  by_self-others (e ∷ others) h none = by (nat_eq e.caller p) none (by_self-others others h)
-    where
-      x : ℤ
-      x = amount_of j (carried j (own (others ++ h) e.caller)) e.step
-
-      by : (b : Bool) → (if b then e ∷ own others p else own others p) ≡ []
-          → (own others p ≡ [] → by_self p j (others ++ h) ≡ by_self p j h)
-          → (if b then x else pos 0) +ℤ by_self p j (others ++ h) ≡ by_self p j h
-      by true is rest = absurd cc
-      by false is rest = omega (arith, ints, rest is)
+  by_self-others others h none = ap (own_added as_is j) (own-others_on others h p none)
 
   pub by_self-step : (k : PcpuStep) (h : History)
       → by_self p j (event p k ∷ h) ≡ amount_of j (carried j (own h p)) k +ℤ by_self p j h
-  by_self-step k h = let mine : nat_eq p p ≡ true = eq-eqb p p refl in rw mine refl
+  by_self-step k h = ap (own_added as_is j) (own-mine (event p k) h p refl)
 
   -- steps that add nothing to the counter
-  abbrev pub IdleSteps : List PcpuStep → Type 0
-  IdleSteps [] = Unit {0}
-  IdleSteps (k ∷ ks) = ((x : ℤ) → amount_of j x k ≡ pos 0) × IdleSteps ks
+  abbrev pub AddNothing : List PcpuStep → Type 0
+  AddNothing [] = Unit {0}
+  AddNothing (k ∷ ks) = ((x : ℤ) → amount_of j x k ≡ pos 0) × AddNothing ks
 
-  pub by_self-idle : (ks : List PcpuStep) (h g : History) → IdleSteps ks → Run p ks h g → by_self p j g ≡ by_self p j h
-  by_self-idle [] h g idle run = ap (by_self p j) run
-  by_self-idle (k ∷ ks) h g idle run =
-      by_self-idle ks (event p k ∷ (run.0 ++ h)) g idle.1 run.2
+  pub by_self-nothing_added : (ks : List PcpuStep) (h g : History) → AddNothing ks → Run p ks h g
+      → by_self p j g ≡ by_self p j h
+  by_self-nothing_added [] h g nothing_added run = ap (by_self p j) run
+  by_self-nothing_added (k ∷ ks) h g nothing_added run =
+      by_self-nothing_added ks (event p k ∷ (run.0 ++ h)) g nothing_added.1 run.2
       ∙ by_self-step k (run.0 ++ h)
-      ∙ omega (arith, ints, idle.0 (carried j (own (run.0 ++ h) p)), by_self-others run.0 h run.1)
+      ∙ omega (arith, ints, nothing_added.0 (carried j (own (run.0 ++ h) p)), by_self-others run.0 h run.1)
 
-  pub idle-loads : (ks : List PcpuStep) → LoadSteps ks → IdleSteps ks
-  idle-loads [] loads = tt
-  idle-loads (LoadL i c v ∷ ks) loads = (λ x. refl, idle-loads ks loads.1)
-  idle-loads (LoadC i v ∷ ks) loads = (λ x. refl, idle-loads ks loads.1)
-  idle-loads (_ ∷ ks) loads = absurd loads.0
+  pub nothing_added-loads : (ks : List PcpuStep) → LoadSteps ks → AddNothing ks
+  nothing_added-loads [] loads = tt
+  nothing_added-loads (LoadL i c v ∷ ks) loads = (λ x. refl, nothing_added-loads ks loads.1)
+  nothing_added-loads (LoadC i v ∷ ks) loads = (λ x. refl, nothing_added-loads ks loads.1)
+  nothing_added-loads (_ ∷ ks) loads = absurd loads.0
 
   pub carried-loads : (ks : List PcpuStep) (h : History) → LoadSteps ks → carried j (after p ks h) ≡ carried j h
   carried-loads [] h loads = refl

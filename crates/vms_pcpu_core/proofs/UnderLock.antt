@@ -22,19 +22,19 @@ use Rattle.vms_pcpu_core.specs.Steps.{turn}
 use Rattle.vms_pcpu_core.specs.Totals.{amount_of}
 use Rattle.vms_pcpu_core.proofs.Found.{legal-earlier}
 use Rattle.vms_pcpu_core.proofs.Judged.{winning-carries, counted, last-read, judged, judges-loads}
-use Rattle.vms_pcpu_core.proofs.OtherChanges.{rise-least, fall-least, by_self, by_self-others, by_self-step, IdleSteps, by_self-idle, idle-loads, by_others-grows, carried-loads, true_total-between}
+use Rattle.vms_pcpu_core.proofs.OtherChanges.{rise-least, fall-least, by_self, by_self-others, by_self-step, AddNothing, by_self-nothing_added, nothing_added-loads, by_others-grows, carried-loads, true_total-between}
 use Rattle.vms_pcpu_core.proofs.Runs.{Run, run-append, run-own, run-extends, own-others_on}
 use Rattle.vms_pcpu_core.proofs.CallsWithin.{run-locks}
 use Rattle.vms_pcpu_core.proofs.Saying.{SaysYes, SaysNo}
 
-idle-locks : (p : ℕ) (j : PcpuId) (locking : List PcpuStep) → Locks j locking → IdleSteps p j.number locking
-idle-locks p j locking won = (λ x. refl, tt)
-idle-locks p j locking (missed rest locks) = (λ x. refl, idle-locks p j rest locks)
+nothing_added-locks : (p : ℕ) (j : PcpuId) (locking : List PcpuStep) → Locks j locking → AddNothing p j.number locking
+nothing_added-locks p j locking won = (λ x. refl, tt)
+nothing_added-locks p j locking (missed rest locks) = (λ x. refl, nothing_added-locks p j rest locks)
 
-idle-probes : (p batch hides : ℕ) (limit : ℤ) (cpu : CpuId) (j : PcpuId) (amount : ℤ) (probing : List PcpuStep)
-    → Probes batch hides limit cpu j amount probing → IdleSteps p j.number probing
-idle-probes p batch hides limit cpu j amount probing (large l above) = (λ x. refl, tt)
-idle-probes p batch hides limit cpu j amount probing (narrow l v fits small) = (λ x. refl, (λ x. refl, tt))
+nothing_added-probes : (p batch hides : ℕ) (limit : ℤ) (cpu : CpuId) (j : PcpuId) (amount : ℤ) (probing : List PcpuStep)
+    → Probes batch hides limit cpu j amount probing → AddNothing p j.number probing
+nothing_added-probes p batch hides limit cpu j amount probing (large l above) = (λ x. refl, tt)
+nothing_added-probes p batch hides limit cpu j amount probing (narrow l v fits small) = (λ x. refl, (λ x. refl, tt))
 
 module _ (facts : PcpuFacts) (earlier later : History) (p : ℕ) (cpu : CpuId) (j : PcpuId) (limit amount : ℤ)
     (legal : IsLegal facts later)
@@ -47,7 +47,7 @@ module _ (facts : PcpuFacts) (earlier later : History) (p : ℕ) (cpu : CpuId) (
     pub same_own : own begun p ≡ own earlier p
     pub free : History
     pub begins : Extends free (event p first ∷ begun)
-    pub idle : by_self p j.number (event p (Won j) ∷ free) ≡ by_self p j.number earlier
+    pub nothing_added : by_self p j.number (event p (Won j) ∷ free) ≡ by_self p j.number earlier
     pub read_end : History
     pub reads : Run p (LoadC j v ∷ loads) (event p (Won j) ∷ free) read_end
     pub ends : Run p ending read_end end
@@ -86,10 +86,11 @@ module _ (facts : PcpuFacts) (earlier later : History) (p : ℕ) (cpu : CpuId) (
         same_own = started.3;
         free = free;
         begins = Extends-both free front.0 (event p started.1 ∷ started.0) wins.2 started.4;
-        idle =
+        nothing_added =
             ap (by_self p j.number) (sym wins.1)
-            ∙ by_self-idle p j.number locking front.0 whole.0 (idle-locks p j locking locks) front.2
-            ∙ by_self-idle p j.number probing earlier front.0 (idle-probes p batch hides limit cpu j amount probing
+            ∙ by_self-nothing_added p j.number locking front.0 whole.0 (nothing_added-locks p j locking locks) front.2
+            ∙ by_self-nothing_added p j.number probing earlier front.0 (nothing_added-probes p batch hides limit cpu j
+            amount probing
             probes) front.1;
         read_end = back.0;
         reads = back.1;
@@ -145,14 +146,14 @@ module _ (facts : PcpuFacts) (earlier later : History) (p : ℕ) (cpu : CpuId) (
       let unlock_step = by_self-step p j.number (Unlock j) (parts.ends.0 ++ parts.read_end) in
       let unlock_others = by_self-others p j.number parts.ends.0 parts.read_end parts.ends.1 in
       let read_steps =
-      by_self-idle p j.number (LoadC j v ∷ loads) won parts.read_end
-      (idle-loads p j.number (LoadC j v ∷ loads) (tt, are)) parts.reads in
+      by_self-nothing_added p j.number (LoadC j v ∷ loads) won parts.read_end
+      (nothing_added-loads p j.number (LoadC j v ∷ loads) (tt, are)) parts.reads in
       record {
         passes = passes;
         won_kept = to_won;
         won_on = Extends-both won free earlier (event p (Won j) ∷ [], refl) free_on;
-        own_won = parts.idle;
-        own_end = ap (by_self p j.number) parts.ends.2 ∙ omega (arith, ints, parts.idle);
+        own_won = parts.nothing_added;
+        own_end = ap (by_self p j.number) parts.ends.2 ∙ omega (arith, ints, parts.nothing_added);
       }
 
   pub locked-keeps : (v u : ℤ) (probing locking loads : List PcpuStep) (end : History)
@@ -213,7 +214,8 @@ module _ (facts : PcpuFacts) (earlier later : History) (p : ℕ) (cpu : CpuId) (
       let take_step = by_self-step p j.number (TakeL j cpu u) untaken in
       let read_others = by_self-others p j.number parts.ends.0 read_end parts.ends.1 in
       let read_steps =
-      by_self-idle p j.number (LoadC j v ∷ loads) won read_end (idle-loads p j.number (LoadC j v ∷ loads) (tt, are))
+      by_self-nothing_added p j.number (LoadC j v ∷ loads) won read_end
+      (nothing_added-loads p j.number (LoadC j v ∷ loads) (tt, are))
       parts.reads in
       let moved = true_total-between facts p j.number won changed in
       let begun_on : Extends won parts.begun =
@@ -278,6 +280,6 @@ module _ (facts : PcpuFacts) (earlier later : History) (p : ℕ) (cpu : CpuId) (
         changed_kept = to_changed;
         changed_on = Extends-both changed won earlier changed_on (Extends-both won parts.begun earlier begun_on
             parts.since);
-        own_change = omega (arith, ints, parts.idle);
+        own_change = omega (arith, ints, parts.nothing_added);
         own_end = ap (by_self p j.number) parts.ends.2.2.2 ∙ omega (arith, ints);
       }

@@ -1,17 +1,21 @@
 ghost use Rattle.std.specs.Prelude.{◌≡◌, ℕ, List, [], ◌++◌};
 ghost use Rattle.vms_history.specs.Events.{own, after};
+ghost use Rattle.vms_history.specs.Making.{HasMade};
 ghost use Rattle.vms_pcpu_core.specs.declared.steps.PcpuFacts.{PcpuFacts};
 ghost use Rattle.vms_pcpu_core.specs.declared.steps.PcpuStep.{PcpuStep};
-ghost use Rattle.vms_pcpu_core.specs.Histories.{History, IsLegal};
-ghost use Rattle.vms_pcpu_core.specs.Making.{MadeWithin};
+ghost use Rattle.vms_pcpu_core.specs.Histories.{percpu, History, IsLegal};
+ghost use Rattle.vms_pcpu_core.specs.Making.{MadeSteps, MadeWithin};
 ghost use Rattle.vms_pcpu_core.specs.MakingCalls.{MakesRead, MakesAdd, MakesSync, MakesFoldDead, MakesSum, MakesCompare, MakesLimitedAdd};
 
 /// Steps that stand in a row among a caller's own events of a legal history were made between two moments of it, each
-/// of which is a legal history too. So what is promised of a call holds of each call in any legal history.
+/// of which is a legal history too. So what is promised of a call holds of each call in any legal history. It holds of
+/// the steps that a living pass has made, too.
 pub fn calls_stand_in_histories()
-    ensures { (facts : PcpuFacts) (h : History) (p : ℕ) (before steps more : List PcpuStep) →
+    ensures within { (facts : PcpuFacts) (h : History) (p : ℕ) (before steps more : List PcpuStep) →
         IsLegal facts h → own h p ≡ after p (before ++ steps ++ more) [] →
         MadeWithin facts h p before steps }
+    ensures by_living { (facts : PcpuFacts) (earlier later : History) (p : ℕ) (steps : List PcpuStep) →
+        HasMade percpu facts later earlier p steps → MadeSteps facts earlier later p steps }
 {}
 
 /// A pass that lives, holds no lock and carries nothing may make the steps of each call, whatever other callers do

@@ -15,16 +15,16 @@ use Rattle.vms_core.specs.declared.states.State.{State}
 use Rattle.vms_core.specs.declared.steps.Facts.{Facts}
 use Rattle.vms_core.specs.declared.steps.Step.{Step}
 use Rattle.vms_core.specs.Bases.{IsBase}
-use Rattle.vms_calls.specs.Calls.{IsChangeAlone}
+use Rattle.vms_calls.specs.Changes.{IsChangeAlone}
 use Rattle.vms_core.specs.Cells.{cpu_at}
 use Rattle.vms_base.specs.Volumes.{most_volume}
-use Rattle.vms_calls.specs.Following.{MayChange, FollowsAlone}
+use Rattle.vms_calls.specs.LoneChanges.{MayChange, FollowsAlone}
 use Rattle.vms_core.specs.Own.{CarriesNothing}
 use Rattle.vms_core.specs.ChangedStates.{with_change}
 use Rattle.vms_core.specs.Pages.{History, state_after}
 use Rattle.vms_core.specs.Steps.{turn}
 use Rattle.vms_core.specs.Totals.{spent}
-use Rattle.vms_calls.proofs.Following.{goes_on_with_change}
+use Rattle.vms_calls.proofs.LoneChanges.{goes_on_with_change}
 use Rattle.vms_phase.specs.FileOrder.{Follow, Makes, is_among, opening_of, pass_of, splits_from}
 use Rattle.vms_phase.specs.FileOrder.Follow.{line}
 use Rattle.vms_phase.specs.OpenPhases.{MayOpen, MakesLines, IsOpen, IsDelta, Follows, act_of, change_item, volume}

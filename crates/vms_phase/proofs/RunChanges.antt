@@ -14,7 +14,8 @@ use Rattle.vms_core.specs.Cells.{HasShape, counters_of, value_at, system_at, dif
 use Rattle.vms_core.specs.Changes.{differential_after, carried_by}
 use Rattle.vms_core.specs.ChangedStates.{with_change_of, with_change}
 use Rattle.vms_core.proofs.ChangeLemmas.{differential_after-within}
-use Rattle.vms_phase.specs.Runs.{HasSettings, values_of_item}
+use Rattle.vms_phase.specs.Runs.{HasSettings}
+use Rattle.vms_core.specs.Totals.{values_of_item}
 use Rattle.vms_phase.proofs.CounterTotals.{diff-other, value-other}
 
 module _ (from now : State) (same : HasSettings from now) where

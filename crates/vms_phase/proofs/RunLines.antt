@@ -16,7 +16,8 @@ use Rattle.vms_base.specs.Volumes.{most_volume}
 use Rattle.vms_core.specs.ChangedStates.{with_change}
 use Rattle.vms_core.proofs.WithChange.{HasShape-with_change}
 use Rattle.vms_phase.specs.OpenPhases.{IsDelta, IsOfOnline, IsOpen, Moment, change_item, volume}
-use Rattle.vms_phase.specs.Runs.{HasSettings, IsRun, MayGoOn, values_of_item}
+use Rattle.vms_phase.specs.Runs.{HasSettings, IsRun, MayGoOn}
+use Rattle.vms_core.specs.Totals.{values_of_item}
 use Rattle.vms_phase.specs.Totals.{AddsUp}
 use Rattle.vms_phase.specs.Worlds.{facts_of}
 use Rattle.vms_phase.proofs.RunChanges.{HasSettings-change, cpu-same, systems-change, within-change}

@@ -14,12 +14,12 @@ use Rattle.vms_core.specs.Bases.{IsBase}
 use Rattle.vms_base.specs.Sizes.{size_at}
 use Rattle.vms_core.specs.Cells.{value_at, system_at, diff_at, threshold_at, mark_at, cpu_at}
 use Rattle.vms_core.specs.Peaks.{if_present, opening_peak, peak_sum}
-use Rattle.vms_core.specs.Totals.{differentials}
+use Rattle.vms_core.specs.Totals.{differentials, values_of_item}
 use Rattle.vms_core.proofs.Below.{count_below-least, largest_below-most}
 use Rattle.vms_core.proofs.CounterRanges.{counter_at-known}
-use Rattle.vms_core.proofs.ItemSums.{item-most}
+use Rattle.vms_core.proofs.SettledEnds.{values_of_item-most}
 use Rattle.vms_core.proofs.MarkCovers.{Covers-less, if_present-least}
-use Rattle.vms_phase.specs.Runs.{IsRun, values_of_item, IsOfRun}
+use Rattle.vms_phase.specs.Runs.{IsRun, IsOfRun}
 use Rattle.vms_phase.specs.Worlds.{facts_of}
 use Rattle.vms_phase.proofs.RunChanges.{threshold-same, mark-same, cpu-same, acknowledged-same, threshold_sets-same, mark_sets-same}
 use Rattle.vms_phase.proofs.RunTotals.{plain_total-most}
@@ -31,29 +31,6 @@ use Rattle.vms_script.specs.Totals.{plain_total}
 less-hidden : (value hidden total : ℤ) → value +ℤ hidden ≡ total → unsigned_abs total ≤ 129 * 2 ^ 48
     → unsigned_abs hidden ≤ 128 * 125 → unsigned_abs value ≤ 2 ^ 56
 less-hidden value hidden total is small few = omega (arith, ints)
-
-size-if : (b : Bool) (z : ℤ) → pos (unsigned_abs (if b then z else pos 0)) ≡ (if b then pos (unsigned_abs z) else pos 0)
-size-if true z = refl
-size-if false z = refl
-
--- the values of an item's counters are small together, where each is: an item has at most sixteen counters
-values_of_item-most : (shape : Shape) → IsLayout shape → (s : State) (i most : ℕ)
-    → ((k : ℕ) → IsCounter shape k → unsigned_abs (value_at s k) ≤ most)
-    → unsigned_abs (values_of_item shape s i) ≤ 16 * most
-values_of_item-most shape layout s i most each =
-    let sizes = sum_below-same
-    (λ k. pos (unsigned_abs (if nat_eq (item_of shape k) i then value_at s k else pos 0)))
-    (λ k. if nat_eq (item_of shape k) i then pos (unsigned_abs (value_at s k)) else pos 0) (counter_count shape)
-    (λ k k_in. size-if (nat_eq (item_of shape k) i) (value_at s k)) in
-    let together = item-most shape layout i most (λ k. pos (unsigned_abs (value_at s k)))
-    (λ k k_in. let small = each k k_in in omega (arith, ints)) in
-    omega (
-      arith,
-      ints,
-      sum_below-size (λ k. if nat_eq (item_of shape k) i then value_at s k else pos 0) (counter_count shape),
-      sizes,
-      together,
-    )
 
 module _ (header : Header) (ended : List (List Item)) (items : List Item) (now : State)
     (run : IsRun header ended items now) where

@@ -10,7 +10,7 @@ use Rattle.vms_base.specs.declared.ids.CpuId.{CpuId}
 use Rattle.vms_base.specs.declared.kinds.Mode.TheVariants.{Mod as Modify, Inc as Raise, Dec as Lower}
 use Rattle.vms_base.specs.Places.{Shape}
 use Rattle.vms_history.specs.Events.{after}
-use Rattle.vms_calls.specs.Calls.{IsChangeAlone}
+use Rattle.vms_calls.specs.Changes.{IsChangeAlone}
 use Rattle.vms_core.specs.declared.steps.Facts.{Facts}
 use Rattle.vms_core.specs.declared.steps.Step.{Step}
 use Rattle.vms_core.specs.declared.steps.Step.TheVariants.{Split, Join}

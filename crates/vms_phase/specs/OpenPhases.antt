@@ -12,7 +12,7 @@ use Rattle.vms_core.specs.declared.states.State.{State}
 use Rattle.vms_core.specs.declared.steps.Facts.{Facts}
 use Rattle.vms_core.specs.declared.steps.Step.{Step}
 use Rattle.vms_core.specs.Cells.{cpu_at}
-use Rattle.vms_calls.specs.Following.{MayChange, FollowsAlone}
+use Rattle.vms_calls.specs.LoneChanges.{MayChange, FollowsAlone}
 use Rattle.vms_core.specs.Own.{CarriesNothing}
 use Rattle.vms_core.specs.Pages.{History, MayOwn, IsLegal, state_after}
 use Rattle.vms_core.specs.Totals.{spent}

@@ -1,16 +1,16 @@
 -- A whole run in file order: the phases that ended lead from the start to where the open phase began.
-use Rattle.std.specs.Prelude.{◌≡◌, ℕ, ◌≤◌, nat_eq, ℤ, pos, List, [], ◌∷◌, ◌++◌, All, if◌then◌else◌, unsigned_abs}
+use Rattle.std.specs.Prelude.{◌≡◌, ℕ, ◌≤◌, ℤ, List, [], ◌∷◌, ◌++◌, All, unsigned_abs}
 use Rattle.vms_base.specs.declared.headers.Header.{Header}
 use Rattle.vms_base.specs.declared.ids.CounterId.{CounterId}
 use Rattle.vms_base.specs.declared.ids.CpuId.{CpuId}
 use Rattle.vms_base.specs.declared.kinds.CpuState.TheVariants.{Online}
 use Rattle.vms_base.specs.declared.kinds.Mode.{Mode}
 use Rattle.vms_base.specs.Headers.{IsHeader}
-use Rattle.vms_base.specs.Places.{Shape, IsCpu, IsCounter, IsItem, counter_count, item_of, place_of}
-use Rattle.vms_history.specs.Sums.{sum_below}
+use Rattle.vms_base.specs.Places.{Shape, IsCpu, IsCounter, IsItem, place_of}
 use Rattle.vms_core.specs.declared.states.State.{State}
 use Rattle.vms_core.specs.Bases.{IsBase}
 use Rattle.vms_core.specs.Cells.{HasShape, value_at, system_at, diff_at, threshold_at, cpu_at}
+use Rattle.vms_core.specs.Totals.{values_of_item}
 use Rattle.vms_phase.specs.FileOrder.{Phase, Leads}
 use Rattle.vms_phase.specs.OpenPhases.{IsOfOnline, IsOpen, change_item}
 use Rattle.vms_phase.specs.Totals.{counter_total}
@@ -26,11 +26,6 @@ pub record HasSettings (from now : State) : Type 0 where
   pub acknowledged : now.acknowledged ≡ from.acknowledged
   pub threshold_sets : now.threshold_sets ≡ from.threshold_sets
   pub mark_sets : now.mark_sets ≡ from.mark_sets
-
--- the global values of the counters of an item together
-abbrev pub values_of_item : Shape → State → ℕ → ℤ
-values_of_item shape s i =
-    sum_below (λ k. if nat_eq (item_of shape k) i then value_at s k else pos 0) (counter_count shape)
 
 -- a run in file order from the start, by the normal rule: `ended` are the lines of the phases that ended, the oldest
 -- first, and `items` those of the open phase, from `from` on. Every CPU is online and within its thresholds, the

@@ -42,7 +42,7 @@ impl Plain {
         requires { counter.number < counters_of self.now }
         ensures { result ≡ value_at self.now counter.number }
     {
-        self.state.place.get(counter.number as usize)
+        self.state.value_at(counter)
     }
 
     /// The system-wide value of an item, as `LoadS` tells it.
@@ -51,7 +51,7 @@ impl Plain {
         requires { item.number < length self.now.system }
         ensures { result ≡ system_at self.now item.number }
     {
-        self.state.system.get(item.number as usize)
+        self.state.system_at(item)
     }
 
     /// The drift mark of a zone, as `LoadM` tells it.
@@ -62,11 +62,7 @@ impl Plain {
         ensures number { result.number ≡ mark_sets_at self.now zone.number }
         ensures bound { result.mark < 2 ^ 43 }
     {
-        let at = zone.number as usize;
-        MarkRead {
-            mark: self.state.mark.get(at),
-            number: self.state.mark_sets.get(at),
-        }
+        self.state.mark_at(zone)
     }
 
     /// Whether a CPU is online, dead or absent, as `LoadO` tells it.
@@ -75,7 +71,7 @@ impl Plain {
         requires { cpu.number < length self.now.cpu }
         ensures { result ≡ cpu_at self.now cpu.number }
     {
-        self.state.cpu.get(cpu.number as usize)
+        self.state.cpu_at(cpu)
     }
 
     /// The number that a CPU acknowledged last of a zone's threshold, as `LoadA` tells it: none where it has

@@ -24,4 +24,5 @@ exchanging shape k w last t delta z how exchange additions (missed zeros are) ca
 
 pub returns : goal.returns
 returns c = λ shape cpu k delta how steps change. rw change.in_order
-    (exchanging shape k change.first change.last change.t delta _ how change.exchange change.additions change.exchanges change.carries)
+    (exchanging shape k change.first change.last change.t delta _ how change.exchange change.additions
+    change.exchanges change.carries)
