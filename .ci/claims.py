@@ -58,12 +58,11 @@ def main(name):
             continue
         crate, *path = named.split("::")
         found = functions.setdefault(crate, functions_of(crate))
-        owner = path[-2] if len(path) > 1 else None
-        sets = [labels for (of, function), labels in found.items() if function == path[-1] and owner in (None, of)]
-        if not sets:
+        labels = found.get((path[-2] if len(path) > 1 else "", path[-1]))
+        if labels is None:
             wrong.append(f"{named}: no such function")
             continue
-        wrong += [f"{named}: no clause {word}" for word in clauses if not any(word in labels for labels in sets)]
+        wrong += [f"{named}: no clause {word}" for word in clauses if word not in labels]
     print("\n".join(wrong + [f"{tried} names, {len(wrong)} wrong"]))
     return 1 if wrong or not tried else 0
 
