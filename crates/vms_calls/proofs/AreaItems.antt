@@ -1,16 +1,19 @@
--- The areas of a valid header are zone items of its layout.
-use Rattle.std.proofs.Common.{◌≡◌, ℕ, suc, ◌+◌, ◌<◌, ◌≤◌, ⊎_elim, Bool, false, not, ◌&&◌, List, [], ◌∷◌, length, filter, position, Option, Some, None, refl, ap, subst, arith}
-use Rattle.std.specs.Prelude.{All}
+-- The areas of a valid header are zone items of its layout, and areas ascend.
+use Rattle.std.proofs.Common.{◌≡◌, ℕ, suc, ◌+◌, ◌<◌, ◌≤◌, ⊎_elim, Bool, false, not, ◌&&◌, List, [], ◌∷◌, ◌++◌, length, filter, position, get_or, nat_le, Option, Some, None, refl, ap, subst, arith}
+use Rattle.std.specs.Prelude.{All, AllPairs}
+use Rattle.std.proofs.lemmas.Bool.{leb-true}
 use Rattle.std.specs.Str.{bytes_eq}
 use Rattle.std.proofs.lemmas.List.{length-map}
-use Rattle.std.proofs.lemmas.List.Elements.{All-append, All-nil, All-cons}
+use Rattle.std.proofs.lemmas.List.Elements.{All-append, All-nil, All-cons, All-weaker, filter_passes}
+use Rattle.std.proofs.lemmas.List.Kept.{AllPairs-cons, AllPairs-filter}
 use Rattle.std.proofs.lemmas.List.Quantifiers.{position-Some}
 use Rattle.vms_base.specs.declared.headers.Header.{Header}
 use Rattle.vms_base.specs.declared.headers.ItemDecl.{ItemDecl}
-use Rattle.vms_base.specs.Areas.{Area, area_at, area_names, areas_named, areas_of}
+use Rattle.vms_base.specs.Areas.{Area, area_at, area_names, areas_named, areas_of, areas_from}
 use Rattle.vms_base.specs.Headers.{IsHeader}
 use Rattle.vms_base.specs.Names.{zone_items}
 use Rattle.vms_base.specs.Places.{Shape}
+use Rattle.vms_calls.specs.TurnLaws.{AreasAscend}
 
 -- the areas are zone items of the layout
 abbrev pub AreItems : Shape → List Area → Type 0
@@ -56,3 +59,43 @@ areas-items header valid = named-items header.layout header.items within 1 area_
         absurd (omega arith))
         (λ (wide : header.layout.positions ≡ 16). let most = few in rw wide (omega arith))
         valid.is_layout.positions
+
+-- the areas of these names ascend from the first order
+module _ (items : List ItemDecl) where
+  abbrev Before : Area → Area → Type 0
+  Before a b = a.order < b.order
+
+  abbrev FromOn : ℕ → Area → Type 0
+  FromOn order a = order ≤ a.order
+
+  next-ascends : (order : ℕ) (found : Option ℕ) (rest : List Area) → AllPairs Before rest → All (FromOn (suc order)) rest
+      → AllPairs Before (area_at order found ++ rest) × All (FromOn order) (area_at order found ++ rest)
+  next-ascends order None rest ascend from =
+      (ascend, All-weaker (FromOn (suc order)) (FromOn order) (λ a later. omega arith) rest from)
+  next-ascends order (Some index) rest ascend from =
+      let area : Area = record { order = order; position = length zone_items + index } in (
+        AllPairs-cons Before area rest
+            (All-weaker (FromOn (suc order)) (Before area) (λ a later. omega arith) rest from) ascend,
+        All-cons (FromOn order) area rest (omega arith)
+            (All-weaker (FromOn (suc order)) (FromOn order) (λ a later. omega arith) rest from),
+      )
+
+  named-ascend : (order : ℕ) (names : List (List ℕ)) → AllPairs Before (areas_named items order names)
+      × All (FromOn order) (areas_named items order names)
+  named-ascend order [] = (λ i j d less within. absurd (omega arith), All-nil (FromOn order))
+  named-ascend order (name ∷ names) =
+      let more = named-ascend (suc order) names in
+      next-ascends order (position (λ item. bytes_eq item.name name && not item.bytes)
+      (filter (λ item. not item.node) items)) (areas_named items (suc order) names) more.0 more.1
+
+  pub from-on : (order : ℕ) (areas : List Area) → All (FromOn order) (areas_from order areas)
+  from-on order areas i d less =
+      leb-true order (get_or (areas_from order areas) i d).order
+      (filter_passes (λ area. nat_le order area.order) areas i d less)
+
+pub areas-ascend : AreasAscend
+areas-ascend order items = (
+  AllPairs-filter (Before items) (λ area. nat_le order area.order) (areas_of items)
+      (named-ascend items 1 area_names).0,
+  from-on items order (areas_of items),
+)

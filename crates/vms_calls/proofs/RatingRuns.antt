@@ -19,7 +19,7 @@ use Rattle.vms_core.specs.Pages.{History}
 use Rattle.vms_core.specs.Peaks.{peak, peak_sum, cpu_in, if_present}
 use Rattle.vms_history.specs.Sums.{count_below}
 use Rattle.vms_calls.proofs.Agreement.{event, mark_in}
-use Rattle.vms_core.proofs.Below.{count_below-least}
+use Rattle.vms_history.proofs.CountLemmas.{count_below-least}
 use Rattle.vms_core.proofs.MarkCovers.{if_present-least, Covers-less}
 use Rattle.vms_calls.proofs.RatingCovers.{SamePeaks-after, peak_sum-same, cover_mark-covers}
 use Rattle.vms_calls.proofs.Runs.{Runs, Knows}

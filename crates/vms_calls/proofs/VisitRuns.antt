@@ -26,7 +26,7 @@ use Rattle.vms_core.specs.Pages.{History}
 use Rattle.vms_core.specs.Peaks.{cpu_in}
 use Rattle.vms_calls.proofs.ChoiceRanges.{GivesBoth, normal-gives}
 use Rattle.vms_calls.proofs.Agreement.{event, mark_in}
-use Rattle.vms_core.proofs.Below.{largest_below-least, largest_below-most}
+use Rattle.vms_history.proofs.CountLemmas.{largest_below-least, largest_below-most}
 use Rattle.vms_calls.proofs.RatingRuns.{IsOneOf, AreOnline, MaySet, rating-runs, thresholds-run}
 use Rattle.vms_calls.proofs.Runs.{Runs, runs-append}
 

@@ -1,10 +1,12 @@
 -- Which thresholds a turn of kswapd leaves, and what its calls and its balance test find.
-use Rattle.std.specs.Prelude.{◌≡◌, ◌≢◌, ℕ, ◌≤◌, nat_eq, ◌&&◌, true, List, [], ◌∷◌, ◌++◌, length, Contains, if◌then◌else◌, Option, Some, None}
+use Rattle.std.specs.Prelude.{◌≡◌, ◌≢◌, ℕ, ◌<◌, ◌≤◌, nat_eq, ◌&&◌, true, List, [], ◌∷◌, ◌++◌, length, All, AllPairs, Contains, if◌then◌else◌, Option, Some, None}
 use Rattle.vms_base.specs.declared.headers.Header.{Header}
+use Rattle.vms_base.specs.declared.headers.ItemDecl.{ItemDecl}
 use Rattle.vms_base.specs.declared.ids.CpuId.{CpuId}
 use Rattle.vms_base.specs.declared.ids.PlaceId.{PlaceId}
 use Rattle.vms_base.specs.declared.kinds.CpuState.{CpuState}
 use Rattle.vms_base.specs.declared.kinds.ZoneSize.{ZoneSize}
+use Rattle.vms_base.specs.Areas.{areas_of, areas_from}
 use Rattle.vms_base.specs.Cpus.{online_from}
 use Rattle.vms_base.specs.Places.{Shape}
 use Rattle.vms_base.specs.Sizes.{size_at}
@@ -20,6 +22,13 @@ use Rattle.vms_calls.specs.Ratings.{node_number}
 use Rattle.vms_calls.specs.TurnReadings.{SettlesOnline}
 use Rattle.vms_calls.specs.Turns.{OrderVerdict, Balance, IsBalanceTest, IsTurn, zones_up_to}
 use Rattle.vms_calls.specs.Turns.Balance.{Yes, No}
+
+-- the areas for blocks of an order and larger: each is of a smaller order than every later one, and none is of a smaller
+-- order than was asked for
+abbrev pub AreasAscend : Type 0
+AreasAscend = (order : ℕ) (items : List ItemDecl) →
+    AllPairs (λ a b. a.order < b.order) (areas_from order (areas_of items))
+    × All (λ a. order ≤ a.order) (areas_from order (areas_of items))
 
 -- the mark of zone g that the steps load last, and the threshold of CPU c in place g that they set last
 abbrev pub last_mark : ℕ → List Step → ℕ → ℕ

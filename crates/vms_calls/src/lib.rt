@@ -10,6 +10,7 @@ mod readings;
 mod rules;
 #[cfg(test)]
 mod tests;
+mod turns;
 
 pub use callers::{
     control_passes_know_by_own_steps, folds_leave_their_caller, looks_leave_their_caller,
@@ -19,8 +20,9 @@ pub use changes::{changes_follow, changes_miss_once, changes_spend_their_size};
 pub use making::{
     changes_may_be_made, folds_may_be_made, looks_may_be_made, thresholds_may_be_set,
 };
-pub use ratings::{balance_tests_name_what_passed, ratings_cover, turns_leave_rules};
+pub use ratings::ratings_cover;
 pub use readings::{
     answers_are_told, changes_and_folds_are_told, ratings_are_told, ratings_find_a_cpu,
 };
 pub use rules::ThresholdRules;
+pub use turns::{areas_ascend, balance_tests_name_what_passed, turns_leave_rules};

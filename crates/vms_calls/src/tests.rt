@@ -38,7 +38,7 @@ fn turns_are_read()
 {}
 
 /// Blocks of 8 pages are looked for before those of 32, though the item of those of 32 is declared first.
-fn areas_ascend()
+fn smaller_area_comes_first()
     ensures { areas_from 3 (areas_of (zone_item (codes "area5") ∷ zone_item (codes "area3") ∷ [])) ≡
         record { order = 3; position = 9 } ∷ record { order = 5; position = 8 } ∷ [] }
 {}
@@ -47,6 +47,7 @@ fn areas_ascend()
 fn rules_and_turns() {
     covered_threshold_may_be_set();
     turns_are_read();
+    smaller_area_comes_first();
     areas_ascend();
     thresholds_may_be_set::<AnyThreshold>();
     ratings_are_told::<AnyThreshold>();

@@ -81,6 +81,7 @@ pub AreBytes-cells : (xs : List ℤ) (start : ℕ) → AreBytes xs → AreBytes 
 AreBytes-cells xs start each k = ⊎_elim
     (λ (within : k < 8). rw (get_or-take 8 (drop start xs) k (pos 0) within, get_or-drop start xs k (pos 0))
     (each (start + k)))
-    (λ (past : 8 ≤ k). rw (get_or_past (take 8 (drop start xs)) k (pos 0) (omega (arith, length-take 8 (drop start xs))))
+    (λ (past : 8 ≤ k).
+    rw (get_or_past (take 8 (drop start xs)) k (pos 0) (omega (arith, length-take 8 (drop start xs))))
     (omega (arith, ints), omega (arith, ints)))
     (cases_lt k 8)

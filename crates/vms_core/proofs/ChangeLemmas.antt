@@ -11,7 +11,8 @@ overstep_of-within Mod t = omega (arith, ints)
 overstep_of-within Inc t = omega (arith, ints)
 overstep_of-within Dec t = omega (arith, ints)
 
-pub differential_after-within : (how : Mode) (t : ℕ) (found delta : ℤ) → unsigned_abs (differential_after how t found delta) ≤ t
+pub differential_after-within : (how : Mode) (t : ℕ) (found delta : ℤ)
+    → unsigned_abs (differential_after how t found delta) ≤ t
 differential_after-within how t found delta = by (nat_le (unsigned_abs (found +ℤ delta)) t) refl
   where
     by : (b : Bool) → nat_le (unsigned_abs (found +ℤ delta)) t ≡ b

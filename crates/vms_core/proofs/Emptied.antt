@@ -54,8 +54,10 @@ module _ (facts : Facts) (h : History) (s : State) (p : ℕ) (shaped : HasShape 
   diff_after-emptied (Some d) (Miss i w) is meets still =
       found-if (nat_eq d.number c && nat_eq i.number (group_of k)) flag (diff_at s c k) (λ here.
       let at = and_parts (nat_eq d.number c) (nat_eq i.number (group_of k)) here in
-      let cpu : meets.cpu.number ≡ c = ap (λ (o : CpuId). o.number) (owned facts h s p shaped d meets.cpu is meets.owns) ∙ eqb-true d.number c at.0 in
-      sym (rw cpu at (entry-told s meets.cpu.number i.number k eight_zeros meets.zeros (eqb-true i.number (group_of k) at.1)))
+      let same : meets.cpu ≡ d = owned facts h s p shaped d meets.cpu is meets.owns in
+      let cpu : meets.cpu.number ≡ c = ap (λ (o : CpuId). o.number) same ∙ eqb-true d.number c at.0 in
+      let told = entry-told s meets.cpu.number i.number k eight_zeros meets.zeros (eqb-true i.number (group_of k) at.1) in
+      sym (rw cpu at told)
       ∙ entry-eight_zeros k) zero still
   diff_after-emptied (Some o) (Take d i w) is meets still =
       zero-if (nat_eq d.number c && nat_eq i.number (group_of k)) flag (diff_at s c k) zero still

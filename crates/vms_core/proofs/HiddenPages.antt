@@ -17,7 +17,7 @@ use Rattle.vms_core.specs.Pages.{History, IsLegal, state_after}
 use Rattle.vms_core.specs.PeakLaws.{HidesNothingAbsent, BoundsHidden}
 use Rattle.vms_core.specs.Peaks.{cpu_after, cpu_in, peak, if_present}
 use Rattle.vms_core.specs.Steps.{turn}
-use Rattle.vms_core.proofs.Below.{count_below-least}
+use Rattle.vms_history.proofs.CountLemmas.{count_below-least}
 use Rattle.vms_core.proofs.Effects.{diff_after, diff_at-effect, owned}
 use Rattle.vms_core.proofs.PeakBounds.{last-within}
 use Rattle.vms_core.proofs.Settings.{cpu_at-newest, cpu_at-state_after}

@@ -10,7 +10,6 @@ pub mod PlainData
 pub mod CounterRanges
 pub mod WorkerSteps
 pub mod WithChange
-pub mod Below
 pub mod Settings
 pub mod NumberChanges
 pub mod PeakSteps

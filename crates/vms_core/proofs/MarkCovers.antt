@@ -15,7 +15,7 @@ use Rattle.vms_core.specs.Conditions.{Meets}
 use Rattle.vms_core.specs.Pages.{History, IsLegal, state_after}
 use Rattle.vms_core.specs.PeakLaws.{KeepsCovers}
 use Rattle.vms_core.specs.Peaks.{is_number, peak_after, peak, cpu_after, cpu_in, if_present, peak_sum, sets, threshold_in}
-use Rattle.vms_core.proofs.Below.{count_below-least}
+use Rattle.vms_history.proofs.CountLemmas.{count_below-least}
 use Rattle.vms_core.proofs.PeakBounds.{threshold_in-within}
 use Rattle.vms_core.proofs.Settings.{mark_after, mark_at-newest}
 

@@ -32,7 +32,8 @@ spent_by-within : (facts : Facts) (h : History) (s : State) (p : ℕ) (shaped : 
 spent_by-within facts h s p shaped c k (Some d) (Put l w t delta how) is meets before =
     by (nat_eq d.number c && nat_eq l.number k) refl
   where
-    by : (b : Bool) → (nat_eq d.number c && nat_eq l.number k) ≡ b → (if b then unsigned_abs delta else 0) + spent h c k ≤ most_volume
+    by : (b : Bool) → (nat_eq d.number c && nat_eq l.number k) ≡ b
+        → (if b then unsigned_abs delta else 0) + spent h c k ≤ most_volume
     by true here =
         let at = and_parts (nat_eq d.number c) (nat_eq l.number k) here in
         let same : meets.cpu ≡ d = owned facts h s p shaped d meets.cpu is meets.owns in
@@ -46,8 +47,8 @@ spent_by-within facts h s p shaped c k None _ is meets before = omega arith
 pub volumes-kept : (facts : Facts) (h : History) → IsLegal facts h → KeepsVolumes h
 volumes-kept facts [] legal c k = omega arith
 volumes-kept facts (e ∷ h) legal c k =
-    spent_by-within facts h (state_after facts h) e.caller (HasShape-state_after facts h legal.0) c k (owner_in turn h e.caller)
-    e.step refl legal.2 (volumes-kept facts h legal.0 c k)
+    spent_by-within facts h (state_after facts h) e.caller (HasShape-state_after facts h legal.0) c k
+    (owner_in turn h e.caller) e.step refl legal.2 (volumes-kept facts h legal.0 c k)
 
 -- an overstep is at most half of what passes the threshold
 overstep_of-half : (how : Mode) (t : ℕ) (z : ℤ) → t < unsigned_abs z
@@ -73,19 +74,22 @@ change-within how t found delta = by (nat_le (unsigned_abs (found +ℤ delta)) t
         let more : t < unsigned_abs (found +ℤ delta) = grind (arith, nat_tests) in
         omega (arith, sum_within, overstep_of-half how t (found +ℤ delta) more)
 
--- what leaves by a step, and three times the size after it: no more than three times the size before it and what is spent
+-- what leaves by a step, and three times the size after it: no more than three times the size before it and what is
+-- spent
 abbrev MovesWithin : ℕ → ℕ → ℕ → ℕ → Type 0
 MovesWithin moved after before spending = moved + 3 * after ≤ 3 * before + 3 * spending
 
 put-within : (b : Bool) (moving after before : ℤ) (delta : ℕ)
     → (b ≡ true → unsigned_abs moving + 3 * unsigned_abs after ≤ 3 * unsigned_abs before + 3 * delta)
-    → MovesWithin (if b then unsigned_abs moving else 0) (unsigned_abs (if b then after else before)) (unsigned_abs before)
+    → MovesWithin (if b then unsigned_abs moving else 0) (unsigned_abs (if b then after else before))
+    (unsigned_abs before)
     (if b then delta else 0)
 put-within true moving after before delta here = here refl
 put-within false moving after before delta here = omega arith
 
 take-within : (b : Bool) (told before : ℤ) → (b ≡ true → told ≡ before)
-    → MovesWithin (if b then unsigned_abs told else 0) (unsigned_abs (if b then pos 0 else before)) (unsigned_abs before) 0
+    → MovesWithin (if b then unsigned_abs told else 0) (unsigned_abs (if b then pos 0 else before))
+    (unsigned_abs before) 0
 take-within true told before kept = let same = kept refl in rw same (omega arith)
 take-within false told before kept = omega arith
 
@@ -121,4 +125,8 @@ moves-bounded facts (e ∷ h) legal c k c_in k_in =
     let shaped = HasShape-state_after facts h legal.0 in
     let after : diff_at (state_after facts (e ∷ h)) c k ≡ diff_after who c k e.step (diff_at s c k) =
     diff_at-effect facts h s e.caller shaped who e.step c k refl legal.2 k_in in
-    rw after (omega (arith, moved_out_by-within facts h s e.caller shaped c k who e.step refl legal.2, moves-bounded facts h legal.0 c k c_in k_in))
+    rw after (omega (
+      arith,
+      moved_out_by-within facts h s e.caller shaped c k who e.step refl legal.2,
+      moves-bounded facts h legal.0 c k c_in k_in,
+    ))

@@ -16,11 +16,13 @@ module _ (facts : Facts) (later earlier : History) (p : ℕ) (goes : GoesOnWitho
   Owns-goes_on c owns =
       record { owner = owner_in-goes_on facts later earlier p goes ∙ owns.owner; within = owns.within }
 
-  pub AddsToPlace-goes_on : (k : CounterId) (amount : ℤ) → AddsToPlace facts earlier p k amount → AddsToPlace facts later p k amount
+  pub AddsToPlace-goes_on : (k : CounterId) (amount : ℤ) → AddsToPlace facts earlier p k amount
+      → AddsToPlace facts later p k amount
   AddsToPlace-goes_on k amount adds =
       record { counter = adds.counter; carries = ap (carried k.number) goes.own_same ∙ adds.carries; some = adds.some }
 
-  pub AddsToSystem-goes_on : (i : ItemId) (amount : ℤ) → AddsToSystem facts earlier p i amount → AddsToSystem facts later p i amount
+  pub AddsToSystem-goes_on : (i : ItemId) (amount : ℤ) → AddsToSystem facts earlier p i amount
+      → AddsToSystem facts later p i amount
   AddsToSystem-goes_on i amount adds = record {
     item = adds.item;
     carries = ap (carried_of_item facts.layout i.number) goes.own_same ∙ adds.carries;

@@ -23,7 +23,7 @@ use Rattle.vms_core.specs.PeakLaws.{BoundsByPeaks, BoundsThresholds, KeepsPeaksI
 use Rattle.vms_core.specs.Peaks.{sets, threshold_in, peak}
 use Rattle.vms_core.specs.Steps.{turn}
 use Rattle.vms_core.specs.Totals.{last_threshold}
-use Rattle.vms_core.proofs.Below.{largest_below-least, largest_below-most}
+use Rattle.vms_history.proofs.CountLemmas.{largest_below-least, largest_below-most}
 use Rattle.vms_core.proofs.Bounds.{diff_at-bounded}
 use Rattle.vms_core.proofs.CounterRanges.{counter_at-known, first-known, counter_at-first}
 use Rattle.vms_core.proofs.Owners.{OwnsNow-before}

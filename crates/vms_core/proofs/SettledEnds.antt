@@ -1,5 +1,5 @@
--- For other crates too: the state that a complete history leaves may open the next phase, and its totals grew by no more
--- than the volumes.
+-- For other crates too: the state that a complete history leaves may open the next phase, and its totals grew by no
+-- more than the volumes.
 use Rattle.std.proofs.Common.{◌≡◌, ℕ, zero, suc, ◌+◌, ◌*◌, ◌^◌, ◌<◌, ◌≤◌, Bool, true, false, [], ℤ, pos, ◌+ℤ◌, ◌-ℤ◌, unsigned_abs, None, refl, ap, ◌∙◌, subst, arith, if◌then◌else◌, nat_eq}
 use Rattle.std.proofs.Math.ListN.{get_or-map}
 use Rattle.std.proofs.lemmas.List.{length-map}
@@ -13,7 +13,7 @@ use Rattle.vms_history.specs.Events.{total}
 use Rattle.vms_history.specs.Sums.{sum_below, count_below}
 use Rattle.vms_history.proofs.Choices.{if-same}
 use Rattle.vms_history.proofs.CallerSums.{total-by_parts}
-use Rattle.vms_history.proofs.CountLemmas.{pos-count_below}
+use Rattle.vms_history.proofs.CountLemmas.{pos-count_below, count_below-least, largest_below-most}
 use Rattle.vms_history.proofs.Prefixes.{base_can_begin}
 use Rattle.vms_history.proofs.SumBounds.{sum_below-most, sum_below-size}
 use Rattle.vms_history.proofs.SumLaws.{sum_below-same, sum_below-sum, sum_below-zeros}
@@ -28,7 +28,6 @@ use Rattle.vms_core.specs.Ends.{grown, AreVolumes, IsWithinVolumes}
 use Rattle.vms_core.specs.Pages.{pages, History, IsLegal, IsComplete, state_after}
 use Rattle.vms_core.specs.Peaks.{opening_peak, peak, peak_sum, cpu_in, if_present}
 use Rattle.vms_core.specs.Totals.{change_of, change_of_item, differentials, differentials_of_item, values_of_item, true_total, true_total_of_item, spent}
-use Rattle.vms_core.proofs.Below.{count_below-least, largest_below-most}
 use Rattle.vms_core.proofs.CarriedNothing.{none-carried, none-carried_of_item}
 use Rattle.vms_core.proofs.CounterRanges.{counter_at-known}
 use Rattle.vms_core.proofs.HiddenPages.{absent-zero}
@@ -135,7 +134,8 @@ module _ (facts : Facts) (h : History) where
       → opening_peak shape (settled ended) c g ≤ peak facts c g h
   opening_peaks-within legal c g c_in g_in =
       let layout = (base_can_begin pages facts h legal).layout in
-      let each : (n : ℕ) → n < shape.positions → unsigned_abs (diff_at ended c (counter_at shape g n)) ≤ peak facts c g h =
+      let each : (n : ℕ) → n < shape.positions
+      → unsigned_abs (diff_at ended c (counter_at shape g n)) ≤ peak facts c g h =
       λ n n_in.
       let k = counter_at shape g n in
       let within = last-within facts h legal c k c_in (counter_at-known shape layout g n g_in n_in) in

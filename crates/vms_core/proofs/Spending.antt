@@ -128,7 +128,8 @@ module _ (facts : Facts) (owners : ℕ → Option CpuId) (n c k : ℕ) where
       (own-others e h i (λ same. other (sym same)))) in
       let mine : part (e ∷ h) e.caller ≡ (if is_owner (owners e.caller) c
       then change_size k e.step +ℤ total (change_size k) (own h e.caller) else pos 0) =
-      ap (λ es. if is_owner (owners e.caller) c then total (change_size k) es else pos 0) (own-mine e h e.caller refl) in
+      ap (λ es. if is_owner (owners e.caller) c then total (change_size k) es else pos 0)
+      (own-mine e h e.caller refl) in
       let grows = part-grows (is_owner (owners e.caller) c) (change_size k e.step)
       (total (change_size k) (own h e.caller)) in
       let spends : pos (spent_by (owner_in turn h e.caller) c k e.step)
@@ -187,7 +188,8 @@ owner-spends facts later earlier p steps c made owner k =
     (subst (λ (g : History). lives_in turn g p ≡ true) made.extends.1 made.lives) in
     let now : Spends facts later earlier p c k made.lived owner later =
     subst (Spends facts later earlier p c k made.lived owner) (sym made.extends.1) all in
-    let own_now : own later p ≡ after p steps [] ++ own earlier p = made.made ∙ after-append p steps [] (own earlier p) in
+    let own_now : own later p ≡ after p steps [] ++ own earlier p =
+    made.made ∙ after-append p steps [] (own earlier p) in
     omega (
       arith,
       ints,

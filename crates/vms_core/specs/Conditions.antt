@@ -35,7 +35,8 @@ abbrev pub IsControl : List (Event Step) → ℕ → Type 0
 IsControl h p = owner_in turn h p ≡ None
 
 -- a load of the own threshold of a place
-pub record LoadsThreshold (facts : Facts) (h : List (Event Step)) (s : State) (p : ℕ) (g : PlaceId) (t a : ℕ) : Type 0 where
+pub record LoadsThreshold (facts : Facts) (h : List (Event Step)) (s : State) (p : ℕ) (g : PlaceId)
+    (t a : ℕ) : Type 0 where
   pub cpu : CpuId
   pub owns : Owns facts h p cpu
   pub place : IsPlace facts.layout g.number
@@ -49,7 +50,8 @@ pub record FindsGroup (facts : Facts) (s : State) (c : CpuId) (j : GroupId) (w :
   pub values : TellsGroup s c.number j.number w.values
 
 -- an exchange that wins
-pub record Puts (facts : Facts) (h : List (Event Step)) (s : State) (p : ℕ) (k : CounterId) (w : Diffs) (t : ℕ) (delta : ℤ) : Type 0 where
+pub record Puts (facts : Facts) (h : List (Event Step)) (s : State) (p : ℕ) (k : CounterId)
+    (w : Diffs) (t : ℕ) (delta : ℤ) : Type 0 where
   pub cpu : CpuId
   pub owns : Owns facts h p cpu
   pub counter : IsCounter facts.layout k.number
@@ -90,7 +92,8 @@ pub record LoadsMark (facts : Facts) (s : State) (g : PlaceId) (m a : ℕ) : Typ
   pub number : mark_sets_at s g.number ≡ a
 
 -- a threshold may be set on an online CPU where the zone's mark covers it
-pub record SetsThreshold (facts : Facts) (h : List (Event Step)) (s : State) (p : ℕ) (c : CpuId) (g : PlaceId) (t : ℕ) : Type 0 where
+pub record SetsThreshold (facts : Facts) (h : List (Event Step)) (s : State) (p : ℕ) (c : CpuId)
+    (g : PlaceId) (t : ℕ) : Type 0 where
   pub control : IsControl h p
   pub cpu : IsCpu facts.layout c.number
   pub place : IsPlace facts.layout g.number
@@ -127,7 +130,8 @@ pub record Acknowledges (facts : Facts) (h : List (Event Step)) (p : ℕ) (g : P
   pub put_nothing : has_put facts.layout g.number (own h p) ≡ false
 
 -- a load by the control pass of what a CPU acknowledged last
-pub record LoadsAcknowledged (facts : Facts) (h : List (Event Step)) (s : State) (p : ℕ) (c : CpuId) (g : PlaceId) (x : Option ℕ) : Type 0 where
+pub record LoadsAcknowledged (facts : Facts) (h : List (Event Step)) (s : State) (p : ℕ) (c : CpuId)
+    (g : PlaceId) (x : Option ℕ) : Type 0 where
   pub control : IsControl h p
   pub cpu : IsCpu facts.layout c.number
   pub zone : IsZone facts.layout g.number

@@ -53,8 +53,8 @@ state_after facts h = legal.state_after pages facts h
 abbrev pub carried_by_all : History → ℕ → ℤ
 carried_by_all h k = sum_below (λ p. carried k (own h p)) (suc (begun_in turn h))
 
--- nothing is lost and nothing is counted twice: the global value of a counter, its differentials and what is carried for
--- it add up to its true total
+-- nothing is lost and nothing is counted twice: the global value of a counter, its differentials and what is carried
+-- for it add up to its true total
 abbrev pub KeepsTotals : Facts → History → Type 0
 KeepsTotals facts h = (k : ℕ) → IsCounter facts.layout k →
     (value_at (state_after facts h) k +ℤ differentials facts.layout (state_after facts h) k) +ℤ carried_by_all h k

@@ -42,7 +42,8 @@ opening_peak shape s c g =
 -- the peak after a step: a threshold that is set may raise it, and where the newest threshold is found acknowledged the
 -- peak becomes that threshold
 abbrev pub peak_after : ℕ → ℕ → ℕ → ℕ → Step → ℕ → ℕ
-peak_after number threshold c g (SetT d f t) before = if nat_eq d.number c && nat_eq f.number g then max t before else before
+peak_after number threshold c g (SetT d f t) before =
+    if nat_eq d.number c && nat_eq f.number g then max t before else before
 peak_after number threshold c g (LoadA d f x) before =
     if nat_eq d.number c && nat_eq f.number g && is_number x number then threshold else before
 peak_after number threshold c g _ before = before

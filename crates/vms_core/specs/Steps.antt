@@ -19,7 +19,8 @@ turn _ = Works
 
 -- the state after a step of a pass that owns a CPU
 abbrev pub own_effect : CpuId → Step → State → State
-own_effect c (Put k w t delta how) s = with_diff s c.number k.number (differential_after how t (entry w.values k.number) delta)
+own_effect c (Put k w t delta how) s =
+    with_diff s c.number k.number (differential_after how t (entry w.values k.number) delta)
 own_effect c (SetA g a) s = with_acknowledged s c.number g.number a
 own_effect c _ s = s
 

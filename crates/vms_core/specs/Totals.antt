@@ -43,7 +43,8 @@ true_total facts h k = (value_at facts.base k +ℤ differentials facts.layout fa
 
 abbrev pub true_total_of_item : Facts → List (Event Step) → ℕ → ℤ
 true_total_of_item facts h i =
-    (system_at facts.base i +ℤ differentials_of_item facts.layout facts.base i) +ℤ total (change_of_item facts.layout i) h
+    (system_at facts.base i +ℤ differentials_of_item facts.layout facts.base i)
+    +ℤ total (change_of_item facts.layout i) h
 
 -- what a step of a pass that owns `who` spends of the volume of CPU c on counter k
 abbrev pub spent_by : Option CpuId → ℕ → ℕ → Step → ℕ

@@ -8,9 +8,9 @@ impl Plain {
     ghost use Rattle.vms_core.specs.Cells.{HasShape, cpu_at, value_at, system_at, diff_at};
     ghost use Rattle.vms_core.specs.ChangedStates.{with_carried, with_change};
 
-    /// Changes a counter on a CPU, as a caller does that meets no other (`mod_zone_page_state`, `inc_zone_page_state` and
-    /// `dec_zone_page_state` of mm/vmstat.c, and those of the nodes): `delta` pages, which are 1 and -1 in the kernel's
-    /// `inc` and `dec`.
+    /// Changes a counter on a CPU, as a caller does that meets no other (`mod_zone_page_state`, `inc_zone_page_state`
+    /// and `dec_zone_page_state` of mm/vmstat.c, and those of the nodes): `delta` pages, which are 1 and -1 in the
+    /// kernel's `inc` and `dec`.
     #[inline]
     pub fn change(
         &mut self,

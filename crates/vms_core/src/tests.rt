@@ -156,7 +156,8 @@ fn is_zero(list: &Diffs) -> bool
 }
 
 /// Changes the counter at position 0 by `delta` under a threshold of 20, where another caller takes the group between
-/// the load and the exchange. Returns what was found and taken, what the second exchange left, and what the change carries.
+/// the load and the exchange. Returns what was found and taken, what the second exchange left, and what the change
+/// carries.
 fn change_past_a_take(rt: &impl Abort, plain: &mut Plain, delta: i64) -> (Diffs, Diffs, i64)
     requires cpu { 0 < length plain.old.cpu }
     requires online { cpu_at plain.old 0 ≡ Online }

@@ -5,6 +5,8 @@ use Rattle.std.proofs.lemmas.List.Elements.{All-nil, All-cons, All-head, All-tai
 use Rattle.vms_base.specs.declared.ids.CpuId.{CpuId}
 use Rattle.vms_base.specs.declared.ids.EventId.{EventId}
 use Rattle.vms_history.specs.Events.{own, after, total}
+use Rattle.vms_history.proofs.Own.{after-append}
+use Rattle.vms_history.proofs.SumLaws.{total-append}
 use Rattle.vms_history.specs.Passes.{lives_in, owner_in}
 use Rattle.vms_event_core.specs.declared.steps.EventFacts.{EventFacts}
 use Rattle.vms_event_core.specs.declared.steps.EventStep.{EventStep}
@@ -30,6 +32,17 @@ module _ (facts : EventFacts) (later earlier : History) (p : ℕ) (steps : List 
       (spent-goes_along facts earlier p c k owns made.extends.0 (subst (IsLegal facts) is made.legal)
       (subst (λ g. lives_in turn g p ≡ true) is made.lives) (made-given facts later earlier p steps made).1) in
       along ∙ ap (λ es. pos (spent earlier c.number k) +ℤ total (counted k) es) made.made
+
+  -- the same, with what the steps count on their own
+  pub owner-spends : (c : CpuId) → owner_in turn earlier p ≡ Some c → (k : ℕ)
+      → pos (spent later c.number k) ≡ pos (spent earlier c.number k) +ℤ total (counted k) (after p steps [])
+  owner-spends c owns k =
+      let all = spent-made c k owns in
+      let parts : total (counted k) (after p steps (own earlier p))
+      ≡ total (counted k) (after p steps []) +ℤ total (counted k) (own earlier p) =
+      ap (total (counted k)) (after-append p steps [] (own earlier p))
+      ∙ total-append (counted k) (after p steps []) (own earlier p) in
+      omega (arith, ints, all, parts)
 
   pub count-spends : (k : EventId) (n : ℕ) → IsCount k n steps → SpendsSince later earlier p (counted_of k n)
   count-spends k n call c l owns =

@@ -109,12 +109,17 @@ module _ (facts : EventFacts) where
       by false others before =
           before k k_in (λ none. some (ap (carried k) (own-others e h p (eqb-false e.caller p others)) ∙ none))
 
-  -- so where no pass lives, the words are all that there is
-  pub nothing_carried : (h : History) (k : ℕ) → IsComplete facts h → IsEvent k → carried_by_all h k ≡ pos 0
-  nothing_carried h k complete k_in =
-      sum_below-zeros (λ p. carried k (own h p)) (suc (begun_in turn h)) (λ p given.
+  -- so where no pass lives nobody carries anything
+  pub nothing_in_hand : (h : History) (p k : ℕ) → IsComplete facts h → IsEvent k → carried k (own h p) ≡ pos 0
+  nothing_in_hand h p k complete k_in =
       elim (zero_or_not (carried k (own h p))) [
         | inl none ↦ none
         | inr some ↦ absurd (true≢false
             (sym (carries_as_control h p k complete.legal k_in some).lives ∙ complete.ended p))
-      ])
+      ]
+
+  -- and the words are all that there is
+  pub nothing_carried : (h : History) (k : ℕ) → IsComplete facts h → IsEvent k → carried_by_all h k ≡ pos 0
+  nothing_carried h k complete k_in =
+      sum_below-zeros (λ p. carried k (own h p)) (suc (begun_in turn h))
+      (λ p given. nothing_in_hand h p k complete k_in)

@@ -8,7 +8,7 @@ pub mod OfflineCpus
 pub mod DeadCpus
 pub mod OnlineCpus
 pub mod AllLaws
-pub mod Ends
+pub mod Endings
 pub mod CallReading
 pub mod CallCarrying
 pub mod Callers

@@ -15,12 +15,13 @@ use Rattle.vms_event_core.specs.declared.steps.EventStep.{EventStep}
 use Rattle.vms_event_core.specs.declared.steps.EventStep.TheVariants.{AddE, TakeE, AddF}
 use Rattle.vms_event_core.specs.Conditions.{Meets}
 use Rattle.vms_event_core.specs.Events.{events, History, IsLegal, state_after, carried_by_all, true_total, IsComplete}
-use Rattle.vms_event_core.specs.Laws.{KeepsTotals, HoldsTotals}
+use Rattle.vms_event_core.specs.Endings.{HoldsTotals}
+use Rattle.vms_event_core.specs.Laws.{KeepsTotals}
 use Rattle.vms_event_core.specs.Own.{moved}
 use Rattle.vms_event_core.specs.Steps.{turn}
 use Rattle.vms_event_core.specs.Totals.{counted, word_after, word_in}
 use Rattle.vms_event_core.specs.Words.{IsEvent, word_at, words_of}
-use Rattle.vms_event_core.proofs.Carrying.{nothing_carried}
+use Rattle.vms_event_core.proofs.Carrying.{nothing_in_hand, nothing_carried}
 use Rattle.vms_event_core.proofs.StateWords.{owner_known, word_at-state_after}
 
 -- b says whether the step is on the event that is summed
@@ -83,4 +84,8 @@ totals-kept facts h legal k k_in =
 pub totals-held : (facts : EventFacts) (h : History) (k : ℕ) → IsComplete facts h → IsEvent k → HoldsTotals facts h k
 totals-held facts h k complete k_in =
     let none = nothing_carried facts h k complete k_in in
-    record { nothing_carried = none; words = omega (arith, ints, none, totals-kept facts h complete.legal k k_in) }
+    record {
+      nothing_in_hand = λ p. nothing_in_hand facts h p k complete k_in;
+      nothing_carried = none;
+      words = omega (arith, ints, none, totals-kept facts h complete.legal k k_in);
+    }

@@ -20,11 +20,6 @@ abbrev pub KeepsTotals : EventFacts → History → Type 0
 KeepsTotals facts h = (k : ℕ) → IsEvent k →
     words_of facts.layout (state_after facts h) k +ℤ carried_by_all h k ≡ true_total facts h k
 
--- where every pass has ended, nothing is carried, and the words alone are the true total
-pub record HoldsTotals (facts : EventFacts) (h : History) (k : ℕ) : Type 0 where
-  pub nothing_carried : carried_by_all h k ≡ pos 0
-  pub words : words_of facts.layout (state_after facts h) k ≡ true_total facts h k
-
 -- what the words of one event and all that is carried for it may come to
 abbrev pub most_in_sum : Shape → ℕ
 most_in_sum shape = most_in_base + shape.cpus * most_volume

@@ -7,6 +7,6 @@ pub mod Conditions
 pub mod Events
 pub mod Quiet
 pub mod Laws
-pub mod Ends
+pub mod Endings
 pub mod Calls
 pub mod MadeCalls

@@ -1,9 +1,8 @@
 ghost use Rattle.std.specs.Prelude.{◌≤◌, ◌∷◌, ◌++◌, unsigned_abs};
 ghost use Rattle.vms_history.specs.declared.events.Event.{Event};
-ghost use Rattle.vms_history.specs.Legal.{IsQuiet};
 ghost use Rattle.vms_pcpu_core.specs.declared.steps.PcpuFacts.{PcpuFacts};
 ghost use Rattle.vms_pcpu_core.specs.declared.steps.PcpuStep.{PcpuStep};
-ghost use Rattle.vms_pcpu_core.specs.Histories.{percpu, History, IsLegal};
+ghost use Rattle.vms_pcpu_core.specs.Histories.{History, IsLegal};
 ghost use Rattle.vms_pcpu_core.specs.Laws.{KeepsLaws, number_of, most_number};
 
 /// At every moment of a legal history, all laws of the percpu counters hold.
@@ -15,9 +14,4 @@ pub fn laws_are_kept()
 pub fn steps_name_small_numbers()
     ensures { (facts : PcpuFacts) (e : Event PcpuStep) (h : History) → IsLegal facts (e ∷ h) →
         unsigned_abs (number_of e.step) ≤ most_number }
-{}
-
-/// The beginning and the end of a pass leave the state, and ask nothing beyond the rules of the passes.
-pub fn passes_leave_the_state()
-    ensures { IsQuiet percpu }
 {}

@@ -28,7 +28,7 @@ pub use calls::{
 };
 pub use endings::{complete_histories_hold_totals, complete_histories_leave_bases};
 pub use folding::fold_dead_empties_local_parts;
-pub use laws::{laws_are_kept, passes_leave_the_state, steps_name_small_numbers};
+pub use laws::{laws_are_kept, steps_name_small_numbers};
 pub use limits::{limited_add_alone_is_exact, limited_add_keeps_limit};
 pub use making::{calls_may_be_made, calls_stand_in_histories};
 pub use states::PcpuState;

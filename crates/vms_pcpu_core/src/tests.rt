@@ -21,7 +21,6 @@ fn laws_hold_of_the_percpu_table() {
     limited_add_is_told();
     limited_add_keeps_limit();
     own_part_stays();
-    passes_leave_the_state();
     read_is_told();
     rough_sign_is_true();
     steps_name_small_numbers();

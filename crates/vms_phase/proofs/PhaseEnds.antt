@@ -11,7 +11,7 @@ use Rattle.vms_core.specs.ChangedStates.{with_change, with_change_of}
 use Rattle.vms_core.specs.Pages.{pages, IsLegal}
 use Rattle.vms_phase.specs.FileOrder.{lanes_of}
 use Rattle.vms_phase.specs.OpenPhases.{IsOpen, IsOfOnline, EndsPhase}
-use Rattle.vms_phase.specs.Worlds.{facts_of}
+use Rattle.vms_calls.specs.HeaderFacts.{facts_of}
 use Rattle.vms_core.specs.Bases.{settled}
 use Rattle.vms_phase.proofs.Closings.{closed, follows-closed, IsComplete-closed, state_after-closed}
 use Rattle.vms_core.proofs.KeptLaws.{laws-kept}

@@ -8,7 +8,8 @@ use Rattle.vms_core.specs.Pages.{state_after}
 use Rattle.vms_phase.specs.FileOrder.{Phase, Leads}
 use Rattle.vms_phase.specs.OpenPhases.{EndsPhase, IsOfOnline, IsOpen}
 use Rattle.vms_phase.specs.Runs.{InFileOrder, IsRun, as_phase}
-use Rattle.vms_phase.specs.Worlds.{IsStart, facts_of, normal_rule}
+use Rattle.vms_phase.specs.Worlds.{IsStart, normal_rule}
+use Rattle.vms_calls.specs.HeaderFacts.{facts_of}
 use Rattle.vms_core.specs.Bases.{settled}
 use Rattle.vms_phase.proofs.LineHistories.{IsOpen-none}
 use Rattle.vms_phase.proofs.RunChanges.{HasSettings-same}

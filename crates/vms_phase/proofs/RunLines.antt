@@ -19,7 +19,7 @@ use Rattle.vms_phase.specs.OpenPhases.{IsDelta, IsOfOnline, IsOpen, Moment, chan
 use Rattle.vms_phase.specs.Runs.{HasSettings, IsRun, MayGoOn}
 use Rattle.vms_core.specs.Totals.{values_of_item}
 use Rattle.vms_phase.specs.Totals.{AddsUp}
-use Rattle.vms_phase.specs.Worlds.{facts_of}
+use Rattle.vms_calls.specs.HeaderFacts.{facts_of}
 use Rattle.vms_phase.proofs.RunChanges.{HasSettings-change, cpu-same, systems-change, within-change}
 use Rattle.vms_phase.proofs.RunStates.{system-most, value-most}
 use Rattle.vms_phase.proofs.RunTotals.{counter-known, cpu-known, delta-known, plain_total-item, volume-known}

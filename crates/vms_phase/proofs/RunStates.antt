@@ -15,12 +15,12 @@ use Rattle.vms_base.specs.Sizes.{size_at}
 use Rattle.vms_core.specs.Cells.{value_at, system_at, diff_at, threshold_at, mark_at, cpu_at}
 use Rattle.vms_core.specs.Peaks.{if_present, opening_peak, peak_sum}
 use Rattle.vms_core.specs.Totals.{differentials, values_of_item}
-use Rattle.vms_core.proofs.Below.{count_below-least, largest_below-most}
+use Rattle.vms_history.proofs.CountLemmas.{count_below-least, largest_below-most}
 use Rattle.vms_core.proofs.CounterRanges.{counter_at-known}
 use Rattle.vms_core.proofs.SettledEnds.{values_of_item-most}
 use Rattle.vms_core.proofs.MarkCovers.{Covers-less, if_present-least}
 use Rattle.vms_phase.specs.Runs.{IsRun, IsOfRun}
-use Rattle.vms_phase.specs.Worlds.{facts_of}
+use Rattle.vms_calls.specs.HeaderFacts.{facts_of}
 use Rattle.vms_phase.proofs.RunChanges.{threshold-same, mark-same, cpu-same, acknowledged-same, threshold_sets-same, mark_sets-same}
 use Rattle.vms_phase.proofs.RunTotals.{plain_total-most}
 use Rattle.vms_text.specs.declared.acts.Item.{Item}

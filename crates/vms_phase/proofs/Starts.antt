@@ -22,11 +22,12 @@ use Rattle.vms_core.specs.Bases.{IsBase, settled}
 use Rattle.vms_core.specs.Cells.{HasShape, places_of, threshold_at, mark_at, threshold_sets_at, mark_sets_at, acknowledged_at, diff_at, cpu_at}
 use Rattle.vms_core.specs.Peaks.{opening_peak, peak_sum, if_present}
 use Rattle.vms_history.specs.Sums.{count_below}
-use Rattle.vms_core.proofs.Below.{largest_below-least, largest_below-most}
+use Rattle.vms_history.proofs.CountLemmas.{largest_below-least, largest_below-most}
 use Rattle.vms_core.proofs.LevelStates.{get_or-copies}
 use Rattle.vms_core.proofs.PlainData.{places_of-shaped}
 use Rattle.vms_calls.specs.Ratings.{largest_on}
-use Rattle.vms_phase.specs.Worlds.{IsStart, IsStartUnder, IsNormalRule, normal_rule, base_of_item, opening_mark, quiet_state, facts_of}
+use Rattle.vms_phase.specs.Worlds.{IsStart, IsStartUnder, IsNormalRule, normal_rule, base_of_item, opening_mark, quiet_state}
+use Rattle.vms_calls.specs.HeaderFacts.{facts_of}
 use Rattle.vms_phase.proofs.ItemSums.{base_of-most}
 use Rattle.vms_phase.proofs.Rows.{length-repeat, get_or-repeat}
 

@@ -14,7 +14,8 @@ use Rattle.vms_core.specs.Totals.{values_of_item}
 use Rattle.vms_phase.specs.FileOrder.{Phase, Leads}
 use Rattle.vms_phase.specs.OpenPhases.{IsOfOnline, IsOpen, change_item}
 use Rattle.vms_phase.specs.Totals.{counter_total}
-use Rattle.vms_phase.specs.Worlds.{IsStart, facts_of, normal_rule}
+use Rattle.vms_phase.specs.Worlds.{IsStart, normal_rule}
+use Rattle.vms_calls.specs.HeaderFacts.{facts_of}
 use Rattle.vms_script.specs.Totals.{ArePhases, plain_total}
 use Rattle.vms_text.specs.declared.acts.Item.{Item}
 

@@ -8,14 +8,9 @@ use Rattle.vms_base.specs.Places.{IsCpu, IsZone, IsNode, IsPlace, IsCounter, IsI
 use Rattle.vms_base.specs.Sizes.{IsValidSize, size_at}
 use Rattle.vms_base.specs.Thresholds.{normal_threshold_of}
 use Rattle.vms_core.specs.declared.states.State.{State}
-use Rattle.vms_core.specs.declared.steps.Facts.{Facts}
 use Rattle.vms_calls.specs.Ratings.{largest_on}
 use Rattle.vms_core.specs.Cells.{HasShape, value_at, system_at, diff_at, threshold_at, threshold_sets_at, mark_at, mark_sets_at, cpu_at, acknowledged_at}
 use Rattle.vms_history.specs.Sums.{sum_below}
-
--- what the page table is told of a phase from this state
-abbrev pub facts_of : Header → State → Facts
-facts_of header s = record { layout = header.layout; sizes = header.sizes; base = s }
 
 -- the base of a counter, and of an item: the sum over its counters
 abbrev pub base_of : Header → ℕ → ℤ

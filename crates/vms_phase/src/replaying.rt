@@ -33,7 +33,7 @@ impl PhaseReplay {
     ghost use Rattle.vms_core.specs.declared.steps.Facts.{Facts};
     ghost use Rattle.vms_phase.specs.OpenPhases.{EndsPhase, IsDelta, IsOfOnline, IsOpen, change_item, volume};
     ghost use Rattle.vms_phase.specs.Totals.{AddsUp, counter_total};
-    ghost use Rattle.vms_phase.specs.Worlds.{facts_of};
+    ghost use Rattle.vms_calls.specs.HeaderFacts.{facts_of};
     ghost use Rattle.vms_base.specs.declared.headers.Header.{Header};
     ghost use Rattle.vms_core.specs.declared.states.State.{State};
     ghost use Rattle.vms_text.specs.declared.acts.Item.{Item};

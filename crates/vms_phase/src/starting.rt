@@ -2,7 +2,8 @@ ghost use Rattle.std.specs.Prelude.{◌≡◌, ℕ, ◌<◌, ◌≤◌, length, 
 ghost use Rattle.vms_base.specs.Headers.{IsHeader};
 ghost use Rattle.vms_base.specs.Thresholds.{most_threshold};
 ghost use Rattle.vms_core.specs.Bases.{IsBase, settled};
-ghost use Rattle.vms_phase.specs.Worlds.{IsNormalRule, IsStart, IsStartUnder, facts_of, normal_rule, quiet_state};
+ghost use Rattle.vms_phase.specs.Worlds.{IsNormalRule, IsStart, IsStartUnder, normal_rule, quiet_state};
+ghost use Rattle.vms_calls.specs.HeaderFacts.{facts_of};
 
 use crate::settings::{thresholds, zone_marks, zone_thresholds};
 use crate::summing::systems;

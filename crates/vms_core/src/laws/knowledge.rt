@@ -27,8 +27,8 @@ pub fn passes_know_what_they_own()
         GoesOnWithout facts later earlier p → owner_in turn earlier p ≡ None → ControlKnows facts later earlier }
 {}
 
-/// What the main pass knows while it makes no event. Of a CPU that no pass owns, that it spent and acknowledged no more;
-/// where no control pass lives, that thresholds, marks, the CPUs' states and the peaks are as they were.
+/// What the main pass knows while it makes no event. A CPU that no pass owns spent and acknowledged no more; where no
+/// control pass lives, thresholds, marks, the CPUs' states and the peaks are as they were.
 pub fn main_pass_knows_what_is_free()
     ensures cpu { (facts : Facts) (later earlier : History) → GoesOnWithoutMain facts later earlier →
         (c : CpuId) → IsFree turn earlier (Some c) → StandsFree facts later earlier c.number }

@@ -1,7 +1,8 @@
 -- The lists that are made are those of the first state.
 use Rattle.std.proofs.Common.{◌≡◌}
 use Rattle.vms_core.specs.Bases.{IsBase, settled}
-use Rattle.vms_phase.specs.Worlds.{IsStartUnder, facts_of}
+use Rattle.vms_phase.specs.Worlds.{IsStartUnder}
+use Rattle.vms_calls.specs.HeaderFacts.{facts_of}
 use Rattle.vms_phase.proofs.Starts.{IsMade, IfOk-is, IsStartUnder-made, IsBase-made, settled-made}
 use Rattle.vms_phase.proofs.starting.start_under.Goals as goal
 

@@ -18,7 +18,8 @@ eight_from-requires c =
 
 pub invariant_of-result : goal.invariant_of-result
 invariant_of-result c = record {
-  bytes = rw (c.eight_from.ensures, c.as_slice.ensures) (AreBytes-part c.self.inside.state _ _ c.self.invariant c.cell-at.result);
+  bytes = rw (c.eight_from.ensures, c.as_slice.ensures)
+      (AreBytes-part c.self.inside.state _ _ c.self.invariant c.cell-at.result);
 }
 
 pub returns : goal.returns

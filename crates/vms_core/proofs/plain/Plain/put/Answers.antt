@@ -12,5 +12,6 @@ cell-at-requires c =
 
 pub write_diff-requires-clause-within : goal.write_diff-requires-clause-within
 write_diff-requires-clause-within c =
-    rw (c.cell-at.ensures, ← c.self.view_is) (diff_cell c.self.inside.state _ _ c.self.invariant c.args.cpu.number c.args.counter.number
+    rw (c.cell-at.ensures, ← c.self.view_is)
+    (diff_cell c.self.inside.state _ _ c.self.invariant c.args.cpu.number c.args.counter.number
     (rw c.self.view_is c.requires.cpu) (rw c.self.view_is c.requires.counter))

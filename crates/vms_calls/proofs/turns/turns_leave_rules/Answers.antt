@@ -1,5 +1,5 @@
 use Rattle.vms_calls.proofs.TurnThresholds.{leaves-normal, leaves-pressure}
-use Rattle.vms_calls.proofs.ratings.turns_leave_rules.Goals as goal
+use Rattle.vms_calls.proofs.turns.turns_leave_rules.Goals as goal
 
 pub returns : goal.returns
 returns g c = record {
