@@ -56,7 +56,8 @@ module _ (facts : Facts) (h : History) (s : State) (p : ℕ) (shaped : HasShape 
       let at = and_parts (nat_eq d.number c) (nat_eq i.number (group_of k)) here in
       let same : meets.cpu ≡ d = owned facts h s p shaped d meets.cpu is meets.owns in
       let cpu : meets.cpu.number ≡ c = ap (λ (o : CpuId). o.number) same ∙ eqb-true d.number c at.0 in
-      let told = entry-told s meets.cpu.number i.number k eight_zeros meets.zeros (eqb-true i.number (group_of k) at.1) in
+      let told =
+      entry-told s meets.cpu.number i.number k eight_zeros meets.zeros (eqb-true i.number (group_of k) at.1) in
       sym (rw cpu at told)
       ∙ entry-eight_zeros k) zero still
   diff_after-emptied (Some o) (Take d i w) is meets still =

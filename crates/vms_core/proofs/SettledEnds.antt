@@ -1,6 +1,6 @@
 -- For other crates too: the state that a complete history leaves may open the next phase, and its totals grew by no
 -- more than the volumes.
-use Rattle.std.proofs.Common.{◌≡◌, ℕ, zero, suc, ◌+◌, ◌*◌, ◌^◌, ◌<◌, ◌≤◌, Bool, true, false, [], ℤ, pos, ◌+ℤ◌, ◌-ℤ◌, unsigned_abs, None, refl, ap, ◌∙◌, subst, arith, if◌then◌else◌, nat_eq}
+use Rattle.std.proofs.Common.{◌≡◌, ℕ, ◌+◌, ◌*◌, ◌^◌, ◌<◌, ◌≤◌, Bool, [], ℤ, pos, ◌+ℤ◌, ◌-ℤ◌, unsigned_abs, None, ap, ◌∙◌, subst, arith, if◌then◌else◌, nat_eq, zero, suc, refl}
 use Rattle.std.proofs.Math.ListN.{get_or-map}
 use Rattle.std.proofs.lemmas.List.{length-map}
 use Rattle.std.proofs.lemmas.Int.{ints}
@@ -11,7 +11,7 @@ use Rattle.vms_base.specs.Volumes.{most_volume}
 use Rattle.vms_base.proofs.Counts.{place_of-lt, counter_at-place}
 use Rattle.vms_history.specs.Events.{total}
 use Rattle.vms_history.specs.Sums.{sum_below, count_below}
-use Rattle.vms_history.proofs.Choices.{if-same}
+use Rattle.vms_history.proofs.Choices.{if-map, if-same}
 use Rattle.vms_history.proofs.CallerSums.{total-by_parts}
 use Rattle.vms_history.proofs.CountLemmas.{pos-count_below, count_below-least, largest_below-most}
 use Rattle.vms_history.proofs.Prefixes.{base_can_begin}
@@ -84,19 +84,17 @@ changes_of_item-by_counter facts i h =
     (λ e g legal. change_of_item-by_counter facts i g (state_after facts g) e.caller e.step legal.2)
     h
 
+-- sums add up
 count_below-sum : (f g : ℕ → ℕ) (n : ℕ) → count_below (λ i. f i + g i) n ≡ count_below f n + count_below g n
 count_below-sum f g zero = refl
 count_below-sum f g (suc n) = omega (arith, count_below-sum f g n)
 
 -- numbers of at most `most` add up to at most n times as much
 count_below-most : (f : ℕ → ℕ) (n most : ℕ) → ((i : ℕ) → i < n → f i ≤ most) → count_below f n ≤ n * most
-count_below-most f n most within =
-    let each = sum_below-most (λ i. pos (f i)) n most (λ i i_in. let small = within i i_in in omega (arith, ints)) in
-    omega (arith, ints, pos-count_below f n, each)
-
-size-if : (b : Bool) (z : ℤ) → pos (unsigned_abs (if b then z else pos 0)) ≡ (if b then pos (unsigned_abs z) else pos 0)
-size-if true z = refl
-size-if false z = refl
+count_below-most f zero most within = omega arith
+count_below-most f (suc n) most within =
+    let more : suc n * most ≡ n * most + most = omega arith in
+    omega (arith, more, within n (omega arith), count_below-most f n most (λ i below. within i (omega arith)))
 
 -- the values of an item's counters are small together, where each is: an item has at most sixteen counters
 pub values_of_item-most : (shape : Shape) → IsLayout shape → (s : State) (i most : ℕ)
@@ -106,7 +104,7 @@ values_of_item-most shape layout s i most each =
     let sizes = sum_below-same
     (λ k. pos (unsigned_abs (if nat_eq (item_of shape k) i then value_at s k else pos 0)))
     (λ k. if nat_eq (item_of shape k) i then pos (unsigned_abs (value_at s k)) else pos 0) (counter_count shape)
-    (λ k k_in. size-if (nat_eq (item_of shape k) i) (value_at s k)) in
+    (λ k k_in. if-map (λ (z : ℤ). pos (unsigned_abs z)) (nat_eq (item_of shape k) i) (value_at s k) (pos 0)) in
     let together = item-most shape layout i most (λ k. pos (unsigned_abs (value_at s k)))
     (λ k k_in. let small = each k k_in in omega (arith, ints)) in
     omega (

@@ -7,6 +7,7 @@ use Rattle.vms_history.specs.declared.events.Event.{Event}
 use Rattle.vms_history.specs.Events.{own, after, total}
 use Rattle.vms_history.specs.Passes.{owner_in, lives_in, begun_in}
 use Rattle.vms_history.specs.Sums.{sum_below}
+use Rattle.vms_history.proofs.Choices.{if-map, if-same}
 use Rattle.vms_history.proofs.CallerSums.{total-by_parts}
 use Rattle.vms_history.proofs.Own.{own-mine, own-others, after-append}
 use Rattle.vms_history.proofs.GoesOn.{holds_while_live}
@@ -37,11 +38,7 @@ module _ (facts : Facts) (h : History) (s : State) (p : ℕ) (shaped : HasShape 
   change_size-by_cpu (Some d) (Put l w t delta how) is meets =
       sum_below-only pos 0 (unsigned_abs delta) d.number facts.layout.cpus (nat_eq l.number k) refl
       (rw (owned facts h s p shaped d meets.cpu is meets.owns) at meets.owns.within)
-      ∙ outside (nat_eq l.number k) (unsigned_abs delta)
-    where
-      outside : (b : Bool) (n : ℕ) → pos (if b then n else 0) ≡ (if b then pos n else pos 0)
-      outside true n = refl
-      outside false n = refl
+      ∙ if-map pos (nat_eq l.number k) (unsigned_abs delta) 0
   change_size-by_cpu (Some o) _ is meets = sum_below-zeros (λ c. pos 0) facts.layout.cpus (λ c c_in. refl)
   change_size-by_cpu None _ is meets = sum_below-zeros (λ c. pos 0) facts.layout.cpus (λ c c_in. refl)
 
@@ -80,11 +77,7 @@ spent_by-owner (Some d) c k (Put l w t delta how) = by (nat_eq d.number c) (nat_
     by true true = refl
     by true false = refl
     by false same = refl
-spent_by-owner (Some d) c k _ = by (nat_eq d.number c)
-  where
-    by : (mine : Bool) → pos 0 ≡ (if mine then pos 0 else pos 0)
-    by true = refl
-    by false = refl
+spent_by-owner (Some d) c k _ = sym (if-same (nat_eq d.number c) (pos 0))
 spent_by-owner None c k _ = refl
 
 -- each caller owned, when it made its event, what it owns by these owners
@@ -115,11 +108,8 @@ module _ (facts : Facts) (owners : ℕ → Option CpuId) (n c k : ℕ) where
 
   spent-parts : (h : History) → IsLegal facts h → begun_in turn h < n → Agrees owners h
       → pos (spent h c k) ≡ sum_below (part h) n
-  spent-parts [] legal above agrees = sym (sum_below-zeros (part []) n (λ p below. none (is_owner (owners p) c)))
-    where
-      none : (b : Bool) → (if b then pos 0 else pos 0) ≡ pos 0
-      none true = refl
-      none false = refl
+  spent-parts [] legal above agrees =
+      sym (sum_below-zeros (part []) n (λ p below. if-same (is_owner (owners p) c) (pos 0)))
   spent-parts (e ∷ h) legal above agrees =
       let below = caller_is_below pages facts e h n legal above in
       let before = spent-parts h legal.0 below.1 agrees.1 in

@@ -12,11 +12,11 @@ use Rattle.vms_event_core.specs.declared.steps.EventFacts.{EventFacts}
 use Rattle.vms_event_core.specs.declared.steps.EventStep.{EventStep}
 use Rattle.vms_event_core.specs.declared.steps.EventStep.TheVariants.{LoadE, TakeE, AddF}
 use Rattle.vms_event_core.specs.Calls.{loads, folds, IsCount, IsAllEvents, IsFoldEvents}
-use Rattle.vms_event_core.specs.Events.{History, IsLegal}
+use Rattle.vms_event_core.specs.Events.{events, History, IsLegal}
 use Rattle.vms_event_core.specs.MadeCalls.{HasMade, SpendNothing, SpendsSince, KeepsSpending, counted_of}
 use Rattle.vms_event_core.specs.Steps.{turn}
 use Rattle.vms_event_core.specs.Totals.{counted, spent, spent_by}
-use Rattle.vms_event_core.proofs.Callers.{made-given}
+use Rattle.vms_history.proofs.MadeSteps.{made-given}
 use Rattle.vms_event_core.proofs.Spending.{spent_by-owner, GoesAlong, spent-goes_along}
 
 module _ (facts : EventFacts) (later earlier : History) (p : ℕ) (steps : List EventStep)
@@ -30,7 +30,7 @@ module _ (facts : EventFacts) (later earlier : History) (p : ℕ) (steps : List 
       let along : GoesAlong facts earlier p c k owns later =
       subst (GoesAlong facts earlier p c k owns) (sym is)
       (spent-goes_along facts earlier p c k owns made.extends.0 (subst (IsLegal facts) is made.legal)
-      (subst (λ g. lives_in turn g p ≡ true) is made.lives) (made-given facts later earlier p steps made).1) in
+      (subst (λ g. lives_in turn g p ≡ true) is made.lives) (made-given events facts later earlier p steps made).1) in
       along ∙ ap (λ es. pos (spent earlier c.number k) +ℤ total (counted k) es) made.made
 
   -- the same, with what the steps count on their own

@@ -7,7 +7,7 @@ use Rattle.std.proofs.lemmas.List.Elements.{All-nil, All-cons, All-head, All-tai
 use Rattle.vms_base.specs.declared.ids.CpuId.{CpuId}
 use Rattle.vms_base.specs.declared.ids.EventId.{EventId}
 use Rattle.vms_base.specs.declared.kinds.CpuState.{CpuState}
-use Rattle.vms_base.specs.declared.kinds.CpuState.TheVariants.{Online, Dead, Absent}
+use Rattle.vms_base.specs.declared.kinds.CpuState.TheVariants.{Dead, Absent}
 use Rattle.vms_base.specs.Cpus.{online_from, is_online, state_at}
 use Rattle.vms_base.specs.Places.{IsCpu}
 use Rattle.vms_base.specs.Volumes.{most_volume}
@@ -27,7 +27,7 @@ use Rattle.vms_event_core.specs.Totals.{counted, spent}
 use Rattle.vms_event_core.specs.Words.{IsEvent, event_count}
 use Rattle.vms_event_core.proofs.CallCarrying.{empty_take-moves, take_and_add-move}
 use Rattle.vms_event_core.proofs.CallSpending.{spent-made}
-use Rattle.vms_event_core.proofs.Callers.{made-given, made-owner}
+use Rattle.vms_history.proofs.MadeSteps.{made-given, made-owner}
 
 module _ (facts : EventFacts) (p : ℕ) (earlier : History) where
   -- a pass that has counted nothing since may count
@@ -73,10 +73,10 @@ module _ (facts : EventFacts) (p : ℕ) (earlier : History) where
 
   module _ (later : History) (done : List EventStep) (made : HasMade facts later earlier p done) where
     given : p ≢ 0
-    given main = let first = (made-given facts later earlier p done made).0 in omega arith
+    given main = let first = (made-given events facts later earlier p done made).0 in omega arith
 
     owner : owner_in turn later p ≡ owner_in turn earlier p
-    owner = made-owner facts later earlier p done made
+    owner = made-owner events facts later earlier p done made
 
     fits-may : (step : EventStep) → Fits (own later p) step → Tells facts later p step
         → IsLegal facts (record { caller = p; step = step } ∷ later)
@@ -171,13 +171,11 @@ module _ (facts : EventFacts) (p : ℕ) (earlier : History) where
           ),
         )
 
--- a CPU that is online is one of those that have a state
-online-known : (states : List CpuState) (c : ℕ) → state_at states c ≡ Online → c < length states
-online-known states c online = elim (cases_lt c (length states)) [
+-- a CPU that is not absent is one of those that have a state
+present-known : (states : List CpuState) (c : ℕ) → state_at states c ≢ Absent → c < length states
+present-known states c present = elim (cases_lt c (length states)) [
   | inl below ↦ below
-  | inr past ↦
-      let is_absent : state_at states c ≡ Absent = get_or_past states c Absent past in
-      absurd cc
+  | inr past ↦ absurd (present (get_or_past states c Absent past))
 ]
 
 -- so are those that are listed as online
@@ -213,9 +211,12 @@ all_events-may facts h p k found steps answer k_in call =
     (loads-run facts p h k (online_cpus facts) found (own h p) k_in (online_cpus-known facts base)))
 
 pub fold_events-may : MakesFoldEvents
-fold_events-may facts h p from into found steps control nothing from_in dead lowest call =
+fold_events-may facts h p from into found steps control nothing dead lowest call =
     runs-may facts p h steps (λ base.
-    let known = online-known facts.cpus into.number lowest.online in
+    let online = lowest.online in
+    let from_known = present-known facts.cpus from.number (λ absent. absurd cc) in
+    let into_known = present-known facts.cpus into.number (λ absent. absurd cc) in
+    let from_in : IsCpu facts.layout from.number = (let each = base.one_state_each in omega arith) in
     let into_in : IsCpu facts.layout into.number = (let each = base.one_state_each in omega arith) in
     subst (λ ks. Runs facts p h ks (own h p)) (sym call.in_order)
     (folds-run facts p h from into control from_in dead into_in lowest 0 found (own h p) nothing

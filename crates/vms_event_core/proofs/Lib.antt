@@ -11,7 +11,6 @@ pub mod AllLaws
 pub mod Endings
 pub mod CallReading
 pub mod CallCarrying
-pub mod Callers
 pub mod CallSpending
 pub mod FoldedWords
 pub mod FittingSteps

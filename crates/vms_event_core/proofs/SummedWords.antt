@@ -16,11 +16,11 @@ use Rattle.vms_event_core.specs.declared.steps.EventStep.{EventStep}
 use Rattle.vms_event_core.specs.declared.steps.EventStep.TheVariants.{LoadE}
 use Rattle.vms_event_core.specs.Bases.{cpu_at}
 use Rattle.vms_event_core.specs.Calls.{AtMostStands, IsAllEvents, loads, online_cpus, sum_over}
-use Rattle.vms_event_core.specs.Events.{History, IsLegal, state_after}
+use Rattle.vms_event_core.specs.Events.{events, History, IsLegal, state_after}
 use Rattle.vms_event_core.specs.MadeCalls.{HasMade, SumsBetween}
 use Rattle.vms_event_core.specs.Totals.{word_in}
 use Rattle.vms_event_core.specs.Words.{IsEvent}
-use Rattle.vms_event_core.proofs.Callers.{joined-legal, earlier-legal}
+use Rattle.vms_history.proofs.MadeSteps.{joined-legal, earlier-legal}
 use Rattle.vms_event_core.proofs.OnlineCpus.{word_in-grows}
 use Rattle.vms_event_core.proofs.StateWords.{word_at-state_after}
 
@@ -107,8 +107,8 @@ online_cpus-online : (facts : EventFacts) → All (λ d. cpu_at facts d.number �
 online_cpus-online facts =
     listed-online (cpu_at facts) 0 facts.cpus (λ i. let place : 0 + i ≡ i = omega arith in ap (cpu_at facts) place)
 
-module _ (facts : EventFacts) (now earlier : History) (legal : IsLegal facts now) (legal_earlier : IsLegal facts earlier)
-    (k : EventId) (k_in : IsEvent k.number) where
+module _ (facts : EventFacts) (now earlier : History) (legal : IsLegal facts now)
+    (legal_earlier : IsLegal facts earlier) (k : EventId) (k_in : IsEvent k.number) where
   -- loads that found such numbers found such a sum
   record LoadsBetween (cpus : List CpuId) (found : List ℕ) : Type 0 where
     stands : AtMostStands (state_after facts now) k.number cpus found
@@ -140,13 +140,13 @@ sums-between facts later earlier p k found steps answer made k_in call =
     let is : later ≡ made.extends.0 ++ earlier = made.extends.1 in
     let on_top : own made.extends.0 p ≡ after p steps [] =
     own-on_top made.extends.0 earlier p steps (sym (ap (λ es. own es p) is) ∙ made.made) in
-    let events : EventsBetween facts earlier later (after p steps []) =
+    let between : EventsBetween facts earlier later (after p steps []) =
     subst (EventsBetween facts earlier later) on_top
     (subst (λ g. EventsBetween facts earlier g (own made.extends.0 p)) (sym is)
-    (own-between facts earlier made.extends.0 p (joined-legal facts later earlier p steps made))) in
+    (own-between facts earlier made.extends.0 p (joined-legal events facts later earlier p steps made))) in
     let each : StepsBetween facts earlier later (loads k (online_cpus facts) found) =
-    subst (StepsBetween facts earlier later) call.in_order (steps-between facts earlier later p steps [] events).0 in
-    let all = loads-between facts later earlier made.legal (earlier-legal facts later earlier p steps made) k k_in
+    subst (StepsBetween facts earlier later) call.in_order (steps-between facts earlier later p steps [] between).0 in
+    let all = loads-between facts later earlier made.legal (earlier-legal events facts later earlier p steps made) k k_in
     (online_cpus facts) found (online_cpus-online facts) call.one_each each in
     record {
       stands = all.stands;

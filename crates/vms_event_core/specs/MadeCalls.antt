@@ -3,7 +3,6 @@ use Rattle.std.specs.Prelude.{◌≡◌, ℕ, nat_eq, ◌+◌, ◌≤◌, List, 
 use Rattle.vms_base.specs.declared.ids.CpuId.{CpuId}
 use Rattle.vms_base.specs.declared.ids.EventId.{EventId}
 use Rattle.vms_base.specs.declared.kinds.CpuState.TheVariants.{Dead}
-use Rattle.vms_base.specs.Places.{IsCpu}
 use Rattle.vms_base.specs.Volumes.{most_volume}
 use Rattle.vms_history.specs.Events.{own, after}
 use Rattle.vms_history.specs.Making as making
@@ -49,8 +48,8 @@ MakesAllEvents = (facts : EventFacts) (h : History) (p : ℕ) (k : EventId) (fou
 abbrev pub MakesFoldEvents : Type 0
 MakesFoldEvents = (facts : EventFacts) (h : History) (p : ℕ) (from into : CpuId) (found : List ℕ)
     (steps : List EventStep) → owner_in turn h p ≡ None → CarriesNothing (own h p) →
-    IsCpu facts.layout from.number → cpu_at facts from.number ≡ Dead → IsLowestOnline facts into.number →
-    IsFoldEvents from into found steps → MayMake facts p h steps
+    cpu_at facts from.number ≡ Dead → IsLowestOnline facts into.number → IsFoldEvents from into found steps →
+    MayMake facts p h steps
 
 -- steps of a call leave their caller carrying what it carried before
 abbrev pub CarryAsBefore : List EventStep → Type 0

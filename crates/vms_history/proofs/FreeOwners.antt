@@ -1,6 +1,6 @@
 -- For other crates too: while no pass that owns a CPU lives and the main pass makes no event, nobody acts for that CPU; the
 -- same of the control pass.
-use Rattle.std.proofs.Common.{◌≡◌, ◌≢◌, List, [], ◌∷◌, ◌++◌, Option, refl, ap, sym, subst, ◌∙◌, append_assoc}
+use Rattle.std.proofs.Common.{◌≡◌, ◌≢◌, List, [], ◌∷◌, ◌++◌, Option, ap, sym, subst, ◌∙◌, append_assoc}
 use Rattle.vms_base.specs.declared.ids.CpuId.{CpuId}
 use Rattle.vms_history.specs.declared.events.Event.{Event}
 use Rattle.vms_history.specs.Events.{own}

@@ -1,12 +1,13 @@
 -- For other crates too: how "goes on without me" and "has made these steps" add up.
-use Rattle.std.proofs.Common.{◌≡◌, ◌≢◌, ℕ, ◌<◌, true, List, [], ◌∷◌, ◌++◌, refl, ap, sym, ◌∙◌, arith}
+use Rattle.std.proofs.Common.{◌≡◌, ◌≢◌, ℕ, ◌<◌, ◌≤◌, true, List, [], ◌∷◌, ◌++◌, refl, ap, sym, ◌∙◌, subst, arith}
 use Rattle.vms_history.specs.declared.events.Event.{Event}
 use Rattle.vms_history.specs.Events.{own, after}
 use Rattle.vms_history.specs.Legal.{Machine, IsLegal}
 use Rattle.vms_history.specs.Making.{GoesOnWithout, HasMade, MayMake, MayBegin}
-use Rattle.vms_history.specs.Passes.{lives_in}
+use Rattle.vms_history.specs.Passes.{begun_in, lives_in, owner_in}
 use Rattle.vms_history.proofs.Own.{own-mine, after-steps, Extends-same, Extends-both}
-use Rattle.vms_history.proofs.PassLaws.{live_is_given, lives_in-others}
+use Rattle.vms_history.proofs.PassLaws.{live_is_given, lives_in-others, owner_in-append}
+use Rattle.vms_history.proofs.Prefixes.{prefix_is_legal}
 
 module _ {F K S : Type 0} (machine : Machine F K S) (facts : F) where
   pub goes_on-none : (h : List (Event K)) (p : ℕ) → IsLegal machine facts h → lives_in machine.turn h p ≡ true
@@ -81,3 +82,21 @@ module _ {F K S : Type 0} (machine : Machine F K S) (facts : F) where
         → MayBegin machine Tells facts p earlier IsCall
     may_begin p earlier IsCall may later done step rest call made tells =
         may (done ++ (step ∷ rest)) call later done step rest refl made tells
+
+-- what stands of a pass that has made some steps while others acted
+module _ {F K S : Type 0} (machine : Machine F K S) (facts : F) (later earlier : List (Event K)) (p : ℕ) (steps : List K)
+    (made : HasMade machine facts later earlier p steps) where
+  pub joined-legal : IsLegal machine facts (made.extends.0 ++ earlier)
+  joined-legal = subst (IsLegal machine facts) made.extends.1 made.legal
+
+  pub earlier-legal : IsLegal machine facts earlier
+  earlier-legal = prefix_is_legal machine facts made.extends.0 earlier joined-legal
+
+  -- the pass has been given its number
+  pub made-given : (0 < p) × (p ≤ begun_in machine.turn earlier)
+  made-given = live_is_given machine facts earlier p earlier-legal made.lived
+
+  -- it owns what it owned
+  pub made-owner : owner_in machine.turn later p ≡ owner_in machine.turn earlier p
+  made-owner = ap (λ g. owner_in machine.turn g p) made.extends.1
+      ∙ owner_in-append machine facts made.extends.0 earlier p joined-legal made-given.1

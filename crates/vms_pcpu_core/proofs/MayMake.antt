@@ -28,7 +28,7 @@ use Rattle.vms_pcpu_core.specs.Own.{holds, holds_after, carried, carried_after}
 use Rattle.vms_pcpu_core.specs.OwnSteps.{size_of, added_through, own_added, IsIdle, AddsAmount}
 use Rattle.vms_pcpu_core.specs.States.{IsPcpu, batch_at, local_at}
 use Rattle.vms_pcpu_core.specs.Steps.{turn}
-use Rattle.vms_pcpu_core.specs.Totals.{spent, spent_by}
+use Rattle.vms_pcpu_core.specs.Totals.{amount_of, spent, spent_by}
 use Rattle.vms_pcpu_core.proofs.FoldedCpus.{local-after_event}
 use Rattle.vms_pcpu_core.proofs.OwnSteps.{goes_by_own_steps}
 use Rattle.vms_pcpu_core.proofs.Shapes.{batch_at-state_after}
@@ -42,6 +42,14 @@ holds-on j (e ∷ o) base none = ap (holds_after j e.step) (holds-on j o base no
 carried-on : (j : ℕ) (o base : History) → carried j base ≡ pos 0 → carried j (o ++ base) ≡ carried j o
 carried-on j [] base none = none
 carried-on j (e ∷ o) base none = ap (carried_after j e.step) (carried-on j o base none)
+
+own_added-on : (part : ℤ → ℤ) (j : ℕ) (o base : History) → carried j base ≡ pos 0
+    → own_added part j (o ++ base) ≡ own_added part j o +ℤ own_added part j base
+own_added-on part j [] base none = omega (arith, ints)
+own_added-on part j (e ∷ o) base none =
+    let same : part (amount_of j (carried j (o ++ base)) e.step) ≡ part (amount_of j (carried j o) e.step) =
+    ap (λ (x : ℤ). part (amount_of j x e.step)) (carried-on j o base none) in
+    omega (arith, ints, same, own_added-on part j o base none)
 
 -- the number that a pass found in its own local part and that stands since: it neither changed nor took it
 abbrev pub found_after : CpuId → PcpuId → PcpuStep → Option ℤ → Option ℤ
@@ -123,29 +131,27 @@ module _ (facts : PcpuFacts) (earlier : History) (p : ℕ) (given : p ≤ begun_
 
     -- its CPU spends what it adds
     pub spends-own : (m : History) (j : ℕ) → IsLegal facts (m ++ earlier) → lives_in turn (m ++ earlier) p ≡ true
-        → carried j (own earlier p) ≡ pos 0
-        → pos (spent (m ++ earlier) c.number j) ≡ pos (spent earlier c.number j) +ℤ own_added size_of j (own m p)
-    spends-own [] j legal lives none = omega (arith, ints)
-    spends-own (e ∷ m) j legal lives none =
-        let g : History = m ++ earlier in
+        → pos (spent (m ++ earlier) c.number j) +ℤ own_added size_of j (own earlier p)
+        ≡ pos (spent earlier c.number j) +ℤ own_added size_of j (own (m ++ earlier) p)
+    spends-own [] j legal lives = refl
+    spends-own (e ∷ m) j legal lives =
         let lived = lived-before e m legal lives in
-        let before = spends-own m j legal.0 lived none in
-        by (nat_eq e.caller p) refl lived (owns-still m legal.0 ∙ owner) before
+        by (nat_eq e.caller p) refl lived (owns-still m legal.0 ∙ owner) (spends-own m j legal.0 lived)
       where
         h : History
         h = m ++ earlier
 
         by : (b : Bool) → nat_eq e.caller p ≡ b → lives_in turn h p ≡ true → owner_in turn h p ≡ Some c
-            → pos (spent h c.number j) ≡ pos (spent earlier c.number j) +ℤ own_added size_of j (own m p)
+            → pos (spent h c.number j) +ℤ own_added size_of j (own earlier p)
+            ≡ pos (spent earlier c.number j) +ℤ own_added size_of j (own h p)
             → pos (spent_by (owner_in turn h e.caller) c.number j (carried j (own h e.caller)) e.step
             + spent h c.number j)
-            ≡ pos (spent earlier c.number j) +ℤ own_added size_of j (if b then e ∷ own m p else own m p)
+            +ℤ own_added size_of j (own earlier p)
+            ≡ pos (spent earlier c.number j) +ℤ own_added size_of j (if b then e ∷ own h p else own h p)
         by true mine lived owns before =
             let same : e.caller ≡ p = eqb-true e.caller p mine in
-            let hand : carried j (own h p) ≡ carried j (own m p) =
-            ap (carried j) (own-append m earlier p) ∙ carried-on j (own m p) (own earlier p) none in
             let here : nat_eq c.number c.number ≡ true = eq-eqb c.number c.number refl in
-            rw (same, owns, here, hand) (omega (arith, ints, before))
+            rw (same, owns, here) (omega (arith, ints, before))
         by false other lived owns before =
             let nothing =
             spent_by-none facts e h p c j legal lived owns (λ mine. absurd (true≢false (sym mine ∙ other))) in
@@ -227,9 +233,12 @@ module _ (facts : PcpuFacts) (earlier : History) (p : ℕ) (calls : MayCall fact
         → ((pos (spent earlier c.number j) +ℤ own_added size_of j (own m p)) +ℤ size_of amount) ≤ℤ pos most_volume
         → spent now c.number j + unsigned_abs amount ≤ most_volume
     affords c j amount owner fits =
-        let spends =
-        spends-own facts earlier p given_before.1 c owner m j legal lives (calls.idle.nothing_carried j) in
-        omega (arith, ints, spends, fits)
+        let spends = spends-own facts earlier p given_before.1 c owner m j legal lives in
+        let sum : own_added size_of j (own now p)
+        ≡ own_added size_of j (own m p) +ℤ own_added size_of j (own earlier p) =
+        ap (own_added size_of j) (own-append m earlier p)
+        ∙ own_added-on size_of j (own m p) (own earlier p) (calls.idle.nothing_carried j) in
+        omega (arith, ints, spends, sum, fits)
 
     may-add : (who : Option CpuId) (j : ℕ) (amount : ℤ) → who_of ≡ who
         → FitsAmount earlier who (own m p) j amount → MayAdd now who j amount
@@ -306,28 +315,35 @@ module _ (facts : PcpuFacts) (earlier : History) (p : ℕ) (calls : MayCall fact
       (subst (λ o. Fits facts earlier who_of o k) (sym made) fits)
       (subst (λ es. Tells facts es p k) is tells))
 
--- what the CPU of a pass spends by steps that add one amount
-pub spends-amount : (facts : PcpuFacts) (earlier later : History) (p : ℕ) (cpu : CpuId) (j : PcpuId) (amount : ℤ)
-    (steps : List PcpuStep) → HasMade percpu facts later earlier p steps → AddsAmount j amount steps
-    → IsIdle (own earlier p) → owner_in turn earlier p ≡ Some cpu → (i : ℕ)
-    → spent later cpu.number i ≡ spent earlier cpu.number i + (if nat_eq j.number i then unsigned_abs amount else 0)
-spends-amount facts earlier later p cpu j amount steps has adds idle owner i =
+-- what the CPU of a pass spends goes by the steps that it has made
+pub spends-steps : (facts : PcpuFacts) (earlier later : History) (p : ℕ) (cpu : CpuId) (steps : List PcpuStep)
+    → HasMade percpu facts later earlier p steps → owner_in turn earlier p ≡ Some cpu → (j : ℕ)
+    → pos (spent later cpu.number j)
+    ≡ pos (spent earlier cpu.number j) +ℤ added_through size_of j steps (carried j (own earlier p))
+spends-steps facts earlier later p cpu steps has owner j =
     let m : History = has.extends.0 in
     let is : later ≡ m ++ earlier = has.extends.1 in
     let legal : IsLegal facts (m ++ earlier) = subst (IsLegal facts) is has.legal in
     let lives : lives_in turn (m ++ earlier) p ≡ true = subst (λ es. lives_in turn es p ≡ true) is has.lives in
     let given = live_is_given percpu facts earlier p (prefix_is_legal percpu facts m earlier legal) has.lived in
-    let made : own m p ≡ after p steps [] =
-    own-on_top m earlier p steps (ap (λ es. own es p) (sym is) ∙ has.made) in
-    let spends = spends-own facts earlier p given.1 cpu owner m i legal lives (idle.nothing_carried i) in
-    let goes : own_added size_of i (after p steps []) ≡ own_added size_of i [] +ℤ added_through size_of i steps
-    (pos 0) =
-    (goes_by_own_steps p steps []).added size_of i in
-    let own_is : own_added size_of i (own m p) ≡ own_added size_of i (after p steps []) =
-    ap (own_added size_of i) made in
-    let whole : spent later cpu.number i ≡ spent (m ++ earlier) cpu.number i = ap (λ es. spent es cpu.number i) is in
-    let sizes = adds.sizes i ∙ at (nat_eq j.number i) in
-    omega (arith, ints, spends, goes, own_is, whole, sizes)
+    let spends = spends-own facts earlier p given.1 cpu owner m j legal lives in
+    let goes = (goes_by_own_steps p steps (own earlier p)).added size_of j in
+    let made : own_added size_of j (own (m ++ earlier) p) ≡ own_added size_of j (after p steps (own earlier p)) =
+    ap (own_added size_of j) (ap (λ es. own es p) (sym is) ∙ has.made) in
+    let whole : spent later cpu.number j ≡ spent (m ++ earlier) cpu.number j = ap (λ es. spent es cpu.number j) is in
+    omega (arith, ints, spends, goes, made, whole)
+
+-- what it spends by steps that add one amount
+pub spends-amount : (facts : PcpuFacts) (earlier later : History) (p : ℕ) (cpu : CpuId) (j : PcpuId) (amount : ℤ)
+    (steps : List PcpuStep) → HasMade percpu facts later earlier p steps → AddsAmount j amount steps
+    → IsIdle (own earlier p) → owner_in turn earlier p ≡ Some cpu → (i : ℕ)
+    → spent later cpu.number i ≡ spent earlier cpu.number i + (if nat_eq j.number i then unsigned_abs amount else 0)
+spends-amount facts earlier later p cpu j amount steps has adds idle owner i =
+    let spends = spends-steps facts earlier later p cpu steps has owner i in
+    let sizes : added_through size_of i steps (carried i (own earlier p))
+    ≡ pos (if nat_eq j.number i then unsigned_abs amount else 0) =
+    ap (added_through size_of i steps) (idle.nothing_carried i) ∙ adds.sizes i ∙ at (nat_eq j.number i) in
+    omega (arith, ints, spends, sizes)
   where
     at : (b : Bool) → (if b then size_of amount else pos 0) ≡ pos (if b then unsigned_abs amount else 0)
     at true = refl

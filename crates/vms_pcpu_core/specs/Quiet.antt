@@ -1,5 +1,5 @@
 -- A Split and a Join leave the percpu counters as they are, and ask nothing beyond the rules of the passes.
-use Rattle.std.specs.Prelude.{◌≡◌, ◌≢◌, List, Option, Some, None, refl, ℕ}
+use Rattle.std.specs.Prelude.{◌≡◌, ◌≢◌, Option, refl, ℕ}
 use Rattle.vms_base.specs.declared.ids.CpuId.{CpuId}
 use Rattle.vms_history.specs.Legal.{IsQuiet}
 use Rattle.vms_history.specs.Passes.Turn.{Works}

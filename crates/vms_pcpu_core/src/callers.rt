@@ -1,4 +1,4 @@
-ghost use Rattle.std.specs.Prelude.{◌≡◌, ℕ, nat_eq, ◌+◌, ℤ, pos, Bool, Some, List, if◌then◌else◌, unsigned_abs};
+ghost use Rattle.std.specs.Prelude.{◌≡◌, ℕ, nat_eq, ◌+◌, ℤ, pos, ◌+ℤ◌, Bool, Some, List, if◌then◌else◌, unsigned_abs};
 ghost use Rattle.vms_base.specs.declared.ids.CpuId.{CpuId};
 ghost use Rattle.vms_base.specs.declared.ids.PcpuId.{PcpuId};
 ghost use Rattle.vms_history.specs.Events.{own};
@@ -10,7 +10,8 @@ ghost use Rattle.vms_pcpu_core.specs.declared.steps.PcpuStep.{PcpuStep};
 ghost use Rattle.vms_pcpu_core.specs.Calls.{IsRead, IsAdd, IsSync, IsFoldDead, IsSum, IsCompare, IsLimitedAdd};
 ghost use Rattle.vms_pcpu_core.specs.Histories.{percpu, History};
 ghost use Rattle.vms_pcpu_core.specs.Making.{MadeSteps};
-ghost use Rattle.vms_pcpu_core.specs.OwnSteps.{IsIdle, GoesByOwnSteps, AddsAmount, LeavesIdle};
+ghost use Rattle.vms_pcpu_core.specs.Own.{carried};
+ghost use Rattle.vms_pcpu_core.specs.OwnSteps.{IsIdle, GoesByOwnSteps, AddsAmount, LeavesIdle, added_through, size_of};
 ghost use Rattle.vms_pcpu_core.specs.Steps.{turn};
 ghost use Rattle.vms_pcpu_core.specs.Totals.{spent};
 
@@ -47,6 +48,15 @@ pub fn calls_leave_callers_idle()
     ensures { (facts : PcpuFacts) (earlier later : History) (p : ℕ) (j : PcpuId) (amount : ℤ)
         (steps : List PcpuStep) → MadeSteps facts earlier later p steps → AddsAmount j amount steps →
         IsIdle (own earlier p) → LeavesIdle earlier later p j amount }
+{}
+
+/// While a pass owns a CPU, the CPU spends what the pass's own steps add in size, and no more, whatever others do
+/// meanwhile.
+pub fn owners_spend_by_own_steps()
+    ensures { (facts : PcpuFacts) (earlier later : History) (p : ℕ) (cpu : CpuId) (steps : List PcpuStep) →
+        HasMade percpu facts later earlier p steps → owner_in turn earlier p ≡ Some cpu → (j : ℕ) →
+        pos (spent later cpu.number j) ≡
+        pos (spent earlier cpu.number j) +ℤ added_through size_of j steps (carried j (own earlier p)) }
 {}
 
 /// While a pass that owns a CPU makes such a call, the CPU spends the size of the amount of the call's counter, and

@@ -20,7 +20,7 @@ mod watching;
 pub use answers::Compare;
 pub use callers::{
     callers_go_by_own_steps, calls_add_their_amounts, calls_leave_callers_idle,
-    calls_spend_their_amounts,
+    calls_spend_their_amounts, owners_spend_by_own_steps,
 };
 pub use calls::{
     add_is_told, compare_is_told, fold_dead_is_told, limited_add_is_told, read_is_told,

@@ -21,6 +21,7 @@ fn laws_hold_of_the_percpu_table() {
     limited_add_is_told();
     limited_add_keeps_limit();
     own_part_stays();
+    owners_spend_by_own_steps();
     read_is_told();
     rough_sign_is_true();
     steps_name_small_numbers();

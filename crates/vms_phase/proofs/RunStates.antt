@@ -1,20 +1,19 @@
 -- The page counters of a run are small, and may open the next phase.
-use Rattle.std.proofs.Common.{◌≡◌, ℕ, ◌*◌, ◌^◌, ◌<◌, ◌≤◌, nat_eq, Bool, true, false, ℤ, pos, ◌+ℤ◌, unsigned_abs, List, [], ◌∷◌, ◌++◌, refl, sym, ap, subst, ◌∙◌, arith, if◌then◌else◌}
+use Rattle.std.proofs.Common.{◌≡◌, ℕ, ◌*◌, ◌^◌, ◌<◌, ◌≤◌, ℤ, pos, ◌+ℤ◌, unsigned_abs, List, [], ◌∷◌, ◌++◌, sym, ap, subst, ◌∙◌, arith, if◌then◌else◌}
 use Rattle.std.proofs.lemmas.Int.{ints}
 use Rattle.vms_base.specs.declared.headers.Header.{Header}
 use Rattle.vms_base.specs.declared.kinds.CpuState.TheVariants.{Online, Absent}
 use Rattle.vms_base.specs.Marks.{Covers}
-use Rattle.vms_base.specs.Places.{Shape, IsCpu, IsCounter, IsItem, IsLayout, IsPlace, IsZone, counter_at, counter_count, item_of, place_of}
+use Rattle.vms_base.specs.Places.{Shape, IsCpu, IsCounter, IsItem, IsLayout, IsPlace, IsZone, counter_at, place_of}
 use Rattle.vms_base.specs.Thresholds.{most_threshold}
 use Rattle.vms_base.proofs.Counts.{place_of-lt, counter_at-place}
 use Rattle.vms_history.proofs.SumBounds.{sum_below-most, sum_below-size}
-use Rattle.vms_history.proofs.SumLaws.{sum_below-same}
 use Rattle.vms_core.specs.declared.states.State.{State}
 use Rattle.vms_core.specs.Bases.{IsBase}
 use Rattle.vms_base.specs.Sizes.{size_at}
 use Rattle.vms_core.specs.Cells.{value_at, system_at, diff_at, threshold_at, mark_at, cpu_at}
 use Rattle.vms_core.specs.Peaks.{if_present, opening_peak, peak_sum}
-use Rattle.vms_core.specs.Totals.{differentials, values_of_item}
+use Rattle.vms_core.specs.Totals.{differentials}
 use Rattle.vms_history.proofs.CountLemmas.{count_below-least, largest_below-most}
 use Rattle.vms_core.proofs.CounterRanges.{counter_at-known}
 use Rattle.vms_core.proofs.SettledEnds.{values_of_item-most}

@@ -9,7 +9,7 @@ use Rattle.vms_base.specs.Headers.{IsHeader}
 use Rattle.vms_base.specs.Places.{Shape, IsCpu, IsCounter, IsItem, place_of}
 use Rattle.vms_core.specs.declared.states.State.{State}
 use Rattle.vms_core.specs.Bases.{IsBase}
-use Rattle.vms_core.specs.Cells.{HasShape, value_at, system_at, diff_at, threshold_at, cpu_at}
+use Rattle.vms_core.specs.Cells.{HasShape, system_at, diff_at, threshold_at, cpu_at}
 use Rattle.vms_core.specs.Totals.{values_of_item}
 use Rattle.vms_phase.specs.FileOrder.{Phase, Leads}
 use Rattle.vms_phase.specs.OpenPhases.{IsOfOnline, IsOpen, change_item}

@@ -1,5 +1,5 @@
 -- The states of the page counters between phases.
-use Rattle.std.specs.Prelude.{◌≡◌, ℕ, ◌≤◌, ◌*◌, ◌-◌, nat_eq, List, length, map, replicate, ℤ, pos, if◌then◌else◌, slice_index, slice_index_or, None}
+use Rattle.std.specs.Prelude.{◌≡◌, ℕ, ◌≤◌, ◌*◌, ◌-◌, nat_eq, List, length, replicate, ℤ, pos, if◌then◌else◌, slice_index, slice_index_or, None}
 use Rattle.vms_base.specs.declared.headers.Header.{Header}
 use Rattle.vms_base.specs.declared.kinds.CpuState.TheVariants.{Online}
 use Rattle.vms_base.specs.declared.kinds.ZoneSize.{ZoneSize}

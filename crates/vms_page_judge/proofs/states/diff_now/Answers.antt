@@ -3,7 +3,7 @@ use Rattle.std.specs.Prelude.{reverse}
 use Rattle.std.proofs.lemmas.Int.{to_z-of_z}
 use Rattle.vms_history.specs.Passes.{owner_in}
 use Rattle.vms_core.specs.Steps.{turn}
-use Rattle.vms_core.proofs.Effects.{diff_after}
+use Rattle.vms_core.specs.Effects.{diff_after}
 use Rattle.vms_page_judge.proofs.StateLaws.{diff_at-more}
 use Rattle.vms_page_judge.proofs.states.diff_now.Goals as goal
 

@@ -1,5 +1,5 @@
 -- A node more.
-use Rattle.std.proofs.Common.{◌∙◌, get_or}
+use Rattle.std.proofs.Common.{◌∙◌}
 use Rattle.vms_calls.specs.Ratings.{largest_on}
 use Rattle.vms_phase.proofs.Mapping.{map-take_more}
 use Rattle.vms_phase.proofs.settings.thresholds_by_place.Goals as goal

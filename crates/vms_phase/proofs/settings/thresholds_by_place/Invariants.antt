@@ -1,4 +1,4 @@
-use Rattle.std.proofs.Common.{◌≡◌, ◌++◌, map, take, get_or}
+use Rattle.std.proofs.Common.{◌≡◌, ◌++◌, map, take}
 use Rattle.vms_calls.specs.Ratings.{largest_on}
 use Rattle.vms_phase.proofs.settings.thresholds_by_place.Given as goal
 
