@@ -38,66 +38,96 @@ impl Header {
         writeln!(out, "go")
     }
 
-    fn write_act(&self, out: &mut impl Write, act: Act) -> io::Result<()> {
+    fn write_act(&self, out: &mut Output, act: Act) -> io::Result<()> {
         match act {
             Act::Mod(counter, pages) => {
-                write!(out, " mod ")?;
-                self.write_counter(out, counter)?;
+                self.write_on(out, b" mod ", counter)?;
                 let unit = if self.in_bytes(counter) { BYTES_OF_PAGE } else { 1 };
-                writeln!(out, " {}", pages * unit)
+                write_amount(out, pages * unit)
             }
-            Act::Inc(counter) => self.write_on(out, "inc", counter),
-            Act::Dec(counter) => self.write_on(out, "dec", counter),
-            Act::Val(counter) => self.write_on(out, "val", counter),
-            Act::Snap(counter) => self.write_on(out, "snap", counter),
-            Act::Ev(event, n) => writeln!(out, " ev {} {n}", EVENTS[event]),
-            Act::Cnt(counter, n) => writeln!(out, " cnt {} {n}", self.counters[counter].name),
-            Act::Lim(counter, most, n) => writeln!(out, " lim {} {most} {n}", self.counters[counter].name),
-            Act::Cmp(counter, n) => writeln!(out, " cmp {} {n}", self.counters[counter].name),
-            Act::Sum(counter) => writeln!(out, " sum {}", self.counters[counter].name),
-            Act::Rough(counter) => writeln!(out, " rough {}", self.counters[counter].name),
-            Act::Csync(counter) => writeln!(out, " csync {}", self.counters[counter].name),
-            Act::EvSum(event) => writeln!(out, " evsum {}", EVENTS[event]),
-            Act::Fold(cpu) => writeln!(out, " fold {cpu}"),
+            Act::Inc(counter) => self.write_on(out, b" inc ", counter),
+            Act::Dec(counter) => self.write_on(out, b" dec ", counter),
+            Act::Val(counter) => self.write_on(out, b" val ", counter),
+            Act::Snap(counter) => self.write_on(out, b" snap ", counter),
+            Act::Ev(event, n) => {
+                write_name(out, b" ev ", EVENTS[event])?;
+                write_number(out, b" ", n)
+            }
+            Act::Cnt(counter, n) => {
+                write_name(out, b" cnt ", &self.counters[counter].name)?;
+                write_amount(out, n)
+            }
+            Act::Lim(counter, most, n) => {
+                write_name(out, b" lim ", &self.counters[counter].name)?;
+                write_amount(out, most)?;
+                write_amount(out, n)
+            }
+            Act::Cmp(counter, n) => {
+                write_name(out, b" cmp ", &self.counters[counter].name)?;
+                write_amount(out, n)
+            }
+            Act::Sum(counter) => write_name(out, b" sum ", &self.counters[counter].name),
+            Act::Rough(counter) => write_name(out, b" rough ", &self.counters[counter].name),
+            Act::Csync(counter) => write_name(out, b" csync ", &self.counters[counter].name),
+            Act::EvSum(event) => write_name(out, b" evsum ", EVENTS[event]),
+            Act::Fold(cpu) => write_number(out, b" fold ", cpu as u64),
             Act::Water(zone, mark, index) => {
-                write!(out, " ok ")?;
-                self.write_place(out, zone)?;
-                writeln!(out, " {} {index}", MARKS[mark])
+                write_number(out, b" ok ", self.zones[zone].node)?;
+                write_name(out, b" ", KINDS[self.zones[zone].kind])?;
+                write_name(out, b" ", MARKS[mark])?;
+                write_number(out, b" ", index)
             }
-            Act::Sys(item) if item < self.positions() => writeln!(out, " sys {}", self.names(false)[item]),
-            Act::Sys(item) => writeln!(out, " sys {}", self.names(true)[item - self.positions()]),
-            Act::Pressure(node) => writeln!(out, " pressure {}", self.node_number(node)),
-            Act::Normal(node) => writeln!(out, " normal {}", self.node_number(node)),
-            Act::Dead(cpu) => writeln!(out, " dead {cpu}"),
+            Act::Sys(item) if item < self.positions() => write_name(out, b" sys ", &self.names(false)[item]),
+            Act::Sys(item) => write_name(out, b" sys ", &self.names(true)[item - self.positions()]),
+            Act::Pressure(node) => write_number(out, b" pressure ", self.node_number(node)),
+            Act::Normal(node) => write_number(out, b" normal ", self.node_number(node)),
+            Act::Dead(cpu) => write_number(out, b" dead ", cpu as u64),
             Act::Kswapd(node, order, index) => {
-                writeln!(out, " kswapd {} {order} {index}", self.node_number(node))
+                write_number(out, b" kswapd ", self.node_number(node))?;
+                write_number(out, b" ", order)?;
+                write_number(out, b" ", index)
             }
         }
     }
 
-    fn write_on(&self, out: &mut impl Write, verb: &str, counter: usize) -> io::Result<()> {
-        write!(out, " {verb} ")?;
-        self.write_counter(out, counter)?;
-        writeln!(out)
+    fn write_on(&self, out: &mut Output, verb: &[u8], counter: usize) -> io::Result<()> {
+        out.text(verb)?;
+        self.write_counter(out, counter)
     }
 
-    fn write_line(&self, out: &mut impl Write, line: Line) -> io::Result<()> {
+    fn write_line(&self, out: &mut Output, line: Line) -> io::Result<()> {
         match line {
-            Line::Blank => Ok(()),
+            Line::Blank => return Ok(()),
             Line::Lane(lane, act) => {
                 match lane {
-                    Lane::Cpu(cpu) => write!(out, "c{cpu}")?,
-                    Lane::Control => write!(out, "k")?,
+                    Lane::Cpu(cpu) => write_number(out, b"c", cpu as u64)?,
+                    Lane::Control => out.text(b"k")?,
                 }
-                self.write_act(out, act)
+                self.write_act(out, act)?;
             }
-            Line::Sync => writeln!(out, "sync"),
-            Line::Offline(cpu) => writeln!(out, "offline {cpu}"),
-            Line::Online(cpu) => writeln!(out, "online {cpu}"),
-            Line::Flush => writeln!(out, "flush"),
-            Line::Report(kind) => writeln!(out, "report {}", REPORTS[kind]),
+            Line::Sync => out.text(b"sync")?,
+            Line::Offline(cpu) => write_number(out, b"offline ", cpu as u64)?,
+            Line::Online(cpu) => write_number(out, b"online ", cpu as u64)?,
+            Line::Flush => out.text(b"flush")?,
+            Line::Report(kind) => write_name(out, b"report ", REPORTS[kind])?,
         }
+        out.text(b"\n")
     }
+}
+
+fn write_name(out: &mut Output, before: &[u8], name: &str) -> io::Result<()> {
+    out.text(before)?;
+    out.text(name.as_bytes())
+}
+
+fn write_number(out: &mut Output, before: &[u8], n: u64) -> io::Result<()> {
+    out.text(before)?;
+    out.number(n)
+}
+
+fn write_amount(out: &mut Output, n: i64) -> io::Result<()> {
+    out.text(b" ")?;
+    out.signed(n)
 }
 
 fn check(input: &mut Input, out: &mut Output) -> Result<u8, Failure> {
@@ -106,7 +136,11 @@ fn check(input: &mut Input, out: &mut Output) -> Result<u8, Failure> {
     let tally = input.body(&header, |number, judged| {
         match judged {
             Ok(line) => header.write_line(out, line)?,
-            Err(cause) => writeln!(out, "# line {number}: refused: {cause}")?,
+            Err(cause) => {
+                write_number(out, b"# line ", number)?;
+                write_name(out, b": refused: ", cause.name())?;
+                out.text(b"\n")?;
+            }
         }
         Ok(())
     })?;

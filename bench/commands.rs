@@ -1,9 +1,12 @@
 //! What the commands on a trace do alike, for the plain programs: they read the lines, judge which of them count, keep
 //! to the limits, and end with a status.
 
+// Each program uses a part of it.
+#![allow(dead_code)]
+
 use crate::names::EVENTS;
 use crate::trace::{Act, Cause, Header, Lane, Line, head_line};
-use std::io::{self, BufRead, BufReader, BufWriter, Read, StdinLock, StdoutLock, Take, Write};
+use std::io::{self, BufRead, BufReader, Read, StdinLock, StdoutLock, Take, Write};
 use std::process::ExitCode;
 
 const MOST_BYTES: u64 = 1 << 26;
@@ -219,11 +222,63 @@ impl Input {
     }
 }
 
-pub type Output = BufWriter<StdoutLock<'static>>;
+/// Standard output, with numbers in decimal.
+pub struct Output {
+    out: StdoutLock<'static>,
+    held: Vec<u8>,
+}
+
+impl Output {
+    fn make() -> Output {
+        Output { out: io::stdout().lock(), held: Vec::with_capacity(BUFFER) }
+    }
+
+    #[inline]
+    pub fn text(&mut self, bytes: &[u8]) -> io::Result<()> {
+        if self.held.len() + bytes.len() > BUFFER {
+            self.flush()?;
+        }
+        self.held.extend_from_slice(bytes);
+        Ok(())
+    }
+
+    pub fn number(&mut self, mut n: u64) -> io::Result<()> {
+        let mut digits = [0; 20];
+        let mut begin = digits.len();
+        loop {
+            begin -= 1;
+            digits[begin] = b'0' + (n % 10) as u8;
+            n /= 10;
+            if n == 0 {
+                return self.text(&digits[begin..]);
+            }
+        }
+    }
+
+    pub fn signed(&mut self, n: i64) -> io::Result<()> {
+        if n < 0 {
+            self.text(b"-")?;
+        }
+        self.number(n.unsigned_abs())
+    }
+}
+
+impl Write for Output {
+    fn write(&mut self, bytes: &[u8]) -> io::Result<usize> {
+        self.text(bytes)?;
+        Ok(bytes.len())
+    }
+
+    fn flush(&mut self) -> io::Result<()> {
+        self.out.write_all(&self.held)?;
+        self.held.clear();
+        self.out.flush()
+    }
+}
 
 /// Runs a command over standard input and standard output if its word alone was given.
 pub fn run(word: &str, command: impl FnOnce(&mut Input, &mut Output) -> Result<u8, Failure>) -> ExitCode {
-    let mut out = BufWriter::with_capacity(BUFFER, io::stdout().lock());
+    let mut out = Output::make();
     let status = match answer(word, command, &mut out).and_then(|status| out.flush().map(|()| status)) {
         Ok(status) => status,
         Err(_) => 5,

@@ -18,7 +18,7 @@ const MOST_BASE: u64 = 1 << 48;
 const MOST_LIMIT: u64 = 1 << 60;
 pub const BYTES_OF_PAGE: i64 = 4096;
 
-/// The causes of headers and of lines; Debug prints their names.
+/// The causes of headers and of lines, in the order of `CAUSES`.
 #[derive(Clone, Copy, Debug, PartialEq)]
 pub enum Cause {
     BadMagic,
@@ -49,9 +49,44 @@ pub enum Cause {
     NotPages,
 }
 
+const CAUSES: [&str; 26] = [
+    "BadMagic",
+    "BadNumber",
+    "BadCpus",
+    "NoZone",
+    "DoubledZone",
+    "TooManyZones",
+    "BadMarks",
+    "UnknownName",
+    "DoubledCounter",
+    "BadBatch",
+    "MissingGo",
+    "Malformed",
+    "TooManyCounters",
+    "LineTooLong",
+    "DoubledItem",
+    "TooManyItems",
+    "UnknownLane",
+    "UnknownPlace",
+    "UnknownItem",
+    "UnknownCounter",
+    "NotOnline",
+    "Overflow",
+    "NotDead",
+    "NotFolded",
+    "LastCpu",
+    "NotPages",
+];
+
+impl Cause {
+    pub fn name(self) -> &'static str {
+        CAUSES[self as usize]
+    }
+}
+
 impl Display for Cause {
     fn fmt(&self, f: &mut fmt::Formatter) -> fmt::Result {
-        write!(f, "{self:?}")
+        f.write_str(self.name())
     }
 }
 
@@ -73,6 +108,47 @@ pub struct Counter {
     pub batch: u64,
 }
 
+/// What tells most words apart at once: the length and the last eight bytes.
+#[derive(Clone, Copy, PartialEq)]
+struct Key(usize, u64);
+
+impl Key {
+    fn of(word: &[u8]) -> Key {
+        let last = match word.last_chunk() {
+            Some(last) => u64::from_le_bytes(*last),
+            None => word.iter().fold(0, |bytes, &byte| bytes << 8 | u64::from(byte)),
+        };
+        Key(word.len(), last)
+    }
+}
+
+/// Names that words are looked up in.
+#[derive(Default)]
+pub struct Names {
+    words: Vec<String>,
+    keys: Vec<Key>,
+}
+
+impl Names {
+    fn push(&mut self, word: String) {
+        self.keys.push(Key::of(word.as_bytes()));
+        self.words.push(word);
+    }
+
+    fn find(&self, word: &[u8]) -> Option<usize> {
+        let wanted = Key::of(word);
+        self.keys.iter().zip(&self.words).position(|(&key, name)| key == wanted && name.as_bytes() == word)
+    }
+}
+
+impl<'a> FromIterator<&'a str> for Names {
+    fn from_iter<I: IntoIterator<Item = &'a str>>(words: I) -> Names {
+        let mut names = Names::default();
+        words.into_iter().for_each(|word| names.push(word.to_owned()));
+        names
+    }
+}
+
 /// What the header says. The zones stand by node and kind, `items` has the names of each class by position.
 #[derive(Default)]
 pub struct Header {
@@ -84,8 +160,14 @@ pub struct Header {
     pub nodes: Vec<u64>,
     pub bases: Vec<Option<i64>>,
     pub counters: Vec<Counter>,
-    zone_items: Vec<String>,
-    node_items: Vec<String>,
+    zone_items: Names,
+    node_items: Names,
+    events: Names,
+    pcpu: Names,
+    /// Which positions of each class are in bytes, by bits.
+    bytes: [u32; 2],
+    /// The words of each counter.
+    spelled: Vec<Vec<u8>>,
 }
 
 #[derive(Clone, Copy)]
@@ -212,8 +294,18 @@ fn limit(word: &[u8]) -> Result<i64, Cause> {
     signed(word).filter(|n| n.unsigned_abs() <= MOST_LIMIT).ok_or(Cause::BadNumber)
 }
 
-fn named<S: AsRef<str>>(names: &[S], word: &[u8]) -> Option<usize> {
-    names.iter().position(|name| name.as_ref().as_bytes() == word)
+fn named(names: &[&str], word: &[u8]) -> Option<usize> {
+    names.iter().position(|name| name.as_bytes() == word)
+}
+
+fn kind(word: &[u8]) -> Option<usize> {
+    match word {
+        b"DMA" => Some(0),
+        b"DMA32" => Some(1),
+        b"Normal" => Some(2),
+        b"Movable" => Some(3),
+        _ => None,
+    }
 }
 
 fn name(word: &[u8]) -> Result<String, Cause> {
@@ -230,26 +322,35 @@ impl Header {
     /// Before the first line.
     pub fn empty() -> Header {
         Header {
-            zone_items: ZONE_ITEMS.iter().map(|&name| name.to_owned()).collect(),
-            node_items: NODE_ITEMS.iter().map(|&name| name.to_owned()).collect(),
+            zone_items: ZONE_ITEMS.into_iter().collect(),
+            node_items: NODE_ITEMS.into_iter().collect(),
+            events: EVENTS.into_iter().collect(),
             ..Header::default()
         }
     }
 
     pub fn positions(&self) -> usize {
-        if self.wide { 16 } else { 8 }
+        1 << self.shift()
+    }
+
+    fn shift(&self) -> u32 {
+        if self.wide { 4 } else { 3 }
+    }
+
+    fn class(&self, node: bool) -> &Names {
+        if node { &self.node_items } else { &self.zone_items }
     }
 
     pub fn names(&self, node: bool) -> &[String] {
-        if node { &self.node_items } else { &self.zone_items }
+        &self.class(node).words
     }
 
     pub fn is_node(&self, place: usize) -> bool {
         place >= self.zones.len()
     }
 
-    fn zone(&self, node: u64, kind: &[u8]) -> Option<usize> {
-        let kind = named(&KINDS, kind)?;
+    fn zone(&self, node: u64, word: &[u8]) -> Option<usize> {
+        let kind = kind(word)?;
         self.zones.iter().position(|zone| zone.node == node && zone.kind == kind)
     }
 
@@ -257,14 +358,13 @@ impl Header {
         self.nodes.iter().position(|&other| other == node).map(|n| self.zones.len() + n)
     }
 
-    fn place(&self, node: u64, kind: &[u8]) -> Option<usize> {
-        if kind == b"node" { self.node(node) } else { self.zone(node, kind) }
+    fn place(&self, node: u64, word: &[u8]) -> Option<usize> {
+        if let b"node" = word { self.node(node) } else { self.zone(node, word) }
     }
 
     pub fn in_bytes(&self, counter: usize) -> bool {
-        let (place, position) = (counter / self.positions(), counter % self.positions());
-        let mut of_class = self.declared.iter().filter(|item| item.node == self.is_node(place));
-        position >= 8 && of_class.nth(position - 8).is_some_and(|item| item.bytes)
+        let (place, position) = (counter >> self.shift(), counter & (self.positions() - 1));
+        self.bytes[usize::from(self.is_node(place))] >> position & 1 == 1
     }
 
     // The rows of the header, each of which adds what its line says.
@@ -296,13 +396,15 @@ impl Header {
             Some(b"bytes") => true,
             Some(_) => return Err(Cause::UnknownName),
         };
-        if named(&self.zone_items, word).is_some() || named(&self.node_items, word).is_some() {
+        if self.zone_items.find(word).is_some() || self.node_items.find(word).is_some() {
             return Err(Cause::DoubledItem);
         }
-        let names = if node { &mut self.node_items } else { &mut self.zone_items };
-        if names.len() == 16 {
+        let position = self.names(node).len();
+        if position == 16 {
             return Err(Cause::TooManyItems);
         }
+        self.bytes[usize::from(node)] |= u32::from(bytes) << position;
+        let names = if node { &mut self.node_items } else { &mut self.zone_items };
         names.push(name.clone());
         self.declared.push(Item { name, node, bytes });
         Ok(())
@@ -315,7 +417,7 @@ impl Header {
             _ => return Err(Cause::Malformed),
         };
         let node = number(node, 0, 15)?;
-        let kind = named(&KINDS, kind).ok_or(Cause::UnknownName)?;
+        let kind = self::kind(kind).ok_or(Cause::UnknownName)?;
         let managed = number(managed, 1, MOST_PAGES)?;
         let marks = match marks {
             None => [0; 3],
@@ -353,6 +455,18 @@ impl Header {
         self.nodes = self.zones.iter().map(|zone| zone.node).collect();
         self.nodes.dedup();
         self.bases = vec![None; self.positions() * (self.zones.len() + self.nodes.len())];
+        self.spelled = (0..self.bases.len()).map(|counter| self.spelling(counter)).collect();
+    }
+
+    /// The words of a counter: its place and its item, which not every position has.
+    fn spelling(&self, counter: usize) -> Vec<u8> {
+        let place = counter >> self.shift();
+        let item = self.names(self.is_node(place)).get(counter & (self.positions() - 1));
+        let item = item.map_or("", String::as_str);
+        match self.zones.get(place) {
+            Some(zone) => format!("{} {} {item}", zone.node, KINDS[zone.kind]).into_bytes(),
+            None => format!("{} node {item}", self.node_number(place)).into_bytes(),
+        }
     }
 
     fn base(&mut self, fields: &[&[u8]]) -> Result<(), Cause> {
@@ -365,7 +479,7 @@ impl Header {
         self.settle();
         let node = number(node, 0, u64::MAX)?;
         let place = self.place(node, kind).ok_or(Cause::UnknownName)?;
-        let position = named(self.names(self.is_node(place)), item).ok_or(Cause::UnknownName)?;
+        let position = self.class(self.is_node(place)).find(item).ok_or(Cause::UnknownName)?;
         let value = signed(value).filter(|n| n.unsigned_abs() <= MOST_BASE).ok_or(Cause::BadNumber)?;
         let counter = self.positions() * place + position;
         if self.bases[counter].is_some() {
@@ -398,6 +512,7 @@ impl Header {
         if self.counters.len() == 16 {
             return Err(Cause::TooManyCounters);
         }
+        self.pcpu.push(name.clone());
         self.counters.push(Counter { name, batch });
         Ok(())
     }
@@ -412,8 +527,8 @@ impl Header {
     fn counter_of(&self, node: &[u8], kind: &[u8], item: &[u8]) -> Result<usize, Cause> {
         let node = number(node, 0, u64::MAX)?;
         let place = self.place(node, kind).ok_or(Cause::UnknownPlace)?;
-        let position = named(self.names(self.is_node(place)), item).ok_or(Cause::UnknownItem)?;
-        Ok(self.positions() * place + position)
+        let position = self.class(self.is_node(place)).find(item).ok_or(Cause::UnknownItem)?;
+        Ok((place << self.shift()) + position)
     }
 
     fn pages(&self, counter: usize, amount: i64) -> Result<i64, Cause> {
@@ -431,14 +546,11 @@ impl Header {
     }
 
     fn event(&self, word: &[u8]) -> Result<usize, Cause> {
-        named(&EVENTS, word).ok_or(Cause::UnknownItem)
+        self.events.find(word).ok_or(Cause::UnknownItem)
     }
 
     fn pcpu(&self, word: &[u8]) -> Result<usize, Cause> {
-        self.counters
-            .iter()
-            .position(|counter| counter.name.as_bytes() == word)
-            .ok_or(Cause::UnknownCounter)
+        self.pcpu.find(word).ok_or(Cause::UnknownCounter)
     }
 
     fn node_of(&self, word: &[u8]) -> Result<usize, Cause> {
@@ -486,7 +598,7 @@ impl Header {
             }
             (_, &[b"val", node, kind, item]) => Ok(Act::Val(self.counter_of(node, kind, item)?)),
             (_, &[b"snap", node, kind, item]) => Ok(Act::Snap(self.counter_of(node, kind, item)?)),
-            (_, &[b"sys", item]) => match (named(&self.zone_items, item), named(&self.node_items, item)) {
+            (_, &[b"sys", item]) => match (self.zone_items.find(item), self.node_items.find(item)) {
                 (Some(position), _) => Ok(Act::Sys(position)),
                 (None, Some(position)) => Ok(Act::Sys(self.positions() + position)),
                 (None, None) => Err(Cause::UnknownItem),
@@ -538,9 +650,7 @@ impl Header {
     }
 
     pub fn write_counter(&self, out: &mut impl Write, counter: usize) -> io::Result<()> {
-        let place = counter / self.positions();
-        self.write_place(out, place)?;
-        write!(out, " {}", self.names(self.is_node(place))[counter % self.positions()])
+        out.write_all(&self.spelled[counter])
     }
 
     pub fn node_number(&self, place: usize) -> u64 {
@@ -548,7 +658,7 @@ impl Header {
     }
 }
 
-/// Whether a line is the header's last. `part` is 0 before the first line, 1 behind it, then a number for each kind of
+/// Whether a line is the header's last. `part` is 0 before the first line, 1 after it, then a number for each kind of
 /// line.
 pub fn head_line(header: &mut Header, part: &mut u32, line: &[u8]) -> Result<bool, Cause> {
     if line.len() > MOST_LINE {
