@@ -1,4 +1,4 @@
-ghost use Rattle.std.specs.Prelude.{◌<◌, ℕ, None, Some};
+ghost use Rattle.std.specs.Prelude.{◌<◌, ℕ, None, Some, refl};
 ghost use Rattle.vms_history.specs.Passes.Turn.{Works, Begins, Ends};
 ghost use Rattle.vms_judge.specs.declared.tests.Ring.TheVariants.{Open, Shut, Strike};
 
@@ -34,6 +34,15 @@ impl Table for Bell {
       MayOwn = λ cpus. elim [ None ↦ Unit {0} | Some c ↦ c.number < cpus ];
       MayEnd = λ cpus own. Unit {0};
       Meets = λ cpus h s p. elim [ Open q who ↦ Unit {0} | Shut q ↦ Unit {0} | Strike n ↦ n < cpus ];
+    } };
+
+    ghost quiet = { record {
+      leaves = λ cpus who step s differs. refl;
+      asks_nothing = λ cpus h s p. elim [
+        | Open q who ↦ λ differs. tt
+        | Shut q ↦ λ differs. tt
+        | Strike n ↦ λ differs. absurd (differs refl)
+      ];
     } };
 }
 
