@@ -14,12 +14,12 @@ use Rattle.vms_text.specs.Lines.{lines_of}
 use Rattle.vms_text.specs.Words.{is_word_byte}
 use Rattle.vms_text.proofs.TextLaws.{lines_of-first}
 use Rattle.vms_text.proofs.Values.{and_left, and_right}
-use Rattle.vms_trace.specs.declared.causes.LineCause.{LineCause}
-use Rattle.vms_trace.specs.declared.causes.LineCause.TheVariants as causes
-use Rattle.vms_trace.specs.Body.{read_line}
-use Rattle.vms_trace.specs.Reading.{and_then, most_line}
-use Rattle.vms_trace.proofs.Sentences.{IsShort-from}
-use Rattle.vms_trace.proofs.SpelledNumbers.{decimal-short}
+use Rattle.vms_line.specs.declared.causes.LineCause.{LineCause}
+use Rattle.vms_line.specs.declared.causes.LineCause.TheVariants as causes
+use Rattle.vms_line.specs.Body.{read_line}
+use Rattle.vms_text.specs.Reading.{and_then, most_line}
+use Rattle.vms_text.proofs.Sentences.{IsShort-from}
+use Rattle.vms_text.proofs.SpelledNumbers.{decimal-short}
 use Rattle.vms_script.specs.Judging.{allowed, judged}
 use Rattle.vms_command.specs.Printing.{done_line, line_cause, line_prefix, refused_line}
 

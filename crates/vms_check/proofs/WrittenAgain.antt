@@ -11,17 +11,20 @@ use Rattle.vms_text.specs.declared.acts.Line.TheVariants.{Blank, Lane, Boundary}
 use Rattle.vms_text.specs.Lines.{lines_of}
 use Rattle.vms_text.specs.Words.{joined}
 use Rattle.vms_text.proofs.TextLaws.{lines_of-append, lines_of-first}
-use Rattle.vms_trace.specs.declared.causes.LineCause.{LineCause}
-use Rattle.vms_trace.specs.Head.{Fault, read_header}
-use Rattle.vms_trace.specs.Laws.{IsSettled, IsWritable, ReadsBack}
-use Rattle.vms_trace.specs.Reading.{and_then}
-use Rattle.vms_trace.specs.Spelling.{header_words, sentence, spelled_line}
-use Rattle.vms_trace.proofs.HeaderSteps.{lines_of-sentences}
-use Rattle.vms_trace.proofs.HeadersRead.{header_words-few, headers-read_back}
-use Rattle.vms_trace.proofs.LinesRead.{lines-read_back}
-use Rattle.vms_trace.proofs.Sentences.{IsFew, few-one_line}
-use Rattle.vms_trace.proofs.Settling.{read_header-settled}
-use Rattle.vms_trace.proofs.Written.{read_header-writable}
+use Rattle.vms_line.specs.declared.causes.LineCause.{LineCause}
+use Rattle.vms_header.specs.Head.{Fault, read_header}
+use Rattle.vms_header.specs.Laws.{IsSettled, IsWritable}
+use Rattle.vms_line.specs.Laws.{ReadsBack}
+use Rattle.vms_text.specs.Reading.{and_then}
+use Rattle.vms_header.specs.Spelling.{header_words}
+use Rattle.vms_text.specs.Spelling.{sentence}
+use Rattle.vms_line.specs.Spelling.{spelled_line}
+use Rattle.vms_header.proofs.HeaderSteps.{lines_of-sentences}
+use Rattle.vms_header.proofs.HeadersRead.{header_words-few, headers-read_back}
+use Rattle.vms_line.proofs.LinesRead.{lines-read_back}
+use Rattle.vms_text.proofs.Sentences.{IsFew, few-one_line}
+use Rattle.vms_header.proofs.Settling.{read_header-settled}
+use Rattle.vms_header.proofs.Written.{read_header-writable}
 use Rattle.vms_script.specs.Judging.{allowed, judged}
 use Rattle.vms_command.specs.Limits.{most_lines}
 use Rattle.vms_command.specs.Lines.{Above, come_to, nothing_above, with_judged}

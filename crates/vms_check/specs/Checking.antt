@@ -4,8 +4,9 @@ use Rattle.std.specs.Prelude.{ℕ, List, [], ◌++◌, length, codes, Result, Ok
 use Rattle.vms_base.specs.declared.headers.Header.{Header}
 use Rattle.vms_text.specs.declared.acts.Line.{Line}
 use Rattle.vms_text.specs.declared.acts.Line.TheVariants.{Blank}
-use Rattle.vms_trace.specs.declared.causes.LineCause.{LineCause}
-use Rattle.vms_trace.specs.Spelling.{spelled_header, spelled_line}
+use Rattle.vms_line.specs.declared.causes.LineCause.{LineCause}
+use Rattle.vms_header.specs.Spelling.{spelled_header}
+use Rattle.vms_line.specs.Spelling.{spelled_line}
 use Rattle.vms_stream.specs.Machines.{Machine}
 use Rattle.vms_command.specs.Bodies.{shown}
 use Rattle.vms_command.specs.Commands.{Command, Progress, ending_of, following}

@@ -2,8 +2,8 @@
 use Rattle.std.specs.Prelude.{◌≡◌, ◌≢◌, ◌≤◌, ℕ, suc, List, ◌++◌, length, drop, Some, Ok}
 use Rattle.vms_base.specs.declared.headers.Header.{Header}
 use Rattle.vms_text.specs.Lines.{lines_of}
-use Rattle.vms_trace.specs.Head.{read_header}
-use Rattle.vms_trace.specs.Spelling.{header_words, spelled_header}
+use Rattle.vms_header.specs.Head.{read_header}
+use Rattle.vms_header.specs.Spelling.{header_words, spelled_header}
 use Rattle.vms_stream.specs.declared.halts.Halt.TheVariants.{Passes}
 use Rattle.vms_stream.specs.Machines.{halted, output}
 use Rattle.vms_command.specs.Limits.{most_lines}

@@ -2,7 +2,8 @@ use std::alloc::Global;
 use vms_base::{Header, Memory};
 use vms_command::{Body, ending_of, write_done_line, write_refused_line};
 use vms_stream::Ending;
-use vms_trace::{Line, LineCause, write_header, write_line};
+use vms_header::write_header;
+use vms_line::{Line, LineCause, write_line};
 
 /// The body of a check.
 #[derive(Drop)]
@@ -52,7 +53,7 @@ impl Body for CheckBody {
 
 ghost use Rattle.std.specs.Prelude.{◌≡◌, ◌++◌, OnOk, codes};
 ghost use Rattle.vms_base.specs.Headers.{IsHeader};
-ghost use Rattle.vms_trace.specs.Laws.{IsLineOf};
+ghost use Rattle.vms_line.specs.Laws.{IsLineOf};
 ghost use Rattle.vms_command.specs.Printing.{refused_line};
 ghost use Rattle.vms_check.specs.Checking.{accepted_line};
 

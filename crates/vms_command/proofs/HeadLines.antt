@@ -2,10 +2,10 @@
 use Rattle.std.proofs.Common.{◌≡◌, ℕ, List, ◌++◌, Some, None, refl, sym, subst, append-nil}
 use Rattle.std.specs.Prelude.{Result, Ok, Err}
 use Rattle.vms_base.specs.declared.headers.Header.{Header}
-use Rattle.vms_trace.specs.declared.causes.HeaderCause.{HeaderCause}
-use Rattle.vms_trace.specs.Drafts.{Draft, header_of}
-use Rattle.vms_trace.specs.Head.{Stage, Turn}
-use Rattle.vms_trace.specs.Head.Turn.{Goes, Ends}
+use Rattle.vms_header.specs.declared.causes.HeaderCause.{HeaderCause}
+use Rattle.vms_header.specs.Drafts.{Draft, header_of}
+use Rattle.vms_header.specs.Head.{Stage, Turn}
+use Rattle.vms_header.specs.Head.Turn.{Goes, Ends}
 use Rattle.vms_stream.specs.declared.halts.Halt.TheVariants.{Refuses}
 use Rattle.vms_command.specs.declared.body_jobs.BodyJob.{BodyJob}
 use Rattle.vms_command.specs.declared.trace_jobs.Part.TheVariants as parts

@@ -4,10 +4,10 @@ use Rattle.std.specs.Prelude.{OnOk, Result, Ok, Err}
 use Rattle.std.proofs.lemmas.Bool.Decides.{nat_tests}
 use Rattle.vms_base.specs.declared.failures.Memory.{Memory}
 use Rattle.vms_base.specs.declared.headers.Header.{Header}
-use Rattle.vms_trace.specs.declared.causes.HeaderCause.{HeaderCause}
-use Rattle.vms_trace.specs.Drafts.{Draft, header_of}
-use Rattle.vms_trace.specs.Head.{Stage, Turn, head_line}
-use Rattle.vms_trace.specs.Head.Turn.{Goes, Ends}
+use Rattle.vms_header.specs.declared.causes.HeaderCause.{HeaderCause}
+use Rattle.vms_header.specs.Drafts.{Draft, header_of}
+use Rattle.vms_header.specs.Head.{Stage, Turn, head_line}
+use Rattle.vms_header.specs.Head.Turn.{Goes, Ends}
 use Rattle.vms_script.specs.Judging.{judged}
 use Rattle.vms_stream.specs.declared.halts.Halt.{Halt}
 use Rattle.vms_stream.specs.declared.halts.Halt.TheVariants.{Refuses, Passes}

@@ -3,11 +3,11 @@ use Rattle.std.proofs.Common.{◌≡◌, ◌≢◌, ℕ, zero, suc, Bool, true, 
 use Rattle.std.specs.Prelude.{Result, Ok, Err}
 use Rattle.vms_base.specs.declared.headers.Header.{Header}
 use Rattle.vms_text.specs.Lines.{lines_of}
-use Rattle.vms_trace.specs.declared.causes.HeaderCause.{HeaderCause}
-use Rattle.vms_trace.specs.Drafts.{header_of}
-use Rattle.vms_trace.specs.Head.{Stage, Turn, head_line, header_from, on_turn}
-use Rattle.vms_trace.specs.Head.Stage.{Opening}
-use Rattle.vms_trace.specs.Head.Turn.{Goes, Ends}
+use Rattle.vms_header.specs.declared.causes.HeaderCause.{HeaderCause}
+use Rattle.vms_header.specs.Drafts.{header_of}
+use Rattle.vms_header.specs.Head.{Stage, Turn, head_line, header_from, on_turn}
+use Rattle.vms_header.specs.Head.Stage.{Opening}
+use Rattle.vms_header.specs.Head.Turn.{Goes, Ends}
 use Rattle.vms_script.specs.Judging.{judged}
 use Rattle.vms_stream.specs.declared.halts.Halt.{Halt}
 use Rattle.vms_stream.specs.declared.halts.Halt.TheVariants.{Passes, Refuses}

@@ -2,12 +2,12 @@
 use Rattle.std.specs.Prelude.{Bool, ℕ, suc, nat_lt, if◌then◌else◌, List, [], Option, Some, None, Result, Ok, Err}
 use Rattle.vms_base.specs.declared.headers.Header.{Header}
 use Rattle.vms_text.specs.declared.acts.Line.{Line}
-use Rattle.vms_trace.specs.declared.causes.HeaderCause.{HeaderCause}
-use Rattle.vms_trace.specs.declared.causes.LineCause.{LineCause}
-use Rattle.vms_trace.specs.Drafts.{header_of}
-use Rattle.vms_trace.specs.Head.{Stage, Turn, head_line, missing}
-use Rattle.vms_trace.specs.Head.Stage.{Opening}
-use Rattle.vms_trace.specs.Head.Turn.{Goes, Ends}
+use Rattle.vms_header.specs.declared.causes.HeaderCause.{HeaderCause}
+use Rattle.vms_line.specs.declared.causes.LineCause.{LineCause}
+use Rattle.vms_header.specs.Drafts.{header_of}
+use Rattle.vms_header.specs.Head.{Stage, Turn, head_line, missing}
+use Rattle.vms_header.specs.Head.Stage.{Opening}
+use Rattle.vms_header.specs.Head.Turn.{Goes, Ends}
 use Rattle.vms_script.specs.Judging.{judged}
 use Rattle.vms_stream.specs.Machines.{Machine}
 use Rattle.vms_stream.specs.declared.endings.Ending.{Ending}

@@ -4,7 +4,7 @@ use Rattle.vms_text.specs.declared.acts.Boundary.{Boundary as BoundaryOf}
 use Rattle.vms_text.specs.declared.acts.Boundary.TheVariants.{Report}
 use Rattle.vms_text.specs.declared.acts.Line.{Line}
 use Rattle.vms_text.specs.declared.acts.Line.TheVariants.{Lane, Boundary}
-use Rattle.vms_trace.specs.declared.causes.LineCause.{LineCause}
+use Rattle.vms_line.specs.declared.causes.LineCause.{LineCause}
 
 -- the most lines of an input, phases that have a lane line, and reports
 abbrev pub most_lines : ℕ

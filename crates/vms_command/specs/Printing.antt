@@ -1,10 +1,10 @@
 -- The lines that are written for refusals, and at the end.
 use Rattle.std.specs.Prelude.{ℕ, List, [], ◌∷◌, ◌++◌, codes, decimal}
-use Rattle.vms_trace.specs.declared.causes.HeaderCause.{HeaderCause}
-use Rattle.vms_trace.specs.declared.causes.HeaderCause.TheVariants as header_causes
-use Rattle.vms_trace.specs.declared.causes.LineCause.{LineCause}
-use Rattle.vms_trace.specs.declared.causes.LineCause.TheVariants as line_causes
-use Rattle.vms_trace.specs.Head.{Fault}
+use Rattle.vms_header.specs.declared.causes.HeaderCause.{HeaderCause}
+use Rattle.vms_header.specs.declared.causes.HeaderCause.TheVariants as header_causes
+use Rattle.vms_line.specs.declared.causes.LineCause.{LineCause}
+use Rattle.vms_line.specs.declared.causes.LineCause.TheVariants as line_causes
+use Rattle.vms_header.specs.Head.{Fault}
 
 abbrev pub newline : List ℕ
 newline = 10 ∷ []

@@ -2,12 +2,12 @@
 use Rattle.std.specs.Prelude.{◌≡◌, ℕ, ◌+◌, ◌<◌, ◌≤◌, suc, List, ◌++◌, length, Option, Some, None, Result, Ok}
 use Rattle.vms_base.specs.declared.headers.Header.{Header}
 use Rattle.vms_text.specs.declared.acts.Line.{Line}
-use Rattle.vms_trace.specs.declared.causes.HeaderCause.{HeaderCause}
-use Rattle.vms_trace.specs.declared.causes.LineCause.{LineCause}
-use Rattle.vms_trace.specs.Drafts.{header_of}
-use Rattle.vms_trace.specs.Head.{Stage, Turn}
-use Rattle.vms_trace.specs.Head.Turn.{Goes, Ends}
-use Rattle.vms_trace.specs.Laws.{IsWritable}
+use Rattle.vms_header.specs.declared.causes.HeaderCause.{HeaderCause}
+use Rattle.vms_line.specs.declared.causes.LineCause.{LineCause}
+use Rattle.vms_header.specs.Drafts.{header_of}
+use Rattle.vms_header.specs.Head.{Stage, Turn}
+use Rattle.vms_header.specs.Head.Turn.{Goes, Ends}
+use Rattle.vms_header.specs.Laws.{IsWritable}
 use Rattle.vms_script.specs.Standing.{Stands}
 use Rattle.vms_stream.specs.declared.endings.Ending.{Ending}
 use Rattle.vms_stream.specs.declared.halts.Halt.{Halt}

@@ -1,7 +1,7 @@
 -- The numbers that a command keeps of the lines of a body.
 use Rattle.std.specs.Prelude.{◌≡◌, length, not, Option, None, Result}
 use Rattle.vms_text.specs.declared.acts.Line.{Line}
-use Rattle.vms_trace.specs.declared.causes.LineCause.{LineCause}
+use Rattle.vms_line.specs.declared.causes.LineCause.{LineCause}
 use Rattle.vms_stream.specs.declared.halts.Halt.{Halt}
 use Rattle.vms_command.specs.declared.tallies.Tally.{Tally}
 use Rattle.vms_command.specs.Commands.{passes}

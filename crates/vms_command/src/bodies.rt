@@ -4,12 +4,12 @@ ghost use Rattle.vms_base.specs.declared.headers.Header.{Header};
 ghost use Rattle.vms_command.specs.Bodies.{ClosesBody, PassesLine, SomeEnd, SomeLine};
 ghost use Rattle.vms_command.specs.Commands.{Command};
 ghost use Rattle.vms_command.specs.Lines.{Above, nothing_above};
-ghost use Rattle.vms_trace.specs.Laws.{IsWritable};
+ghost use Rattle.vms_header.specs.Laws.{IsWritable};
 
 use std::alloc::Global;
 use vms_base::{Header, Memory};
 use vms_stream::Ending;
-use vms_trace::{Line, LineCause};
+use vms_line::{Line, LineCause};
 
 /// What a command does with the body of a trace, behind a header that was accepted.
 pub trait Body: Drop + Sized {

@@ -17,7 +17,7 @@ pub(crate) struct BodyJob<B> {
 impl<B: Body> BodyJob<B> {
     ghost use Rattle.std.specs.Prelude.{ℕ, ◌≤◌, IfOk};
     ghost use Rattle.vms_base.specs.declared.headers.Header.{Header};
-    ghost use Rattle.vms_trace.specs.Laws.{IsWritable};
+    ghost use Rattle.vms_header.specs.Laws.{IsWritable};
     ghost use Rattle.vms_script.specs.Judging.{judged};
     ghost use Rattle.vms_command.specs.Limits.{most_lines};
     ghost use Rattle.vms_command.specs.Lines.{Above};

@@ -4,7 +4,8 @@ ghost use Rattle.vms_command.specs.Printing.{done_line, header_cause, header_lin
 
 use itoa::Buffer;
 use vms_base::Memory;
-use vms_trace::{HeaderCause, LineCause};
+use vms_header::HeaderCause;
+use vms_line::LineCause;
 
 /// Appends `line N: CAUSE`, the one line of a refused header.
 pub(crate) fn write_header_line(

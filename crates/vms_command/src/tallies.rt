@@ -2,7 +2,7 @@ ghost use Rattle.std.specs.Prelude.{◌≡◌, ◌+◌, ◌<◌, ◌^◌, Ok};
 ghost use Rattle.vms_command.specs.Limits.{is_report};
 
 use vms_stream::Halt;
-use vms_trace::{Boundary, Line, LineCause};
+use vms_line::{Boundary, Line, LineCause};
 
 /// The most phases that have a lane line.
 const MOST_PHASES: u32 = 10_000;

@@ -9,7 +9,7 @@ use std::test::Fail;
 use vms_base::{Header, Memory};
 use vms_io::{MemSink, MemSource};
 use vms_stream::{Ending, Status};
-use vms_trace::{Line, LineCause};
+use vms_line::{Line, LineCause};
 
 /// Writes a mark for each line, and one at the end for the last line.
 #[derive(Drop)]

@@ -5,7 +5,7 @@ use std::alloc::Global;
 use std::mem::replace;
 use vms_base::Memory;
 use vms_stream::{Ending, Halt, Job};
-use vms_trace::{HeaderReader, HeaderStep, ReadError};
+use vms_header::{HeaderReader, HeaderStep, ReadError};
 
 /// The most lines of a trace.
 const MOST_LINES: u32 = 1_000_000;
@@ -34,8 +34,8 @@ impl<B: Body> TraceJob<B> {
     ghost use Rattle.vms_command.specs.Commands.Progress.{Heading};
     ghost use Rattle.vms_command.specs.Limits.{most_lines};
     ghost use Rattle.vms_command.specs.Standing.{IsHead, PassesHead, StandsAt};
-    ghost use Rattle.vms_trace.specs.Head.{Stage, head_line};
-    ghost use Rattle.vms_trace.specs.Head.Stage.{Opening};
+    ghost use Rattle.vms_header.specs.Head.{Stage, head_line};
+    ghost use Rattle.vms_header.specs.Head.Stage.{Opening};
     ghost use Rattle.vms_stream.specs.Jobs.{GoesPast};
 
     /// Before the first line.
@@ -117,7 +117,7 @@ impl<B: Body> Job for TraceJob<B> {
 }
 
 ghost use Rattle.std.specs.Prelude.{IfOk};
-ghost use Rattle.vms_trace.specs.Head.{Stage, head_line};
+ghost use Rattle.vms_header.specs.Head.{Stage, head_line};
 ghost use Rattle.vms_command.specs.Standing.{IsHead, PassesHead};
 
 /// Goes past the line of this number, in a header.

@@ -23,7 +23,7 @@ use Rattle.vms_script.proofs.Changes.{unsigned_abs-changes_by}
 use Rattle.vms_script.proofs.Sizes.{sizes_by_all-most}
 use Rattle.vms_text.specs.declared.acts.Item.{Item}
 use Rattle.vms_text.specs.declared.acts.Lane.TheVariants.{Cpu}
-use Rattle.vms_trace.specs.Laws.{IsActOf, IsLineOf}
+use Rattle.vms_line.specs.Laws.{IsActOf, IsLineOf}
 
 changes_by_all-append : (k : ℕ) (phases more : List (List Item))
     → changes_by_all k (phases ++ more) ≡ changes_by_all k phases +ℤ changes_by_all k more

@@ -30,7 +30,7 @@ use Rattle.vms_text.specs.declared.acts.Item.{Item}
 use Rattle.vms_text.specs.declared.acts.Lane.{Lane as LaneOf}
 use Rattle.vms_text.specs.declared.acts.Line.{Line}
 use Rattle.vms_text.specs.declared.acts.Line.TheVariants.{Blank, Lane, Boundary}
-use Rattle.vms_trace.specs.declared.causes.LineCause.{LineCause}
+use Rattle.vms_line.specs.declared.causes.LineCause.{LineCause}
 
 -- a replay that runs, and a line that changes a counter
 module _ (replay : Replay) (header : Header) (is_header : IsHeader header) (above : Above) (kept : Kept) (runs : Runs header above kept replay)

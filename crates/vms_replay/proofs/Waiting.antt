@@ -8,9 +8,9 @@ use Rattle.vms_replay.specs.Replaying.{Kept, replay, replaying}
 use Rattle.vms_stream.specs.declared.halts.Halt.{Halt}
 use Rattle.vms_stream.specs.declared.halts.Halt.TheVariants.{Refuses, Passes}
 use Rattle.vms_stream.specs.Machines.{first_halt, halted, printed, printed_from}
-use Rattle.vms_trace.specs.declared.causes.HeaderCause.{HeaderCause}
-use Rattle.vms_trace.specs.Head.{Turn, head_line}
-use Rattle.vms_trace.specs.Head.Turn.{Goes, Ends}
+use Rattle.vms_header.specs.declared.causes.HeaderCause.{HeaderCause}
+use Rattle.vms_header.specs.Head.{Turn, head_line}
+use Rattle.vms_header.specs.Head.Turn.{Goes, Ends}
 
 never_none : (over : Bool) → (if over then Some Passes else Some Refuses) ≡ None → ⊥
 never_none true is = absurd cc

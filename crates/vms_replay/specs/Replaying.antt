@@ -21,7 +21,7 @@ use Rattle.vms_text.specs.declared.acts.Lane.TheVariants.{Cpu}
 use Rattle.vms_text.specs.declared.acts.Line.{Line}
 use Rattle.vms_text.specs.declared.acts.Line.TheVariants.{Blank, Lane, Boundary}
 use Rattle.vms_text.specs.declared.acts.ReportKind.TheVariants.{Totals}
-use Rattle.vms_trace.specs.declared.causes.LineCause.{LineCause}
+use Rattle.vms_line.specs.declared.causes.LineCause.{LineCause}
 
 -- whether an act of a CPU is replayed: it changes a page counter
 abbrev pub is_replayed_act : Act → Bool

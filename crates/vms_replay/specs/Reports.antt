@@ -5,7 +5,7 @@ use Rattle.vms_base.specs.declared.headers.Header.{Header}
 use Rattle.vms_base.specs.Headers.{class_names, is_of_node}
 use Rattle.vms_base.specs.Names.{event_names}
 use Rattle.vms_base.specs.Places.{place_of, position_of, counter_count}
-use Rattle.vms_trace.specs.Spelling.{entry, place_words, sentence}
+use Rattle.vms_text.specs.Spelling.{entry, place_words, sentence}
 
 -- `NODE KIND ITEM VALUE` of a counter, in pages; a position that no item has prints nothing
 abbrev pub total_line : Header → (ℕ → ℤ) → ℕ → List ℕ

@@ -6,7 +6,7 @@ use vms_calc::{Rule, Rules, normal_threshold, pressure_threshold};
 use vms_command::{Body, ending_of, write_done_line, write_prefix, write_refused_line};
 use vms_phase::RunReplay;
 use vms_stream::Ending;
-use vms_trace::{Act, Boundary, Lane, Line, LineCause, ReportKind};
+use vms_line::{Act, Boundary, Lane, Line, LineCause, ReportKind};
 
 /// A replay on its way through a body.
 #[derive(Drop)]

@@ -2,7 +2,7 @@ ghost use Rattle.std.specs.Prelude.{◌≡◌};
 ghost use Rattle.vms_replay.specs.Standing.{change_of};
 
 use vms_base::{CounterId, CpuId, Mode};
-use vms_trace::{Act, Lane};
+use vms_line::{Act, Lane};
 
 /// A change of a counter by a CPU, in pages.
 #[derive(Clone, Copy, Debug)]

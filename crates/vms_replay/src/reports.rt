@@ -3,7 +3,7 @@ ghost use Rattle.std.specs.Fmt.{signed_decimal};
 ghost use Rattle.vms_base.specs.Headers.{class_names, declared_names};
 ghost use Rattle.vms_base.specs.Names.{event_names};
 ghost use Rattle.vms_base.specs.Places.{IsCounter, IsPlace, counter_count};
-ghost use Rattle.vms_trace.specs.Spelling.{place_words, sentence};
+ghost use Rattle.vms_text.specs.Spelling.{place_words, sentence};
 ghost use Rattle.vms_replay.specs.Reports.{counter_line, event_line, total_line, total_lines, totals_report};
 
 use vms_base::{

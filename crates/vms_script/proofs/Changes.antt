@@ -13,7 +13,7 @@ use Rattle.vms_text.specs.declared.acts.Act.{Act}
 use Rattle.vms_text.specs.declared.acts.Act.TheVariants.{Mod, Inc, Dec, Ev}
 use Rattle.vms_text.specs.declared.acts.Item.{Item}
 use Rattle.vms_text.specs.declared.acts.Lane.{Lane}
-use Rattle.vms_trace.specs.Laws.{IsActOf, IsLineOf}
+use Rattle.vms_line.specs.Laws.{IsActOf, IsLineOf}
 use Rattle.vms_script.specs.Totals.{ArePhases, HasTotal, line_of, plain_total, change_by, change_of, changes_by, sizes_by, changes_by_all, sizes_by_all}
 use Rattle.vms_script.specs.Volumes.{spent_on_counter}
 use Rattle.vms_script.proofs.Sizes.{sizes_by_all-most}

@@ -12,9 +12,9 @@ use Rattle.vms_text.specs.declared.acts.Boundary.TheVariants.{Offline, Online}
 use Rattle.vms_text.specs.declared.acts.Lane.TheVariants.{Control}
 use Rattle.vms_text.specs.declared.acts.Line.{Line}
 use Rattle.vms_text.specs.declared.acts.Line.TheVariants.{Blank, Lane, Boundary}
-use Rattle.vms_trace.specs.declared.causes.LineCause.{LineCause}
-use Rattle.vms_trace.specs.declared.causes.LineCause.TheVariants.{NotOnline, NotDead, NotFolded, LastCpu}
-use Rattle.vms_trace.specs.Laws.{IsLineOf}
+use Rattle.vms_line.specs.declared.causes.LineCause.{LineCause}
+use Rattle.vms_line.specs.declared.causes.LineCause.TheVariants.{NotOnline, NotDead, NotFolded, LastCpu}
+use Rattle.vms_line.specs.Laws.{IsLineOf}
 use Rattle.vms_script.specs.declared.cpus.CpuStates.{CpuStates}
 use Rattle.vms_script.specs.declared.judges.LineJudge.{LineJudge}
 use Rattle.vms_script.specs.Cpus.{cpu_state, state_past, online_below, online_count}

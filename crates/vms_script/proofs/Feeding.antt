@@ -17,7 +17,7 @@ use Rattle.vms_script.specs.Totals.{ArePhases}
 use Rattle.vms_script.specs.Volumes.{spent_on_counter, volume}
 use Rattle.vms_script.proofs.PhaseLines.{lines_of_phases-open, volume-item}
 use Rattle.vms_script.proofs.Phases.{ArePhases-front, ArePhases-item, ArePhases-phase}
-use Rattle.vms_trace.specs.Laws.{IsLineOf}
+use Rattle.vms_line.specs.Laws.{IsLineOf}
 
 -- numbers that rise, with one more above them all
 IsStrictlyIncreasing-onto : (xs : List ℕ) (y : ℕ) → IsStrictlyIncreasing xs → All (λ x. x < y) xs

@@ -16,9 +16,9 @@ use Rattle.vms_text.specs.declared.acts.Act.TheVariants.{Mod, Inc, Dec, Ev}
 use Rattle.vms_text.specs.declared.acts.Lane.TheVariants.{Cpu, Control}
 use Rattle.vms_text.specs.declared.acts.Line.{Line}
 use Rattle.vms_text.specs.declared.acts.Line.TheVariants.{Blank, Lane, Boundary}
-use Rattle.vms_trace.specs.declared.causes.LineCause.{LineCause}
-use Rattle.vms_trace.specs.declared.causes.LineCause.TheVariants.{NotOnline, Overflow}
-use Rattle.vms_trace.specs.Reading.{and_then}
+use Rattle.vms_line.specs.declared.causes.LineCause.{LineCause}
+use Rattle.vms_line.specs.declared.causes.LineCause.TheVariants.{NotOnline, Overflow}
+use Rattle.vms_text.specs.Reading.{and_then}
 
 -- a size within the most on what it is spent
 spent-within : (v : ℕ → ℕ → ℕ) (d j size : ℕ) → nat_lt most_volume (v d j + size) ≡ false → (c k : ℕ)

@@ -11,7 +11,7 @@ use Rattle.vms_script.proofs.Elements.{All-front, All-last}
 use Rattle.vms_script.proofs.PhaseLines.{lines_of_phases-append, lines_of_phases-open, volume-append, volume-item}
 use Rattle.vms_text.specs.declared.acts.Item.{Item}
 use Rattle.vms_text.specs.declared.acts.Line.{Line}
-use Rattle.vms_trace.specs.Laws.{IsLineOf}
+use Rattle.vms_line.specs.Laws.{IsLineOf}
 
 module _ (header : Header) where
   -- the items of a phase each keep a line of the body

@@ -11,7 +11,7 @@ use Rattle.vms_text.specs.declared.acts.Lane.{Lane as LaneOf}
 use Rattle.vms_text.specs.declared.acts.Lane.TheVariants.{Cpu, Control}
 use Rattle.vms_text.specs.declared.acts.Line.{Line}
 use Rattle.vms_text.specs.declared.acts.Line.TheVariants.{Blank, Lane, Boundary}
-use Rattle.vms_trace.specs.Laws.{IsActOf, IsLineOf}
+use Rattle.vms_line.specs.Laws.{IsActOf, IsLineOf}
 use Rattle.vms_script.specs.Totals.{ArePhases, line_of, lines_of_phases, sizes_by, sizes_by_all}
 use Rattle.vms_script.specs.Volumes.{by_cpu, spent_on_counter, volume}
 use Rattle.vms_base.specs.Volumes.{most_volume}

@@ -14,9 +14,9 @@ use Rattle.vms_text.specs.declared.acts.Act.TheVariants.{Mod, Inc, Dec, Ev, Cnt,
 use Rattle.vms_text.specs.declared.acts.Lane.TheVariants.{Cpu}
 use Rattle.vms_text.specs.declared.acts.Line.{Line}
 use Rattle.vms_text.specs.declared.acts.Line.TheVariants.{Lane}
-use Rattle.vms_trace.specs.declared.causes.LineCause.{LineCause}
-use Rattle.vms_trace.specs.declared.causes.LineCause.TheVariants.{NotOnline, Overflow}
-use Rattle.vms_trace.specs.Laws.{IsActOf}
+use Rattle.vms_line.specs.declared.causes.LineCause.{LineCause}
+use Rattle.vms_line.specs.declared.causes.LineCause.TheVariants.{NotOnline, Overflow}
+use Rattle.vms_line.specs.Laws.{IsActOf}
 use Rattle.vms_script.specs.declared.judges.LineJudge.{LineJudge}
 use Rattle.vms_script.specs.declared.volumes.VolumeTable.{VolumeTable}
 use Rattle.vms_script.specs.Cpus.{cpu_state, state_past}

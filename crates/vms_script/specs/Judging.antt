@@ -11,10 +11,10 @@ use Rattle.vms_text.specs.declared.acts.Boundary.TheVariants.{Offline, Online}
 use Rattle.vms_text.specs.declared.acts.Lane.TheVariants.{Cpu, Control}
 use Rattle.vms_text.specs.declared.acts.Line.{Line}
 use Rattle.vms_text.specs.declared.acts.Line.TheVariants.{Blank, Lane, Boundary}
-use Rattle.vms_trace.specs.declared.causes.LineCause.{LineCause}
-use Rattle.vms_trace.specs.declared.causes.LineCause.TheVariants.{NotOnline, Overflow, NotDead, NotFolded, LastCpu}
-use Rattle.vms_trace.specs.Body.{read_line}
-use Rattle.vms_trace.specs.Reading.{and_then}
+use Rattle.vms_line.specs.declared.causes.LineCause.{LineCause}
+use Rattle.vms_line.specs.declared.causes.LineCause.TheVariants.{NotOnline, Overflow, NotDead, NotFolded, LastCpu}
+use Rattle.vms_line.specs.Body.{read_line}
+use Rattle.vms_text.specs.Reading.{and_then}
 use Rattle.vms_script.specs.Cpus.{cpu_state, online_below}
 use Rattle.vms_base.specs.Cpus.{is_online}
 use Rattle.vms_script.specs.Volumes.{overflows}

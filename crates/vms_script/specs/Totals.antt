@@ -8,7 +8,7 @@ use Rattle.vms_text.specs.declared.acts.Act.TheVariants.{Mod, Inc, Dec}
 use Rattle.vms_text.specs.declared.acts.Item.{Item}
 use Rattle.vms_text.specs.declared.acts.Line.{Line}
 use Rattle.vms_text.specs.declared.acts.Line.TheVariants.{Lane}
-use Rattle.vms_trace.specs.Laws.{IsLineOf}
+use Rattle.vms_line.specs.Laws.{IsLineOf}
 use Rattle.vms_script.specs.Volumes.{spent_on_counter, volume}
 use Rattle.vms_base.specs.Volumes.{most_volume}
 

@@ -2,7 +2,7 @@ use crate::cpus::CpuStates;
 use crate::volumes::VolumeTable;
 use std::alloc::Global;
 use vms_base::{CpuId, CpuState, Header, Memory};
-use vms_trace::{Act, Boundary, Lane, Line, LineCause, parse_line};
+use vms_line::{Act, Boundary, Lane, Line, LineCause, parse_line};
 
 /// Decides the lines of a body by the lines above them. It keeps the CPUs' states and volumes, and no line.
 #[derive(Drop)]

@@ -1,7 +1,7 @@
 use crate::LineJudge;
 use std::alloc::{AllocError, Global};
 use vms_base::{Header, Memory};
-use vms_trace::{Boundary, Item, Line, LineCause};
+use vms_line::{Boundary, Item, Line, LineCause};
 
 /// What a line that was fed came to.
 #[derive(Clone, Copy, Debug, PartialEq, Eq)]

@@ -5,7 +5,7 @@ ghost use Rattle.vms_script.specs.Totals.{ArePhases, ArePlainTotals, HasTotal, c
 use crate::PhaseScript;
 use std::alloc::Global;
 use vms_base::{CounterId, Header, Memory, Row};
-use vms_trace::{Act, Item};
+use vms_line::{Act, Item};
 
 /// What the counters come to, in pages, by counter.
 pub type PageTotals = Row<i64>;

@@ -1,11 +1,11 @@
 ghost use Rattle.std.specs.Prelude.{◌≡◌, ◌+◌, ◌*◌, ◌<◌, ◌^◌, nat_lt, if◌then◌else◌, length, replicate, IfOk, Ok, Err};
-ghost use Rattle.vms_trace.specs.declared.causes.LineCause.TheVariants.{Overflow};
+ghost use Rattle.vms_line.specs.declared.causes.LineCause.TheVariants.{Overflow};
 ghost use Rattle.vms_script.specs.Standing.{HasCell, volume_at, with_volume};
 ghost use Rattle.vms_base.specs.Volumes.{most_volume};
 
 use std::alloc::Global;
 use vms_base::{CpuId, Memory, Row};
-use vms_trace::LineCause;
+use vms_line::LineCause;
 
 /// What one CPU may change one counter, event or percpu counter by over a run, in absolute sum.
 const MOST_VOLUME: u64 = 1 << 48;

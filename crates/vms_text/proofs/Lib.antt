@@ -5,3 +5,16 @@ pub mod Cuts
 pub mod TextLaws
 pub mod Words
 pub mod Scans
+pub mod Appends
+pub mod ItemsBehind
+pub mod Entries
+pub mod Sentences
+pub mod NameLookups
+pub mod SpelledNumbers
+pub mod Apart
+pub mod ItemNames
+pub mod PlacesRead
+pub mod Pieces
+pub mod Positions
+pub mod Nodes
+pub mod CounterWords

@@ -1,5 +1,5 @@
 -- For other crates too: a number's one spelling.
-use Rattle.std.proofs.Common.{ℕ, suc, zero, ◌≡◌, ◌<◌, ◌≤◌, ◌^◌, ◌-◌, ◌==◌, ◌&&◌, true, false, cond, List, [], ◌∷◌, Option, Some, None, refl, subst, sym, ◌∙◌, ap, arith, rules, length, get_or, nat_le, ℤ, pos, negsuc, option_map, w64, ◌↔◌}
+use Rattle.std.proofs.Common.{ℕ, suc, zero, ◌≡◌, ◌<◌, ◌≤◌, ◌^◌, ◌-◌, ◌==◌, true, false, cond, List, [], ◌∷◌, Option, Some, None, refl, subst, sym, ◌∙◌, ap, arith, rules, length, get_or, nat_le, ℤ, pos, negsuc, option_map, w64, ◌↔◌}
 use Rattle.std.proofs.lemmas.Bool.Decides.{nat_tests}
 use Rattle.std.proofs.lemmas.Fmt.{decimal-digits_value, decimal_digit, decimal_nonempty, digits_decimal, digits_value-decimal, first_decimal}
 use Rattle.std.proofs.lemmas.Int.{ints}

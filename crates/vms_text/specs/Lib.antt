@@ -1,3 +1,7 @@
 pub mod Lines
 pub mod Words
 pub mod Numbers
+pub mod Reading
+pub mod PlaceNames
+pub mod Spelling
+pub mod Writing

@@ -1,11 +1,12 @@
 ghost use Rattle.std.specs.Prelude.{IfOk};
 ghost use Rattle.vms_base.specs.Headers.{IsHeader};
-ghost use Rattle.vms_trace.specs.Laws.{IsWritable};
+ghost use Rattle.vms_header.specs.Laws.{IsWritable};
 
 use std::process::Abort;
 use std::test::Fail;
 use vms_base::Header;
-use vms_trace::{lines_are_known, parse_header, parse_line, write_header, write_line};
+use vms_header::{parse_header, write_header};
+use vms_line::{lines_are_known, parse_line, write_line};
 
 /// A header with blanks of every kind and ignored lines, and its one spelling.
 struct Spelling<'a> {

@@ -5,7 +5,7 @@ use super::headers::header;
 use crate::LineJudge;
 use std::test::Fail;
 use vms_base::Header;
-use vms_trace::LineCause;
+use vms_line::LineCause;
 
 /// The cause why a line doesn't count behind those that the judge was asked of before.
 fn fault(judge: &mut LineJudge, header: &Header, line: &str) -> Option<LineCause>

@@ -6,7 +6,7 @@ use super::headers::header;
 use crate::{Fed, FeedError, Scripter};
 use std::test::Fail;
 use vms_base::{CpuId, Header};
-use vms_trace::{Boundary, LineCause};
+use vms_line::{Boundary, LineCause};
 
 /// Feeds a line whose number is above those of the lines that the scripter holds.
 fn feed(scripter: &mut Scripter, header: &Header, number: u32, line: &str) -> Result<Fed, FeedError>

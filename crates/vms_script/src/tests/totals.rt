@@ -10,7 +10,7 @@ use crate::{PhaseScript, plain_totals};
 use std::alloc::Global;
 use std::test::Fail;
 use vms_base::{CounterId, CpuId};
-use vms_trace::{Act, Item, Lane};
+use vms_line::{Act, Item, Lane};
 
 /// The first CPU changes the first counter by so many pages.
 fn change(number: u32, pages: i64) -> Item

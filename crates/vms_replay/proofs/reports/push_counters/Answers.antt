@@ -1,7 +1,7 @@
 use Rattle.std.proofs.Common.{ℕ, ◌≡◌, ◌+◌, ◌++◌, suc, ap, ◌∙◌, ℤ, arith, pos, rules, SFits, to_z-of_z, w64}
 use Rattle.std.specs.Prelude.{slice_index_or}
 use Rattle.vms_replay.specs.Reports.{total_line, total_lines}
-use Rattle.vms_trace.proofs.Appends.{append_twice}
+use Rattle.vms_text.proofs.Appends.{append_twice}
 use Rattle.vms_replay.proofs.reports.push_counters.Goals as goal
 
 pub loop-counter-preserved : goal.loop-counter-preserved

@@ -3,7 +3,7 @@ use Rattle.vms_replay.proofs.Passing.{Goes-refused}
 use Rattle.vms_replay.proofs.Totals.{then_ok}
 use Rattle.vms_replay.specs.Standing.{Goes}
 use Rattle.vms_text.specs.declared.acts.Line.{Line}
-use Rattle.vms_trace.specs.declared.causes.LineCause.{LineCause}
+use Rattle.vms_line.specs.declared.causes.LineCause.{LineCause}
 use Rattle.vms_replay.proofs.bodies.Replay.go_past.Goals as goal
 
 pub returns-in-Err : goal.returns-in-Err

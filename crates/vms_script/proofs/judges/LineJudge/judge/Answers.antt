@@ -1,11 +1,11 @@
 use Rattle.std.proofs.Common.{◌≡◌, sym, ap, ◌∙◌, Ok, Result}
 use Rattle.std.proofs.lemmas.Result.{IfOk-at_ok, err_from_is_err_and}
 use Rattle.vms_text.specs.declared.acts.Line.{Line}
-use Rattle.vms_trace.specs.declared.causes.LineCause.{LineCause}
-use Rattle.vms_trace.specs.Body.{read_line}
-use Rattle.vms_trace.specs.Laws.{IsLineOf}
-use Rattle.vms_trace.specs.Reading.{and_then}
-use Rattle.vms_trace.proofs.LinesKnown.{read_line-known}
+use Rattle.vms_line.specs.declared.causes.LineCause.{LineCause}
+use Rattle.vms_line.specs.Body.{read_line}
+use Rattle.vms_line.specs.Laws.{IsLineOf}
+use Rattle.vms_text.specs.Reading.{and_then}
+use Rattle.vms_line.proofs.LinesKnown.{read_line-known}
 use Rattle.vms_script.specs.Judging.{allowed}
 use Rattle.vms_script.proofs.judges.LineJudge.judge.Goals as goal
 

@@ -3,7 +3,7 @@ use Rattle.vms_text.specs.declared.acts.Act.{Act}
 use Rattle.vms_text.specs.declared.acts.Act.TheVariants.{Mod, Inc, Dec, Ev, Cnt, Lim}
 use Rattle.vms_text.specs.declared.acts.Lane.TheVariants.{Cpu}
 use Rattle.vms_text.specs.declared.acts.Line.TheVariants.{Lane}
-use Rattle.vms_trace.specs.Laws.{IsActOf}
+use Rattle.vms_line.specs.Laws.{IsActOf}
 use Rattle.vms_script.specs.Standing.{Decides}
 use Rattle.vms_script.specs.Volumes.{spent_on_counter, spent_on_pcpu, volume}
 use Rattle.vms_base.specs.Volumes.{most_volume}

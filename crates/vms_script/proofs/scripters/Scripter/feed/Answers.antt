@@ -1,7 +1,7 @@
 use Rattle.std.proofs.Common.{◌≡◌, ◌<◌, List, length, sym, ap, subst, ◌∙◌, arith, All, Ok, Err}
 use Rattle.vms_base.specs.declared.headers.Header.{Header}
 use Rattle.vms_text.specs.declared.acts.Item.{Item}
-use Rattle.vms_trace.specs.Laws.{IsLineOf}
+use Rattle.vms_line.specs.Laws.{IsLineOf}
 use Rattle.vms_script.specs.Judging.{counted, judged}
 use Rattle.vms_script.specs.Standing.{Stands}
 use Rattle.vms_script.proofs.Feeding.{Holds-past}

@@ -1,0 +1,117 @@
+-- What the lines of a header have said so far, and the header that they make.
+use Rattle.std.specs.Prelude.{ℕ, nat_lt, nat_eq, Bool, not, if◌then◌else◌, ℤ, pos, List, [], ◌∷◌, map, filter, replicate, slice_set, sum_by, Option, Some, None}
+use Rattle.vms_base.specs.declared.headers.Decl.{Decl}
+use Rattle.vms_base.specs.declared.headers.Header.{Header}
+use Rattle.vms_base.specs.declared.headers.ItemDecl.{ItemDecl}
+use Rattle.vms_base.specs.declared.kinds.ZoneName.{ZoneName}
+use Rattle.vms_base.specs.declared.kinds.ZoneSize.{ZoneSize}
+pub use Rattle.vms_header.specs.declared.said.Base.{Base}
+pub use Rattle.vms_header.specs.declared.said.Share.{Share}
+pub use Rattle.vms_header.specs.declared.said.Zone.{Zone}
+use Rattle.vms_base.specs.Places.{Shape, rank_of, counter_count}
+use Rattle.vms_base.specs.Watermarks.{zone_marks_of}
+
+-- the kinds of lines behind `cpus`, in the order in which they stand
+pub data Part : Type 0 where
+  AtCpus : Part
+  AtWatermarks : Part
+  AtItems : Part
+  AtZones : Part
+  AtBases : Part
+  AtCounters : Part
+
+-- the parts in their order
+abbrev pub part_index : Part → ℕ
+part_index AtCpus = 0
+part_index AtWatermarks = 1
+part_index AtItems = 2
+part_index AtZones = 3
+part_index AtBases = 4
+part_index AtCounters = 5
+
+-- what the lines up to some line behind `cpus` have said: the version, whether it is the wide one, the part of the last
+-- line, the zones by node and kind (with a `watermarks` line their marks are 0 here), the bases, the newest first, and the
+-- declared percpu counters and items in the order of their lines
+pub record Draft : Type 0 where
+  pub wide : Bool
+  pub cpus : ℕ
+  pub part : Part
+  pub share : Option Share
+  pub items : List ItemDecl
+  pub zones : List Zone
+  pub bases : List Base
+  pub counters : List Decl
+
+-- behind the line `cpus`
+abbrev pub first_draft : Bool → ℕ → Draft
+first_draft wide cpus = record {
+  wide = wide;
+  cpus = cpus;
+  part = AtCpus;
+  share = None;
+  items = [];
+  zones = [];
+  bases = [];
+  counters = [];
+}
+
+-- the most CPUs, and the items of a place, of a version
+abbrev pub most_cpus : Bool → ℕ
+most_cpus wide = if wide then 128 else 64
+
+abbrev pub positions_of : Bool → ℕ
+positions_of wide = if wide then 16 else 8
+
+-- the zones with one more, by node and then by kind
+abbrev pub with_zone : Zone → List Zone → List Zone
+with_zone zone [] = zone ∷ []
+with_zone zone (other ∷ zones) =
+    if nat_lt (rank_of zone.name) (rank_of other.name) then zone ∷ other ∷ zones else (other ∷ with_zone zone zones)
+
+-- the numbers of the zones' nodes, each once, in the order of the zones
+abbrev pub nodes_of : List ZoneName → List ℕ
+nodes_of [] = []
+nodes_of (zone ∷ zones) = zone.node ∷ filter (λ node. not (nat_eq node zone.node)) (nodes_of zones)
+
+-- the names of the zones, in the order of places
+abbrev pub names_of : List Zone → List ZoneName
+names_of zones = map (λ zone. zone.name) zones
+
+-- the layout of what was said so far
+abbrev pub shape_of : Draft → Shape
+shape_of draft = record {
+  zones = names_of draft.zones;
+  nodes = nodes_of (names_of draft.zones);
+  cpus = draft.cpus;
+  positions = positions_of draft.wide;
+}
+
+-- all managed pages
+abbrev pub managed_pages : List Zone → ℕ
+managed_pages zones = sum_by (λ zone. zone.size.managed) zones
+
+-- a zone's size, of so many pages in all zones: as its line says it, or with the marks of a `watermarks` line
+abbrev pub size_under : Option Share → ZoneSize → ℕ → ZoneSize
+size_under None size total = size
+size_under (Some share) size total = zone_marks_of share.kbytes share.scale size.managed total
+
+-- the sizes of the zones: as their lines say them, or with the marks of a `watermarks` line
+abbrev pub sizes_under : Option Share → List Zone → List ZoneSize
+sizes_under None zones = map (λ zone. zone.size) zones
+sizes_under (Some share) zones =
+    map (λ zone. zone_marks_of share.kbytes share.scale zone.size.managed (managed_pages zones)) zones
+
+-- so many base values, 0 where no line says one
+abbrev pub bases_of : ℕ → List Base → List ℤ
+bases_of count [] = replicate count (pos 0)
+bases_of count (base ∷ bases) = slice_set (bases_of count bases) base.counter base.value
+
+-- the header of all that was said
+abbrev pub header_of : Draft → Header
+header_of draft = record {
+  layout = shape_of draft;
+  sizes = sizes_under draft.share draft.zones;
+  bases = bases_of (counter_count (shape_of draft)) draft.bases;
+  counters = draft.counters;
+  items = draft.items;
+}

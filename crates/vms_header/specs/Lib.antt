@@ -1,0 +1,9 @@
+pub mod Drafts
+pub mod HeadRows
+pub mod HeadWords
+pub mod Head
+pub mod DraftFacts
+pub mod Readers
+pub mod Spelling
+pub mod Laws
+pub mod HeaderSteps

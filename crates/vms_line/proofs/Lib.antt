@@ -1,0 +1,9 @@
+pub mod PlaceFields
+pub mod FieldsRead
+pub mod RowsRead
+pub mod LinesRead
+pub mod Known
+pub mod RowWords
+pub mod LineWords
+pub mod FieldsKnown
+pub mod LinesKnown

@@ -1,0 +1,5 @@
+pub mod Fields
+pub mod Rows
+pub mod Body
+pub mod Spelling
+pub mod Laws

@@ -1,0 +1,77 @@
+ghost use Rattle.std.specs.Prelude.{◌≡◌, ◌∷◌, ◌++◌, [], map, take, not};
+ghost use Rattle.std.specs.List.{filter, list_all};
+ghost use Rattle.vms_text.specs.Words.{is_blank_byte, is_empty, is_wrong_byte, words_of};
+ghost use Rattle.vms_text.specs.Reading.{is_clean, is_ignored};
+
+use crate::scanning::next_word;
+use arrayvec::ArrayVec;
+
+/// The first eight words of a line.
+pub fn cut_words(line: &[u8]) -> ArrayVec<&[u8], 8>
+    ensures { map (λ word. word.now) result.items ≡ take 8 (words_of line.now) }
+{
+    cut_line(line).0
+}
+
+/// The first eight words of a line, and whether each of its bytes is a blank or one of a word.
+#[inline]
+pub fn cut_line(line: &[u8]) -> (ArrayVec<&[u8], 8>, bool)
+    ensures words { map (λ word. word.now) result.0.items ≡ take 8 (words_of line.now) }
+    ensures clean { result.1 ≡ is_clean line.now }
+{
+    let mut words = ArrayVec::new();
+    let mut clean = true;
+    let mut begin = 0;
+    for (at, byte) in line.iter().enumerate() {
+        if !byte.is_ascii_graphic() {
+            add_word(&mut words, &line[begin..at]);
+            clean &= is_blank(*byte);
+            begin = at + 1;
+        }
+    }
+    add_word(&mut words, &line[begin..]);
+    (words, clean)
+}
+
+/// Adds a word, unless it is empty or eight are there.
+#[inline]
+fn add_word<'a>(words: &mut ArrayVec<&'a [u8], 8>, word: &'a [u8])
+    ensures { map (λ word. word.now) words.new.items
+        ≡ take 8 (map (λ word. word.now) words.old.items ++ filter (λ word. not (is_empty word)) (word.now ∷ [])) }
+{
+    if !words.is_full() && !word.is_empty() {
+        words.push(word);
+    }
+}
+
+/// Whether a line holds nothing but blanks, or its first word begins with `#`.
+pub fn is_ignored(line: &[u8]) -> bool
+    ensures { result ≡ is_ignored line.now }
+{
+    match next_word(line, 0) {
+        Some((begin, _)) => line[begin] == b'#',
+        None => are_blanks(line),
+    }
+}
+
+fn are_blanks(bytes: &[u8]) -> bool
+    ensures { result ≡ list_all is_blank_byte bytes.now }
+{
+    bytes.iter().all(|byte| is_blank(*byte))
+}
+
+/// Whether each byte of a line is a blank or one of a word.
+pub fn is_clean(line: &[u8]) -> bool
+    ensures { result ≡ is_clean line.now }
+{
+    line.iter()
+        .all(|byte| is_blank(*byte) || byte.is_ascii_graphic())
+}
+
+/// Whether a byte is a space, a tab or byte 13.
+#[inline]
+fn is_blank(byte: u8) -> bool
+    ensures { result ≡ is_blank_byte byte }
+{
+    matches!(byte, b' ' | b'\t' | b'\r')
+}

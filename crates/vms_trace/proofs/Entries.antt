@@ -1,8 +1,0 @@
--- A list's entry as a list of one.
-use Rattle.std.proofs.Common.{ℕ, ◌≡◌, ◌<◌, List, [], ◌∷◌, ap, length, get_or}
-use Rattle.std.proofs.lemmas.Option.{slice_get-get_or}
-use Rattle.std.specs.Prelude.{option_to_list}
-use Rattle.vms_trace.specs.Spelling.{entry}
-
-pub entry-within : {A : Type 0} (names : List A) (n : ℕ) (d : A) → n < length names → entry names n ≡ get_or names n d ∷ []
-entry-within names n d within = ap option_to_list (slice_get-get_or names n d within)

@@ -1,6 +1,0 @@
-use Rattle.std.proofs.Common.{map}
-use Rattle.vms_trace.proofs.Pieces.{IsCut}
-use Rattle.vms_trace.proofs.cutting.cut_line.Given as goal
-
-abbrev pub invariant-loop-at : goal.invariant-loop-at
-invariant-loop-at l = IsCut l.line (map (λ word. word.now) l.words.items) l.clean l.begin l.at

@@ -1,7 +1,0 @@
-use Rattle.std.proofs.lemmas.Result.{IfOk-at_ok}
-use Rattle.vms_trace.specs.Laws.{IsLineOf}
-use Rattle.vms_trace.proofs.LinesKnown.{read_line-known}
-use Rattle.vms_trace.proofs.parsing.lines_are_known.Goals as goal
-
-pub returns : goal.returns
-returns c = λ header text line is read. IfOk-at_ok (IsLineOf header) read (read_line-known header is text)
