@@ -121,11 +121,11 @@ module _ (header : Header) (is : IsHeader header) where
         node = decimal spells.node;
         kind = spells.kind;
         item = get_or names n [];
-        words_are = counter_words-at counter spells known.1;
+        words_are = counter_words-at header is counter spells known.1;
         node_short = decimal-short spells.node (omega arith);
         kind_short = spells.short;
-        item_short = item_word-short node n known.1;
-        read = rw (place_field-spelled header is.is_layout place spells, item_word-found node n known.1, counter_at-whole header.layout is.is_layout counter) refl;
+        item_short = item_word-short header is node n known.1;
+        read = rw (place_field-spelled header is.is_layout place spells, item_word-found header is node n known.1, counter_at-whole header.layout is.is_layout counter) refl;
       }
 
   -- system-wide values
@@ -134,8 +134,8 @@ module _ (header : Header) (is : IsHeader header) where
   zone_value item test within = record {
     word = get_or (class_names false header.items) item [];
     words_are = entry-within (class_names false header.items) item [] within;
-    short = item_word-short false item within;
-    read = rw (item_word-found false item within) refl;
+    short = item_word-short header is false item within;
+    read = rw (item_word-found header is false item within) refl;
   }
 
   node_value-spelled : (item : ℕ) → nat_lt item header.layout.positions ≡ false → item - header.layout.positions < length (class_names true header.items)
@@ -152,8 +152,8 @@ module _ (header : Header) (is : IsHeader header) where
       record {
         word = word;
         words_are = entry-within names n [] within;
-        short = item_word-short true n within;
-        read = rw (nowhere, item_word-found true n within, whole) refl;
+        short = item_word-short header is true n within;
+        read = rw (nowhere, item_word-found header is true n within, whole) refl;
       }
 
   pub value-spelled : (item : ℕ) → IsKnownValue header item → SpellsOne ItemId (system_field header) (system_word header item) (record { number = item })

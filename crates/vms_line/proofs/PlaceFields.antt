@@ -23,7 +23,7 @@ module _ (header : Header) (layout : IsLayout header.layout) where
       → zone_field header (decimal (get_or header.layout.zones place d).node) (kind_word (get_or header.layout.zones place d).kind) ≡ Ok (record { number = place })
   zone_field-spelled place d within =
       let most = zone_node-most header.layout layout place d within in
-      rw (unsigned_of-decimal (get_or header.layout.zones place d).node (omega (arith, most)), zone_named-own place d within) refl
+      rw (unsigned_of-decimal (get_or header.layout.zones place d).node (omega (arith, most)), zone_named-own header layout place d within) refl
 
   pub node_number-own : (place : ℕ) → IsNode header.layout place → node_number header place ≡ decimal (get_or header.layout.nodes (place - length header.layout.zones) 0) ∷ []
   node_number-own place is = ap (λ node. map decimal (option_to_list node)) (node_at-own header.layout layout place is)
