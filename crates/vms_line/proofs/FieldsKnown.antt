@@ -20,7 +20,7 @@ use Rattle.vms_line.specs.Laws.{IsDeclared, IsKnownValue}
 use Rattle.vms_text.specs.PlaceNames.{IsKnown}
 use Rattle.vms_text.specs.PlaceNames.{is_in_bytes, is_node_place, item_named, kind_named, place_named, zone_named}
 use Rattle.vms_text.specs.Reading.{and_then}
-use Rattle.vms_line.specs.Rows.{has_zone_up_to, index_under}
+use Rattle.vms_line.specs.Forms.{has_zone_up_to, index_under}
 use Rattle.vms_line.specs.Spelling.{spelled_amount}
 use Rattle.vms_line.proofs.Known.{amount_field-fits, number_up_to-le, pages-bytes, pages-fit}
 use Rattle.vms_text.proofs.Positions.{position-lt}

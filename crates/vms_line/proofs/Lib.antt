@@ -1,9 +1,10 @@
 pub mod PlaceFields
 pub mod FieldsRead
-pub mod RowsRead
+pub mod FormsRead
 pub mod LinesRead
 pub mod Known
-pub mod RowWords
+pub mod FieldCounts
 pub mod LineWords
 pub mod FieldsKnown
 pub mod LinesKnown
+pub mod FieldsSame

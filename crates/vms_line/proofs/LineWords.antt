@@ -13,6 +13,11 @@ use Rattle.vms_text.proofs.Values.{and_left, and_right}
 use Rattle.vms_text.proofs.Words.{words_of-other}
 use Rattle.vms_line.specs.declared.causes.LineCause.TheVariants.{LineTooLong, Malformed, UnknownLane}
 use Rattle.vms_text.specs.declared.acts.Line.TheVariants.{Blank}
+use Rattle.std.proofs.Common.{Option, bytes_eq, codes}
+use Rattle.vms_text.specs.declared.acts.Lane.TheVariants.{Control}
+use Rattle.vms_line.specs.declared.forms.Verb.{Verb}
+use Rattle.vms_line.specs.Body.{is_cpu_word, lane_number, of_cpu, of_lane}
+use Rattle.vms_line.specs.Forms.{Amount, Change, Count, Counter, Event, Fields, Limited, Marked, Name, Node, Number, OneCpu, Paged, Turn, Value, form, is_lane_of, read_fields, read_verb, verb_named}
 use Rattle.vms_line.specs.Body.{boundary_line, read_line, read_words}
 use Rattle.vms_line.specs.Fields.{known_cpu}
 use Rattle.vms_text.specs.Reading.{is_clean, is_comment, is_ignored}
@@ -39,6 +44,31 @@ known_cpu-large header digits small numeral none =
         let both = sym some ∙ none in absurd cc
     too_large false is = grind (arith, nat_tests)
 
+-- no form has more than four fields
+read_fields-long : (header : Header) (fields : Fields) (a b c d e f : List ℕ) (more : List (List ℕ))
+    → read_fields header fields (a ∷ b ∷ c ∷ d ∷ e ∷ f ∷ more) ≡ Err Malformed
+read_fields-long header (Change act) a b c d e f more = refl
+read_fields-long header (Paged act) a b c d e f more = refl
+read_fields-long header (Counter act) a b c d e f more = refl
+read_fields-long header (Event act) a b c d e f more = refl
+read_fields-long header (Count act) a b c d e f more = refl
+read_fields-long header (Name act) a b c d e f more = refl
+read_fields-long header (Amount act) a b c d e f more = refl
+read_fields-long header (Number act) a b c d e f more = refl
+read_fields-long header (Limited act) a b c d e f more = refl
+read_fields-long header (OneCpu act) a b c d e f more = refl
+read_fields-long header (Node act) a b c d e f more = refl
+read_fields-long header (Value act) a b c d e f more = refl
+read_fields-long header (Marked act) a b c d e f more = refl
+read_fields-long header (Turn act) a b c d e f more = refl
+
+read_verb-long : (header : Header) (control : Bool) (verb : Option Verb) (a b c d e f : List ℕ) (more : List (List ℕ))
+    → read_verb header control (a ∷ b ∷ c ∷ d ∷ e ∷ f ∷ []) verb ≡ read_verb header control (a ∷ b ∷ c ∷ d ∷ e ∷ f ∷ more) verb
+read_verb-long header control None a b c d e f more = refl
+read_verb-long header control (Some verb) a b c d e f more =
+    let both = read_fields-long header (form verb).fields a b c d e f [] ∙ sym (read_fields-long header (form verb).fields a b c d e f more) in
+    ap (λ act. cond (is_lane_of header control (form verb).lanes) act (Err Malformed)) both
+
 -- no line has more than eight words
 pub read_words-take : (header : Header) (words : List (List ℕ)) → read_words header (take 8 words) ≡ read_words header words
 read_words-take header [] = refl
@@ -49,7 +79,14 @@ read_words-take header (a ∷ b ∷ c ∷ d ∷ []) = refl
 read_words-take header (a ∷ b ∷ c ∷ d ∷ e ∷ []) = refl
 read_words-take header (a ∷ b ∷ c ∷ d ∷ e ∷ f ∷ []) = refl
 read_words-take header (a ∷ b ∷ c ∷ d ∷ e ∷ f ∷ g ∷ []) = refl
-read_words-take header (a ∷ b ∷ c ∷ d ∷ e ∷ f ∷ g ∷ h ∷ more) = refl
+read_words-take header (a ∷ b ∷ c ∷ d ∷ e ∷ f ∷ g ∷ h ∷ more) =
+    let fields = c ∷ d ∷ e ∷ f ∷ g ∷ h ∷ [] in
+    let control = read_verb-long header true (verb_named b) c d e f g h more in
+    let of_cpus = read_verb-long header false (verb_named b) c d e f g h more in
+    ap (λ act. cond (bytes_eq a (codes "k")) (of_lane Control act)
+    (cond (is_cpu_word a) (of_cpu header (lane_number a) (read_verb header false fields (verb_named b))) (Err Malformed))) control
+    ∙ ap (λ act. cond (bytes_eq a (codes "k")) (of_lane Control (read_verb header true (c ∷ d ∷ e ∷ f ∷ g ∷ h ∷ more) (verb_named b)))
+    (cond (is_cpu_word a) (of_cpu header (lane_number a) act) (Err Malformed))) of_cpus
 
 -- a line of words that isn't ignored
 pub read_line-words : (header : Header) (line : List ℕ) → length line ≤ 200 → is_ignored line ≡ false → is_clean line ≡ true → read_line header line ≡ read_words header (take 8 (words_of line))

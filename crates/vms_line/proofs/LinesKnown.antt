@@ -1,8 +1,13 @@
 -- For other crates too: every line that is read is one of its header.
-use Rattle.std.proofs.Common.{ℕ, ◌≡◌, ◌<◌, ◌≤◌, ◌^◌, ◌-◌, ◌==◌, false, cond, List, [], ◌∷◌, Option, Some, None, Result, Ok, Err, IfOk, bytes_eq, codes, length, nat_lt, sym, subst, arith, w64, unsigned_abs}
+use Rattle.std.proofs.Common.{ℕ, ◌≡◌, ◌<◌, ◌≤◌, ◌^◌, ◌-◌, ◌==◌, ◌&&◌, Bool, true, false, cond, not, List, [], ◌∷◌, Option, Some, None, Result, Ok, Err, IfOk, bytes_eq, codes, length, nat_lt, ok_or, sym, subst, arith, w64, unsigned_abs, ℤ}
 use Rattle.std.proofs.lemmas.Bool.Decides.{nat_tests}
 use Rattle.std.specs.Int.RustNames.{FitsSigned}
+use Rattle.std.specs.Prelude.{IfSome, IsTrue}
 use Rattle.vms_base.specs.declared.headers.Header.{Header}
+use Rattle.vms_base.specs.declared.ids.CounterId.{CounterId}
+use Rattle.vms_base.specs.declared.ids.EventId.{EventId}
+use Rattle.vms_base.specs.declared.ids.PcpuId.{PcpuId}
+use Rattle.vms_base.specs.declared.ids.PlaceId.{PlaceId}
 use Rattle.vms_base.specs.declared.kinds.WaterMark.{WaterMark}
 use Rattle.vms_base.specs.Headers.{IsHeader}
 use Rattle.vms_base.specs.Places.{IsCpu, IsNode, IsZone, node_at}
@@ -12,184 +17,198 @@ use Rattle.vms_text.specs.declared.acts.Lane.{Lane as LaneOf}
 use Rattle.vms_text.specs.declared.acts.Lane.TheVariants.{Cpu, Control}
 use Rattle.vms_text.specs.declared.acts.Line.TheVariants.{Blank, Lane, Boundary}
 use Rattle.vms_text.specs.declared.acts.ReportKind.TheVariants.{Vmstat, Zoneinfo, Totals, Counters}
+use Rattle.vms_text.specs.PlaceNames.{IsKnown, is_in_bytes}
+use Rattle.vms_text.specs.Reading.{is_clean, is_ignored}
 use Rattle.vms_text.specs.Words.{words_of}
 use Rattle.vms_line.specs.declared.causes.LineCause.{LineCause}
 use Rattle.vms_line.specs.declared.causes.LineCause.TheVariants.{LineTooLong, Malformed, UnknownLane}
+use Rattle.vms_line.specs.declared.forms.Verb.{Verb}
+use Rattle.vms_line.specs.declared.forms.Verb.TheVariants.{Mod, Inc, Dec, Ev, Cnt, Lim, Cmp, Sum, Rough, Csync, EvSum, Fold, Water, Val, Snap, Sys, Pressure, Normal, Dead, Kswapd}
 use Rattle.vms_line.specs.Body.{boundary_line, control_line, cpu_line, is_cpu_word, lane_number, of_cpu, of_lane, read_line, read_words, report_named}
 use Rattle.vms_line.specs.Fields.{amount_field, counter_field, cpu_field, event_field, in_pages, limit_field, mark_named, node_field, number_up_to, page_counter, pcpu_field, system_field, zone_field}
-use Rattle.vms_line.specs.Laws.{IsActOf, IsDeclared, IsKnownValue, IsLineOf}
-use Rattle.vms_text.specs.PlaceNames.{IsKnown}
-use Rattle.vms_text.specs.PlaceNames.{is_in_bytes}
-use Rattle.vms_text.specs.Reading.{is_clean, is_ignored}
-use Rattle.vms_line.specs.Rows.{cmp_row, cnt_row, control_row, cpu_row, csync_row, dead_row, dec_row, ev_row, evsum_row, fold_row, inc_row, index_under, kswapd_row, lim_row, mod_row, normal_row, ok_fields, ok_row, pcpu_row, pressure_row, rough_row, shared_row, snap_row, sum_row, sys_row, val_row}
+use Rattle.vms_line.specs.Forms.{amount_fields, change_fields, count_fields, counter_fields, event_fields, form, has_zone_up_to, index_under, is_lane_of, limited_fields, marked_fields, name_fields, node_fields, number_fields, one_cpu_fields, paged_fields, read_act, read_fields, read_verb, turn_fields, value_fields, verb_named}
+use Rattle.vms_line.specs.Laws.{IsActOf, IsDeclared, IsKnownValue, IsLineOf, IsOfControl, IsOfCpu}
 use Rattle.vms_line.specs.Spelling.{spelled_amount}
-use Rattle.vms_line.proofs.FieldsKnown.{amount_field-known, counter_field-known, cpu_field-known, event_field-known, if_cond, if_then, in_pages-known, index_under-known, limit_field-known, node_field-known, number_up_to-known, page_counter-known, pcpu_field-known, system_field-known, zone_field-known}
+use Rattle.vms_line.proofs.FieldsKnown.{amount_field-known, counter_field-known, cpu_field-known, event_field-known, if_any, if_cond, if_then, in_pages-known, index_under-known, limit_field-known, node_field-known, number_up_to-known, page_counter-known, pcpu_field-known, system_field-known, zone_field-known}
+use Rattle.vms_line.proofs.FormsRead.{is_control}
+
+of_cpus : (lane : LaneOf) → not (is_control lane) ≡ true → IsOfCpu lane
+of_cpus (Cpu cpu) is = tt
+of_cpus Control is = absurd cc
+
+of_control : (lane : LaneOf) → is_control lane ≡ true → IsOfControl lane
+of_control (Cpu cpu) is = absurd cc
+of_control Control is = tt
 
 module _ (header : Header) (is : IsHeader header) where
+  -- the fields of each form give what is in its ranges
+  abbrev IsChange : CounterId × ℤ → Type 0
+  IsChange found = IsKnown header found.0.number × FitsSigned w64 found.1 × FitsSigned w64 (spelled_amount header found.0.number found.1)
+
+  change : (words : List (List ℕ)) → IfOk (change_fields header words) IsChange
+  change (node ∷ kind ∷ item ∷ delta ∷ []) =
+      if_then (counter_field header node kind item) _ (λ one. IsKnown header one.number) IsChange (counter_field-known header node kind item is) (λ counter known.
+      if_then (amount_field delta) _ (FitsSigned w64) IsChange (amount_field-known delta) (λ amount fits.
+      if_then (in_pages header counter amount) _ (λ pages. FitsSigned w64 pages × FitsSigned w64 (spelled_amount header counter.number pages)) IsChange
+      (in_pages-known header counter amount fits) (λ pages both. (known, both.0, both.1))))
+  change _ = tt
+
+  abbrev IsPaged : CounterId → Type 0
+  IsPaged one = IsKnown header one.number × (is_in_bytes header one.number ≡ false)
+
+  paged : (words : List (List ℕ)) → IfOk (paged_fields header words) IsPaged
+  paged (node ∷ kind ∷ item ∷ []) =
+      if_then (counter_field header node kind item) _ (λ one. IsKnown header one.number) IsPaged (counter_field-known header node kind item is) (λ counter known.
+      page_counter-known header counter known)
+  paged _ = tt
+
+  counter : (words : List (List ℕ)) → IfOk (counter_fields header words) (λ one. IsKnown header one.number)
+  counter (node ∷ kind ∷ item ∷ []) = counter_field-known header node kind item is
+  counter _ = tt
+
+  event : (words : List (List ℕ)) → IfOk (event_fields words) (λ one. one.number < 8)
+  event (word ∷ []) = event_field-known word
+  event _ = tt
+
+  abbrev IsCount : EventId × ℕ → Type 0
+  IsCount found = (found.0.number < 8) × (found.1 < 2 ^ 63)
+
+  count : (words : List (List ℕ)) → IfOk (count_fields words) IsCount
+  count (word ∷ number ∷ []) =
+      if_then (event_field word) _ (λ one. one.number < 8) IsCount (event_field-known word) (λ one known.
+      if_then (number_up_to (2 ^ 63 - 1) number) _ (λ m. m ≤ 2 ^ 63 - 1) IsCount (number_up_to-known (2 ^ 63 - 1) number) (λ m small. (known, omega (arith, small))))
+  count _ = tt
+
+  name : (words : List (List ℕ)) → IfOk (name_fields header words) (λ one. IsDeclared header one.number)
+  name (word ∷ []) = pcpu_field-known header word
+  name _ = tt
+
+  abbrev IsAmount : PcpuId × ℤ → Type 0
+  IsAmount found = IsDeclared header found.0.number × FitsSigned w64 found.1
+
+  amount : (words : List (List ℕ)) → IfOk (amount_fields header words) IsAmount
+  amount (word ∷ number ∷ []) =
+      if_then (pcpu_field header word) _ (λ one. IsDeclared header one.number) IsAmount (pcpu_field-known header word) (λ one known.
+      if_then (amount_field number) _ (FitsSigned w64) IsAmount (amount_field-known number) (λ z fits. (known, fits)))
+  amount _ = tt
+
+  abbrev IsNumber : PcpuId × ℤ → Type 0
+  IsNumber found = IsDeclared header found.0.number × (unsigned_abs found.1 ≤ 2 ^ 60)
+
+  number : (words : List (List ℕ)) → IfOk (number_fields header words) IsNumber
+  number (word ∷ field ∷ []) =
+      if_then (pcpu_field header word) _ (λ one. IsDeclared header one.number) IsNumber (pcpu_field-known header word) (λ one known.
+      if_then (limit_field field) _ (λ z. unsigned_abs z ≤ 2 ^ 60) IsNumber (limit_field-known field) (λ z small. (known, small)))
+  number _ = tt
+
+  abbrev IsLimited : PcpuId × ℤ × ℤ → Type 0
+  IsLimited found = IsDeclared header found.0.number × (unsigned_abs found.1 ≤ 2 ^ 60) × FitsSigned w64 found.2
+
+  limited : (words : List (List ℕ)) → IfOk (limited_fields header words) IsLimited
+  limited (word ∷ limit ∷ field ∷ []) =
+      if_then (pcpu_field header word) _ (λ one. IsDeclared header one.number) IsLimited (pcpu_field-known header word) (λ one known.
+      if_then (limit_field limit) _ (λ z. unsigned_abs z ≤ 2 ^ 60) IsLimited (limit_field-known limit) (λ most small.
+      if_then (amount_field field) _ (FitsSigned w64) IsLimited (amount_field-known field) (λ z fits. (known, small, fits))))
+  limited _ = tt
+
+  one_cpu : (words : List (List ℕ)) → IfOk (one_cpu_fields header words) (λ one. IsCpu header.layout one.number)
+  one_cpu (word ∷ []) = cpu_field-known header word
+  one_cpu _ = tt
+
+  node : (words : List (List ℕ)) → IfOk (node_fields header words) (λ one. IsNode header.layout one.number)
+  node (word ∷ []) = node_field-known header word
+  node _ = tt
+
+  value : (words : List (List ℕ)) → IfOk (value_fields header words) (λ one. IsKnownValue header one.number)
+  value (word ∷ []) = system_field-known header word is
+  value _ = tt
+
+  abbrev IsMarked : PlaceId × WaterMark × ℕ → Type 0
+  IsMarked found = IsZone header.layout found.0.number × (found.2 ≤ 3)
+
+  marked : (words : List (List ℕ)) → IfOk (marked_fields header words) IsMarked
+  marked (node ∷ kind ∷ mark ∷ index ∷ []) =
+      if_any (ok_or (mark_named mark) Malformed) _ IsMarked (λ one.
+      if_then (zone_field header node kind) _ (λ one. IsZone header.layout one.number) IsMarked (zone_field-known header node kind) (λ zone known.
+      if_then (number_up_to 3 index) _ (λ n. n ≤ 3) IsMarked (number_up_to-known 3 index) (λ n small. (known, small))))
+  marked _ = tt
+
+  abbrev IsTurned : PlaceId × ℕ × ℕ → Type 0
+  IsTurned found = IsNode header.layout found.0.number × (found.1 ≤ 10) × (found.2 ≤ 3)
+      × IfSome (node_at header.layout found.0.number) (λ number. IsTrue (has_zone_up_to header number found.2))
+
+  turn : (words : List (List ℕ)) → IfOk (turn_fields header words) IsTurned
+  turn (node ∷ order ∷ index ∷ []) =
+      if_then (node_field header node) _ (λ one. IsNode header.layout one.number) IsTurned (node_field-known header node) (λ place known.
+      if_then (number_up_to 10 order) _ (λ n. n ≤ 10) IsTurned (number_up_to-known 10 order) (λ most small.
+      if_then (number_up_to 3 index) _ (λ n. n ≤ 3) IsTurned (number_up_to-known 3 index) (λ one below.
+      if_then (index_under header (node_at header.layout place.number) one) _ _ IsTurned (index_under-known header (node_at header.layout place.number) one) (λ found both.
+      (known, small, subst (λ n. n ≤ 3) (sym both.0) below, both.1)))))
+  turn _ = tt
+
+  wide_control : (lane : LaneOf) → (is_control lane && header.layout.positions == 16) ≡ true → IsOfControl lane × (header.layout.positions ≡ 16)
+  wide_control (Cpu cpu) is = absurd cc
+  wide_control Control is = (tt, grind (arith, nat_tests))
+
   module _ (lane : LaneOf) where
-    evsum : (words : List (List ℕ)) → IfOk (evsum_row header words) (IsActOf header lane)
-    evsum (event ∷ []) = if_then (event_field event) _ (λ one. one.number < 8) (IsActOf header lane) (event_field-known event) (λ one known. known)
-    evsum _ = tt
+    abbrev IsMine : Act → Type 0
+    IsMine act = IsActOf header lane act
 
-    fold : (words : List (List ℕ)) → IfOk (fold_row header words) (IsActOf header lane)
-    fold (cpu ∷ []) = if_then (cpu_field header cpu) _ (λ one. IsCpu header.layout one.number) (IsActOf header lane) (cpu_field-known header cpu) (λ one known. known)
-    fold _ = tt
+    -- a verb of the lane gives acts of the lane
+    verb-known : (verb : Verb) (words : List (List ℕ)) → is_lane_of header (is_control lane) (form verb).lanes ≡ true
+        → IfOk (read_fields header (form verb).fields words) IsMine
+    verb-known Mod words of = if_then (change_fields header words) _ IsChange IsMine (change words) (λ found known. (of_cpus lane of, known.0, known.1, known.2))
+    verb-known Inc words of = if_then (paged_fields header words) _ IsPaged IsMine (paged words) (λ found known. (of_cpus lane of, known.0, known.1))
+    verb-known Dec words of = if_then (paged_fields header words) _ IsPaged IsMine (paged words) (λ found known. (of_cpus lane of, known.0, known.1))
+    verb-known Ev words of = if_then (count_fields words) _ IsCount IsMine (count words) (λ found known. (of_cpus lane of, known.0, known.1))
+    verb-known Cnt words of = if_then (amount_fields header words) _ IsAmount IsMine (amount words) (λ found known. (of_cpus lane of, known.0, known.1))
+    verb-known Lim words of = if_then (limited_fields header words) _ IsLimited IsMine (limited words) (λ found known. (of_cpus lane of, known.0, known.1, known.2))
+    verb-known Cmp words of = if_then (number_fields header words) _ IsNumber IsMine (number words) (λ found known. (of_cpus lane of, known.0, known.1))
+    verb-known Sum words of = if_then (name_fields header words) _ (λ one. IsDeclared header one.number) IsMine (name words) (λ found known. (of_cpus lane of, known))
+    verb-known Rough words of = if_then (name_fields header words) _ (λ one. IsDeclared header one.number) IsMine (name words) (λ found known. (of_cpus lane of, known))
+    verb-known Csync words of = if_then (name_fields header words) _ (λ one. IsDeclared header one.number) IsMine (name words) (λ found known. (of_cpus lane of, known))
+    verb-known EvSum words of = if_then (event_fields words) _ (λ one. one.number < 8) IsMine (event words) (λ found known. known)
+    verb-known Fold words of = if_then (one_cpu_fields header words) _ (λ one. IsCpu header.layout one.number) IsMine (one_cpu words) (λ found known. known)
+    verb-known Water words of = if_then (marked_fields header words) _ IsMarked IsMine (marked words) (λ found known. known)
+    verb-known Val words of = if_then (counter_fields header words) _ (λ one. IsKnown header one.number) IsMine (counter words) (λ found known. known)
+    verb-known Snap words of = if_then (counter_fields header words) _ (λ one. IsKnown header one.number) IsMine (counter words) (λ found known. known)
+    verb-known Sys words of = if_then (value_fields header words) _ (λ one. IsKnownValue header one.number) IsMine (value words) (λ found known. known)
+    verb-known Pressure words of = if_then (node_fields header words) _ (λ one. IsNode header.layout one.number) IsMine (node words) (λ found known. (of_control lane of, known))
+    verb-known Normal words of = if_then (node_fields header words) _ (λ one. IsNode header.layout one.number) IsMine (node words) (λ found known. (of_control lane of, known))
+    verb-known Dead words of = if_then (one_cpu_fields header words) _ (λ one. IsCpu header.layout one.number) IsMine (one_cpu words) (λ found known. (of_control lane of, known))
+    verb-known Kswapd words of =
+        let wide = wide_control lane of in
+        if_then (turn_fields header words) _ IsTurned IsMine (turn words) (λ found known. (wide.0, wide.1, known.0, known.1, known.2, known.3))
 
-    marked : (node kind : List ℕ) (mark : Option WaterMark) (index : List ℕ) → IfOk (ok_fields header node kind mark index) (IsActOf header lane)
-    marked node kind None index = tt
-    marked node kind (Some mark) index = if_then (zone_field header node kind) _ (λ one. IsZone header.layout one.number) (IsActOf header lane) (zone_field-known header node kind)
-        (λ zone known. if_then (number_up_to 3 index) _ (λ n. n ≤ 3) (IsActOf header lane) (number_up_to-known 3 index) (λ n small. (known, small)))
+    read_verb-known : (words : List (List ℕ)) (verb : Option Verb) → IfOk (read_verb header (is_control lane) words verb) IsMine
+    read_verb-known words None = tt
+    read_verb-known words (Some verb) =
+        if_cond (is_lane_of header (is_control lane) (form verb).lanes) (read_fields header (form verb).fields words) (Err Malformed) IsMine
+        (verb-known verb words) (λ _. tt)
 
-    ok : (words : List (List ℕ)) → IfOk (ok_row header words) (IsActOf header lane)
-    ok (node ∷ kind ∷ mark ∷ index ∷ []) = marked node kind (mark_named mark) index
-    ok _ = tt
-
-    val : (words : List (List ℕ)) → IfOk (val_row header words) (IsActOf header lane)
-    val (node ∷ kind ∷ item ∷ []) = if_then (counter_field header node kind item) _ (λ one. IsKnown header one.number) (IsActOf header lane) (counter_field-known header node kind item is) (λ one known. known)
-    val _ = tt
-
-    snap : (words : List (List ℕ)) → IfOk (snap_row header words) (IsActOf header lane)
-    snap (node ∷ kind ∷ item ∷ []) = if_then (counter_field header node kind item) _ (λ one. IsKnown header one.number) (IsActOf header lane) (counter_field-known header node kind item is) (λ one known. known)
-    snap _ = tt
-
-    sys : (words : List (List ℕ)) → IfOk (sys_row header words) (IsActOf header lane)
-    sys (item ∷ []) = if_then (system_field header item) _ (λ one. IsKnownValue header one.number) (IsActOf header lane) (system_field-known header item is) (λ one known. known)
-    sys _ = tt
-
-    shared : (verb : List ℕ) (words : List (List ℕ)) → IfOk (shared_row header verb words) (IsActOf header lane)
-    shared verb words =
-        if_cond (bytes_eq verb (codes "evsum")) _ _ (IsActOf header lane) (λ _. evsum words) (λ _.
-        if_cond (bytes_eq verb (codes "fold")) _ _ (IsActOf header lane) (λ _. fold words) (λ _.
-        if_cond (bytes_eq verb (codes "ok")) _ _ (IsActOf header lane) (λ _. ok words) (λ _.
-        if_cond (bytes_eq verb (codes "val")) _ _ (IsActOf header lane) (λ _. val words) (λ _.
-        if_cond (bytes_eq verb (codes "snap")) _ _ (IsActOf header lane) (λ _. snap words) (λ _.
-        if_cond (bytes_eq verb (codes "sys")) _ (Err Malformed) (IsActOf header lane) (λ _. sys words) (λ _. tt))))))
+  -- a lane's words
+  read_act-known : (lane : LaneOf) (verb : List ℕ) (words : List (List ℕ)) → IfOk (read_act header (is_control lane) verb words) (IsActOf header lane)
+  read_act-known lane verb words = read_verb-known lane words (verb_named verb)
 
   module _ (n : ℕ) where
-    abbrev IsMine : Act → Type 0
-    IsMine act = IsActOf header (Cpu (record { number = n })) act
+    abbrev IsOfN : Act → Type 0
+    IsOfN act = IsActOf header (Cpu (record { number = n })) act
 
-    change : (words : List (List ℕ)) → IfOk (mod_row header words) IsMine
-    change (node ∷ kind ∷ item ∷ delta ∷ []) =
-        if_then (counter_field header node kind item) _ (λ one. IsKnown header one.number) IsMine (counter_field-known header node kind item is) (λ counter known.
-        if_then (amount_field delta) _ (FitsSigned w64) IsMine (amount_field-known delta) (λ amount fits.
-        if_then (in_pages header counter amount) _ (λ pages. FitsSigned w64 pages × FitsSigned w64 (spelled_amount header counter.number pages)) IsMine (in_pages-known header counter amount fits) (λ pages both.
-        (tt, known, both.0, both.1))))
-    change _ = tt
-
-    inc : (words : List (List ℕ)) → IfOk (inc_row header words) IsMine
-    inc (node ∷ kind ∷ item ∷ []) =
-        if_then (counter_field header node kind item) _ (λ one. IsKnown header one.number) IsMine (counter_field-known header node kind item is) (λ counter known.
-        if_then (page_counter header counter) _ (λ one. IsKnown header one.number × (is_in_bytes header one.number ≡ false)) IsMine (page_counter-known header counter known) (λ one both. (tt, both.0, both.1)))
-    inc _ = tt
-
-    dec : (words : List (List ℕ)) → IfOk (dec_row header words) IsMine
-    dec (node ∷ kind ∷ item ∷ []) =
-        if_then (counter_field header node kind item) _ (λ one. IsKnown header one.number) IsMine (counter_field-known header node kind item is) (λ counter known.
-        if_then (page_counter header counter) _ (λ one. IsKnown header one.number × (is_in_bytes header one.number ≡ false)) IsMine (page_counter-known header counter known) (λ one both. (tt, both.0, both.1)))
-    dec _ = tt
-
-    ev : (words : List (List ℕ)) → IfOk (ev_row header words) IsMine
-    ev (event ∷ number ∷ []) =
-        if_then (event_field event) _ (λ one. one.number < 8) IsMine (event_field-known event) (λ one known.
-        if_then (number_up_to (2 ^ 63 - 1) number) _ (λ m. m ≤ 2 ^ 63 - 1) IsMine (number_up_to-known (2 ^ 63 - 1) number) (λ m small. (tt, known, omega (arith, small))))
-    ev _ = tt
-
-    cnt : (words : List (List ℕ)) → IfOk (cnt_row header words) IsMine
-    cnt (name ∷ amount ∷ []) =
-        if_then (pcpu_field header name) _ (λ one. IsDeclared header one.number) IsMine (pcpu_field-known header name) (λ one known.
-        if_then (amount_field amount) _ (FitsSigned w64) IsMine (amount_field-known amount) (λ z fits. (tt, known, fits)))
-    cnt _ = tt
-
-    lim : (words : List (List ℕ)) → IfOk (lim_row header words) IsMine
-    lim (name ∷ limit ∷ amount ∷ []) =
-        if_then (pcpu_field header name) _ (λ one. IsDeclared header one.number) IsMine (pcpu_field-known header name) (λ one known.
-        if_then (limit_field limit) _ (λ z. unsigned_abs z ≤ 2 ^ 60) IsMine (limit_field-known limit) (λ most small.
-        if_then (amount_field amount) _ (FitsSigned w64) IsMine (amount_field-known amount) (λ z fits. (tt, known, small, fits))))
-    lim _ = tt
-
-    cmp : (words : List (List ℕ)) → IfOk (cmp_row header words) IsMine
-    cmp (name ∷ number ∷ []) =
-        if_then (pcpu_field header name) _ (λ one. IsDeclared header one.number) IsMine (pcpu_field-known header name) (λ one known.
-        if_then (limit_field number) _ (λ z. unsigned_abs z ≤ 2 ^ 60) IsMine (limit_field-known number) (λ z small. (tt, known, small)))
-    cmp _ = tt
-
-    sum : (words : List (List ℕ)) → IfOk (sum_row header words) IsMine
-    sum (name ∷ []) = if_then (pcpu_field header name) _ (λ one. IsDeclared header one.number) IsMine (pcpu_field-known header name) (λ one known. (tt, known))
-    sum _ = tt
-
-    rough : (words : List (List ℕ)) → IfOk (rough_row header words) IsMine
-    rough (name ∷ []) = if_then (pcpu_field header name) _ (λ one. IsDeclared header one.number) IsMine (pcpu_field-known header name) (λ one known. (tt, known))
-    rough _ = tt
-
-    csync : (words : List (List ℕ)) → IfOk (csync_row header words) IsMine
-    csync (name ∷ []) = if_then (pcpu_field header name) _ (λ one. IsDeclared header one.number) IsMine (pcpu_field-known header name) (λ one known. (tt, known))
-    csync _ = tt
-
-    pcpu : (verb : List ℕ) (words : List (List ℕ)) → IfOk (pcpu_row header verb words) IsMine
-    pcpu verb words =
-        if_cond (bytes_eq verb (codes "cnt")) _ _ IsMine (λ _. cnt words) (λ _.
-        if_cond (bytes_eq verb (codes "lim")) _ _ IsMine (λ _. lim words) (λ _.
-        if_cond (bytes_eq verb (codes "cmp")) _ _ IsMine (λ _. cmp words) (λ _.
-        if_cond (bytes_eq verb (codes "sum")) _ _ IsMine (λ _. sum words) (λ _.
-        if_cond (bytes_eq verb (codes "rough")) _ _ IsMine (λ _. rough words) (λ _.
-        if_cond (bytes_eq verb (codes "csync")) _ _ IsMine (λ _. csync words) (λ _. shared (Cpu (record { number = n })) verb words))))))
-
-    of_a_cpu : (verb : List ℕ) (words : List (List ℕ)) → IfOk (cpu_row header verb words) IsMine
-    of_a_cpu verb words =
-        if_cond (bytes_eq verb (codes "mod")) _ _ IsMine (λ _. change words) (λ _.
-        if_cond (bytes_eq verb (codes "inc")) _ _ IsMine (λ _. inc words) (λ _.
-        if_cond (bytes_eq verb (codes "dec")) _ _ IsMine (λ _. dec words) (λ _.
-        if_cond (bytes_eq verb (codes "ev")) _ _ IsMine (λ _. ev words) (λ _. pcpu verb words))))
-
-    known_lane : (act : Result Act LineCause) → IfOk act IsMine → IfOk (cond (nat_lt n header.layout.cpus) (of_lane (Cpu (record { number = n })) act) (Err UnknownLane)) (IsLineOf header)
+    known_lane : (act : Result Act LineCause) → IfOk act IsOfN → IfOk (cond (nat_lt n header.layout.cpus) (of_lane (Cpu (record { number = n })) act) (Err UnknownLane)) (IsLineOf header)
     known_lane (Ok act) known = if_cond (nat_lt n header.layout.cpus) (Ok (Lane (Cpu (record { number = n })) act)) (Err UnknownLane) (IsLineOf header) (λ below. (grind (arith, nat_tests), known)) (λ past. tt)
     known_lane (Err cause) known = if_cond (nat_lt n header.layout.cpus) (Err cause) (Err UnknownLane) (IsLineOf header) (λ below. tt) (λ past. tt)
 
-    of_cpu-known : (act : Result Act LineCause) → IfOk act IsMine → IfOk (of_cpu header n act) (IsLineOf header)
+    of_cpu-known : (act : Result Act LineCause) → IfOk act IsOfN → IfOk (of_cpu header n act) (IsLineOf header)
     of_cpu-known (Err Malformed) known = tt
     of_cpu-known act known = known_lane act known
 
     cpu_line-known : (words : List (List ℕ)) → IfOk (cpu_line header n words) (IsLineOf header)
     cpu_line-known [] = tt
-    cpu_line-known (verb ∷ words) = of_cpu-known (cpu_row header verb words) (of_a_cpu verb words)
-
-  abbrev IsControls : Act → Type 0
-  IsControls act = IsActOf header Control act
-
-  pressure : (words : List (List ℕ)) → IfOk (pressure_row header words) IsControls
-  pressure (node ∷ []) = if_then (node_field header node) _ (λ one. IsNode header.layout one.number) IsControls (node_field-known header node) (λ one known. (tt, known))
-  pressure _ = tt
-
-  normal : (words : List (List ℕ)) → IfOk (normal_row header words) IsControls
-  normal (node ∷ []) = if_then (node_field header node) _ (λ one. IsNode header.layout one.number) IsControls (node_field-known header node) (λ one known. (tt, known))
-  normal _ = tt
-
-  dead : (words : List (List ℕ)) → IfOk (dead_row header words) IsControls
-  dead (cpu ∷ []) = if_then (cpu_field header cpu) _ (λ one. IsCpu header.layout one.number) IsControls (cpu_field-known header cpu) (λ one known. (tt, known))
-  dead _ = tt
-
-  kswapd : header.layout.positions ≡ 16 → (words : List (List ℕ)) → IfOk (kswapd_row header words) IsControls
-  kswapd wide (node ∷ order ∷ index ∷ []) =
-      if_then (node_field header node) _ (λ one. IsNode header.layout one.number) IsControls (node_field-known header node) (λ place known.
-      if_then (number_up_to 10 order) _ (λ n. n ≤ 10) IsControls (number_up_to-known 10 order) (λ most small.
-      if_then (number_up_to 3 index) _ (λ n. n ≤ 3) IsControls (number_up_to-known 3 index) (λ one below.
-      if_then (index_under header (node_at header.layout place.number) one) _ _ IsControls (index_under-known header (node_at header.layout place.number) one) (λ found both.
-      (tt, wide, known, small, subst (λ n. n ≤ 3) (sym both.0) below, both.1)))))
-  kswapd wide _ = tt
-
-  of_control : (verb : List ℕ) (words : List (List ℕ)) → IfOk (control_row header verb words) IsControls
-  of_control verb words =
-      if_cond (bytes_eq verb (codes "pressure")) _ _ IsControls (λ _. pressure words) (λ _.
-      if_cond (bytes_eq verb (codes "normal")) _ _ IsControls (λ _. normal words) (λ _.
-      if_cond (bytes_eq verb (codes "dead")) _ _ IsControls (λ _. dead words) (λ _.
-      if_cond (bytes_eq verb (codes "kswapd")) _ _ IsControls
-      (λ _. if_cond (header.layout.positions == 16) (kswapd_row header words) (Err Malformed) IsControls (λ wide. kswapd (grind (arith, nat_tests)) words) (λ _. tt))
-      (λ _. shared Control verb words))))
+    cpu_line-known (verb ∷ words) = of_cpu-known (read_act header false verb words) (read_act-known (Cpu (record { number = n })) verb words)
 
   control_line-known : (words : List (List ℕ)) → IfOk (control_line header words) (IsLineOf header)
   control_line-known [] = tt
-  control_line-known (verb ∷ words) = if_then (control_row header verb words) _ IsControls (IsLineOf header) (of_control verb words) (λ act known. (tt, known))
+  control_line-known (verb ∷ words) = if_then (read_act header true verb words) _ (IsActOf header Control) (IsLineOf header) (read_act-known Control verb words) (λ act known. (tt, known))
 
   report : (word : List ℕ) → IfOk (report_named word) (IsLineOf header)
   report word =

@@ -1,5 +1,5 @@
 -- What a line of the body says: the grammar of lane lines and boundary lines.
-use Rattle.std.specs.Prelude.{ℕ, nat_lt, ◌==◌, ◌&&◌, Bool, false, if◌then◌else◌, List, [], ◌∷◌, length, codes, bytes_eq, Result, Ok, Err}
+use Rattle.std.specs.Prelude.{ℕ, nat_lt, ◌==◌, ◌&&◌, Bool, false, true, if◌then◌else◌, List, [], ◌∷◌, length, codes, bytes_eq, Result, Ok, Err}
 use Rattle.std.specs.Str.Parse.{digits_value}
 use Rattle.vms_base.specs.declared.headers.Header.{Header}
 use Rattle.vms_text.specs.declared.acts.Act.{Act}
@@ -15,7 +15,7 @@ use Rattle.vms_line.specs.declared.causes.LineCause.{LineCause}
 use Rattle.vms_line.specs.declared.causes.LineCause.TheVariants.{Malformed, UnknownLane, LineTooLong}
 use Rattle.vms_text.specs.Reading.{and_then, most_line, is_ignored, is_clean}
 use Rattle.vms_line.specs.Fields.{cpu_field}
-use Rattle.vms_line.specs.Rows.{cpu_row, control_row}
+use Rattle.vms_line.specs.Forms.{read_act}
 
 -- a line of a lane, of what its words say
 abbrev pub of_lane : LaneOf → Result Act LineCause → Result Line LineCause
@@ -28,12 +28,12 @@ of_cpu header n act = if nat_lt n header.layout.cpus then of_lane (Cpu (record {
 
 -- the words behind `c` and a number
 abbrev pub cpu_line : Header → ℕ → List (List ℕ) → Result Line LineCause
-cpu_line header n (verb ∷ fields) = of_cpu header n (cpu_row header verb fields)
+cpu_line header n (verb ∷ fields) = of_cpu header n (read_act header false verb fields)
 cpu_line header n [] = Err Malformed
 
 -- the words behind `k`
 abbrev pub control_line : Header → List (List ℕ) → Result Line LineCause
-control_line header (verb ∷ fields) = of_lane Control (control_row header verb fields)
+control_line header (verb ∷ fields) = of_lane Control (read_act header true verb fields)
 control_line header [] = Err Malformed
 
 -- the report that a word names

@@ -16,7 +16,7 @@ use Rattle.vms_text.specs.declared.acts.Line.TheVariants.{Blank, Lane, Boundary}
 use Rattle.vms_text.specs.Lines.{lines_of}
 use Rattle.vms_line.specs.Body.{read_line}
 use Rattle.vms_text.specs.PlaceNames.{IsKnown, is_in_bytes}
-use Rattle.vms_line.specs.Rows.{has_zone_up_to}
+use Rattle.vms_line.specs.Forms.{has_zone_up_to}
 use Rattle.vms_line.specs.Spelling.{spelled_amount, spelled_line}
 
 -- whose lane it is

@@ -1,5 +1,5 @@
 pub mod Fields
-pub mod Rows
+pub mod Forms
 pub mod Body
 pub mod Spelling
 pub mod Laws

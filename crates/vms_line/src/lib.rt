@@ -3,9 +3,10 @@
 
 mod causes;
 mod fields;
+mod form_fields;
+mod forms;
 mod parsing;
 mod reading_back;
-mod rows;
 mod spelling;
 
 pub use causes::LineCause;

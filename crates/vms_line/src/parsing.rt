@@ -9,7 +9,7 @@ ghost use Rattle.vms_line.specs.Laws.{LinesAreKnown};
 ghost use Rattle.vms_text.specs.Reading.{is_clean, is_comment, is_ignored};
 
 use crate::fields::{cpu_field, known_cpu};
-use crate::rows::{control_row, cpu_row};
+use crate::forms::read_act;
 use crate::{Boundary, Lane, Line, LineCause, ReportKind};
 use vms_base::{CpuId, Header};
 use vms_text::{cut_line, is_number, read_unsigned};
@@ -105,7 +105,7 @@ fn control_line(header: &Header, words: &[&[u8]]) -> Result<Line, LineCause>
     let [verb, fields @ ..] = words else {
         return Err(LineCause::Malformed);
     };
-    let act = control_row(header, verb, fields)?;
+    let act = read_act(header, true, verb, fields)?;
     Ok(Line::Lane(Lane::Control, act))
 }
 
@@ -118,7 +118,7 @@ fn cpu_line(header: &Header, digits: &[u8], words: &[&[u8]]) -> Result<Line, Lin
     let [verb, fields @ ..] = words else {
         return Err(LineCause::Malformed);
     };
-    let act = match cpu_row(header, verb, fields) {
+    let act = match read_act(header, false, verb, fields) {
         Err(LineCause::Malformed) => return Err(LineCause::Malformed),
         act => act,
     };

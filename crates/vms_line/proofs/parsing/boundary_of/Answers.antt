@@ -3,7 +3,7 @@ use Rattle.std.proofs.lemmas.Result.{err_from_is_err_and}
 use Rattle.std.proofs.lemmas.Slice.Eq.{text_from_reads}
 use Rattle.vms_line.specs.Body.{boundary_of}
 use Rattle.vms_line.specs.Fields.{cpu_field}
-use Rattle.vms_line.proofs.RowWords.{and_then-err, and_then-ok}
+use Rattle.vms_line.proofs.FieldCounts.{and_then-err, and_then-ok}
 use Rattle.vms_line.proofs.parsing.boundary_of.Goals as goal
 
 pub returns-in_err-cpu-in-online : goal.returns-in_err-cpu-in-online

@@ -1,7 +1,0 @@
-use Rattle.std.proofs.Common.{sym, arith, map}
-use Rattle.std.proofs.lemmas.List.{length-map}
-use Rattle.vms_line.proofs.RowWords.{inc_row-short}
-use Rattle.vms_line.proofs.rows.inc_row.Goals as goal
-
-pub returns-in_default : goal.returns-in_default
-returns-in_default c = sym (inc_row-short c.args.header.now (map (λ word. word.now) c.args.fields.now) (omega (arith, length-map c.args.fields.now (λ word. word.now))))

@@ -1,0 +1,154 @@
+ghost use Rattle.std.specs.Prelude.{◌≡◌, map};
+ghost use Rattle.vms_base.specs.Headers.{IsHeader};
+ghost use Rattle.vms_line.specs.Forms.{form, is_lane_of, read_act, read_fields, verb_named};
+
+use crate::form_fields::{
+    amount_fields, change_fields, count_fields, counter_fields, event_fields, limited_fields,
+    marked_fields, name_fields, node_fields, number_fields, one_cpu_fields, paged_fields,
+    turn_fields, value_fields,
+};
+use crate::{Act, LineCause};
+use vms_base::Header;
+
+/// What a lane's line does, by the word after the lane's.
+#[derive(Clone, Copy, Debug)]
+pub(crate) enum Verb {
+    Mod,
+    Inc,
+    Dec,
+    Ev,
+    Cnt,
+    Lim,
+    Cmp,
+    Sum,
+    Rough,
+    Csync,
+    EvSum,
+    Fold,
+    Water,
+    Val,
+    Snap,
+    Sys,
+    Pressure,
+    Normal,
+    Dead,
+    Kswapd,
+}
+
+/// What a verb and its fields say on the control lane, or else on a CPU's.
+pub(crate) fn read_act(
+    header: &Header,
+    control: bool,
+    verb: &[u8],
+    fields: &[&[u8]],
+) -> Result<Act, LineCause>
+    requires { IsHeader header.now }
+    ensures { result ≡ read_act header.now control verb.now (map (λ word. word.now) fields.now) }
+{
+    match verb_named(verb) {
+        Some(verb) if is_lane_of(header, control, verb) => read_fields(header, verb, fields),
+        _ => Err(LineCause::Malformed),
+    }
+}
+
+/// The verb that a word is.
+#[inline]
+fn verb_named(word: &[u8]) -> Option<Verb>
+    ensures { result ≡ verb_named word.now }
+{
+    match word {
+        b"mod" => Some(Verb::Mod),
+        b"inc" => Some(Verb::Inc),
+        b"dec" => Some(Verb::Dec),
+        b"ev" => Some(Verb::Ev),
+        b"cnt" => Some(Verb::Cnt),
+        b"lim" => Some(Verb::Lim),
+        b"cmp" => Some(Verb::Cmp),
+        b"sum" => Some(Verb::Sum),
+        b"rough" => Some(Verb::Rough),
+        b"csync" => Some(Verb::Csync),
+        b"evsum" => Some(Verb::EvSum),
+        b"fold" => Some(Verb::Fold),
+        b"ok" => Some(Verb::Water),
+        b"val" => Some(Verb::Val),
+        b"snap" => Some(Verb::Snap),
+        b"sys" => Some(Verb::Sys),
+        b"pressure" => Some(Verb::Pressure),
+        b"normal" => Some(Verb::Normal),
+        b"dead" => Some(Verb::Dead),
+        b"kswapd" => Some(Verb::Kswapd),
+        _ => None,
+    }
+}
+
+/// Whether the control lane, or else each CPU's lane, has a verb.
+#[inline]
+fn is_lane_of(header: &Header, control: bool, verb: Verb) -> bool
+    ensures { result ≡ is_lane_of header.now control (form verb).lanes }
+{
+    match verb {
+        Verb::Mod
+        | Verb::Inc
+        | Verb::Dec
+        | Verb::Ev
+        | Verb::Cnt
+        | Verb::Lim
+        | Verb::Cmp
+        | Verb::Sum
+        | Verb::Rough
+        | Verb::Csync => !control,
+        Verb::EvSum | Verb::Fold | Verb::Water | Verb::Val | Verb::Snap | Verb::Sys => true,
+        Verb::Pressure | Verb::Normal | Verb::Dead => control,
+        Verb::Kswapd => control && header.layout.positions() == 16,
+    }
+}
+
+/// The act that the fields after a verb make.
+fn read_fields(header: &Header, verb: Verb, fields: &[&[u8]]) -> Result<Act, LineCause>
+    requires { IsHeader header.now }
+    ensures { result ≡ read_fields header.now (form verb).fields (map (λ word. word.now) fields.now) }
+{
+    Ok(match verb {
+        Verb::Mod => {
+            let (counter, pages) = change_fields(header, fields)?;
+            Act::Mod(counter, pages)
+        }
+        Verb::Inc => Act::Inc(paged_fields(header, fields)?),
+        Verb::Dec => Act::Dec(paged_fields(header, fields)?),
+        Verb::Ev => {
+            let (event, number) = count_fields(fields)?;
+            Act::Ev(event, number)
+        }
+        Verb::Cnt => {
+            let (counter, amount) = amount_fields(header, fields)?;
+            Act::Cnt(counter, amount)
+        }
+        Verb::Lim => {
+            let (counter, limit, amount) = limited_fields(header, fields)?;
+            Act::Lim(counter, limit, amount)
+        }
+        Verb::Cmp => {
+            let (counter, number) = number_fields(header, fields)?;
+            Act::Cmp(counter, number)
+        }
+        Verb::Sum => Act::Sum(name_fields(header, fields)?),
+        Verb::Rough => Act::Rough(name_fields(header, fields)?),
+        Verb::Csync => Act::Csync(name_fields(header, fields)?),
+        Verb::EvSum => Act::EvSum(event_fields(fields)?),
+        Verb::Fold => Act::Fold(one_cpu_fields(header, fields)?),
+        Verb::Water => {
+            let (zone, mark, index) = marked_fields(header, fields)?;
+            Act::Water(zone, mark, index)
+        }
+        Verb::Val => Act::Val(counter_fields(header, fields)?),
+        Verb::Snap => Act::Snap(counter_fields(header, fields)?),
+        Verb::Sys => Act::Sys(value_fields(header, fields)?),
+        Verb::Pressure => Act::Pressure(node_fields(header, fields)?),
+        Verb::Normal => Act::Normal(node_fields(header, fields)?),
+        Verb::Dead => Act::Dead(one_cpu_fields(header, fields)?),
+        Verb::Kswapd => {
+            let (node, order, index) = turn_fields(header, fields)?;
+            Act::Kswapd(node, order, index)
+        }
+    })
+}
