@@ -25,6 +25,3 @@ pub use packing::{pack, unpack, unpack_pack};
 pub use places::{Layout, LayoutError};
 pub use rows::Row;
 pub use spending::{CpuVolumes, Overflow, Volume, Volumes};
-
-#[cfg(test)]
-mod tests;

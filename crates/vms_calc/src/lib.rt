@@ -13,6 +13,3 @@ pub use reserves::reserve;
 pub use rules::{Rule, Rules};
 pub use thresholds::{MAX_THRESHOLD, normal_threshold, pressure_threshold};
 pub use watermarks::zone_marks;
-
-#[cfg(test)]
-mod tests;

@@ -1,8 +1,8 @@
-use crate::{HeaderCause, HeaderError, HeaderReader, HeaderStep, ReadError, parse_header};
 use std::alloc::Global;
 use std::process::Abort;
 use std::test::Fail;
 use vms_base::{Header, ZoneKind, ZoneName, ZoneSize};
+use vms_header::{HeaderCause, HeaderError, HeaderReader, HeaderStep, ReadError, parse_header};
 
 /// A header is refused at this line for this cause.
 fn refuses(rt: &impl Abort, alloc: Global, text: &[u8], line: u32, cause: HeaderCause) {

@@ -1,13 +1,13 @@
 ghost use Rattle.std.specs.Prelude.{IfOk};
 ghost use Rattle.vms_base.specs.Headers.{IsHeader};
 
-use crate::{Act, Boundary, Lane, Line, LineCause, ReportKind, parse_line};
 use std::alloc::Global;
 use std::test::Fail;
 use vms_base::{
     CounterId, CpuId, Decl, EventId, Header, ItemDecl, ItemId, Layout, PcpuId, PlaceId, Row,
     WaterMark, ZoneKind, ZoneName, ZoneSize,
 };
+use vms_line::{Act, Boundary, Lane, Line, LineCause, ReportKind, parse_line};
 
 /// Two CPUs, one zone of one node, sixteen items a place, the node's item `slab` in bytes, and the percpu counter `gauge`.
 fn header(alloc: Global) -> Result<Header, Fail>

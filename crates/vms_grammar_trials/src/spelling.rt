@@ -5,15 +5,15 @@ ghost use Rattle.vms_text.specs.declared.acts.Line.TheVariants as lines;
 ghost use Rattle.vms_line.specs.Laws.{IsLineOf};
 ghost use Rattle.vms_header.specs.Laws.{IsWritable};
 
-use crate::spelling::{Word, write_words};
-use crate::{write_header, write_line};
 use std::alloc::Global;
 use std::test::Fail;
 use vms_base::{
     CounterId, CpuId, Decl, EventId, Header, ItemId, Layout, PcpuId, PlaceId, Row, WaterMark,
     ZoneKind, ZoneName, ZoneSize,
 };
-use vms_text::{Act, Boundary, Lane, Line, ReportKind};
+use vms_header::write_header;
+use vms_line::write_line;
+use vms_text::{Act, Boundary, Lane, Line, ReportKind, Word, write_words};
 
 /// Two CPUs, one zone, a base of a zone item and one of a node item, and a percpu counter.
 fn small_header(alloc: Global) -> Result<Header, Fail>

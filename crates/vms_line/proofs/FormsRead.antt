@@ -236,8 +236,11 @@ module _ (header : Header) (is : IsHeader header) where
             (short-cons kind (mark_word mark ∷ decimal index ∷ []) (kind_word-short name.kind)
             (short-cons (mark_word mark) (decimal index ∷ []) (mark_word-short mark)
             (short-cons (decimal index) [] (decimal-short index (omega arith)) refl)));
-        read = rw (mark_named-word mark, zone_field-spelled header is.is_layout zone.number some_zone known.0,
-            number_up_to-spelled 3 index (omega arith) small) refl;
+        read = rw (
+          mark_named-word mark,
+          zone_field-spelled header is.is_layout zone.number some_zone known.0,
+          number_up_to-spelled 3 index (omega arith) small,
+        ) refl;
       }
   says lane (acts.Val counter) known = counter_says Val acts.Val counter refl refl known
   says lane (acts.Snap counter) known = counter_says Snap acts.Snap counter refl refl known

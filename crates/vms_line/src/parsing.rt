@@ -11,6 +11,7 @@ ghost use Rattle.vms_text.specs.Reading.{is_clean, is_comment, is_ignored};
 use crate::fields::{cpu_field, known_cpu};
 use crate::forms::read_act;
 use crate::{Boundary, Lane, Line, LineCause, ReportKind};
+use arrayvec::ArrayVec;
 use vms_base::{CpuId, Header};
 use vms_text::{cut_line, is_number, read_unsigned};
 
@@ -25,7 +26,8 @@ pub fn parse_line(header: &Header, line: &[u8]) -> Result<Line, LineCause>
     if line.len() > MOST_LINE {
         return Err(LineCause::LineTooLong);
     }
-    let (words, clean) = cut_line(line);
+    let mut words = ArrayVec::new();
+    let clean = cut_line(&mut words, line);
     let words = words.as_slice();
     if are_ignored(words, clean) {
         Ok(Line::Blank)

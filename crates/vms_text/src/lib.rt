@@ -9,8 +9,6 @@ mod numbers;
 mod place_names;
 mod place_words;
 mod scanning;
-#[cfg(test)]
-mod tests;
 mod writing;
 
 pub use acts::{Act, Boundary, Item, Lane, Line, ReportKind};

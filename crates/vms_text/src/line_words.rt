@@ -10,27 +10,30 @@ use arrayvec::ArrayVec;
 pub fn cut_words(line: &[u8]) -> ArrayVec<&[u8], 8>
     ensures { map (λ word. word.now) result.items ≡ take 8 (words_of line.now) }
 {
-    cut_line(line).0
+    let mut words = ArrayVec::new();
+    cut_line(&mut words, line);
+    words
 }
 
-/// The first eight words of a line, and whether each of its bytes is a blank or one of a word.
+/// Cuts a line into words, of which the first eight are added to `words`, which is empty. Answers whether each byte of
+/// the line is a blank or one of a word.
 #[inline]
-pub fn cut_line(line: &[u8]) -> (ArrayVec<&[u8], 8>, bool)
-    ensures words { map (λ word. word.now) result.0.items ≡ take 8 (words_of line.now) }
-    ensures clean { result.1 ≡ is_clean line.now }
+pub fn cut_line<'a>(words: &mut ArrayVec<&'a [u8], 8>, line: &'a [u8]) -> bool
+    requires { words.old.items ≡ [] }
+    ensures words { map (λ word. word.now) words.new.items ≡ take 8 (words_of line.now) }
+    ensures clean { result ≡ is_clean line.now }
 {
-    let mut words = ArrayVec::new();
     let mut clean = true;
     let mut begin = 0;
     for (at, byte) in line.iter().enumerate() {
         if !byte.is_ascii_graphic() {
-            add_word(&mut words, &line[begin..at]);
+            add_word(words, &line[begin..at]);
             clean &= is_blank(*byte);
             begin = at + 1;
         }
     }
-    add_word(&mut words, &line[begin..]);
-    (words, clean)
+    add_word(words, &line[begin..]);
+    clean
 }
 
 /// Adds a word, unless it is empty or eight are there.

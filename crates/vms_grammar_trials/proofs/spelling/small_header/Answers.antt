@@ -12,7 +12,7 @@ use Rattle.vms_base.specs.Sizes.{IsValidSize}
 use Rattle.vms_header.specs.Laws.{IsWritable}
 use Rattle.vms_text.proofs.Apart.{all_differ-pairs}
 use Rattle.vms_header.proofs.Shapes.{LaysOut-ranked}
-use Rattle.vms_line.proofs.tests.spelling.small_header.Goals as goal
+use Rattle.vms_grammar_trials.proofs.spelling.small_header.Goals as goal
 
 abbrev made : Shape → List ZoneSize → List ℤ → List Decl → List ItemDecl → Header
 made layout sizes bases counters items = record { layout = layout; sizes = sizes; bases = bases; counters = counters; items = items }

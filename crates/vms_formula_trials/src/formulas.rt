@@ -3,13 +3,13 @@ ghost use Rattle.vms_base.specs.Sizes.{IsValidSize};
 ghost use Rattle.vms_base.specs.Thresholds.{normal_threshold_of};
 ghost use Rattle.vms_calc.specs.Rules.{IsThresholdRule};
 
-use crate::{
-    Rule, Rules, cover_mark, linux_mark, normal_threshold, pressure_threshold, reserve, zone_marks,
-};
 use std::alloc::Global;
 use std::process::Abort;
 use std::test::Fail;
 use vms_base::{Header, Layout, PlaceId, Row, ZoneKind, ZoneName, ZoneSize};
+use vms_calc::{
+    Rule, Rules, cover_mark, linux_mark, normal_threshold, pressure_threshold, reserve, zone_marks,
+};
 
 /// A size that is seen to be valid.
 fn size(rt: &impl Abort, managed: u64, min: u64, low: u64, high: u64) -> ZoneSize

@@ -2,7 +2,7 @@
 use Rattle.std.proofs.Common.{[], ◌∷◌, rules}
 use Rattle.std.proofs.lemmas.List.Elements.{All-from_recursion}
 use Rattle.vms_base.specs.Sizes.{IsValidSize}
-use Rattle.vms_calc.proofs.tests.reserves.Goals as goal
+use Rattle.vms_formula_trials.proofs.formulas.reserves.Goals as goal
 
 pub header-requires-clause-sizes : goal.header-requires-clause-sizes
 header-requires-clause-sizes g c =

@@ -1,8 +1,8 @@
-use crate::{
+use std::test::Fail;
+use vms_base::{
     Diffs, Layout, LayoutError, Row, ZoneKind, ZoneName, decode, encode, fls, pack, push_number,
     unpack,
 };
-use std::test::Fail;
 
 const NORMAL: ZoneName = ZoneName {
     node: 0,

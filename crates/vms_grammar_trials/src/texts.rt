@@ -1,4 +1,6 @@
-use crate::{is_name, is_number, next_word, read_signed, read_unsigned, read_within, split_line};
+use vms_text::{
+    is_name, is_number, next_word, read_signed, read_unsigned, read_within, split_line,
+};
 
 #[test]
 fn reads_numbers(rt: HostRuntime) {
