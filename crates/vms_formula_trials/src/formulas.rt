@@ -317,7 +317,12 @@ fn by_the_kernel(size: &ZoneSize, cpus: u32) -> u32
     requires most { cpus ≤ 128 }
     ensures { result ≡ normal_threshold_of size.now cpus }
 {
-    by_rules(normal_threshold, pressure_threshold, size, cpus)
+    by_rules(
+        |size: &ZoneSize, cpus: u32| normal_threshold(size, cpus),
+        |size: &ZoneSize, cpus: u32| pressure_threshold(size, cpus),
+        size,
+        cpus,
+    )
 }
 
 /// Takes what threads may share.
@@ -353,8 +358,13 @@ fn rules(rt: HostRuntime) {
     check_rules(
         &rt,
         move |_: &ZoneSize, _: u32| seven,
-        pressure_threshold,
+        |size: &ZoneSize, cpus: u32| pressure_threshold(size, cpus),
         [7; 4],
     );
-    check_rules(&rt, normal_threshold, pressure_threshold, [2, 20, 125, 125]);
+    check_rules(
+        &rt,
+        |size: &ZoneSize, cpus: u32| normal_threshold(size, cpus),
+        |size: &ZoneSize, cpus: u32| pressure_threshold(size, cpus),
+        [2, 20, 125, 125],
+    );
 }
