@@ -147,7 +147,7 @@ module _ (header : Header) (is : IsHeader header) where
       let apart = class_names-apart header.items is.items_valid is.items_differ n [] within in
       let nowhere = position-nowhere (bytes_eq word) (class_names false header.items)
       (All-weaker (λ other. word ≢ other) (λ other. bytes_eq word other ≡ false) (bytes_eq-other word) (class_names false header.items) apart) in
-      let behind : header.layout.positions ≤ item = grind (arith, nat_tests) in
+      let after : header.layout.positions ≤ item = grind (arith, nat_tests) in
       let whole : header.layout.positions + n ≡ item = omega arith in
       record {
         word = word;

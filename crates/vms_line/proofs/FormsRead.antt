@@ -26,7 +26,7 @@ use Rattle.vms_line.specs.declared.causes.LineCause.{LineCause}
 use Rattle.vms_line.specs.declared.forms.Verb.{Verb}
 use Rattle.vms_line.specs.declared.forms.Verb.TheVariants.{Mod, Inc, Dec, Ev, Cnt, Lim, Cmp, Sum, Rough, Csync, EvSum, Fold, Water, Val, Snap, Sys, Pressure, Normal, Dead, Kswapd}
 use Rattle.vms_line.specs.Fields.{mark_named, node_field}
-use Rattle.vms_line.specs.Forms.{Fields, Counter, Name, Node, OneCpu, Paged, form, has_zone_up_to, is_lane_of, read_fields}
+use Rattle.vms_line.specs.Forms.{Fields, Counter, Name, Node, OneCpu, Paged, form_of, has_zone_up_to, has_lane, read_fields}
 use Rattle.vms_line.specs.Laws.{IsActOf, IsDeclared, IsOfControl, IsOfCpu}
 use Rattle.vms_line.specs.Spelling.{act_words, mark_word, node_number, pcpu_word, spelled_amount}
 use Rattle.vms_line.proofs.FieldsRead.{SpellsCounter, SpellsOne, amount_field-spelled, counter-spelled, cpu-fits, cpu_field-spelled, event-spelled, in_pages-spelled, limit-fits, limit_field-spelled, number_up_to-spelled, pcpu-spelled, value-spelled}
@@ -62,10 +62,10 @@ verb_of (acts.Kswapd node order index) = Kswapd
 -- a verb and a few fields, which are read as the act
 pub record Says (header : Header) (verb : Verb) (act : Act) : Type 0 where
   pub fields : List (List ℕ)
-  pub words_are : act_words header act ≡ (form verb).word ∷ fields
+  pub words_are : act_words header act ≡ (form_of verb).word ∷ fields
   pub few : length fields ≤ 5
   pub short : list_all is_short fields ≡ true
-  pub read : read_fields header (form verb).fields fields ≡ Ok act
+  pub read : read_fields header (form_of verb).fields fields ≡ Ok act
 
 mark_named-word : (mark : WaterMark) → mark_named (mark_word mark) ≡ Some mark
 mark_named-word Min = refl
@@ -86,57 +86,57 @@ module _ (header : Header) (is : IsHeader header) where
 
   -- one word, and others after it
   one_says : (verb : Verb) (act : Act) {A : Type 0} (field : List ℕ → Result A LineCause) (words more : List (List ℕ)) (value : A)
-      (spells : SpellsOne A field words value) → act_words header act ≡ (form verb).word ∷ words ++ more → length more ≤ 4
-      → list_all is_short more ≡ true → read_fields header (form verb).fields (spells.word ∷ more) ≡ Ok act → Says header verb act
+      (spells : SpellsOne A field words value) → act_words header act ≡ (form_of verb).word ∷ words ++ more → length more ≤ 4
+      → list_all is_short more ≡ true → read_fields header (form_of verb).fields (spells.word ∷ more) ≡ Ok act → Says header verb act
   one_says verb act field words more value spells same few short read = record {
     fields = spells.word ∷ more;
-    words_are = same ∙ ap (λ front. (form verb).word ∷ front ++ more) spells.words_are;
+    words_are = same ∙ ap (λ front. (form_of verb).word ∷ front ++ more) spells.words_are;
     few = omega (arith, few);
     short = short-cons spells.word more spells.short short;
     read = read;
   }
 
-  counter_says : (verb : Verb) (make : CounterId → Act) (counter : CounterId) → (form verb).fields ≡ Counter make
-      → act_words header (make counter) ≡ (form verb).word ∷ counter_words header counter.number → IsKnown header counter.number
+  counter_says : (verb : Verb) (make : CounterId → Act) (counter : CounterId) → (form_of verb).fields ≡ Counter make
+      → act_words header (make counter) ≡ (form_of verb).word ∷ counter_words header counter.number → IsKnown header counter.number
       → Says header verb (make counter)
   counter_says verb make counter fields words known =
       let spells = counter-spelled header is counter.number known in
       record {
         fields = spells.node ∷ spells.kind ∷ spells.item ∷ [];
-        words_are = words ∙ ap (λ more. (form verb).word ∷ more) spells.words_are;
+        words_are = words ∙ ap (λ more. (form_of verb).word ∷ more) spells.words_are;
         few = omega arith;
         short = three_short counter.number spells [] refl;
         read = ap (λ one. read_fields header one (spells.node ∷ spells.kind ∷ spells.item ∷ [])) fields ∙ rw spells.read refl;
       }
 
-  paged_says : (verb : Verb) (make : CounterId → Act) (counter : CounterId) → (form verb).fields ≡ Paged make
-      → act_words header (make counter) ≡ (form verb).word ∷ counter_words header counter.number → IsKnown header counter.number
+  paged_says : (verb : Verb) (make : CounterId → Act) (counter : CounterId) → (form_of verb).fields ≡ Paged make
+      → act_words header (make counter) ≡ (form_of verb).word ∷ counter_words header counter.number → IsKnown header counter.number
       → is_in_bytes header counter.number ≡ false → Says header verb (make counter)
   paged_says verb make counter fields words known pages =
       let spells = counter-spelled header is counter.number known in
       record {
         fields = spells.node ∷ spells.kind ∷ spells.item ∷ [];
-        words_are = words ∙ ap (λ more. (form verb).word ∷ more) spells.words_are;
+        words_are = words ∙ ap (λ more. (form_of verb).word ∷ more) spells.words_are;
         few = omega arith;
         short = three_short counter.number spells [] refl;
         read = ap (λ one. read_fields header one (spells.node ∷ spells.kind ∷ spells.item ∷ [])) fields ∙ rw (spells.read, pages) refl;
       }
 
-  name_says : (verb : Verb) (make : PcpuId → Act) (counter : PcpuId) → (form verb).fields ≡ Name make
-      → act_words header (make counter) ≡ (form verb).word ∷ pcpu_word header counter.number → IsDeclared header counter.number
+  name_says : (verb : Verb) (make : PcpuId → Act) (counter : PcpuId) → (form_of verb).fields ≡ Name make
+      → act_words header (make counter) ≡ (form_of verb).word ∷ pcpu_word header counter.number → IsDeclared header counter.number
       → Says header verb (make counter)
   name_says verb make counter fields words declared =
       let spells = pcpu-spelled header is counter.number declared in
       record {
         fields = spells.word ∷ [];
-        words_are = words ∙ ap (λ more. (form verb).word ∷ more) spells.words_are;
+        words_are = words ∙ ap (λ more. (form_of verb).word ∷ more) spells.words_are;
         few = omega arith;
         short = short-cons spells.word [] spells.short refl;
         read = ap (λ one. read_fields header one (spells.word ∷ [])) fields ∙ rw spells.read refl;
       }
 
-  cpu_says : (verb : Verb) (make : CpuId → Act) (cpu : CpuId) → (form verb).fields ≡ OneCpu make
-      → act_words header (make cpu) ≡ (form verb).word ∷ decimal cpu.number ∷ [] → IsCpu header.layout cpu.number
+  cpu_says : (verb : Verb) (make : CpuId → Act) (cpu : CpuId) → (form_of verb).fields ≡ OneCpu make
+      → act_words header (make cpu) ≡ (form_of verb).word ∷ decimal cpu.number ∷ [] → IsCpu header.layout cpu.number
       → Says header verb (make cpu)
   cpu_says verb make cpu fields words within = record {
     fields = decimal cpu.number ∷ [];
@@ -158,14 +158,14 @@ module _ (header : Header) (is : IsHeader header) where
         read = node_field-spelled header is.is_layout node.number within;
       }
 
-  node_says : (verb : Verb) (make : PlaceId → Act) (node : PlaceId) → (form verb).fields ≡ Node make
-      → act_words header (make node) ≡ (form verb).word ∷ node_number header node.number → IsNode header.layout node.number
+  node_says : (verb : Verb) (make : PlaceId → Act) (node : PlaceId) → (form_of verb).fields ≡ Node make
+      → act_words header (make node) ≡ (form_of verb).word ∷ node_number header node.number → IsNode header.layout node.number
       → Says header verb (make node)
   node_says verb make node fields words within =
       let spells = node_spelled node within in
       record {
         fields = spells.word ∷ [];
-        words_are = words ∙ ap (λ more. (form verb).word ∷ more) spells.words_are;
+        words_are = words ∙ ap (λ more. (form_of verb).word ∷ more) spells.words_are;
         few = omega arith;
         short = short-cons spells.word [] spells.short refl;
         read = ap (λ one. read_fields header one (spells.word ∷ [])) fields ∙ rw spells.read refl;
@@ -178,7 +178,7 @@ module _ (header : Header) (is : IsHeader header) where
       let amount = spelled_amount header counter.number pages in
       record {
         fields = spells.node ∷ spells.kind ∷ spells.item ∷ signed_decimal amount ∷ [];
-        words_are = ap (λ words. (form Mod).word ∷ words ++ signed_decimal amount ∷ []) spells.words_are;
+        words_are = ap (λ words. (form_of Mod).word ∷ words ++ signed_decimal amount ∷ []) spells.words_are;
         few = omega arith;
         short = three_short counter.number spells (signed_decimal amount ∷ [])
             (short-cons (signed_decimal amount) [] (signed-short amount known.3) refl);
@@ -215,7 +215,7 @@ module _ (header : Header) (is : IsHeader header) where
       let spells = event-spelled event.number known in
       record {
         fields = spells.word ∷ [];
-        words_are = ap (λ more. (form EvSum).word ∷ more) spells.words_are;
+        words_are = ap (λ more. (form_of EvSum).word ∷ more) spells.words_are;
         few = omega arith;
         short = short-cons spells.word [] spells.short refl;
         read = rw spells.read refl;
@@ -229,7 +229,7 @@ module _ (header : Header) (is : IsHeader header) where
       let small = known.1 in
       record {
         fields = node ∷ kind ∷ mark_word mark ∷ decimal index ∷ [];
-        words_are = ap (λ words. (form Water).word ∷ words ++ mark_word mark ∷ decimal index ∷ [])
+        words_are = ap (λ words. (form_of Water).word ∷ words ++ mark_word mark ∷ decimal index ∷ [])
             (zone-words header is.is_layout zone.number some_zone known.0);
         few = omega arith;
         short = short-cons node (kind ∷ mark_word mark ∷ decimal index ∷ []) (decimal-short name.node (omega (arith, most)))
@@ -248,7 +248,7 @@ module _ (header : Header) (is : IsHeader header) where
       let spells = value-spelled header is item.number known in
       record {
         fields = spells.word ∷ [];
-        words_are = ap (λ more. (form Sys).word ∷ more) spells.words_are;
+        words_are = ap (λ more. (form_of Sys).word ∷ more) spells.words_are;
         few = omega arith;
         short = short-cons spells.word [] spells.short refl;
         read = rw spells.read refl;
@@ -268,38 +268,38 @@ module _ (header : Header) (is : IsHeader header) where
       (rw (spells.read, number_up_to-spelled 10 order (omega arith) low, number_up_to-spelled 3 index (omega arith) small, at, has) refl)
 
 -- whether a lane is the control lane
-abbrev pub is_control : LaneOf → Bool
-is_control (Cpu cpu) = false
-is_control Control = true
+abbrev pub is_control_lane : LaneOf → Bool
+is_control_lane (Cpu cpu) = false
+is_control_lane Control = true
 
-of_cpu : (lane : LaneOf) → IsOfCpu lane → not (is_control lane) ≡ true
+of_cpu : (lane : LaneOf) → IsOfCpu lane → not (is_control_lane lane) ≡ true
 of_cpu (Cpu cpu) is = refl
 of_cpu Control is = absurd is
 
-of_control : (lane : LaneOf) → IsOfControl lane → is_control lane ≡ true
+of_control : (lane : LaneOf) → IsOfControl lane → is_control_lane lane ≡ true
 of_control (Cpu cpu) is = absurd is
 of_control Control is = refl
 
 -- a lane has the verbs of its acts
-pub is_lane_of-own : (header : Header) (lane : LaneOf) (act : Act) → IsActOf header lane act
-    → is_lane_of header (is_control lane) (form (verb_of act)).lanes ≡ true
-is_lane_of-own header lane (acts.Mod counter pages) known = of_cpu lane known.0
-is_lane_of-own header lane (acts.Inc counter) known = of_cpu lane known.0
-is_lane_of-own header lane (acts.Dec counter) known = of_cpu lane known.0
-is_lane_of-own header lane (acts.Ev event n) known = of_cpu lane known.0
-is_lane_of-own header lane (acts.Cnt counter amount) known = of_cpu lane known.0
-is_lane_of-own header lane (acts.Lim counter limit amount) known = of_cpu lane known.0
-is_lane_of-own header lane (acts.Cmp counter number) known = of_cpu lane known.0
-is_lane_of-own header lane (acts.Sum counter) known = of_cpu lane known.0
-is_lane_of-own header lane (acts.Rough counter) known = of_cpu lane known.0
-is_lane_of-own header lane (acts.Csync counter) known = of_cpu lane known.0
-is_lane_of-own header lane (acts.EvSum event) known = refl
-is_lane_of-own header lane (acts.Fold cpu) known = refl
-is_lane_of-own header lane (acts.Water zone mark index) known = refl
-is_lane_of-own header lane (acts.Val counter) known = refl
-is_lane_of-own header lane (acts.Snap counter) known = refl
-is_lane_of-own header lane (acts.Sys item) known = refl
-is_lane_of-own header lane (acts.Pressure node) known = of_control lane known.0
-is_lane_of-own header lane (acts.Normal node) known = of_control lane known.0
-is_lane_of-own header lane (acts.Dead cpu) known = of_control lane known.0
-is_lane_of-own header lane (acts.Kswapd node order index) known = rw (of_control lane known.0, known.1) refl
+pub has_lane-own : (header : Header) (lane : LaneOf) (act : Act) → IsActOf header lane act
+    → has_lane header (is_control_lane lane) (form_of (verb_of act)).lanes ≡ true
+has_lane-own header lane (acts.Mod counter pages) known = of_cpu lane known.0
+has_lane-own header lane (acts.Inc counter) known = of_cpu lane known.0
+has_lane-own header lane (acts.Dec counter) known = of_cpu lane known.0
+has_lane-own header lane (acts.Ev event n) known = of_cpu lane known.0
+has_lane-own header lane (acts.Cnt counter amount) known = of_cpu lane known.0
+has_lane-own header lane (acts.Lim counter limit amount) known = of_cpu lane known.0
+has_lane-own header lane (acts.Cmp counter number) known = of_cpu lane known.0
+has_lane-own header lane (acts.Sum counter) known = of_cpu lane known.0
+has_lane-own header lane (acts.Rough counter) known = of_cpu lane known.0
+has_lane-own header lane (acts.Csync counter) known = of_cpu lane known.0
+has_lane-own header lane (acts.EvSum event) known = refl
+has_lane-own header lane (acts.Fold cpu) known = refl
+has_lane-own header lane (acts.Water zone mark index) known = refl
+has_lane-own header lane (acts.Val counter) known = refl
+has_lane-own header lane (acts.Snap counter) known = refl
+has_lane-own header lane (acts.Sys item) known = refl
+has_lane-own header lane (acts.Pressure node) known = of_control lane known.0
+has_lane-own header lane (acts.Normal node) known = of_control lane known.0
+has_lane-own header lane (acts.Dead cpu) known = of_control lane known.0
+has_lane-own header lane (acts.Kswapd node order index) known = rw (of_control lane known.0, known.1) refl

@@ -1,6 +1,7 @@
 pub mod PlaceFields
 pub mod FieldsRead
 pub mod FormsRead
+pub mod LinesShort
 pub mod LinesRead
 pub mod Known
 pub mod FieldCounts
@@ -8,3 +9,5 @@ pub mod LineWords
 pub mod FieldsKnown
 pub mod LinesKnown
 pub mod FieldsSame
+pub mod FormsSame
+pub mod WordsShort

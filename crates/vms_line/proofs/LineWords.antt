@@ -17,7 +17,7 @@ use Rattle.std.proofs.Common.{Option, bytes_eq, codes}
 use Rattle.vms_text.specs.declared.acts.Lane.TheVariants.{Control}
 use Rattle.vms_line.specs.declared.forms.Verb.{Verb}
 use Rattle.vms_line.specs.Body.{is_cpu_word, lane_number, of_cpu, of_lane}
-use Rattle.vms_line.specs.Forms.{Amount, Change, Count, Counter, Event, Fields, Limited, Marked, Name, Node, Number, OneCpu, Paged, Turn, Value, form, is_lane_of, read_fields, read_verb, verb_named}
+use Rattle.vms_line.specs.Forms.{Amount, Change, Count, Counter, Event, Fields, Limited, Marked, Name, Node, Number, OneCpu, Paged, Turn, Value, form_of, has_lane, read_fields, read_verb, verb_named}
 use Rattle.vms_line.specs.Body.{boundary_line, read_line, read_words}
 use Rattle.vms_line.specs.Fields.{known_cpu}
 use Rattle.vms_text.specs.Reading.{is_clean, is_comment, is_ignored}
@@ -66,8 +66,8 @@ read_verb-long : (header : Header) (control : Bool) (verb : Option Verb) (a b c 
     → read_verb header control (a ∷ b ∷ c ∷ d ∷ e ∷ f ∷ []) verb ≡ read_verb header control (a ∷ b ∷ c ∷ d ∷ e ∷ f ∷ more) verb
 read_verb-long header control None a b c d e f more = refl
 read_verb-long header control (Some verb) a b c d e f more =
-    let both = read_fields-long header (form verb).fields a b c d e f [] ∙ sym (read_fields-long header (form verb).fields a b c d e f more) in
-    ap (λ act. cond (is_lane_of header control (form verb).lanes) act (Err Malformed)) both
+    let both = read_fields-long header (form_of verb).fields a b c d e f [] ∙ sym (read_fields-long header (form_of verb).fields a b c d e f more) in
+    ap (λ act. cond (has_lane header control (form_of verb).lanes) act (Err Malformed)) both
 
 -- no line has more than eight words
 pub read_words-take : (header : Header) (words : List (List ℕ)) → read_words header (take 8 words) ≡ read_words header words

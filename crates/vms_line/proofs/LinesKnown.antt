@@ -26,17 +26,17 @@ use Rattle.vms_line.specs.declared.forms.Verb.{Verb}
 use Rattle.vms_line.specs.declared.forms.Verb.TheVariants.{Mod, Inc, Dec, Ev, Cnt, Lim, Cmp, Sum, Rough, Csync, EvSum, Fold, Water, Val, Snap, Sys, Pressure, Normal, Dead, Kswapd}
 use Rattle.vms_line.specs.Body.{boundary_line, control_line, cpu_line, is_cpu_word, lane_number, of_cpu, of_lane, read_line, read_words, report_named}
 use Rattle.vms_line.specs.Fields.{amount_field, counter_field, cpu_field, event_field, in_pages, limit_field, mark_named, node_field, number_up_to, page_counter, pcpu_field, system_field, zone_field}
-use Rattle.vms_line.specs.Forms.{amount_fields, change_fields, count_fields, counter_fields, event_fields, form, has_zone_up_to, index_under, is_lane_of, limited_fields, marked_fields, name_fields, node_fields, number_fields, one_cpu_fields, paged_fields, read_act, read_fields, read_verb, turn_fields, value_fields, verb_named}
+use Rattle.vms_line.specs.Forms.{amount_fields, change_fields, count_fields, counter_fields, event_fields, form_of, has_zone_up_to, index_under, has_lane, limited_fields, marked_fields, name_fields, node_fields, number_fields, one_cpu_fields, paged_fields, read_act, read_fields, read_verb, turn_fields, value_fields, verb_named}
 use Rattle.vms_line.specs.Laws.{IsActOf, IsDeclared, IsKnownValue, IsLineOf, IsOfControl, IsOfCpu}
 use Rattle.vms_line.specs.Spelling.{spelled_amount}
 use Rattle.vms_line.proofs.FieldsKnown.{amount_field-known, counter_field-known, cpu_field-known, event_field-known, if_any, if_cond, if_then, in_pages-known, index_under-known, limit_field-known, node_field-known, number_up_to-known, page_counter-known, pcpu_field-known, system_field-known, zone_field-known}
-use Rattle.vms_line.proofs.FormsRead.{is_control}
+use Rattle.vms_line.proofs.FormsRead.{is_control_lane}
 
-of_cpus : (lane : LaneOf) → not (is_control lane) ≡ true → IsOfCpu lane
+of_cpus : (lane : LaneOf) → not (is_control_lane lane) ≡ true → IsOfCpu lane
 of_cpus (Cpu cpu) is = tt
 of_cpus Control is = absurd cc
 
-of_control : (lane : LaneOf) → is_control lane ≡ true → IsOfControl lane
+of_control : (lane : LaneOf) → is_control_lane lane ≡ true → IsOfControl lane
 of_control (Cpu cpu) is = absurd cc
 of_control Control is = tt
 
@@ -146,7 +146,7 @@ module _ (header : Header) (is : IsHeader header) where
       (known, small, subst (λ n. n ≤ 3) (sym both.0) below, both.1)))))
   turn _ = tt
 
-  wide_control : (lane : LaneOf) → (is_control lane && header.layout.positions == 16) ≡ true → IsOfControl lane × (header.layout.positions ≡ 16)
+  wide_control : (lane : LaneOf) → (is_control_lane lane && header.layout.positions == 16) ≡ true → IsOfControl lane × (header.layout.positions ≡ 16)
   wide_control (Cpu cpu) is = absurd cc
   wide_control Control is = (tt, grind (arith, nat_tests))
 
@@ -155,8 +155,8 @@ module _ (header : Header) (is : IsHeader header) where
     IsMine act = IsActOf header lane act
 
     -- a verb of the lane gives acts of the lane
-    verb-known : (verb : Verb) (words : List (List ℕ)) → is_lane_of header (is_control lane) (form verb).lanes ≡ true
-        → IfOk (read_fields header (form verb).fields words) IsMine
+    verb-known : (verb : Verb) (words : List (List ℕ)) → has_lane header (is_control_lane lane) (form_of verb).lanes ≡ true
+        → IfOk (read_fields header (form_of verb).fields words) IsMine
     verb-known Mod words of = if_then (change_fields header words) _ IsChange IsMine (change words) (λ found known. (of_cpus lane of, known.0, known.1, known.2))
     verb-known Inc words of = if_then (paged_fields header words) _ IsPaged IsMine (paged words) (λ found known. (of_cpus lane of, known.0, known.1))
     verb-known Dec words of = if_then (paged_fields header words) _ IsPaged IsMine (paged words) (λ found known. (of_cpus lane of, known.0, known.1))
@@ -180,14 +180,14 @@ module _ (header : Header) (is : IsHeader header) where
         let wide = wide_control lane of in
         if_then (turn_fields header words) _ IsTurned IsMine (turn words) (λ found known. (wide.0, wide.1, known.0, known.1, known.2, known.3))
 
-    read_verb-known : (words : List (List ℕ)) (verb : Option Verb) → IfOk (read_verb header (is_control lane) words verb) IsMine
+    read_verb-known : (words : List (List ℕ)) (verb : Option Verb) → IfOk (read_verb header (is_control_lane lane) words verb) IsMine
     read_verb-known words None = tt
     read_verb-known words (Some verb) =
-        if_cond (is_lane_of header (is_control lane) (form verb).lanes) (read_fields header (form verb).fields words) (Err Malformed) IsMine
+        if_cond (has_lane header (is_control_lane lane) (form_of verb).lanes) (read_fields header (form_of verb).fields words) (Err Malformed) IsMine
         (verb-known verb words) (λ _. tt)
 
   -- a lane's words
-  read_act-known : (lane : LaneOf) (verb : List ℕ) (words : List (List ℕ)) → IfOk (read_act header (is_control lane) verb words) (IsActOf header lane)
+  read_act-known : (lane : LaneOf) (verb : List ℕ) (words : List (List ℕ)) → IfOk (read_act header (is_control_lane lane) verb words) (IsActOf header lane)
   read_act-known lane verb words = read_verb-known lane words (verb_named verb)
 
   module _ (n : ℕ) where
@@ -230,7 +230,7 @@ module _ (header : Header) (is : IsHeader header) where
       if_cond (bytes_eq word (codes "report")) (report_named field) (Err Malformed) (IsLineOf header) (λ _. report field) (λ _. tt)))
   boundary (a ∷ b ∷ c ∷ more) = tt
 
-  read_words-known : (words : List (List ℕ)) → IfOk (read_words header words) (IsLineOf header)
+  pub read_words-known : (words : List (List ℕ)) → IfOk (read_words header words) (IsLineOf header)
   read_words-known [] = tt
   read_words-known (first ∷ words) =
       if_cond (bytes_eq first (codes "k")) _ _ (IsLineOf header) (λ _. control_line-known words) (λ _.

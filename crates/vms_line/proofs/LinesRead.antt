@@ -2,13 +2,12 @@
 use Rattle.std.proofs.Common.{ℕ, ◌≡◌, true, nat_lt, List, [], ◌∷◌, refl, ap, arith}
 use Rattle.std.proofs.lemmas.Bool.Decides.{nat_tests}
 use Rattle.std.specs.Fmt.{decimal}
-use Rattle.std.specs.Prelude.{Ok, Result, codes}
+use Rattle.std.specs.Prelude.{Ok, codes}
 use Rattle.vms_base.specs.declared.headers.Header.{Header}
 use Rattle.vms_base.specs.declared.ids.CpuId.{CpuId}
 use Rattle.vms_base.specs.Headers.{IsHeader}
 use Rattle.vms_base.specs.Places.{IsCpu}
 use Rattle.vms_text.specs.declared.acts.Act.{Act}
-use Rattle.vms_text.specs.declared.acts.Act.TheVariants.{Mod, Inc, Dec, Ev, Cnt, Lim, Cmp, Sum, Rough, Csync, EvSum, Fold, Water, Val, Snap, Sys, Pressure, Normal, Dead, Kswapd}
 use Rattle.vms_text.specs.declared.acts.Boundary.{Boundary as BoundaryOf}
 use Rattle.vms_text.specs.declared.acts.Boundary.TheVariants.{Sync, Offline, Online, Flush, Report}
 use Rattle.vms_text.specs.declared.acts.Lane.{Lane as LaneOf}
@@ -22,16 +21,16 @@ use Rattle.vms_line.specs.declared.causes.LineCause.TheVariants.{Malformed}
 use Rattle.vms_line.specs.declared.forms.Verb.{Verb}
 use Rattle.vms_line.specs.declared.forms.Verb.TheVariants as verbs
 use Rattle.vms_line.specs.Body.{of_cpu, of_lane}
-use Rattle.vms_line.specs.Forms.{form, is_lane_of, read_act, read_fields, read_verb, verb_named}
+use Rattle.vms_line.specs.Forms.{form_of, has_lane, read_act, read_fields, read_verb, verb_named}
 use Rattle.vms_line.specs.Laws.{IsActOf}
-use Rattle.vms_line.proofs.FormsRead.{is_lane_of-own, says, short-cons, verb_of}
-use Rattle.vms_line.specs.declared.causes.LineCause.{LineCause}
+use Rattle.vms_line.proofs.FormsRead.{has_lane-own, says, short-cons, verb_of}
+use Rattle.vms_line.proofs.LinesShort.{act_words-short, boundary_words-short, lane_word-short}
 use Rattle.vms_line.specs.Body.{read_words}
 use Rattle.vms_line.specs.Laws.{IsBoundaryOf, IsLineOf, LinesReadBack, ReadsBack}
-use Rattle.vms_line.specs.Spelling.{act_words, boundary_words, lane_word}
+use Rattle.vms_line.specs.Spelling.{boundary_words, lane_word}
 use Rattle.vms_line.proofs.FieldsRead.{cpu-fits, cpu_field-spelled}
-use Rattle.vms_text.proofs.Sentences.{IsFew, is_short}
-use Rattle.vms_text.proofs.SpelledNumbers.{decimal-behind, decimal-is, decimal-short}
+use Rattle.vms_text.proofs.Sentences.{IsFew}
+use Rattle.vms_text.proofs.SpelledNumbers.{decimal-is}
 use Rattle.std.proofs.Common.{refl, ◌∙◌, ap}
 use Rattle.vms_text.specs.Lines.{lines_of}
 use Rattle.vms_text.specs.Words.{joined}
@@ -52,7 +51,7 @@ words-read_back header line words same is read = record {
 }
 
 -- each verb is found by its word
-verb_named-word : (verb : Verb) → verb_named (form verb).word ≡ Some verb
+verb_named-word : (verb : Verb) → verb_named (form_of verb).word ≡ Some verb
 verb_named-word verbs.Mod = refl
 verb_named-word verbs.Inc = refl
 verb_named-word verbs.Dec = refl
@@ -74,33 +73,11 @@ verb_named-word verbs.Normal = refl
 verb_named-word verbs.Dead = refl
 verb_named-word verbs.Kswapd = refl
 
-word-short : (verb : Verb) → is_short (form verb).word ≡ true
-word-short verbs.Mod = refl
-word-short verbs.Inc = refl
-word-short verbs.Dec = refl
-word-short verbs.Ev = refl
-word-short verbs.Cnt = refl
-word-short verbs.Lim = refl
-word-short verbs.Cmp = refl
-word-short verbs.Sum = refl
-word-short verbs.Rough = refl
-word-short verbs.Csync = refl
-word-short verbs.EvSum = refl
-word-short verbs.Fold = refl
-word-short verbs.Water = refl
-word-short verbs.Val = refl
-word-short verbs.Snap = refl
-word-short verbs.Sys = refl
-word-short verbs.Pressure = refl
-word-short verbs.Normal = refl
-word-short verbs.Dead = refl
-word-short verbs.Kswapd = refl
-
-read_act-due : (header : Header) (control : Bool) (verb : Verb) (fields : List (List ℕ)) → is_lane_of header control (form verb).lanes ≡ true
-    → read_act header control (form verb).word fields ≡ read_fields header (form verb).fields fields
+read_act-due : (header : Header) (control : Bool) (verb : Verb) (fields : List (List ℕ)) → has_lane header control (form_of verb).lanes ≡ true
+    → read_act header control (form_of verb).word fields ≡ read_fields header (form_of verb).fields fields
 read_act-due header control verb fields of_lane =
     ap (read_verb header control fields) (verb_named-word verb)
-    ∙ ap (λ b. if b then read_fields header (form verb).fields fields else Err Malformed) of_lane
+    ∙ ap (λ b. if b then read_fields header (form_of verb).fields fields else Err Malformed) of_lane
 
 module _ (header : Header) (is : IsHeader header) where
   -- a line of a CPU's lane
@@ -108,17 +85,17 @@ module _ (header : Header) (is : IsHeader header) where
   cpu_line-read cpu act within known =
       let verb = verb_of act in
       let read = says header is (Cpu cpu) act known in
-      let due = read_act-due header false verb read.fields (is_lane_of-own header (Cpu cpu) act known) in
+      let due = read_act-due header false verb read.fields (has_lane-own header (Cpu cpu) act known) in
       let fits = cpu-fits header is cpu.number within in
       let number = decimal-is cpu.number fits in
       let test : nat_lt cpu.number header.layout.cpus ≡ true = grind (arith, nat_tests) in
-      words-read_back header (Lane (Cpu cpu) act) (lane_word (Cpu cpu) ∷ (form verb).word ∷ read.fields)
+      words-read_back header (Lane (Cpu cpu) act) (lane_word (Cpu cpu) ∷ (form_of verb).word ∷ read.fields)
       (ap (λ words. lane_word (Cpu cpu) ∷ words) read.words_are)
       (record {
         some = omega arith;
         few = omega (arith, read.few);
-        short = short-cons (lane_word (Cpu cpu)) ((form verb).word ∷ read.fields) (decimal-behind 99 cpu.number refl fits)
-            (short-cons (form verb).word read.fields (word-short verb) read.short);
+        short = short-cons (lane_word (Cpu cpu)) ((form_of verb).word ∷ read.fields) (lane_word-short header is (Cpu cpu) within)
+            (act_words-short header is (Cpu cpu) act known);
         said = refl;
       })
       (rw (number.numeral, number.value) (ap (of_cpu header cpu.number) (due ∙ read.read) ∙ rw test refl))
@@ -128,12 +105,12 @@ module _ (header : Header) (is : IsHeader header) where
   control_line-read act known =
       let verb = verb_of act in
       let read = says header is Control act known in
-      let due = read_act-due header true verb read.fields (is_lane_of-own header Control act known) in
-      words-read_back header (Lane Control act) (codes "k" ∷ (form verb).word ∷ read.fields) (ap (λ words. codes "k" ∷ words) read.words_are)
+      let due = read_act-due header true verb read.fields (has_lane-own header Control act known) in
+      words-read_back header (Lane Control act) (codes "k" ∷ (form_of verb).word ∷ read.fields) (ap (λ words. codes "k" ∷ words) read.words_are)
       (record {
         some = omega arith;
         few = omega (arith, read.few);
-        short = short-cons (codes "k") ((form verb).word ∷ read.fields) refl (short-cons (form verb).word read.fields (word-short verb) read.short);
+        short = short-cons (codes "k") ((form_of verb).word ∷ read.fields) refl (act_words-short header is Control act known);
         said = refl;
       })
       (ap (of_lane Control) (due ∙ read.read))
@@ -156,21 +133,21 @@ module _ (header : Header) (is : IsHeader header) where
   boundary-read Sync known = boundary-words_read Sync _ refl (record { some = omega arith; few = omega arith; short = refl; said = refl }) refl
   boundary-read (Offline cpu) known =
       boundary-words_read (Offline cpu) (codes "offline" ∷ decimal cpu.number ∷ []) refl
-      (record { some = omega arith; few = omega arith; short = short-cons (codes "offline") (decimal cpu.number ∷ []) refl (short-cons (decimal cpu.number) [] (decimal-short cpu.number (cpu-fits header is cpu.number known)) refl); said = refl })
+      (record { some = omega arith; few = omega arith; short = boundary_words-short header is (Offline cpu) known; said = refl })
       (rw (cpu_field-spelled header is cpu.number known) refl)
   boundary-read (Online cpu) known =
       boundary-words_read (Online cpu) (codes "online" ∷ decimal cpu.number ∷ []) refl
-      (record { some = omega arith; few = omega arith; short = short-cons (codes "online") (decimal cpu.number ∷ []) refl (short-cons (decimal cpu.number) [] (decimal-short cpu.number (cpu-fits header is cpu.number known)) refl); said = refl })
+      (record { some = omega arith; few = omega arith; short = boundary_words-short header is (Online cpu) known; said = refl })
       (rw (cpu_field-spelled header is cpu.number known) refl)
   boundary-read Flush known = boundary-words_read Flush _ refl (record { some = omega arith; few = omega arith; short = refl; said = refl }) refl
   boundary-read (Report kind) known = report-read kind
 
-pub lines-read_back : LinesReadBack
-lines-read_back header Blank is known = record {
+pub LinesReadBack-holds : LinesReadBack
+LinesReadBack-holds header Blank is known = record {
   text = [];
   spelled = refl;
   one_line = refl;
   read = refl;
 }
-lines-read_back header (Lane lane act) is known = lane-read header is lane act known
-lines-read_back header (Boundary boundary) is known = boundary-read header is boundary known
+LinesReadBack-holds header (Lane lane act) is known = lane-read header is lane act known
+LinesReadBack-holds header (Boundary boundary) is known = boundary-read header is boundary known

@@ -26,12 +26,12 @@ abbrev pub of_cpu : Header → ℕ → Result Act LineCause → Result Line Line
 of_cpu header n (Err Malformed) = Err Malformed
 of_cpu header n act = if nat_lt n header.layout.cpus then of_lane (Cpu (record { number = n })) act else Err UnknownLane
 
--- the words behind `c` and a number
+-- the words after `c` and a number
 abbrev pub cpu_line : Header → ℕ → List (List ℕ) → Result Line LineCause
 cpu_line header n (verb ∷ fields) = of_cpu header n (read_act header false verb fields)
 cpu_line header n [] = Err Malformed
 
--- the words behind `k`
+-- the words after `k`
 abbrev pub control_line : Header → List (List ℕ) → Result Line LineCause
 control_line header (verb ∷ fields) = of_lane Control (read_act header true verb fields)
 control_line header [] = Err Malformed
@@ -70,7 +70,7 @@ abbrev pub is_cpu_word : List ℕ → Bool
 is_cpu_word [] = false
 is_cpu_word (byte ∷ bytes) = byte == 99 && is_numeral bytes
 
--- the number behind a lane word's first byte
+-- the number after a lane word's first byte
 abbrev pub lane_number : List ℕ → ℕ
 lane_number [] = 0
 lane_number (byte ∷ bytes) = digits_value 10 bytes

@@ -63,27 +63,27 @@ pub record Form : Type 0 where
   pub fields : Fields
 
 -- the table of forms
-abbrev pub form : Verb → Form
-form Mod = record { word = codes "mod"; lanes = OfCpus; fields = Change acts.Mod }
-form Inc = record { word = codes "inc"; lanes = OfCpus; fields = Paged acts.Inc }
-form Dec = record { word = codes "dec"; lanes = OfCpus; fields = Paged acts.Dec }
-form Ev = record { word = codes "ev"; lanes = OfCpus; fields = Count acts.Ev }
-form Cnt = record { word = codes "cnt"; lanes = OfCpus; fields = Amount acts.Cnt }
-form Lim = record { word = codes "lim"; lanes = OfCpus; fields = Limited acts.Lim }
-form Cmp = record { word = codes "cmp"; lanes = OfCpus; fields = Number acts.Cmp }
-form Sum = record { word = codes "sum"; lanes = OfCpus; fields = Name acts.Sum }
-form Rough = record { word = codes "rough"; lanes = OfCpus; fields = Name acts.Rough }
-form Csync = record { word = codes "csync"; lanes = OfCpus; fields = Name acts.Csync }
-form EvSum = record { word = codes "evsum"; lanes = OfEach; fields = Event acts.EvSum }
-form Fold = record { word = codes "fold"; lanes = OfEach; fields = OneCpu acts.Fold }
-form Water = record { word = codes "ok"; lanes = OfEach; fields = Marked acts.Water }
-form Val = record { word = codes "val"; lanes = OfEach; fields = Counter acts.Val }
-form Snap = record { word = codes "snap"; lanes = OfEach; fields = Counter acts.Snap }
-form Sys = record { word = codes "sys"; lanes = OfEach; fields = Value acts.Sys }
-form Pressure = record { word = codes "pressure"; lanes = OfControl; fields = Node acts.Pressure }
-form Normal = record { word = codes "normal"; lanes = OfControl; fields = Node acts.Normal }
-form Dead = record { word = codes "dead"; lanes = OfControl; fields = OneCpu acts.Dead }
-form Kswapd = record { word = codes "kswapd"; lanes = OfWideControl; fields = Turn acts.Kswapd }
+abbrev pub form_of : Verb → Form
+form_of Mod = record { word = codes "mod"; lanes = OfCpus; fields = Change acts.Mod }
+form_of Inc = record { word = codes "inc"; lanes = OfCpus; fields = Paged acts.Inc }
+form_of Dec = record { word = codes "dec"; lanes = OfCpus; fields = Paged acts.Dec }
+form_of Ev = record { word = codes "ev"; lanes = OfCpus; fields = Count acts.Ev }
+form_of Cnt = record { word = codes "cnt"; lanes = OfCpus; fields = Amount acts.Cnt }
+form_of Lim = record { word = codes "lim"; lanes = OfCpus; fields = Limited acts.Lim }
+form_of Cmp = record { word = codes "cmp"; lanes = OfCpus; fields = Number acts.Cmp }
+form_of Sum = record { word = codes "sum"; lanes = OfCpus; fields = Name acts.Sum }
+form_of Rough = record { word = codes "rough"; lanes = OfCpus; fields = Name acts.Rough }
+form_of Csync = record { word = codes "csync"; lanes = OfCpus; fields = Name acts.Csync }
+form_of EvSum = record { word = codes "evsum"; lanes = OfEach; fields = Event acts.EvSum }
+form_of Fold = record { word = codes "fold"; lanes = OfEach; fields = OneCpu acts.Fold }
+form_of Water = record { word = codes "ok"; lanes = OfEach; fields = Marked acts.Water }
+form_of Val = record { word = codes "val"; lanes = OfEach; fields = Counter acts.Val }
+form_of Snap = record { word = codes "snap"; lanes = OfEach; fields = Counter acts.Snap }
+form_of Sys = record { word = codes "sys"; lanes = OfEach; fields = Value acts.Sys }
+form_of Pressure = record { word = codes "pressure"; lanes = OfControl; fields = Node acts.Pressure }
+form_of Normal = record { word = codes "normal"; lanes = OfControl; fields = Node acts.Normal }
+form_of Dead = record { word = codes "dead"; lanes = OfControl; fields = OneCpu acts.Dead }
+form_of Kswapd = record { word = codes "kswapd"; lanes = OfWideControl; fields = Turn acts.Kswapd }
 
 abbrev pub verbs : List Verb
 verbs = Mod ∷ Inc ∷ Dec ∷ Ev ∷ Cnt ∷ Lim ∷ Cmp ∷ Sum ∷ Rough ∷ Csync ∷ EvSum ∷ Fold ∷ Water ∷ Val ∷ Snap ∷ Sys
@@ -91,14 +91,14 @@ verbs = Mod ∷ Inc ∷ Dec ∷ Ev ∷ Cnt ∷ Lim ∷ Cmp ∷ Sum ∷ Rough ∷
 
 -- the verb that a word is
 abbrev pub verb_named : List ℕ → Option Verb
-verb_named word = find (λ verb. bytes_eq word (form verb).word) verbs
+verb_named word = find (λ verb. bytes_eq word (form_of verb).word) verbs
 
 -- whether the control lane, or else each CPU's lane, is among these
-abbrev pub is_lane_of : Header → Bool → Lanes → Bool
-is_lane_of header control OfCpus = not control
-is_lane_of header control OfControl = control
-is_lane_of header control OfWideControl = control && header.layout.positions == 16
-is_lane_of header control OfEach = true
+abbrev pub has_lane : Header → Bool → Lanes → Bool
+has_lane header control OfCpus = not control
+has_lane header control OfControl = control
+has_lane header control OfWideControl = control && header.layout.positions == 16
+has_lane header control OfEach = true
 
 -- a counter, and an amount in pages
 abbrev pub change_fields : Header → List (List ℕ) → Result (CounterId × ℤ) LineCause
@@ -213,7 +213,7 @@ read_fields header (Turn act) words = and_then (turn_fields header words) (λ fo
 abbrev pub read_verb : Header → Bool → List (List ℕ) → Option Verb → Result Act LineCause
 read_verb header control words None = Err Malformed
 read_verb header control words (Some verb) =
-    if is_lane_of header control (form verb).lanes then read_fields header (form verb).fields words else Err Malformed
+    if has_lane header control (form_of verb).lanes then read_fields header (form_of verb).fields words else Err Malformed
 
 abbrev pub read_act : Header → Bool → List ℕ → List (List ℕ) → Result Act LineCause
 read_act header control verb words = read_verb header control words (verb_named verb)

@@ -14,10 +14,12 @@ use Rattle.vms_text.specs.declared.acts.Lane.TheVariants.{Cpu, Control}
 use Rattle.vms_text.specs.declared.acts.Line.{Line}
 use Rattle.vms_text.specs.declared.acts.Line.TheVariants.{Blank, Lane, Boundary}
 use Rattle.vms_text.specs.Lines.{lines_of}
+use Rattle.vms_text.specs.Reading.{is_ignored}
+use Rattle.vms_text.specs.Words.{words_of}
 use Rattle.vms_line.specs.Body.{read_line}
 use Rattle.vms_text.specs.PlaceNames.{IsKnown, is_in_bytes}
 use Rattle.vms_line.specs.Forms.{has_zone_up_to}
-use Rattle.vms_line.specs.Spelling.{spelled_amount, spelled_line}
+use Rattle.vms_line.specs.Spelling.{line_words, spelled_amount, spelled_line}
 
 -- whose lane it is
 abbrev pub IsOfCpu : LaneOf → Type 0
@@ -93,3 +95,8 @@ pub record ReadsBack (header : Header) (line : Line) : Type 0 where
 
 abbrev pub LinesReadBack : Type 0
 LinesReadBack = (header : Header) (line : Line) → IsHeader header → IsLineOf header line → ReadsBack header line
+
+-- a line that isn't ignored has one spelling: what is spelled of it is its words, one blank between them
+abbrev pub LinesHaveOneSpelling : Type 0
+LinesHaveOneSpelling = (header : Header) (text : List ℕ) (line : Line)
+    → IsHeader header → read_line header text ≡ Ok line → is_ignored text ≡ false → line_words header line ≡ words_of text

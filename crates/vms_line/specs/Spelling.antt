@@ -46,7 +46,7 @@ mark_word High = codes "high"
 abbrev pub spelled_amount : Header → ℕ → ℤ → ℤ
 spelled_amount header counter pages = if is_in_bytes header counter then pages *ℤ pos 4096 else pages
 
--- the words behind a lane's
+-- the words after a lane's
 abbrev pub act_words : Header → Act → List (List ℕ)
 act_words header (Mod counter pages) =
     codes "mod" ∷ counter_words header counter.number ++ signed_decimal (spelled_amount header counter.number pages) ∷ []

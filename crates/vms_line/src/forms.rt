@@ -1,6 +1,6 @@
 ghost use Rattle.std.specs.Prelude.{◌≡◌, map};
 ghost use Rattle.vms_base.specs.Headers.{IsHeader};
-ghost use Rattle.vms_line.specs.Forms.{form, is_lane_of, read_act, read_fields, verb_named};
+ghost use Rattle.vms_line.specs.Forms.{form_of, has_lane, read_act, read_fields, verb_named};
 
 use crate::form_fields::{
     amount_fields, change_fields, count_fields, counter_fields, event_fields, limited_fields,
@@ -46,7 +46,7 @@ pub(crate) fn read_act(
     ensures { result ≡ read_act header.now control verb.now (map (λ word. word.now) fields.now) }
 {
     match verb_named(verb) {
-        Some(verb) if is_lane_of(header, control, verb) => read_fields(header, verb, fields),
+        Some(verb) if has_lane(header, control, verb) => read_fields(header, verb, fields),
         _ => Err(LineCause::Malformed),
     }
 }
@@ -83,8 +83,8 @@ fn verb_named(word: &[u8]) -> Option<Verb>
 
 /// Whether the control lane, or else each CPU's lane, has a verb.
 #[inline]
-fn is_lane_of(header: &Header, control: bool, verb: Verb) -> bool
-    ensures { result ≡ is_lane_of header.now control (form verb).lanes }
+fn has_lane(header: &Header, control: bool, verb: Verb) -> bool
+    ensures { result ≡ has_lane header.now control (form_of verb).lanes }
 {
     match verb {
         Verb::Mod
@@ -106,7 +106,7 @@ fn is_lane_of(header: &Header, control: bool, verb: Verb) -> bool
 /// The act that the fields after a verb make.
 fn read_fields(header: &Header, verb: Verb, fields: &[&[u8]]) -> Result<Act, LineCause>
     requires { IsHeader header.now }
-    ensures { result ≡ read_fields header.now (form verb).fields (map (λ word. word.now) fields.now) }
+    ensures { result ≡ read_fields header.now (form_of verb).fields (map (λ word. word.now) fields.now) }
 {
     Ok(match verb {
         Verb::Mod => {

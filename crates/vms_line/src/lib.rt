@@ -11,6 +11,6 @@ mod spelling;
 
 pub use causes::LineCause;
 pub use parsing::{lines_are_known, parse_line};
-pub use reading_back::lines_read_back;
+pub use reading_back::{lines_have_one_spelling, lines_read_back};
 pub use spelling::write_line;
 pub use vms_text::{Act, Boundary, Item, Lane, Line, ReportKind};

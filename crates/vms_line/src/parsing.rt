@@ -51,12 +51,12 @@ fn are_ignored(words: &[&[u8]], clean: bool) -> bool
 {
     match words {
         [] => clean,
-        [first, ..] => is_remark(first),
+        [first, ..] => begins_remark(first),
     }
 }
 
 /// Whether a word begins with `#`.
-fn is_remark(word: &[u8]) -> bool
+fn begins_remark(word: &[u8]) -> bool
     ensures { result ≡ is_comment (word.now ∷ []) }
 {
     matches!(word, [b'#', ..])
@@ -87,7 +87,7 @@ fn is_control_word(word: &[u8]) -> bool
     matches!(word, b"k")
 }
 
-/// The digits behind the `c` of a lane's word.
+/// The digits after the `c` of a lane's word.
 #[inline]
 fn lane_digits(word: &[u8]) -> Option<&[u8]>
     ensures { MatchOption result (is_cpu_word word.now ≡ false)
@@ -99,7 +99,7 @@ fn lane_digits(word: &[u8]) -> Option<&[u8]>
     }
 }
 
-/// The words behind `k`.
+/// The words after `k`.
 fn control_line(header: &Header, words: &[&[u8]]) -> Result<Line, LineCause>
     requires { IsHeader header.now }
     ensures { result ≡ control_line header.now (map (λ word. word.now) words.now) }
@@ -111,7 +111,7 @@ fn control_line(header: &Header, words: &[&[u8]]) -> Result<Line, LineCause>
     Ok(Line::Lane(Lane::Control, act))
 }
 
-/// The words behind `c` and a number: their form is judged before the CPU, and the CPU before the fields.
+/// The words after `c` and a number: their form is judged before the CPU, and the CPU before the fields.
 fn cpu_line(header: &Header, digits: &[u8], words: &[&[u8]]) -> Result<Line, LineCause>
     requires header { IsHeader header.now }
     requires number { is_numeral digits.now ≡ true }

@@ -125,7 +125,7 @@ fn write_act(out: &mut Vec<u8>, header: &Header, lane: Lane, act: Act) -> Result
     }
 }
 
-/// Appends a line of a lane whose words behind the verb are a counter's.
+/// Appends a line of a lane whose words after the verb are a counter's.
 #[inline]
 fn write_counter(
     out: &mut Vec<u8>,

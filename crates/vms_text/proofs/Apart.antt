@@ -1,4 +1,4 @@
--- Lists of names that differ from each other.
+-- For other crates too: lists of names that differ from each other.
 use Rattle.std.proofs.Common.{ℕ, zero, suc, ◌≡◌, ◌≢◌, true, not, List, [], ◌∷◌, ◌++◌, sym, subst, ◌∙◌, ap, arith, get_or, map}
 use Rattle.std.proofs.lemmas.Bool.{false≢true}
 use Rattle.std.proofs.lemmas.List.{get_or-map, length-map}
@@ -9,7 +9,7 @@ use Rattle.std.proofs.lemmas.Slice.Eq.{bytes_eq-Decides}
 use Rattle.std.specs.List.{All, list_all}
 use Rattle.std.specs.Prelude.{AllPairs, bytes_eq}
 use Rattle.vms_text.proofs.Values.{and_left, and_right}
-use Rattle.vms_text.proofs.NameLookups.{all_differ, are_apart}
+use Rattle.vms_text.proofs.NameLookups.{all_differ, share_no_name}
 
 -- no name of the one list stands in the other
 abbrev pub AreApart : List (List ℕ) → List (List ℕ) → Type 0
@@ -51,6 +51,6 @@ all_differ-pairs (name ∷ names) is =
     let alone = list_all (λ other. not (bytes_eq name other)) names in
     AllPairs-cons ◌≢◌ name names (differ-from name names (and_left alone (all_differ names) is)) (all_differ-pairs names (and_right alone (all_differ names) is))
 
-pub are_apart-AreApart : (names others : List (List ℕ)) → are_apart names others ≡ true → AreApart names others
+pub are_apart-AreApart : (names others : List (List ℕ)) → share_no_name names others ≡ true → AreApart names others
 are_apart-AreApart names others is = λ k d within.
     differ-from (get_or names k d) others (AllPass-from_list_all (λ name. list_all (λ other. not (bytes_eq name other)) others) names is k d within)

@@ -1,4 +1,4 @@
--- For other crates too: what stands in a list after words were put behind it.
+-- For other crates too: what stands in a list after words were put after it.
 use Rattle.std.proofs.Common.{ℕ, ◌≡◌, ◌+◌, ◌<◌, ◌≤◌, arith, drop, List, [], ◌∷◌, ◌++◌, sym, ◌∙◌, ap, append_assoc, append-nil, flat_map, map, take, length, get_or}
 use Rattle.std.proofs.lemmas.Grind.{flat_map-append}
 use Rattle.std.proofs.lemmas.List.{map_more}
@@ -14,8 +14,8 @@ pub Begins-same : (before after : List ℕ) → after ≡ before → Begins befo
 Begins-same before after same = ([], same ∙ sym (append-nil before))
 
 -- one piece more, and then others
-pub Begins-behind : (before middle piece after : List ℕ) → middle ≡ before ++ piece → Begins middle after → Begins before after
-Begins-behind before middle piece after is begins =
+pub Begins-after : (before middle piece after : List ℕ) → middle ≡ before ++ piece → Begins middle after → Begins before after
+Begins-after before middle piece after is begins =
     (piece ++ begins.0, begins.1 ∙ ap (λ front. front ++ begins.0) is ∙ append_assoc before piece begins.0)
 
 -- what is true is true after an error
@@ -43,7 +43,7 @@ spaced-take_more words i d within =
     ∙ flat_map-append (λ (word : List ℕ). 32 ∷ word) (map text_of (take i words)) (text_of (get_or words i d) ∷ [])
     ∙ ap (λ last. spaced (map text_of (take i words)) ++ last) (append-nil (32 ∷ text_of (get_or words i d)))
 
--- words as they are written are the first of them and the others behind it
+-- words as they are written are the first of them and the others after it
 pub joined-cons : (word : List ℕ) (words : List (List ℕ)) → join_with_byte 32 (word ∷ words) ≡ word ++ spaced words
 joined-cons word [] = sym (append-nil word)
 joined-cons word (next ∷ words) = ap (λ more. word ++ 32 ∷ more) (joined-cons next words)

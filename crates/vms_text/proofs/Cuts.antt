@@ -33,7 +33,7 @@ slice_split-cut p xs end d some =
     let at = position_or_len-some p xs end some in
     subst (λ n. slice_split p xs ≡ take n xs ∷ slice_split p (drop (n + 1) xs)) at.0 (slice_split_first p xs d (omega (arith, at)))
 
--- what stands before the first element that passes, that element, and what stands behind it
+-- what stands before the first element that passes, that element, and what stands after it
 pub position-parts : {X : Type 0} (p : X → Bool) (xs : List X) (end : ℕ) (d : X) → position p xs ≡ Some end → (p (get_or xs end d) ≡ true) × (xs ≡ take end xs ++ (get_or xs end d ∷ drop (end + 1) xs))
 position-parts p xs end d some =
     let at = position_or_len-some p xs end some in

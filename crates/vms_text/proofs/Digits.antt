@@ -7,7 +7,7 @@ use Rattle.std.specs.Char.{digit_value}
 use Rattle.std.specs.Str.Parse.{digits_value_after}
 use Rattle.vms_text.specs.Numbers.{is_digit}
 
--- the number that digits spell behind those of this value, if it is at most this one
+-- the number that digits spell after those of this value, if it is at most this one
 abbrev pub digits_from : ℕ → ℕ → List ℕ → Option ℕ
 digits_from most value bytes =
     cond (list_all is_digit bytes && nat_le (digits_value_after 10 value bytes) most) (Some (digits_value_after 10 value bytes)) None

@@ -1,4 +1,4 @@
--- A list's entry as a list of one.
+-- For other crates too: a list's entry as a list of one.
 use Rattle.std.proofs.Common.{ℕ, ◌≡◌, ◌<◌, List, [], ◌∷◌, ap, length, get_or}
 use Rattle.std.proofs.lemmas.Option.{slice_get-get_or}
 use Rattle.std.specs.Prelude.{option_to_list}

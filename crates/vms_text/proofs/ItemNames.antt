@@ -1,4 +1,4 @@
--- The names of a header's items differ, and are short.
+-- For other crates too: the names of a header's items differ, and are short.
 use Rattle.std.proofs.Common.{ℕ, ◌≡◌, ◌≢◌, ◌≤◌, ◌&&◌, Bool, true, false, not, cond, nat_le, List, [], ◌∷◌, ◌++◌, refl, sym, subst, ◌∙◌, ap, arith, length, get_or, map, inl, inr}
 use Rattle.std.proofs.lemmas.Bool.{cases_order, false≢true}
 use Rattle.std.proofs.lemmas.Bool.Decides.{nat_tests}
@@ -103,7 +103,7 @@ module _ (items : List ItemDecl) (valid : All IsValidItem items) (differ : AllPa
             let equal = ap (λ n. get_or (map (λ (item : ItemDecl). item.node) items) n true) here in
             false≢true (sym of_zone ∙ sym right ∙ sym equal ∙ left ∙ of_node)
         | inr (inl before) ↦ differ i j [] before (omega arith) (first ∙ same ∙ sym second)
-        | inr (inr behind) ↦ differ j i [] behind (omega arith) (second ∙ sym same ∙ sym first)
+        | inr (inr after) ↦ differ j i [] after (omega arith) (second ∙ sym same ∙ sym first)
       ]
 
   declared-apart : AreApart (declared_names true items) (declared_names false items)

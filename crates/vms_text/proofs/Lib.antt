@@ -6,7 +6,7 @@ pub mod TextLaws
 pub mod Words
 pub mod Scans
 pub mod Appends
-pub mod ItemsBehind
+pub mod ItemsAfter
 pub mod Entries
 pub mod Sentences
 pub mod NameLookups

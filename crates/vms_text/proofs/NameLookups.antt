@@ -1,4 +1,4 @@
--- A name is found where it stands in a list of names that differ.
+-- For other crates too: a name is found where it stands in a list of names that differ.
 use Rattle.std.proofs.Common.{ℕ, ◌≡◌, ◌≢◌, ◌<◌, ◌&&◌, Bool, true, false, not, nat_lt, List, [], ◌∷◌, Some, None, refl, sym, ◌∙◌, ap, cond, arith, length, get_or}
 use Rattle.std.proofs.lemmas.Bool.Decides.{nat_tests}
 use Rattle.std.proofs.lemmas.List.Sums.{position_or_len_is}
@@ -39,8 +39,8 @@ position-name names i differ within =
     (λ k before. bytes_eq-other (get_or names i []) (get_or names k []) (λ same. differ k i [] before within (sym same)))
 
 -- whether no name of the second list stands in the first
-abbrev pub are_apart : List (List ℕ) → List (List ℕ) → Bool
-are_apart names others = list_all (λ name. list_all (λ other. not (bytes_eq name other)) others) names
+abbrev pub share_no_name : List (List ℕ) → List (List ℕ) → Bool
+share_no_name names others = list_all (λ name. list_all (λ other. not (bytes_eq name other)) others) names
 
 -- whether each name stands once
 abbrev pub all_differ : List (List ℕ) → Bool

@@ -11,11 +11,11 @@ use Rattle.std.specs.Str.Parse.{digits_value}
 use Rattle.vms_text.specs.Numbers.{is_digit, is_numeral, negative_of, number_within, signed_of, unsigned_of}
 use Rattle.vms_text.proofs.Values.{number_within-is, number_within-le, numeral-digits}
 
-tells : IsDigitsTest (λ word. list_all is_digit word ≡ true)
-tells = search rules
+digits_test : IsDigitsTest (λ word. list_all is_digit word ≡ true)
+digits_test = search rules
 
 own : IsNumeralModel (λ word. list_all is_digit word ≡ true) (digits_value 10)
-own = numerals_by_value _ tells
+own = numerals_by_value _ digits_test
 
 numeral-nonempty : (word : List ℕ) → is_numeral word ≡ true → 0 < length word
 numeral-nonempty [] numeral = absurd cc

@@ -1,4 +1,4 @@
--- The words of a line, cut at each byte that isn't one of a word.
+-- For other crates too: the words of a line, cut at each byte that isn't one of a word.
 use Rattle.std.proofs.Common.{ℕ, zero, suc, ◌≡◌, ◌<◌, ◌≤◌, ◌+◌, ◌-◌, ◌==◌, ◌&&◌, ◌||◌, Bool, true, false, not, List, [], ◌∷◌, ◌++◌, inl, inr, refl, sym, subst, ◌∙◌, ap, arith, append-nil, append_assoc, take, drop, length, get_or}
 use Rattle.std.proofs.lemmas.Bool.Decides.{nat_tests}
 use Rattle.std.proofs.Math.Bool.{and-false, and-true, and_assoc, or-false}
@@ -25,7 +25,7 @@ abbrev pub IsRun : List ℕ → ℕ → ℕ → Type 0
 IsRun line begin at = (k d : ℕ) → begin ≤ k → k < at → is_word_byte (get_or line k d) ≡ true
 
 run_bytes : (line : List ℕ) (begin at : ℕ) → begin ≤ at → at ≤ length line → IsRun line begin at → All (λ byte. is_other byte ≡ false) (take (at - begin) (drop begin line))
-run_bytes line begin at behind within run = λ k d below.
+run_bytes line begin at after within run = λ k d below.
     let long = length-drop begin line in
     let size = length-take-le (at - begin) (drop begin line) (omega arith) in
     let short : k < at - begin = omega arith in
@@ -34,19 +34,19 @@ run_bytes line begin at behind within run = λ k d below.
 
 -- a run that another byte ends is the first word, if it isn't empty
 words_of-run : (line : List ℕ) (begin at d : ℕ) → begin ≤ at → at < length line → IsRun line begin at → is_word_byte (get_or line at d) ≡ false → words_of (drop begin line) ≡ word_of (take (at - begin) (drop begin line)) ++ words_of (drop (at + 1) line)
-words_of-run line begin at d behind within run ends =
+words_of-run line begin at d after within run ends =
     let piece = take (at - begin) (drop begin line) in
     let reach : begin + (at - begin) ≡ at = omega arith in
     let rest : drop (at - begin) (drop begin line) ≡ get_or line at d ∷ drop (at + 1) line =
     drop-drop (at - begin) begin line ∙ ap (λ n. drop n line) reach ∙ drop_more line at d within in
     ap words_of (sym (take-append-drop (at - begin) (drop begin line)) ∙ ap (λ tail. piece ++ tail) rest)
-    ∙ ap (filter (λ word. not (is_empty word))) (slice_split_at is_other piece (get_or line at d) (drop (at + 1) line) (run_bytes line begin at behind (omega arith) run) (ap not ends))
+    ∙ ap (filter (λ word. not (is_empty word))) (slice_split_at is_other piece (get_or line at d) (drop (at + 1) line) (run_bytes line begin at after (omega arith) run) (ap not ends))
     ∙ filter-cons piece (slice_split is_other (drop (at + 1) line))
 
 -- a run that ends with the line is the last word, if it isn't empty
 words_of-last_run : (line : List ℕ) (begin : ℕ) → begin ≤ length line → IsRun line begin (length line) → words_of (drop begin line) ≡ word_of (take (length line - begin) (drop begin line))
-words_of-last_run line begin behind run =
-    let bytes = run_bytes line begin (length line) behind (omega arith) run in
+words_of-last_run line begin after run =
+    let bytes = run_bytes line begin (length line) after (omega arith) run in
     ap words_of (sym (take_rest line begin))
     ∙ ap (filter (λ word. not (is_empty word))) (slice_split_none is_other (take (length line - begin) (drop begin line)) bytes)
 
@@ -58,13 +58,13 @@ take-take-append (suc n) (x ∷ xs) ys = ap (λ more. x ∷ more) (take-take-app
 
 -- a line that is cut up to a byte: the words that end before `begin`, eight at most, and whether no byte before `at` is wrong
 pub record IsCut (line : List ℕ) (words : List (List ℕ)) (clean : Bool) (begin at : ℕ) : Type 0 where
-  pub behind : begin ≤ at
+  pub after : begin ≤ at
   pub run : IsRun line begin at
   pub words_are : take 8 (words ++ words_of (drop begin line)) ≡ take 8 (words_of line)
   pub clean_is : (clean && is_clean (drop at line)) ≡ is_clean line
 
 pub IsCut-none : (line : List ℕ) → IsCut line [] true 0 0
-IsCut-none line = record { behind = omega arith; run = λ k d low high. absurd (omega arith); words_are = refl; clean_is = refl }
+IsCut-none line = record { after = omega arith; run = λ k d low high. absurd (omega arith); words_are = refl; clean_is = refl }
 
 pub clean-word : (byte : ℕ) → is_word_byte byte ≡ true → not (is_wrong_byte byte) ≡ true
 clean-word byte is = grind (arith, nat_tests)
@@ -80,7 +80,7 @@ clean-other byte is = rw is (not_not_or (is_blank_byte byte))
 pub IsCut-word : (line : List ℕ) (words : List (List ℕ)) (clean : Bool) (begin at : ℕ) → at < length line → is_word_byte (get_or line at 0) ≡ true → IsCut line words clean begin at → IsCut line words clean begin (at + 1)
 IsCut-word line words clean begin at within word cut =
     record {
-      behind = omega (arith, cut.behind);
+      after = omega (arith, cut.after);
       run = run_more;
       words_are = cut.words_are;
       clean_is = ap (λ more. clean && more) (sym step) ∙ cut.clean_is;
@@ -102,12 +102,12 @@ IsCut-word line words clean begin at within word cut =
 pub IsCut-other : (line : List ℕ) (words words' : List (List ℕ)) (clean : Bool) (begin at : ℕ) → at < length line → is_word_byte (get_or line at 0) ≡ false → words' ≡ take 8 (words ++ word_of (take (at - begin) (drop begin line))) → IsCut line words clean begin at → IsCut line words' (clean && is_blank_byte (get_or line at 0)) (at + 1) (at + 1)
 IsCut-other line words words' clean begin at within other added cut =
     record {
-      behind = omega arith;
+      after = omega arith;
       run = λ k d low high. absurd (omega arith);
       words_are = ap (λ before. take 8 (before ++ words_of (drop (at + 1) line))) added
           ∙ take-take-append 8 (words ++ word_of (take (at - begin) (drop begin line))) (words_of (drop (at + 1) line))
           ∙ ap (take 8) (append_assoc words (word_of (take (at - begin) (drop begin line))) (words_of (drop (at + 1) line)))
-          ∙ ap (λ more. take 8 (words ++ more)) (sym (words_of-run line begin at 0 cut.behind within cut.run other))
+          ∙ ap (λ more. take 8 (words ++ more)) (sym (words_of-run line begin at 0 cut.after within cut.run other))
           ∙ cut.words_are;
       clean_is = and_assoc clean (is_blank_byte (get_or line at 0)) (is_clean (drop (at + 1) line)) ∙ ap (λ more. clean && more) (sym step) ∙ cut.clean_is;
     }
@@ -119,9 +119,9 @@ IsCut-other line words words' clean begin at within other added cut =
 pub words_of-cut : (line : List ℕ) (words words' : List (List ℕ)) (clean : Bool) (begin at : ℕ) → at ≡ length line → words' ≡ take 8 (words ++ word_of (take (length line - begin) (drop begin line))) → IsCut line words clean begin at → (words' ≡ take 8 (words_of line)) × (clean ≡ is_clean line)
 words_of-cut line words words' clean begin at done added cut =
     let run : IsRun line begin (length line) = subst (IsRun line begin) done cut.run in
-    let behind : begin ≤ length line = omega (arith, cut.behind) in
+    let after : begin ≤ length line = omega (arith, cut.after) in
     let nothing : is_clean (drop at line) ≡ true = at_drop_all is_clean line at (omega arith) in (
-      added ∙ ap (λ more. take 8 (words ++ more)) (sym (words_of-last_run line begin behind run)) ∙ cut.words_are,
+      added ∙ ap (λ more. take 8 (words ++ more)) (sym (words_of-last_run line begin after run)) ∙ cut.words_are,
       sym (ap (λ more. clean && more) nothing ∙ and-true clean) ∙ cut.clean_is,
     )
 

@@ -1,4 +1,4 @@
--- The words of a place are read back as that place.
+-- For other crates too: the words of a place are read back as that place.
 use Rattle.std.proofs.Common.{ℕ, ◌≡◌, ◌+◌, ◌-◌, ◌<◌, ◌≤◌, true, false, nat_lt, List, [], ◌∷◌, Some, refl, subst, ◌∙◌, ap, arith, eq-eqb, length, get_or, map, option_map, inl, inr}
 use Rattle.std.proofs.lemmas.Bool.{cases_lt}
 use Rattle.std.proofs.lemmas.Bool.Decides.{nat_tests}
@@ -92,8 +92,8 @@ module _ (shape : Shape) (layout : IsLayout shape) where
 
   pub node_at-own : (place : ℕ) → IsNode shape place → node_at shape place ≡ Some (get_or shape.nodes (place - length shape.zones) 0)
   node_at-own place is =
-      let behind : nat_lt place (length shape.zones) ≡ false = grind (arith, nat_tests) in
-      rw behind (slice_get-get_or shape.nodes (place - length shape.zones) 0 (omega arith))
+      let after : nat_lt place (length shape.zones) ≡ false = grind (arith, nat_tests) in
+      rw after (slice_get-get_or shape.nodes (place - length shape.zones) 0 (omega arith))
 
 abbrev pub some_zone : ZoneName
 some_zone = record { node = 0; kind = Dma }
@@ -146,5 +146,5 @@ module _ (header : Header) (layout : IsLayout header.layout) where
   place-spelled place is =
       elim (cases_lt place (length header.layout.zones)) [
         | inl within ↦ zone-spelled place within
-        | inr behind ↦ node-spelled place (behind, is)
+        | inr after ↦ node-spelled place (after, is)
       ]

@@ -1,4 +1,4 @@
--- Where the first element that passes a test stands.
+-- For other crates too: where the first element that passes a test stands.
 use Rattle.std.proofs.Common.{ℕ, ◌≡◌, ◌<◌, ◌≤◌, ◌+◌, Bool, false, cond, not, List, [], ◌∷◌, Option, Some, None, refl, sym, ◌∙◌, ap, arith, bytes_eq, length, map, position}
 use Rattle.std.proofs.lemmas.Bool.{false≢true}
 use Rattle.std.proofs.lemmas.Bool.Decides.{nat_tests}
@@ -15,17 +15,6 @@ position_or_len-map p f (x ∷ xs) = ap (λ n. cond (not (p (f x))) (1 + n) 0) (
 
 pub position-map : {X Y : Type 0} (p : Y → Bool) (f : X → Y) (xs : List X) → position p (map f xs) ≡ position (λ x. p (f x)) xs
 position-map p f xs = rw (position_or_len-map p f xs, length-map xs f) refl
-
--- where none passes
-pub position-none : {X : Type 0} (p : X → Bool) (xs : List X) → All (λ x. p x ≡ false) xs → position p xs ≡ None
-position-none p [] none = refl
-position-none p (x ∷ xs) none = by (position p (x ∷ xs)) refl
-  where
-    by : (found : Option ℕ) → position p (x ∷ xs) ≡ found → found ≡ None
-    by None is = refl
-    by (Some i) is =
-        let at = position-Some p (x ∷ xs) i x is in
-        absurd (false≢true (sym (none i x at.0) ∙ at.1))
 
 -- the first that passes is within
 pub position-lt : {X : Type 0} (p : X → Bool) (xs : List X) (i : ℕ) → position p xs ≡ Some i → i < length xs

@@ -88,7 +88,7 @@ IsNextWord-found line from skipped size inside some is =
     let width : begin + size - begin ≡ size = omega arith in
     let before : begin - from ≡ skipped = omega arith in
     record {
-      behind = omega arith;
+      after = omega arith;
       filled = omega (arith, run.filled);
       within = omega (arith, run.within);
       words = words_of-begin rest skipped some

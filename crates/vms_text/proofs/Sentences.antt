@@ -17,7 +17,7 @@ use Rattle.vms_text.proofs.Appends.{joined-cons}
 abbrev pub is_short : List ℕ → Bool
 is_short word = not (is_empty word) && (list_all is_word_byte word && nat_le (length word) 21)
 
-pub record IsShort (word : List ℕ) : Type 0 where
+pub record ShortWord (word : List ℕ) : Type 0 where
   pub filled : 0 < length word
   pub bytes : list_all is_word_byte word ≡ true
   pub most : length word ≤ 21
@@ -26,8 +26,8 @@ filled-from : (word : List ℕ) → not (is_empty word) ≡ true → 0 < length 
 filled-from [] is = absurd (false≢true is)
 filled-from (byte ∷ word) is = omega arith
 
-pub IsShort-from : (word : List ℕ) → is_short word ≡ true → IsShort word
-IsShort-from word is =
+pub ShortWord-from : (word : List ℕ) → is_short word ≡ true → ShortWord word
+ShortWord-from word is =
     let rest = and_right (not (is_empty word)) (list_all is_word_byte word && nat_le (length word) 21) is in
     let small = and_right (list_all is_word_byte word) (nat_le (length word) 21) rest in
     record {
@@ -47,18 +47,18 @@ is_short-from word filled bytes most =
 
 are_words : (words : List (List ℕ)) → list_all is_short words ≡ true → All IsWord words
 are_words words short = λ k d within.
-    let is = IsShort-from (get_or words k d) (AllPass-from_list_all is_short words short k d within) in
+    let is = ShortWord-from (get_or words k d) (AllPass-from_list_all is_short words short k d within) in
     record { filled = is.filled; bytes = AllPass-from_list_all is_word_byte (get_or words k d) is.bytes }
 
 or_true : (b : Bool) → (b || true) ≡ true
 or_true true = refl
 or_true false = refl
 
-clean_word : (word : List ℕ) → list_all is_word_byte word ≡ true → is_clean word ≡ true
-clean_word [] bytes = refl
-clean_word (byte ∷ word) bytes =
+is_clean-word : (word : List ℕ) → list_all is_word_byte word ≡ true → is_clean word ≡ true
+is_clean-word [] bytes = refl
+is_clean-word (byte ∷ word) bytes =
     let first = clean-word byte (and_left (is_word_byte byte) (list_all is_word_byte word) bytes) in
-    let rest = clean_word word (and_right (is_word_byte byte) (list_all is_word_byte word) bytes) in
+    let rest = is_clean-word word (and_right (is_word_byte byte) (list_all is_word_byte word) bytes) in
     ap (λ b. b && is_clean word) first ∙ rest
 
 clean_both : (before after : List ℕ) → is_clean before ≡ true → is_clean after ≡ true → is_clean (before ++ after) ≡ true
@@ -67,18 +67,18 @@ clean_both before after first second =
 
 clean_joined : (words : List (List ℕ)) → list_all is_short words ≡ true → is_clean (joined words) ≡ true
 clean_joined [] short = refl
-clean_joined (word ∷ []) short = clean_word word (IsShort-from word (and_left (is_short word) true short)).bytes
+clean_joined (word ∷ []) short = is_clean-word word (ShortWord-from word (and_left (is_short word) true short)).bytes
 clean_joined (word ∷ next ∷ words) short =
     let more = list_all is_short (next ∷ words) in
-    clean_both word (32 ∷ joined (next ∷ words)) (clean_word word (IsShort-from word (and_left (is_short word) more short)).bytes)
+    clean_both word (32 ∷ joined (next ∷ words)) (is_clean-word word (ShortWord-from word (and_left (is_short word) more short)).bytes)
     (clean_joined (next ∷ words) (and_right (is_short word) more short))
 
 length-joined : (words : List (List ℕ)) → list_all is_short words ≡ true → length (joined words) ≤ 22 * length words
 length-joined [] short = omega arith
-length-joined (word ∷ []) short = let is = IsShort-from word (and_left (is_short word) true short) in omega (arith, is.most)
+length-joined (word ∷ []) short = let is = ShortWord-from word (and_left (is_short word) true short) in omega (arith, is.most)
 length-joined (word ∷ next ∷ words) short =
     let more = list_all is_short (next ∷ words) in
-    let is = IsShort-from word (and_left (is_short word) more short) in
+    let is = ShortWord-from word (and_left (is_short word) more short) in
     let rest = length-joined (next ∷ words) (and_right (is_short word) more short) in
     omega (arith, is.most, rest, length-append word (32 ∷ joined (next ∷ words)))
 
@@ -91,7 +91,7 @@ clean-one_line line clean = λ k d within ends.
 word_no_blank : (byte : ℕ) → is_word_byte byte ≡ true → is_blank_byte byte ≡ false
 word_no_blank byte is = grind (arith, nat_tests)
 
-filled_line : (word : List ℕ) (more : List ℕ) → IsShort word → list_all is_blank_byte (word ++ more) ≡ false
+filled_line : (word : List ℕ) (more : List ℕ) → ShortWord word → list_all is_blank_byte (word ++ more) ≡ false
 filled_line [] more is = absurd (omega (arith, is.filled))
 filled_line (byte ∷ word) more is =
     let of_word = and_left (is_word_byte byte) (list_all is_word_byte word) is.bytes in
@@ -121,7 +121,7 @@ filled_words : (words : List (List ℕ)) → IsFew words → list_all is_blank_b
 filled_words [] is = absurd (omega (arith, is.some))
 filled_words (word ∷ words) is =
     ap (list_all is_blank_byte) (joined-cons word words)
-    ∙ filled_line word (spaced words) (IsShort-from word (and_left (is_short word) (list_all is_short words) is.short))
+    ∙ filled_line word (spaced words) (ShortWord-from word (and_left (is_short word) (list_all is_short words) is.short))
 
 pub few-ignored : (words : List (List ℕ)) → IsFew words → is_ignored (joined words) ≡ false
 few-ignored words is =

@@ -41,12 +41,12 @@ length-decimal-most n fits = length-decimal-le 20 n (omega arith) (omega arith) 
 pub decimal-short : (n : ℕ) → n < 2 ^ 64 → is_short (decimal n) ≡ true
 decimal-short n fits = is_short-from (decimal n) (decimal_nonempty n fits) (decimal-bytes n fits) (omega (arith, length-decimal-most n fits))
 
--- so is it behind a byte of a word
-pub decimal-behind : (byte n : ℕ) → is_word_byte byte ≡ true → n < 2 ^ 64 → is_short (byte ∷ decimal n) ≡ true
-decimal-behind byte n is fits =
+-- so is it after a byte of a word
+pub decimal-after : (byte n : ℕ) → is_word_byte byte ≡ true → n < 2 ^ 64 → is_short (byte ∷ decimal n) ≡ true
+decimal-after byte n is fits =
     is_short-from (byte ∷ decimal n) (omega arith) (ap (λ b. b && list_all is_word_byte (decimal n)) is ∙ decimal-bytes n fits)
     (omega (arith, length-decimal-most n fits))
 
 pub signed-short : (z : ℤ) → FitsSigned w64 z → is_short (signed_decimal z) ≡ true
 signed-short (pos n) fits = decimal-short n (omega (arith, ints))
-signed-short (negsuc n) fits = decimal-behind 45 (suc n) refl (omega (arith, ints))
+signed-short (negsuc n) fits = decimal-after 45 (suc n) refl (omega (arith, ints))

@@ -17,7 +17,7 @@ onto_first-append : {X : Type 0} (x : X) (parts more : List (List X)) → 0 < le
 onto_first-append x [] more some = absurd (omega arith)
 onto_first-append x (part ∷ parts) more some = refl
 
--- a list cut at one element that passes is cut before it and behind it
+-- a list cut at one element that passes is cut before it and after it
 pub slice_split-append : {X : Type 0} (p : X → Bool) (before : List X) (y : X) (after : List X) → p y ≡ true → slice_split p (before ++ (y ∷ after)) ≡ slice_split p before ++ slice_split p after
 slice_split-append p [] y after passes = slice_split-cons_yes p y after passes
 slice_split-append p (x ∷ before) y after passes = elim (p x) as (λ b. p x ≡ b → slice_split p (x ∷ (before ++ (y ∷ after))) ≡ slice_split p (x ∷ before) ++ slice_split p after) [
@@ -88,14 +88,14 @@ drop_last : (line : List ℕ) → All (λ byte. byte ≢ 10) line → drop 1 (li
 drop_last [] one = refl
 drop_last (byte ∷ line) one = ap (drop 1) (lines_of-last (byte ∷ line) one (λ empty. absurd cc))
 
--- the lines behind the first one
+-- the lines after the first one
 pub lines_of-split : (text line rest : List ℕ) → SplitsLine text line rest → lines_of rest ≡ drop 1 (lines_of text)
 lines_of-split text line rest splits = elim splits.parts [
   | inl ended ↦ sym (ap (λ bytes. drop 1 (lines_of bytes)) ended ∙ ap (drop 1) (lines_of-first line rest splits.one_line))
   | inr whole ↦ ap lines_of whole.1 ∙ sym (ap (λ bytes. drop 1 (lines_of bytes)) whole.0 ∙ drop_last line splits.one_line)
 ]
 
--- the rest is what stands behind so many lines, with their ends
+-- the rest is what stands after so many lines, with their ends
 pub record Reaches (text : List ℕ) (count : ℕ) (rest : List ℕ) : Type 0 where
   pub front : List ℕ
   pub parts : text ≡ front ++ rest
@@ -108,8 +108,8 @@ Reaches-start text = record { front = []; parts = refl; lines = refl; more = λ 
 lines_of-line : (line : List ℕ) → All (λ byte. byte ≢ 10) line → lines_of (line ++ (10 ∷ [])) ≡ line ∷ []
 lines_of-line line one = lines_of-first line [] one
 
-lines_of-behind : (front line next : List ℕ) → All (λ byte. byte ≢ 10) line → ((next : List ℕ) → lines_of (front ++ next) ≡ lines_of front ++ lines_of next) → lines_of ((front ++ (line ++ (10 ∷ []))) ++ next) ≡ (lines_of front ++ (line ∷ [])) ++ lines_of next
-lines_of-behind front line next one more =
+lines_of-after : (front line next : List ℕ) → All (λ byte. byte ≢ 10) line → ((next : List ℕ) → lines_of (front ++ next) ≡ lines_of front ++ lines_of next) → lines_of ((front ++ (line ++ (10 ∷ []))) ++ next) ≡ (lines_of front ++ (line ∷ [])) ++ lines_of next
+lines_of-after front line next one more =
     ap lines_of (append_assoc front (line ++ (10 ∷ [])) next ∙ ap (λ bytes. front ++ bytes) (append_assoc line (10 ∷ []) next))
     ∙ more (line ++ (10 ∷ next))
     ∙ ap (λ lines. lines_of front ++ lines) (lines_of-first line next one)
@@ -124,7 +124,7 @@ Reaches-line text count rest line after reaches splits some = elim splits.parts 
         front = reaches.front ++ (line ++ (10 ∷ []));
         parts = reaches.parts ∙ ap (λ bytes. reaches.front ++ bytes) (ended ∙ sym (append_assoc line (10 ∷ []) after)) ∙ sym (append_assoc reaches.front (line ++ (10 ∷ [])) after);
         lines = ap length own ∙ length-append (lines_of reaches.front) (line ∷ []) ∙ ap (λ n. n + 1) reaches.lines;
-        more = λ behind next. lines_of-behind reaches.front line next splits.one_line (reaches.more some) ∙ ap (λ lines. lines ++ lines_of next) (sym own);
+        more = λ after next. lines_of-after reaches.front line next splits.one_line (reaches.more some) ∙ ap (λ lines. lines ++ lines_of next) (sym own);
       }
   | inr whole ↦
       let filled : line ≢ [] = λ empty. some (whole.0 ∙ empty) in
@@ -133,7 +133,7 @@ Reaches-line text count rest line after reaches splits some = elim splits.parts 
         front = reaches.front ++ line;
         parts = reaches.parts ∙ ap (λ bytes. reaches.front ++ bytes) whole.0 ∙ sym (ap (λ bytes. (reaches.front ++ line) ++ bytes) whole.1 ∙ append-nil (reaches.front ++ line));
         lines = ap length own ∙ length-append (lines_of reaches.front) (line ∷ []) ∙ ap (λ n. n + 1) reaches.lines;
-        more = λ behind next. absurd (behind whole.1);
+        more = λ after next. absurd (after whole.1);
       }
 ]
 
@@ -141,7 +141,7 @@ lines_of-parts : (text : List ℕ) (count : ℕ) (rest : List ℕ) (reaches : Re
 lines_of-parts text count [] reaches = ap lines_of (reaches.parts ∙ append-nil reaches.front) ∙ sym (append-nil (lines_of reaches.front))
 lines_of-parts text count (byte ∷ rest) reaches = ap lines_of reaches.parts ∙ reaches.more (λ empty. absurd cc) (byte ∷ rest)
 
--- the bytes of so many lines, and those behind them
+-- the bytes of so many lines, and those after them
 pub record CutsLines (text : List ℕ) (count size : ℕ) : Type 0 where
   pub within : size ≤ length text
   pub front : lines_of (take size text) ≡ take count (lines_of text)
@@ -180,7 +180,7 @@ position-searched text (Some k) first =
     let len = position_or_len_is is_end text k 0 (le_of_lt first.0.high) (λ j below. false_of (is_end (get_or text j 0)) (first.0.before j zero-le below)) (λ _. first.1) in
     rw (len, lt-ltb k (length text) first.0.high) refl
 
--- the lines of a text that isn't empty: the one that it begins with, and those behind
+-- the lines of a text that isn't empty: the one that it begins with, and those after
 pub lines_of-begin : (text line rest : List ℕ) → SplitsLine text line rest → text ≢ [] → lines_of text ≡ line ∷ lines_of rest
 lines_of-begin text line rest splits some = elim splits.parts [
   | inl ended ↦ ap lines_of ended ∙ lines_of-first line rest splits.one_line

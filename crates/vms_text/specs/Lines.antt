@@ -12,12 +12,12 @@ without_last_empty (part ∷ parts) = part ∷ without_last_empty parts
 abbrev pub lines_of : List ℕ → List (List ℕ)
 lines_of text = without_last_empty (slice_split (λ byte. byte == 10) text)
 
--- the line that a text begins with, and what stands behind its end; the whole text, and nothing, where no byte 10 ends it
+-- the line that a text begins with, and what stands after its end; the whole text, and nothing, where no byte 10 ends it
 pub record SplitsLine (text line rest : List ℕ) : Type 0 where
   pub one_line : All (λ byte. byte ≢ 10) line
   pub parts : (text ≡ line ++ (10 ∷ rest)) ⊎ ((text ≡ line) × (rest ≡ []))
 
--- a text's lines up to an end of line, and those behind it, are its lines
+-- a text's lines up to an end of line, and those after it, are its lines
 abbrev pub LinesAppend : Type 0
 LinesAppend = (before after : List ℕ) → lines_of (before ++ (10 ∷ after)) ≡ lines_of (before ++ (10 ∷ [])) ++ lines_of after
 

@@ -52,6 +52,6 @@ signed_of (byte ∷ bytes) =
 abbrev pub UnsignedReadsBack : Type 0
 UnsignedReadsBack = (n : ℕ) (word : List ℕ) → n < 2 ^ 64 → (unsigned_of word ≡ Some n) ↔ (word ≡ decimal n)
 
--- a signed number has one spelling: its decimal digits, behind `-` where it is negative
+-- a signed number has one spelling: its decimal digits, after `-` where it is negative
 abbrev pub SignedReadsBack : Type 0
 SignedReadsBack = (z : ℤ) (word : List ℕ) → FitsSigned w64 z → (signed_of word ≡ Some z) ↔ (word ≡ signed_decimal z)

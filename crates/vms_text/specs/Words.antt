@@ -29,7 +29,7 @@ joined words = join_with_byte 32 words
 
 -- the first word of the bytes from `from` on stands from `begin` to `end`
 pub record IsNextWord (line : List ℕ) (from begin end : ℕ) : Type 0 where
-  pub behind : from ≤ begin
+  pub after : from ≤ begin
   pub filled : begin < end
   pub within : end ≤ length line
   pub words : words_of (drop from line) ≡ take (end - begin) (drop begin line) ∷ words_of (drop end line)

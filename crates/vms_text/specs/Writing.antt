@@ -11,7 +11,7 @@ text_of (Cpu number) = 99 ∷ decimal number
 text_of (Unsigned number) = decimal number
 text_of (Signed number) = signed_decimal number
 
--- words behind another, a blank before each
+-- words after another, a blank before each
 abbrev pub spaced : List (List ℕ) → List ℕ
 spaced words = flat_map (λ word. 32 ∷ word) words
 

@@ -4,7 +4,7 @@ ghost use Rattle.vms_text.specs.Lines.{SplitsLine};
 
 use memchr::memchr;
 
-/// The line that a text begins with, without its newline, and what stands behind it.
+/// The line that a text begins with, without its newline, and what stands after it.
 #[inline]
 pub fn split_line(text: &[u8]) -> (&[u8], &[u8])
     ensures { SplitsLine text.now result.0.now result.1.now }
@@ -22,7 +22,7 @@ fn first_newline(text: &[u8]) -> Option<usize>
     memchr(b'\n', text)
 }
 
-/// The law that a text's lines up to an end of line, and those behind it, are its lines.
+/// The law that a text's lines up to an end of line, and those after it, are its lines.
 pub fn lines_append()
     ensures { LinesAppend }
 {}
