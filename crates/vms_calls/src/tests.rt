@@ -2,9 +2,10 @@ ghost use Rattle.std.specs.Prelude.{◌≡◌, ℕ, ◌≤◌, true, pos, [], �
 ghost use Rattle.vms_base.specs.Areas.{areas_of, areas_from};
 ghost use Rattle.vms_base.specs.Thresholds.{most_threshold};
 ghost use Rattle.vms_core.specs.declared.steps.Step.TheVariants.{SetT};
-ghost use Rattle.vms_core.specs.Settling.{one_zone, begun, cpu, zone};
+ghost use Rattle.vms_core.specs.LoweredThreshold.{one_zone, begun, cpu, zone};
 ghost use Rattle.vms_calls.specs.MayMake.{MayMake};
-ghost use Rattle.vms_calls.specs.TurnExamples.{header_with, with_area, zone_item, node, visit, look, block};
+ghost use Rattle.vms_calls.specs.TurnExamples.{header_with, with_area, zone_item, node};
+ghost use Rattle.vms_calls.specs.TurnExamples.{one_visit, one_look, one_block};
 ghost use Rattle.vms_calls.specs.TurnReadings.{read_turn};
 ghost use Rattle.vms_calls.specs.Turns.Balance.{Yes, No};
 
@@ -29,12 +30,12 @@ fn covered_threshold_may_be_set()
 /// A zone with 190 free pages and a high watermark of 160 is balanced for single pages. For blocks of 8 it is so where
 /// one of 16 is free, and for blocks of 64 it isn't, since 127 pages are left beside one.
 fn turns_are_read()
-    ensures single { read_turn (header_with []) node 0 2 (visit ++ (look ++ visit)) ≡
+    ensures single { read_turn (header_with []) node 0 2 (one_visit ++ (one_look ++ one_visit)) ≡
         (Yes zone (record { yes = true; free = 190; fast = true; area = None }), []) }
-    ensures no_block { read_turn (header_with []) node 3 2 (visit ++ look) ≡ (No, []) }
-    ensures block { read_turn with_area node 3 2 (visit ++ (look ++ (block ++ visit))) ≡
+    ensures no_block { read_turn (header_with []) node 3 2 (one_visit ++ one_look) ≡ (No, []) }
+    ensures block { read_turn with_area node 3 2 (one_visit ++ (one_look ++ (one_block ++ one_visit))) ≡
         (Yes zone (record { yes = true; free = 190; fast = true; area = Some 4 }), []) }
-    ensures no_room { read_turn with_area node 6 2 (visit ++ look) ≡ (No, []) }
+    ensures no_room { read_turn with_area node 6 2 (one_visit ++ one_look) ≡ (No, []) }
 {}
 
 /// Blocks of 8 pages are looked for before those of 32, though the item of those of 32 is declared first.

@@ -1,6 +1,6 @@
 ghost use Rattle.std.specs.Prelude.{◌≡◌, ℕ, suc, [], ◌∷◌, None, refl};
 ghost use Rattle.vms_history.specs.Legal.{Machine, IsLegal, state_after};
-ghost use Rattle.vms_history.specs.Passes.Turn.{Works, Begins, Ends};
+ghost use Rattle.vms_history.specs.Passes.Role.{Works, Begins, Ends};
 ghost use Rattle.vms_history.specs.declared.events.Event.{Event};
 ghost use Rattle.vms_history.specs.declared.tests.Ring.TheVariants.{Open, Shut, Strike};
 
@@ -24,7 +24,7 @@ impl Table for Bell {
     ghost State = { ℕ };
 
     ghost machine = { record {
-      turn = elim [ Open q ↦ Begins q None | Shut q ↦ Ends q | Strike ↦ Works ];
+      role = elim [ Open q ↦ Begins q None | Shut q ↦ Ends q | Strike ↦ Works ];
       base = λ most. 0;
       effect = λ most cpu step rung. elim step [ Open q ↦ rung | Shut q ↦ rung | Strike ↦ suc rung ];
       CanBegin = λ most. Unit {0};
@@ -82,6 +82,6 @@ fn laws_hold_of_a_bell() {
     sum_goes_by_values();
     total_adds_up::<Bell>();
     total_by_caller::<Bell>();
-    turn_changes_passes::<Bell>();
+    role_changes_passes::<Bell>();
     who_may_act::<Bell>();
 }

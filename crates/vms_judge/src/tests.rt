@@ -1,8 +1,8 @@
 ghost use Rattle.std.specs.Prelude.{◌<◌, ℕ, None, Some, refl};
-ghost use Rattle.vms_history.specs.Passes.Turn.{Works, Begins, Ends};
+ghost use Rattle.vms_history.specs.Passes.Role.{Works, Begins, Ends};
 ghost use Rattle.vms_judge.specs.declared.tests.Ring.TheVariants.{Open, Shut, Strike};
 
-use crate::{Judged, Turn, Turning, Verdict, judge, one_verdict};
+use crate::{Judged, Role, RoleTable, Verdict, judge, one_verdict};
 use Verdict::{Complete, Illegal, NoBase};
 use std::test::Fail;
 use vms_base::CpuId;
@@ -27,7 +27,7 @@ impl Table for Bell {
     ghost State = { ℕ };
 
     ghost machine = { record {
-      turn = elim [ Open q who ↦ Begins q who | Shut q ↦ Ends q | Strike n ↦ Works ];
+      role = elim [ Open q who ↦ Begins q who | Shut q ↦ Ends q | Strike n ↦ Works ];
       base = λ cpus. 0;
       effect = λ cpus cpu step s. s;
       CanBegin = λ cpus. 0 < cpus;
@@ -46,12 +46,12 @@ impl Table for Bell {
     } };
 }
 
-impl Turning for Bell {
-    fn turn(step: &Ring) -> Turn {
+impl RoleTable for Bell {
+    fn role(step: &Ring) -> Role {
         match *step {
-            Ring::Open(pass, who) => Turn::Begins(pass, who),
-            Ring::Shut(pass) => Turn::Ends(pass),
-            Ring::Strike(_) => Turn::Works,
+            Ring::Open(pass, who) => Role::Begins(pass, who),
+            Ring::Shut(pass) => Role::Ends(pass),
+            Ring::Strike(_) => Role::Works,
         }
     }
 }

@@ -3,14 +3,14 @@
 
 mod bases;
 mod carried;
-mod carrying;
 mod changes;
 mod conditions;
 mod control;
 mod covering;
 mod loads;
+mod nothing_carried;
 mod openings;
-mod own;
+mod own_events;
 mod owners;
 mod peaks;
 mod states;

@@ -7,7 +7,7 @@ mod conditions;
 mod facts;
 mod holdings;
 mod owners;
-mod standing;
+mod states;
 mod tables;
 #[cfg(test)]
 mod tests;

@@ -3,7 +3,7 @@ ghost use Rattle.vms_base.specs.declared.groups.Diffs.{Diffs};
 ghost use Rattle.vms_core.specs.Cells.{eight_zeros};
 ghost use Rattle.vms_core.specs.Pages.{IsLegal};
 ghost use Rattle.vms_core.specs.Peaks.{peak};
-ghost use Rattle.vms_core.specs.Settling.{one_zone, found_none, found_newest, found_older, uncovered_threshold, uncovered_mark, acknowledged_early, acknowledged_other};
+ghost use Rattle.vms_core.specs.LoweredThreshold.{one_zone, found_none, found_newest, found_older, uncovered_threshold, uncovered_mark, acknowledged_early, acknowledged_other};
 
 /// A CPU's threshold is lowered from 20 to 5, and later to 3. Where the control pass finds 5 acknowledged while it is
 /// the newest, the peak falls to 5. Where it finds nothing acknowledged, or 5 once 3 was set, the peak stays.

@@ -8,12 +8,12 @@ use Rattle.vms_core.specs.declared.steps.Step.TheVariants.{SetT}
 use Rattle.vms_core.specs.Cells.{cpu_at}
 use Rattle.vms_calls.specs.MayMake.{MayMake, ControlsIn}
 use Rattle.vms_core.specs.Pages.{state_after}
-use Rattle.vms_core.specs.Settling.{one_zone, begun, cpu, zone}
+use Rattle.vms_core.specs.LoweredThreshold.{one_zone, begun, cpu, zone}
 use Rattle.vms_calls.specs.Ratings.{ByPressure, Rates}
 use Rattle.vms_calls.proofs.ChoiceRanges.{pressure-gives}
 use Rattle.vms_calls.proofs.ControlCalls.{rating-may}
 use Rattle.vms_calls.proofs.MayBegin.{call-whole}
-use Rattle.vms_core.proofs.SettlingLegal.{lowered_legal, uncovered_threshold_illegal}
+use Rattle.vms_core.proofs.LoweredLegal.{lowered_legal, uncovered_threshold_illegal}
 use Rattle.vms_calls.proofs.tests.covered_threshold_may_be_set.Goals as goal
 
 abbrev any : ZoneSize → ℕ → ℕ → Type 0

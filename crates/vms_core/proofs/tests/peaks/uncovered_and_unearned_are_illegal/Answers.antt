@@ -1,4 +1,4 @@
-use Rattle.vms_core.proofs.SettlingLegal.{uncovered_threshold_illegal, uncovered_mark_illegal, acknowledged_early_illegal, acknowledged_other_illegal}
+use Rattle.vms_core.proofs.LoweredLegal.{uncovered_threshold_illegal, uncovered_mark_illegal, acknowledged_early_illegal, acknowledged_other_illegal}
 use Rattle.vms_core.proofs.tests.peaks.uncovered_and_unearned_are_illegal.Goals as goal
 
 pub returns : goal.returns
