@@ -8,8 +8,6 @@ mod changes;
 mod ratings;
 mod readings;
 mod rules;
-#[cfg(test)]
-mod tests;
 mod turns;
 
 pub use allowed_steps::{

@@ -6,8 +6,6 @@
 
 mod events;
 mod laws;
-#[cfg(test)]
-mod tests;
 
 pub use events::Event;
 pub use laws::{

@@ -10,8 +10,6 @@ mod laws;
 mod passes;
 mod roles;
 mod tables;
-#[cfg(test)]
-mod tests;
 mod verdicts;
 
 pub use judging::judge;

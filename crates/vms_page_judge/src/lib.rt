@@ -15,8 +15,6 @@ mod owners;
 mod peaks;
 mod states;
 mod tables;
-#[cfg(test)]
-mod tests;
 mod totals;
 mod worker;
 

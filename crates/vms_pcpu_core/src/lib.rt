@@ -14,8 +14,6 @@ mod states;
 mod steps;
 mod summing;
 mod tables;
-#[cfg(test)]
-mod tests;
 
 pub use allowed_steps::{calls_may_be_made, calls_stand_in_histories};
 pub use answers::Compare;

@@ -9,8 +9,6 @@ mod holdings;
 mod owners;
 mod states;
 mod tables;
-#[cfg(test)]
-mod tests;
 mod volumes;
 
 pub use tables::JudgedPercpu;
