@@ -1,6 +1,7 @@
 -- What a pass made while others acted agrees with the same steps in a row: in what it may go by, the two histories are
 -- the same.
-use Rattle.std.proofs.Common.{◌≡◌, ◌≢◌, ℕ, ◌+◌, ◌≤◌, true, List, [], ◌∷◌, ◌++◌, Some, None, refl, sym, ap, ◌∙◌, subst, arith, append_assoc}
+use Rattle.std.proofs.Common.{◌≡◌, ◌≢◌, ℕ, ◌+◌, ◌≤◌, true, List, [], ◌∷◌, ◌++◌}
+use Rattle.std.proofs.Common.{Some, None, refl, sym, ap, ◌∙◌, subst, arith, append_assoc}
 use Rattle.std.proofs.lemmas.List.{append-nil}
 use Rattle.vms_base.specs.declared.ids.CpuId.{CpuId}
 use Rattle.vms_history.specs.declared.events.Event.{Event}
@@ -16,11 +17,11 @@ use Rattle.vms_core.specs.Cells.{mark_at}
 use Rattle.vms_core.specs.Knowledge.{GoesOnWithout}
 use Rattle.vms_calls.specs.MayMake.{HasMade}
 use Rattle.vms_core.specs.Pages.{pages, History, IsLegal, state_after}
-use Rattle.vms_core.specs.Steps.{turn}
+use Rattle.vms_core.specs.Steps.{role}
 use Rattle.vms_core.specs.Totals.{spent, spent_by}
 use Rattle.vms_calls.proofs.RatingCovers.{SamePeaks, SamePeaks-next}
 use Rattle.vms_core.proofs.Settings.{mark_after, mark_at-newest}
-use Rattle.vms_core.proofs.Watching.{owner_in-goes_on, owner-knows, control-knows_later}
+use Rattle.vms_core.proofs.KnowledgeKept.{owner_in-goes_on, OwnerKnows-holds, control-knows_later}
 
 -- what holds of no steps, and of one step more, holds of all
 pub by_last : (P : List Step → Type 0) → P [] → ((ks : List Step) (k : Step) → P ks → P (ks ++ (k ∷ [])))
@@ -50,10 +51,10 @@ module _ (facts : Facts) (p : ℕ) where
   -- the pass itself, its CPU's volumes, and for the control pass peaks and marks are the same in both histories
   pub record Agrees (h ideal : History) : Type 0 where
     pub mine : own h p ≡ own ideal p
-    pub owner : owner_in turn h p ≡ owner_in turn ideal p
-    pub volumes : (c : CpuId) → owner_in turn ideal p ≡ Some c → (k : ℕ) → spent h c.number k ≡ spent ideal c.number k
-    pub peaks : owner_in turn ideal p ≡ None → (g : ℕ) → SamePeaks facts g h ideal
-    pub marks : owner_in turn ideal p ≡ None → (g : ℕ) → mark_in facts g h ≡ mark_in facts g ideal
+    pub owner : owner_in role h p ≡ owner_in role ideal p
+    pub volumes : (c : CpuId) → owner_in role ideal p ≡ Some c → (k : ℕ) → spent h c.number k ≡ spent ideal c.number k
+    pub peaks : owner_in role ideal p ≡ None → (g : ℕ) → SamePeaks facts g h ideal
+    pub marks : owner_in role ideal p ≡ None → (g : ℕ) → mark_in facts g h ≡ mark_in facts g ideal
 
   Agrees-same : (h : History) → Agrees h h
   Agrees-same h = record {
@@ -76,13 +77,13 @@ module _ (facts : Facts) (p : ℕ) where
     owner = apart h ∙ agrees.owner ∙ sym (apart ideal);
     volumes = λ c is n.
         ap (λ who. spent_by who c.number n k + spent h c.number n) agrees.owner
-        ∙ ap (λ m. spent_by (owner_in turn ideal p) c.number n k + m) (agrees.volumes c (sym (apart ideal) ∙ is) n);
+        ∙ ap (λ m. spent_by (owner_in role ideal p) c.number n k + m) (agrees.volumes c (sym (apart ideal) ∙ is) n);
     peaks = λ control g. SamePeaks-next facts g h ideal (event k) (agrees.peaks (sym (apart ideal) ∙ control) g);
     marks = λ control g. ap (mark_after g k) (agrees.marks (sym (apart ideal) ∙ control) g);
   }
     where
-      apart : (g : History) → owner_in turn (event k ∷ g) p ≡ owner_in turn g p
-      apart g = ap (λ es. owner turn es p) (own-others (event k) g 0 some)
+      apart : (g : History) → owner_in role (event k ∷ g) p ≡ owner_in role g p
+      apart g = ap (λ es. owner role es p) (own-others (event k) g 0 some)
 
   -- steps of others change nothing of it
   Agrees-goes_on : (later h ideal : History) → GoesOnWithout facts later h p → IsLegal facts h → Agrees h ideal
@@ -92,7 +93,8 @@ module _ (facts : Facts) (p : ℕ) where
       record {
         mine = goes.own_same ∙ agrees.mine;
         owner = same ∙ agrees.owner;
-        volumes = λ c is k. (owner-knows facts later h p c goes (agrees.owner ∙ is)).volumes k ∙ agrees.volumes c is k;
+        volumes = λ c is k. (OwnerKnows-holds facts later h p c goes (agrees.owner ∙ is)).volumes k
+            ∙ agrees.volumes c is k;
         peaks = λ control g.
             let knows = control-knows_later facts later h p goes (agrees.owner ∙ control) in
             let before = agrees.peaks control g in
@@ -125,17 +127,17 @@ module _ (facts : Facts) (p : ℕ) where
       (subst (IsLegal facts) newest.parts has.legal) in
       let earlier_legal : IsLegal facts earlier =
       prefix_is_legal pages facts has.extends.0 earlier (subst (IsLegal facts) has.extends.1 has.legal) in
-      let given : p ≤ begun_in turn earlier = (live_is_given pages facts earlier p earlier_legal has.lived).1 in
-      let grows : begun_in turn earlier ≤ begun_in turn newest.before =
-      subst (λ (g : History). begun_in turn earlier ≤ begun_in turn g) (sym parts.1.1)
-      (begun_in-append turn parts.1.0 earlier) in
+      let given : p ≤ begun_in role earlier = (live_is_given pages facts earlier p earlier_legal has.lived).1 in
+      let grows : begun_in role earlier ≤ begun_in role newest.before =
+      subst (λ (g : History). begun_in role earlier ≤ begun_in role g) (sym parts.1.1)
+      (begun_in-append role parts.1.0 earlier) in
       let whole : later ≡ (newest.since ++ (event k ∷ [])) ++ newest.before =
       newest.parts ∙ sym (append_assoc newest.since (event k ∷ []) newest.before) in
-      let lived_before : lives_in turn newest.before p ≡ true =
+      let lived_before : lives_in role newest.before p ≡ true =
       lives_in-before pages facts (newest.since ++ (event k ∷ [])) newest.before p
       (subst (IsLegal facts) whole has.legal) (omega arith)
-      (subst (λ (g : History). lives_in turn g p ≡ true) whole has.lives) in
-      let grows_more = begun_in-append turn (event k ∷ []) newest.before in
+      (subst (λ (g : History). lives_in role g p ≡ true) whole has.lives) in
+      let grows_more = begun_in-append role (event k ∷ []) newest.before in
       record {
         before = newest.before;
         made = record {
@@ -151,7 +153,7 @@ module _ (facts : Facts) (p : ℕ) where
           extends = (newest.since, newest.parts);
           lived = lives_in-before pages facts newest.since (event k ∷ newest.before) p
               (subst (IsLegal facts) newest.parts has.legal) (omega arith)
-              (subst (λ (g : History). lives_in turn g p ≡ true) newest.parts has.lives);
+              (subst (λ (g : History). lives_in role g p ≡ true) newest.parts has.lives);
           lives = has.lives;
           own_same =
               has.made ∙ after-steps p ks (k ∷ []) (own earlier p) ∙ ap (λ es. event k ∷ es) (sym newest.own_before)

@@ -1,5 +1,6 @@
 -- The areas of a valid header are zone items of its layout, and areas ascend.
-use Rattle.std.proofs.Common.{◌≡◌, ℕ, suc, ◌+◌, ◌<◌, ◌≤◌, ⊎_elim, Bool, false, not, ◌&&◌, List, [], ◌∷◌, ◌++◌, length, filter, position, get_or, nat_le, Option, Some, None, refl, ap, subst, arith}
+use Rattle.std.proofs.Common.{◌≡◌, ℕ, suc, ◌+◌, ◌<◌, ◌≤◌, ⊎_elim, Bool, false, not, ◌&&◌, List, [], ◌∷◌, ◌++◌, length}
+use Rattle.std.proofs.Common.{filter, position, get_or, nat_le, Option, Some, None, refl, ap, subst, arith}
 use Rattle.std.specs.Prelude.{All, AllPairs}
 use Rattle.std.proofs.lemmas.Bool.{leb-true}
 use Rattle.std.specs.Str.{bytes_eq}
@@ -68,7 +69,8 @@ module _ (items : List ItemDecl) where
   abbrev FromOn : ℕ → Area → Type 0
   FromOn order a = order ≤ a.order
 
-  next-ascends : (order : ℕ) (found : Option ℕ) (rest : List Area) → AllPairs Before rest → All (FromOn (suc order)) rest
+  next-ascends : (order : ℕ) (found : Option ℕ) (rest : List Area) → AllPairs Before rest
+      → All (FromOn (suc order)) rest
       → AllPairs Before (area_at order found ++ rest) × All (FromOn order) (area_at order found ++ rest)
   next-ascends order None rest ascend from =
       (ascend, All-weaker (FromOn (suc order)) (FromOn order) (λ a later. omega arith) rest from)
@@ -93,8 +95,8 @@ module _ (items : List ItemDecl) where
       leb-true order (get_or (areas_from order areas) i d).order
       (filter_passes (λ area. nat_le order area.order) areas i d less)
 
-pub areas-ascend : AreasAscend
-areas-ascend order items = (
+pub AreasAscend-holds : AreasAscend
+AreasAscend-holds order items = (
   AllPairs-filter (Before items) (λ area. nat_le order area.order) (areas_of items)
       (named-ascend items 1 area_names).0,
   from-on items order (areas_of items),

@@ -1,5 +1,6 @@
 -- What holds of each kind of step that a call makes holds of all its steps.
-use Rattle.std.proofs.Common.{ℕ, suc, zero, Bool, true, false, nat_eq, ℤ, pos, negsuc, ◌+◌, if◌then◌else◌, List, [], ◌∷◌, ◌++◌, length, Option, sym, subst}
+use Rattle.std.proofs.Common.{ℕ, suc, zero, Bool, true, false, nat_eq, ℤ, pos, negsuc}
+use Rattle.std.proofs.Common.{◌+◌, if◌then◌else◌, List, [], ◌∷◌, ◌++◌, length, Option, sym, subst}
 use Rattle.vms_base.specs.declared.groups.Diffs.{Diffs}
 use Rattle.vms_base.specs.declared.headers.Header.{Header}
 use Rattle.vms_base.specs.declared.ids.CounterId.{CounterId}
@@ -19,17 +20,23 @@ use Rattle.vms_history.specs.Events.{after}
 use Rattle.vms_core.specs.declared.states.State.{State}
 use Rattle.vms_core.specs.declared.steps.Facts.{Facts}
 use Rattle.vms_core.specs.declared.steps.Step.{Step}
-use Rattle.vms_core.specs.declared.steps.Step.TheVariants.{LoadT, LoadD, AddG, AddS, Take, LoadG, LoadS, LoadM, LoadO, SetT, SetM, SetA, LoadA}
+use Rattle.vms_core.specs.declared.steps.Step.TheVariants.{LoadT, LoadD, AddG, AddS, Take, LoadG, LoadS}
+use Rattle.vms_core.specs.declared.steps.Step.TheVariants.{LoadM, LoadO, SetT, SetM, SetA, LoadA}
 use Rattle.vms_core.specs.Pages.{History}
-use Rattle.vms_calls.specs.Folds.{FoundPlace, IsFold, to_place, to_system, group_steps, place_steps, system_steps, acknowledges, lists_of, taken_of_item}
+use Rattle.vms_calls.specs.Folds.{FoundPlace, IsFold, to_place, to_system, group_steps}
+use Rattle.vms_calls.specs.Folds.{place_steps, system_steps, acknowledges, lists_of, taken_of_item}
 use Rattle.vms_calls.specs.HeaderFacts.{facts_of}
 use Rattle.vms_calls.specs.Lists.{in_turn}
-use Rattle.vms_calls.specs.Looks.{Look, Verdict, Frees, IsSnapshot, IsWatermarkTest, look_steps, is_doubtful, free_pages}
+use Rattle.vms_calls.specs.Looks.{Look, Verdict, Frees, IsSnapshot}
+use Rattle.vms_calls.specs.Looks.{IsWatermarkTest, look_steps, is_doubtful, free_pages}
 use Rattle.vms_calls.specs.Looks.Look.{online, other}
-use Rattle.vms_calls.specs.Ratings.{Choice, ByNormal, ByPressure, Rates, RatesMarked, VisitsEach, RatesNode, Refreshes, acknowledged_steps, state_steps, threshold_steps, mark_steps, mark_for, node_number, numbers_below, zones_on, largest_on}
+use Rattle.vms_calls.specs.Ratings.{Choice, ByNormal, ByPressure, Rates, RatesMarked, VisitsEach}
+use Rattle.vms_calls.specs.Ratings.{RatesNode, Refreshes, acknowledged_steps, state_steps, threshold_steps, mark_steps}
+use Rattle.vms_calls.specs.Ratings.{mark_for, node_number, numbers_below, zones_on, largest_on}
 use Rattle.vms_calls.specs.Ratings.RatesMarked.{unmarked, marked}
 use Rattle.vms_calls.specs.Ratings.VisitsEach.{none, next}
-use Rattle.vms_calls.specs.Turns.{OrderVerdict, Balance, FindsBlock, Further, Blocks, Balances, IsOrderTest, IsTurn, Settles, has_room, zones_up_to}
+use Rattle.vms_calls.specs.Turns.{OrderVerdict, Balance, FindsBlock, Further, Blocks, Balances}
+use Rattle.vms_calls.specs.Turns.{IsOrderTest, IsTurn, Settles, has_room, zones_up_to}
 use Rattle.vms_calls.specs.Turns.Balance.{Yes, No}
 use Rattle.vms_calls.specs.Turns.FindsBlock.{nowhere, empty, some}
 use Rattle.vms_calls.specs.Turns.Balances.{no_zone, fails, passes}

@@ -1,5 +1,6 @@
 -- Calls leave what their caller carries, and what the CPUs have spent but for the size of a change.
-use Rattle.std.proofs.Common.{◌≡◌, ℕ, ◌+◌, ◌&&◌, Bool, true, false, nat_eq, if◌then◌else◌, ℤ, pos, neg_ℤ, List, [], ◌∷◌, ◌++◌, Option, Some, None, refl, sym, ap, ◌∙◌, subst, arith, unsigned_abs}
+use Rattle.std.proofs.Common.{◌≡◌, ℕ, ◌+◌, ◌&&◌, Bool, true, false, nat_eq, if◌then◌else◌, ℤ, pos, neg_ℤ, List}
+use Rattle.std.proofs.Common.{[], ◌∷◌, ◌++◌, Option, Some, None, refl, sym, ap, ◌∙◌, subst, arith, unsigned_abs}
 use Rattle.std.proofs.lemmas.Int.{ints}
 use Rattle.vms_base.specs.declared.groups.Diffs.{Diffs}
 use Rattle.vms_base.specs.declared.ids.CounterId.{CounterId}
@@ -9,7 +10,7 @@ use Rattle.vms_base.specs.declared.kinds.ZoneSize.{ZoneSize}
 use Rattle.vms_base.specs.Places.{Shape, IsLayout, place_of, group_of, item_of}
 use Rattle.vms_history.specs.Events.{own, after}
 use Rattle.vms_history.specs.Passes.{owner, owner_after, owner_in}
-use Rattle.vms_history.specs.Passes.Turn.{Works}
+use Rattle.vms_history.specs.Passes.Role.{Works}
 use Rattle.vms_core.specs.declared.steps.Facts.{Facts}
 use Rattle.vms_core.specs.declared.steps.Step.{Step}
 use Rattle.vms_core.specs.declared.steps.Step.TheVariants.{LoadT, LoadD, Put, AddG, AddS, Take, SetO}
@@ -17,7 +18,7 @@ use Rattle.vms_core.specs.Cells.{entry}
 use Rattle.vms_core.specs.Changes.{carried_by}
 use Rattle.vms_core.specs.Own.{moved, moved_of_item}
 use Rattle.vms_core.specs.Pages.{History}
-use Rattle.vms_core.specs.Steps.{turn}
+use Rattle.vms_core.specs.Steps.{role}
 use Rattle.vms_core.specs.Totals.{change_size, spent, spent_by}
 use Rattle.vms_calls.specs.CallerLaws.{CarriesAsBefore, LeavesCaller, ChangesLeave, ChangesSpend}
 use Rattle.vms_calls.specs.Changes.{Carries, Exchanges, IsChange}
@@ -107,7 +108,7 @@ spent-no_put p [] h no_put c k = refl
 spent-no_put p (step ∷ steps) h no_put c k = omega (
   arith,
   spent-no_put p steps (record { caller = p; step = step } ∷ h) no_put.1 c k,
-  step-spends (owner_in turn h p) c k step no_put.0,
+  step-spends (owner_in role h p) c k step no_put.0,
 )
 
 -- steps that move nothing in sum, and that are no puts
@@ -265,13 +266,13 @@ change-leaves shape cpu k delta how steps change p h = record {
 }
 
 -- a step that works leaves the owners
-owner-stays : (p : ℕ) (step : Step) (h : History) (q : ℕ) → turn step ≡ Works
-    → owner_in turn (record { caller = p; step = step } ∷ h) q ≡ owner_in turn h q
-owner-stays p step h q works = by (nat_eq p 0)
+owner_in-working : (p : ℕ) (step : Step) (h : History) (q : ℕ) → role step ≡ Works
+    → owner_in role (record { caller = p; step = step } ∷ h) q ≡ owner_in role h q
+owner_in-working p step h q works = by (nat_eq p 0)
   where
     by : (b : Bool)
-        → owner turn (if b then record { caller = p; step = step } ∷ own h 0 else own h 0) q ≡ owner turn (own h 0) q
-    by true = ap (λ does. owner_after does q (owner turn (own h 0) q)) works
+        → owner role (if b then record { caller = p; step = step } ∷ own h 0 else own h 0) q ≡ owner role (own h 0) q
+    by true = ap (λ does. owner_after does q (owner role (own h 0) q)) works
     by false = refl
 
 -- what working steps of a pass that owns `who` spend in a row
@@ -280,14 +281,15 @@ spend_of who c k [] = 0
 spend_of who c k (step ∷ steps) = spent_by who c k step + spend_of who c k steps
 
 abbrev WorkOnly : Step → Type 0
-WorkOnly step = turn step ≡ Works
+WorkOnly step = role step ≡ Works
 
 spent-working : (p : ℕ) (who : Option CpuId) (steps : List Step) (h : History) → Each WorkOnly steps
-    → owner_in turn h p ≡ who → (c k : ℕ) → spent (after p steps h) c k ≡ spend_of who c k steps + spent h c k
+    → owner_in role h p ≡ who → (c k : ℕ) → spent (after p steps h) c k ≡ spend_of who c k steps + spent h c k
 spent-working p who [] h work is c k = omega arith
 spent-working p who (step ∷ steps) h work is c k = omega (
   arith,
-  spent-working p who steps (record { caller = p; step = step } ∷ h) work.1 (owner-stays p step h p work.0 ∙ is) c k,
+  spent-working p who steps (record { caller = p; step = step } ∷ h) work.1
+      (owner_in-working p step h p work.0 ∙ is) c k,
   ap (λ o. spent_by o c k step) is,
 )
 

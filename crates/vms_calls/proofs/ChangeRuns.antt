@@ -1,5 +1,6 @@
 -- The steps of a change meet their conditions in a row.
-use Rattle.std.proofs.Common.{◌≡◌, ℕ, ◌+◌, ◌≤◌, nat_eq, true, ℤ, List, [], ◌∷◌, ◌++◌, Some, refl, sym, ap, ◌∙◌, subst, arith, eq-eqb, unsigned_abs}
+use Rattle.std.proofs.Common.{◌≡◌, ℕ, ◌+◌, ◌≤◌, nat_eq, true, ℤ, List, [], ◌∷◌}
+use Rattle.std.proofs.Common.{◌++◌, Some, refl, sym, ap, ◌∙◌, subst, arith, eq-eqb, unsigned_abs}
 use Rattle.std.proofs.lemmas.Int.{ints}
 use Rattle.vms_base.specs.declared.groups.Diffs.{Diffs}
 use Rattle.vms_base.specs.declared.ids.CounterId.{CounterId}
@@ -22,13 +23,13 @@ use Rattle.vms_base.specs.Volumes.{most_volume}
 use Rattle.vms_calls.specs.MayCall.{MakesChange}
 use Rattle.vms_core.specs.Own.{CarriesNothing, carried, carried_of_item, found, loaded}
 use Rattle.vms_core.specs.Pages.{pages, History}
-use Rattle.vms_core.specs.Steps.{turn}
+use Rattle.vms_core.specs.Steps.{role}
 use Rattle.vms_core.specs.Totals.{spent}
 use Rattle.vms_calls.proofs.CallerLaws.{spent-no_put}
 use Rattle.vms_calls.proofs.MayBegin.{call-begins}
 use Rattle.vms_calls.proofs.Agreement.{event}
 use Rattle.vms_base.proofs.Counts.{place_of-lt, group_of-lt, item_of-lt}
-use Rattle.vms_calls.proofs.Runs.{Runs, Exchanging, runs-may}
+use Rattle.vms_calls.proofs.StepRuns.{Runs, Exchanging, runs-may}
 
 module _ (facts : Facts) (layout : IsLayout facts.layout) (p : ℕ) (cpu : CpuId) (k : CounterId)
     (k_in : IsCounter facts.layout k.number) where
@@ -61,7 +62,7 @@ module _ (facts : Facts) (layout : IsLayout facts.layout) (p : ℕ) (cpu : CpuId
     looked = after p loads h
 
     -- what the pass may exchange after further steps, `more`, that put nothing
-    exchanging : (g more : History) (w : Diffs) → owner_in turn g p ≡ Some cpu → own g p ≡ more
+    exchanging : (g more : History) (w : Diffs) → owner_in role g p ≡ Some cpu → own g p ≡ more
         → found cpu (group_of k.number) more ≡ Some w.values
         → loaded (place_of facts.layout k.number) more ≡ Some (record { t = t; number = number })
         → CarriesNothing facts.layout more → spent g cpu.number k.number ≡ spent h cpu.number k.number

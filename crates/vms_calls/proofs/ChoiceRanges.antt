@@ -1,4 +1,4 @@
--- The two thresholds that a call chooses are of 1 to 125, where its rules give such thresholds.
+-- For other crates too: the two thresholds that a call chooses are of 1 to 125, where its rules give such thresholds.
 use Rattle.std.proofs.Common.{ℕ, ◌≤◌, sym, subst}
 use Rattle.vms_base.specs.declared.kinds.ZoneSize.{ZoneSize}
 use Rattle.vms_base.specs.Sizes.{IsValidSize}

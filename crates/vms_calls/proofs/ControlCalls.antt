@@ -1,4 +1,4 @@
--- The control pass may make the steps that set thresholds and marks.
+-- For other crates too: the control pass may make the steps that set thresholds and marks.
 use Rattle.std.proofs.Common.{◌≡◌, ℕ, suc, List, [], ◌∷◌, length, None, ⊎_elim, sym, ◌∙◌, subst, arith}
 use Rattle.std.specs.Prelude.{All}
 use Rattle.vms_base.specs.declared.ids.CpuId.{CpuId}
@@ -19,16 +19,16 @@ use Rattle.vms_calls.proofs.Agreement.{mark_at-told}
 use Rattle.vms_calls.specs.Ratings.{Choice, Rates, RatesNode, Refreshes}
 use Rattle.vms_calls.proofs.ChoiceRanges.{GivesBoth}
 use Rattle.vms_calls.proofs.MayBegin.{call-begins}
-use Rattle.vms_calls.proofs.RatingRuns.{IsOneOf, rating-runs}
-use Rattle.vms_calls.proofs.Runs.{Runs, runs-may}
+use Rattle.vms_calls.proofs.RatingRuns.{OccursIn, rating-runs}
+use Rattle.vms_calls.proofs.StepRuns.{Runs, runs-may}
 use Rattle.vms_core.proofs.Settings.{cpu_at-state_after}
 use Rattle.vms_calls.proofs.VisitRuns.{node-runs, refresh-runs}
 
-all-one_of : (P : CpuId → Type 0) (c : CpuId) (cs : List CpuId) → All P cs → IsOneOf c cs → P c
+all-one_of : (P : CpuId → Type 0) (c : CpuId) (cs : List CpuId) → All P cs → OccursIn c cs → P c
 all-one_of P c [] all is = absurd is
 all-one_of P c (d ∷ ds) all is = ⊎_elim
     (λ (same : c ≡ d). subst P (sym same) (all 0 d (omega arith)))
-    (λ (later : IsOneOf c ds). all-one_of P c ds (λ n e less. all (suc n) e (omega arith)) later)
+    (λ (later : OccursIn c ds). all-one_of P c ds (λ n e less. all (suc n) e (omega arith)) later)
     is
 
 module _ (facts : Facts) (h : History) (p : ℕ) (controls : ControlsIn facts h p) where

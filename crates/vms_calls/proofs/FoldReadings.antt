@@ -1,13 +1,17 @@
 -- The steps of a fold tell where they end.
-use Rattle.std.proofs.Common.{◌≡◌, ℕ, suc, zero, ◌/◌, Bool, true, false, ℤ, pos, negsuc, List, [], ◌∷◌, ◌++◌, length, refl, sym, ap, ◌∙◌, arith, append_assoc}
+use Rattle.std.proofs.Common.{◌≡◌, ℕ, suc, zero, ◌/◌, Bool, true, false, ℤ, pos, negsuc}
+use Rattle.std.proofs.Common.{List, [], ◌∷◌, ◌++◌, length, refl, sym, ap, ◌∙◌, arith, append_assoc}
 use Rattle.std.specs.Prelude.{All}
 use Rattle.vms_base.specs.declared.groups.Diffs.{Diffs}
 use Rattle.vms_base.specs.declared.ids.CpuId.{CpuId}
 use Rattle.vms_base.specs.Places.{Shape, item_count, counter_at, group_of, first_of}
 use Rattle.vms_core.specs.declared.steps.Step.{Step}
 use Rattle.vms_core.specs.declared.steps.Step.TheVariants.{SetA}
-use Rattle.vms_calls.specs.FoldReadings.{TellsFold, without_entries, with_list, read_groups, without_acknowledgement, read_place, then_lists, read_places, without_item, without_items, read_items, read_fold}
-use Rattle.vms_calls.specs.Folds.{FoundPlace, HasGroups, to_place, to_system, group_steps, place_steps, system_steps, acknowledges, lists_of, taken_of_item}
+use Rattle.vms_calls.specs.FoldReadings.{TellsFold, without_entries, with_list, read_groups}
+use Rattle.vms_calls.specs.FoldReadings.{without_acknowledgement, read_place, then_lists, read_places}
+use Rattle.vms_calls.specs.FoldReadings.{without_item, without_items, read_items, read_fold}
+use Rattle.vms_calls.specs.Folds.{FoundPlace, HasGroups, to_place, to_system, group_steps}
+use Rattle.vms_calls.specs.Folds.{place_steps, system_steps, acknowledges, lists_of, taken_of_item}
 use Rattle.vms_calls.specs.Lists.{in_turn}
 
 entries-told : (n : ℕ) (ds : List ℤ) (rest : List Step) → without_entries ds (in_turn to_place n ds ++ rest) ≡ rest

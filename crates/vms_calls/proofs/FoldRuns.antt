@@ -1,26 +1,32 @@
 -- The steps of a fold meet their conditions in a row.
-use Rattle.std.proofs.Common.{◌≡◌, ◌≢◌, ℕ, suc, zero, ◌+◌, ◌/◌, ◌<◌, ◌≤◌, inl, ⊎_elim, Bool, true, false, nat_eq, nat_lt, if◌then◌else◌, ℤ, pos, negsuc, neg_ℤ, ◌+ℤ◌, List, [], ◌∷◌, ◌++◌, length, Option, Some, refl, sym, ap, ◌∙◌, subst, arith, eq-eqb}
+use Rattle.std.proofs.Common.{◌≡◌, ◌≢◌, ℕ, suc, zero, ◌+◌, ◌/◌, ◌<◌, ◌≤◌, inl, ⊎_elim, Bool}
+use Rattle.std.proofs.Common.{true, false, nat_eq, nat_lt, if◌then◌else◌, ℤ, pos, negsuc, neg_ℤ, ◌+ℤ◌, List, []}
+use Rattle.std.proofs.Common.{◌∷◌, ◌++◌, length, Option, Some, refl, sym, ap, ◌∙◌, subst, arith, eq-eqb}
 use Rattle.std.specs.Prelude.{All}
 use Rattle.std.proofs.lemmas.Bool.{and_parts, ltb-true, ne_eqb}
 use Rattle.std.proofs.lemmas.Int.{ints}
 use Rattle.vms_base.specs.declared.groups.Diffs.{Diffs}
 use Rattle.vms_base.specs.declared.ids.CpuId.{CpuId}
-use Rattle.vms_base.specs.Places.{IsLayout, IsCpu, IsPlace, IsZone, IsGroup, IsItem, place_count, counter_count, group_count, item_count, counter_at, place_of, group_of, first_of}
+use Rattle.vms_base.specs.Places.{IsLayout, IsCpu, IsPlace, IsZone, IsGroup, IsItem, place_count}
+use Rattle.vms_base.specs.Places.{counter_count, group_count, item_count, counter_at, place_of, group_of, first_of}
 use Rattle.vms_history.specs.Events.{own, after, total}
 use Rattle.vms_history.proofs.Own.{own-mine, own-after, after-steps}
 use Rattle.vms_core.specs.declared.steps.Facts.{Facts}
 use Rattle.vms_core.specs.declared.steps.Step.{Step}
 use Rattle.vms_core.specs.declared.steps.Step.TheVariants.{LoadT, AddG, AddS, Take, SetA}
 use Rattle.vms_core.specs.Conditions.{Acknowledges}
-use Rattle.vms_calls.specs.Folds.{FoundPlace, HasGroups, IsFold, to_place, to_system, group_steps, place_steps, system_steps, acknowledges, lists_of, taken_of_item}
+use Rattle.vms_calls.specs.Folds.{FoundPlace, HasGroups, IsFold, to_place, to_system, group_steps}
+use Rattle.vms_calls.specs.Folds.{place_steps, system_steps, acknowledges, lists_of, taken_of_item}
 use Rattle.vms_calls.specs.Lists.{in_turn}
-use Rattle.vms_core.specs.Own.{CarriesNothing, moved, moved_of_item, carried, carried_of_item, loaded, took, has_put, entries_of}
+use Rattle.vms_core.specs.Own.{CarriesNothing, moved, moved_of_item, carried, carried_of_item}
+use Rattle.vms_core.specs.Own.{loaded, took, has_put, entries_of}
 use Rattle.vms_core.specs.Pages.{History}
 use Rattle.vms_calls.proofs.Amounts.{if-zero_more, if-cancelled}
 use Rattle.vms_calls.proofs.Agreement.{event}
 use Rattle.vms_core.proofs.Effects.{group-within}
-use Rattle.vms_calls.proofs.FoldSums.{sum_steps, total-after, amount, amount-outside, amount-group, group-moved, group-of_item, place-sum, places-sum, nothing-worth, item-worth}
-use Rattle.vms_calls.proofs.Runs.{Runs, Knows, runs-append}
+use Rattle.vms_calls.proofs.FoldSums.{sum_steps, total-after, amount, amount-outside, amount-group, group-moved}
+use Rattle.vms_calls.proofs.FoldSums.{group-of_item, place-sum, places-sum, nothing-worth, item-worth}
+use Rattle.vms_calls.proofs.StepRuns.{Runs, Knows, runs-append}
 use Rattle.vms_calls.proofs.TakenSteps.{OnlyMoves, loaded-kept, put-kept, took-made, only-groups, has-group}
 
 module _ (facts : Facts) (layout : IsLayout facts.layout) (p : ℕ) (who : Option CpuId) where

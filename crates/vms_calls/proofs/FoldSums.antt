@@ -1,5 +1,7 @@
 -- What the steps of a fold take out of the differentials they add to the global values.
-use Rattle.std.proofs.Common.{◌≡◌, ◌≢◌, ℕ, suc, zero, ◌+◌, ◌*◌, ◌/◌, ◌%◌, ◌<◌, ◌≤◌, ◌⊎◌, inl, inr, ⊎_elim, Bool, true, false, nat_eq, if◌then◌else◌, ℤ, pos, negsuc, neg_ℤ, ◌+ℤ◌, List, [], ◌∷◌, ◌++◌, length, get_or, refl, sym, ap, ◌∙◌, arith, eq-eqb, eqb-true}
+use Rattle.std.proofs.Common.{◌≡◌, ◌≢◌, ℕ, suc, zero, ◌+◌, ◌*◌, ◌/◌, ◌%◌, ◌<◌, ◌≤◌, ◌⊎◌, inl}
+use Rattle.std.proofs.Common.{inr, ⊎_elim, Bool, true, false, nat_eq, if◌then◌else◌, ℤ, pos, negsuc, neg_ℤ, ◌+ℤ◌, List}
+use Rattle.std.proofs.Common.{[], ◌∷◌, ◌++◌, length, get_or, refl, sym, ap, ◌∙◌, arith, eq-eqb, eqb-true}
 use Rattle.std.specs.Prelude.{All}
 use Rattle.std.proofs.lemmas.Bool.{cases_lt, eqb-false, ne_eqb}
 use Rattle.std.proofs.lemmas.Int.{ints}
@@ -17,7 +19,8 @@ use Rattle.vms_core.specs.declared.steps.Step.TheVariants.{LoadT, SetA}
 use Rattle.vms_calls.proofs.Amounts.{if-neg, if-neg_zero}
 use Rattle.vms_calls.specs.Lists.{in_turn}
 use Rattle.vms_core.specs.Own.{moved, moved_of_item, entries_of}
-use Rattle.vms_calls.specs.Folds.{FoundPlace, HasGroups, IsFold, to_place, to_system, group_steps, place_steps, system_steps, acknowledges, lists_of, taken_of_item}
+use Rattle.vms_calls.specs.Folds.{FoundPlace, HasGroups, IsFold, to_place, to_system, group_steps}
+use Rattle.vms_calls.specs.Folds.{place_steps, system_steps, acknowledges, lists_of, taken_of_item}
 
 -- the sum of a measure of steps
 abbrev pub sum_steps : (Step → ℤ) → List Step → ℤ

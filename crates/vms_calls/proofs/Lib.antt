@@ -7,7 +7,7 @@ pub mod Amounts
 pub mod FoldSums
 pub mod RatingCovers
 pub mod Agreement
-pub mod Runs
+pub mod StepRuns
 pub mod MayBegin
 pub mod ChoiceRanges
 pub mod LookRuns
@@ -23,10 +23,10 @@ pub mod ChangeRuns
 pub mod AreaItems
 pub mod CallSteps
 pub mod CallerLaws
-pub mod MadeCalls
+pub mod Meanwhile
 pub mod TurnReadings
 pub mod TurnThresholds
 pub mod TurnRuns
 pub mod OnlineFound
 pub mod PassedZones
-pub mod InRow
+pub mod ControlKnowledge

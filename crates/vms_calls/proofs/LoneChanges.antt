@@ -1,5 +1,6 @@
 -- For other crates too: a change that meets no other caller follows any legal history in which its pass may make it.
-use Rattle.std.proofs.Common.{◌≡◌, ◌≢◌, ℕ, ◌+◌, nat_eq, ◌&&◌, Bool, true, false, ℤ, pos, ◌+ℤ◌, List, [], ◌∷◌, Some, refl, sym, ap, ◌∙◌, subst, arith, eq-eqb, if◌then◌else◌, unsigned_abs, ⊎_elim}
+use Rattle.std.proofs.Common.{◌≡◌, ◌≢◌, ℕ, ◌+◌, nat_eq, ◌&&◌, Bool, true, false, ℤ, pos, ◌+ℤ◌, List, [], ◌∷◌, Some}
+use Rattle.std.proofs.Common.{refl, sym, ap, ◌∙◌, subst, arith, eq-eqb, if◌then◌else◌, unsigned_abs, ⊎_elim}
 use Rattle.std.proofs.lemmas.Int.{ints}
 use Rattle.std.proofs.lemmas.List.Elements.{All-from_recursion}
 use Rattle.vms_base.specs.declared.groups.Diffs.{Diffs}
@@ -11,7 +12,7 @@ use Rattle.vms_base.specs.Places.{IsLayout, place_of, group_of, item_of}
 use Rattle.vms_base.proofs.Counts.{place_of-lt, group_of-lt, item_of-lt}
 use Rattle.vms_history.specs.declared.events.Event.{Event}
 use Rattle.vms_history.specs.Events.{own}
-use Rattle.vms_history.specs.Passes.Turn.{Works}
+use Rattle.vms_history.specs.Passes.Role.{Works}
 use Rattle.vms_history.proofs.Own.{own-after_others}
 use Rattle.vms_history.proofs.Prefixes.{base_can_begin}
 use Rattle.vms_core.proofs.WorkerSteps.{event, Stands, Stands-next, owner_now, spent-next}
@@ -25,7 +26,8 @@ use Rattle.vms_core.specs.declared.steps.Step.TheVariants.{LoadT, LoadD, Put, Ad
 use Rattle.vms_calls.specs.Changes.{Carries, HasWon}
 use Rattle.vms_calls.specs.Changes.Carries.{nothing, amount}
 use Rattle.vms_calls.specs.Changes.Exchanges.{won}
-use Rattle.vms_core.specs.Cells.{TellsGroup, entry, value_at, threshold_at, threshold_sets_at, cpu_at, with_value, with_diff}
+use Rattle.vms_core.specs.Cells.{TellsGroup, entry, value_at, threshold_at}
+use Rattle.vms_core.specs.Cells.{threshold_sets_at, cpu_at, with_value, with_diff}
 use Rattle.vms_core.proofs.GroupLists.{group_is_list}
 use Rattle.vms_core.specs.Changes.{differential_after, carried_by}
 use Rattle.vms_core.specs.Conditions.{Meets, Owns}
@@ -33,7 +35,7 @@ use Rattle.vms_calls.specs.LoneChanges.{MayChange, FollowsAlone, GoesOnWithChang
 use Rattle.vms_core.specs.ChangedStates.{with_carried, with_change}
 use Rattle.vms_core.specs.Own.{CarriesNothing, carried, carried_of_item, found, loaded}
 use Rattle.vms_core.specs.Pages.{pages, History, state_after}
-use Rattle.vms_core.specs.Steps.{turn, own_effect, effect_of}
+use Rattle.vms_core.specs.Steps.{role, own_effect, effect_of}
 use Rattle.vms_core.specs.Totals.{spent, spent_by}
 
 if_zero : (b : Bool) (z rest : ℤ) → z ≡ pos 0 → rest ≡ pos 0 → (if b then z else pos 0) +ℤ rest ≡ pos 0
@@ -67,7 +69,7 @@ module _ (facts : Facts) (h : History) (p : ℕ) (cpu : CpuId) (k : CounterId) (
   abbrev Now : History → State → History → Type 0
   Now mine now g = Stands facts p cpu may.other_than_main (own h 0) mine now g
 
-  next : (mine : History) (now : State) (g : History) (step : Step) → turn step ≡ Works → Now mine now g
+  next : (mine : History) (now : State) (g : History) (step : Step) → role step ≡ Works → Now mine now g
       → Meets facts g now p step → Now (made step ∷ mine) (own_effect cpu step (effect_of step now)) (made step ∷ g)
   next = Stands-next facts p cpu may.other_than_main (own h 0) may.lives may.owner
 
@@ -281,8 +283,8 @@ module _ (facts : Facts) (h : History) (p : ℕ) (cpu : CpuId) (k : CounterId) (
       (zero_or_not z)
 
 -- the eight differentials of the group are a list that a load may tell
-pub goes_on_with_change : GoesOnWithChange
-goes_on_with_change facts h p cpu k delta how may =
+pub GoesOnWithChange-holds : GoesOnWithChange
+GoesOnWithChange-holds facts h p cpu k delta how may =
     let layout = (base_can_begin pages facts h may.legal).layout in
     let told = group_is_list facts h may.legal cpu.number (group_of k.number) may.cpu_known
     (group_of-lt facts.layout layout k.number may.counter_known) in

@@ -1,5 +1,6 @@
 -- The steps of the calls that look at values tell their answers.
-use Rattle.std.proofs.Common.{◌≡◌, ◌≢◌, ℕ, suc, Bool, true, false, not, nat_lt, ℤ, pos, ◌+ℤ◌, List, [], ◌∷◌, ◌++◌, length, refl, sym, ap, ◌∙◌, arith}
+use Rattle.std.proofs.Common.{◌≡◌, ◌≢◌, ℕ, suc, Bool, true, false, not, nat_lt, ℤ, pos}
+use Rattle.std.proofs.Common.{◌+ℤ◌, List, [], ◌∷◌, ◌++◌, length, refl, sym, ap, ◌∙◌, arith}
 use Rattle.std.proofs.lemmas.Int.{ints}
 use Rattle.vms_base.specs.declared.kinds.CpuState.{CpuState}
 use Rattle.vms_base.specs.declared.kinds.CpuState.TheVariants.{Online, Dead, Absent}
@@ -12,7 +13,8 @@ use Rattle.vms_core.specs.Cells.{entry}
 use Rattle.vms_calls.specs.Lists.{in_turn}
 use Rattle.vms_calls.specs.Looks.{Look, Verdict, Frees, look_steps, hidden, at_least_zero, is_doubtful, free_pages}
 use Rattle.vms_calls.specs.Looks.Look.{online, other}
-use Rattle.vms_calls.specs.LookReadings.{TellsPlaceValue, TellsSystemValue, TellsSnapshot, TellsTest, read_looks, read_further, verdict_of}
+use Rattle.vms_calls.specs.LookReadings.{TellsPlaceValue, TellsSystemValue, TellsSnapshot, TellsTest}
+use Rattle.vms_calls.specs.LookReadings.{read_looks, read_further, verdict_of}
 use Rattle.vms_base.specs.Cpus.{is_online}
 use Rattle.vms_base.specs.Watermarks.{limit_of}
 

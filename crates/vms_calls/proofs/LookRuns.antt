@@ -8,15 +8,16 @@ use Rattle.vms_core.specs.declared.steps.Facts.{Facts}
 use Rattle.vms_core.specs.declared.steps.Step.{Step}
 use Rattle.vms_calls.specs.Lists.{in_turn}
 use Rattle.vms_calls.specs.HeaderFacts.{facts_of}
-use Rattle.vms_calls.specs.Looks.{Look, Verdict, Frees, IsPlaceValue, IsSystemValue, IsSnapshot, IsWatermarkTest, look_steps, is_doubtful, free_pages}
+use Rattle.vms_calls.specs.Looks.{Look, Verdict, Frees, IsPlaceValue, IsSystemValue}
+use Rattle.vms_calls.specs.Looks.{IsSnapshot, IsWatermarkTest, look_steps, is_doubtful, free_pages}
 use Rattle.vms_calls.specs.Looks.Look.{online, other}
 use Rattle.vms_calls.specs.MayCall.{MakesPlaceValue, MakesSystemValue, MakesSnapshot, MakesTest}
 use Rattle.vms_core.specs.Pages.{pages, History}
-use Rattle.vms_core.specs.Steps.{turn}
+use Rattle.vms_core.specs.Steps.{role}
 use Rattle.vms_core.proofs.CounterRanges.{first-known}
 use Rattle.vms_base.proofs.Counts.{group_of-lt}
 use Rattle.vms_calls.proofs.MayBegin.{call-begins}
-use Rattle.vms_calls.proofs.Runs.{Runs, runs-may}
+use Rattle.vms_calls.proofs.StepRuns.{Runs, runs-may}
 use Rattle.vms_base.specs.declared.headers.Header.{Header}
 use Rattle.vms_base.specs.declared.kinds.WaterMark.{WaterMark}
 use Rattle.vms_core.specs.declared.states.State.{State}
@@ -80,7 +81,7 @@ pub place_value-may : MakesPlaceValue
 place_value-may facts h p k living k_in =
     call-begins facts p h (λ steps. (answer : ℕ) × IsPlaceValue k steps answer) (λ steps call.
     runs-may facts p h living steps
-    (subst (λ ks. Runs facts p (owner_in turn h p) ks h (λ then. Unit {0})) (sym call.1.in_order) (
+    (subst (λ ks. Runs facts p (owner_in role h p) ks h (λ then. Unit {0})) (sym call.1.in_order) (
       λ knows. k_in,
       λ knows told. tt,
     )))
@@ -89,7 +90,7 @@ pub system_value-may : MakesSystemValue
 system_value-may facts h p i living i_in =
     call-begins facts p h (λ steps. (answer : ℕ) × IsSystemValue i steps answer) (λ steps call.
     runs-may facts p h living steps
-    (subst (λ ks. Runs facts p (owner_in turn h p) ks h (λ then. Unit {0})) (sym call.1.in_order) (
+    (subst (λ ks. Runs facts p (owner_in role h p) ks h (λ then. Unit {0})) (sym call.1.in_order) (
       λ knows. i_in,
       λ knows told. tt,
     )))
@@ -98,7 +99,7 @@ pub snapshot-may : MakesSnapshot
 snapshot-may facts h p k living k_in =
     call-begins facts p h (λ steps. (answer : ℕ) × IsSnapshot facts.layout k steps answer) (λ steps call.
     runs-may facts p h living steps
-    (snapshot-runs facts (base_can_begin pages facts h living.legal).layout p (owner_in turn h p)
+    (snapshot-runs facts (base_can_begin pages facts h living.legal).layout p (owner_in role h p)
     k steps call.0 h k_in call.1))
 
 pub test-may : MakesTest
@@ -107,5 +108,5 @@ test-may header base h p g mark most living zone =
     call-begins facts p h (λ steps. (answer : Verdict) × IsWatermarkTest header g mark most steps answer)
     (λ steps call.
     runs-may facts p h living steps
-    (test-runs header base (base_can_begin pages facts h living.legal).layout p (owner_in turn h p)
+    (test-runs header base (base_can_begin pages facts h living.legal).layout p (owner_in role h p)
     g mark most steps call.0 h zone call.1))

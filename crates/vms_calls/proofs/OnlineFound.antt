@@ -1,5 +1,6 @@
 -- In a legal history each call that asks a rule finds a CPU online.
-use Rattle.std.proofs.Common.{◌≡◌, ℕ, suc, ◌+◌, ◌<◌, ◌≤◌, ⊎_elim, Bool, true, false, true≢false, if◌then◌else◌, List, [], ◌∷◌, ◌++◌, length, sym, ap, ◌∙◌, subst, arith, append_assoc}
+use Rattle.std.proofs.Common.{◌≡◌, ℕ, suc, ◌+◌, ◌<◌, ◌≤◌, ⊎_elim, Bool, true, false, true≢false, if◌then◌else◌}
+use Rattle.std.proofs.Common.{List, [], ◌∷◌, ◌++◌, length, sym, ap, ◌∙◌, subst, arith, append_assoc}
 use Rattle.std.proofs.lemmas.Bool.{cases_eq}
 use Rattle.std.proofs.lemmas.List.{append-nil}
 use Rattle.vms_base.specs.declared.ids.PlaceId.{PlaceId}
@@ -19,7 +20,8 @@ use Rattle.vms_calls.specs.HeaderFacts.{facts_of}
 use Rattle.vms_calls.specs.Lists.{in_turn}
 use Rattle.vms_calls.specs.MayMake.{HasMade}
 use Rattle.vms_calls.specs.RatingReadings.{SomeOnline, NodeFindsOnline, RefreshFindsOnline, BurialFindsOnline}
-use Rattle.vms_calls.specs.Ratings.{Choice, ByNormal, ByPressure, RatesNode, Refreshes, state_steps, threshold_steps, largest_on}
+use Rattle.vms_calls.specs.Ratings.{Choice, ByNormal, ByPressure, RatesNode}
+use Rattle.vms_calls.specs.Ratings.{Refreshes, state_steps, threshold_steps, largest_on}
 use Rattle.vms_calls.specs.TurnLaws.{TurnFindsOnline}
 use Rattle.vms_calls.specs.TurnReadings.{SettlesOnline}
 use Rattle.vms_calls.specs.Turns.{Balance, Settles}

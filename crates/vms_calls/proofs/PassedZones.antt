@@ -1,5 +1,6 @@
 -- A balance test names a zone that passed, and above order 0 a free block as large as was asked for.
-use Rattle.std.proofs.Common.{◌≡◌, ◌≢◌, ℕ, suc, zero, ◌≤◌, Bool, true, false, true≢false, nat_le, List, ◌∷◌, Option, Some, None, is_some, refl, sym, ap, ◌∙◌, arith}
+use Rattle.std.proofs.Common.{◌≡◌, ◌≢◌, ℕ, suc, zero, ◌≤◌, Bool, true, false, true≢false, nat_le}
+use Rattle.std.proofs.Common.{List, ◌∷◌, Option, Some, None, is_some, refl, sym, ap, ◌∙◌, arith}
 use Rattle.std.specs.Prelude.{All, Contains}
 use Rattle.std.proofs.lemmas.Bool.{leb-true}
 use Rattle.std.proofs.lemmas.List.Elements.{filter_passes}
@@ -55,27 +56,27 @@ block-found header g mark most (suc n) verdict steps answer blocks passed above 
     passed
 
 -- what is known of the zone that a balance test names
-record Named (gs : List ℕ) (order : ℕ) (g : PlaceId) (verdict : OrderVerdict) : Type 0 where
+record NamesZone (gs : List ℕ) (order : ℕ) (g : PlaceId) (verdict : OrderVerdict) : Type 0 where
   one_of : Contains gs g.number
   passed : verdict.yes ≡ true
   block : order ≢ 0 → (o : ℕ) × (verdict.area ≡ Some o) × (order ≤ o)
 
-abbrev NamedBy : List ℕ → ℕ → Balance → Type 0
-NamedBy gs order (Yes g verdict) = Named gs order g verdict
-NamedBy gs order No = Unit {0}
+abbrev AnswerNames : List ℕ → ℕ → Balance → Type 0
+AnswerNames gs order (Yes g verdict) = NamesZone gs order g verdict
+AnswerNames gs order No = Unit {0}
 
-named-more : (g : ℕ) (gs : List ℕ) (order : ℕ) (answer : Balance) → NamedBy gs order answer
-    → NamedBy (g ∷ gs) order answer
-named-more g gs order (Yes z verdict) named =
+AnswerNames-more : (g : ℕ) (gs : List ℕ) (order : ℕ) (answer : Balance) → AnswerNames gs order answer
+    → AnswerNames (g ∷ gs) order answer
+AnswerNames-more g gs order (Yes z verdict) named =
     let at = named.one_of in
     record { one_of = (suc at.0, omega (arith, at.1), at.2); passed = named.passed; block = named.block }
-named-more g gs order No named = tt
+AnswerNames-more g gs order No named = tt
 
 balance-named : (header : Header) (most order : ℕ) (gs : List ℕ) (steps : List Step) (answer : Balance)
-    → Balances header most order gs steps answer → NamedBy gs order answer
+    → Balances header most order gs steps answer → AnswerNames gs order answer
 balance-named header most order gs steps answer no_zone = tt
 balance-named header most order gs steps answer (fails g gs' first more verdict answer' test failed later) =
-    named-more g gs' order answer' (balance-named header most order gs' more answer' later)
+    AnswerNames-more g gs' order answer' (balance-named header most order gs' more answer' later)
 balance-named header most order gs steps answer (passes g gs' steps' verdict test passed) = record {
   one_of = (0, omega arith, refl);
   passed = passed;
@@ -83,8 +84,8 @@ balance-named header most order gs steps answer (passes g gs' steps' verdict tes
       order test.verdict test.further verdict test.blocks passed;
 }
 
-pub names-passed : NamesPassed
-names-passed header n order most steps g verdict call =
+pub NamesPassed-holds : NamesPassed
+NamesPassed-holds header n order most steps g verdict call =
     let named = balance-named header most order (zones_up_to header.layout most (node_number header.layout n)) steps
     (Yes g verdict) call in
     record { one_of = named.one_of; passed = named.passed; block = named.block }

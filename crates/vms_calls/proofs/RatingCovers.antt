@@ -1,5 +1,6 @@
 -- Rating a zone leaves a mark that covers what the CPUs may hide.
-use Rattle.std.proofs.Common.{◌≡◌, ℕ, ◌+◌, Bool, true, false, ◌&&◌, nat_eq, nat_le, if◌then◌else◌, max, List, [], ◌∷◌, ◌++◌, length, refl, sym, ap, ◌∙◌, arith, eq-eqb, eqb-true, subst}
+use Rattle.std.proofs.Common.{◌≡◌, ℕ, ◌+◌, Bool, true, false, ◌&&◌, nat_eq, nat_le, if◌then◌else◌, max, List}
+use Rattle.std.proofs.Common.{[], ◌∷◌, ◌++◌, length, refl, sym, ap, ◌∙◌, arith, eq-eqb, eqb-true, subst}
 use Rattle.std.proofs.lemmas.Bool.Decides.{nat_tests}
 use Rattle.vms_base.specs.declared.ids.CpuId.{CpuId}
 use Rattle.vms_base.specs.declared.kinds.ZoneSize.{ZoneSize}
@@ -12,7 +13,8 @@ use Rattle.vms_core.specs.declared.steps.Step.{Step}
 use Rattle.vms_core.specs.declared.steps.Step.TheVariants.{SetM}
 use Rattle.vms_calls.specs.Ratings.{RatingCovers, mark_left, threshold_steps, mark_for}
 use Rattle.vms_core.specs.Pages.{History}
-use Rattle.vms_core.specs.Peaks.{sets, sets_after, threshold_in, threshold_after, peak, peak_after, cpu_in, cpu_after, if_present, peak_sum}
+use Rattle.vms_core.specs.Peaks.{sets, sets_after, threshold_in, threshold_after, peak}
+use Rattle.vms_core.specs.Peaks.{peak_after, cpu_in, cpu_after, if_present, peak_sum}
 use Rattle.vms_history.proofs.CountLemmas.{count_below-same}
 
 pub cover_mark-covers : (size : ZoneSize) (linux hidden : ℕ) → Covers size (cover_mark_of size linux hidden) hidden
@@ -65,8 +67,8 @@ thresholds-keep : (g t : ℕ) (cs : List CpuId) (m : ℕ) → mark_left g m (thr
 thresholds-keep g t [] m = refl
 thresholds-keep g t (c ∷ cs) m = thresholds-keep g t cs m
 
-pub rating-covers : RatingCovers
-rating-covers facts p online h g m usual t = by (nat_eq mark m) refl
+pub RatingCovers-holds : RatingCovers
+RatingCovers-holds facts p online h g m usual t = by (nat_eq mark m) refl
   where
     mark : ℕ
     mark = mark_for facts p online h g usual t

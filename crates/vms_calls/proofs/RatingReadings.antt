@@ -1,5 +1,6 @@
 -- The steps of the calls that set thresholds, and of a burial, tell where they end.
-use Rattle.std.proofs.Common.{◌≡◌, ℕ, suc, ◌+◌, ◌≤◌, Bool, true, false, nat_eq, if◌then◌else◌, List, [], ◌∷◌, ◌++◌, length, Option, refl, sym, ap, ◌∙◌, arith, append_assoc, ne_eqb}
+use Rattle.std.proofs.Common.{◌≡◌, ℕ, suc, ◌+◌, ◌≤◌, Bool, true, false, nat_eq, if◌then◌else◌, List, []}
+use Rattle.std.proofs.Common.{◌∷◌, ◌++◌, length, Option, refl, sym, ap, ◌∙◌, arith, append_assoc, ne_eqb}
 use Rattle.vms_base.specs.declared.ids.CpuId.{CpuId}
 use Rattle.vms_base.specs.declared.kinds.CpuState.{CpuState}
 use Rattle.vms_base.specs.declared.kinds.ZoneSize.{ZoneSize}
@@ -10,8 +11,13 @@ use Rattle.vms_core.specs.declared.steps.Step.{Step}
 use Rattle.vms_core.specs.declared.steps.Step.TheVariants.{LoadM, SetM, SetO}
 use Rattle.vms_core.specs.Pages.{History}
 use Rattle.vms_calls.specs.Lists.{in_turn}
-use Rattle.vms_calls.specs.RatingReadings.{TellsNodeRating, TellsRefresh, TellsBurial, counted, read_states, read_mark, without_sets, without_rating, without_marked, without_visits, without_rated, without_ratings, without_nodes, read_zones_of, read_node_rating, read_all, read_refresh, read_removal, read_burial}
-use Rattle.vms_calls.specs.Ratings.{Choice, ByNormal, Rates, RatesMarked, Visits, VisitsEach, acknowledged_steps, state_steps, threshold_steps, mark_for, rating_steps, node_number, numbers_below, zones_on, largest_on}
+use Rattle.vms_calls.specs.RatingReadings.{TellsNodeRating, TellsRefresh, TellsBurial, counted, read_states, read_mark}
+use Rattle.vms_calls.specs.RatingReadings.{without_sets, without_rating, without_marked, without_visits, without_rated}
+use Rattle.vms_calls.specs.RatingReadings.{without_ratings, without_nodes, read_zones_of, read_node_rating, read_all}
+use Rattle.vms_calls.specs.RatingReadings.{read_refresh, read_removal, read_burial}
+use Rattle.vms_calls.specs.Ratings.{Choice, ByNormal, Rates, RatesMarked, Visits}
+use Rattle.vms_calls.specs.Ratings.{VisitsEach, acknowledged_steps, state_steps, threshold_steps, mark_for}
+use Rattle.vms_calls.specs.Ratings.{rating_steps, node_number, numbers_below, zones_on, largest_on}
 use Rattle.vms_calls.specs.Ratings.RatesMarked.{unmarked, marked}
 use Rattle.vms_calls.specs.Ratings.VisitsEach.{none, next}
 use Rattle.vms_calls.proofs.FoldReadings.{fold-told}
@@ -29,11 +35,11 @@ states-told c (x ∷ xs) rest =
     by false = refl
 
 -- the load of a zone's mark, after what was acknowledged
-mark-told : (z m a : ℕ) (cs : List CpuId) (numbers : List (Option ℕ)) (rest : List Step)
+read_mark-skips : (z m a : ℕ) (cs : List CpuId) (numbers : List (Option ℕ)) (rest : List Step)
     → read_mark (acknowledged_steps z cs numbers ++ (LoadM (record { number = z }) m a ∷ rest)) ≡ (m, rest)
-mark-told z m a [] numbers rest = refl
-mark-told z m a (c ∷ cs) [] rest = refl
-mark-told z m a (c ∷ cs) (x ∷ xs) rest = mark-told z m a cs xs rest
+read_mark-skips z m a [] numbers rest = refl
+read_mark-skips z m a (c ∷ cs) [] rest = refl
+read_mark-skips z m a (c ∷ cs) (x ∷ xs) rest = read_mark-skips z m a cs xs rest
 
 sets-told : (z t : ℕ) (cs : List CpuId) (rest : List Step)
     → without_sets (length cs) (threshold_steps z t cs ++ rest) ≡ rest
@@ -84,7 +90,8 @@ module _ (facts : Facts) (Chooses : Choice) (p : ℕ) (online : List CpuId) (fou
       ap (λ ks. ks ++ rest) (visit.in_order ∙ ap (λ ks. ks ++ visit.further) visit.loads_are)
       ∙ append_assoc (loads ++ (load ∷ [])) visit.further rest
       ∙ append_assoc loads (load ∷ []) (visit.further ++ rest) in
-      ap read_mark parts ∙ mark-told z visit.mark.mark visit.mark.number online visit.numbers (visit.further ++ rest)
+      ap read_mark parts
+      ∙ read_mark-skips z visit.mark.mark visit.mark.number online visit.numbers (visit.further ++ rest)
 
   visits-told : (gs ts : List ℕ) (h : History) (steps : List Step)
       → VisitsEach facts p online (RatesMarked facts p online Chooses) gs ts h steps

@@ -1,5 +1,7 @@
 -- The steps that rate zones and nodes meet their conditions in a row.
-use Rattle.std.proofs.Common.{◌≡◌, ℕ, suc, zero, ◌+◌, ◌*◌, ◌^◌, ◌<◌, ◌≤◌, Bool, true, false, ◌&&◌, nat_eq, nat_le, nat_lt, max, if◌then◌else◌, List, [], ◌∷◌, ◌++◌, length, None, ◌⊎◌, inl, inr, refl, sym, ◌∙◌, subst, arith, eq-eqb, eqb-true}
+use Rattle.std.proofs.Common.{◌≡◌, ℕ, suc, zero, ◌+◌, ◌*◌, ◌^◌, ◌<◌, ◌≤◌, Bool, true, false}
+use Rattle.std.proofs.Common.{◌&&◌, nat_eq, nat_le, nat_lt, max, if◌then◌else◌, List, [], ◌∷◌, ◌++◌, length, None}
+use Rattle.std.proofs.Common.{◌⊎◌, inl, inr, refl, sym, ◌∙◌, subst, arith, eq-eqb, eqb-true}
 use Rattle.std.proofs.lemmas.Bool.Decides.{nat_tests}
 use Rattle.std.proofs.Math.Nat.{mul-le-mul_left}
 use Rattle.vms_base.specs.declared.ids.CpuId.{CpuId}
@@ -21,7 +23,7 @@ use Rattle.vms_calls.proofs.Agreement.{event, mark_in}
 use Rattle.vms_history.proofs.CountLemmas.{count_below-least, count_below-most}
 use Rattle.vms_core.proofs.MarkCovers.{if_present-least, Covers-less}
 use Rattle.vms_calls.proofs.RatingCovers.{SamePeaks-after, peak_sum-same, cover_mark-covers}
-use Rattle.vms_calls.proofs.Runs.{Runs, Knows}
+use Rattle.vms_calls.proofs.StepRuns.{Runs, Knows}
 
 -- Linux's mark stays near the high watermark
 linux_mark-below : (size : ZoneSize) (online usual : ℕ) → online ≤ 128 → (1 ≤ online → usual ≤ most_threshold)
@@ -45,11 +47,11 @@ cover_mark-below size linux hidden small few = by (nat_eq linux 0 && nat_le hidd
     by false = omega arith
 
 -- c is one of these CPUs
-abbrev pub IsOneOf : CpuId → List CpuId → Type 0
-IsOneOf c [] = ⊥
-IsOneOf c (d ∷ ds) = (c ≡ d) ⊎ IsOneOf c ds
+abbrev pub OccursIn : CpuId → List CpuId → Type 0
+OccursIn c [] = ⊥
+OccursIn c (d ∷ ds) = (c ≡ d) ⊎ OccursIn c ds
 
-pub some-of : (c : CpuId) (cs : List CpuId) → IsOneOf c cs → 1 ≤ length cs
+pub some-of : (c : CpuId) (cs : List CpuId) → OccursIn c cs → 1 ≤ length cs
 some-of c [] is = absurd is
 some-of c (d ∷ ds) is = omega arith
 
@@ -72,7 +74,7 @@ module _ (facts : Facts) (layout : IsLayout facts.layout) (p : ℕ) where
         grows true before = omega arith
         grows false before = omega arith
 
-    peaks-within : (cs : List CpuId) (g : History) → ((c : CpuId) → IsOneOf c cs → t ≤ most_threshold) → (d : ℕ)
+    peaks-within : (cs : List CpuId) (g : History) → ((c : CpuId) → OccursIn c cs → t ≤ most_threshold) → (d : ℕ)
         → peak facts d z g ≤ most_threshold → peak facts d z (after p (threshold_steps z t cs) g) ≤ most_threshold
     peaks-within [] g small d within = within
     peaks-within (c ∷ cs) g small d within =
@@ -87,7 +89,7 @@ module _ (facts : Facts) (layout : IsLayout facts.layout) (p : ℕ) where
   module _ (online : List CpuId) (few : length online ≤ 128) where
     -- these CPUs are online
     abbrev pub AreOnline : History → Type 0
-    AreOnline g = (c : CpuId) → IsOneOf c online → IsCpu facts.layout c.number × (cpu_in facts c.number g ≡ Online)
+    AreOnline g = (c : CpuId) → OccursIn c online → IsCpu facts.layout c.number × (cpu_in facts c.number g ≡ Online)
 
     -- a threshold that may be set on one of them
     abbrev pub MaySet : ℕ → Type 0
@@ -97,7 +99,7 @@ module _ (facts : Facts) (layout : IsLayout facts.layout) (p : ℕ) where
     Covered z mark g = Covers (size_at facts.sizes z) mark (peak_sum facts z g)
 
     pub thresholds-run : (z t : ℕ) (cs : List CpuId) (g : History) (P : History → Type 0)
-        → ((c : CpuId) → IsOneOf c cs → IsOneOf c online) → AreOnline g → MaySet t → IsPlace facts.layout z
+        → ((c : CpuId) → OccursIn c cs → OccursIn c online) → AreOnline g → MaySet t → IsPlace facts.layout z
         → (IsZone facts.layout z → Covered z (mark_in facts z g) (after p (threshold_steps z t cs) g))
         → (AreOnline (after p (threshold_steps z t cs) g) → P (after p (threshold_steps z t cs) g))
         → Runs facts p None (threshold_steps z t cs) g P

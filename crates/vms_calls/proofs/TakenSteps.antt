@@ -1,5 +1,6 @@
 -- What a caller took and loaded, by the steps that take groups and add to global values.
-use Rattle.std.proofs.Common.{◌≡◌, ℕ, suc, ◌+◌, ◌<◌, ◌≤◌, zero, ◌⊎◌, inl, inr, ⊎_elim, ◌&&◌, Bool, true, nat_eq, if◌then◌else◌, ℤ, pos, negsuc, List, [], ◌∷◌, ◌++◌, length, refl, arith, eq-eqb}
+use Rattle.std.proofs.Common.{◌≡◌, ℕ, suc, ◌+◌, ◌<◌, ◌≤◌, zero, ◌⊎◌, inl, inr, ⊎_elim, ◌&&◌, Bool, true}
+use Rattle.std.proofs.Common.{nat_eq, if◌then◌else◌, ℤ, pos, negsuc, List, [], ◌∷◌, ◌++◌, length, refl, arith, eq-eqb}
 use Rattle.std.proofs.lemmas.Bool.{cases_eq}
 use Rattle.vms_base.specs.declared.groups.Diffs.{Diffs}
 use Rattle.vms_base.specs.declared.ids.CpuId.{CpuId}
@@ -15,7 +16,7 @@ use Rattle.vms_core.specs.Own.{loaded, took, has_put}
 use Rattle.vms_core.specs.Pages.{History}
 use Rattle.vms_core.specs.Peaks.{cpu_in}
 use Rattle.vms_core.specs.Taken.{has_taken}
-use Rattle.vms_history.proofs.Choices.{if-same}
+use Rattle.vms_history.proofs.Choices.{if-either}
 
 -- steps that take groups and add to global values
 abbrev pub OnlyMoves : List Step → Type 0
@@ -64,7 +65,7 @@ module _ (p : ℕ) where
   took-stays c z j [] es only is = is
   took-stays c z j (Take d i w ∷ ks) es only is =
       took-stays c z j ks (record { caller = p; step = Take d i w } ∷ es) only
-      (rw is (if-same (nat_eq d.number c.number && nat_eq i.number j) true))
+      (rw is (if-either (nat_eq d.number c.number && nat_eq i.number j) true))
   took-stays c z j (AddG k a ∷ ks) es only is =
       took-stays c z j ks (record { caller = p; step = AddG k a } ∷ es) only is
   took-stays c z j (AddS i a ∷ ks) es only is =
@@ -92,7 +93,7 @@ module _ (p : ℕ) where
   has_taken-stays c j [] es is = is
   has_taken-stays c j (Take d i w ∷ ks) es is =
       has_taken-stays c j ks (record { caller = p; step = Take d i w } ∷ es)
-      (rw is (if-same (nat_eq d.number c && nat_eq i.number j) true))
+      (rw is (if-either (nat_eq d.number c && nat_eq i.number j) true))
   has_taken-stays c j (k ∷ ks) es is = has_taken-stays c j ks (record { caller = p; step = k } ∷ es) is
 
   pub has_taken-made : (c j : ℕ) (ks : List Step) (es : History) → HasTake c j ks → has_taken c j (after p ks es) ≡ true

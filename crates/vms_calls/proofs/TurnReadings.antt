@@ -1,5 +1,6 @@
 -- The steps of a test of a zone for an order, of a balance test and of a turn tell their answers.
-use Rattle.std.proofs.Common.{◌≡◌, ℕ, suc, zero, Bool, true, false, nat_eq, if◌then◌else◌, List, ◌∷◌, ◌++◌, Option, None, is_some, refl, sym, ap, ◌∙◌, append_assoc, ne_eqb}
+use Rattle.std.proofs.Common.{◌≡◌, ℕ, suc, zero, Bool, true, false, nat_eq, if◌then◌else◌, List, ◌∷◌}
+use Rattle.std.proofs.Common.{◌++◌, Option, None, is_some, refl, sym, ap, ◌∙◌, append_assoc, ne_eqb}
 use Rattle.vms_base.specs.declared.headers.Header.{Header}
 use Rattle.vms_base.specs.declared.ids.PlaceId.{PlaceId}
 use Rattle.vms_base.specs.declared.kinds.WaterMark.{WaterMark}
@@ -16,8 +17,11 @@ use Rattle.vms_calls.specs.HeaderFacts.{facts_of}
 use Rattle.vms_calls.specs.LookReadings.{read_snapshot}
 use Rattle.vms_calls.specs.Looks.{Verdict}
 use Rattle.vms_calls.specs.Ratings.{ByNormal, ByPressure, node_number}
-use Rattle.vms_calls.specs.TurnReadings.{TellsOrderTest, TellsBalance, TellsTurn, SettlesOnline, block_or, read_blocks, without_blocks, with_blocks, read_areas, read_order_test, passed_or, read_zones, read_balance, settled_read, read_turn}
-use Rattle.vms_calls.specs.Turns.{OrderVerdict, Balance, FindsBlock, Further, Blocks, Balances, Settles, blocks_at, has_room, zones_up_to}
+use Rattle.vms_calls.specs.TurnReadings.{TellsOrderTest, TellsBalance, TellsTurn, SettlesOnline, block_or}
+use Rattle.vms_calls.specs.TurnReadings.{read_blocks, without_blocks, with_blocks, read_areas, read_order_test}
+use Rattle.vms_calls.specs.TurnReadings.{passed_or, read_zones, read_balance, settled_read, read_turn}
+use Rattle.vms_calls.specs.Turns.{OrderVerdict, Balance, FindsBlock, Further, Blocks}
+use Rattle.vms_calls.specs.Turns.{Balances, Settles, blocks_at, has_room, zones_up_to}
 use Rattle.vms_calls.specs.Turns.FindsBlock.{nowhere, empty, some}
 use Rattle.vms_calls.specs.Turns.Balances.{no_zone, fails, passes}
 use Rattle.vms_calls.specs.Turns.Balance.{Yes, No}

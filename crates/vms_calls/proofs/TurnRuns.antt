@@ -1,5 +1,6 @@
 -- The steps of a test for an order, of a balance test and of a turn may be made.
-use Rattle.std.proofs.Common.{ℕ, suc, zero, ◌<◌, Bool, true, false, nat_eq, nat_le, map, List, ◌++◌, length, Option, None, get_or, sym, subst, arith}
+use Rattle.std.proofs.Common.{ℕ, suc, zero, ◌<◌, Bool, true, false, nat_eq, nat_le, map}
+use Rattle.std.proofs.Common.{List, ◌++◌, length, Option, None, get_or, sym, subst, arith}
 use Rattle.std.specs.Prelude.{All}
 use Rattle.std.proofs.lemmas.List.Elements.{All-filter, All-head, All-tail}
 use Rattle.vms_base.specs.declared.headers.Header.{Header}
@@ -22,13 +23,14 @@ use Rattle.vms_core.specs.declared.states.State.{State}
 use Rattle.vms_core.specs.declared.steps.Facts.{Facts}
 use Rattle.vms_core.specs.declared.steps.Step.{Step}
 use Rattle.vms_core.specs.Pages.{History}
-use Rattle.vms_core.specs.Steps.{turn}
+use Rattle.vms_core.specs.Steps.{role}
 use Rattle.vms_core.proofs.CounterRanges.{counter_at-known}
 use Rattle.vms_calls.specs.HeaderFacts.{facts_of}
 use Rattle.vms_calls.specs.Looks.{Verdict}
 use Rattle.vms_calls.specs.MayCall.{MakesOrderTest, MakesBalanceTest, MakesTurn}
 use Rattle.vms_calls.specs.Ratings.{ByNormal, ByPressure, node_number, numbers_below, zones_on}
-use Rattle.vms_calls.specs.Turns.{OrderVerdict, Balance, FindsBlock, Further, Blocks, Balances, IsOrderTest, IsBalanceTest, IsTurn, Settles, has_room, blocks_at, zones_up_to}
+use Rattle.vms_calls.specs.Turns.{OrderVerdict, Balance, FindsBlock, Further, Blocks, Balances, IsOrderTest}
+use Rattle.vms_calls.specs.Turns.{IsBalanceTest, IsTurn, Settles, has_room, blocks_at, zones_up_to}
 use Rattle.vms_calls.specs.Turns.Balance.{Yes, No}
 use Rattle.vms_calls.specs.Turns.FindsBlock.{nowhere, empty, some}
 use Rattle.vms_calls.specs.Turns.Balances.{no_zone, fails, passes}
@@ -37,7 +39,7 @@ use Rattle.vms_calls.proofs.ChoiceRanges.{normal-gives, pressure-gives}
 use Rattle.vms_calls.proofs.ControlCalls.{valid_sizes, control-may}
 use Rattle.vms_calls.proofs.LookRuns.{snapshot-runs, test-runs}
 use Rattle.vms_calls.proofs.MayBegin.{call-begins}
-use Rattle.vms_calls.proofs.Runs.{Runs, runs-append, runs-then, runs-may}
+use Rattle.vms_calls.proofs.StepRuns.{Runs, runs-append, runs-then, runs-may}
 use Rattle.vms_calls.proofs.VisitRuns.{numbers_below-below, node-runs}
 
 module _ (facts : Facts) (layout : IsLayout facts.layout) (p : ℕ) (who : Option CpuId) where
@@ -132,14 +134,14 @@ order-may header base h p g mark most order valid living zone =
     let facts = facts_of header base in
     call-begins facts p h (λ steps. (answer : OrderVerdict) × IsOrderTest header g mark most order steps answer)
     (λ steps call. runs-may facts p h living steps
-    (order-runs header valid base p (owner_in turn h p) g zone mark most order steps call.0 h call.1))
+    (order-runs header valid base p (owner_in role h p) g zone mark most order steps call.0 h call.1))
 
 pub balance-may : MakesBalanceTest
 balance-may header base h p n order most valid living =
     let facts = facts_of header base in
     call-begins facts p h (λ steps. (answer : Balance) × IsBalanceTest header n order most steps answer)
     (λ steps call. runs-may facts p h living steps
-    (balance-runs header valid base p (owner_in turn h p) n order most steps call.0 h call.1))
+    (balance-runs header valid base p (owner_in role h p) n order most steps call.0 h call.1))
 
 module _ (pressure normal : ZoneSize → ℕ → ℕ → Type 0) (pressures : GivesThresholds pressure)
     (normals : GivesThresholds normal) (header : Header) (valid : IsHeader header) (base : State)

@@ -1,5 +1,7 @@
 -- Which thresholds the steps of a turn leave.
-use Rattle.std.proofs.Common.{◌≡◌, ◌≢◌, ℕ, suc, zero, ◌&&◌, inl, inr, ⊎_elim, Bool, true, false, nat_eq, if◌then◌else◌, List, [], ◌∷◌, ◌++◌, length, Option, Some, None, refl, sym, ap, ◌∙◌, subst, arith, append_assoc, eq-eqb, ne_eqb}
+use Rattle.std.proofs.Common.{◌≡◌, ◌≢◌, ℕ, suc, zero, ◌&&◌, inl, inr, ⊎_elim, Bool, true}
+use Rattle.std.proofs.Common.{false, nat_eq, if◌then◌else◌, List, [], ◌∷◌, ◌++◌, length, Option, Some, None}
+use Rattle.std.proofs.Common.{refl, sym, ap, ◌∙◌, subst, arith, append_assoc, eq-eqb, ne_eqb}
 use Rattle.std.specs.Prelude.{Contains}
 use Rattle.std.proofs.lemmas.Bool.{and_right, cases_eq}
 use Rattle.vms_base.specs.declared.ids.CpuId.{CpuId}
@@ -15,14 +17,16 @@ use Rattle.vms_core.specs.declared.steps.Step.TheVariants.{LoadM, SetT, SetM}
 use Rattle.vms_core.specs.Pages.{History}
 use Rattle.vms_calls.specs.HeaderFacts.{facts_of}
 use Rattle.vms_calls.specs.Lists.{in_turn}
-use Rattle.vms_calls.specs.Ratings.{Choice, ByNormal, ByPressure, RatesNode, RatesMarked, Visits, VisitsEach, acknowledged_steps, state_steps, threshold_steps, mark_for, mark_steps, node_number, zones_on}
+use Rattle.vms_calls.specs.Ratings.{Choice, ByNormal, ByPressure, RatesNode, RatesMarked}
+use Rattle.vms_calls.specs.Ratings.{Visits, VisitsEach, acknowledged_steps, state_steps, threshold_steps}
+use Rattle.vms_calls.specs.Ratings.{mark_for, mark_steps, node_number, zones_on}
 use Rattle.vms_calls.specs.Ratings.RatesMarked.{unmarked, marked}
 use Rattle.vms_calls.specs.Ratings.VisitsEach.{none, next}
 use Rattle.vms_calls.specs.TurnLaws.{LeavesByRule, LeavesNormal, LeavesPressure, last_mark, last_set}
 use Rattle.vms_calls.specs.Turns.{zones_up_to}
 use Rattle.vms_calls.specs.Turns.Balance.{No}
 use Rattle.vms_calls.proofs.CallSteps.{Each, OfLooks, balance-each, states-each}
-use Rattle.vms_calls.proofs.RatingRuns.{IsOneOf}
+use Rattle.vms_calls.proofs.RatingRuns.{OccursIn}
 
 last_mark-append : (g : ℕ) (xs ys : List Step) (before : ℕ)
     → last_mark g (xs ++ ys) before ≡ last_mark g ys (last_mark g xs before)
@@ -59,7 +63,7 @@ last_set-none c g (_ ∷ xs) before nothing = last_set-none c g xs before nothin
 -- the thresholds of one CPU in one zone
 module _ (facts : Facts) (Chooses : Choice) (rule : ZoneSize → ℕ → ℕ → Type 0)
     (by_rule : (size : ZoneSize) (online t usual : ℕ) → Chooses size online t usual → rule size online t) (p : ℕ)
-    (online : List CpuId) (c : CpuId) (among : IsOneOf c online) (g : ℕ) where
+    (online : List CpuId) (c : CpuId) (among : OccursIn c online) (g : ℕ) where
   states-mark : (n : ℕ) (states : List CpuState) (before : ℕ)
       → last_mark g (in_turn state_steps n states) before ≡ before
   states-mark n [] before = refl
@@ -99,7 +103,7 @@ module _ (facts : Facts) (Chooses : Choice) (rule : ZoneSize → ℕ → ℕ →
       same true = refl
       same false = refl
 
-  thresholds-here : (t : ℕ) (cs : List CpuId) (before : Option ℕ) → IsOneOf c cs
+  thresholds-here : (t : ℕ) (cs : List CpuId) (before : Option ℕ) → OccursIn c cs
       → last_set c.number g (threshold_steps g t cs) before ≡ Some t
   thresholds-here t [] before is = absurd is
   thresholds-here t (d ∷ cs) before is = ⊎_elim
@@ -109,7 +113,7 @@ module _ (facts : Facts) (Chooses : Choice) (rule : ZoneSize → ℕ → ℕ →
       let both : (nat_eq d.number c.number && nat_eq g g) ≡ true = rw (cpu, zone) refl in
       ap (λ (b : Bool). last_set c.number g (threshold_steps g t cs) (if b then Some t else before)) both
       ∙ thresholds-stay t cs)
-      (λ (later : IsOneOf c cs).
+      (λ (later : OccursIn c cs).
       thresholds-here t cs (if nat_eq d.number c.number && nat_eq g g then Some t else before) later)
       is
 
@@ -196,10 +200,10 @@ module _ (facts : Facts) (Chooses : Choice) (rule : ZoneSize → ℕ → ℕ →
       (visits-have gs' ts' (after p first h') more visits (last_mark g first mark) (last_set c.number g first set)
       (visit-has z t h' first visit mark set has)))
 
-one-of_contained : (c : CpuId) (cs : List CpuId) → Contains cs c → IsOneOf c cs
-one-of_contained c [] in_list = absurd (let less = in_list.1 in omega arith)
-one-of_contained c (d ∷ ds) (zero, less, is) = inl (sym is)
-one-of_contained c (d ∷ ds) (suc i, less, is) = inr (one-of_contained c ds (i, omega arith, is))
+OccursIn-contained : (c : CpuId) (cs : List CpuId) → Contains cs c → OccursIn c cs
+OccursIn-contained c [] in_list = absurd (let less = in_list.1 in omega arith)
+OccursIn-contained c (d ∷ ds) (zero, less, is) = inl (sym is)
+OccursIn-contained c (d ∷ ds) (suc i, less, is) = inr (OccursIn-contained c ds (i, omega arith, is))
 
 -- after steps that came before, a call leaves thresholds of its rule
 node-leaves : (facts : Facts) (Chooses : Choice) (rule : ZoneSize → ℕ → ℕ → Type 0)
@@ -208,7 +212,7 @@ node-leaves : (facts : Facts) (Chooses : Choice) (rule : ZoneSize → ℕ → �
     (rates : RatesNode facts Chooses n p h call) → LeavesByRule facts.sizes rule rates.states call (before ++ call)
 node-leaves facts Chooses rule by_rule n p h call before rates g c found is =
     let online = online_from 0 rates.states in
-    let among = one-of_contained c online is in
+    let among = OccursIn-contained c online is in
     let loads = in_turn state_steps 0 rates.states in
     let earlier = last_set c.number g before None in
     let mark_is : last_mark g call 0 ≡ last_mark g rates.further 0 =
@@ -225,15 +229,15 @@ node-leaves facts Chooses rule by_rule n p h call before rates g c found is =
     let left = has (λ none. found (mark_is ∙ none)) in
     record { t = left.0; by_rule = left.1; last = set_is ∙ left.2 }
 
-pub leaves-normal : (pressure normal : ZoneSize → ℕ → ℕ → Type 0) → LeavesNormal pressure normal
-leaves-normal pressure normal header base n order most p h steps g verdict turn =
+pub LeavesNormal-holds : (pressure normal : ZoneSize → ℕ → ℕ → Type 0) → LeavesNormal pressure normal
+LeavesNormal-holds pressure normal header base n order most p h steps g verdict turn =
     subst (λ ks. LeavesByRule header.sizes normal turn.settles.states turn.further ks)
     (append_assoc turn.pressed turn.test turn.further ∙ sym turn.in_order)
     (node-leaves (facts_of header base) (ByNormal normal) normal (λ size online t usual chosen. chosen.0) n p
     (after p (turn.pressed ++ turn.test) h) turn.further (turn.pressed ++ turn.test) turn.settles)
 
-pub leaves-pressure : (pressure normal : ZoneSize → ℕ → ℕ → Type 0) → LeavesPressure pressure normal
-leaves-pressure pressure normal header base n order most p h steps turn g c found is =
+pub LeavesPressure-holds : (pressure normal : ZoneSize → ℕ → ℕ → Type 0) → LeavesPressure pressure normal
+LeavesPressure-holds pressure normal header base n order most p h steps turn g c found is =
     let left = node-leaves (facts_of header base) (ByPressure pressure normal) pressure
     (λ size online t usual chosen. chosen.0) n p h turn.pressed [] turn.presses g c found is in
     let nothing = balance-each SetsNone looks-set_none header most order

@@ -1,5 +1,7 @@
 -- The steps that visit zones, and those that set the thresholds of nodes, meet their conditions in a row.
-use Rattle.std.proofs.Common.{◌≡◌, ℕ, suc, zero, ◌+◌, ◌<◌, ◌≤◌, Bool, true, false, nat_eq, if◌then◌else◌, List, [], ◌∷◌, ◌++◌, length, map, get_or, Option, None, inl, inr, ⊎_elim, refl, sym, ap, ◌∙◌, subst, arith, eq-eqb, length-append}
+use Rattle.std.proofs.Common.{◌≡◌, ℕ, suc, zero, ◌+◌, ◌<◌, ◌≤◌, Bool, true, false, nat_eq}
+use Rattle.std.proofs.Common.{if◌then◌else◌, List, [], ◌∷◌, ◌++◌, length, map, get_or, Option, None, inl}
+use Rattle.std.proofs.Common.{inr, ⊎_elim, refl, sym, ap, ◌∙◌, subst, arith, eq-eqb, length-append}
 use Rattle.std.specs.Prelude.{All}
 use Rattle.std.proofs.lemmas.List.{get_or_default, length-map}
 use Rattle.std.proofs.lemmas.List.Elements.{All-append, All-weaker, All-filter, All-head, All-tail}
@@ -17,7 +19,9 @@ use Rattle.vms_history.proofs.Own.{after-steps}
 use Rattle.vms_core.specs.declared.steps.Facts.{Facts}
 use Rattle.vms_core.specs.declared.steps.Step.{Step}
 use Rattle.vms_core.specs.declared.steps.Step.TheVariants.{LoadM, LoadO, LoadA}
-use Rattle.vms_calls.specs.Ratings.{Choice, ByNormal, node_number, Rates, RatesMarked, Visits, VisitsEach, RatesNode, Refreshes, acknowledged_steps, state_steps, threshold_steps, numbers_below, zones_on, largest_on}
+use Rattle.vms_calls.specs.Ratings.{Choice, ByNormal, node_number, Rates, RatesMarked}
+use Rattle.vms_calls.specs.Ratings.{Visits, VisitsEach, RatesNode, Refreshes, acknowledged_steps}
+use Rattle.vms_calls.specs.Ratings.{state_steps, threshold_steps, numbers_below, zones_on, largest_on}
 use Rattle.vms_base.specs.Cpus.{online_from, is_online}
 use Rattle.vms_calls.specs.Ratings.RatesMarked.{unmarked, marked}
 use Rattle.vms_calls.specs.Ratings.VisitsEach.{none, next}
@@ -27,8 +31,8 @@ use Rattle.vms_core.specs.Peaks.{cpu_in}
 use Rattle.vms_calls.proofs.ChoiceRanges.{GivesBoth, normal-gives}
 use Rattle.vms_calls.proofs.Agreement.{event, mark_in}
 use Rattle.vms_history.proofs.CountLemmas.{largest_below-least, largest_below-most}
-use Rattle.vms_calls.proofs.RatingRuns.{IsOneOf, AreOnline, MaySet, rating-runs, thresholds-run}
-use Rattle.vms_calls.proofs.Runs.{Runs, runs-append}
+use Rattle.vms_calls.proofs.RatingRuns.{OccursIn, AreOnline, MaySet, rating-runs, thresholds-run}
+use Rattle.vms_calls.proofs.StepRuns.{Runs, runs-append}
 
 length-numbers_below : (n : ℕ) → length (numbers_below n) ≡ n
 length-numbers_below zero = refl
@@ -54,7 +58,7 @@ module _ (facts : Facts) (p : ℕ) where
   is_online-true Absent is = absurd cc
 
   abbrev FoundOnline : ℕ → List CpuState → History → Type 0
-  FoundOnline c states g = (d : CpuId) → IsOneOf d (online_from c states)
+  FoundOnline c states g = (d : CpuId) → OccursIn d (online_from c states)
       → IsCpu facts.layout d.number × (cpu_in facts d.number g ≡ Online)
 
   pub states-run : (c : ℕ) (states : List CpuState) (g : History) (P : History → Type 0)
@@ -84,7 +88,7 @@ module _ (facts : Facts) (p : ℕ) where
               )
 
           by : (b : Bool) → is_online x ≡ b
-              → IsOneOf d (if b then record { number = c } ∷ online_from (suc c) xs else online_from (suc c) xs)
+              → OccursIn d (if b then record { number = c } ∷ online_from (suc c) xs else online_from (suc c) xs)
               → IsCpu facts.layout d.number ×
               (cpu_in facts d.number (after p (in_turn state_steps (suc c) xs) load) ≡ Online)
           by true up one = ⊎_elim (here up) (known d) one
@@ -126,7 +130,7 @@ module _ (facts : Facts) (layout : IsLayout facts.layout)
 
   acknowledged-run : (z : ℕ) → IsZone facts.layout z
       → (cs : List CpuId) (numbers : List (Option ℕ)) (g : History) (P : History → Type 0)
-      → ((c : CpuId) → IsOneOf c cs → IsOneOf c online) → AreOnline facts layout p online few g
+      → ((c : CpuId) → OccursIn c cs → OccursIn c online) → AreOnline facts layout p online few g
       → (AreOnline facts layout p online few (after p (acknowledged_steps z cs numbers) g)
       → P (after p (acknowledged_steps z cs numbers) g))
       → Runs facts p None (acknowledged_steps z cs numbers) g P

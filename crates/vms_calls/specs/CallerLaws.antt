@@ -10,25 +10,25 @@ use Rattle.vms_core.specs.declared.steps.Facts.{Facts}
 use Rattle.vms_core.specs.declared.steps.Step.{Step}
 use Rattle.vms_core.specs.Own.{carried, carried_of_item}
 use Rattle.vms_core.specs.Pages.{History}
-use Rattle.vms_core.specs.Steps.{turn}
+use Rattle.vms_core.specs.Steps.{role}
 use Rattle.vms_core.specs.Totals.{change_size, spent}
 use Rattle.vms_calls.specs.Changes.{IsChange}
 use Rattle.vms_calls.specs.MayMake.{HasMade}
 
--- what a caller carried before these steps, for each counter and item, it carries after them: `h` are its own events
--- before
+-- after these steps a caller carries for each counter and item what it carried before; `h` are its own events before
+-- them
 pub record CarriesAsBefore (shape : Shape) (p : ℕ) (steps : List Step) (h : History) : Type 0 where
   pub counters : (k : ℕ) → carried k (after p steps h) ≡ carried k h
   pub items : (i : ℕ) → carried_of_item shape i (after p steps h) ≡ carried_of_item shape i h
 
--- so it is after a call that changes no counter, and no CPU has spent more than before
+-- this holds after a call that changes no counter, and no CPU has spent more than before
 pub record LeavesCaller (shape : Shape) (p : ℕ) (steps : List Step) (h : History) : Type 0 where
   pub carries : CarriesAsBefore shape p steps h
   -- the caller's own steps changed each counter by as much as before
   pub changes : (k : ℕ) → total (change_size k) (after p steps h) ≡ total (change_size k) h
   pub spends : (c k : ℕ) → spent (after p steps h) c k ≡ spent h c k
 
--- whatever steps such a call makes from whatever history on
+-- this holds of the steps of every such call, from every history on
 abbrev pub Leaves : Shape → (ℕ → History → List Step → Type 0) → Type 0
 Leaves shape IsCall = (p : ℕ) (began : History) (steps : List Step) → IsCall p began steps →
     (h : History) → LeavesCaller shape p steps h
@@ -48,7 +48,7 @@ ChangesLeave = (shape : Shape) (cpu : CpuId) (k : CounterId) (delta : ℤ) (how 
 -- where the caller owns a CPU, that CPU has spent the size of the change more on the counter
 abbrev pub ChangesSpend : Type 0
 ChangesSpend = (shape : Shape) (cpu : CpuId) (k : CounterId) (delta : ℤ) (how : Mode) (steps : List Step) →
-    IsChange shape cpu k delta how steps → (p : ℕ) (h : History) → owner_in turn h p ≡ Some cpu → (c l : ℕ) →
+    IsChange shape cpu k delta how steps → (p : ℕ) (h : History) → owner_in role h p ≡ Some cpu → (c l : ℕ) →
     spent (after p steps h) c l ≡
     (if nat_eq cpu.number c && nat_eq k.number l then unsigned_abs delta + spent h c l else spent h c l)
 
@@ -57,18 +57,18 @@ pub record CarriesAsEarlier (shape : Shape) (later earlier : History) (p : ℕ) 
   pub counters : (k : ℕ) → carried k (own later p) ≡ carried k (own earlier p)
   pub items : (i : ℕ) → carried_of_item shape i (own later p) ≡ carried_of_item shape i (own earlier p)
 
--- so it is where the pass made a call that changes no counter, and its CPU has spent no more since
+-- this holds where the pass made a call that changes no counter, and its CPU has spent no more since
 abbrev pub CallsLeaveMeanwhile : Type 0
 CallsLeaveMeanwhile = (facts : Facts) (later earlier : History) (p : ℕ) (steps : List Step) →
     HasMade facts later earlier p steps → LeavesCaller facts.layout p steps (own earlier p) →
     CarriesAsEarlier facts.layout later earlier p
-    × ((c : CpuId) → owner_in turn earlier p ≡ Some c → (k : ℕ) →
+    × ((c : CpuId) → owner_in role earlier p ≡ Some c → (k : ℕ) →
     spent later c.number k ≡ spent earlier c.number k)
 
--- and where the owner of a CPU made a change: the CPU has spent the size of the change more on the counter
+-- it holds where the owner of a CPU made a change, and the CPU has spent the size of the change more on the counter
 abbrev pub ChangesLeaveMeanwhile : Type 0
 ChangesLeaveMeanwhile = (facts : Facts) (later earlier : History) (p : ℕ) (cpu : CpuId) (k : CounterId) (delta : ℤ)
-    (how : Mode) (steps : List Step) → HasMade facts later earlier p steps → owner_in turn earlier p ≡ Some cpu →
+    (how : Mode) (steps : List Step) → HasMade facts later earlier p steps → owner_in role earlier p ≡ Some cpu →
     IsChange facts.layout cpu k delta how steps →
     CarriesAsEarlier facts.layout later earlier p
     × ((l : ℕ) → spent later cpu.number l ≡

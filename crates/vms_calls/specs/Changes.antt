@@ -53,6 +53,6 @@ abbrev pub misses_after : Step → ℕ → ℕ
 misses_after (Miss j w) n = suc n
 misses_after _ n = n
 
-abbrev pub misses : List Step → ℕ
-misses [] = 0
-misses (step ∷ rest) = misses_after step (misses rest)
+abbrev pub miss_count : List Step → ℕ
+miss_count [] = 0
+miss_count (step ∷ rest) = misses_after step (miss_count rest)

@@ -7,7 +7,7 @@ use Rattle.vms_core.specs.declared.steps.Step.{Step}
 use Rattle.vms_core.specs.declared.steps.Step.TheVariants.{LoadT, Take, AddG, AddS, SetA}
 use Rattle.vms_calls.specs.Folds.{IsFold, acknowledges, taken_of_item}
 
--- the steps without an addition to a global value, or to a system-wide one, that stands first
+-- the steps without the first one, where that adds to a global value; and the same of a system-wide value
 abbrev pub without_place : List Step → List Step
 without_place (AddG k a ∷ rest) = rest
 without_place steps = steps

@@ -16,15 +16,15 @@ use Rattle.vms_core.specs.ChangedStates.{with_change}
 use Rattle.vms_base.specs.Volumes.{most_volume}
 use Rattle.vms_core.specs.Own.{CarriesNothing}
 use Rattle.vms_core.specs.Pages.{History, IsLegal, state_after}
-use Rattle.vms_core.specs.Steps.{turn}
+use Rattle.vms_core.specs.Steps.{role}
 use Rattle.vms_core.specs.Totals.{spent}
 
 -- in this history pass p may change a counter of its CPU
 pub record MayChange (facts : Facts) (h : History) (p : ℕ) (cpu : CpuId) (k : CounterId) (delta : ℤ) : Type 0 where
   pub legal : IsLegal facts h
   pub other_than_main : p ≢ 0
-  pub lives : lives_in turn h p ≡ true
-  pub owner : owner_in turn h p ≡ Some cpu
+  pub lives : lives_in role h p ≡ true
+  pub owner : owner_in role h p ≡ Some cpu
   pub cpu_known : IsCpu facts.layout cpu.number
   pub counter_known : IsCounter facts.layout k.number
   pub online : cpu_at (state_after facts h) cpu.number ≡ Online

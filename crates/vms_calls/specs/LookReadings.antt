@@ -1,5 +1,6 @@
 -- What the steps of a call tell of its answer: each function gives the answer, and the steps that follow the call's.
-use Rattle.std.specs.Prelude.{◌≡◌, ℕ, suc, zero, nat_lt, Bool, true, false, ℤ, pos, ◌+ℤ◌, List, [], ◌∷◌, ◌++◌, if◌then◌else◌}
+use Rattle.std.specs.Prelude.{◌≡◌, ℕ, suc, zero, nat_lt, Bool, true, false}
+use Rattle.std.specs.Prelude.{ℤ, pos, ◌+ℤ◌, List, [], ◌∷◌, ◌++◌, if◌then◌else◌}
 use Rattle.vms_base.specs.declared.headers.Header.{Header}
 use Rattle.vms_base.specs.declared.ids.CounterId.{CounterId}
 use Rattle.vms_base.specs.declared.ids.ItemId.{ItemId}
@@ -12,7 +13,8 @@ use Rattle.vms_core.specs.declared.states.MarkRead.{MarkRead}
 use Rattle.vms_core.specs.declared.steps.Step.{Step}
 use Rattle.vms_core.specs.declared.steps.Step.TheVariants.{LoadD, LoadG, LoadS, LoadM, LoadO}
 use Rattle.vms_core.specs.Cells.{entry}
-use Rattle.vms_calls.specs.Looks.{Verdict, IsPlaceValue, IsSystemValue, IsSnapshot, IsWatermarkTest, at_least_zero, is_doubtful, free_pages}
+use Rattle.vms_calls.specs.Looks.{Verdict, IsPlaceValue, IsSystemValue, IsSnapshot}
+use Rattle.vms_calls.specs.Looks.{IsWatermarkTest, at_least_zero, is_doubtful, free_pages}
 
 -- the value that a load tells, the differential of counter k, the mark, and whether a CPU is online
 abbrev pub value_told : Step → ℤ

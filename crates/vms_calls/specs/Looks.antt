@@ -1,5 +1,6 @@
 -- The steps of the calls that look at values, what each call answers, and how its steps tell the answer.
-use Rattle.std.specs.Prelude.{◌≡◌, ◌≢◌, ℕ, ◌&&◌, ◌||◌, not, nat_eq, nat_lt, Bool, true, false, ℤ, pos, negsuc, ◌+ℤ◌, List, [], ◌∷◌, length}
+use Rattle.std.specs.Prelude.{◌≡◌, ◌≢◌, ℕ, ◌&&◌, ◌||◌, not, nat_eq, nat_lt, Bool, true}
+use Rattle.std.specs.Prelude.{false, ℤ, pos, negsuc, ◌+ℤ◌, List, [], ◌∷◌, length}
 use Rattle.vms_base.specs.declared.groups.Diffs.{Diffs}
 use Rattle.vms_base.specs.declared.headers.Header.{Header}
 use Rattle.vms_base.specs.declared.ids.CounterId.{CounterId}

@@ -22,49 +22,49 @@ use Rattle.vms_core.specs.Conditions.{IsControl}
 use Rattle.vms_core.specs.Own.{CarriesNothing}
 use Rattle.vms_core.specs.Pages.{History, state_after}
 use Rattle.vms_core.specs.Peaks.{sets, threshold_in, peak, cpu_in, peak_sum}
-use Rattle.vms_core.specs.Steps.{turn}
+use Rattle.vms_core.specs.Steps.{role}
 use Rattle.vms_calls.specs.Changes.{IsChange}
 use Rattle.vms_calls.specs.Folds.{IsFold}
 use Rattle.vms_calls.specs.LoneChanges.{MayChange}
 use Rattle.vms_calls.specs.HeaderFacts.{facts_of}
 use Rattle.vms_calls.specs.Looks.{Verdict, IsPlaceValue, IsSystemValue, IsSnapshot, IsWatermarkTest}
-use Rattle.vms_calls.specs.MayMake.{HasMade, MayBegin, LivesIn, ControlsIn}
+use Rattle.vms_calls.specs.MayMake.{HasMade, MayBegin, IsLivePass, ControlsIn}
 use Rattle.vms_calls.specs.Ratings.{Choice, Rates, RatesNode, Refreshes, Buries, mark_left}
 use Rattle.vms_calls.specs.Turns.{OrderVerdict, Balance, IsOrderTest, IsBalanceTest, IsTurn}
 
 -- a live pass may load the value of a counter, and of an item
 abbrev pub MakesPlaceValue : Type 0
-MakesPlaceValue = (facts : Facts) (h : History) (p : ℕ) (k : CounterId) → LivesIn facts h p →
+MakesPlaceValue = (facts : Facts) (h : History) (p : ℕ) (k : CounterId) → IsLivePass facts h p →
     IsCounter facts.layout k.number → MayBegin facts p h (λ steps. (answer : ℕ) × IsPlaceValue k steps answer)
 
 abbrev pub MakesSystemValue : Type 0
-MakesSystemValue = (facts : Facts) (h : History) (p : ℕ) (i : ItemId) → LivesIn facts h p →
+MakesSystemValue = (facts : Facts) (h : History) (p : ℕ) (i : ItemId) → IsLivePass facts h p →
     IsItem facts.layout i.number → MayBegin facts p h (λ steps. (answer : ℕ) × IsSystemValue i steps answer)
 
 -- a live pass may take a snapshot of a counter
 abbrev pub MakesSnapshot : Type 0
-MakesSnapshot = (facts : Facts) (h : History) (p : ℕ) (k : CounterId) → LivesIn facts h p →
+MakesSnapshot = (facts : Facts) (h : History) (p : ℕ) (k : CounterId) → IsLivePass facts h p →
     IsCounter facts.layout k.number →
     MayBegin facts p h (λ steps. (answer : ℕ) × IsSnapshot facts.layout k steps answer)
 
 -- a live pass may test a watermark of a zone
 abbrev pub MakesTest : Type 0
 MakesTest = (header : Header) (base : State) (h : History) (p : ℕ) (g : PlaceId) (mark : WaterMark) (most : ℕ) →
-    LivesIn (facts_of header base) h p → IsZone header.layout g.number →
+    IsLivePass (facts_of header base) h p → IsZone header.layout g.number →
     MayBegin (facts_of header base) p h
     (λ steps. (answer : Verdict) × IsWatermarkTest header g mark most steps answer)
 
 -- a live pass may test a zone for an order
 abbrev pub MakesOrderTest : Type 0
 MakesOrderTest = (header : Header) (base : State) (h : History) (p : ℕ) (g : PlaceId) (mark : WaterMark)
-    (most order : ℕ) → IsHeader header → LivesIn (facts_of header base) h p → IsZone header.layout g.number →
+    (most order : ℕ) → IsHeader header → IsLivePass (facts_of header base) h p → IsZone header.layout g.number →
     MayBegin (facts_of header base) p h
     (λ steps. (answer : OrderVerdict) × IsOrderTest header g mark most order steps answer)
 
 -- a live pass may test whether a node is balanced
 abbrev pub MakesBalanceTest : Type 0
 MakesBalanceTest = (header : Header) (base : State) (h : History) (p : ℕ) (n : PlaceId) (order most : ℕ) →
-    IsHeader header → LivesIn (facts_of header base) h p →
+    IsHeader header → IsLivePass (facts_of header base) h p →
     MayBegin (facts_of header base) p h (λ steps. (answer : Balance) × IsBalanceTest header n order most steps answer)
 
 -- the control pass may make a turn
@@ -97,8 +97,8 @@ MakesRefresh normal = (facts : Facts) (h : History) (p : ℕ) → ControlsIn fac
 
 -- a live pass that carries nothing may fold a CPU, with acknowledgements where it owns the CPU
 abbrev pub MakesFold : Type 0
-MakesFold = (facts : Facts) (h : History) (p : ℕ) (is_own : Bool) (c : CpuId) → LivesIn facts h p →
-    IsCpu facts.layout c.number → (is_own ≡ true → owner_in turn h p ≡ Some c) →
+MakesFold = (facts : Facts) (h : History) (p : ℕ) (is_own : Bool) (c : CpuId) → IsLivePass facts h p →
+    IsCpu facts.layout c.number → (is_own ≡ true → owner_in role h p ≡ Some c) →
     CarriesNothing facts.layout (own h p) → MayBegin facts p h (λ steps. IsFold facts.layout is_own c steps)
 
 -- the control pass may bury a dead CPU where it carries nothing
@@ -124,7 +124,7 @@ pub record AreAsInRow (facts : Facts) (later earlier : History) (p : ℕ) (steps
   pub peak_sums : (more : List Step) (g : ℕ) →
       peak_sum facts g (after p more later) ≡ peak_sum facts g (after p more (after p steps earlier))
 
--- so it is for what the control pass made while others acted
+-- this holds of what the control pass made while others acted
 abbrev pub KnowsByOwnSteps : Type 0
 KnowsByOwnSteps = (facts : Facts) (later earlier : History) (p : ℕ) (steps : List Step) →
     HasMade facts later earlier p steps → IsControl earlier p → AreAsInRow facts later earlier p steps

@@ -2,15 +2,17 @@
 use Rattle.std.specs.Prelude.{◌≡◌, ℕ, true, ◌⊎◌, List, Some}
 use Rattle.vms_base.specs.declared.ids.CpuId.{CpuId}
 use Rattle.vms_base.specs.Places.{group_of}
-use Rattle.vms_history.specs.Making as making
+use Rattle.vms_history.specs.PassSteps as making
 use Rattle.vms_history.specs.Passes.{lives_in, owner_in}
 use Rattle.vms_core.specs.declared.steps.Facts.{Facts}
 use Rattle.vms_core.specs.declared.steps.Step.{Step}
-use Rattle.vms_core.specs.declared.steps.Step.TheVariants.{LoadT, LoadD, Put, Miss, Take, LoadG, LoadS, LoadM, LoadO, LoadA}
-use Rattle.vms_core.specs.Cells.{TellsGroup, value_at, system_at, threshold_at, threshold_sets_at, mark_at, mark_sets_at, cpu_at, acknowledged_at, eight_zeros}
+use Rattle.vms_core.specs.declared.steps.Step.TheVariants.{LoadT, LoadD, Put, Miss, Take}
+use Rattle.vms_core.specs.declared.steps.Step.TheVariants.{LoadG, LoadS, LoadM, LoadO, LoadA}
+use Rattle.vms_core.specs.Cells.{TellsGroup, value_at, system_at, threshold_at, threshold_sets_at}
+use Rattle.vms_core.specs.Cells.{mark_at, mark_sets_at, cpu_at, acknowledged_at, eight_zeros}
 use Rattle.vms_core.specs.Conditions.{IsControl}
 use Rattle.vms_core.specs.Pages.{pages, History, IsLegal, state_after}
-use Rattle.vms_core.specs.Steps.{turn}
+use Rattle.vms_core.specs.Steps.{role}
 
 -- pass p lives and has made these steps since the earlier history, the oldest first, whatever others did in between
 abbrev pub HasMade : Facts → History → History → ℕ → List Step → Type 0
@@ -19,14 +21,14 @@ HasMade facts later earlier p steps = making.HasMade pages facts later earlier p
 -- a load or a take tells what stands when it is made; so does an exchange, which wins where the group holds the list or
 -- the list is eight zeros, and loses where the group holds another
 abbrev pub Tells : Facts → History → ℕ → Step → Type 0
-Tells facts h p (LoadT g t a) = (c : CpuId) → owner_in turn h p ≡ Some c →
+Tells facts h p (LoadT g t a) = (c : CpuId) → owner_in role h p ≡ Some c →
     (threshold_at (state_after facts h) c.number g.number ≡ t)
     × (threshold_sets_at (state_after facts h) c.number g.number ≡ a)
 Tells facts h p (LoadD c j w) = TellsGroup (state_after facts h) c.number j.number w.values
 Tells facts h p (Take c j w) = TellsGroup (state_after facts h) c.number j.number w.values
-Tells facts h p (Put k w t delta how) = (c : CpuId) → owner_in turn h p ≡ Some c →
+Tells facts h p (Put k w t delta how) = (c : CpuId) → owner_in role h p ≡ Some c →
     TellsGroup (state_after facts h) c.number (group_of k.number) w.values ⊎ (w.values ≡ eight_zeros)
-Tells facts h p (Miss j w) = (c : CpuId) → owner_in turn h p ≡ Some c →
+Tells facts h p (Miss j w) = (c : CpuId) → owner_in role h p ≡ Some c →
     TellsGroup (state_after facts h) c.number j.number w.values → ⊥
 Tells facts h p (LoadG k v) = value_at (state_after facts h) k.number ≡ v
 Tells facts h p (LoadS i v) = system_at (state_after facts h) i.number ≡ v
@@ -47,11 +49,11 @@ abbrev pub MayBegin : Facts → ℕ → History → (List Step → Type 0) → T
 MayBegin facts p earlier IsCall = making.MayBegin pages Tells facts p earlier IsCall
 
 -- a pass lives in a legal history
-pub record LivesIn (facts : Facts) (h : History) (p : ℕ) : Type 0 where
+pub record IsLivePass (facts : Facts) (h : History) (p : ℕ) : Type 0 where
   pub legal : IsLegal facts h
-  pub lives : lives_in turn h p ≡ true
+  pub lives : lives_in role h p ≡ true
 
--- the control pass does
+-- the control pass lives in a legal history
 pub record ControlsIn (facts : Facts) (h : History) (p : ℕ) : Type 0 where
-  pub living : LivesIn facts h p
+  pub living : IsLivePass facts h p
   pub control : IsControl h p

@@ -1,5 +1,6 @@
 -- The steps of the calls that set thresholds and marks, and of a burial, on top of the history in which a call begins.
-use Rattle.std.specs.Prelude.{◌≡◌, ◌≢◌, ℕ, suc, zero, ◌+◌, ◌-◌, nat_eq, false, List, [], ◌∷◌, ◌++◌, length, map, filter, slice_index_or, if◌then◌else◌, Option}
+use Rattle.std.specs.Prelude.{◌≡◌, ◌≢◌, ℕ, suc, zero, ◌+◌, ◌-◌, nat_eq, false, List}
+use Rattle.std.specs.Prelude.{[], ◌∷◌, ◌++◌, length, map, filter, slice_index_or, if◌then◌else◌, Option}
 use Rattle.vms_base.specs.declared.ids.CpuId.{CpuId}
 use Rattle.vms_base.specs.declared.ids.PlaceId.{PlaceId}
 use Rattle.vms_base.specs.declared.kinds.CpuState.{CpuState}

@@ -7,7 +7,7 @@ use Rattle.vms_base.specs.declared.kinds.CpuState.TheVariants.{Online, Absent}
 use Rattle.vms_base.specs.declared.kinds.ZoneKind.TheVariants.{Normal}
 use Rattle.vms_core.specs.declared.steps.Step.{Step}
 use Rattle.vms_core.specs.declared.steps.Step.TheVariants.{LoadG, LoadM, LoadO, LoadA}
-use Rattle.vms_core.specs.Settling.{cpu, zone}
+use Rattle.vms_core.specs.LoweredThreshold.{cpu, zone}
 
 -- an item of the zones that counts pages
 abbrev pub zone_item : List ℕ → ItemDecl
@@ -32,13 +32,13 @@ abbrev pub node : PlaceId
 node = record { number = 1 }
 
 -- a call on thresholds that finds the CPU online, nothing acknowledged and no mark
-abbrev pub visit : List Step
-visit = LoadO cpu Online ∷ LoadA cpu zone None ∷ LoadM zone 0 0 ∷ []
+abbrev pub one_visit : List Step
+one_visit = LoadO cpu Online ∷ LoadA cpu zone None ∷ LoadM zone 0 0 ∷ []
 
 -- a watermark test that finds 190 free pages
-abbrev pub look : List Step
-look = LoadM zone 0 0 ∷ LoadG (record { number = 0 }) (pos 190) ∷ LoadM zone 0 0 ∷ []
+abbrev pub one_look : List Step
+one_look = LoadM zone 0 0 ∷ LoadG (record { number = 0 }) (pos 190) ∷ LoadM zone 0 0 ∷ []
 
 -- a snapshot of the blocks of 16 pages that finds one and no CPU online
-abbrev pub block : List Step
-block = LoadG (record { number = 8 }) (pos 1) ∷ LoadO cpu Absent ∷ []
+abbrev pub one_block : List Step
+one_block = LoadG (record { number = 8 }) (pos 1) ∷ LoadO cpu Absent ∷ []

@@ -1,5 +1,6 @@
 -- Which thresholds a turn of kswapd leaves, and what its calls and its balance test find.
-use Rattle.std.specs.Prelude.{◌≡◌, ◌≢◌, ℕ, ◌<◌, ◌≤◌, nat_eq, ◌&&◌, true, List, [], ◌∷◌, ◌++◌, length, All, AllPairs, Contains, if◌then◌else◌, Option, Some, None}
+use Rattle.std.specs.Prelude.{◌≡◌, ◌≢◌, ℕ, ◌<◌, ◌≤◌, nat_eq, ◌&&◌, true, List, []}
+use Rattle.std.specs.Prelude.{◌∷◌, ◌++◌, length, All, AllPairs, Contains, if◌then◌else◌, Option, Some, None}
 use Rattle.vms_base.specs.declared.headers.Header.{Header}
 use Rattle.vms_base.specs.declared.headers.ItemDecl.{ItemDecl}
 use Rattle.vms_base.specs.declared.ids.CpuId.{CpuId}
@@ -23,8 +24,8 @@ use Rattle.vms_calls.specs.TurnReadings.{SettlesOnline}
 use Rattle.vms_calls.specs.Turns.{OrderVerdict, Balance, IsBalanceTest, IsTurn, zones_up_to}
 use Rattle.vms_calls.specs.Turns.Balance.{Yes, No}
 
--- the areas for blocks of an order and larger: each is of a smaller order than every later one, and none is of a smaller
--- order than was asked for
+-- the areas for blocks of an order and larger: each is of a smaller order than every later one, and none is of a
+-- smaller order than was asked for
 abbrev pub AreasAscend : Type 0
 AreasAscend = (order : ℕ) (items : List ItemDecl) →
     AllPairs (λ a b. a.order < b.order) (areas_from order (areas_of items))

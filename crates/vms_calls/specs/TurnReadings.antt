@@ -1,5 +1,6 @@
 -- What the steps of a test for an order, of a balance test and of a turn of kswapd tell of the answer.
-use Rattle.std.specs.Prelude.{◌≡◌, ℕ, suc, zero, nat_eq, Bool, false, List, [], ◌∷◌, ◌++◌, if◌then◌else◌, Option, Some, None, is_some}
+use Rattle.std.specs.Prelude.{◌≡◌, ℕ, suc, zero, nat_eq, Bool, false, List}
+use Rattle.std.specs.Prelude.{[], ◌∷◌, ◌++◌, if◌then◌else◌, Option, Some, None, is_some}
 use Rattle.vms_base.specs.declared.headers.Header.{Header}
 use Rattle.vms_base.specs.declared.ids.PlaceId.{PlaceId}
 use Rattle.vms_base.specs.declared.kinds.WaterMark.{WaterMark}
@@ -18,7 +19,8 @@ use Rattle.vms_calls.specs.LookReadings.{read_snapshot, read_test}
 use Rattle.vms_calls.specs.Looks.{Verdict}
 use Rattle.vms_calls.specs.RatingReadings.{SomeOnline, read_node_rating}
 use Rattle.vms_calls.specs.Ratings.{node_number}
-use Rattle.vms_calls.specs.Turns.{OrderVerdict, Balance, IsOrderTest, IsBalanceTest, IsTurn, Settles, blocks_at, has_room, zones_up_to}
+use Rattle.vms_calls.specs.Turns.{OrderVerdict, Balance, IsOrderTest, IsBalanceTest, IsTurn}
+use Rattle.vms_calls.specs.Turns.{Settles, blocks_at, has_room, zones_up_to}
 use Rattle.vms_calls.specs.Turns.Balance.{Yes, No}
 
 -- the order of the first area whose snapshot isn't 0

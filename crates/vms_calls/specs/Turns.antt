@@ -1,6 +1,7 @@
 -- The steps of a test for an order, of a balance test of a node and of a turn of kswapd, and what each answers
 -- (`__zone_watermark_ok` of mm/page_alloc.c, `pgdat_balanced` and `kswapd_try_to_sleep` of mm/vmscan.c).
-use Rattle.std.specs.Prelude.{◌≡◌, ◌≢◌, ℕ, suc, zero, ◌+◌, ◌-◌, ◌^◌, nat_le, nat_lt, Bool, true, false, List, [], ◌∷◌, ◌++◌, map, filter, slice_index_or, Option, Some, None, is_some}
+use Rattle.std.specs.Prelude.{◌≡◌, ◌≢◌, ℕ, suc, zero, ◌+◌, ◌-◌, ◌^◌, nat_le, nat_lt, Bool, true}
+use Rattle.std.specs.Prelude.{false, List, [], ◌∷◌, ◌++◌, map, filter, slice_index_or, Option, Some, None, is_some}
 use Rattle.vms_base.specs.declared.headers.Header.{Header}
 use Rattle.vms_base.specs.declared.ids.CounterId.{CounterId}
 use Rattle.vms_base.specs.declared.ids.PlaceId.{PlaceId}

@@ -58,8 +58,8 @@ pub fn ratings_leave_their_caller<R: ThresholdRules>()
         × IsTurn header base R.pressure R.normal n order most p h steps answer) }
 {}
 
-/// A call that was made while others acted leaves its caller as its steps in a row do: the caller carries what it
-/// carried before, and its CPU has spent no more, after a change the size of the change more.
+/// What a call leaves when others acted meanwhile: its caller carries what it carried before, and its CPU has spent no
+/// more. After a change the CPU has spent the size of the change more.
 pub fn made_calls_leave_their_caller()
     ensures call { CallsLeaveMeanwhile }
     ensures change { ChangesLeaveMeanwhile }

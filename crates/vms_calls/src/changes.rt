@@ -5,13 +5,13 @@ ghost use Rattle.vms_base.specs.declared.kinds.Mode.{Mode};
 ghost use Rattle.vms_base.specs.Places.{Shape};
 ghost use Rattle.vms_core.specs.declared.steps.Step.{Step};
 ghost use Rattle.vms_calls.specs.CallerLaws.{ChangesLeave, ChangesSpend};
-ghost use Rattle.vms_calls.specs.Changes.{IsChange, misses};
+ghost use Rattle.vms_calls.specs.Changes.{IsChange, miss_count};
 ghost use Rattle.vms_calls.specs.LoneChanges.{GoesOnWithChange};
 
 /// A change of a counter loses one exchange at most.
 pub fn changes_miss_once()
     ensures { (shape : Shape) (cpu : CpuId) (k : CounterId) (delta : ℤ) (how : Mode)
-        (steps : List Step) → IsChange shape cpu k delta how steps → misses steps ≤ 1 }
+        (steps : List Step) → IsChange shape cpu k delta how steps → miss_count steps ≤ 1 }
 {}
 
 /// Where a pass may change a counter, a legal history goes on with the steps of a change that meets no other caller.

@@ -2,24 +2,22 @@
 //! they leave as it was, and that a pass may make them whatever other callers do meanwhile.
 #![tactic(auto)]
 
+mod allowed_steps;
 mod callers;
 mod changes;
-mod making;
 mod ratings;
 mod readings;
 mod rules;
-#[cfg(test)]
-mod tests;
 mod turns;
 
+pub use allowed_steps::{
+    changes_may_be_made, folds_may_be_made, looks_may_be_made, thresholds_may_be_set,
+};
 pub use callers::{
     control_passes_know_by_own_steps, folds_leave_their_caller, looks_leave_their_caller,
     made_calls_leave_their_caller, ratings_leave_their_caller,
 };
 pub use changes::{changes_follow, changes_miss_once, changes_spend_their_size};
-pub use making::{
-    changes_may_be_made, folds_may_be_made, looks_may_be_made, thresholds_may_be_set,
-};
 pub use ratings::ratings_cover;
 pub use readings::{
     answers_are_told, changes_and_folds_are_told, ratings_are_told, ratings_find_a_cpu,

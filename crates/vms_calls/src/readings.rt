@@ -1,7 +1,8 @@
 ghost use Rattle.vms_calls.specs.ChangeReadings.{TellsChange};
 ghost use Rattle.vms_calls.specs.FoldReadings.{TellsFold};
 ghost use Rattle.vms_calls.specs.LookReadings.{TellsPlaceValue, TellsSystemValue, TellsSnapshot, TellsTest};
-ghost use Rattle.vms_calls.specs.RatingReadings.{TellsNodeRating, TellsRefresh, TellsBurial, NodeFindsOnline, RefreshFindsOnline, BurialFindsOnline};
+ghost use Rattle.vms_calls.specs.RatingReadings.{TellsNodeRating, TellsRefresh, TellsBurial};
+ghost use Rattle.vms_calls.specs.RatingReadings.{NodeFindsOnline, RefreshFindsOnline, BurialFindsOnline};
 ghost use Rattle.vms_calls.specs.Ratings.{ByNormal, ByPressure};
 ghost use Rattle.vms_calls.specs.TurnLaws.{TurnFindsOnline};
 ghost use Rattle.vms_calls.specs.TurnReadings.{TellsOrderTest, TellsBalance, TellsTurn};
@@ -25,8 +26,8 @@ pub fn changes_and_folds_are_told()
     ensures fold { TellsFold }
 {}
 
-/// The steps of a call that sets thresholds, of a burial and of a turn of kswapd tell where they end, and those of a
-/// turn its answer, where each call found a CPU online.
+/// Where each call found a CPU online, the steps of a call that sets thresholds, of a burial and of a turn of kswapd
+/// tell where they end. Those of a turn tell its answer too.
 pub fn ratings_are_told<R: ThresholdRules>()
     ensures pressure { TellsNodeRating (ByPressure R.pressure R.normal) }
     ensures normal { TellsNodeRating (ByNormal R.normal) }

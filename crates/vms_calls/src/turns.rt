@@ -13,8 +13,8 @@ pub fn balance_tests_name_what_passed()
     ensures { NamesPassed }
 {}
 
-/// After yes a turn leaves thresholds of the normal rule on the CPUs that it found online, after no those of the
-/// pressure rule, in each zone of the node whose mark its last call on thresholds found not 0.
+/// After yes a turn of kswapd leaves thresholds of the normal rule, after no those of the pressure rule. It leaves them
+/// on the CPUs that it found online, in each zone of the node whose mark its last call on thresholds found not 0.
 pub fn turns_leave_rules<R: ThresholdRules>()
     ensures after_yes { LeavesNormal R.pressure R.normal }
     ensures after_no { LeavesPressure R.pressure R.normal }

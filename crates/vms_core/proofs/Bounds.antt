@@ -1,5 +1,6 @@
 -- A differential is at most the threshold that was used on it last.
-use Rattle.std.proofs.Common.{◌≡◌, ℕ, ◌≤◌, ◌&&◌, Bool, true, false, [], ◌∷◌, Option, Some, None, ℤ, pos, unsigned_abs, refl, arith, if◌then◌else◌, nat_eq}
+use Rattle.std.proofs.Common.{◌≡◌, ℕ, ◌≤◌, ◌&&◌, Bool, true, false, [], ◌∷◌, Option}
+use Rattle.std.proofs.Common.{Some, None, ℤ, pos, unsigned_abs, refl, arith, if◌then◌else◌, nat_eq}
 use Rattle.vms_base.specs.declared.ids.CpuId.{CpuId}
 use Rattle.vms_base.specs.Places.{group_of}
 use Rattle.vms_history.specs.Passes.{owner_in}
@@ -8,7 +9,7 @@ use Rattle.vms_core.specs.declared.steps.Step.{Step}
 use Rattle.vms_core.specs.declared.steps.Step.TheVariants.{Put, Take}
 use Rattle.vms_core.specs.Cells.{diff_at, entry}
 use Rattle.vms_core.specs.Changes.{differential_after}
-use Rattle.vms_core.specs.Steps.{turn, effect}
+use Rattle.vms_core.specs.Steps.{role, effect}
 use Rattle.vms_core.specs.Totals.{last_after, last_threshold}
 use Rattle.vms_core.specs.Pages.{History, IsLegal, state_after, BoundsDifferentials}
 use Rattle.vms_core.proofs.ChangeLemmas.{differential_after-within}
@@ -37,7 +38,7 @@ pub diff_at-bounded : (facts : Facts) (h : History) → IsLegal facts h → Boun
 diff_at-bounded facts [] legal c k c_in k_in = omega arith
 diff_at-bounded facts (e ∷ h) legal c k c_in k_in =
     let s = state_after facts h in
-    let who = owner_in turn h e.caller in
+    let who = owner_in role h e.caller in
     let after : diff_at (effect facts who e.step s) c k ≡ diff_after who c k e.step (diff_at s c k) =
     diff_at-effect facts h s e.caller (HasShape-state_after facts h legal.0) who e.step c k refl legal.2 k_in in
     rw after (diff_after-within who c k e.step (diff_at s c k) (last_threshold facts h c k)

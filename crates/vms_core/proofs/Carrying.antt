@@ -1,5 +1,6 @@
 -- What callers carry, and what they added: no more than what they took out.
-use Rattle.std.proofs.Common.{◌≡◌, ℕ, suc, ◌+◌, ◌≤◌, Bool, true, false, [], ◌∷◌, ℤ, pos, ◌+ℤ◌, ◌≤ℤ◌, unsigned_abs, refl, arith, nat_eq, eqb-true}
+use Rattle.std.proofs.Common.{◌≡◌, ℕ, suc, ◌+◌, ◌≤◌, Bool, true, false, [], ◌∷◌}
+use Rattle.std.proofs.Common.{ℤ, pos, ◌+ℤ◌, ◌≤ℤ◌, unsigned_abs, refl, arith, nat_eq, eqb-true}
 use Rattle.std.proofs.lemmas.Int.{ints}
 use Rattle.std.proofs.lemmas.Bool.{eqb-false}
 use Rattle.vms_history.specs.declared.events.Event.{Event}
@@ -13,7 +14,7 @@ use Rattle.vms_history.proofs.SumBounds.{sum_below-le}
 use Rattle.vms_core.specs.declared.steps.Facts.{Facts}
 use Rattle.vms_core.specs.declared.steps.Step.{Step}
 use Rattle.vms_core.specs.Pages.{pages, History, IsLegal}
-use Rattle.vms_core.specs.Steps.{turn}
+use Rattle.vms_core.specs.Steps.{role}
 
 -- the sizes of all steps of a history together
 abbrev pub sizes : (Step → ℕ) → History → ℤ
@@ -52,7 +53,7 @@ module _ (facts : Facts) (moved : Step → ℤ) (out added : Step → ℕ)
 
   pub added-within : (h : History) → IsLegal facts h → sizes added h ≤ℤ sizes out h
   added-within h legal =
-      let n : ℕ = suc (begun_in turn h) in
+      let n : ℕ = suc (begun_in role h) in
       let all_added : sizes added h ≡ sum_below (λ p. sizes added (own h p)) n =
       total-by_caller pages facts (λ k. pos (added k)) h n legal (omega arith) in
       let all_out : sizes out h ≡ sum_below (λ p. sizes out (own h p)) n =

@@ -1,5 +1,8 @@
 -- What reads find in a list after a row of zeros was written, and in a row of eight.
-use Rattle.std.proofs.Common.{◌≡◌, ◌≢◌, ℕ, zero, suc, ◌+◌, ◌*◌, ◌/◌, ◌%◌, ◌<◌, ◌≤◌, Bool, true, false, ◌&&◌, List, length, get_or, ℤ, pos, refl, sym, ◌∙◌, arith, eqb-true, length-set, get_or-set_other, take, drop, length-take, length-drop, get_or-take, get_or-drop, ap, ⊎_elim, if◌then◌else◌, nat_eq}
+use Rattle.std.proofs.Common.{◌≡◌, ◌≢◌, ℕ, zero, suc, ◌+◌, ◌*◌, ◌/◌, ◌%◌, ◌<◌}
+use Rattle.std.proofs.Common.{◌≤◌, Bool, true, false, ◌&&◌, List, length, get_or, ℤ, pos}
+use Rattle.std.proofs.Common.{refl, sym, ◌∙◌, arith, eqb-true, length-set, get_or-set_other, take, drop, length-take}
+use Rattle.std.proofs.Common.{length-drop, get_or-take, get_or-drop, ap, ⊎_elim, if◌then◌else◌, nat_eq}
 use Rattle.std.proofs.lemmas.Bool.{eqb-false, cases_lt}
 use Rattle.std.proofs.lemmas.Int.{ints}
 use Rattle.std.proofs.lemmas.List.{get_or_past}

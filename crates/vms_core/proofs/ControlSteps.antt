@@ -18,7 +18,7 @@ use Rattle.vms_core.specs.Pages.{pages, History, IsLegal, state_after}
 use Rattle.vms_core.proofs.DeadCpus.{dead≢online}
 use Rattle.vms_core.proofs.LiveOwners.{online-stays}
 use Rattle.vms_core.proofs.OfflineGroups.{offline-stay_taken}
-use Rattle.vms_core.proofs.Watching.{owner_in-goes_on, control-knows_later}
+use Rattle.vms_core.proofs.KnowledgeKept.{owner_in-goes_on, control-knows_later}
 
 pub SetsThreshold-goes_on : (facts : Facts) (later earlier : History) (p : ℕ) (c : CpuId) (g : PlaceId) (t : ℕ)
     → GoesOnWithout facts later earlier p → SetsThreshold facts earlier (state_after facts earlier) p c g t

@@ -1,5 +1,7 @@
 -- What a dead CPU hid moves once.
-use Rattle.std.proofs.Common.{◌≡◌, ℕ, suc, ◌<◌, ◌≤◌, ◌&&◌, ◌⊎◌, inl, inr, ⊎_elim, Bool, true, false, [], ◌∷◌, Option, Some, None, ℤ, pos, ◌+ℤ◌, unsigned_abs, refl, sym, ap, ◌∙◌, arith, if◌then◌else◌, nat_eq, nat_lt, eqb-true}
+use Rattle.std.proofs.Common.{◌≡◌, ℕ, suc, ◌<◌, ◌≤◌, ◌&&◌, ◌⊎◌, inl, inr, ⊎_elim, Bool}
+use Rattle.std.proofs.Common.{true, false, [], ◌∷◌, Option, Some, None, ℤ, pos, ◌+ℤ◌, unsigned_abs}
+use Rattle.std.proofs.Common.{refl, sym, ap, ◌∙◌, arith, if◌then◌else◌, nat_eq, nat_lt, eqb-true}
 use Rattle.std.proofs.lemmas.Int.{ints}
 use Rattle.std.proofs.lemmas.Bool.Decides.{nat_tests}
 use Rattle.std.proofs.lemmas.Bool.{and_parts}
@@ -21,7 +23,7 @@ use Rattle.vms_core.specs.Cells.{HasShape, diff_at, cpu_at, entry}
 use Rattle.vms_core.specs.Changes.{differential_after}
 use Rattle.vms_core.specs.Conditions.{Meets, Puts, FindsGroup}
 use Rattle.vms_core.specs.Peaks.{cpu_after}
-use Rattle.vms_core.specs.Steps.{turn}
+use Rattle.vms_core.specs.Steps.{role}
 use Rattle.vms_core.specs.Taken.{taken_by, taken, takings, MovesDeadOnce}
 use Rattle.vms_core.specs.Pages.{History, IsLegal, state_after}
 use Rattle.vms_core.proofs.HiddenPages.{absent-zero}
@@ -60,7 +62,7 @@ take-leaves true told before kept = omega (arith, ints, kept refl)
 take-leaves false told before kept = omega (arith, ints)
 
 module _ (facts : Facts) (h : History) (s : State) (p : ℕ) (shaped : HasShape facts.layout s) (c k : ℕ) where
-  no_put : (d : CpuId) (l : ℕ) (w : Diffs) → owner_in turn h p ≡ Some d → (m : CounterId) (t : ℕ) (delta : ℤ)
+  no_put : (d : CpuId) (l : ℕ) (w : Diffs) → owner_in role h p ≡ Some d → (m : CounterId) (t : ℕ) (delta : ℤ)
       → Puts facts h s p m w t delta → (cpu_at s c ≡ Online → ⊥) → (nat_eq d.number c && nat_eq l k) ≡ true → ⊥
   no_put d l w is m t delta puts offline here =
       let same : puts.cpu ≡ d = owned facts h s p shaped d puts.cpu is puts.owns in
@@ -69,7 +71,7 @@ module _ (facts : Facts) (h : History) (s : State) (p : ℕ) (shaped : HasShape 
       offline (rw cpu at puts.online)
 
   -- a differential of a CPU that isn't online becomes 0 or stays
-  diff_after-offline : (who : Option CpuId) (step : Step) → owner_in turn h p ≡ who → Meets facts h s p step
+  diff_after-offline : (who : Option CpuId) (step : Step) → owner_in role h p ≡ who → Meets facts h s p step
       → (cpu_at s c ≡ Online → ⊥)
       → (diff_after who c k step (diff_at s c k) ≡ pos 0) ⊎ (diff_after who c k step (diff_at s c k) ≡ diff_at s c k)
   diff_after-offline (Some d) (Put l w t delta how) is meets offline =
@@ -91,7 +93,7 @@ module _ (facts : Facts) (h : History) (s : State) (p : ℕ) (shaped : HasShape 
       entry-told s d.number j.number k w.values finds.values (eqb-true j.number (group_of k) at.1)
       ∙ ap (λ n. diff_at s n k) (eqb-true d.number c at.0)
 
-  taken_by-offline : (who : Option CpuId) (step : Step) → owner_in turn h p ≡ who → Meets facts h s p step
+  taken_by-offline : (who : Option CpuId) (step : Step) → owner_in role h p ≡ who → Meets facts h s p step
       → (cpu_at s c ≡ Online → ⊥) → diff_after who c k step (diff_at s c k) +ℤ taken_by c k step ≡ diff_at s c k
   taken_by-offline (Some d) (Put l w t delta how) is meets offline =
       let stays = if-never (nat_eq d.number c && nat_eq l.number k)
@@ -129,7 +131,7 @@ offline-taken_once : (facts : Facts) (h : History) (c k : ℕ) → IsLegal facts
 offline-taken_once facts [] c k legal k_in offline = TakenOnce-none (diff_at facts.base c k)
 offline-taken_once facts (e ∷ h) c k legal k_in offline =
     let s = state_after facts h in
-    let who = owner_in turn h e.caller in
+    let who = owner_in role h e.caller in
     let shaped = HasShape-state_after facts h legal.0 in
     let off : cpu_at s c ≡ Online → ⊥ = λ online. offline (online-in_base facts h c legal.0 online) in
     let after : diff_at (state_after facts (e ∷ h)) c k ≡ diff_after who c k e.step (diff_at s c k) =

@@ -7,10 +7,11 @@ use Rattle.vms_history.specs.Passes.{begun_in}
 use Rattle.vms_history.specs.Sums.{count_below, sum_below}
 use Rattle.vms_core.specs.declared.steps.Facts.{Facts}
 use Rattle.vms_core.specs.Cells.{diff_at}
-use Rattle.vms_core.specs.Drift.{BoundsDrift, BoundsSystemDrift, BoundsExcess, size_below_zero, last_thresholds, last_thresholds_of_item, carried_sizes, carried_of_item_sizes}
+use Rattle.vms_core.specs.Drift.{BoundsDrift, BoundsSystemDrift, BoundsExcess, size_below_zero}
+use Rattle.vms_core.specs.Drift.{last_thresholds, last_thresholds_of_item, carried_sizes, carried_of_item_sizes}
 use Rattle.vms_core.specs.Own.{carried, carried_of_item}
 use Rattle.vms_core.specs.Pages.{History, IsLegal, state_after, carried_by_all, carried_of_item_by_all}
-use Rattle.vms_core.specs.Steps.{turn}
+use Rattle.vms_core.specs.Steps.{role}
 use Rattle.vms_core.specs.Totals.{differentials, differentials_of_item, last_threshold}
 use Rattle.vms_core.proofs.Bounds.{within-if, diff_at-bounded}
 use Rattle.vms_history.proofs.CountLemmas.{sum_below-sizes}
@@ -46,7 +47,7 @@ module _ (facts : Facts) (h : History) (legal : IsLegal facts h) where
   pub drift-bounded : BoundsDrift facts h
   drift-bounded k k_in =
       let carried_within : unsigned_abs (carried_by_all h k) ≤ carried_sizes h k =
-      sum_below-sizes (λ p. carried k (own h p)) (λ p. unsigned_abs (carried k (own h p))) (suc (begun_in turn h))
+      sum_below-sizes (λ p. carried k (own h p)) (λ p. unsigned_abs (carried k (own h p))) (suc (begun_in role h))
       (λ p below. omega arith) in
       omega (arith, ints, totals-kept facts h legal k k_in, differentials-bounded k k_in, carried_within)
 
@@ -55,12 +56,12 @@ module _ (facts : Facts) (h : History) (legal : IsLegal facts h) where
       let shape = facts.layout in
       let carried_within : unsigned_abs (carried_of_item_by_all shape h i) ≤ carried_of_item_sizes shape h i =
       sum_below-sizes (λ p. carried_of_item shape i (own h p))
-      (λ p. unsigned_abs (carried_of_item shape i (own h p))) (suc (begun_in turn h))
+      (λ p. unsigned_abs (carried_of_item shape i (own h p))) (suc (begun_in role h))
       (λ p below. omega arith) in
       omega (arith, ints, system_totals-kept facts h legal i i_in, differentials_of_item-bounded i, carried_within)
 
   -- what the callers carry together is at least minus the sizes of the negative amounts
   pub excess-bounded : BoundsExcess facts h
   excess-bounded k k_in =
-      let least = negative_least (λ p. carried k (own h p)) (suc (begun_in turn h)) in
+      let least = negative_least (λ p. carried k (own h p)) (suc (begun_in role h)) in
       omega (arith, ints, totals-kept facts h legal k k_in, least)

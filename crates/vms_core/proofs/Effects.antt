@@ -1,6 +1,7 @@
 -- For other crates too: what a step that meets its condition makes of the lists of a state, and of its global values
 -- and differentials.
-use Rattle.std.proofs.Common.{◌≡◌, ℕ, ◌+◌, ◌*◌, ◌/◌, ◌<◌, ◌≤◌, ◌&&◌, List, length, get_or, Option, Some, None, ℤ, pos, ◌+ℤ◌, refl, ap, ◌∙◌, arith, length-set, if◌then◌else◌, nat_eq}
+use Rattle.std.proofs.Common.{◌≡◌, ℕ, ◌+◌, ◌*◌, ◌/◌, ◌<◌, ◌≤◌, ◌&&◌, List, length, get_or, Option}
+use Rattle.std.proofs.Common.{Some, None, ℤ, pos, ◌+ℤ◌, refl, ap, ◌∙◌, arith, length-set, if◌then◌else◌, nat_eq}
 use Rattle.vms_base.specs.declared.ids.CpuId.{CpuId}
 use Rattle.vms_base.specs.Places.{Shape, cell, counter_count, IsCpu, IsCounter, IsGroup, group_of}
 use Rattle.vms_base.proofs.Cells.{cell-lt}
@@ -12,11 +13,12 @@ use Rattle.vms_core.specs.declared.states.State.{State}
 use Rattle.vms_core.specs.declared.steps.Facts.{Facts}
 use Rattle.vms_core.specs.declared.steps.Step.{Step}
 use Rattle.vms_core.specs.declared.steps.Step.TheVariants.{Put, AddG, AddS, Take, SetT, SetM, SetO, SetA}
-use Rattle.vms_core.specs.Cells.{HasShape, counters_of, places_of, zones_of, value_at, system_at, threshold_sets_at, mark_sets_at, diff_at, entry, with_value, with_diff, with_group_zeroed}
+use Rattle.vms_core.specs.Cells.{HasShape, counters_of, places_of, zones_of, value_at, system_at, threshold_sets_at}
+use Rattle.vms_core.specs.Cells.{mark_sets_at, diff_at, entry, with_value, with_diff, with_group_zeroed}
 use Rattle.vms_core.specs.Changes.{differential_after}
 use Rattle.vms_core.specs.Conditions.{Meets, Owns}
 pub use Rattle.vms_core.specs.Effects.{diff_after, value_after, system_after}
-use Rattle.vms_core.specs.Steps.{turn, effect, effect_of, own_effect}
+use Rattle.vms_core.specs.Steps.{role, effect, effect_of, own_effect}
 use Rattle.vms_core.proofs.CellLemmas.{get_or-zeroed_cells, length-zeroed}
 
 -- a step leaves the lengths of all lists
@@ -87,10 +89,10 @@ module _ (shape : Shape) (s : State) (shaped : HasShape shape s) where
       (rw shaped.place (group-within (counter_count shape) j j_in)) (rw shaped.place k_in)
 
 module _ (facts : Facts) (h : List (Event Step)) (s : State) (p : ℕ) (shaped : HasShape facts.layout s) where
-  pub owned : (o c : CpuId) → owner_in turn h p ≡ Some o → Owns facts h p c → c ≡ o
+  pub owned : (o c : CpuId) → owner_in role h p ≡ Some o → Owns facts h p c → c ≡ o
   owned o c is owns = cc
 
-  pub diff_at-effect : (who : Option CpuId) (step : Step) (c k : ℕ) → owner_in turn h p ≡ who → Meets facts h s p step
+  pub diff_at-effect : (who : Option CpuId) (step : Step) (c k : ℕ) → owner_in role h p ≡ who → Meets facts h s p step
       → IsCounter facts.layout k → diff_at (effect facts who step s) c k ≡ diff_after who c k step (diff_at s c k)
   diff_at-effect (Some o) (Put l w t delta how) c k is meets k_in =
       let same = owned o meets.cpu is meets.owns in

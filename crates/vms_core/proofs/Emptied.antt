@@ -1,5 +1,6 @@
 -- The differentials of a group that was emptied are 0 until its owner's next put.
-use Rattle.std.proofs.Common.{◌≡◌, ℕ, ◌+◌, ◌*◌, ◌/◌, ◌%◌, ◌&&◌, Bool, true, false, true≢false, [], ◌∷◌, Option, Some, None, ℤ, pos, refl, sym, ap, ◌∙◌, arith, if◌then◌else◌, nat_eq, eqb-true, eq-eqb}
+use Rattle.std.proofs.Common.{◌≡◌, ℕ, ◌+◌, ◌*◌, ◌/◌, ◌%◌, ◌&&◌, Bool, true, false, true≢false, [], ◌∷◌, Option}
+use Rattle.std.proofs.Common.{Some, None, ℤ, pos, refl, sym, ap, ◌∙◌, arith, if◌then◌else◌, nat_eq, eqb-true, eq-eqb}
 use Rattle.std.proofs.lemmas.List.{get_or-replicate, length-replicate}
 use Rattle.std.proofs.lemmas.Bool.{and_parts}
 use Rattle.vms_base.specs.declared.ids.CpuId.{CpuId}
@@ -12,7 +13,7 @@ use Rattle.vms_core.specs.declared.steps.Step.TheVariants.{Put, Miss, Take}
 use Rattle.vms_core.specs.Cells.{HasShape, diff_at, eight_zeros, entry}
 use Rattle.vms_core.specs.Changes.{differential_after}
 use Rattle.vms_core.specs.Conditions.{Meets}
-use Rattle.vms_core.specs.Steps.{turn}
+use Rattle.vms_core.specs.Steps.{role}
 use Rattle.vms_core.specs.Taken.{emptied_after, is_emptied, KeepsEmptied}
 use Rattle.vms_core.specs.Pages.{History, IsLegal, state_after}
 use Rattle.vms_core.proofs.Shapes.{HasShape-state_after}
@@ -45,7 +46,7 @@ found-if false flag before found zero still = zero still
 
 module _ (facts : Facts) (h : History) (s : State) (p : ℕ) (shaped : HasShape facts.layout s) (c k : ℕ) (flag : Bool)
     (zero : flag ≡ true → diff_at s c k ≡ pos 0) where
-  diff_after-emptied : (who : Option CpuId) (step : Step) → owner_in turn h p ≡ who → Meets facts h s p step
+  diff_after-emptied : (who : Option CpuId) (step : Step) → owner_in role h p ≡ who → Meets facts h s p step
       → emptied_after who c (group_of k) step flag ≡ true → diff_after who c k step (diff_at s c k) ≡ pos 0
   diff_after-emptied (Some d) (Put l w t delta how) is meets still =
       put-emptied (nat_eq d.number c) (nat_eq l.number k) (nat_eq (group_of l.number) (group_of k)) flag
@@ -72,7 +73,7 @@ pub diff_at-emptied : (facts : Facts) (h : History) → IsLegal facts h → (c k
 diff_at-emptied facts [] legal c k k_in still = absurd (true≢false (sym still))
 diff_at-emptied facts (e ∷ h) legal c k k_in still =
     let s = state_after facts h in
-    let who = owner_in turn h e.caller in
+    let who = owner_in role h e.caller in
     let shaped = HasShape-state_after facts h legal.0 in
     diff_at-effect facts h s e.caller shaped who e.step c k refl legal.2 k_in
     ∙ diff_after-emptied facts h s e.caller shaped c k (is_emptied h c (group_of k))

@@ -9,7 +9,7 @@ use Rattle.vms_base.specs.Places.{IsGroup, place_of, group_of}
 use Rattle.vms_base.proofs.Counts.{group_of-lt}
 use Rattle.vms_history.specs.Events.{own}
 use Rattle.vms_history.specs.Legal.{Acts}
-use Rattle.vms_history.specs.Passes.Turn.{Works}
+use Rattle.vms_history.specs.Passes.Role.{Works}
 use Rattle.vms_history.proofs.PassLaws.{live_is_given}
 use Rattle.vms_history.proofs.Prefixes.{base_can_begin}
 use Rattle.vms_core.specs.declared.steps.Facts.{Facts}
@@ -20,7 +20,7 @@ use Rattle.vms_core.specs.Knowledge.{MayExchange, GoesOnWithout, StandsOrTaken}
 use Rattle.vms_core.specs.Own.{found, loaded, CarriesNothing}
 use Rattle.vms_core.specs.Pages.{pages, History, IsLegal, state_after}
 use Rattle.vms_core.proofs.LiveOwners.{owned-online, found-stands}
-use Rattle.vms_core.proofs.Watching.{owner-knows}
+use Rattle.vms_core.proofs.KnowledgeKept.{OwnerKnows-holds}
 
 module _ (facts : Facts) (h : History) (p : ℕ) (cpu : CpuId) (k : CounterId) (w : Diffs) (t : ℕ) (delta : ℤ)
     (may : MayExchange facts h p cpu k w t delta) where
@@ -86,7 +86,7 @@ pub MayExchange-goes_on : (facts : Facts) (later earlier : History) (p : ℕ) (c
     → GoesOnWithout facts later earlier p → MayExchange facts earlier p cpu k w t delta
     → MayExchange facts later p cpu k w t delta
 MayExchange-goes_on facts later earlier p cpu k w t delta goes may =
-    let knows = owner-knows facts later earlier p cpu goes may.owner.owner in
+    let knows = OwnerKnows-holds facts later earlier p cpu goes may.owner.owner in
     let same = goes.own_same in
     record {
       legal = goes.legal;

@@ -1,5 +1,6 @@
 -- For other crates too: what stands of a CPU while no pass owns it, and of all settings while no control pass lives.
-use Rattle.std.proofs.Common.{◌≡◌, ◌≢◌, ℕ, ◌&&◌, [], ◌∷◌, ◌++◌, Option, Some, None, refl, sym, ap, ◌∙◌, subst, arith, nat_eq, eqb-true}
+use Rattle.std.proofs.Common.{◌≡◌, ◌≢◌, ℕ, ◌&&◌, [], ◌∷◌, ◌++◌, Option, Some}
+use Rattle.std.proofs.Common.{None, refl, sym, ap, ◌∙◌, subst, arith, nat_eq, eqb-true}
 use Rattle.std.proofs.lemmas.Bool.{and_parts}
 use Rattle.vms_base.specs.declared.ids.CpuId.{CpuId}
 use Rattle.vms_history.specs.declared.events.Event.{Event}
@@ -15,10 +16,10 @@ use Rattle.vms_core.specs.declared.steps.Step.TheVariants.{SetA}
 use Rattle.vms_core.specs.Cells.{acknowledged_at}
 use Rattle.vms_core.specs.Knowledge.{GoesOnWithoutMain, StandsFree, ControlKnows}
 use Rattle.vms_core.specs.Pages.{pages, History, IsLegal, state_after}
-use Rattle.vms_core.specs.Steps.{turn}
+use Rattle.vms_core.specs.Steps.{role}
 use Rattle.vms_core.specs.Totals.{spent}
 use Rattle.vms_core.proofs.Settings.{acknowledged_after, acknowledged_at-newest}
-use Rattle.vms_core.proofs.Watching.{spent_by-others, event-leaves, knows-none, knows-both}
+use Rattle.vms_core.proofs.KnowledgeKept.{spent_by-others, event-leaves, knows-none, knows-both}
 
 -- a step of another than the owner of a CPU acknowledges nothing for it
 acknowledged_after-others : (who : Option CpuId) (c : CpuId) (g : ℕ) (step : Step) (before : Option ℕ) → who ≢ Some c
@@ -35,9 +36,9 @@ module _ (facts : Facts) (later earlier : History) (goes : GoesOnWithoutMain fac
   more = goes.extends.0
 
   -- what each step of others leaves stands
-  stands : (who : Option CpuId) → IsFree turn earlier who → (Holds : History → Type 0)
+  stands : (who : Option CpuId) → IsFree role earlier who → (Holds : History → Type 0)
       → ((e : Event Step) (m : History) → IsLegal facts (e ∷ (m ++ earlier)) → e.caller ≢ 0
-      → owner_in turn (m ++ earlier) e.caller ≢ who → Holds (m ++ earlier) → Holds (e ∷ (m ++ earlier)))
+      → owner_in role (m ++ earlier) e.caller ≢ who → Holds (m ++ earlier) → Holds (e ∷ (m ++ earlier)))
       → Holds earlier → Holds later
   stands who free Holds step holds =
       subst Holds (sym goes.extends.1)
@@ -45,12 +46,12 @@ module _ (facts : Facts) (later earlier : History) (goes : GoesOnWithoutMain fac
       (subst (IsLegal facts) goes.extends.1 goes.legal)
       (own-on_top more earlier 0 [] (subst (λ (g : History). own g 0 ≡ own earlier 0) goes.extends.1 goes.own_same)))
 
-  pub cpu-stands : (c : CpuId) → IsFree turn earlier (Some c) → StandsFree facts later earlier c.number
+  pub cpu-stands : (c : CpuId) → IsFree role earlier (Some c) → StandsFree facts later earlier c.number
   cpu-stands c free = record {
     volumes = λ k.
         stands (Some c) free (λ g. spent g c.number k ≡ spent earlier c.number k)
         (λ e m legal main other before.
-        let nothing = spent_by-others (owner_in turn (m ++ earlier) e.caller) c k e.step other in
+        let nothing = spent_by-others (owner_in role (m ++ earlier) e.caller) c k e.step other in
         omega (arith, nothing, before))
         refl;
     acknowledged = λ g zone.
@@ -58,11 +59,11 @@ module _ (facts : Facts) (later earlier : History) (goes : GoesOnWithoutMain fac
         (λ h. acknowledged_at (state_after facts h) c.number g ≡ acknowledged_at (state_after facts earlier) c.number g)
         (λ e m legal main other before.
         acknowledged_at-newest facts e (m ++ earlier) legal c.number g zone
-        ∙ acknowledged_after-others (owner_in turn (m ++ earlier) e.caller) c g e.step _ other ∙ before)
+        ∙ acknowledged_after-others (owner_in role (m ++ earlier) e.caller) c g e.step _ other ∙ before)
         refl;
   }
 
-  pub settings-stand : IsFree turn earlier None → ControlKnows facts later earlier
+  pub settings-stand : IsFree role earlier None → ControlKnows facts later earlier
   settings-stand free =
       stands None free (λ g. ControlKnows facts g earlier)
       (λ e m legal main other before.

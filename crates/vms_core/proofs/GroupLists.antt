@@ -1,5 +1,7 @@
 -- For other crates too: the differentials of a group stand as one list of eight, and so do the lists that steps name.
-use Rattle.std.proofs.Common.{◌≡◌, ℕ, ◌+◌, ◌*◌, ◌%◌, ◌<◌, ◌≤◌, ◌&&◌, Bool, true, false, List, [], ◌∷◌, length, take, drop, Option, Some, None, ℤ, pos, ◌∙◌, ⊎_elim, arith, length-set, if◌then◌else◌, nat_eq, unsigned_abs}
+use Rattle.std.proofs.Common.{◌≡◌, ℕ, ◌+◌, ◌*◌, ◌%◌, ◌<◌, ◌≤◌, ◌&&◌, Bool, true}
+use Rattle.std.proofs.Common.{false, List, [], ◌∷◌, length, take, drop, Option, Some, None}
+use Rattle.std.proofs.Common.{ℤ, pos, ◌∙◌, ⊎_elim, arith, length-set, if◌then◌else◌, nat_eq, unsigned_abs}
 use Rattle.std.proofs.lemmas.Bool.{cases_lt}
 use Rattle.std.proofs.lemmas.List.{get_or_past, length-replicate}
 use Rattle.vms_base.specs.declared.ids.CpuId.{CpuId}
@@ -65,11 +67,11 @@ own-name_eight facts =
     own-keeps pages facts NameEight tt (λ e h legal mine.
     (NamesEight-step facts h (state_after facts h) e.caller e.step legal.2 mine, mine))
 
-pub name_eight : (facts : Facts) (h : History) → IsLegal facts h → NameEight h
-name_eight facts [] legal = tt
-name_eight facts (e ∷ h) legal = (
+pub NameEight-holds : (facts : Facts) (h : History) → IsLegal facts h → NameEight h
+NameEight-holds facts [] legal = tt
+NameEight-holds facts (e ∷ h) legal = (
   NamesEight-step facts h (state_after facts h) e.caller e.step legal.2 (own-name_eight facts h legal.0 e.caller),
-  name_eight facts h legal.0,
+  NameEight-holds facts h legal.0,
 )
 
 -- a list of eight differentials, none of which is larger than a threshold may be, is one of bytes

@@ -1,5 +1,6 @@
 -- What the CPUs hide of a counter is at most their peaks.
-use Rattle.std.proofs.Common.{◌≡◌, ℕ, ◌≤◌, ◌&&◌, Bool, true, false, [], ◌∷◌, Option, Some, None, ℤ, pos, unsigned_abs, refl, sym, ap, ◌∙◌, arith, subst, if◌then◌else◌, nat_eq, eqb-true}
+use Rattle.std.proofs.Common.{◌≡◌, ℕ, ◌≤◌, ◌&&◌, Bool, true, false, [], ◌∷◌, Option, Some, None}
+use Rattle.std.proofs.Common.{ℤ, pos, unsigned_abs, refl, sym, ap, ◌∙◌, arith, subst, if◌then◌else◌, nat_eq, eqb-true}
 use Rattle.std.proofs.lemmas.Bool.{and_parts}
 use Rattle.vms_base.specs.declared.ids.CpuId.{CpuId}
 use Rattle.vms_base.specs.declared.kinds.CpuState.{CpuState}
@@ -16,7 +17,7 @@ use Rattle.vms_core.specs.Conditions.{Meets}
 use Rattle.vms_core.specs.Pages.{History, IsLegal, state_after}
 use Rattle.vms_core.specs.PeakLaws.{HidesNothingAbsent, BoundsHidden}
 use Rattle.vms_core.specs.Peaks.{cpu_after, cpu_in, peak, if_present}
-use Rattle.vms_core.specs.Steps.{turn}
+use Rattle.vms_core.specs.Steps.{role}
 use Rattle.vms_history.proofs.CountLemmas.{count_below-least}
 use Rattle.vms_core.proofs.Effects.{diff_after, diff_at-effect, owned}
 use Rattle.vms_core.proofs.PeakBounds.{last-within}
@@ -29,7 +30,7 @@ module _ (facts : Facts) (h : History) (s : State) (p : ℕ) (shaped : HasShape 
   taken-none false before none = none
 
   -- no put reaches a CPU that isn't online, and one becomes absent with no differentials
-  absent-step : (who : Option CpuId) (step : Step) (c k : ℕ) → owner_in turn h p ≡ who → Meets facts h s p step
+  absent-step : (who : Option CpuId) (step : Step) (c k : ℕ) → owner_in role h p ≡ who → Meets facts h s p step
       → IsCounter facts.layout k → (cpu_at s c ≡ Absent → diff_at s c k ≡ pos 0)
       → cpu_after c step (cpu_at s c) ≡ Absent → diff_after who c k step (diff_at s c k) ≡ pos 0
   absent-step (Some o) (Put l w t delta how) c k is meets k_in before gone =
@@ -62,7 +63,7 @@ absent-zero facts [] legal c k c_in k_in gone = legal.opening.absent c k c_in go
 absent-zero facts (e ∷ h) legal c k c_in k_in gone =
     let s = state_after facts h in
     let shaped = HasShape-state_after facts h legal.0 in
-    let who = owner_in turn h e.caller in
+    let who = owner_in role h e.caller in
     diff_at-effect facts h s e.caller shaped who e.step c k refl legal.2 k_in
     ∙ absent-step facts h s e.caller shaped who e.step c k refl legal.2 k_in (absent-zero facts h legal.0 c k c_in k_in)
     (sym (cpu_at-newest facts e h legal c) ∙ gone)

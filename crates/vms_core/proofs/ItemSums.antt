@@ -1,5 +1,6 @@
 -- For other crates too: an item has a counter in at most sixteen places.
-use Rattle.std.proofs.Common.{◌≡◌, ℕ, suc, zero, ◌+◌, ◌*◌, ◌<◌, ◌≤◌, ◌⊎◌, inl, inr, Bool, true, false, length, ℤ, pos, ◌+ℤ◌, ◌≤ℤ◌, refl, ap, arith, if◌then◌else◌, nat_eq, nat_lt, eqb-true}
+use Rattle.std.proofs.Common.{◌≡◌, ℕ, suc, zero, ◌+◌, ◌*◌, ◌<◌, ◌≤◌, ◌⊎◌, inl, inr, Bool, true, false, length, ℤ, pos}
+use Rattle.std.proofs.Common.{◌+ℤ◌, ◌≤ℤ◌, refl, ap, arith, if◌then◌else◌, nat_eq, nat_lt, eqb-true}
 use Rattle.std.proofs.Math.Nat.{mul-le-mul_right}
 use Rattle.std.proofs.lemmas.Int.{ints}
 use Rattle.std.proofs.lemmas.Bool.{ne_eqb, cases_lt}

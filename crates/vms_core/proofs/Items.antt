@@ -1,5 +1,7 @@
 -- Nothing is lost of any item: system-wide values, differentials and what is carried add up to the true totals.
-use Rattle.std.proofs.Common.{◌≡◌, ℕ, suc, zero, ◌+◌, ◌-◌, ◌*◌, ◌/◌, ◌<◌, ◌≤◌, ◌⊎◌, ◌&&◌, Bool, true, false, [], ◌∷◌, Option, Some, None, get_or, length-set, ℤ, pos, ◌+ℤ◌, ◌-ℤ◌, refl, sym, ap, ◌∙◌, arith, inl, inr, ⊎_elim, if◌then◌else◌, nat_eq, eq-eqb, eqb-true}
+use Rattle.std.proofs.Common.{◌≡◌, ℕ, suc, zero, ◌+◌, ◌-◌, ◌*◌, ◌/◌, ◌<◌, ◌≤◌, ◌⊎◌, ◌&&◌, Bool}
+use Rattle.std.proofs.Common.{true, false, [], ◌∷◌, Option, Some, None, get_or, length-set, ℤ, pos, ◌+ℤ◌, ◌-ℤ◌}
+use Rattle.std.proofs.Common.{refl, sym, ap, ◌∙◌, arith, inl, inr, ⊎_elim, if◌then◌else◌, nat_eq, eq-eqb, eqb-true}
 use Rattle.std.proofs.lemmas.Int.{ints}
 use Rattle.std.proofs.lemmas.Bool.{ne_eqb}
 use Rattle.vms_base.specs.declared.groups.Diffs.{Diffs}
@@ -12,7 +14,7 @@ use Rattle.vms_base.specs.Places.{Shape, cell, IsCounter, group_of, first_of, it
 use Rattle.vms_history.specs.Events.{total}
 use Rattle.vms_history.specs.Passes.{owner_in, begun_in}
 use Rattle.vms_history.specs.Sums.{sum_below}
-use Rattle.vms_history.proofs.Choices.{if-same, if-cancels}
+use Rattle.vms_history.proofs.Choices.{if-either, if-cancels}
 use Rattle.vms_history.proofs.SumLaws.{sum_below-same, sum_below-sum, sum_below-zeros}
 use Rattle.vms_history.proofs.CallerSums.{total-by_caller}
 use Rattle.vms_core.specs.declared.states.State.{State}
@@ -23,7 +25,7 @@ use Rattle.vms_core.specs.Cells.{HasShape, with_value, value_at, system_at, diff
 use Rattle.vms_core.specs.Changes.{differential_after, carried_by}
 use Rattle.vms_core.specs.Conditions.{Meets, Puts, FindsGroup}
 use Rattle.vms_core.specs.Own.{moved_of_item}
-use Rattle.vms_core.specs.Steps.{turn, effect}
+use Rattle.vms_core.specs.Steps.{role, effect}
 use Rattle.vms_core.specs.Totals.{differentials, differentials_of_item, change_of_item, true_total_of_item}
 use Rattle.vms_core.specs.Pages.{History, IsLegal, state_after, pages, carried_of_item_by_all, KeepsSystemTotals}
 use Rattle.vms_core.proofs.ChangeLemmas.{differential_after-carried_by}
@@ -43,9 +45,9 @@ sum_below-part f start m n within zeros =
     let rest = n - (start + m) in
     let all : n ≡ (start + m) + rest = omega arith in
     let before = sum_below-zeros f start (λ k less. zeros k (inl less)) in
-    let behind = sum_below-zeros (λ i. f ((start + m) + i)) rest
+    let later = sum_below-zeros (λ i. f ((start + m) + i)) rest
     (λ i less. zeros ((start + m) + i) (inr (omega arith))) in
-    rw all (omega (arith, ints, sum_below-split f (start + m) rest, sum_below-split f start m, before, behind))
+    rw all (omega (arith, ints, sum_below-split f (start + m) rest, sum_below-split f start m, before, later))
 
 pub if-sum : (b : Bool) (x y : ℤ) → (if b then x +ℤ y else pos 0) ≡ (if b then x else pos 0) +ℤ (if b then y else pos 0)
 if-sum true x y = refl
@@ -74,7 +76,7 @@ module _ (is_in : ℕ → Bool) (n : ℕ) where
       let change : ℕ → ℤ = λ k. if is_in k then (if nat_eq l k then v else pos 0) else pos 0 in
       let part = sum_below-part change l 1 n (omega arith) (λ k other.
       let differ : nat_eq l k ≡ false = ne_eqb l k (⊎_elim (λ below e. omega arith) (λ above e. omega arith) other) in
-      rw differ (if-same (is_in k) (pos 0))) in
+      rw differ (if-either (is_in k) (pos 0))) in
       let here : change (l + 0) ≡ (if is_in l then v else pos 0) =
       (let at : l + 0 ≡ l = omega arith in let same : nat_eq l l ≡ true = eq-eqb l l refl in rw (at, same) refl) in
       omega (arith, ints, part, here)
@@ -88,7 +90,7 @@ module _ (is_in : ℕ → Bool) (n : ℕ) where
       let part = sum_below-part change (8 * j) 8 n (group-within n j j_in) (λ k other.
       let differ : nat_eq j (k / 8) ≡ false =
       ne_eqb j (k / 8) (⊎_elim (λ below e. omega arith) (λ above e. omega arith) other) in
-      rw differ (if-same (is_in k) (pos 0))) in
+      rw differ (if-either (is_in k) (pos 0))) in
       part ∙ sum_below-same (λ i. change (8 * j + i)) (λ i. if is_in (8 * j + i) then f (8 * j + i) else pos 0) 8
       (λ i less.
       let same : nat_eq j ((8 * j + i) / 8) ≡ true = eq-eqb j ((8 * j + i) / 8) (omega arith) in rw same refl)
@@ -107,7 +109,7 @@ module _ (facts : Facts) (h : History) (s : State) (p : ℕ) (shaped : HasShape 
       +ℤ moved_of_item facts.layout i step
       ≡ (system_at s i +ℤ differentials_of_item facts.layout s i) +ℤ change_of_item facts.layout i step
 
-  AddsUp-put : (o : CpuId) (l : CounterId) (w : Diffs) (t : ℕ) (delta : ℤ) (how : Mode) → owner_in turn h p ≡ Some o
+  AddsUp-put : (o : CpuId) (l : CounterId) (w : Diffs) (t : ℕ) (delta : ℤ) (how : Mode) → owner_in role h p ≡ Some o
       → Puts facts h s p l w t delta → AddsUp (effect facts (Some o) (Put l w t delta how) s) (Put l w t delta how)
   AddsUp-put o l w t delta how is puts =
       let shape = facts.layout in
@@ -172,7 +174,7 @@ module _ (facts : Facts) (h : History) (s : State) (p : ℕ) (shaped : HasShape 
       (counter_count facts.layout))
       (length-set s.place k v)
 
-  AddsUp-step : (who : Option CpuId) (step : Step) → owner_in turn h p ≡ who → Meets facts h s p step
+  AddsUp-step : (who : Option CpuId) (step : Step) → owner_in role h p ≡ who → Meets facts h s p step
       → AddsUp (effect facts who step s) step
   AddsUp-step None (Put l w t delta how) is meets = let owner = meets.owns.owner in absurd cc
   AddsUp-step (Some o) (Put l w t delta how) is meets = AddsUp-put o l w t delta how is meets
@@ -203,12 +205,12 @@ system_at-moved : (facts : Facts) (h : History) (i : ℕ) → IsLegal facts h
 system_at-moved facts [] i legal = refl
 system_at-moved facts (e ∷ h) i legal =
     let s = state_after facts h in
-    let who = owner_in turn h e.caller in
+    let who = owner_in role h e.caller in
     let step = AddsUp-step facts h s e.caller (HasShape-state_after facts h legal.0) i who e.step refl legal.2 in
     omega (arith, ints, step, system_at-moved facts h i legal.0)
 
 pub system_totals-kept : (facts : Facts) (h : History) → IsLegal facts h → KeepsSystemTotals facts h
 system_totals-kept facts h legal i i_in =
     let all : total (moved_of_item facts.layout i) h ≡ carried_of_item_by_all facts.layout h i =
-    total-by_caller pages facts (moved_of_item facts.layout i) h (suc (begun_in turn h)) legal (omega arith) in
+    total-by_caller pages facts (moved_of_item facts.layout i) h (suc (begun_in role h)) legal (omega arith) in
     rw all at (system_at-moved facts h i legal)

@@ -8,7 +8,7 @@ use Rattle.vms_core.proofs.Bounds.{diff_at-bounded}
 use Rattle.vms_core.proofs.DeadCpus.{dead-move_once}
 use Rattle.vms_core.proofs.Drift.{drift-bounded, system_drift-bounded, excess-bounded}
 use Rattle.vms_core.proofs.Emptied.{emptied-kept}
-use Rattle.vms_core.proofs.GroupLists.{name_eight, group_is_list}
+use Rattle.vms_core.proofs.GroupLists.{NameEight-holds, group_is_list}
 use Rattle.vms_core.proofs.HiddenPages.{absent-zero, hidden-within}
 use Rattle.vms_core.proofs.Items.{system_totals-kept}
 use Rattle.vms_core.proofs.LiveOwners.{owned-online, found-stands}
@@ -16,7 +16,8 @@ use Rattle.vms_core.proofs.Magnitudes.{magnitudes-bounded}
 use Rattle.vms_core.proofs.MarkCovers.{covers-kept}
 use Rattle.vms_core.proofs.Moves.{moves-bounded, volumes-kept}
 use Rattle.vms_core.proofs.OfflineGroups.{offline-stay_taken}
-use Rattle.vms_core.proofs.PeakBounds.{last-within, thresholds-within, peaks-in_range, used-bounded, loaded-bounded, loaded-within_peak, loaded-numbers, acknowledged-numbers}
+use Rattle.vms_core.proofs.PeakBounds.{last-within, thresholds-within, peaks-in_range, used-bounded}
+use Rattle.vms_core.proofs.PeakBounds.{loaded-bounded, loaded-within_peak, loaded-numbers, acknowledged-numbers}
 use Rattle.vms_core.proofs.SettingRanges.{thresholds-in_range, marks-in_range}
 use Rattle.vms_core.proofs.Settings.{threshold_at-state_after, sets-state_after, cpu_at-state_after}
 use Rattle.vms_core.proofs.Shapes.{HasShape-state_after}
@@ -53,7 +54,7 @@ laws-kept facts h legal = record {
   dead = dead-move_once facts h legal;
   owners = owned-online facts h legal;
   found = found-stands facts h legal;
-  lists = name_eight facts h legal;
+  lists = NameEight-holds facts h legal;
   groups = group_is_list facts h legal;
   volumes = volumes-kept facts h legal;
   spending = spent-by_owners facts h legal;

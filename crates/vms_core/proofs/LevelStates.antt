@@ -1,5 +1,6 @@
 -- For other crates too: a state of a layout in which each global value and each threshold is the same.
-use Rattle.std.proofs.Common.{◌≡◌, ℕ, ◌*◌, ◌^◌, ◌<◌, ◌≤◌, ℤ, pos, length, get_or, replicate, None, arith, unsigned_abs, ⊎_elim}
+use Rattle.std.proofs.Common.{◌≡◌, ℕ, ◌*◌, ◌^◌, ◌<◌, ◌≤◌, ℤ, pos}
+use Rattle.std.proofs.Common.{length, get_or, replicate, None, arith, unsigned_abs, ⊎_elim}
 use Rattle.std.proofs.lemmas.Bool.{cases_lt}
 use Rattle.std.proofs.lemmas.List.{get_or_past, get_or-replicate, length-replicate}
 use Rattle.vms_base.specs.declared.kinds.CpuState.TheVariants.{Online}

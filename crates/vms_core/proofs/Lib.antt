@@ -20,7 +20,7 @@ pub mod MarkNumbers
 pub mod HiddenPages
 pub mod SettingRanges
 pub mod LevelStates
-pub mod SettlingLegal
+pub mod LoweredLegal
 pub mod Emptied
 pub mod DeadCpus
 pub mod Drift
@@ -30,7 +30,7 @@ pub mod Outflow
 pub mod ItemSums
 pub mod Magnitudes
 pub mod LiveOwners
-pub mod Watching
+pub mod KnowledgeKept
 pub mod FreeCpus
 pub mod Exchanges
 pub mod OfflineGroups

@@ -1,5 +1,7 @@
 -- For other crates too: the CPU of a pass is online, and what its live owner found last stands or was taken.
-use Rattle.std.proofs.Common.{◌≡◌, ◌≢◌, ℕ, ◌+◌, ◌*◌, ◌/◌, ◌%◌, ◌<◌, ◌&&◌, inl, inr, ⊎_elim, Bool, true, false, List, [], ◌∷◌, Option, Some, None, ℤ, pos, get_or, refl, sym, ap, ◌∙◌, arith, if◌then◌else◌, nat_eq, eqb-true, eq-eqb, length-set}
+use Rattle.std.proofs.Common.{◌≡◌, ◌≢◌, ℕ, ◌+◌, ◌*◌, ◌/◌, ◌%◌, ◌<◌, ◌&&◌, inl, inr, ⊎_elim}
+use Rattle.std.proofs.Common.{Bool, true, false, List, [], ◌∷◌, Option, Some, None, ℤ, pos, get_or}
+use Rattle.std.proofs.Common.{refl, sym, ap, ◌∙◌, arith, if◌then◌else◌, nat_eq, eqb-true, eq-eqb, length-set}
 use Rattle.std.proofs.Math.ListN.{set}
 use Rattle.std.proofs.lemmas.Bool.{and_parts, eqb-false, ne_eqb}
 use Rattle.std.proofs.lemmas.List.{get_or-replicate, length-replicate}
@@ -29,7 +31,7 @@ use Rattle.vms_core.specs.Own.{found, found_after}
 use Rattle.vms_core.specs.Pages.{pages, History, IsLegal, state_after}
 use Rattle.vms_core.specs.Peaks.{cpu_after}
 use Rattle.vms_core.specs.PeakLaws.{OwnsNow}
-use Rattle.vms_core.specs.Steps.{turn}
+use Rattle.vms_core.specs.Steps.{role}
 use Rattle.vms_core.proofs.Owners.{OwnsNow-before}
 use Rattle.vms_core.proofs.Settings.{cpu_at-newest}
 use Rattle.vms_core.proofs.DeadCpus.{dead≢online}
@@ -119,7 +121,7 @@ module _ (s s' : State) (c : CpuId) (j : ℕ) where
 
 -- a step of the owner itself
 module _ (facts : Facts) (h : History) (s s' : State) (p : ℕ) (shaped : HasShape facts.layout s) (c : CpuId) (j : ℕ)
-    (is : owner_in turn h p ≡ Some c) (j_in : IsGroup facts.layout j) where
+    (is : owner_in role h p ≡ Some c) (j_in : IsGroup facts.layout j) where
   -- the list with the new differential in it
   put-told : (k : CounterId) (w : Diffs) (t : ℕ) (delta : ℤ) (new : ℤ) → Puts facts h s p k w t delta
       → group_of k.number ≡ j
@@ -219,14 +221,14 @@ module _ (facts : Facts) (h : History) (s s' : State) (p : ℕ) (shaped : HasSha
 module _ (facts : Facts) (e : Event Step) (h : History) (legal : IsLegal facts (e ∷ h)) (p : ℕ) (c : CpuId)
     (was : OwnsNow h p c) where
   -- while a pass lives, no other caller acts for the CPU that it owns
-  others-own : e.caller ≢ p → owner_in turn h e.caller ≡ Some c → ⊥
+  others-own : e.caller ≢ p → owner_in role h e.caller ≡ Some c → ⊥
   others-own others is = others (owner_is_caller pages facts e h p c legal was.lives was.owner is)
 
   module _ (j : ℕ) (j_in : IsGroup facts.layout j) where
-    event-changes : Changes (state_after facts h) (state_after facts (e ∷ h)) c j (owner_in turn h e.caller) e.step
+    event-changes : Changes (state_after facts h) (state_after facts (e ∷ h)) c j (owner_in role h e.caller) e.step
     event-changes n less =
         diff_at-effect facts h (state_after facts h) e.caller (HasShape-state_after facts h legal.0)
-        (owner_in turn h e.caller) e.step
+        (owner_in role h e.caller) e.step
         c.number (8 * j + n) refl legal.2 (omega (arith, group-within (counter_count facts.layout) j j_in))
 
     -- what was found before the event stood before it
@@ -238,7 +240,7 @@ module _ (facts : Facts) (e : Event Step) (h : History) (legal : IsLegal facts (
         → StandsOrTaken (state_after facts (e ∷ h)) c.number j values
     found-mine values told before mine =
         let s = state_after facts h in
-        let is : owner_in turn h e.caller ≡ Some c = ap (owner_in turn h) mine ∙ was.owner in
+        let is : owner_in role h e.caller ≡ Some c = ap (owner_in role h) mine ∙ was.owner in
         own-keeps facts h s (state_after facts (e ∷ h)) e.caller (HasShape-state_after facts h legal.0) c j is j_in
         (found c j (own h p)) values e.step legal.2
         (λ n less. event-changes n less
@@ -249,7 +251,7 @@ module _ (facts : Facts) (e : Event Step) (h : History) (legal : IsLegal facts (
         → e.caller ≢ p
         → StandsOrTaken (state_after facts (e ∷ h)) c.number j values
     found-others values told before others =
-        others-leave (state_after facts h) (state_after facts (e ∷ h)) c j values (owner_in turn h e.caller) e.step
+        others-leave (state_after facts h) (state_after facts (e ∷ h)) c j values (owner_in role h e.caller) e.step
         (others-own others) event-changes (before values (sym (ap (found c j) (own-others e h p others)) ∙ told))
 
 pub found-stands : (facts : Facts) (h : History) → IsLegal facts h → KnowsFound facts h

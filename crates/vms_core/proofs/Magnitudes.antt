@@ -1,5 +1,6 @@
 -- Every number of a legal history but a mark stays below 2^62.
-use Rattle.std.proofs.Common.{◌≡◌, ℕ, ◌+◌, ◌*◌, ◌^◌, ◌<◌, ◌≤◌, Bool, true, false, [], ◌∷◌, ℤ, pos, ◌+ℤ◌, ◌≤ℤ◌, unsigned_abs, arith, if◌then◌else◌, nat_eq}
+use Rattle.std.proofs.Common.{◌≡◌, ℕ, ◌+◌, ◌*◌, ◌^◌, ◌<◌, ◌≤◌, Bool, true, false}
+use Rattle.std.proofs.Common.{[], ◌∷◌, ℤ, pos, ◌+ℤ◌, ◌≤ℤ◌, unsigned_abs, arith, if◌then◌else◌, nat_eq}
 use Rattle.std.proofs.lemmas.Int.{ints}
 use Rattle.vms_base.specs.Places.{IsCpu, IsCounter}
 use Rattle.vms_history.specs.Passes.{owner_in}
@@ -13,12 +14,13 @@ use Rattle.vms_core.specs.Bounded.{moved_out, StaysBelow, size_limit}
 use Rattle.vms_core.specs.Cells.{value_at, system_at, diff_at}
 use Rattle.vms_core.specs.Own.{moved, moved_of_item}
 use Rattle.vms_core.specs.Pages.{pages, History, IsLegal, state_after}
-use Rattle.vms_core.specs.Steps.{turn}
+use Rattle.vms_core.specs.Steps.{role}
 use Rattle.vms_core.proofs.Carrying.{sizes, carried-within, added-within}
 use Rattle.vms_core.proofs.Effects.{value_after, value_at-effect, system_after, system_at-effect}
 use Rattle.vms_core.proofs.ItemSums.{item-most}
 use Rattle.vms_core.proofs.Moves.{volumes-kept, moves-bounded}
-use Rattle.vms_core.proofs.Outflow.{size_out, size_added, size_out_of_item, size_added_of_item, kept_by_event, kept_by_event_of_item, sizes_out-by_cpu, sizes_out_of_item-by_counter}
+use Rattle.vms_core.proofs.Outflow.{size_out, size_added, size_out_of_item, size_added_of_item, kept_by_event}
+use Rattle.vms_core.proofs.Outflow.{kept_by_event_of_item, sizes_out-by_cpu, sizes_out_of_item-by_counter}
 use Rattle.vms_core.proofs.Shapes.{HasShape-state_after}
 
 -- what may leave one differential, and the differentials of a counter
@@ -49,7 +51,7 @@ value_at-grows : (facts : Facts) (h : History) (k : ℕ) → IsLegal facts h
 value_at-grows facts [] k legal = omega (arith, ints)
 value_at-grows facts (e ∷ h) k legal =
     let s = state_after facts h in
-    let who = owner_in turn h e.caller in
+    let who = owner_in role h e.caller in
     let after : value_at (state_after facts (e ∷ h)) k ≡ value_after k e.step (value_at s k) =
     value_at-effect facts h s e.caller (HasShape-state_after facts h legal.0) who e.step k legal.2 in
     rw after (omega (arith, ints, value_after-grows k e.step (value_at s k), value_at-grows facts h k legal.0))
@@ -60,7 +62,7 @@ system_at-grows : (facts : Facts) (h : History) (i : ℕ) → IsLegal facts h
 system_at-grows facts [] i legal = omega (arith, ints)
 system_at-grows facts (e ∷ h) i legal =
     let s = state_after facts h in
-    let who = owner_in turn h e.caller in
+    let who = owner_in role h e.caller in
     let after : system_at (state_after facts (e ∷ h)) i ≡ system_after i e.step (system_at s i) =
     system_at-effect facts h s e.caller (HasShape-state_after facts h legal.0) who e.step i legal.2 in
     rw after (omega (arith, ints, system_after-grows i e.step (system_at s i), system_at-grows facts h i legal.0))

@@ -1,5 +1,6 @@
 -- For other crates too: every mark covers what the CPUs may hide of its zone.
-use Rattle.std.proofs.Common.{◌≡◌, ◌≢◌, ℕ, ◌≤◌, max, ◌&&◌, Bool, true, false, [], ◌∷◌, refl, sym, subst, arith, ⊎_elim, if◌then◌else◌, nat_eq, eqb-true, ne_eqb}
+use Rattle.std.proofs.Common.{◌≡◌, ◌≢◌, ℕ, ◌≤◌, max, ◌&&◌, Bool, true, false, []}
+use Rattle.std.proofs.Common.{◌∷◌, refl, sym, subst, arith, ⊎_elim, if◌then◌else◌, nat_eq, eqb-true, ne_eqb}
 use Rattle.std.proofs.lemmas.Bool.{and_right, cases_eq}
 use Rattle.vms_base.specs.declared.kinds.CpuState.{CpuState}
 use Rattle.vms_base.specs.declared.kinds.CpuState.TheVariants.{Online, Dead, Absent}
@@ -14,7 +15,8 @@ use Rattle.vms_core.specs.Cells.{mark_at}
 use Rattle.vms_core.specs.Conditions.{Meets}
 use Rattle.vms_core.specs.Pages.{History, IsLegal, state_after}
 use Rattle.vms_core.specs.PeakLaws.{KeepsCovers}
-use Rattle.vms_core.specs.Peaks.{is_number, peak_after, peak, cpu_after, cpu_in, if_present, peak_sum, sets, threshold_in}
+use Rattle.vms_core.specs.Peaks.{is_number, peak_after, peak, cpu_after, cpu_in}
+use Rattle.vms_core.specs.Peaks.{if_present, peak_sum, sets, threshold_in}
 use Rattle.vms_history.proofs.CountLemmas.{count_below-least}
 use Rattle.vms_core.proofs.PeakBounds.{threshold_in-within}
 use Rattle.vms_core.proofs.Settings.{mark_after, mark_at-newest}

@@ -1,5 +1,6 @@
 -- For other crates too: the number of a mark's sets never falls, and while it stands so does the mark.
-use Rattle.std.proofs.Common.{◌≡◌, ℕ, suc, ◌≤◌, Bool, true, false, [], ◌∷◌, ◌++◌, refl, sym, ◌∙◌, subst, arith, if◌then◌else◌, nat_eq}
+use Rattle.std.proofs.Common.{◌≡◌, ℕ, suc, ◌≤◌, Bool, true, false, [], ◌∷◌}
+use Rattle.std.proofs.Common.{◌++◌, refl, sym, ◌∙◌, subst, arith, if◌then◌else◌, nat_eq}
 use Rattle.vms_base.specs.declared.ids.PlaceId.{PlaceId}
 use Rattle.vms_history.specs.Events.{Extends}
 use Rattle.vms_history.proofs.Prefixes.{prefix_is_legal}

@@ -1,5 +1,6 @@
 -- What a CPU may spend, and what may leave one differential.
-use Rattle.std.proofs.Common.{◌≡◌, ℕ, ◌+◌, ◌*◌, ◌<◌, ◌≤◌, ◌&&◌, Bool, true, false, [], ◌∷◌, Option, Some, None, ℤ, pos, neg_ℤ, ◌+ℤ◌, unsigned_abs, refl, ap, ◌∙◌, arith, if◌then◌else◌, nat_eq, nat_le, eqb-true}
+use Rattle.std.proofs.Common.{◌≡◌, ℕ, ◌+◌, ◌*◌, ◌<◌, ◌≤◌, ◌&&◌, Bool, true, false, [], ◌∷◌, Option, Some, None, ℤ, pos}
+use Rattle.std.proofs.Common.{neg_ℤ, ◌+ℤ◌, unsigned_abs, refl, ap, ◌∙◌, arith, if◌then◌else◌, nat_eq, nat_le, eqb-true}
 use Rattle.std.proofs.lemmas.Int.{ints}
 use Rattle.std.proofs.lemmas.Bool.Decides.{nat_tests}
 use Rattle.std.proofs.lemmas.Bool.{and_parts}
@@ -18,7 +19,7 @@ use Rattle.vms_core.specs.Changes.{overstep_of, differential_after, carried_by}
 use Rattle.vms_core.specs.Conditions.{Meets}
 use Rattle.vms_base.specs.Volumes.{most_volume}
 use Rattle.vms_core.specs.Pages.{History, IsLegal, state_after}
-use Rattle.vms_core.specs.Steps.{turn}
+use Rattle.vms_core.specs.Steps.{role}
 use Rattle.vms_core.specs.Totals.{spent, spent_by}
 use Rattle.vms_core.proofs.DeadCpus.{take-told}
 use Rattle.vms_core.proofs.Effects.{owned, diff_after, diff_at-effect}
@@ -27,7 +28,7 @@ use Rattle.vms_core.proofs.Sums.{entry-told}
 
 -- what a caller spends it may spend
 spent_by-within : (facts : Facts) (h : History) (s : State) (p : ℕ) (shaped : HasShape facts.layout s) (c k : ℕ)
-    (who : Option CpuId) (step : Step) → owner_in turn h p ≡ who → Meets facts h s p step → spent h c k ≤ most_volume
+    (who : Option CpuId) (step : Step) → owner_in role h p ≡ who → Meets facts h s p step → spent h c k ≤ most_volume
     → spent_by who c k step + spent h c k ≤ most_volume
 spent_by-within facts h s p shaped c k (Some d) (Put l w t delta how) is meets before =
     by (nat_eq d.number c && nat_eq l.number k) refl
@@ -48,7 +49,7 @@ pub volumes-kept : (facts : Facts) (h : History) → IsLegal facts h → KeepsVo
 volumes-kept facts [] legal c k = omega arith
 volumes-kept facts (e ∷ h) legal c k =
     spent_by-within facts h (state_after facts h) e.caller (HasShape-state_after facts h legal.0) c k
-    (owner_in turn h e.caller) e.step refl legal.2 (volumes-kept facts h legal.0 c k)
+    (owner_in role h e.caller) e.step refl legal.2 (volumes-kept facts h legal.0 c k)
 
 -- an overstep is at most half of what passes the threshold
 overstep_of-half : (how : Mode) (t : ℕ) (z : ℤ) → t < unsigned_abs z
@@ -94,7 +95,7 @@ take-within true told before kept = let same = kept refl in rw same (omega arith
 take-within false told before kept = omega arith
 
 module _ (facts : Facts) (h : History) (s : State) (p : ℕ) (shaped : HasShape facts.layout s) (c k : ℕ) where
-  pub moved_out_by-within : (who : Option CpuId) (step : Step) → owner_in turn h p ≡ who → Meets facts h s p step
+  pub moved_out_by-within : (who : Option CpuId) (step : Step) → owner_in role h p ≡ who → Meets facts h s p step
       → MovesWithin (moved_out_by who c k step) (unsigned_abs (diff_after who c k step (diff_at s c k)))
       (unsigned_abs (diff_at s c k)) (spent_by who c k step)
   moved_out_by-within (Some d) (Put l w t delta how) is meets =
@@ -121,7 +122,7 @@ pub moves-bounded : (facts : Facts) (h : History) → IsLegal facts h → Bounds
 moves-bounded facts [] legal c k c_in k_in = omega arith
 moves-bounded facts (e ∷ h) legal c k c_in k_in =
     let s = state_after facts h in
-    let who = owner_in turn h e.caller in
+    let who = owner_in role h e.caller in
     let shaped = HasShape-state_after facts h legal.0 in
     let after : diff_at (state_after facts (e ∷ h)) c k ≡ diff_after who c k e.step (diff_at s c k) =
     diff_at-effect facts h s e.caller shaped who e.step c k refl legal.2 k_in in

@@ -6,16 +6,17 @@ use Rattle.vms_core.specs.declared.steps.Facts.{Facts}
 use Rattle.vms_core.specs.declared.steps.Step.{Step}
 use Rattle.vms_core.specs.NumberChanges.{ChangesNumbers}
 use Rattle.vms_core.specs.Pages.{History, IsLegal, state_after}
-use Rattle.vms_core.specs.Steps.{turn}
+use Rattle.vms_core.specs.Steps.{role}
 use Rattle.vms_core.proofs.Effects.{value_at-effect, system_at-effect, diff_at-effect}
-use Rattle.vms_core.proofs.Settings.{threshold_at-newest, sets-newest, cpu_at-newest, mark_at-newest, mark_sets_at-newest, acknowledged_at-newest}
+use Rattle.vms_core.proofs.Settings.{threshold_at-newest, sets-newest, cpu_at-newest}
+use Rattle.vms_core.proofs.Settings.{mark_at-newest, mark_sets_at-newest, acknowledged_at-newest}
 use Rattle.vms_core.proofs.Shapes.{HasShape-state_after}
 
 pub numbers-change : (facts : Facts) (e : Event Step) (h : History) → IsLegal facts (e ∷ h) → ChangesNumbers facts e h
 numbers-change facts e h legal =
     let s = state_after facts h in
     let shaped = HasShape-state_after facts h legal.0 in
-    let who = owner_in turn h e.caller in
+    let who = owner_in role h e.caller in
     record {
       values = λ k. value_at-effect facts h s e.caller shaped who e.step k legal.2;
       systems = λ i. system_at-effect facts h s e.caller shaped who e.step i legal.2;

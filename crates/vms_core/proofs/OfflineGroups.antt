@@ -1,5 +1,6 @@
 -- A group of a CPU that isn't online stays emptied.
-use Rattle.std.proofs.Common.{◌≡◌, ◌≢◌, ℕ, ◌<◌, ◌&&◌, Bool, true, false, [], ◌∷◌, Option, Some, None, pos, get_or, refl, sym, ap, ◌∙◌, if◌then◌else◌, nat_eq, eqb-true}
+use Rattle.std.proofs.Common.{◌≡◌, ◌≢◌, ℕ, ◌<◌, ◌&&◌, Bool, true, false, [], ◌∷◌, Option}
+use Rattle.std.proofs.Common.{Some, None, pos, get_or, refl, sym, ap, ◌∙◌, if◌then◌else◌, nat_eq, eqb-true}
 use Rattle.std.proofs.lemmas.List.{get_or-replicate}
 use Rattle.std.proofs.lemmas.Bool.{and_parts}
 use Rattle.vms_base.specs.declared.groups.Diffs.{Diffs}
@@ -9,7 +10,7 @@ use Rattle.vms_base.specs.declared.kinds.CpuState.TheVariants.{Online}
 use Rattle.vms_base.specs.Places.{group_of}
 use Rattle.vms_history.specs.Events.{own}
 use Rattle.vms_history.specs.Passes.{owner_in}
-use Rattle.vms_history.proofs.Choices.{if-same}
+use Rattle.vms_history.proofs.Choices.{if-either}
 use Rattle.vms_core.specs.declared.states.State.{State}
 use Rattle.vms_core.specs.declared.steps.Facts.{Facts}
 use Rattle.vms_core.specs.declared.steps.Step.{Step}
@@ -17,7 +18,7 @@ use Rattle.vms_core.specs.declared.steps.Step.TheVariants.{Put, Miss, Take}
 use Rattle.vms_core.specs.Cells.{HasShape, cpu_at}
 use Rattle.vms_core.specs.Conditions.{Meets}
 use Rattle.vms_core.specs.Pages.{History, IsLegal, state_after}
-use Rattle.vms_core.specs.Steps.{turn}
+use Rattle.vms_core.specs.Steps.{role}
 use Rattle.vms_core.specs.Taken.{emptied_after, is_emptied, has_taken_after, has_taken, KeepsOfflineTaken}
 use Rattle.vms_core.proofs.DeadCpus.{online-in_base}
 use Rattle.vms_core.proofs.Effects.{owned}
@@ -25,7 +26,7 @@ use Rattle.vms_core.proofs.Emptied.{emptied-kept}
 use Rattle.vms_core.proofs.Shapes.{HasShape-state_after}
 
 emptied_after-offline : (facts : Facts) (h : History) (s : State) (p : ℕ) (shaped : HasShape facts.layout s) (c j : ℕ)
-    (who : Option CpuId) (step : Step) → owner_in turn h p ≡ who → Meets facts h s p step → (cpu_at s c ≡ Online → ⊥)
+    (who : Option CpuId) (step : Step) → owner_in role h p ≡ who → Meets facts h s p step → (cpu_at s c ≡ Online → ⊥)
     → emptied_after who c j step true ≡ true
 emptied_after-offline facts h s p shaped c j (Some d) (Put k w t delta how) is meets offline =
     by (nat_eq d.number c && nat_eq (group_of k.number) j) refl
@@ -39,11 +40,11 @@ emptied_after-offline facts h s p shaped c j (Some d) (Put k w t delta how) is m
         absurd (offline (rw cpu at meets.online))
     by false other = refl
 emptied_after-offline facts h s p shaped c j (Some d) (Miss i w) is meets offline =
-    if-same (nat_eq d.number c && nat_eq i.number j) true
+    if-either (nat_eq d.number c && nat_eq i.number j) true
 emptied_after-offline facts h s p shaped c j (Some o) (Take d i w) is meets offline =
-    if-same (nat_eq d.number c && nat_eq i.number j) true
+    if-either (nat_eq d.number c && nat_eq i.number j) true
 emptied_after-offline facts h s p shaped c j None (Take d i w) is meets offline =
-    if-same (nat_eq d.number c && nat_eq i.number j) true
+    if-either (nat_eq d.number c && nat_eq i.number j) true
 emptied_after-offline facts h s p shaped c j (Some o) _ is meets offline = refl
 emptied_after-offline facts h s p shaped c j None _ is meets offline = refl
 
@@ -62,7 +63,7 @@ has_taken-own (e ∷ h) p c j took = by (nat_eq e.caller p) (has_taken-own h p c
     more _ mine all rest now = rest now
 
     keeps : (step : Step) (all : Bool) → all ≡ true → has_taken_after c j step all ≡ true
-    keeps (Take d i w) all is = rw is (if-same (nat_eq d.number c && nat_eq i.number j) true)
+    keeps (Take d i w) all is = rw is (if-either (nat_eq d.number c && nat_eq i.number j) true)
     keeps _ all is = is
 
     by : (b : Bool) → (has_taken c j (own h p) ≡ true → has_taken c j h ≡ true)
@@ -76,10 +77,10 @@ is_emptied-taken : (facts : Facts) (h : History) (c j : ℕ) → IsLegal facts h
 is_emptied-taken facts [] c j legal offline took = took
 is_emptied-taken facts (e ∷ h) c j legal offline took =
     let s = state_after facts h in
-    step (owner_in turn h e.caller) e.step (has_taken c j h) (is_emptied h c j)
+    step (owner_in role h e.caller) e.step (has_taken c j h) (is_emptied h c j)
     (is_emptied-taken facts h c j legal.0 offline)
     (emptied_after-offline facts h s e.caller (HasShape-state_after facts h legal.0) c j
-    (owner_in turn h e.caller) e.step
+    (owner_in role h e.caller) e.step
     refl legal.2 (λ online. offline (online-in_base facts h c legal.0 online))) took
   where
     if-true : (b before after : Bool) → (before ≡ true → after ≡ true) → (if b then true else before) ≡ true

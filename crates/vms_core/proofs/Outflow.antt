@@ -1,5 +1,7 @@
 -- What leaves the differentials, by counter, by CPU and by item, and what of it callers may carry.
-use Rattle.std.proofs.Common.{◌≡◌, ℕ, ◌+◌, ◌*◌, ◌/◌, ◌%◌, ◌<◌, ◌≤◌, ◌&&◌, Bool, true, false, ◌∷◌, Option, Some, None, get_or, ℤ, pos, neg_ℤ, ◌+ℤ◌, unsigned_abs, refl, sym, ap, ◌∙◌, arith, if◌then◌else◌, nat_eq, eqb-true}
+use Rattle.std.proofs.Common.{◌≡◌, ℕ, ◌+◌, ◌*◌, ◌/◌, ◌%◌, ◌<◌, ◌≤◌, ◌&&◌, Bool}
+use Rattle.std.proofs.Common.{true, false, ◌∷◌, Option, Some, None, get_or, ℤ, pos, neg_ℤ}
+use Rattle.std.proofs.Common.{◌+ℤ◌, unsigned_abs, refl, sym, ap, ◌∙◌, arith, if◌then◌else◌, nat_eq, eqb-true}
 use Rattle.std.proofs.lemmas.Int.{ints}
 use Rattle.vms_base.specs.declared.groups.Diffs.{Diffs}
 use Rattle.vms_base.specs.declared.ids.CounterId.{CounterId}
@@ -11,7 +13,7 @@ use Rattle.vms_history.specs.Events.{own, total}
 use Rattle.vms_history.specs.Passes.{owner_in}
 use Rattle.vms_history.specs.Sums.{sum_below, count_below}
 use Rattle.vms_history.proofs.CallerSums.{total-by_parts}
-use Rattle.vms_history.proofs.Choices.{if-map, if-same}
+use Rattle.vms_history.proofs.Choices.{if-map, if-either}
 use Rattle.vms_history.proofs.SumLaws.{sum_below-same, sum_below-zeros, sum_below-only}
 use Rattle.vms_core.specs.declared.states.State.{State}
 use Rattle.vms_core.specs.declared.steps.Facts.{Facts}
@@ -23,7 +25,7 @@ use Rattle.vms_core.specs.Changes.{carried_by}
 use Rattle.vms_core.specs.Conditions.{Meets}
 use Rattle.vms_core.specs.Own.{moved, moved_of_item, carried, carried_of_item}
 use Rattle.vms_core.specs.Pages.{pages, History, IsLegal, state_after}
-use Rattle.vms_core.specs.Steps.{turn}
+use Rattle.vms_core.specs.Steps.{role}
 use Rattle.vms_core.proofs.Bounds.{within-if}
 use Rattle.vms_core.proofs.Carrying.{sizes}
 use Rattle.vms_history.proofs.CountLemmas.{sum_below-sizes, pos-count_below}
@@ -114,7 +116,7 @@ one_cpu : (d n : ℕ) (b : Bool) (v : ℕ) → d < n
 one_cpu d n b v d_in = sym (sum_below-only pos 0 v d n b refl d_in)
 
 module _ (facts : Facts) (h : History) (s : State) (p : ℕ) (shaped : HasShape facts.layout s) (k : ℕ) where
-  size_out-by_cpu : (who : Option CpuId) (step : Step) → owner_in turn h p ≡ who → Meets facts h s p step
+  size_out-by_cpu : (who : Option CpuId) (step : Step) → owner_in role h p ≡ who → Meets facts h s p step
       → pos (size_out k step) ≡ sum_below (λ c. pos (moved_out_by who c k step)) facts.layout.cpus
   size_out-by_cpu None (Put l w t delta how) is meets = let owner = meets.owns.owner in absurd cc
   size_out-by_cpu (Some d) (Put l w t delta how) is meets =
@@ -132,11 +134,11 @@ pub sizes_out-by_cpu : (facts : Facts) (h : History) (k : ℕ) → IsLegal facts
     → sizes (size_out k) h ≡ sum_below (λ c. pos (moved_out h c k)) facts.layout.cpus
 sizes_out-by_cpu facts h k =
     total-by_parts pages facts (λ step. pos (size_out k step)) (λ g c. pos (moved_out g c k))
-    (λ e g c. pos (moved_out_by (owner_in turn g e.caller) c k e.step)) facts.layout.cpus
+    (λ e g c. pos (moved_out_by (owner_in role g e.caller) c k e.step)) facts.layout.cpus
     (λ c c_in. refl) (λ e g c c_in. omega (arith, ints))
     (λ e g legal.
     sym (size_out-by_cpu facts g (state_after facts g) e.caller (HasShape-state_after facts g legal.0) k
-    (owner_in turn g e.caller) e.step refl legal.2))
+    (owner_in role g e.caller) e.step refl legal.2))
     h
 
 -- by counter: what leaves the differentials of an item leaves those of its counters
@@ -184,7 +186,7 @@ module _ (facts : Facts) (h : History) (s : State) (p : ℕ) (i : ℕ) where
   size_out_of_item-by_counter (Take c j w) meets = size_out_of_item-take c j w meets.group
   size_out_of_item-by_counter _ meets =
       sym (sum_below-zeros (λ k. if is_in k then pos 0 else pos 0) (counter_count facts.layout)
-      (λ k k_in. if-same (is_in k) (pos 0)))
+      (λ k k_in. if-either (is_in k) (pos 0)))
 
 pub sizes_out_of_item-by_counter : (facts : Facts) (h : History) (i : ℕ) → IsLegal facts h
     → sizes (size_out_of_item facts.layout i) h
@@ -194,7 +196,7 @@ sizes_out_of_item-by_counter facts h i =
     total-by_parts pages facts (λ step. pos (size_out_of_item facts.layout i step))
     (λ g k. if nat_eq (item_of facts.layout k) i then sizes (size_out k) g else pos 0)
     (λ e g k. if nat_eq (item_of facts.layout k) i then pos (size_out k e.step) else pos 0) (counter_count facts.layout)
-    (λ k k_in. if-same (nat_eq (item_of facts.layout k) i) (pos 0))
+    (λ k k_in. if-either (nat_eq (item_of facts.layout k) i) (pos 0))
     (λ e g k k_in. if-sum (nat_eq (item_of facts.layout k) i) (pos (size_out k e.step)) (sizes (size_out k) g))
     (λ e g legal. sym (size_out_of_item-by_counter facts g (state_after facts g) e.caller i e.step legal.2))
     h

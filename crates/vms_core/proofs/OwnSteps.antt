@@ -1,4 +1,4 @@
--- What a pass may do by its own events it may do still after steps of others.
+-- What a pass may do by its own events it may still do after steps of others.
 use Rattle.std.proofs.Common.{ℕ, ℤ, ap, ◌∙◌}
 use Rattle.vms_base.specs.declared.ids.CounterId.{CounterId}
 use Rattle.vms_base.specs.declared.ids.CpuId.{CpuId}
@@ -9,7 +9,7 @@ use Rattle.vms_core.specs.Conditions.{Owns, AddsToPlace, AddsToSystem, Acknowled
 use Rattle.vms_core.specs.Knowledge.{GoesOnWithout}
 use Rattle.vms_core.specs.Own.{loaded, took, has_put, carried, carried_of_item}
 use Rattle.vms_core.specs.Pages.{History}
-use Rattle.vms_core.proofs.Watching.{owner_in-goes_on}
+use Rattle.vms_core.proofs.KnowledgeKept.{owner_in-goes_on}
 
 module _ (facts : Facts) (later earlier : History) (p : ℕ) (goes : GoesOnWithout facts later earlier p) where
   pub Owns-goes_on : (c : CpuId) → Owns facts earlier p c → Owns facts later p c

@@ -1,42 +1,43 @@
 -- An owner after an event was one before or is new.
-use Rattle.std.proofs.Common.{◌≡◌, ℕ, suc, Bool, true, false, [], ◌∷◌, Some, ◌⊎◌, inl, inr, refl, sym, ◌∙◌, arith, if◌then◌else◌, nat_eq, eqb-true}
+use Rattle.std.proofs.Common.{◌≡◌, ℕ, suc, Bool, true, false, [], ◌∷◌, Some, ◌⊎◌}
+use Rattle.std.proofs.Common.{inl, inr, refl, sym, ◌∙◌, arith, if◌then◌else◌, nat_eq, eqb-true}
 use Rattle.vms_base.specs.declared.ids.CpuId.{CpuId}
 use Rattle.vms_history.specs.declared.events.Event.{Event}
 use Rattle.vms_history.specs.Events.{own}
 use Rattle.vms_history.specs.Legal.{Acts}
-use Rattle.vms_history.specs.Passes.{Turn, begun_in, lives_in, lives_after, owner_in, owner_after}
-use Rattle.vms_history.specs.Passes.Turn.{Works, Begins, Ends}
+use Rattle.vms_history.specs.Passes.{Role, begun_in, lives_in, lives_after, owner_in, owner_after}
+use Rattle.vms_history.specs.Passes.Role.{Works, Begins, Ends}
 use Rattle.vms_history.proofs.Own.{own-others}
-use Rattle.vms_history.proofs.PassLaws.{lives_in-turn, owner_in-turn, own-not_given}
+use Rattle.vms_history.proofs.PassLaws.{lives_in-role, owner_in-role, own-not_given}
 use Rattle.vms_core.specs.declared.steps.Facts.{Facts}
 use Rattle.vms_core.specs.declared.steps.Step.{Step}
 use Rattle.vms_core.specs.Pages.{pages, History, IsLegal}
 use Rattle.vms_core.specs.PeakLaws.{OwnsNow}
-use Rattle.vms_core.specs.Steps.{turn}
+use Rattle.vms_core.specs.Steps.{role}
 
 -- an owner after an event was one before, or has made no event
 pub OwnsNow-before : (facts : Facts) (e : Event Step) (h : History) → IsLegal facts (e ∷ h) → (p : ℕ) (c : CpuId)
     → OwnsNow (e ∷ h) p c → OwnsNow h p c ⊎ (own (e ∷ h) p ≡ [])
 OwnsNow-before facts e h legal p c owns =
-    by (turn e.step) legal.1
-    (sym (lives_in-turn pages facts e h p legal.1) ∙ owns.lives)
-    (sym (owner_in-turn pages facts e h p legal.1) ∙ owns.owner)
+    by (role e.step) legal.1
+    (sym (lives_in-role pages facts e h p legal.1) ∙ owns.lives)
+    (sym (owner_in-role pages facts e h p legal.1) ∙ owns.owner)
   where
-    by : (t : Turn) → Acts pages facts h e.caller t → lives_after t p (lives_in turn h p) ≡ true
-        → owner_after t p (owner_in turn h p) ≡ Some c → OwnsNow h p c ⊎ (own (e ∷ h) p ≡ [])
+    by : (t : Role) → Acts pages facts h e.caller t → lives_after t p (lives_in role h p) ≡ true
+        → owner_after t p (owner_in role h p) ≡ Some c → OwnsNow h p c ⊎ (own (e ∷ h) p ≡ [])
     by Works acts lives owner = inl (record { lives = lives; owner = owner })
     by (Begins r who) acts lives owner = at (nat_eq r p) refl lives owner
       where
-        at : (b : Bool) → nat_eq r p ≡ b → (if b then true else lives_in turn h p) ≡ true
-            → (if b then who else owner_in turn h p) ≡ Some c → OwnsNow h p c ⊎ (own (e ∷ h) p ≡ [])
+        at : (b : Bool) → nat_eq r p ≡ b → (if b then true else lives_in role h p) ≡ true
+            → (if b then who else owner_in role h p) ≡ Some c → OwnsNow h p c ⊎ (own (e ∷ h) p ≡ [])
         at false other lives owner = inl (record { lives = lives; owner = owner })
         at true new lives owner =
             let is : r ≡ p = eqb-true r p new in
             let main : e.caller ≡ 0 = acts.0 in
-            let next : r ≡ suc (begun_in turn h) = acts.1 in
+            let next : r ≡ suc (begun_in role h) = acts.1 in
             inr (own-others e h p (omega arith) ∙ own-not_given pages facts h p legal.0 (omega arith))
     by (Ends r) acts lives owner = at (nat_eq r p) lives
       where
-        at : (b : Bool) → (if b then false else lives_in turn h p) ≡ true → OwnsNow h p c ⊎ (own (e ∷ h) p ≡ [])
+        at : (b : Bool) → (if b then false else lives_in role h p) ≡ true → OwnsNow h p c ⊎ (own (e ∷ h) p ≡ [])
         at true lives = absurd cc
         at false lives = inl (record { lives = lives; owner = owner })

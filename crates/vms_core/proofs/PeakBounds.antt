@@ -1,5 +1,6 @@
 -- For other crates too: the bounds of peaks, acknowledgements and loads in every legal history.
-use Rattle.std.proofs.Common.{◌≡◌, ◌≢◌, ℕ, ◌%◌, ◌≤◌, true≢false, [], ◌∷◌, Option, Some, None, unsigned_abs, refl, sym, ap, ◌∙◌, subst, arith, ⊎_elim}
+use Rattle.std.proofs.Common.{◌≡◌, ◌≢◌, ℕ, ◌%◌, ◌≤◌, true≢false, [], ◌∷◌, Option, Some}
+use Rattle.std.proofs.Common.{None, unsigned_abs, refl, sym, ap, ◌∙◌, subst, arith, ⊎_elim}
 use Rattle.std.proofs.lemmas.Bool.{cases_eq}
 use Rattle.vms_base.specs.declared.ids.CpuId.{CpuId}
 use Rattle.vms_base.specs.Places.{IsLayout, IsCpu, IsPlace, IsZone, IsCounter, place_of, counter_at, group_of}
@@ -19,16 +20,20 @@ use Rattle.vms_core.specs.Bases.{IsOpening}
 use Rattle.vms_core.specs.Cells.{diff_at, threshold_at}
 use Rattle.vms_core.specs.Own.{loaded, took}
 use Rattle.vms_core.specs.Pages.{pages, History, IsLegal, state_after}
-use Rattle.vms_core.specs.PeakLaws.{BoundsByPeaks, BoundsThresholds, KeepsPeaksInRange, OwnsNow, IsAcknowledged, BoundsUsed, BoundsLoaded, BoundsLoadedByPeaks, LoadsSetNumbers, AcknowledgesSetNumbers}
+use Rattle.vms_core.specs.PeakLaws.{BoundsByPeaks, BoundsThresholds, KeepsPeaksInRange, OwnsNow}
+use Rattle.vms_core.specs.PeakLaws.{IsAcknowledged, BoundsUsed, BoundsLoaded, BoundsLoadedByPeaks}
+use Rattle.vms_core.specs.PeakLaws.{LoadsSetNumbers, AcknowledgesSetNumbers}
 use Rattle.vms_core.specs.Peaks.{sets, threshold_in, peak}
-use Rattle.vms_core.specs.Steps.{turn}
+use Rattle.vms_core.specs.Steps.{role}
 use Rattle.vms_core.specs.Totals.{last_threshold}
 use Rattle.vms_history.proofs.CountLemmas.{largest_below-least, largest_below-most}
 use Rattle.vms_core.proofs.Bounds.{diff_at-bounded}
 use Rattle.vms_core.proofs.CounterRanges.{counter_at-known, first-known, counter_at-first}
 use Rattle.vms_core.proofs.Owners.{OwnsNow-before}
-use Rattle.vms_core.proofs.PeakSteps.{View, IsBounded, IsTold, IsBounded-forgets, view_after, IsBounded-mine, IsBounded-others}
-use Rattle.vms_core.proofs.Settings.{acknowledged_in, threshold_at-state_after, sets-state_after, acknowledged_at-state_after}
+use Rattle.vms_core.proofs.PeakSteps.{View, IsBounded, IsTold, IsBounded-forgets}
+use Rattle.vms_core.proofs.PeakSteps.{view_after, IsBounded-mine, IsBounded-others}
+use Rattle.vms_core.proofs.Settings.{acknowledged_in, threshold_at-state_after}
+use Rattle.vms_core.proofs.Settings.{sets-state_after, acknowledged_at-state_after}
 
 module _ (facts : Facts) (c : CpuId) (g k : ℕ) where
   -- the numbers after a history, with what a list of own events loaded and took
@@ -87,7 +92,7 @@ module _ (facts : Facts) (c : CpuId) (g k : ℕ) (c_in : IsCpu facts.layout c.nu
     layout = (base_can_begin pages facts h legal.0).layout
 
     -- the CPU's owner made the event
-    bounded-mine : owner_in turn h e.caller ≡ Some c → e.caller ≢ 0 → AreBounded facts c g k (e ∷ h)
+    bounded-mine : owner_in role h e.caller ≡ Some c → e.caller ≢ 0 → AreBounded facts c g k (e ∷ h)
     bounded-mine is worker =
         record { alone = IsBounded-forgets (view_in facts c g k (e ∷ h) mine) bounded; each = each }
       where
@@ -95,7 +100,7 @@ module _ (facts : Facts) (c : CpuId) (g k : ℕ) (c_in : IsCpu facts.layout c.nu
         mine = e ∷ own h e.caller
 
         owns : OwnsNow h e.caller c
-        owns = record { lives = caller_lives pages facts h e.caller (turn e.step) legal.1 worker; owner = is }
+        owns = record { lives = caller_lives pages facts h e.caller (role e.step) legal.1 worker; owner = is }
 
         was : View
         was = view_in facts c g k h (own h e.caller)
@@ -122,14 +127,14 @@ module _ (facts : Facts) (c : CpuId) (g k : ℕ) (c_in : IsCpu facts.layout c.nu
             (OwnsNow-before facts e h legal p c owns_now)
 
     -- another pass made it, or the main pass
-    bounded-others : ((o : CpuId) → owner_in turn h e.caller ≡ Some o → o.number ≢ c.number)
+    bounded-others : ((o : CpuId) → owner_in role h e.caller ≡ Some o → o.number ≢ c.number)
         → ((p : ℕ) → OwnsNow h p c → e.caller ≢ p) → AreBounded facts c g k (e ∷ h)
     bounded-others other apart = record { alone = step [] before.alone; each = each }
       where
         step : (es : History) → InView h es → InView (e ∷ h) es
         step es bounded =
             IsBounded-others c g k facts h (state_after facts h) e.caller layout k_in there
-            (owner_in turn h e.caller) e.step (view_in facts c g k h es) other legal.2
+            (owner_in role h e.caller) e.step (view_in facts c g k h es) other legal.2
             (λ zone. acknowledged_at-state_after facts h legal.0 c.number g c_in zone) bounded
 
         each : (p : ℕ) → OwnsNow (e ∷ h) p c → InView (e ∷ h) (own (e ∷ h) p)
@@ -142,19 +147,19 @@ module _ (facts : Facts) (c : CpuId) (g k : ℕ) (c_in : IsCpu facts.layout c.nu
     bounded-next : AreBounded facts c g k (e ∷ h)
     bounded-next = ⊎_elim
         (λ (main : e.caller ≡ 0).
-        let none : owner_in turn h e.caller ≡ None =
+        let none : owner_in role h e.caller ≡ None =
         owner_in-not_given pages facts h e.caller legal.0 (λ given. omega arith) in
         bounded-others (λ o is. absurd cc)
         (λ p owns same. let given = live_is_given pages facts h p legal.0 owns.lives in omega arith))
-        (λ (worker : e.caller ≡ 0 → ⊥). by (owner_in turn h e.caller) refl worker)
+        (λ (worker : e.caller ≡ 0 → ⊥). by (owner_in role h e.caller) refl worker)
         (cases_eq e.caller 0)
       where
         -- who owns the CPU is the caller's owner
-        owner_of : (who : Option CpuId) → owner_in turn h e.caller ≡ who → (p : ℕ) → OwnsNow h p c → e.caller ≡ p
+        owner_of : (who : Option CpuId) → owner_in role h e.caller ≡ who → (p : ℕ) → OwnsNow h p c → e.caller ≡ p
             → who ≡ Some c
-        owner_of who is p owns same = sym is ∙ ap (owner_in turn h) same ∙ owns.owner
+        owner_of who is p owns same = sym is ∙ ap (owner_in role h) same ∙ owns.owner
 
-        by : (who : Option CpuId) → owner_in turn h e.caller ≡ who → e.caller ≢ 0 → AreBounded facts c g k (e ∷ h)
+        by : (who : Option CpuId) → owner_in role h e.caller ≡ who → e.caller ≢ 0 → AreBounded facts c g k (e ∷ h)
         by None is worker =
             bounded-others (λ o owner. absurd cc) (λ p owns same. let owner = owner_of None is p owns same in absurd cc)
         by (Some o) is worker = ⊎_elim

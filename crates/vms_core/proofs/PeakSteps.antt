@@ -1,6 +1,7 @@
 -- The bounds between a threshold, its peak, its acknowledgement, what an owner loaded of it and what was used last, and
 -- that each step keeps them.
-use Rattle.std.proofs.Common.{◌≡◌, ◌≢◌, ℕ, suc, ◌≤◌, max, ◌&&◌, Bool, true, false, Option, Some, None, refl, sym, ap, ◌∙◌, subst, arith, if◌then◌else◌, nat_eq, eqb-true, ne_eqb}
+use Rattle.std.proofs.Common.{◌≡◌, ◌≢◌, ℕ, suc, ◌≤◌, max, ◌&&◌, Bool, true, false, Option, Some}
+use Rattle.std.proofs.Common.{None, refl, sym, ap, ◌∙◌, subst, arith, if◌then◌else◌, nat_eq, eqb-true, ne_eqb}
 use Rattle.std.proofs.lemmas.Bool.{and_parts}
 use Rattle.vms_base.specs.declared.ids.CpuId.{CpuId}
 use Rattle.vms_base.specs.declared.ids.PlaceId.{PlaceId}
@@ -19,7 +20,7 @@ use Rattle.vms_core.specs.Conditions.{Meets}
 use Rattle.vms_core.specs.Own.{loaded_after, loaded, took_after, took}
 use Rattle.vms_core.specs.Pages.{History}
 use Rattle.vms_core.specs.Peaks.{sets_after, threshold_after, is_number, peak_after}
-use Rattle.vms_core.specs.Steps.{turn}
+use Rattle.vms_core.specs.Steps.{role}
 use Rattle.vms_core.specs.Totals.{last_after}
 use Rattle.vms_core.proofs.Settings.{acknowledged_after}
 
@@ -234,7 +235,7 @@ module _ (c : CpuId) (g k : ℕ) where
   module _ (facts : Facts) (h : History) (s : State) (p : ℕ) (layout : IsLayout facts.layout)
       (k_in : IsCounter facts.layout k) (there : place_of facts.layout k ≡ g) where
     -- a step of the CPU's owner
-    pub IsBounded-mine : (step : Step) (v : View) → owner_in turn h p ≡ Some c → Meets facts h s p step
+    pub IsBounded-mine : (step : Step) (v : View) → owner_in role h p ≡ Some c → Meets facts h s p step
         → v.told ≡ loaded g (own h p) → v.taken ≡ took c g (group_of k) (own h p)
         → threshold_at s c.number g ≡ v.threshold → threshold_sets_at s c.number g ≡ v.number
         → IsBounded v → IsBounded (view_mine step v)

@@ -1,5 +1,7 @@
 -- For other crates too: what holds of plain data and what keeps it, and how many places a state has.
-use Rattle.std.proofs.Common.{◌≡◌, ◌≢◌, ℕ, zero, suc, ◌+◌, ◌*◌, ◌/◌, ◌%◌, ◌^◌, ◌<◌, ◌≤◌, ℤ, pos, List, length, get_or, unsigned_abs, refl, sym, arith, subst, ⊎_elim, ◌∙◌, length-set, get_or-set_same, get_or-set_other, take, drop, lit<}
+use Rattle.std.proofs.Common.{◌≡◌, ◌≢◌, ℕ, zero, suc, ◌+◌, ◌*◌, ◌/◌, ◌%◌, ◌^◌, ◌<◌, ◌≤◌, ℤ, pos, List, length, get_or}
+use Rattle.std.proofs.Common.{unsigned_abs, refl, sym, arith, subst, ⊎_elim, ◌∙◌, length-set, get_or-set_same}
+use Rattle.std.proofs.Common.{get_or-set_other, take, drop, lit<}
 use Rattle.std.proofs.Math.ListN.{set}
 use Rattle.std.proofs.Math.Nat.{mul-div_cancel_left, mul-zero}
 use Rattle.std.proofs.lemmas.Bool.{cases_eq, cases_lt}

@@ -1,6 +1,7 @@
 -- For other crates too: what a step that meets its condition makes of thresholds, numbers of sets, marks, CPU states
 -- and acknowledgements, and what stands of them after a legal history.
-use Rattle.std.proofs.Common.{◌≡◌, ℕ, suc, ◌+◌, ◌*◌, ◌/◌, ◌&&◌, [], ◌∷◌, List, length, get_or, Option, Some, None, refl, ap, ◌∙◌, add-one, length-set, if◌then◌else◌, nat_eq}
+use Rattle.std.proofs.Common.{◌≡◌, ℕ, suc, ◌+◌, ◌*◌, ◌/◌, ◌&&◌, [], ◌∷◌, List, length}
+use Rattle.std.proofs.Common.{get_or, Option, Some, None, refl, ap, ◌∙◌, add-one, length-set, if◌then◌else◌, nat_eq}
 use Rattle.std.proofs.Math.ListN.{set}
 use Rattle.vms_base.specs.declared.ids.CpuId.{CpuId}
 use Rattle.vms_base.specs.declared.kinds.CpuState.{CpuState}
@@ -14,13 +15,14 @@ use Rattle.vms_core.specs.declared.states.State.{State}
 use Rattle.vms_core.specs.declared.steps.Facts.{Facts}
 use Rattle.vms_core.specs.declared.steps.Step.{Step}
 use Rattle.vms_core.specs.declared.steps.Step.TheVariants.{SetT, SetM, SetO, SetA}
-use Rattle.vms_core.specs.Cells.{HasShape, places_of, zones_of, threshold_at, threshold_sets_at, mark_at, mark_sets_at, cpu_at, acknowledged_at, with_mark}
+use Rattle.vms_core.specs.Cells.{HasShape, places_of, zones_of, threshold_at, threshold_sets_at}
+use Rattle.vms_core.specs.Cells.{mark_at, mark_sets_at, cpu_at, acknowledged_at, with_mark}
 use Rattle.vms_core.specs.Conditions.{Meets}
 pub use Rattle.vms_core.specs.Effects.{mark_after, mark_sets_after, acknowledged_after}
 use Rattle.vms_core.specs.Pages.{pages, History, IsLegal, state_after}
 use Rattle.vms_core.specs.Peaks.{sets_after, threshold_after, cpu_after}
 use Rattle.vms_core.specs.PeakLaws.{TellsThresholds, TellsNumbers, TellsCpus}
-use Rattle.vms_core.specs.Steps.{turn, effect}
+use Rattle.vms_core.specs.Steps.{role, effect}
 use Rattle.vms_core.proofs.Effects.{owned}
 use Rattle.vms_core.proofs.PlainData.{places_of-shaped}
 use Rattle.vms_core.proofs.Shapes.{HasShape-state_after}
@@ -28,7 +30,7 @@ use Rattle.vms_core.proofs.Shapes.{HasShape-state_after}
 -- what a CPU acknowledged last of a zone in a history
 abbrev pub acknowledged_in : ℕ → ℕ → History → Option ℕ
 acknowledged_in c g [] = None
-acknowledged_in c g (e ∷ h) = acknowledged_after (owner_in turn h e.caller) c g e.step (acknowledged_in c g h)
+acknowledged_in c g (e ∷ h) = acknowledged_after (owner_in role h e.caller) c g e.step (acknowledged_in c g h)
 
 module _ (facts : Facts) (h : List (Event Step)) (s : State) (p : ℕ) (layout : IsLayout facts.layout)
     (shaped : HasShape facts.layout s) where
@@ -125,7 +127,7 @@ module _ (facts : Facts) (h : List (Event Step)) (s : State) (p : ℕ) (layout :
   mark_sets_at-effect None _ g meets = refl
   mark_sets_at-effect (Some o) _ g meets = refl
 
-  pub acknowledged_at-effect : (who : Option CpuId) (step : Step) (c g : ℕ) → owner_in turn h p ≡ who
+  pub acknowledged_at-effect : (who : Option CpuId) (step : Step) (c g : ℕ) → owner_in role h p ≡ who
       → Meets facts h s p step → IsZone facts.layout g
       → acknowledged_at (effect facts who step s) c g ≡ acknowledged_after who c g step (acknowledged_at s c g)
   acknowledged_at-effect (Some o) (SetA f a) c g is meets g_in =
@@ -152,36 +154,36 @@ module _ (facts : Facts) (e : Event Step) (h : History) (legal : IsLegal facts (
       → threshold_at (state_after facts (e ∷ h)) c g
       ≡ threshold_after c g e.step (threshold_at (state_after facts h) c g)
   threshold_at-newest c g g_in =
-      threshold_at-effect facts h (state_after facts h) e.caller layout shaped (owner_in turn h e.caller) e.step c g
+      threshold_at-effect facts h (state_after facts h) e.caller layout shaped (owner_in role h e.caller) e.step c g
       legal.2 g_in
 
   pub sets-newest : (c g : ℕ) → IsPlace facts.layout g
       → threshold_sets_at (state_after facts (e ∷ h)) c g
       ≡ sets_after c g e.step (threshold_sets_at (state_after facts h) c g)
   sets-newest c g g_in =
-      sets-effect facts h (state_after facts h) e.caller layout shaped (owner_in turn h e.caller) e.step c g
+      sets-effect facts h (state_after facts h) e.caller layout shaped (owner_in role h e.caller) e.step c g
       legal.2 g_in
 
   pub cpu_at-newest : (c : ℕ) → cpu_at (state_after facts (e ∷ h)) c
       ≡ cpu_after c e.step (cpu_at (state_after facts h) c)
   cpu_at-newest c =
-      cpu_at-effect facts h (state_after facts h) e.caller layout shaped (owner_in turn h e.caller) e.step c legal.2
+      cpu_at-effect facts h (state_after facts h) e.caller layout shaped (owner_in role h e.caller) e.step c legal.2
 
   pub mark_at-newest : (g : ℕ)
       → mark_at (state_after facts (e ∷ h)) g ≡ mark_after g e.step (mark_at (state_after facts h) g)
   mark_at-newest g =
-      mark_at-effect facts h (state_after facts h) e.caller layout shaped (owner_in turn h e.caller) e.step g legal.2
+      mark_at-effect facts h (state_after facts h) e.caller layout shaped (owner_in role h e.caller) e.step g legal.2
 
   pub mark_sets_at-newest : (g : ℕ)
       → mark_sets_at (state_after facts (e ∷ h)) g ≡ mark_sets_after g e.step (mark_sets_at (state_after facts h) g)
   mark_sets_at-newest g =
-      mark_sets_at-effect facts h (state_after facts h) e.caller layout shaped (owner_in turn h e.caller) e.step g
+      mark_sets_at-effect facts h (state_after facts h) e.caller layout shaped (owner_in role h e.caller) e.step g
       legal.2
 
   pub acknowledged_at-newest : (c g : ℕ) → IsZone facts.layout g → acknowledged_at (state_after facts (e ∷ h)) c g
-      ≡ acknowledged_after (owner_in turn h e.caller) c g e.step (acknowledged_at (state_after facts h) c g)
+      ≡ acknowledged_after (owner_in role h e.caller) c g e.step (acknowledged_at (state_after facts h) c g)
   acknowledged_at-newest c g zone =
-      acknowledged_at-effect facts h (state_after facts h) e.caller layout shaped (owner_in turn h e.caller) e.step c g
+      acknowledged_at-effect facts h (state_after facts h) e.caller layout shaped (owner_in role h e.caller) e.step c g
       refl legal.2 zone
 
 -- what stands after a legal history
@@ -207,5 +209,5 @@ module _ (facts : Facts) where
   acknowledged_at-state_after [] legal c g c_in zone = legal.opening.unacknowledged c g c_in zone
   acknowledged_at-state_after (e ∷ h) legal c g c_in zone =
       acknowledged_at-newest facts e h legal c g zone
-      ∙ ap (acknowledged_after (owner_in turn h e.caller) c g e.step)
+      ∙ ap (acknowledged_after (owner_in role h e.caller) c g e.step)
       (acknowledged_at-state_after h legal.0 c g c_in zone)

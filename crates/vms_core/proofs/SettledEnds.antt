@@ -1,19 +1,22 @@
 -- For other crates too: the state that a complete history leaves may open the next phase, and its totals grew by no
 -- more than the volumes.
-use Rattle.std.proofs.Common.{◌≡◌, ℕ, ◌+◌, ◌*◌, ◌^◌, ◌<◌, ◌≤◌, Bool, [], ℤ, pos, ◌+ℤ◌, ◌-ℤ◌, unsigned_abs, None, ap, ◌∙◌, subst, arith, if◌then◌else◌, nat_eq}
+use Rattle.std.proofs.Common.{◌≡◌, ℕ, ◌+◌, ◌*◌, ◌^◌, ◌<◌, ◌≤◌, Bool, [], ℤ, pos}
+use Rattle.std.proofs.Common.{◌+ℤ◌, ◌-ℤ◌, unsigned_abs, None, ap, ◌∙◌, subst, arith, if◌then◌else◌, nat_eq}
 use Rattle.std.proofs.Math.ListN.{get_or-map}
 use Rattle.std.proofs.lemmas.List.{length-map}
 use Rattle.std.proofs.lemmas.Int.{ints}
-use Rattle.vms_base.specs.Places.{Shape, IsLayout, IsCpu, IsCounter, IsItem, IsPlace, counter_at, counter_count, item_of, place_of}
+use Rattle.vms_base.specs.Places.{Shape, IsLayout, IsCpu, IsCounter, IsItem}
+use Rattle.vms_base.specs.Places.{IsPlace, counter_at, counter_count, item_of, place_of}
 use Rattle.vms_base.specs.Sizes.{size_at}
 use Rattle.vms_base.specs.Thresholds.{most_threshold}
 use Rattle.vms_base.specs.Volumes.{most_volume}
 use Rattle.vms_base.proofs.Counts.{place_of-lt, counter_at-place}
 use Rattle.vms_history.specs.Events.{total}
 use Rattle.vms_history.specs.Sums.{sum_below, count_below}
-use Rattle.vms_history.proofs.Choices.{if-map, if-same}
+use Rattle.vms_history.proofs.Choices.{if-map, if-either}
 use Rattle.vms_history.proofs.CallerSums.{total-by_parts}
-use Rattle.vms_history.proofs.CountLemmas.{pos-count_below, count_below-least, largest_below-most, count_below-sum, count_below-most}
+use Rattle.vms_history.proofs.CountLemmas.{pos-count_below, count_below-least, largest_below-most}
+use Rattle.vms_history.proofs.CountLemmas.{count_below-sum, count_below-most}
 use Rattle.vms_history.proofs.Prefixes.{base_can_begin}
 use Rattle.vms_history.proofs.SumBounds.{sum_below-most, sum_below-size}
 use Rattle.vms_history.proofs.SumLaws.{sum_below-same, sum_below-sum, sum_below-zeros}
@@ -27,7 +30,8 @@ use Rattle.vms_core.specs.Conditions.{Meets}
 use Rattle.vms_core.specs.Ends.{grown, AreVolumes, IsWithinVolumes}
 use Rattle.vms_core.specs.Pages.{pages, History, IsLegal, IsComplete, state_after}
 use Rattle.vms_core.specs.Peaks.{opening_peak, peak, peak_sum, cpu_in, if_present}
-use Rattle.vms_core.specs.Totals.{change_of, change_of_item, differentials, differentials_of_item, values_of_item, true_total, true_total_of_item, spent}
+use Rattle.vms_core.specs.Totals.{change_of, change_of_item, differentials, differentials_of_item}
+use Rattle.vms_core.specs.Totals.{values_of_item, true_total, true_total_of_item, spent}
 use Rattle.vms_core.proofs.CarriedNothing.{none-carried, none-carried_of_item}
 use Rattle.vms_core.proofs.CounterRanges.{counter_at-known}
 use Rattle.vms_core.proofs.HiddenPages.{absent-zero}
@@ -69,7 +73,7 @@ change_of_item-by_counter facts i h s p (Put l w t delta how) meets =
     one_change (λ k. nat_eq (item_of facts.layout k) i) (counter_count facts.layout) l.number delta meets.counter
 change_of_item-by_counter facts i h s p _ meets =
     sum_below-zeros (λ k. if nat_eq (item_of facts.layout k) i then pos 0 else pos 0) (counter_count facts.layout)
-    (λ k k_in. if-same (nat_eq (item_of facts.layout k) i) (pos 0))
+    (λ k k_in. if-either (nat_eq (item_of facts.layout k) i) (pos 0))
 
 changes_of_item-by_counter : (facts : Facts) (i : ℕ) (h : History) → IsLegal facts h
     → total (change_of_item facts.layout i) h
@@ -79,7 +83,7 @@ changes_of_item-by_counter facts i h =
     total-by_parts pages facts (change_of_item facts.layout i)
     (λ g k. if nat_eq (item_of facts.layout k) i then total (change_of k) g else pos 0)
     (λ e g k. if nat_eq (item_of facts.layout k) i then change_of k e.step else pos 0) (counter_count facts.layout)
-    (λ k k_in. if-same (nat_eq (item_of facts.layout k) i) (pos 0))
+    (λ k k_in. if-either (nat_eq (item_of facts.layout k) i) (pos 0))
     (λ e g k k_in. if-sum (nat_eq (item_of facts.layout k) i) (change_of k e.step) (total (change_of k) g))
     (λ e g legal. change_of_item-by_counter facts i g (state_after facts g) e.caller e.step legal.2)
     h

@@ -1,5 +1,6 @@
 -- Nothing is lost: values, differentials and what is carried add up to the true totals.
-use Rattle.std.proofs.Common.{◌≡◌, ℕ, suc, ◌+◌, ◌*◌, ◌%◌, ◌&&◌, Bool, true, false, List, [], ◌∷◌, Option, Some, None, ℤ, pos, neg_ℤ, ◌+ℤ◌, ◌-ℤ◌, refl, ap, ◌∙◌, arith, if◌then◌else◌, nat_eq, eqb-true}
+use Rattle.std.proofs.Common.{◌≡◌, ℕ, suc, ◌+◌, ◌*◌, ◌%◌, ◌&&◌, Bool, true, false, List, [], ◌∷◌, Option, Some, None, ℤ}
+use Rattle.std.proofs.Common.{pos, neg_ℤ, ◌+ℤ◌, ◌-ℤ◌, refl, ap, ◌∙◌, arith, if◌then◌else◌, nat_eq, eqb-true}
 use Rattle.std.proofs.lemmas.Int.{ints}
 use Rattle.vms_base.specs.declared.groups.Diffs.{Diffs}
 use Rattle.vms_base.specs.declared.ids.CounterId.{CounterId}
@@ -20,7 +21,7 @@ use Rattle.vms_core.specs.Cells.{HasShape, TellsGroup, value_at, diff_at, entry}
 use Rattle.vms_core.specs.Changes.{differential_after, carried_by}
 use Rattle.vms_core.specs.Conditions.{Meets, Puts, FindsGroup}
 use Rattle.vms_core.specs.Own.{moved}
-use Rattle.vms_core.specs.Steps.{turn, effect}
+use Rattle.vms_core.specs.Steps.{role, effect}
 use Rattle.vms_core.specs.Totals.{differentials, change_of, true_total}
 use Rattle.vms_core.specs.Pages.{History, IsLegal, state_after, pages, carried_by_all, KeepsTotals}
 use Rattle.vms_core.proofs.ChangeLemmas.{differential_after-carried_by}
@@ -62,7 +63,7 @@ module _ (facts : Facts) (h : History) (s : State) (p : ℕ) (shaped : HasShape 
   AddsUp after step = (value_at after k +ℤ differentials facts.layout after k) +ℤ moved k step
       ≡ (value_at s k +ℤ differentials facts.layout s k) +ℤ change_of k step
 
-  AddsUp-put : (o : CpuId) (l : CounterId) (w : Diffs) (t : ℕ) (delta : ℤ) (how : Mode) → owner_in turn h p ≡ Some o
+  AddsUp-put : (o : CpuId) (l : CounterId) (w : Diffs) (t : ℕ) (delta : ℤ) (how : Mode) → owner_in role h p ≡ Some o
       → Puts facts h s p l w t delta → AddsUp (effect facts (Some o) (Put l w t delta how) s) (Put l w t delta how)
   AddsUp-put o l w t delta how is puts =
       let step : Step = Put l w t delta how in
@@ -100,7 +101,7 @@ module _ (facts : Facts) (h : History) (s : State) (p : ℕ) (shaped : HasShape 
       sum_below-same (λ c. diff_at after c k) (λ c. diff_at s c k) facts.layout.cpus (λ c c_in. same c) in
       rw (added, all) (addition-adds_up (nat_eq l.number k) (value_at s k) a (differentials facts.layout s k))
 
-  pub AddsUp-step : (who : Option CpuId) (step : Step) → owner_in turn h p ≡ who → Meets facts h s p step
+  pub AddsUp-step : (who : Option CpuId) (step : Step) → owner_in role h p ≡ who → Meets facts h s p step
       → AddsUp (effect facts who step s) step
   AddsUp-step None (Put l w t delta how) is meets = let owner = meets.owns.owner in absurd cc
   AddsUp-step (Some o) (Put l w t delta how) is meets = AddsUp-put o l w t delta how is meets
@@ -127,12 +128,12 @@ value_at-moved : (facts : Facts) (h : History) (k : ℕ) → IsLegal facts h →
 value_at-moved facts [] k legal k_in = refl
 value_at-moved facts (e ∷ h) k legal k_in =
     let s = state_after facts h in
-    let who = owner_in turn h e.caller in
+    let who = owner_in role h e.caller in
     let step = AddsUp-step facts h s e.caller (HasShape-state_after facts h legal.0) k k_in who e.step refl legal.2 in
     omega (arith, ints, step, value_at-moved facts h k legal.0 k_in)
 
 pub totals-kept : (facts : Facts) (h : History) → IsLegal facts h → KeepsTotals facts h
 totals-kept facts h legal k k_in =
     let all : total (moved k) h ≡ carried_by_all h k =
-    total-by_caller pages facts (moved k) h (suc (begun_in turn h)) legal (omega arith) in
+    total-by_caller pages facts (moved k) h (suc (begun_in role h)) legal (omega arith) in
     rw all at (value_at-moved facts h k legal k_in)

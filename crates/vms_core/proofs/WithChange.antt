@@ -6,7 +6,8 @@ use Rattle.vms_base.specs.declared.kinds.Mode.{Mode}
 use Rattle.vms_base.specs.Places.{Shape, IsCpu, IsCounter, IsItem, cell, counter_count, place_of, group_of, item_of}
 use Rattle.vms_base.proofs.Cells.{cell-lt}
 use Rattle.vms_core.specs.declared.states.State.{State}
-use Rattle.vms_core.specs.Cells.{HasShape, TellsGroup, counters_of, entry, value_at, system_at, diff_at, threshold_at, with_diff}
+use Rattle.vms_core.specs.Cells.{HasShape, TellsGroup, counters_of, entry, value_at}
+use Rattle.vms_core.specs.Cells.{system_at, diff_at, threshold_at, with_diff}
 use Rattle.vms_core.specs.Changes.{differential_after, carried_by}
 use Rattle.vms_core.specs.ChangedStates.{with_carried, with_change_of, with_change}
 use Rattle.vms_core.proofs.ChangeLemmas.{differential_after-carried_by}

@@ -4,15 +4,15 @@ use Rattle.vms_base.specs.declared.ids.CpuId.{CpuId}
 use Rattle.vms_history.specs.declared.events.Event.{Event}
 use Rattle.vms_history.specs.Events.{own}
 use Rattle.vms_history.specs.Legal.{Acts}
-use Rattle.vms_history.specs.Passes.{Turn, lives, owner, owner_in}
-use Rattle.vms_history.specs.Passes.Turn.{Works}
+use Rattle.vms_history.specs.Passes.{Role, lives, owner, owner_in}
+use Rattle.vms_history.specs.Passes.Role.{Works}
 use Rattle.vms_history.proofs.Own.{own-mine, own-others}
 use Rattle.vms_core.specs.declared.states.State.{State}
 use Rattle.vms_core.specs.declared.steps.Facts.{Facts}
 use Rattle.vms_core.specs.declared.steps.Step.{Step}
 use Rattle.vms_core.specs.Conditions.{Meets}
 use Rattle.vms_core.specs.Pages.{pages, History, IsLegal, state_after}
-use Rattle.vms_core.specs.Steps.{turn, own_effect, effect_of}
+use Rattle.vms_core.specs.Steps.{role, own_effect, effect_of}
 use Rattle.vms_core.specs.Totals.{spent, spent_by}
 
 module _ (facts : Facts) (p : ℕ) (cpu : CpuId) (other_than_main : p ≢ 0) where
@@ -26,17 +26,17 @@ module _ (facts : Facts) (p : ℕ) (cpu : CpuId) (other_than_main : p ≢ 0) whe
     pub mine_is : own h p ≡ mine
     pub state_is : state_after facts h ≡ s
 
-  module _ (main : History) (lives_there : lives turn main p ≡ true) (owner_there : owner turn main p ≡ Some cpu) where
-    pub owner_now : (mine : History) (s : State) (h : History) → Stands main mine s h → owner_in turn h p ≡ Some cpu
-    owner_now mine s h stands = ap (λ es. owner turn es p) stands.main_is ∙ owner_there
+  module _ (main : History) (lives_there : lives role main p ≡ true) (owner_there : owner role main p ≡ Some cpu) where
+    pub owner_now : (mine : History) (s : State) (h : History) → Stands main mine s h → owner_in role h p ≡ Some cpu
+    owner_now mine s h stands = ap (λ es. owner role es p) stands.main_is ∙ owner_there
 
-    pub Stands-next : (mine : History) (s : State) (h : History) (k : Step) → turn k ≡ Works → Stands main mine s h
+    pub Stands-next : (mine : History) (s : State) (h : History) (k : Step) → role k ≡ Works → Stands main mine s h
         → Meets facts h s p k → Stands main (event k ∷ mine) (own_effect cpu k (effect_of k s)) (event k ∷ h)
     Stands-next mine s h k works stands meets = record {
       legal = (
         stands.legal,
-        subst (λ (w : Turn). Acts pages facts h p w) (sym works)
-            (other_than_main, (ap (λ es. lives turn es p) stands.main_is ∙ lives_there)),
+        subst (λ (w : Role). Acts pages facts h p w) (sym works)
+            (other_than_main, (ap (λ es. lives role es p) stands.main_is ∙ lives_there)),
         subst (λ (now : State). Meets facts h now p k) (sym stands.state_is) meets,
       );
       main_is = own-others (event k) h 0 other_than_main ∙ stands.main_is;

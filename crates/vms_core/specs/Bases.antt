@@ -8,7 +8,8 @@ use Rattle.vms_base.specs.Marks.{Covers}
 use Rattle.vms_base.specs.Thresholds.{most_threshold}
 use Rattle.vms_core.specs.declared.states.State.{State}
 use Rattle.vms_core.specs.declared.steps.Facts.{Facts}
-use Rattle.vms_core.specs.Cells.{HasShape, value_at, system_at, diff_at, threshold_at, threshold_sets_at, mark_at, mark_sets_at, cpu_at, acknowledged_at}
+use Rattle.vms_core.specs.Cells.{HasShape, value_at, system_at, diff_at, threshold_at}
+use Rattle.vms_core.specs.Cells.{threshold_sets_at, mark_at, mark_sets_at, cpu_at, acknowledged_at}
 use Rattle.vms_core.specs.Peaks.{peak_sum}
 
 -- a state between two phases: its numbers are in their ranges, an absent CPU hides nothing, and nothing was set or

@@ -1,5 +1,6 @@
 -- How large the numbers of a legal history may become.
-use Rattle.std.specs.Prelude.{ℕ, ◌+◌, ◌*◌, ◌^◌, ◌<◌, ◌≤◌, nat_eq, ◌&&◌, [], ◌∷◌, if◌then◌else◌, Option, Some, unsigned_abs}
+use Rattle.std.specs.Prelude.{ℕ, ◌+◌, ◌*◌, ◌^◌, ◌<◌, ◌≤◌, nat_eq}
+use Rattle.std.specs.Prelude.{◌&&◌, [], ◌∷◌, if◌then◌else◌, Option, Some, unsigned_abs}
 use Rattle.vms_base.specs.declared.ids.CpuId.{CpuId}
 use Rattle.vms_base.specs.Places.{IsCpu, IsCounter, IsItem, group_of}
 use Rattle.vms_history.specs.Events.{own}
@@ -12,7 +13,7 @@ use Rattle.vms_core.specs.Changes.{carried_by}
 use Rattle.vms_base.specs.Volumes.{most_volume}
 use Rattle.vms_core.specs.Own.{carried, carried_of_item}
 use Rattle.vms_core.specs.Pages.{History, state_after}
-use Rattle.vms_core.specs.Steps.{turn}
+use Rattle.vms_core.specs.Steps.{role}
 use Rattle.vms_core.specs.Totals.{spent}
 
 -- the size of what a step of a pass that owns `who` moves out of the differential of CPU c for counter k
@@ -28,7 +29,7 @@ moved_out_by who c k _ = 0
 -- the sizes of all amounts that left the differential of CPU c for counter k
 abbrev pub moved_out : History → ℕ → ℕ → ℕ
 moved_out [] c k = 0
-moved_out (e ∷ h) c k = moved_out_by (owner_in turn h e.caller) c k e.step + moved_out h c k
+moved_out (e ∷ h) c k = moved_out_by (owner_in role h e.caller) c k e.step + moved_out h c k
 
 -- no CPU changed a counter by more than it may
 abbrev pub KeepsVolumes : History → Type 0

@@ -1,5 +1,6 @@
 -- Where the numbers of a state stand, and what a write makes of the state.
-use Rattle.std.specs.Prelude.{◌≡◌, ℕ, suc, zero, ◌+◌, ◌*◌, ◌/◌, ◌%◌, ◌<◌, ℤ, pos, List, length, slice_index_or, slice_set, replicate, Option, Some, None}
+use Rattle.std.specs.Prelude.{◌≡◌, ℕ, suc, zero, ◌+◌, ◌*◌, ◌/◌, ◌%◌, ◌<◌, ℤ}
+use Rattle.std.specs.Prelude.{pos, List, length, slice_index_or, slice_set, replicate, Option, Some, None}
 use Rattle.vms_base.specs.Places.{Shape, cell, place_count, counter_count, item_count}
 use Rattle.vms_base.specs.declared.kinds.CpuState.{CpuState}
 use Rattle.vms_base.specs.Cpus.{state_at}

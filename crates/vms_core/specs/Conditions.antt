@@ -1,5 +1,6 @@
 -- What each kind of step asks, in the state before it and of the history before it.
-use Rattle.std.specs.Prelude.{◌≡◌, ◌≢◌, ℕ, ◌+◌, ◌^◌, ◌<◌, ◌≤◌, true, false, ℤ, pos, List, ◌∷◌, Option, Some, None, unsigned_abs}
+use Rattle.std.specs.Prelude.{◌≡◌, ◌≢◌, ℕ, ◌+◌, ◌^◌, ◌<◌, ◌≤◌, true, false}
+use Rattle.std.specs.Prelude.{ℤ, pos, List, ◌∷◌, Option, Some, None, unsigned_abs}
 use Rattle.vms_base.specs.declared.groups.Diffs.{Diffs}
 use Rattle.vms_base.specs.declared.ids.CounterId.{CounterId}
 use Rattle.vms_base.specs.declared.ids.CpuId.{CpuId}
@@ -17,9 +18,11 @@ use Rattle.vms_history.specs.Passes.{owner_in}
 use Rattle.vms_core.specs.declared.states.State.{State}
 use Rattle.vms_core.specs.declared.steps.Facts.{Facts}
 use Rattle.vms_core.specs.declared.steps.Step.{Step}
-use Rattle.vms_core.specs.declared.steps.Step.TheVariants.{LoadT, LoadD, Put, Miss, AddG, AddS, Take, LoadG, LoadS, LoadM, LoadO, SetT, SetM, SetO, SetA, LoadA, Split, Join}
-use Rattle.vms_core.specs.Cells.{TellsGroup, value_at, system_at, diff_at, threshold_at, threshold_sets_at, mark_at, mark_sets_at, cpu_at, acknowledged_at, eight_zeros}
-use Rattle.vms_core.specs.Steps.{turn}
+use Rattle.vms_core.specs.declared.steps.Step.TheVariants.{LoadT, LoadD, Put, Miss, AddG, AddS, Take, LoadG, LoadS}
+use Rattle.vms_core.specs.declared.steps.Step.TheVariants.{LoadM, LoadO, SetT, SetM, SetO, SetA, LoadA, Split, Join}
+use Rattle.vms_core.specs.Cells.{TellsGroup, value_at, system_at, diff_at, threshold_at, threshold_sets_at}
+use Rattle.vms_core.specs.Cells.{mark_at, mark_sets_at, cpu_at, acknowledged_at, eight_zeros}
+use Rattle.vms_core.specs.Steps.{role}
 use Rattle.vms_core.specs.Own.{found, loaded, took, has_put, carried, carried_of_item, CarriesNothing}
 use Rattle.vms_core.specs.Totals.{spent}
 use Rattle.vms_core.specs.Peaks.{peak_sum}
@@ -27,12 +30,12 @@ use Rattle.vms_base.specs.Sizes.{size_at}
 
 -- the pass owns this CPU
 pub record Owns (facts : Facts) (h : List (Event Step)) (p : ℕ) (c : CpuId) : Type 0 where
-  pub owner : owner_in turn h p ≡ Some c
+  pub owner : owner_in role h p ≡ Some c
   pub within : IsCpu facts.layout c.number
 
 -- the pass is the control pass
 abbrev pub IsControl : List (Event Step) → ℕ → Type 0
-IsControl h p = owner_in turn h p ≡ None
+IsControl h p = owner_in role h p ≡ None
 
 -- a load of the own threshold of a place
 pub record LoadsThreshold (facts : Facts) (h : List (Event Step)) (s : State) (p : ℕ) (g : PlaceId)

@@ -8,7 +8,7 @@ use Rattle.vms_core.specs.Cells.{value_at, system_at}
 use Rattle.vms_core.specs.Own.{carried, carried_of_item}
 use Rattle.vms_core.specs.Pages.{History, state_after}
 use Rattle.vms_history.specs.Sums.{count_below}
-use Rattle.vms_core.specs.Steps.{turn}
+use Rattle.vms_core.specs.Steps.{role}
 use Rattle.vms_core.specs.Totals.{last_threshold, differentials, true_total, true_total_of_item}
 
 -- the thresholds that the CPUs used last on counter k together
@@ -23,11 +23,11 @@ last_thresholds_of_item facts h i =
 
 -- the sizes of what the callers carry for counter k together, and for item i
 abbrev pub carried_sizes : History → ℕ → ℕ
-carried_sizes h k = count_below (λ p. unsigned_abs (carried k (own h p))) (suc (begun_in turn h))
+carried_sizes h k = count_below (λ p. unsigned_abs (carried k (own h p))) (suc (begun_in role h))
 
 abbrev pub carried_of_item_sizes : Shape → History → ℕ → ℕ
 carried_of_item_sizes shape h i =
-    count_below (λ p. unsigned_abs (carried_of_item shape i (own h p))) (suc (begun_in turn h))
+    count_below (λ p. unsigned_abs (carried_of_item shape i (own h p))) (suc (begun_in role h))
 
 -- the size of a number that is below 0, and 0 of any other
 abbrev pub size_below_zero : ℤ → ℕ
@@ -36,7 +36,7 @@ size_below_zero (negsuc n) = suc n
 
 -- the sizes of the negative amounts that the callers carry for counter k together
 abbrev pub negative_carried : History → ℕ → ℕ
-negative_carried h k = count_below (λ p. size_below_zero (carried k (own h p))) (suc (begun_in turn h))
+negative_carried h k = count_below (λ p. size_below_zero (carried k (own h p))) (suc (begun_in role h))
 
 -- the global value of a counter and its differentials exceed the true total by at most these amounts
 abbrev pub BoundsExcess : Facts → History → Type 0

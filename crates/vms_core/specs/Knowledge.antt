@@ -7,25 +7,26 @@ use Rattle.vms_base.specs.declared.kinds.CpuState.TheVariants.{Online}
 use Rattle.vms_base.specs.Places.{IsCpu, IsZone, IsCounter, IsGroup, place_of, group_of}
 use Rattle.vms_history.specs.declared.events.Event.{Event}
 use Rattle.vms_history.specs.Events.{Extends, own}
-use Rattle.vms_history.specs.Making as making
+use Rattle.vms_history.specs.PassSteps as making
 use Rattle.vms_history.specs.Passes.{owner_in}
 use Rattle.vms_core.specs.declared.states.State.{State}
 use Rattle.vms_core.specs.declared.steps.Facts.{Facts}
 use Rattle.vms_core.specs.declared.steps.Step.{Step}
 use Rattle.vms_core.specs.declared.steps.Step.TheVariants.{LoadD, Put, Miss, Take}
-use Rattle.vms_core.specs.Cells.{TellsGroup, threshold_at, threshold_sets_at, mark_at, mark_sets_at, cpu_at, acknowledged_at, eight_zeros}
+use Rattle.vms_core.specs.Cells.{TellsGroup, threshold_at, threshold_sets_at, mark_at}
+use Rattle.vms_core.specs.Cells.{mark_sets_at, cpu_at, acknowledged_at, eight_zeros}
 use Rattle.vms_base.specs.Volumes.{most_volume}
 use Rattle.vms_core.specs.Own.{found, loaded, CarriesNothing}
 use Rattle.vms_core.specs.Pages.{pages, History, IsLegal, state_after}
 use Rattle.vms_core.specs.Peaks.{sets, threshold_in, cpu_in, peak, peak_sum}
 use Rattle.vms_core.specs.PeakLaws.{OwnsNow}
-use Rattle.vms_core.specs.Steps.{turn}
+use Rattle.vms_core.specs.Steps.{role}
 use Rattle.vms_core.specs.Taken.{has_taken}
 use Rattle.vms_core.specs.Totals.{spent}
 
 -- the CPU of a pass is one of the layout and online
 abbrev pub OwnsOnline : Facts → History → Type 0
-OwnsOnline facts h = (p : ℕ) (c : CpuId) → owner_in turn h p ≡ Some c →
+OwnsOnline facts h = (p : ℕ) (c : CpuId) → owner_in role h p ≡ Some c →
     IsCpu facts.layout c.number × (cpu_at (state_after facts h) c.number ≡ Online)
 
 -- the list of differentials that a step names has eight entries
@@ -61,7 +62,7 @@ GoesOnWithout facts later earlier p = making.GoesOnWithout pages facts later ear
 
 -- what a pass that owns this CPU knows from an earlier history: it owns the CPU still, and the CPU spent no more
 pub record OwnerKnows (later earlier : History) (p : ℕ) (c : CpuId) : Type 0 where
-  pub owner : owner_in turn later p ≡ Some c
+  pub owner : owner_in role later p ≡ Some c
   pub volumes : (k : ℕ) → spent later c.number k ≡ spent earlier c.number k
 
 -- what the control pass knows from an earlier history: thresholds, marks, the CPUs' states and the peaks are as they

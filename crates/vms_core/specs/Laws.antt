@@ -5,7 +5,10 @@ use Rattle.vms_core.specs.Cells.{HasShape}
 use Rattle.vms_core.specs.Drift.{BoundsDrift, BoundsSystemDrift, BoundsExcess}
 use Rattle.vms_core.specs.Knowledge.{NameEight, GroupsAreLists, OwnsOnline, KnowsFound}
 use Rattle.vms_core.specs.Pages.{History, state_after, KeepsTotals, KeepsSystemTotals, BoundsDifferentials}
-use Rattle.vms_core.specs.PeakLaws.{TellsThresholds, TellsNumbers, TellsCpus, KeepsThresholdsInRange, KeepsMarksInRange, BoundsByPeaks, BoundsThresholds, KeepsPeaksInRange, BoundsUsed, BoundsLoaded, BoundsLoadedByPeaks, LoadsSetNumbers, AcknowledgesSetNumbers, KeepsCovers, HidesNothingAbsent, BoundsHidden}
+use Rattle.vms_core.specs.PeakLaws.{TellsThresholds, TellsNumbers, TellsCpus, KeepsThresholdsInRange}
+use Rattle.vms_core.specs.PeakLaws.{KeepsMarksInRange, BoundsByPeaks, BoundsThresholds, KeepsPeaksInRange}
+use Rattle.vms_core.specs.PeakLaws.{BoundsUsed, BoundsLoaded, BoundsLoadedByPeaks, LoadsSetNumbers}
+use Rattle.vms_core.specs.PeakLaws.{AcknowledgesSetNumbers, KeepsCovers, HidesNothingAbsent, BoundsHidden}
 use Rattle.vms_core.specs.Spending.{SumsSpending, SumsChanges}
 use Rattle.vms_core.specs.Taken.{KeepsEmptied, KeepsOfflineTaken, MovesDeadOnce}
 
@@ -35,7 +38,7 @@ pub record KeepsLaws (facts : Facts) (h : History) : Type 0 where
   pub loaded : BoundsLoaded facts h
   -- what the owner of a CPU loaded last is at most the peak
   pub loaded_by_peaks : BoundsLoadedByPeaks facts h
-  -- a threshold was loaded with a number of sets, and with the newest the one that stands
+  -- a load told a threshold with a number of its sets, and with the newest number the threshold that stands
   pub loaded_numbers : LoadsSetNumbers facts h
   -- a number that was acknowledged is a number of sets
   pub acknowledged_numbers : AcknowledgesSetNumbers facts h

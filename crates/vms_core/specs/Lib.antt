@@ -14,7 +14,7 @@ pub mod Quiet
 pub mod NumberChanges
 pub mod PeakLaws
 pub mod MarkNumbers
-pub mod Settling
+pub mod LoweredThreshold
 pub mod Taken
 pub mod Drift
 pub mod Bounded

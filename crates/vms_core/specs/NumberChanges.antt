@@ -5,11 +5,13 @@ use Rattle.vms_history.specs.declared.events.Event.{Event}
 use Rattle.vms_history.specs.Passes.{owner_in}
 use Rattle.vms_core.specs.declared.steps.Facts.{Facts}
 use Rattle.vms_core.specs.declared.steps.Step.{Step}
-use Rattle.vms_core.specs.Cells.{value_at, system_at, diff_at, threshold_at, threshold_sets_at, mark_at, mark_sets_at, cpu_at, acknowledged_at}
-use Rattle.vms_core.specs.Effects.{value_after, system_after, diff_after, mark_after, mark_sets_after, acknowledged_after}
+use Rattle.vms_core.specs.Cells.{value_at, system_at, diff_at, threshold_at, threshold_sets_at}
+use Rattle.vms_core.specs.Cells.{mark_at, mark_sets_at, cpu_at, acknowledged_at}
+use Rattle.vms_core.specs.Effects.{value_after, system_after, diff_after}
+use Rattle.vms_core.specs.Effects.{mark_after, mark_sets_after, acknowledged_after}
 use Rattle.vms_core.specs.Pages.{History, state_after}
 use Rattle.vms_core.specs.Peaks.{sets_after, threshold_after, cpu_after}
-use Rattle.vms_core.specs.Steps.{turn}
+use Rattle.vms_core.specs.Steps.{role}
 
 -- each number after the event is what the step makes of it
 pub record ChangesNumbers (facts : Facts) (e : Event Step) (h : History) : Type 0 where
@@ -18,7 +20,7 @@ pub record ChangesNumbers (facts : Facts) (e : Event Step) (h : History) : Type 
   pub systems : (i : ℕ) →
       system_at (state_after facts (e ∷ h)) i ≡ system_after i e.step (system_at (state_after facts h) i)
   pub diffs : (c k : ℕ) → IsCounter facts.layout k → diff_at (state_after facts (e ∷ h)) c k
-      ≡ diff_after (owner_in turn h e.caller) c k e.step (diff_at (state_after facts h) c k)
+      ≡ diff_after (owner_in role h e.caller) c k e.step (diff_at (state_after facts h) c k)
   pub thresholds : (c g : ℕ) → IsPlace facts.layout g → threshold_at (state_after facts (e ∷ h)) c g
       ≡ threshold_after c g e.step (threshold_at (state_after facts h) c g)
   pub threshold_sets : (c g : ℕ) → IsPlace facts.layout g → threshold_sets_at (state_after facts (e ∷ h)) c g
@@ -30,4 +32,4 @@ pub record ChangesNumbers (facts : Facts) (e : Event Step) (h : History) : Type 
   pub cpus : (c : ℕ) →
       cpu_at (state_after facts (e ∷ h)) c ≡ cpu_after c e.step (cpu_at (state_after facts h) c)
   pub acknowledged : (c g : ℕ) → IsZone facts.layout g → acknowledged_at (state_after facts (e ∷ h)) c g
-      ≡ acknowledged_after (owner_in turn h e.caller) c g e.step (acknowledged_at (state_after facts h) c g)
+      ≡ acknowledged_after (owner_in role h e.caller) c g e.step (acknowledged_at (state_after facts h) c g)

@@ -1,5 +1,6 @@
 -- What a caller knows and carries, by its own events alone, the newest first.
-use Rattle.std.specs.Prelude.{◌≡◌, ℕ, ◌+◌, ◌%◌, nat_eq, ◌&&◌, Bool, true, false, ℤ, pos, neg_ℤ, List, [], ◌∷◌, slice_index_or, slice_set, if◌then◌else◌, Option, Some, None}
+use Rattle.std.specs.Prelude.{◌≡◌, ℕ, ◌+◌, ◌%◌, nat_eq, ◌&&◌, Bool, true, false, ℤ, pos}
+use Rattle.std.specs.Prelude.{neg_ℤ, List, [], ◌∷◌, slice_index_or, slice_set, if◌then◌else◌, Option, Some, None}
 use Rattle.vms_base.specs.declared.groups.Diffs.{Diffs}
 use Rattle.vms_base.specs.declared.ids.CpuId.{CpuId}
 use Rattle.vms_base.specs.Places.{Shape, place_of, group_of, first_of, item_of}

@@ -16,7 +16,7 @@ use Rattle.vms_core.specs.Bases.{IsBase}
 use Rattle.vms_core.specs.Cells.{value_at, system_at, diff_at}
 use Rattle.vms_core.specs.Conditions.{Meets}
 use Rattle.vms_core.specs.Own.{CarriesNothing, carried, carried_of_item}
-use Rattle.vms_core.specs.Steps.{turn, effect}
+use Rattle.vms_core.specs.Steps.{role, effect}
 use Rattle.vms_core.specs.Totals.{true_total, true_total_of_item, differentials, differentials_of_item, last_threshold}
 
 -- a pass may own a CPU that is online, and a control pass may always begin
@@ -26,7 +26,7 @@ MayOwn facts who = MayOwnCpu facts.layout facts.base.cpu who
 -- the page counters' table
 abbrev pub pages : Machine Facts Step State
 pages = record {
-  turn = turn;
+  role = role;
   base = λ facts. facts.base;
   effect = effect;
   CanBegin = IsBase;
@@ -51,7 +51,7 @@ state_after facts h = legal.state_after pages facts h
 
 -- what all callers carry for counter k together
 abbrev pub carried_by_all : History → ℕ → ℤ
-carried_by_all h k = sum_below (λ p. carried k (own h p)) (suc (begun_in turn h))
+carried_by_all h k = sum_below (λ p. carried k (own h p)) (suc (begun_in role h))
 
 -- nothing is lost and nothing is counted twice: the global value of a counter, its differentials and what is carried
 -- for it add up to its true total
@@ -62,7 +62,7 @@ KeepsTotals facts h = (k : ℕ) → IsCounter facts.layout k →
 
 -- what all callers carry for item i together
 abbrev pub carried_of_item_by_all : Shape → History → ℕ → ℤ
-carried_of_item_by_all shape h i = sum_below (λ p. carried_of_item shape i (own h p)) (suc (begun_in turn h))
+carried_of_item_by_all shape h i = sum_below (λ p. carried_of_item shape i (own h p)) (suc (begun_in role h))
 
 -- the same of an item: its system-wide value, the differentials of all its counters and what is carried for it
 abbrev pub KeepsSystemTotals : Facts → History → Type 0

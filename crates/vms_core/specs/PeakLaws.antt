@@ -15,7 +15,7 @@ use Rattle.vms_core.specs.Own.{loaded}
 use Rattle.vms_core.specs.Pages.{History, state_after}
 use Rattle.vms_core.specs.Peaks.{sets, threshold_in, peak, cpu_in, peak_sum}
 use Rattle.vms_history.specs.Sums.{count_below}
-use Rattle.vms_core.specs.Steps.{turn}
+use Rattle.vms_core.specs.Steps.{role}
 use Rattle.vms_core.specs.Totals.{last_threshold}
 
 -- the threshold of a CPU in a place by the history is the one that stands in the state
@@ -66,8 +66,8 @@ KeepsPeaksInRange facts h = (c g : ℕ) → IsCpu facts.layout c → IsPlace fac
 
 -- the pass lives and owns this CPU
 pub record OwnsNow (h : History) (p : ℕ) (c : CpuId) : Type 0 where
-  pub lives : lives_in turn h p ≡ true
-  pub owner : owner_in turn h p ≡ Some c
+  pub lives : lives_in role h p ≡ true
+  pub owner : owner_in role h p ≡ Some c
 
 -- what CPU c acknowledged last of zone g is the threshold that was set last
 abbrev pub IsAcknowledged : Facts → History → ℕ → ℕ → Type 0
@@ -90,12 +90,12 @@ abbrev pub BoundsLoadedByPeaks : Facts → History → Type 0
 BoundsLoadedByPeaks facts h = (p : ℕ) (c : CpuId) (g : ℕ) (told : Threshold) → OwnsNow h p c →
     IsPlace facts.layout g → loaded g (own h p) ≡ Some told → told.t ≤ peak facts c.number g h
 
--- a threshold that was loaded was told with a number of sets, and with the newest the one that stands was told
+-- a load told a threshold with a number of its sets, and with the newest number the threshold that stands
 pub record IsSetNumber (facts : Facts) (h : History) (c g : ℕ) (told : Threshold) : Type 0 where
   pub within : told.number ≤ sets c g h
   pub newest : told.number ≡ sets c g h → told.t ≡ threshold_at (state_after facts h) c g
 
--- so it is with what every owner of a CPU last loaded of a place
+-- this holds of what every owner of a CPU last loaded of a place
 abbrev pub LoadsSetNumbers : Facts → History → Type 0
 LoadsSetNumbers facts h = (p : ℕ) (c : CpuId) (g : ℕ) (told : Threshold) → OwnsNow h p c → IsPlace facts.layout g →
     loaded g (own h p) ≡ Some told → IsSetNumber facts h c.number g told

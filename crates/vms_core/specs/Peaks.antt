@@ -1,5 +1,6 @@
 -- The largest thresholds that a CPU may still be using, and what all CPUs may hide of a zone's pages.
-use Rattle.std.specs.Prelude.{ℕ, suc, max, nat_eq, ◌&&◌, Bool, false, List, [], ◌∷◌, if◌then◌else◌, Option, Some, None, unsigned_abs}
+use Rattle.std.specs.Prelude.{ℕ, suc, max, nat_eq, ◌&&◌, Bool, false, List}
+use Rattle.std.specs.Prelude.{[], ◌∷◌, if◌then◌else◌, Option, Some, None, unsigned_abs}
 use Rattle.vms_base.specs.declared.kinds.CpuState.{CpuState}
 use Rattle.vms_base.specs.declared.kinds.CpuState.TheVariants.{Absent}
 use Rattle.vms_base.specs.Places.{Shape, counter_at}

@@ -2,16 +2,16 @@
 use Rattle.std.specs.Prelude.{◌≡◌, ◌≢◌, Option, Some, None, refl, ℕ}
 use Rattle.vms_base.specs.declared.ids.CpuId.{CpuId}
 use Rattle.vms_history.specs.Legal.{IsQuiet}
-use Rattle.vms_history.specs.Passes.Turn.{Works}
+use Rattle.vms_history.specs.Passes.Role.{Works}
 use Rattle.vms_core.specs.declared.states.State.{State}
 use Rattle.vms_core.specs.declared.steps.Facts.{Facts}
 use Rattle.vms_core.specs.declared.steps.Step.{Step}
 use Rattle.vms_core.specs.declared.steps.Step.TheVariants.{Split, Join}
 use Rattle.vms_core.specs.Conditions.{Meets}
 use Rattle.vms_core.specs.Pages.{pages, History}
-use Rattle.vms_core.specs.Steps.{turn, effect}
+use Rattle.vms_core.specs.Steps.{role, effect}
 
-quiet-leaves : (facts : Facts) (who : Option CpuId) (step : Step) (s : State) → turn step ≢ Works
+quiet-leaves : (facts : Facts) (who : Option CpuId) (step : Step) (s : State) → role step ≢ Works
     → effect facts who step s ≡ s
 quiet-leaves facts None (Split q c) s differs = refl
 quiet-leaves facts (Some o) (Split q c) s differs = refl
@@ -19,7 +19,7 @@ quiet-leaves facts None (Join q) s differs = refl
 quiet-leaves facts (Some o) (Join q) s differs = refl
 quiet-leaves facts who _ s differs = absurd (differs refl)
 
-quiet-asks_nothing : (facts : Facts) (h : History) (s : State) (p : ℕ) (step : Step) → turn step ≢ Works
+quiet-asks_nothing : (facts : Facts) (h : History) (s : State) (p : ℕ) (step : Step) → role step ≢ Works
     → Meets facts h s p step
 quiet-asks_nothing facts h s p (Split q c) differs = tt
 quiet-asks_nothing facts h s p (Join q) differs = tt

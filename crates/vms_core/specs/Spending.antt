@@ -6,7 +6,7 @@ use Rattle.vms_history.specs.Passes.{owner_in, begun_in}
 use Rattle.vms_history.specs.Sums.{sum_below}
 use Rattle.vms_core.specs.declared.steps.Facts.{Facts}
 use Rattle.vms_core.specs.Pages.{History}
-use Rattle.vms_core.specs.Steps.{turn}
+use Rattle.vms_core.specs.Steps.{role}
 use Rattle.vms_core.specs.Totals.{change_size, spent}
 
 -- whether a pass that owns `who` owns CPU c
@@ -17,8 +17,8 @@ is_owner None c = false
 -- what a CPU spent on a counter is what the own events of its owners changed the counter by
 abbrev pub SumsSpending : History → Type 0
 SumsSpending h = (c k : ℕ) → pos (spent h c k)
-    ≡ sum_below (λ p. if is_owner (owner_in turn h p) c then total (change_size k) (own h p) else pos 0)
-    (suc (begun_in turn h))
+    ≡ sum_below (λ p. if is_owner (owner_in role h p) c then total (change_size k) (own h p) else pos 0)
+    (suc (begun_in role h))
 
 -- what all CPUs spent on a counter is what all steps changed it by
 abbrev pub SumsChanges : Facts → History → Type 0

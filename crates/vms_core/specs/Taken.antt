@@ -1,5 +1,6 @@
 -- Groups that were emptied, and what is taken of a CPU.
-use Rattle.std.specs.Prelude.{◌≡◌, ◌≢◌, ℕ, suc, ◌≤◌, nat_eq, nat_lt, ◌&&◌, Bool, true, false, ℤ, pos, ◌+ℤ◌, [], ◌∷◌, if◌then◌else◌, Option, Some, unsigned_abs}
+use Rattle.std.specs.Prelude.{◌≡◌, ◌≢◌, ℕ, suc, ◌≤◌, nat_eq, nat_lt, ◌&&◌, Bool, true}
+use Rattle.std.specs.Prelude.{false, ℤ, pos, ◌+ℤ◌, [], ◌∷◌, if◌then◌else◌, Option, Some, unsigned_abs}
 use Rattle.vms_base.specs.declared.ids.CpuId.{CpuId}
 use Rattle.vms_base.specs.declared.kinds.CpuState.TheVariants.{Online, Dead, Absent}
 use Rattle.vms_base.specs.Places.{IsCpu, IsCounter, IsGroup, group_of}
@@ -10,7 +11,7 @@ use Rattle.vms_core.specs.declared.steps.Step.{Step}
 use Rattle.vms_core.specs.declared.steps.Step.TheVariants.{Put, Miss, Take}
 use Rattle.vms_core.specs.Cells.{TellsGroup, diff_at, cpu_at, entry, eight_zeros}
 use Rattle.vms_core.specs.Pages.{History, state_after}
-use Rattle.vms_core.specs.Steps.{turn}
+use Rattle.vms_core.specs.Steps.{role}
 
 -- whether group j of CPU c was taken or missed, and its owner put nothing into it since
 abbrev pub emptied_after : Option CpuId → ℕ → ℕ → Step → Bool → Bool
@@ -22,7 +23,7 @@ emptied_after who c j _ before = before
 
 abbrev pub is_emptied : History → ℕ → ℕ → Bool
 is_emptied [] c j = false
-is_emptied (e ∷ h) c j = emptied_after (owner_in turn h e.caller) c j e.step (is_emptied h c j)
+is_emptied (e ∷ h) c j = emptied_after (owner_in role h e.caller) c j e.step (is_emptied h c j)
 
 -- after a take or a miss the eight differentials are 0 until the owner's next put into the group
 abbrev pub KeepsEmptied : Facts → History → Type 0

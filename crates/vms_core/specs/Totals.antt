@@ -1,5 +1,6 @@
 -- What a whole history changed, and the thresholds that it used last.
-use Rattle.std.specs.Prelude.{ℕ, ◌+◌, nat_eq, ◌&&◌, ℤ, pos, ◌+ℤ◌, List, [], ◌∷◌, if◌then◌else◌, Option, Some, unsigned_abs}
+use Rattle.std.specs.Prelude.{ℕ, ◌+◌, nat_eq, ◌&&◌, ℤ, pos, ◌+ℤ◌}
+use Rattle.std.specs.Prelude.{List, [], ◌∷◌, if◌then◌else◌, Option, Some, unsigned_abs}
 use Rattle.vms_base.specs.declared.ids.CpuId.{CpuId}
 use Rattle.vms_base.specs.Places.{Shape, group_of, item_of, counter_count}
 use Rattle.vms_history.specs.declared.events.Event.{Event}
@@ -11,7 +12,7 @@ use Rattle.vms_core.specs.declared.steps.Facts.{Facts}
 use Rattle.vms_core.specs.declared.steps.Step.{Step}
 use Rattle.vms_core.specs.declared.steps.Step.TheVariants.{Put, Take}
 use Rattle.vms_core.specs.Cells.{value_at, system_at, diff_at}
-use Rattle.vms_core.specs.Steps.{turn}
+use Rattle.vms_core.specs.Steps.{role}
 
 -- what a step changes counter k by: the delta of a put
 abbrev pub change_of : ℕ → Step → ℤ
@@ -55,7 +56,7 @@ spent_by _ c k _ = 0
 -- the absolute sum of the changes that CPU c made to counter k
 abbrev pub spent : List (Event Step) → ℕ → ℕ → ℕ
 spent [] c k = 0
-spent (e ∷ h) c k = spent_by (owner_in turn h e.caller) c k e.step + spent h c k
+spent (e ∷ h) c k = spent_by (owner_in role h e.caller) c k e.step + spent h c k
 
 -- the size of what a step changes counter k by
 abbrev pub change_size : ℕ → Step → ℤ
@@ -74,4 +75,4 @@ last_after who c k _ before = before
 abbrev pub last_threshold : Facts → List (Event Step) → ℕ → ℕ → ℕ
 last_threshold facts [] c k = unsigned_abs (diff_at facts.base c k)
 last_threshold facts (e ∷ h) c k =
-    last_after (owner_in turn h e.caller) c k e.step (last_threshold facts h c k)
+    last_after (owner_in role h e.caller) c k e.step (last_threshold facts h c k)

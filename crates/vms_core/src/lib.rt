@@ -9,8 +9,6 @@ mod readers;
 mod states;
 mod steps;
 mod tables;
-#[cfg(test)]
-mod tests;
 
 pub use differentials::overstep;
 pub use laws::{

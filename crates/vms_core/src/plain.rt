@@ -6,7 +6,8 @@ mod loads;
 mod moves;
 mod sets;
 
-/// The page counters as plain data of one thread, which each call steps on once.
+/// The page counters as plain data of one thread. A call makes one step on them, and `change` the steps of a whole
+/// change.
 #[derive(Debug, Drop)]
 pub struct Plain {
     state: State,

@@ -1,7 +1,7 @@
 use crate::State;
 use vms_base::{CounterId, CpuId, CpuState, Diffs, GroupId, ItemId, Layout, Mode, PlaceId, Sizes};
 
-/// What the table of page counters is told once.
+/// What is known of the page counters from the start.
 #[derive(Debug, Drop)]
 pub struct Facts {
     pub layout: Layout,

@@ -7,7 +7,7 @@ use Rattle.vms_event_core.specs.Events.{events, History, IsLegal}
 use Rattle.vms_event_core.specs.Laws.{KeepsLaws}
 use Rattle.vms_event_core.proofs.Bounds.{words-bounded}
 use Rattle.vms_event_core.proofs.Carrying.{carries_as_control}
-use Rattle.vms_event_core.proofs.DeadCpus.{moves-once}
+use Rattle.vms_event_core.proofs.DeadCpus.{dead_words-move_once}
 use Rattle.vms_event_core.proofs.OfflineCpus.{absent-zero}
 use Rattle.vms_event_core.proofs.Spending.{spent-affordable, counted-spent}
 use Rattle.vms_event_core.proofs.StateWords.{HasShape-state_after, word_at-state_after}
@@ -21,7 +21,7 @@ laws-kept facts h legal = record {
   spendings = λ k. counted-spent facts h k legal;
   volumes = λ c k. spent-affordable facts h c k legal;
   bounds = words-bounded facts h legal;
-  dead = λ c k. moves-once facts h c k legal;
+  dead = λ c k. dead_words-move_once facts h c k legal;
   absent = λ c k c_in absent k_in.
       word_at-state_after facts h c k legal k_in ∙ absent-zero facts h c k legal c_in absent k_in;
   carriers = λ p k. carries_as_control facts h p k legal;

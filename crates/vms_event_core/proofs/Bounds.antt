@@ -14,7 +14,7 @@ use Rattle.vms_base.specs.Volumes.{most_volume}
 use Rattle.vms_event_core.specs.Events.{events, History, IsLegal, state_after, true_total}
 use Rattle.vms_event_core.specs.Laws.{most_in_sum, BoundsWords}
 use Rattle.vms_event_core.specs.Own.{carried}
-use Rattle.vms_event_core.specs.Steps.{turn}
+use Rattle.vms_event_core.specs.Steps.{role}
 use Rattle.vms_event_core.specs.Totals.{spent}
 use Rattle.vms_event_core.specs.Words.{IsEvent, word_at, words_of}
 use Rattle.vms_event_core.proofs.Carrying.{carried-not_negative}
@@ -33,7 +33,7 @@ module _ (facts : EventFacts) (h : History) (legal : IsLegal facts h) where
       omega (arith, ints) in
       omega (arith, ints, base.sums k k_in, counted-spent facts h k legal, spending, split)
 
-  each_carried : (k i : ℕ) → i < suc (begun_in turn h) → pos 0 ≤ℤ carried k (own h i)
+  each_carried : (k i : ℕ) → i < suc (begun_in role h) → pos 0 ≤ℤ carried k (own h i)
   each_carried k i below = carried-not_negative facts h i k legal
 
   each_word : (k i : ℕ) → i < facts.layout.cpus → pos 0 ≤ℤ pos (word_at (state_after facts h) i k)
@@ -42,7 +42,7 @@ module _ (facts : EventFacts) (h : History) (legal : IsLegal facts h) where
   pub words_of-most : (k : ℕ) → IsEvent k
       → words_of facts.layout (state_after facts h) k ≤ℤ pos (most_in_sum facts.layout)
   words_of-most k k_in =
-      let others = sum_below-not_negative (λ i. carried k (own h i)) (suc (begun_in turn h)) (each_carried k) in
+      let others = sum_below-not_negative (λ i. carried k (own h i)) (suc (begun_in role h)) (each_carried k) in
       omega (arith, ints, others, totals-kept facts h legal k k_in, true_total-most k k_in)
 
   word-most : (c k : ℕ) → IsCpu facts.layout c → IsEvent k
@@ -54,9 +54,9 @@ module _ (facts : EventFacts) (h : History) (legal : IsLegal facts h) where
       omega (arith, ints, word)
 
   carried-most : (p k : ℕ) → IsEvent k → carried k (own h p) ≤ℤ pos (most_in_sum facts.layout)
-  carried-most p k k_in = elim (cases_lt p (suc (begun_in turn h))) [
+  carried-most p k k_in = elim (cases_lt p (suc (begun_in role h))) [
     | inl given ↦
-        let part = sum_below-each (λ i. carried k (own h i)) p (suc (begun_in turn h)) given (each_carried k) in
+        let part = sum_below-each (λ i. carried k (own h i)) p (suc (begun_in role h)) given (each_carried k) in
         let others = sum_below-not_negative (λ i. pos (word_at (state_after facts h) i k)) facts.layout.cpus
         (each_word k) in
         omega (arith, ints, part, others, totals-kept facts h legal k k_in, true_total-most k k_in)

@@ -1,11 +1,12 @@
 -- The steps of a call leave its caller carrying what it carried before.
-use Rattle.std.proofs.Common.{◌≡◌, ℕ, zero, suc, Bool, true, false, List, [], ◌∷◌, ℤ, pos, neg_ℤ, ◌+ℤ◌, refl, ◌∙◌, arith, if◌then◌else◌, nat_eq}
+use Rattle.std.proofs.Common.{◌≡◌, ℕ, zero, suc, Bool, true, false, List, [], ◌∷◌}
+use Rattle.std.proofs.Common.{ℤ, pos, neg_ℤ, ◌+ℤ◌, refl, ◌∙◌, arith, if◌then◌else◌, nat_eq}
 use Rattle.std.proofs.lemmas.Int.{ints}
 use Rattle.vms_base.specs.declared.ids.CpuId.{CpuId}
 use Rattle.vms_base.specs.declared.ids.EventId.{EventId}
 use Rattle.vms_event_core.specs.declared.steps.EventStep.{EventStep}
 use Rattle.vms_event_core.specs.Calls.{loads, folds, IsCount, IsAllEvents, IsFoldEvents}
-use Rattle.vms_event_core.specs.MadeCalls.{CarryAsBefore}
+use Rattle.vms_event_core.specs.CallLaws.{CarryAsBefore}
 use Rattle.vms_event_core.specs.Own.{carried}
 
 -- what a take that found 0 moves, and what a take and its addition move together, is nothing

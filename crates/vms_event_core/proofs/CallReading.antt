@@ -5,7 +5,8 @@ use Rattle.std.proofs.lemmas.List.Sums.{sum_by-cons}
 use Rattle.vms_base.specs.declared.ids.CpuId.{CpuId}
 use Rattle.vms_base.specs.declared.ids.EventId.{EventId}
 use Rattle.vms_event_core.specs.declared.steps.EventStep.{EventStep}
-use Rattle.vms_event_core.specs.Calls.{read_count, loads, read_all_events, folds, read_fold_events, IsCount, IsAllEvents, IsFoldEvents}
+use Rattle.vms_event_core.specs.Calls.{read_count, loads, read_all_events, folds}
+use Rattle.vms_event_core.specs.Calls.{read_fold_events, IsCount, IsAllEvents, IsFoldEvents}
 use Rattle.vms_event_core.specs.Words.{event_count}
 
 pub count-read : (k : EventId) (n : ℕ) (steps rest : List EventStep) → IsCount k n steps

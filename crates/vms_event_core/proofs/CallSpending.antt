@@ -1,5 +1,6 @@
 -- What a call spends of its CPU's volume: a count its number, another call nothing.
-use Rattle.std.proofs.Common.{◌≡◌, ℕ, zero, suc, Bool, true, false, List, [], ◌∷◌, ◌++◌, Option, Some, None, pos, ◌+ℤ◌, All, refl, sym, ap, ◌∙◌, subst, arith, if◌then◌else◌, nat_eq}
+use Rattle.std.proofs.Common.{◌≡◌, ℕ, zero, suc, Bool, true, false, List, [], ◌∷◌, ◌++◌, Option, Some}
+use Rattle.std.proofs.Common.{None, pos, ◌+ℤ◌, All, refl, sym, ap, ◌∙◌, subst, arith, if◌then◌else◌, nat_eq}
 use Rattle.std.proofs.lemmas.Int.{ints}
 use Rattle.std.proofs.lemmas.List.Elements.{All-nil, All-cons, All-head, All-tail}
 use Rattle.vms_base.specs.declared.ids.CpuId.{CpuId}
@@ -13,8 +14,8 @@ use Rattle.vms_event_core.specs.declared.steps.EventStep.{EventStep}
 use Rattle.vms_event_core.specs.declared.steps.EventStep.TheVariants.{LoadE, TakeE, AddF}
 use Rattle.vms_event_core.specs.Calls.{loads, folds, IsCount, IsAllEvents, IsFoldEvents}
 use Rattle.vms_event_core.specs.Events.{events, History, IsLegal}
-use Rattle.vms_event_core.specs.MadeCalls.{HasMade, SpendNothing, SpendsSince, KeepsSpending, counted_of}
-use Rattle.vms_event_core.specs.Steps.{turn}
+use Rattle.vms_event_core.specs.CallLaws.{HasMade, SpendNothing, SpendsSince, KeepsSpending, counted_of}
+use Rattle.vms_event_core.specs.Steps.{role}
 use Rattle.vms_event_core.specs.Totals.{counted, spent, spent_by}
 use Rattle.vms_history.proofs.MadeSteps.{made-given}
 use Rattle.vms_event_core.proofs.Spending.{spent_by-owner, GoesAlong, spent-goes_along}
@@ -22,7 +23,7 @@ use Rattle.vms_event_core.proofs.Spending.{spent_by-owner, GoesAlong, spent-goes
 module _ (facts : EventFacts) (later earlier : History) (p : ℕ) (steps : List EventStep)
     (made : HasMade facts later earlier p steps) where
   -- what the caller's CPU counted since is what the caller's steps count
-  pub spent-made : (c : CpuId) (k : ℕ) → owner_in turn earlier p ≡ Some c
+  pub spent-made : (c : CpuId) (k : ℕ) → owner_in role earlier p ≡ Some c
       → pos (spent later c.number k) +ℤ total (counted k) (own earlier p)
       ≡ pos (spent earlier c.number k) +ℤ total (counted k) (after p steps (own earlier p))
   spent-made c k owns =
@@ -30,11 +31,11 @@ module _ (facts : EventFacts) (later earlier : History) (p : ℕ) (steps : List 
       let along : GoesAlong facts earlier p c k owns later =
       subst (GoesAlong facts earlier p c k owns) (sym is)
       (spent-goes_along facts earlier p c k owns made.extends.0 (subst (IsLegal facts) is made.legal)
-      (subst (λ g. lives_in turn g p ≡ true) is made.lives) (made-given events facts later earlier p steps made).1) in
+      (subst (λ g. lives_in role g p ≡ true) is made.lives) (made-given events facts later earlier p steps made).1) in
       along ∙ ap (λ es. pos (spent earlier c.number k) +ℤ total (counted k) es) made.made
 
   -- the same, with what the steps count on their own
-  pub owner-spends : (c : CpuId) → owner_in turn earlier p ≡ Some c → (k : ℕ)
+  pub owner-spends : (c : CpuId) → owner_in role earlier p ≡ Some c → (k : ℕ)
       → pos (spent later c.number k) ≡ pos (spent earlier c.number k) +ℤ total (counted k) (after p steps [])
   owner-spends c owns k =
       let all = spent-made c k owns in

@@ -1,16 +1,18 @@
 -- Who carries something, and that no amount carried is negative.
-use Rattle.std.proofs.Common.{◌≡◌, ◌≢◌, ℕ, suc, cond, ne_eqb, ◌<◌, ◌≤◌, ◌==◌, Bool, true, false, true≢false, [], ◌∷◌, pos, neg_ℤ, ◌+ℤ◌, ◌≤ℤ◌, inl, inr, refl, sym, ap, ◌∙◌, subst, arith, if◌then◌else◌, nat_eq, eqb-true}
+use Rattle.std.proofs.Common.{◌≡◌, ◌≢◌, ℕ, suc, cond, ne_eqb, ◌<◌, ◌≤◌, ◌==◌, Bool}
+use Rattle.std.proofs.Common.{true, false, true≢false, [], ◌∷◌, pos, neg_ℤ, ◌+ℤ◌, ◌≤ℤ◌, inl}
+use Rattle.std.proofs.Common.{inr, refl, sym, ap, ◌∙◌, subst, arith, if◌then◌else◌, nat_eq, eqb-true}
 use Rattle.std.proofs.lemmas.Int.{ints}
 use Rattle.std.proofs.lemmas.Bool.{eqb-false}
 use Rattle.vms_history.specs.declared.events.Event.{Event}
 use Rattle.vms_history.specs.Events.{own}
 use Rattle.vms_history.specs.Legal.{Acts}
-use Rattle.vms_history.specs.Passes.{Turn, begun_in, lives_after, lives_in, owner_after, owner_in}
-use Rattle.vms_history.specs.Passes.Turn.{Works, Begins, Ends}
+use Rattle.vms_history.specs.Passes.{Role, begun_in, lives_after, lives_in, owner_after, owner_in}
+use Rattle.vms_history.specs.Passes.Role.{Works, Begins, Ends}
 use Rattle.vms_history.proofs.Choices.{zero_or_not}
 use Rattle.vms_history.proofs.Prefixes.{own-keeps}
 use Rattle.vms_history.proofs.SumLaws.{sum_below-zeros}
-use Rattle.vms_history.proofs.PassLaws.{live_is_given, lives_in-turn, owner_in-turn}
+use Rattle.vms_history.proofs.PassLaws.{live_is_given, lives_in-role, owner_in-role}
 use Rattle.vms_history.proofs.Own.{own-mine, own-others}
 use Rattle.vms_event_core.specs.declared.steps.EventFacts.{EventFacts}
 use Rattle.vms_event_core.specs.declared.steps.EventStep.{EventStep}
@@ -19,20 +21,20 @@ use Rattle.vms_event_core.specs.Conditions.{Meets}
 use Rattle.vms_event_core.specs.Events.{events, History, IsLegal, IsComplete, state_after, carried_by_all}
 use Rattle.vms_event_core.specs.Laws.{IsLiveControl}
 use Rattle.vms_event_core.specs.Own.{moved, carried}
-use Rattle.vms_event_core.specs.Steps.{turn}
+use Rattle.vms_event_core.specs.Steps.{role}
 use Rattle.vms_event_core.specs.Words.{IsEvent}
 use Rattle.vms_event_core.specs.declared.states.EventState.{EventState}
 
 -- a step that meets its condition leaves no negative amount
-carried-after : (facts : EventFacts) (h : History) (s : EventState) (p k : ℕ) (step : EventStep)
+carried-step : (facts : EventFacts) (h : History) (s : EventState) (p k : ℕ) (step : EventStep)
     → Meets facts h s p step
     → pos 0 ≤ℤ carried k (own h p) → pos 0 ≤ℤ (moved k step +ℤ carried k (own h p))
-carried-after facts h s p k (TakeE c l v) meets before = by (nat_eq l.number k)
+carried-step facts h s p k (TakeE c l v) meets before = by (nat_eq l.number k)
   where
     by : (b : Bool) → pos 0 ≤ℤ ((if b then pos v else pos 0) +ℤ carried k (own h p))
     by true = omega (arith, ints)
     by false = omega (arith, ints)
-carried-after facts h s p k (AddF c l v) meets before = by (nat_eq l.number k) refl
+carried-step facts h s p k (AddF c l v) meets before = by (nat_eq l.number k) refl
   where
     by : (b : Bool) → nat_eq l.number k ≡ b → pos 0 ≤ℤ ((if b then neg_ℤ (pos v) else pos 0) +ℤ carried k (own h p))
     by true same =
@@ -40,17 +42,17 @@ carried-after facts h s p k (AddF c l v) meets before = by (nat_eq l.number k) r
         ∙ meets.carries in
         omega (arith, ints, all)
     by false other = omega (arith, ints)
-carried-after facts h s p k _ meets before = omega (arith, ints)
+carried-step facts h s p k _ meets before = omega (arith, ints)
 
 pub carried-not_negative : (facts : EventFacts) (h : History) (p k : ℕ) → IsLegal facts h
     → pos 0 ≤ℤ carried k (own h p)
 carried-not_negative facts h p k legal =
     own-keeps events facts (λ es. pos 0 ≤ℤ carried k es) (omega (arith, ints))
-    (λ e g legal before. carried-after facts g (state_after facts g) e.caller k e.step legal.2 before) h legal p
+    (λ e g legal before. carried-step facts g (state_after facts g) e.caller k e.step legal.2 before) h legal p
 
 -- a pass that takes is a control pass that lives, and so is one that carries
 control_before : (facts : EventFacts) (h : History) (s : EventState) (p k : ℕ) (step : EventStep)
-    → Acts events facts h p (turn step)
+    → Acts events facts h p (role step)
     → Meets facts h s p step → ((l : ℕ) → IsEvent l → carried l (own h p) ≢ pos 0 → IsLiveControl h p)
     → IsEvent k → moved k step +ℤ carried k (own h p) ≢ pos 0 → IsLiveControl h p
 control_before facts h s p k (TakeE c l v) acts meets before k_in some =
@@ -64,20 +66,20 @@ module _ (facts : EventFacts) where
   stays_control : (e : Event EventStep) (h : History) (p k : ℕ) → IsLegal facts (e ∷ h) → IsEvent k
       → IsLiveControl h p → carried k (own (e ∷ h) p) ≢ pos 0 → IsLiveControl (e ∷ h) p
   stays_control e h p k legal k_in before some =
-      by (turn e.step) legal.1 (lives_in-turn events facts e h p legal.1) (owner_in-turn events facts e h p legal.1)
+      by (role e.step) legal.1 (lives_in-role events facts e h p legal.1) (owner_in-role events facts e h p legal.1)
     where
-      given : (0 < p) × (p ≤ begun_in turn h)
+      given : (0 < p) × (p ≤ begun_in role h)
       given = live_is_given events facts h p legal.0 before.lives
 
-      by : (t : Turn) → Acts events facts h e.caller t → lives_in turn (e ∷ h) p ≡ lives_after t p (lives_in turn h p)
-          → owner_in turn (e ∷ h) p ≡ owner_after t p (owner_in turn h p) → IsLiveControl (e ∷ h) p
+      by : (t : Role) → Acts events facts h e.caller t → lives_in role (e ∷ h) p ≡ lives_after t p (lives_in role h p)
+          → owner_in role (e ∷ h) p ≡ owner_after t p (owner_in role h p) → IsLiveControl (e ∷ h) p
       by Works may lives owner = record { lives = lives ∙ before.lives; control = owner ∙ before.control }
       by (Begins r who) may lives owner =
           let other : (r == p) ≡ false =
-          ne_eqb r p (let next : r ≡ suc (begun_in turn h) = may.1 in omega (arith, given.1)) in
+          ne_eqb r p (let next : r ≡ suc (begun_in role h) = may.1 in omega (arith, given.1)) in
           record {
-            lives = lives ∙ ap (λ b. cond b true (lives_in turn h p)) other ∙ before.lives;
-            control = owner ∙ ap (λ b. cond b who (owner_in turn h p)) other ∙ before.control;
+            lives = lives ∙ ap (λ b. cond b true (lives_in role h p)) other ∙ before.lives;
+            control = owner ∙ ap (λ b. cond b who (owner_in role h p)) other ∙ before.control;
           }
       by (Ends r) may lives owner = at (r == p) refl
         where
@@ -88,7 +90,7 @@ module _ (facts : EventFacts) where
               let main : e.caller ≡ 0 = may.0 in
               absurd (some (ap (carried k) (own-others e h p (omega (arith, given.0))) ∙ none))
           at false other = record {
-            lives = lives ∙ ap (λ b. cond b false (lives_in turn h p)) other ∙ before.lives;
+            lives = lives ∙ ap (λ b. cond b false (lives_in role h p)) other ∙ before.lives;
             control = owner ∙ before.control;
           }
 
@@ -103,7 +105,7 @@ module _ (facts : EventFacts) where
       by true mine before =
           let is : e.caller ≡ p = eqb-true e.caller p mine in
           control_before facts h (state_after facts h) p k e.step
-          (subst (λ q. Acts events facts h q (turn e.step)) is legal.1)
+          (subst (λ q. Acts events facts h q (role e.step)) is legal.1)
           (subst (λ q. Meets facts h (state_after facts h) q e.step) is legal.2)
           before k_in (λ none. some (ap (carried k) (own-mine e h p is) ∙ none))
       by false others before =
@@ -121,5 +123,5 @@ module _ (facts : EventFacts) where
   -- and the words are all that there is
   pub nothing_carried : (h : History) (k : ℕ) → IsComplete facts h → IsEvent k → carried_by_all h k ≡ pos 0
   nothing_carried h k complete k_in =
-      sum_below-zeros (λ p. carried k (own h p)) (suc (begun_in turn h))
+      sum_below-zeros (λ p. carried k (own h p)) (suc (begun_in role h))
       (λ p given. nothing_in_hand h p k complete k_in)

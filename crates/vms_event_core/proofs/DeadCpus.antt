@@ -1,5 +1,7 @@
 -- What stands in the words of a CPU that is dead in the base.
-use Rattle.std.proofs.Common.{◌≡◌, ◌≢◌, ℕ, zero, suc, ◌+◌, ◌&&◌, ◌⊎◌, inl, inr, Bool, true, false, [], ◌∷◌, Option, Some, None, ℤ, pos, ◌+ℤ◌, refl, sym, ap, subst, ◌∙◌, arith, if◌then◌else◌, nat_eq, eqb-true}
+use Rattle.std.proofs.Common.{◌≡◌, ◌≢◌, ℕ, zero, suc, ◌+◌, ◌&&◌, ◌⊎◌, inl, inr}
+use Rattle.std.proofs.Common.{Bool, true, false, [], ◌∷◌, Option, Some, None, ℤ, pos}
+use Rattle.std.proofs.Common.{◌+ℤ◌, refl, sym, ap, subst, ◌∙◌, arith, if◌then◌else◌, nat_eq, eqb-true}
 use Rattle.std.proofs.lemmas.Int.{ints}
 use Rattle.vms_base.specs.declared.ids.CpuId.{CpuId}
 use Rattle.vms_base.specs.declared.kinds.CpuState.TheVariants.{Online, Dead}
@@ -14,7 +16,7 @@ use Rattle.vms_event_core.specs.Bases.{cpu_at}
 use Rattle.vms_event_core.specs.Conditions.{Meets}
 use Rattle.vms_event_core.specs.Events.{History, IsLegal, state_after}
 use Rattle.vms_event_core.specs.Laws.{MovesOnce}
-use Rattle.vms_event_core.specs.Steps.{turn}
+use Rattle.vms_event_core.specs.Steps.{role}
 use Rattle.vms_event_core.specs.Totals.{taken_from, takes_by, takes, found_some, word_after, word_in}
 use Rattle.vms_event_core.specs.Words.{IsEvent, word_at}
 use Rattle.vms_event_core.proofs.StateWords.{word_at-state_after}
@@ -49,7 +51,7 @@ module _ (facts : EventFacts) (h : History) (s : EventState) (p c k word : ℕ) 
   untouched d l n online =
       rw (added-elsewhere facts c (λ is_online. absurd cc) d (nat_eq l k) word n online) stays
 
-  TakenOnce-step : (who : Option CpuId) (step : EventStep) → owner_in turn h p ≡ who
+  TakenOnce-step : (who : Option CpuId) (step : EventStep) → owner_in role h p ≡ who
       → ((o : CpuId) → who ≡ Some o → cpu_at facts o.number ≡ Online) → Meets facts h s p step
       → Makes (word_after who c k step word) (taken_from c k step) (takes_by c k step)
   TakenOnce-step (Some o) (AddE l n) is known meets = untouched o.number l.number n (known o refl)
@@ -72,11 +74,12 @@ TakenOnce-history facts (e ∷ h) c k legal dead k_in =
     TakenOnce-step facts h (state_after facts h) e.caller c k (word_in facts h c k) dead
     (word_at-state_after facts h c k legal.0 k_in) (pos (word_at facts.base c k)) (total (taken_from c k) h)
     (takes c k h)
-    (TakenOnce-history facts h c k legal.0 dead k_in) (owner_in turn h e.caller) e.step refl
+    (TakenOnce-history facts h c k legal.0 dead k_in) (owner_in role h e.caller) e.step refl
     (owner-online facts h e.caller legal.0) legal.2
 
-pub moves-once : (facts : EventFacts) (h : History) (c k : ℕ) → IsLegal facts h → cpu_at facts c ≡ Dead → IsEvent k
+pub dead_words-move_once : (facts : EventFacts) (h : History) (c k : ℕ) → IsLegal facts h → cpu_at facts c ≡ Dead
+    → IsEvent k
     → MovesOnce facts h c k
-moves-once facts h c k legal dead k_in =
+dead_words-move_once facts h c k legal dead k_in =
     let moves = TakenOnce-history facts h c k legal dead k_in in
     record { kept = rw (word_at-state_after facts h c k legal k_in) moves.total; once = moves.once }

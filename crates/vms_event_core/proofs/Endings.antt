@@ -21,8 +21,8 @@ module _ (facts : EventFacts) (h : History) (complete : IsComplete facts h) wher
   base : IsBase facts
   base = base_can_begin events facts h complete.legal
 
-  pub begins-again : LeavesRoom facts h → BeginsAgain facts h
-  begins-again room = record {
+  pub BeginsAgain-holds : LeavesRoom facts h → BeginsAgain facts h
+  BeginsAgain-holds room = record {
     base = record {
       layout = base.layout;
       one_state_each = base.one_state_each;
@@ -58,7 +58,7 @@ module _ (facts : EventFacts) (h : History) (complete : IsComplete facts h) wher
     pub begins-paid : StaysWithinVolumes facts earlier h
         → BeginsAgain facts h × IsPaid (ending facts h) start (spent_by_now earlier h)
     begins-paid within = (
-      begins-again (volumes-leave_room within),
+      BeginsAgain-holds (volumes-leave_room within),
       record {
         small = paid.small;
         words = λ k k_in.

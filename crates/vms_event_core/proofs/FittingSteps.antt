@@ -1,5 +1,7 @@
 -- The steps of each call may be made while others act.
-use Rattle.std.proofs.Common.{◌≡◌, ◌≢◌, ℕ, zero, suc, ◌+◌, ◌<◌, ◌≤◌, Bool, true, false, List, [], ◌∷◌, ◌++◌, length, Some, None, All, inl, inr, pos, refl, sym, ap, ◌∙◌, subst, arith, if◌then◌else◌, nat_eq, eq-eqb}
+use Rattle.std.proofs.Common.{◌≡◌, ◌≢◌, ℕ, zero, suc, ◌+◌, ◌<◌, ◌≤◌, Bool, true, false}
+use Rattle.std.proofs.Common.{List, [], ◌∷◌, ◌++◌, length, Some, None, All, inl, inr, pos}
+use Rattle.std.proofs.Common.{refl, sym, ap, ◌∙◌, subst, arith, if◌then◌else◌, nat_eq, eq-eqb}
 use Rattle.std.proofs.lemmas.Int.{ints}
 use Rattle.std.proofs.lemmas.Bool.{cases_lt}
 use Rattle.std.proofs.lemmas.List.{get_or_past}
@@ -20,9 +22,9 @@ use Rattle.vms_event_core.specs.declared.steps.EventStep.TheVariants.{AddE, Load
 use Rattle.vms_event_core.specs.Bases.{cpu_at, IsBase, IsLowestOnline}
 use Rattle.vms_event_core.specs.Calls.{loads, folds, online_cpus}
 use Rattle.vms_event_core.specs.Events.{events, History, IsLegal}
-use Rattle.vms_event_core.specs.MadeCalls.{HasMade, Tells, MayMake, MakesCount, MakesAllEvents, MakesFoldEvents}
+use Rattle.vms_event_core.specs.CallLaws.{HasMade, Tells, MayMake, MakesCount, MakesAllEvents, MakesFoldEvents}
 use Rattle.vms_event_core.specs.Own.{carried, CarriesNothing}
-use Rattle.vms_event_core.specs.Steps.{turn}
+use Rattle.vms_event_core.specs.Steps.{role}
 use Rattle.vms_event_core.specs.Totals.{counted, spent}
 use Rattle.vms_event_core.specs.Words.{IsEvent, event_count}
 use Rattle.vms_event_core.proofs.CallCarrying.{empty_take-moves, take_and_add-move}
@@ -33,14 +35,14 @@ module _ (facts : EventFacts) (p : ℕ) (earlier : History) where
   -- a pass that has counted nothing since may count
   record MayCount (g : History) (k : EventId) (n : ℕ) : Type 0 where
     cpu : CpuId
-    owns : owner_in turn earlier p ≡ Some cpu
+    owns : owner_in role earlier p ≡ Some cpu
     event : IsEvent k.number
     affordable : spent earlier cpu.number k.number + n ≤ most_volume
     none_since : total (counted k.number) g ≡ total (counted k.number) (own earlier p)
 
   -- the control pass may take a word
   record MayTake (c : CpuId) (k : EventId) : Type 0 where
-    control : owner_in turn earlier p ≡ None
+    control : owner_in role earlier p ≡ None
     dead : cpu_at facts c.number ≡ Dead
     cpu : IsCpu facts.layout c.number
     event : IsEvent k.number
@@ -75,7 +77,7 @@ module _ (facts : EventFacts) (p : ℕ) (earlier : History) where
     given : p ≢ 0
     given main = let first = (made-given events facts later earlier p done made).0 in omega arith
 
-    owner : owner_in turn later p ≡ owner_in turn earlier p
+    owner : owner_in role later p ≡ owner_in role earlier p
     owner = made-owner events facts later earlier p done made
 
     fits-may : (step : EventStep) → Fits (own later p) step → Tells facts later p step
@@ -138,7 +140,7 @@ module _ (facts : EventFacts) (p : ℕ) (earlier : History) where
     loads-run k cpus found _ k_in (All-tail (λ d. IsCpu facts.layout d.number) c cpus known),
   )
 
-  module _ (from into : CpuId) (control : owner_in turn earlier p ≡ None) (from_in : IsCpu facts.layout from.number)
+  module _ (from into : CpuId) (control : owner_in role earlier p ≡ None) (from_in : IsCpu facts.layout from.number)
       (dead : cpu_at facts from.number ≡ Dead) (into_in : IsCpu facts.layout into.number)
       (lowest : IsLowestOnline facts into.number) where
     may_take : (k : ℕ) → IsEvent k → MayTake from (record { number = k })

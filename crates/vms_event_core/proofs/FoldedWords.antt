@@ -1,5 +1,7 @@
 -- The words of a CPU that was folded are 0.
-use Rattle.std.proofs.Common.{◌≡◌, ℕ, zero, suc, ◌+◌, ◌<◌, ◌≤◌, ◌&&◌, Bool, true, false, true≢false, List, [], ◌∷◌, ◌++◌, length, Option, Some, None, inl, inr, refl, sym, ap, ◌∙◌, arith, if◌then◌else◌, nat_eq, eq-eqb, eqb-true}
+use Rattle.std.proofs.Common.{◌≡◌, ℕ, zero, suc, ◌+◌, ◌<◌, ◌≤◌, ◌&&◌, Bool, true, false}
+use Rattle.std.proofs.Common.{true≢false, List, [], ◌∷◌, ◌++◌, length, Option, Some, None, inl, inr}
+use Rattle.std.proofs.Common.{refl, sym, ap, ◌∙◌, arith, if◌then◌else◌, nat_eq, eq-eqb, eqb-true}
 use Rattle.std.proofs.lemmas.Bool.{and_parts, cases_lt}
 use Rattle.vms_base.specs.declared.ids.CpuId.{CpuId}
 use Rattle.vms_base.specs.declared.kinds.CpuState.TheVariants.{Dead}
@@ -14,8 +16,8 @@ use Rattle.vms_event_core.specs.Bases.{cpu_at}
 use Rattle.vms_event_core.specs.Calls.{folds}
 use Rattle.vms_event_core.specs.Conditions.{Meets}
 use Rattle.vms_event_core.specs.Events.{History, IsLegal, state_after}
-use Rattle.vms_event_core.specs.MadeCalls.{LeavesZeros}
-use Rattle.vms_event_core.specs.Steps.{turn}
+use Rattle.vms_event_core.specs.CallLaws.{LeavesZeros}
+use Rattle.vms_event_core.specs.Steps.{role}
 use Rattle.vms_event_core.specs.Totals.{word_after, word_in}
 use Rattle.vms_event_core.proofs.OfflineCpus.{zero-stays}
 use Rattle.vms_event_core.proofs.StateWords.{word_at-state_after}
@@ -65,7 +67,7 @@ module _ (facts : EventFacts) (c k : ℕ) where
           → (has_taken c k (own h p) ≡ true → IsTaken h) → IsTaken (e ∷ h)
       at true takes some before =
           let empties = take-empties h (state_after facts h) e.caller (word_in facts h c k)
-          (owner_in turn h e.caller) e.step legal.2 takes in
+          (owner_in role h e.caller) e.step legal.2 takes in
           record { dead = empties.0; none = empties.1 }
       at false other some before = IsTaken-next e h legal (before some)
 
@@ -74,11 +76,11 @@ module _ (facts : EventFacts) (c k : ℕ) where
       by true some before = at (takes_word c k e.step) refl some before
       by false some before = IsTaken-next e h legal (before some)
 
-has_taken-after : (c k p : ℕ) (steps : List EventStep) (h : History) → has_taken c k h ≡ true
+has_taken-steps : (c k p : ℕ) (steps : List EventStep) (h : History) → has_taken c k h ≡ true
     → has_taken c k (after p steps h) ≡ true
-has_taken-after c k p [] h taken = taken
-has_taken-after c k p (step ∷ steps) h taken =
-    has_taken-after c k p steps (record { caller = p; step = step } ∷ h) (by (takes_word c k step))
+has_taken-steps c k p [] h taken = taken
+has_taken-steps c k p (step ∷ steps) h taken =
+    has_taken-steps c k p steps (record { caller = p; step = step } ∷ h) (by (takes_word c k step))
   where
     by : (b : Bool) → (if b then true else has_taken c k h) ≡ true
     by true = refl
@@ -97,12 +99,12 @@ folds-take : (from into : CpuId) (k j p : ℕ) (found : List ℕ) (h : History) 
 folds-take from into k j p [] h least below = absurd (omega arith)
 folds-take from into k j p (zero ∷ found) h least below = elim (cases_lt j k) [
   | inl later ↦ folds-take from into k (suc j) p found _ (omega arith) (omega arith)
-  | inr here ↦ has_taken-after from.number k p (folds from into (suc j) found) _
+  | inr here ↦ has_taken-steps from.number k p (folds from into (suc j) found) _
       (take-taken from k j 0 p h (omega arith))
 ]
 folds-take from into k j p (suc v ∷ found) h least below = elim (cases_lt j k) [
   | inl later ↦ folds-take from into k (suc j) p found _ (omega arith) (omega arith)
-  | inr here ↦ has_taken-after from.number k p (folds from into (suc j) found) _
+  | inr here ↦ has_taken-steps from.number k p (folds from into (suc j) found) _
       (take-taken from k j (suc v) p h (omega arith))
 ]
 

@@ -1,10 +1,11 @@
 -- What stands in the words of a CPU that is not online: no step adds to them.
-use Rattle.std.proofs.Common.{◌≡◌, ◌≢◌, ℕ, ◌+◌, ◌&&◌, Bool, true, false, [], ◌∷◌, ◌++◌, Option, Some, None, refl, sym, ap, ◌∙◌, if◌then◌else◌, nat_eq, eqb-true}
+use Rattle.std.proofs.Common.{◌≡◌, ◌≢◌, ℕ, ◌+◌, ◌&&◌, Bool, true, false, [], ◌∷◌, ◌++◌}
+use Rattle.std.proofs.Common.{Option, Some, None, refl, sym, ap, ◌∙◌, if◌then◌else◌, nat_eq, eqb-true}
 use Rattle.vms_base.specs.declared.ids.CpuId.{CpuId}
 use Rattle.vms_base.specs.declared.kinds.CpuState.TheVariants.{Online, Absent}
 use Rattle.vms_base.specs.Places.{IsCpu}
 use Rattle.vms_history.specs.Passes.{owner_in}
-use Rattle.vms_history.proofs.Choices.{if-same}
+use Rattle.vms_history.proofs.Choices.{if-either}
 use Rattle.vms_history.proofs.Owners.{owner_may_own}
 use Rattle.vms_history.proofs.Prefixes.{prefix_is_legal}
 use Rattle.vms_event_core.specs.declared.states.EventState.{EventState}
@@ -14,14 +15,14 @@ use Rattle.vms_event_core.specs.declared.steps.EventStep.TheVariants.{AddE, Take
 use Rattle.vms_event_core.specs.Bases.{cpu_at}
 use Rattle.vms_event_core.specs.Conditions.{Meets}
 use Rattle.vms_event_core.specs.Events.{events, History, IsLegal, state_after}
-use Rattle.vms_event_core.specs.Steps.{turn}
+use Rattle.vms_event_core.specs.Steps.{role}
 use Rattle.vms_event_core.specs.Totals.{word_after, word_in}
 use Rattle.vms_event_core.specs.Words.{IsEvent, word_at}
 use Rattle.vms_event_core.proofs.StateWords.{word_at-state_after}
 
 -- who acts for a CPU acts for one that is online
 pub owner-online : (facts : EventFacts) (h : History) (p : ℕ) → IsLegal facts h
-    → (o : CpuId) → owner_in turn h p ≡ Some o → cpu_at facts o.number ≡ Online
+    → (o : CpuId) → owner_in role h p ≡ Some o → cpu_at facts o.number ≡ Online
 owner-online facts h p legal o owns = (owner_may_own events facts h p o legal owns).1
 
 module _ (facts : EventFacts) (c : ℕ) (offline : cpu_at facts c ≢ Online) where
@@ -44,8 +45,8 @@ module _ (facts : EventFacts) (c : ℕ) (offline : cpu_at facts c ≢ Online) wh
       added-elsewhere d.number (nat_eq l.number k) 0 v meets.lowest.online
   zero-after h s p k (Some o) (AddF d l v) known meets =
       added-elsewhere d.number (nat_eq l.number k) 0 v meets.lowest.online
-  zero-after h s p k None (TakeE d l v) known meets = if-same (nat_eq d.number c && nat_eq l.number k) 0
-  zero-after h s p k (Some o) (TakeE d l v) known meets = if-same (nat_eq d.number c && nat_eq l.number k) 0
+  zero-after h s p k None (TakeE d l v) known meets = if-either (nat_eq d.number c && nat_eq l.number k) 0
+  zero-after h s p k (Some o) (TakeE d l v) known meets = if-either (nat_eq d.number c && nat_eq l.number k) 0
   zero-after h s p k None _ known meets = refl
   zero-after h s p k (Some o) _ known meets = refl
 
@@ -54,8 +55,8 @@ module _ (facts : EventFacts) (c : ℕ) (offline : cpu_at facts c ≢ Online) wh
       → word_in facts (m ++ h) c k ≡ 0
   zero-stays [] h k legal none = none
   zero-stays (e ∷ m) h k legal none =
-      ap (word_after (owner_in turn (m ++ h) e.caller) c k e.step) (zero-stays m h k legal.0 none)
-      ∙ zero-after (m ++ h) (state_after facts (m ++ h)) e.caller k (owner_in turn (m ++ h) e.caller) e.step
+      ap (word_after (owner_in role (m ++ h) e.caller) c k e.step) (zero-stays m h k legal.0 none)
+      ∙ zero-after (m ++ h) (state_after facts (m ++ h)) e.caller k (owner_in role (m ++ h) e.caller) e.step
       (owner-online facts (m ++ h) e.caller legal.0) legal.2
 
 -- the same of the words that stand

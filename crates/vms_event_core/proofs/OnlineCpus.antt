@@ -1,5 +1,6 @@
 -- The words of CPUs that are online only grow, so what loads of them find is at most what stands later.
-use Rattle.std.proofs.Common.{◌≡◌, ℕ, suc, ◌+◌, ◌≤◌, ◌&&◌, Bool, true, false, List, [], ◌∷◌, ◌++◌, length, Option, Some, None, ℤ, pos, ◌+ℤ◌, ◌≤ℤ◌, refl, sym, ap, ◌∙◌, arith, if◌then◌else◌, nat_eq, eqb-true}
+use Rattle.std.proofs.Common.{◌≡◌, ℕ, suc, ◌+◌, ◌≤◌, ◌&&◌, Bool, true, false, List, [], ◌∷◌, ◌++◌, length, Option, Some}
+use Rattle.std.proofs.Common.{None, ℤ, pos, ◌+ℤ◌, ◌≤ℤ◌, refl, sym, ap, ◌∙◌, arith, if◌then◌else◌, nat_eq, eqb-true}
 use Rattle.std.specs.Prelude.{sum}
 use Rattle.std.proofs.lemmas.Int.{ints}
 use Rattle.std.proofs.lemmas.List.Sums.{sum_by-cons}
@@ -20,15 +21,15 @@ use Rattle.vms_event_core.specs.Calls.{online_cpus, AtMostStands, IsAllEvents}
 use Rattle.vms_event_core.specs.Conditions.{Meets}
 use Rattle.vms_event_core.specs.Events.{events, History, IsLegal, state_after}
 use Rattle.vms_event_core.specs.Laws.{most_in_sum}
-use Rattle.vms_event_core.specs.Steps.{turn}
+use Rattle.vms_event_core.specs.Steps.{role}
 use Rattle.vms_event_core.specs.Totals.{word_after, word_in}
 use Rattle.vms_event_core.specs.Words.{IsEvent, word_at, words_of}
 use Rattle.vms_event_core.proofs.Bounds.{words_of-most}
 use Rattle.vms_event_core.proofs.StateWords.{word_at-state_after}
 
-grows_if : (b : Bool) (word n : ℕ) → word ≤ (if b then word + n else word)
-grows_if true word n = omega arith
-grows_if false word n = omega arith
+larger-if : (b : Bool) (word n : ℕ) → word ≤ (if b then word + n else word)
+larger-if true word n = omega arith
+larger-if false word n = omega arith
 
 kept_if : (facts : EventFacts) (d c : ℕ) (b : Bool) (word : ℕ) → cpu_at facts c ≡ Online → cpu_at facts d ≡ Dead
     → word ≤ (if nat_eq d c && b then 0 else word)
@@ -45,12 +46,12 @@ word_after-grows : (facts : EventFacts) (h : History) (s : EventState) (p c k wo
     (step : EventStep)
     → cpu_at facts c ≡ Online → Meets facts h s p step → word ≤ word_after who c k step word
 word_after-grows facts h s p c k word (Some o) (AddE l n) online meets =
-    grows_if (nat_eq o.number c && nat_eq l.number k) word n
+    larger-if (nat_eq o.number c && nat_eq l.number k) word n
 word_after-grows facts h s p c k word None (AddE l n) online meets = omega arith
 word_after-grows facts h s p c k word (Some o) (AddF d l v) online meets =
-    grows_if (nat_eq d.number c && nat_eq l.number k) word v
+    larger-if (nat_eq d.number c && nat_eq l.number k) word v
 word_after-grows facts h s p c k word None (AddF d l v) online meets =
-    grows_if (nat_eq d.number c && nat_eq l.number k) word v
+    larger-if (nat_eq d.number c && nat_eq l.number k) word v
 word_after-grows facts h s p c k word (Some o) (TakeE d l v) online meets =
     kept_if facts d.number c (nat_eq l.number k) word online meets.dead
 word_after-grows facts h s p c k word None (TakeE d l v) online meets =
@@ -63,7 +64,7 @@ pub word_in-grows : (facts : EventFacts) (m h : History) (c k : ℕ) → IsLegal
 word_in-grows facts [] h c k legal online = omega arith
 word_in-grows facts (e ∷ m) h c k legal online =
     let step = word_after-grows facts (m ++ h) (state_after facts (m ++ h)) e.caller c k (word_in facts (m ++ h) c k)
-    (owner_in turn (m ++ h) e.caller) e.step online legal.2 in
+    (owner_in role (m ++ h) e.caller) e.step online legal.2 in
     omega (arith, step, word_in-grows facts m h c k legal.0 online)
 
 pub words-grow : (facts : EventFacts) (m h : History) (c k : ℕ) → IsLegal facts (m ++ h) → cpu_at facts c ≡ Online

@@ -1,5 +1,6 @@
 -- What each CPU has counted of an event: its bound, its sum over the CPUs, and who knows it.
-use Rattle.std.proofs.Common.{◌≡◌, ◌≢◌, ℕ, ◌+◌, ◌≤◌, ◌&&◌, Bool, true, false, [], ◌∷◌, ◌++◌, Option, Some, None, pos, ◌+ℤ◌, refl, ap, ◌∙◌, arith, if◌then◌else◌, nat_eq, eq-eqb, eqb-true}
+use Rattle.std.proofs.Common.{◌≡◌, ◌≢◌, ℕ, ◌+◌, ◌≤◌, ◌&&◌, Bool, true, false, [], ◌∷◌, ◌++◌, Option}
+use Rattle.std.proofs.Common.{Some, None, pos, ◌+ℤ◌, refl, ap, ◌∙◌, arith, if◌then◌else◌, nat_eq, eq-eqb, eqb-true}
 use Rattle.std.proofs.lemmas.Int.{ints}
 use Rattle.std.proofs.lemmas.Bool.{and_parts, eqb-false}
 use Rattle.vms_base.specs.declared.ids.CpuId.{CpuId}
@@ -21,14 +22,14 @@ use Rattle.vms_event_core.specs.declared.steps.EventStep.TheVariants.{AddE}
 use Rattle.vms_event_core.specs.Conditions.{Meets}
 use Rattle.vms_base.specs.Volumes.{most_volume}
 use Rattle.vms_event_core.specs.Events.{events, History, IsLegal, state_after}
-use Rattle.vms_event_core.specs.MadeCalls.{KeepsSpending}
-use Rattle.vms_event_core.specs.Steps.{turn}
+use Rattle.vms_event_core.specs.CallLaws.{KeepsSpending}
+use Rattle.vms_event_core.specs.Steps.{role}
 use Rattle.vms_event_core.specs.Totals.{counted, spent, spent_by}
 use Rattle.vms_event_core.proofs.StateWords.{owner_known}
 
 spent_by-affordable : (facts : EventFacts) (h : History) (s : EventState) (p c k : ℕ) (who : Option CpuId)
     (step : EventStep)
-    → owner_in turn h p ≡ who → Meets facts h s p step → spent h c k ≤ most_volume
+    → owner_in role h p ≡ who → Meets facts h s p step → spent h c k ≤ most_volume
     → spent_by who c k step + spent h c k ≤ most_volume
 spent_by-affordable facts h s p c k None (AddE l n) is meets below = omega arith
 spent_by-affordable facts h s p c k (Some o) (AddE l n) is meets below =
@@ -50,12 +51,12 @@ spent_by-affordable facts h s p c k None _ is meets below = omega arith
 pub spent-affordable : (facts : EventFacts) (h : History) (c k : ℕ) → IsLegal facts h → spent h c k ≤ most_volume
 spent-affordable facts [] c k legal = omega arith
 spent-affordable facts (e ∷ h) c k legal =
-    spent_by-affordable facts h (state_after facts h) e.caller c k (owner_in turn h e.caller) e.step refl legal.2
+    spent_by-affordable facts h (state_after facts h) e.caller c k (owner_in role h e.caller) e.step refl legal.2
     (spent-affordable facts h c k legal.0)
 
 -- a step counts what its CPU spends
 spent_by-all : (facts : EventFacts) (h : History) (s : EventState) (p k : ℕ) (who : Option CpuId) (step : EventStep)
-    → owner_in turn h p ≡ who → ((o : CpuId) → who ≡ Some o → IsCpu facts.layout o.number) → Meets facts h s p step
+    → owner_in role h p ≡ who → ((o : CpuId) → who ≡ Some o → IsCpu facts.layout o.number) → Meets facts h s p step
     → sum_below (λ c. pos (spent_by who c k step)) facts.layout.cpus ≡ counted k step
 spent_by-all facts h s p k None (AddE l n) is known meets = let owns = meets.owns in absurd (cc)
 spent_by-all facts h s p k (Some o) (AddE l n) is known meets =
@@ -68,10 +69,10 @@ pub counted-spent : (facts : EventFacts) (h : History) (k : ℕ) → IsLegal fac
     → total (counted k) h ≡ sum_below (λ c. pos (spent h c k)) facts.layout.cpus
 counted-spent facts h k =
     total-by_parts events facts (counted k) (λ g c. pos (spent g c k))
-    (λ e g c. pos (spent_by (owner_in turn g e.caller) c k e.step)) facts.layout.cpus
+    (λ e g c. pos (spent_by (owner_in role g e.caller) c k e.step)) facts.layout.cpus
     (λ c c_in. refl) (λ e g c c_in. omega (arith, ints))
     (λ e g legal.
-    spent_by-all facts g (state_after facts g) e.caller k (owner_in turn g e.caller) e.step refl
+    spent_by-all facts g (state_after facts g) e.caller k (owner_in role g e.caller) e.step refl
     (owner_known facts g e.caller legal.0) legal.2)
     h
 
@@ -94,34 +95,34 @@ spent_by-owner c k (AddE l n) = rw (eq-eqb c.number c.number refl) (by (nat_eq l
 spent_by-owner c k _ = refl
 
 -- the sums on both sides go the same way, whoever made the newest event
-module _ (facts : EventFacts) (h : History) (p : ℕ) (c : CpuId) (k : ℕ) (owns : owner_in turn h p ≡ Some c) where
+module _ (facts : EventFacts) (h : History) (p : ℕ) (c : CpuId) (k : ℕ) (owns : owner_in role h p ≡ Some c) where
   -- what the CPU counted since is what its owner counted since
   abbrev pub GoesAlong : History → Type 0
   GoesAlong g = pos (spent g c.number k) +ℤ total (counted k) (own h p)
       ≡ pos (spent h c.number k) +ℤ total (counted k) (own g p)
 
-  GoesAlong-next : (e : Event EventStep) (g : History) → IsLegal facts (e ∷ g) → lives_in turn g p ≡ true
-      → owner_in turn g p ≡ Some c → GoesAlong g → GoesAlong (e ∷ g)
+  GoesAlong-next : (e : Event EventStep) (g : History) → IsLegal facts (e ∷ g) → lives_in role g p ≡ true
+      → owner_in role g p ≡ Some c → GoesAlong g → GoesAlong (e ∷ g)
   GoesAlong-next e g legal lives now before = by (nat_eq e.caller p) refl
     where
       by : (b : Bool) → nat_eq e.caller p ≡ b → GoesAlong (e ∷ g)
       by true same =
           let mine : e.caller ≡ p = eqb-true e.caller p same in
-          let grown : spent_by (owner_in turn g e.caller) c.number k e.step ≡ spent_by (Some c) c.number k e.step =
-          ap (λ who. spent_by who c.number k e.step) (ap (owner_in turn g) mine ∙ now) in
+          let grown : spent_by (owner_in role g e.caller) c.number k e.step ≡ spent_by (Some c) c.number k e.step =
+          ap (λ who. spent_by who c.number k e.step) (ap (owner_in role g) mine ∙ now) in
           let own_grown : total (counted k) (own (e ∷ g) p) ≡ counted k e.step +ℤ total (counted k) (own g p) =
           ap (total (counted k)) (own-mine e g p mine) in
           omega (arith, ints, grown, own_grown, spent_by-owner c k e.step, before)
       by false differ =
           let others = eqb-false e.caller p differ in
-          let nothing = spent_by-others (owner_in turn g e.caller) c k e.step (λ acts_for.
+          let nothing = spent_by-others (owner_in role g e.caller) c k e.step (λ acts_for.
           others (owner_is_caller events facts e g p c legal lives now acts_for)) in
           let own_same : total (counted k) (own (e ∷ g) p) ≡ total (counted k) (own g p) =
           ap (total (counted k)) (own-others e g p others) in
           omega (arith, ints, nothing, own_same, before)
 
-  pub spent-goes_along : (m : History) → IsLegal facts (m ++ h) → lives_in turn (m ++ h) p ≡ true
-      → p ≤ begun_in turn h → GoesAlong (m ++ h)
+  pub spent-goes_along : (m : History) → IsLegal facts (m ++ h) → lives_in role (m ++ h) p ≡ true
+      → p ≤ begun_in role h → GoesAlong (m ++ h)
   spent-goes_along m legal lives given =
       holds_while_live events facts h p GoesAlong (λ es. Unit {0}) (λ e es none. tt)
       (λ e m legal lives owner none before. GoesAlong-next e (m ++ h) legal lives (owner ∙ owns) before)
@@ -129,8 +130,8 @@ module _ (facts : EventFacts) (h : History) (p : ℕ) (c : CpuId) (k : ℕ) (own
 
 -- so what its CPU has counted is known to a pass that lives
 pub spending-known : (facts : EventFacts) (m h : History) (p : ℕ) → IsLegal facts (m ++ h)
-    → lives_in turn (m ++ h) p ≡ true
-    → p ≤ begun_in turn h → own m p ≡ [] → KeepsSpending (m ++ h) h p
+    → lives_in role (m ++ h) p ≡ true
+    → p ≤ begun_in role h → own m p ≡ [] → KeepsSpending (m ++ h) h p
 spending-known facts m h p legal lives given none c k owns =
     let own_same : total (counted k) (own (m ++ h) p) ≡ total (counted k) (own h p) =
     ap (total (counted k)) (own-append m h p ∙ ap (λ es. es ++ own h p) none) in

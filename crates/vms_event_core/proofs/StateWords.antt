@@ -7,7 +7,7 @@ use Rattle.vms_history.proofs.Owners.{owner_may_own}
 use Rattle.vms_history.proofs.Prefixes.{base_can_begin, state_after-keeps}
 use Rattle.vms_event_core.specs.declared.steps.EventFacts.{EventFacts}
 use Rattle.vms_event_core.specs.Events.{events, History, IsLegal, state_after}
-use Rattle.vms_event_core.specs.Steps.{turn}
+use Rattle.vms_event_core.specs.Steps.{role}
 use Rattle.vms_event_core.specs.Totals.{word_after, word_in}
 use Rattle.vms_event_core.specs.Words.{IsEvent, HasShape, word_at}
 use Rattle.vms_event_core.proofs.WordLemmas.{HasShape-effect, word_at-effect}
@@ -20,7 +20,7 @@ HasShape-state_after facts h legal =
 
 -- what a pass owns is a CPU of the layout
 pub owner_known : (facts : EventFacts) (h : History) (p : ℕ) → IsLegal facts h
-    → (o : CpuId) → owner_in turn h p ≡ Some o → IsCpu facts.layout o.number
+    → (o : CpuId) → owner_in role h p ≡ Some o → IsCpu facts.layout o.number
 owner_known facts h p legal o owns = (owner_may_own events facts h p o legal owns).0
 
 -- the words that stand are those that the steps made
@@ -29,6 +29,6 @@ pub word_at-state_after : (facts : EventFacts) (h : History) (c k : ℕ) → IsL
 word_at-state_after facts [] c k legal k_in = refl
 word_at-state_after facts (e ∷ h) c k legal k_in =
     word_at-effect facts h (state_after facts h) e.caller (HasShape-state_after facts h legal.0)
-    (owner_in turn h e.caller) e.step c k
+    (owner_in role h e.caller) e.step c k
     (owner_known facts h e.caller legal.0) legal.2 k_in
-    ∙ ap (word_after (owner_in turn h e.caller) c k e.step) (word_at-state_after facts h c k legal.0 k_in)
+    ∙ ap (word_after (owner_in role h e.caller) c k e.step) (word_at-state_after facts h c k legal.0 k_in)

@@ -1,5 +1,6 @@
 -- What the sum of an event found lies between what stood when the call began and what stands.
-use Rattle.std.proofs.Common.{◌≡◌, ℕ, suc, ◌+◌, ◌≤◌, Bool, true, false, List, [], ◌∷◌, ◌++◌, length, All, sym, ap, ◌∙◌, subst, arith, if◌then◌else◌, nat_eq}
+use Rattle.std.proofs.Common.{◌≡◌, ℕ, suc, ◌+◌, ◌≤◌, Bool, true, false, List, [], ◌∷◌}
+use Rattle.std.proofs.Common.{◌++◌, length, All, sym, ap, ◌∙◌, subst, arith, if◌then◌else◌, nat_eq}
 use Rattle.std.specs.Prelude.{sum}
 use Rattle.std.proofs.lemmas.List.Elements.{All-nil, All-cons, All-head, All-tail}
 use Rattle.std.proofs.lemmas.List.Sums.{sum_by-cons}
@@ -17,7 +18,7 @@ use Rattle.vms_event_core.specs.declared.steps.EventStep.TheVariants.{LoadE}
 use Rattle.vms_event_core.specs.Bases.{cpu_at}
 use Rattle.vms_event_core.specs.Calls.{AtMostStands, IsAllEvents, loads, online_cpus, sum_over}
 use Rattle.vms_event_core.specs.Events.{events, History, IsLegal, state_after}
-use Rattle.vms_event_core.specs.MadeCalls.{HasMade, SumsBetween}
+use Rattle.vms_event_core.specs.CallLaws.{HasMade, SumsBetween}
 use Rattle.vms_event_core.specs.Totals.{word_in}
 use Rattle.vms_event_core.specs.Words.{IsEvent}
 use Rattle.vms_history.proofs.MadeSteps.{joined-legal, earlier-legal}
@@ -132,11 +133,11 @@ module _ (facts : EventFacts) (now earlier : History) (legal : IsLegal facts now
         most = omega (arith, stand, here.most, rest.most, sum_by-cons (λ x. x) v found);
       }
 
-pub sums-between : (facts : EventFacts) (later earlier : History) (p : ℕ) (k : EventId) (found : List ℕ)
+pub SumsBetween-holds : (facts : EventFacts) (later earlier : History) (p : ℕ) (k : EventId) (found : List ℕ)
     (steps : List EventStep) (answer : ℕ)
     → HasMade facts later earlier p steps → IsEvent k.number → IsAllEvents (online_cpus facts) k found steps answer
     → SumsBetween facts later earlier k found answer
-sums-between facts later earlier p k found steps answer made k_in call =
+SumsBetween-holds facts later earlier p k found steps answer made k_in call =
     let is : later ≡ made.extends.0 ++ earlier = made.extends.1 in
     let on_top : own made.extends.0 p ≡ after p steps [] =
     own-on_top made.extends.0 earlier p steps (sym (ap (λ es. own es p) is) ∙ made.made) in
@@ -146,7 +147,8 @@ sums-between facts later earlier p k found steps answer made k_in call =
     (own-between facts earlier made.extends.0 p (joined-legal events facts later earlier p steps made))) in
     let each : StepsBetween facts earlier later (loads k (online_cpus facts) found) =
     subst (StepsBetween facts earlier later) call.in_order (steps-between facts earlier later p steps [] between).0 in
-    let all = loads-between facts later earlier made.legal (earlier-legal events facts later earlier p steps made) k k_in
+    let all =
+    loads-between facts later earlier made.legal (earlier-legal events facts later earlier p steps made) k k_in
     (online_cpus facts) found (online_cpus-online facts) call.one_each each in
     record {
       stands = all.stands;

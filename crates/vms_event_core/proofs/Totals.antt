@@ -1,5 +1,6 @@
 -- Nothing is lost: the words and what is carried add up to the true totals.
-use Rattle.std.proofs.Common.{◌≡◌, ℕ, suc, ◌+◌, Bool, true, false, [], ◌∷◌, Option, Some, None, ℤ, pos, neg_ℤ, ◌+ℤ◌, ◌-ℤ◌, refl, sym, ap, ◌∙◌, arith, if◌then◌else◌, nat_eq, eqb-true}
+use Rattle.std.proofs.Common.{◌≡◌, ℕ, suc, ◌+◌, Bool, true, false, [], ◌∷◌, Option, Some, None, ℤ}
+use Rattle.std.proofs.Common.{pos, neg_ℤ, ◌+ℤ◌, ◌-ℤ◌, refl, sym, ap, ◌∙◌, arith, if◌then◌else◌, nat_eq, eqb-true}
 use Rattle.std.proofs.lemmas.Int.{ints}
 use Rattle.vms_base.specs.declared.ids.CpuId.{CpuId}
 use Rattle.vms_base.specs.Places.{IsCpu}
@@ -18,7 +19,7 @@ use Rattle.vms_event_core.specs.Events.{events, History, IsLegal, state_after, c
 use Rattle.vms_event_core.specs.Endings.{HoldsTotals}
 use Rattle.vms_event_core.specs.Laws.{KeepsTotals}
 use Rattle.vms_event_core.specs.Own.{moved}
-use Rattle.vms_event_core.specs.Steps.{turn}
+use Rattle.vms_event_core.specs.Steps.{role}
 use Rattle.vms_event_core.specs.Totals.{counted, word_after, word_in}
 use Rattle.vms_event_core.specs.Words.{IsEvent, word_at, words_of}
 use Rattle.vms_event_core.proofs.Carrying.{nothing_in_hand, nothing_carried}
@@ -35,7 +36,7 @@ addition-adds_up false sum after word n is = (omega (arith, ints), omega (arith,
 module _ (facts : EventFacts) (h : History) (s : EventState) (p k : ℕ) (f : ℕ → ℕ)
     (told : (c : ℕ) → word_at s c k ≡ f c) where
   -- the words after a step, and what it moved, are the words before it and what it counted
-  AddsUp-step : (who : Option CpuId) (step : EventStep) → owner_in turn h p ≡ who
+  AddsUp-step : (who : Option CpuId) (step : EventStep) → owner_in role h p ≡ who
       → ((o : CpuId) → who ≡ Some o → IsCpu facts.layout o.number) → Meets facts h s p step
       → sum_below (λ c. pos (word_after who c k step (f c))) facts.layout.cpus +ℤ moved k step
       ≡ sum_below (λ c. pos (f c)) facts.layout.cpus +ℤ counted k step
@@ -70,14 +71,14 @@ words_in-moved : (facts : EventFacts) (h : History) (k : ℕ) → IsLegal facts 
 words_in-moved facts [] k legal k_in = refl
 words_in-moved facts (e ∷ h) k legal k_in =
     let step = AddsUp-step facts h (state_after facts h) e.caller k (λ c. word_in facts h c k)
-    (λ c. word_at-state_after facts h c k legal.0 k_in) (owner_in turn h e.caller) e.step refl
+    (λ c. word_at-state_after facts h c k legal.0 k_in) (owner_in role h e.caller) e.step refl
     (owner_known facts h e.caller legal.0) legal.2 in
     omega (arith, ints, step, words_in-moved facts h k legal.0 k_in)
 
 pub totals-kept : (facts : EventFacts) (h : History) → IsLegal facts h → KeepsTotals facts h
 totals-kept facts h legal k k_in =
     let all : total (moved k) h ≡ carried_by_all h k =
-    total-by_caller events facts (moved k) h (suc (begun_in turn h)) legal (omega arith) in
+    total-by_caller events facts (moved k) h (suc (begun_in role h)) legal (omega arith) in
     rw (words_of-told facts h k legal k_in, ← all) (words_in-moved facts h k legal k_in)
 
 -- where every pass has ended, the words alone are the true total

@@ -13,7 +13,7 @@ use Rattle.vms_event_core.specs.declared.steps.EventFacts.{EventFacts}
 use Rattle.vms_event_core.specs.declared.steps.EventStep.{EventStep}
 use Rattle.vms_event_core.specs.declared.steps.EventStep.TheVariants.{AddE, LoadE, TakeE, AddF, Split, Join}
 use Rattle.vms_event_core.specs.Words.{IsEvent, word_at}
-use Rattle.vms_event_core.specs.Steps.{turn}
+use Rattle.vms_event_core.specs.Steps.{role}
 use Rattle.vms_event_core.specs.Own.{carried}
 use Rattle.vms_event_core.specs.Totals.{spent}
 use Rattle.vms_event_core.specs.Bases.{cpu_at, IsLowestOnline}
@@ -21,7 +21,7 @@ use Rattle.vms_event_core.specs.Bases.{cpu_at, IsLowestOnline}
 -- a pass that owns a CPU counts, within the volume of that CPU
 pub record Counts (h : List (Event EventStep)) (p : ℕ) (k : EventId) (n : ℕ) : Type 0 where
   pub cpu : CpuId
-  pub owns : owner_in turn h p ≡ Some cpu
+  pub owns : owner_in role h p ≡ Some cpu
   pub event : IsEvent k.number
   pub affordable : spent h cpu.number k.number + n ≤ most_volume
 
@@ -34,7 +34,7 @@ pub record FindsWord (facts : EventFacts) (s : EventState) (c : CpuId) (k : Even
 -- the control pass takes a dead CPU's word
 pub record TakesWord (facts : EventFacts) (h : List (Event EventStep)) (s : EventState) (p : ℕ) (c : CpuId)
     (k : EventId) (v : ℕ) : Type 0 where
-  pub control : owner_in turn h p ≡ None
+  pub control : owner_in role h p ≡ None
   pub dead : cpu_at facts c.number ≡ Dead
   pub finds : FindsWord facts s c k v
 

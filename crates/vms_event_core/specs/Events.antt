@@ -12,7 +12,7 @@ use Rattle.vms_event_core.specs.declared.states.EventState.{EventState}
 use Rattle.vms_event_core.specs.declared.steps.EventFacts.{EventFacts}
 use Rattle.vms_event_core.specs.declared.steps.EventStep.{EventStep}
 use Rattle.vms_event_core.specs.Words.{words_of}
-use Rattle.vms_event_core.specs.Steps.{turn, effect}
+use Rattle.vms_event_core.specs.Steps.{role, effect}
 use Rattle.vms_event_core.specs.Own.{carried, CarriesNothing}
 use Rattle.vms_event_core.specs.Totals.{counted}
 use Rattle.vms_event_core.specs.Bases.{IsBase}
@@ -25,7 +25,7 @@ MayOwn facts who = MayOwnCpu facts.layout facts.cpus who
 -- the event counters' table
 abbrev pub events : Machine EventFacts EventStep EventState
 events = record {
-  turn = turn;
+  role = role;
   base = λ facts. facts.base;
   effect = effect;
   CanBegin = IsBase;
@@ -49,7 +49,7 @@ state_after facts h = legal.state_after events facts h
 
 -- what all callers carry for event k together
 abbrev pub carried_by_all : History → ℕ → ℤ
-carried_by_all h k = sum_below (λ p. carried k (own h p)) (suc (begun_in turn h))
+carried_by_all h k = sum_below (λ p. carried k (own h p)) (suc (begun_in role h))
 
 -- the words of the base and every count since: what an event is in truth
 abbrev pub true_total : EventFacts → History → ℕ → ℤ

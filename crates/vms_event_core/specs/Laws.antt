@@ -11,7 +11,7 @@ use Rattle.vms_event_core.specs.declared.steps.EventFacts.{EventFacts}
 use Rattle.vms_event_core.specs.Bases.{cpu_at, most_in_base}
 use Rattle.vms_event_core.specs.Events.{History, MayOwn, state_after, carried_by_all, true_total}
 use Rattle.vms_event_core.specs.Own.{carried}
-use Rattle.vms_event_core.specs.Steps.{turn}
+use Rattle.vms_event_core.specs.Steps.{role}
 use Rattle.vms_event_core.specs.Totals.{counted, taken_from, takes, spent, word_in}
 use Rattle.vms_event_core.specs.Words.{IsEvent, HasShape, word_at, words_of}
 
@@ -42,8 +42,8 @@ pub record MovesOnce (facts : EventFacts) (h : History) (c k : ℕ) : Type 0 whe
 
 -- who carries something for an event is a control pass that lives
 pub record IsLiveControl (h : History) (p : ℕ) : Type 0 where
-  pub lives : lives_in turn h p ≡ true
-  pub control : owner_in turn h p ≡ None
+  pub lives : lives_in role h p ≡ true
+  pub control : owner_in role h p ≡ None
 
 abbrev pub CarriesAsControl : History → Type 0
 CarriesAsControl h = (p k : ℕ) → IsEvent k → carried k (own h p) ≢ pos 0 → IsLiveControl h p
@@ -70,4 +70,4 @@ pub record KeepsLaws (facts : EventFacts) (h : History) : Type 0 where
   -- only a control pass that lives carries something
   pub carriers : CarriesAsControl h
   -- a pass owns a CPU only where that CPU is online
-  pub owners : (p : ℕ) (c : CpuId) → owner_in turn h p ≡ Some c → MayOwn facts (Some c)
+  pub owners : (p : ℕ) (c : CpuId) → owner_in role h p ≡ Some c → MayOwn facts (Some c)

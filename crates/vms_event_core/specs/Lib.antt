@@ -9,4 +9,4 @@ pub mod Quiet
 pub mod Laws
 pub mod Endings
 pub mod Calls
-pub mod MadeCalls
+pub mod CallLaws

@@ -2,16 +2,16 @@
 use Rattle.std.specs.Prelude.{◌≡◌, ◌≢◌, Option, Some, None, refl, ℕ}
 use Rattle.vms_base.specs.declared.ids.CpuId.{CpuId}
 use Rattle.vms_history.specs.Legal.{IsQuiet}
-use Rattle.vms_history.specs.Passes.Turn.{Works}
+use Rattle.vms_history.specs.Passes.Role.{Works}
 use Rattle.vms_event_core.specs.declared.states.EventState.{EventState}
 use Rattle.vms_event_core.specs.declared.steps.EventFacts.{EventFacts}
 use Rattle.vms_event_core.specs.declared.steps.EventStep.{EventStep}
 use Rattle.vms_event_core.specs.declared.steps.EventStep.TheVariants.{Split, Join}
 use Rattle.vms_event_core.specs.Conditions.{Meets}
 use Rattle.vms_event_core.specs.Events.{events, History}
-use Rattle.vms_event_core.specs.Steps.{turn, effect}
+use Rattle.vms_event_core.specs.Steps.{role, effect}
 
-quiet-leaves : (facts : EventFacts) (who : Option CpuId) (step : EventStep) (s : EventState) → turn step ≢ Works
+quiet-leaves : (facts : EventFacts) (who : Option CpuId) (step : EventStep) (s : EventState) → role step ≢ Works
     → effect facts who step s ≡ s
 quiet-leaves facts None (Split q c) s differs = refl
 quiet-leaves facts (Some o) (Split q c) s differs = refl
@@ -19,7 +19,7 @@ quiet-leaves facts None (Join q) s differs = refl
 quiet-leaves facts (Some o) (Join q) s differs = refl
 quiet-leaves facts who _ s differs = absurd (differs refl)
 
-quiet-asks_nothing : (facts : EventFacts) (h : History) (s : EventState) (p : ℕ) (step : EventStep) → turn step ≢ Works
+quiet-asks_nothing : (facts : EventFacts) (h : History) (s : EventState) (p : ℕ) (step : EventStep) → role step ≢ Works
     → Meets facts h s p step
 quiet-asks_nothing facts h s p (Split q c) differs = tt
 quiet-asks_nothing facts h s p (Join q) differs = tt

@@ -1,8 +1,8 @@
 -- What each kind of step does to the passes and to the words.
 use Rattle.std.specs.Prelude.{◌+◌, Option, Some, None}
 use Rattle.vms_base.specs.declared.ids.CpuId.{CpuId}
-use Rattle.vms_history.specs.Passes.{Turn}
-use Rattle.vms_history.specs.Passes.Turn.{Works, Begins, Ends}
+use Rattle.vms_history.specs.Passes.{Role}
+use Rattle.vms_history.specs.Passes.Role.{Works, Begins, Ends}
 use Rattle.vms_event_core.specs.declared.states.EventState.{EventState}
 use Rattle.vms_event_core.specs.declared.steps.EventFacts.{EventFacts}
 use Rattle.vms_event_core.specs.declared.steps.EventStep.{EventStep}
@@ -10,10 +10,10 @@ use Rattle.vms_event_core.specs.declared.steps.EventStep.TheVariants.{AddE, Take
 use Rattle.vms_event_core.specs.Words.{word_at, with_word}
 
 -- a Split begins a pass and a Join ends one
-abbrev pub turn : EventStep → Turn
-turn (Split q who) = Begins q who
-turn (Join q) = Ends q
-turn _ = Works
+abbrev pub role : EventStep → Role
+role (Split q who) = Begins q who
+role (Join q) = Ends q
+role _ = Works
 
 -- the words after a step of a pass that owns a CPU: a count grows the own word
 abbrev pub own_effect : CpuId → EventStep → EventState → EventState

@@ -6,7 +6,7 @@ use Rattle.vms_history.specs.Passes.{owner_in}
 use Rattle.vms_event_core.specs.declared.steps.EventFacts.{EventFacts}
 use Rattle.vms_event_core.specs.declared.steps.EventStep.{EventStep}
 use Rattle.vms_event_core.specs.declared.steps.EventStep.TheVariants.{AddE, TakeE, AddF}
-use Rattle.vms_event_core.specs.Steps.{turn}
+use Rattle.vms_event_core.specs.Steps.{role}
 use Rattle.vms_event_core.specs.Words.{word_at}
 
 -- what a step counts of event k
@@ -40,7 +40,7 @@ spent_by _ c k _ = 0
 -- what CPU c counted of event k
 abbrev pub spent : List (Event EventStep) → ℕ → ℕ → ℕ
 spent [] c k = 0
-spent (e ∷ h) c k = spent_by (owner_in turn h e.caller) c k e.step + spent h c k
+spent (e ∷ h) c k = spent_by (owner_in role h e.caller) c k e.step + spent h c k
 
 -- the word of CPU c for event k after a step of a pass that owns `who`
 abbrev pub word_after : Option CpuId → ℕ → ℕ → EventStep → ℕ → ℕ
@@ -52,4 +52,4 @@ word_after who c k _ before = before
 -- the word of CPU c for event k after the events of a history
 abbrev pub word_in : EventFacts → List (Event EventStep) → ℕ → ℕ → ℕ
 word_in facts [] c k = word_at facts.base c k
-word_in facts (e ∷ h) c k = word_after (owner_in turn h e.caller) c k e.step (word_in facts h c k)
+word_in facts (e ∷ h) c k = word_after (owner_in role h e.caller) c k e.step (word_in facts h c k)

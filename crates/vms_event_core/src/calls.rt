@@ -5,10 +5,13 @@ ghost use Rattle.vms_base.specs.declared.kinds.CpuState.TheVariants.{Online};
 ghost use Rattle.vms_event_core.specs.declared.steps.EventFacts.{EventFacts};
 ghost use Rattle.vms_event_core.specs.declared.steps.EventStep.{EventStep};
 ghost use Rattle.vms_event_core.specs.Bases.{cpu_at};
-ghost use Rattle.vms_event_core.specs.Calls.{AtMostStands, IsCount, IsAllEvents, IsFoldEvents, read_count, read_all_events, read_fold_events, online_cpus};
+ghost use Rattle.vms_event_core.specs.Calls.{AtMostStands, IsCount, IsAllEvents, IsFoldEvents};
+ghost use Rattle.vms_event_core.specs.Calls.{read_count, read_all_events, read_fold_events, online_cpus};
 ghost use Rattle.vms_event_core.specs.Events.{History, IsLegal, state_after};
 ghost use Rattle.vms_event_core.specs.Laws.{most_in_sum};
-ghost use Rattle.vms_event_core.specs.MadeCalls.{HasMade, MakesCount, MakesAllEvents, MakesFoldEvents, CarryAsBefore, SpendNothing, SpendsSince, KeepsSpending, counted_of, LeavesZeros, SumsBetween};
+ghost use Rattle.vms_event_core.specs.CallLaws.{HasMade, MakesCount, MakesAllEvents, MakesFoldEvents};
+ghost use Rattle.vms_event_core.specs.CallLaws.{CarryAsBefore, SpendNothing, SpendsSince, KeepsSpending};
+ghost use Rattle.vms_event_core.specs.CallLaws.{counted_of, LeavesZeros, SumsBetween};
 ghost use Rattle.vms_event_core.specs.Words.{IsEvent, event_count, word_at};
 
 /// What a call found and answered can be read off its steps, whatever steps follow.

@@ -2,11 +2,12 @@ ghost use Rattle.std.specs.Prelude.{◌≡◌, ◌≤◌, ℕ, pos, ◌+ℤ◌, 
 ghost use Rattle.vms_base.specs.declared.ids.CpuId.{CpuId};
 ghost use Rattle.vms_event_core.specs.declared.steps.EventFacts.{EventFacts};
 ghost use Rattle.vms_event_core.specs.declared.steps.EventStep.{EventStep};
-ghost use Rattle.vms_event_core.specs.Endings.{HoldsTotals, ending, LeavesRoom, BeginsAgain, IsPaid, spent_by_now, StaysWithinVolumes};
+ghost use Rattle.vms_event_core.specs.Endings.{HoldsTotals, ending, LeavesRoom, BeginsAgain};
+ghost use Rattle.vms_event_core.specs.Endings.{IsPaid, spent_by_now, StaysWithinVolumes};
 ghost use Rattle.vms_event_core.specs.Events.{History, IsLegal, IsComplete};
 ghost use Rattle.vms_event_core.specs.Laws.{KeepsLaws};
-ghost use Rattle.vms_event_core.specs.MadeCalls.{HasMade, KeepsSpending};
-ghost use Rattle.vms_event_core.specs.Steps.{turn};
+ghost use Rattle.vms_event_core.specs.CallLaws.{HasMade, KeepsSpending};
+ghost use Rattle.vms_event_core.specs.Steps.{role};
 ghost use Rattle.vms_event_core.specs.Totals.{counted, spent};
 ghost use Rattle.vms_event_core.specs.Words.{IsEvent};
 ghost use Rattle.vms_history.specs.Events.{own, after, total};
@@ -35,7 +36,7 @@ pub fn complete_histories_leave_bases()
 /// While a pass owns a CPU, the CPU spends what the pass's own steps count, and no more.
 pub fn owners_spend_by_own_steps()
     ensures { (facts : EventFacts) (later earlier : History) (p : ℕ) (steps : List EventStep) (c : CpuId) →
-        HasMade facts later earlier p steps → owner_in turn earlier p ≡ Some c →
+        HasMade facts later earlier p steps → owner_in role earlier p ≡ Some c →
         (k : ℕ) → pos (spent later c.number k)
         ≡ pos (spent earlier c.number k) +ℤ total (counted k) (after p steps []) }
 {}
@@ -43,5 +44,5 @@ pub fn owners_spend_by_own_steps()
 /// While a pass that owns a CPU lives, what the CPU has counted is known to the pass: no step of others changes it.
 pub fn spending_is_known()
     ensures { (facts : EventFacts) (m h : History) (p : ℕ) → IsLegal facts (m ++ h) →
-        lives_in turn (m ++ h) p ≡ true → p ≤ begun_in turn h → own m p ≡ [] → KeepsSpending (m ++ h) h p }
+        lives_in role (m ++ h) p ≡ true → p ≤ begun_in role h → own m p ≡ [] → KeepsSpending (m ++ h) h p }
 {}

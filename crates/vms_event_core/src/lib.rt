@@ -6,8 +6,6 @@ mod laws;
 mod states;
 mod steps;
 mod tables;
-#[cfg(test)]
-mod tests;
 
 pub use calls::{
     answers_are_read, calls_carry_nothing, calls_may_be_made, counts_alone_spend,

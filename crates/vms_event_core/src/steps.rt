@@ -1,7 +1,7 @@
 use crate::EventState;
 use vms_base::{CpuId, CpuState, EventId, Layout, Row};
 
-/// What the table of event counters is told once.
+/// What is known of the event counters from the start.
 #[derive(Debug, Drop)]
 pub struct EventFacts {
     pub layout: Layout,

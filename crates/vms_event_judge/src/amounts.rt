@@ -13,7 +13,7 @@ use vms_event_core::{Event, EventFacts, EventState, EventStep};
 use vms_judge::owner;
 
 /// Whether a step names this CPU and event.
-fn is_word(cpu: CpuId, event: EventId, c: CpuId, k: EventId) -> bool
+fn names_word(cpu: CpuId, event: EventId, c: CpuId, k: EventId) -> bool
     ensures { result ≡ nat_eq cpu.number c.number && nat_eq event.number k.number }
 {
     cpu.number == c.number && event.number == k.number
@@ -24,7 +24,7 @@ fn spent_by(who: Option<CpuId>, step: &EventStep, c: CpuId, k: EventId) -> u64
     ensures { result ≡ totals.spent_by who c.number k.number step.now }
 {
     match (who, *step) {
-        (Some(cpu), EventStep::AddE(event, n)) if is_word(cpu, event, c, k) => n,
+        (Some(cpu), EventStep::AddE(event, n)) if names_word(cpu, event, c, k) => n,
         _ => 0,
     }
 }
@@ -75,11 +75,11 @@ fn word_after(who: Option<CpuId>, step: &EventStep, c: CpuId, k: EventId, before
 {
     match *step {
         EventStep::AddE(event, n) => match who {
-            Some(cpu) if is_word(cpu, event, c, k) => before + u128::from(n),
+            Some(cpu) if names_word(cpu, event, c, k) => before + u128::from(n),
             _ => before,
         },
-        EventStep::TakeE(cpu, event, _) if is_word(cpu, event, c, k) => 0,
-        EventStep::AddF(cpu, event, v) if is_word(cpu, event, c, k) => before + u128::from(v),
+        EventStep::TakeE(cpu, event, _) if names_word(cpu, event, c, k) => 0,
+        EventStep::AddF(cpu, event, v) if names_word(cpu, event, c, k) => before + u128::from(v),
         _ => before,
     }
 }

@@ -81,7 +81,7 @@ fn has_no_count(facts: &EventFacts, c: CpuId) -> bool
     true
 }
 
-/// Whether a CPU may have the words that it has in the base: none but 0, where it is absent.
+/// Whether a CPU may have its words of the base: an absent CPU has zeros alone.
 fn may_have_words(facts: &EventFacts, c: CpuId) -> bool
     requires shaped { HasShape facts.now.layout facts.now.base }
     requires cpu { IsCpu facts.now.layout c.number }

@@ -8,7 +8,7 @@ ghost use Rattle.vms_event_core.specs.Own.{carried as carried_of};
 ghost use Rattle.vms_event_core.specs.Bases.{cpu_at};
 ghost use Rattle.vms_base.specs.declared.kinds.CpuState.TheVariants.{Dead};
 ghost use Rattle.vms_history.specs.Passes.{owner_in};
-ghost use Rattle.vms_event_core.specs.Steps.{turn};
+ghost use Rattle.vms_event_core.specs.Steps.{role};
 ghost use Rattle.vms_event_core.specs.Words.{IsEvent};
 ghost use Rattle.vms_history.specs.Events.{own};
 
@@ -71,7 +71,7 @@ fn finds_word(facts: &EventFacts, earlier: &[Event], c: CpuId, k: EventId, v: u6
 
 /// Whether caller `p` is the control pass, or the main pass.
 fn owns_no_cpu(earlier: &[Event], p: u32) -> bool
-    ensures { IsTrue result ↔ (owner_in turn (reverse earlier.now) p ≡ None) }
+    ensures { IsTrue result ↔ (owner_in role (reverse earlier.now) p ≡ None) }
 {
     owner::<JudgedEvents>(earlier, p as u64).is_none()
 }

@@ -6,7 +6,5 @@ mod amounts;
 mod bases;
 mod conditions;
 mod tables;
-#[cfg(test)]
-mod tests;
 
 pub use tables::JudgedEvents;

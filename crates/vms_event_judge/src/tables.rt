@@ -7,7 +7,7 @@ use crate::conditions::{carries_nothing, may_own, meets};
 use vms_base::CpuId;
 use vms_event_core::{Event, EventFacts, EventStep};
 use vms_history::Table;
-use vms_judge::{Judged, Turn, Turning};
+use vms_judge::{Judged, Role, RoleTable};
 
 /// The table of event counters, whose histories can be judged in time that grows with the cube of the number of events.
 #[derive(Debug, Drop)]
@@ -25,12 +25,12 @@ impl Table for JudgedEvents {
     ghost quiet = { quiet_events };
 }
 
-impl Turning for JudgedEvents {
-    fn turn(step: &EventStep) -> Turn {
+impl RoleTable for JudgedEvents {
+    fn role(step: &EventStep) -> Role {
         match *step {
-            EventStep::Split(pass, who) => Turn::Begins(pass, who),
-            EventStep::Join(pass) => Turn::Ends(pass),
-            _ => Turn::Works,
+            EventStep::Split(pass, who) => Role::Begins(pass, who),
+            EventStep::Join(pass) => Role::Ends(pass),
+            _ => Role::Works,
         }
     }
 }

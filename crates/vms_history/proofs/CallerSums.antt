@@ -25,7 +25,7 @@ sum_below-callers f e h n below =
 -- a total over a legal history is the sum of its callers' own totals
 pub total-by_caller : {F K S : Type 0} (machine : Machine F K S) (facts : F) (measure : K → ℤ) (h : List (Event K))
     (n : ℕ)
-    → IsLegal machine facts h → begun_in machine.turn h < n
+    → IsLegal machine facts h → begun_in machine.role h < n
     → total measure h ≡ sum_below (λ p. total measure (own h p)) n
 total-by_caller machine facts measure [] n legal above =
     omega (arith, ints, sum_below-zeros (λ p. pos 0) n (λ k below. refl))

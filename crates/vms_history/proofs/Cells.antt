@@ -1,5 +1,6 @@
 -- For other crates too: what reads find after a write: of one place of a list, and of one cell of a table.
-use Rattle.std.proofs.Common.{◌≡◌, ℕ, ◌*◌, ◌<◌, ◌&&◌, Bool, true, false, List, length, get_or, refl, sym, ap, ◌∙◌, eq-eqb, eqb-true, get_or-set_same, get_or-set_other, if◌then◌else◌, nat_eq}
+use Rattle.std.proofs.Common.{◌≡◌, ℕ, ◌*◌, ◌<◌, ◌&&◌, Bool, true, false, List, length, get_or, refl, sym, ap, ◌∙◌}
+use Rattle.std.proofs.Common.{eq-eqb, eqb-true, get_or-set_same, get_or-set_other, if◌then◌else◌, nat_eq}
 use Rattle.std.proofs.Math.ListN.{set}
 use Rattle.std.proofs.lemmas.Bool.{eqb-false, ne_eqb}
 use Rattle.vms_base.specs.Places.{cell}

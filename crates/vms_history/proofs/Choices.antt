@@ -1,14 +1,15 @@
 -- For other crates too: what holds of a choice between two values by a test.
-use Rattle.std.proofs.Common.{◌≡◌, ◌≢◌, zero, suc, Bool, true, false, ◌⊎◌, inl, inr, ℤ, pos, negsuc, ◌+ℤ◌, ◌-ℤ◌, refl, arith, if◌then◌else◌}
+use Rattle.std.proofs.Common.{◌≡◌, ◌≢◌, zero, suc, Bool, true, false, ◌⊎◌, inl}
+use Rattle.std.proofs.Common.{inr, ℤ, pos, negsuc, ◌+ℤ◌, ◌-ℤ◌, refl, arith, if◌then◌else◌}
 use Rattle.std.proofs.lemmas.Int.{ints}
 
 pub if-map : {X Y : Type 0} (f : X → Y) (b : Bool) (x y : X) → f (if b then x else y) ≡ (if b then f x else f y)
 if-map f true x y = refl
 if-map f false x y = refl
 
-pub if-same : {X : Type 0} (b : Bool) (x : X) → (if b then x else x) ≡ x
-if-same true x = refl
-if-same false x = refl
+pub if-either : {X : Type 0} (b : Bool) (x : X) → (if b then x else x) ≡ x
+if-either true x = refl
+if-either false x = refl
 
 pub if-never : {X : Type 0} (b : Bool) (x y : X) → (b ≡ true → ⊥) → (if b then x else y) ≡ y
 if-never true x y never = absurd (never refl)

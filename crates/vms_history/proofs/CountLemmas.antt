@@ -1,4 +1,5 @@
--- For other crates too: sums of natural numbers below a bound, beside sums of integers, and the largest of such numbers.
+-- For other crates too: sums of natural numbers below a bound, beside sums of integers, and the largest of such
+-- numbers.
 use Rattle.std.proofs.Common.{◌≡◌, ℕ, zero, suc, ◌+◌, ◌*◌, ◌<◌, ◌≤◌, ℤ, pos, unsigned_abs, refl, ap, arith, ⊎_elim}
 use Rattle.std.proofs.lemmas.Bool.{cases_eq}
 use Rattle.std.proofs.lemmas.Int.{ints}

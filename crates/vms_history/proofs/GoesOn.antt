@@ -12,15 +12,15 @@ module _ {F K S : Type 0} (machine : Machine F K S) (facts : F) (h : List (Event
   pub holds_while_live : (Holds IsQuiet : List (Event K) → Type 0)
       → ((e : Event K) (es : List (Event K)) → IsQuiet (e ∷ es) → IsQuiet es)
       → ((e : Event K) (m : List (Event K)) → IsLegal machine facts (e ∷ (m ++ h))
-      → lives_in machine.turn (m ++ h) p ≡ true → owner_in machine.turn (m ++ h) p ≡ owner_in machine.turn h p
+      → lives_in machine.role (m ++ h) p ≡ true → owner_in machine.role (m ++ h) p ≡ owner_in machine.role h p
       → IsQuiet (own (e ∷ m) p) → Holds (m ++ h) → Holds (e ∷ (m ++ h)))
-      → p ≤ begun_in machine.turn h → Holds h
-      → (m : List (Event K)) → IsLegal machine facts (m ++ h) → lives_in machine.turn (m ++ h) p ≡ true
+      → p ≤ begun_in machine.role h → Holds h
+      → (m : List (Event K)) → IsLegal machine facts (m ++ h) → lives_in machine.role (m ++ h) p ≡ true
       → IsQuiet (own m p) → Holds (m ++ h)
   holds_while_live Holds IsQuiet rest step given holds [] legal lives quiet = holds
   holds_while_live Holds IsQuiet rest step given holds (e ∷ m) legal lives quiet =
       let before = legal_before machine facts e (m ++ h) legal in
-      let grows = begun_in-append machine.turn m h in
+      let grows = begun_in-append machine.role m h in
       let lived = lives_in-before machine facts (e ∷ []) (m ++ h) p legal (omega arith) lives in
       step e m legal lived (owner_in-append machine facts m h p before given) quiet
       (holds_while_live Holds IsQuiet rest step given holds m before lived (by (nat_eq e.caller p) quiet))

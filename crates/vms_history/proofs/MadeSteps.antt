@@ -3,14 +3,14 @@ use Rattle.std.proofs.Common.{◌≡◌, ◌≢◌, ℕ, ◌<◌, ◌≤◌, tru
 use Rattle.vms_history.specs.declared.events.Event.{Event}
 use Rattle.vms_history.specs.Events.{own, after}
 use Rattle.vms_history.specs.Legal.{Machine, IsLegal}
-use Rattle.vms_history.specs.Making.{GoesOnWithout, HasMade, MayMake, MayBegin}
+use Rattle.vms_history.specs.PassSteps.{GoesOnWithout, HasMade, MayMake, MayBegin}
 use Rattle.vms_history.specs.Passes.{begun_in, lives_in, owner_in}
 use Rattle.vms_history.proofs.Own.{own-mine, after-steps, Extends-same, Extends-both}
 use Rattle.vms_history.proofs.PassLaws.{live_is_given, lives_in-others, owner_in-append}
 use Rattle.vms_history.proofs.Prefixes.{prefix_is_legal}
 
 module _ {F K S : Type 0} (machine : Machine F K S) (facts : F) where
-  pub goes_on-none : (h : List (Event K)) (p : ℕ) → IsLegal machine facts h → lives_in machine.turn h p ≡ true
+  pub goes_on-none : (h : List (Event K)) (p : ℕ) → IsLegal machine facts h → lives_in machine.role h p ≡ true
       → GoesOnWithout machine facts h h p
   goes_on-none h p legal lives =
       record { legal = legal; extends = Extends-same h; lived = lives; lives = lives; own_same = refl }
@@ -25,7 +25,7 @@ module _ {F K S : Type 0} (machine : Machine F K S) (facts : F) where
     own_same = second.own_same ∙ first.own_same;
   }
 
-  pub made-none : (h : List (Event K)) (p : ℕ) → IsLegal machine facts h → lives_in machine.turn h p ≡ true
+  pub made-none : (h : List (Event K)) (p : ℕ) → IsLegal machine facts h → lives_in machine.role h p ≡ true
       → HasMade machine facts h h p []
   made-none h p legal lives =
       record { legal = legal; extends = Extends-same h; lived = lives; lives = lives; made = refl }
@@ -53,7 +53,7 @@ module _ {F K S : Type 0} (machine : Machine F K S) (facts : F) where
   }
 
   -- one step of the pass itself
-  pub made-one : (h : List (Event K)) (p : ℕ) (step : K) → lives_in machine.turn h p ≡ true
+  pub made-one : (h : List (Event K)) (p : ℕ) (step : K) → lives_in machine.role h p ≡ true
       → IsLegal machine facts (record { caller = p; step = step } ∷ h)
       → HasMade machine facts (record { caller = p; step = step } ∷ h) h p (step ∷ [])
   made-one h p step lives legal =
@@ -63,7 +63,7 @@ module _ {F K S : Type 0} (machine : Machine F K S) (facts : F) where
         legal = legal;
         extends = (record { caller = p; step = step } ∷ [], refl);
         lived = lives;
-        lives = lives_in-others machine.turn (record { caller = p; step = step }) h p other ∙ lives;
+        lives = lives_in-others machine.role (record { caller = p; step = step }) h p other ∙ lives;
         made = own-mine (record { caller = p; step = step }) h p refl;
       }
 
@@ -84,7 +84,8 @@ module _ {F K S : Type 0} (machine : Machine F K S) (facts : F) where
         may (done ++ (step ∷ rest)) call later done step rest refl made tells
 
 -- what stands of a pass that has made some steps while others acted
-module _ {F K S : Type 0} (machine : Machine F K S) (facts : F) (later earlier : List (Event K)) (p : ℕ) (steps : List K)
+module _ {F K S : Type 0} (machine : Machine F K S) (facts : F) (later earlier : List (Event K)) (p : ℕ)
+    (steps : List K)
     (made : HasMade machine facts later earlier p steps) where
   pub joined-legal : IsLegal machine facts (made.extends.0 ++ earlier)
   joined-legal = subst (IsLegal machine facts) made.extends.1 made.legal
@@ -93,10 +94,10 @@ module _ {F K S : Type 0} (machine : Machine F K S) (facts : F) (later earlier :
   earlier-legal = prefix_is_legal machine facts made.extends.0 earlier joined-legal
 
   -- the pass has been given its number
-  pub made-given : (0 < p) × (p ≤ begun_in machine.turn earlier)
+  pub made-given : (0 < p) × (p ≤ begun_in machine.role earlier)
   made-given = live_is_given machine facts earlier p earlier-legal made.lived
 
   -- it owns what it owned
-  pub made-owner : owner_in machine.turn later p ≡ owner_in machine.turn earlier p
-  made-owner = ap (λ g. owner_in machine.turn g p) made.extends.1
+  pub made-owner : owner_in machine.role later p ≡ owner_in machine.role earlier p
+  made-owner = ap (λ g. owner_in machine.role g p) made.extends.1
       ∙ owner_in-append machine facts made.extends.0 earlier p joined-legal made-given.1

@@ -1,5 +1,6 @@
 -- For other crates too: what a legal history says of its newest event and of its beginnings, and what every step keeps.
-use Rattle.std.proofs.Common.{◌≡◌, ℕ, nat_eq, if◌then◌else◌, Bool, true, false, List, [], ◌∷◌, ◌++◌, Option, refl, subst, eqb-true}
+use Rattle.std.proofs.Common.{◌≡◌, ℕ, nat_eq, if◌then◌else◌, Bool, true, false, List}
+use Rattle.std.proofs.Common.{[], ◌∷◌, ◌++◌, Option, refl, subst, eqb-true}
 use Rattle.vms_base.specs.declared.ids.CpuId.{CpuId}
 use Rattle.vms_history.specs.declared.events.Event.{Event}
 use Rattle.vms_history.specs.Events.{own}
@@ -11,7 +12,7 @@ module _ {F K S : Type 0} (machine : Machine F K S) (facts : F) where
   legal_before e h legal = legal.0
 
   pub acts_of : (e : Event K) (h : List (Event K)) → IsLegal machine facts (e ∷ h)
-      → Acts machine facts h e.caller (machine.turn e.step)
+      → Acts machine facts h e.caller (machine.role e.step)
   acts_of e h legal = legal.1
 
   pub meets_of : (e : Event K) (h : List (Event K)) → IsLegal machine facts (e ∷ h)
@@ -32,9 +33,10 @@ module _ {F K S : Type 0} (machine : Machine F K S) (facts : F) where
       → (h : List (Event K)) → Holds (state_after machine facts h)
   state_after-keeps Holds base step [] = base
   state_after-keeps Holds base step (e ∷ h) =
-      step (owner_in machine.turn h e.caller) e.step (state_after machine facts h) (state_after-keeps Holds base step h)
+      step (owner_in machine.role h e.caller) e.step (state_after machine facts h) (state_after-keeps Holds base step h)
 
-  -- what holds of no events, and of a caller's own after each that it made if it held before, holds of every caller's own
+  -- what holds of no events, and of a caller's own after each that it made if it held before, holds of every caller's
+  -- own
   pub own-keeps : (Holds : List (Event K) → Type 0) → Holds []
       → ((e : Event K) (h : List (Event K)) → IsLegal machine facts (e ∷ h) → Holds (own h e.caller)
       → Holds (e ∷ own h e.caller))

@@ -3,13 +3,13 @@ use Rattle.std.specs.Prelude.{◌≡◌, ◌≢◌, ℕ, suc, true, false, List,
 use Rattle.vms_base.specs.declared.ids.CpuId.{CpuId}
 use Rattle.vms_history.specs.declared.events.Event.{Event}
 use Rattle.vms_history.specs.Events.{Extends, own}
-use Rattle.vms_history.specs.Passes.{Turn, begun_in, lives_in, owner_in, IsFree}
-use Rattle.vms_history.specs.Passes.Turn.{Works, Begins, Ends}
+use Rattle.vms_history.specs.Passes.{Role, begun_in, lives_in, owner_in, IsFree}
+use Rattle.vms_history.specs.Passes.Role.{Works, Begins, Ends}
 
 -- what a table has to say of its facts F, its steps K and its states S
 pub record Machine (F K S : Type 0) : Type 1 where
   -- what a step does to the passes
-  pub turn : K → Turn
+  pub role : K → Role
   -- the state that a history begins with
   pub base : F → S
   -- the state after a step, which may depend on the CPU that the acting pass owns
@@ -25,35 +25,35 @@ pub record Machine (F K S : Type 0) : Type 1 where
 
 -- a step that begins or ends a pass leaves the state, and its condition asks nothing beyond the rules of the passes
 pub record IsQuiet {F K S : Type 0} (machine : Machine F K S) : Type 0 where
-  pub leaves : (facts : F) (who : Option CpuId) (step : K) (s : S) → machine.turn step ≢ Works →
+  pub leaves : (facts : F) (who : Option CpuId) (step : K) (s : S) → machine.role step ≢ Works →
       machine.effect facts who step s ≡ s
-  pub asks_nothing : (facts : F) (h : List (Event K)) (s : S) (p : ℕ) (step : K) → machine.turn step ≢ Works →
+  pub asks_nothing : (facts : F) (h : List (Event K)) (s : S) (p : ℕ) (step : K) → machine.role step ≢ Works →
       machine.Meets facts h s p step
 
 -- who may make a step: the main pass alone begins and ends passes, each new one under the next number, and the
 -- others act while they live
-abbrev pub Acts : {F K S : Type 0} → Machine F K S → F → List (Event K) → ℕ → Turn → Type 0
-Acts machine facts h p Works = (p ≢ 0) × (lives_in machine.turn h p ≡ true)
+abbrev pub Acts : {F K S : Type 0} → Machine F K S → F → List (Event K) → ℕ → Role → Type 0
+Acts machine facts h p Works = (p ≢ 0) × (lives_in machine.role h p ≡ true)
 Acts machine facts h p (Begins q who) =
-    (p ≡ 0) × (q ≡ suc (begun_in machine.turn h)) × machine.MayOwn facts who × IsFree machine.turn h who
-Acts machine facts h p (Ends q) = (p ≡ 0) × (lives_in machine.turn h q ≡ true) × machine.MayEnd facts (own h q)
+    (p ≡ 0) × (q ≡ suc (begun_in machine.role h)) × machine.MayOwn facts who × IsFree machine.role h who
+Acts machine facts h p (Ends q) = (p ≡ 0) × (lives_in machine.role h q ≡ true) × machine.MayEnd facts (own h q)
 
 -- the state after the events of a history
 abbrev pub state_after : {F K S : Type 0} → Machine F K S → F → List (Event K) → S
 state_after machine facts [] = machine.base facts
 state_after machine facts (e ∷ h) =
-    machine.effect facts (owner_in machine.turn h e.caller) e.step (state_after machine facts h)
+    machine.effect facts (owner_in machine.role h e.caller) e.step (state_after machine facts h)
 
 -- each event was made by a caller that may act, and its condition held in the state before it
 abbrev pub IsLegal : {F K S : Type 0} → Machine F K S → F → List (Event K) → Type 0
 IsLegal machine facts [] = machine.CanBegin facts
-IsLegal machine facts (e ∷ h) = IsLegal machine facts h × Acts machine facts h e.caller (machine.turn e.step)
+IsLegal machine facts (e ∷ h) = IsLegal machine facts h × Acts machine facts h e.caller (machine.role e.step)
     × machine.Meets facts h (state_after machine facts h) e.caller e.step
 
 -- a legal history in which every pass has ended
 pub record IsComplete {F K S : Type 0} (machine : Machine F K S) (facts : F) (h : List (Event K)) : Type 0 where
   pub legal : IsLegal machine facts h
-  pub ended : (q : ℕ) → lives_in machine.turn h q ≡ false
+  pub ended : (q : ℕ) → lives_in machine.role h q ≡ false
 
 -- caller p made e in the history h, when the part before it was the whole history
 pub record MadeAt {F K S : Type 0} (machine : Machine F K S) (facts : F) (h : List (Event K)) (p : ℕ)

@@ -2,4 +2,4 @@ pub mod Sums
 pub mod Events
 pub mod Passes
 pub mod Legal
-pub mod Making
+pub mod PassSteps

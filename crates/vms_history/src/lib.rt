@@ -6,8 +6,6 @@
 
 mod events;
 mod laws;
-#[cfg(test)]
-mod tests;
 
 pub use events::Event;
 pub use laws::{
@@ -15,6 +13,6 @@ pub use laws::{
     histories_go_on, live_is_given, made_steps_add_up, main_changes_passes, newest_event_is_legal,
     newest_own_parts, not_given_is_unused, nothing_follows, one_live_owner, others_change_no_pass,
     own_after_steps, own_at_is_own, own_events_are_legal, own_of_list, owner_may_own, owner_stays,
-    prefix_is_legal, quiet_steps_leave, steps_in_a_row, sum_goes_by_values, total_adds_up,
-    total_by_caller, turn_changes_passes, who_may_act,
+    prefix_is_legal, quiet_steps_leave, role_changes_passes, steps_in_a_row, sum_goes_by_values,
+    total_adds_up, total_by_caller, who_may_act,
 };

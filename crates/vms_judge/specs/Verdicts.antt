@@ -16,7 +16,7 @@ pub record IsFirstIllegal {F K S : Type 0} (machine : Machine F K S) (facts : F)
 -- a legal history in which a pass lives
 pub record IsOpen {F K S : Type 0} (machine : Machine F K S) (facts : F) (h : List (Event K)) : Type 0 where
   pub legal : IsLegal machine facts h
-  pub alive : (q : ℕ) × (lives_in machine.turn h q ≡ true)
+  pub alive : (q : ℕ) × (lives_in machine.role h q ≡ true)
 
 -- what each verdict says of events that stand the oldest first
 abbrev pub IsVerdict : {F K S : Type 0} → Machine F K S → F → List (Event K) → Verdict → Type 0

@@ -27,7 +27,7 @@ pub fn judge<T: Judged>(facts: &T::Facts, events: &[Event<T::Step>]) -> Verdict
     }
 }
 
-/// Whether a legal history may go on with an event, which stands behind the others in `longer`.
+/// Whether a legal history may go on with an event, which follows the others in `longer`.
 fn may_follow<T: Judged>(
     facts: &T::Facts,
     past: &[Event<T::Step>],
@@ -39,6 +39,6 @@ fn may_follow<T: Judged>(
     requires longer { reverse longer.now ≡ event.now ∷ reverse past.now }
     ensures { IsTrue result ↔ IsLegal T.machine facts.now (event.now ∷ reverse past.now) }
 {
-    acts::<T>(facts, past, event.caller, T::turn(&event.step))
+    acts::<T>(facts, past, event.caller, T::role(&event.step))
         && T::meets(facts, past, longer, event)
 }

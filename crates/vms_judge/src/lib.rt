@@ -8,15 +8,13 @@ mod acting;
 mod judging;
 mod laws;
 mod passes;
+mod roles;
 mod tables;
-#[cfg(test)]
-mod tests;
-mod turns;
 mod verdicts;
 
 pub use judging::judge;
 pub use laws::one_verdict;
 pub use passes::{begun, lives, owner};
-pub use tables::{Judged, Turning};
-pub use turns::Turn;
+pub use roles::Role;
+pub use tables::{Judged, RoleTable};
 pub use verdicts::Verdict;

@@ -1,21 +1,21 @@
 ghost use Rattle.std.specs.Prelude.{◌≡◌, ◌↔◌, ◌∷◌, IsTrue, reverse};
 ghost use Rattle.vms_history.specs.Events.{own};
 ghost use Rattle.vms_history.specs.Legal.{IsLegal, state_after};
-ghost use Rattle.vms_judge.specs.Turns.{turn_of};
+ghost use Rattle.vms_judge.specs.Roles.{role_of};
 
-use crate::Turn;
+use crate::Role;
 use vms_base::CpuId;
 use vms_history::{Event, Table};
 
 /// A table whose steps tell what they do to the passes.
-pub trait Turning: Table {
+pub trait RoleTable: Table {
     /// What a step does to the passes.
-    fn turn(step: &Self::Step) -> Turn
-        ensures { turn_of result ≡ Self.machine.turn step.now };
+    fn role(step: &Self::Step) -> Role
+        ensures { role_of result ≡ Self.machine.role step.now };
 }
 
 /// A table that answers whether each part of its machine's rules holds. Events stand the oldest first.
-pub trait Judged: Turning {
+pub trait Judged: RoleTable {
     /// Whether a history may begin with these facts.
     fn can_begin(facts: &Self::Facts) -> bool
         ensures { IsTrue result ↔ Self.machine.CanBegin facts.now };
@@ -25,13 +25,13 @@ pub trait Judged: Turning {
         requires { Self.machine.CanBegin facts.now }
         ensures { IsTrue result ↔ Self.machine.MayOwn facts.now who };
 
-    /// Whether a pass may end that made its events of a legal history.
+    /// Whether a pass may end after its own events of a legal history.
     fn may_end(facts: &Self::Facts, past: &[Event<Self::Step>], pass: u32) -> bool
         requires base { Self.machine.CanBegin facts.now }
         requires legal { IsLegal Self.machine facts.now (reverse past.now) }
         ensures { IsTrue result ↔ Self.machine.MayEnd facts.now (own (reverse past.now) pass) };
 
-    /// Whether an event meets the condition of its step after a legal history. In `longer` it stands behind that
+    /// Whether an event meets the condition of its step after a legal history. In `longer` it follows that
     /// history's events.
     fn meets(
         facts: &Self::Facts,

@@ -1,5 +1,6 @@
 -- In a legal history no caller carries anything for a counter or an item past those of the layout.
-use Rattle.std.proofs.Common.{◌≡◌, ℕ, ◌+◌, ◌*◌, ◌%◌, ◌<◌, ◌≤◌, Bool, true, false, [], ◌∷◌, length, get_or, ℤ, pos, refl, arith, if◌then◌else◌, nat_eq, nat_lt, ⊎_elim}
+use Rattle.std.proofs.Common.{◌≡◌, ℕ, ◌+◌, ◌*◌, ◌%◌, ◌<◌, ◌≤◌, Bool, true, false, []}
+use Rattle.std.proofs.Common.{◌∷◌, length, get_or, ℤ, pos, refl, arith, if◌then◌else◌, nat_eq, nat_lt, ⊎_elim}
 use Rattle.std.proofs.lemmas.Int.{ints}
 use Rattle.std.proofs.lemmas.Bool.{ne_eqb}
 use Rattle.vms_base.specs.Places.{Shape, IsLayout, counter_count, item_count, item_of, group_of, first_of, place_of}
@@ -15,7 +16,9 @@ use Rattle.vms_core.specs.Own.{moved, moved_of_item, carried, carried_of_item}
 use Rattle.vms_core.specs.Pages.{History, IsLegal, state_after}
 
 item_of-within : (shape : Shape) → IsLayout shape → (k : ℕ) → item_of shape k < item_count shape
-item_of-within shape layout k = by (nat_lt (place_of shape k) (length shape.zones)) (⊎_elim (λ (e : shape.positions ≡ 8). omega arith) (λ (e : shape.positions ≡ 16). omega arith) layout.positions)
+item_of-within shape layout k =
+    by (nat_lt (place_of shape k) (length shape.zones))
+    (⊎_elim (λ (e : shape.positions ≡ 8). omega arith) (λ (e : shape.positions ≡ 16). omega arith) layout.positions)
   where
     by : (b : Bool) → 0 < shape.positions
         → (if b then k % shape.positions else (shape.positions + k % shape.positions)) < 2 * shape.positions
@@ -25,13 +28,16 @@ item_of-within shape layout k = by (nat_lt (place_of shape k) (length shape.zone
 module _ (facts : Facts) (h : History) (s : State) (p : ℕ) where
   moved-beyond : (step : Step) (k : ℕ) → Meets facts h s p step → counter_count facts.layout ≤ k → moved k step ≡ pos 0
   moved-beyond (Put l w t delta how) k meets beyond =
-      let other : nat_eq l.number k ≡ false = ne_eqb l.number k (λ same. let within = meets.counter in absurd (omega arith)) in
+      let other : nat_eq l.number k ≡ false =
+      ne_eqb l.number k (λ same. let within = meets.counter in absurd (omega arith)) in
       rw other
   moved-beyond (Take c j w) k meets beyond =
-      let other : nat_eq j.number (group_of k) ≡ false = ne_eqb j.number (group_of k) (λ same. let within = meets.group in absurd (omega arith)) in
+      let other : nat_eq j.number (group_of k) ≡ false =
+      ne_eqb j.number (group_of k) (λ same. let within = meets.group in absurd (omega arith)) in
       rw other
   moved-beyond (AddG l a) k meets beyond =
-      let other : nat_eq l.number k ≡ false = ne_eqb l.number k (λ same. let within = meets.counter in absurd (omega arith)) in
+      let other : nat_eq l.number k ≡ false =
+      ne_eqb l.number k (λ same. let within = meets.counter in absurd (omega arith)) in
       rw other
   moved-beyond _ k meets beyond = refl
 
@@ -39,16 +45,19 @@ module _ (facts : Facts) (h : History) (s : State) (p : ℕ) where
       → item_count facts.layout ≤ i → moved_of_item facts.layout i step ≡ pos 0
   moved_of_item-beyond layout (Put l w t delta how) i meets beyond =
       let other : nat_eq (item_of facts.layout l.number) i ≡ false =
-      ne_eqb (item_of facts.layout l.number) i (λ same. let within = item_of-within facts.layout layout l.number in absurd (omega arith)) in
+      ne_eqb (item_of facts.layout l.number) i
+      (λ same. let within = item_of-within facts.layout layout l.number in absurd (omega arith)) in
       rw other
   moved_of_item-beyond layout (Take c j w) i meets beyond =
-      sum_below-zeros (λ n. if nat_eq (item_of facts.layout (first_of j.number + n)) i then get_or w.values n (pos 0) else pos 0) 8
+      sum_below-zeros
+      (λ n. if nat_eq (item_of facts.layout (first_of j.number + n)) i then get_or w.values n (pos 0) else pos 0) 8
       (λ n n_in. let other : nat_eq (item_of facts.layout (first_of j.number + n)) i ≡ false =
       ne_eqb (item_of facts.layout (first_of j.number + n)) i
       (λ same. let within = item_of-within facts.layout layout (first_of j.number + n) in absurd (omega arith)) in
       rw other)
   moved_of_item-beyond layout (AddS l a) i meets beyond =
-      let other : nat_eq l.number i ≡ false = ne_eqb l.number i (λ same. let within = meets.item in absurd (omega arith)) in
+      let other : nat_eq l.number i ≡ false =
+      ne_eqb l.number i (λ same. let within = meets.item in absurd (omega arith)) in
       rw other
   moved_of_item-beyond layout _ i meets beyond = refl
 
@@ -62,13 +71,15 @@ total-more measure e h p part rest = by (nat_eq e.caller p)
     by false = rest
 
 module _ (facts : Facts) where
-  pub carried-beyond : (h : History) (p k : ℕ) → IsLegal facts h → counter_count facts.layout ≤ k → carried k (own h p) ≡ pos 0
+  pub carried-beyond : (h : History) (p k : ℕ) → IsLegal facts h → counter_count facts.layout ≤ k
+      → carried k (own h p) ≡ pos 0
   carried-beyond [] p k legal beyond = refl
   carried-beyond (e ∷ h) p k legal beyond =
       total-more (moved k) e h p (moved-beyond facts h (state_after facts h) e.caller e.step k legal.2 beyond)
       (carried-beyond h p k legal.0 beyond)
 
-  pub carried_of_item-beyond : (h : History) (p i : ℕ) → IsLayout facts.layout → IsLegal facts h → item_count facts.layout ≤ i
+  pub carried_of_item-beyond : (h : History) (p i : ℕ) → IsLayout facts.layout → IsLegal facts h
+      → item_count facts.layout ≤ i
       → carried_of_item facts.layout i (own h p) ≡ pos 0
   carried_of_item-beyond [] p i layout legal beyond = refl
   carried_of_item-beyond (e ∷ h) p i layout legal beyond =

@@ -8,10 +8,11 @@ use Rattle.vms_judge.proofs.Prefixes.{reverse_more, legal_first}
 use Rattle.vms_core.specs.declared.steps.Facts.{Facts}
 use Rattle.vms_core.specs.declared.steps.Step.{Step}
 use Rattle.vms_core.specs.Cells.{value_at, system_at, diff_at, mark_at, mark_sets_at, acknowledged_at}
-use Rattle.vms_core.specs.Effects.{value_after, system_after, diff_after, mark_after, mark_sets_after, acknowledged_after}
+use Rattle.vms_core.specs.Effects.{value_after, system_after, diff_after}
+use Rattle.vms_core.specs.Effects.{mark_after, mark_sets_after, acknowledged_after}
 use Rattle.vms_core.specs.NumberChanges.{ChangesNumbers}
 use Rattle.vms_core.specs.Pages.{IsLegal, pages, state_after}
-use Rattle.vms_core.specs.Steps.{turn}
+use Rattle.vms_core.specs.Steps.{role}
 use Rattle.vms_core.proofs.NumberChanges.{numbers-change}
 
 -- event i of a legal history, which is given oldest first
@@ -38,7 +39,7 @@ module _ (facts : Facts) (xs : List (Event Step)) (legal : IsLegal facts (revers
   system_at-more k = ap (λ h. system_at (state_after facts h) k) next ∙ changes.systems k
 
   pub diff_at-more : (c k : ℕ) → IsCounter facts.layout k → diff_at (state_after facts (reverse (take (i + 1) xs))) c k
-      ≡ diff_after (owner_in turn h e.caller) c k e.step (diff_at (state_after facts h) c k)
+      ≡ diff_after (owner_in role h e.caller) c k e.step (diff_at (state_after facts h) c k)
   diff_at-more c k k_in = ap (λ h. diff_at (state_after facts h) c k) next ∙ changes.diffs c k k_in
 
   pub mark_at-more : (g : ℕ) → mark_at (state_after facts (reverse (take (i + 1) xs))) g
@@ -51,6 +52,6 @@ module _ (facts : Facts) (xs : List (Event Step)) (legal : IsLegal facts (revers
 
   pub acknowledged_at-more : (c g : ℕ) → IsZone facts.layout g
       → acknowledged_at (state_after facts (reverse (take (i + 1) xs))) c g
-      ≡ acknowledged_after (owner_in turn h e.caller) c g e.step (acknowledged_at (state_after facts h) c g)
+      ≡ acknowledged_after (owner_in role h e.caller) c g e.step (acknowledged_at (state_after facts h) c g)
   acknowledged_at-more c g g_in =
       ap (λ h. acknowledged_at (state_after facts h) c g) next ∙ changes.acknowledged c g g_in

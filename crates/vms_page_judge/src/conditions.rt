@@ -10,7 +10,7 @@ use crate::loads::{
 use crate::worker::{acknowledges, adds_to_place, adds_to_system, misses, puts};
 use vms_core::{Event, Facts, Step};
 
-/// Whether an event meets the condition of its step after a legal history. The event stands behind the others in
+/// Whether an event meets the condition of its step after a legal history. The event follows the others in
 /// `longer`.
 pub fn meets(facts: &Facts, past: &[Event], longer: &[Event], event: Event) -> bool
     requires base { IsBase facts.now }

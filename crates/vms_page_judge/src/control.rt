@@ -12,7 +12,7 @@ use crate::states::{acknowledged_now, cpu_now, diff_now, mark_now};
 use vms_base::{CounterId, CpuId, CpuState, PlaceId};
 use vms_core::{Event, Facts, Step};
 
-/// Whether a threshold may be set, by the event that stands behind the others in `longer`.
+/// Whether a threshold may be set, by the event that follows the others in `longer`.
 pub fn sets_threshold(
     facts: &Facts,
     past: &[Event],

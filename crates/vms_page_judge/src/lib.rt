@@ -3,20 +3,18 @@
 
 mod bases;
 mod carried;
-mod carrying;
 mod changes;
 mod conditions;
 mod control;
 mod covering;
 mod loads;
+mod nothing_carried;
 mod openings;
-mod own;
+mod own_events;
 mod owners;
 mod peaks;
 mod states;
 mod tables;
-#[cfg(test)]
-mod tests;
 mod totals;
 mod worker;
 

@@ -3,9 +3,10 @@ ghost use Rattle.vms_base.specs.Places.{IsCpu, IsPlace, IsZone, IsCounter, IsIte
 ghost use Rattle.vms_history.specs.Passes.{owner_in};
 ghost use Rattle.vms_core.specs.Bases.{IsBase};
 ghost use Rattle.vms_core.specs.Cells as cells;
-ghost use Rattle.vms_core.specs.Effects.{value_after, system_after, diff_after, mark_after, mark_sets_after, acknowledged_after};
+ghost use Rattle.vms_core.specs.Effects.{value_after, system_after, diff_after};
+ghost use Rattle.vms_core.specs.Effects.{mark_after, mark_sets_after, acknowledged_after};
 ghost use Rattle.vms_core.specs.Pages.{IsLegal, state_after};
-ghost use Rattle.vms_core.specs.Steps.{turn};
+ghost use Rattle.vms_core.specs.Steps.{role};
 
 use crate::JudgedPages;
 use crate::changes::differential_after;
@@ -80,7 +81,7 @@ pub fn diff_now(facts: &Facts, past: &[Event], cpu: CpuId, counter: CounterId) -
 
 fn diff_of_step(past: &[Event], event: Event, cpu: CpuId, counter: CounterId, before: i64) -> i64
     ensures { result ≡
-        diff_after (owner_in turn (reverse past.now) event.caller) cpu.number counter.number event.step before }
+        diff_after (owner_in role (reverse past.now) event.caller) cpu.number counter.number event.step before }
 {
     match event.step {
         Step::Put(of, list, t, delta, mode) if of.number == counter.number => {
@@ -185,7 +186,7 @@ fn acknowledged_of_step(
     zone: PlaceId,
     before: Option<u32>,
 ) -> Option<u32>
-    ensures { result ≡ acknowledged_after (owner_in turn (reverse past.now) event.caller)
+    ensures { result ≡ acknowledged_after (owner_in role (reverse past.now) event.caller)
         cpu.number zone.number event.step before }
 {
     match event.step {

@@ -3,13 +3,13 @@ ghost use Rattle.vms_core.specs.Pages.{pages};
 ghost use Rattle.vms_core.specs.Quiet.{quiet_pages};
 
 use crate::bases::is_base;
-use crate::carrying::carries_nothing;
 use crate::conditions::meets;
+use crate::nothing_carried::carries_nothing;
 use crate::owners::may_own;
 use vms_base::CpuId;
 use vms_core::{Event, Facts, Step};
 use vms_history::Table;
-use vms_judge::{Judged, Turn, Turning};
+use vms_judge::{Judged, Role, RoleTable};
 
 /// The table of page counters, whose histories can be judged in time that grows with the cube of the number of events.
 #[derive(Debug, Drop)]
@@ -27,12 +27,12 @@ impl Table for JudgedPages {
     ghost quiet = { quiet_pages };
 }
 
-impl Turning for JudgedPages {
-    fn turn(step: &Step) -> Turn {
+impl RoleTable for JudgedPages {
+    fn role(step: &Step) -> Role {
         match *step {
-            Step::Split(pass, who) => Turn::Begins(pass, who),
-            Step::Join(pass) => Turn::Ends(pass),
-            _ => Turn::Works,
+            Step::Split(pass, who) => Role::Begins(pass, who),
+            Step::Join(pass) => Role::Ends(pass),
+            _ => Role::Works,
         }
     }
 }

@@ -1,6 +1,6 @@
 ghost use Rattle.std.specs.Prelude.{◌≡◌, ◌≤◌, ◌+◌, ◌^◌, reverse};
 ghost use Rattle.vms_history.specs.Passes.{owner_in};
-ghost use Rattle.vms_core.specs.Steps.{turn};
+ghost use Rattle.vms_core.specs.Steps.{role};
 ghost use Rattle.vms_core.specs.Totals as totals;
 
 use crate::JudgedPages;
@@ -24,7 +24,7 @@ pub fn spent(past: &[Event], cpu: CpuId, counter: CounterId) -> u128
 /// What an event spends of the volume of a CPU on a counter.
 fn spent_at(past: &[Event], event: Event, cpu: CpuId, counter: CounterId) -> u64
     ensures value { result ≡
-        totals.spent_by (owner_in turn (reverse past.now) event.caller) cpu.number counter.number event.step }
+        totals.spent_by (owner_in role (reverse past.now) event.caller) cpu.number counter.number event.step }
     ensures bound { result ≤ 2 ^ 63 }
 {
     match event.step {

@@ -9,9 +9,9 @@ ghost use Rattle.vms_core.specs.Pages.{IsLegal, state_after};
 ghost use Rattle.vms_core.specs.Totals as totals;
 
 use crate::carried::{carried, carried_of_item};
-use crate::carrying::carries_nothing;
 use crate::loads::tells_group;
-use crate::own::{found, has_put, loaded, took};
+use crate::nothing_carried::carries_nothing;
+use crate::own_events::{found, has_put, loaded, took};
 use crate::owners::owned;
 use crate::states::cpu_now;
 use crate::totals::spent;

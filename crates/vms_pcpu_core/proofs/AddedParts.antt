@@ -1,5 +1,6 @@
 -- What is added to local parts, CPU by CPU, is no more than what others add in all.
-use Rattle.std.proofs.Common.{◌≡◌, ℕ, ◌<◌, ◌&&◌, Bool, true, false, [], ◌∷◌, ◌++◌, Option, Some, None, ℤ, pos, ◌+ℤ◌, ◌-ℤ◌, ◌≤ℤ◌, refl, sym, ap, subst, ◌∙◌, if◌then◌else◌, nat_eq, eq-eqb, arith}
+use Rattle.std.proofs.Common.{◌≡◌, ℕ, ◌<◌, ◌&&◌, Bool, true, false, [], ◌∷◌, ◌++◌, Option, Some, None, ℤ}
+use Rattle.std.proofs.Common.{pos, ◌+ℤ◌, ◌-ℤ◌, ◌≤ℤ◌, refl, sym, ap, subst, ◌∙◌, if◌then◌else◌, nat_eq, eq-eqb, arith}
 use Rattle.std.proofs.lemmas.Int.{ints}
 use Rattle.std.proofs.lemmas.Bool.{ne_eqb}
 use Rattle.vms_base.specs.declared.ids.CpuId.{CpuId}
@@ -14,25 +15,25 @@ use Rattle.vms_pcpu_core.specs.declared.steps.PcpuStep.TheVariants.{AddL}
 use Rattle.vms_pcpu_core.specs.Histories.{History, IsLegal}
 use Rattle.vms_pcpu_core.specs.Limits.{rise, fall, by_others_between}
 use Rattle.vms_pcpu_core.specs.Own.{carried}
-use Rattle.vms_pcpu_core.specs.Steps.{turn}
+use Rattle.vms_pcpu_core.specs.Steps.{role}
 use Rattle.vms_pcpu_core.specs.Totals.{amount_of}
-use Rattle.vms_pcpu_core.specs.Watching.{IsLoad, AreLoads, added_by, added, added_since}
+use Rattle.vms_pcpu_core.specs.Knowledge.{IsLoad, AreLoads, added_by, added, added_since}
 use Rattle.vms_pcpu_core.proofs.OtherChanges.{rise-fall, rise-least, fall-least}
 use Rattle.vms_history.proofs.SumBounds.{sum_below-le}
 use Rattle.vms_pcpu_core.proofs.Totals.{owned}
-use Rattle.vms_pcpu_core.proofs.Watched.{loads-before}
+use Rattle.vms_pcpu_core.proofs.KnowledgeKept.{loads-before}
 
 -- the rises, or the falls, of the local part of CPU c for counter j by each amount that its owner added, summed up
 abbrev pub added_part : (ℤ → ℤ) → History → ℕ → ℕ → ℤ
 added_part part [] c j = pos 0
-added_part part (e ∷ h) c j = part (added_by (owner_in turn h e.caller) c j e.step) +ℤ added_part part h c j
+added_part part (e ∷ h) c j = part (added_by (owner_in role h e.caller) c j e.step) +ℤ added_part part h c j
 
 added-parts : (h : History) (c j : ℕ) → added h c j ≡ added_part rise h c j -ℤ added_part fall h c j
 added-parts [] c j = omega (arith, ints)
 added-parts (e ∷ h) c j = omega (
   arith,
   ints,
-  rise-fall (added_by (owner_in turn h e.caller) c j e.step),
+  rise-fall (added_by (owner_in role h e.caller) c j e.step),
   added-parts h
       c j,
 )
@@ -41,7 +42,7 @@ module _ (part : ℤ → ℤ) (least : (x : ℤ) → pos 0 ≤ℤ part x) (none 
   added_part-append : (m h : History) (c j : ℕ) → added_part part h c j ≤ℤ added_part part (m ++ h) c j
   added_part-append [] h c j = omega (arith, ints)
   added_part-append (e ∷ m) h c j =
-      omega (arith, ints, least (added_by (owner_in turn (m ++ h) e.caller) c j e.step), added_part-append m h c j)
+      omega (arith, ints, least (added_by (owner_in role (m ++ h) e.caller) c j e.step), added_part-append m h c j)
 
   added_part-grows : (g h : History) (c j : ℕ) → Extends g h → added_part part h c j ≤ℤ added_part part g c j
   added_part-grows g h c j more = subst (λ es. added_part part h c j ≤ℤ added_part part es c j) (sym more.1)
@@ -97,7 +98,7 @@ module _ (part : ℤ → ℤ) (least : (x : ℤ) → pos 0 ≤ℤ part x) (none 
       omega (arith, ints, zeros)
   parts-below facts (e ∷ m) won p j legal own_are =
       let g : History = m ++ won in
-      let who = owner_in turn g e.caller in
+      let who = owner_in role g e.caller in
       let before = loads-before e m p own_are in
       let rest = parts-below facts m won p j legal.0 before.1 in
       let two =

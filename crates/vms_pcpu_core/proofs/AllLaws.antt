@@ -5,7 +5,7 @@ use Rattle.vms_pcpu_core.specs.declared.steps.PcpuFacts.{PcpuFacts}
 use Rattle.vms_pcpu_core.specs.Histories.{percpu, History, IsLegal}
 use Rattle.vms_pcpu_core.specs.Laws.{KeepsLaws}
 use Rattle.vms_pcpu_core.proofs.Bounds.{locals-bounded}
-use Rattle.vms_pcpu_core.proofs.ByCaller.{adds-by_caller, volumes-kept}
+use Rattle.vms_pcpu_core.proofs.ByCaller.{AddsByCaller-holds, volumes-kept}
 use Rattle.vms_pcpu_core.proofs.DeadLocals.{dead-moves_once}
 use Rattle.vms_pcpu_core.proofs.Drift.{counts-drift}
 use Rattle.vms_pcpu_core.proofs.Locks.{holder-one}
@@ -22,7 +22,7 @@ all-kept facts h legal = record {
   drift = counts-drift facts h legal;
   numbers = numbers-small facts h legal;
   dead_parts = dead-moves_once facts h legal;
-  callers = adds-by_caller facts h legal;
+  callers = AddsByCaller-holds facts h legal;
   volumes = volumes-kept facts h legal;
 }
 

@@ -1,5 +1,7 @@
 -- For other crates too: a limited addition of a caller that is alone with the counter is exact.
-use Rattle.std.proofs.Common.{◌≡◌, ◌≢◌, ℕ, Bool, true, false, true≢false, List, [], ◌∷◌, ◌++◌, length, length-append, ◌+◌, Some, ℤ, pos, ◌+ℤ◌, ◌-ℤ◌, ◌≤ℤ◌, ◌<ℤ◌, refl, sym, ap, subst, ◌∙◌, if◌then◌else◌, nat_eq, arith}
+use Rattle.std.proofs.Common.{◌≡◌, ◌≢◌, ℕ, Bool, true, false, true≢false, List, [], ◌∷◌}
+use Rattle.std.proofs.Common.{◌++◌, length, length-append, ◌+◌, Some, ℤ, pos, ◌+ℤ◌, ◌-ℤ◌, ◌≤ℤ◌}
+use Rattle.std.proofs.Common.{◌<ℤ◌, refl, sym, ap, subst, ◌∙◌, if◌then◌else◌, nat_eq, arith}
 use Rattle.std.proofs.lemmas.Int.{ints}
 use Rattle.std.proofs.lemmas.Bool.{eqb-false}
 use Rattle.vms_base.specs.declared.ids.CpuId.{CpuId}
@@ -15,12 +17,12 @@ use Rattle.vms_pcpu_core.specs.States.{batch_at}
 use Rattle.vms_pcpu_core.specs.Calls.{IsLimitedAdd, unknown, present_cpus}
 use Rattle.vms_pcpu_core.specs.Histories.{History}
 use Rattle.vms_pcpu_core.specs.Limits.{rise, fall, by_others, by_others_between, carried_by_others, IsAlone, IsExact}
-use Rattle.vms_pcpu_core.specs.Making.{event, MadeSteps}
+use Rattle.vms_pcpu_core.specs.MadeBetween.{event, MadeSteps}
 use Rattle.vms_pcpu_core.specs.Own.{carried}
-use Rattle.vms_pcpu_core.specs.Steps.{turn}
+use Rattle.vms_pcpu_core.specs.Steps.{role}
 use Rattle.vms_pcpu_core.specs.Totals.{amount_of, true_total}
 use Rattle.vms_pcpu_core.proofs.LimitedAdds.{limited-says}
-use Rattle.vms_pcpu_core.proofs.Saying.{SaysYes, SaysNo, Says}
+use Rattle.vms_pcpu_core.proofs.LimitAnswers.{SaysYes, SaysNo, Says}
 use Rattle.vms_pcpu_core.proofs.OtherChanges.{by_self, by_self-others, others-carry_nothing, true_total-between}
 
 module _ (earlier later : History) (p j : ℕ) (alone : IsAlone earlier later p j)
@@ -126,7 +128,7 @@ module _ (facts : PcpuFacts) (earlier later : History) (p : ℕ) (j : PcpuId) (l
       )
 
 pub limited-exact : (facts : PcpuFacts) (earlier later : History) (p : ℕ) (cpu : CpuId) (j : PcpuId) (limit amount : ℤ)
-    (steps : List PcpuStep) (answer : Bool) → MadeSteps facts earlier later p steps → owner_in turn later p ≡ Some cpu
+    (steps : List PcpuStep) (answer : Bool) → MadeSteps facts earlier later p steps → owner_in role later p ≡ Some cpu
     → carried j.number (own earlier p) ≡ pos 0 → IsAlone earlier later p j.number → amount ≢ pos 0
     → IsLimitedAdd (batch_at facts.base j.number) (unknown facts j.number) (present_cpus facts) cpu j limit amount steps
     answer

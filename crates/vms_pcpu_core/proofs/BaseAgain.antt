@@ -1,5 +1,7 @@
 -- For other crates too: how a complete history ends, and that it leaves a base.
-use Rattle.std.proofs.Common.{◌≡◌, ℕ, zero, suc, ◌*◌, ◌<◌, Bool, false, true≢false, List, [], ◌∷◌, length, get_or, replicate, Option, Some, None, is_some, ℤ, pos, ◌+ℤ◌, ◌≤ℤ◌, unsigned_abs, refl, sym, ap, subst, ◌∙◌, arith}
+use Rattle.std.proofs.Common.{◌≡◌, ℕ, zero, suc, ◌*◌, ◌<◌, Bool, false, true≢false, List}
+use Rattle.std.proofs.Common.{[], ◌∷◌, length, get_or, replicate, Option, Some, None, is_some, ℤ}
+use Rattle.std.proofs.Common.{pos, ◌+ℤ◌, ◌≤ℤ◌, unsigned_abs, refl, sym, ap, subst, ◌∙◌, arith}
 use Rattle.std.proofs.lemmas.Int.{ints}
 use Rattle.vms_base.specs.Volumes.{most_volume}
 use Rattle.vms_history.specs.Events.{own}
@@ -10,12 +12,13 @@ use Rattle.vms_history.proofs.SumBounds.{sum_below-size, sum_below-most}
 use Rattle.vms_history.proofs.SumLaws.{sum_below-same, sum_below-sum, sum_below-zeros}
 use Rattle.vms_pcpu_core.specs.declared.steps.PcpuFacts.{PcpuFacts}
 use Rattle.vms_pcpu_core.specs.Bases.{most_batch}
-use Rattle.vms_pcpu_core.specs.Endings.{IsComplete, HoldsTotals, ending, LeavesRoom, BeginsAgain, most_start, IsPaid, StaysWithinVolumes, spent_by_now}
+use Rattle.vms_pcpu_core.specs.Endings.{IsComplete, HoldsTotals, ending, LeavesRoom, BeginsAgain}
+use Rattle.vms_pcpu_core.specs.Endings.{most_start, IsPaid, StaysWithinVolumes, spent_by_now}
 use Rattle.vms_pcpu_core.specs.Histories.{percpu, History, IsLegal, state_after}
 use Rattle.vms_pcpu_core.specs.Laws.{numbers_after, carried_by_all}
 use Rattle.vms_pcpu_core.specs.Own.{carried}
 use Rattle.vms_pcpu_core.specs.States.{IsPcpu, counters_of, batch_at, local_at, held_at}
-use Rattle.vms_pcpu_core.specs.Steps.{turn}
+use Rattle.vms_pcpu_core.specs.Steps.{role}
 use Rattle.vms_pcpu_core.specs.Totals.{holder, locals, spent, true_total}
 use Rattle.vms_pcpu_core.proofs.Bounds.{locals-bounded}
 use Rattle.vms_pcpu_core.proofs.Locks.{holder-one}
@@ -40,7 +43,7 @@ totals-hold facts h j complete j_in =
     let free : held_at (state_after facts h) j ≡ false = one.held ∙ ap is_some (no-holder facts h j complete j_in) in
     let nothing : (p : ℕ) → carried j (own h p) ≡ pos 0 = one.free free in
     let none : carried_by_all h j ≡ pos 0 =
-    sum_below-zeros (λ p. carried j (own h p)) (suc (begun_in turn h)) (λ p below. nothing p) in
+    sum_below-zeros (λ p. carried j (own h p)) (suc (begun_in role h)) (λ p below. nothing p) in
     let kept = totals-kept facts h complete.legal j j_in in
     record {
       free = free;
@@ -72,8 +75,9 @@ locals-most facts h j legal j_in =
     omega (arith, ints)) in
     omega (arith, ints, size, most)
 
-pub begins-again : (facts : PcpuFacts) (h : History) → IsComplete facts h → LeavesRoom facts h → BeginsAgain facts h
-begins-again facts h complete room =
+pub BeginsAgain-holds : (facts : PcpuFacts) (h : History) → IsComplete facts h → LeavesRoom facts h
+    → BeginsAgain facts h
+BeginsAgain-holds facts h complete room =
     let legal = complete.legal in
     let base = base_can_begin percpu facts h legal in
     let shape = HasShape-state_after facts h legal in
@@ -144,7 +148,7 @@ module _ (facts : PcpuFacts) (h : History) (earlier : ℕ → ℕ → ℕ) (comp
 
   pub volumes-begin_again : BeginsAgain facts h × IsPaid (ending facts h) (spent_by_now earlier h)
   volumes-begin_again =
-      let again = begins-again facts h complete volumes-leave_room in
+      let again = BeginsAgain-holds facts h complete volumes-leave_room in
       let shape = HasShape-state_after facts h complete.legal in
       let same : counters_of (numbers_after facts h) ≡ counters_of facts.base = ap length shape.batch in (
         again,

@@ -2,7 +2,7 @@
 use Rattle.std.proofs.Common.{◌≡◌, ℕ, List, [], ◌∷◌, ◌++◌, refl, sym, ap, ◌∙◌, append-nil}
 use Rattle.vms_base.specs.declared.ids.PcpuId.{PcpuId}
 use Rattle.vms_history.specs.Events.{Extends, own, after}
-use Rattle.vms_history.specs.Making.{HasMade}
+use Rattle.vms_history.specs.PassSteps.{HasMade}
 use Rattle.vms_history.proofs.Own.{Extends-both, own-on_top}
 use Rattle.vms_pcpu_core.specs.declared.steps.PcpuFacts.{PcpuFacts}
 use Rattle.vms_pcpu_core.specs.declared.steps.PcpuStep.{PcpuStep}
@@ -10,14 +10,14 @@ use Rattle.vms_pcpu_core.specs.declared.steps.PcpuStep.TheVariants.{Won, Missed}
 use Rattle.vms_pcpu_core.specs.Calls.{Locks}
 use Rattle.vms_pcpu_core.specs.Calls.Locks.{won, missed}
 use Rattle.vms_pcpu_core.specs.Histories.{percpu, History, IsLegal}
-use Rattle.vms_pcpu_core.specs.Making.{MadeWithin, event, MadeSteps}
-use Rattle.vms_pcpu_core.proofs.Found.{legal-earlier}
-use Rattle.vms_pcpu_core.proofs.Runs.{run-made, run-append, run-own, run-extends, Run}
+use Rattle.vms_pcpu_core.specs.MadeBetween.{MadeWithin, event, MadeSteps}
+use Rattle.vms_pcpu_core.proofs.SumMoments.{legal-earlier}
+use Rattle.vms_pcpu_core.proofs.StepsInRow.{run-made, run-append, run-own, run-extends, RunsBetween}
 
 -- the steps of a call ran from the earlier history to a moment after which p did no more
 pub record Ran (facts : PcpuFacts) (earlier later : History) (p : ℕ) (steps : List PcpuStep) : Type 0 where
   pub end : History
-  pub run : Run p steps earlier end
+  pub run : RunsBetween p steps earlier end
   pub kept : Extends later end
   pub none_since : own kept.0 p ≡ []
   pub legal : IsLegal facts end
@@ -40,7 +40,8 @@ call-ran facts earlier later p steps calls =
     }
 
 -- the steps of a lock end with its being won
-pub run-locks : (p : ℕ) (j : PcpuId) (locking : List PcpuStep) (h g : History) → Locks j locking → Run p locking h g
+pub run-locks : (p : ℕ) (j : PcpuId) (locking : List PcpuStep) (h g : History) → Locks j locking
+    → RunsBetween p locking h g
     → (free : History) × (g ≡ event p (Won j) ∷ free) × Extends free h
 run-locks p j locking h g won run = (run.0 ++ h, run.2, (run.0, refl))
 run-locks p j locking h g (missed rest locks) run =

@@ -1,5 +1,7 @@
 -- What one step does to one counter: nothing, or it adds to a local part, takes one, or adds to the shared part.
-use Rattle.std.proofs.Common.{◌≡◌, ◌≢◌, ℕ, ◌<◌, ◌≤◌, ◌&&◌, Bool, true, false, List, Option, Some, None, ℤ, pos, ◌+ℤ◌, ◌-ℤ◌, unsigned_abs, refl, sym, ap, subst, ◌∙◌, arith, if◌then◌else◌, nat_eq, eq-eqb, eqb-true}
+use Rattle.std.proofs.Common.{◌≡◌, ◌≢◌, ℕ, ◌<◌, ◌≤◌, ◌&&◌, Bool, true, false, List}
+use Rattle.std.proofs.Common.{Option, Some, None, ℤ, pos, ◌+ℤ◌, ◌-ℤ◌, unsigned_abs, refl, sym}
+use Rattle.std.proofs.Common.{ap, subst, ◌∙◌, arith, if◌then◌else◌, nat_eq, eq-eqb, eqb-true}
 use Rattle.std.proofs.lemmas.Bool.{ne_eqb}
 use Rattle.std.proofs.lemmas.Int.{ints}
 use Rattle.vms_base.specs.declared.ids.CpuId.{CpuId}
@@ -14,7 +16,7 @@ use Rattle.vms_pcpu_core.specs.declared.steps.PcpuStep.TheVariants.{AddL, TakeL,
 use Rattle.vms_pcpu_core.specs.States.{LockedState, HasShape, batch_at, count_at, local_at, IsPcpu}
 use Rattle.vms_pcpu_core.specs.Conditions.{Meets, AddsToLocal, TakesLocal, AddsToCount, MayAdd}
 use Rattle.vms_pcpu_core.specs.Own.{carried, carried_after}
-use Rattle.vms_pcpu_core.specs.Steps.{turn, effect}
+use Rattle.vms_pcpu_core.specs.Steps.{role, effect}
 use Rattle.vms_pcpu_core.specs.Totals.{amount_of}
 use Rattle.vms_pcpu_core.proofs.Effects.{count_at-effect, local_at-effect}
 
@@ -84,7 +86,7 @@ module _ (facts : PcpuFacts) (h : List (Event PcpuStep)) (s : LockedState) (p : 
       (carried j (own h p)) (carried_after j step (carried j (own h p)))
       (amount_of j (carried j (own h p)) step)
 
-  IsChange-add : (d : CpuId) (i : PcpuId) (a : ℤ) → owner_in turn h p ≡ Some d
+  IsChange-add : (d : CpuId) (i : PcpuId) (a : ℤ) → owner_in role h p ≡ Some d
       → ((c : CpuId) → Some d ≡ Some c → IsCpu facts.layout c.number)
       → AddsToLocal facts h s p i a → IsChange (Some d) (AddL i a)
   IsChange-add d i a is owned meets =
@@ -108,14 +110,14 @@ module _ (facts : PcpuFacts) (h : List (Event PcpuStep)) (s : LockedState) (p : 
       (λ c. local_at-effect facts h s p shaped who (TakeL i d v) c j owned meets j_in)
       (λ here. subst (λ n. local_at s.numbers d.number n ≡ v) (eqb-true i.number j here) meets.value)
 
-  control_adds_nothing : (who : Option CpuId) (i : PcpuId) (a : ℤ) → owner_in turn h p ≡ who → AddsToCount facts h p i a
+  control_adds_nothing : (who : Option CpuId) (i : PcpuId) (a : ℤ) → owner_in role h p ≡ who → AddsToCount facts h p i a
       → nat_eq i.number j ≡ true → who ≡ None → a -ℤ carried j (own h p) ≡ pos 0
   control_adds_nothing who i a is meets here none =
       let amount : MayAdd h None i.number (a -ℤ carried i.number (own h p)) =
       subst (λ o. MayAdd h o i.number (a -ℤ carried i.number (own h p))) (is ∙ none) meets.amount in
       subst (λ n. a -ℤ carried n (own h p) ≡ pos 0) (eqb-true i.number j here) amount
 
-  IsChange-put : (who : Option CpuId) (i : PcpuId) (a : ℤ) → owner_in turn h p ≡ who → AddsToCount facts h p i a
+  IsChange-put : (who : Option CpuId) (i : PcpuId) (a : ℤ) → owner_in role h p ≡ who → AddsToCount facts h p i a
       → IsChange who (AddC i a)
   IsChange-put who i a is meets =
       subst (λ (count' : ℤ). Change facts.layout.cpus who (batch_at s.numbers j) (count_at s.numbers j) count'
@@ -126,7 +128,7 @@ module _ (facts : PcpuFacts) (h : List (Event PcpuStep)) (s : LockedState) (p : 
       (λ c. local_at s.numbers c j)
       (carried j (own h p)) who (nat_eq i.number j) a (λ c. refl) (control_adds_nothing who i a is meets))
 
-  pub change-step : (who : Option CpuId) (step : PcpuStep) → owner_in turn h p ≡ who
+  pub change-step : (who : Option CpuId) (step : PcpuStep) → owner_in role h p ≡ who
       → ((d : CpuId) → who ≡ Some d → IsCpu facts.layout d.number) → Meets facts h s p step → IsChange who step
   change-step None (AddL i a) is owned meets = let owner = meets.owner in absurd cc
   change-step (Some d) (AddL i a) is owned meets = IsChange-add d i a is owned meets

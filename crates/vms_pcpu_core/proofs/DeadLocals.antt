@@ -1,5 +1,6 @@
 -- For other crates too: the local part of a dead CPU moves once.
-use Rattle.std.proofs.Common.{◌≡◌, ◌≢◌, ℕ, suc, ◌&&◌, Bool, true, false, [], ◌∷◌, Option, Some, None, ℤ, pos, ◌+ℤ◌, unsigned_abs, refl, sym, ap, ◌∙◌, arith, ◌⊎◌, inl, inr, if◌then◌else◌, nat_eq, eqb-true}
+use Rattle.std.proofs.Common.{◌≡◌, ◌≢◌, ℕ, suc, ◌&&◌, Bool, true, false, [], ◌∷◌, Option, Some, None, ℤ, pos, ◌+ℤ◌}
+use Rattle.std.proofs.Common.{unsigned_abs, refl, sym, ap, ◌∙◌, arith, ◌⊎◌, inl, inr, if◌then◌else◌, nat_eq, eqb-true}
 use Rattle.std.proofs.lemmas.Int.{ints}
 use Rattle.std.proofs.lemmas.Bool.{and_parts, eqb-false}
 use Rattle.vms_base.specs.declared.ids.CpuId.{CpuId}
@@ -15,7 +16,7 @@ use Rattle.vms_pcpu_core.specs.declared.steps.PcpuStep.{PcpuStep}
 use Rattle.vms_pcpu_core.specs.declared.steps.PcpuStep.TheVariants.{AddL, TakeL}
 use Rattle.vms_pcpu_core.specs.States.{LockedState, local_at, cpu_at, IsPcpu}
 use Rattle.vms_pcpu_core.specs.Conditions.{Meets}
-use Rattle.vms_pcpu_core.specs.Steps.{turn}
+use Rattle.vms_pcpu_core.specs.Steps.{role}
 use Rattle.vms_pcpu_core.specs.Totals.{is_owned}
 use Rattle.vms_pcpu_core.specs.Histories.{percpu, History, IsLegal, state_after}
 use Rattle.vms_pcpu_core.specs.Laws.{numbers_after, taken_by, takings_after, takings, MovesOnce}
@@ -56,13 +57,13 @@ module _ (facts : PcpuFacts) (h : History) (s : LockedState) (p c j : ℕ) (was 
 
 -- no pass owns a dead CPU
 pub dead-owned : (facts : PcpuFacts) (h : History) (p c : ℕ) → IsLegal facts h → cpu_at facts c ≡ Dead
-    → is_owned (owner_in turn h p) c ≡ false
-dead-owned facts h p c legal dead = by_owner (owner_in turn h p) refl
+    → is_owned (owner_in role h p) c ≡ false
+dead-owned facts h p c legal dead = by_owner (owner_in role h p) refl
   where
     apart : {x : CpuState} → x ≡ Online → x ≡ Dead → ⊥
     apart online dead = cc
 
-    by_owner : (who : Option CpuId) → owner_in turn h p ≡ who → is_owned who c ≡ false
+    by_owner : (who : Option CpuId) → owner_in role h p ≡ who → is_owned who c ≡ false
     by_owner None is = refl
     by_owner (Some d) is = by (nat_eq d.number c) refl
       where
@@ -79,7 +80,7 @@ TakenOnce-history : (facts : PcpuFacts) (h : History) → IsLegal facts h → (c
 TakenOnce-history facts [] legal c j j_in dead = TakenOnce-none (local_at facts.base c j)
 TakenOnce-history facts (e ∷ h) legal c j j_in dead =
     let s = state_after facts h in
-    let who = owner_in turn h e.caller in
+    let who = owner_in role h e.caller in
     let after : local_at (numbers_after facts (e ∷ h)) c j ≡ local_after who c j e.step (local_at s.numbers c j) =
     local_at-effect facts h s e.caller (HasShape-state_after facts h legal.0) who e.step c j
     (λ d is. owned facts h e.caller d legal.0 is) legal.2 j_in in

@@ -1,5 +1,6 @@
 -- For other crates too: the shared part alone is off from the true total by little.
-use Rattle.std.proofs.Common.{◌≡◌, ℕ, zero, suc, ◌+◌, ◌*◌, ◌<◌, ◌≤◌, true, List, length, take, get_or, ℤ, pos, ◌≤ℤ◌, unsigned_abs, refl, ap, arith}
+use Rattle.std.proofs.Common.{◌≡◌, ℕ, zero, suc, ◌+◌, ◌*◌, ◌<◌, ◌≤◌, true, List}
+use Rattle.std.proofs.Common.{length, take, get_or, ℤ, pos, ◌≤ℤ◌, unsigned_abs, refl, ap, arith}
 use Rattle.std.specs.List.{count_by}
 use Rattle.std.proofs.lemmas.Int.{ints}
 use Rattle.std.proofs.lemmas.List.{take_all}
@@ -15,7 +16,7 @@ use Rattle.vms_pcpu_core.specs.declared.steps.PcpuFacts.{PcpuFacts}
 use Rattle.vms_pcpu_core.specs.States.{batch_at, local_at, IsPcpu}
 use Rattle.vms_pcpu_core.specs.Calls.{unknown}
 use Rattle.vms_pcpu_core.specs.Own.{carried}
-use Rattle.vms_pcpu_core.specs.Steps.{turn}
+use Rattle.vms_pcpu_core.specs.Steps.{role}
 use Rattle.vms_pcpu_core.specs.Totals.{locals, present}
 use Rattle.vms_base.specs.Cpus.{is_present}
 use Rattle.vms_pcpu_core.specs.Histories.{percpu, History, IsLegal}
@@ -79,6 +80,6 @@ pub counts-drift : (facts : PcpuFacts) (h : History) → IsLegal facts h → Dri
 counts-drift facts h legal j j_in =
     let kept = totals-kept facts h legal j j_in in
     let local_size = sum_below-size (λ c. local_at (numbers_after facts h) c j) facts.layout.cpus in
-    let carried_size = sum_below-size (λ p. carried j (own h p)) (suc (begun_in turn h)) in
+    let carried_size = sum_below-size (λ p. carried j (own h p)) (suc (begun_in role h)) in
     let hidden = locals-hide facts h j legal j_in in
     omega (arith, ints)

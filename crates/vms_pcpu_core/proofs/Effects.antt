@@ -1,5 +1,6 @@
 -- For other crates too: what a step that meets its condition makes of the numbers and locks of a state.
-use Rattle.std.proofs.Common.{◌≡◌, ℕ, ◌*◌, true, false, List, length, Option, Some, None, ℤ, pos, ◌+ℤ◌, refl, ap, ◌∙◌, length-set}
+use Rattle.std.proofs.Common.{◌≡◌, ℕ, ◌*◌, true, false, List, length, Option, Some}
+use Rattle.std.proofs.Common.{None, ℤ, pos, ◌+ℤ◌, refl, ap, ◌∙◌, length-set}
 use Rattle.vms_base.specs.declared.ids.CpuId.{CpuId}
 use Rattle.vms_base.specs.declared.ids.PcpuId.{PcpuId}
 use Rattle.vms_base.specs.Places.{IsCpu, cell}

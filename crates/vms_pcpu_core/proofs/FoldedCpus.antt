@@ -1,5 +1,6 @@
 -- For other crates too: the local parts of a dead CPU are 0 once they were folded.
-use Rattle.std.proofs.Common.{◌≡◌, ℕ, ◌<◌, true, false, List, [], ◌∷◌, ◌++◌, Option, pos, refl, ap, subst, ◌∙◌, inl, inr, nat_eq, eq-eqb, arith}
+use Rattle.std.proofs.Common.{◌≡◌, ℕ, ◌<◌, true, false, List, [], ◌∷◌, ◌++◌, Option}
+use Rattle.std.proofs.Common.{pos, refl, ap, subst, ◌∙◌, inl, inr, nat_eq, eq-eqb, arith}
 use Rattle.std.proofs.lemmas.Bool.{cases_lt}
 use Rattle.vms_base.specs.declared.ids.CpuId.{CpuId}
 use Rattle.vms_base.specs.declared.ids.PcpuId.{PcpuId}
@@ -7,7 +8,7 @@ use Rattle.vms_base.specs.declared.kinds.CpuState.TheVariants.{Dead}
 use Rattle.vms_history.specs.declared.events.Event.{Event}
 use Rattle.vms_history.specs.Events.{Extends}
 use Rattle.vms_history.specs.Passes.{owner_in}
-use Rattle.vms_history.proofs.Choices.{if-same}
+use Rattle.vms_history.proofs.Choices.{if-either}
 use Rattle.vms_history.proofs.Own.{Extends-both}
 use Rattle.vms_pcpu_core.specs.declared.steps.PcpuFacts.{PcpuFacts}
 use Rattle.vms_pcpu_core.specs.declared.steps.PcpuStep.{PcpuStep}
@@ -18,15 +19,15 @@ use Rattle.vms_pcpu_core.specs.Calls.IsFoldDead.{no_counter, one_counter}
 use Rattle.vms_pcpu_core.specs.Effects.{local_after}
 use Rattle.vms_pcpu_core.specs.Histories.{History, IsLegal, state_after}
 use Rattle.vms_pcpu_core.specs.Laws.{numbers_after}
-use Rattle.vms_pcpu_core.specs.Making.{event, MadeSteps}
+use Rattle.vms_pcpu_core.specs.MadeBetween.{event, MadeSteps}
 use Rattle.vms_pcpu_core.specs.States.{cpu_at, local_at, IsPcpu}
-use Rattle.vms_pcpu_core.specs.Steps.{turn}
+use Rattle.vms_pcpu_core.specs.Steps.{role}
 use Rattle.vms_pcpu_core.specs.Totals.{is_owned}
 use Rattle.vms_pcpu_core.proofs.CallsWithin.{call-ran}
 use Rattle.vms_pcpu_core.proofs.DeadLocals.{dead-owned}
 use Rattle.vms_pcpu_core.proofs.Effects.{local_at-effect}
-use Rattle.vms_pcpu_core.proofs.Found.{legal-earlier}
-use Rattle.vms_pcpu_core.proofs.Runs.{Run, run-append, run-extends}
+use Rattle.vms_pcpu_core.proofs.SumMoments.{legal-earlier}
+use Rattle.vms_pcpu_core.proofs.StepsInRow.{RunsBetween, run-append, run-extends}
 use Rattle.vms_pcpu_core.proofs.Shapes.{HasShape-state_after}
 use Rattle.vms_pcpu_core.proofs.Totals.{owned}
 
@@ -34,16 +35,16 @@ use Rattle.vms_pcpu_core.proofs.Totals.{owned}
 pub local-after_event : (facts : PcpuFacts) (e : Event PcpuStep) (h : History) (c j : ℕ) → IsLegal facts (e ∷ h)
     → IsPcpu facts j
     → local_at (numbers_after facts (e ∷ h)) c j
-    ≡ local_after (owner_in turn h e.caller) c j e.step (local_at (numbers_after facts h) c j)
+    ≡ local_after (owner_in role h e.caller) c j e.step (local_at (numbers_after facts h) c j)
 local-after_event facts e h c j legal j_in =
     local_at-effect facts h (state_after facts h) e.caller (HasShape-state_after facts h legal.0)
-    (owner_in turn h e.caller) e.step c j (λ d is. owned facts h e.caller d legal.0 is) legal.2 j_in
+    (owner_in role h e.caller) e.step c j (λ d is. owned facts h e.caller d legal.0 is) legal.2 j_in
 
 -- a local part of a dead CPU that is 0 stays 0
 stays_none : (who : Option CpuId) (c j : ℕ) (step : PcpuStep) → is_owned who c ≡ false
     → local_after who c j step (pos 0) ≡ pos 0
 stays_none who c j (AddL i a) other = rw other refl
-stays_none who c j (TakeL i d v) other = if-same _ (pos 0)
+stays_none who c j (TakeL i d v) other = if-either _ (pos 0)
 stays_none who c j _ other = refl
 
 pub none-stays : (facts : PcpuFacts) (more h : History) (c j : ℕ) → IsLegal facts (more ++ h) → IsPcpu facts j
@@ -51,7 +52,7 @@ pub none-stays : (facts : PcpuFacts) (more h : History) (c j : ℕ) → IsLegal 
     → local_at (numbers_after facts (more ++ h)) c j ≡ pos 0
 none-stays facts [] h c j legal j_in dead none = none
 none-stays facts (e ∷ more) h c j legal j_in dead none =
-    let who = owner_in turn (more ++ h) e.caller in
+    let who = owner_in role (more ++ h) e.caller in
     local-after_event facts e (more ++ h) c j legal j_in
     ∙ ap (local_after who c j e.step) (none-stays facts more h c j legal.0 j_in dead none)
     ∙ stays_none who c j e.step (dead-owned facts (more ++ h) e.caller c legal.0 dead)
@@ -65,7 +66,8 @@ module _ (facts : PcpuFacts) (p : ℕ) (dead : CpuId) (is_dead : cpu_at facts de
       ∙ none-stays facts more.0 h dead.number j (subst (IsLegal facts) more.1 legal) j_in is_dead none
 
   -- a taken part is 0
-  sync-none : (j : PcpuId) (ks : List PcpuStep) (h g : History) → IsSync dead j ks → Run p ks h g → IsLegal facts g
+  sync-none : (j : PcpuId) (ks : List PcpuStep) (h g : History) → IsSync dead j ks → RunsBetween p ks h g
+      → IsLegal facts g
       → IsPcpu facts j.number → local_at (numbers_after facts g) dead.number j.number ≡ pos 0
   sync-none j ks h g (moved v locking locks) run legal j_in =
       let parts = run-append p locking (TakeL j dead v ∷ AddC j v ∷ Unlock j ∷ []) h g run in
@@ -78,7 +80,8 @@ module _ (facts : PcpuFacts) (p : ℕ) (dead : CpuId) (is_dead : cpu_at facts de
       later-none g (e ∷ before) j.number legal on j_in
       (local-after_event facts e before dead.number j.number made_at j_in ∙ rw (here, same) refl)
 
-  fold-none : (n : ℕ) (ks : List PcpuStep) (h g : History) → IsFoldDead dead n ks → Run p ks h g → IsLegal facts g
+  fold-none : (n : ℕ) (ks : List PcpuStep) (h g : History) → IsFoldDead dead n ks → RunsBetween p ks h g
+      → IsLegal facts g
       → (j : ℕ) → j < n → IsPcpu facts j → local_at (numbers_after facts g) dead.number j ≡ pos 0
   fold-none n ks h g no_counter run legal j below j_in = absurd (omega arith)
   fold-none n ks h g (one_counter m front back before sync) run legal j below j_in =

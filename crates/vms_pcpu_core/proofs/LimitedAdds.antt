@@ -1,5 +1,6 @@
 -- For other crates too: a limited addition keeps its limit, but for what others change and carry.
-use Rattle.std.proofs.Common.{◌≡◌, ◌≢◌, ℕ, Bool, true, false, true≢false, List, [], ◌∷◌, ◌++◌, Some, ℤ, pos, ◌+ℤ◌, refl, sym, ◌∙◌}
+use Rattle.std.proofs.Common.{◌≡◌, ◌≢◌, ℕ, Bool, true, false, true≢false, List, []}
+use Rattle.std.proofs.Common.{◌∷◌, ◌++◌, Some, ℤ, pos, ◌+ℤ◌, refl, sym, ◌∙◌}
 use Rattle.vms_base.specs.declared.ids.CpuId.{CpuId}
 use Rattle.vms_base.specs.declared.ids.PcpuId.{PcpuId}
 use Rattle.vms_history.specs.Events.{own, after}
@@ -13,17 +14,17 @@ use Rattle.vms_pcpu_core.specs.Calls.Settles.{yes_ends, no_ends}
 use Rattle.vms_pcpu_core.specs.Calls.IsLimitedAdd.{nothing, unlocked, locked}
 use Rattle.vms_pcpu_core.specs.Histories.{History}
 use Rattle.vms_pcpu_core.specs.Limits.{KeepsLimit, PassesLimit}
-use Rattle.vms_pcpu_core.specs.Making.{MadeSteps}
+use Rattle.vms_pcpu_core.specs.MadeBetween.{MadeSteps}
 use Rattle.vms_pcpu_core.specs.Own.{carried}
-use Rattle.vms_pcpu_core.specs.Steps.{turn}
-use Rattle.vms_pcpu_core.proofs.Runs.{run-own}
+use Rattle.vms_pcpu_core.specs.Steps.{role}
+use Rattle.vms_pcpu_core.proofs.StepsInRow.{run-own}
 use Rattle.vms_pcpu_core.proofs.CallsWithin.{Ran, call-ran}
-use Rattle.vms_pcpu_core.proofs.Saying.{Says}
+use Rattle.vms_pcpu_core.proofs.LimitAnswers.{Says}
 use Rattle.vms_pcpu_core.proofs.WithoutLock.{unlocked-keeps}
 use Rattle.vms_pcpu_core.proofs.UnderLock.{locked-keeps, locked-passes}
 
 pub limited-says : (facts : PcpuFacts) (earlier later : History) (p : ℕ) (cpu : CpuId) (j : PcpuId) (limit amount : ℤ)
-    (steps : List PcpuStep) (answer : Bool) → MadeSteps facts earlier later p steps → owner_in turn later p ≡ Some cpu
+    (steps : List PcpuStep) (answer : Bool) → MadeSteps facts earlier later p steps → owner_in role later p ≡ Some cpu
     → carried j.number (own earlier p) ≡ pos 0
     → IsLimitedAdd (batch_at facts.base j.number) (unknown facts j.number) (present_cpus facts) cpu j limit amount steps
     answer
@@ -90,7 +91,7 @@ limited-says facts earlier later p cpu j limit amount steps answer calls owner n
 
 pub limited-yes : (facts : PcpuFacts) (earlier later : History) (p : ℕ) (cpu : CpuId) (j : PcpuId) (limit amount : ℤ)
     (steps : List PcpuStep)
-    → MadeSteps facts earlier later p steps → owner_in turn later p ≡ Some cpu
+    → MadeSteps facts earlier later p steps → owner_in role later p ≡ Some cpu
     → carried j.number (own earlier p) ≡ pos 0 → amount ≢ pos 0
     → IsLimitedAdd (batch_at facts.base j.number) (unknown facts j.number) (present_cpus facts) cpu j limit amount steps
     true
@@ -101,7 +102,7 @@ limited-yes facts earlier later p cpu j limit amount steps calls owner nothing_c
 
 pub limited-no : (facts : PcpuFacts) (earlier later : History) (p : ℕ) (cpu : CpuId) (j : PcpuId) (limit amount : ℤ)
     (steps : List PcpuStep)
-    → MadeSteps facts earlier later p steps → owner_in turn later p ≡ Some cpu
+    → MadeSteps facts earlier later p steps → owner_in role later p ≡ Some cpu
     → carried j.number (own earlier p) ≡ pos 0
     → IsLimitedAdd (batch_at facts.base j.number) (unknown facts j.number) (present_cpus facts) cpu j limit amount steps
     false

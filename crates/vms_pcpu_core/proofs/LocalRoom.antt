@@ -1,5 +1,6 @@
 -- What one local part leaves room for, and whose it is.
-use Rattle.std.proofs.Common.{◌≡◌, ℕ, ◌≤◌, Bool, true, false, [], ◌∷◌, take, get_or, Some, ℤ, pos, ◌+ℤ◌, ◌-ℤ◌, ◌≤ℤ◌, unsigned_abs, refl, sym, ap, subst, ◌∙◌, if◌then◌else◌, nat_eq, eq-eqb, eqb-true, arith}
+use Rattle.std.proofs.Common.{◌≡◌, ℕ, ◌≤◌, Bool, true, false, [], ◌∷◌, take, get_or, Some, ℤ, pos, ◌+ℤ◌, ◌-ℤ◌, ◌≤ℤ◌}
+use Rattle.std.proofs.Common.{unsigned_abs, refl, sym, ap, subst, ◌∙◌, if◌then◌else◌, nat_eq, eq-eqb, eqb-true, arith}
 use Rattle.std.proofs.lemmas.Int.{ints}
 use Rattle.std.proofs.lemmas.Bool.{ne_eqb}
 use Rattle.std.proofs.lemmas.List.{take_all}
@@ -20,12 +21,12 @@ use Rattle.vms_pcpu_core.specs.States.{batch_at, local_at, cpu_at, IsPcpu}
 use Rattle.vms_pcpu_core.specs.Calls.{unknown}
 use Rattle.vms_pcpu_core.specs.Histories.{percpu, History, IsLegal}
 use Rattle.vms_pcpu_core.specs.Laws.{numbers_after}
-use Rattle.vms_pcpu_core.specs.Making.{event}
-use Rattle.vms_pcpu_core.specs.Steps.{turn}
+use Rattle.vms_pcpu_core.specs.MadeBetween.{event}
+use Rattle.vms_pcpu_core.specs.Steps.{role}
 use Rattle.vms_pcpu_core.specs.Totals.{locals}
 use Rattle.vms_pcpu_core.proofs.Bounds.{locals-bounded}
 use Rattle.vms_pcpu_core.proofs.Drift.{present-bound}
-use Rattle.vms_pcpu_core.proofs.Found.{legal-earlier}
+use Rattle.vms_pcpu_core.proofs.SumMoments.{legal-earlier}
 use Rattle.vms_history.proofs.SumBounds.{sum_below-size}
 
 -- with one local part moved by an amount, within its batch, the local parts still hide no more than `unknown`
@@ -73,11 +74,11 @@ locals-moved facts h c j a legal j_in c_in online within =
 
 -- the CPU that a pass owns in a later history it owned when it acted
 pub owner-then : (facts : PcpuFacts) (later h : History) (p : ℕ) (k : PcpuStep) (cpu : CpuId) → IsLegal facts later
-    → Extends later (event p k ∷ h) → owner_in turn later p ≡ Some cpu → owner_in turn h p ≡ Some cpu
+    → Extends later (event p k ∷ h) → owner_in role later p ≡ Some cpu → owner_in role h p ≡ Some cpu
 owner-then facts later h p k cpu legal more owner =
     let acted : IsLegal facts (event p k ∷ h) = legal-earlier facts later (event p k ∷ h) legal more in
     let below : Extends later h = Extends-both later (event p k ∷ h) h more (event p k ∷ [], refl) in
     let stays =
     owner_in-append percpu facts below.0 h p (subst (IsLegal facts) below.1 legal)
-    (caller_is_given percpu facts h p (turn k) acted.0 acted.1) in
-    sym stays ∙ ap (λ es. owner_in turn es p) (sym below.1) ∙ owner
+    (caller_is_given percpu facts h p (role k) acted.0 acted.1) in
+    sym stays ∙ ap (λ es. owner_in role es p) (sym below.1) ∙ owner

@@ -1,20 +1,21 @@
 -- For other crates too: a lock has one holder at most, who alone carries something for its counter.
-use Rattle.std.proofs.Common.{◌≡◌, ℕ, Bool, true, false, true≢false, [], ◌∷◌, Option, Some, None, is_some, ℤ, pos, ◌+ℤ◌, refl, sym, ap, subst, ◌∙◌, if◌then◌else◌, nat_eq, eq-eqb, eqb-true}
+use Rattle.std.proofs.Common.{◌≡◌, ℕ, Bool, true, false, true≢false, [], ◌∷◌, Option, Some, None, is_some}
+use Rattle.std.proofs.Common.{ℤ, pos, ◌+ℤ◌, refl, sym, ap, subst, ◌∙◌, if◌then◌else◌, nat_eq, eq-eqb, eqb-true}
 use Rattle.std.proofs.lemmas.List.{get_or-replicate}
 use Rattle.vms_history.specs.declared.events.Event.{Event}
 use Rattle.vms_history.specs.Events.{own}
 use Rattle.vms_history.specs.Legal.{Acts}
 use Rattle.vms_history.specs.Passes.{lives_in, lives_after, owner_in}
-use Rattle.vms_history.proofs.Choices.{if-same}
+use Rattle.vms_history.proofs.Choices.{if-either}
 use Rattle.vms_history.proofs.Own.{own-fact}
-use Rattle.vms_history.proofs.PassLaws.{lives_in-turn}
+use Rattle.vms_history.proofs.PassLaws.{lives_in-role}
 use Rattle.vms_pcpu_core.specs.declared.steps.PcpuFacts.{PcpuFacts}
 use Rattle.vms_pcpu_core.specs.declared.steps.PcpuStep.{PcpuStep}
 use Rattle.vms_pcpu_core.specs.declared.steps.PcpuStep.TheVariants.{Won, TakeL, AddC, Unlock, Split, Join}
 use Rattle.vms_pcpu_core.specs.States.{LockedState, counters_of, held_at, IsPcpu}
 use Rattle.vms_pcpu_core.specs.Conditions.{Meets}
-use Rattle.vms_pcpu_core.specs.Own.{holds, holds_after, carried, carried_after}
-use Rattle.vms_pcpu_core.specs.Steps.{turn}
+use Rattle.vms_pcpu_core.specs.Own.{holds_lock, holds_lock_after, carried, carried_after}
+use Rattle.vms_pcpu_core.specs.Steps.{role}
 use Rattle.vms_pcpu_core.specs.Totals.{holder, holder_after}
 use Rattle.vms_pcpu_core.specs.Histories.{percpu, History, IsLegal, state_after}
 use Rattle.vms_pcpu_core.specs.Laws.{HasOneHolder}
@@ -33,20 +34,20 @@ pub record Agrees (locked : Bool) (who : Option ℕ) (holding : ℕ → Bool) (c
   pub own_events : (q : ℕ) → holding q ≡ is_holder who q
   pub others : (q : ℕ) → is_holder who q ≡ false → carrying q ≡ pos 0
 
-pub holds-after : (j : ℕ) (e : Event PcpuStep) (h : History) (q : ℕ)
-    → holds j (own (e ∷ h) q)
-    ≡ (if nat_eq e.caller q then holds_after j e.step (holds j (own h q)) else holds j (own h q))
-holds-after j e h q = own-fact (holds j) e h q
+pub holds-own_event : (j : ℕ) (e : Event PcpuStep) (h : History) (q : ℕ)
+    → holds_lock j (own (e ∷ h) q)
+    ≡ (if nat_eq e.caller q then holds_lock_after j e.step (holds_lock j (own h q)) else holds_lock j (own h q))
+holds-own_event j e h q = own-fact (holds_lock j) e h q
 
-carried-after : (j : ℕ) (e : Event PcpuStep) (h : History) (q : ℕ)
+carried-own_event : (j : ℕ) (e : Event PcpuStep) (h : History) (q : ℕ)
     → carried j (own (e ∷ h) q)
     ≡ (if nat_eq e.caller q then carried_after j e.step (carried j (own h q)) else carried j (own h q))
-carried-after j e h q = own-fact (carried j) e h q
+carried-own_event j e h q = own-fact (carried j) e h q
 
 -- a holder by own events is the holder
-is-holder : (who : Option ℕ) (p : ℕ) → is_holder who p ≡ true → who ≡ Some p
-is-holder None p is = absurd cc
-is-holder (Some q) p is = ap Some (eqb-true q p is)
+holder-same : (who : Option ℕ) (p : ℕ) → is_holder who p ≡ true → who ≡ Some p
+holder-same None p is = absurd cc
+holder-same (Some q) p is = ap Some (eqb-true q p is)
 
 holder-is : (who : Option ℕ) (p : ℕ) → who ≡ Some p → is_holder who p ≡ true
 holder-is who p is = rw is (eq-eqb p p refl)
@@ -62,8 +63,8 @@ module _ (locked : Bool) (who : Option ℕ) (holding : ℕ → Bool) (carrying :
   Agrees-rest =
       record {
         held = before.held;
-        own_events = λ q. if-same (nat_eq p q) (holding q) ∙ before.own_events q;
-        others = λ q other. if-same (nat_eq p q) (carrying q) ∙ before.others q other;
+        own_events = λ q. if-either (nat_eq p q) (holding q) ∙ before.own_events q;
+        others = λ q other. if-either (nat_eq p q) (carrying q) ∙ before.others q other;
       }
 
   Agrees-won : (b : Bool) → (b ≡ true → locked ≡ false)
@@ -76,7 +77,7 @@ module _ (locked : Bool) (who : Option ℕ) (holding : ℕ → Bool) (carrying :
       record {
         held = refl;
         own_events = λ q. by (nat_eq p q) (holding q) (before.own_events q ∙ ap (λ w. is_holder w q) none);
-        others = λ q other. if-same (nat_eq p q) (carrying q) ∙ before.others q (ap (λ w. is_holder w q) none);
+        others = λ q other. if-either (nat_eq p q) (carrying q) ∙ before.others q (ap (λ w. is_holder w q) none);
       }
     where
       by : (t x : Bool) → x ≡ false → (if t then true else x) ≡ t
@@ -89,11 +90,11 @@ module _ (locked : Bool) (who : Option ℕ) (holding : ℕ → Bool) (carrying :
       (λ q. if nat_eq p q then carrying q else carrying q)
   Agrees-unlocked false holds nothing = Agrees-rest
   Agrees-unlocked true holds nothing =
-      let mine : who ≡ Some p = is-holder who p (sym (before.own_events p) ∙ holds refl) in
+      let mine : who ≡ Some p = holder-same who p (sym (before.own_events p) ∙ holds refl) in
       record {
         held = refl;
         own_events = λ q. by (nat_eq p q) (holding q) (before.own_events q ∙ ap (λ w. is_holder w q) mine);
-        others = λ q other. if-same (nat_eq p q) (carrying q) ∙ at (nat_eq p q) q refl mine;
+        others = λ q other. if-either (nat_eq p q) (carrying q) ∙ at (nat_eq p q) q refl mine;
       }
     where
       by : (t x : Bool) → x ≡ t → (if t then false else x) ≡ false
@@ -111,7 +112,7 @@ module _ (locked : Bool) (who : Option ℕ) (holding : ℕ → Bool) (carrying :
   Agrees-carried true next holds =
       record {
         held = before.held;
-        own_events = λ q. if-same (nat_eq p q) (holding q) ∙ before.own_events q;
+        own_events = λ q. if-either (nat_eq p q) (holding q) ∙ before.own_events q;
         others = λ q other. at (nat_eq p q) q refl other;
       }
     where
@@ -125,28 +126,28 @@ module _ (locked : Bool) (who : Option ℕ) (holding : ℕ → Bool) (carrying :
 module _ (facts : PcpuFacts) (h : History) (s : LockedState) (p j : ℕ) where
   -- a step that meets its condition keeps them together
   Agrees-step : (step : PcpuStep)
-      → Agrees (held_at s j) (holder j h) (λ q. holds j (own h q)) (λ q. carried j (own h q))
+      → Agrees (held_at s j) (holder j h) (λ q. holds_lock j (own h q)) (λ q. carried j (own h q))
       → Meets facts h s p step
       → Agrees (held_after j step (held_at s j)) (holder_after p j step (holder j h))
-      (λ q. if nat_eq p q then holds_after j step (holds j (own h q)) else holds j (own h q))
+      (λ q. if nat_eq p q then holds_lock_after j step (holds_lock j (own h q)) else holds_lock j (own h q))
       (λ q. if nat_eq p q then carried_after j step (carried j (own h q)) else carried j (own h q))
   Agrees-step (Won i) before meets =
       Agrees-won _ _ _ _ before p (nat_eq i.number j)
       (λ here. subst (λ n. held_at s n ≡ false) (eqb-true i.number j here) meets.free)
   Agrees-step (Unlock i) before meets =
       Agrees-unlocked _ _ _ _ before p (nat_eq i.number j)
-      (λ here. subst (λ n. holds n (own h p) ≡ true) (eqb-true i.number j here) meets.holding)
+      (λ here. subst (λ n. holds_lock n (own h p) ≡ true) (eqb-true i.number j here) meets.holding)
       (λ here. subst (λ n. carried n (own h p) ≡ pos 0) (eqb-true i.number j here) meets.nothing_carried)
   Agrees-step (TakeL i c v) before meets =
       Agrees-carried _ _ _ _ before p (nat_eq i.number j) (λ x. x +ℤ v)
-      (λ here. subst (λ n. holds n (own h p) ≡ true) (eqb-true i.number j here) meets.holding)
+      (λ here. subst (λ n. holds_lock n (own h p) ≡ true) (eqb-true i.number j here) meets.holding)
   Agrees-step (AddC i a) before meets =
       Agrees-carried _ _ _ _ before p (nat_eq i.number j) (λ x. pos 0)
-      (λ here. subst (λ n. holds n (own h p) ≡ true) (eqb-true i.number j here) meets.holding)
+      (λ here. subst (λ n. holds_lock n (own h p) ≡ true) (eqb-true i.number j here) meets.holding)
   Agrees-step _ before meets = Agrees-rest _ _ _ _ before p
 
 pub Agrees-state_after : (facts : PcpuFacts) (h : History) (j : ℕ) → IsLegal facts h → IsPcpu facts j
-    → Agrees (held_at (state_after facts h) j) (holder j h) (λ q. holds j (own h q)) (λ q. carried j (own h q))
+    → Agrees (held_at (state_after facts h) j) (holder j h) (λ q. holds_lock j (own h q)) (λ q. carried j (own h q))
 Agrees-state_after facts [] j legal j_in =
     record {
       held = get_or-replicate (counters_of facts.base) j false false j_in;
@@ -160,17 +161,17 @@ Agrees-state_after facts (e ∷ h) j legal j_in =
     record {
       held =
           held_at-effect facts h s e.caller (HasShape-state_after facts h legal.0)
-          (owner_in turn h e.caller) e.step j legal.2 ∙ step.held;
-      own_events = λ q. holds-after j e h q ∙ step.own_events q;
-      others = λ q other. carried-after j e h q ∙ step.others q other;
+          (owner_in role h e.caller) e.step j legal.2 ∙ step.held;
+      own_events = λ q. holds-own_event j e h q ∙ step.own_events q;
+      others = λ q other. carried-own_event j e h q ∙ step.others q other;
     }
 
 -- the holder lives
 holder-lives : (facts : PcpuFacts) (h : History) (j p : ℕ) → IsLegal facts h → IsPcpu facts j → holder j h ≡ Some p
-    → lives_in turn h p ≡ true
+    → lives_in role h p ≡ true
 holder-lives facts [] j p legal j_in is = absurd cc
 holder-lives facts (e ∷ h) j p legal j_in is =
-    lives_in-turn percpu facts e h p legal.1
+    lives_in-role percpu facts e h p legal.1
     ∙ by e.step legal.1 is (holder-lives facts h j p legal.0 j_in)
     (λ held. (Agrees-state_after facts h j legal.0 j_in).own_events p ∙ holder-is (holder j h) p held)
   where
@@ -178,26 +179,26 @@ holder-lives facts (e ∷ h) j p legal j_in is =
     begins true x is = refl
     begins false x is = is
 
-    by : (step : PcpuStep) → Acts percpu facts h e.caller (turn step)
+    by : (step : PcpuStep) → Acts percpu facts h e.caller (role step)
         → holder_after e.caller j step (holder j h) ≡ Some p
-        → (holder j h ≡ Some p → lives_in turn h p ≡ true) → (holder j h ≡ Some p → holds j (own h p) ≡ true)
-        → lives_after (turn step) p (lives_in turn h p) ≡ true
-    by (Split q who) acts is before mine = begins (nat_eq q p) (lives_in turn h p) (before is)
+        → (holder j h ≡ Some p → lives_in role h p ≡ true) → (holder j h ≡ Some p → holds_lock j (own h p) ≡ true)
+        → lives_after (role step) p (lives_in role h p) ≡ true
+    by (Split q who) acts is before mine = begins (nat_eq q p) (lives_in role h p) (before is)
     by (Join q) acts is before mine = at (nat_eq q p) refl
       where
-        at : (b : Bool) → nat_eq q p ≡ b → (if b then false else lives_in turn h p) ≡ true
+        at : (b : Bool) → nat_eq q p ≡ b → (if b then false else lives_in role h p) ≡ true
         at true same =
-            let ended : holds j (own h p) ≡ false = rw (eqb-true q p same) at (acts.2 j j_in) in
+            let ended : holds_lock j (own h p) ≡ false = rw (eqb-true q p same) at (acts.2 j j_in) in
             absurd (true≢false (sym (mine is) ∙ ended))
         at false other = before is
     by (Won i) acts is before mine = at (nat_eq i.number j) is
       where
-        at : (b : Bool) → (if b then Some e.caller else holder j h) ≡ Some p → lives_in turn h p ≡ true
+        at : (b : Bool) → (if b then Some e.caller else holder j h) ≡ Some p → lives_in role h p ≡ true
         at true is = let same : e.caller ≡ p = cc in rw same at acts.1
         at false is = before is
     by (Unlock i) acts is before mine = at (nat_eq i.number j) is
       where
-        at : (b : Bool) → (if b then None else holder j h) ≡ Some p → lives_in turn h p ≡ true
+        at : (b : Bool) → (if b then None else holder j h) ≡ Some p → lives_in role h p ≡ true
         at true is = absurd cc
         at false is = before is
     by _ acts is before mine = before is
@@ -205,8 +206,8 @@ holder-lives facts (e ∷ h) j p legal j_in is =
 pub holder-one : (facts : PcpuFacts) (h : History) → IsLegal facts h → (j : ℕ) → IsPcpu facts j → HasOneHolder facts h j
 holder-one facts h legal j j_in =
     let agrees = Agrees-state_after facts h j legal j_in in
-    let mine : (p : ℕ) → holds j (own h p) ≡ true → holder j h ≡ Some p =
-    λ p holding. is-holder (holder j h) p (sym (agrees.own_events p) ∙ holding) in
+    let mine : (p : ℕ) → holds_lock j (own h p) ≡ true → holder j h ≡ Some p =
+    λ p holding. holder-same (holder j h) p (sym (agrees.own_events p) ∙ holding) in
     record {
       held = agrees.held;
       own_events = λ p. (mine p, λ is. agrees.own_events p ∙ holder-is (holder j h) p is);

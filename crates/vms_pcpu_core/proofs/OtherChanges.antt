@@ -1,5 +1,7 @@
 -- What one caller and the others add to a counter, and what they carry for it.
-use Rattle.std.proofs.Common.{◌≡◌, ℕ, suc, zero, Bool, true, false, List, [], ◌∷◌, ◌++◌, ℤ, pos, negsuc, ◌+ℤ◌, ◌-ℤ◌, ◌≤ℤ◌, refl, sym, ap, subst, ◌∙◌, if◌then◌else◌, nat_eq, eq-eqb, eqb-true, true≢false, arith}
+use Rattle.std.proofs.Common.{◌≡◌, ℕ, suc, zero, Bool, true, false, List, [], ◌∷◌}
+use Rattle.std.proofs.Common.{◌++◌, ℤ, pos, negsuc, ◌+ℤ◌, ◌-ℤ◌, ◌≤ℤ◌, refl, sym, ap}
+use Rattle.std.proofs.Common.{subst, ◌∙◌, if◌then◌else◌, nat_eq, eq-eqb, eqb-true, true≢false, arith}
 use Rattle.std.proofs.lemmas.Int.{ints}
 use Rattle.vms_history.specs.Events.{Extends, own, after}
 use Rattle.vms_history.specs.Passes.{begun_in}
@@ -13,14 +15,14 @@ use Rattle.vms_pcpu_core.specs.States.{IsPcpu}
 use Rattle.vms_pcpu_core.specs.Histories.{History, IsLegal}
 use Rattle.vms_pcpu_core.specs.Laws.{carried_by_all}
 use Rattle.vms_pcpu_core.specs.Limits.{rise, fall, by_others, by_others_between, carried_by_others}
-use Rattle.vms_pcpu_core.specs.Own.{holds, carried}
+use Rattle.vms_pcpu_core.specs.Own.{holds_lock, carried}
 use Rattle.vms_pcpu_core.specs.OwnSteps.{as_is, own_added}
-use Rattle.vms_pcpu_core.specs.Steps.{turn}
+use Rattle.vms_pcpu_core.specs.Steps.{role}
 use Rattle.vms_pcpu_core.specs.Totals.{amount_of, amounts, true_total}
-use Rattle.vms_pcpu_core.specs.Watching.{IsLoad, AreLoads}
+use Rattle.vms_pcpu_core.specs.Knowledge.{IsLoad, AreLoads}
 use Rattle.vms_pcpu_core.proofs.Locks.{holder-one}
-use Rattle.vms_pcpu_core.proofs.Runs.{Run, own-others_on}
-use Rattle.vms_pcpu_core.specs.Making.{event}
+use Rattle.vms_pcpu_core.proofs.StepsInRow.{RunsBetween, own-others_on}
+use Rattle.vms_pcpu_core.specs.MadeBetween.{event}
 
 pub rise-fall : (x : ℤ) → x ≡ rise x -ℤ fall x
 rise-fall (pos n) = omega (arith, ints)
@@ -65,7 +67,7 @@ true_total-between facts p j h g = omega (arith, ints, amounts-parts p j h, amou
 pub others-carry_nothing : (part : ℤ → ℤ) (p j : ℕ) (h : History) → part (pos 0) ≡ pos 0
     → ((q : ℕ) → nat_eq q p ≡ false → carried j (own h q) ≡ pos 0) → carried_by_others part p j h ≡ pos 0
 others-carry_nothing part p j h none nothing =
-    sum_below-zeros (λ q. if nat_eq q p then pos 0 else part (carried j (own h q))) (suc (begun_in turn h))
+    sum_below-zeros (λ q. if nat_eq q p then pos 0 else part (carried j (own h q))) (suc (begun_in role h))
     (λ q below. by (nat_eq q p) q refl)
   where
     by : (b : Bool) (q : ℕ) → nat_eq q p ≡ b → (if b then pos 0 else part (carried j (own h q))) ≡ pos 0
@@ -91,7 +93,7 @@ module _ (part : ℤ → ℤ) (least : (x : ℤ) → pos 0 ≤ℤ part x) (p j :
       (by_others-append more.0 h)
 
   pub carried_by_others-least : (h : History) → pos 0 ≤ℤ carried_by_others part p j h
-  carried_by_others-least h = below (suc (begun_in turn h))
+  carried_by_others-least h = below (suc (begun_in role h))
     where
       some : (b : Bool) (x : ℤ) → pos 0 ≤ℤ (if b then pos 0 else part x)
       some true x = omega (arith, ints)
@@ -104,11 +106,11 @@ module _ (part : ℤ → ℤ) (least : (x : ℤ) → pos 0 ≤ℤ part x) (p j :
   -- under a lock others carry nothing
   pub carried_by_others-locked : (facts : PcpuFacts) (h : History) → IsLegal facts h → IsPcpu facts j
       → part (pos 0) ≡ pos 0
-      → holds j (own h p) ≡ true → carried_by_others part p j h ≡ pos 0
+      → holds_lock j (own h p) ≡ true → carried_by_others part p j h ≡ pos 0
   carried_by_others-locked facts h legal j_in none holding =
-      others-carry_nothing part p j h none (λ q other. nothing (holds j (own h q)) q refl other)
+      others-carry_nothing part p j h none (λ q other. nothing (holds_lock j (own h q)) q refl other)
     where
-      nothing : (b : Bool) (q : ℕ) → holds j (own h q) ≡ b → nat_eq q p ≡ false → carried j (own h q) ≡ pos 0
+      nothing : (b : Bool) (q : ℕ) → holds_lock j (own h q) ≡ b → nat_eq q p ≡ false → carried j (own h q) ≡ pos 0
       nothing true q held other =
           let same : q ≡ p = (holder-one facts h legal j j_in).one q p held holding in
           absurd (true≢false (sym (eq-eqb q p same) ∙ other))
@@ -117,7 +119,7 @@ module _ (part : ℤ → ℤ) (least : (x : ℤ) → pos 0 ≤ℤ part x) (p j :
 -- what all carry is what others carry up less what they carry down, where p carries nothing
 pub carried_by_all-others : (p j : ℕ) (h : History) → carried j (own h p) ≡ pos 0
     → carried_by_all h j ≡ carried_by_others rise p j h -ℤ carried_by_others fall p j h
-carried_by_all-others p j h nothing = below (suc (begun_in turn h))
+carried_by_all-others p j h nothing = below (suc (begun_in role h))
   where
     each : (b : Bool) (q : ℕ) → nat_eq q p ≡ b
         → carried j (own h q) ≡ (if b then pos 0 else rise (carried j (own h q))) -ℤ
@@ -149,7 +151,7 @@ module _ (p j : ℕ) where
   AddNothing [] = Unit {0}
   AddNothing (k ∷ ks) = ((x : ℤ) → amount_of j x k ≡ pos 0) × AddNothing ks
 
-  pub by_self-nothing_added : (ks : List PcpuStep) (h g : History) → AddNothing ks → Run p ks h g
+  pub by_self-nothing_added : (ks : List PcpuStep) (h g : History) → AddNothing ks → RunsBetween p ks h g
       → by_self p j g ≡ by_self p j h
   by_self-nothing_added [] h g nothing_added run = ap (by_self p j) run
   by_self-nothing_added (k ∷ ks) h g nothing_added run =
@@ -169,7 +171,7 @@ module _ (p j : ℕ) where
   carried-loads (LoadC i v ∷ ks) h loads = carried-loads ks (event p (LoadC i v) ∷ h) loads.1
   carried-loads (_ ∷ ks) h loads = absurd loads.0
 
-  pub holds-loads : (ks : List PcpuStep) (h : History) → LoadSteps ks → holds j (after p ks h) ≡ holds j h
+  pub holds-loads : (ks : List PcpuStep) (h : History) → LoadSteps ks → holds_lock j (after p ks h) ≡ holds_lock j h
   holds-loads [] h loads = refl
   holds-loads (LoadL i c v ∷ ks) h loads = holds-loads ks (event p (LoadL i c v) ∷ h) loads.1
   holds-loads (LoadC i v ∷ ks) h loads = holds-loads ks (event p (LoadC i v) ∷ h) loads.1

@@ -1,16 +1,18 @@
 -- For other crates too: what a caller holds, carries and has added goes by its own steps, and the steps of each call
 -- leave it idle and add their amount.
-use Rattle.std.proofs.Common.{◌≡◌, ℕ, nat_eq, Bool, true, false, List, [], ◌∷◌, ◌++◌, ℤ, pos, ◌+ℤ◌, ◌-ℤ◌, refl, sym, ap, subst, ◌∙◌, append_assoc, if◌then◌else◌, arith}
+use Rattle.std.proofs.Common.{◌≡◌, ℕ, nat_eq, Bool, true, false, List, [], ◌∷◌, ◌++◌, ℤ}
+use Rattle.std.proofs.Common.{pos, ◌+ℤ◌, ◌-ℤ◌, refl, sym, ap, subst, ◌∙◌, append_assoc, if◌then◌else◌, arith}
 use Rattle.std.proofs.lemmas.Int.{ints}
 use Rattle.vms_base.specs.declared.ids.CpuId.{CpuId}
 use Rattle.vms_base.specs.declared.ids.PcpuId.{PcpuId}
 use Rattle.vms_history.specs.Events.{own, after}
-use Rattle.vms_history.proofs.Choices.{if-map, if-same}
+use Rattle.vms_history.proofs.Choices.{if-map, if-either}
 use Rattle.vms_pcpu_core.specs.declared.answers.Compare.{Compare}
 use Rattle.vms_pcpu_core.specs.declared.steps.PcpuFacts.{PcpuFacts}
 use Rattle.vms_pcpu_core.specs.declared.steps.PcpuStep.{PcpuStep}
 use Rattle.vms_pcpu_core.specs.declared.steps.PcpuStep.TheVariants.{AddL, LoadL, LoadC, Missed, TakeL, AddC, Unlock}
-use Rattle.vms_pcpu_core.specs.Calls.{Locks, IsRead, IsAdd, IsSync, IsFoldDead, LoadsEach, IsSum, IsCompare, Probes, Judges, Settles, IsLimitedAdd}
+use Rattle.vms_pcpu_core.specs.Calls.{Locks, IsRead, IsAdd, IsSync, IsFoldDead, LoadsEach}
+use Rattle.vms_pcpu_core.specs.Calls.{IsSum, IsCompare, Probes, Judges, Settles, IsLimitedAdd}
 use Rattle.vms_pcpu_core.specs.Calls.Locks.{won, missed}
 use Rattle.vms_pcpu_core.specs.Calls.IsAdd.{below, reached}
 use Rattle.vms_pcpu_core.specs.Calls.IsSync.{moved}
@@ -23,14 +25,15 @@ use Rattle.vms_pcpu_core.specs.Calls.Judges.{beyond, inside, close}
 use Rattle.vms_pcpu_core.specs.Calls.Settles.{yes_ends, no_ends}
 use Rattle.vms_pcpu_core.specs.Calls.IsLimitedAdd.{nothing, unlocked, locked}
 use Rattle.vms_pcpu_core.specs.Histories.{History}
-use Rattle.vms_pcpu_core.specs.Making.{event, MadeSteps}
-use Rattle.vms_pcpu_core.specs.Own.{holds, carried, carried_after}
-use Rattle.vms_pcpu_core.specs.OwnSteps.{holds_through, carried_through, as_is, size_of, added_through, own_added, IsIdle, GoesByOwnSteps, AddsAmount, LeavesIdle}
+use Rattle.vms_pcpu_core.specs.MadeBetween.{event, MadeSteps}
+use Rattle.vms_pcpu_core.specs.Own.{holds_lock, carried, carried_after}
+use Rattle.vms_pcpu_core.specs.OwnSteps.{holds_through, carried_through, as_is, size_of, added_through}
+use Rattle.vms_pcpu_core.specs.OwnSteps.{own_added, IsIdle, GoesByOwnSteps, AddsAmount, LeavesIdle}
 
 -- by a caller's own steps
 module _ (p : ℕ) where
   holds-after_steps : (j : ℕ) (ks : List PcpuStep) (h : History)
-      → holds j (after p ks h) ≡ holds_through j ks (holds j h)
+      → holds_lock j (after p ks h) ≡ holds_through j ks (holds_lock j h)
   holds-after_steps j [] h = refl
   holds-after_steps j (k ∷ ks) h = holds-after_steps j ks (event p k ∷ h)
 
@@ -209,7 +212,7 @@ module _ (i : ℕ) where
   does-settles own j amount answer ks (yes_ends u) = does-move j own u (u +ℤ amount) amount refl
   does-settles own j amount answer ks no_ends =
       subst (λ a. Does i (Unlock j ∷ []) (nat_eq j.number i) false (pos 0) (pos 0) a)
-      (sym (if-same (nat_eq j.number i) (pos 0))) (does-unlock j (pos 0))
+      (sym (if-either (nat_eq j.number i) (pos 0))) (does-unlock j (pos 0))
 
   pub does-sync : (cpu : CpuId) (j : PcpuId) (ks : List PcpuStep) → IsSync cpu j ks
       → Does i ks false false (pos 0) (pos 0) (pos 0)
@@ -217,7 +220,7 @@ module _ (i : ℕ) where
       does-then locking (TakeL j cpu v ∷ AddC j v ∷ Unlock j ∷ []) false (nat_eq j.number i) false (pos 0) (pos 0)
       (pos 0) (pos 0) (does-lock j locking (pos 0) locks)
       (subst (λ a. Does i (TakeL j cpu v ∷ AddC j v ∷ Unlock j ∷ []) (nat_eq j.number i) false (pos 0) (pos 0) a)
-      (if-same (nat_eq j.number i) (pos 0)) (does-move j cpu v v (pos 0) (omega (arith, ints))))
+      (if-either (nat_eq j.number i) (pos 0)) (does-move j cpu v v (pos 0) (omega (arith, ints))))
 
   pub does-fold : (dead : CpuId) (n : ℕ) (ks : List PcpuStep) → IsFoldDead dead n ks
       → Does i ks false false (pos 0) (pos 0) (pos 0)
@@ -266,7 +269,7 @@ module _ (i : ℕ) where
       (if nat_eq j.number i then (if answer then amount else pos 0) else pos 0)
   does-limited_add batch unknown cpus cpu j limit amount ks answer (nothing none) =
       subst (λ a. Does i [] false false (pos 0) (pos 0) a)
-      (sym (ap (λ (a : ℤ). if nat_eq j.number i then a else pos 0) none ∙ if-same (nat_eq j.number i) (pos 0)))
+      (sym (ap (λ (a : ℤ). if nat_eq j.number i then a else pos 0) none ∙ if-either (nat_eq j.number i) (pos 0)))
       (does-nothing false (pos 0))
   does-limited_add batch unknown cpus cpu j limit amount ks answer (unlocked l v some fits enough) =
       let a : ℤ = if nat_eq j.number i then amount else pos 0 in
@@ -299,14 +302,14 @@ adds-amount j amount ks does = record {
 }
 
 -- and where they add nothing
-adds-nothing : (j : PcpuId) (ks : List PcpuStep) → ((i : ℕ) → Does i ks false false (pos 0) (pos 0) (pos 0))
+nothing-added : (j : PcpuId) (ks : List PcpuStep) → ((i : ℕ) → Does i ks false false (pos 0) (pos 0) (pos 0))
     → AddsAmount j (pos 0) ks
-adds-nothing j ks does =
+nothing-added j ks does =
     adds-amount j (pos 0) ks
-    (λ i. subst (λ a. Does i ks false false (pos 0) (pos 0) a) (sym (if-same (nat_eq j.number i) (pos 0))) (does i))
+    (λ i. subst (λ a. Does i ks false false (pos 0) (pos 0) a) (sym (if-either (nat_eq j.number i) (pos 0))) (does i))
 
 pub read-adds : (i j : PcpuId) (ks : List PcpuStep) (answer : ℤ) → IsRead j ks answer → AddsAmount i (pos 0) ks
-read-adds i j ks answer is = adds-nothing i ks (λ n. does-read n j ks answer is)
+read-adds i j ks answer is = nothing-added i ks (λ n. does-read n j ks answer is)
 
 pub add-adds : (batch : ℕ) (cpu : CpuId) (j : PcpuId) (amount : ℤ) (ks : List PcpuStep) → IsAdd batch cpu j amount ks
     → AddsAmount j amount ks
@@ -314,20 +317,20 @@ add-adds batch cpu j amount ks is = adds-amount j amount ks (λ n. does-add n ba
 
 pub sync-adds : (i : PcpuId) (cpu : CpuId) (j : PcpuId) (ks : List PcpuStep) → IsSync cpu j ks
     → AddsAmount i (pos 0) ks
-sync-adds i cpu j ks is = adds-nothing i ks (λ n. does-sync n cpu j ks is)
+sync-adds i cpu j ks is = nothing-added i ks (λ n. does-sync n cpu j ks is)
 
 pub fold_dead-adds : (i : PcpuId) (dead : CpuId) (n : ℕ) (ks : List PcpuStep) → IsFoldDead dead n ks
     → AddsAmount i (pos 0) ks
-fold_dead-adds i dead n ks is = adds-nothing i ks (λ m. does-fold m dead n ks is)
+fold_dead-adds i dead n ks is = nothing-added i ks (λ m. does-fold m dead n ks is)
 
 pub sum-adds : (i : PcpuId) (cpus : List CpuId) (j : PcpuId) (ks : List PcpuStep) (answer : ℤ) → IsSum cpus j ks answer
     → AddsAmount i (pos 0) ks
-sum-adds i cpus j ks answer is = adds-nothing i ks (λ n. does-sum n cpus j ks answer is)
+sum-adds i cpus j ks answer is = nothing-added i ks (λ n. does-sum n cpus j ks answer is)
 
 pub compare-adds : (i : PcpuId) (unknown : ℕ) (cpus : List CpuId) (j : PcpuId) (rhs : ℤ) (ks : List PcpuStep)
     (answer : Compare) → IsCompare unknown cpus j rhs ks answer → AddsAmount i (pos 0) ks
 compare-adds i unknown cpus j rhs ks answer is =
-    adds-nothing i ks (λ n. does-compare n unknown cpus j rhs ks answer is)
+    nothing-added i ks (λ n. does-compare n unknown cpus j rhs ks answer is)
 
 pub limited_add-adds : (batch unknown : ℕ) (cpus : List CpuId) (cpu : CpuId) (j : PcpuId) (limit amount : ℤ)
     (ks : List PcpuStep) (answer : Bool) → IsLimitedAdd batch unknown cpus cpu j limit amount ks answer
@@ -345,7 +348,7 @@ leaves-idle facts earlier later p j amount ks made adds idle =
     record {
       idle =
           record {
-            no_lock = λ i. ap (holds i) made.made ∙ goes.held i ∙ ap (holds_through i ks) (idle.no_lock i)
+            no_lock = λ i. ap (holds_lock i) made.made ∙ goes.held i ∙ ap (holds_through i ks) (idle.no_lock i)
                 ∙ adds.no_lock i;
             nothing_carried = λ i. ap (carried i) made.made ∙ goes.carrying i
                 ∙ ap (carried_through i ks) (idle.nothing_carried i) ∙ adds.nothing_carried i;

@@ -1,5 +1,6 @@
 -- For other crates too: the steps of a call are read back as its answer and the steps after it.
-use Rattle.std.proofs.Common.{◌≡◌, ◌≢◌, ℕ, suc, zero, nat_lt, nat_eq, Bool, true, false, List, [], ◌∷◌, ◌++◌, ℤ, pos, ◌+ℤ◌, ◌-ℤ◌, unsigned_abs, refl, ap, ◌∙◌, append_assoc, arith}
+use Rattle.std.proofs.Common.{◌≡◌, ◌≢◌, ℕ, suc, zero, nat_lt, nat_eq, Bool, true, false, List, []}
+use Rattle.std.proofs.Common.{◌∷◌, ◌++◌, ℤ, pos, ◌+ℤ◌, ◌-ℤ◌, unsigned_abs, refl, ap, ◌∙◌, append_assoc, arith}
 use Rattle.std.proofs.lemmas.Int.{ints}
 use Rattle.std.proofs.lemmas.Bool.Decides.{nat_tests}
 use Rattle.vms_base.specs.declared.ids.CpuId.{CpuId}
@@ -7,7 +8,8 @@ use Rattle.vms_base.specs.declared.ids.PcpuId.{PcpuId}
 use Rattle.vms_pcpu_core.specs.declared.answers.Compare.{Compare}
 use Rattle.vms_pcpu_core.specs.declared.steps.PcpuStep.{PcpuStep}
 use Rattle.vms_pcpu_core.specs.declared.steps.PcpuStep.TheVariants.{LoadC, TakeL, AddC, Unlock}
-use Rattle.vms_pcpu_core.specs.Calls.{Locks, IsRead, IsAdd, IsSync, IsFoldDead, LoadsEach, IsSum, IsCompare, Probes, Judges, Settles, IsLimitedAdd}
+use Rattle.vms_pcpu_core.specs.Calls.{Locks, IsRead, IsAdd, IsSync, IsFoldDead, LoadsEach}
+use Rattle.vms_pcpu_core.specs.Calls.{IsSum, IsCompare, Probes, Judges, Settles, IsLimitedAdd}
 use Rattle.vms_pcpu_core.specs.Calls.Locks.{won, missed}
 use Rattle.vms_pcpu_core.specs.Calls.IsAdd.{below, reached}
 use Rattle.vms_pcpu_core.specs.Calls.IsSync.{moved}
@@ -19,7 +21,9 @@ use Rattle.vms_pcpu_core.specs.Calls.Probes.{large, narrow}
 use Rattle.vms_pcpu_core.specs.Calls.Judges.{beyond, inside, close}
 use Rattle.vms_pcpu_core.specs.Calls.Settles.{yes_ends, no_ends}
 use Rattle.vms_pcpu_core.specs.Calls.IsLimitedAdd.{nothing, unlocked, locked}
-use Rattle.vms_pcpu_core.specs.Readings.{read_count, past_add, read_add, past_unlock, read_sync, past_unlocks, read_fold_dead, with_load, read_sum, compared, read_compare, read_limited, read_limited_add}
+use Rattle.vms_pcpu_core.specs.Readings.{read_count, past_add, read_add, past_unlock, read_sync}
+use Rattle.vms_pcpu_core.specs.Readings.{past_unlocks, read_fold_dead, with_load, read_sum, compared}
+use Rattle.vms_pcpu_core.specs.Readings.{read_compare, read_limited, read_limited_add}
 
 -- the steps of a lock are passed over
 past_unlock-locks : (j : PcpuId) (locking more : List PcpuStep) → Locks j locking

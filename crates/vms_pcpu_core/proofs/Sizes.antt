@@ -1,6 +1,8 @@
 -- For other crates too: the numbers of a counter stay small, since their sizes are paid by the base and by what was
 -- spent.
-use Rattle.std.proofs.Common.{◌≡◌, ◌≢◌, ℕ, suc, ◌+◌, ◌^◌, ◌<◌, ◌≤◌, Bool, true, false, [], ◌∷◌, Option, Some, None, ℤ, pos, ◌+ℤ◌, ◌-ℤ◌, ◌≤ℤ◌, unsigned_abs, refl, sym, subst, ap, ◌∙◌, arith, inl, inr, if◌then◌else◌, nat_eq, eq-eqb, eqb-true}
+use Rattle.std.proofs.Common.{◌≡◌, ◌≢◌, ℕ, suc, ◌+◌, ◌^◌, ◌<◌, ◌≤◌, Bool, true, false, []}
+use Rattle.std.proofs.Common.{◌∷◌, Option, Some, None, ℤ, pos, ◌+ℤ◌, ◌-ℤ◌, ◌≤ℤ◌, unsigned_abs, refl, sym}
+use Rattle.std.proofs.Common.{subst, ap, ◌∙◌, arith, inl, inr, if◌then◌else◌, nat_eq, eq-eqb, eqb-true}
 use Rattle.std.proofs.lemmas.Int.{ints}
 use Rattle.std.proofs.lemmas.Bool.{ne_eqb, cases_lt}
 use Rattle.vms_base.specs.declared.ids.CpuId.{CpuId}
@@ -20,7 +22,7 @@ use Rattle.vms_pcpu_core.specs.Conditions.{Meets, MayAdd}
 use Rattle.vms_base.specs.Volumes.{most_volume}
 use Rattle.vms_pcpu_core.specs.States.{LockedState, count_at, local_at, IsPcpu}
 use Rattle.vms_pcpu_core.specs.Own.{carried}
-use Rattle.vms_pcpu_core.specs.Steps.{turn}
+use Rattle.vms_pcpu_core.specs.Steps.{role}
 use Rattle.vms_pcpu_core.specs.Totals.{amount_of, amounts, spent, spent_by, is_owned}
 use Rattle.vms_pcpu_core.specs.Histories.{percpu, History, IsLegal, state_after}
 use Rattle.vms_pcpu_core.specs.Laws.{numbers_after, most_number, number_of, IsSmall}
@@ -102,7 +104,7 @@ spent-grows cpus before (Some d) j carrying step owned control =
     let same = eq-eqb d.number d.number refl in rw same refl in
     omega (arith, ints, changed, here)
 
-paid-below : (facts : PcpuFacts) (h : History) (j n : ℕ) → IsLegal facts h → IsPcpu facts j → begun_in turn h < n
+paid-below : (facts : PcpuFacts) (h : History) (j n : ℕ) → IsLegal facts h → IsPcpu facts j → begun_in role h < n
     → ((pos (unsigned_abs (count_at (numbers_after facts h) j)) +ℤ sizes
     (λ c. local_at (numbers_after facts h) c j) facts.layout.cpus)
     +ℤ sum_below (λ p. pos (unsigned_abs (carried j (own h p)))) n)
@@ -123,7 +125,7 @@ paid-below facts (e ∷ h) j n legal j_in above =
     change-sizes facts.layout.cpus _ (count_at (numbers_after facts h) j) (count_at (numbers_after facts (e ∷ h)) j)
     (λ c. local_at (numbers_after facts h) c j) (λ c. local_at (numbers_after facts (e ∷ h)) c j) _ _ _ _ change in
     let callers = sum_below-callers (λ es. pos (unsigned_abs (carried j es))) e h n below.0 in
-    let who = owner_in turn h e.caller in
+    let who = owner_in role h e.caller in
     let spending =
     spent-grows facts.layout.cpus (λ c. spent h c j) who j (carried j (own h e.caller)) e.step
     (λ d is. owned facts h e.caller d legal.0 is) (no_amount who change) in
@@ -137,15 +139,15 @@ within-if false n m most within before = omega arith
 pub spent-most : (facts : PcpuFacts) (h : History) (c j : ℕ) → IsLegal facts h → spent h c j ≤ most_volume
 spent-most facts [] c j legal = omega arith
 spent-most facts (e ∷ h) c j legal =
-    within-if (is_owned (owner_in turn h e.caller) c) (unsigned_abs (amount_of j (carried j (own h e.caller)) e.step))
+    within-if (is_owned (owner_in role h e.caller) c) (unsigned_abs (amount_of j (carried j (own h e.caller)) e.step))
     (spent h c j) most_volume
-    (by (owner_in turn h e.caller) e.step refl legal.2 (spent-most facts h c j legal.0))
+    (by (owner_in role h e.caller) e.step refl legal.2 (spent-most facts h c j legal.0))
     (spent-most facts h c j legal.0)
   where
     s : LockedState
     s = state_after facts h
 
-    by : (who : Option CpuId) (step : PcpuStep) → owner_in turn h e.caller ≡ who → Meets facts h s e.caller step
+    by : (who : Option CpuId) (step : PcpuStep) → owner_in role h e.caller ≡ who → Meets facts h s e.caller step
         → spent h c j ≤ most_volume
         → is_owned who c ≡ true
         → unsigned_abs (amount_of j (carried j (own h e.caller)) step) + spent h c j ≤ most_volume
@@ -181,7 +183,7 @@ pub amounts-most : (facts : PcpuFacts) (h : History) (j : ℕ) → IsLegal facts
 amounts-most facts [] j legal j_in =
     omega (arith, ints, sum_below-zeros (λ c. pos 0) facts.layout.cpus (λ c below. refl))
 amounts-most facts (e ∷ h) j legal j_in =
-    let who = owner_in turn h e.caller in
+    let who = owner_in role h e.caller in
     let spending =
     spent-grows facts.layout.cpus (λ c. spent h c j) who j (carried j (own h e.caller)) e.step
     (λ d is. owned facts h e.caller d legal.0 is) (no_amount who (newest-change facts e h j legal j_in)) in
@@ -204,7 +206,7 @@ pays facts h j legal j_in =
     omega (arith, ints)
 
 -- all sizes together
-pub sizes-small : (facts : PcpuFacts) (h : History) (j n : ℕ) → IsLegal facts h → IsPcpu facts j → begun_in turn h < n
+pub sizes-small : (facts : PcpuFacts) (h : History) (j n : ℕ) → IsLegal facts h → IsPcpu facts j → begun_in role h < n
     → ((pos (unsigned_abs (count_at (numbers_after facts h) j)) +ℤ sizes
     (λ c. local_at (numbers_after facts h) c j) facts.layout.cpus)
     +ℤ sum_below (λ p. pos (unsigned_abs (carried j (own h p)))) n) ≤ℤ pos most_number
@@ -213,7 +215,7 @@ sizes-small facts h j n legal j_in above =
 
 pub numbers-small : (facts : PcpuFacts) (h : History) → IsLegal facts h → (j : ℕ) → IsPcpu facts j → IsSmall facts h j
 numbers-small facts h legal j j_in =
-    let n : ℕ = suc (begun_in turn h) in
+    let n : ℕ = suc (begun_in role h) in
     let all = sizes-small facts h j n legal j_in (omega arith) in
     let some_locals = some_sizes (λ c. local_at (numbers_after facts h) c j) facts.layout.cpus in
     let some_carried = some_sizes (λ p. carried j (own h p)) n in
@@ -221,7 +223,7 @@ numbers-small facts h legal j j_in =
       count = omega (arith, ints);
       local = λ c c_in. let each = each_size (λ i. local_at (numbers_after facts h) i j) c facts.layout.cpus c_in in
           omega (arith, ints);
-      in_hand = λ p. elim (cases_lt (begun_in turn h) p) [
+      in_hand = λ p. elim (cases_lt (begun_in role h) p) [
         | inl later ↦ let none : carried j (own h p) ≡ pos 0 =
             ap (carried j) (own-not_given percpu facts h p legal later) in omega (arith, ints)
         | inr given ↦ let each = each_size (λ i. carried j (own h i)) p n (omega arith) in omega (arith, ints)
@@ -239,9 +241,9 @@ in_hand-small : (facts : PcpuFacts) (e : Event PcpuStep) (h : History) (j : ℕ)
     +ℤ pos (unsigned_abs (amount_of j (carried j (own h e.caller)) e.step)))
     ≤ℤ pos most_number
 in_hand-small facts e h j legal j_in =
-    let n : ℕ = suc (begun_in turn (e ∷ h)) in
+    let n : ℕ = suc (begun_in role (e ∷ h)) in
     let below = caller_is_below percpu facts e h n legal (omega arith) in
-    let who = owner_in turn h e.caller in
+    let who = owner_in role h e.caller in
     let change = newest-change facts e h j legal j_in in
     let spending =
     spent-grows facts.layout.cpus (λ c. spent h c j) who j (carried j (own h e.caller)) e.step

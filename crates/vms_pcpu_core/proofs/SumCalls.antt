@@ -1,5 +1,6 @@
 -- For other crates too: what a call that sums a counter found.
-use Rattle.std.proofs.Common.{◌≡◌, ℕ, ◌<◌, true, false, true≢false, List, [], ◌∷◌, ◌++◌, get_or, ℤ, ◌+ℤ◌, ◌-ℤ◌, unsigned_abs, refl, sym, ap, subst, ◌∙◌, arith}
+use Rattle.std.proofs.Common.{◌≡◌, ℕ, ◌<◌, true, false, true≢false, List, [], ◌∷◌, ◌++◌, get_or}
+use Rattle.std.proofs.Common.{ℤ, ◌+ℤ◌, ◌-ℤ◌, unsigned_abs, refl, sym, ap, subst, ◌∙◌, arith}
 use Rattle.std.proofs.lemmas.Int.{ints}
 use Rattle.vms_base.specs.declared.ids.PcpuId.{PcpuId}
 use Rattle.vms_base.specs.declared.kinds.CpuState.TheVariants.{Absent}
@@ -19,18 +20,18 @@ use Rattle.vms_pcpu_core.specs.Calls.IsSum.{summed}
 use Rattle.vms_pcpu_core.specs.Calls.IsCompare.{far, near}
 use Rattle.vms_pcpu_core.specs.Histories.{percpu, History, IsLegal}
 use Rattle.vms_pcpu_core.specs.Laws.{numbers_after}
-use Rattle.vms_pcpu_core.specs.Making.{event, MadeSteps}
+use Rattle.vms_pcpu_core.specs.MadeBetween.{event, MadeSteps}
 use Rattle.vms_pcpu_core.specs.Summing.{SumsUp, TellsRoughly, TellsBySum}
 use Rattle.vms_pcpu_core.specs.Totals.{true_total}
 use Rattle.vms_base.specs.Cpus.{is_present}
-use Rattle.vms_pcpu_core.specs.Watching.{AreLoads, added_since}
+use Rattle.vms_pcpu_core.specs.Knowledge.{AreLoads, added_since}
 use Rattle.vms_pcpu_core.proofs.Bounds.{locals-bounded}
 use Rattle.vms_pcpu_core.proofs.CallsWithin.{call-ran, run-locks}
-use Rattle.vms_pcpu_core.proofs.Found.{legal-earlier, sum_below-listed, found-loads}
+use Rattle.vms_pcpu_core.proofs.SumMoments.{legal-earlier, sum_below-listed, found-loads}
 use Rattle.vms_pcpu_core.proofs.Drift.{locals-size}
-use Rattle.vms_pcpu_core.proofs.Runs.{Run, run-append, run-own, run-extends}
+use Rattle.vms_pcpu_core.proofs.StepsInRow.{RunsBetween, run-append, run-own, run-extends}
 use Rattle.vms_pcpu_core.proofs.Totals.{totals-kept}
-use Rattle.vms_pcpu_core.proofs.Watched.{sum-true, rough-sign}
+use Rattle.vms_pcpu_core.proofs.KnowledgeKept.{sum-true, rough-sign}
 
 -- the count and the local parts that were found since the lock was won
 pub record Summed (facts : PcpuFacts) (p : ℕ) (j : PcpuId) (free g : History) (sum : ℤ) : Type 0 where
@@ -43,12 +44,12 @@ pub record Summed (facts : PcpuFacts) (p : ℕ) (j : PcpuId) (free g : History) 
   pub total : sum ≡ true_total facts (event p (Won j) ∷ free) j.number
       +ℤ sum_below (λ c. added_since (between c) (event p (Won j) ∷ free) c j.number) facts.layout.cpus
 
-pub sums-up : (facts : PcpuFacts) (p : ℕ) (j : PcpuId) (free g : History) (v sum : ℤ) (loads : List PcpuStep)
+pub summed-total : (facts : PcpuFacts) (p : ℕ) (j : PcpuId) (free g : History) (v sum : ℤ) (loads : List PcpuStep)
     → IsLegal facts g
     → LoadsEach j (present_cpus facts) loads sum
-    → Run p (LoadC j v ∷ loads) (event p (Won j) ∷ free) g
+    → RunsBetween p (LoadC j v ∷ loads) (event p (Won j) ∷ free) g
     → Summed facts p j free g (v +ℤ sum)
-sums-up facts p j free g v sum loads legal each run =
+summed-total facts p j free g v sum loads legal each run =
     let won : History = event p (Won j) ∷ free in
     let e : Event PcpuStep = event p (LoadC j v) in
     let found : History = run.0 ++ won in
@@ -93,13 +94,14 @@ sum-call facts earlier later p j steps answer calls (summed v sum locking loads 
     let wins = run-locks p j locking earlier locked.0 locks locked.1 in
     let free : History = wins.0 in
     let won : History = event p (Won j) ∷ free in
-    let since : Run p ((LoadC j v ∷ loads) ++ Unlock j ∷ []) won ran.end =
-    subst (λ (h : History). Run p ((LoadC j v ∷ loads) ++ Unlock j ∷ []) h ran.end) wins.1 locked.2 in
+    let since : RunsBetween p ((LoadC j v ∷ loads) ++ Unlock j ∷ []) won ran.end =
+    subst (λ (h : History). RunsBetween p ((LoadC j v ∷ loads) ++ Unlock j ∷ []) h ran.end) wins.1 locked.2 in
     let loaded = run-append p (LoadC j v ∷ loads) (Unlock j ∷ []) won ran.end since in
     let g : History = loaded.0 in
     let to_g : Extends later g =
     Extends-both later ran.end g ran.kept (run-extends p (Unlock j ∷ []) g ran.end loaded.2) in
-    let parts = sums-up facts p j free g v sum loads (legal-earlier facts later g calls.legal to_g) each loaded.1 in
+    let parts =
+    summed-total facts p j free g v sum loads (legal-earlier facts later g calls.legal to_g) each loaded.1 in
     let to_won : Extends later won = Extends-both later g won to_g (run-extends p (LoadC j v ∷ loads) won g loaded.1) in
     record {
       free = free;
@@ -158,7 +160,7 @@ compare-by_sum facts earlier later p j rhs steps answer calls (near v sum rest a
     let ran = call-ran facts earlier later p (LoadC j v ∷ rest) calls in
     let loaded : History = event p (LoadC j v) ∷ (ran.run.0 ++ earlier) in
     let since : Extends loaded earlier = (event p (LoadC j v) ∷ ran.run.0, refl {a = loaded}) in
-    let run : Run p rest loaded ran.end = ran.run.2 in
+    let run : RunsBetween p rest loaded ran.end = ran.run.2 in
     let goes_on : Extends later loaded =
     Extends-both later ran.end loaded ran.kept (run-extends p rest loaded ran.end run) in
     let made : own later p ≡ after p rest (own loaded p) =

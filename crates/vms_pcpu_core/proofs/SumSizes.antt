@@ -1,5 +1,6 @@
 -- For other crates too: the answer of a sum is small.
-use Rattle.std.proofs.Common.{◌≡◌, ℕ, suc, ◌+◌, ◌*◌, ◌≤◌, Bool, true, false, List, [], ◌∷◌, ◌++◌, length, ℤ, pos, ◌≤ℤ◌, unsigned_abs, subst, if◌then◌else◌, arith}
+use Rattle.std.proofs.Common.{◌≡◌, ℕ, suc, ◌+◌, ◌*◌, ◌≤◌, Bool, true, false, List, []}
+use Rattle.std.proofs.Common.{◌∷◌, ◌++◌, length, ℤ, pos, ◌≤ℤ◌, unsigned_abs, subst, if◌then◌else◌, arith}
 use Rattle.std.proofs.lemmas.Int.{ints}
 use Rattle.vms_base.specs.declared.ids.CpuId.{CpuId}
 use Rattle.vms_base.specs.declared.ids.PcpuId.{PcpuId}
@@ -16,13 +17,13 @@ use Rattle.vms_pcpu_core.specs.Calls.LoadsEach.{no_cpu, one_cpu}
 use Rattle.vms_pcpu_core.specs.Calls.IsSum.{summed}
 use Rattle.vms_pcpu_core.specs.Histories.{percpu, History, IsLegal}
 use Rattle.vms_pcpu_core.specs.Laws.{most_number}
-use Rattle.vms_pcpu_core.specs.Making.{event, MadeSteps}
+use Rattle.vms_pcpu_core.specs.MadeBetween.{event, MadeSteps}
 use Rattle.vms_pcpu_core.specs.States.{batch_at}
 use Rattle.vms_pcpu_core.specs.Summing.{most_sum}
 use Rattle.vms_pcpu_core.proofs.Bounds.{locals-bounded}
 use Rattle.vms_pcpu_core.proofs.CallsWithin.{call-ran}
-use Rattle.vms_pcpu_core.proofs.Found.{legal-earlier}
-use Rattle.vms_pcpu_core.proofs.Runs.{Run, run-append, run-extends}
+use Rattle.vms_pcpu_core.proofs.SumMoments.{legal-earlier}
+use Rattle.vms_pcpu_core.proofs.StepsInRow.{RunsBetween, run-append, run-extends}
 use Rattle.vms_pcpu_core.proofs.Sizes.{number_of-small}
 
 -- there are at most as many present CPUs as CPUs
@@ -39,7 +40,7 @@ present-few n (x ∷ xs) = by (is_present x) (present-few (suc n) xs)
 module _ (facts : PcpuFacts) (p : ℕ) (j : PcpuId) (g : History) (legal : IsLegal facts g) where
   -- each load of a local part found at most a batch
   loads-small : (cpus : List CpuId) (ks : List PcpuStep) (sum : ℤ) (h : History) → LoadsEach j cpus ks sum
-      → Run p ks h g → pos (unsigned_abs sum) ≤ℤ pos (length cpus * most_batch)
+      → RunsBetween p ks h g → pos (unsigned_abs sum) ≤ℤ pos (length cpus * most_batch)
   loads-small cpus ks sum h no_cpu run = omega (arith, ints)
   loads-small cpus ks sum h (one_cpu c d others rest total each) run =
       let before : History = run.0 ++ h in
@@ -54,7 +55,8 @@ module _ (facts : PcpuFacts) (p : ℕ) (j : PcpuId) (g : History) (legal : IsLeg
       omega (arith, ints, found, batch, more, loads-small others rest total (e ∷ before) each run.2)
 
 sum-ran : (facts : PcpuFacts) (p : ℕ) (j : PcpuId) (h g : History) (steps : List PcpuStep) (answer : ℤ)
-    → IsSum (present_cpus facts) j steps answer → IsLegal facts g → Run p steps h g → unsigned_abs answer ≤ most_sum
+    → IsSum (present_cpus facts) j steps answer → IsLegal facts g → RunsBetween p steps h g
+    → unsigned_abs answer ≤ most_sum
 sum-ran facts p j h g steps answer (summed v sum locking loads locks each) legal run =
     let base = base_can_begin percpu facts g legal in
     let parts = run-append p locking (LoadC j v ∷ (loads ++ Unlock j ∷ [])) h g run in

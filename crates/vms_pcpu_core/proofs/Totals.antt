@@ -16,7 +16,7 @@ use Rattle.vms_pcpu_core.specs.declared.steps.PcpuFacts.{PcpuFacts}
 use Rattle.vms_pcpu_core.specs.declared.steps.PcpuStep.{PcpuStep}
 use Rattle.vms_pcpu_core.specs.States.{count_at, local_at, IsPcpu}
 use Rattle.vms_pcpu_core.specs.Own.{carried}
-use Rattle.vms_pcpu_core.specs.Steps.{turn}
+use Rattle.vms_pcpu_core.specs.Steps.{role}
 use Rattle.vms_pcpu_core.specs.Totals.{locals, true_total}
 use Rattle.vms_pcpu_core.specs.Histories.{percpu, History, IsLegal, state_after}
 use Rattle.vms_pcpu_core.specs.Laws.{numbers_after, KeepsTotals}
@@ -25,7 +25,7 @@ use Rattle.vms_pcpu_core.proofs.Changes.Change.{rests, grows, takes, adds}
 use Rattle.vms_pcpu_core.proofs.Shapes.{HasShape-state_after}
 
 -- who owns a CPU owns one of the layout
-pub owned : (facts : PcpuFacts) (h : History) (p : ℕ) (d : CpuId) → IsLegal facts h → owner_in turn h p ≡ Some d
+pub owned : (facts : PcpuFacts) (h : History) (p : ℕ) (d : CpuId) → IsLegal facts h → owner_in role h p ≡ Some d
     → IsCpu facts.layout d.number
 owned facts h p d legal is = (owner_may_own percpu facts h p d legal is).0
 
@@ -33,10 +33,10 @@ owned facts h p d legal is = (owner_may_own percpu facts h p d legal is).0
 pub newest-change : (facts : PcpuFacts) (e : Event PcpuStep) (h : History) (j : ℕ) (legal : IsLegal facts (e ∷ h))
     (j_in : IsPcpu facts j)
     → IsChange facts h (state_after facts h) e.caller (HasShape-state_after facts h legal.0) j j_in
-    (owner_in turn h e.caller) e.step
+    (owner_in role h e.caller) e.step
 newest-change facts e h j legal j_in =
     change-step facts h (state_after facts h) e.caller (HasShape-state_after facts h legal.0) j j_in
-    (owner_in turn h e.caller) e.step
+    (owner_in role h e.caller) e.step
     refl (λ d is. owned facts h e.caller d legal.0 is) legal.2
 
 change-adds_up : (cpus batch : ℕ) (who : Option CpuId) (count count' : ℤ) (local local' : ℕ → ℤ)
@@ -71,7 +71,7 @@ change-adds_up cpus batch who count count' local local' carrying carrying' amoun
 change-adds_up cpus batch who count count' local local' carrying carrying' amount (adds counts same carries control) =
     omega (arith, ints, counts, sum_below-same local' local cpus (λ c below. same c), carries)
 
-kept-below : (facts : PcpuFacts) (h : History) (j n : ℕ) → IsLegal facts h → IsPcpu facts j → begun_in turn h < n
+kept-below : (facts : PcpuFacts) (h : History) (j n : ℕ) → IsLegal facts h → IsPcpu facts j → begun_in role h < n
     → (count_at (numbers_after facts h) j +ℤ locals facts.layout (numbers_after facts h) j)
     +ℤ sum_below (λ p. carried j (own h p)) n
     ≡ true_total facts h j
@@ -86,4 +86,4 @@ kept-below facts (e ∷ h) j n legal j_in above =
     omega (arith, ints, change, callers, kept-below facts h j n legal.0 j_in below.1)
 
 pub totals-kept : (facts : PcpuFacts) (h : History) → IsLegal facts h → KeepsTotals facts h
-totals-kept facts h legal j j_in = kept-below facts h j (suc (begun_in turn h)) legal j_in (omega arith)
+totals-kept facts h legal j j_in = kept-below facts h j (suc (begun_in role h)) legal j_in (omega arith)

@@ -1,5 +1,6 @@
 -- A limited addition by the lock.
-use Rattle.std.proofs.Common.{◌≡◌, ℕ, Bool, true, false, List, [], ◌∷◌, ◌++◌, Some, ℤ, pos, ◌+ℤ◌, ◌-ℤ◌, refl, sym, ap, subst, ◌∙◌, if◌then◌else◌, nat_eq, eq-eqb, arith}
+use Rattle.std.proofs.Common.{◌≡◌, ℕ, Bool, true, false, List, [], ◌∷◌, ◌++◌, Some, ℤ, pos}
+use Rattle.std.proofs.Common.{◌+ℤ◌, ◌-ℤ◌, refl, sym, ap, subst, ◌∙◌, if◌then◌else◌, nat_eq, eq-eqb, arith}
 use Rattle.std.proofs.lemmas.Int.{ints}
 use Rattle.vms_base.specs.declared.ids.CpuId.{CpuId}
 use Rattle.vms_base.specs.declared.ids.PcpuId.{PcpuId}
@@ -16,16 +17,18 @@ use Rattle.vms_pcpu_core.specs.Calls.Locks.{won, missed}
 use Rattle.vms_pcpu_core.specs.Calls.Probes.{large, narrow}
 use Rattle.vms_pcpu_core.specs.Histories.{History, IsLegal}
 use Rattle.vms_pcpu_core.specs.Limits.{rise, fall, KeepsLimit, PassesLimit}
-use Rattle.vms_pcpu_core.specs.Making.{event}
+use Rattle.vms_pcpu_core.specs.MadeBetween.{event}
 use Rattle.vms_pcpu_core.specs.Own.{carried}
-use Rattle.vms_pcpu_core.specs.Steps.{turn}
+use Rattle.vms_pcpu_core.specs.Steps.{role}
 use Rattle.vms_pcpu_core.specs.Totals.{amount_of}
-use Rattle.vms_pcpu_core.proofs.Found.{legal-earlier}
-use Rattle.vms_pcpu_core.proofs.Judged.{winning-carries, counted, last-read, judged, judges-loads}
-use Rattle.vms_pcpu_core.proofs.OtherChanges.{rise-least, fall-least, by_self, by_self-others, by_self-step, AddNothing, by_self-nothing_added, nothing_added-loads, by_others-grows, carried-loads, true_total-between}
-use Rattle.vms_pcpu_core.proofs.Runs.{Run, run-append, run-own, run-extends, own-others_on}
+use Rattle.vms_pcpu_core.proofs.SumMoments.{legal-earlier}
+use Rattle.vms_pcpu_core.proofs.LimitTotals.{winning-carries, counted, last-read, judged, judges-loads}
+use Rattle.vms_pcpu_core.proofs.OtherChanges.{rise-least, fall-least, by_self, by_self-others}
+use Rattle.vms_pcpu_core.proofs.OtherChanges.{by_self-step, AddNothing, by_self-nothing_added, nothing_added-loads}
+use Rattle.vms_pcpu_core.proofs.OtherChanges.{by_others-grows, carried-loads, true_total-between}
+use Rattle.vms_pcpu_core.proofs.StepsInRow.{RunsBetween, run-append, run-own, run-extends, own-others_on}
 use Rattle.vms_pcpu_core.proofs.CallsWithin.{run-locks}
-use Rattle.vms_pcpu_core.proofs.Saying.{SaysYes, SaysNo}
+use Rattle.vms_pcpu_core.proofs.LimitAnswers.{SaysYes, SaysNo}
 
 nothing_added-locks : (p : ℕ) (j : PcpuId) (locking : List PcpuStep) → Locks j locking → AddNothing p j.number locking
 nothing_added-locks p j locking won = (λ x. refl, tt)
@@ -38,7 +41,7 @@ nothing_added-probes p batch hides limit cpu j amount probing (narrow l v fits s
 
 module _ (facts : PcpuFacts) (earlier later : History) (p : ℕ) (cpu : CpuId) (j : PcpuId) (limit amount : ℤ)
     (legal : IsLegal facts later)
-    (owner : owner_in turn later p ≡ Some cpu) (nothing_carried : carried j.number (own earlier p) ≡ pos 0) where
+    (owner : owner_in role later p ≡ Some cpu) (nothing_carried : carried j.number (own earlier p) ≡ pos 0) where
   -- by the lock: the first step, the winning of the lock, the readings under it, and the rest
   pub record Under (v : ℤ) (loads ending : List PcpuStep) (end : History) : Type 0 where
     pub first : PcpuStep
@@ -49,12 +52,12 @@ module _ (facts : PcpuFacts) (earlier later : History) (p : ℕ) (cpu : CpuId) (
     pub begins : Extends free (event p first ∷ begun)
     pub nothing_added : by_self p j.number (event p (Won j) ∷ free) ≡ by_self p j.number earlier
     pub read_end : History
-    pub reads : Run p (LoadC j v ∷ loads) (event p (Won j) ∷ free) read_end
-    pub ends : Run p ending read_end end
+    pub reads : RunsBetween p (LoadC j v ∷ loads) (event p (Won j) ∷ free) read_end
+    pub ends : RunsBetween p ending read_end end
 
   probes-first : (hides batch : ℕ) (probing : List PcpuStep) (g : History)
       → Probes batch hides limit cpu j amount probing
-      → Run p probing earlier g
+      → RunsBetween p probing earlier g
       → (begun : History) × (first : PcpuStep) × Extends begun earlier × (own begun p ≡ own earlier p)
       × Extends g (event p first ∷ begun)
   probes-first hides batch probing g (large l above) run =
@@ -69,15 +72,15 @@ module _ (facts : PcpuFacts) (earlier later : History) (p : ℕ) (cpu : CpuId) (
 
   under : (hides batch : ℕ) (v : ℤ) (probing locking loads ending : List PcpuStep) (end : History)
       → Probes batch hides limit cpu j amount probing → Locks j locking
-      → Run p (probing ++ locking ++ LoadC j v ∷ (loads ++ ending)) earlier end → Under v loads ending end
+      → RunsBetween p (probing ++ locking ++ LoadC j v ∷ (loads ++ ending)) earlier end → Under v loads ending end
   under hides batch v probing locking loads ending end probes locks run =
       let whole = run-append p (probing ++ locking) (LoadC j v ∷ (loads ++ ending)) earlier end run in
       let front = run-append p probing locking earlier whole.0 whole.1 in
       let wins = run-locks p j locking front.0 whole.0 locks front.2 in
       let started = probes-first hides batch probing front.0 probes front.1 in
       let free : History = wins.0 in
-      let rest : Run p ((LoadC j v ∷ loads) ++ ending) (event p (Won j) ∷ free) end =
-      subst (λ (h : History). Run p ((LoadC j v ∷ loads) ++ ending) h end) wins.1 whole.2 in
+      let rest : RunsBetween p ((LoadC j v ∷ loads) ++ ending) (event p (Won j) ∷ free) end =
+      subst (λ (h : History). RunsBetween p ((LoadC j v ∷ loads) ++ ending) h end) wins.1 whole.2 in
       let back = run-append p (LoadC j v ∷ loads) ending (event p (Won j) ∷ free) end rest in
       record {
         first = started.1;
@@ -100,7 +103,7 @@ module _ (facts : PcpuFacts) (earlier later : History) (p : ℕ) (cpu : CpuId) (
   pub locked-passes : (v : ℤ) (probing locking loads : List PcpuStep) (end : History)
       → Probes (batch_at facts.base j.number) (unknown facts j.number) limit cpu j amount probing → Locks j locking
       → Judges (unknown facts j.number) limit (present_cpus facts) j amount (v +ℤ amount) loads false
-      → Run p (probing ++ locking ++ LoadC j v ∷ (loads ++ Unlock j ∷ [])) earlier end → own later p ≡ own end p
+      → RunsBetween p (probing ++ locking ++ LoadC j v ∷ (loads ++ Unlock j ∷ [])) earlier end → own later p ≡ own end p
       → Extends later end → SaysNo facts earlier later p j limit amount end
   locked-passes v probing locking loads end probes locks judges run same_own more =
       let parts =
@@ -159,7 +162,8 @@ module _ (facts : PcpuFacts) (earlier later : History) (p : ℕ) (cpu : CpuId) (
   pub locked-keeps : (v u : ℤ) (probing locking loads : List PcpuStep) (end : History)
       → Probes (batch_at facts.base j.number) (unknown facts j.number) limit cpu j amount probing → Locks j locking
       → Judges (unknown facts j.number) limit (present_cpus facts) j amount (v +ℤ amount) loads true
-      → Run p (probing ++ locking ++ LoadC j v ∷ (loads ++ TakeL j cpu u ∷ AddC j (u +ℤ amount) ∷ Unlock j ∷ []))
+      → RunsBetween p
+      (probing ++ locking ++ LoadC j v ∷ (loads ++ TakeL j cpu u ∷ AddC j (u +ℤ amount) ∷ Unlock j ∷ []))
       earlier end
       → Extends later end → SaysYes facts earlier later p j limit amount end
   locked-keeps v u probing locking loads end probes locks judges run more =

@@ -1,5 +1,6 @@
 -- A limited addition without the lock.
-use Rattle.std.proofs.Common.{◌≡◌, ℕ, ◌≤◌, Bool, true, [], ◌∷◌, ◌++◌, Some, ℤ, pos, ◌+ℤ◌, ◌-ℤ◌, ◌≤ℤ◌, unsigned_abs, refl, sym, ap, subst, ◌∙◌, append_assoc, if◌then◌else◌, nat_eq, eq-eqb, arith}
+use Rattle.std.proofs.Common.{◌≡◌, ℕ, ◌≤◌, Bool, true, [], ◌∷◌, ◌++◌, Some, ℤ, pos, ◌+ℤ◌, ◌-ℤ◌, ◌≤ℤ◌, unsigned_abs}
+use Rattle.std.proofs.Common.{refl, sym, ap, subst, ◌∙◌, append_assoc, if◌then◌else◌, nat_eq, eq-eqb, arith}
 use Rattle.std.proofs.lemmas.Int.{ints}
 use Rattle.vms_base.specs.declared.ids.CpuId.{CpuId}
 use Rattle.vms_base.specs.declared.ids.PcpuId.{PcpuId}
@@ -15,24 +16,26 @@ use Rattle.vms_pcpu_core.specs.Calls.{room, unknown}
 use Rattle.vms_pcpu_core.specs.Histories.{percpu, History, IsLegal}
 use Rattle.vms_pcpu_core.specs.Laws.{numbers_after}
 use Rattle.vms_pcpu_core.specs.Limits.{rise, fall, carried_by_others, KeepsLimit}
-use Rattle.vms_pcpu_core.specs.Making.{event}
-use Rattle.vms_pcpu_core.specs.Own.{holds, carried}
-use Rattle.vms_pcpu_core.specs.Steps.{turn}
+use Rattle.vms_pcpu_core.specs.MadeBetween.{event}
+use Rattle.vms_pcpu_core.specs.Own.{holds_lock, carried}
+use Rattle.vms_pcpu_core.specs.Steps.{role}
 use Rattle.vms_pcpu_core.specs.Totals.{amount_of, locals, true_total}
-use Rattle.vms_pcpu_core.specs.Watching.{AreLoads}
-use Rattle.vms_pcpu_core.proofs.Found.{legal-earlier}
-use Rattle.vms_pcpu_core.proofs.Judged.{room-up, room-down}
-use Rattle.vms_pcpu_core.proofs.OtherChanges.{rise-least, fall-least, by_self, by_self-others, by_self-step, by_others-grows, carried_by_others-least, carried_by_others-locked, carried_by_all-others, true_total-between}
+use Rattle.vms_pcpu_core.specs.Knowledge.{AreLoads}
+use Rattle.vms_pcpu_core.proofs.SumMoments.{legal-earlier}
+use Rattle.vms_pcpu_core.proofs.LimitTotals.{room-up, room-down}
+use Rattle.vms_pcpu_core.proofs.OtherChanges.{rise-least, fall-least, by_self, by_self-others, by_self-step}
+use Rattle.vms_pcpu_core.proofs.OtherChanges.{by_others-grows, carried_by_others-least, carried_by_others-locked}
+use Rattle.vms_pcpu_core.proofs.OtherChanges.{carried_by_all-others, true_total-between}
 use Rattle.vms_history.proofs.Owners.{owner_may_own}
-use Rattle.vms_pcpu_core.proofs.Runs.{Run, own-others_on}
+use Rattle.vms_pcpu_core.proofs.StepsInRow.{RunsBetween, own-others_on}
 use Rattle.vms_pcpu_core.proofs.Totals.{totals-kept}
-use Rattle.vms_pcpu_core.proofs.Watched.{local-stays}
-use Rattle.vms_pcpu_core.proofs.Saying.{SaysYes}
+use Rattle.vms_pcpu_core.proofs.KnowledgeKept.{local-stays}
+use Rattle.vms_pcpu_core.proofs.LimitAnswers.{SaysYes}
 use Rattle.vms_pcpu_core.proofs.LocalRoom.{locals-moved, owner-then}
 
 module _ (facts : PcpuFacts) (earlier later : History) (p : ℕ) (cpu : CpuId) (j : PcpuId) (limit amount : ℤ)
     (legal : IsLegal facts later)
-    (owner : owner_in turn later p ≡ Some cpu) (nothing_carried : carried j.number (own earlier p) ≡ pos 0) where
+    (owner : owner_in role later p ≡ Some cpu) (nothing_carried : carried j.number (own earlier p) ≡ pos 0) where
   -- without the lock: what the count and the local parts were when the count was loaded
   unlocked-near : (l v : ℤ) (begun others : History) → own others p ≡ [] → own begun p ≡ own earlier p
       → Extends later (event p (LoadC j v) ∷ (others ++ event p (LoadL j cpu l) ∷ begun))
@@ -50,7 +53,7 @@ module _ (facts : PcpuFacts) (earlier later : History) (p : ℕ) (cpu : CpuId) (
       legal-earlier facts loaded (e ∷ begun) read_legal.0 (others, refl) in
       let to_first : Extends later (e ∷ begun) =
       Extends-both later (read ∷ loaded) (e ∷ begun) more (read ∷ others, refl) in
-      let owned_then : owner_in turn begun p ≡ Some cpu =
+      let owned_then : owner_in role begun p ≡ Some cpu =
       owner-then facts later begun p (LoadL j cpu l) cpu legal to_first owner in
       let j_in : IsPcpu facts j.number = read_legal.2.counter in
       let might = owner_may_own percpu facts begun p cpu first_legal.0 owned_then in
@@ -62,7 +65,7 @@ module _ (facts : PcpuFacts) (earlier later : History) (p : ℕ) (cpu : CpuId) (
         legal = subst (IsLegal facts) (sym regroup) read_legal.0;
         loads = subst AreLoads (sym own_load) (tt, tt);
       })
-      (subst (λ es. lives_in turn es p ≡ true) (sym regroup) read_legal.1.1) owned_then j_in in
+      (subst (λ es. lives_in role es p ≡ true) (sym regroup) read_legal.1.1) owned_then j_in in
       let local : local_at (numbers_after facts loaded) cpu.number j.number ≡ l =
       ap (λ es. local_at (numbers_after facts es) cpu.number j.number) (sym regroup) ∙ stays ∙ first_legal.2.value in
       let within : unsigned_abs (local_at (numbers_after facts loaded) cpu.number j.number +ℤ amount) ≤ batch_at
@@ -82,7 +85,7 @@ module _ (facts : PcpuFacts) (earlier later : History) (p : ℕ) (cpu : CpuId) (
 
   pub unlocked-keeps : (l v : ℤ) (end : History) → unsigned_abs (l +ℤ amount) ≤ batch_at facts.base j.number
       → pos (unknown facts j.number) ≤ℤ room limit amount v
-      → Run p (LoadL j cpu l ∷ LoadC j v ∷ AddL j amount ∷ []) earlier end
+      → RunsBetween p (LoadL j cpu l ∷ LoadC j v ∷ AddL j amount ∷ []) earlier end
       → Extends later end → SaysYes facts earlier later p j limit amount end
   unlocked-keeps l v end fits enough run more =
       let begun : History = run.0 ++ earlier in
@@ -118,8 +121,9 @@ module _ (facts : PcpuFacts) (earlier later : History) (p : ℕ) (cpu : CpuId) (
       let more_falls = by_others-grows fall fall-least p j.number changed loaded to_loaded in
       let carried_up = carried_by_others-least rise rise-least p j.number loaded in
       let carried_down = carried_by_others-least fall fall-least p j.number loaded in
-      let same_lock : holds j.number (own unchanged p) ≡ holds j.number (own loaded p) =
-      ap (holds j.number) (own-others_on run.2.2.0 read p run.2.2.1 ∙ own-mine (event p (LoadC j v)) loaded p refl) in
+      let same_lock : holds_lock j.number (own unchanged p) ≡ holds_lock j.number (own loaded p) =
+      ap (holds_lock j.number)
+      (own-others_on run.2.2.0 read p run.2.2.1 ∙ own-mine (event p (LoadC j v)) loaded p refl) in
       let second_others = by_self-others p j.number run.2.0 first run.2.1 in
       let first_step = by_self-step p j.number (LoadL j cpu l) begun in
       let first_others = by_self-others p j.number run.0 earlier run.1 in

@@ -10,10 +10,11 @@ use Rattle.vms_history.specs.Events.{own}
 use Rattle.vms_history.specs.Passes.{owner_in}
 use Rattle.vms_pcpu_core.specs.declared.steps.PcpuFacts.{PcpuFacts}
 use Rattle.vms_pcpu_core.specs.declared.steps.PcpuStep.{PcpuStep}
-use Rattle.vms_pcpu_core.specs.declared.steps.PcpuStep.TheVariants.{AddL, LoadL, LoadC, Won, Missed, TakeL, AddC, Unlock, Split, Join}
+use Rattle.vms_pcpu_core.specs.declared.steps.PcpuStep.TheVariants.{AddL, LoadL, LoadC, Won, Missed}
+use Rattle.vms_pcpu_core.specs.declared.steps.PcpuStep.TheVariants.{TakeL, AddC, Unlock, Split, Join}
 use Rattle.vms_pcpu_core.specs.States.{LockedState, batch_at, count_at, local_at, held_at, cpu_at, IsPcpu}
-use Rattle.vms_pcpu_core.specs.Own.{holds, carried}
-use Rattle.vms_pcpu_core.specs.Steps.{turn}
+use Rattle.vms_pcpu_core.specs.Own.{holds_lock, carried}
+use Rattle.vms_pcpu_core.specs.Steps.{role}
 use Rattle.vms_pcpu_core.specs.Totals.{spent}
 
 -- an addition to the own local part, which stays within the batch
@@ -21,7 +22,7 @@ pub record AddsToLocal (facts : PcpuFacts) (h : List (Event PcpuStep)) (s : Lock
     (j : PcpuId) (amount : ℤ) : Type 0 where
   pub counter : IsPcpu facts j.number
   pub cpu : CpuId
-  pub owner : owner_in turn h p ≡ Some cpu
+  pub owner : owner_in role h p ≡ Some cpu
   pub within : unsigned_abs (local_at s.numbers cpu.number j.number +ℤ amount) ≤ batch_at s.numbers j.number
   pub affordable : spent h cpu.number j.number + unsigned_abs amount ≤ most_volume
 
@@ -41,7 +42,7 @@ pub record WinsLock (facts : PcpuFacts) (s : LockedState) (j : PcpuId) : Type 0 
   pub counter : IsPcpu facts j.number
   pub free : held_at s j.number ≡ false
 
--- and missed where it is held
+-- a lock may be missed where it is held
 pub record MissesLock (facts : PcpuFacts) (s : LockedState) (j : PcpuId) : Type 0 where
   pub counter : IsPcpu facts j.number
   pub taken : held_at s j.number ≡ true
@@ -56,8 +57,8 @@ pub record TakesLocal (facts : PcpuFacts) (h : List (Event PcpuStep)) (s : Locke
     (j : PcpuId) (c : CpuId) (v : ℤ) : Type 0 where
   pub counter : IsPcpu facts j.number
   pub cpu : IsCpu facts.layout c.number
-  pub holding : holds j.number (own h p) ≡ true
-  pub whose : MayTake facts (owner_in turn h p) c
+  pub holding : holds_lock j.number (own h p) ≡ true
+  pub whose : MayTake facts (owner_in role h p) c
   pub value : local_at s.numbers c.number j.number ≡ v
 
 -- which amount an addition to the shared part may have: what the volume of the own CPU allows, and none in the control
@@ -69,13 +70,13 @@ MayAdd h None j amount = amount ≡ pos 0
 -- an addition to the shared part, under the lock, of what is carried and an amount
 pub record AddsToCount (facts : PcpuFacts) (h : List (Event PcpuStep)) (p : ℕ) (j : PcpuId) (added : ℤ) : Type 0 where
   pub counter : IsPcpu facts j.number
-  pub holding : holds j.number (own h p) ≡ true
-  pub amount : MayAdd h (owner_in turn h p) j.number (added -ℤ carried j.number (own h p))
+  pub holding : holds_lock j.number (own h p) ≡ true
+  pub amount : MayAdd h (owner_in role h p) j.number (added -ℤ carried j.number (own h p))
 
 -- a lock is given back by its holder, who carries nothing
 pub record GivesBack (facts : PcpuFacts) (h : List (Event PcpuStep)) (p : ℕ) (j : PcpuId) : Type 0 where
   pub counter : IsPcpu facts j.number
-  pub holding : holds j.number (own h p) ≡ true
+  pub holding : holds_lock j.number (own h p) ≡ true
   pub nothing_carried : carried j.number (own h p) ≡ pos 0
 
 -- the condition of each kind of step; that of a Split and a Join is in the rules of the passes

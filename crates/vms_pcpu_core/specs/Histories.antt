@@ -11,7 +11,7 @@ use Rattle.vms_pcpu_core.specs.Bases.{IsBase}
 use Rattle.vms_pcpu_core.specs.Conditions.{Meets}
 use Rattle.vms_pcpu_core.specs.Own.{HoldsNoLock}
 use Rattle.vms_pcpu_core.specs.States.{LockedState, unlocked}
-use Rattle.vms_pcpu_core.specs.Steps.{turn, effect}
+use Rattle.vms_pcpu_core.specs.Steps.{role, effect}
 
 -- a pass may own a CPU that is online, and a control pass may always begin
 abbrev pub MayOwn : PcpuFacts → Option CpuId → Type 0
@@ -20,7 +20,7 @@ MayOwn facts who = MayOwnCpu facts.layout facts.cpus who
 -- the percpu counters' table
 abbrev pub percpu : Machine PcpuFacts PcpuStep LockedState
 percpu = record {
-  turn = turn;
+  role = role;
   base = unlocked;
   effect = effect;
   CanBegin = IsBase;

@@ -1,5 +1,6 @@
 -- What holds of every legal history of percpu counters.
-use Rattle.std.specs.Prelude.{◌≡◌, ℕ, suc, ◌+◌, ◌*◌, ◌^◌, ◌<◌, ◌≤◌, nat_eq, ◌&&◌, true, false, ℤ, pos, ◌+ℤ◌, ◌-ℤ◌, ◌≤ℤ◌, [], ◌∷◌, ◌↔◌, if◌then◌else◌, Some, is_some, unsigned_abs}
+use Rattle.std.specs.Prelude.{◌≡◌, ℕ, suc, ◌+◌, ◌*◌, ◌^◌, ◌<◌, ◌≤◌, nat_eq, ◌&&◌, true, false}
+use Rattle.std.specs.Prelude.{ℤ, pos, ◌+ℤ◌, ◌-ℤ◌, ◌≤ℤ◌, [], ◌∷◌, ◌↔◌, if◌then◌else◌, Some, is_some, unsigned_abs}
 use Rattle.vms_base.specs.declared.kinds.CpuState.TheVariants.{Dead, Absent}
 use Rattle.vms_base.specs.Places.{IsCpu}
 use Rattle.vms_base.specs.Volumes.{most_volume}
@@ -11,9 +12,9 @@ use Rattle.vms_pcpu_core.specs.declared.steps.PcpuFacts.{PcpuFacts}
 use Rattle.vms_pcpu_core.specs.declared.steps.PcpuStep.{PcpuStep}
 use Rattle.vms_pcpu_core.specs.declared.steps.PcpuStep.TheVariants.{AddL, LoadL, LoadC, TakeL, AddC}
 use Rattle.vms_pcpu_core.specs.States.{HasShape, batch_at, count_at, local_at, held_at, cpu_at, IsPcpu}
-use Rattle.vms_pcpu_core.specs.Own.{holds, carried}
+use Rattle.vms_pcpu_core.specs.Own.{holds_lock, carried}
 use Rattle.vms_pcpu_core.specs.OwnSteps.{as_is, size_of, own_added}
-use Rattle.vms_pcpu_core.specs.Steps.{turn}
+use Rattle.vms_pcpu_core.specs.Steps.{role}
 use Rattle.vms_pcpu_core.specs.Totals.{locals, true_total, holder, present, amounts, spent, is_owned}
 use Rattle.vms_pcpu_core.specs.Histories.{History, state_after}
 
@@ -23,10 +24,10 @@ numbers_after facts h = (state_after facts h).numbers
 
 -- what all callers carry for counter j together, and the sizes of what each carries
 abbrev pub carried_by_all : History → ℕ → ℤ
-carried_by_all h j = sum_below (λ p. carried j (own h p)) (suc (begun_in turn h))
+carried_by_all h j = sum_below (λ p. carried j (own h p)) (suc (begun_in role h))
 
 abbrev pub carried_sizes : History → ℕ → ℤ
-carried_sizes h j = sum_below (λ p. pos (unsigned_abs (carried j (own h p)))) (suc (begun_in turn h))
+carried_sizes h j = sum_below (λ p. pos (unsigned_abs (carried j (own h p)))) (suc (begun_in role h))
 
 -- nothing is lost and nothing is counted twice: the shared part of a counter, its local parts and what is carried for
 -- it add up to its true total
@@ -46,10 +47,10 @@ pub record BoundsLocals (facts : PcpuFacts) (h : History) : Type 0 where
 -- carry nothing
 pub record HasOneHolder (facts : PcpuFacts) (h : History) (j : ℕ) : Type 0 where
   pub held : held_at (state_after facts h) j ≡ is_some (holder j h)
-  pub own_events : (p : ℕ) → (holds j (own h p) ≡ true) ↔ (holder j h ≡ Some p)
-  pub one : (p q : ℕ) → holds j (own h p) ≡ true → holds j (own h q) ≡ true → p ≡ q
-  pub lives : (p : ℕ) → holds j (own h p) ≡ true → lives_in turn h p ≡ true
-  pub others : (p : ℕ) → holds j (own h p) ≡ false → carried j (own h p) ≡ pos 0
+  pub own_events : (p : ℕ) → (holds_lock j (own h p) ≡ true) ↔ (holder j h ≡ Some p)
+  pub one : (p q : ℕ) → holds_lock j (own h p) ≡ true → holds_lock j (own h q) ≡ true → p ≡ q
+  pub lives : (p : ℕ) → holds_lock j (own h p) ≡ true → lives_in role h p ≡ true
+  pub others : (p : ℕ) → holds_lock j (own h p) ≡ false → carried j (own h p) ≡ pos 0
   pub free : held_at (state_after facts h) j ≡ false → (p : ℕ) → carried j (own h p) ≡ pos 0
 
 -- the shared part alone is off from the true total by at most a batch for each CPU that is online or dead, and by what
@@ -100,16 +101,16 @@ pub record MovesOnce (facts : PcpuFacts) (h : History) (c j : ℕ) : Type 0 wher
 
 -- what a history adds to a counter is the sum over its callers of what their own events add
 abbrev pub AddsByCaller : History → Type 0
-AddsByCaller h = (j : ℕ) → amounts j h ≡ sum_below (λ p. own_added as_is j (own h p)) (suc (begun_in turn h))
+AddsByCaller h = (j : ℕ) → amounts j h ≡ sum_below (λ p. own_added as_is j (own h p)) (suc (begun_in role h))
 
 -- what pass p spent of the volume of CPU c on counter j: all that it added where it owns that CPU
 abbrev pub spent_by_pass : History → ℕ → ℕ → ℕ → ℤ
-spent_by_pass h c j p = if is_owned (owner_in turn h p) c then own_added size_of j (own h p) else pos 0
+spent_by_pass h c j p = if is_owned (owner_in role h p) c then own_added size_of j (own h p) else pos 0
 
 -- no CPU spends more than its volume, and it spends what the passes that own it add
 pub record KeepsVolumes (h : History) : Type 0 where
   pub most : (c j : ℕ) → spent h c j ≤ most_volume
-  pub by_pass : (c j : ℕ) → pos (spent h c j) ≡ sum_below (spent_by_pass h c j) (suc (begun_in turn h))
+  pub by_pass : (c j : ℕ) → pos (spent h c j) ≡ sum_below (spent_by_pass h c j) (suc (begun_in role h))
 
 -- what holds after every legal history, and so after each beginning of one
 pub record KeepsLaws (facts : PcpuFacts) (h : History) : Type 0 where

@@ -12,8 +12,8 @@ pub mod Laws
 pub mod Endings
 pub mod Calls
 pub mod Readings
-pub mod Watching
-pub mod Making
+pub mod Knowledge
+pub mod MadeBetween
 pub mod Summing
 pub mod Limits
-pub mod MakingCalls
+pub mod MayCall

@@ -1,5 +1,6 @@
 -- What a limited addition promises while others act.
-use Rattle.std.specs.Prelude.{◌≡◌, ◌≢◌, ℕ, suc, nat_eq, Bool, true, ℤ, pos, negsuc, ◌+ℤ◌, ◌-ℤ◌, ◌≤ℤ◌, ◌<ℤ◌, [], ◌∷◌, ◌↔◌, if◌then◌else◌}
+use Rattle.std.specs.Prelude.{◌≡◌, ◌≢◌, ℕ, suc, nat_eq, Bool, true, ℤ, pos}
+use Rattle.std.specs.Prelude.{negsuc, ◌+ℤ◌, ◌-ℤ◌, ◌≤ℤ◌, ◌<ℤ◌, [], ◌∷◌, ◌↔◌, if◌then◌else◌}
 use Rattle.vms_base.specs.declared.ids.PcpuId.{PcpuId}
 use Rattle.vms_history.specs.declared.events.Event.{Event}
 use Rattle.vms_history.specs.Events.{Extends, own}
@@ -9,11 +10,11 @@ use Rattle.vms_pcpu_core.specs.declared.steps.PcpuFacts.{PcpuFacts}
 use Rattle.vms_pcpu_core.specs.declared.steps.PcpuStep.{PcpuStep}
 use Rattle.vms_pcpu_core.specs.declared.steps.PcpuStep.TheVariants.{LoadC, Won, Unlock}
 use Rattle.vms_pcpu_core.specs.Histories.{History}
-use Rattle.vms_pcpu_core.specs.Making.{event, MadeBetween}
-use Rattle.vms_pcpu_core.specs.Own.{holds, carried}
-use Rattle.vms_pcpu_core.specs.Steps.{turn}
+use Rattle.vms_pcpu_core.specs.MadeBetween.{event, MadeBetween}
+use Rattle.vms_pcpu_core.specs.Own.{holds_lock, carried}
+use Rattle.vms_pcpu_core.specs.Steps.{role}
 use Rattle.vms_pcpu_core.specs.Totals.{amount_of, true_total}
-use Rattle.vms_pcpu_core.specs.Watching.{IsLoad}
+use Rattle.vms_pcpu_core.specs.Knowledge.{IsLoad}
 
 -- a number where it is positive, and else 0
 abbrev pub rise : ℤ → ℤ
@@ -39,7 +40,7 @@ by_others_between part p j earlier later = by_others part p j later -ℤ by_othe
 -- the same part of what each caller other than p carries for counter j
 abbrev pub carried_by_others : (ℤ → ℤ) → ℕ → ℕ → History → ℤ
 carried_by_others part p j h =
-    sum_below (λ q. if nat_eq q p then pos 0 else part (carried j (own h q))) (suc (begun_in turn h))
+    sum_below (λ q. if nat_eq q p then pos 0 else part (carried j (own h q))) (suc (begun_in role h))
 
 -- what a yes leaves: the true total after the call's own change is past the limit at most by the changes of others that
 -- went the same way since the call's first step, and by the amounts that others carried at its load of the count
@@ -62,8 +63,8 @@ pub record KeepsLimit (facts : PcpuFacts) (earlier later : History) (p : ℕ) (j
   pub changed : History
   pub after_change : changed ≡ event p change ∷ unchanged
   -- under the lock others carry nothing
-  pub rises_locked : holds j.number (own unchanged p) ≡ true → carried_by_others rise p j.number loaded ≡ pos 0
-  pub falls_locked : holds j.number (own unchanged p) ≡ true → carried_by_others fall p j.number loaded ≡ pos 0
+  pub rises_locked : holds_lock j.number (own unchanged p) ≡ true → carried_by_others rise p j.number loaded ≡ pos 0
+  pub falls_locked : holds_lock j.number (own unchanged p) ≡ true → carried_by_others fall p j.number loaded ≡ pos 0
   pub most : pos 0 <ℤ amount → true_total facts changed j.number ≤ℤ
       (limit +ℤ (by_others_between rise p j.number begun changed +ℤ carried_by_others rise p j.number loaded))
   pub least : amount <ℤ pos 0 →

@@ -6,15 +6,15 @@ use Rattle.vms_pcpu_core.specs.declared.steps.PcpuStep.{PcpuStep}
 use Rattle.vms_pcpu_core.specs.declared.steps.PcpuStep.TheVariants.{Won, TakeL, AddC, Unlock}
 use Rattle.vms_pcpu_core.specs.States.{IsPcpu}
 
--- whether a caller holds the lock of counter j: it won it, and gave it back since not
-abbrev pub holds_after : ℕ → PcpuStep → Bool → Bool
-holds_after j (Won i) before = if nat_eq i.number j then true else before
-holds_after j (Unlock i) before = if nat_eq i.number j then false else before
-holds_after j _ before = before
+-- whether a caller holds the lock of counter j: it won the lock, and hasn't given it back since
+abbrev pub holds_lock_after : ℕ → PcpuStep → Bool → Bool
+holds_lock_after j (Won i) before = if nat_eq i.number j then true else before
+holds_lock_after j (Unlock i) before = if nat_eq i.number j then false else before
+holds_lock_after j _ before = before
 
-abbrev pub holds : ℕ → List (Event PcpuStep) → Bool
-holds j [] = false
-holds j (e ∷ h) = holds_after j e.step (holds j h)
+abbrev pub holds_lock : ℕ → List (Event PcpuStep) → Bool
+holds_lock j [] = false
+holds_lock j (e ∷ h) = holds_lock_after j e.step (holds_lock j h)
 
 -- what a caller carries for counter j: the local parts that it took, all of which an addition to the shared part puts
 -- back
@@ -29,4 +29,4 @@ carried j (e ∷ h) = carried_after j e.step (carried j h)
 
 -- a caller holds the lock of no counter
 abbrev pub HoldsNoLock : PcpuFacts → List (Event PcpuStep) → Type 0
-HoldsNoLock facts h = (j : ℕ) → IsPcpu facts j → holds j h ≡ false
+HoldsNoLock facts h = (j : ℕ) → IsPcpu facts j → holds_lock j h ≡ false

@@ -4,13 +4,13 @@ use Rattle.vms_base.specs.declared.ids.PcpuId.{PcpuId}
 use Rattle.vms_history.specs.declared.events.Event.{Event}
 use Rattle.vms_history.specs.Events.{own, after}
 use Rattle.vms_pcpu_core.specs.declared.steps.PcpuStep.{PcpuStep}
-use Rattle.vms_pcpu_core.specs.Own.{holds, holds_after, carried, carried_after}
+use Rattle.vms_pcpu_core.specs.Own.{holds_lock, holds_lock_after, carried, carried_after}
 use Rattle.vms_pcpu_core.specs.Totals.{amount_of}
 
 -- whether the lock of counter j is held after steps in a row, given whether it was held before
 abbrev pub holds_through : ℕ → List PcpuStep → Bool → Bool
 holds_through j [] before = before
-holds_through j (step ∷ steps) before = holds_through j steps (holds_after j step before)
+holds_through j (step ∷ steps) before = holds_through j steps (holds_lock_after j step before)
 
 -- what is carried for counter j after them, given what was carried before
 abbrev pub carried_through : ℕ → List PcpuStep → ℤ → ℤ
@@ -37,12 +37,12 @@ own_added part j (e ∷ h) = part (amount_of j (carried j h) e.step) +ℤ own_ad
 
 -- a caller with these own events holds no lock and carries nothing
 pub record IsIdle (h : List (Event PcpuStep)) : Type 0 where
-  pub no_lock : (j : ℕ) → holds j h ≡ false
+  pub no_lock : (j : ℕ) → holds_lock j h ≡ false
   pub nothing_carried : (j : ℕ) → carried j h ≡ pos 0
 
 -- what a caller holds, carries and has added after steps in a row, by what it was before them
 pub record GoesByOwnSteps (p : ℕ) (steps : List PcpuStep) (h : List (Event PcpuStep)) : Type 0 where
-  pub held : (j : ℕ) → holds j (after p steps h) ≡ holds_through j steps (holds j h)
+  pub held : (j : ℕ) → holds_lock j (after p steps h) ≡ holds_through j steps (holds_lock j h)
   pub carrying : (j : ℕ) → carried j (after p steps h) ≡ carried_through j steps (carried j h)
   pub added : (part : ℤ → ℤ) (j : ℕ) →
       own_added part j (after p steps h) ≡ own_added part j h +ℤ added_through part j steps (carried j h)

@@ -2,22 +2,22 @@
 use Rattle.std.specs.Prelude.{◌≡◌, ◌≢◌, Option, refl, ℕ}
 use Rattle.vms_base.specs.declared.ids.CpuId.{CpuId}
 use Rattle.vms_history.specs.Legal.{IsQuiet}
-use Rattle.vms_history.specs.Passes.Turn.{Works}
+use Rattle.vms_history.specs.Passes.Role.{Works}
 use Rattle.vms_pcpu_core.specs.States.{LockedState}
 use Rattle.vms_pcpu_core.specs.declared.steps.PcpuFacts.{PcpuFacts}
 use Rattle.vms_pcpu_core.specs.declared.steps.PcpuStep.{PcpuStep}
 use Rattle.vms_pcpu_core.specs.declared.steps.PcpuStep.TheVariants.{Split, Join}
 use Rattle.vms_pcpu_core.specs.Conditions.{Meets}
 use Rattle.vms_pcpu_core.specs.Histories.{percpu, History}
-use Rattle.vms_pcpu_core.specs.Steps.{turn, effect}
+use Rattle.vms_pcpu_core.specs.Steps.{role, effect}
 
-quiet-leaves : (facts : PcpuFacts) (who : Option CpuId) (step : PcpuStep) (s : LockedState) → turn step ≢ Works
+quiet-leaves : (facts : PcpuFacts) (who : Option CpuId) (step : PcpuStep) (s : LockedState) → role step ≢ Works
     → effect facts who step s ≡ s
 quiet-leaves facts who (Split q c) s differs = refl
 quiet-leaves facts who (Join q) s differs = refl
 quiet-leaves facts who _ s differs = absurd (differs refl)
 
-quiet-asks_nothing : (facts : PcpuFacts) (h : History) (s : LockedState) (p : ℕ) (step : PcpuStep) → turn step ≢ Works
+quiet-asks_nothing : (facts : PcpuFacts) (h : History) (s : LockedState) (p : ℕ) (step : PcpuStep) → role step ≢ Works
     → Meets facts h s p step
 quiet-asks_nothing facts h s p (Split q c) differs = tt
 quiet-asks_nothing facts h s p (Join q) differs = tt

@@ -2,18 +2,18 @@
 use Rattle.std.specs.Prelude.{true, false, ℤ, pos, ◌+ℤ◌, Option, Some, None}
 use Rattle.vms_base.specs.declared.ids.CpuId.{CpuId}
 use Rattle.vms_base.specs.declared.ids.PcpuId.{PcpuId}
-use Rattle.vms_history.specs.Passes.{Turn}
-use Rattle.vms_history.specs.Passes.Turn.{Works, Begins, Ends}
+use Rattle.vms_history.specs.Passes.{Role}
+use Rattle.vms_history.specs.Passes.Role.{Works, Begins, Ends}
 use Rattle.vms_pcpu_core.specs.declared.steps.PcpuFacts.{PcpuFacts}
 use Rattle.vms_pcpu_core.specs.declared.steps.PcpuStep.{PcpuStep}
 use Rattle.vms_pcpu_core.specs.declared.steps.PcpuStep.TheVariants.{AddL, Won, TakeL, AddC, Unlock, Split, Join}
 use Rattle.vms_pcpu_core.specs.States.{LockedState, count_at, local_at, with_count, with_local, with_held}
 
 -- a Split begins a pass and a Join ends one
-abbrev pub turn : PcpuStep → Turn
-turn (Split q who) = Begins q who
-turn (Join q) = Ends q
-turn _ = Works
+abbrev pub role : PcpuStep → Role
+role (Split q who) = Begins q who
+role (Join q) = Ends q
+role _ = Works
 
 -- an amount is added to the local part of the CPU that the pass owns
 abbrev pub with_own_added : Option CpuId → PcpuId → ℤ → LockedState → LockedState

@@ -10,11 +10,11 @@ use Rattle.vms_pcpu_core.specs.Bases.{most_batch}
 use Rattle.vms_pcpu_core.specs.Calls.{sign_of, unknown}
 use Rattle.vms_pcpu_core.specs.Histories.{History}
 use Rattle.vms_pcpu_core.specs.Laws.{carried_by_all, most_number}
-use Rattle.vms_pcpu_core.specs.Making.{event, MadeBetween}
+use Rattle.vms_pcpu_core.specs.MadeBetween.{event, MadeBetween}
 use Rattle.vms_pcpu_core.specs.States.{cpu_at}
 use Rattle.vms_pcpu_core.specs.Totals.{true_total}
 use Rattle.vms_base.specs.Cpus.{is_present}
-use Rattle.vms_pcpu_core.specs.Watching.{added_since}
+use Rattle.vms_pcpu_core.specs.Knowledge.{added_since}
 
 -- a sum is the true total when the lock was won, and what each CPU added to its local part from there to the load of
 -- that part

@@ -1,5 +1,6 @@
 -- What a whole history changed, and who holds the locks.
-use Rattle.std.specs.Prelude.{ℕ, ◌+◌, nat_eq, Bool, false, ℤ, pos, ◌+ℤ◌, ◌-ℤ◌, List, [], ◌∷◌, if◌then◌else◌, Option, Some, None, unsigned_abs, count_by}
+use Rattle.std.specs.Prelude.{ℕ, ◌+◌, nat_eq, Bool, false, ℤ, pos, ◌+ℤ◌, ◌-ℤ◌}
+use Rattle.std.specs.Prelude.{List, [], ◌∷◌, if◌then◌else◌, Option, Some, None, unsigned_abs, count_by}
 use Rattle.vms_base.specs.declared.ids.CpuId.{CpuId}
 use Rattle.vms_base.specs.Cpus.{is_present}
 use Rattle.vms_base.specs.Places.{Shape}
@@ -13,7 +14,7 @@ use Rattle.vms_pcpu_core.specs.declared.steps.PcpuStep.{PcpuStep}
 use Rattle.vms_pcpu_core.specs.declared.steps.PcpuStep.TheVariants.{AddL, Won, AddC, Unlock}
 use Rattle.vms_pcpu_core.specs.States.{count_at, local_at}
 use Rattle.vms_pcpu_core.specs.Own.{carried}
-use Rattle.vms_pcpu_core.specs.Steps.{turn}
+use Rattle.vms_pcpu_core.specs.Steps.{role}
 
 -- the amount that a step adds to counter j: all of an addition to the local part, and of one to the shared part what it
 -- adds beyond what its caller carried
@@ -48,7 +49,7 @@ spent_by who c j carrying step = if is_owned who c then unsigned_abs (amount_of 
 abbrev pub spent : List (Event PcpuStep) → ℕ → ℕ → ℕ
 spent [] c j = 0
 spent (e ∷ h) c j =
-    spent_by (owner_in turn h e.caller) c j (carried j (own h e.caller)) e.step + spent h c j
+    spent_by (owner_in role h e.caller) c j (carried j (own h e.caller)) e.step + spent h c j
 
 -- the caller that holds the lock of counter j: the last that won it, if it hasn't given it back
 abbrev pub holder_after : ℕ → ℕ → PcpuStep → Option ℕ → Option ℕ

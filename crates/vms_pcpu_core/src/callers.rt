@@ -2,17 +2,17 @@ ghost use Rattle.std.specs.Prelude.{◌≡◌, ℕ, nat_eq, ◌+◌, ℤ, pos, �
 ghost use Rattle.vms_base.specs.declared.ids.CpuId.{CpuId};
 ghost use Rattle.vms_base.specs.declared.ids.PcpuId.{PcpuId};
 ghost use Rattle.vms_history.specs.Events.{own};
-ghost use Rattle.vms_history.specs.Making.{HasMade};
+ghost use Rattle.vms_history.specs.PassSteps.{HasMade};
 ghost use Rattle.vms_history.specs.Passes.{owner_in};
 ghost use Rattle.vms_pcpu_core.specs.declared.answers.Compare.{Compare};
 ghost use Rattle.vms_pcpu_core.specs.declared.steps.PcpuFacts.{PcpuFacts};
 ghost use Rattle.vms_pcpu_core.specs.declared.steps.PcpuStep.{PcpuStep};
 ghost use Rattle.vms_pcpu_core.specs.Calls.{IsRead, IsAdd, IsSync, IsFoldDead, IsSum, IsCompare, IsLimitedAdd};
 ghost use Rattle.vms_pcpu_core.specs.Histories.{percpu, History};
-ghost use Rattle.vms_pcpu_core.specs.Making.{MadeSteps};
+ghost use Rattle.vms_pcpu_core.specs.MadeBetween.{MadeSteps};
 ghost use Rattle.vms_pcpu_core.specs.Own.{carried};
 ghost use Rattle.vms_pcpu_core.specs.OwnSteps.{IsIdle, GoesByOwnSteps, AddsAmount, LeavesIdle, added_through, size_of};
-ghost use Rattle.vms_pcpu_core.specs.Steps.{turn};
+ghost use Rattle.vms_pcpu_core.specs.Steps.{role};
 ghost use Rattle.vms_pcpu_core.specs.Totals.{spent};
 
 /// What a caller holds and carries after steps in a row, and what it has added, goes by these steps and by what it held
@@ -43,7 +43,8 @@ pub fn calls_add_their_amounts()
         AddsAmount j (if answer then amount else pos 0) steps }
 {}
 
-/// A caller that held no lock and carried nothing before such a call is so after it, and has added the amount.
+/// A caller that held no lock and carried nothing before such a call holds and carries nothing after it, and has added
+/// the amount.
 pub fn calls_leave_callers_idle()
     ensures { (facts : PcpuFacts) (earlier later : History) (p : ℕ) (j : PcpuId) (amount : ℤ)
         (steps : List PcpuStep) → MadeSteps facts earlier later p steps → AddsAmount j amount steps →
@@ -54,7 +55,7 @@ pub fn calls_leave_callers_idle()
 /// meanwhile.
 pub fn owners_spend_by_own_steps()
     ensures { (facts : PcpuFacts) (earlier later : History) (p : ℕ) (cpu : CpuId) (steps : List PcpuStep) →
-        HasMade percpu facts later earlier p steps → owner_in turn earlier p ≡ Some cpu → (j : ℕ) →
+        HasMade percpu facts later earlier p steps → owner_in role earlier p ≡ Some cpu → (j : ℕ) →
         pos (spent later cpu.number j) ≡
         pos (spent earlier cpu.number j) +ℤ added_through size_of j steps (carried j (own earlier p)) }
 {}
@@ -64,7 +65,7 @@ pub fn owners_spend_by_own_steps()
 pub fn calls_spend_their_amounts()
     ensures { (facts : PcpuFacts) (earlier later : History) (p : ℕ) (cpu : CpuId) (j : PcpuId) (amount : ℤ)
         (steps : List PcpuStep) → HasMade percpu facts later earlier p steps → AddsAmount j amount steps →
-        IsIdle (own earlier p) → owner_in turn earlier p ≡ Some cpu → (i : ℕ) →
+        IsIdle (own earlier p) → owner_in role earlier p ≡ Some cpu → (i : ℕ) →
         spent later cpu.number i ≡
         spent earlier cpu.number i + (if nat_eq j.number i then unsigned_abs amount else 0) }
 {}

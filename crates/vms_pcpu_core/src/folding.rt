@@ -6,7 +6,7 @@ ghost use Rattle.vms_pcpu_core.specs.declared.steps.PcpuStep.{PcpuStep};
 ghost use Rattle.vms_pcpu_core.specs.Calls.{IsFoldDead};
 ghost use Rattle.vms_pcpu_core.specs.Histories.{History, IsLegal};
 ghost use Rattle.vms_pcpu_core.specs.Laws.{numbers_after};
-ghost use Rattle.vms_pcpu_core.specs.Making.{MadeSteps};
+ghost use Rattle.vms_pcpu_core.specs.MadeBetween.{MadeSteps};
 ghost use Rattle.vms_pcpu_core.specs.States.{IsPcpu, cpu_at, local_at};
 
 /// Once a dead CPU was folded, its local parts are 0 and stay so, whatever others do.

@@ -1,22 +1,21 @@
 //! The percpu counters as a model: states, the ten kinds of atomic step, legal histories, and what holds of each.
 #![tactic(auto)]
 
+mod allowed_steps;
 mod answers;
 mod callers;
 mod calls;
 mod endings;
 mod folding;
+mod knowledge;
 mod laws;
 mod limits;
-mod making;
 mod states;
 mod steps;
 mod summing;
 mod tables;
-#[cfg(test)]
-mod tests;
-mod watching;
 
+pub use allowed_steps::{calls_may_be_made, calls_stand_in_histories};
 pub use answers::Compare;
 pub use callers::{
     callers_go_by_own_steps, calls_add_their_amounts, calls_leave_callers_idle,
@@ -28,11 +27,10 @@ pub use calls::{
 };
 pub use endings::{complete_histories_hold_totals, complete_histories_leave_bases};
 pub use folding::fold_dead_empties_local_parts;
+pub use knowledge::{holder_acts_alone, own_part_stays, rough_sign_is_true, sum_is_true_total};
 pub use laws::{laws_are_kept, steps_name_small_numbers};
 pub use limits::{limited_add_alone_is_exact, limited_add_keeps_limit};
-pub use making::{calls_may_be_made, calls_stand_in_histories};
 pub use states::PcpuState;
 pub use steps::{Event, PcpuFacts, PcpuStep};
 pub use summing::{compare_tells_sign, sum_reads_true_total, sums_are_small};
 pub use tables::Percpu;
-pub use watching::{holder_acts_alone, own_part_stays, rough_sign_is_true, sum_is_true_total};

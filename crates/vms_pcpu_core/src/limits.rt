@@ -8,10 +8,10 @@ ghost use Rattle.vms_pcpu_core.specs.declared.steps.PcpuStep.{PcpuStep};
 ghost use Rattle.vms_pcpu_core.specs.Calls.{IsLimitedAdd, present_cpus, unknown};
 ghost use Rattle.vms_pcpu_core.specs.Histories.{History};
 ghost use Rattle.vms_pcpu_core.specs.Limits.{IsAlone, IsExact, KeepsLimit, PassesLimit};
-ghost use Rattle.vms_pcpu_core.specs.Making.{MadeSteps};
+ghost use Rattle.vms_pcpu_core.specs.MadeBetween.{MadeSteps};
 ghost use Rattle.vms_pcpu_core.specs.Own.{carried};
 ghost use Rattle.vms_pcpu_core.specs.States.{batch_at};
-ghost use Rattle.vms_pcpu_core.specs.Steps.{turn};
+ghost use Rattle.vms_pcpu_core.specs.Steps.{role};
 
 /// What the answer of a limited addition means, for a pass that owns a CPU and carried nothing before. A `yes` keeps
 /// the limit if nobody else adds during the call. Others can push the total past the limit by no more than what they
@@ -20,13 +20,13 @@ ghost use Rattle.vms_pcpu_core.specs.Steps.{turn};
 pub fn limited_add_keeps_limit()
     ensures yes_keeps { (facts : PcpuFacts) (earlier later : History) (p : ℕ) (cpu : CpuId) (j : PcpuId)
         (limit amount : ℤ) (steps : List PcpuStep) → MadeSteps facts earlier later p steps →
-        owner_in turn later p ≡ Some cpu → carried j.number (own earlier p) ≡ pos 0 → amount ≢ pos 0 →
+        owner_in role later p ≡ Some cpu → carried j.number (own earlier p) ≡ pos 0 → amount ≢ pos 0 →
         IsLimitedAdd (batch_at facts.base j.number) (unknown facts j.number) (present_cpus facts)
         cpu j limit amount steps true →
         KeepsLimit facts earlier later p j limit amount }
     ensures no_passes { (facts : PcpuFacts) (earlier later : History) (p : ℕ) (cpu : CpuId) (j : PcpuId)
         (limit amount : ℤ) (steps : List PcpuStep) → MadeSteps facts earlier later p steps →
-        owner_in turn later p ≡ Some cpu → carried j.number (own earlier p) ≡ pos 0 →
+        owner_in role later p ≡ Some cpu → carried j.number (own earlier p) ≡ pos 0 →
         IsLimitedAdd (batch_at facts.base j.number) (unknown facts j.number) (present_cpus facts)
         cpu j limit amount steps false →
         PassesLimit facts earlier later p j limit amount }
@@ -37,7 +37,7 @@ pub fn limited_add_keeps_limit()
 pub fn limited_add_alone_is_exact()
     ensures exact { (facts : PcpuFacts) (earlier later : History) (p : ℕ) (cpu : CpuId) (j : PcpuId)
         (limit amount : ℤ) (steps : List PcpuStep) (answer : Bool) → MadeSteps facts earlier later p steps →
-        owner_in turn later p ≡ Some cpu → carried j.number (own earlier p) ≡ pos 0 →
+        owner_in role later p ≡ Some cpu → carried j.number (own earlier p) ≡ pos 0 →
         IsAlone earlier later p j.number → amount ≢ pos 0 →
         IsLimitedAdd (batch_at facts.base j.number) (unknown facts j.number) (present_cpus facts)
         cpu j limit amount steps answer →

@@ -1,7 +1,7 @@
 use crate::PcpuState;
 use vms_base::{CpuId, CpuState, Layout, PcpuId, Row};
 
-/// What the table of percpu counters is told once.
+/// What is known of the percpu counters from the start.
 #[derive(Debug, Drop)]
 pub struct PcpuFacts {
     pub layout: Layout,

@@ -5,7 +5,7 @@ ghost use Rattle.vms_pcpu_core.specs.declared.steps.PcpuFacts.{PcpuFacts};
 ghost use Rattle.vms_pcpu_core.specs.declared.steps.PcpuStep.{PcpuStep};
 ghost use Rattle.vms_pcpu_core.specs.Calls.{IsCompare, IsSum, present_cpus, unknown};
 ghost use Rattle.vms_pcpu_core.specs.Histories.{History};
-ghost use Rattle.vms_pcpu_core.specs.Making.{MadeSteps};
+ghost use Rattle.vms_pcpu_core.specs.MadeBetween.{MadeSteps};
 ghost use Rattle.vms_pcpu_core.specs.Summing.{SumsUp, TellsRoughly, TellsBySum, most_sum};
 
 /// A sum answers the true total of the moment when it won the lock, plus what each CPU added to its local part from

@@ -10,7 +10,7 @@ use Rattle.vms_pcpu_core.specs.Effects.{count_after, held_after, local_after}
 use Rattle.vms_pcpu_core.specs.Histories.{percpu, IsLegal, state_after}
 use Rattle.vms_pcpu_core.specs.Laws.{numbers_after}
 use Rattle.vms_pcpu_core.specs.States.{IsPcpu, count_at, held_at, local_at}
-use Rattle.vms_pcpu_core.specs.Steps.{turn}
+use Rattle.vms_pcpu_core.specs.Steps.{role}
 use Rattle.vms_pcpu_core.proofs.Effects.{count_at-effect, held_at-effect, local_at-effect}
 use Rattle.vms_pcpu_core.proofs.Shapes.{HasShape-state_after}
 use Rattle.vms_pcpu_core.proofs.Totals.{owned}
@@ -35,7 +35,7 @@ module _ (facts : PcpuFacts) (xs : List (Event PcpuStep)) (legal : IsLegal facts
   count_at-more j amount adds =
       ap (λ h. count_at (numbers_after facts h) j) next
       ∙ count_at-effect facts h (state_after facts h) e.caller (HasShape-state_after facts h legal_here.0)
-      (owner_in turn h e.caller) e.step j legal_here.2
+      (owner_in role h e.caller) e.step j legal_here.2
       ∙ adds (count_at (numbers_after facts h) j)
 
   pub held_at-more : (j : ℕ) (before after : Bool) → before ≡ held_at (state_after facts h) j
@@ -43,14 +43,14 @@ module _ (facts : PcpuFacts) (xs : List (Event PcpuStep)) (legal : IsLegal facts
   held_at-more j before after is was =
       was ∙ ap (held_after j e.step) is
       ∙ sym (held_at-effect facts h (state_after facts h) e.caller (HasShape-state_after facts h legal_here.0)
-      (owner_in turn h e.caller) e.step j legal_here.2)
+      (owner_in role h e.caller) e.step j legal_here.2)
       ∙ ap (λ h. held_at (state_after facts h) j) (sym next)
 
   pub local_at-more : (c j : ℕ) (before after : ℤ) → IsPcpu facts j → before ≡ local_at (numbers_after facts h) c j
-      → after ≡ local_after (owner_in turn h e.caller) c j e.step before
+      → after ≡ local_after (owner_in role h e.caller) c j e.step before
       → after ≡ local_at (numbers_after facts (reverse (take (i + 1) xs))) c j
   local_at-more c j before after j_in is was =
-      was ∙ ap (local_after (owner_in turn h e.caller) c j e.step) is
+      was ∙ ap (local_after (owner_in role h e.caller) c j e.step) is
       ∙ sym (local_at-effect facts h (state_after facts h) e.caller (HasShape-state_after facts h legal_here.0)
-      (owner_in turn h e.caller) e.step c j (λ o is. owned facts h e.caller o legal_here.0 is) legal_here.2 j_in)
+      (owner_in role h e.caller) e.step c j (λ o is. owned facts h e.caller o legal_here.0 is) legal_here.2 j_in)
       ∙ ap (λ h. local_at (numbers_after facts h) c j) (sym next)

@@ -5,7 +5,7 @@ ghost use Rattle.vms_pcpu_core.specs.Bases.{IsBase, HasLengths, IsCounterBase, I
 ghost use Rattle.vms_pcpu_core.specs.States.{IsPcpu, counters_of};
 
 use crate::facts::state_of;
-use crate::standing::base_local;
+use crate::states::base_local;
 use vms_base::{CpuId, CpuState};
 use vms_pcpu_core::PcpuFacts;
 
@@ -22,7 +22,7 @@ pub fn is_base(facts: &PcpuFacts) -> bool
     if !has_lengths(facts) {
         return false;
     }
-    if !some_online(facts) {
+    if !has_online(facts) {
         return false;
     }
     if !counters_fit(facts) {
@@ -46,7 +46,7 @@ fn has_lengths(facts: &PcpuFacts) -> bool
     facts.base.local.len() as u128 == u128::from(cpus) * counters as u128
 }
 
-fn some_online(facts: &PcpuFacts) -> bool
+fn has_online(facts: &PcpuFacts) -> bool
     ensures { IsTrue result ↔ HasOnline facts.now.layout facts.now.cpus }
 {
     for c in 0..facts.layout.cpus() {

@@ -19,7 +19,7 @@ pub fn has_cpu(facts: &PcpuFacts, cpu: CpuId) -> bool
     cpu.number < facts.layout.cpus()
 }
 
-/// Whether a CPU is online, dead or absent; past the list it is absent.
+/// Whether a CPU is online, dead or absent. One past the list is absent.
 pub fn state_of(facts: &PcpuFacts, cpu: CpuId) -> CpuState
     ensures { result ≡ cpu_at facts.now cpu.number }
 {

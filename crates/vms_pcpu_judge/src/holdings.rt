@@ -1,13 +1,13 @@
 ghost use Rattle.std.specs.Prelude.{◌≡◌, ◌≤◌, ◌+◌, ◌^◌, ◌↔◌, IsTrue, reverse, unsigned_abs};
 ghost use Rattle.vms_history.specs.Events.{own};
-ghost use Rattle.vms_pcpu_core.specs.Own.{HoldsNoLock, holds, holds_after, carried, carried_after};
+ghost use Rattle.vms_pcpu_core.specs.Own.{HoldsNoLock, holds_lock, holds_lock_after, carried, carried_after};
 
 use vms_base::PcpuId;
 use vms_pcpu_core::{Event, PcpuFacts, PcpuStep};
 
 /// Whether a caller holds the lock of a counter, by its own events.
 pub fn holding(past: &[Event], caller: u32, counter: usize) -> bool
-    ensures { result ≡ holds counter (own (reverse past.now) caller) }
+    ensures { result ≡ holds_lock counter (own (reverse past.now) caller) }
 {
     let mut held = false;
     for event in past {
@@ -19,7 +19,7 @@ pub fn holding(past: &[Event], caller: u32, counter: usize) -> bool
 }
 
 fn holding_after(step: PcpuStep, counter: usize, before: bool) -> bool
-    ensures { result ≡ holds_after counter step before }
+    ensures { result ≡ holds_lock_after counter step before }
 {
     match step {
         PcpuStep::Won(j) if j.number as usize == counter => true,

@@ -7,10 +7,8 @@ mod conditions;
 mod facts;
 mod holdings;
 mod owners;
-mod standing;
+mod states;
 mod tables;
-#[cfg(test)]
-mod tests;
 mod volumes;
 
 pub use tables::JudgedPercpu;

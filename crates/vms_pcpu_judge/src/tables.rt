@@ -8,7 +8,7 @@ use crate::holdings::holds_no_lock;
 use crate::owners::may_own;
 use vms_base::CpuId;
 use vms_history::Table;
-use vms_judge::{Judged, Turn, Turning};
+use vms_judge::{Judged, Role, RoleTable};
 use vms_pcpu_core::{Event, PcpuFacts, PcpuStep};
 
 /// The table of percpu counters, whose histories can be judged.
@@ -27,12 +27,12 @@ impl Table for JudgedPercpu {
     ghost quiet = { quiet_percpu };
 }
 
-impl Turning for JudgedPercpu {
-    fn turn(step: &PcpuStep) -> Turn {
+impl RoleTable for JudgedPercpu {
+    fn role(step: &PcpuStep) -> Role {
         match *step {
-            PcpuStep::Split(pass, who) => Turn::Begins(pass, who),
-            PcpuStep::Join(pass) => Turn::Ends(pass),
-            _ => Turn::Works,
+            PcpuStep::Split(pass, who) => Role::Begins(pass, who),
+            PcpuStep::Join(pass) => Role::Ends(pass),
+            _ => Role::Works,
         }
     }
 }

@@ -4,7 +4,7 @@ ghost use Rattle.vms_history.specs.Passes.{owner_in};
 ghost use Rattle.vms_base.specs.Volumes.{most_volume};
 ghost use Rattle.vms_pcpu_core.specs.Histories.{IsLegal};
 ghost use Rattle.vms_pcpu_core.specs.Own.{carried};
-ghost use Rattle.vms_pcpu_core.specs.Steps.{turn};
+ghost use Rattle.vms_pcpu_core.specs.Steps.{role};
 ghost use Rattle.vms_pcpu_core.specs.Totals.{amount_of, spent, spent_by};
 
 use crate::JudgedPercpu;
@@ -41,7 +41,7 @@ fn spending(facts: &PcpuFacts, past: &[Event], cpu: CpuId, counter: PcpuId) -> u
 }
 
 fn spent_at(past: &[Event], event: Event, cpu: CpuId, counter: PcpuId) -> u128
-    ensures value { result ≡ spent_by (owner_in turn (reverse past.now) event.caller) cpu.number counter.number
+    ensures value { result ≡ spent_by (owner_in role (reverse past.now) event.caller) cpu.number counter.number
         (carried counter.number (own (reverse past.now) event.caller)) event.step }
     ensures bound { result ≤ 2 ^ 127 }
 {

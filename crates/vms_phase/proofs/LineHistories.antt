@@ -22,9 +22,9 @@ use Rattle.vms_calls.specs.LoneChanges.{MayChange, FollowsAlone}
 use Rattle.vms_core.specs.Own.{CarriesNothing}
 use Rattle.vms_core.specs.ChangedStates.{with_change}
 use Rattle.vms_core.specs.Pages.{History, state_after}
-use Rattle.vms_core.specs.Steps.{turn}
+use Rattle.vms_core.specs.Steps.{role}
 use Rattle.vms_core.specs.Totals.{spent}
-use Rattle.vms_calls.proofs.LoneChanges.{goes_on_with_change}
+use Rattle.vms_calls.proofs.LoneChanges.{GoesOnWithChange-holds}
 use Rattle.vms_phase.specs.FileOrder.{Follow, Makes, is_among, opening_of, pass_of, splits_from}
 use Rattle.vms_phase.specs.FileOrder.Follow.{line}
 use Rattle.vms_phase.specs.OpenPhases.{MayOpen, MakesLines, IsOpen, IsDelta, Follows, act_of, change_item, volume}
@@ -42,7 +42,7 @@ use Rattle.vms_text.specs.declared.acts.Line.TheVariants.{Lane as LaneLine}
 pub Follows-change : (shape : Shape) (cpu : CpuId) (k : CounterId) (delta : ℤ) (how : Mode) (now next : State)
     → next ≡ with_change shape cpu.number k.number delta how now → Follows shape cpu k delta how now next
 Follows-change shape cpu k delta how now next is facts h p may layout_is state_is =
-    let goes = goes_on_with_change facts h p cpu k delta how may in
+    let goes = GoesOnWithChange-holds facts h p cpu k delta how may in
     let same : with_change facts.layout cpu.number k.number delta how (state_after facts h) ≡ next =
     ap (with_change facts.layout cpu.number k.number delta how) state_is
     ∙ ap (λ (s : Shape). with_change s cpu.number k.number delta how now) layout_is ∙ sym is in
@@ -113,15 +113,15 @@ module _ (facts : Facts) (lanes : List Lane) (items : List Item) (h : History) (
   MayChange-line cpu_known online known affordable = record {
     legal = makes.legal;
     other_than_main = p-other;
-    lives = ap (λ es. lives turn es p) makes.main
+    lives = ap (λ es. lives role es p) makes.main
         ∙ lives-lane 1 lanes [] p (pass_of-least lanes (Cpu cpu) among) (omega (
           arith,
           pass_of-most lanes
               (Cpu cpu) among,
         ));
-    owner = ap (λ es. owner turn es p) makes.main
+    owner = ap (λ es. owner role es p) makes.main
         ∙ (let at : 0 + p ≡ p = omega arith in
-        subst (λ (q : ℕ). owner turn (opening_of lanes) q ≡ Some cpu) at (owner-lane 0 lanes [] (Cpu cpu) among));
+        subst (λ (q : ℕ). owner role (opening_of lanes) q ≡ Some cpu) at (owner-lane 0 lanes [] (Cpu cpu) among));
     cpu_known = cpu_known;
     counter_known = known;
     online = ap (λ s. cpu_at s cpu.number) makes.state ∙ online;

@@ -16,8 +16,8 @@ pub fn complete_histories_carry_nothing()
         CarriesNothing facts.layout (own h p) }
 {}
 
-/// The state that a complete history leaves may open the next phase, once it is settled, and its totals are within the
-/// grown volumes, as those of its base are within the volumes.
+/// Once it is settled, the state that a complete history leaves may open the next phase. If the totals of the base are
+/// within the volumes, its totals are within the volumes after the history.
 pub fn settled_ends_may_begin()
     ensures base { (facts : Facts) (h : History) → IsComplete facts h → (volume : ℕ → ℕ → ℕ) →
         IsWithinVolumes facts.layout volume facts.base → AreVolumes facts.layout (grown volume h) →
@@ -30,8 +30,8 @@ pub fn settled_ends_may_begin()
         opening_peak facts.layout (settled (state_after facts h)) c g ≤ peak facts c g h }
 {}
 
-/// By how much the system-wide value of an item is above the sum of the global values of its counters, every complete
-/// history keeps.
+/// A complete history keeps the difference between the system-wide value of an item and the sum of the global values of
+/// its counters.
 pub fn systems_keep_off()
     ensures { (facts : Facts) (h : History) → IsComplete facts h → (i : ℕ) → IsItem facts.layout i →
         system_at (state_after facts h) i -ℤ values_of_item facts.layout (state_after facts h) i

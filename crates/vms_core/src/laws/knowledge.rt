@@ -13,27 +13,29 @@ ghost use Rattle.vms_history.specs.Passes.{owner_in, IsFree};
 ghost use Rattle.vms_core.specs.declared.steps.Facts.{Facts};
 ghost use Rattle.vms_core.specs.declared.steps.Step.TheVariants.{Put, Miss};
 ghost use Rattle.vms_core.specs.Cells.{TellsGroup, cpu_at, eight_zeros};
-ghost use Rattle.vms_core.specs.Knowledge.{GoesOnWithout, GoesOnWithoutMain, OwnerKnows, ControlKnows, StandsFree, MayExchange, HasTakenAll};
-ghost use Rattle.vms_core.specs.Conditions.{Owns, AddsToPlace, AddsToSystem, Acknowledges, IsControl, SetsThreshold, SetsMark, SetsAbsent};
+ghost use Rattle.vms_core.specs.Knowledge.{GoesOnWithout, GoesOnWithoutMain, OwnerKnows, ControlKnows};
+ghost use Rattle.vms_core.specs.Knowledge.{StandsFree, MayExchange, HasTakenAll};
+ghost use Rattle.vms_core.specs.Conditions.{Owns, AddsToPlace, AddsToSystem, Acknowledges};
+ghost use Rattle.vms_core.specs.Conditions.{IsControl, SetsThreshold, SetsMark, SetsAbsent};
 ghost use Rattle.vms_core.specs.Pages.{History, IsLegal, state_after};
-ghost use Rattle.vms_core.specs.Steps.{turn};
+ghost use Rattle.vms_core.specs.Steps.{role};
 
-/// A pass that lives knows of what went on without it: the owner of a CPU, that it owns the CPU still and that the CPU
-/// spent no more; the control pass, that thresholds, marks, the CPUs' states and the peaks are as they were.
+/// What a live pass still knows after others acted. The owner of a CPU still owns it, and the CPU spent no more. For
+/// the control pass thresholds, marks, the CPUs' states and the peaks are as they were.
 pub fn passes_know_what_they_own()
     ensures owner { (facts : Facts) (later earlier : History) (p : ℕ) (c : CpuId) →
-        GoesOnWithout facts later earlier p → owner_in turn earlier p ≡ Some c → OwnerKnows later earlier p c }
+        GoesOnWithout facts later earlier p → owner_in role earlier p ≡ Some c → OwnerKnows later earlier p c }
     ensures control { (facts : Facts) (later earlier : History) (p : ℕ) →
-        GoesOnWithout facts later earlier p → owner_in turn earlier p ≡ None → ControlKnows facts later earlier }
+        GoesOnWithout facts later earlier p → owner_in role earlier p ≡ None → ControlKnows facts later earlier }
 {}
 
 /// What the main pass knows while it makes no event. A CPU that no pass owns spent and acknowledged no more; where no
 /// control pass lives, thresholds, marks, the CPUs' states and the peaks are as they were.
 pub fn main_pass_knows_what_is_free()
     ensures cpu { (facts : Facts) (later earlier : History) → GoesOnWithoutMain facts later earlier →
-        (c : CpuId) → IsFree turn earlier (Some c) → StandsFree facts later earlier c.number }
+        (c : CpuId) → IsFree role earlier (Some c) → StandsFree facts later earlier c.number }
     ensures control { (facts : Facts) (later earlier : History) → GoesOnWithoutMain facts later earlier →
-        IsFree turn earlier None → ControlKnows facts later earlier }
+        IsFree role earlier None → ControlKnows facts later earlier }
 {}
 
 /// An exchange by the live owner of what it found wins where the group still holds that list, and otherwise misses. One
@@ -55,8 +57,8 @@ pub fn exchanges_win_or_miss()
         MayExchange facts earlier p cpu k w t delta → MayExchange facts later p cpu k w t delta }
 {}
 
-/// What a pass may do by its own events it may do still, whatever others did meanwhile: it owns its CPU, may add what
-/// it carries, and may acknowledge.
+/// A pass may still do what its own events allow, whatever others did meanwhile: it owns its CPU, may add what it
+/// carries, and may acknowledge.
 pub fn own_steps_stay_allowed()
     ensures owns { (facts : Facts) (later earlier : History) (p : ℕ) → GoesOnWithout facts later earlier p →
         (c : CpuId) → Owns facts earlier p c → Owns facts later p c }
@@ -70,8 +72,8 @@ pub fn own_steps_stay_allowed()
         Acknowledges facts later p g a }
 {}
 
-/// What the control pass may set it may set still, whatever others did meanwhile. A dead CPU may become absent once the
-/// control pass took all its groups.
+/// The control pass may still set what it might set before others acted. A dead CPU may become absent once the control
+/// pass took all its groups.
 pub fn control_steps_stay_allowed()
     ensures threshold { (facts : Facts) (later earlier : History) (p : ℕ) (c : CpuId) (g : PlaceId) (t : ℕ) →
         GoesOnWithout facts later earlier p →

@@ -9,7 +9,7 @@ ghost use Rattle.vms_core.specs.Cells.{cpu_at};
 ghost use Rattle.vms_core.specs.Pages.{History, IsLegal};
 ghost use Rattle.vms_core.specs.Taken.{has_taken};
 
-/// Of a CPU that isn't online, every take of a group but the first finds eight zeros, whoever makes it.
+/// After the first take of a group of a CPU that isn't online, every take of it finds eight zeros, whoever makes it.
 pub fn offline_groups_are_found_once()
     ensures { (facts : Facts) (h : History) (p : ℕ) (c : CpuId) (j : GroupId) (w : Diffs) →
         IsLegal facts (record { caller = p; step = Take c j w } ∷ h) → cpu_at facts.base c.number ≢ Online →

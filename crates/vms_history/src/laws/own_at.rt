@@ -6,8 +6,8 @@ ghost use Rattle.vms_history.specs.Legal.{IsLegal, MadeAt};
 
 use crate::laws::Table;
 
-/// A caller's own events with what stood before them are its own events; on top of an earlier history, that history
-/// stood before each of the later ones too.
+/// `own_at` lists a caller's own events, each with the history before it. Where a history goes on from an earlier one,
+/// the earlier one stood before each later event.
 pub fn own_at_is_own<T: Table>()
     ensures events { (h : List (Event T.Step)) (p : ℕ) →
         map (λ (at : Event T.Step × List (Event T.Step)). at.0) (own_at h p) ≡ own h p }

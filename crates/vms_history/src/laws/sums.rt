@@ -31,6 +31,6 @@ pub fn sum_goes_by_values()
 /// A total over a legal history is the sum of its callers' own totals: of the main pass and of every pass begun.
 pub fn total_by_caller<T: Table>()
     ensures { (facts : T.Facts) (measure : T.Step → ℤ) (h : List (Event T.Step)) (n : ℕ) →
-        IsLegal T.machine facts h → begun_in T.machine.turn h < n →
+        IsLegal T.machine facts h → begun_in T.machine.role h < n →
         total measure h ≡ sum_below (λ p. total measure (own h p)) n }
 {}

@@ -4,19 +4,19 @@ use Rattle.vms_base.specs.declared.ids.CounterId.{CounterId}
 use Rattle.vms_base.specs.declared.kinds.Mode.{Mode}
 use Rattle.vms_base.specs.Places.{Shape}
 use Rattle.vms_core.specs.declared.steps.Step.{Step}
-use Rattle.vms_calls.specs.Changes.{Exchanges, Carries, misses}
+use Rattle.vms_calls.specs.Changes.{Exchanges, Carries, miss_count}
 use Rattle.vms_calls.specs.Changes.Exchanges.{won, missed}
 use Rattle.vms_calls.specs.Changes.Carries.{nothing, amount}
 use Rattle.vms_calls.proofs.changes.changes_miss_once.Goals as goal
 
 carrying : (shape : Shape) (k : CounterId) (z : ℤ) (additions : List Step) → Carries shape k z additions
-    → misses additions ≡ 0
+    → miss_count additions ≡ 0
 carrying shape k z additions nothing = omega arith
 carrying shape k z additions (amount v some) = omega arith
 
 exchanging : (shape : Shape) (k : CounterId) (w last : Diffs) (t : ℕ) (delta z : ℤ) (how : Mode)
     (exchange additions : List Step)
-    → Exchanges k w t delta how last exchange → Carries shape k z additions → misses (exchange ++ additions) ≤ 1
+    → Exchanges k w t delta how last exchange → Carries shape k z additions → miss_count (exchange ++ additions) ≤ 1
 exchanging shape k w last t delta z how exchange additions won carries =
     omega (arith, carrying shape k z additions carries)
 exchanging shape k w last t delta z how exchange additions (missed zeros are) carries =

@@ -1,5 +1,5 @@
-use Rattle.vms_calls.proofs.RatingCovers.{rating-covers}
+use Rattle.vms_calls.proofs.RatingCovers.{RatingCovers-holds}
 use Rattle.vms_calls.proofs.ratings.ratings_cover.Goals as goal
 
 pub returns : goal.returns
-returns c = rating-covers
+returns c = RatingCovers-holds

@@ -1,5 +1,5 @@
-use Rattle.vms_calls.proofs.AreaItems.{areas-ascend}
+use Rattle.vms_calls.proofs.AreaItems.{AreasAscend-holds}
 use Rattle.vms_calls.proofs.turns.areas_ascend.Goals as goal
 
 pub returns : goal.returns
-returns c = areas-ascend
+returns c = AreasAscend-holds

@@ -4,7 +4,9 @@ use Rattle.vms_event_judge.proofs.conditions.carries_nothing.Goals as goal
 pub returns-then-not-carries : goal.returns-then-not-carries
 returns-then-not-carries c = (
   λ no. absurd (true≢false (sym no)),
-  λ nothing. absurd (true≢false (sym (c.carries.ensures.1 (nothing c.loop-number.number (omega arith))) ∙ c.if-not-carries.true)),
+  λ nothing.
+      absurd (true≢false
+      (sym (c.carries.ensures.1 (nothing c.loop-number.number (omega arith))) ∙ c.if-not-carries.true)),
 )
 
 pub loop-number-preserved : goal.loop-number-preserved

@@ -10,7 +10,8 @@ word-requires-clause-shaped c = (base_can_begin events c.args.facts.now (reverse
 
 pub returns : goal.returns
 returns c =
-    let stands = word_at-state_after c.args.facts.now (reverse c.args.earlier.now) c.args.c.number c.args.k.number c.requires
+    let stands =
+    word_at-state_after c.args.facts.now (reverse c.args.earlier.now) c.args.c.number c.args.k.number c.requires
     (omega arith) in
     let told = stands ∙ sym c.word.ensures in (
       λ same. record {

@@ -9,7 +9,7 @@ pub returns : goal.returns
 returns g c = by c.none_lives.result c.none_lives.ensures
   where
     lives : ℕ → Bool
-    lives = lives_in g.T.Table.machine.turn (reverse c.args.past.now)
+    lives = lives_in g.T.Table.machine.role (reverse c.args.past.now)
 
     by : (b : Bool)
         → MatchBool b ((q : ℕ) → q < c.begun.result + 1 → lives q ≡ false) ((q : ℕ) × (lives q ≡ true))

@@ -4,4 +4,4 @@ use Rattle.vms_history.specs.Passes.{lives_in}
 use Rattle.vms_judge.proofs.acting.none_lives.Given as goal
 
 abbrev pub invariant-loop-pass : goal.invariant-loop-pass
-invariant-loop-pass g l = (q : ℕ) → q < l.pass → lives_in g.T.Table.machine.turn (reverse l.past) q ≡ false
+invariant-loop-pass g l = (q : ℕ) → q < l.pass → lives_in g.T.Table.machine.role (reverse l.past) q ≡ false

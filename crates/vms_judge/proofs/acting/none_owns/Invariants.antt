@@ -4,5 +4,5 @@ use Rattle.vms_history.specs.Passes.{lives_in, owner_in}
 use Rattle.vms_judge.proofs.acting.none_owns.Given as goal
 
 abbrev pub invariant-loop-pass : goal.invariant-loop-pass
-invariant-loop-pass g l = (q : ℕ) → q < l.pass → lives_in g.T.Table.machine.turn (reverse l.past) q ≡ true
-    → owner_in g.T.Table.machine.turn (reverse l.past) q ≡ l.who → ⊥
+invariant-loop-pass g l = (q : ℕ) → q < l.pass → lives_in g.T.Table.machine.role (reverse l.past) q ≡ true
+    → owner_in g.T.Table.machine.role (reverse l.past) q ≡ l.who → ⊥

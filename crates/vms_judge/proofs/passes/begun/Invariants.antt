@@ -5,6 +5,6 @@ use Rattle.vms_judge.proofs.passes.begun.Given as goal
 
 abbrev pub invariant-loop-event : goal.invariant-loop-event
 invariant-loop-event g l = record {
-  value : l.count ≡ begun_in g.T.Table.machine.turn (reverse (take l.event-index l.past));
+  value : l.count ≡ begun_in g.T.Table.machine.role (reverse (take l.event-index l.past));
   bound : l.count ≤ l.event-index;
 }

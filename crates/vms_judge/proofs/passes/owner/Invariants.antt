@@ -4,4 +4,4 @@ use Rattle.vms_history.specs.Passes.{owner_in}
 use Rattle.vms_judge.proofs.passes.owner.Given as goal
 
 abbrev pub invariant-loop-event : goal.invariant-loop-event
-invariant-loop-event g l = l.told ≡ owner_in g.T.Table.machine.turn (reverse (take l.event-index l.past)) l.pass
+invariant-loop-event g l = l.told ≡ owner_in g.T.Table.machine.role (reverse (take l.event-index l.past)) l.pass

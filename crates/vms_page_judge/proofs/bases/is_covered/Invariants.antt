@@ -6,4 +6,5 @@ use Rattle.vms_core.specs.Peaks.{peak_sum}
 use Rattle.vms_page_judge.proofs.bases.is_covered.Given as goal
 
 abbrev pub invariant-loop-number : goal.invariant-loop-number
-invariant-loop-number l = (g : ℕ) → g < l.number → Covers (size_at l.facts.sizes g) (cells.mark_at l.facts.base g) (peak_sum l.facts g [])
+invariant-loop-number l = (g : ℕ) → g < l.number
+    → Covers (size_at l.facts.sizes g) (cells.mark_at l.facts.base g) (peak_sum l.facts g [])

@@ -5,7 +5,8 @@ use Rattle.vms_page_judge.proofs.control.hides_nothing.Goals as goal
 pub returns-then-diff_now-ne0 : goal.returns-then-diff_now-ne0
 returns-then-diff_now-ne0 c = (
   λ yes. (cc),
-  λ nothing. let none = nothing c.loop-number.number (omega arith) in absurd (omega (arith, ints, none, c.diff_now.ensures)),
+  λ nothing. let none = nothing c.loop-number.number (omega arith) in
+      absurd (omega (arith, ints, none, c.diff_now.ensures)),
 )
 
 pub loop-number-preserved : goal.loop-number-preserved

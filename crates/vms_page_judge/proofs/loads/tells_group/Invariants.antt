@@ -6,4 +6,6 @@ use Rattle.vms_core.specs.Pages.{state_after}
 use Rattle.vms_page_judge.proofs.loads.tells_group.Given as goal
 
 abbrev pub invariant-loop-n : goal.invariant-loop-n
-invariant-loop-n l = (n : ℕ) → n < l.n → slice_index_or l.values n (pos 0) ≡ diff_at (state_after l.facts (reverse l.past)) l.cpu.number (8 * l.group.number + n)
+invariant-loop-n l = (n : ℕ) → n < l.n
+    → slice_index_or l.values n (pos 0)
+    ≡ diff_at (state_after l.facts (reverse l.past)) l.cpu.number (8 * l.group.number + n)

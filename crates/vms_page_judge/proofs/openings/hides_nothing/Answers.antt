@@ -5,7 +5,8 @@ use Rattle.vms_page_judge.proofs.openings.hides_nothing.Goals as goal
 pub returns-then-diff_at-ne0 : goal.returns-then-diff_at-ne0
 returns-then-diff_at-ne0 c = (
   λ yes. (cc),
-  λ nothing. let none = nothing c.loop-number.number (omega arith) in absurd (omega (arith, ints, none, c.diff_at.ensures)),
+  λ nothing. let none = nothing c.loop-number.number (omega arith) in
+      absurd (omega (arith, ints, none, c.diff_at.ensures)),
 )
 
 pub loop-number-preserved : goal.loop-number-preserved

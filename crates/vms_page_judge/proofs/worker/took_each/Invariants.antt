@@ -6,4 +6,5 @@ use Rattle.vms_core.specs.Own as known
 use Rattle.vms_page_judge.proofs.worker.took_each.Given as goal
 
 abbrev pub invariant-loop-number : goal.invariant-loop-number
-invariant-loop-number l = (j : ℕ) → j < l.number → place_of l.layout (first_of j) ≡ l.zone.number → known.took l.cpu l.zone.number j (own (reverse l.past) l.caller) ≡ true
+invariant-loop-number l = (j : ℕ) → j < l.number → place_of l.layout (first_of j) ≡ l.zone.number
+    → known.took l.cpu l.zone.number j (own (reverse l.past) l.caller) ≡ true

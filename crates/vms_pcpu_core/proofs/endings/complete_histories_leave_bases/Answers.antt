@@ -1,5 +1,5 @@
-use Rattle.vms_pcpu_core.proofs.BaseAgain.{begins-again, volumes-begin_again}
+use Rattle.vms_pcpu_core.proofs.BaseAgain.{BeginsAgain-holds, volumes-begin_again}
 use Rattle.vms_pcpu_core.proofs.endings.complete_histories_leave_bases.Goals as goal
 
 pub returns : goal.returns
-returns c = record { small = begins-again; within_volumes = volumes-begin_again }
+returns c = record { small = BeginsAgain-holds; within_volumes = volumes-begin_again }

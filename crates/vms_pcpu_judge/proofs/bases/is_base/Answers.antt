@@ -6,7 +6,7 @@ returns c = (
   λ yes. record {
     layout = c.has_lengths.ensures.layout;
     lengths = c.has_lengths.ensures.value.0 (search rules);
-    some_online = c.some_online.ensures.0 (search rules);
+    some_online = c.has_online.ensures.0 (search rules);
     counters = c.counters_fit.ensures.0 (search rules);
     locals = c.locals_fit.ensures.0 yes;
   },

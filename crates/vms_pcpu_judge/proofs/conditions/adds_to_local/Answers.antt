@@ -11,14 +11,14 @@ use Rattle.vms_base.specs.Volumes.{most_volume}
 use Rattle.vms_pcpu_core.specs.Histories.{History, IsLegal, state_after}
 use Rattle.vms_pcpu_core.specs.Laws.{numbers_after}
 use Rattle.vms_pcpu_core.specs.States.{IsPcpu, batch_at, local_at}
-use Rattle.vms_pcpu_core.specs.Steps.{turn}
+use Rattle.vms_pcpu_core.specs.Steps.{role}
 use Rattle.vms_pcpu_core.specs.Totals.{spent}
 use Rattle.vms_pcpu_core.proofs.Shapes.{batch_at-state_after}
 use Rattle.vms_pcpu_core.proofs.Totals.{owned}
 use Rattle.vms_pcpu_judge.proofs.conditions.adds_to_local.Goals as goal
 
 module _ (facts : PcpuFacts) (h : History) (p : ℕ) (j : PcpuId) (amount : ℤ) (cpu : CpuId) (legal : IsLegal facts h)
-    (owner : owner_in turn h p ≡ Some cpu) where
+    (owner : owner_in role h p ≡ Some cpu) where
   met : IsPcpu facts j.number
       → unsigned_abs (local_at (numbers_after facts h) cpu.number j.number +ℤ amount) ≤ batch_at facts.base j.number
       → spent h cpu.number j.number + unsigned_abs amount ≤ most_volume

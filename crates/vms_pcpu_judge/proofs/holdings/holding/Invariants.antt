@@ -1,8 +1,8 @@
 use Rattle.std.proofs.Common.{◌≡◌, take}
 use Rattle.std.specs.Prelude.{reverse}
 use Rattle.vms_history.specs.Events.{own}
-use Rattle.vms_pcpu_core.specs.Own.{holds}
+use Rattle.vms_pcpu_core.specs.Own.{holds_lock}
 use Rattle.vms_pcpu_judge.proofs.holdings.holding.Given as goal
 
 abbrev pub invariant-loop-event : goal.invariant-loop-event
-invariant-loop-event l = l.held ≡ holds l.counter (own (reverse (take l.event-index l.past)) l.caller)
+invariant-loop-event l = l.held ≡ holds_lock l.counter (own (reverse (take l.event-index l.past)) l.caller)

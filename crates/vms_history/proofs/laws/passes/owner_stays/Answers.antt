@@ -3,7 +3,7 @@ use Rattle.vms_history.proofs.laws.passes.owner_stays.Goals as goal
 
 pub returns : goal.returns
 returns g c = record {
-  begun = passes.begun_in-append g.T.Table.machine.turn;
+  begun = passes.begun_in-append g.T.Table.machine.role;
   owner =
       passes.owner_in-append g.T.Table.machine;
 }

@@ -1,5 +1,0 @@
-use Rattle.vms_calls.proofs.ChangeRuns.{change-may}
-use Rattle.vms_calls.proofs.making.changes_may_be_made.Goals as goal
-
-pub returns : goal.returns
-returns c = change-may

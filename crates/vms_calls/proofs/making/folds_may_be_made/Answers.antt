@@ -1,5 +1,0 @@
-use Rattle.vms_calls.proofs.FoldCalls.{fold-may}
-use Rattle.vms_calls.proofs.making.folds_may_be_made.Goals as goal
-
-pub returns : goal.returns
-returns c = fold-may

@@ -1,5 +1,0 @@
-use Rattle.std.proofs.Common.{refl}
-use Rattle.vms_calls.proofs.tests.smaller_area_comes_first.Goals as goal
-
-pub returns : goal.returns
-returns c = refl

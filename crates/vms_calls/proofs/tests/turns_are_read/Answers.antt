@@ -1,5 +1,0 @@
-use Rattle.std.proofs.Common.{refl}
-use Rattle.vms_calls.proofs.tests.turns_are_read.Goals as goal
-
-pub returns : goal.returns
-returns c = record { single = refl; no_block = refl; block = refl; no_room = refl }

@@ -1,5 +1,0 @@
-use Rattle.vms_pcpu_core.proofs.Watched.{local-stays, spent-stays}
-use Rattle.vms_pcpu_core.proofs.watching.own_part_stays.Goals as goal
-
-pub returns : goal.returns
-returns c = record { local = local-stays; spent = spent-stays }
