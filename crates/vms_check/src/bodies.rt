@@ -24,7 +24,7 @@ impl Body for CheckBody {
         Ok(CheckBody)
     }
 
-    fn pass(
+    fn take_line(
         &mut self,
         header: &Header,
         number: u32,
