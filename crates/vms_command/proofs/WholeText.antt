@@ -21,7 +21,7 @@ use Rattle.vms_command.specs.Lines.{LinesAbove, come_to, nothing_above, with_jud
 use Rattle.vms_command.specs.Texts.{WritesTexts, body_text, kept_of, printed_of, text_under}
 use Rattle.vms_stream.specs.Machines.{Machine}
 
--- where no limit is passed, a line stops the command for what it says alone
+-- where no limit is exceeded, a line stops the command for what it says alone
 unless_beyond : (b : Bool) (halt : Option Halt) → (if b then Some Exceeds else halt) ≢ Some Exceeds
     → (if b then Some Exceeds else halt) ≡ halt
 unless_beyond true halt within = absurd (within refl)

@@ -43,7 +43,7 @@ module _ (header : Header) (lines : List Line) (text : List ℕ) where
       let read = judged-read header lines text line is in
       sym (ap (λ (r : Result Line LineCause). and_then r (allowed header lines)) read) ∙ is
 
-  -- and passes no volume, if a CPU's lane has it
+  -- and exceeds no volume, if a CPU's lane has it
   fits-judged : (cpu : CpuId) (act : Act) → judged header lines text ≡ Ok (Lane (Cpu cpu) act)
       → overflows lines cpu.number act ≡ false
   fits-judged cpu act is = by (is_online (cpu_state cpu.number lines)) (overflows lines cpu.number act)

@@ -31,7 +31,7 @@ use Rattle.vms_script.proofs.Decisions.{Decides-kept, Decides-refused}
 use Rattle.vms_script.proofs.JudgeStateLaws.{Stands-still}
 use Rattle.vms_script.proofs.VolumeSums.{TellsVolumes-still, TellsVolumes-spent, by_cpu-nothing, volume_at-is}
 
--- an act of a CPU that is online, by whether it passes the most volume
+-- an act of a CPU that is online, by whether it exceeds the most volume
 judged_by : (over : Bool) (header : Header) (lines : List Line) (cpu : CpuId) (act : Act) (put : VolumeTable
     → LineJudge) (old spent new : VolumeTable) (result : Result (Unit {0}) LineCause)
     → overflows lines cpu.number act ≡ over → is_online (cpu_state cpu.number lines) ≡ true
@@ -40,15 +40,15 @@ judged_by : (over : Bool) (header : Header) (lines : List Line) (cpu : CpuId) (a
     → (over ≡ false → Stands header (Lane (Cpu cpu) act ∷ lines) (put spent))
     → (answered (Lane (Cpu cpu) act) result ≡ allowed header lines (Lane (Cpu cpu) act))
     × Stands header (counted (answered (Lane (Cpu cpu) act) result) lines) (put new)
-judged_by true header lines cpu act put old spent new result passes online r n stands past =
-    let refused : allowed header lines (Lane (Cpu cpu) act) ≡ Err Overflow = rw (online, passes) refl in (
+judged_by true header lines cpu act put old spent new result exceeds online r n stands past =
+    let refused : allowed header lines (Lane (Cpu cpu) act) ≡ Err Overflow = rw (online, exceeds) refl in (
       ap (answered (Lane (Cpu cpu) act)) r ∙ sym refused,
       subst (λ (t : VolumeTable). Stands header (counted (answered (Lane (Cpu cpu) act) result) lines) (put t)) (sym n)
           (subst (λ (a : Result (Unit {0}) LineCause). Stands header (counted (answered (Lane
           (Cpu cpu) act) a) lines) (put old)) (sym r) stands),
     )
-judged_by false header lines cpu act put old spent new result passes online r n stands past =
-    let counts : allowed header lines (Lane (Cpu cpu) act) ≡ Ok (Lane (Cpu cpu) act) = rw (online, passes) refl in (
+judged_by false header lines cpu act put old spent new result exceeds online r n stands past =
+    let counts : allowed header lines (Lane (Cpu cpu) act) ≡ Ok (Lane (Cpu cpu) act) = rw (online, exceeds) refl in (
       ap (answered (Lane (Cpu cpu) act)) r ∙ sym counts,
       subst (λ (t : VolumeTable). Stands header (counted (answered (Lane (Cpu cpu) act) result) lines) (put t)) (sym n)
           (subst (λ (a : Result (Unit {0}) LineCause). Stands header (counted (answered (Lane
@@ -76,14 +76,14 @@ module _ (cpu : CpuId) (act : Act) (thing size : ℕ) (old new : VolumeTable) (r
       → result ≡ (if nat_lt most_volume (volume_at old cpu.number thing + size) then Err Overflow else Ok tt)
       → new ≡ (if nat_lt most_volume (volume_at old cpu.number thing + size) then old else spent)
       → Decides (Lane (Cpu cpu) act) (put old) (put new) result
-  Decides-spent adds others tells goes_on known passes answer table = record {
+  Decides-spent adds others tells goes_on known exceeds answer table = record {
     by = λ header lines is is_line stands.
         let before : TableTells header lines old = tells header lines stands in
         let within : thing < width header = known header is_line.1 in
         let here = volume_at-is header.layout.cpus (width header) (λ c k. volume (measure k) c lines) old cpu.number
         thing before is_line.0 within in
         judged_by (nat_lt most_volume (volume_at old cpu.number thing + size)) header lines cpu act put old spent new
-        result (passes lines ∙ ap (λ n. nat_lt most_volume (n + size)) (sym here))
+        result (exceeds lines ∙ ap (λ n. nat_lt most_volume (n + size)) (sym here))
         (ap is_online (sym (stands.cpus.state cpu.number is_line.0) ∙ online)) answer table stands
         (λ fits. goes_on header lines stands
         (TellsVolumes-spent measure cpu act thing size adds others _ _ lines old is_line.0 within

@@ -31,7 +31,7 @@ SplitsLine-shorter text line rest splits some = elim splits.parts [
 ]
 
 module _ {S : Type 0} (machine : Machine S) (stands : S → Type 0) where
-  -- after one line: it is passed, refused, or exceeds a limit
+  -- after one line: the job takes it, refuses it, or the line exceeds a limit
   pub TakesLines-one : (s : S) (line out out' : List ℕ) → machine.halts s line ≡ None
       → out' ≡ out ++ machine.prints s line
       → stands (machine.next s line) → TakesLines machine stands s (line ∷ []) None out out'

@@ -14,8 +14,7 @@ returns-clause-fails c =
             (subst FailsNext same fails))
         | inr full ↦ absurd (omega (
           arith,
-          subst IsFull (sym c.self.view_is)
-              full,
+          subst IsFull (sym c.self.view_is) full,
           length-take c.self.inside.used c.self.inside.room.items,
         ))
       ],
