@@ -96,7 +96,7 @@ module _ {K : Type 0} (command : Command K) where
       ∙ sym (append_assoc (command.prints header n above result) (printed_of command header (suc n) above' lines)
       (command.last header (come_to header above' lines) (kept_of command header (suc n) above' kept' lines)))
 
-  -- what is written from a header's line on, of its turn
+  -- what is written from a line of the header on, by what was read of the line
   step_written : (k : ℕ) (stage : Stage) (read : Result Turn HeaderCause) (lines all : List (List ℕ))
       → drop (suc k) all ≡ lines
       → first_halt (halted_at (suc k) (refuses read)) (halted machine (after_head command (suc k) stage read) lines)
