@@ -6,17 +6,6 @@ use std::test::Fail;
 use vms_base::Header;
 use vms_trace::parse_header;
 
-/// Two CPUs, one zone of one node with 10,000 free pages, sixteen items a place, the node's item `slab` in bytes, and
-/// the percpu counter `gauge`.
-pub(crate) const ONE_ZONE: &str = "vmtrace 2
-cpus 2
-item node slab bytes
-zone 0 Normal 262144 100 125 150
-base 0 Normal nr_free_pages 10000
-counter gauge
-go
-";
-
 /// Four CPUs and two zones of one node: 100 and 200 free pages, and 5 and 7 pages of two other counters.
 pub(crate) const TWO_ZONES: &str = "vmtrace 1
 cpus 4

@@ -1,4 +1,4 @@
-//! Trials of phases: their scripts and plain totals, and the page counters of a run.
+//! Trials of the page counters of a run: the state that it begins with, and what they add up to.
 #![tactic(auto)]
 
 #[cfg(test)]
@@ -6,8 +6,4 @@ mod headers;
 #[cfg(test)]
 mod runs;
 #[cfg(test)]
-mod scripts;
-#[cfg(test)]
 mod starts;
-#[cfg(test)]
-mod totals;

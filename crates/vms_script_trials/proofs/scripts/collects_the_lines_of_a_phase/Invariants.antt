@@ -1,6 +1,6 @@
 use Rattle.std.proofs.Common.{◌≡◌, ◌+◌, ◌<◌, ◌≤◌, All, vec_len}
 use Rattle.vms_script.specs.Scripts.{SomeScripter}
-use Rattle.vms_phase_trials.proofs.scripts.collects_the_lines_of_a_phase.Given as goal
+use Rattle.vms_script_trials.proofs.scripts.collects_the_lines_of_a_phase.Given as goal
 
 abbrev pub invariant-loop-line : goal.invariant-loop-line
 invariant-loop-line g l = record {

@@ -3,7 +3,7 @@ use Rattle.vms_text.specs.declared.acts.Item.{Item}
 use Rattle.vms_text.specs.declared.acts.Line.{Line}
 use Rattle.vms_text.specs.declared.acts.Line.TheVariants.{Blank, Lane, Boundary}
 use Rattle.vms_script.specs.Scripts.{Script, with_line, with_taken}
-use Rattle.vms_phase_trials.proofs.scripts.phase_of.Goals as goal
+use Rattle.vms_script_trials.proofs.scripts.phase_of.Goals as goal
 
 -- a line leaves the header and the phases that were taken
 with_line-header : (n : ℕ) (line : Line) (script : Script) → (with_line n line script).header ≡ script.header

@@ -2,7 +2,7 @@ use Rattle.std.proofs.Common.{[], ◌∷◌, map, refl, sym, subst, ◌∙◌}
 use Rattle.vms_base.specs.declared.headers.Header.{Header}
 use Rattle.vms_script.specs.declared.scripters.Scripter.{Scripter}
 use Rattle.vms_script.specs.Scripts.{Gave, HoldsScript, first_script}
-use Rattle.vms_phase_trials.proofs.scripts.adds_up_what_a_scripter_gave.Goals as goal
+use Rattle.vms_script_trials.proofs.scripts.adds_up_what_a_scripter_gave.Goals as goal
 
 -- a scripter before the first line gave no phase
 Gave-none : (header : Header) (scripter : Scripter) → HoldsScript (first_script header) scripter → Gave header [] scripter
