@@ -5,7 +5,8 @@ use Rattle.vms_script.specs.Scripts.{Gave, HoldsScript, first_script}
 use Rattle.vms_script_trials.proofs.scripts.adds_up_what_a_scripter_gave.Goals as goal
 
 -- a scripter before the first line gave no phase
-Gave-none : (header : Header) (scripter : Scripter) → HoldsScript (first_script header) scripter → Gave header [] scripter
+Gave-none : (header : Header) (scripter : Scripter) → HoldsScript (first_script header) scripter
+    → Gave header [] scripter
 Gave-none header scripter holds =
     record { script = first_script header; of = refl; taken = refl; holds = holds }
 
