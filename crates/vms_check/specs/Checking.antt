@@ -1,5 +1,5 @@
--- What `check` writes of a text: its header and each line that counts in the one spelling, and a comment in the place of
--- each line that doesn't.
+-- What `check` writes of a text: its header and each line that counts in the one spelling, and a comment in the place
+-- of each line that doesn't.
 use Rattle.std.specs.Prelude.{ℕ, List, [], ◌++◌, length, codes, Result, Ok, Err}
 use Rattle.vms_base.specs.declared.headers.Header.{Header}
 use Rattle.vms_text.specs.declared.acts.Line.{Line}
@@ -9,8 +9,8 @@ use Rattle.vms_header.specs.Spelling.{spelled_header}
 use Rattle.vms_line.specs.Spelling.{spelled_line}
 use Rattle.vms_stream.specs.Machines.{Machine}
 use Rattle.vms_command.specs.Bodies.{shown}
-use Rattle.vms_command.specs.Commands.{Command, Progress, ending_of, following}
-use Rattle.vms_command.specs.Lines.{Above}
+use Rattle.vms_command.specs.Commands.{Command, CommandState, ending_of, following}
+use Rattle.vms_command.specs.Lines.{LinesAbove}
 use Rattle.vms_command.specs.Printing.{refused_line, done_line}
 use Rattle.vms_command.specs.Texts.{text_of}
 
@@ -19,13 +19,13 @@ abbrev pub accepted_line : Header → Line → List ℕ
 accepted_line header Blank = []
 accepted_line header line = spelled_line header line
 
--- what is written for line n, of which this was judged
+-- what is written for line n, by what was judged of it
 abbrev pub checked_line : Header → ℕ → Result Line LineCause → List ℕ
 checked_line header n (Ok line) = accepted_line header line
 checked_line header n (Err cause) = codes "# " ++ refused_line n cause
 
 -- the last line
-abbrev pub checked_end : Above → List ℕ
+abbrev pub checked_end : LinesAbove → List ℕ
 checked_end above = codes "# " ++ done_line (length above.lines) above.refused
 
 -- the command `check`: it keeps nothing of the lines but what they came to
@@ -40,13 +40,14 @@ checking = record {
 }
 
 -- a check, line by line
-abbrev pub check : Machine (Progress (Unit {0}))
+abbrev pub check : Machine (CommandState (Unit {0}))
 check = following checking
 
--- what is written for a text: the one line of a refused header, or the header, what is written for each line, and the last line
+-- what is written for a text: the one line of a refused header, or the header, what is written for each line, and the
+-- last line
 abbrev pub check_output : List ℕ → List ℕ
 check_output text = text_of checking text
 
 -- it shows nothing at the end but what is printed there
-abbrev pub nothing_shown : Progress (Unit {0}) → Type 0
+abbrev pub nothing_shown : CommandState (Unit {0}) → Type 0
 nothing_shown = shown (λ header above kept. Unit {0})

@@ -1,9 +1,9 @@
 use std::alloc::Global;
 use vms_base::{Header, Memory};
 use vms_command::{Body, ending_of, write_done_line, write_refused_line};
-use vms_stream::Ending;
 use vms_header::write_header;
 use vms_line::{Line, LineCause, write_line};
+use vms_stream::Ending;
 
 /// The body of a check.
 #[derive(Drop)]
@@ -25,7 +25,7 @@ impl Body for CheckBody {
         Ok(CheckBody)
     }
 
-    fn pass(
+    fn take_line(
         &mut self,
         header: &Header,
         number: u32,

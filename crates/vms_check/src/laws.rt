@@ -1,12 +1,12 @@
 ghost use Rattle.vms_check.specs.Laws.{ChecksAgain, WritesItsText};
 
-/// The law that what is written line by line of a text within the limits is what is defined by its header and its body.
+/// The law of what a check writes line by line: for a text within the limits it is what the header and the body
+/// define.
 pub fn writes_its_text()
     ensures { WritesItsText }
 {}
 
-/// The law that what is written of a header and of the lines of a body is accepted again: the same header, the same
-/// lines, and none is refused.
+/// The law that a check accepts what it wrote: it reads the same header and the same lines again, and refuses none.
 pub fn checks_again()
     ensures { ChecksAgain }
 {}

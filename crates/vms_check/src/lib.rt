@@ -4,8 +4,6 @@
 
 mod bodies;
 mod laws;
-#[cfg(test)]
-mod tests;
 mod tool;
 
 pub use laws::{checks_again, writes_its_text};

@@ -1,4 +1,4 @@
--- How a command goes past a line of a header, by what the line makes of it.
+-- How a command takes a line of a header, by what the line makes of it.
 use Rattle.std.proofs.Common.{◌≡◌, ℕ, List, ◌++◌, Some, None, refl, sym, subst, append-nil}
 use Rattle.std.specs.Prelude.{Result, Ok, Err}
 use Rattle.vms_base.specs.declared.headers.Header.{Header}
@@ -8,30 +8,37 @@ use Rattle.vms_header.specs.Head.{Stage, Turn}
 use Rattle.vms_header.specs.Head.Turn.{Goes, Ends}
 use Rattle.vms_stream.specs.declared.halts.Halt.TheVariants.{Refuses}
 use Rattle.vms_command.specs.declared.body_jobs.BodyJob.{BodyJob}
-use Rattle.vms_command.specs.declared.trace_jobs.Part.TheVariants as parts
+use Rattle.vms_command.specs.declared.trace_jobs.Work.TheVariants as works
 use Rattle.vms_command.specs.Commands.{Command}
-use Rattle.vms_command.specs.Lines.{Above}
+use Rattle.vms_command.specs.Lines.{LinesAbove}
 use Rattle.vms_command.specs.Printing.{header_line}
-use Rattle.vms_command.specs.Standing.{BeginsBody, PassesHead}
+use Rattle.vms_command.specs.JobStates.{BeginsBody, TakesHeadLine}
 
-module _ {K B : Type 0} (command : Command K) (stands : B → Header → Above → K → Type 0) (n : ℕ) (turn : Result Turn HeaderCause) where
+module _ {K B : Type 0} (command : Command K) (stands : B → Header → LinesAbove → K → Type 0) (n : ℕ)
+    (read : Result Turn HeaderCause) where
   -- the header goes on
-  pub head-goes : (stage : Stage) (out : List ℕ) → turn ≡ Ok (Goes stage) → PassesHead command stands n turn None out out (parts.Header stage)
+  pub head-goes : (stage : Stage) (out : List ℕ) → read ≡ Ok (Goes stage)
+      → TakesHeadLine command stands n read None out out (works.Header stage)
   head-goes stage out is =
-      subst (λ (t : Result Turn HeaderCause). PassesHead command stands n t None out out (parts.Header stage)) (sym is)
-      (record { halt_is = refl; printed = sym (append-nil out); turned = λ _. refl })
+      subst (λ (t : Result Turn HeaderCause). TakesHeadLine command stands n t None out out (works.Header stage))
+      (sym is)
+      (record { halt_is = refl; printed = sym (append-nil out); leads = λ _. refl })
 
   -- the body begins
-  pub head-begins : (draft : Draft) (header : Header) (job : BodyJob B) (out out' : List ℕ) → turn ≡ Ok (Ends draft) → header ≡ header_of draft
-      → BeginsBody command stands header out out' job → PassesHead command stands n turn None out out' (parts.Body job)
+  pub head-begins : (draft : Draft) (header : Header) (job : BodyJob B) (out out' : List ℕ) → read ≡ Ok (Ends draft)
+      → header ≡ header_of draft
+      → BeginsBody command stands header out out' job → TakesHeadLine command stands n read None out out'
+      (works.Body job)
   head-begins draft header job out out' is same begins =
       let here = subst (λ (h : Header). BeginsBody command stands h out out' job) same begins in
-      subst (λ (t : Result Turn HeaderCause). PassesHead command stands n t None out out' (parts.Body job)) (sym is)
-      (record { halt_is = refl; printed = here.printed; turned = λ _. here.here })
+      subst (λ (t : Result Turn HeaderCause). TakesHeadLine command stands n t None out out' (works.Body job)) (sym is)
+      (record { halt_is = refl; printed = here.printed; leads = λ _. here.here })
 
   -- the line is at fault
-  pub head-refused : (cause : HeaderCause) (out out' : List ℕ) → turn ≡ Err cause → out' ≡ out ++ header_line (record { line = n; cause = cause })
-      → PassesHead command stands n turn (Some Refuses) out out' parts.Stopped
+  pub head-refused : (cause : HeaderCause) (out out' : List ℕ) → read ≡ Err cause
+      → out' ≡ out ++ header_line (record { line = n; cause = cause })
+      → TakesHeadLine command stands n read (Some Refuses) out out' works.Stopped
   head-refused cause out out' is printed =
-      subst (λ (t : Result Turn HeaderCause). PassesHead command stands n t (Some Refuses) out out' parts.Stopped) (sym is)
-      (record { halt_is = refl; printed = printed; turned = λ none. absurd cc })
+      subst (λ (t : Result Turn HeaderCause). TakesHeadLine command stands n t (Some Refuses) out out' works.Stopped)
+      (sym is)
+      (record { halt_is = refl; printed = printed; leads = λ none. absurd cc })

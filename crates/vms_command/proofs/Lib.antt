@@ -1,4 +1,4 @@
 pub mod BodyLines
 pub mod HeadLines
-pub mod Passing
+pub mod CommandLines
 pub mod WholeText

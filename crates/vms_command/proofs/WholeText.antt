@@ -1,5 +1,6 @@
 -- For other crates too: what a command writes line by line is what is defined by the header and the body.
-use Rattle.std.proofs.Common.{◌≡◌, ◌≢◌, ℕ, zero, suc, Bool, true, false, nat_lt, if◌then◌else◌, List, [], ◌∷◌, ◌++◌, drop, Option, Some, None, refl, sym, ap, ◌∙◌, append_assoc, append-nil}
+use Rattle.std.proofs.Common.{◌≡◌, ◌≢◌, ℕ, zero, suc, Bool, true, false, nat_lt, if◌then◌else◌, List, [], ◌∷◌, ◌++◌}
+use Rattle.std.proofs.Common.{drop, Option, Some, None, refl, sym, ap, ◌∙◌, append_assoc, append-nil}
 use Rattle.std.specs.Prelude.{Result, Ok, Err}
 use Rattle.vms_base.specs.declared.headers.Header.{Header}
 use Rattle.vms_text.specs.Lines.{lines_of}
@@ -10,111 +11,133 @@ use Rattle.vms_header.specs.Head.Stage.{Opening}
 use Rattle.vms_header.specs.Head.Turn.{Goes, Ends}
 use Rattle.vms_script.specs.Judging.{judged}
 use Rattle.vms_stream.specs.declared.halts.Halt.{Halt}
-use Rattle.vms_stream.specs.declared.halts.Halt.TheVariants.{Passes, Refuses}
-use Rattle.vms_stream.specs.Machines.{first_halt, halted, last_words, past, printed, printed_from}
-use Rattle.vms_command.specs.Commands.{Command, Progress, following, halted_at, passes, past_head, printed_head, refuses}
-use Rattle.vms_command.specs.Commands.Progress.{Heading, Body}
-use Rattle.vms_command.specs.Limits.{most_lines, passes_limit}
-use Rattle.vms_command.specs.Lines.{Above, come_to, nothing_above, with_judged}
+use Rattle.vms_stream.specs.declared.halts.Halt.TheVariants.{Exceeds, Refuses}
+use Rattle.vms_stream.specs.Machines.{first_halt, halted, last_words, state_after, printed, printed_from}
+use Rattle.vms_command.specs.Commands.{Command, CommandState, following, halted_at, exceeds, after_head, printed_head}
+use Rattle.vms_command.specs.Commands.{refuses}
+use Rattle.vms_command.specs.Commands.CommandState.{Heading, Body}
+use Rattle.vms_command.specs.Limits.{most_lines, exceeds_limit}
+use Rattle.vms_command.specs.Lines.{LinesAbove, come_to, nothing_above, with_judged}
 use Rattle.vms_command.specs.Texts.{WritesTexts, body_text, kept_of, printed_of, text_under}
 use Rattle.vms_stream.specs.Machines.{Machine}
 
--- where no limit is passed, a line stops the command for what it says alone
-unless_beyond : (b : Bool) (halt : Option Halt) → (if b then Some Passes else halt) ≢ Some Passes → (if b then Some Passes else halt) ≡ halt
+-- where no limit is exceeded, a line stops the command for what it says alone
+unless_beyond : (b : Bool) (halt : Option Halt) → (if b then Some Exceeds else halt) ≢ Some Exceeds
+    → (if b then Some Exceeds else halt) ≡ halt
 unless_beyond true halt within = absurd (within refl)
 unless_beyond false halt within = refl
 
-within_at : (n : ℕ) (halt : Option Halt) → halted_at n halt ≢ Some Passes → halted_at n halt ≡ halt
+within_at : (n : ℕ) (halt : Option Halt) → halted_at n halt ≢ Some Exceeds → halted_at n halt ≡ halt
 within_at n halt within = unless_beyond (nat_lt most_lines n) halt within
 
-unless_over : (over : Bool) → passes over ≢ Some Passes → passes over ≡ None
+unless_over : (over : Bool) → exceeds over ≢ Some Exceeds → exceeds over ≡ None
 unless_over true within = absurd (within refl)
 unless_over false within = refl
 
-first_within : (first later : Option Halt) → first_halt first later ≢ Some Passes → first ≢ Some Passes
+first_within : (first later : Option Halt) → first_halt first later ≢ Some Exceeds → first ≢ Some Exceeds
 first_within first later within = λ is. within (ap (λ (halt : Option Halt). first_halt halt later) is)
 
-later_within : (first later : Option Halt) → first ≡ None → first_halt first later ≢ Some Passes → later ≢ Some Passes
+later_within : (first later : Option Halt) → first ≡ None → first_halt first later ≢ Some Exceeds → later ≢ Some Exceeds
 later_within first later none within = λ is. within (ap (λ (halt : Option Halt). first_halt halt later) none ∙ is)
 
--- what stands behind an element
-behind : (k : ℕ) (all : List (List ℕ)) (line : List ℕ) (lines : List (List ℕ)) → drop k all ≡ line ∷ lines → drop (suc k) all ≡ lines
-behind zero [] line lines is = absurd cc
-behind zero (first ∷ all) line lines is = cc
-behind (suc k) [] line lines is = absurd cc
-behind (suc k) (first ∷ all) line lines is = behind k all line lines is
+-- what stands after an element
+after : (k : ℕ) (all : List (List ℕ)) (line : List ℕ) (lines : List (List ℕ)) → drop k all ≡ line ∷ lines
+    → drop (suc k) all ≡ lines
+after zero [] line lines is = absurd cc
+after zero (first ∷ all) line lines is = cc
+after (suc k) [] line lines is = absurd cc
+after (suc k) (first ∷ all) line lines is = after k all line lines is
 
--- what is written from a line on that stops the check so, of what the line prints, what later lines print and the last words
+-- what is written from a line on that stops the check so, of what the line prints, what later lines print and the last
+-- words
 abbrev written_at : Option Halt → List ℕ → List ℕ → Option Halt → List ℕ → List ℕ
 written_at halt line later rest words = printed_from halt line later ++ last_words (first_halt halt rest) words
 
 written-on : (halt : Option Halt) (line later : List ℕ) (rest : Option Halt) (words : List ℕ) → halt ≡ None
     → written_at halt line later rest words ≡ line ++ (later ++ last_words rest words)
 written-on halt line later rest words none =
-    ap (λ (at : Option Halt). written_at at line later rest words) none ∙ append_assoc line later (last_words rest words)
+    ap (λ (at : Option Halt). written_at at line later rest words) none
+    ∙ append_assoc line later (last_words rest words)
 
 written-refused : (halt : Option Halt) (line later : List ℕ) (rest : Option Halt) (words : List ℕ) → halt ≡ Some Refuses
     → written_at halt line later rest words ≡ line
-written-refused halt line later rest words refused = ap (λ (at : Option Halt). written_at at line later rest words) refused ∙ append-nil line
+written-refused halt line later rest words refused = ap (λ (at : Option Halt). written_at at line later rest words)
+    refused ∙ append-nil line
 
 module _ {K : Type 0} (command : Command K) where
-  abbrev machine : Machine (Progress K)
+  abbrev machine : Machine (CommandState K)
   machine = following command
 
   -- what is written of lines, and at their end
-  abbrev written_from : Progress K → List (List ℕ) → List ℕ
-  written_from s lines = printed machine s lines ++ last_words (halted machine s lines) (machine.last (past machine s lines))
+  abbrev written_from : CommandState K → List (List ℕ) → List ℕ
+  written_from s lines = printed machine s lines ++ last_words (halted machine s lines)
+      (machine.last (state_after machine s lines))
 
-  body_written : (n : ℕ) (header : Header) (above : Above) (kept : K) (lines : List (List ℕ)) → halted machine (Body n header above kept) lines ≢ Some Passes
+  body_written : (n : ℕ) (header : Header) (above : LinesAbove) (kept : K) (lines : List (List ℕ))
+      → halted machine (Body n header above kept) lines ≢ Some Exceeds
       → written_from (Body n header above kept) lines
-      ≡ printed_of command header n above lines ++ command.last header (come_to header above lines) (kept_of command header n above kept lines)
+      ≡ printed_of command header n above lines ++ command.last header (come_to header above lines)
+      (kept_of command header n above kept lines)
   body_written n header above kept [] within = refl
   body_written n header above kept (line ∷ lines) within =
       let result = judged header above.lines line in
       let above' = with_judged result above in
       let kept' = command.next header n above result kept in
       let next = Body (suc n) header above' kept' in
-      let over = passes_limit above.lines result in
-      let here = first_within (halted_at n (passes over)) (halted machine next lines) within in
-      let same = within_at n (passes over) here in
+      let over = exceeds_limit above.lines result in
+      let here = first_within (halted_at n (exceeds over)) (halted machine next lines) within in
+      let same = within_at n (exceeds over) here in
       let none = same ∙ unless_over over (λ is. here (same ∙ is)) in
-      written-on (halted_at n (passes over)) (command.prints header n above result) (printed machine next lines) (halted machine next lines) (machine.last (past machine next lines)) none
+      written-on (halted_at n (exceeds over)) (command.prints header n above result) (printed machine next lines)
+      (halted machine next lines) (machine.last (state_after machine next lines)) none
       ∙ ap (λ (rest : List ℕ). command.prints header n above result ++ rest)
-      (body_written (suc n) header above' kept' lines (later_within (halted_at n (passes over)) (halted machine next lines) none within))
+      (body_written (suc n) header above' kept' lines
+      (later_within (halted_at n (exceeds over)) (halted machine next lines) none within))
       ∙ sym (append_assoc (command.prints header n above result) (printed_of command header (suc n) above' lines)
       (command.last header (come_to header above' lines) (kept_of command header (suc n) above' kept' lines)))
 
-  -- what is written from a header's line on, of its turn
-  turn_written : (k : ℕ) (stage : Stage) (turn : Result Turn HeaderCause) (lines all : List (List ℕ)) → drop (suc k) all ≡ lines
-      → first_halt (halted_at (suc k) (refuses turn)) (halted machine (past_head command (suc k) stage turn) lines) ≢ Some Passes
-      → ((next : Stage) → halted machine (Heading (suc (suc k)) next) lines ≢ Some Passes
+  -- what is written from a line of the header on, by what was read of the line
+  step_written : (k : ℕ) (stage : Stage) (read : Result Turn HeaderCause) (lines all : List (List ℕ))
+      → drop (suc k) all ≡ lines
+      → first_halt (halted_at (suc k) (refuses read)) (halted machine (after_head command (suc k) stage read) lines)
+      ≢ Some Exceeds
+      → ((next : Stage) → halted machine (Heading (suc (suc k)) next) lines ≢ Some Exceeds
       → written_from (Heading (suc (suc k)) next) lines ≡ text_under command (header_from (suc (suc k)) next lines) all)
-      → written_at (halted_at (suc k) (refuses turn)) (printed_head command (suc k) turn) (printed machine (past_head command (suc k) stage turn) lines) (halted machine (past_head command (suc k) stage turn) lines) (machine.last (past machine (past_head command (suc k) stage turn) lines))
-      ≡ text_under command (on_turn (suc k) turn (λ next. header_from (suc (suc k)) next lines)) all
-  turn_written k stage (Ok (Goes next)) lines all is within follows =
-      let at : Progress K = Heading (suc (suc k)) next in
+      → written_at (halted_at (suc k) (refuses read)) (printed_head command (suc k) read)
+      (printed machine (after_head command (suc k) stage read) lines)
+      (halted machine (after_head command (suc k) stage read) lines)
+      (machine.last (state_after machine (after_head command (suc k) stage read) lines))
+      ≡ text_under command (on_turn (suc k) read (λ next. header_from (suc (suc k)) next lines)) all
+  step_written k stage (Ok (Goes next)) lines all is within follows =
+      let at : CommandState K = Heading (suc (suc k)) next in
       let none = within_at (suc k) None (first_within (halted_at (suc k) None) (halted machine at lines) within) in
-      written-on (halted_at (suc k) None) [] (printed machine at lines) (halted machine at lines) (machine.last (past machine at lines)) none
+      written-on (halted_at (suc k) None) [] (printed machine at lines) (halted machine at lines)
+      (machine.last (state_after machine at lines)) none
       ∙ follows next (later_within (halted_at (suc k) None) (halted machine at lines) none within)
-  turn_written k stage (Ok (Ends draft)) lines all is within follows =
+  step_written k stage (Ok (Ends draft)) lines all is within follows =
       let header = header_of draft in
-      let at : Progress K = Body (suc (suc k)) header nothing_above (command.begins header) in
+      let at : CommandState K = Body (suc (suc k)) header nothing_above (command.begins header) in
       let none = within_at (suc k) None (first_within (halted_at (suc k) None) (halted machine at lines) within) in
-      written-on (halted_at (suc k) None) (command.opens header) (printed machine at lines) (halted machine at lines) (machine.last (past machine at lines)) none
+      written-on (halted_at (suc k) None) (command.opens header) (printed machine at lines) (halted machine at lines)
+      (machine.last (state_after machine at lines)) none
       ∙ ap (λ (bytes : List ℕ). command.opens header ++ bytes)
-      (body_written (suc (suc k)) header nothing_above (command.begins header) lines (later_within (halted_at (suc k) None) (halted machine at lines) none within))
+      (body_written (suc (suc k)) header nothing_above (command.begins header) lines
+      (later_within (halted_at (suc k) None) (halted machine at lines) none within))
       ∙ ap (λ (body : List (List ℕ)). command.opens header ++ body_text command header (suc (suc k)) body) (sym is)
-  turn_written k stage (Err cause) lines all is within follows =
-      let at : Progress K = Heading (suc k) stage in
-      let refused = within_at (suc k) (Some Refuses) (first_within (halted_at (suc k) (Some Refuses)) (halted machine at lines) within) in
-      written-refused (halted_at (suc k) (Some Refuses)) (printed_head command (suc k) (Err cause)) (printed machine at lines) (halted machine at lines) (machine.last (past machine at lines)) refused
+  step_written k stage (Err cause) lines all is within follows =
+      let at : CommandState K = Heading (suc k) stage in
+      let refused = within_at (suc k) (Some Refuses)
+      (first_within (halted_at (suc k) (Some Refuses)) (halted machine at lines) within) in
+      written-refused (halted_at (suc k) (Some Refuses)) (printed_head command (suc k) (Err cause))
+      (printed machine at lines) (halted machine at lines) (machine.last (state_after machine at lines)) refused
 
-  head_written : (k : ℕ) (stage : Stage) (lines all : List (List ℕ)) → drop k all ≡ lines → halted machine (Heading (suc k) stage) lines ≢ Some Passes
+  head_written : (k : ℕ) (stage : Stage) (lines all : List (List ℕ)) → drop k all ≡ lines
+      → halted machine (Heading (suc k) stage) lines ≢ Some Exceeds
       → written_from (Heading (suc k) stage) lines ≡ text_under command (header_from (suc k) stage lines) all
   head_written k stage [] all is within = refl
   head_written k stage (line ∷ lines) all is within =
-      turn_written k stage (head_line stage line) lines all (behind k all line lines is) within
-      (λ next follows. head_written (suc k) next lines all (behind k all line lines is) follows)
+      step_written k stage (head_line stage line) lines all (after k all line lines is) within
+      (λ next follows. head_written (suc k) next lines all (after k all line lines is) follows)
 
-  pub writes-texts : WritesTexts command
-  writes-texts text within = head_written 0 Opening (lines_of text) (lines_of text) refl within
+  pub WritesTexts-holds : WritesTexts command
+  WritesTexts-holds text within = head_written 0 Opening (lines_of text) (lines_of text) refl within

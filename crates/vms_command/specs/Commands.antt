@@ -13,38 +13,38 @@ use Rattle.vms_stream.specs.Machines.{Machine}
 use Rattle.vms_stream.specs.declared.endings.Ending.{Ending}
 use Rattle.vms_stream.specs.declared.endings.Ending.TheVariants.{Done, Refused, HeaderRefused}
 use Rattle.vms_stream.specs.declared.halts.Halt.{Halt}
-use Rattle.vms_stream.specs.declared.halts.Halt.TheVariants.{Refuses, Passes}
-use Rattle.vms_command.specs.Limits.{most_lines, passes_limit}
-use Rattle.vms_command.specs.Lines.{Above, nothing_above, with_judged}
+use Rattle.vms_stream.specs.declared.halts.Halt.TheVariants.{Refuses, Exceeds}
+use Rattle.vms_command.specs.Limits.{most_lines, exceeds_limit}
+use Rattle.vms_command.specs.Lines.{LinesAbove, nothing_above, with_judged}
 use Rattle.vms_command.specs.Printing.{header_line}
 
 -- a command on a trace: what it keeps of the lines of the body, beside what they came to, and what it prints
 pub record Command (K : Type 0) : Type 0 where
-  -- kept behind the header, and printed there
+  -- kept after the header, and printed there
   pub begins : Header → K
   pub opens : Header → List ℕ
-  -- kept behind line n of the body, of which this was judged, and printed of it
-  pub next : Header → ℕ → Above → Result Line LineCause → K → K
-  pub prints : Header → ℕ → Above → Result Line LineCause → List ℕ
+  -- kept after line n of the body, and printed of it, by what was judged of it
+  pub next : Header → ℕ → LinesAbove → Result Line LineCause → K → K
+  pub prints : Header → ℕ → LinesAbove → Result Line LineCause → List ℕ
   -- printed at the end of the trace, and how the command ends there
-  pub last : Header → Above → K → List ℕ
-  pub ends : Above → Ending
+  pub last : Header → LinesAbove → K → List ℕ
+  pub ends : LinesAbove → Ending
 
--- how a trace ends of whose lines so many were refused
+-- the ending of a trace: lines that were refused make it `Refused`
 abbrev pub ending_of : ℕ → Ending
 ending_of refused = if nat_lt 0 refused then Refused else Done
 
--- how far a command has come: before line n of the header, or of the body
-pub data Progress (K : Type 0) : Type 0 where
-  Heading : ℕ → Stage → Progress K
-  Body : ℕ → Header → Above → K → Progress K
+-- the state of a command: it stands before line n of the header, or before line n of the body
+pub data CommandState (K : Type 0) : Type 0 where
+  Heading : ℕ → Stage → CommandState K
+  Body : ℕ → Header → LinesAbove → K → CommandState K
 
 -- a header's line: its first fault stops the command, and `go` begins the body
-abbrev pub past_head : {K : Type 0} → Command K → ℕ → Stage → Result Turn HeaderCause → Progress K
-past_head command n stage (Ok (Goes next)) = Heading (suc n) next
-past_head command n stage (Ok (Ends draft)) =
+abbrev pub after_head : {K : Type 0} → Command K → ℕ → Stage → Result Turn HeaderCause → CommandState K
+after_head command n stage (Ok (Goes next)) = Heading (suc n) next
+after_head command n stage (Ok (Ends draft)) =
     Body (suc n) (header_of draft) nothing_above (command.begins (header_of draft))
-past_head command n stage (Err cause) = Heading n stage
+after_head command n stage (Err cause) = Heading n stage
 
 abbrev pub printed_head : {K : Type 0} → Command K → ℕ → Result Turn HeaderCause → List ℕ
 printed_head command n (Ok (Goes next)) = []
@@ -52,49 +52,49 @@ printed_head command n (Ok (Ends draft)) = command.opens (header_of draft)
 printed_head command n (Err cause) = header_line (record { line = n; cause = cause })
 
 abbrev pub refuses : Result Turn HeaderCause → Option Halt
-refuses (Ok turn) = None
+refuses (Ok read) = None
 refuses (Err cause) = Some Refuses
 
--- past a line
-abbrev pub past_line : {K : Type 0} → Command K → Progress K → List ℕ → Progress K
-past_line command (Heading n stage) line = past_head command n stage (head_line stage line)
-past_line command (Body n header above kept) line =
+-- after a line
+abbrev pub after_line : {K : Type 0} → Command K → CommandState K → List ℕ → CommandState K
+after_line command (Heading n stage) line = after_head command n stage (head_line stage line)
+after_line command (Body n header above kept) line =
     Body (suc n) header (with_judged (judged header above.lines line) above)
     (command.next header n above (judged header above.lines line) kept)
 
 -- what a line prints
-abbrev pub printed_line : {K : Type 0} → Command K → Progress K → List ℕ → List ℕ
+abbrev pub printed_line : {K : Type 0} → Command K → CommandState K → List ℕ → List ℕ
 printed_line command (Heading n stage) line = printed_head command n (head_line stage line)
 printed_line command (Body n header above kept) line =
     command.prints header n above (judged header above.lines line)
 
--- why a command stops at a line: it is one line too many, or at fault in the header, or opens a phase too many or is a
--- report too many
+-- why a command stops at a line: the line is at fault in the header, or it exceeds the limit on lines, on phases or on
+-- reports
 abbrev pub halted_at : ℕ → Option Halt → Option Halt
-halted_at n halt = if nat_lt most_lines n then Some Passes else halt
+halted_at n halt = if nat_lt most_lines n then Some Exceeds else halt
 
-abbrev pub passes : Bool → Option Halt
-passes over = if over then Some Passes else None
+abbrev pub exceeds : Bool → Option Halt
+exceeds over = if over then Some Exceeds else None
 
-abbrev pub halts_at : {K : Type 0} → Progress K → List ℕ → Option Halt
+abbrev pub halts_at : {K : Type 0} → CommandState K → List ℕ → Option Halt
 halts_at (Heading n stage) line = halted_at n (refuses (head_line stage line))
 halts_at (Body n header above kept) line =
-    halted_at n (passes (passes_limit above.lines (judged header above.lines line)))
+    halted_at n (exceeds (exceeds_limit above.lines (judged header above.lines line)))
 
 -- what is printed at the end of a text, and how the command ends there
-abbrev pub printed_end : {K : Type 0} → Command K → Progress K → List ℕ
+abbrev pub printed_end : {K : Type 0} → Command K → CommandState K → List ℕ
 printed_end command (Heading n stage) = header_line (record { line = n; cause = missing stage })
 printed_end command (Body n header above kept) = command.last header above kept
 
-abbrev pub ends_as : {K : Type 0} → Command K → Progress K → Ending
+abbrev pub ends_as : {K : Type 0} → Command K → CommandState K → Ending
 ends_as command (Heading n stage) = HeaderRefused
 ends_as command (Body n header above kept) = command.ends above
 
 -- a command, line by line
-abbrev pub following : {K : Type 0} → Command K → Machine (Progress K)
+abbrev pub following : {K : Type 0} → Command K → Machine (CommandState K)
 following command = record {
   start = Heading 1 Opening;
-  next = past_line command;
+  next = after_line command;
   prints = printed_line command;
   halts = halts_at;
   last = printed_end command;

@@ -5,4 +5,4 @@ pub mod Commands
 pub mod Texts
 pub mod Bodies
 pub mod Tallies
-pub mod Standing
+pub mod JobStates

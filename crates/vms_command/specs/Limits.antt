@@ -16,7 +16,7 @@ most_phases = 10000
 abbrev pub most_reports : ℕ
 most_reports = 1000
 
--- whether a lane line opens a phase behind these lines that count, the newest first: none is open at the start and behind
+-- whether a lane line opens a phase after these lines that count, the newest first: none is open at the start and after
 -- a boundary line
 abbrev pub opens_phase : List Line → Bool
 opens_phase (Lane lane act ∷ lines) = false
@@ -39,8 +39,8 @@ reports_in [] = 0
 reports_in (Boundary boundary ∷ lines) = if is_report boundary then suc (reports_in lines) else reports_in lines
 reports_in (line ∷ lines) = reports_in lines
 
--- whether a line that counts passes the limit on phases or on reports, behind these lines that count
-abbrev pub passes_limit : List Line → Result Line LineCause → Bool
-passes_limit lines (Ok (Lane lane act)) = opens_phase lines && nat_le most_phases (phases_in lines)
-passes_limit lines (Ok (Boundary boundary)) = is_report boundary && nat_le most_reports (reports_in lines)
-passes_limit lines _ = false
+-- whether a line that counts exceeds the limit on phases or on reports, after these lines that count
+abbrev pub exceeds_limit : List Line → Result Line LineCause → Bool
+exceeds_limit lines (Ok (Lane lane act)) = opens_phase lines && nat_le most_phases (phases_in lines)
+exceeds_limit lines (Ok (Boundary boundary)) = is_report boundary && nat_le most_reports (reports_in lines)
+exceeds_limit lines _ = false

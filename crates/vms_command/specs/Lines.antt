@@ -6,19 +6,19 @@ use Rattle.vms_line.specs.declared.causes.LineCause.{LineCause}
 use Rattle.vms_script.specs.Judging.{judged, counted}
 
 -- the lines that count, the newest first, and how many were refused
-pub record Above : Type 0 where
+pub record LinesAbove : Type 0 where
   pub lines : List Line
   pub refused : ℕ
 
-abbrev pub nothing_above : Above
+abbrev pub nothing_above : LinesAbove
 nothing_above = record { lines = []; refused = 0 }
 
--- with one line more, of which this was judged
-abbrev pub with_judged : Result Line LineCause → Above → Above
+-- with one line more, by what was judged of it
+abbrev pub with_judged : Result Line LineCause → LinesAbove → LinesAbove
 with_judged (Ok line) above = record above { lines = counted (Ok line) above.lines }
 with_judged (Err cause) above = record above { refused = suc above.refused }
 
 -- with these lines more
-abbrev pub come_to : Header → Above → List (List ℕ) → Above
+abbrev pub come_to : Header → LinesAbove → List (List ℕ) → LinesAbove
 come_to header above [] = above
 come_to header above (text ∷ texts) = come_to header (with_judged (judged header above.lines text) above) texts

@@ -4,21 +4,21 @@ use Rattle.vms_base.specs.declared.headers.Header.{Header}
 use Rattle.vms_text.specs.Lines.{lines_of}
 use Rattle.vms_header.specs.Head.{Fault, read_header}
 use Rattle.vms_script.specs.Judging.{judged}
-use Rattle.vms_stream.specs.declared.halts.Halt.TheVariants.{Passes}
+use Rattle.vms_stream.specs.declared.halts.Halt.TheVariants.{Exceeds}
 use Rattle.vms_stream.specs.Machines.{halted, output}
 use Rattle.vms_command.specs.Commands.{Command, following}
-use Rattle.vms_command.specs.Lines.{Above, come_to, nothing_above, with_judged}
+use Rattle.vms_command.specs.Lines.{LinesAbove, come_to, nothing_above, with_judged}
 use Rattle.vms_command.specs.Printing.{header_line}
 
--- what a command keeps behind these lines of a body, the first of them line n
-abbrev pub kept_of : {K : Type 0} → Command K → Header → ℕ → Above → K → List (List ℕ) → K
+-- what a command keeps after these lines of a body, the first of them line n
+abbrev pub kept_of : {K : Type 0} → Command K → Header → ℕ → LinesAbove → K → List (List ℕ) → K
 kept_of command header n above kept [] = kept
 kept_of command header n above kept (text ∷ texts) =
     kept_of command header (suc n) (with_judged (judged header above.lines text) above)
     (command.next header n above (judged header above.lines text) kept) texts
 
 -- what it prints of them
-abbrev pub printed_of : {K : Type 0} → Command K → Header → ℕ → Above → List (List ℕ) → List ℕ
+abbrev pub printed_of : {K : Type 0} → Command K → Header → ℕ → LinesAbove → List (List ℕ) → List ℕ
 printed_of command header n above [] = []
 printed_of command header n above (text ∷ texts) = command.prints header n above (judged header above.lines text)
     ++ printed_of command header (suc n) (with_judged (judged header above.lines text) above) texts
@@ -38,7 +38,8 @@ text_under command (Ok (header, count)) lines =
 abbrev pub text_of : {K : Type 0} → Command K → List ℕ → List ℕ
 text_of command text = text_under command (read_header (lines_of text)) (lines_of text)
 
--- what a command writes line by line of a text within the limits is that
+-- that is what a command writes line by line of a text within the limits
 abbrev pub WritesTexts : {K : Type 0} → Command K → Type 0
-WritesTexts command = (text : List ℕ) → halted (following command) (following command).start (lines_of text) ≢ Some Passes →
+WritesTexts command = (text : List ℕ) → halted (following command) (following command).start (lines_of text)
+    ≢ Some Exceeds →
     output (following command) (lines_of text) ≡ text_of command text

@@ -5,7 +5,7 @@ use vms_base::{Header, Memory};
 use vms_script::LineJudge;
 use vms_stream::{Ending, Halt};
 
-/// A command on its way through a body. It keeps of the lines what later ones are judged by, and no line.
+/// A command on its way through a body. It keeps what later lines are judged by, and no line.
 #[derive(Drop)]
 pub(crate) struct BodyJob<B> {
     pub(crate) header: Header,
@@ -20,10 +20,10 @@ impl<B: Body> BodyJob<B> {
     ghost use Rattle.vms_header.specs.Laws.{IsWritable};
     ghost use Rattle.vms_script.specs.Judging.{judged};
     ghost use Rattle.vms_command.specs.Limits.{most_lines};
-    ghost use Rattle.vms_command.specs.Lines.{Above};
-    ghost use Rattle.vms_command.specs.Standing.{BeginsBody, EndsBody, PassesBody, SomeBody, StandsBehind};
+    ghost use Rattle.vms_command.specs.Lines.{LinesAbove};
+    ghost use Rattle.vms_command.specs.JobStates.{BeginsBody, EndsBody, TakesBodyLine, SomeBody, StandsAfter};
 
-    /// Before the first line, and appends what is printed there.
+    /// Begins before the first line, and appends what is printed there.
     pub(crate) fn begin(
         alloc: Global,
         header: Header,
@@ -43,7 +43,7 @@ impl<B: Body> BodyJob<B> {
     }
 
     /// Judges the line of this number, and appends what is printed of it.
-    pub(crate) fn pass(
+    pub(crate) fn take_line(
         &mut self,
         number: u32,
         line: &[u8],
@@ -51,24 +51,24 @@ impl<B: Body> BodyJob<B> {
     ) -> Result<Option<Halt>, Memory>
         requires body { SomeBody B.Stands number self.old }
         requires most { number ≤ most_lines }
-        ensures { IfOk result (λ halt. (header : Header) (above : Above) (kept : B.Kept) →
-            StandsBehind B.Stands header above kept self.old →
-            PassesBody B.command B.Stands header number above kept (judged header above.lines line.now) halt
+        ensures { IfOk result (λ halt. (header : Header) (above : LinesAbove) (kept : B.Kept) →
+            StandsAfter B.Stands header above kept self.old →
+            TakesBodyLine B.command B.Stands header number above kept (judged header above.lines line.now) halt
             out.old.items out.new.items self.new) }
     {
         let judged = self.judge.judge(&self.header, line);
         if let Some(halt) = self.tally.count(&judged) {
             return Ok(Some(halt));
         }
-        self.body.pass(&self.header, number, &judged, out)?;
+        self.body.take_line(&self.header, number, &judged, out)?;
         Ok(None)
     }
 
     /// Appends what is printed at the end of the trace, and says how the command ends.
     pub(crate) fn end(&mut self, out: &mut Vec<u8>) -> Result<Ending, Memory>
         requires { (n : ℕ) × SomeBody B.Stands n self.old }
-        ensures { IfOk result (λ ending. (header : Header) (above : Above) (kept : B.Kept) →
-            StandsBehind B.Stands header above kept self.old →
+        ensures { IfOk result (λ ending. (header : Header) (above : LinesAbove) (kept : B.Kept) →
+            StandsAfter B.Stands header above kept self.old →
             EndsBody B.command B.Shows header above kept ending out.old.items out.new.items) }
     {
         self.body

@@ -3,7 +3,7 @@ ghost use Rattle.vms_command.specs.Commands.{ending_of};
 
 use vms_stream::Ending;
 
-/// How a trace ends of whose lines so many were refused.
+/// The ending of a trace that was read to its end: lines that were refused make it `Refused`.
 pub fn ending_of(refused: u32) -> Ending
     ensures { result ≡ ending_of refused }
 {

@@ -9,8 +9,6 @@ mod following;
 mod laws;
 mod printing;
 mod tallies;
-#[cfg(test)]
-mod tests;
 mod trace_jobs;
 
 pub use bodies::Body;

@@ -1,6 +1,7 @@
 ghost use Rattle.std.specs.Prelude.{◌≡◌, ◌++◌, OnOk};
 ghost use Rattle.std.specs.Fmt.{decimal};
-ghost use Rattle.vms_command.specs.Printing.{done_line, header_cause, header_line, line_cause, line_prefix, refused_line};
+ghost use Rattle.vms_command.specs.Printing.{done_line, header_cause, header_line, line_cause, line_prefix};
+ghost use Rattle.vms_command.specs.Printing.{refused_line};
 
 use itoa::Buffer;
 use vms_base::Memory;

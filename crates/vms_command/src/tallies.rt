@@ -1,8 +1,8 @@
 ghost use Rattle.std.specs.Prelude.{◌≡◌, ◌+◌, ◌<◌, ◌^◌, Ok};
 ghost use Rattle.vms_command.specs.Limits.{is_report};
 
-use vms_stream::Halt;
 use vms_line::{Boundary, Line, LineCause};
+use vms_stream::Halt;
 
 /// The most phases that have a lane line.
 const MOST_PHASES: u32 = 10_000;
@@ -27,12 +27,12 @@ pub(crate) struct Tally {
 impl Tally {
     ghost use Rattle.vms_text.specs.declared.acts.Act.{Act};
     ghost use Rattle.vms_text.specs.declared.acts.Lane.{Lane};
-    ghost use Rattle.vms_command.specs.Lines.{Above, nothing_above};
-    ghost use Rattle.vms_command.specs.Tallies.{Adds, Tells};
+    ghost use Rattle.vms_command.specs.Lines.{LinesAbove, nothing_above};
+    ghost use Rattle.vms_command.specs.Tallies.{Adds, IsTallyOf};
 
     /// Before the first line.
     pub(crate) fn zero() -> Tally
-        ensures { Tells nothing_above result }
+        ensures { IsTallyOf nothing_above result }
     {
         Tally {
             accepted: 0,
@@ -43,11 +43,11 @@ impl Tally {
         }
     }
 
-    /// Adds a line of which this was judged, unless it passes a limit.
+    /// Adds a line by what was judged of it, unless it exceeds a limit.
     pub(crate) fn count(&mut self, judged: &Result<Line, LineCause>) -> Option<Halt>
         requires accepted { self.old.accepted + 1 < 2 ^ 32 }
         requires refused { self.old.refused + 1 < 2 ^ 32 }
-        ensures { (above : Above) → Tells above self.old → Adds above judged.now result self.new }
+        ensures { (above : LinesAbove) → IsTallyOf above self.old → Adds above judged.now result self.new }
     {
         match judged {
             Ok(line) => self.add(line),
@@ -61,7 +61,7 @@ impl Tally {
     /// Adds a line that counts, unless it opens a phase too many or is a report too many. A blank line changes nothing.
     fn add(&mut self, line: &Line) -> Option<Halt>
         requires { self.old.accepted + 1 < 2 ^ 32 }
-        ensures { (above : Above) → Tells above self.old → Adds above (Ok line.now) result self.new }
+        ensures { (above : LinesAbove) → IsTallyOf above self.old → Adds above (Ok line.now) result self.new }
     {
         match *line {
             Line::Blank => None,
@@ -73,7 +73,7 @@ impl Tally {
     /// Adds a line of a lane.
     fn add_lane(&mut self) -> Option<Halt>
         requires { self.old.accepted + 1 < 2 ^ 32 }
-        ensures { (above : Above) (lane : Lane) (act : Act) → Tells above self.old →
+        ensures { (above : LinesAbove) (lane : Lane) (act : Act) → IsTallyOf above self.old →
             Adds above (Ok (Line.Lane lane act)) result self.new }
     {
         if self.in_phase {
@@ -81,7 +81,7 @@ impl Tally {
             return None;
         }
         if self.phases >= MOST_PHASES {
-            return Some(Halt::Passes);
+            return Some(Halt::Exceeds);
         }
         self.phases += 1;
         self.in_phase = true;
@@ -92,7 +92,8 @@ impl Tally {
     /// Adds a boundary line.
     fn add_boundary(&mut self, boundary: Boundary) -> Option<Halt>
         requires { self.old.accepted + 1 < 2 ^ 32 }
-        ensures { (above : Above) → Tells above self.old → Adds above (Ok (Line.Boundary boundary)) result self.new }
+        ensures { (above : LinesAbove) → IsTallyOf above self.old
+            → Adds above (Ok (Line.Boundary boundary)) result self.new }
     {
         if !is_report(boundary) {
             self.in_phase = false;
@@ -100,7 +101,7 @@ impl Tally {
             return None;
         }
         if self.reports >= MOST_REPORTS {
-            return Some(Halt::Passes);
+            return Some(Halt::Exceeds);
         }
         self.reports += 1;
         self.in_phase = false;

@@ -1,5 +1,6 @@
 -- What a loop of writes has appended so far.
-use Rattle.std.proofs.Common.{◌≡◌, ℕ, ◌+◌, ◌-◌, ◌≤◌, List, ◌++◌, length, take, drop, Option, arith, length-drop, sym, ap, ◌∙◌, subst, drop-drop}
+use Rattle.std.proofs.Common.{◌≡◌, ℕ, ◌+◌, ◌-◌, ◌≤◌, List, ◌++◌, length, take, drop, Option, arith, length-drop, sym}
+use Rattle.std.proofs.Common.{ap, ◌∙◌, subst, drop-drop}
 use Rattle.std.proofs.Math.Seq.{take-add}
 use Rattle.std.proofs.lemmas.List.{take_rest}
 use Rattle.std.specs.Io.KnownBytes.{Appends}
@@ -13,7 +14,8 @@ pub record Wrote (held held' : Option (List ℕ)) (all rest : List ℕ) : Type 0
   pub appended : Appends held held' (take done all)
 
 -- the next n bytes were appended too
-pub Wrote-more : (held mid now : Option (List ℕ)) (all rest : List ℕ) (n : ℕ) → Wrote held mid all rest → n ≤ length rest
+pub Wrote-more : (held mid now : Option (List ℕ)) (all rest : List ℕ) (n : ℕ) → Wrote held mid all rest
+    → n ≤ length rest
     → Appends mid now (take n rest) → Wrote held now all (take (length rest - n) (drop n rest))
 Wrote-more held mid now all rest n wrote within more =
     let d : ℕ = wrote.done in

@@ -1,7 +1,7 @@
 -- The count of faults of a source or a sink.
 use Rattle.std.specs.Prelude.{◌≡◌, ℕ, ◌+◌, ◌-◌, ◌^◌, ◌<◌, ◌≤◌, min, List, Contains, Result, MatchResult}
 
--- the count rose, or it stands at the last value that it has
+-- the count rose, or it stands at its largest value
 pub record Rose (before now : ℕ) : Type 0 where
   pub rose : min (before + 1) (2 ^ 64 - 1) ≤ now
   pub kept : before ≤ now

@@ -1,5 +1,6 @@
 -- What a buffer gets from a source.
-use Rattle.std.specs.Prelude.{◌≡◌, ◌≢◌, ℕ, ◌-◌, ◌<◌, ◌≤◌, max, List, [], ◌∷◌, ◌++◌, length, take, drop, slice_index_or, Option, Contains}
+use Rattle.std.specs.Prelude.{◌≡◌, ◌≢◌, ℕ, ◌-◌, ◌<◌, ◌≤◌, max, List, [], ◌∷◌, ◌++◌, length, take, drop, slice_index_or}
+use Rattle.std.specs.Prelude.{Option, Contains}
 use Rattle.std.specs.Io.KnownBytes.{Consumes, IsAtEnd}
 
 -- the room of a buffer holds what was read, and never falls below 64 KiB
@@ -21,8 +22,8 @@ pub record Gets (held held' : List ℕ) (left left' : Option (List ℕ)) (n : �
   pub ends : n ≡ 0 → IsAtEnd left'
   pub bounded : n ≤ max 65536 (length held)
 
--- the first n bytes are whole lines: they end with a newline, or are none, and no newline stands behind them
+-- the first n bytes are whole lines: they end with a newline, or are none, and no newline stands after them
 pub record WholeLines (bytes : List ℕ) (n : ℕ) : Type 0 where
   pub within : n ≤ length bytes
   pub ends : 0 < n → take n bytes ≡ take (n - 1) bytes ++ 10 ∷ []
-  pub behind : ¬ Contains (drop n bytes) 10
+  pub after : ¬ Contains (drop n bytes) 10

@@ -12,7 +12,7 @@ const LEAST_ROOM: usize = 65536;
 pub struct ReadBuffer {
     room: Vec<u8>,
     held: usize,
-    /// So many of the first bytes were searched, and no newline is among them.
+    /// How many of the first bytes were searched. No newline is among them.
     searched: usize,
 }
 
@@ -27,7 +27,8 @@ impl Model for ReadBuffer {
     ghost invariant = { λ b. Roomy b.held (vec_len b.room) × Searched b.room.items b.held b.searched };
 }
 
-ghost use Rattle.std.specs.Prelude.{◌≡◌, ℕ, ◌+◌, ◌<◌, ◌≤◌, max, List, [], length, take, drop, vec_len, IfOk, OnOk, OnErr, IsErrOf};
+ghost use Rattle.std.specs.Prelude.{◌≡◌, ℕ, ◌+◌, ◌<◌, ◌≤◌, max, List, [], length, take, drop, vec_len, IfOk, OnOk};
+ghost use Rattle.std.specs.Prelude.{OnErr, IsErrOf};
 ghost use Rattle.std.specs.Io.KnownBytes.{Keeps, ReadConsumes};
 ghost use Rattle.vms_io.specs.Faults.{CountsFaults, Rose};
 ghost use Rattle.vms_io.specs.Reading.{Gets, Roomy, WholeLines};
@@ -78,7 +79,7 @@ impl ReadBuffer {
         self.searched = self.searched.saturating_sub(count);
     }
 
-    /// Reads once, behind the bytes that are held, and says how many bytes more they are: 0 at the end of the
+    /// Reads once, after the bytes that are held, and says how many bytes more they are: 0 at the end of the
     /// input. A buffer that is full first gets twice its room.
     pub fn read_more<S: Source>(&mut self, src: &mut S) -> Result<usize, ReadError>
         ensures ok { IfOk result (Gets self.old self.new (S.remaining src.old) (S.remaining src.new)) }
@@ -90,7 +91,7 @@ impl ReadBuffer {
         ensures full { IsErrOf result ReadError.Memory → 65536 ≤ length self.old }
     {
         make_room(&mut self.room, self.held)?;
-        let taken = read_behind(src, self.room.as_mut_slice(), self.held)?;
+        let taken = read_into(src, self.room.as_mut_slice(), self.held)?;
         self.held += taken;
         Ok(taken)
     }
@@ -122,8 +123,8 @@ fn make_room(room: &mut Vec<u8>, held: usize) -> Result<(), Memory>
     Ok(())
 }
 
-/// Reads once into `room`, behind the first `held` bytes, as many as are held or 64 KiB at most.
-fn read_behind<S: Source>(src: &mut S, room: &mut [u8], held: usize) -> Result<usize, Failed>
+/// Reads once into `room`, after the first `held` bytes, as many as are held or 64 KiB at most.
+fn read_into<S: Source>(src: &mut S, room: &mut [u8], held: usize) -> Result<usize, Failed>
     requires { held < length room.old }
     ensures front { take held room.new ≡ take held room.old }
     ensures fits { IfOk result (λ n. held + n ≤ length room.new) }

@@ -1,7 +1,7 @@
 use thiserror::Error;
 use vms_base::Memory;
 
-/// A read or a write that a source or a sink refused; its count of faults tells that it did.
+/// A read or a write that a source or a sink refused. Its count of faults rose.
 #[derive(Clone, Copy, Debug, PartialEq, Eq, Error)]
 #[error("the device failed")]
 pub struct Failed;

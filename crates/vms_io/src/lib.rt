@@ -11,8 +11,6 @@ mod sources;
 mod std_sink;
 mod std_source;
 mod tallies;
-#[cfg(test)]
-mod tests;
 
 pub use buffers::ReadBuffer;
 pub use failures::{Failed, ReadError};

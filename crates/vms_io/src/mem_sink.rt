@@ -4,8 +4,8 @@ use std::alloc::Global;
 use std::marker::Model;
 use vms_base::Memory;
 
-/// Keeps what is written in memory that is reserved before, and fails once it is full and at calls that are chosen
-/// before.
+/// Keeps what is written in memory that is reserved at the start. It fails once that is full, and at the calls that it
+/// was told.
 #[derive(Drop)]
 pub struct MemSink {
     room: Vec<u8>,
@@ -20,7 +20,13 @@ impl Model for MemSink {
 
     ghost Value = { Store };
 
-    ghost view = { λ out. record { written = take out.used (vec_items out.room); room = vec_len out.room; piece = out.piece; calls = out.calls } };
+    ghost view = { λ out. record {
+      written = take out.used (vec_items out.room);
+      room = vec_len out.room;
+      piece =
+          out.piece;
+      calls = out.calls;
+    } };
 
     ghost invariant = { λ out. Placed out.used (vec_len out.room) out.piece };
 }

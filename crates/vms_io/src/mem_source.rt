@@ -2,7 +2,7 @@ use crate::tallies::Calls;
 use crate::{Failed, Source};
 use std::marker::Model;
 
-/// Gives the bytes of a vector, some of them a call, and fails at calls that are chosen before.
+/// Gives the bytes of a vector, some of them a call. It fails at the calls that it was told.
 #[derive(Drop)]
 pub struct MemSource {
     bytes: Vec<u8>,
@@ -17,7 +17,12 @@ impl Model for MemSource {
 
     ghost Value = { Supply };
 
-    ghost view = { λ src. record { left = drop src.given (vec_items src.bytes); piece = src.piece; calls = src.calls } };
+    ghost view = { λ src. record {
+      left = drop src.given (vec_items src.bytes);
+      piece = src.piece;
+      calls =
+          src.calls;
+    } };
 
     ghost invariant = { λ src. Placed src.given (vec_len src.bytes) src.piece };
 }
@@ -59,7 +64,7 @@ impl Source for MemSource {
         ensures faults { CountsFaults self.old.calls.failed self.new.calls.failed result }
         ensures fails { IsErr result ↔ FailsNext self.old.calls }
         ensures size { IfOk result (λ n. n ≡ read_size self.old (length buf.old)) }
-        ensures behind { IfOk result (λ n. drop n buf.new ≡ drop n buf.old) }
+        ensures after { IfOk result (λ n. drop n buf.new ≡ drop n buf.old) }
         ensures ok { IfOk result (λ n. self.new ≡ after_read n self.old) }
         ensures err { OnErr result (self.new ≡ after_read_fault self.old) }
     {

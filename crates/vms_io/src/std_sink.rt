@@ -6,7 +6,7 @@ use crate::{Failed, Sink};
 use std::io::{ErrorKind, Write};
 
 /// A writer of the standard library, such as standard output, with a count of its errors. It is flushed after each
-/// write, so a write may fail whose bytes have reached the writer: it tells no bytes.
+/// write. So a write may fail although its bytes reached the writer, and the sink tells no bytes.
 #[derive(Drop)]
 pub struct StdSink<W> {
     writer: W,
@@ -30,7 +30,7 @@ impl<W: Write> Sink for StdSink<W> {
         requires { 0 < length bytes.now }
         ensures some { IfOk result (λ n. (1 ≤ n) × (n ≤ length bytes.now)) }
         ensures faults { CountsFaults self.old.errors self.new.errors result }
-        ensures passed { IfOk result (λ n.
+        ensures written { IfOk result (λ n.
             Appends (W.contents self.old.writer) (W.contents self.new.writer) (take n bytes.now)) }
     {
         let result = write_once(&mut self.writer, bytes);
@@ -45,7 +45,7 @@ impl<W: Write> Sink for StdSink<W> {
 fn write_once<W: Write>(writer: &mut W, bytes: &[u8]) -> Result<usize, Failed>
     requires { 0 < length bytes.now }
     ensures some { IfOk result (λ n. (1 ≤ n) × (n ≤ length bytes.now)) }
-    ensures passed { IfOk result (λ n. Appends (W.contents writer.old) (W.contents writer.new) (take n bytes.now)) }
+    ensures written { IfOk result (λ n. Appends (W.contents writer.old) (W.contents writer.new) (take n bytes.now)) }
 {
     for _ in 0..u64::MAX {
         match writer.write(bytes) {

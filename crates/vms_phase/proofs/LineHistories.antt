@@ -1,5 +1,6 @@
 -- The lines of an open phase make a history.
-use Rattle.std.proofs.Common.{◌≡◌, ◌≢◌, ℕ, ◌+◌, ◌≤◌, nat_eq, ◌&&◌, Bool, true, false, ℤ, unsigned_abs, List, [], ◌∷◌, ◌++◌, map, Some, refl, sym, ap, subst, ◌∙◌, arith, if◌then◌else◌, ⊎_elim, append_assoc}
+use Rattle.std.proofs.Common.{◌≡◌, ◌≢◌, ℕ, ◌+◌, ◌≤◌, nat_eq, ◌&&◌, Bool, true, false, ℤ, unsigned_abs, List, [], ◌∷◌}
+use Rattle.std.proofs.Common.{◌++◌, map, Some, refl, sym, ap, subst, ◌∙◌, arith, if◌then◌else◌, ⊎_elim, append_assoc}
 use Rattle.std.proofs.lemmas.Bool.{cases_eq}
 use Rattle.std.proofs.lemmas.List.{map-append}
 use Rattle.std.proofs.lemmas.Bool.Decides.{nat_tests}
@@ -28,7 +29,8 @@ use Rattle.vms_calls.proofs.LoneChanges.{GoesOnWithChange-holds}
 use Rattle.vms_phase.specs.FileOrder.{Follow, Makes, is_among, opening_of, pass_of, splits_from}
 use Rattle.vms_phase.specs.FileOrder.Follow.{line}
 use Rattle.vms_phase.specs.OpenPhases.{MayOpen, MakesLines, IsOpen, IsDelta, Follows, act_of, change_item, volume}
-use Rattle.vms_phase.proofs.Openings.{IsLegal-splits, own-main, own-other, owner-lane, lives-lane, pass_of-least, pass_of-most, spent-none, state_after-splits}
+use Rattle.vms_phase.proofs.Openings.{IsLegal-splits, own-main, own-other, owner-lane, lives-lane, pass_of-least}
+use Rattle.vms_phase.proofs.Openings.{pass_of-most, spent-none, state_after-splits}
 use Rattle.vms_script.proofs.Elements.{All-front, All-last}
 use Rattle.vms_script.proofs.PhaseLines.{volume-append as volume_of_lines-append}
 use Rattle.vms_script.specs.Totals.{line_of}
@@ -87,13 +89,13 @@ pub volume-item : (items : List Item) (n : ℕ) (cpu : CpuId) (k : CounterId) (d
 volume-item items n cpu k delta how fits c l = volume-append c l items (change_item n cpu k delta how ∷ [])
     ∙ ap (λ v. volume c l items + (v + 0)) (spent_by-change c l cpu k delta how fits)
 
-Makes-change : (facts : Facts) (cpu : CpuId) (k : CounterId) (delta : ℤ) (how : Mode) (steps : List Step)
+Makes-of_mode : (facts : Facts) (cpu : CpuId) (k : CounterId) (delta : ℤ) (how : Mode) (steps : List Step)
     → IsDelta how delta → IsChangeAlone facts.layout cpu k delta how steps
     → Makes facts (Cpu cpu) (act_of how k delta) steps
-Makes-change facts cpu k delta Modify steps fits alone = alone
-Makes-change facts cpu k delta Raise steps fits alone =
+Makes-of_mode facts cpu k delta Modify steps fits alone = alone
+Makes-of_mode facts cpu k delta Raise steps fits alone =
     subst (λ (z : ℤ). IsChangeAlone facts.layout cpu k z Raise steps) fits alone
-Makes-change facts cpu k delta Lower steps fits alone =
+Makes-of_mode facts cpu k delta Lower steps fits alone =
     subst (λ (z : ℤ). IsChangeAlone facts.layout cpu k z Lower steps) fits alone
 
 module _ (facts : Facts) (lanes : List Lane) (items : List Item) (h : History) (now : State)
@@ -143,7 +145,7 @@ module _ (facts : Facts) (lanes : List Lane) (items : List Item) (h : History) (
     follow = λ more h' follow. subst (λ (all : List Item). Follow facts lanes all (opening_of lanes) h')
         (sym (append_assoc items (item ∷ []) more))
         (makes.follow (item ∷ more) h'
-        (line item more steps h h' (Makes-change facts cpu k delta how steps fits follows.change) follow));
+        (line item more steps h h' (Makes-of_mode facts cpu k delta how steps fits follows.change) follow));
     main = follows.others 0 (λ same. p-other (sym same)) ∙ makes.main;
     nothing_carried = λ q other. ⊎_elim
         (λ (mine : q ≡ p). subst (λ (r : ℕ). CarriesNothing facts.layout (own (after p steps h) r))

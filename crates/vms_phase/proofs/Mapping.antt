@@ -1,8 +1,9 @@
 -- The images of the first items of a list.
-use Rattle.std.proofs.Common.{◌≡◌, ℕ, ◌+◌, ◌<◌, List, [], ◌∷◌, ◌++◌, length, map, take, get_or, ap, sym, ◌∙◌, append_assoc}
+use Rattle.std.proofs.Common.{◌≡◌, ℕ, ◌+◌, ◌<◌, List, [], ◌∷◌, ◌++◌, length, map, take, get_or, ap, sym, ◌∙◌}
+use Rattle.std.proofs.Common.{append_assoc}
 use Rattle.std.proofs.lemmas.List.{take_more, map-append}
 
--- an item more, behind other items
+-- an item more, after other items
 pub map-take_more : {X Y : Type 0} (front : List Y) (f : X → Y) (xs : List X) (i : ℕ) (d : X) → i < length xs
     → (front ++ map f (take i xs)) ++ f (get_or xs i d) ∷ [] ≡ front ++ map f (take (i + 1) xs)
 map-take_more front f xs i d within =

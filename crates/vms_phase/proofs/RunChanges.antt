@@ -1,6 +1,8 @@
 -- What a change leaves as it was: the settings, every differential within its threshold, and system-wide values that
 -- are the sums of the global ones.
-use Rattle.std.proofs.Common.{◌≡◌, ◌≢◌, ℕ, ◌<◌, ◌≤◌, nat_eq, Bool, true, false, ℤ, pos, ◌+ℤ◌, unsigned_abs, length, refl, sym, ap, subst, arith, if◌then◌else◌, length-set, get_or-set_same, get_or-set_other, ⊎_elim}
+use Rattle.std.proofs.Common.{◌≡◌, ◌≢◌, ℕ, ◌<◌, ◌≤◌, nat_eq, Bool, true, false, ℤ, pos, ◌+ℤ◌, unsigned_abs, length}
+use Rattle.std.proofs.Common.{refl, sym, ap, subst, arith, if◌then◌else◌, length-set, get_or-set_same, get_or-set_other}
+use Rattle.std.proofs.Common.{⊎_elim}
 use Rattle.std.proofs.lemmas.Bool.{cases_eq}
 use Rattle.std.proofs.lemmas.Bool.Decides.{nat_tests}
 use Rattle.std.proofs.lemmas.Int.{ints}
@@ -10,7 +12,8 @@ use Rattle.vms_base.proofs.Cells.{cell-injective, cell-lt}
 use Rattle.vms_base.proofs.Counts.{item_of-lt}
 use Rattle.vms_history.proofs.SumLaws.{sum_below-changed}
 use Rattle.vms_core.specs.declared.states.State.{State}
-use Rattle.vms_core.specs.Cells.{HasShape, counters_of, value_at, system_at, diff_at, threshold_at, mark_at, cpu_at, acknowledged_at, threshold_sets_at, mark_sets_at}
+use Rattle.vms_core.specs.Cells.{HasShape, counters_of, value_at, system_at, diff_at, threshold_at, mark_at, cpu_at}
+use Rattle.vms_core.specs.Cells.{acknowledged_at, threshold_sets_at, mark_sets_at}
 use Rattle.vms_core.specs.Changes.{differential_after, carried_by}
 use Rattle.vms_core.specs.ChangedStates.{with_change_of, with_change}
 use Rattle.vms_core.proofs.ChangeLemmas.{differential_after-within}

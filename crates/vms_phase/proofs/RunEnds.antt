@@ -24,16 +24,16 @@ EndsEach now = (header : Header) (from : State) (items : List Item) → IsOpen (
     → All (IsOfOnline (facts_of header from)) items → EndsPhase header from items now
 
 -- phases that lead somewhere, and further ones from there
-Leads-append : (header : Header) (s s' s'' : State) (scripts more : List (List Item)) (phases later : List Phase)
+Leads-joined : (header : Header) (s s' s'' : State) (scripts more : List (List Item)) (phases later : List Phase)
     → Leads header s scripts phases s' → Leads header s' more later s''
     → Leads header s (scripts ++ more) (phases ++ later) s''
-Leads-append header s s' s'' [] more [] later leads rest =
+Leads-joined header s s' s'' [] more [] later leads rest =
     subst (λ (t : State). Leads header t more later s'') (sym leads) rest
-Leads-append header s s' s'' [] more (phase ∷ phases) later leads rest = absurd leads
-Leads-append header s s' s'' (items ∷ scripts) more [] later leads rest = absurd leads
-Leads-append header s s' s'' (items ∷ scripts) more (phase ∷ phases) later leads rest = (
+Leads-joined header s s' s'' [] more (phase ∷ phases) later leads rest = absurd leads
+Leads-joined header s s' s'' (items ∷ scripts) more [] later leads rest = absurd leads
+Leads-joined header s s' s'' (items ∷ scripts) more (phase ∷ phases) later leads rest = (
   leads.0,
-  Leads-append header (settled (state_after phase.facts phase.history)) s' s'' scripts more phases later leads.1 rest,
+  Leads-joined header (settled (state_after phase.facts phase.history)) s' s'' scripts more phases later leads.1 rest,
 )
 
 -- past the end of the open phase
@@ -48,7 +48,7 @@ IsRun-next header ended items now run ends =
       from = now;
       phases = run.phases ++ ends.0 ∷ [];
       is_start = run.is_start;
-      leads = Leads-append header run.start run.from now ended (items ∷ []) run.phases (ends.0 ∷ []) run.leads ends.1;
+      leads = Leads-joined header run.start run.from now ended (items ∷ []) run.phases (ends.0 ∷ []) run.leads ends.1;
       may_begin = base;
       opens = IsOpen-none (facts_of header now) base;
       online = All-nil (IsOfOnline (facts_of header now));
@@ -77,7 +77,7 @@ in_order header ended (item ∷ items) start from now phases is_start leads ends
   end = now;
   phases = phases ++ ends.0 ∷ [];
   is_start = is_start;
-  leads = Leads-append header start from now ended ((item ∷ items) ∷ []) phases (ends.0 ∷ []) leads ends.1;
+  leads = Leads-joined header start from now ended ((item ∷ items) ∷ []) phases (ends.0 ∷ []) leads ends.1;
 }
 
 pub InFileOrder-run : (header : Header) (ended : List (List Item)) (items : List Item) (now : State)

@@ -1,5 +1,6 @@
 -- The page counters of a run are small, and may open the next phase.
-use Rattle.std.proofs.Common.{◌≡◌, ℕ, ◌*◌, ◌^◌, ◌<◌, ◌≤◌, ℤ, pos, ◌+ℤ◌, unsigned_abs, List, [], ◌∷◌, ◌++◌, sym, ap, subst, ◌∙◌, arith, if◌then◌else◌}
+use Rattle.std.proofs.Common.{◌≡◌, ℕ, ◌*◌, ◌^◌, ◌<◌, ◌≤◌, ℤ, pos, ◌+ℤ◌, unsigned_abs, List, [], ◌∷◌, ◌++◌, sym, ap}
+use Rattle.std.proofs.Common.{subst, ◌∙◌, arith, if◌then◌else◌}
 use Rattle.std.proofs.lemmas.Int.{ints}
 use Rattle.vms_base.specs.declared.headers.Header.{Header}
 use Rattle.vms_base.specs.declared.kinds.CpuState.TheVariants.{Online, Absent}
@@ -20,7 +21,8 @@ use Rattle.vms_core.proofs.SettledEnds.{values_of_item-most}
 use Rattle.vms_core.proofs.MarkCovers.{Covers-less, if_present-least}
 use Rattle.vms_phase.specs.Runs.{IsRun, IsOfRun}
 use Rattle.vms_calls.specs.HeaderFacts.{facts_of}
-use Rattle.vms_phase.proofs.RunChanges.{threshold-same, mark-same, cpu-same, acknowledged-same, threshold_sets-same, mark_sets-same}
+use Rattle.vms_phase.proofs.RunChanges.{threshold-same, mark-same, cpu-same, acknowledged-same, threshold_sets-same}
+use Rattle.vms_phase.proofs.RunChanges.{mark_sets-same}
 use Rattle.vms_phase.proofs.RunTotals.{plain_total-most}
 use Rattle.vms_text.specs.declared.acts.Item.{Item}
 use Rattle.vms_phase.specs.Totals.{counter_total}

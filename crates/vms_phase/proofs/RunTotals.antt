@@ -1,5 +1,6 @@
 -- The lines of a run's phases: what they change together, and what they spend.
-use Rattle.std.proofs.Common.{◌≡◌, ℕ, ◌+◌, ◌*◌, ◌^◌, ◌≤◌, nat_eq, ◌&&◌, Bool, true, false, ℤ, ◌+ℤ◌, unsigned_abs, List, [], ◌∷◌, ◌++◌, map, ap, arith, if◌then◌else◌}
+use Rattle.std.proofs.Common.{◌≡◌, ℕ, ◌+◌, ◌*◌, ◌^◌, ◌≤◌, nat_eq, ◌&&◌, Bool, true, false, ℤ, ◌+ℤ◌, unsigned_abs, List}
+use Rattle.std.proofs.Common.{[], ◌∷◌, ◌++◌, map, ap, arith, if◌then◌else◌}
 use Rattle.std.specs.Prelude.{All}
 use Rattle.std.proofs.lemmas.Bool.Decides.{nat_tests}
 use Rattle.std.proofs.lemmas.Int.{ints}
@@ -14,7 +15,8 @@ use Rattle.vms_phase.specs.OpenPhases.{IsDelta, act_of, change_item, volume}
 use Rattle.vms_phase.proofs.CounterTotals.{changes_by-append}
 use Rattle.vms_phase.proofs.ItemSums.{base_of-most}
 use Rattle.vms_phase.proofs.LineHistories.{volume-item}
-use Rattle.vms_script.specs.Totals.{ArePhases, change_by, changes_by_all, line_of, lines_of_phases, plain_total, sizes_by_all}
+use Rattle.vms_script.specs.Totals.{ArePhases, change_by, changes_by_all, line_of, lines_of_phases, plain_total}
+use Rattle.vms_script.specs.Totals.{sizes_by_all}
 use Rattle.vms_script.specs.Volumes.{spent_on_counter, volume as volume_of_lines}
 use Rattle.vms_base.specs.Volumes.{most_volume}
 use Rattle.vms_script.proofs.Elements.{All-last}

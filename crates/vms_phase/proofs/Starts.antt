@@ -1,30 +1,36 @@
 -- The state that a run begins with, from its lists.
-use Rattle.std.proofs.Common.{◌≡◌, ℕ, zero, suc, ◌+◌, ◌-◌, ◌*◌, ◌^◌, ◌<◌, ◌≤◌, ◌++◌, nat_eq, Bool, true, false, ℤ, pos, unsigned_abs, List, ◌∷◌, length, map, get_or, replicate, None, Option, refl, sym, ap, subst, ◌∙◌, arith, if◌then◌else◌, length-append, ⊎_elim, []}
+use Rattle.std.proofs.Common.{◌≡◌, ℕ, zero, suc, ◌+◌, ◌-◌, ◌*◌, ◌^◌, ◌<◌, ◌≤◌, ◌++◌, nat_eq, Bool, true, false, ℤ, pos}
+use Rattle.std.proofs.Common.{unsigned_abs, List, ◌∷◌, length, map, get_or, replicate, None, Option, refl, sym, ap}
+use Rattle.std.proofs.Common.{subst, ◌∙◌, arith, if◌then◌else◌, length-append, ⊎_elim, []}
 use Rattle.std.specs.List.{repeat}
 use Rattle.std.specs.Prelude.{Contains, Result, Ok, Err, IfOk}
 use Rattle.std.proofs.lemmas.Bool.{cases_lt}
 use Rattle.std.proofs.lemmas.List.Elements.{All-get_or, Contains-get_or}
 use Rattle.std.proofs.lemmas.Bool.Decides.{nat_tests}
-use Rattle.std.proofs.lemmas.List.{get_or-replicate, length-replicate, get_or_append_left, get_or-append_right, length-map, get_or-map, get_or_default}
+use Rattle.std.proofs.lemmas.List.{get_or-replicate, length-replicate, get_or_append_left, get_or-append_right}
+use Rattle.std.proofs.lemmas.List.{length-map, get_or-map, get_or_default}
 use Rattle.vms_base.specs.declared.failures.Memory.{Memory}
 use Rattle.vms_base.specs.declared.headers.Header.{Header}
 use Rattle.vms_base.specs.declared.kinds.CpuState.TheVariants.{Online, Absent}
 use Rattle.vms_base.specs.declared.kinds.ZoneSize.{ZoneSize}
 use Rattle.vms_base.specs.Headers.{IsHeader}
 use Rattle.vms_base.specs.Marks.{Covers}
-use Rattle.vms_base.specs.Places.{Shape, IsCpu, IsPlace, IsZone, IsNode, cell, counter_at, counter_count, item_count, place_count, node_of_zone}
+use Rattle.vms_base.specs.Places.{Shape, IsCpu, IsPlace, IsZone, IsNode, cell, counter_at, counter_count, item_count}
+use Rattle.vms_base.specs.Places.{place_count, node_of_zone}
 use Rattle.vms_base.specs.Sizes.{IsValidSize, size_at}
 use Rattle.vms_base.specs.Thresholds.{most_threshold}
 use Rattle.vms_core.specs.declared.states.State.{State}
 use Rattle.vms_core.specs.Bases.{IsBase, settled}
-use Rattle.vms_core.specs.Cells.{HasShape, places_of, threshold_at, mark_at, threshold_sets_at, mark_sets_at, acknowledged_at, diff_at, cpu_at}
+use Rattle.vms_core.specs.Cells.{HasShape, places_of, threshold_at, mark_at, threshold_sets_at, mark_sets_at}
+use Rattle.vms_core.specs.Cells.{acknowledged_at, diff_at, cpu_at}
 use Rattle.vms_core.specs.Peaks.{opening_peak, peak_sum, if_present}
 use Rattle.vms_history.specs.Sums.{count_below}
 use Rattle.vms_history.proofs.CountLemmas.{largest_below-least, largest_below-most}
 use Rattle.vms_core.proofs.LevelStates.{get_or-copies}
 use Rattle.vms_core.proofs.PlainData.{places_of-shaped}
 use Rattle.vms_calls.specs.Ratings.{largest_on}
-use Rattle.vms_phase.specs.Worlds.{IsStart, IsStartUnder, IsNormalRule, normal_rule, base_of_item, opening_mark, quiet_state}
+use Rattle.vms_phase.specs.Worlds.{IsStart, IsStartUnder, IsNormalRule, normal_rule, base_of_item, opening_mark}
+use Rattle.vms_phase.specs.Worlds.{quiet_state}
 use Rattle.vms_calls.specs.HeaderFacts.{facts_of}
 use Rattle.vms_phase.proofs.ItemSums.{base_of-most}
 use Rattle.vms_phase.proofs.Rows.{length-repeat, get_or-repeat}

@@ -1,5 +1,6 @@
 -- The histories of a phase in file order: the lanes' passes begin, the lines follow one another, the passes end.
-use Rattle.std.specs.Prelude.{◌≡◌, ℕ, zero, suc, nat_eq, ◌||◌, Bool, true, false, pos, negsuc, List, [], ◌∷◌, ◌++◌, if◌then◌else◌, Option, Some, None}
+use Rattle.std.specs.Prelude.{◌≡◌, ℕ, zero, suc, nat_eq, ◌||◌, Bool, true, false, pos, negsuc, List, [], ◌∷◌, ◌++◌}
+use Rattle.std.specs.Prelude.{if◌then◌else◌, Option, Some, None}
 use Rattle.vms_core.specs.Bases.{settled}
 use Rattle.vms_core.specs.Laws.{KeepsLaws}
 use Rattle.vms_core.specs.Pages.{pages, History, state_after}

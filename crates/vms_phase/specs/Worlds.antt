@@ -1,15 +1,18 @@
 -- The states of the page counters between phases.
-use Rattle.std.specs.Prelude.{◌≡◌, ℕ, ◌≤◌, ◌*◌, ◌-◌, nat_eq, List, length, replicate, ℤ, pos, if◌then◌else◌, slice_index, slice_index_or, None}
+use Rattle.std.specs.Prelude.{◌≡◌, ℕ, ◌≤◌, ◌*◌, ◌-◌, nat_eq, List, length, replicate, ℤ, pos, if◌then◌else◌}
+use Rattle.std.specs.Prelude.{slice_index, slice_index_or, None}
 use Rattle.vms_base.specs.declared.headers.Header.{Header}
 use Rattle.vms_base.specs.declared.kinds.CpuState.TheVariants.{Online}
 use Rattle.vms_base.specs.declared.kinds.ZoneSize.{ZoneSize}
 use Rattle.vms_base.specs.Marks.{linux_mark_of, cover_mark_of}
-use Rattle.vms_base.specs.Places.{IsCpu, IsZone, IsNode, IsPlace, IsCounter, IsItem, counter_count, place_count, item_of}
+use Rattle.vms_base.specs.Places.{IsCpu, IsZone, IsNode, IsPlace, IsCounter, IsItem, counter_count, place_count}
+use Rattle.vms_base.specs.Places.{item_of}
 use Rattle.vms_base.specs.Sizes.{IsValidSize, size_at}
 use Rattle.vms_base.specs.Thresholds.{normal_threshold_of}
 use Rattle.vms_core.specs.declared.states.State.{State}
 use Rattle.vms_calls.specs.Ratings.{largest_on}
-use Rattle.vms_core.specs.Cells.{HasShape, value_at, system_at, diff_at, threshold_at, threshold_sets_at, mark_at, mark_sets_at, cpu_at, acknowledged_at}
+use Rattle.vms_core.specs.Cells.{HasShape, value_at, system_at, diff_at, threshold_at, threshold_sets_at, mark_at}
+use Rattle.vms_core.specs.Cells.{mark_sets_at, cpu_at, acknowledged_at}
 use Rattle.vms_history.specs.Sums.{sum_below}
 
 -- the base of a counter, and of an item: the sum over its counters

@@ -6,8 +6,6 @@ mod runs;
 mod settings;
 mod starting;
 mod summing;
-#[cfg(test)]
-mod tests;
 
 pub use replaying::PhaseReplay;
 pub use runs::RunReplay;

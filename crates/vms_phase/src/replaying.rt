@@ -52,7 +52,7 @@ impl PhaseReplay {
         }
     }
 
-    /// The page counters behind the lines so far.
+    /// The page counters after the lines so far.
     #[inline]
     pub fn state(&self) -> &State
         ensures { result.now ≡ self.now.state }

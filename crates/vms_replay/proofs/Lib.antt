@@ -1,5 +1,5 @@
 pub mod LineChanges
 pub mod Scripts
-pub mod Passing
+pub mod ReplayedLines
 pub mod Totals
 pub mod Waiting

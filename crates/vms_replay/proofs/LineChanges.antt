@@ -6,7 +6,7 @@ use Rattle.vms_base.specs.declared.kinds.Mode.TheVariants as modes
 use Rattle.vms_phase.specs.OpenPhases.{act_of}
 use Rattle.vms_replay.specs.declared.changes.Change.{Change}
 use Rattle.vms_replay.specs.Replaying.{is_replayed_act}
-use Rattle.vms_replay.specs.Standing.{change_of}
+use Rattle.vms_replay.specs.ReplayStates.{change_of}
 use Rattle.vms_text.specs.declared.acts.Act.{Act}
 use Rattle.vms_text.specs.declared.acts.Act.TheVariants.{Mod, Inc, Dec}
 use Rattle.vms_text.specs.declared.acts.Lane.{Lane as LaneOf}
@@ -17,7 +17,8 @@ pub record IsChange (lane : LaneOf) (act : Act) (change : Change) : Type 0 where
   pub of_cpu : lane ≡ Cpu change.cpu
   pub act_is : act ≡ act_of change.mode change.counter change.pages
 
-pub change_of-is : (lane : LaneOf) (act : Act) (change : Change) → change_of lane act ≡ Some change → IsChange lane act change
+pub change_of-is : (lane : LaneOf) (act : Act) (change : Change) → change_of lane act ≡ Some change
+    → IsChange lane act change
 change_of-is (Cpu cpu) (Mod counter pages) change is =
     let same : record { cpu = cpu; counter = counter; pages = pages; mode = modes.Mod } ≡ change = cc in
     subst (IsChange (Cpu cpu) (Mod counter pages)) same (record { of_cpu = refl; act_is = refl })

@@ -26,5 +26,6 @@ lines_of_phases-ended ended items =
 pub IsRun-ended : (header : Header) (ended : List (List Item)) (items : List Item) (now : State)
     → (items ≢ [] → IsRun header (ended ++ items ∷ []) [] now) → IsRun header ended items now
     → IsRun header (ended ++ as_phase items) [] now
-IsRun-ended header ended [] now ends run = subst (λ (phases : List (List Item)). IsRun header phases [] now) (sym (append-nil ended)) run
+IsRun-ended header ended [] now ends run = subst (λ (phases : List (List Item)). IsRun header phases [] now)
+    (sym (append-nil ended)) run
 IsRun-ended header ended (item ∷ items) now ends run = ends (λ is. absurd cc)

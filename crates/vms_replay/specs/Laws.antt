@@ -1,6 +1,6 @@
 -- Laws of what a replay prints.
 use Rattle.std.specs.Prelude.{◌≡◌, ◌≢◌, ℕ, List, [], Some}
-use Rattle.vms_stream.specs.declared.halts.Halt.TheVariants.{Refuses, Passes}
+use Rattle.vms_stream.specs.declared.halts.Halt.TheVariants.{Refuses, Exceeds}
 use Rattle.vms_stream.specs.Machines.{halted, output, printed}
 use Rattle.vms_replay.specs.Replaying.{replay, replay_output}
 use Rattle.vms_text.specs.Lines.{lines_of}
@@ -10,7 +10,7 @@ abbrev pub WaitsForItsEnd : Type 0
 WaitsForItsEnd = (lines : List (List ℕ)) → halted replay replay.start lines ≢ Some Refuses →
     printed replay replay.start lines ≡ []
 
--- what is written line by line of a text within the limits is what is defined by its header and its body
+-- what a replay writes line by line of a text within the limits is its output, which header and body define
 abbrev pub WritesItsText : Type 0
-WritesItsText = (text : List ℕ) → halted replay replay.start (lines_of text) ≢ Some Passes →
+WritesItsText = (text : List ℕ) → halted replay replay.start (lines_of text) ≢ Some Exceeds →
     output replay (lines_of text) ≡ replay_output text

@@ -1,4 +1,4 @@
 pub mod Reports
 pub mod Replaying
-pub mod Standing
+pub mod ReplayStates
 pub mod Laws

@@ -1,8 +1,10 @@
--- What `replay` prints of a trace: refusals and reports, all at its end, and nothing where some line isn't replayed yet.
-use Rattle.std.specs.Prelude.{ℕ, ◌&&◌, Bool, true, false, if◌then◌else◌, ◌≡◌, List, [], ◌∷◌, ◌++◌, length, codes, Result, Ok, Err}
+-- What `replay` prints of a trace: refusals and reports, all at its end, and nothing where some line isn't replayed
+-- yet.
+use Rattle.std.specs.Prelude.{ℕ, ◌&&◌, Bool, true, false, if◌then◌else◌, ◌≡◌, List, [], ◌∷◌, ◌++◌, length, codes}
+use Rattle.std.specs.Prelude.{Result, Ok, Err}
 use Rattle.vms_base.specs.declared.headers.Header.{Header}
-use Rattle.vms_command.specs.Commands.{Command, Progress, ending_of, following}
-use Rattle.vms_command.specs.Lines.{Above}
+use Rattle.vms_command.specs.Commands.{Command, CommandState, ending_of, following}
+use Rattle.vms_command.specs.Lines.{LinesAbove}
 use Rattle.vms_command.specs.Bodies.{shown}
 use Rattle.vms_command.specs.Printing.{done_line, line_prefix, newline, refused_line}
 use Rattle.vms_command.specs.Texts.{text_of}
@@ -46,8 +48,8 @@ abbrev pub all_replayed : List Line → Bool
 all_replayed [] = true
 all_replayed (line ∷ lines) = is_replayed line && all_replayed lines
 
--- what a replay keeps of the lines of a body: what they print, the phases that ended, the oldest first, and the lines of
--- the phase that is open
+-- what a replay keeps of the lines of a body: what they print, the phases that ended, the oldest first, and the lines
+-- of the phase that is open
 pub record Kept : Type 0 where
   pub printed : List ℕ
   pub ended : List (List Item)
@@ -70,7 +72,7 @@ with_line n (Lane lane act) kept =
     record kept { items = kept.items ++ record { number = n; lane = lane; act = act } ∷ [] }
 with_line n (Boundary boundary) kept = record kept { ended = kept.ended ++ as_phase kept.items; items = [] }
 
--- with line n, of which this was judged
+-- with line n, by what was judged of it
 abbrev pub with_result : ℕ → Result Line LineCause → Kept → Kept
 with_result n (Ok line) kept = with_line n line kept
 with_result n (Err cause) kept = kept
@@ -81,7 +83,7 @@ boundary_text header n (Report Totals) kept =
     line_prefix n ++ codes "report totals" ++ newline ++ totals_report header (plain_total header (phases_so_far kept))
 boundary_text header n _ kept = []
 
--- what line n prints, of which this was judged: a refusal, or a report of the base plus the changes above it
+-- what line n prints, by what was judged of it: a refusal, or a report of the base plus the changes above it
 abbrev pub line_text : Header → ℕ → Result Line LineCause → Kept → List ℕ
 line_text header n (Ok (Boundary boundary)) kept = boundary_text header n boundary kept
 line_text header n (Ok line) kept = []
@@ -92,11 +94,11 @@ next_kept header n result kept =
     record (with_result n result kept) { printed = kept.printed ++ line_text header n result kept }
 
 -- what is printed at the end of a trace, and how the replay ends there
-abbrev pub last_text : Above → Kept → List ℕ
+abbrev pub last_text : LinesAbove → Kept → List ℕ
 last_text above kept =
     if all_replayed above.lines then kept.printed ++ done_line (length above.lines) above.refused else []
 
-abbrev pub replay_ending : Above → Ending
+abbrev pub replay_ending : LinesAbove → Ending
 replay_ending above =
     if all_replayed above.lines then ending_of above.refused else NotBuilt
 
@@ -111,17 +113,17 @@ replaying = record {
   ends = replay_ending;
 }
 
-abbrev pub replay : Machine (Progress Kept)
+abbrev pub replay : Machine (CommandState Kept)
 replay = following replaying
 
--- what is written for a text: the one line of a refused header; or a line for each refusal, the reports, and the last line;
--- or nothing, where some line that counts isn't replayed
+-- what is written for a text: the one line of a refused header; or a line for each refusal, the reports, and the last
+-- line; or nothing, where some line that counts isn't replayed
 abbrev pub replay_output : List ℕ → List ℕ
 replay_output text = text_of replaying text
 
 -- what is shown of a trace that was replayed: its phases are histories in file order
-abbrev pub HasFileOrder : Header → Above → Kept → Type 0
+abbrev pub HasFileOrder : Header → LinesAbove → Kept → Type 0
 HasFileOrder header above kept = all_replayed above.lines ≡ true → InFileOrder header (phases_in kept)
 
-abbrev pub replay_shows : Progress Kept → Type 0
+abbrev pub replay_shows : CommandState Kept → Type 0
 replay_shows = shown HasFileOrder

@@ -4,9 +4,9 @@ use std::alloc::Global;
 use vms_base::{CounterId, Header, Memory, ZoneSize};
 use vms_calc::{Rule, Rules, normal_threshold, pressure_threshold};
 use vms_command::{Body, ending_of, write_done_line, write_prefix, write_refused_line};
+use vms_line::{Act, Boundary, Lane, Line, LineCause, ReportKind};
 use vms_phase::RunReplay;
 use vms_stream::Ending;
-use vms_line::{Act, Boundary, Lane, Line, LineCause, ReportKind};
 
 /// A replay on its way through a body.
 #[derive(Drop)]
@@ -23,19 +23,19 @@ impl Replay {
     ghost use Rattle.std.specs.Prelude.{◌≡◌, ◌++◌, ℕ, true, length, slice_index_or, pos, Ok, IfOk, OnOk};
     ghost use Rattle.vms_base.specs.Headers.{IsHeader};
     ghost use Rattle.vms_base.specs.Places.{IsCounter, counter_count};
-    ghost use Rattle.vms_command.specs.Lines.{Above, nothing_above};
+    ghost use Rattle.vms_command.specs.Lines.{LinesAbove, nothing_above};
     ghost use Rattle.vms_command.specs.Printing.{line_prefix};
     ghost use Rattle.vms_calc.specs.Rules.{IsThresholdRule};
     ghost use Rattle.vms_phase.specs.Worlds.{IsNormalRule};
     ghost use Rattle.vms_replay.specs.Replaying.{Kept, boundary_text, first_kept, phases_so_far};
-    ghost use Rattle.vms_replay.specs.Standing.{Continues, Goes, Runs, SomeLine, StandsBehind};
+    ghost use Rattle.vms_replay.specs.ReplayStates.{Continues, Goes, Runs, SomeLine, StandsAfter};
     ghost use Rattle.vms_base.specs.declared.headers.Header.{Header};
     ghost use Rattle.vms_script.specs.Totals.{plain_total};
 
-    /// Behind a header, with the thresholds of the kernel's rules.
-    fn behind(alloc: Global, header: &Header) -> Result<Replay, Memory>
+    /// Before the first line of a body, with the thresholds of the kernel's rules.
+    fn make(alloc: Global, header: &Header) -> Result<Replay, Memory>
         requires { IsHeader header.now }
-        ensures { IfOk result (λ replay. StandsBehind replay header.now nothing_above first_kept) }
+        ensures { IfOk result (λ replay. StandsAfter replay header.now nothing_above first_kept) }
     {
         Replay::by_rules(
             alloc,
@@ -55,7 +55,7 @@ impl Replay {
         requires normal { IsThresholdRule (N.accepts normal) (N.answers normal) }
         requires pressure { IsThresholdRule (P.accepts pressure) (P.answers pressure) }
         requires exact { IsNormalRule (N.answers normal) }
-        ensures { IfOk result (λ replay. StandsBehind replay header.now nothing_above first_kept) }
+        ensures { IfOk result (λ replay. StandsAfter replay header.now nothing_above first_kept) }
     {
         let rules = Rules::make(normal, pressure);
         Ok(Replay {
@@ -66,8 +66,8 @@ impl Replay {
         })
     }
 
-    /// Goes past the line of this number, of which this was judged.
-    fn go_past(
+    /// Replays the line of this number, by what was judged of it.
+    fn replay_judged(
         &mut self,
         header: &Header,
         number: u32,
@@ -105,7 +105,8 @@ impl Replay {
     fn replay_act(&mut self, lane: Lane, act: Act)
         requires line { (header : Header) × IsHeader header × SomeLine self.old header (Ok (Line.Lane lane act)) }
         requires built { self.old.built ≡ true }
-        ensures { (header : Header) (n : ℕ) → IsHeader header → Goes header n (Ok (Line.Lane lane act)) self.old self.new }
+        ensures { (header : Header) (n : ℕ) → IsHeader header
+            → Goes header n (Ok (Line.Lane lane act)) self.old self.new }
     {
         match change_of(lane, act) {
             Some(change) => self
@@ -168,10 +169,10 @@ impl Replay {
     /// Holds the report of the totals, by the line of this number.
     fn report_totals(&mut self, header: &Header, number: u32) -> Result<(), Memory>
         requires header { IsHeader header.now }
-        requires runs { (above : Above) × (kept : Kept) × Runs header.now above kept self.old }
+        requires runs { (above : LinesAbove) × (kept : Kept) × Runs header.now above kept self.old }
         ensures run { OnOk result (self.new.run ≡ self.old.run) }
         ensures built { OnOk result (self.new.built ≡ self.old.built) }
-        ensures holds { OnOk result ((above : Above) (kept : Kept) → Runs header.now above kept self.old →
+        ensures holds { OnOk result ((above : LinesAbove) (kept : Kept) → Runs header.now above kept self.old →
             self.new.held.items ≡ self.old.held.items ++ boundary_text header.now number
             (Boundary.Report ReportKind.Totals) kept) }
     {
@@ -199,21 +200,21 @@ impl Replay {
 
 impl Body for Replay {
     ghost use Rattle.vms_replay.specs.Replaying.{HasFileOrder, Kept, replaying};
-    ghost use Rattle.vms_replay.specs.Standing.{StandsBehind};
+    ghost use Rattle.vms_replay.specs.ReplayStates.{StandsAfter};
 
     ghost Kept = { Kept };
 
     ghost command = { replaying };
 
-    ghost Stands = { StandsBehind };
+    ghost Stands = { StandsAfter };
 
     ghost Shows = { HasFileOrder };
 
     fn begin(alloc: Global, header: &Header, _out: &mut Vec<u8>) -> Result<Replay, Memory> {
-        Replay::behind(alloc, header)
+        Replay::make(alloc, header)
     }
 
-    fn pass(
+    fn take_line(
         &mut self,
         header: &Header,
         number: u32,
@@ -221,7 +222,7 @@ impl Body for Replay {
         _out: &mut Vec<u8>,
     ) -> Result<(), Memory> {
         if self.built {
-            self.go_past(header, number, judged)?;
+            self.replay_judged(header, number, judged)?;
         }
         Ok(())
     }

@@ -1,5 +1,5 @@
 ghost use Rattle.std.specs.Prelude.{◌≡◌};
-ghost use Rattle.vms_replay.specs.Standing.{change_of};
+ghost use Rattle.vms_replay.specs.ReplayStates.{change_of};
 
 use vms_base::{CounterId, CpuId, Mode};
 use vms_line::{Act, Lane};

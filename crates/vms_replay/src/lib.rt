@@ -6,8 +6,6 @@ mod bodies;
 mod changes;
 mod laws;
 mod reports;
-#[cfg(test)]
-mod tests;
 mod tool;
 
 pub use laws::{output_waits_for_the_end, writes_its_text};

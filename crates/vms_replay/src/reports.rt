@@ -1,4 +1,5 @@
-ghost use Rattle.std.specs.Prelude.{◌≡◌, ◌++◌, ◌∷◌, [], codes, decimal, flat_map, length, map, option_map, pos, slice_get, slice_index_or, OnOk};
+ghost use Rattle.std.specs.Prelude.{◌≡◌, ◌++◌, ◌∷◌, [], codes, decimal, flat_map, length, map, option_map, pos};
+ghost use Rattle.std.specs.Prelude.{slice_get, slice_index_or, OnOk};
 ghost use Rattle.std.specs.Fmt.{signed_decimal};
 ghost use Rattle.vms_base.specs.Headers.{class_names, declared_names};
 ghost use Rattle.vms_base.specs.Names.{event_names};

@@ -1,5 +1,8 @@
 -- For other crates too: what an act changes the totals by.
-use Rattle.std.proofs.Common.{◌≡◌, ℕ, ℤ, pos, negsuc, ◌+ℤ◌, ◌+◌, ◌<◌, ◌≤◌, ◌^◌, List, [], ◌∷◌, map, length, drop, get_or, set, length-set, get_or-set_same, get_or-set_other, nat_eq, if◌then◌else◌, unsigned_abs, refl, sym, ap, subst, ◌∙◌, arith, inl, inr, Some, None, All, IfSome, w64, FitsSigned}
+use Rattle.std.proofs.Common.{◌≡◌, ℕ, ℤ, pos, negsuc, ◌+ℤ◌, ◌+◌, ◌<◌, ◌≤◌, ◌^◌, List, [], ◌∷◌, map, length, drop}
+use Rattle.std.proofs.Common.{get_or, set, length-set, get_or-set_same, get_or-set_other, nat_eq, if◌then◌else◌}
+use Rattle.std.proofs.Common.{unsigned_abs, refl, sym, ap, subst, ◌∙◌, arith, inl, inr, Some, None, All, IfSome, w64}
+use Rattle.std.proofs.Common.{FitsSigned}
 use Rattle.std.proofs.lemmas.Bool.{cases_eq}
 use Rattle.std.proofs.lemmas.Bool.Decides.{nat_tests}
 use Rattle.std.proofs.lemmas.Int.{ints, fits_signed_from_abs}
@@ -14,7 +17,8 @@ use Rattle.vms_text.specs.declared.acts.Act.TheVariants.{Mod, Inc, Dec, Ev}
 use Rattle.vms_text.specs.declared.acts.Item.{Item}
 use Rattle.vms_text.specs.declared.acts.Lane.{Lane}
 use Rattle.vms_line.specs.Laws.{IsActOf, IsLineOf}
-use Rattle.vms_script.specs.Totals.{ArePhases, HasTotal, line_of, plain_total, change_by, change_of, changes_by, sizes_by, changes_by_all, sizes_by_all}
+use Rattle.vms_script.specs.Totals.{ArePhases, HasTotal, line_of, plain_total, change_by, change_of, changes_by}
+use Rattle.vms_script.specs.Totals.{sizes_by, changes_by_all, sizes_by_all}
 use Rattle.vms_script.specs.Volumes.{spent_on_counter}
 use Rattle.vms_script.proofs.Sizes.{sizes_by_all-most}
 
@@ -131,11 +135,12 @@ Leads-item count wanted items i d totals totals' here each changed leads =
     (λ k. at_drop_more (changes_by k) items i d here) (λ k. at_drop_more (sizes_by k) items i d here) leads
 
 -- past an item that changes none, and one that changes one
-pub Leads-none : (count : ℕ) (wanted : ℕ → ℤ) (items : List Item) (i : ℕ) (d : Item) (totals : List ℤ)
+pub Leads-unchanged : (count : ℕ) (wanted : ℕ → ℤ) (items : List Item) (i : ℕ) (d : Item) (totals : List ℤ)
     → i < length items → change_of (get_or items i d).act ≡ None
     → Leads count wanted (λ k. changes_by k (drop i items)) (λ k. sizes_by k (drop i items)) totals
     → Leads count wanted (λ k. changes_by k (drop (i + 1) items)) (λ k. sizes_by k (drop (i + 1) items)) totals
-Leads-none count wanted items i d totals here none leads = Leads-item count wanted items i d totals totals here refl
+Leads-unchanged count wanted items i d totals here none leads =
+    Leads-item count wanted items i d totals totals here refl
     (λ k within. omega (arith, ints, change_by-none k (get_or items i d).act none)) leads
 
 pub Leads-some : (count : ℕ) (wanted : ℕ → ℤ) (items : List Item) (i : ℕ) (d : Item) (totals : List ℤ)

@@ -1,5 +1,7 @@
 -- How the states of the CPUs, and how many are online, follow a line.
-use Rattle.std.proofs.Common.{◌≡◌, ℕ, zero, suc, ◌+◌, ◌<◌, ◌≤◌, ◌≢◌, List, ◌∷◌, length, get_or, set, length-set, get_or-set_same, get_or-set_other, if◌then◌else◌, refl, sym, ap, subst, ◌∙◌, arith, inl, inr}
+use Rattle.std.proofs.Common.{◌≡◌, ℕ, zero, suc, ◌+◌, ◌<◌, ◌≤◌, ◌≢◌, List, ◌∷◌, length, get_or, set, length-set}
+use Rattle.std.proofs.Common.{get_or-set_same, get_or-set_other, if◌then◌else◌, refl, sym, ap, subst, ◌∙◌, arith, inl}
+use Rattle.std.proofs.Common.{inr}
 use Rattle.std.proofs.lemmas.Bool.{cases_eq}
 use Rattle.vms_base.specs.declared.kinds.CpuState.{CpuState}
 use Rattle.vms_base.specs.declared.kinds.CpuState.TheVariants.{Online as IsOnline, Dead as IsDead, Absent}
@@ -7,7 +9,7 @@ use Rattle.vms_text.specs.declared.acts.Line.{Line}
 use Rattle.vms_script.specs.declared.cpus.CpuStates.{CpuStates}
 use Rattle.vms_script.specs.Cpus.{cpu_state, state_past, online_count, online_below}
 use Rattle.vms_base.specs.Cpus.{is_online}
-use Rattle.vms_script.specs.Standing.{TellsCpus}
+use Rattle.vms_script.specs.JudgeStates.{TellsCpus}
 
 -- how many are online, with one CPU more
 online_count-onto : (s : CpuState) (m : ℕ) → (if is_online s then suc m else m) ≡ m + online_count s
@@ -81,7 +83,7 @@ module _ (lines : List Line) (line : Line) where
         )
   ]
 
-  -- the states behind a line that changes none
+  -- the states after a line that changes none
   pub TellsCpus-still : (cpus : ℕ) (states : CpuStates) → ((k : ℕ) (s : CpuState) → state_past k line s ≡ s)
       → TellsCpus cpus lines states → TellsCpus cpus (line ∷ lines) states
   TellsCpus-still cpus states same tells = record {
@@ -90,7 +92,7 @@ module _ (lines : List Line) (line : Line) where
     online = tells.online ∙ sym (online_below-same cpus (λ k s below. same k s));
   }
 
-  -- the states behind a line that changes that of CPU c
+  -- the states after a line that changes that of CPU c
   pub TellsCpus-set : (cpus c : ℕ) (state : CpuState) (old new : CpuStates) → ((k : ℕ) (s : CpuState) → k ≢ c
       → state_past k line s ≡ s)
       → state_past c line (cpu_state c lines) ≡ state → c < cpus → new.states ≡ set old.states c state

@@ -1,5 +1,6 @@
 -- What a judge decides of a line that was read.
-use Rattle.std.proofs.Common.{◌≡◌, ℕ, ◌+◌, ◌<◌, List, ◌∷◌, get_or, set, true, false, nat_eq, if◌then◌else◌, refl, sym, ap, subst, ◌∙◌, arith, Ok, Err, eq-eqb}
+use Rattle.std.proofs.Common.{◌≡◌, ℕ, ◌+◌, ◌<◌, List, ◌∷◌, get_or, set, true, false, nat_eq, if◌then◌else◌, refl, sym}
+use Rattle.std.proofs.Common.{ap, subst, ◌∙◌, arith, Ok, Err, eq-eqb}
 use Rattle.std.proofs.lemmas.Bool.Decides.{nat_tests}
 use Rattle.vms_base.specs.declared.headers.Header.{Header}
 use Rattle.vms_base.specs.declared.ids.CpuId.{CpuId}
@@ -20,9 +21,9 @@ use Rattle.vms_script.specs.declared.judges.LineJudge.{LineJudge}
 use Rattle.vms_script.specs.Cpus.{cpu_state, state_past, online_below, online_count}
 use Rattle.vms_base.specs.Cpus.{is_online}
 use Rattle.vms_script.specs.Judging.{allowed, counted}
-use Rattle.vms_script.specs.Standing.{Decides, Stands}
+use Rattle.vms_script.specs.JudgeStates.{Decides, Stands}
 use Rattle.vms_script.proofs.CpuCounts.{TellsCpus-set}
-use Rattle.vms_script.proofs.Standings.{AddsNothing, Stands-moved, Stands-still}
+use Rattle.vms_script.proofs.JudgeStateLaws.{KeepsSums, Stands-moved, Stands-still}
 
 -- a blank line is no line that counts
 pub Decides-blank : (judge : LineJudge) → Decides Blank judge judge (Ok tt)
@@ -60,10 +61,10 @@ if_state_other : (c k : ℕ) (before after : CpuState) → (k ≡ c → ⊥) →
 if_state_other c k before after other = let apart = ne-eqb c k (λ e. other (sym e)) in rw apart refl
 
 -- the lines that change the state of a CPU
-adds_nothing-boundary : (boundary : BoundaryOf) → AddsNothing (Boundary boundary)
+adds_nothing-boundary : (boundary : BoundaryOf) → KeepsSums (Boundary boundary)
 adds_nothing-boundary boundary = record { counters = λ c k. refl; events = λ c e. refl; pcpu = λ c j. refl }
 
-adds_nothing-control : (act : Act) → AddsNothing (Lane Control act)
+adds_nothing-control : (act : Act) → KeepsSums (Lane Control act)
 adds_nothing-control act = record { counters = λ c k. refl; events = λ c e. refl; pcpu = λ c j. refl }
 
 module _ (cpu : CpuId) (judge : LineJudge) where
@@ -110,7 +111,7 @@ module _ (cpu : CpuId) (judge : LineJudge) where
   module _ (states : CpuStates) where
     moves : (header : Header) (lines : List Line) (line : Line) (state : CpuState)
         → ((k : ℕ) (s : CpuState) → (k ≡ cpu.number → ⊥) → state_past k line s ≡ s)
-        → state_past cpu.number line (cpu_state cpu.number lines) ≡ state → AddsNothing line
+        → state_past cpu.number line (cpu_state cpu.number lines) ≡ state → KeepsSums line
         → cpu.number < header.layout.cpus → states.states ≡ set judge.cpus.states cpu.number state
         → states.online + online_count (get_or judge.cpus.states cpu.number IsOnline) ≡ judge.cpus.online +
         online_count state

@@ -1,5 +1,6 @@
--- What a scripter has come to past a line that counts.
-use Rattle.std.proofs.Common.{◌≡◌, ℕ, ◌+◌, ◌<◌, List, [], ◌∷◌, ◌++◌, length, get_or, map, length-append, Ok, sym, ap, subst, ◌∙◌, arith, inl, inr, All}
+-- For other crates too: what a scripter has come to after a line that counts.
+use Rattle.std.proofs.Common.{◌≡◌, ℕ, ◌+◌, ◌<◌, List, [], ◌∷◌, ◌++◌, length, get_or, map, length-append, Ok, sym, ap}
+use Rattle.std.proofs.Common.{subst, ◌∙◌, arith, inl, inr, All}
 use Rattle.std.proofs.Math.Seq.{get_or-append_seam}
 use Rattle.std.proofs.lemmas.Bool.{cases_eq}
 use Rattle.std.proofs.lemmas.List.{get_or_append_left, map-append}
@@ -11,8 +12,8 @@ use Rattle.vms_text.specs.declared.acts.Line.{Line}
 use Rattle.vms_text.specs.declared.acts.Line.TheVariants.{Blank, Lane, Boundary}
 use Rattle.vms_script.specs.declared.scripters.Scripter.{Scripter}
 use Rattle.vms_script.specs.Judging.{counted}
-use Rattle.vms_script.specs.Scripts.{Gave, Holds, Script, phases_of, with_line, with_taken}
-use Rattle.vms_script.specs.Standing.{Stands}
+use Rattle.vms_script.specs.Scripts.{Gave, HoldsScript, Script, phases_of, with_line, with_taken}
+use Rattle.vms_script.specs.JudgeStates.{Stands}
 use Rattle.vms_script.specs.Totals.{ArePhases}
 use Rattle.vms_script.specs.Volumes.{spent_on_counter, volume}
 use Rattle.vms_script.proofs.PhaseLines.{lines_of_phases-open, volume-item}
@@ -36,11 +37,12 @@ IsStrictlyIncreasing-onto xs y rise below k within = elim (cases_eq (k + 1) (len
 ]
 
 -- a scripter past a line of the body that counts, or a blank one
-pub Holds-past : (n : ℕ) (line : Line) (script : Script) (old new : Scripter) → Holds script old
+pub HoldsScript-after : (n : ℕ) (line : Line) (script : Script) (old new : Scripter) → HoldsScript script old
     → Stands script.header (counted (Ok line) script.lines) new.judge
     → new.items.items ≡ (with_line n line script).items → IsLineOf script.header line
-    → All (λ item. item.number < n) script.items → length script.items < 1000000 → Holds (with_line n line script) new
-Holds-past n Blank script old new holds stands items known below few = record {
+    → All (λ item. item.number < n) script.items → length script.items < 1000000
+    → HoldsScript (with_line n line script) new
+HoldsScript-after n Blank script old new holds stands items known below few = record {
   stands = stands;
   items = items;
   ascend = holds.ascend;
@@ -48,7 +50,7 @@ Holds-past n Blank script old new holds stands items known below few = record {
   phases = holds.phases;
   volumes = holds.volumes;
 }
-Holds-past n (Boundary boundary) script old new holds stands items known below few = record {
+HoldsScript-after n (Boundary boundary) script old new holds stands items known below few = record {
   stands = stands;
   items = items;
   ascend = holds.ascend;
@@ -56,7 +58,7 @@ Holds-past n (Boundary boundary) script old new holds stands items known below f
   phases = holds.phases;
   volumes = λ c k. omega (arith, holds.volumes c k);
 }
-Holds-past n (Lane lane act) script old new holds stands items known below few =
+HoldsScript-after n (Lane lane act) script old new holds stands items known below few =
     let added : Item = record { number = n; lane = lane; act = act } in
     record {
       stands = stands;
@@ -75,9 +77,9 @@ Holds-past n (Lane lane act) script old new holds stands items known below few =
     }
 
 -- a scripter whose lane lines were taken
-pub Holds-taken : (script : Script) (old new : Scripter) → Holds script old → new.judge ≡ old.judge
-    → new.items.items ≡ [] → Holds (with_taken script) new
-Holds-taken script old new holds same items = record {
+pub HoldsScript-taken : (script : Script) (old new : Scripter) → HoldsScript script old → new.judge ≡ old.judge
+    → new.items.items ≡ [] → HoldsScript (with_taken script) new
+HoldsScript-taken script old new holds same items = record {
   stands = subst (Stands script.header script.lines) (sym same) holds.stands;
   items = items;
   ascend = λ k within. absurd (omega (arith, within));

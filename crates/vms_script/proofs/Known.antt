@@ -21,7 +21,8 @@ use Rattle.vms_text.specs.Reading.{and_then}
 use Rattle.vms_line.proofs.LinesKnown.{read_line-known}
 use Rattle.vms_script.specs.Cpus.{cpu_state, online_below}
 use Rattle.vms_base.specs.Cpus.{is_online}
-use Rattle.vms_script.specs.Judging.{allowed, allowed_boundary, allowed_burial, allowed_of_control, allowed_online, judged}
+use Rattle.vms_script.specs.Judging.{allowed, allowed_boundary, allowed_burial, allowed_of_control, allowed_online}
+use Rattle.vms_script.specs.Judging.{judged}
 use Rattle.vms_script.specs.Volumes.{overflows}
 
 -- the line itself, if any

@@ -1,6 +1,6 @@
 pub mod CpuCounts
 pub mod VolumeSums
-pub mod Standings
+pub mod JudgeStateLaws
 pub mod Decisions
 pub mod Spendings
 pub mod Known

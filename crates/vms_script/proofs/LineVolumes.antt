@@ -1,5 +1,6 @@
--- For other crates too: the volumes behind a line that counts.
-use Rattle.std.proofs.Common.{◌≡◌, ℕ, ◌+◌, ◌≤◌, nat_eq, nat_lt, Bool, true, false, unsigned_abs, List, Result, Ok, Err, refl, sym, ap, ◌∙◌, arith, inl, inr, if◌then◌else◌}
+-- For other crates too: the volumes after a line that counts.
+use Rattle.std.proofs.Common.{◌≡◌, ℕ, ◌+◌, ◌≤◌, nat_eq, nat_lt, Bool, true, false, unsigned_abs, List, Result, Ok, Err}
+use Rattle.std.proofs.Common.{refl, sym, ap, ◌∙◌, arith, inl, inr, if◌then◌else◌}
 use Rattle.std.proofs.lemmas.Bool.Decides.{nat_tests}
 use Rattle.std.proofs.lemmas.Bool.{cases_eq}
 use Rattle.vms_base.specs.declared.headers.Header.{Header}
@@ -42,7 +43,7 @@ module _ (header : Header) (lines : List Line) (text : List ℕ) where
       let read = judged-read header lines text line is in
       sym (ap (λ (r : Result Line LineCause). and_then r (allowed header lines)) read) ∙ is
 
-  -- and passes no volume, if a CPU's lane has it
+  -- and exceeds no volume, if a CPU's lane has it
   fits-judged : (cpu : CpuId) (act : Act) → judged header lines text ≡ Ok (Lane (Cpu cpu) act)
       → overflows lines cpu.number act ≡ false
   fits-judged cpu act is = by (is_online (cpu_state cpu.number lines)) (overflows lines cpu.number act)
@@ -56,7 +57,7 @@ module _ (header : Header) (lines : List Line) (text : List ℕ) where
       by true true kept = absurd cc
       by false over kept = absurd cc
 
-  -- no volume of a counter is past the most behind an act of a CPU's lane
+  -- no volume of a counter is past the most after an act of a CPU's lane
   volume-act : (cpu : CpuId) (act : Act) → overflows lines cpu.number act ≡ false → (c k : ℕ)
       → volume (spent_on_counter k) c lines ≤ most_volume
       → by_cpu c (spent_on_counter k) (Lane (Cpu cpu) act) + volume (spent_on_counter k) c lines ≤ most_volume
@@ -72,7 +73,7 @@ module _ (header : Header) (lines : List Line) (text : List ℕ) where
   volume-act cpu act fits c k before =
       omega (arith, by_cpu-nothing (spent_on_counter k) c cpu act refl, before)
 
-  -- nor behind any line that counts
+  -- nor after any line that counts
   pub volume-judged : (line : Line) → judged header lines text ≡ Ok line → (c k : ℕ)
       → volume (spent_on_counter k) c lines ≤ most_volume
       → by_cpu c (spent_on_counter k) line + volume (spent_on_counter k) c lines ≤ most_volume

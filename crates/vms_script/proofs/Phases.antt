@@ -25,7 +25,7 @@ module _ (header : Header) where
     most = λ c k c_in k_in. omega arith;
   }
 
-  -- so is it behind other phases
+  -- so is it after other phases
   pub ArePhases-phase : (phases : List (List Item)) → ArePhases header phases → ArePhases header (phases ++ [] ∷ [])
   ArePhases-phase phases are = record {
     known = All-push AreKnown phases [] are.known (All-nil (λ (item : Item). IsLineOf header (line_of item)));

@@ -1,5 +1,6 @@
 -- For other crates too: the sizes of the changes of all lanes, by the volumes of the CPUs.
-use Rattle.std.proofs.Common.{◌≡◌, ℕ, zero, suc, ◌+◌, ◌*◌, ◌<◌, ◌≤◌, List, [], ◌∷◌, ◌++◌, map, All, nat_eq, nat_lt, if◌then◌else◌, refl, sym, arith}
+use Rattle.std.proofs.Common.{◌≡◌, ℕ, zero, suc, ◌+◌, ◌*◌, ◌<◌, ◌≤◌, List, [], ◌∷◌, ◌++◌, map, All, nat_eq, nat_lt}
+use Rattle.std.proofs.Common.{if◌then◌else◌, refl, sym, arith}
 use Rattle.std.proofs.lemmas.Bool.Decides.{nat_tests}
 use Rattle.vms_base.specs.declared.headers.Header.{Header}
 use Rattle.vms_base.specs.Headers.{IsHeader}
@@ -61,7 +62,7 @@ volume_of_first-more n measure [] = omega arith
 volume_of_first-more n measure (line ∷ lines) =
     omega (arith, by_first-more n measure line, volume_of_first-more n measure lines)
 
--- where no CPU's volume passes a most, all together pass no more than that for each
+-- where no CPU's volume exceeds a most, all together exceed no more than that for each
 volume_of_first-most : (n most : ℕ) (measure : Act → ℕ) (lines : List Line)
     → ((c : ℕ) → c < n → volume measure c lines ≤ most) → volume_of_first n measure lines ≤ n * most
 volume_of_first-most zero most measure lines each = omega (arith, volume_of_first-none measure lines)

@@ -1,5 +1,6 @@
 -- What a judge decides of an act of a CPU's lane.
-use Rattle.std.proofs.Common.{◌≡◌, ℕ, ◌+◌, ◌<◌, List, ◌∷◌, length, get_or, Bool, true, false, nat_lt, if◌then◌else◌, refl, sym, ap, subst, ◌∙◌, ℤ, Result, Ok, Err}
+use Rattle.std.proofs.Common.{◌≡◌, ℕ, ◌+◌, ◌<◌, List, ◌∷◌, length, get_or, Bool, true, false, nat_lt, if◌then◌else◌}
+use Rattle.std.proofs.Common.{refl, sym, ap, subst, ◌∙◌, ℤ, Result, Ok, Err}
 use Rattle.std.proofs.lemmas.Bool.{ltb-false}
 use Rattle.vms_base.specs.declared.headers.Header.{Header}
 use Rattle.vms_base.specs.declared.ids.CounterId.{CounterId}
@@ -24,13 +25,13 @@ use Rattle.vms_base.specs.Cpus.{is_online}
 use Rattle.vms_script.specs.Judging.{allowed, counted}
 use Rattle.vms_script.specs.Volumes.{overflows, spent_on_counter, spent_on_event, spent_on_pcpu, volume}
 use Rattle.vms_base.specs.Volumes.{most_volume}
-use Rattle.vms_script.specs.Standing.{Decides, Stands, TellsCpus, TellsVolumes, answered, volume_at, with_volume}
+use Rattle.vms_script.specs.JudgeStates.{Decides, Stands, TellsCpus, TellsVolumes, answered, volume_at, with_volume}
 use Rattle.vms_script.proofs.CpuCounts.{TellsCpus-still}
 use Rattle.vms_script.proofs.Decisions.{Decides-kept, Decides-refused}
-use Rattle.vms_script.proofs.Standings.{Stands-still}
+use Rattle.vms_script.proofs.JudgeStateLaws.{Stands-still}
 use Rattle.vms_script.proofs.VolumeSums.{TellsVolumes-still, TellsVolumes-spent, by_cpu-nothing, volume_at-is}
 
--- an act of a CPU that is online, by whether it passes the most volume
+-- an act of a CPU that is online, by whether it exceeds the most volume
 judged_by : (over : Bool) (header : Header) (lines : List Line) (cpu : CpuId) (act : Act) (put : VolumeTable
     → LineJudge) (old spent new : VolumeTable) (result : Result (Unit {0}) LineCause)
     → overflows lines cpu.number act ≡ over → is_online (cpu_state cpu.number lines) ≡ true
@@ -39,15 +40,15 @@ judged_by : (over : Bool) (header : Header) (lines : List Line) (cpu : CpuId) (a
     → (over ≡ false → Stands header (Lane (Cpu cpu) act ∷ lines) (put spent))
     → (answered (Lane (Cpu cpu) act) result ≡ allowed header lines (Lane (Cpu cpu) act))
     × Stands header (counted (answered (Lane (Cpu cpu) act) result) lines) (put new)
-judged_by true header lines cpu act put old spent new result passes online r n stands past =
-    let refused : allowed header lines (Lane (Cpu cpu) act) ≡ Err Overflow = rw (online, passes) refl in (
+judged_by true header lines cpu act put old spent new result exceeds online r n stands past =
+    let refused : allowed header lines (Lane (Cpu cpu) act) ≡ Err Overflow = rw (online, exceeds) refl in (
       ap (answered (Lane (Cpu cpu) act)) r ∙ sym refused,
       subst (λ (t : VolumeTable). Stands header (counted (answered (Lane (Cpu cpu) act) result) lines) (put t)) (sym n)
           (subst (λ (a : Result (Unit {0}) LineCause). Stands header (counted (answered (Lane
           (Cpu cpu) act) a) lines) (put old)) (sym r) stands),
     )
-judged_by false header lines cpu act put old spent new result passes online r n stands past =
-    let counts : allowed header lines (Lane (Cpu cpu) act) ≡ Ok (Lane (Cpu cpu) act) = rw (online, passes) refl in (
+judged_by false header lines cpu act put old spent new result exceeds online r n stands past =
+    let counts : allowed header lines (Lane (Cpu cpu) act) ≡ Ok (Lane (Cpu cpu) act) = rw (online, exceeds) refl in (
       ap (answered (Lane (Cpu cpu) act)) r ∙ sym counts,
       subst (λ (t : VolumeTable). Stands header (counted (answered (Lane (Cpu cpu) act) result) lines) (put t)) (sym n)
           (subst (λ (a : Result (Unit {0}) LineCause). Stands header (counted (answered (Lane
@@ -61,27 +62,28 @@ module _ (cpu : CpuId) (act : Act) (thing size : ℕ) (old new : VolumeTable) (r
   abbrev spent : VolumeTable
   spent = with_volume old cpu.number thing (volume_at old cpu.number thing + size)
 
-  abbrev Tells : Header → List Line → VolumeTable → Type 0
-  Tells header lines table = TellsVolumes header.layout.cpus (width header) (λ c k. volume (measure k) c lines) table
+  abbrev TableTells : Header → List Line → VolumeTable → Type 0
+  TableTells header lines table = TellsVolumes header.layout.cpus (width header) (λ c k. volume (measure k) c lines)
+      table
 
   Decides-spent : measure thing act ≡ size → ((k : ℕ) → (k ≡ thing → ⊥) → measure k act ≡ 0)
-      → ((header : Header) (lines : List Line) → Stands header lines (put old) → Tells header lines old)
+      → ((header : Header) (lines : List Line) → Stands header lines (put old) → TableTells header lines old)
       → ((header : Header) (lines : List Line) → Stands header lines (put old)
-      → Tells header (Lane (Cpu cpu) act ∷ lines) spent → Stands header (Lane (Cpu cpu) act ∷ lines) (put spent))
+      → TableTells header (Lane (Cpu cpu) act ∷ lines) spent → Stands header (Lane (Cpu cpu) act ∷ lines) (put spent))
       → ((header : Header) → IsActOf header (Cpu cpu) act → thing < width header)
       → ((lines : List Line) → overflows lines cpu.number act ≡ nat_lt most_volume (volume
       (measure thing) cpu.number lines + size))
       → result ≡ (if nat_lt most_volume (volume_at old cpu.number thing + size) then Err Overflow else Ok tt)
       → new ≡ (if nat_lt most_volume (volume_at old cpu.number thing + size) then old else spent)
       → Decides (Lane (Cpu cpu) act) (put old) (put new) result
-  Decides-spent adds others tells goes_on known passes answer table = record {
+  Decides-spent adds others tells goes_on known exceeds answer table = record {
     by = λ header lines is is_line stands.
-        let before : Tells header lines old = tells header lines stands in
+        let before : TableTells header lines old = tells header lines stands in
         let within : thing < width header = known header is_line.1 in
         let here = volume_at-is header.layout.cpus (width header) (λ c k. volume (measure k) c lines) old cpu.number
         thing before is_line.0 within in
         judged_by (nat_lt most_volume (volume_at old cpu.number thing + size)) header lines cpu act put old spent new
-        result (passes lines ∙ ap (λ n. nat_lt most_volume (n + size)) (sym here))
+        result (exceeds lines ∙ ap (λ n. nat_lt most_volume (n + size)) (sym here))
         (ap is_online (sym (stands.cpus.state cpu.number is_line.0) ∙ online)) answer table stands
         (λ fits. goes_on header lines stands
         (TellsVolumes-spent measure cpu act thing size adds others _ _ lines old is_line.0 within
@@ -119,7 +121,8 @@ module _ (judge : LineJudge) (cpu : CpuId) (act : Act) (thing size : ℕ) (new :
       → Decides (Lane (Cpu cpu) act) judge (record judge { counters = new }) result
   Decides-counters adds others nothing_events nothing_pcpu =
       Decides-spent cpu act thing size judge.counters new result (λ (t : VolumeTable). record judge { counters = t })
-      spent_on_counter (λ header. counter_count header.layout) online adds others (λ header lines stands. stands.counters)
+      spent_on_counter (λ header. counter_count header.layout) online adds others
+      (λ header lines stands. stands.counters)
       (λ header lines stands tells. record {
         cpus = cpus_stand header lines stands;
         counters = tells;
@@ -186,15 +189,15 @@ pub record SpendsNothing (act : Act) : Type 0 where
   pub no_cnt : (counter : PcpuId) (amount : ℤ) → act ≡ Cnt counter amount → ⊥
   pub no_lim : (counter : PcpuId) (limit amount : ℤ) → act ≡ Lim counter limit amount → ⊥
 
-quiet : (header : Header) (cpu : CpuId) (act : Act) → SpendsNothing act → IsActOf header (Cpu cpu) act → Quiet act
-quiet header cpu (Mod counter pages) none is = absurd (none.no_mod counter pages refl)
-quiet header cpu (Inc counter) none is = absurd (none.no_inc counter refl)
-quiet header cpu (Dec counter) none is = absurd (none.no_dec counter refl)
-quiet header cpu (Ev event n) none is = absurd (none.no_ev event n refl)
-quiet header cpu (Cnt counter amount) none is = absurd (none.no_cnt counter amount refl)
-quiet header cpu (Lim counter limit amount) none is = absurd (none.no_lim counter limit amount refl)
-quiet header cpu (Dead dead) none is = absurd is.0
-quiet header cpu act none is = record {
+quiet-act : (header : Header) (cpu : CpuId) (act : Act) → SpendsNothing act → IsActOf header (Cpu cpu) act → Quiet act
+quiet-act header cpu (Mod counter pages) none is = absurd (none.no_mod counter pages refl)
+quiet-act header cpu (Inc counter) none is = absurd (none.no_inc counter refl)
+quiet-act header cpu (Dec counter) none is = absurd (none.no_dec counter refl)
+quiet-act header cpu (Ev event n) none is = absurd (none.no_ev event n refl)
+quiet-act header cpu (Cnt counter amount) none is = absurd (none.no_cnt counter amount refl)
+quiet-act header cpu (Lim counter limit amount) none is = absurd (none.no_lim counter limit amount refl)
+quiet-act header cpu (Dead dead) none is = absurd is.0
+quiet-act header cpu act none is = record {
   counters = λ k. refl;
   events = λ e. refl;
   pcpu = λ j. refl;
@@ -207,7 +210,7 @@ module _ (judge : LineJudge) (cpu : CpuId) (online : get_or judge.cpus.states cp
   pub Decides-quiet : (act : Act) → SpendsNothing act → Decides (Lane (Cpu cpu) act) judge judge (Ok tt)
   Decides-quiet act none = Decides-kept (Lane (Cpu cpu) act) judge judge (λ lines. refl)
       (λ header lines is_line stands.
-      let nothing = quiet header cpu act none is_line.1 in
+      let nothing = quiet-act header cpu act none is_line.1 in
       let up : is_online (cpu_state cpu.number lines) ≡ true = ap is_online (sym
       (stands.cpus.state cpu.number is_line.0) ∙ online) in
       let fits = nothing.affordable lines cpu.number in (

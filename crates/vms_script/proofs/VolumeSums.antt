@@ -1,5 +1,7 @@
 -- How the volumes follow a line.
-use Rattle.std.proofs.Common.{◌≡◌, ℕ, ◌+◌, ◌*◌, ◌^◌, ◌<◌, ◌≤◌, List, ◌∷◌, length, get_or, set, length-set, get_or-set_same, get_or-set_other, nat_eq, if◌then◌else◌, refl, sym, ap, subst, ◌∙◌, arith, inl, inr}
+use Rattle.std.proofs.Common.{◌≡◌, ℕ, ◌+◌, ◌*◌, ◌^◌, ◌<◌, ◌≤◌, List, ◌∷◌, length, get_or, set, length-set}
+use Rattle.std.proofs.Common.{get_or-set_same, get_or-set_other, nat_eq, if◌then◌else◌, refl, sym, ap, subst, ◌∙◌}
+use Rattle.std.proofs.Common.{arith, inl, inr}
 use Rattle.std.proofs.lemmas.Bool.{cases_eq}
 use Rattle.std.proofs.lemmas.Bool.Decides.{nat_tests}
 use Rattle.vms_base.specs.declared.ids.CpuId.{CpuId}
@@ -12,11 +14,11 @@ use Rattle.vms_text.specs.declared.acts.Line.TheVariants.{Lane}
 use Rattle.vms_script.specs.declared.volumes.VolumeTable.{VolumeTable}
 use Rattle.vms_script.specs.Volumes.{by_cpu, volume}
 use Rattle.vms_base.specs.Volumes.{most_volume}
-use Rattle.vms_script.specs.Standing.{HasCell, TellsVolumes, volume_at, with_volume}
+use Rattle.vms_script.specs.JudgeStates.{HasCell, TellsVolumes, volume_at, with_volume}
 
 -- the test of a number by another
-if_same : (a b x y : ℕ) → a ≡ b → (if nat_eq a b then x else y) ≡ x
-if_same a b x y same = grind (arith, nat_tests)
+at_equal : (a b x y : ℕ) → a ≡ b → (if nat_eq a b then x else y) ≡ x
+at_equal a b x y same = grind (arith, nat_tests)
 
 if_other : (a b x y : ℕ) → (a ≡ b → ⊥) → (if nat_eq a b then x else y) ≡ y
 if_other a b x y other = grind (arith, nat_tests)
@@ -38,7 +40,7 @@ HasCell-of cpus width spent table c thing tells below within few = record {
   few = omega (arith, tells.each);
 }
 
--- the volumes behind a line that adds to none
+-- the volumes after a line that adds to none
 pub TellsVolumes-still : (cpus width : ℕ) (measure : ℕ → Act
     → ℕ) (lines : List Line) (line : Line) (table : VolumeTable)
     → ((c k : ℕ) → by_cpu c (measure k) line ≡ 0)
@@ -55,12 +57,12 @@ module _ (measure : ℕ → Act → ℕ) (cpu : CpuId) (act : Act) (thing size :
     (adds : measure thing act ≡ size) (others : (k : ℕ) → (k ≡ thing → ⊥) → measure k act ≡ 0) where
   -- an act adds its size to one volume
   by_cpu-here : by_cpu cpu.number (measure thing) (Lane (Cpu cpu) act) ≡ size
-  by_cpu-here = if_same cpu.number cpu.number (measure thing act) 0 refl ∙ adds
+  by_cpu-here = at_equal cpu.number cpu.number (measure thing act) 0 refl ∙ adds
 
   -- and nothing to another
   by_cpu-thing : (c k : ℕ) → (k ≡ thing → ⊥) → by_cpu c (measure k) (Lane (Cpu cpu) act) ≡ 0
   by_cpu-thing c k other = elim (cases_eq cpu.number c) [
-    | inl same ↦ if_same cpu.number c (measure k act) 0 same ∙ others k other
+    | inl same ↦ at_equal cpu.number c (measure k act) 0 same ∙ others k other
     | inr apart ↦ if_other cpu.number c (measure k act) 0 apart
   ]
 
@@ -122,7 +124,7 @@ module _ (measure : ℕ → Act → ℕ) (cpu : CpuId) (act : Act) (thing size :
     | inr other ↦ omega (arith, by_cpu-thing c k other, before)
   ]
 
-  -- the volumes behind an act of a CPU's lane that adds to one
+  -- the volumes after an act of a CPU's lane that adds to one
   pub TellsVolumes-spent : (cpus width : ℕ) (lines : List Line) (table : VolumeTable)
       → cpu.number < cpus → thing < width → volume_at table cpu.number thing + size ≤ most_volume
       → TellsVolumes cpus width (λ c k. volume (measure k) c lines) table
@@ -153,13 +155,13 @@ module _ (measure : ℕ → Act → ℕ) (cpu : CpuId) (act : Act) (thing size :
 pub by_cpu-nothing : (measure : Act → ℕ) (c : ℕ) (cpu : CpuId) (act : Act) → measure act ≡ 0
     → by_cpu c measure (Lane (Cpu cpu) act) ≡ 0
 by_cpu-nothing measure c cpu act nothing = elim (cases_eq cpu.number c) [
-  | inl same ↦ if_same cpu.number c (measure act) 0 same ∙ nothing
+  | inl same ↦ at_equal cpu.number c (measure act) 0 same ∙ nothing
   | inr apart ↦ if_other cpu.number c (measure act) 0 apart
 ]
 
 -- what a measure of one thing says of it, and of another
 pub measure-here : (k size : ℕ) → (if nat_eq k k then size else 0) ≡ size
-measure-here k size = if_same k k size 0 refl
+measure-here k size = at_equal k k size 0 refl
 
 pub measure-other : (k j size : ℕ) → (j ≡ k → ⊥) → (if nat_eq k j then size else 0) ≡ 0
 measure-other k j size other = if_other k j size 0 (λ e. other (sym e))

@@ -1,4 +1,4 @@
--- Which CPUs are online behind the lines that count, the newest first.
+-- Which CPUs are online after the lines that count, the newest first.
 use Rattle.std.specs.Prelude.{ℕ, zero, suc, nat_eq, if◌then◌else◌, List, [], ◌∷◌}
 use Rattle.vms_base.specs.declared.kinds.CpuState.{CpuState}
 use Rattle.vms_base.specs.declared.kinds.CpuState.TheVariants.{Online as IsOnline, Dead as IsDead, Absent}
@@ -15,7 +15,7 @@ state_past c (Boundary (Online cpu)) before = if nat_eq cpu.number c then IsOnli
 state_past c (Lane lane (Dead cpu)) before = if nat_eq cpu.number c then Absent else before
 state_past c _ before = before
 
--- the state of CPU c behind these lines: at first every CPU is online
+-- the state of CPU c after these lines: at first every CPU is online
 abbrev pub cpu_state : ℕ → List Line → CpuState
 cpu_state c [] = IsOnline
 cpu_state c (line ∷ lines) = state_past c line (cpu_state c lines)

@@ -19,7 +19,7 @@ use Rattle.vms_script.specs.Cpus.{cpu_state, online_below}
 use Rattle.vms_base.specs.Cpus.{is_online}
 use Rattle.vms_script.specs.Volumes.{overflows}
 
--- a line of CPU c's lane counts where the CPU is online and no volume passes its most
+-- a line of CPU c's lane counts where the CPU is online and no volume exceeds its most
 abbrev pub allowed_of_cpu : List Line → ℕ → Act → Line → Result Line LineCause
 allowed_of_cpu lines c act line =
     if is_online (cpu_state c lines) then (if overflows lines c act then Err Overflow else Ok line) else Err NotOnline
@@ -51,14 +51,14 @@ allowed_boundary header lines (Offline cpu) line = allowed_offline header lines 
 allowed_boundary header lines (Online cpu) line = allowed_online (cpu_state cpu.number lines) line
 allowed_boundary header lines _ line = Ok line
 
--- a line that was read, or the first cause why it doesn't count behind these lines
+-- a line that was read, or the first cause why it doesn't count after these lines
 abbrev pub allowed : Header → List Line → Line → Result Line LineCause
 allowed header lines Blank = Ok Blank
 allowed header lines (Lane (Cpu cpu) act) = allowed_of_cpu lines cpu.number act (Lane (Cpu cpu) act)
 allowed header lines (Lane Control act) = allowed_of_control lines act (Lane Control act)
 allowed header lines (Boundary boundary) = allowed_boundary header lines boundary (Boundary boundary)
 
--- what a line of the body says, or the first cause why it doesn't count, behind the lines above that count
+-- what a line of the body says, or the first cause why it doesn't count, after the lines above that count
 abbrev pub judged : Header → List Line → List ℕ → Result Line LineCause
 judged header lines text = and_then (read_line header text) (allowed header lines)
 
@@ -68,7 +68,7 @@ counted (Ok Blank) lines = lines
 counted (Ok line) lines = line ∷ lines
 counted (Err cause) lines = lines
 
--- the lines that count of these, behind the lines above that count
+-- the lines that count of these, after the lines above that count
 abbrev pub counted_of : Header → List Line → List (List ℕ) → List Line
 counted_of header lines [] = lines
 counted_of header lines (text ∷ texts) = counted_of header (counted (judged header lines text) lines) texts

@@ -1,6 +1,6 @@
 pub mod Cpus
 pub mod Volumes
 pub mod Judging
-pub mod Standing
+pub mod JudgeStates
 pub mod Totals
 pub mod Scripts

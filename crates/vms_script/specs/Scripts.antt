@@ -10,7 +10,7 @@ use Rattle.vms_script.specs.declared.scripters.FeedError.{FeedError}
 use Rattle.vms_script.specs.declared.scripters.FeedError.TheVariants.{Refused, Memory}
 use Rattle.vms_script.specs.declared.scripters.Scripter.{Scripter}
 use Rattle.vms_script.specs.Judging.{judged}
-use Rattle.vms_script.specs.Standing.{Stands}
+use Rattle.vms_script.specs.JudgeStates.{Stands}
 use Rattle.vms_script.specs.Totals.{ArePhases, lines_of_phases}
 use Rattle.vms_script.specs.Volumes.{spent_on_counter, volume}
 use Rattle.vms_script.specs.declared.scripters.Fed.TheVariants.{Blank as FedBlank, Kept, Boundary as FedBoundary}
@@ -52,7 +52,7 @@ fed_of (Boundary boundary) = FedBoundary boundary
 
 -- a scripter that has come to this: the numbers of the items ascend, and the phases are those of the body, with the
 -- volumes of the lines that count
-pub record Holds (script : Script) (scripter : Scripter) : Type 0 where
+pub record HoldsScript (script : Script) (scripter : Scripter) : Type 0 where
   pub stands : Stands script.header script.lines scripter.judge
   pub items : scripter.items.items ≡ script.items
   pub ascend : IsStrictlyIncreasing (map (λ item. item.number) script.items)
@@ -65,20 +65,20 @@ pub record Holds (script : Script) (scripter : Scripter) : Type 0 where
 pub record SomeScripter (header : Header) (scripter : Scripter) : Type 0 where
   pub script : Script
   pub of : script.header ≡ header
-  pub holds : Holds script scripter
+  pub holds : HoldsScript script scripter
 
 -- a scripter of a body with this header that gave these phases
 pub record Gave (header : Header) (phases : List (List Item)) (scripter : Scripter) : Type 0 where
   pub script : Script
   pub of : script.header ≡ header
   pub taken : script.taken ≡ phases
-  pub holds : Holds script scripter
+  pub holds : HoldsScript script scripter
 
--- what a scripter comes to past line n of this text: a line that doesn't count, and want of memory, leave it
+-- what a scripter comes to with line n of this text. A line that doesn't count, and want of memory, leave it
 abbrev pub Feeds : ℕ → List ℕ → Script → Scripter → Result Fed FeedError → Type 0
 Feeds n text script scripter (Ok fed) =
-    (line : Line) × (judged script.header script.lines text ≡ Ok line) × (fed ≡ fed_of line) × Holds
+    (line : Line) × (judged script.header script.lines text ≡ Ok line) × (fed ≡ fed_of line) × HoldsScript
     (with_line n line script) scripter
 Feeds n text script scripter (Err (Refused cause)) =
-    (judged script.header script.lines text ≡ Err cause) × Holds script scripter
-Feeds n text script scripter (Err Memory) = Holds script scripter
+    (judged script.header script.lines text ≡ Err cause) × HoldsScript script scripter
+Feeds n text script scripter (Err Memory) = HoldsScript script scripter

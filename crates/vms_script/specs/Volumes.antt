@@ -30,12 +30,12 @@ abbrev pub by_cpu : ℕ → (Act → ℕ) → Line → ℕ
 by_cpu c measure (Lane (Cpu cpu) act) = if nat_eq cpu.number c then measure act else 0
 by_cpu c measure _ = 0
 
--- the volume of CPU c behind these lines: the sum of a measure of its lane's acts
+-- the volume of CPU c after these lines: the sum of a measure of its lane's acts
 abbrev pub volume : (Act → ℕ) → ℕ → List Line → ℕ
 volume measure c [] = 0
 volume measure c (line ∷ lines) = by_cpu c measure line + volume measure c lines
 
--- whether a line of CPU c would pass the most volume on what it changes
+-- whether a line of CPU c would exceed the most volume on what it changes
 abbrev pub overflows : List Line → ℕ → Act → Bool
 overflows lines c (Mod counter pages) =
     nat_lt most_volume (volume (spent_on_counter counter.number) c lines + unsigned_abs pages)

@@ -15,7 +15,7 @@ pub(crate) struct CpuStates {
 }
 
 impl CpuStates {
-    /// So many CPUs, which are all online.
+    /// The states of this many CPUs, which are all online.
     pub(crate) fn make(alloc: Global, cpus: u32) -> Result<CpuStates, Memory>
         ensures { IfOk result (λ made. made ≡ record { states = replicate cpus Online; online = cpus }) }
     {

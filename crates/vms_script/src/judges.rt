@@ -18,7 +18,7 @@ impl LineJudge {
     ghost use Rattle.vms_base.specs.Headers.{IsHeader};
     ghost use Rattle.vms_text.specs.declared.acts.Line.{Line};
     ghost use Rattle.vms_script.specs.Judging.{counted, judged};
-    ghost use Rattle.vms_script.specs.Standing.{Decides, Knows, SomeJudge, Stands};
+    ghost use Rattle.vms_script.specs.JudgeStates.{Decides, Knows, SomeJudge, Stands};
 
     /// A judge before the first line of a body with this header.
     pub fn make(alloc: Global, header: &Header) -> Result<LineJudge, Memory>
@@ -105,7 +105,7 @@ impl LineJudge {
         }
     }
 
-    /// Adds what an act changes to the volumes of a CPU, which is online, unless one would pass its most.
+    /// Adds what an act changes to the volumes of a CPU, which is online, unless one would exceed its most.
     fn spend(&mut self, cpu: CpuId, act: Act) -> Result<(), LineCause>
         requires knows { Knows self.old (Line.Lane (Lane.Cpu cpu) act) }
         requires online { slice_index_or self.old.cpus.states cpu.number CpuState.Online ≡ CpuState.Online }

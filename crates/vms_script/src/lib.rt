@@ -4,8 +4,6 @@
 mod cpus;
 mod judges;
 mod scripters;
-#[cfg(test)]
-mod tests;
 mod totals;
 mod volumes;
 

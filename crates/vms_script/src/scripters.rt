@@ -50,12 +50,13 @@ impl Scripter {
     ghost use Rattle.std.specs.Prelude.{◌≡◌, ◌<◌, All, IfOk, map, vec_capacity, vec_len};
     ghost use Rattle.std.specs.List.Sorted.{IsStrictlyIncreasing};
     ghost use Rattle.vms_base.specs.Headers.{IsHeader};
-    ghost use Rattle.vms_script.specs.Scripts.{Feeds, Holds, Script, SomeScripter, fed_of, first_script, with_line, with_taken};
+    ghost use Rattle.vms_script.specs.Scripts.{Feeds, HoldsScript, Script, SomeScripter, fed_of, first_script};
+    ghost use Rattle.vms_script.specs.Scripts.{with_line, with_taken};
 
     /// A scripter before the first line of a body with this header.
     pub fn make(alloc: Global, header: &Header) -> Result<Scripter, Memory>
         requires { IsHeader header.now }
-        ensures { IfOk result (λ scripter. Holds (first_script header.now) scripter) }
+        ensures { IfOk result (λ scripter. HoldsScript (first_script header.now) scripter) }
     {
         Ok(Scripter {
             judge: LineJudge::make(alloc, header)?,
@@ -70,7 +71,7 @@ impl Scripter {
         requires scripter { SomeScripter header.now self.old }
         requires number { All (λ item. item.number < number) self.old.items.items }
         requires few { vec_len self.old.items < 1000000 }
-        ensures { (script : Script) → script.header ≡ header.now → Holds script self.old →
+        ensures { (script : Script) → script.header ≡ header.now → HoldsScript script self.old →
             Feeds number line.now script self.new result }
     {
         self.items.reserve(1)?;
@@ -80,10 +81,10 @@ impl Scripter {
         }
     }
 
-    /// The lane lines so far, in the order of the text, of which the scripter then holds none.
+    /// Takes the lane lines so far, in the order of the text. The scripter then holds none.
     pub fn take_phase(&mut self) -> PhaseScript
-        ensures { (script : Script) → Holds script self.old →
-            (result.items ≡ script.items) × Holds (with_taken script) self.new }
+        ensures { (script : Script) → HoldsScript script self.old →
+            (result.items ≡ script.items) × HoldsScript (with_taken script) self.new }
     {
         std::mem::replace(&mut self.items, Vec::new(self.alloc))
     }

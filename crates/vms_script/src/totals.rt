@@ -1,6 +1,8 @@
-ghost use Rattle.std.specs.Prelude.{◌≡◌, ℕ, ◌+◌, ◌<◌, ◌^◌, pos, ◌+ℤ◌, unsigned_abs, length, map, All, IfOk, slice_index_or};
+ghost use Rattle.std.specs.Prelude.{◌≡◌, ℕ, ◌+◌, ◌<◌, ◌^◌, pos, ◌+ℤ◌, unsigned_abs, length, map, All, IfOk};
+ghost use Rattle.std.specs.Prelude.{slice_index_or};
 ghost use Rattle.vms_base.specs.Headers.{IsHeader};
-ghost use Rattle.vms_script.specs.Totals.{ArePhases, ArePlainTotals, HasTotal, change_by, change_of, changes_by, sizes_by};
+ghost use Rattle.vms_script.specs.Totals.{ArePhases, ArePlainTotals, HasTotal, change_by, change_of, changes_by};
+ghost use Rattle.vms_script.specs.Totals.{sizes_by};
 
 use crate::PhaseScript;
 use std::alloc::Global;

@@ -1,16 +1,16 @@
 ghost use Rattle.std.specs.Prelude.{◌≡◌, ◌+◌, ◌*◌, ◌<◌, ◌^◌, nat_lt, if◌then◌else◌, length, replicate, IfOk, Ok, Err};
 ghost use Rattle.vms_line.specs.declared.causes.LineCause.TheVariants.{Overflow};
-ghost use Rattle.vms_script.specs.Standing.{HasCell, volume_at, with_volume};
+ghost use Rattle.vms_script.specs.JudgeStates.{HasCell, volume_at, with_volume};
 ghost use Rattle.vms_base.specs.Volumes.{most_volume};
 
 use std::alloc::Global;
 use vms_base::{CpuId, Memory, Row};
 use vms_line::LineCause;
 
-/// What one CPU may change one counter, event or percpu counter by over a run, in absolute sum.
+/// The most by which one CPU changes one counter, event or percpu counter over a run, in absolute sum.
 const MOST_VOLUME: u64 = 1 << 48;
 
-/// What each CPU has changed each of so many things by, in absolute sum, by CPU and then thing.
+/// By how much each CPU has changed each thing, in absolute sum, by CPU and then thing.
 #[derive(Drop)]
 pub(crate) struct VolumeTable {
     pub(crate) width: usize,
@@ -29,7 +29,7 @@ impl VolumeTable {
         })
     }
 
-    /// Adds a size to a CPU's volume on a thing, unless it would pass 2^48.
+    /// Adds a size to a CPU's volume on a thing, unless the volume would exceed 2^48.
     #[inline]
     pub(crate) fn spend(&mut self, cpu: CpuId, thing: u32, size: u64) -> Result<(), LineCause>
         requires { HasCell self.old cpu.number thing }

@@ -1,7 +1,7 @@
-pub mod Parts
-pub mod Cutting
+pub mod TwoPieces
+pub mod LastNewline
 pub mod MachineLaws
-pub mod GoingPast
-pub mod Judging
-pub mod Stopping
-pub mod Finishing
+pub mod TakenLines
+pub mod PieceLines
+pub mod StepOutcomes
+pub mod CourseEnds

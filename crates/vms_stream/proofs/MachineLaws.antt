@@ -1,14 +1,16 @@
 -- A machine's lines in two parts.
-use Rattle.std.proofs.Common.{◌≡◌, ℕ, List, [], ◌∷◌, ◌++◌, Option, Some, None, refl, sym, ap, ◌∙◌, append_assoc, append-nil}
+use Rattle.std.proofs.Common.{◌≡◌, ℕ, List, [], ◌∷◌, ◌++◌, Option, Some, None, refl, sym, ap, ◌∙◌, append_assoc}
+use Rattle.std.proofs.Common.{append-nil}
 use Rattle.vms_stream.specs.declared.halts.Halt.{Halt}
-use Rattle.vms_stream.specs.declared.halts.Halt.TheVariants.{Refuses, Passes}
-use Rattle.vms_stream.specs.Machines.{Machine, past, first_halt, halted, printed_from, printed, last_words, output}
+use Rattle.vms_stream.specs.declared.halts.Halt.TheVariants.{Refuses, Exceeds}
+use Rattle.vms_stream.specs.Machines.{Machine, state_after, first_halt, halted, printed_from, printed, last_words}
+use Rattle.vms_stream.specs.Machines.{output}
 
 module _ {S : Type 0} (machine : Machine S) where
-  pub past-append : (s : S) (lines more : List (List ℕ))
-      → past machine s (lines ++ more) ≡ past machine (past machine s lines) more
-  past-append s [] more = refl
-  past-append s (line ∷ lines) more = past-append (machine.next s line) lines more
+  pub state_after-append : (s : S) (lines more : List (List ℕ))
+      → state_after machine s (lines ++ more) ≡ state_after machine (state_after machine s lines) more
+  state_after-append s [] more = refl
+  state_after-append s (line ∷ lines) more = state_after-append (machine.next s line) lines more
 
   first_halt-none : (first later : Option Halt) → first_halt first later ≡ None → (first ≡ None) × (later ≡ None)
   first_halt-none None later none = (refl, none)
@@ -16,7 +18,7 @@ module _ {S : Type 0} (machine : Machine S) where
 
   -- where no line of the first part stops it
   pub halted-append : (s : S) (lines more : List (List ℕ)) → halted machine s lines ≡ None
-      → halted machine s (lines ++ more) ≡ halted machine (past machine s lines) more
+      → halted machine s (lines ++ more) ≡ halted machine (state_after machine s lines) more
   halted-append s [] more none = refl
   halted-append s (line ∷ lines) more none =
       let both = first_halt-none (machine.halts s line) (halted machine (machine.next s line) lines) none in
@@ -24,15 +26,19 @@ module _ {S : Type 0} (machine : Machine S) where
       ∙ halted-append (machine.next s line) lines more both.1
 
   pub printed-append : (s : S) (lines more : List (List ℕ)) → halted machine s lines ≡ None
-      → printed machine s (lines ++ more) ≡ printed machine s lines ++ printed machine (past machine s lines) more
+      → printed machine s (lines ++ more) ≡ printed machine s lines ++ printed machine (state_after machine s lines)
+      more
   printed-append s [] more none = refl
   printed-append s (line ∷ lines) more none =
       let both = first_halt-none (machine.halts s line) (halted machine (machine.next s line) lines) none in
       let next = machine.next s line in
-      ap (λ (first : Option Halt). printed_from first (machine.prints s line) (printed machine next (lines ++ more))) both.0
+      ap (λ (first : Option Halt). printed_from first (machine.prints s line) (printed machine next (lines ++ more)))
+      both.0
       ∙ ap (λ (rest : List ℕ). machine.prints s line ++ rest) (printed-append next lines more both.1)
-      ∙ sym (append_assoc (machine.prints s line) (printed machine next lines) (printed machine (past machine next lines) more))
-      ∙ ap (λ (first : Option Halt). printed_from first (machine.prints s line) (printed machine next lines) ++ printed machine (past machine next lines) more) (sym both.0)
+      ∙ sym (append_assoc (machine.prints s line) (printed machine next lines)
+      (printed machine (state_after machine next lines) more))
+      ∙ ap (λ (first : Option Halt). printed_from first (machine.prints s line) (printed machine next lines)
+      ++ printed machine (state_after machine next lines) more) (sym both.0)
 
   -- what lines print begins what they and more lines print
   begins_from : (first : Option Halt) (line printed all : List ℕ) → (rest : List ℕ) × (all ≡ printed ++ rest)
@@ -40,7 +46,7 @@ module _ {S : Type 0} (machine : Machine S) where
   begins_from None line printed all later =
       (later.0, ap (λ (rest : List ℕ). line ++ rest) later.1 ∙ sym (append_assoc line printed later.0))
   begins_from (Some Refuses) line printed all later = ([], sym (append-nil line))
-  begins_from (Some Passes) line printed all later = ([], refl)
+  begins_from (Some Exceeds) line printed all later = ([], refl)
 
   pub printed-begins : (s : S) (lines more : List (List ℕ))
       → (rest : List ℕ) × (printed machine s (lines ++ more) ≡ printed machine s lines ++ rest)
@@ -53,7 +59,8 @@ module _ {S : Type 0} (machine : Machine S) where
       → (rest : List ℕ) × (output machine (lines ++ more) ≡ printed machine machine.start lines ++ rest)
   output-begins lines more =
       let begins = printed-begins machine.start lines more in
-      let words = last_words (halted machine machine.start (lines ++ more)) (machine.last (past machine machine.start (lines ++ more))) in (
+      let words = last_words (halted machine machine.start (lines ++ more))
+      (machine.last (state_after machine machine.start (lines ++ more))) in (
         begins.0 ++ words,
         ap (λ (front : List ℕ). front ++ words) begins.1
             ∙ append_assoc (printed machine machine.start lines) begins.0 words,
@@ -61,26 +68,31 @@ module _ {S : Type 0} (machine : Machine S) where
 
   -- the whole output where no line stops the machine
   pub output-open : (lines : List (List ℕ)) → halted machine machine.start lines ≡ None
-      → output machine lines ≡ printed machine machine.start lines ++ machine.last (past machine machine.start lines)
+      → output machine lines ≡ printed machine machine.start lines ++ machine.last
+      (state_after machine machine.start lines)
   output-open lines none =
-      ap (λ (halt : Option Halt). printed machine machine.start lines ++ last_words halt (machine.last (past machine machine.start lines))) none
+      ap (λ (halt : Option Halt). printed machine machine.start lines ++ last_words halt
+      (machine.last (state_after machine machine.start lines))) none
 
-  -- nothing is printed behind a line that stops it
+  -- nothing is printed after a line that stops it
   stopped-prints : (halt : Halt) (line later other : List ℕ)
       → printed_from (Some halt) line later ≡ printed_from (Some halt) line other
   stopped-prints Refuses line later other = refl
-  stopped-prints Passes line later other = refl
+  stopped-prints Exceeds line later other = refl
 
   -- where a line of the first part stops it
   pub halted-stops : (s : S) (lines more : List (List ℕ)) (halt : Halt) → halted machine s lines ≡ Some halt
       → (halted machine s (lines ++ more) ≡ Some halt) × (printed machine s (lines ++ more) ≡ printed machine s lines)
   halted-stops s [] more halt some = absurd cc
-  halted-stops s (line ∷ lines) more halt some = by (machine.halts s line) refl (halted-stops (machine.next s line) lines more halt)
+  halted-stops s (line ∷ lines) more halt some =
+      by (machine.halts s line) refl (halted-stops (machine.next s line) lines more halt)
     where
       by : (first : Option Halt) → machine.halts s line ≡ first
-          → (halted machine (machine.next s line) lines ≡ Some halt → (halted machine (machine.next s line) (lines ++ more) ≡ Some halt)
+          → (halted machine (machine.next s line) lines ≡ Some halt
+          → (halted machine (machine.next s line) (lines ++ more) ≡ Some halt)
           × (printed machine (machine.next s line) (lines ++ more) ≡ printed machine (machine.next s line) lines))
-          → (halted machine s ((line ∷ lines) ++ more) ≡ Some halt) × (printed machine s ((line ∷ lines) ++ more) ≡ printed machine s (line ∷ lines))
+          → (halted machine s ((line ∷ lines) ++ more) ≡ Some halt)
+          × (printed machine s ((line ∷ lines) ++ more) ≡ printed machine s (line ∷ lines))
       by None is again =
           let next = machine.next s line in
           let later : halted machine next lines ≡ Some halt
@@ -93,9 +105,12 @@ module _ {S : Type 0} (machine : Machine S) where
           let next = machine.next s line in (
             ap (λ (found : Option Halt). first_halt found (halted machine next (lines ++ more))) is
                 ∙ sym (ap (λ (found : Option Halt). first_halt found (halted machine next lines)) is) ∙ some,
-            ap (λ (found : Option Halt). printed_from found (machine.prints s line) (printed machine next (lines ++ more))) is
-                ∙ stopped-prints first (machine.prints s line) (printed machine next (lines ++ more)) (printed machine next lines)
-                ∙ sym (ap (λ (found : Option Halt). printed_from found (machine.prints s line) (printed machine next lines)) is),
+            ap (λ (found : Option Halt). printed_from found (machine.prints s line)
+                (printed machine next (lines ++ more))) is
+                ∙ stopped-prints first (machine.prints s line) (printed machine next (lines ++ more))
+                (printed machine next lines)
+                ∙ sym (ap (λ (found : Option Halt). printed_from found (machine.prints s line)
+                (printed machine next lines)) is),
           )
 
   -- where no line of both parts stops it, none of the first does

@@ -5,10 +5,11 @@ use Rattle.vms_io.specs.Faults.{Rose}
 use Rattle.vms_stream.specs.declared.endings.Ending.{Ending}
 use Rattle.vms_stream.specs.declared.endings.Ending.TheVariants as endings
 use Rattle.vms_stream.specs.declared.halts.Halt.{Halt}
-use Rattle.vms_stream.specs.declared.halts.Halt.TheVariants.{Refuses, Passes}
+use Rattle.vms_stream.specs.declared.halts.Halt.TheVariants.{Refuses, Exceeds}
 use Rattle.vms_stream.specs.declared.statuses.Status.{Status}
-use Rattle.vms_stream.specs.declared.statuses.Status.TheVariants.{Done, Words, Header, Refused, ReadFault, WriteFault, Memory, TooLong, NotBuilt}
-use Rattle.vms_stream.specs.Machines.{Machine, past, halted, printed, output}
+use Rattle.vms_stream.specs.declared.statuses.Status.TheVariants.{Done, Words, Header, Refused, ReadFault, WriteFault}
+use Rattle.vms_stream.specs.declared.statuses.Status.TheVariants.{Memory, TooLong, NotBuilt}
+use Rattle.vms_stream.specs.Machines.{Machine, state_after, halted, printed, output}
 use Rattle.vms_stream.specs.Pieces.{whole_lines, partial_line}
 use Rattle.vms_text.specs.Lines.{lines_of}
 
@@ -25,7 +26,7 @@ abbrev pub IsJudged : List ℕ → List (List ℕ) → Type 0 → Type 0
 IsJudged taken lines at_end =
     (lines ≡ lines_taken taken) ⊎ (at_end × (length taken ≤ most_bytes) × (lines ≡ lines_of taken))
 
--- nothing was read behind the piece that decided: before it the command went on. A piece has 64 KiB at most, or as many
+-- nothing was read after the piece that decided: before it the command went on. A piece has 64 KiB at most, or as many
 -- bytes as the line in which it begins had before it
 pub record IsLastPiece {S : Type 0} (machine : Machine S) (taken : List ℕ) : Type 0 where
   pub before : List ℕ
@@ -57,9 +58,9 @@ pub record Ends {S : Type 0} (machine : Machine S) (shows : S → Type 0) (endin
   pub ended : at_end
   pub within : length taken ≤ most_bytes
   pub none_halts : halted machine machine.start (lines_of taken) ≡ None
-  pub ending_is : machine.ends (past machine machine.start (lines_of taken)) ≡ ending
+  pub ending_is : machine.ends (state_after machine machine.start (lines_of taken)) ≡ ending
   pub whole_output : written ≡ output machine (lines_of taken)
-  pub shown : shows (past machine machine.start (lines_of taken))
+  pub shown : shows (state_after machine machine.start (lines_of taken))
 
 -- the command went on, and all was written that the whole lines print
 pub record GoesOn {S : Type 0} (machine : Machine S) (taken written : List ℕ) : Type 0 where
@@ -67,14 +68,14 @@ pub record GoesOn {S : Type 0} (machine : Machine S) (taken written : List ℕ) 
   pub none_halts : halted machine machine.start (whole_lines taken) ≡ None
   pub all_written : written ≡ printed machine machine.start (whole_lines taken)
 
--- what was written begins the output of what was taken, as if the input ended there; nothing was read behind a piece
--- in which a line stopped the command or in which the bytes passed 64 MiB
+-- what was written begins the output of what was taken, as if the input ended there; nothing was read after a piece
+-- in which a line stopped the command, or the bytes exceeded 64 MiB
 pub record BeginsOutput {S : Type 0} (machine : Machine S) (taken written : List ℕ) : Type 0 where
   pub unwritten : List ℕ
   pub begins : output machine (lines_of taken) ≡ written ++ unwritten
   pub last_piece : IsLastPiece machine taken
 
--- what each status of a command says, whose job shows this at the end of its input
+-- what each status of a command says. `shows` is what its job shows at the end of the input
 abbrev pub Says : {S : Type 0} → Machine S → (S → Type 0) → Status → List ℕ → List ℕ → Type 0 → Type 0
 Says machine shows Done taken written at_end = Ends machine shows endings.Done taken written at_end
 Says machine shows Words taken written at_end = ⊥
@@ -85,7 +86,7 @@ Says machine shows ReadFault taken written at_end = GoesOn machine taken written
 Says machine shows WriteFault taken written at_end = BeginsOutput machine taken written
 Says machine shows Memory taken written at_end = BeginsOutput machine taken written
 Says machine shows TooLong taken written at_end =
-    Halts machine Passes taken written at_end ⊎ Oversteps machine taken written
+    Halts machine Exceeds taken written at_end ⊎ Oversteps machine taken written
 Says machine shows NotBuilt taken written at_end = Ends machine shows endings.NotBuilt taken written at_end
 
 -- a command took these bytes from its source and wrote these to its sink, and its status says what they are

@@ -1,5 +1,6 @@
 -- A command on its way through its input.
-use Rattle.std.specs.Prelude.{◌≡◌, ℕ, ◌-◌, ◌≤◌, ◌<◌, Bool, true, false, List, [], ◌++◌, length, take, Option, Some, None, Result, Ok, Err, MatchResult}
+use Rattle.std.specs.Prelude.{◌≡◌, ℕ, ◌-◌, ◌≤◌, ◌<◌, Bool, true, false, List, [], ◌++◌, length, take, Option, Some}
+use Rattle.std.specs.Prelude.{None, Result, Ok, Err, MatchResult}
 use Rattle.std.specs.Io.KnownBytes.{Appends, Consumes, IsAtEnd}
 use Rattle.vms_stream.specs.declared.courses.Course.{Course}
 use Rattle.vms_stream.specs.declared.endings.Ending.{Ending}
@@ -11,7 +12,7 @@ use Rattle.vms_stream.specs.declared.statuses.Status.TheVariants as statuses
 use Rattle.vms_stream.specs.declared.stops.Stop.{Stop}
 use Rattle.vms_stream.specs.declared.stops.Stop.TheVariants.{Header, ReadFault, WriteFault, Memory, TooLong}
 use Rattle.vms_stream.specs.Answers.{most_bytes, FaultsOfSource, FaultsOfSink, Says}
-use Rattle.vms_stream.specs.Machines.{Machine, past, halted, printed}
+use Rattle.vms_stream.specs.Machines.{Machine, state_after, halted, printed}
 use Rattle.vms_stream.specs.Pieces.{whole_lines, partial_line}
 use Rattle.vms_text.specs.Lines.{lines_of}
 
@@ -26,7 +27,7 @@ status_of TooLong = statuses.TooLong
 -- why a line stops a command
 abbrev pub stop_of_halt : Halt → Stop
 stop_of_halt halts.Refuses = Header
-stop_of_halt halts.Passes = TooLong
+stop_of_halt halts.Exceeds = TooLong
 
 -- the status of a command that came to the end of its input
 abbrev pub status_at_end : Ending → Status
@@ -53,7 +54,7 @@ abbrev pub lines_judged : Bool → List ℕ → List (List ℕ)
 lines_judged true taken = lines_of taken
 lines_judged false taken = whole_lines taken
 
--- so many bytes of what is held count: those of the first 64 MiB that were taken
+-- how many bytes of what is held count: those that are among the first 64 MiB that were taken
 abbrev pub counted_bytes : Course → ℕ
 counted_bytes course = length course.input - (course.taken - most_bytes)
 
@@ -61,21 +62,21 @@ counted_bytes course = length course.input - (course.taken - most_bytes)
 abbrev pub lines_held : Course → List (List ℕ)
 lines_held course = lines_judged course.at_end (take (counted_bytes course) course.input)
 
--- a course between two pieces: the job stands behind the lines that were taken, all was written that they print, and
--- what stands behind the last newline is held
+-- a course between two pieces: the job stands after the lines that were taken, all was written that they print, and
+-- what stands after the last newline is held
 pub record IsCourse {S : Type 0} (machine : Machine S) (stands : S → Type 0) (taken written : List ℕ)
     (course : Course) : Type 0 where
   pub counted : course.taken ≡ length taken
   pub within : length taken ≤ most_bytes
   pub none_halts : halted machine machine.start (lines_judged course.at_end taken) ≡ None
-  pub stands_behind : stands (past machine machine.start (lines_judged course.at_end taken))
+  pub stands_after : stands (state_after machine machine.start (lines_judged course.at_end taken))
   pub all_written : written ≡ printed machine machine.start (lines_judged course.at_end taken)
   pub nothing_waits : course.waiting.items ≡ []
   pub held : course.at_end ≡ false → course.input ≡ partial_line taken
 
 -- one piece further: bytes were taken and bytes were written, and the course goes on or stops
-pub record Steps {S : Type 0} (machine : Machine S) (stands shows : S → Type 0) (taken written : List ℕ) (course' : Course)
-    (left left' held held' : Option (List ℕ)) (result : Result (Unit {0}) Stop) : Type 0 where
+pub record Steps {S : Type 0} (machine : Machine S) (stands shows : S → Type 0) (taken written : List ℕ)
+    (course' : Course) (left left' held held' : Option (List ℕ)) (result : Result (Unit {0}) Stop) : Type 0 where
   pub more : List ℕ
   pub moved : List ℕ
   pub consumes : Consumes left left' more
@@ -93,7 +94,7 @@ pub record Finishes {S : Type 0} (machine : Machine S) (shows : S → Type 0) (t
   pub outcome : (left : Option (List ℕ)) → IsAtEnd left
       → Says machine shows (status_in result) taken (written ++ moved) (IsAtEnd left)
 
--- a command stops at a line that stops it, and else behind too many bytes
+-- a command stops where a line stops it, and else where there are too many bytes
 abbrev pub StopsAt : Option Halt → ℕ → Result (Unit {0}) Stop → Type 0
 StopsAt (Some halt) taken result = result ≡ Err (stop_of_halt halt)
 StopsAt None taken result =

@@ -2,17 +2,17 @@
 use Rattle.std.specs.Prelude.{◌≡◌, ℕ, List, ◌++◌, Option, None}
 use Rattle.vms_stream.specs.declared.endings.Ending.{Ending}
 use Rattle.vms_stream.specs.declared.halts.Halt.{Halt}
-use Rattle.vms_stream.specs.Machines.{Machine, past, halted, printed}
+use Rattle.vms_stream.specs.Machines.{Machine, state_after, halted, printed}
 
--- a job went past lines: it says whether one of them stops the command, and prints what they print; if none does, it
--- stands behind them
-pub record GoesPast {S : Type 0} (machine : Machine S) (stands : S → Type 0) (s : S) (lines : List (List ℕ))
+-- a job took lines: it says whether one of them stops the command, and prints what they print; if none does, it
+-- stands after them
+pub record TakesLines {S : Type 0} (machine : Machine S) (stands : S → Type 0) (s : S) (lines : List (List ℕ))
     (halt : Option Halt) (out out' : List ℕ) : Type 0 where
   pub halt_of : halt ≡ halted machine s lines
   pub prints : out' ≡ out ++ printed machine s lines
-  pub stands_behind : halt ≡ None → stands (past machine s lines)
+  pub stands_after : halt ≡ None → stands (state_after machine s lines)
 
--- a job ended its input, and shows something of the state that its machine came to
+-- a job came to the end of its input, and shows this of its machine's state
 pub record Closes {S : Type 0} (machine : Machine S) (shows : S → Type 0) (s : S) (ending : Ending)
     (out out' : List ℕ) : Type 0 where
   pub ends : ending ≡ machine.ends s

@@ -2,13 +2,13 @@
 use Rattle.std.specs.Prelude.{ℕ, List, [], ◌∷◌, ◌++◌, Option, Some, None}
 use Rattle.vms_stream.specs.declared.endings.Ending.{Ending}
 use Rattle.vms_stream.specs.declared.halts.Halt.{Halt}
-use Rattle.vms_stream.specs.declared.halts.Halt.TheVariants.{Refuses, Passes}
+use Rattle.vms_stream.specs.declared.halts.Halt.TheVariants.{Refuses, Exceeds}
 
 -- a command as a machine that goes from line to line, with a state between them
 pub record Machine (S : Type 0) : Type 0 where
   -- before the first line
   pub start : S
-  -- behind a line
+  -- after a line
   pub next : S → List ℕ → S
   -- what the line prints
   pub prints : S → List ℕ → List ℕ
@@ -19,10 +19,10 @@ pub record Machine (S : Type 0) : Type 0 where
   -- how the command ends there
   pub ends : S → Ending
 
--- the state behind these lines
-abbrev pub past : {S : Type 0} → Machine S → S → List (List ℕ) → S
-past machine s [] = s
-past machine s (line ∷ lines) = past machine (machine.next s line) lines
+-- the state after these lines
+abbrev pub state_after : {S : Type 0} → Machine S → S → List (List ℕ) → S
+state_after machine s [] = s
+state_after machine s (line ∷ lines) = state_after machine (machine.next s line) lines
 
 -- the first reason, if there is one, and else the later one
 abbrev pub first_halt : Option Halt → Option Halt → Option Halt
@@ -34,11 +34,11 @@ abbrev pub halted : {S : Type 0} → Machine S → S → List (List ℕ) → Opt
 halted machine s [] = None
 halted machine s (line ∷ lines) = first_halt (machine.halts s line) (halted machine (machine.next s line) lines)
 
--- what is printed from a line on: nothing behind one that stops the command, and that one prints where it refuses
+-- what is printed from a line on: nothing after one that stops the command, and that one prints where it refuses
 abbrev pub printed_from : Option Halt → List ℕ → List ℕ → List ℕ
 printed_from None line later = line ++ later
 printed_from (Some Refuses) line later = line
-printed_from (Some Passes) line later = []
+printed_from (Some Exceeds) line later = []
 
 -- what these lines print
 abbrev pub printed : {S : Type 0} → Machine S → S → List (List ℕ) → List ℕ
@@ -46,7 +46,7 @@ printed machine s [] = []
 printed machine s (line ∷ lines) =
     printed_from (machine.halts s line) (machine.prints s line) (printed machine (machine.next s line) lines)
 
--- what is printed behind the lines: the last words, unless the command stopped
+-- what is printed after the lines: the last words, unless the command stopped
 abbrev pub last_words : Option Halt → List ℕ → List ℕ
 last_words None words = words
 last_words (Some halt) words = []
@@ -54,4 +54,4 @@ last_words (Some halt) words = []
 -- the whole output of a text of these lines
 abbrev pub output : {S : Type 0} → Machine S → List (List ℕ) → List ℕ
 output machine lines = printed machine machine.start lines
-    ++ last_words (halted machine machine.start lines) (machine.last (past machine machine.start lines))
+    ++ last_words (halted machine machine.start lines) (machine.last (state_after machine machine.start lines))

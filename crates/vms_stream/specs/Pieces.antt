@@ -2,7 +2,7 @@
 use Rattle.std.specs.Prelude.{ℕ, ◌==◌, List, [], ◌∷◌}
 use Rattle.std.specs.List.{slice_split}
 
--- what stands between the newlines of a text, before the first one and behind the last
+-- what stands between the newlines of a text, before the first one and after the last
 abbrev pub parts_of : List ℕ → List (List ℕ)
 parts_of text = slice_split (λ byte. byte == 10) text
 
@@ -21,6 +21,6 @@ last_of (part ∷ (next ∷ parts)) = last_of (next ∷ parts)
 abbrev pub whole_lines : List ℕ → List (List ℕ)
 whole_lines text = front_of (parts_of text)
 
--- what stands behind the last newline, or all where there is none
+-- what stands after the last newline, or all where there is none
 abbrev pub partial_line : List ℕ → List ℕ
 partial_line text = last_of (parts_of text)

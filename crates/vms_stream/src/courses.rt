@@ -1,5 +1,5 @@
-use crate::passing::pass_lines;
 use crate::stops::{Stop, stop_of_halt, stop_of_read};
+use crate::taking::take_lines;
 use crate::{Ending, Halt, Job, Status};
 use memchr::memrchr;
 use std::alloc::Global;
@@ -29,7 +29,7 @@ impl Course {
     ghost use Rattle.vms_stream.specs.Answers.{FaultsOfSource, FaultsOfSink, most_bytes};
     ghost use Rattle.vms_stream.specs.Courses.{CountsReads, CountsWrites, Finishes, IsCourse, Steps};
     ghost use Rattle.vms_stream.specs.Courses.{lines_held, status_in};
-    ghost use Rattle.vms_stream.specs.Jobs.{GoesPast};
+    ghost use Rattle.vms_stream.specs.Jobs.{TakesLines};
     ghost use Rattle.vms_stream.specs.Pieces.{partial_line};
     ghost use Rattle.vms_text.specs.Lines.{lines_of};
 
@@ -72,7 +72,7 @@ impl Course {
         ensures within { result ≤ length self.old.input }
         ensures same { self.new ≡ self.old }
         ensures lines { lines_of (take result self.old.input) ≡ lines_held self.old }
-        ensures behind { self.old.at_end ≡ false → self.old.taken ≤ most_bytes →
+        ensures after { self.old.at_end ≡ false → self.old.taken ≤ most_bytes →
             drop result self.old.input ≡ partial_line self.old.input }
     {
         let held = self.input.bytes().len();
@@ -91,7 +91,7 @@ impl Course {
         requires job { (s : J.State) × J.Stands job.old s }
         requires counted { self.old.taken ≤ most_bytes + length self.old.input }
         ensures lines { IfOk result (λ halt. (s : J.State) → J.Stands job.old s →
-            GoesPast J.machine (J.Stands job.new) s (lines_held self.old) halt
+            TakesLines J.machine (J.Stands job.new) s (lines_held self.old) halt
             self.old.waiting.items self.new.waiting.items) }
         ensures held { OnOk result (self.old.at_end ≡ false → self.old.taken ≤ most_bytes →
             self.new.input ≡ partial_line self.old.input) }
@@ -99,12 +99,12 @@ impl Course {
         ensures same_end { self.new.at_end ≡ self.old.at_end }
     {
         let ready = self.ready();
-        let halt = pass_lines(job, &self.input.bytes()[..ready], &mut self.waiting)?;
+        let halt = take_lines(job, &self.input.bytes()[..ready], &mut self.waiting)?;
         self.input.drop_front(ready);
         Ok(halt)
     }
 
-    /// Writes what waits, after which nothing does.
+    /// Writes what waits. Then nothing waits.
     fn flush<K: Sink>(&mut self, out: &mut K) -> Result<(), Stop>
         ensures ok { OnOk result (Appends (K.written out.old) (K.written out.new) self.old.waiting.items) }
         ensures empty { OnOk result (self.new.waiting.items ≡ []) }
@@ -121,7 +121,7 @@ impl Course {
         Ok(())
     }
 
-    /// Goes one piece of the input further.
+    /// Reads a piece of the input, judges it, and writes what its lines print.
     pub(crate) fn step<J: Job, S: Source, K: Sink>(
         &mut self,
         job: &mut J,
@@ -133,7 +133,8 @@ impl Course {
         requires before_end { self.old.at_end ≡ false }
         ensures steps { (taken : List ℕ) (written : List ℕ) →
             IsCourse J.machine (J.Stands job.old) taken written self.old →
-            Steps J.machine (J.Stands job.new) J.Shows taken written self.new (S.remaining src.old) (S.remaining src.new)
+            Steps J.machine (J.Stands job.new) J.Shows taken written self.new
+            (S.remaining src.old) (S.remaining src.new)
             (K.written out.old) (K.written out.new) result }
         ensures reads { CountsReads result (S.faults src.old) (S.faults src.new) }
         ensures writes { CountsWrites result (K.faults out.old) (K.faults out.new) }
@@ -191,7 +192,7 @@ fn last_line_end(bytes: &[u8]) -> usize
     }
 }
 
-/// Stops at a line that stops the command, and else behind too many bytes.
+/// Stops where a line stops the command, and else where there are too many bytes.
 fn stop_at(halt: Option<Halt>, taken: usize) -> Result<(), Stop>
     ensures { StopsAt halt taken result }
 {

@@ -3,6 +3,6 @@
 pub enum Halt {
     /// The header is refused at the line, and what the line prints says so.
     Refuses,
-    /// The line passes a limit. It prints nothing.
-    Passes,
+    /// The line exceeds a limit. It prints nothing.
+    Exceeds,
 }

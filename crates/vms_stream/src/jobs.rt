@@ -1,6 +1,6 @@
 ghost use Rattle.std.specs.Prelude.{List, ℕ, IfOk, ◌∷◌, []};
 ghost use Rattle.vms_stream.specs.Machines.{Machine};
-ghost use Rattle.vms_stream.specs.Jobs.{Closes, GoesPast};
+ghost use Rattle.vms_stream.specs.Jobs.{Closes, TakesLines};
 
 use crate::{Ending, Halt};
 use vms_base::Memory;
@@ -11,18 +11,18 @@ pub trait Job {
 
     ghost machine: { Machine State };
 
-    // The job stands behind lines that bring the machine to this state.
+    // The job stands after lines that bring the machine to this state.
     ghost Stands: { Self → State → Type 0 };
 
-    // What the job shows at the end of its input of the state that the machine came to.
+    // What the job shows of the machine's state at the end of the input.
     ghost Shows: { State → Type 0 };
 
-    /// Goes past a line, which is without its newline, and appends what it prints. Says why the command stops at the
+    /// Takes a line, which is without its newline, and appends what it prints. Says why the command stops at the
     /// line, if it does.
-    fn pass(&mut self, line: &[u8], out: &mut Vec<u8>) -> Result<Option<Halt>, Memory>
+    fn take_line(&mut self, line: &[u8], out: &mut Vec<u8>) -> Result<Option<Halt>, Memory>
         requires { (s : State) × Stands self.old s }
         ensures { IfOk result (λ halt. (s : State) → Stands self.old s →
-            GoesPast machine (Stands self.new) s (line.now ∷ []) halt out.old.items out.new.items) };
+            TakesLines machine (Stands self.new) s (line.now ∷ []) halt out.old.items out.new.items) };
 
     /// Comes to the end of the input, appends what is printed there, and says how the command ends.
     fn end(&mut self, out: &mut Vec<u8>) -> Result<Ending, Memory>

@@ -5,12 +5,10 @@ mod courses;
 mod endings;
 mod halts;
 mod jobs;
-mod passing;
 mod statuses;
 mod stops;
 mod streaming;
-#[cfg(test)]
-mod tests;
+mod taking;
 
 pub use endings::Ending;
 pub use halts::Halt;

@@ -15,7 +15,7 @@ pub enum Status {
     WriteFault,
     /// Memory ran out.
     Memory,
-    /// The input passes a limit, as that of 64 MiB.
+    /// The input exceeds a limit, such as 64 MiB.
     TooLong,
     /// The input was read to its end, and some line is of a form that isn't built.
     NotBuilt,

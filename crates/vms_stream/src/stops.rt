@@ -71,6 +71,6 @@ pub(crate) fn stop_of_halt(halt: Halt) -> Stop
 {
     match halt {
         Halt::Refuses => Stop::Header,
-        Halt::Passes => Stop::TooLong,
+        Halt::Exceeds => Stop::TooLong,
     }
 }

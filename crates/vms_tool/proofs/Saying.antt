@@ -10,7 +10,8 @@ use Rattle.vms_tool.specs.Naming.{command_of}
 use Rattle.vms_tool.specs.declared.naming.Command.{Command}
 
 -- the write of the usage line failed
-pub ShowsUsage-unwritten : (held held' : Option (List ℕ)) (n : ℕ) → Appends held held' (take n usage_line) → ShowsUsage held held' WriteFault
+pub ShowsUsage-unwritten : (held held' : Option (List ℕ)) (n : ℕ) → Appends held held' (take n usage_line)
+    → ShowsUsage held held' WriteFault
 ShowsUsage-unwritten held held' n appends = record {
   written = take n usage_line;
   appends = appends;
@@ -18,7 +19,8 @@ ShowsUsage-unwritten held held' n appends = record {
 }
 
 -- what a command answers is what its words say
-pub Answers-named : (left left' held held' : Option (List ℕ)) (words : List (List ℕ)) (named : Option Command) (status : Status)
+pub Answers-named : (left left' held held' : Option (List ℕ)) (words : List (List ℕ)) (named : Option Command)
+    (status : Status)
     → command_of words ≡ named → Answers left left' held held' status (SaysOf named)
     → Answers left left' held held' status (SaysUnder words)
 Answers-named left left' held held' words named status is answers = record {
@@ -26,7 +28,8 @@ Answers-named left left' held held' words named status is answers = record {
   written = answers.written;
   consumes = answers.consumes;
   appends = answers.appends;
-  answer = subst (λ (n : Option Command). SaysOf n status answers.taken answers.written (IsAtEnd left')) (sym is) answers.answer;
+  answer = subst (λ (n : Option Command). SaysOf n status answers.taken answers.written (IsAtEnd left')) (sym is)
+      answers.answer;
 }
 
 -- words that name no command

@@ -1,24 +1,10 @@
-//! Trials of the whole program over sources and sinks in memory: traces with the output that is due, and faults of the
-//! devices.
+//! What the trials of the whole program share: devices in memory, and a run of the tool whose answer is due.
 #![tactic(auto)]
 
-#[cfg(test)]
-mod checks;
-#[cfg(test)]
-mod faults;
-#[cfg(test)]
-mod headers;
-#[cfg(test)]
-mod limits;
-#[cfg(test)]
-mod replays;
-#[cfg(test)]
+mod devices;
 mod runs;
-#[cfg(test)]
-mod spellings;
-#[cfg(test)]
-mod totals;
-#[cfg(test)]
-mod unbuilt;
-#[cfg(test)]
-mod usage;
+mod texts;
+
+pub use devices::{Devices, SOUND};
+pub use runs::{Trial, answers, answers_on, run};
+pub use texts::{AFTER_ZONE, BETWEEN, HEADER};

@@ -1,7 +1,8 @@
 -- The exit status of the program.
 use Rattle.std.specs.Prelude.{ℕ}
 use Rattle.vms_stream.specs.declared.statuses.Status.{Status}
-use Rattle.vms_stream.specs.declared.statuses.Status.TheVariants.{Done, Words, Header, Refused, ReadFault, WriteFault, Memory, TooLong, NotBuilt}
+use Rattle.vms_stream.specs.declared.statuses.Status.TheVariants.{Done, Words, Header, Refused, ReadFault, WriteFault}
+use Rattle.vms_stream.specs.declared.statuses.Status.TheVariants.{Memory, TooLong, NotBuilt}
 
 -- the exit status of a run, by how its command ended
 abbrev pub code_of : Status → ℕ

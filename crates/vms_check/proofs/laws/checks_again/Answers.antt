@@ -1,5 +1,5 @@
-use Rattle.vms_check.proofs.WrittenAgain.{checks-again}
+use Rattle.vms_check.proofs.WrittenAgain.{ChecksAgain-holds}
 use Rattle.vms_check.proofs.laws.checks_again.Goals as goal
 
 pub returns : goal.returns
-returns c = checks-again
+returns c = ChecksAgain-holds

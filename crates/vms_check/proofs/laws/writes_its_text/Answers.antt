@@ -1,6 +1,6 @@
 use Rattle.vms_check.specs.Checking.{checking}
-use Rattle.vms_command.proofs.WholeText.{writes-texts}
+use Rattle.vms_command.proofs.WholeText.{WritesTexts-holds}
 use Rattle.vms_check.proofs.laws.writes_its_text.Goals as goal
 
 pub returns : goal.returns
-returns c = writes-texts checking
+returns c = WritesTexts-holds checking

@@ -1,10 +1,10 @@
 use Rattle.std.proofs.Common.{sym, pos, arith}
-use Rattle.vms_text.proofs.Appends.{Begins-behind, OnErr-true, append_twice}
+use Rattle.vms_text.proofs.Appends.{Begins-after, OnErr-true, append_twice}
 use Rattle.vms_header.proofs.BaseLines.{base_lines-take_more}
 use Rattle.vms_header.proofs.header_spelling.write_bases.Goals as goal
 
 pub returns-in_err-write_base-clause-err : goal.returns-in_err-write_base-clause-err
-returns-in_err-write_base-clause-err c = OnErr-true c.from_residual.result _ (Begins-behind _ _ _ _ c.loop-counter.invariant c.in_err-write_base.ensures.err)
+returns-in_err-write_base-clause-err c = OnErr-true c.from_residual.result _ (Begins-after _ _ _ _ c.loop-counter.invariant c.in_err-write_base.ensures.err)
 
 pub loop-counter-preserved : goal.loop-counter-preserved
 loop-counter-preserved c =

@@ -2,7 +2,7 @@ use Rattle.std.proofs.Common.{◌∙◌, ◌∷◌, [], ◌++◌, ap, flat_map, 
 use Rattle.std.specs.Prelude.{codes, zip}
 use Rattle.vms_header.specs.Spelling.{counter_line_words, cpus_words, item_words, version_words, zone_line_words}
 use Rattle.vms_text.specs.Spelling.{sentence}
-use Rattle.vms_text.proofs.Appends.{Begins-behind, OnErr-from, OnOk-from}
+use Rattle.vms_text.proofs.Appends.{Begins-after, OnErr-from, OnOk-from}
 use Rattle.vms_header.proofs.HeaderLines.{appended_six, spelled_header-parts}
 use Rattle.vms_header.proofs.header_spelling.write_header.Goals as goal
 
@@ -21,6 +21,6 @@ returns-clause-ok c =
 pub returns-clause-err : goal.returns-clause-err
 returns-clause-err c =
     OnErr-from c.write_words.result _ _
-    (λ last. Begins-behind _ _ _ _ c.in_ok-write_opening.ensures.ok (Begins-behind _ _ _ _ c.in_ok-write_items.ensures.ok (Begins-behind _ _ _ _ c.in_ok-write_zones.ensures.ok
-    (Begins-behind _ _ _ _ c.in_ok-write_bases.ensures.ok (Begins-behind _ _ _ _ c.in_ok-write_counters.ensures.ok last)))))
+    (λ last. Begins-after _ _ _ _ c.in_ok-write_opening.ensures.ok (Begins-after _ _ _ _ c.in_ok-write_items.ensures.ok (Begins-after _ _ _ _ c.in_ok-write_zones.ensures.ok
+    (Begins-after _ _ _ _ c.in_ok-write_bases.ensures.ok (Begins-after _ _ _ _ c.in_ok-write_counters.ensures.ok last)))))
     c.write_words.ensures.err

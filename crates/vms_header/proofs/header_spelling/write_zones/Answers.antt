@@ -1,10 +1,10 @@
 use Rattle.std.proofs.Common.{◌++◌, ◌∙◌, ap}
-use Rattle.vms_text.proofs.Appends.{Begins-behind, OnErr-true, append_twice}
+use Rattle.vms_text.proofs.Appends.{Begins-after, OnErr-true, append_twice}
 use Rattle.vms_header.proofs.HeaderLines.{zone_lines-all, zone_lines-take_more}
 use Rattle.vms_header.proofs.header_spelling.write_zones.Goals as goal
 
 pub returns-in_err-write_zone-clause-err : goal.returns-in_err-write_zone-clause-err
-returns-in_err-write_zone-clause-err c = OnErr-true c.from_residual.result _ (Begins-behind _ _ _ _ c.loop-place.invariant c.in_err-write_zone.ensures.err)
+returns-in_err-write_zone-clause-err c = OnErr-true c.from_residual.result _ (Begins-after _ _ _ _ c.loop-place.invariant c.in_err-write_zone.ensures.err)
 
 pub loop-place-preserved : goal.loop-place-preserved
 loop-place-preserved c =

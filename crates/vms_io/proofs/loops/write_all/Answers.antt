@@ -8,6 +8,8 @@ loop-rest-preserved g c =
     let rest = c.loop-rest.rest.now in (
       Wrote-more _ _ _ _ rest c.in_ok-taken.taken wrote c.in_ok-taken.ensures.some.1 c.in_ok-taken.ensures.bytes,
       c.in_ok-taken.ensures.faults ∙ same,
-      λ empty. let long : length rest ≡ length c.args.bytes.now - wrote.done = ap length wrote.left ∙ length-drop wrote.done c.args.bytes.now in
-          let none : length c.args.bytes.now ≡ 0 = ap length empty in absurd (omega (arith, c.in_ok-taken.ensures.some)),
+      λ empty. let long : length rest ≡ length c.args.bytes.now - wrote.done = ap length wrote.left
+          ∙ length-drop wrote.done c.args.bytes.now in
+          let none : length c.args.bytes.now ≡ 0 = ap length empty in
+          absurd (omega (arith, c.in_ok-taken.ensures.some)),
     )

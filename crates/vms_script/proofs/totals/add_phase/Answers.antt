@@ -1,5 +1,5 @@
 use Rattle.std.proofs.Common.{rules, ◌≡◌, pos, ◌+ℤ◌, sym, ap, ◌∙◌, subst, w64, FitsSigned, to_z, of_z, to_z-of_z}
-use Rattle.vms_script.proofs.Changes.{Leads-none, Leads-some, change-fits, change_of-within}
+use Rattle.vms_script.proofs.Changes.{Leads-unchanged, Leads-some, change-fits, change_of-within}
 use Rattle.vms_script.proofs.totals.add_phase.Goals as goal
 use Rattle.vms_script.proofs.totals.add_phase.Goals.{in-Some, in_default}
 
@@ -36,6 +36,6 @@ loop-item-preserved c = elim c.match-change_of.branch [
       (w.in-Some.counter, w.in-Some.pages) _ c.loop-item-test.true (sym w.in-Some.ensures) within
       (kept ∙ ap (λ n. n +ℤ w.in-Some.pages) (sym (w.get.ensures (pos 0)))) c.loop-item.invariant)
   | in_default w ↦ rw w.totals-is
-      (Leads-none _ _ c.args.items.now c.loop-item.item-index _ c.loop-item.totals c.loop-item-test.true
+      (Leads-unchanged _ _ c.args.items.now c.loop-item.item-index _ c.loop-item.totals c.loop-item-test.true
       (sym w.in_default.ensures) c.loop-item.invariant)
 ]

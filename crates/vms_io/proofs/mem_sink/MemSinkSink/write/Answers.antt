@@ -10,7 +10,12 @@ returns-clause-fails c =
     let same : c.args.self.now.calls ≡ calls = ap (λ out. out.calls) (sym c.self.view_is) in (
       λ no. absurd (cc),
       λ why. elim why [
-        | inl fails ↦ c.if-next.ensures.fails.1 (subst (λ t. Contains t.fails t.made) (sym c.next.ensures.made) (subst FailsNext same fails))
-        | inr full ↦ absurd (omega (arith, subst IsFull (sym c.self.view_is) full, length-take c.self.inside.used c.self.inside.room.items))
+        | inl fails ↦ c.if-next.ensures.fails.1 (subst (λ t. Contains t.fails t.made) (sym c.next.ensures.made)
+            (subst FailsNext same fails))
+        | inr full ↦ absurd (omega (
+          arith,
+          subst IsFull (sym c.self.view_is) full,
+          length-take c.self.inside.used c.self.inside.room.items,
+        ))
       ],
     )

@@ -7,9 +7,11 @@ returns-clause-bytes c =
     let given = c.self.inside.given in
     let n = c.min-count.result in
     let items = c.self.inside.bytes.items in
-    let long : length items ≡ c.len.result = ap length (sym c.deref.ensures.value) ∙ c.deref.ensures.len ∙ sym c.len.ensures in (
+    let long : length items ≡ c.len.result = ap length (sym c.deref.ensures.value) ∙ c.deref.ensures.len
+    ∙ sym c.len.ensures in (
       sym (ap (λ src. src.left) c.self.view_is)
           ∙ left-is items c.copy_from_slice.new.self c.args.buf.now given n (omega (arith, c.min-count.ensures))
           (c.copy_from_slice.ensures.after ∙ ap (λ l. take (given + n - given) (drop given l)) c.deref.ensures.value),
-      λ none room. drop_of_length-le items (omega (arith, c.min-count.ensures, c.min.ensures, c.requires, c.self.invariant.some)),
+      λ none room. drop_of_length-le items
+          (omega (arith, c.min-count.ensures, c.min.ensures, c.requires, c.self.invariant.some)),
     )

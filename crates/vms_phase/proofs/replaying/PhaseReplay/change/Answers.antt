@@ -24,13 +24,17 @@ invariant_of-self c =
 pub returns-clause-opens : goal.returns-clause-opens
 returns-clause-opens c = λ facts items n layout_is opened affordable.
     let now = c.args.self.now in
-    let next : c.change.new.self ≡ with_change facts.layout c.args.cpu.number c.args.counter.number c.args.delta c.args.mode
+    let next : c.change.new.self ≡ with_change facts.layout c.args.cpu.number c.args.counter.number c.args.delta
+    c.args.mode
     now.state =
     c.change.ensures.after
-    ∙ ap (λ z. with_change c.self.inside.layout c.args.cpu.number c.args.counter.number z c.args.mode c.self.inside.plain)
+    ∙ ap (λ z. with_change c.self.inside.layout c.args.cpu.number c.args.counter.number z c.args.mode
+    c.self.inside.plain)
     (to_z-of_z c.ranges.delta)
-    ∙ ap (λ m. with_change m.shape c.args.cpu.number c.args.counter.number c.args.delta c.args.mode m.state) c.self.view_is
-    ∙ ap (λ (shape : Shape). with_change shape c.args.cpu.number c.args.counter.number c.args.delta c.args.mode now.state)
+    ∙ ap (λ m. with_change m.shape c.args.cpu.number c.args.counter.number c.args.delta c.args.mode m.state)
+    c.self.view_is
+    ∙ ap (λ (shape : Shape). with_change shape c.args.cpu.number c.args.counter.number c.args.delta c.args.mode
+    now.state)
     (sym layout_is) in
     IsOpen-line facts items now.state c.change.new.self n c.args.cpu c.args.counter c.args.delta c.args.mode
     c.requires.fits opened

@@ -1,5 +1,6 @@
 -- A CPU more adds its differential.
-use Rattle.std.proofs.Common.{◌≡◌, ℕ, suc, ◌+◌, ◌*◌, ◌^◌, ◌<◌, ◌≤◌, ℤ, ◌+ℤ◌, unsigned_abs, FitsSigned, w64, to_z, of_z, ap, subst, sym, ◌∙◌, arith}
+use Rattle.std.proofs.Common.{◌≡◌, ℕ, suc, ◌+◌, ◌*◌, ◌^◌, ◌<◌, ◌≤◌, ℤ, ◌+ℤ◌, unsigned_abs, FitsSigned, w64, to_z, of_z}
+use Rattle.std.proofs.Common.{ap, subst, sym, ◌∙◌, arith}
 use Rattle.std.proofs.lemmas.Int.{ints, to_z-of_z}
 use Rattle.vms_history.specs.Sums.{sum_below}
 use Rattle.vms_core.specs.Cells.{value_at, diff_at}

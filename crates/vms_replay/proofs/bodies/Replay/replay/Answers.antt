@@ -1,6 +1,6 @@
 use Rattle.std.proofs.Common.{sym, subst, Ok}
-use Rattle.vms_replay.proofs.Passing.{Goes-blank}
-use Rattle.vms_replay.specs.Standing.{Goes}
+use Rattle.vms_replay.proofs.ReplayedLines.{Goes-blank}
+use Rattle.vms_replay.specs.ReplayStates.{Goes}
 use Rattle.vms_text.specs.declared.acts.Line.{Line}
 use Rattle.vms_replay.proofs.bodies.Replay.replay.Goals as goal
 

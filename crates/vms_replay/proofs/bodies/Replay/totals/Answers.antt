@@ -11,6 +11,7 @@ loop-number-preserved c =
     record {
       length = search rules;
       total = λ kept continues. totals-push c.loop-number.totals.items c.push.new.self.items c.loop-number.number _
-          (plain_total c.args.header.now (phases_so_far kept)) inv.length c.in_ok-push.ensures.items (inv.total kept continues)
+          (plain_total c.args.header.now (phases_so_far kept)) inv.length c.in_ok-push.ensures.items
+          (inv.total kept continues)
           (to_z-of_z fits ∙ c.total.ensures c.args.header.now kept.ended kept.items continues.shape continues.is_run);
     }

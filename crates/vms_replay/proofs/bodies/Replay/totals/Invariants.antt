@@ -1,6 +1,6 @@
 use Rattle.std.proofs.Common.{◌≡◌, ℕ, ◌<◌, length, pos, get_or}
 use Rattle.vms_replay.specs.Replaying.{Kept, phases_so_far}
-use Rattle.vms_replay.specs.Standing.{Continues}
+use Rattle.vms_replay.specs.ReplayStates.{Continues}
 use Rattle.vms_script.specs.Totals.{plain_total}
 use Rattle.vms_replay.proofs.bodies.Replay.totals.Given as goal
 

@@ -1,7 +1,7 @@
 use Rattle.std.proofs.Common.{◌*◌, [], ap₂, subst, arith, length}
 use Rattle.vms_base.specs.Places.{counter_count}
-use Rattle.vms_script.proofs.Standings.{TellsCpus-first, TellsVolumes-first, counters_few}
-use Rattle.vms_script.specs.Standing.{TellsCpus, TellsVolumes}
+use Rattle.vms_script.proofs.JudgeStateLaws.{TellsCpus-first, TellsVolumes-first, counters_few}
+use Rattle.vms_script.specs.JudgeStates.{TellsCpus, TellsVolumes}
 use Rattle.vms_script.specs.Volumes.{spent_on_counter, spent_on_event, spent_on_pcpu, volume}
 use Rattle.vms_script.proofs.judges.LineJudge.make.Goals as goal
 

@@ -4,11 +4,11 @@ use Rattle.vms_text.specs.declared.acts.Act.TheVariants.{Mod, Inc, Dec, Ev, Cnt,
 use Rattle.vms_text.specs.declared.acts.Lane.TheVariants.{Cpu}
 use Rattle.vms_text.specs.declared.acts.Line.TheVariants.{Lane}
 use Rattle.vms_line.specs.Laws.{IsActOf}
-use Rattle.vms_script.specs.Standing.{Decides}
+use Rattle.vms_script.specs.JudgeStates.{Decides}
 use Rattle.vms_script.specs.Volumes.{spent_on_counter, spent_on_pcpu, volume}
 use Rattle.vms_base.specs.Volumes.{most_volume}
 use Rattle.vms_script.proofs.Spendings.{Decides-counters, Decides-events, Decides-pcpu, Decides-quiet}
-use Rattle.vms_script.proofs.Standings.{counters_few, events_few, pcpu_few}
+use Rattle.vms_script.proofs.JudgeStateLaws.{counters_few, events_few, pcpu_few}
 use Rattle.vms_script.proofs.VolumeSums.{HasCell-of, measure-here, measure-other}
 use Rattle.vms_script.proofs.judges.LineJudge.spend.Goals as goal
 

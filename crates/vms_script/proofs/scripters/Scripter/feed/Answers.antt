@@ -3,8 +3,8 @@ use Rattle.vms_base.specs.declared.headers.Header.{Header}
 use Rattle.vms_text.specs.declared.acts.Item.{Item}
 use Rattle.vms_line.specs.Laws.{IsLineOf}
 use Rattle.vms_script.specs.Judging.{counted, judged}
-use Rattle.vms_script.specs.Standing.{Stands}
-use Rattle.vms_script.proofs.Feeding.{Holds-past}
+use Rattle.vms_script.specs.JudgeStates.{Stands}
+use Rattle.vms_script.proofs.Feeding.{HoldsScript-after}
 use Rattle.vms_script.proofs.Known.{judged-known}
 use Rattle.vms_script.proofs.scripters.Scripter.feed.Goals as goal
 
@@ -17,12 +17,13 @@ returns-in-Ok c = λ script of holds.
       subst (λ (header : Header). judged header script.lines c.args.line.now ≡ Ok c.in-Ok.said) (sym of)
           (sym judged_here.0),
       c.keep.ensures.fed,
-      Holds-past c.args.number c.in-Ok.said script c.args.self.now c.keep.new.self holds
+      HoldsScript-after c.args.number c.in-Ok.said script c.args.self.now c.keep.new.self holds
           (subst (λ (header : Header). Stands header (counted
           (Ok c.in-Ok.said) script.lines) c.keep.new.self.judge) (sym of)
           (rw c.keep.ensures.judge judged_here.1))
           (c.keep.ensures.items script kept)
-          (subst (λ (header : Header). IsLineOf header c.in-Ok.said) (sym of) (judged-known c.args.header.now script.lines
+          (subst (λ (header : Header). IsLineOf header c.in-Ok.said) (sym of)
+          (judged-known c.args.header.now script.lines
           c.args.line.now c.in-Ok.said c.requires.header (sym judged_here.0)))
           (subst (λ (items : List Item). All (λ item. item.number < c.args.number) items) holds.items c.requires.number)
           (omega (arith, ap (λ (items : List Item). length items) holds.items, c.requires.few)),

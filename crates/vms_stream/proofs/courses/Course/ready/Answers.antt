@@ -3,7 +3,7 @@ use Rattle.std.proofs.lemmas.List.{length-take, take_all, take-take}
 use Rattle.vms_io.specs.Reading.{WholeLines}
 use Rattle.vms_stream.specs.Courses.{lines_judged, counted_bytes}
 use Rattle.vms_stream.specs.Pieces.{whole_lines}
-use Rattle.vms_stream.proofs.Cutting.{whole_lines-end, partial_line-end}
+use Rattle.vms_stream.proofs.LastNewline.{whole_lines-end, partial_line-end}
 use Rattle.vms_text.specs.Lines.{lines_of}
 use Rattle.vms_stream.proofs.courses.Course.ready.Goals as goal
 
@@ -13,9 +13,11 @@ returns-then-beyond-gt0-clause-lines c =
     let n = counted_bytes self in
     let r = c.last_line_end.result in
     let beyond = c.saturating_sub-beyond.result in
-    let size : length c.bytes-held.result.now - beyond ≡ n = omega (arith, ap length c.bytes-held.ensures, c.saturating_sub-beyond.ensures) in
+    let size : length c.bytes-held.result.now - beyond ≡ n =
+    omega (arith, ap length c.bytes-held.ensures, c.saturating_sub-beyond.ensures) in
     let whole : WholeLines (take n self.input) r
-    = subst (λ (bytes : List ℕ). WholeLines bytes r) (ap₂ (λ (m : ℕ) (bytes : List ℕ). take m bytes) size c.bytes.ensures) c.last_line_end.ensures in
+    = subst (λ (bytes : List ℕ). WholeLines bytes r)
+    (ap₂ (λ (m : ℕ) (bytes : List ℕ). take m bytes) size c.bytes.ensures) c.last_line_end.ensures in
     let below : length (take n self.input) ≤ n = omega (arith, length-take n self.input) in
     ap lines_of (sym (take-take r n self.input (omega (arith, whole.within, below))))
     ∙ whole_lines-end (take n self.input) r whole
@@ -30,5 +32,6 @@ returns-else-beyond-gt0-clause-lines c =
     ∙ ap whole_lines (sym (take_all n self.input least))
     ∙ ap (λ (b : Bool). lines_judged b (take n self.input)) (sym c.if-self.false)
 
-pub returns-else-beyond-gt0-clause-behind : goal.returns-else-beyond-gt0-clause-behind
-returns-else-beyond-gt0-clause-behind c = λ before within. partial_line-end c.args.self.now.input c.whole_lines.result c.whole_lines.ensures.lines
+pub returns-else-beyond-gt0-clause-after : goal.returns-else-beyond-gt0-clause-after
+returns-else-beyond-gt0-clause-after c =
+    λ before within. partial_line-end c.args.self.now.input c.whole_lines.result c.whole_lines.ensures.lines

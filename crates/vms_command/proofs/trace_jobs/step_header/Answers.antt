@@ -1,0 +1,35 @@
+use Rattle.std.proofs.Common.{◌≡◌, ◌++◌, subst}
+use Rattle.std.specs.Prelude.{Ok, Err}
+use Rattle.vms_header.specs.declared.causes.HeaderCause.{HeaderCause}
+use Rattle.vms_header.specs.declared.causes.ReadError.{ReadError}
+use Rattle.vms_header.specs.declared.heads.HeaderStep.{HeaderStep}
+use Rattle.vms_header.specs.Head.{head_line}
+use Rattle.vms_header.specs.HeaderSteps.{StepsTo}
+use Rattle.vms_command.specs.Printing.{header_line}
+use Rattle.vms_command.proofs.HeadLines.{head-begins, head-goes, head-refused}
+use Rattle.vms_command.proofs.trace_jobs.step_header.Goals as goal
+
+pub returns-in-Ok-Goes : goal.returns-in-Ok-Goes
+returns-in-Ok-Goes g c =
+    let read = head_line c.args.reader c.args.line.now in
+    head-goes g.B.Body.command g.B.Body.Stands c.args.number read c.in-Ok-Goes.reader c.args.out.now.items
+    (subst (λ (step : HeaderStep). StepsTo read (Ok step)) c.in-Ok-Goes.field-0-is c.in-Ok-Goes.ensures.step)
+
+pub returns-in_ok-body-in-Ok-Ends : goal.returns-in_ok-body-in-Ok-Ends
+returns-in_ok-body-in-Ok-Ends g c =
+    let read = head_line c.args.reader c.args.line.now in
+    let steps = subst (λ (step : HeaderStep). StepsTo read (Ok step))
+    c.in-Ok-Ends.field-0-is c.in-Ok-Ends.ensures.step in
+    head-begins g.B.Body.command g.B.Body.Stands c.args.number read steps.0 c.in-Ok-Ends.header
+    c.in_ok-body-in-Ok-Ends.body
+    c.args.out.now.items c.begin.new.out.items steps.1 steps.2 c.in_ok-body-in-Ok-Ends.ensures
+
+pub returns-in_ok-write_header_line-in-Err-Refused : goal.returns-in_ok-write_header_line-in-Err-Refused
+returns-in_ok-write_header_line-in-Err-Refused g c =
+    let read = head_line c.args.reader c.args.line.now in
+    head-refused g.B.Body.command g.B.Body.Stands c.args.number read c.in-Err-Refused.cause c.args.out.now.items
+    c.write_header_line.new.out.items
+    (subst (λ (error : ReadError). StepsTo read (Err error)) c.in-Err-Refused.field-0-is c.in-Err-Refused.ensures.step)
+    (subst (λ (cause : HeaderCause). c.write_header_line.new.out.items ≡ c.args.out.now.items ++ header_line
+    (record { line = c.args.number; cause = cause }))
+    c.in-Err-Refused.cause-is c.in_ok-write_header_line-in-Err-Refused.ensures)

@@ -1,0 +1,83 @@
+-- Where a judge stands after a line.
+use Rattle.std.proofs.Common.{◌≡◌, ℕ, zero, suc, ◌*◌, ◌^◌, ◌<◌, List, [], ◌∷◌, length, get_or, replicate, refl, sym, ap}
+use Rattle.std.proofs.Common.{◌∙◌, arith}
+use Rattle.std.proofs.lemmas.List.{length-replicate, get_or-replicate}
+use Rattle.std.proofs.Math.Nat.{mul-le-mul}
+use Rattle.vms_base.specs.declared.headers.Header.{Header}
+use Rattle.vms_base.specs.declared.kinds.CpuState.{CpuState}
+use Rattle.vms_base.specs.declared.kinds.CpuState.TheVariants.{Online as IsOnline}
+use Rattle.vms_base.specs.Headers.{IsHeader}
+use Rattle.vms_base.specs.Places.{cell, counter_count}
+use Rattle.vms_base.proofs.Cells.{cell-lt}
+use Rattle.vms_base.proofs.Counts.{counter_count-most}
+use Rattle.vms_text.specs.declared.acts.Act.{Act}
+use Rattle.vms_text.specs.declared.acts.Line.{Line}
+use Rattle.vms_script.specs.declared.cpus.CpuStates.{CpuStates}
+use Rattle.vms_script.specs.declared.judges.LineJudge.{LineJudge}
+use Rattle.vms_script.specs.declared.volumes.VolumeTable.{VolumeTable}
+use Rattle.vms_script.specs.Cpus.{state_past, online_below}
+use Rattle.vms_script.specs.Volumes.{by_cpu, spent_on_counter, spent_on_event, spent_on_pcpu, volume}
+use Rattle.vms_script.specs.JudgeStates.{Stands, TellsCpus, TellsVolumes}
+use Rattle.vms_script.proofs.CpuCounts.{TellsCpus-still}
+use Rattle.vms_script.proofs.VolumeSums.{TellsVolumes-still}
+
+-- a table of volumes is small
+module _ (header : Header) (is : IsHeader header) where
+  pub counters_few : header.layout.cpus * counter_count header.layout < 2 ^ 32
+  counters_few =
+      let most = mul-le-mul is.is_layout.cpus_most (counter_count-most header.layout is.is_layout) in omega
+      (arith, most)
+
+  pub events_few : header.layout.cpus * 8 < 2 ^ 32
+  events_few = omega (arith, is.is_layout.cpus_most)
+
+  pub pcpu_few : header.layout.cpus * length header.counters < 2 ^ 32
+  pcpu_few = let most = mul-le-mul is.is_layout.cpus_most is.counters_most in omega (arith, most)
+
+-- before the first line
+online_below-first : (n : ℕ) → online_below n [] ≡ n
+online_below-first zero = refl
+online_below-first (suc n) = ap suc (online_below-first n)
+
+pub TellsCpus-first : (cpus : ℕ) (states : CpuStates)
+    → states ≡ record { states = replicate cpus IsOnline; online = cpus } → TellsCpus cpus [] states
+TellsCpus-first cpus states is = record {
+  each = ap (λ (s : CpuStates). length s.states) is ∙ length-replicate cpus IsOnline;
+  state = λ c below. ap (λ (s : CpuStates). get_or s.states c IsOnline) is ∙ get_or-replicate cpus c IsOnline
+      IsOnline below;
+  online = ap (λ (s : CpuStates). s.online) is ∙ sym (online_below-first cpus);
+}
+
+pub TellsVolumes-first : (cpus width : ℕ) (measure : ℕ → Act → ℕ) (table : VolumeTable)
+    → table ≡ record { width = width; sums = replicate (cpus * width) 0 }
+    → TellsVolumes cpus width (λ c k. volume (measure k) c []) table
+TellsVolumes-first cpus width measure table is = record {
+  same_width = ap (λ (t : VolumeTable). t.width) is;
+  each = ap (λ (t : VolumeTable). length t.sums) is ∙ length-replicate (cpus * width) 0;
+  is = λ c k below within. ap (λ (t : VolumeTable). get_or t.sums (cell width c k) 0) is
+      ∙ get_or-replicate (cpus * width) (cell width c k) 0 0 (cell-lt width cpus c k below within);
+  most = λ c k below within. omega arith;
+}
+
+-- a line adds to no volume
+pub record KeepsSums (line : Line) : Type 0 where
+  pub counters : (c k : ℕ) → by_cpu c (spent_on_counter k) line ≡ 0
+  pub events : (c e : ℕ) → by_cpu c (spent_on_event e) line ≡ 0
+  pub pcpu : (c j : ℕ) → by_cpu c (spent_on_pcpu j) line ≡ 0
+
+module _ (header : Header) (lines : List Line) (line : Line) (judge : LineJudge) where
+  -- a judge after a line that adds to no volume, with the states after it
+  pub Stands-moved : (states : CpuStates) → KeepsSums line → TellsCpus header.layout.cpus (line ∷ lines) states
+      → Stands header lines judge → Stands header (line ∷ lines) (record judge { cpus = states })
+  Stands-moved states adds tells stands = record {
+    cpus = tells;
+    counters = TellsVolumes-still _ _ spent_on_counter lines line judge.counters adds.counters stands.counters;
+    events = TellsVolumes-still _ _ spent_on_event lines line judge.events adds.events stands.events;
+    pcpu = TellsVolumes-still _ _ spent_on_pcpu lines line judge.pcpu adds.pcpu stands.pcpu;
+  }
+
+  -- a judge after a line that changes nothing
+  pub Stands-still : ((c : ℕ) (s : CpuState) → state_past c line s ≡ s) → KeepsSums line
+      → Stands header lines judge → Stands header (line ∷ lines) judge
+  Stands-still same adds stands =
+      Stands-moved judge.cpus adds (TellsCpus-still lines line header.layout.cpus judge.cpus same stands.cpus) stands

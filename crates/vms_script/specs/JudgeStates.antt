@@ -1,0 +1,76 @@
+-- What a judge of lines keeps of the lines above that count.
+use Rattle.std.specs.Prelude.{◌≡◌, ℕ, ◌*◌, ◌^◌, ◌<◌, ◌≤◌, List, length, slice_index_or, slice_set, Result, Ok, Err}
+use Rattle.vms_base.specs.declared.headers.Header.{Header}
+use Rattle.vms_base.specs.declared.kinds.CpuState.TheVariants.{Online}
+use Rattle.vms_base.specs.Headers.{IsHeader}
+use Rattle.vms_base.specs.Places.{cell, counter_count}
+use Rattle.vms_text.specs.declared.acts.Line.{Line}
+use Rattle.vms_script.specs.declared.cpus.CpuStates.{CpuStates}
+use Rattle.vms_script.specs.declared.judges.LineJudge.{LineJudge}
+use Rattle.vms_script.specs.declared.volumes.VolumeTable.{VolumeTable}
+use Rattle.vms_line.specs.declared.causes.LineCause.{LineCause}
+use Rattle.vms_line.specs.Laws.{IsLineOf}
+use Rattle.vms_script.specs.Cpus.{cpu_state, online_below}
+use Rattle.vms_script.specs.Judging.{allowed, counted}
+use Rattle.vms_script.specs.Volumes.{spent_on_counter, spent_on_event, spent_on_pcpu, volume}
+use Rattle.vms_base.specs.Volumes.{most_volume}
+
+-- the states of this many CPUs after these lines, and how many are online
+pub record TellsCpus (cpus : ℕ) (lines : List Line) (states : CpuStates) : Type 0 where
+  pub each : length states.states ≡ cpus
+  pub state : (c : ℕ) → c < cpus → slice_index_or states.states c Online ≡ cpu_state c lines
+  pub online : states.online ≡ online_below cpus lines
+
+-- the volume that a table has of a CPU and a thing
+abbrev pub volume_at : VolumeTable → ℕ → ℕ → ℕ
+volume_at table c thing = slice_index_or table.sums (cell table.width c thing) 0
+
+-- the table with another volume of a CPU and a thing
+abbrev pub with_volume : VolumeTable → ℕ → ℕ → ℕ → VolumeTable
+with_volume table c thing volume = record table { sums = slice_set table.sums (cell table.width c thing) volume }
+
+-- a table that has a volume of a CPU and a thing, not past the most
+pub record HasCell (table : VolumeTable) (c thing : ℕ) : Type 0 where
+  pub within : cell table.width c thing < length table.sums
+  pub most : volume_at table c thing ≤ most_volume
+  pub few : length table.sums < 2 ^ 32
+
+-- a volume for each CPU and each thing, none past the most
+pub record TellsVolumes (cpus width : ℕ) (spent : ℕ → ℕ → ℕ) (table : VolumeTable) : Type 0 where
+  pub same_width : table.width ≡ width
+  pub each : length table.sums ≡ cpus * width
+  pub is : (c thing : ℕ) → c < cpus → thing < width → slice_index_or table.sums (cell width c thing) 0 ≡ spent c thing
+  pub most : (c thing : ℕ) → c < cpus → thing < width → spent c thing ≤ most_volume
+
+-- a judge after these lines that count, the newest first, of a body with this header
+pub record Stands (header : Header) (lines : List Line) (judge : LineJudge) : Type 0 where
+  pub cpus : TellsCpus header.layout.cpus lines judge.cpus
+  pub counters : TellsVolumes header.layout.cpus (counter_count header.layout) (λ c k. volume
+      (spent_on_counter k) c lines) judge.counters
+  pub events : TellsVolumes header.layout.cpus 8 (λ c e. volume (spent_on_event e) c lines) judge.events
+  pub pcpu : TellsVolumes header.layout.cpus (length header.counters) (λ c j. volume
+      (spent_on_pcpu j) c lines) judge.pcpu
+
+-- the answer to a line that was read, by what the judge says of it
+abbrev pub answered : Line → Result (Unit {0}) LineCause → Result Line LineCause
+answered line (Ok _) = Ok line
+answered line (Err cause) = Err cause
+
+-- a judge after some lines of some body, and a line of that body
+pub record Knows (judge : LineJudge) (line : Line) : Type 0 where
+  pub header : Header
+  pub lines : List Line
+  pub is_header : IsHeader header
+  pub is_line : IsLineOf header line
+  pub stands : Stands header lines judge
+
+-- a judge decides a line that was read, whatever lines it stands after. If the line counts the judge then stands after
+-- it too
+pub record Decides (line : Line) (judge judge' : LineJudge) (result : Result (Unit {0}) LineCause) : Type 0 where
+  pub by : (header : Header) (lines : List Line) → IsHeader header → IsLineOf header line → Stands header lines judge →
+      (answered line result ≡ allowed header lines line) × Stands header (counted (answered line result) lines) judge'
+
+-- a judge after some lines of a body with this header
+pub record SomeJudge (header : Header) (judge : LineJudge) : Type 0 where
+  pub lines : List Line
+  pub stands : Stands header lines judge

@@ -1,5 +1,0 @@
-mod headers;
-mod judges;
-mod phases;
-mod scripters;
-mod totals;

@@ -1,0 +1,297 @@
+-- What stands where a command stops, and where it goes on.
+use Rattle.std.proofs.Common.{◌≡◌, ℕ, ◌+◌, ◌-◌, ◌≤◌, ◌<◌, ◌⊎◌, max, Bool, true, false, List, [], ◌∷◌, ◌++◌, length}
+use Rattle.std.proofs.Common.{length-append, take, drop, take-append-drop, inl, inr, Option, Some, None, Ok, Err}
+use Rattle.std.proofs.Common.{Result, refl, sym, ap, subst, ◌∙◌, append_assoc, append-nil, arith}
+use Rattle.std.specs.Io.KnownBytes.{Appends, IsAtEnd, Keeps}
+use Rattle.std.proofs.KnownBytes.{Appends-nil, Consumes-nil, Consumes-kept}
+use Rattle.vms_io.specs.Reading.{Gets}
+use Rattle.vms_stream.specs.declared.courses.Course.{Course}
+use Rattle.vms_stream.specs.declared.halts.Halt.{Halt}
+use Rattle.vms_stream.specs.declared.halts.Halt.TheVariants.{Refuses, Exceeds}
+use Rattle.vms_stream.specs.declared.stops.Stop.{Stop}
+use Rattle.vms_stream.specs.declared.stops.Stop.TheVariants.{ReadFault, WriteFault, Memory, TooLong}
+use Rattle.vms_stream.specs.Answers.{most_bytes, lines_taken, BeginsOutput, GoesOn, Halts, IsJudged, IsLastPiece, Says}
+use Rattle.vms_stream.specs.Courses.{IsCourse, Steps, StopsAt, lines_held, lines_judged, status_of, stop_of_halt}
+use Rattle.vms_stream.specs.Jobs.{TakesLines}
+use Rattle.vms_stream.specs.Machines.{Machine, state_after, halted, printed, output}
+use Rattle.vms_stream.specs.Pieces.{whole_lines, partial_line}
+use Rattle.vms_stream.proofs.PieceLines.{lines_counted, lines_counted-within, lines_of-counted, lines_both}
+use Rattle.vms_stream.proofs.MachineLaws.{output-begins}
+use Rattle.vms_stream.proofs.TwoPieces.{lines_of-parts, partial_line-append}
+use Rattle.vms_stream.proofs.TakenLines.{TakesLines-after, TakesLines-both}
+use Rattle.vms_text.specs.Lines.{lines_of}
+
+module _ {S : Type 0} (machine : Machine S) (shows : S → Type 0) where
+  -- what the first lines print, or a part of it, begins the output
+  pub begins : (text : List ℕ) (lines others : List (List ℕ)) (written unwritten : List ℕ)
+      → lines_of text ≡ lines ++ others
+      → written ++ unwritten ≡ printed machine machine.start lines → IsLastPiece machine text
+      → BeginsOutput machine text written
+  begins text lines others written unwritten parts prints last_piece =
+      let whole = output-begins machine lines others in
+      record {
+        unwritten = unwritten ++ whole.0;
+        begins = ap (output machine) parts ∙ whole.1 ∙ ap (λ (front : List ℕ). front ++ whole.0) (sym prints)
+            ∙ append_assoc written unwritten whole.0;
+        last_piece = last_piece;
+      }
+
+  -- no piece is open
+  pub no_piece : (taken : List ℕ) → length taken ≤ most_bytes → halted machine machine.start (whole_lines taken) ≡ None
+      → IsLastPiece machine taken
+  no_piece taken within none = record {
+    before = taken;
+    piece = [];
+    pieces = sym (append-nil taken);
+    one_piece = omega arith;
+    within_before = within;
+    none_before = none;
+  }
+
+  -- the first n bytes of what waits
+  part_written : (written waiting : List ℕ) (n : ℕ) → (written ++ take n waiting) ++ drop n waiting ≡ written ++ waiting
+  part_written written waiting n =
+      append_assoc written (take n waiting) (drop n waiting)
+      ∙ ap (λ (rest : List ℕ). written ++ rest) (take-append-drop n waiting)
+
+  -- a course before the end of its input
+  pub before_end : {stands : S → Type 0} (taken written : List ℕ) (course : Course)
+      → IsCourse machine stands taken written course
+      → course.at_end ≡ false → GoesOn machine taken written
+      × stands (state_after machine machine.start (whole_lines taken))
+  before_end {stands} taken written course is isnt = (
+    record {
+      within = is.within;
+      none_halts = subst (λ (b : Bool). halted machine machine.start (lines_judged b taken) ≡ None) isnt is.none_halts;
+      all_written = subst (λ (b : Bool). written ≡ printed machine machine.start (lines_judged b taken))
+          isnt is.all_written;
+    },
+    subst (λ (b : Bool). stands (state_after machine machine.start (lines_judged b taken))) isnt is.stands_after,
+  )
+
+  -- nothing is taken and nothing written
+  nothing_more : (stop : Stop) (taken written : List ℕ) (at_end : Type 0)
+      → Says machine shows (status_of stop) taken written at_end
+      → Says machine shows (status_of stop) (taken ++ []) (written ++ []) at_end
+  nothing_more stop taken written at_end says =
+      subst (λ (bytes : List ℕ). Says machine shows (status_of stop) (taken ++ []) bytes at_end)
+      (sym (append-nil written))
+      (subst (λ (bytes : List ℕ). Says machine shows (status_of stop) bytes written at_end) (sym (append-nil taken))
+      says)
+
+  module _ {stands : S → Type 0} (stands' : S → Type 0) (taken written : List ℕ) (course : Course)
+      (is : IsCourse machine stands taken written course) (isnt : course.at_end ≡ false) where
+    unread : (stop : Stop) (at_end : Type 0) → (stop ≡ ReadFault) ⊎ (stop ≡ Memory)
+        → Says machine shows (status_of stop) taken written at_end
+    unread stop at_end (inl fault) = subst (λ (s : Stop). Says machine shows (status_of s) taken written at_end)
+        (sym fault) (before_end taken written course is isnt).0
+    unread stop at_end (inr memory) = subst (λ (s : Stop). Says machine shows (status_of s) taken written at_end)
+        (sym memory)
+        (begins taken (whole_lines taken) (lines_of (partial_line taken ++ [])) written []
+        (ap lines_of (sym (append-nil taken)) ∙ lines_of-parts taken []) (append-nil written
+        ∙ (before_end taken written course is isnt).0.all_written)
+        (no_piece taken is.within (before_end taken written course is isnt).0.none_halts))
+
+    -- the read failed, or there was no memory for it
+    pub Steps-unread : (last : Course) (left left' held : Option (List ℕ)) (stop : Stop) → Keeps left left'
+        → (stop ≡ ReadFault) ⊎ (stop ≡ Memory)
+        → Steps machine stands' shows taken written last left left' held held (Err stop)
+    Steps-unread last left left' held stop keeps cause = record {
+      more = [];
+      moved = [];
+      consumes = Consumes-kept left left left' [] (Consumes-nil left) keeps;
+      appends = Appends-nil held;
+      outcome = nothing_more stop taken written (IsAtEnd left') (unread stop (IsAtEnd left') cause);
+    }
+
+    module _ (read : Course) (left left' : Option (List ℕ))
+        (gets : Gets course.input read.input left left' (read.taken - course.taken))
+        (counted : course.taken ≤ read.taken) (ended : read.at_end ≡ true → read.taken ≡ course.taken)
+        (waits : read.waiting.items ≡ course.waiting.items) where
+      abbrev more : List ℕ
+      more = gets.taken
+
+      abbrev text : List ℕ
+      text = taken ++ more
+
+      read_count : read.taken ≡ length taken + length more
+      read_count = omega (arith, gets.count, counted, is.counted)
+
+      read_held : read.input ≡ partial_line taken ++ more
+      read_held = gets.grows ∙ ap (λ (held : List ℕ). held ++ more) (is.held isnt)
+
+      nothing_read : read.at_end ≡ true → more ≡ []
+      nothing_read end = of_length more (omega (arith, gets.count, ended end))
+        where
+          of_length : (bytes : List ℕ) → length bytes ≡ 0 → bytes ≡ []
+          of_length [] none = refl
+          of_length (byte ∷ bytes) none = absurd (omega (arith, none))
+
+      -- all that is judged
+      lines_all : whole_lines taken ++ lines_held read ≡ lines_counted read.at_end text
+      lines_all =
+          ap (λ (n : ℕ). whole_lines taken ++ lines_judged read.at_end
+          (take (length read.input - (n - most_bytes)) read.input)) read_count
+          ∙ ap (λ (held : List ℕ). whole_lines taken ++ lines_judged read.at_end
+          (take (length held - (length taken + length more - most_bytes)) held)) read_held
+          ∙ lines_both taken more is.within read.at_end nothing_read
+
+      -- the end of the input was come to
+      at_the_end : read.at_end ≡ true → IsAtEnd left' × (length text ≤ most_bytes)
+      at_the_end end = (
+        gets.ends (omega (arith, ended end)),
+        omega (arith, length-append taken more, ap length (nothing_read end), is.within),
+      )
+
+      -- what was read is one piece
+      last_piece : IsLastPiece machine text
+      last_piece = record {
+        before = taken;
+        piece = more;
+        pieces = refl;
+        one_piece = subst (λ (held : List ℕ). length more ≤ max 65536 (length held)) (is.held isnt)
+            (subst (λ (n : ℕ). n ≤ max 65536 (length course.input)) (sym gets.count) gets.bounded);
+        within_before = is.within;
+        none_before = (before_end taken written course is isnt).0.none_halts;
+      }
+
+      -- there was no memory to judge it
+      pub Steps-unjudged : (last : Course) (held : Option (List ℕ)) (stop : Stop) → stop ≡ Memory
+          → Steps machine stands' shows taken written last left left' held held (Err stop)
+      Steps-unjudged last held stop memory = record {
+        more = more;
+        moved = [];
+        consumes = gets.consumes;
+        appends = Appends-nil held;
+        outcome = subst (λ (s : Stop). Says machine shows (status_of s) text (written ++ []) (IsAtEnd left'))
+            (sym memory)
+            (begins text (whole_lines taken) (lines_of (partial_line taken ++ more)) (written ++ []) []
+            (lines_of-parts taken more)
+            (append-nil (written ++ []) ∙ append-nil written ∙ (before_end taken written course is isnt).0.all_written)
+            last_piece);
+      }
+
+      module _ (halt : Option Halt) (waiting : List ℕ)
+          (judges : (s : S) → stands s → TakesLines machine stands' s (lines_held read) halt read.waiting.items waiting)
+        where
+          judged : TakesLines machine stands' machine.start (lines_counted read.at_end text) halt []
+              (written ++ waiting)
+          judged =
+              let before = before_end taken written course is isnt in
+              TakesLines-both machine stands' machine.start (whole_lines taken) (lines_held read)
+              (lines_counted read.at_end text) halt [] written (written ++ waiting)
+              before.0.none_halts before.0.all_written lines_all
+              (TakesLines-after machine stands' (state_after machine machine.start (whole_lines taken))
+              (lines_held read)
+              halt written read.waiting.items waiting
+              (waits ∙ is.nothing_waits) (judges (state_after machine machine.start (whole_lines taken)) before.1))
+
+          -- the write failed
+          pub Steps-unwritten : (last : Course) (held held' : Option (List ℕ)) (n : ℕ) (stop : Stop)
+              → Appends held held' (take n waiting) → stop ≡ WriteFault
+              → Steps machine stands' shows taken written last left left' held held' (Err stop)
+          Steps-unwritten last held held' n stop appends cause =
+              let others = lines_of-counted read.at_end text in
+              record {
+                more = more;
+                moved = take n waiting;
+                consumes = gets.consumes;
+                appends = appends;
+                outcome = subst (λ (s : Stop). Says machine shows (status_of s) text (written ++ take n waiting)
+                    (IsAtEnd left')) (sym cause)
+                    (begins text (lines_counted read.at_end text) others.0 (written ++ take n waiting) (drop n waiting)
+                    others.1
+                    (part_written written waiting n ∙ judged.prints) last_piece);
+              }
+
+          -- a line stops the command
+          halts : (h : Halt) → halt ≡ Some h → Halts machine h text (written ++ waiting) (IsAtEnd left')
+          halts h stopped = record {
+            lines = lines_counted read.at_end text;
+            judged = counts read.at_end refl;
+            halt_is = sym judged.halt_of ∙ stopped;
+            whole_output = judged.prints;
+            last_piece = last_piece;
+          }
+            where
+              counts : (b : Bool) → read.at_end ≡ b → IsJudged text (lines_counted b text) (IsAtEnd left')
+              counts true end = let there = at_the_end end in inr (there.0, there.1, refl)
+              counts false before = inl refl
+
+          says_halt : (h : Halt) → halt ≡ Some h
+              → Says machine shows (status_of (stop_of_halt h)) text (written ++ waiting) (IsAtEnd left')
+          says_halt Refuses stopped = inl (halts Refuses stopped)
+          says_halt Exceeds stopped = inl (halts Exceeds stopped)
+
+          -- there are too many bytes
+          says_beyond : (b : Bool) → read.at_end ≡ b → halt ≡ None → most_bytes < length text
+              → Says machine shows (status_of TooLong) text (written ++ waiting) (IsAtEnd left')
+          says_beyond true end none beyond = absurd (omega (arith, beyond, (at_the_end end).1))
+          says_beyond false before none beyond =
+              let same : lines_counted read.at_end text ≡ lines_taken text =
+              ap (λ (b : Bool). lines_counted b text) before in
+              inr (record {
+                beyond = beyond;
+                none_halts = ap (halted machine machine.start) (sym same) ∙ sym judged.halt_of ∙ none;
+                whole_output = judged.prints ∙ ap (printed machine machine.start) same;
+                last_piece = last_piece;
+              })
+
+          module _ (last : Course) (same_count : last.taken ≡ read.taken) (same_end : last.at_end ≡ read.at_end)
+              (nothing_waits : last.waiting.items ≡ [])
+              (held : read.at_end ≡ false → read.taken ≤ most_bytes → last.input ≡ partial_line read.input) where
+            text_count : read.taken ≡ length text
+            text_count = read_count ∙ sym (length-append taken more)
+
+            goes_on : halt ≡ None → read.taken ≤ most_bytes → IsCourse machine stands' text (written ++ waiting) last
+            goes_on none within =
+                let fits : length text ≤ most_bytes = subst (λ (n : ℕ). n ≤ most_bytes) text_count within in
+                let same : lines_counted read.at_end text ≡ lines_judged last.at_end text
+                = lines_counted-within read.at_end text fits ∙ ap (λ (b : Bool). lines_judged b text) (sym same_end) in
+                record {
+                  counted = same_count ∙ text_count;
+                  within = fits;
+                  none_halts = ap (halted machine machine.start) (sym same) ∙ sym judged.halt_of ∙ none;
+                  stands_after = subst (λ (lines : List (List ℕ)). stands' (state_after machine machine.start lines))
+                      same
+                      (judged.stands_after none);
+                  all_written = judged.prints ∙ ap (printed machine machine.start) same;
+                  nothing_waits = nothing_waits;
+                  held = λ before. held (sym same_end ∙ before) within ∙ ap partial_line read_held
+                      ∙ sym (partial_line-append taken more);
+                }
+
+            pub Steps-judged : (sunk sunk' : Option (List ℕ)) (result : Result (Unit {0}) Stop)
+                → Appends sunk sunk' waiting → StopsAt halt last.taken result
+                → Steps machine stands' shows taken written last left left' sunk sunk' result
+            Steps-judged sunk sunk' result appends stops =
+                by halt refl result (subst (λ (n : ℕ). StopsAt halt n result) same_count stops)
+              where
+                by : (found : Option Halt) → halt ≡ found → (r : Result (Unit {0}) Stop) → StopsAt found read.taken r
+                    → Steps machine stands' shows taken written last left left' sunk sunk' r
+                by (Some h) is_found r stopped = subst
+                    (λ (r : Result (Unit {0}) Stop). Steps machine stands' shows taken written last left left' sunk
+                    sunk'
+                    r) (sym stopped) (record {
+                      more = more;
+                      moved = waiting;
+                      consumes = gets.consumes;
+                      appends = appends;
+                      outcome = says_halt h is_found;
+                    })
+                by None is_found (Ok done) within = record {
+                  more = more;
+                  moved = waiting;
+                  consumes = gets.consumes;
+                  appends = appends;
+                  outcome = (goes_on is_found within, λ end. (at_the_end (sym same_end ∙ end)).0);
+                }
+                by None is_found (Err stop) beyond = record {
+                  more = more;
+                  moved = waiting;
+                  consumes = gets.consumes;
+                  appends = appends;
+                  outcome = subst (λ (s : Stop). Says machine shows (status_of s) text (written ++ waiting)
+                      (IsAtEnd left')) (sym beyond.0)
+                      (says_beyond read.at_end refl is_found (subst (λ (n : ℕ). most_bytes < n) text_count beyond.1));
+                }

@@ -1,0 +1,141 @@
+-- For other crates too: how a job takes lines in two parts.
+use Rattle.std.proofs.Common.{◌≡◌, ◌≢◌, ℕ, ◌<◌, ◌==◌, Bool, true, false, List, [], ◌∷◌, ◌++◌, length, length-append}
+use Rattle.std.proofs.Common.{Option, Some, None, inl, inr, refl, sym, ap, subst, ◌∙◌, append_assoc, append-nil}
+use Rattle.std.proofs.Common.{true≢false, eqb-true, arith}
+use Rattle.vms_stream.specs.declared.halts.Halt.{Halt}
+use Rattle.vms_stream.specs.declared.halts.Halt.TheVariants.{Refuses, Exceeds}
+use Rattle.vms_stream.specs.Jobs.{TakesLines}
+use Rattle.vms_stream.specs.Machines.{Machine, state_after, first_halt, halted, printed_from, printed}
+use Rattle.vms_stream.proofs.MachineLaws.{state_after-append, halted-append, printed-append, halted-stops}
+use Rattle.vms_text.proofs.TextLaws.{lines_of-begin}
+use Rattle.vms_text.specs.Lines.{lines_of, SplitsLine}
+
+-- a list whose length isn't 0 isn't empty, and one whose length is 0 is
+pub nonempty : (xs : List ℕ) (b : Bool) → b ≡ (length xs == 0) → b ≡ false → xs ≢ []
+nonempty xs b tested isnt = λ empty. true≢false (sym (tested ∙ ap (λ (ys : List ℕ). length ys == 0) empty) ∙ isnt)
+
+pub empty : (xs : List ℕ) (b : Bool) → b ≡ (length xs == 0) → b ≡ true → xs ≡ []
+empty [] b tested is = refl
+empty (x ∷ xs) b tested is = let none : length (x ∷ xs) ≡ 0 = eqb-true (length (x ∷ xs)) 0 (sym tested ∙ is) in
+    absurd (omega arith)
+
+not_nil : (xs : List ℕ) → xs ≢ [] → 0 < length xs
+not_nil [] none = absurd (none refl)
+not_nil (x ∷ xs) none = omega arith
+
+-- what stands after the first line is shorter
+pub SplitsLine-shorter : (text line rest : List ℕ) → SplitsLine text line rest → text ≢ [] → length rest < length text
+SplitsLine-shorter text line rest splits some = elim splits.parts [
+  | inl ended ↦ omega (arith, ap length ended, length-append line (10 ∷ rest))
+  | inr whole ↦ omega (arith, ap length whole.1, not_nil text some)
+]
+
+module _ {S : Type 0} (machine : Machine S) (stands : S → Type 0) where
+  -- after one line: the job takes it, refuses it, or the line exceeds a limit
+  pub TakesLines-one : (s : S) (line out out' : List ℕ) → machine.halts s line ≡ None
+      → out' ≡ out ++ machine.prints s line
+      → stands (machine.next s line) → TakesLines machine stands s (line ∷ []) None out out'
+  TakesLines-one s line out out' open_line prints after = record {
+    halt_of = ap (λ (halt : Option Halt). first_halt halt None) (sym open_line);
+    prints = prints ∙ ap (λ (bytes : List ℕ). out ++ bytes) (sym (append-nil (machine.prints s line))
+        ∙ ap (λ (halt : Option Halt). printed_from halt (machine.prints s line) []) (sym open_line));
+    stands_after = λ _. after;
+  }
+
+  pub TakesLines-refused : (s : S) (line out out' : List ℕ) → machine.halts s line ≡ Some Refuses
+      → out' ≡ out ++ machine.prints s line
+      → TakesLines machine stands s (line ∷ []) (Some Refuses) out out'
+  TakesLines-refused s line out out' refused prints = record {
+    halt_of = ap (λ (halt : Option Halt). first_halt halt None) (sym refused);
+    prints = prints ∙ ap (λ (bytes : List ℕ). out ++ bytes)
+        (ap (λ (halt : Option Halt). printed_from halt (machine.prints s line) []) (sym refused));
+    stands_after = λ none. absurd cc;
+  }
+
+  pub TakesLines-exceeding : (s : S) (line out out' : List ℕ) → machine.halts s line ≡ Some Exceeds → out' ≡ out
+      → TakesLines machine stands s (line ∷ []) (Some Exceeds) out out'
+  TakesLines-exceeding s line out out' exceeding same = record {
+    halt_of = ap (λ (halt : Option Halt). first_halt halt None) (sym exceeding);
+    prints = same ∙ sym (append-nil out)
+        ∙ ap (λ (bytes : List ℕ). out ++ bytes)
+        (ap (λ (halt : Option Halt). printed_from halt (machine.prints s line) []) (sym exceeding));
+    stands_after = λ none. absurd cc;
+  }
+
+  -- after lines of which none stops it, and then past more
+  pub TakesLines-both : (s : S) (lines more all : List (List ℕ)) (halt : Option Halt) (first out out' : List ℕ)
+      → halted machine s lines ≡ None
+      → out ≡ first ++ printed machine s lines → lines ++ more ≡ all
+      → TakesLines machine stands (state_after machine s lines) more halt out out'
+      → TakesLines machine stands s all halt first out'
+  TakesLines-both s lines more all halt first out out' none written joined goes =
+      subst (λ (ls : List (List ℕ)). TakesLines machine stands s ls halt first out') joined (record {
+        halt_of = goes.halt_of ∙ sym (halted-append machine s lines more none);
+        prints = goes.prints ∙ ap (λ (front : List ℕ). front ++ printed machine (state_after machine s lines) more)
+            written
+            ∙ append_assoc first (printed machine s lines) (printed machine (state_after machine s lines) more)
+            ∙ ap (λ (rest : List ℕ). first ++ rest) (sym (printed-append machine s lines more none));
+        stands_after = λ open_end. subst stands (sym (state_after-append machine s lines more))
+            (goes.stands_after open_end);
+      })
+
+  -- what stands after a line that stops it doesn't matter
+  pub TakesLines-stopped : (s : S) (lines more : List (List ℕ)) (halt : Halt) (out out' : List ℕ)
+      → TakesLines machine stands s lines (Some halt) out out'
+      → TakesLines machine stands s (lines ++ more) (Some halt) out out'
+  TakesLines-stopped s lines more halt out out' goes =
+      let stops = halted-stops machine s lines more halt (sym goes.halt_of) in
+      record {
+        halt_of = sym stops.0;
+        prints = goes.prints ∙ ap (λ (rest : List ℕ). out ++ rest) (sym stops.1);
+        stands_after = λ none. absurd cc;
+      }
+
+  -- what was printed before
+  pub TakesLines-after : (s : S) (lines : List (List ℕ)) (halt : Option Halt) (front out out' : List ℕ) → out ≡ []
+      → TakesLines machine stands s lines halt out out' → TakesLines machine stands s lines halt front (front ++ out')
+  TakesLines-after s lines halt front out out' none goes = record {
+    halt_of = goes.halt_of;
+    prints = ap (λ (rest : List ℕ). front ++ rest) (goes.prints
+        ∙ ap (λ (o : List ℕ). o ++ printed machine s lines) none);
+    stands_after = goes.stands_after;
+  }
+
+-- a line is after the lines above it
+pub one_further : (all above : List (List ℕ)) (rest line after : List ℕ) → all ≡ above ++ lines_of rest
+    → rest ≢ [] → SplitsLine rest line after
+    → all ≡ (above ++ (line ∷ [])) ++ lines_of after
+one_further all above rest line after parts some splits =
+    parts ∙ ap (λ (lines : List (List ℕ)). above ++ lines) (lines_of-begin rest line after splits some)
+    ∙ sym (append_assoc above (line ∷ []) (lines_of after))
+
+module _ {S : Type 0} (machine : Machine S) (stands now next : S → Type 0) (all above : List (List ℕ))
+    (rest line after first out out' : List ℕ)
+    (parts : all ≡ above ++ lines_of rest) (some : rest ≢ []) (splits : SplitsLine rest line after)
+    (took : (s : S) → stands s → TakesLines machine now s above None first out) (halt : Option Halt)
+    (goes : (s : S) → now s → TakesLines machine next s (line ∷ []) halt out out') where
+  -- one line further, if it doesn't stop the job
+  pub takes_line : (s : S) → stands s → TakesLines machine next s (above ++ (line ∷ [])) halt first out'
+  takes_line s here =
+      let before = took s here in
+      TakesLines-both machine next s above (line ∷ []) (above ++ (line ∷ [])) halt first out out' (sym before.halt_of)
+      before.prints refl
+      (goes (state_after machine s above) (before.stands_after refl))
+
+  -- a line that stops it
+  pub takes_halt : (h : Halt) → halt ≡ Some h → (s : S) → stands s → TakesLines machine next s all (Some h) first out'
+  takes_halt h is s here =
+      subst (λ (lines : List (List ℕ)). TakesLines machine next s lines (Some h) first out')
+      (sym (one_further all above rest line after parts some splits))
+      (TakesLines-stopped machine next s (above ++ (line ∷ [])) (lines_of after) h first out'
+      (subst (λ (found : Option Halt). TakesLines machine next s (above ++ (line ∷ [])) found first out') is
+      (takes_line s here)))
+
+-- at the end of the text
+pub takes_end : {S : Type 0} (machine : Machine S) (stands now : S → Type 0) (all above : List (List ℕ))
+    (rest first out : List ℕ) → all ≡ above ++ lines_of rest → rest ≡ []
+    → ((s : S) → stands s → TakesLines machine now s above None first out) → (s : S) → stands s
+    → TakesLines machine now s all None first out
+takes_end machine stands now all above rest first out parts none took s here =
+    subst (λ (lines : List (List ℕ)). TakesLines machine now s lines None first out)
+    (sym (parts ∙ ap (λ (bytes : List ℕ). above ++ lines_of bytes) none ∙ append-nil above)) (took s here)
