@@ -18,24 +18,24 @@ use Rattle.vms_base.proofs.Counts.{counter_at-place, counter_at-position}
 use Rattle.vms_text.specs.Numbers.{signed_of}
 use Rattle.vms_header.specs.declared.causes.HeaderCause.{HeaderCause}
 use Rattle.vms_header.specs.declared.causes.HeaderCause.TheVariants.{BadNumber, BadMarks, BadBatch, BadCpus, DoubledCounter, LineTooLong, Malformed, NoZone, TooManyCounters, UnknownName}
-use Rattle.vms_header.specs.DraftFacts.{IsBase, IsDraft, IsShare, IsSized, IsStage, IsTurn}
-use Rattle.vms_header.specs.Drafts.{Base, Draft, Share, Zone, most_cpus, names_of, nodes_of, part_index, positions_of, shape_of}
-use Rattle.vms_header.specs.Drafts.Part.{AtBases, AtCounters, AtCpus, AtItems, AtWatermarks, AtZones}
+use Rattle.vms_header.specs.DraftFacts.{IsBase, IsDraft, IsShare, IsSized, IsStage, IsHeadStep}
+use Rattle.vms_header.specs.Drafts.{Base, Draft, Share, Zone, most_cpus, names_of, nodes_of, section_index, positions_of, shape_of}
+use Rattle.vms_header.specs.Drafts.Section.{AtBases, AtCounters, AtCpus, AtItems, AtWatermarks, AtZones}
 use Rattle.vms_text.specs.Words.{words_of}
 use Rattle.vms_text.proofs.Values.{and_left, and_right}
 use Rattle.vms_header.specs.Drafts.{first_draft}
-use Rattle.vms_header.specs.Head.{Stage, Turn, are_words, cpus_line, draft_line, go_row, going, head_line, is_due, stage_line, version_line, with_cpus}
-use Rattle.vms_header.specs.Head.Stage.{Opening, Versioned, Drafting}
-use Rattle.vms_header.specs.Head.Turn.{Goes, Ends}
-use Rattle.vms_header.proofs.HeadLines.{base_row-read, item_row-read, unmarked_zone_row-read, watermarks_row-read, zone_row-read}
-use Rattle.vms_header.specs.HeadRows.{any_number, any_zone_row, base_row, class_field, counter_row, item_row, unit_field, watermarks_row, base_counter, behind_zones, kind_field, name_field, number_in, rising, value_field, value_in_range, with_base, with_counter, with_new_zone}
-use Rattle.vms_header.specs.HeadWords.{base_words, item_of, item_words, share_words, unmarked_zone_words, zone_name, zone_size, zone_words}
+use Rattle.vms_header.specs.Stages.{Stage, HeadStep, are_words, cpus_line, draft_line, go_row, going, head_line, is_due, stage_line, version_line, with_cpus}
+use Rattle.vms_header.specs.Stages.Stage.{Opening, Versioned, Drafting}
+use Rattle.vms_header.specs.Stages.HeadStep.{Goes, Ends}
+use Rattle.vms_header.proofs.RowsByValues.{base_row-read, item_row-read, unmarked_zone_row-read, watermarks_row-read, zone_row-read}
+use Rattle.vms_header.specs.Sections.{any_number, any_zone_row, base_row, class_field, counter_row, item_row, unit_field, watermarks_row, base_counter, after_zones, kind_field, name_field, number_in, rising, value_field, value_in_range, with_base, with_counter, with_new_zone}
+use Rattle.vms_header.specs.Values.{base_words, item_of, item_words, share_words, unmarked_zone_words, zone_name, zone_size, zone_words}
 use Rattle.vms_text.specs.PlaceNames.{declared_items, is_node_place, item_named, kind_named, place_named, zone_named}
 use Rattle.vms_text.specs.Reading.{and_then, is_clean, is_ignored, most_line}
-use Rattle.vms_header.proofs.Keeps.{and_then-ok, if-ok, number_in-within, ok-same, ok_or-ok, or-false, past, unless-ok, with_new_zone-keeps, none-here, with_item-keeps, with_share-keeps}
+use Rattle.vms_header.proofs.DraftsKept.{and_then-ok, when-ok, number_in-within, ok-same, ok_or-ok, or-false, past, unless-ok, with_new_zone-keeps, none-here, with_item-keeps, with_share-keeps}
 use Rattle.vms_header.proofs.HeadNames.{list_any-map}
 use Rattle.vms_text.proofs.Positions.{position-lt}
-use Rattle.vms_header.proofs.Shapes.{names-rise, nodes_of-from, nodes_of-rises, nodes_of-to}
+use Rattle.vms_header.proofs.RankedLayouts.{names-rise, nodes_of-from, nodes_of-rises, nodes_of-to}
 
 -- positions of a version
 positions-wide : (wide : Bool) → (positions_of wide ≡ 8) ⊎ (positions_of wide ≡ 16)
@@ -117,7 +117,7 @@ place_named-lt shape node place word is =
 
 within_range : (value found : ℤ) → value_in_range value ≡ Ok found → unsigned_abs found ≤ 2 ^ 48
 within_range value found is =
-    let parts = if-ok (nat_le (unsigned_abs value) (2 ^ 48)) (Ok value) BadNumber found is in
+    let parts = when-ok (nat_le (unsigned_abs value) (2 ^ 48)) (Ok value) BadNumber found is in
     subst (λ value. unsigned_abs value ≤ 2 ^ 48) (ok-same value found parts.1) (at_most (unsigned_abs value) parts.0)
   where
     at_most : (n : ℕ) → nat_le n (2 ^ 48) ≡ true → n ≤ 2 ^ 48
@@ -158,7 +158,7 @@ base_words-valid draft node kind item value base is some made =
 with_base-keeps : (draft : Draft) (base : Base) (next : Draft) → IsDraft draft → IsBase draft base → with_base draft base.counter base.value ≡ Ok next → IsDraft next
 with_base-keeps draft base next is valid made =
     let new = unless-ok (list_any (λ other. nat_eq other.counter base.counter) draft.bases) DoubledCounter _ next made in
-    subst IsDraft (ok-same (record draft { part = AtBases; bases = base ∷ draft.bases }) next new.1) (record {
+    subst IsDraft (ok-same (record draft { section = AtBases; bases = base ∷ draft.bases }) next new.1) (record {
       cpus_least = is.cpus_least;
       cpus_most = is.cpus_most;
       share_valid = is.share_valid;
@@ -172,7 +172,7 @@ with_base-keeps draft base next is valid made =
       items_valid = is.items_valid;
       items_differ = is.items_differ;
       bases_late = λ early. absurd (omega (arith, early));
-      bases_valid = All-weaker (IsBase draft) (IsBase (record draft { part = AtBases; bases = base ∷ draft.bases })) (λ base is. record { known = is.known; named = is.named; most = is.most }) (base ∷ draft.bases) (All-cons (IsBase draft) base draft.bases valid is.bases_valid);
+      bases_valid = All-weaker (IsBase draft) (IsBase (record draft { section = AtBases; bases = base ∷ draft.bases })) (λ base is. record { known = is.known; named = is.named; most = is.most }) (base ∷ draft.bases) (All-cons (IsBase draft) base draft.bases valid is.bases_valid);
       counters_most = is.counters_most;
       counters_valid = is.counters_valid;
       counters_differ = is.counters_differ;
@@ -193,7 +193,7 @@ with_counter-keeps draft name batch next is form made =
     let within = batch_range batch range.0 in
     let names = map (λ decl. decl.name) draft.counters in
     let decl : Decl = record { name = name; batch = batch } in
-    subst IsDraft (ok-same (record draft { part = AtCounters; counters = draft.counters ++ decl ∷ [] }) next full.1) (record {
+    subst IsDraft (ok-same (record draft { section = AtCounters; counters = draft.counters ++ decl ∷ [] }) next full.1) (record {
       cpus_least = is.cpus_least;
       cpus_most = is.cpus_most;
       share_valid = is.share_valid;
@@ -207,7 +207,7 @@ with_counter-keeps draft name batch next is form made =
       items_valid = is.items_valid;
       items_differ = is.items_differ;
       bases_late = λ early. absurd (omega (arith, early));
-      bases_valid = All-weaker (IsBase draft) (IsBase (record draft { part = AtCounters; counters = draft.counters ++ decl ∷ [] })) (λ base is. record { known = is.known; named = is.named; most = is.most }) draft.bases is.bases_valid;
+      bases_valid = All-weaker (IsBase draft) (IsBase (record draft { section = AtCounters; counters = draft.counters ++ decl ∷ [] })) (λ base is. record { known = is.known; named = is.named; most = is.most }) draft.bases is.bases_valid;
       counters_most = omega (arith, length-append draft.counters (decl ∷ []), past (length draft.counters) 16 full.0);
       counters_valid = All-push IsValidDecl draft.counters decl is.counters_valid (record { form = form; batch_least = within.0; batch_most = within.1 });
       counters_differ = subst (AllPairs ◌≢◌) (sym (map-append (λ decl. decl.name) draft.counters (decl ∷ [])))
@@ -217,7 +217,7 @@ with_counter-keeps draft name batch next is form made =
 -- a name that a word gives has the form
 name_field-form : (word name : List ℕ) → name_field word ≡ Ok name → is_name name ≡ true
 name_field-form word name is =
-    let parts = if-ok (is_name word) (Ok word) UnknownName name is in
+    let parts = when-ok (is_name word) (Ok word) UnknownName name is in
     subst (λ name. is_name name ≡ true) (ok-same word name parts.1) parts.0
 
 -- what a watermarks line says
@@ -306,9 +306,9 @@ zone_words-measured (a ∷ b ∷ c ∷ d ∷ e ∷ f ∷ g ∷ words) zone is = 
 rising_marks : (a b c : ℕ) → (nat_le a b && nat_le b c) ≡ true → (a ≤ b) × (b ≤ c)
 rising_marks a b c test = (grind (arith, nat_tests), grind (arith, nat_tests))
 
-rising-keeps : (draft : Draft) (zone : Zone) (next : Draft) → IsDraft draft → part_index draft.part ≤ 3 → IsMeasured zone → rising draft zone ≡ Ok next → IsDraft next
+rising-keeps : (draft : Draft) (zone : Zone) (next : Draft) → IsDraft draft → section_index draft.section ≤ 3 → IsMeasured zone → rising draft zone ≡ Ok next → IsDraft next
 rising-keeps draft zone next is early measured made =
-    let parts = if-ok (nat_le zone.size.min zone.size.low && nat_le zone.size.low zone.size.high) (with_new_zone draft zone) BadMarks next made in
+    let parts = when-ok (nat_le zone.size.min zone.size.low && nat_le zone.size.low zone.size.high) (with_new_zone draft zone) BadMarks next made in
     let marks = rising_marks zone.size.min zone.size.low zone.size.high parts.0 in
     with_new_zone-keeps draft zone next is early measured.node_most (record {
       valid = record { managed_least = measured.managed_least; managed_most = measured.managed_most; low_above_min = marks.0; high_above_low = marks.1; high_most = omega (arith, measured.high_most) };
@@ -317,24 +317,24 @@ rising-keeps draft zone next is early measured made =
 
 -- a choice between two answers
 either : {A E P : Type 0} (test : Bool) (first second : Result A E) (a : A) → (test ≡ true → first ≡ Ok a → P) → (second ≡ Ok a → P) → cond test first second ≡ Ok a → P
-either true first second a taken left is = taken refl is
-either false first second a taken left is = left is
+either true first second a chosen left is = chosen refl is
+either false first second a chosen left is = left is
 
-going-keeps : (row : Result Draft HeaderCause) (turn : Turn) → ((next : Draft) → row ≡ Ok next → IsDraft next) → going row ≡ Ok turn → IsTurn turn
-going-keeps row turn keeps made =
-    let part = and_then-ok row _ turn made in
-    subst IsTurn (ok-same (Goes (Drafting part.0)) turn part.2) (keeps part.0 part.1)
+going-keeps : (row : Result Draft HeaderCause) (step : HeadStep) → ((next : Draft) → row ≡ Ok next → IsDraft next) → going row ≡ Ok step → IsHeadStep step
+going-keeps row step keeps made =
+    let part = and_then-ok row _ step made in
+    subst IsHeadStep (ok-same (Goes (Drafting part.0)) step part.2) (keeps part.0 part.1)
 
 early : (at most : ℕ) → nat_le at most ≡ true → at ≤ most
 early at most test = grind (arith, nat_tests)
 
-some-zone : (n : ℕ) → nat_eq n 0 ≡ false → 0 < n
-some-zone n test = grind (arith, nat_tests)
+above_zero : (n : ℕ) → nat_eq n 0 ≡ false → 0 < n
+above_zero n test = grind (arith, nat_tests)
 
-watermarks_row-keeps : (draft : Draft) (fields : List (List ℕ)) (next : Draft) → IsDraft draft → part_index draft.part ≤ 3 → watermarks_row draft fields ≡ Ok next → IsDraft next
+watermarks_row-keeps : (draft : Draft) (fields : List (List ℕ)) (next : Draft) → IsDraft draft → section_index draft.section ≤ 3 → watermarks_row draft fields ≡ Ok next → IsDraft next
 watermarks_row-keeps draft fields next is due made =
     let part = and_then-ok (share_words fields) _ next (sym (watermarks_row-read draft fields) ∙ made) in
-    subst IsDraft (ok-same (record draft { part = AtWatermarks; share = Some part.0 }) next part.2) (with_share-keeps draft part.0 is due (share_words-valid fields part.0 part.1))
+    subst IsDraft (ok-same (record draft { section = AtWatermarks; share = Some part.0 }) next part.2) (with_share-keeps draft part.0 is due (share_words-valid fields part.0 part.1))
 
 abbrev item_with : List ℕ → Bool → Bool → ItemDecl
 item_with name node bytes = record { name = name; node = node; bytes = bytes }
@@ -353,12 +353,12 @@ item_words-form (class ∷ name ∷ []) item is = item_of-form class name (Ok fa
 item_words-form (class ∷ name ∷ unit ∷ []) item is = item_of-form class name (unit_field unit) item is
 item_words-form (class ∷ name ∷ unit ∷ word ∷ words) item is = absurd cc
 
-item_row-keeps : (draft : Draft) (fields : List (List ℕ)) (next : Draft) → IsDraft draft → draft.wide ≡ true → part_index draft.part ≤ 2 → item_row draft fields ≡ Ok next → IsDraft next
+item_row-keeps : (draft : Draft) (fields : List (List ℕ)) (next : Draft) → IsDraft draft → draft.wide ≡ true → section_index draft.section ≤ 2 → item_row draft fields ≡ Ok next → IsDraft next
 item_row-keeps draft fields next is wide due made =
     let part = and_then-ok (item_words fields) _ next (sym (item_row-read draft fields) ∙ made) in
     with_item-keeps draft part.0 next is wide due (item_words-form fields part.0 part.1) part.2
 
-any_zone_row-keeps : (draft : Draft) (share : Option Share) (fields : List (List ℕ)) (next : Draft) → IsDraft draft → part_index draft.part ≤ 3 → any_zone_row draft share fields ≡ Ok next → IsDraft next
+any_zone_row-keeps : (draft : Draft) (share : Option Share) (fields : List (List ℕ)) (next : Draft) → IsDraft draft → section_index draft.section ≤ 3 → any_zone_row draft share fields ≡ Ok next → IsDraft next
 any_zone_row-keeps draft None fields next is due made =
     let part = and_then-ok (zone_words fields) _ next (sym (zone_row-read draft fields) ∙ made) in
     rising-keeps draft part.0 next is due (zone_words-measured fields part.0 part.1) part.2
@@ -375,7 +375,7 @@ base_row-keeps draft (a ∷ b ∷ c ∷ []) next is made = absurd cc
 base_row-keeps draft (node ∷ kind ∷ item ∷ value ∷ []) next is made =
     let some = unless-ok (nat_eq (length draft.zones) 0) NoZone _ next made in
     let part = and_then-ok (base_words draft node kind item value) _ next (sym (base_row-read draft node kind item value some.0) ∙ made) in
-    with_base-keeps draft part.0 next is (base_words-valid draft node kind item value part.0 is (some-zone (length draft.zones) some.0) part.1) part.2
+    with_base-keeps draft part.0 next is (base_words-valid draft node kind item value part.0 is (above_zero (length draft.zones) some.0) part.1) part.2
 base_row-keeps draft (a ∷ b ∷ c ∷ d ∷ e ∷ fields) next is made = absurd cc
 
 counter_row-keeps : (draft : Draft) (fields : List (List ℕ)) (next : Draft) → IsDraft draft → counter_row draft fields ≡ Ok next → IsDraft next
@@ -391,33 +391,33 @@ counter_row-keeps draft (name ∷ batch ∷ []) next is made =
     with_counter-keeps draft part.0 number.0 next is (name_field-form name part.0 part.1) number.2
 counter_row-keeps draft (name ∷ batch ∷ word ∷ fields) next is made = absurd cc
 
-go_row-keeps : (draft : Draft) (fields : List (List ℕ)) (turn : Turn) → IsDraft draft → go_row draft fields ≡ Ok turn → IsTurn turn
-go_row-keeps draft [] turn is made =
-    let part = and_then-ok (behind_zones draft (Ok draft)) _ turn made in
+go_row-keeps : (draft : Draft) (fields : List (List ℕ)) (step : HeadStep) → IsDraft draft → go_row draft fields ≡ Ok step → IsHeadStep step
+go_row-keeps draft [] step is made =
+    let part = and_then-ok (after_zones draft (Ok draft)) _ step made in
     let some = unless-ok (nat_eq (length draft.zones) 0) NoZone (Ok draft) part.0 part.1 in
-    let ends : IsTurn (Ends draft) = (is, some-zone (length draft.zones) some.0) in
-    subst IsTurn (ap Ends (ok-same draft part.0 some.1) ∙ ok-same (Ends part.0) turn part.2) ends
-go_row-keeps draft (word ∷ fields) turn is made = absurd cc
+    let ends : IsHeadStep (Ends draft) = (is, above_zero (length draft.zones) some.0) in
+    subst IsHeadStep (ap Ends (ok-same draft part.0 some.1) ∙ ok-same (Ends part.0) step part.2) ends
+go_row-keeps draft (word ∷ fields) step is made = absurd cc
 
-draft_line-keeps : (draft : Draft) (words : List (List ℕ)) (turn : Turn) → IsDraft draft → draft_line draft words ≡ Ok turn → IsTurn turn
-draft_line-keeps draft [] turn is made = absurd cc
-draft_line-keeps draft (word ∷ fields) turn is made =
-    either (bytes_eq word (codes "watermarks")) _ _ turn
-    (λ _ made. let due = if-ok (is_due draft AtCpus) (going (watermarks_row draft fields)) Malformed turn made in
-    going-keeps (watermarks_row draft fields) turn (λ next made. watermarks_row-keeps draft fields next is (omega (arith, early (part_index draft.part) 0 due.0)) made) due.1)
-    (λ made. either (bytes_eq word (codes "item")) _ _ turn
-    (λ _ made. let due = if-ok (draft.wide && is_due draft AtItems) (going (item_row draft fields)) Malformed turn made in
-    going-keeps (item_row draft fields) turn (λ next made. item_row-keeps draft fields next is (and_left draft.wide (is_due draft AtItems) due.0) (early (part_index draft.part) 2 (and_right draft.wide (is_due draft AtItems) due.0)) made) due.1)
-    (λ made. either (bytes_eq word (codes "zone")) _ _ turn
-    (λ _ made. let due = if-ok (is_due draft AtZones) (going (any_zone_row draft draft.share fields)) Malformed turn made in
-    going-keeps (any_zone_row draft draft.share fields) turn (λ next made. any_zone_row-keeps draft draft.share fields next is (early (part_index draft.part) 3 due.0) made) due.1)
-    (λ made. either (bytes_eq word (codes "base")) _ _ turn
-    (λ _ made. let due = if-ok (is_due draft AtBases) (going (base_row draft fields)) Malformed turn made in
-    going-keeps (base_row draft fields) turn (λ next made. base_row-keeps draft fields next is made) due.1)
-    (λ made. either (bytes_eq word (codes "counter")) _ _ turn
-    (λ _ made. going-keeps (counter_row draft fields) turn (λ next made. counter_row-keeps draft fields next is made) made)
-    (λ made. either (bytes_eq word (codes "go")) _ _ turn
-    (λ _ made. go_row-keeps draft fields turn is made)
+draft_line-keeps : (draft : Draft) (words : List (List ℕ)) (step : HeadStep) → IsDraft draft → draft_line draft words ≡ Ok step → IsHeadStep step
+draft_line-keeps draft [] step is made = absurd cc
+draft_line-keeps draft (word ∷ fields) step is made =
+    either (bytes_eq word (codes "watermarks")) _ _ step
+    (λ _ made. let due = when-ok (is_due draft AtCpus) (going (watermarks_row draft fields)) Malformed step made in
+    going-keeps (watermarks_row draft fields) step (λ next made. watermarks_row-keeps draft fields next is (omega (arith, early (section_index draft.section) 0 due.0)) made) due.1)
+    (λ made. either (bytes_eq word (codes "item")) _ _ step
+    (λ _ made. let due = when-ok (draft.wide && is_due draft AtItems) (going (item_row draft fields)) Malformed step made in
+    going-keeps (item_row draft fields) step (λ next made. item_row-keeps draft fields next is (and_left draft.wide (is_due draft AtItems) due.0) (early (section_index draft.section) 2 (and_right draft.wide (is_due draft AtItems) due.0)) made) due.1)
+    (λ made. either (bytes_eq word (codes "zone")) _ _ step
+    (λ _ made. let due = when-ok (is_due draft AtZones) (going (any_zone_row draft draft.share fields)) Malformed step made in
+    going-keeps (any_zone_row draft draft.share fields) step (λ next made. any_zone_row-keeps draft draft.share fields next is (early (section_index draft.section) 3 due.0) made) due.1)
+    (λ made. either (bytes_eq word (codes "base")) _ _ step
+    (λ _ made. let due = when-ok (is_due draft AtBases) (going (base_row draft fields)) Malformed step made in
+    going-keeps (base_row draft fields) step (λ next made. base_row-keeps draft fields next is made) due.1)
+    (λ made. either (bytes_eq word (codes "counter")) _ _ step
+    (λ _ made. going-keeps (counter_row draft fields) step (λ next made. counter_row-keeps draft fields next is made) made)
+    (λ made. either (bytes_eq word (codes "go")) _ _ step
+    (λ _ made. go_row-keeps draft fields step is made)
     (λ made. absurd cc) made) made) made) made) made) made
 
 first_draft-valid : (wide : Bool) (cpus : ℕ) → 1 ≤ cpus → cpus ≤ most_cpus wide → IsDraft (first_draft wide cpus)
@@ -441,39 +441,39 @@ first_draft-valid wide cpus least most = record {
   counters_differ = λ i j d before below. absurd (omega (arith, below));
 }
 
-with_cpus-keeps : (wide : Bool) (n : ℕ) (turn : Turn) → with_cpus wide n ≡ Ok turn → IsTurn turn
-with_cpus-keeps wide n turn made =
-    let parts = if-ok (nat_le 1 n && nat_le n (most_cpus wide)) (Ok (Goes (Drafting (first_draft wide n)))) BadCpus turn made in
-    subst IsTurn (ok-same (Goes (Drafting (first_draft wide n))) turn parts.1)
+with_cpus-keeps : (wide : Bool) (n : ℕ) (step : HeadStep) → with_cpus wide n ≡ Ok step → IsHeadStep step
+with_cpus-keeps wide n step made =
+    let parts = when-ok (nat_le 1 n && nat_le n (most_cpus wide)) (Ok (Goes (Drafting (first_draft wide n)))) BadCpus step made in
+    subst IsHeadStep (ok-same (Goes (Drafting (first_draft wide n))) step parts.1)
     (first_draft-valid wide n (early 1 n (and_left (nat_le 1 n) (nat_le n (most_cpus wide)) parts.0)) (early n (most_cpus wide) (and_right (nat_le 1 n) (nat_le n (most_cpus wide)) parts.0)))
 
-cpus_line-keeps : (wide : Bool) (words : List (List ℕ)) (turn : Turn) → cpus_line wide words ≡ Ok turn → IsTurn turn
-cpus_line-keeps wide [] turn made = absurd cc
-cpus_line-keeps wide (word ∷ []) turn made = absurd cc
-cpus_line-keeps wide (word ∷ n ∷ []) turn made =
-    let parts = if-ok (bytes_eq word (codes "cpus")) (and_then (any_number n) (with_cpus wide)) Malformed turn made in
-    let number = and_then-ok (any_number n) (with_cpus wide) turn parts.1 in
-    with_cpus-keeps wide number.0 turn number.2
-cpus_line-keeps wide (word ∷ n ∷ other ∷ words) turn made = absurd cc
+cpus_line-keeps : (wide : Bool) (words : List (List ℕ)) (step : HeadStep) → cpus_line wide words ≡ Ok step → IsHeadStep step
+cpus_line-keeps wide [] step made = absurd cc
+cpus_line-keeps wide (word ∷ []) step made = absurd cc
+cpus_line-keeps wide (word ∷ n ∷ []) step made =
+    let parts = when-ok (bytes_eq word (codes "cpus")) (and_then (any_number n) (with_cpus wide)) Malformed step made in
+    let number = and_then-ok (any_number n) (with_cpus wide) step parts.1 in
+    with_cpus-keeps wide number.0 step number.2
+cpus_line-keeps wide (word ∷ n ∷ other ∷ words) step made = absurd cc
 
-versioned-keeps : (clean wide : Bool) (turn : Turn) → cond clean (Ok (Goes (Versioned wide))) (Err Malformed) ≡ Ok turn → IsTurn turn
-versioned-keeps clean wide turn made =
-    let parts = if-ok clean (Ok (Goes (Versioned wide))) Malformed turn made in
-    subst IsTurn (ok-same (Goes (Versioned wide)) turn parts.1) tt
+versioned-keeps : (clean wide : Bool) (step : HeadStep) → cond clean (Ok (Goes (Versioned wide))) (Err Malformed) ≡ Ok step → IsHeadStep step
+versioned-keeps clean wide step made =
+    let parts = when-ok clean (Ok (Goes (Versioned wide))) Malformed step made in
+    subst IsHeadStep (ok-same (Goes (Versioned wide)) step parts.1) tt
 
-version_line-keeps : (clean : Bool) (words : List (List ℕ)) (turn : Turn) → version_line clean words ≡ Ok turn → IsTurn turn
-version_line-keeps clean words turn made =
-    either (are_words words (codes "vmtrace" ∷ codes "1" ∷ [])) _ _ turn (λ _ made. versioned-keeps clean false turn made)
-    (λ made. either (are_words words (codes "vmtrace" ∷ codes "2" ∷ [])) _ _ turn (λ _ made. versioned-keeps clean true turn made) (λ made. absurd cc) made) made
+version_line-keeps : (clean : Bool) (words : List (List ℕ)) (step : HeadStep) → version_line clean words ≡ Ok step → IsHeadStep step
+version_line-keeps clean words step made =
+    either (are_words words (codes "vmtrace" ∷ codes "1" ∷ [])) _ _ step (λ _ made. versioned-keeps clean false step made)
+    (λ made. either (are_words words (codes "vmtrace" ∷ codes "2" ∷ [])) _ _ step (λ _ made. versioned-keeps clean true step made) (λ made. absurd cc) made) made
 
-pub stage_line-keeps : (stage : Stage) (clean : Bool) (words : List (List ℕ)) (turn : Turn) → IsStage stage → stage_line stage clean words ≡ Ok turn → IsTurn turn
-stage_line-keeps Opening clean words turn is made = version_line-keeps clean words turn made
-stage_line-keeps (Versioned wide) clean words turn is made = cpus_line-keeps wide words turn (if-ok clean (cpus_line wide words) Malformed turn made).1
-stage_line-keeps (Drafting draft) clean words turn is made = draft_line-keeps draft words turn is (if-ok clean (draft_line draft words) Malformed turn made).1
+pub stage_line-keeps : (stage : Stage) (clean : Bool) (words : List (List ℕ)) (step : HeadStep) → IsStage stage → stage_line stage clean words ≡ Ok step → IsHeadStep step
+stage_line-keeps Opening clean words step is made = version_line-keeps clean words step made
+stage_line-keeps (Versioned wide) clean words step is made = cpus_line-keeps wide words step (when-ok clean (cpus_line wide words) Malformed step made).1
+stage_line-keeps (Drafting draft) clean words step is made = draft_line-keeps draft words step is (when-ok clean (draft_line draft words) Malformed step made).1
 
-pub head_line-keeps : (stage : Stage) (line : List ℕ) (turn : Turn) → IsStage stage → head_line stage line ≡ Ok turn → IsTurn turn
-head_line-keeps stage line turn is made =
-    let short = unless-ok (nat_lt most_line (length line)) LineTooLong _ turn made in
-    either (is_ignored line) (Ok (Goes stage)) (stage_line stage (is_clean line) (words_of line)) turn
-    (λ _ made. subst IsTurn (ok-same (Goes stage) turn made) is)
-    (λ made. stage_line-keeps stage (is_clean line) (words_of line) turn is made) short.1
+pub head_line-keeps : (stage : Stage) (line : List ℕ) (step : HeadStep) → IsStage stage → head_line stage line ≡ Ok step → IsHeadStep step
+head_line-keeps stage line step is made =
+    let short = unless-ok (nat_lt most_line (length line)) LineTooLong _ step made in
+    either (is_ignored line) (Ok (Goes stage)) (stage_line stage (is_clean line) (words_of line)) step
+    (λ _ made. subst IsHeadStep (ok-same (Goes stage) step made) is)
+    (λ made. stage_line-keeps stage (is_clean line) (words_of line) step is made) short.1

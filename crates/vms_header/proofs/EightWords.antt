@@ -3,10 +3,10 @@ use Rattle.std.proofs.Common.{ℕ, ◌≡◌, ◌≤◌, Bool, false, cond, nat_
 use Rattle.std.proofs.lemmas.Bool.Decides.{nat_tests}
 use Rattle.vms_header.specs.declared.causes.HeaderCause.TheVariants.{LineTooLong, Malformed}
 use Rattle.vms_header.specs.Drafts.{Draft, Share}
-use Rattle.vms_header.specs.Head.{Stage, draft_line, head_line, stage_line}
-use Rattle.vms_header.specs.Head.Stage.{Opening, Versioned, Drafting}
-use Rattle.vms_header.specs.Head.Turn.{Goes}
-use Rattle.vms_header.specs.HeadRows.{any_zone_row}
+use Rattle.vms_header.specs.Stages.{Stage, draft_line, head_line, stage_line}
+use Rattle.vms_header.specs.Stages.Stage.{Opening, Versioned, Drafting}
+use Rattle.vms_header.specs.Stages.HeadStep.{Goes}
+use Rattle.vms_header.specs.Sections.{any_zone_row}
 use Rattle.vms_text.specs.Reading.{is_clean, is_ignored}
 use Rattle.vms_text.specs.Words.{words_of}
 
@@ -21,7 +21,7 @@ module _ (a b c d e f g h : List ℕ) (words : List (List ℕ)) where
   stage_line-long : (stage : Stage) (clean : Bool) → stage_line stage clean (a ∷ b ∷ c ∷ d ∷ e ∷ f ∷ g ∷ h ∷ []) ≡ stage_line stage clean (a ∷ b ∷ c ∷ d ∷ e ∷ f ∷ g ∷ h ∷ words)
   stage_line-long Opening clean = refl
   stage_line-long (Versioned wide) clean = refl
-  stage_line-long (Drafting draft) clean = ap (λ turn. cond clean turn (Err Malformed)) (draft_line-long draft)
+  stage_line-long (Drafting draft) clean = ap (λ step. cond clean step (Err Malformed)) (draft_line-long draft)
 
 stage_line-eight : (stage : Stage) (clean : Bool) (words : List (List ℕ)) → stage_line stage clean (take 8 words) ≡ stage_line stage clean words
 stage_line-eight stage clean [] = refl

@@ -19,12 +19,12 @@ use Rattle.vms_base.specs.Places.{LaysOut, Shape, counter_at, counter_count, pla
 use Rattle.vms_base.proofs.Counts.{counter_at-whole, place_of-lt}
 use Rattle.vms_header.specs.declared.causes.HeaderCause.{HeaderCause}
 use Rattle.vms_header.specs.declared.causes.HeaderCause.TheVariants.{UnknownName}
-use Rattle.vms_header.specs.Drafts.{Base, Draft, Part, Zone, bases_of, names_of, nodes_of, part_index, positions_of, shape_of}
-use Rattle.vms_header.specs.Drafts.Part.{AtBases}
-use Rattle.vms_header.specs.Head.{Stage, going, stage_line}
-use Rattle.vms_header.specs.Head.Stage.{Drafting}
-use Rattle.vms_header.specs.Head.Turn.{Goes}
-use Rattle.vms_header.specs.HeadRows.{base_row, value_field, with_base}
+use Rattle.vms_header.specs.Drafts.{Base, Draft, Section, Zone, bases_of, names_of, nodes_of, section_index, positions_of, shape_of}
+use Rattle.vms_header.specs.Drafts.Section.{AtBases}
+use Rattle.vms_header.specs.Stages.{Stage, going, stage_line}
+use Rattle.vms_header.specs.Stages.Stage.{Drafting}
+use Rattle.vms_header.specs.Stages.HeadStep.{Goes}
+use Rattle.vms_header.specs.Sections.{base_row, value_field, with_base}
 use Rattle.vms_text.specs.PlaceNames.{IsKnown}
 use Rattle.vms_text.specs.PlaceNames.{item_named, place_named}
 use Rattle.vms_text.specs.Reading.{and_then}
@@ -33,12 +33,12 @@ use Rattle.vms_text.specs.Spelling.{counter_words, place_words}
 use Rattle.vms_header.proofs.BaseLines.{base_line_words-based}
 use Rattle.vms_text.proofs.CounterWords.{counter_words-at, item_word-found, item_word-short}
 use Rattle.vms_header.proofs.HeaderItems.{drafted, due, list_any-none}
-use Rattle.vms_header.proofs.HeaderSteps.{Leads, leads-cons, leads-none, leads-one}
+use Rattle.vms_header.proofs.HeaderSteps.{LinesLead, LinesLead-cons, LinesLead-none, LinesLead-one}
 use Rattle.vms_header.proofs.HeaderZones.{zone_of}
 use Rattle.vms_header.proofs.Middles.{All-middle, map-zip_first}
 use Rattle.vms_text.proofs.PlacesRead.{SpellsPlace, below-other, place-spelled}
 use Rattle.vms_text.proofs.Sentences.{IsFew}
-use Rattle.vms_header.proofs.Shapes.{LaysOut-ranked}
+use Rattle.vms_header.proofs.RankedLayouts.{LaysOut-ranked}
 use Rattle.vms_text.proofs.SpelledNumbers.{decimal-short, signed-short, signed_of-spelled, unsigned_of-decimal}
 
 -- the zones of a header, with their sizes
@@ -57,8 +57,8 @@ abbrev record_of : List ZoneName → ℕ → ℕ → Shape
 record_of zones cpus positions = record { zones = zones; nodes = nodes_of zones; cpus = cpus; positions = positions }
 
 -- zones that are read back make the layout
-pub shape-back : (header : Header) → IsHeader header → (part : Part) (bases : List Base) → shape_of (drafted header part header.items (zones_of header) bases []) ≡ header.layout
-shape-back header is part bases =
+pub shape-back : (header : Header) → IsHeader header → (section : Section) (bases : List Base) → shape_of (drafted header section header.items (zones_of header) bases []) ≡ header.layout
+shape-back header is section bases =
     let layout = header.layout in
     let names = names-pairs (zip layout.zones header.sizes) ∙ map-zip_first layout.zones header.sizes is.sizes_length in
     let lays : LaysOut layout.zones layout.cpus layout.positions layout = record { is_layout = is.is_layout; same_zones = IsPermutation-refl layout.zones; same_cpus = refl; same_positions = refl } in
@@ -74,7 +74,7 @@ some_zones header is =
     let many : 0 < length (map zone_of pairs) = omega (arith, some, same, length-map pairs zone_of, length-zip header.layout.zones header.sizes) in
     grind (arith, nat_tests)
 
--- what a base line says of a layout, behind its node
+-- what a base line says of a layout, after its node
 abbrev base_under : Shape → Draft → ℕ → List ℕ → List ℕ → List ℕ → Result Draft HeaderCause
 base_under shape draft node kind item value =
     and_then (ok_or (place_named shape node kind) UnknownName) (λ place.
@@ -93,16 +93,16 @@ base_fits : (value : ℤ) → unsigned_abs value ≤ 2 ^ 48 → FitsSigned w64 v
 base_fits value small = omega (arith, ints)
 
 module _ (header : Header) (is : IsHeader header) where
-  abbrev at : Part → List Base → Draft
-  at part bases = drafted header part header.items (zones_of header) bases []
+  abbrev at : Section → List Base → Draft
+  at section bases = drafted header section header.items (zones_of header) bases []
 
-  -- a header whose bases were read, up to some part
+  -- a header whose bases were read, up to some section
   pub record BasesLead (from : Stage) (lines : List (List (List ℕ))) : Type 0 where
-    pub after : Part
+    pub after : Section
     pub last : List Base
-    pub before : part_index after ≤ 4
+    pub before : section_index after ≤ 4
     pub bases_are : bases_of (counter_count header.layout) last ≡ header.bases
-    pub leads : Leads from lines (Drafting (drafted header after header.items (zones_of header) last []))
+    pub leads : LinesLead from lines (Drafting (drafted header after header.items (zones_of header) last []))
 
   base_known : (counter : ℕ) (value : ℤ) → counter < length header.bases → slice_index_or header.bases counter (pos 0) ≡ value → value ≢ pos 0 → IsKnown header counter
   base_known counter value within read based =
@@ -143,24 +143,24 @@ module _ (header : Header) (is : IsHeader header) where
         let test : nat_le (unsigned_abs value) (2 ^ 48) ≡ true = grind (arith, nat_tests) in
         rw (signed_of-spelled value (base_fits value small), test) refl
 
-    under_read : (part : Part) (bases : List Base) → base_under header.layout (at part bases) spells.node spells.kind item (signed_decimal value) ≡ with_base (at part bases) counter value
-    under_read part bases =
+    under_read : (section : Section) (bases : List Base) → base_under header.layout (at section bases) spells.node spells.kind item (signed_decimal value) ≡ with_base (at section bases) counter value
+    under_read section bases =
         rw (spells.named, item_word-found header is (is_of_node header.layout counter) (position_of header.layout counter) known.1, counter_at-whole header.layout is.is_layout counter, value_read) refl
 
-    base_leads : (part : Part) (bases : List Base) → part_index part ≤ 4 → All (λ base. base.counter < counter) bases
-        → Leads (Drafting (at part bases)) ((codes "base" ∷ counter_words header counter ++ signed_decimal value ∷ []) ∷ []) (Drafting (at AtBases (record { counter = counter; value = value } ∷ bases)))
-    base_leads part bases before below =
-        let draft = at part bases in
+    base_leads : (section : Section) (bases : List Base) → section_index section ≤ 4 → All (λ base. base.counter < counter) bases
+        → LinesLead (Drafting (at section bases)) ((codes "base" ∷ counter_words header counter ++ signed_decimal value ∷ []) ∷ []) (Drafting (at AtBases (record { counter = counter; value = value } ∷ bases)))
+    base_leads section bases before below =
+        let draft = at section bases in
         let new = list_any-none (λ (base : Base). nat_eq base.counter counter) bases
         (All-weaker (λ (base : Base). base.counter < counter) (λ base. nat_eq base.counter counter ≡ false) (λ base less. below-other base.counter counter less) bases below) in
         let row = base_row-under draft spells.node spells.kind item (signed_decimal value) node_fits (some_zones header is)
-        ∙ ap (λ shape. base_under shape draft spells.node spells.kind item (signed_decimal value)) (shape-back header is part bases)
-        ∙ under_read part bases in
+        ∙ ap (λ shape. base_under shape draft spells.node spells.kind item (signed_decimal value)) (shape-back header is section bases)
+        ∙ under_read section bases in
         let is_at = due draft AtBases before in
         let read : stage_line (Drafting draft) true line ≡ going (base_row draft (decimal spells.node ∷ spells.kind ∷ item ∷ signed_decimal value ∷ [])) = rw is_at refl in
-        let taken : going (with_base draft counter value) ≡ Ok (Goes (Drafting (at AtBases (record { counter = counter; value = value } ∷ bases)))) = rw new refl in
-        leads-one (Drafting draft) (Drafting (at AtBases (record { counter = counter; value = value } ∷ bases))) (codes "base" ∷ counter_words header counter ++ signed_decimal value ∷ [])
-        (subst IsFew (sym line_is) line_few) (ap (stage_line (Drafting draft) true) line_is ∙ read ∙ ap going row ∙ taken)
+        let goes : going (with_base draft counter value) ≡ Ok (Goes (Drafting (at AtBases (record { counter = counter; value = value } ∷ bases)))) = rw new refl in
+        LinesLead-one (Drafting draft) (Drafting (at AtBases (record { counter = counter; value = value } ∷ bases))) (codes "base" ∷ counter_words header counter ++ signed_decimal value ∷ [])
+        (subst IsFew (sym line_is) line_few) (ap (stage_line (Drafting draft) true) line_is ∙ read ∙ ap going row ∙ goes)
 
   nothing_more : (done : List ℤ) (n : ℕ) → done ++ replicate (suc n) (pos 0) ≡ (done ++ pos 0 ∷ []) ++ replicate n (pos 0)
   nothing_more done n = sym (append_assoc done (pos 0 ∷ []) (replicate n (pos 0)))
@@ -189,20 +189,20 @@ module _ (header : Header) (is : IsHeader header) where
     value_small = All-middle done values value (λ base. unsigned_abs base ≤ 2 ^ 48) (subst (All (λ base. unsigned_abs base ≤ 2 ^ 48)) (sym whole) is.bases_most)
 
     -- a line for a base other than 0, and then the others
-    based_lead : (part : Part) (bases : List Base) → value ≢ pos 0 → part_index part ≤ 4 → All (λ base. base.counter < counter) bases
+    based_lead : (section : Section) (bases : List Base) → value ≢ pos 0 → section_index section ≤ 4 → All (λ base. base.counter < counter) bases
         → BasesLead (Drafting (at AtBases (record { counter = counter; value = value } ∷ bases))) (base_lines_from header (suc counter) values)
-        → BasesLead (Drafting (at part bases)) (base_line_words header counter value ++ base_lines_from header (suc counter) values)
-    based_lead part bases based before below more =
+        → BasesLead (Drafting (at section bases)) (base_line_words header counter value ++ base_lines_from header (suc counter) values)
+    based_lead section bases based before below more =
         let known = base_known counter value within is_read based in
         let words = codes "base" ∷ counter_words header counter ++ signed_decimal value ∷ [] in
-        let leads = leads-cons (Drafting (at part bases)) (Drafting (at AtBases (record { counter = counter; value = value } ∷ bases))) (Drafting (at more.after more.last)) words
-        (base_lines_from header (suc counter) values) (base_leads counter value known value_small part bases before below) more.leads in
+        let leads = LinesLead-cons (Drafting (at section bases)) (Drafting (at AtBases (record { counter = counter; value = value } ∷ bases))) (Drafting (at more.after more.last)) words
+        (base_lines_from header (suc counter) values) (base_leads counter value known value_small section bases before below) more.leads in
         record {
           after = more.after;
           last = more.last;
           before = more.before;
           bases_are = more.bases_are;
-          leads = subst (λ lines. Leads (Drafting (at part bases)) (lines ++ base_lines_from header (suc counter) values) (Drafting (at more.after more.last))) (sym (base_line_words-based header counter value based)) leads;
+          leads = subst (λ lines. LinesLead (Drafting (at section bases)) (lines ++ base_lines_from header (suc counter) values) (Drafting (at more.after more.last))) (sym (base_line_words-based header counter value based)) leads;
         }
 
   next_below : (counter : ℕ) (bases : List Base) → All (λ base. base.counter < counter) bases → All (λ base. base.counter < suc counter) bases
@@ -211,24 +211,24 @@ module _ (header : Header) (is : IsHeader header) where
   with_this : (counter : ℕ) (value : ℤ) (bases : List Base) → All (λ base. base.counter < counter) bases → All (λ base. base.counter < suc counter) (record { counter = counter; value = value } ∷ bases)
   with_this counter value bases below = All-cons (λ (base : Base). base.counter < suc counter) (record { counter = counter; value = value }) bases (omega arith) (next_below counter bases below)
 
-  pub bases_lead : (values done : List ℤ) (counter : ℕ) (part : Part) (bases : List Base) → counter ≡ length done → done ++ values ≡ header.bases → part_index part ≤ 4
+  pub bases_lead : (values done : List ℤ) (counter : ℕ) (section : Section) (bases : List Base) → counter ≡ length done → done ++ values ≡ header.bases → section_index section ≤ 4
       → bases_of (counter_count header.layout) bases ≡ done ++ replicate (length values) (pos 0) → All (λ base. base.counter < counter) bases
-      → BasesLead (Drafting (at part bases)) (base_lines_from header counter values)
-  bases_lead [] done counter part bases at_end whole before stands below = record {
-    after = part;
+      → BasesLead (Drafting (at section bases)) (base_lines_from header counter values)
+  bases_lead [] done counter section bases at_end whole before stands below = record {
+    after = section;
     last = bases;
     before = before;
     bases_are = stands ∙ whole;
-    leads = leads-none (Drafting (at part bases));
+    leads = LinesLead-none (Drafting (at section bases));
   }
-  bases_lead (pos zero ∷ values) done counter part bases at_end whole before stands below =
-      bases_lead values (done ++ pos 0 ∷ []) (suc counter) part bases (next_end done values (pos 0) counter at_end whole) (next_whole done values (pos 0) counter at_end whole) before
+  bases_lead (pos zero ∷ values) done counter section bases at_end whole before stands below =
+      bases_lead values (done ++ pos 0 ∷ []) (suc counter) section bases (next_end done values (pos 0) counter at_end whole) (next_whole done values (pos 0) counter at_end whole) before
       (stands ∙ nothing_more done (length values)) (next_below counter bases below)
-  bases_lead (pos (suc n) ∷ values) done counter part bases at_end whole before stands below =
-      based_lead done values (pos (suc n)) counter at_end whole part bases (λ same. absurd cc) before below
+  bases_lead (pos (suc n) ∷ values) done counter section bases at_end whole before stands below =
+      based_lead done values (pos (suc n)) counter at_end whole section bases (λ same. absurd cc) before below
       (bases_lead values (done ++ pos (suc n) ∷ []) (suc counter) AtBases (record { counter = counter; value = pos (suc n) } ∷ bases) (next_end done values (pos (suc n)) counter at_end whole)
       (next_whole done values (pos (suc n)) counter at_end whole) (omega arith) (based_more done (length values) counter (pos (suc n)) bases at_end stands) (with_this counter (pos (suc n)) bases below))
-  bases_lead (negsuc n ∷ values) done counter part bases at_end whole before stands below =
-      based_lead done values (negsuc n) counter at_end whole part bases (λ same. absurd cc) before below
+  bases_lead (negsuc n ∷ values) done counter section bases at_end whole before stands below =
+      based_lead done values (negsuc n) counter at_end whole section bases (λ same. absurd cc) before below
       (bases_lead values (done ++ negsuc n ∷ []) (suc counter) AtBases (record { counter = counter; value = negsuc n } ∷ bases) (next_end done values (negsuc n) counter at_end whole)
       (next_whole done values (negsuc n) counter at_end whole) (omega arith) (based_more done (length values) counter (negsuc n) bases at_end stands) (with_this counter (negsuc n) bases below))

@@ -13,17 +13,17 @@ use Rattle.vms_base.specs.declared.kinds.ZoneSize.{ZoneSize}
 use Rattle.vms_base.specs.Places.{rank_of}
 use Rattle.vms_base.specs.Sizes.{IsValidSize}
 use Rattle.vms_base.proofs.Ranks.{rises}
-use Rattle.vms_header.specs.Drafts.{Draft, Part, Zone, part_index, with_zone}
-use Rattle.vms_header.specs.Drafts.Part.{AtZones}
-use Rattle.vms_header.specs.Head.{going, is_due, stage_line}
-use Rattle.vms_header.specs.Head.Stage.{Drafting}
-use Rattle.vms_header.specs.Head.Turn.{Goes}
-use Rattle.vms_header.specs.HeadRows.{with_new_zone}
+use Rattle.vms_header.specs.Drafts.{Draft, Section, Zone, section_index, with_zone}
+use Rattle.vms_header.specs.Drafts.Section.{AtZones}
+use Rattle.vms_header.specs.Stages.{going, is_due, stage_line}
+use Rattle.vms_header.specs.Stages.Stage.{Drafting}
+use Rattle.vms_header.specs.Stages.HeadStep.{Goes}
+use Rattle.vms_header.specs.Sections.{with_new_zone}
 use Rattle.vms_header.specs.Laws.{IsWritable}
 use Rattle.vms_header.specs.Spelling.{zone_line_words}
 use Rattle.vms_text.proofs.Apart.{AllPairs-from_map}
 use Rattle.vms_header.proofs.HeaderItems.{drafted, due, list_any-none}
-use Rattle.vms_header.proofs.HeaderSteps.{Leads, leads-cons, leads-none, leads-one}
+use Rattle.vms_header.proofs.HeaderSteps.{LinesLead, LinesLead-cons, LinesLead-none, LinesLead-one}
 use Rattle.vms_header.proofs.Middles.{All-from_map, All-middle, AllPairs-middle, map-zip_first, map-zip_second}
 use Rattle.vms_text.proofs.PlacesRead.{below-other, kind_named-word, kind_word, kind_word-entry, kind_word-short, zone_node-most}
 use Rattle.vms_text.proofs.Sentences.{IsFew}
@@ -33,7 +33,7 @@ use Rattle.vms_text.proofs.SpelledNumbers.{decimal-short}
 abbrev pub zone_of : ZoneName × ZoneSize → Zone
 zone_of pair = record { name = pair.0; size = pair.1 }
 
--- a zone above all others stands behind them
+-- a zone above all others comes last
 with_zone-end : (zone : Zone) (zones : List Zone) → All (λ other. rank_of other.name < rank_of zone.name) zones → with_zone zone zones ≡ zones ++ zone ∷ []
 with_zone-end zone [] above = refl
 with_zone-end zone (other ∷ zones) above =
@@ -132,38 +132,38 @@ module _ (header : Header) (is : IsWritable header) where
         let below : length (map zone_of done) < 16 = omega (arith, most, all, length-map done zone_of, length-append done (pair ∷ rest), length-zip header.layout.zones header.sizes) in
         grind (arith, nat_tests)
 
-    zone_leads : (part : Part) → part_index part ≤ 3
-        → Leads (Drafting (drafted header part header.items (map zone_of done) [] [])) (zone_line_words pair ∷ []) (Drafting (drafted header AtZones header.items (map zone_of (done ++ pair ∷ [])) [] []))
-    zone_leads part before =
-        let draft = drafted header part header.items (map zone_of done) [] [] in
+    zone_leads : (section : Section) → section_index section ≤ 3
+        → LinesLead (Drafting (drafted header section header.items (map zone_of done) [] [])) (zone_line_words pair ∷ []) (Drafting (drafted header AtZones header.items (map zone_of (done ++ pair ∷ [])) [] []))
+    zone_leads section before =
+        let draft = drafted header section header.items (map zone_of done) [] [] in
         let words = words_are pair.0 pair.1 in
         let above = All-map (λ (other : Zone). rank_of other.name < rank_of pair.0) zone_of done lower in
         let new = list_any-none (λ (other : Zone). nat_eq (rank_of other.name) (rank_of pair.0)) (map zone_of done)
         (All-weaker (λ (other : Zone). rank_of other.name < rank_of pair.0) (λ other. nat_eq (rank_of other.name) (rank_of pair.0) ≡ false)
         (λ other less. below-other (rank_of other.name) (rank_of pair.0) less) (map zone_of done) above) in
         let placed = with_zone-end (zone_of pair) (map zone_of done) above ∙ sym (map_push zone_of done pair) in
-        let taken : going (with_new_zone draft (zone_of pair)) ≡ Ok (Goes (Drafting (drafted header AtZones header.items (map zone_of (done ++ pair ∷ [])) [] []))) = rw (new, few_zones, placed) refl in
-        leads-one (Drafting draft) (Drafting (drafted header AtZones header.items (map zone_of (done ++ pair ∷ [])) [] [])) (zone_line_words pair)
-        (subst IsFew (sym words) (zone_few pair.0 pair.1 said)) (ap (stage_line (Drafting draft) true) words ∙ zone_read pair.0 pair.1 said draft (due draft AtZones before) refl ∙ taken)
+        let goes : going (with_new_zone draft (zone_of pair)) ≡ Ok (Goes (Drafting (drafted header AtZones header.items (map zone_of (done ++ pair ∷ [])) [] []))) = rw (new, few_zones, placed) refl in
+        LinesLead-one (Drafting draft) (Drafting (drafted header AtZones header.items (map zone_of (done ++ pair ∷ [])) [] [])) (zone_line_words pair)
+        (subst IsFew (sym words) (zone_few pair.0 pair.1 said)) (ap (stage_line (Drafting draft) true) words ∙ zone_read pair.0 pair.1 said draft (due draft AtZones before) refl ∙ goes)
 
-  pub zones_lead : (done rest : List (ZoneName × ZoneSize)) (part : Part) → part_index part ≤ 3 → done ++ rest ≡ zip header.layout.zones header.sizes
-      → (after : Part) × ((part_index after ≤ 3) × Leads (Drafting (drafted header part header.items (map zone_of done) [] [])) (map zone_line_words rest)
+  pub zones_lead : (done rest : List (ZoneName × ZoneSize)) (section : Section) → section_index section ≤ 3 → done ++ rest ≡ zip header.layout.zones header.sizes
+      → (after : Section) × ((section_index after ≤ 3) × LinesLead (Drafting (drafted header section header.items (map zone_of done) [] [])) (map zone_line_words rest)
       (Drafting (drafted header after header.items (map zone_of (zip header.layout.zones header.sizes)) [] [])))
-  zones_lead done [] part before whole =
+  zones_lead done [] section before whole =
       let same = sym (append-nil done) ∙ whole in (
-        part,
+        section,
         (
           before,
-          subst (λ all. Leads (Drafting (drafted header part header.items (map zone_of done) [] [])) [] (Drafting (drafted header part header.items (map zone_of all) [] []))) same
-              (leads-none (Drafting (drafted header part header.items (map zone_of done) [] []))),
+          subst (λ all. LinesLead (Drafting (drafted header section header.items (map zone_of done) [] [])) [] (Drafting (drafted header section header.items (map zone_of all) [] []))) same
+              (LinesLead-none (Drafting (drafted header section header.items (map zone_of done) [] []))),
         ),
       )
-  zones_lead done (pair ∷ rest) part before whole =
+  zones_lead done (pair ∷ rest) section before whole =
       let next = zones_lead (done ++ pair ∷ []) rest AtZones (omega arith) (append_assoc done (pair ∷ []) rest ∙ whole) in (
         next.0,
         (
           next.1.0,
-          leads-cons (Drafting (drafted header part header.items (map zone_of done) [] [])) (Drafting (drafted header AtZones header.items (map zone_of (done ++ pair ∷ [])) [] []))
-              (Drafting (drafted header next.0 header.items (map zone_of (zip header.layout.zones header.sizes)) [] [])) (zone_line_words pair) (map zone_line_words rest) (zone_leads done rest pair whole part before) next.1.1,
+          LinesLead-cons (Drafting (drafted header section header.items (map zone_of done) [] [])) (Drafting (drafted header AtZones header.items (map zone_of (done ++ pair ∷ [])) [] []))
+              (Drafting (drafted header next.0 header.items (map zone_of (zip header.layout.zones header.sizes)) [] [])) (zone_line_words pair) (map zone_line_words rest) (zone_leads done rest pair whole section before) next.1.1,
         ),
       )

@@ -11,17 +11,17 @@ use Rattle.vms_base.specs.declared.kinds.ZoneSize.{ZoneSize}
 use Rattle.vms_base.specs.Places.{Shape, counter_count}
 use Rattle.vms_text.specs.Lines.{lines_of}
 use Rattle.vms_text.specs.Words.{joined}
-use Rattle.vms_header.specs.Drafts.{Base, Draft, Part, Zone, bases_of, header_of, most_cpus}
-use Rattle.vms_header.specs.Drafts.Part.{AtCpus}
-use Rattle.vms_header.specs.Head.{read_header, stage_line, with_cpus}
-use Rattle.vms_header.specs.Head.Stage.{Drafting, Opening, Versioned}
-use Rattle.vms_header.specs.Head.Turn.{Ends, Goes}
+use Rattle.vms_header.specs.Drafts.{Base, Draft, Section, Zone, bases_of, header_of, most_cpus}
+use Rattle.vms_header.specs.Drafts.Section.{AtCpus}
+use Rattle.vms_header.specs.Stages.{read_header, stage_line, with_cpus}
+use Rattle.vms_header.specs.Stages.Stage.{Drafting, Opening, Versioned}
+use Rattle.vms_header.specs.Stages.HeadStep.{Ends, Goes}
 use Rattle.vms_header.specs.Laws.{HeadersReadBack, IsWritable}
 use Rattle.vms_header.specs.Spelling.{base_lines_from, counter_line_words, cpus_words, header_words, item_words, spelled_header, version_words, zone_line_words}
 use Rattle.vms_header.proofs.HeaderBases.{bases_lead, shape-back, some_zones, zones_of}
 use Rattle.vms_header.proofs.HeaderCounters.{counters_lead}
 use Rattle.vms_header.proofs.HeaderItems.{drafted, items_lead}
-use Rattle.vms_header.proofs.HeaderSteps.{Leads, ends-one, leads-append, leads-cons, leads-one, lines_of-sentences}
+use Rattle.vms_header.proofs.HeaderSteps.{LinesLead, ends-one, LinesLead-append, LinesLead-cons, LinesLead-one, lines_of-sentences}
 use Rattle.vms_header.proofs.HeaderZones.{zone_of, zones_lead}
 use Rattle.vms_header.proofs.Middles.{map-zip_second}
 use Rattle.vms_text.proofs.Sentences.{IsFew}
@@ -68,15 +68,15 @@ module _ (header : Header) (is : IsWritable header) where
       let tested : with_cpus (header.layout.positions == 16) header.layout.cpus ≡ Ok (Goes (Drafting (drafted header AtCpus [] [] [] []))) = rw (some, few) refl in
       read ∙ tested
 
-  -- the header of all that was said
-  header_of-read : (part : Part) (bases : List Base) → bases_of (counter_count header.layout) bases ≡ header.bases → header_of (drafted header part header.items (zones_of header) bases header.counters) ≡ header
-  header_of-read part bases said =
-      let shape = shape-back header is.is_header part bases in
+  -- the header of the whole draft
+  header_of-read : (section : Section) (bases : List Base) → bases_of (counter_count header.layout) bases ≡ header.bases → header_of (drafted header section header.items (zones_of header) bases header.counters) ≡ header
+  header_of-read section bases bases_are =
+      let shape = shape-back header is.is_header section bases in
       let sizes = sizes-pairs (zip header.layout.zones header.sizes) ∙ map-zip_second header.layout.zones header.sizes is.is_header.sizes_length in
       let make = λ (shape : Shape) (sizes : List ZoneSize) (bases : List ℤ). made shape sizes bases in
       ap (λ (shape : Shape). made shape (map (λ (zone : Zone). zone.size) (zones_of header)) (bases_of (counter_count shape) bases)) shape
       ∙ ap (λ sizes. made header.layout sizes (bases_of (counter_count header.layout) bases)) sizes
-      ∙ ap (λ bases. made header.layout header.sizes bases) said
+      ∙ ap (λ bases. made header.layout header.sizes bases) bases_are
     where
       made : Shape → List ZoneSize → List ℤ → Header
       made shape sizes bases = record { layout = shape; sizes = sizes; bases = bases; counters = header.counters; items = header.items }
@@ -90,7 +90,7 @@ module _ (header : Header) (is : IsWritable header) where
     draft : Draft
     some : nat_eq (length draft.zones) 0 ≡ false
     same : header_of draft ≡ header
-    leads : Leads Opening front (Drafting draft)
+    leads : LinesLead Opening front (Drafting draft)
 
   front_leads : Front
   front_leads =
@@ -98,26 +98,26 @@ module _ (header : Header) (is : IsWritable header) where
       let pairs = zip header.layout.zones header.sizes in
       let zones = map zone_line_words pairs in
       let opening = version_words header ∷ cpus_words header ∷ map item_words header.items in
-      let first = leads-one Opening (Versioned wide) (version_words header) (version_few wide) (version_read wide) in
-      let second = leads-one (Versioned wide) (Drafting (drafted header AtCpus [] [] [] [])) (cpus_words header) cpus_few cpus_read in
+      let first = LinesLead-one Opening (Versioned wide) (version_words header) (version_few wide) (version_read wide) in
+      let second = LinesLead-one (Versioned wide) (Drafting (drafted header AtCpus [] [] [] [])) (cpus_words header) cpus_few cpus_read in
       let items = items_lead header is.is_header [] header.items AtCpus (omega arith) refl in
       let items_draft = drafted header items.0 header.items [] [] [] in
-      let to_items = leads-cons Opening (Versioned wide) (Drafting items_draft) (version_words header) (cpus_words header ∷ map item_words header.items) first
-      (leads-cons (Versioned wide) (Drafting (drafted header AtCpus [] [] [] [])) (Drafting items_draft) (cpus_words header) (map item_words header.items) second items.1.1) in
+      let to_items = LinesLead-cons Opening (Versioned wide) (Drafting items_draft) (version_words header) (cpus_words header ∷ map item_words header.items) first
+      (LinesLead-cons (Versioned wide) (Drafting (drafted header AtCpus [] [] [] [])) (Drafting items_draft) (cpus_words header) (map item_words header.items) second items.1.1) in
       let zoned = zones_lead header is [] pairs items.0 (let small = items.1.0 in omega arith) refl in
       let zones_draft = drafted header zoned.0 header.items (zones_of header) [] [] in
-      let to_zones = leads-append Opening (Drafting items_draft) (Drafting zones_draft) opening zones to_items zoned.1.1 in
+      let to_zones = LinesLead-append Opening (Drafting items_draft) (Drafting zones_draft) opening zones to_items zoned.1.1 in
       let none : bases_of (counter_count header.layout) [] ≡ replicate (length header.bases) (pos 0) = ap (λ count. replicate count (pos 0)) (sym is.is_header.bases_length) in
       let based = bases_lead header is.is_header header.bases [] 0 zoned.0 [] refl refl (let small = zoned.1.0 in omega arith) none (All-nil (λ (base : Base). base.counter < 0)) in
       let bases_draft = drafted header based.after header.items (zones_of header) based.last [] in
-      let to_bases = leads-append Opening (Drafting zones_draft) (Drafting bases_draft) (opening ++ zones) (base_lines_from header 0 header.bases) to_zones based.leads in
+      let to_bases = LinesLead-append Opening (Drafting zones_draft) (Drafting bases_draft) (opening ++ zones) (base_lines_from header 0 header.bases) to_zones based.leads in
       let counted = counters_lead header is.is_header based.last [] header.counters based.after refl in
       let last = drafted header counted.0 header.items (zones_of header) based.last header.counters in
       record {
         draft = last;
         some = some_zones header is.is_header;
         same = header_of-read counted.0 based.last based.bases_are;
-        leads = leads-append Opening (Drafting bases_draft) (Drafting last) (opening ++ zones ++ base_lines_from header 0 header.bases) (map counter_line_words header.counters) to_bases counted.1;
+        leads = LinesLead-append Opening (Drafting bases_draft) (Drafting last) (opening ++ zones ++ base_lines_from header 0 header.bases) (map counter_line_words header.counters) to_bases counted.1;
       }
 
   go_few : IsFew (codes "go" ∷ [])
@@ -149,5 +149,5 @@ module _ (header : Header) (is : IsWritable header) where
 pub header_words-few : (header : Header) → IsWritable header → All IsFew (header_words header)
 header_words-few header is = header-few header is
 
-pub headers-read_back : HeadersReadBack
-headers-read_back header more is = header-read header is more
+pub HeadersReadBack-holds : HeadersReadBack
+HeadersReadBack-holds header more is = header-read header is more

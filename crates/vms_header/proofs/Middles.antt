@@ -1,4 +1,4 @@
--- What is true of all of a list, of the one that stands behind some and before others.
+-- What is true of all of a list is true of the one between some and others.
 use Rattle.std.proofs.Common.{◌≡◌, ◌<◌, List, [], ◌∷◌, ◌++◌, refl, subst, ap, arith, length, length-append, get_or, map}
 use Rattle.std.proofs.lemmas.List.{get_or-map, get_or_append_left, get_or_at, length-map}
 use Rattle.std.specs.List.{All}

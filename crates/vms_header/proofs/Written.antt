@@ -12,9 +12,9 @@ use Rattle.vms_base.specs.Sizes.{IsValidSize}
 use Rattle.vms_base.specs.Watermarks.{zone_marks_of}
 use Rattle.vms_header.specs.DraftFacts.{IsBase, IsDraft, IsShare, IsSized, IsStage}
 use Rattle.vms_header.specs.Drafts.{Base, Draft, Share, Zone, bases_of, header_of, managed_pages, positions_of, shape_of, sizes_under}
-use Rattle.vms_header.specs.Head.{Fault, Stage, head_line, header_from, on_turn, read_header}
-use Rattle.vms_header.specs.Head.Stage.{Opening}
-use Rattle.vms_header.specs.Head.Turn.{Goes, Ends}
+use Rattle.vms_header.specs.Stages.{Fault, Stage, head_line, header_from, on_step, read_header}
+use Rattle.vms_header.specs.Stages.Stage.{Opening}
+use Rattle.vms_header.specs.Stages.HeadStep.{Goes, Ends}
 use Rattle.vms_header.specs.Laws.{IsWritable}
 use Rattle.vms_text.specs.PlaceNames.{declared_items}
 use Rattle.vms_header.proofs.DraftBases.{length-bases_of}
@@ -105,7 +105,7 @@ IsFound (Err fault) = Unit {0}
 pub header_from-writable : (n : ℕ) (stage : Stage) (lines : List (List ℕ)) → IsStage stage → IsFound (header_from n stage lines)
 header_from-writable n stage [] is = tt
 header_from-writable n stage (line ∷ lines) is =
-    elim (head_line stage line) as (λ turn. head_line stage line ≡ turn → IsFound (on_turn n turn (λ next. header_from (suc n) next lines))) [
+    elim (head_line stage line) as (λ step. head_line stage line ≡ step → IsFound (on_step n step (λ next. header_from (suc n) next lines))) [
       | Ok (Goes next) ↦ λ goes. header_from-writable (suc n) next lines (head_line-keeps stage line (Goes next) is goes)
       | Ok (Ends draft) ↦ λ ends. let valid = head_line-keeps stage line (Ends draft) is ends in header_of-writable draft valid.0 valid.1
       | Err cause ↦ λ refused. tt

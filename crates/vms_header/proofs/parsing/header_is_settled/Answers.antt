@@ -1,0 +1,5 @@
+use Rattle.vms_header.proofs.HeaderSettled.{read_header-settled}
+use Rattle.vms_header.proofs.parsing.header_is_settled.Goals as goal
+
+pub returns : goal.returns
+returns c = read_header-settled
