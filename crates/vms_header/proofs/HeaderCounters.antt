@@ -1,5 +1,6 @@
 -- The percpu counters' lines of a header are read back as its percpu counters.
-use Rattle.std.proofs.Common.{◌≡◌, ◌≢◌, ◌<◌, ◌^◌, true, false, nat_le, nat_lt, List, [], ◌∷◌, ◌++◌, refl, sym, subst, ◌∙◌, ap, arith, append_assoc, append-nil, length, length-append, map}
+use Rattle.std.proofs.Common.{◌≡◌, ◌≢◌, ◌<◌, ◌^◌, true, false, nat_le, nat_lt, List, [], ◌∷◌, ◌++◌, refl, sym, subst}
+use Rattle.std.proofs.Common.{◌∙◌, ap, arith, append_assoc, append-nil, length, length-append, map}
 use Rattle.std.proofs.lemmas.Bool.Decides.{nat_tests}
 use Rattle.std.proofs.lemmas.List.{map-append}
 use Rattle.std.specs.List.{All, list_any}
@@ -37,9 +38,11 @@ module _ (header : Header) (is : IsHeader header) (bases : List Base) where
     decl_new : list_any (λ other. bytes_eq decl.name other.name) done ≡ false
     decl_new =
         let name_of = λ (other : Decl). other.name in
-        let pairs = subst (AllPairs ◌≢◌) (map-append name_of done (decl ∷ rest)) (subst (λ all. AllPairs ◌≢◌ (map name_of all)) (sym whole) is.counters_differ) in
+        let pairs = subst (AllPairs ◌≢◌) (map-append name_of done (decl ∷ rest))
+        (subst (λ all. AllPairs ◌≢◌ (map name_of all)) (sym whole) is.counters_differ) in
         list_any-none (λ (other : Decl). bytes_eq decl.name other.name) done
-        (All-from_map name_of (λ other. bytes_eq decl.name other ≡ false) done (after-differs (map name_of done) (map name_of rest) decl.name pairs))
+        (All-from_map name_of (λ other. bytes_eq decl.name other ≡ false) done
+        (after-differs (map name_of done) (map name_of rest) decl.name pairs))
 
     few_counters : nat_le 16 (length done) ≡ false
     few_counters =
@@ -56,7 +59,9 @@ module _ (header : Header) (is : IsHeader header) (bases : List Base) where
       said = refl;
     }
 
-    decl_leads : (section : Section) → LinesLead (Drafting (at section done)) (counter_line_words decl ∷ []) (Drafting (at AtCounters (done ++ decl ∷ [])))
+    decl_leads : (section : Section)
+        → LinesLead (Drafting (at section done)) (counter_line_words decl ∷ []) (Drafting
+        (at AtCounters (done ++ decl ∷ [])))
     decl_leads section =
         let draft = at section done in
         let least = decl_valid.batch_least in
@@ -64,18 +69,27 @@ module _ (header : Header) (is : IsHeader header) (bases : List Base) where
         let named : is_name decl.name ≡ true = decl_valid.form in
         let low : nat_lt decl.batch 1 ≡ false = grind (arith, nat_tests) in
         let high : nat_lt 65536 decl.batch ≡ false = grind (arith, nat_tests) in
-        let read : stage_line (Drafting draft) true (counter_line_words decl) ≡ going (with_counter draft decl.name decl.batch) =
+        let read : stage_line (Drafting draft) true (counter_line_words decl) ≡ going
+        (with_counter draft decl.name decl.batch) =
         rw (some_zones header is, named, unsigned_of-decimal decl.batch batch_fits) refl in
-        let goes : going (with_counter draft decl.name decl.batch) ≡ Ok (Goes (Drafting (at AtCounters (done ++ decl ∷ [])))) = rw (decl_new, low, high, few_counters) refl in
-        LinesLead-one (Drafting draft) (Drafting (at AtCounters (done ++ decl ∷ []))) (counter_line_words decl) decl_few (read ∙ goes)
+        let goes : going (with_counter draft decl.name decl.batch)
+        ≡ Ok (Goes (Drafting (at AtCounters (done ++ decl ∷ [])))) = rw (decl_new, low, high, few_counters) refl in
+        LinesLead-one (Drafting draft) (Drafting (at AtCounters (done ++ decl ∷ []))) (counter_line_words decl) decl_few
+        (read ∙ goes)
 
   pub counters_lead : (done rest : List Decl) (section : Section) → done ++ rest ≡ header.counters
-      → (after : Section) × LinesLead (Drafting (drafted header section header.items (zones_of header) bases done)) (map counter_line_words rest) (Drafting (drafted header after header.items (zones_of header) bases header.counters))
-  counters_lead done [] section whole =
-      (section, subst (λ counters. LinesLead (Drafting (at section done)) [] (Drafting (at section counters))) (sym (append-nil done) ∙ whole) (LinesLead-none (Drafting (at section done))))
+      → (after : Section) × LinesLead (Drafting (drafted header section header.items (zones_of header) bases done))
+      (map counter_line_words rest)
+      (Drafting (drafted header after header.items (zones_of header) bases header.counters))
+  counters_lead done [] section whole = (
+    section,
+    subst (λ counters. LinesLead (Drafting (at section done)) [] (Drafting (at section counters)))
+        (sym (append-nil done) ∙ whole) (LinesLead-none (Drafting (at section done))),
+  )
   counters_lead done (decl ∷ rest) section whole =
       let next = counters_lead (done ++ decl ∷ []) rest AtCounters (append_assoc done (decl ∷ []) rest ∙ whole) in (
         next.0,
-        LinesLead-cons (Drafting (at section done)) (Drafting (at AtCounters (done ++ decl ∷ []))) (Drafting (at next.0 header.counters)) (counter_line_words decl) (map counter_line_words rest)
+        LinesLead-cons (Drafting (at section done)) (Drafting (at AtCounters (done ++ decl ∷ [])))
+            (Drafting (at next.0 header.counters)) (counter_line_words decl) (map counter_line_words rest)
             (decl_leads done rest decl whole section) next.1,
       )

@@ -1,4 +1,4 @@
--- What an answer that may want memory says of the step after it.
+-- An answer that is refused, where memory may run out, refuses what comes after it.
 use Rattle.std.proofs.Common.{◌≡◌, Result, Err, ap, sym, ◌∙◌}
 use Rattle.vms_header.specs.declared.causes.HeaderCause.{HeaderCause}
 use Rattle.vms_header.specs.declared.causes.ReadError.{ReadError}
@@ -7,11 +7,14 @@ use Rattle.vms_header.specs.Readers.{Reads}
 use Rattle.vms_text.specs.Reading.{and_then}
 
 -- what the first step refuses, both refuse
-pub Reads-refused : {A B C D : Type 0} (view : A → B) (other : C → D) (answer : Result B HeaderCause) (next : B → Result D HeaderCause) (error : ReadError) → Reads view answer (Err error) → Reads other (and_then answer next) (Err error)
+pub Reads-refused : {A B C D : Type 0} (view : A → B) (other : C → D) (answer : Result B HeaderCause) (next : B
+    → Result D HeaderCause) (error : ReadError) → Reads view answer (Err error)
+    → Reads other (and_then answer next) (Err error)
 Reads-refused view other answer next (Refused cause) refused = ap (λ answer. and_then answer next) refused
 Reads-refused view other answer next Memory refused = tt
 
--- what is told without want of memory
-pub Reads-told : {A B : Type 0} (view : A → B) (answer : Result B HeaderCause) (cause : HeaderCause) (error : ReadError) → answer ≡ Err cause → error ≡ Refused cause → Reads view answer (Err error)
+-- an answer that needs no memory is one for which memory may run out
+pub Reads-told : {A B : Type 0} (view : A → B) (answer : Result B HeaderCause) (cause : HeaderCause) (error : ReadError)
+    → answer ≡ Err cause → error ≡ Refused cause → Reads view answer (Err error)
 Reads-told view answer cause (Refused other) told is = let same : other ≡ cause = cc in told ∙ ap Err (sym same)
 Reads-told view answer cause Memory told is = absurd cc

@@ -1,5 +1,6 @@
 -- What is true of every stage of a header: its draft is in its ranges.
-use Rattle.std.specs.Prelude.{◌≡◌, ◌≢◌, ◌<◌, ◌≤◌, ◌^◌, unsigned_abs, true, false, [], length, map, All, AllPairs, IfSome}
+use Rattle.std.specs.Prelude.{◌≡◌, ◌≢◌, ◌<◌, ◌≤◌, ◌^◌, unsigned_abs, true, false, [], length, map, All, AllPairs}
+use Rattle.std.specs.Prelude.{IfSome}
 use Rattle.std.specs.List.Sorted.{IsStrictlyIncreasing}
 use Rattle.vms_base.specs.declared.kinds.ZoneSize.{ZoneSize}
 use Rattle.vms_base.specs.Headers.{IsValidDecl, IsValidItem, class_names, is_of_node}
@@ -25,7 +26,8 @@ pub record IsSized (size : ZoneSize) : Type 0 where
 -- a base value of a counter that has a name
 pub record IsBase (draft : Draft) (base : Base) : Type 0 where
   pub known : base.counter < counter_count (shape_of draft)
-  pub named : position_of (shape_of draft) base.counter < length (class_names (is_of_node (shape_of draft) base.counter) draft.items)
+  pub named : position_of (shape_of draft) base.counter
+      < length (class_names (is_of_node (shape_of draft) base.counter) draft.items)
   pub most : unsigned_abs base.value ≤ 2 ^ 48
 
 -- a draft that lines can make: it has no base before the first base line is due

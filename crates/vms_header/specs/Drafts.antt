@@ -1,5 +1,6 @@
 -- A draft is what the lines of a header say, up to some line after `cpus`. The last draft makes the header.
-use Rattle.std.specs.Prelude.{ℕ, nat_lt, nat_eq, Bool, not, if◌then◌else◌, ℤ, pos, List, [], ◌∷◌, map, filter, replicate, slice_set, sum_by, Option, Some, None}
+use Rattle.std.specs.Prelude.{ℕ, nat_lt, nat_eq, Bool, not, if◌then◌else◌, ℤ, pos, List, [], ◌∷◌, map, filter}
+use Rattle.std.specs.Prelude.{replicate, slice_set, sum_by, Option, Some, None}
 use Rattle.vms_base.specs.declared.headers.Decl.{Decl}
 use Rattle.vms_base.specs.declared.headers.Header.{Header}
 use Rattle.vms_base.specs.declared.headers.ItemDecl.{ItemDecl}
@@ -20,7 +21,7 @@ pub data Section : Type 0 where
   AtBases : Section
   AtCounters : Section
 
--- the place of a section in their order
+-- the number of a section in that order
 abbrev pub section_index : Section → ℕ
 section_index AtCpus = 0
 section_index AtWatermarks = 1
@@ -29,9 +30,9 @@ section_index AtZones = 3
 section_index AtBases = 4
 section_index AtCounters = 5
 
--- a draft: whether the version is 2 (`wide`), and the section of the last line that isn't blank. The zones stand by node and
--- then by kind, and their marks are 0 under a `watermarks` line. The bases stand newest first, the declared items and percpu
--- counters in the order of their lines.
+-- a draft: whether the version is 2 (`wide`), and the section of the last line that isn't blank. The zones stand by
+-- node and then by kind, and their marks are 0 under a `watermarks` line. The bases stand newest first, the declared
+-- items and percpu counters in the order of their lines.
 pub record Draft : Type 0 where
   pub wide : Bool
   pub cpus : ℕ

@@ -13,7 +13,8 @@ pub record IsWritable (header : Header) : Type 0 where
 
 -- every header that is read can be written
 abbrev pub HeadersAreWritable : Type 0
-HeadersAreWritable = (lines : List (List ℕ)) (header : Header) (count : ℕ) → read_header lines ≡ Ok (header, count) → IsWritable header
+HeadersAreWritable =
+    (lines : List (List ℕ)) (header : Header) (count : ℕ) → read_header lines ≡ Ok (header, count) → IsWritable header
 
 -- what is spelled of a header is read back as that header, whatever lines follow it
 abbrev pub HeadersReadBack : Type 0

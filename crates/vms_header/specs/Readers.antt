@@ -38,12 +38,12 @@ draft_of draft = record {
   counters = draft.counters.items;
 }
 
--- an answer without want of memory: what is found, seen in this way, or the cause
+-- an answer that needs no memory: what is found, as `view` shows it, or the cause
 abbrev pub Tells : {A B : Type 0} → (A → B) → Result B HeaderCause → Result A HeaderCause → Type 0
 Tells view answer (Ok found) = answer ≡ Ok (view found)
 Tells view answer (Err cause) = answer ≡ Err cause
 
--- an answer of what may want memory: what is found, seen in this way, or the cause; want of memory says nothing
+-- an answer for which memory may run out, of which nothing is said: what is found, as `view` shows it, or the cause
 abbrev pub Reads : {A B : Type 0} → (A → B) → Result B HeaderCause → Result A ReadError → Type 0
 Reads view answer (Ok found) = answer ≡ Ok (view found)
 Reads view answer (Err (Refused cause)) = answer ≡ Err cause

@@ -1,6 +1,8 @@
--- The lines of a header after `cpus`, one kind each. A line gives the draft with what it says, or the first cause why it is at
--- fault.
-use Rattle.std.specs.Prelude.{ℕ, ◌*◌, ◌^◌, nat_lt, nat_le, nat_eq, max, ◌&&◌, ◌||◌, Bool, true, false, if◌then◌else◌, ℤ, unsigned_abs, List, [], ◌∷◌, ◌++◌, length, map, codes, bytes_eq, Option, Some, None, ok_or, Result, Ok, Err}
+-- The lines of a header after `cpus`, one kind each. A line gives the draft with what it says, or the first cause why
+-- it is at fault.
+use Rattle.std.specs.Prelude.{ℕ, ◌*◌, ◌^◌, nat_lt, nat_le, nat_eq, max, ◌&&◌, ◌||◌, Bool, true, false, if◌then◌else◌, ℤ}
+use Rattle.std.specs.Prelude.{unsigned_abs, List, [], ◌∷◌, ◌++◌, length, map, codes, bytes_eq, Option, Some, None}
+use Rattle.std.specs.Prelude.{ok_or, Result, Ok, Err}
 use Rattle.std.specs.List.{list_any}
 use Rattle.vms_base.specs.declared.headers.ItemDecl.{ItemDecl}
 use Rattle.vms_base.specs.declared.kinds.ZoneKind.{ZoneKind}
@@ -8,7 +10,10 @@ use Rattle.vms_base.specs.Names.{is_name, zone_items, node_items}
 use Rattle.vms_base.specs.Places.{rank_of, counter_at}
 use Rattle.vms_text.specs.Numbers.{number_within, unsigned_of, signed_of}
 use Rattle.vms_header.specs.declared.causes.HeaderCause.{HeaderCause}
-use Rattle.vms_header.specs.declared.causes.HeaderCause.TheVariants.{BadNumber, NoZone, DoubledZone, TooManyZones, BadMarks, UnknownName, DoubledCounter, BadBatch, Malformed, TooManyCounters, DoubledItem, TooManyItems}
+use Rattle.vms_header.specs.declared.causes.HeaderCause.TheVariants.{BadNumber, NoZone, DoubledZone, TooManyZones}
+use Rattle.vms_header.specs.declared.causes.HeaderCause.TheVariants.{BadMarks, UnknownName, DoubledCounter, BadBatch}
+use Rattle.vms_header.specs.declared.causes.HeaderCause.TheVariants.{Malformed, TooManyCounters, DoubledItem}
+use Rattle.vms_header.specs.declared.causes.HeaderCause.TheVariants.{TooManyItems}
 use Rattle.vms_header.specs.Drafts.{Zone, Share, Draft, with_zone, shape_of}
 use Rattle.vms_header.specs.Drafts.Section.{AtWatermarks, AtItems, AtZones, AtBases, AtCounters}
 use Rattle.vms_text.specs.PlaceNames.{kind_named, place_named, item_named, declared_items}
@@ -82,13 +87,16 @@ with_new_zone draft zone =
 -- marks that rise
 abbrev pub rising : Draft → Zone → Result Draft HeaderCause
 rising draft zone =
-    if nat_le zone.size.min zone.size.low && nat_le zone.size.low zone.size.high then with_new_zone draft zone else Err BadMarks
+    if nat_le zone.size.min zone.size.low && nat_le zone.size.low zone.size.high
+    then with_new_zone draft zone else Err BadMarks
 
 -- `zone NODE KIND MANAGED MIN LOW HIGH`
 abbrev pub zone_row : Draft → List (List ℕ) → Result Draft HeaderCause
 zone_row draft (node ∷ kind ∷ managed ∷ least ∷ middle ∷ most ∷ []) =
-    and_then (number_in 0 15 node) (λ node. and_then (kind_field kind) (λ kind. and_then (number_in 1 (2 ^ 40) managed) (λ managed.
-    and_then (number_in 0 (2 ^ 40) least) (λ least. and_then (number_in 0 (2 ^ 40) middle) (λ middle. and_then (number_in 0 (2 ^ 40) most) (λ most.
+    and_then (number_in 0 15 node) (λ node. and_then (kind_field kind) (λ kind.
+    and_then (number_in 1 (2 ^ 40) managed) (λ managed.
+    and_then (number_in 0 (2 ^ 40) least) (λ least. and_then (number_in 0 (2 ^ 40) middle) (λ middle.
+    and_then (number_in 0 (2 ^ 40) most) (λ most.
     rising draft (record {
       name = record { node = node; kind = kind };
       size = record { managed = managed; min = least; low = middle; high = most };
@@ -98,7 +106,8 @@ zone_row draft _ = Err Malformed
 -- `zone NODE KIND MANAGED`, where a `watermarks` line gives the marks
 abbrev pub unmarked_zone_row : Draft → List (List ℕ) → Result Draft HeaderCause
 unmarked_zone_row draft (node ∷ kind ∷ managed ∷ []) =
-    and_then (number_in 0 15 node) (λ node. and_then (kind_field kind) (λ kind. and_then (number_in 1 (2 ^ 40) managed) (λ managed.
+    and_then (number_in 0 15 node) (λ node. and_then (kind_field kind) (λ kind.
+    and_then (number_in 1 (2 ^ 40) managed) (λ managed.
     with_new_zone draft (record {
       name = record { node = node; kind = kind };
       size = record { managed = managed; min = 0; low = 0; high = 0 };
@@ -135,8 +144,10 @@ base_counter draft place item =
 -- `base PLACE ITEM VALUE`
 abbrev pub base_row : Draft → List (List ℕ) → Result Draft HeaderCause
 base_row draft (node ∷ kind ∷ item ∷ value ∷ []) =
-    after_zones draft (and_then (any_number node) (λ node. and_then (ok_or (place_named (shape_of draft) node kind) UnknownName) (λ place.
-    and_then (base_counter draft place item) (λ counter. and_then (value_field value) (λ value. with_base draft counter value)))))
+    after_zones draft (and_then (any_number node) (λ node.
+    and_then (ok_or (place_named (shape_of draft) node kind) UnknownName) (λ place.
+    and_then (base_counter draft place item) (λ counter. and_then (value_field value) (λ value.
+    with_base draft counter value)))))
 base_row draft _ = Err Malformed
 
 -- the draft with one percpu counter more
@@ -145,12 +156,16 @@ with_counter draft name batch =
     if list_any (λ decl. bytes_eq name decl.name) draft.counters then Err DoubledCounter
     else if nat_lt batch 1 || nat_lt 65536 batch then Err BadBatch
     else if nat_le 16 (length draft.counters) then Err TooManyCounters
-    else Ok (record draft { section = AtCounters; counters = draft.counters ++ record { name = name; batch = batch } ∷ [] })
+    else Ok (record draft {
+      section = AtCounters;
+      counters = draft.counters ++ record { name = name; batch = batch } ∷ [];
+    })
 
 -- `counter NAME BATCH`, where BATCH is twice the CPUs and at least 32 if it is left out
 abbrev pub counter_row : Draft → List (List ℕ) → Result Draft HeaderCause
 counter_row draft (name ∷ []) =
     after_zones draft (and_then (name_field name) (λ name. with_counter draft name (max 32 (2 * draft.cpus))))
 counter_row draft (name ∷ batch ∷ []) =
-    after_zones draft (and_then (name_field name) (λ name. and_then (any_number batch) (λ batch. with_counter draft name batch)))
+    after_zones draft (and_then (name_field name) (λ name. and_then (any_number batch) (λ batch.
+    with_counter draft name batch)))
 counter_row draft _ = Err Malformed

@@ -1,17 +1,20 @@
 -- The header of a trace, and the first line at fault.
-use Rattle.std.specs.Prelude.{ℕ, suc, ◌≡◌, ◌≤◌, nat_lt, nat_le, ◌&&◌, Bool, true, false, if◌then◌else◌, List, [], ◌∷◌, length, take, drop, codes, bytes_eq, Result, Ok, Err}
+use Rattle.std.specs.Prelude.{ℕ, suc, ◌≡◌, ◌≤◌, nat_lt, nat_le, ◌&&◌, Bool, true, false, if◌then◌else◌, List, [], ◌∷◌}
+use Rattle.std.specs.Prelude.{length, take, drop, codes, bytes_eq, Result, Ok, Err}
 use Rattle.std.specs.Cmp.Lexicographic.{pointwise}
 use Rattle.vms_base.specs.declared.headers.Header.{Header}
 use Rattle.vms_text.specs.Lines.{lines_of}
 use Rattle.vms_text.specs.Words.{words_of}
 use Rattle.vms_header.specs.declared.causes.HeaderCause.{HeaderCause}
-use Rattle.vms_header.specs.declared.causes.HeaderCause.TheVariants.{BadMagic, BadCpus, MissingGo, Malformed, LineTooLong}
+use Rattle.vms_header.specs.declared.causes.HeaderCause.TheVariants.{BadMagic, BadCpus, MissingGo, Malformed}
+use Rattle.vms_header.specs.declared.causes.HeaderCause.TheVariants.{LineTooLong}
 use Rattle.vms_header.specs.declared.causes.HeaderError.{HeaderError}
 use Rattle.vms_header.specs.declared.causes.HeaderError.TheVariants.{Bad, Memory}
 use Rattle.vms_text.specs.Reading.{and_then, most_line, is_ignored, is_clean}
 use Rattle.vms_header.specs.Drafts.{Draft, Section, section_index, first_draft, most_cpus, header_of}
 use Rattle.vms_header.specs.Drafts.Section.{AtCpus, AtItems, AtZones, AtBases}
-use Rattle.vms_header.specs.Sections.{any_number, watermarks_row, item_row, any_zone_row, after_zones, base_row, counter_row}
+use Rattle.vms_header.specs.Sections.{any_number, watermarks_row, item_row, any_zone_row, after_zones, base_row}
+use Rattle.vms_header.specs.Sections.{counter_row}
 
 -- a header's line that is refused, counted from 1, and why
 pub record Fault : Type 0 where
@@ -36,13 +39,16 @@ are_words words given = pointwise bytes_eq words given
 -- the version that the words of the first line name
 abbrev pub version_line : Bool → List (List ℕ) → Result HeadStep HeaderCause
 version_line clean words =
-    if are_words words (codes "vmtrace" ∷ codes "1" ∷ []) then (if clean then Ok (Goes (Versioned false)) else Err Malformed)
-    else if are_words words (codes "vmtrace" ∷ codes "2" ∷ []) then (if clean then Ok (Goes (Versioned true)) else Err Malformed)
+    if are_words words (codes "vmtrace" ∷ codes "1" ∷ [])
+    then (if clean then Ok (Goes (Versioned false)) else Err Malformed)
+    else if are_words words (codes "vmtrace" ∷ codes "2" ∷ [])
+    then (if clean then Ok (Goes (Versioned true)) else Err Malformed)
     else Err BadMagic
 
 -- so many CPUs, if the version has them
 abbrev pub with_cpus : Bool → ℕ → Result HeadStep HeaderCause
-with_cpus wide n = if nat_le 1 n && nat_le n (most_cpus wide) then Ok (Goes (Drafting (first_draft wide n))) else Err BadCpus
+with_cpus wide n =
+    if nat_le 1 n && nat_le n (most_cpus wide) then Ok (Goes (Drafting (first_draft wide n))) else Err BadCpus
 
 -- `cpus N`
 abbrev pub cpus_line : Bool → List (List ℕ) → Result HeadStep HeaderCause
@@ -67,10 +73,14 @@ is_due draft section = nat_le (section_index draft.section) (section_index secti
 abbrev pub draft_line : Draft → List (List ℕ) → Result HeadStep HeaderCause
 draft_line draft [] = Err Malformed
 draft_line draft (word ∷ fields) =
-    if bytes_eq word (codes "watermarks") then (if is_due draft AtCpus then going (watermarks_row draft fields) else Err Malformed)
-    else if bytes_eq word (codes "item") then (if draft.wide && is_due draft AtItems then going (item_row draft fields) else Err Malformed)
-    else if bytes_eq word (codes "zone") then (if is_due draft AtZones then going (any_zone_row draft draft.share fields) else Err Malformed)
-    else if bytes_eq word (codes "base") then (if is_due draft AtBases then going (base_row draft fields) else Err Malformed)
+    if bytes_eq word (codes "watermarks")
+    then (if is_due draft AtCpus then going (watermarks_row draft fields) else Err Malformed)
+    else if bytes_eq word (codes "item")
+    then (if draft.wide && is_due draft AtItems then going (item_row draft fields) else Err Malformed)
+    else if bytes_eq word (codes "zone")
+    then (if is_due draft AtZones then going (any_zone_row draft draft.share fields) else Err Malformed)
+    else if bytes_eq word (codes "base")
+    then (if is_due draft AtBases then going (base_row draft fields) else Err Malformed)
     else if bytes_eq word (codes "counter") then going (counter_row draft fields)
     else if bytes_eq word (codes "go") then go_row draft fields
     else Err Malformed
@@ -104,15 +114,16 @@ abbrev pub header_from : ℕ → Stage → List (List ℕ) → Result (Header ×
 header_from n stage [] = Err (record { line = n; cause = missing stage })
 header_from n stage (line ∷ lines) = on_step n (head_line stage line) (λ next. header_from (suc n) next lines)
 
--- the header that the first lines of a trace say, and how many they are, or the first line at fault. Where the lines end too
--- early it is the line after the last.
+-- the header that the first lines of a trace say, and how many they are, or the first line at fault. Where the lines
+-- end too early it is the line after the last.
 abbrev pub read_header : List (List ℕ) → Result (Header × ℕ) Fault
 read_header lines = header_from 1 Opening lines
 
--- what reading a header from a text answers: the header, the number of its lines, and that of its bytes, after which the body
--- begins. Or it is the first line at fault, or want of memory, at any text.
+-- what reading a header from a text answers: the header, the number of its lines, and that of its bytes, after which
+-- the body begins. Otherwise it is the first line at fault. Memory may run out at any text.
 abbrev pub ReadsHeader : List ℕ → Result (Header × ℕ × ℕ) HeaderError → Type 0
 ReadsHeader text (Ok found) = (read_header (lines_of text) ≡ Ok (found.0, found.1)) × (found.2 ≤ length text)
-    × (lines_of (take found.2 text) ≡ take found.1 (lines_of text)) × (lines_of (drop found.2 text) ≡ drop found.1 (lines_of text))
+    × (lines_of (take found.2 text) ≡ take found.1 (lines_of text))
+    × (lines_of (drop found.2 text) ≡ drop found.1 (lines_of text))
 ReadsHeader text (Err (Bad line cause)) = read_header (lines_of text) ≡ Err (record { line = line; cause = cause })
 ReadsHeader text (Err Memory) = Unit {0}

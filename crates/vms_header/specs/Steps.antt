@@ -13,8 +13,8 @@ use Rattle.vms_header.specs.Stages.{HeadStep}
 use Rattle.vms_header.specs.Stages.HeadStep.{Goes, Ends}
 use Rattle.vms_header.specs.Laws.{IsWritable}
 
--- what a line made: a reader that goes on from the stage, or the header of the draft, or why the line is at fault. Want of memory
--- says nothing.
+-- what a line makes: a reader that goes on from the stage, or the header of the draft, or why the line is at fault.
+-- Nothing is said where memory runs out.
 abbrev pub StepsTo : Result HeadStep HeaderCause → Result HeaderStep ReadError → Type 0
 StepsTo step (Ok (header_step.Goes reader)) = step ≡ Ok (Goes reader)
 StepsTo step (Ok (header_step.Ends header)) = (draft : Draft) × (step ≡ Ok (Ends draft)) × (header ≡ header_of draft)

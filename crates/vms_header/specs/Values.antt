@@ -6,21 +6,25 @@ use Rattle.vms_base.specs.declared.kinds.ZoneSize.{ZoneSize}
 use Rattle.vms_header.specs.declared.causes.HeaderCause.{HeaderCause}
 use Rattle.vms_header.specs.declared.causes.HeaderCause.TheVariants.{UnknownName, Malformed}
 use Rattle.vms_header.specs.Drafts.{Zone, Share, Base, Draft, shape_of}
-use Rattle.vms_header.specs.Sections.{number_in, any_number, name_field, class_field, unit_field, kind_field, value_field, base_counter}
+use Rattle.vms_header.specs.Sections.{number_in, any_number, name_field, class_field, unit_field, kind_field}
+use Rattle.vms_header.specs.Sections.{value_field, base_counter}
 use Rattle.vms_text.specs.PlaceNames.{place_named}
 use Rattle.vms_text.specs.Reading.{and_then}
 
 -- `KBYTES SCALE`
 abbrev pub share_words : List (List ℕ) → Result Share HeaderCause
-share_words (kbytes ∷ []) = and_then (number_in 0 (2 ^ 40) kbytes) (λ kbytes. Ok (record { kbytes = kbytes; scale = 10 }))
+share_words (kbytes ∷ []) =
+    and_then (number_in 0 (2 ^ 40) kbytes) (λ kbytes. Ok (record { kbytes = kbytes; scale = 10 }))
 share_words (kbytes ∷ scale ∷ []) =
-    and_then (number_in 0 (2 ^ 40) kbytes) (λ kbytes. and_then (number_in 1 3000 scale) (λ scale. Ok (record { kbytes = kbytes; scale = scale })))
+    and_then (number_in 0 (2 ^ 40) kbytes) (λ kbytes. and_then (number_in 1 3000 scale) (λ scale.
+    Ok (record { kbytes = kbytes; scale = scale })))
 share_words _ = Err Malformed
 
 -- `NODE KIND`
 abbrev pub zone_name : List ℕ → List ℕ → Result ZoneName HeaderCause
 zone_name node kind =
-    and_then (number_in 0 15 node) (λ node. and_then (kind_field kind) (λ kind. Ok (record { node = node; kind = kind })))
+    and_then (number_in 0 15 node) (λ node. and_then (kind_field kind) (λ kind.
+    Ok (record { node = node; kind = kind })))
 
 -- `MANAGED MIN LOW HIGH`
 abbrev pub zone_size : List ℕ → List ℕ → List ℕ → List ℕ → Result ZoneSize HeaderCause

@@ -53,7 +53,7 @@ pub struct Draft {
     /// Whether the version is 2.
     pub wide: bool,
     pub cpus: u32,
-    /// Of the last line that isn't blank.
+    /// The section of the last line that isn't blank.
     pub section: Section,
     pub share: Option<Share>,
     pub items: Vec<ItemDecl>,

@@ -35,7 +35,8 @@ fn names_of(zones: &[Zone]) -> ArrayVec<ZoneName, 16>
 
 fn make_layout(zones: &[ZoneName], cpus: u32, wide: bool) -> Result<Layout, LayoutError>
     requires { All (λ zone. zone.node ≤ 15) zones.now }
-    ensures { MatchResult result (LaysOut zones.now cpus (positions_of wide)) (IsRefused (most_cpus wide) zones.now cpus) }
+    ensures { MatchResult result (LaysOut zones.now cpus (positions_of wide))
+        (IsRefused (most_cpus wide) zones.now cpus) }
 {
     if wide {
         Layout::make_wide(zones, cpus)

@@ -8,8 +8,8 @@ use std::alloc::Global;
 use vms_base::Header;
 use vms_text::split_line;
 
-/// Reads the header at the front of a text of at most 64 MiB: the header, the number of its lines, and of its bytes up to
-/// the end of the `go` line.
+/// Reads the header at the front of a text of at most 64 MiB. Gives the header, the number of its lines, and the number
+/// of its bytes up to the end of the `go` line.
 pub fn parse_header(alloc: Global, text: &[u8]) -> Result<(Header, u32, usize), HeaderError>
     requires { length text.now ≤ 2 ^ 26 }
     ensures read { ReadsHeader text.now result }

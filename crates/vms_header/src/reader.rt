@@ -52,7 +52,7 @@ impl HeaderReader {
         }
     }
 
-    /// Reads a line, without its end. A line at fault ends the reader. Memory is taken for what the lines declare alone.
+    /// Reads a line, without its end. A line at fault ends the reader. Only what the lines declare takes memory.
     pub fn read(self, line: &[u8]) -> Result<HeaderStep, ReadError>
         ensures step { StepsTo (head_line self line.now) result }
         ensures writable { IfOk result IsStepWritable }

@@ -1,9 +1,12 @@
-ghost use Rattle.std.specs.Prelude.{◌≡◌, ◌<◌, ◌∷◌, [], ◌++◌, bytes_eq, length, map, nat_eq, nat_lt, position, ok_or, ◌≤◌, true, false, None, Ok, IfOk};
+ghost use Rattle.std.specs.Prelude.{◌≡◌, ◌<◌, ◌∷◌, [], ◌++◌, bytes_eq, length, map, nat_eq, nat_lt, position, ok_or};
+ghost use Rattle.std.specs.Prelude.{◌≤◌, true, false, None, Ok, IfOk};
 ghost use Rattle.std.specs.List.{list_any, position_or_len};
 ghost use Rattle.vms_base.specs.Names.{node_items, zone_items};
 ghost use Rattle.vms_base.specs.Places.{counter_at, place_count, rank_of};
 ghost use Rattle.vms_header.specs.Drafts.{shape_of};
-ghost use Rattle.vms_header.specs.Sections.{any_zone_row, base_row, counter_row, is_item_name, item_row, name_field, rising, unmarked_zone_row, watermarks_row, with_base, with_counter, with_item, with_new_zone, zone_row};
+ghost use Rattle.vms_header.specs.Sections.{any_zone_row, base_row, counter_row, is_item_name, item_row, name_field};
+ghost use Rattle.vms_header.specs.Sections.{rising, unmarked_zone_row, watermarks_row, with_base, with_counter};
+ghost use Rattle.vms_header.specs.Sections.{with_item, with_new_zone, zone_row};
 ghost use Rattle.vms_header.specs.Values.{item_of, item_words, base_words};
 ghost use Rattle.vms_base.specs.Headers.{class_names};
 ghost use Rattle.arrayvec.specs.ArrayVec.{array_vec_len};
@@ -85,7 +88,7 @@ fn name_field(word: &[u8]) -> Result<&[u8], HeaderCause>
     }
 }
 
-/// Adds an item, unless its name is one of an item or its class has eight.
+/// Adds an item, unless another has its name or its class has eight declared items.
 fn with_item(draft: Draft, item: ItemDecl) -> Result<Draft, ReadError>
     ensures { Reads draft_of (with_item (draft_of draft) item) result }
 {
@@ -114,7 +117,7 @@ fn is_item_name(items: &[ItemDecl], name: &[u8]) -> bool
 fn is_fixed_name(name: &[u8]) -> bool
     ensures { result ≡ list_any (bytes_eq name.now) (zone_items ++ node_items) }
 {
-    is_one_of(item_names(false), name) || is_one_of(item_names(true), name)
+    is_listed(item_names(false), name) || is_listed(item_names(true), name)
 }
 
 fn is_declared_name(items: &[ItemDecl], name: &[u8]) -> bool
@@ -123,7 +126,7 @@ fn is_declared_name(items: &[ItemDecl], name: &[u8]) -> bool
     items.iter().any(|item| name == item.name.as_slice())
 }
 
-fn is_one_of(names: &[&str], name: &[u8]) -> bool
+fn is_listed(names: &[&str], name: &[u8]) -> bool
     ensures { result ≡ list_any (λ other. bytes_eq name.now other.now) names.now }
 {
     names.iter().any(|other| name == other.as_bytes())
@@ -173,7 +176,7 @@ fn rising(draft: Draft, zone: Zone) -> Result<Draft, HeaderCause>
     }
 }
 
-/// Adds a zone, unless it stands there or 16 do.
+/// Adds a zone, unless the draft has it already or has 16.
 fn with_new_zone(draft: Draft, zone: Zone) -> Result<Draft, HeaderCause>
     ensures { Tells draft_of (with_new_zone (draft_of draft) zone) result }
 {
@@ -264,7 +267,8 @@ fn base_words(
 }
 
 fn base_place(layout: &Layout, node: u64, kind: &[u8]) -> Result<PlaceId, HeaderCause>
-    ensures value { and_then result (λ place. Ok place.number) ≡ ok_or (place_named layout.now node kind.now) UnknownName }
+    ensures value { and_then result (λ place. Ok place.number)
+        ≡ ok_or (place_named layout.now node kind.now) UnknownName }
     ensures place { IfOk result (λ place. place.number < place_count layout.now) }
 {
     place_named(layout, node, kind).ok_or(HeaderCause::UnknownName)
@@ -340,7 +344,7 @@ pub(crate) fn counter_row(alloc: Global, draft: Draft, fields: &[&[u8]]) -> Resu
     with_counter(alloc, draft, name, batch)
 }
 
-/// Adds a percpu counter, unless its name stands there, its batch is out of range or 16 stand there.
+/// Adds a percpu counter, unless the draft has its name already, its batch is out of range, or the draft has 16.
 fn with_counter(alloc: Global, draft: Draft, name: &[u8], batch: u64) -> Result<Draft, ReadError>
     ensures { Reads draft_of (with_counter (draft_of draft) name.now batch) result }
 {

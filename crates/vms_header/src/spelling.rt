@@ -1,10 +1,12 @@
-ghost use Rattle.std.specs.Prelude.{◌≡◌, ◌∷◌, [], if◌then◌else◌, codes, ◌≢◌, ◌++◌, ◌<◌, pos, flat_map, length, map, slice_index_or, zip, All, OnErr, OnOk};
+ghost use Rattle.std.specs.Prelude.{◌≡◌, ◌∷◌, [], if◌then◌else◌, codes, ◌≢◌, ◌++◌, ◌<◌, pos, flat_map, length, map};
+ghost use Rattle.std.specs.Prelude.{slice_index_or, zip, All, OnErr, OnOk};
 ghost use Rattle.std.specs.Fmt.{signed_decimal};
 ghost use Rattle.vms_base.specs.Headers.{IsHeader};
 ghost use Rattle.vms_base.specs.Places.{counter_count};
 ghost use Rattle.vms_text.specs.PlaceNames.{IsKnown};
 ghost use Rattle.vms_header.specs.Laws.{IsWritable};
-ghost use Rattle.vms_header.specs.Spelling.{base_line_words, base_lines_from, counter_line_words, cpus_words, item_words, spelled_header, version_words, zone_line_words};
+ghost use Rattle.vms_header.specs.Spelling.{base_line_words, base_lines_from, counter_line_words, cpus_words};
+ghost use Rattle.vms_header.specs.Spelling.{item_words, spelled_header, version_words, zone_line_words};
 ghost use Rattle.vms_text.specs.Spelling.{counter_words, sentence};
 ghost use Rattle.vms_text.specs.Writing.{Begins, text_of};
 
@@ -168,7 +170,8 @@ fn write_base_line(
 
 /// Appends the line of each percpu counter, with its batch.
 fn write_counters(out: &mut Vec<u8>, counters: &[Decl]) -> Result<(), Memory>
-    ensures ok { OnOk result (out.new.items ≡ out.old.items ++ flat_map sentence (map counter_line_words counters.now)) }
+    ensures ok { OnOk result (out.new.items
+        ≡ out.old.items ++ flat_map sentence (map counter_line_words counters.now)) }
     ensures err { OnErr result (Begins out.old.items out.new.items) }
 {
     for decl in counters {

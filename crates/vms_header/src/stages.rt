@@ -1,10 +1,12 @@
-ghost use Rattle.std.specs.Prelude.{◌≡◌, ◌^◌, ◌<◌, ◌≤◌, ◌∷◌, [], codes, if◌then◌else◌, length, map, IfOk, Ok, Err, Result};
+ghost use Rattle.std.specs.Prelude.{◌≡◌, ◌^◌, ◌<◌, ◌≤◌, ◌∷◌, [], codes, if◌then◌else◌, length, map, IfOk, Ok, Err};
+ghost use Rattle.std.specs.Prelude.{Result};
 ghost use Rattle.arrayvec.specs.ArrayVec.{array_vec_len};
 ghost use Rattle.vms_header.specs.DraftFacts.{IsStage, IsDraft};
 ghost use Rattle.vms_header.specs.declared.causes.HeaderCause.{HeaderCause};
 ghost use Rattle.vms_header.specs.declared.causes.HeaderCause.TheVariants.{Malformed};
 ghost use Rattle.vms_header.specs.Drafts.{first_draft, most_cpus};
-ghost use Rattle.vms_header.specs.Stages.{are_words, cpus_line, draft_line, go_row, going, is_due, stage_line, version_line, with_cpus};
+ghost use Rattle.vms_header.specs.Stages.{are_words, cpus_line, draft_line, go_row, going, is_due, stage_line};
+ghost use Rattle.vms_header.specs.Stages.{version_line, with_cpus};
 ghost use Rattle.vms_header.specs.Stages.Stage.{Versioned};
 ghost use Rattle.vms_header.specs.Stages.HeadStep.{Goes};
 ghost use Rattle.vms_header.specs.Sections.{any_zone_row, base_row, counter_row, item_row, watermarks_row};
@@ -204,7 +206,8 @@ fn item_line(alloc: Global, draft: Draft, fields: &[&[u8]]) -> Result<HeadStep, 
 }
 
 fn zone_line(draft: Draft, fields: &[&[u8]]) -> Result<HeadStep, ReadError>
-    ensures { Reads step_of (going (any_zone_row (draft_of draft) draft.share (map (λ field. field.now) fields.now))) result }
+    ensures { Reads step_of
+        (going (any_zone_row (draft_of draft) draft.share (map (λ field. field.now) fields.now))) result }
 {
     let draft = any_zone_row(draft, fields)?;
     Ok(HeadStep::Goes(Stage::Drafting(draft)))

@@ -1,3 +1,4 @@
+-- The zones of a draft stand by rank, so no layout is refused and the zones are laid out as they stand.
 use Rattle.std.proofs.Common.{◌≤◌, ◌∙◌, ap, sym, subst}
 use Rattle.std.proofs.lemmas.List.Elements.{All-map}
 use Rattle.std.specs.List.{All}
@@ -11,7 +12,8 @@ pub make_layout-requires : goal.make_layout-requires
 make_layout-requires c =
     let zones = c.args.draft.now.zones.items in
     let is = c.as_slice-2.ensures.value ∙ c.names_of-names.ensures ∙ ap names_of c.as_slice.ensures.value in
-    subst (All (λ zone. zone.node ≤ 15)) (sym is) (All-map (λ zone. zone.node ≤ 15) (λ zone. zone.name) zones c.requires.draft.zones_nodes)
+    subst (All (λ zone. zone.node ≤ 15)) (sym is)
+    (All-map (λ zone. zone.node ≤ 15) (λ zone. zone.name) zones c.requires.draft.zones_nodes)
 
 pub unreachable-requires : goal.unreachable-requires
 unreachable-requires c =
@@ -24,5 +26,6 @@ pub returns : goal.returns
 returns c =
     let draft = c.args.draft.now in
     let is = c.as_slice-2.ensures.value ∙ c.names_of-names.ensures ∙ ap names_of c.as_slice.ensures.value in
-    LaysOut-ranked (names_of draft.zones.items) draft.cpus (positions_of draft.wide) c.in-Ok.layout (names-rise (draft_of draft) c.requires.draft)
+    LaysOut-ranked (names_of draft.zones.items) draft.cpus (positions_of draft.wide) c.in-Ok.layout
+    (names-rise (draft_of draft) c.requires.draft)
     (subst (λ names. LaysOut names draft.cpus (positions_of draft.wide) c.in-Ok.layout) is c.in-Ok.ensures)

@@ -1,3 +1,4 @@
+-- After a zone line a base line is what its words say.
 use Rattle.std.proofs.Common.{◌∙◌, ap, subst, sym}
 use Rattle.std.proofs.lemmas.Result.{err_from_is_err_and}
 use Rattle.vms_header.specs.Sections.{with_base}
@@ -12,7 +13,8 @@ returns-in_err-base c =
     let draft = draft_of c.args.draft in
     let none = sym c.is_empty.ensures ∙ c.if-is_empty.false in
     let read = base_row-read draft c.args.node.now c.args.kind.now c.args.item.now c.args.value.now none in
-    let told = read ∙ ap (λ read. and_then read (λ base. with_base draft base.counter base.value)) (sym c.base_words.ensures ∙ c.in_err-base.was) in
+    let told = read ∙ ap (λ read. and_then read (λ base.
+    with_base draft base.counter base.value)) (sym c.base_words.ensures ∙ c.in_err-base.was) in
     rw (p.1, p.2) told
 
 pub returns : goal.returns
@@ -20,5 +22,6 @@ returns c =
     let draft = draft_of c.args.draft in
     let none = sym c.is_empty.ensures ∙ c.if-is_empty.false in
     let read = base_row-read draft c.args.node.now c.args.kind.now c.args.item.now c.args.value.now none in
-    let told = read ∙ ap (λ read. and_then read (λ base. with_base draft base.counter base.value)) (sym c.base_words.ensures ∙ c.in_ok-base.was) in
+    let told = read ∙ ap (λ read. and_then read (λ base.
+    with_base draft base.counter base.value)) (sym c.base_words.ensures ∙ c.in_ok-base.was) in
     subst (λ answer. Reads draft_of answer c.with_base.result) (sym told) c.with_base.ensures

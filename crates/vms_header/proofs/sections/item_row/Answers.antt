@@ -1,3 +1,4 @@
+-- An error of the words is the error of the line.
 use Rattle.std.proofs.Common.{Err, map, subst, sym}
 use Rattle.std.proofs.lemmas.Result.{err_from_is_err_and}
 use Rattle.vms_header.specs.Sections.{with_item}
@@ -13,5 +14,6 @@ returns-in_err-item c =
     let words = map (λ field. field.now) c.args.fields.now in
     let draft = draft_of c.args.draft in
     let error = c.in_err-item.field-0.0 in
-    let refused = Reads-refused (λ item. item) draft_of (item_words words) (with_item draft) error c.in_err-item.ensures in
+    let refused = Reads-refused (λ item. item) draft_of (item_words words)
+    (with_item draft) error c.in_err-item.ensures in
     rw (p.1, p.2) (subst (λ answer. Reads draft_of answer (Err error)) (sym (item_row-read draft words)) refused)

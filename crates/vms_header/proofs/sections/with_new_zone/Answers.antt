@@ -1,4 +1,6 @@
-use Rattle.std.proofs.Common.{◌≡◌, ◌≤◌, ◌<◌, ◌∙◌, false, sym, arith, ℕ, eqb, lit<, nat_eq, nat_le, length, not, nat_lt, refl}
+-- The zone goes in front of the first zone of a higher rank, and there is room for it.
+use Rattle.std.proofs.Common.{◌≡◌, ◌≤◌, ◌<◌, ◌∙◌, false, sym, arith, ℕ, eqb, lit<, nat_eq, nat_le, length, not, nat_lt}
+use Rattle.std.proofs.Common.{refl}
 use Rattle.std.proofs.lemmas.Bool.Decides.{nat_tests}
 use Rattle.std.proofs.lemmas.List.Sums.{prefix_len-le-length}
 use Rattle.std.specs.List.{list_any}
@@ -26,7 +28,8 @@ returns c =
     let zones = c.args.draft.zones.items in
     let rank = rank_of c.args.zone.name in
     let room = below (length zones) c.is_full.ensures.fits (sym c.is_full.ensures.value ∙ c.if-is_full.false) in
-    let other : list_any (λ other. nat_eq (rank_of other.name) rank) zones ≡ false = rw (← c.rank-rank.ensures, ← c.as_slice.ensures.value) (sym c.has_rank.ensures ∙ c.if-has_rank.false) in
+    let other : list_any (λ other. nat_eq (rank_of other.name) rank) zones ≡ false =
+    rw (← c.rank-rank.ensures, ← c.as_slice.ensures.value) (sym c.has_rank.ensures ∙ c.if-has_rank.false) in
     let at = c.first_above-index.ensures ∙ rw (c.rank-rank.ensures, c.as_slice-2.ensures.value) refl in
     let inserted = with_zone-insert c.args.zone zones c.first_above-index.result at ∙ sym c.insert.ensures.items in
     rw (other, not_full (length zones) room, inserted) refl

@@ -4,4 +4,5 @@ use Rattle.vms_text.specs.Spelling.{sentence}
 use Rattle.vms_header.proofs.spelling.write_items.Given as goal
 
 abbrev pub invariant-loop-item : goal.invariant-loop-item
-invariant-loop-item l = l.out.items ≡ l.initial.out.items ++ flat_map sentence (map item_words (take l.item-index l.items))
+invariant-loop-item l =
+    l.out.items ≡ l.initial.out.items ++ flat_map sentence (map item_words (take l.item-index l.items))

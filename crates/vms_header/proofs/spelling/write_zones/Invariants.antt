@@ -5,4 +5,5 @@ use Rattle.vms_header.specs.Spelling.{zone_line_words}
 use Rattle.vms_header.proofs.spelling.write_zones.Given as goal
 
 abbrev pub invariant-loop-place : goal.invariant-loop-place
-invariant-loop-place l = l.out.items ≡ l.initial.out.items ++ flat_map sentence (map zone_line_words (take l.place (zip l.zones l.sizes)))
+invariant-loop-place l =
+    l.out.items ≡ l.initial.out.items ++ flat_map sentence (map zone_line_words (take l.place (zip l.zones l.sizes)))
