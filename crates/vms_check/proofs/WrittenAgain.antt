@@ -13,7 +13,7 @@ use Rattle.vms_text.specs.Lines.{lines_of}
 use Rattle.vms_text.specs.Words.{joined}
 use Rattle.vms_text.proofs.TextLaws.{lines_of-append, lines_of-first}
 use Rattle.vms_line.specs.declared.causes.LineCause.{LineCause}
-use Rattle.vms_header.specs.Head.{Fault, read_header}
+use Rattle.vms_header.specs.Stages.{Fault, read_header}
 use Rattle.vms_header.specs.Laws.{IsSettled, IsWritable}
 use Rattle.vms_line.specs.Laws.{ReadsBack}
 use Rattle.vms_text.specs.Reading.{and_then}
@@ -21,10 +21,10 @@ use Rattle.vms_header.specs.Spelling.{header_words}
 use Rattle.vms_text.specs.Spelling.{sentence}
 use Rattle.vms_line.specs.Spelling.{spelled_line}
 use Rattle.vms_header.proofs.HeaderSteps.{lines_of-sentences}
-use Rattle.vms_header.proofs.HeadersRead.{header_words-few, headers-read_back}
+use Rattle.vms_header.proofs.HeadersRead.{header_words-few, HeadersReadBack-holds}
 use Rattle.vms_line.proofs.LinesRead.{lines-read_back}
 use Rattle.vms_text.proofs.Sentences.{IsFew, few-one_line}
-use Rattle.vms_header.proofs.Settling.{read_header-settled}
+use Rattle.vms_header.proofs.HeaderSettled.{read_header-settled}
 use Rattle.vms_header.proofs.Written.{read_header-writable}
 use Rattle.vms_script.specs.Judging.{allowed, judged}
 use Rattle.vms_command.specs.Limits.{most_lines}
@@ -144,7 +144,7 @@ ChecksAgain-holds lines header count few is =
     record {
       same_header = ap read_header split ∙ ap (λ (front : List (List ℕ)). read_header (front ++ lines_of rest))
           (sym (lines_of-sentences words words_few))
-          ∙ headers-read_back header (lines_of rest) writable;
+          ∙ HeadersReadBack-holds header (lines_of rest) writable;
       same_lines = ap (λ (come : LinesAbove). come.lines) again;
       none_refused = ap (λ (come : LinesAbove). come.refused) again;
     }

@@ -2,7 +2,7 @@
 use Rattle.std.specs.Prelude.{◌≡◌, ◌≢◌, ◌≤◌, ℕ, suc, List, ◌++◌, length, drop, Some, Ok}
 use Rattle.vms_base.specs.declared.headers.Header.{Header}
 use Rattle.vms_text.specs.Lines.{lines_of}
-use Rattle.vms_header.specs.Head.{read_header}
+use Rattle.vms_header.specs.Stages.{read_header}
 use Rattle.vms_header.specs.Spelling.{header_words, spelled_header}
 use Rattle.vms_stream.specs.declared.halts.Halt.TheVariants.{Exceeds}
 use Rattle.vms_stream.specs.Machines.{halted, output}

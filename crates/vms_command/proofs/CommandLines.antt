@@ -7,8 +7,8 @@ use Rattle.vms_base.specs.declared.failures.Memory.{Memory}
 use Rattle.vms_base.specs.declared.headers.Header.{Header}
 use Rattle.vms_header.specs.declared.causes.HeaderCause.{HeaderCause}
 use Rattle.vms_header.specs.Drafts.{Draft, header_of}
-use Rattle.vms_header.specs.Head.{Stage, Turn, head_line}
-use Rattle.vms_header.specs.Head.Turn.{Goes, Ends}
+use Rattle.vms_header.specs.Stages.{Stage, HeadStep, head_line}
+use Rattle.vms_header.specs.Stages.HeadStep.{Goes, Ends}
 use Rattle.vms_script.specs.Judging.{judged}
 use Rattle.vms_stream.specs.declared.halts.Halt.{Halt}
 use Rattle.vms_stream.specs.declared.halts.Halt.TheVariants.{Refuses, Exceeds}
@@ -33,7 +33,7 @@ never_refuses : (over : Bool) → Some Refuses ≡ exceeds over → ⊥
 never_refuses true is = absurd cc
 never_refuses false is = absurd cc
 
-never_exceeds : (read : Result Turn HeaderCause) → Some Exceeds ≡ refuses read → ⊥
+never_exceeds : (read : Result HeadStep HeaderCause) → Some Exceeds ≡ refuses read → ⊥
 never_exceeds (Ok read) is = absurd cc
 never_exceeds (Err cause) is = absurd cc
 
@@ -76,7 +76,7 @@ module _ {K B : Type 0} (command : Command K) (stands : B → Header → LinesAb
     begun_work k n draft (works.Header reader) some here = absurd here
     begun_work k n draft works.Stopped some here = absurd here
 
-    step_stands : (n : ℕ) (stage : Stage) (read : Result Turn HeaderCause) → before.line ≡ n
+    step_stands : (n : ℕ) (stage : Stage) (read : Result HeadStep HeaderCause) → before.line ≡ n
         → StepsToWork command stands read after.work
         → StandsAt stands after (after_head command n stage read)
     step_stands n stage (Ok (Goes stage')) same leads =

@@ -4,8 +4,8 @@ use Rattle.std.specs.Prelude.{Result, Ok, Err}
 use Rattle.vms_base.specs.declared.headers.Header.{Header}
 use Rattle.vms_header.specs.declared.causes.HeaderCause.{HeaderCause}
 use Rattle.vms_header.specs.Drafts.{Draft, header_of}
-use Rattle.vms_header.specs.Head.{Stage, Turn}
-use Rattle.vms_header.specs.Head.Turn.{Goes, Ends}
+use Rattle.vms_header.specs.Stages.{Stage, HeadStep}
+use Rattle.vms_header.specs.Stages.HeadStep.{Goes, Ends}
 use Rattle.vms_stream.specs.declared.halts.Halt.TheVariants.{Refuses}
 use Rattle.vms_command.specs.declared.body_jobs.BodyJob.{BodyJob}
 use Rattle.vms_command.specs.declared.trace_jobs.Work.TheVariants as works
@@ -15,12 +15,12 @@ use Rattle.vms_command.specs.Printing.{header_line}
 use Rattle.vms_command.specs.JobStates.{BeginsBody, TakesHeadLine}
 
 module _ {K B : Type 0} (command : Command K) (stands : B → Header → LinesAbove → K → Type 0) (n : ℕ)
-    (read : Result Turn HeaderCause) where
+    (read : Result HeadStep HeaderCause) where
   -- the header goes on
   pub head-goes : (stage : Stage) (out : List ℕ) → read ≡ Ok (Goes stage)
       → TakesHeadLine command stands n read None out out (works.Header stage)
   head-goes stage out is =
-      subst (λ (t : Result Turn HeaderCause). TakesHeadLine command stands n t None out out (works.Header stage))
+      subst (λ (t : Result HeadStep HeaderCause). TakesHeadLine command stands n t None out out (works.Header stage))
       (sym is)
       (record { halt_is = refl; printed = sym (append-nil out); leads = λ _. refl })
 
@@ -31,7 +31,7 @@ module _ {K B : Type 0} (command : Command K) (stands : B → Header → LinesAb
       (works.Body job)
   head-begins draft header job out out' is same begins =
       let here = subst (λ (h : Header). BeginsBody command stands h out out' job) same begins in
-      subst (λ (t : Result Turn HeaderCause). TakesHeadLine command stands n t None out out' (works.Body job)) (sym is)
+      subst (λ (t : Result HeadStep HeaderCause). TakesHeadLine command stands n t None out out' (works.Body job)) (sym is)
       (record { halt_is = refl; printed = here.printed; leads = λ _. here.here })
 
   -- the line is at fault
@@ -39,6 +39,6 @@ module _ {K B : Type 0} (command : Command K) (stands : B → Header → LinesAb
       → out' ≡ out ++ header_line (record { line = n; cause = cause })
       → TakesHeadLine command stands n read (Some Refuses) out out' works.Stopped
   head-refused cause out out' is printed =
-      subst (λ (t : Result Turn HeaderCause). TakesHeadLine command stands n t (Some Refuses) out out' works.Stopped)
+      subst (λ (t : Result HeadStep HeaderCause). TakesHeadLine command stands n t (Some Refuses) out out' works.Stopped)
       (sym is)
       (record { halt_is = refl; printed = printed; leads = λ none. absurd cc })

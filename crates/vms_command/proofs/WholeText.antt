@@ -6,9 +6,9 @@ use Rattle.vms_base.specs.declared.headers.Header.{Header}
 use Rattle.vms_text.specs.Lines.{lines_of}
 use Rattle.vms_header.specs.declared.causes.HeaderCause.{HeaderCause}
 use Rattle.vms_header.specs.Drafts.{header_of}
-use Rattle.vms_header.specs.Head.{Stage, Turn, head_line, header_from, on_turn}
-use Rattle.vms_header.specs.Head.Stage.{Opening}
-use Rattle.vms_header.specs.Head.Turn.{Goes, Ends}
+use Rattle.vms_header.specs.Stages.{Stage, HeadStep, head_line, header_from, on_step}
+use Rattle.vms_header.specs.Stages.Stage.{Opening}
+use Rattle.vms_header.specs.Stages.HeadStep.{Goes, Ends}
 use Rattle.vms_script.specs.Judging.{judged}
 use Rattle.vms_stream.specs.declared.halts.Halt.{Halt}
 use Rattle.vms_stream.specs.declared.halts.Halt.TheVariants.{Exceeds, Refuses}
@@ -97,7 +97,7 @@ module _ {K : Type 0} (command : Command K) where
       (command.last header (come_to header above' lines) (kept_of command header (suc n) above' kept' lines)))
 
   -- what is written from a line of the header on, by what was read of the line
-  step_written : (k : ℕ) (stage : Stage) (read : Result Turn HeaderCause) (lines all : List (List ℕ))
+  step_written : (k : ℕ) (stage : Stage) (read : Result HeadStep HeaderCause) (lines all : List (List ℕ))
       → drop (suc k) all ≡ lines
       → first_halt (halted_at (suc k) (refuses read)) (halted machine (after_head command (suc k) stage read) lines)
       ≢ Some Exceeds
@@ -107,7 +107,7 @@ module _ {K : Type 0} (command : Command K) where
       (printed machine (after_head command (suc k) stage read) lines)
       (halted machine (after_head command (suc k) stage read) lines)
       (machine.last (state_after machine (after_head command (suc k) stage read) lines))
-      ≡ text_under command (on_turn (suc k) read (λ next. header_from (suc (suc k)) next lines)) all
+      ≡ text_under command (on_step (suc k) read (λ next. header_from (suc (suc k)) next lines)) all
   step_written k stage (Ok (Goes next)) lines all is within follows =
       let at : CommandState K = Heading (suc (suc k)) next in
       let none = within_at (suc k) None (first_within (halted_at (suc k) None) (halted machine at lines) within) in

@@ -5,9 +5,9 @@ use Rattle.vms_text.specs.declared.acts.Line.{Line}
 use Rattle.vms_header.specs.declared.causes.HeaderCause.{HeaderCause}
 use Rattle.vms_line.specs.declared.causes.LineCause.{LineCause}
 use Rattle.vms_header.specs.Drafts.{header_of}
-use Rattle.vms_header.specs.Head.{Stage, Turn, head_line, missing}
-use Rattle.vms_header.specs.Head.Stage.{Opening}
-use Rattle.vms_header.specs.Head.Turn.{Goes, Ends}
+use Rattle.vms_header.specs.Stages.{Stage, HeadStep, head_line, missing}
+use Rattle.vms_header.specs.Stages.Stage.{Opening}
+use Rattle.vms_header.specs.Stages.HeadStep.{Goes, Ends}
 use Rattle.vms_script.specs.Judging.{judged}
 use Rattle.vms_stream.specs.Machines.{Machine}
 use Rattle.vms_stream.specs.declared.endings.Ending.{Ending}
@@ -40,18 +40,18 @@ pub data CommandState (K : Type 0) : Type 0 where
   Body : ℕ → Header → LinesAbove → K → CommandState K
 
 -- a header's line: its first fault stops the command, and `go` begins the body
-abbrev pub after_head : {K : Type 0} → Command K → ℕ → Stage → Result Turn HeaderCause → CommandState K
+abbrev pub after_head : {K : Type 0} → Command K → ℕ → Stage → Result HeadStep HeaderCause → CommandState K
 after_head command n stage (Ok (Goes next)) = Heading (suc n) next
 after_head command n stage (Ok (Ends draft)) =
     Body (suc n) (header_of draft) nothing_above (command.begins (header_of draft))
 after_head command n stage (Err cause) = Heading n stage
 
-abbrev pub printed_head : {K : Type 0} → Command K → ℕ → Result Turn HeaderCause → List ℕ
+abbrev pub printed_head : {K : Type 0} → Command K → ℕ → Result HeadStep HeaderCause → List ℕ
 printed_head command n (Ok (Goes next)) = []
 printed_head command n (Ok (Ends draft)) = command.opens (header_of draft)
 printed_head command n (Err cause) = header_line (record { line = n; cause = cause })
 
-abbrev pub refuses : Result Turn HeaderCause → Option Halt
+abbrev pub refuses : Result HeadStep HeaderCause → Option Halt
 refuses (Ok read) = None
 refuses (Err cause) = Some Refuses
 

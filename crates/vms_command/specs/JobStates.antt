@@ -5,8 +5,8 @@ use Rattle.vms_text.specs.declared.acts.Line.{Line}
 use Rattle.vms_header.specs.declared.causes.HeaderCause.{HeaderCause}
 use Rattle.vms_line.specs.declared.causes.LineCause.{LineCause}
 use Rattle.vms_header.specs.Drafts.{header_of}
-use Rattle.vms_header.specs.Head.{Stage, Turn}
-use Rattle.vms_header.specs.Head.Turn.{Goes, Ends}
+use Rattle.vms_header.specs.Stages.{Stage, HeadStep}
+use Rattle.vms_header.specs.Stages.HeadStep.{Goes, Ends}
 use Rattle.vms_header.specs.Laws.{IsWritable}
 use Rattle.vms_script.specs.JudgeStates.{Stands}
 use Rattle.vms_stream.specs.declared.endings.Ending.{Ending}
@@ -72,7 +72,7 @@ IsHead stage work = ⊥
 
 -- the work that comes after a line of a header, by what was read of it
 abbrev pub StepsToWork : {K B : Type 0} → Command K → (B → Header → LinesAbove → K → Type 0) →
-    Result Turn HeaderCause → Work B → Type 0
+    Result HeadStep HeaderCause → Work B → Type 0
 StepsToWork command stands (Ok (Goes stage)) work = IsHead stage work
 StepsToWork command stands (Ok (Ends draft)) (works.Body job) =
     StandsAfter stands (header_of draft) nothing_above (command.begins (header_of draft)) job
@@ -80,7 +80,7 @@ StepsToWork command stands read work = ⊥
 
 -- a command took line n of a header, of which this was read
 pub record TakesHeadLine {K B : Type 0} (command : Command K) (stands : B → Header → LinesAbove → K → Type 0) (n : ℕ)
-    (read : Result Turn HeaderCause) (halt : Option Halt) (out out' : List ℕ) (work : Work B) : Type 0 where
+    (read : Result HeadStep HeaderCause) (halt : Option Halt) (out out' : List ℕ) (work : Work B) : Type 0 where
   pub halt_is : halt ≡ refuses read
   pub printed : out' ≡ out ++ printed_head command n read
   pub leads : halt ≡ None → StepsToWork command stands read work

@@ -2,7 +2,7 @@
 use Rattle.std.specs.Prelude.{◌≡◌, ◌≢◌, ℕ, suc, List, [], ◌∷◌, ◌++◌, drop, Some, Result, Ok, Err}
 use Rattle.vms_base.specs.declared.headers.Header.{Header}
 use Rattle.vms_text.specs.Lines.{lines_of}
-use Rattle.vms_header.specs.Head.{Fault, read_header}
+use Rattle.vms_header.specs.Stages.{Fault, read_header}
 use Rattle.vms_script.specs.Judging.{judged}
 use Rattle.vms_stream.specs.declared.halts.Halt.TheVariants.{Exceeds}
 use Rattle.vms_stream.specs.Machines.{halted, output}

@@ -34,8 +34,8 @@ impl<B: Body> TraceJob<B> {
     ghost use Rattle.vms_command.specs.Commands.CommandState.{Heading};
     ghost use Rattle.vms_command.specs.Limits.{most_lines};
     ghost use Rattle.vms_command.specs.JobStates.{IsHead, TakesHeadLine, StandsAt};
-    ghost use Rattle.vms_header.specs.Head.{Stage, head_line};
-    ghost use Rattle.vms_header.specs.Head.Stage.{Opening};
+    ghost use Rattle.vms_header.specs.Stages.{Stage, head_line};
+    ghost use Rattle.vms_header.specs.Stages.Stage.{Opening};
     ghost use Rattle.vms_stream.specs.Jobs.{TakesLines};
 
     /// Before the first line.
@@ -117,7 +117,7 @@ impl<B: Body> Job for TraceJob<B> {
 }
 
 ghost use Rattle.std.specs.Prelude.{IfOk};
-ghost use Rattle.vms_header.specs.Head.{Stage, head_line};
+ghost use Rattle.vms_header.specs.Stages.{Stage, head_line};
 ghost use Rattle.vms_command.specs.JobStates.{IsHead, TakesHeadLine};
 
 /// Takes the line of this number, where a header is read.

@@ -1,14 +1,15 @@
--- What is true of every stage of a header: what was said so far is in its ranges.
-use Rattle.std.specs.Prelude.{◌≡◌, ◌≢◌, ◌<◌, ◌≤◌, ◌^◌, unsigned_abs, true, false, [], length, map, All, AllPairs, IfSome}
+-- What is true of every stage of a header: its draft is in its ranges.
+use Rattle.std.specs.Prelude.{◌≡◌, ◌≢◌, ◌<◌, ◌≤◌, ◌^◌, unsigned_abs, true, false, [], length, map, All, AllPairs}
+use Rattle.std.specs.Prelude.{IfSome}
 use Rattle.std.specs.List.Sorted.{IsStrictlyIncreasing}
 use Rattle.vms_base.specs.declared.kinds.ZoneSize.{ZoneSize}
 use Rattle.vms_base.specs.Headers.{IsValidDecl, IsValidItem, class_names, is_of_node}
 use Rattle.vms_base.specs.Places.{counter_count, position_of, rank_of}
 use Rattle.vms_base.specs.Sizes.{IsValidSize}
-use Rattle.vms_header.specs.Drafts.{Base, Draft, Share, most_cpus, part_index, shape_of}
-use Rattle.vms_header.specs.Head.{Stage, Turn}
-use Rattle.vms_header.specs.Head.Stage.{Opening, Versioned, Drafting}
-use Rattle.vms_header.specs.Head.Turn.{Goes, Ends}
+use Rattle.vms_header.specs.Drafts.{Base, Draft, Share, most_cpus, section_index, shape_of}
+use Rattle.vms_header.specs.Stages.{Stage, HeadStep}
+use Rattle.vms_header.specs.Stages.Stage.{Opening, Versioned, Drafting}
+use Rattle.vms_header.specs.Stages.HeadStep.{Goes, Ends}
 use Rattle.vms_text.specs.PlaceNames.{declared_items}
 
 -- the fields of a `watermarks` line
@@ -25,10 +26,11 @@ pub record IsSized (size : ZoneSize) : Type 0 where
 -- a base value of a counter that has a name
 pub record IsBase (draft : Draft) (base : Base) : Type 0 where
   pub known : base.counter < counter_count (shape_of draft)
-  pub named : position_of (shape_of draft) base.counter < length (class_names (is_of_node (shape_of draft) base.counter) draft.items)
+  pub named : position_of (shape_of draft) base.counter
+      < length (class_names (is_of_node (shape_of draft) base.counter) draft.items)
   pub most : unsigned_abs base.value ≤ 2 ^ 48
 
--- what lines can have said: no base stands there before the first base line is due
+-- a draft that lines can make: it has no base before the first base line is due
 pub record IsDraft (draft : Draft) : Type 0 where
   pub cpus_least : 1 ≤ draft.cpus
   pub cpus_most : draft.cpus ≤ most_cpus draft.wide
@@ -42,7 +44,7 @@ pub record IsDraft (draft : Draft) : Type 0 where
   pub node_items_most : length (declared_items true draft.items) ≤ 8
   pub items_valid : All IsValidItem draft.items
   pub items_differ : AllPairs ◌≢◌ (map (λ item. item.name) draft.items)
-  pub bases_late : part_index draft.part ≤ 3 → draft.bases ≡ []
+  pub bases_late : section_index draft.section ≤ 3 → draft.bases ≡ []
   pub bases_valid : All (IsBase draft) draft.bases
   pub counters_most : length draft.counters ≤ 16
   pub counters_valid : All IsValidDecl draft.counters
@@ -53,7 +55,7 @@ IsStage (Drafting draft) = IsDraft draft
 IsStage Opening = Unit {0}
 IsStage (Versioned wide) = Unit {0}
 
--- what a line may make: `go` stands behind a zone line
-abbrev pub IsTurn : Turn → Type 0
-IsTurn (Goes stage) = IsStage stage
-IsTurn (Ends draft) = IsDraft draft × (0 < length draft.zones)
+-- what a line may make: `go` comes after a zone line
+abbrev pub IsHeadStep : HeadStep → Type 0
+IsHeadStep (Goes stage) = IsStage stage
+IsHeadStep (Ends draft) = IsDraft draft × (0 < length draft.zones)

@@ -1,53 +1,54 @@
--- What the lines of a header have said so far, and the header that they make.
-use Rattle.std.specs.Prelude.{ℕ, nat_lt, nat_eq, Bool, not, if◌then◌else◌, ℤ, pos, List, [], ◌∷◌, map, filter, replicate, slice_set, sum_by, Option, Some, None}
+-- A draft is what the lines of a header say, up to some line after `cpus`. The last draft makes the header.
+use Rattle.std.specs.Prelude.{ℕ, nat_lt, nat_eq, Bool, not, if◌then◌else◌, ℤ, pos, List, [], ◌∷◌, map, filter}
+use Rattle.std.specs.Prelude.{replicate, slice_set, sum_by, Option, Some, None}
 use Rattle.vms_base.specs.declared.headers.Decl.{Decl}
 use Rattle.vms_base.specs.declared.headers.Header.{Header}
 use Rattle.vms_base.specs.declared.headers.ItemDecl.{ItemDecl}
 use Rattle.vms_base.specs.declared.kinds.ZoneName.{ZoneName}
 use Rattle.vms_base.specs.declared.kinds.ZoneSize.{ZoneSize}
-pub use Rattle.vms_header.specs.declared.said.Base.{Base}
-pub use Rattle.vms_header.specs.declared.said.Share.{Share}
-pub use Rattle.vms_header.specs.declared.said.Zone.{Zone}
+pub use Rattle.vms_header.specs.declared.drafts.Base.{Base}
+pub use Rattle.vms_header.specs.declared.drafts.Share.{Share}
+pub use Rattle.vms_header.specs.declared.drafts.Zone.{Zone}
 use Rattle.vms_base.specs.Places.{Shape, rank_of, counter_count}
 use Rattle.vms_base.specs.Watermarks.{zone_marks_of}
 
--- the kinds of lines behind `cpus`, in the order in which they stand
-pub data Part : Type 0 where
-  AtCpus : Part
-  AtWatermarks : Part
-  AtItems : Part
-  AtZones : Part
-  AtBases : Part
-  AtCounters : Part
+-- the kinds of lines after `cpus`, in their order
+pub data Section : Type 0 where
+  AtCpus : Section
+  AtWatermarks : Section
+  AtItems : Section
+  AtZones : Section
+  AtBases : Section
+  AtCounters : Section
 
--- the parts in their order
-abbrev pub part_index : Part → ℕ
-part_index AtCpus = 0
-part_index AtWatermarks = 1
-part_index AtItems = 2
-part_index AtZones = 3
-part_index AtBases = 4
-part_index AtCounters = 5
+-- the number of a section in that order
+abbrev pub section_index : Section → ℕ
+section_index AtCpus = 0
+section_index AtWatermarks = 1
+section_index AtItems = 2
+section_index AtZones = 3
+section_index AtBases = 4
+section_index AtCounters = 5
 
--- what the lines up to some line behind `cpus` have said: the version, whether it is the wide one, the part of the last
--- line, the zones by node and kind (with a `watermarks` line their marks are 0 here), the bases, the newest first, and the
--- declared percpu counters and items in the order of their lines
+-- a draft: whether the version is 2 (`wide`), and the section of the last line that isn't blank. The zones stand by
+-- node and then by kind, and their marks are 0 under a `watermarks` line. The bases stand newest first, the declared
+-- items and percpu counters in the order of their lines.
 pub record Draft : Type 0 where
   pub wide : Bool
   pub cpus : ℕ
-  pub part : Part
+  pub section : Section
   pub share : Option Share
   pub items : List ItemDecl
   pub zones : List Zone
   pub bases : List Base
   pub counters : List Decl
 
--- behind the line `cpus`
+-- the draft after the line `cpus`
 abbrev pub first_draft : Bool → ℕ → Draft
 first_draft wide cpus = record {
   wide = wide;
   cpus = cpus;
-  part = AtCpus;
+  section = AtCpus;
   share = None;
   items = [];
   zones = [];
@@ -77,7 +78,7 @@ nodes_of (zone ∷ zones) = zone.node ∷ filter (λ node. not (nat_eq node zone
 abbrev pub names_of : List Zone → List ZoneName
 names_of zones = map (λ zone. zone.name) zones
 
--- the layout of what was said so far
+-- the layout of a draft
 abbrev pub shape_of : Draft → Shape
 shape_of draft = record {
   zones = names_of draft.zones;
@@ -106,7 +107,7 @@ abbrev pub bases_of : ℕ → List Base → List ℤ
 bases_of count [] = replicate count (pos 0)
 bases_of count (base ∷ bases) = slice_set (bases_of count bases) base.counter base.value
 
--- the header of all that was said
+-- the header of a draft
 abbrev pub header_of : Draft → Header
 header_of draft = record {
   layout = shape_of draft;

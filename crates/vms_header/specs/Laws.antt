@@ -3,7 +3,7 @@ use Rattle.std.specs.Prelude.{◌≡◌, ℕ, ◌^◌, ◌+◌, ◌≤◌, List,
 use Rattle.vms_base.specs.declared.headers.Header.{Header}
 use Rattle.vms_base.specs.Headers.{IsHeader}
 use Rattle.vms_text.specs.Lines.{lines_of}
-use Rattle.vms_header.specs.Head.{Fault, read_header}
+use Rattle.vms_header.specs.Stages.{Fault, read_header}
 use Rattle.vms_header.specs.Spelling.{spelled_header, header_words}
 
 -- what a text can say of a header: the sizes of a header may be larger elsewhere
@@ -13,7 +13,8 @@ pub record IsWritable (header : Header) : Type 0 where
 
 -- every header that is read can be written
 abbrev pub HeadersAreWritable : Type 0
-HeadersAreWritable = (lines : List (List ℕ)) (header : Header) (count : ℕ) → read_header lines ≡ Ok (header, count) → IsWritable header
+HeadersAreWritable =
+    (lines : List (List ℕ)) (header : Header) (count : ℕ) → read_header lines ≡ Ok (header, count) → IsWritable header
 
 -- what is spelled of a header is read back as that header, whatever lines follow it
 abbrev pub HeadersReadBack : Type 0

@@ -1,9 +1,9 @@
 pub mod Drafts
-pub mod HeadRows
-pub mod HeadWords
-pub mod Head
+pub mod Sections
+pub mod Values
+pub mod Stages
 pub mod DraftFacts
 pub mod Readers
 pub mod Spelling
 pub mod Laws
-pub mod HeaderSteps
+pub mod Steps

@@ -1,61 +1,61 @@
--- What reading a header line by line answers, and how what is kept between two lines is a stage of it.
+-- What reading a header line by line answers. What the reader keeps between two lines is a stage of the header.
 use Rattle.std.specs.Prelude.{◌≡◌, reverse, Result, Ok, Err}
 use Rattle.vms_header.specs.declared.causes.HeaderCause.{HeaderCause}
 use Rattle.vms_header.specs.declared.causes.ReadError.{ReadError}
 use Rattle.vms_header.specs.declared.causes.ReadError.TheVariants.{Refused, Memory}
-use Rattle.vms_header.specs.declared.said.Said.{Said}
-use Rattle.vms_header.specs.declared.said.Section.{Section}
-use Rattle.vms_header.specs.declared.said.Section.TheVariants.{Cpus, Watermarks, Items, Zones, Bases, Counters}
-use Rattle.vms_header.specs.declared.said.Progress.{Progress}
-use Rattle.vms_header.specs.declared.said.Progress.TheVariants as progress
-use Rattle.vms_header.specs.declared.said.Taken.{Taken}
-use Rattle.vms_header.specs.declared.said.Taken.TheVariants as taken
-use Rattle.vms_header.specs.Drafts.{Draft, Part}
-use Rattle.vms_header.specs.Drafts.Part.{AtCpus, AtWatermarks, AtItems, AtZones, AtBases, AtCounters}
-use Rattle.vms_header.specs.Head.{Stage, Turn}
-use Rattle.vms_header.specs.Head.Stage.{Opening, Versioned, Drafting}
-use Rattle.vms_header.specs.Head.Turn.{Goes, Ends}
+use Rattle.vms_header.specs.declared.drafts.Draft.{Draft as KeptDraft}
+use Rattle.vms_header.specs.declared.drafts.Section.{Section as KeptSection}
+use Rattle.vms_header.specs.declared.drafts.Section.TheVariants.{Cpus, Watermarks, Items, Zones, Bases, Counters}
+use Rattle.vms_header.specs.declared.drafts.Stage.{Stage as KeptStage}
+use Rattle.vms_header.specs.declared.drafts.Stage.TheVariants as kept_stage
+use Rattle.vms_header.specs.declared.drafts.HeadStep.{HeadStep as KeptStep}
+use Rattle.vms_header.specs.declared.drafts.HeadStep.TheVariants as kept_step
+use Rattle.vms_header.specs.Drafts.{Draft, Section}
+use Rattle.vms_header.specs.Drafts.Section.{AtCpus, AtWatermarks, AtItems, AtZones, AtBases, AtCounters}
+use Rattle.vms_header.specs.Stages.{Stage, HeadStep}
+use Rattle.vms_header.specs.Stages.Stage.{Opening, Versioned, Drafting}
+use Rattle.vms_header.specs.Stages.HeadStep.{Goes, Ends}
 
--- the part of a section
-abbrev pub part_of : Section → Part
-part_of Cpus = AtCpus
-part_of Watermarks = AtWatermarks
-part_of Items = AtItems
-part_of Zones = AtZones
-part_of Bases = AtBases
-part_of Counters = AtCounters
+-- a section, as the reader keeps it
+abbrev pub section_of : KeptSection → Section
+section_of Cpus = AtCpus
+section_of Watermarks = AtWatermarks
+section_of Items = AtItems
+section_of Zones = AtZones
+section_of Bases = AtBases
+section_of Counters = AtCounters
 
--- what was said, as a draft: its bases stand there the newest first
-abbrev pub draft_of : Said → Draft
-draft_of said = record {
-  wide = said.wide;
-  cpus = said.cpus;
-  part = part_of said.section;
-  share = said.share;
-  items = said.items.items;
-  zones = said.zones.items;
-  bases = reverse said.bases.items;
-  counters = said.counters.items;
+-- a draft, as the reader keeps it: here its bases stand newest first
+abbrev pub draft_of : KeptDraft → Draft
+draft_of draft = record {
+  wide = draft.wide;
+  cpus = draft.cpus;
+  section = section_of draft.section;
+  share = draft.share;
+  items = draft.items.items;
+  zones = draft.zones.items;
+  bases = reverse draft.bases.items;
+  counters = draft.counters.items;
 }
 
--- an answer without want of memory: what is found, seen in this way, or the cause
+-- an answer that needs no memory: what is found, as `view` shows it, or the cause
 abbrev pub Tells : {A B : Type 0} → (A → B) → Result B HeaderCause → Result A HeaderCause → Type 0
 Tells view answer (Ok found) = answer ≡ Ok (view found)
 Tells view answer (Err cause) = answer ≡ Err cause
 
--- an answer of what may want memory: what is found, seen in this way, or the cause; want of memory says nothing
+-- an answer for which memory may run out, of which nothing is said: what is found, as `view` shows it, or the cause
 abbrev pub Reads : {A B : Type 0} → (A → B) → Result B HeaderCause → Result A ReadError → Type 0
 Reads view answer (Ok found) = answer ≡ Ok (view found)
 Reads view answer (Err (Refused cause)) = answer ≡ Err cause
 Reads view answer (Err Memory) = Unit {0}
 
--- how far a header was read
-abbrev pub stage_of : Progress → Stage
-stage_of progress.Opening = Opening
-stage_of (progress.Versioned wide) = Versioned wide
-stage_of (progress.Drafting said) = Drafting (draft_of said)
+-- a stage, as the reader keeps it
+abbrev pub stage_of : KeptStage → Stage
+stage_of kept_stage.Opening = Opening
+stage_of (kept_stage.Versioned wide) = Versioned wide
+stage_of (kept_stage.Drafting draft) = Drafting (draft_of draft)
 
--- what a line made of it
-abbrev pub turn_of : Taken → Turn
-turn_of (taken.Goes progress) = Goes (stage_of progress)
-turn_of (taken.Ends said) = Ends (draft_of said)
+-- what a line makes of a stage, as the reader keeps it
+abbrev pub step_of : KeptStep → HeadStep
+step_of (kept_step.Goes stage) = Goes (stage_of stage)
+step_of (kept_step.Ends draft) = Ends (draft_of draft)

@@ -1,5 +1,6 @@
 -- The one spelling of a header.
-use Rattle.std.specs.Prelude.{ℕ, zero, suc, ◌==◌, if◌then◌else◌, ℤ, pos, List, [], ◌∷◌, ◌++◌, map, zip, flat_map, codes, decimal}
+use Rattle.std.specs.Prelude.{ℕ, zero, suc, ◌==◌, if◌then◌else◌, ℤ, pos, List, [], ◌∷◌, ◌++◌, map, zip, flat_map, codes}
+use Rattle.std.specs.Prelude.{decimal}
 use Rattle.std.specs.Fmt.{signed_decimal}
 use Rattle.vms_base.specs.declared.headers.Decl.{Decl}
 use Rattle.vms_base.specs.declared.headers.Header.{Header}
@@ -31,13 +32,14 @@ base_line_words header counter value = (codes "base" ∷ counter_words header co
 -- the base lines of the counters from this one on
 abbrev pub base_lines_from : Header → ℕ → List ℤ → List (List (List ℕ))
 base_lines_from header counter [] = []
-base_lines_from header counter (value ∷ values) = base_line_words header counter value ++ base_lines_from header (suc counter) values
+base_lines_from header counter (value ∷ values) =
+    base_line_words header counter value ++ base_lines_from header (suc counter) values
 
 abbrev pub counter_line_words : Decl → List (List ℕ)
 counter_line_words decl = codes "counter" ∷ decl.name ∷ decimal decl.batch ∷ []
 
--- the lines of a header: the zones in the order of places, then a base line for each counter whose base isn't 0, then the percpu
--- counters, always with their batch
+-- the lines of a header: the zones in the order of places, then a base line for each counter whose base isn't 0, then
+-- the percpu counters, always with their batch
 abbrev pub header_words : Header → List (List (List ℕ))
 header_words header = version_words header ∷ cpus_words header ∷ map item_words header.items
     ++ map zone_line_words (zip header.layout.zones header.sizes) ++ base_lines_from header 0 header.bases

@@ -9,7 +9,7 @@ pub enum HeaderCause {
     BadNumber,
     /// The version hasn't so many CPUs: 1 to 64, and 1 to 128 in version 2.
     BadCpus,
-    /// A line stands before the first zone line that is due only behind it.
+    /// A line that is due only after a zone line stands before the first.
     NoZone,
     /// A zone stands twice.
     DoubledZone,

@@ -1,85 +1,82 @@
-ghost use Rattle.std.specs.Prelude.{◌≡◌, ◌<◌, ◌≤◌, ◌^◌, ◌*◌, All, IfOk, IfSome, length, reverse};
-ghost use Rattle.arrayvec.specs.ArrayVec.{array_vec_len};
-ghost use Rattle.vms_header.specs.DraftFacts.{IsDraft, IsShare, IsSized};
-ghost use Rattle.vms_header.specs.Drafts.{bases_of, header_of, managed_pages, sizes_under, size_under};
-ghost use Rattle.vms_header.specs.Laws.{IsWritable};
-ghost use Rattle.vms_header.specs.Readers.{draft_of};
+use arrayvec::ArrayVec;
+use vms_base::{Decl, ItemDecl, ZoneName, ZoneSize};
 
-use crate::layouts::layout_of;
-use crate::said::{Base, Said, Share, Zone};
-use std::alloc::Global;
-use vms_base::{Bases, Header, Memory, Row, Sizes, ZoneSize};
-use vms_calc::zone_marks;
-
-/// The header of all that was said.
-pub(crate) fn make_header(alloc: Global, said: Said) -> Result<Header, Memory>
-    requires draft { IsDraft (draft_of said) }
-    requires some { 0 < array_vec_len said.zones }
-    ensures { IfOk result (λ header. header ≡ header_of (draft_of said)) }
-{
-    let layout = layout_of(&said);
-    let sizes = sizes_under(alloc, said.share, said.zones.as_slice())?;
-    let bases = bases_of(alloc, layout.counters() as usize, said.bases.as_slice())?;
-    Ok(Header {
-        layout,
-        sizes,
-        bases,
-        counters: Row::make(said.counters),
-        items: Row::make(said.items),
-    })
+/// A zone with its size. The marks are 0 where a `watermarks` line gives them.
+#[derive(Clone, Copy, Debug)]
+pub struct Zone {
+    pub name: ZoneName,
+    pub size: ZoneSize,
 }
 
-/// The sizes of the zones, with the marks of a `watermarks` line if there is one.
-fn sizes_under(alloc: Global, share: Option<Share>, zones: &[Zone]) -> Result<Sizes, Memory>
-    requires share { IfSome share IsShare }
-    requires zones { All (λ zone. IsSized zone.size) zones.now }
-    requires most { length zones.now ≤ 16 }
-    ensures { IfOk result (λ sizes. sizes ≡ sizes_under share zones.now) }
-{
-    let total = managed_pages(zones);
-    let mut sizes = Vec::with_capacity(alloc, zones.len())?;
-    for zone in zones {
-        sizes.push(size_under(share, zone.size, total))?;
-    }
-    Ok(Row::make(sizes))
-}
-
-/// A zone's size, of so many pages in all zones.
-fn size_under(share: Option<Share>, size: ZoneSize, total: u64) -> ZoneSize
-    requires share { IfSome share IsShare }
-    requires size { IsSized size }
-    requires within { size.managed ≤ total }
-    requires most { total ≤ 2 ^ 44 }
-    ensures { result ≡ size_under share size total }
-{
-    match share {
-        None => size,
-        Some(share) => zone_marks(share.kbytes, share.scale, size.managed, total),
+impl Default for Zone {
+    fn default() -> Zone {
+        Zone {
+            name: ZoneName::default(),
+            size: ZoneSize {
+                managed: 0,
+                min: 0,
+                low: 0,
+                high: 0,
+            },
+        }
     }
 }
 
-/// All managed pages.
-fn managed_pages(zones: &[Zone]) -> u64
-    requires zones { All (λ zone. IsSized zone.size) zones.now }
-    requires most { length zones.now ≤ 16 }
-    ensures value { result ≡ managed_pages zones.now }
-    ensures most { result ≤ 2 ^ 40 * length zones.now }
-{
-    let mut total = 0;
-    for zone in zones {
-        total += zone.size.managed;
-    }
-    total
+/// What a `watermarks` line says: `min_free_kbytes`, and `watermark_scale_factor` in ten-thousandths of a zone.
+#[derive(Clone, Copy, Debug)]
+pub struct Share {
+    pub kbytes: u64,
+    pub scale: u32,
 }
 
-/// The base values of so many counters, 0 where no line says one.
-fn bases_of(alloc: Global, count: usize, bases: &[Base]) -> Result<Bases, Memory>
-    requires { All (λ base. base.counter < count) bases.now }
-    ensures { IfOk result (λ values. values ≡ bases_of count (reverse bases.now)) }
-{
-    let mut values = Row::filled(alloc, count, 0)?;
-    for base in bases {
-        values.set(base.counter as usize, base.value);
-    }
-    Ok(values)
+/// What a counter begins with, in pages.
+#[derive(Clone, Copy, Debug)]
+pub struct Base {
+    pub counter: u32,
+    pub value: i64,
+}
+
+/// The kinds of lines after `cpus`, in their order.
+#[derive(Clone, Copy, Debug)]
+pub enum Section {
+    Cpus,
+    Watermarks,
+    Items,
+    Zones,
+    Bases,
+    Counters,
+}
+
+/// What the lines of a header say, up to one after `cpus`.
+#[derive(Debug, Drop)]
+pub struct Draft {
+    /// Whether the version is 2.
+    pub wide: bool,
+    pub cpus: u32,
+    /// The section of the last line that isn't blank.
+    pub section: Section,
+    pub share: Option<Share>,
+    pub items: Vec<ItemDecl>,
+    /// By node and then by kind.
+    pub zones: ArrayVec<Zone, 16>,
+    /// In the order of their lines.
+    pub bases: Vec<Base>,
+    pub counters: Vec<Decl>,
+}
+
+/// How far a header was read.
+#[derive(Debug, Drop)]
+pub enum Stage {
+    Opening,
+    /// Whether the version is 2.
+    Versioned(bool),
+    Drafting(Draft),
+}
+
+/// What a line makes of a stage.
+#[derive(Debug, Drop)]
+pub enum HeadStep {
+    Goes(Stage),
+    /// The `go` line.
+    Ends(Draft),
 }

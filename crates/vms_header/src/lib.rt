@@ -3,18 +3,18 @@
 
 mod causes;
 mod drafts;
-mod head_lines;
-mod head_rows;
-mod head_words;
-mod header_parsing;
-mod header_spelling;
-mod heads;
 mod layouts;
+mod making;
+mod parsing;
+mod reader;
 mod reading_back;
-mod said;
+mod sections;
+mod spelling;
+mod stages;
+mod values;
 
 pub use causes::{HeaderCause, HeaderError, ReadError};
-pub use header_parsing::{header_is_settled, headers_are_writable, parse_header};
-pub use header_spelling::write_header;
-pub use heads::{HeaderReader, HeaderStep};
+pub use parsing::{header_is_settled, headers_are_writable, parse_header};
+pub use reader::{HeaderReader, HeaderStep};
 pub use reading_back::headers_read_back;
+pub use spelling::write_header;

@@ -10,14 +10,14 @@ use Rattle.vms_stream.specs.declared.halts.Halt.{Halt}
 use Rattle.vms_stream.specs.declared.halts.Halt.TheVariants.{Refuses, Exceeds}
 use Rattle.vms_stream.specs.Machines.{first_halt, halted, printed, printed_from}
 use Rattle.vms_header.specs.declared.causes.HeaderCause.{HeaderCause}
-use Rattle.vms_header.specs.Head.{Turn, head_line}
-use Rattle.vms_header.specs.Head.Turn.{Goes, Ends}
+use Rattle.vms_header.specs.Stages.{HeadStep, head_line}
+use Rattle.vms_header.specs.Stages.HeadStep.{Goes, Ends}
 
 never_none : (over : Bool) → (if over then Some Exceeds else Some Refuses) ≡ None → ⊥
 never_none true is = absurd cc
 never_none false is = absurd cc
 
-step-silent : (n : ℕ) (read : Result Turn HeaderCause) → halted_at n (refuses read) ≡ None
+step-silent : (n : ℕ) (read : Result HeadStep HeaderCause) → halted_at n (refuses read) ≡ None
     → printed_head replaying n read ≡ []
 step-silent n (Ok (Goes stage)) goes = refl
 step-silent n (Ok (Ends draft)) goes = refl

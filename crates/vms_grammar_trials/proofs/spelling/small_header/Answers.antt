@@ -11,7 +11,7 @@ use Rattle.vms_base.specs.Places.{IsLayout, Shape}
 use Rattle.vms_base.specs.Sizes.{IsValidSize}
 use Rattle.vms_header.specs.Laws.{IsWritable}
 use Rattle.vms_text.proofs.Apart.{all_differ-pairs}
-use Rattle.vms_header.proofs.Shapes.{LaysOut-ranked}
+use Rattle.vms_header.proofs.RankedLayouts.{LaysOut-ranked}
 use Rattle.vms_grammar_trials.proofs.spelling.small_header.Goals as goal
 
 abbrev made : Shape → List ZoneSize → List ℤ → List Decl → List ItemDecl → Header

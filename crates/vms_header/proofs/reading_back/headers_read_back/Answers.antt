@@ -1,5 +1,6 @@
-use Rattle.vms_header.proofs.HeadersRead.{headers-read_back}
+-- The law is the lemma of HeadersRead.
+use Rattle.vms_header.proofs.HeadersRead.{HeadersReadBack-holds}
 use Rattle.vms_header.proofs.reading_back.headers_read_back.Goals as goal
 
 pub returns : goal.returns
-returns c = headers-read_back
+returns c = HeadersReadBack-holds

@@ -1,5 +1,0 @@
-use Rattle.vms_header.proofs.Settling.{read_header-settled}
-use Rattle.vms_header.proofs.header_parsing.header_is_settled.Goals as goal
-
-pub returns : goal.returns
-returns c = read_header-settled

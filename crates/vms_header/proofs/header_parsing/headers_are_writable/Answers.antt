@@ -1,5 +1,0 @@
-use Rattle.vms_header.proofs.Written.{read_header-writable}
-use Rattle.vms_header.proofs.header_parsing.headers_are_writable.Goals as goal
-
-pub returns : goal.returns
-returns c = read_header-writable

@@ -1,7 +1,0 @@
-use Rattle.std.proofs.Common.{◌≡◌, ◌++◌, flat_map, map, take}
-use Rattle.vms_header.specs.Spelling.{counter_line_words}
-use Rattle.vms_text.specs.Spelling.{sentence}
-use Rattle.vms_header.proofs.header_spelling.write_counters.Given as goal
-
-abbrev pub invariant-loop-decl : goal.invariant-loop-decl
-invariant-loop-decl l = l.out.items ≡ l.initial.out.items ++ flat_map sentence (map counter_line_words (take l.decl-index l.counters))

@@ -1,0 +1,14 @@
+-- An error of the words is the error of the line.
+use Rattle.std.proofs.Common.{◌∙◌, ap, map, sym}
+use Rattle.std.proofs.lemmas.Result.{err_from_is_err_and}
+use Rattle.vms_header.specs.Readers.{draft_of}
+use Rattle.vms_text.specs.Reading.{and_then}
+use Rattle.vms_header.proofs.RowsByValues.{watermarks_row-read, with_share}
+use Rattle.vms_header.proofs.sections.watermarks_row.Goals as goal
+
+pub returns-in_err-share : goal.returns-in_err-share
+returns-in_err-share c =
+    let p = err_from_is_err_and c.from_residual.result c.from_residual.ensures.1 in
+    let words = map (λ field. field.now) c.args.fields.now in
+    rw (p.1, p.2) (watermarks_row-read (draft_of c.args.draft) words
+    ∙ ap (λ read. and_then read (with_share (draft_of c.args.draft))) (sym c.share_words.ensures ∙ c.in_err-share.was))
