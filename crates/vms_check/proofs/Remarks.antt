@@ -20,7 +20,7 @@ use Rattle.vms_line.specs.declared.causes.LineCause.{LineCause}
 use Rattle.vms_line.specs.declared.causes.LineCause.TheVariants as causes
 use Rattle.vms_line.specs.Body.{read_line}
 use Rattle.vms_text.specs.Reading.{and_then, most_line}
-use Rattle.vms_text.proofs.Sentences.{IsShort-from}
+use Rattle.vms_text.proofs.Sentences.{ShortWord-from}
 use Rattle.vms_text.proofs.SpelledNumbers.{decimal-short}
 use Rattle.vms_script.specs.Judging.{allowed, judged}
 use Rattle.vms_command.specs.Printing.{done_line, line_cause, line_prefix, refused_line}
@@ -48,7 +48,7 @@ inner_word (byte ∷ word) bytes =
 
 decimal_piece : (n : ℕ) → n < 10 ^ 7 → IsPiece 7 (decimal n)
 decimal_piece n fits = record {
-  inner = inner_word (decimal n) (IsShort-from (decimal n) (decimal-short n (omega arith))).bytes;
+  inner = inner_word (decimal n) (ShortWord-from (decimal n) (decimal-short n (omega arith))).bytes;
   short = length-decimal-le 7 n (omega arith) fits (omega arith);
 }
 

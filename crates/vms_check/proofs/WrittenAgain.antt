@@ -22,7 +22,7 @@ use Rattle.vms_text.specs.Spelling.{sentence}
 use Rattle.vms_line.specs.Spelling.{spelled_line}
 use Rattle.vms_header.proofs.HeaderSteps.{lines_of-sentences}
 use Rattle.vms_header.proofs.HeadersRead.{header_words-few, HeadersReadBack-holds}
-use Rattle.vms_line.proofs.LinesRead.{lines-read_back}
+use Rattle.vms_line.proofs.LinesRead.{LinesReadBack-holds}
 use Rattle.vms_text.proofs.Sentences.{IsFew, few-one_line}
 use Rattle.vms_header.proofs.HeaderSettled.{read_header-settled}
 use Rattle.vms_header.proofs.Written.{read_header-writable}
@@ -54,7 +54,7 @@ module _ (header : Header) (is_header : IsHeader header) where
       → come_to header (with_none_refused above) (lines_of (spelled_line header line ++ rest))
       ≡ come_to header (with_judged (Ok line) (with_none_refused above)) (lines_of rest)
   line_again above text rest line counts =
-      let back : ReadsBack header line = lines-read_back header line is_header
+      let back : ReadsBack header line = LinesReadBack-holds header line is_header
       (judged-known header above.lines text line is_header counts) in
       let split = ap (λ (bytes : List ℕ). lines_of (bytes ++ rest)) back.spelled
       ∙ ap lines_of (append_assoc back.text (10 ∷ []) rest)
