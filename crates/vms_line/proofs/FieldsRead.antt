@@ -1,5 +1,6 @@
 -- The words of a field are read back as what they spell.
-use Rattle.std.proofs.Common.{ℕ, ◌≡◌, ◌≢◌, ◌+◌, ◌-◌, ◌%◌, ◌<◌, ◌≤◌, ◌^◌, Bool, true, false, nat_lt, nat_le, List, [], ◌∷◌, ◌++◌, Some, refl, ◌∙◌, ap, arith, eq-eqb, length, get_or, map, ℤ, pos, w64}
+use Rattle.std.proofs.Common.{ℕ, ◌≡◌, ◌≢◌, ◌+◌, ◌-◌, ◌%◌, ◌<◌, ◌≤◌, ◌^◌, Bool, true, false, nat_lt, nat_le, List, []}
+use Rattle.std.proofs.Common.{◌∷◌, ◌++◌, Some, refl, ◌∙◌, ap, arith, eq-eqb, length, get_or, map, ℤ, pos, w64}
 use Rattle.std.proofs.lemmas.Bool.Decides.{nat_tests}
 use Rattle.std.proofs.lemmas.Int.{ints, quot-rem, rem_below, unsigned_abs-mul}
 use Rattle.std.proofs.lemmas.List.{length-map}
@@ -7,7 +8,8 @@ use Rattle.std.proofs.lemmas.List.Sums.{AllPass-from_list_all}
 use Rattle.std.proofs.lemmas.List.Elements.{All-map, All-weaker}
 use Rattle.std.specs.Fmt.{decimal, signed_decimal}
 use Rattle.std.specs.Int.RustNames.{FitsSigned}
-use Rattle.std.specs.Prelude.{◌==◌, ◌*ℤ◌, MatchBool, Ok, Result, bytes_eq, if◌then◌else◌, int_div, ok_or, position, unsigned_abs}
+use Rattle.std.specs.Prelude.{◌==◌, ◌*ℤ◌, MatchBool, Ok, Result, bytes_eq, if◌then◌else◌, int_div, ok_or, position}
+use Rattle.std.specs.Prelude.{unsigned_abs}
 use Rattle.vms_base.specs.declared.headers.Decl.{Decl}
 use Rattle.vms_base.specs.declared.headers.Header.{Header}
 use Rattle.vms_base.specs.declared.ids.CounterId.{CounterId}
@@ -20,7 +22,8 @@ use Rattle.vms_base.specs.Places.{IsCpu, place_of, position_of}
 use Rattle.vms_base.proofs.Counts.{counter_at-whole, place_of-lt}
 use Rattle.vms_line.specs.declared.causes.LineCause.{LineCause}
 use Rattle.vms_line.specs.declared.causes.LineCause.TheVariants.{BadNumber}
-use Rattle.vms_line.specs.Fields.{amount_field, counter_field, cpu_field, event_field, in_pages, limit_field, number_up_to, pcpu_field, system_field, within_limit}
+use Rattle.vms_line.specs.Fields.{amount_field, counter_field, cpu_field, event_field, in_pages, limit_field}
+use Rattle.vms_line.specs.Fields.{number_up_to, pcpu_field, system_field, within_limit}
 use Rattle.vms_line.specs.Laws.{IsDeclared, IsKnownValue}
 use Rattle.vms_text.specs.PlaceNames.{IsKnown}
 use Rattle.vms_text.specs.PlaceNames.{is_in_bytes}
@@ -72,7 +75,8 @@ limit_field-spelled z small =
     ap (λ found. and_then found within_limit) (amount_field-spelled z (limit-fits z small)) ∙ rw test refl
 
 -- events
-pub event-spelled : (event : ℕ) → event < 8 → SpellsOne EventId event_field (event_word event) (record { number = event })
+pub event-spelled : (event : ℕ) → event < 8
+    → SpellsOne EventId event_field (event_word event) (record { number = event })
 event-spelled event within =
     let found = position-name event_names event (all_differ-pairs event_names refl) within in
     record {
@@ -87,14 +91,16 @@ module _ (header : Header) (is : IsHeader header) where
   pub cpu-fits : (cpu : ℕ) → IsCpu header.layout cpu → cpu < 2 ^ 64
   cpu-fits cpu within = let most = is.is_layout.cpus_most in omega arith
 
-  pub cpu_field-spelled : (cpu : ℕ) → IsCpu header.layout cpu → cpu_field header (decimal cpu) ≡ Ok (record { number = cpu })
+  pub cpu_field-spelled : (cpu : ℕ) → IsCpu header.layout cpu
+      → cpu_field header (decimal cpu) ≡ Ok (record { number = cpu })
   cpu_field-spelled cpu within =
       let test : nat_lt cpu header.layout.cpus ≡ true = grind (arith, nat_tests) in
       rw (unsigned_of-decimal cpu (cpu-fits cpu within), test) refl
 
   -- percpu counters
 
-  pub pcpu-spelled : (counter : ℕ) → IsDeclared header counter → SpellsOne PcpuId (pcpu_field header) (pcpu_word header counter) (record { number = counter })
+  pub pcpu-spelled : (counter : ℕ) → IsDeclared header counter
+      → SpellsOne PcpuId (pcpu_field header) (pcpu_word header counter) (record { number = counter })
   pcpu-spelled counter declared =
       let name_of = λ (decl : Decl). decl.name in
       let names = map name_of header.counters in
@@ -138,7 +144,8 @@ module _ (header : Header) (is : IsHeader header) where
     read = rw (item_word-found header is false item within) refl;
   }
 
-  node_value-spelled : (item : ℕ) → nat_lt item header.layout.positions ≡ false → item - header.layout.positions < length (class_names true header.items)
+  node_value-spelled : (item : ℕ) → nat_lt item header.layout.positions ≡ false
+      → item - header.layout.positions < length (class_names true header.items)
       → SpellsOne ItemId (system_field header) (entry (class_names true header.items) (item - header.layout.positions)) (record { number = item })
   node_value-spelled item test within =
       let names = class_names true header.items in
@@ -156,7 +163,8 @@ module _ (header : Header) (is : IsHeader header) where
         read = rw (nowhere, item_word-found header is true n within, whole) refl;
       }
 
-  pub value-spelled : (item : ℕ) → IsKnownValue header item → SpellsOne ItemId (system_field header) (system_word header item) (record { number = item })
+  pub value-spelled : (item : ℕ) → IsKnownValue header item
+      → SpellsOne ItemId (system_field header) (system_word header item) (record { number = item })
   value-spelled item known =
       let positions = header.layout.positions in
       let zone_names = class_names false header.items in
@@ -180,7 +188,8 @@ pages_back pages =
     let small = rem_below (pages *ℤ pos 4096) (pos 4096) (omega arith) in
     omega (arith, ints, parts, small)
 
-pub in_pages-spelled : (header : Header) (counter : CounterId) (pages : ℤ) → in_pages header counter (spelled_amount header counter.number pages) ≡ Ok pages
+pub in_pages-spelled : (header : Header) (counter : CounterId) (pages : ℤ)
+    → in_pages header counter (spelled_amount header counter.number pages) ≡ Ok pages
 in_pages-spelled header counter pages =
     elim (is_in_bytes header counter.number) as (λ b. is_in_bytes header counter.number ≡ b → in_pages header counter (spelled_amount header counter.number pages) ≡ Ok pages) [
       | true ↦ λ test. rw (test, whole_pages pages, pages_back pages) refl

@@ -1,5 +1,6 @@
 -- The fields of each form are read back as the act that they spell.
-use Rattle.std.proofs.Common.{ℕ, ◌≡◌, ◌-◌, ◌<◌, ◌≤◌, ◌^◌, ◌&&◌, true, List, [], ◌∷◌, ◌++◌, refl, subst, ◌∙◌, ap, arith, length, get_or, ℤ, w64}
+use Rattle.std.proofs.Common.{ℕ, ◌≡◌, ◌-◌, ◌<◌, ◌≤◌, ◌^◌, ◌&&◌, true, List, [], ◌∷◌, ◌++◌, refl, subst, ◌∙◌, ap}
+use Rattle.std.proofs.Common.{arith, length, get_or, ℤ, w64}
 use Rattle.std.specs.Fmt.{decimal, signed_decimal}
 use Rattle.std.specs.Int.RustNames.{FitsSigned}
 use Rattle.std.specs.List.{list_all}
@@ -19,17 +20,23 @@ use Rattle.vms_text.specs.declared.acts.Lane.{Lane as LaneOf}
 use Rattle.vms_text.specs.declared.acts.Lane.TheVariants.{Cpu, Control}
 use Rattle.vms_text.specs.PlaceNames.{IsKnown, is_in_bytes}
 use Rattle.vms_text.specs.Spelling.{counter_words}
-use Rattle.vms_text.proofs.PlacesRead.{kind_word, kind_word-short, node-most, node_at-own, some_zone, zone-words, zone_node-most}
+use Rattle.vms_text.proofs.PlacesRead.{kind_word, kind_word-short, node-most, node_at-own, some_zone, zone-words}
+use Rattle.vms_text.proofs.PlacesRead.{zone_node-most}
 use Rattle.vms_text.proofs.Sentences.{is_short}
 use Rattle.vms_text.proofs.SpelledNumbers.{decimal-short, signed-short}
 use Rattle.vms_line.specs.declared.causes.LineCause.{LineCause}
 use Rattle.vms_line.specs.declared.forms.Verb.{Verb}
-use Rattle.vms_line.specs.declared.forms.Verb.TheVariants.{Mod, Inc, Dec, Ev, Cnt, Lim, Cmp, Sum, Rough, Csync, EvSum, Fold, Water, Val, Snap, Sys, Pressure, Normal, Dead, Kswapd}
+use Rattle.vms_line.specs.declared.forms.Verb.TheVariants.{Mod, Inc, Dec, Ev, Cnt, Lim, Cmp, Sum, Rough, Csync, EvSum}
+use Rattle.vms_line.specs.declared.forms.Verb.TheVariants.{Fold, Water, Val, Snap, Sys, Pressure, Normal, Dead}
+use Rattle.vms_line.specs.declared.forms.Verb.TheVariants.{Kswapd}
 use Rattle.vms_line.specs.Fields.{mark_named, node_field}
-use Rattle.vms_line.specs.Forms.{Fields, Counter, Name, Node, OneCpu, Paged, form_of, has_zone_up_to, has_lane, read_fields}
+use Rattle.vms_line.specs.Forms.{Fields, Counter, Name, Node, OneCpu, Paged, form_of, has_zone_up_to, has_lane}
+use Rattle.vms_line.specs.Forms.{read_fields}
 use Rattle.vms_line.specs.Laws.{IsActOf, IsDeclared, IsOfControl, IsOfCpu}
 use Rattle.vms_line.specs.Spelling.{act_words, mark_word, node_number, pcpu_word, spelled_amount}
-use Rattle.vms_line.proofs.FieldsRead.{SpellsCounter, SpellsOne, amount_field-spelled, counter-spelled, cpu-fits, cpu_field-spelled, event-spelled, in_pages-spelled, limit-fits, limit_field-spelled, number_up_to-spelled, pcpu-spelled, value-spelled}
+use Rattle.vms_line.proofs.FieldsRead.{SpellsCounter, SpellsOne, amount_field-spelled, counter-spelled, cpu-fits}
+use Rattle.vms_line.proofs.FieldsRead.{cpu_field-spelled, event-spelled, in_pages-spelled, limit-fits}
+use Rattle.vms_line.proofs.FieldsRead.{limit_field-spelled, number_up_to-spelled, pcpu-spelled, value-spelled}
 use Rattle.vms_line.proofs.PlaceFields.{node_field-spelled, node_number-own, zone_field-spelled}
 
 pub short-cons : (word : List ℕ) (words : List (List ℕ)) → is_short word ≡ true → list_all is_short words ≡ true
@@ -78,7 +85,8 @@ mark_word-short Low = refl
 mark_word-short High = refl
 
 module _ (header : Header) (is : IsHeader header) where
-  three_short : (counter : ℕ) (spells : SpellsCounter header counter) (more : List (List ℕ)) → list_all is_short more ≡ true
+  three_short : (counter : ℕ) (spells : SpellsCounter header counter) (more : List (List ℕ))
+      → list_all is_short more ≡ true
       → list_all is_short (spells.node ∷ spells.kind ∷ spells.item ∷ more) ≡ true
   three_short counter spells more short =
       short-cons spells.node (spells.kind ∷ spells.item ∷ more) spells.node_short
@@ -86,7 +94,8 @@ module _ (header : Header) (is : IsHeader header) where
 
   -- one word, and others after it
   one_says : (verb : Verb) (act : Act) {A : Type 0} (field : List ℕ → Result A LineCause) (words more : List (List ℕ)) (value : A)
-      (spells : SpellsOne A field words value) → act_words header act ≡ (form_of verb).word ∷ words ++ more → length more ≤ 4
+      (spells : SpellsOne A field words value) → act_words header act ≡ (form_of verb).word ∷ words ++ more
+      → length more ≤ 4
       → list_all is_short more ≡ true → read_fields header (form_of verb).fields (spells.word ∷ more) ≡ Ok act → Says header verb act
   one_says verb act field words more value spells same few short read = record {
     fields = spells.word ∷ more;

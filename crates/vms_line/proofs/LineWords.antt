@@ -1,5 +1,7 @@
 -- What a line says by its first words.
-use Rattle.std.proofs.Common.{ℕ, ◌≡◌, ◌≢◌, ◌<◌, ◌≤◌, ◌^◌, ◌-◌, ◌&&◌, ◌||◌, Bool, true, false, cond, not, List, [], ◌∷◌, Some, None, Ok, Err, refl, sym, ◌∙◌, ap, arith, drop, get_or, length, map, take, nat_le, nat_lt}
+use Rattle.std.proofs.Common.{ℕ, ◌≡◌, ◌≢◌, ◌<◌, ◌≤◌, ◌^◌, ◌-◌, ◌&&◌, ◌||◌, Bool, true, false, cond, not, List, []}
+use Rattle.std.proofs.Common.{◌∷◌, Some, None, Ok, Err, refl, sym, ◌∙◌, ap, arith, drop, get_or, length, map, take}
+use Rattle.std.proofs.Common.{nat_le, nat_lt}
 use Rattle.std.proofs.lemmas.Bool.{false≢true}
 use Rattle.std.proofs.lemmas.Bool.Decides.{nat_tests}
 use Rattle.std.proofs.lemmas.List.Splits.{slice_split-cons_no}
@@ -17,20 +19,23 @@ use Rattle.std.proofs.Common.{Option, bytes_eq, codes}
 use Rattle.vms_text.specs.declared.acts.Lane.TheVariants.{Control}
 use Rattle.vms_line.specs.declared.forms.Verb.{Verb}
 use Rattle.vms_line.specs.Body.{is_cpu_word, lane_number, of_cpu, of_lane}
-use Rattle.vms_line.specs.Forms.{Amount, Change, Count, Counter, Event, Fields, Limited, Marked, Name, Node, Number, OneCpu, Paged, Turn, Value, form_of, has_lane, read_fields, read_verb, verb_named}
+use Rattle.vms_line.specs.Forms.{Amount, Change, Count, Counter, Event, Fields, Limited, Marked, Name, Node, Number}
+use Rattle.vms_line.specs.Forms.{OneCpu, Paged, Turn, Value, form_of, has_lane, read_fields, read_verb, verb_named}
 use Rattle.vms_line.specs.Body.{boundary_line, read_line, read_words}
 use Rattle.vms_line.specs.Fields.{known_cpu}
 use Rattle.vms_text.specs.Reading.{is_clean, is_comment, is_ignored}
 use Rattle.vms_text.proofs.Pieces.{clean-other, is_ignored-none, word_byte-not_blank}
 
-pub boundary_line-long : (header : Header) (words : List (List ℕ)) → 3 ≤ length words → boundary_line header words ≡ Err Malformed
+pub boundary_line-long : (header : Header) (words : List (List ℕ)) → 3 ≤ length words
+    → boundary_line header words ≡ Err Malformed
 boundary_line-long header [] long = refl
 boundary_line-long header (a ∷ []) long = absurd (omega arith)
 boundary_line-long header (a ∷ b ∷ []) long = absurd (omega arith)
 boundary_line-long header (a ∷ b ∷ c ∷ more) long = refl
 
 -- a number of more than 64 bits is of no CPU
-pub known_cpu-large : (header : Header) (digits : List ℕ) → header.layout.cpus < 2 ^ 64 → is_numeral digits ≡ true → unsigned_of digits ≡ None → known_cpu header (digits_value 10 digits) ≡ Err UnknownLane
+pub known_cpu-large : (header : Header) (digits : List ℕ) → header.layout.cpus < 2 ^ 64 → is_numeral digits ≡ true
+    → unsigned_of digits ≡ None → known_cpu header (digits_value 10 digits) ≡ Err UnknownLane
 known_cpu-large header digits small numeral none =
     let value = digits_value 10 digits in
     let large = too_large (nat_le value (2 ^ 64 - 1)) refl in
@@ -70,7 +75,8 @@ read_verb-long header control (Some verb) a b c d e f more =
     ap (λ act. cond (has_lane header control (form_of verb).lanes) act (Err Malformed)) both
 
 -- no line has more than eight words
-pub read_words-take : (header : Header) (words : List (List ℕ)) → read_words header (take 8 words) ≡ read_words header words
+pub read_words-take : (header : Header) (words : List (List ℕ))
+    → read_words header (take 8 words) ≡ read_words header words
 read_words-take header [] = refl
 read_words-take header (a ∷ []) = refl
 read_words-take header (a ∷ b ∷ []) = refl
@@ -89,7 +95,8 @@ read_words-take header (a ∷ b ∷ c ∷ d ∷ e ∷ f ∷ g ∷ h ∷ more) =
     (cond (is_cpu_word a) (of_cpu header (lane_number a) act) (Err Malformed))) of_cpus
 
 -- a line of words that isn't ignored
-pub read_line-words : (header : Header) (line : List ℕ) → length line ≤ 200 → is_ignored line ≡ false → is_clean line ≡ true → read_line header line ≡ read_words header (take 8 (words_of line))
+pub read_line-words : (header : Header) (line : List ℕ) → length line ≤ 200 → is_ignored line ≡ false
+    → is_clean line ≡ true → read_line header line ≡ read_words header (take 8 (words_of line))
 read_line-words header line within ignored clean =
     let short : nat_lt 200 (length line) ≡ false = grind (arith, nat_tests) in
     by (nat_lt 200 (length line)) (is_ignored line) (is_clean line) short ignored clean ∙ sym (read_words-take header (words_of line))
@@ -109,7 +116,8 @@ pub blank-clean : (line : List ℕ) → words_of line ≡ [] → list_all is_bla
 blank-clean [] none = refl
 blank-clean (byte ∷ rest) none = by (is_word_byte byte) refl (blank-clean rest)
   where
-    by : (b : Bool) → is_word_byte byte ≡ b → (words_of rest ≡ [] → list_all is_blank_byte rest ≡ is_clean rest) → list_all is_blank_byte (byte ∷ rest) ≡ is_clean (byte ∷ rest)
+    by : (b : Bool) → is_word_byte byte ≡ b → (words_of rest ≡ [] → list_all is_blank_byte rest ≡ is_clean rest)
+        → list_all is_blank_byte (byte ∷ rest) ≡ is_clean (byte ∷ rest)
     by true is more = absurd (words_of-byte byte rest is none)
     by false is more =
         ap (λ a. a && list_all is_blank_byte rest) (sym (clean-other byte is))
@@ -128,7 +136,8 @@ pub is_ignored-no_word : (line : List ℕ) → words_of line ≡ [] → is_clean
 is_ignored-no_word line none = sym (blank-clean line none) ∙ is_ignored-none line none
 
 -- a line with a word is ignored where that is a remark's
-pub is_ignored-first : (line word : List ℕ) (more : List (List ℕ)) → words_of line ≡ word ∷ more → is_comment (word ∷ []) ≡ is_ignored line
+pub is_ignored-first : (line word : List ℕ) (more : List (List ℕ)) → words_of line ≡ word ∷ more
+    → is_comment (word ∷ []) ≡ is_ignored line
 is_ignored-first line word more is = sym (by (list_all is_blank_byte line) refl)
   where
     same : (one : List ℕ) → is_comment (one ∷ more) ≡ is_comment (one ∷ [])
@@ -140,12 +149,14 @@ is_ignored-first line word more is = sym (by (list_all is_blank_byte line) refl)
     by false some = ap (λ b. b || is_comment (words_of line)) some ∙ ap is_comment is ∙ same word
 
 -- the first of the words that were cut
-pub no_word : (cut : List (Bor (List ℕ))) (words : List (List ℕ)) → length cut ≡ 0 → map (λ word. word.now) cut ≡ take 8 words → words ≡ []
+pub no_word : (cut : List (Bor (List ℕ))) (words : List (List ℕ)) → length cut ≡ 0
+    → map (λ word. word.now) cut ≡ take 8 words → words ≡ []
 no_word [] [] none is = refl
 no_word [] (word ∷ words) none is = absurd cc
 no_word (word ∷ cut) words none is = absurd (omega arith)
 
-pub first_word : (cut : List (Bor (List ℕ))) (words : List (List ℕ)) (d : Bor (List ℕ)) → 1 ≤ length cut → map (λ word. word.now) cut ≡ take 8 words → words ≡ (get_or cut 0 d).now ∷ drop 1 words
+pub first_word : (cut : List (Bor (List ℕ))) (words : List (List ℕ)) (d : Bor (List ℕ)) → 1 ≤ length cut
+    → map (λ word. word.now) cut ≡ take 8 words → words ≡ (get_or cut 0 d).now ∷ drop 1 words
 first_word [] words d some is = absurd (omega arith)
 first_word (word ∷ cut) [] d some is = absurd cc
 first_word (word ∷ cut) (other ∷ words) d some is = let same : other ≡ word.now = cc in ap (λ one. one ∷ words) same

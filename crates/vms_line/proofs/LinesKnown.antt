@@ -1,5 +1,7 @@
 -- For other crates too: every line that is read is one of its header.
-use Rattle.std.proofs.Common.{ℕ, ◌≡◌, ◌<◌, ◌≤◌, ◌^◌, ◌-◌, ◌==◌, ◌&&◌, Bool, true, false, cond, not, List, [], ◌∷◌, Option, Some, None, Result, Ok, Err, IfOk, bytes_eq, codes, length, nat_lt, ok_or, sym, subst, arith, w64, unsigned_abs, ℤ}
+use Rattle.std.proofs.Common.{ℕ, ◌≡◌, ◌<◌, ◌≤◌, ◌^◌, ◌-◌, ◌==◌, ◌&&◌, Bool, true, false, cond, not, List, [], ◌∷◌}
+use Rattle.std.proofs.Common.{Option, Some, None, Result, Ok, Err, IfOk, bytes_eq, codes, length, nat_lt, ok_or, sym}
+use Rattle.std.proofs.Common.{subst, arith, w64, unsigned_abs, ℤ}
 use Rattle.std.proofs.lemmas.Bool.Decides.{nat_tests}
 use Rattle.std.specs.Int.RustNames.{FitsSigned}
 use Rattle.std.specs.Prelude.{IfSome, IsTrue}
@@ -23,13 +25,24 @@ use Rattle.vms_text.specs.Words.{words_of}
 use Rattle.vms_line.specs.declared.causes.LineCause.{LineCause}
 use Rattle.vms_line.specs.declared.causes.LineCause.TheVariants.{LineTooLong, Malformed, UnknownLane}
 use Rattle.vms_line.specs.declared.forms.Verb.{Verb}
-use Rattle.vms_line.specs.declared.forms.Verb.TheVariants.{Mod, Inc, Dec, Ev, Cnt, Lim, Cmp, Sum, Rough, Csync, EvSum, Fold, Water, Val, Snap, Sys, Pressure, Normal, Dead, Kswapd}
-use Rattle.vms_line.specs.Body.{boundary_line, control_line, cpu_line, is_cpu_word, lane_number, of_cpu, of_lane, read_line, read_words, report_named}
-use Rattle.vms_line.specs.Fields.{amount_field, counter_field, cpu_field, event_field, in_pages, limit_field, mark_named, node_field, number_up_to, page_counter, pcpu_field, system_field, zone_field}
-use Rattle.vms_line.specs.Forms.{amount_fields, change_fields, count_fields, counter_fields, event_fields, form_of, has_zone_up_to, index_under, has_lane, limited_fields, marked_fields, name_fields, node_fields, number_fields, one_cpu_fields, paged_fields, read_act, read_fields, read_verb, turn_fields, value_fields, verb_named}
+use Rattle.vms_line.specs.declared.forms.Verb.TheVariants.{Mod, Inc, Dec, Ev, Cnt, Lim, Cmp, Sum, Rough, Csync, EvSum}
+use Rattle.vms_line.specs.declared.forms.Verb.TheVariants.{Fold, Water, Val, Snap, Sys, Pressure, Normal, Dead}
+use Rattle.vms_line.specs.declared.forms.Verb.TheVariants.{Kswapd}
+use Rattle.vms_line.specs.Body.{boundary_line, control_line, cpu_line, is_cpu_word, lane_number, of_cpu, of_lane}
+use Rattle.vms_line.specs.Body.{read_line, read_words, report_named}
+use Rattle.vms_line.specs.Fields.{amount_field, counter_field, cpu_field, event_field, in_pages, limit_field}
+use Rattle.vms_line.specs.Fields.{mark_named, node_field, number_up_to, page_counter, pcpu_field, system_field}
+use Rattle.vms_line.specs.Fields.{zone_field}
+use Rattle.vms_line.specs.Forms.{amount_fields, change_fields, count_fields, counter_fields, event_fields, form_of}
+use Rattle.vms_line.specs.Forms.{has_zone_up_to, index_under, has_lane, limited_fields, marked_fields, name_fields}
+use Rattle.vms_line.specs.Forms.{node_fields, number_fields, one_cpu_fields, paged_fields, read_act, read_fields}
+use Rattle.vms_line.specs.Forms.{read_verb, turn_fields, value_fields, verb_named}
 use Rattle.vms_line.specs.Laws.{IsActOf, IsDeclared, IsKnownValue, IsLineOf, IsOfControl, IsOfCpu}
 use Rattle.vms_line.specs.Spelling.{spelled_amount}
-use Rattle.vms_line.proofs.FieldsKnown.{amount_field-known, counter_field-known, cpu_field-known, event_field-known, if_any, if_cond, if_then, in_pages-known, index_under-known, limit_field-known, node_field-known, number_up_to-known, page_counter-known, pcpu_field-known, system_field-known, zone_field-known}
+use Rattle.vms_line.proofs.FieldsKnown.{amount_field-known, counter_field-known, cpu_field-known, event_field-known}
+use Rattle.vms_line.proofs.FieldsKnown.{if_any, if_cond, if_then, in_pages-known, index_under-known}
+use Rattle.vms_line.proofs.FieldsKnown.{limit_field-known, node_field-known, number_up_to-known, page_counter-known}
+use Rattle.vms_line.proofs.FieldsKnown.{pcpu_field-known, system_field-known, zone_field-known}
 use Rattle.vms_line.proofs.FormsRead.{is_control_lane}
 
 of_cpus : (lane : LaneOf) → not (is_control_lane lane) ≡ true → IsOfCpu lane
@@ -146,7 +159,8 @@ module _ (header : Header) (is : IsHeader header) where
       (known, small, subst (λ n. n ≤ 3) (sym both.0) below, both.1)))))
   turn _ = tt
 
-  wide_control : (lane : LaneOf) → (is_control_lane lane && header.layout.positions == 16) ≡ true → IsOfControl lane × (header.layout.positions ≡ 16)
+  wide_control : (lane : LaneOf) → (is_control_lane lane && header.layout.positions == 16) ≡ true
+      → IsOfControl lane × (header.layout.positions ≡ 16)
   wide_control (Cpu cpu) is = absurd cc
   wide_control Control is = (tt, grind (arith, nat_tests))
 
@@ -155,7 +169,8 @@ module _ (header : Header) (is : IsHeader header) where
     IsMine act = IsActOf header lane act
 
     -- a verb of the lane gives acts of the lane
-    verb-known : (verb : Verb) (words : List (List ℕ)) → has_lane header (is_control_lane lane) (form_of verb).lanes ≡ true
+    verb-known : (verb : Verb) (words : List (List ℕ))
+        → has_lane header (is_control_lane lane) (form_of verb).lanes ≡ true
         → IfOk (read_fields header (form_of verb).fields words) IsMine
     verb-known Mod words of = if_then (change_fields header words) _ IsChange IsMine (change words) (λ found known. (of_cpus lane of, known.0, known.1, known.2))
     verb-known Inc words of = if_then (paged_fields header words) _ IsPaged IsMine (paged words) (λ found known. (of_cpus lane of, known.0, known.1))
@@ -180,14 +195,16 @@ module _ (header : Header) (is : IsHeader header) where
         let wide = wide_control lane of in
         if_then (turn_fields header words) _ IsTurned IsMine (turn words) (λ found known. (wide.0, wide.1, known.0, known.1, known.2, known.3))
 
-    read_verb-known : (words : List (List ℕ)) (verb : Option Verb) → IfOk (read_verb header (is_control_lane lane) words verb) IsMine
+    read_verb-known : (words : List (List ℕ)) (verb : Option Verb)
+        → IfOk (read_verb header (is_control_lane lane) words verb) IsMine
     read_verb-known words None = tt
     read_verb-known words (Some verb) =
         if_cond (has_lane header (is_control_lane lane) (form_of verb).lanes) (read_fields header (form_of verb).fields words) (Err Malformed) IsMine
         (verb-known verb words) (λ _. tt)
 
   -- a lane's words
-  read_act-known : (lane : LaneOf) (verb : List ℕ) (words : List (List ℕ)) → IfOk (read_act header (is_control_lane lane) verb words) (IsActOf header lane)
+  read_act-known : (lane : LaneOf) (verb : List ℕ) (words : List (List ℕ))
+      → IfOk (read_act header (is_control_lane lane) verb words) (IsActOf header lane)
   read_act-known lane verb words = read_verb-known lane words (verb_named verb)
 
   module _ (n : ℕ) where

@@ -42,7 +42,8 @@ use Rattle.vms_line.specs.Laws.{ReadsBack}
 use Rattle.vms_line.specs.Spelling.{line_words}
 
 -- the line of these words is read back
-pub words-read_back : (header : Header) (line : Line) (words : List (List ℕ)) → line_words header line ≡ words → IsFew words → read_words header words ≡ Ok line → ReadsBack header line
+pub words-read_back : (header : Header) (line : Line) (words : List (List ℕ)) → line_words header line ≡ words
+    → IsFew words → read_words header words ≡ Ok line → ReadsBack header line
 words-read_back header line words same is read = record {
   text = joined words;
   spelled = ap sentence same;
@@ -73,7 +74,8 @@ verb_named-word verbs.Normal = refl
 verb_named-word verbs.Dead = refl
 verb_named-word verbs.Kswapd = refl
 
-read_act-due : (header : Header) (control : Bool) (verb : Verb) (fields : List (List ℕ)) → has_lane header control (form_of verb).lanes ≡ true
+read_act-due : (header : Header) (control : Bool) (verb : Verb) (fields : List (List ℕ))
+    → has_lane header control (form_of verb).lanes ≡ true
     → read_act header control (form_of verb).word fields ≡ read_fields header (form_of verb).fields fields
 read_act-due header control verb fields of_lane =
     ap (read_verb header control fields) (verb_named-word verb)
@@ -81,7 +83,8 @@ read_act-due header control verb fields of_lane =
 
 module _ (header : Header) (is : IsHeader header) where
   -- a line of a CPU's lane
-  cpu_line-read : (cpu : CpuId) (act : Act) → IsCpu header.layout cpu.number → IsActOf header (Cpu cpu) act → ReadsBack header (Lane (Cpu cpu) act)
+  cpu_line-read : (cpu : CpuId) (act : Act) → IsCpu header.layout cpu.number → IsActOf header (Cpu cpu) act
+      → ReadsBack header (Lane (Cpu cpu) act)
   cpu_line-read cpu act within known =
       let verb = verb_of act in
       let read = says header is (Cpu cpu) act known in
@@ -120,7 +123,8 @@ module _ (header : Header) (is : IsHeader header) where
   lane-read Control act (within, known) = control_line-read act known
 
   -- a boundary line of these words
-  boundary-words_read : (boundary : BoundaryOf) (words : List (List ℕ)) → boundary_words boundary ≡ words → IsFew words → read_words header words ≡ Ok (Boundary boundary) → ReadsBack header (Boundary boundary)
+  boundary-words_read : (boundary : BoundaryOf) (words : List (List ℕ)) → boundary_words boundary ≡ words
+      → IsFew words → read_words header words ≡ Ok (Boundary boundary) → ReadsBack header (Boundary boundary)
   boundary-words_read boundary words same few read = words-read_back header (Boundary boundary) words same few read
 
   report-read : (kind : ReportKind) → ReadsBack header (Boundary (Report kind))

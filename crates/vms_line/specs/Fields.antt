@@ -1,5 +1,7 @@
 -- The fields of a line of the body: each gives what its words say, or the first cause why it doesn't count.
-use Rattle.std.specs.Prelude.{ℕ, ◌+◌, ◌^◌, nat_lt, nat_le, ◌==◌, true, false, if◌then◌else◌, ℤ, pos, unsigned_abs, int_div, List, map, codes, bytes_eq, position, Option, Some, None, option_map, ok_or, Result, Ok, Err, ◌%◌}
+use Rattle.std.specs.Prelude.{ℕ, ◌+◌, ◌^◌, nat_lt, nat_le, ◌==◌, true, false, if◌then◌else◌, ℤ, pos, unsigned_abs}
+use Rattle.std.specs.Prelude.{int_div, List, map, codes, bytes_eq, position, Option, Some, None, option_map, ok_or}
+use Rattle.std.specs.Prelude.{Result, Ok, Err, ◌%◌}
 use Rattle.vms_base.specs.declared.headers.Header.{Header}
 use Rattle.vms_base.specs.declared.ids.CounterId.{CounterId}
 use Rattle.vms_base.specs.declared.ids.CpuId.{CpuId}
@@ -14,7 +16,8 @@ use Rattle.vms_base.specs.Names.{event_names}
 use Rattle.vms_base.specs.Places.{counter_at, node_place}
 use Rattle.vms_text.specs.Numbers.{number_within, unsigned_of, signed_of}
 use Rattle.vms_line.specs.declared.causes.LineCause.{LineCause}
-use Rattle.vms_line.specs.declared.causes.LineCause.TheVariants.{BadNumber, UnknownLane, UnknownPlace, UnknownItem, UnknownCounter, NotPages}
+use Rattle.vms_line.specs.declared.causes.LineCause.TheVariants.{BadNumber, UnknownLane, UnknownPlace, UnknownItem}
+use Rattle.vms_line.specs.declared.causes.LineCause.TheVariants.{UnknownCounter, NotPages}
 use Rattle.vms_text.specs.Reading.{and_then}
 use Rattle.vms_text.specs.PlaceNames.{zone_named, place_named, item_named, is_in_bytes}
 

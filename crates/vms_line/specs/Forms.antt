@@ -1,5 +1,6 @@
 -- The forms of a lane's lines: the word that begins each, whose lanes have it, and the fields after it.
-use Rattle.std.specs.Prelude.{ℕ, ◌^◌, ◌-◌, nat_le, ◌==◌, ◌&&◌, Bool, true, not, if◌then◌else◌, ℤ, List, [], ◌∷◌, codes, bytes_eq, find, ok_or, Option, Some, None, Result, Ok, Err}
+use Rattle.std.specs.Prelude.{ℕ, ◌^◌, ◌-◌, nat_le, ◌==◌, ◌&&◌, Bool, true, not, if◌then◌else◌, ℤ, List, [], ◌∷◌}
+use Rattle.std.specs.Prelude.{codes, bytes_eq, find, ok_or, Option, Some, None, Result, Ok, Err}
 use Rattle.std.specs.List.{list_any}
 use Rattle.vms_base.specs.declared.headers.Header.{Header}
 use Rattle.vms_base.specs.declared.ids.CounterId.{CounterId}
@@ -16,8 +17,12 @@ use Rattle.vms_text.specs.Reading.{and_then}
 use Rattle.vms_line.specs.declared.causes.LineCause.{LineCause}
 use Rattle.vms_line.specs.declared.causes.LineCause.TheVariants.{Malformed, UnknownPlace}
 use Rattle.vms_line.specs.declared.forms.Verb.{Verb}
-use Rattle.vms_line.specs.declared.forms.Verb.TheVariants.{Mod, Inc, Dec, Ev, Cnt, Lim, Cmp, Sum, Rough, Csync, EvSum, Fold, Water, Val, Snap, Sys, Pressure, Normal, Dead, Kswapd}
-use Rattle.vms_line.specs.Fields.{number_up_to, amount_field, limit_field, cpu_field, zone_field, node_field, counter_field, event_field, pcpu_field, system_field, mark_named, in_pages, page_counter}
+use Rattle.vms_line.specs.declared.forms.Verb.TheVariants.{Mod, Inc, Dec, Ev, Cnt, Lim, Cmp, Sum, Rough, Csync, EvSum}
+use Rattle.vms_line.specs.declared.forms.Verb.TheVariants.{Fold, Water, Val, Snap, Sys, Pressure, Normal, Dead}
+use Rattle.vms_line.specs.declared.forms.Verb.TheVariants.{Kswapd}
+use Rattle.vms_line.specs.Fields.{number_up_to, amount_field, limit_field, cpu_field, zone_field, node_field}
+use Rattle.vms_line.specs.Fields.{counter_field, event_field, pcpu_field, system_field, mark_named, in_pages}
+use Rattle.vms_line.specs.Fields.{page_counter}
 
 -- whose lanes have a form: those of CPUs, the control lane, the control lane where a place has sixteen items, or each
 pub data Lanes : Type 0 where

@@ -1,5 +1,6 @@
 -- The one spelling of a line.
-use Rattle.std.specs.Prelude.{ℕ, nat_lt, true, false, if◌then◌else◌, ℤ, pos, ◌*ℤ◌, List, [], ◌∷◌, ◌++◌, map, codes, decimal, option_to_list, ◌-◌}
+use Rattle.std.specs.Prelude.{ℕ, nat_lt, true, false, if◌then◌else◌, ℤ, pos, ◌*ℤ◌, List, [], ◌∷◌, ◌++◌, map, codes}
+use Rattle.std.specs.Prelude.{decimal, option_to_list, ◌-◌}
 use Rattle.std.specs.Fmt.{signed_decimal}
 use Rattle.vms_base.specs.declared.headers.Header.{Header}
 use Rattle.vms_base.specs.declared.kinds.WaterMark.{WaterMark}
@@ -8,7 +9,8 @@ use Rattle.vms_base.specs.Headers.{class_names}
 use Rattle.vms_base.specs.Names.{event_names}
 use Rattle.vms_base.specs.Places.{node_at}
 use Rattle.vms_text.specs.declared.acts.Act.{Act}
-use Rattle.vms_text.specs.declared.acts.Act.TheVariants.{Mod, Inc, Dec, Ev, Cnt, Lim, Cmp, Sum, Rough, Csync, EvSum, Fold, Water, Val, Snap, Sys, Pressure, Normal, Dead, Kswapd}
+use Rattle.vms_text.specs.declared.acts.Act.TheVariants.{Mod, Inc, Dec, Ev, Cnt, Lim, Cmp, Sum, Rough, Csync, EvSum}
+use Rattle.vms_text.specs.declared.acts.Act.TheVariants.{Fold, Water, Val, Snap, Sys, Pressure, Normal, Dead, Kswapd}
 use Rattle.vms_text.specs.declared.acts.Boundary.{Boundary as BoundaryOf}
 use Rattle.vms_text.specs.declared.acts.Boundary.TheVariants.{Sync, Offline, Online, Flush, Report}
 use Rattle.vms_text.specs.declared.acts.Lane.{Lane as LaneOf}

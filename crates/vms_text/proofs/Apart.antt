@@ -1,5 +1,6 @@
 -- For other crates too: lists of names that differ from each other.
-use Rattle.std.proofs.Common.{ℕ, zero, suc, ◌≡◌, ◌≢◌, true, not, List, [], ◌∷◌, ◌++◌, sym, subst, ◌∙◌, ap, arith, get_or, map}
+use Rattle.std.proofs.Common.{ℕ, zero, suc, ◌≡◌, ◌≢◌, true, not, List, [], ◌∷◌, ◌++◌, sym, subst, ◌∙◌, ap, arith}
+use Rattle.std.proofs.Common.{get_or, map}
 use Rattle.std.proofs.lemmas.Bool.{false≢true}
 use Rattle.std.proofs.lemmas.List.{get_or-map, length-map}
 use Rattle.std.proofs.lemmas.List.Elements.{All-append, All-head, All-map, All-tail}
@@ -19,7 +20,8 @@ pub AreApart-flipped : (names others : List (List ℕ)) → AreApart names other
 AreApart-flipped names others apart = λ j e there i d here same. apart i d here j e there (sym same)
 
 module _ {X : Type 0} (R : X → X → Type 0) where
-  pub AllPairs-append : (xs ys : List X) → AllPairs R xs → AllPairs R ys → All (λ x. All (R x) ys) xs → AllPairs R (xs ++ ys)
+  pub AllPairs-append : (xs ys : List X) → AllPairs R xs → AllPairs R ys → All (λ x. All (R x) ys) xs
+      → AllPairs R (xs ++ ys)
   AllPairs-append [] ys first second apart = second
   AllPairs-append (x ∷ xs) ys first second apart =
       let head : All (R x) xs = λ k d within. first zero (suc k) d (omega arith) (omega arith) in
@@ -40,7 +42,8 @@ module _ {X Y : Type 0} (f : X → Y) (R : Y → Y → Type 0) where
       let head : All (λ y. R (f x) (f y)) xs = λ k d within. pairs zero (suc k) d (omega arith) (omega arith) in
       AllPairs-cons R (f x) (map f xs) (All-map (R (f x)) f xs head) (AllPairs-map xs (λ i j d before within. pairs (suc i) (suc j) d (omega arith) (omega arith)))
 
-differ-from : (name : List ℕ) (names : List (List ℕ)) → list_all (λ other. not (bytes_eq name other)) names ≡ true → All (λ other. name ≢ other) names
+differ-from : (name : List ℕ) (names : List (List ℕ)) → list_all (λ other. not (bytes_eq name other)) names ≡ true
+    → All (λ other. name ≢ other) names
 differ-from name names is = λ k d within same.
     let other = AllPass-from_list_all (λ other. not (bytes_eq name other)) names is k d within in
     false≢true (sym (ap not ((bytes_eq-Decides name (get_or names k d)).1 same)) ∙ other)

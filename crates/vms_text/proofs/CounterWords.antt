@@ -14,11 +14,13 @@ use Rattle.vms_text.proofs.PlacesRead.{SpellsPlace}
 use Rattle.vms_text.proofs.Sentences.{is_short}
 
 module _ (header : Header) (is : IsHeader header) where
-  pub item_word-short : (node : Bool) (n : ℕ) → n < length (class_names node header.items) → is_short (get_or (class_names node header.items) n []) ≡ true
+  pub item_word-short : (node : Bool) (n : ℕ) → n < length (class_names node header.items)
+      → is_short (get_or (class_names node header.items) n []) ≡ true
   item_word-short node n within =
       AllPass-from_list_all is_short (class_names node header.items) (class_names-short header.items is.items_valid is.items_differ node) n [] within
 
-  pub item_word-found : (node : Bool) (n : ℕ) → n < length (class_names node header.items) → position (bytes_eq (get_or (class_names node header.items) n [])) (class_names node header.items) ≡ Some n
+  pub item_word-found : (node : Bool) (n : ℕ) → n < length (class_names node header.items)
+      → position (bytes_eq (get_or (class_names node header.items) n [])) (class_names node header.items) ≡ Some n
   item_word-found node n within =
       position-name (class_names node header.items) n (class_names-differ header.items is.items_valid is.items_differ node) within
 

@@ -1,5 +1,6 @@
 -- Digits read from the left.
-use Rattle.std.proofs.Common.{ℕ, ◌≡◌, ◌+◌, ◌*◌, ◌<◌, ◌≤◌, ◌&&◌, ◌-◌, true, false, cond, List, [], ◌∷◌, Option, Some, None, refl, sym, ◌∙◌, ap, arith, nat_le, get_or, drop, length}
+use Rattle.std.proofs.Common.{ℕ, ◌≡◌, ◌+◌, ◌*◌, ◌<◌, ◌≤◌, ◌&&◌, ◌-◌, true, false, cond, List, [], ◌∷◌, Option, Some}
+use Rattle.std.proofs.Common.{None, refl, sym, ◌∙◌, ap, arith, nat_le, get_or, drop, length}
 use Rattle.std.proofs.lemmas.Bool.Decides.{nat_tests}
 use Rattle.std.proofs.lemmas.List.{at_drop_more, at_drop_all}
 use Rattle.std.specs.List.{list_all}
@@ -24,31 +25,38 @@ pub digits_from-past : (most value : ℕ) (bytes : List ℕ) → most < value �
 digits_from-past most value bytes past =
     let e = digits_value_after-le value bytes in grind (arith, nat_tests)
 
-digits_from-cons : (most value byte : ℕ) (bytes : List ℕ) → is_digit byte ≡ true → digits_from most value (byte ∷ bytes) ≡ digits_from most (value * 10 + (byte - 48)) bytes
+digits_from-cons : (most value byte : ℕ) (bytes : List ℕ) → is_digit byte ≡ true
+    → digits_from most value (byte ∷ bytes) ≡ digits_from most (value * 10 + (byte - 48)) bytes
 digits_from-cons most value byte bytes digit =
     rw (digit, digit_value-is byte digit) refl
 
 -- at a digit
-pub digits_from-digit : (most value : ℕ) (bytes : List ℕ) (i byte : ℕ) → i < length bytes → byte ≡ get_or bytes i byte → is_digit byte ≡ true → digits_from most value (drop i bytes) ≡ digits_from most (value * 10 + (byte - 48)) (drop (i + 1) bytes)
+pub digits_from-digit : (most value : ℕ) (bytes : List ℕ) (i byte : ℕ) → i < length bytes → byte ≡ get_or bytes i byte
+    → is_digit byte ≡ true
+    → digits_from most value (drop i bytes) ≡ digits_from most (value * 10 + (byte - 48)) (drop (i + 1) bytes)
 digits_from-digit most value bytes i byte below is digit =
     at_drop_more (digits_from most value) bytes i byte below
     ∙ ap (λ first. digits_from most value (first ∷ drop (i + 1) bytes)) (sym is)
     ∙ digits_from-cons most value byte (drop (i + 1) bytes) digit
 
 -- at another byte
-pub digits_from-other : (most value : ℕ) (bytes : List ℕ) (i byte : ℕ) → i < length bytes → byte ≡ get_or bytes i byte → is_digit byte ≡ false → digits_from most value (drop i bytes) ≡ None
+pub digits_from-other : (most value : ℕ) (bytes : List ℕ) (i byte : ℕ) → i < length bytes → byte ≡ get_or bytes i byte
+    → is_digit byte ≡ false → digits_from most value (drop i bytes) ≡ None
 digits_from-other most value bytes i byte below is other =
     at_drop_more (digits_from most value) bytes i byte below
     ∙ ap (λ first. digits_from most value (first ∷ drop (i + 1) bytes)) (sym is)
     ∙ rw other refl
 
 -- at the end
-pub digits_from-end : (most value : ℕ) (bytes : List ℕ) (i : ℕ) → length bytes ≤ i → value ≤ most → digits_from most value (drop i bytes) ≡ Some value
+pub digits_from-end : (most value : ℕ) (bytes : List ℕ) (i : ℕ) → length bytes ≤ i → value ≤ most
+    → digits_from most value (drop i bytes) ≡ Some value
 digits_from-end most value bytes i done within =
     at_drop_all (digits_from most value) bytes i done ∙ grind (arith, nat_tests)
 
 -- at a digit that makes the number too large
-pub digits_from-large : (most value : ℕ) (bytes : List ℕ) (i : ℕ) → i < length bytes → is_digit (get_or bytes i 0) ≡ true → most < value * 10 + (get_or bytes i 0 - 48) → None ≡ digits_from most value (drop i bytes)
+pub digits_from-large : (most value : ℕ) (bytes : List ℕ) (i : ℕ) → i < length bytes
+    → is_digit (get_or bytes i 0) ≡ true → most < value * 10 + (get_or bytes i 0 - 48)
+    → None ≡ digits_from most value (drop i bytes)
 digits_from-large most value bytes i below digit large =
     sym (at_drop_more (digits_from most value) bytes i 0 below
     ∙ digits_from-cons most value (get_or bytes i 0) (drop (i + 1) bytes) digit

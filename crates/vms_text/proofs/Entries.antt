@@ -4,5 +4,6 @@ use Rattle.std.proofs.lemmas.Option.{slice_get-get_or}
 use Rattle.std.specs.Prelude.{option_to_list}
 use Rattle.vms_text.specs.Spelling.{entry}
 
-pub entry-within : {A : Type 0} (names : List A) (n : ℕ) (d : A) → n < length names → entry names n ≡ get_or names n d ∷ []
+pub entry-within : {A : Type 0} (names : List A) (n : ℕ) (d : A) → n < length names
+    → entry names n ≡ get_or names n d ∷ []
 entry-within names n d within = ap option_to_list (slice_get-get_or names n d within)

@@ -1,9 +1,11 @@
 -- For other crates too: the names of a header's items differ, and are short.
-use Rattle.std.proofs.Common.{ℕ, ◌≡◌, ◌≢◌, ◌≤◌, ◌&&◌, Bool, true, false, not, cond, nat_le, List, [], ◌∷◌, ◌++◌, refl, sym, subst, ◌∙◌, ap, arith, length, get_or, map, inl, inr}
+use Rattle.std.proofs.Common.{ℕ, ◌≡◌, ◌≢◌, ◌≤◌, ◌&&◌, Bool, true, false, not, cond, nat_le, List, [], ◌∷◌, ◌++◌, refl}
+use Rattle.std.proofs.Common.{sym, subst, ◌∙◌, ap, arith, length, get_or, map, inl, inr}
 use Rattle.std.proofs.lemmas.Bool.{cases_order, false≢true}
 use Rattle.std.proofs.lemmas.Bool.Decides.{nat_tests}
 use Rattle.std.proofs.lemmas.List.{get_or-map, length-map}
-use Rattle.std.proofs.lemmas.List.Elements.{All-append, All-contains_itself, All-filter, All-map, All-weaker, Contains-append_left, Contains-append_right, filter_passes}
+use Rattle.std.proofs.lemmas.List.Elements.{All-append, All-contains_itself, All-filter, All-map, All-weaker}
+use Rattle.std.proofs.lemmas.List.Elements.{Contains-append_left, Contains-append_right, filter_passes}
 use Rattle.std.proofs.lemmas.List.Folds.{list_all-append}
 use Rattle.std.proofs.lemmas.List.Kept.{AllPairs-filter}
 use Rattle.std.proofs.lemmas.List.Sums.{list_all-from_AllPass}
@@ -14,7 +16,8 @@ use Rattle.vms_base.specs.Headers.{IsValidItem, class_names, declared_names}
 use Rattle.vms_base.specs.Names.{is_letter, is_name, is_name_byte, node_items, zone_items}
 use Rattle.vms_text.specs.Words.{is_word_byte}
 use Rattle.vms_text.proofs.Values.{and_left, and_right}
-use Rattle.vms_text.proofs.Apart.{AllPairs-append, AllPairs-from_map, AllPairs-map, AreApart, AreApart-flipped, all_differ-pairs, are_apart-AreApart}
+use Rattle.vms_text.proofs.Apart.{AllPairs-append, AllPairs-from_map, AllPairs-map, AreApart, AreApart-flipped}
+use Rattle.vms_text.proofs.Apart.{all_differ-pairs, are_apart-AreApart}
 use Rattle.vms_text.proofs.Sentences.{is_short, is_short-from}
 
 name_byte : (byte : ℕ) → is_name_byte byte ≡ true → is_word_byte byte ≡ true
@@ -72,7 +75,8 @@ module _ (items : List ItemDecl) (valid : All IsValidItem items) (differ : AllPa
       All-map (λ name. ¬ Contains fixed name) name_of (filter (λ item. cond node item.node (not item.node)) items)
       (All-filter (λ item. cond node item.node (not item.node)) (λ item. ¬ Contains fixed item.name) items each)
 
-  fixed-apart : (node : Bool) (some : List (List ℕ)) → All (Contains fixed) some → AreApart some (declared_names node items)
+  fixed-apart : (node : Bool) (some : List (List ℕ)) → All (Contains fixed) some
+      → AreApart some (declared_names node items)
   fixed-apart node some among =
       All-weaker (Contains fixed) (λ name. All (λ other. name ≢ other) (declared_names node items))
       (λ name stands. All-weaker (λ other. ¬ Contains fixed other) (λ other. name ≢ other) (λ other new same. new (subst (Contains fixed) same stands)) (declared_names node items) (declared-new node))

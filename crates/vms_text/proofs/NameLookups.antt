@@ -1,5 +1,6 @@
 -- For other crates too: a name is found where it stands in a list of names that differ.
-use Rattle.std.proofs.Common.{ℕ, ◌≡◌, ◌≢◌, ◌<◌, ◌&&◌, Bool, true, false, not, nat_lt, List, [], ◌∷◌, Some, None, refl, sym, ◌∙◌, ap, cond, arith, length, get_or}
+use Rattle.std.proofs.Common.{ℕ, ◌≡◌, ◌≢◌, ◌<◌, ◌&&◌, Bool, true, false, not, nat_lt, List, [], ◌∷◌, Some, None, refl}
+use Rattle.std.proofs.Common.{sym, ◌∙◌, ap, cond, arith, length, get_or}
 use Rattle.std.proofs.lemmas.Bool.Decides.{nat_tests}
 use Rattle.std.proofs.lemmas.List.Sums.{position_or_len_is}
 use Rattle.std.proofs.lemmas.Slice.Eq.{bytes_eq-Decides}
@@ -8,7 +9,8 @@ use Rattle.std.specs.Prelude.{AllPairs, bytes_eq, position}
 
 module _ {X : Type 0} (p : X → Bool) where
   -- the first that passes
-  pub position-first : (xs : List X) (i : ℕ) (d : X) → i < length xs → p (get_or xs i d) ≡ true → ((k : ℕ) → k < i → p (get_or xs k d) ≡ false) → position p xs ≡ Some i
+  pub position-first : (xs : List X) (i : ℕ) (d : X) → i < length xs → p (get_or xs i d) ≡ true
+      → ((k : ℕ) → k < i → p (get_or xs k d) ≡ false) → position p xs ≡ Some i
   position-first xs i d within passes fails =
       let at = position_or_len_is p xs i d (omega arith) fails (λ _. passes) in
       let test : nat_lt i (length xs) ≡ true = grind (arith, nat_tests) in
@@ -33,7 +35,8 @@ bytes_eq-other word other differ =
     ] refl
 
 -- a name stands at its place alone
-pub position-name : (names : List (List ℕ)) (i : ℕ) → AllPairs ◌≢◌ names → i < length names → position (bytes_eq (get_or names i [])) names ≡ Some i
+pub position-name : (names : List (List ℕ)) (i : ℕ) → AllPairs ◌≢◌ names → i < length names
+    → position (bytes_eq (get_or names i [])) names ≡ Some i
 position-name names i differ within =
     position-first (bytes_eq (get_or names i [])) names i [] within (bytes_eq-same (get_or names i []))
     (λ k before. bytes_eq-other (get_or names i []) (get_or names k []) (λ same. differ k i [] before within (sym same)))

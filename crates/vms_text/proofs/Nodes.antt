@@ -10,11 +10,13 @@ use Rattle.vms_base.specs.Places.{IsLayout, Shape, node_place, rank_of, zone_pla
 use Rattle.vms_base.proofs.Zones.{rank_of-injective}
 use Rattle.vms_text.proofs.NameLookups.{position-nowhere}
 
-pub node_place-absent : (shape : Shape) (node : ℕ) → All (λ number. number ≢ node) shape.nodes → node_place shape node ≡ None
+pub node_place-absent : (shape : Shape) (node : ℕ) → All (λ number. number ≢ node) shape.nodes
+    → node_place shape node ≡ None
 node_place-absent shape node absent =
     ap (option_map (λ index. length shape.zones + index)) (position-nowhere (λ number. number == node) shape.nodes (λ k d below. ne_eqb (get_or shape.nodes k d) node (absent k d below)))
 
-pub zone_place-absent : (shape : Shape) (node : ℕ) (kind : ZoneKind) → IsLayout shape → All (λ number. number ≢ node) shape.nodes → zone_place shape (record { node = node; kind = kind }) ≡ None
+pub zone_place-absent : (shape : Shape) (node : ℕ) (kind : ZoneKind) → IsLayout shape
+    → All (λ number. number ≢ node) shape.nodes → zone_place shape (record { node = node; kind = kind }) ≡ None
 zone_place-absent shape node kind layout absent = position-nowhere (λ zone. rank_of zone == rank_of name) shape.zones other
   where
     name : ZoneName

@@ -1,7 +1,10 @@
 -- For other crates too: a number's one spelling.
-use Rattle.std.proofs.Common.{ℕ, suc, zero, ◌≡◌, ◌<◌, ◌≤◌, ◌^◌, ◌-◌, ◌==◌, true, false, cond, List, [], ◌∷◌, Option, Some, None, refl, subst, sym, ◌∙◌, ap, arith, rules, length, get_or, nat_le, ℤ, pos, negsuc, option_map, w64, ◌↔◌}
+use Rattle.std.proofs.Common.{ℕ, suc, zero, ◌≡◌, ◌<◌, ◌≤◌, ◌^◌, ◌-◌, ◌==◌, true, false, cond, List, [], ◌∷◌, Option}
+use Rattle.std.proofs.Common.{Some, None, refl, subst, sym, ◌∙◌, ap, arith, rules, length, get_or, nat_le, ℤ, pos}
+use Rattle.std.proofs.Common.{negsuc, option_map, w64, ◌↔◌}
 use Rattle.std.proofs.lemmas.Bool.Decides.{nat_tests}
-use Rattle.std.proofs.lemmas.Fmt.{decimal-digits_value, decimal_digit, decimal_nonempty, digits_decimal, digits_value-decimal, first_decimal}
+use Rattle.std.proofs.lemmas.Fmt.{decimal-digits_value, decimal_digit, decimal_nonempty, digits_decimal}
+use Rattle.std.proofs.lemmas.Fmt.{digits_value-decimal, first_decimal}
 use Rattle.std.proofs.lemmas.Int.{ints}
 use Rattle.std.proofs.lemmas.Str.Parse.{IsDigitsTest, IsNumeralModel, numerals_by_value}
 use Rattle.std.specs.Fmt.{decimal, signed_decimal}
@@ -26,7 +29,8 @@ numeral-first [] numeral leads = absurd cc
 numeral-first (byte ∷ []) numeral leads = refl
 numeral-first (byte ∷ next ∷ word) numeral leads = absurd (grind (arith, nat_tests))
 
-numeral-from_digits : (word : List ℕ) → list_all is_digit word ≡ true → 0 < length word → (get_or word 0 0 ≡ 48 → length word ≡ 1) → is_numeral word ≡ true
+numeral-from_digits : (word : List ℕ) → list_all is_digit word ≡ true → 0 < length word
+    → (get_or word 0 0 ≡ 48 → length word ≡ 1) → is_numeral word ≡ true
 numeral-from_digits [] digits some first = absurd (omega arith)
 numeral-from_digits (byte ∷ []) digits some first = grind (arith, nat_tests)
 numeral-from_digits (byte ∷ next ∷ word) digits some first = grind (arith, nat_tests)
@@ -36,13 +40,15 @@ decimal-numeral zero fits = rw (decimal_digit 0 (omega arith)) refl
 decimal-numeral (suc n) fits =
     numeral-from_digits (decimal (suc n)) (digits_decimal own (suc n) fits) (decimal_nonempty (suc n) fits) (λ leads. absurd (omega (arith, first_decimal (suc n) (omega arith) fits, leads)))
 
-pub number_within-decimal : (least most n : ℕ) → n < 2 ^ 64 → least ≤ n → n ≤ most → number_within least most (decimal n) ≡ Some n
+pub number_within-decimal : (least most n : ℕ) → n < 2 ^ 64 → least ≤ n → n ≤ most
+    → number_within least most (decimal n) ≡ Some n
 number_within-decimal least most n fits large small =
     let above : nat_le least n ≡ true = grind (arith, nat_tests) in
     let within : nat_le n most ≡ true = grind (arith, nat_tests) in
     rw (digits_value-decimal own n fits, decimal-numeral n fits, above, within) refl
 
-number_within-spelling : (least most n : ℕ) (word : List ℕ) → n < 2 ^ 64 → number_within least most word ≡ Some n → word ≡ decimal n
+number_within-spelling : (least most n : ℕ) (word : List ℕ) → n < 2 ^ 64 → number_within least most word ≡ Some n
+    → word ≡ decimal n
 number_within-spelling least most n word fits some =
     let is = number_within-is least most word n some in
     let spelled = decimal-digits_value own word (numeral-digits word is.numeral) (numeral-nonempty word is.numeral) (numeral-first word is.numeral) (subst (λ value. value < 2 ^ 64) (sym is.value) fits) in
@@ -52,7 +58,8 @@ pub unsigned_of-reads : (n : ℕ) (word : List ℕ) → n < 2 ^ 64 → (unsigned
 unsigned_of-reads n word fits =
     (number_within-spelling 0 (2 ^ 64 - 1) n word fits, λ spelled. ap unsigned_of spelled ∙ number_within-decimal 0 (2 ^ 64 - 1) n fits (omega arith) (omega arith))
 
-negative-spelling : (z : ℤ) (word : List ℕ) (size : Option ℕ) → number_within 0 (2 ^ 63) word ≡ size → negative_of size ≡ Some z → (45 ∷ word) ≡ signed_decimal z
+negative-spelling : (z : ℤ) (word : List ℕ) (size : Option ℕ) → number_within 0 (2 ^ 63) word ≡ size
+    → negative_of size ≡ Some z → (45 ∷ word) ≡ signed_decimal z
 negative-spelling z word None is some = absurd cc
 negative-spelling z word (Some zero) is some = absurd cc
 negative-spelling z word (Some (suc n)) is some =
@@ -61,7 +68,8 @@ negative-spelling z word (Some (suc n)) is some =
     let spelled = number_within-spelling 0 (2 ^ 63) (suc n) word (omega arith) is in
     ap (λ digits. 45 ∷ digits) spelled ∙ ap signed_decimal same
 
-positive-spelling : (z : ℤ) (word : List ℕ) (size : Option ℕ) → number_within 0 (2 ^ 63 - 1) word ≡ size → option_map pos size ≡ Some z → word ≡ signed_decimal z
+positive-spelling : (z : ℤ) (word : List ℕ) (size : Option ℕ) → number_within 0 (2 ^ 63 - 1) word ≡ size
+    → option_map pos size ≡ Some z → word ≡ signed_decimal z
 positive-spelling z word None is some = absurd cc
 positive-spelling z word (Some n) is some =
     let small = number_within-le 0 (2 ^ 63 - 1) word n is in
@@ -79,7 +87,8 @@ signed_of-spelling z (byte ∷ word) some =
       | false ↦ λ is plain. positive-spelling z (byte ∷ word) (number_within 0 (2 ^ 63 - 1) (byte ∷ word)) refl plain
     ] refl some
 
-signed_of-plain : (word : List ℕ) → is_numeral word ≡ true → signed_of word ≡ option_map pos (number_within 0 (2 ^ 63 - 1) word)
+signed_of-plain : (word : List ℕ) → is_numeral word ≡ true
+    → signed_of word ≡ option_map pos (number_within 0 (2 ^ 63 - 1) word)
 signed_of-plain [] numeral = absurd cc
 signed_of-plain (byte ∷ word) numeral =
     let digits = numeral-digits (byte ∷ word) numeral in

@@ -1,9 +1,13 @@
 -- For other crates too: the words of a line, cut at each byte that isn't one of a word.
-use Rattle.std.proofs.Common.{ℕ, zero, suc, ◌≡◌, ◌<◌, ◌≤◌, ◌+◌, ◌-◌, ◌==◌, ◌&&◌, ◌||◌, Bool, true, false, not, List, [], ◌∷◌, ◌++◌, inl, inr, refl, sym, subst, ◌∙◌, ap, arith, append-nil, append_assoc, take, drop, length, get_or}
+use Rattle.std.proofs.Common.{ℕ, zero, suc, ◌≡◌, ◌<◌, ◌≤◌, ◌+◌, ◌-◌, ◌==◌, ◌&&◌, ◌||◌, Bool, true, false, not, List}
+use Rattle.std.proofs.Common.{[], ◌∷◌, ◌++◌, inl, inr, refl, sym, subst, ◌∙◌, ap, arith, append-nil, append_assoc}
+use Rattle.std.proofs.Common.{take, drop, length, get_or}
 use Rattle.std.proofs.lemmas.Bool.Decides.{nat_tests}
 use Rattle.std.proofs.Math.Bool.{and-false, and-true, and_assoc, or-false}
 use Rattle.std.proofs.lemmas.Bool.{cases_lt}
-use Rattle.std.proofs.lemmas.List.{at_drop_all, at_drop_more, drop-drop, drop_more, get_or-drop, get_or-take, get_or_default, length-drop, length-take-le, length_push, take-append-drop, take_all, take_at, take_rest}
+use Rattle.std.proofs.lemmas.List.{at_drop_all, at_drop_more, drop-drop, drop_more, get_or-drop, get_or-take}
+use Rattle.std.proofs.lemmas.List.{get_or_default, length-drop, length-take-le, length_push, take-append-drop}
+use Rattle.std.proofs.lemmas.List.{take_all, take_at, take_rest}
 use Rattle.std.proofs.lemmas.List.Splits.{slice_split_at, slice_split_none}
 use Rattle.std.specs.List.{All, filter, list_all, slice_split}
 use Rattle.vms_text.specs.Words.{IsNextWord, is_blank_byte, is_empty, is_word_byte, is_wrong_byte, words_of}
@@ -24,7 +28,8 @@ filter-cons (byte ∷ piece) pieces = refl
 abbrev pub IsRun : List ℕ → ℕ → ℕ → Type 0
 IsRun line begin at = (k d : ℕ) → begin ≤ k → k < at → is_word_byte (get_or line k d) ≡ true
 
-run_bytes : (line : List ℕ) (begin at : ℕ) → begin ≤ at → at ≤ length line → IsRun line begin at → All (λ byte. is_other byte ≡ false) (take (at - begin) (drop begin line))
+run_bytes : (line : List ℕ) (begin at : ℕ) → begin ≤ at → at ≤ length line → IsRun line begin at
+    → All (λ byte. is_other byte ≡ false) (take (at - begin) (drop begin line))
 run_bytes line begin at after within run = λ k d below.
     let long = length-drop begin line in
     let size = length-take-le (at - begin) (drop begin line) (omega arith) in
@@ -33,7 +38,9 @@ run_bytes line begin at after within run = λ k d below.
     subst (λ byte. is_other byte ≡ false) (sym same) (ap not (run (begin + k) d (omega arith) (omega arith)))
 
 -- a run that another byte ends is the first word, if it isn't empty
-words_of-run : (line : List ℕ) (begin at d : ℕ) → begin ≤ at → at < length line → IsRun line begin at → is_word_byte (get_or line at d) ≡ false → words_of (drop begin line) ≡ word_of (take (at - begin) (drop begin line)) ++ words_of (drop (at + 1) line)
+words_of-run : (line : List ℕ) (begin at d : ℕ) → begin ≤ at → at < length line → IsRun line begin at
+    → is_word_byte (get_or line at d) ≡ false
+    → words_of (drop begin line) ≡ word_of (take (at - begin) (drop begin line)) ++ words_of (drop (at + 1) line)
 words_of-run line begin at d after within run ends =
     let piece = take (at - begin) (drop begin line) in
     let reach : begin + (at - begin) ≡ at = omega arith in
@@ -44,7 +51,8 @@ words_of-run line begin at d after within run ends =
     ∙ filter-cons piece (slice_split is_other (drop (at + 1) line))
 
 -- a run that ends with the line is the last word, if it isn't empty
-words_of-last_run : (line : List ℕ) (begin : ℕ) → begin ≤ length line → IsRun line begin (length line) → words_of (drop begin line) ≡ word_of (take (length line - begin) (drop begin line))
+words_of-last_run : (line : List ℕ) (begin : ℕ) → begin ≤ length line → IsRun line begin (length line)
+    → words_of (drop begin line) ≡ word_of (take (length line - begin) (drop begin line))
 words_of-last_run line begin after run =
     let bytes = run_bytes line begin (length line) after (omega arith) run in
     ap words_of (sym (take_rest line begin))
@@ -77,7 +85,8 @@ clean-other byte is = rw is (not_not_or (is_blank_byte byte))
     not_not_or false = refl
 
 -- at a byte of a word
-pub IsCut-word : (line : List ℕ) (words : List (List ℕ)) (clean : Bool) (begin at : ℕ) → at < length line → is_word_byte (get_or line at 0) ≡ true → IsCut line words clean begin at → IsCut line words clean begin (at + 1)
+pub IsCut-word : (line : List ℕ) (words : List (List ℕ)) (clean : Bool) (begin at : ℕ) → at < length line
+    → is_word_byte (get_or line at 0) ≡ true → IsCut line words clean begin at → IsCut line words clean begin (at + 1)
 IsCut-word line words clean begin at within word cut =
     record {
       after = omega (arith, cut.after);
@@ -99,7 +108,10 @@ IsCut-word line words clean begin at within word cut =
     ]
 
 -- at another byte, where the run before it is added to the words
-pub IsCut-other : (line : List ℕ) (words words' : List (List ℕ)) (clean : Bool) (begin at : ℕ) → at < length line → is_word_byte (get_or line at 0) ≡ false → words' ≡ take 8 (words ++ word_of (take (at - begin) (drop begin line))) → IsCut line words clean begin at → IsCut line words' (clean && is_blank_byte (get_or line at 0)) (at + 1) (at + 1)
+pub IsCut-other : (line : List ℕ) (words words' : List (List ℕ)) (clean : Bool) (begin at : ℕ) → at < length line
+    → is_word_byte (get_or line at 0) ≡ false
+    → words' ≡ take 8 (words ++ word_of (take (at - begin) (drop begin line))) → IsCut line words clean begin at
+    → IsCut line words' (clean && is_blank_byte (get_or line at 0)) (at + 1) (at + 1)
 IsCut-other line words words' clean begin at within other added cut =
     record {
       after = omega arith;
@@ -116,7 +128,9 @@ IsCut-other line words words' clean begin at within other added cut =
     step = at_drop_more is_clean line at 0 within ∙ ap (λ b. b && is_clean (drop (at + 1) line)) (clean-other (get_or line at 0) other)
 
 -- at the end of the line, where the last run is added to the words
-pub words_of-cut : (line : List ℕ) (words words' : List (List ℕ)) (clean : Bool) (begin at : ℕ) → at ≡ length line → words' ≡ take 8 (words ++ word_of (take (length line - begin) (drop begin line))) → IsCut line words clean begin at → (words' ≡ take 8 (words_of line)) × (clean ≡ is_clean line)
+pub words_of-cut : (line : List ℕ) (words words' : List (List ℕ)) (clean : Bool) (begin at : ℕ) → at ≡ length line
+    → words' ≡ take 8 (words ++ word_of (take (length line - begin) (drop begin line)))
+    → IsCut line words clean begin at → (words' ≡ take 8 (words_of line)) × (clean ≡ is_clean line)
 words_of-cut line words words' clean begin at done added cut =
     let run : IsRun line begin (length line) = subst (IsRun line begin) done cut.run in
     let after : begin ≤ length line = omega (arith, cut.after) in
@@ -129,15 +143,18 @@ words_of-cut line words words' clean begin at done added cut =
 pub take-full : (words : List (List ℕ)) (more : List (List ℕ)) → length words ≡ 8 → words ≡ take 8 (words ++ more)
 take-full words more full = sym (take_at words more 8 full)
 
-pub take-empty : (words : List (List ℕ)) (piece : List ℕ) → length words ≤ 8 → length piece ≡ 0 → words ≡ take 8 (words ++ word_of piece)
+pub take-empty : (words : List (List ℕ)) (piece : List ℕ) → length words ≤ 8 → length piece ≡ 0
+    → words ≡ take 8 (words ++ word_of piece)
 take-empty words [] most empty = sym (ap (take 8) (append-nil words) ∙ take_all 8 words most)
 take-empty words (byte ∷ piece) most empty = absurd (omega arith)
 
-pub take-filled : (words : List (List ℕ)) (piece : List ℕ) → length words < 8 → 0 < length piece → words ++ piece ∷ [] ≡ take 8 (words ++ word_of piece)
+pub take-filled : (words : List (List ℕ)) (piece : List ℕ) → length words < 8 → 0 < length piece
+    → words ++ piece ∷ [] ≡ take 8 (words ++ word_of piece)
 take-filled words [] room filled = absurd (omega arith)
 take-filled words (byte ∷ piece) room filled = sym (take_all 8 (words ++ (byte ∷ piece) ∷ []) (omega (arith, length_push words (byte ∷ piece))))
 
-not_all : (p : ℕ → Bool) (bytes : List ℕ) (k : ℕ) → k < length bytes → p (get_or bytes k 0) ≡ false → list_all p bytes ≡ false
+not_all : (p : ℕ → Bool) (bytes : List ℕ) (k : ℕ) → k < length bytes → p (get_or bytes k 0) ≡ false
+    → list_all p bytes ≡ false
 not_all p [] k within fails = absurd (omega arith)
 not_all p (byte ∷ bytes) zero within fails = rw fails refl
 not_all p (byte ∷ bytes) (suc k) within fails = rw (not_all p bytes k (omega arith) fails) (and-false (p byte))
@@ -145,12 +162,14 @@ not_all p (byte ∷ bytes) (suc k) within fails = rw (not_all p bytes k (omega a
 pub word_byte-not_blank : (byte : ℕ) → is_word_byte byte ≡ true → is_blank_byte byte ≡ false
 word_byte-not_blank byte word = grind (arith, nat_tests)
 
-comment-first : (word : List ℕ) (words : List (List ℕ)) → 0 < length word → is_comment (word ∷ words) ≡ (get_or word 0 0 == 35)
+comment-first : (word : List ℕ) (words : List (List ℕ)) → 0 < length word
+    → is_comment (word ∷ words) ≡ (get_or word 0 0 == 35)
 comment-first [] words some = absurd (omega arith)
 comment-first (byte ∷ word) words some = refl
 
 -- a line whose first word is known is ignored where that word begins with `#`
-pub is_ignored-word : (line : List ℕ) (begin end : ℕ) → IsNextWord line 0 begin end → (get_or line begin 0 == 35) ≡ is_ignored line
+pub is_ignored-word : (line : List ℕ) (begin end : ℕ) → IsNextWord line 0 begin end
+    → (get_or line begin 0 == 35) ≡ is_ignored line
 is_ignored-word line begin end word =
     let size = end - begin in
     let first = take size (drop begin line) in

@@ -1,5 +1,6 @@
 -- For other crates too: the words of a place are read back as that place.
-use Rattle.std.proofs.Common.{ℕ, ◌≡◌, ◌+◌, ◌-◌, ◌<◌, ◌≤◌, true, false, nat_lt, List, [], ◌∷◌, Some, refl, subst, ◌∙◌, ap, arith, eq-eqb, length, get_or, map, option_map, inl, inr}
+use Rattle.std.proofs.Common.{ℕ, ◌≡◌, ◌+◌, ◌-◌, ◌<◌, ◌≤◌, true, false, nat_lt, List, [], ◌∷◌, Some, refl, subst, ◌∙◌}
+use Rattle.std.proofs.Common.{ap, arith, eq-eqb, length, get_or, map, option_map, inl, inr}
 use Rattle.std.proofs.lemmas.Bool.{cases_lt}
 use Rattle.std.proofs.lemmas.Bool.Decides.{nat_tests}
 use Rattle.std.proofs.lemmas.List.{get_or-map, length-map}
@@ -13,7 +14,8 @@ use Rattle.vms_base.specs.declared.kinds.ZoneKind.{ZoneKind}
 use Rattle.vms_base.specs.declared.kinds.ZoneKind.TheVariants.{Dma, Dma32, Normal, Movable}
 use Rattle.vms_base.specs.declared.kinds.ZoneName.{ZoneName}
 use Rattle.vms_base.specs.Names.{kind_names}
-use Rattle.vms_base.specs.Places.{IsLayout, IsNode, IsPlace, Shape, node_at, node_place, rank_of, zone_index, zone_place}
+use Rattle.vms_base.specs.Places.{IsLayout, IsNode, IsPlace, Shape, node_at, node_place, rank_of, zone_index}
+use Rattle.vms_base.specs.Places.{zone_place}
 use Rattle.vms_base.proofs.Ranks.{rises}
 use Rattle.vms_text.specs.PlaceNames.{kind_named, place_named, zone_named}
 use Rattle.vms_text.specs.Spelling.{entry, place_words}
@@ -64,19 +66,22 @@ pub record SpellsPlace (shape : Shape) (words : List (List ℕ)) (place : ℕ) :
   pub named : place_named shape node kind ≡ Some place
 
 module _ (shape : Shape) (layout : IsLayout shape) where
-  pub zone_place-own : (place : ℕ) (d : ZoneName) → place < length shape.zones → zone_place shape (get_or shape.zones place d) ≡ Some place
+  pub zone_place-own : (place : ℕ) (d : ZoneName) → place < length shape.zones
+      → zone_place shape (get_or shape.zones place d) ≡ Some place
   zone_place-own place d within =
       let name = get_or shape.zones place d in
       position-first (λ zone. rank_of zone == rank_of name) shape.zones place d within (eq-eqb (rank_of name) (rank_of name) refl)
       (λ k before. below-other (rank_of (get_or shape.zones k d)) (rank_of name) (rises rank_of shape.zones layout.zones_ascend k place d before within))
 
-  node_position : (index : ℕ) → index < length shape.nodes → position (λ node. node == get_or shape.nodes index 0) shape.nodes ≡ Some index
+  node_position : (index : ℕ) → index < length shape.nodes
+      → position (λ node. node == get_or shape.nodes index 0) shape.nodes ≡ Some index
   node_position index within =
       let node = get_or shape.nodes index 0 in
       position-first (λ other. other == node) shape.nodes index 0 within (eq-eqb node node refl)
       (λ k before. below-other (get_or shape.nodes k 0) node (AllPairs-from_increasing shape.nodes layout.nodes_ascend k index 0 before within))
 
-  pub node_place-own : (index : ℕ) → index < length shape.nodes → node_place shape (get_or shape.nodes index 0) ≡ Some (length shape.zones + index)
+  pub node_place-own : (index : ℕ) → index < length shape.nodes
+      → node_place shape (get_or shape.nodes index 0) ≡ Some (length shape.zones + index)
   node_place-own index within = ap (option_map (λ i. length shape.zones + i)) (node_position index within)
 
   pub node-most : (index : ℕ) → index < length shape.nodes → get_or shape.nodes index 0 ≤ 15
@@ -90,7 +95,8 @@ module _ (shape : Shape) (layout : IsLayout shape) where
       All-contains (λ node. node ≤ 15) shape.nodes (get_or shape.zones place d).node layout.nodes_most
       ((layout.nodes_named (get_or shape.zones place d).node).1 (subst (Contains (map node_of shape.zones)) read stands))
 
-  pub node_at-own : (place : ℕ) → IsNode shape place → node_at shape place ≡ Some (get_or shape.nodes (place - length shape.zones) 0)
+  pub node_at-own : (place : ℕ) → IsNode shape place
+      → node_at shape place ≡ Some (get_or shape.nodes (place - length shape.zones) 0)
   node_at-own place is =
       let after : nat_lt place (length shape.zones) ≡ false = grind (arith, nat_tests) in
       rw after (slice_get-get_or shape.nodes (place - length shape.zones) 0 (omega arith))
@@ -115,7 +121,8 @@ module _ (header : Header) (layout : IsLayout header.layout) where
   zone_named-own place d within =
       rw (kind_named-word (get_or header.layout.zones place d).kind) (zone_place-own header.layout layout place d within)
 
-  pub zone-spelled : (place : ℕ) → place < length header.layout.zones → SpellsPlace header.layout (place_words header place) place
+  pub zone-spelled : (place : ℕ) → place < length header.layout.zones
+      → SpellsPlace header.layout (place_words header place) place
   zone-spelled place within =
       let zone = get_or header.layout.zones place some_zone in
       record {
@@ -142,7 +149,8 @@ module _ (header : Header) (layout : IsLayout header.layout) where
       }
 
   -- the two words of a place name it
-  pub place-spelled : (place : ℕ) → IsPlace header.layout place → SpellsPlace header.layout (place_words header place) place
+  pub place-spelled : (place : ℕ) → IsPlace header.layout place
+      → SpellsPlace header.layout (place_words header place) place
   place-spelled place is =
       elim (cases_lt place (length header.layout.zones)) [
         | inl within ↦ zone-spelled place within

@@ -1,5 +1,6 @@
 -- For other crates too: where the first element that passes a test stands.
-use Rattle.std.proofs.Common.{ℕ, ◌≡◌, ◌<◌, ◌≤◌, ◌+◌, Bool, false, cond, not, List, [], ◌∷◌, Option, Some, None, refl, sym, ◌∙◌, ap, arith, bytes_eq, length, map, position}
+use Rattle.std.proofs.Common.{ℕ, ◌≡◌, ◌<◌, ◌≤◌, ◌+◌, Bool, false, cond, not, List, [], ◌∷◌, Option, Some, None, refl}
+use Rattle.std.proofs.Common.{sym, ◌∙◌, ap, arith, bytes_eq, length, map, position}
 use Rattle.std.proofs.lemmas.Bool.{false≢true}
 use Rattle.std.proofs.lemmas.Bool.Decides.{nat_tests}
 use Rattle.std.proofs.lemmas.List.{length-map}
@@ -9,11 +10,13 @@ use Rattle.vms_base.specs.declared.headers.ItemDecl.{ItemDecl}
 use Rattle.vms_base.specs.Headers.{declared_names}
 use Rattle.vms_text.specs.PlaceNames.{declared_items}
 
-position_or_len-map : {X Y : Type 0} (p : Y → Bool) (f : X → Y) (xs : List X) → position_or_len p (map f xs) ≡ position_or_len (λ x. p (f x)) xs
+position_or_len-map : {X Y : Type 0} (p : Y → Bool) (f : X → Y) (xs : List X)
+    → position_or_len p (map f xs) ≡ position_or_len (λ x. p (f x)) xs
 position_or_len-map p f [] = refl
 position_or_len-map p f (x ∷ xs) = ap (λ n. cond (not (p (f x))) (1 + n) 0) (position_or_len-map p f xs)
 
-pub position-map : {X Y : Type 0} (p : Y → Bool) (f : X → Y) (xs : List X) → position p (map f xs) ≡ position (λ x. p (f x)) xs
+pub position-map : {X Y : Type 0} (p : Y → Bool) (f : X → Y) (xs : List X)
+    → position p (map f xs) ≡ position (λ x. p (f x)) xs
 position-map p f xs = rw (position_or_len-map p f xs, length-map xs f) refl
 
 -- the first that passes is within
@@ -26,7 +29,8 @@ length-filter-le p [] = omega arith
 length-filter-le p (x ∷ xs) = let rest = length-filter-le p xs in grind (arith, nat_tests)
 
 -- a declared item of a class stands within all of them
-pub declared_position-lt : (node : Bool) (items : List ItemDecl) (word : List ℕ) (index : ℕ) → position (bytes_eq word) (declared_names node items) ≡ Some index → index < length items
+pub declared_position-lt : (node : Bool) (items : List ItemDecl) (word : List ℕ) (index : ℕ)
+    → position (bytes_eq word) (declared_names node items) ≡ Some index → index < length items
 declared_position-lt node items word index is =
     let kept = length-filter-le (λ item. cond node item.node (not item.node)) items in
     let named = length-map (declared_items node items) (λ item. item.name) in

@@ -1,7 +1,10 @@
 -- The first word of a line.
-use Rattle.std.proofs.Common.{ℕ, ◌≡◌, ◌<◌, ◌≤◌, ◌+◌, ◌-◌, Bool, true, false, not, List, [], ◌∷◌, ◌++◌, ◌⊎◌, inl, inr, None, Some, refl, sym, subst, ◌∙◌, ap, arith, append-nil, take, drop, length, get_or, position}
+use Rattle.std.proofs.Common.{ℕ, ◌≡◌, ◌<◌, ◌≤◌, ◌+◌, ◌-◌, Bool, true, false, not, List, [], ◌∷◌, ◌++◌, ◌⊎◌, inl, inr}
+use Rattle.std.proofs.Common.{None, Some, refl, sym, subst, ◌∙◌, ap, arith, append-nil, take, drop, length, get_or}
+use Rattle.std.proofs.Common.{position}
 use Rattle.std.proofs.lemmas.Bool.Decides.{nat_tests}
-use Rattle.std.proofs.lemmas.List.{at_drop_all, drop-drop, drop_more, get_or-drop, get_or-take, length-drop, length-take-le, take-append-drop, take_all}
+use Rattle.std.proofs.lemmas.List.{at_drop_all, drop-drop, drop_more, get_or-drop, get_or-take, length-drop}
+use Rattle.std.proofs.lemmas.List.{length-take-le, take-append-drop, take_all}
 use Rattle.std.proofs.lemmas.List.Sums.{fails_before_first, passes_at_first, prefix_len-le-length}
 use Rattle.std.specs.List.{All, position_or_len}
 use Rattle.vms_text.specs.Words.{IsNextWord, is_word_byte, words_of}
@@ -20,7 +23,8 @@ pub record BeginsWord (bytes : List ℕ) (size : ℕ) : Type 0 where
   pub ends : size < length bytes → is_word_byte (get_or bytes size 0) ≡ false
   pub words : words_of bytes ≡ take size bytes ∷ words_of (drop size bytes)
 
-filled : (bytes : List ℕ) → 0 < length bytes → is_word_byte (get_or bytes 0 0) ≡ true → 0 < position_or_len is_other bytes
+filled : (bytes : List ℕ) → 0 < length bytes → is_word_byte (get_or bytes 0 0) ≡ true
+    → 0 < position_or_len is_other bytes
 filled [] some first = absurd (omega arith)
 filled (byte ∷ bytes) some first = grind (arith, nat_tests)
 
@@ -30,10 +34,14 @@ run_bytes bytes = λ k d below.
     let short : k < size = omega (arith, length-take-le size bytes (prefix_len-le-length (λ byte. not (is_other byte)) bytes), below) in
     subst (λ byte. is_word_byte byte ≡ true) (sym (get_or-take size bytes k d short)) (not-false (is_word_byte (get_or bytes k d)) (fails_before_first is_other bytes k d short))
 
-ends : (bytes : List ℕ) → position_or_len is_other bytes < length bytes → is_word_byte (get_or bytes (position_or_len is_other bytes) 0) ≡ false
+ends : (bytes : List ℕ) → position_or_len is_other bytes < length bytes
+    → is_word_byte (get_or bytes (position_or_len is_other bytes) 0) ≡ false
 ends bytes more = other_byte (is_word_byte (get_or bytes (position_or_len is_other bytes) 0)) (passes_at_first is_other bytes 0 more)
 
-run_words : (bytes : List ℕ) (size : ℕ) → 0 < size → size ≤ length bytes → All (λ byte. is_word_byte byte ≡ true) (take size bytes) → (size < length bytes → is_word_byte (get_or bytes size 0) ≡ false) → (size < length bytes) ⊎ (length bytes ≤ size) → words_of bytes ≡ take size bytes ∷ words_of (drop size bytes)
+run_words : (bytes : List ℕ) (size : ℕ) → 0 < size → size ≤ length bytes
+    → All (λ byte. is_word_byte byte ≡ true) (take size bytes)
+    → (size < length bytes → is_word_byte (get_or bytes size 0) ≡ false)
+    → (size < length bytes) ⊎ (length bytes ≤ size) → words_of bytes ≡ take size bytes ∷ words_of (drop size bytes)
 run_words bytes size some within all end (inl more) =
     let byte = get_or bytes size 0 in
     let rest = drop (size + 1) bytes in
@@ -51,7 +59,8 @@ run_words bytes size some within all end (inr none) =
 less_or_not : (m n : ℕ) → (m < n) ⊎ (n ≤ m)
 less_or_not m n = grind arith
 
-BeginsWord-run : (bytes : List ℕ) (size : ℕ) → size ≡ position_or_len is_other bytes → 0 < length bytes → is_word_byte (get_or bytes 0 0) ≡ true → BeginsWord bytes size
+BeginsWord-run : (bytes : List ℕ) (size : ℕ) → size ≡ position_or_len is_other bytes → 0 < length bytes
+    → is_word_byte (get_or bytes 0 0) ≡ true → BeginsWord bytes size
 BeginsWord-run bytes size is some first =
     let run = position_or_len is_other bytes in
     let within = prefix_len-le-length (λ byte. not (is_other byte)) bytes in
@@ -68,12 +77,16 @@ pub words_of-none : (bytes : List ℕ) → position is_word_byte bytes ≡ None 
 words_of-none bytes none =
     ap words_of (sym (append-nil bytes)) ∙ words_of-blanks bytes [] (position-none is_word_byte bytes none)
 
-words_of-begin : (bytes : List ℕ) (skipped : ℕ) → position is_word_byte bytes ≡ Some skipped → words_of bytes ≡ words_of (drop skipped bytes)
+words_of-begin : (bytes : List ℕ) (skipped : ℕ) → position is_word_byte bytes ≡ Some skipped
+    → words_of bytes ≡ words_of (drop skipped bytes)
 words_of-begin bytes skipped some =
     ap words_of (sym (take-append-drop skipped bytes)) ∙ words_of-blanks (take skipped bytes) (drop skipped bytes) (position-before is_word_byte bytes skipped some)
 
 -- the word that begins at the first byte of a word, and ends before the next byte that isn't one
-pub IsNextWord-found : (line : List ℕ) (from skipped size : ℕ) → from ≤ length line → position is_word_byte (drop from line) ≡ Some skipped → size ≡ position_or_len is_other (drop (from + skipped) line) → IsNextWord line from (from + skipped) (from + skipped + size)
+pub IsNextWord-found : (line : List ℕ) (from skipped size : ℕ) → from ≤ length line
+    → position is_word_byte (drop from line) ≡ Some skipped
+    → size ≡ position_or_len is_other (drop (from + skipped) line)
+    → IsNextWord line from (from + skipped) (from + skipped + size)
 IsNextWord-found line from skipped size inside some is =
     let rest = drop from line in
     let begin = from + skipped in

@@ -1,5 +1,6 @@
 -- For other crates too: what is spelled of a few short words is one line, and is read as these words.
-use Rattle.std.proofs.Common.{ℕ, ◌≡◌, ◌≢◌, ◌*◌, ◌<◌, ◌≤◌, ◌&&◌, ◌||◌, Bool, true, false, not, nat_le, nat_lt, List, [], ◌∷◌, ◌++◌, refl, subst, ◌∙◌, ap, arith, length, get_or, length-append}
+use Rattle.std.proofs.Common.{ℕ, ◌≡◌, ◌≢◌, ◌*◌, ◌<◌, ◌≤◌, ◌&&◌, ◌||◌, Bool, true, false, not, nat_le, nat_lt, List}
+use Rattle.std.proofs.Common.{[], ◌∷◌, ◌++◌, refl, subst, ◌∙◌, ap, arith, length, get_or, length-append}
 use Rattle.std.proofs.lemmas.Bool.{false≢true}
 use Rattle.std.proofs.lemmas.Bool.Decides.{nat_tests}
 use Rattle.std.proofs.lemmas.List.Folds.{list_all-append}
@@ -40,7 +41,8 @@ not_empty : (word : List ℕ) → 0 < length word → is_empty word ≡ false
 not_empty [] filled = absurd (omega arith)
 not_empty (byte ∷ word) filled = refl
 
-pub is_short-from : (word : List ℕ) → 0 < length word → list_all is_word_byte word ≡ true → length word ≤ 21 → is_short word ≡ true
+pub is_short-from : (word : List ℕ) → 0 < length word → list_all is_word_byte word ≡ true → length word ≤ 21
+    → is_short word ≡ true
 is_short-from word filled bytes most =
     let small : nat_le (length word) 21 ≡ true = grind (arith, nat_tests) in
     rw (not_empty word filled, bytes, small) refl
@@ -61,7 +63,8 @@ is_clean-word (byte ∷ word) bytes =
     let rest = is_clean-word word (and_right (is_word_byte byte) (list_all is_word_byte word) bytes) in
     ap (λ b. b && is_clean word) first ∙ rest
 
-clean_both : (before after : List ℕ) → is_clean before ≡ true → is_clean after ≡ true → is_clean (before ++ after) ≡ true
+clean_both : (before after : List ℕ) → is_clean before ≡ true → is_clean after ≡ true
+    → is_clean (before ++ after) ≡ true
 clean_both before after first second =
     list_all-append (λ byte. not (is_wrong_byte byte)) before after ∙ ap (λ b. b && is_clean after) first ∙ second
 

@@ -1,5 +1,6 @@
 -- For other crates too: numbers are read back from their digits.
-use Rattle.std.proofs.Common.{ℕ, suc, ◌≡◌, ◌<◌, ◌≤◌, ◌^◌, ◌-◌, ◌&&◌, true, List, [], ◌∷◌, ℤ, pos, negsuc, Some, refl, ◌∙◌, ap, arith, w64, length}
+use Rattle.std.proofs.Common.{ℕ, suc, ◌≡◌, ◌<◌, ◌≤◌, ◌^◌, ◌-◌, ◌&&◌, true, List, [], ◌∷◌, ℤ, pos, negsuc, Some, refl}
+use Rattle.std.proofs.Common.{◌∙◌, ap, arith, w64, length}
 use Rattle.std.proofs.lemmas.Bool.Decides.{nat_tests}
 use Rattle.std.proofs.lemmas.Fmt.{decimal_nonempty, length-decimal-le}
 use Rattle.std.proofs.lemmas.Int.{ints}

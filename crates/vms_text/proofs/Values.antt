@@ -1,5 +1,6 @@
 -- For other crates too: numbers that words spell lie in their ranges.
-use Rattle.std.proofs.Common.{ℕ, ◌≡◌, ◌≤◌, ◌^◌, ◌-◌, ◌&&◌, ◌==◌, Bool, true, false, cond, List, [], ◌∷◌, Option, Some, None, refl, arith, nat_le, ℤ, pos, negsuc, suc, zero, subst, option_map, w64}
+use Rattle.std.proofs.Common.{ℕ, ◌≡◌, ◌≤◌, ◌^◌, ◌-◌, ◌&&◌, ◌==◌, Bool, true, false, cond, List, [], ◌∷◌, Option, Some}
+use Rattle.std.proofs.Common.{None, refl, arith, nat_le, ℤ, pos, negsuc, suc, zero, subst, option_map, w64}
 use Rattle.std.proofs.lemmas.Bool.Decides.{nat_tests}
 use Rattle.std.proofs.lemmas.Int.{ints}
 use Rattle.std.specs.Int.RustNames.{FitsSigned}
@@ -34,7 +35,8 @@ pub record IsWithin (least most : ℕ) (word : List ℕ) (n : ℕ) : Type 0 wher
   pub least_is : least ≤ n
   pub most_is : n ≤ most
 
-pub number_within-is : (least most : ℕ) (word : List ℕ) (n : ℕ) → number_within least most word ≡ Some n → IsWithin least most word n
+pub number_within-is : (least most : ℕ) (word : List ℕ) (n : ℕ) → number_within least most word ≡ Some n
+    → IsWithin least most word n
 number_within-is least most word n some =
     let value = digits_value 10 word in
     let parts = if_some (is_numeral word && (nat_le least value && nat_le value most)) value n some in
@@ -50,14 +52,16 @@ number_within-is least most word n some =
 pub number_within-le : (least most : ℕ) (word : List ℕ) (n : ℕ) → number_within least most word ≡ Some n → n ≤ most
 number_within-le least most word n some = (number_within-is least most word n some).most_is
 
-negative_of-fits : (size : Option ℕ) (z : ℤ) → ((n : ℕ) → size ≡ Some n → n ≤ 2 ^ 63) → negative_of size ≡ Some z → FitsSigned w64 z
+negative_of-fits : (size : Option ℕ) (z : ℤ) → ((n : ℕ) → size ≡ Some n → n ≤ 2 ^ 63) → negative_of size ≡ Some z
+    → FitsSigned w64 z
 negative_of-fits None z bound some = absurd cc
 negative_of-fits (Some zero) z bound some = absurd cc
 negative_of-fits (Some (suc n)) z bound some =
     let is : negsuc n ≡ z = cc in
     subst (FitsSigned w64) is (omega (arith, ints, bound (suc n) refl))
 
-positive-fits : (size : Option ℕ) (z : ℤ) → ((n : ℕ) → size ≡ Some n → n ≤ 2 ^ 63 - 1) → option_map pos size ≡ Some z → FitsSigned w64 z
+positive-fits : (size : Option ℕ) (z : ℤ) → ((n : ℕ) → size ≡ Some n → n ≤ 2 ^ 63 - 1) → option_map pos size ≡ Some z
+    → FitsSigned w64 z
 positive-fits None z bound some = absurd cc
 positive-fits (Some n) z bound some =
     let is : pos n ≡ z = cc in

@@ -1,5 +1,6 @@
 -- Numbers as words spell them. Each number has one spelling.
-use Rattle.std.specs.Prelude.{ℕ, suc, ◌^◌, ◌<◌, ◌≡◌, ◌↔◌, ◌==◌, nat_le, ◌&&◌, Bool, false, not, List, [], ◌∷◌, ℤ, pos, negsuc, if◌then◌else◌, ◌-◌, Option, Some, None, option_map}
+use Rattle.std.specs.Prelude.{ℕ, suc, ◌^◌, ◌<◌, ◌≡◌, ◌↔◌, ◌==◌, nat_le, ◌&&◌, Bool, false, not, List, [], ◌∷◌, ℤ, pos}
+use Rattle.std.specs.Prelude.{negsuc, if◌then◌else◌, ◌-◌, Option, Some, None, option_map}
 use Rattle.std.specs.Fmt.{decimal, signed_decimal}
 use Rattle.std.specs.Int.{w64}
 use Rattle.std.specs.Int.RustNames.{FitsSigned}

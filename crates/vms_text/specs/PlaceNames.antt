@@ -1,5 +1,6 @@
 -- The names of kinds, places and items, as the words of a line give them.
-use Rattle.std.specs.Prelude.{ℕ, ◌-◌, nat_lt, Bool, false, not, cond, if◌then◌else◌, List, length, filter, codes, bytes_eq, position, slice_get, Option, Some, None, option_and_then}
+use Rattle.std.specs.Prelude.{ℕ, ◌-◌, nat_lt, Bool, false, not, cond, if◌then◌else◌, List, length, filter, codes}
+use Rattle.std.specs.Prelude.{bytes_eq, position, slice_get, Option, Some, None, option_and_then}
 use Rattle.vms_base.specs.declared.headers.Header.{Header}
 use Rattle.vms_base.specs.declared.headers.ItemDecl.{ItemDecl}
 use Rattle.vms_base.specs.declared.kinds.ZoneKind.{ZoneKind}

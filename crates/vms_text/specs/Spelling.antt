@@ -1,5 +1,6 @@
 -- A line of words, and the words of places and counters.
-use Rattle.std.specs.Prelude.{ℕ, nat_lt, if◌then◌else◌, List, [], ◌∷◌, ◌++◌, length, flat_map, codes, decimal, slice_get, option_to_list}
+use Rattle.std.specs.Prelude.{ℕ, nat_lt, if◌then◌else◌, List, [], ◌∷◌, ◌++◌, length, flat_map, codes, decimal}
+use Rattle.std.specs.Prelude.{slice_get, option_to_list}
 use Rattle.std.specs.List.{join_with_byte}
 use Rattle.vms_base.specs.declared.headers.Header.{Header}
 use Rattle.vms_base.specs.declared.kinds.ZoneName.{ZoneName}

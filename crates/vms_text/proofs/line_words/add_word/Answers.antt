@@ -3,7 +3,8 @@ use Rattle.std.proofs.lemmas.List.{length-map, map_push}
 use Rattle.std.proofs.lemmas.Bool.Decides.{nat_tests}
 use Rattle.vms_text.proofs.Pieces.{take-empty, take-filled, take-full}
 use Rattle.vms_text.proofs.line_words.add_word.Goals as goal
-use Rattle.vms_text.proofs.line_words.add_word.Goals.{else-not-is_full-via-then-not-is_full+else-not-is_empty, else-not-is_full-via-else-not-is_full}
+use Rattle.vms_text.proofs.line_words.add_word.Goals.{else-not-is_full-via-then-not-is_full+else-not-is_empty}
+use Rattle.vms_text.proofs.line_words.add_word.Goals.{else-not-is_full-via-else-not-is_full}
 
 pub returns-then-not-is_empty : goal.returns-then-not-is_empty
 returns-then-not-is_empty c =

@@ -5,7 +5,8 @@ use Rattle.vms_base.specs.Names.{kind_names}
 use Rattle.vms_base.specs.Places.{zone_index}
 use Rattle.vms_text.proofs.place_names.is_kind.Goals as goal
 
-named : (kind : ZoneKind) (name : List ℕ) → slice_get kind_names (zone_index kind) ≡ Some name → name ≡ slice_index_or kind_names (zone_index kind) []
+named : (kind : ZoneKind) (name : List ℕ) → slice_get kind_names (zone_index kind) ≡ Some name
+    → name ≡ slice_index_or kind_names (zone_index kind) []
 named Dma name is = cc
 named Dma32 name is = cc
 named Normal name is = cc

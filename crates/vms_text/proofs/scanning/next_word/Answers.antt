@@ -1,4 +1,5 @@
-use Rattle.std.proofs.Common.{ℕ, List, Option, ◌≤◌, ◌-◌, take, refl, ◌≡◌, ◌+◌, ◌∙◌, Some, ap, sym, arith, drop, length, not, position}
+use Rattle.std.proofs.Common.{ℕ, List, Option, ◌≤◌, ◌-◌, take, refl, ◌≡◌, ◌+◌, ◌∙◌, Some, ap, sym, arith, drop}
+use Rattle.std.proofs.Common.{length, not, position}
 use Rattle.std.proofs.lemmas.Grind.{common_steps}
 use Rattle.std.proofs.lemmas.List.{take_rest}
 use Rattle.std.specs.List.{position_or_len}
