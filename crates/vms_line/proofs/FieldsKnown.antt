@@ -77,7 +77,8 @@ limit_field-known word = if_any (amount_field word) within_limit (λ limit. unsi
 
 pub cpu_field-known : (header : Header) (word : List ℕ)
     → IfOk (cpu_field header word) (λ cpu. IsCpu header.layout cpu.number)
-cpu_field-known header word = if_any (number_field word) (known_cpu header) (λ cpu. IsCpu header.layout cpu.number) (λ n.
+cpu_field-known header word =
+    if_any (number_field word) (known_cpu header) (λ cpu. IsCpu header.layout cpu.number) (λ n.
     if_cond (nat_lt n header.layout.cpus) (Ok (record { number = n })) (Err UnknownLane) (λ cpu. IsCpu header.layout cpu.number) (λ below. grind (arith, nat_tests)) (λ past. tt))
 
 known_place-known : (place : Option ℕ) (P : ℕ → Type 0) → IfSome place P
@@ -86,7 +87,8 @@ known_place-known None P holds = tt
 known_place-known (Some place) P holds = holds
 
 node_place-known : (shape : Shape) (node : ℕ) → IfSome (node_place shape node) (IsNode shape)
-node_place-known shape node = by (position (λ one. one == node) shape.nodes) (position-known (λ one. one == node) shape.nodes)
+node_place-known shape node =
+    by (position (λ one. one == node) shape.nodes) (position-known (λ one. one == node) shape.nodes)
   where
     by : (found : Option ℕ) → IfSome found (λ i. i < length shape.nodes)
         → IfSome (option_map (λ index. length shape.zones + index) found) (IsNode shape)
@@ -110,8 +112,10 @@ place_named-known : (shape : Shape) (node : ℕ) (word : List ℕ) → IfSome (p
 place_named-known shape node word = by (bytes_eq word (110 ∷ 111 ∷ 100 ∷ 101 ∷ []))
   where
     by : (b : Bool) → IfSome (cond b (node_place shape node) (zone_named shape node word)) (IsPlace shape)
-    by true = if_some_weaker (node_place shape node) (IsNode shape) (IsPlace shape) (λ place holds. holds.1) (node_place-known shape node)
-    by false = if_some_weaker (zone_named shape node word) (IsZone shape) (IsPlace shape) (λ place holds. omega (arith, holds)) (zone_named-known shape node word)
+    by true =
+        if_some_weaker (node_place shape node) (IsNode shape) (IsPlace shape) (λ place holds. holds.1) (node_place-known shape node)
+    by false =
+        if_some_weaker (zone_named shape node word) (IsZone shape) (IsPlace shape) (λ place holds. omega (arith, holds)) (zone_named-known shape node word)
 
 pub place_field-known : (header : Header) (node kind : List ℕ)
     → IfOk (place_field header node kind) (λ place. IsPlace header.layout place.number)
@@ -135,10 +139,14 @@ class_names-most header node is = by node is.is_layout.positions
   where
     by : (of_node : Bool) → (header.layout.positions ≡ 8) ⊎ (header.layout.positions ≡ 16)
         → length (class_names of_node header.items) ≤ header.layout.positions
-    by true (inl narrow) = let none = ap (λ items. length (class_names true items)) (is.items_wide narrow) in omega (arith, none, narrow)
-    by false (inl narrow) = let none = ap (λ items. length (class_names false items)) (is.items_wide narrow) in omega (arith, none, narrow)
-    by true (inr wide) = omega (arith, length-append node_items (declared_names true header.items), is.node_items_most, wide)
-    by false (inr wide) = omega (arith, length-append zone_items (declared_names false header.items), is.zone_items_most, wide)
+    by true (inl narrow) =
+        let none = ap (λ items. length (class_names true items)) (is.items_wide narrow) in omega (arith, none, narrow)
+    by false (inl narrow) =
+        let none = ap (λ items. length (class_names false items)) (is.items_wide narrow) in omega (arith, none, narrow)
+    by true (inr wide) =
+        omega (arith, length-append node_items (declared_names true header.items), is.node_items_most, wide)
+    by false (inr wide) =
+        omega (arith, length-append zone_items (declared_names false header.items), is.zone_items_most, wide)
 
 counter_at-known : (header : Header) (place at : ℕ) → IsHeader header → IsPlace header.layout place
     → at < length (class_names (is_node_place header.layout place) header.items)
@@ -156,7 +164,8 @@ counter_at-known header place at is known below =
 item_field-known : (header : Header) (place : PlaceId) (word : List ℕ) → IsHeader header
     → IsPlace header.layout place.number
     → IfOk (item_field header place word) (λ counter. IsKnown header counter.number)
-item_field-known header place word is known = by (item_named header.layout header.items place.number word) (position-known (bytes_eq word) (class_names (is_node_place header.layout place.number) header.items))
+item_field-known header place word is known =
+    by (item_named header.layout header.items place.number word) (position-known (bytes_eq word) (class_names (is_node_place header.layout place.number) header.items))
   where
     by : (found : Option ℕ) → IfSome found (λ i. i < length (class_names (is_node_place header.layout place.number) header.items)) → IfOk {T = CounterId} (ok_or (option_map (λ at. record { number = counter_at header.layout place.number at }) found) UnknownItem) (λ counter. IsKnown header counter.number)
     by None holds = tt
@@ -177,18 +186,21 @@ event_field-known word = by (position (bytes_eq word) event_names) (position-kno
 
 pub pcpu_field-known : (header : Header) (word : List ℕ)
     → IfOk (pcpu_field header word) (λ counter. IsDeclared header counter.number)
-pcpu_field-known header word = by (position (bytes_eq word) (map (λ decl. decl.name) header.counters)) (position-known (bytes_eq word) (map (λ decl. decl.name) header.counters))
+pcpu_field-known header word =
+    by (position (bytes_eq word) (map (λ decl. decl.name) header.counters)) (position-known (bytes_eq word) (map (λ decl. decl.name) header.counters))
   where
     by : (found : Option ℕ) → IfSome found (λ i. i < length (map (λ decl. decl.name) header.counters)) → IfOk {T = PcpuId} (ok_or (option_map (λ n. record { number = n }) found) UnknownCounter) (λ counter. IsDeclared header counter.number)
     by None holds = tt
     by (Some n) holds = omega (arith, holds, length-map header.counters (λ decl. decl.name))
 
 known_value : (header : Header) (item : ℕ) (b : Bool) → nat_lt item header.layout.positions ≡ b → MatchBool b (item < length (class_names false header.items)) (item - header.layout.positions < length (class_names true header.items)) → IsKnownValue header item
-known_value header item b is holds = subst (λ one. MatchBool one (item < length (class_names false header.items)) (item - header.layout.positions < length (class_names true header.items))) (sym is) holds
+known_value header item b is holds =
+    subst (λ one. MatchBool one (item < length (class_names false header.items)) (item - header.layout.positions < length (class_names true header.items))) (sym is) holds
 
 pub system_field-known : (header : Header) (word : List ℕ) → IsHeader header
     → IfOk (system_field header word) (λ item. IsKnownValue header item.number)
-system_field-known header word is = zone (position (bytes_eq word) (class_names false header.items)) (position-known (bytes_eq word) (class_names false header.items))
+system_field-known header word is =
+    zone (position (bytes_eq word) (class_names false header.items)) (position-known (bytes_eq word) (class_names false header.items))
   where
     node : (found : Option ℕ) → IfSome found (λ i. i < length (class_names true header.items))
         → IfOk (node_value header found) (λ item. IsKnownValue header item.number)
@@ -199,25 +211,30 @@ system_field-known header word is = zone (position (bytes_eq word) (class_names 
 
     zone : (found : Option ℕ) → IfSome found (λ i. i < length (class_names false header.items))
         → IfOk (system_value header found word) (λ item. IsKnownValue header item.number)
-    zone None holds = node (position (bytes_eq word) (class_names true header.items)) (position-known (bytes_eq word) (class_names true header.items))
+    zone None holds =
+        node (position (bytes_eq word) (class_names true header.items)) (position-known (bytes_eq word) (class_names true header.items))
     zone (Some at) holds =
         let most = class_names-most header false is in
         known_value header at true (grind (arith, nat_tests)) holds
 
 -- an amount in pages has 64 bits, and so has its spelling
 pub in_pages-known : (header : Header) (counter : CounterId) (amount : ℤ) → FitsSigned w64 amount → IfOk (in_pages header counter amount) (λ pages. FitsSigned w64 pages × FitsSigned w64 (spelled_amount header counter.number pages))
-in_pages-known header counter amount fits = by (is_in_bytes header counter.number) refl (unsigned_abs amount % 4096 == 0) refl
+in_pages-known header counter amount fits =
+    by (is_in_bytes header counter.number) refl (unsigned_abs amount % 4096 == 0) refl
   where
     by : (bytes : Bool) → is_in_bytes header counter.number ≡ bytes → (whole : Bool) → (unsigned_abs amount % 4096 == 0) ≡ whole → IfOk (cond bytes (cond whole (Ok (int_div amount (pos 4096))) (Err NotPages)) (Ok amount)) (λ pages. FitsSigned w64 pages × FitsSigned w64 (spelled_amount header counter.number pages))
     by true bytes true whole =
         (pages-fit amount fits, subst (FitsSigned w64) (sym (ap (λ b. cond b (int_div amount (pos 4096) *ℤ pos 4096) (int_div amount (pos 4096))) bytes ∙ pages-bytes amount whole)) fits)
     by true bytes false whole = tt
-    by false bytes whole which = (fits, subst (FitsSigned w64) (sym (ap (λ b. cond b (amount *ℤ pos 4096) amount) bytes)) fits)
+    by false bytes whole which =
+        (fits, subst (FitsSigned w64) (sym (ap (λ b. cond b (amount *ℤ pos 4096) amount) bytes)) fits)
 
 pub page_counter-known : (header : Header) (counter : CounterId) → IsKnown header counter.number
     → IfOk (page_counter header counter) (λ one. IsKnown header one.number × (is_in_bytes header one.number ≡ false))
-page_counter-known header counter known = if_cond (is_in_bytes header counter.number) (Err NotPages) (Ok counter) (λ one. IsKnown header one.number × (is_in_bytes header one.number ≡ false)) (λ bytes. tt) (λ pages. (known, pages))
+page_counter-known header counter known =
+    if_cond (is_in_bytes header counter.number) (Err NotPages) (Ok counter) (λ one. IsKnown header one.number × (is_in_bytes header one.number ≡ false)) (λ bytes. tt) (λ pages. (known, pages))
 
 pub index_under-known : (header : Header) (node : Option ℕ) (index : ℕ) → IfOk (index_under header node index) (λ one. (one ≡ index) × IfSome node (λ number. IsTrue (has_zone_up_to header number one)))
 index_under-known header None index = tt
-index_under-known header (Some node) index = if_cond (has_zone_up_to header node index) (Ok index) (Err UnknownPlace) (λ one. (one ≡ index) × IsTrue (has_zone_up_to header node one)) (λ has. (refl, has)) (λ lacks. tt)
+index_under-known header (Some node) index =
+    if_cond (has_zone_up_to header node index) (Ok index) (Err UnknownPlace) (λ one. (one ≡ index) × IsTrue (has_zone_up_to header node one)) (λ has. (refl, has)) (λ lacks. tt)

@@ -61,7 +61,8 @@ pub record SpellsCounter (header : Header) (counter : ℕ) : Type 0 where
 
 -- numbers
 pub number_up_to-spelled : (most n : ℕ) → n < 2 ^ 64 → n ≤ most → number_up_to most (decimal n) ≡ Ok n
-number_up_to-spelled most n fits small = ap (λ found. ok_or found BadNumber) (number_within-decimal 0 most n fits (omega arith) small)
+number_up_to-spelled most n fits small =
+    ap (λ found. ok_or found BadNumber) (number_within-decimal 0 most n fits (omega arith) small)
 
 pub amount_field-spelled : (z : ℤ) → FitsSigned w64 z → amount_field (signed_decimal z) ≡ Ok z
 amount_field-spelled z fits = ap (λ found. ok_or found BadNumber) (signed_of-spelled z fits)
@@ -106,7 +107,8 @@ module _ (header : Header) (is : IsHeader header) where
       let names = map name_of header.counters in
       let within : counter < length names = omega (arith, length-map header.counters name_of) in
       let found = position-name names counter is.counters_differ within in
-      let shorts = All-map (λ name. is_short name ≡ true) name_of header.counters (All-weaker IsValidDecl (λ decl. is_short decl.name ≡ true) (λ decl valid. name-short decl.name valid.form) header.counters is.counters_valid) in
+      let shorts =
+      All-map (λ name. is_short name ≡ true) name_of header.counters (All-weaker IsValidDecl (λ decl. is_short decl.name ≡ true) (λ decl valid. name-short decl.name valid.form) header.counters is.counters_valid) in
       record {
         word = get_or names counter [];
         words_are = entry-within names counter [] within;
@@ -131,7 +133,8 @@ module _ (header : Header) (is : IsHeader header) where
         node_short = decimal-short spells.node (omega arith);
         kind_short = spells.short;
         item_short = item_word-short header is node n known.1;
-        read = rw (place_field-spelled header is.is_layout place spells, item_word-found header is node n known.1, counter_at-whole header.layout is.is_layout counter) refl;
+        read =
+            rw (place_field-spelled header is.is_layout place spells, item_word-found header is node n known.1, counter_at-whole header.layout is.is_layout counter) refl;
       }
 
   -- system-wide values

@@ -115,7 +115,9 @@ module _ (header : Header) (is : IsHeader header) where
         words_are = words ∙ ap (λ more. (form_of verb).word ∷ more) spells.words_are;
         few = omega arith;
         short = three_short counter.number spells [] refl;
-        read = ap (λ one. read_fields header one (spells.node ∷ spells.kind ∷ spells.item ∷ [])) fields ∙ rw spells.read refl;
+        read =
+            ap (λ one. read_fields header one (spells.node ∷ spells.kind ∷ spells.item ∷ [])) fields
+            ∙ rw spells.read refl;
       }
 
   paged_says : (verb : Verb) (make : CounterId → Act) (counter : CounterId) → (form_of verb).fields ≡ Paged make
@@ -128,7 +130,9 @@ module _ (header : Header) (is : IsHeader header) where
         words_are = words ∙ ap (λ more. (form_of verb).word ∷ more) spells.words_are;
         few = omega arith;
         short = three_short counter.number spells [] refl;
-        read = ap (λ one. read_fields header one (spells.node ∷ spells.kind ∷ spells.item ∷ [])) fields ∙ rw (spells.read, pages) refl;
+        read =
+            ap (λ one. read_fields header one (spells.node ∷ spells.kind ∷ spells.item ∷ [])) fields
+            ∙ rw (spells.read, pages) refl;
       }
 
   name_says : (verb : Verb) (make : PcpuId → Act) (counter : PcpuId) → (form_of verb).fields ≡ Name make
@@ -152,7 +156,9 @@ module _ (header : Header) (is : IsHeader header) where
     words_are = words;
     few = omega arith;
     short = short-cons (decimal cpu.number) [] (decimal-short cpu.number (cpu-fits header is cpu.number within)) refl;
-    read = ap (λ one. read_fields header one (decimal cpu.number ∷ [])) fields ∙ rw (cpu_field-spelled header is cpu.number within) refl;
+    read =
+        ap (λ one. read_fields header one (decimal cpu.number ∷ [])) fields
+        ∙ rw (cpu_field-spelled header is cpu.number within) refl;
   }
 
   node_spelled : (node : PlaceId) → IsNode header.layout node.number
@@ -241,7 +247,8 @@ module _ (header : Header) (is : IsHeader header) where
         words_are = ap (λ words. (form_of Water).word ∷ words ++ mark_word mark ∷ decimal index ∷ [])
             (zone-words header is.is_layout zone.number some_zone known.0);
         few = omega arith;
-        short = short-cons node (kind ∷ mark_word mark ∷ decimal index ∷ []) (decimal-short name.node (omega (arith, most)))
+        short =
+            short-cons node (kind ∷ mark_word mark ∷ decimal index ∷ []) (decimal-short name.node (omega (arith, most)))
             (short-cons kind (mark_word mark ∷ decimal index ∷ []) (kind_word-short name.kind)
             (short-cons (mark_word mark) (decimal index ∷ []) (mark_word-short mark)
             (short-cons (decimal index) [] (decimal-short index (omega arith)) refl)));

@@ -41,11 +41,13 @@ pages-fit amount fits = quot_fits w64 amount (pos 4096) fits (omega (arith, ints
 
 pub in_pages-fits : (header : Header) (counter : CounterId) (amount pages : ℤ) → FitsSigned w64 amount
     → in_pages header counter amount ≡ Ok pages → FitsSigned w64 pages
-in_pages-fits header counter amount pages fits is = by (is_in_bytes header counter.number) (unsigned_abs amount % 4096 == 0) is
+in_pages-fits header counter amount pages fits is =
+    by (is_in_bytes header counter.number) (unsigned_abs amount % 4096 == 0) is
   where
     by : (bytes whole : Bool)
         → cond bytes (cond whole (Ok (int_div amount (pos 4096))) (Err NotPages)) (Ok amount) ≡ Ok pages
         → FitsSigned w64 pages
-    by true true same = let one : int_div amount (pos 4096) ≡ pages = cc in subst (FitsSigned w64) one (pages-fit amount fits)
+    by true true same =
+        let one : int_div amount (pos 4096) ≡ pages = cc in subst (FitsSigned w64) one (pages-fit amount fits)
     by true false same = absurd cc
     by false whole same = let one : amount ≡ pages = cc in subst (FitsSigned w64) one fits

@@ -71,7 +71,9 @@ read_verb-long : (header : Header) (control : Bool) (verb : Option Verb) (a b c 
     → read_verb header control (a ∷ b ∷ c ∷ d ∷ e ∷ f ∷ []) verb ≡ read_verb header control (a ∷ b ∷ c ∷ d ∷ e ∷ f ∷ more) verb
 read_verb-long header control None a b c d e f more = refl
 read_verb-long header control (Some verb) a b c d e f more =
-    let both = read_fields-long header (form_of verb).fields a b c d e f [] ∙ sym (read_fields-long header (form_of verb).fields a b c d e f more) in
+    let both =
+    read_fields-long header (form_of verb).fields a b c d e f []
+    ∙ sym (read_fields-long header (form_of verb).fields a b c d e f more) in
     ap (λ act. cond (has_lane header control (form_of verb).lanes) act (Err Malformed)) both
 
 -- no line has more than eight words
@@ -99,13 +101,15 @@ pub read_line-words : (header : Header) (line : List ℕ) → length line ≤ 20
     → is_clean line ≡ true → read_line header line ≡ read_words header (take 8 (words_of line))
 read_line-words header line within ignored clean =
     let short : nat_lt 200 (length line) ≡ false = grind (arith, nat_tests) in
-    by (nat_lt 200 (length line)) (is_ignored line) (is_clean line) short ignored clean ∙ sym (read_words-take header (words_of line))
+    by (nat_lt 200 (length line)) (is_ignored line) (is_clean line) short ignored clean
+    ∙ sym (read_words-take header (words_of line))
   where
     by : (long ignored clean : Bool) → long ≡ false → ignored ≡ false → clean ≡ true → cond long (Err LineTooLong) (cond ignored (Ok Blank) (cond clean (read_words header (words_of line)) (Err Malformed))) ≡ read_words header (words_of line)
     by long ignored clean e f g = rw (e, f, g) refl
 
 words_of-byte : (byte : ℕ) (rest : List ℕ) → is_word_byte byte ≡ true → words_of (byte ∷ rest) ≢ []
-words_of-byte byte rest is none = some (slice_split (λ one. not (is_word_byte one)) rest) (sym (ap (filter (λ word. not (is_empty word))) (slice_split-cons_no (λ one. not (is_word_byte one)) byte rest (ap not is))) ∙ none)
+words_of-byte byte rest is none =
+    some (slice_split (λ one. not (is_word_byte one)) rest) (sym (ap (filter (λ word. not (is_empty word))) (slice_split-cons_no (λ one. not (is_word_byte one)) byte rest (ap not is))) ∙ none)
   where
     some : (parts : List (List ℕ)) → filter (λ word. not (is_empty word)) (onto_first byte parts) ≡ [] → ⊥
     some [] same = absurd cc
@@ -125,10 +129,12 @@ blank-clean (byte ∷ rest) none = by (is_word_byte byte) refl (blank-clean rest
 
 words_of-all_blank : (line : List ℕ) → list_all is_blank_byte line ≡ true → words_of line ≡ []
 words_of-all_blank [] all = refl
-words_of-all_blank (byte ∷ rest) all = by (is_word_byte byte) refl (words_of-all_blank rest (and_right (is_blank_byte byte) (list_all is_blank_byte rest) all))
+words_of-all_blank (byte ∷ rest) all =
+    by (is_word_byte byte) refl (words_of-all_blank rest (and_right (is_blank_byte byte) (list_all is_blank_byte rest) all))
   where
     by : (b : Bool) → is_word_byte byte ≡ b → words_of rest ≡ [] → words_of (byte ∷ rest) ≡ []
-    by true is more = absurd (false≢true (sym (word_byte-not_blank byte is) ∙ and_left (is_blank_byte byte) (list_all is_blank_byte rest) all))
+    by true is more =
+        absurd (false≢true (sym (word_byte-not_blank byte is) ∙ and_left (is_blank_byte byte) (list_all is_blank_byte rest) all))
     by false is more = words_of-other byte rest is ∙ more
 
 -- a line with no word is ignored where it is clean

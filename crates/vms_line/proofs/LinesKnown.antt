@@ -56,7 +56,8 @@ of_control Control is = tt
 module _ (header : Header) (is : IsHeader header) where
   -- the fields of each form give what is in its ranges
   abbrev IsChange : CounterId × ℤ → Type 0
-  IsChange found = IsKnown header found.0.number × FitsSigned w64 found.1 × FitsSigned w64 (spelled_amount header found.0.number found.1)
+  IsChange found =
+      IsKnown header found.0.number × FitsSigned w64 found.1 × FitsSigned w64 (spelled_amount header found.0.number found.1)
 
   change : (words : List (List ℕ)) → IfOk (change_fields header words) IsChange
   change (node ∷ kind ∷ item ∷ delta ∷ []) =
@@ -172,25 +173,44 @@ module _ (header : Header) (is : IsHeader header) where
     verb-known : (verb : Verb) (words : List (List ℕ))
         → has_lane header (is_control_lane lane) (form_of verb).lanes ≡ true
         → IfOk (read_fields header (form_of verb).fields words) IsMine
-    verb-known Mod words of = if_then (change_fields header words) _ IsChange IsMine (change words) (λ found known. (of_cpus lane of, known.0, known.1, known.2))
-    verb-known Inc words of = if_then (paged_fields header words) _ IsPaged IsMine (paged words) (λ found known. (of_cpus lane of, known.0, known.1))
-    verb-known Dec words of = if_then (paged_fields header words) _ IsPaged IsMine (paged words) (λ found known. (of_cpus lane of, known.0, known.1))
-    verb-known Ev words of = if_then (count_fields words) _ IsCount IsMine (count words) (λ found known. (of_cpus lane of, known.0, known.1))
-    verb-known Cnt words of = if_then (amount_fields header words) _ IsAmount IsMine (amount words) (λ found known. (of_cpus lane of, known.0, known.1))
-    verb-known Lim words of = if_then (limited_fields header words) _ IsLimited IsMine (limited words) (λ found known. (of_cpus lane of, known.0, known.1, known.2))
-    verb-known Cmp words of = if_then (number_fields header words) _ IsNumber IsMine (number words) (λ found known. (of_cpus lane of, known.0, known.1))
-    verb-known Sum words of = if_then (name_fields header words) _ (λ one. IsDeclared header one.number) IsMine (name words) (λ found known. (of_cpus lane of, known))
-    verb-known Rough words of = if_then (name_fields header words) _ (λ one. IsDeclared header one.number) IsMine (name words) (λ found known. (of_cpus lane of, known))
-    verb-known Csync words of = if_then (name_fields header words) _ (λ one. IsDeclared header one.number) IsMine (name words) (λ found known. (of_cpus lane of, known))
-    verb-known EvSum words of = if_then (event_fields words) _ (λ one. one.number < 8) IsMine (event words) (λ found known. known)
-    verb-known Fold words of = if_then (one_cpu_fields header words) _ (λ one. IsCpu header.layout one.number) IsMine (one_cpu words) (λ found known. known)
-    verb-known Water words of = if_then (marked_fields header words) _ IsMarked IsMine (marked words) (λ found known. known)
-    verb-known Val words of = if_then (counter_fields header words) _ (λ one. IsKnown header one.number) IsMine (counter words) (λ found known. known)
-    verb-known Snap words of = if_then (counter_fields header words) _ (λ one. IsKnown header one.number) IsMine (counter words) (λ found known. known)
-    verb-known Sys words of = if_then (value_fields header words) _ (λ one. IsKnownValue header one.number) IsMine (value words) (λ found known. known)
-    verb-known Pressure words of = if_then (node_fields header words) _ (λ one. IsNode header.layout one.number) IsMine (node words) (λ found known. (of_control lane of, known))
-    verb-known Normal words of = if_then (node_fields header words) _ (λ one. IsNode header.layout one.number) IsMine (node words) (λ found known. (of_control lane of, known))
-    verb-known Dead words of = if_then (one_cpu_fields header words) _ (λ one. IsCpu header.layout one.number) IsMine (one_cpu words) (λ found known. (of_control lane of, known))
+    verb-known Mod words of =
+        if_then (change_fields header words) _ IsChange IsMine (change words) (λ found known. (of_cpus lane of, known.0, known.1, known.2))
+    verb-known Inc words of =
+        if_then (paged_fields header words) _ IsPaged IsMine (paged words) (λ found known. (of_cpus lane of, known.0, known.1))
+    verb-known Dec words of =
+        if_then (paged_fields header words) _ IsPaged IsMine (paged words) (λ found known. (of_cpus lane of, known.0, known.1))
+    verb-known Ev words of =
+        if_then (count_fields words) _ IsCount IsMine (count words) (λ found known. (of_cpus lane of, known.0, known.1))
+    verb-known Cnt words of =
+        if_then (amount_fields header words) _ IsAmount IsMine (amount words) (λ found known. (of_cpus lane of, known.0, known.1))
+    verb-known Lim words of =
+        if_then (limited_fields header words) _ IsLimited IsMine (limited words) (λ found known. (of_cpus lane of, known.0, known.1, known.2))
+    verb-known Cmp words of =
+        if_then (number_fields header words) _ IsNumber IsMine (number words) (λ found known. (of_cpus lane of, known.0, known.1))
+    verb-known Sum words of =
+        if_then (name_fields header words) _ (λ one. IsDeclared header one.number) IsMine (name words) (λ found known. (of_cpus lane of, known))
+    verb-known Rough words of =
+        if_then (name_fields header words) _ (λ one. IsDeclared header one.number) IsMine (name words) (λ found known. (of_cpus lane of, known))
+    verb-known Csync words of =
+        if_then (name_fields header words) _ (λ one. IsDeclared header one.number) IsMine (name words) (λ found known. (of_cpus lane of, known))
+    verb-known EvSum words of =
+        if_then (event_fields words) _ (λ one. one.number < 8) IsMine (event words) (λ found known. known)
+    verb-known Fold words of =
+        if_then (one_cpu_fields header words) _ (λ one. IsCpu header.layout one.number) IsMine (one_cpu words) (λ found known. known)
+    verb-known Water words of =
+        if_then (marked_fields header words) _ IsMarked IsMine (marked words) (λ found known. known)
+    verb-known Val words of =
+        if_then (counter_fields header words) _ (λ one. IsKnown header one.number) IsMine (counter words) (λ found known. known)
+    verb-known Snap words of =
+        if_then (counter_fields header words) _ (λ one. IsKnown header one.number) IsMine (counter words) (λ found known. known)
+    verb-known Sys words of =
+        if_then (value_fields header words) _ (λ one. IsKnownValue header one.number) IsMine (value words) (λ found known. known)
+    verb-known Pressure words of =
+        if_then (node_fields header words) _ (λ one. IsNode header.layout one.number) IsMine (node words) (λ found known. (of_control lane of, known))
+    verb-known Normal words of =
+        if_then (node_fields header words) _ (λ one. IsNode header.layout one.number) IsMine (node words) (λ found known. (of_control lane of, known))
+    verb-known Dead words of =
+        if_then (one_cpu_fields header words) _ (λ one. IsCpu header.layout one.number) IsMine (one_cpu words) (λ found known. (of_control lane of, known))
     verb-known Kswapd words of =
         let wide = wide_control lane of in
         if_then (turn_fields header words) _ IsTurned IsMine (turn words) (λ found known. (wide.0, wide.1, known.0, known.1, known.2, known.3))
@@ -212,8 +232,10 @@ module _ (header : Header) (is : IsHeader header) where
     IsOfN act = IsActOf header (Cpu (record { number = n })) act
 
     known_lane : (act : Result Act LineCause) → IfOk act IsOfN → IfOk (cond (nat_lt n header.layout.cpus) (of_lane (Cpu (record { number = n })) act) (Err UnknownLane)) (IsLineOf header)
-    known_lane (Ok act) known = if_cond (nat_lt n header.layout.cpus) (Ok (Lane (Cpu (record { number = n })) act)) (Err UnknownLane) (IsLineOf header) (λ below. (grind (arith, nat_tests), known)) (λ past. tt)
-    known_lane (Err cause) known = if_cond (nat_lt n header.layout.cpus) (Err cause) (Err UnknownLane) (IsLineOf header) (λ below. tt) (λ past. tt)
+    known_lane (Ok act) known =
+        if_cond (nat_lt n header.layout.cpus) (Ok (Lane (Cpu (record { number = n })) act)) (Err UnknownLane) (IsLineOf header) (λ below. (grind (arith, nat_tests), known)) (λ past. tt)
+    known_lane (Err cause) known =
+        if_cond (nat_lt n header.layout.cpus) (Err cause) (Err UnknownLane) (IsLineOf header) (λ below. tt) (λ past. tt)
 
     of_cpu-known : (act : Result Act LineCause) → IfOk act IsOfN → IfOk (of_cpu header n act) (IsLineOf header)
     of_cpu-known (Err Malformed) known = tt
@@ -221,11 +243,13 @@ module _ (header : Header) (is : IsHeader header) where
 
     cpu_line-known : (words : List (List ℕ)) → IfOk (cpu_line header n words) (IsLineOf header)
     cpu_line-known [] = tt
-    cpu_line-known (verb ∷ words) = of_cpu-known (read_act header false verb words) (read_act-known (Cpu (record { number = n })) verb words)
+    cpu_line-known (verb ∷ words) =
+        of_cpu-known (read_act header false verb words) (read_act-known (Cpu (record { number = n })) verb words)
 
   control_line-known : (words : List (List ℕ)) → IfOk (control_line header words) (IsLineOf header)
   control_line-known [] = tt
-  control_line-known (verb ∷ words) = if_then (read_act header true verb words) _ (IsActOf header Control) (IsLineOf header) (read_act-known Control verb words) (λ act known. (tt, known))
+  control_line-known (verb ∷ words) =
+      if_then (read_act header true verb words) _ (IsActOf header Control) (IsLineOf header) (read_act-known Control verb words) (λ act known. (tt, known))
 
   report : (word : List ℕ) → IfOk (report_named word) (IsLineOf header)
   report word =

@@ -47,7 +47,9 @@ pub words-read_back : (header : Header) (line : Line) (words : List (List ℕ)) 
 words-read_back header line words same is read = record {
   text = joined words;
   spelled = ap sentence same;
-  one_line = ap (λ (more : List (List ℕ)). lines_of (sentence more)) same ∙ lines_of-first (joined words) [] (few-one_line words is);
+  one_line =
+      ap (λ (more : List (List ℕ)). lines_of (sentence more)) same
+      ∙ lines_of-first (joined words) [] (few-one_line words is);
   read = rw (few-length words is, few-ignored words is, few-clean words is, few-words_of words is) read;
 }
 
@@ -97,7 +99,8 @@ module _ (header : Header) (is : IsHeader header) where
       (record {
         some = omega arith;
         few = omega (arith, read.few);
-        short = short-cons (lane_word (Cpu cpu)) ((form_of verb).word ∷ read.fields) (lane_word-short header is (Cpu cpu) within)
+        short =
+            short-cons (lane_word (Cpu cpu)) ((form_of verb).word ∷ read.fields) (lane_word-short header is (Cpu cpu) within)
             (act_words-short header is (Cpu cpu) act known);
         said = refl;
       })
@@ -113,7 +116,8 @@ module _ (header : Header) (is : IsHeader header) where
       (record {
         some = omega arith;
         few = omega (arith, read.few);
-        short = short-cons (codes "k") ((form_of verb).word ∷ read.fields) refl (act_words-short header is Control act known);
+        short =
+            short-cons (codes "k") ((form_of verb).word ∷ read.fields) refl (act_words-short header is Control act known);
         said = refl;
       })
       (ap (of_lane Control) (due ∙ read.read))
@@ -128,13 +132,18 @@ module _ (header : Header) (is : IsHeader header) where
   boundary-words_read boundary words same few read = words-read_back header (Boundary boundary) words same few read
 
   report-read : (kind : ReportKind) → ReadsBack header (Boundary (Report kind))
-  report-read Vmstat = boundary-words_read (Report Vmstat) _ refl (record { some = omega arith; few = omega arith; short = refl; said = refl }) refl
-  report-read Zoneinfo = boundary-words_read (Report Zoneinfo) _ refl (record { some = omega arith; few = omega arith; short = refl; said = refl }) refl
-  report-read Totals = boundary-words_read (Report Totals) _ refl (record { some = omega arith; few = omega arith; short = refl; said = refl }) refl
-  report-read Counters = boundary-words_read (Report Counters) _ refl (record { some = omega arith; few = omega arith; short = refl; said = refl }) refl
+  report-read Vmstat =
+      boundary-words_read (Report Vmstat) _ refl (record { some = omega arith; few = omega arith; short = refl; said = refl }) refl
+  report-read Zoneinfo =
+      boundary-words_read (Report Zoneinfo) _ refl (record { some = omega arith; few = omega arith; short = refl; said = refl }) refl
+  report-read Totals =
+      boundary-words_read (Report Totals) _ refl (record { some = omega arith; few = omega arith; short = refl; said = refl }) refl
+  report-read Counters =
+      boundary-words_read (Report Counters) _ refl (record { some = omega arith; few = omega arith; short = refl; said = refl }) refl
 
   boundary-read : (boundary : BoundaryOf) → IsBoundaryOf header boundary → ReadsBack header (Boundary boundary)
-  boundary-read Sync known = boundary-words_read Sync _ refl (record { some = omega arith; few = omega arith; short = refl; said = refl }) refl
+  boundary-read Sync known =
+      boundary-words_read Sync _ refl (record { some = omega arith; few = omega arith; short = refl; said = refl }) refl
   boundary-read (Offline cpu) known =
       boundary-words_read (Offline cpu) (codes "offline" ∷ decimal cpu.number ∷ []) refl
       (record { some = omega arith; few = omega arith; short = boundary_words-short header is (Offline cpu) known; said = refl })
@@ -143,7 +152,8 @@ module _ (header : Header) (is : IsHeader header) where
       boundary-words_read (Online cpu) (codes "online" ∷ decimal cpu.number ∷ []) refl
       (record { some = omega arith; few = omega arith; short = boundary_words-short header is (Online cpu) known; said = refl })
       (rw (cpu_field-spelled header is cpu.number known) refl)
-  boundary-read Flush known = boundary-words_read Flush _ refl (record { some = omega arith; few = omega arith; short = refl; said = refl }) refl
+  boundary-read Flush known =
+      boundary-words_read Flush _ refl (record { some = omega arith; few = omega arith; short = refl; said = refl }) refl
   boundary-read (Report kind) known = report-read kind
 
 pub LinesReadBack-holds : LinesReadBack

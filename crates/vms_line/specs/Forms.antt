@@ -182,7 +182,8 @@ marked_fields header _ = Err Malformed
 
 -- whether a node has a zone whose zone index is at most this one
 abbrev pub has_zone_up_to : Header → ℕ → ℕ → Bool
-has_zone_up_to header node index = list_any (λ zone. (zone.node == node) && nat_le (zone_index zone.kind) index) header.layout.zones
+has_zone_up_to header node index =
+    list_any (λ zone. (zone.node == node) && nat_le (zone_index zone.kind) index) header.layout.zones
 
 -- the index, if the node has a zone with an index up to it
 abbrev pub index_under : Header → Option ℕ → ℕ → Result ℕ LineCause
@@ -207,11 +208,13 @@ read_fields header (Count act) words = and_then (count_fields words) (λ found. 
 read_fields header (Name act) words = and_then (name_fields header words) (λ counter. Ok (act counter))
 read_fields header (Amount act) words = and_then (amount_fields header words) (λ found. Ok (act found.0 found.1))
 read_fields header (Number act) words = and_then (number_fields header words) (λ found. Ok (act found.0 found.1))
-read_fields header (Limited act) words = and_then (limited_fields header words) (λ found. Ok (act found.0 found.1 found.2))
+read_fields header (Limited act) words =
+    and_then (limited_fields header words) (λ found. Ok (act found.0 found.1 found.2))
 read_fields header (OneCpu act) words = and_then (one_cpu_fields header words) (λ cpu. Ok (act cpu))
 read_fields header (Node act) words = and_then (node_fields header words) (λ node. Ok (act node))
 read_fields header (Value act) words = and_then (value_fields header words) (λ item. Ok (act item))
-read_fields header (Marked act) words = and_then (marked_fields header words) (λ found. Ok (act found.0 found.1 found.2))
+read_fields header (Marked act) words =
+    and_then (marked_fields header words) (λ found. Ok (act found.0 found.1 found.2))
 read_fields header (Turn act) words = and_then (turn_fields header words) (λ found. Ok (act found.0 found.1 found.2))
 
 -- what a verb and its fields say on the control lane, or else on a CPU's

@@ -46,13 +46,16 @@ IsDeclared header counter = counter < length header.counters
 abbrev pub IsActOf : Header → LaneOf → Act → Type 0
 IsActOf header lane (Mod counter pages) =
     IsOfCpu lane × IsKnown header counter.number × FitsSigned w64 pages × FitsSigned w64 (spelled_amount header counter.number pages)
-IsActOf header lane (Inc counter) = IsOfCpu lane × IsKnown header counter.number × (is_in_bytes header counter.number ≡ false)
-IsActOf header lane (Dec counter) = IsOfCpu lane × IsKnown header counter.number × (is_in_bytes header counter.number ≡ false)
+IsActOf header lane (Inc counter) =
+    IsOfCpu lane × IsKnown header counter.number × (is_in_bytes header counter.number ≡ false)
+IsActOf header lane (Dec counter) =
+    IsOfCpu lane × IsKnown header counter.number × (is_in_bytes header counter.number ≡ false)
 IsActOf header lane (Ev event n) = IsOfCpu lane × (event.number < 8) × (n < 2 ^ 63)
 IsActOf header lane (Cnt counter amount) = IsOfCpu lane × IsDeclared header counter.number × FitsSigned w64 amount
 IsActOf header lane (Lim counter limit amount) =
     IsOfCpu lane × IsDeclared header counter.number × (unsigned_abs limit ≤ 2 ^ 60) × FitsSigned w64 amount
-IsActOf header lane (Cmp counter number) = IsOfCpu lane × IsDeclared header counter.number × (unsigned_abs number ≤ 2 ^ 60)
+IsActOf header lane (Cmp counter number) =
+    IsOfCpu lane × IsDeclared header counter.number × (unsigned_abs number ≤ 2 ^ 60)
 IsActOf header lane (Sum counter) = IsOfCpu lane × IsDeclared header counter.number
 IsActOf header lane (Rough counter) = IsOfCpu lane × IsDeclared header counter.number
 IsActOf header lane (Csync counter) = IsOfCpu lane × IsDeclared header counter.number
@@ -86,7 +89,8 @@ IsLineOf header (Boundary boundary) = IsBoundaryOf header boundary
 
 -- every line that is read is one of its header
 abbrev pub LinesAreKnown : Type 0
-LinesAreKnown = (header : Header) (text : List ℕ) (line : Line) → IsHeader header → read_line header text ≡ Ok line → IsLineOf header line
+LinesAreKnown =
+    (header : Header) (text : List ℕ) (line : Line) → IsHeader header → read_line header text ≡ Ok line → IsLineOf header line
 
 -- what is spelled of a line is one line of a text, and is read back as that line
 pub record ReadsBack (header : Header) (line : Line) : Type 0 where

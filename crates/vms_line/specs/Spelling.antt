@@ -64,7 +64,8 @@ act_words header (Rough counter) = codes "rough" ∷ pcpu_word header counter.nu
 act_words header (Csync counter) = codes "csync" ∷ pcpu_word header counter.number
 act_words header (EvSum event) = codes "evsum" ∷ event_word event.number
 act_words header (Fold cpu) = codes "fold" ∷ decimal cpu.number ∷ []
-act_words header (Water zone mark index) = codes "ok" ∷ place_words header zone.number ++ mark_word mark ∷ decimal index ∷ []
+act_words header (Water zone mark index) =
+    codes "ok" ∷ place_words header zone.number ++ mark_word mark ∷ decimal index ∷ []
 act_words header (Val counter) = codes "val" ∷ counter_words header counter.number
 act_words header (Snap counter) = codes "snap" ∷ counter_words header counter.number
 act_words header (Sys item) = codes "sys" ∷ system_word header item.number

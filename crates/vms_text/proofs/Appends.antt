@@ -37,7 +37,8 @@ OnOk-from (Err cause) P Q from fact = tt
 pub append_twice : (before middle after first second both : List ℕ) → after ≡ middle ++ second
     → middle ≡ before ++ first → first ++ second ≡ both → after ≡ before ++ both
 append_twice before middle after first second both then_second at_first together =
-    then_second ∙ ap (λ front. front ++ second) at_first ∙ append_assoc before first second ∙ ap (λ more. before ++ more) together
+    then_second ∙ ap (λ front. front ++ second) at_first ∙ append_assoc before first second
+    ∙ ap (λ more. before ++ more) together
 
 -- one word more
 pub spaced-take_more : (words : List Word) (i : ℕ) (d : Word) → i < length words
@@ -60,7 +61,8 @@ joined-first (word ∷ words) d some = joined-cons (text_of word) (map text_of w
 
 pub joined-parts : (words rest : List Word) (d : Word) → 1 ≤ length words → rest ≡ drop 1 words
     → text_of (get_or words 0 d) ++ spaced (map text_of rest) ≡ joined (map text_of words)
-joined-parts words rest d some is = ap (λ more. text_of (get_or words 0 d) ++ spaced (map text_of more)) is ∙ sym (joined-first words d some)
+joined-parts words rest d some is =
+    ap (λ more. text_of (get_or words 0 d) ++ spaced (map text_of more)) is ∙ sym (joined-first words d some)
 
 pub sentence-cons : (word : List ℕ) (words : List (List ℕ)) → sentence (word ∷ words) ≡ word ++ spaced words ++ 10 ∷ []
 sentence-cons word words = ap (λ text. text ++ 10 ∷ []) (joined-cons word words)
@@ -69,5 +71,6 @@ sentence-cons word words = ap (λ text. text ++ 10 ∷ []) (joined-cons word wor
 pub lines-take_more : {X : Type 0} (f : X → List (List ℕ)) (xs : List X) (i : ℕ) (d : X) → i < length xs
     → flat_map sentence (map f (take (i + 1) xs)) ≡ flat_map sentence (map f (take i xs)) ++ sentence (f (get_or xs i d))
 lines-take_more f xs i d within =
-    ap (flat_map sentence) (map_more f xs i d within) ∙ flat_map-append sentence (map f (take i xs)) (f (get_or xs i d) ∷ [])
+    ap (flat_map sentence) (map_more f xs i d within)
+    ∙ flat_map-append sentence (map f (take i xs)) (f (get_or xs i d) ∷ [])
     ∙ ap (λ last. flat_map sentence (map f (take i xs)) ++ last) (append-nil (sentence (f (get_or xs i d))))

@@ -30,4 +30,5 @@ module _ (header : Header) (is : IsHeader header) where
   counter_words-at counter spells named =
       let names = class_names (is_of_node header.layout counter) header.items in
       let n = position_of header.layout counter in
-      ap (λ words. words ++ entry names n) spells.words_are ∙ ap (λ words. decimal spells.node ∷ spells.kind ∷ words) (entry-within names n [] named)
+      ap (λ words. words ++ entry names n) spells.words_are
+      ∙ ap (λ words. decimal spells.node ∷ spells.kind ∷ words) (entry-within names n [] named)

@@ -57,7 +57,8 @@ module _ (items : List ItemDecl) (valid : All IsValidItem items) (differ : AllPa
   declared-short : (node : Bool) → list_all is_short (declared_names node items) ≡ true
   declared-short node =
       let some = filter (λ item. cond node item.node (not item.node)) items in
-      let each = All-weaker IsValidItem (λ item. is_short item.name ≡ true) (λ item is. name-short item.name is.form) items valid in
+      let each =
+      All-weaker IsValidItem (λ item. is_short item.name ≡ true) (λ item is. name-short item.name is.form) items valid in
       list_all-from_AllPass is_short (declared_names node items) (All-map (λ name. is_short name ≡ true) name_of some (All-filter (λ item. cond node item.node (not item.node)) (λ item. is_short item.name ≡ true) items each))
 
   pub class_names-short : (node : Bool) → list_all is_short (class_names node items) ≡ true
@@ -83,10 +84,12 @@ module _ (items : List ItemDecl) (valid : All IsValidItem items) (differ : AllPa
       some among
 
   zones_among : All (Contains fixed) zone_items
-  zones_among = All-weaker (Contains zone_items) (Contains fixed) (λ name. Contains-append_left zone_items node_items name) zone_items (All-contains_itself zone_items)
+  zones_among =
+      All-weaker (Contains zone_items) (Contains fixed) (λ name. Contains-append_left zone_items node_items name) zone_items (All-contains_itself zone_items)
 
   nodes_among : All (Contains fixed) node_items
-  nodes_among = All-weaker (Contains node_items) (Contains fixed) (λ name. Contains-append_right zone_items node_items name) node_items (All-contains_itself node_items)
+  nodes_among =
+      All-weaker (Contains node_items) (Contains fixed) (λ name. Contains-append_right zone_items node_items name) node_items (All-contains_itself node_items)
 
   -- the items of a class have different names
   pub class_names-differ : (node : Bool) → AllPairs ◌≢◌ (class_names node items)
@@ -102,8 +105,12 @@ module _ (items : List ItemDecl) (valid : All IsValidItem items) (differ : AllPa
       let second = get_or-map name_of items j b [] j_within ∙ ap name_of b_is in
       elim (cases_order i j) [
         | inl here ↦
-            let left = get_or-map (λ (item : ItemDecl). item.node) items i a true i_within ∙ ap (λ (item : ItemDecl). item.node) a_is in
-            let right = get_or-map (λ (item : ItemDecl). item.node) items j b true j_within ∙ ap (λ (item : ItemDecl). item.node) b_is in
+            let left =
+            get_or-map (λ (item : ItemDecl). item.node) items i a true i_within
+            ∙ ap (λ (item : ItemDecl). item.node) a_is in
+            let right =
+            get_or-map (λ (item : ItemDecl). item.node) items j b true j_within
+            ∙ ap (λ (item : ItemDecl). item.node) b_is in
             let equal = ap (λ n. get_or (map (λ (item : ItemDecl). item.node) items) n true) here in
             false≢true (sym of_zone ∙ sym right ∙ sym equal ∙ left ∙ of_node)
         | inr (inl before) ↦ differ i j [] before (omega arith) (first ∙ same ∙ sym second)
@@ -129,7 +136,8 @@ module _ (items : List ItemDecl) (valid : All IsValidItem items) (differ : AllPa
       let zones = declared_names false items in
       let to_fixed = are_apart-AreApart node_items zone_items refl in
       let to_declared = fixed-apart false node_items nodes_among in
-      let from_declared = AreApart-flipped zone_items (declared_names true items) (fixed-apart true zone_items zones_among) in
+      let from_declared =
+      AreApart-flipped zone_items (declared_names true items) (fixed-apart true zone_items zones_among) in
       All-append (λ name. All (λ other. name ≢ other) (zone_items ++ zones)) node_items (declared_names true items)
       (λ k d within. All-append (λ other. get_or node_items k d ≢ other) zone_items zones (to_fixed k d within) (to_declared k d within))
       (λ k d within. All-append (λ other. get_or (declared_names true items) k d ≢ other) zone_items zones (from_declared k d within) (declared-apart k d within))

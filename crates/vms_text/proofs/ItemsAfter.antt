@@ -9,8 +9,10 @@ module _ {X : Type 0} (p : X → Bool) where
 
   pub filter-drop_yes : (xs : List X) (i : ℕ) (d : X) → i < length xs → p (get_or xs i d) ≡ true
       → filter p (drop i xs) ≡ get_or xs i d ∷ filter p (drop (i + 1) xs)
-  filter-drop_yes xs i d within is = ap (filter p) (drop_more xs i d within) ∙ one_more (get_or xs i d) (drop (i + 1) xs) true is
+  filter-drop_yes xs i d within is =
+      ap (filter p) (drop_more xs i d within) ∙ one_more (get_or xs i d) (drop (i + 1) xs) true is
 
   pub filter-drop_no : (xs : List X) (i : ℕ) (d : X) → i < length xs → p (get_or xs i d) ≡ false
       → filter p (drop i xs) ≡ filter p (drop (i + 1) xs)
-  filter-drop_no xs i d within is = ap (filter p) (drop_more xs i d within) ∙ one_more (get_or xs i d) (drop (i + 1) xs) false is
+  filter-drop_no xs i d within is =
+      ap (filter p) (drop_more xs i d within) ∙ one_more (get_or xs i d) (drop (i + 1) xs) false is

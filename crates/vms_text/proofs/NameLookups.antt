@@ -20,7 +20,8 @@ module _ {X : Type 0} (p : X → Bool) where
   pub position-nowhere : (xs : List X) → All (λ x. p x ≡ false) xs → position p xs ≡ None
   position-nowhere [] fails = refl
   position-nowhere (x ∷ xs) fails =
-      let at = position_or_len_is p (x ∷ xs) (length (x ∷ xs)) x (omega arith) (λ k within. fails k x within) (λ within. absurd (omega arith)) in
+      let at =
+      position_or_len_is p (x ∷ xs) (length (x ∷ xs)) x (omega arith) (λ k within. fails k x within) (λ within. absurd (omega arith)) in
       let test : nat_lt (length (x ∷ xs)) (length (x ∷ xs)) ≡ false = grind (arith, nat_tests) in
       ap (λ n. cond (nat_lt n (length (x ∷ xs))) (Some n) None) at ∙ ap (λ b. cond b (Some (length (x ∷ xs))) None) test
 

@@ -17,19 +17,23 @@ node_place-absent shape node absent =
 
 pub zone_place-absent : (shape : Shape) (node : ℕ) (kind : ZoneKind) → IsLayout shape
     → All (λ number. number ≢ node) shape.nodes → zone_place shape (record { node = node; kind = kind }) ≡ None
-zone_place-absent shape node kind layout absent = position-nowhere (λ zone. rank_of zone == rank_of name) shape.zones other
+zone_place-absent shape node kind layout absent =
+    position-nowhere (λ zone. rank_of zone == rank_of name) shape.zones other
   where
     name : ZoneName
     name = record { node = node; kind = kind }
 
     other : All (λ zone. rank_of zone == rank_of name ≡ false) shape.zones
-    other k d below = ne_eqb (rank_of zone) (rank_of name) (λ same. absent_zone (ap (λ one. one.node) (rank_of-injective zone name same)))
+    other k d below =
+        ne_eqb (rank_of zone) (rank_of name) (λ same. absent_zone (ap (λ one. one.node) (rank_of-injective zone name same)))
       where
         zone : ZoneName
         zone = get_or shape.zones k d
 
         listed : Contains (map (λ one. one.node) shape.zones) zone.node
-        listed = subst (Contains (map (λ one. one.node) shape.zones)) (get_or-map (λ one. one.node) shape.zones k d d.node below) (Contains-get_or (map (λ one. one.node) shape.zones) k d.node (omega (arith, length-map shape.zones (λ one. one.node))))
+        listed =
+            subst (Contains (map (λ one. one.node) shape.zones)) (get_or-map (λ one. one.node) shape.zones k d d.node below) (Contains-get_or (map (λ one. one.node) shape.zones) k d.node (omega (arith, length-map shape.zones (λ one. one.node))))
 
         absent_zone : zone.node ≢ node
-        absent_zone = All-contains (λ number. number ≢ node) shape.nodes zone.node absent ((layout.nodes_named zone.node).1 listed)
+        absent_zone =
+            All-contains (λ number. number ≢ node) shape.nodes zone.node absent ((layout.nodes_named zone.node).1 listed)

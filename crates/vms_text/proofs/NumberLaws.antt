@@ -51,7 +51,8 @@ number_within-spelling : (least most n : ℕ) (word : List ℕ) → n < 2 ^ 64 �
     → word ≡ decimal n
 number_within-spelling least most n word fits some =
     let is = number_within-is least most word n some in
-    let spelled = decimal-digits_value own word (numeral-digits word is.numeral) (numeral-nonempty word is.numeral) (numeral-first word is.numeral) (subst (λ value. value < 2 ^ 64) (sym is.value) fits) in
+    let spelled =
+    decimal-digits_value own word (numeral-digits word is.numeral) (numeral-nonempty word is.numeral) (numeral-first word is.numeral) (subst (λ value. value < 2 ^ 64) (sym is.value) fits) in
     sym spelled ∙ ap decimal is.value
 
 pub unsigned_of-reads : (n : ℕ) (word : List ℕ) → n < 2 ^ 64 → (unsigned_of word ≡ Some n) ↔ (word ≡ decimal n)
@@ -98,7 +99,8 @@ signed_of-plain (byte ∷ word) numeral =
 signed_of-decimal : (z : ℤ) → FitsSigned w64 z → signed_of (signed_decimal z) ≡ Some z
 signed_of-decimal (pos n) fits =
     let small : n ≤ 2 ^ 63 - 1 = omega (arith, ints) in
-    signed_of-plain (decimal n) (decimal-numeral n (omega arith)) ∙ ap (option_map pos) (number_within-decimal 0 (2 ^ 63 - 1) n (omega arith) (omega arith) small)
+    signed_of-plain (decimal n) (decimal-numeral n (omega arith))
+    ∙ ap (option_map pos) (number_within-decimal 0 (2 ^ 63 - 1) n (omega arith) (omega arith) small)
 signed_of-decimal (negsuc n) fits =
     let small : suc n ≤ 2 ^ 63 = omega (arith, ints) in
     ap negative_of (number_within-decimal 0 (2 ^ 63) (suc n) (omega arith) (omega arith) small)

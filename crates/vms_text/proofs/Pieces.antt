@@ -34,7 +34,8 @@ run_bytes line begin at after within run = λ k d below.
     let long = length-drop begin line in
     let size = length-take-le (at - begin) (drop begin line) (omega arith) in
     let short : k < at - begin = omega arith in
-    let same : get_or (take (at - begin) (drop begin line)) k d ≡ get_or line (begin + k) d = get_or-take (at - begin) (drop begin line) k d short ∙ get_or-drop begin line k d in
+    let same : get_or (take (at - begin) (drop begin line)) k d ≡ get_or line (begin + k) d =
+    get_or-take (at - begin) (drop begin line) k d short ∙ get_or-drop begin line k d in
     subst (λ byte. is_other byte ≡ false) (sym same) (ap not (run (begin + k) d (omega arith) (omega arith)))
 
 -- a run that another byte ends is the first word, if it isn't empty
@@ -72,7 +73,8 @@ pub record IsCut (line : List ℕ) (words : List (List ℕ)) (clean : Bool) (beg
   pub clean_is : (clean && is_clean (drop at line)) ≡ is_clean line
 
 pub IsCut-none : (line : List ℕ) → IsCut line [] true 0 0
-IsCut-none line = record { after = omega arith; run = λ k d low high. absurd (omega arith); words_are = refl; clean_is = refl }
+IsCut-none line =
+    record { after = omega arith; run = λ k d low high. absurd (omega arith); words_are = refl; clean_is = refl }
 
 pub clean-word : (byte : ℕ) → is_word_byte byte ≡ true → not (is_wrong_byte byte) ≡ true
 clean-word byte is = grind (arith, nat_tests)
@@ -96,7 +98,9 @@ IsCut-word line words clean begin at within word cut =
     }
   where
     step : is_clean (drop at line) ≡ is_clean (drop (at + 1) line)
-    step = at_drop_more is_clean line at 0 within ∙ ap (λ b. b && is_clean (drop (at + 1) line)) (clean-word (get_or line at 0) word)
+    step =
+        at_drop_more is_clean line at 0 within
+        ∙ ap (λ b. b && is_clean (drop (at + 1) line)) (clean-word (get_or line at 0) word)
 
     here : (d : ℕ) → is_word_byte (get_or line at d) ≡ true
     here d = ap is_word_byte (get_or_default line at d 0 within) ∙ word
@@ -121,11 +125,15 @@ IsCut-other line words words' clean begin at within other added cut =
           ∙ ap (take 8) (append_assoc words (word_of (take (at - begin) (drop begin line))) (words_of (drop (at + 1) line)))
           ∙ ap (λ more. take 8 (words ++ more)) (sym (words_of-run line begin at 0 cut.after within cut.run other))
           ∙ cut.words_are;
-      clean_is = and_assoc clean (is_blank_byte (get_or line at 0)) (is_clean (drop (at + 1) line)) ∙ ap (λ more. clean && more) (sym step) ∙ cut.clean_is;
+      clean_is =
+          and_assoc clean (is_blank_byte (get_or line at 0)) (is_clean (drop (at + 1) line))
+          ∙ ap (λ more. clean && more) (sym step) ∙ cut.clean_is;
     }
   where
     step : is_clean (drop at line) ≡ (is_blank_byte (get_or line at 0) && is_clean (drop (at + 1) line))
-    step = at_drop_more is_clean line at 0 within ∙ ap (λ b. b && is_clean (drop (at + 1) line)) (clean-other (get_or line at 0) other)
+    step =
+        at_drop_more is_clean line at 0 within
+        ∙ ap (λ b. b && is_clean (drop (at + 1) line)) (clean-other (get_or line at 0) other)
 
 -- at the end of the line, where the last run is added to the words
 pub words_of-cut : (line : List ℕ) (words words' : List (List ℕ)) (clean : Bool) (begin at : ℕ) → at ≡ length line
@@ -151,7 +159,8 @@ take-empty words (byte ∷ piece) most empty = absurd (omega arith)
 pub take-filled : (words : List (List ℕ)) (piece : List ℕ) → length words < 8 → 0 < length piece
     → words ++ piece ∷ [] ≡ take 8 (words ++ word_of piece)
 take-filled words [] room filled = absurd (omega arith)
-take-filled words (byte ∷ piece) room filled = sym (take_all 8 (words ++ (byte ∷ piece) ∷ []) (omega (arith, length_push words (byte ∷ piece))))
+take-filled words (byte ∷ piece) room filled =
+    sym (take_all 8 (words ++ (byte ∷ piece) ∷ []) (omega (arith, length_push words (byte ∷ piece))))
 
 not_all : (p : ℕ → Bool) (bytes : List ℕ) (k : ℕ) → k < length bytes → p (get_or bytes k 0) ≡ false
     → list_all p bytes ≡ false
@@ -177,11 +186,15 @@ is_ignored-word line begin end word =
     let long = length-take-le size (drop begin line) (omega (arith, word.within)) in
     let filled : 0 < length first = omega (arith, word.filled) in
     let nothing : begin + 0 ≡ begin = omega arith in
-    let same : get_or first 0 0 ≡ get_or line begin 0 = get_or-take size (drop begin line) 0 0 (omega (arith, word.filled)) ∙ get_or-drop begin line 0 0 ∙ ap (λ k. get_or line k 0) nothing in
+    let same : get_or first 0 0 ≡ get_or line begin 0 =
+    get_or-take size (drop begin line) 0 0 (omega (arith, word.filled)) ∙ get_or-drop begin line 0 0
+    ∙ ap (λ k. get_or line k 0) nothing in
     let byte : is_word_byte (get_or line begin 0) ≡ true = ap is_word_byte (sym same) ∙ word.of_word_bytes 0 0 filled in
-    let blank = not_all is_blank_byte line begin (omega (arith, word.filled, word.within)) (word_byte-not_blank (get_or line begin 0) byte) in
+    let blank =
+    not_all is_blank_byte line begin (omega (arith, word.filled, word.within)) (word_byte-not_blank (get_or line begin 0) byte) in
     sym (ap (λ b. b || is_comment (words_of line)) blank ∙ ap is_comment word.words ∙ comment-first first (words_of (drop end line)) filled ∙ ap (λ one. one == 35) same)
 
 -- a line with no word is ignored where it holds nothing but blanks
 pub is_ignored-none : (line : List ℕ) → words_of line ≡ [] → list_all is_blank_byte line ≡ is_ignored line
-is_ignored-none line none = sym (ap (λ words. list_all is_blank_byte line || is_comment words) none ∙ or-false (list_all is_blank_byte line))
+is_ignored-none line none =
+    sym (ap (λ words. list_all is_blank_byte line || is_comment words) none ∙ or-false (list_all is_blank_byte line))

@@ -31,12 +31,14 @@ filled (byte ∷ bytes) some first = grind (arith, nat_tests)
 run_bytes : (bytes : List ℕ) → All (λ byte. is_word_byte byte ≡ true) (take (position_or_len is_other bytes) bytes)
 run_bytes bytes = λ k d below.
     let size = position_or_len is_other bytes in
-    let short : k < size = omega (arith, length-take-le size bytes (prefix_len-le-length (λ byte. not (is_other byte)) bytes), below) in
+    let short : k < size =
+    omega (arith, length-take-le size bytes (prefix_len-le-length (λ byte. not (is_other byte)) bytes), below) in
     subst (λ byte. is_word_byte byte ≡ true) (sym (get_or-take size bytes k d short)) (not-false (is_word_byte (get_or bytes k d)) (fails_before_first is_other bytes k d short))
 
 ends : (bytes : List ℕ) → position_or_len is_other bytes < length bytes
     → is_word_byte (get_or bytes (position_or_len is_other bytes) 0) ≡ false
-ends bytes more = other_byte (is_word_byte (get_or bytes (position_or_len is_other bytes) 0)) (passes_at_first is_other bytes 0 more)
+ends bytes more =
+    other_byte (is_word_byte (get_or bytes (position_or_len is_other bytes) 0)) (passes_at_first is_other bytes 0 more)
 
 run_words : (bytes : List ℕ) (size : ℕ) → 0 < size → size ≤ length bytes
     → All (λ byte. is_word_byte byte ≡ true) (take size bytes)
@@ -69,7 +71,8 @@ BeginsWord-run bytes size is some first =
       within = within;
       of_word_bytes = run_bytes bytes;
       ends = ends bytes;
-      words = run_words bytes run (filled bytes some first) within (run_bytes bytes) (ends bytes) (less_or_not run (length bytes));
+      words =
+          run_words bytes run (filled bytes some first) within (run_bytes bytes) (ends bytes) (less_or_not run (length bytes));
     })
 
 -- bytes with none of a word have no word
@@ -80,7 +83,8 @@ words_of-none bytes none =
 words_of-begin : (bytes : List ℕ) (skipped : ℕ) → position is_word_byte bytes ≡ Some skipped
     → words_of bytes ≡ words_of (drop skipped bytes)
 words_of-begin bytes skipped some =
-    ap words_of (sym (take-append-drop skipped bytes)) ∙ words_of-blanks (take skipped bytes) (drop skipped bytes) (position-before is_word_byte bytes skipped some)
+    ap words_of (sym (take-append-drop skipped bytes))
+    ∙ words_of-blanks (take skipped bytes) (drop skipped bytes) (position-before is_word_byte bytes skipped some)
 
 -- the word that begins at the first byte of a word, and ends before the next byte that isn't one
 pub IsNextWord-found : (line : List ℕ) (from skipped size : ℕ) → from ≤ length line
@@ -95,7 +99,8 @@ IsNextWord-found line from skipped size inside some is =
     let below : begin < length line = omega (arith, length-drop from line) in
     let size_of = length-drop begin line in
     let nothing_more : begin + 0 ≡ begin = omega arith in
-    let same : get_or tail 0 0 ≡ get_or rest skipped 0 = get_or-drop begin line 0 0 ∙ ap (λ k. get_or line k 0) nothing_more ∙ sym (get_or-drop from line skipped 0) in
+    let same : get_or tail 0 0 ≡ get_or rest skipped 0 =
+    get_or-drop begin line 0 0 ∙ ap (λ k. get_or line k 0) nothing_more ∙ sym (get_or-drop from line skipped 0) in
     let first = ap is_word_byte same ∙ (position-parts is_word_byte rest skipped 0 some).0 in
     let run = BeginsWord-run tail size is (omega arith) first in
     let width : begin + size - begin ≡ size = omega arith in
@@ -110,6 +115,7 @@ IsNextWord-found line from skipped size inside some is =
           ∙ ap (λ more. take size tail ∷ words_of more) (drop-drop size begin line)
           ∙ ap (λ n. take n tail ∷ words_of (drop (begin + size) line)) (sym width);
       of_word_bytes = subst (λ n. All (λ byte. is_word_byte byte ≡ true) (take n tail)) (sym width) run.of_word_bytes;
-      none_before = subst (λ n. All (λ byte. is_word_byte byte ≡ false) (take n rest)) (sym before) (position-before is_word_byte rest skipped some);
+      none_before =
+          subst (λ n. All (λ byte. is_word_byte byte ≡ false) (take n rest)) (sym before) (position-before is_word_byte rest skipped some);
       ends = λ more. ap is_word_byte (sym (get_or-drop begin line size 0)) ∙ run.ends (omega arith);
     }

@@ -32,7 +32,8 @@ ShortWord-from word is =
     let rest = and_right (not (is_empty word)) (list_all is_word_byte word && nat_le (length word) 21) is in
     let small = and_right (list_all is_word_byte word) (nat_le (length word) 21) rest in
     record {
-      filled = filled-from word (and_left (not (is_empty word)) (list_all is_word_byte word && nat_le (length word) 21) is);
+      filled =
+          filled-from word (and_left (not (is_empty word)) (list_all is_word_byte word && nat_le (length word) 21) is);
       bytes = and_left (list_all is_word_byte word) (nat_le (length word) 21) rest;
       most = grind (arith, nat_tests);
     }
@@ -78,7 +79,8 @@ clean_joined (word ∷ next ∷ words) short =
 
 length-joined : (words : List (List ℕ)) → list_all is_short words ≡ true → length (joined words) ≤ 22 * length words
 length-joined [] short = omega arith
-length-joined (word ∷ []) short = let is = ShortWord-from word (and_left (is_short word) true short) in omega (arith, is.most)
+length-joined (word ∷ []) short =
+    let is = ShortWord-from word (and_left (is_short word) true short) in omega (arith, is.most)
 length-joined (word ∷ next ∷ words) short =
     let more = list_all is_short (next ∷ words) in
     let is = ShortWord-from word (and_left (is_short word) more short) in
@@ -128,4 +130,5 @@ filled_words (word ∷ words) is =
 
 pub few-ignored : (words : List (List ℕ)) → IsFew words → is_ignored (joined words) ≡ false
 few-ignored words is =
-    ap (λ b. b || is_comment (words_of (joined words))) (filled_words words is) ∙ ap is_comment (few-words_of words is) ∙ is.said
+    ap (λ b. b || is_comment (words_of (joined words))) (filled_words words is)
+    ∙ ap is_comment (few-words_of words is) ∙ is.said

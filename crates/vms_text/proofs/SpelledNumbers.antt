@@ -40,7 +40,8 @@ length-decimal-most n fits = length-decimal-le 20 n (omega arith) (omega arith) 
 
 -- a number of 64 bits is a short word
 pub decimal-short : (n : ℕ) → n < 2 ^ 64 → is_short (decimal n) ≡ true
-decimal-short n fits = is_short-from (decimal n) (decimal_nonempty n fits) (decimal-bytes n fits) (omega (arith, length-decimal-most n fits))
+decimal-short n fits =
+    is_short-from (decimal n) (decimal_nonempty n fits) (decimal-bytes n fits) (omega (arith, length-decimal-most n fits))
 
 -- so is it after a byte of a word
 pub decimal-after : (byte n : ℕ) → is_word_byte byte ≡ true → n < 2 ^ 64 → is_short (byte ∷ decimal n) ≡ true

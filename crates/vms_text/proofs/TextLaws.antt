@@ -25,15 +25,16 @@ onto_first-append x (part ∷ parts) more some = refl
 pub slice_split-append : {X : Type 0} (p : X → Bool) (before : List X) (y : X) (after : List X) → p y ≡ true
     → slice_split p (before ++ (y ∷ after)) ≡ slice_split p before ++ slice_split p after
 slice_split-append p [] y after passes = slice_split-cons_yes p y after passes
-slice_split-append p (x ∷ before) y after passes = elim (p x) as (λ b. p x ≡ b → slice_split p (x ∷ (before ++ (y ∷ after))) ≡ slice_split p (x ∷ before) ++ slice_split p after) [
-  | true ↦ λ yes. slice_split-cons_yes p x (before ++ (y ∷ after)) yes
-      ∙ ap (λ parts. [] ∷ parts) (slice_split-append p before y after passes)
-      ∙ ap (λ parts. parts ++ slice_split p after) (sym (slice_split-cons_yes p x before yes))
-  | false ↦ λ no. slice_split-cons_no p x (before ++ (y ∷ after)) no
-      ∙ ap (onto_first x) (slice_split-append p before y after passes)
-      ∙ onto_first-append x (slice_split p before) (slice_split p after) (omega (arith, length-slice_split p before))
-      ∙ ap (λ parts. parts ++ slice_split p after) (sym (slice_split-cons_no p x before no))
-] refl
+slice_split-append p (x ∷ before) y after passes =
+    elim (p x) as (λ b. p x ≡ b → slice_split p (x ∷ (before ++ (y ∷ after))) ≡ slice_split p (x ∷ before) ++ slice_split p after) [
+      | true ↦ λ yes. slice_split-cons_yes p x (before ++ (y ∷ after)) yes
+          ∙ ap (λ parts. [] ∷ parts) (slice_split-append p before y after passes)
+          ∙ ap (λ parts. parts ++ slice_split p after) (sym (slice_split-cons_yes p x before yes))
+      | false ↦ λ no. slice_split-cons_no p x (before ++ (y ∷ after)) no
+          ∙ ap (onto_first x) (slice_split-append p before y after passes)
+          ∙ onto_first-append x (slice_split p before) (slice_split p after) (omega (arith, length-slice_split p before))
+          ∙ ap (λ parts. parts ++ slice_split p after) (sym (slice_split-cons_no p x before no))
+    ] refl
 
 without_last_empty-cons : (part : List ℕ) (parts : List (List ℕ)) → 0 < length parts
     → without_last_empty (part ∷ parts) ≡ part ∷ without_last_empty parts
@@ -75,7 +76,8 @@ lines_of-first line rest none =
 
 pub lines_of-last : (line : List ℕ) → All (λ byte. byte ≢ 10) line → line ≢ [] → lines_of line ≡ line ∷ []
 lines_of-last [] none filled = absurd (filled refl)
-lines_of-last (byte ∷ line) none filled = ap without_last_empty (slice_split_none is_end (byte ∷ line) (no_end (byte ∷ line) none))
+lines_of-last (byte ∷ line) none filled =
+    ap without_last_empty (slice_split_none is_end (byte ∷ line) (no_end (byte ∷ line) none))
 
 no_end-back : (line : List ℕ) → All (λ byte. is_end byte ≡ false) line → All (λ byte. byte ≢ 10) line
 no_end-back line none = λ k d below. let other = none k d below in grind (arith, nat_tests)
@@ -93,7 +95,8 @@ SplitsLine-cut text end some =
 
 -- a text of one line
 pub SplitsLine-whole : (text : List ℕ) → position is_end text ≡ None → SplitsLine text text []
-SplitsLine-whole text none = record { one_line = no_end-back text (position-none is_end text none); parts = inr (refl, refl) }
+SplitsLine-whole text none =
+    record { one_line = no_end-back text (position-none is_end text none); parts = inr (refl, refl) }
 
 drop_last : (line : List ℕ) → All (λ byte. byte ≢ 10) line → drop 1 (lines_of line) ≡ []
 drop_last [] one = refl
@@ -133,19 +136,29 @@ pub Reaches-line : (text : List ℕ) (count : ℕ) (rest line after : List ℕ) 
     → SplitsLine rest line after → rest ≢ [] → Reaches text (count + 1) after
 Reaches-line text count rest line after reaches splits some = elim splits.parts [
   | inl ended ↦
-      let own = reaches.more some (line ++ (10 ∷ [])) ∙ ap (λ lines. lines_of reaches.front ++ lines) (lines_of-line line splits.one_line) in
+      let own =
+      reaches.more some (line ++ (10 ∷ []))
+      ∙ ap (λ lines. lines_of reaches.front ++ lines) (lines_of-line line splits.one_line) in
       record {
         front = reaches.front ++ (line ++ (10 ∷ []));
-        parts = reaches.parts ∙ ap (λ bytes. reaches.front ++ bytes) (ended ∙ sym (append_assoc line (10 ∷ []) after)) ∙ sym (append_assoc reaches.front (line ++ (10 ∷ [])) after);
+        parts =
+            reaches.parts ∙ ap (λ bytes. reaches.front ++ bytes) (ended ∙ sym (append_assoc line (10 ∷ []) after))
+            ∙ sym (append_assoc reaches.front (line ++ (10 ∷ [])) after);
         lines = ap length own ∙ length-append (lines_of reaches.front) (line ∷ []) ∙ ap (λ n. n + 1) reaches.lines;
-        more = λ after next. lines_of-after reaches.front line next splits.one_line (reaches.more some) ∙ ap (λ lines. lines ++ lines_of next) (sym own);
+        more =
+            λ after next. lines_of-after reaches.front line next splits.one_line (reaches.more some)
+            ∙ ap (λ lines. lines ++ lines_of next) (sym own);
       }
   | inr whole ↦
       let filled : line ≢ [] = λ empty. some (whole.0 ∙ empty) in
-      let own = reaches.more some line ∙ ap (λ lines. lines_of reaches.front ++ lines) (lines_of-last line splits.one_line filled) in
+      let own =
+      reaches.more some line
+      ∙ ap (λ lines. lines_of reaches.front ++ lines) (lines_of-last line splits.one_line filled) in
       record {
         front = reaches.front ++ line;
-        parts = reaches.parts ∙ ap (λ bytes. reaches.front ++ bytes) whole.0 ∙ sym (ap (λ bytes. (reaches.front ++ line) ++ bytes) whole.1 ∙ append-nil (reaches.front ++ line));
+        parts =
+            reaches.parts ∙ ap (λ bytes. reaches.front ++ bytes) whole.0
+            ∙ sym (ap (λ bytes. (reaches.front ++ line) ++ bytes) whole.1 ∙ append-nil (reaches.front ++ line));
         lines = ap length own ∙ length-append (lines_of reaches.front) (line ∷ []) ∙ ap (λ n. n + 1) reaches.lines;
         more = λ after next. absurd (after whole.1);
       }
@@ -153,8 +166,10 @@ Reaches-line text count rest line after reaches splits some = elim splits.parts 
 
 lines_of-parts : (text : List ℕ) (count : ℕ) (rest : List ℕ) (reaches : Reaches text count rest)
     → lines_of text ≡ lines_of reaches.front ++ lines_of rest
-lines_of-parts text count [] reaches = ap lines_of (reaches.parts ∙ append-nil reaches.front) ∙ sym (append-nil (lines_of reaches.front))
-lines_of-parts text count (byte ∷ rest) reaches = ap lines_of reaches.parts ∙ reaches.more (λ empty. absurd cc) (byte ∷ rest)
+lines_of-parts text count [] reaches =
+    ap lines_of (reaches.parts ∙ append-nil reaches.front) ∙ sym (append-nil (lines_of reaches.front))
+lines_of-parts text count (byte ∷ rest) reaches =
+    ap lines_of reaches.parts ∙ reaches.more (λ empty. absurd cc) (byte ∷ rest)
 
 -- the bytes of so many lines, and those after them
 pub record CutsLines (text : List ℕ) (count size : ℕ) : Type 0 where
@@ -166,13 +181,16 @@ pub CutsLines-reached : (text : List ℕ) (count : ℕ) (rest : List ℕ) → Re
     → CutsLines text count (length text - length rest)
 CutsLines-reached text count rest reaches =
     let front = reaches.front in
-    let size : length front ≡ length text - length rest = omega (arith, ap length reaches.parts, length-append front rest) in
+    let size : length front ≡ length text - length rest =
+    omega (arith, ap length reaches.parts, length-append front rest) in
     let whole = lines_of-parts text count rest reaches in
     record {
       within = omega arith;
-      front = ap lines_of (ap (take (length text - length rest)) reaches.parts ∙ take_at front rest (length text - length rest) size)
+      front =
+          ap lines_of (ap (take (length text - length rest)) reaches.parts ∙ take_at front rest (length text - length rest) size)
           ∙ sym (ap (take count) whole ∙ take_at (lines_of front) (lines_of rest) count reaches.lines);
-      rest = ap lines_of (ap (drop (length text - length rest)) reaches.parts ∙ drop_at front rest (length text - length rest) size)
+      rest =
+          ap lines_of (ap (drop (length text - length rest)) reaches.parts ∙ drop_at front rest (length text - length rest) size)
           ∙ sym (ap (drop count) whole ∙ drop_at (lines_of front) (lines_of rest) count reaches.lines);
     }
 
@@ -191,10 +209,12 @@ false_of false not = refl
 pub position-searched : (text : List ℕ) (found : Option ℕ) → IsFirstByte (is_byte 10) text found
     → found ≡ position is_end text
 position-searched text None nowhere =
-    let len = position_or_len_is is_end text (length text) 0 (le_refl (length text)) (λ k below. false_of (is_end (get_or text k 0)) (nowhere k zero-le below)) (λ below. absurd (lt_irrefl (length text) below)) in
+    let len =
+    position_or_len_is is_end text (length text) 0 (le_refl (length text)) (λ k below. false_of (is_end (get_or text k 0)) (nowhere k zero-le below)) (λ below. absurd (lt_irrefl (length text) below)) in
     rw (len, le-ltb (length text) (length text) (le_refl (length text))) refl
 position-searched text (Some k) first =
-    let len = position_or_len_is is_end text k 0 (le_of_lt first.0.high) (λ j below. false_of (is_end (get_or text j 0)) (first.0.before j zero-le below)) (λ _. first.1) in
+    let len =
+    position_or_len_is is_end text k 0 (le_of_lt first.0.high) (λ j below. false_of (is_end (get_or text j 0)) (first.0.before j zero-le below)) (λ _. first.1) in
     rw (len, lt-ltb k (length text) first.0.high) refl
 
 -- the lines of a text that isn't empty: the one that it begins with, and those after
@@ -203,5 +223,6 @@ pub lines_of-begin : (text line rest : List ℕ) → SplitsLine text line rest �
 lines_of-begin text line rest splits some = elim splits.parts [
   | inl ended ↦ ap lines_of ended ∙ lines_of-first line rest splits.one_line
   | inr whole ↦ let same : line ≢ [] = λ empty. some (whole.0 ∙ empty) in
-      ap lines_of whole.0 ∙ lines_of-last line splits.one_line same ∙ ap (λ (more : List ℕ). line ∷ lines_of more) (sym whole.1)
+      ap lines_of whole.0 ∙ lines_of-last line splits.one_line same
+      ∙ ap (λ (more : List ℕ). line ∷ lines_of more) (sym whole.1)
 ]

@@ -32,7 +32,8 @@ pub words_of-blanks : (blanks rest : List ℕ) → All (λ byte. is_word_byte by
     → words_of (blanks ++ rest) ≡ words_of rest
 words_of-blanks [] rest none = refl
 words_of-blanks (byte ∷ blanks) rest none =
-    words_of-other byte (blanks ++ rest) (none 0 0 (omega arith)) ∙ words_of-blanks blanks rest (λ k d below. none (suc k) d (omega arith))
+    words_of-other byte (blanks ++ rest) (none 0 0 (omega arith))
+    ∙ words_of-blanks blanks rest (λ k d below. none (suc k) d (omega arith))
 
 -- a run of word bytes that another byte ends is the first word
 pub words_of-word : (word : List ℕ) (byte : ℕ) (rest : List ℕ) → 0 < length word
@@ -45,7 +46,8 @@ words_of-word word byte rest some bytes is =
 -- a run of word bytes that nothing follows is the one word
 pub words_of-last : (word : List ℕ) → 0 < length word → All (λ byte. is_word_byte byte ≡ true) word
     → words_of word ≡ word ∷ []
-words_of-last word some bytes = ap (filter is_filled) (slice_split_none is_other word (none_other word bytes)) ∙ filled-cons word [] some
+words_of-last word some bytes =
+    ap (filter is_filled) (slice_split_none is_other word (none_other word bytes)) ∙ filled-cons word [] some
 
 -- what each word has: word bytes alone, and at least one
 pub record IsWord (word : List ℕ) : Type 0 where

@@ -19,7 +19,8 @@ pub record SplitsLine (text line rest : List ℕ) : Type 0 where
 
 -- a text's lines up to an end of line, and those after it, are its lines
 abbrev pub LinesAppend : Type 0
-LinesAppend = (before after : List ℕ) → lines_of (before ++ (10 ∷ after)) ≡ lines_of (before ++ (10 ∷ [])) ++ lines_of after
+LinesAppend =
+    (before after : List ℕ) → lines_of (before ++ (10 ∷ after)) ≡ lines_of (before ++ (10 ∷ [])) ++ lines_of after
 
 -- a text's first line ends at its first byte 10
 abbrev pub FirstLine : Type 0

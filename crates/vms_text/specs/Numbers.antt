@@ -19,7 +19,8 @@ is_numeral (byte ∷ bytes) = is_digit byte && not (byte == 48) && list_all is_d
 
 -- the number that digits spell, if it is at most this one
 abbrev pub digits_of : ℕ → List ℕ → Option ℕ
-digits_of most word = if list_all is_digit word && nat_le (digits_value 10 word) most then Some (digits_value 10 word) else None
+digits_of most word =
+    if list_all is_digit word && nat_le (digits_value 10 word) most then Some (digits_value 10 word) else None
 
 -- the number that a word spells, of any size
 abbrev pub number_of : List ℕ → Option ℕ

@@ -19,7 +19,8 @@ kind_named word =
 
 -- the zone of a node that a word names
 abbrev pub zone_named : Shape → ℕ → List ℕ → Option ℕ
-zone_named shape node word = option_and_then (λ kind. zone_place shape (record { node = node; kind = kind })) (kind_named word)
+zone_named shape node word =
+    option_and_then (λ kind. zone_place shape (record { node = node; kind = kind })) (kind_named word)
 
 -- the place of a node that a word names: one of its zones, or `node` for the node itself
 abbrev pub place_named : Shape → ℕ → List ℕ → Option ℕ

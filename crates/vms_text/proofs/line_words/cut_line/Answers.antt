@@ -23,5 +23,6 @@ loop-at-preserved c =
 pub returns : goal.returns
 returns c =
     let line = c.args.line.now in
-    let ends = words_of-cut line (map (λ word. word.now) c.loop-at.words.items) (map (λ word. word.now) c.add_word-2.new.words.items) c.loop-at.clean c.loop-at.begin c.loop-at.at (omega arith) c.add_word-2.ensures c.loop-at.invariant in
+    let ends =
+    words_of-cut line (map (λ word. word.now) c.loop-at.words.items) (map (λ word. word.now) c.add_word-2.new.words.items) c.loop-at.clean c.loop-at.begin c.loop-at.at (omega arith) c.add_word-2.ensures c.loop-at.invariant in
     record { words = ends.0; clean = ends.1 }

@@ -9,7 +9,9 @@ use Rattle.vms_text.proofs.scanning.next_word.Goals as goal
 
 pub returns-in_err-begin-clause-none : goal.returns-in_err-begin-clause-none
 returns-in_err-begin-clause-none c =
-    let e = sym (ap (position is_word_byte) (take_rest c.args.line.now c.args.from)) ∙ sym c.word_begin.ensures ∙ c.in_err-begin.was in
+    let e =
+    sym (ap (position is_word_byte) (take_rest c.args.line.now c.args.from)) ∙ sym c.word_begin.ensures
+    ∙ c.in_err-begin.was in
     let none = words_of-none (drop c.args.from c.args.line.now) e in
     rw c.from_residual.ensures (λ _. none, λ _. refl)
 
@@ -21,13 +23,16 @@ found line from skipped size begin_found inside is some run =
 
 pub overflow_add-end : goal.overflow_add-end
 overflow_add-end c =
-    let word = found c.args.line.now c.args.from c.in_ok-begin.field-0 c.word_length.result c.word_begin.result c.requires c.word_begin.ensures c.in_ok-begin.was c.word_length.ensures in
+    let word =
+    found c.args.line.now c.args.from c.in_ok-begin.field-0 c.word_length.result c.word_begin.result c.requires c.word_begin.ensures c.in_ok-begin.was c.word_length.ensures in
     grind (arith, common_steps, word.within)
 
 pub returns-clause-word : goal.returns-clause-word
-returns-clause-word c = found c.args.line.now c.args.from c.in_ok-begin.field-0 c.word_length.result c.word_begin.result c.requires c.word_begin.ensures c.in_ok-begin.was c.word_length.ensures
+returns-clause-word c =
+    found c.args.line.now c.args.from c.in_ok-begin.field-0 c.word_length.result c.word_begin.result c.requires c.word_begin.ensures c.in_ok-begin.was c.word_length.ensures
 
 pub returns-clause-none : goal.returns-clause-none
 returns-clause-none c =
-    let word = found c.args.line.now c.args.from c.in_ok-begin.field-0 c.word_length.result c.word_begin.result c.requires c.word_begin.ensures c.in_ok-begin.was c.word_length.ensures in
+    let word =
+    found c.args.line.now c.args.from c.in_ok-begin.field-0 c.word_length.result c.word_begin.result c.requires c.word_begin.ensures c.in_ok-begin.was c.word_length.ensures in
     (λ is. absurd cc, λ empty. let both = sym word.words ∙ empty in absurd cc)
