@@ -1,4 +1,5 @@
-//! Trials of layers below the tool: devices and buffers, a job over a text, and a body over a trace.
+//! Trials of the crates between the grammar and the commands: devices, streams, a command with a body of its own, scripts
+//! and their totals, and runs.
 #![tactic(auto)]
 
 #[cfg(test)]
@@ -6,4 +7,14 @@ mod commands;
 #[cfg(test)]
 mod devices;
 #[cfg(test)]
+mod headers;
+#[cfg(test)]
+mod runs;
+#[cfg(test)]
+mod scripts;
+#[cfg(test)]
+mod starts;
+#[cfg(test)]
 mod streams;
+#[cfg(test)]
+mod totals;

@@ -1,10 +1,30 @@
-//! What the trials of the whole program share: devices in memory, and a run of the tool whose answer is due.
+//! Trials of the whole program over sources and sinks in memory: traces with the output that is due, and faults of
+//! devices, headers, words and limits.
 #![tactic(auto)]
 
+#[cfg(test)]
+mod causes;
+#[cfg(test)]
 mod devices;
+#[cfg(test)]
+mod faults;
+#[cfg(test)]
+mod headers;
+#[cfg(test)]
+mod lanes_of_many_cpus;
+#[cfg(test)]
+mod lanes_of_one_cpu;
+#[cfg(test)]
+mod limits;
+#[cfg(test)]
+mod reports;
+#[cfg(test)]
 mod runs;
+#[cfg(test)]
+mod spelled;
+#[cfg(test)]
 mod texts;
-
-pub use devices::{Devices, SOUND};
-pub use runs::{Trial, answers, answers_on, run};
-pub use texts::{AFTER_ZONE, BETWEEN, HEADER};
+#[cfg(test)]
+mod unbuilt;
+#[cfg(test)]
+mod usage;

@@ -1,7 +1,0 @@
-//! Trials of layouts, encodings and formulas.
-#![tactic(auto)]
-
-#[cfg(test)]
-mod formulas;
-#[cfg(test)]
-mod layouts;

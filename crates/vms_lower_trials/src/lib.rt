@@ -1,0 +1,18 @@
+//! Trials of the crates at the bottom: layouts, encodings and formulas, words, headers and lines with their causes, and what
+//! is written of them.
+#![tactic(auto)]
+
+#[cfg(test)]
+mod formulas;
+#[cfg(test)]
+mod headers;
+#[cfg(test)]
+mod layouts;
+#[cfg(test)]
+mod lines;
+#[cfg(test)]
+mod spellings;
+#[cfg(test)]
+mod texts;
+#[cfg(test)]
+mod written;
