@@ -24,14 +24,14 @@ module _ (shape : Shape) (layout : IsLayout shape) where
   positions-pos = by_positions (λ n. 0 < n) (omega arith) (omega arith)
 
   -- at most as many nodes as there are node numbers
-  pub nodes-most : length shape.nodes ≤ 16
-  nodes-most = elim (cases_lt (length shape.nodes) 17) [
+  pub nodes_most-holds : length shape.nodes ≤ 16
+  nodes_most-holds = elim (cases_lt (length shape.nodes) 17) [
     | inl few ↦ omega arith
     | inr many ↦ absurd (omega (arith, grows shape.nodes layout.nodes_ascend 16 (omega arith), layout.nodes_most 16 0 (omega arith)))
   ]
 
   pub place_count-most : place_count shape ≤ 32
-  place_count-most = omega (arith, nodes-most, layout.zones_most)
+  place_count-most = omega (arith, nodes_most-holds, layout.zones_most)
 
   pub counter_count-most : counter_count shape ≤ 512
   counter_count-most =
@@ -73,8 +73,8 @@ module _ (shape : Shape) (layout : IsLayout shape) where
   counter_at-whole counter = omega (arith, div-add-mod' counter shape.positions)
 
   -- the counters of a group have one place
-  pub place_of-group : (counter : ℕ) → place_of shape (first_of (group_of counter)) ≡ place_of shape counter
-  place_of-group counter = by_positions (λ n. 8 * (counter / 8) / n ≡ counter / n) (omega arith) (omega arith)
+  pub place_of-first_of_group : (counter : ℕ) → place_of shape (first_of (group_of counter)) ≡ place_of shape counter
+  place_of-first_of_group counter = by_positions (λ n. 8 * (counter / 8) / n ≡ counter / n) (omega arith) (omega arith)
 
   -- the eight counters of a group
   pub IsCounter-member : (group i : ℕ) → IsGroup shape group → i < 8 → IsCounter shape (first_of group + i)

@@ -90,8 +90,8 @@ module _ (items : List ItemDecl) where
       next-ascends order (position (λ item. bytes_eq item.name name && not item.bytes)
       (filter (λ item. not item.node) items)) (areas_named items (suc order) names) more.0 more.1
 
-  pub from-on : (order : ℕ) (areas : List Area) → All (FromOn order) (areas_from order areas)
-  from-on order areas i d less =
+  pub FromOn-holds : (order : ℕ) (areas : List Area) → All (FromOn order) (areas_from order areas)
+  FromOn-holds order areas i d less =
       leb-true order (get_or (areas_from order areas) i d).order
       (filter_passes (λ area. nat_le order area.order) areas i d less)
 
@@ -99,5 +99,5 @@ pub AreasAscend-holds : AreasAscend
 AreasAscend-holds order items = (
   AllPairs-filter (Before items) (λ area. nat_le order area.order) (areas_of items)
       (named-ascend items 1 area_names).0,
-  from-on items order (areas_of items),
+  FromOn-holds items order (areas_of items),
 )

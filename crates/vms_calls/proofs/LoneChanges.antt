@@ -15,7 +15,7 @@ use Rattle.vms_history.specs.Events.{own}
 use Rattle.vms_history.specs.Passes.Role.{Works}
 use Rattle.vms_history.proofs.Own.{own-after_others}
 use Rattle.vms_history.proofs.Prefixes.{base_can_begin}
-use Rattle.vms_core.proofs.WorkerSteps.{event, Stands, Stands-next, owner_now, spent-next}
+use Rattle.vms_core.proofs.WorkerSteps.{event, Stands, Stands-next, owner_now, spent-after}
 use Rattle.vms_core.proofs.WithChange.{with_carried-nothing, with_change-steps}
 use Rattle.vms_calls.proofs.Amounts.{if-cancelled}
 use Rattle.vms_history.proofs.Choices.{zero_or_not}
@@ -75,7 +75,7 @@ module _ (facts : Facts) (h : History) (p : ℕ) (cpu : CpuId) (k : CounterId) (
 
   spent_next : (mine : History) (now : State) (g : History) (step : Step) → Now mine now g → (c l : ℕ)
       → spent (made step ∷ g) c l ≡ spent_by (Some cpu) c l step + spent g c l
-  spent_next = spent-next facts p cpu may.other_than_main (own h 0) may.lives may.owner
+  spent_next = spent-after facts p cpu may.other_than_main (own h 0) may.lives may.owner
 
   is_layout : IsLayout facts.layout
   is_layout = (base_can_begin pages facts h may.legal).layout

@@ -42,15 +42,15 @@ module _ (facts : Facts) (p : ℕ) (earlier : History) where
       rest last.before last.made)
 
   -- a CPU that is online in the base was found online
-  found-online : (d : ℕ) → cpu_at facts.base d ≡ Online
+  FoundOnline-holds : (d : ℕ) → cpu_at facts.base d ≡ Online
       → (c : ℕ) (states : List CpuState) (xs ys : List Step) (later : History)
       → HasMade facts later earlier p (xs ++ (in_turn state_steps c states ++ ys)) → c ≤ d → d < c + length states
       → 1 ≤ length (online_from c states)
-  found-online d online c [] xs ys later has from to = absurd (omega arith)
-  found-online d online c (x ∷ states) xs ys later has from to = ⊎_elim
+  FoundOnline-holds d online c [] xs ys later has from to = absurd (omega arith)
+  FoundOnline-holds d online c (x ∷ states) xs ys later has from to = ⊎_elim
       (λ (here : c ≡ d). at (is_online x) (ap is_online (sym (told here))))
       (λ (other : c ≡ d → ⊥).
-      more (is_online x) (found-online d online (suc c) states (xs ++ (load ∷ [])) ys later parts (omega arith)
+      more (is_online x) (FoundOnline-holds d online (suc c) states (xs ++ (load ∷ [])) ys later parts (omega arith)
       (omega arith)))
       (cases_eq c d)
     where
@@ -85,7 +85,7 @@ module _ (facts : Facts) (p : ℕ) (earlier : History) where
   states-online states xs ys later one_each has =
       let base = (base_can_begin pages facts later has.legal) in
       let up = base.opening.some_online in
-      found-online up.0 up.2 0 states xs ys later has (omega arith) (let within = up.1 in omega arith)
+      FoundOnline-holds up.0 up.2 0 states xs ys later has (omega arith) (let within = up.1 in omega arith)
 
   call-online : (Chooses : Choice) (n : PlaceId) (h : History) (call xs ys : List Step)
       (rates : RatesNode facts Chooses n p h call) (later : History)
@@ -109,14 +109,14 @@ module _ (facts : Facts) (p : ℕ) (earlier : History) where
       states-online refresh.states xs (refresh.further ++ nodes) later refresh.one_each
       (subst (HasMade facts later earlier p) same has)
 
-  settles-online : (normal : ZoneSize → ℕ → ℕ → Type 0) (n : PlaceId) (answer : Balance) (h : History)
+  SettlesOnline-holds : (normal : ZoneSize → ℕ → ℕ → Type 0) (n : PlaceId) (answer : Balance) (h : History)
       (steps xs : List Step) (settles : Settles facts normal n p answer h steps) (later : History)
       → HasMade facts later earlier p (xs ++ steps)
       → SettlesOnline facts normal n p answer h steps settles
-  settles-online normal n (Yes g verdict) h steps xs settles later has =
+  SettlesOnline-holds normal n (Yes g verdict) h steps xs settles later has =
       call-online (ByNormal normal) n h steps xs [] settles later
       (subst (λ ks. HasMade facts later earlier p (xs ++ ks)) (sym (append-nil steps)) has)
-  settles-online normal n No h steps xs settles later has = tt
+  SettlesOnline-holds normal n No h steps xs settles later has = tt
 
 pub node-online : (Chooses : Choice) → NodeFindsOnline Chooses
 node-online Chooses facts n p later h steps rates has =
@@ -139,7 +139,7 @@ turn-online pressure normal header base n order most p later h steps answer call
     let whole = subst (HasMade facts later h p) call.in_order has in (
       call-online facts p h (ByPressure pressure normal) n h call.pressed [] (call.test ++ call.further) call.presses
           later whole,
-      settles-online facts p h normal n answer (after p (call.pressed ++ call.test) h) call.further
+      SettlesOnline-holds facts p h normal n answer (after p (call.pressed ++ call.test) h) call.further
           (call.pressed ++ call.test) call.settles later
           (subst (HasMade facts later h p) (sym (append_assoc call.pressed call.test call.further)) whole),
     )

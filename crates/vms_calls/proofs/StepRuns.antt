@@ -191,8 +191,8 @@ module _ (facts : Facts) (p : ℕ) where
         mark_now : IsControl ideal p → (z : ℕ) → mark_at (state_after facts h) z ≡ mark_in facts z ideal
         mark_now control z = mark_at-told facts h legal z ∙ agrees.marks control z
 
-        may-make : (k : Step) → Fits ideal k → Tells facts h p k → IsLegal facts (event facts p k ∷ h)
-        may-make (LoadT z t a) fits tells =
+        MayMake-holds : (k : Step) → Fits ideal k → Tells facts h p k → IsLegal facts (event facts p k ∷ h)
+        MayMake-holds (LoadT z t a) fits tells =
             let owner = agrees.owner ∙ fits.1.1 in
             let told = tells fits.1.0 owner in (
               legal,
@@ -205,20 +205,20 @@ module _ (facts : Facts) (p : ℕ) where
                 number = told.1;
               },
             )
-        may-make (LoadD c j w) fits tells = (legal, acts, record { cpu = fits.0; group = fits.1; values = tells })
-        may-make (Take c j w) fits tells = (legal, acts, record { cpu = fits.0; group = fits.1; values = tells })
-        may-make (Put k w t delta how) fits tells =
+        MayMake-holds (LoadD c j w) fits tells = (legal, acts, record { cpu = fits.0; group = fits.1; values = tells })
+        MayMake-holds (Take c j w) fits tells = (legal, acts, record { cpu = fits.0; group = fits.1; values = tells })
+        MayMake-holds (Put k w t delta how) fits tells =
             let may = may_exchange k w t delta fits in
             put-follows facts h p fits.cpu k w t delta may how
             (⊎_elim (λ told. told) (zeros-win facts h p fits.cpu k w t delta may)
             (tells fits.cpu (agrees.owner ∙ fits.owner)))
-        may-make (Miss j w) fits tells =
+        MayMake-holds (Miss j w) fits tells =
             let e = fits.exchanging in
             miss-follows facts h p e.cpu fits.k w fits.t fits.delta (may_exchange fits.k w fits.t fits.delta e)
             j fits.group
             (λ told. tells e.cpu (agrees.owner ∙ e.owner)
             (subst (λ n. TellsGroup (state_after facts h) e.cpu.number n w.values) (sym fits.group) told))
-        may-make (AddG k a) fits tells = (
+        MayMake-holds (AddG k a) fits tells = (
           legal,
           acts,
           record {
@@ -228,7 +228,7 @@ module _ (facts : Facts) (p : ℕ) where
             some = fits.some;
           },
         )
-        may-make (AddS i a) fits tells = (
+        MayMake-holds (AddS i a) fits tells = (
           legal,
           acts,
           record {
@@ -237,11 +237,11 @@ module _ (facts : Facts) (p : ℕ) where
             some = fits.some;
           },
         )
-        may-make (LoadG k v) fits tells = (legal, acts, (fits, tells))
-        may-make (LoadS i v) fits tells = (legal, acts, (fits, tells))
-        may-make (LoadM z m a) fits tells = (legal, acts, record { zone = fits; value = tells.0; number = tells.1 })
-        may-make (LoadO c x) fits tells = (legal, acts, (fits, tells))
-        may-make (SetT c z t) fits tells =
+        MayMake-holds (LoadG k v) fits tells = (legal, acts, (fits, tells))
+        MayMake-holds (LoadS i v) fits tells = (legal, acts, (fits, tells))
+        MayMake-holds (LoadM z m a) fits tells = (legal, acts, record { zone = fits; value = tells.0; number = tells.1 })
+        MayMake-holds (LoadO c x) fits tells = (legal, acts, (fits, tells))
+        MayMake-holds (SetT c z t) fits tells =
             let mark_is = mark_now fits.control z.number in
             let sum_is : peak_sum facts z.number (event facts p (SetT c z t) ∷ h)
             ≡ peak_sum facts z.number (event facts p (SetT c z t) ∷ ideal) =
@@ -264,7 +264,7 @@ module _ (facts : Facts) (p : ℕ) where
                     (fits.covers zone));
               },
             )
-        may-make (SetM z m) fits tells =
+        MayMake-holds (SetM z m) fits tells =
             let sum_is = peak_sum-same facts z.number h ideal (agrees.peaks fits.control z.number) in (
               legal,
               acts,
@@ -275,14 +275,14 @@ module _ (facts : Facts) (p : ℕ) where
                 covers = subst (λ n. Covers (size_at facts.sizes z.number) m n) (sym sum_is) fits.covers;
               },
             )
-        may-make (SetO c) fits tells = (
+        MayMake-holds (SetO c) fits tells = (
           legal,
           acts,
           SetsAbsent-taken facts h p c legal (control_now fits.control) fits.cpu
               (online_now fits.control c.number fits.cpu ∙ fits.dead)
               (subst (λ es. HasTakenAll facts c.number es) (sym agrees.mine) fits.took_all),
         )
-        may-make (SetA z a) fits tells = (
+        MayMake-holds (SetA z a) fits tells = (
           legal,
           acts,
           record {
@@ -295,10 +295,10 @@ module _ (facts : Facts) (p : ℕ) where
             put_nothing = ap (has_put facts.layout z.number) agrees.mine ∙ fits.put_nothing;
           },
         )
-        may-make (LoadA c z x) fits tells =
+        MayMake-holds (LoadA c z x) fits tells =
             (legal, acts, record { control = control_now fits.0; cpu = fits.1; zone = fits.2; value = tells })
-        may-make (Split q who) fits tells = absurd fits
-        may-make (Join q) fits tells = absurd fits
+        MayMake-holds (Split q who) fits tells = absurd fits
+        MayMake-holds (Join q) fits tells = absurd fits
 
   module _ (earlier : History) (living : IsLivePass facts earlier p) where
     given : p ≢ 0
@@ -328,5 +328,5 @@ module _ (facts : Facts) (p : ℕ) where
         let ideal = after p done earlier in
         let now = runs-after who done (k ∷ rest) earlier (λ then. Unit {0})
         (subst (λ ks. Runs who ks earlier (λ then. Unit {0})) parts runs) (made-told done later has) in
-        may-make who later ideal has.legal agrees (owned_by done) (given, has.lives) k
+        MayMake-holds who later ideal has.legal agrees (owned_by done) (given, has.lives) k
         (now.0 (knows-of who later ideal has.legal agrees (owned_by done))) tells

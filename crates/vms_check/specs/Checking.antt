@@ -7,7 +7,7 @@ use Rattle.vms_text.specs.declared.acts.Line.TheVariants.{Blank}
 use Rattle.vms_line.specs.declared.causes.LineCause.{LineCause}
 use Rattle.vms_header.specs.Spelling.{spelled_header}
 use Rattle.vms_line.specs.Spelling.{spelled_line}
-use Rattle.vms_stream.specs.Machines.{Machine}
+use Rattle.vms_stream.specs.Behaviors.{Behavior}
 use Rattle.vms_command.specs.Bodies.{shown}
 use Rattle.vms_command.specs.Commands.{Command, CommandState, ending_of, following}
 use Rattle.vms_command.specs.Lines.{LinesAbove}
@@ -40,7 +40,7 @@ checking = record {
 }
 
 -- a check, line by line
-abbrev pub check : Machine (CommandState (Unit {0}))
+abbrev pub check : Behavior (CommandState (Unit {0}))
 check = following checking
 
 -- what is written for a text: the one line of a refused header, or the header, what is written for each line, and the

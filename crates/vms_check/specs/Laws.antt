@@ -5,7 +5,7 @@ use Rattle.vms_text.specs.Lines.{lines_of}
 use Rattle.vms_header.specs.Stages.{read_header}
 use Rattle.vms_header.specs.Spelling.{header_words, spelled_header}
 use Rattle.vms_stream.specs.declared.halts.Halt.TheVariants.{Exceeds}
-use Rattle.vms_stream.specs.Machines.{halted, output}
+use Rattle.vms_stream.specs.Behaviors.{halted, output}
 use Rattle.vms_command.specs.Limits.{most_lines}
 use Rattle.vms_command.specs.Lines.{come_to, nothing_above}
 use Rattle.vms_command.specs.Texts.{body_text}

@@ -12,14 +12,14 @@ use Rattle.vms_header.specs.Stages.HeadStep.{Goes, Ends}
 use Rattle.vms_script.specs.Judging.{judged}
 use Rattle.vms_stream.specs.declared.halts.Halt.{Halt}
 use Rattle.vms_stream.specs.declared.halts.Halt.TheVariants.{Exceeds, Refuses}
-use Rattle.vms_stream.specs.Machines.{first_halt, halted, last_words, state_after, printed, printed_from}
+use Rattle.vms_stream.specs.Behaviors.{first_halt, halted, last_words, state_after, printed, printed_from}
 use Rattle.vms_command.specs.Commands.{Command, CommandState, following, halted_at, exceeds, after_head, printed_head}
 use Rattle.vms_command.specs.Commands.{refuses}
 use Rattle.vms_command.specs.Commands.CommandState.{Heading, Body}
 use Rattle.vms_command.specs.Limits.{most_lines, exceeds_limit}
 use Rattle.vms_command.specs.Lines.{LinesAbove, come_to, nothing_above, with_judged}
 use Rattle.vms_command.specs.Texts.{WritesTexts, body_text, kept_of, printed_of, text_under}
-use Rattle.vms_stream.specs.Machines.{Machine}
+use Rattle.vms_stream.specs.Behaviors.{Behavior}
 
 -- where no limit is exceeded, a line stops the command for what it says alone
 unless_beyond : (b : Bool) (halt : Option Halt) → (if b then Some Exceeds else halt) ≢ Some Exceeds
@@ -65,16 +65,16 @@ written-refused halt line later rest words refused = ap (λ (at : Option Halt). 
     refused ∙ append-nil line
 
 module _ {K : Type 0} (command : Command K) where
-  abbrev machine : Machine (CommandState K)
-  machine = following command
+  abbrev behavior : Behavior (CommandState K)
+  behavior = following command
 
   -- what is written of lines, and at their end
   abbrev written_from : CommandState K → List (List ℕ) → List ℕ
-  written_from s lines = printed machine s lines ++ last_words (halted machine s lines)
-      (machine.last (state_after machine s lines))
+  written_from s lines = printed behavior s lines ++ last_words (halted behavior s lines)
+      (behavior.last (state_after behavior s lines))
 
   body_written : (n : ℕ) (header : Header) (above : LinesAbove) (kept : K) (lines : List (List ℕ))
-      → halted machine (Body n header above kept) lines ≢ Some Exceeds
+      → halted behavior (Body n header above kept) lines ≢ Some Exceeds
       → written_from (Body n header above kept) lines
       ≡ printed_of command header n above lines ++ command.last header (come_to header above lines)
       (kept_of command header n above kept lines)
@@ -85,54 +85,54 @@ module _ {K : Type 0} (command : Command K) where
       let kept' = command.next header n above result kept in
       let next = Body (suc n) header above' kept' in
       let over = exceeds_limit above.lines result in
-      let here = first_within (halted_at n (exceeds over)) (halted machine next lines) within in
+      let here = first_within (halted_at n (exceeds over)) (halted behavior next lines) within in
       let same = within_at n (exceeds over) here in
       let none = same ∙ unless_over over (λ is. here (same ∙ is)) in
-      written-on (halted_at n (exceeds over)) (command.prints header n above result) (printed machine next lines)
-      (halted machine next lines) (machine.last (state_after machine next lines)) none
+      written-on (halted_at n (exceeds over)) (command.prints header n above result) (printed behavior next lines)
+      (halted behavior next lines) (behavior.last (state_after behavior next lines)) none
       ∙ ap (λ (rest : List ℕ). command.prints header n above result ++ rest)
       (body_written (suc n) header above' kept' lines
-      (later_within (halted_at n (exceeds over)) (halted machine next lines) none within))
+      (later_within (halted_at n (exceeds over)) (halted behavior next lines) none within))
       ∙ sym (append_assoc (command.prints header n above result) (printed_of command header (suc n) above' lines)
       (command.last header (come_to header above' lines) (kept_of command header (suc n) above' kept' lines)))
 
   -- what is written from a line of the header on, by what was read of the line
   step_written : (k : ℕ) (stage : Stage) (read : Result HeadStep HeaderCause) (lines all : List (List ℕ))
       → drop (suc k) all ≡ lines
-      → first_halt (halted_at (suc k) (refuses read)) (halted machine (after_head command (suc k) stage read) lines)
+      → first_halt (halted_at (suc k) (refuses read)) (halted behavior (after_head command (suc k) stage read) lines)
       ≢ Some Exceeds
-      → ((next : Stage) → halted machine (Heading (suc (suc k)) next) lines ≢ Some Exceeds
+      → ((next : Stage) → halted behavior (Heading (suc (suc k)) next) lines ≢ Some Exceeds
       → written_from (Heading (suc (suc k)) next) lines ≡ text_under command (header_from (suc (suc k)) next lines) all)
       → written_at (halted_at (suc k) (refuses read)) (printed_head command (suc k) read)
-      (printed machine (after_head command (suc k) stage read) lines)
-      (halted machine (after_head command (suc k) stage read) lines)
-      (machine.last (state_after machine (after_head command (suc k) stage read) lines))
+      (printed behavior (after_head command (suc k) stage read) lines)
+      (halted behavior (after_head command (suc k) stage read) lines)
+      (behavior.last (state_after behavior (after_head command (suc k) stage read) lines))
       ≡ text_under command (on_step (suc k) read (λ next. header_from (suc (suc k)) next lines)) all
   step_written k stage (Ok (Goes next)) lines all is within follows =
       let at : CommandState K = Heading (suc (suc k)) next in
-      let none = within_at (suc k) None (first_within (halted_at (suc k) None) (halted machine at lines) within) in
-      written-on (halted_at (suc k) None) [] (printed machine at lines) (halted machine at lines)
-      (machine.last (state_after machine at lines)) none
-      ∙ follows next (later_within (halted_at (suc k) None) (halted machine at lines) none within)
+      let none = within_at (suc k) None (first_within (halted_at (suc k) None) (halted behavior at lines) within) in
+      written-on (halted_at (suc k) None) [] (printed behavior at lines) (halted behavior at lines)
+      (behavior.last (state_after behavior at lines)) none
+      ∙ follows next (later_within (halted_at (suc k) None) (halted behavior at lines) none within)
   step_written k stage (Ok (Ends draft)) lines all is within follows =
       let header = header_of draft in
       let at : CommandState K = Body (suc (suc k)) header nothing_above (command.begins header) in
-      let none = within_at (suc k) None (first_within (halted_at (suc k) None) (halted machine at lines) within) in
-      written-on (halted_at (suc k) None) (command.opens header) (printed machine at lines) (halted machine at lines)
-      (machine.last (state_after machine at lines)) none
+      let none = within_at (suc k) None (first_within (halted_at (suc k) None) (halted behavior at lines) within) in
+      written-on (halted_at (suc k) None) (command.opens header) (printed behavior at lines) (halted behavior at lines)
+      (behavior.last (state_after behavior at lines)) none
       ∙ ap (λ (bytes : List ℕ). command.opens header ++ bytes)
       (body_written (suc (suc k)) header nothing_above (command.begins header) lines
-      (later_within (halted_at (suc k) None) (halted machine at lines) none within))
+      (later_within (halted_at (suc k) None) (halted behavior at lines) none within))
       ∙ ap (λ (body : List (List ℕ)). command.opens header ++ body_text command header (suc (suc k)) body) (sym is)
   step_written k stage (Err cause) lines all is within follows =
       let at : CommandState K = Heading (suc k) stage in
       let refused = within_at (suc k) (Some Refuses)
-      (first_within (halted_at (suc k) (Some Refuses)) (halted machine at lines) within) in
+      (first_within (halted_at (suc k) (Some Refuses)) (halted behavior at lines) within) in
       written-refused (halted_at (suc k) (Some Refuses)) (printed_head command (suc k) (Err cause))
-      (printed machine at lines) (halted machine at lines) (machine.last (state_after machine at lines)) refused
+      (printed behavior at lines) (halted behavior at lines) (behavior.last (state_after behavior at lines)) refused
 
   head_written : (k : ℕ) (stage : Stage) (lines all : List (List ℕ)) → drop k all ≡ lines
-      → halted machine (Heading (suc k) stage) lines ≢ Some Exceeds
+      → halted behavior (Heading (suc k) stage) lines ≢ Some Exceeds
       → written_from (Heading (suc k) stage) lines ≡ text_under command (header_from (suc k) stage lines) all
   head_written k stage [] all is within = refl
   head_written k stage (line ∷ lines) all is within =

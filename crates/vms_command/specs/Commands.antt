@@ -1,4 +1,4 @@
--- Commands on a trace, as machines that go from line to line: through the header, and then through the body.
+-- Commands on a trace by their behavior from line to line: through the header, and then through the body.
 use Rattle.std.specs.Prelude.{Bool, ℕ, suc, nat_lt, if◌then◌else◌, List, [], Option, Some, None, Result, Ok, Err}
 use Rattle.vms_base.specs.declared.headers.Header.{Header}
 use Rattle.vms_text.specs.declared.acts.Line.{Line}
@@ -9,7 +9,7 @@ use Rattle.vms_header.specs.Stages.{Stage, HeadStep, head_line, missing}
 use Rattle.vms_header.specs.Stages.Stage.{Opening}
 use Rattle.vms_header.specs.Stages.HeadStep.{Goes, Ends}
 use Rattle.vms_script.specs.Judging.{judged}
-use Rattle.vms_stream.specs.Machines.{Machine}
+use Rattle.vms_stream.specs.Behaviors.{Behavior}
 use Rattle.vms_stream.specs.declared.endings.Ending.{Ending}
 use Rattle.vms_stream.specs.declared.endings.Ending.TheVariants.{Done, Refused, HeaderRefused}
 use Rattle.vms_stream.specs.declared.halts.Halt.{Halt}
@@ -91,7 +91,7 @@ ends_as command (Heading n stage) = HeaderRefused
 ends_as command (Body n header above kept) = command.ends above
 
 -- a command, line by line
-abbrev pub following : {K : Type 0} → Command K → Machine (CommandState K)
+abbrev pub following : {K : Type 0} → Command K → Behavior (CommandState K)
 following command = record {
   start = Heading 1 Opening;
   next = after_line command;

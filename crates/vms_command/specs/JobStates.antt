@@ -97,7 +97,7 @@ abbrev pub line_of : {K : Type 0} → CommandState K → ℕ
 line_of (Heading n stage) = n
 line_of (Body n header above kept) = n
 
--- a command after lines that bring its machine to this
+-- a command after lines that bring it to this state
 pub record StandsAt {K B : Type 0} (stands : B → Header → LinesAbove → K → Type 0) (job : TraceJob B)
     (state : CommandState K) : Type 0 where
   pub line : job.line ≡ line_of state

@@ -5,7 +5,7 @@ use Rattle.vms_text.specs.Lines.{lines_of}
 use Rattle.vms_header.specs.Stages.{Fault, read_header}
 use Rattle.vms_script.specs.Judging.{judged}
 use Rattle.vms_stream.specs.declared.halts.Halt.TheVariants.{Exceeds}
-use Rattle.vms_stream.specs.Machines.{halted, output}
+use Rattle.vms_stream.specs.Behaviors.{halted, output}
 use Rattle.vms_command.specs.Commands.{Command, following}
 use Rattle.vms_command.specs.Lines.{LinesAbove, come_to, nothing_above, with_judged}
 use Rattle.vms_command.specs.Printing.{header_line}

@@ -91,7 +91,7 @@ impl<B: Body> Job for TraceJob<B> {
 
     ghost State = { CommandState B.Kept };
 
-    ghost machine = { following B.command };
+    ghost behavior = { following B.command };
 
     ghost Stands = { StandsAt B.Stands };
 

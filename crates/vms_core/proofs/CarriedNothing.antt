@@ -107,8 +107,8 @@ module _ (facts : Facts) where
       (lives_or_carries_nothing h complete.legal p)
 
   -- so nothing is carried for any counter or item
-  pub none-carried : (h : History) → IsComplete facts h → (k : ℕ) → carried_by_all h k ≡ pos 0
-  none-carried h complete k =
+  pub carried_by_all-none : (h : History) → IsComplete facts h → (k : ℕ) → carried_by_all h k ≡ pos 0
+  carried_by_all-none h complete k =
       sum_below-zeros (λ p. carried k (own h p)) (suc (begun_in role h))
       (λ p below. (ended-carry_nothing h complete p).counters k)
 

@@ -7,7 +7,7 @@ use Rattle.vms_history.specs.declared.events.Event.{Event}
 use Rattle.vms_history.specs.Events.{own, total}
 use Rattle.vms_history.specs.Passes.{begun_in}
 use Rattle.vms_history.specs.Sums.{sum_below}
-use Rattle.vms_history.proofs.CallerSums.{total-by_caller}
+use Rattle.vms_history.proofs.CallerSums.{total-of_callers}
 use Rattle.vms_history.proofs.Own.{own-mine, own-others}
 use Rattle.vms_history.proofs.Prefixes.{own-keeps}
 use Rattle.vms_history.proofs.SumBounds.{sum_below-le}
@@ -55,9 +55,9 @@ module _ (facts : Facts) (moved : Step → ℤ) (out added : Step → ℕ)
   added-within h legal =
       let n : ℕ = suc (begun_in role h) in
       let all_added : sizes added h ≡ sum_below (λ p. sizes added (own h p)) n =
-      total-by_caller pages facts (λ k. pos (added k)) h n legal (omega arith) in
+      total-of_callers pages facts (λ k. pos (added k)) h n legal (omega arith) in
       let all_out : sizes out h ≡ sum_below (λ p. sizes out (own h p)) n =
-      total-by_caller pages facts (λ k. pos (out k)) h n legal (omega arith) in
+      total-of_callers pages facts (λ k. pos (out k)) h n legal (omega arith) in
       let each = sum_below-le (λ p. sizes added (own h p)) (λ p. sizes out (own h p)) n
       (λ p below. omega (arith, ints, own-within h legal p)) in
       rw (all_added, all_out) each

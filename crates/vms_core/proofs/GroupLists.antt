@@ -23,7 +23,7 @@ use Rattle.vms_core.specs.Own.{found, found_after}
 use Rattle.vms_core.specs.Pages.{pages, History, IsLegal, state_after}
 use Rattle.vms_core.proofs.CellLemmas.{TellsGroup-cells}
 use Rattle.vms_core.proofs.Effects.{group-within, group-cells}
-use Rattle.vms_core.proofs.PeakBounds.{last-within, peaks-in_range}
+use Rattle.vms_core.proofs.PeakBounds.{last_within-holds, peaks-in_range}
 use Rattle.vms_core.proofs.Shapes.{HasShape-state_after}
 
 -- what a caller found last has eight entries
@@ -92,7 +92,7 @@ group_is_list facts h legal c j c_in j_in =
     let layout = (base_can_begin pages facts h legal).layout in
     let small : (i : ℕ) → i < 8 → unsigned_abs (diff_at s c (8 * j + i)) ≤ most_threshold = λ i less.
     let place = place_of facts.layout (8 * j + i) in
-    let within = last-within facts h legal c (8 * j + i) c_in (known i less) in
+    let within = last_within-holds facts h legal c (8 * j + i) c_in (known i less) in
     let peak = peaks-in_range facts h legal c place c_in (place_of-lt facts.layout layout (8 * j + i) (known i less)) in
     omega (arith, within.differential, within.last, peak) in
     let values = take 8 (drop (cell (counters_of s) c (8 * j)) s.diff) in

@@ -20,7 +20,7 @@ use Rattle.vms_core.specs.Peaks.{cpu_after, cpu_in, peak, if_present}
 use Rattle.vms_core.specs.Steps.{role}
 use Rattle.vms_history.proofs.CountLemmas.{count_below-least}
 use Rattle.vms_core.proofs.Effects.{diff_after, diff_at-effect, owned}
-use Rattle.vms_core.proofs.PeakBounds.{last-within}
+use Rattle.vms_core.proofs.PeakBounds.{last_within-holds}
 use Rattle.vms_core.proofs.Settings.{cpu_at-newest, cpu_at-state_after}
 use Rattle.vms_core.proofs.Shapes.{HasShape-state_after}
 
@@ -79,7 +79,7 @@ hidden-within facts h legal k k_in = count_below-least
     (λ c. if_present (cpu_in facts c h) (peak facts c (place_of facts.layout k) h))
     facts.layout.cpus
     (λ c c_in.
-    let within = last-within facts h legal c k c_in k_in in
+    let within = last_within-holds facts h legal c k c_in k_in in
     hidden-present (cpu_in facts c h) (unsigned_abs (diff_at (state_after facts h) c k))
     (peak facts c (place_of facts.layout k) h)
     (λ gone. ap unsigned_abs (absent-zero facts h legal c k c_in k_in (cpu_at-state_after facts h legal c c_in ∙ gone)))

@@ -6,7 +6,7 @@ use Rattle.std.proofs.lemmas.Int.{ints}
 use Rattle.std.proofs.lemmas.Bool.{ne_eqb, cases_lt}
 use Rattle.std.proofs.lemmas.Bool.Decides.{nat_tests}
 use Rattle.vms_base.specs.Places.{Shape, IsLayout, IsCounter, counter_at, item_of, counter_count, place_count}
-use Rattle.vms_base.proofs.Counts.{nodes-most, counter_at-place, counter_at-position}
+use Rattle.vms_base.proofs.Counts.{nodes_most-holds, counter_at-place, counter_at-position}
 use Rattle.vms_history.specs.Sums.{sum_below}
 use Rattle.vms_history.proofs.SumLaws.{sum_below-same, sum_below-zeros}
 use Rattle.vms_core.proofs.CounterRanges.{counter_at-known}
@@ -138,6 +138,6 @@ module _ (shape : Shape) (layout : IsLayout shape) where
           let second = nodes_within most (λ g g_in g_below. rw (node_row g g_in)
           (one_is shape.positions i (λ q. f (shape.positions * g + q)) shape.positions most
           (λ q q_in. within _ (counter_at-known shape layout g q g_below q_in)))) in
-          let few : length shape.nodes * most ≤ 16 * most = mul-le-mul_right most (nodes-most shape layout) in
+          let few : length shape.nodes * most ≤ 16 * most = mul-le-mul_right most (nodes_most-holds shape layout) in
           omega (arith, ints, halves, first, second, few)
     ]

@@ -16,7 +16,7 @@ use Rattle.vms_history.specs.Passes.{owner_in, begun_in}
 use Rattle.vms_history.specs.Sums.{sum_below}
 use Rattle.vms_history.proofs.Choices.{if-either, if-cancels}
 use Rattle.vms_history.proofs.SumLaws.{sum_below-same, sum_below-sum, sum_below-zeros}
-use Rattle.vms_history.proofs.CallerSums.{total-by_caller}
+use Rattle.vms_history.proofs.CallerSums.{total-of_callers}
 use Rattle.vms_core.specs.declared.states.State.{State}
 use Rattle.vms_core.specs.declared.steps.Facts.{Facts}
 use Rattle.vms_core.specs.declared.steps.Step.{Step}
@@ -212,5 +212,5 @@ system_at-moved facts (e ∷ h) i legal =
 pub system_totals-kept : (facts : Facts) (h : History) → IsLegal facts h → KeepsSystemTotals facts h
 system_totals-kept facts h legal i i_in =
     let all : total (moved_of_item facts.layout i) h ≡ carried_of_item_by_all facts.layout h i =
-    total-by_caller pages facts (moved_of_item facts.layout i) h (suc (begun_in role h)) legal (omega arith) in
+    total-of_callers pages facts (moved_of_item facts.layout i) h (suc (begun_in role h)) legal (omega arith) in
     rw all at (system_at-moved facts h i legal)

@@ -16,8 +16,8 @@ use Rattle.vms_core.proofs.Magnitudes.{magnitudes-bounded}
 use Rattle.vms_core.proofs.MarkCovers.{covers-kept}
 use Rattle.vms_core.proofs.Moves.{moves-bounded, volumes-kept}
 use Rattle.vms_core.proofs.OfflineGroups.{offline-stay_taken}
-use Rattle.vms_core.proofs.PeakBounds.{last-within, thresholds-within, peaks-in_range, used-bounded}
-use Rattle.vms_core.proofs.PeakBounds.{loaded-bounded, loaded-within_peak, loaded-numbers, acknowledged-numbers}
+use Rattle.vms_core.proofs.PeakBounds.{last_within-holds, thresholds-within, peaks-in_range, used-bounded}
+use Rattle.vms_core.proofs.PeakBounds.{loaded-bounded, loaded-within_peak, loaded_numbers-hold, acknowledged_numbers-hold}
 use Rattle.vms_core.proofs.SettingRanges.{thresholds-in_range, marks-in_range}
 use Rattle.vms_core.proofs.Settings.{threshold_at-state_after, sets-state_after, cpu_at-state_after}
 use Rattle.vms_core.proofs.Shapes.{HasShape-state_after}
@@ -33,13 +33,13 @@ laws-kept facts h legal = record {
   system_drift = system_drift-bounded facts h legal;
   excess = excess-bounded facts h legal;
   differentials = diff_at-bounded facts h legal;
-  by_peaks = last-within facts h legal;
+  by_peaks = last_within-holds facts h legal;
   thresholds_by_peaks = thresholds-within facts h legal;
   used = used-bounded facts h legal;
   loaded = loaded-bounded facts h legal;
   loaded_by_peaks = loaded-within_peak facts h legal;
-  loaded_numbers = loaded-numbers facts h legal;
-  acknowledged_numbers = acknowledged-numbers facts h legal;
+  loaded_numbers = loaded_numbers-hold facts h legal;
+  acknowledged_numbers = acknowledged_numbers-hold facts h legal;
   thresholds = thresholds-in_range facts h legal;
   peaks = peaks-in_range facts h legal;
   marks = marks-in_range facts h legal;

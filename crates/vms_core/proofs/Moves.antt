@@ -88,11 +88,11 @@ put-within : (b : Bool) (moving after before : ℤ) (delta : ℕ)
 put-within true moving after before delta here = here refl
 put-within false moving after before delta here = omega arith
 
-take-within : (b : Bool) (told before : ℤ) → (b ≡ true → told ≡ before)
+told-within : (b : Bool) (told before : ℤ) → (b ≡ true → told ≡ before)
     → MovesWithin (if b then unsigned_abs told else 0) (unsigned_abs (if b then pos 0 else before))
     (unsigned_abs before) 0
-take-within true told before kept = let same = kept refl in rw same (omega arith)
-take-within false told before kept = omega arith
+told-within true told before kept = let same = kept refl in rw same (omega arith)
+told-within false told before kept = omega arith
 
 module _ (facts : Facts) (h : History) (s : State) (p : ℕ) (shaped : HasShape facts.layout s) (c k : ℕ) where
   pub moved_out_by-within : (who : Option CpuId) (step : Step) → owner_in role h p ≡ who → Meets facts h s p step
@@ -110,10 +110,10 @@ module _ (facts : Facts) (h : History) (s : State) (p : ℕ) (shaped : HasShape 
       ∙ ap (λ n. diff_at s n l.number) cpu ∙ ap (diff_at s c) counter in
       omega (arith, change-within how t (entry w.values l.number) delta, ap unsigned_abs told))
   moved_out_by-within (Some o) (Take d j w) is meets =
-      take-within (nat_eq d.number c && nat_eq j.number (group_of k)) (entry w.values k) (diff_at s c k)
+      told-within (nat_eq d.number c && nat_eq j.number (group_of k)) (entry w.values k) (diff_at s c k)
       (take-told facts h s p shaped c k d j w meets)
   moved_out_by-within None (Take d j w) is meets =
-      take-within (nat_eq d.number c && nat_eq j.number (group_of k)) (entry w.values k) (diff_at s c k)
+      told-within (nat_eq d.number c && nat_eq j.number (group_of k)) (entry w.values k) (diff_at s c k)
       (take-told facts h s p shaped c k d j w meets)
   moved_out_by-within (Some o) _ is meets = omega arith
   moved_out_by-within None _ is meets = omega arith

@@ -208,8 +208,8 @@ module _ (facts : Facts) (h : History) (legal : IsLegal facts h) where
       → acknowledged_in c g h ≡ Some (sets c g h)
   newest_in c g c_in g_in newest = sym (acknowledged_at-state_after facts h legal c g c_in g_in) ∙ newest
 
-  pub last-within : BoundsByPeaks facts h
-  last-within c k c_in k_in = record {
+  pub last_within-holds : BoundsByPeaks facts h
+  last_within-holds c k c_in k_in = record {
     differential = diff_at-bounded facts h legal c k c_in k_in;
     last = (of_counter (record { number = c }) k c_in k_in).alone.last_within;
   }
@@ -247,15 +247,15 @@ module _ (facts : Facts) (h : History) (legal : IsLegal facts h) where
   pub loaded-within_peak : BoundsLoadedByPeaks facts h
   loaded-within_peak p c g told owns g_in is = (told_of p c g told owns g_in is).within
 
-  pub loaded-numbers : LoadsSetNumbers facts h
-  loaded-numbers p c g told owns g_in is =
+  pub loaded_numbers-hold : LoadsSetNumbers facts h
+  loaded_numbers-hold p c g told owns g_in is =
       let known = told_of p c g told owns g_in is in
       record {
         within = known.number_within;
         newest = λ newest. known.newest newest ∙ sym (stands c.number g (owned p c owns) g_in);
       }
 
-  pub acknowledged-numbers : AcknowledgesSetNumbers facts h
-  acknowledged-numbers c g number c_in zone is =
+  pub acknowledged_numbers-hold : AcknowledgesSetNumbers facts h
+  acknowledged_numbers-hold c g number c_in zone is =
       (of_place (record { number = c }) g c_in (zone_is_place g zone)).alone.acknowledged_within number
       (sym (acknowledged_at-state_after facts h legal c g c_in zone) ∙ is)

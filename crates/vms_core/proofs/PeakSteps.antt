@@ -7,7 +7,7 @@ use Rattle.vms_base.specs.declared.ids.CpuId.{CpuId}
 use Rattle.vms_base.specs.declared.ids.PlaceId.{PlaceId}
 use Rattle.vms_base.specs.Places.{IsLayout, IsCounter, IsZone, place_of, group_of}
 use Rattle.vms_base.specs.Thresholds.{most_threshold}
-use Rattle.vms_base.proofs.Counts.{group_of-lt, place_of-group}
+use Rattle.vms_base.proofs.Counts.{group_of-lt, place_of-first_of_group}
 use Rattle.vms_history.specs.Events.{own}
 use Rattle.vms_history.specs.Passes.{owner_in}
 use Rattle.vms_core.specs.declared.states.State.{State}
@@ -270,7 +270,7 @@ module _ (c : CpuId) (g k : ℕ) where
         ∙ ap (λ n. took c n (group_of k) (own h p)) (sym (place here))
         ∙ ap (λ (o : CpuId). took o f.number (group_of k) (own h p)) (sym same)
         ∙ meets.took_each (group_of k) (group_of-lt facts.layout layout k k_in)
-        (place_of-group facts.layout layout k ∙ there ∙ sym (place here)))
+        (place_of-first_of_group facts.layout layout k ∙ there ∙ sym (place here)))
         bounded
       where
         place : (nat_eq c.number c.number && nat_eq f.number g) ≡ true → f.number ≡ g

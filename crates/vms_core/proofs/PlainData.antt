@@ -140,9 +140,9 @@ module _ (shape : Shape) (s : State) (layout : IsLayout shape) (shaped : HasShap
   places_of-shaped = columns (place_count shape) (length s.threshold) shaped.threshold
 
 module _ (s : State) (base : IsPlainBase s) where
-  pub IsPlain-base : length s.diff < 2 ^ 63 → length s.threshold < 2 ^ 63
+  pub IsPlainBase-holds : length s.diff < 2 ^ 63 → length s.threshold < 2 ^ 63
       → IsPlain s (length s.diff / length s.cpu) (length s.threshold / length s.cpu)
-  IsPlain-base diff_fits threshold_fits = record {
+  IsPlainBase-holds diff_fits threshold_fits = record {
     shape = base.shape;
     is_layout = base.is_layout;
     shaped = base.opening.shaped;

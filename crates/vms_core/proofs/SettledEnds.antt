@@ -32,14 +32,14 @@ use Rattle.vms_core.specs.Pages.{pages, History, IsLegal, IsComplete, state_afte
 use Rattle.vms_core.specs.Peaks.{opening_peak, peak, peak_sum, cpu_in, if_present}
 use Rattle.vms_core.specs.Totals.{change_of, change_of_item, differentials, differentials_of_item}
 use Rattle.vms_core.specs.Totals.{values_of_item, true_total, true_total_of_item, spent}
-use Rattle.vms_core.proofs.CarriedNothing.{none-carried, none-carried_of_item}
+use Rattle.vms_core.proofs.CarriedNothing.{carried_by_all-none, none-carried_of_item}
 use Rattle.vms_core.proofs.CounterRanges.{counter_at-known}
 use Rattle.vms_core.proofs.HiddenPages.{absent-zero}
 use Rattle.vms_core.proofs.ItemSums.{item-most}
 use Rattle.vms_core.proofs.Items.{system_totals-kept, one_change, if-sum}
 use Rattle.vms_core.proofs.LiveOwners.{online-stays}
 use Rattle.vms_core.proofs.MarkCovers.{Covers-less, if_present-least, covers-kept}
-use Rattle.vms_core.proofs.PeakBounds.{last-within, thresholds-within, peaks-in_range}
+use Rattle.vms_core.proofs.PeakBounds.{last_within-holds, thresholds-within, peaks-in_range}
 use Rattle.vms_core.proofs.SettingRanges.{thresholds-in_range, marks-in_range}
 use Rattle.vms_core.proofs.Settings.{cpu_at-state_after}
 use Rattle.vms_core.proofs.Shapes.{HasShape-state_after}
@@ -128,7 +128,7 @@ module _ (facts : Facts) (h : History) where
       → unsigned_abs (diff_at ended c (counter_at shape g n)) ≤ peak facts c g h =
       λ n n_in.
       let k = counter_at shape g n in
-      let within = last-within facts h legal c k c_in (counter_at-known shape layout g n g_in n_in) in
+      let within = last_within-holds facts h legal c k c_in (counter_at-known shape layout g n g_in n_in) in
       let last = subst (λ (f : ℕ). unsigned_abs (diff_at ended c k) ≤ peak facts c f h)
       (counter_at-place shape layout g n n_in) (omega (arith, within.differential, within.last)) in
       last in
@@ -155,7 +155,7 @@ module _ (facts : Facts) (h : History) where
 
     total-ended : (k : ℕ) → IsCounter shape k → value_at ended k +ℤ differentials shape ended k ≡ true_total facts h k
     total-ended k k_in =
-        omega (arith, ints, totals-kept facts h legal k k_in, none-carried facts h complete k)
+        omega (arith, ints, totals-kept facts h legal k k_in, carried_by_all-none facts h complete k)
 
     total_of_item-ended : (i : ℕ) → IsItem shape i
         → system_at ended i +ℤ differentials_of_item shape ended i ≡ true_total_of_item facts h i
@@ -163,10 +163,10 @@ module _ (facts : Facts) (h : History) where
         omega (arith, ints, system_totals-kept facts h legal i i_in, none-carried_of_item facts h complete i)
 
     -- a system-wide value is off from the sum of the global ones by as much as in the base
-    pub systems-keep_off : (i : ℕ) → IsItem shape i
+    pub system_values-keep_off : (i : ℕ) → IsItem shape i
         → system_at ended i -ℤ values_of_item shape ended i
         ≡ system_at facts.base i -ℤ values_of_item shape facts.base i
-    systems-keep_off i i_in =
+    system_values-keep_off i i_in =
         let is_in : ℕ → Bool = λ k. nat_eq (item_of shape k) i in
         let n = counter_count shape in
         let changes : ℕ → ℤ = λ k. total (change_of k) h in
@@ -203,7 +203,7 @@ module _ (facts : Facts) (h : History) where
       )
 
       system-ended : (i : ℕ) → IsItem shape i → system_at ended i ≡ values_of_item shape ended i
-      system-ended i i_in = omega (arith, ints, systems-keep_off i i_in, base.systems i i_in)
+      system-ended i i_in = omega (arith, ints, system_values-keep_off i i_in, base.systems i i_in)
 
       pub within-volumes : IsWithinVolumes shape (grown volume h) (settled ended)
       within-volumes = record { totals = total-grown; systems = system-ended }
@@ -213,7 +213,7 @@ module _ (facts : Facts) (h : History) where
 
       diff-most : (c k : ℕ) → IsCpu shape c → IsCounter shape k → unsigned_abs (diff_at ended c k) ≤ most_threshold
       diff-most c k c_in k_in =
-          let within = last-within facts h legal c k c_in k_in in
+          let within = last_within-holds facts h legal c k c_in k_in in
           let peak = peaks-in_range facts h legal c (place_of shape k) c_in (place_of-lt shape layout k k_in) in
           omega (arith, within.differential, within.last, peak)
 

@@ -12,7 +12,7 @@ use Rattle.vms_history.specs.Events.{total}
 use Rattle.vms_history.specs.Passes.{owner_in, begun_in}
 use Rattle.vms_history.proofs.Choices.{if-cancels}
 use Rattle.vms_history.proofs.SumLaws.{sum_below-same, sum_below-one}
-use Rattle.vms_history.proofs.CallerSums.{total-by_caller}
+use Rattle.vms_history.proofs.CallerSums.{total-of_callers}
 use Rattle.vms_core.specs.declared.states.State.{State}
 use Rattle.vms_core.specs.declared.steps.Facts.{Facts}
 use Rattle.vms_core.specs.declared.steps.Step.{Step}
@@ -135,5 +135,5 @@ value_at-moved facts (e ∷ h) k legal k_in =
 pub totals-kept : (facts : Facts) (h : History) → IsLegal facts h → KeepsTotals facts h
 totals-kept facts h legal k k_in =
     let all : total (moved k) h ≡ carried_by_all h k =
-    total-by_caller pages facts (moved k) h (suc (begun_in role h)) legal (omega arith) in
+    total-of_callers pages facts (moved k) h (suc (begun_in role h)) legal (omega arith) in
     rw all at (value_at-moved facts h k legal k_in)

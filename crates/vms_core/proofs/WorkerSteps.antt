@@ -44,6 +44,6 @@ module _ (facts : Facts) (p : ℕ) (cpu : CpuId) (other_than_main : p ≢ 0) whe
       state_is = rw (owner_now mine s h stands, stands.state_is);
     }
 
-    pub spent-next : (mine : History) (s : State) (h : History) (k : Step) → Stands main mine s h → (c l : ℕ)
+    pub spent-after : (mine : History) (s : State) (h : History) (k : Step) → Stands main mine s h → (c l : ℕ)
         → spent (event k ∷ h) c l ≡ spent_by (Some cpu) c l k + spent h c l
-    spent-next mine s h k stands c l = rw (owner_now mine s h stands)
+    spent-after mine s h k stands c l = rw (owner_now mine s h stands)

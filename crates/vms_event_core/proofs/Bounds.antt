@@ -53,8 +53,8 @@ module _ (facts : EventFacts) (h : History) (legal : IsLegal facts h) where
       omega (arith, ints, part, words_of-most k k_in) in
       omega (arith, ints, word)
 
-  carried-most : (p k : ℕ) → IsEvent k → carried k (own h p) ≤ℤ pos (most_in_sum facts.layout)
-  carried-most p k k_in = elim (cases_lt p (suc (begun_in role h))) [
+  carried_most-holds : (p k : ℕ) → IsEvent k → carried k (own h p) ≤ℤ pos (most_in_sum facts.layout)
+  carried_most-holds p k k_in = elim (cases_lt p (suc (begun_in role h))) [
     | inl given ↦
         let part = sum_below-each (λ i. carried k (own h i)) p (suc (begun_in role h)) given (each_carried k) in
         let others = sum_below-not_negative (λ i. pos (word_at (state_after facts h) i k)) facts.layout.cpus
@@ -70,6 +70,6 @@ module _ (facts : EventFacts) (h : History) (legal : IsLegal facts h) where
     sums = λ k k_in. omega (arith, ints, totals-kept facts h legal k k_in, true_total-most k k_in);
     words = word-most;
     carried_least = λ p k. carried-not_negative facts h p k legal;
-    carried_most = carried-most;
+    carried_most = carried_most-holds;
     below = let cpus = base.layout.cpus_most in omega arith;
   }

@@ -81,11 +81,11 @@ module _ (facts : EventFacts) (earlier : History) where
       )
       by false before = EventsBetween-next e (m ++ earlier) (own m p) legal before
 
-  steps-between : (now : History) (p : ℕ) (steps : List EventStep) (h : List (Event EventStep))
+  StepsBetween-holds : (now : History) (p : ℕ) (steps : List EventStep) (h : List (Event EventStep))
       → EventsBetween now (after p steps h) → StepsBetween now steps × EventsBetween now h
-  steps-between now p [] h between = (tt, between)
-  steps-between now p (step ∷ steps) h between =
-      let rest = steps-between now p steps (record { caller = p; step = step } ∷ h) between in
+  StepsBetween-holds now p [] h between = (tt, between)
+  StepsBetween-holds now p (step ∷ steps) h between =
+      let rest = StepsBetween-holds now p steps (record { caller = p; step = step } ∷ h) between in
       ((rest.1.0, rest.0), rest.1.1)
 
 -- CPUs that are listed as online are online
@@ -146,7 +146,7 @@ SumsBetween-holds facts later earlier p k found steps answer made k_in call =
     (subst (λ g. EventsBetween facts earlier g (own made.extends.0 p)) (sym is)
     (own-between facts earlier made.extends.0 p (joined-legal events facts later earlier p steps made))) in
     let each : StepsBetween facts earlier later (loads k (online_cpus facts) found) =
-    subst (StepsBetween facts earlier later) call.in_order (steps-between facts earlier later p steps [] between).0 in
+    subst (StepsBetween facts earlier later) call.in_order (StepsBetween-holds facts earlier later p steps [] between).0 in
     let all =
     loads-between facts later earlier made.legal (earlier-legal events facts later earlier p steps made) k k_in
     (online_cpus facts) found (online_cpus-online facts) call.one_each each in

@@ -9,7 +9,7 @@ use Rattle.vms_history.specs.Passes.{begun_in, owner_in}
 use Rattle.vms_history.specs.Sums.{sum_below}
 use Rattle.vms_history.proofs.Choices.{if-cancels}
 use Rattle.vms_history.proofs.SumLaws.{sum_below-same, sum_below-one}
-use Rattle.vms_history.proofs.CallerSums.{total-by_caller}
+use Rattle.vms_history.proofs.CallerSums.{total-of_callers}
 use Rattle.vms_event_core.specs.declared.states.EventState.{EventState}
 use Rattle.vms_event_core.specs.declared.steps.EventFacts.{EventFacts}
 use Rattle.vms_event_core.specs.declared.steps.EventStep.{EventStep}
@@ -78,7 +78,7 @@ words_in-moved facts (e ∷ h) k legal k_in =
 pub totals-kept : (facts : EventFacts) (h : History) → IsLegal facts h → KeepsTotals facts h
 totals-kept facts h legal k k_in =
     let all : total (moved k) h ≡ carried_by_all h k =
-    total-by_caller events facts (moved k) h (suc (begun_in role h)) legal (omega arith) in
+    total-of_callers events facts (moved k) h (suc (begun_in role h)) legal (omega arith) in
     rw (words_of-told facts h k legal k_in, ← all) (words_in-moved facts h k legal k_in)
 
 -- where every pass has ended, the words alone are the true total

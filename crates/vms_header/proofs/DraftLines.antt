@@ -63,9 +63,9 @@ most : (wide : Bool) (cpus : ℕ) → cpus ≤ most_cpus wide → cpus ≤ 128
 most true cpus within = within
 most false cpus within = omega arith
 
-nodes-within : (zones : List Zone) → All (λ zone. zone.name.node ≤ 15) zones
+nodes_within : (zones : List Zone) → All (λ zone. zone.name.node ≤ 15) zones
     → All (λ node. node ≤ 15) (nodes_of (names_of zones))
-nodes-within zones all k d below =
+nodes_within zones all k d below =
     let named = nodes_of-from (names_of zones) (get_or (nodes_of (names_of zones)) k d)
     (Contains-get_or (nodes_of (names_of zones)) k d below) in
     All-contains (λ node. node ≤ 15) (map (λ zone. zone.node) (names_of zones)) (get_or (nodes_of (names_of zones)) k d)
@@ -80,7 +80,7 @@ draft-layout draft is some = record {
   zones_ascend = names-rise draft is;
   nodes_ascend = nodes_of-rises (names_of draft.zones) (names-rise draft is);
   nodes_named = λ node. (nodes_of-from (names_of draft.zones) node, nodes_of-to (names_of draft.zones) node);
-  nodes_most = nodes-within draft.zones is.zones_nodes;
+  nodes_most = nodes_within draft.zones is.zones_nodes;
   cpus_least = is.cpus_least;
   cpus_most = most draft.wide draft.cpus is.cpus_most;
   positions = positions-wide draft.wide;

@@ -49,9 +49,9 @@ managed-within : (zones : List Zone) (k : ℕ) (d : Zone) → k < length zones
     → (get_or zones k d).size.managed ≤ managed_pages zones
 managed-within zones k d below = get_or-le-sum_by (λ zone. zone.size.managed) zones k d below
 
-sizes-length : (share : Option Share) (zones : List Zone) → length (sizes_under share zones) ≡ length zones
-sizes-length None zones = length-map zones (λ zone. zone.size)
-sizes-length (Some share) zones =
+sizes_length-holds : (share : Option Share) (zones : List Zone) → length (sizes_under share zones) ≡ length zones
+sizes_length-holds None zones = length-map zones (λ zone. zone.size)
+sizes_length-holds (Some share) zones =
     length-map zones (λ zone. zone_marks_of share.kbytes share.scale zone.size.managed (managed_pages zones))
 
 sizes-sized : (share : Option Share) (zones : List Zone) → IfSome share IsShare → All (λ zone. IsSized zone.size) zones
@@ -63,27 +63,27 @@ sizes-sized (Some share) zones valid all =
     (managed_pages zones) valid.kbytes_most valid.scale_most (all k d below).valid.managed_least
     (all k d below).valid.managed_most (managed-within zones k d below))
 
-bases-most : (draft : Draft) (count : ℕ) (bases : List Base) → All (IsBase draft) bases
+bases_most-holds : (draft : Draft) (count : ℕ) (bases : List Base) → All (IsBase draft) bases
     → All (λ base. unsigned_abs base ≤ 2 ^ 48) (bases_of count bases)
-bases-most draft count [] all = All-replicate (λ base. unsigned_abs base ≤ 2 ^ 48) count (pos 0) (omega arith)
-bases-most draft count (base ∷ bases) all =
+bases_most-holds draft count [] all = All-replicate (λ base. unsigned_abs base ≤ 2 ^ 48) count (pos 0) (omega arith)
+bases_most-holds draft count (base ∷ bases) all =
     All-set (λ base. unsigned_abs base ≤ 2 ^ 48) (bases_of count bases) base.counter base.value
     (All-head (IsBase draft) base bases all).most
-    (bases-most draft count bases (All-tail (IsBase draft) base bases all))
+    (bases_most-holds draft count bases (All-tail (IsBase draft) base bases all))
 
 zeros : (count counter : ℕ) → get_or (replicate count (pos 0)) counter (pos 0) ≡ pos 0
 zeros zero counter = refl
 zeros (suc count) zero = refl
 zeros (suc count) (suc counter) = zeros count counter
 
-bases-unnamed : (draft : Draft) (count : ℕ) (bases : List Base) (counter : ℕ) → All (IsBase draft) bases
+bases_unnamed-holds : (draft : Draft) (count : ℕ) (bases : List Base) (counter : ℕ) → All (IsBase draft) bases
     → ¬ IsNamed (header_of draft) counter → get_or (bases_of count bases) counter (pos 0) ≡ pos 0
-bases-unnamed draft count [] counter all unnamed = zeros count counter
-bases-unnamed draft count (base ∷ bases) counter all unnamed =
+bases_unnamed-holds draft count [] counter all unnamed = zeros count counter
+bases_unnamed-holds draft count (base ∷ bases) counter all unnamed =
     let named = (All-head (IsBase draft) base bases all).named in
     let other : counter ≢ base.counter = λ same. unnamed (subst (IsNamed (header_of draft)) (sym same) named) in
     get_or-set_other (bases_of count bases) base.counter counter base.value (pos 0) other
-    ∙ bases-unnamed draft count bases counter (All-tail (IsBase draft) base bases all) unnamed
+    ∙ bases_unnamed-holds draft count bases counter (All-tail (IsBase draft) base bases all) unnamed
 
 narrow-items : (draft : Draft) → IsDraft draft → positions_of draft.wide ≡ 8 → draft.items ≡ []
 narrow-items draft is narrow = is.items_wide (by draft.wide narrow)
@@ -99,11 +99,11 @@ header_of-writable draft is some =
     record {
       is_header = record {
         is_layout = draft-layout draft is some;
-        sizes_length = sizes-length draft.share draft.zones ∙ sym (length-map draft.zones (λ zone. zone.name));
+        sizes_length = sizes_length-holds draft.share draft.zones ∙ sym (length-map draft.zones (λ zone. zone.name));
         sizes_valid = All-weaker IsSized IsValidSize (λ size sized. sized.valid) sizes sized;
         bases_length = length-bases_of (counter_count (shape_of draft)) draft.bases;
-        bases_most = bases-most draft (counter_count (shape_of draft)) draft.bases is.bases_valid;
-        bases_unnamed = λ counter unnamed. bases-unnamed draft
+        bases_most = bases_most-holds draft (counter_count (shape_of draft)) draft.bases is.bases_valid;
+        bases_unnamed = λ counter unnamed. bases_unnamed-holds draft
             (counter_count (shape_of draft)) draft.bases counter is.bases_valid unnamed;
         counters_most = is.counters_most;
         counters_valid = is.counters_valid;

@@ -23,16 +23,16 @@ sum_below-callers f e h n below =
     omega (arith, ints, changed, mine)
 
 -- a total over a legal history is the sum of its callers' own totals
-pub total-by_caller : {F K S : Type 0} (machine : Machine F K S) (facts : F) (measure : K → ℤ) (h : List (Event K))
+pub total-of_callers : {F K S : Type 0} (machine : Machine F K S) (facts : F) (measure : K → ℤ) (h : List (Event K))
     (n : ℕ)
     → IsLegal machine facts h → begun_in machine.role h < n
     → total measure h ≡ sum_below (λ p. total measure (own h p)) n
-total-by_caller machine facts measure [] n legal above =
+total-of_callers machine facts measure [] n legal above =
     omega (arith, ints, sum_below-zeros (λ p. pos 0) n (λ k below. refl))
-total-by_caller machine facts measure (e ∷ h) n legal above =
+total-of_callers machine facts measure (e ∷ h) n legal above =
     let below = caller_is_below machine facts e h n legal above in
     let callers = sum_below-callers (total measure) e h n below.0 in
-    let before = total-by_caller machine facts measure h n (legal_before machine facts e h legal) below.1 in
+    let before = total-of_callers machine facts measure h n (legal_before machine facts e h legal) below.1 in
     omega (arith, ints, callers, before)
 
 -- a total is the sum of n parts, where each legal event adds its measure to them

@@ -17,7 +17,7 @@ struct Repeats {
 impl Job for Repeats {
     ghost State = { ℕ };
 
-    ghost machine = { record {
+    ghost behavior = { record {
       start = 0;
       next = λ lines line. suc lines;
       prints = λ lines line. line ++ 10 ∷ [];

@@ -38,7 +38,7 @@ use Rattle.vms_text.specs.Reading.{and_then}
 use Rattle.vms_text.specs.Spelling.{counter_words, entry, place_words}
 use Rattle.vms_text.proofs.Entries.{entry-within}
 use Rattle.vms_text.proofs.NumberLaws.{signed_of-reads, unsigned_of-reads}
-use Rattle.vms_text.proofs.PlacesRead.{kind_word, node-words, some_zone, zone-words}
+use Rattle.vms_text.proofs.PlacesRead.{kind_word, place_words-node, some_zone, place_words-zone}
 use Rattle.vms_text.proofs.Positions.{position-lt}
 use Rattle.vms_text.proofs.Values.{and_left, and_right, number_within-is, signed_of-fits}
 use Rattle.vms_line.specs.declared.causes.LineCause.{LineCause}
@@ -376,7 +376,7 @@ module _ (header : Header) (valid : IsHeader header) where
       by None at same = absurd cc
       by (Some kind) at same =
           let stands = zone_place-same header.layout (record { node = node; kind = kind }) place same in
-          zone-words header valid.is_layout place some_zone stands.0
+          place_words-zone header valid.is_layout place some_zone stands.0
           ∙ ap (λ (zone : ZoneName). decimal zone.node ∷ kind_word zone.kind ∷ []) stands.1
           ∙ ap (λ w. decimal node ∷ w ∷ []) (kind_named-same word kind at)
 
@@ -384,7 +384,7 @@ module _ (header : Header) (valid : IsHeader header) where
       → node_place header.layout node ≡ Some place → place_words header place ≡ decimal node ∷ codes "node" ∷ []
   node_named-same node place is =
       let stands = node_place-same header.layout node place is in
-      node-words header valid.is_layout place stands.0 ∙ ap (λ n. decimal n ∷ codes "node" ∷ []) stands.1
+      place_words-node header valid.is_layout place stands.0 ∙ ap (λ n. decimal n ∷ codes "node" ∷ []) stands.1
 
   place_named-same : (node : ℕ) (word : List ℕ) (place : ℕ)
       → place_named header.layout node word ≡ Some place → place_words header place ≡ decimal node ∷ word ∷ []

@@ -20,7 +20,7 @@ use Rattle.vms_text.specs.declared.acts.Lane.{Lane as LaneOf}
 use Rattle.vms_text.specs.declared.acts.Lane.TheVariants.{Cpu, Control}
 use Rattle.vms_text.specs.PlaceNames.{IsKnown, is_in_bytes}
 use Rattle.vms_text.specs.Spelling.{counter_words}
-use Rattle.vms_text.proofs.PlacesRead.{kind_word, kind_word-short, node-most, node_at-own, some_zone, zone-words}
+use Rattle.vms_text.proofs.PlacesRead.{kind_word, kind_word-short, node_most-holds, node_at-own, some_zone, place_words-zone}
 use Rattle.vms_text.proofs.PlacesRead.{zone_node-most}
 use Rattle.vms_text.proofs.Sentences.{is_short}
 use Rattle.vms_text.proofs.SpelledNumbers.{decimal-short, signed-short}
@@ -165,7 +165,7 @@ module _ (header : Header) (is : IsHeader header) where
       → SpellsOne PlaceId (node_field header) (node_number header node.number) node
   node_spelled node within =
       let index = node.number - length header.layout.zones in
-      let most = node-most header.layout is.is_layout index (omega arith) in
+      let most = node_most-holds header.layout is.is_layout index (omega arith) in
       record {
         word = decimal (get_or header.layout.nodes index 0);
         words_are = node_number-own header is.is_layout node.number within;
@@ -245,7 +245,7 @@ module _ (header : Header) (is : IsHeader header) where
       record {
         fields = node ∷ kind ∷ mark_word mark ∷ decimal index ∷ [];
         words_are = ap (λ words. (form_of Water).word ∷ words ++ mark_word mark ∷ decimal index ∷ [])
-            (zone-words header is.is_layout zone.number some_zone known.0);
+            (place_words-zone header is.is_layout zone.number some_zone known.0);
         few = omega arith;
         short =
             short-cons node (kind ∷ mark_word mark ∷ decimal index ∷ []) (decimal-short name.node (omega (arith, most)))

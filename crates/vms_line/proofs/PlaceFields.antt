@@ -6,7 +6,7 @@ use Rattle.vms_base.specs.declared.headers.Header.{Header}
 use Rattle.vms_base.specs.declared.kinds.ZoneName.{ZoneName}
 use Rattle.vms_base.specs.Places.{IsLayout, IsNode}
 use Rattle.vms_text.specs.Spelling.{place_words}
-use Rattle.vms_text.proofs.PlacesRead.{SpellsPlace, kind_word, node-most, node_at-own, node_place-own, zone_named-own}
+use Rattle.vms_text.proofs.PlacesRead.{SpellsPlace, kind_word, node_most-holds, node_at-own, node_place-own, zone_named-own}
 use Rattle.vms_text.proofs.PlacesRead.{zone_node-most}
 use Rattle.vms_text.proofs.SpelledNumbers.{unsigned_of-decimal}
 use Rattle.vms_line.specs.Fields.{node_field, place_field, zone_field}
@@ -35,5 +35,5 @@ module _ (header : Header) (layout : IsLayout header.layout) where
       let index = place - length header.layout.zones in
       let within : index < length header.layout.nodes = omega arith in
       let back : length header.layout.zones + index ≡ place = omega arith in
-      let most = node-most header.layout layout index within in
+      let most = node_most-holds header.layout layout index within in
       rw (unsigned_of-decimal (get_or header.layout.nodes index 0) (omega (arith, most)), node_place-own header.layout layout index within, back) refl

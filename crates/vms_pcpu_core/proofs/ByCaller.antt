@@ -21,7 +21,7 @@ use Rattle.vms_pcpu_core.specs.Own.{carried}
 use Rattle.vms_pcpu_core.specs.OwnSteps.{as_is, size_of, own_added}
 use Rattle.vms_pcpu_core.specs.Steps.{role}
 use Rattle.vms_pcpu_core.specs.Totals.{amount_of, amounts, is_owned, spent}
-use Rattle.vms_pcpu_core.proofs.Sizes.{spent-most}
+use Rattle.vms_pcpu_core.proofs.Sizes.{spent_most}
 
 amounts-below : (facts : PcpuFacts) (h : History) (j n : ℕ) → IsLegal facts h → begun_in role h < n
     → amounts j h ≡ sum_below (λ p. own_added as_is j (own h p)) n
@@ -90,6 +90,6 @@ spent-below facts (e ∷ h) c j n legal above =
 
 pub volumes-kept : (facts : PcpuFacts) (h : History) → IsLegal facts h → KeepsVolumes h
 volumes-kept facts h legal = record {
-  most = λ c j. spent-most facts h c j legal;
+  most = λ c j. spent_most facts h c j legal;
   by_pass = λ c j. spent-below facts h c j (suc (begun_in role h)) legal (omega arith);
 }

@@ -41,7 +41,7 @@ use Rattle.vms_pcpu_core.specs.Steps.{role}
 use Rattle.vms_pcpu_core.proofs.StepConditions.{found_own, FitsAmount, AllFit, all-fit-append, fit-may}
 use Rattle.vms_pcpu_core.proofs.OwnSteps.{Does, goes_by_own_steps, does-then, does-lock, does-loads, does-judges}
 use Rattle.vms_pcpu_core.proofs.OwnSteps.{does-probes, does-load_l, does-load_c, does-nothing, does-fold}
-use Rattle.vms_pcpu_core.proofs.Sizes.{spent-most}
+use Rattle.vms_pcpu_core.proofs.Sizes.{spent_most}
 
 -- these CPUs have numbers below this one
 abbrev AreBelow : ℕ → List CpuId → Type 0
@@ -108,10 +108,10 @@ module _ (facts : PcpuFacts) (earlier : History) (who : Option CpuId) (p : ℕ) 
     fit-unlock : (o : History) → StandsIdle j.number o true → fit_all o (Unlock j ∷ [])
     fit-unlock o standing = ((j_in, standing.held, standing.carrying), tt)
 
-    fits-amount : (w : Option CpuId) (o : History) (amount : ℤ) → MayAdd earlier w j.number amount
+    FitsAmount-holds : (w : Option CpuId) (o : History) (amount : ℤ) → MayAdd earlier w j.number amount
         → own_added size_of j.number o ≡ pos 0 → FitsAmount earlier w o j.number amount
-    fits-amount (Some c) o amount may none = omega (arith, ints, may, none)
-    fits-amount None o amount may none = may
+    FitsAmount-holds (Some c) o amount may none = omega (arith, ints, may, none)
+    FitsAmount-holds None o amount may none = may
 
     -- under the lock a local part moves to the shared part together with an amount
     fit-move : (cpu : CpuId) (v w amount : ℤ) (o : History) → StandsIdle j.number o true → IsCpu facts.layout cpu.number
@@ -129,7 +129,7 @@ module _ (facts : PcpuFacts) (earlier : History) (who : Option CpuId) (p : ℕ) 
               j_in,
               standing.held,
               subst (λ (a : ℤ). FitsAmount earlier who taken j.number a) amount_is
-                  (fits-amount who taken amount may none),
+                  (FitsAmount-holds who taken amount may none),
             ),
             ((j_in, standing.held, rw here refl), tt),
           ),
@@ -308,7 +308,7 @@ are-present facts h legal =
 -- every caller may add nothing
 may-add_nothing : (facts : PcpuFacts) (h : History) (who : Option CpuId) (j : ℕ) → IsLegal facts h
     → MayAdd h who j (pos 0)
-may-add_nothing facts h (Some c) j legal = let most = spent-most facts h c.number j legal in omega (arith, most)
+may-add_nothing facts h (Some c) j legal = let most = spent_most facts h c.number j legal in omega (arith, most)
 may-add_nothing facts h None j legal = refl
 
 pub MakesRead-holds : MakesRead

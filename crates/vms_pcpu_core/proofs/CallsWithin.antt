@@ -52,9 +52,9 @@ run-locks p j locking h g (missed rest locks) run =
     )
 
 -- a caller's steps in a row among all its steps were made between two moments
-pub made-within : (facts : PcpuFacts) (h : History) (p : ℕ) (before steps more : List PcpuStep) → IsLegal facts h
+pub MadeWithin-holds : (facts : PcpuFacts) (h : History) (p : ℕ) (before steps more : List PcpuStep) → IsLegal facts h
     → own h p ≡ after p (before ++ steps ++ more) [] → MadeWithin facts h p before steps
-made-within facts h p before steps more legal made =
+MadeWithin-holds facts h p before steps more legal made =
     let whole = run-made p (before ++ steps ++ more) h [] made in
     let on : h ≡ whole.2.0 ++ whole.0 = sym (append-nil h) ∙ whole.2.1 in
     let front = run-append p (before ++ steps) more [] whole.0 whole.1 in

@@ -29,7 +29,7 @@ use Rattle.vms_pcpu_core.proofs.SumMoments.{legal-earlier}
 use Rattle.vms_pcpu_core.proofs.Locks.{holder-one}
 use Rattle.vms_pcpu_core.proofs.OtherChanges.{rise-least, fall-least, LoadSteps}
 use Rattle.vms_pcpu_core.proofs.OtherChanges.{by_self-others, by_others-grows, carried_by_all-others}
-use Rattle.vms_pcpu_core.proofs.OtherChanges.{carried_by_others-locked, own-loads, true_total-between}
+use Rattle.vms_pcpu_core.proofs.OtherChanges.{carried_by_others-locked, after-loads, true_total-between}
 use Rattle.vms_pcpu_core.proofs.StepsInRow.{RunsBetween, run-own, run-last, own-others_on, Extends-below}
 use Rattle.vms_pcpu_core.proofs.SumCalls.{Summed, summed-total}
 use Rattle.vms_pcpu_core.proofs.Totals.{totals-kept}
@@ -82,9 +82,9 @@ module _ (facts : PcpuFacts) (p : ℕ) (j : PcpuId) (free : History) where
 
   -- the count, as it is loaded before any other step of p
   pub record Counted (v : ℤ) (loaded : History) : Type 0 where
-    pub locals_hide : ℤ
-    pub total : true_total facts loaded j.number ≡ v +ℤ locals_hide
-    pub hidden : unsigned_abs locals_hide ≤ unknown facts j.number
+    pub in_locals : ℤ
+    pub total : true_total facts loaded j.number ≡ v +ℤ in_locals
+    pub hidden : unsigned_abs in_locals ≤ unknown facts j.number
     pub rises : carried_by_others rise p j.number loaded ≡ pos 0
     pub falls : carried_by_others fall p j.number loaded ≡ pos 0
 
@@ -104,7 +104,7 @@ module _ (facts : PcpuFacts) (p : ℕ) (j : PcpuId) (free : History) where
       let kept = totals-kept facts loaded legal.0 j.number legal.2.counter in
       let hidden = locals-size facts loaded j.number legal.0 legal.2.counter in
       record {
-        locals_hide = locals facts.layout (numbers_after facts loaded) j.number;
+        in_locals = locals facts.layout (numbers_after facts loaded) j.number;
         total = omega (arith, ints, kept, all, rises, falls, legal.2.value);
         hidden = omega (arith, ints, hidden);
         rises = rises;
@@ -131,7 +131,7 @@ module _ (facts : PcpuFacts) (p : ℕ) (j : PcpuId) (free : History) where
       (ap (λ es. own (e ∷ es) p) (sym since.1) ∙ ap (λ es. own es p) (sym last.2)
       ∙ run-own p (LoadC j v ∷ loads) winning g run) in
       let all : AreLoads (own (e ∷ since.0) p) =
-      subst AreLoads (sym top) (own-loads p j.number loads (event p (LoadC j v) ∷ []) are (tt, tt)) in
+      subst AreLoads (sym top) (after-loads p j.number loads (event p (LoadC j v) ∷ []) are (tt, tt)) in
       let parts = loads-before e since.0 p all in
       record {
         reading = last.0;

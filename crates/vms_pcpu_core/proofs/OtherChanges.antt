@@ -177,6 +177,6 @@ module _ (p j : ℕ) where
   holds-loads (LoadC i v ∷ ks) h loads = holds-loads ks (event p (LoadC i v) ∷ h) loads.1
   holds-loads (_ ∷ ks) h loads = absurd loads.0
 
-  pub own-loads : (ks : List PcpuStep) (h : History) → LoadSteps ks → AreLoads h → AreLoads (after p ks h)
-  own-loads [] h loads are = are
-  own-loads (k ∷ ks) h loads are = own-loads ks (event p k ∷ h) loads.1 (loads.0, are)
+  pub after-loads : (ks : List PcpuStep) (h : History) → LoadSteps ks → AreLoads h → AreLoads (after p ks h)
+  after-loads [] h loads are = are
+  after-loads (k ∷ ks) h loads are = after-loads ks (event p k ∷ h) loads.1 (loads.0, are)

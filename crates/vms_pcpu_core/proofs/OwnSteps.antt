@@ -291,10 +291,10 @@ module _ (i : ℕ) where
       (does-settles cpu j amount verdict ending settles)))))
 
 -- what steps do for every counter, as the amount that they add
-adds-amount : (j : PcpuId) (amount : ℤ) (ks : List PcpuStep)
+AddsAmount-holds : (j : PcpuId) (amount : ℤ) (ks : List PcpuStep)
     → ((i : ℕ) → Does i ks false false (pos 0) (pos 0) (if nat_eq j.number i then amount else pos 0))
     → AddsAmount j amount ks
-adds-amount j amount ks does = record {
+AddsAmount-holds j amount ks does = record {
   no_lock = λ i. (does i).held;
   nothing_carried = λ i. (does i).carrying;
   amounts = λ i. (does i).added as_is refl;
@@ -302,48 +302,48 @@ adds-amount j amount ks does = record {
 }
 
 -- and where they add nothing
-nothing-added : (j : PcpuId) (ks : List PcpuStep) → ((i : ℕ) → Does i ks false false (pos 0) (pos 0) (pos 0))
+adds-nothing : (j : PcpuId) (ks : List PcpuStep) → ((i : ℕ) → Does i ks false false (pos 0) (pos 0) (pos 0))
     → AddsAmount j (pos 0) ks
-nothing-added j ks does =
-    adds-amount j (pos 0) ks
+adds-nothing j ks does =
+    AddsAmount-holds j (pos 0) ks
     (λ i. subst (λ a. Does i ks false false (pos 0) (pos 0) a) (sym (if-either (nat_eq j.number i) (pos 0))) (does i))
 
 pub read-adds : (i j : PcpuId) (ks : List PcpuStep) (answer : ℤ) → IsRead j ks answer → AddsAmount i (pos 0) ks
-read-adds i j ks answer is = nothing-added i ks (λ n. does-read n j ks answer is)
+read-adds i j ks answer is = adds-nothing i ks (λ n. does-read n j ks answer is)
 
 pub add-adds : (batch : ℕ) (cpu : CpuId) (j : PcpuId) (amount : ℤ) (ks : List PcpuStep) → IsAdd batch cpu j amount ks
     → AddsAmount j amount ks
-add-adds batch cpu j amount ks is = adds-amount j amount ks (λ n. does-add n batch cpu j amount ks is)
+add-adds batch cpu j amount ks is = AddsAmount-holds j amount ks (λ n. does-add n batch cpu j amount ks is)
 
 pub sync-adds : (i : PcpuId) (cpu : CpuId) (j : PcpuId) (ks : List PcpuStep) → IsSync cpu j ks
     → AddsAmount i (pos 0) ks
-sync-adds i cpu j ks is = nothing-added i ks (λ n. does-sync n cpu j ks is)
+sync-adds i cpu j ks is = adds-nothing i ks (λ n. does-sync n cpu j ks is)
 
 pub fold_dead-adds : (i : PcpuId) (dead : CpuId) (n : ℕ) (ks : List PcpuStep) → IsFoldDead dead n ks
     → AddsAmount i (pos 0) ks
-fold_dead-adds i dead n ks is = nothing-added i ks (λ m. does-fold m dead n ks is)
+fold_dead-adds i dead n ks is = adds-nothing i ks (λ m. does-fold m dead n ks is)
 
 pub sum-adds : (i : PcpuId) (cpus : List CpuId) (j : PcpuId) (ks : List PcpuStep) (answer : ℤ) → IsSum cpus j ks answer
     → AddsAmount i (pos 0) ks
-sum-adds i cpus j ks answer is = nothing-added i ks (λ n. does-sum n cpus j ks answer is)
+sum-adds i cpus j ks answer is = adds-nothing i ks (λ n. does-sum n cpus j ks answer is)
 
 pub compare-adds : (i : PcpuId) (unknown : ℕ) (cpus : List CpuId) (j : PcpuId) (rhs : ℤ) (ks : List PcpuStep)
     (answer : Compare) → IsCompare unknown cpus j rhs ks answer → AddsAmount i (pos 0) ks
 compare-adds i unknown cpus j rhs ks answer is =
-    nothing-added i ks (λ n. does-compare n unknown cpus j rhs ks answer is)
+    adds-nothing i ks (λ n. does-compare n unknown cpus j rhs ks answer is)
 
 pub limited_add-adds : (batch unknown : ℕ) (cpus : List CpuId) (cpu : CpuId) (j : PcpuId) (limit amount : ℤ)
     (ks : List PcpuStep) (answer : Bool) → IsLimitedAdd batch unknown cpus cpu j limit amount ks answer
     → AddsAmount j (if answer then amount else pos 0) ks
 limited_add-adds batch unknown cpus cpu j limit amount ks answer is =
-    adds-amount j (if answer then amount else pos 0) ks
+    AddsAmount-holds j (if answer then amount else pos 0) ks
     (λ n. does-limited_add n batch unknown cpus cpu j limit amount ks answer is)
 
 -- the caller of such steps is idle after them if it was before
-pub leaves-idle : (facts : PcpuFacts) (earlier later : History) (p : ℕ) (j : PcpuId) (amount : ℤ) (ks : List PcpuStep)
+pub LeavesIdle-holds : (facts : PcpuFacts) (earlier later : History) (p : ℕ) (j : PcpuId) (amount : ℤ) (ks : List PcpuStep)
     → MadeSteps facts earlier later p ks → AddsAmount j amount ks → IsIdle (own earlier p)
     → LeavesIdle earlier later p j amount
-leaves-idle facts earlier later p j amount ks made adds idle =
+LeavesIdle-holds facts earlier later p j amount ks made adds idle =
     let goes = goes_by_own_steps p ks (own earlier p) in
     record {
       idle =

@@ -136,13 +136,13 @@ within-if : (b : Bool) (n m most : ℕ) → (b ≡ true → n + m ≤ most) → 
 within-if true n m most within before = within refl
 within-if false n m most within before = omega arith
 
-pub spent-most : (facts : PcpuFacts) (h : History) (c j : ℕ) → IsLegal facts h → spent h c j ≤ most_volume
-spent-most facts [] c j legal = omega arith
-spent-most facts (e ∷ h) c j legal =
+pub spent_most : (facts : PcpuFacts) (h : History) (c j : ℕ) → IsLegal facts h → spent h c j ≤ most_volume
+spent_most facts [] c j legal = omega arith
+spent_most facts (e ∷ h) c j legal =
     within-if (is_owned (owner_in role h e.caller) c) (unsigned_abs (amount_of j (carried j (own h e.caller)) e.step))
     (spent h c j) most_volume
-    (by (owner_in role h e.caller) e.step refl legal.2 (spent-most facts h c j legal.0))
-    (spent-most facts h c j legal.0)
+    (by (owner_in role h e.caller) e.step refl legal.2 (spent_most facts h c j legal.0))
+    (spent_most facts h c j legal.0)
   where
     s : LockedState
     s = state_after facts h
@@ -200,7 +200,7 @@ pays facts h j legal j_in =
     (λ c below. let small = (base.locals c below j j_in).within in let batch = (base.counters j j_in).batch_most in
     omega (arith, ints)) in
     let volumes = sum_below-most (λ c. pos (spent h c j)) facts.layout.cpus (2 ^ 48)
-    (λ c below. let most = spent-most facts h c j legal in omega (arith, ints)) in
+    (λ c below. let most = spent_most facts h c j legal in omega (arith, ints)) in
     let count = (base.counters j j_in).count in
     let cpus = base.layout.cpus_most in
     omega (arith, ints)

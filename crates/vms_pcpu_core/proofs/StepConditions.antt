@@ -244,10 +244,10 @@ module _ (facts : PcpuFacts) (earlier : History) (p : ℕ) (calls : MayCall fact
         ∙ own_added-on size_of j (own m p) (own earlier p) (calls.idle.nothing_carried j) in
         omega (arith, ints, spends, sum, fits)
 
-    may-add : (who : Option CpuId) (j : ℕ) (amount : ℤ) → who_of ≡ who
+    MayAdd-holds : (who : Option CpuId) (j : ℕ) (amount : ℤ) → who_of ≡ who
         → FitsAmount earlier who (own m p) j amount → MayAdd now who j amount
-    may-add (Some c) j amount owner fits = affords c j amount owner fits
-    may-add None j amount owner fits = fits
+    MayAdd-holds (Some c) j amount owner fits = affords c j amount owner fits
+    MayAdd-holds None j amount owner fits = fits
 
     meets-now : (k : PcpuStep) → Fits facts earlier who_of (own m p) k → Tells facts now p k
         → Meets facts now (state_after facts now) p k
@@ -282,7 +282,7 @@ module _ (facts : PcpuFacts) (earlier : History) (p : ℕ) (calls : MayCall fact
           amount =
               subst (λ w. MayAdd now w j.number (a -ℤ carried j.number (own now p))) (sym owns_now)
               (subst (λ (x : ℤ). MayAdd now who_of j.number (a -ℤ x)) (sym (carrying-now j.number))
-              (may-add who_of j.number (a -ℤ carried j.number (own m p)) refl fits.2));
+              (MayAdd-holds who_of j.number (a -ℤ carried j.number (own m p)) refl fits.2));
         }
     meets-now (Unlock j) fits tells =
         record {
@@ -293,9 +293,9 @@ module _ (facts : PcpuFacts) (earlier : History) (p : ℕ) (calls : MayCall fact
     meets-now (Split q w) fits tells = absurd fits
     meets-now (Join q) fits tells = absurd fits
 
-    may-make : (k : PcpuStep) → Fits facts earlier who_of (own m p) k → Tells facts now p k
+    MayMake-holds : (k : PcpuStep) → Fits facts earlier who_of (own m p) k → Tells facts now p k
         → IsLegal facts (event p k ∷ now)
-    may-make k fits tells = (legal, works k fits, meets-now k fits tells)
+    MayMake-holds k fits tells = (legal, works k fits, meets-now k fits tells)
       where
         not_main : p ≢ 0
         not_main main = let least = given_before.0 in omega arith
@@ -315,7 +315,7 @@ module _ (facts : PcpuFacts) (earlier : History) (p : ℕ) (calls : MayCall fact
       let fits : Fits facts earlier who_of (after p done []) k =
       all-fit-next facts earlier who_of p done rest k [] (subst (AllFit facts earlier who_of p []) parts fit) in
       subst (λ (es : History). IsLegal facts (event p k ∷ es)) (sym is)
-      (may-make m (subst (IsLegal facts) is has.legal) (subst (λ es. lives_in role es p ≡ true) is has.lives) k
+      (MayMake-holds m (subst (IsLegal facts) is has.legal) (subst (λ es. lives_in role es p ≡ true) is has.lives) k
       (subst (λ o. Fits facts earlier who_of o k) (sym made) fits)
       (subst (λ es. Tells facts es p k) is tells))
 

@@ -155,9 +155,9 @@ IsLegal-splits facts m (l ∷ ls) g may legal mine count free =
     free_here = subst (λ (es : History). (q : ℕ) → lives role es q ≡ true → owner role es q ≡ owner_of l → ⊥) (sym mine)
         (free l (ap (λ b. b || is_among l ls) (same-self l)))
 
-    or-true : (b : Bool) → (b || true) ≡ true
-    or-true true = refl
-    or-true false = refl
+    or_true : (b : Bool) → (b || true) ≡ true
+    or_true true = refl
+    or_true false = refl
 
     free_there : (a : Lane) → is_among a ls ≡ true → (q : ℕ)
         → (if nat_eq (suc m) q then true else lives role g q) ≡ true
@@ -171,4 +171,4 @@ IsLegal-splits facts m (l ∷ ls) g may legal mine count free =
             (owner_of-injective l a owns)) among in
             let both : true ≡ false = sym one ∙ may.1 in absurd cc
         by false lives_there owns = free a (ap (λ b. same_lane l a || b) among
-            ∙ or-true (same_lane l a)) q lives_there owns
+            ∙ or_true (same_lane l a)) q lives_there owns

@@ -22,7 +22,7 @@ use Rattle.vms_phase.specs.Totals.{AddsUp}
 use Rattle.vms_calls.specs.HeaderFacts.{facts_of}
 use Rattle.vms_phase.proofs.RunChanges.{HasSettings-change, cpu-same, systems-change, within-change}
 use Rattle.vms_phase.proofs.RunStates.{system-most, value-most}
-use Rattle.vms_phase.proofs.RunTotals.{counter-known, cpu-known, delta-known, plain_total-item, volume-known}
+use Rattle.vms_phase.proofs.RunTotals.{counter_known-holds, cpu_known-holds, delta-known, plain_total-item, volume-known}
 use Rattle.vms_script.specs.Totals.{ArePhases}
 use Rattle.vms_text.specs.declared.acts.Item.{Item}
 
@@ -32,10 +32,10 @@ module _ (header : Header) (ended : List (List Item)) (items : List Item) (s nex
     (known : ArePhases header (ended ++ (items ++ change_item n cpu k delta how ∷ []) ∷ []))
     (is : next ≡ with_change header.layout cpu.number k.number delta how s) where
   c_in : IsCpu header.layout cpu.number
-  c_in = cpu-known header ended items n cpu k delta how fits known
+  c_in = cpu_known-holds header ended items n cpu k delta how fits known
 
   k_in : IsCounter header.layout k.number
-  k_in = counter-known header ended items n cpu k delta how fits known
+  k_in = counter_known-holds header ended items n cpu k delta how fits known
 
   settings-next : HasSettings run.from next
   settings-next = subst (HasSettings run.from) (sym is)
@@ -93,8 +93,8 @@ pub record IsChangeable (shape : Shape) (s : State) (c k : ℕ) (delta : ℤ) : 
 pub IsChangeable-run : (shape : Shape) (s : State) (cpu : CpuId) (k : CounterId) (delta : ℤ) (how : Mode)
     → IsDelta how delta → MayGoOn shape s cpu k delta how → IsChangeable shape s cpu.number k.number delta
 IsChangeable-run shape s cpu k delta how fits may =
-    let c_in = cpu-known may.header may.ended may.items may.number cpu k delta how fits may.known in
-    let k_in = counter-known may.header may.ended may.items may.number cpu k delta how fits may.known in
+    let c_in = cpu_known-holds may.header may.ended may.items may.number cpu k delta how fits may.known in
+    let k_in = counter_known-holds may.header may.ended may.items may.number cpu k delta how fits may.known in
     subst (λ (x : Shape). IsChangeable x s cpu.number k.number delta) (sym may.layout) (record {
       cpu = c_in;
       online = may.run.each_online cpu.number c_in;

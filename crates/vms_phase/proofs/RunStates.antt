@@ -41,8 +41,8 @@ module _ (header : Header) (ended : List (List Item)) (items : List Item) (now :
   is_layout : IsLayout layout
   is_layout = run.may_begin.layout
 
-  threshold-most : (c g : ℕ) → IsCpu layout c → IsPlace layout g → threshold_at now c g ≤ most_threshold
-  threshold-most c g c_in g_in = omega (
+  threshold_most : (c g : ℕ) → IsCpu layout c → IsPlace layout g → threshold_at now c g ≤ most_threshold
+  threshold_most c g c_in g_in = omega (
     arith,
     threshold-same run.from now run.settings c g,
     run.may_begin.opening.thresholds c g c_in g_in,
@@ -52,7 +52,7 @@ module _ (header : Header) (ended : List (List Item)) (items : List Item) (now :
   diff-most c k c_in k_in = omega (
     arith,
     run.within c k c_in k_in,
-    threshold-most c (place_of layout k) c_in (place_of-lt layout is_layout k k_in),
+    threshold_most c (place_of layout k) c_in (place_of-lt layout is_layout k k_in),
   )
 
   differentials-most : (k : ℕ) → IsCounter layout k → unsigned_abs (differentials layout now k) ≤ 128 * 125
@@ -116,7 +116,7 @@ module _ (header : Header) (ended : List (List Item)) (items : List Item) (now :
       systems = system-most;
       diffs = diff-most;
       absent = λ c k c_in gone k_in. let both : Online ≡ Absent = sym (run.each_online c c_in) ∙ gone in absurd cc;
-      thresholds = threshold-most;
+      thresholds = threshold_most;
       online = λ c g c_in is_online g_in. omega (
         arith,
         threshold-same run.from now run.settings c g,

@@ -94,15 +94,15 @@ module _ (header : Header) (ended : List (List Item)) (items : List Item) (n : �
       (All-last (All (λ (item : Item). IsLineOf header (line_of item))) ended
       (items ++ change_item n cpu k delta how ∷ []) known.known)
 
-  pub cpu-known : IsCpu header.layout cpu.number
-  cpu-known = line_known.0
+  pub cpu_known-holds : IsCpu header.layout cpu.number
+  cpu_known-holds = line_known.0
 
-  pub counter-known : IsCounter header.layout k.number
-  counter-known = counter_of-act header cpu k delta how line_known.1
+  pub counter_known-holds : IsCounter header.layout k.number
+  counter_known-holds = counter_of-act header cpu k delta how line_known.1
 
   pub volume-known : volume cpu.number k.number (items ++ change_item n cpu k delta how ∷ []) ≤ most_volume
   volume-known = volume-phase header ended (items ++ change_item n cpu k delta how ∷ []) known cpu.number k.number
-      cpu-known counter-known
+      cpu_known-holds counter_known-holds
 
   pub delta-known : unsigned_abs delta ≤ most_volume
   delta-known = at (nat_eq cpu.number cpu.number && nat_eq k.number k.number) (grind (arith, nat_tests))

@@ -275,10 +275,10 @@ module _ (header : Header) (valid : IsHeader header) (answers : ZoneSize → ℕ
     (by_rule : (g : ℕ) → g < length header.sizes →
     answers (size_at header.sizes g) header.layout.cpus (get_or zones g 0)) where
   -- such a state under thresholds that the rule answers
-  pub IsStart-under : (result : Result State Memory) → IfOk result (IsStartUnder header zones)
+  pub IsStartUnder-holds : (result : Result State Memory) → IfOk result (IsStartUnder header zones)
       → IfOk result (IsStart header answers)
-  IsStart-under (Err e) under = tt
-  IsStart-under (Ok s) under = record {
+  IsStartUnder-holds (Err e) under = tt
+  IsStartUnder-holds (Ok s) under = record {
     thresholds = zones;
     by_rule = λ g known. by_rule g (omega (arith, valid.sizes_length));
     state = under;
@@ -294,5 +294,5 @@ pub IsStart-normal : (header : Header) (valid : IsHeader header) (answers : Zone
     → ((g : ℕ) → g < length header.sizes → answers (size_at header.sizes g) header.layout.cpus (get_or zones g 0))
     → IsNormalRule answers → (result : Result State Memory) → IfOk result (IsStartUnder header zones)
     → IfOk result (IsStart header normal_rule)
-IsStart-normal header valid answers zones by_rule normal = IsStart-under header valid normal_rule zones
+IsStart-normal header valid answers zones by_rule normal = IsStartUnder-holds header valid normal_rule zones
     (normal_answers header valid answers zones by_rule normal)

@@ -8,7 +8,7 @@ use Rattle.vms_replay.specs.Laws.{WaitsForItsEnd}
 use Rattle.vms_replay.specs.Replaying.{Kept, replay, replaying}
 use Rattle.vms_stream.specs.declared.halts.Halt.{Halt}
 use Rattle.vms_stream.specs.declared.halts.Halt.TheVariants.{Refuses, Exceeds}
-use Rattle.vms_stream.specs.Machines.{first_halt, halted, printed, printed_from}
+use Rattle.vms_stream.specs.Behaviors.{first_halt, halted, printed, printed_from}
 use Rattle.vms_header.specs.declared.causes.HeaderCause.{HeaderCause}
 use Rattle.vms_header.specs.Stages.{HeadStep, head_line}
 use Rattle.vms_header.specs.Stages.HeadStep.{Goes, Ends}

@@ -1,7 +1,7 @@
 -- Laws of what a replay prints.
 use Rattle.std.specs.Prelude.{◌≡◌, ◌≢◌, ℕ, List, [], Some}
 use Rattle.vms_stream.specs.declared.halts.Halt.TheVariants.{Refuses, Exceeds}
-use Rattle.vms_stream.specs.Machines.{halted, output, printed}
+use Rattle.vms_stream.specs.Behaviors.{halted, output, printed}
 use Rattle.vms_replay.specs.Replaying.{replay, replay_output}
 use Rattle.vms_text.specs.Lines.{lines_of}
 

@@ -11,7 +11,7 @@ use Rattle.vms_command.specs.Texts.{text_of}
 use Rattle.vms_phase.specs.Runs.{InFileOrder, as_phase}
 use Rattle.vms_replay.specs.Reports.{totals_report}
 use Rattle.vms_script.specs.Totals.{plain_total}
-use Rattle.vms_stream.specs.Machines.{Machine}
+use Rattle.vms_stream.specs.Behaviors.{Behavior}
 use Rattle.vms_stream.specs.declared.endings.Ending.{Ending}
 use Rattle.vms_stream.specs.declared.endings.Ending.TheVariants.{NotBuilt}
 use Rattle.vms_text.specs.declared.acts.Act.{Act}
@@ -113,7 +113,7 @@ replaying = record {
   ends = replay_ending;
 }
 
-abbrev pub replay : Machine (CommandState Kept)
+abbrev pub replay : Behavior (CommandState Kept)
 replay = following replaying
 
 -- what is written for a text: the one line of a refused header; or a line for each refusal, the reports, and the last

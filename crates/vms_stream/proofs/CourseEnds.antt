@@ -12,64 +12,64 @@ use Rattle.vms_stream.specs.declared.stops.Stop.TheVariants.{WriteFault, Memory}
 use Rattle.vms_stream.specs.Answers.{Answers, Ends, IsLastPiece, Says}
 use Rattle.vms_stream.specs.Courses.{Finishes, IsCourse, Steps, lines_judged, status_at_end, status_in, status_of}
 use Rattle.vms_stream.specs.Jobs.{Closes}
-use Rattle.vms_stream.specs.Machines.{Machine, state_after, halted, printed, output}
+use Rattle.vms_stream.specs.Behaviors.{Behavior, state_after, halted, printed, output}
 use Rattle.vms_stream.specs.Pieces.{whole_lines, partial_line}
-use Rattle.vms_stream.proofs.MachineLaws.{halted-first, output-open}
+use Rattle.vms_stream.proofs.BehaviorLaws.{halted-first, output-open}
 use Rattle.vms_stream.proofs.TwoPieces.{lines_of-parts}
 use Rattle.vms_stream.proofs.StepOutcomes.{begins, no_piece}
 use Rattle.vms_text.specs.Lines.{lines_of}
 
-module _ {S : Type 0} (machine : Machine S) (shows : S → Type 0) where
+module _ {S : Type 0} (behavior : Behavior S) (shows : S → Type 0) where
   module _ {stands : S → Type 0} (taken written : List ℕ) (course : Course)
-      (is : IsCourse machine stands taken written course)
+      (is : IsCourse behavior stands taken written course)
       (at_end : course.at_end ≡ true) where
-    none_halts : halted machine machine.start (lines_of taken) ≡ None
-    none_halts = subst (λ (b : Bool). halted machine machine.start (lines_judged b taken) ≡ None) at_end is.none_halts
+    none_halts : halted behavior behavior.start (lines_of taken) ≡ None
+    none_halts = subst (λ (b : Bool). halted behavior behavior.start (lines_judged b taken) ≡ None) at_end is.none_halts
 
-    all_written : written ≡ printed machine machine.start (lines_of taken)
-    all_written = subst (λ (b : Bool). written ≡ printed machine machine.start (lines_judged b taken))
+    all_written : written ≡ printed behavior behavior.start (lines_of taken)
+    all_written = subst (λ (b : Bool). written ≡ printed behavior behavior.start (lines_judged b taken))
         at_end is.all_written
 
-    last_piece : IsLastPiece machine taken
-    last_piece = no_piece machine shows taken is.within
-        (halted-first machine machine.start (whole_lines taken) (lines_of (partial_line taken ++ []))
-        (ap (halted machine machine.start) (sym (ap lines_of (sym (append-nil taken)) ∙ lines_of-parts taken []))
+    last_piece : IsLastPiece behavior taken
+    last_piece = no_piece behavior shows taken is.within
+        (halted-first behavior behavior.start (whole_lines taken) (lines_of (partial_line taken ++ []))
+        (ap (halted behavior behavior.start) (sym (ap lines_of (sym (append-nil taken)) ∙ lines_of-parts taken []))
         ∙ none_halts))
 
     -- there was no memory for the last words
     pub Finishes-unended : (sunk : Option (List ℕ)) (stop : Stop) → stop ≡ Memory
-        → Finishes machine shows taken written sunk sunk (Err stop)
+        → Finishes behavior shows taken written sunk sunk (Err stop)
     Finishes-unended sunk stop memory = record {
       moved = [];
       appends = Appends-nil sunk;
-      outcome = λ left ended. subst (λ (s : Stop). Says machine shows (status_of s) taken (written ++ [])
+      outcome = λ left ended. subst (λ (s : Stop). Says behavior shows (status_of s) taken (written ++ [])
           (IsAtEnd left)) (sym memory)
-          (begins machine shows taken (lines_of taken) [] (written ++ []) [] (sym (append-nil (lines_of taken)))
+          (begins behavior shows taken (lines_of taken) [] (written ++ []) [] (sym (append-nil (lines_of taken)))
           (append-nil (written ++ []) ∙ append-nil written ∙ all_written) last_piece);
     }
 
     module _ (ending : Ending) (waiting : List ℕ)
-        (closes : (s : S) → stands s → Closes machine shows s ending course.waiting.items waiting) where
-      closed : Closes machine shows (state_after machine machine.start (lines_of taken)) ending [] waiting
-      closed = subst (λ (out : List ℕ). Closes machine shows (state_after machine machine.start (lines_of taken))
+        (closes : (s : S) → stands s → Closes behavior shows s ending course.waiting.items waiting) where
+      closed : Closes behavior shows (state_after behavior behavior.start (lines_of taken)) ending [] waiting
+      closed = subst (λ (out : List ℕ). Closes behavior shows (state_after behavior behavior.start (lines_of taken))
           ending out waiting) is.nothing_waits
-          (closes (state_after machine machine.start (lines_of taken))
-          (subst (λ (b : Bool). stands (state_after machine machine.start (lines_judged b taken)))
+          (closes (state_after behavior behavior.start (lines_of taken))
+          (subst (λ (b : Bool). stands (state_after behavior behavior.start (lines_judged b taken)))
           at_end is.stands_after))
 
-      whole : written ++ waiting ≡ output machine (lines_of taken)
+      whole : written ++ waiting ≡ output behavior (lines_of taken)
       whole = ap (λ (front : List ℕ). front ++ waiting) all_written
-          ∙ ap (λ (rest : List ℕ). printed machine machine.start (lines_of taken) ++ rest) closed.prints
-          ∙ sym (output-open machine (lines_of taken) none_halts)
+          ∙ ap (λ (rest : List ℕ). printed behavior behavior.start (lines_of taken) ++ rest) closed.prints
+          ∙ sym (output-open behavior (lines_of taken) none_halts)
 
       -- the last write failed
       pub Finishes-unwritten : (sunk sunk' : Option (List ℕ)) (n : ℕ) (stop : Stop)
           → Appends sunk sunk' (take n waiting) → stop ≡ WriteFault
-          → Finishes machine shows taken written sunk sunk' (Err stop)
+          → Finishes behavior shows taken written sunk sunk' (Err stop)
       Finishes-unwritten sunk sunk' n stop appends cause = record {
         moved = take n waiting;
         appends = appends;
-        outcome = λ left ended. subst (λ (s : Stop). Says machine shows (status_of s) taken (written ++ take n waiting)
+        outcome = λ left ended. subst (λ (s : Stop). Says behavior shows (status_of s) taken (written ++ take n waiting)
             (IsAtEnd left)) (sym cause) (record {
               unwritten = drop n waiting;
               begins = sym (append_assoc written (take n waiting) (drop n waiting)
@@ -78,7 +78,7 @@ module _ {S : Type 0} (machine : Machine S) (shows : S → Type 0) where
             });
       }
 
-      ends : {E : Type 0} → E → Ends machine shows ending taken (written ++ waiting) E
+      ends : {E : Type 0} → E → Ends behavior shows ending taken (written ++ waiting) E
       ends ended = record {
         ended = ended;
         within = is.within;
@@ -92,16 +92,16 @@ module _ {S : Type 0} (machine : Machine S) (shows : S → Type 0) where
       -- all was written
       pub Finishes-ended : (sunk sunk' : Option (List ℕ)) (status : Status) → Appends sunk sunk' waiting
           → status ≡ status_at_end ending
-          → Finishes machine shows taken written sunk sunk' (Ok status)
+          → Finishes behavior shows taken written sunk sunk' (Ok status)
       Finishes-ended sunk sunk' status appends told = record {
         moved = waiting;
         appends = appends;
-        outcome = λ left ended. subst (λ (s : Status). Says machine shows s taken (written ++ waiting) (IsAtEnd left))
+        outcome = λ left ended. subst (λ (s : Status). Says behavior shows s taken (written ++ waiting) (IsAtEnd left))
             (sym told) (by ending (ends ended));
       }
         where
-          by : {E : Type 0} (e : Ending) → Ends machine shows e taken (written ++ waiting) E
-              → Says machine shows (status_at_end e) taken (written ++ waiting) E
+          by : {E : Type 0} (e : Ending) → Ends behavior shows e taken (written ++ waiting) E
+              → Says behavior shows (status_at_end e) taken (written ++ waiting) E
           by endings.Done done = done
           by endings.Refused done = done
           by endings.HeaderRefused done = inr done
@@ -111,8 +111,8 @@ module _ {S : Type 0} (machine : Machine S) (shows : S → Type 0) where
   pub Answers-stopped : (stands : S → Type 0) (taken written : List ℕ) (course : Course)
       (left left' left'' sunk sunk' sunk'' : Option (List ℕ)) (stop : Stop)
       → Consumes left left' taken → Appends sunk sunk' written
-      → Steps machine stands shows taken written course left' left'' sunk' sunk'' (Err stop)
-      → Answers left left'' sunk sunk'' (status_of stop) (Says machine shows)
+      → Steps behavior stands shows taken written course left' left'' sunk' sunk'' (Err stop)
+      → Answers left left'' sunk sunk'' (status_of stop) (Says behavior shows)
   Answers-stopped stands taken written course left left' left'' sunk sunk' sunk'' stop consumes appends steps = record {
     taken = taken ++ steps.more;
     written = written ++ steps.moved;
@@ -124,8 +124,8 @@ module _ {S : Type 0} (machine : Machine S) (shows : S → Type 0) where
   pub Answers-ended : (taken written : List ℕ) (left left' sunk sunk' sunk'' : Option (List ℕ))
       (result : Result Status Stop)
       → Consumes left left' taken → IsAtEnd left' → Appends sunk sunk' written
-      → Finishes machine shows taken written sunk' sunk'' result
-      → Answers left left' sunk sunk'' (status_in result) (Says machine shows)
+      → Finishes behavior shows taken written sunk' sunk'' result
+      → Answers left left' sunk sunk'' (status_in result) (Says behavior shows)
   Answers-ended taken written left left' sunk sunk' sunk'' result consumes ended appends finishes = record {
     taken = taken;
     written = written ++ finishes.moved;

@@ -1,6 +1,6 @@
 pub mod TwoPieces
 pub mod LastNewline
-pub mod MachineLaws
+pub mod BehaviorLaws
 pub mod TakenLines
 pub mod PieceLines
 pub mod StepOutcomes

@@ -13,32 +13,32 @@ use Rattle.vms_stream.specs.declared.stops.Stop.TheVariants.{ReadFault, WriteFau
 use Rattle.vms_stream.specs.Answers.{most_bytes, lines_taken, BeginsOutput, GoesOn, Halts, IsJudged, IsLastPiece, Says}
 use Rattle.vms_stream.specs.Courses.{IsCourse, Steps, StopsAt, lines_held, lines_judged, status_of, stop_of_halt}
 use Rattle.vms_stream.specs.Jobs.{TakesLines}
-use Rattle.vms_stream.specs.Machines.{Machine, state_after, halted, printed, output}
+use Rattle.vms_stream.specs.Behaviors.{Behavior, state_after, halted, printed, output}
 use Rattle.vms_stream.specs.Pieces.{whole_lines, partial_line}
 use Rattle.vms_stream.proofs.PieceLines.{lines_counted, lines_counted-within, lines_of-counted, lines_both}
-use Rattle.vms_stream.proofs.MachineLaws.{output-begins}
+use Rattle.vms_stream.proofs.BehaviorLaws.{output-begins}
 use Rattle.vms_stream.proofs.TwoPieces.{lines_of-parts, partial_line-append}
 use Rattle.vms_stream.proofs.TakenLines.{TakesLines-after, TakesLines-both}
 use Rattle.vms_text.specs.Lines.{lines_of}
 
-module _ {S : Type 0} (machine : Machine S) (shows : S → Type 0) where
+module _ {S : Type 0} (behavior : Behavior S) (shows : S → Type 0) where
   -- what the first lines print, or a part of it, begins the output
   pub begins : (text : List ℕ) (lines others : List (List ℕ)) (written unwritten : List ℕ)
       → lines_of text ≡ lines ++ others
-      → written ++ unwritten ≡ printed machine machine.start lines → IsLastPiece machine text
-      → BeginsOutput machine text written
+      → written ++ unwritten ≡ printed behavior behavior.start lines → IsLastPiece behavior text
+      → BeginsOutput behavior text written
   begins text lines others written unwritten parts prints last_piece =
-      let whole = output-begins machine lines others in
+      let whole = output-begins behavior lines others in
       record {
         unwritten = unwritten ++ whole.0;
-        begins = ap (output machine) parts ∙ whole.1 ∙ ap (λ (front : List ℕ). front ++ whole.0) (sym prints)
+        begins = ap (output behavior) parts ∙ whole.1 ∙ ap (λ (front : List ℕ). front ++ whole.0) (sym prints)
             ∙ append_assoc written unwritten whole.0;
         last_piece = last_piece;
       }
 
   -- no piece is open
-  pub no_piece : (taken : List ℕ) → length taken ≤ most_bytes → halted machine machine.start (whole_lines taken) ≡ None
-      → IsLastPiece machine taken
+  pub no_piece : (taken : List ℕ) → length taken ≤ most_bytes → halted behavior behavior.start (whole_lines taken) ≡ None
+      → IsLastPiece behavior taken
   no_piece taken within none = record {
     before = taken;
     piece = [];
@@ -56,36 +56,36 @@ module _ {S : Type 0} (machine : Machine S) (shows : S → Type 0) where
 
   -- a course before the end of its input
   pub before_end : {stands : S → Type 0} (taken written : List ℕ) (course : Course)
-      → IsCourse machine stands taken written course
-      → course.at_end ≡ false → GoesOn machine taken written
-      × stands (state_after machine machine.start (whole_lines taken))
+      → IsCourse behavior stands taken written course
+      → course.at_end ≡ false → GoesOn behavior taken written
+      × stands (state_after behavior behavior.start (whole_lines taken))
   before_end {stands} taken written course is isnt = (
     record {
       within = is.within;
-      none_halts = subst (λ (b : Bool). halted machine machine.start (lines_judged b taken) ≡ None) isnt is.none_halts;
-      all_written = subst (λ (b : Bool). written ≡ printed machine machine.start (lines_judged b taken))
+      none_halts = subst (λ (b : Bool). halted behavior behavior.start (lines_judged b taken) ≡ None) isnt is.none_halts;
+      all_written = subst (λ (b : Bool). written ≡ printed behavior behavior.start (lines_judged b taken))
           isnt is.all_written;
     },
-    subst (λ (b : Bool). stands (state_after machine machine.start (lines_judged b taken))) isnt is.stands_after,
+    subst (λ (b : Bool). stands (state_after behavior behavior.start (lines_judged b taken))) isnt is.stands_after,
   )
 
   -- nothing is taken and nothing written
   nothing_more : (stop : Stop) (taken written : List ℕ) (at_end : Type 0)
-      → Says machine shows (status_of stop) taken written at_end
-      → Says machine shows (status_of stop) (taken ++ []) (written ++ []) at_end
+      → Says behavior shows (status_of stop) taken written at_end
+      → Says behavior shows (status_of stop) (taken ++ []) (written ++ []) at_end
   nothing_more stop taken written at_end says =
-      subst (λ (bytes : List ℕ). Says machine shows (status_of stop) (taken ++ []) bytes at_end)
+      subst (λ (bytes : List ℕ). Says behavior shows (status_of stop) (taken ++ []) bytes at_end)
       (sym (append-nil written))
-      (subst (λ (bytes : List ℕ). Says machine shows (status_of stop) bytes written at_end) (sym (append-nil taken))
+      (subst (λ (bytes : List ℕ). Says behavior shows (status_of stop) bytes written at_end) (sym (append-nil taken))
       says)
 
   module _ {stands : S → Type 0} (stands' : S → Type 0) (taken written : List ℕ) (course : Course)
-      (is : IsCourse machine stands taken written course) (isnt : course.at_end ≡ false) where
+      (is : IsCourse behavior stands taken written course) (isnt : course.at_end ≡ false) where
     unread : (stop : Stop) (at_end : Type 0) → (stop ≡ ReadFault) ⊎ (stop ≡ Memory)
-        → Says machine shows (status_of stop) taken written at_end
-    unread stop at_end (inl fault) = subst (λ (s : Stop). Says machine shows (status_of s) taken written at_end)
+        → Says behavior shows (status_of stop) taken written at_end
+    unread stop at_end (inl fault) = subst (λ (s : Stop). Says behavior shows (status_of s) taken written at_end)
         (sym fault) (before_end taken written course is isnt).0
-    unread stop at_end (inr memory) = subst (λ (s : Stop). Says machine shows (status_of s) taken written at_end)
+    unread stop at_end (inr memory) = subst (λ (s : Stop). Says behavior shows (status_of s) taken written at_end)
         (sym memory)
         (begins taken (whole_lines taken) (lines_of (partial_line taken ++ [])) written []
         (ap lines_of (sym (append-nil taken)) ∙ lines_of-parts taken []) (append-nil written
@@ -95,7 +95,7 @@ module _ {S : Type 0} (machine : Machine S) (shows : S → Type 0) where
     -- the read failed, or there was no memory for it
     pub Steps-unread : (last : Course) (left left' held : Option (List ℕ)) (stop : Stop) → Keeps left left'
         → (stop ≡ ReadFault) ⊎ (stop ≡ Memory)
-        → Steps machine stands' shows taken written last left left' held held (Err stop)
+        → Steps behavior stands' shows taken written last left left' held held (Err stop)
     Steps-unread last left left' held stop keeps cause = record {
       more = [];
       moved = [];
@@ -144,7 +144,7 @@ module _ {S : Type 0} (machine : Machine S) (shows : S → Type 0) where
       )
 
       -- what was read is one piece
-      last_piece : IsLastPiece machine text
+      last_piece : IsLastPiece behavior text
       last_piece = record {
         before = taken;
         piece = more;
@@ -157,13 +157,13 @@ module _ {S : Type 0} (machine : Machine S) (shows : S → Type 0) where
 
       -- there was no memory to judge it
       pub Steps-unjudged : (last : Course) (held : Option (List ℕ)) (stop : Stop) → stop ≡ Memory
-          → Steps machine stands' shows taken written last left left' held held (Err stop)
+          → Steps behavior stands' shows taken written last left left' held held (Err stop)
       Steps-unjudged last held stop memory = record {
         more = more;
         moved = [];
         consumes = gets.consumes;
         appends = Appends-nil held;
-        outcome = subst (λ (s : Stop). Says machine shows (status_of s) text (written ++ []) (IsAtEnd left'))
+        outcome = subst (λ (s : Stop). Says behavior shows (status_of s) text (written ++ []) (IsAtEnd left'))
             (sym memory)
             (begins text (whole_lines taken) (lines_of (partial_line taken ++ more)) (written ++ []) []
             (lines_of-parts taken more)
@@ -172,24 +172,24 @@ module _ {S : Type 0} (machine : Machine S) (shows : S → Type 0) where
       }
 
       module _ (halt : Option Halt) (waiting : List ℕ)
-          (judges : (s : S) → stands s → TakesLines machine stands' s (lines_held read) halt read.waiting.items waiting)
+          (judges : (s : S) → stands s → TakesLines behavior stands' s (lines_held read) halt read.waiting.items waiting)
         where
-          judged : TakesLines machine stands' machine.start (lines_counted read.at_end text) halt []
+          judged : TakesLines behavior stands' behavior.start (lines_counted read.at_end text) halt []
               (written ++ waiting)
           judged =
               let before = before_end taken written course is isnt in
-              TakesLines-both machine stands' machine.start (whole_lines taken) (lines_held read)
+              TakesLines-both behavior stands' behavior.start (whole_lines taken) (lines_held read)
               (lines_counted read.at_end text) halt [] written (written ++ waiting)
               before.0.none_halts before.0.all_written lines_all
-              (TakesLines-after machine stands' (state_after machine machine.start (whole_lines taken))
+              (TakesLines-after behavior stands' (state_after behavior behavior.start (whole_lines taken))
               (lines_held read)
               halt written read.waiting.items waiting
-              (waits ∙ is.nothing_waits) (judges (state_after machine machine.start (whole_lines taken)) before.1))
+              (waits ∙ is.nothing_waits) (judges (state_after behavior behavior.start (whole_lines taken)) before.1))
 
           -- the write failed
           pub Steps-unwritten : (last : Course) (held held' : Option (List ℕ)) (n : ℕ) (stop : Stop)
               → Appends held held' (take n waiting) → stop ≡ WriteFault
-              → Steps machine stands' shows taken written last left left' held held' (Err stop)
+              → Steps behavior stands' shows taken written last left left' held held' (Err stop)
           Steps-unwritten last held held' n stop appends cause =
               let others = lines_of-counted read.at_end text in
               record {
@@ -197,7 +197,7 @@ module _ {S : Type 0} (machine : Machine S) (shows : S → Type 0) where
                 moved = take n waiting;
                 consumes = gets.consumes;
                 appends = appends;
-                outcome = subst (λ (s : Stop). Says machine shows (status_of s) text (written ++ take n waiting)
+                outcome = subst (λ (s : Stop). Says behavior shows (status_of s) text (written ++ take n waiting)
                     (IsAtEnd left')) (sym cause)
                     (begins text (lines_counted read.at_end text) others.0 (written ++ take n waiting) (drop n waiting)
                     others.1
@@ -205,7 +205,7 @@ module _ {S : Type 0} (machine : Machine S) (shows : S → Type 0) where
               }
 
           -- a line stops the command
-          halts : (h : Halt) → halt ≡ Some h → Halts machine h text (written ++ waiting) (IsAtEnd left')
+          halts : (h : Halt) → halt ≡ Some h → Halts behavior h text (written ++ waiting) (IsAtEnd left')
           halts h stopped = record {
             lines = lines_counted read.at_end text;
             judged = counts read.at_end refl;
@@ -219,21 +219,21 @@ module _ {S : Type 0} (machine : Machine S) (shows : S → Type 0) where
               counts false before = inl refl
 
           says_halt : (h : Halt) → halt ≡ Some h
-              → Says machine shows (status_of (stop_of_halt h)) text (written ++ waiting) (IsAtEnd left')
+              → Says behavior shows (status_of (stop_of_halt h)) text (written ++ waiting) (IsAtEnd left')
           says_halt Refuses stopped = inl (halts Refuses stopped)
           says_halt Exceeds stopped = inl (halts Exceeds stopped)
 
           -- there are too many bytes
           says_beyond : (b : Bool) → read.at_end ≡ b → halt ≡ None → most_bytes < length text
-              → Says machine shows (status_of TooLong) text (written ++ waiting) (IsAtEnd left')
+              → Says behavior shows (status_of TooLong) text (written ++ waiting) (IsAtEnd left')
           says_beyond true end none beyond = absurd (omega (arith, beyond, (at_the_end end).1))
           says_beyond false before none beyond =
               let same : lines_counted read.at_end text ≡ lines_taken text =
               ap (λ (b : Bool). lines_counted b text) before in
               inr (record {
                 beyond = beyond;
-                none_halts = ap (halted machine machine.start) (sym same) ∙ sym judged.halt_of ∙ none;
-                whole_output = judged.prints ∙ ap (printed machine machine.start) same;
+                none_halts = ap (halted behavior behavior.start) (sym same) ∙ sym judged.halt_of ∙ none;
+                whole_output = judged.prints ∙ ap (printed behavior behavior.start) same;
                 last_piece = last_piece;
               })
 
@@ -243,7 +243,7 @@ module _ {S : Type 0} (machine : Machine S) (shows : S → Type 0) where
             text_count : read.taken ≡ length text
             text_count = read_count ∙ sym (length-append taken more)
 
-            goes_on : halt ≡ None → read.taken ≤ most_bytes → IsCourse machine stands' text (written ++ waiting) last
+            goes_on : halt ≡ None → read.taken ≤ most_bytes → IsCourse behavior stands' text (written ++ waiting) last
             goes_on none within =
                 let fits : length text ≤ most_bytes = subst (λ (n : ℕ). n ≤ most_bytes) text_count within in
                 let same : lines_counted read.at_end text ≡ lines_judged last.at_end text
@@ -251,11 +251,11 @@ module _ {S : Type 0} (machine : Machine S) (shows : S → Type 0) where
                 record {
                   counted = same_count ∙ text_count;
                   within = fits;
-                  none_halts = ap (halted machine machine.start) (sym same) ∙ sym judged.halt_of ∙ none;
-                  stands_after = subst (λ (lines : List (List ℕ)). stands' (state_after machine machine.start lines))
+                  none_halts = ap (halted behavior behavior.start) (sym same) ∙ sym judged.halt_of ∙ none;
+                  stands_after = subst (λ (lines : List (List ℕ)). stands' (state_after behavior behavior.start lines))
                       same
                       (judged.stands_after none);
-                  all_written = judged.prints ∙ ap (printed machine machine.start) same;
+                  all_written = judged.prints ∙ ap (printed behavior behavior.start) same;
                   nothing_waits = nothing_waits;
                   held = λ before. held (sym same_end ∙ before) within ∙ ap partial_line read_held
                       ∙ sym (partial_line-append taken more);
@@ -263,14 +263,14 @@ module _ {S : Type 0} (machine : Machine S) (shows : S → Type 0) where
 
             pub Steps-judged : (sunk sunk' : Option (List ℕ)) (result : Result (Unit {0}) Stop)
                 → Appends sunk sunk' waiting → StopsAt halt last.taken result
-                → Steps machine stands' shows taken written last left left' sunk sunk' result
+                → Steps behavior stands' shows taken written last left left' sunk sunk' result
             Steps-judged sunk sunk' result appends stops =
                 by halt refl result (subst (λ (n : ℕ). StopsAt halt n result) same_count stops)
               where
                 by : (found : Option Halt) → halt ≡ found → (r : Result (Unit {0}) Stop) → StopsAt found read.taken r
-                    → Steps machine stands' shows taken written last left left' sunk sunk' r
+                    → Steps behavior stands' shows taken written last left left' sunk sunk' r
                 by (Some h) is_found r stopped = subst
-                    (λ (r : Result (Unit {0}) Stop). Steps machine stands' shows taken written last left left' sunk
+                    (λ (r : Result (Unit {0}) Stop). Steps behavior stands' shows taken written last left left' sunk
                     sunk'
                     r) (sym stopped) (record {
                       more = more;
@@ -291,7 +291,7 @@ module _ {S : Type 0} (machine : Machine S) (shows : S → Type 0) where
                   moved = waiting;
                   consumes = gets.consumes;
                   appends = appends;
-                  outcome = subst (λ (s : Stop). Says machine shows (status_of s) text (written ++ waiting)
+                  outcome = subst (λ (s : Stop). Says behavior shows (status_of s) text (written ++ waiting)
                       (IsAtEnd left')) (sym beyond.0)
                       (says_beyond read.at_end refl is_found (subst (λ (n : ℕ). most_bytes < n) text_count beyond.1));
                 }

@@ -5,8 +5,8 @@ use Rattle.std.proofs.Common.{true≢false, eqb-true, arith}
 use Rattle.vms_stream.specs.declared.halts.Halt.{Halt}
 use Rattle.vms_stream.specs.declared.halts.Halt.TheVariants.{Refuses, Exceeds}
 use Rattle.vms_stream.specs.Jobs.{TakesLines}
-use Rattle.vms_stream.specs.Machines.{Machine, state_after, first_halt, halted, printed_from, printed}
-use Rattle.vms_stream.proofs.MachineLaws.{state_after-append, halted-append, printed-append, halted-stops}
+use Rattle.vms_stream.specs.Behaviors.{Behavior, state_after, first_halt, halted, printed_from, printed}
+use Rattle.vms_stream.proofs.BehaviorLaws.{state_after-append, halted-append, printed-append, halted-stops}
 use Rattle.vms_text.proofs.TextLaws.{lines_of-begin}
 use Rattle.vms_text.specs.Lines.{lines_of, SplitsLine}
 
@@ -30,61 +30,61 @@ SplitsLine-shorter text line rest splits some = elim splits.parts [
   | inr whole ↦ omega (arith, ap length whole.1, not_nil text some)
 ]
 
-module _ {S : Type 0} (machine : Machine S) (stands : S → Type 0) where
+module _ {S : Type 0} (behavior : Behavior S) (stands : S → Type 0) where
   -- after one line: the job takes it, refuses it, or the line exceeds a limit
-  pub TakesLines-one : (s : S) (line out out' : List ℕ) → machine.halts s line ≡ None
-      → out' ≡ out ++ machine.prints s line
-      → stands (machine.next s line) → TakesLines machine stands s (line ∷ []) None out out'
+  pub TakesLines-one : (s : S) (line out out' : List ℕ) → behavior.halts s line ≡ None
+      → out' ≡ out ++ behavior.prints s line
+      → stands (behavior.next s line) → TakesLines behavior stands s (line ∷ []) None out out'
   TakesLines-one s line out out' open_line prints after = record {
     halt_of = ap (λ (halt : Option Halt). first_halt halt None) (sym open_line);
-    prints = prints ∙ ap (λ (bytes : List ℕ). out ++ bytes) (sym (append-nil (machine.prints s line))
-        ∙ ap (λ (halt : Option Halt). printed_from halt (machine.prints s line) []) (sym open_line));
+    prints = prints ∙ ap (λ (bytes : List ℕ). out ++ bytes) (sym (append-nil (behavior.prints s line))
+        ∙ ap (λ (halt : Option Halt). printed_from halt (behavior.prints s line) []) (sym open_line));
     stands_after = λ _. after;
   }
 
-  pub TakesLines-refused : (s : S) (line out out' : List ℕ) → machine.halts s line ≡ Some Refuses
-      → out' ≡ out ++ machine.prints s line
-      → TakesLines machine stands s (line ∷ []) (Some Refuses) out out'
+  pub TakesLines-refused : (s : S) (line out out' : List ℕ) → behavior.halts s line ≡ Some Refuses
+      → out' ≡ out ++ behavior.prints s line
+      → TakesLines behavior stands s (line ∷ []) (Some Refuses) out out'
   TakesLines-refused s line out out' refused prints = record {
     halt_of = ap (λ (halt : Option Halt). first_halt halt None) (sym refused);
     prints = prints ∙ ap (λ (bytes : List ℕ). out ++ bytes)
-        (ap (λ (halt : Option Halt). printed_from halt (machine.prints s line) []) (sym refused));
+        (ap (λ (halt : Option Halt). printed_from halt (behavior.prints s line) []) (sym refused));
     stands_after = λ none. absurd cc;
   }
 
-  pub TakesLines-exceeding : (s : S) (line out out' : List ℕ) → machine.halts s line ≡ Some Exceeds → out' ≡ out
-      → TakesLines machine stands s (line ∷ []) (Some Exceeds) out out'
+  pub TakesLines-exceeding : (s : S) (line out out' : List ℕ) → behavior.halts s line ≡ Some Exceeds → out' ≡ out
+      → TakesLines behavior stands s (line ∷ []) (Some Exceeds) out out'
   TakesLines-exceeding s line out out' exceeding same = record {
     halt_of = ap (λ (halt : Option Halt). first_halt halt None) (sym exceeding);
     prints = same ∙ sym (append-nil out)
         ∙ ap (λ (bytes : List ℕ). out ++ bytes)
-        (ap (λ (halt : Option Halt). printed_from halt (machine.prints s line) []) (sym exceeding));
+        (ap (λ (halt : Option Halt). printed_from halt (behavior.prints s line) []) (sym exceeding));
     stands_after = λ none. absurd cc;
   }
 
   -- after lines of which none stops it, and then past more
   pub TakesLines-both : (s : S) (lines more all : List (List ℕ)) (halt : Option Halt) (first out out' : List ℕ)
-      → halted machine s lines ≡ None
-      → out ≡ first ++ printed machine s lines → lines ++ more ≡ all
-      → TakesLines machine stands (state_after machine s lines) more halt out out'
-      → TakesLines machine stands s all halt first out'
+      → halted behavior s lines ≡ None
+      → out ≡ first ++ printed behavior s lines → lines ++ more ≡ all
+      → TakesLines behavior stands (state_after behavior s lines) more halt out out'
+      → TakesLines behavior stands s all halt first out'
   TakesLines-both s lines more all halt first out out' none written joined goes =
-      subst (λ (ls : List (List ℕ)). TakesLines machine stands s ls halt first out') joined (record {
-        halt_of = goes.halt_of ∙ sym (halted-append machine s lines more none);
-        prints = goes.prints ∙ ap (λ (front : List ℕ). front ++ printed machine (state_after machine s lines) more)
+      subst (λ (ls : List (List ℕ)). TakesLines behavior stands s ls halt first out') joined (record {
+        halt_of = goes.halt_of ∙ sym (halted-append behavior s lines more none);
+        prints = goes.prints ∙ ap (λ (front : List ℕ). front ++ printed behavior (state_after behavior s lines) more)
             written
-            ∙ append_assoc first (printed machine s lines) (printed machine (state_after machine s lines) more)
-            ∙ ap (λ (rest : List ℕ). first ++ rest) (sym (printed-append machine s lines more none));
-        stands_after = λ open_end. subst stands (sym (state_after-append machine s lines more))
+            ∙ append_assoc first (printed behavior s lines) (printed behavior (state_after behavior s lines) more)
+            ∙ ap (λ (rest : List ℕ). first ++ rest) (sym (printed-append behavior s lines more none));
+        stands_after = λ open_end. subst stands (sym (state_after-append behavior s lines more))
             (goes.stands_after open_end);
       })
 
   -- what stands after a line that stops it doesn't matter
   pub TakesLines-stopped : (s : S) (lines more : List (List ℕ)) (halt : Halt) (out out' : List ℕ)
-      → TakesLines machine stands s lines (Some halt) out out'
-      → TakesLines machine stands s (lines ++ more) (Some halt) out out'
+      → TakesLines behavior stands s lines (Some halt) out out'
+      → TakesLines behavior stands s (lines ++ more) (Some halt) out out'
   TakesLines-stopped s lines more halt out out' goes =
-      let stops = halted-stops machine s lines more halt (sym goes.halt_of) in
+      let stops = halted-stops behavior s lines more halt (sym goes.halt_of) in
       record {
         halt_of = sym stops.0;
         prints = goes.prints ∙ ap (λ (rest : List ℕ). out ++ rest) (sym stops.1);
@@ -93,11 +93,11 @@ module _ {S : Type 0} (machine : Machine S) (stands : S → Type 0) where
 
   -- what was printed before
   pub TakesLines-after : (s : S) (lines : List (List ℕ)) (halt : Option Halt) (front out out' : List ℕ) → out ≡ []
-      → TakesLines machine stands s lines halt out out' → TakesLines machine stands s lines halt front (front ++ out')
+      → TakesLines behavior stands s lines halt out out' → TakesLines behavior stands s lines halt front (front ++ out')
   TakesLines-after s lines halt front out out' none goes = record {
     halt_of = goes.halt_of;
     prints = ap (λ (rest : List ℕ). front ++ rest) (goes.prints
-        ∙ ap (λ (o : List ℕ). o ++ printed machine s lines) none);
+        ∙ ap (λ (o : List ℕ). o ++ printed behavior s lines) none);
     stands_after = goes.stands_after;
   }
 
@@ -109,33 +109,33 @@ one_further all above rest line after parts some splits =
     parts ∙ ap (λ (lines : List (List ℕ)). above ++ lines) (lines_of-begin rest line after splits some)
     ∙ sym (append_assoc above (line ∷ []) (lines_of after))
 
-module _ {S : Type 0} (machine : Machine S) (stands now next : S → Type 0) (all above : List (List ℕ))
+module _ {S : Type 0} (behavior : Behavior S) (stands now next : S → Type 0) (all above : List (List ℕ))
     (rest line after first out out' : List ℕ)
     (parts : all ≡ above ++ lines_of rest) (some : rest ≢ []) (splits : SplitsLine rest line after)
-    (took : (s : S) → stands s → TakesLines machine now s above None first out) (halt : Option Halt)
-    (goes : (s : S) → now s → TakesLines machine next s (line ∷ []) halt out out') where
+    (took : (s : S) → stands s → TakesLines behavior now s above None first out) (halt : Option Halt)
+    (goes : (s : S) → now s → TakesLines behavior next s (line ∷ []) halt out out') where
   -- one line further, if it doesn't stop the job
-  pub takes_line : (s : S) → stands s → TakesLines machine next s (above ++ (line ∷ [])) halt first out'
+  pub takes_line : (s : S) → stands s → TakesLines behavior next s (above ++ (line ∷ [])) halt first out'
   takes_line s here =
       let before = took s here in
-      TakesLines-both machine next s above (line ∷ []) (above ++ (line ∷ [])) halt first out out' (sym before.halt_of)
+      TakesLines-both behavior next s above (line ∷ []) (above ++ (line ∷ [])) halt first out out' (sym before.halt_of)
       before.prints refl
-      (goes (state_after machine s above) (before.stands_after refl))
+      (goes (state_after behavior s above) (before.stands_after refl))
 
   -- a line that stops it
-  pub takes_halt : (h : Halt) → halt ≡ Some h → (s : S) → stands s → TakesLines machine next s all (Some h) first out'
+  pub takes_halt : (h : Halt) → halt ≡ Some h → (s : S) → stands s → TakesLines behavior next s all (Some h) first out'
   takes_halt h is s here =
-      subst (λ (lines : List (List ℕ)). TakesLines machine next s lines (Some h) first out')
+      subst (λ (lines : List (List ℕ)). TakesLines behavior next s lines (Some h) first out')
       (sym (one_further all above rest line after parts some splits))
-      (TakesLines-stopped machine next s (above ++ (line ∷ [])) (lines_of after) h first out'
-      (subst (λ (found : Option Halt). TakesLines machine next s (above ++ (line ∷ [])) found first out') is
+      (TakesLines-stopped behavior next s (above ++ (line ∷ [])) (lines_of after) h first out'
+      (subst (λ (found : Option Halt). TakesLines behavior next s (above ++ (line ∷ [])) found first out') is
       (takes_line s here)))
 
 -- at the end of the text
-pub takes_end : {S : Type 0} (machine : Machine S) (stands now : S → Type 0) (all above : List (List ℕ))
+pub takes_end : {S : Type 0} (behavior : Behavior S) (stands now : S → Type 0) (all above : List (List ℕ))
     (rest first out : List ℕ) → all ≡ above ++ lines_of rest → rest ≡ []
-    → ((s : S) → stands s → TakesLines machine now s above None first out) → (s : S) → stands s
-    → TakesLines machine now s all None first out
-takes_end machine stands now all above rest first out parts none took s here =
-    subst (λ (lines : List (List ℕ)). TakesLines machine now s lines None first out)
+    → ((s : S) → stands s → TakesLines behavior now s above None first out) → (s : S) → stands s
+    → TakesLines behavior now s all None first out
+takes_end behavior stands now all above rest first out parts none took s here =
+    subst (λ (lines : List (List ℕ)). TakesLines behavior now s lines None first out)
     (sym (parts ∙ ap (λ (bytes : List ℕ). above ++ lines_of bytes) none ∙ append-nil above)) (took s here)

@@ -9,7 +9,7 @@ use Rattle.vms_stream.specs.declared.halts.Halt.TheVariants.{Refuses, Exceeds}
 use Rattle.vms_stream.specs.declared.statuses.Status.{Status}
 use Rattle.vms_stream.specs.declared.statuses.Status.TheVariants.{Done, Words, Header, Refused, ReadFault, WriteFault}
 use Rattle.vms_stream.specs.declared.statuses.Status.TheVariants.{Memory, TooLong, NotBuilt}
-use Rattle.vms_stream.specs.Machines.{Machine, state_after, halted, printed, output}
+use Rattle.vms_stream.specs.Behaviors.{Behavior, state_after, halted, printed, output}
 use Rattle.vms_stream.specs.Pieces.{whole_lines, partial_line}
 use Rattle.vms_text.specs.Lines.{lines_of}
 
@@ -28,66 +28,66 @@ IsJudged taken lines at_end =
 
 -- nothing was read after the piece that decided: before it the command went on. A piece has 64 KiB at most, or as many
 -- bytes as the line in which it begins had before it
-pub record IsLastPiece {S : Type 0} (machine : Machine S) (taken : List ℕ) : Type 0 where
+pub record IsLastPiece {S : Type 0} (behavior : Behavior S) (taken : List ℕ) : Type 0 where
   pub before : List ℕ
   pub piece : List ℕ
   pub pieces : taken ≡ before ++ piece
   pub one_piece : length piece ≤ max 65536 (length (partial_line before))
   pub within_before : length before ≤ most_bytes
-  pub none_before : halted machine machine.start (whole_lines before) ≡ None
+  pub none_before : halted behavior behavior.start (whole_lines before) ≡ None
 
 -- a line stopped the command, and all was written that is printed up to it
-pub record Halts {S : Type 0} (machine : Machine S) (halt : Halt) (taken written : List ℕ)
+pub record Halts {S : Type 0} (behavior : Behavior S) (halt : Halt) (taken written : List ℕ)
     (at_end : Type 0) : Type 0 where
   pub lines : List (List ℕ)
   pub judged : IsJudged taken lines at_end
-  pub halt_is : halted machine machine.start lines ≡ Some halt
-  pub whole_output : written ≡ printed machine machine.start lines
-  pub last_piece : IsLastPiece machine taken
+  pub halt_is : halted behavior behavior.start lines ≡ Some halt
+  pub whole_output : written ≡ printed behavior behavior.start lines
+  pub last_piece : IsLastPiece behavior taken
 
 -- the input has too many bytes, and no whole line that counts stops the command
-pub record Oversteps {S : Type 0} (machine : Machine S) (taken written : List ℕ) : Type 0 where
+pub record Oversteps {S : Type 0} (behavior : Behavior S) (taken written : List ℕ) : Type 0 where
   pub beyond : most_bytes < length taken
-  pub none_halts : halted machine machine.start (lines_taken taken) ≡ None
-  pub whole_output : written ≡ printed machine machine.start (lines_taken taken)
-  pub last_piece : IsLastPiece machine taken
+  pub none_halts : halted behavior behavior.start (lines_taken taken) ≡ None
+  pub whole_output : written ≡ printed behavior behavior.start (lines_taken taken)
+  pub last_piece : IsLastPiece behavior taken
 
 -- the command came to the end of its input, the whole output was written, and the job showed what it does there
-pub record Ends {S : Type 0} (machine : Machine S) (shows : S → Type 0) (ending : Ending) (taken written : List ℕ)
+pub record Ends {S : Type 0} (behavior : Behavior S) (shows : S → Type 0) (ending : Ending) (taken written : List ℕ)
     (at_end : Type 0) : Type 0 where
   pub ended : at_end
   pub within : length taken ≤ most_bytes
-  pub none_halts : halted machine machine.start (lines_of taken) ≡ None
-  pub ending_is : machine.ends (state_after machine machine.start (lines_of taken)) ≡ ending
-  pub whole_output : written ≡ output machine (lines_of taken)
-  pub shown : shows (state_after machine machine.start (lines_of taken))
+  pub none_halts : halted behavior behavior.start (lines_of taken) ≡ None
+  pub ending_is : behavior.ends (state_after behavior behavior.start (lines_of taken)) ≡ ending
+  pub whole_output : written ≡ output behavior (lines_of taken)
+  pub shown : shows (state_after behavior behavior.start (lines_of taken))
 
 -- the command went on, and all was written that the whole lines print
-pub record GoesOn {S : Type 0} (machine : Machine S) (taken written : List ℕ) : Type 0 where
+pub record GoesOn {S : Type 0} (behavior : Behavior S) (taken written : List ℕ) : Type 0 where
   pub within : length taken ≤ most_bytes
-  pub none_halts : halted machine machine.start (whole_lines taken) ≡ None
-  pub all_written : written ≡ printed machine machine.start (whole_lines taken)
+  pub none_halts : halted behavior behavior.start (whole_lines taken) ≡ None
+  pub all_written : written ≡ printed behavior behavior.start (whole_lines taken)
 
 -- what was written begins the output of what was taken, as if the input ended there; nothing was read after a piece
 -- in which a line stopped the command, or the bytes exceeded 64 MiB
-pub record BeginsOutput {S : Type 0} (machine : Machine S) (taken written : List ℕ) : Type 0 where
+pub record BeginsOutput {S : Type 0} (behavior : Behavior S) (taken written : List ℕ) : Type 0 where
   pub unwritten : List ℕ
-  pub begins : output machine (lines_of taken) ≡ written ++ unwritten
-  pub last_piece : IsLastPiece machine taken
+  pub begins : output behavior (lines_of taken) ≡ written ++ unwritten
+  pub last_piece : IsLastPiece behavior taken
 
 -- what each status of a command says. `shows` is what its job shows at the end of the input
-abbrev pub Says : {S : Type 0} → Machine S → (S → Type 0) → Status → List ℕ → List ℕ → Type 0 → Type 0
-Says machine shows Done taken written at_end = Ends machine shows endings.Done taken written at_end
-Says machine shows Words taken written at_end = ⊥
-Says machine shows Header taken written at_end =
-    Halts machine Refuses taken written at_end ⊎ Ends machine shows endings.HeaderRefused taken written at_end
-Says machine shows Refused taken written at_end = Ends machine shows endings.Refused taken written at_end
-Says machine shows ReadFault taken written at_end = GoesOn machine taken written
-Says machine shows WriteFault taken written at_end = BeginsOutput machine taken written
-Says machine shows Memory taken written at_end = BeginsOutput machine taken written
-Says machine shows TooLong taken written at_end =
-    Halts machine Exceeds taken written at_end ⊎ Oversteps machine taken written
-Says machine shows NotBuilt taken written at_end = Ends machine shows endings.NotBuilt taken written at_end
+abbrev pub Says : {S : Type 0} → Behavior S → (S → Type 0) → Status → List ℕ → List ℕ → Type 0 → Type 0
+Says behavior shows Done taken written at_end = Ends behavior shows endings.Done taken written at_end
+Says behavior shows Words taken written at_end = ⊥
+Says behavior shows Header taken written at_end =
+    Halts behavior Refuses taken written at_end ⊎ Ends behavior shows endings.HeaderRefused taken written at_end
+Says behavior shows Refused taken written at_end = Ends behavior shows endings.Refused taken written at_end
+Says behavior shows ReadFault taken written at_end = GoesOn behavior taken written
+Says behavior shows WriteFault taken written at_end = BeginsOutput behavior taken written
+Says behavior shows Memory taken written at_end = BeginsOutput behavior taken written
+Says behavior shows TooLong taken written at_end =
+    Halts behavior Exceeds taken written at_end ⊎ Oversteps behavior taken written
+Says behavior shows NotBuilt taken written at_end = Ends behavior shows endings.NotBuilt taken written at_end
 
 -- a command took these bytes from its source and wrote these to its sink, and its status says what they are
 pub record Answers (left left' held held' : Option (List ℕ)) (status : Status)

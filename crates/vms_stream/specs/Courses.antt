@@ -12,7 +12,7 @@ use Rattle.vms_stream.specs.declared.statuses.Status.TheVariants as statuses
 use Rattle.vms_stream.specs.declared.stops.Stop.{Stop}
 use Rattle.vms_stream.specs.declared.stops.Stop.TheVariants.{Header, ReadFault, WriteFault, Memory, TooLong}
 use Rattle.vms_stream.specs.Answers.{most_bytes, FaultsOfSource, FaultsOfSink, Says}
-use Rattle.vms_stream.specs.Machines.{Machine, state_after, halted, printed}
+use Rattle.vms_stream.specs.Behaviors.{Behavior, state_after, halted, printed}
 use Rattle.vms_stream.specs.Pieces.{whole_lines, partial_line}
 use Rattle.vms_text.specs.Lines.{lines_of}
 
@@ -64,35 +64,35 @@ lines_held course = lines_judged course.at_end (take (counted_bytes course) cour
 
 -- a course between two pieces: the job stands after the lines that were taken, all was written that they print, and
 -- what stands after the last newline is held
-pub record IsCourse {S : Type 0} (machine : Machine S) (stands : S → Type 0) (taken written : List ℕ)
+pub record IsCourse {S : Type 0} (behavior : Behavior S) (stands : S → Type 0) (taken written : List ℕ)
     (course : Course) : Type 0 where
   pub counted : course.taken ≡ length taken
   pub within : length taken ≤ most_bytes
-  pub none_halts : halted machine machine.start (lines_judged course.at_end taken) ≡ None
-  pub stands_after : stands (state_after machine machine.start (lines_judged course.at_end taken))
-  pub all_written : written ≡ printed machine machine.start (lines_judged course.at_end taken)
+  pub none_halts : halted behavior behavior.start (lines_judged course.at_end taken) ≡ None
+  pub stands_after : stands (state_after behavior behavior.start (lines_judged course.at_end taken))
+  pub all_written : written ≡ printed behavior behavior.start (lines_judged course.at_end taken)
   pub nothing_waits : course.waiting.items ≡ []
   pub held : course.at_end ≡ false → course.input ≡ partial_line taken
 
 -- one piece further: bytes were taken and bytes were written, and the course goes on or stops
-pub record Steps {S : Type 0} (machine : Machine S) (stands shows : S → Type 0) (taken written : List ℕ)
+pub record Steps {S : Type 0} (behavior : Behavior S) (stands shows : S → Type 0) (taken written : List ℕ)
     (course' : Course) (left left' held held' : Option (List ℕ)) (result : Result (Unit {0}) Stop) : Type 0 where
   pub more : List ℕ
   pub moved : List ℕ
   pub consumes : Consumes left left' more
   pub appends : Appends held held' moved
   pub outcome : MatchResult result
-      (λ _. IsCourse machine stands (taken ++ more) (written ++ moved) course'
+      (λ _. IsCourse behavior stands (taken ++ more) (written ++ moved) course'
       × (course'.at_end ≡ true → IsAtEnd left'))
-      (λ stop. Says machine shows (status_of stop) (taken ++ more) (written ++ moved) (IsAtEnd left'))
+      (λ stop. Says behavior shows (status_of stop) (taken ++ more) (written ++ moved) (IsAtEnd left'))
 
 -- the end of a course
-pub record Finishes {S : Type 0} (machine : Machine S) (shows : S → Type 0) (taken written : List ℕ)
+pub record Finishes {S : Type 0} (behavior : Behavior S) (shows : S → Type 0) (taken written : List ℕ)
     (held held' : Option (List ℕ)) (result : Result Status Stop) : Type 0 where
   pub moved : List ℕ
   pub appends : Appends held held' moved
   pub outcome : (left : Option (List ℕ)) → IsAtEnd left
-      → Says machine shows (status_in result) taken (written ++ moved) (IsAtEnd left)
+      → Says behavior shows (status_in result) taken (written ++ moved) (IsAtEnd left)
 
 -- a command stops where a line stops it, and else where there are too many bytes
 abbrev pub StopsAt : Option Halt → ℕ → Result (Unit {0}) Stop → Type 0

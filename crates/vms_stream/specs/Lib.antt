@@ -1,5 +1,5 @@
 pub mod Pieces
-pub mod Machines
+pub mod Behaviors
 pub mod Jobs
 pub mod Answers
 pub mod Courses

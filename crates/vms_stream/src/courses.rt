@@ -91,7 +91,7 @@ impl Course {
         requires job { (s : J.State) × J.Stands job.old s }
         requires counted { self.old.taken ≤ most_bytes + length self.old.input }
         ensures lines { IfOk result (λ halt. (s : J.State) → J.Stands job.old s →
-            TakesLines J.machine (J.Stands job.new) s (lines_held self.old) halt
+            TakesLines J.behavior (J.Stands job.new) s (lines_held self.old) halt
             self.old.waiting.items self.new.waiting.items) }
         ensures held { OnOk result (self.old.at_end ≡ false → self.old.taken ≤ most_bytes →
             self.new.input ≡ partial_line self.old.input) }
@@ -129,11 +129,11 @@ impl Course {
         out: &mut K,
     ) -> Result<(), Stop>
         requires course { (taken : List ℕ) × (written : List ℕ)
-            × IsCourse J.machine (J.Stands job.old) taken written self.old }
+            × IsCourse J.behavior (J.Stands job.old) taken written self.old }
         requires before_end { self.old.at_end ≡ false }
         ensures steps { (taken : List ℕ) (written : List ℕ) →
-            IsCourse J.machine (J.Stands job.old) taken written self.old →
-            Steps J.machine (J.Stands job.new) J.Shows taken written self.new
+            IsCourse J.behavior (J.Stands job.old) taken written self.old →
+            Steps J.behavior (J.Stands job.new) J.Shows taken written self.new
             (S.remaining src.old) (S.remaining src.new)
             (K.written out.old) (K.written out.new) result }
         ensures reads { CountsReads result (S.faults src.old) (S.faults src.new) }
@@ -153,11 +153,11 @@ impl Course {
         out: &mut K,
     ) -> Result<Status, Stop>
         requires course { (taken : List ℕ) × (written : List ℕ)
-            × IsCourse J.machine (J.Stands job.old) taken written self.old }
+            × IsCourse J.behavior (J.Stands job.old) taken written self.old }
         requires at_end { self.old.at_end ≡ true }
         ensures finishes { (taken : List ℕ) (written : List ℕ) →
-            IsCourse J.machine (J.Stands job.old) taken written self.old →
-            Finishes J.machine J.Shows taken written (K.written out.old) (K.written out.new) result }
+            IsCourse J.behavior (J.Stands job.old) taken written self.old →
+            Finishes J.behavior J.Shows taken written (K.written out.old) (K.written out.new) result }
         ensures reads { (n : ℕ) → FaultsOfSource (status_in result) n n }
         ensures writes { FaultsOfSink (status_in result) (K.faults out.old) (K.faults out.new) }
     {

@@ -16,9 +16,9 @@ pub fn stream<J: Job, S: Source, K: Sink>(
     src: &mut S,
     out: &mut K,
 ) -> Status
-    requires { J.Stands job.old J.machine.start }
+    requires { J.Stands job.old J.behavior.start }
     ensures answers { Answers (S.remaining src.old) (S.remaining src.new) (K.written out.old) (K.written out.new)
-        result (Says J.machine J.Shows) }
+        result (Says J.behavior J.Shows) }
     ensures reads { FaultsOfSource result (S.faults src.old) (S.faults src.new) }
     ensures writes { FaultsOfSink result (K.faults out.old) (K.faults out.new) }
 {
@@ -35,9 +35,9 @@ fn run<J: Job, S: Source, K: Sink>(
     src: &mut S,
     out: &mut K,
 ) -> Result<Status, Stop>
-    requires { J.Stands job.old J.machine.start }
+    requires { J.Stands job.old J.behavior.start }
     ensures answers { Answers (S.remaining src.old) (S.remaining src.new) (K.written out.old) (K.written out.new)
-        (status_in result) (Says J.machine J.Shows) }
+        (status_in result) (Says J.behavior J.Shows) }
     ensures reads { FaultsOfSource (status_in result) (S.faults src.old) (S.faults src.new) }
     ensures writes { FaultsOfSink (status_in result) (K.faults out.old) (K.faults out.new) }
 {

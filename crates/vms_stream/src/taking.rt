@@ -14,7 +14,7 @@ pub(crate) fn take_lines<J: Job>(
 ) -> Result<Option<Halt>, Memory>
     requires { (s : J.State) × J.Stands job.old s }
     ensures { IfOk result (λ halt. (s : J.State) → J.Stands job.old s →
-        TakesLines J.machine (J.Stands job.new) s (lines_of text.now) halt out.old.items out.new.items) }
+        TakesLines J.behavior (J.Stands job.new) s (lines_of text.now) halt out.old.items out.new.items) }
 {
     let mut rest = text;
     'lines: while !rest.is_empty() {

@@ -84,8 +84,8 @@ module _ (shape : Shape) (layout : IsLayout shape) where
       → node_place shape (get_or shape.nodes index 0) ≡ Some (length shape.zones + index)
   node_place-own index within = ap (option_map (λ i. length shape.zones + i)) (node_position index within)
 
-  pub node-most : (index : ℕ) → index < length shape.nodes → get_or shape.nodes index 0 ≤ 15
-  node-most index within = layout.nodes_most index 0 within
+  pub node_most-holds : (index : ℕ) → index < length shape.nodes → get_or shape.nodes index 0 ≤ 15
+  node_most-holds index within = layout.nodes_most index 0 within
 
   pub zone_node-most : (place : ℕ) (d : ZoneName) → place < length shape.zones → (get_or shape.zones place d).node ≤ 15
   zone_node-most place d within =
@@ -105,14 +105,14 @@ abbrev pub some_zone : ZoneName
 some_zone = record { node = 0; kind = Dma }
 
 module _ (header : Header) (layout : IsLayout header.layout) where
-  pub zone-words : (place : ℕ) (d : ZoneName) → place < length header.layout.zones
+  pub place_words-zone : (place : ℕ) (d : ZoneName) → place < length header.layout.zones
       → place_words header place ≡ decimal (get_or header.layout.zones place d).node ∷ kind_word (get_or header.layout.zones place d).kind ∷ []
-  zone-words place d within =
+  place_words-zone place d within =
       let test : nat_lt place (length header.layout.zones) ≡ true = grind (arith, nat_tests) in
       rw (test, slice_get-get_or header.layout.zones place d within, kind_word-entry (get_or header.layout.zones place d).kind) refl
 
-  pub node-words : (place : ℕ) → IsNode header.layout place → place_words header place ≡ decimal (get_or header.layout.nodes (place - length header.layout.zones) 0) ∷ codes "node" ∷ []
-  node-words place is =
+  pub place_words-node : (place : ℕ) → IsNode header.layout place → place_words header place ≡ decimal (get_or header.layout.nodes (place - length header.layout.zones) 0) ∷ codes "node" ∷ []
+  place_words-node place is =
       let test : nat_lt place (length header.layout.zones) ≡ false = grind (arith, nat_tests) in
       rw (test, slice_get-get_or header.layout.nodes (place - length header.layout.zones) 0 (omega arith)) refl
 
@@ -128,22 +128,22 @@ module _ (header : Header) (layout : IsLayout header.layout) where
       record {
         node = zone.node;
         kind = kind_word zone.kind;
-        words_are = zone-words place some_zone within;
+        words_are = place_words-zone place some_zone within;
         node_most = zone_node-most header.layout layout place some_zone within;
         short = kind_word-short zone.kind;
         named = rw (kind_word-other zone.kind) (zone_named-own place some_zone within);
       }
 
-  node-spelled : (place : ℕ) → IsNode header.layout place → SpellsPlace header.layout (place_words header place) place
-  node-spelled place is =
+  node_spelled : (place : ℕ) → IsNode header.layout place → SpellsPlace header.layout (place_words header place) place
+  node_spelled place is =
       let index = place - length header.layout.zones in
       let within : index < length header.layout.nodes = omega arith in
       let back : length header.layout.zones + index ≡ place = omega arith in
       record {
         node = get_or header.layout.nodes index 0;
         kind = codes "node";
-        words_are = node-words place is;
-        node_most = node-most header.layout layout index within;
+        words_are = place_words-node place is;
+        node_most = node_most-holds header.layout layout index within;
         short = refl;
         named = node_place-own header.layout layout index within ∙ ap Some back;
       }
@@ -154,5 +154,5 @@ module _ (header : Header) (layout : IsLayout header.layout) where
   place-spelled place is =
       elim (cases_lt place (length header.layout.zones)) [
         | inl within ↦ zone-spelled place within
-        | inr after ↦ node-spelled place (after, is)
+        | inr after ↦ node_spelled place (after, is)
       ]

@@ -7,14 +7,14 @@ use Rattle.vms_pcpu_core.specs.declared.steps.PcpuStep.{PcpuStep}
 use Rattle.vms_base.specs.Volumes.{most_volume}
 use Rattle.vms_pcpu_core.specs.Histories.{percpu, IsLegal}
 use Rattle.vms_pcpu_core.specs.Totals.{spent}
-use Rattle.vms_pcpu_core.proofs.Sizes.{spent-most}
+use Rattle.vms_pcpu_core.proofs.Sizes.{spent_most}
 use Rattle.vms_pcpu_judge.proofs.volumes.spending.Goals as goal
 
 -- what was spent in the first events of a legal history
 small : (facts : PcpuFacts) (past : List (Event PcpuStep)) (i c j : ℕ) (sum : ℕ) → IsLegal facts (reverse past)
     → sum ≡ spent (reverse (take i past)) c j → sum ≤ most_volume
 small facts past i c j sum legal is =
-    omega (arith, is, spent-most facts (reverse (take i past)) c j (legal_first percpu facts past i legal))
+    omega (arith, is, spent_most facts (reverse (take i past)) c j (legal_first percpu facts past i legal))
 
 pub overflow_add-sum : goal.overflow_add-sum
 overflow_add-sum c =

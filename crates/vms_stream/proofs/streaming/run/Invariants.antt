@@ -9,7 +9,7 @@ invariant-pieces g l = record {
   written : List ℕ;
   consumes : Consumes (g.S.Source.remaining l.initial.src) (g.S.Source.remaining l.src) taken;
   appends : Appends (g.K.Sink.written l.initial.out) (g.K.Sink.written l.out) written;
-  course : IsCourse g.J.Job.machine (g.J.Job.Stands l.job) taken written l.course;
+  course : IsCourse g.J.Job.behavior (g.J.Job.Stands l.job) taken written l.course;
   ended : l.course.at_end ≡ true → IsAtEnd (g.S.Source.remaining l.src);
   reads : g.S.Source.faults l.src ≡ g.S.Source.faults l.initial.src;
   writes : g.K.Sink.faults l.out ≡ g.K.Sink.faults l.initial.out;

@@ -8,7 +8,7 @@ invariant-lines g l = record {
   above : List (List ℕ);
   parts : lines_of l.fn.text ≡ above ++ lines_of l.rest;
   took : (s : g.J.Job.State) → g.J.Job.Stands l.initial.job s →
-      TakesLines g.J.Job.machine (g.J.Job.Stands l.job) s above None l.initial.out.items l.out.items;
+      TakesLines g.J.Job.behavior (g.J.Job.Stands l.job) s above None l.initial.out.items l.out.items;
 }
 
 abbrev pub decreases-lines : goal.decreases-lines

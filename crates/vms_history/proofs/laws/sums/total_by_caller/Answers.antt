@@ -1,5 +1,5 @@
-use Rattle.vms_history.proofs.CallerSums.{total-by_caller}
+use Rattle.vms_history.proofs.CallerSums.{total-of_callers}
 use Rattle.vms_history.proofs.laws.sums.total_by_caller.Goals as goal
 
 pub returns : goal.returns
-returns g c = total-by_caller g.T.Table.machine
+returns g c = total-of_callers g.T.Table.machine

@@ -12,14 +12,14 @@ read-requires-clause-held g c =
 pub returns-in_err-read-clause-steps : goal.returns-in_err-read-clause-steps
 returns-in_err-read-clause-steps g c = λ taken written is.
     let p = err_from_is_err_and c.from_residual.result c.from_residual.ensures.1 in
-    rw (p.1, p.2) (Steps-unread g.J.Job.machine g.J.Job.Shows (g.J.Job.Stands c.args.job.now)
+    rw (p.1, p.2) (Steps-unread g.J.Job.behavior g.J.Job.Shows (g.J.Job.Stands c.args.job.now)
     taken written c.args.self.now is c.requires.before_end c.read.new.self _ _ _ _
     c.in_err-read.ensures.unread c.in_err-read.ensures.cause)
 
 pub returns-in_err-halt-clause-steps : goal.returns-in_err-halt-clause-steps
 returns-in_err-halt-clause-steps g c = λ taken written is.
     let p = err_from_is_err_and c.from_residual-in_err-halt.result c.from_residual-in_err-halt.ensures.1 in
-    rw p.1 (Steps-unjudged g.J.Job.machine g.J.Job.Shows (g.J.Job.Stands c.judge.new.job)
+    rw p.1 (Steps-unjudged g.J.Job.behavior g.J.Job.Shows (g.J.Job.Stands c.judge.new.job)
     taken written c.args.self.now is c.requires.before_end c.read.new.self _ _
     c.in_ok-read.ensures.ok c.in_ok-read.ensures.counted c.in_ok-read.ensures.end
     (ap (λ v. v.items) c.in_ok-read.ensures.waits) c.judge.new.self _ p.0 p.2)
@@ -27,7 +27,7 @@ returns-in_err-halt-clause-steps g c = λ taken written is.
 pub returns-in_err-flush-clause-steps : goal.returns-in_err-flush-clause-steps
 returns-in_err-flush-clause-steps g c = λ taken written is.
     let p = err_from_is_err_and c.from_residual-in_err-flush.result c.from_residual-in_err-flush.ensures.1 in
-    rw (p.1, p.2) (Steps-unwritten g.J.Job.machine g.J.Job.Shows (g.J.Job.Stands c.judge.new.job)
+    rw (p.1, p.2) (Steps-unwritten g.J.Job.behavior g.J.Job.Shows (g.J.Job.Stands c.judge.new.job)
     taken written c.args.self.now is c.requires.before_end c.read.new.self _ _
     c.in_ok-read.ensures.ok c.in_ok-read.ensures.counted c.in_ok-read.ensures.end
     (ap (λ v. v.items) c.in_ok-read.ensures.waits)
@@ -37,7 +37,7 @@ returns-in_err-flush-clause-steps g c = λ taken written is.
 
 pub returns-clause-steps : goal.returns-clause-steps
 returns-clause-steps g c = λ taken written is.
-    Steps-judged g.J.Job.machine g.J.Job.Shows (g.J.Job.Stands c.judge.new.job)
+    Steps-judged g.J.Job.behavior g.J.Job.Shows (g.J.Job.Stands c.judge.new.job)
     taken written c.args.self.now is c.requires.before_end c.read.new.self _ _
     c.in_ok-read.ensures.ok c.in_ok-read.ensures.counted c.in_ok-read.ensures.end
     (ap (λ v. v.items) c.in_ok-read.ensures.waits)

@@ -4,8 +4,8 @@ use Rattle.vms_stream.specs.declared.endings.Ending.{Ending}
 use Rattle.vms_stream.specs.declared.halts.Halt.{Halt}
 use Rattle.vms_stream.specs.declared.halts.Halt.TheVariants.{Refuses, Exceeds}
 
--- a command as a machine that goes from line to line, with a state between them
-pub record Machine (S : Type 0) : Type 0 where
+-- a command as its behavior from line to line, with a state between them
+pub record Behavior (S : Type 0) : Type 0 where
   -- before the first line
   pub start : S
   -- after a line
@@ -20,9 +20,9 @@ pub record Machine (S : Type 0) : Type 0 where
   pub ends : S → Ending
 
 -- the state after these lines
-abbrev pub state_after : {S : Type 0} → Machine S → S → List (List ℕ) → S
-state_after machine s [] = s
-state_after machine s (line ∷ lines) = state_after machine (machine.next s line) lines
+abbrev pub state_after : {S : Type 0} → Behavior S → S → List (List ℕ) → S
+state_after behavior s [] = s
+state_after behavior s (line ∷ lines) = state_after behavior (behavior.next s line) lines
 
 -- the first reason, if there is one, and else the later one
 abbrev pub first_halt : Option Halt → Option Halt → Option Halt
@@ -30,9 +30,9 @@ first_halt (Some halt) later = Some halt
 first_halt None later = later
 
 -- why the command stops at the first of these lines at which it does
-abbrev pub halted : {S : Type 0} → Machine S → S → List (List ℕ) → Option Halt
-halted machine s [] = None
-halted machine s (line ∷ lines) = first_halt (machine.halts s line) (halted machine (machine.next s line) lines)
+abbrev pub halted : {S : Type 0} → Behavior S → S → List (List ℕ) → Option Halt
+halted behavior s [] = None
+halted behavior s (line ∷ lines) = first_halt (behavior.halts s line) (halted behavior (behavior.next s line) lines)
 
 -- what is printed from a line on: nothing after one that stops the command, and that one prints where it refuses
 abbrev pub printed_from : Option Halt → List ℕ → List ℕ → List ℕ
@@ -41,10 +41,10 @@ printed_from (Some Refuses) line later = line
 printed_from (Some Exceeds) line later = []
 
 -- what these lines print
-abbrev pub printed : {S : Type 0} → Machine S → S → List (List ℕ) → List ℕ
-printed machine s [] = []
-printed machine s (line ∷ lines) =
-    printed_from (machine.halts s line) (machine.prints s line) (printed machine (machine.next s line) lines)
+abbrev pub printed : {S : Type 0} → Behavior S → S → List (List ℕ) → List ℕ
+printed behavior s [] = []
+printed behavior s (line ∷ lines) =
+    printed_from (behavior.halts s line) (behavior.prints s line) (printed behavior (behavior.next s line) lines)
 
 -- what is printed after the lines: the last words, unless the command stopped
 abbrev pub last_words : Option Halt → List ℕ → List ℕ
@@ -52,6 +52,6 @@ last_words None words = words
 last_words (Some halt) words = []
 
 -- the whole output of a text of these lines
-abbrev pub output : {S : Type 0} → Machine S → List (List ℕ) → List ℕ
-output machine lines = printed machine machine.start lines
-    ++ last_words (halted machine machine.start lines) (machine.last (state_after machine machine.start lines))
+abbrev pub output : {S : Type 0} → Behavior S → List (List ℕ) → List ℕ
+output behavior lines = printed behavior behavior.start lines
+    ++ last_words (halted behavior behavior.start lines) (behavior.last (state_after behavior behavior.start lines))
