@@ -5,8 +5,10 @@ use Rattle.vms_base.specs.Places.{cell}
 
 module _ (width : ℕ) where
   -- a cell is of one CPU and one thing
-  pub cell-injective : (cpu thing other_cpu other_thing : ℕ) → thing < width → other_thing < width → cell width cpu thing ≡ cell width other_cpu other_thing → (cpu ≡ other_cpu) × (thing ≡ other_thing)
-  cell-injective cpu thing other_cpu other_thing first second same = same_from_place cpu thing other_cpu other_thing width first second same
+  pub cell-injective : (cpu thing other_cpu other_thing : ℕ) → thing < width → other_thing < width
+      → cell width cpu thing ≡ cell width other_cpu other_thing → (cpu ≡ other_cpu) × (thing ≡ other_thing)
+  cell-injective cpu thing other_cpu other_thing first second same =
+      same_from_place cpu thing other_cpu other_thing width first second same
 
   -- every cell stands in a list of so many things for each CPU
   pub cell-lt : (cpus cpu thing : ℕ) → cpu < cpus → thing < width → cell width cpu thing < cpus * width

@@ -1,10 +1,12 @@
 -- For other crates too: how many places, counters, groups and items a layout has, and which belongs to which.
-use Rattle.std.proofs.Common.{◌≡◌, ℕ, zero, suc, sym, subst, ◌+◌, ◌*◌, ◌/◌, ◌<◌, ◌≤◌, List, length, get_or, arith, inl, inr}
+use Rattle.std.proofs.Common.{◌≡◌, ℕ, zero, suc, sym, subst, ◌+◌, ◌*◌, ◌/◌, ◌<◌, ◌≤◌, List, length, get_or, arith, inl}
+use Rattle.std.proofs.Common.{inr}
 use Rattle.std.specs.List.Sorted.{IsStrictlyIncreasing}
 use Rattle.std.proofs.lemmas.Bool.Decides.{nat_tests}
 use Rattle.std.proofs.lemmas.Bool.{cases_lt}
 use Rattle.std.proofs.lemmas.Nat.{div_below, mod_below, div-mul-add, mod-mul-add, div-add-mod'}
-use Rattle.vms_base.specs.Places.{Shape, IsLayout, place_count, counter_count, group_count, counter_at, place_of, position_of, group_of, first_of, item_of, IsPlace, IsCounter, IsGroup, IsItem}
+use Rattle.vms_base.specs.Places.{Shape, IsLayout, place_count, counter_count, group_count, counter_at, place_of}
+use Rattle.vms_base.specs.Places.{position_of, group_of, first_of, item_of, IsPlace, IsCounter, IsGroup, IsItem}
 
 -- numbers that rise grow by at least one a step
 grows : (xs : List ℕ) → IsStrictlyIncreasing xs → (k : ℕ) → k < length xs → k ≤ get_or xs k 0
@@ -18,7 +20,8 @@ grows xs up (suc k) within =
 module _ (shape : Shape) (layout : IsLayout shape) where
   -- a fact that holds at 8 positions and at 16
   by_positions : (P : ℕ → Type 0) → P 8 → P 16 → P shape.positions
-  by_positions P narrow wide = elim layout.positions [ inl is ↦ subst P (sym is) narrow | inr is ↦ subst P (sym is) wide ]
+  by_positions P narrow wide =
+      elim layout.positions [ inl is ↦ subst P (sym is) narrow | inr is ↦ subst P (sym is) wide ]
 
   positions-pos : 0 < shape.positions
   positions-pos = by_positions (λ n. 0 < n) (omega arith) (omega arith)
@@ -27,7 +30,8 @@ module _ (shape : Shape) (layout : IsLayout shape) where
   pub nodes_most-holds : length shape.nodes ≤ 16
   nodes_most-holds = elim (cases_lt (length shape.nodes) 17) [
     | inl few ↦ omega arith
-    | inr many ↦ absurd (omega (arith, grows shape.nodes layout.nodes_ascend 16 (omega arith), layout.nodes_most 16 0 (omega arith)))
+    | inr many ↦ absurd (omega
+        (arith, grows shape.nodes layout.nodes_ascend 16 (omega arith), layout.nodes_most 16 0 (omega arith)))
   ]
 
   pub place_count-most : place_count shape ≤ 32
@@ -35,7 +39,8 @@ module _ (shape : Shape) (layout : IsLayout shape) where
 
   pub counter_count-most : counter_count shape ≤ 512
   counter_count-most =
-      by_positions (λ n. n * place_count shape ≤ 512) (omega (arith, place_count-most)) (omega (arith, place_count-most))
+      by_positions (λ n. n * place_count shape ≤ 512) (omega (arith, place_count-most))
+      (omega (arith, place_count-most))
 
   -- the groups take up all counters
   pub group_count-whole : 8 * group_count shape ≡ counter_count shape
@@ -59,12 +64,14 @@ module _ (shape : Shape) (layout : IsLayout shape) where
   item_of-lt counter = let within = position_of-lt counter in grind (arith, nat_tests)
 
   -- a counter is at its position of its place
-  pub counter_at-place : (place position : ℕ) → position < shape.positions → place_of shape (counter_at shape place position) ≡ place
+  pub counter_at-place : (place position : ℕ) → position < shape.positions
+      → place_of shape (counter_at shape place position) ≡ place
   counter_at-place place position within =
       let turned : counter_at shape place position ≡ place * shape.positions + position = omega arith in
       rw turned (div-mul-add place shape.positions position within)
 
-  pub counter_at-position : (place position : ℕ) → position < shape.positions → position_of shape (counter_at shape place position) ≡ position
+  pub counter_at-position : (place position : ℕ) → position < shape.positions
+      → position_of shape (counter_at shape place position) ≡ position
   counter_at-position place position within =
       let turned : counter_at shape place position ≡ place * shape.positions + position = omega arith in
       rw turned (mod-mul-add place shape.positions position within)

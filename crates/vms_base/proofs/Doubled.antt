@@ -17,9 +17,11 @@ use Rattle.vms_base.proofs.Zones.{rank_of-injective}
 use Rattle.vms_base.proofs.Ranks.{rises}
 
 -- a zone that stands before its place, in whatever order, stands twice
-pub HasDoubled-from_front : (zones sorted : List ZoneName) (i : ℕ) (d : ZoneName) → i < length zones → IsPermutation (take i zones) sorted → Contains sorted (get_or zones i d) → HasDoubled zones
+pub HasDoubled-from_front : (zones sorted : List ZoneName) (i : ℕ) (d : ZoneName) → i < length zones
+    → IsPermutation (take i zones) sorted → Contains sorted (get_or zones i d) → HasDoubled zones
 HasDoubled-from_front zones sorted i d within moved stands =
-    let front = Contains-permutation sorted (take i zones) (get_or zones i d) (IsPermutation-sym (take i zones) sorted moved) stands in
+    let front = Contains-permutation sorted (take i zones) (get_or zones i d)
+    (IsPermutation-sym (take i zones) sorted moved) stands in
     let before : front.0 < i = omega (arith, front.1, length-take i zones) in
     let at : get_or zones front.0 (get_or zones i d) ≡ get_or zones i d = rw get_or-take at front.2 in
     record {
@@ -27,7 +29,8 @@ HasDoubled-from_front zones sorted i d within moved stands =
       second = i;
       first_before = before;
       second_within = within;
-      same = slice_get-get_or zones front.0 (get_or zones i d) (omega arith) ∙ ap Some at ∙ sym (slice_get-get_or zones i d within);
+      same = slice_get-get_or zones front.0 (get_or zones i d) (omega arith) ∙ ap Some at
+          ∙ sym (slice_get-get_or zones i d within);
     }
 
 abbrev is_same : ZoneName → ZoneName → Bool
@@ -48,13 +51,15 @@ ascending-differ sorted up i j d before within same =
     omega (arith, lower, ap rank_of same)
 
 -- zones that have an order by rank differ from each other
-pub zones-differ : (zones sorted : List ZoneName) → IsPermutation zones sorted → IsStrictlyIncreasing (map rank_of sorted) → AllPairs ◌≢◌ zones
+pub zones-differ : (zones sorted : List ZoneName) → IsPermutation zones sorted
+    → IsStrictlyIncreasing (map rank_of sorted) → AllPairs ◌≢◌ zones
 zones-differ zones sorted moved up =
     AllPairs-from_IsDistinct {eq = is_same} is_same-decides zones
     (IsDistinct-IsPermutation is_same is_same-flips sorted zones (IsPermutation-sym zones sorted moved)
     (IsDistinct-from_AllPairs {eq = is_same} is_same-decides sorted (ascending-differ sorted up)))
 
-pub not-HasDoubled : (zones sorted : List ZoneName) → IsPermutation zones sorted → IsStrictlyIncreasing (map rank_of sorted) → HasDoubled zones → ⊥
+pub not-HasDoubled : (zones sorted : List ZoneName) → IsPermutation zones sorted
+    → IsStrictlyIncreasing (map rank_of sorted) → HasDoubled zones → ⊥
 not-HasDoubled zones sorted moved up doubled =
     let any : ZoneName = record { node = 0; kind = Dma } in
     let first = slice_get-get_or zones doubled.first any (omega arith) in

@@ -1,5 +1,6 @@
 -- Where the one value that passes a test stands in a list.
-use Rattle.std.proofs.Common.{◌≡◌, ℕ, ◌<◌, Bool, true, false, not, nat_lt, List, length, get_or, Some, inl, inr, arith, ◌↔◌, ◌∙◌, ap, refl}
+use Rattle.std.proofs.Common.{◌≡◌, ℕ, ◌<◌, Bool, true, false, not, nat_lt, List, length, get_or, Some, inl, inr, arith}
+use Rattle.std.proofs.Common.{◌↔◌, ◌∙◌, ap, refl}
 use Rattle.std.specs.Prelude.{slice_get, position, Contains, IsSome}
 use Rattle.std.specs.List.{position_or_len}
 use Rattle.std.proofs.lemmas.List.Sums.{prefix_len_passes, prefix_len_stops}

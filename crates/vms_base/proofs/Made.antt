@@ -19,7 +19,8 @@ node_of zone = zone.node
 module _ (given zones : List ZoneName) (nodes : List ℕ) (cpus most positions : ℕ)
     (known : All (λ zone. zone.node ≤ 15) given) (some_zone : 0 < length given) (zones_most : length given ≤ 16)
     (moved : IsPermutation given zones) (up : IsStrictlyIncreasing (map rank_of zones))
-    (nodes_up : IsStrictlyIncreasing nodes) (named : (node : ℕ) → Contains nodes node ↔ Contains (map node_of zones) node)
+    (nodes_up : IsStrictlyIncreasing nodes)
+    (named : (node : ℕ) → Contains nodes node ↔ Contains (map node_of zones) node)
     (width : IsWidth positions most) (some_cpu : 1 ≤ cpus) (cpus_most : cpus ≤ most) where
   nodes_most : All (λ node. node ≤ 15) nodes
   nodes_most k d within =

@@ -1,5 +1,6 @@
 -- For other crates too: what the places of zones and nodes say of their lists.
-use Rattle.std.proofs.Common.{◌≡◌, ℕ, zero, suc, ◌+◌, ◌-◌, ◌<◌, ◌≤◌, ◌↔◌, ◌∙◌, ap, sym, refl, arith, eq-eqb, true, false, nat_lt, length, option_map, Option, Some, None}
+use Rattle.std.proofs.Common.{◌≡◌, ℕ, zero, suc, ◌+◌, ◌-◌, ◌<◌, ◌≤◌, ◌↔◌, ◌∙◌, ap, sym, refl, arith, eq-eqb, true}
+use Rattle.std.proofs.Common.{false, nat_lt, length, option_map, Option, Some, None}
 use Rattle.std.specs.Prelude.{◌==◌, position, Contains, IsSome, IfSome, is_some}
 use Rattle.std.proofs.lemmas.Bool.{eqb-true}
 use Rattle.std.proofs.lemmas.Bool.Decides.{nat_tests}
@@ -46,19 +47,24 @@ module _ (shape : Shape) (name : ZoneName) where
   only_name zone same = rank_of-injective zone name (eqb-true (rank_of zone) (rank_of name) same)
 
   known : IsSome (zone_place shape name) ↔ Contains shape.zones name
-  known = position-known (λ zone. rank_of zone == rank_of name) name (eq-eqb (rank_of name) (rank_of name) refl) only_name shape.zones
+  known = position-known (λ zone. rank_of zone == rank_of name) name
+      (eq-eqb (rank_of name) (rank_of name) refl) only_name shape.zones
 
   -- what the place of a zone says of the zones
-  pub zone_place-known : (place : Option PlaceId) → option_map (λ p. p.number) place ≡ zone_place shape name → IsSome place ↔ Contains shape.zones name
+  pub zone_place-known : (place : Option PlaceId) → option_map (λ p. p.number) place ≡ zone_place shape name
+      → IsSome place ↔ Contains shape.zones name
   zone_place-known None is = rw (← is) at known
   zone_place-known (Some place) is = rw (← is) at known
 
-  pub zone_place-at : (place : Option PlaceId) → option_map (λ p. p.number) place ≡ zone_place shape name → IfSome place (λ p. zone_at shape p.number ≡ Some name)
+  pub zone_place-at : (place : Option PlaceId) → option_map (λ p. p.number) place ≡ zone_place shape name
+      → IfSome place (λ p. zone_at shape p.number ≡ Some name)
   zone_place-at None is = tt
   zone_place-at (Some place) is =
-      position-at (λ zone. rank_of zone == rank_of name) name (eq-eqb (rank_of name) (rank_of name) refl) only_name shape.zones place.number (sym is)
+      position-at (λ zone. rank_of zone == rank_of name) name
+      (eq-eqb (rank_of name) (rank_of name) refl) only_name shape.zones place.number (sym is)
 
-both_some : (zones : ℕ) (place : Option PlaceId) (found : Option ℕ) → option_map (λ p. p.number) place ≡ option_map (λ index. zones + index) found → is_some found ≡ is_some place
+both_some : (zones : ℕ) (place : Option PlaceId) (found : Option ℕ)
+    → option_map (λ p. p.number) place ≡ option_map (λ index. zones + index) found → is_some found ≡ is_some place
 both_some zones None None is = refl
 both_some zones None (Some index) is = cc
 both_some zones (Some place) None is = cc
@@ -69,20 +75,24 @@ module _ (shape : Shape) (number : ℕ) where
   only_number node same = eqb-true node number same
 
   -- what the place of a node says of the nodes
-  pub node_place-known : (place : Option PlaceId) → option_map (λ p. p.number) place ≡ node_place shape number → IsSome place ↔ Contains shape.nodes number
+  pub node_place-known : (place : Option PlaceId) → option_map (λ p. p.number) place ≡ node_place shape number
+      → IsSome place ↔ Contains shape.nodes number
   node_place-known place is =
       let same = both_some (length shape.zones) place (position (λ node. node == number) shape.nodes) is in
       rw same at (position-known (λ node. node == number) number (eq-eqb number number refl) only_number shape.nodes)
 
-  at_index : (place : ℕ) (found : Option ℕ) → position (λ node. node == number) shape.nodes ≡ found → Some place ≡ option_map (λ index. length shape.zones + index) found → node_at shape place ≡ Some number
+  at_index : (place : ℕ) (found : Option ℕ) → position (λ node. node == number) shape.nodes ≡ found
+      → Some place ≡ option_map (λ index. length shape.zones + index) found → node_at shape place ≡ Some number
   at_index place None none is = cc
   at_index place (Some index) found is =
       let same : place ≡ length shape.zones + index = cc in
       let test : nat_lt place (length shape.zones) ≡ false = grind (arith, nat_tests) in
       let back : place - length shape.zones ≡ index = omega arith in
-      rw (test, back) (position-at (λ node. node == number) number (eq-eqb number number refl) only_number shape.nodes index found)
+      rw (test, back) (position-at (λ node. node == number) number
+      (eq-eqb number number refl) only_number shape.nodes index found)
 
-  pub node_place-at : (place : Option PlaceId) → option_map (λ p. p.number) place ≡ node_place shape number → IfSome place (λ p. node_at shape p.number ≡ Some number)
+  pub node_place-at : (place : Option PlaceId) → option_map (λ p. p.number) place ≡ node_place shape number
+      → IfSome place (λ p. node_at shape p.number ≡ Some number)
   node_place-at None is = tt
   node_place-at (Some place) is = at_index place.number _ refl is
 

@@ -1,5 +1,6 @@
 -- The zone items of a header that count free blocks, by the size of a block (`struct free_area` of the kernel).
-use Rattle.std.specs.Prelude.{ℕ, suc, ◌+◌, ◌&&◌, not, List, [], ◌∷◌, ◌++◌, length, filter, position, codes, nat_le, Option, Some, None}
+use Rattle.std.specs.Prelude.{ℕ, suc, ◌+◌, ◌&&◌, not, List, [], ◌∷◌, ◌++◌, length, filter, position, codes, nat_le}
+use Rattle.std.specs.Prelude.{Option, Some, None}
 use Rattle.std.specs.Str.{bytes_eq}
 use Rattle.vms_base.specs.declared.headers.ItemDecl.{ItemDecl}
 use Rattle.vms_base.specs.Names.{zone_items}

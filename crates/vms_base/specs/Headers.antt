@@ -1,5 +1,7 @@
 -- What is true of every header.
-use Rattle.std.specs.Prelude.{◌≡◌, ◌≢◌, ℕ, ◌≤◌, ◌<◌, ◌^◌, pos, unsigned_abs, Bool, true, false, not, cond, nat_lt, if◌then◌else◌, IsTrue, List, [], ◌++◌, length, map, filter, All, AllPairs, Contains, slice_index_or}
+use Rattle.std.specs.Prelude.{◌≡◌, ◌≢◌, ℕ, ◌≤◌, ◌<◌, ◌^◌, pos, unsigned_abs, Bool, true, false, not, cond, nat_lt}
+use Rattle.std.specs.Prelude.{if◌then◌else◌, IsTrue, List, [], ◌++◌, length, map, filter, All, AllPairs, Contains}
+use Rattle.std.specs.Prelude.{slice_index_or}
 use Rattle.vms_base.specs.declared.headers.Decl.{Decl}
 use Rattle.vms_base.specs.declared.headers.ItemDecl.{ItemDecl}
 use Rattle.vms_base.specs.declared.headers.Header.{Header}

@@ -1,5 +1,7 @@
 -- Where zones, nodes, counters, items and groups stand in a layout.
-use Rattle.std.specs.Prelude.{◌≡◌, ℕ, ◌+◌, ◌-◌, ◌*◌, ◌/◌, ◌%◌, ◌<◌, ◌≤◌, ◌==◌, nat_lt, if◌then◌else◌, ◌⊎◌, ◌↔◌, List, [], length, map, All, Contains, Option, None, slice_get, slice_index_or, option_map, position, IsPermutation}
+use Rattle.std.specs.Prelude.{◌≡◌, ℕ, ◌+◌, ◌-◌, ◌*◌, ◌/◌, ◌%◌, ◌<◌, ◌≤◌, ◌==◌, nat_lt, if◌then◌else◌, ◌⊎◌, ◌↔◌, List}
+use Rattle.std.specs.Prelude.{[], length, map, All, Contains, Option, None, slice_get, slice_index_or, option_map}
+use Rattle.std.specs.Prelude.{position, IsPermutation}
 use Rattle.std.specs.List.Sorted.{IsStrictlyIncreasing}
 use Rattle.vms_base.specs.declared.kinds.ZoneKind.{ZoneKind}
 use Rattle.vms_base.specs.declared.kinds.ZoneKind.TheVariants.{Dma, Dma32, Normal, Movable}

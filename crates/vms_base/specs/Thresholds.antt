@@ -16,7 +16,8 @@ normal_threshold_of size online = min most_threshold (2 * bits_of online * (1 + 
 abbrev pub pressure_threshold_of : ZoneSize → ℕ → ℕ
 pressure_threshold_of size online = min most_threshold (max 1 (gap_of size / online))
 
--- what a rule answers for a size and a number of online CPUs: a relation, since a rule may answer differently when it is
+-- what a rule answers for a size and a number of online CPUs: a relation, since a rule may answer differently when it
+-- is
 -- asked twice. Its answers are thresholds for every valid size and 1 to 128 CPUs
 abbrev pub GivesThresholds : (ZoneSize → ℕ → ℕ → Type 0) → Type 0
 GivesThresholds answers = (size : ZoneSize) (online t : ℕ) → IsValidSize size → 1 ≤ online → online ≤ 128 →

@@ -1,5 +1,6 @@
 -- A zone's watermarks and its lowmem reserve, as mm/page_alloc.c computes them.
-use Rattle.std.specs.Prelude.{ℕ, ◌+◌, ◌*◌, ◌/◌, ◌==◌, ◌&&◌, nat_lt, nat_le, if◌then◌else◌, max, List, None, Some, Option, sum_by, zip, slice_get}
+use Rattle.std.specs.Prelude.{ℕ, ◌+◌, ◌*◌, ◌/◌, ◌==◌, ◌&&◌, nat_lt, nat_le, if◌then◌else◌, max, List, None, Some}
+use Rattle.std.specs.Prelude.{Option, sum_by, zip, slice_get}
 use Rattle.vms_base.specs.declared.kinds.ZoneKind.{ZoneKind}
 use Rattle.vms_base.specs.declared.kinds.ZoneKind.TheVariants.{Dma, Dma32, Normal, Movable}
 use Rattle.vms_base.specs.declared.kinds.ZoneName.{ZoneName}
@@ -42,7 +43,8 @@ reserve_at shape sizes (Some zone) most =
 abbrev pub reserve_of : Shape → List ZoneSize → ℕ → ℕ → ℕ
 reserve_of shape sizes place most = reserve_at shape sizes (slice_get shape.zones place) most
 
--- what the free pages of a zone have to exceed, so that a test of a watermark passes for requests that may use the zones
+-- what the free pages of a zone have to exceed, so that a test of a watermark passes for requests that may use the
+-- zones
 -- up to an index: the watermark and the zone's reserve against them
 abbrev pub limit_of : Header → ℕ → WaterMark → ℕ → ℕ
 limit_of header g mark most =

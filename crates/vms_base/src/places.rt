@@ -17,9 +17,19 @@ impl Model for Layout {
 
     ghost Value = { Shape };
 
-    ghost view = { λ l. record { zones = l.zones.items; nodes = l.nodes.items; cpus = l.cpus; positions = l.positions } };
+    ghost view = { λ l. record {
+      zones = l.zones.items;
+      nodes = l.nodes.items;
+      cpus = l.cpus;
+      positions = l.positions;
+    } };
 
-    ghost invariant = { λ l. IsLayout (record { zones = l.zones.items; nodes = l.nodes.items; cpus = l.cpus; positions = l.positions }) };
+    ghost invariant = { λ l. IsLayout (record {
+      zones = l.zones.items;
+      nodes = l.nodes.items;
+      cpus = l.cpus;
+      positions = l.positions;
+    }) };
 }
 
 /// Why zones and a number of CPUs make no layout. Of the causes that hold, the first is told.
@@ -36,8 +46,11 @@ pub enum LayoutError {
 }
 
 impl Layout {
-    ghost use Rattle.std.specs.Prelude.{◌≡◌, ℕ, ◌+◌, ◌*◌, ◌/◌, ◌%◌, ◌<◌, ◌≤◌, ◌↔◌, length, map, option_map, Contains, All, IsSome, IfSome, Some, MatchResult};
-    ghost use Rattle.vms_base.specs.Places.{Shape, IsLayout, place_count, counter_count, group_count, item_count, place_of, item_of, group_of, first_of, counter_at, zone_place, node_place, zone_at, node_at, LaysOut, IsRefused, IsWidth};
+    ghost use Rattle.std.specs.Prelude.{◌≡◌, ℕ, ◌+◌, ◌*◌, ◌/◌, ◌%◌, ◌<◌, ◌≤◌, ◌↔◌, length, map, option_map, Contains};
+    ghost use Rattle.std.specs.Prelude.{All, IsSome, IfSome, Some, MatchResult};
+    ghost use Rattle.vms_base.specs.Places.{Shape, IsLayout, place_count, counter_count, group_count, item_count};
+    ghost use Rattle.vms_base.specs.Places.{place_of, item_of, group_of, first_of, counter_at, zone_place, node_place};
+    ghost use Rattle.vms_base.specs.Places.{zone_at, node_at, LaysOut, IsRefused, IsWidth};
 
     /// The layout of these zones, in any order, and of 1 to 64 CPUs, with eight items a place.
     pub fn make(zones: &[ZoneName], cpus: u32) -> Result<Layout, LayoutError>

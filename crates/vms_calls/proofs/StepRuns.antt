@@ -239,7 +239,8 @@ module _ (facts : Facts) (p : ℕ) where
         )
         MayMake-holds (LoadG k v) fits tells = (legal, acts, (fits, tells))
         MayMake-holds (LoadS i v) fits tells = (legal, acts, (fits, tells))
-        MayMake-holds (LoadM z m a) fits tells = (legal, acts, record { zone = fits; value = tells.0; number = tells.1 })
+        MayMake-holds (LoadM z m a) fits tells =
+            (legal, acts, record { zone = fits; value = tells.0; number = tells.1 })
         MayMake-holds (LoadO c x) fits tells = (legal, acts, (fits, tells))
         MayMake-holds (SetT c z t) fits tells =
             let mark_is = mark_now fits.control z.number in

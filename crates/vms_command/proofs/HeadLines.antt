@@ -31,7 +31,8 @@ module _ {K B : Type 0} (command : Command K) (stands : B → Header → LinesAb
       (works.Body job)
   head-begins draft header job out out' is same begins =
       let here = subst (λ (h : Header). BeginsBody command stands h out out' job) same begins in
-      subst (λ (t : Result HeadStep HeaderCause). TakesHeadLine command stands n t None out out' (works.Body job)) (sym is)
+      subst (λ (t : Result HeadStep HeaderCause). TakesHeadLine command stands n t None out out' (works.Body job))
+      (sym is)
       (record { halt_is = refl; printed = here.printed; leads = λ _. here.here })
 
   -- the line is at fault
@@ -39,6 +40,7 @@ module _ {K B : Type 0} (command : Command K) (stands : B → Header → LinesAb
       → out' ≡ out ++ header_line (record { line = n; cause = cause })
       → TakesHeadLine command stands n read (Some Refuses) out out' works.Stopped
   head-refused cause out out' is printed =
-      subst (λ (t : Result HeadStep HeaderCause). TakesHeadLine command stands n t (Some Refuses) out out' works.Stopped)
+      subst (λ (t : Result HeadStep HeaderCause).
+      TakesHeadLine command stands n t (Some Refuses) out out' works.Stopped)
       (sym is)
       (record { halt_is = refl; printed = printed; leads = λ none. absurd cc })

@@ -17,7 +17,8 @@ use Rattle.vms_core.proofs.MarkCovers.{covers-kept}
 use Rattle.vms_core.proofs.Moves.{moves-bounded, volumes-kept}
 use Rattle.vms_core.proofs.OfflineGroups.{offline-stay_taken}
 use Rattle.vms_core.proofs.PeakBounds.{last_within-holds, thresholds-within, peaks-in_range, used-bounded}
-use Rattle.vms_core.proofs.PeakBounds.{loaded-bounded, loaded-within_peak, loaded_numbers-hold, acknowledged_numbers-hold}
+use Rattle.vms_core.proofs.PeakBounds.{loaded-bounded, loaded-within_peak, loaded_numbers-hold}
+use Rattle.vms_core.proofs.PeakBounds.{acknowledged_numbers-hold}
 use Rattle.vms_core.proofs.SettingRanges.{thresholds-in_range, marks-in_range}
 use Rattle.vms_core.proofs.Settings.{threshold_at-state_after, sets-state_after, cpu_at-state_after}
 use Rattle.vms_core.proofs.Shapes.{HasShape-state_after}

@@ -146,7 +146,8 @@ SumsBetween-holds facts later earlier p k found steps answer made k_in call =
     (subst (λ g. EventsBetween facts earlier g (own made.extends.0 p)) (sym is)
     (own-between facts earlier made.extends.0 p (joined-legal events facts later earlier p steps made))) in
     let each : StepsBetween facts earlier later (loads k (online_cpus facts) found) =
-    subst (StepsBetween facts earlier later) call.in_order (StepsBetween-holds facts earlier later p steps [] between).0 in
+    subst (StepsBetween facts earlier later) call.in_order
+    (StepsBetween-holds facts earlier later p steps [] between).0 in
     let all =
     loads-between facts later earlier made.legal (earlier-legal events facts later earlier p steps made) k k_in
     (online_cpus facts) found (online_cpus-online facts) call.one_each each in

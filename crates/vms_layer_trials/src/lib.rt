@@ -1,5 +1,5 @@
-//! Trials of the crates between the grammar and the commands: devices, streams, a command with a body of its own, scripts
-//! and their totals, and runs.
+//! Trials of the crates between the grammar and the commands: devices, streams, a command with a body of its own,
+//! scripts and their totals, and runs.
 #![tactic(auto)]
 
 #[cfg(test)]

@@ -27,7 +27,9 @@ three_words (a ∷ b ∷ []) d is = absurd (omega arith)
 three_words (a ∷ b ∷ c ∷ []) d is = refl
 three_words (a ∷ b ∷ c ∷ e ∷ more) d is = absurd (omega arith)
 
-pub four_words : (fields : List (Bor (List ℕ))) (d : Bor (List ℕ)) → length fields ≡ 4 → map (λ word. word.now) fields ≡ (get_or fields 0 d).now ∷ (get_or fields 1 d).now ∷ (get_or fields 2 d).now ∷ (get_or fields 3 d).now ∷ []
+pub four_words : (fields : List (Bor (List ℕ))) (d : Bor (List ℕ)) → length fields ≡ 4
+    → map (λ word. word.now) fields
+    ≡ (get_or fields 0 d).now ∷ (get_or fields 1 d).now ∷ (get_or fields 2 d).now ∷ (get_or fields 3 d).now ∷ []
 four_words [] d is = absurd (omega arith)
 four_words (a ∷ []) d is = absurd (omega arith)
 four_words (a ∷ b ∷ []) d is = absurd (omega arith)

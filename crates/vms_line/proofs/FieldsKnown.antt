@@ -73,13 +73,15 @@ amount_field-known word = if_ok (amount_field word) (FitsSigned w64) (amount_fie
 
 pub limit_field-known : (word : List ℕ) → IfOk (limit_field word) (λ limit. unsigned_abs limit ≤ 2 ^ 60)
 limit_field-known word = if_any (amount_field word) within_limit (λ limit. unsigned_abs limit ≤ 2 ^ 60) (λ limit.
-    if_cond (nat_le (unsigned_abs limit) (2 ^ 60)) (Ok limit) (Err BadNumber) (λ one. unsigned_abs one ≤ 2 ^ 60) (λ small. grind (arith, nat_tests)) (λ large. tt))
+    if_cond (nat_le (unsigned_abs limit) (2 ^ 60)) (Ok limit) (Err BadNumber) (λ one. unsigned_abs one ≤ 2 ^ 60)
+    (λ small. grind (arith, nat_tests)) (λ large. tt))
 
 pub cpu_field-known : (header : Header) (word : List ℕ)
     → IfOk (cpu_field header word) (λ cpu. IsCpu header.layout cpu.number)
 cpu_field-known header word =
     if_any (number_field word) (known_cpu header) (λ cpu. IsCpu header.layout cpu.number) (λ n.
-    if_cond (nat_lt n header.layout.cpus) (Ok (record { number = n })) (Err UnknownLane) (λ cpu. IsCpu header.layout cpu.number) (λ below. grind (arith, nat_tests)) (λ past. tt))
+    if_cond (nat_lt n header.layout.cpus) (Ok (record { number = n })) (Err UnknownLane)
+    (λ cpu. IsCpu header.layout cpu.number) (λ below. grind (arith, nat_tests)) (λ past. tt))
 
 known_place-known : (place : Option ℕ) (P : ℕ → Type 0) → IfSome place P
     → IfOk (known_place place) (λ one. P one.number)
@@ -113,14 +115,17 @@ place_named-known shape node word = by (bytes_eq word (110 ∷ 111 ∷ 100 ∷ 1
   where
     by : (b : Bool) → IfSome (cond b (node_place shape node) (zone_named shape node word)) (IsPlace shape)
     by true =
-        if_some_weaker (node_place shape node) (IsNode shape) (IsPlace shape) (λ place holds. holds.1) (node_place-known shape node)
+        if_some_weaker (node_place shape node) (IsNode shape) (IsPlace shape) (λ place holds. holds.1)
+        (node_place-known shape node)
     by false =
-        if_some_weaker (zone_named shape node word) (IsZone shape) (IsPlace shape) (λ place holds. omega (arith, holds)) (zone_named-known shape node word)
+        if_some_weaker (zone_named shape node word) (IsZone shape) (IsPlace shape) (λ place holds. omega (arith, holds))
+        (zone_named-known shape node word)
 
 pub place_field-known : (header : Header) (node kind : List ℕ)
     → IfOk (place_field header node kind) (λ place. IsPlace header.layout place.number)
 place_field-known header node kind = if_any (number_field node) _ (λ place. IsPlace header.layout place.number) (λ n.
-    known_place-known (place_named header.layout n kind) (IsPlace header.layout) (place_named-known header.layout n kind))
+    known_place-known (place_named header.layout n kind) (IsPlace header.layout)
+    (place_named-known header.layout n kind))
 
 pub zone_field-known : (header : Header) (node kind : List ℕ)
     → IfOk (zone_field header node kind) (λ place. IsZone header.layout place.number)
@@ -157,7 +162,8 @@ counter_at-known header place at is known below =
     let stands = counter_at-place header.layout is.is_layout place at within in
     let same = counter_at-position header.layout is.is_layout place at within in (
       omega (arith, mul-add-lt place header.layout.positions at (place_count header.layout) known within),
-      subst (λ one. position_of header.layout (counter_at header.layout place at) < length (class_names (not (nat_lt one (length header.layout.zones))) header.items)) (sym stands)
+      subst (λ one. position_of header.layout (counter_at header.layout place at) < length
+          (class_names (not (nat_lt one (length header.layout.zones))) header.items)) (sym stands)
           (subst (λ n. n < length (class_names (is_node_place header.layout place) header.items)) (sym same) below),
     )
 
@@ -165,66 +171,92 @@ item_field-known : (header : Header) (place : PlaceId) (word : List ℕ) → IsH
     → IsPlace header.layout place.number
     → IfOk (item_field header place word) (λ counter. IsKnown header counter.number)
 item_field-known header place word is known =
-    by (item_named header.layout header.items place.number word) (position-known (bytes_eq word) (class_names (is_node_place header.layout place.number) header.items))
+    by (item_named header.layout header.items place.number word)
+    (position-known (bytes_eq word) (class_names (is_node_place header.layout place.number) header.items))
   where
-    by : (found : Option ℕ) → IfSome found (λ i. i < length (class_names (is_node_place header.layout place.number) header.items)) → IfOk {T = CounterId} (ok_or (option_map (λ at. record { number = counter_at header.layout place.number at }) found) UnknownItem) (λ counter. IsKnown header counter.number)
+    by : (found : Option ℕ) → IfSome found
+        (λ i. i < length (class_names (is_node_place header.layout place.number) header.items))
+        → IfOk {T = CounterId} (ok_or
+        (option_map (λ at. record { number = counter_at header.layout place.number at }) found) UnknownItem)
+        (λ counter. IsKnown header counter.number)
     by None holds = tt
     by (Some at) holds = counter_at-known header place.number at is known holds
 
 pub counter_field-known : (header : Header) (node kind item : List ℕ) → IsHeader header
     → IfOk (counter_field header node kind item) (λ counter. IsKnown header counter.number)
 counter_field-known header node kind item is =
-    if_then (place_field header node kind) _ (λ place. IsPlace header.layout place.number) (λ counter. IsKnown header counter.number) (place_field-known header node kind)
+    if_then (place_field header node kind) _ (λ place. IsPlace header.layout place.number)
+    (λ counter. IsKnown header counter.number) (place_field-known header node kind)
     (λ place known. item_field-known header place item is known)
 
 pub event_field-known : (word : List ℕ) → IfOk (event_field word) (λ event. event.number < 8)
 event_field-known word = by (position (bytes_eq word) event_names) (position-known (bytes_eq word) event_names)
   where
-    by : (found : Option ℕ) → IfSome found (λ i. i < 8) → IfOk {T = EventId} (ok_or (option_map (λ n. record { number = n }) found) UnknownItem) (λ event. event.number < 8)
+    by : (found : Option ℕ) → IfSome found (λ i. i < 8)
+        → IfOk {T = EventId} (ok_or (option_map (λ n. record { number = n }) found) UnknownItem)
+        (λ event. event.number < 8)
     by None holds = tt
     by (Some n) holds = holds
 
 pub pcpu_field-known : (header : Header) (word : List ℕ)
     → IfOk (pcpu_field header word) (λ counter. IsDeclared header counter.number)
 pcpu_field-known header word =
-    by (position (bytes_eq word) (map (λ decl. decl.name) header.counters)) (position-known (bytes_eq word) (map (λ decl. decl.name) header.counters))
+    by (position (bytes_eq word) (map (λ decl. decl.name) header.counters))
+    (position-known (bytes_eq word) (map (λ decl. decl.name) header.counters))
   where
-    by : (found : Option ℕ) → IfSome found (λ i. i < length (map (λ decl. decl.name) header.counters)) → IfOk {T = PcpuId} (ok_or (option_map (λ n. record { number = n }) found) UnknownCounter) (λ counter. IsDeclared header counter.number)
+    by : (found : Option ℕ) → IfSome found (λ i. i < length (map (λ decl. decl.name) header.counters))
+        → IfOk {T = PcpuId} (ok_or (option_map (λ n. record { number = n }) found) UnknownCounter)
+        (λ counter. IsDeclared header counter.number)
     by None holds = tt
     by (Some n) holds = omega (arith, holds, length-map header.counters (λ decl. decl.name))
 
-known_value : (header : Header) (item : ℕ) (b : Bool) → nat_lt item header.layout.positions ≡ b → MatchBool b (item < length (class_names false header.items)) (item - header.layout.positions < length (class_names true header.items)) → IsKnownValue header item
+known_value : (header : Header) (item : ℕ) (b : Bool) → nat_lt item header.layout.positions ≡ b
+    → MatchBool b (item < length (class_names false header.items))
+    (item - header.layout.positions < length (class_names true header.items)) → IsKnownValue header item
 known_value header item b is holds =
-    subst (λ one. MatchBool one (item < length (class_names false header.items)) (item - header.layout.positions < length (class_names true header.items))) (sym is) holds
+    subst (λ one. MatchBool one (item < length (class_names false header.items))
+    (item - header.layout.positions < length (class_names true header.items))) (sym is) holds
 
 pub system_field-known : (header : Header) (word : List ℕ) → IsHeader header
     → IfOk (system_field header word) (λ item. IsKnownValue header item.number)
 system_field-known header word is =
-    zone (position (bytes_eq word) (class_names false header.items)) (position-known (bytes_eq word) (class_names false header.items))
+    zone (position (bytes_eq word) (class_names false header.items))
+    (position-known (bytes_eq word) (class_names false header.items))
   where
     node : (found : Option ℕ) → IfSome found (λ i. i < length (class_names true header.items))
         → IfOk (node_value header found) (λ item. IsKnownValue header item.number)
     node None holds = tt
     node (Some at) holds =
         let back : header.layout.positions + at - header.layout.positions ≡ at = omega arith in
-        known_value header (header.layout.positions + at) false (grind (arith, nat_tests)) (subst (λ n. n < length (class_names true header.items)) (sym back) holds)
+        known_value header (header.layout.positions + at) false (grind (arith, nat_tests))
+        (subst (λ n. n < length (class_names true header.items)) (sym back) holds)
 
     zone : (found : Option ℕ) → IfSome found (λ i. i < length (class_names false header.items))
         → IfOk (system_value header found word) (λ item. IsKnownValue header item.number)
     zone None holds =
-        node (position (bytes_eq word) (class_names true header.items)) (position-known (bytes_eq word) (class_names true header.items))
+        node (position (bytes_eq word) (class_names true header.items))
+        (position-known (bytes_eq word) (class_names true header.items))
     zone (Some at) holds =
         let most = class_names-most header false is in
         known_value header at true (grind (arith, nat_tests)) holds
 
 -- an amount in pages has 64 bits, and so has its spelling
-pub in_pages-known : (header : Header) (counter : CounterId) (amount : ℤ) → FitsSigned w64 amount → IfOk (in_pages header counter amount) (λ pages. FitsSigned w64 pages × FitsSigned w64 (spelled_amount header counter.number pages))
+pub in_pages-known : (header : Header) (counter : CounterId) (amount : ℤ) → FitsSigned w64 amount
+    → IfOk (in_pages header counter amount)
+    (λ pages. FitsSigned w64 pages × FitsSigned w64 (spelled_amount header counter.number pages))
 in_pages-known header counter amount fits =
     by (is_in_bytes header counter.number) refl (unsigned_abs amount % 4096 == 0) refl
   where
-    by : (bytes : Bool) → is_in_bytes header counter.number ≡ bytes → (whole : Bool) → (unsigned_abs amount % 4096 == 0) ≡ whole → IfOk (cond bytes (cond whole (Ok (int_div amount (pos 4096))) (Err NotPages)) (Ok amount)) (λ pages. FitsSigned w64 pages × FitsSigned w64 (spelled_amount header counter.number pages))
-    by true bytes true whole =
-        (pages-fit amount fits, subst (FitsSigned w64) (sym (ap (λ b. cond b (int_div amount (pos 4096) *ℤ pos 4096) (int_div amount (pos 4096))) bytes ∙ pages-bytes amount whole)) fits)
+    by : (bytes : Bool) → is_in_bytes header counter.number ≡ bytes → (whole : Bool)
+        → (unsigned_abs amount % 4096 == 0) ≡ whole
+        → IfOk (cond bytes (cond whole (Ok (int_div amount (pos 4096))) (Err NotPages)) (Ok amount))
+        (λ pages. FitsSigned w64 pages × FitsSigned w64 (spelled_amount header counter.number pages))
+    by true bytes true whole = (
+      pages-fit amount fits,
+      subst (FitsSigned w64)
+          (sym (ap (λ b. cond b (int_div amount (pos 4096) *ℤ pos 4096) (int_div amount (pos 4096))) bytes
+          ∙ pages-bytes amount whole)) fits,
+    )
     by true bytes false whole = tt
     by false bytes whole which =
         (fits, subst (FitsSigned w64) (sym (ap (λ b. cond b (amount *ℤ pos 4096) amount) bytes)) fits)
@@ -232,9 +264,14 @@ in_pages-known header counter amount fits =
 pub page_counter-known : (header : Header) (counter : CounterId) → IsKnown header counter.number
     → IfOk (page_counter header counter) (λ one. IsKnown header one.number × (is_in_bytes header one.number ≡ false))
 page_counter-known header counter known =
-    if_cond (is_in_bytes header counter.number) (Err NotPages) (Ok counter) (λ one. IsKnown header one.number × (is_in_bytes header one.number ≡ false)) (λ bytes. tt) (λ pages. (known, pages))
+    if_cond (is_in_bytes header counter.number) (Err NotPages) (Ok counter)
+    (λ one. IsKnown header one.number × (is_in_bytes header one.number ≡ false)) (λ bytes. tt)
+    (λ pages. (known, pages))
 
-pub index_under-known : (header : Header) (node : Option ℕ) (index : ℕ) → IfOk (index_under header node index) (λ one. (one ≡ index) × IfSome node (λ number. IsTrue (has_zone_up_to header number one)))
+pub index_under-known : (header : Header) (node : Option ℕ) (index : ℕ)
+    → IfOk (index_under header node index)
+    (λ one. (one ≡ index) × IfSome node (λ number. IsTrue (has_zone_up_to header number one)))
 index_under-known header None index = tt
 index_under-known header (Some node) index =
-    if_cond (has_zone_up_to header node index) (Ok index) (Err UnknownPlace) (λ one. (one ≡ index) × IsTrue (has_zone_up_to header node one)) (λ has. (refl, has)) (λ lacks. tt)
+    if_cond (has_zone_up_to header node index) (Ok index) (Err UnknownPlace)
+    (λ one. (one ≡ index) × IsTrue (has_zone_up_to header node one)) (λ has. (refl, has)) (λ lacks. tt)

@@ -42,7 +42,8 @@ use Rattle.vms_text.proofs.NumberLaws.{number_within-decimal}
 use Rattle.vms_text.proofs.SpelledNumbers.{decimal-short, signed_of-spelled, unsigned_of-decimal}
 
 -- one word that is read as a value
-pub record SpellsOne (A : Type 0) (field : List ℕ → Result A LineCause) (words : List (List ℕ)) (value : A) : Type 0 where
+pub record SpellsOne (A : Type 0) (field : List ℕ → Result A LineCause) (words : List (List ℕ))
+    (value : A) : Type 0 where
   pub word : List ℕ
   pub words_are : words ≡ word ∷ []
   pub short : is_short word ≡ true
@@ -108,7 +109,9 @@ module _ (header : Header) (is : IsHeader header) where
       let within : counter < length names = omega (arith, length-map header.counters name_of) in
       let found = position-name names counter is.counters_differ within in
       let shorts =
-      All-map (λ name. is_short name ≡ true) name_of header.counters (All-weaker IsValidDecl (λ decl. is_short decl.name ≡ true) (λ decl valid. name-short decl.name valid.form) header.counters is.counters_valid) in
+      All-map (λ name. is_short name ≡ true) name_of header.counters
+      (All-weaker IsValidDecl (λ decl. is_short decl.name ≡ true)
+      (λ decl valid. name-short decl.name valid.form) header.counters is.counters_valid) in
       record {
         word = get_or names counter [];
         words_are = entry-within names counter [] within;
@@ -134,7 +137,11 @@ module _ (header : Header) (is : IsHeader header) where
         kind_short = spells.short;
         item_short = item_word-short header is node n known.1;
         read =
-            rw (place_field-spelled header is.is_layout place spells, item_word-found header is node n known.1, counter_at-whole header.layout is.is_layout counter) refl;
+            rw (
+              place_field-spelled header is.is_layout place spells,
+              item_word-found header is node n known.1,
+              counter_at-whole header.layout is.is_layout counter,
+            ) refl;
       }
 
   -- system-wide values
@@ -149,14 +156,16 @@ module _ (header : Header) (is : IsHeader header) where
 
   node_value-spelled : (item : ℕ) → nat_lt item header.layout.positions ≡ false
       → item - header.layout.positions < length (class_names true header.items)
-      → SpellsOne ItemId (system_field header) (entry (class_names true header.items) (item - header.layout.positions)) (record { number = item })
+      → SpellsOne ItemId (system_field header) (entry (class_names true header.items) (item - header.layout.positions))
+      (record { number = item })
   node_value-spelled item test within =
       let names = class_names true header.items in
       let n = item - header.layout.positions in
       let word = get_or names n [] in
       let apart = class_names-apart header.items is.items_valid is.items_differ n [] within in
       let nowhere = position-nowhere (bytes_eq word) (class_names false header.items)
-      (All-weaker (λ other. word ≢ other) (λ other. bytes_eq word other ≡ false) (bytes_eq-other word) (class_names false header.items) apart) in
+      (All-weaker (λ other. word ≢ other) (λ other. bytes_eq word other ≡ false) (bytes_eq-other word)
+      (class_names false header.items) apart) in
       let after : header.layout.positions ≤ item = grind (arith, nat_tests) in
       let whole : header.layout.positions + n ≡ item = omega arith in
       record {
@@ -172,8 +181,11 @@ module _ (header : Header) (is : IsHeader header) where
       let positions = header.layout.positions in
       let zone_names = class_names false header.items in
       let node_names = class_names true header.items in
-      elim (nat_lt item positions) as (λ b. nat_lt item positions ≡ b → MatchBool b (item < length zone_names) (item - positions < length node_names)
-      → SpellsOne ItemId (system_field header) (if b then entry zone_names item else entry node_names (item - positions)) (record { number = item })) [
+      elim (nat_lt item positions) as
+      (λ b. nat_lt item positions ≡ b
+      → MatchBool b (item < length zone_names) (item - positions < length node_names)
+      → SpellsOne ItemId (system_field header)
+      (if b then entry zone_names item else entry node_names (item - positions)) (record { number = item })) [
         | true ↦ λ test within. zone_value item test within
         | false ↦ λ test within. node_value-spelled item test within
       ] refl known
@@ -194,7 +206,9 @@ pages_back pages =
 pub in_pages-spelled : (header : Header) (counter : CounterId) (pages : ℤ)
     → in_pages header counter (spelled_amount header counter.number pages) ≡ Ok pages
 in_pages-spelled header counter pages =
-    elim (is_in_bytes header counter.number) as (λ b. is_in_bytes header counter.number ≡ b → in_pages header counter (spelled_amount header counter.number pages) ≡ Ok pages) [
+    elim (is_in_bytes header counter.number) as
+    (λ b. is_in_bytes header counter.number ≡ b
+    → in_pages header counter (spelled_amount header counter.number pages) ≡ Ok pages) [
       | true ↦ λ test. rw (test, whole_pages pages, pages_back pages) refl
       | false ↦ λ test. rw test refl
     ] refl

@@ -20,7 +20,8 @@ use Rattle.vms_text.specs.declared.acts.Lane.{Lane as LaneOf}
 use Rattle.vms_text.specs.declared.acts.Lane.TheVariants.{Cpu, Control}
 use Rattle.vms_text.specs.PlaceNames.{IsKnown, is_in_bytes}
 use Rattle.vms_text.specs.Spelling.{counter_words}
-use Rattle.vms_text.proofs.PlacesRead.{kind_word, kind_word-short, node_most-holds, node_at-own, some_zone, place_words-zone}
+use Rattle.vms_text.proofs.PlacesRead.{kind_word, kind_word-short, node_most-holds, node_at-own, some_zone}
+use Rattle.vms_text.proofs.PlacesRead.{place_words-zone}
 use Rattle.vms_text.proofs.PlacesRead.{zone_node-most}
 use Rattle.vms_text.proofs.Sentences.{is_short}
 use Rattle.vms_text.proofs.SpelledNumbers.{decimal-short, signed-short}
@@ -90,13 +91,16 @@ module _ (header : Header) (is : IsHeader header) where
       → list_all is_short (spells.node ∷ spells.kind ∷ spells.item ∷ more) ≡ true
   three_short counter spells more short =
       short-cons spells.node (spells.kind ∷ spells.item ∷ more) spells.node_short
-      (short-cons spells.kind (spells.item ∷ more) spells.kind_short (short-cons spells.item more spells.item_short short))
+      (short-cons spells.kind (spells.item ∷ more) spells.kind_short
+      (short-cons spells.item more spells.item_short short))
 
   -- one word, and others after it
-  one_says : (verb : Verb) (act : Act) {A : Type 0} (field : List ℕ → Result A LineCause) (words more : List (List ℕ)) (value : A)
+  one_says : (verb : Verb) (act : Act) {A : Type 0} (field : List ℕ → Result A LineCause) (words more : List (List ℕ))
+      (value : A)
       (spells : SpellsOne A field words value) → act_words header act ≡ (form_of verb).word ∷ words ++ more
       → length more ≤ 4
-      → list_all is_short more ≡ true → read_fields header (form_of verb).fields (spells.word ∷ more) ≡ Ok act → Says header verb act
+      → list_all is_short more ≡ true → read_fields header (form_of verb).fields (spells.word ∷ more) ≡ Ok act
+      → Says header verb act
   one_says verb act field words more value spells same few short read = record {
     fields = spells.word ∷ more;
     words_are = same ∙ ap (λ front. (form_of verb).word ∷ front ++ more) spells.words_are;
@@ -106,7 +110,8 @@ module _ (header : Header) (is : IsHeader header) where
   }
 
   counter_says : (verb : Verb) (make : CounterId → Act) (counter : CounterId) → (form_of verb).fields ≡ Counter make
-      → act_words header (make counter) ≡ (form_of verb).word ∷ counter_words header counter.number → IsKnown header counter.number
+      → act_words header (make counter) ≡ (form_of verb).word ∷ counter_words header counter.number
+      → IsKnown header counter.number
       → Says header verb (make counter)
   counter_says verb make counter fields words known =
       let spells = counter-spelled header is counter.number known in
@@ -121,7 +126,8 @@ module _ (header : Header) (is : IsHeader header) where
       }
 
   paged_says : (verb : Verb) (make : CounterId → Act) (counter : CounterId) → (form_of verb).fields ≡ Paged make
-      → act_words header (make counter) ≡ (form_of verb).word ∷ counter_words header counter.number → IsKnown header counter.number
+      → act_words header (make counter) ≡ (form_of verb).word ∷ counter_words header counter.number
+      → IsKnown header counter.number
       → is_in_bytes header counter.number ≡ false → Says header verb (make counter)
   paged_says verb make counter fields words known pages =
       let spells = counter-spelled header is counter.number known in
@@ -136,7 +142,8 @@ module _ (header : Header) (is : IsHeader header) where
       }
 
   name_says : (verb : Verb) (make : PcpuId → Act) (counter : PcpuId) → (form_of verb).fields ≡ Name make
-      → act_words header (make counter) ≡ (form_of verb).word ∷ pcpu_word header counter.number → IsDeclared header counter.number
+      → act_words header (make counter) ≡ (form_of verb).word ∷ pcpu_word header counter.number
+      → IsDeclared header counter.number
       → Says header verb (make counter)
   name_says verb make counter fields words declared =
       let spells = pcpu-spelled header is counter.number declared in
@@ -174,7 +181,8 @@ module _ (header : Header) (is : IsHeader header) where
       }
 
   node_says : (verb : Verb) (make : PlaceId → Act) (node : PlaceId) → (form_of verb).fields ≡ Node make
-      → act_words header (make node) ≡ (form_of verb).word ∷ node_number header node.number → IsNode header.layout node.number
+      → act_words header (make node) ≡ (form_of verb).word ∷ node_number header node.number
+      → IsNode header.layout node.number
       → Says header verb (make node)
   node_says verb make node fields words within =
       let spells = node_spelled node within in
@@ -214,7 +222,8 @@ module _ (header : Header) (is : IsHeader header) where
       (rw (spells.read, amount_field-spelled amount known.2) refl)
   says lane (acts.Lim counter limit amount) known =
       let spells = pcpu-spelled header is counter.number known.1 in
-      one_says Lim (acts.Lim counter limit amount) _ _ (signed_decimal limit ∷ signed_decimal amount ∷ []) counter spells refl (omega arith)
+      one_says Lim (acts.Lim counter limit amount) _ _
+      (signed_decimal limit ∷ signed_decimal amount ∷ []) counter spells refl (omega arith)
       (short-cons (signed_decimal limit) (signed_decimal amount ∷ []) (signed-short limit (limit-fits limit known.2))
       (short-cons (signed_decimal amount) [] (signed-short amount known.3) refl))
       (rw (spells.read, limit_field-spelled limit known.2, amount_field-spelled amount known.3) refl)
@@ -278,10 +287,17 @@ module _ (header : Header) (is : IsHeader header) where
       let has = subst (λ found. IfSome found (λ n. IsTrue (has_zone_up_to header n index))) at known.5 in
       let low = known.3 in
       let small = known.4 in
-      one_says Kswapd (acts.Kswapd node order index) _ _ (decimal order ∷ decimal index ∷ []) node spells refl (omega arith)
+      one_says Kswapd (acts.Kswapd node order index) _ _ (decimal order ∷ decimal index ∷ []) node spells refl
+      (omega arith)
       (short-cons (decimal order) (decimal index ∷ []) (decimal-short order (omega arith))
       (short-cons (decimal index) [] (decimal-short index (omega arith)) refl))
-      (rw (spells.read, number_up_to-spelled 10 order (omega arith) low, number_up_to-spelled 3 index (omega arith) small, at, has) refl)
+      (rw (
+        spells.read,
+        number_up_to-spelled 10 order (omega arith) low,
+        number_up_to-spelled 3 index (omega arith) small,
+        at,
+        has,
+      ) refl)
 
 -- whether a lane is the control lane
 abbrev pub is_control_lane : LaneOf → Bool

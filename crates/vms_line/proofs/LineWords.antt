@@ -68,7 +68,8 @@ read_fields-long header (Marked act) a b c d e f more = refl
 read_fields-long header (Turn act) a b c d e f more = refl
 
 read_verb-long : (header : Header) (control : Bool) (verb : Option Verb) (a b c d e f : List ℕ) (more : List (List ℕ))
-    → read_verb header control (a ∷ b ∷ c ∷ d ∷ e ∷ f ∷ []) verb ≡ read_verb header control (a ∷ b ∷ c ∷ d ∷ e ∷ f ∷ more) verb
+    → read_verb header control (a ∷ b ∷ c ∷ d ∷ e ∷ f ∷ []) verb
+    ≡ read_verb header control (a ∷ b ∷ c ∷ d ∷ e ∷ f ∷ more) verb
 read_verb-long header control None a b c d e f more = refl
 read_verb-long header control (Some verb) a b c d e f more =
     let both =
@@ -92,8 +93,10 @@ read_words-take header (a ∷ b ∷ c ∷ d ∷ e ∷ f ∷ g ∷ h ∷ more) =
     let control = read_verb-long header true (verb_named b) c d e f g h more in
     let of_cpus = read_verb-long header false (verb_named b) c d e f g h more in
     ap (λ act. cond (bytes_eq a (codes "k")) (of_lane Control act)
-    (cond (is_cpu_word a) (of_cpu header (lane_number a) (read_verb header false fields (verb_named b))) (Err Malformed))) control
-    ∙ ap (λ act. cond (bytes_eq a (codes "k")) (of_lane Control (read_verb header true (c ∷ d ∷ e ∷ f ∷ g ∷ h ∷ more) (verb_named b)))
+    (cond (is_cpu_word a) (of_cpu header (lane_number a) (read_verb header false fields (verb_named b)))
+    (Err Malformed))) control
+    ∙ ap (λ act. cond (bytes_eq a (codes "k"))
+    (of_lane Control (read_verb header true (c ∷ d ∷ e ∷ f ∷ g ∷ h ∷ more) (verb_named b)))
     (cond (is_cpu_word a) (of_cpu header (lane_number a) act) (Err Malformed))) of_cpus
 
 -- a line of words that isn't ignored
@@ -104,12 +107,17 @@ read_line-words header line within ignored clean =
     by (nat_lt 200 (length line)) (is_ignored line) (is_clean line) short ignored clean
     ∙ sym (read_words-take header (words_of line))
   where
-    by : (long ignored clean : Bool) → long ≡ false → ignored ≡ false → clean ≡ true → cond long (Err LineTooLong) (cond ignored (Ok Blank) (cond clean (read_words header (words_of line)) (Err Malformed))) ≡ read_words header (words_of line)
+    by : (long ignored clean : Bool) → long ≡ false → ignored ≡ false → clean ≡ true
+        → cond long (Err LineTooLong)
+        (cond ignored (Ok Blank) (cond clean (read_words header (words_of line)) (Err Malformed)))
+        ≡ read_words header (words_of line)
     by long ignored clean e f g = rw (e, f, g) refl
 
 words_of-byte : (byte : ℕ) (rest : List ℕ) → is_word_byte byte ≡ true → words_of (byte ∷ rest) ≢ []
 words_of-byte byte rest is none =
-    some (slice_split (λ one. not (is_word_byte one)) rest) (sym (ap (filter (λ word. not (is_empty word))) (slice_split-cons_no (λ one. not (is_word_byte one)) byte rest (ap not is))) ∙ none)
+    some (slice_split (λ one. not (is_word_byte one)) rest)
+    (sym (ap (filter (λ word. not (is_empty word)))
+    (slice_split-cons_no (λ one. not (is_word_byte one)) byte rest (ap not is))) ∙ none)
   where
     some : (parts : List (List ℕ)) → filter (λ word. not (is_empty word)) (onto_first byte parts) ≡ [] → ⊥
     some [] same = absurd cc
@@ -130,11 +138,13 @@ blank-clean (byte ∷ rest) none = by (is_word_byte byte) refl (blank-clean rest
 words_of-all_blank : (line : List ℕ) → list_all is_blank_byte line ≡ true → words_of line ≡ []
 words_of-all_blank [] all = refl
 words_of-all_blank (byte ∷ rest) all =
-    by (is_word_byte byte) refl (words_of-all_blank rest (and_right (is_blank_byte byte) (list_all is_blank_byte rest) all))
+    by (is_word_byte byte) refl
+    (words_of-all_blank rest (and_right (is_blank_byte byte) (list_all is_blank_byte rest) all))
   where
     by : (b : Bool) → is_word_byte byte ≡ b → words_of rest ≡ [] → words_of (byte ∷ rest) ≡ []
     by true is more =
-        absurd (false≢true (sym (word_byte-not_blank byte is) ∙ and_left (is_blank_byte byte) (list_all is_blank_byte rest) all))
+        absurd (false≢true (sym (word_byte-not_blank byte is)
+        ∙ and_left (is_blank_byte byte) (list_all is_blank_byte rest) all))
     by false is more = words_of-other byte rest is ∙ more
 
 -- a line with no word is ignored where it is clean

@@ -57,13 +57,16 @@ module _ (header : Header) (is : IsHeader header) where
   -- the fields of each form give what is in its ranges
   abbrev IsChange : CounterId × ℤ → Type 0
   IsChange found =
-      IsKnown header found.0.number × FitsSigned w64 found.1 × FitsSigned w64 (spelled_amount header found.0.number found.1)
+      IsKnown header found.0.number × FitsSigned w64 found.1
+      × FitsSigned w64 (spelled_amount header found.0.number found.1)
 
   change : (words : List (List ℕ)) → IfOk (change_fields header words) IsChange
   change (node ∷ kind ∷ item ∷ delta ∷ []) =
-      if_then (counter_field header node kind item) _ (λ one. IsKnown header one.number) IsChange (counter_field-known header node kind item is) (λ counter known.
+      if_then (counter_field header node kind item) _ (λ one. IsKnown header one.number) IsChange
+      (counter_field-known header node kind item is) (λ counter known.
       if_then (amount_field delta) _ (FitsSigned w64) IsChange (amount_field-known delta) (λ amount fits.
-      if_then (in_pages header counter amount) _ (λ pages. FitsSigned w64 pages × FitsSigned w64 (spelled_amount header counter.number pages)) IsChange
+      if_then (in_pages header counter amount) _
+      (λ pages. FitsSigned w64 pages × FitsSigned w64 (spelled_amount header counter.number pages)) IsChange
       (in_pages-known header counter amount fits) (λ pages both. (known, both.0, both.1))))
   change _ = tt
 
@@ -72,7 +75,8 @@ module _ (header : Header) (is : IsHeader header) where
 
   paged : (words : List (List ℕ)) → IfOk (paged_fields header words) IsPaged
   paged (node ∷ kind ∷ item ∷ []) =
-      if_then (counter_field header node kind item) _ (λ one. IsKnown header one.number) IsPaged (counter_field-known header node kind item is) (λ counter known.
+      if_then (counter_field header node kind item) _ (λ one. IsKnown header one.number) IsPaged
+      (counter_field-known header node kind item is) (λ counter known.
       page_counter-known header counter known)
   paged _ = tt
 
@@ -90,7 +94,8 @@ module _ (header : Header) (is : IsHeader header) where
   count : (words : List (List ℕ)) → IfOk (count_fields words) IsCount
   count (word ∷ number ∷ []) =
       if_then (event_field word) _ (λ one. one.number < 8) IsCount (event_field-known word) (λ one known.
-      if_then (number_up_to (2 ^ 63 - 1) number) _ (λ m. m ≤ 2 ^ 63 - 1) IsCount (number_up_to-known (2 ^ 63 - 1) number) (λ m small. (known, omega (arith, small))))
+      if_then (number_up_to (2 ^ 63 - 1) number) _ (λ m. m ≤ 2 ^ 63 - 1) IsCount
+      (number_up_to-known (2 ^ 63 - 1) number) (λ m small. (known, omega (arith, small))))
   count _ = tt
 
   name : (words : List (List ℕ)) → IfOk (name_fields header words) (λ one. IsDeclared header one.number)
@@ -102,7 +107,8 @@ module _ (header : Header) (is : IsHeader header) where
 
   amount : (words : List (List ℕ)) → IfOk (amount_fields header words) IsAmount
   amount (word ∷ number ∷ []) =
-      if_then (pcpu_field header word) _ (λ one. IsDeclared header one.number) IsAmount (pcpu_field-known header word) (λ one known.
+      if_then (pcpu_field header word) _ (λ one. IsDeclared header one.number) IsAmount (pcpu_field-known header word)
+      (λ one known.
       if_then (amount_field number) _ (FitsSigned w64) IsAmount (amount_field-known number) (λ z fits. (known, fits)))
   amount _ = tt
 
@@ -111,8 +117,10 @@ module _ (header : Header) (is : IsHeader header) where
 
   number : (words : List (List ℕ)) → IfOk (number_fields header words) IsNumber
   number (word ∷ field ∷ []) =
-      if_then (pcpu_field header word) _ (λ one. IsDeclared header one.number) IsNumber (pcpu_field-known header word) (λ one known.
-      if_then (limit_field field) _ (λ z. unsigned_abs z ≤ 2 ^ 60) IsNumber (limit_field-known field) (λ z small. (known, small)))
+      if_then (pcpu_field header word) _ (λ one. IsDeclared header one.number) IsNumber (pcpu_field-known header word)
+      (λ one known.
+      if_then (limit_field field) _ (λ z. unsigned_abs z ≤ 2 ^ 60) IsNumber (limit_field-known field)
+      (λ z small. (known, small)))
   number _ = tt
 
   abbrev IsLimited : PcpuId × ℤ × ℤ → Type 0
@@ -120,9 +128,11 @@ module _ (header : Header) (is : IsHeader header) where
 
   limited : (words : List (List ℕ)) → IfOk (limited_fields header words) IsLimited
   limited (word ∷ limit ∷ field ∷ []) =
-      if_then (pcpu_field header word) _ (λ one. IsDeclared header one.number) IsLimited (pcpu_field-known header word) (λ one known.
+      if_then (pcpu_field header word) _ (λ one. IsDeclared header one.number) IsLimited (pcpu_field-known header word)
+      (λ one known.
       if_then (limit_field limit) _ (λ z. unsigned_abs z ≤ 2 ^ 60) IsLimited (limit_field-known limit) (λ most small.
-      if_then (amount_field field) _ (FitsSigned w64) IsLimited (amount_field-known field) (λ z fits. (known, small, fits))))
+      if_then (amount_field field) _ (FitsSigned w64) IsLimited (amount_field-known field)
+      (λ z fits. (known, small, fits))))
   limited _ = tt
 
   one_cpu : (words : List (List ℕ)) → IfOk (one_cpu_fields header words) (λ one. IsCpu header.layout one.number)
@@ -143,7 +153,8 @@ module _ (header : Header) (is : IsHeader header) where
   marked : (words : List (List ℕ)) → IfOk (marked_fields header words) IsMarked
   marked (node ∷ kind ∷ mark ∷ index ∷ []) =
       if_any (ok_or (mark_named mark) Malformed) _ IsMarked (λ one.
-      if_then (zone_field header node kind) _ (λ one. IsZone header.layout one.number) IsMarked (zone_field-known header node kind) (λ zone known.
+      if_then (zone_field header node kind) _ (λ one. IsZone header.layout one.number) IsMarked
+      (zone_field-known header node kind) (λ zone known.
       if_then (number_up_to 3 index) _ (λ n. n ≤ 3) IsMarked (number_up_to-known 3 index) (λ n small. (known, small))))
   marked _ = tt
 
@@ -153,10 +164,12 @@ module _ (header : Header) (is : IsHeader header) where
 
   turn : (words : List (List ℕ)) → IfOk (turn_fields header words) IsTurned
   turn (node ∷ order ∷ index ∷ []) =
-      if_then (node_field header node) _ (λ one. IsNode header.layout one.number) IsTurned (node_field-known header node) (λ place known.
+      if_then (node_field header node) _ (λ one. IsNode header.layout one.number) IsTurned
+      (node_field-known header node) (λ place known.
       if_then (number_up_to 10 order) _ (λ n. n ≤ 10) IsTurned (number_up_to-known 10 order) (λ most small.
       if_then (number_up_to 3 index) _ (λ n. n ≤ 3) IsTurned (number_up_to-known 3 index) (λ one below.
-      if_then (index_under header (node_at header.layout place.number) one) _ _ IsTurned (index_under-known header (node_at header.layout place.number) one) (λ found both.
+      if_then (index_under header (node_at header.layout place.number) one) _ _ IsTurned
+      (index_under-known header (node_at header.layout place.number) one) (λ found both.
       (known, small, subst (λ n. n ≤ 3) (sym both.0) below, both.1)))))
   turn _ = tt
 
@@ -174,52 +187,70 @@ module _ (header : Header) (is : IsHeader header) where
         → has_lane header (is_control_lane lane) (form_of verb).lanes ≡ true
         → IfOk (read_fields header (form_of verb).fields words) IsMine
     verb-known Mod words of =
-        if_then (change_fields header words) _ IsChange IsMine (change words) (λ found known. (of_cpus lane of, known.0, known.1, known.2))
+        if_then (change_fields header words) _ IsChange IsMine (change words)
+        (λ found known. (of_cpus lane of, known.0, known.1, known.2))
     verb-known Inc words of =
-        if_then (paged_fields header words) _ IsPaged IsMine (paged words) (λ found known. (of_cpus lane of, known.0, known.1))
+        if_then (paged_fields header words) _ IsPaged IsMine (paged words)
+        (λ found known. (of_cpus lane of, known.0, known.1))
     verb-known Dec words of =
-        if_then (paged_fields header words) _ IsPaged IsMine (paged words) (λ found known. (of_cpus lane of, known.0, known.1))
+        if_then (paged_fields header words) _ IsPaged IsMine (paged words)
+        (λ found known. (of_cpus lane of, known.0, known.1))
     verb-known Ev words of =
         if_then (count_fields words) _ IsCount IsMine (count words) (λ found known. (of_cpus lane of, known.0, known.1))
     verb-known Cnt words of =
-        if_then (amount_fields header words) _ IsAmount IsMine (amount words) (λ found known. (of_cpus lane of, known.0, known.1))
+        if_then (amount_fields header words) _ IsAmount IsMine (amount words)
+        (λ found known. (of_cpus lane of, known.0, known.1))
     verb-known Lim words of =
-        if_then (limited_fields header words) _ IsLimited IsMine (limited words) (λ found known. (of_cpus lane of, known.0, known.1, known.2))
+        if_then (limited_fields header words) _ IsLimited IsMine (limited words)
+        (λ found known. (of_cpus lane of, known.0, known.1, known.2))
     verb-known Cmp words of =
-        if_then (number_fields header words) _ IsNumber IsMine (number words) (λ found known. (of_cpus lane of, known.0, known.1))
+        if_then (number_fields header words) _ IsNumber IsMine (number words)
+        (λ found known. (of_cpus lane of, known.0, known.1))
     verb-known Sum words of =
-        if_then (name_fields header words) _ (λ one. IsDeclared header one.number) IsMine (name words) (λ found known. (of_cpus lane of, known))
+        if_then (name_fields header words) _ (λ one. IsDeclared header one.number) IsMine (name words)
+        (λ found known. (of_cpus lane of, known))
     verb-known Rough words of =
-        if_then (name_fields header words) _ (λ one. IsDeclared header one.number) IsMine (name words) (λ found known. (of_cpus lane of, known))
+        if_then (name_fields header words) _ (λ one. IsDeclared header one.number) IsMine (name words)
+        (λ found known. (of_cpus lane of, known))
     verb-known Csync words of =
-        if_then (name_fields header words) _ (λ one. IsDeclared header one.number) IsMine (name words) (λ found known. (of_cpus lane of, known))
+        if_then (name_fields header words) _ (λ one. IsDeclared header one.number) IsMine (name words)
+        (λ found known. (of_cpus lane of, known))
     verb-known EvSum words of =
         if_then (event_fields words) _ (λ one. one.number < 8) IsMine (event words) (λ found known. known)
     verb-known Fold words of =
-        if_then (one_cpu_fields header words) _ (λ one. IsCpu header.layout one.number) IsMine (one_cpu words) (λ found known. known)
+        if_then (one_cpu_fields header words) _ (λ one. IsCpu header.layout one.number) IsMine (one_cpu words)
+        (λ found known. known)
     verb-known Water words of =
         if_then (marked_fields header words) _ IsMarked IsMine (marked words) (λ found known. known)
     verb-known Val words of =
-        if_then (counter_fields header words) _ (λ one. IsKnown header one.number) IsMine (counter words) (λ found known. known)
+        if_then (counter_fields header words) _ (λ one. IsKnown header one.number) IsMine (counter words)
+        (λ found known. known)
     verb-known Snap words of =
-        if_then (counter_fields header words) _ (λ one. IsKnown header one.number) IsMine (counter words) (λ found known. known)
+        if_then (counter_fields header words) _ (λ one. IsKnown header one.number) IsMine (counter words)
+        (λ found known. known)
     verb-known Sys words of =
-        if_then (value_fields header words) _ (λ one. IsKnownValue header one.number) IsMine (value words) (λ found known. known)
+        if_then (value_fields header words) _ (λ one. IsKnownValue header one.number) IsMine (value words)
+        (λ found known. known)
     verb-known Pressure words of =
-        if_then (node_fields header words) _ (λ one. IsNode header.layout one.number) IsMine (node words) (λ found known. (of_control lane of, known))
+        if_then (node_fields header words) _ (λ one. IsNode header.layout one.number) IsMine (node words)
+        (λ found known. (of_control lane of, known))
     verb-known Normal words of =
-        if_then (node_fields header words) _ (λ one. IsNode header.layout one.number) IsMine (node words) (λ found known. (of_control lane of, known))
+        if_then (node_fields header words) _ (λ one. IsNode header.layout one.number) IsMine (node words)
+        (λ found known. (of_control lane of, known))
     verb-known Dead words of =
-        if_then (one_cpu_fields header words) _ (λ one. IsCpu header.layout one.number) IsMine (one_cpu words) (λ found known. (of_control lane of, known))
+        if_then (one_cpu_fields header words) _ (λ one. IsCpu header.layout one.number) IsMine (one_cpu words)
+        (λ found known. (of_control lane of, known))
     verb-known Kswapd words of =
         let wide = wide_control lane of in
-        if_then (turn_fields header words) _ IsTurned IsMine (turn words) (λ found known. (wide.0, wide.1, known.0, known.1, known.2, known.3))
+        if_then (turn_fields header words) _ IsTurned IsMine (turn words)
+        (λ found known. (wide.0, wide.1, known.0, known.1, known.2, known.3))
 
     read_verb-known : (words : List (List ℕ)) (verb : Option Verb)
         → IfOk (read_verb header (is_control_lane lane) words verb) IsMine
     read_verb-known words None = tt
     read_verb-known words (Some verb) =
-        if_cond (has_lane header (is_control_lane lane) (form_of verb).lanes) (read_fields header (form_of verb).fields words) (Err Malformed) IsMine
+        if_cond (has_lane header (is_control_lane lane) (form_of verb).lanes)
+        (read_fields header (form_of verb).fields words) (Err Malformed) IsMine
         (verb-known verb words) (λ _. tt)
 
   -- a lane's words
@@ -231,9 +262,12 @@ module _ (header : Header) (is : IsHeader header) where
     abbrev IsOfN : Act → Type 0
     IsOfN act = IsActOf header (Cpu (record { number = n })) act
 
-    known_lane : (act : Result Act LineCause) → IfOk act IsOfN → IfOk (cond (nat_lt n header.layout.cpus) (of_lane (Cpu (record { number = n })) act) (Err UnknownLane)) (IsLineOf header)
+    known_lane : (act : Result Act LineCause) → IfOk act IsOfN
+        → IfOk (cond (nat_lt n header.layout.cpus) (of_lane (Cpu (record { number = n })) act) (Err UnknownLane))
+        (IsLineOf header)
     known_lane (Ok act) known =
-        if_cond (nat_lt n header.layout.cpus) (Ok (Lane (Cpu (record { number = n })) act)) (Err UnknownLane) (IsLineOf header) (λ below. (grind (arith, nat_tests), known)) (λ past. tt)
+        if_cond (nat_lt n header.layout.cpus) (Ok (Lane (Cpu (record { number = n })) act)) (Err UnknownLane)
+        (IsLineOf header) (λ below. (grind (arith, nat_tests), known)) (λ past. tt)
     known_lane (Err cause) known =
         if_cond (nat_lt n header.layout.cpus) (Err cause) (Err UnknownLane) (IsLineOf header) (λ below. tt) (λ past. tt)
 
@@ -249,36 +283,44 @@ module _ (header : Header) (is : IsHeader header) where
   control_line-known : (words : List (List ℕ)) → IfOk (control_line header words) (IsLineOf header)
   control_line-known [] = tt
   control_line-known (verb ∷ words) =
-      if_then (read_act header true verb words) _ (IsActOf header Control) (IsLineOf header) (read_act-known Control verb words) (λ act known. (tt, known))
+      if_then (read_act header true verb words) _ (IsActOf header Control) (IsLineOf header)
+      (read_act-known Control verb words) (λ act known. (tt, known))
 
   report : (word : List ℕ) → IfOk (report_named word) (IsLineOf header)
   report word =
       if_cond (bytes_eq word (codes "vmstat")) (Ok (Boundary (Report Vmstat))) _ (IsLineOf header) (λ _. tt) (λ _.
       if_cond (bytes_eq word (codes "zoneinfo")) (Ok (Boundary (Report Zoneinfo))) _ (IsLineOf header) (λ _. tt) (λ _.
       if_cond (bytes_eq word (codes "totals")) (Ok (Boundary (Report Totals))) _ (IsLineOf header) (λ _. tt) (λ _.
-      if_cond (bytes_eq word (codes "counters")) (Ok (Boundary (Report Counters))) (Err Malformed) (IsLineOf header) (λ _. tt) (λ _. tt))))
+      if_cond (bytes_eq word (codes "counters")) (Ok (Boundary (Report Counters))) (Err Malformed) (IsLineOf header)
+      (λ _. tt) (λ _. tt))))
 
   boundary : (words : List (List ℕ)) → IfOk (boundary_line header words) (IsLineOf header)
   boundary [] = tt
   boundary (word ∷ []) =
       if_cond (bytes_eq word (codes "sync")) (Ok (Boundary Sync)) _ (IsLineOf header) (λ _. tt) (λ _.
-      if_cond (bytes_eq word (codes "flush")) (Ok (Boundary Flush)) (Err Malformed) (IsLineOf header) (λ _. tt) (λ _. tt))
+      if_cond (bytes_eq word (codes "flush")) (Ok (Boundary Flush)) (Err Malformed) (IsLineOf header) (λ _. tt)
+      (λ _. tt))
   boundary (word ∷ field ∷ []) =
       if_cond (bytes_eq word (codes "offline")) _ _ (IsLineOf header)
-      (λ _. if_then (cpu_field header field) _ (λ one. IsCpu header.layout one.number) (IsLineOf header) (cpu_field-known header field) (λ one known. known)) (λ _.
+      (λ _. if_then (cpu_field header field) _ (λ one. IsCpu header.layout one.number) (IsLineOf header)
+      (cpu_field-known header field) (λ one known. known)) (λ _.
       if_cond (bytes_eq word (codes "online")) _ _ (IsLineOf header)
-      (λ _. if_then (cpu_field header field) _ (λ one. IsCpu header.layout one.number) (IsLineOf header) (cpu_field-known header field) (λ one known. known)) (λ _.
-      if_cond (bytes_eq word (codes "report")) (report_named field) (Err Malformed) (IsLineOf header) (λ _. report field) (λ _. tt)))
+      (λ _. if_then (cpu_field header field) _ (λ one. IsCpu header.layout one.number) (IsLineOf header)
+      (cpu_field-known header field) (λ one known. known)) (λ _.
+      if_cond (bytes_eq word (codes "report")) (report_named field) (Err Malformed) (IsLineOf header)
+      (λ _. report field) (λ _. tt)))
   boundary (a ∷ b ∷ c ∷ more) = tt
 
   pub read_words-known : (words : List (List ℕ)) → IfOk (read_words header words) (IsLineOf header)
   read_words-known [] = tt
   read_words-known (first ∷ words) =
       if_cond (bytes_eq first (codes "k")) _ _ (IsLineOf header) (λ _. control_line-known words) (λ _.
-      if_cond (is_cpu_word first) _ _ (IsLineOf header) (λ _. cpu_line-known (lane_number first) words) (λ _. boundary (first ∷ words)))
+      if_cond (is_cpu_word first) _ _ (IsLineOf header) (λ _. cpu_line-known (lane_number first) words)
+      (λ _. boundary (first ∷ words)))
 
   pub read_line-known : (text : List ℕ) → IfOk (read_line header text) (IsLineOf header)
   read_line-known text =
       if_cond (nat_lt 200 (length text)) (Err LineTooLong) _ (IsLineOf header) (λ _. tt) (λ _.
       if_cond (is_ignored text) (Ok Blank) _ (IsLineOf header) (λ _. tt) (λ _.
-      if_cond (is_clean text) (read_words header (words_of text)) (Err Malformed) (IsLineOf header) (λ _. read_words-known (words_of text)) (λ _. tt)))
+      if_cond (is_clean text) (read_words header (words_of text)) (Err Malformed) (IsLineOf header)
+      (λ _. read_words-known (words_of text)) (λ _. tt)))

@@ -100,7 +100,8 @@ module _ (header : Header) (is : IsHeader header) where
         some = omega arith;
         few = omega (arith, read.few);
         short =
-            short-cons (lane_word (Cpu cpu)) ((form_of verb).word ∷ read.fields) (lane_word-short header is (Cpu cpu) within)
+            short-cons (lane_word (Cpu cpu)) ((form_of verb).word ∷ read.fields)
+            (lane_word-short header is (Cpu cpu) within)
             (act_words-short header is (Cpu cpu) act known);
         said = refl;
       })
@@ -112,12 +113,14 @@ module _ (header : Header) (is : IsHeader header) where
       let verb = verb_of act in
       let read = says header is Control act known in
       let due = read_act-due header true verb read.fields (has_lane-own header Control act known) in
-      words-read_back header (Lane Control act) (codes "k" ∷ (form_of verb).word ∷ read.fields) (ap (λ words. codes "k" ∷ words) read.words_are)
+      words-read_back header (Lane Control act) (codes "k" ∷ (form_of verb).word ∷ read.fields)
+      (ap (λ words. codes "k" ∷ words) read.words_are)
       (record {
         some = omega arith;
         few = omega (arith, read.few);
         short =
-            short-cons (codes "k") ((form_of verb).word ∷ read.fields) refl (act_words-short header is Control act known);
+            short-cons (codes "k") ((form_of verb).word ∷ read.fields) refl
+            (act_words-short header is Control act known);
         said = refl;
       })
       (ap (of_lane Control) (due ∙ read.read))
@@ -133,27 +136,42 @@ module _ (header : Header) (is : IsHeader header) where
 
   report-read : (kind : ReportKind) → ReadsBack header (Boundary (Report kind))
   report-read Vmstat =
-      boundary-words_read (Report Vmstat) _ refl (record { some = omega arith; few = omega arith; short = refl; said = refl }) refl
+      boundary-words_read (Report Vmstat) _ refl
+      (record { some = omega arith; few = omega arith; short = refl; said = refl }) refl
   report-read Zoneinfo =
-      boundary-words_read (Report Zoneinfo) _ refl (record { some = omega arith; few = omega arith; short = refl; said = refl }) refl
+      boundary-words_read (Report Zoneinfo) _ refl
+      (record { some = omega arith; few = omega arith; short = refl; said = refl }) refl
   report-read Totals =
-      boundary-words_read (Report Totals) _ refl (record { some = omega arith; few = omega arith; short = refl; said = refl }) refl
+      boundary-words_read (Report Totals) _ refl
+      (record { some = omega arith; few = omega arith; short = refl; said = refl }) refl
   report-read Counters =
-      boundary-words_read (Report Counters) _ refl (record { some = omega arith; few = omega arith; short = refl; said = refl }) refl
+      boundary-words_read (Report Counters) _ refl
+      (record { some = omega arith; few = omega arith; short = refl; said = refl }) refl
 
   boundary-read : (boundary : BoundaryOf) → IsBoundaryOf header boundary → ReadsBack header (Boundary boundary)
   boundary-read Sync known =
       boundary-words_read Sync _ refl (record { some = omega arith; few = omega arith; short = refl; said = refl }) refl
   boundary-read (Offline cpu) known =
       boundary-words_read (Offline cpu) (codes "offline" ∷ decimal cpu.number ∷ []) refl
-      (record { some = omega arith; few = omega arith; short = boundary_words-short header is (Offline cpu) known; said = refl })
+      (record {
+        some = omega arith;
+        few = omega arith;
+        short = boundary_words-short header is (Offline cpu) known;
+        said = refl;
+      })
       (rw (cpu_field-spelled header is cpu.number known) refl)
   boundary-read (Online cpu) known =
       boundary-words_read (Online cpu) (codes "online" ∷ decimal cpu.number ∷ []) refl
-      (record { some = omega arith; few = omega arith; short = boundary_words-short header is (Online cpu) known; said = refl })
+      (record {
+        some = omega arith;
+        few = omega arith;
+        short = boundary_words-short header is (Online cpu) known;
+        said = refl;
+      })
       (rw (cpu_field-spelled header is cpu.number known) refl)
   boundary-read Flush known =
-      boundary-words_read Flush _ refl (record { some = omega arith; few = omega arith; short = refl; said = refl }) refl
+      boundary-words_read Flush _ refl
+      (record { some = omega arith; few = omega arith; short = refl; said = refl }) refl
   boundary-read (Report kind) known = report-read kind
 
 pub LinesReadBack-holds : LinesReadBack

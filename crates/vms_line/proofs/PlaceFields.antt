@@ -6,7 +6,8 @@ use Rattle.vms_base.specs.declared.headers.Header.{Header}
 use Rattle.vms_base.specs.declared.kinds.ZoneName.{ZoneName}
 use Rattle.vms_base.specs.Places.{IsLayout, IsNode}
 use Rattle.vms_text.specs.Spelling.{place_words}
-use Rattle.vms_text.proofs.PlacesRead.{SpellsPlace, kind_word, node_most-holds, node_at-own, node_place-own, zone_named-own}
+use Rattle.vms_text.proofs.PlacesRead.{SpellsPlace, kind_word, node_most-holds, node_at-own, node_place-own}
+use Rattle.vms_text.proofs.PlacesRead.{zone_named-own}
 use Rattle.vms_text.proofs.PlacesRead.{zone_node-most}
 use Rattle.vms_text.proofs.SpelledNumbers.{unsigned_of-decimal}
 use Rattle.vms_line.specs.Fields.{node_field, place_field, zone_field}
@@ -21,19 +22,29 @@ module _ (header : Header) (layout : IsLayout header.layout) where
 
   -- those of a zone name a zone
   pub zone_field-spelled : (place : ℕ) (d : ZoneName) → place < length header.layout.zones
-      → zone_field header (decimal (get_or header.layout.zones place d).node) (kind_word (get_or header.layout.zones place d).kind) ≡ Ok (record { number = place })
+      → zone_field header (decimal (get_or header.layout.zones place d).node)
+      (kind_word (get_or header.layout.zones place d).kind) ≡ Ok (record { number = place })
   zone_field-spelled place d within =
       let most = zone_node-most header.layout layout place d within in
-      rw (unsigned_of-decimal (get_or header.layout.zones place d).node (omega (arith, most)), zone_named-own header layout place d within) refl
+      rw (
+        unsigned_of-decimal (get_or header.layout.zones place d).node (omega (arith, most)),
+        zone_named-own header layout place d within,
+      ) refl
 
   pub node_number-own : (place : ℕ) → IsNode header.layout place
       → node_number header place ≡ decimal (get_or header.layout.nodes (place - length header.layout.zones) 0) ∷ []
   node_number-own place is = ap (λ node. map decimal (option_to_list node)) (node_at-own header.layout layout place is)
 
-  pub node_field-spelled : (place : ℕ) → IsNode header.layout place → node_field header (decimal (get_or header.layout.nodes (place - length header.layout.zones) 0)) ≡ Ok (record { number = place })
+  pub node_field-spelled : (place : ℕ) → IsNode header.layout place
+      → node_field header (decimal (get_or header.layout.nodes (place - length header.layout.zones) 0))
+      ≡ Ok (record { number = place })
   node_field-spelled place is =
       let index = place - length header.layout.zones in
       let within : index < length header.layout.nodes = omega arith in
       let back : length header.layout.zones + index ≡ place = omega arith in
       let most = node_most-holds header.layout layout index within in
-      rw (unsigned_of-decimal (get_or header.layout.nodes index 0) (omega (arith, most)), node_place-own header.layout layout index within, back) refl
+      rw (
+        unsigned_of-decimal (get_or header.layout.nodes index 0) (omega (arith, most)),
+        node_place-own header.layout layout index within,
+        back,
+      ) refl

@@ -80,7 +80,8 @@ event_field word = ok_or (option_map (λ n. record { number = n }) (position (by
 -- the percpu counter that a word names
 abbrev pub pcpu_field : Header → List ℕ → Result PcpuId LineCause
 pcpu_field header word =
-    ok_or (option_map (λ n. record { number = n }) (position (bytes_eq word) (map (λ decl. decl.name) header.counters))) UnknownCounter
+    ok_or (option_map (λ n. record { number = n }) (position (bytes_eq word) (map (λ decl. decl.name) header.counters)))
+    UnknownCounter
 
 -- the system-wide value of the node item at a position, or of a zone item
 abbrev pub node_value : Header → Option ℕ → Result ItemId LineCause

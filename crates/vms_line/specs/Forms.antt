@@ -221,7 +221,8 @@ read_fields header (Turn act) words = and_then (turn_fields header words) (λ fo
 abbrev pub read_verb : Header → Bool → List (List ℕ) → Option Verb → Result Act LineCause
 read_verb header control words None = Err Malformed
 read_verb header control words (Some verb) =
-    if has_lane header control (form_of verb).lanes then read_fields header (form_of verb).fields words else Err Malformed
+    if has_lane header control (form_of verb).lanes then read_fields header
+    (form_of verb).fields words else Err Malformed
 
 abbrev pub read_act : Header → Bool → List ℕ → List (List ℕ) → Result Act LineCause
 read_act header control verb words = read_verb header control words (verb_named verb)

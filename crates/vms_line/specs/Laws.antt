@@ -45,7 +45,8 @@ IsDeclared header counter = counter < length header.counters
 -- what is true of each act of a lane that some line says: its numbers are in their ranges
 abbrev pub IsActOf : Header → LaneOf → Act → Type 0
 IsActOf header lane (Mod counter pages) =
-    IsOfCpu lane × IsKnown header counter.number × FitsSigned w64 pages × FitsSigned w64 (spelled_amount header counter.number pages)
+    IsOfCpu lane × IsKnown header counter.number × FitsSigned w64 pages
+    × FitsSigned w64 (spelled_amount header counter.number pages)
 IsActOf header lane (Inc counter) =
     IsOfCpu lane × IsKnown header counter.number × (is_in_bytes header counter.number ≡ false)
 IsActOf header lane (Dec counter) =
@@ -90,7 +91,8 @@ IsLineOf header (Boundary boundary) = IsBoundaryOf header boundary
 -- every line that is read is one of its header
 abbrev pub LinesAreKnown : Type 0
 LinesAreKnown =
-    (header : Header) (text : List ℕ) (line : Line) → IsHeader header → read_line header text ≡ Ok line → IsLineOf header line
+    (header : Header) (text : List ℕ) (line : Line) → IsHeader header → read_line header text ≡ Ok line
+    → IsLineOf header line
 
 -- what is spelled of a line is one line of a text, and is read back as that line
 pub record ReadsBack (header : Header) (line : Line) : Type 0 where
@@ -105,4 +107,5 @@ LinesReadBack = (header : Header) (line : Line) → IsHeader header → IsLineOf
 -- a line that isn't ignored has one spelling: what is spelled of it is its words, one blank between them
 abbrev pub LinesHaveOneSpelling : Type 0
 LinesHaveOneSpelling = (header : Header) (text : List ℕ) (line : Line)
-    → IsHeader header → read_line header text ≡ Ok line → is_ignored text ≡ false → line_words header line ≡ words_of text
+    → IsHeader header → read_line header text ≡ Ok line → is_ignored text ≡ false
+    → line_words header line ≡ words_of text

@@ -51,7 +51,8 @@ spelled_amount header counter pages = if is_in_bytes header counter then pages *
 -- the words after a lane's
 abbrev pub act_words : Header → Act → List (List ℕ)
 act_words header (Mod counter pages) =
-    codes "mod" ∷ counter_words header counter.number ++ signed_decimal (spelled_amount header counter.number pages) ∷ []
+    codes "mod" ∷ counter_words header counter.number ++ signed_decimal (spelled_amount header counter.number pages)
+    ∷ []
 act_words header (Inc counter) = codes "inc" ∷ counter_words header counter.number
 act_words header (Dec counter) = codes "dec" ∷ counter_words header counter.number
 act_words header (Ev event n) = codes "ev" ∷ event_word event.number ++ decimal n ∷ []

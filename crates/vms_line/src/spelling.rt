@@ -5,7 +5,8 @@ ghost use Rattle.vms_base.specs.Headers.{IsHeader, class_names};
 ghost use Rattle.vms_base.specs.Places.{IsNode, IsPlace};
 ghost use Rattle.vms_line.specs.Laws.{IsActOf, IsDeclared, IsKnownValue, IsLineOf};
 ghost use Rattle.vms_text.specs.PlaceNames.{IsKnown};
-ghost use Rattle.vms_line.specs.Spelling.{act_words, boundary_words, event_word, lane_word, mark_word, node_number, pcpu_word, report_word, spelled_amount, spelled_line, system_word};
+ghost use Rattle.vms_line.specs.Spelling.{act_words, boundary_words, event_word, lane_word, mark_word, node_number};
+ghost use Rattle.vms_line.specs.Spelling.{pcpu_word, report_word, spelled_amount, spelled_line, system_word};
 ghost use Rattle.vms_text.specs.Spelling.{counter_words, entry, place_words, sentence};
 ghost use Rattle.vms_text.specs.Writing.{Begins, spaced, text_of};
 

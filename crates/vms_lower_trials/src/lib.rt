@@ -1,5 +1,5 @@
-//! Trials of the crates at the bottom: layouts, encodings and formulas, words, headers and lines with their causes, and what
-//! is written of them.
+//! Trials of the crates at the bottom: layouts, encodings and formulas, words, headers and lines with their causes, and
+//! what is written of them.
 #![tactic(auto)]
 
 #[cfg(test)]

@@ -9,7 +9,8 @@ use vms_base::{
 };
 use vms_line::{Act, Boundary, Lane, Line, LineCause, ReportKind, parse_line};
 
-/// Two CPUs, one zone of one node, sixteen items a place, the node's item `slab` in bytes, and the percpu counter `gauge`.
+/// Two CPUs, one zone of one node, sixteen items a place, the node's item `slab` in bytes, and the percpu counter
+/// `gauge`.
 fn header(alloc: Global) -> Result<Header, Fail>
     ensures { IfOk result (λ header. IsHeader header) }
 {

@@ -1,5 +1,5 @@
-//! Trials of the models and of their judges: laws of histories on small tables, calls on plain data against numbers worked
-//! out by hand, calls of kswapd on a machine of one CPU, and small histories of each table with their verdicts.
+//! Trials of the models and of their judges: laws of histories on small tables, calls on plain data against numbers
+//! worked out by hand, calls of kswapd on a machine of one CPU, and small histories of each table with their verdicts.
 #![tactic(auto)]
 
 #[cfg(test)]

@@ -340,7 +340,8 @@ limited_add-adds batch unknown cpus cpu j limit amount ks answer is =
     (λ n. does-limited_add n batch unknown cpus cpu j limit amount ks answer is)
 
 -- the caller of such steps is idle after them if it was before
-pub LeavesIdle-holds : (facts : PcpuFacts) (earlier later : History) (p : ℕ) (j : PcpuId) (amount : ℤ) (ks : List PcpuStep)
+pub LeavesIdle-holds : (facts : PcpuFacts) (earlier later : History) (p : ℕ) (j : PcpuId) (amount : ℤ)
+    (ks : List PcpuStep)
     → MadeSteps facts earlier later p ks → AddsAmount j amount ks → IsIdle (own earlier p)
     → LeavesIdle earlier later p j amount
 LeavesIdle-holds facts earlier later p j amount ks made adds idle =

@@ -22,7 +22,8 @@ use Rattle.vms_phase.specs.Totals.{AddsUp}
 use Rattle.vms_calls.specs.HeaderFacts.{facts_of}
 use Rattle.vms_phase.proofs.RunChanges.{HasSettings-change, cpu-same, systems-change, within-change}
 use Rattle.vms_phase.proofs.RunStates.{system-most, value-most}
-use Rattle.vms_phase.proofs.RunTotals.{counter_known-holds, cpu_known-holds, delta-known, plain_total-item, volume-known}
+use Rattle.vms_phase.proofs.RunTotals.{counter_known-holds, cpu_known-holds, delta-known, plain_total-item}
+use Rattle.vms_phase.proofs.RunTotals.{volume-known}
 use Rattle.vms_script.specs.Totals.{ArePhases}
 use Rattle.vms_text.specs.declared.acts.Item.{Item}
 

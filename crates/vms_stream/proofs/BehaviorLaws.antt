@@ -82,7 +82,8 @@ module _ {S : Type 0} (behavior : Behavior S) where
 
   -- where a line of the first part stops it
   pub halted-stops : (s : S) (lines more : List (List ℕ)) (halt : Halt) → halted behavior s lines ≡ Some halt
-      → (halted behavior s (lines ++ more) ≡ Some halt) × (printed behavior s (lines ++ more) ≡ printed behavior s lines)
+      → (halted behavior s (lines ++ more) ≡ Some halt)
+      × (printed behavior s (lines ++ more) ≡ printed behavior s lines)
   halted-stops s [] more halt some = absurd cc
   halted-stops s (line ∷ lines) more halt some =
       by (behavior.halts s line) refl (halted-stops (behavior.next s line) lines more halt)

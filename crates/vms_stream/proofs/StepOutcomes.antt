@@ -37,7 +37,8 @@ module _ {S : Type 0} (behavior : Behavior S) (shows : S → Type 0) where
       }
 
   -- no piece is open
-  pub no_piece : (taken : List ℕ) → length taken ≤ most_bytes → halted behavior behavior.start (whole_lines taken) ≡ None
+  pub no_piece : (taken : List ℕ) → length taken ≤ most_bytes
+      → halted behavior behavior.start (whole_lines taken) ≡ None
       → IsLastPiece behavior taken
   no_piece taken within none = record {
     before = taken;
@@ -62,7 +63,8 @@ module _ {S : Type 0} (behavior : Behavior S) (shows : S → Type 0) where
   before_end {stands} taken written course is isnt = (
     record {
       within = is.within;
-      none_halts = subst (λ (b : Bool). halted behavior behavior.start (lines_judged b taken) ≡ None) isnt is.none_halts;
+      none_halts = subst (λ (b : Bool). halted behavior behavior.start (lines_judged b taken) ≡ None) isnt
+          is.none_halts;
       all_written = subst (λ (b : Bool). written ≡ printed behavior behavior.start (lines_judged b taken))
           isnt is.all_written;
     },
@@ -172,7 +174,8 @@ module _ {S : Type 0} (behavior : Behavior S) (shows : S → Type 0) where
       }
 
       module _ (halt : Option Halt) (waiting : List ℕ)
-          (judges : (s : S) → stands s → TakesLines behavior stands' s (lines_held read) halt read.waiting.items waiting)
+          (judges : (s : S) → stands s
+          → TakesLines behavior stands' s (lines_held read) halt read.waiting.items waiting)
         where
           judged : TakesLines behavior stands' behavior.start (lines_counted read.at_end text) halt []
               (written ++ waiting)

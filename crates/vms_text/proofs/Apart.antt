@@ -26,7 +26,8 @@ module _ {X : Type 0} (R : X → X → Type 0) where
   AllPairs-append (x ∷ xs) ys first second apart =
       let head : All (R x) xs = λ k d within. first zero (suc k) d (omega arith) (omega arith) in
       AllPairs-cons R x (xs ++ ys) (All-append (R x) xs ys head (All-head (λ z. All (R z) ys) x xs apart))
-      (AllPairs-append xs ys (λ i j d before within. first (suc i) (suc j) d (omega arith) (omega arith)) second (All-tail (λ z. All (R z) ys) x xs apart))
+      (AllPairs-append xs ys (λ i j d before within. first (suc i) (suc j) d (omega arith) (omega arith)) second
+      (All-tail (λ z. All (R z) ys) x xs apart))
 
 module _ {X Y : Type 0} (f : X → Y) (R : Y → Y → Type 0) where
   pub AllPairs-from_map : (xs : List X) → AllPairs R (map f xs) → AllPairs (λ a b. R (f a) (f b)) xs
@@ -34,13 +35,15 @@ module _ {X Y : Type 0} (f : X → Y) (R : Y → Y → Type 0) where
       let many = length-map xs f in
       let first = get_or-map f xs i d (f d) (omega arith) in
       let second = get_or-map f xs j d (f d) within in
-      subst (λ (y : Y). R (f (get_or xs i d)) y) second (subst (λ (y : Y). R y (get_or (map f xs) j (f d))) first (pairs i j (f d) before (omega arith)))
+      subst (λ (y : Y). R (f (get_or xs i d)) y) second
+      (subst (λ (y : Y). R y (get_or (map f xs) j (f d))) first (pairs i j (f d) before (omega arith)))
 
   pub AllPairs-map : (xs : List X) → AllPairs (λ a b. R (f a) (f b)) xs → AllPairs R (map f xs)
   AllPairs-map [] pairs = λ i j d before within. absurd (omega arith)
   AllPairs-map (x ∷ xs) pairs =
       let head : All (λ y. R (f x) (f y)) xs = λ k d within. pairs zero (suc k) d (omega arith) (omega arith) in
-      AllPairs-cons R (f x) (map f xs) (All-map (R (f x)) f xs head) (AllPairs-map xs (λ i j d before within. pairs (suc i) (suc j) d (omega arith) (omega arith)))
+      AllPairs-cons R (f x) (map f xs) (All-map (R (f x)) f xs head)
+      (AllPairs-map xs (λ i j d before within. pairs (suc i) (suc j) d (omega arith) (omega arith)))
 
 differ-from : (name : List ℕ) (names : List (List ℕ)) → list_all (λ other. not (bytes_eq name other)) names ≡ true
     → All (λ other. name ≢ other) names
@@ -52,8 +55,10 @@ pub all_differ-pairs : (names : List (List ℕ)) → all_differ names ≡ true �
 all_differ-pairs [] is = λ i j d before within. absurd (omega arith)
 all_differ-pairs (name ∷ names) is =
     let alone = list_all (λ other. not (bytes_eq name other)) names in
-    AllPairs-cons ◌≢◌ name names (differ-from name names (and_left alone (all_differ names) is)) (all_differ-pairs names (and_right alone (all_differ names) is))
+    AllPairs-cons ◌≢◌ name names (differ-from name names (and_left alone (all_differ names) is))
+    (all_differ-pairs names (and_right alone (all_differ names) is))
 
 pub are_apart-AreApart : (names others : List (List ℕ)) → share_no_name names others ≡ true → AreApart names others
 are_apart-AreApart names others is = λ k d within.
-    differ-from (get_or names k d) others (AllPass-from_list_all (λ name. list_all (λ other. not (bytes_eq name other)) others) names is k d within)
+    differ-from (get_or names k d) others
+    (AllPass-from_list_all (λ name. list_all (λ other. not (bytes_eq name other)) others) names is k d within)

@@ -69,7 +69,8 @@ sentence-cons word words = ap (λ text. text ++ 10 ∷ []) (joined-cons word wor
 
 -- one line more
 pub lines-take_more : {X : Type 0} (f : X → List (List ℕ)) (xs : List X) (i : ℕ) (d : X) → i < length xs
-    → flat_map sentence (map f (take (i + 1) xs)) ≡ flat_map sentence (map f (take i xs)) ++ sentence (f (get_or xs i d))
+    → flat_map sentence (map f (take (i + 1) xs))
+    ≡ flat_map sentence (map f (take i xs)) ++ sentence (f (get_or xs i d))
 lines-take_more f xs i d within =
     ap (flat_map sentence) (map_more f xs i d within)
     ∙ flat_map-append sentence (map f (take i xs)) (f (get_or xs i d) ∷ [])

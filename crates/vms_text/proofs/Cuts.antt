@@ -35,15 +35,18 @@ pub slice_split-cut : {X : Type 0} (p : X → Bool) (xs : List X) (end : ℕ) (d
     → slice_split p xs ≡ take end xs ∷ slice_split p (drop (end + 1) xs)
 slice_split-cut p xs end d some =
     let at = position_or_len-some p xs end some in
-    subst (λ n. slice_split p xs ≡ take n xs ∷ slice_split p (drop (n + 1) xs)) at.0 (slice_split_first p xs d (omega (arith, at)))
+    subst (λ n. slice_split p xs ≡ take n xs ∷ slice_split p (drop (n + 1) xs)) at.0
+    (slice_split_first p xs d (omega (arith, at)))
 
 -- what stands before the first element that passes, that element, and what stands after it
 pub position-parts : {X : Type 0} (p : X → Bool) (xs : List X) (end : ℕ) (d : X) → position p xs ≡ Some end
     → (p (get_or xs end d) ≡ true) × (xs ≡ take end xs ++ (get_or xs end d ∷ drop (end + 1) xs))
 position-parts p xs end d some =
     let at = position_or_len-some p xs end some in
-    let stops = prefix_len_stops (λ x. not (p x)) xs d (subst (λ n. n < length xs) (sym at.0) at.1) in
-    (not-false (p (get_or xs end d)) (subst (λ n. not (p (get_or xs n d)) ≡ false) at.0 stops), sym (take-append-drop end xs) ∙ ap (λ rest. take end xs ++ rest) (drop_more xs end d at.1))
+    let stops = prefix_len_stops (λ x. not (p x)) xs d (subst (λ n. n < length xs) (sym at.0) at.1) in (
+      not-false (p (get_or xs end d)) (subst (λ n. not (p (get_or xs n d)) ≡ false) at.0 stops),
+      sym (take-append-drop end xs) ∙ ap (λ rest. take end xs ++ rest) (drop_more xs end d at.1),
+    )
 
 -- no element before the first that passes does
 pub position-before : {X : Type 0} (p : X → Bool) (xs : List X) (end : ℕ) → position p xs ≡ Some end

@@ -11,7 +11,8 @@ use Rattle.vms_text.specs.Numbers.{is_digit}
 -- the number that digits spell after those of this value, if it is at most this one
 abbrev pub digits_from : ℕ → ℕ → List ℕ → Option ℕ
 digits_from most value bytes =
-    cond (list_all is_digit bytes && nat_le (digits_value_after 10 value bytes) most) (Some (digits_value_after 10 value bytes)) None
+    cond (list_all is_digit bytes && nat_le (digits_value_after 10 value bytes) most)
+    (Some (digits_value_after 10 value bytes)) None
 
 digits_value_after-le : (value : ℕ) (bytes : List ℕ) → value ≤ digits_value_after 10 value bytes
 digits_value_after-le value [] = omega arith

@@ -26,7 +26,8 @@ name_byte byte is = grind (arith, nat_tests)
 name_bytes : (word : List ℕ) → list_all is_name_byte word ≡ true → list_all is_word_byte word ≡ true
 name_bytes [] is = refl
 name_bytes (byte ∷ word) is =
-    ap (λ b. b && list_all is_word_byte word) (name_byte byte (and_left (is_name_byte byte) (list_all is_name_byte word) is))
+    ap (λ b. b && list_all is_word_byte word)
+    (name_byte byte (and_left (is_name_byte byte) (list_all is_name_byte word) is))
     ∙ name_bytes word (and_right (is_name_byte byte) (list_all is_name_byte word) is)
 
 letter_byte : (byte : ℕ) → is_letter byte ≡ true → is_word_byte byte ≡ true
@@ -41,7 +42,8 @@ name-short (byte ∷ bytes) is =
     let most : length bytes ≤ 15 = grind (arith, nat_tests) in
     let first = letter_byte byte (and_left (is_letter byte) (list_all is_name_byte bytes) front) in
     let rest = name_bytes bytes (and_right (is_letter byte) (list_all is_name_byte bytes) front) in
-    is_short-from (byte ∷ bytes) (omega arith) (ap (λ b. b && list_all is_word_byte bytes) first ∙ rest) (omega (arith, most))
+    is_short-from (byte ∷ bytes) (omega arith) (ap (λ b. b && list_all is_word_byte bytes) first ∙ rest)
+    (omega (arith, most))
 
 abbrev fixed : List (List ℕ)
 fixed = zone_items ++ node_items
@@ -53,13 +55,17 @@ fixed_false false is = refl
 abbrev name_of : ItemDecl → List ℕ
 name_of item = item.name
 
-module _ (items : List ItemDecl) (valid : All IsValidItem items) (differ : AllPairs ◌≢◌ (map (λ item. item.name) items)) where
+module _ (items : List ItemDecl) (valid : All IsValidItem items)
+    (differ : AllPairs ◌≢◌ (map (λ item. item.name) items)) where
   declared-short : (node : Bool) → list_all is_short (declared_names node items) ≡ true
   declared-short node =
       let some = filter (λ item. cond node item.node (not item.node)) items in
       let each =
-      All-weaker IsValidItem (λ item. is_short item.name ≡ true) (λ item is. name-short item.name is.form) items valid in
-      list_all-from_AllPass is_short (declared_names node items) (All-map (λ name. is_short name ≡ true) name_of some (All-filter (λ item. cond node item.node (not item.node)) (λ item. is_short item.name ≡ true) items each))
+      All-weaker IsValidItem (λ item. is_short item.name ≡ true)
+      (λ item is. name-short item.name is.form) items valid in
+      list_all-from_AllPass is_short (declared_names node items)
+      (All-map (λ name. is_short name ≡ true) name_of some
+      (All-filter (λ item. cond node item.node (not item.node)) (λ item. is_short item.name ≡ true) items each))
 
   pub class_names-short : (node : Bool) → list_all is_short (class_names node items) ≡ true
   class_names-short true = list_all-append is_short node_items (declared_names true items) ∙ declared-short true
@@ -68,7 +74,8 @@ module _ (items : List ItemDecl) (valid : All IsValidItem items) (differ : AllPa
   declared-differ : (node : Bool) → AllPairs ◌≢◌ (declared_names node items)
   declared-differ node =
       AllPairs-map name_of ◌≢◌ (filter (λ item. cond node item.node (not item.node)) items)
-      (AllPairs-filter (λ (a b : ItemDecl). a.name ≢ b.name) (λ item. cond node item.node (not item.node)) items (AllPairs-from_map name_of ◌≢◌ items differ))
+      (AllPairs-filter (λ (a b : ItemDecl). a.name ≢ b.name) (λ item. cond node item.node (not item.node)) items
+      (AllPairs-from_map name_of ◌≢◌ items differ))
 
   declared-new : (node : Bool) → All (λ name. ¬ Contains fixed name) (declared_names node items)
   declared-new node =
@@ -80,23 +87,28 @@ module _ (items : List ItemDecl) (valid : All IsValidItem items) (differ : AllPa
       → AreApart some (declared_names node items)
   fixed-apart node some among =
       All-weaker (Contains fixed) (λ name. All (λ other. name ≢ other) (declared_names node items))
-      (λ name stands. All-weaker (λ other. ¬ Contains fixed other) (λ other. name ≢ other) (λ other new same. new (subst (Contains fixed) same stands)) (declared_names node items) (declared-new node))
+      (λ name stands. All-weaker (λ other. ¬ Contains fixed other) (λ other. name ≢ other)
+      (λ other new same. new (subst (Contains fixed) same stands)) (declared_names node items) (declared-new node))
       some among
 
   zones_among : All (Contains fixed) zone_items
   zones_among =
-      All-weaker (Contains zone_items) (Contains fixed) (λ name. Contains-append_left zone_items node_items name) zone_items (All-contains_itself zone_items)
+      All-weaker (Contains zone_items) (Contains fixed)
+      (λ name. Contains-append_left zone_items node_items name) zone_items (All-contains_itself zone_items)
 
   nodes_among : All (Contains fixed) node_items
   nodes_among =
-      All-weaker (Contains node_items) (Contains fixed) (λ name. Contains-append_right zone_items node_items name) node_items (All-contains_itself node_items)
+      All-weaker (Contains node_items) (Contains fixed)
+      (λ name. Contains-append_right zone_items node_items name) node_items (All-contains_itself node_items)
 
   -- the items of a class have different names
   pub class_names-differ : (node : Bool) → AllPairs ◌≢◌ (class_names node items)
   class_names-differ true =
-      AllPairs-append ◌≢◌ node_items (declared_names true items) (all_differ-pairs node_items refl) (declared-differ true) (fixed-apart true node_items nodes_among)
+      AllPairs-append ◌≢◌ node_items (declared_names true items) (all_differ-pairs node_items refl)
+      (declared-differ true) (fixed-apart true node_items nodes_among)
   class_names-differ false =
-      AllPairs-append ◌≢◌ zone_items (declared_names false items) (all_differ-pairs zone_items refl) (declared-differ false) (fixed-apart false zone_items zones_among)
+      AllPairs-append ◌≢◌ zone_items (declared_names false items) (all_differ-pairs zone_items refl)
+      (declared-differ false) (fixed-apart false zone_items zones_among)
 
   item_apart : (a b : ItemDecl) → Contains items a → Contains items b → a.node ≡ true → b.node ≡ false → a.name ≢ b.name
   item_apart a b (i, i_within, a_is) (j, j_within, b_is) of_node of_zone same =
@@ -128,7 +140,8 @@ module _ (items : List ItemDecl) (valid : All IsValidItem items) (differ : AllPa
       (All-filter (λ item. cond true item.node (not item.node)) (Contains items) items itself i d here)
       (All-filter (λ item. cond false item.node (not item.node)) (Contains items) items itself j e there)
       (filter_passes (λ item. cond true item.node (not item.node)) items i d here)
-      (fixed_false (get_or zones j e).node (filter_passes (λ item. cond false item.node (not item.node)) items j e there))))
+      (fixed_false (get_or zones j e).node
+      (filter_passes (λ item. cond false item.node (not item.node)) items j e there))))
 
   -- no item of the nodes has the name of one of the zones
   pub class_names-apart : AreApart (class_names true items) (class_names false items)
@@ -139,5 +152,7 @@ module _ (items : List ItemDecl) (valid : All IsValidItem items) (differ : AllPa
       let from_declared =
       AreApart-flipped zone_items (declared_names true items) (fixed-apart true zone_items zones_among) in
       All-append (λ name. All (λ other. name ≢ other) (zone_items ++ zones)) node_items (declared_names true items)
-      (λ k d within. All-append (λ other. get_or node_items k d ≢ other) zone_items zones (to_fixed k d within) (to_declared k d within))
-      (λ k d within. All-append (λ other. get_or (declared_names true items) k d ≢ other) zone_items zones (from_declared k d within) (declared-apart k d within))
+      (λ k d within. All-append (λ other. get_or node_items k d ≢ other) zone_items zones (to_fixed k d within)
+      (to_declared k d within))
+      (λ k d within. All-append (λ other. get_or (declared_names true items) k d ≢ other) zone_items zones
+      (from_declared k d within) (declared-apart k d within))

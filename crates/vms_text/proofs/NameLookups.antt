@@ -21,7 +21,8 @@ module _ {X : Type 0} (p : X → Bool) where
   position-nowhere [] fails = refl
   position-nowhere (x ∷ xs) fails =
       let at =
-      position_or_len_is p (x ∷ xs) (length (x ∷ xs)) x (omega arith) (λ k within. fails k x within) (λ within. absurd (omega arith)) in
+      position_or_len_is p (x ∷ xs) (length (x ∷ xs)) x (omega arith) (λ k within. fails k x within)
+      (λ within. absurd (omega arith)) in
       let test : nat_lt (length (x ∷ xs)) (length (x ∷ xs)) ≡ false = grind (arith, nat_tests) in
       ap (λ n. cond (nat_lt n (length (x ∷ xs))) (Some n) None) at ∙ ap (λ b. cond b (Some (length (x ∷ xs))) None) test
 
@@ -40,7 +41,8 @@ pub position-name : (names : List (List ℕ)) (i : ℕ) → AllPairs ◌≢◌ n
     → position (bytes_eq (get_or names i [])) names ≡ Some i
 position-name names i differ within =
     position-first (bytes_eq (get_or names i [])) names i [] within (bytes_eq-same (get_or names i []))
-    (λ k before. bytes_eq-other (get_or names i []) (get_or names k []) (λ same. differ k i [] before within (sym same)))
+    (λ k before. bytes_eq-other (get_or names i []) (get_or names k [])
+    (λ same. differ k i [] before within (sym same)))
 
 -- whether no name of the second list stands in the first
 abbrev pub share_no_name : List (List ℕ) → List (List ℕ) → Bool

@@ -38,7 +38,8 @@ numeral-from_digits (byte ∷ next ∷ word) digits some first = grind (arith, n
 decimal-numeral : (n : ℕ) → n < 2 ^ 64 → is_numeral (decimal n) ≡ true
 decimal-numeral zero fits = rw (decimal_digit 0 (omega arith)) refl
 decimal-numeral (suc n) fits =
-    numeral-from_digits (decimal (suc n)) (digits_decimal own (suc n) fits) (decimal_nonempty (suc n) fits) (λ leads. absurd (omega (arith, first_decimal (suc n) (omega arith) fits, leads)))
+    numeral-from_digits (decimal (suc n)) (digits_decimal own (suc n) fits) (decimal_nonempty (suc n) fits)
+    (λ leads. absurd (omega (arith, first_decimal (suc n) (omega arith) fits, leads)))
 
 pub number_within-decimal : (least most n : ℕ) → n < 2 ^ 64 → least ≤ n → n ≤ most
     → number_within least most (decimal n) ≡ Some n
@@ -52,12 +53,16 @@ number_within-spelling : (least most n : ℕ) (word : List ℕ) → n < 2 ^ 64 �
 number_within-spelling least most n word fits some =
     let is = number_within-is least most word n some in
     let spelled =
-    decimal-digits_value own word (numeral-digits word is.numeral) (numeral-nonempty word is.numeral) (numeral-first word is.numeral) (subst (λ value. value < 2 ^ 64) (sym is.value) fits) in
+    decimal-digits_value own word (numeral-digits word is.numeral) (numeral-nonempty word is.numeral)
+    (numeral-first word is.numeral) (subst (λ value. value < 2 ^ 64) (sym is.value) fits) in
     sym spelled ∙ ap decimal is.value
 
 pub unsigned_of-reads : (n : ℕ) (word : List ℕ) → n < 2 ^ 64 → (unsigned_of word ≡ Some n) ↔ (word ≡ decimal n)
-unsigned_of-reads n word fits =
-    (number_within-spelling 0 (2 ^ 64 - 1) n word fits, λ spelled. ap unsigned_of spelled ∙ number_within-decimal 0 (2 ^ 64 - 1) n fits (omega arith) (omega arith))
+unsigned_of-reads n word fits = (
+  number_within-spelling 0 (2 ^ 64 - 1) n word fits,
+  λ spelled. ap unsigned_of spelled
+      ∙ number_within-decimal 0 (2 ^ 64 - 1) n fits (omega arith) (omega arith),
+)
 
 negative-spelling : (z : ℤ) (word : List ℕ) (size : Option ℕ) → number_within 0 (2 ^ 63) word ≡ size
     → negative_of size ≡ Some z → (45 ∷ word) ≡ signed_decimal z
@@ -81,7 +86,9 @@ positive-spelling z word (Some n) is some =
 signed_of-spelling : (z : ℤ) (word : List ℕ) → signed_of word ≡ Some z → word ≡ signed_decimal z
 signed_of-spelling z [] some = absurd cc
 signed_of-spelling z (byte ∷ word) some =
-    elim (byte == 45) as (λ b. byte == 45 ≡ b → cond b (negative_of (number_within 0 (2 ^ 63) word)) (option_map pos (number_within 0 (2 ^ 63 - 1) (byte ∷ word))) ≡ Some z → (byte ∷ word) ≡ signed_decimal z) [
+    elim (byte == 45) as (λ b. byte == 45 ≡ b
+    → cond b (negative_of (number_within 0 (2 ^ 63) word))
+    (option_map pos (number_within 0 (2 ^ 63 - 1) (byte ∷ word))) ≡ Some z → (byte ∷ word) ≡ signed_decimal z) [
       | true ↦ λ is minus.
           let first : byte ≡ 45 = grind (arith, nat_tests) in
           ap (λ head. head ∷ word) first ∙ negative-spelling z word (number_within 0 (2 ^ 63) word) refl minus

@@ -20,7 +20,9 @@ is_other byte = not (is_word_byte byte)
 abbrev pub word_of : List ℕ → List (List ℕ)
 word_of piece = filter (λ word. not (is_empty word)) (piece ∷ [])
 
-filter-cons : (piece : List ℕ) (pieces : List (List ℕ)) → filter (λ word. not (is_empty word)) (piece ∷ pieces) ≡ word_of piece ++ filter (λ word. not (is_empty word)) pieces
+filter-cons : (piece : List ℕ) (pieces : List (List ℕ))
+    → filter (λ word. not (is_empty word)) (piece ∷ pieces)
+    ≡ word_of piece ++ filter (λ word. not (is_empty word)) pieces
 filter-cons [] pieces = refl
 filter-cons (byte ∷ piece) pieces = refl
 
@@ -48,7 +50,9 @@ words_of-run line begin at d after within run ends =
     let rest : drop (at - begin) (drop begin line) ≡ get_or line at d ∷ drop (at + 1) line =
     drop-drop (at - begin) begin line ∙ ap (λ n. drop n line) reach ∙ drop_more line at d within in
     ap words_of (sym (take-append-drop (at - begin) (drop begin line)) ∙ ap (λ tail. piece ++ tail) rest)
-    ∙ ap (filter (λ word. not (is_empty word))) (slice_split_at is_other piece (get_or line at d) (drop (at + 1) line) (run_bytes line begin at after (omega arith) run) (ap not ends))
+    ∙ ap (filter (λ word. not (is_empty word)))
+    (slice_split_at is_other piece (get_or line at d) (drop (at + 1) line)
+    (run_bytes line begin at after (omega arith) run) (ap not ends))
     ∙ filter-cons piece (slice_split is_other (drop (at + 1) line))
 
 -- a run that ends with the line is the last word, if it isn't empty
@@ -57,7 +61,8 @@ words_of-last_run : (line : List ℕ) (begin : ℕ) → begin ≤ length line �
 words_of-last_run line begin after run =
     let bytes = run_bytes line begin (length line) after (omega arith) run in
     ap words_of (sym (take_rest line begin))
-    ∙ ap (filter (λ word. not (is_empty word))) (slice_split_none is_other (take (length line - begin) (drop begin line)) bytes)
+    ∙ ap (filter (λ word. not (is_empty word)))
+    (slice_split_none is_other (take (length line - begin) (drop begin line)) bytes)
 
 -- the first words of words that are cut short
 pub take-take-append : {A : Type 0} → (n : ℕ) (xs ys : List A) → take n (take n xs ++ ys) ≡ take n (xs ++ ys)
@@ -65,7 +70,8 @@ take-take-append zero xs ys = refl
 take-take-append (suc n) [] ys = refl
 take-take-append (suc n) (x ∷ xs) ys = ap (λ more. x ∷ more) (take-take-append n xs ys)
 
--- a line that is cut up to a byte: the words that end before `begin`, eight at most, and whether no byte before `at` is wrong
+-- a line that is cut up to a byte: the words that end before `begin`, eight at most, and whether no byte before `at`
+-- is wrong
 pub record IsCut (line : List ℕ) (words : List (List ℕ)) (clean : Bool) (begin at : ℕ) : Type 0 where
   pub after : begin ≤ at
   pub run : IsRun line begin at
@@ -122,7 +128,8 @@ IsCut-other line words words' clean begin at within other added cut =
       run = λ k d low high. absurd (omega arith);
       words_are = ap (λ before. take 8 (before ++ words_of (drop (at + 1) line))) added
           ∙ take-take-append 8 (words ++ word_of (take (at - begin) (drop begin line))) (words_of (drop (at + 1) line))
-          ∙ ap (take 8) (append_assoc words (word_of (take (at - begin) (drop begin line))) (words_of (drop (at + 1) line)))
+          ∙ ap (take 8) (append_assoc words (word_of (take (at - begin) (drop begin line)))
+          (words_of (drop (at + 1) line)))
           ∙ ap (λ more. take 8 (words ++ more)) (sym (words_of-run line begin at 0 cut.after within cut.run other))
           ∙ cut.words_are;
       clean_is =
@@ -191,8 +198,10 @@ is_ignored-word line begin end word =
     ∙ ap (λ k. get_or line k 0) nothing in
     let byte : is_word_byte (get_or line begin 0) ≡ true = ap is_word_byte (sym same) ∙ word.of_word_bytes 0 0 filled in
     let blank =
-    not_all is_blank_byte line begin (omega (arith, word.filled, word.within)) (word_byte-not_blank (get_or line begin 0) byte) in
-    sym (ap (λ b. b || is_comment (words_of line)) blank ∙ ap is_comment word.words ∙ comment-first first (words_of (drop end line)) filled ∙ ap (λ one. one == 35) same)
+    not_all is_blank_byte line begin (omega (arith, word.filled, word.within))
+    (word_byte-not_blank (get_or line begin 0) byte) in
+    sym (ap (λ b. b || is_comment (words_of line)) blank ∙ ap is_comment word.words
+    ∙ comment-first first (words_of (drop end line)) filled ∙ ap (λ one. one == 35) same)
 
 -- a line with no word is ignored where it holds nothing but blanks
 pub is_ignored-none : (line : List ℕ) → words_of line ≡ [] → list_all is_blank_byte line ≡ is_ignored line

@@ -70,15 +70,18 @@ module _ (shape : Shape) (layout : IsLayout shape) where
       → zone_place shape (get_or shape.zones place d) ≡ Some place
   zone_place-own place d within =
       let name = get_or shape.zones place d in
-      position-first (λ zone. rank_of zone == rank_of name) shape.zones place d within (eq-eqb (rank_of name) (rank_of name) refl)
-      (λ k before. below-other (rank_of (get_or shape.zones k d)) (rank_of name) (rises rank_of shape.zones layout.zones_ascend k place d before within))
+      position-first (λ zone. rank_of zone == rank_of name) shape.zones place d
+      within (eq-eqb (rank_of name) (rank_of name) refl)
+      (λ k before. below-other (rank_of (get_or shape.zones k d)) (rank_of name)
+      (rises rank_of shape.zones layout.zones_ascend k place d before within))
 
   node_position : (index : ℕ) → index < length shape.nodes
       → position (λ node. node == get_or shape.nodes index 0) shape.nodes ≡ Some index
   node_position index within =
       let node = get_or shape.nodes index 0 in
       position-first (λ other. other == node) shape.nodes index 0 within (eq-eqb node node refl)
-      (λ k before. below-other (get_or shape.nodes k 0) node (AllPairs-from_increasing shape.nodes layout.nodes_ascend k index 0 before within))
+      (λ k before. below-other (get_or shape.nodes k 0) node
+      (AllPairs-from_increasing shape.nodes layout.nodes_ascend k index 0 before within))
 
   pub node_place-own : (index : ℕ) → index < length shape.nodes
       → node_place shape (get_or shape.nodes index 0) ≡ Some (length shape.zones + index)
@@ -93,7 +96,8 @@ module _ (shape : Shape) (layout : IsLayout shape) where
       let read = get_or-map node_of shape.zones place d 0 within in
       let stands = Contains-get_or (map node_of shape.zones) place 0 (omega (arith, length-map shape.zones node_of)) in
       All-contains (λ node. node ≤ 15) shape.nodes (get_or shape.zones place d).node layout.nodes_most
-      ((layout.nodes_named (get_or shape.zones place d).node).1 (subst (Contains (map node_of shape.zones)) read stands))
+      ((layout.nodes_named (get_or shape.zones place d).node).1
+      (subst (Contains (map node_of shape.zones)) read stands))
 
   pub node_at-own : (place : ℕ) → IsNode shape place
       → node_at shape place ≡ Some (get_or shape.nodes (place - length shape.zones) 0)
@@ -106,20 +110,29 @@ some_zone = record { node = 0; kind = Dma }
 
 module _ (header : Header) (layout : IsLayout header.layout) where
   pub place_words-zone : (place : ℕ) (d : ZoneName) → place < length header.layout.zones
-      → place_words header place ≡ decimal (get_or header.layout.zones place d).node ∷ kind_word (get_or header.layout.zones place d).kind ∷ []
+      → place_words header place
+      ≡ decimal (get_or header.layout.zones place d).node ∷ kind_word (get_or header.layout.zones place d).kind ∷ []
   place_words-zone place d within =
       let test : nat_lt place (length header.layout.zones) ≡ true = grind (arith, nat_tests) in
-      rw (test, slice_get-get_or header.layout.zones place d within, kind_word-entry (get_or header.layout.zones place d).kind) refl
+      rw (
+        test,
+        slice_get-get_or header.layout.zones place d within,
+        kind_word-entry (get_or header.layout.zones place d).kind,
+      ) refl
 
-  pub place_words-node : (place : ℕ) → IsNode header.layout place → place_words header place ≡ decimal (get_or header.layout.nodes (place - length header.layout.zones) 0) ∷ codes "node" ∷ []
+  pub place_words-node : (place : ℕ) → IsNode header.layout place
+      → place_words header place
+      ≡ decimal (get_or header.layout.nodes (place - length header.layout.zones) 0) ∷ codes "node" ∷ []
   place_words-node place is =
       let test : nat_lt place (length header.layout.zones) ≡ false = grind (arith, nat_tests) in
       rw (test, slice_get-get_or header.layout.nodes (place - length header.layout.zones) 0 (omega arith)) refl
 
   pub zone_named-own : (place : ℕ) (d : ZoneName) → place < length header.layout.zones
-      → zone_named header.layout (get_or header.layout.zones place d).node (kind_word (get_or header.layout.zones place d).kind) ≡ Some place
+      → zone_named header.layout (get_or header.layout.zones place d).node
+      (kind_word (get_or header.layout.zones place d).kind) ≡ Some place
   zone_named-own place d within =
-      rw (kind_named-word (get_or header.layout.zones place d).kind) (zone_place-own header.layout layout place d within)
+      rw (kind_named-word (get_or header.layout.zones place d).kind)
+      (zone_place-own header.layout layout place d within)
 
   pub zone-spelled : (place : ℕ) → place < length header.layout.zones
       → SpellsPlace header.layout (place_words header place) place

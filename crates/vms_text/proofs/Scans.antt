@@ -33,7 +33,8 @@ run_bytes bytes = λ k d below.
     let size = position_or_len is_other bytes in
     let short : k < size =
     omega (arith, length-take-le size bytes (prefix_len-le-length (λ byte. not (is_other byte)) bytes), below) in
-    subst (λ byte. is_word_byte byte ≡ true) (sym (get_or-take size bytes k d short)) (not-false (is_word_byte (get_or bytes k d)) (fails_before_first is_other bytes k d short))
+    subst (λ byte. is_word_byte byte ≡ true) (sym (get_or-take size bytes k d short))
+    (not-false (is_word_byte (get_or bytes k d)) (fails_before_first is_other bytes k d short))
 
 ends : (bytes : List ℕ) → position_or_len is_other bytes < length bytes
     → is_word_byte (get_or bytes (position_or_len is_other bytes) 0) ≡ false
@@ -72,7 +73,8 @@ BeginsWord-run bytes size is some first =
       of_word_bytes = run_bytes bytes;
       ends = ends bytes;
       words =
-          run_words bytes run (filled bytes some first) within (run_bytes bytes) (ends bytes) (less_or_not run (length bytes));
+          run_words bytes run (filled bytes some first) within (run_bytes bytes) (ends bytes)
+          (less_or_not run (length bytes));
     })
 
 -- bytes with none of a word have no word
@@ -116,6 +118,7 @@ IsNextWord-found line from skipped size inside some is =
           ∙ ap (λ n. take n tail ∷ words_of (drop (begin + size) line)) (sym width);
       of_word_bytes = subst (λ n. All (λ byte. is_word_byte byte ≡ true) (take n tail)) (sym width) run.of_word_bytes;
       none_before =
-          subst (λ n. All (λ byte. is_word_byte byte ≡ false) (take n rest)) (sym before) (position-before is_word_byte rest skipped some);
+          subst (λ n. All (λ byte. is_word_byte byte ≡ false) (take n rest)) (sym before)
+          (position-before is_word_byte rest skipped some);
       ends = λ more. ap is_word_byte (sym (get_or-drop begin line size 0)) ∙ run.ends (omega arith);
     }

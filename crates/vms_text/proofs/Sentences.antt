@@ -74,7 +74,8 @@ clean_joined [] short = refl
 clean_joined (word ∷ []) short = is_clean-word word (ShortWord-from word (and_left (is_short word) true short)).bytes
 clean_joined (word ∷ next ∷ words) short =
     let more = list_all is_short (next ∷ words) in
-    clean_both word (32 ∷ joined (next ∷ words)) (is_clean-word word (ShortWord-from word (and_left (is_short word) more short)).bytes)
+    clean_both word (32 ∷ joined (next ∷ words))
+    (is_clean-word word (ShortWord-from word (and_left (is_short word) more short)).bytes)
     (clean_joined (next ∷ words) (and_right (is_short word) more short))
 
 length-joined : (words : List (List ℕ)) → list_all is_short words ≡ true → length (joined words) ≤ 22 * length words
@@ -126,7 +127,8 @@ filled_words : (words : List (List ℕ)) → IsFew words → list_all is_blank_b
 filled_words [] is = absurd (omega (arith, is.some))
 filled_words (word ∷ words) is =
     ap (list_all is_blank_byte) (joined-cons word words)
-    ∙ filled_line word (spaced words) (ShortWord-from word (and_left (is_short word) (list_all is_short words) is.short))
+    ∙ filled_line word (spaced words)
+    (ShortWord-from word (and_left (is_short word) (list_all is_short words) is.short))
 
 pub few-ignored : (words : List (List ℕ)) → IsFew words → is_ignored (joined words) ≡ false
 few-ignored words is =

@@ -29,7 +29,8 @@ digit_byte byte is = grind (arith, nat_tests)
 digit_bytes : (word : List ℕ) → list_all is_digit word ≡ true → list_all is_word_byte word ≡ true
 digit_bytes [] digits = refl
 digit_bytes (byte ∷ word) digits =
-    ap (λ b. b && list_all is_word_byte word) (digit_byte byte (and_left (is_digit byte) (list_all is_digit word) digits))
+    ap (λ b. b && list_all is_word_byte word)
+    (digit_byte byte (and_left (is_digit byte) (list_all is_digit word) digits))
     ∙ digit_bytes word (and_right (is_digit byte) (list_all is_digit word) digits)
 
 decimal-bytes : (n : ℕ) → n < 2 ^ 64 → list_all is_word_byte (decimal n) ≡ true
@@ -41,12 +42,14 @@ length-decimal-most n fits = length-decimal-le 20 n (omega arith) (omega arith) 
 -- a number of 64 bits is a short word
 pub decimal-short : (n : ℕ) → n < 2 ^ 64 → is_short (decimal n) ≡ true
 decimal-short n fits =
-    is_short-from (decimal n) (decimal_nonempty n fits) (decimal-bytes n fits) (omega (arith, length-decimal-most n fits))
+    is_short-from (decimal n) (decimal_nonempty n fits) (decimal-bytes n fits)
+    (omega (arith, length-decimal-most n fits))
 
 -- so is it after a byte of a word
 pub decimal-after : (byte n : ℕ) → is_word_byte byte ≡ true → n < 2 ^ 64 → is_short (byte ∷ decimal n) ≡ true
 decimal-after byte n is fits =
-    is_short-from (byte ∷ decimal n) (omega arith) (ap (λ b. b && list_all is_word_byte (decimal n)) is ∙ decimal-bytes n fits)
+    is_short-from (byte ∷ decimal n) (omega arith)
+    (ap (λ b. b && list_all is_word_byte (decimal n)) is ∙ decimal-bytes n fits)
     (omega (arith, length-decimal-most n fits))
 
 pub signed-short : (z : ℤ) → FitsSigned w64 z → is_short (signed_decimal z) ≡ true

@@ -26,13 +26,15 @@ pub slice_split-append : {X : Type 0} (p : X → Bool) (before : List X) (y : X)
     → slice_split p (before ++ (y ∷ after)) ≡ slice_split p before ++ slice_split p after
 slice_split-append p [] y after passes = slice_split-cons_yes p y after passes
 slice_split-append p (x ∷ before) y after passes =
-    elim (p x) as (λ b. p x ≡ b → slice_split p (x ∷ (before ++ (y ∷ after))) ≡ slice_split p (x ∷ before) ++ slice_split p after) [
+    elim (p x) as (λ b. p x ≡ b
+    → slice_split p (x ∷ (before ++ (y ∷ after))) ≡ slice_split p (x ∷ before) ++ slice_split p after) [
       | true ↦ λ yes. slice_split-cons_yes p x (before ++ (y ∷ after)) yes
           ∙ ap (λ parts. [] ∷ parts) (slice_split-append p before y after passes)
           ∙ ap (λ parts. parts ++ slice_split p after) (sym (slice_split-cons_yes p x before yes))
       | false ↦ λ no. slice_split-cons_no p x (before ++ (y ∷ after)) no
           ∙ ap (onto_first x) (slice_split-append p before y after passes)
-          ∙ onto_first-append x (slice_split p before) (slice_split p after) (omega (arith, length-slice_split p before))
+          ∙ onto_first-append x (slice_split p before) (slice_split p after)
+          (omega (arith, length-slice_split p before))
           ∙ ap (λ parts. parts ++ slice_split p after) (sym (slice_split-cons_no p x before no))
     ] refl
 
@@ -55,7 +57,8 @@ pub lines_of-ended : (before after : List ℕ)
     → lines_of (before ++ (10 ∷ after)) ≡ slice_split is_end before ++ lines_of after
 lines_of-ended before after =
     ap without_last_empty (slice_split-append is_end before 10 after refl)
-    ∙ without_last_empty-append (slice_split is_end before) (slice_split is_end after) (omega (arith, length-slice_split is_end after))
+    ∙ without_last_empty-append (slice_split is_end before) (slice_split is_end after)
+    (omega (arith, length-slice_split is_end after))
 
 pub lines_of-nil : lines_of [] ≡ []
 lines_of-nil = refl
@@ -105,8 +108,10 @@ drop_last (byte ∷ line) one = ap (drop 1) (lines_of-last (byte ∷ line) one (
 -- the lines after the first one
 pub lines_of-split : (text line rest : List ℕ) → SplitsLine text line rest → lines_of rest ≡ drop 1 (lines_of text)
 lines_of-split text line rest splits = elim splits.parts [
-  | inl ended ↦ sym (ap (λ bytes. drop 1 (lines_of bytes)) ended ∙ ap (drop 1) (lines_of-first line rest splits.one_line))
-  | inr whole ↦ ap lines_of whole.1 ∙ sym (ap (λ bytes. drop 1 (lines_of bytes)) whole.0 ∙ drop_last line splits.one_line)
+  | inl ended ↦ sym (ap (λ bytes. drop 1 (lines_of bytes)) ended
+      ∙ ap (drop 1) (lines_of-first line rest splits.one_line))
+  | inr whole ↦ ap lines_of whole.1
+      ∙ sym (ap (λ bytes. drop 1 (lines_of bytes)) whole.0 ∙ drop_last line splits.one_line)
 ]
 
 -- the rest is what stands after so many lines, with their ends
@@ -126,7 +131,8 @@ lines_of-after : (front line next : List ℕ) → All (λ byte. byte ≢ 10) lin
     → ((next : List ℕ) → lines_of (front ++ next) ≡ lines_of front ++ lines_of next)
     → lines_of ((front ++ (line ++ (10 ∷ []))) ++ next) ≡ (lines_of front ++ (line ∷ [])) ++ lines_of next
 lines_of-after front line next one more =
-    ap lines_of (append_assoc front (line ++ (10 ∷ [])) next ∙ ap (λ bytes. front ++ bytes) (append_assoc line (10 ∷ []) next))
+    ap lines_of (append_assoc front (line ++ (10 ∷ [])) next
+    ∙ ap (λ bytes. front ++ bytes) (append_assoc line (10 ∷ []) next))
     ∙ more (line ++ (10 ∷ next))
     ∙ ap (λ lines. lines_of front ++ lines) (lines_of-first line next one)
     ∙ sym (append_assoc (lines_of front) (line ∷ []) (lines_of next))
@@ -187,10 +193,12 @@ CutsLines-reached text count rest reaches =
     record {
       within = omega arith;
       front =
-          ap lines_of (ap (take (length text - length rest)) reaches.parts ∙ take_at front rest (length text - length rest) size)
+          ap lines_of (ap (take (length text - length rest)) reaches.parts
+          ∙ take_at front rest (length text - length rest) size)
           ∙ sym (ap (take count) whole ∙ take_at (lines_of front) (lines_of rest) count reaches.lines);
       rest =
-          ap lines_of (ap (drop (length text - length rest)) reaches.parts ∙ drop_at front rest (length text - length rest) size)
+          ap lines_of (ap (drop (length text - length rest)) reaches.parts
+          ∙ drop_at front rest (length text - length rest) size)
           ∙ sym (ap (drop count) whole ∙ drop_at (lines_of front) (lines_of rest) count reaches.lines);
     }
 
@@ -210,11 +218,14 @@ pub position-searched : (text : List ℕ) (found : Option ℕ) → IsFirstByte (
     → found ≡ position is_end text
 position-searched text None nowhere =
     let len =
-    position_or_len_is is_end text (length text) 0 (le_refl (length text)) (λ k below. false_of (is_end (get_or text k 0)) (nowhere k zero-le below)) (λ below. absurd (lt_irrefl (length text) below)) in
+    position_or_len_is is_end text (length text) 0 (le_refl (length text))
+    (λ k below. false_of (is_end (get_or text k 0)) (nowhere k zero-le below))
+    (λ below. absurd (lt_irrefl (length text) below)) in
     rw (len, le-ltb (length text) (length text) (le_refl (length text))) refl
 position-searched text (Some k) first =
     let len =
-    position_or_len_is is_end text k 0 (le_of_lt first.0.high) (λ j below. false_of (is_end (get_or text j 0)) (first.0.before j zero-le below)) (λ _. first.1) in
+    position_or_len_is is_end text k 0 (le_of_lt first.0.high)
+    (λ j below. false_of (is_end (get_or text j 0)) (first.0.before j zero-le below)) (λ _. first.1) in
     rw (len, lt-ltb k (length text) first.0.high) refl
 
 -- the lines of a text that isn't empty: the one that it begins with, and those after

@@ -71,7 +71,10 @@ positive-fits (Some n) z bound some =
 pub signed_of-fits : (word : List ℕ) (z : ℤ) → signed_of word ≡ Some z → FitsSigned w64 z
 signed_of-fits [] z some = absurd cc
 signed_of-fits (byte ∷ word) z some =
-    elim (byte == 45) as (λ b. cond b (negative_of (number_within 0 (2 ^ 63) word)) (option_map pos (number_within 0 (2 ^ 63 - 1) (byte ∷ word))) ≡ Some z → FitsSigned w64 z) [
+    elim (byte == 45) as (λ b.
+    cond b (negative_of (number_within 0 (2 ^ 63) word))
+    (option_map pos (number_within 0 (2 ^ 63 - 1) (byte ∷ word))) ≡ Some z → FitsSigned w64 z) [
       | true ↦ λ minus. negative_of-fits (number_within 0 (2 ^ 63) word) z (number_within-le 0 (2 ^ 63) word) minus
-      | false ↦ λ plain. positive-fits (number_within 0 (2 ^ 63 - 1) (byte ∷ word)) z (number_within-le 0 (2 ^ 63 - 1) (byte ∷ word)) plain
+      | false ↦ λ plain. positive-fits (number_within 0 (2 ^ 63 - 1) (byte ∷ word)) z
+          (number_within-le 0 (2 ^ 63 - 1) (byte ∷ word)) plain
     ] some

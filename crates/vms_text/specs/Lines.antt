@@ -12,7 +12,8 @@ without_last_empty (part ∷ parts) = part ∷ without_last_empty parts
 abbrev pub lines_of : List ℕ → List (List ℕ)
 lines_of text = without_last_empty (slice_split (λ byte. byte == 10) text)
 
--- the line that a text begins with, and what stands after its end; the whole text, and nothing, where no byte 10 ends it
+-- the line that a text begins with, and what stands after its end; the whole text, and nothing, where no byte 10 ends
+-- it
 pub record SplitsLine (text line rest : List ℕ) : Type 0 where
   pub one_line : All (λ byte. byte ≢ 10) line
   pub parts : (text ≡ line ++ (10 ∷ rest)) ⊎ ((text ≡ line) × (rest ≡ []))

@@ -48,7 +48,8 @@ is_item_in_bytes None = false
 abbrev pub is_in_bytes : Header → ℕ → Bool
 is_in_bytes header counter =
     if nat_lt (position_of header.layout counter) 8 then false
-    else is_item_in_bytes (slice_get (declared_items (is_of_node header.layout counter) header.items) (position_of header.layout counter - 8))
+    else is_item_in_bytes (slice_get (declared_items (is_of_node header.layout counter) header.items)
+    (position_of header.layout counter - 8))
 
 -- a counter of the layout that has a name
 abbrev pub IsKnown : Header → ℕ → Type 0

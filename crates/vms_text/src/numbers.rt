@@ -1,6 +1,7 @@
 ghost use Rattle.std.specs.Prelude.{◌≡◌};
 ghost use Rattle.std.specs.List.{list_all};
-ghost use Rattle.vms_text.specs.Numbers.{SignedReadsBack, UnsignedReadsBack, digits_of, is_digit, is_numeral, number_within, signed_of, unsigned_of};
+ghost use Rattle.vms_text.specs.Numbers.{SignedReadsBack, UnsignedReadsBack, digits_of, is_digit, is_numeral};
+ghost use Rattle.vms_text.specs.Numbers.{number_within, signed_of, unsigned_of};
 
 /// The number that a word spells, if it has 64 bits.
 pub fn read_unsigned(word: &[u8]) -> Option<u64>

@@ -1,8 +1,10 @@
-ghost use Rattle.std.specs.Prelude.{◌≡◌, ◌≢◌, ◌<◌, All, IfNone, IfSome, bytes_eq, length, map, option_map, position, slice_get, slice_index_or, []};
+ghost use Rattle.std.specs.Prelude.{◌≡◌, ◌≢◌, ◌<◌, All, IfNone, IfSome, bytes_eq, length, map, option_map, position};
+ghost use Rattle.std.specs.Prelude.{slice_get, slice_index_or, []};
 ghost use Rattle.vms_base.specs.Headers.{class_names, declared_names};
 ghost use Rattle.vms_base.specs.Names.{kind_names};
 ghost use Rattle.vms_base.specs.Places.{IsLayout, node_at, node_place, zone_index};
-ghost use Rattle.vms_text.specs.PlaceNames.{declared_items, is_in_bytes, is_item_in_bytes, is_node_place, kind_named, place_named, zone_named};
+ghost use Rattle.vms_text.specs.PlaceNames.{declared_items, is_in_bytes, is_item_in_bytes, is_node_place, kind_named};
+ghost use Rattle.vms_text.specs.PlaceNames.{place_named, zone_named};
 
 use vms_base::{
     CounterId, Header, ItemDecl, Layout, PlaceId, ZoneKind, ZoneName, item_names, kind_name,

@@ -16,5 +16,6 @@ returns-clause-value c = value c
 pub returns-clause-read : goal.returns-clause-read
 returns-clause-read c =
     let bytes : length c.bytes_of.result ≡ 8 = search rules in
-    let eight : length c.args.d.now.values ≡ 8 = sym (length-map c.args.d.now.values (cast_unsigned w8)) ∙ ap length (sym c.bytes_of.ensures) ∙ bytes in
+    let eight : length c.args.d.now.values ≡ 8 =
+    sym (length-map c.args.d.now.values (cast_unsigned w8)) ∙ ap length (sym c.bytes_of.ensures) ∙ bytes in
     rw (value c) (bytes_of_word-word_of_bytes c.args.d.now.values eight c.args.d.now.bytes)

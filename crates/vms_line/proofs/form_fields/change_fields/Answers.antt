@@ -10,14 +10,19 @@ use Rattle.vms_line.proofs.form_fields.change_fields.Goals as goal
 
 pub returns-in_default : goal.returns-in_default
 returns-in_default c =
-    sym (change_fields-short c.args.header.now (map (λ word. word.now) c.args.fields.now) (omega (arith, length-map c.args.fields.now (λ word. word.now))))
+    sym (change_fields-short c.args.header.now (map (λ word. word.now) c.args.fields.now)
+    (omega (arith, length-map c.args.fields.now (λ word. word.now))))
 
 pub returns-in_err-counter : goal.returns-in_err-counter
 returns-in_err-counter c =
     let p = err_from_is_err_and c.from_residual.result c.from_residual.ensures.1 in
     let shape = four_words c.args.fields.now (record { ref_ptr = (0, 0); now = [] }) (omega arith) in
     let failed =
-    and_then-err (counter_field c.args.header.now (get_or c.args.fields.now 0 (record { ref_ptr = (0, 0); now = [] })).now (get_or c.args.fields.now 1 (record { ref_ptr = (0, 0); now = [] })).now (get_or c.args.fields.now 2 (record { ref_ptr = (0, 0); now = [] })).now) _ c.in_err-counter.field-0.0 (sym c.counter_field.ensures ∙ c.in_err-counter.was) in
+    and_then-err (counter_field c.args.header.now
+    (get_or c.args.fields.now 0 (record { ref_ptr = (0, 0); now = [] })).now
+    (get_or c.args.fields.now 1 (record { ref_ptr = (0, 0); now = [] })).now
+    (get_or c.args.fields.now 2 (record { ref_ptr = (0, 0); now = [] })).now) _ c.in_err-counter.field-0.0
+    (sym c.counter_field.ensures ∙ c.in_err-counter.was) in
     rw (p.1, p.2) (sym (ap (change_fields c.args.header.now) shape ∙ failed))
 
 pub returns : goal.returns
@@ -35,6 +40,9 @@ returns c =
     ap (in_pages header counter) (sym (to_z-of_z w64 amount small)) ∙ sym c.in_pages.ensures ∙ c.in_ok-pages.was in
     ap (λ z. Ok (counter, z)) (to_z-of_z w64 pages (in_pages-fits header counter amount pages small whole))
     ∙ sym (ap (change_fields header) shape
-    ∙ and_then-ok (counter_field header (get_or c.args.fields.now 0 (record { ref_ptr = (0, 0); now = [] })).now (get_or c.args.fields.now 1 (record { ref_ptr = (0, 0); now = [] })).now (get_or c.args.fields.now 2 (record { ref_ptr = (0, 0); now = [] })).now) _ counter named
-    ∙ and_then-ok (amount_field (get_or c.args.fields.now 3 (record { ref_ptr = (0, 0); now = [] })).now) _ amount spelled
+    ∙ and_then-ok (counter_field header (get_or c.args.fields.now 0 (record { ref_ptr = (0, 0); now = [] })).now
+    (get_or c.args.fields.now 1 (record { ref_ptr = (0, 0); now = [] })).now
+    (get_or c.args.fields.now 2 (record { ref_ptr = (0, 0); now = [] })).now) _ counter named
+    ∙ and_then-ok (amount_field (get_or c.args.fields.now 3 (record { ref_ptr = (0, 0); now = [] })).now) _ amount
+    spelled
     ∙ and_then-ok (in_pages header counter amount) _ pages whole)

@@ -5,4 +5,5 @@ use Rattle.vms_line.proofs.form_fields.count_fields.Goals as goal
 
 pub returns-in_default : goal.returns-in_default
 returns-in_default c =
-    sym (count_fields-short (map (λ word. word.now) c.args.fields.now) (omega (arith, length-map c.args.fields.now (λ word. word.now))))
+    sym (count_fields-short (map (λ word. word.now) c.args.fields.now)
+    (omega (arith, length-map c.args.fields.now (λ word. word.now))))

@@ -10,7 +10,8 @@ returns-in_err-counter c =
     let p = err_from_is_err_and c.from_residual.result c.from_residual.ensures.1 in
     let shape = three_words c.args.fields.now (record { ref_ptr = (0, 0); now = [] }) (omega arith) in
     let failed =
-    and_then-err (pcpu_field c.args.header.now (get_or c.args.fields.now 0 (record { ref_ptr = (0, 0); now = [] })).now) _ c.in_err-counter.field-0.0 (sym c.pcpu_field.ensures ∙ c.in_err-counter.was) in
+    and_then-err (pcpu_field c.args.header.now (get_or c.args.fields.now 0 (record { ref_ptr = (0, 0); now = [] })).now)
+    _ c.in_err-counter.field-0.0 (sym c.pcpu_field.ensures ∙ c.in_err-counter.was) in
     rw (p.1, p.2) (sym (ap (limited_fields c.args.header.now) shape ∙ failed))
 
 pub returns-in_err-limit : goal.returns-in_err-limit
@@ -18,7 +19,9 @@ returns-in_err-limit c =
     let p = err_from_is_err_and c.from_residual-in_err-limit.result c.from_residual-in_err-limit.ensures.1 in
     let shape = three_words c.args.fields.now (record { ref_ptr = (0, 0); now = [] }) (omega arith) in
     let found =
-    and_then-ok (pcpu_field c.args.header.now (get_or c.args.fields.now 0 (record { ref_ptr = (0, 0); now = [] })).now) _ c.in_ok-counter.counter (sym c.pcpu_field.ensures ∙ c.in_ok-counter.was) in
+    and_then-ok (pcpu_field c.args.header.now (get_or c.args.fields.now 0 (record { ref_ptr = (0, 0); now = [] })).now)
+    _ c.in_ok-counter.counter (sym c.pcpu_field.ensures ∙ c.in_ok-counter.was) in
     let failed =
-    and_then-err (limit_field (get_or c.args.fields.now 1 (record { ref_ptr = (0, 0); now = [] })).now) _ c.in_err-limit.field-0.0 (sym c.limit_field.ensures ∙ c.in_err-limit.was) in
+    and_then-err (limit_field (get_or c.args.fields.now 1 (record { ref_ptr = (0, 0); now = [] })).now) _
+    c.in_err-limit.field-0.0 (sym c.limit_field.ensures ∙ c.in_err-limit.was) in
     rw (p.1, p.2) (sym (ap (limited_fields c.args.header.now) shape ∙ found ∙ failed))

@@ -5,4 +5,5 @@ use Rattle.vms_line.proofs.form_fields.paged_fields.Goals as goal
 
 pub returns-in_default : goal.returns-in_default
 returns-in_default c =
-    sym (paged_fields-short c.args.header.now (map (λ word. word.now) c.args.fields.now) (omega (arith, length-map c.args.fields.now (λ word. word.now))))
+    sym (paged_fields-short c.args.header.now (map (λ word. word.now) c.args.fields.now)
+    (omega (arith, length-map c.args.fields.now (λ word. word.now))))

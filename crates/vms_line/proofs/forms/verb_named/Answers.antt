@@ -5,8 +5,13 @@ use Rattle.vms_line.proofs.forms.verb_named.Goals as goal
 
 pub returns-in-pressure : goal.returns-in-pressure
 returns-in-pressure c =
-    sym (ap verb_named (text_from_reads c.args.word.now (codes "pressure") (omega arith)
-    (omega arith, (omega arith, (omega arith, (omega arith, (omega arith, (omega arith, (omega arith, (omega arith, tt))))))))))
+    sym (ap verb_named (text_from_reads c.args.word.now (codes "pressure") (omega arith) (
+      omega arith,
+      (
+        omega arith,
+        (omega arith, (omega arith, (omega arith, (omega arith, (omega arith, (omega arith, tt)))))),
+      ),
+    )))
 
 pub returns-in-normal : goal.returns-in-normal
 returns-in-normal c =

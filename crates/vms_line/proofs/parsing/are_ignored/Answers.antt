@@ -11,4 +11,5 @@ pub returns-in-len1-up : goal.returns-in-len1-up
 returns-in-len1-up c = λ line words clean.
     let first =
     first_word c.args.words.now (words_of line) (record { ref_ptr = (0, 0); now = [] }) (omega arith) words in
-    c.begins_remark.ensures ∙ is_ignored-first line (get_or c.args.words.now 0 (record { ref_ptr = (0, 0); now = [] })).now (drop 1 (words_of line)) first
+    c.begins_remark.ensures ∙ is_ignored-first line
+    (get_or c.args.words.now 0 (record { ref_ptr = (0, 0); now = [] })).now (drop 1 (words_of line)) first

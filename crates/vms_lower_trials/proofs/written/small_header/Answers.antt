@@ -65,11 +65,13 @@ small-writable layout = record {
 pub returns-clause-value : goal.returns-clause-value
 returns-clause-value c =
     let layout =
-    LaysOut-ranked (record { node = 0; kind = Normal } ∷ []) 2 8 c.in_ok-make.field-0 (λ k below. absurd (omega arith)) c.in_ok-make.ensures in
+    LaysOut-ranked (record { node = 0; kind = Normal } ∷ []) 2 8 c.in_ok-make.field-0
+    (λ k below. absurd (omega arith)) c.in_ok-make.ensures in
     let sizes = c.in_ok-from_slice-2.ensures in
     let bases =
     c.set-2.ensures
-    ∙ ap (λ (all : List ℤ). set all 8 (negsuc 4)) (c.set.ensures ∙ ap (λ (all : List ℤ). set all 0 (pos 10000)) c.in_ok-bases.ensures) in
+    ∙ ap (λ (all : List ℤ). set all 8 (negsuc 4))
+    (c.set.ensures ∙ ap (λ (all : List ℤ). set all 0 (pos 10000)) c.in_ok-bases.ensures) in
     let counters =
     c.make-2.ensures ∙ c.in_ok-push.ensures.items
     ∙ ap (λ (front : List Decl). front ++ one_decl c.in_ok-from_slice.field-0) c.new-counters.ensures.items
@@ -79,5 +81,7 @@ returns-clause-value c =
 pub returns-clause-writable : goal.returns-clause-writable
 returns-clause-writable c =
     let layout =
-    LaysOut-ranked (record { node = 0; kind = Normal } ∷ []) 2 8 c.in_ok-make.field-0 (λ k below. absurd (omega arith)) c.in_ok-make.ensures in
-    subst IsWritable (sym (returns-clause-value c)) (small-writable (subst IsLayout layout c.in_ok-make.ensures.is_layout))
+    LaysOut-ranked (record { node = 0; kind = Normal } ∷ []) 2 8 c.in_ok-make.field-0
+    (λ k below. absurd (omega arith)) c.in_ok-make.ensures in
+    subst IsWritable (sym (returns-clause-value c))
+    (small-writable (subst IsLayout layout c.in_ok-make.ensures.is_layout))

@@ -9,7 +9,8 @@ pub returns-in-Some : goal.returns-in-Some
 returns-in-Some c =
     let text = c.args.text.now in
     let end = c.in-Some.end in
-    subst (SplitsLine text (take end text)) (sym (take_rest text (end + 1))) (SplitsLine-cut text end (sym c.first_newline.ensures ∙ c.in-Some.is))
+    subst (SplitsLine text (take end text)) (sym (take_rest text (end + 1)))
+    (SplitsLine-cut text end (sym c.first_newline.ensures ∙ c.in-Some.is))
 
 pub returns-in-None : goal.returns-in-None
 returns-in-None c =

@@ -7,17 +7,20 @@ use Rattle.vms_text.proofs.numbers.read_digits.Goals as goal
 pub returns-in_err-checked_mul : goal.returns-in_err-checked_mul
 returns-in_err-checked_mul c =
     let large =
-    digits_from-large c.args.most c.loop-byte.value c.args.digits.now c.loop-byte.byte-index (omega arith) (grind (arith, nat_tests)) (grind (arith, common_steps)) in
+    digits_from-large c.args.most c.loop-byte.value c.args.digits.now c.loop-byte.byte-index (omega arith)
+    (grind (arith, nat_tests)) (grind (arith, common_steps)) in
     c.from_residual.ensures ∙ large ∙ c.loop-byte.invariant.1
 
 pub returns-in_err-value : goal.returns-in_err-value
 returns-in_err-value c =
     let large =
-    digits_from-large c.args.most c.loop-byte.value c.args.digits.now c.loop-byte.byte-index (omega arith) (grind (arith, nat_tests)) (grind (arith, common_steps)) in
+    digits_from-large c.args.most c.loop-byte.value c.args.digits.now c.loop-byte.byte-index (omega arith)
+    (grind (arith, nat_tests)) (grind (arith, common_steps)) in
     c.from_residual-in_err-value.ensures ∙ large ∙ c.loop-byte.invariant.1
 
 pub returns-then-most-value : goal.returns-then-most-value
 returns-then-most-value c =
     let large =
-    digits_from-large c.args.most c.loop-byte.value c.args.digits.now c.loop-byte.byte-index (omega arith) (grind (arith, nat_tests)) (grind (arith, common_steps)) in
+    digits_from-large c.args.most c.loop-byte.value c.args.digits.now c.loop-byte.byte-index (omega arith)
+    (grind (arith, nat_tests)) (grind (arith, common_steps)) in
     large ∙ c.loop-byte.invariant.1

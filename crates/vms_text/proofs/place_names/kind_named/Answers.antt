@@ -10,7 +10,8 @@ use Rattle.vms_text.proofs.place_names.kind_named.Goals as goal
 pub returns : goal.returns
 returns c =
     let found =
-    find_from_yields_List (λ kind. bytes_eq c.args.word.now (slice_index_or kind_names (zone_index kind) [])) _ _ c.find.result c.find.ensures.ran
+    find_from_yields_List (λ kind. bytes_eq c.args.word.now (slice_index_or kind_names (zone_index kind) [])) _ _
+    c.find.result c.find.ensures.ran
     (YieldsList-from_copied (YieldsList-at c.copied.ensures.source (YieldsList-from_slice _ c.iter.ensures.rest)))
     (λ x b q k. search (rules, tests)) in
     sym (option_map_id c.find.result) ∙ found

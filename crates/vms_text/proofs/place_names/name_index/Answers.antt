@@ -6,5 +6,6 @@ use Rattle.vms_text.proofs.place_names.name_index.Goals as goal
 
 pub returns : goal.returns
 returns c =
-    position_from_yields_List (λ name. bytes_eq c.args.word.now name.now) _ _ c.position.result c.position.ensures.ran (YieldsList-from_slice _ c.iter.ensures.rest) (λ x b q k. search (rules, tests))
+    position_from_yields_List (λ name. bytes_eq c.args.word.now name.now) _ _ c.position.result c.position.ensures.ran
+    (YieldsList-from_slice _ c.iter.ensures.rest) (λ x b q k. search (rules, tests))
     ∙ sym (position-map (bytes_eq c.args.word.now) (λ name. name.now) c.args.names.now)

@@ -9,4 +9,5 @@ returns-in_err-node c =
     let node = c.args.node in
     ap (option_map (λ place. place.number)) c.from_residual-in_err-node.ensures
     ∙ sym (zone_place-absent layout node c.in_ok-kind.kind c.in_err-node.ensures.is_layout c.in_err-node.ensures.none)
-    ∙ ap (option_and_then (λ kind. zone_place layout (record { node = node; kind = kind }))) (sym c.in_ok-kind.was ∙ c.kind_named.ensures)
+    ∙ ap (option_and_then (λ kind. zone_place layout (record { node = node; kind = kind })))
+    (sym c.in_ok-kind.was ∙ c.kind_named.ensures)

@@ -5,4 +5,5 @@ use Rattle.vms_text.proofs.place_words.declared_item.Given as goal
 
 abbrev pub invariant-loop-item : goal.invariant-loop-item
 invariant-loop-item l =
-    (l.left ≤ l.index) × (slice_get (declared_items l.node (drop l.item-index l.items)) l.left ≡ slice_get (declared_items l.node l.items) l.index)
+    (l.left ≤ l.index) × (slice_get (declared_items l.node (drop l.item-index l.items)) l.left
+    ≡ slice_get (declared_items l.node l.items) l.index)

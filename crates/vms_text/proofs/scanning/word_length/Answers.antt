@@ -7,4 +7,9 @@ use Rattle.vms_text.proofs.scanning.word_length.Goals as goal
 pub returns-in-None : goal.returns-in-None
 returns-in-None c =
     let bytes = c.args.bytes.now in
-    omega (arith, position_or_len-none (λ byte. not (is_word_byte byte)) bytes (sym c.first_other.ensures ∙ c.in-None.is), prefix_len-le-length (λ byte. not (not (is_word_byte byte))) bytes)
+    omega (
+      arith,
+      position_or_len-none (λ byte. not (is_word_byte byte)) bytes
+          (sym c.first_other.ensures ∙ c.in-None.is),
+      prefix_len-le-length (λ byte. not (not (is_word_byte byte))) bytes,
+    )

@@ -6,5 +6,6 @@ pub returns-in_ok-write_word-in-len1-up-clause-ok : goal.returns-in_ok-write_wor
 returns-in_ok-write_word-in-len1-up-clause-ok c =
     let words = c.args.words.now in
     OnOk-from c.write_more.result _ _
-    (λ more. append_twice _ _ _ _ _ _ more c.in_ok-write_word-in-len1-up.ensures.ok (joined-parts words _ _ c.in-len1-up.len_at_least (take_rest words 1)))
+    (λ more. append_twice _ _ _ _ _ _ more c.in_ok-write_word-in-len1-up.ensures.ok
+    (joined-parts words _ _ c.in-len1-up.len_at_least (take_rest words 1)))
     c.write_more.ensures.ok

@@ -5,7 +5,8 @@ use Rattle.vms_stream.proofs.courses.Course.finish.Goals as goal
 pub returns-in_err-ending-clause-finishes : goal.returns-in_err-ending-clause-finishes
 returns-in_err-ending-clause-finishes g c = λ taken written is.
     let p = err_from_is_err_and c.from_residual.result c.from_residual.ensures.1 in
-    rw p.1 (Finishes-unended g.J.Job.behavior g.J.Job.Shows taken written c.args.self.now is c.requires.at_end _ p.0 p.2)
+    rw p.1 (Finishes-unended g.J.Job.behavior g.J.Job.Shows taken written c.args.self.now is c.requires.at_end _ p.0
+    p.2)
 
 pub returns-in_err-flush-clause-finishes : goal.returns-in_err-flush-clause-finishes
 returns-in_err-flush-clause-finishes g c = λ taken written is.
