@@ -3,6 +3,7 @@ use vms_base::{Header, Memory};
 use vms_command::{Body, ending_of, write_done_line, write_refused_line};
 use vms_header::write_header;
 use vms_line::{Line, LineCause, write_line};
+use vms_script::JudgedLine;
 use vms_stream::Ending;
 
 /// The body of a check.
@@ -29,11 +30,11 @@ impl Body for CheckBody {
         &mut self,
         header: &Header,
         number: u32,
-        judged: &Result<Line, LineCause>,
+        judged: &JudgedLine<'_>,
         out: &mut Vec<u8>,
     ) -> Result<(), Memory> {
-        match judged {
-            Ok(line) => write_accepted(out, header, line),
+        match &judged.said {
+            Ok(line) => write_accepted(out, header, line, judged.spelled),
             Err(cause) => write_refused(out, number, *cause),
         }
     }
@@ -51,22 +52,39 @@ impl Body for CheckBody {
     }
 }
 
-ghost use Rattle.std.specs.Prelude.{◌≡◌, ◌++◌, OnOk, codes};
+ghost use Rattle.std.specs.Prelude.{◌≡◌, ◌++◌, ◌∷◌, [], IfSome, OnOk, codes};
 ghost use Rattle.vms_base.specs.Headers.{IsHeader};
 ghost use Rattle.vms_line.specs.Laws.{IsLineOf};
+ghost use Rattle.vms_line.specs.Spelling.{spelled_line};
 ghost use Rattle.vms_command.specs.Printing.{refused_line};
 ghost use Rattle.vms_check.specs.Checking.{accepted_line};
 
-/// Appends a line that counts in its one spelling, and nothing for a blank one.
-fn write_accepted(out: &mut Vec<u8>, header: &Header, line: &Line) -> Result<(), Memory>
+/// Appends a line that counts in its one spelling, whose bytes may be at hand, and nothing for a blank one.
+fn write_accepted(
+    out: &mut Vec<u8>,
+    header: &Header,
+    line: &Line,
+    spelled: Option<&[u8]>,
+) -> Result<(), Memory>
     requires header { IsHeader header.now }
     requires line { IsLineOf header.now line.now }
+    requires spelled { IfSome spelled (λ text. spelled_line header.now line.now ≡ text.now ++ 10 ∷ []) }
     ensures { OnOk result (out.new.items ≡ out.old.items ++ accepted_line header.now line.now) }
 {
-    match *line {
-        Line::Blank => Ok(()),
-        Line::Lane(_, _) | Line::Boundary(_) => write_line(out, header, line),
+    match (line, spelled) {
+        (Line::Blank, _) => Ok(()),
+        (_, Some(text)) => copy_line(out, text),
+        (_, None) => write_line(out, header, line),
     }
+}
+
+/// Appends these bytes, and the one that ends a line.
+fn copy_line(out: &mut Vec<u8>, text: &[u8]) -> Result<(), Memory>
+    ensures { OnOk result (out.new.items ≡ out.old.items ++ (text.now ++ 10 ∷ [])) }
+{
+    out.extend_from_slice(text)?;
+    out.push(b'\n')?;
+    Ok(())
 }
 
 /// Appends the comment that stands in the place of a line that doesn't count.

@@ -5,10 +5,11 @@ ghost use Rattle.vms_command.specs.Bodies.{ClosesBody, TakesLine, SomeEnd, SomeL
 ghost use Rattle.vms_command.specs.Commands.{Command};
 ghost use Rattle.vms_command.specs.Lines.{LinesAbove, nothing_above};
 ghost use Rattle.vms_header.specs.Laws.{IsWritable};
+ghost use Rattle.vms_script.specs.JudgeStates.{IsInOneSpelling};
 
 use std::alloc::Global;
 use vms_base::{Header, Memory};
-use vms_line::{Line, LineCause};
+use vms_script::JudgedLine;
 use vms_stream::Ending;
 
 /// What a command does with the body of a trace, after a header that was accepted.
@@ -34,12 +35,13 @@ pub trait Body: Drop + Sized {
         &mut self,
         header: &Header,
         number: u32,
-        judged: &Result<Line, LineCause>,
+        judged: &JudgedLine<'_>,
         out: &mut Vec<u8>,
     ) -> Result<(), Memory>
         requires header { IsHeader header.now }
-        requires line { SomeLine (Stands self.old) header.now judged.now }
-        ensures { OnOk result (TakesLine command (Stands self.old) (Stands self.new) header.now number judged.now
+        requires line { SomeLine (Stands self.old) header.now judged.now.said }
+        requires spelled { IsInOneSpelling header.now judged.now }
+        ensures { OnOk result (TakesLine command (Stands self.old) (Stands self.new) header.now number judged.now.said
             out.old.items out.new.items) };
 
     /// Comes to the end of the trace, appends what is printed there, and says how the command ends. So many lines of

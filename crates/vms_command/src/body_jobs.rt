@@ -57,7 +57,7 @@ impl<B: Body> BodyJob<B> {
             out.old.items out.new.items self.new) }
     {
         let judged = self.judge.judge(&self.header, line);
-        if let Some(halt) = self.tally.count(&judged) {
+        if let Some(halt) = self.tally.count(&judged.said) {
             return Ok(Some(halt));
         }
         self.body.take_line(&self.header, number, &judged, out)?;

@@ -50,6 +50,7 @@ impl<B: Body> TraceJob<B> {
     }
 
     /// Takes a line within the limit.
+    #[inline(always)]
     fn take_within(&mut self, line: &[u8], out: &mut Vec<u8>) -> Result<Option<Halt>, Memory>
         requires stands { (s : CommandState B.Kept) × StandsAt B.Stands self.old s }
         requires within { self.old.line ≤ most_lines }
@@ -66,6 +67,7 @@ impl<B: Body> TraceJob<B> {
     }
 
     /// Takes the line of this number, which stands in the header.
+    #[cold]
     fn take_header_line(
         &mut self,
         number: u32,

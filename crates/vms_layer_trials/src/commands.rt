@@ -8,7 +8,7 @@ use std::test::Fail;
 use vms_base::{Header, Memory};
 use vms_command::{Body, follow, write_done_line};
 use vms_io::{MemSink, MemSource};
-use vms_line::{Line, LineCause};
+use vms_script::JudgedLine;
 use vms_stream::{Ending, Status};
 
 /// Writes a mark for each line, and one at the end for the last line.
@@ -42,10 +42,10 @@ impl Body for Marks {
         &mut self,
         _header: &Header,
         _number: u32,
-        judged: &Result<Line, LineCause>,
+        judged: &JudgedLine<'_>,
         out: &mut Vec<u8>,
     ) -> Result<(), Memory> {
-        self.refused = judged.is_err();
+        self.refused = judged.said.is_err();
         out.extend_from_slice(if self.refused { b"-" } else { b"+" })?;
         Ok(())
     }

@@ -1,6 +1,6 @@
 -- The words of a field are read back as what they spell.
-use Rattle.std.proofs.Common.{ℕ, ◌≡◌, ◌≢◌, ◌+◌, ◌-◌, ◌%◌, ◌<◌, ◌≤◌, ◌^◌, Bool, true, false, nat_lt, nat_le, List, []}
-use Rattle.std.proofs.Common.{◌∷◌, ◌++◌, Some, refl, ◌∙◌, ap, arith, eq-eqb, length, get_or, map, ℤ, pos, w64}
+use Rattle.std.proofs.Common.{ℕ, ◌≡◌, ◌≢◌, ◌+◌, ◌-◌, ◌%◌, ◌<◌, ◌≤◌, ◌^◌, true, false, nat_lt, nat_le, List, []}
+use Rattle.std.proofs.Common.{◌∷◌, refl, ◌∙◌, ap, arith, eq-eqb, length, get_or, map, ℤ, pos, w64}
 use Rattle.std.proofs.lemmas.Bool.Decides.{nat_tests}
 use Rattle.std.proofs.lemmas.Int.{ints, quot-rem, rem_below, unsigned_abs-mul}
 use Rattle.std.proofs.lemmas.List.{length-map}
@@ -8,7 +8,7 @@ use Rattle.std.proofs.lemmas.List.Sums.{AllPass-from_list_all}
 use Rattle.std.proofs.lemmas.List.Elements.{All-map, All-weaker}
 use Rattle.std.specs.Fmt.{decimal, signed_decimal}
 use Rattle.std.specs.Int.RustNames.{FitsSigned}
-use Rattle.std.specs.Prelude.{◌==◌, ◌*ℤ◌, MatchBool, Ok, Result, bytes_eq, if◌then◌else◌, int_div, ok_or, position}
+use Rattle.std.specs.Prelude.{◌==◌, ◌*ℤ◌, MatchBool, Ok, Result, bytes_eq, if◌then◌else◌, int_div, ok_or}
 use Rattle.std.specs.Prelude.{unsigned_abs}
 use Rattle.vms_base.specs.declared.headers.Decl.{Decl}
 use Rattle.vms_base.specs.declared.headers.Header.{Header}
@@ -16,7 +16,7 @@ use Rattle.vms_base.specs.declared.ids.CounterId.{CounterId}
 use Rattle.vms_base.specs.declared.ids.EventId.{EventId}
 use Rattle.vms_base.specs.declared.ids.ItemId.{ItemId}
 use Rattle.vms_base.specs.declared.ids.PcpuId.{PcpuId}
-use Rattle.vms_base.specs.Headers.{IsHeader, IsNamed, IsValidDecl, class_names, is_of_node}
+use Rattle.vms_base.specs.Headers.{IsHeader, IsValidDecl, class_names, is_of_node}
 use Rattle.vms_base.specs.Names.{event_names}
 use Rattle.vms_base.specs.Places.{IsCpu, place_of, position_of}
 use Rattle.vms_base.proofs.Counts.{counter_at-whole, place_of-lt}
@@ -28,14 +28,14 @@ use Rattle.vms_line.specs.Laws.{IsDeclared, IsKnownValue}
 use Rattle.vms_text.specs.PlaceNames.{IsKnown}
 use Rattle.vms_text.specs.PlaceNames.{is_in_bytes}
 use Rattle.vms_text.specs.Reading.{and_then}
-use Rattle.vms_text.specs.Spelling.{counter_words, entry, place_words}
+use Rattle.vms_text.specs.Spelling.{counter_words, entry}
 use Rattle.vms_line.specs.Spelling.{event_word, pcpu_word, spelled_amount, system_word}
 use Rattle.vms_text.proofs.CounterWords.{counter_words-at, item_word-found, item_word-short}
 use Rattle.vms_text.proofs.Apart.{all_differ-pairs}
 use Rattle.vms_text.proofs.Entries.{entry-within}
-use Rattle.vms_text.proofs.ItemNames.{class_names-apart, class_names-differ, class_names-short, name-short}
+use Rattle.vms_text.proofs.ItemNames.{class_names-apart, name-short}
 use Rattle.vms_text.proofs.NameLookups.{bytes_eq-other, position-name, position-nowhere}
-use Rattle.vms_text.proofs.PlacesRead.{SpellsPlace, place-spelled}
+use Rattle.vms_text.proofs.PlacesRead.{place-spelled}
 use Rattle.vms_line.proofs.PlaceFields.{place_field-spelled}
 use Rattle.vms_text.proofs.Sentences.{is_short}
 use Rattle.vms_text.proofs.NumberLaws.{number_within-decimal}

@@ -1,10 +1,9 @@
 -- The fields of each form are read back as the act that they spell.
-use Rattle.std.proofs.Common.{ℕ, ◌≡◌, ◌-◌, ◌<◌, ◌≤◌, ◌^◌, ◌&&◌, true, List, [], ◌∷◌, ◌++◌, refl, subst, ◌∙◌, ap}
-use Rattle.std.proofs.Common.{arith, length, get_or, ℤ, w64}
+use Rattle.std.proofs.Common.{ℕ, ◌≡◌, ◌-◌, ◌≤◌, ◌^◌, ◌&&◌, true, List, [], ◌∷◌, ◌++◌, refl, subst, ◌∙◌, ap}
+use Rattle.std.proofs.Common.{arith, length, get_or}
 use Rattle.std.specs.Fmt.{decimal, signed_decimal}
-use Rattle.std.specs.Int.RustNames.{FitsSigned}
 use Rattle.std.specs.List.{list_all}
-use Rattle.std.specs.Prelude.{Bool, false, IfSome, IsTrue, Ok, Result, Some, not, unsigned_abs}
+use Rattle.std.specs.Prelude.{Bool, false, IfSome, IsTrue, Ok, Result, Some, not}
 use Rattle.vms_base.specs.declared.headers.Header.{Header}
 use Rattle.vms_base.specs.declared.ids.CounterId.{CounterId}
 use Rattle.vms_base.specs.declared.ids.CpuId.{CpuId}
@@ -13,7 +12,7 @@ use Rattle.vms_base.specs.declared.ids.PlaceId.{PlaceId}
 use Rattle.vms_base.specs.declared.kinds.WaterMark.{WaterMark}
 use Rattle.vms_base.specs.declared.kinds.WaterMark.TheVariants.{Min, Low, High}
 use Rattle.vms_base.specs.Headers.{IsHeader}
-use Rattle.vms_base.specs.Places.{IsCpu, IsNode, node_at}
+use Rattle.vms_base.specs.Places.{IsCpu, IsNode}
 use Rattle.vms_text.specs.declared.acts.Act.{Act}
 use Rattle.vms_text.specs.declared.acts.Act.TheVariants as acts
 use Rattle.vms_text.specs.declared.acts.Lane.{Lane as LaneOf}
@@ -31,7 +30,7 @@ use Rattle.vms_line.specs.declared.forms.Verb.TheVariants.{Mod, Inc, Dec, Ev, Cn
 use Rattle.vms_line.specs.declared.forms.Verb.TheVariants.{Fold, Water, Val, Snap, Sys, Pressure, Normal, Dead}
 use Rattle.vms_line.specs.declared.forms.Verb.TheVariants.{Kswapd}
 use Rattle.vms_line.specs.Fields.{mark_named, node_field}
-use Rattle.vms_line.specs.Forms.{Fields, Counter, Name, Node, OneCpu, Paged, form_of, has_zone_up_to, has_lane}
+use Rattle.vms_line.specs.Forms.{Counter, Name, Node, OneCpu, Paged, form_of, has_zone_up_to, has_lane}
 use Rattle.vms_line.specs.Forms.{read_fields}
 use Rattle.vms_line.specs.Laws.{IsActOf, IsDeclared, IsOfControl, IsOfCpu}
 use Rattle.vms_line.specs.Spelling.{act_words, mark_word, node_number, pcpu_word, spelled_amount}

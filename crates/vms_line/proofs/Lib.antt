@@ -11,3 +11,4 @@ pub mod LinesKnown
 pub mod FieldsSame
 pub mod FormsSame
 pub mod WordsShort
+pub mod SpelledRead

@@ -1,5 +1,5 @@
 -- For other crates too: every line that is read is one of its header.
-use Rattle.std.proofs.Common.{ℕ, ◌≡◌, ◌<◌, ◌≤◌, ◌^◌, ◌-◌, ◌==◌, ◌&&◌, Bool, true, false, cond, not, List, [], ◌∷◌}
+use Rattle.std.proofs.Common.{ℕ, ◌≡◌, ◌<◌, ◌≤◌, ◌^◌, ◌-◌, ◌==◌, ◌&&◌, true, false, cond, not, List, [], ◌∷◌}
 use Rattle.std.proofs.Common.{Option, Some, None, Result, Ok, Err, IfOk, bytes_eq, codes, length, nat_lt, ok_or, sym}
 use Rattle.std.proofs.Common.{subst, arith, w64, unsigned_abs, ℤ}
 use Rattle.std.proofs.lemmas.Bool.Decides.{nat_tests}
@@ -31,7 +31,7 @@ use Rattle.vms_line.specs.declared.forms.Verb.TheVariants.{Kswapd}
 use Rattle.vms_line.specs.Body.{boundary_line, control_line, cpu_line, is_cpu_word, lane_number, of_cpu, of_lane}
 use Rattle.vms_line.specs.Body.{read_line, read_words, report_named}
 use Rattle.vms_line.specs.Fields.{amount_field, counter_field, cpu_field, event_field, in_pages, limit_field}
-use Rattle.vms_line.specs.Fields.{mark_named, node_field, number_up_to, page_counter, pcpu_field, system_field}
+use Rattle.vms_line.specs.Fields.{mark_named, node_field, number_up_to, pcpu_field}
 use Rattle.vms_line.specs.Fields.{zone_field}
 use Rattle.vms_line.specs.Forms.{amount_fields, change_fields, count_fields, counter_fields, event_fields, form_of}
 use Rattle.vms_line.specs.Forms.{has_zone_up_to, index_under, has_lane, limited_fields, marked_fields, name_fields}

@@ -1,5 +1,5 @@
 -- The words of a place are read back as that place, in the fields of a line.
-use Rattle.std.proofs.Common.{ℕ, ◌≡◌, ◌+◌, ◌-◌, ◌<◌, List, [], ◌∷◌, refl, ap, arith, length, get_or, map}
+use Rattle.std.proofs.Common.{ℕ, ◌≡◌, ◌+◌, ◌-◌, ◌<◌, [], ◌∷◌, refl, ap, arith, length, get_or, map}
 use Rattle.std.specs.Fmt.{decimal}
 use Rattle.std.specs.Prelude.{Ok, option_to_list}
 use Rattle.vms_base.specs.declared.headers.Header.{Header}

@@ -1,5 +1,5 @@
 -- Laws of lines, each for every text, header and line.
-use Rattle.std.specs.Prelude.{◌≡◌, ℕ, ◌^◌, ◌+◌, ◌<◌, ◌≤◌, ◌-◌, IsTrue, true, false, nat_lt, MatchBool, unsigned_abs}
+use Rattle.std.specs.Prelude.{◌≡◌, ℕ, ◌^◌, ◌<◌, ◌≤◌, ◌-◌, IsTrue, true, false, nat_lt, MatchBool, unsigned_abs}
 use Rattle.std.specs.Prelude.{List, [], ◌∷◌, ◌++◌, length, IfSome, Ok}
 use Rattle.std.specs.Int.{w64}
 use Rattle.std.specs.Int.RustNames.{FitsSigned}
@@ -103,6 +103,11 @@ pub record ReadsBack (header : Header) (line : Line) : Type 0 where
 
 abbrev pub LinesReadBack : Type 0
 LinesReadBack = (header : Header) (line : Line) → IsHeader header → IsLineOf header line → ReadsBack header line
+
+-- these bytes are a line, in its one spelling
+pub record IsSpelled (header : Header) (text : List ℕ) (line : Line) : Type 0 where
+  pub read : read_line header text ≡ Ok line
+  pub spelled : spelled_line header line ≡ text ++ 10 ∷ []
 
 -- a line that isn't ignored has one spelling: what is spelled of it is its words, one blank between them
 abbrev pub LinesHaveOneSpelling : Type 0

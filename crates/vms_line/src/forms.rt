@@ -36,6 +36,7 @@ pub(crate) enum Verb {
 }
 
 /// What a verb and its fields say on the control lane, or else on a CPU's.
+#[inline(always)]
 pub(crate) fn read_act(
     header: &Header,
     control: bool,
@@ -52,7 +53,7 @@ pub(crate) fn read_act(
 }
 
 /// The verb that a word is.
-#[inline]
+#[inline(always)]
 fn verb_named(word: &[u8]) -> Option<Verb>
     ensures { result ≡ verb_named word.now }
 {

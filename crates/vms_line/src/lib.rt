@@ -10,7 +10,7 @@ mod reading_back;
 mod spelling;
 
 pub use causes::LineCause;
-pub use parsing::{lines_are_known, parse_line};
+pub use parsing::{lines_are_known, parse_line, parse_spelled};
 pub use reading_back::{lines_have_one_spelling, lines_read_back};
 pub use spelling::write_line;
 pub use vms_text::{Act, Boundary, Item, Lane, Line, ReportKind};

@@ -7,7 +7,7 @@ use std::process::Abort;
 use std::test::Fail;
 use vms_base::Header;
 use vms_header::{parse_header, write_header};
-use vms_line::{lines_are_known, parse_line, write_line};
+use vms_line::{Line, lines_are_known, parse_line, parse_spelled, write_line};
 
 /// A header with blanks of every kind and ignored lines, and its one spelling.
 struct Spelling<'a> {
@@ -218,7 +218,24 @@ fn is_spelled(alloc: Global, header: &Header, text: &str, spelled: &str) -> Resu
     write_line(&mut out, header, &line)?;
     let sentence = [spelled, "\n"].concat(alloc)?;
     let again = parse_line(header, spelled.as_bytes())?;
-    Ok(out.as_slice() == sentence.as_bytes() && again == line)
+    Ok(
+        out.as_slice() == sentence.as_bytes()
+            && again == line
+            && is_told_apart(header, text, spelled, line),
+    )
+}
+
+/// Whether a line is read from the parts between its spaces exactly where it stands in its one spelling and isn't blank.
+fn is_told_apart(header: &Header, text: &str, spelled: &str, line: Line) -> bool
+    requires { IsHeader header.now }
+{
+    let read = parse_spelled(header, spelled.as_bytes());
+    let other = parse_spelled(header, text.as_bytes());
+    if spelled.is_empty() {
+        read.is_none() && other.is_none()
+    } else {
+        read == Some(line) && (text == spelled || other.is_none())
+    }
 }
 
 /// Whether these are lines of a header, each with its one spelling.

@@ -6,6 +6,7 @@ use vms_calc::{Rule, Rules, normal_threshold, pressure_threshold};
 use vms_command::{Body, ending_of, write_done_line, write_prefix, write_refused_line};
 use vms_line::{Act, Boundary, Lane, Line, LineCause, ReportKind};
 use vms_phase::RunReplay;
+use vms_script::JudgedLine;
 use vms_stream::Ending;
 
 /// A replay on its way through a body.
@@ -117,6 +118,7 @@ impl Replay {
     }
 
     /// Ends the open phase with a boundary line of this number, and prints what it reports.
+    #[inline(never)]
     fn replay_boundary(
         &mut self,
         header: &Header,
@@ -218,11 +220,11 @@ impl Body for Replay {
         &mut self,
         header: &Header,
         number: u32,
-        judged: &Result<Line, LineCause>,
+        judged: &JudgedLine<'_>,
         _out: &mut Vec<u8>,
     ) -> Result<(), Memory> {
         if self.built {
-            self.replay_judged(header, number, judged)?;
+            self.replay_judged(header, number, &judged.said)?;
         }
         Ok(())
     }

@@ -1,15 +1,18 @@
 -- What a judge of lines keeps of the lines above that count.
 use Rattle.std.specs.Prelude.{◌≡◌, ℕ, ◌*◌, ◌^◌, ◌<◌, ◌≤◌, List, length, slice_index_or, slice_set, Result, Ok, Err}
+use Rattle.std.specs.Prelude.{◌∷◌, ◌++◌, [], IfOk, IfSome}
 use Rattle.vms_base.specs.declared.headers.Header.{Header}
 use Rattle.vms_base.specs.declared.kinds.CpuState.TheVariants.{Online}
 use Rattle.vms_base.specs.Headers.{IsHeader}
 use Rattle.vms_base.specs.Places.{cell, counter_count}
 use Rattle.vms_text.specs.declared.acts.Line.{Line}
 use Rattle.vms_script.specs.declared.cpus.CpuStates.{CpuStates}
+use Rattle.vms_script.specs.declared.judges.JudgedLine.{JudgedLine}
 use Rattle.vms_script.specs.declared.judges.LineJudge.{LineJudge}
 use Rattle.vms_script.specs.declared.volumes.VolumeTable.{VolumeTable}
 use Rattle.vms_line.specs.declared.causes.LineCause.{LineCause}
 use Rattle.vms_line.specs.Laws.{IsLineOf}
+use Rattle.vms_line.specs.Spelling.{spelled_line}
 use Rattle.vms_script.specs.Cpus.{cpu_state, online_below}
 use Rattle.vms_script.specs.Judging.{allowed, counted}
 use Rattle.vms_script.specs.Volumes.{spent_on_counter, spent_on_event, spent_on_pcpu, volume}
@@ -69,6 +72,16 @@ pub record Knows (judge : LineJudge) (line : Line) : Type 0 where
 pub record Decides (line : Line) (judge judge' : LineJudge) (result : Result (Unit {0}) LineCause) : Type 0 where
   pub by : (header : Header) (lines : List Line) → IsHeader header → IsLineOf header line → Stands header lines judge →
       (answered line result ≡ allowed header lines line) × Stands header (counted (answered line result) lines) judge'
+
+-- where the bytes of a line are told, and it counts, they are its one spelling
+abbrev pub IsInOneSpelling : Header → JudgedLine → Type 0
+IsInOneSpelling header judged =
+    IfSome judged.spelled (λ text. IfOk judged.said (λ line. spelled_line header line ≡ text.now ++ 10 ∷ []))
+
+-- a judge decides a line that was read, and answers it where it counts
+pub record Answers (line : Line) (judge judge' : LineJudge) (result : Result Line LineCause) : Type 0 where
+  pub by : (header : Header) (lines : List Line) → IsHeader header → IsLineOf header line → Stands header lines judge →
+      (result ≡ allowed header lines line) × Stands header (counted result lines) judge'
 
 -- a judge after some lines of a body with this header
 pub record SomeJudge (header : Header) (judge : LineJudge) : Type 0 where

@@ -2,7 +2,16 @@ use crate::cpus::CpuStates;
 use crate::volumes::VolumeTable;
 use std::alloc::Global;
 use vms_base::{CpuId, CpuState, Header, Memory};
-use vms_line::{Act, Boundary, Lane, Line, LineCause, parse_line};
+use vms_line::{Act, Boundary, Lane, Line, LineCause, parse_line, parse_spelled};
+
+/// What was judged of a line.
+#[derive(Clone, Copy, Debug)]
+pub struct JudgedLine<'a> {
+    /// What the line says, or the first cause why it doesn't count.
+    pub said: Result<Line, LineCause>,
+    /// The bytes of the line, where they are known to be its one spelling.
+    pub spelled: Option<&'a [u8]>,
+}
 
 /// Decides the lines of a body by the lines above them. It keeps the CPUs' states and volumes, and no line.
 #[derive(Drop)]
@@ -18,7 +27,7 @@ impl LineJudge {
     ghost use Rattle.vms_base.specs.Headers.{IsHeader};
     ghost use Rattle.vms_text.specs.declared.acts.Line.{Line};
     ghost use Rattle.vms_script.specs.Judging.{counted, judged};
-    ghost use Rattle.vms_script.specs.JudgeStates.{Decides, Knows, SomeJudge, Stands};
+    ghost use Rattle.vms_script.specs.JudgeStates.{Answers, Decides, IsInOneSpelling, Knows, SomeJudge, Stands};
 
     /// A judge before the first line of a body with this header.
     pub fn make(alloc: Global, header: &Header) -> Result<LineJudge, Memory>
@@ -36,18 +45,52 @@ impl LineJudge {
     }
 
     /// Decides a line of the body by the lines above that count: what it says, or the first cause why it doesn't count.
-    pub fn judge(&mut self, header: &Header, line: &[u8]) -> Result<Line, LineCause>
+    #[inline(always)]
+    pub fn judge<'a>(&mut self, header: &Header, line: &'a [u8]) -> JudgedLine<'a>
+        requires header { IsHeader header.now }
+        requires judge { SomeJudge header.now self.old }
+        ensures said { (lines : List Line) → Stands header.now lines self.old
+            → (result.said ≡ judged header.now lines line.now)
+            × Stands header.now (counted result.said lines) self.new }
+        ensures spelled { IsInOneSpelling header.now result }
+    {
+        match parse_spelled(header, line) {
+            Some(said) => JudgedLine {
+                said: self.decide(said),
+                spelled: Some(line),
+            },
+            None => JudgedLine {
+                said: self.judge_any(header, line),
+                spelled: None,
+            },
+        }
+    }
+
+    /// Decides a line of the body, in any spelling.
+    #[cold]
+    fn judge_any(&mut self, header: &Header, line: &[u8]) -> Result<Line, LineCause>
         requires header { IsHeader header.now }
         requires judge { SomeJudge header.now self.old }
         ensures { (lines : List Line) → Stands header.now lines self.old → (result ≡ judged header.now lines line.now)
             × Stands header.now (counted result lines) self.new }
     {
         let said = parse_line(header, line)?;
-        self.allow(said)?;
-        Ok(said)
+        self.decide(said)
+    }
+
+    /// Decides a line that was read, and gives it back where it counts.
+    #[inline(always)]
+    fn decide(&mut self, line: Line) -> Result<Line, LineCause>
+        requires { Knows self.old line }
+        ensures answers { Answers line self.old self.new result }
+        ensures same { IfOk result (λ said. said ≡ line) }
+    {
+        self.allow(line)?;
+        Ok(line)
     }
 
     /// Decides a line that was read.
+    #[inline(always)]
     fn allow(&mut self, line: Line) -> Result<(), LineCause>
         requires { Knows self.old line }
         ensures { Decides line self.old self.new result }
@@ -60,6 +103,7 @@ impl LineJudge {
     }
 
     /// Decides a line of a lane.
+    #[inline(always)]
     fn allow_lane(&mut self, lane: Lane, act: Act) -> Result<(), LineCause>
         requires { Knows self.old (Line.Lane lane act) }
         ensures { Decides (Line.Lane lane act) self.old self.new result }
@@ -94,6 +138,7 @@ impl LineJudge {
     }
 
     /// Decides an act of a CPU's lane.
+    #[inline(always)]
     fn allow_act(&mut self, cpu: CpuId, act: Act) -> Result<(), LineCause>
         requires { Knows self.old (Line.Lane (Lane.Cpu cpu) act) }
         ensures { Decides (Line.Lane (Lane.Cpu cpu) act) self.old self.new result }
@@ -106,6 +151,7 @@ impl LineJudge {
     }
 
     /// Adds what an act changes to the volumes of a CPU, which is online, unless one would exceed its most.
+    #[inline(always)]
     fn spend(&mut self, cpu: CpuId, act: Act) -> Result<(), LineCause>
         requires knows { Knows self.old (Line.Lane (Lane.Cpu cpu) act) }
         requires online { slice_index_or self.old.cpus.states cpu.number CpuState.Online ≡ CpuState.Online }

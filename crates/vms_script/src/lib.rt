@@ -7,6 +7,6 @@ mod scripters;
 mod totals;
 mod volumes;
 
-pub use judges::LineJudge;
+pub use judges::{JudgedLine, LineJudge};
 pub use scripters::{Fed, FeedError, PhaseScript, Scripter};
 pub use totals::{PageTotals, plain_totals};

@@ -75,7 +75,7 @@ impl Scripter {
             Feeds number line.now script self.new result }
     {
         self.items.reserve(1)?;
-        match self.judge.judge(header, line) {
+        match self.judge.judge(header, line).said {
             Ok(said) => Ok(self.keep(number, said)),
             Err(cause) => Err(FeedError::Refused(cause)),
         }

@@ -14,6 +14,8 @@ pub mod SpelledNumbers
 pub mod Apart
 pub mod ItemNames
 pub mod PlacesRead
+pub mod Parts
+pub mod MarkedSpaces
 pub mod Pieces
 pub mod Positions
 pub mod Nodes

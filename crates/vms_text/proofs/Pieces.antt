@@ -5,13 +5,13 @@ use Rattle.std.proofs.Common.{take, drop, length, get_or}
 use Rattle.std.proofs.lemmas.Bool.Decides.{nat_tests}
 use Rattle.std.proofs.Math.Bool.{and-false, and-true, and_assoc, or-false}
 use Rattle.std.proofs.lemmas.Bool.{cases_lt}
-use Rattle.std.proofs.lemmas.List.{at_drop_all, at_drop_more, drop-drop, drop_more, get_or-drop, get_or-take}
-use Rattle.std.proofs.lemmas.List.{get_or_default, length-drop, length-take-le, length_push, take-append-drop}
-use Rattle.std.proofs.lemmas.List.{take_all, take_at, take_rest}
-use Rattle.std.proofs.lemmas.List.Splits.{slice_split_at, slice_split_none}
-use Rattle.std.specs.List.{All, filter, list_all, slice_split}
+use Rattle.std.proofs.lemmas.List.{at_drop_all, at_drop_more, get_or-drop, get_or-take}
+use Rattle.std.proofs.lemmas.List.{get_or_default, length-drop, length-take-le, length_push}
+use Rattle.std.proofs.lemmas.List.{take_all, take_at}
+use Rattle.std.specs.List.{filter, list_all, slice_split}
 use Rattle.vms_text.specs.Words.{IsNextWord, is_blank_byte, is_empty, is_word_byte, is_wrong_byte, words_of}
 use Rattle.vms_text.specs.Reading.{is_clean, is_comment, is_ignored}
+use Rattle.vms_text.proofs.Parts.{slice_split-last, slice_split-part, take-take-append}
 
 abbrev is_other : ℕ → Bool
 is_other byte = not (is_word_byte byte)
@@ -30,45 +30,21 @@ filter-cons (byte ∷ piece) pieces = refl
 abbrev pub IsRun : List ℕ → ℕ → ℕ → Type 0
 IsRun line begin at = (k d : ℕ) → begin ≤ k → k < at → is_word_byte (get_or line k d) ≡ true
 
-run_bytes : (line : List ℕ) (begin at : ℕ) → begin ≤ at → at ≤ length line → IsRun line begin at
-    → All (λ byte. is_other byte ≡ false) (take (at - begin) (drop begin line))
-run_bytes line begin at after within run = λ k d below.
-    let long = length-drop begin line in
-    let size = length-take-le (at - begin) (drop begin line) (omega arith) in
-    let short : k < at - begin = omega arith in
-    let same : get_or (take (at - begin) (drop begin line)) k d ≡ get_or line (begin + k) d =
-    get_or-take (at - begin) (drop begin line) k d short ∙ get_or-drop begin line k d in
-    subst (λ byte. is_other byte ≡ false) (sym same) (ap not (run (begin + k) d (omega arith) (omega arith)))
-
 -- a run that another byte ends is the first word, if it isn't empty
 words_of-run : (line : List ℕ) (begin at d : ℕ) → begin ≤ at → at < length line → IsRun line begin at
     → is_word_byte (get_or line at d) ≡ false
     → words_of (drop begin line) ≡ word_of (take (at - begin) (drop begin line)) ++ words_of (drop (at + 1) line)
 words_of-run line begin at d after within run ends =
-    let piece = take (at - begin) (drop begin line) in
-    let reach : begin + (at - begin) ≡ at = omega arith in
-    let rest : drop (at - begin) (drop begin line) ≡ get_or line at d ∷ drop (at + 1) line =
-    drop-drop (at - begin) begin line ∙ ap (λ n. drop n line) reach ∙ drop_more line at d within in
-    ap words_of (sym (take-append-drop (at - begin) (drop begin line)) ∙ ap (λ tail. piece ++ tail) rest)
-    ∙ ap (filter (λ word. not (is_empty word)))
-    (slice_split_at is_other piece (get_or line at d) (drop (at + 1) line)
-    (run_bytes line begin at after (omega arith) run) (ap not ends))
-    ∙ filter-cons piece (slice_split is_other (drop (at + 1) line))
+    ap (filter (λ word. not (is_empty word)))
+    (slice_split-part is_other line begin at d after within (λ k e low high. ap not (run k e low high)) (ap not ends))
+    ∙ filter-cons (take (at - begin) (drop begin line)) (slice_split is_other (drop (at + 1) line))
 
 -- a run that ends with the line is the last word, if it isn't empty
 words_of-last_run : (line : List ℕ) (begin : ℕ) → begin ≤ length line → IsRun line begin (length line)
     → words_of (drop begin line) ≡ word_of (take (length line - begin) (drop begin line))
 words_of-last_run line begin after run =
-    let bytes = run_bytes line begin (length line) after (omega arith) run in
-    ap words_of (sym (take_rest line begin))
-    ∙ ap (filter (λ word. not (is_empty word)))
-    (slice_split_none is_other (take (length line - begin) (drop begin line)) bytes)
-
--- the first words of words that are cut short
-pub take-take-append : {A : Type 0} → (n : ℕ) (xs ys : List A) → take n (take n xs ++ ys) ≡ take n (xs ++ ys)
-take-take-append zero xs ys = refl
-take-take-append (suc n) [] ys = refl
-take-take-append (suc n) (x ∷ xs) ys = ap (λ more. x ∷ more) (take-take-append n xs ys)
+    ap (filter (λ word. not (is_empty word)))
+    (slice_split-last is_other line begin after (λ k e low high. ap not (run k e low high)))
 
 -- a line that is cut up to a byte: the words that end before `begin`, eight at most, and whether no byte before `at`
 -- is wrong

@@ -1,11 +1,9 @@
 -- For other crates too: where the first element that passes a test stands.
-use Rattle.std.proofs.Common.{ℕ, ◌≡◌, ◌<◌, ◌≤◌, ◌+◌, Bool, false, cond, not, List, [], ◌∷◌, Option, Some, None, refl}
-use Rattle.std.proofs.Common.{sym, ◌∙◌, ap, arith, bytes_eq, length, map, position}
-use Rattle.std.proofs.lemmas.Bool.{false≢true}
+use Rattle.std.proofs.Common.{ℕ, ◌≡◌, ◌<◌, ◌≤◌, ◌+◌, Bool, cond, not, List, [], ◌∷◌, Some, refl}
+use Rattle.std.proofs.Common.{ap, arith, bytes_eq, length, map, position}
 use Rattle.std.proofs.lemmas.Bool.Decides.{nat_tests}
 use Rattle.std.proofs.lemmas.List.{length-map}
-use Rattle.std.proofs.lemmas.List.Quantifiers.{position-Some}
-use Rattle.std.specs.List.{All, filter, position_or_len}
+use Rattle.std.specs.List.{filter, position_or_len}
 use Rattle.vms_base.specs.declared.headers.ItemDecl.{ItemDecl}
 use Rattle.vms_base.specs.Headers.{declared_names}
 use Rattle.vms_text.specs.PlaceNames.{declared_items}

@@ -4,6 +4,7 @@
 mod acts;
 mod cutting;
 mod line_words;
+mod marks;
 mod names;
 mod numbers;
 mod place_names;
@@ -13,7 +14,7 @@ mod writing;
 
 pub use acts::{Act, Boundary, Item, Lane, Line, ReportKind};
 pub use cutting::{lines_append, lines_begin, split_line};
-pub use line_words::{cut_line, cut_words, is_clean, is_ignored};
+pub use line_words::{cut_at_spaces, cut_line, cut_words, is_clean, is_ignored};
 pub use names::is_name;
 pub use numbers::{is_number, numbers_read_back, read_signed, read_unsigned, read_within};
 pub use place_names::{

@@ -1,8 +1,9 @@
 ghost use Rattle.std.specs.Prelude.{◌≡◌, ◌∷◌, ◌++◌, [], map, take, not};
 ghost use Rattle.std.specs.List.{filter, list_all};
-ghost use Rattle.vms_text.specs.Words.{is_blank_byte, is_empty, is_wrong_byte, words_of};
+ghost use Rattle.vms_text.specs.Words.{is_blank_byte, is_empty, is_wrong_byte, parts_of, words_of};
 ghost use Rattle.vms_text.specs.Reading.{is_clean, is_ignored};
 
+use crate::marks::{cut_at_marks, marks_of};
 use crate::scanning::next_word;
 use arrayvec::ArrayVec;
 
@@ -34,6 +35,44 @@ pub fn cut_line<'a>(words: &mut ArrayVec<&'a [u8], 8>, line: &'a [u8]) -> bool
     }
     add_word(words, &line[begin..]);
     clean
+}
+
+/// Cuts a line at its spaces alone. The first eight parts are added to `parts`, which is empty.
+#[inline]
+pub fn cut_at_spaces<'a>(parts: &mut ArrayVec<&'a [u8], 8>, line: &'a [u8])
+    requires { parts.old.items ≡ [] }
+    ensures { map (λ part. part.now) parts.new.items ≡ take 8 (parts_of line.now) }
+{
+    match marks_of(line) {
+        Some(marks) => cut_at_marks(parts, line, marks),
+        None => cut_byte_by_byte(parts, line),
+    }
+}
+
+/// Cuts a line of any length at its spaces alone.
+fn cut_byte_by_byte<'a>(parts: &mut ArrayVec<&'a [u8], 8>, line: &'a [u8])
+    requires { parts.old.items ≡ [] }
+    ensures { map (λ part. part.now) parts.new.items ≡ take 8 (parts_of line.now) }
+{
+    let mut begin = 0;
+    for (at, byte) in line.iter().enumerate() {
+        if *byte == b' ' {
+            add_part(parts, &line[begin..at]);
+            begin = at + 1;
+        }
+    }
+    add_part(parts, &line[begin..]);
+}
+
+/// Adds a part, unless eight are there.
+#[inline]
+pub(crate) fn add_part<'a>(parts: &mut ArrayVec<&'a [u8], 8>, part: &'a [u8])
+    ensures { map (λ part. part.now) parts.new.items
+        ≡ take 8 (map (λ part. part.now) parts.old.items ++ part.now ∷ []) }
+{
+    if !parts.is_full() {
+        parts.push(part);
+    }
 }
 
 /// Adds a word, unless it is empty or eight are there.

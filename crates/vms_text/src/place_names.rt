@@ -1,34 +1,24 @@
 ghost use Rattle.std.specs.Prelude.{◌≡◌, ◌≢◌, ◌<◌, All, IfNone, IfSome, bytes_eq, length, map, option_map, position};
-ghost use Rattle.std.specs.Prelude.{slice_get, slice_index_or, []};
+ghost use Rattle.std.specs.Prelude.{slice_get, if◌then◌else◌};
 ghost use Rattle.vms_base.specs.Headers.{class_names, declared_names};
-ghost use Rattle.vms_base.specs.Names.{kind_names};
-ghost use Rattle.vms_base.specs.Places.{IsLayout, node_at, node_place, zone_index};
+ghost use Rattle.vms_base.specs.Names.{node_items, zone_items};
+ghost use Rattle.vms_base.specs.Places.{IsLayout, node_at, node_place};
 ghost use Rattle.vms_text.specs.PlaceNames.{declared_items, is_in_bytes, is_item_in_bytes, is_node_place, kind_named};
 ghost use Rattle.vms_text.specs.PlaceNames.{place_named, zone_named};
 
-use vms_base::{
-    CounterId, Header, ItemDecl, Layout, PlaceId, ZoneKind, ZoneName, item_names, kind_name,
-};
-
-/// The kinds of zones, by zone index.
-static KINDS: [ZoneKind; 4] = [
-    ZoneKind::Dma,
-    ZoneKind::Dma32,
-    ZoneKind::Normal,
-    ZoneKind::Movable,
-];
+use vms_base::{CounterId, Header, ItemDecl, Layout, PlaceId, ZoneKind, ZoneName, item_names};
 
 /// The kind of zones that a word names.
 pub fn kind_named(word: &[u8]) -> Option<ZoneKind>
     ensures { result ≡ kind_named word.now }
 {
-    KINDS.iter().copied().find(|kind| is_kind(word, *kind))
-}
-
-fn is_kind(word: &[u8], kind: ZoneKind) -> bool
-    ensures { result ≡ bytes_eq word.now (slice_index_or kind_names (zone_index kind) []) }
-{
-    word == kind_name(kind).as_bytes()
+    match word {
+        b"DMA" => Some(ZoneKind::Dma),
+        b"DMA32" => Some(ZoneKind::Dma32),
+        b"Normal" => Some(ZoneKind::Normal),
+        b"Movable" => Some(ZoneKind::Movable),
+        _ => None,
+    }
 }
 
 /// The zone of a node that a word names.
@@ -48,17 +38,15 @@ pub fn node_named(layout: &Layout, node: u64) -> Option<PlaceId>
     layout.node(node)
 }
 
-/// The number of a node, if the machine has it.
+/// The number of a node in 32 bits. No node has a larger one.
+#[inline]
 fn node_number(layout: &Layout, node: u64) -> Option<u32>
     ensures is_layout { IsLayout layout.now }
     ensures some { IfSome result (λ number. number ≡ node) }
     ensures none { IfNone result (All (λ number. number ≢ node) layout.now.nodes) }
 {
-    layout
-        .nodes()
-        .iter()
-        .copied()
-        .find(|number| u64::from(*number) == node)
+    let _ = layout.nodes();
+    u32::try_from(node).ok()
 }
 
 /// The number of the node at a place, if a node stands there.
@@ -91,13 +79,27 @@ pub fn is_node(layout: &Layout, place: PlaceId) -> bool
 pub fn class_position(node: bool, items: &[ItemDecl], word: &[u8]) -> Option<usize>
     ensures { result ≡ position (bytes_eq word.now) (class_names node items.now) }
 {
-    match name_index(item_names(node), word) {
+    match fixed_position(node, word) {
         Some(position) => Some(position),
         None => Some(8 + declared_position(node, items, word)?),
     }
 }
 
+/// The position of a fixed item in its class. The names of each class are told apart here, so that the compiler knows
+/// them.
+#[inline]
+fn fixed_position(node: bool, word: &[u8]) -> Option<usize>
+    ensures { result ≡ position (bytes_eq word.now) (if node then node_items else zone_items) }
+{
+    if node {
+        name_index(item_names(true), word)
+    } else {
+        name_index(item_names(false), word)
+    }
+}
+
 /// The place of a declared item among those of its class.
+#[inline(never)]
 fn declared_position(node: bool, items: &[ItemDecl], word: &[u8]) -> Option<usize>
     ensures { result ≡ position (bytes_eq word.now) (declared_names node items.now) }
 {

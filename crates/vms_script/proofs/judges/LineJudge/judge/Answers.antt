@@ -1,44 +1,41 @@
-use Rattle.std.proofs.Common.{◌≡◌, sym, ap, ◌∙◌, Ok, Result}
-use Rattle.std.proofs.lemmas.Result.{IfOk-at_ok, err_from_is_err_and}
+use Rattle.std.proofs.Common.{◌≡◌, ◌∷◌, ◌++◌, [], Err, IfOk, Ok, Result, ap, sym, ◌∙◌}
+use Rattle.std.proofs.lemmas.Result.{IfOk-at_ok}
 use Rattle.vms_text.specs.declared.acts.Line.{Line}
-use Rattle.vms_line.specs.declared.causes.LineCause.{LineCause}
-use Rattle.vms_line.specs.Body.{read_line}
-use Rattle.vms_line.specs.Laws.{IsLineOf}
 use Rattle.vms_text.specs.Reading.{and_then}
+use Rattle.vms_line.specs.declared.causes.LineCause.{LineCause}
+use Rattle.vms_line.specs.Laws.{IsLineOf}
+use Rattle.vms_line.specs.Spelling.{spelled_line}
 use Rattle.vms_line.proofs.LinesKnown.{read_line-known}
 use Rattle.vms_script.specs.Judging.{allowed}
 use Rattle.vms_script.proofs.judges.LineJudge.judge.Goals as goal
 
-pub allow-requires : goal.allow-requires
-allow-requires c =
+pub decide-requires : goal.decide-requires
+decide-requires c =
     let header = c.args.header.now in
-    let read : read_line header c.args.line.now ≡ Ok c.in_ok-said.said = sym c.parse_line.ensures ∙ c.in_ok-said.was in
     record {
       header = header;
       lines = c.requires.judge.lines;
       is_header = c.requires.header;
-      is_line = IfOk-at_ok (IsLineOf header) read (read_line-known header c.requires.header c.args.line.now);
+      is_line =
+          IfOk-at_ok (IsLineOf header) c.in-Some.ensures.spelled.read
+          (read_line-known header c.requires.header c.args.line.now);
       stands = c.requires.judge.stands;
     }
 
-pub returns-in_err-allow : goal.returns-in_err-allow
-returns-in_err-allow c = λ lines stands.
+pub returns-in-Some-clause-said : goal.returns-in-Some-clause-said
+returns-in-Some-clause-said c = λ lines stands.
     let header = c.args.header.now in
-    let refused = err_from_is_err_and c.from_residual-in_err-allow.result c.from_residual-in_err-allow.ensures.1 in
-    let read : read_line header c.args.line.now ≡ Ok c.in_ok-said.said = sym c.parse_line.ensures ∙ c.in_ok-said.was in
+    let read = c.in-Some.ensures.spelled.read in
     let is_line = IfOk-at_ok (IsLineOf header) read (read_line-known header c.requires.header c.args.line.now) in
-    let decides = c.in_err-allow.ensures in
-    let found = decides.by header lines c.requires.header is_line stands in
-    rw (refused.1, refused.2)
-    (found.0 ∙ sym (ap (λ (r : Result Line LineCause). and_then r (allowed header lines)) read), found.1)
-
-pub returns : goal.returns
-returns c = λ lines stands.
-    let header = c.args.header.now in
-    let read : read_line header c.args.line.now ≡ Ok c.in_ok-said.said = sym c.parse_line.ensures ∙ c.in_ok-said.was in
-    let is_line = IfOk-at_ok (IsLineOf header) read (read_line-known header c.requires.header c.args.line.now) in
-    let decides = c.in_ok-allow.ensures in
-    let found = decides.by header lines c.requires.header is_line stands in (
+    let found = c.decide.ensures.answers.by header lines c.requires.header is_line stands in (
       found.0 ∙ sym (ap (λ (r : Result Line LineCause). and_then r (allowed header lines)) read),
       found.1,
     )
+
+pub returns-in-Some-clause-spelled : goal.returns-in-Some-clause-spelled
+returns-in-Some-clause-spelled c = by c.decide.result c.decide.ensures.same
+  where
+    by : (found : Result Line LineCause) → IfOk found (λ said. said ≡ c.in-Some.said)
+        → IfOk found (λ line. spelled_line c.args.header.now line ≡ c.args.line.now ++ 10 ∷ [])
+    by (Ok line) same = ap (spelled_line c.args.header.now) same ∙ c.in-Some.ensures.spelled.spelled
+    by (Err cause) same = tt

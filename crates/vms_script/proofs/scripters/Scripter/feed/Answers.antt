@@ -1,6 +1,8 @@
-use Rattle.std.proofs.Common.{◌≡◌, ◌<◌, List, length, sym, ap, subst, ◌∙◌, arith, All, Ok, Err}
+use Rattle.std.proofs.Common.{◌≡◌, ◌<◌, List, length, sym, ap, subst, ◌∙◌, arith, All, Ok, Err, Result}
 use Rattle.vms_base.specs.declared.headers.Header.{Header}
 use Rattle.vms_text.specs.declared.acts.Item.{Item}
+use Rattle.vms_text.specs.declared.acts.Line.{Line}
+use Rattle.vms_line.specs.declared.causes.LineCause.{LineCause}
 use Rattle.vms_line.specs.Laws.{IsLineOf}
 use Rattle.vms_script.specs.Judging.{counted, judged}
 use Rattle.vms_script.specs.JudgeStates.{Stands}
@@ -11,7 +13,9 @@ use Rattle.vms_script.proofs.scripters.Scripter.feed.Goals as goal
 pub returns-in-Ok : goal.returns-in-Ok
 returns-in-Ok c = λ script of holds.
     let here = subst (λ (header : Header). Stands header script.lines c.args.self.now.judge) of holds.stands in
-    let judged_here = c.in-Ok.ensures script.lines here in
+    let judged_here = subst (λ (r : Result Line LineCause). (r ≡ judged c.args.header.now script.lines c.args.line.now)
+    × Stands c.args.header.now (counted r script.lines) c.judge.new.self) c.in-Ok.is
+    (c.judge.ensures.said script.lines here) in
     let kept = c.reserve.ensures.items ∙ holds.items in (
       c.in-Ok.said,
       subst (λ (header : Header). judged header script.lines c.args.line.now ≡ Ok c.in-Ok.said) (sym of)
@@ -32,7 +36,9 @@ returns-in-Ok c = λ script of holds.
 pub returns-in-Err : goal.returns-in-Err
 returns-in-Err c = λ script of holds.
     let here = subst (λ (header : Header). Stands header script.lines c.args.self.now.judge) of holds.stands in
-    let judged_here = c.in-Err.ensures script.lines here in (
+    let judged_here = subst (λ (r : Result Line LineCause). (r ≡ judged c.args.header.now script.lines c.args.line.now)
+    × Stands c.args.header.now (counted r script.lines) c.judge.new.self) c.in-Err.is
+    (c.judge.ensures.said script.lines here) in (
       subst (λ (header : Header). judged header script.lines c.args.line.now ≡ Err c.in-Err.cause) (sym of)
           (sym judged_here.0),
       record {
