@@ -1,5 +1,5 @@
 -- For other crates too: a line that counts is what was read, and is one of its header.
-use Rattle.std.proofs.Common.{◌≡◌, ℕ, Bool, true, false, if◌then◌else◌, List, ap}
+use Rattle.std.proofs.Common.{◌≡◌, ℕ, Bool, true, false, if◌then◌else◌, List, ap, sym, ◌∙◌}
 use Rattle.std.specs.Prelude.{nat_eq, Result, Ok, Err}
 use Rattle.std.proofs.lemmas.Result.{IfOk-at_ok}
 use Rattle.vms_base.specs.declared.headers.Header.{Header}
@@ -19,11 +19,11 @@ use Rattle.vms_line.specs.Body.{read_line}
 use Rattle.vms_line.specs.Laws.{IsLineOf}
 use Rattle.vms_text.specs.Reading.{and_then}
 use Rattle.vms_line.proofs.LinesKnown.{read_line-known}
-use Rattle.vms_script.specs.Cpus.{cpu_state, online_below}
 use Rattle.vms_base.specs.Cpus.{is_online}
-use Rattle.vms_script.specs.Judging.{allowed, allowed_boundary, allowed_burial, allowed_of_control, allowed_online}
-use Rattle.vms_script.specs.Judging.{judged}
-use Rattle.vms_script.specs.Volumes.{overflows}
+use Rattle.vms_script.specs.Cpus.{online_among}
+use Rattle.vms_script.specs.Judging.{allowed_boundary, allowed_burial, allowed_from, allowed_of_control, allowed_online}
+use Rattle.vms_script.specs.Judging.{judged, judged_from, overflows_from}
+use Rattle.vms_script.specs.Starts.{Start, first_start, start_after}
 
 -- the line itself, if any
 abbrev Keeps : Line → Result Line LineCause → Type 0
@@ -50,41 +50,57 @@ keeps-online said states.Absent = keeps-ok said
 keeps-online said states.Online = λ line is. absurd cc
 keeps-online said states.Dead = λ line is. absurd cc
 
-keeps-control : (lines : List Line) (act : Act) (said : Line) → Keeps said (allowed_of_control lines act said)
-keeps-control lines (Dead cpu) said = keeps-burial said (cpu_state cpu.number lines)
-keeps-control lines act said = keeps-ok said
+keeps-control : (start : Start) (act : Act) (said : Line) → Keeps said (allowed_of_control start act said)
+keeps-control start (Dead cpu) said = keeps-burial said (start.state cpu.number)
+keeps-control start act said = keeps-ok said
 
-keeps-boundary : (header : Header) (lines : List Line) (boundary : BoundaryOf) (said : Line)
-    → Keeps said (allowed_boundary header lines boundary said)
-keeps-boundary header lines (Offline cpu) said =
-    keeps-either said (is_online (cpu_state cpu.number lines)) _ _
-    (keeps-either said (nat_eq (online_below header.layout.cpus lines) 1) _ _ (keeps-err said LastCpu)
+keeps-boundary : (header : Header) (start : Start) (boundary : BoundaryOf) (said : Line)
+    → Keeps said (allowed_boundary header start boundary said)
+keeps-boundary header start (Offline cpu) said =
+    keeps-either said (is_online (start.state cpu.number)) _ _
+    (keeps-either said (nat_eq (online_among header.layout.cpus start.state) 1) _ _ (keeps-err said LastCpu)
     (keeps-ok said)) (keeps-err said NotOnline)
-keeps-boundary header lines (Online cpu) said = keeps-online said (cpu_state cpu.number lines)
-keeps-boundary header lines boundary said = keeps-ok said
+keeps-boundary header start (Online cpu) said = keeps-online said (start.state cpu.number)
+keeps-boundary header start boundary said = keeps-ok said
 
-keeps-allowed : (header : Header) (lines : List Line) (said : Line) → Keeps said (allowed header lines said)
-keeps-allowed header lines Blank = keeps-ok Blank
-keeps-allowed header lines (Lane (Cpu cpu) act) =
-    keeps-either (Lane (Cpu cpu) act) (is_online (cpu_state cpu.number lines)) _ _
-    (keeps-either (Lane (Cpu cpu) act) (overflows lines cpu.number act) _ _
+keeps-allowed : (header : Header) (start : Start) (said : Line) → Keeps said (allowed_from header start said)
+keeps-allowed header start Blank = keeps-ok Blank
+keeps-allowed header start (Lane (Cpu cpu) act) =
+    keeps-either (Lane (Cpu cpu) act) (is_online (start.state cpu.number)) _ _
+    (keeps-either (Lane (Cpu cpu) act) (overflows_from start cpu.number act) _ _
     (keeps-err (Lane (Cpu cpu) act) Overflow) (keeps-ok (Lane (Cpu cpu) act)))
     (keeps-err (Lane (Cpu cpu) act) NotOnline)
-keeps-allowed header lines (Lane Control act) = keeps-control lines act (Lane Control act)
-keeps-allowed header lines (Boundary boundary) = keeps-boundary header lines boundary (Boundary boundary)
+keeps-allowed header start (Lane Control act) = keeps-control start act (Lane Control act)
+keeps-allowed header start (Boundary boundary) = keeps-boundary header start boundary (Boundary boundary)
 
-module _ (header : Header) (lines : List Line) where
-  read-from : (read : Result Line LineCause) (line : Line) → and_then read (allowed header lines) ≡ Ok line
+module _ (header : Header) (start : Start) where
+  read-from : (read : Result Line LineCause) (line : Line) → and_then read (allowed_from header start) ≡ Ok line
       → read ≡ Ok line
-  read-from (Ok said) line is = ap Ok (keeps-allowed header lines said line is)
+  read-from (Ok said) line is = ap Ok (keeps-allowed header start said line is)
   read-from (Err cause) line is = absurd cc
 
   -- a line that counts was read as what it says
-  pub judged-read : (text : List ℕ) (line : Line) → judged header lines text ≡ Ok line
+  pub judged_from-read : (text : List ℕ) (line : Line) → judged_from header start text ≡ Ok line
       → read_line header text ≡ Ok line
-  judged-read text line is = read-from (read_line header text) line is
+  judged_from-read text line is = read-from (read_line header text) line is
 
-  pub judged-known : (text : List ℕ) (line : Line) → IsHeader header → judged header lines text ≡ Ok line
+  -- it is a line of the header
+  pub judged_from-known : (text : List ℕ) (line : Line) → IsHeader header → judged_from header start text ≡ Ok line
       → IsLineOf header line
-  judged-known text line is_header is =
-      IfOk-at_ok (IsLineOf header) (judged-read text line is) (read_line-known header is_header text)
+  judged_from-known text line is_header is =
+      IfOk-at_ok (IsLineOf header) (judged_from-read text line is) (read_line-known header is_header text)
+
+  -- and it is allowed
+  pub judged_from-allowed : (text : List ℕ) (line : Line) → judged_from header start text ≡ Ok line
+      → allowed_from header start line ≡ Ok line
+  judged_from-allowed text line is =
+      sym (ap (λ (r : Result Line LineCause). and_then r (allowed_from header start))
+      (judged_from-read text line is)) ∙ is
+
+-- the same of a line after some lines of a body
+module _ (header : Header) (lines : List Line) (text : List ℕ) (line : Line) where
+  pub judged-read : judged header lines text ≡ Ok line → read_line header text ≡ Ok line
+  judged-read is = judged_from-read header (start_after first_start lines) text line is
+
+  pub judged-known : IsHeader header → judged header lines text ≡ Ok line → IsLineOf header line
+  judged-known is_header is = judged_from-known header (start_after first_start lines) text line is_header is

@@ -7,8 +7,8 @@ use Rattle.vms_base.specs.declared.headers.Header.{Header}
 use Rattle.vms_base.specs.declared.ids.CpuId.{CpuId}
 use Rattle.vms_script.specs.Cpus.{cpu_state}
 use Rattle.vms_base.specs.Cpus.{is_online}
-use Rattle.vms_script.specs.Judging.{allowed, judged}
-use Rattle.vms_script.specs.Volumes.{by_cpu, overflows, spent_on_counter, volume}
+use Rattle.vms_script.specs.Judging.{allowed, judged, overflows}
+use Rattle.vms_script.specs.Volumes.{by_cpu, spent_on_counter, volume}
 use Rattle.vms_base.specs.Volumes.{most_volume}
 use Rattle.vms_script.proofs.Known.{judged-read}
 use Rattle.vms_script.proofs.VolumeSums.{by_cpu-nothing}

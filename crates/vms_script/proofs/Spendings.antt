@@ -22,8 +22,8 @@ use Rattle.vms_script.specs.declared.judges.LineJudge.{LineJudge}
 use Rattle.vms_script.specs.declared.volumes.VolumeTable.{VolumeTable}
 use Rattle.vms_script.specs.Cpus.{cpu_state, state_past}
 use Rattle.vms_base.specs.Cpus.{is_online}
-use Rattle.vms_script.specs.Judging.{allowed, counted}
-use Rattle.vms_script.specs.Volumes.{overflows, spent_on_counter, spent_on_event, spent_on_pcpu, volume}
+use Rattle.vms_script.specs.Judging.{allowed, counted, overflows}
+use Rattle.vms_script.specs.Volumes.{spent_on_counter, spent_on_event, spent_on_pcpu, volume}
 use Rattle.vms_base.specs.Volumes.{most_volume}
 use Rattle.vms_script.specs.JudgeStates.{Decides, Stands, TellsCpus, TellsVolumes, answered, volume_at, with_volume}
 use Rattle.vms_script.proofs.CpuCounts.{TellsCpus-still}

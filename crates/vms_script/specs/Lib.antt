@@ -1,5 +1,6 @@
 pub mod Cpus
 pub mod Volumes
+pub mod Starts
 pub mod Judging
 pub mod JudgeStates
 pub mod Totals

@@ -1,6 +1,5 @@
 -- What the lines that count change, in absolute sum.
-use Rattle.std.specs.Prelude.{ℕ, ◌+◌, nat_eq, nat_lt, if◌then◌else◌, unsigned_abs, List, [], ◌∷◌, Bool, false}
-use Rattle.vms_base.specs.Volumes.{most_volume}
+use Rattle.std.specs.Prelude.{ℕ, ◌+◌, nat_eq, if◌then◌else◌, unsigned_abs, List, [], ◌∷◌}
 use Rattle.vms_text.specs.declared.acts.Act.{Act}
 use Rattle.vms_text.specs.declared.acts.Act.TheVariants.{Mod, Inc, Dec, Ev, Cnt, Lim}
 use Rattle.vms_text.specs.declared.acts.Lane.TheVariants.{Cpu}
@@ -30,20 +29,12 @@ abbrev pub by_cpu : ℕ → (Act → ℕ) → Line → ℕ
 by_cpu c measure (Lane (Cpu cpu) act) = if nat_eq cpu.number c then measure act else 0
 by_cpu c measure _ = 0
 
--- the volume of CPU c after these lines: the sum of a measure of its lane's acts
-abbrev pub volume : (Act → ℕ) → ℕ → List Line → ℕ
-volume measure c [] = 0
-volume measure c (line ∷ lines) = by_cpu c measure line + volume measure c lines
+-- the volume of CPU c after these lines, from what it was before them: each line adds a measure of its act, if the CPU's
+-- lane has it
+abbrev pub volume_from : ℕ → (Act → ℕ) → ℕ → List Line → ℕ
+volume_from before measure c [] = before
+volume_from before measure c (line ∷ lines) = by_cpu c measure line + volume_from before measure c lines
 
--- whether a line of CPU c would exceed the most volume on what it changes
-abbrev pub overflows : List Line → ℕ → Act → Bool
-overflows lines c (Mod counter pages) =
-    nat_lt most_volume (volume (spent_on_counter counter.number) c lines + unsigned_abs pages)
-overflows lines c (Inc counter) = nat_lt most_volume (volume (spent_on_counter counter.number) c lines + 1)
-overflows lines c (Dec counter) = nat_lt most_volume (volume (spent_on_counter counter.number) c lines + 1)
-overflows lines c (Ev event n) = nat_lt most_volume (volume (spent_on_event event.number) c lines + n)
-overflows lines c (Cnt counter amount) = nat_lt most_volume (volume
-    (spent_on_pcpu counter.number) c lines + unsigned_abs amount)
-overflows lines c (Lim counter limit amount) =
-    nat_lt most_volume (volume (spent_on_pcpu counter.number) c lines + unsigned_abs amount)
-overflows lines c _ = false
+-- the volume of CPU c after these lines of a body: the sum of a measure of its lane's acts
+abbrev pub volume : (Act → ℕ) → ℕ → List Line → ℕ
+volume measure c lines = volume_from 0 measure c lines
