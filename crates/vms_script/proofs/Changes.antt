@@ -1,12 +1,12 @@
 -- For other crates too: what an act changes the totals by.
-use Rattle.std.proofs.Common.{◌≡◌, ℕ, ℤ, pos, negsuc, ◌+ℤ◌, ◌+◌, ◌<◌, ◌≤◌, ◌^◌, List, [], ◌∷◌, map, length, drop}
+use Rattle.std.proofs.Common.{◌≡◌, ℕ, ℤ, pos, negsuc, ◌+ℤ◌, ◌+◌, ◌<◌, ◌≤◌, ◌^◌, List, [], ◌∷◌, length, drop}
 use Rattle.std.proofs.Common.{get_or, set, length-set, get_or-set_same, get_or-set_other, nat_eq, if◌then◌else◌}
 use Rattle.std.proofs.Common.{unsigned_abs, refl, sym, ap, subst, ◌∙◌, arith, inl, inr, Some, None, All, IfSome, w64}
 use Rattle.std.proofs.Common.{FitsSigned}
 use Rattle.std.proofs.lemmas.Bool.{cases_eq}
 use Rattle.std.proofs.lemmas.Bool.Decides.{nat_tests}
 use Rattle.std.proofs.lemmas.Int.{ints, fits_signed_from_abs}
-use Rattle.std.proofs.lemmas.List.{at_drop_more, get_or-map, length-map}
+use Rattle.std.proofs.lemmas.List.{at_drop_more}
 use Rattle.std.proofs.lemmas.List.Elements.{All-get_or}
 use Rattle.vms_base.specs.declared.ids.CounterId.{CounterId}
 use Rattle.vms_base.specs.declared.headers.Header.{Header}
@@ -170,37 +170,28 @@ change-fits count wanted items i d totals change here some within leads =
       spent_on_counter-some (get_or items i d).act change some,
     ))
 
-module _ {X : Type 0} (items_of : X → List Item) where
-  -- past one phase
-  pub Leads-phase : (count : ℕ) (wanted : ℕ → ℤ) (phases : List X) (i : ℕ) (d : X) (totals totals' : List ℤ)
-      → i < length phases → length totals' ≡ length totals
-      → ((k : ℕ) → k < count
-      → get_or totals' k (pos 0) ≡ get_or totals k (pos 0) +ℤ changes_by k (items_of (get_or phases i d)))
-      → Leads count wanted (λ k. changes_by_all k (map items_of (drop i phases)))
-      (λ k. sizes_by_all k (map items_of (drop i phases))) totals
-      → Leads count wanted (λ k. changes_by_all k (map items_of (drop (i + 1) phases)))
-      (λ k. sizes_by_all k (map items_of (drop (i + 1) phases))) totals'
-  Leads-phase count wanted phases i d totals totals' here each changed leads =
-      Leads-past count wanted (λ k. changes_by k (items_of (get_or phases i d)))
-      (λ k. changes_by_all k (map items_of (drop i phases)))
-      (λ k. changes_by_all k (map items_of (drop (i + 1) phases)))
-      (λ k. sizes_by k (items_of (get_or phases i d))) (λ k. sizes_by_all k (map items_of (drop i phases)))
-      (λ k. sizes_by_all k (map items_of (drop (i + 1) phases))) totals totals' each changed
-      (λ k. unsigned_abs-changes_by k (items_of (get_or phases i d)))
-      (λ k. at_drop_more (λ left. changes_by_all k (map items_of left)) phases i d here)
-      (λ k. at_drop_more (λ left. sizes_by_all k (map items_of left)) phases i d here) leads
+-- past one phase
+pub Leads-phase : (count : ℕ) (wanted : ℕ → ℤ) (phases : List (List Item)) (i : ℕ) (d : List Item) (totals totals' : List ℤ)
+    → i < length phases → length totals' ≡ length totals
+    → ((k : ℕ) → k < count → get_or totals' k (pos 0) ≡ get_or totals k (pos 0) +ℤ changes_by k (get_or phases i d))
+    → Leads count wanted (λ k. changes_by_all k (drop i phases)) (λ k. sizes_by_all k (drop i phases)) totals
+    → Leads count wanted (λ k. changes_by_all k (drop (i + 1) phases)) (λ k. sizes_by_all k (drop (i + 1) phases)) totals'
+Leads-phase count wanted phases i d totals totals' here each changed leads =
+    Leads-past count wanted (λ k. changes_by k (get_or phases i d))
+    (λ k. changes_by_all k (drop i phases)) (λ k. changes_by_all k (drop (i + 1) phases))
+    (λ k. sizes_by k (get_or phases i d)) (λ k. sizes_by_all k (drop i phases))
+    (λ k. sizes_by_all k (drop (i + 1) phases)) totals totals' each changed
+    (λ k. unsigned_abs-changes_by k (get_or phases i d))
+    (λ k. at_drop_more (changes_by_all k) phases i d here) (λ k. at_drop_more (sizes_by_all k) phases i d here) leads
 
-  -- the totals have one of each counter that a phase changes
-  pub HasTotal-each : (header : Header) (phases : List X) (i : ℕ) (d : X) (totals : List ℤ)
-      → ArePhases header (map items_of phases) → i < length phases → length totals ≡ counter_count header.layout
-      → All (λ item. HasTotal totals item.act) (items_of (get_or phases i d))
-  HasTotal-each header phases i d totals are here each =
-      let known = subst (λ items. All (λ item. IsLineOf header (line_of item)) items)
-      (get_or-map items_of phases i d (items_of d) here)
-      (All-get_or (All (λ item. IsLineOf header (line_of item))) (map items_of phases) i (items_of d)
-      (omega (arith, length-map phases items_of)) are.known) in
-      λ k item below. HasTotal-of header (get_or (items_of (get_or phases i d)) k item).lane
-      (get_or (items_of (get_or phases i d)) k item).act totals each (known k item below).1
+-- the totals have one of each counter that a phase changes
+pub HasTotal-each : (header : Header) (phases : List (List Item)) (i : ℕ) (d : List Item) (totals : List ℤ)
+    → ArePhases header phases → i < length phases → length totals ≡ counter_count header.layout
+    → All (λ item. HasTotal totals item.act) (get_or phases i d)
+HasTotal-each header phases i d totals are here each =
+    let known = All-get_or (All (λ item. IsLineOf header (line_of item))) phases i d here are.known in
+    λ k item below. HasTotal-of header (get_or (get_or phases i d) k item).lane (get_or (get_or phases i d) k item).act
+        totals each (known k item below).1
 
 -- the bases are on the way to the plain totals
 pub Leads-first : (header : Header) (phases : List (List Item)) → IsHeader header → ArePhases header phases

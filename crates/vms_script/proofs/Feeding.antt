@@ -1,72 +1,80 @@
 -- For other crates too: what a scripter has come to after a line that counts.
-use Rattle.std.proofs.Common.{◌≡◌, ℕ, ◌+◌, ◌<◌, List, [], ◌∷◌, ◌++◌, length, get_or, map, length-append, Ok, sym, ap}
-use Rattle.std.proofs.Common.{subst, ◌∙◌, arith, inl, inr, All}
-use Rattle.std.proofs.Math.Seq.{get_or-append_seam}
-use Rattle.std.proofs.lemmas.Bool.{cases_eq}
-use Rattle.std.proofs.lemmas.List.{get_or_append_left, map-append}
-use Rattle.std.proofs.lemmas.List.Elements.{All-map}
-use Rattle.std.specs.List.Sorted.{IsStrictlyIncreasing}
+use Rattle.std.proofs.Common.{◌≡◌, ℕ, ◌<◌, List, [], ◌∷◌, ◌++◌, length, map, length-append, Ok, refl, sym, ap}
+use Rattle.std.proofs.Common.{subst, ◌∙◌, arith, All}
+use Rattle.std.specs.Prelude.{reverse}
+use Rattle.std.proofs.lemmas.List.{map-append, reverse-append}
 use Rattle.vms_base.specs.declared.headers.Header.{Header}
 use Rattle.vms_text.specs.declared.acts.Item.{Item}
 use Rattle.vms_text.specs.declared.acts.Line.{Line}
 use Rattle.vms_text.specs.declared.acts.Line.TheVariants.{Blank, Lane, Boundary}
 use Rattle.vms_script.specs.declared.scripters.Scripter.{Scripter}
-use Rattle.vms_script.specs.Judging.{counted}
-use Rattle.vms_script.specs.Scripts.{Gave, HoldsScript, Script, phases_of, with_line, with_taken}
+use Rattle.vms_script.specs.Judging.{allowed, allowed_from, counted}
+use Rattle.vms_script.specs.Scripts.{Gave, HoldsScript, IsOpen, Script, phase_start, phases_of, with_line, with_taken}
 use Rattle.vms_script.specs.JudgeStates.{Stands}
-use Rattle.vms_script.specs.Totals.{ArePhases}
+use Rattle.vms_script.specs.PhaseScripts.{IsPhaseScript}
+use Rattle.vms_script.specs.Starts.{Start, first_start, start_after, start_at_end}
+use Rattle.vms_script.specs.Totals.{ArePhases, line_of}
 use Rattle.vms_script.specs.Volumes.{spent_on_counter, volume}
+use Rattle.vms_script.proofs.Fitting.{Fits-none, Fits-push, start_at_end-after}
+use Rattle.vms_script.proofs.LineVolumes.{IsWithin-allowed}
 use Rattle.vms_script.proofs.PhaseLines.{lines_of_phases-open, volume-item}
 use Rattle.vms_script.proofs.Phases.{ArePhases-front, ArePhases-item, ArePhases-phase}
 use Rattle.vms_line.specs.Laws.{IsLineOf}
 
--- numbers that rise, with one more above them all
-IsStrictlyIncreasing-onto : (xs : List ℕ) (y : ℕ) → IsStrictlyIncreasing xs → All (λ x. x < y) xs
-    → IsStrictlyIncreasing (xs ++ y ∷ [])
-IsStrictlyIncreasing-onto xs y rise below k within = elim (cases_eq (k + 1) (length xs)) [
-  | inl last ↦
-      let new : get_or (xs ++ y ∷ []) (k + 1) 0 ≡ y =
-      ap (λ i. get_or (xs ++ y ∷ []) i 0) last ∙ get_or-append_seam xs y [] 0 in
-      let old = get_or_append_left xs (y ∷ []) 0 k (omega arith) in
-      omega (arith, new, old, below k 0 (omega arith))
-  | inr more ↦
-      let inside : k + 1 < length xs = omega (arith, length-append xs (y ∷ [])) in
-      let next = get_or_append_left xs (y ∷ []) 0 (k + 1) inside in
-      let this = get_or_append_left xs (y ∷ []) 0 k (omega arith) in
-      omega (arith, next, this, rise k inside)
-]
+-- where a phase that is open has come to
+start_at_end-open : (script : Script) → IsOpen script
+    → start_at_end (phase_start script) (map line_of script.items) ≡ start_after first_start script.lines
+start_at_end-open script is_open =
+    start_at_end-after first_start script.above (map line_of script.items) ∙ ap (start_after first_start) (sym is_open)
+
+-- a phase stays open with a lane line more, and the next one is when it was taken
+pub IsOpen-lane : (script : Script) (item : Item) → IsOpen script
+    → IsOpen (with_line item.number (line_of item) script)
+IsOpen-lane script item is_open =
+    ap (λ (lines : List Line). line_of item ∷ lines) is_open
+    ∙ ap (λ (back : List Line). back ++ script.above)
+    (sym (ap reverse (map-append line_of script.items (item ∷ []))
+    ∙ reverse-append (map line_of script.items) (line_of item ∷ [])))
+
+pub IsOpen-taken : (script : Script) → IsOpen (with_taken script)
+IsOpen-taken script = refl
 
 -- a scripter past a line of the body that counts, or a blank one
 pub HoldsScript-after : (n : ℕ) (line : Line) (script : Script) (old new : Scripter) → HoldsScript script old
     → Stands script.header (counted (Ok line) script.lines) new.judge
     → new.items.items ≡ (with_line n line script).items → IsLineOf script.header line
+    → allowed script.header script.lines line ≡ Ok line → IsOpen script
     → All (λ item. item.number < n) script.items → length script.items < 1000000
     → HoldsScript (with_line n line script) new
-HoldsScript-after n Blank script old new holds stands items known below few = record {
+HoldsScript-after n Blank script old new holds stands items known counts is_open below few = record {
   stands = stands;
   items = items;
-  ascend = holds.ascend;
   few = holds.few;
+  fits = holds.fits;
+  within = holds.within;
   phases = holds.phases;
   volumes = holds.volumes;
 }
-HoldsScript-after n (Boundary boundary) script old new holds stands items known below few = record {
+HoldsScript-after n (Boundary boundary) script old new holds stands items known counts is_open below few = record {
   stands = stands;
   items = items;
-  ascend = holds.ascend;
   few = holds.few;
+  fits = holds.fits;
+  within = IsWithin-allowed script.header (start_after first_start script.lines) (Boundary boundary) counts
+      holds.within;
   phases = holds.phases;
   volumes = λ c k. omega (arith, holds.volumes c k);
 }
-HoldsScript-after n (Lane lane act) script old new holds stands items known below few =
+HoldsScript-after n (Lane lane act) script old new holds stands items known counts is_open below few =
     let added : Item = record { number = n; lane = lane; act = act } in
     record {
       stands = stands;
       items = items;
-      ascend = subst IsStrictlyIncreasing (sym (map-append (λ (item : Item). item.number) script.items (added ∷ [])))
-          (IsStrictlyIncreasing-onto (map (λ (item : Item). item.number) script.items) n holds.ascend
-          (All-map (λ x. x < n) (λ (item : Item). item.number) script.items below));
       few = omega (arith, length-append script.items (added ∷ []));
+      fits = Fits-push script.header (phase_start script) script.items added holds.fits below known
+          (subst (λ (start : Start). allowed_from script.header start (Lane lane act) ≡ Ok (Lane lane act))
+          (sym (start_at_end-open script is_open)) counts);
+      within = IsWithin-allowed script.header (start_after first_start script.lines) (Lane lane act) counts holds.within;
       phases = ArePhases-item script.header script.taken script.items added holds.phases known
           (λ c k c_in k_in. omega (arith, stands.counters.most c k c_in k_in, holds.volumes c k));
       volumes = λ c k. omega (
@@ -82,11 +90,18 @@ pub HoldsScript-taken : (script : Script) (old new : Scripter) → HoldsScript s
 HoldsScript-taken script old new holds same items = record {
   stands = subst (Stands script.header script.lines) (sym same) holds.stands;
   items = items;
-  ascend = λ k within. absurd (omega (arith, within));
   few = omega arith;
+  fits = Fits-none script.header (phase_start (with_taken script));
+  within = holds.within;
   phases = ArePhases-phase script.header (phases_of script) holds.phases;
   volumes = λ c k. ap (volume (spent_on_counter k) c) (lines_of_phases-open (phases_of script)) ∙ holds.volumes c k;
 }
+
+-- what a scripter holds makes a script
+pub IsPhaseScript-held : (script : Script) (scripter : Scripter) → HoldsScript script scripter
+    → IsPhaseScript scripter.items.items
+IsPhaseScript-held script scripter holds =
+    subst IsPhaseScript (sym holds.items) (record { few = holds.few; ascend = holds.fits.ascend })
 
 -- the phases that a scripter gave
 pub ArePhases-gave : (header : Header) (phases : List (List Item)) (scripter : Scripter) → Gave header phases scripter

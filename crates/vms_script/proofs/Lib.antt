@@ -8,6 +8,8 @@ pub mod LineVolumes
 pub mod Elements
 pub mod PhaseLines
 pub mod Phases
+pub mod Fitting
 pub mod Feeding
 pub mod Sizes
 pub mod Changes
+pub mod LaneItems

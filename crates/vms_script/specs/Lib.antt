@@ -4,4 +4,6 @@ pub mod Starts
 pub mod Judging
 pub mod JudgeStates
 pub mod Totals
+pub mod PhaseScripts
+pub mod FittingScripts
 pub mod Scripts

@@ -3,10 +3,14 @@
 
 mod cpus;
 mod judges;
+mod lane_scripts;
+mod phase_scripts;
 mod scripters;
 mod totals;
 mod volumes;
 
 pub use judges::{JudgedLine, LineJudge};
-pub use scripters::{Fed, FeedError, PhaseScript, Scripter};
+pub use lane_scripts::{LaneItem, LaneScript};
+pub use phase_scripts::PhaseScript;
+pub use scripters::{Fed, FeedError, Scripter};
 pub use totals::{PageTotals, plain_totals};

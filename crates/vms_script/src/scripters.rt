@@ -1,4 +1,4 @@
-use crate::LineJudge;
+use crate::{LineJudge, PhaseScript};
 use std::alloc::{AllocError, Global};
 use vms_base::{Header, Memory};
 use vms_line::{Boundary, Item, Line, LineCause};
@@ -23,9 +23,6 @@ pub enum FeedError {
     Memory,
 }
 
-/// The lane lines of a phase that count, in the order of the text.
-pub type PhaseScript = Vec<Item>;
-
 impl From<AllocError> for FeedError {
     ghost use Rattle.std.specs.Prelude.{◌≡◌};
     ghost use Rattle.vms_script.specs.declared.scripters.FeedError.TheVariants as errors;
@@ -47,11 +44,10 @@ pub struct Scripter {
 }
 
 impl Scripter {
-    ghost use Rattle.std.specs.Prelude.{◌≡◌, ◌<◌, All, IfOk, map, vec_capacity, vec_len};
-    ghost use Rattle.std.specs.List.Sorted.{IsStrictlyIncreasing};
+    ghost use Rattle.std.specs.Prelude.{◌≡◌, ◌<◌, All, IfOk, vec_capacity, vec_len};
     ghost use Rattle.vms_base.specs.Headers.{IsHeader};
-    ghost use Rattle.vms_script.specs.Scripts.{Feeds, HoldsScript, Script, SomeScripter, fed_of, first_script};
-    ghost use Rattle.vms_script.specs.Scripts.{with_line, with_taken};
+    ghost use Rattle.vms_script.specs.Scripts.{Feeds, HoldsScript, IsOpen, Script, SomeScripter, Takes, fed_of};
+    ghost use Rattle.vms_script.specs.Scripts.{first_script, with_line};
 
     /// A scripter before the first line of a body with this header.
     pub fn make(alloc: Global, header: &Header) -> Result<Scripter, Memory>
@@ -65,13 +61,14 @@ impl Scripter {
         })
     }
 
-    /// Takes in a line of the body, which has this number in the text. It is refused where it doesn't count.
+    /// Takes in a line of the body, which has this number in the text. It is refused where it doesn't count. After a
+    /// boundary line that counts the phase is taken before the next line.
     pub fn feed(&mut self, header: &Header, number: u32, line: &[u8]) -> Result<Fed, FeedError>
         requires header { IsHeader header.now }
         requires scripter { SomeScripter header.now self.old }
         requires number { All (λ item. item.number < number) self.old.items.items }
         requires few { vec_len self.old.items < 1000000 }
-        ensures { (script : Script) → script.header ≡ header.now → HoldsScript script self.old →
+        ensures { (script : Script) → script.header ≡ header.now → IsOpen script → HoldsScript script self.old →
             Feeds number line.now script self.new result }
     {
         self.items.reserve(1)?;
@@ -83,10 +80,10 @@ impl Scripter {
 
     /// Takes the lane lines so far, in the order of the text. The scripter then holds none.
     pub fn take_phase(&mut self) -> PhaseScript
-        ensures { (script : Script) → HoldsScript script self.old →
-            (result.items ≡ script.items) × HoldsScript (with_taken script) self.new }
+        requires { (script : Script) × HoldsScript script self.old }
+        ensures { (script : Script) → HoldsScript script self.old → Takes script result self.new }
     {
-        std::mem::replace(&mut self.items, Vec::new(self.alloc))
+        PhaseScript::make(std::mem::replace(&mut self.items, Vec::new(self.alloc)))
     }
 
     /// Keeps a line that counts, if it is one of a lane.

@@ -1,4 +1,4 @@
-ghost use Rattle.std.specs.Prelude.{◌≡◌, ℕ, ◌+◌, ◌<◌, ◌^◌, pos, ◌+ℤ◌, unsigned_abs, length, map, All, IfOk};
+ghost use Rattle.std.specs.Prelude.{◌≡◌, ℕ, ◌+◌, ◌<◌, ◌^◌, pos, ◌+ℤ◌, unsigned_abs, length, All, IfOk};
 ghost use Rattle.std.specs.Prelude.{slice_index_or};
 ghost use Rattle.vms_base.specs.Headers.{IsHeader};
 ghost use Rattle.vms_script.specs.Totals.{ArePhases, ArePlainTotals, HasTotal, change_by, change_of, changes_by};
@@ -19,8 +19,8 @@ pub fn plain_totals(
     phases: &[PhaseScript],
 ) -> Result<PageTotals, Memory>
     requires header { IsHeader header.now }
-    requires phases { ArePhases header.now (map (λ script. script.items) phases.now) }
-    ensures { IfOk result (λ totals. ArePlainTotals header.now (map (λ script. script.items) phases.now) totals) }
+    requires phases { ArePhases header.now phases.now }
+    ensures { IfOk result (λ totals. ArePlainTotals header.now phases.now totals) }
 {
     let mut totals = Row::from_slice(alloc, header.bases.as_slice())?;
     for phase in phases {

@@ -4,14 +4,15 @@ use Rattle.vms_text.specs.declared.acts.Item.{Item}
 use Rattle.vms_text.specs.declared.acts.Line.{Line}
 use Rattle.vms_line.specs.declared.causes.LineCause.{LineCause}
 use Rattle.vms_line.specs.Laws.{IsLineOf}
-use Rattle.vms_script.specs.Judging.{counted, judged}
+use Rattle.vms_script.specs.Judging.{allowed, counted, judged}
 use Rattle.vms_script.specs.JudgeStates.{Stands}
+use Rattle.vms_script.specs.Starts.{first_start, start_after}
 use Rattle.vms_script.proofs.Feeding.{HoldsScript-after}
-use Rattle.vms_script.proofs.Known.{judged-known}
+use Rattle.vms_script.proofs.Known.{judged-known, judged_from-allowed}
 use Rattle.vms_script.proofs.scripters.Scripter.feed.Goals as goal
 
 pub returns-in-Ok : goal.returns-in-Ok
-returns-in-Ok c = λ script of holds.
+returns-in-Ok c = λ script of is_open holds.
     let here = subst (λ (header : Header). Stands header script.lines c.args.self.now.judge) of holds.stands in
     let judged_here = subst (λ (r : Result Line LineCause). (r ≡ judged c.args.header.now script.lines c.args.line.now)
     × Stands c.args.header.now (counted r script.lines) c.judge.new.self) c.in-Ok.is
@@ -29,12 +30,16 @@ returns-in-Ok c = λ script of holds.
           (subst (λ (header : Header). IsLineOf header c.in-Ok.said) (sym of)
           (judged-known c.args.header.now script.lines
           c.args.line.now c.in-Ok.said c.requires.header (sym judged_here.0)))
+          (subst (λ (header : Header). allowed header script.lines c.in-Ok.said ≡ Ok c.in-Ok.said) (sym of)
+          (judged_from-allowed c.args.header.now (start_after first_start script.lines) c.args.line.now c.in-Ok.said
+          (sym judged_here.0)))
+          is_open
           (subst (λ (items : List Item). All (λ item. item.number < c.args.number) items) holds.items c.requires.number)
           (omega (arith, ap (λ (items : List Item). length items) holds.items, c.requires.few)),
     )
 
 pub returns-in-Err : goal.returns-in-Err
-returns-in-Err c = λ script of holds.
+returns-in-Err c = λ script of is_open holds.
     let here = subst (λ (header : Header). Stands header script.lines c.args.self.now.judge) of holds.stands in
     let judged_here = subst (λ (r : Result Line LineCause). (r ≡ judged c.args.header.now script.lines c.args.line.now)
     × Stands c.args.header.now (counted r script.lines) c.judge.new.self) c.in-Err.is
@@ -44,8 +49,9 @@ returns-in-Err c = λ script of holds.
       record {
         stands = subst (λ (header : Header). Stands header script.lines c.judge.new.self) (sym of) judged_here.1;
         items = c.reserve.ensures.items ∙ holds.items;
-        ascend = holds.ascend;
         few = holds.few;
+        fits = holds.fits;
+        within = holds.within;
         phases = holds.phases;
         volumes = holds.volumes;
       },

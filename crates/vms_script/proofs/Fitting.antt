@@ -1,0 +1,84 @@
+-- For other crates too: scripts that fit a start, line by line, and where they end.
+use Rattle.std.proofs.Common.{◌≡◌, ℕ, ◌+◌, ◌<◌, List, [], ◌∷◌, ◌++◌, length, get_or, map, length-append, refl, sym, ap}
+use Rattle.std.proofs.Common.{subst, ◌∙◌, arith, append_assoc, inl, inr, All, Ok}
+use Rattle.std.proofs.Math.Seq.{get_or-append_seam}
+use Rattle.std.proofs.lemmas.Bool.{cases_eq}
+use Rattle.std.proofs.lemmas.List.{get_or_append_left, map-append, reverse-append}
+use Rattle.std.proofs.lemmas.List.Elements.{All-map, All-push}
+use Rattle.std.specs.List.Sorted.{IsStrictlyIncreasing}
+use Rattle.std.specs.Prelude.{reverse}
+use Rattle.vms_base.specs.declared.headers.Header.{Header}
+use Rattle.vms_text.specs.declared.acts.Item.{Item}
+use Rattle.vms_text.specs.declared.acts.Line.{Line}
+use Rattle.vms_line.specs.Laws.{IsLineOf}
+use Rattle.vms_script.specs.FittingScripts.{AreAllowed, Fits}
+use Rattle.vms_script.specs.Judging.{allowed_from}
+use Rattle.vms_script.specs.Starts.{IsWithin, Start, start_after, start_at_end, start_past}
+use Rattle.vms_script.specs.Totals.{line_of}
+use Rattle.vms_script.proofs.LineVolumes.{IsWithin-allowed}
+
+-- numbers that rise, with one more above them all
+pub IsStrictlyIncreasing-onto : (xs : List ℕ) (y : ℕ) → IsStrictlyIncreasing xs → All (λ x. x < y) xs
+    → IsStrictlyIncreasing (xs ++ y ∷ [])
+IsStrictlyIncreasing-onto xs y rise below k within = elim (cases_eq (k + 1) (length xs)) [
+  | inl last ↦
+      let new : get_or (xs ++ y ∷ []) (k + 1) 0 ≡ y =
+      ap (λ i. get_or (xs ++ y ∷ []) i 0) last ∙ get_or-append_seam xs y [] 0 in
+      let old = get_or_append_left xs (y ∷ []) 0 k (omega arith) in
+      omega (arith, new, old, below k 0 (omega arith))
+  | inr more ↦
+      let inside : k + 1 < length xs = omega (arith, length-append xs (y ∷ [])) in
+      let next = get_or_append_left xs (y ∷ []) 0 (k + 1) inside in
+      let this = get_or_append_left xs (y ∷ []) 0 k (omega arith) in
+      omega (arith, next, this, rise k inside)
+]
+
+-- what follows lines that stand after others
+pub start_at_end-append : (start : Start) (lines more : List Line)
+    → start_at_end start (lines ++ more) ≡ start_at_end (start_at_end start lines) more
+start_at_end-append start [] more = refl
+start_at_end-append start (line ∷ lines) more = start_at_end-append (start_past line start) lines more
+
+-- it is the same by the lines from the newest back
+pub start_at_end-after : (start : Start) (above lines : List Line)
+    → start_at_end (start_after start above) lines ≡ start_after start (reverse lines ++ above)
+start_at_end-after start above [] = refl
+start_at_end-after start above (line ∷ lines) =
+    start_at_end-after start (line ∷ above) lines
+    ∙ ap (start_after start) (sym (append_assoc (reverse lines) (line ∷ []) above)
+    ∙ ap (λ (back : List Line). back ++ above) (sym (reverse-append (line ∷ []) lines)))
+
+module _ (header : Header) where
+  -- lines that count, with one more
+  pub AreAllowed-push : (start : Start) (lines : List Line) (line : Line) → AreAllowed header start lines
+      → allowed_from header (start_at_end start lines) line ≡ Ok line
+      → AreAllowed header start (lines ++ line ∷ [])
+  AreAllowed-push start [] line are is = (is, tt)
+  AreAllowed-push start (first ∷ lines) line are is =
+      (are.0, AreAllowed-push (start_past first start) lines line are.1 is)
+
+  -- no volume is past the most after them
+  pub IsWithin-lines : (start : Start) (lines : List Line) → AreAllowed header start lines → IsWithin start
+      → IsWithin (start_at_end start lines)
+  IsWithin-lines start [] are within = within
+  IsWithin-lines start (line ∷ lines) are within =
+      IsWithin-lines (start_past line start) lines are.1 (IsWithin-allowed header start line are.0 within)
+
+  -- a script without a line fits every start
+  pub Fits-none : (start : Start) → Fits header start []
+  Fits-none start =
+      record { ascend = λ k within. absurd (omega (arith, within)); known = λ k d within. absurd (omega arith); allowed = tt }
+
+  -- a script with one line more
+  pub Fits-push : (start : Start) (items : List Item) (item : Item) → Fits header start items
+      → All (λ (i : Item). i.number < item.number) items → IsLineOf header (line_of item)
+      → allowed_from header (start_at_end start (map line_of items)) (line_of item) ≡ Ok (line_of item)
+      → Fits header start (items ++ item ∷ [])
+  Fits-push start items item fits below known is = record {
+    ascend = subst IsStrictlyIncreasing (sym (map-append (λ (i : Item). i.number) items (item ∷ [])))
+        (IsStrictlyIncreasing-onto (map (λ (i : Item). i.number) items) item.number fits.ascend
+        (All-map (λ x. x < item.number) (λ (i : Item). i.number) items below));
+    known = All-push (λ (i : Item). IsLineOf header (line_of i)) items item fits.known known;
+    allowed = subst (AreAllowed header start) (sym (map-append line_of items (item ∷ [])))
+        (AreAllowed-push start (map line_of items) (line_of item) fits.allowed is);
+  }
