@@ -1,4 +1,4 @@
-ghost use Rattle.std.specs.Prelude.{◌≡◌, ◌++◌, ◌+◌, ◌<◌, ◌≤◌, [], ◌∷◌, All, List, IfOk, map, vec_len};
+ghost use Rattle.std.specs.Prelude.{◌≡◌, ◌++◌, ◌+◌, ◌<◌, ◌≤◌, [], ◌∷◌, All, List, IfOk, vec_len};
 ghost use Rattle.vms_base.specs.Headers.{IsHeader};
 ghost use Rattle.vms_text.specs.declared.acts.Item.{Item};
 ghost use Rattle.vms_script.specs.Scripts.{Gave, SomeScripter};
@@ -8,11 +8,18 @@ use crate::headers::{ONE_ZONE, header};
 use std::alloc::Global;
 use std::test::Fail;
 use vms_base::{CpuId, Header, Memory};
-use vms_line::{Boundary, LineCause};
+use vms_line::{Boundary, Lane, LineCause};
 use vms_script::{Fed, FeedError, PageTotals, PhaseScript, Scripter, plain_totals};
 
-/// Feeds a line whose number is above those of the lines that the scripter holds.
-fn feed(scripter: &mut Scripter, header: &Header, number: u32, line: &str) -> Result<Fed, FeedError>
+/// What a line came to, and the phase that it ended.
+#[derive(Drop)]
+struct Step {
+    fed: Result<Fed, FeedError>,
+    ended: Option<PhaseScript>,
+}
+
+/// Feeds a line whose number is above those of the lines that the scripter holds, and takes the phase that it ends.
+fn feed(scripter: &mut Scripter, header: &Header, number: u32, line: &str) -> Step
     requires header { IsHeader header.now }
     requires scripter { SomeScripter header.now scripter.old }
     requires number { All (λ item. item.number < number) scripter.old.items.items }
@@ -21,7 +28,14 @@ fn feed(scripter: &mut Scripter, header: &Header, number: u32, line: &str) -> Re
     ensures number { All (λ item. item.number < number + 1) scripter.new.items.items }
     ensures few { vec_len scripter.new.items ≤ vec_len scripter.old.items + 1 }
 {
-    scripter.feed(header, number, line.as_bytes())
+    let fed = scripter.feed(header, number, line.as_bytes());
+    match fed {
+        Ok(Fed::Boundary(_)) => Step {
+            fed,
+            ended: Some(scripter.take_phase()),
+        },
+        _ => Step { fed, ended: None },
+    }
 }
 
 #[test]
@@ -29,6 +43,7 @@ fn collects_the_lines_of_a_phase(rt: HostRuntime) -> Result<(), Fail> {
     let header = header(&rt, ONE_ZONE)?;
     let mut scripter = Scripter::make(rt.alloc(), &header)?;
     let mut number = 1;
+    let mut ended = None;
     for (line, want) in [
         ("c0 inc 0 Normal nr_free_pages", Ok(Fed::Kept)),
         ("# a remark", Ok(Fed::Blank)),
@@ -39,28 +54,32 @@ fn collects_the_lines_of_a_phase(rt: HostRuntime) -> Result<(), Fail> {
             Ok(Fed::Boundary(Boundary::Offline(CpuId { number: 1 }))),
         ),
     ] {
-        assert_eq!(rt;
-            feed(&mut scripter, &header, number, line),
-            want,
-            "at {line}"
-        );
+        let step = feed(&mut scripter, &header, number, line);
+        assert_eq!(rt; step.fed, want, "at {line}");
+        ended = step.ended;
         number += 1;
     }
-    let phase = scripter.take_phase();
-    assert_eq!(rt; phase.len(), 2);
-    assert_eq!(rt; phase.first().map(|item| item.number), Some(1));
-    assert_eq!(rt; phase.last().map(|item| item.number), Some(4));
-    assert_eq!(rt; scripter.take_phase().len(), 0);
+    assert!(rt; ended.is_some());
+    if let Some(phase) = ended {
+        assert_eq!(rt; phase.len(), 2);
+        assert_eq!(rt; phase.as_slice().first().map(|item| item.number), Some(1));
+        assert_eq!(rt; phase.as_slice().last().map(|item| item.number), Some(4));
+        let lane = phase.lane_script(rt.alloc(), Lane::Cpu(CpuId { number: 1 }))?;
+        assert_eq!(rt; lane.len(), 1);
+        assert_eq!(rt; lane.as_slice().first().map(|item| item.number), Some(4));
+        assert_eq!(rt; phase.count_of(Lane::Control), 0);
+    }
+    assert!(rt; scripter.take_phase().is_empty());
     Ok(())
 }
 
-/// The next phase of a scripter that holds no line, which has this line alone.
+/// The next phase of a scripter that holds no line, which has this lane line alone.
 fn phase_of(scripter: &mut Scripter, header: &Header, line: &str) -> Result<PhaseScript, FeedError>
     requires header { IsHeader header.now }
     requires scripter { (phases : List (List Item)) × Gave header.now phases scripter.old }
     requires none { scripter.old.items.items ≡ [] }
     ensures gave { (phases : List (List Item)) → Gave header.now phases scripter.old →
-        IfOk result (λ phase. Gave header.now (phases ++ phase.items ∷ []) scripter.new) }
+        IfOk result (λ phase. Gave header.now (phases ++ phase ∷ []) scripter.new) }
     ensures none { IfOk result (λ _. scripter.new.items.items ≡ []) }
 {
     scripter.feed(header, 1, line.as_bytes())?;
@@ -75,8 +94,8 @@ fn totals_of(
     phases: &[PhaseScript],
 ) -> Result<PageTotals, Memory>
     requires header { IsHeader header.now }
-    requires gave { Gave header.now (map (λ script. script.items) phases.now) scripter.now }
-    ensures { IfOk result (λ totals. ArePlainTotals header.now (map (λ script. script.items) phases.now) totals) }
+    requires gave { Gave header.now phases.now scripter.now }
+    ensures { IfOk result (λ totals. ArePlainTotals header.now phases.now totals) }
 {
     plain_totals(alloc, header, phases)
 }

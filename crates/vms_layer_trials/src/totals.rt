@@ -29,9 +29,10 @@ fn change(number: u32, pages: i64) -> Item
 
 /// Three changes of the first counter.
 fn three_changes(alloc: Global) -> Result<PhaseScript, Fail>
-    ensures { IfOk result (λ script. (header : Header) → IsHeader header → ArePhases header (script.items ∷ [])) }
+    ensures { IfOk result (λ script. (header : Header) → IsHeader header → ArePhases header (script ∷ [])) }
 {
-    Ok(vec![in alloc; change(10, 18), change(11, 2), change(12, 1)]?)
+    let items = vec![in alloc; change(10, 18), change(11, 2), change(12, 1)]?;
+    Ok(PhaseScript::make(items))
 }
 
 #[test]

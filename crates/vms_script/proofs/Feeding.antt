@@ -4,12 +4,14 @@ use Rattle.std.proofs.Common.{subst, ◌∙◌, arith, All}
 use Rattle.std.specs.Prelude.{reverse}
 use Rattle.std.proofs.lemmas.List.{map-append, reverse-append}
 use Rattle.vms_base.specs.declared.headers.Header.{Header}
+use Rattle.vms_text.specs.declared.acts.Boundary.{Boundary as BoundaryOf}
 use Rattle.vms_text.specs.declared.acts.Item.{Item}
 use Rattle.vms_text.specs.declared.acts.Line.{Line}
 use Rattle.vms_text.specs.declared.acts.Line.TheVariants.{Blank, Lane, Boundary}
 use Rattle.vms_script.specs.declared.scripters.Scripter.{Scripter}
 use Rattle.vms_script.specs.Judging.{allowed, allowed_from, counted}
 use Rattle.vms_script.specs.Scripts.{Gave, HoldsScript, IsOpen, Script, phase_start, phases_of, with_line, with_taken}
+use Rattle.vms_script.specs.Scripts.{SomeScripter, Takes}
 use Rattle.vms_script.specs.JudgeStates.{Stands}
 use Rattle.vms_script.specs.PhaseScripts.{IsPhaseScript}
 use Rattle.vms_script.specs.Starts.{Start, first_start, start_after, start_at_end}
@@ -96,6 +98,38 @@ HoldsScript-taken script old new holds same items = record {
   phases = ArePhases-phase script.header (phases_of script) holds.phases;
   volumes = λ c k. ap (volume (spent_on_counter k) c) (lines_of_phases-open (phases_of script)) ∙ holds.volumes c k;
 }
+
+-- a line leaves the header and the phases that were taken
+pub header-with_line : (n : ℕ) (line : Line) (script : Script) → (with_line n line script).header ≡ script.header
+header-with_line n Blank script = refl
+header-with_line n (Lane lane act) script = refl
+header-with_line n (Boundary boundary) script = refl
+
+pub taken-with_line : (n : ℕ) (line : Line) (script : Script) → (with_line n line script).taken ≡ script.taken
+taken-with_line n Blank script = refl
+taken-with_line n (Lane lane act) script = refl
+taken-with_line n (Boundary boundary) script = refl
+
+-- a scripter takes lines after one that ends no phase, and after its lane lines were taken
+pub SomeScripter-line : (header : Header) (n : ℕ) (line : Line) (script : Script) (scripter : Scripter)
+    → script.header ≡ header → IsOpen script → HoldsScript (with_line n line script) scripter
+    → ((boundary : BoundaryOf) → line ≡ Boundary boundary → ⊥) → SomeScripter header scripter
+SomeScripter-line header n Blank script scripter of is_open holds no_boundary =
+    record { script = script; of = of; is_open = is_open; holds = holds }
+SomeScripter-line header n (Lane lane act) script scripter of is_open holds no_boundary =
+    record {
+      script = with_line n (Lane lane act) script;
+      of = of;
+      is_open = IsOpen-lane script (record { number = n; lane = lane; act = act }) is_open;
+      holds = holds;
+    }
+SomeScripter-line header n (Boundary boundary) script scripter of is_open holds no_boundary =
+    absurd (no_boundary boundary refl)
+
+pub SomeScripter-taken : (header : Header) (script : Script) (phase : List Item) (scripter : Scripter)
+    → script.header ≡ header → Takes script phase scripter → SomeScripter header scripter
+SomeScripter-taken header script phase scripter of takes =
+    record { script = with_taken script; of = of; is_open = IsOpen-taken script; holds = takes.holds }
 
 -- what a scripter holds makes a script
 pub IsPhaseScript-held : (script : Script) (scripter : Scripter) → HoldsScript script scripter

@@ -1,10 +1,10 @@
 -- For other crates too: scripts that fit a start, line by line, and where they end.
-use Rattle.std.proofs.Common.{◌≡◌, ℕ, ◌+◌, ◌<◌, List, [], ◌∷◌, ◌++◌, length, get_or, map, length-append, refl, sym, ap}
+use Rattle.std.proofs.Common.{◌≡◌, ℕ, zero, suc, ◌+◌, ◌<◌, List, [], ◌∷◌, ◌++◌, length, get_or, map, length-append, refl, sym, ap}
 use Rattle.std.proofs.Common.{subst, ◌∙◌, arith, append_assoc, inl, inr, All, Ok}
 use Rattle.std.proofs.Math.Seq.{get_or-append_seam}
 use Rattle.std.proofs.lemmas.Bool.{cases_eq}
 use Rattle.std.proofs.lemmas.List.{get_or_append_left, map-append, reverse-append}
-use Rattle.std.proofs.lemmas.List.Elements.{All-map, All-push}
+use Rattle.std.proofs.lemmas.List.Elements.{All-cons, All-map, All-push}
 use Rattle.std.specs.List.Sorted.{IsStrictlyIncreasing}
 use Rattle.std.specs.Prelude.{reverse}
 use Rattle.vms_base.specs.declared.headers.Header.{Header}
@@ -33,20 +33,33 @@ IsStrictlyIncreasing-onto xs y rise below k within = elim (cases_eq (k + 1) (len
       omega (arith, next, this, rise k inside)
 ]
 
+-- and with one below them all
+IsStrictlyIncreasing-first : (x : ℕ) (xs : List ℕ) → IsStrictlyIncreasing xs → All (λ y. x < y) xs
+    → IsStrictlyIncreasing (x ∷ xs)
+IsStrictlyIncreasing-first x xs rise above zero within = above 0 0 (omega (arith, within))
+IsStrictlyIncreasing-first x xs rise above (suc k) within =
+    let next : suc (k + 1) ≡ suc k + 1 = omega arith in
+    subst (λ i. get_or xs k 0 < get_or (x ∷ xs) i 0) next (rise k (omega (arith, within)))
+
 -- what follows lines that stand after others
 pub start_at_end-append : (start : Start) (lines more : List Line)
     → start_at_end start (lines ++ more) ≡ start_at_end (start_at_end start lines) more
 start_at_end-append start [] more = refl
 start_at_end-append start (line ∷ lines) more = start_at_end-append (start_past line start) lines more
 
+-- lines from the newest back, with one below them
+pub reverse-onto : (line : Line) (lines above : List Line)
+    → reverse lines ++ line ∷ above ≡ reverse (line ∷ lines) ++ above
+reverse-onto line lines above =
+    sym (append_assoc (reverse lines) (line ∷ []) above)
+    ∙ ap (λ (back : List Line). back ++ above) (sym (reverse-append (line ∷ []) lines))
+
 -- it is the same by the lines from the newest back
 pub start_at_end-after : (start : Start) (above lines : List Line)
     → start_at_end (start_after start above) lines ≡ start_after start (reverse lines ++ above)
 start_at_end-after start above [] = refl
 start_at_end-after start above (line ∷ lines) =
-    start_at_end-after start (line ∷ above) lines
-    ∙ ap (start_after start) (sym (append_assoc (reverse lines) (line ∷ []) above)
-    ∙ ap (λ (back : List Line). back ++ above) (sym (reverse-append (line ∷ []) lines)))
+    start_at_end-after start (line ∷ above) lines ∙ ap (start_after start) (reverse-onto line lines above)
 
 module _ (header : Header) where
   -- lines that count, with one more
@@ -68,6 +81,18 @@ module _ (header : Header) where
   pub Fits-none : (start : Start) → Fits header start []
   Fits-none start =
       record { ascend = λ k within. absurd (omega (arith, within)); known = λ k d within. absurd (omega arith); allowed = tt }
+
+  -- a script with one line before it
+  pub Fits-first : (start : Start) (item : Item) (items : List Item)
+      → Fits header (start_past (line_of item) start) items → All (λ (i : Item). item.number < i.number) items
+      → IsLineOf header (line_of item) → allowed_from header start (line_of item) ≡ Ok (line_of item)
+      → Fits header start (item ∷ items)
+  Fits-first start item items fits above known is = record {
+    ascend = IsStrictlyIncreasing-first item.number (map (λ (i : Item). i.number) items) fits.ascend
+        (All-map (λ x. item.number < x) (λ (i : Item). i.number) items above);
+    known = All-cons (λ (i : Item). IsLineOf header (line_of i)) item items known fits.known;
+    allowed = (is, fits.allowed);
+  }
 
   -- a script with one line more
   pub Fits-push : (start : Start) (items : List Item) (item : Item) → Fits header start items

@@ -7,3 +7,4 @@ pub mod Totals
 pub mod PhaseScripts
 pub mod FittingScripts
 pub mod Scripts
+pub mod Parts

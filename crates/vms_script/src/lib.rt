@@ -4,6 +4,7 @@
 mod cpus;
 mod judges;
 mod lane_scripts;
+mod parting;
 mod phase_scripts;
 mod scripters;
 mod totals;
@@ -11,6 +12,7 @@ mod volumes;
 
 pub use judges::{JudgedLine, LineJudge};
 pub use lane_scripts::{LaneItem, LaneScript};
+pub use parting::{boundaries_cut, parts_have_all_lines, parts_may_stand};
 pub use phase_scripts::PhaseScript;
 pub use scripters::{Fed, FeedError, Scripter};
 pub use totals::{PageTotals, plain_totals};

@@ -1,4 +1,4 @@
-use Rattle.std.proofs.Common.{[], ◌∷◌, map, refl, sym, subst, ◌∙◌}
+use Rattle.std.proofs.Common.{[], ◌∷◌, refl, sym, subst, ◌∙◌}
 use Rattle.vms_base.specs.declared.headers.Header.{Header}
 use Rattle.vms_script.specs.declared.scripters.Scripter.{Scripter}
 use Rattle.vms_script.specs.Scripts.{Gave, HoldsScript, first_script}
@@ -8,7 +8,7 @@ use Rattle.vms_layer_trials.proofs.scripts.adds_up_what_a_scripter_gave.Goals as
 Gave-none : (header : Header) (scripter : Scripter) → HoldsScript (first_script header) scripter
     → Gave header [] scripter
 Gave-none header scripter holds =
-    record { script = first_script header; of = refl; taken = refl; holds = holds }
+    record { script = first_script header; of = refl; taken = refl; is_open = refl; holds = holds }
 
 pub phase_of-requires-2-clause-scripter : goal.phase_of-requires-2-clause-scripter
 phase_of-requires-2-clause-scripter g c =
@@ -17,7 +17,7 @@ phase_of-requires-2-clause-scripter g c =
 
 pub totals_of-requires-clause-gave : goal.totals_of-requires-clause-gave
 totals_of-requires-clause-gave g c =
-    subst (λ phases. Gave c.in_ok-header.header (map (λ script. script.items) phases) c.phase_of-2.new.scripter)
+    subst (λ phases. Gave c.in_ok-header.header phases c.phase_of-2.new.scripter)
     (sym (c.as_slice.ensures.value ∙ c.in_ok-phases.ensures.items))
-    (c.in_ok-second.ensures.gave (c.in_ok-first.first.items ∷ []) (c.in_ok-first.ensures.gave []
+    (c.in_ok-second.ensures.gave (c.in_ok-first.first ∷ []) (c.in_ok-first.ensures.gave []
     (Gave-none c.in_ok-header.header c.in_ok-scripter.scripter c.in_ok-scripter.ensures)))

@@ -1,0 +1,170 @@
+-- For other crates too: the parts of a body, from its lines.
+use Rattle.std.proofs.Common.{◌≡◌, ℕ, suc, ◌<◌, List, [], ◌∷◌, ◌++◌, refl, sym, ap, ◌∙◌, arith, All, Ok, Err}
+use Rattle.std.proofs.Common.{append-nil, Result}
+use Rattle.std.specs.Prelude.{reverse}
+use Rattle.std.proofs.lemmas.List.Elements.{All-cons, All-nil}
+use Rattle.vms_base.specs.declared.headers.Header.{Header}
+use Rattle.vms_base.specs.Headers.{IsHeader}
+use Rattle.vms_text.specs.declared.acts.Boundary.{Boundary as BoundaryOf}
+use Rattle.vms_text.specs.declared.acts.Item.{Item}
+use Rattle.vms_text.specs.declared.acts.Line.{Line}
+use Rattle.vms_text.specs.declared.acts.Line.TheVariants.{Blank, Lane, Boundary}
+use Rattle.vms_line.specs.declared.causes.LineCause.{LineCause}
+use Rattle.vms_line.specs.Laws.{IsLineOf}
+use Rattle.vms_script.specs.Judging.{allowed_from, counted, counted_of, judged}
+use Rattle.vms_script.specs.Parts.{AreParts, BoundariesCut, PartsHaveAllLines, PartsMayStand, judged_lines}
+use Rattle.vms_script.specs.Parts.{lines_of_parts, parts_of, with_item, with_judged_line, Part}
+use Rattle.vms_script.specs.Parts.Part.{Phase, Between}
+use Rattle.vms_script.specs.Starts.{Start, first_start, start_after, start_past}
+use Rattle.vms_script.specs.Totals.{line_of}
+use Rattle.vms_script.proofs.Fitting.{Fits-first, Fits-none, reverse-onto}
+use Rattle.vms_script.proofs.Known.{judged_from-allowed, judged-known}
+
+-- the numbers of the phase that stands first are above m
+abbrev AreAbove : ℕ → List Part → Type 0
+AreAbove m [] = Unit {0}
+AreAbove m (Phase items ∷ parts) = All (λ (i : Item). m < i.number) items
+AreAbove m (Between number boundary ∷ parts) = Unit {0}
+
+AreAbove-item : (m : ℕ) (item : Item) (parts : List Part) → m < item.number → AreAbove m parts
+    → AreAbove m (with_item item parts)
+AreAbove-item m item [] above are =
+    All-cons (λ (i : Item). m < i.number) item [] above (All-nil (λ (i : Item). m < i.number))
+AreAbove-item m item (Phase items ∷ parts) above are = All-cons (λ (i : Item). m < i.number) item items above are
+AreAbove-item m item (Between number boundary ∷ parts) above are =
+    All-cons (λ (i : Item). m < i.number) item [] above (All-nil (λ (i : Item). m < i.number))
+
+AreAbove-line : (m n : ℕ) (result : Result Line LineCause) (parts : List Part) → m < n → AreAbove m parts
+    → AreAbove m (with_judged_line n result parts)
+AreAbove-line m n (Ok Blank) parts above are = are
+AreAbove-line m n (Ok (Lane lane act)) parts above are =
+    AreAbove-item m (record { number = n; lane = lane; act = act }) parts above are
+AreAbove-line m n (Ok (Boundary boundary)) parts above are = tt
+AreAbove-line m n (Err cause) parts above are = are
+
+parts_of-above : (header : Header) (above : List Line) (m n : ℕ) (texts : List (List ℕ)) → m < n
+    → AreAbove m (parts_of (judged_lines header above n texts))
+parts_of-above header above m n [] later = tt
+parts_of-above header above m n (text ∷ texts) later =
+    AreAbove-line m n (judged header above text) _ later
+    (parts_of-above header (counted (judged header above text) above) m (suc n) texts (omega (arith, later)))
+
+module _ (header : Header) where
+  -- parts with a lane line before them
+  AreParts-item : (start : Start) (item : Item) (parts : List Part) → IsLineOf header (line_of item)
+      → allowed_from header start (line_of item) ≡ Ok (line_of item) → AreAbove item.number parts
+      → AreParts header (start_past (line_of item) start) parts → AreParts header start (with_item item parts)
+  AreParts-item start item [] known is above are = (
+    (
+      (λ e. absurd cc),
+      Fits-first header start item [] (Fits-none header (start_past (line_of item) start))
+          (All-nil (λ (i : Item). item.number < i.number)) known is,
+      tt,
+    ),
+    tt,
+  )
+  AreParts-item start item (Phase items ∷ parts) known is above are =
+      (((λ e. absurd cc), Fits-first header start item items are.0.1 above known is, are.0.2), are.1)
+  AreParts-item start item (Between number boundary ∷ parts) known is above are = (
+    (
+      (λ e. absurd cc),
+      Fits-first header start item [] (Fits-none header (start_past (line_of item) start))
+          (All-nil (λ (i : Item). item.number < i.number)) known is,
+      tt,
+    ),
+    are,
+  )
+
+  -- the parts of some lines may stand where these begin
+  pub AreParts-lines : (above : List Line) (n : ℕ) (texts : List (List ℕ)) → IsHeader header
+      → AreParts header (start_after first_start above) (parts_of (judged_lines header above n texts))
+  AreParts-lines above n [] is_header = tt
+  AreParts-lines above n (text ∷ texts) is_header =
+      by (judged header above text) refl (λ more. AreParts-lines more (suc n) texts is_header)
+    where
+      by : (result : Result Line LineCause) → judged header above text ≡ result
+          → ((more : List Line)
+          → AreParts header (start_after first_start more) (parts_of (judged_lines header more (suc n) texts)))
+          → AreParts header (start_after first_start above)
+          (with_judged_line n result (parts_of (judged_lines header (counted result above) (suc n) texts)))
+      by (Ok Blank) is rest = rest above
+      by (Ok (Lane lane act)) is rest =
+          AreParts-item (start_after first_start above) (record { number = n; lane = lane; act = act }) _
+          (judged-known header above text (Lane lane act) is_header is)
+          (judged_from-allowed header (start_after first_start above) text (Lane lane act) is)
+          (parts_of-above header (Lane lane act ∷ above) n (suc n) texts (omega arith))
+          (rest (Lane lane act ∷ above))
+      by (Ok (Boundary boundary)) is rest = (
+        (
+          judged-known header above text (Boundary boundary) is_header is,
+          judged_from-allowed header (start_after first_start above) text (Boundary boundary) is,
+        ),
+        rest (Boundary boundary ∷ above),
+      )
+      by (Err cause) is rest = rest above
+
+  -- their lines are those of the lines that count
+  pub lines_of_parts-lines : (above : List Line) (n : ℕ) (texts : List (List ℕ))
+      → reverse (lines_of_parts (parts_of (judged_lines header above n texts))) ++ above
+      ≡ counted_of header above texts
+  lines_of_parts-lines above n [] = refl
+  lines_of_parts-lines above n (text ∷ texts) =
+      by (judged header above text) (λ more. lines_of_parts-lines more (suc n) texts)
+    where
+      with_item-lines : (item : Item) (parts : List Part)
+          → lines_of_parts (with_item item parts) ≡ line_of item ∷ lines_of_parts parts
+      with_item-lines item [] = refl
+      with_item-lines item (Phase items ∷ parts) = refl
+      with_item-lines item (Between number boundary ∷ parts) = refl
+
+      by : (result : Result Line LineCause)
+          → ((more : List Line)
+          → reverse (lines_of_parts (parts_of (judged_lines header more (suc n) texts))) ++ more
+          ≡ counted_of header more texts)
+          → reverse (lines_of_parts (with_judged_line n result
+          (parts_of (judged_lines header (counted result above) (suc n) texts)))) ++ above
+          ≡ counted_of header (counted result above) texts
+      by (Ok Blank) rest = rest above
+      by (Ok (Lane lane act)) rest =
+          ap (λ (lines : List Line). reverse lines ++ above) (with_item-lines
+          (record { number = n; lane = lane; act = act })
+          (parts_of (judged_lines header (Lane lane act ∷ above) (suc n) texts)))
+          ∙ sym (reverse-onto (Lane lane act)
+          (lines_of_parts (parts_of (judged_lines header (Lane lane act ∷ above) (suc n) texts))) above)
+          ∙ rest (Lane lane act ∷ above)
+      by (Ok (Boundary boundary)) rest =
+          sym (reverse-onto (Boundary boundary)
+          (lines_of_parts (parts_of (judged_lines header (Boundary boundary ∷ above) (suc n) texts))) above)
+          ∙ rest (Boundary boundary ∷ above)
+      by (Err cause) rest = rest above
+
+pub PartsMayStand-holds : PartsMayStand
+PartsMayStand-holds header n texts is_header = AreParts-lines header [] n texts is_header
+
+pub PartsHaveAllLines-holds : PartsHaveAllLines
+PartsHaveAllLines-holds header n texts =
+    sym (append-nil (reverse (lines_of_parts (parts_of (judged_lines header [] n texts)))))
+    ∙ lines_of_parts-lines header [] n texts
+
+-- parts with more after a boundary line
+with_item-cut : (item : Item) (parts : List Part) (n : ℕ) (boundary : BoundaryOf) (after : List Part)
+    → with_item item (parts ++ Between n boundary ∷ after) ≡ with_item item parts ++ Between n boundary ∷ after
+with_item-cut item [] n boundary after = refl
+with_item-cut item (Phase items ∷ parts) n boundary after = refl
+with_item-cut item (Between number other ∷ parts) n boundary after = refl
+
+with_judged_line-cut : (m : ℕ) (result : Result Line LineCause) (parts : List Part) (n : ℕ) (boundary : BoundaryOf)
+    (after : List Part)
+    → with_judged_line m result (parts ++ Between n boundary ∷ after)
+    ≡ with_judged_line m result parts ++ Between n boundary ∷ after
+with_judged_line-cut m (Ok Blank) parts n boundary after = refl
+with_judged_line-cut m (Ok (Lane lane act)) parts n boundary after =
+    with_item-cut (record { number = m; lane = lane; act = act }) parts n boundary after
+with_judged_line-cut m (Ok (Boundary other)) parts n boundary after = refl
+with_judged_line-cut m (Err cause) parts n boundary after = refl
+
+pub BoundariesCut-holds : BoundariesCut
+BoundariesCut-holds [] after n boundary = refl
+BoundariesCut-holds (line ∷ before) after n boundary =
+    ap (with_judged_line line.number line.result) (BoundariesCut-holds before after n boundary)
+    ∙ with_judged_line-cut line.number line.result (parts_of before) n boundary (parts_of after)
