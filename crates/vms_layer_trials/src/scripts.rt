@@ -30,11 +30,15 @@ fn feed(scripter: &mut Scripter, header: &Header, number: u32, line: &str) -> St
 {
     let fed = scripter.feed(header, number, line.as_bytes());
     match fed {
-        Ok(Fed::Boundary(_)) => Step {
-            fed,
-            ended: Some(scripter.take_phase()),
+        Ok(what) => match what {
+            Fed::Boundary(_) => Step {
+                fed,
+                ended: Some(scripter.take_phase()),
+            },
+            Fed::Kept => Step { fed, ended: None },
+            Fed::Blank => Step { fed, ended: None },
         },
-        _ => Step { fed, ended: None },
+        Err(_) => Step { fed, ended: None },
     }
 }
 

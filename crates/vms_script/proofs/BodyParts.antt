@@ -1,6 +1,6 @@
 -- For other crates too: the parts of a body, from its lines.
-use Rattle.std.proofs.Common.{◌≡◌, ℕ, suc, ◌<◌, List, [], ◌∷◌, ◌++◌, refl, sym, ap, ◌∙◌, arith, All, Ok, Err}
-use Rattle.std.proofs.Common.{append-nil, Result}
+use Rattle.std.proofs.Common.{◌≡◌, ℕ, suc, ◌+◌, ◌<◌, List, [], ◌∷◌, ◌++◌, refl, sym, ap, ◌∙◌, arith, All, Ok, Err}
+use Rattle.std.proofs.Common.{append-nil, length, Result, ◌≢◌}
 use Rattle.std.specs.Prelude.{reverse}
 use Rattle.std.proofs.lemmas.List.Elements.{All-cons, All-nil}
 use Rattle.vms_base.specs.declared.headers.Header.{Header}
@@ -12,9 +12,11 @@ use Rattle.vms_text.specs.declared.acts.Line.TheVariants.{Blank, Lane, Boundary}
 use Rattle.vms_line.specs.declared.causes.LineCause.{LineCause}
 use Rattle.vms_line.specs.Laws.{IsLineOf}
 use Rattle.vms_script.specs.Judging.{allowed_from, counted, counted_of, judged}
-use Rattle.vms_script.specs.Parts.{AreParts, BoundariesCut, PartsHaveAllLines, PartsMayStand, judged_lines}
-use Rattle.vms_script.specs.Parts.{lines_of_parts, parts_of, with_item, with_judged_line, Part}
+use Rattle.vms_script.specs.Parts.{AreParts, BoundariesCut, LinesMakeOnePhase, PartsHaveAllLines, PartsMayStand}
+use Rattle.vms_script.specs.Parts.{NumberedLine, numbered_lines, kept_of, phase_if_any, with_kept}
+use Rattle.vms_script.specs.Parts.{lines_of_parts, parts_of, with_item, parts_with, Part}
 use Rattle.vms_script.specs.Parts.Part.{Phase, Between}
+use Rattle.vms_script.specs.Scripts.{Script, with_line}
 use Rattle.vms_script.specs.Starts.{Start, first_start, start_after, start_past}
 use Rattle.vms_script.specs.Totals.{line_of}
 use Rattle.vms_script.proofs.Fitting.{Fits-first, Fits-none, reverse-onto}
@@ -35,7 +37,7 @@ AreAbove-item m item (Between number boundary ∷ parts) above are =
     All-cons (λ (i : Item). m < i.number) item [] above (All-nil (λ (i : Item). m < i.number))
 
 AreAbove-line : (m n : ℕ) (result : Result Line LineCause) (parts : List Part) → m < n → AreAbove m parts
-    → AreAbove m (with_judged_line n result parts)
+    → AreAbove m (parts_with n result parts)
 AreAbove-line m n (Ok Blank) parts above are = are
 AreAbove-line m n (Ok (Lane lane act)) parts above are =
     AreAbove-item m (record { number = n; lane = lane; act = act }) parts above are
@@ -43,7 +45,7 @@ AreAbove-line m n (Ok (Boundary boundary)) parts above are = tt
 AreAbove-line m n (Err cause) parts above are = are
 
 parts_of-above : (header : Header) (above : List Line) (m n : ℕ) (texts : List (List ℕ)) → m < n
-    → AreAbove m (parts_of (judged_lines header above n texts))
+    → AreAbove m (parts_of (numbered_lines header above n texts))
 parts_of-above header above m n [] later = tt
 parts_of-above header above m n (text ∷ texts) later =
     AreAbove-line m n (judged header above text) _ later
@@ -77,16 +79,16 @@ module _ (header : Header) where
 
   -- the parts of some lines may stand where these begin
   pub AreParts-lines : (above : List Line) (n : ℕ) (texts : List (List ℕ)) → IsHeader header
-      → AreParts header (start_after first_start above) (parts_of (judged_lines header above n texts))
+      → AreParts header (start_after first_start above) (parts_of (numbered_lines header above n texts))
   AreParts-lines above n [] is_header = tt
   AreParts-lines above n (text ∷ texts) is_header =
       by (judged header above text) refl (λ more. AreParts-lines more (suc n) texts is_header)
     where
       by : (result : Result Line LineCause) → judged header above text ≡ result
           → ((more : List Line)
-          → AreParts header (start_after first_start more) (parts_of (judged_lines header more (suc n) texts)))
+          → AreParts header (start_after first_start more) (parts_of (numbered_lines header more (suc n) texts)))
           → AreParts header (start_after first_start above)
-          (with_judged_line n result (parts_of (judged_lines header (counted result above) (suc n) texts)))
+          (parts_with n result (parts_of (numbered_lines header (counted result above) (suc n) texts)))
       by (Ok Blank) is rest = rest above
       by (Ok (Lane lane act)) is rest =
           AreParts-item (start_after first_start above) (record { number = n; lane = lane; act = act }) _
@@ -105,7 +107,7 @@ module _ (header : Header) where
 
   -- their lines are those of the lines that count
   pub lines_of_parts-lines : (above : List Line) (n : ℕ) (texts : List (List ℕ))
-      → reverse (lines_of_parts (parts_of (judged_lines header above n texts))) ++ above
+      → reverse (lines_of_parts (parts_of (numbered_lines header above n texts))) ++ above
       ≡ counted_of header above texts
   lines_of_parts-lines above n [] = refl
   lines_of_parts-lines above n (text ∷ texts) =
@@ -119,22 +121,22 @@ module _ (header : Header) where
 
       by : (result : Result Line LineCause)
           → ((more : List Line)
-          → reverse (lines_of_parts (parts_of (judged_lines header more (suc n) texts))) ++ more
+          → reverse (lines_of_parts (parts_of (numbered_lines header more (suc n) texts))) ++ more
           ≡ counted_of header more texts)
-          → reverse (lines_of_parts (with_judged_line n result
-          (parts_of (judged_lines header (counted result above) (suc n) texts)))) ++ above
+          → reverse (lines_of_parts (parts_with n result
+          (parts_of (numbered_lines header (counted result above) (suc n) texts)))) ++ above
           ≡ counted_of header (counted result above) texts
       by (Ok Blank) rest = rest above
       by (Ok (Lane lane act)) rest =
           ap (λ (lines : List Line). reverse lines ++ above) (with_item-lines
           (record { number = n; lane = lane; act = act })
-          (parts_of (judged_lines header (Lane lane act ∷ above) (suc n) texts)))
+          (parts_of (numbered_lines header (Lane lane act ∷ above) (suc n) texts)))
           ∙ sym (reverse-onto (Lane lane act)
-          (lines_of_parts (parts_of (judged_lines header (Lane lane act ∷ above) (suc n) texts))) above)
+          (lines_of_parts (parts_of (numbered_lines header (Lane lane act ∷ above) (suc n) texts))) above)
           ∙ rest (Lane lane act ∷ above)
       by (Ok (Boundary boundary)) rest =
           sym (reverse-onto (Boundary boundary)
-          (lines_of_parts (parts_of (judged_lines header (Boundary boundary ∷ above) (suc n) texts))) above)
+          (lines_of_parts (parts_of (numbered_lines header (Boundary boundary ∷ above) (suc n) texts))) above)
           ∙ rest (Boundary boundary ∷ above)
       by (Err cause) rest = rest above
 
@@ -143,7 +145,7 @@ PartsMayStand-holds header n texts is_header = AreParts-lines header [] n texts 
 
 pub PartsHaveAllLines-holds : PartsHaveAllLines
 PartsHaveAllLines-holds header n texts =
-    sym (append-nil (reverse (lines_of_parts (parts_of (judged_lines header [] n texts)))))
+    sym (append-nil (reverse (lines_of_parts (parts_of (numbered_lines header [] n texts)))))
     ∙ lines_of_parts-lines header [] n texts
 
 -- parts with more after a boundary line
@@ -153,18 +155,75 @@ with_item-cut item [] n boundary after = refl
 with_item-cut item (Phase items ∷ parts) n boundary after = refl
 with_item-cut item (Between number other ∷ parts) n boundary after = refl
 
-with_judged_line-cut : (m : ℕ) (result : Result Line LineCause) (parts : List Part) (n : ℕ) (boundary : BoundaryOf)
+parts_with-cut : (m : ℕ) (result : Result Line LineCause) (parts : List Part) (n : ℕ) (boundary : BoundaryOf)
     (after : List Part)
-    → with_judged_line m result (parts ++ Between n boundary ∷ after)
-    ≡ with_judged_line m result parts ++ Between n boundary ∷ after
-with_judged_line-cut m (Ok Blank) parts n boundary after = refl
-with_judged_line-cut m (Ok (Lane lane act)) parts n boundary after =
+    → parts_with m result (parts ++ Between n boundary ∷ after)
+    ≡ parts_with m result parts ++ Between n boundary ∷ after
+parts_with-cut m (Ok Blank) parts n boundary after = refl
+parts_with-cut m (Ok (Lane lane act)) parts n boundary after =
     with_item-cut (record { number = m; lane = lane; act = act }) parts n boundary after
-with_judged_line-cut m (Ok (Boundary other)) parts n boundary after = refl
-with_judged_line-cut m (Err cause) parts n boundary after = refl
+parts_with-cut m (Ok (Boundary other)) parts n boundary after = refl
+parts_with-cut m (Err cause) parts n boundary after = refl
 
 pub BoundariesCut-holds : BoundariesCut
 BoundariesCut-holds [] after n boundary = refl
 BoundariesCut-holds (line ∷ before) after n boundary =
-    ap (with_judged_line line.number line.result) (BoundariesCut-holds before after n boundary)
-    ∙ with_judged_line-cut line.number line.result (parts_of before) n boundary (parts_of after)
+    ap (parts_with line.number line.result) (BoundariesCut-holds before after n boundary)
+    ∙ parts_with-cut line.number line.result (parts_of before) n boundary (parts_of after)
+
+-- one phase, or none, with a line more that ends no phase
+parts_with-one : (n : ℕ) (result : Result Line LineCause) (items : List Item)
+    → ((boundary : BoundaryOf) → result ≢ Ok (Boundary boundary))
+    → parts_with n result (phase_if_any items) ≡ phase_if_any (with_kept n result items)
+parts_with-one n (Ok Blank) items no_boundary = refl
+parts_with-one n (Ok (Lane lane act)) [] no_boundary = refl
+parts_with-one n (Ok (Lane lane act)) (item ∷ items) no_boundary = refl
+parts_with-one n (Ok (Boundary boundary)) items no_boundary = absurd (no_boundary boundary refl)
+parts_with-one n (Err cause) items no_boundary = refl
+
+pub LinesMakeOnePhase-holds : LinesMakeOnePhase
+LinesMakeOnePhase-holds [] none = refl
+LinesMakeOnePhase-holds (line ∷ lines) none =
+    ap (parts_with line.number line.result)
+    (LinesMakeOnePhase-holds lines (λ k d within. none (suc k) d (omega arith)))
+    ∙ parts_with-one line.number line.result (kept_of lines) (none 0 line (omega arith))
+
+-- lines that stand after others are numbered on
+pub numbered_lines-append : (header : Header) (above : List Line) (n : ℕ) (texts more : List (List ℕ))
+    → numbered_lines header above n (texts ++ more)
+    ≡ numbered_lines header above n texts
+    ++ numbered_lines header (counted_of header above texts) (n + length texts) more
+numbered_lines-append header above n [] more =
+    ap (λ (m : ℕ). numbered_lines header above m more) (omega arith)
+numbered_lines-append header above n (text ∷ texts) more =
+    ap (λ (lines : List NumberedLine). record { number = n; result = judged header above text } ∷ lines)
+    (numbered_lines-append header (counted (judged header above text) above) (suc n) texts more
+    ∙ ap (λ (m : ℕ). numbered_lines header (counted (judged header above text) above) (suc n) texts
+    ++ numbered_lines header (counted_of header (counted (judged header above text) above) texts) m more)
+    (omega arith))
+
+-- the lane lines that count of lines that stand after others
+with_kept-append : (n : ℕ) (result : Result Line LineCause) (items more : List Item)
+    → with_kept n result (items ++ more) ≡ with_kept n result items ++ more
+with_kept-append n (Ok Blank) items more = refl
+with_kept-append n (Ok (Lane lane act)) items more = refl
+with_kept-append n (Ok (Boundary boundary)) items more = refl
+with_kept-append n (Err cause) items more = refl
+
+pub kept_of-append : (lines more : List NumberedLine) → kept_of (lines ++ more) ≡ kept_of lines ++ kept_of more
+kept_of-append [] more = refl
+kept_of-append (line ∷ lines) more =
+    ap (with_kept line.number line.result) (kept_of-append lines more)
+    ∙ with_kept-append line.number line.result (kept_of lines) (kept_of more)
+
+-- a scripter that holds the lane lines of some lines holds those with line n too, if that was fed to it
+pub kept_of-fed : (n : ℕ) (line : Line) (script : Script) (lines : List NumberedLine) → kept_of lines ≡ script.items
+    → kept_of (lines ++ record { number = n; result = Ok line } ∷ []) ≡ (with_line n line script).items
+kept_of-fed n Blank script lines holds =
+    kept_of-append lines (record { number = n; result = Ok Blank } ∷ []) ∙ append-nil (kept_of lines) ∙ holds
+kept_of-fed n (Lane lane act) script lines holds =
+    kept_of-append lines (record { number = n; result = Ok (Lane lane act) } ∷ [])
+    ∙ ap (λ (items : List Item). items ++ record { number = n; lane = lane; act = act } ∷ []) holds
+kept_of-fed n (Boundary boundary) script lines holds =
+    kept_of-append lines (record { number = n; result = Ok (Boundary boundary) } ∷ [])
+    ∙ append-nil (kept_of lines) ∙ holds

@@ -171,11 +171,12 @@ change-fits count wanted items i d totals change here some within leads =
     ))
 
 -- past one phase
-pub Leads-phase : (count : ℕ) (wanted : ℕ → ℤ) (phases : List (List Item)) (i : ℕ) (d : List Item) (totals totals' : List ℤ)
-    → i < length phases → length totals' ≡ length totals
+pub Leads-phase : (count : ℕ) (wanted : ℕ → ℤ) (phases : List (List Item)) (i : ℕ) (d : List Item)
+    (totals totals' : List ℤ) → i < length phases → length totals' ≡ length totals
     → ((k : ℕ) → k < count → get_or totals' k (pos 0) ≡ get_or totals k (pos 0) +ℤ changes_by k (get_or phases i d))
     → Leads count wanted (λ k. changes_by_all k (drop i phases)) (λ k. sizes_by_all k (drop i phases)) totals
-    → Leads count wanted (λ k. changes_by_all k (drop (i + 1) phases)) (λ k. sizes_by_all k (drop (i + 1) phases)) totals'
+    → Leads count wanted (λ k. changes_by_all k (drop (i + 1) phases)) (λ k. sizes_by_all k (drop (i + 1) phases))
+    totals'
 Leads-phase count wanted phases i d totals totals' here each changed leads =
     Leads-past count wanted (λ k. changes_by k (get_or phases i d))
     (λ k. changes_by_all k (drop i phases)) (λ k. changes_by_all k (drop (i + 1) phases))
@@ -191,7 +192,7 @@ pub HasTotal-each : (header : Header) (phases : List (List Item)) (i : ℕ) (d :
 HasTotal-each header phases i d totals are here each =
     let known = All-get_or (All (λ item. IsLineOf header (line_of item))) phases i d here are.known in
     λ k item below. HasTotal-of header (get_or (get_or phases i d) k item).lane (get_or (get_or phases i d) k item).act
-        totals each (known k item below).1
+    totals each (known k item below).1
 
 -- the bases are on the way to the plain totals
 pub Leads-first : (header : Header) (phases : List (List Item)) → IsHeader header → ArePhases header phases

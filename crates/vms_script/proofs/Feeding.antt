@@ -1,17 +1,22 @@
 -- For other crates too: what a scripter has come to after a line that counts.
-use Rattle.std.proofs.Common.{◌≡◌, ℕ, ◌<◌, List, [], ◌∷◌, ◌++◌, length, map, length-append, Ok, refl, sym, ap}
-use Rattle.std.proofs.Common.{subst, ◌∙◌, arith, All}
+use Rattle.std.proofs.Common.{◌≡◌, ℕ, ◌+◌, ◌<◌, List, [], ◌∷◌, ◌++◌, length, map, length-append, Ok, Err, refl, sym, ap}
+use Rattle.std.proofs.Common.{Result, subst, ◌∙◌, arith, All}
 use Rattle.std.specs.Prelude.{reverse}
+use Rattle.std.proofs.lemmas.List.Elements.{All-push}
 use Rattle.std.proofs.lemmas.List.{map-append, reverse-append}
 use Rattle.vms_base.specs.declared.headers.Header.{Header}
 use Rattle.vms_text.specs.declared.acts.Boundary.{Boundary as BoundaryOf}
 use Rattle.vms_text.specs.declared.acts.Item.{Item}
 use Rattle.vms_text.specs.declared.acts.Line.{Line}
 use Rattle.vms_text.specs.declared.acts.Line.TheVariants.{Blank, Lane, Boundary}
+use Rattle.vms_script.specs.declared.scripters.Fed.{Fed}
+use Rattle.vms_script.specs.declared.scripters.Fed.TheVariants.{Boundary as FedBoundary}
+use Rattle.vms_script.specs.declared.scripters.FeedError.{FeedError}
+use Rattle.vms_script.specs.declared.scripters.FeedError.TheVariants.{Refused, Memory}
 use Rattle.vms_script.specs.declared.scripters.Scripter.{Scripter}
 use Rattle.vms_script.specs.Judging.{allowed, allowed_from, counted}
 use Rattle.vms_script.specs.Scripts.{Gave, HoldsScript, IsOpen, Script, phase_start, phases_of, with_line, with_taken}
-use Rattle.vms_script.specs.Scripts.{SomeScripter, Takes}
+use Rattle.vms_script.specs.Scripts.{Feeds, SomeScripter, Takes, fed_of}
 use Rattle.vms_script.specs.JudgeStates.{Stands}
 use Rattle.vms_script.specs.PhaseScripts.{IsPhaseScript}
 use Rattle.vms_script.specs.Starts.{Start, first_start, start_after, start_at_end}
@@ -76,7 +81,8 @@ HoldsScript-after n (Lane lane act) script old new holds stands items known coun
       fits = Fits-push script.header (phase_start script) script.items added holds.fits below known
           (subst (λ (start : Start). allowed_from script.header start (Lane lane act) ≡ Ok (Lane lane act))
           (sym (start_at_end-open script is_open)) counts);
-      within = IsWithin-allowed script.header (start_after first_start script.lines) (Lane lane act) counts holds.within;
+      within = IsWithin-allowed script.header (start_after first_start script.lines) (Lane lane act) counts
+          holds.within;
       phases = ArePhases-item script.header script.taken script.items added holds.phases known
           (λ c k c_in k_in. omega (arith, stands.counters.most c k c_in k_in, holds.volumes c k));
       volumes = λ c k. omega (
@@ -130,6 +136,39 @@ pub SomeScripter-taken : (header : Header) (script : Script) (phase : List Item)
     → script.header ≡ header → Takes script phase scripter → SomeScripter header scripter
 SomeScripter-taken header script phase scripter of takes =
     record { script = with_taken script; of = of; is_open = IsOpen-taken script; holds = takes.holds }
+
+-- a scripter takes lines after whatever was fed to it but a boundary line
+pub SomeScripter-fed : (header : Header) (n : ℕ) (text : List ℕ) (script : Script) (scripter : Scripter)
+    (result : Result Fed FeedError)
+    → script.header ≡ header → IsOpen script → Feeds n text script scripter result
+    → ((boundary : BoundaryOf) → result ≡ Ok (FedBoundary boundary) → ⊥) → SomeScripter header scripter
+SomeScripter-fed header n text script scripter (Ok fed) of is_open feeds no_boundary =
+    SomeScripter-line header n feeds.0 script scripter of is_open feeds.3
+    (λ boundary is. no_boundary boundary (ap Ok (feeds.2 ∙ ap fed_of is)))
+SomeScripter-fed header n text script scripter (Err (Refused cause)) of is_open feeds no_boundary =
+    record { script = script; of = of; is_open = is_open; holds = feeds.1 }
+SomeScripter-fed header n text script scripter (Err Memory) of is_open feeds no_boundary =
+    record { script = script; of = of; is_open = is_open; holds = feeds }
+
+-- the numbers that it holds then are at most that of the line
+below-line : (n : ℕ) (line : Line) (script : Script) → All (λ (item : Item). item.number < n) script.items
+    → All (λ (item : Item). item.number < n + 1) (with_line n line script).items
+below-line n Blank script below = λ k d within. omega (arith, below k d within)
+below-line n (Lane lane act) script below =
+    All-push (λ (item : Item). item.number < n + 1) script.items (record { number = n; lane = lane; act = act })
+    (λ k d within. omega (arith, below k d within)) (omega arith)
+below-line n (Boundary boundary) script below = λ k d within. omega (arith, below k d within)
+
+pub below-fed : (n : ℕ) (text : List ℕ) (script : Script) (scripter : Scripter) (result : Result Fed FeedError)
+    → Feeds n text script scripter result → All (λ (item : Item). item.number < n) script.items
+    → All (λ (item : Item). item.number < n + 1) scripter.items.items
+below-fed n text script scripter (Ok fed) feeds below =
+    subst (All (λ (item : Item). item.number < n + 1)) (sym feeds.3.items) (below-line n feeds.0 script below)
+below-fed n text script scripter (Err (Refused cause)) feeds below =
+    subst (All (λ (item : Item). item.number < n + 1)) (sym feeds.1.items)
+    (λ k d within. omega (arith, below k d within))
+below-fed n text script scripter (Err Memory) feeds below =
+    subst (All (λ (item : Item). item.number < n + 1)) (sym feeds.items) (λ k d within. omega (arith, below k d within))
 
 -- what a scripter holds makes a script
 pub IsPhaseScript-held : (script : Script) (scripter : Scripter) → HoldsScript script scripter

@@ -1,6 +1,6 @@
 -- For other crates too: scripts that fit a start, line by line, and where they end.
-use Rattle.std.proofs.Common.{◌≡◌, ℕ, zero, suc, ◌+◌, ◌<◌, List, [], ◌∷◌, ◌++◌, length, get_or, map, length-append, refl, sym, ap}
-use Rattle.std.proofs.Common.{subst, ◌∙◌, arith, append_assoc, inl, inr, All, Ok}
+use Rattle.std.proofs.Common.{◌≡◌, ℕ, zero, suc, ◌+◌, ◌<◌, List, [], ◌∷◌, ◌++◌, length, get_or, map, refl, sym}
+use Rattle.std.proofs.Common.{add-one, ap, length-append, subst, ◌∙◌, arith, append_assoc, inl, inr, All, Ok}
 use Rattle.std.proofs.Math.Seq.{get_or-append_seam}
 use Rattle.std.proofs.lemmas.Bool.{cases_eq}
 use Rattle.std.proofs.lemmas.List.{get_or_append_left, map-append, reverse-append}
@@ -11,7 +11,7 @@ use Rattle.vms_base.specs.declared.headers.Header.{Header}
 use Rattle.vms_text.specs.declared.acts.Item.{Item}
 use Rattle.vms_text.specs.declared.acts.Line.{Line}
 use Rattle.vms_line.specs.Laws.{IsLineOf}
-use Rattle.vms_script.specs.FittingScripts.{AreAllowed, Fits}
+use Rattle.vms_script.specs.FittingScripts.{AreAllowed, Fits, FittingScriptsStayWithin}
 use Rattle.vms_script.specs.Judging.{allowed_from}
 use Rattle.vms_script.specs.Starts.{IsWithin, Start, start_after, start_at_end, start_past}
 use Rattle.vms_script.specs.Totals.{line_of}
@@ -80,7 +80,11 @@ module _ (header : Header) where
   -- a script without a line fits every start
   pub Fits-none : (start : Start) → Fits header start []
   Fits-none start =
-      record { ascend = λ k within. absurd (omega (arith, within)); known = λ k d within. absurd (omega arith); allowed = tt }
+      record {
+        ascend = λ k within. absurd (omega (arith, within));
+        known = λ k d within. absurd (omega arith);
+        allowed = tt;
+      }
 
   -- a script with one line before it
   pub Fits-first : (start : Start) (item : Item) (items : List Item)
@@ -92,6 +96,21 @@ module _ (header : Header) where
         (All-map (λ x. item.number < x) (λ (i : Item). i.number) items above);
     known = All-cons (λ (i : Item). IsLineOf header (line_of i)) item items known fits.known;
     allowed = (is, fits.allowed);
+  }
+
+  -- what is left of a script after its first line fits what that line leaves
+  pub Fits-rest : (start : Start) (item : Item) (items : List Item) → Fits header start (item ∷ items)
+      → Fits header (start_past (line_of item) start) items
+  Fits-rest start item items fits = record {
+    ascend = λ k within.
+        let next : k + 1 + 1 ≡ suc (k + 1) = omega arith in
+        subst (λ i. get_or (map (λ (i : Item). i.number) items) k 0
+        < get_or (item.number ∷ map (λ (i : Item). i.number) items) i 0) next
+        (subst (λ i. get_or (item.number ∷ map (λ (i : Item). i.number) items) i 0
+        < get_or (item.number ∷ map (λ (i : Item). i.number) items) (k + 1 + 1) 0) (add-one k)
+        (fits.ascend (k + 1) (omega (arith, within))));
+    known = λ k d within. fits.known (suc k) d (omega (arith, within));
+    allowed = fits.allowed.1;
   }
 
   -- a script with one line more
@@ -107,3 +126,6 @@ module _ (header : Header) where
     allowed = subst (AreAllowed header start) (sym (map-append line_of items (item ∷ [])))
         (AreAllowed-push start (map line_of items) (line_of item) fits.allowed is);
   }
+
+pub FittingScriptsStayWithin-holds : FittingScriptsStayWithin
+FittingScriptsStayWithin-holds header start items fits = IsWithin-lines header start (map line_of items) fits.allowed

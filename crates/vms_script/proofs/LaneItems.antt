@@ -1,7 +1,8 @@
--- For other crates too: the lines of one lane of a phase make a script.
-use Rattle.std.proofs.Common.{◌≡◌, ◌+◌, ◌<◌, List, [], ◌∷◌, map, refl, sym, ap, subst, arith}
+-- For other crates too: the lines of one lane of a phase.
+use Rattle.std.proofs.Common.{◌≡◌, ◌+◌, ◌<◌, List, [], ◌∷◌, length, map, refl, sym, ap, subst, ◌∙◌, arith}
 use Rattle.std.proofs.lemmas.List.{length-map}
-use Rattle.std.specs.List.{filter}
+use Rattle.std.proofs.lemmas.List.Sums.{length-filter}
+use Rattle.std.specs.List.{count_by, filter}
 use Rattle.std.specs.List.Sorted.{IsStrictlyIncreasing}
 use Rattle.std.proofs.lemmas.List.Kept.{AllPairs-filter}
 use Rattle.vms_base.proofs.Ranks.{increasing-from_steps, rises}
@@ -17,6 +18,7 @@ numbers-lane_item : (items : List Item)
 numbers-lane_item [] = refl
 numbers-lane_item (item ∷ items) = ap (λ numbers. item.number ∷ numbers) (numbers-lane_item items)
 
+-- they make a script
 pub IsLaneScript-of : (lane : Lane) (items : List Item) → IsPhaseScript items → IsLaneScript (lane_items lane items)
 IsLaneScript-of lane items is =
     let kept = filter (λ (item : Item). is_lane lane item.lane) items in
@@ -33,3 +35,10 @@ IsLaneScript-of lane items is =
           (increasing-from_steps (λ (item : Item). item.number) kept
           (λ k d within. apart k (k + 1) d (omega arith) (omega (arith, within))));
     }
+
+-- how many they are
+pub length-lane_items : (lane : Lane) (items : List Item)
+    → length (lane_items lane items) ≡ count_by (λ (item : Item). is_lane lane item.lane) items
+length-lane_items lane items =
+    length-map (filter (λ (item : Item). is_lane lane item.lane) items) lane_item
+    ∙ length-filter (λ (item : Item). is_lane lane item.lane) items

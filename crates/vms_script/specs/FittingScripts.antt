@@ -6,7 +6,7 @@ use Rattle.vms_text.specs.declared.acts.Item.{Item}
 use Rattle.vms_text.specs.declared.acts.Line.{Line}
 use Rattle.vms_line.specs.Laws.{IsLineOf}
 use Rattle.vms_script.specs.Judging.{allowed_from}
-use Rattle.vms_script.specs.Starts.{Start, start_past}
+use Rattle.vms_script.specs.Starts.{IsWithin, Start, start_at_end, start_past}
 use Rattle.vms_script.specs.Totals.{line_of}
 
 -- lines, the oldest first, each of which counts after those before it
@@ -21,3 +21,8 @@ pub record Fits (header : Header) (start : Start) (items : List Item) : Type 0 w
   pub ascend : IsStrictlyIncreasing (map (λ item. item.number) items)
   pub known : All (λ item. IsLineOf header (line_of item)) items
   pub allowed : AreAllowed header start (map line_of items)
+
+-- after a script that fits a start no volume is past the most, where none was there
+abbrev pub FittingScriptsStayWithin : Type 0
+FittingScriptsStayWithin = (header : Header) (start : Start) (items : List Item) → Fits header start items
+    → IsWithin start → IsWithin (start_at_end start (map line_of items))

@@ -12,17 +12,17 @@ abbrev pub most_items : ℕ
 most_items = 1000000
 
 -- lines that make a script: not too many, and each has a higher number than those before it
-pub record IsScript {X : Type 0} (number_of : X → ℕ) (items : List X) : Type 0 where
+pub record AreScriptLines {X : Type 0} (number_of : X → ℕ) (items : List X) : Type 0 where
   pub few : length items ≤ most_items
   pub ascend : IsStrictlyIncreasing (map number_of items)
 
 -- lines that make the script of a phase
 abbrev pub IsPhaseScript : List Item → Type 0
-IsPhaseScript items = IsScript (λ item. item.number) items
+IsPhaseScript items = AreScriptLines (λ item. item.number) items
 
 -- lines that make the script of a lane
 abbrev pub IsLaneScript : List LaneItem → Type 0
-IsLaneScript items = IsScript (λ item. item.number) items
+IsLaneScript items = AreScriptLines (λ item. item.number) items
 
 -- whether two lanes are one
 abbrev pub is_lane : Lane → Lane → Bool

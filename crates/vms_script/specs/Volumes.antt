@@ -29,8 +29,7 @@ abbrev pub by_cpu : ℕ → (Act → ℕ) → Line → ℕ
 by_cpu c measure (Lane (Cpu cpu) act) = if nat_eq cpu.number c then measure act else 0
 by_cpu c measure _ = 0
 
--- the volume of CPU c after these lines, from what it was before them: each line adds a measure of its act, if the CPU's
--- lane has it
+-- the volume of CPU c after these lines, from what it was before them: each line of its lane adds a measure of its act
 abbrev pub volume_from : ℕ → (Act → ℕ) → ℕ → List Line → ℕ
 volume_from before measure c [] = before
 volume_from before measure c (line ∷ lines) = by_cpu c measure line + volume_from before measure c lines

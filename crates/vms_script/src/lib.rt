@@ -4,7 +4,7 @@
 mod cpus;
 mod judges;
 mod lane_scripts;
-mod parting;
+mod laws;
 mod phase_scripts;
 mod scripters;
 mod totals;
@@ -12,7 +12,10 @@ mod volumes;
 
 pub use judges::{JudgedLine, LineJudge};
 pub use lane_scripts::{LaneItem, LaneScript};
-pub use parting::{boundaries_cut, parts_have_all_lines, parts_may_stand};
+pub use laws::{
+    boundaries_cut, fitting_scripts_stay_within, lines_make_one_phase, parts_have_all_lines,
+    parts_may_stand,
+};
 pub use phase_scripts::PhaseScript;
 pub use scripters::{Fed, FeedError, Scripter};
 pub use totals::{PageTotals, plain_totals};

@@ -1,4 +1,4 @@
-ghost use Rattle.std.specs.Prelude.{◌≡◌, length, IfOk};
+ghost use Rattle.std.specs.Prelude.{◌≡◌, count_by, IfOk};
 ghost use Rattle.vms_script.specs.PhaseScripts.{is_lane, lane_items};
 
 use crate::{LaneItem, LaneScript};
@@ -94,15 +94,9 @@ fn items_of_lane(alloc: Global, items: &[Item], lane: Lane) -> Result<Vec<LaneIt
 
 /// How many of these lines are of a lane.
 fn lane_count(items: &[Item], lane: Lane) -> usize
-    ensures { result ≡ length (lane_items lane items.now) }
+    ensures { result ≡ count_by (λ item. is_lane lane item.lane) items.now }
 {
-    let mut count = 0;
-    for item in items {
-        if is_lane(lane, item.lane) {
-            count += 1;
-        }
-    }
-    count
+    items.iter().filter(|item| is_lane(lane, item.lane)).count()
 }
 
 /// Whether two lanes are one.

@@ -1,5 +1,5 @@
 use Rattle.vms_script.proofs.BodyParts.{BoundariesCut-holds}
-use Rattle.vms_script.proofs.parting.boundaries_cut.Goals as goal
+use Rattle.vms_script.proofs.laws.boundaries_cut.Goals as goal
 
 pub returns : goal.returns
 returns c = BoundariesCut-holds
