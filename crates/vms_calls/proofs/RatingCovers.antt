@@ -1,4 +1,4 @@
--- Rating a zone leaves a mark that covers what the CPUs may hide.
+-- For other crates too: rating a zone leaves a mark that covers what the CPUs may hide.
 use Rattle.std.proofs.Common.{◌≡◌, ℕ, ◌+◌, Bool, true, false, ◌&&◌, nat_eq, nat_le, if◌then◌else◌, max, List}
 use Rattle.std.proofs.Common.{[], ◌∷◌, ◌++◌, length, refl, sym, ap, ◌∙◌, arith, eq-eqb, eqb-true, subst}
 use Rattle.std.proofs.lemmas.Bool.Decides.{nat_tests}

@@ -1,0 +1,10 @@
+pub mod ListedReads
+pub mod PageParts
+pub mod TakenDown
+pub mod Flushes
+pub mod PlaceThresholds
+pub mod RefreshedStates
+pub mod Answers
+pub mod BroughtUp
+pub mod Crossings
+pub mod Starts

@@ -1,0 +1,5 @@
+pub mod Listed
+pub mod Worlds
+pub mod Refreshes
+pub mod Boundaries
+pub mod Starts

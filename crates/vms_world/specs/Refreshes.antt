@@ -1,0 +1,56 @@
+-- What a refresh makes of thresholds and marks (`refresh_zone_stat_thresholds` of mm/vmstat.c).
+use Rattle.std.specs.Prelude.{◌≡◌, ℕ, ◌-◌, nat_lt, if◌then◌else◌, List, length, count_by, slice_index_or}
+use Rattle.vms_base.specs.declared.headers.Header.{Header}
+use Rattle.vms_base.specs.declared.kinds.CpuState.{CpuState}
+use Rattle.vms_base.specs.declared.kinds.ZoneSize.{ZoneSize}
+use Rattle.vms_base.specs.Cpus.{is_online}
+use Rattle.vms_base.specs.Marks.{linux_mark_of, cover_mark_of}
+use Rattle.vms_base.specs.Places.{Shape, IsZone, place_count}
+use Rattle.vms_base.specs.Sizes.{size_at}
+use Rattle.vms_history.specs.Sums.{count_below}
+use Rattle.vms_core.specs.declared.states.State.{State}
+use Rattle.vms_core.specs.Cells.{cpu_at, threshold_at}
+use Rattle.vms_core.specs.Peaks.{if_present, opening_peak}
+use Rattle.vms_calls.specs.Ratings.{largest_on}
+use Rattle.vms_world.specs.Listed.{listed, by_cpu}
+
+-- how many CPUs are online
+abbrev pub count_online : List CpuState → ℕ
+count_online states = count_by is_online states
+
+-- what a rule answers for each zone, in order, where so many CPUs are online
+pub record AreAnswers (header : Header) (answers : ZoneSize → ℕ → ℕ → Type 0) (online : ℕ) (zones : List ℕ) : Type 0
+    where
+  pub one_each : length zones ≡ length header.layout.zones
+  pub each : (g : ℕ) → IsZone header.layout g → answers (size_at header.sizes g) online (slice_index_or zones g 0)
+
+-- the threshold of a place, given those of the zones: a node has the largest of its zones
+abbrev pub place_threshold : Shape → List ℕ → ℕ → ℕ
+place_threshold shape zones g =
+    if nat_lt g (length shape.zones)
+    then slice_index_or zones g 0
+    else largest_on shape zones (slice_index_or shape.nodes (g - length shape.zones) 0)
+
+-- the online CPUs get these thresholds of the zones, and of the nodes by them; those of other CPUs stay
+abbrev pub with_thresholds : Shape → List ℕ → State → State
+with_thresholds shape zones s = record s {
+  threshold = by_cpu (λ c g. if is_online (cpu_at s c) then place_threshold shape zones g else threshold_at s c g)
+      shape.cpus (place_count shape);
+}
+
+-- what the CPUs that are online or dead may hide of zone g together as a phase begins
+abbrev pub hidden_in : Shape → State → ℕ → ℕ
+hidden_in shape s g = count_below (λ c. if_present (cpu_at s c) (opening_peak shape s c g)) shape.cpus
+
+-- the mark of zone g: Linux's mark of the zone's threshold, raised where that is needed to cover what CPUs may hide
+abbrev pub zone_mark : Header → List ℕ → State → ℕ → ℕ
+zone_mark header zones s g = cover_mark_of (size_at header.sizes g)
+    (linux_mark_of (size_at header.sizes g) (count_online s.cpu) (slice_index_or zones g 0))
+    (hidden_in header.layout s g)
+
+abbrev pub with_marks : Header → List ℕ → State → State
+with_marks header zones s = record s { mark = listed (zone_mark header zones s) (length header.layout.zones) }
+
+-- the page counters with these thresholds of the zones on the online CPUs, and marks that cover them
+abbrev pub refreshed : Header → List ℕ → State → State
+refreshed header zones s = with_marks header zones (with_thresholds header.layout zones s)

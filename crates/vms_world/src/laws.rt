@@ -1,0 +1,25 @@
+ghost use Rattle.std.specs.Prelude.{ℕ, List};
+ghost use Rattle.vms_base.specs.declared.headers.Header.{Header};
+ghost use Rattle.vms_base.specs.Headers.{IsHeader};
+ghost use Rattle.vms_base.specs.Thresholds.{GivesThresholds};
+ghost use Rattle.vms_text.specs.declared.acts.Boundary.{Boundary};
+ghost use Rattle.vms_world.specs.declared.worlds.World.{World};
+ghost use Rattle.vms_world.specs.Boundaries.{Crosses, MayCross};
+ghost use Rattle.vms_world.specs.Refreshes.{AreAnswers};
+ghost use Rattle.vms_world.specs.Starts.{started};
+ghost use Rattle.vms_world.specs.Worlds.{IsWorldOf};
+
+use vms_calls::ThresholdRules;
+
+/// A world that belongs to a header stays one that does across every boundary, whichever rule of thresholds it goes by.
+pub fn boundaries_keep_worlds<R: ThresholdRules>()
+    ensures { (header : Header) (boundary : Boundary) (w next : World) → GivesThresholds R.normal
+        → IsWorldOf header w → MayCross header.layout w.pages boundary
+        → Crosses header R.normal boundary w next → IsWorldOf header next }
+{}
+
+/// A run begins with a world of its header, whichever rule gives the zones their thresholds.
+pub fn starts_make_worlds<R: ThresholdRules>()
+    ensures { (header : Header) (zones : List ℕ) → IsHeader header → GivesThresholds R.normal
+        → AreAnswers header R.normal header.layout.cpus zones → IsWorldOf header (started header zones) }
+{}

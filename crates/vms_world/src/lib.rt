@@ -1,0 +1,9 @@
+//! Worlds: all that stands between two phases of a run, which of them belong to a header, and what a start and the
+//! boundaries make of them.
+#![tactic(auto)]
+
+mod laws;
+mod worlds;
+
+pub use laws::{boundaries_keep_worlds, starts_make_worlds};
+pub use worlds::{Volumes, World};
