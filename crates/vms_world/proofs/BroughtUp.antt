@@ -11,12 +11,12 @@ use Rattle.vms_core.specs.declared.states.State.{State}
 use Rattle.vms_core.specs.Cells.{cpu_at, with_cpu}
 use Rattle.vms_world.specs.declared.worlds.World.{World}
 use Rattle.vms_world.specs.Boundaries.{brought_up}
-use Rattle.vms_world.specs.Refreshes.{AreAnswers, count_online, refreshed}
+use Rattle.vms_world.specs.Refreshes.{AreAnswers, MayRefresh, count_online, refreshed}
 use Rattle.vms_world.specs.Worlds.{IsWorldOf}
 use Rattle.vms_world.proofs.Answers.{AreThresholds-answers, count_online-least, count_online-most}
 use Rattle.vms_world.proofs.PageParts.{IsWorldOf-pages}
 use Rattle.vms_world.proofs.PlaceThresholds.{AreThresholds}
-use Rattle.vms_world.proofs.RefreshedStates.{IsUnrated, IsBase-refreshed}
+use Rattle.vms_world.proofs.RefreshedStates.{IsBase-refreshed}
 
 module _ (header : Header) (w : World) (c : ℕ) (of : IsWorldOf header w) (c_in : IsCpu header.layout c) where
   abbrev s : State
@@ -38,8 +38,8 @@ module _ (header : Header) (w : World) (c : ℕ) (of : IsWorldOf header w) (c_in
       by true is = absurd cc
       by false is = is
 
-  pub IsUnrated-up : IsUnrated header.layout up
-  IsUnrated-up =
+  pub MayRefresh-up : MayRefresh header.layout up
+  MayRefresh-up =
       let was = of.page_base.opening in
       record {
         shaped = record {
@@ -65,10 +65,10 @@ module _ (header : Header) (w : World) (c : ℕ) (of : IsWorldOf header w) (c_in
       }
 
   pub online-least : 1 ≤ count_online up.cpu
-  online-least = count_online-least header.layout up.cpu IsUnrated-up.shaped.cpu IsUnrated-up.some_online
+  online-least = count_online-least header.layout up.cpu MayRefresh-up.shaped.cpu MayRefresh-up.some_online
 
   pub online-most : count_online up.cpu ≤ 128
-  online-most = count_online-most header.layout up.cpu of.page_base.layout IsUnrated-up.shaped.cpu
+  online-most = count_online-most header.layout up.cpu of.page_base.layout MayRefresh-up.shaped.cpu
 
   module _ (answers : ZoneSize → ℕ → ℕ → Type 0) (gives : GivesThresholds answers) (zones : List ℕ)
       (are : AreAnswers header answers (count_online up.cpu) zones) where
@@ -79,6 +79,6 @@ module _ (header : Header) (w : World) (c : ℕ) (of : IsWorldOf header w) (c_in
     pub IsWorldOf-brought_up : IsWorldOf header (brought_up header zones c w)
     IsWorldOf-brought_up = IsWorldOf-pages header w of (refreshed header zones up)
         (IsBase-refreshed header of.page_base.layout of.page_base.one_size_each of.page_base.sizes zones thresholds up
-        IsUnrated-up)
+        MayRefresh-up)
         (λ e e_in. absent-before e)
         (record { totals = of.pages_within.totals; systems = of.pages_within.systems })

@@ -26,22 +26,10 @@ use Rattle.vms_core.proofs.CounterRanges.{counter_at-known}
 use Rattle.vms_core.proofs.PlainData.{places_of-shaped}
 use Rattle.vms_calls.specs.HeaderFacts.{facts_of}
 use Rattle.vms_calls.proofs.RatingCovers.{cover_mark-covers}
-use Rattle.vms_world.specs.Refreshes.{count_online, hidden_in, place_threshold, refreshed, with_thresholds, zone_mark}
+use Rattle.vms_world.specs.Refreshes.{MayRefresh, count_online, hidden_in, place_threshold, refreshed, with_thresholds}
+use Rattle.vms_world.specs.Refreshes.{zone_mark}
 use Rattle.vms_world.proofs.ListedReads.{length-listed, get_or-listed, length-by_cpu, get_or-by_cpu}
 use Rattle.vms_world.proofs.PlaceThresholds.{AreThresholds, place_threshold-most, place_threshold-least}
-
--- a state that a refresh may be made on: all that a history asks of its base but thresholds of online CPUs and marks
-pub record IsUnrated (shape : Shape) (s : State) : Type 0 where
-  pub shaped : HasShape shape s
-  pub some_online : HasOnline shape s.cpu
-  pub values : (k : ℕ) → IsCounter shape k → unsigned_abs (value_at s k) ≤ 2 ^ 60
-  pub systems : (i : ℕ) → IsItem shape i → unsigned_abs (system_at s i) ≤ 2 ^ 60
-  pub diffs : (c k : ℕ) → IsCpu shape c → IsCounter shape k → unsigned_abs (diff_at s c k) ≤ most_threshold
-  pub absent : (c k : ℕ) → IsCpu shape c → cpu_at s c ≡ Absent → IsCounter shape k → diff_at s c k ≡ pos 0
-  pub thresholds : (c g : ℕ) → IsCpu shape c → IsPlace shape g → threshold_at s c g ≤ most_threshold
-  pub unacknowledged : (c g : ℕ) → IsCpu shape c → IsZone shape g → acknowledged_at s c g ≡ None
-  pub unset_thresholds : (c g : ℕ) → IsCpu shape c → IsPlace shape g → threshold_sets_at s c g ≡ 0
-  pub unset_marks : (g : ℕ) → IsZone shape g → mark_sets_at s g ≡ 0
 
 -- a mark stays near the high watermark
 mark-below : (size : ZoneSize) (online t hidden : ℕ) → online ≤ 128 → t ≤ most_threshold → hidden ≤ 16000
@@ -69,7 +57,7 @@ if_present-most Absent n m less = omega arith
 
 module _ (header : Header) (is_layout : IsLayout header.layout)
     (one_size_each : length header.sizes ≡ length header.layout.zones) (sizes : All IsValidSize header.sizes)
-    (zones : List ℕ) (are : AreThresholds header.layout zones) (s : State) (unrated : IsUnrated header.layout s) where
+    (zones : List ℕ) (are : AreThresholds header.layout zones) (s : State) (unrated : MayRefresh header.layout s) where
   abbrev layout : Shape
   layout = header.layout
 

@@ -30,13 +30,13 @@ use Rattle.vms_pcpu_core.specs.Bases as percpu
 use Rattle.vms_pcpu_core.specs.States.{count_at, local_at}
 use Rattle.vms_pcpu_core.specs.Totals.{locals}
 use Rattle.vms_world.specs.declared.worlds.World.{World}
-use Rattle.vms_world.specs.Refreshes.{AreAnswers, count_online, refreshed}
+use Rattle.vms_world.specs.Refreshes.{AreAnswers, MayRefresh, count_online, refreshed}
 use Rattle.vms_world.specs.Starts.{bare_pages, base_of, base_of_item, started}
 use Rattle.vms_world.specs.Worlds.{IsWorldOf, AreVolumes, page_facts, event_facts, pcpu_facts, page_volume, volumes_on}
 use Rattle.vms_world.proofs.Answers.{AreThresholds-answers}
 use Rattle.vms_world.proofs.ListedReads.{length-listed, get_or-listed}
 use Rattle.vms_world.proofs.PlaceThresholds.{AreThresholds}
-use Rattle.vms_world.proofs.RefreshedStates.{IsUnrated, IsBase-refreshed}
+use Rattle.vms_world.proofs.RefreshedStates.{IsBase-refreshed}
 
 -- all of n CPUs are online
 pub count_online-replicate : (n : ℕ) → count_online (replicate n Online) ≡ n
@@ -87,8 +87,8 @@ module _ (header : Header) (valid : IsHeader header) where
     values_of_item-most layout valid.is_layout bare i (2 ^ 48) (λ k k_in. base_of-most header valid k),
   )
 
-  pub IsUnrated-bare : IsUnrated layout bare
-  IsUnrated-bare = record {
+  pub MayRefresh-bare : MayRefresh layout bare
+  MayRefresh-bare = record {
     shaped = record {
       place = valid.bases_length;
       system = length-listed (base_of_item header) (item_count layout);
@@ -151,7 +151,7 @@ module _ (header : Header) (valid : IsHeader header) where
 
     page-part : pages.IsBase (page_facts header w)
     page-part = IsBase-refreshed header valid.is_layout valid.sizes_length valid.sizes_valid zones thresholds bare
-        IsUnrated-bare
+        MayRefresh-bare
 
     event-part : events.IsBase (event_facts header w)
     event-part = record {

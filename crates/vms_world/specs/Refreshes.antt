@@ -1,15 +1,19 @@
 -- What a refresh makes of thresholds and marks (`refresh_zone_stat_thresholds` of mm/vmstat.c).
-use Rattle.std.specs.Prelude.{◌≡◌, ℕ, ◌-◌, nat_lt, if◌then◌else◌, List, length, count_by, slice_index_or}
+use Rattle.std.specs.Prelude.{◌≡◌, ℕ, ◌-◌, ◌^◌, ◌≤◌, nat_lt, if◌then◌else◌, pos, unsigned_abs, List, length, count_by, None}
+use Rattle.std.specs.Prelude.{slice_index_or}
 use Rattle.vms_base.specs.declared.headers.Header.{Header}
 use Rattle.vms_base.specs.declared.kinds.CpuState.{CpuState}
 use Rattle.vms_base.specs.declared.kinds.ZoneSize.{ZoneSize}
-use Rattle.vms_base.specs.Cpus.{is_online}
+use Rattle.vms_base.specs.declared.kinds.CpuState.TheVariants.{Absent}
+use Rattle.vms_base.specs.Cpus.{HasOnline, is_online}
 use Rattle.vms_base.specs.Marks.{linux_mark_of, cover_mark_of}
-use Rattle.vms_base.specs.Places.{Shape, IsZone, place_count}
+use Rattle.vms_base.specs.Places.{Shape, IsCounter, IsCpu, IsItem, IsPlace, IsZone, place_count}
 use Rattle.vms_base.specs.Sizes.{size_at}
+use Rattle.vms_base.specs.Thresholds.{most_threshold}
 use Rattle.vms_history.specs.Sums.{count_below}
 use Rattle.vms_core.specs.declared.states.State.{State}
-use Rattle.vms_core.specs.Cells.{cpu_at, threshold_at}
+use Rattle.vms_core.specs.Cells.{HasShape, acknowledged_at, cpu_at, diff_at, mark_sets_at, system_at, threshold_at}
+use Rattle.vms_core.specs.Cells.{threshold_sets_at, value_at}
 use Rattle.vms_core.specs.Peaks.{if_present, opening_peak}
 use Rattle.vms_calls.specs.Ratings.{largest_on}
 use Rattle.vms_world.specs.Listed.{listed, by_cpu}
@@ -20,9 +24,9 @@ count_online states = count_by is_online states
 
 -- what a rule answers for each zone, in order, where so many CPUs are online
 pub record AreAnswers (header : Header) (answers : ZoneSize → ℕ → ℕ → Type 0) (online : ℕ) (zones : List ℕ) : Type 0
-    where
-  pub one_each : length zones ≡ length header.layout.zones
-  pub each : (g : ℕ) → IsZone header.layout g → answers (size_at header.sizes g) online (slice_index_or zones g 0)
+  where
+    pub one_each : length zones ≡ length header.layout.zones
+    pub each : (g : ℕ) → IsZone header.layout g → answers (size_at header.sizes g) online (slice_index_or zones g 0)
 
 -- the threshold of a place, given those of the zones: a node has the largest of its zones
 abbrev pub place_threshold : Shape → List ℕ → ℕ → ℕ
@@ -54,3 +58,17 @@ with_marks header zones s = record s { mark = listed (zone_mark header zones s) 
 -- the page counters with these thresholds of the zones on the online CPUs, and marks that cover them
 abbrev pub refreshed : Header → List ℕ → State → State
 refreshed header zones s = with_marks header zones (with_thresholds header.layout zones s)
+
+-- page counters that a refresh may be made on: with all that a history asks of its base, but for marks and for the
+-- thresholds of online CPUs
+pub record MayRefresh (shape : Shape) (s : State) : Type 0 where
+  pub shaped : HasShape shape s
+  pub some_online : HasOnline shape s.cpu
+  pub values : (k : ℕ) → IsCounter shape k → unsigned_abs (value_at s k) ≤ 2 ^ 60
+  pub systems : (i : ℕ) → IsItem shape i → unsigned_abs (system_at s i) ≤ 2 ^ 60
+  pub diffs : (c k : ℕ) → IsCpu shape c → IsCounter shape k → unsigned_abs (diff_at s c k) ≤ most_threshold
+  pub absent : (c k : ℕ) → IsCpu shape c → cpu_at s c ≡ Absent → IsCounter shape k → diff_at s c k ≡ pos 0
+  pub thresholds : (c g : ℕ) → IsCpu shape c → IsPlace shape g → threshold_at s c g ≤ most_threshold
+  pub unacknowledged : (c g : ℕ) → IsCpu shape c → IsZone shape g → acknowledged_at s c g ≡ None
+  pub unset_thresholds : (c g : ℕ) → IsCpu shape c → IsPlace shape g → threshold_sets_at s c g ≡ 0
+  pub unset_marks : (g : ℕ) → IsZone shape g → mark_sets_at s g ≡ 0

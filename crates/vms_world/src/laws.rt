@@ -1,7 +1,10 @@
-ghost use Rattle.std.specs.Prelude.{ℕ, List};
+ghost use Rattle.std.specs.Prelude.{◌≡◌, ℕ, ◌+ℤ◌, List};
 ghost use Rattle.vms_base.specs.declared.headers.Header.{Header};
 ghost use Rattle.vms_base.specs.Headers.{IsHeader};
+ghost use Rattle.vms_base.specs.Places.{IsCounter};
 ghost use Rattle.vms_base.specs.Thresholds.{GivesThresholds};
+ghost use Rattle.vms_core.specs.Cells.{value_at};
+ghost use Rattle.vms_core.specs.Totals.{differentials};
 ghost use Rattle.vms_text.specs.declared.acts.Boundary.{Boundary};
 ghost use Rattle.vms_world.specs.declared.worlds.World.{World};
 ghost use Rattle.vms_world.specs.Boundaries.{Crosses, MayCross};
@@ -22,4 +25,12 @@ pub fn boundaries_keep_worlds<R: ThresholdRules>()
 pub fn starts_make_worlds<R: ThresholdRules>()
     ensures { (header : Header) (zones : List ℕ) → IsHeader header → GivesThresholds R.normal
         → AreAnswers header R.normal header.layout.cpus zones → IsWorldOf header (started header zones) }
+{}
+
+/// Across a boundary nothing is lost: what each page counter adds up to, its global value and its differentials, stays.
+pub fn boundaries_keep_totals<R: ThresholdRules>()
+    ensures { (header : Header) (boundary : Boundary) (w next : World) → IsWorldOf header w
+        → Crosses header R.normal boundary w next → (k : ℕ) → IsCounter header.layout k
+        → value_at next.pages k +ℤ differentials header.layout next.pages k
+        ≡ value_at w.pages k +ℤ differentials header.layout w.pages k }
 {}
