@@ -1,4 +1,4 @@
--- What a rule answers for the zones are thresholds, where some CPU is online.
+-- For other crates too: what a rule answers for the zones are thresholds, where some CPU is online.
 use Rattle.std.proofs.Common.{◌≡◌, ℕ, ◌+◌, ◌<◌, ◌≤◌, true, List, length, get_or, take, All, ap, arith, cond}
 use Rattle.std.specs.Prelude.{count_by}
 use Rattle.std.proofs.lemmas.List.Elements.{All-get_or}

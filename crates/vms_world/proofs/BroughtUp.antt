@@ -1,4 +1,4 @@
--- A world in which a CPU has come online belongs to its header.
+-- For other crates too: a world in which a CPU has come online belongs to its header.
 use Rattle.std.proofs.Common.{◌≡◌, ℕ, ◌<◌, ◌≤◌, Bool, true, false, nat_eq, List, length, if◌then◌else◌, sym, subst, ◌∙◌}
 use Rattle.std.proofs.Common.{length-set, get_or-set_same}
 use Rattle.vms_base.specs.declared.headers.Header.{Header}

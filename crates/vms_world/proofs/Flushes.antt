@@ -1,4 +1,4 @@
--- A world that was flushed belongs to its header: nothing is lost, and no CPU hides more.
+-- For other crates too: a world that was flushed belongs to its header: nothing is lost, and no CPU hides more.
 use Rattle.std.proofs.Common.{◌≡◌, ℕ, ◌+◌, ◌*◌, ◌^◌, ◌<◌, ◌≤◌, Bool, true, false, nat_eq, ℤ, pos, ◌+ℤ◌, unsigned_abs}
 use Rattle.std.proofs.Common.{[], length, if◌then◌else◌, refl, sym, ap, subst, ◌∙◌, arith}
 use Rattle.std.proofs.lemmas.Int.{ints}

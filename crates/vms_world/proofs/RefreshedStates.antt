@@ -1,4 +1,4 @@
--- A refresh gives a state thresholds and marks with which a history may begin.
+-- For other crates too: a refresh gives a state thresholds and marks with which a history may begin.
 use Rattle.std.proofs.Common.{◌≡◌, ℕ, suc, ◌+◌, ◌*◌, ◌^◌, ◌<◌, ◌≤◌, ◌&&◌, nat_eq, nat_le, nat_lt, max, Bool, true, false}
 use Rattle.std.proofs.Common.{pos, unsigned_abs, [], List, length, map, None, All, if◌then◌else◌, refl, sym, ap, subst, ◌∙◌}
 use Rattle.std.proofs.Common.{arith, get_or}
@@ -91,7 +91,7 @@ module _ (header : Header) (is_layout : IsLayout header.layout)
   pub mark-refreshed : (g : ℕ) → IsZone layout g → mark_at next g ≡ zone_mark header zones rated g
   mark-refreshed g g_in = get_or-listed (zone_mark header zones rated) (length layout.zones) g 0 g_in
 
-  threshold-most : (c g : ℕ) → IsCpu layout c → IsPlace layout g → threshold_at next c g ≤ most_threshold
+  pub threshold-most : (c g : ℕ) → IsCpu layout c → IsPlace layout g → threshold_at next c g ≤ most_threshold
   threshold-most c g c_in g_in =
       rw (threshold-refreshed c g c_in g_in) (by (is_online (cpu_at s c)))
     where

@@ -1,4 +1,4 @@
--- A run begins with a world of its header.
+-- For other crates too: a run begins with a world of its header.
 use Rattle.std.proofs.Common.{◌≡◌, ℕ, zero, suc, ◌+◌, ◌*◌, ◌^◌, ◌<◌, ◌≤◌, ℤ, pos, ◌+ℤ◌, ◌≤ℤ◌, unsigned_abs, List, length, map}
 use Rattle.std.proofs.Common.{get_or, replicate, None, Option, [], ◌∷◌, refl, sym, ap, subst, ◌∙◌, arith, ⊎_elim, cond}
 use Rattle.std.proofs.lemmas.Bool.{cases_lt}

@@ -1,4 +1,4 @@
--- A world in which a CPU has gone offline belongs to its header.
+-- For other crates too: a world in which a CPU has gone offline belongs to its header.
 use Rattle.std.proofs.Common.{◌≡◌, ◌≢◌, ℕ, ◌<◌, Bool, true, false, nat_eq, [], length, if◌then◌else◌, refl, sym, subst}
 use Rattle.std.proofs.Common.{ap, ◌∙◌, arith, eqb-true, ne_eqb, length-set}
 use Rattle.vms_base.specs.declared.headers.Header.{Header}

@@ -1,0 +1,11 @@
+-- A world stays one of its header.
+use Rattle.std.proofs.Common.{◌≡◌, sym, subst}
+use Rattle.vms_core.specs.declared.states.State.{State}
+use Rattle.vms_world.specs.Worlds.{IsWorldOf}
+use Rattle.vms_world.proofs.Flushes.{IsWorldOf-flushed}
+use Rattle.vms_hotplug.proofs.flushing.flush.Goals as goal
+
+pub returns-clause-stays : goal.returns-clause-stays
+returns-clause-stays c =
+    subst (λ (s : State). IsWorldOf c.args.header.now (record c.args.world.now { pages = s })) (sym c.flush_pages.ensures)
+    (IsWorldOf-flushed c.args.header.now c.args.world.now c.requires)

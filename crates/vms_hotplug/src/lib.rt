@@ -1,0 +1,11 @@
+//! What stands between two phases, on plain worlds: the start of a run, CPUs that go offline and come online, and the
+//! flush of all differentials.
+#![tactic(auto)]
+
+mod cpus;
+mod flushing;
+mod refreshing;
+mod settings;
+
+pub use cpus::{bring_up, take_down};
+pub use flushing::flush;
