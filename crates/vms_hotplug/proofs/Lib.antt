@@ -6,3 +6,5 @@ pub mod Rooms
 pub mod FlushedCpus
 pub mod RefreshedPages
 pub mod BringUps
+pub mod ItemSums
+pub mod StartedWorlds

@@ -6,6 +6,9 @@ mod cpus;
 mod flushing;
 mod refreshing;
 mod settings;
+mod starting;
+mod summing;
 
 pub use cpus::{bring_up, take_down};
 pub use flushing::flush;
+pub use starting::start;

@@ -74,10 +74,10 @@ module _ (header : Header) (valid : IsHeader header) where
   pub online-bare : (c : ℕ) → IsCpu layout c → cpu_at bare c ≡ Online
   online-bare c c_in = get_or-replicate layout.cpus c Online Absent c_in
 
-  diff-bare : (c k : ℕ) → diff_at bare c k ≡ pos 0
+  pub diff-bare : (c k : ℕ) → diff_at bare c k ≡ pos 0
   diff-bare c k = get_or-copies (layout.cpus * counter_count layout) (cell (length header.bases) c k) (pos 0)
 
-  system-bare : (i : ℕ) → IsItem layout i → system_at bare i ≡ base_of_item header i
+  pub system-bare : (i : ℕ) → IsItem layout i → system_at bare i ≡ base_of_item header i
   system-bare i i_in = get_or-listed (base_of_item header) (item_count layout) i (pos 0) i_in
 
   pub system-most : (i : ℕ) → IsItem layout i → unsigned_abs (system_at bare i) ≤ 2 ^ 52

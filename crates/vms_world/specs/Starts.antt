@@ -33,10 +33,10 @@ bare_pages header = record {
   mark_sets = replicate (length header.layout.zones) 0;
 }
 
--- the world that a run begins with, where these are the thresholds of the zones
-abbrev pub started : Header → List ℕ → World
-started header zones = record {
-  pages = refreshed header zones (bare_pages header);
+-- the world of these page counters in which no event, no percpu counter and no volume counts anything
+abbrev pub with_nothing_counted : Header → State → World
+with_nothing_counted header s = record {
+  pages = s;
   events = record { words = replicate (header.layout.cpus * event_count) 0 };
   counters = record {
     batch = map (λ decl. decl.batch) header.counters;
@@ -49,3 +49,7 @@ started header zones = record {
     counters = replicate (header.layout.cpus * length header.counters) 0;
   };
 }
+
+-- the world that a run begins with, where these are the thresholds of the zones
+abbrev pub started : Header → List ℕ → World
+started header zones = with_nothing_counted header (refreshed header zones (bare_pages header))

@@ -1,7 +1,8 @@
 ghost use Rattle.std.specs.Prelude.{◌≡◌, ℕ, ◌<◌, ◌^◌, ◌+ℤ◌, length, pos, slice_index_or, slice_set, unsigned_abs, IfOk};
 ghost use Rattle.vms_base.specs.Headers.{IsHeader};
 ghost use Rattle.vms_base.specs.Places.{item_count};
-ghost use Rattle.vms_phase.specs.Worlds.{base_of_item};
+ghost use Rattle.vms_world.specs.Listed.{listed};
+ghost use Rattle.vms_world.specs.Starts.{base_of_item};
 
 use std::alloc::Global;
 use vms_base::{CounterId, Header, Memory, Row};
@@ -9,11 +10,7 @@ use vms_base::{CounterId, Header, Memory, Row};
 /// The system-wide values as a run begins, by item, in pages: what the bases of an item's counters add up to.
 pub(crate) fn systems(alloc: Global, header: &Header) -> Result<Row<i64>, Memory>
     requires { IsHeader header.now }
-    ensures length { IfOk result (λ row. length row ≡ item_count header.now.layout) }
-    ensures value { IfOk result (λ row. (i : ℕ) → i < item_count header.now.layout →
-        slice_index_or row i (pos 0) ≡ base_of_item header.now i) }
-    ensures most { IfOk result (λ row. (i : ℕ) → i < item_count header.now.layout →
-        unsigned_abs (slice_index_or row i (pos 0)) < 2 ^ 58) }
+    ensures { IfOk result (λ row. row ≡ listed (base_of_item header.now) (item_count header.now.layout)) }
 {
     let layout = &header.layout;
     let mut values = Row::filled(alloc, layout.items() as usize, 0)?;

@@ -1,10 +1,15 @@
 -- A counter more adds its base to its item.
-use Rattle.std.proofs.Common.{◌≡◌, ◌≤◌, ◌^◌, w64, ℤ, pos, unsigned_abs, to_z, of_z, FitsSigned, sym, ◌∙◌, arith}
+use Rattle.std.proofs.Common.{◌≡◌, ◌≤◌, ◌^◌, w64, ℤ, pos, unsigned_abs, to_z, of_z, FitsSigned, sym, ap, ◌∙◌, arith}
+use Rattle.std.proofs.Common.{ℕ, nat_eq, if◌then◌else◌}
 use Rattle.std.proofs.lemmas.Int.{ints, to_z-of_z}
 use Rattle.vms_base.proofs.Counts.{counter_count-most}
-use Rattle.vms_phase.specs.Worlds.{base_of}
-use Rattle.vms_phase.proofs.ItemSums.{HasBases-more, more_small, base_of-most}
-use Rattle.vms_phase.proofs.summing.systems.Goals as goal
+use Rattle.vms_base.specs.Places.{counter_count, item_count, item_of}
+use Rattle.vms_history.specs.Sums.{sum_below}
+use Rattle.vms_world.specs.Starts.{base_of, base_of_item}
+use Rattle.vms_world.proofs.ListedReads.{is_listed}
+use Rattle.vms_hotplug.proofs.ItemSums.{HasBases-more, more_small}
+use Rattle.vms_world.proofs.Starts.{base_of-most}
+use Rattle.vms_hotplug.proofs.summing.systems.Goals as goal
 
 same_word : (z base : ℤ) → base ≡ z → unsigned_abs base ≤ 2 ^ 48 → to_z w64 (of_z w64 z) ≡ base
 same_word z base is small =
@@ -34,11 +39,16 @@ loop-number-preserved c =
     (HasBases-more c.args.header.now c.requires.is_layout most c.loop-number.number c.loop-number.values
     c.loop-number.invariant)
 
-pub returns-clause-most : goal.returns-clause-most
-returns-clause-most c i known = omega (
-  arith,
-  c.loop-number.invariant.small i known,
-  c.loop-number.auto.«number-end»,
-  c.counters-number-end.ensures.value,
-  counter_count-most c.args.header.now.layout c.requires.is_layout,
-)
+pub returns : goal.returns
+returns c =
+    let layout = c.args.header.now.layout in
+    let all : c.loop-number.number ≡ counter_count layout = omega (
+      arith,
+      c.loop-number-test.false,
+      c.loop-number.auto.«number-end»,
+      c.counters-number-end.ensures.value,
+    ) in
+    is_listed (base_of_item c.args.header.now) (item_count layout) c.loop-number.values (pos 0)
+    c.loop-number.invariant.length_is
+    (λ i i_in. c.loop-number.invariant.sums i i_in
+    ∙ ap (sum_below (λ k. if nat_eq (item_of layout k) i then base_of c.args.header.now k else pos 0)) all)

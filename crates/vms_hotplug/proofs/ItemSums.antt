@@ -13,7 +13,7 @@ use Rattle.vms_base.specs.declared.headers.Header.{Header}
 use Rattle.vms_base.specs.Places.{IsLayout, item_of, item_count}
 use Rattle.vms_base.proofs.Counts.{item_of-lt}
 use Rattle.vms_history.specs.Sums.{sum_below}
-use Rattle.vms_phase.specs.Worlds.{base_of}
+use Rattle.vms_world.specs.Starts.{base_of}
 
 -- each item has the bases of its counters below n
 pub record HasBases (header : Header) (n : ℕ) (values : List ℤ) : Type 0 where
@@ -21,14 +21,6 @@ pub record HasBases (header : Header) (n : ℕ) (values : List ℤ) : Type 0 whe
   pub sums : (i : ℕ) → i < item_count header.layout → get_or values i (pos 0)
       ≡ sum_below (λ k. if nat_eq (item_of header.layout k) i then base_of header k else pos 0) n
   pub small : (i : ℕ) → i < item_count header.layout → unsigned_abs (get_or values i (pos 0)) ≤ n * 2 ^ 48
-
--- no base is larger than 2^48
-pub base_of-most : (header : Header) → IsHeader header → (k : ℕ) → unsigned_abs (base_of header k) ≤ 2 ^ 48
-base_of-most header valid k = ⊎_elim
-    (λ (within : k < length header.bases).
-    All-get_or (λ (base : ℤ). unsigned_abs base ≤ 2 ^ 48) header.bases k (pos 0) within valid.bases_most)
-    (λ (past : length header.bases ≤ k). rw (get_or_past header.bases k (pos 0) past) (omega arith))
-    (cases_lt k (length header.bases))
 
 module _ (header : Header) (layout : IsLayout header.layout)
     (most : (k : ℕ) → unsigned_abs (base_of header k) ≤ 2 ^ 48) (n : ℕ) (values : List ℤ)

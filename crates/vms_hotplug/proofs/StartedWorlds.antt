@@ -1,0 +1,54 @@
+-- A refresh of the bare page counters, with nothing counted, is the world that a run begins with.
+use Rattle.std.proofs.Common.{◌≡◌, ℕ, List, sym, ap, subst}
+use Rattle.std.specs.Prelude.{Result, Ok, Err, IfOk}
+use Rattle.vms_base.specs.declared.failures.Memory.{Memory}
+use Rattle.vms_base.specs.declared.headers.Header.{Header}
+use Rattle.vms_base.specs.declared.kinds.ZoneSize.{ZoneSize}
+use Rattle.vms_base.specs.Headers.{IsHeader}
+use Rattle.vms_base.specs.Thresholds.{GivesThresholds}
+use Rattle.vms_core.specs.declared.states.State.{State}
+use Rattle.vms_world.specs.declared.worlds.World.{World}
+use Rattle.vms_world.specs.Refreshes.{AreAnswers, MayRefresh, count_online, refreshed}
+use Rattle.vms_world.specs.Starts.{bare_pages, started, with_nothing_counted}
+use Rattle.vms_world.specs.Worlds.{IsWorldOf}
+use Rattle.vms_world.proofs.Starts.{IsWorldOf-start, MayRefresh-bare, count_online-replicate}
+
+-- what holds of a world holds of a result that is this world
+IfOk-is : (P : World → Type 0) (w : World) → P w → (result : Result World Memory) → IfOk result (λ x. x ≡ w)
+    → IfOk result P
+IfOk-is P w holds (Err e) is = tt
+IfOk-is P w holds (Ok x) is = subst P (sym is) holds
+
+module _ (header : Header) (valid : IsHeader header) (answers : ZoneSize → ℕ → ℕ → Type 0) (next : State) where
+  -- a refresh of this state leads to the next page counters
+  abbrev Refreshes : State → Type 0
+  Refreshes s = (zones : List ℕ) × AreAnswers header answers (count_online s.cpu) zones
+      × (next ≡ refreshed header zones s)
+
+  abbrev Starts : World → Type 0
+  Starts w = (zones : List ℕ) × AreAnswers header answers header.layout.cpus zones × (w ≡ started header zones)
+
+  made : Refreshes (bare_pages header) → Starts (with_nothing_counted header next)
+  made (zones, are, same) = (
+    zones,
+    subst (λ (n : ℕ). AreAnswers header answers n zones) (count_online-replicate header.layout.cpus) are,
+    ap (with_nothing_counted header) same,
+  )
+
+  module _ (bare : State) (is : bare ≡ bare_pages header) where
+    pub MayRefresh-is : MayRefresh header.layout bare
+    MayRefresh-is = subst (MayRefresh header.layout) (sym is) (MayRefresh-bare header valid)
+
+    module _ (refreshes : Refreshes bare) (result : Result World Memory)
+        (told : IfOk result (λ w. w ≡ with_nothing_counted header next)) where
+      pub Starts-told : IfOk result Starts
+      Starts-told =
+          IfOk-is Starts (with_nothing_counted header next) (made (subst Refreshes is refreshes)) result told
+
+      pub IsWorldOf-told : GivesThresholds answers → IfOk result (IsWorldOf header)
+      IsWorldOf-told gives = IfOk-is (IsWorldOf header) (with_nothing_counted header next)
+          (by (made (subst Refreshes is refreshes))) result told
+        where
+          by : Starts (with_nothing_counted header next) → IsWorldOf header (with_nothing_counted header next)
+          by (zones, are, same) =
+              subst (IsWorldOf header) (sym same) (IsWorldOf-start header valid answers gives zones are)
