@@ -1,4 +1,4 @@
--- The words at the end of a complete history are a base again.
+-- For other crates too: the words at the end of a complete history are a base again.
 use Rattle.std.proofs.Common.{ℕ, pos, ◌+ℤ◌, ◌≤ℤ◌, ◌∙◌, arith}
 use Rattle.std.proofs.lemmas.Int.{ints}
 use Rattle.vms_base.specs.Volumes.{most_volume}

@@ -1,6 +1,6 @@
 -- A flush, CPU by CPU.
-use Rattle.std.proofs.Common.{◌≡◌, ◌≢◌, ℕ, suc, ◌+◌, ◌*◌, ◌^◌, ◌<◌, ◌≤◌, ◌&&◌, nat_eq, nat_lt, Bool, true, false, ℤ, pos}
-use Rattle.std.proofs.Common.{◌+ℤ◌, unsigned_abs, List, length, get_or, if◌then◌else◌, refl, sym, ap, subst, ◌∙◌, arith}
+use Rattle.std.proofs.Common.{◌≡◌, ℕ, suc, ◌+◌, ◌*◌, ◌^◌, ◌≤◌, ◌&&◌, nat_eq, nat_lt, Bool, true, false, ℤ, pos}
+use Rattle.std.proofs.Common.{◌+ℤ◌, unsigned_abs, get_or, if◌then◌else◌, refl, sym, ap, subst, ◌∙◌, arith}
 use Rattle.std.proofs.lemmas.Bool.Decides.{nat_tests}
 use Rattle.std.proofs.lemmas.Int.{ints}
 use Rattle.vms_base.specs.Cpus.{is_online}
@@ -10,8 +10,8 @@ use Rattle.vms_history.specs.Sums.{sum_below}
 use Rattle.vms_history.proofs.SumLaws.{sum_below-same, sum_below-sum, sum_below-zeros}
 use Rattle.vms_core.specs.declared.states.State.{State}
 use Rattle.vms_core.specs.Cells.{HasShape, cpu_at, diff_at, system_at, value_at}
-use Rattle.vms_core.proofs.Items.{if-sum}
 use Rattle.vms_world.specs.Boundaries.{folded_at, folded_of, folded_of_item, flushed_pages}
+use Rattle.vms_world.proofs.Flushes.{if-sum}
 use Rattle.vms_world.proofs.ListedReads.{is_by_cpu, is_listed}
 use Rattle.vms_hotplug.specs.Folding.{FoldsCpu, HasRoom}
 use Rattle.vms_hotplug.proofs.Folds.{parts-most}

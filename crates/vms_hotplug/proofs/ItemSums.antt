@@ -1,14 +1,10 @@
 -- The bases of an item's counters, added one after another.
 use Rattle.std.proofs.Common.{◌≡◌, ◌≢◌, ℕ, suc, ◌+◌, ◌*◌, ◌^◌, ◌<◌, ◌≤◌, nat_eq, Bool, true, false, ℤ, pos, ◌+ℤ◌}
 use Rattle.std.proofs.Common.{unsigned_abs, List, length, get_or, refl, sym, subst, ◌∙◌, arith, if◌then◌else◌}
-use Rattle.std.proofs.Common.{length-set, get_or-set_same, get_or-set_other, ⊎_elim}
+use Rattle.std.proofs.Common.{length-set, get_or-set_same, get_or-set_other}
 use Rattle.std.proofs.Math.ListN.{set}
 use Rattle.std.proofs.lemmas.Bool.Decides.{nat_tests}
-use Rattle.std.proofs.lemmas.Bool.{cases_lt}
 use Rattle.std.proofs.lemmas.Int.{ints}
-use Rattle.std.proofs.lemmas.List.{get_or_past}
-use Rattle.std.proofs.lemmas.List.Elements.{All-get_or}
-use Rattle.vms_base.specs.Headers.{IsHeader}
 use Rattle.vms_base.specs.declared.headers.Header.{Header}
 use Rattle.vms_base.specs.Places.{IsLayout, item_of, item_count}
 use Rattle.vms_base.proofs.Counts.{item_of-lt}

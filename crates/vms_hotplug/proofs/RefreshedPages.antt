@@ -1,21 +1,18 @@
 -- The thresholds that are set are those of the definition, and marks may be set under them.
-use Rattle.std.proofs.Common.{◌≡◌, ℕ, ◌<◌, ◌≤◌, All, List, length, get_or, if◌then◌else◌, refl, sym, ap, subst, ◌∙◌}
+use Rattle.std.proofs.Common.{◌≡◌, ℕ, ◌≤◌, All, List, length, get_or, if◌then◌else◌, refl, sym, ap, subst, ◌∙◌}
 use Rattle.vms_base.specs.declared.headers.Header.{Header}
-use Rattle.vms_base.specs.declared.kinds.ZoneSize.{ZoneSize}
 use Rattle.vms_base.specs.Cpus.{is_online, state_at}
-use Rattle.vms_base.specs.Places.{Shape, IsLayout, IsZone, cell, place_count}
+use Rattle.vms_base.specs.Places.{Shape, IsLayout, cell, place_count}
 use Rattle.vms_base.specs.Sizes.{IsValidSize}
-use Rattle.vms_base.specs.Thresholds.{GivesThresholds}
 use Rattle.vms_core.specs.declared.states.State.{State}
-use Rattle.vms_core.specs.Cells.{places_of}
 use Rattle.vms_core.proofs.PlainData.{places_of-shaped}
 use Rattle.vms_world.specs.Listed.{by_cpu}
-use Rattle.vms_world.specs.Refreshes.{AreAnswers, MayRefresh, count_online, place_threshold, refreshed, with_marks}
+use Rattle.vms_world.specs.Refreshes.{MayRefresh, count_online, place_threshold, refreshed, with_marks}
 use Rattle.vms_world.specs.Refreshes.{with_thresholds}
 use Rattle.vms_world.proofs.Answers.{count_online-least, count_online-most}
 use Rattle.vms_world.proofs.PlaceThresholds.{AreThresholds}
 use Rattle.vms_world.proofs.RefreshedStates.{shaped-refreshed, threshold-most}
-use Rattle.vms_hotplug.specs.Settings.{HasPeaks, MayMark}
+use Rattle.vms_hotplug.specs.Settings.{MayMark}
 
 -- the thresholds by CPU and place where online CPUs got those of these zones
 abbrev pub rows_of : Shape → State → List ℕ → List ℕ

@@ -1,5 +1,5 @@
 -- Room for less is room for more.
-use Rattle.std.proofs.Common.{◌≡◌, ℕ, ◌≤◌, arith}
+use Rattle.std.proofs.Common.{ℕ, ◌≤◌, arith}
 use Rattle.vms_base.specs.Places.{Shape}
 use Rattle.vms_core.specs.declared.states.State.{State}
 use Rattle.vms_hotplug.specs.Folding.{HasRoom}

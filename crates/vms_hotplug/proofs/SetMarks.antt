@@ -1,14 +1,13 @@
 -- One zone more gets its mark.
-use Rattle.std.proofs.Common.{◌≡◌, ◌≢◌, ℕ, ◌+◌, ◌<◌, List, length, get_or, refl, sym, ap, subst, ◌∙◌, arith, ⊎_elim}
+use Rattle.std.proofs.Common.{◌≡◌, ◌≢◌, ℕ, ◌+◌, ◌<◌, List, length, get_or, sym, ap, subst, ◌∙◌, arith, ⊎_elim}
 use Rattle.std.proofs.Common.{length-set, get_or-set_same, get_or-set_other}
 use Rattle.std.proofs.Math.ListN.{set}
 use Rattle.std.proofs.lemmas.Bool.{cases_eq}
 use Rattle.vms_base.specs.declared.headers.Header.{Header}
 use Rattle.vms_core.specs.declared.states.State.{State}
-use Rattle.vms_core.specs.Cells.{HasShape}
 use Rattle.vms_world.specs.Refreshes.{with_marks, zone_mark}
 use Rattle.vms_world.proofs.ListedReads.{is_listed}
-use Rattle.vms_hotplug.specs.Settings.{HasPeaks, MayMark}
+use Rattle.vms_hotplug.specs.Settings.{MayMark}
 
 module _ (header : Header) (zones : List ℕ) (s : State) where
   -- the zones below n have their marks, and all else stays

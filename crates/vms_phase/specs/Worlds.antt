@@ -1,28 +1,17 @@
 -- The states of the page counters between phases.
-use Rattle.std.specs.Prelude.{◌≡◌, ℕ, ◌≤◌, ◌*◌, ◌-◌, nat_eq, List, length, replicate, ℤ, pos, if◌then◌else◌}
-use Rattle.std.specs.Prelude.{slice_index, slice_index_or, None}
+use Rattle.std.specs.Prelude.{◌≡◌, ℕ, ◌≤◌, ◌*◌, ◌-◌, List, length, pos, slice_index, None}
 use Rattle.vms_base.specs.declared.headers.Header.{Header}
 use Rattle.vms_base.specs.declared.kinds.CpuState.TheVariants.{Online}
 use Rattle.vms_base.specs.declared.kinds.ZoneSize.{ZoneSize}
 use Rattle.vms_base.specs.Marks.{linux_mark_of, cover_mark_of}
-use Rattle.vms_base.specs.Places.{IsCpu, IsZone, IsNode, IsPlace, IsCounter, IsItem, counter_count, place_count}
-use Rattle.vms_base.specs.Places.{item_of}
+use Rattle.vms_base.specs.Places.{IsCpu, IsZone, IsNode, IsPlace, IsCounter, IsItem}
 use Rattle.vms_base.specs.Sizes.{IsValidSize, size_at}
 use Rattle.vms_base.specs.Thresholds.{normal_threshold_of}
 use Rattle.vms_core.specs.declared.states.State.{State}
 use Rattle.vms_calls.specs.Ratings.{largest_on}
 use Rattle.vms_core.specs.Cells.{HasShape, value_at, system_at, diff_at, threshold_at, threshold_sets_at, mark_at}
 use Rattle.vms_core.specs.Cells.{mark_sets_at, cpu_at, acknowledged_at}
-use Rattle.vms_history.specs.Sums.{sum_below}
-
--- the base of a counter, and of an item: the sum over its counters
-abbrev pub base_of : Header → ℕ → ℤ
-base_of header k = slice_index_or header.bases k (pos 0)
-
-abbrev pub base_of_item : Header → ℕ → ℤ
-base_of_item header i =
-    sum_below (λ k. if nat_eq (item_of header.layout k) i then base_of header k else pos 0)
-    (counter_count header.layout)
+use Rattle.vms_world.specs.Starts.{base_of, base_of_item}
 
 -- the kernel's normal rule, and a rule that answers as it does
 abbrev pub normal_rule : ZoneSize → ℕ → ℕ → Type 0
@@ -63,18 +52,3 @@ pub record IsStart (header : Header) (answers : ZoneSize → ℕ → ℕ → Typ
   pub by_rule : (g : ℕ) → IsZone header.layout g →
       answers (size_at header.sizes g) header.layout.cpus (slice_index thresholds g)
   pub state : IsStartUnder header thresholds s
-
--- the state of these system-wide values, thresholds and marks in which each counter has its base, every CPU is online,
--- and nothing is hidden, acknowledged or set
-abbrev pub quiet_state : Header → List ℤ → List ℕ → List ℕ → State
-quiet_state header system threshold mark = record {
-  place = header.bases;
-  system = system;
-  diff = replicate (header.layout.cpus * counter_count header.layout) (pos 0);
-  threshold = threshold;
-  mark = mark;
-  cpu = replicate header.layout.cpus Online;
-  acknowledged = replicate (header.layout.cpus * length header.layout.zones) None;
-  threshold_sets = replicate (header.layout.cpus * place_count header.layout) 0;
-  mark_sets = replicate (length header.layout.zones) 0;
-}

@@ -3,9 +3,7 @@
 
 mod replaying;
 mod runs;
-mod settings;
 mod starting;
-mod summing;
 
 pub use replaying::PhaseReplay;
 pub use runs::RunReplay;

@@ -1,28 +1,26 @@
 -- For other crates too: a world that was flushed belongs to its header: nothing is lost, and no CPU hides more.
-use Rattle.std.proofs.Common.{◌≡◌, ℕ, ◌+◌, ◌*◌, ◌^◌, ◌<◌, ◌≤◌, Bool, true, false, nat_eq, ℤ, pos, ◌+ℤ◌, unsigned_abs}
-use Rattle.std.proofs.Common.{[], length, if◌then◌else◌, refl, sym, ap, subst, ◌∙◌, arith}
+use Rattle.std.proofs.Common.{◌≡◌, ℕ, ◌*◌, ◌^◌, ◌<◌, ◌≤◌, Bool, true, false, nat_eq, ℤ, pos, ◌+ℤ◌, unsigned_abs}
+use Rattle.std.proofs.Common.{[], if◌then◌else◌, sym, ap, subst, ◌∙◌, arith}
 use Rattle.std.proofs.lemmas.Int.{ints}
 use Rattle.vms_base.specs.declared.headers.Header.{Header}
 use Rattle.vms_base.specs.declared.kinds.CpuState.TheVariants.{Absent}
 use Rattle.vms_base.specs.Cpus.{is_online}
 use Rattle.vms_base.specs.Marks.{Covers}
 use Rattle.vms_base.specs.Places.{Shape, IsLayout, IsCpu, IsCounter, IsItem, IsZone, counter_at, counter_count, item_count}
-use Rattle.vms_base.specs.Places.{item_of, cell}
+use Rattle.vms_base.specs.Places.{item_of}
 use Rattle.vms_base.specs.Sizes.{size_at}
 use Rattle.vms_base.specs.Thresholds.{most_threshold}
 use Rattle.vms_base.specs.Volumes.{most_volume}
-use Rattle.vms_history.specs.Sums.{sum_below}
 use Rattle.vms_history.proofs.CountLemmas.{count_below-least, count_below-most, largest_below-least, largest_below-most}
 use Rattle.vms_history.proofs.SumBounds.{sum_below-most, sum_below-size}
 use Rattle.vms_history.proofs.SumLaws.{sum_below-same, sum_below-sum}
 use Rattle.vms_core.specs.declared.states.State.{State}
 use Rattle.vms_core.specs.Bases.{IsBase}
-use Rattle.vms_core.specs.Cells.{HasShape, cpu_at, diff_at, mark_at, system_at, value_at, threshold_at}
+use Rattle.vms_core.specs.Cells.{HasShape, cpu_at, diff_at, mark_at, system_at, value_at}
 use Rattle.vms_core.specs.Ends.{IsWithinVolumes}
 use Rattle.vms_core.specs.Peaks.{if_present, opening_peak, peak_sum}
 use Rattle.vms_core.specs.Totals.{differentials, values_of_item}
 use Rattle.vms_core.proofs.CounterRanges.{counter_at-known}
-use Rattle.vms_core.proofs.Items.{if-sum}
 use Rattle.vms_core.proofs.MarkCovers.{Covers-less, if_present-least}
 use Rattle.vms_core.proofs.SettledEnds.{values_of_item-most}
 use Rattle.vms_calls.specs.HeaderFacts.{facts_of}
@@ -31,6 +29,10 @@ use Rattle.vms_world.specs.Boundaries.{folded_at, folded_of, folded_of_item, flu
 use Rattle.vms_world.specs.Worlds.{IsWorldOf, page_volume}
 use Rattle.vms_world.proofs.ListedReads.{length-listed, get_or-listed, length-by_cpu, get_or-by_cpu}
 use Rattle.vms_world.proofs.PageParts.{IsWorldOf-pages}
+
+pub if-sum : (b : Bool) (x y : ℤ) → (if b then x +ℤ y else pos 0) ≡ (if b then x else pos 0) +ℤ (if b then y else pos 0)
+if-sum true x y = omega (arith, ints)
+if-sum false x y = omega (arith, ints)
 
 -- a value is its total less what is hidden
 less-hidden : (value hidden : ℤ) → unsigned_abs (value +ℤ hidden) ≤ 129 * 2 ^ 48 → unsigned_abs hidden ≤ 128 * 125

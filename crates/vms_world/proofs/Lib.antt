@@ -8,3 +8,4 @@ pub mod Answers
 pub mod BroughtUp
 pub mod Crossings
 pub mod Starts
+pub mod PhaseEnds

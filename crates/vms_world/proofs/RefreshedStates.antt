@@ -1,26 +1,24 @@
 -- For other crates too: a refresh gives a state thresholds and marks with which a history may begin.
-use Rattle.std.proofs.Common.{◌≡◌, ℕ, suc, ◌+◌, ◌*◌, ◌^◌, ◌<◌, ◌≤◌, ◌&&◌, nat_eq, nat_le, nat_lt, max, Bool, true, false}
-use Rattle.std.proofs.Common.{pos, unsigned_abs, [], List, length, map, None, All, if◌then◌else◌, refl, sym, ap, subst, ◌∙◌}
+use Rattle.std.proofs.Common.{◌≡◌, ℕ, ◌+◌, ◌*◌, ◌^◌, ◌<◌, ◌≤◌, ◌&&◌, nat_eq, nat_le, nat_lt, max, Bool, true, false}
+use Rattle.std.proofs.Common.{unsigned_abs, [], List, length, None, All, if◌then◌else◌, sym, ap, ◌∙◌}
 use Rattle.std.proofs.Common.{arith, get_or}
-use Rattle.std.specs.Prelude.{count_by}
-use Rattle.std.proofs.Math.Nat.{mul-le-mul_left, mul-le-mul_right}
+use Rattle.std.proofs.Math.Nat.{mul-le-mul_left}
 use Rattle.std.proofs.lemmas.List.Elements.{All-get_or}
 use Rattle.std.proofs.lemmas.List.Sums.{count_by-le-length}
 use Rattle.vms_base.specs.declared.headers.Header.{Header}
 use Rattle.vms_base.specs.declared.kinds.CpuState.{CpuState}
 use Rattle.vms_base.specs.declared.kinds.CpuState.TheVariants.{Online, Dead, Absent}
 use Rattle.vms_base.specs.declared.kinds.ZoneSize.{ZoneSize}
-use Rattle.vms_base.specs.Cpus.{is_online, HasOnline}
+use Rattle.vms_base.specs.Cpus.{is_online}
 use Rattle.vms_base.specs.Marks.{Covers, linux_mark_of, cover_mark_of}
-use Rattle.vms_base.specs.Places.{Shape, IsLayout, IsCpu, IsCounter, IsItem, IsPlace, IsZone, counter_at, place_count, cell}
+use Rattle.vms_base.specs.Places.{Shape, IsLayout, IsCpu, IsPlace, IsZone, counter_at, place_count, cell}
 use Rattle.vms_base.specs.Sizes.{IsValidSize, gap_of, size_at}
 use Rattle.vms_base.specs.Thresholds.{most_threshold}
-use Rattle.vms_history.specs.Sums.{count_below}
 use Rattle.vms_history.proofs.CountLemmas.{count_below-most, largest_below-most}
 use Rattle.vms_core.specs.declared.states.State.{State}
 use Rattle.vms_core.specs.Bases.{IsBase}
-use Rattle.vms_core.specs.Cells.{HasShape, acknowledged_at, cpu_at, diff_at, mark_at, mark_sets_at, system_at}
-use Rattle.vms_core.specs.Cells.{threshold_at, threshold_sets_at, value_at, places_of}
+use Rattle.vms_core.specs.Cells.{HasShape, cpu_at, diff_at, mark_at}
+use Rattle.vms_core.specs.Cells.{threshold_at}
 use Rattle.vms_core.specs.Peaks.{if_present, opening_peak, peak_sum}
 use Rattle.vms_core.proofs.CounterRanges.{counter_at-known}
 use Rattle.vms_core.proofs.PlainData.{places_of-shaped}

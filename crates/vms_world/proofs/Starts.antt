@@ -1,6 +1,6 @@
 -- For other crates too: a run begins with a world of its header.
-use Rattle.std.proofs.Common.{◌≡◌, ℕ, zero, suc, ◌+◌, ◌*◌, ◌^◌, ◌<◌, ◌≤◌, ℤ, pos, ◌+ℤ◌, ◌≤ℤ◌, unsigned_abs, List, length, map}
-use Rattle.std.proofs.Common.{get_or, replicate, None, Option, [], ◌∷◌, refl, sym, ap, subst, ◌∙◌, arith, ⊎_elim, cond}
+use Rattle.std.proofs.Common.{◌≡◌, ℕ, zero, suc, ◌+◌, ◌*◌, ◌^◌, ◌<◌, ◌≤◌, ℤ, pos, unsigned_abs, List, length, map}
+use Rattle.std.proofs.Common.{get_or, replicate, None, Option, [], ◌∷◌, refl, sym, ap, ◌∙◌, arith, ⊎_elim, cond}
 use Rattle.std.proofs.lemmas.Bool.{cases_lt}
 use Rattle.std.proofs.lemmas.Int.{ints}
 use Rattle.std.proofs.lemmas.List.{get_or-map, get_or-replicate, get_or_past, length-map, length-replicate}
@@ -12,16 +12,14 @@ use Rattle.vms_base.specs.declared.kinds.CpuState.TheVariants.{Online, Absent}
 use Rattle.vms_base.specs.declared.kinds.ZoneSize.{ZoneSize}
 use Rattle.vms_base.specs.Cpus.{is_online}
 use Rattle.vms_base.specs.Headers.{IsHeader, IsValidDecl}
-use Rattle.vms_base.specs.Places.{Shape, IsCpu, IsCounter, IsItem, cell, counter_count, item_count, place_count}
+use Rattle.vms_base.specs.Places.{Shape, IsCpu, IsItem, cell, counter_count, item_count, place_count}
 use Rattle.vms_base.specs.Thresholds.{GivesThresholds}
-use Rattle.vms_base.specs.Volumes.{most_volume}
-use Rattle.vms_history.specs.Sums.{count_below, sum_below}
 use Rattle.vms_history.proofs.SumLaws.{sum_below-zeros}
 use Rattle.vms_core.specs.declared.states.State.{State}
 use Rattle.vms_core.specs.Bases as pages
-use Rattle.vms_core.specs.Cells.{cpu_at, diff_at, value_at, system_at}
+use Rattle.vms_core.specs.Cells.{cpu_at, diff_at, system_at}
 use Rattle.vms_core.specs.Ends.{IsWithinVolumes}
-use Rattle.vms_core.specs.Totals.{differentials, values_of_item}
+use Rattle.vms_core.specs.Totals.{differentials}
 use Rattle.vms_core.proofs.LevelStates.{get_or-copies}
 use Rattle.vms_core.proofs.SettledEnds.{values_of_item-most}
 use Rattle.vms_event_core.specs.Bases as events
@@ -30,9 +28,9 @@ use Rattle.vms_pcpu_core.specs.Bases as percpu
 use Rattle.vms_pcpu_core.specs.States.{count_at, local_at}
 use Rattle.vms_pcpu_core.specs.Totals.{locals}
 use Rattle.vms_world.specs.declared.worlds.World.{World}
-use Rattle.vms_world.specs.Refreshes.{AreAnswers, MayRefresh, count_online, refreshed}
+use Rattle.vms_world.specs.Refreshes.{AreAnswers, MayRefresh, count_online}
 use Rattle.vms_world.specs.Starts.{bare_pages, base_of, base_of_item, started}
-use Rattle.vms_world.specs.Worlds.{IsWorldOf, AreVolumes, page_facts, event_facts, pcpu_facts, page_volume, volumes_on}
+use Rattle.vms_world.specs.Worlds.{IsWorldOf, AreVolumes, page_facts, event_facts, pcpu_facts, page_volume}
 use Rattle.vms_world.proofs.Answers.{AreThresholds-answers}
 use Rattle.vms_world.proofs.ListedReads.{length-listed, get_or-listed}
 use Rattle.vms_world.proofs.PlaceThresholds.{AreThresholds}

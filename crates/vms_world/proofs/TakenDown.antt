@@ -1,8 +1,7 @@
 -- For other crates too: a world in which a CPU has gone offline belongs to its header.
-use Rattle.std.proofs.Common.{◌≡◌, ◌≢◌, ℕ, ◌<◌, Bool, true, false, nat_eq, [], length, if◌then◌else◌, refl, sym, subst}
-use Rattle.std.proofs.Common.{ap, ◌∙◌, arith, eqb-true, ne_eqb, length-set}
+use Rattle.std.proofs.Common.{◌≡◌, ◌≢◌, ℕ, ◌<◌, Bool, true, false, nat_eq, [], if◌then◌else◌, refl, sym, subst}
+use Rattle.std.proofs.Common.{ap, ◌∙◌, eqb-true, ne_eqb, length-set}
 use Rattle.vms_base.specs.declared.headers.Header.{Header}
-use Rattle.vms_base.specs.declared.kinds.CpuState.{CpuState}
 use Rattle.vms_base.specs.declared.kinds.CpuState.TheVariants.{Online, Dead, Absent}
 use Rattle.vms_base.specs.Marks.{Covers}
 use Rattle.vms_base.specs.Places.{IsCpu, IsZone}

@@ -3,3 +3,4 @@ pub mod Worlds
 pub mod Refreshes
 pub mod Boundaries
 pub mod Starts
+pub mod Phases

@@ -8,6 +8,7 @@ ghost use Rattle.vms_core.specs.Totals.{differentials};
 ghost use Rattle.vms_text.specs.declared.acts.Boundary.{Boundary};
 ghost use Rattle.vms_world.specs.declared.worlds.World.{World};
 ghost use Rattle.vms_world.specs.Boundaries.{Crosses, MayCross};
+ghost use Rattle.vms_world.specs.Phases.{AreComplete, Histories, LeavesNothing, StayWithinVolumes, left_by};
 ghost use Rattle.vms_world.specs.Refreshes.{AreAnswers};
 ghost use Rattle.vms_world.specs.Starts.{started};
 ghost use Rattle.vms_world.specs.Worlds.{IsWorldOf};
@@ -33,4 +34,12 @@ pub fn boundaries_keep_totals<R: ThresholdRules>()
         → Crosses header R.normal boundary w next → (k : ℕ) → IsCounter header.layout k
         → value_at next.pages k +ℤ differentials header.layout next.pages k
         ≡ value_at w.pages k +ℤ differentials header.layout w.pages k }
+{}
+
+/// A phase leads from a world of a header to one of it: complete histories of the three tables do, if no CPU passes its
+/// volumes and whoever is absent in the end has nothing left in the tables of events and of percpu counters.
+pub fn phases_keep_worlds()
+    ensures { (header : Header) (w : World) (hs : Histories) → IsWorldOf header w → AreComplete header w hs
+        → StayWithinVolumes header w hs → LeavesNothing header (left_by header w hs)
+        → IsWorldOf header (left_by header w hs) }
 {}

@@ -1,5 +1,5 @@
 -- A world stays one of its header.
-use Rattle.std.proofs.Common.{◌≡◌, sym, subst}
+use Rattle.std.proofs.Common.{sym, subst}
 use Rattle.vms_core.specs.declared.states.State.{State}
 use Rattle.vms_world.specs.Worlds.{IsWorldOf}
 use Rattle.vms_world.proofs.Flushes.{IsWorldOf-flushed}

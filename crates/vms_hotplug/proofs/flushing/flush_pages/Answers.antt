@@ -1,5 +1,5 @@
 -- A CPU more, and all CPUs at the end.
-use Rattle.std.proofs.Common.{◌≡◌, ℕ, ◌+◌, ◌*◌, ◌^◌, ◌<◌, ◌≤◌, sym, ap, subst, ◌∙◌, arith}
+use Rattle.std.proofs.Common.{◌≡◌, ℕ, ◌+◌, ◌*◌, ◌^◌, ◌<◌, sym, ap, subst, ◌∙◌, arith}
 use Rattle.vms_base.specs.Cpus.{is_online}
 use Rattle.vms_base.specs.Places.{IsCpu}
 use Rattle.vms_core.specs.declared.states.State.{State}

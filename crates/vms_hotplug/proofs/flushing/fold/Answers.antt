@@ -1,8 +1,6 @@
 -- A counter more, and all counters at the end.
-use Rattle.std.proofs.Common.{◌≡◌, ℕ, ◌+◌, ◌*◌, ◌^◌, ◌<◌, ◌≤◌, sym, subst, ◌∙◌, arith}
+use Rattle.std.proofs.Common.{◌≡◌, ℕ, ◌+◌, ◌^◌, sym, subst, arith}
 use Rattle.vms_base.specs.Places.{IsCounter, counter_count}
-use Rattle.vms_core.specs.declared.states.State.{State}
-use Rattle.vms_hotplug.specs.Folding.{HasRoom}
 use Rattle.vms_hotplug.proofs.Folds.{FoldsBelow, FoldsBelow-more, FoldsBelow-none, FoldsCpu-all, HasRoom-folded}
 use Rattle.vms_hotplug.proofs.Rooms.{HasRoom-more}
 use Rattle.vms_hotplug.proofs.flushing.fold.Goals as goal

@@ -1,5 +1,5 @@
 -- The three numbers that are written are those of the moved differential.
-use Rattle.std.proofs.Common.{◌≡◌, ℕ, ◌+◌, ◌*◌, ◌<◌, ◌≤◌, ◌^◌, ℤ, pos, ◌+ℤ◌, unsigned_abs, length, get_or, ap, sym, subst, ◌∙◌}
+use Rattle.std.proofs.Common.{◌≡◌, ℕ, ◌<◌, pos, length, get_or, ap, sym, subst, ◌∙◌}
 use Rattle.std.proofs.Math.ListN.{set}
 use Rattle.vms_base.specs.Places.{cell, item_count, item_of}
 use Rattle.vms_core.specs.Cells.{diff_at, system_at, value_at}

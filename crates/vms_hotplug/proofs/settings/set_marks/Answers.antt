@@ -1,6 +1,5 @@
 -- Zone by zone the marks are set.
-use Rattle.std.proofs.Common.{◌≡◌, ℕ, ◌+◌, ◌<◌, List, length, refl, sym, ap, subst, ◌∙◌, arith}
-use Rattle.vms_core.specs.declared.states.State.{State}
+use Rattle.std.proofs.Common.{◌≡◌, ℕ, ◌+◌, ◌<◌, List, length, refl, sym, ap, subst, arith}
 use Rattle.vms_hotplug.proofs.SetMarks.{MarksBelow, MayMark-marked, MarksBelow-more, with_marks-done}
 use Rattle.vms_hotplug.proofs.settings.set_marks.Goals as goal
 

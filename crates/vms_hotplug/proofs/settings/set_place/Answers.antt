@@ -1,5 +1,5 @@
 -- A CPU more, and all CPUs at the end.
-use Rattle.std.proofs.Common.{◌≡◌, ℕ, ◌+◌, ◌<◌, length, refl, sym, ap, subst, ◌∙◌, arith}
+use Rattle.std.proofs.Common.{◌≡◌, ◌+◌, ◌<◌, length, refl, sym, ap, subst, ◌∙◌, arith}
 use Rattle.vms_base.specs.declared.kinds.CpuState.TheVariants.{Absent}
 use Rattle.vms_base.specs.Cpus.{is_online, state_at}
 use Rattle.vms_hotplug.proofs.SetPlaces.{SetsBelow, SetsBelow-kept, SetsBelow-set}

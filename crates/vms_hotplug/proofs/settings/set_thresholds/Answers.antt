@@ -1,5 +1,5 @@
 -- All places have got their thresholds.
-use Rattle.std.proofs.Common.{◌≡◌, ℕ, arith, get_or, if◌then◌else◌, ◌∙◌}
+use Rattle.std.proofs.Common.{arith, get_or, if◌then◌else◌, ◌∙◌}
 use Rattle.vms_base.specs.Cpus.{is_online, state_at}
 use Rattle.vms_base.specs.Places.{cell, place_count}
 use Rattle.vms_world.specs.Refreshes.{place_threshold}

@@ -1,6 +1,6 @@
 -- A counter more adds its base to its item.
 use Rattle.std.proofs.Common.{◌≡◌, ◌≤◌, ◌^◌, w64, ℤ, pos, unsigned_abs, to_z, of_z, FitsSigned, sym, ap, ◌∙◌, arith}
-use Rattle.std.proofs.Common.{ℕ, nat_eq, if◌then◌else◌}
+use Rattle.std.proofs.Common.{nat_eq, if◌then◌else◌}
 use Rattle.std.proofs.lemmas.Int.{ints, to_z-of_z}
 use Rattle.vms_base.proofs.Counts.{counter_count-most}
 use Rattle.vms_base.specs.Places.{counter_count, item_count, item_of}

@@ -1,5 +1,5 @@
 -- The change follows each history of the lines before.
-use Rattle.std.proofs.Common.{◌+ℤ◌, of_z, to_z, w64, ◌≡◌, ℤ, ap, subst, sym, ◌∙◌, to_z-of_z}
+use Rattle.std.proofs.Common.{◌+ℤ◌, of_z, to_z, w64, ◌≡◌, ap, subst, sym, ◌∙◌, to_z-of_z}
 use Rattle.vms_base.specs.Places.{Shape, IsCpu, IsCounter}
 use Rattle.vms_core.specs.ChangedStates.{with_change}
 use Rattle.vms_core.specs.Bases.{settled}
