@@ -42,7 +42,8 @@ module _ (shape : Shape) (s : State) where
     systems = λ i i_in. omega (
       arith,
       ints,
-      sum_below-zeros (of_item (folded_below 0) i) (counter_count shape) (λ k k_in. nothing (nat_eq (item_of shape k) i)),
+      sum_below-zeros (of_item (folded_below 0) i) (counter_count shape)
+          (λ k k_in. nothing (nat_eq (item_of shape k) i)),
     );
     diffs = λ c k c_in k_in. let none : nat_lt c 0 ≡ false = grind (arith, nat_tests) in
         rw none (by (is_online (cpu_at s c)) (diff_at s c k));

@@ -89,7 +89,8 @@ module _ (shape : Shape) (c : ℕ) (s : State) where
       value-next : (k : ℕ) → IsCounter shape k
           → value_at next k ≡ value_at s k +ℤ (if nat_lt k (m + 1) then diff_at s c k else pos 0)
       value-next k k_in =
-          get_or-set now.place m k (value_at now m +ℤ d) (pos 0) (subst (λ (n : ℕ). m < n) (sym so_far.shaped.place) m_in)
+          get_or-set now.place m k (value_at now m +ℤ d) (pos 0)
+          (subst (λ (n : ℕ). m < n) (sym so_far.shaped.place) m_in)
           ∙ by (nat_eq m k) refl (nat_lt k m) refl (nat_lt k (m + 1)) refl (so_far.values k k_in)
         where
           by : (a : Bool) → nat_eq m k ≡ a → (b : Bool) → nat_lt k m ≡ b → (e : Bool) → nat_lt k (m + 1) ≡ e
@@ -133,8 +134,8 @@ module _ (shape : Shape) (c : ℕ) (s : State) where
           → diff_at next e k ≡ (if nat_eq c e && nat_lt k (m + 1) then pos 0 else diff_at s e k)
       diff-next e k e_in k_in =
           rw (length-set now.place m (value_at now m +ℤ d), so_far.shaped.place)
-          (get_or-set_cell (counter_count shape) shape.cpus now.diff c m e k (pos 0) (pos 0) so_far.shaped.diff c_in m_in
-          k_in)
+          (get_or-set_cell (counter_count shape) shape.cpus now.diff c m e k (pos 0) (pos 0) so_far.shaped.diff c_in
+          m_in k_in)
           ∙ by (nat_eq c e) (nat_eq m k) refl (nat_lt k m) refl (nat_lt k (m + 1)) refl
           (subst (λ (n : ℕ). get_or now.diff (cell n e k) (pos 0)
           ≡ (if nat_eq c e && nat_lt k m then pos 0 else diff_at s e k)) so_far.shaped.place

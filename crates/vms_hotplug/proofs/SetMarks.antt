@@ -69,4 +69,5 @@ module _ (header : Header) (zones : List ℕ) (s : State) where
   pub with_marks-done : (now : State) → MarksBelow (length header.layout.zones) now
       → length s.mark ≡ length header.layout.zones → now ≡ with_marks header zones s
   with_marks-done now so_far one_each = so_far.rest ∙ ap (λ (marks : List ℕ). record s { mark = marks })
-      (is_listed (zone_mark header zones s) (length header.layout.zones) now.mark 0 (so_far.long ∙ one_each) so_far.done)
+      (is_listed (zone_mark header zones s) (length header.layout.zones) now.mark 0 (so_far.long ∙ one_each)
+      so_far.done)

@@ -1,5 +1,4 @@
-ghost use Rattle.std.specs.Prelude.{◌≡◌, ◌≢◌, ℕ, ◌+◌, ◌*◌, ◌<◌, ◌≤◌, ◌^◌, length, slice_index, slice_index_or, if◌then◌else◌, All};
-ghost use Rattle.std.specs.Prelude.{unsigned_abs, max};
+ghost use Rattle.std.specs.Prelude.{◌≡◌, ℕ, ◌*◌, ◌<◌, ◌≤◌, length, slice_index, slice_index_or, if◌then◌else◌, All};
 ghost use Rattle.vms_base.specs.Cpus.{is_online as tells_online, state_at};
 ghost use Rattle.vms_base.specs.Places.{IsCpu, IsPlace, IsZone, cell, place_count};
 ghost use Rattle.vms_base.specs.Sizes.{IsValidSize, size_at};
@@ -80,7 +79,8 @@ pub(crate) fn set_thresholds(
     requires thresholds { length thresholds.old ≡ layout.now.cpus * place_count layout.now }
     ensures { thresholds.new ≡ by_cpu (λ c g. if tells_online (state_at states.now c)
         then place_threshold_of layout.now zones.now g
-        else slice_index_or thresholds.old (cell (place_count layout.now) c g) 0) layout.now.cpus (place_count layout.now) }
+        else slice_index_or thresholds.old (cell (place_count layout.now) c g) 0)
+        layout.now.cpus (place_count layout.now) }
 {
     for place in 0..layout.places() {
         set_place(

@@ -6,7 +6,8 @@ use Rattle.vms_base.specs.declared.headers.Header.{Header}
 use Rattle.vms_base.specs.declared.kinds.CpuState.TheVariants.{Absent}
 use Rattle.vms_base.specs.Cpus.{is_online}
 use Rattle.vms_base.specs.Marks.{Covers}
-use Rattle.vms_base.specs.Places.{Shape, IsLayout, IsCpu, IsCounter, IsItem, IsZone, counter_at, counter_count, item_count}
+use Rattle.vms_base.specs.Places.{Shape, IsLayout, IsCpu, IsCounter, IsItem, IsZone, counter_at, counter_count}
+use Rattle.vms_base.specs.Places.{item_count}
 use Rattle.vms_base.specs.Places.{item_of}
 use Rattle.vms_base.specs.Sizes.{size_at}
 use Rattle.vms_base.specs.Thresholds.{most_threshold}
@@ -77,7 +78,8 @@ module _ (shape : Shape) (layout : IsLayout shape) (s : State) (shaped : HasShap
         (λ c c_in. parted c k c_in k_in),
   )
 
-  smaller : (c k : ℕ) → IsCpu shape c → IsCounter shape k → unsigned_abs (diff_at next c k) ≤ unsigned_abs (diff_at s c k)
+  smaller : (c k : ℕ) → IsCpu shape c → IsCounter shape k
+      → unsigned_abs (diff_at next c k) ≤ unsigned_abs (diff_at s c k)
   smaller c k c_in k_in =
       subst (λ d. unsigned_abs d ≤ unsigned_abs (diff_at s c k)) (sym (diff-flushed c k c_in k_in))
       (by (is_online (cpu_at s c)))
@@ -187,8 +189,8 @@ module _ (header : Header) (w : World) (of : IsWorldOf header w) where
           shaped = record {
             place = length-listed (λ k. value_at w.pages k +ℤ folded_of layout w.pages k) (counter_count layout);
             system = length-listed (λ i. system_at w.pages i +ℤ folded_of_item layout w.pages i) (item_count layout);
-            diff = length-by_cpu (λ c k. if is_online (cpu_at w.pages c) then pos 0 else diff_at w.pages c k) layout.cpus
-                (counter_count layout);
+            diff = length-by_cpu (λ c k. if is_online (cpu_at w.pages c) then pos 0 else diff_at w.pages c k)
+                layout.cpus (counter_count layout);
             threshold = was.shaped.threshold;
             mark = was.shaped.mark;
             cpu = was.shaped.cpu;

@@ -9,3 +9,4 @@ pub mod BroughtUp
 pub mod Crossings
 pub mod Starts
 pub mod PhaseEnds
+pub mod WayEnds

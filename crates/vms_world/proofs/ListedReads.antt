@@ -28,7 +28,8 @@ module _ {X : Type 0} (f : ℕ → ℕ → X) (cpus width : ℕ) where
 
   pub get_or-by_cpu : (c k : ℕ) (d : X) → c < cpus → k < width → get_or (by_cpu f cpus width) (cell width c k) d ≡ f c k
   get_or-by_cpu c k d c_in k_in =
-      get_or-listed (λ n. f (n / width) (n % width)) (cpus * width) (cell width c k) d (cell-lt width cpus c k c_in k_in)
+      get_or-listed (λ n. f (n / width) (n % width)) (cpus * width) (cell width c k) d
+      (cell-lt width cpus c k c_in k_in)
       ∙ ap (λ a. f a (cell width c k % width)) (cell-cpu width c k k_in)
       ∙ ap (λ b. f c b) (cell-thing width c k k_in)
 

@@ -106,7 +106,8 @@ module _ (header : Header) (is_layout : IsLayout header.layout)
     arith,
     threshold-most c g c_in (omega arith),
     largest_below-most (λ n. unsigned_abs (diff_at s c (counter_at layout g n))) layout.positions most_threshold
-        (λ n n_in. unrated.diffs c (counter_at layout g n) c_in (counter_at-known layout is_layout g n (omega arith) n_in)),
+        (λ n n_in. unrated.diffs c (counter_at layout g n) c_in
+        (counter_at-known layout is_layout g n (omega arith) n_in)),
   )
 
   pub hidden-most : (g : ℕ) → IsZone layout g → hidden_in layout rated g ≤ 16000

@@ -4,3 +4,4 @@ pub mod Refreshes
 pub mod Boundaries
 pub mod Starts
 pub mod Phases
+pub mod Ways

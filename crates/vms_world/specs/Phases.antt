@@ -31,8 +31,8 @@ pub record AreComplete (header : Header) (w : World) (hs : Histories) : Type 0 w
   pub events : events.IsComplete (event_facts header w) hs.events
   pub counters : pcpu_ends.IsComplete (pcpu_facts header w) hs.counters
 
--- the world after them: each table as its history leaves it, nothing acknowledged and nothing set, and the volumes grown
--- by what each CPU spent
+-- the world after them: each table as its history leaves it, nothing acknowledged and nothing set, and the volumes
+-- grown by what each CPU spent
 abbrev pub left_by : Header → World → Histories → World
 left_by header w hs = record {
   pages = settled (pages.state_after (page_facts header w) hs.pages);

@@ -1,6 +1,6 @@
 -- What a refresh makes of thresholds and marks (`refresh_zone_stat_thresholds` of mm/vmstat.c).
-use Rattle.std.specs.Prelude.{◌≡◌, ℕ, ◌-◌, ◌^◌, ◌≤◌, nat_lt, if◌then◌else◌, pos, unsigned_abs, List, length, count_by, None}
-use Rattle.std.specs.Prelude.{slice_index_or}
+use Rattle.std.specs.Prelude.{◌≡◌, ℕ, ◌-◌, ◌^◌, ◌≤◌, nat_lt, if◌then◌else◌, pos, unsigned_abs, List, length}
+use Rattle.std.specs.Prelude.{count_by, None, slice_index_or}
 use Rattle.vms_base.specs.declared.headers.Header.{Header}
 use Rattle.vms_base.specs.declared.kinds.CpuState.{CpuState}
 use Rattle.vms_base.specs.declared.kinds.ZoneSize.{ZoneSize}

@@ -11,6 +11,7 @@ ghost use Rattle.vms_world.specs.Boundaries.{Crosses, MayCross};
 ghost use Rattle.vms_world.specs.Phases.{AreComplete, Histories, LeavesNothing, StayWithinVolumes, left_by};
 ghost use Rattle.vms_world.specs.Refreshes.{AreAnswers};
 ghost use Rattle.vms_world.specs.Starts.{started};
+ghost use Rattle.vms_world.specs.Ways.{LeadsThrough, Part};
 ghost use Rattle.vms_world.specs.Worlds.{IsWorldOf};
 
 use vms_calls::ThresholdRules;
@@ -42,4 +43,10 @@ pub fn phases_keep_worlds()
     ensures { (header : Header) (w : World) (hs : Histories) → IsWorldOf header w → AreComplete header w hs
         → StayWithinVolumes header w hs → LeavesNothing header (left_by header w hs)
         → IsWorldOf header (left_by header w hs) }
+{}
+
+/// Whatever leads from a world of a header through phases and boundaries leads to one of it.
+pub fn ways_keep_worlds<R: ThresholdRules>()
+    ensures { (header : Header) (parts : List Part) (w last : World) → GivesThresholds R.normal
+        → IsWorldOf header w → LeadsThrough header R.normal parts w last → IsWorldOf header last }
 {}

@@ -7,5 +7,6 @@ use Rattle.vms_hotplug.proofs.flushing.flush.Goals as goal
 
 pub returns-clause-stays : goal.returns-clause-stays
 returns-clause-stays c =
-    subst (λ (s : State). IsWorldOf c.args.header.now (record c.args.world.now { pages = s })) (sym c.flush_pages.ensures)
+    subst (λ (s : State). IsWorldOf c.args.header.now (record c.args.world.now { pages = s }))
+    (sym c.flush_pages.ensures)
     (IsWorldOf-flushed c.args.header.now c.args.world.now c.requires)
