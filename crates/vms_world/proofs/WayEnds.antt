@@ -1,26 +1,36 @@
--- Each world on a way through phases and boundaries belongs to the header.
-use Rattle.std.proofs.Common.{ℕ, List, [], ◌∷◌, sym, subst}
+-- Each world on a way through the parts of a text belongs to the header.
+use Rattle.std.proofs.Common.{◌≡◌, ℕ, List, [], ◌∷◌, sym, subst}
 use Rattle.vms_base.specs.declared.headers.Header.{Header}
 use Rattle.vms_base.specs.declared.kinds.ZoneSize.{ZoneSize}
+use Rattle.vms_base.specs.Headers.{IsHeader}
 use Rattle.vms_base.specs.Thresholds.{GivesThresholds}
+use Rattle.vms_text.specs.declared.acts.Item.{Item}
 use Rattle.vms_world.specs.declared.worlds.World.{World}
-use Rattle.vms_world.specs.Phases.{LeavesNothing}
-use Rattle.vms_world.specs.Ways.{Leads, LeadsThrough, Part, phase, boundary}
+use Rattle.vms_world.specs.PhaseLines.{IsPhase, IsRun, LeadsThrough, Part, phase, boundary}
+use Rattle.vms_world.specs.Phases.{Histories, LeavesNothing, left_by}
+use Rattle.vms_world.specs.Starts.{started}
 use Rattle.vms_world.specs.Worlds.{IsWorldOf}
 use Rattle.vms_world.proofs.Crossings.{IsWorldOf-crossed}
 use Rattle.vms_world.proofs.PhaseEnds.{IsWorldOf-left_by}
+use Rattle.vms_world.proofs.Starts.{IsWorldOf-start}
 
-module _ (header : Header) (answers : ZoneSize → ℕ → ℕ → Type 0) (gives : GivesThresholds answers) where
-  IsWorldOf-led : (part : Part) (w next : World) → IsWorldOf header w → Leads header answers part w next
-      → IsWorldOf header next
-  IsWorldOf-led (phase hs) w next of passes = subst (IsWorldOf header) (sym passes.left)
-      (IsWorldOf-left_by header w hs of passes.complete passes.volumes
-      (subst (LeavesNothing header) passes.left passes.buried))
-  IsWorldOf-led (boundary b) w next of (may, crosses) =
-      IsWorldOf-crossed header answers w next of gives b may crosses
+module _ (header : Header) (pressure normal : ZoneSize → ℕ → ℕ → Type 0) (gives : GivesThresholds normal) where
+  IsWorldOf-phase : (items : List Item) (hs : Histories) (w next : World) → IsWorldOf header w
+      → IsPhase header pressure normal w items hs next → IsWorldOf header next
+  IsWorldOf-phase items hs w next of is = subst (IsWorldOf header) (sym is.left)
+      (IsWorldOf-left_by header w hs of is.complete is.volumes (subst (LeavesNothing header) is.left is.buried))
 
-  pub IsWorldOf-led_through : (parts : List Part) (w last : World) → IsWorldOf header w
-      → LeadsThrough header answers parts w last → IsWorldOf header last
-  IsWorldOf-led_through [] w last of same = subst (IsWorldOf header) same of
-  IsWorldOf-led_through (part ∷ parts) w last of (next, leads, through) =
-      IsWorldOf-led_through parts next last (IsWorldOf-led part w next of leads) through
+  pub IsWorldOf-led_through : (parts : List Part) (hss : List Histories) (w last : World)
+      → IsWorldOf header w → LeadsThrough header pressure normal parts hss w last → IsWorldOf header last
+  IsWorldOf-led_through [] [] w last of same = subst (IsWorldOf header) same of
+  IsWorldOf-led_through [] (hs ∷ more) w last of through = absurd through
+  IsWorldOf-led_through (phase items ∷ parts) [] w last of through = absurd through
+  IsWorldOf-led_through (phase items ∷ parts) (hs ∷ more) w last of (next, is, through) =
+      IsWorldOf-led_through parts more next last (IsWorldOf-phase items hs w next of is) through
+  IsWorldOf-led_through (boundary b ∷ parts) hss w last of (next, may, crosses, through) =
+      IsWorldOf-led_through parts hss next last (IsWorldOf-crossed header normal w next of gives b may crosses) through
+
+  pub IsWorldOf-run : IsHeader header → (parts : List Part) (hss : List Histories) (last : World)
+      → IsRun header pressure normal parts hss last → IsWorldOf header last
+  IsWorldOf-run valid parts hss last run = IsWorldOf-led_through parts hss (started header run.zones) last
+      (IsWorldOf-start header valid normal gives run.zones run.answers) run.leads

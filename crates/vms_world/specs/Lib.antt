@@ -4,4 +4,6 @@ pub mod Refreshes
 pub mod Boundaries
 pub mod Starts
 pub mod Phases
-pub mod Ways
+pub mod Lanes
+pub mod Acts
+pub mod PhaseLines

@@ -8,10 +8,10 @@ ghost use Rattle.vms_core.specs.Totals.{differentials};
 ghost use Rattle.vms_text.specs.declared.acts.Boundary.{Boundary};
 ghost use Rattle.vms_world.specs.declared.worlds.World.{World};
 ghost use Rattle.vms_world.specs.Boundaries.{Crosses, MayCross};
+ghost use Rattle.vms_world.specs.PhaseLines.{IsRun, Part};
 ghost use Rattle.vms_world.specs.Phases.{AreComplete, Histories, LeavesNothing, StayWithinVolumes, left_by};
 ghost use Rattle.vms_world.specs.Refreshes.{AreAnswers};
 ghost use Rattle.vms_world.specs.Starts.{started};
-ghost use Rattle.vms_world.specs.Ways.{LeadsThrough, Part};
 ghost use Rattle.vms_world.specs.Worlds.{IsWorldOf};
 
 use vms_calls::ThresholdRules;
@@ -45,8 +45,9 @@ pub fn phases_keep_worlds()
         → IsWorldOf header (left_by header w hs) }
 {}
 
-/// Whatever leads from a world of a header through phases and boundaries leads to one of it.
-pub fn ways_keep_worlds<R: ThresholdRules>()
-    ensures { (header : Header) (parts : List Part) (w last : World) → GivesThresholds R.normal
-        → IsWorldOf header w → LeadsThrough header R.normal parts w last → IsWorldOf header last }
+/// A run leads to a world of its header: whatever leads from its start through the parts of a text, phases of lines and
+/// boundary lines, whichever rules it goes by.
+pub fn runs_keep_worlds<R: ThresholdRules>()
+    ensures { (header : Header) (parts : List Part) (hss : List Histories) (last : World) → IsHeader header
+        → GivesThresholds R.normal → IsRun header R.pressure R.normal parts hss last → IsWorldOf header last }
 {}

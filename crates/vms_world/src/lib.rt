@@ -6,7 +6,7 @@ mod laws;
 mod worlds;
 
 pub use laws::{
-    boundaries_keep_totals, boundaries_keep_worlds, phases_keep_worlds, starts_make_worlds,
-    ways_keep_worlds,
+    boundaries_keep_totals, boundaries_keep_worlds, phases_keep_worlds, runs_keep_worlds,
+    starts_make_worlds,
 };
 pub use worlds::{Volumes, World};
