@@ -12,8 +12,8 @@ use vms_base::{CpuId, CpuState, Header};
 use vms_calc::{Rule, Rules};
 use vms_world::World;
 
-/// Takes an online CPU down, which isn't the only one. It is dead from here on: its thresholds, its differentials and
-/// the marks stay, and nobody folds it but a burial (`vmstat_cpu_dead` of mm/vmstat.c).
+/// Takes an online CPU down, which isn't the only one. It is dead until it is buried: its thresholds, its differentials
+/// and the marks stay, as between `vmstat_cpu_down_prep` and `vmstat_cpu_dead` of mm/vmstat.c.
 pub fn take_down(world: &mut World, cpu: CpuId)
     requires cpu { cpu.number < length world.old.pages.cpu }
     requires online { cpu_at world.old.pages cpu.number ≡ Online }

@@ -13,7 +13,8 @@ use Rattle.vms_core.specs.declared.steps.Step.TheVariants.{Split, Join}
 use Rattle.vms_core.specs.Own.{CarriesNothing}
 use Rattle.vms_core.specs.Pages.{pages, History, IsLegal, state_after}
 use Rattle.vms_core.specs.Steps.{role, effect}
-use Rattle.vms_phase.specs.FileOrder.{Follow, splits_from, joins_from, opening_of, owner_of}
+use Rattle.vms_phase.specs.FileOrder.{Follow, splits_from, joins_from, opening_of}
+use Rattle.vms_world.specs.Lanes.{owner_of}
 use Rattle.vms_phase.specs.FileOrder.Follow.{none}
 use Rattle.vms_phase.specs.OpenPhases.{MakesLines}
 use Rattle.vms_phase.proofs.Openings.{lives-lane}

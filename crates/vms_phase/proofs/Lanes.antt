@@ -10,7 +10,7 @@ use Rattle.vms_base.specs.Places.{IsCpu}
 use Rattle.vms_core.specs.declared.steps.Facts.{Facts}
 use Rattle.vms_core.specs.Cells.{cpu_at}
 use Rattle.vms_core.specs.Pages.{MayOwn}
-use Rattle.vms_phase.specs.FileOrder.{same_lane, is_among, has_line, lanes_below, lanes_of, owner_of}
+use Rattle.vms_world.specs.Lanes.{same_lane, is_among, has_line, lanes_below, lanes_of, owner_of}
 use Rattle.vms_phase.specs.OpenPhases.{MayOpen, IsOfOnline}
 use Rattle.vms_text.specs.declared.acts.Item.{Item}
 use Rattle.vms_text.specs.declared.acts.Lane.{Lane}

@@ -26,7 +26,8 @@ use Rattle.vms_core.specs.Pages.{History, state_after}
 use Rattle.vms_core.specs.Steps.{role}
 use Rattle.vms_core.specs.Totals.{spent}
 use Rattle.vms_calls.proofs.LoneChanges.{GoesOnWithChange-holds}
-use Rattle.vms_phase.specs.FileOrder.{Follow, Makes, is_among, opening_of, pass_of, splits_from}
+use Rattle.vms_phase.specs.FileOrder.{Follow, Makes, opening_of, pass_of, splits_from}
+use Rattle.vms_world.specs.Lanes.{is_among}
 use Rattle.vms_phase.specs.FileOrder.Follow.{line}
 use Rattle.vms_phase.specs.OpenPhases.{MayOpen, MakesLines, IsOpen, IsDelta, Follows, act_of, change_item, volume}
 use Rattle.vms_phase.proofs.Openings.{IsLegal-splits, own-main, own-other, owner-lane, lives-lane, pass_of-least}

@@ -13,7 +13,8 @@ use Rattle.vms_core.specs.Pages.{History, IsLegal, state_after}
 use Rattle.vms_core.specs.Steps.{role, effect}
 use Rattle.vms_core.specs.Totals.{spent, spent_by}
 use Rattle.vms_phase.specs.OpenPhases.{MayOpen}
-use Rattle.vms_phase.specs.FileOrder.{same_lane, is_among, owner_of, splits_from, pass_of}
+use Rattle.vms_phase.specs.FileOrder.{splits_from, pass_of}
+use Rattle.vms_world.specs.Lanes.{same_lane, is_among, owner_of}
 use Rattle.vms_text.specs.declared.acts.Lane.{Lane}
 use Rattle.vms_text.specs.declared.acts.Lane.TheVariants.{Cpu, Control}
 

@@ -9,7 +9,7 @@ use Rattle.vms_history.proofs.Prefixes.{prefix_is_legal}
 use Rattle.vms_core.specs.declared.states.State.{State}
 use Rattle.vms_core.specs.ChangedStates.{with_change, with_change_of}
 use Rattle.vms_core.specs.Pages.{pages, IsLegal}
-use Rattle.vms_phase.specs.FileOrder.{lanes_of}
+use Rattle.vms_world.specs.Lanes.{lanes_of}
 use Rattle.vms_phase.specs.OpenPhases.{IsOpen, IsOfOnline, EndsPhase}
 use Rattle.vms_calls.specs.HeaderFacts.{facts_of}
 use Rattle.vms_core.specs.Bases.{settled}

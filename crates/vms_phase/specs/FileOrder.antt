@@ -1,15 +1,12 @@
 -- The histories of a phase in file order: the lanes' passes begin, the lines follow one another, the passes end.
-use Rattle.std.specs.Prelude.{◌≡◌, ℕ, zero, suc, nat_eq, ◌||◌, Bool, true, false, pos, negsuc, List, [], ◌∷◌, ◌++◌}
-use Rattle.std.specs.Prelude.{if◌then◌else◌, Option, Some, None}
+use Rattle.std.specs.Prelude.{◌≡◌, ℕ, suc, pos, negsuc, List, [], ◌∷◌, ◌++◌, if◌then◌else◌}
 use Rattle.vms_core.specs.Bases.{settled}
 use Rattle.vms_core.specs.Laws.{KeepsLaws}
 use Rattle.vms_core.specs.Pages.{pages, History, state_after}
 use Rattle.vms_core.specs.declared.states.State.{State}
 use Rattle.vms_history.specs.Legal.{IsComplete}
 use Rattle.vms_base.specs.declared.headers.Header.{Header}
-use Rattle.vms_base.specs.declared.ids.CpuId.{CpuId}
 use Rattle.vms_base.specs.declared.kinds.Mode.TheVariants.{Mod as Modify, Inc as Raise, Dec as Lower}
-use Rattle.vms_base.specs.Places.{Shape}
 use Rattle.vms_history.specs.Events.{after}
 use Rattle.vms_calls.specs.Changes.{IsChangeAlone}
 use Rattle.vms_core.specs.declared.steps.Facts.{Facts}
@@ -19,39 +16,8 @@ use Rattle.vms_text.specs.declared.acts.Act.{Act}
 use Rattle.vms_text.specs.declared.acts.Act.TheVariants.{Mod, Inc, Dec}
 use Rattle.vms_text.specs.declared.acts.Item.{Item}
 use Rattle.vms_text.specs.declared.acts.Lane.{Lane}
-use Rattle.vms_text.specs.declared.acts.Lane.TheVariants.{Cpu, Control}
-
--- whether two lanes are one
-abbrev pub same_lane : Lane → Lane → Bool
-same_lane (Cpu c) (Cpu d) = nat_eq c.number d.number
-same_lane (Cpu c) Control = false
-same_lane Control (Cpu d) = false
-same_lane Control Control = true
-
--- whether a lane is one of these
-abbrev pub is_among : Lane → List Lane → Bool
-is_among lane [] = false
-is_among lane (l ∷ ls) = same_lane l lane || is_among lane ls
-
--- whether some line is of this lane
-abbrev pub has_line : Lane → List Item → Bool
-has_line lane [] = false
-has_line lane (item ∷ items) = same_lane item.lane lane || has_line lane items
-
--- the lanes of the CPUs below n that have lines, in ascending order
-abbrev pub lanes_below : ℕ → List Item → List Lane
-lanes_below zero items = []
-lanes_below (suc n) items = lanes_below n items
-    ++ (if has_line (Cpu (record { number = n })) items then Cpu (record { number = n }) ∷ [] else [])
-
--- the lanes that have lines: those of the CPUs, and the control lane last
-abbrev pub lanes_of : Shape → List Item → List Lane
-lanes_of shape items = lanes_below shape.cpus items ++ (if has_line Control items then Control ∷ [] else [])
-
--- the CPU that the pass of a lane owns
-abbrev pub owner_of : Lane → Option CpuId
-owner_of (Cpu c) = Some c
-owner_of Control = None
+use Rattle.vms_text.specs.declared.acts.Lane.TheVariants.{Cpu}
+use Rattle.vms_world.specs.Lanes.{lanes_of, owner_of, same_lane}
 
 -- the steps that begin a pass for each lane, the first under this number, and those that end them
 abbrev pub splits_from : ℕ → List Lane → List Step

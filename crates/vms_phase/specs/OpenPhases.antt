@@ -16,7 +16,8 @@ use Rattle.vms_calls.specs.LoneChanges.{MayChange, FollowsAlone}
 use Rattle.vms_core.specs.Own.{CarriesNothing}
 use Rattle.vms_core.specs.Pages.{History, MayOwn, IsLegal, state_after}
 use Rattle.vms_core.specs.Totals.{spent}
-use Rattle.vms_phase.specs.FileOrder.{Follow, is_among, opening_of, owner_of, Phase, Leads}
+use Rattle.vms_phase.specs.FileOrder.{Follow, opening_of, Phase, Leads}
+use Rattle.vms_world.specs.Lanes.{is_among, owner_of}
 use Rattle.vms_script.specs.Totals.{line_of}
 use Rattle.vms_script.specs.Volumes.{spent_on_counter, volume as volume_of_lines}
 use Rattle.vms_text.specs.declared.acts.Act.{Act}

@@ -1,5 +1,5 @@
 -- Each world on a way through the parts of a text belongs to the header.
-use Rattle.std.proofs.Common.{◌≡◌, ℕ, List, [], ◌∷◌, sym, subst}
+use Rattle.std.proofs.Common.{ℕ, List, [], ◌∷◌, sym, subst}
 use Rattle.vms_base.specs.declared.headers.Header.{Header}
 use Rattle.vms_base.specs.declared.kinds.ZoneSize.{ZoneSize}
 use Rattle.vms_base.specs.Headers.{IsHeader}
@@ -7,7 +7,7 @@ use Rattle.vms_base.specs.Thresholds.{GivesThresholds}
 use Rattle.vms_text.specs.declared.acts.Item.{Item}
 use Rattle.vms_world.specs.declared.worlds.World.{World}
 use Rattle.vms_world.specs.PhaseLines.{IsPhase, IsRun, LeadsThrough, Part, phase, boundary}
-use Rattle.vms_world.specs.Phases.{Histories, LeavesNothing, left_by}
+use Rattle.vms_world.specs.Phases.{Histories, LeavesNothing}
 use Rattle.vms_world.specs.Starts.{started}
 use Rattle.vms_world.specs.Worlds.{IsWorldOf}
 use Rattle.vms_world.proofs.Crossings.{IsWorldOf-crossed}
