@@ -21,34 +21,37 @@ pub data Part : Type 0 where
   phase : List Item → Part
   boundary : Boundary → Part
 
-module _ (header : Header) (pressure normal : ZoneSize → ℕ → ℕ → Type 0) where
-  -- these histories are a phase of these lines, which leads from one world to another: in each table a pass begins for
-  -- each lane with lines and no other, and makes the acts of its lines in order, as far as they concern the table
-  pub record IsPhase (w : World) (items : List Item) (hs : Histories) (next : World) : Type 0 where
-    pub complete : AreComplete header w hs
-    pub page_lanes : HasLanes pages.role (lanes_of header.layout items) hs.pages
-    pub event_lanes : HasLanes events.role (lanes_of header.layout items) hs.events
-    pub pcpu_lanes : HasLanes percpu.role (lanes_of header.layout items) hs.counters
-    pub page_lines : MakesLines (PageSteps header w.pages pressure normal) (lanes_of header.layout items) items hs.pages
-    pub event_lines : MakesLines (λ lane p act h. EventSteps (event_facts header w) lane act)
-        (lanes_of header.layout items) items hs.events
-    pub pcpu_lines : MakesLines (λ lane p act h. PcpuSteps (pcpu_facts header w) lane act)
-        (lanes_of header.layout items) items hs.counters
-    pub volumes : StayWithinVolumes header w hs
-    pub buried : LeavesNothing header next
-    pub left : next ≡ left_by header w hs
+-- these histories are a phase of these lines, which leads from one world to another: in each table a pass begins for each
+-- lane with lines and no other, and makes the acts of its lines in order, as far as they concern the table
+pub record IsPhase (header : Header) (pressure normal : ZoneSize → ℕ → ℕ → Type 0) (w : World) (items : List Item)
+    (hs : Histories) (next : World) : Type 0 where
+  pub complete : AreComplete header w hs
+  pub page_lanes : HasLanes pages.role (lanes_of header.layout items) hs.pages
+  pub event_lanes : HasLanes events.role (lanes_of header.layout items) hs.events
+  pub pcpu_lanes : HasLanes percpu.role (lanes_of header.layout items) hs.counters
+  pub page_lines : MakesLines (PageSteps header w.pages pressure normal) (lanes_of header.layout items) items hs.pages
+  pub event_lines : MakesLines (λ lane p act h. EventSteps (event_facts header w) lane act)
+      (lanes_of header.layout items) items hs.events
+  pub pcpu_lines : MakesLines (λ lane p act h. PcpuSteps (pcpu_facts header w) lane act)
+      (lanes_of header.layout items) items hs.counters
+  pub volumes : StayWithinVolumes header w hs
+  pub buried : LeavesNothing header next
+  pub left : next ≡ left_by header w hs
 
-  -- the parts lead from one world to another, each from where the one before it ended, the phases with these histories
-  abbrev pub LeadsThrough : List Part → List Histories → World → World → Type 0
-  LeadsThrough [] [] w last = w ≡ last
-  LeadsThrough (phase items ∷ parts) (hs ∷ more) w last =
-      (next : World) × IsPhase w items hs next × LeadsThrough parts more next last
-  LeadsThrough (boundary b ∷ parts) hss w last = (next : World) × MayCross header.layout w.pages b
-      × Crosses header normal b w next × LeadsThrough parts hss next last
-  LeadsThrough _ _ w last = ⊥
+-- the parts lead from one world to another, each from where the one before it ended, the phases with these histories
+abbrev pub LeadsThrough : Header → (pressure normal : ZoneSize → ℕ → ℕ → Type 0) → List Part → List Histories → World
+    → World → Type 0
+LeadsThrough header pressure normal [] [] w last = w ≡ last
+LeadsThrough header pressure normal (phase items ∷ parts) (hs ∷ more) w last = (next : World)
+    × IsPhase header pressure normal w items hs next × LeadsThrough header pressure normal parts more next last
+LeadsThrough header pressure normal (boundary b ∷ parts) hss w last = (next : World)
+    × MayCross header.layout w.pages b × Crosses header normal b w next
+    × LeadsThrough header pressure normal parts hss next last
+LeadsThrough header pressure normal _ _ w last = ⊥
 
-  -- a run of these parts, from its start on
-  pub record IsRun (parts : List Part) (hss : List Histories) (last : World) : Type 0 where
-    pub zones : List ℕ
-    pub answers : AreAnswers header normal header.layout.cpus zones
-    pub leads : LeadsThrough parts hss (started header zones) last
+-- a run of these parts, from its start on
+pub record IsRun (header : Header) (pressure normal : ZoneSize → ℕ → ℕ → Type 0) (parts : List Part)
+    (hss : List Histories) (last : World) : Type 0 where
+  pub zones : List ℕ
+  pub answers : AreAnswers header normal header.layout.cpus zones
+  pub leads : LeadsThrough header pressure normal parts hss (started header zones) last
