@@ -6,7 +6,8 @@ use Rattle.vms_base.specs.Headers.{IsHeader}
 use Rattle.vms_base.specs.Thresholds.{GivesThresholds}
 use Rattle.vms_text.specs.declared.acts.Item.{Item}
 use Rattle.vms_world.specs.declared.worlds.World.{World}
-use Rattle.vms_world.specs.PhaseLines.{IsPhase, IsRun, LeadsThrough, Part, phase, boundary}
+use Rattle.vms_world.specs.PhaseLines.{IsWorldPhase, IsWorldRun, LeadsThrough}
+use Rattle.vms_script.specs.Parts.{Part, Phase, Between}
 use Rattle.vms_world.specs.Phases.{Histories, LeavesNothing}
 use Rattle.vms_world.specs.Starts.{started}
 use Rattle.vms_world.specs.Worlds.{IsWorldOf}
@@ -16,7 +17,7 @@ use Rattle.vms_world.proofs.Starts.{IsWorldOf-start}
 
 module _ (header : Header) (pressure normal : ZoneSize → ℕ → ℕ → Type 0) (gives : GivesThresholds normal) where
   IsWorldOf-phase : (items : List Item) (hs : Histories) (w next : World) → IsWorldOf header w
-      → IsPhase header pressure normal w items hs next → IsWorldOf header next
+      → IsWorldPhase header pressure normal w items hs next → IsWorldOf header next
   IsWorldOf-phase items hs w next of is = subst (IsWorldOf header) (sym is.left)
       (IsWorldOf-left_by header w hs of is.complete is.volumes (subst (LeavesNothing header) is.left is.buried))
 
@@ -24,13 +25,13 @@ module _ (header : Header) (pressure normal : ZoneSize → ℕ → ℕ → Type 
       → IsWorldOf header w → LeadsThrough header pressure normal parts hss w last → IsWorldOf header last
   IsWorldOf-led_through [] [] w last of same = subst (IsWorldOf header) same of
   IsWorldOf-led_through [] (hs ∷ more) w last of through = absurd through
-  IsWorldOf-led_through (phase items ∷ parts) [] w last of through = absurd through
-  IsWorldOf-led_through (phase items ∷ parts) (hs ∷ more) w last of (next, is, through) =
+  IsWorldOf-led_through (Phase items ∷ parts) [] w last of through = absurd through
+  IsWorldOf-led_through (Phase items ∷ parts) (hs ∷ more) w last of (next, is, through) =
       IsWorldOf-led_through parts more next last (IsWorldOf-phase items hs w next of is) through
-  IsWorldOf-led_through (boundary b ∷ parts) hss w last of (next, may, crosses, through) =
+  IsWorldOf-led_through (Between number b ∷ parts) hss w last of (next, may, crosses, through) =
       IsWorldOf-led_through parts hss next last (IsWorldOf-crossed header normal w next of gives b may crosses) through
 
   pub IsWorldOf-run : IsHeader header → (parts : List Part) (hss : List Histories) (last : World)
-      → IsRun header pressure normal parts hss last → IsWorldOf header last
+      → IsWorldRun header pressure normal parts hss last → IsWorldOf header last
   IsWorldOf-run valid parts hss last run = IsWorldOf-led_through parts hss (started header run.zones) last
       (IsWorldOf-start header valid normal gives run.zones run.answers) run.leads

@@ -5,8 +5,8 @@ use Rattle.vms_base.specs.declared.kinds.ZoneSize.{ZoneSize}
 use Rattle.vms_core.specs.Steps as pages
 use Rattle.vms_event_core.specs.Steps as events
 use Rattle.vms_pcpu_core.specs.Steps as percpu
-use Rattle.vms_text.specs.declared.acts.Boundary.{Boundary}
 use Rattle.vms_text.specs.declared.acts.Item.{Item}
+use Rattle.vms_script.specs.Parts.{Part, Phase, Between}
 use Rattle.vms_world.specs.declared.worlds.World.{World}
 use Rattle.vms_world.specs.Acts.{PageSteps, EventSteps, PcpuSteps}
 use Rattle.vms_world.specs.Boundaries.{Crosses, MayCross}
@@ -16,14 +16,9 @@ use Rattle.vms_world.specs.Refreshes.{AreAnswers}
 use Rattle.vms_world.specs.Starts.{started}
 use Rattle.vms_world.specs.Worlds.{event_facts, pcpu_facts}
 
--- a part of a text: the lines of a phase, or a boundary line
-pub data Part : Type 0 where
-  phase : List Item → Part
-  boundary : Boundary → Part
-
 -- these histories are a phase of these lines, which leads from one world to another: in each table a pass begins for each
 -- lane with lines and no other, and makes the acts of its lines in order, as far as they concern the table
-pub record IsPhase (header : Header) (pressure normal : ZoneSize → ℕ → ℕ → Type 0) (w : World) (items : List Item)
+pub record IsWorldPhase (header : Header) (pressure normal : ZoneSize → ℕ → ℕ → Type 0) (w : World) (items : List Item)
     (hs : Histories) (next : World) : Type 0 where
   pub complete : AreComplete header w hs
   pub page_lanes : HasLanes pages.role (lanes_of header.layout items) hs.pages
@@ -42,15 +37,15 @@ pub record IsPhase (header : Header) (pressure normal : ZoneSize → ℕ → ℕ
 abbrev pub LeadsThrough : Header → (pressure normal : ZoneSize → ℕ → ℕ → Type 0) → List Part → List Histories → World
     → World → Type 0
 LeadsThrough header pressure normal [] [] w last = w ≡ last
-LeadsThrough header pressure normal (phase items ∷ parts) (hs ∷ more) w last = (next : World)
-    × IsPhase header pressure normal w items hs next × LeadsThrough header pressure normal parts more next last
-LeadsThrough header pressure normal (boundary b ∷ parts) hss w last = (next : World)
+LeadsThrough header pressure normal (Phase items ∷ parts) (hs ∷ more) w last = (next : World)
+    × IsWorldPhase header pressure normal w items hs next × LeadsThrough header pressure normal parts more next last
+LeadsThrough header pressure normal (Between number b ∷ parts) hss w last = (next : World)
     × MayCross header.layout w.pages b × Crosses header normal b w next
     × LeadsThrough header pressure normal parts hss next last
 LeadsThrough header pressure normal _ _ w last = ⊥
 
 -- a run of these parts, from its start on
-pub record IsRun (header : Header) (pressure normal : ZoneSize → ℕ → ℕ → Type 0) (parts : List Part)
+pub record IsWorldRun (header : Header) (pressure normal : ZoneSize → ℕ → ℕ → Type 0) (parts : List Part)
     (hss : List Histories) (last : World) : Type 0 where
   pub zones : List ℕ
   pub answers : AreAnswers header normal header.layout.cpus zones

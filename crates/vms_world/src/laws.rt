@@ -8,7 +8,8 @@ ghost use Rattle.vms_core.specs.Totals.{differentials};
 ghost use Rattle.vms_text.specs.declared.acts.Boundary.{Boundary};
 ghost use Rattle.vms_world.specs.declared.worlds.World.{World};
 ghost use Rattle.vms_world.specs.Boundaries.{Crosses, MayCross};
-ghost use Rattle.vms_world.specs.PhaseLines.{IsRun, Part};
+ghost use Rattle.vms_script.specs.Parts.{Part};
+ghost use Rattle.vms_world.specs.PhaseLines.{IsWorldRun};
 ghost use Rattle.vms_world.specs.Phases.{AreComplete, Histories, LeavesNothing, StayWithinVolumes, left_by};
 ghost use Rattle.vms_world.specs.Refreshes.{AreAnswers};
 ghost use Rattle.vms_world.specs.Starts.{started};
@@ -49,5 +50,5 @@ pub fn phases_keep_worlds()
 /// boundary lines, whichever rules it goes by.
 pub fn runs_keep_worlds<R: ThresholdRules>()
     ensures { (header : Header) (parts : List Part) (hss : List Histories) (last : World) → IsHeader header
-        → GivesThresholds R.normal → IsRun header R.pressure R.normal parts hss last → IsWorldOf header last }
+        → GivesThresholds R.normal → IsWorldRun header R.pressure R.normal parts hss last → IsWorldOf header last }
 {}
