@@ -1,25 +1,19 @@
 -- The count of faults of a source or a sink.
-use Rattle.std.specs.Prelude.{◌≡◌, ℕ, ◌+◌, ◌-◌, ◌^◌, ◌<◌, ◌≤◌, min, List, Contains, Result, MatchResult}
+use Rattle.std.specs.Prelude.{◌≡◌, ℕ, ◌+◌, ◌-◌, ◌^◌, min, List, Contains, Result, MatchResult}
 
--- the count rose, or it stands at its largest value
-pub record Rose (before now : ℕ) : Type 0 where
-  pub rose : min (before + 1) (2 ^ 64 - 1) ≤ now
-  pub kept : before ≤ now
-  pub fits : now < 2 ^ 64
+-- one more, and at most 2^64 - 1
+abbrev pub counted : ℕ → ℕ
+counted n = min (n + 1) (2 ^ 64 - 1)
 
--- a call that succeeds leaves the count of faults, and one that fails has raised it
+-- a call that succeeds leaves the count of faults, and one that fails is counted once
 abbrev pub CountsFaults : {A E : Type 0} → ℕ → ℕ → Result A E → Type 0
-CountsFaults before now result = MatchResult result (λ _. now ≡ before) (λ _. Rose before now)
+CountsFaults before now result = MatchResult result (λ _. now ≡ before) (λ _. now ≡ counted before)
 
 -- the calls that are to fail, by their numbers from 1, how many were made, and how many failed
 pub record Tally : Type 0 where
   pub fails : List ℕ
   pub made : ℕ
   pub failed : ℕ
-
--- one more, and at most 2^64 - 1
-abbrev pub counted : ℕ → ℕ
-counted n = min (n + 1) (2 ^ 64 - 1)
 
 -- the next call is one of those that are to fail
 abbrev pub FailsNext : Tally → Type 0

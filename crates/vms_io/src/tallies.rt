@@ -19,7 +19,7 @@ impl Model for Calls {
 }
 
 ghost use Rattle.std.specs.Prelude.{◌≡◌, ◌↔◌, Contains, IsTrue};
-ghost use Rattle.vms_io.specs.Faults.{Rose, after_call, counted};
+ghost use Rattle.vms_io.specs.Faults.{after_call, counted};
 
 impl Calls {
     pub(crate) fn make(fails: Vec<u32>) -> Calls
@@ -44,8 +44,7 @@ impl Calls {
 
     /// Counts one more fault.
     pub(crate) fn fault(&mut self) -> Failed
-        ensures failed { self.new ≡ record self.old { failed = counted self.old.failed } }
-        ensures rose { Rose self.old.failed self.new.failed }
+        ensures { self.new ≡ record self.old { failed = counted self.old.failed } }
     {
         self.failed = self.failed.saturating_add(1);
         Failed
