@@ -16,7 +16,7 @@ use Rattle.vms_stream.specs.Behaviors.{Behavior, state_after, halted, printed, o
 use Rattle.vms_stream.specs.Pieces.{whole_lines, partial_line}
 use Rattle.vms_stream.proofs.BehaviorLaws.{halted-first, output-open}
 use Rattle.vms_stream.proofs.TwoPieces.{lines_of-parts}
-use Rattle.vms_stream.proofs.StepOutcomes.{begins, no_piece}
+use Rattle.vms_stream.proofs.StepOutcomes.{begins_at_end, no_piece}
 use Rattle.vms_text.specs.Lines.{lines_of}
 
 module _ {S : Type 0} (behavior : Behavior S) (shows : S → Type 0) where
@@ -44,7 +44,7 @@ module _ {S : Type 0} (behavior : Behavior S) (shows : S → Type 0) where
       appends = Appends-nil sunk;
       outcome = λ left ended. subst (λ (s : Stop). Says behavior shows (status_of s) taken (written ++ [])
           (IsAtEnd left)) (sym memory)
-          (begins behavior shows taken (lines_of taken) [] (written ++ []) [] (sym (append-nil (lines_of taken)))
+          (begins_at_end behavior shows taken (IsAtEnd left) (written ++ []) [] ended is.within
           (append-nil (written ++ []) ∙ append-nil written ∙ all_written) last_piece);
     }
 
@@ -72,8 +72,12 @@ module _ {S : Type 0} (behavior : Behavior S) (shows : S → Type 0) where
         outcome = λ left ended. subst (λ (s : Stop). Says behavior shows (status_of s) taken (written ++ take n waiting)
             (IsAtEnd left)) (sym cause) (record {
               unwritten = drop n waiting;
-              begins = sym (append_assoc written (take n waiting) (drop n waiting)
-                  ∙ ap (λ (rest : List ℕ). written ++ rest) (take-append-drop n waiting) ∙ whole);
+              due = inr (
+                ended,
+                is.within,
+                append_assoc written (take n waiting) (drop n waiting)
+                    ∙ ap (λ (rest : List ℕ). written ++ rest) (take-append-drop n waiting) ∙ whole,
+              );
               last_piece = last_piece;
             });
       }

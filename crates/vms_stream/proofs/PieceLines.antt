@@ -1,6 +1,6 @@
 -- Which lines a piece brings to be judged.
 use Rattle.std.proofs.Common.{◌≡◌, ℕ, ◌+◌, ◌-◌, ◌≤◌, Bool, true, false, List, [], ◌++◌, length, length-append, take}
-use Rattle.std.proofs.Common.{drop, take-append-drop, inl, inr, refl, sym, ap, ◌∙◌, append-nil, arith}
+use Rattle.std.proofs.Common.{inl, inr, refl, sym, ap, ◌∙◌, arith}
 use Rattle.std.proofs.Math.Seq.{take-append-add}
 use Rattle.std.proofs.lemmas.Bool.{cases_lt}
 use Rattle.std.proofs.lemmas.List.{take_all}
@@ -14,15 +14,6 @@ use Rattle.vms_text.specs.Lines.{lines_of}
 abbrev pub lines_counted : Bool → List ℕ → List (List ℕ)
 lines_counted true taken = lines_of taken
 lines_counted false taken = lines_taken taken
-
--- all lines of a text, those that count first
-pub lines_of-counted : (at_end : Bool) (text : List ℕ)
-    → (others : List (List ℕ)) × (lines_of text ≡ lines_counted at_end text ++ others)
-lines_of-counted true text = ([], sym (append-nil (lines_of text)))
-lines_of-counted false text = (
-  lines_of (partial_line (take most_bytes text) ++ drop most_bytes text),
-  ap lines_of (sym (take-append-drop most_bytes text)) ∙ lines_of-parts (take most_bytes text) (drop most_bytes text),
-)
 
 -- within 64 MiB all whole lines count
 pub lines_taken-within : (taken : List ℕ) → length taken ≤ most_bytes → lines_taken taken ≡ whole_lines taken

@@ -15,24 +15,42 @@ use Rattle.vms_stream.specs.Courses.{IsCourse, Steps, StopsAt, lines_held, lines
 use Rattle.vms_stream.specs.Jobs.{TakesLines}
 use Rattle.vms_stream.specs.Behaviors.{Behavior, state_after, halted, printed, output}
 use Rattle.vms_stream.specs.Pieces.{whole_lines, partial_line}
-use Rattle.vms_stream.proofs.PieceLines.{lines_counted, lines_counted-within, lines_of-counted, lines_both}
-use Rattle.vms_stream.proofs.BehaviorLaws.{output-begins}
-use Rattle.vms_stream.proofs.TwoPieces.{lines_of-parts, partial_line-append}
+use Rattle.vms_stream.proofs.PieceLines.{lines_counted, lines_counted-within, lines_taken-within, lines_both}
+use Rattle.vms_stream.proofs.BehaviorLaws.{output-begins, printed-begins}
+use Rattle.vms_stream.proofs.TwoPieces.{partial_line-append}
 use Rattle.vms_stream.proofs.TakenLines.{TakesLines-after, TakesLines-both}
 use Rattle.vms_text.specs.Lines.{lines_of}
 
 module _ {S : Type 0} (behavior : Behavior S) (shows : S → Type 0) where
-  -- what the first lines print, or a part of it, begins the output
-  pub begins : (text : List ℕ) (lines others : List (List ℕ)) (written unwritten : List ℕ)
-      → lines_of text ≡ lines ++ others
+  -- what the first of the whole lines print, or a part of it, begins what all of them print
+  pub begins : (text : List ℕ) (at_end : Type 0) (lines others : List (List ℕ)) (written unwritten : List ℕ)
+      → lines_taken text ≡ lines ++ others
       → written ++ unwritten ≡ printed behavior behavior.start lines → IsLastPiece behavior text
-      → BeginsOutput behavior text written
-  begins text lines others written unwritten parts prints last_piece =
-      let whole = output-begins behavior lines others in
+      → BeginsOutput behavior text written at_end
+  begins text at_end lines others written unwritten parts prints last_piece =
+      let whole = printed-begins behavior behavior.start lines others in
       record {
         unwritten = unwritten ++ whole.0;
-        begins = ap (output behavior) parts ∙ whole.1 ∙ ap (λ (front : List ℕ). front ++ whole.0) (sym prints)
-            ∙ append_assoc written unwritten whole.0;
+        due = inl (sym (append_assoc written unwritten whole.0) ∙ ap (λ (front : List ℕ). front ++ whole.0) prints
+            ∙ sym whole.1 ∙ ap (printed behavior behavior.start) (sym parts));
+        last_piece = last_piece;
+      }
+
+  -- at the end of the input what all lines print, or a part of it, begins the whole output
+  pub begins_at_end : (text : List ℕ) (at_end : Type 0) (written unwritten : List ℕ) → at_end
+      → length text ≤ most_bytes
+      → written ++ unwritten ≡ printed behavior behavior.start (lines_of text) → IsLastPiece behavior text
+      → BeginsOutput behavior text written at_end
+  begins_at_end text at_end written unwritten ended within prints last_piece =
+      let whole = output-begins behavior (lines_of text) [] in
+      record {
+        unwritten = unwritten ++ whole.0;
+        due = inr (
+          ended,
+          within,
+          sym (append_assoc written unwritten whole.0) ∙ ap (λ (front : List ℕ). front ++ whole.0) prints
+              ∙ sym whole.1 ∙ ap (output behavior) (append-nil (lines_of text)),
+        );
         last_piece = last_piece;
       }
 
@@ -89,8 +107,8 @@ module _ {S : Type 0} (behavior : Behavior S) (shows : S → Type 0) where
         (sym fault) (before_end taken written course is isnt).0
     unread stop at_end (inr memory) = subst (λ (s : Stop). Says behavior shows (status_of s) taken written at_end)
         (sym memory)
-        (begins taken (whole_lines taken) (lines_of (partial_line taken ++ [])) written []
-        (ap lines_of (sym (append-nil taken)) ∙ lines_of-parts taken []) (append-nil written
+        (begins taken at_end (whole_lines taken) [] written []
+        (lines_taken-within taken is.within ∙ sym (append-nil (whole_lines taken))) (append-nil written
         ∙ (before_end taken written course is isnt).0.all_written)
         (no_piece taken is.within (before_end taken written course is isnt).0.none_halts))
 
@@ -167,8 +185,8 @@ module _ {S : Type 0} (behavior : Behavior S) (shows : S → Type 0) where
         appends = Appends-nil held;
         outcome = subst (λ (s : Stop). Says behavior shows (status_of s) text (written ++ []) (IsAtEnd left'))
             (sym memory)
-            (begins text (whole_lines taken) (lines_of (partial_line taken ++ more)) (written ++ []) []
-            (lines_of-parts taken more)
+            (begins text (IsAtEnd left') (whole_lines taken) _ (written ++ []) []
+            (sym (lines_both taken more is.within false (λ never. absurd cc)))
             (append-nil (written ++ []) ∙ append-nil written ∙ (before_end taken written course is isnt).0.all_written)
             last_piece);
       }
@@ -193,19 +211,27 @@ module _ {S : Type 0} (behavior : Behavior S) (shows : S → Type 0) where
           pub Steps-unwritten : (last : Course) (held held' : Option (List ℕ)) (n : ℕ) (stop : Stop)
               → Appends held held' (take n waiting) → stop ≡ WriteFault
               → Steps behavior stands' shows taken written last left left' held held' (Err stop)
-          Steps-unwritten last held held' n stop appends cause =
-              let others = lines_of-counted read.at_end text in
-              record {
-                more = more;
-                moved = take n waiting;
-                consumes = gets.consumes;
-                appends = appends;
-                outcome = subst (λ (s : Stop). Says behavior shows (status_of s) text (written ++ take n waiting)
-                    (IsAtEnd left')) (sym cause)
-                    (begins text (lines_counted read.at_end text) others.0 (written ++ take n waiting) (drop n waiting)
-                    others.1
-                    (part_written written waiting n ∙ judged.prints) last_piece);
-              }
+          Steps-unwritten last held held' n stop appends cause = record {
+            more = more;
+            moved = take n waiting;
+            consumes = gets.consumes;
+            appends = appends;
+            outcome = subst (λ (s : Stop). Says behavior shows (status_of s) text (written ++ take n waiting)
+                (IsAtEnd left')) (sym cause) (by read.at_end refl);
+          }
+            where
+              by : (b : Bool) → read.at_end ≡ b
+                  → BeginsOutput behavior text (written ++ take n waiting) (IsAtEnd left')
+              by true end =
+                  let there = at_the_end end in
+                  begins_at_end text (IsAtEnd left') (written ++ take n waiting) (drop n waiting) there.0 there.1
+                  (part_written written waiting n ∙ judged.prints
+                  ∙ ap (λ (b : Bool). printed behavior behavior.start (lines_counted b text)) end) last_piece
+              by false before =
+                  begins text (IsAtEnd left') (lines_taken text) [] (written ++ take n waiting) (drop n waiting)
+                  (sym (append-nil (lines_taken text)))
+                  (part_written written waiting n ∙ judged.prints
+                  ∙ ap (λ (b : Bool). printed behavior behavior.start (lines_counted b text)) before) last_piece
 
           -- a line stops the command
           halts : (h : Halt) → halt ≡ Some h → Halts behavior h text (written ++ waiting) (IsAtEnd left')

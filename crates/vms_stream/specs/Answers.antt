@@ -1,7 +1,7 @@
 -- What each status says of the bytes that were taken and of those that were written.
 use Rattle.std.specs.Prelude.{◌≡◌, ℕ, ◌^◌, ◌<◌, ◌≤◌, ◌⊎◌, max, List, ◌++◌, length, take, Option, Some, None}
 use Rattle.std.specs.Io.KnownBytes.{Appends, Consumes, IsAtEnd}
-use Rattle.vms_io.specs.Faults.{Rose}
+use Rattle.vms_io.specs.Faults.{counted}
 use Rattle.vms_stream.specs.declared.endings.Ending.{Ending}
 use Rattle.vms_stream.specs.declared.endings.Ending.TheVariants as endings
 use Rattle.vms_stream.specs.declared.halts.Halt.{Halt}
@@ -68,11 +68,18 @@ pub record GoesOn {S : Type 0} (behavior : Behavior S) (taken written : List ℕ
   pub none_halts : halted behavior behavior.start (whole_lines taken) ≡ None
   pub all_written : written ≡ printed behavior behavior.start (whole_lines taken)
 
--- what was written begins the output of what was taken, as if the input ended there; nothing was read after a piece
--- in which a line stopped the command, or the bytes exceeded 64 MiB
-pub record BeginsOutput {S : Type 0} (behavior : Behavior S) (taken written : List ℕ) : Type 0 where
+-- what is to be written: what the whole lines print that count, and only at the end of the input the whole output
+abbrev pub IsDue : {S : Type 0} → Behavior S → List ℕ → List ℕ → Type 0 → Type 0
+IsDue behavior taken text at_end =
+    (text ≡ printed behavior behavior.start (lines_taken taken))
+    ⊎ (at_end × (length taken ≤ most_bytes) × (text ≡ output behavior (lines_of taken)))
+
+-- what was written begins what is to be written; nothing was read after a piece in which a line stopped the command,
+-- or the bytes exceeded 64 MiB
+pub record BeginsOutput {S : Type 0} (behavior : Behavior S) (taken written : List ℕ) (at_end : Type 0)
+    : Type 0 where
   pub unwritten : List ℕ
-  pub begins : output behavior (lines_of taken) ≡ written ++ unwritten
+  pub due : IsDue behavior taken (written ++ unwritten) at_end
   pub last_piece : IsLastPiece behavior taken
 
 -- what each status of a command says. `shows` is what its job shows at the end of the input
@@ -83,8 +90,8 @@ Says behavior shows Header taken written at_end =
     Halts behavior Refuses taken written at_end ⊎ Ends behavior shows endings.HeaderRefused taken written at_end
 Says behavior shows Refused taken written at_end = Ends behavior shows endings.Refused taken written at_end
 Says behavior shows ReadFault taken written at_end = GoesOn behavior taken written
-Says behavior shows WriteFault taken written at_end = BeginsOutput behavior taken written
-Says behavior shows Memory taken written at_end = BeginsOutput behavior taken written
+Says behavior shows WriteFault taken written at_end = BeginsOutput behavior taken written at_end
+Says behavior shows Memory taken written at_end = BeginsOutput behavior taken written at_end
 Says behavior shows TooLong taken written at_end =
     Halts behavior Exceeds taken written at_end ⊎ Oversteps behavior taken written
 Says behavior shows NotBuilt taken written at_end = Ends behavior shows endings.NotBuilt taken written at_end
@@ -98,11 +105,11 @@ pub record Answers (left left' held held' : Option (List ℕ)) (status : Status)
   pub appends : Appends held held' written
   pub answer : says status taken written (IsAtEnd left')
 
--- the counts of faults: that of the source rises only with a failed read, that of the sink only with a failed write
+-- the counts of faults: one read failed where the status says so, and else none; and one write, and else none
 abbrev pub FaultsOfSource : Status → ℕ → ℕ → Type 0
-FaultsOfSource ReadFault before now = Rose before now
+FaultsOfSource ReadFault before now = now ≡ counted before
 FaultsOfSource _ before now = now ≡ before
 
 abbrev pub FaultsOfSink : Status → ℕ → ℕ → Type 0
-FaultsOfSink WriteFault before now = Rose before now
+FaultsOfSink WriteFault before now = now ≡ counted before
 FaultsOfSink _ before now = now ≡ before
