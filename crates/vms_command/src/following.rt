@@ -1,4 +1,4 @@
-ghost use Rattle.vms_stream.specs.Answers.{Answers, FaultsOfSink, FaultsOfSource, Says};
+ghost use Rattle.vms_stream.specs.Answers.{Answers, Says};
 ghost use Rattle.vms_command.specs.Bodies.{shown};
 ghost use Rattle.vms_command.specs.Commands.{following};
 
@@ -10,10 +10,8 @@ use vms_stream::{Status, stream};
 
 /// The command whose body is `B`, over a trace.
 pub fn follow<B: Body, S: Source, K: Sink>(alloc: Global, src: &mut S, out: &mut K) -> Status
-    ensures answers { Answers (S.remaining src.old) (S.remaining src.new) (K.written out.old) (K.written out.new)
-        result (Says (following B.command) (shown B.Shows)) }
-    ensures reads { FaultsOfSource result (S.faults src.old) (S.faults src.new) }
-    ensures writes { FaultsOfSink result (K.faults out.old) (K.faults out.new) }
+    ensures { Answers S.remaining S.faults K.written K.faults src.old src.new out.old out.new result
+        (Says (following B.command) (shown B.Shows)) }
 {
     stream(alloc, &mut TraceJob::<B>::begin(alloc), src, out)
 }

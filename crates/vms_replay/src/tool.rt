@@ -1,4 +1,4 @@
-ghost use Rattle.vms_stream.specs.Answers.{Answers, FaultsOfSink, FaultsOfSource, Says};
+ghost use Rattle.vms_stream.specs.Answers.{Answers, Says};
 ghost use Rattle.vms_replay.specs.Replaying.{replay, replay_shows};
 
 use crate::bodies::Replay;
@@ -10,10 +10,8 @@ use vms_stream::Status;
 /// The command `replay`: makes the changes of a trace in file order, and writes refusals and reports, all at the end of
 /// the trace. Nothing is written of a trace with a line that counts and isn't replayed yet.
 pub fn tool_replay<S: Source, K: Sink>(alloc: Global, src: &mut S, out: &mut K) -> Status
-    ensures answers { Answers (S.remaining src.old) (S.remaining src.new) (K.written out.old) (K.written out.new)
-        result (Says replay replay_shows) }
-    ensures reads { FaultsOfSource result (S.faults src.old) (S.faults src.new) }
-    ensures writes { FaultsOfSink result (K.faults out.old) (K.faults out.new) }
+    ensures { Answers S.remaining S.faults K.written K.faults src.old src.new out.old out.new result
+        (Says replay replay_shows) }
 {
     follow::<Replay, S, K>(alloc, src, out)
 }

@@ -9,7 +9,7 @@ use Rattle.vms_stream.specs.declared.endings.Ending.TheVariants as endings
 use Rattle.vms_stream.specs.declared.statuses.Status.{Status}
 use Rattle.vms_stream.specs.declared.stops.Stop.{Stop}
 use Rattle.vms_stream.specs.declared.stops.Stop.TheVariants.{WriteFault, Memory}
-use Rattle.vms_stream.specs.Answers.{Answers, Ends, IsLastPiece, Says}
+use Rattle.vms_stream.specs.Answers.{Answers, Ends, FaultsOfSink, FaultsOfSource, IsLastPiece, Says}
 use Rattle.vms_stream.specs.Courses.{Finishes, IsCourse, Steps, lines_judged, status_at_end, status_in, status_of}
 use Rattle.vms_stream.specs.Jobs.{Closes}
 use Rattle.vms_stream.specs.Behaviors.{Behavior, state_after, halted, printed, output}
@@ -111,29 +111,37 @@ module _ {S : Type 0} (behavior : Behavior S) (shows : S → Type 0) where
           by endings.HeaderRefused done = inr done
           by endings.NotBuilt done = done
 
-  -- a course that goes on, stops or ends after what was taken and written before
-  pub Answers-stopped : (stands : S → Type 0) (taken written : List ℕ) (course : Course)
-      (left left' left'' sunk sunk' sunk'' : Option (List ℕ)) (stop : Stop)
-      → Consumes left left' taken → Appends sunk sunk' written
-      → Steps behavior stands shows taken written course left' left'' sunk' sunk'' (Err stop)
-      → Answers left left'' sunk sunk'' (status_of stop) (Says behavior shows)
-  Answers-stopped stands taken written course left left' left'' sunk sunk' sunk'' stop consumes appends steps = record {
-    taken = taken ++ steps.more;
-    written = written ++ steps.moved;
-    consumes = Consumes-trans left left' left'' taken steps.more consumes steps.consumes;
-    appends = Appends-trans sunk sunk' sunk'' written steps.moved appends steps.appends;
-    answer = steps.outcome;
-  }
+  -- a course that goes on, stops or ends after what was taken and written before, when no call had failed
+  module _ {R K : Type 0} (left : R → Option (List ℕ)) (read_faults : R → ℕ) (held : K → Option (List ℕ))
+      (write_faults : K → ℕ) (taken written : List ℕ) (src src' src'' : R) (out out' out'' : K)
+      (consumes : Consumes (left src) (left src') taken) (appends : Appends (held out) (held out') written)
+      (none_read : read_faults src' ≡ read_faults src) (none_wrote : write_faults out' ≡ write_faults out) where
+    pub Answers-stopped : (stands : S → Type 0) (course : Course) (stop : Stop)
+        → Steps behavior stands shows taken written course (left src') (left src'') (held out') (held out'') (Err stop)
+        → FaultsOfSource (status_of stop) (read_faults src') (read_faults src'')
+        → FaultsOfSink (status_of stop) (write_faults out') (write_faults out'')
+        → Answers left read_faults held write_faults src src'' out out'' (status_of stop) (Says behavior shows)
+    Answers-stopped stands course stop steps reads writes = record {
+      taken = taken ++ steps.more;
+      written = written ++ steps.moved;
+      consumes = Consumes-trans (left src) (left src') (left src'') taken steps.more consumes steps.consumes;
+      appends = Appends-trans (held out) (held out') (held out'') written steps.moved appends steps.appends;
+      answer = steps.outcome;
+      reads = subst (λ (n : ℕ). FaultsOfSource (status_of stop) n (read_faults src'')) none_read reads;
+      writes = subst (λ (n : ℕ). FaultsOfSink (status_of stop) n (write_faults out'')) none_wrote writes;
+    }
 
-  pub Answers-ended : (taken written : List ℕ) (left left' sunk sunk' sunk'' : Option (List ℕ))
-      (result : Result Status Stop)
-      → Consumes left left' taken → IsAtEnd left' → Appends sunk sunk' written
-      → Finishes behavior shows taken written sunk' sunk'' result
-      → Answers left left' sunk sunk'' (status_in result) (Says behavior shows)
-  Answers-ended taken written left left' sunk sunk' sunk'' result consumes ended appends finishes = record {
-    taken = taken;
-    written = written ++ finishes.moved;
-    consumes = consumes;
-    appends = Appends-trans sunk sunk' sunk'' written finishes.moved appends finishes.appends;
-    answer = finishes.outcome left' ended;
-  }
+    pub Answers-ended : (result : Result Status Stop) → IsAtEnd (left src')
+        → Finishes behavior shows taken written (held out') (held out'') result
+        → FaultsOfSource (status_in result) (read_faults src') (read_faults src')
+        → FaultsOfSink (status_in result) (write_faults out') (write_faults out'')
+        → Answers left read_faults held write_faults src src' out out'' (status_in result) (Says behavior shows)
+    Answers-ended result ended finishes reads writes = record {
+      taken = taken;
+      written = written ++ finishes.moved;
+      consumes = consumes;
+      appends = Appends-trans (held out) (held out') (held out'') written finishes.moved appends finishes.appends;
+      answer = finishes.outcome (left src') ended;
+      reads = subst (λ (n : ℕ). FaultsOfSource (status_in result) n (read_faults src')) none_read reads;
+      writes = subst (λ (n : ℕ). FaultsOfSink (status_in result) n (write_faults out'')) none_wrote writes;
+    }

@@ -96,15 +96,6 @@ Says behavior shows TooLong taken written at_end =
     Halts behavior Exceeds taken written at_end ⊎ Oversteps behavior taken written
 Says behavior shows NotBuilt taken written at_end = Ends behavior shows endings.NotBuilt taken written at_end
 
--- a command took these bytes from its source and wrote these to its sink, and its status says what they are
-pub record Answers (left left' held held' : Option (List ℕ)) (status : Status)
-    (says : Status → List ℕ → List ℕ → Type 0 → Type 0) : Type 0 where
-  pub taken : List ℕ
-  pub written : List ℕ
-  pub consumes : Consumes left left' taken
-  pub appends : Appends held held' written
-  pub answer : says status taken written (IsAtEnd left')
-
 -- the counts of faults: one read failed where the status says so, and else none; and one write, and else none
 abbrev pub FaultsOfSource : Status → ℕ → ℕ → Type 0
 FaultsOfSource ReadFault before now = now ≡ counted before
@@ -113,3 +104,16 @@ FaultsOfSource _ before now = now ≡ before
 abbrev pub FaultsOfSink : Status → ℕ → ℕ → Type 0
 FaultsOfSink WriteFault before now = now ≡ counted before
 FaultsOfSink _ before now = now ≡ before
+
+-- a command took bytes from its source and wrote bytes to its sink, and its status says what they are and which calls
+-- failed. A source tells what is left and a sink what was written, and each how many of its calls failed
+pub record Answers {S K : Type 0} (left : S → Option (List ℕ)) (read_faults : S → ℕ) (held : K → Option (List ℕ))
+    (write_faults : K → ℕ) (src src' : S) (out out' : K) (status : Status)
+    (says : Status → List ℕ → List ℕ → Type 0 → Type 0) : Type 0 where
+  pub taken : List ℕ
+  pub written : List ℕ
+  pub consumes : Consumes (left src) (left src') taken
+  pub appends : Appends (held out) (held out') written
+  pub answer : says status taken written (IsAtEnd (left src'))
+  pub reads : FaultsOfSource status (read_faults src) (read_faults src')
+  pub writes : FaultsOfSink status (write_faults out) (write_faults out')

@@ -1,5 +1,5 @@
 ghost use Rattle.std.specs.Prelude.{List, ℕ};
-ghost use Rattle.vms_stream.specs.Answers.{Answers, FaultsOfSink, FaultsOfSource, Says};
+ghost use Rattle.vms_stream.specs.Answers.{Answers, Says};
 ghost use Rattle.vms_stream.specs.Courses.{status_in};
 
 use crate::courses::Course;
@@ -17,10 +17,8 @@ pub fn stream<J: Job, S: Source, K: Sink>(
     out: &mut K,
 ) -> Status
     requires { J.Stands job.old J.behavior.start }
-    ensures answers { Answers (S.remaining src.old) (S.remaining src.new) (K.written out.old) (K.written out.new)
-        result (Says J.behavior J.Shows) }
-    ensures reads { FaultsOfSource result (S.faults src.old) (S.faults src.new) }
-    ensures writes { FaultsOfSink result (K.faults out.old) (K.faults out.new) }
+    ensures { Answers S.remaining S.faults K.written K.faults src.old src.new out.old out.new result
+        (Says J.behavior J.Shows) }
 {
     match run(alloc, job, src, out) {
         Ok(status) => status,
@@ -36,10 +34,8 @@ fn run<J: Job, S: Source, K: Sink>(
     out: &mut K,
 ) -> Result<Status, Stop>
     requires { J.Stands job.old J.behavior.start }
-    ensures answers { Answers (S.remaining src.old) (S.remaining src.new) (K.written out.old) (K.written out.new)
-        (status_in result) (Says J.behavior J.Shows) }
-    ensures reads { FaultsOfSource (status_in result) (S.faults src.old) (S.faults src.new) }
-    ensures writes { FaultsOfSink (status_in result) (K.faults out.old) (K.faults out.new) }
+    ensures { Answers S.remaining S.faults K.written K.faults src.old src.new out.old out.new (status_in result)
+        (Says J.behavior J.Shows) }
 {
     let mut course = Course::begin(alloc)?;
     'pieces: while !course.at_end {

@@ -2,7 +2,7 @@
 use Rattle.std.proofs.Common.{◌≡◌, ℕ, List, [], take, drop, take-append-drop, Option, None, refl, sym, subst}
 use Rattle.std.specs.Io.KnownBytes.{Appends, IsAtEnd}
 use Rattle.std.proofs.KnownBytes.{Consumes-nil}
-use Rattle.vms_stream.specs.Answers.{Answers}
+use Rattle.vms_stream.specs.Answers.{Answers, FaultsOfSink, FaultsOfSource}
 use Rattle.vms_stream.specs.declared.statuses.Status.{Status}
 use Rattle.vms_stream.specs.declared.statuses.Status.TheVariants.{WriteFault}
 use Rattle.vms_tool.specs.Answers.{SaysOf, SaysUnder, ShowsUsage, usage_line}
@@ -18,27 +18,35 @@ ShowsUsage-unwritten held held' n appends = record {
   outcome = (drop n usage_line, sym (take-append-drop n usage_line));
 }
 
--- what a command answers is what its words say
-pub Answers-named : (left left' held held' : Option (List ℕ)) (words : List (List ℕ)) (named : Option Command)
-    (status : Status)
-    → command_of words ≡ named → Answers left left' held held' status (SaysOf named)
-    → Answers left left' held held' status (SaysUnder words)
-Answers-named left left' held held' words named status is answers = record {
-  taken = answers.taken;
-  written = answers.written;
-  consumes = answers.consumes;
-  appends = answers.appends;
-  answer = subst (λ (n : Option Command). SaysOf n status answers.taken answers.written (IsAtEnd left')) (sym is)
-      answers.answer;
-}
+module _ {S K : Type 0} (left : S → Option (List ℕ)) (read_faults : S → ℕ) (held : K → Option (List ℕ))
+    (write_faults : K → ℕ) where
+  -- what a command answers is what its words say
+  pub Answers-named : (src src' : S) (out out' : K) (words : List (List ℕ)) (named : Option Command) (status : Status)
+      → command_of words ≡ named
+      → Answers left read_faults held write_faults src src' out out' status (SaysOf named)
+      → Answers left read_faults held write_faults src src' out out' status (SaysUnder words)
+  Answers-named src src' out out' words named status is answers = record {
+    taken = answers.taken;
+    written = answers.written;
+    consumes = answers.consumes;
+    appends = answers.appends;
+    answer = subst (λ (n : Option Command). SaysOf n status answers.taken answers.written (IsAtEnd (left src')))
+        (sym is) answers.answer;
+    reads = answers.reads;
+    writes = answers.writes;
+  }
 
--- words that name no command
-pub Answers-unnamed : (left held held' : Option (List ℕ)) (status : Status) → ShowsUsage held held' status
-    → Answers left left held held' status (SaysOf None)
-Answers-unnamed left held held' status shows = record {
-  taken = [];
-  written = shows.written;
-  consumes = Consumes-nil left;
-  appends = shows.appends;
-  answer = (refl, shows.outcome);
-}
+  -- words that name no command
+  pub Answers-unnamed : (src : S) (out out' : K) (status : Status) → ShowsUsage (held out) (held out') status
+      → FaultsOfSource status (read_faults src) (read_faults src)
+      → FaultsOfSink status (write_faults out) (write_faults out')
+      → Answers left read_faults held write_faults src src out out' status (SaysOf None)
+  Answers-unnamed src out out' status shows reads writes = record {
+    taken = [];
+    written = shows.written;
+    consumes = Consumes-nil (left src);
+    appends = shows.appends;
+    answer = (refl, shows.outcome);
+    reads = reads;
+    writes = writes;
+  }

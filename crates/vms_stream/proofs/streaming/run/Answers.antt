@@ -19,17 +19,20 @@ pieces-preserved g c =
       writes = c.in_ok-step.ensures.writes ∙ inv.writes;
     }
 
-pub returns-in_err-step-clause-answers : goal.returns-in_err-step-clause-answers
-returns-in_err-step-clause-answers g c =
+pub returns-in_err-step : goal.returns-in_err-step
+returns-in_err-step g c =
     let p = err_from_is_err_and c.from_residual-in_err-step.result c.from_residual-in_err-step.ensures.1 in
     let inv = c.pieces.invariant in
-    rw (p.1, p.2) (Answers-stopped g.J.Job.behavior g.J.Job.Shows (g.J.Job.Stands c.step.new.job)
-    inv.taken inv.written c.step.new.self _ _ _ _ _ _ _
-    inv.consumes inv.appends (c.in_err-step.ensures.steps inv.taken inv.written inv.course))
+    rw (p.1, p.2) (Answers-stopped g.J.Job.behavior g.J.Job.Shows g.S.Source.remaining g.S.Source.faults
+    g.K.Sink.written g.K.Sink.faults inv.taken inv.written _ _ _ _ _ _ inv.consumes inv.appends inv.reads inv.writes
+    (g.J.Job.Stands c.step.new.job) c.step.new.self _ (c.in_err-step.ensures.steps inv.taken inv.written inv.course)
+    c.in_err-step.ensures.reads c.in_err-step.ensures.writes)
 
-pub returns-clause-answers : goal.returns-clause-answers
-returns-clause-answers g c =
+pub returns : goal.returns
+returns g c =
     let inv = c.pieces.invariant in
-    Answers-ended g.J.Job.behavior g.J.Job.Shows inv.taken inv.written _ _ _ _ _ c.finish.result inv.consumes
-    (inv.ended c.pieces-test.false) inv.appends
-    (c.finish.ensures.finishes inv.taken inv.written inv.course)
+    Answers-ended g.J.Job.behavior g.J.Job.Shows g.S.Source.remaining g.S.Source.faults g.K.Sink.written
+    g.K.Sink.faults inv.taken inv.written c.args.src.now c.pieces.src c.pieces.src c.args.out.now c.pieces.out
+    c.finish.new.out inv.consumes inv.appends inv.reads inv.writes c.finish.result
+    (inv.ended c.pieces-test.false) (c.finish.ensures.finishes inv.taken inv.written inv.course)
+    (c.finish.ensures.reads _) c.finish.ensures.writes
