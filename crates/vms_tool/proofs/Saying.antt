@@ -4,8 +4,8 @@ use Rattle.std.specs.Io.KnownBytes.{Appends, IsAtEnd}
 use Rattle.std.proofs.KnownBytes.{Consumes-nil}
 use Rattle.vms_stream.specs.Answers.{Answers, FaultsOfSink, FaultsOfSource}
 use Rattle.vms_stream.specs.declared.statuses.Status.{Status}
-use Rattle.vms_stream.specs.declared.statuses.Status.TheVariants.{WriteFault}
-use Rattle.vms_tool.specs.Answers.{SaysOf, SaysUnder, ShowsUsage, usage_line}
+use Rattle.vms_stream.specs.declared.statuses.Status.TheVariants.{Words, WriteFault}
+use Rattle.vms_tool.specs.Answers.{SaysOf, SaysUnder, ShownAs, ShowsUsage, usage_line}
 use Rattle.vms_tool.specs.Naming.{command_of}
 use Rattle.vms_tool.specs.declared.naming.Command.{Command}
 
@@ -17,6 +17,12 @@ ShowsUsage-unwritten held held' n appends = record {
   appends = appends;
   outcome = (drop n usage_line, sym (take-append-drop n usage_line));
 }
+
+-- only the write of the usage line can fail
+shown_reads : (status : Status) (written : List ℕ) (n : ℕ) → ShownAs status written → FaultsOfSource status n n
+shown_reads Words written n shown = refl
+shown_reads WriteFault written n shown = refl
+shown_reads _ written n shown = absurd shown
 
 module _ {S K : Type 0} (left : S → Option (List ℕ)) (read_faults : S → ℕ) (held : K → Option (List ℕ))
     (write_faults : K → ℕ) where
@@ -38,15 +44,14 @@ module _ {S K : Type 0} (left : S → Option (List ℕ)) (read_faults : S → �
 
   -- words that name no command
   pub Answers-unnamed : (src : S) (out out' : K) (status : Status) → ShowsUsage (held out) (held out') status
-      → FaultsOfSource status (read_faults src) (read_faults src)
       → FaultsOfSink status (write_faults out) (write_faults out')
       → Answers left read_faults held write_faults src src out out' status (SaysOf None)
-  Answers-unnamed src out out' status shows reads writes = record {
+  Answers-unnamed src out out' status shows writes = record {
     taken = [];
     written = shows.written;
     consumes = Consumes-nil (left src);
     appends = shows.appends;
     answer = (refl, shows.outcome);
-    reads = reads;
+    reads = shown_reads status shows.written (read_faults src) shows.outcome;
     writes = writes;
   }
