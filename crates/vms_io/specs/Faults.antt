@@ -1,5 +1,6 @@
 -- The count of faults of a source or a sink.
-use Rattle.std.specs.Prelude.{◌≡◌, ℕ, ◌+◌, ◌-◌, ◌^◌, min, List, Contains, Result, MatchResult}
+use Rattle.std.specs.Prelude.{◌≡◌, ℕ, ◌+◌, ◌-◌, ◌^◌, min, List, Option, Contains, Result, MatchResult}
+use Rattle.std.specs.Io.KnownBytes.{Keeps}
 
 -- one more, and at most 2^64 - 1
 abbrev pub counted : ℕ → ℕ
@@ -8,6 +9,14 @@ counted n = min (n + 1) (2 ^ 64 - 1)
 -- a call that succeeds leaves the count of faults, and one that fails is counted once
 abbrev pub CountsFaults : {A E : Type 0} → ℕ → ℕ → Result A E → Type 0
 CountsFaults before now result = MatchResult result (λ _. now ≡ before) (λ _. now ≡ counted before)
+
+-- one call failed, no call failed before it, and from it on no byte was moved. `told` is what is left in a source, or
+-- what was written to a sink. `failing` is the source or the sink as the call that failed found it
+pub record LastFails {D : Type 0} (told : D → Option (List ℕ)) (faults : D → ℕ) (before now : D) : Type 0 where
+  pub failing : D
+  pub none_before : faults failing ≡ faults before
+  pub once : faults now ≡ counted (faults failing)
+  pub none_after : Keeps (told failing) (told now)
 
 -- the calls that are to fail, by their numbers from 1, how many were made, and how many failed
 pub record Tally : Type 0 where

@@ -30,7 +30,7 @@ impl Model for ReadBuffer {
 ghost use Rattle.std.specs.Prelude.{◌≡◌, ℕ, ◌+◌, ◌<◌, ◌≤◌, max, List, [], length, take, drop, vec_len, IfOk, OnOk};
 ghost use Rattle.std.specs.Prelude.{OnErr, IsErrOf};
 ghost use Rattle.std.specs.Io.KnownBytes.{Keeps, ReadConsumes};
-ghost use Rattle.vms_io.specs.Faults.{CountsFaults, counted};
+ghost use Rattle.vms_io.specs.Faults.{CountsFaults, LastFails};
 ghost use Rattle.vms_io.specs.Reading.{Gets, Roomy, WholeLines};
 
 impl ReadBuffer {
@@ -86,7 +86,7 @@ impl ReadBuffer {
         ensures err { OnErr result (self.new ≡ self.old) }
         ensures unread { OnErr result (Keeps (S.remaining src.old) (S.remaining src.new)) }
         ensures faults { OnOk result (S.faults src.new ≡ S.faults src.old) }
-        ensures failed { IsErrOf result ReadError.Failed → S.faults src.new ≡ counted (S.faults src.old) }
+        ensures failed { IsErrOf result ReadError.Failed → LastFails S.remaining S.faults src.old src.new }
         ensures memory { IsErrOf result ReadError.Memory → src.new ≡ src.old }
         ensures full { IsErrOf result ReadError.Memory → 65536 ≤ length self.old }
     {

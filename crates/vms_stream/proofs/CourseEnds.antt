@@ -1,5 +1,5 @@
 -- The end of a course.
-use Rattle.std.proofs.Common.{◌≡◌, ℕ, Bool, true, List, [], ◌++◌, take, drop, take-append-drop, inr, Option, None, Ok}
+use Rattle.std.proofs.Common.{◌≡◌, ◌≢◌, refl, ℕ, Bool, true, List, [], ◌++◌, take, drop, take-append-drop, inr, Option, None, Ok}
 use Rattle.std.proofs.Common.{Err, Result, sym, ap, subst, ◌∙◌, append_assoc, append-nil}
 use Rattle.std.specs.Io.KnownBytes.{Appends, Consumes, IsAtEnd}
 use Rattle.std.proofs.KnownBytes.{Appends-nil, Appends-trans, Consumes-trans}
@@ -7,6 +7,7 @@ use Rattle.vms_stream.specs.declared.courses.Course.{Course}
 use Rattle.vms_stream.specs.declared.endings.Ending.{Ending}
 use Rattle.vms_stream.specs.declared.endings.Ending.TheVariants as endings
 use Rattle.vms_stream.specs.declared.statuses.Status.{Status}
+use Rattle.vms_stream.specs.declared.statuses.Status.TheVariants as statuses
 use Rattle.vms_stream.specs.declared.stops.Stop.{Stop}
 use Rattle.vms_stream.specs.declared.stops.Stop.TheVariants.{WriteFault, Memory}
 use Rattle.vms_stream.specs.Answers.{Answers, Ends, FaultsOfSink, FaultsOfSource, IsLastPiece, Says}
@@ -18,6 +19,35 @@ use Rattle.vms_stream.proofs.BehaviorLaws.{halted-first, output-open}
 use Rattle.vms_stream.proofs.TwoPieces.{lines_of-parts}
 use Rattle.vms_stream.proofs.StepOutcomes.{begins_at_end, no_piece}
 use Rattle.vms_text.specs.Lines.{lines_of}
+
+-- after calls of which none failed
+reads_after : {R : Type 0} (left : R → Option (List ℕ)) (faults : R → ℕ) (src src' src'' : R) (status : Status)
+    → faults src' ≡ faults src
+    → FaultsOfSource left faults status src' src'' → FaultsOfSource left faults status src src''
+reads_after left faults src src' src'' statuses.ReadFault none last = record {
+  failing = last.failing;
+  none_before = last.none_before ∙ none;
+  once = last.once;
+  none_after = last.none_after;
+}
+reads_after left faults src src' src'' _ none same = same ∙ none
+
+writes_after : {K : Type 0} (held : K → Option (List ℕ)) (faults : K → ℕ) (out out' out'' : K) (status : Status)
+    → faults out' ≡ faults out
+    → FaultsOfSink held faults status out' out'' → FaultsOfSink held faults status out out''
+writes_after held faults out out' out'' statuses.WriteFault none last = record {
+  failing = last.failing;
+  none_before = last.none_before ∙ none;
+  once = last.once;
+  none_after = last.none_after;
+}
+writes_after held faults out out' out'' _ none same = same ∙ none
+
+-- no read failed
+none_read_fails : {R : Type 0} (left : R → Option (List ℕ)) (faults : R → ℕ) (src src' : R) (status : Status)
+    → status ≢ statuses.ReadFault → faults src' ≡ faults src → FaultsOfSource left faults status src src'
+none_read_fails left faults src src' statuses.ReadFault other none = absurd (other refl)
+none_read_fails left faults src src' _ other none = none
 
 module _ {S : Type 0} (behavior : Behavior S) (shows : S → Type 0) where
   module _ {stands : S → Type 0} (taken written : List ℕ) (course : Course)
@@ -118,8 +148,8 @@ module _ {S : Type 0} (behavior : Behavior S) (shows : S → Type 0) where
       (none_read : read_faults src' ≡ read_faults src) (none_wrote : write_faults out' ≡ write_faults out) where
     pub Answers-stopped : (stands : S → Type 0) (course : Course) (stop : Stop)
         → Steps behavior stands shows taken written course (left src') (left src'') (held out') (held out'') (Err stop)
-        → FaultsOfSource (status_of stop) (read_faults src') (read_faults src'')
-        → FaultsOfSink (status_of stop) (write_faults out') (write_faults out'')
+        → FaultsOfSource left read_faults (status_of stop) src' src''
+        → FaultsOfSink held write_faults (status_of stop) out' out''
         → Answers left read_faults held write_faults src src'' out out'' (status_of stop) (Says behavior shows)
     Answers-stopped stands course stop steps reads writes = record {
       taken = taken ++ steps.more;
@@ -127,14 +157,14 @@ module _ {S : Type 0} (behavior : Behavior S) (shows : S → Type 0) where
       consumes = Consumes-trans (left src) (left src') (left src'') taken steps.more consumes steps.consumes;
       appends = Appends-trans (held out) (held out') (held out'') written steps.moved appends steps.appends;
       answer = steps.outcome;
-      reads = subst (λ (n : ℕ). FaultsOfSource (status_of stop) n (read_faults src'')) none_read reads;
-      writes = subst (λ (n : ℕ). FaultsOfSink (status_of stop) n (write_faults out'')) none_wrote writes;
+      reads = reads_after left read_faults src src' src'' (status_of stop) none_read reads;
+      writes = writes_after held write_faults out out' out'' (status_of stop) none_wrote writes;
     }
 
     pub Answers-ended : (result : Result Status Stop) → IsAtEnd (left src')
         → Finishes behavior shows taken written (held out') (held out'') result
-        → FaultsOfSource (status_in result) (read_faults src') (read_faults src')
-        → FaultsOfSink (status_in result) (write_faults out') (write_faults out'')
+        → status_in result ≢ statuses.ReadFault
+        → FaultsOfSink held write_faults (status_in result) out' out''
         → Answers left read_faults held write_faults src src' out out'' (status_in result) (Says behavior shows)
     Answers-ended result ended finishes reads writes = record {
       taken = taken;
@@ -142,6 +172,6 @@ module _ {S : Type 0} (behavior : Behavior S) (shows : S → Type 0) where
       consumes = consumes;
       appends = Appends-trans (held out) (held out') (held out'') written finishes.moved appends finishes.appends;
       answer = finishes.outcome (left src') ended;
-      reads = subst (λ (n : ℕ). FaultsOfSource (status_in result) n (read_faults src')) none_read reads;
-      writes = subst (λ (n : ℕ). FaultsOfSink (status_in result) n (write_faults out'')) none_wrote writes;
+      reads = none_read_fails left read_faults src src' (status_in result) reads none_read;
+      writes = writes_after held write_faults out out' out'' (status_in result) none_wrote writes;
     }

@@ -1,7 +1,7 @@
 -- What each status says of the bytes that were taken and of those that were written.
 use Rattle.std.specs.Prelude.{◌≡◌, ℕ, ◌^◌, ◌<◌, ◌≤◌, ◌⊎◌, max, List, ◌++◌, length, take, Option, Some, None}
 use Rattle.std.specs.Io.KnownBytes.{Appends, Consumes, IsAtEnd}
-use Rattle.vms_io.specs.Faults.{counted}
+use Rattle.vms_io.specs.Faults.{LastFails}
 use Rattle.vms_stream.specs.declared.endings.Ending.{Ending}
 use Rattle.vms_stream.specs.declared.endings.Ending.TheVariants as endings
 use Rattle.vms_stream.specs.declared.halts.Halt.{Halt}
@@ -96,14 +96,15 @@ Says behavior shows TooLong taken written at_end =
     Halts behavior Exceeds taken written at_end ⊎ Oversteps behavior taken written
 Says behavior shows NotBuilt taken written at_end = Ends behavior shows endings.NotBuilt taken written at_end
 
--- the counts of faults: one read failed where the status says so, and else none; and one write, and else none
-abbrev pub FaultsOfSource : Status → ℕ → ℕ → Type 0
-FaultsOfSource ReadFault before now = now ≡ counted before
-FaultsOfSource _ before now = now ≡ before
+-- which calls failed: where the status says so one read, and no byte was read after it, and else none
+abbrev pub FaultsOfSource : {S : Type 0} → (S → Option (List ℕ)) → (S → ℕ) → Status → S → S → Type 0
+FaultsOfSource left faults ReadFault before now = LastFails left faults before now
+FaultsOfSource left faults _ before now = faults now ≡ faults before
 
-abbrev pub FaultsOfSink : Status → ℕ → ℕ → Type 0
-FaultsOfSink WriteFault before now = now ≡ counted before
-FaultsOfSink _ before now = now ≡ before
+-- and one write, and no byte was written after it, and else none
+abbrev pub FaultsOfSink : {K : Type 0} → (K → Option (List ℕ)) → (K → ℕ) → Status → K → K → Type 0
+FaultsOfSink held faults WriteFault before now = LastFails held faults before now
+FaultsOfSink held faults _ before now = faults now ≡ faults before
 
 -- a command took bytes from its source and wrote bytes to its sink, and its status says what they are and which calls
 -- failed. A source tells what is left and a sink what was written, and each how many of its calls failed
@@ -115,5 +116,5 @@ pub record Answers {S K : Type 0} (left : S → Option (List ℕ)) (read_faults 
   pub consumes : Consumes (left src) (left src') taken
   pub appends : Appends (held out) (held out') written
   pub answer : says status taken written (IsAtEnd (left src'))
-  pub reads : FaultsOfSource status (read_faults src) (read_faults src')
-  pub writes : FaultsOfSink status (write_faults out) (write_faults out')
+  pub reads : FaultsOfSource left read_faults status src src'
+  pub writes : FaultsOfSink held write_faults status out out'

@@ -40,14 +40,14 @@ abbrev pub status_in : Result Status Stop → Status
 status_in (Ok status) = status
 status_in (Err stop) = status_of stop
 
--- the counts of faults rise only with the stops that faults cause
-abbrev pub CountsReads : {A : Type 0} → Result A Stop → ℕ → ℕ → Type 0
-CountsReads result before now =
-    MatchResult result (λ _. now ≡ before) (λ stop. FaultsOfSource (status_of stop) before now)
+-- calls fail only with the stops that faults cause
+abbrev pub CountsReads : {S A : Type 0} → (S → Option (List ℕ)) → (S → ℕ) → Result A Stop → S → S → Type 0
+CountsReads left faults result before now = MatchResult result (λ _. faults now ≡ faults before)
+    (λ stop. FaultsOfSource left faults (status_of stop) before now)
 
-abbrev pub CountsWrites : {A : Type 0} → Result A Stop → ℕ → ℕ → Type 0
-CountsWrites result before now =
-    MatchResult result (λ _. now ≡ before) (λ stop. FaultsOfSink (status_of stop) before now)
+abbrev pub CountsWrites : {K A : Type 0} → (K → Option (List ℕ)) → (K → ℕ) → Result A Stop → K → K → Type 0
+CountsWrites held faults result before now = MatchResult result (λ _. faults now ≡ faults before)
+    (λ stop. FaultsOfSink held faults (status_of stop) before now)
 
 -- the lines that are judged: the whole ones, and at the end of the input all
 abbrev pub lines_judged : Bool → List ℕ → List (List ℕ)

@@ -23,10 +23,10 @@ pub(crate) struct Course {
 
 impl Course {
     ghost use Rattle.std.specs.Prelude.{◌≡◌, ℕ, ◌+◌, ◌-◌, ◌<◌, ◌≤◌, ◌⊎◌, true, false, List, [], length, take, drop};
-    ghost use Rattle.std.specs.Prelude.{IfErr, IfOk, OnErr, OnOk};
+    ghost use Rattle.std.specs.Prelude.{◌≢◌, IfErr, IfOk, OnErr, OnOk};
     ghost use Rattle.std.specs.Io.KnownBytes.{Appends, Keeps};
     ghost use Rattle.vms_io.specs.Reading.{Gets};
-    ghost use Rattle.vms_stream.specs.Answers.{FaultsOfSource, FaultsOfSink, most_bytes};
+    ghost use Rattle.vms_stream.specs.Answers.{FaultsOfSink, most_bytes};
     ghost use Rattle.vms_stream.specs.Courses.{CountsReads, CountsWrites, Finishes, IsCourse, Steps};
     ghost use Rattle.vms_stream.specs.Courses.{lines_held, status_in};
     ghost use Rattle.vms_stream.specs.Jobs.{TakesLines};
@@ -58,7 +58,7 @@ impl Course {
         ensures waits { OnOk result (self.new.waiting ≡ self.old.waiting) }
         ensures unread { OnErr result (Keeps (S.remaining src.old) (S.remaining src.new)) }
         ensures cause { IfErr result (λ stop. (stop ≡ Stop.ReadFault) ⊎ (stop ≡ Stop.Memory)) }
-        ensures counts { CountsReads result (S.faults src.old) (S.faults src.new) }
+        ensures counts { CountsReads S.remaining S.faults result src.old src.new }
     {
         let count = read(&mut self.input, src)?;
         self.taken += count;
@@ -114,7 +114,7 @@ impl Course {
         ensures same_input { self.new.input ≡ self.old.input }
         ensures same_count { self.new.taken ≡ self.old.taken }
         ensures same_end { self.new.at_end ≡ self.old.at_end }
-        ensures counts { CountsWrites result (K.faults out.old) (K.faults out.new) }
+        ensures counts { CountsWrites K.written K.faults result out.old out.new }
     {
         write_all(out, self.waiting.as_slice())?;
         self.waiting.clear();
@@ -136,8 +136,8 @@ impl Course {
             Steps J.behavior (J.Stands job.new) J.Shows taken written self.new
             (S.remaining src.old) (S.remaining src.new)
             (K.written out.old) (K.written out.new) result }
-        ensures reads { CountsReads result (S.faults src.old) (S.faults src.new) }
-        ensures writes { CountsWrites result (K.faults out.old) (K.faults out.new) }
+        ensures reads { CountsReads S.remaining S.faults result src.old src.new }
+        ensures writes { CountsWrites K.written K.faults result out.old out.new }
         ensures nearer { OnOk result (self.new.at_end ≡ false → self.old.taken < self.new.taken) }
     {
         self.read(src)?;
@@ -158,8 +158,8 @@ impl Course {
         ensures finishes { (taken : List ℕ) (written : List ℕ) →
             IsCourse J.behavior (J.Stands job.old) taken written self.old →
             Finishes J.behavior J.Shows taken written (K.written out.old) (K.written out.new) result }
-        ensures reads { (n : ℕ) → FaultsOfSource (status_in result) n n }
-        ensures writes { FaultsOfSink (status_in result) (K.faults out.old) (K.faults out.new) }
+        ensures reads { status_in result ≢ Status.ReadFault }
+        ensures writes { FaultsOfSink K.written K.faults (status_in result) out.old out.new }
     {
         let ending = job.end(&mut self.waiting)?;
         self.flush(out)?;
@@ -177,7 +177,7 @@ fn read<S: Source>(input: &mut ReadBuffer, src: &mut S) -> Result<usize, Stop>
     ensures ok { IfOk result (Gets input.old input.new (S.remaining src.old) (S.remaining src.new)) }
     ensures unread { OnErr result (Keeps (S.remaining src.old) (S.remaining src.new)) }
     ensures cause { IfErr result (λ stop. (stop ≡ Stop.ReadFault) ⊎ (stop ≡ Stop.Memory)) }
-    ensures counts { CountsReads result (S.faults src.old) (S.faults src.new) }
+    ensures counts { CountsReads S.remaining S.faults result src.old src.new }
 {
     input.read_more(src).map_err(stop_of_read)
 }

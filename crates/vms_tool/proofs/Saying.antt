@@ -19,10 +19,11 @@ ShowsUsage-unwritten held held' n appends = record {
 }
 
 -- only the write of the usage line can fail
-shown_reads : (status : Status) (written : List ℕ) (n : ℕ) → ShownAs status written → FaultsOfSource status n n
-shown_reads Words written n shown = refl
-shown_reads WriteFault written n shown = refl
-shown_reads _ written n shown = absurd shown
+shown_reads : {S : Type 0} (left : S → Option (List ℕ)) (faults : S → ℕ) (src : S) (status : Status) (written : List ℕ)
+    → ShownAs status written → FaultsOfSource left faults status src src
+shown_reads left faults src Words written shown = refl
+shown_reads left faults src WriteFault written shown = refl
+shown_reads left faults src _ written shown = absurd shown
 
 module _ {S K : Type 0} (left : S → Option (List ℕ)) (read_faults : S → ℕ) (held : K → Option (List ℕ))
     (write_faults : K → ℕ) where
@@ -44,7 +45,7 @@ module _ {S K : Type 0} (left : S → Option (List ℕ)) (read_faults : S → �
 
   -- words that name no command
   pub Answers-unnamed : (src : S) (out out' : K) (status : Status) → ShowsUsage (held out) (held out') status
-      → FaultsOfSink status (write_faults out) (write_faults out')
+      → FaultsOfSink held write_faults status out out'
       → Answers left read_faults held write_faults src src out out' status (SaysOf None)
   Answers-unnamed src out out' status shows writes = record {
     taken = [];
@@ -52,6 +53,6 @@ module _ {S K : Type 0} (left : S → Option (List ℕ)) (read_faults : S → �
     consumes = Consumes-nil (left src);
     appends = shows.appends;
     answer = (refl, shows.outcome);
-    reads = shown_reads status shows.written (read_faults src) shows.outcome;
+    reads = shown_reads left read_faults src status shows.written shows.outcome;
     writes = writes;
   }

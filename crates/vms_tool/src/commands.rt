@@ -27,7 +27,7 @@ pub fn tool<S: Source, K: Sink>(alloc: Global, words: &[String], src: &mut S, ou
 /// Writes the usage line.
 fn show_usage<K: Sink>(out: &mut K) -> Status
     ensures usage { ShowsUsage (K.written out.old) (K.written out.new) result }
-    ensures writes { FaultsOfSink result (K.faults out.old) (K.faults out.new) }
+    ensures writes { FaultsOfSink K.written K.faults result out.old out.new }
 {
     match write_all(out, USAGE) {
         Ok(()) => Status::Words,

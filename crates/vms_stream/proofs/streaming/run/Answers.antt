@@ -35,4 +35,4 @@ returns g c =
     g.K.Sink.faults inv.taken inv.written c.args.src.now c.pieces.src c.pieces.src c.args.out.now c.pieces.out
     c.finish.new.out inv.consumes inv.appends inv.reads inv.writes c.finish.result
     (inv.ended c.pieces-test.false) (c.finish.ensures.finishes inv.taken inv.written inv.course)
-    (c.finish.ensures.reads _) c.finish.ensures.writes
+    c.finish.ensures.reads c.finish.ensures.writes

@@ -1,9 +1,9 @@
+-- the status is that of the stop
 use Rattle.std.proofs.Common.{sym, subst}
 use Rattle.vms_stream.specs.Answers.{Answers, Says}
 use Rattle.vms_stream.specs.declared.statuses.Status.{Status}
 use Rattle.vms_stream.proofs.streaming.stream.Goals as goal
 
--- the status is that of the stop
 pub returns-in-Err : goal.returns-in-Err
 returns-in-Err g c =
     subst (λ (status : Status). Answers g.S.Source.remaining g.S.Source.faults g.K.Sink.written g.K.Sink.faults
