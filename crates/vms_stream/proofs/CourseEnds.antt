@@ -1,8 +1,8 @@
 -- The end of a course.
-use Rattle.std.proofs.Common.{◌≡◌, ◌≢◌, refl, ℕ, Bool, true, List, [], ◌++◌, take, drop, take-append-drop, inr, Option, None, Ok}
-use Rattle.std.proofs.Common.{Err, Result, sym, ap, subst, ◌∙◌, append_assoc, append-nil}
+use Rattle.std.proofs.Common.{◌≡◌, ◌≢◌, ℕ, Bool, true, List, [], ◌++◌, take, drop, take-append-drop, inr, Option, None}
+use Rattle.std.proofs.Common.{Ok, Err, Result, refl, sym, ap, subst, ◌∙◌, append_assoc, append-nil, arith}
 use Rattle.std.specs.Io.KnownBytes.{Appends, Consumes, IsAtEnd}
-use Rattle.std.proofs.KnownBytes.{Appends-nil, Appends-trans, Consumes-trans}
+use Rattle.std.proofs.KnownBytes.{Appends-nil, Appends-trans, Consumes-nil, Consumes-trans}
 use Rattle.vms_stream.specs.declared.courses.Course.{Course}
 use Rattle.vms_stream.specs.declared.endings.Ending.{Ending}
 use Rattle.vms_stream.specs.declared.endings.Ending.TheVariants as endings
@@ -15,9 +15,9 @@ use Rattle.vms_stream.specs.Courses.{Finishes, IsCourse, Steps, lines_judged, st
 use Rattle.vms_stream.specs.Jobs.{Closes}
 use Rattle.vms_stream.specs.Behaviors.{Behavior, state_after, halted, printed, output}
 use Rattle.vms_stream.specs.Pieces.{whole_lines, partial_line}
-use Rattle.vms_stream.proofs.BehaviorLaws.{halted-first, output-open}
+use Rattle.vms_stream.proofs.BehaviorLaws.{halted-first, output-open, printed-begins}
 use Rattle.vms_stream.proofs.TwoPieces.{lines_of-parts}
-use Rattle.vms_stream.proofs.StepOutcomes.{begins_at_end, no_piece}
+use Rattle.vms_stream.proofs.StepOutcomes.{begins, begins_at_end, no_piece}
 use Rattle.vms_text.specs.Lines.{lines_of}
 
 -- after calls of which none failed
@@ -60,11 +60,19 @@ module _ {S : Type 0} (behavior : Behavior S) (shows : S → Type 0) where
     all_written = subst (λ (b : Bool). written ≡ printed behavior behavior.start (lines_judged b taken))
         at_end is.all_written
 
-    last_piece : IsLastPiece behavior taken
+    abbrev last_piece : IsLastPiece behavior taken
     last_piece = no_piece behavior shows taken is.within
         (halted-first behavior behavior.start (whole_lines taken) (lines_of (partial_line taken ++ []))
         (ap (halted behavior behavior.start) (sym (ap lines_of (sym (append-nil taken)) ∙ lines_of-parts taken []))
         ∙ none_halts))
+
+    -- all was written that the whole lines print
+    above : (rest : List ℕ) × (written ≡ printed behavior behavior.start (whole_lines taken) ++ rest)
+    above =
+        let parts : lines_of taken ≡ whole_lines taken ++ lines_of (partial_line taken ++ [])
+        = ap lines_of (sym (append-nil taken)) ∙ lines_of-parts taken [] in
+        let more = printed-begins behavior behavior.start (whole_lines taken) (lines_of (partial_line taken ++ [])) in
+        (more.0, all_written ∙ ap (printed behavior behavior.start) parts ∙ more.1)
 
     -- there was no memory for the last words
     pub Finishes-unended : (sunk : Option (List ℕ)) (stop : Stop) → stop ≡ Memory
@@ -75,7 +83,8 @@ module _ {S : Type 0} (behavior : Behavior S) (shows : S → Type 0) where
       outcome = λ left ended. subst (λ (s : Stop). Says behavior shows (status_of s) taken (written ++ [])
           (IsAtEnd left)) (sym memory)
           (begins_at_end behavior shows taken (IsAtEnd left) (written ++ []) [] ended is.within
-          (append-nil (written ++ []) ∙ append-nil written ∙ all_written) last_piece);
+          (append-nil (written ++ []) ∙ append-nil written ∙ all_written) last_piece above.0
+          (append-nil written ∙ above.1));
     }
 
     module _ (ending : Ending) (waiting : List ℕ)
@@ -109,6 +118,9 @@ module _ {S : Type 0} (behavior : Behavior S) (shows : S → Type 0) where
                     ∙ ap (λ (rest : List ℕ). written ++ rest) (take-append-drop n waiting) ∙ whole,
               );
               last_piece = last_piece;
+              after_above = above.0 ++ take n waiting;
+              above_written = ap (λ (front : List ℕ). front ++ take n waiting) above.1
+                  ∙ append_assoc (printed behavior behavior.start (whole_lines taken)) above.0 (take n waiting);
             });
       }
 
@@ -140,6 +152,22 @@ module _ {S : Type 0} (behavior : Behavior S) (shows : S → Type 0) where
           by endings.Refused done = done
           by endings.HeaderRefused done = inr done
           by endings.NotBuilt done = done
+
+  -- there was no memory to begin
+  pub Answers-unbegun : {R K : Type 0} (left : R → Option (List ℕ)) (read_faults : R → ℕ) (held : K → Option (List ℕ))
+      (write_faults : K → ℕ) (src : R) (out : K) (stop : Stop) → stop ≡ Memory
+      → Answers left read_faults held write_faults src src out out (status_of stop) (Says behavior shows)
+  Answers-unbegun left read_faults held write_faults src out stop memory = record {
+    taken = [];
+    written = [];
+    consumes = Consumes-nil (left src);
+    appends = Appends-nil (held out);
+    answer = subst (λ (s : Stop). Says behavior shows (status_of s) [] [] (IsAtEnd (left src))) (sym memory)
+        (begins behavior shows [] (IsAtEnd (left src)) [] [] [] [] refl refl
+        (no_piece behavior shows [] (omega arith) refl) [] refl);
+    reads = subst (λ (s : Stop). FaultsOfSource left read_faults (status_of s) src src) (sym memory) refl;
+    writes = subst (λ (s : Stop). FaultsOfSink held write_faults (status_of s) out out) (sym memory) refl;
+  }
 
   -- a course that goes on, stops or ends after what was taken and written before, when no call had failed
   module _ {R K : Type 0} (left : R → Option (List ℕ)) (read_faults : R → ℕ) (held : K → Option (List ℕ))

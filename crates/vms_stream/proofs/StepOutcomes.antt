@@ -25,23 +25,29 @@ module _ {S : Type 0} (behavior : Behavior S) (shows : S → Type 0) where
   -- what the first of the whole lines print, or a part of it, begins what all of them print
   pub begins : (text : List ℕ) (at_end : Type 0) (lines others : List (List ℕ)) (written unwritten : List ℕ)
       → lines_taken text ≡ lines ++ others
-      → written ++ unwritten ≡ printed behavior behavior.start lines → IsLastPiece behavior text
+      → written ++ unwritten ≡ printed behavior behavior.start lines
+      → (last_piece : IsLastPiece behavior text) (after_above : List ℕ)
+      → written ≡ printed behavior behavior.start (whole_lines last_piece.before) ++ after_above
       → BeginsOutput behavior text written at_end
-  begins text at_end lines others written unwritten parts prints last_piece =
+  begins text at_end lines others written unwritten parts prints last_piece after_above above =
       let whole = printed-begins behavior behavior.start lines others in
       record {
         unwritten = unwritten ++ whole.0;
         due = inl (sym (append_assoc written unwritten whole.0) ∙ ap (λ (front : List ℕ). front ++ whole.0) prints
             ∙ sym whole.1 ∙ ap (printed behavior behavior.start) (sym parts));
         last_piece = last_piece;
+        after_above = after_above;
+        above_written = above;
       }
 
   -- at the end of the input what all lines print, or a part of it, begins the whole output
   pub begins_at_end : (text : List ℕ) (at_end : Type 0) (written unwritten : List ℕ) → at_end
       → length text ≤ most_bytes
-      → written ++ unwritten ≡ printed behavior behavior.start (lines_of text) → IsLastPiece behavior text
+      → written ++ unwritten ≡ printed behavior behavior.start (lines_of text)
+      → (last_piece : IsLastPiece behavior text) (after_above : List ℕ)
+      → written ≡ printed behavior behavior.start (whole_lines last_piece.before) ++ after_above
       → BeginsOutput behavior text written at_end
-  begins_at_end text at_end written unwritten ended within prints last_piece =
+  begins_at_end text at_end written unwritten ended within prints last_piece after_above above =
       let whole = output-begins behavior (lines_of text) [] in
       record {
         unwritten = unwritten ++ whole.0;
@@ -52,10 +58,12 @@ module _ {S : Type 0} (behavior : Behavior S) (shows : S → Type 0) where
               ∙ sym whole.1 ∙ ap (output behavior) (append-nil (lines_of text)),
         );
         last_piece = last_piece;
+        after_above = after_above;
+        above_written = above;
       }
 
   -- no piece is open
-  pub no_piece : (taken : List ℕ) → length taken ≤ most_bytes
+  abbrev pub no_piece : (taken : List ℕ) → length taken ≤ most_bytes
       → halted behavior behavior.start (whole_lines taken) ≡ None
       → IsLastPiece behavior taken
   no_piece taken within none = record {
@@ -110,7 +118,9 @@ module _ {S : Type 0} (behavior : Behavior S) (shows : S → Type 0) where
         (begins taken at_end (whole_lines taken) [] written []
         (lines_taken-within taken is.within ∙ sym (append-nil (whole_lines taken))) (append-nil written
         ∙ (before_end taken written course is isnt).0.all_written)
-        (no_piece taken is.within (before_end taken written course is isnt).0.none_halts))
+        (no_piece taken is.within (before_end taken written course is isnt).0.none_halts) []
+        ((before_end taken written course is isnt).0.all_written
+        ∙ sym (append-nil (printed behavior behavior.start (whole_lines taken)))))
 
     -- the read failed, or there was no memory for it
     pub Steps-unread : (last : Course) (left left' held : Option (List ℕ)) (stop : Stop) → Keeps left left'
@@ -164,7 +174,7 @@ module _ {S : Type 0} (behavior : Behavior S) (shows : S → Type 0) where
       )
 
       -- what was read is one piece
-      last_piece : IsLastPiece behavior text
+      abbrev last_piece : IsLastPiece behavior text
       last_piece = record {
         before = taken;
         piece = more;
@@ -174,6 +184,12 @@ module _ {S : Type 0} (behavior : Behavior S) (shows : S → Type 0) where
         within_before = is.within;
         none_before = (before_end taken written course is isnt).0.none_halts;
       }
+
+      -- all was written that the lines above the piece print
+      above_written : (moved : List ℕ)
+          → written ++ moved ≡ printed behavior behavior.start (whole_lines taken) ++ moved
+      above_written moved =
+          ap (λ (front : List ℕ). front ++ moved) (before_end taken written course is isnt).0.all_written
 
       -- there was no memory to judge it
       pub Steps-unjudged : (last : Course) (held : Option (List ℕ)) (stop : Stop) → stop ≡ Memory
@@ -188,7 +204,7 @@ module _ {S : Type 0} (behavior : Behavior S) (shows : S → Type 0) where
             (begins text (IsAtEnd left') (whole_lines taken) _ (written ++ []) []
             (sym (lines_both taken more is.within false (λ never. absurd cc)))
             (append-nil (written ++ []) ∙ append-nil written ∙ (before_end taken written course is isnt).0.all_written)
-            last_piece);
+            last_piece [] (above_written []));
       }
 
       module _ (halt : Option Halt) (waiting : List ℕ)
@@ -226,12 +242,14 @@ module _ {S : Type 0} (behavior : Behavior S) (shows : S → Type 0) where
                   let there = at_the_end end in
                   begins_at_end text (IsAtEnd left') (written ++ take n waiting) (drop n waiting) there.0 there.1
                   (part_written written waiting n ∙ judged.prints
-                  ∙ ap (λ (b : Bool). printed behavior behavior.start (lines_counted b text)) end) last_piece
+                  ∙ ap (λ (b : Bool). printed behavior behavior.start (lines_counted b text)) end)
+                  last_piece (take n waiting) (above_written (take n waiting))
               by false before =
                   begins text (IsAtEnd left') (lines_taken text) [] (written ++ take n waiting) (drop n waiting)
                   (sym (append-nil (lines_taken text)))
                   (part_written written waiting n ∙ judged.prints
-                  ∙ ap (λ (b : Bool). printed behavior behavior.start (lines_counted b text)) before) last_piece
+                  ∙ ap (λ (b : Bool). printed behavior behavior.start (lines_counted b text)) before)
+                  last_piece (take n waiting) (above_written (take n waiting))
 
           -- a line stops the command
           halts : (h : Halt) → halt ≡ Some h → Halts behavior h text (written ++ waiting) (IsAtEnd left')

@@ -74,13 +74,15 @@ IsDue behavior taken text at_end =
     (text ≡ printed behavior behavior.start (lines_taken taken))
     ⊎ (at_end × (length taken ≤ most_bytes) × (text ≡ output behavior (lines_of taken)))
 
--- what was written begins what is to be written; nothing was read after a piece in which a line stopped the command,
--- or the bytes exceeded 64 MiB
+-- what was written begins what is to be written. Nothing was read after a piece in which a line stopped the command, or
+-- the bytes exceeded 64 MiB, nor before all was written that the lines above the piece print
 pub record BeginsOutput {S : Type 0} (behavior : Behavior S) (taken written : List ℕ) (at_end : Type 0)
     : Type 0 where
   pub unwritten : List ℕ
   pub due : IsDue behavior taken (written ++ unwritten) at_end
   pub last_piece : IsLastPiece behavior taken
+  pub after_above : List ℕ
+  pub above_written : written ≡ printed behavior behavior.start (whole_lines last_piece.before) ++ after_above
 
 -- what each status of a command says. `shows` is what its job shows at the end of the input
 abbrev pub Says : {S : Type 0} → Behavior S → (S → Type 0) → Status → List ℕ → List ℕ → Type 0 → Type 0

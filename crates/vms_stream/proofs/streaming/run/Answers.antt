@@ -1,7 +1,7 @@
 use Rattle.std.proofs.Common.{◌∙◌, ◌++◌}
 use Rattle.std.proofs.KnownBytes.{Appends-trans, Consumes-trans}
 use Rattle.std.proofs.lemmas.Result.{err_from_is_err_and}
-use Rattle.vms_stream.proofs.CourseEnds.{Answers-stopped, Answers-ended}
+use Rattle.vms_stream.proofs.CourseEnds.{Answers-unbegun, Answers-stopped, Answers-ended}
 use Rattle.vms_stream.proofs.streaming.run.Goals as goal
 
 pub pieces-preserved : goal.pieces-preserved
@@ -18,6 +18,12 @@ pieces-preserved g c =
       reads = c.in_ok-step.ensures.reads ∙ inv.reads;
       writes = c.in_ok-step.ensures.writes ∙ inv.writes;
     }
+
+pub returns-in_err-course : goal.returns-in_err-course
+returns-in_err-course g c =
+    let p = err_from_is_err_and c.from_residual.result c.from_residual.ensures.1 in
+    rw p.1 (Answers-unbegun g.J.Job.behavior g.J.Job.Shows g.S.Source.remaining g.S.Source.faults
+    g.K.Sink.written g.K.Sink.faults c.args.src.now c.args.out.now p.0 p.2)
 
 pub returns-in_err-step : goal.returns-in_err-step
 returns-in_err-step g c =
