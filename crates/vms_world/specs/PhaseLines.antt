@@ -16,8 +16,8 @@ use Rattle.vms_world.specs.Refreshes.{AreAnswers}
 use Rattle.vms_world.specs.Starts.{started}
 use Rattle.vms_world.specs.Worlds.{event_facts, pcpu_facts}
 
--- these histories are a phase of these lines, which leads from one world to another: in each table a pass begins for each
--- lane with lines and no other, and makes the acts of its lines in order, as far as they concern the table
+-- these histories are a phase of these lines, which leads from one world to another: in each table a pass begins for
+-- each lane with lines and no other, and makes the acts of its lines in order, as far as they concern the table
 pub record IsWorldPhase (header : Header) (pressure normal : ZoneSize → ℕ → ℕ → Type 0) (w : World) (items : List Item)
     (hs : Histories) (next : World) : Type 0 where
   pub complete : AreComplete header w hs
