@@ -10,7 +10,7 @@ pub mod PhaseLines
 pub mod Phases
 pub mod Fitting
 pub mod Feeding
-pub mod BodyParts
+pub mod BodySegments
 pub mod Sizes
 pub mod Changes
 pub mod LaneItems

@@ -7,4 +7,4 @@ pub mod Totals
 pub mod PhaseScripts
 pub mod FittingScripts
 pub mod Scripts
-pub mod Parts
+pub mod Segments

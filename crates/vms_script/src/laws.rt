@@ -1,5 +1,5 @@
 ghost use Rattle.vms_script.specs.FittingScripts.{FittingScriptsStayWithin};
-ghost use Rattle.vms_script.specs.Parts.{BoundariesCut, LinesMakeOnePhase, PartsHaveAllLines, PartsMayStand};
+ghost use Rattle.vms_script.specs.Segments.{BoundariesCut, LinesMakeOnePhase, SegmentsHaveAllLines, SegmentsMayStand};
 
 /// The law that a script that fits leaves every volume within its most.
 pub fn fitting_scripts_stay_within()
@@ -7,16 +7,16 @@ pub fn fitting_scripts_stay_within()
 {}
 
 /// The law that each phase of a body fits where it begins, and each boundary line counts where it stands.
-pub fn parts_may_stand()
-    ensures { PartsMayStand }
+pub fn segments_may_stand()
+    ensures { SegmentsMayStand }
 {}
 
-/// The law that the lines of the parts are the lines that count.
-pub fn parts_have_all_lines()
-    ensures { PartsHaveAllLines }
+/// The law that the lines of the segments are the lines that count.
+pub fn segments_have_all_lines()
+    ensures { SegmentsHaveAllLines }
 {}
 
-/// The law that the parts before a boundary line and those after it are each told by their own lines.
+/// The law that the segments before a boundary line and those after it are each told by their own lines.
 pub fn boundaries_cut()
     ensures { BoundariesCut }
 {}

@@ -13,8 +13,8 @@ mod volumes;
 pub use judges::{JudgedLine, LineJudge};
 pub use lane_scripts::{LaneItem, LaneScript};
 pub use laws::{
-    boundaries_cut, fitting_scripts_stay_within, lines_make_one_phase, parts_have_all_lines,
-    parts_may_stand,
+    boundaries_cut, fitting_scripts_stay_within, lines_make_one_phase, segments_have_all_lines,
+    segments_may_stand,
 };
 pub use phase_scripts::PhaseScript;
 pub use scripters::{Fed, FeedError, Scripter};

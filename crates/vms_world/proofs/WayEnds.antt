@@ -1,4 +1,4 @@
--- Each world on a way through the parts of a text belongs to the header.
+-- Each world on a way through the segments of a text belongs to the header.
 use Rattle.std.proofs.Common.{ℕ, List, [], ◌∷◌, sym, subst}
 use Rattle.vms_base.specs.declared.headers.Header.{Header}
 use Rattle.vms_base.specs.declared.kinds.ZoneSize.{ZoneSize}
@@ -7,7 +7,7 @@ use Rattle.vms_base.specs.Thresholds.{GivesThresholds}
 use Rattle.vms_text.specs.declared.acts.Item.{Item}
 use Rattle.vms_world.specs.declared.worlds.World.{World}
 use Rattle.vms_world.specs.PhaseLines.{IsWorldPhase, IsWorldRun, LeadsThrough}
-use Rattle.vms_script.specs.Parts.{Part, Phase, Between}
+use Rattle.vms_script.specs.Segments.{Segment, Phase, Between}
 use Rattle.vms_world.specs.Phases.{Histories, LeavesNothing}
 use Rattle.vms_world.specs.Starts.{started}
 use Rattle.vms_world.specs.Worlds.{IsWorldOf}
@@ -21,17 +21,18 @@ module _ (header : Header) (pressure normal : ZoneSize → ℕ → ℕ → Type 
   IsWorldOf-phase items hs w next of is = subst (IsWorldOf header) (sym is.left)
       (IsWorldOf-left_by header w hs of is.complete is.volumes (subst (LeavesNothing header) is.left is.buried))
 
-  pub IsWorldOf-led_through : (parts : List Part) (hss : List Histories) (w last : World)
-      → IsWorldOf header w → LeadsThrough header pressure normal parts hss w last → IsWorldOf header last
+  pub IsWorldOf-led_through : (segments : List Segment) (hss : List Histories) (w last : World)
+      → IsWorldOf header w → LeadsThrough header pressure normal segments hss w last → IsWorldOf header last
   IsWorldOf-led_through [] [] w last of same = subst (IsWorldOf header) same of
   IsWorldOf-led_through [] (hs ∷ more) w last of through = absurd through
-  IsWorldOf-led_through (Phase items ∷ parts) [] w last of through = absurd through
-  IsWorldOf-led_through (Phase items ∷ parts) (hs ∷ more) w last of (next, is, through) =
-      IsWorldOf-led_through parts more next last (IsWorldOf-phase items hs w next of is) through
-  IsWorldOf-led_through (Between number b ∷ parts) hss w last of (next, may, crosses, through) =
-      IsWorldOf-led_through parts hss next last (IsWorldOf-crossed header normal w next of gives b may crosses) through
+  IsWorldOf-led_through (Phase items ∷ segments) [] w last of through = absurd through
+  IsWorldOf-led_through (Phase items ∷ segments) (hs ∷ more) w last of (next, is, through) =
+      IsWorldOf-led_through segments more next last (IsWorldOf-phase items hs w next of is) through
+  IsWorldOf-led_through (Between number b ∷ segments) hss w last of (next, may, crosses, through) =
+      IsWorldOf-led_through segments hss next last
+      (IsWorldOf-crossed header normal w next of gives b may crosses) through
 
-  pub IsWorldOf-run : IsHeader header → (parts : List Part) (hss : List Histories) (last : World)
-      → IsWorldRun header pressure normal parts hss last → IsWorldOf header last
-  IsWorldOf-run valid parts hss last run = IsWorldOf-led_through parts hss (started header run.zones) last
+  pub IsWorldOf-run : IsHeader header → (segments : List Segment) (hss : List Histories) (last : World)
+      → IsWorldRun header pressure normal segments hss last → IsWorldOf header last
+  IsWorldOf-run valid segments hss last run = IsWorldOf-led_through segments hss (started header run.zones) last
       (IsWorldOf-start header valid normal gives run.zones run.answers) run.leads

@@ -1,4 +1,4 @@
--- A phase of lines, and the way through the parts of a text.
+-- A phase of lines, and the way through the segments of a text.
 use Rattle.std.specs.Prelude.{◌≡◌, ℕ, List, [], ◌∷◌}
 use Rattle.vms_base.specs.declared.headers.Header.{Header}
 use Rattle.vms_base.specs.declared.kinds.ZoneSize.{ZoneSize}
@@ -6,7 +6,7 @@ use Rattle.vms_core.specs.Steps as pages
 use Rattle.vms_event_core.specs.Steps as events
 use Rattle.vms_pcpu_core.specs.Steps as percpu
 use Rattle.vms_text.specs.declared.acts.Item.{Item}
-use Rattle.vms_script.specs.Parts.{Part, Phase, Between}
+use Rattle.vms_script.specs.Segments.{Segment, Phase, Between}
 use Rattle.vms_world.specs.declared.worlds.World.{World}
 use Rattle.vms_world.specs.Acts.{PageSteps, EventSteps, PcpuSteps}
 use Rattle.vms_world.specs.Boundaries.{Crosses, MayCross}
@@ -33,20 +33,20 @@ pub record IsWorldPhase (header : Header) (pressure normal : ZoneSize → ℕ �
   pub buried : LeavesNothing header next
   pub left : next ≡ left_by header w hs
 
--- the parts lead from one world to another, each from where the one before it ended, the phases with these histories
-abbrev pub LeadsThrough : Header → (pressure normal : ZoneSize → ℕ → ℕ → Type 0) → List Part → List Histories → World
+-- the segments lead from one world to another, each from where the one before it ended, the phases with these histories
+abbrev pub LeadsThrough : Header → (pressure normal : ZoneSize → ℕ → ℕ → Type 0) → List Segment → List Histories → World
     → World → Type 0
 LeadsThrough header pressure normal [] [] w last = w ≡ last
-LeadsThrough header pressure normal (Phase items ∷ parts) (hs ∷ more) w last = (next : World)
-    × IsWorldPhase header pressure normal w items hs next × LeadsThrough header pressure normal parts more next last
-LeadsThrough header pressure normal (Between number b ∷ parts) hss w last = (next : World)
+LeadsThrough header pressure normal (Phase items ∷ segments) (hs ∷ more) w last = (next : World)
+    × IsWorldPhase header pressure normal w items hs next × LeadsThrough header pressure normal segments more next last
+LeadsThrough header pressure normal (Between number b ∷ segments) hss w last = (next : World)
     × MayCross header.layout w.pages b × Crosses header normal b w next
-    × LeadsThrough header pressure normal parts hss next last
+    × LeadsThrough header pressure normal segments hss next last
 LeadsThrough header pressure normal _ _ w last = ⊥
 
--- a run of these parts, from its start on
-pub record IsWorldRun (header : Header) (pressure normal : ZoneSize → ℕ → ℕ → Type 0) (parts : List Part)
+-- a run of these segments, from its start on
+pub record IsWorldRun (header : Header) (pressure normal : ZoneSize → ℕ → ℕ → Type 0) (segments : List Segment)
     (hss : List Histories) (last : World) : Type 0 where
   pub zones : List ℕ
   pub answers : AreAnswers header normal header.layout.cpus zones
-  pub leads : LeadsThrough header pressure normal parts hss (started header zones) last
+  pub leads : LeadsThrough header pressure normal segments hss (started header zones) last

@@ -8,7 +8,7 @@ ghost use Rattle.vms_core.specs.Totals.{differentials};
 ghost use Rattle.vms_text.specs.declared.acts.Boundary.{Boundary};
 ghost use Rattle.vms_world.specs.declared.worlds.World.{World};
 ghost use Rattle.vms_world.specs.Boundaries.{Crosses, MayCross};
-ghost use Rattle.vms_script.specs.Parts.{Part};
+ghost use Rattle.vms_script.specs.Segments.{Segment};
 ghost use Rattle.vms_world.specs.PhaseLines.{IsWorldRun};
 ghost use Rattle.vms_world.specs.Phases.{AreComplete, Histories, LeavesNothing, StayWithinVolumes, left_by};
 ghost use Rattle.vms_world.specs.Refreshes.{AreAnswers};
@@ -46,9 +46,9 @@ pub fn phases_keep_worlds()
         → IsWorldOf header (left_by header w hs) }
 {}
 
-/// A run leads to a world of its header: whatever leads from its start through the parts of a text, phases of lines and
-/// boundary lines, whichever rules it goes by.
+/// A run leads to a world of its header: whatever leads from its start through the segments of a text, phases of lines
+/// and boundary lines, whichever rules it goes by.
 pub fn runs_keep_worlds<R: ThresholdRules>()
-    ensures { (header : Header) (parts : List Part) (hss : List Histories) (last : World) → IsHeader header
-        → GivesThresholds R.normal → IsWorldRun header R.pressure R.normal parts hss last → IsWorldOf header last }
+    ensures { (header : Header) (segments : List Segment) (hss : List Histories) (last : World) → IsHeader header
+        → GivesThresholds R.normal → IsWorldRun header R.pressure R.normal segments hss last → IsWorldOf header last }
 {}

@@ -1,4 +1,4 @@
-use Rattle.vms_script.proofs.BodyParts.{BoundariesCut-holds}
+use Rattle.vms_script.proofs.BodySegments.{BoundariesCut-holds}
 use Rattle.vms_script.proofs.laws.boundaries_cut.Goals as goal
 
 pub returns : goal.returns

@@ -1,4 +1,4 @@
-use Rattle.vms_script.proofs.BodyParts.{LinesMakeOnePhase-holds}
+use Rattle.vms_script.proofs.BodySegments.{LinesMakeOnePhase-holds}
 use Rattle.vms_script.proofs.laws.lines_make_one_phase.Goals as goal
 
 pub returns : goal.returns

@@ -28,27 +28,27 @@ numbered_lines header above n (text ∷ texts) =
     ∷ numbered_lines header (counted (judged header above text) above) (suc n) texts
 
 -- a phase, by its lane lines, or a boundary line, by its number and what it says
-pub data Part : Type 0 where
-  Phase : List Item → Part
-  Between : ℕ → BoundaryOf → Part
+pub data Segment : Type 0 where
+  Phase : List Item → Segment
+  Between : ℕ → BoundaryOf → Segment
 
--- the parts with a lane line before them: it is of the phase that they begin with, or it is a phase
-abbrev pub with_item : Item → List Part → List Part
+-- the segments with a lane line before them: it is of the phase that they begin with, or it is a phase
+abbrev pub with_item : Item → List Segment → List Segment
 with_item item [] = Phase (item ∷ []) ∷ []
-with_item item (Phase items ∷ parts) = Phase (item ∷ items) ∷ parts
-with_item item (Between number boundary ∷ parts) = Phase (item ∷ []) ∷ Between number boundary ∷ parts
+with_item item (Phase items ∷ segments) = Phase (item ∷ items) ∷ segments
+with_item item (Between number boundary ∷ segments) = Phase (item ∷ []) ∷ Between number boundary ∷ segments
 
--- the parts with line n before them; one that is blank or refused is of none
-abbrev pub parts_with : ℕ → Result Line LineCause → List Part → List Part
-parts_with n (Ok Blank) parts = parts
-parts_with n (Ok (Lane lane act)) parts = with_item (record { number = n; lane = lane; act = act }) parts
-parts_with n (Ok (Boundary boundary)) parts = Between n boundary ∷ parts
-parts_with n (Err cause) parts = parts
+-- the segments with line n before them; one that is blank or refused is of none
+abbrev pub segments_with : ℕ → Result Line LineCause → List Segment → List Segment
+segments_with n (Ok Blank) segments = segments
+segments_with n (Ok (Lane lane act)) segments = with_item (record { number = n; lane = lane; act = act }) segments
+segments_with n (Ok (Boundary boundary)) segments = Between n boundary ∷ segments
+segments_with n (Err cause) segments = segments
 
--- the parts of these lines
-abbrev pub parts_of : List NumberedLine → List Part
-parts_of [] = []
-parts_of (line ∷ lines) = parts_with line.number line.result (parts_of lines)
+-- the segments of these lines
+abbrev pub segments_of : List NumberedLine → List Segment
+segments_of [] = []
+segments_of (line ∷ lines) = segments_with line.number line.result (segments_of lines)
 
 -- a line that doesn't count: its number, and the first cause
 pub record RefusedLine : Type 0 where
@@ -64,60 +64,61 @@ abbrev pub refused_of : List NumberedLine → List RefusedLine
 refused_of [] = []
 refused_of (line ∷ lines) = with_refused line.number line.result (refused_of lines)
 
--- what a body says: its parts, and the lines that are refused
+-- what a body says: its segments, and the lines that are refused
 pub record Contents : Type 0 where
-  pub parts : List Part
+  pub segments : List Segment
   pub refused : List RefusedLine
 
 -- what the body with these lines says, of which the first has number n in the text
 abbrev pub contents_of : Header → ℕ → List (List ℕ) → Contents
 contents_of header n texts = record {
-  parts = parts_of (numbered_lines header [] n texts);
+  segments = segments_of (numbered_lines header [] n texts);
   refused = refused_of (numbered_lines header [] n texts);
 }
 
--- the lines of a part, the oldest first
-abbrev pub lines_of_part : Part → List Line
-lines_of_part (Phase items) = map line_of items
-lines_of_part (Between number boundary) = Boundary boundary ∷ []
+-- the lines of a segment, the oldest first
+abbrev pub lines_of_segment : Segment → List Line
+lines_of_segment (Phase items) = map line_of items
+lines_of_segment (Between number boundary) = Boundary boundary ∷ []
 
-abbrev pub lines_of_parts : List Part → List Line
-lines_of_parts [] = []
-lines_of_parts (part ∷ parts) = lines_of_part part ++ lines_of_parts parts
+abbrev pub lines_of_segments : List Segment → List Line
+lines_of_segments [] = []
+lines_of_segments (segment ∷ segments) = lines_of_segment segment ++ lines_of_segments segments
 
--- parts that don't begin with a phase
-abbrev pub BeginsWithNoPhase : List Part → Type 0
+-- segments that don't begin with a phase
+abbrev pub BeginsWithNoPhase : List Segment → Type 0
 BeginsWithNoPhase [] = Unit {0}
-BeginsWithNoPhase (Phase items ∷ parts) = ⊥
-BeginsWithNoPhase (Between number boundary ∷ parts) = Unit {0}
+BeginsWithNoPhase (Phase items ∷ segments) = ⊥
+BeginsWithNoPhase (Between number boundary ∷ segments) = Unit {0}
 
--- a part that may stand there, before these: a phase has a line, fits, and no phase follows it; a boundary line counts
-abbrev pub MayStand : Header → Start → Part → List Part → Type 0
+-- a segment that may stand there, before these: a phase has a line, fits, and no phase follows it; a boundary line
+-- counts
+abbrev pub MayStand : Header → Start → Segment → List Segment → Type 0
 MayStand header start (Phase items) after = (items ≢ []) × Fits header start items × BeginsWithNoPhase after
 MayStand header start (Between number boundary) after =
     IsLineOf header (Boundary boundary) × (allowed_from header start (Boundary boundary) ≡ Ok (Boundary boundary))
 
--- parts that may stand there, each after those before it
-abbrev pub AreParts : Header → Start → List Part → Type 0
-AreParts header start [] = Unit {0}
-AreParts header start (part ∷ parts) =
-    MayStand header start part parts × AreParts header (start_at_end start (lines_of_part part)) parts
+-- segments that may stand there, each after those before it
+abbrev pub AreSegments : Header → Start → List Segment → Type 0
+AreSegments header start [] = Unit {0}
+AreSegments header start (segment ∷ segments) =
+    MayStand header start segment segments × AreSegments header (start_at_end start (lines_of_segment segment)) segments
 
--- the parts of a body may stand where it begins: every CPU is online, and has changed nothing
-abbrev pub PartsMayStand : Type 0
-PartsMayStand = (header : Header) (n : ℕ) (texts : List (List ℕ)) → IsHeader header
-    → AreParts header first_start (contents_of header n texts).parts
+-- the segments of a body may stand where it begins: every CPU is online, and has changed nothing
+abbrev pub SegmentsMayStand : Type 0
+SegmentsMayStand = (header : Header) (n : ℕ) (texts : List (List ℕ)) → IsHeader header
+    → AreSegments header first_start (contents_of header n texts).segments
 
 -- their lines are the lines that count
-abbrev pub PartsHaveAllLines : Type 0
-PartsHaveAllLines = (header : Header) (n : ℕ) (texts : List (List ℕ))
-    → reverse (lines_of_parts (contents_of header n texts).parts) ≡ counted_of header [] texts
+abbrev pub SegmentsHaveAllLines : Type 0
+SegmentsHaveAllLines = (header : Header) (n : ℕ) (texts : List (List ℕ))
+    → reverse (lines_of_segments (contents_of header n texts).segments) ≡ counted_of header [] texts
 
--- a boundary line cuts: the lines before it and those after it have their parts whatever the others are
+-- a boundary line cuts: the lines before it and those after it have their segments whatever the others are
 abbrev pub BoundariesCut : Type 0
 BoundariesCut = (before after : List NumberedLine) (n : ℕ) (boundary : BoundaryOf)
-    → parts_of (before ++ record { number = n; result = Ok (Boundary boundary) } ∷ after)
-    ≡ parts_of before ++ Between n boundary ∷ parts_of after
+    → segments_of (before ++ record { number = n; result = Ok (Boundary boundary) } ∷ after)
+    ≡ segments_of before ++ Between n boundary ∷ segments_of after
 
 -- lines of which none is a boundary line that counts
 abbrev pub HaveNoBoundary : List NumberedLine → Type 0
@@ -136,10 +137,11 @@ kept_of [] = []
 kept_of (line ∷ lines) = with_kept line.number line.result (kept_of lines)
 
 -- the phase with these lane lines, if there is one
-abbrev pub phase_if_any : List Item → List Part
+abbrev pub phase_if_any : List Item → List Segment
 phase_if_any [] = []
 phase_if_any (item ∷ items) = Phase (item ∷ items) ∷ []
 
 -- between boundary lines there is one phase, of all lane lines that count, or none
 abbrev pub LinesMakeOnePhase : Type 0
-LinesMakeOnePhase = (lines : List NumberedLine) → HaveNoBoundary lines → parts_of lines ≡ phase_if_any (kept_of lines)
+LinesMakeOnePhase = (lines : List NumberedLine) → HaveNoBoundary lines
+    → segments_of lines ≡ phase_if_any (kept_of lines)
