@@ -11,7 +11,7 @@ use Rattle.vms_world.specs.Refreshes.{MayRefresh, count_online, place_threshold,
 use Rattle.vms_world.specs.Refreshes.{with_thresholds}
 use Rattle.vms_world.proofs.Answers.{count_online-least, count_online-most}
 use Rattle.vms_world.proofs.PlaceThresholds.{AreThresholds}
-use Rattle.vms_world.proofs.RefreshedStates.{shaped-refreshed, threshold-most}
+use Rattle.vms_world.proofs.RefreshedStates.{shaped-refreshed, threshold_most}
 use Rattle.vms_hotplug.specs.Settings.{MayMark}
 
 -- the thresholds by CPU and place where online CPUs got those of these zones
@@ -60,7 +60,7 @@ module _ (header : Header) (layout : IsLayout header.layout) (s : State) (unrate
           mark_sets = unrated.shaped.mark_sets;
         };
         diffs = unrated.diffs;
-        thresholds = threshold-most header layout one_size_each sizes zones are s unrated;
+        thresholds = threshold_most header layout one_size_each sizes zones are s unrated;
       };
       one_size_each = one_size_each;
       sizes = sizes;

@@ -61,8 +61,8 @@ module _ (header : Header) (valid : IsHeader header) (zones : List ℕ) (are : A
       ∙ ap (λ x. if is_online x then place_threshold layout zones g else threshold_at bare c g)
       (online-bare header valid c c_in)
 
-  zone-read : (c g : ℕ) → IsCpu layout c → IsZone layout g → threshold_at s c g ≡ get_or zones g 0
-  zone-read c g c_in g_in =
+  read-zone : (c g : ℕ) → IsCpu layout c → IsZone layout g → threshold_at s c g ≡ get_or zones g 0
+  read-zone c g c_in g_in =
       let is_zone : nat_lt g (length layout.zones) ≡ true = grind (arith, nat_tests) in
       threshold-read c g c_in (omega arith)
       ∙ ap (λ (b : Bool). if b then get_or zones g 0
@@ -82,11 +82,11 @@ module _ (header : Header) (valid : IsHeader header) (zones : List ℕ) (are : A
       ap (λ x. if_present x (opening_peak layout s c g)) (online-bare header valid c c_in)
       ∙ (let nothing = largest_below-most (λ n. unsigned_abs (diff_at s c (counter_at layout g n))) layout.positions 0
       (λ n below. rw (diff-bare header valid c (counter_at layout g n)) (omega arith)) in
-      omega (arith, nothing, zone-read c g c_in g_in))
+      omega (arith, nothing, read-zone c g c_in g_in))
 
-  mark-read : (g : ℕ) → IsZone layout g
+  read-mark : (g : ℕ) → IsZone layout g
       → mark_at s g ≡ opening_mark (size_at header.sizes g) layout.cpus (get_or zones g 0)
-  mark-read g g_in =
+  read-mark g g_in =
       mark-refreshed header valid.is_layout valid.sizes_length valid.sizes_valid zones are bare
       (MayRefresh-bare header valid) g g_in
       ∙ ap (λ (n : ℕ). cover_mark_of (size_at header.sizes g) (linux_mark_of (size_at header.sizes g) n
@@ -103,9 +103,9 @@ module _ (header : Header) (valid : IsHeader header) (zones : List ℕ) (are : A
     values = λ k known. refl;
     systems = system-bare header valid;
     diffs = λ c k c_in k_in. diff-bare header valid c k;
-    zones = zone-read;
+    zones = read-zone;
     nodes = node-read;
-    marks = mark-read;
+    marks = read-mark;
     online = online-bare header valid;
     unacknowledged = λ c g c_in g_in. get_or-copies {X = Option ℕ} (layout.cpus * length layout.zones) _ None;
     unset_thresholds = λ c g c_in g_in. get_or-copies {X = ℕ} (layout.cpus * place_count layout) _ 0;

@@ -49,12 +49,12 @@ module _ (header : Header) (w : World) (hs : Histories) (of : IsWorldOf header w
   abbrev next : World
   next = left_by header w hs
 
-  page-base : pages.IsBase (page_facts header next)
-  page-base = IsBase-ended (page_facts header w) hs.pages complete.pages (page_volume header w) of.pages_within
+  pages-begin : pages.IsBase (page_facts header next)
+  pages-begin = IsBase-ended (page_facts header w) hs.pages complete.pages (page_volume header w) of.pages_within
       volumes.pages
 
-  page-totals : IsWithinVolumes layout (page_volume header next) next.pages
-  page-totals =
+  pages-within_totals : IsWithinVolumes layout (page_volume header next) next.pages
+  pages-within_totals =
       let within = within-volumes (page_facts header w) hs.pages complete.pages (page_volume header w) of.pages_within
       volumes.pages in
       record {
@@ -80,12 +80,12 @@ module _ (header : Header) (w : World) (hs : Histories) (of : IsWorldOf header w
       (event_ends.spent_by_now (event_volume w) hs.events)
   event-ends = begins-paid (event_facts header w) hs.events complete.events 0 (event_volume w) event-paid volumes.events
 
-  event-base : events.IsBase (event_facts header next)
-  event-base = record {
+  events-begin : events.IsBase (event_facts header next)
+  events-begin = record {
     layout = of.event_base.layout;
-    one_state_each = page-base.opening.shaped.cpu;
+    one_state_each = pages-begin.opening.shaped.cpu;
     shaped = event-ends.0.base.shaped;
-    some_online = page-base.opening.some_online;
+    some_online = pages-begin.opening.some_online;
     absent = λ c k c_in gone k_in. nothing.events c k c_in gone k_in;
     sums = event-ends.0.base.sums;
   }
@@ -115,15 +115,15 @@ module _ (header : Header) (w : World) (hs : Histories) (of : IsWorldOf header w
   pcpu-ends = (volumes-begin_again (pcpu_facts header w) hs.counters (pcpu_volume header w) complete.counters pcpu-paid
       volumes.counters).0
 
-  pcpu-base : percpu.IsBase (pcpu_facts header next)
-  pcpu-base = record {
+  counters-begin : percpu.IsBase (pcpu_facts header next)
+  counters-begin = record {
     layout = of.pcpu_base.layout;
     lengths = record {
-      one_state_each = page-base.opening.shaped.cpu;
+      one_state_each = pages-begin.opening.shaped.cpu;
       one_count_each = pcpu-ends.base.lengths.one_count_each;
       one_local_each = pcpu-ends.base.lengths.one_local_each;
     };
-    some_online = page-base.opening.some_online;
+    some_online = pages-begin.opening.some_online;
     counters = λ j j_in.
         let was = pcpu-ends.base.counters j j_in in
         record { batch_least = was.batch_least; batch_most = was.batch_most; count = was.count };
@@ -151,9 +151,9 @@ module _ (header : Header) (w : World) (hs : Histories) (of : IsWorldOf header w
 
   pub IsWorldOf-left_by : IsWorldOf header next
   IsWorldOf-left_by = record {
-    page_base = page-base;
-    event_base = event-base;
-    pcpu_base = pcpu-base;
+    page_base = pages-begin;
+    event_base = events-begin;
+    pcpu_base = counters-begin;
     batches = pcpu-ends.batches ∙ of.batches;
     page_volumes = AreVolumes-by_cpu layout (counter_count layout) (grown (page_volume header w) hs.pages)
         volumes.pages;
@@ -162,7 +162,7 @@ module _ (header : Header) (w : World) (hs : Histories) (of : IsWorldOf header w
     pcpu_volumes = AreVolumes-by_cpu layout (length header.counters)
         (pcpu_ends.spent_by_now (pcpu_volume header w) hs.counters)
         (λ c j c_in j_in. volumes.counters c c_in j (omega (arith, decls-long)));
-    pages_within = page-totals;
+    pages_within = pages-within_totals;
     events_within = event-totals;
     pcpu_within = pcpu-totals;
   }

@@ -30,8 +30,8 @@ module _ (shape : Shape) (layout : IsLayout shape) (zones : List ℕ) (are : Are
   of_node-least node z known true is same = are.least z known
   of_node-least node z known false is same = absurd (grind (arith, nat_tests))
 
-  node-most : (node : ℕ) → largest_on shape zones node ≤ most_threshold
-  node-most node = largest_below-most (of_node node) (length shape.zones) most_threshold
+  node_zones-most : (node : ℕ) → largest_on shape zones node ≤ most_threshold
+  node_zones-most node = largest_below-most (of_node node) (length shape.zones) most_threshold
       (λ z known. of_node-most z known (nat_eq (node_of_zone shape z) node))
 
   -- a node has a zone
@@ -59,7 +59,7 @@ module _ (shape : Shape) (layout : IsLayout shape) (zones : List ℕ) (are : Are
           → (if b then get_or zones g 0
           else largest_on shape zones (get_or shape.nodes (g - length shape.zones) 0)) ≤ most_threshold
       by true zone = are.most g (grind (arith, nat_tests))
-      by false node = node-most (get_or shape.nodes (g - length shape.zones) 0)
+      by false node = node_zones-most (get_or shape.nodes (g - length shape.zones) 0)
 
   pub place_threshold-least : (g : ℕ) → IsPlace shape g → 1 ≤ place_threshold shape zones g
   place_threshold-least g g_in = by (nat_lt g (length shape.zones)) refl

@@ -89,8 +89,8 @@ module _ (header : Header) (is_layout : IsLayout header.layout)
   pub mark-refreshed : (g : ℕ) → IsZone layout g → mark_at next g ≡ zone_mark header zones rated g
   mark-refreshed g g_in = get_or-listed (zone_mark header zones rated) (length layout.zones) g 0 g_in
 
-  pub threshold-most : (c g : ℕ) → IsCpu layout c → IsPlace layout g → threshold_at next c g ≤ most_threshold
-  threshold-most c g c_in g_in =
+  pub threshold_most : (c g : ℕ) → IsCpu layout c → IsPlace layout g → threshold_at next c g ≤ most_threshold
+  threshold_most c g c_in g_in =
       rw (threshold-refreshed c g c_in g_in) (by (is_online (cpu_at s c)))
     where
       by : (b : Bool) → (if b then place_threshold layout zones g else threshold_at s c g) ≤ most_threshold
@@ -104,7 +104,7 @@ module _ (header : Header) (is_layout : IsLayout header.layout)
   peak-most : (c g : ℕ) → IsCpu layout c → IsZone layout g → opening_peak layout next c g ≤ most_threshold
   peak-most c g c_in g_in = omega (
     arith,
-    threshold-most c g c_in (omega arith),
+    threshold_most c g c_in (omega arith),
     largest_below-most (λ n. unsigned_abs (diff_at s c (counter_at layout g n))) layout.positions most_threshold
         (λ n n_in. unrated.diffs c (counter_at layout g n) c_in
         (counter_at-known layout is_layout g n (omega arith) n_in)),
@@ -150,7 +150,7 @@ module _ (header : Header) (is_layout : IsLayout header.layout)
       systems = unrated.systems;
       diffs = unrated.diffs;
       absent = unrated.absent;
-      thresholds = threshold-most;
+      thresholds = threshold_most;
       online = threshold-least;
       marks = mark-most;
       unacknowledged = λ c g c_in g_in.

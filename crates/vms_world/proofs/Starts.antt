@@ -118,10 +118,10 @@ module _ (header : Header) (valid : IsHeader header) where
   batches-long : length (map (λ decl. decl.batch) header.counters) ≡ decls
   batches-long = length-map header.counters (λ decl. decl.batch)
 
-  batch-range : (j : ℕ) → j < length (map (λ decl. decl.batch) header.counters)
+  batch-bounds : (j : ℕ) → j < length (map (λ decl. decl.batch) header.counters)
       → (1 ≤ get_or (map (λ decl. decl.batch) header.counters) j 0)
       × (get_or (map (λ decl. decl.batch) header.counters) j 0 ≤ 65536)
-  batch-range j j_in =
+  batch-bounds j j_in =
       let inside : j < decls = omega (arith, batches-long) in
       let known = All-get_or IsValidDecl header.counters j no_decl inside valid.counters_valid in
       rw (get_or-map (λ (decl : Decl). decl.batch) header.counters j no_decl 0 inside)
@@ -172,8 +172,8 @@ module _ (header : Header) (valid : IsHeader header) where
       };
       some_online = (0, first_cpu, online-bare 0 first_cpu);
       counters = λ j j_in. record {
-        batch_least = (batch-range j j_in).0;
-        batch_most = (batch-range j j_in).1;
+        batch_least = (batch-bounds j j_in).0;
+        batch_most = (batch-bounds j j_in).1;
         count = rw (count-zero j) (omega arith);
       };
       locals = λ c c_in j j_in. record {
