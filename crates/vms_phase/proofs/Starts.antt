@@ -84,9 +84,9 @@ module _ (header : Header) (valid : IsHeader header) (zones : List ℕ) (are : A
       (λ n below. rw (diff-bare header valid c (counter_at layout g n)) (omega arith)) in
       omega (arith, nothing, read-zone c g c_in g_in))
 
-  read-mark : (g : ℕ) → IsZone layout g
+  mark_of_zone-first : (g : ℕ) → IsZone layout g
       → mark_at s g ≡ opening_mark (size_at header.sizes g) layout.cpus (get_or zones g 0)
-  read-mark g g_in =
+  mark_of_zone-first g g_in =
       mark-refreshed header valid.is_layout valid.sizes_length valid.sizes_valid zones are bare
       (MayRefresh-bare header valid) g g_in
       ∙ ap (λ (n : ℕ). cover_mark_of (size_at header.sizes g) (linux_mark_of (size_at header.sizes g) n
@@ -105,7 +105,7 @@ module _ (header : Header) (valid : IsHeader header) (zones : List ℕ) (are : A
     diffs = λ c k c_in k_in. diff-bare header valid c k;
     zones = read-zone;
     nodes = node-read;
-    marks = read-mark;
+    marks = mark_of_zone-first;
     online = online-bare header valid;
     unacknowledged = λ c g c_in g_in. get_or-copies {X = Option ℕ} (layout.cpus * length layout.zones) _ None;
     unset_thresholds = λ c g c_in g_in. get_or-copies {X = ℕ} (layout.cpus * place_count layout) _ 0;
