@@ -3,8 +3,8 @@
 
 mod causes;
 mod drafts;
+mod headers;
 mod layouts;
-mod making;
 mod parsing;
 mod reader;
 mod reading_back;

@@ -1,5 +1,5 @@
 use crate::drafts::{HeadStep, Stage};
-use crate::making::make_header;
+use crate::headers::make_header;
 use crate::stages::stage_line;
 use crate::{HeaderCause, ReadError};
 use std::alloc::Global;

@@ -12,7 +12,7 @@ use Rattle.vms_core.specs.declared.states.State.{State}
 use Rattle.vms_core.specs.Cells.{HasShape, cpu_at, diff_at, system_at, value_at}
 use Rattle.vms_world.specs.Boundaries.{folded_at, folded_of, folded_of_item, flushed_pages}
 use Rattle.vms_world.proofs.Flushes.{if-sum}
-use Rattle.vms_world.proofs.ListedReads.{is_by_cpu, is_listed}
+use Rattle.vms_world.proofs.ListedReads.{is_listed_by_cpu, is_listed}
 use Rattle.vms_hotplug.specs.Folding.{FoldsCpu, HasRoom}
 use Rattle.vms_hotplug.proofs.Folds.{parts-most}
 
@@ -190,7 +190,7 @@ module _ (shape : Shape) (s : State) where
       all.room.shaped.place all.values in
       let systems = is_listed (λ i. system_at s i +ℤ folded_of_item shape s i) (item_count shape) now.system (pos 0)
       all.room.shaped.system all.systems in
-      let diffs = is_by_cpu (λ c k. if is_online (cpu_at s c) then pos 0 else diff_at s c k) shape.cpus
+      let diffs = is_listed_by_cpu (λ c k. if is_online (cpu_at s c) then pos 0 else diff_at s c k) shape.cpus
       (counter_count shape) now.diff (pos 0) all.room.shaped.diff diff-read in
       all.rest ∙ rw (places, systems, diffs) refl
     where

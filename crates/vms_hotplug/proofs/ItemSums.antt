@@ -9,7 +9,7 @@ use Rattle.vms_base.specs.declared.headers.Header.{Header}
 use Rattle.vms_base.specs.Places.{IsLayout, item_of, item_count}
 use Rattle.vms_base.proofs.Counts.{item_of-lt}
 use Rattle.vms_history.specs.Sums.{sum_below}
-use Rattle.vms_world.specs.Starts.{base_of}
+use Rattle.vms_world.specs.FirstWorlds.{base_of}
 
 -- each item has the bases of its counters below n
 pub record HasBases (header : Header) (n : ℕ) (values : List ℤ) : Type 0 where

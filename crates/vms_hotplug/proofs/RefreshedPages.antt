@@ -6,7 +6,7 @@ use Rattle.vms_base.specs.Places.{Shape, IsLayout, cell, place_count}
 use Rattle.vms_base.specs.Sizes.{IsValidSize}
 use Rattle.vms_core.specs.declared.states.State.{State}
 use Rattle.vms_core.proofs.PlainData.{places_of-shaped}
-use Rattle.vms_world.specs.Listed.{by_cpu}
+use Rattle.vms_world.specs.Listed.{listed_by_cpu}
 use Rattle.vms_world.specs.Refreshes.{MayRefresh, count_online, place_threshold, refreshed, with_marks}
 use Rattle.vms_world.specs.Refreshes.{with_thresholds}
 use Rattle.vms_world.proofs.Answers.{count_online-least, count_online-most}
@@ -16,7 +16,7 @@ use Rattle.vms_hotplug.specs.Settings.{MayMark}
 
 -- the thresholds by CPU and place where online CPUs got those of these zones
 abbrev pub rows_of : Shape → State → List ℕ → List ℕ
-rows_of shape s zones = by_cpu (λ c g. if is_online (state_at s.cpu c)
+rows_of shape s zones = listed_by_cpu (λ c g. if is_online (state_at s.cpu c)
     then place_threshold shape zones g
     else get_or s.threshold (cell (place_count shape) c g) 0) shape.cpus (place_count shape)
 
@@ -27,7 +27,7 @@ module _ (header : Header) (layout : IsLayout header.layout) (s : State) (unrate
 
   -- the thresholds with rows of this width
   abbrev set_in_rows : ℕ → List ℕ
-  set_in_rows width = by_cpu (λ c g. if is_online (state_at s.cpu c)
+  set_in_rows width = listed_by_cpu (λ c g. if is_online (state_at s.cpu c)
       then place_threshold shape zones g
       else get_or s.threshold (cell width c g) 0) shape.cpus (place_count shape)
 

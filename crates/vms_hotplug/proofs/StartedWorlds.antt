@@ -9,9 +9,9 @@ use Rattle.vms_base.specs.Thresholds.{GivesThresholds}
 use Rattle.vms_core.specs.declared.states.State.{State}
 use Rattle.vms_world.specs.declared.worlds.World.{World}
 use Rattle.vms_world.specs.Refreshes.{AreAnswers, MayRefresh, count_online, refreshed}
-use Rattle.vms_world.specs.Starts.{bare_pages, started, with_nothing_counted}
+use Rattle.vms_world.specs.FirstWorlds.{bare_pages, started, with_nothing_counted}
 use Rattle.vms_world.specs.Worlds.{IsWorldOf}
-use Rattle.vms_world.proofs.Starts.{IsWorldOf-start, MayRefresh-bare, count_online-replicate}
+use Rattle.vms_world.proofs.FirstWorlds.{IsWorldOf-start, MayRefresh-bare, count_online-replicate}
 
 -- what holds of a world holds of a result that is this world
 IfOk-is : (P : World → Type 0) (w : World) → P w → (result : Result World Memory) → IfOk result (λ x. x ≡ w)

@@ -5,7 +5,7 @@ ghost use Rattle.vms_base.specs.Sizes.{IsValidSize, size_at};
 ghost use Rattle.vms_base.specs.Thresholds.{most_threshold};
 ghost use Rattle.vms_core.specs.Peaks.{opening_peak as opening_peak_of};
 ghost use Rattle.vms_calls.specs.Ratings.{largest_on};
-ghost use Rattle.vms_world.specs.Listed.{by_cpu};
+ghost use Rattle.vms_world.specs.Listed.{listed_by_cpu};
 ghost use Rattle.vms_world.specs.Refreshes.{count_online, hidden_in, place_threshold as place_threshold_of};
 ghost use Rattle.vms_world.specs.Refreshes.{with_marks, zone_mark as zone_mark_of};
 ghost use Rattle.vms_hotplug.specs.Settings.{HasPeaks, MayMark, SetsPlace};
@@ -77,7 +77,7 @@ pub(crate) fn set_thresholds(
     requires zones { length zones.now ≡ length layout.now.zones }
     requires states { length states.now ≡ layout.now.cpus }
     requires thresholds { length thresholds.old ≡ layout.now.cpus * place_count layout.now }
-    ensures { thresholds.new ≡ by_cpu (λ c g. if tells_online (state_at states.now c)
+    ensures { thresholds.new ≡ listed_by_cpu (λ c g. if tells_online (state_at states.now c)
         then place_threshold_of layout.now zones.now g
         else slice_index_or thresholds.old (cell (place_count layout.now) c g) 0)
         layout.now.cpus (place_count layout.now) }

@@ -1,7 +1,7 @@
 ghost use Rattle.std.specs.Prelude.{◌≡◌, ◌≤◌, ℕ, List, length, map, IfOk};
 ghost use Rattle.vms_base.specs.Headers.{IsHeader};
 ghost use Rattle.vms_world.specs.Refreshes.{AreAnswers};
-ghost use Rattle.vms_world.specs.Starts.{bare_pages as bare_pages_of, started, with_nothing_counted};
+ghost use Rattle.vms_world.specs.FirstWorlds.{bare_pages as bare_pages_of, started, with_nothing_counted};
 ghost use Rattle.vms_world.specs.Worlds.{IsWorldOf};
 
 use crate::refreshing::refresh;

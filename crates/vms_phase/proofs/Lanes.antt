@@ -10,7 +10,8 @@ use Rattle.vms_base.specs.Places.{IsCpu}
 use Rattle.vms_core.specs.declared.steps.Facts.{Facts}
 use Rattle.vms_core.specs.Cells.{cpu_at}
 use Rattle.vms_core.specs.Pages.{MayOwn}
-use Rattle.vms_world.specs.Lanes.{same_lane, is_among, has_line, lanes_below, lanes_of, owner_of}
+use Rattle.vms_script.specs.PhaseScripts.{is_lane}
+use Rattle.vms_world.specs.Lanes.{is_among, has_line, lanes_below, lanes_of, owner_of}
 use Rattle.vms_phase.specs.OpenPhases.{MayOpen, IsOfOnline}
 use Rattle.vms_text.specs.declared.acts.Item.{Item}
 use Rattle.vms_text.specs.declared.acts.Lane.{Lane}
@@ -21,38 +22,38 @@ lane_at n = Cpu (record { number = n })
 
 is_among-append : (lane : Lane) (xs ys : List Lane) → is_among lane (xs ++ ys) ≡ (is_among lane xs || is_among lane ys)
 is_among-append lane [] ys = refl
-is_among-append lane (x ∷ xs) ys = ap (λ b. same_lane x lane || b) (is_among-append lane xs ys) ∙ by (same_lane x lane)
+is_among-append lane (x ∷ xs) ys = ap (λ b. is_lane x lane || b) (is_among-append lane xs ys) ∙ by (is_lane x lane)
   where
     by : (b : Bool) → (b || (is_among lane xs || is_among lane ys)) ≡ ((b || is_among lane xs) || is_among lane ys)
     by true = refl
     by false = refl
 
-same_lane-sym : (l m : Lane) → same_lane l m ≡ same_lane m l
-same_lane-sym (Cpu c) (Cpu d) = by (nat_eq c.number d.number) (nat_eq d.number c.number) refl refl
+is_lane-sym : (l m : Lane) → is_lane l m ≡ is_lane m l
+is_lane-sym (Cpu c) (Cpu d) = by (nat_eq c.number d.number) (nat_eq d.number c.number) refl refl
   where
     by : (a b : Bool) → nat_eq c.number d.number ≡ a → nat_eq d.number c.number ≡ b → a ≡ b
     by true true left right = refl
     by false false left right = refl
     by true false left right = absurd (grind (arith, nat_tests))
     by false true left right = absurd (grind (arith, nat_tests))
-same_lane-sym (Cpu c) Control = refl
-same_lane-sym Control (Cpu d) = refl
-same_lane-sym Control Control = refl
+is_lane-sym (Cpu c) Control = refl
+is_lane-sym Control (Cpu d) = refl
+is_lane-sym Control Control = refl
 
 -- one lane more
 MayOpen-more : (facts : Facts) (xs : List Lane) (x : Lane) → MayOpen facts xs → MayOwn facts (owner_of x)
     → is_among x xs ≡ false → MayOpen facts (xs ++ x ∷ [])
 MayOpen-more facts [] x may owns once = (owns, refl, tt)
 MayOpen-more facts (l ∷ xs) x may owns once =
-    by (same_lane l x) refl once (MayOpen-more facts xs x may.2 owns)
+    by (is_lane l x) refl once (MayOpen-more facts xs x may.2 owns)
   where
-    by : (b : Bool) → same_lane l x ≡ b → (b || is_among x xs) ≡ false
+    by : (b : Bool) → is_lane l x ≡ b → (b || is_among x xs) ≡ false
         → (is_among x xs ≡ false → MayOpen facts (xs ++ x ∷ [])) → MayOpen facts (l ∷ (xs ++ x ∷ []))
     by true same either rest = absurd cc
     by false same either rest = (
       may.0,
-      is_among-append l xs (x ∷ []) ∙ ap (λ b. b || (same_lane x l || false)) may.1
-          ∙ ap (λ b. b || false) (sym (same_lane-sym l x) ∙ same),
+      is_among-append l xs (x ∷ []) ∙ ap (λ b. b || (is_lane x l || false)) may.1
+          ∙ ap (λ b. b || false) (sym (is_lane-sym l x) ∙ same),
       rest either,
     )
 
@@ -96,16 +97,16 @@ module _ (facts : Facts) where
       → MayOwn facts (owner_of (lane_at c))
   online-line c [] all has = absurd cc
   online-line c (item ∷ items) all has =
-      by (same_lane item.lane (lane_at c)) refl has (online-line c items (All-tail (IsOfOnline facts) item items all))
+      by (is_lane item.lane (lane_at c)) refl has (online-line c items (All-tail (IsOfOnline facts) item items all))
     where
       first : IsOfOnline facts item
       first = all 0 item (omega arith)
 
-      by : (b : Bool) → same_lane item.lane (lane_at c) ≡ b → (b || has_line (lane_at c) items) ≡ true
+      by : (b : Bool) → is_lane item.lane (lane_at c) ≡ b → (b || has_line (lane_at c) items) ≡ true
           → (has_line (lane_at c) items ≡ true → MayOwn facts (owner_of (lane_at c)))
           → MayOwn facts (owner_of (lane_at c))
       by true same either rest =
-          let mine : nat_eq first.cpu.number c ≡ true = subst (λ (l : Lane). same_lane l
+          let mine : nat_eq first.cpu.number c ≡ true = subst (λ (l : Lane). is_lane l
           (lane_at c) ≡ true) first.lane same in
           let is : first.cpu.number ≡ c = grind (arith, nat_tests) in
           (subst (IsCpu facts.layout) is first.known, subst (λ (n : ℕ). cpu_at facts.base n ≡ Online) is first.online)
@@ -124,7 +125,7 @@ module _ (facts : Facts) where
   no_control : (items : List Item) → All (IsOfOnline facts) items → has_line Control items ≡ false
   no_control [] all = refl
   no_control (item ∷ items) all =
-      ap (λ l. same_lane l Control || has_line Control items) first.lane
+      ap (λ l. is_lane l Control || has_line Control items) first.lane
       ∙ no_control items (All-tail (IsOfOnline facts) item items all)
     where
       first : IsOfOnline facts item
@@ -149,8 +150,8 @@ module _ (facts : Facts) where
       (subst (λ (l : Lane). is_among l (lanes_below facts.layout.cpus more) ≡ true) (sym first.lane)
       (below-all facts.layout.cpus first.cpu.number more first.known (has first.cpu.number here)))
       (lines-among more items (All-tail (IsOfOnline facts) item items all)
-      (λ c later. has c (ap (λ b. same_lane item.lane (lane_at c) || b) later
-      ∙ or_true (same_lane item.lane (lane_at c)))))
+      (λ c later. has c (ap (λ b. is_lane item.lane (lane_at c) || b) later
+      ∙ or_true (is_lane item.lane (lane_at c)))))
     where
       first : IsOfOnline facts item
       first = all 0 item (omega arith)
@@ -162,7 +163,7 @@ module _ (facts : Facts) where
       here : has_line (lane_at first.cpu.number) (item ∷ items) ≡ true
       here =
           let mine : nat_eq first.cpu.number first.cpu.number ≡ true = grind (arith, nat_tests) in
-          ap (λ l. same_lane l (lane_at first.cpu.number) || has_line (lane_at first.cpu.number) items) first.lane
+          ap (λ l. is_lane l (lane_at first.cpu.number) || has_line (lane_at first.cpu.number) items) first.lane
           ∙ ap (λ b. b || has_line (lane_at first.cpu.number) items) mine
 
   pub among-lanes : (items : List Item) → All (IsOfOnline facts) items

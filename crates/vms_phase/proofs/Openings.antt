@@ -14,7 +14,8 @@ use Rattle.vms_core.specs.Steps.{role, effect}
 use Rattle.vms_core.specs.Totals.{spent, spent_by}
 use Rattle.vms_phase.specs.OpenPhases.{MayOpen}
 use Rattle.vms_phase.specs.FileOrder.{splits_from, pass_of}
-use Rattle.vms_world.specs.Lanes.{same_lane, is_among, owner_of}
+use Rattle.vms_script.specs.PhaseScripts.{is_lane}
+use Rattle.vms_world.specs.Lanes.{is_among, owner_of}
 use Rattle.vms_text.specs.declared.acts.Lane.{Lane}
 use Rattle.vms_text.specs.declared.acts.Lane.TheVariants.{Cpu, Control}
 
@@ -25,7 +26,7 @@ owner_of-injective (Cpu c) Control same = absurd cc
 owner_of-injective Control (Cpu d) same = absurd cc
 owner_of-injective Control Control same = refl
 
-owner_of-same : (l m : Lane) → same_lane l m ≡ true → owner_of l ≡ owner_of m
+owner_of-same : (l m : Lane) → is_lane l m ≡ true → owner_of l ≡ owner_of m
 owner_of-same (Cpu c) (Cpu d) same = let numbers : c.number ≡ d.number = grind (arith, nat_tests) in
     ap (λ n. let who : Option CpuId = Some (record { number = n }) in who) numbers
 owner_of-same (Cpu c) Control same = absurd cc
@@ -52,13 +53,13 @@ lives-before m (l ∷ ls) g q below =
 pub owner-lane : (m : ℕ) (ls : List Lane) (g : History) (lane : Lane) → is_among lane ls ≡ true
     → owner role (after 0 (splits_from (suc m) ls) g) (m + pass_of ls lane) ≡ owner_of lane
 owner-lane m [] g lane among = absurd cc
-owner-lane m (l ∷ ls) g lane among = by (same_lane l lane) refl among
+owner-lane m (l ∷ ls) g lane among = by (is_lane l lane) refl among
     (owner-lane (suc m) ls (record { caller = 0; step = Split (suc m) (owner_of l) } ∷ g) lane)
   where
     e : History
     e = record { caller = 0; step = Split (suc m) (owner_of l) } ∷ g
 
-    by : (b : Bool) → same_lane l lane ≡ b → (b || is_among lane ls) ≡ true
+    by : (b : Bool) → is_lane l lane ≡ b → (b || is_among lane ls) ≡ true
         → (is_among lane ls ≡ true
         → owner role (after 0 (splits_from (suc (suc m)) ls) e) (suc m + pass_of ls lane) ≡ owner_of lane)
         → owner role (after 0 (splits_from (suc (suc m)) ls) e) (m + (if b then 1 else suc
@@ -89,7 +90,7 @@ lives-lane m (l ∷ ls) g q least below = by (nat_eq m q) refl
 
 pub pass_of-least : (ls : List Lane) (lane : Lane) → is_among lane ls ≡ true → 1 ≤ pass_of ls lane
 pass_of-least [] lane among = absurd cc
-pass_of-least (l ∷ ls) lane among = by (same_lane l lane)
+pass_of-least (l ∷ ls) lane among = by (is_lane l lane)
   where
     by : (b : Bool) → 1 ≤ (if b then 1 else suc (pass_of ls lane))
     by true = omega arith
@@ -97,7 +98,7 @@ pass_of-least (l ∷ ls) lane among = by (same_lane l lane)
 
 pub pass_of-most : (ls : List Lane) (lane : Lane) → is_among lane ls ≡ true → pass_of ls lane ≤ length ls
 pass_of-most [] lane among = absurd cc
-pass_of-most (l ∷ ls) lane among = by (same_lane l lane) among (pass_of-most ls lane)
+pass_of-most (l ∷ ls) lane among = by (is_lane l lane) among (pass_of-most ls lane)
   where
     by : (b : Bool) → (b || is_among lane ls) ≡ true → (is_among lane ls ≡ true → pass_of ls lane ≤ length ls)
         → (if b then 1 else suc (pass_of ls lane)) ≤ suc (length ls)
@@ -148,7 +149,7 @@ IsLegal-splits facts m (l ∷ ls) g may legal mine count free =
     (legal, (refl, ap suc (sym (ap (begun role) mine ∙ count)), may.0, free_here), tt)
     (ap (λ es. record { caller = 0; step = Split (suc m) (owner_of l) } ∷ es) mine) (ap suc count) free_there
   where
-    same-self : (a : Lane) → same_lane a a ≡ true
+    same-self : (a : Lane) → is_lane a a ≡ true
     same-self (Cpu c) = grind (arith, nat_tests)
     same-self Control = refl
 
@@ -171,5 +172,5 @@ IsLegal-splits facts m (l ∷ ls) g may legal mine count free =
             let one : is_among l ls ≡ true = subst (λ (x : Lane). is_among x ls ≡ true) (sym
             (owner_of-injective l a owns)) among in
             let both : true ≡ false = sym one ∙ may.1 in absurd cc
-        by false lives_there owns = free a (ap (λ b. same_lane l a || b) among
-            ∙ or_true (same_lane l a)) q lives_there owns
+        by false lives_there owns = free a (ap (λ b. is_lane l a || b) among
+            ∙ or_true (is_lane l a)) q lives_there owns

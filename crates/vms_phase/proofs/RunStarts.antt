@@ -12,7 +12,7 @@ use Rattle.vms_core.specs.Cells.{value_at, diff_at}
 use Rattle.vms_phase.specs.OpenPhases.{IsOfOnline}
 use Rattle.vms_phase.specs.Runs.{IsRun}
 use Rattle.vms_phase.specs.Worlds.{IsStart, normal_rule}
-use Rattle.vms_world.specs.Starts.{base_of}
+use Rattle.vms_world.specs.FirstWorlds.{base_of}
 use Rattle.vms_calls.specs.HeaderFacts.{facts_of}
 use Rattle.vms_phase.proofs.LineHistories.{IsOpen-none}
 use Rattle.vms_phase.proofs.RunChanges.{HasSettings-same}

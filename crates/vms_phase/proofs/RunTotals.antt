@@ -13,7 +13,7 @@ use Rattle.vms_base.specs.Headers.{IsHeader}
 use Rattle.vms_base.specs.Places.{IsCpu, IsCounter}
 use Rattle.vms_phase.specs.OpenPhases.{IsDelta, act_of, change_item, volume}
 use Rattle.vms_phase.proofs.CounterTotals.{changes_by-append}
-use Rattle.vms_world.proofs.Starts.{base_of-most}
+use Rattle.vms_world.proofs.FirstWorlds.{base_of-most}
 use Rattle.vms_phase.proofs.LineHistories.{volume-item}
 use Rattle.vms_script.specs.Totals.{ArePhases, change_by, changes_by_all, line_of, lines_of_phases, plain_total}
 use Rattle.vms_script.specs.Totals.{sizes_by_all}

@@ -22,11 +22,11 @@ use Rattle.vms_history.proofs.CountLemmas.{largest_below-most}
 use Rattle.vms_calls.specs.Ratings.{largest_on}
 use Rattle.vms_world.specs.declared.worlds.World.{World}
 use Rattle.vms_world.specs.Refreshes.{AreAnswers, hidden_in, place_threshold, with_thresholds}
-use Rattle.vms_world.specs.Starts.{bare_pages, started}
+use Rattle.vms_world.specs.FirstWorlds.{bare_pages, started}
 use Rattle.vms_world.proofs.Answers.{AreThresholds-answers}
 use Rattle.vms_world.proofs.PlaceThresholds.{AreThresholds}
 use Rattle.vms_world.proofs.RefreshedStates.{mark-refreshed, shaped-refreshed, threshold-refreshed}
-use Rattle.vms_world.proofs.Starts.{MayRefresh-bare, count_online-replicate, diff-bare, online-bare, system-bare}
+use Rattle.vms_world.proofs.FirstWorlds.{MayRefresh-bare, count_online-replicate, diff-bare, online-bare, system-bare}
 use Rattle.vms_phase.specs.Worlds.{IsStart, IsStartUnder, IsNormalRule, normal_rule, opening_mark}
 
 -- a sum of the same number

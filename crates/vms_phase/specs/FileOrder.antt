@@ -17,7 +17,8 @@ use Rattle.vms_text.specs.declared.acts.Act.TheVariants.{Mod, Inc, Dec}
 use Rattle.vms_text.specs.declared.acts.Item.{Item}
 use Rattle.vms_text.specs.declared.acts.Lane.{Lane}
 use Rattle.vms_text.specs.declared.acts.Lane.TheVariants.{Cpu}
-use Rattle.vms_world.specs.Lanes.{lanes_of, owner_of, same_lane}
+use Rattle.vms_script.specs.PhaseScripts.{is_lane}
+use Rattle.vms_world.specs.Lanes.{lanes_of, owner_of}
 
 -- the steps that begin a pass for each lane, the first under this number, and those that end them
 abbrev pub splits_from : ℕ → List Lane → List Step
@@ -35,7 +36,7 @@ opening_of lanes = after 0 (splits_from 1 lanes) []
 -- the number of the pass of a lane: 1 for the first of these lanes, 2 for the next
 abbrev pub pass_of : List Lane → Lane → ℕ
 pass_of [] lane = 0
-pass_of (l ∷ ls) lane = if same_lane l lane then 1 else suc (pass_of ls lane)
+pass_of (l ∷ ls) lane = if is_lane l lane then 1 else suc (pass_of ls lane)
 
 -- the steps of a line that meets no other caller
 abbrev pub Makes : Facts → Lane → Act → List Step → Type 0

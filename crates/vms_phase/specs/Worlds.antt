@@ -11,7 +11,7 @@ use Rattle.vms_core.specs.declared.states.State.{State}
 use Rattle.vms_calls.specs.Ratings.{largest_on}
 use Rattle.vms_core.specs.Cells.{HasShape, value_at, system_at, diff_at, threshold_at, threshold_sets_at, mark_at}
 use Rattle.vms_core.specs.Cells.{mark_sets_at, cpu_at, acknowledged_at}
-use Rattle.vms_world.specs.Starts.{base_of, base_of_item}
+use Rattle.vms_world.specs.FirstWorlds.{base_of, base_of_item}
 
 -- the kernel's normal rule, and a rule that answers as it does
 abbrev pub normal_rule : ZoneSize → ℕ → ℕ → Type 0

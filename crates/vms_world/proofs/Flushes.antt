@@ -28,7 +28,7 @@ use Rattle.vms_calls.specs.HeaderFacts.{facts_of}
 use Rattle.vms_world.specs.declared.worlds.World.{World}
 use Rattle.vms_world.specs.Boundaries.{folded_at, folded_of, folded_of_item, flushed_pages, flushed}
 use Rattle.vms_world.specs.Worlds.{IsWorldOf, page_volume}
-use Rattle.vms_world.proofs.ListedReads.{length-listed, get_or-listed, length-by_cpu, get_or-by_cpu}
+use Rattle.vms_world.proofs.ListedReads.{length-listed, get_or-listed, length-listed_by_cpu, get_or-listed_by_cpu}
 use Rattle.vms_world.proofs.PageParts.{IsWorldOf-pages}
 
 pub if-sum : (b : Bool) (x y : ℤ) → (if b then x +ℤ y else pos 0) ≡ (if b then x else pos 0) +ℤ (if b then y else pos 0)
@@ -55,7 +55,7 @@ module _ (shape : Shape) (layout : IsLayout shape) (s : State) (shaped : HasShap
       → diff_at next c k ≡ (if is_online (cpu_at s c) then pos 0 else diff_at s c k)
   diff-flushed c k c_in k_in =
       rw (length-listed (λ k. value_at s k +ℤ folded_of shape s k) (counter_count shape))
-      (get_or-by_cpu (λ c k. if is_online (cpu_at s c) then pos 0 else diff_at s c k) shape.cpus (counter_count shape)
+      (get_or-listed_by_cpu (λ c k. if is_online (cpu_at s c) then pos 0 else diff_at s c k) shape.cpus (counter_count shape)
       c k (pos 0) c_in k_in)
 
   -- each differential is folded or stays
@@ -189,7 +189,7 @@ module _ (header : Header) (w : World) (of : IsWorldOf header w) where
           shaped = record {
             place = length-listed (λ k. value_at w.pages k +ℤ folded_of layout w.pages k) (counter_count layout);
             system = length-listed (λ i. system_at w.pages i +ℤ folded_of_item layout w.pages i) (item_count layout);
-            diff = length-by_cpu (λ c k. if is_online (cpu_at w.pages c) then pos 0 else diff_at w.pages c k)
+            diff = length-listed_by_cpu (λ c k. if is_online (cpu_at w.pages c) then pos 0 else diff_at w.pages c k)
                 layout.cpus (counter_count layout);
             threshold = was.shaped.threshold;
             mark = was.shaped.mark;

@@ -8,7 +8,7 @@ use Rattle.std.proofs.lemmas.List.FromFn.{get_or-map-range_with_len, length-map-
 use Rattle.std.proofs.lemmas.Nat.{div_below, mod_below, div-add-mod'}
 use Rattle.vms_base.specs.Places.{cell}
 use Rattle.vms_base.proofs.Cells.{cell-lt, cell-cpu, cell-thing}
-use Rattle.vms_world.specs.Listed.{listed, by_cpu}
+use Rattle.vms_world.specs.Listed.{listed, listed_by_cpu}
 
 module _ {X : Type 0} (f : ℕ → X) (n : ℕ) where
   pub length-listed : length (listed f n) ≡ n
@@ -23,20 +23,20 @@ module _ {X : Type 0} (f : ℕ → X) (n : ℕ) where
       let inside : i < n = omega (arith, long) in each i inside ∙ sym (get_or-listed i d inside))
 
 module _ {X : Type 0} (f : ℕ → ℕ → X) (cpus width : ℕ) where
-  pub length-by_cpu : length (by_cpu f cpus width) ≡ cpus * width
-  length-by_cpu = length-listed (λ n. f (n / width) (n % width)) (cpus * width)
+  pub length-listed_by_cpu : length (listed_by_cpu f cpus width) ≡ cpus * width
+  length-listed_by_cpu = length-listed (λ n. f (n / width) (n % width)) (cpus * width)
 
-  pub get_or-by_cpu : (c k : ℕ) (d : X) → c < cpus → k < width → get_or (by_cpu f cpus width) (cell width c k) d ≡ f c k
-  get_or-by_cpu c k d c_in k_in =
+  pub get_or-listed_by_cpu : (c k : ℕ) (d : X) → c < cpus → k < width → get_or (listed_by_cpu f cpus width) (cell width c k) d ≡ f c k
+  get_or-listed_by_cpu c k d c_in k_in =
       get_or-listed (λ n. f (n / width) (n % width)) (cpus * width) (cell width c k) d
       (cell-lt width cpus c k c_in k_in)
       ∙ ap (λ a. f a (cell width c k % width)) (cell-cpu width c k k_in)
       ∙ ap (λ b. f c b) (cell-thing width c k k_in)
 
   -- a list with f c k in each cell
-  pub is_by_cpu : (xs : List X) (d : X) → length xs ≡ cpus * width
-      → ((c k : ℕ) → c < cpus → k < width → get_or xs (cell width c k) d ≡ f c k) → xs ≡ by_cpu f cpus width
-  is_by_cpu xs d long each = is_listed (λ n. f (n / width) (n % width)) (cpus * width) xs d long at
+  pub is_listed_by_cpu : (xs : List X) (d : X) → length xs ≡ cpus * width
+      → ((c k : ℕ) → c < cpus → k < width → get_or xs (cell width c k) d ≡ f c k) → xs ≡ listed_by_cpu f cpus width
+  is_listed_by_cpu xs d long each = is_listed (λ n. f (n / width) (n % width)) (cpus * width) xs d long at
     where
       by_width : (n : ℕ) → n < cpus * width → 0 < width → get_or xs n d ≡ f (n / width) (n % width)
       by_width n within some =

@@ -20,26 +20,26 @@ use Rattle.vms_pcpu_core.specs.Totals.{locals, spent}
 use Rattle.vms_pcpu_core.proofs.BaseAgain.{totals-hold, volumes-begin_again}
 use Rattle.vms_pcpu_core.proofs.Sizes.{amounts-most}
 use Rattle.vms_world.specs.declared.worlds.World.{World}
-use Rattle.vms_world.specs.Listed.{by_cpu}
+use Rattle.vms_world.specs.Listed.{listed_by_cpu}
 use Rattle.vms_world.specs.Phases.{AreComplete, Histories, LeavesNothing, StayWithinVolumes, left_by}
 use Rattle.vms_world.specs.Worlds.{AreVolumes, IsWorldOf, page_facts, event_facts, pcpu_facts, page_volume, volume_in}
 use Rattle.vms_world.specs.Worlds.{event_volume, pcpu_volume, volumes_on}
-use Rattle.vms_world.proofs.ListedReads.{get_or-by_cpu, length-by_cpu}
+use Rattle.vms_world.proofs.ListedReads.{get_or-listed_by_cpu, length-listed_by_cpu}
 
 -- volumes that are given CPU by CPU
-AreVolumes-by_cpu : (shape : Shape) (width : ℕ) (f : ℕ → ℕ → ℕ)
-    → ((c k : ℕ) → c < shape.cpus → k < width → f c k ≤ 2 ^ 48) → AreVolumes shape width (by_cpu f shape.cpus width)
-AreVolumes-by_cpu shape width f most = record {
-  one_each = length-by_cpu f shape.cpus width;
-  most = λ c k c_in k_in. rw (get_or-by_cpu f shape.cpus width c k 0 c_in k_in) (most c k c_in k_in);
+AreVolumes-listed_by_cpu : (shape : Shape) (width : ℕ) (f : ℕ → ℕ → ℕ)
+    → ((c k : ℕ) → c < shape.cpus → k < width → f c k ≤ 2 ^ 48) → AreVolumes shape width (listed_by_cpu f shape.cpus width)
+AreVolumes-listed_by_cpu shape width f most = record {
+  one_each = length-listed_by_cpu f shape.cpus width;
+  most = λ c k c_in k_in. rw (get_or-listed_by_cpu f shape.cpus width c k 0 c_in k_in) (most c k c_in k_in);
 }
 
 -- and what all of them add up to
-volumes_on-by_cpu : (shape : Shape) (width : ℕ) (f : ℕ → ℕ → ℕ) (k : ℕ) → k < width
-    → volumes_on shape (λ c k. volume_in (by_cpu f shape.cpus width) width c k) k ≡ volumes_on shape f k
-volumes_on-by_cpu shape width f k k_in =
-    count_below-same (λ c. volume_in (by_cpu f shape.cpus width) width c k) (λ c. f c k) shape.cpus
-    (λ c c_in. get_or-by_cpu f shape.cpus width c k 0 c_in k_in)
+volumes_on-listed_by_cpu : (shape : Shape) (width : ℕ) (f : ℕ → ℕ → ℕ) (k : ℕ) → k < width
+    → volumes_on shape (λ c k. volume_in (listed_by_cpu f shape.cpus width) width c k) k ≡ volumes_on shape f k
+volumes_on-listed_by_cpu shape width f k k_in =
+    count_below-same (λ c. volume_in (listed_by_cpu f shape.cpus width) width c k) (λ c. f c k) shape.cpus
+    (λ c c_in. get_or-listed_by_cpu f shape.cpus width c k 0 c_in k_in)
 
 module _ (header : Header) (w : World) (hs : Histories) (of : IsWorldOf header w) (complete : AreComplete header w hs)
     (volumes : StayWithinVolumes header w hs) (nothing : LeavesNothing header (left_by header w hs)) where
@@ -59,7 +59,7 @@ module _ (header : Header) (w : World) (hs : Histories) (of : IsWorldOf header w
       volumes.pages in
       record {
         totals = λ k k_in.
-            rw (volumes_on-by_cpu layout (counter_count layout) (grown (page_volume header w) hs.pages) k k_in)
+            rw (volumes_on-listed_by_cpu layout (counter_count layout) (grown (page_volume header w) hs.pages) k k_in)
             (within.totals k k_in);
         systems = within.systems;
       }
@@ -97,7 +97,7 @@ module _ (header : Header) (w : World) (hs : Histories) (of : IsWorldOf header w
     ints,
     event-ends.1.words k k_in,
     pos-count_below (λ c. event_ends.spent_by_now (event_volume w) hs.events c k) layout.cpus,
-    volumes_on-by_cpu layout event_count (event_ends.spent_by_now (event_volume w) hs.events) k k_in,
+    volumes_on-listed_by_cpu layout event_count (event_ends.spent_by_now (event_volume w) hs.events) k k_in,
   )
 
   decls-long : length w.counters.batch ≡ length header.counters
@@ -145,7 +145,7 @@ module _ (header : Header) (w : World) (hs : Histories) (of : IsWorldOf header w
         amounts-most (pcpu_facts header w) hs.counters j complete.counters.legal known,
         pos-count_below (λ c. spent hs.counters c j) layout.cpus,
         count_below-sum (λ c. pcpu_volume header w c j) (λ c. spent hs.counters c j) layout.cpus,
-        volumes_on-by_cpu layout (length header.counters)
+        volumes_on-listed_by_cpu layout (length header.counters)
             (pcpu_ends.spent_by_now (pcpu_volume header w) hs.counters) j j_in,
       )
 
@@ -155,11 +155,11 @@ module _ (header : Header) (w : World) (hs : Histories) (of : IsWorldOf header w
     event_base = events-begin;
     pcpu_base = counters-begin;
     batches = pcpu-ends.batches ∙ of.batches;
-    page_volumes = AreVolumes-by_cpu layout (counter_count layout) (grown (page_volume header w) hs.pages)
+    page_volumes = AreVolumes-listed_by_cpu layout (counter_count layout) (grown (page_volume header w) hs.pages)
         volumes.pages;
-    event_volumes = AreVolumes-by_cpu layout event_count (event_ends.spent_by_now (event_volume w) hs.events)
+    event_volumes = AreVolumes-listed_by_cpu layout event_count (event_ends.spent_by_now (event_volume w) hs.events)
         (λ c k c_in k_in. volumes.events c k c_in k_in);
-    pcpu_volumes = AreVolumes-by_cpu layout (length header.counters)
+    pcpu_volumes = AreVolumes-listed_by_cpu layout (length header.counters)
         (pcpu_ends.spent_by_now (pcpu_volume header w) hs.counters)
         (λ c j c_in j_in. volumes.counters c c_in j (omega (arith, decls-long)));
     pages_within = pages-within_totals;

@@ -26,7 +26,7 @@ use Rattle.vms_calls.specs.HeaderFacts.{facts_of}
 use Rattle.vms_calls.proofs.RatingCovers.{cover_mark-covers}
 use Rattle.vms_world.specs.Refreshes.{MayRefresh, count_online, hidden_in, place_threshold, refreshed, with_thresholds}
 use Rattle.vms_world.specs.Refreshes.{zone_mark}
-use Rattle.vms_world.proofs.ListedReads.{length-listed, get_or-listed, length-by_cpu, get_or-by_cpu}
+use Rattle.vms_world.proofs.ListedReads.{length-listed, get_or-listed, length-listed_by_cpu, get_or-listed_by_cpu}
 use Rattle.vms_world.proofs.PlaceThresholds.{AreThresholds, place_threshold-most, place_threshold-least}
 
 -- a mark stays near the high watermark
@@ -73,7 +73,7 @@ module _ (header : Header) (is_layout : IsLayout header.layout)
     place = unrated.shaped.place;
     system = unrated.shaped.system;
     diff = unrated.shaped.diff;
-    threshold = length-by_cpu new_threshold layout.cpus (place_count layout);
+    threshold = length-listed_by_cpu new_threshold layout.cpus (place_count layout);
     mark = length-listed (zone_mark header zones rated) (length layout.zones);
     cpu = unrated.shaped.cpu;
     acknowledged = unrated.shaped.acknowledged;
@@ -84,7 +84,7 @@ module _ (header : Header) (is_layout : IsLayout header.layout)
   pub threshold-refreshed : (c g : ℕ) → IsCpu layout c → IsPlace layout g → threshold_at next c g ≡ new_threshold c g
   threshold-refreshed c g c_in g_in =
       rw (places_of-shaped layout next is_layout shaped-refreshed)
-      (get_or-by_cpu new_threshold layout.cpus (place_count layout) c g 0 c_in g_in)
+      (get_or-listed_by_cpu new_threshold layout.cpus (place_count layout) c g 0 c_in g_in)
 
   pub mark-refreshed : (g : ℕ) → IsZone layout g → mark_at next g ≡ zone_mark header zones rated g
   mark-refreshed g g_in = get_or-listed (zone_mark header zones rated) (length layout.zones) g 0 g_in

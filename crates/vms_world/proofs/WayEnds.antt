@@ -9,11 +9,11 @@ use Rattle.vms_world.specs.declared.worlds.World.{World}
 use Rattle.vms_world.specs.PhaseLines.{IsWorldPhase, IsWorldRun, LeadsThrough}
 use Rattle.vms_script.specs.Segments.{Segment, Phase, Between}
 use Rattle.vms_world.specs.Phases.{Histories, LeavesNothing}
-use Rattle.vms_world.specs.Starts.{started}
+use Rattle.vms_world.specs.FirstWorlds.{started}
 use Rattle.vms_world.specs.Worlds.{IsWorldOf}
 use Rattle.vms_world.proofs.Crossings.{IsWorldOf-crossed}
 use Rattle.vms_world.proofs.PhaseEnds.{IsWorldOf-left_by}
-use Rattle.vms_world.proofs.Starts.{IsWorldOf-start}
+use Rattle.vms_world.proofs.FirstWorlds.{IsWorldOf-start}
 
 module _ (header : Header) (pressure normal : ZoneSize → ℕ → ℕ → Type 0) (gives : GivesThresholds normal) where
   IsWorldOf-phase : (items : List Item) (hs : Histories) (w next : World) → IsWorldOf header w

@@ -11,7 +11,7 @@ use Rattle.vms_core.specs.Cells.{cpu_at, diff_at, system_at, value_at, with_cpu}
 use Rattle.vms_text.specs.declared.acts.Boundary.{Boundary}
 use Rattle.vms_text.specs.declared.acts.Boundary.TheVariants.{Offline, Online, Flush}
 use Rattle.vms_world.specs.declared.worlds.World.{World}
-use Rattle.vms_world.specs.Listed.{listed, by_cpu}
+use Rattle.vms_world.specs.Listed.{listed, listed_by_cpu}
 use Rattle.vms_world.specs.Refreshes.{AreAnswers, count_online, refreshed}
 
 -- CPU c goes offline: it is dead, and all that it has, hides and may use stays
@@ -38,7 +38,7 @@ abbrev pub flushed_pages : Shape → State → State
 flushed_pages shape s = record s {
   place = listed (λ k. value_at s k +ℤ folded_of shape s k) (counter_count shape);
   system = listed (λ i. system_at s i +ℤ folded_of_item shape s i) (item_count shape);
-  diff = by_cpu (λ c k. if is_online (cpu_at s c) then pos 0 else diff_at s c k) shape.cpus (counter_count shape);
+  diff = listed_by_cpu (λ c k. if is_online (cpu_at s c) then pos 0 else diff_at s c k) shape.cpus (counter_count shape);
 }
 
 abbrev pub flushed : Shape → World → World

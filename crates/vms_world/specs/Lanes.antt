@@ -1,5 +1,5 @@
 -- The lanes of a phase: which have lines, whose passes they are, and what their callers make of their lines.
-use Rattle.std.specs.Prelude.{◌≡◌, ℕ, zero, suc, ◌<◌, nat_eq, ◌||◌, Bool, true, false, List, [], ◌∷◌, ◌++◌, length, map}
+use Rattle.std.specs.Prelude.{◌≡◌, ℕ, zero, suc, ◌<◌, ◌||◌, Bool, false, List, [], ◌∷◌, ◌++◌, length, map}
 use Rattle.std.specs.Prelude.{filter, if◌then◌else◌, Option, Some, None, slice_index_or}
 use Rattle.vms_base.specs.declared.ids.CpuId.{CpuId}
 use Rattle.vms_base.specs.Places.{Shape}
@@ -10,23 +10,17 @@ use Rattle.vms_text.specs.declared.acts.Act.{Act}
 use Rattle.vms_text.specs.declared.acts.Item.{Item}
 use Rattle.vms_text.specs.declared.acts.Lane.{Lane}
 use Rattle.vms_text.specs.declared.acts.Lane.TheVariants.{Cpu, Control}
-
--- whether two lanes are one
-abbrev pub same_lane : Lane → Lane → Bool
-same_lane (Cpu c) (Cpu d) = nat_eq c.number d.number
-same_lane (Cpu c) Control = false
-same_lane Control (Cpu d) = false
-same_lane Control Control = true
+use Rattle.vms_script.specs.PhaseScripts.{is_lane}
 
 -- whether a lane is one of these
 abbrev pub is_among : Lane → List Lane → Bool
 is_among lane [] = false
-is_among lane (l ∷ ls) = same_lane l lane || is_among lane ls
+is_among lane (l ∷ ls) = is_lane l lane || is_among lane ls
 
 -- whether some line is of this lane
 abbrev pub has_line : Lane → List Item → Bool
 has_line lane [] = false
-has_line lane (item ∷ items) = same_lane item.lane lane || has_line lane items
+has_line lane (item ∷ items) = is_lane item.lane lane || has_line lane items
 
 -- the lanes of the CPUs below n that have lines, in ascending order
 abbrev pub lanes_below : ℕ → List Item → List Lane
@@ -45,7 +39,7 @@ owner_of Control = None
 
 -- the acts of a lane, in order
 abbrev pub acts_of : Lane → List Item → List Act
-acts_of lane items = map (λ item. item.act) (filter (λ item. same_lane item.lane lane) items)
+acts_of lane items = map (λ item. item.act) (filter (λ item. is_lane item.lane lane) items)
 
 -- lane n of these, counted from 0
 abbrev pub lane_at : List Lane → ℕ → Lane

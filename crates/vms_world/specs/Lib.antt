@@ -2,7 +2,7 @@ pub mod Listed
 pub mod Worlds
 pub mod Refreshes
 pub mod Boundaries
-pub mod Starts
+pub mod FirstWorlds
 pub mod Phases
 pub mod Lanes
 pub mod Acts

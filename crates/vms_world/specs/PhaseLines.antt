@@ -13,7 +13,7 @@ use Rattle.vms_world.specs.Boundaries.{Crosses, MayCross}
 use Rattle.vms_world.specs.Lanes.{HasLanes, MakesLines, lanes_of}
 use Rattle.vms_world.specs.Phases.{AreComplete, Histories, LeavesNothing, StayWithinVolumes, left_by}
 use Rattle.vms_world.specs.Refreshes.{AreAnswers}
-use Rattle.vms_world.specs.Starts.{started}
+use Rattle.vms_world.specs.FirstWorlds.{started}
 use Rattle.vms_world.specs.Worlds.{event_facts, pcpu_facts}
 
 -- these histories are a phase of these lines, which leads from one world to another: in each table a pass begins for

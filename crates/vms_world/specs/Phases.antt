@@ -16,7 +16,7 @@ use Rattle.vms_pcpu_core.specs.Histories as percpu
 use Rattle.vms_pcpu_core.specs.Laws.{numbers_after}
 use Rattle.vms_pcpu_core.specs.States.{IsPcpu, local_at}
 use Rattle.vms_world.specs.declared.worlds.World.{World}
-use Rattle.vms_world.specs.Listed.{by_cpu}
+use Rattle.vms_world.specs.Listed.{listed_by_cpu}
 use Rattle.vms_world.specs.Worlds.{page_facts, event_facts, pcpu_facts, page_volume, event_volume, pcpu_volume}
 
 -- a history of each table, of the same phase
@@ -39,9 +39,9 @@ left_by header w hs = record {
   events = events.state_after (event_facts header w) hs.events;
   counters = numbers_after (pcpu_facts header w) hs.counters;
   volumes = record {
-    pages = by_cpu (grown (page_volume header w) hs.pages) header.layout.cpus (counter_count header.layout);
-    events = by_cpu (event_ends.spent_by_now (event_volume w) hs.events) header.layout.cpus event_count;
-    counters = by_cpu (pcpu_ends.spent_by_now (pcpu_volume header w) hs.counters) header.layout.cpus
+    pages = listed_by_cpu (grown (page_volume header w) hs.pages) header.layout.cpus (counter_count header.layout);
+    events = listed_by_cpu (event_ends.spent_by_now (event_volume w) hs.events) header.layout.cpus event_count;
+    counters = listed_by_cpu (pcpu_ends.spent_by_now (pcpu_volume header w) hs.counters) header.layout.cpus
         (length header.counters);
   };
 }

@@ -16,7 +16,7 @@ use Rattle.vms_core.specs.Cells.{HasShape, acknowledged_at, cpu_at, diff_at, mar
 use Rattle.vms_core.specs.Cells.{threshold_sets_at, value_at}
 use Rattle.vms_core.specs.Peaks.{if_present, opening_peak}
 use Rattle.vms_calls.specs.Ratings.{largest_on}
-use Rattle.vms_world.specs.Listed.{listed, by_cpu}
+use Rattle.vms_world.specs.Listed.{listed, listed_by_cpu}
 
 -- how many CPUs are online
 abbrev pub count_online : List CpuState → ℕ
@@ -38,7 +38,7 @@ place_threshold shape zones g =
 -- the online CPUs get these thresholds of the zones, and of the nodes by them; those of other CPUs stay
 abbrev pub with_thresholds : Shape → List ℕ → State → State
 with_thresholds shape zones s = record s {
-  threshold = by_cpu (λ c g. if is_online (cpu_at s c) then place_threshold shape zones g else threshold_at s c g)
+  threshold = listed_by_cpu (λ c g. if is_online (cpu_at s c) then place_threshold shape zones g else threshold_at s c g)
       shape.cpus (place_count shape);
 }
 

@@ -12,7 +12,7 @@ ghost use Rattle.vms_script.specs.Segments.{Segment};
 ghost use Rattle.vms_world.specs.PhaseLines.{IsWorldRun};
 ghost use Rattle.vms_world.specs.Phases.{AreComplete, Histories, LeavesNothing, StayWithinVolumes, left_by};
 ghost use Rattle.vms_world.specs.Refreshes.{AreAnswers};
-ghost use Rattle.vms_world.specs.Starts.{started};
+ghost use Rattle.vms_world.specs.FirstWorlds.{started};
 ghost use Rattle.vms_world.specs.Worlds.{IsWorldOf};
 
 use vms_calls::ThresholdRules;

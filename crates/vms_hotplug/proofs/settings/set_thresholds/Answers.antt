@@ -3,13 +3,13 @@ use Rattle.std.proofs.Common.{arith, get_or, if◌then◌else◌, ◌∙◌}
 use Rattle.vms_base.specs.Cpus.{is_online, state_at}
 use Rattle.vms_base.specs.Places.{cell, place_count}
 use Rattle.vms_world.specs.Refreshes.{place_threshold}
-use Rattle.vms_world.proofs.ListedReads.{is_by_cpu}
+use Rattle.vms_world.proofs.ListedReads.{is_listed_by_cpu}
 use Rattle.vms_hotplug.proofs.settings.set_thresholds.Goals as goal
 
 pub returns : goal.returns
 returns c =
     let places = place_count c.args.layout.now in
-    is_by_cpu (λ d g. if is_online (state_at c.args.states.now d)
+    is_listed_by_cpu (λ d g. if is_online (state_at c.args.states.now d)
     then place_threshold c.args.layout.now c.args.zones.now g
     else get_or c.args.thresholds.now (cell places d g) 0) c.args.layout.now.cpus places c.loop-place.thresholds 0
     (c.loop-place.invariant.same_length ∙ c.requires.thresholds)

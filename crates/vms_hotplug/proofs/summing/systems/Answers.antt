@@ -5,10 +5,10 @@ use Rattle.std.proofs.lemmas.Int.{ints, to_z-of_z}
 use Rattle.vms_base.proofs.Counts.{counter_count-most}
 use Rattle.vms_base.specs.Places.{counter_count, item_count, item_of}
 use Rattle.vms_history.specs.Sums.{sum_below}
-use Rattle.vms_world.specs.Starts.{base_of, base_of_item}
+use Rattle.vms_world.specs.FirstWorlds.{base_of, base_of_item}
 use Rattle.vms_world.proofs.ListedReads.{is_listed}
 use Rattle.vms_hotplug.proofs.ItemSums.{HasBases-more, more_small}
-use Rattle.vms_world.proofs.Starts.{base_of-most}
+use Rattle.vms_world.proofs.FirstWorlds.{base_of-most}
 use Rattle.vms_hotplug.proofs.summing.systems.Goals as goal
 
 same_word : (z base : ℤ) → base ≡ z → unsigned_abs base ≤ 2 ^ 48 → to_z w64 (of_z w64 z) ≡ base

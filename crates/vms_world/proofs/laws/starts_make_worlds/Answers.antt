@@ -1,5 +1,5 @@
 -- The world that a run begins with belongs to its header.
-use Rattle.vms_world.proofs.Starts.{IsWorldOf-start}
+use Rattle.vms_world.proofs.FirstWorlds.{IsWorldOf-start}
 use Rattle.vms_world.proofs.laws.starts_make_worlds.Goals as goal
 
 pub returns : goal.returns

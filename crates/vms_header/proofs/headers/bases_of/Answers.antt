@@ -1,7 +1,7 @@
 -- The counter of each base is below the number of counters.
 use Rattle.std.proofs.Common.{◌∙◌, arith, ap, length, reverse, take, pos}
 use Rattle.vms_header.proofs.DraftBases.{length-bases_of}
-use Rattle.vms_header.proofs.making.bases_of.Goals as goal
+use Rattle.vms_header.proofs.headers.bases_of.Goals as goal
 
 pub set-requires : goal.set-requires
 set-requires c =

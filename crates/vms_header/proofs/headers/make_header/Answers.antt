@@ -5,7 +5,7 @@ use Rattle.vms_base.specs.Places.{counter_count}
 use Rattle.vms_header.specs.Drafts.{Base}
 use Rattle.vms_header.specs.Readers.{draft_of}
 use Rattle.vms_header.proofs.DraftBases.{bases-known}
-use Rattle.vms_header.proofs.making.make_header.Goals as goal
+use Rattle.vms_header.proofs.headers.make_header.Goals as goal
 
 known : (bases seen : List Base) (count counters : ℕ) → seen ≡ bases → counters ≡ count
     → All (λ base. base.counter < count) bases → All (λ base. base.counter < counters) seen

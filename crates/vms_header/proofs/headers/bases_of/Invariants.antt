@@ -1,6 +1,6 @@
 use Rattle.std.proofs.Common.{◌≡◌, reverse, take}
 use Rattle.vms_header.specs.Drafts.{bases_of}
-use Rattle.vms_header.proofs.making.bases_of.Given as goal
+use Rattle.vms_header.proofs.headers.bases_of.Given as goal
 
 abbrev pub invariant-loop-base : goal.invariant-loop-base
 invariant-loop-base l = l.values ≡ bases_of l.count (reverse (take l.base-index l.bases))

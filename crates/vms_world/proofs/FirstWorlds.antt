@@ -29,7 +29,7 @@ use Rattle.vms_pcpu_core.specs.States.{count_at, local_at}
 use Rattle.vms_pcpu_core.specs.Totals.{locals}
 use Rattle.vms_world.specs.declared.worlds.World.{World}
 use Rattle.vms_world.specs.Refreshes.{AreAnswers, MayRefresh, count_online}
-use Rattle.vms_world.specs.Starts.{bare_pages, base_of, base_of_item, started}
+use Rattle.vms_world.specs.FirstWorlds.{bare_pages, base_of, base_of_item, started}
 use Rattle.vms_world.specs.Worlds.{IsWorldOf, AreVolumes, page_facts, event_facts, pcpu_facts, page_volume}
 use Rattle.vms_world.proofs.Answers.{AreThresholds-answers}
 use Rattle.vms_world.proofs.ListedReads.{length-listed, get_or-listed}
