@@ -7,6 +7,6 @@ pub mod RefreshedStates
 pub mod Answers
 pub mod BroughtUp
 pub mod Crossings
-pub mod Starts
+pub mod FirstWorlds
 pub mod PhaseEnds
 pub mod WayEnds
