@@ -9,7 +9,7 @@ use Rattle.vms_header.specs.Spelling.{spelled_header}
 use Rattle.vms_line.specs.Spelling.{spelled_line}
 use Rattle.vms_stream.specs.Behaviors.{Behavior}
 use Rattle.vms_command.specs.Bodies.{shown}
-use Rattle.vms_command.specs.Commands.{Command, CommandState, ending_of, following}
+use Rattle.vms_command.specs.Commands.{Command, CommandState, MayEnd-status_at_end, status_at_end, following}
 use Rattle.vms_command.specs.Lines.{LinesAbove}
 use Rattle.vms_command.specs.Printing.{refused_line, done_line}
 use Rattle.vms_command.specs.Texts.{text_of}
@@ -36,7 +36,8 @@ checking = record {
   next = λ header n above result kept. tt;
   prints = λ header n above result. checked_line header n result;
   last = λ header above kept. checked_end above;
-  ends = λ above. ending_of above.refused;
+  ends = λ above. status_at_end above.refused;
+  may_end = λ above. MayEnd-status_at_end above.refused;
 }
 
 -- a check, line by line

@@ -4,7 +4,7 @@ use Rattle.vms_base.specs.declared.headers.Header.{Header}
 use Rattle.vms_text.specs.Lines.{lines_of}
 use Rattle.vms_header.specs.Stages.{read_header}
 use Rattle.vms_header.specs.Spelling.{header_words, spelled_header}
-use Rattle.vms_stream.specs.declared.halts.Halt.TheVariants.{Exceeds}
+use Rattle.vms_stream.specs.declared.statuses.Status.TheVariants.{TooLong}
 use Rattle.vms_stream.specs.Behaviors.{halted, output}
 use Rattle.vms_command.specs.Limits.{most_lines}
 use Rattle.vms_command.specs.Lines.{come_to, nothing_above}
@@ -13,7 +13,7 @@ use Rattle.vms_check.specs.Checking.{check, check_output, checking}
 
 -- what a check writes line by line of a text within the limits is its output, which header and body define
 abbrev pub WritesItsText : Type 0
-WritesItsText = (text : List ℕ) → halted check check.start (lines_of text) ≢ Some Exceeds →
+WritesItsText = (text : List ℕ) → halted check check.start (lines_of text) ≢ Some TooLong →
     output check (lines_of text) ≡ check_output text
 
 -- a check accepts what it wrote of a header and of the lines of a body: the same header is read, the same lines count,

@@ -1,10 +1,10 @@
 use std::alloc::Global;
 use vms_base::{Header, Memory};
-use vms_command::{Body, ending_of, write_done_line, write_refused_line};
+use vms_command::{Body, status_at_end, write_done_line, write_refused_line};
 use vms_header::write_header;
 use vms_line::{Line, LineCause, write_line};
 use vms_script::JudgedLine;
-use vms_stream::Ending;
+use vms_stream::Status;
 
 /// The body of a check.
 #[derive(Drop)]
@@ -45,10 +45,10 @@ impl Body for CheckBody {
         accepted: u32,
         refused: u32,
         out: &mut Vec<u8>,
-    ) -> Result<Ending, Memory> {
+    ) -> Result<Status, Memory> {
         out.extend_from_slice(b"# ")?;
         write_done_line(out, accepted, refused)?;
-        Ok(ending_of(refused))
+        Ok(status_at_end(refused))
     }
 }
 

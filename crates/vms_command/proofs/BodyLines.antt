@@ -8,7 +8,7 @@ use Rattle.vms_line.specs.declared.causes.LineCause.{LineCause}
 use Rattle.vms_script.specs.Judging.{counted, judged}
 use Rattle.vms_script.specs.JudgeStates.{Stands}
 use Rattle.vms_script.specs.declared.judges.LineJudge.{LineJudge}
-use Rattle.vms_stream.specs.declared.halts.Halt.{Halt}
+use Rattle.vms_stream.specs.declared.statuses.Status.{Status}
 use Rattle.vms_command.specs.declared.body_jobs.BodyJob.{BodyJob}
 use Rattle.vms_command.specs.declared.tallies.Tally.{Tally}
 use Rattle.vms_command.specs.Bodies.{TakesLine, SomeLine}
@@ -61,7 +61,7 @@ module _ {K B : Type 0} (command : Command K) (stands : B → Header → LinesAb
     (result : Result Line LineCause) (judge' : LineJudge) (judges : Judges job.header text job.judge result judge')
   where
     -- with the header that it has
-    own-header : (halt : Option Halt) (out out' : List ℕ) (job' : BodyJob B)
+    own-header : (halt : Option Status) (out out' : List ℕ) (job' : BodyJob B)
         → ((above : LinesAbove) (kept : K) → StandsAfter stands job.header above kept job
         → TakesBodyLine command stands job.header n above kept (judged job.header above.lines text) halt out out' job')
         → (header : Header) (above : LinesAbove) (kept : K) → StandsAfter stands header above kept job
@@ -73,7 +73,7 @@ module _ {K B : Type 0} (command : Command K) (stands : B → Header → LinesAb
         (own above kept (subst (λ (h : Header). StandsAfter stands h above kept job) (sym here.same_header) here))
 
     -- after a line that exceeds a limit
-    pub limit-exceeded : (halt : Halt) (found : Option Halt) (tally' : Tally) (out : List ℕ) (job' : BodyJob B)
+    pub limit-exceeded : (halt : Status) (found : Option Status) (tally' : Tally) (out : List ℕ) (job' : BodyJob B)
         → found ≡ Some halt
         → ((above : LinesAbove) → IsTallyOf above job.tally → Adds above result found tally')
         → (header : Header) (above : LinesAbove) (kept : K) → StandsAfter stands header above kept job
@@ -89,7 +89,7 @@ module _ {K B : Type 0} (command : Command K) (stands : B → Header → LinesAb
         }))
 
     -- after a line that its body took
-    pub line-taken : (found : Option Halt) (tally' : Tally) (body' : B) (out out' : List ℕ) → found ≡ None
+    pub line-taken : (found : Option Status) (tally' : Tally) (body' : B) (out out' : List ℕ) → found ≡ None
         → ((above : LinesAbove) → IsTallyOf above job.tally → Adds above result found tally')
         → TakesLine command (stands job.body) (stands body') job.header n result out out'
         → (header : Header) (above : LinesAbove) (kept : K) → StandsAfter stands header above kept job

@@ -10,8 +10,9 @@ use Rattle.vms_header.specs.Drafts.{Draft, header_of}
 use Rattle.vms_header.specs.Stages.{Stage, HeadStep, head_line}
 use Rattle.vms_header.specs.Stages.HeadStep.{Goes, Ends}
 use Rattle.vms_script.specs.Judging.{judged}
-use Rattle.vms_stream.specs.declared.halts.Halt.{Halt}
-use Rattle.vms_stream.specs.declared.halts.Halt.TheVariants.{Refuses, Exceeds}
+use Rattle.vms_stream.specs.declared.statuses.Status.{Status}
+use Rattle.vms_stream.specs.declared.statuses.Status.TheVariants.{TooLong}
+use Rattle.vms_stream.specs.declared.statuses.Status.TheVariants as statuses
 use Rattle.vms_stream.specs.Jobs.{TakesLines}
 use Rattle.vms_stream.proofs.TakenLines.{TakesLines-one, TakesLines-exceeding, TakesLines-refused}
 use Rattle.vms_command.specs.declared.body_jobs.BodyJob.{BodyJob}
@@ -26,16 +27,18 @@ use Rattle.vms_command.specs.JobStates.{IsHead, IsWork, StepsToWork, TakesBodyLi
 use Rattle.vms_command.specs.JobStates.{StandsAfter}
 use Rattle.vms_command.proofs.BodyLines.{one_more}
 
-within_limit : (n : ℕ) (halt : Option Halt) → n ≤ most_lines → halted_at n halt ≡ halt
+within_limit : (n : ℕ) (halt : Option Status) → n ≤ most_lines → halted_at n halt ≡ halt
 within_limit n halt within = let test : nat_lt most_lines n ≡ false = grind (arith, nat_tests) in rw test refl
 
-never_refuses : (over : Bool) → Some Refuses ≡ exceeds over → ⊥
-never_refuses true is = absurd cc
-never_refuses false is = absurd cc
+-- a limit alone stops a body, and a fault alone a header
+only_exceeds : (over : Bool) (status : Status) → Some status ≡ exceeds over → status ≡ TooLong
+only_exceeds true status is = cc
+only_exceeds false status is = absurd cc
 
-never_exceeds : (read : Result HeadStep HeaderCause) → Some Exceeds ≡ refuses read → ⊥
-never_exceeds (Ok read) is = absurd cc
-never_exceeds (Err cause) is = absurd cc
+only_refuses : (read : Result HeadStep HeaderCause) (status : Status) → Some status ≡ refuses read
+    → status ≡ statuses.Header
+only_refuses (Ok read) status is = absurd cc
+only_refuses (Err cause) status is = cc
 
 -- the body in which a command stands
 pub SomeBody-at_work : {K B : Type 0} (stands : B → Header → LinesAbove → K → Type 0) (n : ℕ) (s : CommandState K)
@@ -49,7 +52,7 @@ SomeBody-at_work stands n (Body m header above kept) work job is here =
 module _ {K B : Type 0} (command : Command K) (stands : B → Header → LinesAbove → K → Type 0) where
   module _ (before after : TraceJob B) (line out out' : List ℕ) (next : after.line ≡ before.line + 1)
       (within : before.line ≤ most_lines) where
-    body_line_taken : (job : BodyJob B) → after.work ≡ works.Body job → (halt : Option Halt) (n : ℕ) (header : Header)
+    body_line_taken : (job : BodyJob B) → after.work ≡ works.Body job → (halt : Option Status) (n : ℕ) (header : Header)
         (above : LinesAbove) (kept : K)
         → before.line ≡ n → length above.lines + above.refused < before.line
         → TakesBodyLine command stands header n above kept (judged header above.lines line) halt out out' job
@@ -65,10 +68,11 @@ module _ {K B : Type 0} (command : Command K) (stands : B → Header → LinesAb
           work = subst (IsWork stands after.line (Body (suc n) header (with_judged result above) kept')) (sym is)
               (goes.here refl, omega (arith, one_more result above));
         })
-    body_line_taken job is (Some Refuses) n header above kept same fewer goes = absurd (never_refuses _ goes.halt_is)
-    body_line_taken job is (Some Exceeds) n header above kept same fewer goes =
+    body_line_taken job is (Some TooLong) n header above kept same fewer goes =
         TakesLines-exceeding (following command) (StandsAt stands after) (Body n header above kept) line out out'
         (within_limit n _ (omega (arith, same)) ∙ sym goes.halt_is) (goes.unprinted refl)
+    body_line_taken job is (Some _) n header above kept same fewer goes =
+        let only = only_exceeds _ _ goes.halt_is in absurd cc
 
     begun_work : (k n : ℕ) (draft : Draft) (work : Work B) → 0 < k → StepsToWork command stands (Ok (Ends draft)) work
         → IsWork stands k (Body n (header_of draft) nothing_above (command.begins (header_of draft))) work
@@ -89,20 +93,20 @@ module _ {K B : Type 0} (command : Command K) (stands : B → Header → LinesAb
     }
     step_stands n stage (Err cause) same leads = absurd leads
 
-    head_line_taken : (halt : Option Halt) (n : ℕ) (stage : Stage) → before.line ≡ n
+    head_line_taken : (halt : Option Status) (n : ℕ) (stage : Stage) → before.line ≡ n
         → TakesHeadLine command stands n (head_line stage line) halt out out' after.work
         → TakesLines (following command) (StandsAt stands after) (Heading n stage) (line ∷ []) halt out out'
     head_line_taken None n stage same goes =
         TakesLines-one (following command) (StandsAt stands after) (Heading n stage) line out out'
         (within_limit n _ (omega (arith, same)) ∙ sym goes.halt_is) goes.printed
         (step_stands n stage (head_line stage line) same (goes.leads refl))
-    head_line_taken (Some Refuses) n stage same goes =
+    head_line_taken (Some statuses.Header) n stage same goes =
         TakesLines-refused (following command) (StandsAt stands after) (Heading n stage) line out out'
         (within_limit n _ (omega (arith, same)) ∙ sym goes.halt_is) goes.printed
-    head_line_taken (Some Exceeds) n stage same goes = absurd (never_exceeds _ goes.halt_is)
+    head_line_taken (Some _) n stage same goes = let only = only_refuses _ _ goes.halt_is in absurd cc
 
     -- after a line of a body
-    from_body : (job job' : BodyJob B) (halt : Option Halt) → before.work ≡ works.Body job
+    from_body : (job job' : BodyJob B) (halt : Option Status) → before.work ≡ works.Body job
         → after.work ≡ works.Body job'
         → ((header : Header) (above : LinesAbove) (kept : K) → StandsAfter stands header above kept job
         → TakesBodyLine command stands header before.line above kept (judged header above.lines line)
@@ -117,7 +121,7 @@ module _ {K B : Type 0} (command : Command K) (stands : B → Header → LinesAb
         halt out out' job') here.line
         (goes header above kept work.0))
 
-    pub body-takes : (job job' : BodyJob B) (result : Result (Option Halt) Memory) → before.work ≡ works.Body job
+    pub body-takes : (job job' : BodyJob B) (result : Result (Option Status) Memory) → before.work ≡ works.Body job
         → after.work ≡ works.Body job'
         → IfOk result (λ halt. (header : Header) (above : LinesAbove) (kept : K)
         → StandsAfter stands header above kept job
@@ -135,7 +139,7 @@ module _ {K B : Type 0} (command : Command K) (stands : B → Header → LinesAb
     no_body n m header above kept (works.Header reader) none here = here
     no_body n m header above kept works.Stopped none here = here
 
-    from_head : (halt : Option Halt) → ((job : BodyJob B) → before.work ≢ works.Body job)
+    from_head : (halt : Option Status) → ((job : BodyJob B) → before.work ≢ works.Body job)
         → ((stage : Stage) → IsHead stage before.work → TakesHeadLine command stands before.line (head_line stage line)
         halt out out' after.work)
         → (s : CommandState K) → StandsAt stands before s → TakesLines (following command) (StandsAt stands after) s
@@ -149,7 +153,7 @@ module _ {K B : Type 0} (command : Command K) (stands : B → Header → LinesAb
 
   -- after a line of a header
   pub head-takes : (before after : TraceJob B) (line out out' : List ℕ) → before.line ≤ most_lines
-      → (result : Result (Option Halt) Memory) → ((job : BodyJob B) → before.work ≢ works.Body job)
+      → (result : Result (Option Status) Memory) → ((job : BodyJob B) → before.work ≢ works.Body job)
       → IfOk result (λ halt. (stage : Stage) → IsHead stage before.work
       → TakesHeadLine command stands before.line (head_line stage line) halt out out' after.work)
       → OnOk result (after.line ≡ before.line + 1)

@@ -6,7 +6,7 @@ use Rattle.vms_header.specs.declared.causes.HeaderCause.{HeaderCause}
 use Rattle.vms_header.specs.Drafts.{Draft, header_of}
 use Rattle.vms_header.specs.Stages.{Stage, HeadStep}
 use Rattle.vms_header.specs.Stages.HeadStep.{Goes, Ends}
-use Rattle.vms_stream.specs.declared.halts.Halt.TheVariants.{Refuses}
+use Rattle.vms_stream.specs.declared.statuses.Status.TheVariants as statuses
 use Rattle.vms_command.specs.declared.body_jobs.BodyJob.{BodyJob}
 use Rattle.vms_command.specs.declared.trace_jobs.Work.TheVariants as works
 use Rattle.vms_command.specs.Commands.{Command}
@@ -38,9 +38,9 @@ module _ {K B : Type 0} (command : Command K) (stands : B → Header → LinesAb
   -- the line is at fault
   pub head-refused : (cause : HeaderCause) (out out' : List ℕ) → read ≡ Err cause
       → out' ≡ out ++ header_line (record { line = n; cause = cause })
-      → TakesHeadLine command stands n read (Some Refuses) out out' works.Stopped
+      → TakesHeadLine command stands n read (Some statuses.Header) out out' works.Stopped
   head-refused cause out out' is printed =
       subst (λ (t : Result HeadStep HeaderCause).
-      TakesHeadLine command stands n t (Some Refuses) out out' works.Stopped)
+      TakesHeadLine command stands n t (Some statuses.Header) out out' works.Stopped)
       (sym is)
       (record { halt_is = refl; printed = printed; leads = λ none. absurd cc })

@@ -10,8 +10,9 @@ use Rattle.vms_header.specs.Stages.{Stage, HeadStep, head_line, header_from, on_
 use Rattle.vms_header.specs.Stages.Stage.{Opening}
 use Rattle.vms_header.specs.Stages.HeadStep.{Goes, Ends}
 use Rattle.vms_script.specs.Judging.{judged}
-use Rattle.vms_stream.specs.declared.halts.Halt.{Halt}
-use Rattle.vms_stream.specs.declared.halts.Halt.TheVariants.{Exceeds, Refuses}
+use Rattle.vms_stream.specs.declared.statuses.Status.{Status}
+use Rattle.vms_stream.specs.declared.statuses.Status.TheVariants.{TooLong}
+use Rattle.vms_stream.specs.declared.statuses.Status.TheVariants as statuses
 use Rattle.vms_stream.specs.Behaviors.{first_halt, halted, last_words, state_after, printed, printed_from}
 use Rattle.vms_command.specs.Commands.{Command, CommandState, following, halted_at, exceeds, after_head, printed_head}
 use Rattle.vms_command.specs.Commands.{refuses}
@@ -22,23 +23,23 @@ use Rattle.vms_command.specs.Texts.{WritesTexts, body_text, kept_of, printed_of,
 use Rattle.vms_stream.specs.Behaviors.{Behavior}
 
 -- where no limit is exceeded, a line stops the command for what it says alone
-unless_beyond : (b : Bool) (halt : Option Halt) → (if b then Some Exceeds else halt) ≢ Some Exceeds
-    → (if b then Some Exceeds else halt) ≡ halt
+unless_beyond : (b : Bool) (halt : Option Status) → (if b then Some TooLong else halt) ≢ Some TooLong
+    → (if b then Some TooLong else halt) ≡ halt
 unless_beyond true halt within = absurd (within refl)
 unless_beyond false halt within = refl
 
-within_at : (n : ℕ) (halt : Option Halt) → halted_at n halt ≢ Some Exceeds → halted_at n halt ≡ halt
+within_at : (n : ℕ) (halt : Option Status) → halted_at n halt ≢ Some TooLong → halted_at n halt ≡ halt
 within_at n halt within = unless_beyond (nat_lt most_lines n) halt within
 
-unless_over : (over : Bool) → exceeds over ≢ Some Exceeds → exceeds over ≡ None
+unless_over : (over : Bool) → exceeds over ≢ Some TooLong → exceeds over ≡ None
 unless_over true within = absurd (within refl)
 unless_over false within = refl
 
-first_within : (first later : Option Halt) → first_halt first later ≢ Some Exceeds → first ≢ Some Exceeds
-first_within first later within = λ is. within (ap (λ (halt : Option Halt). first_halt halt later) is)
+first_within : (first later : Option Status) → first_halt first later ≢ Some TooLong → first ≢ Some TooLong
+first_within first later within = λ is. within (ap (λ (halt : Option Status). first_halt halt later) is)
 
-later_within : (first later : Option Halt) → first ≡ None → first_halt first later ≢ Some Exceeds → later ≢ Some Exceeds
-later_within first later none within = λ is. within (ap (λ (halt : Option Halt). first_halt halt later) none ∙ is)
+later_within : (first later : Option Status) → first ≡ None → first_halt first later ≢ Some TooLong → later ≢ Some TooLong
+later_within first later none within = λ is. within (ap (λ (halt : Option Status). first_halt halt later) none ∙ is)
 
 -- what stands after an element
 after : (k : ℕ) (all : List (List ℕ)) (line : List ℕ) (lines : List (List ℕ)) → drop k all ≡ line ∷ lines
@@ -50,18 +51,18 @@ after (suc k) (first ∷ all) line lines is = after k all line lines is
 
 -- what is written from a line on that stops the check so, of what the line prints, what later lines print and the last
 -- words
-abbrev written_at : Option Halt → List ℕ → List ℕ → Option Halt → List ℕ → List ℕ
+abbrev written_at : Option Status → List ℕ → List ℕ → Option Status → List ℕ → List ℕ
 written_at halt line later rest words = printed_from halt line later ++ last_words (first_halt halt rest) words
 
-written-on : (halt : Option Halt) (line later : List ℕ) (rest : Option Halt) (words : List ℕ) → halt ≡ None
+written-on : (halt : Option Status) (line later : List ℕ) (rest : Option Status) (words : List ℕ) → halt ≡ None
     → written_at halt line later rest words ≡ line ++ (later ++ last_words rest words)
 written-on halt line later rest words none =
-    ap (λ (at : Option Halt). written_at at line later rest words) none
+    ap (λ (at : Option Status). written_at at line later rest words) none
     ∙ append_assoc line later (last_words rest words)
 
-written-refused : (halt : Option Halt) (line later : List ℕ) (rest : Option Halt) (words : List ℕ) → halt ≡ Some Refuses
-    → written_at halt line later rest words ≡ line
-written-refused halt line later rest words refused = ap (λ (at : Option Halt). written_at at line later rest words)
+written-refused : (halt : Option Status) (line later : List ℕ) (rest : Option Status) (words : List ℕ)
+    → halt ≡ Some statuses.Header → written_at halt line later rest words ≡ line
+written-refused halt line later rest words refused = ap (λ (at : Option Status). written_at at line later rest words)
     refused ∙ append-nil line
 
 module _ {K : Type 0} (command : Command K) where
@@ -74,7 +75,7 @@ module _ {K : Type 0} (command : Command K) where
       (behavior.last (state_after behavior s lines))
 
   body_written : (n : ℕ) (header : Header) (above : LinesAbove) (kept : K) (lines : List (List ℕ))
-      → halted behavior (Body n header above kept) lines ≢ Some Exceeds
+      → halted behavior (Body n header above kept) lines ≢ Some TooLong
       → written_from (Body n header above kept) lines
       ≡ printed_of command header n above lines ++ command.last header (come_to header above lines)
       (kept_of command header n above kept lines)
@@ -100,8 +101,8 @@ module _ {K : Type 0} (command : Command K) where
   step_written : (k : ℕ) (stage : Stage) (read : Result HeadStep HeaderCause) (lines all : List (List ℕ))
       → drop (suc k) all ≡ lines
       → first_halt (halted_at (suc k) (refuses read)) (halted behavior (after_head command (suc k) stage read) lines)
-      ≢ Some Exceeds
-      → ((next : Stage) → halted behavior (Heading (suc (suc k)) next) lines ≢ Some Exceeds
+      ≢ Some TooLong
+      → ((next : Stage) → halted behavior (Heading (suc (suc k)) next) lines ≢ Some TooLong
       → written_from (Heading (suc (suc k)) next) lines ≡ text_under command (header_from (suc (suc k)) next lines) all)
       → written_at (halted_at (suc k) (refuses read)) (printed_head command (suc k) read)
       (printed behavior (after_head command (suc k) stage read) lines)
@@ -126,13 +127,13 @@ module _ {K : Type 0} (command : Command K) where
       ∙ ap (λ (body : List (List ℕ)). command.opens header ++ body_text command header (suc (suc k)) body) (sym is)
   step_written k stage (Err cause) lines all is within follows =
       let at : CommandState K = Heading (suc k) stage in
-      let refused = within_at (suc k) (Some Refuses)
-      (first_within (halted_at (suc k) (Some Refuses)) (halted behavior at lines) within) in
-      written-refused (halted_at (suc k) (Some Refuses)) (printed_head command (suc k) (Err cause))
+      let refused = within_at (suc k) (Some statuses.Header)
+      (first_within (halted_at (suc k) (Some statuses.Header)) (halted behavior at lines) within) in
+      written-refused (halted_at (suc k) (Some statuses.Header)) (printed_head command (suc k) (Err cause))
       (printed behavior at lines) (halted behavior at lines) (behavior.last (state_after behavior at lines)) refused
 
   head_written : (k : ℕ) (stage : Stage) (lines all : List (List ℕ)) → drop k all ≡ lines
-      → halted behavior (Heading (suc k) stage) lines ≢ Some Exceeds
+      → halted behavior (Heading (suc k) stage) lines ≢ Some TooLong
       → written_from (Heading (suc k) stage) lines ≡ text_under command (header_from (suc k) stage lines) all
   head_written k stage [] all is within = refl
   head_written k stage (line ∷ lines) all is within =

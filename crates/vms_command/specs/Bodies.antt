@@ -4,7 +4,7 @@ use Rattle.vms_base.specs.declared.headers.Header.{Header}
 use Rattle.vms_text.specs.declared.acts.Line.{Line}
 use Rattle.vms_line.specs.declared.causes.LineCause.{LineCause}
 use Rattle.vms_script.specs.Judging.{judged}
-use Rattle.vms_stream.specs.declared.endings.Ending.{Ending}
+use Rattle.vms_stream.specs.declared.statuses.Status.{Status}
 use Rattle.vms_command.specs.Commands.{Command, CommandState}
 use Rattle.vms_command.specs.Commands.CommandState.{Heading, Body}
 use Rattle.vms_command.specs.Lines.{LinesAbove, with_judged}
@@ -39,7 +39,7 @@ pub record SomeEnd {K : Type 0} (stands : Header → LinesAbove → K → Type 0
 
 -- a body ended its trace, and what it shows of it
 pub record ClosesBody {K : Type 0} (command : Command K) (stands shows : Header → LinesAbove → K → Type 0)
-    (header : Header) (accepted refused : ℕ) (ending : Ending) (out out' : List ℕ) : Type 0 where
+    (header : Header) (accepted refused : ℕ) (ending : Status) (out out' : List ℕ) : Type 0 where
   pub by : (above : LinesAbove) (kept : K) → stands header above kept → accepted ≡ length above.lines
       → refused ≡ above.refused →
       (ending ≡ command.ends above) × (out' ≡ out ++ command.last header above kept) × shows header above kept

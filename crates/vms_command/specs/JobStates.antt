@@ -9,9 +9,8 @@ use Rattle.vms_header.specs.Stages.{Stage, HeadStep}
 use Rattle.vms_header.specs.Stages.HeadStep.{Goes, Ends}
 use Rattle.vms_header.specs.Laws.{IsWritable}
 use Rattle.vms_script.specs.JudgeStates.{Stands}
-use Rattle.vms_stream.specs.declared.endings.Ending.{Ending}
-use Rattle.vms_stream.specs.declared.halts.Halt.{Halt}
-use Rattle.vms_stream.specs.declared.halts.Halt.TheVariants.{Exceeds}
+use Rattle.vms_stream.specs.declared.statuses.Status.{Status}
+use Rattle.vms_stream.specs.declared.statuses.Status.TheVariants.{TooLong}
 use Rattle.vms_command.specs.declared.body_jobs.BodyJob.{BodyJob}
 use Rattle.vms_command.specs.declared.trace_jobs.Work.{Work}
 use Rattle.vms_command.specs.declared.trace_jobs.Work.TheVariants as works
@@ -50,17 +49,17 @@ pub record BeginsBody {K B : Type 0} (command : Command K) (stands : B → Heade
 -- the job after it
 pub record TakesBodyLine {K B : Type 0} (command : Command K) (stands : B → Header → LinesAbove → K → Type 0)
     (header : Header)
-    (n : ℕ) (above : LinesAbove) (kept : K) (result : Result Line LineCause) (halt : Option Halt) (out out' : List ℕ)
+    (n : ℕ) (above : LinesAbove) (kept : K) (result : Result Line LineCause) (halt : Option Status) (out out' : List ℕ)
     (job : BodyJob B) : Type 0 where
   pub halt_is : halt ≡ exceeds (exceeds_limit above.lines result)
   pub printed : halt ≡ None → out' ≡ out ++ command.prints header n above result
-  pub unprinted : halt ≡ Some Exceeds → out' ≡ out
+  pub unprinted : halt ≡ Some TooLong → out' ≡ out
   pub here : halt ≡ None → StandsAfter stands header (with_judged result above)
       (command.next header n above result kept) job
 
 -- a body's job came to the end of its trace
 pub record EndsBody {K : Type 0} (command : Command K) (shows : Header → LinesAbove → K → Type 0) (header : Header)
-    (above : LinesAbove) (kept : K) (ending : Ending) (out out' : List ℕ) : Type 0 where
+    (above : LinesAbove) (kept : K) (ending : Status) (out out' : List ℕ) : Type 0 where
   pub ends : ending ≡ command.ends above
   pub printed : out' ≡ out ++ command.last header above kept
   pub shown : shows header above kept
@@ -80,7 +79,7 @@ StepsToWork command stands read work = ⊥
 
 -- a command took line n of a header, of which this was read
 pub record TakesHeadLine {K B : Type 0} (command : Command K) (stands : B → Header → LinesAbove → K → Type 0) (n : ℕ)
-    (read : Result HeadStep HeaderCause) (halt : Option Halt) (out out' : List ℕ) (work : Work B) : Type 0 where
+    (read : Result HeadStep HeaderCause) (halt : Option Status) (out out' : List ℕ) (work : Work B) : Type 0 where
   pub halt_is : halt ≡ refuses read
   pub printed : out' ≡ out ++ printed_head command n read
   pub leads : halt ≡ None → StepsToWork command stands read work

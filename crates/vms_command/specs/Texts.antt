@@ -4,7 +4,7 @@ use Rattle.vms_base.specs.declared.headers.Header.{Header}
 use Rattle.vms_text.specs.Lines.{lines_of}
 use Rattle.vms_header.specs.Stages.{Fault, read_header}
 use Rattle.vms_script.specs.Judging.{judged}
-use Rattle.vms_stream.specs.declared.halts.Halt.TheVariants.{Exceeds}
+use Rattle.vms_stream.specs.declared.statuses.Status.TheVariants.{TooLong}
 use Rattle.vms_stream.specs.Behaviors.{halted, output}
 use Rattle.vms_command.specs.Commands.{Command, following}
 use Rattle.vms_command.specs.Lines.{LinesAbove, come_to, nothing_above, with_judged}
@@ -41,5 +41,5 @@ text_of command text = text_under command (read_header (lines_of text)) (lines_o
 -- that is what a command writes line by line of a text within the limits
 abbrev pub WritesTexts : {K : Type 0} → Command K → Type 0
 WritesTexts command = (text : List ℕ) → halted (following command) (following command).start (lines_of text)
-    ≢ Some Exceeds →
+    ≢ Some TooLong →
     output (following command) (lines_of text) ≡ text_of command text

@@ -10,7 +10,7 @@ ghost use Rattle.vms_script.specs.JudgeStates.{IsInOneSpelling};
 use std::alloc::Global;
 use vms_base::{Header, Memory};
 use vms_script::JudgedLine;
-use vms_stream::Ending;
+use vms_stream::Status;
 
 /// What a command does with the body of a trace, after a header that was accepted.
 pub trait Body: Drop + Sized {
@@ -52,7 +52,7 @@ pub trait Body: Drop + Sized {
         accepted: u32,
         refused: u32,
         out: &mut Vec<u8>,
-    ) -> Result<Ending, Memory>
+    ) -> Result<Status, Memory>
         requires header { IsHeader header.now }
         requires body { SomeEnd (Stands self.old) header.now accepted refused }
         ensures { IfOk result (λ ending. ClosesBody command (Stands self.old) Shows header.now accepted refused ending

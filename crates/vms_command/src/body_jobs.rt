@@ -3,7 +3,7 @@ use crate::tallies::Tally;
 use std::alloc::Global;
 use vms_base::{Header, Memory};
 use vms_script::LineJudge;
-use vms_stream::{Ending, Halt};
+use vms_stream::Status;
 
 /// A command on its way through a body. It keeps what later lines are judged by, and no line.
 #[derive(Drop)]
@@ -48,7 +48,7 @@ impl<B: Body> BodyJob<B> {
         number: u32,
         line: &[u8],
         out: &mut Vec<u8>,
-    ) -> Result<Option<Halt>, Memory>
+    ) -> Result<Option<Status>, Memory>
         requires body { SomeBody B.Stands number self.old }
         requires most { number ≤ most_lines }
         ensures { IfOk result (λ halt. (header : Header) (above : LinesAbove) (kept : B.Kept) →
@@ -65,7 +65,7 @@ impl<B: Body> BodyJob<B> {
     }
 
     /// Appends what is printed at the end of the trace, and says how the command ends.
-    pub(crate) fn end(&mut self, out: &mut Vec<u8>) -> Result<Ending, Memory>
+    pub(crate) fn end(&mut self, out: &mut Vec<u8>) -> Result<Status, Memory>
         requires { (n : ℕ) × SomeBody B.Stands n self.old }
         ensures { IfOk result (λ ending. (header : Header) (above : LinesAbove) (kept : B.Kept) →
             StandsAfter B.Stands header above kept self.old →

@@ -4,15 +4,15 @@
 
 mod bodies;
 mod body_jobs;
-mod endings;
 mod following;
 mod laws;
 mod printing;
+mod statuses;
 mod tallies;
 mod trace_jobs;
 
 pub use bodies::Body;
-pub use endings::ending_of;
 pub use following::follow;
 pub use laws::writes_texts;
 pub use printing::{write_done_line, write_prefix, write_refused_line};
+pub use statuses::status_at_end;

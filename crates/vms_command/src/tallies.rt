@@ -2,7 +2,7 @@ ghost use Rattle.std.specs.Prelude.{◌≡◌, ◌+◌, ◌<◌, ◌^◌, Ok};
 ghost use Rattle.vms_command.specs.Limits.{is_report};
 
 use vms_line::{Boundary, Line, LineCause};
-use vms_stream::Halt;
+use vms_stream::Status;
 
 /// The most phases that have a lane line.
 const MOST_PHASES: u32 = 10_000;
@@ -44,7 +44,7 @@ impl Tally {
     }
 
     /// Adds a line by what was judged of it, unless it exceeds a limit.
-    pub(crate) fn count(&mut self, judged: &Result<Line, LineCause>) -> Option<Halt>
+    pub(crate) fn count(&mut self, judged: &Result<Line, LineCause>) -> Option<Status>
         requires accepted { self.old.accepted + 1 < 2 ^ 32 }
         requires refused { self.old.refused + 1 < 2 ^ 32 }
         ensures { (above : LinesAbove) → IsTallyOf above self.old → Adds above judged.now result self.new }
@@ -59,7 +59,7 @@ impl Tally {
     }
 
     /// Adds a line that counts, unless it opens a phase too many or is a report too many. A blank line changes nothing.
-    fn add(&mut self, line: &Line) -> Option<Halt>
+    fn add(&mut self, line: &Line) -> Option<Status>
         requires { self.old.accepted + 1 < 2 ^ 32 }
         ensures { (above : LinesAbove) → IsTallyOf above self.old → Adds above (Ok line.now) result self.new }
     {
@@ -71,7 +71,7 @@ impl Tally {
     }
 
     /// Adds a line of a lane.
-    fn add_lane(&mut self) -> Option<Halt>
+    fn add_lane(&mut self) -> Option<Status>
         requires { self.old.accepted + 1 < 2 ^ 32 }
         ensures { (above : LinesAbove) (lane : Lane) (act : Act) → IsTallyOf above self.old →
             Adds above (Ok (Line.Lane lane act)) result self.new }
@@ -81,7 +81,7 @@ impl Tally {
             return None;
         }
         if self.phases >= MOST_PHASES {
-            return Some(Halt::Exceeds);
+            return Some(Status::TooLong);
         }
         self.phases += 1;
         self.in_phase = true;
@@ -90,7 +90,7 @@ impl Tally {
     }
 
     /// Adds a boundary line.
-    fn add_boundary(&mut self, boundary: Boundary) -> Option<Halt>
+    fn add_boundary(&mut self, boundary: Boundary) -> Option<Status>
         requires { self.old.accepted + 1 < 2 ^ 32 }
         ensures { (above : LinesAbove) → IsTallyOf above self.old
             → Adds above (Ok (Line.Boundary boundary)) result self.new }
@@ -101,7 +101,7 @@ impl Tally {
             return None;
         }
         if self.reports >= MOST_REPORTS {
-            return Some(Halt::Exceeds);
+            return Some(Status::TooLong);
         }
         self.reports += 1;
         self.in_phase = false;

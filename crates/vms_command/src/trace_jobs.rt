@@ -5,7 +5,7 @@ use std::alloc::Global;
 use std::mem::replace;
 use vms_base::Memory;
 use vms_header::{HeaderReader, HeaderStep, ReadError};
-use vms_stream::{Ending, Halt, Job};
+use vms_stream::{Job, Status};
 
 /// The most lines of a trace.
 const MOST_LINES: u32 = 1_000_000;
@@ -51,7 +51,7 @@ impl<B: Body> TraceJob<B> {
 
     /// Takes a line within the limit.
     #[inline(always)]
-    fn take_within(&mut self, line: &[u8], out: &mut Vec<u8>) -> Result<Option<Halt>, Memory>
+    fn take_within(&mut self, line: &[u8], out: &mut Vec<u8>) -> Result<Option<Status>, Memory>
         requires stands { (s : CommandState B.Kept) × StandsAt B.Stands self.old s }
         requires within { self.old.line ≤ most_lines }
         ensures { IfOk result (λ halt. (s : CommandState B.Kept) → StandsAt B.Stands self.old s →
@@ -73,7 +73,7 @@ impl<B: Body> TraceJob<B> {
         number: u32,
         line: &[u8],
         out: &mut Vec<u8>,
-    ) -> Result<Option<Halt>, Memory>
+    ) -> Result<Option<Status>, Memory>
         ensures work { IfOk result (λ halt. (stage : Stage) → IsHead stage self.old.work →
             TakesHeadLine B.command B.Stands number (head_line stage line.now) halt
             out.old.items out.new.items self.new.work) }
@@ -99,21 +99,21 @@ impl<B: Body> Job for TraceJob<B> {
 
     ghost Shows = { shown B.Shows };
 
-    fn take_line(&mut self, line: &[u8], out: &mut Vec<u8>) -> Result<Option<Halt>, Memory> {
+    fn take_line(&mut self, line: &[u8], out: &mut Vec<u8>) -> Result<Option<Status>, Memory> {
         if self.line > MOST_LINES {
-            return Ok(Some(Halt::Exceeds));
+            return Ok(Some(Status::TooLong));
         }
         self.take_within(line, out)
     }
 
-    fn end(&mut self, out: &mut Vec<u8>) -> Result<Ending, Memory> {
+    fn end(&mut self, out: &mut Vec<u8>) -> Result<Status, Memory> {
         match &mut self.work {
             Work::Header(reader) => {
                 write_header_line(out, self.line, reader.missing())?;
-                Ok(Ending::HeaderRefused)
+                Ok(Status::Header)
             }
             Work::Body(body) => body.end(out),
-            Work::Stopped => Ok(Ending::Done),
+            Work::Stopped => Ok(Status::Done),
         }
     }
 }
@@ -129,7 +129,7 @@ fn step_work<B: Body>(
     number: u32,
     line: &[u8],
     out: &mut Vec<u8>,
-) -> Result<(Work<B>, Option<Halt>), Memory>
+) -> Result<(Work<B>, Option<Status>), Memory>
     ensures { IfOk result (λ took. (stage : Stage) → IsHead stage work →
         TakesHeadLine B.command B.Stands number (head_line stage line.now) took.1
         out.old.items out.new.items took.0) }
@@ -148,7 +148,7 @@ fn step_header<B: Body>(
     number: u32,
     line: &[u8],
     out: &mut Vec<u8>,
-) -> Result<(Work<B>, Option<Halt>), Memory>
+) -> Result<(Work<B>, Option<Status>), Memory>
     ensures { IfOk result (λ took. TakesHeadLine B.command B.Stands number (head_line reader line.now) took.1
         out.old.items out.new.items took.0) }
 {
@@ -160,7 +160,7 @@ fn step_header<B: Body>(
         }
         Err(ReadError::Refused(cause)) => {
             write_header_line(out, number, cause)?;
-            Ok((Work::Stopped, Some(Halt::Refuses)))
+            Ok((Work::Stopped, Some(Status::Header)))
         }
         Err(ReadError::Memory) => Err(Memory),
     }

@@ -1,7 +1,5 @@
-ghost use Rattle.std.specs.Prelude.{◌≡◌, ◌++◌, Bool, false, cond, nat_lt, length, codes};
-ghost use Rattle.std.specs.Result.{is_err};
-ghost use Rattle.vms_command.specs.Printing.{done_line};
-ghost use Rattle.vms_stream.specs.declared.endings.Ending.TheVariants as endings;
+ghost use Rattle.std.specs.Prelude.{◌≡◌, Bool};
+ghost use Rattle.vms_layer_trials.specs.Behaviors.{marking};
 
 use std::alloc::Global;
 use std::test::Fail;
@@ -9,7 +7,7 @@ use vms_base::{Header, Memory};
 use vms_command::{Body, follow, write_done_line};
 use vms_io::{MemSink, MemSource};
 use vms_script::JudgedLine;
-use vms_stream::{Ending, Status};
+use vms_stream::Status;
 
 /// Writes a mark for each line, and one at the end for the last line.
 #[derive(Drop)]
@@ -20,14 +18,7 @@ struct Marks {
 impl Body for Marks {
     ghost Kept = { Bool };
 
-    ghost command = { record {
-      begins = λ header. false;
-      opens = λ header. codes "begins\n";
-      next = λ header n above result kept. is_err result;
-      prints = λ header n above result. cond (is_err result) (codes "-") (codes "+");
-      last = λ header above kept. cond kept (codes "?") (codes "!") ++ done_line (length above.lines) above.refused;
-      ends = λ above. cond (nat_lt 0 above.refused) endings.Refused endings.Done;
-    } };
+    ghost command = { marking };
 
     ghost Stands = { λ body header above kept. body.refused ≡ kept };
 
@@ -56,13 +47,13 @@ impl Body for Marks {
         accepted: u32,
         refused: u32,
         out: &mut Vec<u8>,
-    ) -> Result<Ending, Memory> {
+    ) -> Result<Status, Memory> {
         out.extend_from_slice(if self.refused { b"?" } else { b"!" })?;
         write_done_line(out, accepted, refused)?;
         Ok(if refused > 0 {
-            Ending::Refused
+            Status::Refused
         } else {
-            Ending::Done
+            Status::Done
         })
     }
 }

@@ -1,12 +1,11 @@
-ghost use Rattle.std.specs.Prelude.{ℕ, suc, ◌≡◌, ◌≤◌, ◌∷◌, ◌++◌, [], nat_eq, ◌&&◌, cond, length, codes, Some, None};
-ghost use Rattle.vms_stream.specs.declared.endings.Ending.TheVariants as endings;
-ghost use Rattle.vms_stream.specs.declared.halts.Halt.TheVariants as halts;
+ghost use Rattle.std.specs.Prelude.{ℕ, ◌≡◌, ◌≤◌};
+ghost use Rattle.vms_layer_trials.specs.Behaviors.{repeating};
 
 use std::alloc::Global;
 use std::test::Fail;
 use vms_base::Memory;
 use vms_io::{MemSink, MemSource};
-use vms_stream::{Ending, Halt, Job, Status, stream};
+use vms_stream::{Job, Status, stream};
 
 /// Repeats its lines, refuses an empty first line, and exceeds a limit at its fifth line.
 #[derive(Drop)]
@@ -17,41 +16,32 @@ struct Repeats {
 impl Job for Repeats {
     ghost State = { ℕ };
 
-    ghost behavior = { record {
-      start = 0;
-      next = λ lines line. suc lines;
-      prints = λ lines line. line ++ 10 ∷ [];
-      halts = λ lines line. cond (nat_eq lines 4) (Some halts.Exceeds)
-          (cond (nat_eq lines 0 && nat_eq (length line) 0) (Some halts.Refuses) None);
-      last = λ lines. codes "end\n";
-      ends = λ lines. cond (nat_eq lines 0) endings.HeaderRefused (cond (nat_eq lines 2) endings.Refused
-          (cond (nat_eq lines 3) endings.NotBuilt endings.Done));
-    } };
+    ghost behavior = { repeating };
 
     ghost Stands = { λ job lines. (job.lines ≡ lines) × (lines ≤ 4) };
 
     ghost Shows = { λ lines. lines ≤ 4 };
 
-    fn take_line(&mut self, line: &[u8], out: &mut Vec<u8>) -> Result<Option<Halt>, Memory> {
+    fn take_line(&mut self, line: &[u8], out: &mut Vec<u8>) -> Result<Option<Status>, Memory> {
         if self.lines == 4 {
-            return Ok(Some(Halt::Exceeds));
+            return Ok(Some(Status::TooLong));
         }
         out.extend_from_slice(line)?;
         out.extend_from_slice(b"\n")?;
         if self.lines == 0 && line.is_empty() {
-            return Ok(Some(Halt::Refuses));
+            return Ok(Some(Status::Header));
         }
         self.lines += 1;
         Ok(None)
     }
 
-    fn end(&mut self, out: &mut Vec<u8>) -> Result<Ending, Memory> {
+    fn end(&mut self, out: &mut Vec<u8>) -> Result<Status, Memory> {
         out.extend_from_slice(b"end\n")?;
         Ok(match self.lines {
-            0 => Ending::HeaderRefused,
-            2 => Ending::Refused,
-            3 => Ending::NotBuilt,
-            _ => Ending::Done,
+            0 => Status::Header,
+            2 => Status::Refused,
+            3 => Status::NotBuilt,
+            _ => Status::Done,
         })
     }
 }

@@ -6,7 +6,7 @@ use Rattle.vms_base.specs.declared.headers.Header.{Header}
 use Rattle.vms_base.specs.Headers.{IsHeader}
 use Rattle.vms_script.proofs.Known.{judged-known}
 use Rattle.vms_command.specs.Bodies.{ClosesBody, IsJudged, TakesLine}
-use Rattle.vms_command.specs.Commands.{ending_of}
+use Rattle.vms_command.specs.Commands.{status_at_end}
 use Rattle.vms_command.specs.Printing.{done_line, refused_line}
 use Rattle.vms_command.specs.Lines.{LinesAbove, with_judged}
 use Rattle.vms_phase.specs.OpenPhases.{Moment, change_item}
@@ -24,8 +24,8 @@ use Rattle.vms_script.proofs.Phases.{ArePhases-item}
 use Rattle.vms_script.specs.Judging.{judged}
 use Rattle.vms_script.specs.Totals.{ArePhases, line_of}
 use Rattle.vms_script.specs.Volumes.{by_cpu, spent_on_counter, volume}
-use Rattle.vms_stream.specs.declared.endings.Ending.{Ending}
-use Rattle.vms_stream.specs.declared.endings.Ending.TheVariants.{NotBuilt}
+use Rattle.vms_stream.specs.declared.statuses.Status.{Status}
+use Rattle.vms_stream.specs.declared.statuses.Status.TheVariants.{NotBuilt}
 use Rattle.vms_text.specs.declared.acts.Act.{Act}
 use Rattle.vms_text.specs.declared.acts.Boundary.{Boundary as BoundaryOf}
 use Rattle.vms_text.specs.declared.acts.Item.{Item}
@@ -235,9 +235,9 @@ TakesLine-goes replay next header n result out goes = record {
 }
 
 -- the end of a trace that is replayed whole
-pub ClosesBody-replayed : (replay : Replay) (header : Header) (accepted refused : ℕ) (ending : Ending)
+pub ClosesBody-replayed : (replay : Replay) (header : Header) (accepted refused : ℕ) (ending : Status)
     (out out' : List ℕ)
-    → replay.built ≡ true → ending ≡ ending_of refused
+    → replay.built ≡ true → ending ≡ status_at_end refused
     → out' ≡ (out ++ replay.held.items) ++ done_line accepted refused
     → ((h : Header) (ended : List (List Item)) (items : List Item) → IsRun h ended items replay.run.state
     → InFileOrder h (ended ++ as_phase items))
@@ -246,8 +246,8 @@ ClosesBody-replayed replay header accepted refused ending out out' built ends pr
   by = λ above kept after accepts refuses.
       let runs = after.runs built in
       let all : all_replayed above.lines ≡ true = sym after.knows ∙ built in (
-        ends ∙ ap ending_of refuses
-            ∙ ap (λ (b : Bool). if b then ending_of above.refused else NotBuilt) (sym all),
+        ends ∙ ap status_at_end refuses
+            ∙ ap (λ (b : Bool). if b then status_at_end above.refused else NotBuilt) (sym all),
         prints ∙ append_assoc out replay.held.items (done_line accepted refused)
             ∙ ap (λ (bytes : List ℕ). out ++ bytes)
             (ap₂ (λ (front last : List ℕ). front ++ last) runs.holds (ap₂ done_line accepts refuses)
@@ -264,7 +264,7 @@ pub ClosesBody-unreplayed : (replay : Replay) (header : Header) (accepted refuse
 ClosesBody-unreplayed replay header accepted refused out unbuilt = record {
   by = λ above kept after accepts refuses.
       let some : all_replayed above.lines ≡ false = sym after.knows ∙ unbuilt in (
-        ap (λ (b : Bool). if b then ending_of above.refused else NotBuilt) (sym some),
+        ap (λ (b : Bool). if b then status_at_end above.refused else NotBuilt) (sym some),
         sym (append-nil out) ∙ ap (λ (bytes : List ℕ). out ++ bytes)
             (ap (λ (b : Bool). if b then kept.printed ++ done_line (length above.lines) above.refused else [])
             (sym some)),

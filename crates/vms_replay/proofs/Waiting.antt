@@ -6,14 +6,15 @@ use Rattle.vms_command.specs.Commands.CommandState.{Heading, Body}
 use Rattle.vms_command.specs.Limits.{most_lines}
 use Rattle.vms_replay.specs.Laws.{WaitsForItsEnd}
 use Rattle.vms_replay.specs.Replaying.{Kept, replay, replaying}
-use Rattle.vms_stream.specs.declared.halts.Halt.{Halt}
-use Rattle.vms_stream.specs.declared.halts.Halt.TheVariants.{Refuses, Exceeds}
+use Rattle.vms_stream.specs.declared.statuses.Status.{Status}
+use Rattle.vms_stream.specs.declared.statuses.Status.TheVariants.{TooLong}
+use Rattle.vms_stream.specs.declared.statuses.Status.TheVariants as statuses
 use Rattle.vms_stream.specs.Behaviors.{first_halt, halted, printed, printed_from}
 use Rattle.vms_header.specs.declared.causes.HeaderCause.{HeaderCause}
 use Rattle.vms_header.specs.Stages.{HeadStep, head_line}
 use Rattle.vms_header.specs.Stages.HeadStep.{Goes, Ends}
 
-never_none : (over : Bool) → (if over then Some Exceeds else Some Refuses) ≡ None → ⊥
+never_none : (over : Bool) → (if over then Some TooLong else Some statuses.Header) ≡ None → ⊥
 never_none true is = absurd cc
 never_none false is = absurd cc
 
@@ -28,13 +29,14 @@ line-silent : (s : CommandState Kept) (line : List ℕ) → halts_at s line ≡ 
 line-silent (Heading n stage) line goes = step-silent n (head_line stage line) goes
 line-silent (Body n header above kept) line goes = refl
 
-silent-from : (halt : Option Halt) (line later : List ℕ) (after : Option Halt) → (halt ≡ None → line ≡ [])
-    → first_halt halt after ≢ Some Refuses → (after ≢ Some Refuses → later ≡ []) → printed_from halt line later ≡ []
+silent-from : (halt : Option Status) (line later : List ℕ) (after : Option Status) → (halt ≡ None → line ≡ [])
+    → first_halt halt after ≢ Some statuses.Header → (after ≢ Some statuses.Header → later ≡ [])
+    → printed_from halt line later ≡ []
 silent-from None line later after here not there = ap₂ (λ (front rest : List ℕ). front ++ rest) (here refl) (there not)
-silent-from (Some Refuses) line later after here not there = absurd (not refl)
-silent-from (Some Exceeds) line later after here not there = refl
+silent-from (Some statuses.Header) line later after here not there = absurd (not refl)
+silent-from (Some _) line later after here not there = refl
 
-lines-silent : (s : CommandState Kept) (lines : List (List ℕ)) → halted replay s lines ≢ Some Refuses
+lines-silent : (s : CommandState Kept) (lines : List (List ℕ)) → halted replay s lines ≢ Some statuses.Header
     → printed replay s lines ≡ []
 lines-silent s [] not = refl
 lines-silent s (line ∷ lines) not =

@@ -3,7 +3,7 @@
 use Rattle.std.specs.Prelude.{ℕ, ◌&&◌, Bool, true, false, if◌then◌else◌, ◌≡◌, List, [], ◌∷◌, ◌++◌, length, codes}
 use Rattle.std.specs.Prelude.{Result, Ok, Err}
 use Rattle.vms_base.specs.declared.headers.Header.{Header}
-use Rattle.vms_command.specs.Commands.{Command, CommandState, ending_of, following}
+use Rattle.vms_command.specs.Commands.{Command, CommandState, MayEnd-status_at_end, status_at_end, following}
 use Rattle.vms_command.specs.Lines.{LinesAbove}
 use Rattle.vms_command.specs.Bodies.{shown}
 use Rattle.vms_command.specs.Printing.{done_line, line_prefix, newline, refused_line}
@@ -11,9 +11,9 @@ use Rattle.vms_command.specs.Texts.{text_of}
 use Rattle.vms_phase.specs.Runs.{InFileOrder, as_phase}
 use Rattle.vms_replay.specs.Reports.{totals_report}
 use Rattle.vms_script.specs.Totals.{plain_total}
-use Rattle.vms_stream.specs.Behaviors.{Behavior}
-use Rattle.vms_stream.specs.declared.endings.Ending.{Ending}
-use Rattle.vms_stream.specs.declared.endings.Ending.TheVariants.{NotBuilt}
+use Rattle.vms_stream.specs.Behaviors.{Behavior, MayEnd}
+use Rattle.vms_stream.specs.declared.statuses.Status.{Status}
+use Rattle.vms_stream.specs.declared.statuses.Status.TheVariants.{NotBuilt}
 use Rattle.vms_text.specs.declared.acts.Act.{Act}
 use Rattle.vms_text.specs.declared.acts.Act.TheVariants.{Mod, Inc, Dec}
 use Rattle.vms_text.specs.declared.acts.Boundary.{Boundary as BoundaryOf}
@@ -98,9 +98,16 @@ abbrev pub last_text : LinesAbove → Kept → List ℕ
 last_text above kept =
     if all_replayed above.lines then kept.printed ++ done_line (length above.lines) above.refused else []
 
-abbrev pub replay_ending : LinesAbove → Ending
+abbrev pub replay_ending : LinesAbove → Status
 replay_ending above =
-    if all_replayed above.lines then ending_of above.refused else NotBuilt
+    if all_replayed above.lines then status_at_end above.refused else NotBuilt
+
+pub MayEnd-replay_ending : (above : LinesAbove) → MayEnd (replay_ending above)
+MayEnd-replay_ending above = by (all_replayed above.lines)
+  where
+    by : (all : Bool) → MayEnd (if all then status_at_end above.refused else NotBuilt)
+    by true = MayEnd-status_at_end above.refused
+    by false = tt
 
 -- a replay, line by line
 abbrev pub replaying : Command Kept
@@ -111,6 +118,7 @@ replaying = record {
   prints = λ header n above result. [];
   last = λ header above kept. last_text above kept;
   ends = replay_ending;
+  may_end = MayEnd-replay_ending;
 }
 
 abbrev pub replay : Behavior (CommandState Kept)

@@ -3,11 +3,11 @@ use crate::reports::push_totals;
 use std::alloc::Global;
 use vms_base::{CounterId, Header, Memory, ZoneSize};
 use vms_calc::{Rule, Rules, normal_threshold, pressure_threshold};
-use vms_command::{Body, ending_of, write_done_line, write_prefix, write_refused_line};
+use vms_command::{Body, status_at_end, write_done_line, write_prefix, write_refused_line};
 use vms_line::{Act, Boundary, Lane, Line, LineCause, ReportKind};
 use vms_phase::RunReplay;
 use vms_script::JudgedLine;
-use vms_stream::Ending;
+use vms_stream::Status;
 
 /// A replay on its way through a body.
 #[derive(Drop)]
@@ -235,13 +235,13 @@ impl Body for Replay {
         accepted: u32,
         refused: u32,
         out: &mut Vec<u8>,
-    ) -> Result<Ending, Memory> {
+    ) -> Result<Status, Memory> {
         if !self.built {
-            return Ok(Ending::NotBuilt);
+            return Ok(Status::NotBuilt);
         }
         self.run.end();
         out.extend_from_slice(self.held.as_slice())?;
         write_done_line(out, accepted, refused)?;
-        Ok(ending_of(refused))
+        Ok(status_at_end(refused))
     }
 }

@@ -1,10 +1,10 @@
 -- A behavior over lines in two parts.
 use Rattle.std.proofs.Common.{◌≡◌, ℕ, List, [], ◌∷◌, ◌++◌, Option, Some, None, refl, sym, ap, ◌∙◌, append_assoc}
 use Rattle.std.proofs.Common.{append-nil}
-use Rattle.vms_stream.specs.declared.halts.Halt.{Halt}
-use Rattle.vms_stream.specs.declared.halts.Halt.TheVariants.{Refuses, Exceeds}
-use Rattle.vms_stream.specs.Behaviors.{Behavior, state_after, first_halt, halted, printed_from, printed, last_words}
-use Rattle.vms_stream.specs.Behaviors.{output}
+use Rattle.vms_stream.specs.declared.statuses.Status.{Status}
+use Rattle.vms_stream.specs.declared.statuses.Status.TheVariants.{Header}
+use Rattle.vms_stream.specs.Behaviors.{Behavior, MayHalt, state_after, first_halt, halted, printed_from, printed}
+use Rattle.vms_stream.specs.Behaviors.{last_words, output}
 
 module _ {S : Type 0} (behavior : Behavior S) where
   pub state_after-append : (s : S) (lines more : List (List ℕ))
@@ -12,7 +12,7 @@ module _ {S : Type 0} (behavior : Behavior S) where
   state_after-append s [] more = refl
   state_after-append s (line ∷ lines) more = state_after-append (behavior.next s line) lines more
 
-  first_halt-none : (first later : Option Halt) → first_halt first later ≡ None → (first ≡ None) × (later ≡ None)
+  first_halt-none : (first later : Option Status) → first_halt first later ≡ None → (first ≡ None) × (later ≡ None)
   first_halt-none None later none = (refl, none)
   first_halt-none (Some halt) later none = absurd cc
 
@@ -22,7 +22,7 @@ module _ {S : Type 0} (behavior : Behavior S) where
   halted-append s [] more none = refl
   halted-append s (line ∷ lines) more none =
       let both = first_halt-none (behavior.halts s line) (halted behavior (behavior.next s line) lines) none in
-      ap (λ (first : Option Halt). first_halt first (halted behavior (behavior.next s line) (lines ++ more))) both.0
+      ap (λ (first : Option Status). first_halt first (halted behavior (behavior.next s line) (lines ++ more))) both.0
       ∙ halted-append (behavior.next s line) lines more both.1
 
   pub printed-append : (s : S) (lines more : List (List ℕ)) → halted behavior s lines ≡ None
@@ -32,21 +32,21 @@ module _ {S : Type 0} (behavior : Behavior S) where
   printed-append s (line ∷ lines) more none =
       let both = first_halt-none (behavior.halts s line) (halted behavior (behavior.next s line) lines) none in
       let next = behavior.next s line in
-      ap (λ (first : Option Halt). printed_from first (behavior.prints s line) (printed behavior next (lines ++ more)))
+      ap (λ (first : Option Status). printed_from first (behavior.prints s line) (printed behavior next (lines ++ more)))
       both.0
       ∙ ap (λ (rest : List ℕ). behavior.prints s line ++ rest) (printed-append next lines more both.1)
       ∙ sym (append_assoc (behavior.prints s line) (printed behavior next lines)
       (printed behavior (state_after behavior next lines) more))
-      ∙ ap (λ (first : Option Halt). printed_from first (behavior.prints s line) (printed behavior next lines)
+      ∙ ap (λ (first : Option Status). printed_from first (behavior.prints s line) (printed behavior next lines)
       ++ printed behavior (state_after behavior next lines) more) (sym both.0)
 
   -- what lines print begins what they and more lines print
-  begins_from : (first : Option Halt) (line printed all : List ℕ) → (rest : List ℕ) × (all ≡ printed ++ rest)
+  begins_from : (first : Option Status) (line printed all : List ℕ) → (rest : List ℕ) × (all ≡ printed ++ rest)
       → (rest : List ℕ) × (printed_from first line all ≡ printed_from first line printed ++ rest)
   begins_from None line printed all later =
       (later.0, ap (λ (rest : List ℕ). line ++ rest) later.1 ∙ sym (append_assoc line printed later.0))
-  begins_from (Some Refuses) line printed all later = ([], sym (append-nil line))
-  begins_from (Some Exceeds) line printed all later = ([], refl)
+  begins_from (Some Header) line printed all later = ([], sym (append-nil line))
+  begins_from (Some _) line printed all later = ([], refl)
 
   pub printed-begins : (s : S) (lines more : List (List ℕ))
       → (rest : List ℕ) × (printed behavior s (lines ++ more) ≡ printed behavior s lines ++ rest)
@@ -71,24 +71,35 @@ module _ {S : Type 0} (behavior : Behavior S) where
       → output behavior lines ≡ printed behavior behavior.start lines ++ behavior.last
       (state_after behavior behavior.start lines)
   output-open lines none =
-      ap (λ (halt : Option Halt). printed behavior behavior.start lines ++ last_words halt
+      ap (λ (halt : Option Status). printed behavior behavior.start lines ++ last_words halt
       (behavior.last (state_after behavior behavior.start lines))) none
 
   -- nothing is printed after a line that stops it
-  stopped-prints : (halt : Halt) (line later other : List ℕ)
+  stopped-prints : (halt : Status) (line later other : List ℕ)
       → printed_from (Some halt) line later ≡ printed_from (Some halt) line other
-  stopped-prints Refuses line later other = refl
-  stopped-prints Exceeds line later other = refl
+  stopped-prints Header line later other = refl
+  stopped-prints _ line later other = refl
+
+  -- lines stop it with a status that a line may stop it with
+  pub MayHalt-halted : (s : S) (lines : List (List ℕ)) → MayHalt (halted behavior s lines)
+  MayHalt-halted s [] = tt
+  MayHalt-halted s (line ∷ lines) =
+      by (behavior.halts s line) (behavior.may_halt s line) (MayHalt-halted (behavior.next s line) lines)
+    where
+      by : (first : Option Status) → MayHalt first → MayHalt (halted behavior (behavior.next s line) lines)
+          → MayHalt (first_halt first (halted behavior (behavior.next s line) lines))
+      by None may later = later
+      by (Some halt) may later = may
 
   -- where a line of the first part stops it
-  pub halted-stops : (s : S) (lines more : List (List ℕ)) (halt : Halt) → halted behavior s lines ≡ Some halt
+  pub halted-stops : (s : S) (lines more : List (List ℕ)) (halt : Status) → halted behavior s lines ≡ Some halt
       → (halted behavior s (lines ++ more) ≡ Some halt)
       × (printed behavior s (lines ++ more) ≡ printed behavior s lines)
   halted-stops s [] more halt some = absurd cc
   halted-stops s (line ∷ lines) more halt some =
       by (behavior.halts s line) refl (halted-stops (behavior.next s line) lines more halt)
     where
-      by : (first : Option Halt) → behavior.halts s line ≡ first
+      by : (first : Option Status) → behavior.halts s line ≡ first
           → (halted behavior (behavior.next s line) lines ≡ Some halt
           → (halted behavior (behavior.next s line) (lines ++ more) ≡ Some halt)
           × (printed behavior (behavior.next s line) (lines ++ more) ≡ printed behavior (behavior.next s line) lines))
@@ -97,20 +108,20 @@ module _ {S : Type 0} (behavior : Behavior S) where
       by None is again =
           let next = behavior.next s line in
           let later : halted behavior next lines ≡ Some halt
-          = sym (ap (λ (first : Option Halt). first_halt first (halted behavior next lines)) is) ∙ some in
+          = sym (ap (λ (first : Option Status). first_halt first (halted behavior next lines)) is) ∙ some in
           let stops = again later in (
-            ap (λ (first : Option Halt). first_halt first (halted behavior next (lines ++ more))) is ∙ stops.0,
+            ap (λ (first : Option Status). first_halt first (halted behavior next (lines ++ more))) is ∙ stops.0,
             ap (λ (rest : List ℕ). printed_from (behavior.halts s line) (behavior.prints s line) rest) stops.1,
           )
       by (Some first) is again =
           let next = behavior.next s line in (
-            ap (λ (found : Option Halt). first_halt found (halted behavior next (lines ++ more))) is
-                ∙ sym (ap (λ (found : Option Halt). first_halt found (halted behavior next lines)) is) ∙ some,
-            ap (λ (found : Option Halt). printed_from found (behavior.prints s line)
+            ap (λ (found : Option Status). first_halt found (halted behavior next (lines ++ more))) is
+                ∙ sym (ap (λ (found : Option Status). first_halt found (halted behavior next lines)) is) ∙ some,
+            ap (λ (found : Option Status). printed_from found (behavior.prints s line)
                 (printed behavior next (lines ++ more))) is
                 ∙ stopped-prints first (behavior.prints s line) (printed behavior next (lines ++ more))
                 (printed behavior next lines)
-                ∙ sym (ap (λ (found : Option Halt). printed_from found (behavior.prints s line)
+                ∙ sym (ap (λ (found : Option Status). printed_from found (behavior.prints s line)
                 (printed behavior next lines)) is),
           )
 
@@ -119,7 +130,7 @@ module _ {S : Type 0} (behavior : Behavior S) where
       → halted behavior s lines ≡ None
   halted-first s lines more none = by (halted behavior s lines) refl
     where
-      by : (found : Option Halt) → halted behavior s lines ≡ found → halted behavior s lines ≡ None
+      by : (found : Option Status) → halted behavior s lines ≡ found → halted behavior s lines ≡ None
       by None is = is
       by (Some halt) is =
           let stops : Some halt ≡ None = sym (halted-stops s lines more halt is).0 ∙ none in absurd cc

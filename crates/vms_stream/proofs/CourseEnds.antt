@@ -4,16 +4,13 @@ use Rattle.std.proofs.Common.{Ok, Err, Result, refl, sym, ap, subst, ◌∙◌, 
 use Rattle.std.specs.Io.KnownBytes.{Appends, Consumes, IsAtEnd}
 use Rattle.std.proofs.KnownBytes.{Appends-nil, Appends-trans, Consumes-nil, Consumes-trans}
 use Rattle.vms_stream.specs.declared.courses.Course.{Course}
-use Rattle.vms_stream.specs.declared.endings.Ending.{Ending}
-use Rattle.vms_stream.specs.declared.endings.Ending.TheVariants as endings
 use Rattle.vms_stream.specs.declared.statuses.Status.{Status}
-use Rattle.vms_stream.specs.declared.statuses.Status.TheVariants as statuses
-use Rattle.vms_stream.specs.declared.stops.Stop.{Stop}
-use Rattle.vms_stream.specs.declared.stops.Stop.TheVariants.{WriteFault, Memory}
+use Rattle.vms_stream.specs.declared.statuses.Status.TheVariants.{Done, Header, Memory, NotBuilt, ReadFault, Refused}
+use Rattle.vms_stream.specs.declared.statuses.Status.TheVariants.{WriteFault}
 use Rattle.vms_stream.specs.Answers.{Answers, Ends, FaultsOfSink, FaultsOfSource, IsLastPiece, Says}
-use Rattle.vms_stream.specs.Courses.{Finishes, IsCourse, Steps, lines_judged, status_at_end, status_in, status_of}
+use Rattle.vms_stream.specs.Courses.{Finishes, IsCourse, Steps, lines_judged, status_in}
 use Rattle.vms_stream.specs.Jobs.{Closes}
-use Rattle.vms_stream.specs.Behaviors.{Behavior, state_after, halted, printed, output}
+use Rattle.vms_stream.specs.Behaviors.{Behavior, MayEnd, state_after, halted, printed, output}
 use Rattle.vms_stream.specs.Pieces.{whole_lines, partial_line}
 use Rattle.vms_stream.proofs.BehaviorLaws.{halted-first, output-open, printed-begins}
 use Rattle.vms_stream.proofs.TwoPieces.{lines_of-parts}
@@ -24,7 +21,7 @@ use Rattle.vms_text.specs.Lines.{lines_of}
 reads_after : {R : Type 0} (left : R → Option (List ℕ)) (faults : R → ℕ) (src src' src'' : R) (status : Status)
     → faults src' ≡ faults src
     → FaultsOfSource left faults status src' src'' → FaultsOfSource left faults status src src''
-reads_after left faults src src' src'' statuses.ReadFault none last = record {
+reads_after left faults src src' src'' ReadFault none last = record {
   failing = last.failing;
   none_before = last.none_before ∙ none;
   once = last.once;
@@ -35,7 +32,7 @@ reads_after left faults src src' src'' _ none same = same ∙ none
 writes_after : {K : Type 0} (held : K → Option (List ℕ)) (faults : K → ℕ) (out out' out'' : K) (status : Status)
     → faults out' ≡ faults out
     → FaultsOfSink held faults status out' out'' → FaultsOfSink held faults status out out''
-writes_after held faults out out' out'' statuses.WriteFault none last = record {
+writes_after held faults out out' out'' WriteFault none last = record {
   failing = last.failing;
   none_before = last.none_before ∙ none;
   once = last.once;
@@ -45,8 +42,8 @@ writes_after held faults out out' out'' _ none same = same ∙ none
 
 -- no read failed
 none_read_fails : {R : Type 0} (left : R → Option (List ℕ)) (faults : R → ℕ) (src src' : R) (status : Status)
-    → status ≢ statuses.ReadFault → faults src' ≡ faults src → FaultsOfSource left faults status src src'
-none_read_fails left faults src src' statuses.ReadFault other none = absurd (other refl)
+    → status ≢ ReadFault → faults src' ≡ faults src → FaultsOfSource left faults status src src'
+none_read_fails left faults src src' ReadFault other none = absurd (other refl)
 none_read_fails left faults src src' _ other none = none
 
 module _ {S : Type 0} (behavior : Behavior S) (shows : S → Type 0) where
@@ -75,19 +72,19 @@ module _ {S : Type 0} (behavior : Behavior S) (shows : S → Type 0) where
         (more.0, all_written ∙ ap (printed behavior behavior.start) parts ∙ more.1)
 
     -- there was no memory for the last words
-    pub Finishes-unended : (sunk : Option (List ℕ)) (stop : Stop) → stop ≡ Memory
+    pub Finishes-unended : (sunk : Option (List ℕ)) (stop : Status) → stop ≡ Memory
         → Finishes behavior shows taken written sunk sunk (Err stop)
     Finishes-unended sunk stop memory = record {
       moved = [];
       appends = Appends-nil sunk;
-      outcome = λ left ended. subst (λ (s : Stop). Says behavior shows (status_of s) taken (written ++ [])
+      outcome = λ left ended. subst (λ (s : Status). Says behavior shows s taken (written ++ [])
           (IsAtEnd left)) (sym memory)
           (begins_at_end behavior shows taken (IsAtEnd left) (written ++ []) [] ended is.within
           (append-nil (written ++ []) ∙ append-nil written ∙ all_written) last_piece above.0
           (append-nil written ∙ above.1));
     }
 
-    module _ (ending : Ending) (waiting : List ℕ)
+    module _ (ending : Status) (waiting : List ℕ)
         (closes : (s : S) → stands s → Closes behavior shows s ending course.waiting.items waiting) where
       closed : Closes behavior shows (state_after behavior behavior.start (lines_of taken)) ending [] waiting
       closed = subst (λ (out : List ℕ). Closes behavior shows (state_after behavior behavior.start (lines_of taken))
@@ -102,13 +99,13 @@ module _ {S : Type 0} (behavior : Behavior S) (shows : S → Type 0) where
           ∙ sym (output-open behavior (lines_of taken) none_halts)
 
       -- the last write failed
-      pub Finishes-unwritten : (sunk sunk' : Option (List ℕ)) (n : ℕ) (stop : Stop)
+      pub Finishes-unwritten : (sunk sunk' : Option (List ℕ)) (n : ℕ) (stop : Status)
           → Appends sunk sunk' (take n waiting) → stop ≡ WriteFault
           → Finishes behavior shows taken written sunk sunk' (Err stop)
       Finishes-unwritten sunk sunk' n stop appends cause = record {
         moved = take n waiting;
         appends = appends;
-        outcome = λ left ended. subst (λ (s : Stop). Says behavior shows (status_of s) taken (written ++ take n waiting)
+        outcome = λ left ended. subst (λ (s : Status). Says behavior shows s taken (written ++ take n waiting)
             (IsAtEnd left)) (sym cause) (record {
               unwritten = drop n waiting;
               due = inr (
@@ -136,37 +133,37 @@ module _ {S : Type 0} (behavior : Behavior S) (shows : S → Type 0) where
       }
 
       -- all was written
-      pub Finishes-ended : (sunk sunk' : Option (List ℕ)) (status : Status) → Appends sunk sunk' waiting
-          → status ≡ status_at_end ending
-          → Finishes behavior shows taken written sunk sunk' (Ok status)
-      Finishes-ended sunk sunk' status appends told = record {
+      pub Finishes-ended : (sunk sunk' : Option (List ℕ)) → Appends sunk sunk' waiting
+          → Finishes behavior shows taken written sunk sunk' (Ok ending)
+      Finishes-ended sunk sunk' appends = record {
         moved = waiting;
         appends = appends;
-        outcome = λ left ended. subst (λ (s : Status). Says behavior shows s taken (written ++ waiting) (IsAtEnd left))
-            (sym told) (by ending (ends ended));
+        outcome = λ left ended. by ending (subst MayEnd (sym closed.ends)
+            (behavior.may_end (state_after behavior behavior.start (lines_of taken)))) (ends ended);
       }
         where
-          by : {E : Type 0} (e : Ending) → Ends behavior shows e taken (written ++ waiting) E
-              → Says behavior shows (status_at_end e) taken (written ++ waiting) E
-          by endings.Done done = done
-          by endings.Refused done = done
-          by endings.HeaderRefused done = inr done
-          by endings.NotBuilt done = done
+          by : {E : Type 0} (e : Status) → MayEnd e → Ends behavior shows e taken (written ++ waiting) E
+              → Says behavior shows e taken (written ++ waiting) E
+          by Done may done = done
+          by Refused may done = done
+          by Header may done = inr done
+          by NotBuilt may done = done
+          by _ may done = absurd may
 
   -- there was no memory to begin
   pub Answers-unbegun : {R K : Type 0} (left : R → Option (List ℕ)) (read_faults : R → ℕ) (held : K → Option (List ℕ))
-      (write_faults : K → ℕ) (src : R) (out : K) (stop : Stop) → stop ≡ Memory
-      → Answers left read_faults held write_faults src src out out (status_of stop) (Says behavior shows)
+      (write_faults : K → ℕ) (src : R) (out : K) (stop : Status) → stop ≡ Memory
+      → Answers left read_faults held write_faults src src out out stop (Says behavior shows)
   Answers-unbegun left read_faults held write_faults src out stop memory = record {
     taken = [];
     written = [];
     consumes = Consumes-nil (left src);
     appends = Appends-nil (held out);
-    answer = subst (λ (s : Stop). Says behavior shows (status_of s) [] [] (IsAtEnd (left src))) (sym memory)
+    answer = subst (λ (s : Status). Says behavior shows s [] [] (IsAtEnd (left src))) (sym memory)
         (begins behavior shows [] (IsAtEnd (left src)) [] [] [] [] refl refl
         (no_piece behavior shows [] (omega arith) refl) [] refl);
-    reads = subst (λ (s : Stop). FaultsOfSource left read_faults (status_of s) src src) (sym memory) refl;
-    writes = subst (λ (s : Stop). FaultsOfSink held write_faults (status_of s) out out) (sym memory) refl;
+    reads = subst (λ (s : Status). FaultsOfSource left read_faults s src src) (sym memory) refl;
+    writes = subst (λ (s : Status). FaultsOfSink held write_faults s out out) (sym memory) refl;
   }
 
   -- a course that goes on, stops or ends after what was taken and written before, when no call had failed
@@ -174,24 +171,24 @@ module _ {S : Type 0} (behavior : Behavior S) (shows : S → Type 0) where
       (write_faults : K → ℕ) (taken written : List ℕ) (src src' src'' : R) (out out' out'' : K)
       (consumes : Consumes (left src) (left src') taken) (appends : Appends (held out) (held out') written)
       (none_read : read_faults src' ≡ read_faults src) (none_wrote : write_faults out' ≡ write_faults out) where
-    pub Answers-stopped : (stands : S → Type 0) (course : Course) (stop : Stop)
+    pub Answers-stopped : (stands : S → Type 0) (course : Course) (stop : Status)
         → Steps behavior stands shows taken written course (left src') (left src'') (held out') (held out'') (Err stop)
-        → FaultsOfSource left read_faults (status_of stop) src' src''
-        → FaultsOfSink held write_faults (status_of stop) out' out''
-        → Answers left read_faults held write_faults src src'' out out'' (status_of stop) (Says behavior shows)
+        → FaultsOfSource left read_faults stop src' src''
+        → FaultsOfSink held write_faults stop out' out''
+        → Answers left read_faults held write_faults src src'' out out'' stop (Says behavior shows)
     Answers-stopped stands course stop steps reads writes = record {
       taken = taken ++ steps.more;
       written = written ++ steps.moved;
       consumes = Consumes-trans (left src) (left src') (left src'') taken steps.more consumes steps.consumes;
       appends = Appends-trans (held out) (held out') (held out'') written steps.moved appends steps.appends;
       answer = steps.outcome;
-      reads = reads_after left read_faults src src' src'' (status_of stop) none_read reads;
-      writes = writes_after held write_faults out out' out'' (status_of stop) none_wrote writes;
+      reads = reads_after left read_faults src src' src'' stop none_read reads;
+      writes = writes_after held write_faults out out' out'' stop none_wrote writes;
     }
 
-    pub Answers-ended : (result : Result Status Stop) → IsAtEnd (left src')
+    pub Answers-ended : (result : Result Status Status) → IsAtEnd (left src')
         → Finishes behavior shows taken written (held out') (held out'') result
-        → status_in result ≢ statuses.ReadFault
+        → status_in result ≢ ReadFault
         → FaultsOfSink held write_faults (status_in result) out' out''
         → Answers left read_faults held write_faults src src' out out'' (status_in result) (Says behavior shows)
     Answers-ended result ended finishes reads writes = record {

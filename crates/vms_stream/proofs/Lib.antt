@@ -4,4 +4,5 @@ pub mod BehaviorLaws
 pub mod TakenLines
 pub mod PieceLines
 pub mod StepOutcomes
+pub mod Stopping
 pub mod CourseEnds

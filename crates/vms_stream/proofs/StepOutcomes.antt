@@ -6,17 +6,15 @@ use Rattle.std.specs.Io.KnownBytes.{Appends, IsAtEnd, Keeps}
 use Rattle.std.proofs.KnownBytes.{Appends-nil, Consumes-nil, Consumes-kept}
 use Rattle.vms_io.specs.Reading.{Gets}
 use Rattle.vms_stream.specs.declared.courses.Course.{Course}
-use Rattle.vms_stream.specs.declared.halts.Halt.{Halt}
-use Rattle.vms_stream.specs.declared.halts.Halt.TheVariants.{Refuses, Exceeds}
-use Rattle.vms_stream.specs.declared.stops.Stop.{Stop}
-use Rattle.vms_stream.specs.declared.stops.Stop.TheVariants.{ReadFault, WriteFault, Memory, TooLong}
+use Rattle.vms_stream.specs.declared.statuses.Status.{Status}
+use Rattle.vms_stream.specs.declared.statuses.Status.TheVariants.{Header, Memory, ReadFault, TooLong, WriteFault}
 use Rattle.vms_stream.specs.Answers.{most_bytes, lines_taken, BeginsOutput, GoesOn, Halts, IsJudged, IsLastPiece, Says}
-use Rattle.vms_stream.specs.Courses.{IsCourse, Steps, StopsAt, lines_held, lines_judged, status_of, stop_of_halt}
+use Rattle.vms_stream.specs.Courses.{IsCourse, Steps, StopsAt, lines_held, lines_judged}
 use Rattle.vms_stream.specs.Jobs.{TakesLines}
-use Rattle.vms_stream.specs.Behaviors.{Behavior, state_after, halted, printed, output}
+use Rattle.vms_stream.specs.Behaviors.{Behavior, MayHalt, state_after, halted, printed, output}
 use Rattle.vms_stream.specs.Pieces.{whole_lines, partial_line}
 use Rattle.vms_stream.proofs.PieceLines.{lines_counted, lines_counted-within, lines_taken-within, lines_both}
-use Rattle.vms_stream.proofs.BehaviorLaws.{output-begins, printed-begins}
+use Rattle.vms_stream.proofs.BehaviorLaws.{MayHalt-halted, output-begins, printed-begins}
 use Rattle.vms_stream.proofs.TwoPieces.{partial_line-append}
 use Rattle.vms_stream.proofs.TakenLines.{TakesLines-after, TakesLines-both}
 use Rattle.vms_text.specs.Lines.{lines_of}
@@ -98,22 +96,22 @@ module _ {S : Type 0} (behavior : Behavior S) (shows : S → Type 0) where
   )
 
   -- nothing is taken and nothing written
-  nothing_more : (stop : Stop) (taken written : List ℕ) (at_end : Type 0)
-      → Says behavior shows (status_of stop) taken written at_end
-      → Says behavior shows (status_of stop) (taken ++ []) (written ++ []) at_end
+  nothing_more : (stop : Status) (taken written : List ℕ) (at_end : Type 0)
+      → Says behavior shows stop taken written at_end
+      → Says behavior shows stop (taken ++ []) (written ++ []) at_end
   nothing_more stop taken written at_end says =
-      subst (λ (bytes : List ℕ). Says behavior shows (status_of stop) (taken ++ []) bytes at_end)
+      subst (λ (bytes : List ℕ). Says behavior shows stop (taken ++ []) bytes at_end)
       (sym (append-nil written))
-      (subst (λ (bytes : List ℕ). Says behavior shows (status_of stop) bytes written at_end) (sym (append-nil taken))
+      (subst (λ (bytes : List ℕ). Says behavior shows stop bytes written at_end) (sym (append-nil taken))
       says)
 
   module _ {stands : S → Type 0} (stands' : S → Type 0) (taken written : List ℕ) (course : Course)
       (is : IsCourse behavior stands taken written course) (isnt : course.at_end ≡ false) where
-    unread : (stop : Stop) (at_end : Type 0) → (stop ≡ ReadFault) ⊎ (stop ≡ Memory)
-        → Says behavior shows (status_of stop) taken written at_end
-    unread stop at_end (inl fault) = subst (λ (s : Stop). Says behavior shows (status_of s) taken written at_end)
+    unread : (stop : Status) (at_end : Type 0) → (stop ≡ ReadFault) ⊎ (stop ≡ Memory)
+        → Says behavior shows stop taken written at_end
+    unread stop at_end (inl fault) = subst (λ (s : Status). Says behavior shows s taken written at_end)
         (sym fault) (before_end taken written course is isnt).0
-    unread stop at_end (inr memory) = subst (λ (s : Stop). Says behavior shows (status_of s) taken written at_end)
+    unread stop at_end (inr memory) = subst (λ (s : Status). Says behavior shows s taken written at_end)
         (sym memory)
         (begins taken at_end (whole_lines taken) [] written []
         (lines_taken-within taken is.within ∙ sym (append-nil (whole_lines taken))) (append-nil written
@@ -123,7 +121,7 @@ module _ {S : Type 0} (behavior : Behavior S) (shows : S → Type 0) where
         ∙ sym (append-nil (printed behavior behavior.start (whole_lines taken)))))
 
     -- the read failed, or there was no memory for it
-    pub Steps-unread : (last : Course) (left left' held : Option (List ℕ)) (stop : Stop) → Keeps left left'
+    pub Steps-unread : (last : Course) (left left' held : Option (List ℕ)) (stop : Status) → Keeps left left'
         → (stop ≡ ReadFault) ⊎ (stop ≡ Memory)
         → Steps behavior stands' shows taken written last left left' held held (Err stop)
     Steps-unread last left left' held stop keeps cause = record {
@@ -192,14 +190,14 @@ module _ {S : Type 0} (behavior : Behavior S) (shows : S → Type 0) where
           ap (λ (front : List ℕ). front ++ moved) (before_end taken written course is isnt).0.all_written
 
       -- there was no memory to judge it
-      pub Steps-unjudged : (last : Course) (held : Option (List ℕ)) (stop : Stop) → stop ≡ Memory
+      pub Steps-unjudged : (last : Course) (held : Option (List ℕ)) (stop : Status) → stop ≡ Memory
           → Steps behavior stands' shows taken written last left left' held held (Err stop)
       Steps-unjudged last held stop memory = record {
         more = more;
         moved = [];
         consumes = gets.consumes;
         appends = Appends-nil held;
-        outcome = subst (λ (s : Stop). Says behavior shows (status_of s) text (written ++ []) (IsAtEnd left'))
+        outcome = subst (λ (s : Status). Says behavior shows s text (written ++ []) (IsAtEnd left'))
             (sym memory)
             (begins text (IsAtEnd left') (whole_lines taken) _ (written ++ []) []
             (sym (lines_both taken more is.within false (λ never. absurd cc)))
@@ -207,7 +205,7 @@ module _ {S : Type 0} (behavior : Behavior S) (shows : S → Type 0) where
             last_piece [] (above_written []));
       }
 
-      module _ (halt : Option Halt) (waiting : List ℕ)
+      module _ (halt : Option Status) (waiting : List ℕ)
           (judges : (s : S) → stands s
           → TakesLines behavior stands' s (lines_held read) halt read.waiting.items waiting)
         where
@@ -224,7 +222,7 @@ module _ {S : Type 0} (behavior : Behavior S) (shows : S → Type 0) where
               (waits ∙ is.nothing_waits) (judges (state_after behavior behavior.start (whole_lines taken)) before.1))
 
           -- the write failed
-          pub Steps-unwritten : (last : Course) (held held' : Option (List ℕ)) (n : ℕ) (stop : Stop)
+          pub Steps-unwritten : (last : Course) (held held' : Option (List ℕ)) (n : ℕ) (stop : Status)
               → Appends held held' (take n waiting) → stop ≡ WriteFault
               → Steps behavior stands' shows taken written last left left' held held' (Err stop)
           Steps-unwritten last held held' n stop appends cause = record {
@@ -232,7 +230,7 @@ module _ {S : Type 0} (behavior : Behavior S) (shows : S → Type 0) where
             moved = take n waiting;
             consumes = gets.consumes;
             appends = appends;
-            outcome = subst (λ (s : Stop). Says behavior shows (status_of s) text (written ++ take n waiting)
+            outcome = subst (λ (s : Status). Says behavior shows s text (written ++ take n waiting)
                 (IsAtEnd left')) (sym cause) (by read.at_end refl);
           }
             where
@@ -252,7 +250,7 @@ module _ {S : Type 0} (behavior : Behavior S) (shows : S → Type 0) where
                   last_piece (take n waiting) (above_written (take n waiting))
 
           -- a line stops the command
-          halts : (h : Halt) → halt ≡ Some h → Halts behavior h text (written ++ waiting) (IsAtEnd left')
+          halts : (h : Status) → halt ≡ Some h → Halts behavior h text (written ++ waiting) (IsAtEnd left')
           halts h stopped = record {
             lines = lines_counted read.at_end text;
             judged = counts read.at_end refl;
@@ -265,14 +263,20 @@ module _ {S : Type 0} (behavior : Behavior S) (shows : S → Type 0) where
               counts true end = let there = at_the_end end in inr (there.0, there.1, refl)
               counts false before = inl refl
 
-          says_halt : (h : Halt) → halt ≡ Some h
-              → Says behavior shows (status_of (stop_of_halt h)) text (written ++ waiting) (IsAtEnd left')
-          says_halt Refuses stopped = inl (halts Refuses stopped)
-          says_halt Exceeds stopped = inl (halts Exceeds stopped)
+          says_halt : (h : Status) → halt ≡ Some h
+              → Says behavior shows h text (written ++ waiting) (IsAtEnd left')
+          says_halt h stopped = by h (subst MayHalt (halts h stopped).halt_is
+              (MayHalt-halted behavior behavior.start (halts h stopped).lines)) (halts h stopped)
+            where
+              by : (h : Status) → MayHalt (Some h) → Halts behavior h text (written ++ waiting) (IsAtEnd left')
+                  → Says behavior shows h text (written ++ waiting) (IsAtEnd left')
+              by Header may stops = inl stops
+              by TooLong may stops = inl stops
+              by _ may stops = absurd may
 
           -- there are too many bytes
           says_beyond : (b : Bool) → read.at_end ≡ b → halt ≡ None → most_bytes < length text
-              → Says behavior shows (status_of TooLong) text (written ++ waiting) (IsAtEnd left')
+              → Says behavior shows TooLong text (written ++ waiting) (IsAtEnd left')
           says_beyond true end none beyond = absurd (omega (arith, beyond, (at_the_end end).1))
           says_beyond false before none beyond =
               let same : lines_counted read.at_end text ≡ lines_taken text =
@@ -308,16 +312,16 @@ module _ {S : Type 0} (behavior : Behavior S) (shows : S → Type 0) where
                       ∙ sym (partial_line-append taken more);
                 }
 
-            pub Steps-judged : (sunk sunk' : Option (List ℕ)) (result : Result (Unit {0}) Stop)
+            pub Steps-judged : (sunk sunk' : Option (List ℕ)) (result : Result (Unit {0}) Status)
                 → Appends sunk sunk' waiting → StopsAt halt last.taken result
                 → Steps behavior stands' shows taken written last left left' sunk sunk' result
             Steps-judged sunk sunk' result appends stops =
                 by halt refl result (subst (λ (n : ℕ). StopsAt halt n result) same_count stops)
               where
-                by : (found : Option Halt) → halt ≡ found → (r : Result (Unit {0}) Stop) → StopsAt found read.taken r
+                by : (found : Option Status) → halt ≡ found → (r : Result (Unit {0}) Status) → StopsAt found read.taken r
                     → Steps behavior stands' shows taken written last left left' sunk sunk' r
                 by (Some h) is_found r stopped = subst
-                    (λ (r : Result (Unit {0}) Stop). Steps behavior stands' shows taken written last left left' sunk
+                    (λ (r : Result (Unit {0}) Status). Steps behavior stands' shows taken written last left left' sunk
                     sunk'
                     r) (sym stopped) (record {
                       more = more;
@@ -338,7 +342,7 @@ module _ {S : Type 0} (behavior : Behavior S) (shows : S → Type 0) where
                   moved = waiting;
                   consumes = gets.consumes;
                   appends = appends;
-                  outcome = subst (λ (s : Stop). Says behavior shows (status_of s) text (written ++ waiting)
+                  outcome = subst (λ (s : Status). Says behavior shows s text (written ++ waiting)
                       (IsAtEnd left')) (sym beyond.0)
                       (says_beyond read.at_end refl is_found (subst (λ (n : ℕ). most_bytes < n) text_count beyond.1));
                 }

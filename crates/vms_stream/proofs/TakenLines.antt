@@ -2,8 +2,8 @@
 use Rattle.std.proofs.Common.{◌≡◌, ◌≢◌, ℕ, ◌<◌, ◌==◌, Bool, true, false, List, [], ◌∷◌, ◌++◌, length, length-append}
 use Rattle.std.proofs.Common.{Option, Some, None, inl, inr, refl, sym, ap, subst, ◌∙◌, append_assoc, append-nil}
 use Rattle.std.proofs.Common.{true≢false, eqb-true, arith}
-use Rattle.vms_stream.specs.declared.halts.Halt.{Halt}
-use Rattle.vms_stream.specs.declared.halts.Halt.TheVariants.{Refuses, Exceeds}
+use Rattle.vms_stream.specs.declared.statuses.Status.{Status}
+use Rattle.vms_stream.specs.declared.statuses.Status.TheVariants.{Header, TooLong}
 use Rattle.vms_stream.specs.Jobs.{TakesLines}
 use Rattle.vms_stream.specs.Behaviors.{Behavior, state_after, first_halt, halted, printed_from, printed}
 use Rattle.vms_stream.proofs.BehaviorLaws.{state_after-append, halted-append, printed-append, halted-stops}
@@ -36,34 +36,34 @@ module _ {S : Type 0} (behavior : Behavior S) (stands : S → Type 0) where
       → out' ≡ out ++ behavior.prints s line
       → stands (behavior.next s line) → TakesLines behavior stands s (line ∷ []) None out out'
   TakesLines-one s line out out' open_line prints after = record {
-    halt_of = ap (λ (halt : Option Halt). first_halt halt None) (sym open_line);
+    halt_of = ap (λ (halt : Option Status). first_halt halt None) (sym open_line);
     prints = prints ∙ ap (λ (bytes : List ℕ). out ++ bytes) (sym (append-nil (behavior.prints s line))
-        ∙ ap (λ (halt : Option Halt). printed_from halt (behavior.prints s line) []) (sym open_line));
+        ∙ ap (λ (halt : Option Status). printed_from halt (behavior.prints s line) []) (sym open_line));
     stands_after = λ _. after;
   }
 
-  pub TakesLines-refused : (s : S) (line out out' : List ℕ) → behavior.halts s line ≡ Some Refuses
+  pub TakesLines-refused : (s : S) (line out out' : List ℕ) → behavior.halts s line ≡ Some Header
       → out' ≡ out ++ behavior.prints s line
-      → TakesLines behavior stands s (line ∷ []) (Some Refuses) out out'
+      → TakesLines behavior stands s (line ∷ []) (Some Header) out out'
   TakesLines-refused s line out out' refused prints = record {
-    halt_of = ap (λ (halt : Option Halt). first_halt halt None) (sym refused);
+    halt_of = ap (λ (halt : Option Status). first_halt halt None) (sym refused);
     prints = prints ∙ ap (λ (bytes : List ℕ). out ++ bytes)
-        (ap (λ (halt : Option Halt). printed_from halt (behavior.prints s line) []) (sym refused));
+        (ap (λ (halt : Option Status). printed_from halt (behavior.prints s line) []) (sym refused));
     stands_after = λ none. absurd cc;
   }
 
-  pub TakesLines-exceeding : (s : S) (line out out' : List ℕ) → behavior.halts s line ≡ Some Exceeds → out' ≡ out
-      → TakesLines behavior stands s (line ∷ []) (Some Exceeds) out out'
+  pub TakesLines-exceeding : (s : S) (line out out' : List ℕ) → behavior.halts s line ≡ Some TooLong → out' ≡ out
+      → TakesLines behavior stands s (line ∷ []) (Some TooLong) out out'
   TakesLines-exceeding s line out out' exceeding same = record {
-    halt_of = ap (λ (halt : Option Halt). first_halt halt None) (sym exceeding);
+    halt_of = ap (λ (halt : Option Status). first_halt halt None) (sym exceeding);
     prints = same ∙ sym (append-nil out)
         ∙ ap (λ (bytes : List ℕ). out ++ bytes)
-        (ap (λ (halt : Option Halt). printed_from halt (behavior.prints s line) []) (sym exceeding));
+        (ap (λ (halt : Option Status). printed_from halt (behavior.prints s line) []) (sym exceeding));
     stands_after = λ none. absurd cc;
   }
 
   -- after lines of which none stops it, and then past more
-  pub TakesLines-both : (s : S) (lines more all : List (List ℕ)) (halt : Option Halt) (first out out' : List ℕ)
+  pub TakesLines-both : (s : S) (lines more all : List (List ℕ)) (halt : Option Status) (first out out' : List ℕ)
       → halted behavior s lines ≡ None
       → out ≡ first ++ printed behavior s lines → lines ++ more ≡ all
       → TakesLines behavior stands (state_after behavior s lines) more halt out out'
@@ -80,7 +80,7 @@ module _ {S : Type 0} (behavior : Behavior S) (stands : S → Type 0) where
       })
 
   -- what stands after a line that stops it doesn't matter
-  pub TakesLines-stopped : (s : S) (lines more : List (List ℕ)) (halt : Halt) (out out' : List ℕ)
+  pub TakesLines-stopped : (s : S) (lines more : List (List ℕ)) (halt : Status) (out out' : List ℕ)
       → TakesLines behavior stands s lines (Some halt) out out'
       → TakesLines behavior stands s (lines ++ more) (Some halt) out out'
   TakesLines-stopped s lines more halt out out' goes =
@@ -92,7 +92,7 @@ module _ {S : Type 0} (behavior : Behavior S) (stands : S → Type 0) where
       }
 
   -- what was printed before
-  pub TakesLines-after : (s : S) (lines : List (List ℕ)) (halt : Option Halt) (front out out' : List ℕ) → out ≡ []
+  pub TakesLines-after : (s : S) (lines : List (List ℕ)) (halt : Option Status) (front out out' : List ℕ) → out ≡ []
       → TakesLines behavior stands s lines halt out out' → TakesLines behavior stands s lines halt front (front ++ out')
   TakesLines-after s lines halt front out out' none goes = record {
     halt_of = goes.halt_of;
@@ -112,7 +112,7 @@ one_further all above rest line after parts some splits =
 module _ {S : Type 0} (behavior : Behavior S) (stands now next : S → Type 0) (all above : List (List ℕ))
     (rest line after first out out' : List ℕ)
     (parts : all ≡ above ++ lines_of rest) (some : rest ≢ []) (splits : SplitsLine rest line after)
-    (took : (s : S) → stands s → TakesLines behavior now s above None first out) (halt : Option Halt)
+    (took : (s : S) → stands s → TakesLines behavior now s above None first out) (halt : Option Status)
     (goes : (s : S) → now s → TakesLines behavior next s (line ∷ []) halt out out') where
   -- one line further, if it doesn't stop the job
   pub takes_line : (s : S) → stands s → TakesLines behavior next s (above ++ (line ∷ [])) halt first out'
@@ -123,12 +123,12 @@ module _ {S : Type 0} (behavior : Behavior S) (stands now next : S → Type 0) (
       (goes (state_after behavior s above) (before.stands_after refl))
 
   -- a line that stops it
-  pub takes_halt : (h : Halt) → halt ≡ Some h → (s : S) → stands s → TakesLines behavior next s all (Some h) first out'
+  pub takes_halt : (h : Status) → halt ≡ Some h → (s : S) → stands s → TakesLines behavior next s all (Some h) first out'
   takes_halt h is s here =
       subst (λ (lines : List (List ℕ)). TakesLines behavior next s lines (Some h) first out')
       (sym (one_further all above rest line after parts some splits))
       (TakesLines-stopped behavior next s (above ++ (line ∷ [])) (lines_of after) h first out'
-      (subst (λ (found : Option Halt). TakesLines behavior next s (above ++ (line ∷ [])) found first out') is
+      (subst (λ (found : Option Status). TakesLines behavior next s (above ++ (line ∷ [])) found first out') is
       (takes_line s here)))
 
 -- at the end of the text

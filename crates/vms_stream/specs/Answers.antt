@@ -2,10 +2,6 @@
 use Rattle.std.specs.Prelude.{◌≡◌, ℕ, ◌^◌, ◌<◌, ◌≤◌, ◌⊎◌, max, List, ◌++◌, length, take, Option, Some, None}
 use Rattle.std.specs.Io.KnownBytes.{Appends, Consumes, IsAtEnd}
 use Rattle.vms_io.specs.Faults.{LastFails}
-use Rattle.vms_stream.specs.declared.endings.Ending.{Ending}
-use Rattle.vms_stream.specs.declared.endings.Ending.TheVariants as endings
-use Rattle.vms_stream.specs.declared.halts.Halt.{Halt}
-use Rattle.vms_stream.specs.declared.halts.Halt.TheVariants.{Refuses, Exceeds}
 use Rattle.vms_stream.specs.declared.statuses.Status.{Status}
 use Rattle.vms_stream.specs.declared.statuses.Status.TheVariants.{Done, Words, Header, Refused, ReadFault, WriteFault}
 use Rattle.vms_stream.specs.declared.statuses.Status.TheVariants.{Memory, TooLong, NotBuilt}
@@ -36,8 +32,8 @@ pub record IsLastPiece {S : Type 0} (behavior : Behavior S) (taken : List ℕ) :
   pub within_before : length before ≤ most_bytes
   pub none_before : halted behavior behavior.start (whole_lines before) ≡ None
 
--- a line stopped the command, and all was written that is printed up to it
-pub record Halts {S : Type 0} (behavior : Behavior S) (halt : Halt) (taken written : List ℕ)
+-- a line stopped the command with this status, and all was written that is printed up to it
+pub record Halts {S : Type 0} (behavior : Behavior S) (halt : Status) (taken written : List ℕ)
     (at_end : Type 0) : Type 0 where
   pub lines : List (List ℕ)
   pub judged : IsJudged taken lines at_end
@@ -53,7 +49,7 @@ pub record Oversteps {S : Type 0} (behavior : Behavior S) (taken written : List 
   pub last_piece : IsLastPiece behavior taken
 
 -- the command came to the end of its input, the whole output was written, and the job showed what it does there
-pub record Ends {S : Type 0} (behavior : Behavior S) (shows : S → Type 0) (ending : Ending) (taken written : List ℕ)
+pub record Ends {S : Type 0} (behavior : Behavior S) (shows : S → Type 0) (ending : Status) (taken written : List ℕ)
     (at_end : Type 0) : Type 0 where
   pub ended : at_end
   pub within : length taken ≤ most_bytes
@@ -86,17 +82,17 @@ pub record BeginsOutput {S : Type 0} (behavior : Behavior S) (taken written : Li
 
 -- what each status of a command says. `shows` is what its job shows at the end of the input
 abbrev pub Says : {S : Type 0} → Behavior S → (S → Type 0) → Status → List ℕ → List ℕ → Type 0 → Type 0
-Says behavior shows Done taken written at_end = Ends behavior shows endings.Done taken written at_end
+Says behavior shows Done taken written at_end = Ends behavior shows Done taken written at_end
 Says behavior shows Words taken written at_end = ⊥
 Says behavior shows Header taken written at_end =
-    Halts behavior Refuses taken written at_end ⊎ Ends behavior shows endings.HeaderRefused taken written at_end
-Says behavior shows Refused taken written at_end = Ends behavior shows endings.Refused taken written at_end
+    Halts behavior Header taken written at_end ⊎ Ends behavior shows Header taken written at_end
+Says behavior shows Refused taken written at_end = Ends behavior shows Refused taken written at_end
 Says behavior shows ReadFault taken written at_end = GoesOn behavior taken written
 Says behavior shows WriteFault taken written at_end = BeginsOutput behavior taken written at_end
 Says behavior shows Memory taken written at_end = BeginsOutput behavior taken written at_end
 Says behavior shows TooLong taken written at_end =
-    Halts behavior Exceeds taken written at_end ⊎ Oversteps behavior taken written
-Says behavior shows NotBuilt taken written at_end = Ends behavior shows endings.NotBuilt taken written at_end
+    Halts behavior TooLong taken written at_end ⊎ Oversteps behavior taken written
+Says behavior shows NotBuilt taken written at_end = Ends behavior shows NotBuilt taken written at_end
 
 -- which calls failed: where the status says so one read, and no byte was read after it, and else none
 abbrev pub FaultsOfSource : {S : Type 0} → (S → Option (List ℕ)) → (S → ℕ) → Status → S → S → Type 0

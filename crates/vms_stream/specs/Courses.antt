@@ -2,52 +2,34 @@
 use Rattle.std.specs.Prelude.{◌≡◌, ℕ, ◌-◌, ◌≤◌, ◌<◌, Bool, true, false, List, [], ◌++◌, length, take, Option, Some}
 use Rattle.std.specs.Prelude.{None, Result, Ok, Err, MatchResult}
 use Rattle.std.specs.Io.KnownBytes.{Appends, Consumes, IsAtEnd}
+use Rattle.vms_io.specs.declared.failures.ReadError.{ReadError}
+use Rattle.vms_io.specs.declared.failures.ReadError.TheVariants as failures
 use Rattle.vms_stream.specs.declared.courses.Course.{Course}
-use Rattle.vms_stream.specs.declared.endings.Ending.{Ending}
-use Rattle.vms_stream.specs.declared.endings.Ending.TheVariants as endings
-use Rattle.vms_stream.specs.declared.halts.Halt.{Halt}
-use Rattle.vms_stream.specs.declared.halts.Halt.TheVariants as halts
 use Rattle.vms_stream.specs.declared.statuses.Status.{Status}
-use Rattle.vms_stream.specs.declared.statuses.Status.TheVariants as statuses
-use Rattle.vms_stream.specs.declared.stops.Stop.{Stop}
-use Rattle.vms_stream.specs.declared.stops.Stop.TheVariants.{Header, ReadFault, WriteFault, Memory, TooLong}
+use Rattle.vms_stream.specs.declared.statuses.Status.TheVariants.{Memory, ReadFault, TooLong}
 use Rattle.vms_stream.specs.Answers.{most_bytes, FaultsOfSource, FaultsOfSink, Says}
 use Rattle.vms_stream.specs.Behaviors.{Behavior, state_after, halted, printed}
 use Rattle.vms_stream.specs.Pieces.{whole_lines, partial_line}
 use Rattle.vms_text.specs.Lines.{lines_of}
 
--- the status of a command that stopped
-abbrev pub status_of : Stop → Status
-status_of Header = statuses.Header
-status_of ReadFault = statuses.ReadFault
-status_of WriteFault = statuses.WriteFault
-status_of Memory = statuses.Memory
-status_of TooLong = statuses.TooLong
+-- the status of a command that a read stopped
+abbrev pub status_of_read : ReadError → Status
+status_of_read failures.Failed = ReadFault
+status_of_read failures.Memory = Memory
 
--- why a line stops a command
-abbrev pub stop_of_halt : Halt → Stop
-stop_of_halt halts.Refuses = Header
-stop_of_halt halts.Exceeds = TooLong
-
--- the status of a command that came to the end of its input
-abbrev pub status_at_end : Ending → Status
-status_at_end endings.Done = statuses.Done
-status_at_end endings.Refused = statuses.Refused
-status_at_end endings.HeaderRefused = statuses.Header
-status_at_end endings.NotBuilt = statuses.NotBuilt
-
-abbrev pub status_in : Result Status Stop → Status
+-- the status of a command, whether it came to its end or stopped
+abbrev pub status_in : Result Status Status → Status
 status_in (Ok status) = status
-status_in (Err stop) = status_of stop
+status_in (Err status) = status
 
--- calls fail only with the stops that faults cause
-abbrev pub CountsReads : {S A : Type 0} → (S → Option (List ℕ)) → (S → ℕ) → Result A Stop → S → S → Type 0
+-- calls fail only with the statuses that faults cause
+abbrev pub CountsReads : {S A : Type 0} → (S → Option (List ℕ)) → (S → ℕ) → Result A Status → S → S → Type 0
 CountsReads left faults result before now = MatchResult result (λ _. faults now ≡ faults before)
-    (λ stop. FaultsOfSource left faults (status_of stop) before now)
+    (λ status. FaultsOfSource left faults status before now)
 
-abbrev pub CountsWrites : {K A : Type 0} → (K → Option (List ℕ)) → (K → ℕ) → Result A Stop → K → K → Type 0
+abbrev pub CountsWrites : {K A : Type 0} → (K → Option (List ℕ)) → (K → ℕ) → Result A Status → K → K → Type 0
 CountsWrites held faults result before now = MatchResult result (λ _. faults now ≡ faults before)
-    (λ stop. FaultsOfSink held faults (status_of stop) before now)
+    (λ status. FaultsOfSink held faults status before now)
 
 -- the lines that are judged: the whole ones, and at the end of the input all
 abbrev pub lines_judged : Bool → List ℕ → List (List ℕ)
@@ -76,7 +58,7 @@ pub record IsCourse {S : Type 0} (behavior : Behavior S) (stands : S → Type 0)
 
 -- one piece further: bytes were taken and bytes were written, and the course goes on or stops
 pub record Steps {S : Type 0} (behavior : Behavior S) (stands shows : S → Type 0) (taken written : List ℕ)
-    (course' : Course) (left left' held held' : Option (List ℕ)) (result : Result (Unit {0}) Stop) : Type 0 where
+    (course' : Course) (left left' held held' : Option (List ℕ)) (result : Result (Unit {0}) Status) : Type 0 where
   pub more : List ℕ
   pub moved : List ℕ
   pub consumes : Consumes left left' more
@@ -84,18 +66,18 @@ pub record Steps {S : Type 0} (behavior : Behavior S) (stands shows : S → Type
   pub outcome : MatchResult result
       (λ _. IsCourse behavior stands (taken ++ more) (written ++ moved) course'
       × (course'.at_end ≡ true → IsAtEnd left'))
-      (λ stop. Says behavior shows (status_of stop) (taken ++ more) (written ++ moved) (IsAtEnd left'))
+      (λ status. Says behavior shows status (taken ++ more) (written ++ moved) (IsAtEnd left'))
 
 -- the end of a course
 pub record Finishes {S : Type 0} (behavior : Behavior S) (shows : S → Type 0) (taken written : List ℕ)
-    (held held' : Option (List ℕ)) (result : Result Status Stop) : Type 0 where
+    (held held' : Option (List ℕ)) (result : Result Status Status) : Type 0 where
   pub moved : List ℕ
   pub appends : Appends held held' moved
   pub outcome : (left : Option (List ℕ)) → IsAtEnd left
       → Says behavior shows (status_in result) taken (written ++ moved) (IsAtEnd left)
 
 -- a command stops where a line stops it, and else where there are too many bytes
-abbrev pub StopsAt : Option Halt → ℕ → Result (Unit {0}) Stop → Type 0
-StopsAt (Some halt) taken result = result ≡ Err (stop_of_halt halt)
+abbrev pub StopsAt : Option Status → ℕ → Result (Unit {0}) Status → Type 0
+StopsAt (Some halt) taken result = result ≡ Err halt
 StopsAt None taken result =
-    MatchResult result (λ _. taken ≤ most_bytes) (λ stop. (stop ≡ TooLong) × (most_bytes < taken))
+    MatchResult result (λ _. taken ≤ most_bytes) (λ status. (status ≡ TooLong) × (most_bytes < taken))

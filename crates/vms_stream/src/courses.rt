@@ -1,6 +1,5 @@
-use crate::stops::{Stop, stop_of_halt, stop_of_read};
 use crate::taking::take_lines;
-use crate::{Ending, Halt, Job, Status};
+use crate::{Job, Status};
 use memchr::memrchr;
 use std::alloc::Global;
 use vms_base::Memory;
@@ -47,7 +46,7 @@ impl Course {
     }
 
     /// Reads once more.
-    fn read<S: Source>(&mut self, src: &mut S) -> Result<(), Stop>
+    fn read<S: Source>(&mut self, src: &mut S) -> Result<(), Status>
         requires counted { self.old.taken ≤ most_bytes }
         requires held { length self.old.input ≤ self.old.taken }
         ensures ok { OnOk result (Gets self.old.input self.new.input (S.remaining src.old) (S.remaining src.new)
@@ -57,7 +56,7 @@ impl Course {
         ensures more { OnOk result (self.new.at_end ≡ false → self.old.taken < self.new.taken) }
         ensures waits { OnOk result (self.new.waiting ≡ self.old.waiting) }
         ensures unread { OnErr result (Keeps (S.remaining src.old) (S.remaining src.new)) }
-        ensures cause { IfErr result (λ stop. (stop ≡ Stop.ReadFault) ⊎ (stop ≡ Stop.Memory)) }
+        ensures cause { IfErr result (λ status. (status ≡ Status.ReadFault) ⊎ (status ≡ Status.Memory)) }
         ensures counts { CountsReads S.remaining S.faults result src.old src.new }
     {
         let count = read(&mut self.input, src)?;
@@ -87,7 +86,7 @@ impl Course {
     }
 
     /// Judges the lines of what is held.
-    fn judge<J: Job>(&mut self, job: &mut J) -> Result<Option<Halt>, Memory>
+    fn judge<J: Job>(&mut self, job: &mut J) -> Result<Option<Status>, Memory>
         requires job { (s : J.State) × J.Stands job.old s }
         requires counted { self.old.taken ≤ most_bytes + length self.old.input }
         ensures lines { IfOk result (λ halt. (s : J.State) → J.Stands job.old s →
@@ -105,12 +104,12 @@ impl Course {
     }
 
     /// Writes what waits. Then nothing waits.
-    fn flush<K: Sink>(&mut self, out: &mut K) -> Result<(), Stop>
+    fn flush<K: Sink>(&mut self, out: &mut K) -> Result<(), Status>
         ensures ok { OnOk result (Appends (K.written out.old) (K.written out.new) self.old.waiting.items) }
         ensures empty { OnOk result (self.new.waiting.items ≡ []) }
         ensures err { OnErr result ((n : ℕ)
             × Appends (K.written out.old) (K.written out.new) (take n self.old.waiting.items)) }
-        ensures cause { IfErr result (λ stop. stop ≡ Stop.WriteFault) }
+        ensures cause { IfErr result (λ status. status ≡ Status.WriteFault) }
         ensures same_input { self.new.input ≡ self.old.input }
         ensures same_count { self.new.taken ≡ self.old.taken }
         ensures same_end { self.new.at_end ≡ self.old.at_end }
@@ -127,7 +126,7 @@ impl Course {
         job: &mut J,
         src: &mut S,
         out: &mut K,
-    ) -> Result<(), Stop>
+    ) -> Result<(), Status>
         requires course { (taken : List ℕ) × (written : List ℕ)
             × IsCourse J.behavior (J.Stands job.old) taken written self.old }
         requires before_end { self.old.at_end ≡ false }
@@ -151,7 +150,7 @@ impl Course {
         &mut self,
         job: &mut J,
         out: &mut K,
-    ) -> Result<Status, Stop>
+    ) -> Result<Status, Status>
         requires course { (taken : List ℕ) × (written : List ℕ)
             × IsCourse J.behavior (J.Stands job.old) taken written self.old }
         requires at_end { self.old.at_end ≡ true }
@@ -163,23 +162,24 @@ impl Course {
     {
         let ending = job.end(&mut self.waiting)?;
         self.flush(out)?;
-        Ok(status_of(ending))
+        Ok(ending)
     }
 }
 
 ghost use Rattle.std.specs.Prelude.{◌≡◌, ◌⊎◌, IfErr, IfOk, OnErr};
 ghost use Rattle.std.specs.Io.KnownBytes.{Keeps};
 ghost use Rattle.vms_io.specs.Reading.{Gets, WholeLines};
-ghost use Rattle.vms_stream.specs.Courses.{CountsReads, StopsAt, status_at_end};
+ghost use Rattle.vms_stream.specs.Courses.{CountsReads, StopsAt};
 
 /// Reads once more, and says how many bytes.
-fn read<S: Source>(input: &mut ReadBuffer, src: &mut S) -> Result<usize, Stop>
+fn read<S: Source>(input: &mut ReadBuffer, src: &mut S) -> Result<usize, Status>
     ensures ok { IfOk result (Gets input.old input.new (S.remaining src.old) (S.remaining src.new)) }
     ensures unread { OnErr result (Keeps (S.remaining src.old) (S.remaining src.new)) }
-    ensures cause { IfErr result (λ stop. (stop ≡ Stop.ReadFault) ⊎ (stop ≡ Stop.Memory)) }
+    ensures cause { IfErr result (λ status. (status ≡ Status.ReadFault) ⊎ (status ≡ Status.Memory)) }
     ensures counts { CountsReads S.remaining S.faults result src.old src.new }
 {
-    input.read_more(src).map_err(stop_of_read)
+    let count = input.read_more(src)?;
+    Ok(count)
 }
 
 /// How many of these bytes are whole lines.
@@ -193,24 +193,12 @@ fn last_line_end(bytes: &[u8]) -> usize
 }
 
 /// Stops where a line stops the command, and else where there are too many bytes.
-fn stop_at(halt: Option<Halt>, taken: usize) -> Result<(), Stop>
+fn stop_at(halt: Option<Status>, taken: usize) -> Result<(), Status>
     ensures { StopsAt halt taken result }
 {
     match halt {
-        Some(halt) => Err(stop_of_halt(halt)),
-        None if taken > MOST_BYTES => Err(Stop::TooLong),
+        Some(halt) => Err(halt),
+        None if taken > MOST_BYTES => Err(Status::TooLong),
         None => Ok(()),
-    }
-}
-
-/// The status of a command that came to the end of its input.
-fn status_of(ending: Ending) -> Status
-    ensures { result ≡ status_at_end ending }
-{
-    match ending {
-        Ending::Done => Status::Done,
-        Ending::Refused => Status::Refused,
-        Ending::HeaderRefused => Status::Header,
-        Ending::NotBuilt => Status::NotBuilt,
     }
 }

@@ -2,16 +2,11 @@
 #![tactic(auto)]
 
 mod courses;
-mod endings;
-mod halts;
 mod jobs;
 mod statuses;
-mod stops;
 mod streaming;
 mod taking;
 
-pub use endings::Ending;
-pub use halts::Halt;
 pub use jobs::Job;
 pub use statuses::Status;
 pub use streaming::stream;

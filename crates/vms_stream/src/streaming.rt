@@ -3,7 +3,6 @@ ghost use Rattle.vms_stream.specs.Answers.{Answers, Says};
 ghost use Rattle.vms_stream.specs.Courses.{status_in};
 
 use crate::courses::Course;
-use crate::stops::Stop;
 use crate::{Job, Status};
 use std::alloc::Global;
 use vms_io::{Sink, Source};
@@ -21,8 +20,7 @@ pub fn stream<J: Job, S: Source, K: Sink>(
         (Says J.behavior J.Shows) }
 {
     match run(alloc, job, src, out) {
-        Ok(status) => status,
-        Err(stop) => stop.status(),
+        Ok(status) | Err(status) => status,
     }
 }
 
@@ -32,7 +30,7 @@ fn run<J: Job, S: Source, K: Sink>(
     job: &mut J,
     src: &mut S,
     out: &mut K,
-) -> Result<Status, Stop>
+) -> Result<Status, Status>
     requires { J.Stands job.old J.behavior.start }
     ensures { Answers S.remaining S.faults K.written K.faults src.old src.new out.old out.new (status_in result)
         (Says J.behavior J.Shows) }

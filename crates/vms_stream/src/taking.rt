@@ -2,7 +2,7 @@ ghost use Rattle.std.specs.Prelude.{List, ℕ, IfOk};
 ghost use Rattle.vms_stream.specs.Jobs.{TakesLines};
 ghost use Rattle.vms_text.specs.Lines.{lines_of};
 
-use crate::{Halt, Job};
+use crate::{Job, Status};
 use vms_base::Memory;
 use vms_text::split_line;
 
@@ -11,7 +11,7 @@ pub(crate) fn take_lines<J: Job>(
     job: &mut J,
     text: &[u8],
     out: &mut Vec<u8>,
-) -> Result<Option<Halt>, Memory>
+) -> Result<Option<Status>, Memory>
     requires { (s : J.State) × J.Stands job.old s }
     ensures { IfOk result (λ halt. (s : J.State) → J.Stands job.old s →
         TakesLines J.behavior (J.Stands job.new) s (lines_of text.now) halt out.old.items out.new.items) }

@@ -1,5 +1,5 @@
 use Rattle.std.proofs.Common.{[], ◌∷◌, ◌++◌, Option, refl, sym, subst, append-nil}
-use Rattle.vms_stream.specs.declared.halts.Halt.{Halt}
+use Rattle.vms_stream.specs.declared.statuses.Status.{Status}
 use Rattle.vms_stream.specs.Jobs.{TakesLines}
 use Rattle.vms_stream.specs.Behaviors.{state_after}
 use Rattle.vms_stream.proofs.TakenLines.{nonempty, empty, one_further, takes_line, takes_halt, takes_end}
@@ -44,7 +44,7 @@ lines-preserved g c =
       above = inv.above ++ (c.split_line.result.0.now ∷ []);
       parts = one_further _ inv.above c.lines.rest.now _ _ inv.parts some c.split_line.ensures;
       took = λ s stands.
-          subst (λ (halt : Option Halt). TakesLines g.J.Job.behavior (g.J.Job.Stands c.take_line.new.self) s
+          subst (λ (halt : Option Status). TakesLines g.J.Job.behavior (g.J.Job.Stands c.take_line.new.self) s
           (inv.above ++ (c.split_line.result.0.now ∷ [])) halt
           c.args.out.now.items c.take_line.new.out.items) c.in_default.is
           (takes_line g.J.Job.behavior (g.J.Job.Stands c.args.job.now) (g.J.Job.Stands c.lines.job)

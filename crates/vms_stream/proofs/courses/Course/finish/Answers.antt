@@ -19,4 +19,4 @@ pub returns-clause-finishes : goal.returns-clause-finishes
 returns-clause-finishes g c = λ taken written is.
     Finishes-ended g.J.Job.behavior g.J.Job.Shows taken written c.args.self.now is c.requires.at_end
     c.in_ok-ending.ending c.end.new.out.items
-    c.in_ok-ending.ensures _ _ c.status_of.result c.in_ok-flush.ensures.ok c.status_of.ensures
+    c.in_ok-ending.ensures _ _ c.in_ok-flush.ensures.ok

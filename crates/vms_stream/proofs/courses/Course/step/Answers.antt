@@ -1,6 +1,7 @@
 use Rattle.std.proofs.Common.{◌∙◌, ap, arith, length}
 use Rattle.std.proofs.lemmas.Result.{err_from_is_err_and}
 use Rattle.vms_stream.proofs.TwoPieces.{length-partial_line}
+use Rattle.vms_stream.proofs.Stopping.{CountsReads-stopped, CountsWrites-stopped, MayHalt-taken}
 use Rattle.vms_stream.proofs.StepOutcomes.{Steps-unread, Steps-unjudged, Steps-unwritten, Steps-judged}
 use Rattle.vms_stream.proofs.courses.Course.step.Goals as goal
 
@@ -47,3 +48,19 @@ returns-clause-steps g c = λ taken written is.
     (λ before within. c.flush.ensures.same_input ∙ c.in_ok-halt.ensures.held before within)
     _ _ c.stop_at.result c.in_ok-flush.ensures.ok
     c.stop_at.ensures
+
+pub returns-clause-reads : goal.returns-clause-reads
+returns-clause-reads g c =
+    let is = c.requires.course.2 in
+    CountsReads-stopped g.S.Source.remaining g.S.Source.faults _ c.args.src.now c.read.new.src
+    c.in_ok-read.ensures.counts c.in_ok-halt.halt c.stop_at.result
+    (MayHalt-taken g.J.Job.behavior (g.J.Job.Stands c.judge.new.job) _ _ c.in_ok-halt.halt _ _
+    (c.in_ok-halt.ensures.lines _ is.stands_after)) c.stop_at.ensures
+
+pub returns-clause-writes : goal.returns-clause-writes
+returns-clause-writes g c =
+    let is = c.requires.course.2 in
+    CountsWrites-stopped g.K.Sink.written g.K.Sink.faults _ c.args.out.now c.flush.new.out
+    c.in_ok-flush.ensures.counts c.in_ok-halt.halt c.stop_at.result
+    (MayHalt-taken g.J.Job.behavior (g.J.Job.Stands c.judge.new.job) _ _ c.in_ok-halt.halt _ _
+    (c.in_ok-halt.ensures.lines _ is.stands_after)) c.stop_at.ensures
