@@ -38,7 +38,8 @@ unless_over false within = refl
 first_within : (first later : Option Status) → first_halt first later ≢ Some TooLong → first ≢ Some TooLong
 first_within first later within = λ is. within (ap (λ (halt : Option Status). first_halt halt later) is)
 
-later_within : (first later : Option Status) → first ≡ None → first_halt first later ≢ Some TooLong → later ≢ Some TooLong
+later_within : (first later : Option Status) → first ≡ None → first_halt first later ≢ Some TooLong
+    → later ≢ Some TooLong
 later_within first later none within = λ is. within (ap (λ (halt : Option Status). first_halt halt later) none ∙ is)
 
 -- what stands after an element

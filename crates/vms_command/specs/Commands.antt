@@ -1,5 +1,6 @@
 -- Commands on a trace by their behavior from line to line: through the header, and then through the body.
-use Rattle.std.specs.Prelude.{Bool, true, false, ℕ, suc, nat_lt, if◌then◌else◌, List, [], Option, Some, None, Result, Ok, Err}
+use Rattle.std.specs.Prelude.{Bool, true, false, ℕ, suc, nat_lt, if◌then◌else◌, List, [], Option, Some, None}
+use Rattle.std.specs.Prelude.{Result, Ok, Err}
 use Rattle.vms_base.specs.declared.headers.Header.{Header}
 use Rattle.vms_text.specs.declared.acts.Line.{Line}
 use Rattle.vms_header.specs.declared.causes.HeaderCause.{HeaderCause}

@@ -32,8 +32,8 @@ module _ {S : Type 0} (behavior : Behavior S) where
   printed-append s (line ∷ lines) more none =
       let both = first_halt-none (behavior.halts s line) (halted behavior (behavior.next s line) lines) none in
       let next = behavior.next s line in
-      ap (λ (first : Option Status). printed_from first (behavior.prints s line) (printed behavior next (lines ++ more)))
-      both.0
+      ap (λ (first : Option Status). printed_from first (behavior.prints s line)
+      (printed behavior next (lines ++ more))) both.0
       ∙ ap (λ (rest : List ℕ). behavior.prints s line ++ rest) (printed-append next lines more both.1)
       ∙ sym (append_assoc (behavior.prints s line) (printed behavior next lines)
       (printed behavior (state_after behavior next lines) more))

@@ -318,8 +318,8 @@ module _ {S : Type 0} (behavior : Behavior S) (shows : S → Type 0) where
             Steps-judged sunk sunk' result appends stops =
                 by halt refl result (subst (λ (n : ℕ). StopsAt halt n result) same_count stops)
               where
-                by : (found : Option Status) → halt ≡ found → (r : Result (Unit {0}) Status) → StopsAt found read.taken r
-                    → Steps behavior stands' shows taken written last left left' sunk sunk' r
+                by : (found : Option Status) → halt ≡ found → (r : Result (Unit {0}) Status)
+                    → StopsAt found read.taken r → Steps behavior stands' shows taken written last left left' sunk sunk' r
                 by (Some h) is_found r stopped = subst
                     (λ (r : Result (Unit {0}) Status). Steps behavior stands' shows taken written last left left' sunk
                     sunk'

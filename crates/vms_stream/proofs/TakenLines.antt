@@ -123,7 +123,8 @@ module _ {S : Type 0} (behavior : Behavior S) (stands now next : S → Type 0) (
       (goes (state_after behavior s above) (before.stands_after refl))
 
   -- a line that stops it
-  pub takes_halt : (h : Status) → halt ≡ Some h → (s : S) → stands s → TakesLines behavior next s all (Some h) first out'
+  pub takes_halt : (h : Status) → halt ≡ Some h → (s : S) → stands s
+      → TakesLines behavior next s all (Some h) first out'
   takes_halt h is s here =
       subst (λ (lines : List (List ℕ)). TakesLines behavior next s lines (Some h) first out')
       (sym (one_further all above rest line after parts some splits))
