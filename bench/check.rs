@@ -7,7 +7,7 @@ mod commands;
 mod names;
 mod trace;
 
-use commands::{Failure, Input, Output};
+use commands::{Failure, Input, Output, Text};
 use names::EVENTS;
 use std::io::{self, Write};
 use std::process::ExitCode;
@@ -28,7 +28,7 @@ impl Header {
         for (counter, base) in self.bases.iter().enumerate() {
             if let Some(value @ (1.. | ..=-1)) = base {
                 write!(out, "base ")?;
-                self.write_counter(out, counter)?;
+                out.write_all(self.words_of(counter))?;
                 writeln!(out, " {value}")?;
             }
         }
@@ -38,10 +38,10 @@ impl Header {
         writeln!(out, "go")
     }
 
-    fn write_act(&self, out: &mut Output, act: Act) -> io::Result<()> {
+    fn write_act(&self, out: &mut Text, act: Act) {
         match act {
             Act::Mod(counter, pages) => {
-                self.write_on(out, b" mod ", counter)?;
+                self.write_on(out, b" mod ", counter);
                 let unit = if self.in_bytes(counter) { BYTES_OF_PAGE } else { 1 };
                 write_amount(out, pages * unit)
             }
@@ -50,20 +50,20 @@ impl Header {
             Act::Val(counter) => self.write_on(out, b" val ", counter),
             Act::Snap(counter) => self.write_on(out, b" snap ", counter),
             Act::Ev(event, n) => {
-                write_name(out, b" ev ", EVENTS[event])?;
+                write_name(out, b" ev ", EVENTS[event]);
                 write_number(out, b" ", n)
             }
             Act::Cnt(counter, n) => {
-                write_name(out, b" cnt ", &self.counters[counter].name)?;
+                write_name(out, b" cnt ", &self.counters[counter].name);
                 write_amount(out, n)
             }
             Act::Lim(counter, most, n) => {
-                write_name(out, b" lim ", &self.counters[counter].name)?;
-                write_amount(out, most)?;
+                write_name(out, b" lim ", &self.counters[counter].name);
+                write_amount(out, most);
                 write_amount(out, n)
             }
             Act::Cmp(counter, n) => {
-                write_name(out, b" cmp ", &self.counters[counter].name)?;
+                write_name(out, b" cmp ", &self.counters[counter].name);
                 write_amount(out, n)
             }
             Act::Sum(counter) => write_name(out, b" sum ", &self.counters[counter].name),
@@ -72,9 +72,9 @@ impl Header {
             Act::EvSum(event) => write_name(out, b" evsum ", EVENTS[event]),
             Act::Fold(cpu) => write_number(out, b" fold ", cpu as u64),
             Act::Water(zone, mark, index) => {
-                write_number(out, b" ok ", self.zones[zone].node)?;
-                write_name(out, b" ", KINDS[self.zones[zone].kind])?;
-                write_name(out, b" ", MARKS[mark])?;
+                write_number(out, b" ok ", self.zones[zone].node);
+                write_name(out, b" ", KINDS[self.zones[zone].kind]);
+                write_name(out, b" ", MARKS[mark]);
                 write_number(out, b" ", index)
             }
             Act::Sys(item) if item < self.positions() => write_name(out, b" sys ", &self.names(false)[item]),
@@ -83,69 +83,66 @@ impl Header {
             Act::Normal(node) => write_number(out, b" normal ", self.node_number(node)),
             Act::Dead(cpu) => write_number(out, b" dead ", cpu as u64),
             Act::Kswapd(node, order, index) => {
-                write_number(out, b" kswapd ", self.node_number(node))?;
-                write_number(out, b" ", order)?;
+                write_number(out, b" kswapd ", self.node_number(node));
+                write_number(out, b" ", order);
                 write_number(out, b" ", index)
             }
         }
     }
 
-    fn write_on(&self, out: &mut Output, verb: &[u8], counter: usize) -> io::Result<()> {
-        out.text(verb)?;
-        self.write_counter(out, counter)
+    fn write_on(&self, out: &mut Text, verb: &[u8], counter: usize) {
+        out.text(verb);
+        out.text(self.words_of(counter));
     }
 
-    fn write_line(&self, out: &mut Output, line: Line) -> io::Result<()> {
+    fn write_line(&self, out: &mut Text, line: Line) {
         match line {
-            Line::Blank => return Ok(()),
+            Line::Blank => return,
             Line::Lane(lane, act) => {
                 match lane {
-                    Lane::Cpu(cpu) => write_number(out, b"c", cpu as u64)?,
-                    Lane::Control => out.text(b"k")?,
+                    Lane::Cpu(cpu) => write_number(out, b"c", cpu as u64),
+                    Lane::Control => out.text(b"k"),
                 }
-                self.write_act(out, act)?;
+                self.write_act(out, act);
             }
-            Line::Sync => out.text(b"sync")?,
-            Line::Offline(cpu) => write_number(out, b"offline ", cpu as u64)?,
-            Line::Online(cpu) => write_number(out, b"online ", cpu as u64)?,
-            Line::Flush => out.text(b"flush")?,
-            Line::Report(kind) => write_name(out, b"report ", REPORTS[kind])?,
+            Line::Sync => out.text(b"sync"),
+            Line::Offline(cpu) => write_number(out, b"offline ", cpu as u64),
+            Line::Online(cpu) => write_number(out, b"online ", cpu as u64),
+            Line::Flush => out.text(b"flush"),
+            Line::Report(kind) => write_name(out, b"report ", REPORTS[kind]),
         }
-        out.text(b"\n")
+        out.text(b"\n");
     }
 }
 
-fn write_name(out: &mut Output, before: &[u8], name: &str) -> io::Result<()> {
-    out.text(before)?;
-    out.text(name.as_bytes())
+fn write_name(out: &mut Text, before: &[u8], name: &str) {
+    out.text(before);
+    out.text(name.as_bytes());
 }
 
-fn write_number(out: &mut Output, before: &[u8], n: u64) -> io::Result<()> {
-    out.text(before)?;
-    out.number(n)
+fn write_number(out: &mut Text, before: &[u8], n: u64) {
+    out.text(before);
+    out.number(n);
 }
 
-fn write_amount(out: &mut Output, n: i64) -> io::Result<()> {
-    out.text(b" ")?;
-    out.signed(n)
+fn write_amount(out: &mut Text, n: i64) {
+    out.text(b" ");
+    out.signed(n);
 }
 
 fn check(input: &mut Input, out: &mut Output) -> Result<u8, Failure> {
     let header = input.header()?;
-    header.write_header(out)?;
-    let tally = input.body(&header, |number, judged| {
-        match judged {
-            Ok(line) => header.write_line(out, line)?,
-            Err(cause) => {
-                write_number(out, b"# line ", number)?;
-                write_name(out, b": refused: ", cause.name())?;
-                out.text(b"\n")?;
-            }
+    header.write_header(&mut out.held)?;
+    let tally = input.body(&header, out, |out, number, judged| match judged {
+        Ok(line) => header.write_line(out, line),
+        Err(cause) => {
+            write_number(out, b"# line ", number);
+            write_name(out, b": refused: ", cause.name());
+            out.text(b"\n");
         }
-        Ok(())
     })?;
-    write!(out, "# ")?;
-    tally.write(out)?;
+    write!(out.held, "# ")?;
+    tally.write(&mut out.held)?;
     Ok(tally.status())
 }
 

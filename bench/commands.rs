@@ -6,7 +6,9 @@
 
 use crate::names::EVENTS;
 use crate::trace::{Act, Cause, Header, Lane, Line, head_line};
-use std::io::{self, BufRead, BufReader, Read, StdinLock, StdoutLock, Take, Write};
+use std::fs::File;
+use std::io::{self, BufRead, BufReader, Read, StdinLock, Take, Write};
+use std::os::fd::AsFd;
 use std::process::ExitCode;
 
 const MOST_BYTES: u64 = 1 << 26;
@@ -65,7 +67,7 @@ impl Tally {
 }
 
 #[derive(Clone, Copy, PartialEq)]
-enum State {
+pub enum State {
     Online,
     Dead,
     Absent,
@@ -201,11 +203,13 @@ impl Input {
         }
     }
 
-    /// Hands each further line that isn't ignored to a command, by its number and what it comes to.
+    /// Hands each further line that isn't ignored to a command, by its number and what it comes to. The command adds
+    /// what it writes to the text that is held.
     pub fn body(
         &mut self,
         header: &Header,
-        mut take: impl FnMut(u64, Result<Line, Cause>) -> Result<(), Failure>,
+        out: &mut Output,
+        mut take: impl FnMut(&mut Text, u64, Result<Line, Cause>),
     ) -> Result<Tally, Failure> {
         let mut judge = Judge::new(header);
         let mut tally = Tally::default();
@@ -216,33 +220,39 @@ impl Input {
                 Ok(line) => tally.add(line)?,
                 Err(_) => tally.refused += 1,
             }
-            take(self.number, judged)?;
+            take(&mut out.held, self.number, judged);
+            if out.held.0.len() > BUFFER {
+                out.hand_on()?;
+            }
         }
         Ok(tally)
     }
 }
 
-/// Standard output, with numbers in decimal.
-pub struct Output {
-    out: StdoutLock<'static>,
-    held: Vec<u8>,
-}
+/// Text in memory, with numbers in decimal.
+#[derive(Default)]
+pub struct Text(Vec<u8>);
 
-impl Output {
-    fn make() -> Output {
-        Output { out: io::stdout().lock(), held: Vec::with_capacity(BUFFER) }
+impl Text {
+    pub fn is_empty(&self) -> bool {
+        self.0.is_empty()
+    }
+
+    pub fn clear(&mut self) {
+        self.0.clear();
+    }
+
+    /// Moves another text behind this one.
+    pub fn append(&mut self, other: &mut Text) {
+        self.0.append(&mut other.0);
     }
 
     #[inline]
-    pub fn text(&mut self, bytes: &[u8]) -> io::Result<()> {
-        if self.held.len() + bytes.len() > BUFFER {
-            self.flush()?;
-        }
-        self.held.extend_from_slice(bytes);
-        Ok(())
+    pub fn text(&mut self, bytes: &[u8]) {
+        self.0.extend_from_slice(bytes);
     }
 
-    pub fn number(&mut self, mut n: u64) -> io::Result<()> {
+    pub fn number(&mut self, mut n: u64) {
         let mut digits = [0; 20];
         let mut begin = digits.len();
         loop {
@@ -255,35 +265,53 @@ impl Output {
         }
     }
 
-    pub fn signed(&mut self, n: i64) -> io::Result<()> {
+    pub fn signed(&mut self, n: i64) {
         if n < 0 {
-            self.text(b"-")?;
+            self.text(b"-");
         }
-        self.number(n.unsigned_abs())
+        self.number(n.unsigned_abs());
     }
 }
 
-impl Write for Output {
+impl Write for Text {
     fn write(&mut self, bytes: &[u8]) -> io::Result<usize> {
-        self.text(bytes)?;
+        self.text(bytes);
         Ok(bytes.len())
     }
 
     fn flush(&mut self) -> io::Result<()> {
-        self.out.write_all(&self.held)?;
+        Ok(())
+    }
+}
+
+/// Standard output, and the text that waits for it.
+pub struct Output {
+    sink: File,
+    pub held: Text,
+}
+
+impl Output {
+    fn make() -> io::Result<Output> {
+        let sink = File::from(io::stdout().as_fd().try_clone_to_owned()?);
+        Ok(Output { sink, held: Text(Vec::with_capacity(2 * BUFFER)) })
+    }
+
+    /// Writes what is held. It isn't tried again if that fails.
+    fn hand_on(&mut self) -> io::Result<()> {
+        let written = self.sink.write_all(&self.held.0);
         self.held.clear();
-        self.out.flush()
+        written
     }
 }
 
 /// Runs a command over standard input and standard output if its word alone was given.
 pub fn run(word: &str, command: impl FnOnce(&mut Input, &mut Output) -> Result<u8, Failure>) -> ExitCode {
-    let mut out = Output::make();
-    let status = match answer(word, command, &mut out).and_then(|status| out.flush().map(|()| status)) {
-        Ok(status) => status,
-        Err(_) => 5,
-    };
-    ExitCode::from(status)
+    let status = Output::make().and_then(|mut out| {
+        let status = answer(word, command, &mut out)?;
+        out.hand_on()?;
+        Ok(status)
+    });
+    ExitCode::from(status.unwrap_or(5))
 }
 
 /// The status, unless a write failed.
@@ -293,13 +321,13 @@ fn answer(
     out: &mut Output,
 ) -> io::Result<u8> {
     if std::env::args_os().skip(1).ne([word]) {
-        writeln!(out, "usage: check | replay | run | gen SEED CPUS LINES")?;
+        writeln!(out.held, "usage: check | replay | run | gen SEED CPUS LINES")?;
         return Ok(1);
     }
     Ok(match command(&mut Input::make(), out) {
         Ok(status) => status,
         Err(Failure::Header(line, cause)) => {
-            writeln!(out, "line {line}: {cause}")?;
+            writeln!(out.held, "line {line}: {cause}")?;
             2
         }
         Err(Failure::TooLong) => 7,

@@ -1,62 +1,184 @@
 //! The job of `vozhkell replay` in plain Rust, written by hand. bench/run.sh measures the proved program beside it.
 //!
 //! It writes what the proved program writes, and ends with its statuses: 0, 1 for other words, 2 for a refused header,
-//! 3 where a line was refused, 4 for a failed read and 5 for a failed write, 7 past a limit, and 8 where a line counts
-//! that isn't replayed. It keeps the totals alone, by counter: global values and differentials aren't printed.
+//! 3 where a line was refused, 4 for a failed read and 5 for a failed write, 7 past a limit, and 8 where a report other
+//! than that of the totals counts. From such a report on it writes nothing, nor what it still held.
 
 mod commands;
 mod names;
 mod trace;
+mod world;
 
-use commands::{Failure, Input, Output};
+use commands::{Failure, Input, Output, Text};
 use names::EVENTS;
-use std::io::{self, Write};
 use std::process::ExitCode;
-use trace::{Act, Header, Line, REPORTS};
+use trace::{Act, Cause, Header, KINDS, Lane, Line, REPORTS};
+use world::{Rule, Verdict, World};
 
-impl Header {
-    fn write_totals(&self, out: &mut impl Write, totals: &[i64]) -> io::Result<()> {
-        for (place, totals) in totals.chunks_exact(self.positions()).enumerate() {
-            for (item, total) in self.names(self.is_node(place)).iter().zip(totals) {
-                self.write_place(out, place)?;
-                writeln!(out, " {item} {total}")?;
+struct Replay<'a> {
+    header: &'a Header,
+    world: World<'a>,
+    /// What the phase that is open prints, from its first answer on. It is written once the phase has ended.
+    waiting: Text,
+    is_built: bool,
+}
+
+impl Replay<'_> {
+    fn take(&mut self, out: &mut Text, number: u64, judged: Result<Line, Cause>) {
+        if !self.is_built {
+            return;
+        }
+        match judged {
+            Ok(Line::Lane(Lane::Cpu(cpu), act)) => self.act_on_cpu(number, cpu, act),
+            Ok(Line::Lane(Lane::Control, act)) => self.act(number, act),
+            Ok(line) => {
+                out.append(&mut self.waiting);
+                self.end_phase(out, number, line);
+            }
+            Err(cause) => {
+                let out = if self.waiting.is_empty() { out } else { &mut self.waiting };
+                label(out, number, b"refused: ");
+                out.text(cause.name().as_bytes());
+                out.text(b"\n");
             }
         }
-        for event in EVENTS {
-            writeln!(out, "event {event} 0")?;
+    }
+
+    fn act_on_cpu(&mut self, number: u64, cpu: usize, act: Act) {
+        let (world, out) = (&mut self.world, &mut self.waiting);
+        match act {
+            Act::Mod(counter, pages) => world.change(cpu, counter, pages, 0),
+            Act::Inc(counter) => world.change(cpu, counter, 1, 1),
+            Act::Dec(counter) => world.change(cpu, counter, -1, -1),
+            Act::Ev(event, n) => world.count(cpu, event, n),
+            Act::Cnt(counter, amount) => world.add(cpu, counter, amount),
+            Act::Lim(counter, limit, amount) => {
+                let is_added = world.limited_add(cpu, counter, limit, amount);
+                label(out, number, if is_added { b"limited yes\n" } else { b"limited no\n" });
+            }
+            Act::Csync(counter) => world.sync(cpu, counter),
+            Act::Fold(other) if other == cpu => world.fold_self(cpu),
+            _ => self.act(number, act),
         }
-        for counter in &self.counters {
-            writeln!(out, "counter {} 0", counter.name)?;
+    }
+
+    /// What an act does that is the same for every lane.
+    fn act(&mut self, number: u64, act: Act) {
+        let (world, out) = (&mut self.world, &mut self.waiting);
+        match act {
+            Act::Fold(cpu) => world.fold(cpu),
+            Act::Pressure(node) => world.set_zones(node, Rule::Pressure),
+            Act::Normal(node) => world.set_zones(node, Rule::Normal),
+            Act::Dead(cpu) => world.bury(cpu),
+            Act::Val(counter) => answer(out, number, b"value ", world.value(counter)),
+            Act::Snap(counter) => answer(out, number, b"snapshot ", world.snapshot(counter)),
+            Act::Sys(item) => answer(out, number, b"system ", world.system_value(item)),
+            Act::EvSum(event) => answer(out, number, b"events ", world.events_online(event)),
+            Act::Rough(counter) => signed_answer(out, number, b"count ", world.rough(counter)),
+            Act::Sum(counter) => signed_answer(out, number, b"sum ", world.sum(counter)),
+            Act::Cmp(counter, with) => {
+                let (order, is_rough) = world.compare(counter, with);
+                label(out, number, b"compare ");
+                out.signed(order as i64);
+                out.text(if is_rough { b" rough\n" } else { b" sum\n" });
+            }
+            Act::Water(zone, mark, index) => {
+                let verdict = world.watermark(zone, mark, 0, index);
+                label(out, number, if verdict.yes { b"yes" } else { b"no" });
+                free(out, &verdict);
+            }
+            Act::Kswapd(node, order, index) => match world.kswapd(node, order, index) {
+                Some((zone, verdict)) => {
+                    label(out, number, b"balanced ");
+                    out.text(KINDS[self.header.zones[zone].kind].as_bytes());
+                    free(out, &verdict);
+                }
+                None => label(out, number, b"unbalanced\n"),
+            },
+            // The others are acts of CPUs, and `act_on_cpu` has them.
+            _ => {}
         }
-        Ok(())
+    }
+
+    fn end_phase(&mut self, out: &mut Text, number: u64, line: Line) {
+        match line {
+            Line::Offline(cpu) => self.world.take_down(cpu),
+            Line::Online(cpu) => self.world.bring_up(cpu),
+            Line::Flush => self.world.flush(),
+            Line::Report(kind) if REPORTS[kind] == "totals" => {
+                label(out, number, b"report totals\n");
+                self.write_totals(out);
+            }
+            Line::Report(_) => {
+                self.is_built = false;
+                out.clear();
+            }
+            _ => {}
+        }
+        self.world.end_phase();
+    }
+
+    fn write_totals(&self, out: &mut Text) {
+        let (header, world) = (self.header, &self.world);
+        for place in 0..header.zones.len() + header.nodes.len() {
+            for position in 0..header.names(header.is_node(place)).len() {
+                let counter = (place << header.shift()) + position;
+                total(out, header.words_of(counter), world.total(counter));
+            }
+        }
+        for (event, name) in EVENTS.iter().enumerate() {
+            out.text(b"event ");
+            total(out, name.as_bytes(), world.events_of_all(event) as i64);
+        }
+        for (counter, declared) in header.counters.iter().enumerate() {
+            out.text(b"counter ");
+            total(out, declared.name.as_bytes(), world.sum(counter));
+        }
     }
 }
 
-/// What is printed waits for the end of the input.
+fn label(out: &mut Text, number: u64, what: &[u8]) {
+    out.text(b"line ");
+    out.number(number);
+    out.text(b": ");
+    out.text(what);
+}
+
+fn answer(out: &mut Text, number: u64, what: &[u8], n: u64) {
+    label(out, number, what);
+    out.number(n);
+    out.text(b"\n");
+}
+
+fn signed_answer(out: &mut Text, number: u64, what: &[u8], n: i64) {
+    label(out, number, what);
+    out.signed(n);
+    out.text(b"\n");
+}
+
+fn free(out: &mut Text, verdict: &Verdict) {
+    out.text(b" free ");
+    out.number(verdict.free);
+    out.text(if verdict.fast { b" fast\n" } else { b" snapshot\n" });
+}
+
+fn total(out: &mut Text, words: &[u8], n: i64) {
+    out.text(words);
+    out.text(b" ");
+    out.signed(n);
+    out.text(b"\n");
+}
+
 fn replay(input: &mut Input, out: &mut Output) -> Result<u8, Failure> {
     let header = input.header()?;
-    let mut totals: Vec<i64> = header.bases.iter().map(|base| base.unwrap_or(0)).collect();
-    let (mut waiting, mut is_built) = (Vec::new(), true);
-    let tally = input.body(&header, |number, judged| {
-        match judged {
-            Ok(Line::Lane(_, Act::Mod(counter, pages))) => totals[counter] += pages,
-            Ok(Line::Lane(_, Act::Inc(counter))) => totals[counter] += 1,
-            Ok(Line::Lane(_, Act::Dec(counter))) => totals[counter] -= 1,
-            Ok(Line::Sync) => {}
-            Ok(Line::Report(kind)) if REPORTS[kind] == "totals" => {
-                writeln!(waiting, "line {number}: report totals")?;
-                header.write_totals(&mut waiting, &totals)?;
-            }
-            Ok(_) => is_built = false,
-            Err(cause) => writeln!(waiting, "line {number}: refused: {cause}")?,
-        }
-        Ok(())
-    })?;
-    if !is_built {
+    let world = World::start(&header);
+    let mut replay = Replay { header: &header, world, waiting: Text::default(), is_built: true };
+    let tally = input.body(&header, out, |out, number, judged| replay.take(out, number, judged))?;
+    if !replay.is_built {
         return Ok(8);
     }
-    out.write_all(&waiting)?;
-    tally.write(out)?;
+    out.held.append(&mut replay.waiting);
+    tally.write(&mut out.held)?;
     Ok(tally.status())
 }
 

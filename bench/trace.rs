@@ -5,7 +5,6 @@
 
 use crate::names::{EVENTS, NODE_ITEMS, ZONE_ITEMS};
 use std::fmt::{self, Display};
-use std::io::{self, Write};
 use std::str;
 
 pub const KINDS: [&str; 4] = ["DMA", "DMA32", "Normal", "Movable"];
@@ -333,7 +332,8 @@ impl Header {
         1 << self.shift()
     }
 
-    fn shift(&self) -> u32 {
+    /// A counter is one of `positions` of the place that it gives when it is shifted by this.
+    pub fn shift(&self) -> u32 {
         if self.wide { 4 } else { 3 }
     }
 
@@ -640,17 +640,9 @@ impl Header {
         }
     }
 
-    // The words of a counter, for output.
-
-    pub fn write_place(&self, out: &mut impl Write, place: usize) -> io::Result<()> {
-        match self.zones.get(place) {
-            Some(zone) => write!(out, "{} {}", zone.node, KINDS[zone.kind]),
-            None => write!(out, "{} node", self.node_number(place)),
-        }
-    }
-
-    pub fn write_counter(&self, out: &mut impl Write, counter: usize) -> io::Result<()> {
-        out.write_all(&self.spelled[counter])
+    /// The words of a counter, for output.
+    pub fn words_of(&self, counter: usize) -> &[u8] {
+        &self.spelled[counter]
     }
 
     pub fn node_number(&self, place: usize) -> u64 {
