@@ -1,0 +1,113 @@
+"""Writes the traces that are too long to stand in bench/rows, each with its expected output, into a folder.
+
+    large_rows.py FOLDER
+
+They are for the limits of a trace, and for many changes of one counter. As in bench/rows there is NAME.vmtrace, NAME.out
+and a table `statuses`. The outputs are put together from what each line prints by the format, not by a program.
+"""
+import os
+import sys
+
+ZONE = ("nr_free_pages nr_zone_inactive_anon nr_zone_active_anon nr_zone_inactive_file nr_zone_active_file "
+        "nr_zone_unevictable nr_zone_write_pending nr_mlock").split()
+NODE = ("nr_inactive_anon nr_active_anon nr_inactive_file nr_active_file nr_unevictable nr_anon_pages "
+        "nr_file_pages nr_dirty").split()
+EVENTS = "pgpgin pgpgout pswpin pswpout pgfree pgactivate pgdeactivate pgfault".split()
+FREE = "0 Normal nr_free_pages"
+MOST_BYTES = 1 << 26
+MOST_LINES = 1_000_000
+
+
+def head(cpus, base):
+    return ["vmtrace 1", f"cpus {cpus}", "zone 0 Normal 262144 100 125 150", f"base {FREE} {base}", "go"]
+
+
+def totals(free):
+    counters = [f"0 Normal {item}" for item in ZONE] + [f"0 node {item}" for item in NODE]
+    counters += [f"event {event}" for event in EVENTS]
+    return [f"{counter} {free if counter == FREE else 0}" for counter in counters]
+
+
+def many_changes():
+    """Eight lanes with 10,000 changes by one page each, while all are folded and thresholds change."""
+    body = []
+    for n in range(10_000):
+        body += [f"c{cpu} mod {FREE} 1" for cpu in range(8)]
+        if n % 500 == 250:
+            body += [f"c{n // 500 % 8} fold {cpu}" for cpu in range(8)] + [f"k fold {n // 500 % 8}"]
+        if n % 1000 == 100:
+            body.append("k pressure 0")
+        if n % 1000 == 600:
+            body.append("k normal 0")
+    body.append("report totals")
+    lines = head(8, 10_000) + body
+    return lines, [f"line {len(lines)}: report totals", *totals(90_000), f"done accepted {len(body)} refused 0"], 0
+
+
+def reports(count):
+    lines = head(2, 7) + ["report totals"] * count
+    out = []
+    for n in range(min(count, 1_000)):
+        out += [f"line {n + 6}: report totals", *totals(7)]
+    return (lines, out + [f"done accepted {count} refused 0"], 0) if count <= 1_000 else (lines, out, 7)
+
+
+def phases(count):
+    """Phases of a line that prints. A refused line of the last one stands before what opens it, and is written."""
+    lines, out = head(2, 7), []
+    for n in range(count):
+        lines += ["c2 inc " + FREE, "c0 val " + FREE, "sync"]
+        out.append(f"line {3 * n + 6}: refused: UnknownLane")
+        if n < 10_000:
+            out.append(f"line {3 * n + 7}: value 7")
+    return (lines, out + [f"done accepted {2 * count} refused {count}"], 3) if count <= 10_000 else (lines, out, 7)
+
+
+def lines_in_all(count):
+    """The answer of a phase that is open where the limit is passed isn't written."""
+    lines = head(2, 7) + ["c2 inc " + FREE, "c0 val " + FREE, "c2 inc " + FREE]
+    lines += [""] * (count - len(lines))
+    out = ["line 6: refused: UnknownLane"]
+    if count > MOST_LINES:
+        return lines, out, 7
+    return lines, out + ["line 7: value 7", "line 8: refused: UnknownLane", "done accepted 1 refused 2"], 3
+
+
+def bytes_in_all(count):
+    lines = head(2, 7) + ["c2 inc " + FREE, "c0 val " + FREE]
+    left = count - sum(len(line) + 1 for line in lines)
+    lines += ["#" * 199] * (left // 200 - 1)
+    rest = left - 200 * (left // 200 - 1)
+    lines += ["#" * (rest // 2 - 1), "#" * (rest - rest // 2 - 1)]
+    out = ["line 6: refused: UnknownLane"]
+    if count > MOST_BYTES:
+        return lines, out, 7
+    return lines, out + ["line 7: value 7", "done accepted 1 refused 1"], 3
+
+
+ROWS = {
+    "many_changes": many_changes(),
+    "as_many_reports": reports(1_000),
+    "too_many_reports": reports(1_001),
+    "as_many_phases": phases(10_000),
+    "too_many_phases": phases(10_001),
+    "as_many_lines": lines_in_all(MOST_LINES),
+    "too_many_lines": lines_in_all(MOST_LINES + 1),
+    "empty_lines": (head(2, 7) + [""] * (MOST_LINES + 1), [], 7),
+    "as_many_bytes": bytes_in_all(MOST_BYTES),
+    "too_many_bytes": bytes_in_all(MOST_BYTES + 1),
+}
+
+
+def main():
+    folder = sys.argv[1]
+    with open(os.path.join(folder, "statuses"), "w") as statuses:
+        for name, (lines, out, status) in ROWS.items():
+            for suffix, texts in (("vmtrace", lines), ("out", out)):
+                with open(os.path.join(folder, f"{name}.{suffix}"), "w") as file:
+                    file.write("".join(text + "\n" for text in texts))
+            statuses.write(f"{name} {status}\n")
+
+
+if __name__ == "__main__":
+    main()
