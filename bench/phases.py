@@ -1,0 +1,146 @@
+"""Writes a trace of every kind of line that `replay` replays: changes, queries, percpu counters, events, folds, thresholds,
+balance turns and CPU hotplug, in phases of 10 to 100,000 lines, with a few lines that are refused.
+
+    phases.py [SEED [LINES]]
+
+There are 1,000,000 lines where LINES isn't given. The same SEED, 1 where none is given, gives the same trace.
+"""
+import random
+import sys
+
+EVENTS = "pgpgin pgpgout pswpin pswpout pgfree pgactivate pgdeactivate pgfault".split()
+ZONE = ("nr_free_pages nr_zone_inactive_anon nr_zone_active_anon nr_zone_inactive_file nr_zone_active_file "
+        "nr_zone_unevictable nr_zone_write_pending nr_mlock area4 area7").split()
+NODE = ("nr_inactive_anon nr_active_anon nr_inactive_file nr_active_file nr_unevictable nr_anon_pages "
+        "nr_file_pages nr_dirty").split()
+COUNTERS = "files inodes dentries".split()
+CPUS = 16
+# Each with its free pages at first, near which it is kept: about where the watermark tests change their answers.
+ZONES = {"0 DMA32": ("65536 200 260 320", 700), "0 Normal": ("524288 1000 1250 1500", 2400),
+         "1 Normal": ("1048576 100 600 1100", 2100), "1 Movable": ("16384 50 80 110", 200)}
+HEAD = ["vmtrace 2", f"cpus {CPUS}", "item zone area4", "item zone area7", "item node slab bytes"]
+HEAD += [f"zone {zone} {size}" for zone, (size, _) in ZONES.items()]
+HEAD += [f"base {zone} nr_free_pages {free}" for zone, (_, free) in ZONES.items()]
+HEAD += ["base 1 node nr_file_pages 5000", "counter files", "counter inodes 1", "counter dentries 300", "go"]
+
+
+class Machine:
+    """What the trace has made of the machine, so that most of its lines count."""
+
+    def __init__(self, seed):
+        self.rng = random.Random(seed)
+        self.draw = self.rng.randrange
+        self.pick = self.rng.choice
+        self.online = list(range(CPUS))
+        self.dead = []
+        self.absent = []
+        self.free = {zone: free for zone, (_, free) in ZONES.items()}
+
+    def counter(self):
+        if self.draw(3):
+            return f"{self.pick(list(ZONES))} {self.pick(ZONE)}"
+        return f"{self.draw(2)} node {self.pick(NODE)}"
+
+    def change(self, lane):
+        kind = self.draw(20)
+        if kind < 5:
+            zone = self.pick(list(ZONES))
+            pages = self.draw(97) if self.draw(5) else self.draw(3)
+            if (self.free[zone] > ZONES[zone][1]) != (self.draw(4) == 0):
+                pages = -pages
+            self.free[zone] += pages
+            return f"{lane} mod {zone} nr_free_pages {pages}"
+        if kind < 12:
+            return f"{lane} mod {self.counter()} {self.draw(129) - 64}"
+        if kind < 13:
+            return f"{lane} mod {self.draw(2)} node slab {4096 * (self.draw(65) - 32)}"
+        return f"{lane} {self.pick(['inc', 'inc', 'dec'])} {self.counter()}"
+
+    def percpu(self, lane):
+        name = self.pick(COUNTERS)
+        kind = self.draw(10)
+        if kind < 4:
+            return f"{lane} cnt {name} {self.draw(129) - 64}"
+        if kind < 6:
+            return f"{lane} lim {name} {self.draw(3000) - 1500} {self.draw(129) - 64}"
+        if kind < 8:
+            return f"{lane} cmp {name} {self.draw(3000) - 1500}"
+        return f"{lane} {self.pick(['sum', 'rough', 'csync'])} {name}"
+
+    def query(self, lane):
+        kind = self.draw(10)
+        if kind < 4:
+            return f"{lane} ok {self.pick(list(ZONES))} {self.pick(['min', 'low', 'high'])} {self.draw(4)}"
+        if kind < 6:
+            return f"{lane} val {self.counter()}"
+        if kind < 8:
+            return f"{lane} snap {self.counter()}"
+        return f"{lane} sys {self.pick(ZONE + NODE + ['slab'])}"
+
+    def refused(self, lane):
+        return self.pick([f"{lane} mod {self.counter()} 0{self.draw(9)}", f"c9{self.draw(9)} inc {self.counter()}",
+                          f"{lane} inc 0 node slab", f"{lane} inc {self.counter()} 1", f"online {self.pick(self.online)}",
+                          f"k dead {self.pick(self.online)}", f"{lane} sum nothing", f"c{self.draw(CPUS)} sum files"])
+
+    def line(self):
+        lane = f"c{self.pick(self.online)}"
+        either = self.pick([lane, "k"])
+        kind = self.draw(1000)
+        if kind < 500:
+            return self.change(lane)
+        if kind < 580:
+            return f"{lane} ev {self.pick(EVENTS)} {self.draw(9)}"
+        if kind < 700:
+            return self.percpu(lane)
+        if kind < 850:
+            return self.query(either)
+        if kind < 880:
+            return f"{either} evsum {self.pick(EVENTS)}"
+        if kind < 905:
+            return f"{either} fold {self.draw(CPUS)}"
+        if kind < 930:
+            return f"{lane} fold {lane[1:]}"
+        if kind < 950:
+            return f"k {self.pick(['pressure', 'normal'])} {self.draw(2)}"
+        if kind < 970:
+            node = self.draw(2)
+            return f"k kswapd {node} {self.pick([0, 0, self.draw(11)])} {node + 1 + self.draw(3 - node)}"
+        if kind < 975 and self.dead:
+            cpu = self.dead.pop(self.draw(len(self.dead)))
+            self.absent.append(cpu)
+            return f"k dead {cpu}"
+        if kind < 985:
+            return self.refused(lane)
+        if kind < 990:
+            return self.pick(["", "# a remark", f"{lane}  mod\t{self.counter()}   {self.draw(9)}\r"])
+        return self.change(lane)
+
+    def boundary(self):
+        kind = self.draw(10)
+        if kind < 3 and len(self.online) > 2:
+            cpu = self.online.pop(self.draw(len(self.online)))
+            self.dead.append(cpu)
+            return f"offline {cpu}"
+        if kind < 6 and self.absent:
+            cpu = self.absent.pop(self.draw(len(self.absent)))
+            self.online.append(cpu)
+            return f"online {cpu}"
+        return self.pick(["sync", "sync", "flush", "report totals"])
+
+
+def main():
+    seed, lines = (int(word) for word in (sys.argv[1:] + ["1", "1000000"][len(sys.argv) - 1:])[:2])
+    machine = Machine(seed)
+    out = sys.stdout
+    for text in HEAD[:lines]:
+        out.write(text + "\n")
+    left = 0
+    for _ in range(lines - len(HEAD) - 1):
+        out.write((machine.line() if left else machine.boundary()) + "\n")
+        left = left - 1 if left else int(10 ** (1 + 4 * machine.rng.random()))
+    if lines > len(HEAD):
+        out.write("report totals\n")
+
+
+if __name__ == "__main__":
+    main()
