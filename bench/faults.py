@@ -4,12 +4,12 @@
     bench/faults.py [CASE..]
 
 The program is bench/replay.rs, or the one that VOZHKELL names, called with the word `replay`. The traces are two of
-bench/rows and the beginning of one by bench/phases.py. CASES are the names of functions below, and all where none is given. A
-line is printed for each case, and the status is 1 if one fails.
+bench/rows and the beginning of one by bench/phases.py. CASES are the names of functions below, and all where none is
+given. A line is printed for each case, and the status is 1 if one fails.
 
-No build of its own is needed: short and failing reads come from sockets, failing writes from full devices, closed pipes and
-limits of file sizes, want of memory from limits of the address space. What a program should write is a beginning of what it
-writes where nothing fails; that output itself is bench/rows.sh's subject.
+The program needs no build of its own for this: short and failing reads come from sockets, failing writes from full
+devices, closed pipes and limits of file sizes, want of memory from limits of the address space. What should be written
+is a beginning of what the program writes where nothing fails. That output itself is the subject of bench/rows.sh.
 """
 import fcntl
 import os
@@ -157,6 +157,21 @@ class Trials:
                 found = from_socket(self.program, [text[:size]] if size else [], fails=True)
                 expect(f"a failed read after {size} bytes", found, (READ, said))
 
+    def failed_read_in_a_phase(self):
+        """What is written then, by hand: the answers of the phases that have ended, and a refused line of the open one
+        that stands before its first answer."""
+        text = b"".join(self.two_lanes.splitlines(keepends=True)[:27])
+        said = b"line 21: yes free 9968 fast\nline 22: snapshot 9960\nline 23: sum 45\nline 24: compare 1 sum\n"
+        for more, also in [(b"", b""), (b"c0 mod 0 Normal nr_mlock 1\n", b""), (b"c0 val 0 Normal nr_mlock\n", b""),
+                           (b"c9 fold 0\n", b"line 28: refused: UnknownLane\n"),
+                           (b"c9 fold 0\nc0 sys nr_mlock\nc9 fold 0\n", b"line 28: refused: UnknownLane\n"),
+                           (b"c9 fold 0\nc0 fold 0\nc9 fold 0\nflush",
+                            b"line 28: refused: UnknownLane\nline 30: refused: UnknownLane\n"),
+                           (b"c0 sys nr_dirty\nonline 0\nflush\nc0 sys nr_dirty\n",
+                            b"line 28: system 0\nline 29: refused: NotDead\n")]:
+            found = from_socket(self.program, [text + more], fails=True)
+            expect(f"a failed read after {more!r}", found, (READ, said + also))
+
     def folder_as_input(self):
         folder = os.open(TOP, os.O_RDONLY)
         done = subprocess.run([self.program, "replay"], stdin=folder, stdout=subprocess.PIPE, timeout=60)
@@ -238,23 +253,28 @@ class Trials:
     # Memory.
 
     def want_of_memory(self):
-        """Less and less address space, down to where the program doesn't start any more. The plain program is ended by
-        Rust's runtime where it finds none."""
-        step = 64 << 10
+        """Less and less address space, from where the whole output comes down to where the program doesn't start. The
+        plain program is ended by Rust's runtime where it finds no memory."""
+        def limited(words, text, size):
+            def prepare():
+                resource.setrlimit(resource.RLIMIT_AS, (size, size))
+                resource.setrlimit(resource.RLIMIT_CORE, (0, 0))
+
+            try:
+                return run(words, text, prepare)
+            except (OSError, subprocess.SubprocessError):
+                return None, b""
+
         statuses = set()
         for text in (self.two_lanes, self.long):
             whole = self.whole(text)
-            for size in range(64 << 20, 0, -step):
-                def prepare():
-                    resource.setrlimit(resource.RLIMIT_AS, (size, size))
-                    resource.setrlimit(resource.RLIMIT_CORE, (0, 0))
-
-                try:
-                    if run([self.program, "none"], b"", prepare)[0] != WORDS:
-                        break
-                    status, out = run([self.program, "replay"], text, prepare)
-                except (OSError, subprocess.SubprocessError):
+            size = 1 << 20
+            while size < 1 << 40 and limited([self.program, "replay"], text, size) != whole:
+                size *= 2
+            for size in range(size, 0, -(16 << 10)):
+                if limited([self.program, "none"], b"", size)[0] != WORDS:
                     break
+                status, out = limited([self.program, "replay"], text, size)
                 statuses.add(status)
                 if status == whole[0]:
                     expect(f"with {size} bytes of memory", out, whole[1])
@@ -265,8 +285,9 @@ class Trials:
         print("    statuses for want of memory:", *sorted(statuses))
 
 
-CASES = ["short_reads", "slow_pipe", "failing_reads", "folder_as_input", "refused_header_comes_first", "cut_inputs",
-         "full_device", "closed_pipe", "reader_that_leaves", "pipe_that_refuses", "limited_files", "want_of_memory"]
+CASES = ["short_reads", "slow_pipe", "failing_reads", "failed_read_in_a_phase", "folder_as_input",
+         "refused_header_comes_first", "cut_inputs", "full_device", "closed_pipe", "reader_that_leaves",
+         "pipe_that_refuses", "limited_files", "want_of_memory"]
 
 
 def main():

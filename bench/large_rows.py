@@ -2,8 +2,9 @@
 
     large_rows.py FOLDER
 
-They are for the limits of a trace, and for many changes of one counter. As in bench/rows there is NAME.vmtrace, NAME.out
-and a table `statuses`. The outputs are put together from what each line prints by the format, not by a program.
+They are for the limits of a trace, and for many changes of one counter. As in bench/rows there are NAME.vmtrace and
+NAME.out for each, and a table `statuses`. The outputs are put together from what each line prints by the rules of the
+format, not by a program that replays it.
 """
 import os
 import sys

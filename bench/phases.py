@@ -1,5 +1,5 @@
-"""Writes a trace of every kind of line that `replay` replays: changes, queries, percpu counters, events, folds, thresholds,
-balance turns and CPU hotplug, in phases of 10 to 100,000 lines, with a few lines that are refused.
+"""Writes a trace of every kind of line that `replay` replays: changes, queries, percpu counters, events, folds,
+thresholds, balance turns and CPU hotplug, in phases of 10 to 100,000 lines, with a few lines that are refused.
 
     phases.py [SEED [LINES]]
 
@@ -79,8 +79,9 @@ class Machine:
 
     def refused(self, lane):
         return self.pick([f"{lane} mod {self.counter()} 0{self.draw(9)}", f"c9{self.draw(9)} inc {self.counter()}",
-                          f"{lane} inc 0 node slab", f"{lane} inc {self.counter()} 1", f"online {self.pick(self.online)}",
-                          f"k dead {self.pick(self.online)}", f"{lane} sum nothing", f"c{self.draw(CPUS)} sum files"])
+                          f"{lane} inc 0 node slab", f"{lane} inc {self.counter()} 1", f"{lane} sum nothing",
+                          f"online {self.pick(self.online)}", f"k dead {self.pick(self.online)}",
+                          f"c{self.draw(CPUS)} sum files"])
 
     def line(self):
         lane = f"c{self.pick(self.online)}"

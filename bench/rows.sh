@@ -1,14 +1,15 @@
 #!/usr/bin/env bash
-# Gives a program the traces of bench/rows and those that bench/large_rows.py makes, and says where its output or status
-# isn't the expected one.
+# Gives a program the traces of bench/rows and those that bench/large_rows.py makes, and says where its output or
+# status isn't the expected one.
 #
 #     bench/rows.sh [NAME]
 #
-# The program is bench/replay.rs, or the one that VOZHKELL names, called with the word `replay`. With a NAME it gets that
-# trace alone, and the whole difference is shown. The status is 1 if something differs, and 2 if there is nothing to run.
+# The program is bench/replay.rs, or the one that VOZHKELL names, called with the word `replay`. With a NAME it gets
+# that trace alone, and the whole difference is shown. The status is 1 if something differs, and 2 if there is nothing
+# to run.
 #
-# Expected outputs (bench/rows/NAME.out, and the status in bench/rows/statuses) were written by hand from the rules of the
-# formats and of the counters, so that they judge the plain program as well as the proved one.
+# Expected outputs (bench/rows/NAME.out, and the statuses in bench/rows/statuses) were written by hand from the rules of
+# the formats and of the counters, so that they judge the plain program as well as the proved one.
 set -u
 top=$(cd "$(dirname "${BASH_SOURCE[0]}")/.." && pwd) || exit 2
 work=$(mktemp -d) || exit 2

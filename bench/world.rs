@@ -72,6 +72,11 @@ fn reserve(header: &Header, zone: &Zone, index: usize) -> u64 {
     above.map(|other| other.managed).sum::<u64>().checked_div(RESERVE_RATIOS[zone.kind]).unwrap_or(0)
 }
 
+fn zones_of(header: &Header, node: usize) -> impl Iterator<Item = (usize, &Zone)> {
+    let number = header.node_number(node);
+    header.zones.iter().enumerate().filter(move |(_, zone)| zone.node == number)
+}
+
 fn area(header: &Header, order: usize) -> Option<usize> {
     let name = format!("area{order}");
     header.declared.iter().find(|item| order > 0 && item.name == name && !item.node && !item.bytes)?;
@@ -151,7 +156,8 @@ impl<'a> Pages<'a> {
             let width = self.header.positions() * self.header.cpus;
             let diffs = self.diffs[place * width..][..width].iter().skip(cpu).step_by(self.header.cpus);
             let most = diffs.map(|diff| diff.unsigned_abs()).max().unwrap_or(0);
-            self.peaks[at] = Peak { phase: self.phase, pages: most.max(self.thresholds[at]), acknowledged: false };
+            let pages = most.max(self.thresholds[at]);
+            self.peaks[at] = Peak { phase: self.phase, pages, acknowledged: false };
         }
     }
 
@@ -197,9 +203,8 @@ impl<'a> Pages<'a> {
 
     /// Sets the thresholds of a node to the largest of its zones'.
     fn set_node(&mut self, node: usize, online: &[usize]) {
-        let number = self.header.node_number(node);
-        let zones = self.header.zones.iter().filter(|zone| zone.node == number);
-        let most = zones.map(|zone| threshold(Rule::Normal, zone, online.len() as u64)).max().unwrap_or(0);
+        let zones = zones_of(self.header, node);
+        let most = zones.map(|(_, zone)| threshold(Rule::Normal, zone, online.len() as u64)).max().unwrap_or(0);
         for &cpu in online {
             self.thresholds[node * self.header.cpus + cpu] = most as u8;
         }
@@ -321,7 +326,8 @@ impl<'a> World<'a> {
         let value = self.value(counter);
         let fast = value >= self.pages.marks[zone];
         let free = if fast { value } else { self.snapshot(counter) };
-        let kept = header.zones[zone].marks[mark] + self.pages.reserves[zone][index as usize] + (1 << order) - 1;
+        let reserve = self.pages.reserves[zone][index as usize];
+        let kept = header.zones[zone].marks[mark] + reserve + (1 << order) - 1;
         let mut areas = self.pages.areas[order as usize..].iter().flatten();
         let yes = free > kept && (order == 0 || areas.any(|position| self.snapshot(counter + position) > 0));
         Verdict { yes, free, fast }
@@ -329,9 +335,7 @@ impl<'a> World<'a> {
 
     /// Sets the thresholds of those zones of a node that have a mark.
     pub fn set_zones(&mut self, node: usize, rule: Rule) {
-        let header = self.pages.header;
-        let number = header.node_number(node);
-        for (zone, _) in header.zones.iter().enumerate().filter(|(_, zone)| zone.node == number) {
+        for (zone, _) in zones_of(self.pages.header, node) {
             if self.pages.marks[zone] != 0 {
                 self.pages.set_zone(zone, rule, &self.online, &self.dead);
             }
@@ -341,10 +345,9 @@ impl<'a> World<'a> {
     /// Takes a balance turn: the first zone whose test of its high watermark said yes, and the test.
     pub fn kswapd(&mut self, node: usize, order: u64, index: u64) -> Option<(usize, Verdict)> {
         self.set_zones(node, Rule::Pressure);
-        let header = self.pages.header;
-        let number = header.node_number(node);
-        let zones = header.zones.iter().enumerate().filter(|(_, zone)| zone.node == number && zone.kind as u64 <= index);
-        let found = zones.map(|(zone, _)| (zone, self.watermark(zone, HIGH, order, index))).find(|(_, said)| said.yes);
+        let zones = zones_of(self.pages.header, node).filter(|(_, zone)| zone.kind as u64 <= index);
+        let mut tests = zones.map(|(zone, _)| (zone, self.watermark(zone, HIGH, order, index)));
+        let found = tests.find(|(_, verdict)| verdict.yes);
         if found.is_some() {
             self.set_zones(node, Rule::Normal);
         }
