@@ -19,6 +19,7 @@ import socket
 import subprocess
 import sys
 import tempfile
+import threading
 
 TOP = os.path.dirname(os.path.dirname(os.path.abspath(__file__)))
 WORDS, HEADER, READ, WRITE, MEMORY = 1, 2, 4, 5, 6
@@ -172,6 +173,28 @@ class Trials:
             found = from_socket(self.program, [text + more], fails=True)
             expect(f"a failed read after {more!r}", found, (READ, said + also))
 
+    def early_output(self):
+        """Of 2,000 phases some output comes before the second half of them is sent."""
+        phase = b"c0 val 0 Normal nr_free_pages\n" * 8 + b"sync\n"
+        text = b"vmtrace 1\ncpus 1\nzone 0 Normal 262144 100 125 150\ngo\n" + phase * 2000
+        process = subprocess.Popen([self.program, "replay"], stdin=subprocess.PIPE, stdout=subprocess.PIPE, bufsize=0)
+        came, parts = threading.Event(), []
+
+        def read():
+            while part := process.stdout.read(1 << 16):
+                parts.append(part)
+                came.set()
+
+        reader = threading.Thread(target=read)
+        reader.start()
+        process.stdin.write(text[:len(text) // 2])
+        is_early = came.wait(timeout=20)
+        process.stdin.write(text[len(text) // 2:])
+        process.stdin.close()
+        reader.join(timeout=60)
+        expect("the output came early", is_early, True)
+        expect("early output", (process.wait(timeout=60), b"".join(parts)), self.whole(text))
+
     def folder_as_input(self):
         folder = os.open(TOP, os.O_RDONLY)
         done = subprocess.run([self.program, "replay"], stdin=folder, stdout=subprocess.PIPE, timeout=60)
@@ -285,7 +308,7 @@ class Trials:
         print("    statuses for want of memory:", *sorted(statuses))
 
 
-CASES = ["short_reads", "slow_pipe", "failing_reads", "failed_read_in_a_phase", "folder_as_input",
+CASES = ["short_reads", "slow_pipe", "early_output", "failing_reads", "failed_read_in_a_phase", "folder_as_input",
          "refused_header_comes_first", "cut_inputs", "full_device", "closed_pipe", "reader_that_leaves",
          "pipe_that_refuses", "limited_files", "want_of_memory"]
 

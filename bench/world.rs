@@ -148,17 +148,22 @@ impl<'a> Pages<'a> {
         (self.places[counter] + i64::from(hidden)).max(0) as u64
     }
 
-    /// A peak begins in a phase as the largest of the threshold and the differentials that stand then. It is made when
-    /// the first of them is about to change.
+    /// Makes a peak of the phase, if there is none, before what it begins with changes.
+    #[inline]
     fn begin_peak(&mut self, place: usize, cpu: usize) {
         let at = place * self.header.cpus + cpu;
         if self.peaks.get(at).is_some_and(|peak| peak.phase != self.phase) {
-            let width = self.header.positions() * self.header.cpus;
-            let diffs = self.diffs[place * width..][..width].iter().skip(cpu).step_by(self.header.cpus);
-            let most = diffs.map(|diff| diff.unsigned_abs()).max().unwrap_or(0);
-            let pages = most.max(self.thresholds[at]);
-            self.peaks[at] = Peak { phase: self.phase, pages, acknowledged: false };
+            self.peaks[at] = self.first_peak(place, cpu);
         }
+    }
+
+    /// In a phase a peak begins as the largest of the threshold and the differentials.
+    fn first_peak(&self, zone: usize, cpu: usize) -> Peak {
+        let (cpus, width) = (self.header.cpus, self.header.positions() * self.header.cpus);
+        let diffs = self.diffs[zone * width..][..width].iter().skip(cpu).step_by(cpus);
+        let most = diffs.map(|diff| diff.unsigned_abs()).max().unwrap_or(0);
+        let pages = most.max(self.thresholds[zone * cpus + cpu]);
+        Peak { phase: self.phase, pages, acknowledged: false }
     }
 
     fn peak(&mut self, zone: usize, cpu: usize) -> &mut Peak {
