@@ -242,7 +242,7 @@ impl Text {
         self.0.clear();
     }
 
-    /// Moves another text behind this one.
+    /// Moves another text to the end of this one.
     pub fn append(&mut self, other: &mut Text) {
         self.0.append(&mut other.0);
     }
