@@ -1,0 +1,3 @@
+pub mod MoreOutcomes
+pub mod TextOrder
+pub mod PlainAnswers

@@ -1,0 +1,9 @@
+pub mod PhasedBehaviors
+pub mod Ways
+pub mod Leading
+pub mod Waiting
+pub mod Orders
+pub mod Laws
+pub mod Jobs
+pub mod PhasedAnswers
+pub mod Plain

@@ -1,0 +1,31 @@
+-- Commands that make no phase.
+use Rattle.std.specs.Prelude.{◌≡◌, ℕ, false, List, Option, None}
+use Rattle.std.specs.Io.KnownBytes.{IsAtEnd}
+use Rattle.vms_stream.specs.Answers.{Says}
+use Rattle.vms_stream.specs.Behaviors.{Behavior}
+use Rattle.vms_stream.specs.declared.statuses.Status.{Status}
+use Rattle.vms_phased.specs.PhasedBehaviors.{PhasedBehavior}
+use Rattle.vms_phased.specs.PhasedAnswers.{SaysPhased}
+
+-- no phase ends, whatever the lines are
+pub record MakesNoPhase {S O : Type 0} (phased : PhasedBehavior S O) : Type 0 where
+  pub lines : (s : S) (line : List ℕ) → phased.ends_phase s line ≡ false
+  pub last : (s : S) → phased.ends_last s ≡ false
+
+-- the behavior without phases
+abbrev pub plain : {S O : Type 0} → PhasedBehavior S O → Behavior S
+plain phased = record {
+  start = phased.start;
+  next = λ s line. phased.next s line None;
+  prints = λ s line. phased.prints s line None;
+  halts = λ s line. phased.halts s line None;
+  last = λ s. phased.last s None;
+  ends = λ s. phased.ends s None;
+}
+
+-- a command that makes no phase says what its plain behavior says
+abbrev pub SaysPlainly : {S O : Type 0} → PhasedBehavior S O → (S → Option O → Type 0) → Type 0
+SaysPlainly {S} {O} phased shows = MakesNoPhase phased →
+    (outcomes : List O) (status : Status) (taken written : List ℕ) (left : Option (List ℕ)) →
+    SaysPhased phased shows outcomes status taken written (IsAtEnd left) →
+    Says (plain phased) (λ s. shows s None) status taken written (IsAtEnd left)
