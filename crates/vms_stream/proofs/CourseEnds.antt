@@ -1,4 +1,4 @@
--- The end of a course.
+-- For other crates too: the end of a course.
 use Rattle.std.proofs.Common.{◌≡◌, ◌≢◌, ℕ, Bool, true, List, [], ◌++◌, take, drop, take-append-drop, inr, Option, None}
 use Rattle.std.proofs.Common.{Ok, Err, Result, refl, sym, ap, subst, ◌∙◌, append_assoc, append-nil, arith}
 use Rattle.std.specs.Io.KnownBytes.{Appends, Consumes, IsAtEnd}
@@ -18,7 +18,7 @@ use Rattle.vms_stream.proofs.StepOutcomes.{begins, begins_at_end, no_piece}
 use Rattle.vms_text.specs.Lines.{lines_of}
 
 -- after calls of which none failed
-reads_after : {R : Type 0} (left : R → Option (List ℕ)) (faults : R → ℕ) (src src' src'' : R) (status : Status)
+pub reads_after : {R : Type 0} (left : R → Option (List ℕ)) (faults : R → ℕ) (src src' src'' : R) (status : Status)
     → faults src' ≡ faults src
     → FaultsOfSource left faults status src' src'' → FaultsOfSource left faults status src src''
 reads_after left faults src src' src'' ReadFault none last = record {
@@ -29,7 +29,7 @@ reads_after left faults src src' src'' ReadFault none last = record {
 }
 reads_after left faults src src' src'' _ none same = same ∙ none
 
-writes_after : {K : Type 0} (held : K → Option (List ℕ)) (faults : K → ℕ) (out out' out'' : K) (status : Status)
+pub writes_after : {K : Type 0} (held : K → Option (List ℕ)) (faults : K → ℕ) (out out' out'' : K) (status : Status)
     → faults out' ≡ faults out
     → FaultsOfSink held faults status out' out'' → FaultsOfSink held faults status out out''
 writes_after held faults out out' out'' WriteFault none last = record {
@@ -41,7 +41,7 @@ writes_after held faults out out' out'' WriteFault none last = record {
 writes_after held faults out out' out'' _ none same = same ∙ none
 
 -- no read failed
-none_read_fails : {R : Type 0} (left : R → Option (List ℕ)) (faults : R → ℕ) (src src' : R) (status : Status)
+pub none_read_fails : {R : Type 0} (left : R → Option (List ℕ)) (faults : R → ℕ) (src src' : R) (status : Status)
     → status ≢ ReadFault → faults src' ≡ faults src → FaultsOfSource left faults status src src'
 none_read_fails left faults src src' ReadFault other none = absurd (other refl)
 none_read_fails left faults src src' _ other none = none

@@ -1,4 +1,4 @@
--- What stands where a command stops, and where it goes on.
+-- For other crates too: what stands where a command stops, and where it goes on.
 use Rattle.std.proofs.Common.{◌≡◌, ℕ, ◌+◌, ◌-◌, ◌≤◌, ◌<◌, ◌⊎◌, max, Bool, true, false, List, [], ◌∷◌, ◌++◌, length}
 use Rattle.std.proofs.Common.{length-append, take, drop, take-append-drop, inl, inr, Option, Some, None, Ok, Err}
 use Rattle.std.proofs.Common.{Result, refl, sym, ap, subst, ◌∙◌, append_assoc, append-nil, arith}
@@ -156,7 +156,7 @@ module _ {S : Type 0} (behavior : Behavior S) (shows : S → Type 0) where
           of_length (byte ∷ bytes) none = absurd (omega (arith, none))
 
       -- all that is judged
-      lines_all : whole_lines taken ++ lines_held read ≡ lines_counted read.at_end text
+      pub lines_all : whole_lines taken ++ lines_held read ≡ lines_counted read.at_end text
       lines_all =
           ap (λ (n : ℕ). whole_lines taken ++ lines_judged read.at_end
           (take (length read.input - (n - most_bytes)) read.input)) read_count
@@ -165,14 +165,14 @@ module _ {S : Type 0} (behavior : Behavior S) (shows : S → Type 0) where
           ∙ lines_both taken more is.within read.at_end nothing_read
 
       -- the end of the input was come to
-      at_the_end : read.at_end ≡ true → IsAtEnd left' × (length text ≤ most_bytes)
+      pub at_the_end : read.at_end ≡ true → IsAtEnd left' × (length text ≤ most_bytes)
       at_the_end end = (
         gets.ends (omega (arith, ended end)),
         omega (arith, length-append taken more, ap length (nothing_read end), is.within),
       )
 
       -- what was read is one piece
-      abbrev last_piece : IsLastPiece behavior text
+      abbrev pub last_piece : IsLastPiece behavior text
       last_piece = record {
         before = taken;
         piece = more;
@@ -184,7 +184,7 @@ module _ {S : Type 0} (behavior : Behavior S) (shows : S → Type 0) where
       }
 
       -- all was written that the lines above the piece print
-      above_written : (moved : List ℕ)
+      pub above_written : (moved : List ℕ)
           → written ++ moved ≡ printed behavior behavior.start (whole_lines taken) ++ moved
       above_written moved =
           ap (λ (front : List ℕ). front ++ moved) (before_end taken written course is isnt).0.all_written
@@ -209,7 +209,7 @@ module _ {S : Type 0} (behavior : Behavior S) (shows : S → Type 0) where
           (judges : (s : S) → stands s
           → TakesLines behavior stands' s (lines_held read) halt read.waiting.items waiting)
         where
-          judged : TakesLines behavior stands' behavior.start (lines_counted read.at_end text) halt []
+          pub judged : TakesLines behavior stands' behavior.start (lines_counted read.at_end text) halt []
               (written ++ waiting)
           judged =
               let before = before_end taken written course is isnt in
@@ -263,7 +263,7 @@ module _ {S : Type 0} (behavior : Behavior S) (shows : S → Type 0) where
               counts true end = let there = at_the_end end in inr (there.0, there.1, refl)
               counts false before = inl refl
 
-          says_halt : (h : Status) → halt ≡ Some h
+          pub says_halt : (h : Status) → halt ≡ Some h
               → Says behavior shows h text (written ++ waiting) (IsAtEnd left')
           says_halt h stopped = by h (subst MayHalt (halts h stopped).halt_is
               (MayHalt-halted behavior behavior.start (halts h stopped).lines)) (halts h stopped)
@@ -275,7 +275,7 @@ module _ {S : Type 0} (behavior : Behavior S) (shows : S → Type 0) where
               by _ may stops = absurd may
 
           -- there are too many bytes
-          says_beyond : (b : Bool) → read.at_end ≡ b → halt ≡ None → most_bytes < length text
+          pub says_beyond : (b : Bool) → read.at_end ≡ b → halt ≡ None → most_bytes < length text
               → Says behavior shows TooLong text (written ++ waiting) (IsAtEnd left')
           says_beyond true end none beyond = absurd (omega (arith, beyond, (at_the_end end).1))
           says_beyond false before none beyond =
@@ -294,7 +294,7 @@ module _ {S : Type 0} (behavior : Behavior S) (shows : S → Type 0) where
             text_count : read.taken ≡ length text
             text_count = read_count ∙ sym (length-append taken more)
 
-            goes_on : halt ≡ None → read.taken ≤ most_bytes → IsCourse behavior stands' text (written ++ waiting) last
+            pub goes_on : halt ≡ None → read.taken ≤ most_bytes → IsCourse behavior stands' text (written ++ waiting) last
             goes_on none within =
                 let fits : length text ≤ most_bytes = subst (λ (n : ℕ). n ≤ most_bytes) text_count within in
                 let same : lines_counted read.at_end text ≡ lines_judged last.at_end text

@@ -10,14 +10,14 @@ const MOST_BYTES: usize = 1 << 26;
 
 /// A command on its way through its input.
 #[derive(Drop)]
-pub(crate) struct Course {
+pub struct Course {
     /// What was read and not judged yet.
-    pub(crate) input: ReadBuffer,
+    pub input: ReadBuffer,
     /// What was printed and not written yet.
-    pub(crate) waiting: Vec<u8>,
+    pub waiting: Vec<u8>,
     /// How many bytes were read.
-    pub(crate) taken: usize,
-    pub(crate) at_end: bool,
+    pub taken: usize,
+    pub at_end: bool,
 }
 
 impl Course {
@@ -33,7 +33,7 @@ impl Course {
     ghost use Rattle.vms_text.specs.Lines.{lines_of};
 
     /// Before the first piece.
-    pub(crate) fn begin(alloc: Global) -> Result<Course, Memory>
+    pub fn begin(alloc: Global) -> Result<Course, Memory>
         ensures { IfOk result (λ course. (course.input ≡ []) × (course.waiting.items ≡ [])
             × (course.taken ≡ 0) × (course.at_end ≡ false)) }
     {
@@ -46,7 +46,7 @@ impl Course {
     }
 
     /// Reads once more.
-    fn read<S: Source>(&mut self, src: &mut S) -> Result<(), Status>
+    pub fn read<S: Source>(&mut self, src: &mut S) -> Result<(), Status>
         requires counted { self.old.taken ≤ most_bytes }
         requires held { length self.old.input ≤ self.old.taken }
         ensures ok { OnOk result (Gets self.old.input self.new.input (S.remaining src.old) (S.remaining src.new)
@@ -66,7 +66,7 @@ impl Course {
     }
 
     /// How many of the bytes that are held can be judged.
-    fn ready(&mut self) -> usize
+    pub fn ready(&mut self) -> usize
         requires { self.old.taken ≤ most_bytes + length self.old.input }
         ensures within { result ≤ length self.old.input }
         ensures same { self.new ≡ self.old }
@@ -104,7 +104,7 @@ impl Course {
     }
 
     /// Writes what waits. Then nothing waits.
-    fn flush<K: Sink>(&mut self, out: &mut K) -> Result<(), Status>
+    pub fn flush<K: Sink>(&mut self, out: &mut K) -> Result<(), Status>
         ensures ok { OnOk result (Appends (K.written out.old) (K.written out.new) self.old.waiting.items) }
         ensures empty { OnOk result (self.new.waiting.items ≡ []) }
         ensures err { OnErr result ((n : ℕ)
@@ -193,7 +193,7 @@ fn last_line_end(bytes: &[u8]) -> usize
 }
 
 /// Stops where a line stops the command, and else where there are too many bytes.
-fn stop_at(halt: Option<Status>, taken: usize) -> Result<(), Status>
+pub fn stop_at(halt: Option<Status>, taken: usize) -> Result<(), Status>
     ensures { StopsAt halt taken result }
 {
     match halt {

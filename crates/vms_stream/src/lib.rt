@@ -7,6 +7,7 @@ mod statuses;
 mod streaming;
 mod taking;
 
+pub use courses::{Course, stop_at};
 pub use jobs::Job;
 pub use statuses::Status;
 pub use streaming::stream;
