@@ -7,3 +7,5 @@ pub mod Laws
 pub mod Jobs
 pub mod PhasedAnswers
 pub mod Plain
+pub mod Taking
+pub mod PhasedCourses

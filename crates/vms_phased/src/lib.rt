@@ -4,6 +4,8 @@
 
 mod jobs;
 mod laws;
+mod streaming;
+mod taking;
 mod texts;
 
 pub use jobs::PhasedJob;
@@ -11,4 +13,5 @@ pub use laws::{
     lines_print_in_order, longer_outcomes, outcomes_stand_in_way, plain_commands_say_plainly,
     waits_inside,
 };
+pub use streaming::stream_phased;
 pub use texts::OrderedTexts;
