@@ -1,7 +1,7 @@
 -- For other crates too: outcomes that lead through lines in two parts.
 use Rattle.std.proofs.Common.{◌≡◌, ℕ, Bool, true, false, List, [], ◌∷◌, ◌++◌, Option, Some, None, refl, sym, subst}
 use Rattle.std.proofs.Common.{append-nil}
-use Rattle.vms_stream.specs.declared.halts.Halt.{Halt}
+use Rattle.vms_stream.specs.declared.statuses.Status.{Status}
 use Rattle.vms_stream.specs.Behaviors.{first_halt, halted, state_after}
 use Rattle.vms_phased.specs.PhasedBehaviors.{PhasedBehavior, Way, halt_at, supply, way_after, with_outcomes}
 use Rattle.vms_phased.specs.PhasedBehaviors.Way.{On}
@@ -10,22 +10,22 @@ use Rattle.vms_phased.specs.Jobs.{StandsOn}
 use Rattle.vms_phased.proofs.MoreOutcomes.{state_after-short}
 
 -- no line stops the command where the first doesn't and no later one does
-first_halt-none : (first later : Option Halt) → first_halt first later ≡ None → (first ≡ None) × (later ≡ None)
+first_halt-none : (first later : Option Status) → first_halt first later ≡ None → (first ≡ None) × (later ≡ None)
 first_halt-none None later none = (refl, none)
 first_halt-none (Some halt) later none = absurd cc
 
-none_after-open : {O : Type 0} (halt : Option Halt) (left : List O) (later : Type 0) → halt ≡ None
+none_after-open : {O : Type 0} (halt : Option Status) (left : List O) (later : Type 0) → halt ≡ None
     → none_after halt left later → later
 none_after-open None left later none led = led
 none_after-open (Some halt) left later none led = absurd cc
 
-open-none_after : {O : Type 0} (halt : Option Halt) (left : List O) (later : Type 0) → halt ≡ None
+open-none_after : {O : Type 0} (halt : Option Status) (left : List O) (later : Type 0) → halt ≡ None
     → later → none_after halt left later
 open-none_after None left later none led = led
 open-none_after (Some halt) left later none led = absurd cc
 
 module _ {S O : Type 0} (phased : PhasedBehavior S O) where
-  none_after-used : (halt : Option Halt) (later : Type 0) → later → none_after {O = O} halt [] later
+  none_after-used : (halt : Option Status) (later : Type 0) → later → none_after {O = O} halt [] later
   none_after-used None later led = led
   none_after-used (Some halt) later led = refl
 
@@ -47,7 +47,7 @@ module _ {S O : Type 0} (phased : PhasedBehavior S O) where
   -- outcomes that lead through some lines may lead on through more
   module _ (asked asked' : S → List O → Type 0) (more : List (List ℕ))
       (goes : (s : S) (left : List O) → asked s left → LeadsThrough phased asked' s left more) where
-    none_after-more : (halt : Option Halt) (left : List O) (later later' : Type 0) → (later → later')
+    none_after-more : (halt : Option Status) (left : List O) (later later' : Type 0) → (later → later')
         → none_after halt left later → none_after halt left later'
     none_after-more None left later later' to led = to led
     none_after-more (Some halt) left later later' to led = led

@@ -1,6 +1,6 @@
 -- For other crates too: a way on which a job stands, with more outcomes.
 use Rattle.std.proofs.Common.{◌≡◌, ℕ, List, [], ◌∷◌, ◌++◌, Option, Some, None, refl, sym, ap, subst, ◌∙◌, append_assoc}
-use Rattle.vms_stream.specs.declared.halts.Halt.{Halt}
+use Rattle.vms_stream.specs.declared.statuses.Status.{Status}
 use Rattle.vms_stream.specs.Behaviors.{first_halt, halted, printed, state_after}
 use Rattle.vms_stream.specs.Jobs.{TakesLines}
 use Rattle.vms_phased.specs.PhasedBehaviors.{PhasedBehavior, Way, next_way, way_halts, with_outcomes}
@@ -36,7 +36,7 @@ module _ {S O : Type 0} where
   StandsWith-on stands left (On s others) here = tt
   StandsWith-on stands left Short here = here
 
-unless_halted-of : (halt : Option Halt) (later : Type 0) → (halt ≡ None → later) → unless_halted halt later
+unless_halted-of : (halt : Option Status) (later : Type 0) → (halt ≡ None → later) → unless_halted halt later
 unless_halted-of None later goes = goes refl
 unless_halted-of (Some halt) later goes = tt
 
@@ -50,7 +50,7 @@ module _ {S O : Type 0} (phased : PhasedBehavior S O) where
       let next = next_way phased way line in
       unless_halted-of (way_halts phased way line) (IsWhole phased next lines)
       (λ open_line. IsWhole-of start next lines
-      (λ none. on (ap (λ (halt : Option Halt). first_halt halt (halted (with_outcomes phased start) next lines)) open_line
+      (λ none. on (ap (λ (halt : Option Status). first_halt halt (halted (with_outcomes phased start) next lines)) open_line
       ∙ none)))
 
   IsWhole-now : (way : Way S O) (lines : List (List ℕ)) → IsWhole phased way lines → IsOn way
@@ -66,7 +66,7 @@ module _ {S O : Type 0} (phased : PhasedBehavior S O) where
       (IsWhole phased (next_way phased way line) lines)
       (λ later. IsWhole-front (next_way phased way line) lines more later) whole
     where
-      unless_halted-also : (halt : Option Halt) (later later' : Type 0) → (later → later')
+      unless_halted-also : (halt : Option Status) (later later' : Type 0) → (later → later')
           → unless_halted halt later → unless_halted halt later'
       unless_halted-also None later later' also goes = also goes
       unless_halted-also (Some halt) later later' also goes = tt
@@ -95,7 +95,7 @@ module _ {S O : Type 0} (phased : PhasedBehavior S O) where
 
   module _ (stands : Way S O → Type 0) where
     -- from a way on, the outcomes of the start make no difference
-    pub TakesLines-start : (outcomes others : List O) (way : Way S O) (lines : List (List ℕ)) (halt : Option Halt)
+    pub TakesLines-start : (outcomes others : List O) (way : Way S O) (lines : List (List ℕ)) (halt : Option Status)
         (out out' : List ℕ) → TakesLines (with_outcomes phased outcomes) stands way lines halt out out'
         → TakesLines (with_outcomes phased others) stands way lines halt out out'
     TakesLines-start outcomes others way lines halt out out' takes = record {
@@ -105,7 +105,7 @@ module _ {S O : Type 0} (phased : PhasedBehavior S O) where
     }
 
     -- what was written before
-    pub TakesLines-front : (outcomes : List O) (way : Way S O) (lines : List (List ℕ)) (halt : Option Halt)
+    pub TakesLines-front : (outcomes : List O) (way : Way S O) (lines : List (List ℕ)) (halt : Option Status)
         (front out out' : List ℕ) → TakesLines (with_outcomes phased outcomes) stands way lines halt out out'
         → TakesLines (with_outcomes phased outcomes) stands way lines halt (front ++ out) (front ++ out')
     TakesLines-front outcomes way lines halt front out out' takes = record {

@@ -1,8 +1,8 @@
 -- For other crates too: a way with more outcomes.
 use Rattle.std.proofs.Common.{◌≡◌, ℕ, Bool, true, false, List, [], ◌∷◌, ◌++◌, Option, Some, None, refl, sym, ap, ap₂}
 use Rattle.std.proofs.Common.{subst, ◌∙◌, append_assoc, append-nil}
-use Rattle.vms_stream.specs.declared.halts.Halt.{Halt}
-use Rattle.vms_stream.specs.declared.halts.Halt.TheVariants.{Refuses, Exceeds}
+use Rattle.vms_stream.specs.declared.statuses.Status.{Status}
+use Rattle.vms_stream.specs.declared.statuses.Status.TheVariants.{Header}
 use Rattle.vms_stream.specs.Behaviors.{Behavior, state_after, first_halt, halted, printed_from, printed, last_words}
 use Rattle.vms_phased.specs.PhasedBehaviors.{PhasedBehavior, Supply, Way, halt_at, last_of_way, next_way, printed_at}
 use Rattle.vms_phased.specs.PhasedBehaviors.{printed_last, supply, way_after, way_halts, way_prints, with_outcomes}
@@ -15,12 +15,12 @@ use Rattle.vms_phased.specs.Laws.{AgreesFrom, GoesWithMore}
 abbrev pub Begins : List ℕ → List ℕ → Type 0
 Begins front all = (rest : List ℕ) × (all ≡ front ++ rest)
 
-pub begins_from : (halt : Option Halt) (line front all : List ℕ) → Begins front all
+pub begins_from : (halt : Option Status) (line front all : List ℕ) → Begins front all
     → Begins (printed_from halt line front) (printed_from halt line all)
 begins_from None line front all begins =
     (begins.0, ap (λ (rest : List ℕ). line ++ rest) begins.1 ∙ sym (append_assoc line front begins.0))
-begins_from (Some Refuses) line front all begins = ([], sym (append-nil line))
-begins_from (Some Exceeds) line front all begins = ([], refl)
+begins_from (Some Header) line front all begins = ([], sym (append-nil line))
+begins_from (Some _) line front all begins = ([], refl)
 
 -- what lines print, and what comes after the last one
 abbrev pub printed_to : {S : Type 0} → Behavior S → (S → List ℕ) → S → List (List ℕ) → List ℕ
@@ -36,12 +36,12 @@ module _ {S : Type 0} (behavior : Behavior S) where
       ap (printed_from (behavior.halts s line) (behavior.prints s line))
       (printed_to-printed (behavior.next s line) lines)
 
-  words_after : (halt later : Option Halt) (line printed words all : List ℕ) → printed ++ last_words later words ≡ all
+  words_after : (halt later : Option Status) (line printed words all : List ℕ) → printed ++ last_words later words ≡ all
       → printed_from halt line printed ++ last_words (first_halt halt later) words ≡ printed_from halt line all
   words_after None later line printed words all is =
       append_assoc line printed (last_words later words) ∙ ap (λ (rest : List ℕ). line ++ rest) is
-  words_after (Some Refuses) later line printed words all is = append-nil line
-  words_after (Some Exceeds) later line printed words all is = refl
+  words_after (Some Header) later line printed words all is = append-nil line
+  words_after (Some _) later line printed words all is = refl
 
   pub printed_to-words : (s : S) (lines : List (List ℕ))
       → printed behavior s lines
@@ -55,22 +55,22 @@ module _ {S : Type 0} (behavior : Behavior S) where
       (printed_to behavior behavior.last next lines) (printed_to-words next lines)
 
 -- one line of two ways that print the same there and stop alike
-same_line : (halt halt' later later' : Option Halt) (line line' rest rest' : List ℕ) → halt' ≡ halt → line' ≡ line
+same_line : (halt halt' later later' : Option Status) (line line' rest rest' : List ℕ) → halt' ≡ halt → line' ≡ line
     → (halt ≡ None → (later' ≡ later) × (rest' ≡ rest))
     → (first_halt halt' later' ≡ first_halt halt later)
     × (printed_from halt' line' rest' ≡ printed_from halt line rest)
 same_line None halt' later later' line line' rest rest' same_halt same_text same_rest = (
-  ap (λ (halt : Option Halt). first_halt halt later') same_halt ∙ (same_rest refl).0,
-  ap (λ (halt : Option Halt). printed_from halt line' rest') same_halt
+  ap (λ (halt : Option Status). first_halt halt later') same_halt ∙ (same_rest refl).0,
+  ap (λ (halt : Option Status). printed_from halt line' rest') same_halt
       ∙ ap₂ (λ (front back : List ℕ). front ++ back) same_text (same_rest refl).1,
 )
-same_line (Some Refuses) halt' later later' line line' rest rest' same_halt same_text same_rest = (
-  ap (λ (halt : Option Halt). first_halt halt later') same_halt,
-  ap (λ (halt : Option Halt). printed_from halt line' rest') same_halt ∙ same_text,
+same_line (Some Header) halt' later later' line line' rest rest' same_halt same_text same_rest = (
+  ap (λ (halt : Option Status). first_halt halt later') same_halt,
+  ap (λ (halt : Option Status). printed_from halt line' rest') same_halt ∙ same_text,
 )
-same_line (Some Exceeds) halt' later later' line line' rest rest' same_halt same_text same_rest = (
-  ap (λ (halt : Option Halt). first_halt halt later') same_halt,
-  ap (λ (halt : Option Halt). printed_from halt line' rest') same_halt,
+same_line (Some _) halt' later later' line line' rest rest' same_halt same_text same_rest = (
+  ap (λ (halt : Option Status). first_halt halt later') same_halt,
+  ap (λ (halt : Option Status). printed_from halt line' rest') same_halt,
 )
 
 module _ {S O : Type 0} (phased : PhasedBehavior S O) where
@@ -197,7 +197,7 @@ module _ {S O : Type 0} (phased : PhasedBehavior S O) where
         (printed (with_outcomes phased outcomes) next lines) (printed (with_outcomes phased outcomes) next' lines)
         same.0 same.1
         (λ none. IsWhole-more outcomes next next' lines (next_way-more s left line)
-        (subst (λ (halt : Option Halt). unless_halted halt (IsWhole phased next lines)) none whole))
+        (subst (λ (halt : Option Status). unless_halted halt (IsWhole phased next lines)) none whole))
         )
 
     line_to-more : (outcomes : List O) (after : Way S O → List ℕ) → after Short ≡ []

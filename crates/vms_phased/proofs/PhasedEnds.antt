@@ -4,14 +4,12 @@ use Rattle.std.proofs.Common.{subst, ◌∙◌, append-nil, arith}
 use Rattle.std.specs.Io.KnownBytes.{Appends, Consumes, IsAtEnd}
 use Rattle.std.proofs.KnownBytes.{Appends-nil, Appends-trans, Consumes-nil, Consumes-trans}
 use Rattle.vms_stream.specs.declared.courses.Course.{Course}
-use Rattle.vms_stream.specs.declared.endings.Ending.{Ending}
 use Rattle.vms_stream.specs.declared.statuses.Status.{Status}
+use Rattle.vms_stream.specs.declared.statuses.Status.TheVariants.{Memory}
 use Rattle.vms_stream.specs.declared.statuses.Status.TheVariants as statuses
-use Rattle.vms_stream.specs.declared.stops.Stop.{Stop}
-use Rattle.vms_stream.specs.declared.stops.Stop.TheVariants.{Memory}
 use Rattle.vms_stream.specs.Answers.{FaultsOfSink, FaultsOfSource, lines_taken}
 use Rattle.vms_stream.specs.Behaviors.{halted, printed, state_after}
-use Rattle.vms_stream.specs.Courses.{Finishes, lines_judged, status_in, status_of}
+use Rattle.vms_stream.specs.Courses.{Finishes, lines_judged, status_in}
 use Rattle.vms_stream.specs.Jobs.{Closes}
 use Rattle.vms_stream.specs.Pieces.{partial_line}
 use Rattle.vms_stream.proofs.CourseEnds.{none_read_fails, reads_after, writes_after}
@@ -66,7 +64,7 @@ module _ {S O : Type 0} (phased : PhasedBehavior S O) (shows : S → Option O �
 
     -- the course ends, with the outcomes of the phase that ends there
     pub FinishesPhased-of : (further : List O) (made made' : Option (List O)) (held held' : Option (List ℕ))
-        (result : Result Status Stop) → Grows made made' further
+        (result : Result Status Status) → Grows made made' further
         → ((s : S) → stands s → UsedAtEnd phased s further)
         → Finishes (with_outcomes phased (outcomes ++ further)) (shown_on phased shows) taken written held held' result
         → FinishesPhased phased shows outcomes taken written made made' held held' result
@@ -80,7 +78,7 @@ module _ {S O : Type 0} (phased : PhasedBehavior S O) (shows : S → Option O �
     }
 
   -- a job that stands with these outcomes left closes as it does with them alone
-  pub Closes-with : (stands : S → Type 0) (all further : List O) (ending : Ending) (out out' : List ℕ)
+  pub Closes-with : (stands : S → Type 0) (all further : List O) (ending : Status) (out out' : List ℕ)
       → ((s : S) → stands s → Closes (with_outcomes phased further) (shown_on phased shows) (On s further) ending out out')
       → (way : Way S O) → StandsWith stands further way
       → Closes (with_outcomes phased all) (shown_on phased shows) way ending out out'
@@ -114,12 +112,12 @@ module _ {S O : Type 0} (phased : PhasedBehavior S O) (shows : S → Option O �
 
   -- there was no memory to begin
   pub AnswersPhased-unbegun : {R K : Type 0} (made : Option (List O)) (left : R → Option (List ℕ))
-      (read_faults : R → ℕ) (held : K → Option (List ℕ)) (write_faults : K → ℕ) (src : R) (out : K) (stop : Stop)
+      (read_faults : R → ℕ) (held : K → Option (List ℕ)) (write_faults : K → ℕ) (src : R) (out : K) (stop : Status)
       → stop ≡ Memory
-      → AnswersPhased phased shows made made left read_faults held write_faults src src out out (status_of stop)
+      → AnswersPhased phased shows made made left read_faults held write_faults src src out out stop
   AnswersPhased-unbegun made left read_faults held write_faults src out stop memory =
-      subst (λ (s : Stop). AnswersPhased phased shows made made left read_faults held write_faults src src out out
-      (status_of s)) (sym memory) (record {
+      subst (λ (s : Status). AnswersPhased phased shows made made left read_faults held write_faults src src out out
+      s) (sym memory) (record {
         outcomes = [];
         grows = Grows-nil made;
         answers = record {
@@ -144,12 +142,12 @@ module _ {S O : Type 0} (phased : PhasedBehavior S O) (shows : S → Option O �
       (src src' src'' : R) (out out' out'' : K) (grows : Grows made made' outcomes)
       (consumes : Consumes (left src) (left src') taken) (appends : Appends (held out) (held out') written)
       (none_read : read_faults src' ≡ read_faults src) (none_wrote : write_faults out' ≡ write_faults out) where
-    pub AnswersPhased-stopped : (stands : S → Type 0) (course : Course) (stop : Stop)
+    pub AnswersPhased-stopped : (stands : S → Type 0) (course : Course) (stop : Status)
         → StepsPhased phased stands shows outcomes taken written course made' made'' (left src') (left src'') (held out')
         (held out'') (Err stop)
-        → FaultsOfSource left read_faults (status_of stop) src' src''
-        → FaultsOfSink held write_faults (status_of stop) out' out''
-        → AnswersPhased phased shows made made'' left read_faults held write_faults src src'' out out'' (status_of stop)
+        → FaultsOfSource left read_faults stop src' src''
+        → FaultsOfSink held write_faults stop out' out''
+        → AnswersPhased phased shows made made'' left read_faults held write_faults src src'' out out'' stop
     AnswersPhased-stopped stands course stop steps reads writes = record {
       outcomes = outcomes ++ steps.further;
       grows = Grows-trans made made' made'' outcomes steps.further grows steps.grows;
@@ -159,12 +157,12 @@ module _ {S O : Type 0} (phased : PhasedBehavior S O) (shows : S → Option O �
         consumes = Consumes-trans (left src) (left src') (left src'') taken steps.more consumes steps.consumes;
         appends = Appends-trans (held out) (held out') (held out'') written steps.moved appends steps.appends;
         answer = steps.outcome;
-        reads = reads_after left read_faults src src' src'' (status_of stop) none_read reads;
-        writes = writes_after held write_faults out out' out'' (status_of stop) none_wrote writes;
+        reads = reads_after left read_faults src src' src'' stop none_read reads;
+        writes = writes_after held write_faults out out' out'' stop none_wrote writes;
       };
     }
 
-    pub AnswersPhased-ended : (result : Result Status Stop) → IsAtEnd (left src')
+    pub AnswersPhased-ended : (result : Result Status Status) → IsAtEnd (left src')
         → FinishesPhased phased shows outcomes taken written made' made'' (held out') (held out'') result
         → status_in result ≢ statuses.ReadFault
         → FaultsOfSink held write_faults (status_in result) out' out''

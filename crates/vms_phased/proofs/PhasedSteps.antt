@@ -6,14 +6,12 @@ use Rattle.std.specs.Io.KnownBytes.{Appends, IsAtEnd, Keeps}
 use Rattle.std.proofs.KnownBytes.{Appends-nil, Consumes-nil, Consumes-kept}
 use Rattle.vms_io.specs.Reading.{Gets}
 use Rattle.vms_stream.specs.declared.courses.Course.{Course}
-use Rattle.vms_stream.specs.declared.halts.Halt.{Halt}
 use Rattle.vms_stream.specs.declared.statuses.Status.{Status}
+use Rattle.vms_stream.specs.declared.statuses.Status.TheVariants.{Memory, ReadFault, WriteFault}
 use Rattle.vms_stream.specs.declared.statuses.Status.TheVariants as statuses
-use Rattle.vms_stream.specs.declared.stops.Stop.{Stop}
-use Rattle.vms_stream.specs.declared.stops.Stop.TheVariants.{ReadFault, WriteFault, Memory}
 use Rattle.vms_stream.specs.Answers.{BeginsOutput, IsLastPiece, lines_taken, most_bytes}
 use Rattle.vms_stream.specs.Behaviors.{Behavior, printed, state_after}
-use Rattle.vms_stream.specs.Courses.{IsCourse, StopsAt, lines_held, lines_judged, status_of, stop_of_halt}
+use Rattle.vms_stream.specs.Courses.{IsCourse, StopsAt, lines_held, lines_judged}
 use Rattle.vms_stream.specs.Jobs.{TakesLines}
 use Rattle.vms_stream.specs.Pieces.{whole_lines, partial_line}
 use Rattle.vms_stream.proofs.BehaviorLaws.{printed-append}
@@ -80,10 +78,10 @@ module _ {S O : Type 0} (phased : PhasedBehavior S O) (shows : S → Option O �
           (λ none. StandsOn-on stands
           (state_after (with_outcomes phased outcomes) (On phased.start outcomes) (whole_lines taken)) now.1))
 
-      says_unread : (stop : Stop) (at_end : Type 0) → (stop ≡ ReadFault) ⊎ (stop ≡ Memory)
-          → SaysPhased phased shows outcomes (status_of stop) taken written at_end
+      says_unread : (stop : Status) (at_end : Type 0) → (stop ≡ ReadFault) ⊎ (stop ≡ Memory)
+          → SaysPhased phased shows outcomes stop taken written at_end
       says_unread stop at_end (inl fault) =
-          subst (λ (s : Stop). SaysPhased phased shows outcomes (status_of s) taken written at_end) (sym fault) (record {
+          subst (λ (s : Status). SaysPhased phased shows outcomes s taken written at_end) (sym fault) (record {
             says = (before_end (with_outcomes phased outcomes) (shown_on phased shows) taken written course is.is_course
                 isnt).0;
             leads = inl (subst (Leads phased phased.start outcomes) (sym same_taken) leads_now);
@@ -92,7 +90,7 @@ module _ {S O : Type 0} (phased : PhasedBehavior S O) (shows : S → Option O �
       says_unread stop at_end (inr memory) =
           let behavior = with_outcomes phased outcomes in
           let now = before_end behavior (shown_on phased shows) taken written course is.is_course isnt in
-          subst (λ (s : Stop). SaysPhased phased shows outcomes (status_of s) taken written at_end) (sym memory) (record {
+          subst (λ (s : Status). SaysPhased phased shows outcomes s taken written at_end) (sym memory) (record {
             says = begins behavior (shown_on phased shows) taken at_end (whole_lines taken) [] written []
                 (same_taken ∙ sym (append-nil (whole_lines taken))) (append-nil written ∙ now.0.all_written)
                 (no_piece behavior (shown_on phased shows) taken is.is_course.within now.0.none_halts) []
@@ -114,7 +112,7 @@ module _ {S O : Type 0} (phased : PhasedBehavior S O) (shows : S → Option O �
 
       -- the read failed, or there was no memory for it
       pub StepsPhased-unread : (stands' : S → Type 0) (last : Course) (made : Option (List O))
-          (left left' held : Option (List ℕ)) (stop : Stop) → Keeps left left'
+          (left left' held : Option (List ℕ)) (stop : Status) → Keeps left left'
           → (stop ≡ ReadFault) ⊎ (stop ≡ Memory)
           → StepsPhased phased stands' shows outcomes taken written last made made left left' held held (Err stop)
       StepsPhased-unread stands' last made left left' held stop keeps cause = record {
@@ -124,7 +122,7 @@ module _ {S O : Type 0} (phased : PhasedBehavior S O) (shows : S → Option O �
         grows = Grows-nil made;
         consumes = Consumes-kept left left left' [] (Consumes-nil left) keeps;
         appends = Appends-nil held;
-        outcome = nothing_more (status_of stop) (IsAtEnd left') (says_unread stop (IsAtEnd left') cause);
+        outcome = nothing_more stop (IsAtEnd left') (says_unread stop (IsAtEnd left') cause);
       }
 
       -- after a piece was read, and phases were made with these outcomes
@@ -196,22 +194,22 @@ module _ {S O : Type 0} (phased : PhasedBehavior S O) (shows : S → Option O �
                 (above_written behavior shown (StandsOn stands') taken written course (longer further) isnt read left
                 left' gets counted ended waits moved)
 
-        says_begun : (stop : Stop) (moved unwritten : List ℕ) → (stop ≡ Memory) ⊎ (stop ≡ WriteFault)
+        says_begun : (stop : Status) (moved unwritten : List ℕ) → (stop ≡ Memory) ⊎ (stop ≡ WriteFault)
             → (written ++ moved) ++ unwritten
             ≡ printed behavior (On phased.start (outcomes ++ further)) (lines_counted read.at_end text)
-            → SaysPhased phased shows (outcomes ++ further) (status_of stop) text (written ++ moved) (IsAtEnd left')
+            → SaysPhased phased shows (outcomes ++ further) stop text (written ++ moved) (IsAtEnd left')
         says_begun stop moved unwritten (inl memory) prints =
-            subst (λ (s : Stop). SaysPhased phased shows (outcomes ++ further) (status_of s) text (written ++ moved)
+            subst (λ (s : Status). SaysPhased phased shows (outcomes ++ further) s text (written ++ moved)
             (IsAtEnd left')) (sym memory)
             (record { says = begun moved unwritten prints; leads = leads_taken; whole = tt })
         says_begun stop moved unwritten (inr fault) prints =
-            subst (λ (s : Stop). SaysPhased phased shows (outcomes ++ further) (status_of s) text (written ++ moved)
+            subst (λ (s : Status). SaysPhased phased shows (outcomes ++ further) s text (written ++ moved)
             (IsAtEnd left')) (sym fault)
             (record { says = begun moved unwritten prints; leads = leads_taken; whole = tt })
 
         -- a line or a write in its midst failed
         pub StepsPhased-failed : (last : Course) (made made' : Option (List O)) (held held' : Option (List ℕ))
-            (stop : Stop) (moved : List ℕ) → (stop ≡ Memory) ⊎ (stop ≡ WriteFault) → Grows made made' further
+            (stop : Status) (moved : List ℕ) → (stop ≡ Memory) ⊎ (stop ≡ WriteFault) → Grows made made' further
             → Appends held held' moved
             → ((s : S) → stands s → (unwritten : List ℕ)
             × (read.waiting.items ++ printed (with_outcomes phased further) (On s further) (lines_held read)
@@ -250,7 +248,7 @@ module _ {S O : Type 0} (phased : PhasedBehavior S O) (shows : S → Option O �
             by Short here = absurd here
 
         -- all lines of the piece were taken
-        module _ (halt : Option Halt) (total : List ℕ)
+        module _ (halt : Option Status) (total : List ℕ)
             (goes : (s : S) → stands s → TakesLines (with_outcomes phased further) (StandsOn stands') (On s further)
             (lines_held read) halt read.waiting.items total) where
           judges : (way : Way S O) → StandsWith stands further way
@@ -269,7 +267,7 @@ module _ {S O : Type 0} (phased : PhasedBehavior S O) (shows : S → Option O �
 
           -- the write failed
           pub StepsPhased-unwritten : (last : Course) (made made' : Option (List O)) (held held' : Option (List ℕ))
-              (moved waiting : List ℕ) (n : ℕ) (stop : Stop) → total ≡ moved ++ waiting → Grows made made' further
+              (moved waiting : List ℕ) (n : ℕ) (stop : Status) → total ≡ moved ++ waiting → Grows made made' further
               → Appends held held' (moved ++ take n waiting) → stop ≡ WriteFault
               → StepsPhased phased stands' shows outcomes taken written last made made' left left' held held' (Err stop)
           StepsPhased-unwritten last made made' held held' moved waiting n stop parts grows appends cause = record {
@@ -310,7 +308,7 @@ module _ {S O : Type 0} (phased : PhasedBehavior S O) (shows : S → Option O �
           pub StepsPhased-judged : (last : Course) → last.taken ≡ read.taken → last.at_end ≡ read.at_end
               → last.waiting.items ≡ []
               → (read.at_end ≡ false → read.taken ≤ most_bytes → last.input ≡ partial_line read.input)
-              → (made made' : Option (List O)) (sunk sunk' : Option (List ℕ)) (result : Result (Unit {0}) Stop)
+              → (made made' : Option (List O)) (sunk sunk' : Option (List ℕ)) (result : Result (Unit {0}) Status)
               → Grows made made' further → Appends sunk sunk' total → StopsAt halt last.taken result
               → StepsPhased phased stands' shows outcomes taken written last made made' left left' sunk sunk' result
           StepsPhased-judged last same_count same_end nothing_waits held made made' sunk sunk' result grows appends stops =
@@ -319,10 +317,10 @@ module _ {S O : Type 0} (phased : PhasedBehavior S O) (shows : S → Option O �
               text_count : read.taken ≡ length text
               text_count = omega (arith, length-append taken gets.taken, gets.count, counted, is.is_course.counted)
 
-              by : (found : Option Halt) → halt ≡ found → (r : Result (Unit {0}) Stop) → StopsAt found read.taken r
+              by : (found : Option Status) → halt ≡ found → (r : Result (Unit {0}) Status) → StopsAt found read.taken r
                   → StepsPhased phased stands' shows outcomes taken written last made made' left left' sunk sunk' r
               by (Some h) is_found r stopped = subst
-                  (λ (r : Result (Unit {0}) Stop). StepsPhased phased stands' shows outcomes taken written last made made'
+                  (λ (r : Result (Unit {0}) Status). StepsPhased phased stands' shows outcomes taken written last made made'
                   left left' sunk sunk' r) (sym stopped) (record {
                     further = further;
                     more = gets.taken;
@@ -334,7 +332,7 @@ module _ {S O : Type 0} (phased : PhasedBehavior S O) (shows : S → Option O �
                       says = says_halt behavior shown (StandsOn stands') taken written course (longer further) isnt read
                           left left' gets counted ended waits halt total judges h is_found;
                       leads = leads_taken;
-                      whole = asked_of-any (status_of (stop_of_halt h))
+                      whole = asked_of-any h
                           (IsWhole phased (On phased.start (outcomes ++ further)) (lines_taken text)) whole_all;
                     };
                   })
@@ -364,7 +362,7 @@ module _ {S O : Type 0} (phased : PhasedBehavior S O) (shows : S → Option O �
                 grows = grows;
                 consumes = gets.consumes;
                 appends = appends;
-                outcome = subst (λ (s : Stop). SaysPhased phased shows (outcomes ++ further) (status_of s) text
+                outcome = subst (λ (s : Status). SaysPhased phased shows (outcomes ++ further) s text
                     (written ++ total) (IsAtEnd left')) (sym beyond.0) (record {
                       says = says_beyond behavior shown (StandsOn stands') taken written course (longer further) isnt read
                           left left' gets counted ended waits halt total judges read.at_end refl is_found

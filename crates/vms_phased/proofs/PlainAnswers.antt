@@ -1,8 +1,6 @@
 -- For other crates too: a command that makes no phase has the clauses of its plain behavior.
 use Rattle.std.proofs.Common.{◌≡◌, ℕ, Bool, List, [], ◌∷◌, ◌++◌, Option, None, inl, inr, refl, sym, ap}
 use Rattle.std.proofs.Common.{ap₂, subst, ◌∙◌}
-use Rattle.vms_stream.specs.declared.endings.Ending.{Ending}
-use Rattle.vms_stream.specs.declared.halts.Halt.{Halt}
 use Rattle.vms_stream.specs.declared.statuses.Status.{Status}
 use Rattle.vms_stream.specs.declared.statuses.Status.TheVariants as statuses
 use Rattle.vms_stream.specs.Answers.{BeginsOutput, Ends, GoesOn, Halts, IsDue, IsLastPiece, Oversteps, Says}
@@ -40,7 +38,7 @@ module _ {S O : Type 0} (phased : PhasedBehavior S O) (none : MakesNoPhase phase
       → halted behavior (On s left) lines ≡ halted (plain phased) s lines
   halted-plain s left [] = refl
   halted-plain s left (line ∷ lines) =
-      ap₂ (λ (halt : Option Halt) (way : Way S O). first_halt halt (halted behavior way lines))
+      ap₂ (λ (halt : Option Status) (way : Way S O). first_halt halt (halted behavior way lines))
       (way_halts-plain s line left) (next_way-plain s line left)
       ∙ ap (first_halt (phased.halts s line None)) (halted-plain (phased.next s line None) left lines)
 
@@ -48,7 +46,7 @@ module _ {S O : Type 0} (phased : PhasedBehavior S O) (none : MakesNoPhase phase
       → printed behavior (On s left) lines ≡ printed (plain phased) s lines
   printed-plain s left [] = refl
   printed-plain s left (line ∷ lines) =
-      ap (λ (halt : Option Halt). printed_from halt (way_prints phased (On s left) line)
+      ap (λ (halt : Option Status). printed_from halt (way_prints phased (On s left) line)
       (printed behavior (next_way phased (On s left) line) lines)) (way_halts-plain s line left)
       ∙ ap₂ (λ (text : List ℕ) (way : Way S O). printed_from (phased.halts s line None) text
       (printed behavior way lines)) (way_prints-plain s line left) (next_way-plain s line left)
@@ -68,7 +66,7 @@ module _ {S O : Type 0} (phased : PhasedBehavior S O) (none : MakesNoPhase phase
       (last_of_way phased way)) (state_after-plain phased.start outcomes lines)
       ∙ ap (λ (words : List ℕ). printed behavior start lines ++ last_words (halted behavior start lines) words)
       (last-plain (state_after (plain phased) phased.start lines) outcomes)
-      ∙ ap (λ (halt : Option Halt). printed behavior start lines ++ last_words halt
+      ∙ ap (λ (halt : Option Status). printed behavior start lines ++ last_words halt
       (phased.last (state_after (plain phased) phased.start lines) None)) (halted-plain phased.start outcomes lines)
       ∙ ap (λ (front : List ℕ). front ++ last_words (halted (plain phased) phased.start lines)
       (phased.last (state_after (plain phased) phased.start lines) None)) (printed-plain phased.start outcomes lines)
@@ -83,7 +81,7 @@ module _ {S O : Type 0} (phased : PhasedBehavior S O) (none : MakesNoPhase phase
     none_before = sym (halted-plain phased.start outcomes _) ∙ piece.none_before;
   }
 
-  Halts-plain : (halt : Halt) (taken written : List ℕ) (at_end : Type 0) → Halts behavior halt taken written at_end
+  Halts-plain : (halt : Status) (taken written : List ℕ) (at_end : Type 0) → Halts behavior halt taken written at_end
       → Halts (plain phased) halt taken written at_end
   Halts-plain halt taken written at_end halts = record {
     lines = halts.lines;
@@ -130,7 +128,7 @@ module _ {S O : Type 0} (phased : PhasedBehavior S O) (none : MakesNoPhase phase
     shown-plain : (s : S) (left : List O) → shown_on phased shows (On s left) → shows s None
     shown-plain s left = subst (λ (ends : Bool). shown_with shows s (supply ends left)) (none.last s)
 
-    Ends-plain : (ending : Ending) (taken written : List ℕ) (at_end : Type 0)
+    Ends-plain : (ending : Status) (taken written : List ℕ) (at_end : Type 0)
         → Ends behavior (shown_on phased shows) ending taken written at_end
         → Ends (plain phased) (λ s. shows s None) ending taken written at_end
     Ends-plain ending taken written at_end ends =

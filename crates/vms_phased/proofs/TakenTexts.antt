@@ -3,10 +3,11 @@ use Rattle.std.proofs.Common.{◌≡◌, ℕ, List, [], ◌∷◌, ◌++◌, Opt
 use Rattle.std.proofs.Common.{append_assoc, append-nil}
 use Rattle.std.specs.Io.KnownBytes.{Appends}
 use Rattle.std.proofs.KnownBytes.{Appends-nil, Appends-trans}
-use Rattle.vms_stream.specs.declared.halts.Halt.{Halt}
-use Rattle.vms_stream.specs.Behaviors.{halted, printed, state_after}
+use Rattle.vms_stream.specs.declared.statuses.Status.{Status}
+use Rattle.vms_stream.specs.Behaviors.{MayHalt, halted, printed, state_after}
 use Rattle.vms_stream.specs.Jobs.{TakesLines}
 use Rattle.vms_stream.proofs.BehaviorLaws.{printed-begins}
+use Rattle.vms_stream.proofs.Stopping.{MayHalt-taken}
 use Rattle.vms_stream.proofs.TakenLines.{TakesLines-both, TakesLines-stopped}
 use Rattle.vms_phased.specs.PhasedBehaviors.{PhasedBehavior, Way, with_outcomes}
 use Rattle.vms_phased.specs.PhasedBehaviors.Way.{On, Short}
@@ -118,7 +119,7 @@ module _ {S O E : Type 0} (phased : PhasedBehavior S O) where
           );
     }
 
-    taken_line : {F : Type 0} (next : S → Type 0) (made'' : Option (List O)) (line : List ℕ) (halt : Option Halt)
+    taken_line : {F : Type 0} (next : S → Type 0) (made'' : Option (List O)) (line : List ℕ) (halt : Option Status)
         (out'' : List ℕ) → TakesPhased {E = F} phased now next made' made'' line (Ok halt) out' out''
         → TakesText {E = E} phased stands next made made'' (above ++ line ∷ []) (Ok halt) out out'' held held'
     taken_line next made'' line halt out'' takes = record {
@@ -152,16 +153,16 @@ module _ {S O E : Type 0} (phased : PhasedBehavior S O) where
 
     -- one line further
     pub TakesText-line : {F : Type 0} (next : S → Type 0) (made'' : Option (List O)) (line : List ℕ)
-        (result : Result (Option Halt) F) (found halt : Option Halt) (out'' : List ℕ) → result ≡ Ok found
+        (result : Result (Option Status) F) (found halt : Option Status) (out'' : List ℕ) → result ≡ Ok found
         → found ≡ halt → TakesPhased {E = F} phased now next made' made'' line result out' out''
         → TakesText {E = E} phased stands next made made'' (above ++ line ∷ []) (Ok halt) out out'' held held'
     TakesText-line {F} next made'' line result found halt out'' is_ok is_found took_line = taken_line next made'' line halt
-        out'' (subst (λ (r : Result (Option Halt) F). TakesPhased phased now next made' made'' line r out' out'')
+        out'' (subst (λ (r : Result (Option Status) F). TakesPhased phased now next made' made'' line r out' out'')
         (is_ok ∙ ap Ok is_found) took_line)
 
   -- lines after one that stops the command
   pub TakesText-stopped : (stands next : S → Type 0) (made made' : Option (List O)) (all above others : List (List ℕ))
-      (halt : Halt) (out out' : List ℕ) (held held' : Option (List ℕ)) → all ≡ above ++ others
+      (halt : Status) (out out' : List ℕ) (held held' : Option (List ℕ)) → all ≡ above ++ others
       → TakesText {E = E} phased stands next made made' above (Ok (Some halt)) out out' held held'
       → TakesText {E = E} phased stands next made made' all (Ok (Some halt)) out out' held held'
   TakesText-stopped stands next made made' all above others halt out out' held held' lines took = record {
@@ -177,3 +178,13 @@ module _ {S O E : Type 0} (phased : PhasedBehavior S O) where
         out (took.moved ++ out') (took.goes s here));
     fails = tt;
   }
+
+-- a job that took lines says of none of them that it stops a command with another status than a line may
+pub MayHalt-stood : {S O : Type 0} (phased : PhasedBehavior S O) (stands : S → Type 0) (stands' : Way S O → Type 0)
+    (way : Way S O) → StandsOn stands way → (outcomes : List O) (lines : List (List ℕ)) (halt : Option Status)
+    (out out' : List ℕ)
+    → ((s : S) → stands s → TakesLines (with_outcomes phased outcomes) stands' (On s outcomes) lines halt out out')
+    → MayHalt halt
+MayHalt-stood phased stands stands' (On s left) here outcomes lines halt out out' goes =
+    MayHalt-taken (with_outcomes phased outcomes) stands' (On s outcomes) lines halt out out' (goes s here.0)
+MayHalt-stood phased stands stands' Short here outcomes lines halt out out' goes = absurd here

@@ -2,8 +2,8 @@
 use Rattle.std.proofs.Common.{◌≡◌, ℕ, Bool, true, false, List, [], ◌∷◌, ◌++◌, Option, Some, None, inl, inr, refl, sym}
 use Rattle.std.proofs.Common.{ap, subst, ◌∙◌, append_assoc, append-nil, flat_map, ◌⊎◌}
 use Rattle.std.proofs.lemmas.Grind.{flat_map-append}
-use Rattle.vms_stream.specs.declared.halts.Halt.{Halt}
-use Rattle.vms_stream.specs.declared.halts.Halt.TheVariants.{Refuses, Exceeds}
+use Rattle.vms_stream.specs.declared.statuses.Status.{Status}
+use Rattle.vms_stream.specs.declared.statuses.Status.TheVariants.{Header}
 use Rattle.vms_stream.specs.Behaviors.{output, printed, printed_from, state_after}
 use Rattle.vms_phased.specs.PhasedBehaviors.{PhasedBehavior, Supply, Way, halt_at, last_of_way, printed_at, printed_last}
 use Rattle.vms_phased.specs.PhasedBehaviors.{next_way, supply, way_after, with_outcomes}
@@ -40,21 +40,21 @@ module _ {O : Type 0} where
   text_then-spelled (Asks text) outcome others given left later = refl
 
   -- what a line prints, and what comes after it, by what it gets
-  abbrev line_then : Option Halt → List (Text O) → Text O → (Option O → List O → List ℕ) → List ℕ → Supply O → List ℕ
+  abbrev line_then : Option Status → List (Text O) → Text O → (Option O → List O → List ℕ) → List ℕ → Supply O → List ℕ
   line_then halt waits text later short (Gives given left) =
       printed_from halt (printed_with waits text given) (later given left)
   line_then halt waits text later short Lacks = printed_from None [] short
 
   -- a line that stops the command
-  stopped-in_order : (halt : Halt) (waits : List (Text O)) (text : Text O) (later order : Option O → List O → List ℕ)
+  stopped-in_order : (halt : Status) (waits : List (Text O)) (text : Text O) (later order : Option O → List O → List ℕ)
       → printed_from (Some halt) (printed_now waits text) (later None [])
       ≡ after_waits waits [] (text_then text [] (Gives None []) (Some halt) order)
-  stopped-in_order Refuses [] (Plain bytes) later order = refl
-  stopped-in_order Refuses [] (Asks text) later order = refl
-  stopped-in_order Refuses (first ∷ waits) text later order = refl
-  stopped-in_order Exceeds [] (Plain bytes) later order = refl
-  stopped-in_order Exceeds [] (Asks text) later order = refl
-  stopped-in_order Exceeds (first ∷ waits) text later order = refl
+  stopped-in_order Header [] (Plain bytes) later order = refl
+  stopped-in_order Header [] (Asks text) later order = refl
+  stopped-in_order Header (first ∷ waits) text later order = refl
+  stopped-in_order _ [] (Plain bytes) later order = refl
+  stopped-in_order _ [] (Asks text) later order = refl
+  stopped-in_order _ (first ∷ waits) text later order = refl
 
   -- a line at which no phase ends
   inside-in_order : (waits : List (Text O)) (text : Text O) (left : List O) (later order : Option O → List O → List ℕ)
@@ -77,7 +77,7 @@ module _ {O : Type 0} where
       (sym (text_then-spelled text outcome left None (outcome ∷ left) order))
 
   -- any line
-  line-in_order : (halt : Option Halt) (ends : Bool) (waits : List (Text O)) (text : Text O) (left : List O)
+  line-in_order : (halt : Option Status) (ends : Bool) (waits : List (Text O)) (text : Text O) (left : List O)
       (later order : Option O → List O → List ℕ) (short : List ℕ) (allows : O → Type 0)
       (leads : Option O → List O → Type 0) → short ≡ []
       → ((given : Option O) (rest : List O) → leads given rest

@@ -1,7 +1,6 @@
 -- What a job does at a line and at the end of its input, by its behavior and by the outcomes of the phases that it made.
 use Rattle.std.specs.Prelude.{◌≡◌, ℕ, List, [], ◌∷◌, ◌++◌, Option, Some, None, Result, IfOk}
-use Rattle.vms_stream.specs.declared.endings.Ending.{Ending}
-use Rattle.vms_stream.specs.declared.halts.Halt.{Halt}
+use Rattle.vms_stream.specs.declared.statuses.Status.{Status}
 use Rattle.vms_stream.specs.Jobs.{Closes, TakesLines}
 use Rattle.vms_phased.specs.PhasedBehaviors.{PhasedBehavior, Supply, Way, supply, with_outcomes}
 use Rattle.vms_phased.specs.PhasedBehaviors.Supply.{Gives, Lacks}
@@ -30,7 +29,7 @@ shown_on phased shows Short = ⊥
 -- a job took a line, and made the phase that ends there, or failed. The outcomes that it made lead through the line
 -- also where it failed
 pub record TakesPhased {S O E : Type 0} (phased : PhasedBehavior S O) (stands stands' : S → Type 0)
-    (made made' : Option (List O)) (line : List ℕ) (result : Result (Option Halt) E) (out out' : List ℕ)
+    (made made' : Option (List O)) (line : List ℕ) (result : Result (Option Status) E) (out out' : List ℕ)
     : Type 0 where
   pub outcomes : List O
   pub grows : Grows made made' outcomes
@@ -40,7 +39,7 @@ pub record TakesPhased {S O E : Type 0} (phased : PhasedBehavior S O) (stands st
 
 -- a job came to the end of its input, and made the phase that ends there, or failed
 pub record ClosesPhased {S O E : Type 0} (phased : PhasedBehavior S O) (stands : S → Type 0)
-    (shows : S → Option O → Type 0) (made made' : Option (List O)) (result : Result Ending E)
+    (shows : S → Option O → Type 0) (made made' : Option (List O)) (result : Result Status E)
     (out out' : List ℕ) : Type 0 where
   pub outcomes : List O
   pub grows : Grows made made' outcomes

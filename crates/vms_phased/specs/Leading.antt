@@ -1,6 +1,6 @@
 -- Which outcomes lead through the lines of an input.
 use Rattle.std.specs.Prelude.{◌≡◌, ℕ, Bool, true, false, List, [], ◌∷◌, Option, Some, None}
-use Rattle.vms_stream.specs.declared.halts.Halt.{Halt}
+use Rattle.vms_stream.specs.declared.statuses.Status.{Status}
 use Rattle.vms_phased.specs.PhasedBehaviors.{PhasedBehavior}
 
 -- the outcomes that are left lead on where a phase ends, or none does: the next one is allowed. Where none is left the
@@ -11,7 +11,7 @@ leads_on true [] allows later = Unit {0}
 leads_on true (outcome ∷ left) allows later = allows outcome × later (Some outcome) left
 
 -- no phase is made after a line that stops the command
-abbrev pub none_after : {O : Type 0} → Option Halt → List O → Type 0 → Type 0
+abbrev pub none_after : {O : Type 0} → Option Status → List O → Type 0 → Type 0
 none_after None left later = later
 none_after (Some halt) left later = left ≡ []
 

@@ -1,9 +1,8 @@
 -- What a command says of the lines of its input where its phases have outcomes.
 use Rattle.std.specs.Prelude.{ℕ, Bool, true, false, List, [], ◌∷◌, Option, Some, None}
-use Rattle.vms_stream.specs.Behaviors.{Behavior}
-use Rattle.vms_stream.specs.declared.endings.Ending.{Ending}
-use Rattle.vms_stream.specs.declared.endings.Ending.TheVariants.{Done}
-use Rattle.vms_stream.specs.declared.halts.Halt.{Halt}
+use Rattle.vms_stream.specs.Behaviors.{Behavior, MayEnd, MayHalt}
+use Rattle.vms_stream.specs.declared.statuses.Status.{Status}
+use Rattle.vms_stream.specs.declared.statuses.Status.TheVariants.{Done}
 
 -- a command as its behavior from line to line, with a state between them. A phase may end at a line or at the end of
 -- the input, and what comes then depends on the outcome of the phase: `None` where no phase ends
@@ -17,15 +16,17 @@ pub record PhasedBehavior (S O : Type 0) : Type 1 where
   pub next : S → List ℕ → Option O → S
   -- what the line prints
   pub prints : S → List ℕ → Option O → List ℕ
-  -- why the command stops at the line, if it does
-  pub halts : S → List ℕ → Option O → Option Halt
+  -- the status with which the command stops at the line, if it does
+  pub halts : S → List ℕ → Option O → Option Status
+  pub may_halt : (s : S) (line : List ℕ) (given : Option O) → MayHalt (halts s line given)
   -- whether a phase ends at the end of the input, and which outcomes it may have
   pub ends_last : S → Bool
   pub AllowsLast : S → O → Type 0
   -- what is printed there
   pub last : S → Option O → List ℕ
-  -- how the command ends there
-  pub ends : S → Option O → Ending
+  -- the status with which it ends there
+  pub ends : S → Option O → Status
+  pub may_end : (s : S) (given : Option O) → MayEnd (ends s given)
 
 -- what a place of the input gets of the outcomes that are left: the next one where a phase ends, if there is one
 pub data Supply (O : Type 0) : Type 0 where
@@ -51,7 +52,7 @@ abbrev pub printed_at : {S O : Type 0} → PhasedBehavior S O → S → List ℕ
 printed_at phased s line (Gives given left) = phased.prints s line given
 printed_at phased s line Lacks = []
 
-abbrev pub halt_at : {S O : Type 0} → PhasedBehavior S O → S → List ℕ → Supply O → Option Halt
+abbrev pub halt_at : {S O : Type 0} → PhasedBehavior S O → S → List ℕ → Supply O → Option Status
 halt_at phased s line (Gives given left) = phased.halts s line given
 halt_at phased s line Lacks = None
 
@@ -61,7 +62,7 @@ abbrev pub printed_last : {S O : Type 0} → PhasedBehavior S O → S → Supply
 printed_last phased s (Gives given left) = phased.last s given
 printed_last phased s Lacks = []
 
-abbrev pub ending_at : {S O : Type 0} → PhasedBehavior S O → S → Supply O → Ending
+abbrev pub ending_at : {S O : Type 0} → PhasedBehavior S O → S → Supply O → Status
 ending_at phased s (Gives given left) = phased.ends s given
 ending_at phased s Lacks = Done
 
@@ -74,7 +75,7 @@ abbrev pub way_prints : {S O : Type 0} → PhasedBehavior S O → Way S O → Li
 way_prints phased (On s left) line = printed_at phased s line (supply (phased.ends_phase s line) left)
 way_prints phased Short line = []
 
-abbrev pub way_halts : {S O : Type 0} → PhasedBehavior S O → Way S O → List ℕ → Option Halt
+abbrev pub way_halts : {S O : Type 0} → PhasedBehavior S O → Way S O → List ℕ → Option Status
 way_halts phased (On s left) line = halt_at phased s line (supply (phased.ends_phase s line) left)
 way_halts phased Short line = None
 
@@ -82,9 +83,27 @@ abbrev pub last_of_way : {S O : Type 0} → PhasedBehavior S O → Way S O → L
 last_of_way phased (On s left) = printed_last phased s (supply (phased.ends_last s) left)
 last_of_way phased Short = []
 
-abbrev pub way_ends : {S O : Type 0} → PhasedBehavior S O → Way S O → Ending
+abbrev pub way_ends : {S O : Type 0} → PhasedBehavior S O → Way S O → Status
 way_ends phased (On s left) = ending_at phased s (supply (phased.ends_last s) left)
 way_ends phased Short = Done
+
+-- with these statuses a line may stop a command, and a command may end
+pub MayHalt-way_halts : {S O : Type 0} (phased : PhasedBehavior S O) (way : Way S O) (line : List ℕ)
+    → MayHalt (way_halts phased way line)
+MayHalt-way_halts {O = O} phased (On s left) line = by (supply (phased.ends_phase s line) left)
+  where
+    by : (got : Supply O) → MayHalt (halt_at phased s line got)
+    by (Gives given left) = phased.may_halt s line given
+    by Lacks = tt
+MayHalt-way_halts phased Short line = tt
+
+pub MayEnd-way_ends : {S O : Type 0} (phased : PhasedBehavior S O) (way : Way S O) → MayEnd (way_ends phased way)
+MayEnd-way_ends {O = O} phased (On s left) = by (supply (phased.ends_last s) left)
+  where
+    by : (got : Supply O) → MayEnd (ending_at phased s got)
+    by (Gives given left) = phased.may_end s given
+    by Lacks = tt
+MayEnd-way_ends phased Short = tt
 
 -- the behavior of a command whose phases have these outcomes, the first phase first
 abbrev pub with_outcomes : {S O : Type 0} → PhasedBehavior S O → List O → Behavior (Way S O)
@@ -93,6 +112,8 @@ with_outcomes phased outcomes = record {
   next = next_way phased;
   prints = way_prints phased;
   halts = way_halts phased;
+  may_halt = MayHalt-way_halts phased;
   last = last_of_way phased;
   ends = way_ends phased;
+  may_end = MayEnd-way_ends phased;
 }

@@ -3,9 +3,8 @@ use Rattle.std.specs.Prelude.{◌≡◌, ℕ, ◌≤◌, true, List, ◌++◌, l
 use Rattle.std.specs.Io.KnownBytes.{Appends, Consumes, IsAtEnd}
 use Rattle.vms_stream.specs.declared.courses.Course.{Course}
 use Rattle.vms_stream.specs.declared.statuses.Status.{Status}
-use Rattle.vms_stream.specs.declared.stops.Stop.{Stop}
 use Rattle.vms_stream.specs.Answers.{lines_taken, most_bytes}
-use Rattle.vms_stream.specs.Courses.{Finishes, IsCourse, lines_judged, status_of}
+use Rattle.vms_stream.specs.Courses.{Finishes, IsCourse, lines_judged}
 use Rattle.vms_text.specs.Lines.{lines_of}
 use Rattle.vms_phased.specs.PhasedBehaviors.{PhasedBehavior, with_outcomes}
 use Rattle.vms_phased.specs.PhasedBehaviors.Way.{On}
@@ -23,7 +22,7 @@ pub record IsPhasedCourse {S O : Type 0} (phased : PhasedBehavior S O) (stands :
 -- one piece further: bytes were taken, phases made and bytes written, and the course goes on or stops
 pub record StepsPhased {S O : Type 0} (phased : PhasedBehavior S O) (stands : S → Type 0)
     (shows : S → Option O → Type 0) (outcomes : List O) (taken written : List ℕ) (course' : Course)
-    (made made' : Option (List O)) (left left' held held' : Option (List ℕ)) (result : Result (Unit {0}) Stop)
+    (made made' : Option (List O)) (left left' held held' : Option (List ℕ)) (result : Result (Unit {0}) Status)
     : Type 0 where
   pub further : List O
   pub more : List ℕ
@@ -34,13 +33,13 @@ pub record StepsPhased {S O : Type 0} (phased : PhasedBehavior S O) (stands : S 
   pub outcome : MatchResult result
       (λ _. IsPhasedCourse phased stands (outcomes ++ further) (taken ++ more) (written ++ moved) course'
       × (course'.at_end ≡ true → IsAtEnd left'))
-      (λ stop. SaysPhased phased shows (outcomes ++ further) (status_of stop) (taken ++ more) (written ++ moved)
+      (λ stop. SaysPhased phased shows (outcomes ++ further) stop (taken ++ more) (written ++ moved)
       (IsAtEnd left'))
 
 -- the end of a course
 pub record FinishesPhased {S O : Type 0} (phased : PhasedBehavior S O) (shows : S → Option O → Type 0)
     (outcomes : List O) (taken written : List ℕ) (made made' : Option (List O)) (held held' : Option (List ℕ))
-    (result : Result Status Stop) : Type 0 where
+    (result : Result Status Status) : Type 0 where
   pub further : List O
   pub grows : Grows made made' further
   pub within : length taken ≤ most_bytes

@@ -19,8 +19,10 @@ plain phased = record {
   next = λ s line. phased.next s line None;
   prints = λ s line. phased.prints s line None;
   halts = λ s line. phased.halts s line None;
+  may_halt = λ s line. phased.may_halt s line None;
   last = λ s. phased.last s None;
   ends = λ s. phased.ends s None;
+  may_end = λ s. phased.may_end s None;
 }
 
 -- a command that makes no phase says what its plain behavior says

@@ -3,7 +3,7 @@ use Rattle.std.specs.Prelude.{◌≡◌, ℕ, List, ◌++◌, Option, Result, If
 use Rattle.std.specs.Io.KnownBytes.{Appends}
 use Rattle.vms_stream.specs.Behaviors.{printed}
 use Rattle.vms_stream.specs.Jobs.{TakesLines}
-use Rattle.vms_stream.specs.declared.halts.Halt.{Halt}
+use Rattle.vms_stream.specs.declared.statuses.Status.{Status}
 use Rattle.vms_phased.specs.PhasedBehaviors.{PhasedBehavior, with_outcomes}
 use Rattle.vms_phased.specs.PhasedBehaviors.Way.{On}
 use Rattle.vms_phased.specs.Leading.{Leads}
@@ -12,7 +12,7 @@ use Rattle.vms_phased.specs.Jobs.{Grows, StandsOn}
 -- a job took these lines, and made phases that end at them. What waited and what the lines print was written from its
 -- front on, and the rest waits; where the job failed, what was written is the front of it
 pub record TakesText {S O E : Type 0} (phased : PhasedBehavior S O) (stands stands' : S → Type 0)
-    (made made' : Option (List O)) (lines : List (List ℕ)) (result : Result (Option Halt) E) (out out' : List ℕ)
+    (made made' : Option (List O)) (lines : List (List ℕ)) (result : Result (Option Status) E) (out out' : List ℕ)
     (held held' : Option (List ℕ)) : Type 0 where
   pub outcomes : List O
   pub moved : List ℕ

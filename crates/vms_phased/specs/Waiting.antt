@@ -1,7 +1,7 @@
 -- A command that gives each line a text of its own, of which some are known only with the outcome of their phase.
 use Rattle.std.specs.Prelude.{ℕ, Bool, false, List, [], ◌∷◌, ◌++◌, flat_map, Option, Some, None}
-use Rattle.vms_stream.specs.declared.endings.Ending.{Ending}
-use Rattle.vms_stream.specs.declared.halts.Halt.{Halt}
+use Rattle.vms_stream.specs.declared.statuses.Status.{Status}
+use Rattle.vms_stream.specs.Behaviors.{MayEnd, MayHalt}
 use Rattle.vms_phased.specs.PhasedBehaviors.{PhasedBehavior}
 
 -- the text of a line: plain, or one that asks for the outcome of the phase that is open there or ends there
@@ -29,18 +29,20 @@ pub record LineTexts (S O : Type 0) : Type 1 where
   pub next : S → List ℕ → Option O → S
   -- the text of the line
   pub text : S → List ℕ → Text O
-  -- why the command stops at the line, if it does
-  pub halts : S → List ℕ → Option Halt
+  -- the status with which the command stops at the line, if it does
+  pub halts : S → List ℕ → Option Status
+  pub may_halt : (s : S) (line : List ℕ) → MayHalt (halts s line)
   -- whether a phase ends at the end of the input, and which outcomes it may have
   pub ends_last : S → Bool
   pub AllowsLast : S → O → Type 0
   -- the text there
   pub last : S → Text O
-  -- how the command ends there
-  pub ends : S → Option O → Ending
+  -- the status with which it ends there
+  pub ends : S → Option O → Status
+  pub may_end : (s : S) (given : Option O) → MayEnd (ends s given)
 
 -- whether a phase ends at a line
-abbrev pub unless_stopped : Option Halt → Bool → Bool
+abbrev pub unless_stopped : Option Status → Bool → Bool
 unless_stopped None ends = ends
 unless_stopped (Some halt) ends = false
 
@@ -86,8 +88,10 @@ waiting texts = record {
   };
   prints = λ now line given. printed_with now.waits (texts.text now.state line) given;
   halts = λ now line given. texts.halts now.state line;
+  may_halt = λ now line given. texts.may_halt now.state line;
   ends_last = λ now. texts.ends_last now.state;
   AllowsLast = λ now. texts.AllowsLast now.state;
   last = λ now given. printed_with now.waits (texts.last now.state) given;
   ends = λ now given. texts.ends now.state given;
+  may_end = λ now given. texts.may_end now.state given;
 }

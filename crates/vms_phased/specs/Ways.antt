@@ -1,6 +1,6 @@
 -- How far outcomes take a command on its way.
 use Rattle.std.specs.Prelude.{◌≡◌, ℕ, List, [], ◌∷◌, ◌++◌, Option, Some, None}
-use Rattle.vms_stream.specs.declared.halts.Halt.{Halt}
+use Rattle.vms_stream.specs.declared.statuses.Status.{Status}
 use Rattle.vms_phased.specs.PhasedBehaviors.{PhasedBehavior, Way, next_way, way_halts}
 use Rattle.vms_phased.specs.PhasedBehaviors.Way.{On, Short}
 
@@ -10,7 +10,7 @@ IsOn (On s left) = Unit {0}
 IsOn Short = ⊥
 
 -- what is asked after a line: nothing where the line stops the command
-abbrev pub unless_halted : Option Halt → Type 0 → Type 0
+abbrev pub unless_halted : Option Status → Type 0 → Type 0
 unless_halted None later = later
 unless_halted (Some halt) later = Unit {0}
 

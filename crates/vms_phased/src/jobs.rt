@@ -3,7 +3,7 @@ ghost use Rattle.vms_phased.specs.Jobs.{ClosesPhased, TakesPhased};
 ghost use Rattle.vms_phased.specs.PhasedBehaviors.{PhasedBehavior};
 
 use vms_base::Memory;
-use vms_stream::{Ending, Halt};
+use vms_stream::Status;
 
 /// A command over the lines of its input, whose phases an engine makes. Its behavior says what it prints by their
 /// outcomes, and where and how it ends.
@@ -34,14 +34,14 @@ pub trait PhasedJob {
         engine: &mut Self::Engine,
         line: &[u8],
         out: &mut Vec<u8>,
-    ) -> Result<Option<Halt>, Memory>
+    ) -> Result<Option<Status>, Memory>
         requires { (s : State) × Stands self.old s }
         ensures { TakesPhased behavior (Stands self.old) (Stands self.new) (made engine.old) (made engine.new)
             line.now result out.old.items out.new.items };
 
     /// Comes to the end of the input, where a phase may end too, appends what is printed there, and says how the
     /// command ends.
-    fn end(&mut self, engine: &mut Self::Engine, out: &mut Vec<u8>) -> Result<Ending, Memory>
+    fn end(&mut self, engine: &mut Self::Engine, out: &mut Vec<u8>) -> Result<Status, Memory>
         requires { (s : State) × Stands self.old s }
         ensures { ClosesPhased behavior (Stands self.old) Shows (made engine.old) (made engine.new)
             result out.old.items out.new.items };

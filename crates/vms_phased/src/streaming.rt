@@ -10,7 +10,7 @@ use crate::PhasedJob;
 use crate::taking::take_lines;
 use std::alloc::Global;
 use vms_io::{Sink, Source};
-use vms_stream::{Course, Halt, Status, Stop, status_of, stop_at};
+use vms_stream::{Course, Status, stop_at};
 
 /// Hands the lines of the input to a job whose phases the engine makes, one after another, and writes what it prints:
 /// wherever more than 64 KiB wait, and all that waits before the next piece is read. The engine comes back.
@@ -31,12 +31,11 @@ pub fn stream_phased<J: PhasedJob, S: Source, K: Sink>(
 }
 
 /// The status of a command that ended or stopped.
-fn status_after(ended: Result<Status, Stop>) -> Status
+fn status_after(ended: Result<Status, Status>) -> Status
     ensures { result ≡ status_in ended }
 {
     match ended {
-        Ok(status) => status,
-        Err(stop) => stop.status(),
+        Ok(status) | Err(status) => status,
     }
 }
 
@@ -47,7 +46,7 @@ fn run<J: PhasedJob, S: Source, K: Sink>(
     engine: &mut J::Engine,
     src: &mut S,
     out: &mut K,
-) -> Result<Status, Stop>
+) -> Result<Status, Status>
     requires { J.Stands job.old J.behavior.start }
     ensures { AnswersPhased J.behavior J.Shows (J.made engine.old) (J.made engine.new) S.remaining S.faults K.written
         K.faults src.old src.new out.old out.new (status_in result) }
@@ -66,7 +65,7 @@ fn step<J: PhasedJob, S: Source, K: Sink>(
     engine: &mut J::Engine,
     src: &mut S,
     out: &mut K,
-) -> Result<(), Stop>
+) -> Result<(), Status>
     requires course { (outcomes : List J.Outcome) × (taken : List ℕ) × (written : List ℕ)
         × IsPhasedCourse J.behavior (J.Stands job.old) outcomes taken written course.old }
     requires before_end { course.old.at_end ≡ false }
@@ -91,7 +90,7 @@ fn judge<J: PhasedJob, K: Sink>(
     job: &mut J,
     engine: &mut J::Engine,
     out: &mut K,
-) -> Result<Option<Halt>, Stop>
+) -> Result<Option<Status>, Status>
     requires job { (s : J.State) × J.Stands job.old s }
     requires counted { course.old.taken ≤ most_bytes + length course.old.input }
     ensures takes { TakesText J.behavior (J.Stands job.old) (J.Stands job.new) (J.made engine.old) (J.made engine.new)
@@ -101,7 +100,7 @@ fn judge<J: PhasedJob, K: Sink>(
         course.new.input ≡ partial_line course.old.input) }
     ensures same_count { course.new.taken ≡ course.old.taken }
     ensures same_end { course.new.at_end ≡ course.old.at_end }
-    ensures cause { IfErr result (λ stop. (stop ≡ Stop.Memory) ⊎ (stop ≡ Stop.WriteFault)) }
+    ensures cause { IfErr result (λ status. (status ≡ Status.Memory) ⊎ (status ≡ Status.WriteFault)) }
     ensures counts { CountsWrites K.written K.faults result out.old out.new }
 {
     let ready = course.ready();
@@ -122,7 +121,7 @@ fn finish<J: PhasedJob, K: Sink>(
     job: &mut J,
     engine: &mut J::Engine,
     out: &mut K,
-) -> Result<Status, Stop>
+) -> Result<Status, Status>
     requires course { (outcomes : List J.Outcome) × (taken : List ℕ) × (written : List ℕ)
         × IsPhasedCourse J.behavior (J.Stands job.old) outcomes taken written course.old }
     requires at_end { course.old.at_end ≡ true }
@@ -135,5 +134,5 @@ fn finish<J: PhasedJob, K: Sink>(
 {
     let ending = job.end(engine, &mut course.waiting)?;
     course.flush(out)?;
-    Ok(status_of(ending))
+    Ok(ending)
 }

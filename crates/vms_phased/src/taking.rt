@@ -5,7 +5,7 @@ ghost use Rattle.vms_text.specs.Lines.{lines_of};
 
 use crate::PhasedJob;
 use vms_io::{Sink, write_all};
-use vms_stream::{Halt, Stop};
+use vms_stream::Status;
 use vms_text::split_line;
 
 /// The most bytes that wait between two lines.
@@ -19,11 +19,11 @@ pub(crate) fn take_lines<J: PhasedJob, K: Sink>(
     text: &[u8],
     waiting: &mut Vec<u8>,
     out: &mut K,
-) -> Result<Option<Halt>, Stop>
+) -> Result<Option<Status>, Status>
     requires { (s : J.State) × J.Stands job.old s }
     ensures takes { TakesText J.behavior (J.Stands job.old) (J.Stands job.new) (J.made engine.old) (J.made engine.new)
         (lines_of text.now) result waiting.old.items waiting.new.items (K.written out.old) (K.written out.new) }
-    ensures cause { IfErr result (λ stop. (stop ≡ Stop.Memory) ⊎ (stop ≡ Stop.WriteFault)) }
+    ensures cause { IfErr result (λ status. (status ≡ Status.Memory) ⊎ (status ≡ Status.WriteFault)) }
     ensures counts { CountsWrites K.written K.faults result out.old out.new }
 {
     let mut rest = text;
@@ -39,10 +39,10 @@ pub(crate) fn take_lines<J: PhasedJob, K: Sink>(
 }
 
 /// Writes what waits, if it is more than 64 KiB.
-fn write_above<K: Sink>(waiting: &mut Vec<u8>, out: &mut K) -> Result<(), Stop>
+fn write_above<K: Sink>(waiting: &mut Vec<u8>, out: &mut K) -> Result<(), Status>
     ensures writes { WritesFront waiting.old.items (K.written out.old) (K.written out.new)
         (λ rest. OnOk result (waiting.new.items ≡ rest)) }
-    ensures cause { IfErr result (λ stop. stop ≡ Stop.WriteFault) }
+    ensures cause { IfErr result (λ status. status ≡ Status.WriteFault) }
     ensures counts { CountsWrites K.written K.faults result out.old out.new }
 {
     if waiting.len() > MOST_WAITING {

@@ -47,4 +47,4 @@ returns-clause-finishes g c = λ outcomes taken written is.
     c.args.course.now (longer phased shows outcomes taken written c.args.course.now is further) c.requires.at_end
     c.in_ok-ending.ending c.end.new.out.items
     (Closes-with phased shows _ (outcomes ++ further) further c.in_ok-ending.ending _ _ closes.goes) _ _
-    c.status_of.result c.in_ok-flush.ensures.ok c.status_of.ensures)
+    c.in_ok-flush.ensures.ok)

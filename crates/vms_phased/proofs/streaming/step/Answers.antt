@@ -3,7 +3,9 @@ use Rattle.std.proofs.Common.{◌∙◌, ap, arith, length, refl}
 use Rattle.std.proofs.KnownBytes.{Appends-trans}
 use Rattle.std.proofs.lemmas.Result.{err_from_is_err_and}
 use Rattle.vms_stream.proofs.CourseEnds.{writes_after}
+use Rattle.vms_stream.proofs.Stopping.{CountsReads-stopped, CountsWrites-stopped}
 use Rattle.vms_stream.proofs.TwoPieces.{length-partial_line}
+use Rattle.vms_phased.proofs.TakenTexts.{MayHalt-stood}
 use Rattle.vms_phased.proofs.PhasedSteps.{StepsPhased-failed, StepsPhased-judged, StepsPhased-unread}
 use Rattle.vms_phased.proofs.PhasedSteps.{StepsPhased-unwritten}
 use Rattle.vms_phased.proofs.streaming.step.Goals as goal
@@ -59,3 +61,19 @@ returns-clause-steps g c = λ outcomes taken written is.
     (λ before within. c.flush.ensures.same_input ∙ c.in_ok-halt.ensures.held before within)
     _ _ _ _ c.stop_at.result takes.grows (Appends-trans _ _ _ _ _ takes.appends c.in_ok-flush.ensures.ok)
     c.stop_at.ensures
+
+pub returns-clause-reads : goal.returns-clause-reads
+returns-clause-reads g c =
+    let is = c.requires.course.3 in
+    CountsReads-stopped g.S.Source.remaining g.S.Source.faults _ c.args.src.now c.read.new.src
+    c.in_ok-read.ensures.counts c.in_ok-halt.halt c.stop_at.result
+    (MayHalt-stood g.J.PhasedJob.behavior (g.J.PhasedJob.Stands c.args.job.now) _ _ is.is_course.stands_after _ _
+    c.in_ok-halt.halt _ _ c.in_ok-halt.ensures.takes.goes) c.stop_at.ensures
+
+pub returns-clause-writes : goal.returns-clause-writes
+returns-clause-writes g c =
+    let is = c.requires.course.3 in
+    CountsWrites-stopped g.K.Sink.written g.K.Sink.faults _ c.args.out.now c.flush.new.out
+    (c.in_ok-flush.ensures.counts ∙ c.in_ok-halt.ensures.counts) c.in_ok-halt.halt c.stop_at.result
+    (MayHalt-stood g.J.PhasedJob.behavior (g.J.PhasedJob.Stands c.args.job.now) _ _ is.is_course.stands_after _ _
+    c.in_ok-halt.halt _ _ c.in_ok-halt.ensures.takes.goes) c.stop_at.ensures
