@@ -43,14 +43,16 @@ unless_halted-of (Some halt) later goes = tt
 module _ {S O : Type 0} (phased : PhasedBehavior S O) where
   -- where a line stops the command, or it is on its way after all lines, no phase lacks its outcome
   pub IsWhole-of : (start : List O) (way : Way S O) (lines : List (List ℕ))
-      → (halted (with_outcomes phased start) way lines ≡ None → IsOn (state_after (with_outcomes phased start) way lines))
+      → (halted (with_outcomes phased start) way lines ≡ None
+          → IsOn (state_after (with_outcomes phased start) way lines))
       → IsWhole phased way lines
   IsWhole-of start way [] on = on refl
   IsWhole-of start way (line ∷ lines) on =
       let next = next_way phased way line in
       unless_halted-of (way_halts phased way line) (IsWhole phased next lines)
       (λ open_line. IsWhole-of start next lines
-      (λ none. on (ap (λ (halt : Option Status). first_halt halt (halted (with_outcomes phased start) next lines)) open_line
+      (λ none. on (ap (λ (halt : Option Status). first_halt halt (halted
+          (with_outcomes phased start) next lines)) open_line
       ∙ none)))
 
   IsWhole-now : (way : Way S O) (lines : List (List ℕ)) → IsWhole phased way lines → IsOn way
@@ -101,7 +103,8 @@ module _ {S O : Type 0} (phased : PhasedBehavior S O) where
     TakesLines-start outcomes others way lines halt out out' takes = record {
       halt_of = takes.halt_of ∙ halted-start phased outcomes others way lines;
       prints = takes.prints ∙ ap (λ (bytes : List ℕ). out ++ bytes) (printed-start phased outcomes others way lines);
-      stands_after = λ none. subst stands (state_after-start phased outcomes others way lines) (takes.stands_after none);
+      stands_after = λ none. subst stands (state_after-start phased outcomes others way lines)
+          (takes.stands_after none);
     }
 
     -- what was written before

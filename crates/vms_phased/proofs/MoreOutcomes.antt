@@ -26,7 +26,8 @@ begins_from (Some _) line front all begins = ([], refl)
 abbrev pub printed_to : {S : Type 0} → Behavior S → (S → List ℕ) → S → List (List ℕ) → List ℕ
 printed_to behavior after s [] = after s
 printed_to behavior after s (line ∷ lines) =
-    printed_from (behavior.halts s line) (behavior.prints s line) (printed_to behavior after (behavior.next s line) lines)
+    printed_from (behavior.halts s line) (behavior.prints s line) (printed_to behavior after
+        (behavior.next s line) lines)
 
 module _ {S : Type 0} (behavior : Behavior S) where
   pub printed_to-printed : (s : S) (lines : List (List ℕ))
@@ -148,7 +149,8 @@ module _ {S O : Type 0} (phased : PhasedBehavior S O) where
 
   module _ (more : List O) where
     way_after-more : (s : S) (line : List ℕ) (ends : Bool) (left : List O)
-        → IsMore more (way_after phased s line (supply ends left)) (way_after phased s line (supply ends (left ++ more)))
+        → IsMore more (way_after phased s line (supply ends left)) (way_after phased s line (supply ends
+            (left ++ more)))
     way_after-more s line false left = refl
     way_after-more s line true [] = tt
     way_after-more s line true (outcome ∷ left) = refl
@@ -168,7 +170,8 @@ module _ {S O : Type 0} (phased : PhasedBehavior S O) where
         (subst (λ (w : Way S O). IsMore more (next_way phased (On s left) line) (next_way phased w line)) (sym is)
         (next_way-more s left line))
 
-    line-more : (s : S) (line : List ℕ) (ends : Bool) (left : List O) → IsOn (way_after phased s line (supply ends left))
+    line-more : (s : S) (line : List ℕ) (ends : Bool) (left : List O)
+        → IsOn (way_after phased s line (supply ends left))
         → (halt_at phased s line (supply ends (left ++ more)) ≡ halt_at phased s line (supply ends left))
         × (printed_at phased s line (supply ends (left ++ more)) ≡ printed_at phased s line (supply ends left))
     line-more s line false left on = (refl, refl)
@@ -255,7 +258,8 @@ module _ {S O : Type 0} (phased : PhasedBehavior S O) where
         by true (outcome ∷ left) = ([], sym (append-nil (phased.last s (Some outcome))))
 
     pub printed-more : (outcomes : List O) (way way' : Way S O) (lines : List (List ℕ)) → IsMore more way way'
-        → Begins (printed (with_outcomes phased outcomes) way lines) (printed (with_outcomes phased outcomes) way' lines)
+        → Begins (printed (with_outcomes phased outcomes) way lines) (printed
+            (with_outcomes phased outcomes) way' lines)
     printed-more outcomes way way' lines is =
         let behavior = with_outcomes phased outcomes in
         let begins = printed_to-more outcomes (λ (w : Way S O). []) refl (λ w w' is. ([], refl)) way way' lines is in (

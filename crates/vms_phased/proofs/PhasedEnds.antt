@@ -1,5 +1,6 @@
 -- The end of a course of a command whose phases have outcomes.
-use Rattle.std.proofs.Common.{◌≡◌, ◌≢◌, ℕ, Bool, true, false, List, [], ◌++◌, inl, inr, Option, Err, Result, refl, sym, ap}
+use Rattle.std.proofs.Common.{◌≡◌, ◌≢◌, ℕ, Bool, true, false, List, [], ◌++◌, inl, inr, Option, Err, Result, refl, sym}
+use Rattle.std.proofs.Common.{ap}
 use Rattle.std.proofs.Common.{subst, ◌∙◌, append-nil, arith}
 use Rattle.std.specs.Io.KnownBytes.{Appends, Consumes, IsAtEnd}
 use Rattle.std.proofs.KnownBytes.{Appends-nil, Appends-trans, Consumes-nil, Consumes-trans}
@@ -41,7 +42,8 @@ module _ {S O : Type 0} (phased : PhasedBehavior S O) (shows : S → Option O �
         subst (LeadsToEnd phased phased.start (outcomes ++ further)) (append-nil (lines_of taken))
         (LeadsThrough-append phased (UsedAtEnd phased) outcomes further [] phased.start outcomes (lines_of taken)
         (subst (Leads phased phased.start outcomes) lines_all is.leads)
-        (ap (halted (with_outcomes phased outcomes) (On phased.start outcomes)) (sym lines_all) ∙ is.is_course.none_halts)
+        (ap (halted (with_outcomes phased outcomes) (On phased.start outcomes)) (sym lines_all)
+            ∙ is.is_course.none_halts)
         (StandsOn-also stands (λ s. UsedAtEnd phased s further)
         (state_after (with_outcomes phased outcomes) (On phased.start outcomes) (lines_of taken)) used
         (subst (λ (lines : List (List ℕ)). StandsOn stands
@@ -79,7 +81,8 @@ module _ {S O : Type 0} (phased : PhasedBehavior S O) (shows : S → Option O �
 
   -- a job that stands with these outcomes left closes as it does with them alone
   pub Closes-with : (stands : S → Type 0) (all further : List O) (ending : Status) (out out' : List ℕ)
-      → ((s : S) → stands s → Closes (with_outcomes phased further) (shown_on phased shows) (On s further) ending out out')
+      → ((s : S) → stands s → Closes (with_outcomes phased further) (shown_on phased shows)
+          (On s further) ending out out')
       → (way : Way S O) → StandsWith stands further way
       → Closes (with_outcomes phased all) (shown_on phased shows) way ending out out'
   Closes-with stands all further ending out out' goes (On s left) here =
@@ -126,7 +129,8 @@ module _ {S O : Type 0} (phased : PhasedBehavior S O) (shows : S → Option O �
           consumes = Consumes-nil (left src);
           appends = Appends-nil (held out);
           answer = record {
-            says = begins (with_outcomes phased []) (shown_on phased shows) [] (IsAtEnd (left src)) [] [] [] [] refl refl
+            says = begins (with_outcomes phased []) (shown_on phased shows) [] (IsAtEnd
+                (left src)) [] [] [] [] refl refl
                 (no_piece (with_outcomes phased []) (shown_on phased shows) [] (omega arith) refl) [] refl;
             leads = inl (Leads-none phased phased.start []);
             whole = tt;
@@ -143,7 +147,8 @@ module _ {S O : Type 0} (phased : PhasedBehavior S O) (shows : S → Option O �
       (consumes : Consumes (left src) (left src') taken) (appends : Appends (held out) (held out') written)
       (none_read : read_faults src' ≡ read_faults src) (none_wrote : write_faults out' ≡ write_faults out) where
     pub AnswersPhased-stopped : (stands : S → Type 0) (course : Course) (stop : Status)
-        → StepsPhased phased stands shows outcomes taken written course made' made'' (left src') (left src'') (held out')
+        → StepsPhased phased stands shows outcomes taken written course made' made'' (left src') (left src'')
+            (held out')
         (held out'') (Err stop)
         → FaultsOfSource left read_faults stop src' src''
         → FaultsOfSink held write_faults stop out' out''
@@ -166,7 +171,8 @@ module _ {S O : Type 0} (phased : PhasedBehavior S O) (shows : S → Option O �
         → FinishesPhased phased shows outcomes taken written made' made'' (held out') (held out'') result
         → status_in result ≢ statuses.ReadFault
         → FaultsOfSink held write_faults (status_in result) out' out''
-        → AnswersPhased phased shows made made'' left read_faults held write_faults src src' out out'' (status_in result)
+        → AnswersPhased phased shows made made'' left read_faults held write_faults src src' out out''
+            (status_in result)
     AnswersPhased-ended result ended ends reads writes = record {
       outcomes = outcomes ++ ends.further;
       grows = Grows-trans made made' made'' outcomes ends.further grows ends.grows;

@@ -1,6 +1,7 @@
 -- What stands where a command whose phases have outcomes stops, and where it goes on.
 use Rattle.std.proofs.Common.{◌≡◌, ℕ, ◌-◌, ◌≤◌, ◌<◌, ◌⊎◌, Bool, true, false, List, [], ◌++◌, length, take, drop}
-use Rattle.std.proofs.Common.{take-append-drop, inl, inr, Option, Some, None, Ok, Err, Result, refl, sym, ap, subst, ◌∙◌}
+use Rattle.std.proofs.Common.{take-append-drop, inl, inr, Option, Some, None, Ok, Err, Result, refl, sym, ap, subst}
+use Rattle.std.proofs.Common.{◌∙◌}
 use Rattle.std.proofs.Common.{append_assoc, append-nil, arith, length-append}
 use Rattle.std.specs.Io.KnownBytes.{Appends, IsAtEnd, Keeps}
 use Rattle.std.proofs.KnownBytes.{Appends-nil, Consumes-nil, Consumes-kept}
@@ -16,7 +17,8 @@ use Rattle.vms_stream.specs.Jobs.{TakesLines}
 use Rattle.vms_stream.specs.Pieces.{whole_lines, partial_line}
 use Rattle.vms_stream.proofs.BehaviorLaws.{printed-append}
 use Rattle.vms_stream.proofs.PieceLines.{lines_counted, lines_counted-within, lines_taken-within}
-use Rattle.vms_stream.proofs.StepOutcomes.{above_written, at_the_end, before_end, begins, begins_at_end, goes_on, judged}
+use Rattle.vms_stream.proofs.StepOutcomes.{above_written, at_the_end, before_end, begins, begins_at_end, goes_on}
+use Rattle.vms_stream.proofs.StepOutcomes.{judged}
 use Rattle.vms_stream.proofs.StepOutcomes.{last_piece, lines_all, no_piece, says_beyond, says_halt}
 use Rattle.vms_stream.proofs.TwoPieces.{lines_of-parts}
 use Rattle.vms_text.specs.Lines.{lines_of}
@@ -28,7 +30,8 @@ use Rattle.vms_phased.specs.Jobs.{Grows, StandsOn, shown_on}
 use Rattle.vms_phased.specs.PhasedAnswers.{LeadsTaken, SaysPhased, asked_of}
 use Rattle.vms_phased.specs.PhasedCourses.{IsPhasedCourse, StepsPhased}
 use Rattle.vms_phased.proofs.LeadingOutcomes.{Leads-end, LeadsThrough-append}
-use Rattle.vms_phased.proofs.LongerWays.{IsWhole-front, IsWhole-of, StandsOn-also, StandsOn-more, StandsOn-on, StandsWith}
+use Rattle.vms_phased.proofs.LongerWays.{IsWhole-front, IsWhole-of, StandsOn-also, StandsOn-more, StandsOn-on}
+use Rattle.vms_phased.proofs.LongerWays.{StandsWith}
 use Rattle.vms_phased.proofs.LongerWays.{TakesLines-start}
 use Rattle.vms_phased.proofs.MoreOutcomes.{printed-start}
 use Rattle.vms_phased.proofs.TakenTexts.{Grows-nil}
@@ -94,7 +97,8 @@ module _ {S O : Type 0} (phased : PhasedBehavior S O) (shows : S → Option O �
             says = begins behavior (shown_on phased shows) taken at_end (whole_lines taken) [] written []
                 (same_taken ∙ sym (append-nil (whole_lines taken))) (append-nil written ∙ now.0.all_written)
                 (no_piece behavior (shown_on phased shows) taken is.is_course.within now.0.none_halts) []
-                (now.0.all_written ∙ sym (append-nil (printed behavior (On phased.start outcomes) (whole_lines taken))));
+                (now.0.all_written ∙ sym (append-nil (printed behavior (On phased.start outcomes)
+                    (whole_lines taken))));
             leads = inl (subst (Leads phased phased.start outcomes) (sym same_taken) leads_now);
             whole = tt;
           })
@@ -141,7 +145,8 @@ module _ {S O : Type 0} (phased : PhasedBehavior S O) (shows : S → Option O �
         text = taken ++ gets.taken
 
         lines_same_all : whole_lines taken ++ lines_held read ≡ lines_counted read.at_end text
-        lines_same_all = lines_all behavior shown (StandsOn stands') taken written course (longer further) isnt read left
+        lines_same_all = lines_all behavior shown (StandsOn stands') taken written course
+            (longer further) isnt read left
             left' gets counted ended waits
 
         there : read.at_end ≡ true → IsAtEnd left' × (length text ≤ most_bytes)
@@ -262,7 +267,8 @@ module _ {S O : Type 0} (phased : PhasedBehavior S O) (shows : S → Option O �
 
           all_judged : TakesLines behavior (StandsOn stands') (On phased.start (outcomes ++ further))
               (lines_counted read.at_end text) halt [] (written ++ total)
-          all_judged = judged behavior shown (StandsOn stands') taken written course (longer further) isnt read left left'
+          all_judged = judged behavior shown (StandsOn stands') taken written course
+              (longer further) isnt read left left'
               gets counted ended waits halt total judges
 
           -- the write failed
@@ -311,7 +317,8 @@ module _ {S O : Type 0} (phased : PhasedBehavior S O) (shows : S → Option O �
               → (made made' : Option (List O)) (sunk sunk' : Option (List ℕ)) (result : Result (Unit {0}) Status)
               → Grows made made' further → Appends sunk sunk' total → StopsAt halt last.taken result
               → StepsPhased phased stands' shows outcomes taken written last made made' left left' sunk sunk' result
-          StepsPhased-judged last same_count same_end nothing_waits held made made' sunk sunk' result grows appends stops =
+          StepsPhased-judged last same_count same_end nothing_waits held made made' sunk sunk' result grows appends
+              stops =
               by halt refl result (subst (λ (n : ℕ). StopsAt halt n result) same_count stops)
             where
               text_count : read.taken ≡ length text
@@ -320,7 +327,8 @@ module _ {S O : Type 0} (phased : PhasedBehavior S O) (shows : S → Option O �
               by : (found : Option Status) → halt ≡ found → (r : Result (Unit {0}) Status) → StopsAt found read.taken r
                   → StepsPhased phased stands' shows outcomes taken written last made made' left left' sunk sunk' r
               by (Some h) is_found r stopped = subst
-                  (λ (r : Result (Unit {0}) Status). StepsPhased phased stands' shows outcomes taken written last made made'
+                  (λ (r : Result (Unit {0}) Status). StepsPhased phased stands' shows outcomes taken written last
+                  made made'
                   left left' sunk sunk' r) (sym stopped) (record {
                     further = further;
                     more = gets.taken;
@@ -345,8 +353,10 @@ module _ {S O : Type 0} (phased : PhasedBehavior S O) (shows : S → Option O �
                 appends = appends;
                 outcome = (
                   record {
-                    is_course = goes_on behavior shown (StandsOn stands') taken written course (longer further) isnt read
-                        left left' gets counted ended waits halt total judges last same_count same_end nothing_waits held
+                    is_course = goes_on behavior shown (StandsOn stands') taken written course
+                        (longer further) isnt read
+                        left left' gets counted ended waits halt total judges last same_count same_end nothing_waits
+                        held
                         is_found within;
                     leads = subst (Leads phased phased.start (outcomes ++ further))
                         (lines_counted-within read.at_end text (subst (λ (n : ℕ). n ≤ most_bytes) text_count within)
@@ -364,7 +374,8 @@ module _ {S O : Type 0} (phased : PhasedBehavior S O) (shows : S → Option O �
                 appends = appends;
                 outcome = subst (λ (s : Status). SaysPhased phased shows (outcomes ++ further) s text
                     (written ++ total) (IsAtEnd left')) (sym beyond.0) (record {
-                      says = says_beyond behavior shown (StandsOn stands') taken written course (longer further) isnt read
+                      says = says_beyond behavior shown (StandsOn stands') taken written course
+                          (longer further) isnt read
                           left left' gets counted ended waits halt total judges read.at_end refl is_found
                           (subst (λ (n : ℕ). most_bytes < n) text_count beyond.1);
                       leads = leads_taken;

@@ -8,7 +8,8 @@ use Rattle.vms_stream.specs.Behaviors.{Behavior, first_halt, halted, last_words,
 use Rattle.vms_stream.specs.Behaviors.{state_after}
 use Rattle.vms_text.specs.Lines.{lines_of}
 use Rattle.vms_phased.specs.PhasedBehaviors.{PhasedBehavior, Way, ending_at, halt_at, last_of_way, next_way, printed_at}
-use Rattle.vms_phased.specs.PhasedBehaviors.{printed_last, supply, way_after, way_halts, way_prints, way_ends, with_outcomes}
+use Rattle.vms_phased.specs.PhasedBehaviors.{printed_last, supply, way_after, way_halts, way_prints, way_ends}
+use Rattle.vms_phased.specs.PhasedBehaviors.{with_outcomes}
 use Rattle.vms_phased.specs.PhasedBehaviors.Way.{On}
 use Rattle.vms_phased.specs.Jobs.{shown_on, shown_with}
 use Rattle.vms_phased.specs.Plain.{MakesNoPhase, plain}

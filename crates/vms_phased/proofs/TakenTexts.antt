@@ -1,5 +1,6 @@
 -- A job that takes the lines of a text one after another.
-use Rattle.std.proofs.Common.{◌≡◌, ℕ, List, [], ◌∷◌, ◌++◌, Option, Some, None, Ok, Err, Result, refl, sym, ap, subst, ◌∙◌}
+use Rattle.std.proofs.Common.{◌≡◌, ℕ, List, [], ◌∷◌, ◌++◌, Option, Some, None, Ok, Err, Result, refl, sym, ap, subst}
+use Rattle.std.proofs.Common.{◌∙◌}
 use Rattle.std.proofs.Common.{append_assoc, append-nil}
 use Rattle.std.specs.Io.KnownBytes.{Appends}
 use Rattle.std.proofs.KnownBytes.{Appends-nil, Appends-trans}
@@ -75,7 +76,8 @@ module _ {S O E : Type 0} (phased : PhasedBehavior S O) where
 
     -- the front of what waits is written
     pub TakesText-moved : (held'' : Option (List ℕ)) (front back : List ℕ) → out' ≡ front ++ back
-        → Appends held' held'' front → TakesText {E = E} phased stands now made made' above (Ok None) out back held held''
+        → Appends held' held'' front → TakesText {E = E} phased stands now made made' above
+            (Ok None) out back held held''
     TakesText-moved held'' front back parts appends = record {
       outcomes = took.outcomes;
       moved = took.moved ++ front;
@@ -136,9 +138,11 @@ module _ {S O E : Type 0} (phased : PhasedBehavior S O) where
           TakesLines-both longer (StandsOn next) way above (line ∷ []) (above ++ line ∷ []) halt out
           (took.moved ++ out') (took.moved ++ out'') after.0
           ((took.goes s here).prints ∙ ap (λ (bytes : List ℕ). out ++ bytes) (sym after.1)) refl
-          (TakesLines-front phased (StandsOn next) (took.outcomes ++ more) (state_after longer way above) (line ∷ []) halt
+          (TakesLines-front phased (StandsOn next) (took.outcomes ++ more) (state_after longer way above)
+              (line ∷ []) halt
           took.moved out' out''
-          (TakesLines-start phased (StandsOn next) more (took.outcomes ++ more) (state_after longer way above) (line ∷ [])
+          (TakesLines-start phased (StandsOn next) more (took.outcomes ++ more) (state_after longer way above)
+              (line ∷ [])
           halt out' out''
           (by (state_after longer way above) after.2)));
       fails = tt;
@@ -156,7 +160,8 @@ module _ {S O E : Type 0} (phased : PhasedBehavior S O) where
         (result : Result (Option Status) F) (found halt : Option Status) (out'' : List ℕ) → result ≡ Ok found
         → found ≡ halt → TakesPhased {E = F} phased now next made' made'' line result out' out''
         → TakesText {E = E} phased stands next made made'' (above ++ line ∷ []) (Ok halt) out out'' held held'
-    TakesText-line {F} next made'' line result found halt out'' is_ok is_found took_line = taken_line next made'' line halt
+    TakesText-line {F} next made'' line result found halt out'' is_ok is_found took_line = taken_line next made''
+        line halt
         out'' (subst (λ (r : Result (Option Status) F). TakesPhased phased now next made' made'' line r out' out'')
         (is_ok ∙ ap Ok is_found) took_line)
 

@@ -5,15 +5,18 @@ use Rattle.std.proofs.lemmas.Grind.{flat_map-append}
 use Rattle.vms_stream.specs.declared.statuses.Status.{Status}
 use Rattle.vms_stream.specs.declared.statuses.Status.TheVariants.{Header}
 use Rattle.vms_stream.specs.Behaviors.{output, printed, printed_from, state_after}
-use Rattle.vms_phased.specs.PhasedBehaviors.{PhasedBehavior, Supply, Way, halt_at, last_of_way, printed_at, printed_last}
+use Rattle.vms_phased.specs.PhasedBehaviors.{PhasedBehavior, Supply, Way, halt_at, last_of_way, printed_at}
+use Rattle.vms_phased.specs.PhasedBehaviors.{printed_last}
 use Rattle.vms_phased.specs.PhasedBehaviors.{next_way, supply, way_after, with_outcomes}
 use Rattle.vms_phased.specs.PhasedBehaviors.Supply.{Gives, Lacks}
 use Rattle.vms_phased.specs.PhasedBehaviors.Way.{On, Short}
 use Rattle.vms_phased.specs.Leading.{AllUsed, Leads, LeadsThrough, LeadsToEnd, UsedAtEnd, leads_on, none_after}
-use Rattle.vms_phased.specs.Waiting.{LineTexts, Text, Waiting, ends_at, printed_now, printed_with, spelled, unless_stopped}
+use Rattle.vms_phased.specs.Waiting.{LineTexts, Text, Waiting, ends_at, printed_now, printed_with, spelled}
+use Rattle.vms_phased.specs.Waiting.{unless_stopped}
 use Rattle.vms_phased.specs.Waiting.{IsAsking, waiting, waits_after, waits_with}
 use Rattle.vms_phased.specs.Waiting.Text.{Plain, Asks}
-use Rattle.vms_phased.specs.Orders.{AsksInside, input_in_order, last_in_order, lines_in_order, text_then, texts_in_order}
+use Rattle.vms_phased.specs.Orders.{AsksInside, input_in_order, last_in_order, lines_in_order, text_then}
+use Rattle.vms_phased.specs.Orders.{texts_in_order}
 use Rattle.vms_phased.specs.Laws.{HoldsBackNothing}
 use Rattle.vms_phased.proofs.MoreOutcomes.{printed_to, printed_to-printed, printed_to-short, printed_to-words}
 

@@ -1,4 +1,5 @@
--- What a job does at a line and at the end of its input, by its behavior and by the outcomes of the phases that it made.
+-- What a job does at a line and at the end of its input, by its behavior and by the outcomes of the phases that it
+-- made.
 use Rattle.std.specs.Prelude.{◌≡◌, ℕ, List, [], ◌∷◌, ◌++◌, Option, Some, None, Result, IfOk}
 use Rattle.vms_stream.specs.declared.statuses.Status.{Status}
 use Rattle.vms_stream.specs.Jobs.{Closes, TakesLines}

@@ -34,7 +34,8 @@ LongerOutcomes {S} {O} phased =
 -- from the same way on, the outcomes that two such behaviors started with make no difference
 pub record AgreesFrom {S O : Type 0} (phased : PhasedBehavior S O) (outcomes others : List O) (way : Way S O)
     (lines : List (List ℕ)) : Type 0 where
-  pub state : state_after (with_outcomes phased outcomes) way lines ≡ state_after (with_outcomes phased others) way lines
+  pub state : state_after (with_outcomes phased outcomes) way lines
+      ≡ state_after (with_outcomes phased others) way lines
   pub halt : halted (with_outcomes phased outcomes) way lines ≡ halted (with_outcomes phased others) way lines
   pub prints : printed (with_outcomes phased outcomes) way lines ≡ printed (with_outcomes phased others) way lines
 

@@ -10,8 +10,8 @@ use Rattle.vms_phased.specs.Ways.{IsWhole}
 use Rattle.vms_phased.specs.Leading.{Leads, LeadsToEnd}
 use Rattle.vms_phased.specs.Jobs.{Grows, shown_on}
 
--- the outcomes lead through the lines that were taken: the whole lines that count, or at the end of the input all, where
--- a phase may end too
+-- the outcomes lead through the lines that were taken: the whole lines that count, or at the end of the input all,
+-- where a phase may end too
 abbrev pub LeadsTaken : {S O : Type 0} → PhasedBehavior S O → List O → List ℕ → Type 0 → Type 0
 LeadsTaken phased outcomes taken at_end =
     Leads phased phased.start outcomes (lines_taken taken)

@@ -49,8 +49,8 @@ unless_stopped (Some halt) ends = false
 abbrev pub ends_at : {S O : Type 0} → LineTexts S O → S → List ℕ → Bool
 ends_at texts s line = unless_stopped (texts.halts s line) (texts.ends_phase s line)
 
--- between two lines of the command: its state, and the texts that wait for the outcome of the open phase, or stand after
--- one that waits
+-- between two lines of the command: its state, and the texts that wait for the outcome of the open phase, or stand
+-- after one that waits
 pub record Waiting (S O : Type 0) : Type 0 where
   pub state : S
   pub waits : List (Text O)

@@ -294,7 +294,8 @@ module _ {S : Type 0} (behavior : Behavior S) (shows : S → Type 0) where
             text_count : read.taken ≡ length text
             text_count = read_count ∙ sym (length-append taken more)
 
-            pub goes_on : halt ≡ None → read.taken ≤ most_bytes → IsCourse behavior stands' text (written ++ waiting) last
+            pub goes_on : halt ≡ None → read.taken ≤ most_bytes
+                → IsCourse behavior stands' text (written ++ waiting) last
             goes_on none within =
                 let fits : length text ≤ most_bytes = subst (λ (n : ℕ). n ≤ most_bytes) text_count within in
                 let same : lines_counted read.at_end text ≡ lines_judged last.at_end text
@@ -319,7 +320,8 @@ module _ {S : Type 0} (behavior : Behavior S) (shows : S → Type 0) where
                 by halt refl result (subst (λ (n : ℕ). StopsAt halt n result) same_count stops)
               where
                 by : (found : Option Status) → halt ≡ found → (r : Result (Unit {0}) Status)
-                    → StopsAt found read.taken r → Steps behavior stands' shows taken written last left left' sunk sunk' r
+                    → StopsAt found read.taken r
+                        → Steps behavior stands' shows taken written last left left' sunk sunk' r
                 by (Some h) is_found r stopped = subst
                     (λ (r : Result (Unit {0}) Status). Steps behavior stands' shows taken written last left left' sunk
                     sunk'

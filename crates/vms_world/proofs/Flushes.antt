@@ -55,7 +55,8 @@ module _ (shape : Shape) (layout : IsLayout shape) (s : State) (shaped : HasShap
       → diff_at next c k ≡ (if is_online (cpu_at s c) then pos 0 else diff_at s c k)
   diff-flushed c k c_in k_in =
       rw (length-listed (λ k. value_at s k +ℤ folded_of shape s k) (counter_count shape))
-      (get_or-listed_by_cpu (λ c k. if is_online (cpu_at s c) then pos 0 else diff_at s c k) shape.cpus (counter_count shape)
+      (get_or-listed_by_cpu (λ c k. if is_online (cpu_at s c) then pos 0 else diff_at s c k) shape.cpus
+          (counter_count shape)
       c k (pos 0) c_in k_in)
 
   -- each differential is folded or stays

@@ -26,7 +26,8 @@ module _ {X : Type 0} (f : ℕ → ℕ → X) (cpus width : ℕ) where
   pub length-listed_by_cpu : length (listed_by_cpu f cpus width) ≡ cpus * width
   length-listed_by_cpu = length-listed (λ n. f (n / width) (n % width)) (cpus * width)
 
-  pub get_or-listed_by_cpu : (c k : ℕ) (d : X) → c < cpus → k < width → get_or (listed_by_cpu f cpus width) (cell width c k) d ≡ f c k
+  pub get_or-listed_by_cpu : (c k : ℕ) (d : X) → c < cpus → k < width
+      → get_or (listed_by_cpu f cpus width) (cell width c k) d ≡ f c k
   get_or-listed_by_cpu c k d c_in k_in =
       get_or-listed (λ n. f (n / width) (n % width)) (cpus * width) (cell width c k) d
       (cell-lt width cpus c k c_in k_in)

@@ -38,7 +38,8 @@ abbrev pub flushed_pages : Shape → State → State
 flushed_pages shape s = record s {
   place = listed (λ k. value_at s k +ℤ folded_of shape s k) (counter_count shape);
   system = listed (λ i. system_at s i +ℤ folded_of_item shape s i) (item_count shape);
-  diff = listed_by_cpu (λ c k. if is_online (cpu_at s c) then pos 0 else diff_at s c k) shape.cpus (counter_count shape);
+  diff = listed_by_cpu (λ c k. if is_online (cpu_at s c) then pos 0 else diff_at s c k) shape.cpus
+      (counter_count shape);
 }
 
 abbrev pub flushed : Shape → World → World

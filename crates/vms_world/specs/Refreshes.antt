@@ -38,7 +38,8 @@ place_threshold shape zones g =
 -- the online CPUs get these thresholds of the zones, and of the nodes by them; those of other CPUs stay
 abbrev pub with_thresholds : Shape → List ℕ → State → State
 with_thresholds shape zones s = record s {
-  threshold = listed_by_cpu (λ c g. if is_online (cpu_at s c) then place_threshold shape zones g else threshold_at s c g)
+  threshold = listed_by_cpu
+      (λ c g. if is_online (cpu_at s c) then place_threshold shape zones g else threshold_at s c g)
       shape.cpus (place_count shape);
 }
 

@@ -14,7 +14,8 @@ returns-in_err-ending-clause-finishes g c = λ outcomes taken written is.
     let phased = g.J.PhasedJob.behavior in
     let shows = g.J.PhasedJob.Shows in
     let further = c.end.ensures.outcomes in
-    rw p.1 (FinishesPhased-of phased shows outcomes taken written c.args.course.now is c.requires.at_end further _ _ _ _ _
+    rw p.1 (FinishesPhased-of phased shows outcomes taken written c.args.course.now is c.requires.at_end further _ _
+    _ _ _
     c.end.ensures.grows c.end.ensures.leads
     (Finishes-unended (with_outcomes phased (outcomes ++ further)) (shown_on phased shows) taken written
     c.args.course.now (longer phased shows outcomes taken written c.args.course.now is further) c.requires.at_end _ p.0
