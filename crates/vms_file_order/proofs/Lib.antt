@@ -1,0 +1,5 @@
+pub mod LaneLists
+pub mod Openings
+pub mod Closings
+pub mod FollowedLines
+pub mod PhasesInOrder

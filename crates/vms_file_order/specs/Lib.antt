@@ -1,0 +1,4 @@
+pub mod LanePasses
+pub mod FileOrder
+pub mod Tables
+pub mod PhaseOrder

@@ -1,0 +1,47 @@
+-- What the three tables say of passes and of steps that meet no other caller.
+use Rattle.std.specs.Prelude.{refl}
+use Rattle.vms_core.specs.Steps as page_steps
+use Rattle.vms_core.specs.declared.steps.Step.{Step}
+use Rattle.vms_core.specs.declared.steps.Step.TheVariants as page
+use Rattle.vms_event_core.specs.Steps as event_steps
+use Rattle.vms_event_core.specs.declared.steps.EventStep.{EventStep}
+use Rattle.vms_event_core.specs.declared.steps.EventStep.TheVariants as event
+use Rattle.vms_pcpu_core.specs.Steps as pcpu_steps
+use Rattle.vms_pcpu_core.specs.declared.steps.PcpuStep.{PcpuStep}
+use Rattle.vms_pcpu_core.specs.declared.steps.PcpuStep.TheVariants as percpu
+use Rattle.vms_pcpu_core.specs.declared.steps.PcpuStep.TheVariants.{Missed}
+use Rattle.vms_file_order.specs.LanePasses.{PassSteps}
+
+-- in each table a Split begins a pass and a Join ends one
+abbrev pub page_passes : PassSteps Step page_steps.role
+page_passes = record {
+  begin = λ q who. page.Split q who;
+  end = λ q. page.Join q;
+  begins = λ q who. refl;
+  ends = λ q. refl;
+}
+
+abbrev pub event_passes : PassSteps EventStep event_steps.role
+event_passes = record {
+  begin = λ q who. event.Split q who;
+  end = λ q. event.Join q;
+  begins = λ q who. refl;
+  ends = λ q. refl;
+}
+
+abbrev pub pcpu_passes : PassSteps PcpuStep pcpu_steps.role
+pcpu_passes = record {
+  begin = λ q who. percpu.Split q who;
+  end = λ q. percpu.Join q;
+  begins = λ q who. refl;
+  ends = λ q. refl;
+}
+
+-- a step on the percpu counters that didn't find a lock held
+abbrev pub FindsLockFree : PcpuStep → Type 0
+FindsLockFree (Missed j) = ⊥
+FindsLockFree _ = Unit {0}
+
+-- on the event counters no step meets another caller
+abbrev pub MeetsNobody : EventStep → Type 0
+MeetsNobody step = Unit {0}

@@ -1,0 +1,16 @@
+//! Phases in file order: the passes of the lanes with lines begin, the lines follow one another and meet no other
+//! caller, and the passes end. What such a history is stands here once for every table, and then for the three
+//! together.
+#![tactic(auto)]
+
+mod lanes;
+mod orders;
+mod phases;
+mod tables;
+
+pub use lanes::lanes_stand_once;
+pub use orders::{
+    closings_complete_phases, lines_stand_in_order, openings_stand, orders_make_their_lines,
+};
+pub use phases::{orders_are_phases, orders_keep_laws, orders_meet_nobody};
+pub use tables::{EventLines, LineTable, PageLines, PcpuLines};

@@ -1,0 +1,137 @@
+ghost use Rattle.std.specs.Prelude.{ℕ, List, [], refl};
+ghost use Rattle.vms_base.specs.declared.headers.Header.{Header};
+ghost use Rattle.vms_core.specs.declared.states.State.{State};
+ghost use Rattle.vms_core.specs.Pages.{pages};
+ghost use Rattle.vms_core.specs.Quiet.{quiet_pages};
+ghost use Rattle.vms_event_core.specs.declared.states.EventState.{EventState};
+ghost use Rattle.vms_event_core.specs.declared.steps.EventFacts.{EventFacts as event_setting};
+ghost use Rattle.vms_event_core.specs.Events.{events};
+ghost use Rattle.vms_event_core.specs.Quiet.{quiet_events};
+ghost use Rattle.vms_history.specs.declared.events.Event.{Event};
+ghost use Rattle.vms_history.specs.Legal.{Machine, IsQuiet};
+ghost use Rattle.vms_pcpu_core.specs.declared.steps.PcpuFacts.{PcpuFacts as pcpu_setting};
+ghost use Rattle.vms_pcpu_core.specs.Histories.{percpu};
+ghost use Rattle.vms_pcpu_core.specs.Quiet.{quiet_percpu};
+ghost use Rattle.vms_pcpu_core.specs.States.{LockedState};
+ghost use Rattle.vms_calls.specs.Changes.{HasWon};
+ghost use Rattle.vms_text.specs.declared.acts.Act.{Act};
+ghost use Rattle.vms_text.specs.declared.acts.Lane.{Lane};
+ghost use Rattle.vms_world.specs.Acts.{PageSteps, EventSteps, PcpuSteps};
+ghost use Rattle.vms_file_order.specs.LanePasses.{PassSteps};
+ghost use Rattle.vms_file_order.specs.Tables.{page_passes, event_passes, pcpu_passes, FindsLockFree, MeetsNobody};
+
+use std::marker::PhantomData;
+use vms_calls::ThresholdRules;
+use vms_core::{Facts, Step};
+use vms_event_core::{EventFacts, EventStep};
+use vms_pcpu_core::{PcpuFacts, PcpuStep};
+
+/// A table in which the lines of a phase follow one another.
+pub trait LineTable {
+    /// What is known of the table from the start.
+    type Facts;
+
+    /// One atomic operation.
+    type Step;
+
+    ghost State: { Type 0 };
+
+    // What a phase tells of its lines, beside the lines.
+    ghost Setting: { Type 0 };
+
+    ghost machine: { Machine Self.Facts Self.Step State };
+
+    ghost quiet: { IsQuiet machine };
+
+    // The steps that begin and end a pass.
+    ghost passes: { PassSteps Self.Step machine.role };
+
+    // A pass that has made nothing may end.
+    ghost fresh: { (facts : Self.Facts) → machine.MayEnd facts [] };
+
+    // The steps that an act may make, by a lane's pass of this number, where it begins in a history.
+    ghost makes: { Setting → Lane → ℕ → Act → List (Event Self.Step) → List Self.Step → Type 0 };
+
+    // What each step of a caller is that meets no other.
+    ghost IsAlone: { Self.Step → Type 0 };
+}
+
+/// The lines of a phase on the page counters, with rules of thresholds.
+#[derive(Debug, Drop)]
+pub struct PageLines<R: ThresholdRules> {
+    rules: PhantomData<R>,
+}
+
+impl<R: ThresholdRules> LineTable for PageLines<R> {
+    type Facts = Facts;
+
+    type Step = Step;
+
+    ghost State = { State };
+
+    ghost Setting = { Header × State };
+
+    ghost machine = { pages };
+
+    ghost quiet = { quiet_pages };
+
+    ghost passes = { page_passes };
+
+    ghost fresh = { λ facts. record { counters = λ k. refl; items = λ i. refl } };
+
+    ghost makes = { λ setting. PageSteps setting.0 setting.1 R.pressure R.normal };
+
+    ghost IsAlone = { HasWon };
+}
+
+/// The lines of a phase on the event counters.
+#[derive(Debug, Drop)]
+pub struct EventLines;
+
+impl LineTable for EventLines {
+    type Facts = EventFacts;
+
+    type Step = EventStep;
+
+    ghost State = { EventState };
+
+    ghost Setting = { event_setting };
+
+    ghost machine = { events };
+
+    ghost quiet = { quiet_events };
+
+    ghost passes = { event_passes };
+
+    ghost fresh = { λ facts k known. refl };
+
+    ghost makes = { λ facts lane p act h. EventSteps facts lane act };
+
+    ghost IsAlone = { MeetsNobody };
+}
+
+/// The lines of a phase on the percpu counters.
+#[derive(Debug, Drop)]
+pub struct PcpuLines;
+
+impl LineTable for PcpuLines {
+    type Facts = PcpuFacts;
+
+    type Step = PcpuStep;
+
+    ghost State = { LockedState };
+
+    ghost Setting = { pcpu_setting };
+
+    ghost machine = { percpu };
+
+    ghost quiet = { quiet_percpu };
+
+    ghost passes = { pcpu_passes };
+
+    ghost fresh = { λ facts j known. refl };
+
+    ghost makes = { λ facts lane p act h. PcpuSteps facts lane act };
+
+    ghost IsAlone = { FindsLockFree };
+}
