@@ -3,3 +3,9 @@ pub mod Openings
 pub mod Closings
 pub mod FollowedLines
 pub mod PhasesInOrder
+pub mod OnePass
+pub mod ActSums
+pub mod PageVolumes
+pub mod EventVolumes
+pub mod PcpuVolumes
+pub mod PhaseVolumes

@@ -7,6 +7,7 @@ mod lanes;
 mod orders;
 mod phases;
 mod tables;
+mod volumes;
 
 pub use lanes::lanes_stand_once;
 pub use orders::{
@@ -14,3 +15,4 @@ pub use orders::{
 };
 pub use phases::{orders_are_phases, orders_keep_laws, orders_meet_nobody};
 pub use tables::{EventLines, LineTable, PageLines, PcpuLines};
+pub use volumes::{fitting_lines_stay_within_volumes, phases_spend_their_lines};

@@ -1,0 +1,6 @@
+-- Volumes after lines, line by line.
+use Rattle.vms_file_order.proofs.PhaseVolumes.{CoversVolumes-left, StayWithinVolumes-fitting}
+use Rattle.vms_file_order.proofs.volumes.fitting_lines_stay_within_volumes.Goals as goal
+
+pub returns : goal.returns
+returns c = record { within = StayWithinVolumes-fitting; covers = CoversVolumes-left }

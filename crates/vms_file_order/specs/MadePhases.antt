@@ -1,0 +1,26 @@
+-- Histories that make the lines of a phase, whether in file order or not.
+use Rattle.std.specs.Prelude.{ℕ, List}
+use Rattle.vms_base.specs.declared.headers.Header.{Header}
+use Rattle.vms_base.specs.declared.kinds.ZoneSize.{ZoneSize}
+use Rattle.vms_core.specs.Steps as page_steps
+use Rattle.vms_event_core.specs.Steps as event_steps
+use Rattle.vms_pcpu_core.specs.Steps as pcpu_steps
+use Rattle.vms_text.specs.declared.acts.Item.{Item}
+use Rattle.vms_world.specs.declared.worlds.World.{World}
+use Rattle.vms_world.specs.Acts.{PageSteps, EventSteps, PcpuSteps}
+use Rattle.vms_world.specs.Lanes.{HasLanes, MakesLines, lanes_of}
+use Rattle.vms_world.specs.Phases.{AreComplete, Histories}
+use Rattle.vms_world.specs.Worlds.{event_facts, pcpu_facts}
+
+-- these histories make a phase of these lines from this world, whatever they spend and leave
+pub record MakePhase (header : Header) (pressure normal : ZoneSize → ℕ → ℕ → Type 0) (w : World) (items : List Item)
+    (hs : Histories) : Type 0 where
+  pub complete : AreComplete header w hs
+  pub page_lanes : HasLanes page_steps.role (lanes_of header.layout items) hs.pages
+  pub event_lanes : HasLanes event_steps.role (lanes_of header.layout items) hs.events
+  pub pcpu_lanes : HasLanes pcpu_steps.role (lanes_of header.layout items) hs.counters
+  pub page_lines : MakesLines (PageSteps header w.pages pressure normal) (lanes_of header.layout items) items hs.pages
+  pub event_lines : MakesLines (λ lane p act h. EventSteps (event_facts header w) lane act)
+      (lanes_of header.layout items) items hs.events
+  pub pcpu_lines : MakesLines (λ lane p act h. PcpuSteps (pcpu_facts header w) lane act)
+      (lanes_of header.layout items) items hs.counters
