@@ -9,3 +9,5 @@ pub mod PageVolumes
 pub mod EventVolumes
 pub mod PcpuVolumes
 pub mod PhaseVolumes
+pub mod MadeActs
+pub mod BuriedCpus

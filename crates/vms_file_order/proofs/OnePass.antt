@@ -40,7 +40,7 @@ is_owner-self : (c : CpuId) → is_owner (Some c) c.number ≡ true
 is_owner-self c = grind (arith, nat_tests)
 
 -- a lane without a line has no act
-acts_of-none : (lane : Lane) (items : List Item) → has_line lane items ≡ false → acts_of lane items ≡ []
+pub acts_of-none : (lane : Lane) (items : List Item) → has_line lane items ≡ false → acts_of lane items ≡ []
 acts_of-none lane [] none = refl
 acts_of-none lane (item ∷ items) none =
     by (λ i. i.act) (filter (λ i. is_lane i.lane lane) items) (is_lane item.lane lane) none (acts_of-none lane items)

@@ -10,15 +10,32 @@ use Rattle.vms_world.specs.Acts.{PageSteps, EventSteps, PcpuSteps}
 use Rattle.vms_world.specs.PhaseLines.{IsWorldPhase}
 use Rattle.vms_world.specs.Phases.{Histories, LeavesNothing, StayWithinVolumes, left_by}
 use Rattle.vms_world.specs.Worlds.{event_facts, pcpu_facts}
+use Rattle.vms_file_order.specs.MadePhases.{MakePhase}
 use Rattle.vms_file_order.specs.PhaseOrder.{IsFileOrderPhase}
 use Rattle.vms_file_order.specs.Tables.{page_passes, event_passes, pcpu_passes, FindsLockFree, MeetsNobody}
 use Rattle.vms_file_order.proofs.FollowedLines.{All-in_order, HasLanes-in_order, MakesLines-in_order}
 
+pub IsWorldPhase-made : (pressure normal : ZoneSize → ℕ → ℕ → Type 0) (header : Header) (w : World) (items : List Item)
+    (hs : Histories) → MakePhase header pressure normal w items hs → StayWithinVolumes header w hs
+    → LeavesNothing header (left_by header w hs)
+    → IsWorldPhase header pressure normal w items hs (left_by header w hs)
+IsWorldPhase-made pressure normal header w items hs phase within nothing = record {
+  complete = phase.complete;
+  page_lanes = phase.page_lanes;
+  event_lanes = phase.event_lanes;
+  pcpu_lanes = phase.pcpu_lanes;
+  page_lines = phase.page_lines;
+  event_lines = phase.event_lines;
+  pcpu_lines = phase.pcpu_lines;
+  volumes = within;
+  buried = nothing;
+  left = refl;
+}
+
 module _ (header : Header) (pressure normal : ZoneSize → ℕ → ℕ → Type 0) (w : World) (items : List Item)
     (hs : Histories) (order : IsFileOrderPhase header pressure normal w items hs) where
-  pub IsWorldPhase-in_order : StayWithinVolumes header w hs → LeavesNothing header (left_by header w hs)
-      → IsWorldPhase header pressure normal w items hs (left_by header w hs)
-  IsWorldPhase-in_order within nothing = record {
+  pub MakePhase-in_order : MakePhase header pressure normal w items hs
+  MakePhase-in_order = record {
     complete = order.complete;
     page_lanes = HasLanes-in_order page_passes (PageSteps header w.pages pressure normal) HasWon header.layout items
         hs.pages order.page_order;
@@ -32,9 +49,6 @@ module _ (header : Header) (pressure normal : ZoneSize → ℕ → ℕ → Type 
         MeetsNobody header.layout items hs.events order.event_order;
     pcpu_lines = MakesLines-in_order pcpu_passes (λ lane p act h. PcpuSteps (pcpu_facts header w) lane act)
         FindsLockFree header.layout items hs.counters order.pcpu_order;
-    volumes = within;
-    buried = nothing;
-    left = refl;
   }
 
   pub pages-met_nobody : All (λ e. HasWon e.step) hs.pages

@@ -4,3 +4,4 @@ pub mod Tables
 pub mod PhaseOrder
 pub mod MadePhases
 pub mod PhaseVolumes
+pub mod Burials

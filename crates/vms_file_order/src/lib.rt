@@ -3,16 +3,20 @@
 //! together.
 #![tactic(auto)]
 
+mod burials;
 mod lanes;
 mod orders;
 mod phases;
 mod tables;
 mod volumes;
 
+pub use burials::burials_leave_nothing;
 pub use lanes::lanes_stand_once;
 pub use orders::{
     closings_complete_phases, lines_stand_in_order, openings_stand, orders_make_their_lines,
 };
-pub use phases::{orders_are_phases, orders_keep_laws, orders_meet_nobody};
+pub use phases::{
+    made_phases_are_phases, orders_are_phases, orders_meet_nobody, phases_keep_all_laws,
+};
 pub use tables::{EventLines, LineTable, PageLines, PcpuLines};
 pub use volumes::{fitting_lines_stay_within_volumes, phases_spend_their_lines};

@@ -1,7 +1,13 @@
--- The three histories of a phase in file order are a phase of its lines.
-use Rattle.vms_file_order.proofs.PhasesInOrder.{IsWorldPhase-in_order}
+-- The three histories of a phase in file order make its lines.
+use Rattle.vms_file_order.proofs.PhasesInOrder.{IsWorldPhase-made, MakePhase-in_order}
 use Rattle.vms_file_order.proofs.phases.orders_are_phases.Goals as goal
 
 pub returns : goal.returns
-returns g c header w items hs order within nothing = IsWorldPhase-in_order header g.R.ThresholdRules.pressure
-    g.R.ThresholdRules.normal w items hs order within nothing
+returns g c =
+    let pressure = g.R.ThresholdRules.pressure in
+    let normal = g.R.ThresholdRules.normal in
+    record {
+      makes = λ header w items hs order. MakePhase-in_order header pressure normal w items hs order;
+      phase = λ header w items hs order within nothing. IsWorldPhase-made pressure normal header w items hs
+          (MakePhase-in_order header pressure normal w items hs order) within nothing;
+    }

@@ -4,7 +4,7 @@ use Rattle.vms_core.specs.Pages as pages
 use Rattle.vms_event_core.specs.Events as events
 use Rattle.vms_pcpu_core.specs.Histories as percpu
 use Rattle.vms_world.specs.Worlds.{page_facts, event_facts, pcpu_facts}
-use Rattle.vms_file_order.proofs.phases.orders_keep_laws.Goals as goal
+use Rattle.vms_file_order.proofs.phases.phases_keep_all_laws.Goals as goal
 
 pub returns : goal.returns
 returns c header w hs complete = record {

@@ -1,0 +1,222 @@
+-- A CPU that a line has buried has nothing left in the tables of events and of percpu counters.
+use Rattle.std.proofs.Common.{◌≡◌, ◌≢◌, ℕ, zero, suc, ◌+◌, ◌<◌, nat_eq, ◌&&◌, Bool, true, false, pos, List, [], ◌∷◌, ◌++◌}
+use Rattle.std.proofs.Common.{length, Option, Some, None, inl, inr, ◌⊎◌, refl, sym, ap, subst, ◌∙◌, arith, append_assoc}
+use Rattle.std.proofs.Common.{if◌then◌else◌}
+use Rattle.std.specs.List.{Contains}
+use Rattle.std.proofs.lemmas.Bool.Decides.{nat_tests}
+use Rattle.vms_base.specs.declared.headers.Header.{Header}
+use Rattle.vms_base.specs.declared.ids.CpuId.{CpuId}
+use Rattle.vms_base.specs.declared.kinds.CpuState.TheVariants.{Online, Dead as IsDead, Absent}
+use Rattle.vms_base.specs.declared.kinds.ZoneSize.{ZoneSize}
+use Rattle.vms_base.specs.Places.{IsCpu}
+use Rattle.vms_history.specs.declared.events.Event.{Event}
+use Rattle.vms_history.specs.Passes.{owner_in}
+use Rattle.vms_core.specs.Cells.{cpu_at}
+use Rattle.vms_history.proofs.Prefixes.{prefix_is_legal}
+use Rattle.vms_event_core.specs.declared.steps.EventFacts.{EventFacts}
+use Rattle.vms_event_core.specs.declared.steps.EventStep.{EventStep}
+use Rattle.vms_event_core.specs.declared.steps.EventStep.TheVariants.{TakeE, AddF}
+use Rattle.vms_event_core.specs.Bases as event_bases
+use Rattle.vms_event_core.specs.Calls.{folds, moves}
+use Rattle.vms_event_core.specs.Events as events
+use Rattle.vms_event_core.specs.Laws as event_laws
+use Rattle.vms_event_core.specs.Steps as event_steps
+use Rattle.vms_event_core.specs.Totals.{word_after, word_in}
+use Rattle.vms_event_core.specs.Words.{IsEvent, word_at}
+use Rattle.vms_event_core.proofs.StateWords.{word_at-state_after}
+use Rattle.vms_pcpu_core.specs.Histories as percpu
+use Rattle.vms_pcpu_core.specs.Laws.{numbers_after}
+use Rattle.vms_pcpu_core.specs.States.{IsPcpu, counters_of, local_at}
+use Rattle.vms_pcpu_core.proofs.AllLaws.{laws-kept}
+use Rattle.vms_pcpu_core.proofs.FoldedCpus.{folded-none}
+use Rattle.vms_pcpu_core.proofs.Shapes.{HasShape-state_after}
+use Rattle.vms_text.specs.declared.acts.Act.{Act}
+use Rattle.vms_text.specs.declared.acts.Act.TheVariants.{Dead}
+use Rattle.vms_text.specs.declared.acts.Item.{Item}
+use Rattle.vms_text.specs.declared.acts.Lane.{Lane}
+use Rattle.vms_text.specs.declared.acts.Lane.TheVariants.{Control}
+use Rattle.vms_world.specs.declared.worlds.World.{World}
+use Rattle.vms_world.specs.Acts.{EventSteps, PcpuSteps}
+use Rattle.vms_world.specs.Lanes.{MakesActs, MakesLines, acts_of, has_line, is_among, lanes_of}
+use Rattle.vms_world.specs.Phases.{Histories, LeavesNothing, left_by}
+use Rattle.vms_world.specs.Worlds.{event_facts, pcpu_facts}
+use Rattle.vms_file_order.specs.Burials.{AbsentAreBuried}
+use Rattle.vms_file_order.specs.LanePasses.{pass_of}
+use Rattle.vms_file_order.specs.MadePhases.{MakePhase}
+use Rattle.vms_file_order.proofs.LaneLists.{among-lanes, lane_at-pass_of, pass_of-least, pass_of-most}
+use Rattle.vms_file_order.proofs.MadeActs.{MadeAct, each-made, step-made}
+use Rattle.vms_file_order.proofs.OnePass.{acts_of-none}
+
+-- a fold of the events from `least` on takes the word of each
+record Takes (from into : CpuId) (least k : ℕ) (found : List ℕ) : Type 0 where
+  pub first : List EventStep
+  pub word : ℕ
+  pub last : List EventStep
+  pub parts : folds from into least found ≡ first ++ (TakeE from (record { number = k }) word ∷ last)
+
+folds-take : (from into : CpuId) (least k i : ℕ) (found : List ℕ) → k ≡ least + i → i < length found
+    → Takes from into least k found
+folds-take from into least k i [] is below = absurd (omega arith)
+folds-take from into least k zero (v ∷ found) is below = by v
+  where
+    here : k ≡ least
+    here = omega arith
+
+    by : (v : ℕ) → Takes from into least k (v ∷ found)
+    by zero = record {
+      first = [];
+      word = 0;
+      last = folds from into (suc least) found;
+      parts = ap (λ n. TakeE from (record { number = n }) 0 ∷ folds from into (suc least) found) (sym here);
+    }
+    by (suc v) = record {
+      first = [];
+      word = suc v;
+      last = AddF into (record { number = least }) (suc v) ∷ folds from into (suc least) found;
+      parts = ap (λ n. TakeE from (record { number = n }) (suc v)
+          ∷ AddF into (record { number = least }) (suc v) ∷ folds from into (suc least) found) (sym here);
+    }
+folds-take from into least k (suc i) (v ∷ found) is below =
+    let later = folds-take from into (suc least) k i found (omega arith) (omega arith) in
+    record {
+      first = moves from into least v ++ later.first;
+      word = later.word;
+      last = later.last;
+      parts = ap (λ steps. moves from into least v ++ steps) later.parts
+          ∙ sym (append_assoc (moves from into least v) later.first
+          (TakeE from (record { number = k }) later.word ∷ later.last));
+    }
+
+-- the control lane's pass makes its acts, where it has some
+record LaneMakes {K : Type 0} (makes : Lane → ℕ → Act → List (Event K) → List K → Type 0) (lane : Lane)
+    (items : List Item) (h : List (Event K)) : Type 0 where
+  pub pass : ℕ
+  pub made : MakesActs (makes lane pass) pass (acts_of lane items) h
+
+control-makes : {K : Type 0} (makes : Lane → ℕ → Act → List (Event K) → List K → Type 0) (header : Header)
+    (items : List Item) (h : List (Event K)) (a : Act) → Contains (acts_of Control items) a
+    → MakesLines makes (lanes_of header.layout items) items h → LaneMakes makes Control items h
+control-makes {K} makes header items h a (k, within, is) lines = by (has_line Control items) refl
+  where
+    ls : List Lane
+    ls = lanes_of header.layout items
+
+    at : (n : ℕ) → pass_of ls Control ≡ n → is_among Control ls ≡ true → LaneMakes makes Control items h
+    at zero number among = absurd (omega (arith, number, pass_of-least ls Control among))
+    at (suc n) number among = record {
+      pass = suc n;
+      made = subst (λ (l : Lane). MakesActs (makes l (suc n)) (suc n) (acts_of l items) h)
+          (lane_at-pass_of ls Control n among number)
+          (lines n (omega (arith, number, pass_of-most ls Control among)));
+    }
+
+    by : (b : Bool) → has_line Control items ≡ b → LaneMakes makes Control items h
+    by true has = at (pass_of ls Control) refl (among-lanes header items Control tt has)
+    by false none = let empty : length (acts_of Control items) ≡ 0 = ap length (acts_of-none Control items none) in
+        absurd (omega (arith, within, empty))
+
+-- a word that was taken is 0, and its CPU was dead
+record IsTaken (facts : EventFacts) (h : events.History) (c k : ℕ) : Type 0 where
+  pub dead : event_bases.cpu_at facts c ≡ IsDead
+  pub none : word_at (events.state_after facts h) c k ≡ 0
+
+take-empties : (facts : EventFacts) (p : ℕ) (c : CpuId) (k v : ℕ) (h : events.History) → IsEvent k
+    → events.IsLegal facts (record { caller = p; step = TakeE c (record { number = k }) v } ∷ h)
+    → IsTaken facts (record { caller = p; step = TakeE c (record { number = k }) v } ∷ h) c.number k
+take-empties facts p c k v h k_in legal = record {
+  dead = legal.2.dead;
+  none = word_at-state_after facts (record { caller = p; step = TakeE c (record { number = k }) v } ∷ h) c.number k legal
+      k_in ∙ by (owner_in event_steps.role h p) same;
+}
+  where
+    same : (nat_eq c.number c.number && nat_eq k k) ≡ true
+    same = grind (arith, nat_tests)
+
+    by : (who : Option CpuId) → (nat_eq c.number c.number && nat_eq k k) ≡ true
+        → word_after who c.number k (TakeE c (record { number = k }) v) (word_in facts h c.number k) ≡ 0
+    by None is = ap (λ x. if x then 0 else word_in facts h c.number k) is
+    by (Some d) is = ap (λ x. if x then 0 else word_in facts h c.number k) is
+
+module _ (stays : (facts : EventFacts) (m h : events.History) (c k : ℕ) → events.IsLegal facts (m ++ h)
+    → event_bases.cpu_at facts c ≢ Online → IsEvent k → word_at (events.state_after facts h) c k ≡ 0
+    → word_at (events.state_after facts (m ++ h)) c k ≡ 0)
+    (keeps : (facts : EventFacts) (more h : events.History) → events.IsLegal facts (more ++ h)
+    → event_laws.KeepsLaws facts h)
+    (header : Header) (pressure normal : ZoneSize → ℕ → ℕ → Type 0) (w : World) (items : List Item) (hs : Histories)
+    (phase : MakePhase header pressure normal w items hs) where
+  -- what a burial leaves of an event
+  buried-events : (c : CpuId) → Contains (acts_of Control items) (Dead c) → (k : ℕ) → IsEvent k
+      → IsTaken (event_facts header w) hs.events c.number k
+  buried-events c buries k k_in =
+      let facts = event_facts header w in
+      let makes = λ (lane : Lane) (p : ℕ) (act : Act) (h : events.History). EventSteps facts lane act in
+      let control = control-makes makes header items hs.events (Dead c) buries phase.event_lines in
+      let act = each-made (makes Control control.pass) control.pass (acts_of Control items) hs.events control.made (Dead c)
+      buries in
+      at control.pass act act.making
+    where
+      at : (p : ℕ) (act : MadeAct (λ act h. EventSteps (event_facts header w) Control act) p (Dead c) hs.events)
+          → EventSteps (event_facts header w) Control (Dead c) act.steps
+          → IsTaken (event_facts header w) hs.events c.number k
+      at p act (into, found, lowest, fold) =
+          let facts = event_facts header w in
+          let takes = folds-take c into 0 k k found (omega arith) (omega (arith, k_in, fold.one_each)) in
+          let stands = step-made (λ act h. EventSteps facts Control act) p (Dead c) hs.events act takes.first
+          (TakeE c (record { number = k }) takes.word) takes.last (fold.in_order ∙ takes.parts) in
+          let e : Event EventStep = record { caller = p; step = TakeE c (record { number = k }) takes.word } in
+          let whole : events.IsLegal facts (stands.since ++ (e ∷ stands.before)) =
+          subst (events.IsLegal facts) stands.parts phase.complete.events.legal in
+          let taken = take-empties facts p c k takes.word stands.before k_in
+          (prefix_is_legal events.events facts stands.since (e ∷ stands.before) whole) in
+          record {
+            dead = taken.dead;
+            none = ap (λ h. word_at (events.state_after facts h) c.number k) stands.parts
+                ∙ stays facts stands.since (e ∷ stands.before) c.number k whole
+                (λ online. let both : IsDead ≡ Online = sym taken.dead ∙ online in absurd cc) k_in taken.none;
+          }
+
+  -- and of a percpu counter
+  buried-counters : (c : CpuId) → Contains (acts_of Control items) (Dead c) → (j : ℕ) → IsPcpu (pcpu_facts header w) j
+      → local_at (numbers_after (pcpu_facts header w) hs.counters) c.number j ≡ pos 0
+  buried-counters c buries j j_in =
+      let facts = pcpu_facts header w in
+      let makes = λ (lane : Lane) (p : ℕ) (act : Act) (h : percpu.History). PcpuSteps facts lane act in
+      let control = control-makes makes header items hs.counters (Dead c) buries phase.pcpu_lines in
+      let act = each-made (makes Control control.pass) control.pass (acts_of Control items) hs.counters control.made
+      (Dead c) buries in
+      let dead = (buried-events c buries 0 (omega arith)).dead in
+      let whole : percpu.IsLegal facts (act.since ++ (act.more ++ act.before)) =
+      subst (percpu.IsLegal facts) act.parts phase.complete.counters.legal in
+      ap (λ h. local_at (numbers_after facts h) c.number j) act.parts
+      ∙ folded-none facts act.before (act.more ++ act.before) act.since control.pass c (counters_of facts.base) act.steps
+      (record {
+        legal = prefix_is_legal percpu.percpu facts act.since (act.more ++ act.before) whole;
+        goes_on = (act.more, refl);
+        made = act.made;
+      }) act.making dead whole j j_in j_in
+
+  pub LeavesNothing-buried : AbsentAreBuried header w items (left_by header w hs)
+      → LeavesNothing header (left_by header w hs)
+  LeavesNothing-buried buried = record {
+    events = λ c k c_in gone k_in. of_events (record { number = c }) k k_in c_in
+        (buried (record { number = c }) c_in gone);
+    counters = λ c j c_in gone j_in.
+        let here : IsPcpu (pcpu_facts header w) j = subst (λ batch. j < length batch)
+        (HasShape-state_after (pcpu_facts header w) hs.counters phase.complete.counters.legal).batch j_in in
+        of_counters (record { number = c }) j here c_in (buried (record { number = c }) c_in gone);
+  }
+    where
+      of_events : (c : CpuId) (k : ℕ) → IsEvent k → IsCpu header.layout c.number
+          → (cpu_at w.pages c.number ≡ Absent) ⊎ Contains (acts_of Control items) (Dead c)
+          → word_at (events.state_after (event_facts header w) hs.events) c.number k ≡ 0
+      of_events c k k_in c_in (inl was) =
+          (keeps (event_facts header w) [] hs.events phase.complete.events.legal).absent c.number k c_in was k_in
+      of_events c k k_in c_in (inr buries) = (buried-events c buries k k_in).none
+
+      of_counters : (c : CpuId) (j : ℕ) → IsPcpu (pcpu_facts header w) j → IsCpu header.layout c.number
+          → (cpu_at w.pages c.number ≡ Absent) ⊎ Contains (acts_of Control items) (Dead c)
+          → local_at (numbers_after (pcpu_facts header w) hs.counters) c.number j ≡ pos 0
+      of_counters c j j_in c_in (inl was) =
+          (laws-kept (pcpu_facts header w) [] hs.counters phase.complete.counters.legal).local_parts.absent c.number j c_in
+          was j_in
+      of_counters c j j_in c_in (inr buries) = buried-counters c buries j j_in

@@ -1,0 +1,20 @@
+ghost use Rattle.std.specs.Prelude.{List};
+ghost use Rattle.vms_base.specs.declared.headers.Header.{Header};
+ghost use Rattle.vms_text.specs.declared.acts.Item.{Item};
+ghost use Rattle.vms_world.specs.declared.worlds.World.{World};
+ghost use Rattle.vms_world.specs.Phases.{Histories, LeavesNothing, left_by};
+ghost use Rattle.vms_file_order.specs.Burials.{AbsentAreBuried};
+ghost use Rattle.vms_file_order.specs.MadePhases.{MakePhase};
+
+use vms_calls::ThresholdRules;
+
+/// A burial folds a CPU in the tables of events and of percpu counters too. So whoever is absent after a phase has
+/// nothing left in them, if it was absent before or a line of the phase buries it.
+pub fn burials_leave_nothing<R: ThresholdRules>()
+    ensures { (header : Header) (w : World) (items : List Item) (hs : Histories) →
+        MakePhase header R.pressure R.normal w items hs →
+        AbsentAreBuried header w items (left_by header w hs) → LeavesNothing header (left_by header w hs) }
+{
+    vms_event_core::laws_are_kept();
+    vms_event_core::folded_words_are_zero();
+}
