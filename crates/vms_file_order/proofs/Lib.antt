@@ -11,3 +11,4 @@ pub mod PcpuVolumes
 pub mod PhaseVolumes
 pub mod MadeActs
 pub mod BuriedCpus
+pub mod BuryingLines

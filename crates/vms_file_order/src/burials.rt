@@ -1,9 +1,12 @@
-ghost use Rattle.std.specs.Prelude.{List};
+ghost use Rattle.std.specs.Prelude.{List, All, map};
 ghost use Rattle.vms_base.specs.declared.headers.Header.{Header};
+ghost use Rattle.vms_line.specs.Laws.{IsLineOf};
+ghost use Rattle.vms_script.specs.Starts.{Start, start_at_end};
+ghost use Rattle.vms_script.specs.Totals.{line_of};
 ghost use Rattle.vms_text.specs.declared.acts.Item.{Item};
 ghost use Rattle.vms_world.specs.declared.worlds.World.{World};
 ghost use Rattle.vms_world.specs.Phases.{Histories, LeavesNothing, left_by};
-ghost use Rattle.vms_file_order.specs.Burials.{AbsentAreBuried};
+ghost use Rattle.vms_file_order.specs.Burials.{AbsentAreBuried, HasStates};
 ghost use Rattle.vms_file_order.specs.MadePhases.{MakePhase};
 
 use vms_calls::ThresholdRules;
@@ -18,3 +21,12 @@ pub fn burials_leave_nothing<R: ThresholdRules>()
     vms_event_core::laws_are_kept();
     vms_event_core::folded_words_are_zero();
 }
+
+/// Where a start says the states of the CPUs before a phase, and what the lines make of it those after it, whoever is
+/// absent then was absent before or is buried by a line.
+pub fn lines_bury_who_goes_absent()
+    ensures { (header : Header) (start : Start) (w next : World) (items : List Item) →
+        All (λ item. IsLineOf header (line_of item)) items → HasStates header start w →
+        HasStates header (start_at_end start (map line_of items)) next →
+        AbsentAreBuried header w items next }
+{}

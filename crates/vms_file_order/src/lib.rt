@@ -10,7 +10,7 @@ mod phases;
 mod tables;
 mod volumes;
 
-pub use burials::burials_leave_nothing;
+pub use burials::{burials_leave_nothing, lines_bury_who_goes_absent};
 pub use lanes::lanes_stand_once;
 pub use orders::{
     closings_complete_phases, lines_stand_in_order, openings_stand, orders_make_their_lines,
