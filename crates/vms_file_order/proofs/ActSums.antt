@@ -1,6 +1,6 @@
 -- What a pass has made comes to the sum over its acts, and so to the volume of its lane's lines.
-use Rattle.std.proofs.Common.{◌≡◌, ℕ, ◌+◌, nat_eq, Bool, true, false, ℤ, pos, ◌+ℤ◌, ◌≤ℤ◌, List, [], ◌∷◌, ◌++◌, map}
-use Rattle.std.proofs.Common.{refl, sym, ap, subst, ◌∙◌, arith, if◌then◌else◌}
+use Rattle.std.proofs.Common.{◌≡◌, ℕ, ◌+◌, nat_eq, ◌&&◌, Bool, true, false, ℤ, pos, ◌+ℤ◌, ◌≤ℤ◌, List, [], ◌∷◌, ◌++◌}
+use Rattle.std.proofs.Common.{map, refl, sym, ap, subst, ◌∙◌, arith, if◌then◌else◌}
 use Rattle.std.specs.Prelude.{filter}
 use Rattle.std.proofs.lemmas.Int.{ints}
 use Rattle.vms_base.specs.declared.ids.CpuId.{CpuId}
@@ -16,6 +16,17 @@ use Rattle.vms_text.specs.declared.acts.Lane.TheVariants.{Cpu, Control}
 use Rattle.vms_text.specs.declared.acts.Line.TheVariants.{Lane as LaneLine}
 use Rattle.vms_world.specs.Lanes.{MakesActs, acts_of}
 use Rattle.vms_world.specs.Lanes.MakesActs.{none as no_act, act as one_act}
+
+-- a number under conditions, as an integer
+pub pos-if : (b : Bool) (n : ℕ) → (if b then pos n else pos 0) ≡ pos (if b then n else 0)
+pos-if true n = refl
+pos-if false n = refl
+
+pub pos-if_both : (mine same : Bool) (n : ℕ)
+    → pos (if mine && same then n else 0) ≡ (if mine then (if same then pos n else pos 0) else pos 0)
+pos-if_both true true n = refl
+pos-if_both true false n = refl
+pos-if_both false same n = refl
 
 -- a measure of these acts, in sum
 abbrev pub sum_of_acts : (Act → ℕ) → List Act → ℕ

@@ -1,7 +1,7 @@
 -- A CPU that a line has buried has nothing left in the tables of events and of percpu counters.
-use Rattle.std.proofs.Common.{◌≡◌, ◌≢◌, ℕ, zero, suc, ◌+◌, ◌<◌, nat_eq, ◌&&◌, Bool, true, false, pos, List, [], ◌∷◌, ◌++◌}
-use Rattle.std.proofs.Common.{length, Option, Some, None, inl, inr, ◌⊎◌, refl, sym, ap, subst, ◌∙◌, arith, append_assoc}
-use Rattle.std.proofs.Common.{if◌then◌else◌}
+use Rattle.std.proofs.Common.{◌≡◌, ◌≢◌, ℕ, zero, suc, ◌+◌, ◌<◌, nat_eq, ◌&&◌, Bool, true, false, pos, List, [], ◌∷◌}
+use Rattle.std.proofs.Common.{◌++◌, length, Option, Some, None, inl, inr, ◌⊎◌, refl, sym, ap, subst, ◌∙◌, arith}
+use Rattle.std.proofs.Common.{append_assoc, if◌then◌else◌}
 use Rattle.std.specs.List.{Contains}
 use Rattle.std.proofs.lemmas.Bool.Decides.{nat_tests}
 use Rattle.vms_base.specs.declared.headers.Header.{Header}
@@ -33,18 +33,18 @@ use Rattle.vms_pcpu_core.proofs.Shapes.{HasShape-state_after}
 use Rattle.vms_text.specs.declared.acts.Act.{Act}
 use Rattle.vms_text.specs.declared.acts.Act.TheVariants.{Dead}
 use Rattle.vms_text.specs.declared.acts.Item.{Item}
-use Rattle.vms_text.specs.declared.acts.Lane.{Lane}
 use Rattle.vms_text.specs.declared.acts.Lane.TheVariants.{Control}
 use Rattle.vms_world.specs.declared.worlds.World.{World}
-use Rattle.vms_world.specs.Acts.{EventSteps, PcpuSteps}
-use Rattle.vms_world.specs.Lanes.{MakesActs, MakesLines, acts_of, has_line, is_among, lanes_of}
+use Rattle.vms_world.specs.Acts.{EventSteps}
+use Rattle.vms_world.specs.Lanes.{acts_of, has_line, is_among, lanes_of}
 use Rattle.vms_world.specs.Phases.{Histories, LeavesNothing, left_by}
 use Rattle.vms_world.specs.Worlds.{event_facts, pcpu_facts}
 use Rattle.vms_file_order.specs.Burials.{AbsentAreBuried}
 use Rattle.vms_file_order.specs.LanePasses.{pass_of}
 use Rattle.vms_file_order.specs.MadePhases.{MakePhase}
-use Rattle.vms_file_order.proofs.LaneLists.{among-lanes, lane_at-pass_of, pass_of-least, pass_of-most}
-use Rattle.vms_file_order.proofs.MadeActs.{MadeAct, each-made, step-made}
+use Rattle.vms_file_order.specs.Tables.{event_makes, pcpu_makes}
+use Rattle.vms_file_order.proofs.LaneLists.{among-lanes}
+use Rattle.vms_file_order.proofs.MadeActs.{MadeAct, MakesActs-lane, each-made, step-made}
 use Rattle.vms_file_order.proofs.OnePass.{acts_of-none}
 
 -- a fold of the events from `least` on takes the word of each
@@ -87,32 +87,15 @@ folds-take from into least k (suc i) (v ∷ found) is below =
           (TakeE from (record { number = k }) later.word ∷ later.last));
     }
 
--- the control lane's pass makes its acts, where it has some
-record LaneMakes {K : Type 0} (makes : Lane → ℕ → Act → List (Event K) → List K → Type 0) (lane : Lane)
-    (items : List Item) (h : List (Event K)) : Type 0 where
-  pub pass : ℕ
-  pub made : MakesActs (makes lane pass) pass (acts_of lane items) h
-
-control-makes : {K : Type 0} (makes : Lane → ℕ → Act → List (Event K) → List K → Type 0) (header : Header)
-    (items : List Item) (h : List (Event K)) (a : Act) → Contains (acts_of Control items) a
-    → MakesLines makes (lanes_of header.layout items) items h → LaneMakes makes Control items h
-control-makes {K} makes header items h a (k, within, is) lines = by (has_line Control items) refl
+-- a lane with an act is among those that have lines
+control-among : (header : Header) (items : List Item) (a : Act) → Contains (acts_of Control items) a
+    → is_among Control (lanes_of header.layout items) ≡ true
+control-among header items a (k, within, is) = by (has_line Control items) refl
   where
-    ls : List Lane
-    ls = lanes_of header.layout items
-
-    at : (n : ℕ) → pass_of ls Control ≡ n → is_among Control ls ≡ true → LaneMakes makes Control items h
-    at zero number among = absurd (omega (arith, number, pass_of-least ls Control among))
-    at (suc n) number among = record {
-      pass = suc n;
-      made = subst (λ (l : Lane). MakesActs (makes l (suc n)) (suc n) (acts_of l items) h)
-          (lane_at-pass_of ls Control n among number)
-          (lines n (omega (arith, number, pass_of-most ls Control among)));
-    }
-
-    by : (b : Bool) → has_line Control items ≡ b → LaneMakes makes Control items h
-    by true has = at (pass_of ls Control) refl (among-lanes header items Control tt has)
-    by false none = let empty : length (acts_of Control items) ≡ 0 = ap length (acts_of-none Control items none) in
+    by : (b : Bool) → has_line Control items ≡ b → is_among Control (lanes_of header.layout items) ≡ true
+    by true has = among-lanes header items Control tt has
+    by false none =
+        let empty : length (acts_of Control items) ≡ 0 = ap length (acts_of-none Control items none) in
         absurd (omega (arith, within, empty))
 
 -- a word that was taken is 0, and its CPU was dead
@@ -125,8 +108,8 @@ take-empties : (facts : EventFacts) (p : ℕ) (c : CpuId) (k v : ℕ) (h : event
     → IsTaken facts (record { caller = p; step = TakeE c (record { number = k }) v } ∷ h) c.number k
 take-empties facts p c k v h k_in legal = record {
   dead = legal.2.dead;
-  none = word_at-state_after facts (record { caller = p; step = TakeE c (record { number = k }) v } ∷ h) c.number k legal
-      k_in ∙ by (owner_in event_steps.role h p) same;
+  none = word_at-state_after facts (record { caller = p; step = TakeE c (record { number = k }) v } ∷ h) c.number k
+      legal k_in ∙ by (owner_in event_steps.role h p) same;
 }
   where
     same : (nat_eq c.number c.number && nat_eq k k) ≡ true
@@ -149,19 +132,20 @@ module _ (stays : (facts : EventFacts) (m h : events.History) (c k : ℕ) → ev
       → IsTaken (event_facts header w) hs.events c.number k
   buried-events c buries k k_in =
       let facts = event_facts header w in
-      let makes = λ (lane : Lane) (p : ℕ) (act : Act) (h : events.History). EventSteps facts lane act in
-      let control = control-makes makes header items hs.events (Dead c) buries phase.event_lines in
-      let act = each-made (makes Control control.pass) control.pass (acts_of Control items) hs.events control.made (Dead c)
-      buries in
-      at control.pass act act.making
+      let lanes = lanes_of header.layout items in
+      let p = pass_of lanes Control in
+      let control = MakesActs-lane (event_makes facts) lanes items hs.events Control phase.event_lines
+      (control-among header items (Dead c) buries) in
+      let act = each-made (event_makes facts Control p) p (acts_of Control items) hs.events control (Dead c) buries in
+      at p act act.making
     where
-      at : (p : ℕ) (act : MadeAct (λ act h. EventSteps (event_facts header w) Control act) p (Dead c) hs.events)
+      at : (p : ℕ) (act : MadeAct (event_makes (event_facts header w) Control p) p (Dead c) hs.events)
           → EventSteps (event_facts header w) Control (Dead c) act.steps
           → IsTaken (event_facts header w) hs.events c.number k
       at p act (into, found, lowest, fold) =
           let facts = event_facts header w in
           let takes = folds-take c into 0 k k found (omega arith) (omega (arith, k_in, fold.one_each)) in
-          let stands = step-made (λ act h. EventSteps facts Control act) p (Dead c) hs.events act takes.first
+          let stands = step-made (event_makes facts Control p) p (Dead c) hs.events act takes.first
           (TakeE c (record { number = k }) takes.word) takes.last (fold.in_order ∙ takes.parts) in
           let e : Event EventStep = record { caller = p; step = TakeE c (record { number = k }) takes.word } in
           let whole : events.IsLegal facts (stands.since ++ (e ∷ stands.before)) =
@@ -180,15 +164,16 @@ module _ (stays : (facts : EventFacts) (m h : events.History) (c k : ℕ) → ev
       → local_at (numbers_after (pcpu_facts header w) hs.counters) c.number j ≡ pos 0
   buried-counters c buries j j_in =
       let facts = pcpu_facts header w in
-      let makes = λ (lane : Lane) (p : ℕ) (act : Act) (h : percpu.History). PcpuSteps facts lane act in
-      let control = control-makes makes header items hs.counters (Dead c) buries phase.pcpu_lines in
-      let act = each-made (makes Control control.pass) control.pass (acts_of Control items) hs.counters control.made
-      (Dead c) buries in
+      let lanes = lanes_of header.layout items in
+      let p = pass_of lanes Control in
+      let control = MakesActs-lane (pcpu_makes facts) lanes items hs.counters Control phase.pcpu_lines
+      (control-among header items (Dead c) buries) in
+      let act = each-made (pcpu_makes facts Control p) p (acts_of Control items) hs.counters control (Dead c) buries in
       let dead = (buried-events c buries 0 (omega arith)).dead in
       let whole : percpu.IsLegal facts (act.since ++ (act.more ++ act.before)) =
       subst (percpu.IsLegal facts) act.parts phase.complete.counters.legal in
       ap (λ h. local_at (numbers_after facts h) c.number j) act.parts
-      ∙ folded-none facts act.before (act.more ++ act.before) act.since control.pass c (counters_of facts.base) act.steps
+      ∙ folded-none facts act.before (act.more ++ act.before) act.since p c (counters_of facts.base) act.steps
       (record {
         legal = prefix_is_legal percpu.percpu facts act.since (act.more ++ act.before) whole;
         goes_on = (act.more, refl);
@@ -217,6 +202,6 @@ module _ (stays : (facts : EventFacts) (m h : events.History) (c k : ℕ) → ev
           → (cpu_at w.pages c.number ≡ Absent) ⊎ Contains (acts_of Control items) (Dead c)
           → local_at (numbers_after (pcpu_facts header w) hs.counters) c.number j ≡ pos 0
       of_counters c j j_in c_in (inl was) =
-          (laws-kept (pcpu_facts header w) [] hs.counters phase.complete.counters.legal).local_parts.absent c.number j c_in
-          was j_in
+          (laws-kept (pcpu_facts header w) [] hs.counters phase.complete.counters.legal).local_parts.absent c.number j
+          c_in was j_in
       of_counters c j j_in c_in (inr buries) = buried-counters c buries j j_in

@@ -1,5 +1,5 @@
 -- What each CPU spends on events in a phase is the volume of its lines.
-use Rattle.std.proofs.Common.{◌≡◌, ℕ, nat_eq, ◌&&◌, Bool, true, false, pos, ◌+ℤ◌, List, [], ◌∷◌, map}
+use Rattle.std.proofs.Common.{◌≡◌, ℕ, nat_eq, pos, ◌+ℤ◌, List, [], ◌∷◌, map}
 use Rattle.std.proofs.Common.{Option, Some, None, refl, sym, ap, ◌∙◌, arith, if◌then◌else◌}
 use Rattle.std.proofs.lemmas.Int.{ints}
 use Rattle.vms_base.specs.declared.headers.Header.{Header}
@@ -25,18 +25,13 @@ use Rattle.vms_text.specs.declared.acts.Item.{Item}
 use Rattle.vms_text.specs.declared.acts.Lane.TheVariants.{Cpu}
 use Rattle.vms_world.specs.Acts.{EventSteps}
 use Rattle.vms_world.specs.Lanes.{HasLanes, MakesLines, acts_of, lanes_of}
-use Rattle.vms_file_order.proofs.ActSums.{total-acts, volume-acts}
+use Rattle.vms_file_order.specs.Tables.{event_makes}
+use Rattle.vms_file_order.proofs.ActSums.{pos-if, pos-if_both, total-acts, volume-acts}
 use Rattle.vms_file_order.proofs.OnePass.{spends-lines}
 
 spent_by-owner : (who : Option CpuId) (c k : ℕ) (step : EventStep)
     → pos (spent_by who c k step) ≡ (if is_owner who c then counted k step else pos 0)
-spent_by-owner (Some d) c k (AddE l n) = by (nat_eq d.number c) (nat_eq l.number k)
-  where
-    by : (mine same : Bool) → pos (if mine && same then n else 0)
-        ≡ (if mine then (if same then pos n else pos 0) else pos 0)
-    by true true = refl
-    by true false = refl
-    by false same = refl
+spent_by-owner (Some d) c k (AddE l n) = pos-if_both (nat_eq d.number c) (nat_eq l.number k) n
 spent_by-owner (Some d) c k _ = sym (if-either (nat_eq d.number c) (pos 0))
 spent_by-owner None c k _ = refl
 
@@ -47,10 +42,6 @@ counted-loads l [] found k p g = refl
 counted-loads l (d ∷ cpus) [] k p g = refl
 counted-loads l (d ∷ cpus) (v ∷ found) k p g =
     omega (arith, ints, counted-loads l cpus found k p (record { caller = p; step = LoadE d l v } ∷ g))
-
-pos-if : (b : Bool) (n : ℕ) → (if b then pos n else pos 0) ≡ pos (if b then n else 0)
-pos-if true n = refl
-pos-if false n = refl
 
 module _ (facts : EventFacts) (c : CpuId) (k : ℕ) where
   act-size : (p : ℕ) (a : Act) (h : History) (steps : List EventStep) → EventSteps facts (Cpu c) a steps
@@ -67,13 +58,13 @@ module _ (facts : EventFacts) (c : CpuId) (k : ℕ) where
 
   pub events-spend_lines : (header : Header) (items : List Item) (h : History) → IsLegal facts h
       → IsCpu header.layout c.number → HasLanes role (lanes_of header.layout items) h
-      → MakesLines (λ lane p act h. EventSteps facts lane act) (lanes_of header.layout items) items h
+      → MakesLines (event_makes facts) (lanes_of header.layout items) items h
       → spent h c.number k ≡ volume (spent_on_event k) c.number (map line_of items)
   events-spend_lines header items h legal known lanes lines =
       let spends = spends-lines events facts c (λ g. pos (spent g c.number k)) (total (counted k))
       (λ e g. counted k e.step) refl refl
-      (λ e g. let by_owner = spent_by-owner (owner_in role g e.caller) c.number k e.step in omega (arith, ints, by_owner))
-      (λ e g. refl) h legal header items known lanes (λ lane p act h. EventSteps facts lane act) lines in
-      let made = total-acts (λ act h. EventSteps facts (Cpu c) act) spends.pass (total (counted k)) refl
+      (λ e g. omega (arith, ints, spent_by-owner (owner_in role g e.caller) c.number k e.step))
+      (λ e g. refl) h legal header items known lanes (event_makes facts) lines in
+      let made = total-acts (event_makes facts (Cpu c) spends.pass) spends.pass (total (counted k)) refl
       (spent_on_event k) (act-size spends.pass) (acts_of (Cpu c) items) h spends.made in
       omega (arith, ints, spends.spends, made, volume-acts (spent_on_event k) c items)

@@ -12,7 +12,6 @@ use Rattle.vms_history.specs.Events.{own, after}
 use Rattle.vms_history.specs.Legal.{Machine}
 use Rattle.vms_history.specs.Passes.{Role, begun, owner}
 use Rattle.vms_history.proofs.Own.{after-append, own-after, own-after_others, own-append}
-use Rattle.vms_alone.specs.InRow.{GoesOnTo}
 use Rattle.vms_script.specs.PhaseScripts.{is_lane}
 use Rattle.vms_text.specs.declared.acts.Act.{Act}
 use Rattle.vms_text.specs.declared.acts.Item.{Item}
@@ -21,7 +20,7 @@ use Rattle.vms_world.specs.Lanes.{HasLanes, MakesActs, MakesLines, acts_of, is_a
 use Rattle.vms_world.specs.Lanes.MakesActs.{none as no_act, act as one_act}
 use Rattle.vms_file_order.specs.LanePasses.{PassSteps, StandOnce, begins_from, closing_of, ends_from, opening_of}
 use Rattle.vms_file_order.specs.LanePasses.{pass_of}
-use Rattle.vms_file_order.specs.FileOrder.{Follow, IsFileOrder, StandsOpen}
+use Rattle.vms_file_order.specs.FileOrder.{Follow, GoesOnWithLine, IsFileOrder, StandsOpen}
 use Rattle.vms_file_order.specs.FileOrder.Follow.{none, line}
 use Rattle.vms_file_order.proofs.LaneLists.{StandOnce-lanes, is_lane-same, is_lane-self, lane_at-pass_of}
 use Rattle.vms_file_order.proofs.LaneLists.{pass_of-lane_at, pass_of-least}
@@ -29,25 +28,30 @@ use Rattle.vms_file_order.proofs.Openings.{begun-begins, owner-lane, own-opening
 use Rattle.vms_file_order.proofs.Closings.{begun-ends, owner-ends}
 
 -- a line's steps go on, and its caller may end after them: the phase stands with the line
-pub StandsOpen-line : {F K S : Type 0} (machine : Machine F K S) (passes : PassSteps K machine.role) (facts : F)
-    (lanes : List Lane) (h : List (Event K)) (now : S) → StandsOpen machine passes facts lanes h now
-    → (lane : Lane) (steps : List K) (next : S) → is_among lane lanes ≡ true
-    → GoesOnTo machine facts (pass_of lanes lane) steps h next
-    → machine.MayEnd facts (own (after (pass_of lanes lane) steps h) (pass_of lanes lane))
-    → StandsOpen machine passes facts lanes (after (pass_of lanes lane) steps h) next
-StandsOpen-line machine passes facts lanes h now stands lane steps next among goes may_end =
-    let p = pass_of lanes lane in
-    let least = pass_of-least lanes lane among in
-    record {
-      legal = goes.legal;
-      main = own-after_others p steps h 0 (λ same. absurd (omega arith)) ∙ stands.main;
-      may_end = λ q other. ⊎_elim
-          (λ (mine : q ≡ p). subst (λ (r : ℕ). machine.MayEnd facts (own (after p steps h) r)) (sym mine) may_end)
-          (λ (others : q ≢ p). subst (machine.MayEnd facts) (sym (own-after_others p steps h q others))
-          (stands.may_end q other))
-          (cases_eq q p);
-      state = goes.state;
-    }
+module _ {F K S : Type 0} (machine : Machine F K S) (passes : PassSteps K machine.role)
+    (makes : Lane → ℕ → Act → List (Event K) → List K → Type 0) (IsAlone : K → Type 0) (facts : F)
+    (lanes : List Lane) (item : Item) (h : List (Event K)) (next : S) (among : is_among item.lane lanes ≡ true)
+    (goes : GoesOnWithLine machine makes IsAlone facts lanes item h next) where
+  pub StandsOpen-line : (now : S) → StandsOpen machine passes facts lanes h now
+      → StandsOpen machine passes facts lanes (after (pass_of lanes item.lane) goes.steps h) next
+  StandsOpen-line now stands =
+      let p = pass_of lanes item.lane in
+      let least = pass_of-least lanes item.lane among in
+      record {
+        legal = goes.goes_on.legal;
+        main = own-after_others p goes.steps h 0 (λ same. absurd (omega arith)) ∙ stands.main;
+        may_end = λ q other. ⊎_elim
+            (λ (mine : q ≡ p). subst (λ (r : ℕ). machine.MayEnd facts (own (after p goes.steps h) r)) (sym mine)
+            goes.may_end)
+            (λ (others : q ≢ p). subst (machine.MayEnd facts) (sym (own-after_others p goes.steps h q others))
+            (stands.may_end q other))
+            (cases_eq q p);
+        state = goes.goes_on.state;
+      }
+
+  pub Follow-line : (items : List Item) → Follow passes makes IsAlone lanes items h
+      → Follow passes makes IsAlone lanes (items ++ item ∷ []) (after (pass_of lanes item.lane) goes.steps h)
+  Follow-line items follow = line items item h goes.steps follow among goes.making goes.alone
 
 -- the acts of a lane with one line more
 acts_of-line : (lane : Lane) (items : List Item) (next : Item)

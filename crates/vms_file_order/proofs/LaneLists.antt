@@ -227,6 +227,25 @@ lane_at-pass_of (l ∷ ls) lane n among is = by (is_lane l lane) refl among is (
         at zero is_zero = absurd (omega (arith, least either))
         at (suc m) is_suc = rest m either (omega arith)
 
+-- the place of a lane among these
+pub record HasPlace (ls : List Lane) (lane : Lane) : Type 0 where
+  pub place : ℕ
+  pub number : pass_of ls lane ≡ suc place
+  pub below : place < length ls
+  pub there : lane_at ls place ≡ lane
+
+pub HasPlace-among : (ls : List Lane) (lane : Lane) → is_among lane ls ≡ true → HasPlace ls lane
+HasPlace-among ls lane among = at (pass_of ls lane) refl
+  where
+    at : (n : ℕ) → pass_of ls lane ≡ n → HasPlace ls lane
+    at zero none = absurd (omega (arith, none, pass_of-least ls lane among))
+    at (suc n) is = record {
+      place = n;
+      number = is;
+      below = omega (arith, is, pass_of-most ls lane among);
+      there = lane_at-pass_of ls lane n among is;
+    }
+
 -- where each lane stands once, the pass of the lane at a place has that place's number
 pub record IsPlace (ls : List Lane) (n : ℕ) : Type 0 where
   pub number : pass_of ls (lane_at ls n) ≡ suc n

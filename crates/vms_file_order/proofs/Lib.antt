@@ -12,3 +12,4 @@ pub mod PhaseVolumes
 pub mod MadeActs
 pub mod BuriedCpus
 pub mod BuryingLines
+pub mod OpenPhases

@@ -1,5 +1,5 @@
 -- Each act of a lane that has made its lines was made at some moment, and so was each of its steps.
-use Rattle.std.proofs.Common.{◌≡◌, ◌≢◌, ℕ, ◌<◌, nat_eq, Bool, true, false, List, [], ◌∷◌, ◌++◌, length, inl, inr}
+use Rattle.std.proofs.Common.{◌≡◌, ◌≢◌, ℕ, suc, ◌<◌, nat_eq, Bool, true, false, List, [], ◌∷◌, ◌++◌, length, inl, inr}
 use Rattle.std.proofs.Common.{◌⊎◌, refl, sym, ap, subst, ◌∙◌, arith, if◌then◌else◌, append_assoc, length-append}
 use Rattle.std.specs.List.{Contains}
 use Rattle.std.proofs.lemmas.Bool.{cases_eq}
@@ -8,8 +8,23 @@ use Rattle.vms_history.specs.declared.events.Event.{Event}
 use Rattle.vms_history.specs.Events.{after, own}
 use Rattle.vms_history.proofs.Own.{after-append, after-steps}
 use Rattle.vms_text.specs.declared.acts.Act.{Act}
-use Rattle.vms_world.specs.Lanes.{MakesActs}
+use Rattle.vms_text.specs.declared.acts.Item.{Item}
+use Rattle.vms_text.specs.declared.acts.Lane.{Lane}
+use Rattle.vms_world.specs.Lanes.{MakesActs, MakesLines, acts_of, is_among}
 use Rattle.vms_world.specs.Lanes.MakesActs.{none as no_act, act as one_act}
+use Rattle.vms_file_order.specs.LanePasses.{pass_of}
+use Rattle.vms_file_order.proofs.LaneLists.{HasPlace-among}
+
+-- the pass of a lane with lines has made the acts of its lines
+pub MakesActs-lane : {K : Type 0} (makes : Lane → ℕ → Act → List (Event K) → List K → Type 0) (lanes : List Lane)
+    (items : List Item) (h : List (Event K)) (lane : Lane) → MakesLines makes lanes items h
+    → is_among lane lanes ≡ true
+    → MakesActs (makes lane (pass_of lanes lane)) (pass_of lanes lane) (acts_of lane items) h
+MakesActs-lane makes lanes items h lane lines among =
+    let at = HasPlace-among lanes lane among in
+    subst (λ (q : ℕ). MakesActs (makes lane q) q (acts_of lane items) h) (sym at.number)
+    (subst (λ (l : Lane). MakesActs (makes l (suc at.place)) (suc at.place) (acts_of l items) h) at.there
+    (lines at.place at.below))
 
 -- an event stands in a history
 pub record StandsIn {K : Type 0} (e : Event K) (h : List (Event K)) : Type 0 where
@@ -33,8 +48,8 @@ StandsIn-own [] p e stands = absurd (no_event stands.since stands.parts)
     no_event (d ∷ since) is = cc
 StandsIn-own (d ∷ h) p e stands = by (nat_eq d.caller p) stands (StandsIn-own h p e)
   where
-    newest : (since before : List (Event _)) → d ∷ own h p ≡ since ++ (e ∷ before) → (StandsIn e (own h p) → StandsIn e h)
-        → StandsIn e (d ∷ h)
+    newest : (since before : List (Event _)) → d ∷ own h p ≡ since ++ (e ∷ before)
+        → (StandsIn e (own h p) → StandsIn e h) → StandsIn e (d ∷ h)
     newest [] before is rest = let same : d ≡ e = cc in
         record { since = []; before = h; parts = ap (λ x. x ∷ h) same }
     newest (x ∷ since) before is rest =

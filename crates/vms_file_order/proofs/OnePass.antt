@@ -28,8 +28,9 @@ use Rattle.vms_world.specs.Lanes.{HasLanes, MakesActs, MakesLines, acts_of, has_
 use Rattle.vms_world.specs.Lanes.{owner_of}
 use Rattle.vms_world.specs.Lanes.MakesActs.{none as no_act}
 use Rattle.vms_file_order.specs.LanePasses.{pass_of}
-use Rattle.vms_file_order.proofs.LaneLists.{StandOnce-lanes, among-lanes, lane_at-pass_of, owner_of-injective}
-use Rattle.vms_file_order.proofs.LaneLists.{pass_of-lane_at, pass_of-least, pass_of-most}
+use Rattle.vms_file_order.proofs.LaneLists.{HasPlace-among, StandOnce-lanes, among-lanes, owner_of-injective}
+use Rattle.vms_file_order.proofs.LaneLists.{pass_of-lane_at}
+use Rattle.vms_file_order.proofs.MadeActs.{MakesActs-lane}
 
 is_owner-some : (who : Option CpuId) (c : CpuId) → is_owner who c.number ≡ true → who ≡ Some c
 is_owner-some (Some d) c is = let numbers : d.number ≡ c.number = eqb-true d.number c.number is in
@@ -142,22 +143,18 @@ module _ {F K S : Type 0} (machine : Machine F K S) (facts : F) (c : CpuId) (spe
     pub spends-lines : SpendsItsLines
     spends-lines = by (is_among (Cpu c) ls) refl
       where
-        at : (q : ℕ) → pass_of ls (Cpu c) ≡ q → is_among (Cpu c) ls ≡ true → SpendsItsLines
-        at zero is among = absurd (omega (arith, is, pass_of-least ls (Cpu c) among))
-        at (suc n) is among =
-            let below : n < length ls = omega (arith, is, pass_of-most ls (Cpu c) among) in
-            let mine : lane_at ls n ≡ Cpu c = lane_at-pass_of ls (Cpu c) n among is in
-            record {
-              pass = suc n;
-              spends = spent-by_pass (suc n) (λ p owned. (owner-is_lane p owned).1 ∙ is)
-                  (λ given. ap (λ who. is_owner who c.number) (lanes.owners n below ∙ ap owner_of mine)
-                  ∙ is_owner-self c) [] all refl;
-              made = subst (λ (l : Lane). MakesActs (makes l (suc n)) (suc n) (acts_of l items) all) mine
-                  (lines n below);
-            }
-
         by : (b : Bool) → is_among (Cpu c) ls ≡ b → SpendsItsLines
-        by true among = at (pass_of ls (Cpu c)) refl among
+        by true among =
+            let at = HasPlace-among ls (Cpu c) among in
+            let p = pass_of ls (Cpu c) in
+            record {
+              pass = p;
+              spends = spent-by_pass p (λ q owned. (owner-is_lane q owned).1)
+                  (λ given. ap (λ q. is_owner (owner_in machine.role all q) c.number) at.number
+                  ∙ ap (λ who. is_owner who c.number) (lanes.owners at.place at.below ∙ ap owner_of at.there)
+                  ∙ is_owner-self c) [] all refl;
+              made = MakesActs-lane makes ls items all (Cpu c) lines among;
+            }
         by false apart =
             let none_own : own all (suc (length ls)) ≡ [] =
             own-not_given machine facts all (suc (length ls)) legal (omega (arith, lanes.one_each)) in

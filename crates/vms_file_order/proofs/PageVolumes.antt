@@ -1,5 +1,5 @@
 -- What each CPU spends on page counters in a phase is the volume of its lines.
-use Rattle.std.proofs.Common.{◌≡◌, ℕ, nat_eq, ◌&&◌, Bool, true, false, ℤ, pos, negsuc, ◌+ℤ◌, List, map}
+use Rattle.std.proofs.Common.{◌≡◌, ℕ, nat_eq, Bool, ℤ, pos, negsuc, ◌+ℤ◌, List, map}
 use Rattle.std.proofs.Common.{unsigned_abs, Option, Some, None, refl, sym, ap, ◌∙◌, arith, if◌then◌else◌}
 use Rattle.std.proofs.lemmas.Int.{ints}
 use Rattle.vms_base.specs.declared.headers.Header.{Header}
@@ -35,25 +35,16 @@ use Rattle.vms_text.specs.declared.acts.Item.{Item}
 use Rattle.vms_text.specs.declared.acts.Lane.TheVariants.{Cpu}
 use Rattle.vms_world.specs.Acts.{PageSteps, owns}
 use Rattle.vms_world.specs.Lanes.{HasLanes, MakesLines, acts_of, lanes_of}
-use Rattle.vms_file_order.proofs.ActSums.{total-acts, volume-acts}
+use Rattle.vms_file_order.proofs.ActSums.{pos-if, pos-if_both, total-acts, volume-acts}
 use Rattle.vms_file_order.proofs.OnePass.{spends-lines}
 
 -- a step spends of the CPU of its pass what it changes, and of no other
 spent_by-owner : (who : Option CpuId) (c k : ℕ) (step : Step)
     → pos (spent_by who c k step) ≡ (if is_owner who c then change_size k step else pos 0)
-spent_by-owner (Some d) c k (Put l w t delta how) = by (nat_eq d.number c) (nat_eq l.number k)
-  where
-    by : (mine same : Bool) → pos (if mine && same then unsigned_abs delta else 0)
-        ≡ (if mine then (if same then pos (unsigned_abs delta) else pos 0) else pos 0)
-    by true true = refl
-    by true false = refl
-    by false same = refl
+spent_by-owner (Some d) c k (Put l w t delta how) =
+    pos-if_both (nat_eq d.number c) (nat_eq l.number k) (unsigned_abs delta)
 spent_by-owner (Some d) c k _ = sym (if-either (nat_eq d.number c) (pos 0))
 spent_by-owner None c k _ = refl
-
-pos-if : (b : Bool) (n : ℕ) → (if b then pos n else pos 0) ≡ pos (if b then n else 0)
-pos-if true n = refl
-pos-if false n = refl
 
 -- what the calls of a CPU's lane change, by the laws of calls
 module _ (changes : ChangesLeave)
@@ -108,7 +99,7 @@ module _ (changes : ChangesLeave)
   pages-spend_lines items h legal known lanes lines =
       let spends = spends-lines pages (facts_of header base) c (λ g. pos (spent g c.number k)) (total (change_size k))
       (λ e g. change_size k e.step) refl refl
-      (λ e g. let by_owner = spent_by-owner (owner_in role g e.caller) c.number k e.step in omega (arith, ints, by_owner))
+      (λ e g. omega (arith, ints, spent_by-owner (owner_in role g e.caller) c.number k e.step))
       (λ e g. refl) h legal header items known lanes (PageSteps header base pressure normal) lines in
       let made = total-acts (PageSteps header base pressure normal (Cpu c) spends.pass) spends.pass
       (total (change_size k)) refl (spent_on_counter k) (act-size spends.pass) (acts_of (Cpu c) items) h spends.made in

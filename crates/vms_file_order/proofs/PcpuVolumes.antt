@@ -29,6 +29,7 @@ use Rattle.vms_text.specs.declared.acts.Item.{Item}
 use Rattle.vms_text.specs.declared.acts.Lane.TheVariants.{Cpu}
 use Rattle.vms_world.specs.Acts.{PcpuSteps}
 use Rattle.vms_world.specs.Lanes.{HasLanes, MakesLines, acts_of, lanes_of}
+use Rattle.vms_file_order.specs.Tables.{pcpu_makes}
 use Rattle.vms_file_order.proofs.ActSums.{most-acts, volume-acts}
 use Rattle.vms_file_order.proofs.OnePass.{spends-lines}
 
@@ -111,15 +112,18 @@ module _ (facts : PcpuFacts) (c : CpuId) (j : ℕ) where
 
   pub pcpu-spend_lines : (header : Header) (items : List Item) (h : History) → IsLegal facts h
       → IsCpu header.layout c.number → HasLanes role (lanes_of header.layout items) h
-      → MakesLines (λ lane p act h. PcpuSteps facts lane act) (lanes_of header.layout items) items h
+      → MakesLines (pcpu_makes facts) (lanes_of header.layout items) items h
       → spent h c.number j ≤ volume (spent_on_pcpu j) c.number (map line_of items)
   pcpu-spend_lines header items h legal known lanes lines =
       let spends = spends-lines percpu facts c (λ g. pos (spent g c.number j)) (own_added size_of j)
       (λ e g. size_of (amount_of j (carried j g) e.step)) refl refl
-      (λ e g. let by_owner = spent_by-owner (owner_in role g e.caller) c.number j (carried j (own g e.caller)) e.step in
-      omega (arith, ints, by_owner))
-      (λ e g. refl) h legal header items known lanes (λ lane p act h. PcpuSteps facts lane act) lines in
-      let made = most-acts (λ act h. PcpuSteps facts (Cpu c) act) spends.pass (own_added size_of j) refl
+      (λ e g. omega (
+        arith,
+        ints,
+        spent_by-owner (owner_in role g e.caller) c.number j (carried j (own g e.caller)) e.step,
+      ))
+      (λ e g. refl) h legal header items known lanes (pcpu_makes facts) lines in
+      let made = most-acts (pcpu_makes facts (Cpu c) spends.pass) spends.pass (own_added size_of j) refl
       (spent_on_pcpu j) IsIdle (record { no_lock = λ i. refl; nothing_carried = λ i. refl }) (act-most spends.pass)
       (acts_of (Cpu c) items) h spends.made in
       omega (arith, ints, spends.spends, made.1, volume-acts (spent_on_pcpu j) c items)

@@ -6,13 +6,14 @@ use Rattle.vms_base.specs.declared.kinds.ZoneSize.{ZoneSize}
 use Rattle.vms_calls.specs.Changes.{HasWon}
 use Rattle.vms_text.specs.declared.acts.Item.{Item}
 use Rattle.vms_world.specs.declared.worlds.World.{World}
-use Rattle.vms_world.specs.Acts.{PageSteps, EventSteps, PcpuSteps}
+use Rattle.vms_world.specs.Acts.{PageSteps}
 use Rattle.vms_world.specs.PhaseLines.{IsWorldPhase}
 use Rattle.vms_world.specs.Phases.{Histories, LeavesNothing, StayWithinVolumes, left_by}
 use Rattle.vms_world.specs.Worlds.{event_facts, pcpu_facts}
 use Rattle.vms_file_order.specs.MadePhases.{MakePhase}
-use Rattle.vms_file_order.specs.PhaseOrder.{IsFileOrderPhase}
-use Rattle.vms_file_order.specs.Tables.{page_passes, event_passes, pcpu_passes, FindsLockFree, MeetsNobody}
+use Rattle.vms_file_order.specs.FileOrderPhases.{IsFileOrderPhase}
+use Rattle.vms_file_order.specs.Tables.{page_passes, event_passes, pcpu_passes, event_makes, pcpu_makes}
+use Rattle.vms_file_order.specs.Tables.{FindsLockFree, MeetsNobody}
 use Rattle.vms_file_order.proofs.FollowedLines.{All-in_order, HasLanes-in_order, MakesLines-in_order}
 
 pub IsWorldPhase-made : (pressure normal : ZoneSize → ℕ → ℕ → Type 0) (header : Header) (w : World) (items : List Item)
@@ -39,15 +40,15 @@ module _ (header : Header) (pressure normal : ZoneSize → ℕ → ℕ → Type 
     complete = order.complete;
     page_lanes = HasLanes-in_order page_passes (PageSteps header w.pages pressure normal) HasWon header.layout items
         hs.pages order.page_order;
-    event_lanes = HasLanes-in_order event_passes (λ lane p act h. EventSteps (event_facts header w) lane act)
+    event_lanes = HasLanes-in_order event_passes (event_makes (event_facts header w))
         MeetsNobody header.layout items hs.events order.event_order;
-    pcpu_lanes = HasLanes-in_order pcpu_passes (λ lane p act h. PcpuSteps (pcpu_facts header w) lane act) FindsLockFree
+    pcpu_lanes = HasLanes-in_order pcpu_passes (pcpu_makes (pcpu_facts header w)) FindsLockFree
         header.layout items hs.counters order.pcpu_order;
     page_lines = MakesLines-in_order page_passes (PageSteps header w.pages pressure normal) HasWon header.layout items
         hs.pages order.page_order;
-    event_lines = MakesLines-in_order event_passes (λ lane p act h. EventSteps (event_facts header w) lane act)
+    event_lines = MakesLines-in_order event_passes (event_makes (event_facts header w))
         MeetsNobody header.layout items hs.events order.event_order;
-    pcpu_lines = MakesLines-in_order pcpu_passes (λ lane p act h. PcpuSteps (pcpu_facts header w) lane act)
+    pcpu_lines = MakesLines-in_order pcpu_passes (pcpu_makes (pcpu_facts header w))
         FindsLockFree header.layout items hs.counters order.pcpu_order;
   }
 
@@ -56,5 +57,5 @@ module _ (header : Header) (pressure normal : ZoneSize → ℕ → ℕ → Type 
       hs.pages order.page_order (λ q who. tt) (λ q. tt)
 
   pub counters-met_nobody : All (λ e. FindsLockFree e.step) hs.counters
-  counters-met_nobody = All-in_order pcpu_passes (λ lane p act h. PcpuSteps (pcpu_facts header w) lane act)
+  counters-met_nobody = All-in_order pcpu_passes (pcpu_makes (pcpu_facts header w))
       FindsLockFree header.layout items hs.counters order.pcpu_order (λ q who. tt) (λ q. tt)

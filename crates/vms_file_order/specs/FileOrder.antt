@@ -5,6 +5,7 @@ use Rattle.vms_history.specs.declared.events.Event.{Event}
 use Rattle.vms_history.specs.Events.{after, own}
 use Rattle.vms_history.specs.Legal.{Machine, IsLegal, state_after}
 use Rattle.vms_history.specs.Passes.{Role, lives_in, owner_in}
+use Rattle.vms_alone.specs.InRow.{GoesOnTo}
 use Rattle.vms_text.specs.declared.acts.Act.{Act}
 use Rattle.vms_text.specs.declared.acts.Item.{Item}
 use Rattle.vms_text.specs.declared.acts.Lane.{Lane}
@@ -44,3 +45,14 @@ pub record HasPass {K : Type 0} (role : K → Role) (lanes : List Lane) (h : Lis
   pub other_than_main : pass_of lanes lane ≢ 0
   pub lives : lives_in role h (pass_of lanes lane) ≡ true
   pub owner : owner_in role h (pass_of lanes lane) ≡ owner_of lane
+
+-- a line goes on from a history to a state: its lane's pass makes its steps, in which it meets no other caller, and may
+-- end after them
+pub record GoesOnWithLine {F K S : Type 0} (machine : Machine F K S)
+    (makes : Lane → ℕ → Act → List (Event K) → List K → Type 0) (IsAlone : K → Type 0) (facts : F) (lanes : List Lane)
+    (item : Item) (h : List (Event K)) (next : S) : Type 0 where
+  pub steps : List K
+  pub making : makes item.lane (pass_of lanes item.lane) item.act h steps
+  pub alone : All IsAlone steps
+  pub goes_on : GoesOnTo machine facts (pass_of lanes item.lane) steps h next
+  pub may_end : machine.MayEnd facts (own (after (pass_of lanes item.lane) steps h) (pass_of lanes item.lane))

@@ -7,10 +7,11 @@ use Rattle.vms_event_core.specs.Steps as event_steps
 use Rattle.vms_pcpu_core.specs.Steps as pcpu_steps
 use Rattle.vms_text.specs.declared.acts.Item.{Item}
 use Rattle.vms_world.specs.declared.worlds.World.{World}
-use Rattle.vms_world.specs.Acts.{PageSteps, EventSteps, PcpuSteps}
+use Rattle.vms_world.specs.Acts.{PageSteps}
 use Rattle.vms_world.specs.Lanes.{HasLanes, MakesLines, lanes_of}
 use Rattle.vms_world.specs.Phases.{AreComplete, Histories}
 use Rattle.vms_world.specs.Worlds.{event_facts, pcpu_facts}
+use Rattle.vms_file_order.specs.Tables.{event_makes, pcpu_makes}
 
 -- these histories make a phase of these lines from this world, whatever they spend and leave
 pub record MakePhase (header : Header) (pressure normal : ZoneSize → ℕ → ℕ → Type 0) (w : World) (items : List Item)
@@ -20,7 +21,7 @@ pub record MakePhase (header : Header) (pressure normal : ZoneSize → ℕ → �
   pub event_lanes : HasLanes event_steps.role (lanes_of header.layout items) hs.events
   pub pcpu_lanes : HasLanes pcpu_steps.role (lanes_of header.layout items) hs.counters
   pub page_lines : MakesLines (PageSteps header w.pages pressure normal) (lanes_of header.layout items) items hs.pages
-  pub event_lines : MakesLines (λ lane p act h. EventSteps (event_facts header w) lane act)
+  pub event_lines : MakesLines (event_makes (event_facts header w))
       (lanes_of header.layout items) items hs.events
-  pub pcpu_lines : MakesLines (λ lane p act h. PcpuSteps (pcpu_facts header w) lane act)
+  pub pcpu_lines : MakesLines (pcpu_makes (pcpu_facts header w))
       (lanes_of header.layout items) items hs.counters

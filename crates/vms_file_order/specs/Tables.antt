@@ -1,15 +1,21 @@
--- What the three tables say of passes and of steps that meet no other caller.
-use Rattle.std.specs.Prelude.{refl}
+-- What the three tables say of passes, of steps that meet no other caller, and of acts.
+use Rattle.std.specs.Prelude.{ℕ, List, refl}
+use Rattle.vms_history.specs.declared.events.Event.{Event}
 use Rattle.vms_core.specs.Steps as page_steps
 use Rattle.vms_core.specs.declared.steps.Step.{Step}
 use Rattle.vms_core.specs.declared.steps.Step.TheVariants as page
 use Rattle.vms_event_core.specs.Steps as event_steps
+use Rattle.vms_event_core.specs.declared.steps.EventFacts.{EventFacts}
 use Rattle.vms_event_core.specs.declared.steps.EventStep.{EventStep}
 use Rattle.vms_event_core.specs.declared.steps.EventStep.TheVariants as event
 use Rattle.vms_pcpu_core.specs.Steps as pcpu_steps
+use Rattle.vms_pcpu_core.specs.declared.steps.PcpuFacts.{PcpuFacts}
 use Rattle.vms_pcpu_core.specs.declared.steps.PcpuStep.{PcpuStep}
 use Rattle.vms_pcpu_core.specs.declared.steps.PcpuStep.TheVariants as percpu
 use Rattle.vms_pcpu_core.specs.declared.steps.PcpuStep.TheVariants.{Missed}
+use Rattle.vms_text.specs.declared.acts.Act.{Act}
+use Rattle.vms_text.specs.declared.acts.Lane.{Lane}
+use Rattle.vms_world.specs.Acts.{EventSteps, PcpuSteps}
 use Rattle.vms_file_order.specs.LanePasses.{PassSteps}
 
 -- in each table a Split begins a pass and a Join ends one
@@ -45,3 +51,11 @@ FindsLockFree _ = Unit {0}
 -- on the event counters no step meets another caller
 abbrev pub MeetsNobody : EventStep → Type 0
 MeetsNobody step = Unit {0}
+
+-- what an act makes on the event counters, by any pass and wherever it begins
+abbrev pub event_makes : EventFacts → Lane → ℕ → Act → List (Event EventStep) → List EventStep → Type 0
+event_makes facts lane p act h steps = EventSteps facts lane act steps
+
+-- the same on the percpu counters
+abbrev pub pcpu_makes : PcpuFacts → Lane → ℕ → Act → List (Event PcpuStep) → List PcpuStep → Type 0
+pcpu_makes facts lane p act h steps = PcpuSteps facts lane act steps

@@ -4,19 +4,19 @@
 #![tactic(auto)]
 
 mod burials;
+mod histories;
 mod lanes;
-mod orders;
+mod open_phases;
 mod phases;
 mod tables;
 mod volumes;
 
 pub use burials::{burials_leave_nothing, lines_bury_who_goes_absent};
+pub use histories::{closings_complete, file_order_makes_lines, lines_stand, openings_stand};
 pub use lanes::lanes_stand_once;
-pub use orders::{
-    closings_complete_phases, lines_stand_in_order, openings_stand, orders_make_their_lines,
-};
+pub use open_phases::{open_phases_close, open_phases_go_on, phases_open};
 pub use phases::{
-    made_phases_are_phases, orders_are_phases, orders_meet_nobody, phases_keep_all_laws,
+    file_order_makes_phases, file_order_meets_nobody, made_phases_are_phases, phases_keep_all_laws,
 };
 pub use tables::{EventLines, LineTable, PageLines, PcpuLines};
 pub use volumes::{fitting_lines_stay_within_volumes, phases_spend_their_lines};

@@ -6,7 +6,7 @@ ghost use Rattle.vms_world.specs.declared.worlds.World.{World};
 ghost use Rattle.vms_world.specs.PhaseLines.{IsWorldPhase};
 ghost use Rattle.vms_world.specs.Phases.{AreComplete, Histories, LeavesNothing, StayWithinVolumes, left_by};
 ghost use Rattle.vms_file_order.specs.MadePhases.{MakePhase};
-ghost use Rattle.vms_file_order.specs.PhaseOrder.{IsFileOrderPhase, KeepAllLaws};
+ghost use Rattle.vms_file_order.specs.FileOrderPhases.{IsFileOrderPhase, KeepAllLaws};
 ghost use Rattle.vms_file_order.specs.Tables.{FindsLockFree};
 
 use vms_calls::ThresholdRules;
@@ -21,7 +21,7 @@ pub fn made_phases_are_phases<R: ThresholdRules>()
 {}
 
 /// A phase in file order makes its lines, and so it is a phase of them under the same conditions.
-pub fn orders_are_phases<R: ThresholdRules>()
+pub fn file_order_makes_phases<R: ThresholdRules>()
     ensures makes { (header : Header) (w : World) (items : List Item) (hs : Histories) →
         IsFileOrderPhase header R.pressure R.normal w items hs →
         MakePhase header R.pressure R.normal w items hs }
@@ -32,7 +32,7 @@ pub fn orders_are_phases<R: ThresholdRules>()
 {}
 
 /// In a phase in file order no exchange loses, and no lock is found held.
-pub fn orders_meet_nobody<R: ThresholdRules>()
+pub fn file_order_meets_nobody<R: ThresholdRules>()
     ensures pages { (header : Header) (w : World) (items : List Item) (hs : Histories) →
         IsFileOrderPhase header R.pressure R.normal w items hs → All (λ e. HasWon e.step) hs.pages }
     ensures counters { (header : Header) (w : World) (items : List Item) (hs : Histories) →

@@ -16,9 +16,10 @@ ghost use Rattle.vms_pcpu_core.specs.States.{LockedState};
 ghost use Rattle.vms_calls.specs.Changes.{HasWon};
 ghost use Rattle.vms_text.specs.declared.acts.Act.{Act};
 ghost use Rattle.vms_text.specs.declared.acts.Lane.{Lane};
-ghost use Rattle.vms_world.specs.Acts.{PageSteps, EventSteps, PcpuSteps};
+ghost use Rattle.vms_world.specs.Acts.{PageSteps};
 ghost use Rattle.vms_file_order.specs.LanePasses.{PassSteps};
-ghost use Rattle.vms_file_order.specs.Tables.{page_passes, event_passes, pcpu_passes, FindsLockFree, MeetsNobody};
+ghost use Rattle.vms_file_order.specs.Tables.{page_passes, event_passes, pcpu_passes, event_makes, pcpu_makes};
+ghost use Rattle.vms_file_order.specs.Tables.{FindsLockFree, MeetsNobody};
 
 use std::marker::PhantomData;
 use vms_calls::ThresholdRules;
@@ -105,7 +106,7 @@ impl LineTable for EventLines {
 
     ghost fresh = { λ facts k known. refl };
 
-    ghost makes = { λ facts lane p act h. EventSteps facts lane act };
+    ghost makes = { event_makes };
 
     ghost IsAlone = { MeetsNobody };
 }
@@ -131,7 +132,7 @@ impl LineTable for PcpuLines {
 
     ghost fresh = { λ facts j known. refl };
 
-    ghost makes = { λ facts lane p act h. PcpuSteps facts lane act };
+    ghost makes = { pcpu_makes };
 
     ghost IsAlone = { FindsLockFree };
 }

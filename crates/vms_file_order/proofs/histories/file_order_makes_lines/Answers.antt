@@ -1,6 +1,6 @@
 -- The lanes and lines of a history in file order, line by line.
 use Rattle.vms_file_order.proofs.FollowedLines.{HasLanes-in_order, MakesLines-in_order}
-use Rattle.vms_file_order.proofs.orders.orders_make_their_lines.Goals as goal
+use Rattle.vms_file_order.proofs.histories.file_order_makes_lines.Goals as goal
 
 pub returns : goal.returns
 returns g c = record {

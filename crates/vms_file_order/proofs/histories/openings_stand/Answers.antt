@@ -1,6 +1,6 @@
 -- The opening, pass by pass.
 use Rattle.vms_file_order.proofs.Openings.{HasPass-opening, StandsOpen-opening, own-opening_others}
-use Rattle.vms_file_order.proofs.orders.openings_stand.Goals as goal
+use Rattle.vms_file_order.proofs.histories.openings_stand.Goals as goal
 
 pub returns : goal.returns
 returns g c = record {

@@ -1,13 +1,12 @@
-ghost use Rattle.std.specs.Prelude.{◌≡◌, ◌≢◌, ℕ, true, List, []};
+ghost use Rattle.std.specs.Prelude.{◌≡◌, ◌≢◌, ℕ, true, List, [], ◌∷◌, ◌++◌};
 ghost use Rattle.vms_base.specs.Places.{Shape};
 ghost use Rattle.vms_history.specs.declared.events.Event.{Event};
 ghost use Rattle.vms_history.specs.Events.{after, own};
 ghost use Rattle.vms_history.specs.Legal.{IsComplete, state_after};
-ghost use Rattle.vms_alone.specs.InRow.{GoesOnTo};
 ghost use Rattle.vms_text.specs.declared.acts.Item.{Item};
 ghost use Rattle.vms_text.specs.declared.acts.Lane.{Lane};
 ghost use Rattle.vms_world.specs.Lanes.{HasLanes, MakesLines, is_among, lanes_of};
-ghost use Rattle.vms_file_order.specs.FileOrder.{HasPass, IsFileOrder, StandsOpen};
+ghost use Rattle.vms_file_order.specs.FileOrder.{Follow, GoesOnWithLine, HasPass, IsFileOrder, StandsOpen};
 ghost use Rattle.vms_file_order.specs.LanePasses.{MayOwnEach, StandOnce, closing_of, opening_of, pass_of};
 
 use crate::LineTable;
@@ -23,17 +22,24 @@ pub fn openings_stand<T: LineTable>()
     ensures others { (lanes : List Lane) (q : ℕ) → q ≢ 0 → own (opening_of T.passes lanes) q ≡ [] }
 {}
 
-/// One line more: where its steps go on and its lane's pass may end after them, the history stands with them too.
-pub fn lines_stand_in_order<T: LineTable>()
-    ensures { (facts : T.Facts) (lanes : List Lane) (h : List (Event T.Step)) (now : T.State) →
-        StandsOpen T.machine T.passes facts lanes h now → (lane : Lane) (steps : List T.Step) (next : T.State) →
-        is_among lane lanes ≡ true → GoesOnTo T.machine facts (pass_of lanes lane) steps h next →
-        T.machine.MayEnd facts (own (after (pass_of lanes lane) steps h) (pass_of lanes lane)) →
-        StandsOpen T.machine T.passes facts lanes (after (pass_of lanes lane) steps h) next }
+/// One line more: where it goes on from a history that stands, the history stands with its steps too, and where the
+/// lines follow one another, so do they with this line.
+pub fn lines_stand<T: LineTable>()
+    ensures stands { (setting : T.Setting) (facts : T.Facts) (lanes : List Lane) (item : Item)
+        (h : List (Event T.Step)) (next : T.State) → is_among item.lane lanes ≡ true →
+        (goes : GoesOnWithLine T.machine (T.makes setting) T.IsAlone facts lanes item h next) →
+        (now : T.State) → StandsOpen T.machine T.passes facts lanes h now →
+        StandsOpen T.machine T.passes facts lanes (after (pass_of lanes item.lane) goes.steps h) next }
+    ensures follow { (setting : T.Setting) (facts : T.Facts) (lanes : List Lane) (item : Item)
+        (h : List (Event T.Step)) (next : T.State) → is_among item.lane lanes ≡ true →
+        (goes : GoesOnWithLine T.machine (T.makes setting) T.IsAlone facts lanes item h next) →
+        (items : List Item) → Follow T.passes (T.makes setting) T.IsAlone lanes items h →
+        Follow T.passes (T.makes setting) T.IsAlone lanes (items ++ item ∷ [])
+        (after (pass_of lanes item.lane) goes.steps h) }
 {}
 
 /// The closing of a phase: the passes of a history that stands end, it is complete with that, and the state stays.
-pub fn closings_complete_phases<T: LineTable>()
+pub fn closings_complete<T: LineTable>()
     ensures complete { (facts : T.Facts) (lanes : List Lane) (h : List (Event T.Step)) (now : T.State) →
         StandsOpen T.machine T.passes facts lanes h now →
         IsComplete T.machine facts (closing_of T.passes lanes h) }
@@ -43,7 +49,7 @@ pub fn closings_complete_phases<T: LineTable>()
 {}
 
 /// A history in file order has a pass for each lane with lines and no other, and each makes the acts of its lines.
-pub fn orders_make_their_lines<T: LineTable>()
+pub fn file_order_makes_lines<T: LineTable>()
     ensures lanes { (setting : T.Setting) (shape : Shape) (items : List Item) (h : List (Event T.Step)) →
         IsFileOrder T.passes (T.makes setting) T.IsAlone shape items h →
         HasLanes T.machine.role (lanes_of shape items) h }

@@ -12,11 +12,12 @@ use Rattle.vms_pcpu_core.specs.Laws as pcpu_laws
 use Rattle.vms_calls.specs.Changes.{HasWon}
 use Rattle.vms_text.specs.declared.acts.Item.{Item}
 use Rattle.vms_world.specs.declared.worlds.World.{World}
-use Rattle.vms_world.specs.Acts.{PageSteps, EventSteps, PcpuSteps}
+use Rattle.vms_world.specs.Acts.{PageSteps}
 use Rattle.vms_world.specs.Phases.{AreComplete, Histories}
 use Rattle.vms_world.specs.Worlds.{page_facts, event_facts, pcpu_facts}
 use Rattle.vms_file_order.specs.FileOrder.{IsFileOrder}
-use Rattle.vms_file_order.specs.Tables.{page_passes, event_passes, pcpu_passes, FindsLockFree, MeetsNobody}
+use Rattle.vms_file_order.specs.Tables.{page_passes, event_passes, pcpu_passes, event_makes, pcpu_makes}
+use Rattle.vms_file_order.specs.Tables.{FindsLockFree, MeetsNobody}
 
 -- these histories are the phase of these lines in file order, from this world: each is legal and complete, no exchange
 -- lost, and no lock was found held
@@ -25,9 +26,9 @@ pub record IsFileOrderPhase (header : Header) (pressure normal : ZoneSize → �
   pub complete : AreComplete header w hs
   pub page_order : IsFileOrder page_passes (PageSteps header w.pages pressure normal) HasWon header.layout items
       hs.pages
-  pub event_order : IsFileOrder event_passes (λ lane p act h. EventSteps (event_facts header w) lane act) MeetsNobody
+  pub event_order : IsFileOrder event_passes (event_makes (event_facts header w)) MeetsNobody
       header.layout items hs.events
-  pub pcpu_order : IsFileOrder pcpu_passes (λ lane p act h. PcpuSteps (pcpu_facts header w) lane act) FindsLockFree
+  pub pcpu_order : IsFileOrder pcpu_passes (pcpu_makes (pcpu_facts header w)) FindsLockFree
       header.layout items hs.counters
 
 -- at each moment of these histories all laws of their tables hold

@@ -1,6 +1,6 @@
 -- No step of a phase in file order meets another caller.
 use Rattle.vms_file_order.proofs.PhasesInOrder.{counters-met_nobody, pages-met_nobody}
-use Rattle.vms_file_order.proofs.phases.orders_meet_nobody.Goals as goal
+use Rattle.vms_file_order.proofs.phases.file_order_meets_nobody.Goals as goal
 
 pub returns : goal.returns
 returns g c = record {

@@ -1,6 +1,6 @@
 -- The three histories of a phase in file order make its lines.
 use Rattle.vms_file_order.proofs.PhasesInOrder.{IsWorldPhase-made, MakePhase-in_order}
-use Rattle.vms_file_order.proofs.phases.orders_are_phases.Goals as goal
+use Rattle.vms_file_order.proofs.phases.file_order_makes_phases.Goals as goal
 
 pub returns : goal.returns
 returns g c =

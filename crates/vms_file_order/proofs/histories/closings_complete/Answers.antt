@@ -1,6 +1,6 @@
 -- The closing, pass by pass.
 use Rattle.vms_file_order.proofs.Closings.{IsComplete-closing, state_after-closing}
-use Rattle.vms_file_order.proofs.orders.closings_complete_phases.Goals as goal
+use Rattle.vms_file_order.proofs.histories.closings_complete.Goals as goal
 
 pub returns : goal.returns
 returns g c = record {
