@@ -47,45 +47,43 @@ use Rattle.vms_file_order.proofs.LaneLists.{among-lanes}
 use Rattle.vms_file_order.proofs.MadeActs.{MadeAct, MakesActs-lane, each-made, step-made}
 use Rattle.vms_file_order.proofs.OnePass.{acts_of-none}
 
--- a fold of the events from `least` on takes the word of each
-record Takes (from into : CpuId) (least k : ℕ) (found : List ℕ) : Type 0 where
+-- the word of a CPU for event k is taken among these steps
+record Takes (from : CpuId) (k : ℕ) (steps : List EventStep) : Type 0 where
   pub first : List EventStep
   pub word : ℕ
   pub last : List EventStep
-  pub parts : folds from into least found ≡ first ++ (TakeE from (record { number = k }) word ∷ last)
+  pub parts : steps ≡ first ++ (TakeE from (record { number = k }) word ∷ last)
 
-folds-take : (from into : CpuId) (least k i : ℕ) (found : List ℕ) → k ≡ least + i → i < length found
-    → Takes from into least k found
-folds-take from into least k i [] is below = absurd (omega arith)
-folds-take from into least k zero (v ∷ found) is below = by v
-  where
-    here : k ≡ least
-    here = omega arith
-
-    by : (v : ℕ) → Takes from into least k (v ∷ found)
-    by zero = record {
-      first = [];
-      word = 0;
-      last = folds from into (suc least) found;
-      parts = ap (λ n. TakeE from (record { number = n }) 0 ∷ folds from into (suc least) found) (sym here);
-    }
-    by (suc v) = record {
-      first = [];
-      word = suc v;
-      last = AddF into (record { number = least }) (suc v) ∷ folds from into (suc least) found;
-      parts = ap (λ n. TakeE from (record { number = n }) (suc v)
-          ∷ AddF into (record { number = least }) (suc v) ∷ folds from into (suc least) found) (sym here);
-    }
-folds-take from into least k (suc i) (v ∷ found) is below =
-    let later = folds-take from into (suc least) k i found (omega arith) (omega arith) in
+Takes-later : (from : CpuId) (k : ℕ) (front steps : List EventStep) → Takes from k steps → Takes from k (front ++ steps)
+Takes-later from k front steps takes =
+    let taking : List EventStep = TakeE from (record { number = k }) takes.word ∷ takes.last in
     record {
-      first = moves from into least v ++ later.first;
-      word = later.word;
-      last = later.last;
-      parts = ap (λ steps. moves from into least v ++ steps) later.parts
-          ∙ sym (append_assoc (moves from into least v) later.first
-          (TakeE from (record { number = k }) later.word ∷ later.last));
+      first = front ++ takes.first;
+      word = takes.word;
+      last = takes.last;
+      parts = ap (λ rest. front ++ rest) takes.parts ∙ sym (append_assoc front takes.first taking);
     }
+
+Takes-move : (from into : CpuId) (k v : ℕ) (rest : List EventStep) → Takes from k (moves from into k v ++ rest)
+Takes-move from into k zero rest = record { first = []; word = 0; last = rest; parts = refl }
+Takes-move from into k (suc v) rest = record {
+  first = [];
+  word = suc v;
+  last = AddF into (record { number = k }) (suc v) ∷ rest;
+  parts = refl;
+}
+
+-- a fold of the events from `least` on takes each of them
+folds-take : (from into : CpuId) (least k i : ℕ) (found : List ℕ) → k ≡ least + i → i < length found
+    → Takes from k (folds from into least found)
+folds-take from into least k i [] is below = absurd (omega arith)
+folds-take from into least k zero (v ∷ found) is below =
+    let here : least ≡ k = omega arith in
+    subst (λ (n : ℕ). Takes from n (folds from into least (v ∷ found))) here
+    (Takes-move from into least v (folds from into (suc least) found))
+folds-take from into least k (suc i) (v ∷ found) is below =
+    Takes-later from k (moves from into least v) (folds from into (suc least) found)
+    (folds-take from into (suc least) k i found (omega arith) (omega arith))
 
 -- a lane with an act is among those that have lines
 control-among : (header : Header) (items : List Item) (a : Act) → Contains (acts_of Control items) a

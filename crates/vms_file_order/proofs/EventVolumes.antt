@@ -1,11 +1,9 @@
 -- What each CPU spends on events in a phase is the volume of its lines.
-use Rattle.std.proofs.Common.{◌≡◌, ℕ, nat_eq, pos, ◌+ℤ◌, List, [], ◌∷◌, map}
+use Rattle.std.proofs.Common.{◌≡◌, ℕ, false, nat_eq, pos, ◌+ℤ◌, List, [], ◌∷◌, map}
 use Rattle.std.proofs.Common.{Option, Some, None, refl, sym, ap, ◌∙◌, arith, if◌then◌else◌}
 use Rattle.std.proofs.lemmas.Int.{ints}
-use Rattle.vms_base.specs.declared.headers.Header.{Header}
 use Rattle.vms_base.specs.declared.ids.CpuId.{CpuId}
 use Rattle.vms_base.specs.declared.ids.EventId.{EventId}
-use Rattle.vms_base.specs.Places.{IsCpu}
 use Rattle.vms_history.specs.Events.{after, total}
 use Rattle.vms_history.specs.Passes.{owner_in}
 use Rattle.vms_history.proofs.Choices.{if-either}
@@ -22,9 +20,11 @@ use Rattle.vms_script.specs.Volumes.{spent_on_event, volume}
 use Rattle.vms_text.specs.declared.acts.Act.{Act}
 use Rattle.vms_text.specs.declared.acts.Act.TheVariants.{Ev, EvSum}
 use Rattle.vms_text.specs.declared.acts.Item.{Item}
+use Rattle.vms_text.specs.declared.acts.Lane.{Lane}
 use Rattle.vms_text.specs.declared.acts.Lane.TheVariants.{Cpu}
 use Rattle.vms_world.specs.Acts.{EventSteps}
-use Rattle.vms_world.specs.Lanes.{HasLanes, MakesLines, acts_of, lanes_of}
+use Rattle.vms_world.specs.Lanes.{HasLanes, MakesLines, acts_of, is_among}
+use Rattle.vms_file_order.specs.LanePasses.{StandOnce}
 use Rattle.vms_file_order.specs.Tables.{event_makes}
 use Rattle.vms_file_order.proofs.ActSums.{pos-if, pos-if_both, total-acts, volume-acts}
 use Rattle.vms_file_order.proofs.OnePass.{spends-lines}
@@ -56,15 +56,15 @@ module _ (facts : EventFacts) (c : CpuId) (k : ℕ) where
   act-size p _ h steps makes g =
       let same = ap (λ ks. total (counted k) (after p ks g)) makes in omega (arith, ints, same)
 
-  pub events-spend_lines : (header : Header) (items : List Item) (h : History) → IsLegal facts h
-      → IsCpu header.layout c.number → HasLanes role (lanes_of header.layout items) h
-      → MakesLines (event_makes facts) (lanes_of header.layout items) items h
+  pub events-spend_lines : (ls : List Lane) → StandOnce ls → (items : List Item)
+      → (is_among (Cpu c) ls ≡ false → acts_of (Cpu c) items ≡ []) → (h : History) → IsLegal facts h
+      → HasLanes role ls h → MakesLines (event_makes facts) ls items h
       → spent h c.number k ≡ volume (spent_on_event k) c.number (map line_of items)
-  events-spend_lines header items h legal known lanes lines =
+  events-spend_lines ls once items no_other h legal lanes lines =
       let spends = spends-lines events facts c (λ g. pos (spent g c.number k)) (total (counted k))
       (λ e g. counted k e.step) refl refl
       (λ e g. omega (arith, ints, spent_by-owner (owner_in role g e.caller) c.number k e.step))
-      (λ e g. refl) h legal header items known lanes (event_makes facts) lines in
+      (λ e g. refl) h legal ls once items no_other lanes (event_makes facts) lines in
       let made = total-acts (event_makes facts (Cpu c) spends.pass) spends.pass (total (counted k)) refl
       (spent_on_event k) (act-size spends.pass) (acts_of (Cpu c) items) h spends.made in
       omega (arith, ints, spends.spends, made, volume-acts (spent_on_event k) c items)

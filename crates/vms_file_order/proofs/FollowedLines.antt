@@ -95,6 +95,22 @@ module _ {K : Type 0} (makes : Act → List (Event K) → List K → Type 0) (p 
       (one_act acts next h (after p steps []) steps made making
       (ap (λ es. own es p) (sym (after-append p steps [] h)) ∙ own-after p steps h))
 
+-- a line that makes no step goes on to the state that stands
+pub GoesOnWithLine-none : {F K S : Type 0} (machine : Machine F K S) (passes : PassSteps K machine.role)
+    (makes : Lane → ℕ → Act → List (Event K) → List K → Type 0) (IsAlone : K → Type 0) (facts : F) (lanes : List Lane)
+    (item : Item) (h : List (Event K)) (now : S) → is_among item.lane lanes ≡ true
+    → StandsOpen machine passes facts lanes h now → makes item.lane (pass_of lanes item.lane) item.act h []
+    → GoesOnWithLine machine makes IsAlone facts lanes item h now
+GoesOnWithLine-none machine passes makes IsAlone facts lanes item h now among stands making =
+    let least = pass_of-least lanes item.lane among in
+    record {
+      steps = [];
+      making = making;
+      alone = All-nil IsAlone;
+      goes_on = record { legal = stands.legal; state = stands.state };
+      may_end = stands.may_end (pass_of lanes item.lane) (λ same. absurd (omega arith));
+    }
+
 -- what holds of steps holds of them in a history
 All-after : {K : Type 0} (P : K → Type 0) (p : ℕ) (steps : List K) (h : List (Event K)) → All P steps
     → All (λ e. P e.step) h → All (λ e. P e.step) (after p steps h)
@@ -113,6 +129,21 @@ module _ {K : Type 0} {role : K → Role} (passes : PassSteps K role)
       let least = pass_of-least lanes next.lane among in
       own-after_others (pass_of lanes next.lane) steps h' 0 (λ same. absurd (omega arith))
       ∙ own-followed before h' follow
+
+  -- a lane that isn't among them has no line
+  pub acts_of-followed : (items : List Item) (h : List (Event K)) → Follow passes makes IsAlone lanes items h
+      → (lane : Lane) → is_among lane lanes ≡ false → acts_of lane items ≡ []
+  acts_of-followed items h none lane apart = refl
+  acts_of-followed items h (line before next h' steps follow among making alone) lane apart =
+      acts_of-line lane before next ∙ by (is_lane next.lane lane) refl (acts_of-followed before h' follow lane apart)
+    where
+      by : (b : Bool) → is_lane next.lane lane ≡ b → acts_of lane before ≡ []
+          → acts_of lane before ++ (if b then next.act ∷ [] else []) ≡ []
+      by true same earlier =
+          let both : true ≡ false =
+          sym among ∙ ap (λ l. is_among l lanes) (is_lane-same next.lane lane same) ∙ apart in
+          absurd cc
+      by false other earlier = ap (λ acts. acts ++ []) earlier
 
   module _ (begins : (q : ℕ) (who : Option CpuId) → IsAlone (passes.begin q who)) where
     All-begins : (m : ℕ) (ls : List Lane) → All IsAlone (begins_from passes m ls)

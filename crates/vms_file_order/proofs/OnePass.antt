@@ -27,8 +27,8 @@ use Rattle.vms_text.specs.declared.acts.Lane.TheVariants.{Cpu}
 use Rattle.vms_world.specs.Lanes.{HasLanes, MakesActs, MakesLines, acts_of, has_line, is_among, lane_at, lanes_of}
 use Rattle.vms_world.specs.Lanes.{owner_of}
 use Rattle.vms_world.specs.Lanes.MakesActs.{none as no_act}
-use Rattle.vms_file_order.specs.LanePasses.{pass_of}
-use Rattle.vms_file_order.proofs.LaneLists.{HasPlace-among, StandOnce-lanes, among-lanes, owner_of-injective}
+use Rattle.vms_file_order.specs.LanePasses.{StandOnce, pass_of}
+use Rattle.vms_file_order.proofs.LaneLists.{HasPlace-among, among-lanes, owner_of-injective}
 use Rattle.vms_file_order.proofs.LaneLists.{pass_of-lane_at}
 use Rattle.vms_file_order.proofs.MadeActs.{MakesActs-lane}
 
@@ -50,6 +50,17 @@ acts_of-none lane (item ∷ items) none =
         → (has_line lane items ≡ false → map act rest ≡ []) → map act (if b then item ∷ rest else rest) ≡ []
     by act rest true is later = absurd cc
     by act rest false is later = later is
+
+-- nor has a CPU that isn't among the lanes with lines
+pub acts_of-apart : (header : Header) (items : List Item) (c : CpuId) → IsCpu header.layout c.number
+    → is_among (Cpu c) (lanes_of header.layout items) ≡ false → acts_of (Cpu c) items ≡ []
+acts_of-apart header items c known apart = acts_of-none (Cpu c) items (by (has_line (Cpu c) items) refl)
+  where
+    by : (b : Bool) → has_line (Cpu c) items ≡ b → has_line (Cpu c) items ≡ false
+    by true has =
+        let both : true ≡ false = sym (among-lanes header items (Cpu c) known has) ∙ apart in
+        absurd cc
+    by false is = is
 
 -- `spent` is what CPU c spent in a history, `own_total` what own events come to; each event of a pass that owns the CPU
 -- adds its value, which goes by the caller's own events before it
@@ -111,17 +122,13 @@ module _ {F K S : Type 0} (machine : Machine F K S) (facts : F) (c : CpuId) (spe
         spent-event_more (m ++ e ∷ []) e h m whole parts (spent-by_pass (m ++ e ∷ []) h whole)
 
   -- the pass of the CPU's lane, where it has one: what the CPU spent is what that pass has made of the lane's lines
-  module _ (header : Header) (items : List Item) (known : IsCpu header.layout c.number)
-      (lanes : HasLanes machine.role (lanes_of header.layout items) all)
-      (makes : Lane → ℕ → Act → List (Event K) → List K → Type 0)
-      (lines : MakesLines makes (lanes_of header.layout items) items all) where
+  module _ (ls : List Lane) (once : StandOnce ls) (items : List Item)
+      (no_other : is_among (Cpu c) ls ≡ false → acts_of (Cpu c) items ≡ []) (lanes : HasLanes machine.role ls all)
+      (makes : Lane → ℕ → Act → List (Event K) → List K → Type 0) (lines : MakesLines makes ls items all) where
     pub record SpendsItsLines : Type 0 where
       pub pass : ℕ
       pub spends : spent all ≡ own_total (own all pass)
       pub made : MakesActs (makes (Cpu c) pass) pass (acts_of (Cpu c) items) all
-
-    abbrev ls : List Lane
-    ls = lanes_of header.layout items
 
     -- a pass that owns the CPU is the one of its lane
     owner-is_lane : (p : ℕ) → is_owner (owner_in machine.role all p) c.number ≡ true
@@ -135,7 +142,7 @@ module _ {F K S : Type 0} (machine : Machine F K S) (facts : F) (c : CpuId) (spe
             → (is_among (Cpu c) ls ≡ true) × (p ≡ pass_of ls (Cpu c))
         at zero owns some most = absurd (omega arith)
         at (suc n) owns some most =
-            let place = pass_of-lane_at ls n (StandOnce-lanes header.layout items) (omega arith) in
+            let place = pass_of-lane_at ls n once (omega arith) in
             let is_lane : lane_at ls n ≡ Cpu c =
             owner_of-injective (lane_at ls n) (Cpu c) (sym (lanes.owners n (omega arith)) ∙ owns) in
             (ap (λ l. is_among l ls) (sym is_lane) ∙ place.among, sym place.number ∙ ap (pass_of ls) is_lane)
@@ -164,10 +171,5 @@ module _ {F K S : Type 0} (machine : Machine F K S) (facts : F) (c : CpuId) (spe
                   (λ p owned. let both : true ≡ false = sym (owner-is_lane p owned).0 ∙ apart in absurd cc)
                   (λ given. absurd (omega (arith, given, lanes.one_each))) [] all refl;
               made = subst (λ (acts : List Act). MakesActs (makes (Cpu c) (suc (length ls))) (suc (length ls)) acts all)
-                  (sym (acts_of-none (Cpu c) items (has_none (has_line (Cpu c) items) refl))) (no_act all none_own);
+                  (sym (no_other apart)) (no_act all none_own);
             }
-          where
-            has_none : (b : Bool) → has_line (Cpu c) items ≡ b → has_line (Cpu c) items ≡ false
-            has_none true has = let both : true ≡ false = sym (among-lanes header items (Cpu c) known has) ∙ apart in
-                absurd cc
-            has_none false is = is

@@ -1,5 +1,5 @@
 -- What each CPU spends on page counters in a phase is the volume of its lines.
-use Rattle.std.proofs.Common.{◌≡◌, ℕ, nat_eq, Bool, ℤ, pos, negsuc, ◌+ℤ◌, List, map}
+use Rattle.std.proofs.Common.{◌≡◌, ℕ, false, List, [], nat_eq, Bool, ℤ, pos, negsuc, ◌+ℤ◌, map}
 use Rattle.std.proofs.Common.{unsigned_abs, Option, Some, None, refl, sym, ap, ◌∙◌, arith, if◌then◌else◌}
 use Rattle.std.proofs.lemmas.Int.{ints}
 use Rattle.vms_base.specs.declared.headers.Header.{Header}
@@ -11,7 +11,7 @@ use Rattle.vms_base.specs.declared.kinds.Mode.{Mode}
 use Rattle.vms_base.specs.declared.kinds.Mode.TheVariants.{Mod as Modify, Inc as Raise, Dec as Lower}
 use Rattle.vms_base.specs.declared.kinds.WaterMark.{WaterMark}
 use Rattle.vms_base.specs.declared.kinds.ZoneSize.{ZoneSize}
-use Rattle.vms_base.specs.Places.{Shape, IsCpu, IsLayout}
+use Rattle.vms_base.specs.Places.{Shape, IsLayout}
 use Rattle.vms_history.specs.Events.{after, total}
 use Rattle.vms_history.specs.Passes.{owner_in}
 use Rattle.vms_history.proofs.Choices.{if-either}
@@ -32,9 +32,11 @@ use Rattle.vms_script.specs.Volumes.{spent_on_counter, volume}
 use Rattle.vms_text.specs.declared.acts.Act.{Act}
 use Rattle.vms_text.specs.declared.acts.Act.TheVariants.{Mod, Inc, Dec, Fold, Water, Val, Snap, Sys}
 use Rattle.vms_text.specs.declared.acts.Item.{Item}
+use Rattle.vms_text.specs.declared.acts.Lane.{Lane}
 use Rattle.vms_text.specs.declared.acts.Lane.TheVariants.{Cpu}
 use Rattle.vms_world.specs.Acts.{PageSteps, owns}
-use Rattle.vms_world.specs.Lanes.{HasLanes, MakesLines, acts_of, lanes_of}
+use Rattle.vms_world.specs.Lanes.{HasLanes, MakesLines, acts_of, is_among}
+use Rattle.vms_file_order.specs.LanePasses.{StandOnce}
 use Rattle.vms_file_order.proofs.ActSums.{pos-if, pos-if_both, total-acts, volume-acts}
 use Rattle.vms_file_order.proofs.OnePass.{spends-lines}
 
@@ -92,15 +94,16 @@ module _ (changes : ChangesLeave)
       ((system_value header.layout item p h steps makes g).changes k)
   act-size p _ h steps makes g = as-before (after p steps g) g (ap (λ ks. total (change_size k) (after p ks g)) makes)
 
-  pub pages-spend_lines : (items : List Item) (h : History) → IsLegal (facts_of header base) h
-      → IsCpu header.layout c.number → HasLanes role (lanes_of header.layout items) h
-      → MakesLines (PageSteps header base pressure normal) (lanes_of header.layout items) items h
+  pub pages-spend_lines : (ls : List Lane) → StandOnce ls → (items : List Item)
+      → (is_among (Cpu c) ls ≡ false → acts_of (Cpu c) items ≡ []) → (h : History)
+      → IsLegal (facts_of header base) h → HasLanes role ls h
+      → MakesLines (PageSteps header base pressure normal) ls items h
       → spent h c.number k ≡ volume (spent_on_counter k) c.number (map line_of items)
-  pages-spend_lines items h legal known lanes lines =
+  pages-spend_lines ls once items no_other h legal lanes lines =
       let spends = spends-lines pages (facts_of header base) c (λ g. pos (spent g c.number k)) (total (change_size k))
       (λ e g. change_size k e.step) refl refl
       (λ e g. omega (arith, ints, spent_by-owner (owner_in role g e.caller) c.number k e.step))
-      (λ e g. refl) h legal header items known lanes (PageSteps header base pressure normal) lines in
+      (λ e g. refl) h legal ls once items no_other lanes (PageSteps header base pressure normal) lines in
       let made = total-acts (PageSteps header base pressure normal (Cpu c) spends.pass) spends.pass
       (total (change_size k)) refl (spent_on_counter k) (act-size spends.pass) (acts_of (Cpu c) items) h spends.made in
       omega (arith, ints, spends.spends, made, volume-acts (spent_on_counter k) c items)

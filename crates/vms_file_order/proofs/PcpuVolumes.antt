@@ -1,11 +1,9 @@
 -- What each CPU spends on percpu counters in a phase is at most the volume of its lines.
-use Rattle.std.proofs.Common.{◌≡◌, ℕ, ◌≤◌, nat_eq, Bool, true, false, ℤ, pos, ◌+ℤ◌, ◌≤ℤ◌, List, map}
+use Rattle.std.proofs.Common.{◌≡◌, ℕ, ◌≤◌, nat_eq, Bool, true, false, ℤ, pos, ◌+ℤ◌, ◌≤ℤ◌, List, [], map}
 use Rattle.std.proofs.Common.{unsigned_abs, Option, Some, None, refl, sym, ap, subst, ◌∙◌, arith, if◌then◌else◌}
 use Rattle.std.proofs.lemmas.Int.{ints}
-use Rattle.vms_base.specs.declared.headers.Header.{Header}
 use Rattle.vms_base.specs.declared.ids.CpuId.{CpuId}
 use Rattle.vms_base.specs.declared.ids.PcpuId.{PcpuId}
-use Rattle.vms_base.specs.Places.{IsCpu}
 use Rattle.vms_history.specs.Events.{after, own}
 use Rattle.vms_history.specs.Passes.{owner_in}
 use Rattle.vms_core.specs.Spending.{is_owner}
@@ -26,9 +24,11 @@ use Rattle.vms_script.specs.Volumes.{spent_on_pcpu, volume}
 use Rattle.vms_text.specs.declared.acts.Act.{Act}
 use Rattle.vms_text.specs.declared.acts.Act.TheVariants.{Cnt, Lim, Cmp, Sum, Rough, Csync}
 use Rattle.vms_text.specs.declared.acts.Item.{Item}
+use Rattle.vms_text.specs.declared.acts.Lane.{Lane}
 use Rattle.vms_text.specs.declared.acts.Lane.TheVariants.{Cpu}
 use Rattle.vms_world.specs.Acts.{PcpuSteps}
-use Rattle.vms_world.specs.Lanes.{HasLanes, MakesLines, acts_of, lanes_of}
+use Rattle.vms_world.specs.Lanes.{HasLanes, MakesLines, acts_of, is_among}
+use Rattle.vms_file_order.specs.LanePasses.{StandOnce}
 use Rattle.vms_file_order.specs.Tables.{pcpu_makes}
 use Rattle.vms_file_order.proofs.ActSums.{most-acts, volume-acts}
 use Rattle.vms_file_order.proofs.OnePass.{spends-lines}
@@ -110,11 +110,11 @@ module _ (facts : PcpuFacts) (c : CpuId) (j : ℕ) where
     omega (arith, ints, ap (λ ks. own_added size_of j (after p ks g)) makes),
   )
 
-  pub pcpu-spend_lines : (header : Header) (items : List Item) (h : History) → IsLegal facts h
-      → IsCpu header.layout c.number → HasLanes role (lanes_of header.layout items) h
-      → MakesLines (pcpu_makes facts) (lanes_of header.layout items) items h
+  pub pcpu-spend_lines : (ls : List Lane) → StandOnce ls → (items : List Item)
+      → (is_among (Cpu c) ls ≡ false → acts_of (Cpu c) items ≡ []) → (h : History) → IsLegal facts h
+      → HasLanes role ls h → MakesLines (pcpu_makes facts) ls items h
       → spent h c.number j ≤ volume (spent_on_pcpu j) c.number (map line_of items)
-  pcpu-spend_lines header items h legal known lanes lines =
+  pcpu-spend_lines ls once items no_other h legal lanes lines =
       let spends = spends-lines percpu facts c (λ g. pos (spent g c.number j)) (own_added size_of j)
       (λ e g. size_of (amount_of j (carried j g) e.step)) refl refl
       (λ e g. omega (
@@ -122,7 +122,7 @@ module _ (facts : PcpuFacts) (c : CpuId) (j : ℕ) where
         ints,
         spent_by-owner (owner_in role g e.caller) c.number j (carried j (own g e.caller)) e.step,
       ))
-      (λ e g. refl) h legal header items known lanes (pcpu_makes facts) lines in
+      (λ e g. refl) h legal ls once items no_other lanes (pcpu_makes facts) lines in
       let made = most-acts (pcpu_makes facts (Cpu c) spends.pass) spends.pass (own_added size_of j) refl
       (spent_on_pcpu j) IsIdle (record { no_lock = λ i. refl; nothing_carried = λ i. refl }) (act-most spends.pass)
       (acts_of (Cpu c) items) h spends.made in

@@ -23,7 +23,7 @@ pub fn openings_stand<T: LineTable>()
 {}
 
 /// One line more: where it goes on from a history that stands, the history stands with its steps too, and where the
-/// lines follow one another, so do they with this line.
+/// lines follow one another, so do they with this line. One that makes no step goes on to the state that stands.
 pub fn lines_stand<T: LineTable>()
     ensures stands { (setting : T.Setting) (facts : T.Facts) (lanes : List Lane) (item : Item)
         (h : List (Event T.Step)) (next : T.State) → is_among item.lane lanes ≡ true →
@@ -36,6 +36,11 @@ pub fn lines_stand<T: LineTable>()
         (items : List Item) → Follow T.passes (T.makes setting) T.IsAlone lanes items h →
         Follow T.passes (T.makes setting) T.IsAlone lanes (items ++ item ∷ [])
         (after (pass_of lanes item.lane) goes.steps h) }
+    ensures nothing { (setting : T.Setting) (facts : T.Facts) (lanes : List Lane) (item : Item)
+        (h : List (Event T.Step)) (now : T.State) → is_among item.lane lanes ≡ true →
+        StandsOpen T.machine T.passes facts lanes h now →
+        T.makes setting item.lane (pass_of lanes item.lane) item.act h [] →
+        GoesOnWithLine T.machine (T.makes setting) T.IsAlone facts lanes item h now }
 {}
 
 /// The closing of a phase: the passes of a history that stands end, it is complete with that, and the state stays.
