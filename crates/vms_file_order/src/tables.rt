@@ -4,12 +4,12 @@ ghost use Rattle.vms_core.specs.declared.states.State.{State};
 ghost use Rattle.vms_core.specs.Pages.{pages};
 ghost use Rattle.vms_core.specs.Quiet.{quiet_pages};
 ghost use Rattle.vms_event_core.specs.declared.states.EventState.{EventState};
-ghost use Rattle.vms_event_core.specs.declared.steps.EventFacts.{EventFacts as event_setting};
+ghost use Rattle.vms_event_core.specs.declared.steps.EventFacts.{EventFacts};
 ghost use Rattle.vms_event_core.specs.Events.{events};
 ghost use Rattle.vms_event_core.specs.Quiet.{quiet_events};
 ghost use Rattle.vms_history.specs.declared.events.Event.{Event};
 ghost use Rattle.vms_history.specs.Legal.{Machine, IsQuiet};
-ghost use Rattle.vms_pcpu_core.specs.declared.steps.PcpuFacts.{PcpuFacts as pcpu_setting};
+ghost use Rattle.vms_pcpu_core.specs.declared.steps.PcpuFacts.{PcpuFacts};
 ghost use Rattle.vms_pcpu_core.specs.Histories.{percpu};
 ghost use Rattle.vms_pcpu_core.specs.Quiet.{quiet_percpu};
 ghost use Rattle.vms_pcpu_core.specs.States.{LockedState};
@@ -37,7 +37,7 @@ pub trait LineTable {
 
     ghost State: { Type 0 };
 
-    // What a phase tells of its lines, beside the lines.
+    // What the acts of a phase go by, as its header and the state that it begins with.
     ghost Setting: { Type 0 };
 
     ghost machine: { Machine Self.Facts Self.Step State };
@@ -96,7 +96,7 @@ impl LineTable for EventLines {
 
     ghost State = { EventState };
 
-    ghost Setting = { event_setting };
+    ghost Setting = { EventFacts };
 
     ghost machine = { events };
 
@@ -122,7 +122,7 @@ impl LineTable for PcpuLines {
 
     ghost State = { LockedState };
 
-    ghost Setting = { pcpu_setting };
+    ghost Setting = { PcpuFacts };
 
     ghost machine = { percpu };
 
