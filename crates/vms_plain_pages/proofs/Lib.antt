@@ -1,0 +1,2 @@
+pub mod GroupsTold
+pub mod SnapshotSteps

@@ -1,2 +1,3 @@
 pub mod StateSteps
 pub mod Alone
+pub mod Values

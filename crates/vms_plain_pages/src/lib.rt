@@ -3,5 +3,7 @@
 #![tactic(auto)]
 
 mod tables;
+mod values;
 
 pub use tables::PlainPages;
+pub use values::{place_value, snapshot, system_value};

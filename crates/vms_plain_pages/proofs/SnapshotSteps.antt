@@ -1,0 +1,115 @@
+-- The steps of a snapshot: each CPU is looked at.
+use Rattle.std.proofs.Common.{◌≡◌, ◌≢◌, ℕ, zero, suc, ◌+◌, ◌*◌, ◌/◌, ◌%◌, ◌^◌, ◌≤◌, ℤ, pos, ◌+ℤ◌, ◌≤ℤ◌, unsigned_abs}
+use Rattle.std.proofs.Common.{Bool, true, false, List, [], ◌∷◌, length, Option, if◌then◌else◌, refl, ap, ◌∙◌, arith}
+use Rattle.std.proofs.lemmas.Int.{ints}
+use Rattle.vms_base.specs.declared.ids.CounterId.{CounterId}
+use Rattle.vms_base.specs.declared.ids.CpuId.{CpuId}
+use Rattle.vms_base.specs.declared.kinds.CpuState.{CpuState}
+use Rattle.vms_base.specs.declared.kinds.CpuState.TheVariants.{Online, Dead, Absent}
+use Rattle.vms_base.specs.Cpus.{is_online}
+use Rattle.vms_base.specs.Places.{Shape, IsLayout, IsCounter, IsCpu, first_of, group_of}
+use Rattle.vms_base.proofs.Counts.{IsCounter-member, group_of-lt}
+use Rattle.vms_history.specs.Sums.{sum_below}
+use Rattle.vms_history.proofs.SumBounds.{sum_below-most, sum_below-size}
+use Rattle.vms_alone.specs.InRow.{LeadsOn}
+use Rattle.vms_core.specs.declared.states.State.{State}
+use Rattle.vms_core.specs.declared.steps.Step.TheVariants.{LoadG}
+use Rattle.vms_core.specs.Cells.{cpu_at, diff_at, entry, value_at}
+use Rattle.vms_calls.specs.Lists.{in_turn}
+use Rattle.vms_calls.specs.Looks.{IsSnapshot, Look, at_least_zero, hidden, look_steps}
+use Rattle.vms_calls.specs.Looks.Look.{online, other}
+use Rattle.vms_plain_pages.specs.Alone.{HasRoom, MakesAlone}
+use Rattle.vms_plain_pages.specs.StateSteps.{pages_by_state}
+use Rattle.vms_plain_pages.specs.Values.{online_diff, snapshot_of}
+use Rattle.vms_plain_pages.proofs.GroupsTold.{group_told}
+
+module _ (shape : Shape) (layout : IsLayout shape) (s : State) (room : HasRoom shape (2 ^ 61) s) (k : ℕ)
+    (k_in : IsCounter shape k) where
+  abbrev diff_of : ℕ → ℤ
+  diff_of c = online_diff s c k
+
+  -- looks at m CPUs from c on, and what they find
+  record Looks (c m : ℕ) : Type 0 where
+    pub looks : List Look
+    pub one_each : length looks ≡ m
+    pub leads : (who : Option CpuId) → LeadsOn pages_by_state who (in_turn (look_steps (group_of k)) c looks) s s
+    pub found : hidden k looks +ℤ sum_below diff_of c ≡ sum_below diff_of (c + m)
+
+  module _ (c m : ℕ) (c_in : IsCpu shape c) (rest : Looks (suc c) m) where
+    next : suc c + m ≡ c + suc m
+    next = omega arith
+
+    online-look : cpu_at s c ≡ Online → Looks c (suc m)
+    online-look is =
+        let told = group_told s c (group_of k)
+        (λ i below. room.diffs c (first_of (group_of k) + i) c_in
+        (IsCounter-member shape layout (group_of k) i (group_of-lt shape layout k k_in) below)) in
+        let whole : 8 * (k / 8) + k % 8 ≡ k = omega arith in
+        let entry_is : entry told.0.values k ≡ diff_at s c k =
+        told.1.each (k % 8) (omega arith) ∙ ap (diff_at s c) whole in
+        let here : diff_of c ≡ diff_at s c k = ap (λ x. if is_online x then diff_at s c k else pos 0) is in
+        record {
+          looks = online told.0 ∷ rest.looks;
+          one_each = ap suc rest.one_each;
+          leads = λ who. (is, (told.1, rest.leads who));
+          found = omega (arith, ints, rest.found, entry_is, here, ap (sum_below diff_of) next);
+        }
+
+    other-look : (x : CpuState) → cpu_at s c ≡ x → x ≢ Online → is_online x ≡ false → Looks c (suc m)
+    other-look x is differs off =
+        let here : diff_of c ≡ pos 0 =
+        ap (λ x. if is_online x then diff_at s c k else pos 0) is ∙ ap (λ b. if b then diff_at s c k else pos 0) off in
+        record {
+          looks = other x differs ∷ rest.looks;
+          one_each = ap suc rest.one_each;
+          leads = λ who. (is, rest.leads who);
+          found = omega (arith, ints, rest.found, here, ap (sum_below diff_of) next);
+        }
+
+    look : (x : CpuState) → cpu_at s c ≡ x → Looks c (suc m)
+    look Online is = online-look is
+    look Dead is = other-look Dead is (λ e. cc) refl
+    look Absent is = other-look Absent is (λ e. cc) refl
+
+  looks-from : (c m : ℕ) → c + m ≤ shape.cpus → Looks c m
+  looks-from c zero within = record {
+    looks = [];
+    one_each = refl;
+    leads = λ who. refl;
+    found = let same : c + 0 ≡ c = omega arith in omega (arith, ints, ap (sum_below diff_of) same);
+  }
+  looks-from c (suc m) within =
+      look c m (omega arith) (looks-from (suc c) m (omega arith)) (cpu_at s c) refl
+
+-- what the online CPUs below n have not folded yet is little
+pub online_diffs-most : (shape : Shape) (s : State) (most : ℕ) → HasRoom shape most s → (k n : ℕ) → IsCounter shape k
+    → n ≤ shape.cpus → unsigned_abs (sum_below (λ c. online_diff s c k) n) ≤ n * 125
+online_diffs-most shape s most room k n k_in within =
+    let each = sum_below-most (λ c. pos (unsigned_abs (online_diff s c k))) n 125
+    (λ c below. by (is_online (cpu_at s c)) (diff_at s c k) (room.diffs c k (omega arith) k_in)) in
+    omega (arith, ints, sum_below-size (λ c. online_diff s c k) n, each)
+  where
+    by : (b : Bool) (z : ℤ) → unsigned_abs z ≤ 125 → pos (unsigned_abs (if b then z else pos 0)) ≤ℤ pos 125
+    by true z few = omega (arith, ints)
+    by false z few = omega (arith, ints)
+
+-- a snapshot is made, and answers what the state tells
+pub snapshot-made : (shape : Shape) → IsLayout shape → (s : State) → HasRoom shape (2 ^ 61) s
+    → (counter : CounterId) → IsCounter shape counter.number → (who : Option CpuId)
+    → MakesAlone who (λ steps. IsSnapshot shape counter steps (snapshot_of shape s counter.number)) s s
+snapshot-made shape layout s room counter k_in who =
+    let k = counter.number in
+    let all = looks-from shape layout s room k k_in 0 shape.cpus (omega arith) in
+    let whole : 0 + shape.cpus ≡ shape.cpus = omega arith in
+    let found : sum_below (λ c. online_diff s c k) shape.cpus ≡ hidden k all.looks =
+    omega (arith, ints, all.found, ap (sum_below (λ c. online_diff s c k)) whole) in (
+      LoadG counter (value_at s k) ∷ in_turn (look_steps (group_of k)) 0 all.looks,
+      record {
+        value = value_at s k;
+        looks = all.looks;
+        one_each = all.one_each;
+        in_order = refl;
+        answers = ap (λ z. at_least_zero (value_at s k +ℤ z)) found;
+      },
+      (refl, all.leads who),
+    )
