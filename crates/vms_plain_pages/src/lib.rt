@@ -2,8 +2,10 @@
 //! in a row.
 #![tactic(auto)]
 
+mod folding;
 mod tables;
 mod values;
 
+pub use folding::fold;
 pub use tables::PlainPages;
 pub use values::{place_value, snapshot, system_value};
