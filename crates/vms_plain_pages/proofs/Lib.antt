@@ -6,3 +6,4 @@ pub mod TakenGroups
 pub mod AddedSums
 pub mod SmallSums
 pub mod FoldedPlaces
+pub mod TestSteps

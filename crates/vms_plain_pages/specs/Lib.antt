@@ -1,5 +1,6 @@
 pub mod StateSteps
 pub mod Alone
 pub mod Values
+pub mod Verdicts
 pub mod Folding
 pub mod FoldParts

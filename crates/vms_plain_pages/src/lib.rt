@@ -5,7 +5,9 @@
 mod folding;
 mod tables;
 mod values;
+mod watermarks;
 
 pub use folding::fold;
 pub use tables::PlainPages;
 pub use values::{place_value, snapshot, system_value};
+pub use watermarks::{Verdict, watermark_test};
