@@ -7,3 +7,5 @@ pub mod AddedSums
 pub mod SmallSums
 pub mod FoldedPlaces
 pub mod TestSteps
+pub mod AreaLists
+pub mod OrderSteps

@@ -2,5 +2,6 @@ pub mod StateSteps
 pub mod Alone
 pub mod Values
 pub mod Verdicts
+pub mod Orders
 pub mod Folding
 pub mod FoldParts

@@ -3,11 +3,13 @@
 #![tactic(auto)]
 
 mod folding;
+mod orders;
 mod tables;
 mod values;
 mod watermarks;
 
 pub use folding::fold;
+pub use orders::{OrderVerdict, order_test};
 pub use tables::PlainPages;
 pub use values::{place_value, snapshot, system_value};
 pub use watermarks::{Verdict, watermark_test};
