@@ -9,3 +9,5 @@ pub mod FoldedPlaces
 pub mod TestSteps
 pub mod AreaLists
 pub mod OrderSteps
+pub mod ZonesUpTo
+pub mod BalanceSteps

@@ -3,5 +3,6 @@ pub mod Alone
 pub mod Values
 pub mod Verdicts
 pub mod Orders
+pub mod Balances
 pub mod Folding
 pub mod FoldParts

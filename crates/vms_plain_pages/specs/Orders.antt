@@ -44,15 +44,15 @@ area_found header g mark most (suc n) s =
     else None
 
 -- whether a zone passes: at order 0 by its free pages alone
-abbrev pub passes : Header → ℕ → WaterMark → (most order : ℕ) → State → Bool
-passes header g mark most zero s = (verdict_at header g mark most s).yes
-passes header g mark most (suc n) s = is_some (area_found header g mark most (suc n) s)
+abbrev pub zone_passes : Header → ℕ → WaterMark → (most order : ℕ) → State → Bool
+zone_passes header g mark most zero s = (verdict_at header g mark most s).yes
+zone_passes header g mark most (suc n) s = is_some (area_found header g mark most (suc n) s)
 
 -- the answer of a test whether zone g has more free pages than a watermark asks for, and a free block of an order or
 -- larger
 abbrev pub order_verdict_at : Header → ℕ → WaterMark → (most order : ℕ) → State → turns.OrderVerdict
 order_verdict_at header g mark most order s = record {
-  yes = passes header g mark most order s;
+  yes = zone_passes header g mark most order s;
   free = free_of header.layout s g;
   fast = not (takes_snapshot header.layout s g);
   area = area_found header g mark most order s;

@@ -2,12 +2,14 @@
 //! in a row.
 #![tactic(auto)]
 
+mod balances;
 mod folding;
 mod orders;
 mod tables;
 mod values;
 mod watermarks;
 
+pub use balances::{Balance, balance_test};
 pub use folding::fold;
 pub use orders::{OrderVerdict, order_test};
 pub use tables::PlainPages;
