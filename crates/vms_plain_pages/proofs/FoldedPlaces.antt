@@ -95,7 +95,8 @@ module _ (shape : Shape) (layout : IsLayout shape) (is_own : Bool) (c : CpuId) (
     zone : acknowledges shape is_own g ≡ true
     zone = let is_zone : nat_lt g (length shape.zones) ≡ true = grind (arith, nat_tests) in rw (own, is_zone) refl
 
-    place-leads : (who : Option CpuId) → who ≡ Some c → LeadsOn pages_by_state who (place_steps shape true c g found) s next
+    place-leads : (who : Option CpuId) → who ≡ Some c
+        → LeadsOn pages_by_state who (place_steps shape true c g found) s next
     place-leads who is = (
       λ (d : CpuId) (owns : who ≡ Some d).
           let same : c ≡ d = cc in

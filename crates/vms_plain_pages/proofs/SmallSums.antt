@@ -7,6 +7,10 @@ use Rattle.vms_core.proofs.LevelStates.{get_or-copies}
 pub AreSums-more : (most more : ℕ) (sums : List ℤ) → most ≤ more → AreSums most sums → AreSums more sums
 AreSums-more most more sums up small = record { each = λ i. let few = small.each i in omega arith }
 
+-- the sums that a fold begins with
+abbrev pub no_sums : List ℤ
+no_sums = replicate 32 (pos 0)
+
 pub sum_at-zeros : (n i : ℕ) → sum_at (replicate n (pos 0)) i ≡ pos 0
 sum_at-zeros n i = get_or-copies n i (pos 0)
 

@@ -15,8 +15,9 @@ use vms_core::Plain;
 const MOST_ITEMS: usize = 32;
 
 /// Folds a CPU: its differentials move to the global values, and what was taken for each item to the system-wide ones
-/// (`cpu_vm_stats_fold` and, with `own`, `refresh_cpu_vm_stats` of mm/vmstat.c). The owner of a CPU folds it with `own`,
-/// and acknowledges the threshold of each zone once the zone's differentials are taken, which the kernel doesn't.
+/// (`cpu_vm_stats_fold` and, with `own`, `refresh_cpu_vm_stats` of mm/vmstat.c). The owner of a CPU folds it with
+/// `own`, and acknowledges the threshold of each zone once the zone's differentials are taken, which is not the
+/// kernel's.
 pub fn fold(pages: &mut Plain, layout: &Layout, cpu: CpuId, own: bool)
     requires room { HasRoom layout.now (2 ^ 61) pages.old }
     requires cpu { IsCpu layout.now cpu.number }

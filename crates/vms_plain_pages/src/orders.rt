@@ -1,5 +1,5 @@
-ghost use Rattle.std.specs.Prelude.{◌≡◌, ◌+◌, ◌<◌, ◌≤◌, ◌^◌, ◌&&◌, not, [], ◌-◌, slice_index_or, bytes_eq, filter, map, position};
-ghost use Rattle.std.specs.Prelude.{if◌then◌else◌, is_some, IfSome, None, Option};
+ghost use Rattle.std.specs.Prelude.{◌≡◌, ◌+◌, ◌-◌, ◌<◌, ◌≤◌, ◌^◌, ◌&&◌, not, [], slice_index_or, bytes_eq, filter};
+ghost use Rattle.std.specs.Prelude.{map, position, if◌then◌else◌, is_some, IfSome, None, Option};
 ghost use Rattle.vms_base.specs.declared.ids.CpuId.{CpuId};
 ghost use Rattle.vms_base.specs.Areas.{area_at, area_names, areas_from, areas_of};
 ghost use Rattle.vms_base.specs.Headers.{IsHeader};
@@ -32,8 +32,8 @@ pub struct OrderVerdict {
 
 /// Tests whether a zone has more free pages than a watermark asks for and, above order 0, a free block of `2^order`
 /// pages or more (`__zone_watermark_ok` of mm/page_alloc.c). Blocks are looked for in the zone items `area1` to
-/// `area10` that the header declares, and only where more pages than the watermark asks for are left once all pages of a
-/// block but one are taken off.
+/// `area10` that the header declares, and only where more pages than the watermark asks for are left once all pages of
+/// a block but one are taken off.
 pub fn order_test(
     pages: &Plain,
     header: &Header,

@@ -25,8 +25,8 @@ pub struct Verdict {
 }
 
 /// Tests whether a zone has more free pages than a watermark asks for, for a request that may use the zones of its node
-/// up to the zone index `most` (`zone_watermark_ok_safe` of mm/page_alloc.c at order 0). Below the zone's drift mark the
-/// free pages are a snapshot. Nobody sets the mark meanwhile, so one load tells it.
+/// up to the zone index `most` (`zone_watermark_ok_safe` of mm/page_alloc.c at order 0). Below the zone's drift mark
+/// the free pages are a snapshot. Nobody sets the mark meanwhile, so one load tells it.
 pub fn watermark_test(
     pages: &Plain,
     header: &Header,

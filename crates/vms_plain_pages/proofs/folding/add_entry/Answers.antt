@@ -11,4 +11,5 @@ returns-else-amount-ne0-clause-value c =
 
 pub returns-else-amount-ne0-clause-sum : goal.returns-else-amount-ne0-clause-sum
 returns-else-amount-ne0-clause-sum c =
-    sym (set-nothing c.args.sums.now (item_of c.args.layout.now c.args.counter.number) c.args.amount (omega (arith, ints)))
+    sym (set-nothing c.args.sums.now (item_of c.args.layout.now c.args.counter.number) c.args.amount
+    (omega (arith, ints)))

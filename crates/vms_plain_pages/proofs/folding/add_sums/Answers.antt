@@ -27,7 +27,8 @@ loop-number-preserved c =
           (AddsBelow-more shape sums s n n_in c.loop-number.pages within c.loop-number.invariant))
       | else-sum-ne0 w ↦
           subst (AddsBelow shape sums s (n + 1)) (sym w.pages-is)
-          (AddsBelow-kept shape sums s n n_in c.loop-number.pages within c.loop-number.invariant (omega (arith, ints, w.if-sum-ne0.false)))
+          (AddsBelow-kept shape sums s n n_in c.loop-number.pages within c.loop-number.invariant
+          (omega (arith, ints, w.if-sum-ne0.false)))
     ]
 
 pub returns : goal.returns

@@ -30,6 +30,7 @@ returns-else-own-clause-folds c =
       | else-own-via-else-own w ↦
           ap (λ (b : Bool). b && nat_lt c.args.place.number (length c.args.layout.now.zones)) w.if-own.false
     ] in
-    FoldsPlace-plain c.args.layout.now c.zones.ensures.is_layout c.args.own c.args.cpu c.requires.cpu c.args.place.number c.args.pages.now
+    FoldsPlace-plain c.args.layout.now c.zones.ensures.is_layout c.args.own c.args.cpu c.requires.cpu
+    c.args.place.number c.args.pages.now
     c.fold_groups-else-own.new.pages c.requires.room.shaped c.args.sums.now c.fold_groups-else-own.new.sums
     c.fold_groups-else-own.ensures.folds none

@@ -8,4 +8,5 @@ pub watermark-requires : goal.watermark-requires
 watermark-requires c =
     let none : ZoneSize = record { managed = 0; min = 0; low = 0; high = 0 } in
     subst IsValidSize (c.get-size.ensures none)
-    (c.requires.header.sizes_valid c.args.zone.number none (omega (arith, c.requires.header.sizes_length, c.requires.zone)))
+    (c.requires.header.sizes_valid c.args.zone.number none
+    (omega (arith, c.requires.header.sizes_length, c.requires.zone)))
