@@ -1,0 +1,87 @@
+-- A burial: a fold, a CPU that becomes absent, and a refresh.
+use Rattle.std.proofs.Common.{◌≡◌, ℕ, if◌then◌else◌, false, pos, List, [], ◌∷◌, ◌++◌}
+use Rattle.std.proofs.Common.{None, refl, sym, ap, subst, ◌∙◌, eq-eqb}
+use Rattle.vms_base.specs.declared.headers.Header.{Header}
+use Rattle.vms_base.specs.declared.ids.CpuId.{CpuId}
+use Rattle.vms_base.specs.declared.kinds.CpuState.{CpuState}
+use Rattle.vms_base.specs.declared.kinds.CpuState.TheVariants.{Absent, Dead}
+use Rattle.vms_base.specs.declared.kinds.ZoneSize.{ZoneSize}
+use Rattle.vms_base.specs.Cpus.{state_at}
+use Rattle.vms_base.specs.Places.{Shape, IsCpu, IsCounter}
+use Rattle.vms_history.specs.Events.{after}
+use Rattle.vms_history.proofs.Own.{after-steps}
+use Rattle.vms_alone.specs.InRow.{GoesOnTo, LeadsOn}
+use Rattle.vms_alone.proofs.InRow.{LeadsOn-append, call-goes_on}
+use Rattle.vms_core.specs.declared.states.State.{State}
+use Rattle.vms_core.specs.declared.steps.Step.TheVariants.{SetO}
+use Rattle.vms_core.specs.Cells.{cpu_at, diff_at, with_cpu}
+use Rattle.vms_core.specs.Pages.{pages}
+use Rattle.vms_calls.specs.Folds.{IsFold}
+use Rattle.vms_calls.specs.HeaderFacts.{facts_of}
+use Rattle.vms_calls.specs.MayCall.{MakesFold}
+use Rattle.vms_calls.specs.MayMake as making
+use Rattle.vms_calls.specs.Ratings.{Buries, Refreshes}
+use Rattle.vms_plain_pages.specs.Alone.{MakesAlone}
+use Rattle.vms_plain_pages.specs.Folding.{FoldsCpu}
+use Rattle.vms_plain_pages.specs.StateSteps.{pages_by_state, pages_are_by_state}
+use Rattle.vms_plain_ratings.specs.Control.{MakesCall, MakesUnladenCall}
+use Rattle.vms_plain_ratings.specs.KnownPeaks.{KnowsPeaks}
+use Rattle.vms_plain_ratings.proofs.ControlledHistories.{Controls-after, GoesOnTo-both, absent-goes_on}
+use Rattle.vms_plain_ratings.proofs.UntouchedPeaks.{KnowsPeaks-left, fold-leaves}
+
+module _ (header : Header) (c : CpuId) (s folded : State) (folds : FoldsCpu header.layout false c.number s folded) where
+  abbrev shape : Shape
+  shape = header.layout
+
+  -- the state in which the CPU is absent
+  abbrev pub buried : State
+  buried = with_cpu folded c.number Absent
+
+  folded-cpus : folded.cpu ≡ s.cpu
+  folded-cpus = ap (λ (x : State). x.cpu) folds.rest
+
+  folded-zeros : IsCpu shape c.number → (k : ℕ) → IsCounter shape k → diff_at folded c.number k ≡ pos 0
+  folded-zeros c_in k k_in = folds.diffs c.number k c_in k_in
+      ∙ ap (λ b. if b then pos 0 else diff_at s c.number k) (eq-eqb c.number c.number refl)
+
+  module _ (peaks known : List ℕ) (next : State) (normal : ZoneSize → ℕ → ℕ → Type 0) (c_in : IsCpu shape c.number)
+      (dead : cpu_at s c.number ≡ Dead) (may_fold : MakesFold) (made : MakesAlone None (IsFold shape false c) s folded)
+      (refreshes : MakesCall header (λ base p h steps. Refreshes (facts_of header base) normal p h steps) buried peaks
+      next known) where
+    pub burial-makes : MakesUnladenCall header (λ base p h steps. Buries (facts_of header base) normal c p h steps) s
+        peaks next known
+    burial-makes base h p controls unladen =
+        let facts = facts_of header base in
+        let fold = made.0 in
+        let set = SetO c ∷ [] in
+        let begun = after p fold h in
+        let first : GoesOnTo pages facts p fold h folded =
+        call-goes_on pages making.Tells pages_by_state pages_are_by_state facts p None h
+        (λ ks. IsFold shape false c ks) fold folded controls.control.living.legal controls.control.living.lives
+        controls.control.control
+        (may_fold facts h p false c controls.control.living c_in (λ is. absurd cc) unladen) made.1
+        (subst (λ (x : State). LeadsOn pages_by_state None fold x folded) (sym controls.stands) made.2) in
+        let one = Controls-after header base h p s peaks controls fold folded peaks first
+        (KnowsPeaks-left facts p fold (fold-leaves shape c fold made.1) h peaks controls.known) in
+        let second = absent-goes_on header base begun p folded peaks one c c_in
+        (ap (λ (xs : List CpuState). state_at xs c.number) folded-cpus ∙ dead) (folded-zeros c_in) in
+        let two = Controls-after header base begun p folded peaks one set buried peaks second
+        (KnowsPeaks-left facts p set (tt, tt) begun peaks one.known) in
+        let last = refreshes base (after p set begun) p two in
+        let steps = fold ++ (SetO c ∷ last.0) in
+        let come : after p (fold ++ set) h ≡ after p set begun = after-steps p fold set h in
+        let whole : after p steps h ≡ after p last.0 (after p set begun) =
+        after-steps p fold (SetO c ∷ last.0) h in (
+          steps,
+          record {
+            fold = fold;
+            folds = made.1;
+            refresh = last.0;
+            refreshes = subst (λ k. Refreshes facts normal p k last.0) (sym come) last.1;
+            in_order = refl;
+          },
+          LeadsOn-append pages_by_state None fold (SetO c ∷ last.0) s folded next made.2 (tt, last.2),
+          GoesOnTo-both facts p fold (SetO c ∷ last.0) h folded next first
+              (record { legal = last.3.legal; state = last.3.state }),
+          subst (λ k. KnowsPeaks facts k known) (sym whole) last.4,
+        )

@@ -1,0 +1,14 @@
+use Rattle.std.proofs.Common.{◌≡◌, ◌≤◌, ◌*◌}
+use Rattle.vms_history.specs.Sums.{count_below}
+use Rattle.vms_core.specs.Cells.{cpu_at}
+use Rattle.vms_core.specs.Peaks.{if_present}
+use Rattle.vms_plain_ratings.specs.KnownPeaks.{peak_in}
+use Rattle.vms_plain_ratings.proofs.peaks.Peaks.hidden.Given as goal
+
+-- what the CPUs so far may hide
+abbrev pub invariant-loop-number : goal.invariant-loop-number
+invariant-loop-number l = record {
+  value : l.sum
+      ≡ count_below (λ c. if_present (cpu_at l.pages c) (peak_in l.layout l.self c l.zone.number)) l.number;
+  most : l.sum ≤ l.number * 125;
+}
