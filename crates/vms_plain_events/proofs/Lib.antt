@@ -1,0 +1,3 @@
+pub mod WrittenWords
+pub mod MovedWords
+pub mod OnlineWords
