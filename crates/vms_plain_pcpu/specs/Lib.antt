@@ -1,0 +1,4 @@
+pub mod StateSteps
+pub mod FreeLocks
+pub mod Numbers
+pub mod Answers
