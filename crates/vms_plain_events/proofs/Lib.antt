@@ -1,3 +1,4 @@
 pub mod WrittenWords
 pub mod MovedWords
 pub mod OnlineWords
+pub mod Rooms

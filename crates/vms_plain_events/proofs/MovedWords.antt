@@ -12,9 +12,9 @@ use Rattle.vms_event_core.specs.declared.states.EventState.{EventState}
 use Rattle.vms_event_core.specs.declared.steps.EventStep.{EventStep}
 use Rattle.vms_event_core.specs.Calls.{IsFoldEvents, folds, moves}
 use Rattle.vms_event_core.specs.Words.{IsEvent, event_count, with_word, word_at}
-use Rattle.vms_plain_events.specs.PlainWords.{HasCpus, MovesWords, with_moved}
+use Rattle.vms_plain_events.specs.PlainWords.{HasWords, MovesWords, with_moved}
 use Rattle.vms_plain_events.specs.StateSteps.{events_by_state}
-use Rattle.vms_plain_events.proofs.WrittenWords.{HasCpus-with_word, word_at-kept, word_at-written}
+use Rattle.vms_plain_events.proofs.WrittenWords.{HasWords-with_word, word_at-kept, word_at-written}
 
 -- the steps of one event more
 folds-push : (from into : CpuId) (k n : ℕ) (found : List ℕ) (v : ℕ) → k + length found ≡ n
@@ -83,11 +83,11 @@ module _ (from into : CpuId) (other : from.number ≢ into.number) where
       leads = refl;
     }
 
-    pub HasCpus-moved : (m n : ℕ) (now : EventState) → MovesBelow from into s m now → HasCpus s n → HasCpus now n
-    HasCpus-moved m n now so_far has = omega (arith, so_far.one_each)
+    pub HasWords-moved : (m n : ℕ) (now : EventState) → MovesBelow from into s m now → HasWords s n → HasWords now n
+    HasWords-moved m n now so_far has = omega (arith, so_far.one_each)
 
-    module _ (m : ℕ) (m_in : IsEvent m) (has_from : HasCpus s (from.number + 1))
-        (has_into : HasCpus s (into.number + 1)) (now : EventState) (so_far : MovesBelow from into s m now) where
+    module _ (m : ℕ) (m_in : IsEvent m) (has_from : HasWords s (from.number + 1))
+        (has_into : HasWords s (into.number + 1)) (now : EventState) (so_far : MovesBelow from into s m now) where
       abbrev sum : ℕ
       sum = word_at now into.number m + word_at now from.number m
 
@@ -107,12 +107,12 @@ module _ (from into : CpuId) (other : from.number ≢ into.number) where
       taken-next : word_at next from.number m ≡ 0
       taken-next =
           word_at-kept first into.number m sum from.number m m_in m_in (λ same also. other same)
-          ∙ word_at-written now from.number m 0 (HasCpus-moved m (from.number + 1) now so_far has_from) m_in
+          ∙ word_at-written now from.number m 0 (HasWords-moved m (from.number + 1) now so_far has_from) m_in
 
       grown-next : word_at next into.number m ≡ word_at s into.number m + word_at s from.number m
       grown-next =
-          let has = HasCpus-with_word now (into.number + 1) from.number m 0
-          (HasCpus-moved m (into.number + 1) now so_far has_into) in
+          let has = HasWords-with_word now (into.number + 1) from.number m 0
+          (HasWords-moved m (into.number + 1) now so_far has_into) in
           let was_into = so_far.ahead into.number m m_in (omega arith) in
           let was_from = so_far.ahead from.number m m_in (omega arith) in
           word_at-written first into.number m sum has m_in ∙ omega (arith, was_into, was_from)

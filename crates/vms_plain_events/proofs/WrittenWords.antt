@@ -5,16 +5,17 @@ use Rattle.vms_base.specs.Places.{cell}
 use Rattle.vms_base.proofs.Cells.{cell-injective}
 use Rattle.vms_event_core.specs.declared.states.EventState.{EventState}
 use Rattle.vms_event_core.specs.Words.{IsEvent, event_count, with_word, word_at}
-use Rattle.vms_plain_events.specs.PlainWords.{HasCpus}
+use Rattle.vms_plain_events.specs.PlainWords.{HasWords}
 
 -- the word of a CPU stands in the list
-pub cell-in : (s : EventState) (c k : ℕ) → HasCpus s (c + 1) → IsEvent k → cell event_count c k < length s.words
+pub cell-in : (s : EventState) (c k : ℕ) → HasWords s (c + 1) → IsEvent k → cell event_count c k < length s.words
 cell-in s c k has k_in = omega arith
 
-pub HasCpus-with_word : (s : EventState) (n c k v : ℕ) → HasCpus s n → HasCpus (with_word s c k v) n
-HasCpus-with_word s n c k v has = omega (arith, length-set s.words (cell event_count c k) v)
+pub HasWords-with_word : (s : EventState) (n c k v : ℕ) → HasWords s n → HasWords (with_word s c k v) n
+HasWords-with_word s n c k v has = omega (arith, length-set s.words (cell event_count c k) v)
 
-pub word_at-written : (s : EventState) (c k v : ℕ) → HasCpus s (c + 1) → IsEvent k → word_at (with_word s c k v) c k ≡ v
+pub word_at-written : (s : EventState) (c k v : ℕ) → HasWords s (c + 1) → IsEvent k
+    → word_at (with_word s c k v) c k ≡ v
 word_at-written s c k v has k_in = get_or-set_same s.words (cell event_count c k) v 0 (cell-in s c k has k_in)
 
 pub word_at-kept : (s : EventState) (c k v d l : ℕ) → IsEvent k → IsEvent l → (d ≡ c → l ≡ k → ⊥)

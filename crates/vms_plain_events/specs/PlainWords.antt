@@ -4,8 +4,8 @@ use Rattle.vms_event_core.specs.declared.states.EventState.{EventState}
 use Rattle.vms_event_core.specs.Words.{IsEvent, event_count, with_word, word_at}
 
 -- there is a word for each of n CPUs and each event
-abbrev pub HasCpus : EventState → ℕ → Type 0
-HasCpus s n = n * event_count ≤ length s.words
+abbrev pub HasWords : EventState → ℕ → Type 0
+HasWords s n = n * event_count ≤ length s.words
 
 -- the word of CPU `from` for event k moves to that of CPU `into`
 abbrev pub with_moved : (from into k : ℕ) → EventState → EventState

@@ -3,7 +3,7 @@ ghost use Rattle.vms_alone.specs.InRow.{LeadsOn};
 ghost use Rattle.vms_event_core.specs.declared.steps.EventStep.{EventStep};
 ghost use Rattle.vms_event_core.specs.Calls.{IsCount};
 ghost use Rattle.vms_event_core.specs.Words.{IsEvent, with_word, word_at};
-ghost use Rattle.vms_plain_events.specs.PlainWords.{HasCpus};
+ghost use Rattle.vms_plain_events.specs.PlainWords.{HasWords};
 ghost use Rattle.vms_plain_events.specs.StateSteps.{events_by_state};
 
 use crate::words::grow;
@@ -13,7 +13,7 @@ use vms_event_core::EventState;
 /// Counts an event `n` times on a CPU (`count_vm_events` of include/linux/vmstat.h).
 #[inline]
 pub fn count(events: &mut EventState, cpu: CpuId, event: EventId, n: u64)
-    requires cpu { HasCpus events.old (cpu.number + 1) }
+    requires cpu { HasWords events.old (cpu.number + 1) }
     requires event { IsEvent event.number }
     requires room { word_at events.old cpu.number event.number + n < 2 ^ 64 }
     ensures grows { events.new ≡ with_word events.old cpu.number event.number

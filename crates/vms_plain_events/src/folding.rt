@@ -3,7 +3,7 @@ ghost use Rattle.vms_alone.specs.InRow.{LeadsOn};
 ghost use Rattle.vms_event_core.specs.declared.steps.EventStep.{EventStep};
 ghost use Rattle.vms_event_core.specs.Calls.{IsFoldEvents};
 ghost use Rattle.vms_event_core.specs.Words.{IsEvent, word_at};
-ghost use Rattle.vms_plain_events.specs.PlainWords.{HasCpus, MovesWords, with_moved};
+ghost use Rattle.vms_plain_events.specs.PlainWords.{HasWords, MovesWords, with_moved};
 ghost use Rattle.vms_plain_events.specs.StateSteps.{events_by_state};
 
 use crate::words::{EVENTS, grow, set_word, word};
@@ -12,8 +12,8 @@ use vms_event_core::EventState;
 
 /// Moves what a dead CPU has counted into the words of another (`vm_events_fold_cpu` of mm/vmstat.c).
 pub fn fold_events(events: &mut EventState, from: CpuId, into: CpuId)
-    requires from { HasCpus events.old (from.number + 1) }
-    requires into { HasCpus events.old (into.number + 1) }
+    requires from { HasWords events.old (from.number + 1) }
+    requires into { HasWords events.old (into.number + 1) }
     requires other { from.number ≢ into.number }
     requires room { (k : ℕ) → IsEvent k →
         word_at events.old into.number k + word_at events.old from.number k < 2 ^ 64 }
@@ -27,8 +27,8 @@ pub fn fold_events(events: &mut EventState, from: CpuId, into: CpuId)
 }
 
 fn move_word(events: &mut EventState, from: CpuId, into: CpuId, event: EventId)
-    requires from { HasCpus events.old (from.number + 1) }
-    requires into { HasCpus events.old (into.number + 1) }
+    requires from { HasWords events.old (from.number + 1) }
+    requires into { HasWords events.old (into.number + 1) }
     requires other { from.number ≢ into.number }
     requires event { IsEvent event.number }
     requires room { word_at events.old into.number event.number + word_at events.old from.number event.number < 2 ^ 64 }

@@ -4,11 +4,13 @@
 
 mod counting;
 mod folding;
+mod laws;
 mod summing;
 mod tables;
 mod words;
 
 pub use counting::count;
 pub use folding::fold_events;
+pub use laws::histories_leave_room;
 pub use summing::all_events;
 pub use tables::PlainEvents;

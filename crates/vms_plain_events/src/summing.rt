@@ -5,7 +5,7 @@ ghost use Rattle.vms_base.specs.Cpus.{online_from, is_online as tells_online};
 ghost use Rattle.vms_event_core.specs.declared.steps.EventStep.{EventStep};
 ghost use Rattle.vms_event_core.specs.Calls.{IsAllEvents, sum_over};
 ghost use Rattle.vms_event_core.specs.Words.{IsEvent};
-ghost use Rattle.vms_plain_events.specs.PlainWords.{HasCpus};
+ghost use Rattle.vms_plain_events.specs.PlainWords.{HasWords};
 ghost use Rattle.vms_plain_events.specs.StateSteps.{events_by_state};
 
 use crate::words::word;
@@ -15,7 +15,7 @@ use vms_event_core::EventState;
 /// What the CPUs that are online have counted of an event (`all_vm_events` of mm/vmstat.c). `states` has the state of
 /// each CPU.
 pub fn all_events(events: &EventState, states: &[CpuState], event: EventId) -> u64
-    requires cpus { HasCpus events.now (length states.now) }
+    requires cpus { HasWords events.now (length states.now) }
     requires few { length states.now ≤ 128 }
     requires event { IsEvent event.number }
     requires room { sum_over events.now event.number (online_from 0 states.now) < 2 ^ 64 }

@@ -1,7 +1,7 @@
 ghost use Rattle.std.specs.Prelude.{◌≡◌, ◌+◌, ◌<◌, ◌^◌};
 ghost use Rattle.vms_base.specs.Places.{cell};
 ghost use Rattle.vms_event_core.specs.Words.{IsEvent, event_count, with_word, word_at};
-ghost use Rattle.vms_plain_events.specs.PlainWords.{HasCpus};
+ghost use Rattle.vms_plain_events.specs.PlainWords.{HasWords};
 
 use vms_base::{CpuId, EventId};
 use vms_event_core::EventState;
@@ -19,7 +19,7 @@ fn place(cpu: CpuId, event: EventId) -> usize
 
 #[inline]
 pub(crate) fn word(events: &EventState, cpu: CpuId, event: EventId) -> u64
-    requires cpu { HasCpus events.now (cpu.number + 1) }
+    requires cpu { HasWords events.now (cpu.number + 1) }
     requires event { IsEvent event.number }
     ensures { result ≡ word_at events.now cpu.number event.number }
 {
@@ -28,7 +28,7 @@ pub(crate) fn word(events: &EventState, cpu: CpuId, event: EventId) -> u64
 
 #[inline]
 pub(crate) fn set_word(events: &mut EventState, cpu: CpuId, event: EventId, value: u64)
-    requires cpu { HasCpus events.old (cpu.number + 1) }
+    requires cpu { HasWords events.old (cpu.number + 1) }
     requires event { IsEvent event.number }
     ensures { events.new ≡ with_word events.old cpu.number event.number value }
 {
@@ -37,7 +37,7 @@ pub(crate) fn set_word(events: &mut EventState, cpu: CpuId, event: EventId, valu
 
 #[inline]
 pub(crate) fn grow(events: &mut EventState, cpu: CpuId, event: EventId, n: u64)
-    requires cpu { HasCpus events.old (cpu.number + 1) }
+    requires cpu { HasWords events.old (cpu.number + 1) }
     requires event { IsEvent event.number }
     requires room { word_at events.old cpu.number event.number + n < 2 ^ 64 }
     ensures { events.new ≡ with_word events.old cpu.number event.number

@@ -1,11 +1,12 @@
 -- For other crates too: the steps of an addition and of a sync that meet no other caller.
 use Rattle.std.proofs.Common.{◌≡◌, ◌<◌, ◌≤◌, Bool, true, false, List, [], ◌∷◌, Option, Some, refl, sym, ap, subst}
-use Rattle.std.proofs.Common.{arith}
-use Rattle.std.proofs.Common.{ℤ, pos, ◌+ℤ◌, unsigned_abs, if◌then◌else◌, nat_lt}
+use Rattle.std.proofs.Common.{arith, length, ◌+◌, get_or-set_same, ℤ, pos, ◌+ℤ◌, unsigned_abs, if◌then◌else◌, nat_lt}
 use Rattle.std.proofs.lemmas.Bool.Decides.{nat_tests}
 use Rattle.std.proofs.lemmas.Int.{ints}
 use Rattle.vms_base.specs.declared.ids.CpuId.{CpuId}
 use Rattle.vms_base.specs.declared.ids.PcpuId.{PcpuId}
+use Rattle.vms_base.specs.Places.{cell}
+use Rattle.vms_base.proofs.Cells.{cell-lt}
 use Rattle.vms_pcpu_core.specs.declared.states.PcpuState.{PcpuState}
 use Rattle.vms_pcpu_core.specs.declared.steps.PcpuStep.{PcpuStep}
 use Rattle.vms_pcpu_core.specs.declared.steps.PcpuStep.TheVariants.{AddL, Won, LoadL, TakeL, AddC, Unlock}
@@ -13,9 +14,9 @@ use Rattle.vms_pcpu_core.specs.Calls.{IsAdd, IsSync}
 use Rattle.vms_pcpu_core.specs.Calls.IsAdd.{below, reached}
 use Rattle.vms_pcpu_core.specs.Calls.IsSync.{moved}
 use Rattle.vms_pcpu_core.specs.Calls.Locks.{won}
-use Rattle.vms_pcpu_core.specs.States.{LockedState, batch_at, local_at}
+use Rattle.vms_pcpu_core.specs.States.{LockedState, batch_at, count_at, counters_of, local_at}
 use Rattle.vms_plain_pcpu.specs.FreeLocks.{LeadsAlone, under_free_locks}
-use Rattle.vms_plain_pcpu.specs.Numbers.{with_added, with_local_added, with_local_moved}
+use Rattle.vms_plain_pcpu.specs.Numbers.{HasLocals, HasRoomFor, with_added, with_local_added, with_local_moved}
 use Rattle.vms_plain_pcpu.proofs.StepsAlone.{LeadsAlone-cons, LeadsAlone-none, LeadsAlone-unlock, LeadsAlone-won}
 use Rattle.vms_plain_pcpu.proofs.StepsAlone.{under_lock}
 
@@ -87,6 +88,42 @@ module _ (s : PcpuState) (cpu : CpuId) (j : PcpuId) where
             LeadsAlone-cons (Some cpu) (LoadL j cpu l) (Won j ∷ steps) (under_free_locks s) next refl tt
                 (LeadsAlone-won (Some cpu) s j steps next (LeadsAlone-move (Some cpu) (l +ℤ amount) amount refl)),
           )
+
+  module _ (room : HasRoomFor s j.number) (has : HasLocals s (cpu.number + 1)) where
+    local-in : cell (counters_of s) cpu.number j.number < length s.local
+    local-in =
+        let in_row = cell-lt (counters_of s) (cpu.number + 1) cpu.number j.number (omega arith) room.counter in
+        omega arith
+
+    -- nothing is lost where the local part moves
+    pub with_local_moved-total : (amount : ℤ)
+        → count_at (with_local_moved cpu.number j.number amount s) j.number
+        +ℤ local_at (with_local_moved cpu.number j.number amount s) cpu.number j.number
+        ≡ (count_at s j.number +ℤ l) +ℤ amount
+    with_local_moved-total amount =
+        let count = get_or-set_same s.count j.number (count_at s j.number +ℤ (l +ℤ amount)) (pos 0)
+        (omega (arith, room.counter, room.one_count_each)) in
+        let local = get_or-set_same s.local (cell (counters_of s) cpu.number j.number) (pos 0) (pos 0) local-in in
+        omega (arith, ints, count, local)
+
+    -- nor by an addition
+    pub with_added-total : (amount : ℤ)
+        → count_at (with_added cpu.number j.number amount s) j.number
+        +ℤ local_at (with_added cpu.number j.number amount s) cpu.number j.number
+        ≡ (count_at s j.number +ℤ l) +ℤ amount
+    with_added-total amount = by (nat_lt (unsigned_abs (l +ℤ amount)) (batch_at s j.number))
+      where
+        by : (b : Bool)
+            → count_at (if b then with_local_added cpu.number j.number amount s
+            else with_local_moved cpu.number j.number amount s) j.number
+            +ℤ local_at (if b then with_local_added cpu.number j.number amount s
+            else with_local_moved cpu.number j.number amount s) cpu.number j.number
+            ≡ (count_at s j.number +ℤ l) +ℤ amount
+        by true =
+            let local = get_or-set_same s.local (cell (counters_of s) cpu.number j.number) (l +ℤ amount) (pos 0)
+            local-in in
+            omega (arith, ints, local)
+        by false = with_local_moved-total amount
 
   pub IsAdd-leads : (amount : ℤ) (next : PcpuState) → next ≡ with_added cpu.number j.number amount s
       → (steps : List PcpuStep) × IsAdd (batch_at s j.number) cpu j amount steps

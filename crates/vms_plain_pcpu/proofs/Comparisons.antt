@@ -8,7 +8,7 @@ use Rattle.vms_pcpu_core.specs.declared.states.PcpuState.{PcpuState}
 use Rattle.vms_pcpu_core.specs.Calls.{sign_of}
 use Rattle.vms_pcpu_core.specs.States.{count_at}
 use Rattle.vms_plain_pcpu.specs.Answers.{ComparesTotal}
-use Rattle.vms_plain_pcpu.specs.Numbers.{HasRoom, total_in, unknown_in}
+use Rattle.vms_plain_pcpu.specs.Numbers.{HasRoomFor, total_in, unknown_in}
 use Rattle.vms_plain_pcpu.proofs.LocalSums.{locals_over-unknown}
 use Rattle.vms_plain_pcpu.proofs.SumSteps.{sign_of-same}
 
@@ -19,7 +19,7 @@ same_sign (pos (suc n)) = refl
 same_sign (negsuc n) = refl
 
 module _ (s : PcpuState) (states : List CpuState) (j : ℕ) (rhs : ℤ) where
-  pub ComparesTotal-far : HasRoom s j → unknown_in s states j < unsigned_abs (count_at s j -ℤ rhs)
+  pub ComparesTotal-far : HasRoomFor s j → unknown_in s states j < unsigned_abs (count_at s j -ℤ rhs)
       → ComparesTotal s states j rhs (record { sign = sign_of (count_at s j -ℤ rhs); rough = true })
   ComparesTotal-far has far =
       let hidden = locals_over-unknown s j has states in

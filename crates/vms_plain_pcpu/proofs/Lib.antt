@@ -5,4 +5,5 @@ pub mod SumSteps
 pub mod Comparisons
 pub mod AddSteps
 pub mod LimitSteps
-pub mod FoldedCpus
+pub mod MovedLocals
+pub mod Rooms

@@ -19,9 +19,9 @@ use Rattle.vms_pcpu_core.specs.Calls.Locks.{won}
 use Rattle.vms_pcpu_core.specs.Calls.Probes.{large, narrow}
 use Rattle.vms_pcpu_core.specs.Calls.Settles.{yes_ends, no_ends}
 use Rattle.vms_pcpu_core.specs.States.{LockedState, batch_at, count_at, local_at}
-use Rattle.vms_plain_pcpu.specs.Answers.{KeepsLimit}
+use Rattle.vms_plain_pcpu.specs.Answers.{AnswersByLimit}
 use Rattle.vms_plain_pcpu.specs.FreeLocks.{LeadsAlone, under_free_locks}
-use Rattle.vms_plain_pcpu.specs.Numbers.{HasRoom, goes_unlocked, locals_over, total_in, unknown_in}
+use Rattle.vms_plain_pcpu.specs.Numbers.{HasRoomFor, goes_unlocked, locals_over, total_in, unknown_in}
 use Rattle.vms_plain_pcpu.specs.Numbers.{with_local_added, with_local_moved}
 use Rattle.vms_plain_pcpu.proofs.AddSteps.{LeadsAlone-add_local, LeadsAlone-move}
 use Rattle.vms_plain_pcpu.proofs.LocalSums.{locals_over-unknown, others-unknown}
@@ -81,9 +81,9 @@ module _ (s : PcpuState) (states : List CpuState) (j : ℕ) (limit amount : ℤ)
       ap (λ (b : Bool). if b then limit -ℤ after else after -ℤ limit) test
 
   -- an answer by the total with the amount keeps the limit
-  pub KeepsLimit-by_room : (answer : Bool) → amount ≢ pos 0 → answer ≡ keeps
-      → KeepsLimit s states j limit amount answer
-  KeepsLimit-by_room answer some is = record {
+  pub AnswersByLimit-by_room : (answer : Bool) → amount ≢ pos 0 → answer ≡ keeps
+      → AnswersByLimit s states j limit amount answer
+  AnswersByLimit-by_room answer some is = record {
     nothing = λ none. absurd (some none);
     most = λ above. (
       λ yes. let left = le-from_int_le (pos 0) (room limit amount after) (sym is ∙ yes) in
@@ -97,7 +97,7 @@ module _ (s : PcpuState) (states : List CpuState) (j : ℕ) (limit amount : ℤ)
     );
   }
 
-  module _ (has : HasRoom s j) where
+  module _ (has : HasRoomFor s j) where
     -- what the local parts may hide is how far the total may be from the shared part
     near : unsigned_abs (room limit amount after -ℤ room limit amount (count_at s j +ℤ amount)) ≤ unknown_in s states j
     near =
@@ -233,7 +233,7 @@ module _ (s : PcpuState) (states : List CpuState) (cpu : CpuId) (j : PcpuId) (li
           )
       by true test true far goes = absurd cc
 
-  module _ (has : HasRoom s j.number) where
+  module _ (has : HasRoomFor s j.number) where
     abbrev answer : Bool
     answer = keeps s states j.number limit amount
 

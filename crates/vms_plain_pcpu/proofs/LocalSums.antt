@@ -11,7 +11,7 @@ use Rattle.vms_base.specs.declared.kinds.CpuState.TheVariants.{Online, Dead, Abs
 use Rattle.vms_base.specs.Cpus.{is_present, present_from, state_at}
 use Rattle.vms_pcpu_core.specs.declared.states.PcpuState.{PcpuState}
 use Rattle.vms_pcpu_core.specs.States.{batch_at, local_at}
-use Rattle.vms_plain_pcpu.specs.Numbers.{HasRoom, locals_over, unknown_in}
+use Rattle.vms_plain_pcpu.specs.Numbers.{HasRoomFor, locals_over, unknown_in}
 
 module _ (b : ℕ) where
   -- what CPUs may hide where each that is present may hide b
@@ -113,11 +113,11 @@ module _ (s : PcpuState) (j : ℕ) where
         let here : local_at s (suc c + i) j ≡ local_at s (c + suc i) j = ap (λ (d : ℕ). local_at s d j) (omega arith) in
         omega (arith, ints, here, others-size states (suc c) i present, hidden-absent b states)
 
-  pub locals_over-unknown : HasRoom s j → (states : List CpuState)
+  pub locals_over-unknown : HasRoomFor s j → (states : List CpuState)
       → unsigned_abs (locals_over s j (present_from 0 states)) ≤ unknown_in s states j
   locals_over-unknown room states = locals_over-size (batch_at s j) room.locals states 0
 
-  pub others-unknown : HasRoom s j → (states : List CpuState) (c : ℕ) → is_present (state_at states c) ≡ true
+  pub others-unknown : HasRoomFor s j → (states : List CpuState) (c : ℕ) → is_present (state_at states c) ≡ true
       → unsigned_abs (locals_over s j (present_from 0 states) -ℤ local_at s c j) + batch_at s j
       ≤ unknown_in s states j
   others-unknown room states c present =

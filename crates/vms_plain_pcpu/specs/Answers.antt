@@ -15,7 +15,7 @@ pub record ComparesTotal (s : PcpuState) (states : List CpuState) (j : ℕ) (rhs
 
 -- a limited addition says yes exactly where the total with the amount keeps the limit, which is the most for a positive
 -- amount and the least for a negative one
-pub record KeepsLimit (s : PcpuState) (states : List CpuState) (j : ℕ) (limit amount : ℤ) (answer : Bool)
+pub record AnswersByLimit (s : PcpuState) (states : List CpuState) (j : ℕ) (limit amount : ℤ) (answer : Bool)
     : Type 0 where
   pub nothing : amount ≡ pos 0 → answer ≡ true
   pub most : pos 0 <ℤ amount → (answer ≡ true) ↔ ((total_in s states j +ℤ amount) ≤ℤ limit)

@@ -13,7 +13,7 @@ use Rattle.vms_pcpu_core.specs.Laws.{most_number}
 use Rattle.vms_pcpu_core.specs.States.{batch_at, count_at, counters_of, local_at}
 
 -- counter j stands in the lists, and its numbers are as small as in every history
-pub record HasRoom (s : PcpuState) (j : ℕ) : Type 0 where
+pub record HasRoomFor (s : PcpuState) (j : ℕ) : Type 0 where
   pub counter : j < counters_of s
   pub one_count_each : length s.count ≡ counters_of s
   pub batch : batch_at s j ≤ most_batch
@@ -21,8 +21,8 @@ pub record HasRoom (s : PcpuState) (j : ℕ) : Type 0 where
   pub locals : (c : ℕ) → unsigned_abs (local_at s c j) ≤ batch_at s j
 
 -- there is a local part for each of n CPUs and each counter
-abbrev pub HasCpus : PcpuState → ℕ → Type 0
-HasCpus s n = n * counters_of s ≤ length s.local
+abbrev pub HasLocals : PcpuState → ℕ → Type 0
+HasLocals s n = n * counters_of s ≤ length s.local
 
 -- what the local parts of a counter may hide from its shared part
 abbrev pub unknown_in : PcpuState → List CpuState → ℕ → ℕ
@@ -73,7 +73,7 @@ with_limited answer states c j limit amount s =
     else with_local_moved c j amount s)
 
 -- the local parts of CPU c have moved to the shared parts, and all other numbers stay
-pub record FoldsCpu (c : ℕ) (s next : PcpuState) : Type 0 where
+pub record MovesLocals (c : ℕ) (s next : PcpuState) : Type 0 where
   pub batches : next.batch ≡ s.batch
   pub one_count_each : length next.count ≡ length s.count
   pub one_local_each : length next.local ≡ length s.local

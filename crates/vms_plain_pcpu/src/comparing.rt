@@ -6,7 +6,7 @@ ghost use Rattle.vms_pcpu_core.specs.Calls.{IsCompare};
 ghost use Rattle.vms_pcpu_core.specs.Calls.{sign_of as sign_in};
 ghost use Rattle.vms_plain_pcpu.specs.Answers.{ComparesTotal};
 ghost use Rattle.vms_plain_pcpu.specs.FreeLocks.{LeadsAlone, under_free_locks};
-ghost use Rattle.vms_plain_pcpu.specs.Numbers.{HasCpus, HasRoom, unknown_in};
+ghost use Rattle.vms_plain_pcpu.specs.Numbers.{HasLocals, HasRoomFor, unknown_in};
 
 use crate::places::count;
 use crate::summing::{sum, unknown};
@@ -16,8 +16,8 @@ use vms_pcpu_core::{Compare, PcpuState};
 /// Compares a counter with a number (`__percpu_counter_compare` of lib/percpu_counter.c): by the shared part alone
 /// where that is further off than what the CPUs may hold, and else by the sum. `states` has the state of each CPU.
 pub fn compare(counters: &PcpuState, states: &[CpuState], counter: PcpuId, rhs: i64) -> Compare
-    requires room { HasRoom counters.now counter.number }
-    requires cpus { HasCpus counters.now (length states.now) }
+    requires room { HasRoomFor counters.now counter.number }
+    requires cpus { HasLocals counters.now (length states.now) }
     requires few { length states.now ≤ 128 }
     requires rhs { unsigned_abs rhs ≤ 2 ^ 62 }
     ensures compares { ComparesTotal counters.now states.now counter.number rhs result }

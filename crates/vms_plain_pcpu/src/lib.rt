@@ -4,6 +4,7 @@
 mod adding;
 mod comparing;
 mod folding;
+mod laws;
 mod limiting;
 mod places;
 mod reading;
@@ -13,6 +14,7 @@ mod tables;
 pub use adding::{add, sync};
 pub use comparing::compare;
 pub use folding::fold_dead;
+pub use laws::{histories_leave_room, present_cpus_hold_all};
 pub use limiting::limited_add;
 pub use reading::read;
 pub use summing::sum;

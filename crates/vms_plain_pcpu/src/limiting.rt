@@ -5,9 +5,9 @@ ghost use Rattle.vms_pcpu_core.specs.declared.steps.PcpuStep.{PcpuStep};
 ghost use Rattle.vms_pcpu_core.specs.Calls.{IsLimitedAdd};
 ghost use Rattle.vms_pcpu_core.specs.Calls.{room as room_of};
 ghost use Rattle.vms_pcpu_core.specs.States.{batch_at};
-ghost use Rattle.vms_plain_pcpu.specs.Answers.{KeepsLimit};
+ghost use Rattle.vms_plain_pcpu.specs.Answers.{AnswersByLimit};
 ghost use Rattle.vms_plain_pcpu.specs.FreeLocks.{LeadsAlone, under_free_locks};
-ghost use Rattle.vms_plain_pcpu.specs.Numbers.{HasCpus, HasRoom, total_in, unknown_in, with_limited};
+ghost use Rattle.vms_plain_pcpu.specs.Numbers.{HasLocals, HasRoomFor, total_in, unknown_in, with_limited};
 ghost use Rattle.vms_plain_pcpu.specs.Numbers.{goes_unlocked as may_go_unlocked};
 
 use crate::adding::{add_local, move_local};
@@ -27,13 +27,13 @@ pub fn limited_add(
     limit: i64,
     amount: i64,
 ) -> bool
-    requires room { HasRoom counters.old counter.number }
-    requires cpus { HasCpus counters.old (length states.now) }
+    requires room { HasRoomFor counters.old counter.number }
+    requires cpus { HasLocals counters.old (length states.now) }
     requires few { length states.now ≤ 128 }
     requires present { is_present (state_at states.now cpu.number) ≡ true }
     requires limit { unsigned_abs limit ≤ 2 ^ 62 }
     requires amount { unsigned_abs amount ≤ most_volume }
-    ensures keeps { KeepsLimit counters.old states.now counter.number limit amount result }
+    ensures keeps { AnswersByLimit counters.old states.now counter.number limit amount result }
     ensures after { counters.new ≡
         with_limited result states.now cpu.number counter.number limit amount counters.old }
     ensures made { (steps : List PcpuStep)
@@ -64,9 +64,9 @@ fn goes_unlocked(
     limit: i64,
     amount: i64,
 ) -> bool
-    requires room { HasRoom counters.now counter.number }
+    requires room { HasRoomFor counters.now counter.number }
     requires few { length states.now ≤ 128 }
-    requires cpu { HasCpus counters.now (cpu.number + 1) }
+    requires cpu { HasLocals counters.now (cpu.number + 1) }
     requires limit { unsigned_abs limit ≤ 2 ^ 62 }
     requires amount { unsigned_abs amount ≤ most_volume }
     ensures { result ≡ may_go_unlocked counters.now states.now cpu.number counter.number limit amount }
@@ -86,8 +86,8 @@ fn keeps_limit(
     limit: i64,
     amount: i64,
 ) -> bool
-    requires room { HasRoom counters.now counter.number }
-    requires cpus { HasCpus counters.now (length states.now) }
+    requires room { HasRoomFor counters.now counter.number }
+    requires cpus { HasLocals counters.now (length states.now) }
     requires few { length states.now ≤ 128 }
     requires limit { unsigned_abs limit ≤ 2 ^ 62 }
     requires amount { unsigned_abs amount ≤ most_volume }

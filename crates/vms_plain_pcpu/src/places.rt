@@ -1,7 +1,7 @@
 ghost use Rattle.std.specs.Prelude.{◌≡◌, ◌+◌, ◌<◌, length};
 ghost use Rattle.vms_base.specs.Places.{cell};
 ghost use Rattle.vms_pcpu_core.specs.States.{batch_at, counters_of, count_at, local_at};
-ghost use Rattle.vms_plain_pcpu.specs.Numbers.{HasCpus};
+ghost use Rattle.vms_plain_pcpu.specs.Numbers.{HasLocals};
 
 use vms_base::{CpuId, PcpuId};
 use vms_pcpu_core::PcpuState;
@@ -9,7 +9,7 @@ use vms_pcpu_core::PcpuState;
 /// Where the local part of a CPU for a counter stands.
 #[inline]
 pub(crate) fn place(counters: &PcpuState, cpu: CpuId, counter: PcpuId) -> usize
-    requires cpu { HasCpus counters.now (cpu.number + 1) }
+    requires cpu { HasLocals counters.now (cpu.number + 1) }
     requires counter { counter.number < counters_of counters.now }
     ensures cell { result ≡ cell (counters_of counters.now) cpu.number counter.number }
     ensures within { result < length counters.now.local }
@@ -20,7 +20,7 @@ pub(crate) fn place(counters: &PcpuState, cpu: CpuId, counter: PcpuId) -> usize
 
 #[inline]
 pub(crate) fn local(counters: &PcpuState, cpu: CpuId, counter: PcpuId) -> i64
-    requires cpu { HasCpus counters.now (cpu.number + 1) }
+    requires cpu { HasLocals counters.now (cpu.number + 1) }
     requires counter { counter.number < counters_of counters.now }
     ensures { result ≡ local_at counters.now cpu.number counter.number }
 {

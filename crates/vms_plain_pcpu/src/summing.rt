@@ -6,7 +6,7 @@ ghost use Rattle.vms_pcpu_core.specs.Bases.{most_batch};
 ghost use Rattle.vms_pcpu_core.specs.Calls.{IsSum};
 ghost use Rattle.vms_pcpu_core.specs.Summing.{most_sum};
 ghost use Rattle.vms_plain_pcpu.specs.FreeLocks.{LeadsAlone, under_free_locks};
-ghost use Rattle.vms_plain_pcpu.specs.Numbers.{HasCpus, HasRoom, locals_over, total_in, unknown_in};
+ghost use Rattle.vms_plain_pcpu.specs.Numbers.{HasLocals, HasRoomFor, locals_over, total_in, unknown_in};
 
 use crate::places::{batch, count, local};
 use vms_base::{CpuId, CpuState, PcpuId};
@@ -15,8 +15,8 @@ use vms_pcpu_core::PcpuState;
 /// A counter with what the CPUs hold of it that are online or dead (`__percpu_counter_sum` of lib/percpu_counter.c).
 /// `states` has the state of each CPU.
 pub fn sum(counters: &PcpuState, states: &[CpuState], counter: PcpuId) -> i64
-    requires room { HasRoom counters.now counter.number }
-    requires cpus { HasCpus counters.now (length states.now) }
+    requires room { HasRoomFor counters.now counter.number }
+    requires cpus { HasLocals counters.now (length states.now) }
     requires few { length states.now ≤ 128 }
     ensures total { result ≡ total_in counters.now states.now counter.number }
     ensures bound { unsigned_abs result ≤ most_sum }
@@ -29,8 +29,8 @@ pub fn sum(counters: &PcpuState, states: &[CpuState], counter: PcpuId) -> i64
 
 /// What the CPUs hold of a counter that are online or dead.
 fn locals(counters: &PcpuState, states: &[CpuState], counter: PcpuId) -> i64
-    requires room { HasRoom counters.now counter.number }
-    requires cpus { HasCpus counters.now (length states.now) }
+    requires room { HasRoomFor counters.now counter.number }
+    requires cpus { HasLocals counters.now (length states.now) }
     requires few { length states.now ≤ 128 }
     ensures sum { result ≡ locals_over counters.now counter.number (present_from 0 states.now) }
     ensures bound { unsigned_abs result ≤ 128 * most_batch }
@@ -49,7 +49,7 @@ fn locals(counters: &PcpuState, states: &[CpuState], counter: PcpuId) -> i64
 
 /// What the local parts of a counter may hide from its shared part: a batch for each CPU that is online or dead.
 pub(crate) fn unknown(counters: &PcpuState, states: &[CpuState], counter: PcpuId) -> u64
-    requires room { HasRoom counters.now counter.number }
+    requires room { HasRoomFor counters.now counter.number }
     requires few { length states.now ≤ 128 }
     ensures unknown { result ≡ unknown_in counters.now states.now counter.number }
     ensures bound { result ≤ 128 * most_batch }

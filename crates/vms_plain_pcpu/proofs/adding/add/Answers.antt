@@ -1,9 +1,10 @@
 -- Below the batch, and from the batch on.
-use Rattle.std.proofs.Common.{◌≡◌, ◌<◌, ◌≤◌, ◌+ℤ◌, unsigned_abs, ℤ, ap, sym, ◌∙◌, arith}
+use Rattle.std.proofs.Common.{◌≡◌, ◌<◌, ◌≤◌, ◌+ℤ◌, unsigned_abs, ℤ, ap, sym, subst, ◌∙◌, arith}
 use Rattle.std.proofs.lemmas.Int.{ints}
-use Rattle.vms_pcpu_core.specs.States.{batch_at, local_at}
+use Rattle.vms_pcpu_core.specs.declared.states.PcpuState.{PcpuState}
+use Rattle.vms_pcpu_core.specs.States.{batch_at, count_at, local_at}
 use Rattle.vms_plain_pcpu.specs.Numbers.{with_local_added, with_local_moved}
-use Rattle.vms_plain_pcpu.proofs.AddSteps.{IsAdd-leads, with_added-below, with_added-reached}
+use Rattle.vms_plain_pcpu.proofs.AddSteps.{IsAdd-leads, with_added-below, with_added-reached, with_added-total}
 use Rattle.vms_plain_pcpu.proofs.SignedWords.{same_word}
 use Rattle.vms_plain_pcpu.proofs.adding.add.Goals as goal
 
@@ -70,3 +71,23 @@ pub returns-else-unsigned_abs-from-clause-made : goal.returns-else-unsigned_abs-
 returns-else-unsigned_abs-from-clause-made c =
     IsAdd-leads c.args.counters.now c.args.cpu c.args.counter c.args.amount c.move_local.new.counters
     (returns-else-unsigned_abs-from-clause-added c)
+
+pub returns-then-unsigned_abs-from-clause-total : goal.returns-then-unsigned_abs-from-clause-total
+returns-then-unsigned_abs-from-clause-total c =
+    let s = c.args.counters.now in
+    let cpu = c.args.cpu in
+    let j = c.args.counter in
+    subst (λ (next : PcpuState). count_at next j.number +ℤ local_at next cpu.number j.number
+    ≡ (count_at s j.number +ℤ local_at s cpu.number j.number) +ℤ c.args.amount)
+    (sym (returns-then-unsigned_abs-from-clause-added c))
+    (with_added-total s cpu j c.requires.room c.requires.cpu c.args.amount)
+
+pub returns-else-unsigned_abs-from-clause-total : goal.returns-else-unsigned_abs-from-clause-total
+returns-else-unsigned_abs-from-clause-total c =
+    let s = c.args.counters.now in
+    let cpu = c.args.cpu in
+    let j = c.args.counter in
+    subst (λ (next : PcpuState). count_at next j.number +ℤ local_at next cpu.number j.number
+    ≡ (count_at s j.number +ℤ local_at s cpu.number j.number) +ℤ c.args.amount)
+    (sym (returns-else-unsigned_abs-from-clause-added c))
+    (with_added-total s cpu j c.requires.room c.requires.cpu c.args.amount)

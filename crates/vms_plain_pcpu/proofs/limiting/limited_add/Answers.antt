@@ -2,7 +2,7 @@
 use Rattle.std.proofs.Common.{◌≡◌, Bool, true, false, ℤ, sym, ap, subst, ◌∙◌, arith, if◌then◌else◌}
 use Rattle.vms_pcpu_core.specs.declared.states.PcpuState.{PcpuState}
 use Rattle.vms_plain_pcpu.specs.Numbers.{goes_unlocked, with_local_added, with_local_moved}
-use Rattle.vms_plain_pcpu.proofs.LimitSteps.{KeepsLimit-by_room, MakesLimited, MakesLimited-nothing}
+use Rattle.vms_plain_pcpu.proofs.LimitSteps.{AnswersByLimit-by_room, MakesLimited, MakesLimited-nothing}
 use Rattle.vms_plain_pcpu.proofs.LimitSteps.{MakesLimited-settled, MakesLimited-unlocked, goes_unlocked-words}
 use Rattle.vms_plain_pcpu.proofs.LimitSteps.{keeps-unlocked, keeps-words, unlocked-far, unlocked-stays}
 use Rattle.vms_plain_pcpu.proofs.SignedWords.{other_word, same_word, zero_word}
@@ -24,7 +24,7 @@ returns-then-goes_unlocked-clause-keeps c =
     let goes : goes_unlocked s states cpu.number j.number limit amount ≡ true =
     sym (c.goes_unlocked.ensures ∙ goes_unlocked-words s states cpu.number j.number limit amount c.requires.limit
     c.requires.amount) ∙ c.if-goes_unlocked.true in
-    KeepsLimit-by_room s states j.number limit amount true (other_word c.args.amount c.if-amount-eq0.false)
+    AnswersByLimit-by_room s states j.number limit amount true (other_word c.args.amount c.if-amount-eq0.false)
     (sym (keeps-unlocked s states j.number limit amount c.requires.room cpu.number c.requires.present
     (unlocked-stays s states cpu j limit amount goes) (unlocked-far s states cpu j limit amount goes)))
 
@@ -49,7 +49,7 @@ returns-then-keeps-clause-keeps c =
     let s = c.args.counters.now in
     let states = c.args.states.now in
     let j = c.args.counter.number in
-    KeepsLimit-by_room s states j c.args.limit c.args.amount c.keeps_limit-keeps.result
+    AnswersByLimit-by_room s states j c.args.limit c.args.amount c.keeps_limit-keeps.result
     (other_word c.args.amount c.if-amount-eq0.false)
     (c.keeps_limit-keeps.ensures
     ∙ keeps-words s states c.args.cpu.number j c.args.limit c.args.amount c.requires.limit c.requires.amount)
@@ -59,7 +59,7 @@ returns-else-keeps-clause-keeps c =
     let s = c.args.counters.now in
     let states = c.args.states.now in
     let j = c.args.counter.number in
-    KeepsLimit-by_room s states j c.args.limit c.args.amount c.keeps_limit-keeps.result
+    AnswersByLimit-by_room s states j c.args.limit c.args.amount c.keeps_limit-keeps.result
     (other_word c.args.amount c.if-amount-eq0.false)
     (c.keeps_limit-keeps.ensures
     ∙ keeps-words s states c.args.cpu.number j c.args.limit c.args.amount c.requires.limit c.requires.amount)

@@ -17,13 +17,13 @@ use Rattle.vms_pcpu_core.specs.Calls.IsFoldDead.{no_counter, one_counter}
 use Rattle.vms_pcpu_core.specs.Laws.{most_number}
 use Rattle.vms_pcpu_core.specs.States.{batch_at, count_at, counters_of, local_at}
 use Rattle.vms_plain_pcpu.specs.FreeLocks.{LeadsAlone, under_free_locks}
-use Rattle.vms_plain_pcpu.specs.Numbers.{FoldsCpu, HasCpus, HasRoom, with_local_moved}
+use Rattle.vms_plain_pcpu.specs.Numbers.{MovesLocals, HasLocals, HasRoomFor, with_local_moved}
 use Rattle.vms_plain_pcpu.proofs.AddSteps.{IsSync-alone}
 use Rattle.vms_plain_pcpu.proofs.StepsAlone.{LeadsAlone-append, LeadsAlone-none}
 
 module _ (dead : CpuId) (s : PcpuState) where
   -- the local parts of the counters below m have moved
-  pub record FoldsBelow (m : ℕ) (now : PcpuState) : Type 0 where
+  pub record MovesBelow (m : ℕ) (now : PcpuState) : Type 0 where
     pub batches : now.batch ≡ s.batch
     pub one_count_each : length now.count ≡ length s.count
     pub one_local_each : length now.local ≡ length s.local
@@ -36,8 +36,8 @@ module _ (dead : CpuId) (s : PcpuState) where
     pub folds : IsFoldDead dead m steps
     pub leads : LeadsAlone None steps (under_free_locks s) (under_free_locks now)
 
-  pub FoldsBelow-none : FoldsBelow 0 s
-  FoldsBelow-none = record {
+  pub MovesBelow-none : MovesBelow 0 s
+  MovesBelow-none = record {
     batches = refl;
     one_count_each = refl;
     one_local_each = refl;
@@ -51,17 +51,17 @@ module _ (dead : CpuId) (s : PcpuState) where
     leads = LeadsAlone-none None (under_free_locks s);
   }
 
-  module _ (m : ℕ) (now : PcpuState) (so_far : FoldsBelow m now) where
+  module _ (m : ℕ) (now : PcpuState) (so_far : MovesBelow m now) where
     same_counters : counters_of now ≡ counters_of s
     same_counters = ap (λ (xs : List ℕ). length xs) so_far.batches
 
-    pub HasCpus-folded : (n : ℕ) → HasCpus s n → HasCpus now n
-    HasCpus-folded n has =
+    pub HasLocals-folded : (n : ℕ) → HasLocals s n → HasLocals now n
+    HasLocals-folded n has =
         subst (λ (w : ℕ). n * w ≤ length now.local) (sym same_counters) (omega (arith, so_far.one_local_each))
 
     -- there is room for a counter more
-    pub HasRoom-folded : HasRoom s m → HasRoom now m
-    HasRoom-folded room = record {
+    pub HasRoomFor-folded : HasRoomFor s m → HasRoomFor now m
+    HasRoomFor-folded room = record {
       counter = omega (arith, same_counters, room.counter);
       one_count_each = so_far.one_count_each ∙ room.one_count_each ∙ sym same_counters;
       batch = omega (arith, same_batch, room.batch);
@@ -84,7 +84,7 @@ module _ (dead : CpuId) (s : PcpuState) where
             (so_far.locals_ahead m room.counter (omega arith)))
             (λ differs. so_far.others c m room.counter differs) (cases_eq c dead.number)
 
-    module _ (m_in : m < counters_of s) (has : HasCpus s (dead.number + 1)) (room : HasRoom s m) where
+    module _ (m_in : m < counters_of s) (has : HasLocals s (dead.number + 1)) (room : HasRoomFor s m) where
       abbrev next : PcpuState
       next = with_local_moved dead.number m (pos 0) now
 
@@ -101,7 +101,7 @@ module _ (dead : CpuId) (s : PcpuState) where
       m_local : cell (counters_of now) dead.number m < length now.local
       m_local =
           let in_row = cell-lt (counters_of now) (dead.number + 1) dead.number m (omega arith) m_now in
-          let row = HasCpus-folded (dead.number + 1) has in
+          let row = HasLocals-folded (dead.number + 1) has in
           omega arith
 
       count_kept : (j : ℕ) → j ≢ m → count_at next j ≡ count_at now j
@@ -125,8 +125,8 @@ module _ (dead : CpuId) (s : PcpuState) where
       local_next : local_at next dead.number m ≡ pos 0
       local_next = get_or-set_same now.local (cell (counters_of now) dead.number m) (pos 0) (pos 0) m_local
 
-      pub FoldsBelow-more : FoldsBelow (m + 1) next
-      FoldsBelow-more = record {
+      pub MovesBelow-more : MovesBelow (m + 1) next
+      MovesBelow-more = record {
         batches = so_far.batches;
         one_count_each = length-set now.count m (count_at now m +ℤ (local_at now dead.number m +ℤ pos 0))
             ∙ so_far.one_count_each;
@@ -147,8 +147,8 @@ module _ (dead : CpuId) (s : PcpuState) where
             (under_free_locks next) so_far.leads sync.2;
       }
 
-  pub FoldsCpu-all : (now : PcpuState) → FoldsBelow (counters_of s) now → FoldsCpu dead.number s now
-  FoldsCpu-all now so_far = record {
+  pub MovesLocals-all : (now : PcpuState) → MovesBelow (counters_of s) now → MovesLocals dead.number s now
+  MovesLocals-all now so_far = record {
     batches = so_far.batches;
     one_count_each = so_far.one_count_each;
     one_local_each = so_far.one_local_each;
@@ -157,6 +157,6 @@ module _ (dead : CpuId) (s : PcpuState) where
     others = so_far.others;
   }
 
-  pub IsFoldDead-all : (now : PcpuState) → FoldsBelow (counters_of s) now → (steps : List PcpuStep)
+  pub IsFoldDead-all : (now : PcpuState) → MovesBelow (counters_of s) now → (steps : List PcpuStep)
       × IsFoldDead dead (counters_of s) steps × LeadsAlone None steps (under_free_locks s) (under_free_locks now)
   IsFoldDead-all now so_far = (so_far.steps, so_far.folds, so_far.leads)
