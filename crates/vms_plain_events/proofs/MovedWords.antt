@@ -1,6 +1,6 @@
 -- The words of one CPU move to those of another, event by event.
-use Rattle.std.proofs.Common.{◌≡◌, ◌≢◌, ℕ, zero, suc, ◌+◌, ◌<◌, ◌≤◌, List, [], ◌∷◌, ◌++◌, length, None, refl}
-use Rattle.std.proofs.Common.{sym, ap, subst, ◌∙◌, arith, append_assoc, length-set}
+use Rattle.std.proofs.Common.{◌≡◌, ◌≢◌, ℕ, zero, suc, ◌+◌, ◌<◌, ◌≤◌, List, [], ◌∷◌, ◌++◌, length, None, refl, sym, ap}
+use Rattle.std.proofs.Common.{subst, ◌∙◌, arith, append_assoc, length-set}
 use Rattle.std.proofs.lemmas.List.{append-nil, length_push, set-get_or}
 use Rattle.std.proofs.Math.ListN.{set}
 use borrow.Author.Count.{below_more}

@@ -1,6 +1,5 @@
 -- What stands in the words after one of them was written.
-use Rattle.std.proofs.Common.{◌≡◌, ℕ, ◌+◌, ◌<◌, length, arith, get_or-set_same, get_or-set_other}
-use Rattle.std.proofs.Common.{length-set}
+use Rattle.std.proofs.Common.{◌≡◌, ℕ, ◌+◌, ◌<◌, length, arith, get_or-set_same, get_or-set_other, length-set}
 use Rattle.vms_base.specs.Places.{cell}
 use Rattle.vms_base.proofs.Cells.{cell-injective}
 use Rattle.vms_event_core.specs.declared.states.EventState.{EventState}

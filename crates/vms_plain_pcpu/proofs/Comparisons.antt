@@ -1,7 +1,6 @@
 -- What a comparison answers, by the shared part alone and by the sum.
-use Rattle.std.proofs.Common.{◌≡◌, ◌<◌, ◌≤◌, ℕ, zero, suc, true, false, List, ℤ, pos, negsuc, ◌-ℤ◌, unsigned_abs}
-use Rattle.std.proofs.Common.{refl, arith}
-use Rattle.std.proofs.Common.{w8, to_z, of_z}
+use Rattle.std.proofs.Common.{◌≡◌, ◌<◌, ◌≤◌, ℕ, zero, suc, true, false, List, ℤ, pos, negsuc, ◌-ℤ◌, unsigned_abs, refl}
+use Rattle.std.proofs.Common.{arith, w8, to_z, of_z}
 use Rattle.std.proofs.lemmas.Int.{ints}
 use Rattle.vms_base.specs.declared.kinds.CpuState.{CpuState}
 use Rattle.vms_pcpu_core.specs.declared.states.PcpuState.{PcpuState}

@@ -1,7 +1,6 @@
 -- For other crates too: what the local parts of a counter come to, and that they hide little.
 use Rattle.std.proofs.Common.{◌≡◌, ℕ, zero, suc, ◌+◌, ◌*◌, ◌<◌, ◌≤◌, Bool, true, false, List, [], ◌∷◌, length, get_or}
-use Rattle.std.proofs.Common.{drop}
-use Rattle.std.proofs.Common.{ℤ, pos, ◌+ℤ◌, ◌-ℤ◌, unsigned_abs, ap, ◌∙◌, arith, if◌then◌else◌, cond}
+use Rattle.std.proofs.Common.{drop, ℤ, pos, ◌+ℤ◌, ◌-ℤ◌, unsigned_abs, ap, ◌∙◌, arith, if◌then◌else◌, cond}
 use Rattle.std.specs.List.{count_by}
 use Rattle.std.proofs.lemmas.Int.{ints}
 use Rattle.std.proofs.lemmas.List.{drop_more, drop_all}

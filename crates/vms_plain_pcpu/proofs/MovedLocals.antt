@@ -1,8 +1,7 @@
 -- The local parts of a dead CPU move to the shared parts, counter by counter.
 use Rattle.std.proofs.Common.{◌≡◌, ◌≢◌, ℕ, ◌+◌, ◌*◌, ◌<◌, ◌≤◌, List, [], ◌++◌, length, get_or, None, refl, sym, ap}
 use Rattle.std.proofs.Common.{subst, ◌∙◌, arith, get_or-set_same, get_or-set_other, length-set, ℤ, pos, ◌+ℤ◌}
-use Rattle.std.proofs.Common.{unsigned_abs}
-use Rattle.std.proofs.Common.{⊎_elim}
+use Rattle.std.proofs.Common.{unsigned_abs, ⊎_elim}
 use Rattle.std.proofs.Math.Numerals.{add-one}
 use borrow.Author.Count.{below_more}
 use Rattle.std.proofs.lemmas.Bool.{cases_eq}

@@ -1,7 +1,6 @@
 -- The numbers of plain data: how large they are, and what calls make of them.
 use Rattle.std.specs.Prelude.{◌≡◌, ◌≢◌, ℕ, ◌*◌, ◌<◌, ◌≤◌, nat_eq, nat_le, nat_lt, ◌&&◌, ◌||◌, not, Bool, ℤ, pos, ◌+ℤ◌}
-use Rattle.std.specs.Prelude.{int_le}
-use Rattle.std.specs.Prelude.{List, [], ◌∷◌, length, slice_set, if◌then◌else◌, unsigned_abs, count_by}
+use Rattle.std.specs.Prelude.{int_le, List, [], ◌∷◌, length, slice_set, if◌then◌else◌, unsigned_abs, count_by}
 use Rattle.vms_base.specs.declared.ids.CpuId.{CpuId}
 use Rattle.vms_base.specs.declared.kinds.CpuState.{CpuState}
 use Rattle.vms_base.specs.Cpus.{is_present, present_from}

@@ -5,8 +5,8 @@ use Rattle.vms_history.specs.Passes.{owner_in}
 use Rattle.vms_alone.specs.InRow.{ByState, IsByState}
 use Rattle.vms_pcpu_core.specs.declared.steps.PcpuFacts.{PcpuFacts}
 use Rattle.vms_pcpu_core.specs.declared.steps.PcpuStep.{PcpuStep}
-use Rattle.vms_pcpu_core.specs.declared.steps.PcpuStep.TheVariants.{AddL, LoadL, LoadC, Won, Missed}
-use Rattle.vms_pcpu_core.specs.declared.steps.PcpuStep.TheVariants.{TakeL, AddC, Unlock}
+use Rattle.vms_pcpu_core.specs.declared.steps.PcpuStep.TheVariants.{AddL, LoadL, LoadC, Won, Missed, TakeL, AddC}
+use Rattle.vms_pcpu_core.specs.declared.steps.PcpuStep.TheVariants.{Unlock}
 use Rattle.vms_pcpu_core.specs.Histories.{percpu, History, state_after}
 use Rattle.vms_pcpu_core.specs.MayCall.{Tells}
 use Rattle.vms_pcpu_core.specs.States.{LockedState, count_at, held_at, local_at, with_count, with_held, with_local}

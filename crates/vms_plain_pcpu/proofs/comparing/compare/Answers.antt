@@ -1,7 +1,6 @@
 -- By the shared part alone, and by the sum.
 use Rattle.std.proofs.Common.{◌≡◌, ◌<◌, ◌≤◌, true, false, ℤ, ◌-ℤ◌, unsigned_abs, w8, w64, to_z, of_z, List, sym, ap}
-use Rattle.std.proofs.Common.{subst}
-use Rattle.std.proofs.Common.{◌∙◌, arith}
+use Rattle.std.proofs.Common.{subst, ◌∙◌, arith}
 use Rattle.std.proofs.lemmas.Int.{ints}
 use Rattle.vms_base.specs.Cpus.{present_from}
 use Rattle.vms_pcpu_core.specs.declared.steps.PcpuStep.{PcpuStep}

@@ -1,7 +1,6 @@
 -- Both tests.
 use Rattle.std.proofs.Common.{◌≡◌, ◌≤◌, ◌&&◌, Bool, true, ℤ, pos, ◌+ℤ◌, int_le, nat_le, unsigned_abs, w64, to_z, of_z}
-use Rattle.std.proofs.Common.{sym, ap}
-use Rattle.std.proofs.Common.{◌∙◌, arith}
+use Rattle.std.proofs.Common.{sym, ap, ◌∙◌, arith}
 use Rattle.std.proofs.lemmas.Bool.Decides.{nat_tests}
 use Rattle.std.proofs.lemmas.Int.{ints}
 use Rattle.vms_pcpu_core.specs.Calls.{room}
