@@ -1,4 +1,4 @@
--- What holds of each kind of step that a call makes holds of all its steps.
+-- For other crates too: what holds of each kind of step that a call makes holds of all its steps.
 use Rattle.std.proofs.Common.{ℕ, suc, zero, Bool, true, false, nat_eq, ℤ, pos, negsuc}
 use Rattle.std.proofs.Common.{◌+◌, if◌then◌else◌, List, [], ◌∷◌, ◌++◌, length, Option, sym, subst}
 use Rattle.vms_base.specs.declared.groups.Diffs.{Diffs}

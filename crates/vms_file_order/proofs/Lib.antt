@@ -13,3 +13,4 @@ pub mod MadeActs
 pub mod BuriedCpus
 pub mod BuryingLines
 pub mod OpenPhases
+pub mod AbsentCpus

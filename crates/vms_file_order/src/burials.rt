@@ -22,6 +22,18 @@ pub fn burials_leave_nothing<R: ThresholdRules>()
     vms_event_core::folded_words_are_zero();
 }
 
+/// Of all calls a burial alone makes a CPU absent. So whoever is absent after a phase was absent before or is buried by
+/// a line, and has nothing left in the tables of events and of percpu counters.
+pub fn phases_bury_who_goes_absent<R: ThresholdRules>()
+    ensures buried { (header : Header) (w : World) (items : List Item) (hs : Histories) →
+        MakePhase header R.pressure R.normal w items hs →
+        AbsentAreBuried header w items (left_by header w hs) }
+    ensures nothing { (header : Header) (w : World) (items : List Item) (hs : Histories) →
+        MakePhase header R.pressure R.normal w items hs → LeavesNothing header (left_by header w hs) }
+{
+    burials_leave_nothing::<R>();
+}
+
 /// Where a start says the states of the CPUs before a phase, and what the lines make of it those after it, whoever is
 /// absent then was absent before or is buried by a line.
 pub fn lines_bury_who_goes_absent()

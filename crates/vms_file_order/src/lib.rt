@@ -11,7 +11,7 @@ mod phases;
 mod tables;
 mod volumes;
 
-pub use burials::{burials_leave_nothing, lines_bury_who_goes_absent};
+pub use burials::{burials_leave_nothing, lines_bury_who_goes_absent, phases_bury_who_goes_absent};
 pub use histories::{closings_complete, file_order_makes_lines, lines_stand, openings_stand};
 pub use lanes::lanes_stand_once;
 pub use open_phases::{open_phases_close, open_phases_go_on, phases_open};
