@@ -1,0 +1,4 @@
+pub mod TableParts
+pub mod WonSteps
+pub mod PageLines
+pub mod EventLines

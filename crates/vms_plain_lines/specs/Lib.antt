@@ -1,0 +1,2 @@
+pub mod PageActs
+pub mod NextLines

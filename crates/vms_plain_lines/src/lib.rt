@@ -1,0 +1,8 @@
+//! The line of a lane, made on plain tables, goes on in an open phase of file order.
+#![tactic(auto)]
+
+mod event_lines;
+mod page_lines;
+
+pub use event_lines::{counts_go_on, event_sums_go_on};
+pub use page_lines::{changes_go_on, folds_and_looks_go_on};
