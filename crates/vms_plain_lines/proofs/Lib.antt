@@ -2,3 +2,4 @@ pub mod TableParts
 pub mod WonSteps
 pub mod PageLines
 pub mod EventLines
+pub mod OnlineCpus
