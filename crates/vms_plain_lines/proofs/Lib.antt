@@ -3,3 +3,4 @@ pub mod WonSteps
 pub mod PageLines
 pub mod EventLines
 pub mod OnlineCpus
+pub mod PlainCalls

@@ -63,7 +63,7 @@ use Rattle.vms_plain_lines.proofs.TableParts.{GoesOnInTables-pages}
 use Rattle.vms_plain_lines.proofs.WonSteps.{won-fold, won-place_value, won-snapshot, won-system_value, won-test}
 
 -- a lane that owns a CPU is the CPU's
-owned-lane : (d c : CpuId) → owns (Cpu d) c ≡ true → d ≡ c
+pub owned-lane : (d c : CpuId) → owns (Cpu d) c ≡ true → d ≡ c
 owned-lane d c same = let numbers : d.number ≡ c.number = grind (arith, nat_tests) in
     ap (λ n. let cpu : CpuId = record { number = n } in cpu) numbers
 
@@ -243,7 +243,8 @@ module _ (pressure normal : ZoneSize → ℕ → ℕ → Type 0) (header : Heade
       → IsCounter header.layout k.number
       → volume (spent_on_counter k.number) cpu.number (map line_of items) + unsigned_abs delta ≤ most_volume
       → GoesOnInTables header pressure normal w lanes item hs (record now {
-      pages = with_change header.layout cpu.number k.number delta how now.pages })
+        pages = with_change header.layout cpu.number k.number delta how now.pages;
+      })
   GoesOnInTables-change goes_on spend cpu k delta how lane act known affordable =
       let owner : owner_in role hs.pages p ≡ Some cpu = pass.owner ∙ ap owner_of lane in
       let owned = owned-online (page_facts header w) hs.pages stands.opened.pages.legal p cpu owner in

@@ -1,2 +1,3 @@
 pub mod PageActs
 pub mod NextLines
+pub mod PlainStates

@@ -33,7 +33,8 @@ pub fn changes_go_on<R: ThresholdRules>()
         IsChangeAct item.act k delta how → IsCounter header.layout k.number →
         volume (spent_on_counter k.number) cpu.number (map line_of items) + unsigned_abs delta ≤ most_volume →
         GoesOnInTables header R.pressure R.normal w lanes item hs (record now {
-        pages = with_change header.layout cpu.number k.number delta how now.pages }) }
+          pages = with_change header.layout cpu.number k.number delta how now.pages;
+        }) }
 {
     vms_file_order::phases_spend_their_lines::<R>();
     vms_calls::changes_follow();
