@@ -4,3 +4,5 @@ pub mod PageLines
 pub mod EventLines
 pub mod OnlineCpus
 pub mod PlainCalls
+pub mod PageRoom
+pub mod EventRoom

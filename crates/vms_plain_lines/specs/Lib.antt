@@ -1,3 +1,4 @@
 pub mod PageActs
 pub mod NextLines
 pub mod PlainStates
+pub mod Rooms

@@ -4,9 +4,11 @@
 mod event_lines;
 mod online_cpus;
 mod page_lines;
+mod rooms;
 mod tables;
 
 pub use event_lines::{counts_go_on, event_sums_go_on};
 pub use online_cpus::open_phases_keep_who_is_online;
 pub use page_lines::{changes_go_on, folds_and_looks_go_on};
+pub use rooms::open_phases_leave_room;
 pub use tables::PlainTables;
