@@ -31,12 +31,13 @@ impl<R: ThresholdRules> Model for PlainTables<R> {
 
 impl<R: ThresholdRules> PlainTables<R> {
     ghost use Rattle.std.specs.Prelude.{◌≡◌, ◌≢◌, ℕ, ℤ, ◌+◌, ◌<◌, ◌≤◌, ◌^◌, List, length, map, unsigned_abs};
+    ghost use Rattle.vms_base.specs.declared.headers.Header.{Header};
     ghost use Rattle.vms_base.specs.declared.kinds.CpuState.TheVariants.{Online};
     ghost use Rattle.vms_base.specs.Cpus.{online_from};
     ghost use Rattle.vms_base.specs.Headers.{IsHeader};
     ghost use Rattle.vms_base.specs.Places.{IsCounter, IsCpu, IsItem, IsZone};
     ghost use Rattle.vms_base.specs.Volumes.{most_volume};
-    ghost use Rattle.vms_core.specs.Cells.{HasShape, cpu_at, system_at, value_at};
+    ghost use Rattle.vms_core.specs.Cells.{counters_of, cpu_at, system_at, value_at};
     ghost use Rattle.vms_core.specs.ChangedStates.{with_change};
     ghost use Rattle.vms_core.specs.Plain.{IsPlainBase};
     ghost use Rattle.vms_calls.specs.Looks.{at_least_zero};
@@ -97,7 +98,7 @@ impl<R: ThresholdRules> PlainTables<R> {
     }
 
     /// Counts an event `n` times on a CPU (`count_vm_events` of include/linux/vmstat.h).
-    pub fn count(&mut self, header: &Header, cpu: CpuId, event: EventId, n: u64)
+    pub fn count(&mut self, cpu: CpuId, event: EventId, n: u64)
         requires cpu { HasCpus self.old.events (cpu.number + 1) }
         requires event { IsEvent event.number }
         requires room { word_at self.old.events cpu.number event.number + n < 2 ^ 64 }
@@ -105,8 +106,8 @@ impl<R: ThresholdRules> PlainTables<R> {
           events = with_word self.old.events cpu.number event.number
               (word_at self.old.events cpu.number event.number + n);
         } }
-        ensures goes_on { (item : Item) → item.lane ≡ Cpu cpu → item.act ≡ Ev event n →
-            GoesOn header.now R.pressure R.normal item
+        ensures goes_on { (header : Header) (item : Item) → item.lane ≡ Cpu cpu → item.act ≡ Ev event n →
+            GoesOn header R.pressure R.normal item
             (λ items. volume (spent_on_event event.number) cpu.number (map line_of items) + n ≤ most_volume) self.old
             self.new }
     {
@@ -130,12 +131,11 @@ impl<R: ThresholdRules> PlainTables<R> {
 
     /// The global value of a counter, in pages, and 0 where it is negative (`zone_page_state` of
     /// include/linux/vmstat.h).
-    pub fn place_value(&self, header: &Header, counter: CounterId) -> u64
-        requires shaped { HasShape header.now.layout self.now.pages }
-        requires counter { IsCounter header.now.layout counter.number }
+    pub fn place_value(&self, counter: CounterId) -> u64
+        requires { counter.number < counters_of self.now.pages }
         ensures answer { result ≡ at_least_zero (value_at self.now.pages counter.number) }
-        ensures goes_on { (item : Item) → item.act ≡ Val counter →
-            GoesOnAlways header.now R.pressure R.normal item self.now self.now }
+        ensures goes_on { (header : Header) (item : Item) → IsCounter header.layout counter.number →
+            item.act ≡ Val counter → GoesOnAlways header R.pressure R.normal item self.now self.now }
     {
         folds_and_looks_go_on::<R>();
         vms_plain_pages::place_value(&self.pages, counter)
@@ -143,12 +143,11 @@ impl<R: ThresholdRules> PlainTables<R> {
 
     /// The system-wide value of an item, in pages, and 0 where it is negative (`global_zone_page_state` of
     /// include/linux/vmstat.h).
-    pub fn system_value(&self, header: &Header, item: ItemId) -> u64
-        requires shaped { HasShape header.now.layout self.now.pages }
-        requires item { IsItem header.now.layout item.number }
+    pub fn system_value(&self, item: ItemId) -> u64
+        requires { item.number < length self.now.pages.system }
         ensures answer { result ≡ at_least_zero (system_at self.now.pages item.number) }
-        ensures goes_on { (line : Item) → line.act ≡ Sys item →
-            GoesOnAlways header.now R.pressure R.normal line self.now self.now }
+        ensures goes_on { (header : Header) (line : Item) → IsItem header.layout item.number →
+            line.act ≡ Sys item → GoesOnAlways header R.pressure R.normal line self.now self.now }
     {
         folds_and_looks_go_on::<R>();
         vms_plain_pages::system_value(&self.pages, item)
@@ -189,14 +188,14 @@ impl<R: ThresholdRules> PlainTables<R> {
     }
 
     /// What the CPUs that are online have counted of an event (`all_vm_events` of mm/vmstat.c).
-    pub fn all_events(&self, header: &Header, event: EventId) -> u64
+    pub fn all_events(&self, event: EventId) -> u64
         requires cpus { HasCpus self.now.events (length self.now.pages.cpu) }
         requires few { length self.now.pages.cpu ≤ 128 }
         requires event { IsEvent event.number }
         requires room { sum_over self.now.events event.number (online_from 0 self.now.pages.cpu) < 2 ^ 64 }
         ensures answer { result ≡ sum_over self.now.events event.number (online_from 0 self.now.pages.cpu) }
-        ensures goes_on { (item : Item) → item.act ≡ EvSum event →
-            GoesOnAlways header.now R.pressure R.normal item self.now self.now }
+        ensures goes_on { (header : Header) (item : Item) → item.act ≡ EvSum event →
+            GoesOnAlways header R.pressure R.normal item self.now self.now }
     {
         event_sums_go_on::<R>();
         open_phases_keep_who_is_online::<R>();

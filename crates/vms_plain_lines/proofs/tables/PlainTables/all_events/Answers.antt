@@ -11,8 +11,7 @@ use Rattle.vms_plain_lines.specs.PlainStates.{in_tables}
 use Rattle.vms_plain_lines.proofs.tables.PlainTables.all_events.Goals as goal
 
 pub returns-clause-goes_on : goal.returns-clause-goes_on
-returns-clause-goes_on g c item act w lanes items hs counters stands room =
-    let header = c.args.header.now in
+returns-clause-goes_on g c header item act w lanes items hs counters stands room =
     let now = c.args.self.now in
     let tables = in_tables now counters in
     let made = c.all_events.ensures.made (owner_of item.lane) in

@@ -9,8 +9,7 @@ use Rattle.vms_plain_lines.proofs.PlainCalls.{with-events}
 use Rattle.vms_plain_lines.proofs.tables.PlainTables.count.Goals as goal
 
 pub returns-clause-goes_on : goal.returns-clause-goes_on
-returns-clause-goes_on g c item lane act w lanes items hs counters stands room =
-    let header = c.args.header.now in
+returns-clause-goes_on g c header item lane act w lanes items hs counters stands room =
     let now = c.args.self.now in
     let made = c.count.ensures.made in
     with-events (GoesOnInTables header g.R.ThresholdRules.pressure g.R.ThresholdRules.normal w lanes item hs)

@@ -13,12 +13,11 @@ use Rattle.vms_plain_lines.proofs.PlainCalls.{MakesAlone-look}
 use Rattle.vms_plain_lines.proofs.tables.PlainTables.system_value.Goals as goal
 
 pub returns-clause-goes_on : goal.returns-clause-goes_on
-returns-clause-goes_on g c item act w lanes items hs counters stands room =
-    let header = c.args.header.now in
+returns-clause-goes_on g c header item known act w lanes items hs counters stands room =
     let now = c.args.self.now in
     let same = ap (λ s. s.pages) c.self.view_is in
     c.folds_and_looks_go_on.ensures header w lanes items hs (in_tables now counters) item stands
-    (subst (λ (a : Act). FoldsOrLooks header.layout a) (sym act) c.requires.item) now.pages
+    (subst (λ (a : Act). FoldsOrLooks header.layout a) (sym act) known) now.pages
     (MakesAlone-look header w.pages g.R.ThresholdRules.pressure g.R.ThresholdRules.normal (pass_of lanes item.lane)
     hs.pages (owner_of item.lane) c.self.inside.pages now.pages now.pages same (Sys c.args.item)
     (λ steps. IsSystemValue c.args.item steps c.system_value.result) (λ d steps is. (c.system_value.result, is)) (λ steps is. (c.system_value.result, is)) item.lane item.act act
