@@ -21,6 +21,8 @@ returns-clause-goes_on g c item act w lanes items hs counters stands room =
     (subst (λ (a : Act). FoldsOrLooks header.layout a) (sym act) c.requires.counter) now.pages
     (MakesAlone-look header w.pages g.R.ThresholdRules.pressure g.R.ThresholdRules.normal (pass_of lanes item.lane)
     hs.pages (owner_of item.lane) c.self.inside.pages now.pages now.pages same (Snap c.args.counter)
-    (λ steps. IsSnapshot header.layout c.args.counter steps c.snapshot.result) (λ d steps is. (c.snapshot.result, is)) (λ steps is. (c.snapshot.result, is)) item.lane item.act act
-    (subst (λ (s : State). MakesAlone (owner_of item.lane) (λ steps. IsSnapshot header.layout c.args.counter steps c.snapshot.result) c.self.inside.pages s) same
+    (λ steps. IsSnapshot header.layout c.args.counter steps c.snapshot.result)
+    (λ d steps is. (c.snapshot.result, is)) (λ steps is. (c.snapshot.result, is)) item.lane item.act act
+    (subst (λ (s : State). MakesAlone (owner_of item.lane)
+    (λ steps. IsSnapshot header.layout c.args.counter steps c.snapshot.result) c.self.inside.pages s) same
     (c.snapshot.ensures.made (owner_of item.lane))))

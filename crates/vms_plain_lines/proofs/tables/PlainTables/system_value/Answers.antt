@@ -20,6 +20,8 @@ returns-clause-goes_on g c header item known act w lanes items hs counters stand
     (subst (λ (a : Act). FoldsOrLooks header.layout a) (sym act) known) now.pages
     (MakesAlone-look header w.pages g.R.ThresholdRules.pressure g.R.ThresholdRules.normal (pass_of lanes item.lane)
     hs.pages (owner_of item.lane) c.self.inside.pages now.pages now.pages same (Sys c.args.item)
-    (λ steps. IsSystemValue c.args.item steps c.system_value.result) (λ d steps is. (c.system_value.result, is)) (λ steps is. (c.system_value.result, is)) item.lane item.act act
-    (subst (λ (s : State). MakesAlone (owner_of item.lane) (λ steps. IsSystemValue c.args.item steps c.system_value.result) c.self.inside.pages s) same
+    (λ steps. IsSystemValue c.args.item steps c.system_value.result) (λ d steps is. (c.system_value.result, is))
+    (λ steps is. (c.system_value.result, is)) item.lane item.act act
+    (subst (λ (s : State). MakesAlone (owner_of item.lane)
+    (λ steps. IsSystemValue c.args.item steps c.system_value.result) c.self.inside.pages s) same
     (c.system_value.ensures.made (owner_of item.lane))))

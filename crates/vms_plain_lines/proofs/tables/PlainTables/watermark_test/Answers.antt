@@ -21,7 +21,12 @@ returns-clause-goes_on g c item act w lanes items hs counters stands room =
     c.folds_and_looks_go_on.ensures header w lanes items hs (in_tables now counters) item stands
     (subst (λ (a : Act). FoldsOrLooks header.layout a) (sym act) c.requires.zone) now.pages
     (MakesAlone-look header w.pages g.R.ThresholdRules.pressure g.R.ThresholdRules.normal (pass_of lanes item.lane)
-    hs.pages (owner_of item.lane) c.self.inside.pages now.pages now.pages same (Water c.args.zone c.args.mark c.args.most)
-    (λ steps. IsWatermarkTest header c.args.zone c.args.mark c.args.most steps (verdict_told c.watermark_test.result)) (λ d steps is. (verdict_told c.watermark_test.result, is)) (λ steps is. (verdict_told c.watermark_test.result, is)) item.lane item.act act
-    (subst (λ (s : State). MakesAlone (owner_of item.lane) (λ steps. IsWatermarkTest header c.args.zone c.args.mark c.args.most steps (verdict_told c.watermark_test.result)) c.self.inside.pages s) same
+    hs.pages (owner_of item.lane) c.self.inside.pages now.pages now.pages same (Water c.args.zone c.args.mark
+    c.args.most)
+    (λ steps. IsWatermarkTest header c.args.zone c.args.mark c.args.most steps (verdict_told
+    c.watermark_test.result)) (λ d steps is. (verdict_told c.watermark_test.result, is))
+    (λ steps is. (verdict_told c.watermark_test.result, is)) item.lane item.act act
+    (subst (λ (s : State). MakesAlone (owner_of item.lane)
+    (λ steps. IsWatermarkTest header c.args.zone c.args.mark c.args.most steps (verdict_told
+    c.watermark_test.result)) c.self.inside.pages s) same
     (c.watermark_test.ensures.made (owner_of item.lane))))
