@@ -1,6 +1,7 @@
 -- For other crates too: the passes of some lanes end, one after another.
 use Rattle.std.proofs.Common.{◌≡◌, ◌≢◌, ℕ, suc, ◌+◌, ◌<◌, ◌≤◌, nat_eq, ◌⊎◌, inl, inr, Bool, true, false, List, [], ◌∷◌}
 use Rattle.std.proofs.Common.{length, refl, sym, ap, subst, ◌∙◌, arith, if◌then◌else◌}
+use Rattle.std.proofs.lemmas.Bool.{false_from_ne_true}
 use Rattle.std.proofs.lemmas.Bool.Decides.{nat_tests}
 use Rattle.vms_history.specs.declared.events.Event.{Event}
 use Rattle.vms_history.specs.Events.{own, after}
@@ -36,15 +37,11 @@ module _ {K : Type 0} {role : K → Role} (passes : PassSteps K role) where
   owner-ends m (l ∷ ls) h q = owner-ends (suc m) ls (ended_by m ∷ h) q
       ∙ ap (λ r. owner_after r q (owner_in role h q)) (passes.ends m)
 
-  no_more : (b : Bool) → (b ≡ true → ⊥) → b ≡ false
-  no_more true never = absurd (never refl)
-  no_more false never = refl
-
   -- no other pass lived
   ended-ends : (m : ℕ) (ls : List Lane) (h : List (Event K))
       → ((q : ℕ) → lives_in role h q ≡ true → (m ≤ q) × (q < m + length ls))
       → (q : ℕ) → lives_in role (after 0 (ends_from passes m ls) h) q ≡ false
-  ended-ends m [] h only q = no_more (lives_in role h q)
+  ended-ends m [] h only q = false_from_ne_true (lives_in role h q)
       (λ live. let at = only q live in absurd (omega (arith, at.0, at.1)))
   ended-ends m (l ∷ ls) h only q =
       ended-ends (suc m) ls (ended_by m ∷ h)

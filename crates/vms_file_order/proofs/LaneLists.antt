@@ -2,6 +2,7 @@
 use Rattle.std.proofs.Common.{◌≡◌, ◌≢◌, ℕ, zero, suc, ◌<◌, ◌≤◌, nat_eq, ◌||◌, Bool, true, false, List, [], ◌∷◌}
 use Rattle.std.proofs.Common.{◌++◌, length, refl, sym, ap, subst, ◌∙◌, arith, if◌then◌else◌, append-nil, ⊎_elim}
 use Rattle.std.specs.Prelude.{All}
+use Rattle.std.proofs.Math.Bool.{or-true}
 use Rattle.std.proofs.lemmas.Bool.{cases_eq}
 use Rattle.std.proofs.lemmas.Bool.Decides.{nat_tests}
 use Rattle.std.proofs.lemmas.List.Elements.{All-append, All-cons, All-head, All-nil, All-tail}
@@ -15,14 +16,6 @@ use Rattle.vms_text.specs.declared.acts.Lane.TheVariants.{Cpu, Control}
 use Rattle.vms_world.specs.Lanes.{has_line, is_among, lane_at, lanes_below, lanes_of, owner_of}
 use Rattle.vms_file_order.specs.LanePasses.{StandOnce, pass_of}
 
-or_true : (b : Bool) → (b || true) ≡ true
-or_true true = refl
-or_true false = refl
-
-or_false : (b : Bool) → (b || false) ≡ b
-or_false true = refl
-or_false false = refl
-
 -- lanes that are one
 pub is_lane-same : (l m : Lane) → is_lane l m ≡ true → l ≡ m
 is_lane-same (Cpu c) (Cpu d) same = let numbers : c.number ≡ d.number = grind (arith, nat_tests) in
@@ -35,7 +28,7 @@ pub is_lane-self : (l : Lane) → is_lane l l ≡ true
 is_lane-self (Cpu c) = grind (arith, nat_tests)
 is_lane-self Control = refl
 
-is_lane-sym : (l m : Lane) → is_lane l m ≡ is_lane m l
+pub is_lane-sym : (l m : Lane) → is_lane l m ≡ is_lane m l
 is_lane-sym l m = by (is_lane l m) (is_lane m l) refl refl
   where
     by : (a b : Bool) → is_lane l m ≡ a → is_lane m l ≡ b → a ≡ b
@@ -57,7 +50,8 @@ owner_of-injective (Cpu c) Control same = absurd cc
 owner_of-injective Control (Cpu d) same = absurd cc
 owner_of-injective Control Control same = refl
 
-is_among-append : (lane : Lane) (xs ys : List Lane) → is_among lane (xs ++ ys) ≡ (is_among lane xs || is_among lane ys)
+pub is_among-append : (lane : Lane) (xs ys : List Lane)
+    → is_among lane (xs ++ ys) ≡ (is_among lane xs || is_among lane ys)
 is_among-append lane [] ys = refl
 is_among-append lane (x ∷ xs) ys = ap (λ b. is_lane x lane || b) (is_among-append lane xs ys) ∙ by (is_lane x lane)
   where
@@ -69,7 +63,7 @@ pub is_among-first : (l : Lane) (ls : List Lane) → is_among l (l ∷ ls) ≡ t
 is_among-first l ls = ap (λ b. b || is_among l ls) (is_lane-self l)
 
 pub is_among-later : (l lane : Lane) (ls : List Lane) → is_among lane ls ≡ true → is_among lane (l ∷ ls) ≡ true
-is_among-later l lane ls among = ap (λ b. is_lane l lane || b) among ∙ or_true (is_lane l lane)
+is_among-later l lane ls among = ap (λ b. is_lane l lane || b) among ∙ or-true (is_lane l lane)
 
 -- one lane more
 StandOnce-more : (xs : List Lane) (x : Lane) → StandOnce xs → is_among x xs ≡ false → StandOnce (xs ++ x ∷ [])
@@ -154,7 +148,7 @@ below-all (suc n) c items below has =
     ap (λ b. is_among (cpu_lane c) (lanes_below n items) || is_among (cpu_lane c) (if b then cpu_lane n ∷ [] else []))
     here
     ∙ ap (λ b. is_among (cpu_lane c) (lanes_below n items) || (b || false)) mine
-    ∙ or_true (is_among (cpu_lane c) (lanes_below n items)))
+    ∙ or-true (is_among (cpu_lane c) (lanes_below n items)))
     (λ (other : c ≢ n).
     ap (λ b. b || is_among (cpu_lane c) (if has_line (cpu_lane n) items then cpu_lane n ∷ [] else []))
     (below-all n c items (omega arith) has))
@@ -171,7 +165,7 @@ among-lanes header items Control known has =
     let below = lanes_below header.layout.cpus items in
     is_among-append Control below (if has_line Control items then Control ∷ [] else [])
     ∙ ap (λ b. is_among Control below || is_among Control (if b then Control ∷ [] else [])) has
-    ∙ or_true (is_among Control below)
+    ∙ or-true (is_among Control below)
 
 -- so each line's is
 lines-among : (header : Header) (more items : List Item) → All (λ item. IsLaneOf header item.lane) items
@@ -183,7 +177,7 @@ lines-among header more (item ∷ items) all has =
     (among-lanes header more item.lane (All-head (λ item. IsLaneOf header item.lane) item items all)
     (has item.lane (ap (λ b. b || has_line item.lane items) (is_lane-self item.lane))))
     (lines-among header more items (All-tail (λ item. IsLaneOf header item.lane) item items all)
-    (λ lane later. has lane (ap (λ b. is_lane item.lane lane || b) later ∙ or_true (is_lane item.lane lane))))
+    (λ lane later. has lane (ap (λ b. is_lane item.lane lane || b) later ∙ or-true (is_lane item.lane lane))))
 
 pub lines-among_lanes : (header : Header) (items : List Item) → All (λ item. IsLaneOf header item.lane) items
     → All (λ item. is_among item.lane (lanes_of header.layout items) ≡ true) items

@@ -1,6 +1,7 @@
 -- The passes of some lanes end, one after another.
 use Rattle.std.proofs.Common.{◌≡◌, ◌≢◌, ℕ, suc, ◌+◌, ◌<◌, ◌≤◌, nat_eq, ◌⊎◌, inl, inr, Bool, true, false, List, [], ◌∷◌}
 use Rattle.std.proofs.Common.{length, Option, Some, None, refl, sym, ap, subst, ◌∙◌, arith, if◌then◌else◌, append-nil}
+use Rattle.std.proofs.lemmas.Bool.{false_from_ne_true}
 use Rattle.std.proofs.lemmas.Bool.Decides.{nat_tests}
 use Rattle.vms_base.specs.declared.ids.CpuId.{CpuId}
 use Rattle.vms_history.specs.Events.{own, after}
@@ -60,15 +61,11 @@ module _ (facts : Facts) where
       (λ q other. subst (CarriesNothing facts.layout)
       (sym (own-others (record { caller = 0; step = Join m }) h q (λ same. other (sym same)))) (nothing q other))
 
-  no_more : (b : Bool) → (b ≡ true → ⊥) → b ≡ false
-  no_more true never = absurd (never refl)
-  no_more false never = refl
-
   -- no other pass lived
   ended-joins : (m : ℕ) (ls : List Lane) (h : History)
       → ((q : ℕ) → lives_in role h q ≡ true → (m ≤ q) × (q < m + length ls))
       → (q : ℕ) → lives_in role (after 0 (joins_from m ls) h) q ≡ false
-  ended-joins m [] h only q = no_more (lives_in role h q) (λ live. let at = only q live in absurd (omega
+  ended-joins m [] h only q = false_from_ne_true (lives_in role h q) (λ live. let at = only q live in absurd (omega
       (arith, at.0, at.1)))
   ended-joins m (l ∷ ls) h only q =
       ended-joins (suc m) ls (record { caller = 0; step = Join m } ∷ h) (λ r. by r (nat_eq m r) refl (only r)) q

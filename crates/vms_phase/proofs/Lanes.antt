@@ -2,6 +2,7 @@
 use Rattle.std.proofs.Common.{◌≡◌, ◌≢◌, ℕ, zero, suc, ◌<◌, ◌≤◌, nat_eq, ◌||◌, Bool, true, false, List, [], ◌∷◌, ◌++◌}
 use Rattle.std.proofs.Common.{refl, sym, ap, subst, ◌∙◌, arith, if◌then◌else◌, append-nil, ⊎_elim}
 use Rattle.std.specs.Prelude.{All}
+use Rattle.std.proofs.Math.Bool.{or-true}
 use Rattle.std.proofs.lemmas.Bool.{cases_eq}
 use Rattle.std.proofs.lemmas.Bool.Decides.{nat_tests}
 use Rattle.std.proofs.lemmas.List.Elements.{All-tail, All-cons, All-nil}
@@ -12,6 +13,7 @@ use Rattle.vms_core.specs.Cells.{cpu_at}
 use Rattle.vms_core.specs.Pages.{MayOwn}
 use Rattle.vms_script.specs.PhaseScripts.{is_lane}
 use Rattle.vms_world.specs.Lanes.{is_among, has_line, lanes_below, lanes_of, owner_of}
+use Rattle.vms_file_order.proofs.LaneLists.{is_among-append, is_lane-sym}
 use Rattle.vms_phase.specs.OpenPhases.{MayOpen, IsOfOnline}
 use Rattle.vms_text.specs.declared.acts.Item.{Item}
 use Rattle.vms_text.specs.declared.acts.Lane.{Lane}
@@ -19,26 +21,6 @@ use Rattle.vms_text.specs.declared.acts.Lane.TheVariants.{Cpu, Control}
 
 abbrev lane_at : ℕ → Lane
 lane_at n = Cpu (record { number = n })
-
-is_among-append : (lane : Lane) (xs ys : List Lane) → is_among lane (xs ++ ys) ≡ (is_among lane xs || is_among lane ys)
-is_among-append lane [] ys = refl
-is_among-append lane (x ∷ xs) ys = ap (λ b. is_lane x lane || b) (is_among-append lane xs ys) ∙ by (is_lane x lane)
-  where
-    by : (b : Bool) → (b || (is_among lane xs || is_among lane ys)) ≡ ((b || is_among lane xs) || is_among lane ys)
-    by true = refl
-    by false = refl
-
-is_lane-sym : (l m : Lane) → is_lane l m ≡ is_lane m l
-is_lane-sym (Cpu c) (Cpu d) = by (nat_eq c.number d.number) (nat_eq d.number c.number) refl refl
-  where
-    by : (a b : Bool) → nat_eq c.number d.number ≡ a → nat_eq d.number c.number ≡ b → a ≡ b
-    by true true left right = refl
-    by false false left right = refl
-    by true false left right = absurd (grind (arith, nat_tests))
-    by false true left right = absurd (grind (arith, nat_tests))
-is_lane-sym (Cpu c) Control = refl
-is_lane-sym Control (Cpu d) = refl
-is_lane-sym Control Control = refl
 
 -- one lane more
 MayOpen-more : (facts : Facts) (xs : List Lane) (x : Lane) → MayOpen facts xs → MayOwn facts (owner_of x)
@@ -81,15 +63,11 @@ below-all (suc n) c items below has =
     let mine : nat_eq n c ≡ true = grind (arith, nat_tests) in
     ap (λ b. is_among (lane_at c) (lanes_below n items) || is_among (lane_at c) (if b then lane_at n ∷ [] else [])) here
     ∙ ap (λ b. is_among (lane_at c) (lanes_below n items) || (b || false)) mine
-    ∙ or_true (is_among (lane_at c) (lanes_below n items)))
+    ∙ or-true (is_among (lane_at c) (lanes_below n items)))
     (λ (other : c ≢ n).
     ap (λ b. b || is_among (lane_at c) (if has_line (lane_at n) items then lane_at n ∷ [] else []))
     (below-all n c items (omega arith) has))
     (cases_eq c n)
-  where
-    or_true : (b : Bool) → (b || true) ≡ true
-    or_true true = refl
-    or_true false = refl
 
 module _ (facts : Facts) where
   -- a CPU that has a line was online
@@ -151,14 +129,10 @@ module _ (facts : Facts) where
       (below-all facts.layout.cpus first.cpu.number more first.known (has first.cpu.number here)))
       (lines-among more items (All-tail (IsOfOnline facts) item items all)
       (λ c later. has c (ap (λ b. is_lane item.lane (lane_at c) || b) later
-      ∙ or_true (is_lane item.lane (lane_at c)))))
+      ∙ or-true (is_lane item.lane (lane_at c)))))
     where
       first : IsOfOnline facts item
       first = all 0 item (omega arith)
-
-      or_true : (b : Bool) → (b || true) ≡ true
-      or_true true = refl
-      or_true false = refl
 
       here : has_line (lane_at first.cpu.number) (item ∷ items) ≡ true
       here =

@@ -26,12 +26,14 @@ use Rattle.vms_core.specs.Pages.{History, state_after}
 use Rattle.vms_core.specs.Steps.{role}
 use Rattle.vms_core.specs.Totals.{spent}
 use Rattle.vms_calls.proofs.LoneChanges.{GoesOnWithChange-holds}
-use Rattle.vms_phase.specs.FileOrder.{Follow, Makes, opening_of, pass_of, splits_from}
+use Rattle.vms_file_order.specs.LanePasses.{pass_of}
+use Rattle.vms_file_order.proofs.LaneLists.{pass_of-least, pass_of-most}
+use Rattle.vms_phase.specs.FileOrder.{Follow, Makes, opening_of, splits_from}
 use Rattle.vms_world.specs.Lanes.{is_among}
 use Rattle.vms_phase.specs.FileOrder.Follow.{line}
 use Rattle.vms_phase.specs.OpenPhases.{MayOpen, MakesLines, IsOpen, IsDelta, Follows, act_of, change_item, volume}
-use Rattle.vms_phase.proofs.Openings.{IsLegal-splits, own-main, own-other, owner-lane, lives-lane, pass_of-least}
-use Rattle.vms_phase.proofs.Openings.{pass_of-most, spent-none, state_after-splits}
+use Rattle.vms_phase.proofs.Openings.{IsLegal-splits, own-main, own-other, owner-lane, lives-lane}
+use Rattle.vms_phase.proofs.Openings.{spent-none, state_after-splits}
 use Rattle.vms_script.proofs.Elements.{All-front, All-last}
 use Rattle.vms_script.proofs.PhaseLines.{volume-append as volume_of_lines-append}
 use Rattle.vms_script.specs.Totals.{line_of}

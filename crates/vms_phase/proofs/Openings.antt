@@ -1,6 +1,7 @@
 -- The passes of some lanes begin, one after another.
 use Rattle.std.proofs.Common.{◌≡◌, ◌≢◌, ℕ, suc, ◌+◌, ◌<◌, ◌≤◌, nat_eq, ◌||◌, Bool, true, false, List, [], ◌∷◌, length}
 use Rattle.std.proofs.Common.{Option, Some, None, refl, sym, ap, subst, ◌∙◌, arith, if◌then◌else◌}
+use Rattle.std.proofs.Math.Bool.{or-true}
 use Rattle.std.proofs.lemmas.Bool.Decides.{nat_tests}
 use Rattle.vms_base.specs.declared.ids.CpuId.{CpuId}
 use Rattle.vms_history.specs.Events.{own, after}
@@ -13,18 +14,13 @@ use Rattle.vms_core.specs.Pages.{History, IsLegal, state_after}
 use Rattle.vms_core.specs.Steps.{role, effect}
 use Rattle.vms_core.specs.Totals.{spent, spent_by}
 use Rattle.vms_phase.specs.OpenPhases.{MayOpen}
-use Rattle.vms_phase.specs.FileOrder.{splits_from, pass_of}
+use Rattle.vms_file_order.specs.LanePasses.{pass_of}
+use Rattle.vms_file_order.proofs.LaneLists.{owner_of-injective}
+use Rattle.vms_phase.specs.FileOrder.{splits_from}
 use Rattle.vms_script.specs.PhaseScripts.{is_lane}
 use Rattle.vms_world.specs.Lanes.{is_among, owner_of}
 use Rattle.vms_text.specs.declared.acts.Lane.{Lane}
 use Rattle.vms_text.specs.declared.acts.Lane.TheVariants.{Cpu, Control}
-
--- lanes whose passes own the same are one
-owner_of-injective : (l m : Lane) → owner_of l ≡ owner_of m → l ≡ m
-owner_of-injective (Cpu c) (Cpu d) same = cc
-owner_of-injective (Cpu c) Control same = absurd cc
-owner_of-injective Control (Cpu d) same = absurd cc
-owner_of-injective Control Control same = refl
 
 owner_of-same : (l m : Lane) → is_lane l m ≡ true → owner_of l ≡ owner_of m
 owner_of-same (Cpu c) (Cpu d) same = let numbers : c.number ≡ d.number = grind (arith, nat_tests) in
@@ -88,23 +84,6 @@ lives-lane m (l ∷ ls) g q least below = by (nat_eq m q) refl
         ∙ ap (λ b. if b then true else lives role g q) is
     by false is rest = rest (grind (arith, nat_tests))
 
-pub pass_of-least : (ls : List Lane) (lane : Lane) → is_among lane ls ≡ true → 1 ≤ pass_of ls lane
-pass_of-least [] lane among = absurd cc
-pass_of-least (l ∷ ls) lane among = by (is_lane l lane)
-  where
-    by : (b : Bool) → 1 ≤ (if b then 1 else suc (pass_of ls lane))
-    by true = omega arith
-    by false = omega arith
-
-pub pass_of-most : (ls : List Lane) (lane : Lane) → is_among lane ls ≡ true → pass_of ls lane ≤ length ls
-pass_of-most [] lane among = absurd cc
-pass_of-most (l ∷ ls) lane among = by (is_lane l lane) among (pass_of-most ls lane)
-  where
-    by : (b : Bool) → (b || is_among lane ls) ≡ true → (is_among lane ls ≡ true → pass_of ls lane ≤ length ls)
-        → (if b then 1 else suc (pass_of ls lane)) ≤ suc (length ls)
-    by true either rest = omega arith
-    by false either rest = omega (arith, rest either)
-
 -- the beginnings are the main pass's own, others have no event, nothing is spent and the state stays
 pub own-main : (ks : List Step) → own (after 0 ks []) 0 ≡ after 0 ks []
 own-main ks = own-after 0 ks []
@@ -157,10 +136,6 @@ IsLegal-splits facts m (l ∷ ls) g may legal mine count free =
     free_here = subst (λ (es : History). (q : ℕ) → lives role es q ≡ true → owner role es q ≡ owner_of l → ⊥) (sym mine)
         (free l (ap (λ b. b || is_among l ls) (same-self l)))
 
-    or_true : (b : Bool) → (b || true) ≡ true
-    or_true true = refl
-    or_true false = refl
-
     free_there : (a : Lane) → is_among a ls ≡ true → (q : ℕ)
         → (if nat_eq (suc m) q then true else lives role g q) ≡ true
         → (if nat_eq (suc m) q then owner_of l else owner role g q) ≡ owner_of a → ⊥
@@ -173,4 +148,4 @@ IsLegal-splits facts m (l ∷ ls) g may legal mine count free =
             (owner_of-injective l a owns)) among in
             let both : true ≡ false = sym one ∙ may.1 in absurd cc
         by false lives_there owns = free a (ap (λ b. is_lane l a || b) among
-            ∙ or_true (is_lane l a)) q lives_there owns
+            ∙ or-true (is_lane l a)) q lives_there owns

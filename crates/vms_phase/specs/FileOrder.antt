@@ -1,5 +1,5 @@
 -- The histories of a phase in file order: the lanes' passes begin, the lines follow one another, the passes end.
-use Rattle.std.specs.Prelude.{◌≡◌, ℕ, suc, pos, negsuc, List, [], ◌∷◌, ◌++◌, if◌then◌else◌}
+use Rattle.std.specs.Prelude.{◌≡◌, ℕ, suc, pos, negsuc, List, [], ◌∷◌, ◌++◌}
 use Rattle.vms_core.specs.Bases.{settled}
 use Rattle.vms_core.specs.Laws.{KeepsLaws}
 use Rattle.vms_core.specs.Pages.{pages, History, state_after}
@@ -17,8 +17,8 @@ use Rattle.vms_text.specs.declared.acts.Act.TheVariants.{Mod, Inc, Dec}
 use Rattle.vms_text.specs.declared.acts.Item.{Item}
 use Rattle.vms_text.specs.declared.acts.Lane.{Lane}
 use Rattle.vms_text.specs.declared.acts.Lane.TheVariants.{Cpu}
-use Rattle.vms_script.specs.PhaseScripts.{is_lane}
 use Rattle.vms_world.specs.Lanes.{lanes_of, owner_of}
+use Rattle.vms_file_order.specs.LanePasses.{pass_of}
 
 -- the steps that begin a pass for each lane, the first under this number, and those that end them
 abbrev pub splits_from : ℕ → List Lane → List Step
@@ -32,11 +32,6 @@ joins_from n (lane ∷ lanes) = Join n ∷ joins_from (suc n) lanes
 -- the history in which the passes of these lanes have begun
 abbrev pub opening_of : List Lane → History
 opening_of lanes = after 0 (splits_from 1 lanes) []
-
--- the number of the pass of a lane: 1 for the first of these lanes, 2 for the next
-abbrev pub pass_of : List Lane → Lane → ℕ
-pass_of [] lane = 0
-pass_of (l ∷ ls) lane = if is_lane l lane then 1 else suc (pass_of ls lane)
 
 -- the steps of a line that meets no other caller
 abbrev pub Makes : Facts → Lane → Act → List Step → Type 0

@@ -3,16 +3,12 @@ use Rattle.std.proofs.Common.{◌≡◌, ℕ, Bool, true, false, List, [], ◌�
 use Rattle.std.proofs.Common.{append-nil}
 use Rattle.vms_stream.specs.declared.statuses.Status.{Status}
 use Rattle.vms_stream.specs.Behaviors.{first_halt, halted, state_after}
+use Rattle.vms_stream.proofs.BehaviorLaws.{first_halt-none}
 use Rattle.vms_phased.specs.PhasedBehaviors.{PhasedBehavior, Way, halt_at, supply, way_after, with_outcomes}
 use Rattle.vms_phased.specs.PhasedBehaviors.Way.{On}
 use Rattle.vms_phased.specs.Leading.{AllUsed, Leads, LeadsThrough, LeadsToEnd, UsedAtEnd, leads_on, none_after}
 use Rattle.vms_phased.specs.Jobs.{StandsOn}
 use Rattle.vms_phased.proofs.MoreOutcomes.{state_after-short}
-
--- no line stops the command where the first doesn't and no later one does
-first_halt-none : (first later : Option Status) → first_halt first later ≡ None → (first ≡ None) × (later ≡ None)
-first_halt-none None later none = (refl, none)
-first_halt-none (Some halt) later none = absurd cc
 
 none_after-open : {O : Type 0} (halt : Option Status) (left : List O) (later : Type 0) → halt ≡ None
     → none_after halt left later → later
@@ -127,7 +123,8 @@ module _ {S O : Type 0} (phased : PhasedBehavior S O) where
   leads_on-append asked start others more s line lines later false outcomes led none after =
       let halts = phased.halts s line None in
       let next = phased.next s line None in
-      let both = first_halt-none halts (halted (with_outcomes phased start) (On next outcomes) lines) none in
+      let both = first_halt-none (with_outcomes phased start) halts
+      (halted (with_outcomes phased start) (On next outcomes) lines) none in
       open-none_after halts (outcomes ++ others)
       (LeadsThrough phased asked next (outcomes ++ others) (lines ++ more)) both.0
       (later next outcomes (none_after-open halts outcomes (Leads phased next outcomes lines) both.0 led) both.1 after)
@@ -137,7 +134,8 @@ module _ {S O : Type 0} (phased : PhasedBehavior S O) where
   leads_on-append asked start others more s line lines later true (outcome ∷ left) led none after =
       let halts = phased.halts s line (Some outcome) in
       let next = phased.next s line (Some outcome) in
-      let both = first_halt-none halts (halted (with_outcomes phased start) (On next left) lines) none in (
+      let both = first_halt-none (with_outcomes phased start) halts
+      (halted (with_outcomes phased start) (On next left) lines) none in (
         led.0,
         open-none_after halts (left ++ others)
             (LeadsThrough phased asked next (left ++ others) (lines ++ more)) both.0

@@ -44,7 +44,7 @@ module _ {S O : Type 0} (phased : PhasedBehavior S O) where
   -- where a line stops the command, or it is on its way after all lines, no phase lacks its outcome
   pub IsWhole-of : (start : List O) (way : Way S O) (lines : List (List ℕ))
       → (halted (with_outcomes phased start) way lines ≡ None
-          → IsOn (state_after (with_outcomes phased start) way lines))
+      → IsOn (state_after (with_outcomes phased start) way lines))
       → IsWhole phased way lines
   IsWhole-of start way [] on = on refl
   IsWhole-of start way (line ∷ lines) on =
@@ -52,7 +52,7 @@ module _ {S O : Type 0} (phased : PhasedBehavior S O) where
       unless_halted-of (way_halts phased way line) (IsWhole phased next lines)
       (λ open_line. IsWhole-of start next lines
       (λ none. on (ap (λ (halt : Option Status). first_halt halt (halted
-          (with_outcomes phased start) next lines)) open_line
+      (with_outcomes phased start) next lines)) open_line
       ∙ none)))
 
   IsWhole-now : (way : Way S O) (lines : List (List ℕ)) → IsWhole phased way lines → IsOn way

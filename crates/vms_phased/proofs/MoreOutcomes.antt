@@ -27,7 +27,7 @@ abbrev pub printed_to : {S : Type 0} → Behavior S → (S → List ℕ) → S �
 printed_to behavior after s [] = after s
 printed_to behavior after s (line ∷ lines) =
     printed_from (behavior.halts s line) (behavior.prints s line) (printed_to behavior after
-        (behavior.next s line) lines)
+    (behavior.next s line) lines)
 
 module _ {S : Type 0} (behavior : Behavior S) where
   pub printed_to-printed : (s : S) (lines : List (List ℕ))
@@ -150,7 +150,7 @@ module _ {S O : Type 0} (phased : PhasedBehavior S O) where
   module _ (more : List O) where
     way_after-more : (s : S) (line : List ℕ) (ends : Bool) (left : List O)
         → IsMore more (way_after phased s line (supply ends left)) (way_after phased s line (supply ends
-            (left ++ more)))
+        (left ++ more)))
     way_after-more s line false left = refl
     way_after-more s line true [] = tt
     way_after-more s line true (outcome ∷ left) = refl
@@ -259,7 +259,7 @@ module _ {S O : Type 0} (phased : PhasedBehavior S O) where
 
     pub printed-more : (outcomes : List O) (way way' : Way S O) (lines : List (List ℕ)) → IsMore more way way'
         → Begins (printed (with_outcomes phased outcomes) way lines) (printed
-            (with_outcomes phased outcomes) way' lines)
+        (with_outcomes phased outcomes) way' lines)
     printed-more outcomes way way' lines is =
         let behavior = with_outcomes phased outcomes in
         let begins = printed_to-more outcomes (λ (w : Way S O). []) refl (λ w w' is. ([], refl)) way way' lines is in (

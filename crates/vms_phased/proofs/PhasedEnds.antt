@@ -43,7 +43,7 @@ module _ {S O : Type 0} (phased : PhasedBehavior S O) (shows : S → Option O �
         (LeadsThrough-append phased (UsedAtEnd phased) outcomes further [] phased.start outcomes (lines_of taken)
         (subst (Leads phased phased.start outcomes) lines_all is.leads)
         (ap (halted (with_outcomes phased outcomes) (On phased.start outcomes)) (sym lines_all)
-            ∙ is.is_course.none_halts)
+        ∙ is.is_course.none_halts)
         (StandsOn-also stands (λ s. UsedAtEnd phased s further)
         (state_after (with_outcomes phased outcomes) (On phased.start outcomes) (lines_of taken)) used
         (subst (λ (lines : List (List ℕ)). StandsOn stands
@@ -82,7 +82,7 @@ module _ {S O : Type 0} (phased : PhasedBehavior S O) (shows : S → Option O �
   -- a job that stands with these outcomes left closes as it does with them alone
   pub Closes-with : (stands : S → Type 0) (all further : List O) (ending : Status) (out out' : List ℕ)
       → ((s : S) → stands s → Closes (with_outcomes phased further) (shown_on phased shows)
-          (On s further) ending out out')
+      (On s further) ending out out')
       → (way : Way S O) → StandsWith stands further way
       → Closes (with_outcomes phased all) (shown_on phased shows) way ending out out'
   Closes-with stands all further ending out out' goes (On s left) here =
@@ -148,7 +148,7 @@ module _ {S O : Type 0} (phased : PhasedBehavior S O) (shows : S → Option O �
       (none_read : read_faults src' ≡ read_faults src) (none_wrote : write_faults out' ≡ write_faults out) where
     pub AnswersPhased-stopped : (stands : S → Type 0) (course : Course) (stop : Status)
         → StepsPhased phased stands shows outcomes taken written course made' made'' (left src') (left src'')
-            (held out')
+        (held out')
         (held out'') (Err stop)
         → FaultsOfSource left read_faults stop src' src''
         → FaultsOfSink held write_faults stop out' out''
@@ -172,7 +172,7 @@ module _ {S O : Type 0} (phased : PhasedBehavior S O) (shows : S → Option O �
         → status_in result ≢ statuses.ReadFault
         → FaultsOfSink held write_faults (status_in result) out' out''
         → AnswersPhased phased shows made made'' left read_faults held write_faults src src' out out''
-            (status_in result)
+        (status_in result)
     AnswersPhased-ended result ended ends reads writes = record {
       outcomes = outcomes ++ ends.further;
       grows = Grows-trans made made' made'' outcomes ends.further grows ends.grows;

@@ -98,7 +98,7 @@ module _ {S O : Type 0} (phased : PhasedBehavior S O) (shows : S → Option O �
                 (same_taken ∙ sym (append-nil (whole_lines taken))) (append-nil written ∙ now.0.all_written)
                 (no_piece behavior (shown_on phased shows) taken is.is_course.within now.0.none_halts) []
                 (now.0.all_written ∙ sym (append-nil (printed behavior (On phased.start outcomes)
-                    (whole_lines taken))));
+                (whole_lines taken))));
             leads = inl (subst (Leads phased phased.start outcomes) (sym same_taken) leads_now);
             whole = tt;
           })

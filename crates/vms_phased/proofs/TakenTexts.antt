@@ -77,7 +77,7 @@ module _ {S O E : Type 0} (phased : PhasedBehavior S O) where
     -- the front of what waits is written
     pub TakesText-moved : (held'' : Option (List ℕ)) (front back : List ℕ) → out' ≡ front ++ back
         → Appends held' held'' front → TakesText {E = E} phased stands now made made' above
-            (Ok None) out back held held''
+        (Ok None) out back held held''
     TakesText-moved held'' front back parts appends = record {
       outcomes = took.outcomes;
       moved = took.moved ++ front;
@@ -139,10 +139,10 @@ module _ {S O E : Type 0} (phased : PhasedBehavior S O) where
           (took.moved ++ out') (took.moved ++ out'') after.0
           ((took.goes s here).prints ∙ ap (λ (bytes : List ℕ). out ++ bytes) (sym after.1)) refl
           (TakesLines-front phased (StandsOn next) (took.outcomes ++ more) (state_after longer way above)
-              (line ∷ []) halt
+          (line ∷ []) halt
           took.moved out' out''
           (TakesLines-start phased (StandsOn next) more (took.outcomes ++ more) (state_after longer way above)
-              (line ∷ [])
+          (line ∷ [])
           halt out' out''
           (by (state_after longer way above) after.2)));
       fails = tt;

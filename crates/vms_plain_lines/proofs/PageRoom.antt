@@ -46,7 +46,7 @@ HasRoom-open ends facts lanes h now stands volume within volumes =
     let closed = closing_of page_passes lanes h in
     let is_now = state_after-closing pages quiet_pages page_passes facts lanes h now stands in
     let base = ends facts closed (IsComplete-closing pages quiet_pages page_passes facts lanes h now stands) volume
-        within
+    within
     (λ c k c_in k_in. omega (arith, volumes c k c_in k_in, spent-ends 1 lanes h c k)) in
     subst (HasRoom facts.layout (2 ^ 61)) is_now (record {
       shaped = subst (HasShape facts.layout) (sym is_now)

@@ -33,7 +33,7 @@ pub with-pages : (P : TableStates → Type 0) (inside now : PlainStates) (counte
 with-pages P inside now counters same change next is holds =
     subst (λ (s : State). P (record { pages = s; events = inside.events; counters = counters })) (sym is)
     (subst (λ (x : PlainStates). P (record { pages = change x.pages; events = x.events; counters = counters })) (sym
-        same)
+    same)
     holds)
 
 pub with-events : (P : TableStates → Type 0) (inside now : PlainStates) (counters : LockedState) → inside ≡ now

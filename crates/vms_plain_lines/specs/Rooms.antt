@@ -11,7 +11,7 @@ use Rattle.vms_text.specs.declared.acts.Lane.{Lane}
 use Rattle.vms_text.specs.declared.acts.Lane.TheVariants.{Cpu}
 use Rattle.vms_world.specs.Lanes.{is_among}
 use Rattle.vms_file_order.specs.OpenPhases.{TableStates}
-use Rattle.vms_plain_events.specs.PlainWords.{HasCpus}
+use Rattle.vms_plain_events.specs.PlainWords.{HasWords}
 use Rattle.vms_plain_pages.specs.Alone.{HasRoom}
 
 -- the lists are those of the layout and their numbers are small, and the CPUs of these lanes are online
@@ -19,6 +19,6 @@ pub record LeavesRoom (shape : Shape) (lanes : List Lane) (now : TableStates) : 
   pub pages : HasRoom shape (2 ^ 61) now.pages
   pub owners : (cpu : CpuId) → is_among (Cpu cpu) lanes ≡ true →
       IsCpu shape cpu.number × (cpu_at now.pages cpu.number ≡ Online)
-  pub events : HasCpus now.events shape.cpus
+  pub events : HasWords now.events shape.cpus
   pub words : (c k : ℕ) → IsCpu shape c → IsEvent k → word_at now.events c k < 2 ^ 62
   pub sums : (k : ℕ) → IsEvent k → sum_over now.events k (online_from 0 now.pages.cpu) < 2 ^ 62

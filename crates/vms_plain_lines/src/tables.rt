@@ -43,7 +43,7 @@ impl<R: ThresholdRules> PlainTables<R> {
     ghost use Rattle.vms_calls.specs.Looks.{at_least_zero};
     ghost use Rattle.vms_event_core.specs.Calls.{sum_over};
     ghost use Rattle.vms_event_core.specs.Words.{IsEvent, with_word, word_at};
-    ghost use Rattle.vms_plain_events.specs.PlainWords.{HasCpus};
+    ghost use Rattle.vms_plain_events.specs.PlainWords.{HasWords};
     ghost use Rattle.vms_plain_lines.specs.PageActs.{IsChangeAct};
     ghost use Rattle.vms_plain_lines.specs.PlainStates.{GoesOn, GoesOnAlways};
     ghost use Rattle.vms_plain_pages.specs.Alone.{HasRoom};
@@ -99,7 +99,7 @@ impl<R: ThresholdRules> PlainTables<R> {
 
     /// Counts an event `n` times on a CPU (`count_vm_events` of include/linux/vmstat.h).
     pub fn count(&mut self, cpu: CpuId, event: EventId, n: u64)
-        requires cpu { HasCpus self.old.events (cpu.number + 1) }
+        requires cpu { HasWords self.old.events (cpu.number + 1) }
         requires event { IsEvent event.number }
         requires room { word_at self.old.events cpu.number event.number + n < 2 ^ 64 }
         ensures after { self.new ≡ record self.old {
@@ -189,7 +189,7 @@ impl<R: ThresholdRules> PlainTables<R> {
 
     /// What the CPUs that are online have counted of an event (`all_vm_events` of mm/vmstat.c).
     pub fn all_events(&self, event: EventId) -> u64
-        requires cpus { HasCpus self.now.events (length self.now.pages.cpu) }
+        requires cpus { HasWords self.now.events (length self.now.pages.cpu) }
         requires few { length self.now.pages.cpu ≤ 128 }
         requires event { IsEvent event.number }
         requires room { sum_over self.now.events event.number (online_from 0 self.now.pages.cpu) < 2 ^ 64 }

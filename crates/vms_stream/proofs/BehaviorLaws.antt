@@ -12,7 +12,7 @@ module _ {S : Type 0} (behavior : Behavior S) where
   state_after-append s [] more = refl
   state_after-append s (line ∷ lines) more = state_after-append (behavior.next s line) lines more
 
-  first_halt-none : (first later : Option Status) → first_halt first later ≡ None → (first ≡ None) × (later ≡ None)
+  pub first_halt-none : (first later : Option Status) → first_halt first later ≡ None → (first ≡ None) × (later ≡ None)
   first_halt-none None later none = (refl, none)
   first_halt-none (Some halt) later none = absurd cc
 

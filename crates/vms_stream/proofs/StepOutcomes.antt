@@ -321,7 +321,7 @@ module _ {S : Type 0} (behavior : Behavior S) (shows : S → Type 0) where
               where
                 by : (found : Option Status) → halt ≡ found → (r : Result (Unit {0}) Status)
                     → StopsAt found read.taken r
-                        → Steps behavior stands' shows taken written last left left' sunk sunk' r
+                    → Steps behavior stands' shows taken written last left left' sunk sunk' r
                 by (Some h) is_found r stopped = subst
                     (λ (r : Result (Unit {0}) Status). Steps behavior stands' shows taken written last left left' sunk
                     sunk'

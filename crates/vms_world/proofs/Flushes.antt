@@ -35,11 +35,6 @@ pub if-sum : (b : Bool) (x y : ℤ) → (if b then x +ℤ y else pos 0) ≡ (if 
 if-sum true x y = omega (arith, ints)
 if-sum false x y = omega (arith, ints)
 
--- a value is its total less what is hidden
-less-hidden : (value hidden : ℤ) → unsigned_abs (value +ℤ hidden) ≤ 129 * 2 ^ 48 → unsigned_abs hidden ≤ 128 * 125
-    → unsigned_abs value ≤ 2 ^ 56
-less-hidden value hidden small few = omega (arith, ints)
-
 module _ (shape : Shape) (layout : IsLayout shape) (s : State) (shaped : HasShape shape s) where
   abbrev next : State
   next = flushed_pages shape s
@@ -56,7 +51,7 @@ module _ (shape : Shape) (layout : IsLayout shape) (s : State) (shaped : HasShap
   diff-flushed c k c_in k_in =
       rw (length-listed (λ k. value_at s k +ℤ folded_of shape s k) (counter_count shape))
       (get_or-listed_by_cpu (λ c k. if is_online (cpu_at s c) then pos 0 else diff_at s c k) shape.cpus
-          (counter_count shape)
+      (counter_count shape)
       c k (pos 0) c_in k_in)
 
   -- each differential is folded or stays
@@ -143,16 +138,16 @@ module _ (header : Header) (w : World) (of : IsWorldOf header w) where
       omega (arith, ints, sum_below-size (λ c. diff_at after c k) layout.cpus, each, is_layout.cpus_most)
 
   value-most : (k : ℕ) → IsCounter layout k → unsigned_abs (value_at after k) ≤ 2 ^ 56
-  value-most k k_in = less-hidden (value_at after k) (differentials layout after k)
-      (omega (
+  value-most k k_in =
+      let small : unsigned_abs (value_at after k +ℤ differentials layout after k) ≤ 129 * 2 ^ 48 = omega (
         arith,
         ap unsigned_abs (total-flushed layout is_layout w.pages shaped k k_in),
         of.pages_within.totals k k_in,
         count_below-most (λ c. page_volume header w c k) layout.cpus most_volume
             (λ c c_in. of.page_volumes.most c k c_in k_in),
         is_layout.cpus_most,
-      ))
-      (hidden-most k k_in)
+      ) in
+      omega (arith, ints, small, hidden-most k k_in)
 
   system-is : (i : ℕ) → IsItem layout i → system_at after i ≡ values_of_item layout after i
   system-is i i_in = system-sum layout is_layout w.pages shaped i i_in (of.pages_within.systems i i_in)

@@ -29,7 +29,7 @@ use Rattle.vms_world.proofs.ListedReads.{get_or-listed_by_cpu, length-listed_by_
 -- volumes that are given CPU by CPU
 AreVolumes-listed_by_cpu : (shape : Shape) (width : ℕ) (f : ℕ → ℕ → ℕ)
     → ((c k : ℕ) → c < shape.cpus → k < width → f c k ≤ 2 ^ 48)
-        → AreVolumes shape width (listed_by_cpu f shape.cpus width)
+    → AreVolumes shape width (listed_by_cpu f shape.cpus width)
 AreVolumes-listed_by_cpu shape width f most = record {
   one_each = length-listed_by_cpu f shape.cpus width;
   most = λ c k c_in k_in. rw (get_or-listed_by_cpu f shape.cpus width c k 0 c_in k_in) (most c k c_in k_in);
