@@ -2,7 +2,7 @@
 //!
 //! It writes what the proved program writes, and ends with its statuses: 0, 1 for other words, 2 for a refused header,
 //! 3 where a line was refused, 4 for a failed read and 5 for a failed write, 7 past a limit, and 8 where a report other
-//! than that of the totals counts. From such a report on it writes nothing, nor what it still held.
+//! than that of the totals counts. From such a report on it writes nothing.
 
 mod commands;
 mod names;
@@ -109,10 +109,7 @@ impl Replay<'_> {
                 label(out, number, b"report totals\n");
                 self.write_totals(out);
             }
-            Line::Report(_) => {
-                self.is_built = false;
-                out.clear();
-            }
+            Line::Report(_) => self.is_built = false,
             _ => {}
         }
         self.world.end_phase();

@@ -1,4 +1,5 @@
--- Calls leave what their caller carries, and what the CPUs have spent but for the size of a change.
+-- For other crates too: calls leave what their caller carries, and what the CPUs have spent but for the size of a
+-- change.
 use Rattle.std.proofs.Common.{◌≡◌, ℕ, ◌+◌, ◌&&◌, Bool, true, false, nat_eq, if◌then◌else◌, ℤ, pos, neg_ℤ, List}
 use Rattle.std.proofs.Common.{[], ◌∷◌, ◌++◌, Option, Some, None, refl, sym, ap, ◌∙◌, subst, arith, unsigned_abs}
 use Rattle.std.proofs.lemmas.Int.{ints}

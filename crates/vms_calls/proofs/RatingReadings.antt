@@ -1,4 +1,4 @@
--- The steps of the calls that set thresholds, and of a burial, tell where they end.
+-- For other crates too: the steps of the calls that set thresholds, and of a burial, tell where they end.
 use Rattle.std.proofs.Common.{◌≡◌, ℕ, suc, ◌+◌, ◌≤◌, Bool, true, false, nat_eq, if◌then◌else◌, List, []}
 use Rattle.std.proofs.Common.{◌∷◌, ◌++◌, length, Option, refl, sym, ap, ◌∙◌, arith, append_assoc, ne_eqb}
 use Rattle.vms_base.specs.declared.ids.CpuId.{CpuId}

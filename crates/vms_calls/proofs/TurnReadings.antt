@@ -1,4 +1,4 @@
--- The steps of a test of a zone for an order, of a balance test and of a turn tell their answers.
+-- For other crates too: the steps of a test of a zone for an order, of a balance test and of a turn tell their answers.
 use Rattle.std.proofs.Common.{◌≡◌, ℕ, suc, zero, Bool, true, false, nat_eq, if◌then◌else◌, List, ◌∷◌}
 use Rattle.std.proofs.Common.{◌++◌, Option, None, is_some, refl, sym, ap, ◌∙◌, append_assoc, ne_eqb}
 use Rattle.vms_base.specs.declared.headers.Header.{Header}

@@ -81,12 +81,12 @@ module _ (header : Header) (is_header : IsHeader header) where
 
   -- what is written of a body counts again
   body_again : (n : ℕ) (above : LinesAbove) (texts : List (List ℕ)) (rest : List ℕ) → n + length texts ≤ 10 ^ 7
-      → come_to header (with_none_refused above) (lines_of (printed_of checking header n above texts ++ rest))
+      → come_to header (with_none_refused above) (lines_of (printed_of checking header n above tt texts ++ rest))
       ≡ come_to header (with_none_refused (come_to header above texts)) (lines_of rest)
   body_again n above [] rest fits = refl
   body_again n above (text ∷ texts) rest fits =
       let result = judged header above.lines text in
-      let later = printed_of checking header (suc n) (with_judged result above) texts in
+      let later = printed_of checking header (suc n) (with_judged result above) tt texts in
       ap (λ (bytes : List ℕ). come_to header (with_none_refused above) (lines_of bytes))
       (append_assoc (checked_line header n result) later rest)
       ∙ one_again n above text (later ++ rest) result refl (omega arith)
@@ -102,7 +102,7 @@ module _ (header : Header) (is_header : IsHeader header) where
 
   -- what is written of a body, and of its end
   whole_again : (n : ℕ) (texts : List (List ℕ)) → n + length texts ≤ most_lines + 1
-      → come_to header nothing_above (lines_of (printed_of checking header n nothing_above texts ++ checked_end
+      → come_to header nothing_above (lines_of (printed_of checking header n nothing_above tt texts ++ checked_end
       (come_to header nothing_above texts)))
       ≡ with_none_refused (come_to header nothing_above texts)
   whole_again n texts fits =
@@ -135,7 +135,7 @@ ChecksAgain-holds lines header count few is =
     let words_few = header_words-few header writable in
     let body = drop count lines in
     let above = come_to header nothing_above body in
-    let rest = printed_of checking header (suc count) nothing_above body ++ checked_end above in
+    let rest = printed_of checking header (suc count) nothing_above tt body ++ checked_end above in
     let split = sentences_split words rest words_few in
     let after = ap (drop (length words)) split ∙ drop_at (map joined words) (lines_of rest) (length words)
     (length-map words joined) in

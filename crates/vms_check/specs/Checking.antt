@@ -1,6 +1,6 @@
 -- What `check` writes of a text: its header and each line that counts in the one spelling, and a comment in the place
 -- of each line that doesn't.
-use Rattle.std.specs.Prelude.{ℕ, List, [], ◌++◌, length, codes, Result, Ok, Err}
+use Rattle.std.specs.Prelude.{ℕ, false, List, [], ◌++◌, length, codes, Result, Ok, Err}
 use Rattle.vms_base.specs.declared.headers.Header.{Header}
 use Rattle.vms_text.specs.declared.acts.Line.{Line}
 use Rattle.vms_text.specs.declared.acts.Line.TheVariants.{Blank}
@@ -8,6 +8,8 @@ use Rattle.vms_line.specs.declared.causes.LineCause.{LineCause}
 use Rattle.vms_header.specs.Spelling.{spelled_header}
 use Rattle.vms_line.specs.Spelling.{spelled_line}
 use Rattle.vms_stream.specs.Behaviors.{Behavior}
+use Rattle.vms_phased.specs.Plain.{plainly}
+use Rattle.vms_phased.specs.Waiting.Text.{Plain}
 use Rattle.vms_command.specs.Bodies.{shown}
 use Rattle.vms_command.specs.Commands.{Command, CommandState, MayEnd-status_at_end, status_at_end, following}
 use Rattle.vms_command.specs.Lines.{LinesAbove}
@@ -28,21 +30,23 @@ checked_line header n (Err cause) = codes "# " ++ refused_line n cause
 abbrev pub checked_end : LinesAbove → List ℕ
 checked_end above = codes "# " ++ done_line (length above.lines) above.refused
 
--- the command `check`: it keeps nothing of the lines but what they came to
-abbrev pub checking : Command (Unit {0})
+-- the command `check`: it keeps nothing of the lines but what they came to, and makes no phase
+abbrev pub checking : Command (Unit {0}) ⊥
 checking = record {
   begins = λ header. tt;
   opens = spelled_header;
-  next = λ header n above result kept. tt;
-  prints = λ header n above result. checked_line header n result;
-  last = λ header above kept. checked_end above;
+  phase_open = λ header above kept. false;
+  Allows = λ header above kept outcome. ⊥;
+  next = λ header n above result given kept. tt;
+  text = λ header n above result kept. Plain (checked_line header n result);
+  last = λ header above kept. Plain (checked_end above);
   ends = λ above. status_at_end above.refused;
   may_end = λ above. MayEnd-status_at_end above.refused;
 }
 
 -- a check, line by line
 abbrev pub check : Behavior (CommandState (Unit {0}))
-check = following checking
+check = plainly (following checking)
 
 -- what is written for a text: the one line of a refused header, or the header, what is written for each line, and the
 -- last line

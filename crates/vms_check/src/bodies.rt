@@ -11,15 +11,23 @@ use vms_stream::Status;
 pub(crate) struct CheckBody;
 
 impl Body for CheckBody {
+    ghost use Rattle.std.specs.Prelude.{None};
     ghost use Rattle.vms_check.specs.Checking.{checking};
+    ghost use Rattle.vms_command.specs.Bodies.{quietly};
+
+    type Engine = ();
 
     ghost Kept = { Unit {0} };
 
+    ghost Outcome = { ⊥ };
+
     ghost command = { checking };
 
-    ghost Stands = { λ body header above kept. Unit {0} };
+    ghost made = { λ engine. None };
 
-    ghost Shows = { λ header above kept. Unit {0} };
+    ghost Stands = { λ body. quietly (λ header above kept. Unit {0}) };
+
+    ghost Shows = { λ header above kept given. Unit {0} };
 
     fn begin(_alloc: Global, header: &Header, out: &mut Vec<u8>) -> Result<CheckBody, Memory> {
         write_header(out, header)?;
@@ -28,6 +36,7 @@ impl Body for CheckBody {
 
     fn take_line(
         &mut self,
+        _engine: &mut (),
         header: &Header,
         number: u32,
         judged: &JudgedLine<'_>,
@@ -41,6 +50,7 @@ impl Body for CheckBody {
 
     fn end(
         &mut self,
+        _engine: &mut (),
         _header: &Header,
         accepted: u32,
         refused: u32,

@@ -13,5 +13,5 @@ pub fn tool_check<S: Source, K: Sink>(alloc: Global, src: &mut S, out: &mut K) -
     ensures { Answers S.remaining S.faults K.written K.faults src.old src.new out.old out.new result
         (Says check nothing_shown) }
 {
-    follow::<CheckBody, S, K>(alloc, src, out)
+    follow::<CheckBody, S, K>(alloc, (), src, out).0
 }

@@ -6,6 +6,7 @@ use Rattle.vms_header.specs.declared.causes.HeaderCause.{HeaderCause}
 use Rattle.vms_header.specs.Drafts.{Draft, header_of}
 use Rattle.vms_header.specs.Stages.{Stage, HeadStep}
 use Rattle.vms_header.specs.Stages.HeadStep.{Goes, Ends}
+use Rattle.vms_phased.specs.Waiting.{Text}
 use Rattle.vms_stream.specs.declared.statuses.Status.TheVariants as statuses
 use Rattle.vms_command.specs.declared.body_jobs.BodyJob.{BodyJob}
 use Rattle.vms_command.specs.declared.trace_jobs.Work.TheVariants as works
@@ -14,8 +15,8 @@ use Rattle.vms_command.specs.Lines.{LinesAbove}
 use Rattle.vms_command.specs.Printing.{header_line}
 use Rattle.vms_command.specs.JobStates.{BeginsBody, TakesHeadLine}
 
-module _ {K B : Type 0} (command : Command K) (stands : B → Header → LinesAbove → K → Type 0) (n : ℕ)
-    (read : Result HeadStep HeaderCause) where
+module _ {K O B : Type 0} (command : Command K O) (stands : B → Header → ℕ → LinesAbove → K → List (Text O) → Type 0)
+    (n : ℕ) (read : Result HeadStep HeaderCause) where
   -- the header goes on
   pub head-goes : (stage : Stage) (out : List ℕ) → read ≡ Ok (Goes stage)
       → TakesHeadLine command stands n read None out out (works.Header stage)
@@ -33,7 +34,7 @@ module _ {K B : Type 0} (command : Command K) (stands : B → Header → LinesAb
       let here = subst (λ (h : Header). BeginsBody command stands h out out' job) same begins in
       subst (λ (t : Result HeadStep HeaderCause). TakesHeadLine command stands n t None out out' (works.Body job))
       (sym is)
-      (record { halt_is = refl; printed = here.printed; leads = λ _. here.here })
+      (record { halt_is = refl; printed = here.printed; leads = λ _. (here.same_header, here.here) })
 
   -- the line is at fault
   pub head-refused : (cause : HeaderCause) (out out' : List ℕ) → read ≡ Err cause

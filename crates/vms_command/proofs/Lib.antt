@@ -2,3 +2,4 @@ pub mod BodyLines
 pub mod HeadLines
 pub mod CommandLines
 pub mod WholeText
+pub mod PlainBodies

@@ -1,4 +1,5 @@
--- For other crates too: what a command writes line by line is what is defined by the header and the body.
+-- For other crates too: what a command that asks for nothing writes line by line is what is defined by the header and
+-- the body.
 use Rattle.std.proofs.Common.{◌≡◌, ◌≢◌, ℕ, zero, suc, Bool, true, false, nat_lt, if◌then◌else◌, List, [], ◌∷◌, ◌++◌}
 use Rattle.std.proofs.Common.{drop, Option, Some, None, refl, sym, ap, ◌∙◌, append_assoc, append-nil}
 use Rattle.std.specs.Prelude.{Result, Ok, Err}
@@ -20,6 +21,7 @@ use Rattle.vms_command.specs.Commands.CommandState.{Heading, Body}
 use Rattle.vms_command.specs.Limits.{most_lines, exceeds_limit}
 use Rattle.vms_command.specs.Lines.{LinesAbove, come_to, nothing_above, with_judged}
 use Rattle.vms_command.specs.Texts.{WritesTexts, body_text, kept_of, printed_of, text_under}
+use Rattle.vms_phased.specs.Plain.{plain_bytes, plainly}
 use Rattle.vms_stream.specs.Behaviors.{Behavior}
 
 -- where no limit is exceeded, a line stops the command for what it says alone
@@ -66,9 +68,9 @@ written-refused : (halt : Option Status) (line later : List ℕ) (rest : Option 
 written-refused halt line later rest words refused = ap (λ (at : Option Status). written_at at line later rest words)
     refused ∙ append-nil line
 
-module _ {K : Type 0} (command : Command K) where
+module _ {K O : Type 0} (command : Command K O) where
   abbrev behavior : Behavior (CommandState K)
-  behavior = following command
+  behavior = plainly (following command)
 
   -- what is written of lines, and at their end
   abbrev written_from : CommandState K → List (List ℕ) → List ℕ
@@ -78,25 +80,27 @@ module _ {K : Type 0} (command : Command K) where
   body_written : (n : ℕ) (header : Header) (above : LinesAbove) (kept : K) (lines : List (List ℕ))
       → halted behavior (Body n header above kept) lines ≢ Some TooLong
       → written_from (Body n header above kept) lines
-      ≡ printed_of command header n above lines ++ command.last header (come_to header above lines)
-      (kept_of command header n above kept lines)
+      ≡ printed_of command header n above kept lines ++ plain_bytes (command.last header (come_to header above lines)
+      (kept_of command header n above kept lines))
   body_written n header above kept [] within = refl
   body_written n header above kept (line ∷ lines) within =
       let result = judged header above.lines line in
       let above' = with_judged result above in
-      let kept' = command.next header n above result kept in
+      let kept' = command.next header n above result None kept in
+      let text = plain_bytes (command.text header n above result kept) in
       let next = Body (suc n) header above' kept' in
       let over = exceeds_limit above.lines result in
       let here = first_within (halted_at n (exceeds over)) (halted behavior next lines) within in
       let same = within_at n (exceeds over) here in
       let none = same ∙ unless_over over (λ is. here (same ∙ is)) in
-      written-on (halted_at n (exceeds over)) (command.prints header n above result) (printed behavior next lines)
+      written-on (halted_at n (exceeds over)) text (printed behavior next lines)
       (halted behavior next lines) (behavior.last (state_after behavior next lines)) none
-      ∙ ap (λ (rest : List ℕ). command.prints header n above result ++ rest)
+      ∙ ap (λ (rest : List ℕ). text ++ rest)
       (body_written (suc n) header above' kept' lines
       (later_within (halted_at n (exceeds over)) (halted behavior next lines) none within))
-      ∙ sym (append_assoc (command.prints header n above result) (printed_of command header (suc n) above' lines)
-      (command.last header (come_to header above' lines) (kept_of command header (suc n) above' kept' lines)))
+      ∙ sym (append_assoc text (printed_of command header (suc n) above' kept' lines)
+      (plain_bytes (command.last header (come_to header above' lines)
+      (kept_of command header (suc n) above' kept' lines))))
 
   -- what is written from a line of the header on, by what was read of the line
   step_written : (k : ℕ) (stage : Stage) (read : Result HeadStep HeaderCause) (lines all : List (List ℕ))

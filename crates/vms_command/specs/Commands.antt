@@ -1,8 +1,9 @@
--- Commands on a trace by their behavior from line to line: through the header, and then through the body.
+-- Commands on a trace by what they say from line to line: through the header, and then through the body.
 use Rattle.std.specs.Prelude.{Bool, true, false, ℕ, suc, nat_lt, if◌then◌else◌, List, [], Option, Some, None}
 use Rattle.std.specs.Prelude.{Result, Ok, Err}
 use Rattle.vms_base.specs.declared.headers.Header.{Header}
 use Rattle.vms_text.specs.declared.acts.Line.{Line}
+use Rattle.vms_text.specs.declared.acts.Line.TheVariants.{Boundary}
 use Rattle.vms_header.specs.declared.causes.HeaderCause.{HeaderCause}
 use Rattle.vms_line.specs.declared.causes.LineCause.{LineCause}
 use Rattle.vms_header.specs.Drafts.{header_of}
@@ -10,7 +11,9 @@ use Rattle.vms_header.specs.Stages.{Stage, HeadStep, head_line, missing}
 use Rattle.vms_header.specs.Stages.Stage.{Opening}
 use Rattle.vms_header.specs.Stages.HeadStep.{Goes, Ends}
 use Rattle.vms_script.specs.Judging.{judged}
-use Rattle.vms_stream.specs.Behaviors.{Behavior, MayEnd, MayHalt}
+use Rattle.vms_phased.specs.Waiting.{LineTexts, Text}
+use Rattle.vms_phased.specs.Waiting.Text.{Plain}
+use Rattle.vms_stream.specs.Behaviors.{MayEnd, MayHalt}
 use Rattle.vms_stream.specs.declared.statuses.Status.{Status}
 use Rattle.vms_stream.specs.declared.statuses.Status.TheVariants.{Done, Refused, TooLong}
 use Rattle.vms_stream.specs.declared.statuses.Status.TheVariants as statuses
@@ -18,18 +21,28 @@ use Rattle.vms_command.specs.Limits.{most_lines, exceeds_limit}
 use Rattle.vms_command.specs.Lines.{LinesAbove, nothing_above, with_judged}
 use Rattle.vms_command.specs.Printing.{header_line}
 
--- a command on a trace: what it keeps of the lines of the body, beside what they came to, and what it prints
-pub record Command (K : Type 0) : Type 0 where
+-- a command on a trace: what it keeps of the lines of the body, beside what they came to, and what it prints. Its
+-- phases have outcomes: a phase that is open ends at the next boundary line that counts, or at the end of the trace
+pub record Command (K O : Type 0) : Type 1 where
   -- kept after the header, and printed there
   pub begins : Header → K
   pub opens : Header → List ℕ
-  -- kept after line n of the body, and printed of it, by what was judged of it
-  pub next : Header → ℕ → LinesAbove → Result Line LineCause → K → K
-  pub prints : Header → ℕ → LinesAbove → Result Line LineCause → List ℕ
-  -- printed at the end of the trace, and how the command ends there
-  pub last : Header → LinesAbove → K → List ℕ
+  -- whether a phase is open after these lines, and which outcomes it may have
+  pub phase_open : Header → LinesAbove → K → Bool
+  pub Allows : Header → LinesAbove → K → O → Type 0
+  -- kept after line n of the body, by what was judged of it, and by the outcome of the phase that ends there
+  pub next : Header → ℕ → LinesAbove → Result Line LineCause → Option O → K → K
+  -- the text of line n: plain, or one that asks for the outcome of the phase that is open there or ends there
+  pub text : Header → ℕ → LinesAbove → Result Line LineCause → K → Text O
+  -- the text at the end of the trace, and how the command ends there
+  pub last : Header → LinesAbove → K → Text O
   pub ends : LinesAbove → Status
   pub may_end : (above : LinesAbove) → MayEnd (ends above)
+
+-- whether a phase ends at a line, by what was judged of it
+abbrev pub ends_at_judged : Bool → Result Line LineCause → Bool
+ends_at_judged phase_open (Ok (Boundary boundary)) = phase_open
+ends_at_judged phase_open _ = false
 
 -- the status at the end of a trace: lines that were refused make it `Refused`
 abbrev pub status_at_end : ℕ → Status
@@ -48,13 +61,13 @@ pub data CommandState (K : Type 0) : Type 0 where
   Body : ℕ → Header → LinesAbove → K → CommandState K
 
 -- a header's line: its first fault stops the command, and `go` begins the body
-abbrev pub after_head : {K : Type 0} → Command K → ℕ → Stage → Result HeadStep HeaderCause → CommandState K
+abbrev pub after_head : {K O : Type 0} → Command K O → ℕ → Stage → Result HeadStep HeaderCause → CommandState K
 after_head command n stage (Ok (Goes next)) = Heading (suc n) next
 after_head command n stage (Ok (Ends draft)) =
     Body (suc n) (header_of draft) nothing_above (command.begins (header_of draft))
 after_head command n stage (Err cause) = Heading n stage
 
-abbrev pub printed_head : {K : Type 0} → Command K → ℕ → Result HeadStep HeaderCause → List ℕ
+abbrev pub printed_head : {K O : Type 0} → Command K O → ℕ → Result HeadStep HeaderCause → List ℕ
 printed_head command n (Ok (Goes next)) = []
 printed_head command n (Ok (Ends draft)) = command.opens (header_of draft)
 printed_head command n (Err cause) = header_line (record { line = n; cause = cause })
@@ -63,18 +76,32 @@ abbrev pub refuses : Result HeadStep HeaderCause → Option Status
 refuses (Ok read) = None
 refuses (Err cause) = Some statuses.Header
 
--- after a line
-abbrev pub after_line : {K : Type 0} → Command K → CommandState K → List ℕ → CommandState K
-after_line command (Heading n stage) line = after_head command n stage (head_line stage line)
-after_line command (Body n header above kept) line =
-    Body (suc n) header (with_judged (judged header above.lines line) above)
-    (command.next header n above (judged header above.lines line) kept)
+-- whether a phase is open, and which outcomes it may have
+abbrev pub phase_at : {K O : Type 0} → Command K O → CommandState K → Bool
+phase_at command (Heading n stage) = false
+phase_at command (Body n header above kept) = command.phase_open header above kept
 
--- what a line prints
-abbrev pub printed_line : {K : Type 0} → Command K → CommandState K → List ℕ → List ℕ
-printed_line command (Heading n stage) line = printed_head command n (head_line stage line)
-printed_line command (Body n header above kept) line =
-    command.prints header n above (judged header above.lines line)
+abbrev pub allows_at : {K O : Type 0} → Command K O → CommandState K → O → Type 0
+allows_at command (Heading n stage) = λ outcome. ⊥
+allows_at command (Body n header above kept) = command.Allows header above kept
+
+-- whether a phase ends at a line
+abbrev pub ends_phase_at : {K O : Type 0} → Command K O → CommandState K → List ℕ → Bool
+ends_phase_at command (Heading n stage) line = false
+ends_phase_at command (Body n header above kept) line =
+    ends_at_judged (command.phase_open header above kept) (judged header above.lines line)
+
+-- after a line, by the outcome of the phase that ends there
+abbrev pub after_line : {K O : Type 0} → Command K O → CommandState K → List ℕ → Option O → CommandState K
+after_line command (Heading n stage) line given = after_head command n stage (head_line stage line)
+after_line command (Body n header above kept) line given =
+    Body (suc n) header (with_judged (judged header above.lines line) above)
+    (command.next header n above (judged header above.lines line) given kept)
+
+-- the text of a line
+abbrev pub line_text : {K O : Type 0} → Command K O → CommandState K → List ℕ → Text O
+line_text command (Heading n stage) line = Plain (printed_head command n (head_line stage line))
+line_text command (Body n header above kept) line = command.text header n above (judged header above.lines line) kept
 
 -- why a command stops at a line: the line is at fault in the header, or it exceeds the limit on lines, on phases or on
 -- reports
@@ -89,12 +116,12 @@ halts_at (Heading n stage) line = halted_at n (refuses (head_line stage line))
 halts_at (Body n header above kept) line =
     halted_at n (exceeds (exceeds_limit above.lines (judged header above.lines line)))
 
--- what is printed at the end of a text, and how the command ends there
-abbrev pub printed_end : {K : Type 0} → Command K → CommandState K → List ℕ
-printed_end command (Heading n stage) = header_line (record { line = n; cause = missing stage })
-printed_end command (Body n header above kept) = command.last header above kept
+-- the text at the end of a trace, and how the command ends there
+abbrev pub end_text : {K O : Type 0} → Command K O → CommandState K → Text O
+end_text command (Heading n stage) = Plain (header_line (record { line = n; cause = missing stage }))
+end_text command (Body n header above kept) = command.last header above kept
 
-abbrev pub ends_as : {K : Type 0} → Command K → CommandState K → Status
+abbrev pub ends_as : {K O : Type 0} → Command K O → CommandState K → Status
 ends_as command (Heading n stage) = statuses.Header
 ends_as command (Body n header above kept) = command.ends above
 
@@ -114,19 +141,24 @@ MayHalt-halts_at (Body n header above kept) line =
     let over = exceeds_limit above.lines (judged header above.lines line) in
     MayHalt-if (nat_lt most_lines n) (exceeds over) (MayHalt-if over None tt)
 
-pub MayEnd-ends_as : {K : Type 0} (command : Command K) (state : CommandState K) → MayEnd (ends_as command state)
+pub MayEnd-ends_as : {K O : Type 0} (command : Command K O) (state : CommandState K)
+    → MayEnd (ends_as command state)
 MayEnd-ends_as command (Heading n stage) = tt
 MayEnd-ends_as command (Body n header above kept) = command.may_end above
 
 -- a command, line by line
-abbrev pub following : {K : Type 0} → Command K → Behavior (CommandState K)
+abbrev pub following : {K O : Type 0} → Command K O → LineTexts (CommandState K) O
 following command = record {
   start = Heading 1 Opening;
+  ends_phase = ends_phase_at command;
+  Allows = λ state line. allows_at command state;
   next = after_line command;
-  prints = printed_line command;
+  text = line_text command;
   halts = halts_at;
   may_halt = MayHalt-halts_at;
-  last = printed_end command;
-  ends = ends_as command;
-  may_end = MayEnd-ends_as command;
+  ends_last = phase_at command;
+  AllowsLast = allows_at command;
+  last = end_text command;
+  ends = λ state given. ends_as command state;
+  may_end = λ state given. MayEnd-ends_as command state;
 }

@@ -15,13 +15,14 @@ pub(crate) struct BodyJob<B> {
 }
 
 impl<B: Body> BodyJob<B> {
-    ghost use Rattle.std.specs.Prelude.{ℕ, ◌≤◌, IfOk};
-    ghost use Rattle.vms_base.specs.declared.headers.Header.{Header};
+    ghost use Rattle.std.specs.Prelude.{suc, ◌≤◌, IfOk};
     ghost use Rattle.vms_header.specs.Laws.{IsWritable};
-    ghost use Rattle.vms_script.specs.Judging.{judged};
+    ghost use Rattle.vms_phased.specs.Jobs.{ClosesPhased, TakesPhased};
+    ghost use Rattle.vms_phased.specs.Waiting.{Waiting, waiting};
+    ghost use Rattle.vms_command.specs.Bodies.{shown_given};
+    ghost use Rattle.vms_command.specs.Commands.{CommandState, following};
     ghost use Rattle.vms_command.specs.Limits.{most_lines};
-    ghost use Rattle.vms_command.specs.Lines.{LinesAbove};
-    ghost use Rattle.vms_command.specs.JobStates.{BeginsBody, EndsBody, TakesBodyLine, SomeBody, StandsAfter};
+    ghost use Rattle.vms_command.specs.JobStates.{BeginsBody, InBody, InSomeBody};
 
     /// Begins before the first line, and appends what is printed there.
     pub(crate) fn begin(
@@ -45,33 +46,42 @@ impl<B: Body> BodyJob<B> {
     /// Judges the line of this number, and appends what is printed of it.
     pub(crate) fn take_line(
         &mut self,
+        engine: &mut B::Engine,
         number: u32,
         line: &[u8],
         out: &mut Vec<u8>,
     ) -> Result<Option<Status>, Memory>
-        requires body { SomeBody B.Stands number self.old }
+        requires body { (now : Waiting (CommandState B.Kept) B.Outcome) × InBody B.Stands number self.old now }
         requires most { number ≤ most_lines }
-        ensures { IfOk result (λ halt. (header : Header) (above : LinesAbove) (kept : B.Kept) →
-            StandsAfter B.Stands header above kept self.old →
-            TakesBodyLine B.command B.Stands header number above kept (judged header above.lines line.now) halt
-            out.old.items out.new.items self.new) }
+        ensures { TakesPhased (waiting (following B.command)) (InBody B.Stands number self.old)
+            (InBody B.Stands (suc number) self.new) (B.made engine.old) (B.made engine.new) line.now result
+            out.old.items out.new.items }
     {
         let judged = self.judge.judge(&self.header, line);
         if let Some(halt) = self.tally.count(&judged.said) {
             return Ok(Some(halt));
         }
-        self.body.take_line(&self.header, number, &judged, out)?;
+        self.body
+            .take_line(engine, &self.header, number, &judged, out)?;
         Ok(None)
     }
 
     /// Appends what is printed at the end of the trace, and says how the command ends.
-    pub(crate) fn end(&mut self, out: &mut Vec<u8>) -> Result<Status, Memory>
-        requires { (n : ℕ) × SomeBody B.Stands n self.old }
-        ensures { IfOk result (λ ending. (header : Header) (above : LinesAbove) (kept : B.Kept) →
-            StandsAfter B.Stands header above kept self.old →
-            EndsBody B.command B.Shows header above kept ending out.old.items out.new.items) }
+    pub(crate) fn end(
+        &mut self,
+        engine: &mut B::Engine,
+        out: &mut Vec<u8>,
+    ) -> Result<Status, Memory>
+        requires { (now : Waiting (CommandState B.Kept) B.Outcome) × InSomeBody B.Stands self.old now }
+        ensures { ClosesPhased (waiting (following B.command)) (InSomeBody B.Stands self.old) (shown_given B.Shows)
+            (B.made engine.old) (B.made engine.new) result out.old.items out.new.items }
     {
-        self.body
-            .end(&self.header, self.tally.accepted, self.tally.refused, out)
+        self.body.end(
+            engine,
+            &self.header,
+            self.tally.accepted,
+            self.tally.refused,
+            out,
+        )
     }
 }

@@ -1,17 +1,24 @@
-ghost use Rattle.vms_stream.specs.Answers.{Answers, Says};
-ghost use Rattle.vms_command.specs.Bodies.{shown};
+ghost use Rattle.vms_phased.specs.PhasedAnswers.{AnswersPhased};
+ghost use Rattle.vms_phased.specs.Waiting.{waiting};
+ghost use Rattle.vms_command.specs.Bodies.{shown_given};
 ghost use Rattle.vms_command.specs.Commands.{following};
 
 use crate::Body;
 use crate::trace_jobs::TraceJob;
 use std::alloc::Global;
 use vms_io::{Sink, Source};
-use vms_stream::{Status, stream};
+use vms_phased::stream_phased;
+use vms_stream::Status;
 
-/// The command whose body is `B`, over a trace.
-pub fn follow<B: Body, S: Source, K: Sink>(alloc: Global, src: &mut S, out: &mut K) -> Status
-    ensures { Answers S.remaining S.faults K.written K.faults src.old src.new out.old out.new result
-        (Says (following B.command) (shown B.Shows)) }
+/// The command whose body is `B`, over a trace whose phases the engine makes. The engine comes back.
+pub fn follow<B: Body, S: Source, K: Sink>(
+    alloc: Global,
+    engine: B::Engine,
+    src: &mut S,
+    out: &mut K,
+) -> (Status, B::Engine)
+    ensures { AnswersPhased (waiting (following B.command)) (shown_given B.Shows) (B.made engine) (B.made result.1)
+        S.remaining S.faults K.written K.faults src.old src.new out.old out.new result.0 }
 {
-    stream(alloc, &mut TraceJob::<B>::begin(alloc), src, out)
+    stream_phased(alloc, &mut TraceJob::<B>::begin(alloc), engine, src, out)
 }

@@ -5,7 +5,8 @@ use std::alloc::Global;
 use std::mem::replace;
 use vms_base::Memory;
 use vms_header::{HeaderReader, HeaderStep, ReadError};
-use vms_stream::{Job, Status};
+use vms_phased::PhasedJob;
+use vms_stream::Status;
 
 /// The most lines of a trace.
 const MOST_LINES: u32 = 1_000_000;
@@ -29,18 +30,17 @@ pub(crate) enum Work<B> {
 }
 
 impl<B: Body> TraceJob<B> {
-    ghost use Rattle.std.specs.Prelude.{◌≡◌, ◌≤◌, ◌∷◌, [], IfOk, OnOk};
+    ghost use Rattle.std.specs.Prelude.{◌≡◌, ◌≤◌, IfOk, OnOk};
     ghost use Rattle.vms_command.specs.Commands.{CommandState, following};
-    ghost use Rattle.vms_command.specs.Commands.CommandState.{Heading};
     ghost use Rattle.vms_command.specs.Limits.{most_lines};
     ghost use Rattle.vms_command.specs.JobStates.{IsHead, TakesHeadLine, StandsAt};
     ghost use Rattle.vms_header.specs.Stages.{Stage, head_line};
-    ghost use Rattle.vms_header.specs.Stages.Stage.{Opening};
-    ghost use Rattle.vms_stream.specs.Jobs.{TakesLines};
+    ghost use Rattle.vms_phased.specs.Jobs.{TakesPhased};
+    ghost use Rattle.vms_phased.specs.Waiting.{Waiting, waiting};
 
     /// Before the first line.
     pub(crate) fn begin(alloc: Global) -> TraceJob<B>
-        ensures { StandsAt B.Stands result (Heading 1 Opening) }
+        ensures { StandsAt B.Stands result (waiting (following B.command)).start }
     {
         TraceJob {
             alloc,
@@ -51,17 +51,21 @@ impl<B: Body> TraceJob<B> {
 
     /// Takes a line within the limit.
     #[inline(always)]
-    fn take_within(&mut self, line: &[u8], out: &mut Vec<u8>) -> Result<Option<Status>, Memory>
-        requires stands { (s : CommandState B.Kept) × StandsAt B.Stands self.old s }
+    fn take_within(
+        &mut self,
+        engine: &mut B::Engine,
+        line: &[u8],
+        out: &mut Vec<u8>,
+    ) -> Result<Option<Status>, Memory>
+        requires stands { (now : Waiting (CommandState B.Kept) B.Outcome) × StandsAt B.Stands self.old now }
         requires within { self.old.line ≤ most_lines }
-        ensures { IfOk result (λ halt. (s : CommandState B.Kept) → StandsAt B.Stands self.old s →
-            TakesLines (following B.command) (StandsAt B.Stands self.new) s (line.now ∷ []) halt
-            out.old.items out.new.items) }
+        ensures { TakesPhased (waiting (following B.command)) (StandsAt B.Stands self.old) (StandsAt B.Stands self.new)
+            (B.made engine.old) (B.made engine.new) line.now result out.old.items out.new.items }
     {
         let number = self.line;
         self.line += 1;
         if let Work::Body(body) = &mut self.work {
-            return body.take_line(number, line, out);
+            return body.take_line(engine, number, line, out);
         }
         self.take_header_line(number, line, out)
     }
@@ -86,33 +90,45 @@ impl<B: Body> TraceJob<B> {
     }
 }
 
-impl<B: Body> Job for TraceJob<B> {
-    ghost use Rattle.vms_command.specs.Bodies.{shown};
+impl<B: Body> PhasedJob for TraceJob<B> {
+    ghost use Rattle.vms_command.specs.Bodies.{shown_given};
     ghost use Rattle.vms_command.specs.Commands.{CommandState, following};
     ghost use Rattle.vms_command.specs.JobStates.{StandsAt};
+    ghost use Rattle.vms_phased.specs.Waiting.{Waiting, waiting};
 
-    ghost State = { CommandState B.Kept };
+    type Engine = B::Engine;
 
-    ghost behavior = { following B.command };
+    ghost State = { Waiting (CommandState B.Kept) B.Outcome };
+
+    ghost Outcome = { B.Outcome };
+
+    ghost behavior = { waiting (following B.command) };
+
+    ghost made = { B.made };
 
     ghost Stands = { StandsAt B.Stands };
 
-    ghost Shows = { shown B.Shows };
+    ghost Shows = { shown_given B.Shows };
 
-    fn take_line(&mut self, line: &[u8], out: &mut Vec<u8>) -> Result<Option<Status>, Memory> {
+    fn take_line(
+        &mut self,
+        engine: &mut B::Engine,
+        line: &[u8],
+        out: &mut Vec<u8>,
+    ) -> Result<Option<Status>, Memory> {
         if self.line > MOST_LINES {
             return Ok(Some(Status::TooLong));
         }
-        self.take_within(line, out)
+        self.take_within(engine, line, out)
     }
 
-    fn end(&mut self, out: &mut Vec<u8>) -> Result<Status, Memory> {
+    fn end(&mut self, engine: &mut B::Engine, out: &mut Vec<u8>) -> Result<Status, Memory> {
         match &mut self.work {
             Work::Header(reader) => {
                 write_header_line(out, self.line, reader.missing())?;
                 Ok(Status::Header)
             }
-            Work::Body(body) => body.end(out),
+            Work::Body(body) => body.end(engine, out),
             Work::Stopped => Ok(Status::Done),
         }
     }

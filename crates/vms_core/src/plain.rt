@@ -1,6 +1,6 @@
 use crate::{Longs, State};
 use std::marker::Model;
-use vms_base::CpuId;
+use vms_base::{CpuId, Row};
 
 mod loads;
 mod moves;
@@ -30,6 +30,7 @@ impl Model for Plain {
 
 impl Plain {
     ghost use Rattle.std.specs.Prelude.{◌≡◌};
+    ghost use Rattle.vms_core.specs.Bases.{settled};
     ghost use Rattle.vms_core.specs.Plain.{IsPlainBase};
 
     pub fn make(base: State) -> Plain
@@ -50,9 +51,20 @@ impl Plain {
     {
         &self.state
     }
+
+    /// The state as the next phase begins with it: nothing acknowledged, and nothing set.
+    pub fn settle(self) -> State
+        ensures { result ≡ settled self }
+    {
+        let mut state = self.state;
+        clear(&mut state.acknowledged, None);
+        clear(&mut state.threshold_sets, 0);
+        clear(&mut state.mark_sets, 0);
+        state
+    }
 }
 
-ghost use Rattle.std.specs.Prelude.{◌≡◌, ◌+◌, ◌^◌, ◌<◌, ◌≤◌, length, take, drop};
+ghost use Rattle.std.specs.Prelude.{◌≡◌, ◌+◌, ◌^◌, ◌<◌, ◌≤◌, length, map, take, drop};
 ghost use Rattle.vms_base.specs.Places as places;
 ghost use Rattle.vms_core.specs.Cells.{zeroed};
 
@@ -85,5 +97,14 @@ fn zero_eight(numbers: &mut Longs, start: usize)
 {
     for n in 0..8 {
         numbers.set(start + n, 0);
+    }
+}
+
+/// Makes all items of a row the same.
+fn clear<T: Copy>(row: &mut Row<T>, value: T)
+    ensures { row.new ≡ map (λ _. value) row.old }
+{
+    for at in 0..row.len() {
+        row.set(at, value);
     }
 }

@@ -1,11 +1,12 @@
--- A CPU goes absent in a phase only by a line that buries it.
+-- For other crates too: a CPU goes absent in a phase by a line that buries it, and by no other.
 use Rattle.std.proofs.Common.{◌≡◌, ℕ, zero, suc, ◌<◌, ◌≤◌, nat_eq, Bool, true, false, List, [], ◌∷◌, ◌++◌}
-use Rattle.std.proofs.Common.{length, None, inl, inr, ◌⊎◌, refl, sym, ap, subst, ◌∙◌, arith, eqb-true}
-use Rattle.std.proofs.Common.{append_assoc, if◌then◌else◌, length-append}
+use Rattle.std.proofs.Common.{length, None, inl, inr, ◌⊎◌, refl, sym, ap, subst, ◌∙◌, arith, eq-eqb, eqb-true}
+use Rattle.std.proofs.Common.{append_assoc, if◌then◌else◌}
 use Rattle.std.specs.List.{Contains}
-use Rattle.std.proofs.lemmas.List.{get_or_append_left, get_or_push}
+use Rattle.std.proofs.lemmas.List.Elements.{Contains-append_left, Contains-push}
 use Rattle.vms_base.specs.declared.headers.Header.{Header}
 use Rattle.vms_base.specs.declared.ids.CpuId.{CpuId}
+use Rattle.vms_base.specs.declared.kinds.CpuState.{CpuState}
 use Rattle.vms_base.specs.declared.kinds.CpuState.TheVariants.{Absent}
 use Rattle.vms_base.specs.declared.kinds.ZoneSize.{ZoneSize}
 use Rattle.vms_history.specs.declared.events.Event.{Event}
@@ -24,7 +25,7 @@ use Rattle.vms_core.specs.Peaks.{cpu_after, cpu_in}
 use Rattle.vms_core.specs.Steps.{role}
 use Rattle.vms_core.proofs.KeptLaws.{laws-kept}
 use Rattle.vms_calls.specs.HeaderFacts.{facts_of}
-use Rattle.vms_calls.specs.Ratings.{ByNormal, ByPressure}
+use Rattle.vms_calls.specs.Ratings.{Buries, ByNormal, ByPressure}
 use Rattle.vms_calls.proofs.CallSteps.{Each, OfFolds, OfLooks, OfRatings, each-append, fold-each, node-each}
 use Rattle.vms_calls.proofs.CallSteps.{refresh-each, snapshot-each, test-each, turn-each}
 use Rattle.vms_text.specs.declared.acts.Act.{Act}
@@ -34,14 +35,15 @@ use Rattle.vms_text.specs.declared.acts.Lane.{Lane}
 use Rattle.vms_text.specs.declared.acts.Lane.TheVariants.{Control}
 use Rattle.vms_world.specs.declared.worlds.World.{World}
 use Rattle.vms_world.specs.Acts.{PageSteps, owns}
-use Rattle.vms_world.specs.Lanes.{MakesActs, acts_of, lane_at, lanes_of}
+use Rattle.vms_world.specs.Lanes.{HasLanes, MakesActs, MakesLines, acts_of, is_among, lane_at, lanes_of}
 use Rattle.vms_world.specs.Lanes.MakesActs.{none as no_act, act as one_act}
 use Rattle.vms_world.specs.Phases.{Histories, left_by}
 use Rattle.vms_world.specs.Worlds.{page_facts}
 use Rattle.vms_file_order.specs.Burials.{AbsentAreBuried}
+use Rattle.vms_file_order.specs.LanePasses.{pass_of}
 use Rattle.vms_file_order.specs.MadePhases.{MakePhase}
 use Rattle.vms_file_order.proofs.LaneLists.{owner_of-injective}
-use Rattle.vms_file_order.proofs.MadeActs.{StandsIn}
+use Rattle.vms_file_order.proofs.MadeActs.{MadeAct, MakesActs-lane, StandsIn, each-made, step-made}
 
 -- a step that doesn't make CPU c absent
 abbrev Stays : ℕ → Step → Type 0
@@ -125,14 +127,6 @@ each-at : (Kind : Step → Type 0) (since before : History) (e : Event Step) →
 each-at Kind [] before e all = all.0
 each-at Kind (d ∷ since) before e all = each-at Kind since before e all.1
 
-Contains-front : {X : Type 0} (xs : List X) (y x : X) → Contains xs x → Contains (xs ++ y ∷ []) x
-Contains-front xs y x (k, within, is) =
-    (k, omega (arith, within, length-append xs (y ∷ [])), get_or_append_left xs (y ∷ []) x k within ∙ is)
-
-Contains-last : {X : Type 0} (xs : List X) (x : X) → Contains (xs ++ x ∷ []) x
-Contains-last xs x =
-    (length xs, omega (arith, length-append xs (x ∷ [])), get_or_push xs x x (length xs) refl)
-
 module _ (header : Header) (base : State) (pressure normal : ZoneSize → ℕ → ℕ → Type 0) (c : CpuId) (p : ℕ) where
   acts-stay : (acts : List Act) (h : History) → MakesActs (PageSteps header base pressure normal Control p) p acts h
       → Contains acts (Dead c) ⊎ EachEvent (Stays c.number) (own h p)
@@ -143,27 +137,28 @@ module _ (header : Header) (base : State) (pressure normal : ZoneSize → ℕ �
       by : Contains earlier (Dead c) ⊎ EachEvent (Stays c.number) (own h' p)
           → (next ≡ Dead c) ⊎ Each (Stays c.number) steps
           → Contains (earlier ++ next ∷ []) (Dead c) ⊎ EachEvent (Stays c.number) (own (more ++ h') p)
-      by (inl has) new = inl (Contains-front earlier next (Dead c) has)
+      by (inl has) new = inl (Contains-append_left earlier (next ∷ []) (Dead c) has)
       by (inr was) (inl buries) = inl (subst (λ (a : Act). Contains (earlier ++ a ∷ []) (Dead c)) (sym buries)
-          (Contains-last earlier (Dead c)))
+          (Contains-push earlier (Dead c)))
       by (inr was) (inr all) = inr (subst (EachEvent (Stays c.number)) (sym own_is)
           (each-after (Stays c.number) p steps (own h' p) all was))
 
--- an event that makes a CPU absent stands where the CPU was present in the base
-record GoesAbsent (c : ℕ) (h : History) : Type 0 where
+-- an event in a history makes CPU c absent
+pub record GoesAbsent (c : ℕ) (h : History) : Type 0 where
   pub cpu : CpuId
   pub same : nat_eq cpu.number c ≡ true
   pub caller : ℕ
   pub stands : StandsIn (record { caller = caller; step = SetO cpu }) h
 
-cpu_in-absent : (facts : Facts) (c : ℕ) (h : History) → cpu_in facts c h ≡ Absent
-    → (cpu_at facts.base c ≡ Absent) ⊎ GoesAbsent c h
-cpu_in-absent facts c [] gone = inl gone
-cpu_in-absent facts c (e ∷ h) gone = by e.step refl gone (cpu_in-absent facts c h)
+-- a CPU is in the state that it began with, or an event has made it absent
+pub cpu_in-either : (facts : Facts) (c : ℕ) (h : History) → (cpu_in facts c h ≡ cpu_at facts.base c) ⊎ GoesAbsent c h
+cpu_in-either facts c [] = inl refl
+cpu_in-either facts c (e ∷ h) = by e.step refl (cpu_in-either facts c h)
   where
-    earlier : (cpu_at facts.base c ≡ Absent) ⊎ GoesAbsent c h → (cpu_at facts.base c ≡ Absent) ⊎ GoesAbsent c (e ∷ h)
-    earlier (inl was) = inl was
-    earlier (inr goes) = inr (record {
+    later : (cpu_in facts c h ≡ cpu_at facts.base c) ⊎ GoesAbsent c h
+        → (cpu_in facts c h ≡ cpu_at facts.base c) ⊎ GoesAbsent c (e ∷ h)
+    later (inl stays) = inl stays
+    later (inr goes) = inr (record {
       cpu = goes.cpu;
       same = goes.same;
       caller = goes.caller;
@@ -174,14 +169,13 @@ cpu_in-absent facts c (e ∷ h) gone = by e.step refl gone (cpu_in-absent facts 
       };
     })
 
-    by : (step : Step) → e.step ≡ step → cpu_after c step (cpu_in facts c h) ≡ Absent
-        → (cpu_in facts c h ≡ Absent → (cpu_at facts.base c ≡ Absent) ⊎ GoesAbsent c h)
-        → (cpu_at facts.base c ≡ Absent) ⊎ GoesAbsent c (e ∷ h)
-    by (SetO d) is now rest = at (nat_eq d.number c) refl now
+    by : (step : Step) → e.step ≡ step → (cpu_in facts c h ≡ cpu_at facts.base c) ⊎ GoesAbsent c h
+        → (cpu_after c step (cpu_in facts c h) ≡ cpu_at facts.base c) ⊎ GoesAbsent c (e ∷ h)
+    by (SetO d) is rest = at (nat_eq d.number c) refl
       where
-        at : (b : Bool) → nat_eq d.number c ≡ b → (if b then Absent else cpu_in facts c h) ≡ Absent
-            → (cpu_at facts.base c ≡ Absent) ⊎ GoesAbsent c (e ∷ h)
-        at true same gone_now = inr (record {
+        at : (b : Bool) → nat_eq d.number c ≡ b
+            → ((if b then Absent else cpu_in facts c h) ≡ cpu_at facts.base c) ⊎ GoesAbsent c (e ∷ h)
+        at true same = inr (record {
           cpu = d;
           same = same;
           caller = e.caller;
@@ -192,17 +186,41 @@ cpu_in-absent facts c (e ∷ h) gone = by e.step refl gone (cpu_in-absent facts 
                 event ∷ h) is;
           };
         })
-        at false other gone_now = earlier (rest gone_now)
-    by _ is now rest = earlier (rest now)
+        at false other = later rest
+    by _ is rest = later rest
 
-module _ (pressure normal : ZoneSize → ℕ → ℕ → Type 0) (header : Header) (w : World) (items : List Item)
-    (hs : Histories) (phase : MakePhase header pressure normal w items hs) where
+-- it stays absent
+cpu_after-absent : (c : ℕ) (step : Step) (x : CpuState) → x ≡ Absent → cpu_after c step x ≡ Absent
+cpu_after-absent c (SetO d) x gone = by (nat_eq d.number c)
+  where
+    by : (b : Bool) → (if b then Absent else x) ≡ Absent
+    by true = refl
+    by false = gone
+cpu_after-absent c _ x gone = gone
+
+cpu_in-later : (facts : Facts) (c : ℕ) (more h : History) → cpu_in facts c h ≡ Absent
+    → cpu_in facts c (more ++ h) ≡ Absent
+cpu_in-later facts c [] h gone = gone
+cpu_in-later facts c (e ∷ more) h gone =
+    cpu_after-absent c e.step (cpu_in facts c (more ++ h)) (cpu_in-later facts c more h gone)
+
+pub cpu_in-absent : (facts : Facts) (c : ℕ) (h : History) → GoesAbsent c h → cpu_in facts c h ≡ Absent
+cpu_in-absent facts c h goes =
+    let e : Event Step = record { caller = goes.caller; step = SetO goes.cpu } in
+    ap (cpu_in facts c) goes.stands.parts
+    ∙ cpu_in-later facts c goes.stands.since (e ∷ goes.stands.before)
+    (ap (λ b. if b then Absent else cpu_in facts c goes.stands.before) goes.same)
+
+-- a legal history in which the passes of these lanes make these lines
+module _ (pressure normal : ZoneSize → ℕ → ℕ → Type 0) (header : Header) (w : World) (lanes : List Lane)
+    (items : List Item) (h : History) (legal : IsLegal (page_facts header w) h) (has : HasLanes role lanes h)
+    (lines : MakesLines (PageSteps header w.pages pressure normal) lanes items h) where
   abbrev facts : Facts
   facts = page_facts header w
 
   -- the pass that makes a CPU absent is the control lane's
-  by-control : (c : CpuId) (goes : GoesAbsent c.number hs.pages) → Contains (acts_of Control items) (Dead c)
-  by-control c goes = at goes.caller refl (live_is_given pages facts before q legal_before made.1.1)
+  pub absent-by_line : (c : CpuId) → GoesAbsent c.number h → Contains (acts_of Control items) (Dead c)
+  absent-by_line c goes = at goes.caller refl (live_is_given pages facts before q legal_before made.1.1)
     where
       q : ℕ
       q = goes.caller
@@ -217,7 +235,7 @@ module _ (pressure normal : ZoneSize → ℕ → ℕ → Type 0) (header : Heade
       since = goes.stands.since
 
       whole : IsLegal facts (since ++ (e ∷ before))
-      whole = subst (IsLegal facts) goes.stands.parts phase.complete.pages.legal
+      whole = subst (IsLegal facts) goes.stands.parts legal
 
       made : IsLegal facts (e ∷ before)
       made = prefix_is_legal pages facts since (e ∷ before) whole
@@ -231,46 +249,74 @@ module _ (pressure normal : ZoneSize → ℕ → ℕ → Type 0) (header : Heade
       at : (r : ℕ) → q ≡ r → (0 < q) × (q ≤ begun_in role before) → Contains (acts_of Control items) (Dead c)
       at zero is given = absurd (omega (arith, is, given.0))
       at (suc n) is given = by
-          (acts-stay header w.pages pressure normal c (suc n) (acts_of Control items) hs.pages
+          (acts-stay header w.pages pressure normal c (suc n) (acts_of Control items) h
           (subst (λ (l : Lane). MakesActs (PageSteps header w.pages pressure normal l (suc n)) (suc n) (acts_of l items)
-          hs.pages) control (phase.page_lines n below)))
+          h) control (lines n below)))
         where
-          grows : begun_in role before ≤ begun_in role hs.pages
-          grows = subst (λ h. begun_in role before ≤ begun_in role h) (parts ∙ sym goes.stands.parts)
+          grows : begun_in role before ≤ begun_in role h
+          grows = subst (λ g. begun_in role before ≤ begun_in role g) (parts ∙ sym goes.stands.parts)
               (begun_in-append role (since ++ e ∷ []) before)
 
-          below : n < length (lanes_of header.layout items)
-          below = omega (arith, is, given.1, grows, phase.page_lanes.one_each)
+          below : n < length lanes
+          below = omega (arith, is, given.1, grows, has.one_each)
 
-          owner : owner_in role hs.pages (suc n) ≡ None
-          owner = ap (owner_in role hs.pages) (sym is)
-              ∙ ap (λ h. owner_in role h q) (goes.stands.parts ∙ sym parts)
+          owner : owner_in role h (suc n) ≡ None
+          owner = ap (owner_in role h) (sym is)
+              ∙ ap (λ g. owner_in role g q) (goes.stands.parts ∙ sym parts)
               ∙ owner_in-append pages facts (since ++ e ∷ []) before q (subst (IsLegal facts) (sym parts) whole) given.1
               ∙ made.2.control
 
-          control : lane_at (lanes_of header.layout items) n ≡ Control
-          control = owner_of-injective (lane_at (lanes_of header.layout items) n) Control
-              (sym (phase.page_lanes.owners n below) ∙ owner)
+          control : lane_at lanes n ≡ Control
+          control = owner_of-injective (lane_at lanes n) Control (sym (has.owners n below) ∙ owner)
 
-          own_parts : own hs.pages (suc n) ≡ own since (suc n) ++ (e ∷ own before (suc n))
-          own_parts = ap (λ h. own h (suc n)) goes.stands.parts ∙ own-append since (e ∷ before) (suc n)
+          own_parts : own h (suc n) ≡ own since (suc n) ++ (e ∷ own before (suc n))
+          own_parts = ap (λ g. own g (suc n)) goes.stands.parts ∙ own-append since (e ∷ before) (suc n)
               ∙ ap (λ es. own since (suc n) ++ es) (own-mine e before (suc n) is)
 
-          by : Contains (acts_of Control items) (Dead c) ⊎ EachEvent (Stays c.number) (own hs.pages (suc n))
+          by : Contains (acts_of Control items) (Dead c) ⊎ EachEvent (Stays c.number) (own h (suc n))
               → Contains (acts_of Control items) (Dead c)
-          by (inl has) = has
+          by (inl buries) = buries
           by (inr all) =
               let stays = each-at (Stays c.number) (own since (suc n)) (own before (suc n)) e
               (subst (EachEvent (Stays c.number)) own_parts all) in
               let both : true ≡ false = sym goes.same ∙ stays in
               absurd cc
 
-  pub AbsentAreBuried-made : AbsentAreBuried header w items (left_by header w hs)
-  AbsentAreBuried-made c c_in gone =
-      by (cpu_in-absent facts c.number hs.pages
-      (sym ((laws-kept facts hs.pages phase.complete.pages.legal).told_cpus c.number c_in) ∙ gone))
+  -- a line of the control lane that buries a CPU has made it absent
+  pub line-makes_absent : is_among Control lanes ≡ true → (c : CpuId) → Contains (acts_of Control items) (Dead c)
+      → GoesAbsent c.number h
+  line-makes_absent among c buries = at p act act.making
     where
-      by : (cpu_at w.pages c.number ≡ Absent) ⊎ GoesAbsent c.number hs.pages
+      makes : Lane → ℕ → Act → History → List Step → Type 0
+      makes = PageSteps header w.pages pressure normal
+
+      p : ℕ
+      p = pass_of lanes Control
+
+      act : MadeAct (makes Control p) p (Dead c) h
+      act = each-made (makes Control p) p (acts_of Control items) h
+          (MakesActs-lane makes lanes items h Control lines among) (Dead c) buries
+
+      at : (q : ℕ) (act : MadeAct (PageSteps header w.pages pressure normal Control q) q (Dead c) h)
+          → Buries (facts_of header w.pages) normal c q act.before act.steps → GoesAbsent c.number h
+      at q act making = record {
+        cpu = c;
+        same = eq-eqb c.number c.number refl;
+        caller = q;
+        stands = step-made (PageSteps header w.pages pressure normal Control q) q (Dead c) h act making.fold (SetO c)
+            making.refresh making.in_order;
+      }
+
+module _ (pressure normal : ZoneSize → ℕ → ℕ → Type 0) (header : Header) (w : World) (items : List Item)
+    (hs : Histories) (phase : MakePhase header pressure normal w items hs) where
+  pub AbsentAreBuried-made : AbsentAreBuried header w items (left_by header w hs)
+  AbsentAreBuried-made c c_in gone = by (cpu_in-either (page_facts header w) c.number hs.pages)
+    where
+      is : cpu_in (page_facts header w) c.number hs.pages ≡ Absent
+      is = sym ((laws-kept (page_facts header w) hs.pages phase.complete.pages.legal).told_cpus c.number c_in) ∙ gone
+
+      by : (cpu_in (page_facts header w) c.number hs.pages ≡ cpu_at w.pages c.number) ⊎ GoesAbsent c.number hs.pages
           → (cpu_at w.pages c.number ≡ Absent) ⊎ Contains (acts_of Control items) (Dead c)
-      by (inl was) = inl was
-      by (inr goes) = inr (by-control c goes)
+      by (inl stays) = inl (sym stays ∙ is)
+      by (inr goes) = inr (absent-by_line pressure normal header w (lanes_of header.layout items) items hs.pages
+          phase.complete.pages.legal phase.page_lanes phase.page_lines c goes)

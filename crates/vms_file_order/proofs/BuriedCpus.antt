@@ -1,4 +1,4 @@
--- A CPU that a line has buried has nothing left in the tables of events and of percpu counters.
+-- For other crates too: a CPU that a line has buried has nothing left in the tables of events and percpu counters.
 use Rattle.std.proofs.Common.{◌≡◌, ◌≢◌, ℕ, zero, suc, ◌+◌, ◌<◌, nat_eq, ◌&&◌, Bool, true, false, pos, List, [], ◌∷◌}
 use Rattle.std.proofs.Common.{◌++◌, length, Option, Some, None, inl, inr, ◌⊎◌, refl, sym, ap, subst, ◌∙◌, arith}
 use Rattle.std.proofs.Common.{append_assoc, if◌then◌else◌}
@@ -86,7 +86,7 @@ folds-take from into least k (suc i) (v ∷ found) is below =
     (folds-take from into (suc least) k i found (omega arith) (omega arith))
 
 -- a lane with an act is among those that have lines
-control-among : (header : Header) (items : List Item) (a : Act) → Contains (acts_of Control items) a
+pub control-among : (header : Header) (items : List Item) (a : Act) → Contains (acts_of Control items) a
     → is_among Control (lanes_of header.layout items) ≡ true
 control-among header items a (k, within, is) = by (has_line Control items) refl
   where

@@ -1,4 +1,4 @@
--- What each CPU spends on events in a phase is the volume of its lines.
+-- For other crates too: what each CPU spends on events in a phase is the volume of its lines.
 use Rattle.std.proofs.Common.{◌≡◌, ℕ, false, nat_eq, pos, ◌+ℤ◌, List, [], ◌∷◌, map}
 use Rattle.std.proofs.Common.{Option, Some, None, refl, sym, ap, ◌∙◌, arith, if◌then◌else◌}
 use Rattle.std.proofs.lemmas.Int.{ints}

@@ -14,3 +14,14 @@ pub mod BuriedCpus
 pub mod BuryingLines
 pub mod OpenPhases
 pub mod AbsentCpus
+pub mod SpentLines
+pub mod CpuStates
+pub mod WorldStarts
+pub mod BoundaryStarts
+pub mod FittingFronts
+pub mod FittingLines
+pub mod FittingOpenings
+pub mod JudgedLines
+pub mod SegmentStarts
+pub mod MoreAnswers
+pub mod MorePhases

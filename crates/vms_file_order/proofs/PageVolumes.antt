@@ -1,4 +1,4 @@
--- What each CPU spends on page counters in a phase is the volume of its lines.
+-- For other crates too: what each CPU spends on page counters in a phase is the volume of its lines.
 use Rattle.std.proofs.Common.{◌≡◌, ℕ, false, List, [], nat_eq, Bool, ℤ, pos, negsuc, ◌+ℤ◌, map}
 use Rattle.std.proofs.Common.{unsigned_abs, Option, Some, None, refl, sym, ap, ◌∙◌, arith, if◌then◌else◌}
 use Rattle.std.proofs.lemmas.Int.{ints}

@@ -1,4 +1,4 @@
--- What each CPU spends on percpu counters in a phase is at most the volume of its lines.
+-- For other crates too: what each CPU spends on percpu counters in a phase is at most the volume of its lines.
 use Rattle.std.proofs.Common.{◌≡◌, ℕ, ◌≤◌, nat_eq, Bool, true, false, ℤ, pos, ◌+ℤ◌, ◌≤ℤ◌, List, [], map}
 use Rattle.std.proofs.Common.{unsigned_abs, Option, Some, None, refl, sym, ap, subst, ◌∙◌, arith, if◌then◌else◌}
 use Rattle.std.proofs.lemmas.Int.{ints}

@@ -22,12 +22,12 @@ use Rattle.vms_world.proofs.ListedReads.{get_or-listed_by_cpu}
 use Rattle.vms_file_order.specs.PhaseVolumes.{CoversVolumes, SpendTheirLines}
 
 -- what a start is after lines: their volumes more
-record GrowsBy (start next : Start) (lines : List Line) : Type 0 where
+pub record GrowsBy (start next : Start) (lines : List Line) : Type 0 where
   pub counters : (c k : ℕ) → next.counters c k ≡ volume (spent_on_counter k) c lines + start.counters c k
   pub events : (c k : ℕ) → next.events c k ≡ volume (spent_on_event k) c lines + start.events c k
   pub pcpu : (c j : ℕ) → next.pcpu c j ≡ volume (spent_on_pcpu j) c lines + start.pcpu c j
 
-GrowsBy-lines : (start : Start) (lines : List Line) → GrowsBy start (start_at_end start lines) lines
+pub GrowsBy-lines : (start : Start) (lines : List Line) → GrowsBy start (start_at_end start lines) lines
 GrowsBy-lines start [] = record {
   counters = λ c k. omega arith;
   events = λ c k. omega arith;

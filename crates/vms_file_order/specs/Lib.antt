@@ -6,3 +6,5 @@ pub mod MadePhases
 pub mod PhaseVolumes
 pub mod Burials
 pub mod OpenPhases
+pub mod WorldStarts
+pub mod FittingLines

@@ -5,6 +5,7 @@ use Rattle.std.specs.Result.{is_err}
 use Rattle.vms_command.specs.Commands.{Command, MayEnd-status_at_end, status_at_end}
 use Rattle.vms_command.specs.Lines.{LinesAbove}
 use Rattle.vms_command.specs.Printing.{done_line}
+use Rattle.vms_phased.specs.Waiting.Text.{Plain}
 use Rattle.vms_stream.specs.Behaviors.{Behavior, MayEnd, MayHalt}
 use Rattle.vms_stream.specs.declared.statuses.Status.{Status}
 use Rattle.vms_stream.specs.declared.statuses.Status.TheVariants.{Done, Header, NotBuilt, Refused, TooLong}
@@ -40,14 +41,23 @@ repeating = record {
   may_end = λ lines. MayEnd-ends_as (nat_eq lines 0) (nat_eq lines 2) (nat_eq lines 3);
 }
 
--- a mark for each line, and one at the end for the last line
-abbrev pub marking : Command Bool
+-- the mark of a line, and what is printed at the end, with one for the last line
+abbrev pub mark : Bool → List ℕ
+mark refused = if refused then codes "-" else codes "+"
+
+abbrev pub end_text : Bool → ℕ → ℕ → List ℕ
+end_text last_refused accepted refused = (if last_refused then codes "?" else codes "!") ++ done_line accepted refused
+
+-- a mark for each line, and one at the end
+abbrev pub marking : Command Bool ⊥
 marking = record {
   begins = λ header. false;
   opens = λ header. codes "begins\n";
-  next = λ header n above result kept. is_err result;
-  prints = λ header n above result. if is_err result then codes "-" else codes "+";
-  last = λ header above kept. (if kept then codes "?" else codes "!") ++ done_line (length above.lines) above.refused;
+  phase_open = λ header above kept. false;
+  Allows = λ header above kept outcome. ⊥;
+  next = λ header n above result given kept. is_err result;
+  text = λ header n above result kept. Plain (mark (is_err result));
+  last = λ header above kept. Plain (end_text kept (length above.lines) above.refused);
   ends = λ above. status_at_end above.refused;
   may_end = λ above. MayEnd-status_at_end above.refused;
 }

@@ -1,10 +1,11 @@
-ghost use Rattle.std.specs.Prelude.{◌≡◌, Bool};
-ghost use Rattle.vms_layer_trials.specs.Behaviors.{marking};
+ghost use Rattle.std.specs.Prelude.{◌≡◌, ◌++◌, Bool, None, OnOk};
+ghost use Rattle.vms_command.specs.Bodies.{quietly};
+ghost use Rattle.vms_layer_trials.specs.Behaviors.{end_text, mark, marking};
 
 use std::alloc::Global;
 use std::test::Fail;
 use vms_base::{Header, Memory};
-use vms_command::{Body, follow, write_done_line};
+use vms_command::{Body, follow, status_at_end, write_done_line};
 use vms_io::{MemSink, MemSource};
 use vms_script::JudgedLine;
 use vms_stream::Status;
@@ -16,13 +17,19 @@ struct Marks {
 }
 
 impl Body for Marks {
+    type Engine = ();
+
     ghost Kept = { Bool };
+
+    ghost Outcome = { ⊥ };
 
     ghost command = { marking };
 
-    ghost Stands = { λ body header above kept. body.refused ≡ kept };
+    ghost made = { λ engine. None };
 
-    ghost Shows = { λ header above kept. Unit {0} };
+    ghost Stands = { λ body. quietly (λ header above kept. body.refused ≡ kept) };
+
+    ghost Shows = { λ header above kept given. Unit {0} };
 
     fn begin(_alloc: Global, _header: &Header, out: &mut Vec<u8>) -> Result<Marks, Memory> {
         out.extend_from_slice(b"begins\n")?;
@@ -31,31 +38,48 @@ impl Body for Marks {
 
     fn take_line(
         &mut self,
+        _engine: &mut (),
         _header: &Header,
         _number: u32,
         judged: &JudgedLine<'_>,
         out: &mut Vec<u8>,
     ) -> Result<(), Memory> {
         self.refused = judged.said.is_err();
-        out.extend_from_slice(if self.refused { b"-" } else { b"+" })?;
-        Ok(())
+        write_mark(out, self.refused)
     }
 
     fn end(
         &mut self,
+        _engine: &mut (),
         _header: &Header,
         accepted: u32,
         refused: u32,
         out: &mut Vec<u8>,
     ) -> Result<Status, Memory> {
-        out.extend_from_slice(if self.refused { b"?" } else { b"!" })?;
-        write_done_line(out, accepted, refused)?;
-        Ok(if refused > 0 {
-            Status::Refused
-        } else {
-            Status::Done
-        })
+        write_end(out, self.refused, accepted, refused)?;
+        Ok(status_at_end(refused))
     }
+}
+
+/// Appends the mark of a line.
+fn write_mark(out: &mut Vec<u8>, refused: bool) -> Result<(), Memory>
+    ensures { OnOk result (out.new.items ≡ out.old.items ++ mark refused) }
+{
+    out.extend_from_slice(if refused { b"-" } else { b"+" })?;
+    Ok(())
+}
+
+/// Appends the mark of the last line, and the line that ends a trace.
+fn write_end(
+    out: &mut Vec<u8>,
+    last_refused: bool,
+    accepted: u32,
+    refused: u32,
+) -> Result<(), Memory>
+    ensures { OnOk result (out.new.items ≡ out.old.items ++ end_text last_refused accepted refused) }
+{
+    out.extend_from_slice(if last_refused { b"?" } else { b"!" })?;
+    write_done_line(out, accepted, refused)
 }
 
 const FRONT: &[u8] = b"vmtrace 1\ncpus 1\nzone 0 Normal 262144 100 120 150\ngo\n";
@@ -69,7 +93,7 @@ fn answers(alloc: Global, row: &Row<'_>) -> Result<bool, Memory> {
     }
     let mut src = MemSource::make(bytes, 64, Vec::new(alloc));
     let mut out = MemSink::make(alloc, 64, Vec::new(alloc), 4096)?;
-    let status = follow::<Marks, MemSource, MemSink>(alloc, &mut src, &mut out);
+    let (status, ()) = follow::<Marks, MemSource, MemSink>(alloc, (), &mut src, &mut out);
     Ok(
         status == row.status
             && out.bytes().len() == row.size

@@ -1,5 +1,5 @@
 //! Trials of the crates between the grammar and the commands: devices, streams, a command with a body of its own,
-//! scripts and their totals, and runs.
+//! scripts and their totals, and the start of a run.
 #![tactic(auto)]
 
 #[cfg(test)]
@@ -8,8 +8,6 @@ mod commands;
 mod devices;
 #[cfg(test)]
 mod headers;
-#[cfg(test)]
-mod runs;
 #[cfg(test)]
 mod scripts;
 #[cfg(test)]

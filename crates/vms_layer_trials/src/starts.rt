@@ -1,26 +1,23 @@
-ghost use Rattle.std.specs.Prelude.{◌≡◌, IfOk};
 ghost use Rattle.vms_base.specs.Headers.{IsHeader};
-ghost use Rattle.vms_core.specs.Bases.{IsOpening, settled};
 ghost use Rattle.vms_calc.specs.Rules.{IsThresholdRule};
 
 use crate::headers::{TWO_ZONES, header};
 use std::alloc::Global;
 use std::test::Fail;
-use vms_base::{CounterId, CpuState, Header, Memory, ZoneSize};
+use vms_base::{CpuState, Header, Memory, ZoneSize};
 use vms_calc::{Rule, Rules, normal_threshold, pressure_threshold};
 use vms_core::State;
-use vms_phase::{PhaseReplay, start};
+use vms_hotplug::start;
+use vms_world::World;
 
 /// The bases of the places of `TWO_ZONES`.
 const BASES: [i64; 24] = [
     100, 0, 0, 0, 0, 0, 0, 0, 200, 0, 0, 0, 0, 0, 0, 5, 7, 0, 0, 0, 0, 0, 0, 0,
 ];
 
-/// The state that a run begins with by the kernel's rules.
-fn started(alloc: Global, header: &Header) -> Result<State, Memory>
+/// The world that a run begins with by the kernel's rules.
+fn started(alloc: Global, header: &Header) -> Result<World, Memory>
     requires { IsHeader header.now }
-    ensures opening { IfOk result (λ s. IsOpening header.now.layout s) }
-    ensures settled { IfOk result (λ s. settled s ≡ s) }
 {
     by_rules(
         alloc,
@@ -35,12 +32,10 @@ fn by_rules<N: Rule, P: Rule>(
     header: &Header,
     normal: N,
     pressure: P,
-) -> Result<State, Memory>
+) -> Result<World, Memory>
     requires header { IsHeader header.now }
     requires normal { IsThresholdRule (N.accepts normal) (N.answers normal) }
     requires pressure { IsThresholdRule (P.accepts pressure) (P.answers pressure) }
-    ensures opening { IfOk result (λ s. IsOpening header.now.layout s) }
-    ensures settled { IfOk result (λ s. settled s ≡ s) }
 {
     start(alloc, header, &Rules::make(normal, pressure))
 }
@@ -65,23 +60,21 @@ fn has_marks_of_a_start(state: &State) -> bool {
         && state.mark_sets.as_slice() == [0; 2].as_slice()
 }
 
-#[test]
-fn a_run_begins_on_four_cpus(rt: HostRuntime) -> Result<(), Fail> {
-    let header = header(&rt, TWO_ZONES)?;
-    let state = started(rt.alloc(), &header)?;
-    assert!(rt; has_numbers_of_a_start(&state));
-    assert!(rt; has_marks_of_a_start(&state));
-    Ok(())
+/// Whether no event, no percpu counter and no volume counts anything.
+fn counts_nothing(world: &World) -> bool {
+    world.events.words.as_slice() == [0; 32].as_slice()
+        && world.counters.count.as_slice().is_empty()
+        && world.volumes.pages.as_slice() == [0; 96].as_slice()
+        && world.volumes.events.as_slice() == [0; 32].as_slice()
+        && world.volumes.counters.as_slice().is_empty()
 }
 
 #[test]
-fn a_phase_begins_with_its_totals(rt: HostRuntime) -> Result<(), Fail> {
+fn a_run_begins_on_four_cpus(rt: HostRuntime) -> Result<(), Fail> {
     let header = header(&rt, TWO_ZONES)?;
-    let state = started(rt.alloc(), &header)?;
-    assert_eq!(rt; header.layout.counters(), 24);
-    let replay = PhaseReplay::begin(header.layout.copied(), state);
-    assert_eq!(rt; replay.total(CounterId { number: 8 }), 200);
-    replay.end_phase();
-    assert_eq!(rt; replay.state().place.as_slice().get(8), Some(&200));
+    let world = started(rt.alloc(), &header)?;
+    assert!(rt; has_numbers_of_a_start(&world.pages));
+    assert!(rt; has_marks_of_a_start(&world.pages));
+    assert!(rt; counts_nothing(&world));
     Ok(())
 }

@@ -21,7 +21,7 @@ open-none_after None left later none led = led
 open-none_after (Some halt) left later none led = absurd cc
 
 module _ {S O : Type 0} (phased : PhasedBehavior S O) where
-  none_after-used : (halt : Option Status) (later : Type 0) → later → none_after {O = O} halt [] later
+  pub none_after-used : (halt : Option Status) (later : Type 0) → later → none_after {O = O} halt [] later
   none_after-used None later led = led
   none_after-used (Some halt) later led = refl
 

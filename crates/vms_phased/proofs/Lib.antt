@@ -6,3 +6,4 @@ pub mod LongerWays
 pub mod TakenTexts
 pub mod PhasedSteps
 pub mod PhasedEnds
+pub mod GivenOutcomes

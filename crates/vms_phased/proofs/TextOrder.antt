@@ -1,4 +1,4 @@
--- What is printed where texts wait, against the order of the lines.
+-- For other crates too: what is printed where texts wait, against the order of the lines.
 use Rattle.std.proofs.Common.{◌≡◌, ℕ, Bool, true, false, List, [], ◌∷◌, ◌++◌, Option, Some, None, inl, inr, refl, sym}
 use Rattle.std.proofs.Common.{ap, subst, ◌∙◌, append_assoc, append-nil, flat_map, ◌⊎◌}
 use Rattle.std.proofs.lemmas.Grind.{flat_map-append}

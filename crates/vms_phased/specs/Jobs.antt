@@ -1,6 +1,6 @@
 -- What a job does at a line and at the end of its input, by its behavior and by the outcomes of the phases that it
 -- made.
-use Rattle.std.specs.Prelude.{◌≡◌, ℕ, List, [], ◌∷◌, ◌++◌, Option, Some, None, Result, IfOk}
+use Rattle.std.specs.Prelude.{◌≡◌, ℕ, Bool, true, List, [], ◌∷◌, ◌++◌, Option, Some, None, Result, IfOk}
 use Rattle.vms_stream.specs.declared.statuses.Status.{Status}
 use Rattle.vms_stream.specs.Jobs.{Closes, TakesLines}
 use Rattle.vms_phased.specs.PhasedBehaviors.{PhasedBehavior, Supply, Way, supply, with_outcomes}
@@ -47,3 +47,13 @@ pub record ClosesPhased {S O E : Type 0} (phased : PhasedBehavior S O) (stands :
   pub leads : (s : S) → stands s → UsedAtEnd phased s outcomes
   pub goes : IfOk result (λ ending. (s : S) → stands s →
       Closes (with_outcomes phased outcomes) (shown_on phased shows) (On s outcomes) ending out out')
+
+-- what a call makes that makes one phase at most
+abbrev pub at_most_one : {O : Type 0} → Option O → List O
+at_most_one None = []
+at_most_one (Some outcome) = outcome ∷ []
+
+-- where a phase ends it may have this outcome, or none where it couldn't be made
+abbrev pub MayGive : {O : Type 0} → Bool → (O → Type 0) → Option O → Type 0
+MayGive ends allows None = Unit {0}
+MayGive ends allows (Some outcome) = (ends ≡ true) × allows outcome

@@ -1,21 +1,22 @@
--- A line on the event counters goes on from an open phase.
-use Rattle.std.proofs.Common.{◌≡◌, ℕ, ◌+◌, ◌≤◌, List, [], ◌∷◌, map, Some, refl, sym, ap, subst, ◌∙◌, arith}
+-- A line on the event counters goes on from an open phase, and tells its answer.
+use Rattle.std.proofs.Common.{◌≡◌, ℕ, ◌+◌, ◌≤◌, true, List, [], ◌∷◌, map, Some, None, refl, sym, ap, subst}
+use Rattle.std.proofs.Common.{◌∙◌, arith}
 use Rattle.std.specs.Prelude.{All}
 use Rattle.std.proofs.lemmas.List.Elements.{All-cons, All-nil}
 use Rattle.vms_base.specs.declared.headers.Header.{Header}
 use Rattle.vms_base.specs.declared.ids.CpuId.{CpuId}
 use Rattle.vms_base.specs.declared.ids.EventId.{EventId}
 use Rattle.vms_base.specs.declared.kinds.ZoneSize.{ZoneSize}
+use Rattle.vms_base.specs.Cpus.{online_from}
 use Rattle.vms_base.specs.Volumes.{most_volume}
 use Rattle.vms_history.specs.Events.{own}
-use Rattle.vms_history.specs.Passes.{owner_in}
 use Rattle.vms_history.proofs.Own.{own-after}
 use Rattle.vms_alone.specs.InRow.{LeadsOn}
 use Rattle.vms_alone.proofs.InRow.{steps-go_on}
-use Rattle.vms_core.proofs.LiveOwners.{owned-online}
 use Rattle.vms_event_core.specs.declared.states.EventState.{EventState}
+use Rattle.vms_event_core.specs.declared.steps.EventFacts.{EventFacts}
 use Rattle.vms_event_core.specs.declared.steps.EventStep.{EventStep}
-use Rattle.vms_event_core.specs.CallLaws.{CarryAsBefore, MakesAllEvents, MakesCount, MayMake, Tells}
+use Rattle.vms_event_core.specs.CallLaws.{CarryAsBefore, MayMake, Tells}
 use Rattle.vms_event_core.specs.Calls.{IsAllEvents, IsCount, online_cpus}
 use Rattle.vms_event_core.specs.Events.{events}
 use Rattle.vms_event_core.specs.Own.{CarriesNothing}
@@ -24,108 +25,107 @@ use Rattle.vms_event_core.specs.Words.{IsEvent}
 use Rattle.vms_plain_events.specs.StateSteps.{IsByState-events, events_by_state}
 use Rattle.vms_script.specs.Totals.{line_of}
 use Rattle.vms_script.specs.Volumes.{spent_on_event, volume}
-use Rattle.vms_text.specs.declared.acts.Act.{Act}
 use Rattle.vms_text.specs.declared.acts.Act.TheVariants.{Ev, EvSum}
 use Rattle.vms_text.specs.declared.acts.Item.{Item}
 use Rattle.vms_text.specs.declared.acts.Lane.{Lane}
-use Rattle.vms_text.specs.declared.acts.Lane.TheVariants.{Cpu, Control}
+use Rattle.vms_text.specs.declared.acts.Lane.TheVariants.{Cpu}
 use Rattle.vms_world.specs.declared.worlds.World.{World}
 use Rattle.vms_world.specs.Acts.{EventSteps, PageSteps, PcpuSteps}
-use Rattle.vms_world.specs.Lanes.{owner_of}
+use Rattle.vms_world.specs.Lanes.{is_among, owner_of}
 use Rattle.vms_world.specs.Phases.{Histories}
 use Rattle.vms_world.specs.Worlds.{event_facts, page_facts, pcpu_facts}
 use Rattle.vms_file_order.specs.FileOrder.{GoesOnWithLine, HasPass}
 use Rattle.vms_file_order.specs.LanePasses.{pass_of}
-use Rattle.vms_file_order.specs.OpenPhases.{GoesOnInTables, TableStates}
-use Rattle.vms_file_order.specs.PhaseVolumes.{SpendTheirLines}
-use Rattle.vms_file_order.specs.Tables.{MeetsNobody, event_makes, event_passes, page_passes}
+use Rattle.vms_file_order.specs.Tables.{MeetsNobody, event_makes, event_passes}
 use Rattle.vms_file_order.proofs.Openings.{HasPass-opening}
-use Rattle.vms_plain_lines.specs.NextLines.{StandsNext}
-use Rattle.vms_plain_lines.proofs.TableParts.{GoesOnInTables-events}
+use Rattle.vms_answers.specs.Answers.Answer.{Events}
+use Rattle.vms_answers.proofs.ActAnswers.{Tell-count, Tell-events}
+use Rattle.vms_plain_lines.specs.CallLaws.{EventLaws}
+use Rattle.vms_plain_lines.specs.PlainStates.{GoesOn, GoesOnAlways, PlainStates, Stands, in_tables}
+use Rattle.vms_plain_lines.proofs.OnlineCpus.{online_from-history}
+use Rattle.vms_plain_lines.proofs.PlainParts.{GoesOnTelling-events}
+use Rattle.vms_plain_lines.proofs.SpentVolumes.{spent-events}
+use Rattle.vms_plain_lines.proofs.EitherLane.{of-lane}
 
 -- no step on the event counters meets anybody
-all-meet_nobody : (steps : List EventStep) → All MeetsNobody steps
+pub all-meet_nobody : (steps : List EventStep) → All MeetsNobody steps
 all-meet_nobody [] = All-nil MeetsNobody
 all-meet_nobody (step ∷ steps) = All-cons MeetsNobody step steps tt (all-meet_nobody steps)
 
 module _ (pressure normal : ZoneSize → ℕ → ℕ → Type 0) (header : Header) (w : World) (lanes : List Lane)
-    (items : List Item) (hs : Histories) (now : TableStates) (item : Item)
-    (stands : StandsNext header pressure normal w lanes items hs now item) where
+    (items : List Item) (hs : Histories) (now : PlainStates)
+    (stands : Stands header pressure normal w lanes items hs now) (item : Item)
+    (among : is_among item.lane lanes ≡ true) where
+  abbrev facts : EventFacts
+  facts = event_facts header w
+
   abbrev p : ℕ
   p = pass_of lanes item.lane
 
-  pass : HasPass role lanes hs.events item.lane
-  pass = HasPass-opening event_passes lanes hs.events item.lane stands.opened.events.main stands.among
+  pub pass : HasPass role lanes hs.events item.lane
+  pass = HasPass-opening event_passes lanes hs.events item.lane stands.opened.events.main among
 
   -- steps that the pass may make, and that leave their caller, go on
-  event-part : (steps : List EventStep) (next : EventState) → EventSteps (event_facts header w) item.lane item.act steps
-      → MayMake (event_facts header w) p hs.events steps → CarryAsBefore steps
+  abbrev pub event-part : (steps : List EventStep) (next : EventState) → EventSteps facts item.lane item.act steps
+      → MayMake facts p hs.events steps → CarryAsBefore steps
       → LeadsOn events_by_state (owner_of item.lane) steps now.events next
-      → GoesOnWithLine events (event_makes (event_facts header w)) MeetsNobody (event_facts header w) lanes item
-      hs.events next
+      → GoesOnWithLine events (event_makes facts) MeetsNobody facts lanes item hs.events next
   event-part steps next makes may carries leads = record {
     steps = steps;
     making = makes;
     alone = all-meet_nobody steps;
-    goes_on = steps-go_on events Tells events_by_state IsByState-events (event_facts header w) p (owner_of item.lane)
-        hs.events steps next stands.opened.events.legal pass.lives pass.owner may
+    goes_on = steps-go_on events Tells events_by_state IsByState-events facts p (owner_of item.lane) hs.events steps
+        next stands.opened.events.legal pass.lives pass.owner may
         (subst (λ (s : EventState). LeadsOn events_by_state (owner_of item.lane) steps s next)
         (sym stands.opened.events.state) leads);
     may_end = subst CarriesNothing (sym (own-after p steps hs.events))
         (λ k known. carries p k (own hs.events p) ∙ stands.opened.events.may_end p pass.other_than_main k known);
   }
 
-  -- which steps a count and a sum make in each table
-  count-makes : (lane : Lane) (a : Act) (cpu : CpuId) (k : EventId) (n : ℕ) → lane ≡ Cpu cpu → a ≡ Ev k n → (q : ℕ)
-      (steps : List EventStep) → IsCount k n steps
-      → EventSteps (event_facts header w) lane a steps
-      × PageSteps header w.pages pressure normal lane q a hs.pages [] × PcpuSteps (pcpu_facts header w) lane a []
-  count-makes lane a cpu k n of_cpu is q steps count =
-      subst (λ (l : Lane). EventSteps (event_facts header w) l a steps
-      × PageSteps header w.pages pressure normal l q a hs.pages [] × PcpuSteps (pcpu_facts header w) l a [])
-      (sym of_cpu)
-      (subst (λ (b : Act). EventSteps (event_facts header w) (Cpu cpu) b steps
-      × PageSteps header w.pages pressure normal (Cpu cpu) q b hs.pages []
-      × PcpuSteps (pcpu_facts header w) (Cpu cpu) b []) (sym is) (count, refl, refl))
+module _ (laws : EventLaws) (pressure normal : ZoneSize → ℕ → ℕ → Type 0) (header : Header) (n : ℕ) (k : EventId)
+    (now : PlainStates) (known : IsEvent k.number) where
+  -- a count by a line of a CPU's lane
+  pub GoesOn-count : (c : CpuId) (times : ℕ) (next : EventState)
+      → (steps : List EventStep) × IsCount k times steps × LeadsOn events_by_state (Some c) steps now.events next
+      → GoesOn header pressure normal (record { number = n; lane = Cpu c; act = Ev k times })
+      (λ items. volume (spent_on_event k.number) c.number (map line_of items) + times ≤ most_volume) now
+      (record now { events = next }) None
+  GoesOn-count c times next made w lanes items hs stands among room =
+      let item : Item = record { number = n; lane = Cpu c; act = Ev k times } in
+      let facts : EventFacts = event_facts header w in
+      let owner = (pass pressure normal header w lanes items hs now stands item among).owner in
+      let may = laws.may_count facts hs.events (pass_of lanes (Cpu c)) c k times made.0 owner known (omega (
+        arith,
+        room,
+        spent-events pressure normal header w lanes items hs (in_tables now) stands.once stands.opened c k.number,
+      )) made.1 in
+      GoesOnTelling-events pressure normal header w lanes items hs now item stands among next None refl refl
+      (event-part pressure normal header w lanes items hs now stands item among made.0 next made.1 may
+      (laws.count_carries k times made.0 made.1) made.2)
+      (Tell-count header w laws.count_told c k times made.0 made.1)
 
-  sum-makes : (lane : Lane) (a : Act) (k : EventId) → a ≡ EvSum k → (q : ℕ) (found : List ℕ) (steps : List EventStep)
-      (answer : ℕ) → IsAllEvents (online_cpus (event_facts header w)) k found steps answer
-      → EventSteps (event_facts header w) lane a steps
-      × PageSteps header w.pages pressure normal lane q a hs.pages [] × PcpuSteps (pcpu_facts header w) lane a []
-  sum-makes (Cpu c) a k is q found steps answer sums =
-      subst (λ (b : Act). EventSteps (event_facts header w) (Cpu c) b steps
-      × PageSteps header w.pages pressure normal (Cpu c) q b hs.pages [] × PcpuSteps (pcpu_facts header w) (Cpu c) b [])
-      (sym is) ((found, answer, sums), refl, refl)
-  sum-makes Control a k is q found steps answer sums =
-      subst (λ (b : Act). EventSteps (event_facts header w) Control b steps
-      × PageSteps header w.pages pressure normal Control q b hs.pages [] × PcpuSteps (pcpu_facts header w) Control b [])
-      (sym is) ((found, answer, sums), refl, refl)
-
-  pub GoesOnInTables-count : MakesCount → SpendTheirLines header items hs → (cpu : CpuId) (k : EventId) (n : ℕ)
-      → item.lane ≡ Cpu cpu → item.act ≡ Ev k n → IsEvent k.number
-      → volume (spent_on_event k.number) cpu.number (map line_of items) + n ≤ most_volume
-      → (steps : List EventStep) (next : EventState) → IsCount k n steps → CarryAsBefore steps
-      → LeadsOn events_by_state (Some cpu) steps now.events next
-      → GoesOnInTables header pressure normal w lanes item hs (record now { events = next })
-  GoesOnInTables-count may spend cpu k n lane act known affordable steps next count carries leads =
-      let owner : owner_in role hs.events p ≡ Some cpu = pass.owner ∙ ap owner_of lane in
-      let page_pass = HasPass-opening page_passes lanes hs.pages item.lane stands.opened.pages.main stands.among in
-      let owned = owned-online (page_facts header w) hs.pages stands.opened.pages.legal p cpu
-      (page_pass.owner ∙ ap owner_of lane) in
-      let made = count-makes item.lane item.act cpu k n lane act p steps count in
-      GoesOnInTables-events pressure normal header w lanes items hs now item stands next made.1 made.2
-      (event-part steps next made.0
-      (may (event_facts header w) hs.events p cpu k n steps owner known
-      (omega (arith, spend.events cpu.number k.number owned.0, affordable)) count) carries
-      (subst (λ (l : Lane). LeadsOn events_by_state (owner_of l) steps now.events next) (sym lane) leads))
-
-  pub GoesOnInTables-sum : MakesAllEvents → (k : EventId) → item.act ≡ EvSum k → IsEvent k.number → (found : List ℕ)
-      (steps : List EventStep) (answer : ℕ) (next : EventState)
-      → IsAllEvents (online_cpus (event_facts header w)) k found steps answer → CarryAsBefore steps
-      → LeadsOn events_by_state (owner_of item.lane) steps now.events next
-      → GoesOnInTables header pressure normal w lanes item hs (record now { events = next })
-  GoesOnInTables-sum may k act known found steps answer next sums carries leads =
-      let made = sum-makes item.lane item.act k act p found steps answer sums in
-      GoesOnInTables-events pressure normal header w lanes items hs now item stands next made.1 made.2
-      (event-part steps next made.0 (may (event_facts header w) hs.events p k found steps answer known sums) carries
-      leads)
+  -- a sum by a line of any lane, over the CPUs that are online
+  pub GoesOn-all_events : (lane : Lane) (answer : ℕ)
+      → (found : List ℕ) × (steps : List EventStep) × IsAllEvents (online_from 0 now.pages.cpu) k found steps answer
+      × LeadsOn events_by_state (owner_of lane) steps now.events now.events
+      → GoesOnAlways header pressure normal (record { number = n; lane = lane; act = EvSum k }) now now
+      (Some (Events answer))
+  GoesOn-all_events lane answer made w lanes items hs stands among room =
+      let item : Item = record { number = n; lane = lane; act = EvSum k } in
+      let facts : EventFacts = event_facts header w in
+      let p = pass_of lanes lane in
+      let same : online_from 0 now.pages.cpu ≡ online_cpus facts =
+      ap (λ s. online_from 0 s.cpu) (sym stands.opened.pages.state)
+      ∙ online_from-history (page_facts header w) hs.pages stands.opened.pages.legal in
+      let call : IsAllEvents (online_cpus facts) k made.0 made.1 answer =
+      subst (λ (cs : List CpuId). IsAllEvents cs k made.0 made.1 answer) same made.2 in
+      let makes = of-lane (λ l. EventSteps facts l (EvSum k) made.1) (λ d. (made.0, answer, call))
+      (made.0, answer, call) lane in
+      GoesOnTelling-events pressure normal header w lanes items hs now item stands among now.events
+      (Some (Events answer))
+      (of-lane (λ l. PageSteps header w.pages pressure normal l p (EvSum k) hs.pages []) (λ d. refl) refl lane)
+      (of-lane (λ l. PcpuSteps (pcpu_facts header w) l (EvSum k) []) (λ d. refl) refl lane)
+      (event-part pressure normal header w lanes items hs now stands item among made.1 now.events makes
+      (laws.may_sum facts hs.events p k made.0 made.1 answer known call)
+      (laws.sum_carries (online_cpus facts) k made.0 made.1 answer call) made.3)
+      (Tell-events header w laws.sum_told lane k made.0 made.1 answer call)

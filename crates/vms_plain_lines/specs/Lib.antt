@@ -1,4 +1,9 @@
 pub mod PageActs
 pub mod NextLines
+pub mod SparedPeaks
 pub mod PlainStates
+pub mod CallLaws
+pub mod SpentAmounts
 pub mod Rooms
+pub mod ControlLines
+pub mod SetLines

@@ -1,37 +1,71 @@
--- The plain tables, and how a line that is made on them goes on in an open phase.
-use Rattle.std.specs.Prelude.{ℕ, List}
+-- The plain tables, where they stand in an open phase, and how a line that is made on them goes on there.
+use Rattle.std.specs.Prelude.{◌≡◌, ℕ, true, List, Option}
 use Rattle.vms_base.specs.declared.headers.Header.{Header}
+use Rattle.vms_base.specs.declared.kinds.CpuState.{CpuState}
 use Rattle.vms_base.specs.declared.kinds.ZoneSize.{ZoneSize}
 use Rattle.vms_core.specs.declared.states.State.{State}
 use Rattle.vms_event_core.specs.declared.states.EventState.{EventState}
-use Rattle.vms_pcpu_core.specs.States.{LockedState}
+use Rattle.vms_pcpu_core.specs.declared.states.PcpuState.{PcpuState}
 use Rattle.vms_text.specs.declared.acts.Item.{Item}
 use Rattle.vms_text.specs.declared.acts.Lane.{Lane}
 use Rattle.vms_world.specs.declared.worlds.World.{World}
+use Rattle.vms_world.specs.Lanes.{is_among}
 use Rattle.vms_world.specs.Phases.{Histories}
-use Rattle.vms_file_order.specs.OpenPhases.{GoesOnInTables, TableStates}
-use Rattle.vms_plain_lines.specs.NextLines.{StandsNext}
+use Rattle.vms_world.specs.Worlds.{page_facts}
+use Rattle.vms_file_order.specs.LanePasses.{StandOnce}
+use Rattle.vms_file_order.specs.OpenPhases.{GoesOnInTables, IsOpenPhase, TableStates, with_line}
+use Rattle.vms_answers.specs.Answers.{Answer, Tell}
+use Rattle.vms_answers.specs.OpenAnswers.{steps_of_line}
+use Rattle.vms_plain_pcpu.specs.FreeLocks.{under_free_locks}
+use Rattle.vms_plain_ratings.specs.KnownPeaks.{KnowsPeaks}
 
--- the page counters and the event counters
+-- the counters of the three tables, the largest thresholds that CPUs may still be using, and the states of the CPUs
+-- with which the phase began
 pub record PlainStates : Type 0 where
   pub pages : State
   pub events : EventState
+  pub counters : PcpuState
+  pub peaks : List ℕ
+  pub opening : List CpuState
 
--- with percpu counters these are a state of each table
-abbrev pub in_tables : PlainStates → LockedState → TableStates
-in_tables states counters = record { pages = states.pages; events = states.events; counters = counters }
+-- a state of each table: the locks of the percpu counters are free
+abbrev pub in_tables : PlainStates → TableStates
+in_tables states = record {
+  pages = states.pages;
+  events = states.events;
+  counters = under_free_locks states.counters;
+}
 
--- wherever this line stands next in an open phase with these states, after lines that leave room for it, it goes on to
--- those, and the percpu counters stay as they are
+-- lines have come to these plain tables in an open phase, of whose lanes each stands once: the peaks are those of the
+-- history, and the phase began with CPUs in these states
+pub record Stands (header : Header) (pressure normal : ZoneSize → ℕ → ℕ → Type 0) (w : World) (lanes : List Lane)
+    (items : List Item) (hs : Histories) (now : PlainStates) : Type 0 where
+  pub opened : IsOpenPhase header pressure normal w lanes items hs (in_tables now)
+  pub once : StandOnce lanes
+  pub peaks : KnowsPeaks (page_facts header w) hs.pages now.peaks
+  pub opening : now.opening ≡ w.pages.cpu
+
+-- a line goes on from these histories to these plain tables, which know the peaks after it, and its steps tell this
+-- answer, or none
+pub record GoesOnTelling (header : Header) (pressure normal : ZoneSize → ℕ → ℕ → Type 0) (w : World)
+    (lanes : List Lane) (item : Item) (hs : Histories) (next : PlainStates) (answer : Option Answer) : Type 0 where
+  pub line : GoesOnInTables header pressure normal w lanes item hs (in_tables next)
+  pub peaks : KnowsPeaks (page_facts header w)
+      (with_line header pressure normal w lanes item hs (in_tables next) line).pages next.peaks
+  pub opening : next.opening ≡ w.pages.cpu
+  pub tells : Tell header w item.lane item.act
+      (steps_of_line header pressure normal w lanes item hs (in_tables next) line) answer
+
+-- wherever this line stands next in an open phase with these plain tables, after lines that leave room for it, it goes
+-- on to those and tells this answer
 abbrev pub GoesOn : Header → (pressure normal : ZoneSize → ℕ → ℕ → Type 0) → Item → (List Item → Type 0) → PlainStates
-    → PlainStates → Type 0
-GoesOn header pressure normal item LeaveRoom now next = (w : World) (lanes : List Lane) (items : List Item)
-    (hs : Histories) (counters : LockedState) →
-    StandsNext header pressure normal w lanes items hs (in_tables now counters) item → LeaveRoom items →
-    GoesOnInTables header pressure normal w lanes item hs (in_tables next counters)
+    → PlainStates → Option Answer → Type 0
+GoesOn header pressure normal item LeaveRoom now next answer = (w : World) (lanes : List Lane) (items : List Item)
+    (hs : Histories) → Stands header pressure normal w lanes items hs now → is_among item.lane lanes ≡ true →
+    LeaveRoom items → GoesOnTelling header pressure normal w lanes item hs next answer
 
--- the same of a line that needs none
+-- the same of a line that needs no room
 abbrev pub GoesOnAlways : Header → (pressure normal : ZoneSize → ℕ → ℕ → Type 0) → Item → PlainStates → PlainStates
-    → Type 0
-GoesOnAlways header pressure normal item now next =
-    GoesOn header pressure normal item (λ items. Unit {0}) now next
+    → Option Answer → Type 0
+GoesOnAlways header pressure normal item now next answer =
+    GoesOn header pressure normal item (λ items. Unit {0}) now next answer

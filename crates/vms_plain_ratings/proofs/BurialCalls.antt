@@ -21,13 +21,14 @@ use Rattle.vms_calls.specs.HeaderFacts.{facts_of}
 use Rattle.vms_calls.specs.MayCall.{MakesFold}
 use Rattle.vms_calls.specs.MayMake as making
 use Rattle.vms_calls.specs.Ratings.{Buries, Refreshes}
+use Rattle.vms_calls.proofs.CallSteps.{fold-each}
 use Rattle.vms_plain_pages.specs.Alone.{MakesAlone}
 use Rattle.vms_plain_pages.specs.Folding.{FoldsCpu}
 use Rattle.vms_plain_pages.specs.StateSteps.{pages_by_state, pages_are_by_state}
 use Rattle.vms_plain_ratings.specs.Control.{MakesCall, MakesUnladenCall}
 use Rattle.vms_plain_ratings.specs.KnownPeaks.{KnowsPeaks}
 use Rattle.vms_plain_ratings.proofs.ControlledHistories.{Controls-after, GoesOnTo-both, absent-goes_on}
-use Rattle.vms_plain_ratings.proofs.UntouchedPeaks.{KnowsPeaks-left, fold-leaves}
+use Rattle.vms_plain_ratings.proofs.UntouchedPeaks.{KnowsPeaks-left, LeavesPeaks, folds-leave}
 
 module _ (header : Header) (c : CpuId) (s folded : State) (folds : FoldsCpu header.layout false c.number s folded) where
   abbrev shape : Shape
@@ -62,7 +63,7 @@ module _ (header : Header) (c : CpuId) (s folded : State) (folds : FoldsCpu head
         (may_fold facts h p false c controls.control.living c_in (λ is. absurd cc) unladen) made.1
         (subst (λ (x : State). LeadsOn pages_by_state None fold x folded) (sym controls.stands) made.2) in
         let one = Controls-after header base h p s peaks controls fold folded peaks first
-        (KnowsPeaks-left facts p fold (fold-leaves shape c fold made.1) h peaks controls.known) in
+        (KnowsPeaks-left facts p fold (fold-each LeavesPeaks folds-leave shape false c fold made.1) h peaks controls.known) in
         let second = absent-goes_on header base begun p folded peaks one c c_in
         (ap (λ (xs : List CpuState). state_at xs c.number) folded-cpus ∙ dead) (folded-zeros c_in) in
         let two = Controls-after header base begun p folded peaks one set buried peaks second

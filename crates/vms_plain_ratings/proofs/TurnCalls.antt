@@ -15,12 +15,13 @@ use Rattle.vms_calls.specs.MayCall.{MakesBalanceTest}
 use Rattle.vms_calls.specs.MayMake as making
 use Rattle.vms_calls.specs.Ratings.{SetsPressure, node_number}
 use Rattle.vms_calls.specs.Turns.{Balance, IsBalanceTest, IsTurn, Settles, zones_up_to}
+use Rattle.vms_calls.proofs.CallSteps.{balance-each}
 use Rattle.vms_plain_pages.specs.Alone.{MakesAlone}
 use Rattle.vms_plain_pages.specs.StateSteps.{pages_by_state, pages_are_by_state}
 use Rattle.vms_plain_ratings.specs.Control.{MakesCall}
 use Rattle.vms_plain_ratings.specs.KnownPeaks.{KnowsPeaks}
 use Rattle.vms_plain_ratings.proofs.ControlledHistories.{Controls-after, GoesOnTo-both}
-use Rattle.vms_plain_ratings.proofs.UntouchedPeaks.{KnowsPeaks-left, balance-leaves}
+use Rattle.vms_plain_ratings.proofs.UntouchedPeaks.{KnowsPeaks-left, LeavesPeaks, looks-leave}
 
 module _ (header : Header) (is_header : IsHeader header) (pressure normal : ZoneSize → ℕ → ℕ → Type 0) (n : PlaceId)
     (order most : ℕ) (answer : Balance) (s mid next : State) (peaks some known : List ℕ) where
@@ -44,7 +45,7 @@ module _ (header : Header) (is_header : IsHeader header) (pressure normal : Zone
       (may header base pressed p n order most is_header after_one.control.living) (answer, test.1)
       (subst (λ (x : State). LeadsOn pages_by_state None test.0 x mid) (sym after_one.stands) test.2) in
       let after_test = Controls-after header base pressed p mid some after_one test.0 mid some goes
-      (KnowsPeaks-left facts p test.0 (balance-leaves header most order
+      (KnowsPeaks-left facts p test.0 (balance-each LeavesPeaks looks-leave header most order
       (zones_up_to header.layout most (node_number header.layout n)) test.0 answer test.1) pressed some one.4) in
       let two = second base (after p test.0 pressed) p after_test in
       let steps = one.0 ++ (test.0 ++ two.0) in

@@ -1,5 +1,11 @@
-pub mod LineChanges
-pub mod Scripts
-pub mod ReplayedLines
-pub mod Totals
-pub mod Waiting
+mod AskedAnswers
+mod EndedPhases
+mod FirstLines
+mod KernelThresholds
+mod LedBodies
+mod LedLines
+mod LineStands
+mod PassedBoundaries
+mod TextWaits
+mod WrittenWaits
+pub mod OrderedPhases

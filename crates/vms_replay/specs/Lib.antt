@@ -1,4 +1,9 @@
-pub mod Reports
+pub mod KernelRules
+pub mod MadePhases
 pub mod Replaying
+pub mod Waits
+pub mod Engines
 pub mod ReplayStates
-pub mod Laws
+pub mod FileOrders
+pub mod LedLines
+pub mod PlainReports

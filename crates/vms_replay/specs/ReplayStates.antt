@@ -1,57 +1,91 @@
 -- What a replay holds after the lines of a body that it took.
-use Rattle.std.specs.Prelude.{◌≡◌, ℕ, true, Option, Some, None, pos, negsuc, Result}
+use Rattle.std.specs.Prelude.{◌≡◌, ℕ, ◌<◌, true, List, [], ◌++◌, length, map, reverse, All, flat_map}
+use Rattle.std.specs.Prelude.{Option, Some, None, is_some, Result, OnOk}
+use Rattle.vms_base.specs.declared.failures.Memory.{Memory}
 use Rattle.vms_base.specs.declared.headers.Header.{Header}
-use Rattle.vms_base.specs.declared.kinds.Mode.TheVariants as modes
-use Rattle.vms_command.specs.Bodies.{IsJudged}
-use Rattle.vms_command.specs.Lines.{LinesAbove, with_judged}
-use Rattle.vms_phase.specs.OpenPhases.{Moment}
-use Rattle.vms_phase.specs.Runs.{IsRun}
-use Rattle.vms_replay.specs.declared.changes.Change.{Change}
+use Rattle.vms_command.specs.Lines.{LinesAbove}
+use Rattle.vms_file_order.specs.WorldStarts.{IsStartOf}
+use Rattle.vms_phased.specs.Jobs.{Grows, MayGive, at_most_one}
+use Rattle.vms_phased.specs.Waiting.{Text, spelled}
+use Rattle.vms_script.specs.FittingScripts.{Fits}
+use Rattle.vms_script.specs.Starts.{first_start, start_after}
+use Rattle.vms_script.specs.Totals.{line_of}
+use Rattle.vms_text.specs.declared.acts.Boundary.{Boundary}
+use Rattle.vms_text.specs.declared.acts.Item.{Item}
+use Rattle.vms_world.specs.declared.worlds.World.{World}
+use Rattle.vms_world.specs.Phases.{Histories}
 use Rattle.vms_replay.specs.declared.bodies.Replay.{Replay}
-use Rattle.vms_replay.specs.Replaying.{Kept, all_replayed, next_kept, phases_so_far}
-use Rattle.vms_script.specs.Totals.{lines_of_phases}
-use Rattle.vms_script.specs.Volumes.{spent_on_counter, volume}
-use Rattle.vms_text.specs.declared.acts.Act.{Act}
-use Rattle.vms_text.specs.declared.acts.Act.TheVariants.{Mod, Inc, Dec}
-use Rattle.vms_text.specs.declared.acts.Lane.{Lane}
-use Rattle.vms_text.specs.declared.acts.Lane.TheVariants.{Cpu}
-use Rattle.vms_text.specs.declared.acts.Line.{Line}
-use Rattle.vms_line.specs.declared.causes.LineCause.{LineCause}
+use Rattle.vms_replay.specs.declared.waits.Wait.{Wait}
+use Rattle.vms_replay.specs.MadePhases.{MadePhase, crossed, world_after}
+use Rattle.vms_replay.specs.Replaying.{Kept, MayBe, all_built, has_some, is_built, report_text}
+use Rattle.vms_replay.specs.Waits.{TellsWaits, asked_numbers, asking_numbers}
 
--- the change that an act of a lane makes, if it is one
-abbrev pub change_of : Lane → Act → Option Change
-change_of (Cpu cpu) (Mod counter pages) =
-    Some (record { cpu = cpu; counter = counter; pages = pages; mode = modes.Mod })
-change_of (Cpu cpu) (Inc counter) = Some (record { cpu = cpu; counter = counter; pages = pos 1; mode = modes.Inc })
-change_of (Cpu cpu) (Dec counter) = Some (record { cpu = cpu; counter = counter; pages = negsuc 0; mode = modes.Dec })
-change_of lane act = None
+-- a world and the lines of the open phase that a replay holds before line n, and those that wait: each boundary line so
+-- far is built. The lines fit the world, and all that count are above the phase or of it
+pub record Runs (header : Header) (n : ℕ) (above : LinesAbove) (kept : Kept) (texts : List (Text MadePhase))
+    (held : Option World) (items : List Item) (waiting : List Wait) : Type 0 where
+  pub in_world : held ≡ Some kept.world
+  pub keeps : items ≡ kept.items
+  pub tells : TellsWaits header waiting texts
+  pub asks : asked_numbers waiting ≡ asking_numbers kept.items
+  pub only_open : kept.items ≡ [] → waiting ≡ []
+  pub begins : IsStartOf header (start_after first_start kept.above) kept.world
+  pub fits : Fits header (start_after first_start kept.above) kept.items
+  pub lines : above.lines ≡ reverse (map line_of kept.items) ++ kept.above
+  pub below : All (λ item. item.number < n) kept.items
+  pub fewer : length kept.items < n
 
--- the counters are those of a run of the phases so far
-pub record Continues (header : Header) (kept : Kept) (run : Moment) : Type 0 where
-  pub shape : run.shape ≡ header.layout
-  pub is_run : IsRun header kept.ended kept.items run.state
+module _ {E : Type 0} where
+  -- what a replay holds
+  abbrev pub Holds : Header → ℕ → LinesAbove → Kept → List (Text MadePhase) → Replay E → Type 0
+  Holds header n above kept texts replay =
+      Runs header n above kept texts replay.world replay.items.items replay.waits.items
 
--- a replay all of whose lines so far are replayed: its counters are those of a run of the phases so far, and it holds
--- what they print. The phases have the volumes of the lines that count
-pub record Runs (header : Header) (above : LinesAbove) (kept : Kept) (replay : Replay) : Type 0 where
-  pub continues : Continues header kept replay.run
-  pub holds : replay.held.items ≡ kept.printed
-  pub volumes : (c k : ℕ) → volume (spent_on_counter k) c (lines_of_phases (phases_so_far kept))
-      ≡ volume (spent_on_counter k) c above.lines
+  -- a replay before line n, after lines that came to this. After a report that isn't built it does nothing more
+  pub record StandsBefore (replay : Replay E) (header : Header) (n : ℕ) (above : LinesAbove) (kept : Kept)
+      (texts : List (Text MadePhase)) : Type 0 where
+    pub knows : replay.built ≡ all_built above.lines
+    pub holds : replay.built ≡ true → Holds header n above kept texts replay
 
--- a replay after lines that came to this. After a line that isn't replayed it does nothing more
-pub record StandsAfter (replay : Replay) (header : Header) (above : LinesAbove) (kept : Kept) : Type 0 where
-  pub knows : replay.built ≡ all_replayed above.lines
-  pub runs : replay.built ≡ true → Runs header above kept replay
+-- what waits is printed where the phase ends
+abbrev pub printed_given : List (Text MadePhase) → Option MadePhase → List ℕ
+printed_given texts None = []
+printed_given texts (Some made) = flat_map (spelled made) texts
 
--- a replay that runs, and what was judged of the next line
-pub record SomeLine (replay : Replay) (header : Header) (result : Result Line LineCause) : Type 0 where
-  pub above : LinesAbove
-  pub kept : Kept
-  pub after : StandsAfter replay header above kept
-  pub judged : IsJudged header above result
+-- a replay after the end of a phase, before the line that ends it: nothing waits, and the world is where the lines so
+-- far lead
+pub record Ended (header : Header) (above : LinesAbove) (kept : Kept) (texts : List (Text MadePhase))
+    (given : Option MadePhase) (held : Option World) (items : List Item) (waiting : List Wait) (out out' : List ℕ)
+    : Type 0 where
+  pub ended : has_some kept.items ≡ is_some given
+  pub prints : out' ≡ out ++ printed_given texts given
+  pub in_world : held ≡ Some (world_after header kept.world given)
+  pub no_items : items ≡ []
+  pub no_waits : waiting ≡ []
+  pub begins : IsStartOf header (start_after first_start above.lines) (world_after header kept.world given)
 
--- a replay that runs took line n, of which this was judged, whatever lines it stood after
-pub record Goes (header : Header) (n : ℕ) (result : Result Line LineCause) (replay replay' : Replay) : Type 0 where
-  pub by : (above : LinesAbove) (kept : Kept) → StandsAfter replay header above kept → IsJudged header above result →
-      StandsAfter replay' header (with_judged result above) (next_kept header n result kept)
+module _ {E : Type 0} where
+  -- a replay ended the phase that is open, if one is, whatever lines it stands after. Whether it fails or not, what was
+  -- made before grows by the phase that is given
+  pub record EndsPhase (Makes : Header → World → List Item → Histories → Type 0) (header : Header)
+      (replay replay' : Replay E) (made made' : Option (List MadePhase)) (result : Result (Unit {0}) Memory)
+      (out out' : List ℕ) : Type 0 where
+    pub given : Option MadePhase
+    pub grows : Grows made made' (at_most_one given)
+    pub may_give : (n : ℕ) (above : LinesAbove) (kept : Kept) (texts : List (Text MadePhase))
+        → Holds header n above kept texts replay
+        → MayGive (has_some kept.items) (MayBe Makes header kept.world kept.items) given
+    pub same_built : OnOk result (replay'.built ≡ replay.built)
+    pub goes : OnOk result ((n : ℕ) (above : LinesAbove) (kept : Kept) (texts : List (Text MadePhase))
+        → Holds header n above kept texts replay
+        → Ended header above kept texts given replay'.world replay'.items.items replay'.waits.items out out')
+
+module _ {E : Type 0} where
+  -- a replay went past boundary line n from this world, where no phase was open, and printed what the line reports
+  pub record CrossesTo (header : Header) (n : ℕ) (b : Boundary) (w : World) (replay replay' : Replay E)
+      (out out' : List ℕ) : Type 0 where
+    pub in_world : replay'.world ≡ Some (crossed header b w)
+    pub same_items : replay'.items.items ≡ replay.items.items
+    pub same_waits : replay'.waits.items ≡ replay.waits.items
+    pub knows : replay'.built ≡ is_built b
+    pub prints : out' ≡ out ++ report_text header n b w

@@ -1,137 +1,176 @@
--- What `replay` prints of a trace: refusals and reports, all at its end, and nothing where some line isn't replayed
--- yet.
-use Rattle.std.specs.Prelude.{ℕ, ◌&&◌, Bool, true, false, if◌then◌else◌, ◌≡◌, List, [], ◌∷◌, ◌++◌, length, codes}
-use Rattle.std.specs.Prelude.{Result, Ok, Err}
+-- What `replay` and `run` print of a trace, by the histories of its phases: refusals, answers and reports in the order
+-- of lines. From a report on that isn't built they print nothing more.
+use Rattle.std.specs.Prelude.{◌≡◌, ℕ, nat_eq, ◌&&◌, Bool, true, false, if◌then◌else◌, List, [], ◌∷◌, ◌++◌}
+use Rattle.std.specs.Prelude.{codes, length, Option, Some, None, Result, Ok, Err}
 use Rattle.vms_base.specs.declared.headers.Header.{Header}
-use Rattle.vms_command.specs.Commands.{Command, CommandState, MayEnd-status_at_end, status_at_end, following}
+use Rattle.vms_answers.specs.AnswerLines.{answer_line}
+use Rattle.vms_answers.specs.PhaseAnswers.{NumberedAnswer}
+use Rattle.vms_command.specs.Commands.{Command, MayEnd-status_at_end, status_at_end}
 use Rattle.vms_command.specs.Lines.{LinesAbove}
-use Rattle.vms_command.specs.Bodies.{shown}
 use Rattle.vms_command.specs.Printing.{done_line, line_prefix, newline, refused_line}
-use Rattle.vms_command.specs.Texts.{text_of}
-use Rattle.vms_phase.specs.Runs.{InFileOrder, as_phase}
-use Rattle.vms_replay.specs.Reports.{totals_report}
-use Rattle.vms_script.specs.Totals.{plain_total}
-use Rattle.vms_stream.specs.Behaviors.{Behavior, MayEnd}
+use Rattle.vms_line.specs.declared.causes.LineCause.{LineCause}
+use Rattle.vms_phased.specs.Waiting.{Text}
+use Rattle.vms_phased.specs.Waiting.Text.{Plain, Asks}
+use Rattle.vms_report.specs.Reports.{totals_report}
+use Rattle.vms_report.specs.Totals.{event_total, page_total, pcpu_total}
+use Rattle.vms_stream.specs.Behaviors.{MayEnd}
 use Rattle.vms_stream.specs.declared.statuses.Status.{Status}
 use Rattle.vms_stream.specs.declared.statuses.Status.TheVariants.{NotBuilt}
 use Rattle.vms_text.specs.declared.acts.Act.{Act}
-use Rattle.vms_text.specs.declared.acts.Act.TheVariants.{Mod, Inc, Dec}
+use Rattle.vms_text.specs.declared.acts.Act.TheVariants.{Lim, Cmp, Sum, Rough, EvSum, Water, Val, Snap, Sys, Kswapd}
 use Rattle.vms_text.specs.declared.acts.Boundary.{Boundary as BoundaryOf}
-use Rattle.vms_text.specs.declared.acts.Boundary.TheVariants.{Sync, Report}
+use Rattle.vms_text.specs.declared.acts.Boundary.TheVariants.{Report}
 use Rattle.vms_text.specs.declared.acts.Item.{Item}
-use Rattle.vms_text.specs.declared.acts.Lane.TheVariants.{Cpu}
 use Rattle.vms_text.specs.declared.acts.Line.{Line}
 use Rattle.vms_text.specs.declared.acts.Line.TheVariants.{Blank, Lane, Boundary}
 use Rattle.vms_text.specs.declared.acts.ReportKind.TheVariants.{Totals}
-use Rattle.vms_line.specs.declared.causes.LineCause.{LineCause}
+use Rattle.vms_world.specs.declared.worlds.World.{World}
+use Rattle.vms_world.specs.FirstWorlds.{started}
+use Rattle.vms_world.specs.Phases.{Histories}
+use Rattle.vms_replay.specs.KernelRules.{normal_zones}
+use Rattle.vms_replay.specs.MadePhases.{MadePhase, answers_in, crossed, world_after}
 
--- whether an act of a CPU is replayed: it changes a page counter
-abbrev pub is_replayed_act : Act → Bool
-is_replayed_act (Mod counter pages) = true
-is_replayed_act (Inc counter) = true
-is_replayed_act (Dec counter) = true
-is_replayed_act _ = false
-
-abbrev pub is_replayed_boundary : BoundaryOf → Bool
-is_replayed_boundary Sync = true
-is_replayed_boundary (Report Totals) = true
-is_replayed_boundary _ = false
-
--- whether a line is of a form that is replayed
-abbrev pub is_replayed : Line → Bool
-is_replayed Blank = true
-is_replayed (Lane (Cpu cpu) act) = is_replayed_act act
-is_replayed (Lane lane act) = false
-is_replayed (Boundary boundary) = is_replayed_boundary boundary
-
-abbrev pub all_replayed : List Line → Bool
-all_replayed [] = true
-all_replayed (line ∷ lines) = is_replayed line && all_replayed lines
-
--- what a replay keeps of the lines of a body: what they print, the phases that ended, the oldest first, and the lines
--- of the phase that is open
+-- what is kept of the lines of a body: the world that the open phase begins with, the lines that count above that, the
+-- newest first, and the lines of the phase, the oldest first
 pub record Kept : Type 0 where
-  pub printed : List ℕ
-  pub ended : List (List Item)
+  pub world : World
+  pub above : List Line
   pub items : List Item
 
-abbrev pub first_kept : Kept
-first_kept = record { printed = []; ended = []; items = [] }
+abbrev pub first_kept : Header → Kept
+first_kept header = record {
+  world = started header (normal_zones header header.layout.cpus);
+  above = [];
+  items = [];
+}
 
--- the phases so far, with the open one, and those of a trace that ends here: a phase without a line is none
-abbrev pub phases_so_far : Kept → List (List Item)
-phases_so_far kept = kept.ended ++ kept.items ∷ []
+-- whether a boundary line is built: of the reports that of the totals is
+abbrev pub is_built : BoundaryOf → Bool
+is_built (Report Totals) = true
+is_built (Report kind) = false
+is_built _ = true
 
-abbrev pub phases_in : Kept → List (List Item)
-phases_in kept = kept.ended ++ as_phase kept.items
+-- whether each boundary line of these is built
+abbrev pub all_built : List Line → Bool
+all_built [] = true
+all_built (Boundary b ∷ lines) = is_built b && all_built lines
+all_built (line ∷ lines) = all_built lines
 
--- with line n, which counts: one of a lane joins the open phase, and a boundary line ends that
-abbrev pub with_line : ℕ → Line → Kept → Kept
-with_line n Blank kept = kept
-with_line n (Lane lane act) kept =
+-- whether a list has an element
+abbrev pub has_some : {X : Type 0} → List X → Bool
+has_some [] = false
+has_some (x ∷ xs) = true
+
+-- whether a phase is open that is to be made
+abbrev pub is_open : LinesAbove → Kept → Bool
+is_open above kept = all_built above.lines && has_some kept.items
+
+-- a phase that was made of the open one, where `Makes` says which histories it may have
+pub record MayBe (Makes : Header → World → List Item → Histories → Type 0) (header : Header) (w : World)
+    (items : List Item) (made : MadePhase) : Type 0 where
+  pub from : made.world ≡ w
+  pub of : made.items ≡ items
+  pub makes : Makes header w items made.histories
+
+-- whether an act answers something
+abbrev pub is_asking : Act → Bool
+is_asking (Lim j limit amount) = true
+is_asking (Cmp j rhs) = true
+is_asking (Sum j) = true
+is_asking (Rough j) = true
+is_asking (EvSum k) = true
+is_asking (Water g mark most) = true
+is_asking (Val k) = true
+is_asking (Snap k) = true
+is_asking (Sys i) = true
+is_asking (Kswapd n order most) = true
+is_asking _ = false
+
+-- the line for the answer of line n, among these answers
+abbrev pub answer_text : Header → ℕ → List NumberedAnswer → List ℕ
+answer_text header n [] = []
+answer_text header n (next ∷ rest) =
+    if nat_eq next.number n then answer_line header n next.answer else answer_text header n rest
+
+-- the text of line n, whose act answers, among the answers of its phase
+abbrev pub asking_text : Header → ℕ → Text MadePhase
+asking_text header n = Asks (λ made. answer_text header n (answers_in header made))
+
+abbrev pub act_text : Header → ℕ → Act → Text MadePhase
+act_text header n act = if is_asking act then asking_text header n else Plain []
+
+-- a text that tells of what stands after the phase that ends, where one is open
+abbrev pub text_after : Bool → (Option MadePhase → List ℕ) → Text MadePhase
+text_after phase_open text = if phase_open then Asks (λ made. text (Some made)) else Plain (text None)
+
+-- `report totals` of a world, by the line of number n
+abbrev pub totals_text : Header → ℕ → World → List ℕ
+totals_text header n w = line_prefix n ++ codes "report totals" ++ newline
+    ++ totals_report header (page_total header w) (event_total header w) (pcpu_total header w)
+
+-- what a boundary line prints of the world that stands there
+abbrev pub report_text : Header → ℕ → BoundaryOf → World → List ℕ
+report_text header n (Report Totals) w = totals_text header n w
+report_text header n _ w = []
+
+abbrev pub boundary_text : Header → ℕ → BoundaryOf → Kept → Text MadePhase
+boundary_text header n b kept =
+    text_after (has_some kept.items) (λ given. report_text header n b (world_after header kept.world given))
+
+-- the text of line n, by what was judged of it
+abbrev pub judged_text : Header → ℕ → Result Line LineCause → Kept → Text MadePhase
+judged_text header n (Ok Blank) kept = Plain []
+judged_text header n (Ok (Lane lane act)) kept = act_text header n act
+judged_text header n (Ok (Boundary b)) kept = boundary_text header n b kept
+judged_text header n (Err cause) kept = Plain (refused_line n cause)
+
+abbrev pub line_text : Header → ℕ → LinesAbove → Result Line LineCause → Kept → Text MadePhase
+line_text header n above result kept =
+    if all_built above.lines then judged_text header n result kept else Plain []
+
+-- kept after line n, which counts, with the phase that ends there
+abbrev pub with_line : Header → ℕ → LinesAbove → Line → Option MadePhase → Kept → Kept
+with_line header n above Blank given kept = kept
+with_line header n above (Lane lane act) given kept =
     record kept { items = kept.items ++ record { number = n; lane = lane; act = act } ∷ [] }
-with_line n (Boundary boundary) kept = record kept { ended = kept.ended ++ as_phase kept.items; items = [] }
+with_line header n above (Boundary b) given kept = record {
+  world = crossed header b (world_after header kept.world given);
+  above = Boundary b ∷ above.lines;
+  items = [];
+}
 
--- with line n, by what was judged of it
-abbrev pub with_result : ℕ → Result Line LineCause → Kept → Kept
-with_result n (Ok line) kept = with_line n line kept
-with_result n (Err cause) kept = kept
+abbrev pub next_kept : Header → ℕ → LinesAbove → Result Line LineCause → Option MadePhase → Kept → Kept
+next_kept header n above (Ok line) given kept = with_line header n above line given kept
+next_kept header n above (Err cause) given kept = kept
 
--- what a boundary line prints
-abbrev pub boundary_text : Header → ℕ → BoundaryOf → Kept → List ℕ
-boundary_text header n (Report Totals) kept =
-    line_prefix n ++ codes "report totals" ++ newline ++ totals_report header (plain_total header (phases_so_far kept))
-boundary_text header n _ kept = []
-
--- what line n prints, by what was judged of it: a refusal, or a report of the base plus the changes above it
-abbrev pub line_text : Header → ℕ → Result Line LineCause → Kept → List ℕ
-line_text header n (Ok (Boundary boundary)) kept = boundary_text header n boundary kept
-line_text header n (Ok line) kept = []
-line_text header n (Err cause) kept = refused_line n cause
-
-abbrev pub next_kept : Header → ℕ → Result Line LineCause → Kept → Kept
-next_kept header n result kept =
-    record (with_result n result kept) { printed = kept.printed ++ line_text header n result kept }
-
--- what is printed at the end of a trace, and how the replay ends there
-abbrev pub last_text : LinesAbove → Kept → List ℕ
-last_text above kept =
-    if all_replayed above.lines then kept.printed ++ done_line (length above.lines) above.refused else []
+-- what is printed at the end of the trace, and how the replay ends there
+abbrev pub last_text : LinesAbove → Text MadePhase
+last_text above = Plain (if all_built above.lines then done_line (length above.lines) above.refused else [])
 
 abbrev pub replay_ending : LinesAbove → Status
-replay_ending above =
-    if all_replayed above.lines then status_at_end above.refused else NotBuilt
+replay_ending above = if all_built above.lines then status_at_end above.refused else NotBuilt
 
 pub MayEnd-replay_ending : (above : LinesAbove) → MayEnd (replay_ending above)
-MayEnd-replay_ending above = by (all_replayed above.lines)
+MayEnd-replay_ending above = by (all_built above.lines)
   where
-    by : (all : Bool) → MayEnd (if all then status_at_end above.refused else NotBuilt)
+    by : (built : Bool) → MayEnd (if built then status_at_end above.refused else NotBuilt)
     by true = MayEnd-status_at_end above.refused
     by false = tt
 
--- a replay, line by line
-abbrev pub replaying : Command Kept
-replaying = record {
-  begins = λ header. first_kept;
+-- a replay, line by line, whose phases may have these histories: `Makes` says which, from a world and its lines
+abbrev pub replaying : (Header → World → List Item → Histories → Type 0) → Command Kept MadePhase
+replaying Makes = record {
+  begins = first_kept;
   opens = λ header. [];
-  next = λ header n above result kept. next_kept header n result kept;
-  prints = λ header n above result. [];
-  last = λ header above kept. last_text above kept;
+  phase_open = λ header above kept. is_open above kept;
+  Allows = λ header above kept made. MayBe Makes header kept.world kept.items made;
+  next = λ header n above result given kept. next_kept header n above result given kept;
+  text = λ header n above result kept. line_text header n above result kept;
+  last = λ header above kept. last_text above;
   ends = replay_ending;
   may_end = MayEnd-replay_ending;
 }
 
-abbrev pub replay : Behavior (CommandState Kept)
-replay = following replaying
-
--- what is written for a text: the one line of a refused header; or a line for each refusal, the reports, and the last
--- line; or nothing, where some line that counts isn't replayed
-abbrev pub replay_output : List ℕ → List ℕ
-replay_output text = text_of replaying text
-
--- what is shown of a trace that was replayed: its phases are histories in file order
-abbrev pub HasFileOrder : Header → LinesAbove → Kept → Type 0
-HasFileOrder header above kept = all_replayed above.lines ≡ true → InFileOrder header (phases_in kept)
-
-abbrev pub replay_shows : CommandState Kept → Type 0
-replay_shows = shown HasFileOrder
+-- it shows nothing at the end but what is printed there
+abbrev pub nothing_shown : Header → LinesAbove → Kept → Option MadePhase → Type 0
+nothing_shown header above kept given = Unit {0}

@@ -1,237 +1,258 @@
-use crate::changes::change_of;
-use crate::reports::push_totals;
+use crate::asking::ask;
+use crate::boundaries::{crossed, is_built, write_report};
+use crate::rules::first_world;
+use crate::waits::{Wait, write_waits};
+use crate::{Engine, KernelRules};
 use std::alloc::Global;
-use vms_base::{CounterId, Header, Memory, ZoneSize};
-use vms_calc::{Rule, Rules, normal_threshold, pressure_threshold};
-use vms_command::{Body, status_at_end, write_done_line, write_prefix, write_refused_line};
-use vms_line::{Act, Boundary, Lane, Line, LineCause, ReportKind};
-use vms_phase::RunReplay;
-use vms_script::JudgedLine;
+use std::marker::PhantomData;
+use std::mem::replace;
+use vms_base::{Header, Memory};
+use vms_command::{Body, status_at_end, write_done_line, write_refused_line};
+use vms_file_order::fitting_phases_are_phases;
+use vms_line::{Act, Boundary, Item, Lane, Line, LineCause};
+use vms_script::{JudgedLine, PhaseScript};
 use vms_stream::Status;
+use vms_world::World;
 
-/// A replay on its way through a body.
+/// A replay on its way through a body, whose phases an engine makes.
 #[derive(Drop)]
-pub(crate) struct Replay {
+pub struct Replay<E> {
     pub(crate) alloc: Global,
-    pub(crate) run: RunReplay,
-    /// What is printed at the end of the trace.
-    pub(crate) held: Vec<u8>,
-    /// Whether each line so far that counts is of a form that is replayed.
+    /// The world that the open phase begins with. There is none while a phase is made.
+    pub(crate) world: Option<World>,
+    /// The lines of the open phase.
+    pub(crate) items: Vec<Item>,
+    /// The lines that print something once the open phase is made, from its first one on that answers.
+    pub(crate) waits: Vec<Wait>,
+    /// Whether each boundary line so far is of a form that is built.
     pub(crate) built: bool,
+    pub(crate) engine: PhantomData<E>,
 }
 
-impl Replay {
-    ghost use Rattle.std.specs.Prelude.{◌≡◌, ◌++◌, ℕ, true, length, slice_index_or, pos, Ok, IfOk, OnOk};
-    ghost use Rattle.vms_base.specs.Headers.{IsHeader};
-    ghost use Rattle.vms_base.specs.Places.{IsCounter, counter_count};
-    ghost use Rattle.vms_command.specs.Lines.{LinesAbove, nothing_above};
-    ghost use Rattle.vms_command.specs.Printing.{line_prefix};
-    ghost use Rattle.vms_calc.specs.Rules.{IsThresholdRule};
-    ghost use Rattle.vms_phase.specs.Worlds.{IsNormalRule};
-    ghost use Rattle.vms_replay.specs.Replaying.{Kept, boundary_text, first_kept, phases_so_far};
-    ghost use Rattle.vms_replay.specs.ReplayStates.{Continues, Goes, Runs, SomeLine, StandsAfter};
+impl<E: Engine> Replay<E> {
+    ghost use Rattle.std.specs.Prelude.{◌≡◌, ◌≢◌, ◌≤◌, ℕ, suc, true, List, [], Option, Some, Ok, Err, IfOk};
+    ghost use Rattle.std.specs.Prelude.{OnOk};
     ghost use Rattle.vms_base.specs.declared.headers.Header.{Header};
-    ghost use Rattle.vms_script.specs.Totals.{plain_total};
+    ghost use Rattle.vms_base.specs.Headers.{IsHeader};
+    ghost use Rattle.vms_command.specs.Bodies.{SomeLine, TakesLine};
+    ghost use Rattle.vms_command.specs.Limits.{most_lines};
+    ghost use Rattle.vms_command.specs.Lines.{LinesAbove, nothing_above};
+    ghost use Rattle.vms_phased.specs.Waiting.{Text};
+    ghost use Rattle.vms_world.specs.declared.worlds.World.{World};
+    ghost use Rattle.vms_world.specs.Boundaries.{MayCross};
+    ghost use Rattle.vms_world.specs.Worlds.{IsWorldOf};
+    ghost use Rattle.vms_replay.specs.MadePhases.{MadePhase};
+    ghost use Rattle.vms_replay.specs.Replaying.{Kept, first_kept, replaying};
+    ghost use Rattle.vms_replay.specs.ReplayStates.{CrossesTo, EndsPhase, Holds, StandsBefore};
 
-    /// Before the first line of a body, with the thresholds of the kernel's rules.
-    fn make(alloc: Global, header: &Header) -> Result<Replay, Memory>
+    /// Before the first line of a body.
+    fn make(alloc: Global, header: &Header) -> Result<Replay<E>, Memory>
         requires { IsHeader header.now }
-        ensures { IfOk result (λ replay. StandsAfter replay header.now nothing_above first_kept) }
+        ensures { IfOk result (λ replay. (n : ℕ) → 1 ≤ n →
+            StandsBefore replay header.now n nothing_above (first_kept header.now) []) }
     {
-        Replay::by_rules(
-            alloc,
-            header,
-            |size: &ZoneSize, online: u32| normal_threshold(size, online),
-            |size: &ZoneSize, online: u32| pressure_threshold(size, online),
-        )
-    }
-
-    fn by_rules<N: Rule, P: Rule>(
-        alloc: Global,
-        header: &Header,
-        normal: N,
-        pressure: P,
-    ) -> Result<Replay, Memory>
-        requires header { IsHeader header.now }
-        requires normal { IsThresholdRule (N.accepts normal) (N.answers normal) }
-        requires pressure { IsThresholdRule (P.accepts pressure) (P.answers pressure) }
-        requires exact { IsNormalRule (N.answers normal) }
-        ensures { IfOk result (λ replay. StandsAfter replay header.now nothing_above first_kept) }
-    {
-        let rules = Rules::make(normal, pressure);
         Ok(Replay {
             alloc,
-            run: RunReplay::begin(alloc, header, &rules)?,
-            held: Vec::new(alloc),
+            world: Some(first_world(alloc, header)?),
+            items: Vec::new(alloc),
+            waits: Vec::new(alloc),
             built: true,
+            engine: PhantomData,
         })
     }
 
-    /// Replays the line of this number, by what was judged of it.
-    fn replay_judged(
+    /// Takes the line of this number, which counts.
+    #[inline(always)]
+    fn take(
         &mut self,
+        engine: &mut E,
         header: &Header,
         number: u32,
-        judged: &Result<Line, LineCause>,
+        line: &Line,
+        out: &mut Vec<u8>,
     ) -> Result<(), Memory>
         requires header { IsHeader header.now }
-        requires line { SomeLine self.old header.now judged.now }
+        requires line { SomeLine (StandsBefore self.old) header.now number (Ok line.now) }
+        requires most { number ≤ most_lines }
         requires built { self.old.built ≡ true }
-        ensures { OnOk result (Goes header.now number judged.now self.old self.new) }
-    {
-        match judged {
-            Ok(line) => self.replay(header, number, line),
-            Err(cause) => write_refused_line(&mut self.held, number, *cause),
-        }
-    }
-
-    /// Replays the line of this number, which counts.
-    fn replay(&mut self, header: &Header, number: u32, line: &Line) -> Result<(), Memory>
-        requires header { IsHeader header.now }
-        requires line { SomeLine self.old header.now (Ok line.now) }
-        requires built { self.old.built ≡ true }
-        ensures { OnOk result (Goes header.now number (Ok line.now) self.old self.new) }
+        ensures { TakesLine (replaying E.Makes) (StandsBefore self.old) (StandsBefore self.new) (E.made engine.old)
+            (E.made engine.new) header.now number (Ok line.now) result out.old.items out.new.items }
     {
         match *line {
+            Line::Lane(lane, act) => self.keep(number, lane, act),
             Line::Blank => Ok(()),
-            Line::Lane(lane, act) => {
-                self.replay_act(lane, act);
-                Ok(())
-            }
-            Line::Boundary(boundary) => self.replay_boundary(header, number, boundary),
+            Line::Boundary(boundary) => self.pass(engine, header, number, boundary, out),
         }
     }
 
-    /// Makes the change of a line of a lane, if it is one.
-    fn replay_act(&mut self, lane: Lane, act: Act)
-        requires line { (header : Header) × IsHeader header × SomeLine self.old header (Ok (Line.Lane lane act)) }
-        requires built { self.old.built ≡ true }
-        ensures { (header : Header) (n : ℕ) → IsHeader header
-            → Goes header n (Ok (Line.Lane lane act)) self.old self.new }
+    /// Keeps a line of a lane for the phase.
+    #[inline(always)]
+    fn keep(&mut self, number: u32, lane: Lane, act: Act) -> Result<(), Memory>
+        requires { self.old.built ≡ true }
+        ensures { (header : Header) (made : Option (List MadePhase)) (out : List ℕ) → IsHeader header →
+            TakesLine (replaying E.Makes) (StandsBefore self.old) (StandsBefore self.new) made made header number
+            (Ok (Line.Lane lane act)) result out out }
     {
-        match change_of(lane, act) {
-            Some(change) => self
-                .run
-                .change(change.cpu, change.counter, change.pages, change.mode),
-            None => self.built = false,
-        }
+        ask(&mut self.waits, number, act)?;
+        self.items.push(Item { number, lane, act })?;
+        Ok(())
     }
 
-    /// Ends the open phase with a boundary line of this number, and prints what it reports.
+    /// Prints that a line doesn't count, at once or after those that wait.
+    fn refuse(&mut self, number: u32, cause: LineCause, out: &mut Vec<u8>) -> Result<(), Memory>
+        requires { self.old.built ≡ true }
+        ensures { (header : Header) (made : Option (List MadePhase)) →
+            TakesLine (replaying E.Makes) (StandsBefore self.old) (StandsBefore self.new) made made header number
+            (Err cause) result out.old.items out.new.items }
+    {
+        if self.waits.is_empty() {
+            return write_refused_line(out, number, cause);
+        }
+        self.waits.push(Wait::Refused(number, cause))?;
+        Ok(())
+    }
+
+    /// Ends the open phase, if one is open, and goes past the boundary line of this number.
     #[inline(never)]
-    fn replay_boundary(
+    fn pass(
+        &mut self,
+        engine: &mut E,
+        header: &Header,
+        number: u32,
+        boundary: Boundary,
+        out: &mut Vec<u8>,
+    ) -> Result<(), Memory>
+        requires header { IsHeader header.now }
+        requires line { SomeLine (StandsBefore self.old) header.now number (Ok (Line.Boundary boundary)) }
+        requires most { number ≤ most_lines }
+        requires built { self.old.built ≡ true }
+        ensures { TakesLine (replaying E.Makes) (StandsBefore self.old) (StandsBefore self.new) (E.made engine.old)
+            (E.made engine.new) header.now number (Ok (Line.Boundary boundary)) result out.old.items out.new.items }
+    {
+        self.end_phase(engine, header, out)?;
+        self.cross(header, number, boundary, out)
+    }
+
+    /// Makes the open phase, if one is open, and prints what waits for it.
+    fn end_phase(
+        &mut self,
+        engine: &mut E,
+        header: &Header,
+        out: &mut Vec<u8>,
+    ) -> Result<(), Memory>
+        requires header { IsHeader header.now }
+        requires holds { (n : ℕ) × (n ≤ suc most_lines) × (above : LinesAbove) × (kept : Kept)
+            × (texts : List (Text MadePhase)) × Holds header.now n above kept texts self.old }
+        ensures { EndsPhase E.Makes header.now self.old self.new (E.made engine.old) (E.made engine.new) result
+            out.old.items out.new.items }
+    {
+        if self.items.is_empty() {
+            return Ok(());
+        }
+        self.make_phase(engine, header, out)
+    }
+
+    /// Makes the open phase, which has a line, and prints what waits for it.
+    fn make_phase(
+        &mut self,
+        engine: &mut E,
+        header: &Header,
+        out: &mut Vec<u8>,
+    ) -> Result<(), Memory>
+        requires header { IsHeader header.now }
+        requires some { self.old.items.items ≢ [] }
+        requires holds { (n : ℕ) × (n ≤ suc most_lines) × (above : LinesAbove) × (kept : Kept)
+            × (texts : List (Text MadePhase)) × Holds header.now n above kept texts self.old }
+        ensures { EndsPhase E.Makes header.now self.old self.new (E.made engine.old) (E.made engine.new) result
+            out.old.items out.new.items }
+    {
+        let Some(world) = self.world.take() else {
+            return Ok(());
+        };
+        let script = PhaseScript::make(replace(&mut self.items, Vec::new(self.alloc)));
+        E::makes_lines();
+        fitting_phases_are_phases::<KernelRules>();
+        let replayed = engine.run_phase(self.alloc, world, header, &script)?;
+        write_waits(
+            out,
+            header,
+            self.waits.as_slice(),
+            replayed.answers.as_slice(),
+        )?;
+        self.waits.clear();
+        self.world = Some(replayed.world);
+        Ok(())
+    }
+
+    /// Reports by a boundary line of this number, and does what it does to the world. No phase is open.
+    fn cross(
         &mut self,
         header: &Header,
         number: u32,
         boundary: Boundary,
+        out: &mut Vec<u8>,
     ) -> Result<(), Memory>
         requires header { IsHeader header.now }
-        requires line { SomeLine self.old header.now (Ok (Line.Boundary boundary)) }
-        requires built { self.old.built ≡ true }
-        ensures { OnOk result (Goes header.now number (Ok (Line.Boundary boundary)) self.old self.new) }
+        requires world { (w : World) × (self.old.world ≡ Some w) × IsWorldOf header.now w
+            × MayCross header.now.layout w.pages boundary }
+        ensures { OnOk result ((w : World) → self.old.world ≡ Some w →
+            CrossesTo header.now number boundary w self.old self.new out.old.items out.new.items) }
     {
-        match boundary {
-            Boundary::Sync => {
-                self.run.end_phase();
-                Ok(())
-            }
-            Boundary::Report(kind) => self.replay_report(header, number, kind),
-            _ => {
-                self.built = false;
-                Ok(())
-            }
-        }
-    }
-
-    /// Ends the open phase with a report line of this number, and prints the report.
-    fn replay_report(
-        &mut self,
-        header: &Header,
-        number: u32,
-        kind: ReportKind,
-    ) -> Result<(), Memory>
-        requires header { IsHeader header.now }
-        requires line { SomeLine self.old header.now (Ok (Line.Boundary (Boundary.Report kind))) }
-        requires built { self.old.built ≡ true }
-        ensures { OnOk result (Goes header.now number (Ok (Line.Boundary (Boundary.Report kind))) self.old self.new) }
-    {
-        match kind {
-            ReportKind::Totals => {
-                self.report_totals(header, number)?;
-                self.run.end_phase();
-                Ok(())
-            }
-            _ => {
-                self.built = false;
-                Ok(())
-            }
-        }
-    }
-
-    /// Holds the report of the totals, by the line of this number.
-    fn report_totals(&mut self, header: &Header, number: u32) -> Result<(), Memory>
-        requires header { IsHeader header.now }
-        requires runs { (above : LinesAbove) × (kept : Kept) × Runs header.now above kept self.old }
-        ensures run { OnOk result (self.new.run ≡ self.old.run) }
-        ensures built { OnOk result (self.new.built ≡ self.old.built) }
-        ensures holds { OnOk result ((above : LinesAbove) (kept : Kept) → Runs header.now above kept self.old →
-            self.new.held.items ≡ self.old.held.items ++ boundary_text header.now number
-            (Boundary.Report ReportKind.Totals) kept) }
-    {
-        let totals = self.totals(header)?;
-        write_prefix(&mut self.held, number)?;
-        self.held.extend_from_slice(b"report totals\n")?;
-        push_totals(&mut self.held, header, totals.as_slice())
-    }
-
-    /// What each counter adds up to, in pages.
-    fn totals(&self, header: &Header) -> Result<Vec<i64>, Memory>
-        requires runs { (kept : Kept) × Continues header.now kept self.now.run }
-        ensures length { IfOk result (λ totals. length totals.items ≡ counter_count header.now.layout) }
-        ensures total { IfOk result (λ totals. (kept : Kept) → Continues header.now kept self.now.run →
-            (k : ℕ) → IsCounter header.now.layout k →
-            slice_index_or totals.items k (pos 0) ≡ plain_total header.now (phases_so_far kept) k) }
-    {
-        let mut totals = Vec::new(self.alloc);
-        for number in 0..header.layout.counters() {
-            totals.push(self.run.total(CounterId { number }))?;
-        }
-        Ok(totals)
+        let Some(world) = self.world.take() else {
+            return Ok(());
+        };
+        write_report(out, header, number, boundary, &world)?;
+        self.world = Some(crossed(world, header, boundary));
+        self.built = is_built(boundary);
+        Ok(())
     }
 }
 
-impl Body for Replay {
-    ghost use Rattle.vms_replay.specs.Replaying.{HasFileOrder, Kept, replaying};
-    ghost use Rattle.vms_replay.specs.ReplayStates.{StandsAfter};
+impl<E: Engine> Body for Replay<E> {
+    ghost use Rattle.vms_replay.specs.MadePhases.{MadePhase};
+    ghost use Rattle.vms_replay.specs.Replaying.{Kept, nothing_shown, replaying};
+    ghost use Rattle.vms_replay.specs.ReplayStates.{StandsBefore};
+
+    type Engine = E;
 
     ghost Kept = { Kept };
 
-    ghost command = { replaying };
+    ghost Outcome = { MadePhase };
 
-    ghost Stands = { StandsAfter };
+    ghost command = { replaying E.Makes };
 
-    ghost Shows = { HasFileOrder };
+    ghost made = { E.made };
 
-    fn begin(alloc: Global, header: &Header, _out: &mut Vec<u8>) -> Result<Replay, Memory> {
+    ghost Stands = { StandsBefore };
+
+    ghost Shows = { nothing_shown };
+
+    fn begin(alloc: Global, header: &Header, _out: &mut Vec<u8>) -> Result<Replay<E>, Memory> {
         Replay::make(alloc, header)
     }
 
+    #[inline(always)]
     fn take_line(
         &mut self,
+        engine: &mut E,
         header: &Header,
         number: u32,
         judged: &JudgedLine<'_>,
-        _out: &mut Vec<u8>,
+        out: &mut Vec<u8>,
     ) -> Result<(), Memory> {
-        if self.built {
-            self.replay_judged(header, number, &judged.said)?;
+        if !self.built {
+            return Ok(());
         }
-        Ok(())
+        match &judged.said {
+            Ok(line) => self.take(engine, header, number, line, out),
+            Err(cause) => self.refuse(number, *cause, out),
+        }
     }
 
     fn end(
         &mut self,
-        _header: &Header,
+        engine: &mut E,
+        header: &Header,
         accepted: u32,
         refused: u32,
         out: &mut Vec<u8>,
@@ -239,8 +260,7 @@ impl Body for Replay {
         if !self.built {
             return Ok(Status::NotBuilt);
         }
-        self.run.end();
-        out.extend_from_slice(self.held.as_slice())?;
+        self.end_phase(engine, header, out)?;
         write_done_line(out, accepted, refused)?;
         Ok(status_at_end(refused))
     }

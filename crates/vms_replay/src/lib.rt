@@ -1,12 +1,22 @@
-//! The command `replay`: it makes the changes of a trace in file order, and prints refusals and what the counters add
-//! up to.
+//! The commands that replay a trace: an engine makes its phases, and refusals, answers and reports are printed in the
+//! order of its lines. `replay` makes each phase in file order.
 #![tactic(auto)]
 
+mod asking;
 mod bodies;
-mod changes;
+mod boundaries;
+mod engines;
+mod file_order;
 mod laws;
-mod reports;
+mod rules;
 mod tool;
+mod waits;
 
-pub use laws::{output_waits_for_the_end, writes_its_text};
-pub use tool::tool_replay;
+pub use bodies::Replay;
+pub use engines::{Engine, KernelRules};
+pub use file_order::FileOrder;
+pub use laws::{
+    boundaries_lead_on, lines_print_in_order, made_phases_keep_all_laws, reports_print_plain_sums,
+};
+pub use tool::{replay_trace, tool_replay};
+pub use waits::Wait;

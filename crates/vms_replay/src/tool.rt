@@ -1,17 +1,35 @@
-ghost use Rattle.vms_stream.specs.Answers.{Answers, Says};
-ghost use Rattle.vms_replay.specs.Replaying.{replay, replay_shows};
+ghost use Rattle.vms_command.specs.Bodies.{shown_given};
+ghost use Rattle.vms_command.specs.Commands.{following};
+ghost use Rattle.vms_phased.specs.PhasedAnswers.{AnswersPhased};
+ghost use Rattle.vms_phased.specs.Waiting.{waiting};
+ghost use Rattle.vms_stream.specs.Answers.{Answers};
+ghost use Rattle.vms_replay.specs.FileOrders.{SaysReplay};
+ghost use Rattle.vms_replay.specs.Replaying.{nothing_shown, replaying};
 
-use crate::bodies::Replay;
+use crate::{Engine, FileOrder, Replay};
 use std::alloc::Global;
 use vms_command::follow;
 use vms_io::{Sink, Source};
 use vms_stream::Status;
 
-/// The command `replay`: makes the changes of a trace in file order, and writes refusals and reports, all at the end of
-/// the trace. Nothing is written of a trace with a line that counts and isn't replayed yet.
-pub fn tool_replay<S: Source, K: Sink>(alloc: Global, src: &mut S, out: &mut K) -> Status
-    ensures { Answers S.remaining S.faults K.written K.faults src.old src.new out.old out.new result
-        (Says replay replay_shows) }
+/// Replays a trace whose phases an engine makes, and writes refusals, answers and reports in the order of its lines.
+/// The engine comes back.
+pub fn replay_trace<E: Engine, S: Source, K: Sink>(
+    alloc: Global,
+    engine: E,
+    src: &mut S,
+    out: &mut K,
+) -> (Status, E)
+    ensures { AnswersPhased (waiting (following (replaying E.Makes))) (shown_given nothing_shown) (E.made engine)
+        (E.made result.1) S.remaining S.faults K.written K.faults src.old src.new out.old out.new result.0 }
 {
-    follow::<Replay, S, K>(alloc, src, out)
+    follow::<Replay<E>, S, K>(alloc, engine, src, out)
+}
+
+/// The command `replay`: makes each phase of a trace in file order, and writes refusals, answers and reports in the order
+/// of its lines.
+pub fn tool_replay<S: Source, K: Sink>(alloc: Global, src: &mut S, out: &mut K) -> Status
+    ensures { Answers S.remaining S.faults K.written K.faults src.old src.new out.old out.new result SaysReplay }
+{
+    replay_trace(alloc, FileOrder, src, out).0
 }

@@ -6,3 +6,4 @@ pub mod PieceLines
 pub mod StepOutcomes
 pub mod Stopping
 pub mod CourseEnds
+pub mod AlikeBehaviors

@@ -2,7 +2,7 @@
 use Rattle.std.specs.Prelude.{◌≡◌, ℕ, List, [], ◌∷◌, ◌++◌, codes, Option, Some, None}
 use Rattle.std.specs.Io.KnownBytes.{Appends}
 use Rattle.vms_check.specs.Checking.{check, nothing_shown}
-use Rattle.vms_replay.specs.Replaying.{replay, replay_shows}
+use Rattle.vms_replay.specs.FileOrders.{SaysReplay}
 use Rattle.vms_stream.specs.declared.statuses.Status.{Status}
 use Rattle.vms_stream.specs.declared.statuses.Status.TheVariants.{Words, WriteFault}
 use Rattle.vms_stream.specs.Answers.{Says}
@@ -28,7 +28,7 @@ pub record ShowsUsage (held held' : Option (List ℕ)) (status : Status) : Type 
 -- what each status says of a command; with words that name none nothing is read, and the usage line is written
 abbrev pub SaysOf : Option Command → Status → List ℕ → List ℕ → Type 0 → Type 0
 SaysOf (Some Check) status taken written at_end = Says check nothing_shown status taken written at_end
-SaysOf (Some Replay) status taken written at_end = Says replay replay_shows status taken written at_end
+SaysOf (Some Replay) status taken written at_end = SaysReplay status taken written at_end
 SaysOf None status taken written at_end = (taken ≡ []) × ShownAs status written
 
 abbrev pub SaysUnder : List (List ℕ) → Status → List ℕ → List ℕ → Type 0 → Type 0

@@ -34,7 +34,7 @@ const REPORT: &[&str] = &[
 /// What stands before the last line of the output.
 const BEFORE_DONE: usize = 70 + BETWEEN.len() + AFTER_ZONE.len();
 
-static ROWS: [Row<'static>; 14] = [
+static ROWS: [Row<'static>; 15] = [
     Row {
         name: "the first read fails",
         words: &["replay"],
@@ -88,11 +88,11 @@ static ROWS: [Row<'static>; 14] = [
         },
         status: Status::ReadFault,
         output: REPORT,
-        least: 0,
-        most: 0,
+        least: BEFORE_DONE,
+        most: BEFORE_DONE,
     },
     Row {
-        name: "a read fails after a line that is refused and one that isn't replayed",
+        name: "a read fails after a line that is refused, in a phase that prints nothing",
         words: &["replay"],
         text: &[HEADER, "c9 fold 0\nk fold 0\n", BODY],
         devices: Devices {
@@ -101,7 +101,21 @@ static ROWS: [Row<'static>; 14] = [
             ..SOUND
         },
         status: Status::ReadFault,
-        output: &[],
+        output: &["line 6: refused: UnknownLane\n"],
+        least: 29,
+        most: 29,
+    },
+    Row {
+        name: "a read fails in a phase whose first line prints",
+        words: &["replay"],
+        text: &[HEADER, "k sys nr_mlock\nc9 fold 0\n", BODY],
+        devices: Devices {
+            read: 64,
+            failing_reads: &[3],
+            ..SOUND
+        },
+        status: Status::ReadFault,
+        output: &["line 6: system 0\n"],
         least: 0,
         most: 0,
     },
@@ -188,9 +202,9 @@ static ROWS: [Row<'static>; 14] = [
         most: 8,
     },
     Row {
-        name: "nothing is written where a line isn't replayed",
+        name: "nothing is written after a report that isn't built",
         words: &["replay"],
-        text: &[HEADER, "k fold 0\n", BODY],
+        text: &[HEADER, "report vmstat\n", BODY],
         devices: Devices {
             failing_writes: &[1],
             room: 0,

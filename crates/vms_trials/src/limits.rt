@@ -65,7 +65,13 @@ static LINES: [(&str, &str, usize, Status, &str); 15] = [
         Status::Done,
         "done accepted 1000 refused 0\n",
     ),
-    ("replay", "report totals\n", 1001, Status::TooLong, ""),
+    (
+        "replay",
+        "report totals\n",
+        1001,
+        Status::TooLong,
+        "event pgfault 0\n",
+    ),
     (
         "replay",
         "c0 inc 0 Normal nr_mlock\nsync\n",
@@ -80,7 +86,13 @@ static LINES: [(&str, &str, usize, Status, &str); 15] = [
         Status::TooLong,
         "",
     ),
-    ("replay", "k fold 0\nsync\n", 10000, Status::NotBuilt, ""),
+    (
+        "replay",
+        "k fold 0\nsync\n",
+        10000,
+        Status::Done,
+        "done accepted 20000 refused 0\n",
+    ),
     ("replay", "k fold 0\nsync\n", 10001, Status::TooLong, ""),
     ("replay", "report vmstat\n", 1001, Status::TooLong, ""),
     (

@@ -13,48 +13,16 @@ counter files
 go
 ";
 
-/// Lines that count and aren't replayed. Where there are two, the first makes the other count.
-static UNBUILT: [&str; 37] = [
-    "c0 ok 0 Normal high 2",
-    "k ok 0 Normal min 0",
-    "c0 val 0 Normal nr_free_pages",
-    "k val 0 node nr_file_pages",
-    "c1 snap 0 Normal nr_free_pages",
-    "k snap 0 node nr_anon_pages",
-    "c0 sys nr_free_pages",
-    "k sys nr_dirty",
-    "c0 ev pgfault 3",
-    "c1 ev pgpgin 0",
-    "c0 evsum pgfault",
-    "k evsum pgdeactivate",
-    "c0 cnt files -5",
-    "c0 cnt files 0",
-    "c0 lim files 100 56",
-    "c1 cmp files 30",
-    "c1 sum files",
-    "c1 rough files",
-    "c1 csync files",
-    "c0 fold 1",
-    "k fold 0",
-    "k pressure 0",
-    "k normal 0",
-    "k kswapd 0 3 2",
-    "offline 1",
-    "offline 0",
-    "offline 1\nk dead 1",
-    "offline 1\nk dead 1\nonline 1",
-    "flush",
+/// Lines that count and are reports that aren't built.
+static UNBUILT: [&str; 5] = [
     "report vmstat",
     "report zoneinfo",
     "report counters",
-    " \tk\tfold  0 \r",
     "report\tvmstat ",
-    "k fold 0\n\n# a remark\nsync",
-    "flush\nreport totals",
-    "c0 ev pgfault 281474976710656\nc0 ev pgfault 1",
+    "report vmstat\nreport zoneinfo\nk pressure 0",
 ];
 
-/// Lines with words that aren't replayed, which are refused for another cause.
+/// Lines that are refused, by their causes.
 static REFUSED: [(&str, &str); 22] = [
     ("c9 ev pgfault 1", "UnknownLane"),
     ("c0 ev pgfault 281474976710657", "Overflow"),
@@ -80,33 +48,37 @@ static REFUSED: [(&str, &str); 22] = [
     ("c0 normal 0", "Malformed"),
 ];
 
-/// Whether nothing is written of a text with these lines.
-fn writes_nothing(alloc: Global, text: &[&str]) -> Result<bool, Memory> {
+/// Whether this is what is written of a text with such a line.
+fn writes(alloc: Global, text: &[&str], output: &[&str]) -> Result<bool, Memory> {
     let trial = Trial {
-        name: "lines that aren't replayed",
+        name: "a report that isn't built",
         words: &["replay"],
         text,
         status: Status::NotBuilt,
-        output: &[],
+        output,
     };
     let byte_by_byte = Devices { read: 1, ..SOUND };
     Ok(answers_on(alloc, &trial, SOUND)? && answers_on(alloc, &trial, byte_by_byte)?)
 }
 
-/// Whether nothing is written where these lines stand alone, where others follow, and where others stand around them.
+/// Whether nothing is written from these lines on: where they stand alone, where others follow, and where others stand
+/// around them. The phase that ends with them is made.
 fn silence(alloc: Global, lines: &str) -> Result<bool, Memory> {
     let after = "\nc1 inc 0 Normal nr_mlock\nreport totals\n";
-    let before = "c9 ev pgfault 1\nc0 inc 0 Normal nr_mlock\nsync\n";
+    let before =
+        "c9 ev pgfault 1\nc0 val 0 Normal nr_mlock\nsync\nc9 fold 0\nk sys nr_mlock\nc9 fold 1\n";
     let last = "\nc0 inc 0 Normal nr_mlock\nreport totals\nc0 inc\n";
+    let written =
+        "line 6: refused: UnknownLane\nline 7: value 0\nline 9: refused: UnknownLane\nline 10: system 0\nline 11: refused: UnknownLane\n";
     Ok(
-        writes_nothing(alloc, &[HEADER, lines])?
-            && writes_nothing(alloc, &[HEADER, lines, after])?
-            && writes_nothing(alloc, &[HEADER, before, lines, last])?,
+        writes(alloc, &[HEADER, lines], &[])?
+            && writes(alloc, &[HEADER, lines, after], &[])?
+            && writes(alloc, &[HEADER, before, lines, last], &[written])?,
     )
 }
 
 #[test]
-fn nothing_is_written_where_a_line_is_not_replayed(rt: HostRuntime) -> Result<(), Fail> {
+fn nothing_is_written_after_a_report_that_is_not_built(rt: HostRuntime) -> Result<(), Fail> {
     for lines in &UNBUILT {
         assert!(rt; silence(rt.alloc(), lines)?, "{lines}");
     }

@@ -1,4 +1,4 @@
--- A world belongs to its header after each boundary.
+-- For other crates too: a world belongs to its header after each boundary, and what a counter adds up to stays.
 use Rattle.std.proofs.Common.{◌≡◌, ℕ, ℤ, ◌+ℤ◌, sym, ap, subst, ◌∙◌}
 use Rattle.vms_base.specs.declared.headers.Header.{Header}
 use Rattle.vms_base.specs.declared.kinds.ZoneSize.{ZoneSize}

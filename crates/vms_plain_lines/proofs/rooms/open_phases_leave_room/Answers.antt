@@ -1,27 +1,44 @@
--- The laws of the two tables, at the states that stand.
-use Rattle.std.proofs.Common.{◌^◌, ◌<◌, List, [], ap, sym, subst, ◌∙◌, arith}
+-- The laws of the three tables, at the states that stand.
+use Rattle.std.proofs.Common.{◌≡◌, ℕ, ◌^◌, ◌<◌, List, length, ap, sym, subst, ◌∙◌, arith}
+use Rattle.std.proofs.lemmas.List.{length-map}
 use Rattle.vms_base.specs.declared.ids.CpuId.{CpuId}
+use Rattle.vms_base.specs.declared.kinds.CpuState.{CpuState}
+use Rattle.vms_base.specs.Cpus.{HasOnline, is_present, online_from, state_at}
+use Rattle.vms_history.proofs.Owners.{owner_may_own}
 use Rattle.vms_core.specs.declared.states.State.{State}
 use Rattle.vms_core.specs.Cells.{cpu_at}
 use Rattle.vms_core.proofs.LiveOwners.{owned-online}
 use Rattle.vms_event_core.specs.declared.states.EventState.{EventState}
-use Rattle.vms_event_core.specs.Calls.{loads, online_cpus, sum_over}
-use Rattle.vms_event_core.specs.Events.{state_after}
-use Rattle.vms_event_core.specs.Words.{HasShape, word_at}
+use Rattle.vms_event_core.specs.Calls.{online_cpus, sum_over}
+use Rattle.vms_event_core.specs.Words.{word_at}
+use Rattle.vms_pcpu_core.specs.declared.states.PcpuState.{PcpuState}
+use Rattle.vms_pcpu_core.specs.Histories.{percpu}
+use Rattle.vms_pcpu_core.specs.States.{LockedState}
 use Rattle.vms_text.specs.declared.acts.Lane.TheVariants.{Cpu}
-use Rattle.vms_world.specs.Worlds.{event_facts, page_facts, page_volume}
+use Rattle.vms_world.specs.Worlds.{event_facts, page_facts, page_volume, pcpu_facts}
 use Rattle.vms_file_order.specs.LanePasses.{pass_of}
-use Rattle.vms_file_order.specs.Tables.{page_passes}
+use Rattle.vms_file_order.specs.Tables.{page_passes, pcpu_passes}
 use Rattle.vms_file_order.proofs.Openings.{HasPass-opening}
-use Rattle.vms_plain_lines.proofs.EventRoom.{sum_over-found}
+use Rattle.vms_plain_events.specs.PlainWords.{HasWords}
+use Rattle.vms_plain_pcpu.specs.Numbers.{HasLocals, HasRoomFor}
+use Rattle.vms_plain_lines.specs.PlainStates.{in_tables}
+use Rattle.vms_plain_lines.proofs.ControlLines.{counters_of-world}
+use Rattle.vms_plain_lines.proofs.ControlPass.{HasOnline-open}
+use Rattle.vms_plain_lines.proofs.CounterLines.{batches}
+use Rattle.vms_plain_lines.proofs.FoldedCpus.{dead-opening}
+use Rattle.vms_plain_lines.proofs.OnlineCpus.{online_from-history}
 use Rattle.vms_plain_lines.proofs.PageRoom.{HasRoom-open}
 use Rattle.vms_plain_lines.proofs.rooms.open_phases_leave_room.Goals as goal
 
 pub returns : goal.returns
-returns g c header w lanes items hs now of opened within =
+returns g c header w lanes items hs now of stands within =
     let facts = event_facts header w in
-    let laws = c.laws_are_kept.ensures facts [] hs.events opened.events.legal in
-    let online = c.open_phases_keep_who_is_online.ensures header w lanes items hs now opened in
+    let counters = pcpu_facts header w in
+    let opened = stands.opened in
+    let online : online_from 0 now.pages.cpu ≡ online_cpus facts =
+    ap (λ (s : State). online_from 0 s.cpu) (sym opened.pages.state)
+    ∙ online_from-history (page_facts header w) hs.pages opened.pages.legal in
+    let numbers = ap (λ (s : LockedState). s.numbers) opened.counters.state in
     record {
       pages = HasRoom-open c.settled_ends_may_begin.ensures.base (page_facts header w) lanes hs.pages now.pages
           opened.pages (page_volume header w) of.pages_within within.pages;
@@ -32,18 +49,34 @@ returns g c header w lanes items hs now of opened within =
             owned.0,
             ap (λ (s : State). cpu_at s cpu.number) (sym opened.pages.state) ∙ owned.1,
           );
-      events =
-          let shaped = subst (HasShape header.layout) opened.events.state laws.shape in
-          omega (arith, shaped);
+      events = λ n within_cpus. subst (λ (s : EventState). HasWords s n) opened.events.state
+          (c.histories_leave_room.ensures.cpus facts hs.events n opened.events.legal within_cpus);
       words = λ k l k_in l_in. subst (λ (s : EventState). word_at s k l < 2 ^ 62) opened.events.state
-          (omega (arith, laws.bounds.words k l k_in l_in, laws.bounds.below));
-      sums = λ k k_in.
-          let cpus = online_cpus facts in
-          let found = sum_over-found (state_after facts hs.events) (record { number = k }) cpus in
-          let most = c.online_words_grow.ensures.fits facts hs.events (record { number = k }) found.0
-          (loads (record { number = k }) cpus found.0) (sum_over (state_after facts hs.events) k cpus)
-          opened.events.legal k_in found.1 found.2 in
-          subst (λ (cs : List CpuId). sum_over now.events k cs < 2 ^ 62) (sym online)
-          (subst (λ (s : EventState). sum_over s k cpus < 2 ^ 62) opened.events.state
-          (omega (arith, most, laws.bounds.below)));
+          (c.histories_leave_room.ensures.words facts hs.events k l opened.events.legal k_in l_in);
+      sums = λ k k_in. subst (λ (cs : List CpuId). sum_over now.events k cs < 2 ^ 62) (sym online)
+          (subst (λ (s : EventState). sum_over s k (online_cpus facts) < 2 ^ 62) opened.events.state
+          (c.histories_leave_room.ensures.sums facts hs.events k opened.events.legal k_in));
+      counters = λ j j_in. subst (λ (s : PcpuState). HasRoomFor s j) numbers
+          (c.histories_leave_room-2.ensures.room counters hs.counters j opened.counters.legal
+          (subst (λ (bs : List ℕ). j < length bs) (sym of.batches)
+          (omega (arith, j_in, length-map header.counters (λ decl. decl.batch)))));
+      one_batch_each = ap (λ (bs : List ℕ). length bs)
+          (batches (g.P.Rule.answers c.args.rules.now.pressure) (g.N.Rule.answers c.args.rules.now.normal) header w
+          lanes items hs now stands)
+          ∙ counters_of-world header w of;
+      locals = λ n within_cpus. subst (λ (s : PcpuState). HasLocals s n) numbers
+          (c.histories_leave_room-2.ensures.cpus counters hs.counters n opened.counters.legal within_cpus);
+      opening = ap (λ (cs : List CpuState). length cs) stands.opening ∙ of.event_base.one_state_each;
+      few = of.event_base.layout.cpus_most;
+      some_online = HasOnline-open (g.P.Rule.answers c.args.rules.now.pressure)
+          (g.N.Rule.answers c.args.rules.now.normal) header w lanes items hs (in_tables now) opened;
+      was_online = subst (HasOnline header.layout) (sym stands.opening) of.event_base.some_online;
+      was_dead = λ cpu dead. ap (λ (cs : List CpuState). state_at cs cpu) stands.opening
+          ∙ dead-opening (page_facts header w) hs.pages cpu opened.pages.legal
+          (ap (λ (s : State). cpu_at s cpu) opened.pages.state ∙ dead);
+      present = λ cpu among.
+          let pass = HasPass-opening pcpu_passes lanes hs.counters (Cpu cpu) opened.counters.main among in
+          let own = owner_may_own percpu counters hs.counters (pass_of lanes (Cpu cpu)) cpu opened.counters.legal
+          pass.owner in
+          ap (λ (cs : List CpuState). is_present (state_at cs cpu.number)) stands.opening ∙ ap is_present own.1;
     }

@@ -1,7 +1,15 @@
+-- A line of a body, and one of a header.
 use Rattle.std.proofs.Common.{refl, ◌+◌}
 use Rattle.vms_command.specs.declared.trace_jobs.Work.TheVariants as works
-use Rattle.vms_command.proofs.CommandLines.{body-takes, head-takes}
+use Rattle.vms_command.proofs.CommandLines.{InBody-at_work, body-takes, head-takes}
 use Rattle.vms_command.proofs.trace_jobs.TraceJob.take_within.Goals as goal
+
+pub take_line-requires-clause-body : goal.take_line-requires-clause-body
+take_line-requires-clause-body g c = (
+  c.requires.stands.0,
+  InBody-at_work g.B.Body.command g.B.Body.Stands c.args.self.now.line c.args.self.now.work c.in-Body.body
+      c.requires.stands.0 c.in-Body.is c.requires.stands.1.work,
+)
 
 pub returns-in-Body : goal.returns-in-Body
 returns-in-Body g c =
@@ -9,12 +17,10 @@ returns-in-Body g c =
     body-takes g.B.Body.command g.B.Body.Stands before
     (record before { line = before.line + 1; work = works.Body c.take_line.new.self })
     c.args.line.now c.args.out.now.items c.take_line.new.out.items refl c.requires.within c.in-Body.body
-    c.take_line.new.self c.take_line.result
-    c.in-Body.is refl c.take_line.ensures
+    c.take_line.new.self _ _ c.take_line.result c.in-Body.is refl c.take_line.ensures
 
 pub returns : goal.returns
 returns g c =
     head-takes g.B.Body.command g.B.Body.Stands c.args.self.now c.take_header_line.new.self c.args.line.now
-    c.args.out.now.items
-    c.take_header_line.new.out.items c.requires.within c.take_header_line.result
-    c.in_default.not-Body c.take_header_line.ensures.work c.take_header_line.ensures.line
+    c.args.out.now.items c.take_header_line.new.out.items c.requires.within (g.B.Body.made c.args.engine.now)
+    c.take_header_line.result c.in_default.not-Body c.take_header_line.ensures.work c.take_header_line.ensures.line

@@ -1,21 +1,39 @@
--- The change is that of the line, from the page counters that stand.
-use Rattle.std.proofs.Common.{ap, ◌∙◌, w64}
+-- The change is that of the line, from the tables that stand.
+use Rattle.std.proofs.Common.{◌+◌, ◌≤◌, List, map, unsigned_abs, None, w64, sym, ap, subst, ◌∙◌}
 use Rattle.std.proofs.lemmas.Int.{to_z-of_z}
+use Rattle.vms_text.specs.declared.acts.Item.{Item}
+use Rattle.vms_plain_lines.specs.PlainStates.{GoesOn, PlainStates}
+use Rattle.vms_base.specs.Volumes.{most_volume}
+use Rattle.vms_core.specs.declared.states.State.{State}
 use Rattle.vms_core.specs.ChangedStates.{with_change}
-use Rattle.vms_file_order.specs.OpenPhases.{GoesOnInTables}
-use Rattle.vms_plain_lines.specs.PlainStates.{in_tables}
-use Rattle.vms_plain_lines.proofs.PlainCalls.{with-pages}
+use Rattle.vms_script.specs.Totals.{line_of}
+use Rattle.vms_script.specs.Volumes.{spent_on_counter, volume}
+use Rattle.vms_plain_lines.proofs.PageLines.{GoesOnTelling-change}
+use Rattle.vms_plain_lines.proofs.PlainCalls.{GoesOn-inside}
 use Rattle.vms_plain_lines.proofs.tables.PlainTables.change.Goals as goal
 
 pub returns-clause-goes_on : goal.returns-clause-goes_on
-returns-clause-goes_on g c item lane act w lanes items hs counters stands room =
+returns-clause-goes_on g c item lane act =
     let header = c.args.header.now in
+    let inside : PlainStates = record {
+      pages = c.self.inside.pages;
+      events = c.self.inside.events;
+      counters = c.self.inside.counters;
+      peaks = c.self.inside.peaks;
+      opening = c.self.inside.opening;
+    } in
     let now = c.args.self.now in
-    let is = ap (λ z. with_change header.layout c.args.cpu.number c.args.counter.number z c.args.mode
-    c.self.inside.pages) (to_z-of_z w64 c.args.delta c.ranges.delta) in
-    with-pages (GoesOnInTables header g.R.ThresholdRules.pressure g.R.ThresholdRules.normal w lanes item hs)
-    (record { pages = c.self.inside.pages; events = c.self.inside.events }) now counters c.self.view_is
-    (with_change header.layout c.args.cpu.number c.args.counter.number c.args.delta c.args.mode) c.change.new.self
-    (c.change.ensures.after ∙ is)
-    (c.changes_go_on.ensures header w lanes items hs (in_tables now counters) item stands c.args.cpu c.args.counter
-    c.args.delta c.args.mode lane act c.requires.counter room)
+    let pressure = g.P.Rule.answers c.args.rules.now.pressure in
+    let normal = g.N.Rule.answers c.args.rules.now.normal in
+    let cpu = c.args.cpu in
+    let counter = c.args.counter in
+    let is = ap (λ z. with_change header.layout cpu.number counter.number z c.args.mode inside.pages)
+    (to_z-of_z w64 c.args.delta c.ranges.delta) in
+    let Room : List Item → Type 0 = λ items.
+    volume (spent_on_counter counter.number) cpu.number (map line_of items) + unsigned_abs c.args.delta ≤ most_volume in
+    GoesOn-inside header pressure normal item Room inside now c.self.view_is None
+    (record inside { pages = c.change.new.self })
+    (subst (λ (s : State). GoesOn header pressure normal item Room inside (record inside { pages = s }) None)
+    (sym (c.change.ensures.after ∙ is))
+    (λ w lanes items hs stands among room. GoesOnTelling-change c.page_laws.ensures pressure normal header w lanes items
+    hs inside item stands among cpu counter c.args.delta c.args.mode lane act c.requires.counter room))

@@ -1,27 +1,30 @@
--- The look is that of the line, from the page counters that stand.
-use Rattle.std.proofs.Common.{ap, sym, subst}
-use Rattle.vms_calls.specs.Looks.{IsPlaceValue}
-use Rattle.vms_core.specs.declared.states.State.{State}
-use Rattle.vms_file_order.specs.LanePasses.{pass_of}
-use Rattle.vms_text.specs.declared.acts.Act.{Act}
+-- The look is that of the line, from the tables that stand.
+use Rattle.std.proofs.Common.{Some}
+use Rattle.vms_text.specs.declared.acts.Item.{Item}
+use Rattle.vms_plain_lines.specs.PlainStates.{GoesOn, PlainStates}
 use Rattle.vms_text.specs.declared.acts.Act.TheVariants.{Val}
 use Rattle.vms_world.specs.Lanes.{owner_of}
-use Rattle.vms_plain_pages.specs.Alone.{MakesAlone}
-use Rattle.vms_plain_lines.specs.PageActs.{FoldsOrLooks}
-use Rattle.vms_plain_lines.specs.PlainStates.{in_tables}
-use Rattle.vms_plain_lines.proofs.PlainCalls.{MakesAlone-look}
+use Rattle.vms_answers.specs.Answers.Answer.{Value}
+use Rattle.vms_plain_lines.proofs.EitherLane.{of-act}
+use Rattle.vms_plain_lines.proofs.PageLines.{GoesOn-place_value}
+use Rattle.vms_plain_lines.proofs.PlainCalls.{GoesOn-staying}
 use Rattle.vms_plain_lines.proofs.tables.PlainTables.place_value.Goals as goal
 
 pub returns-clause-goes_on : goal.returns-clause-goes_on
-returns-clause-goes_on g c header item known act w lanes items hs counters stands room =
+returns-clause-goes_on g c header item known act =
+    let inside : PlainStates = record {
+      pages = c.self.inside.pages;
+      events = c.self.inside.events;
+      counters = c.self.inside.counters;
+      peaks = c.self.inside.peaks;
+      opening = c.self.inside.opening;
+    } in
     let now = c.args.self.now in
-    let same = ap (λ s. s.pages) c.self.view_is in
-    c.folds_and_looks_go_on.ensures header w lanes items hs (in_tables now counters) item stands
-    (subst (λ (a : Act). FoldsOrLooks header.layout a) (sym act) known) now.pages
-    (MakesAlone-look header w.pages g.R.ThresholdRules.pressure g.R.ThresholdRules.normal (pass_of lanes item.lane)
-    hs.pages (owner_of item.lane) c.self.inside.pages now.pages now.pages same (Val c.args.counter)
-    (λ steps. IsPlaceValue c.args.counter steps c.place_value.result) (λ d steps is. (c.place_value.result, is))
-    (λ steps is. (c.place_value.result, is)) item.lane item.act act
-    (subst (λ (s : State). MakesAlone (owner_of item.lane)
-    (λ steps. IsPlaceValue c.args.counter steps c.place_value.result) c.self.inside.pages s) same
-    (c.place_value.ensures.made (owner_of item.lane))))
+    let pressure = g.P.Rule.answers c.args.rules.now.pressure in
+    let normal = g.N.Rule.answers c.args.rules.now.normal in
+    let answer = Some (Value c.place_value.result) in
+    GoesOn-staying header pressure normal item (λ items. Unit {0}) inside now c.self.view_is answer
+    (of-act (λ (i : Item). GoesOn header pressure normal i (λ items. Unit {0}) inside inside answer) item
+    (Val c.args.counter) act
+    (GoesOn-place_value c.page_laws.ensures pressure normal header item.number item.lane inside c.args.counter known
+    c.place_value.result (c.place_value.ensures.made (owner_of item.lane))))

@@ -1,32 +1,32 @@
--- The look is that of the line, from the page counters that stand.
-use Rattle.std.proofs.Common.{ap, sym, subst}
-use Rattle.vms_calls.specs.Looks.{IsWatermarkTest}
-use Rattle.vms_core.specs.declared.states.State.{State}
-use Rattle.vms_file_order.specs.LanePasses.{pass_of}
-use Rattle.vms_text.specs.declared.acts.Act.{Act}
+-- The test is that of the line, from the tables that stand.
+use Rattle.std.proofs.Common.{Some}
+use Rattle.vms_text.specs.declared.acts.Item.{Item}
+use Rattle.vms_plain_lines.specs.PlainStates.{GoesOn, PlainStates}
 use Rattle.vms_text.specs.declared.acts.Act.TheVariants.{Water}
 use Rattle.vms_world.specs.Lanes.{owner_of}
-use Rattle.vms_plain_pages.specs.Alone.{MakesAlone}
+use Rattle.vms_answers.specs.Answers.Answer.{Tested}
 use Rattle.vms_plain_pages.specs.Verdicts.{verdict_told}
-use Rattle.vms_plain_lines.specs.PageActs.{FoldsOrLooks}
-use Rattle.vms_plain_lines.specs.PlainStates.{in_tables}
-use Rattle.vms_plain_lines.proofs.PlainCalls.{MakesAlone-look}
+use Rattle.vms_plain_lines.proofs.EitherLane.{of-act}
+use Rattle.vms_plain_lines.proofs.PageLines.{GoesOn-watermark_test}
+use Rattle.vms_plain_lines.proofs.PlainCalls.{GoesOn-staying}
 use Rattle.vms_plain_lines.proofs.tables.PlainTables.watermark_test.Goals as goal
 
 pub returns-clause-goes_on : goal.returns-clause-goes_on
-returns-clause-goes_on g c item act w lanes items hs counters stands room =
+returns-clause-goes_on g c item act =
     let header = c.args.header.now in
+    let inside : PlainStates = record {
+      pages = c.self.inside.pages;
+      events = c.self.inside.events;
+      counters = c.self.inside.counters;
+      peaks = c.self.inside.peaks;
+      opening = c.self.inside.opening;
+    } in
     let now = c.args.self.now in
-    let same = ap (λ s. s.pages) c.self.view_is in
-    c.folds_and_looks_go_on.ensures header w lanes items hs (in_tables now counters) item stands
-    (subst (λ (a : Act). FoldsOrLooks header.layout a) (sym act) c.requires.zone) now.pages
-    (MakesAlone-look header w.pages g.R.ThresholdRules.pressure g.R.ThresholdRules.normal (pass_of lanes item.lane)
-    hs.pages (owner_of item.lane) c.self.inside.pages now.pages now.pages same (Water c.args.zone c.args.mark
-    c.args.most)
-    (λ steps. IsWatermarkTest header c.args.zone c.args.mark c.args.most steps (verdict_told
-    c.watermark_test.result)) (λ d steps is. (verdict_told c.watermark_test.result, is))
-    (λ steps is. (verdict_told c.watermark_test.result, is)) item.lane item.act act
-    (subst (λ (s : State). MakesAlone (owner_of item.lane)
-    (λ steps. IsWatermarkTest header c.args.zone c.args.mark c.args.most steps (verdict_told
-    c.watermark_test.result)) c.self.inside.pages s) same
-    (c.watermark_test.ensures.made (owner_of item.lane))))
+    let pressure = g.P.Rule.answers c.args.rules.now.pressure in
+    let normal = g.N.Rule.answers c.args.rules.now.normal in
+    let verdict = verdict_told c.watermark_test.result in
+    GoesOn-staying header pressure normal item (λ items. Unit {0}) inside now c.self.view_is (Some (Tested verdict))
+    (of-act (λ (i : Item). GoesOn header pressure normal i (λ items. Unit {0}) inside inside (Some (Tested verdict)))
+    item (Water c.args.zone c.args.mark c.args.most) act
+    (GoesOn-watermark_test c.page_laws.ensures pressure normal header item.number item.lane inside c.args.zone
+    c.args.mark c.args.most c.requires.zone verdict (c.watermark_test.ensures.made (owner_of item.lane))))

@@ -1,0 +1,5 @@
+pub mod Answers
+pub mod PhaseAnswers
+pub mod OpenAnswers
+pub mod ToldAnswers
+pub mod AnswerLines

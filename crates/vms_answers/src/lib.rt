@@ -1,0 +1,15 @@
+//! What the lines of a phase answer: what the steps of their passes tell of it, and how it is printed.
+#![tactic(auto)]
+
+mod acts;
+mod answers;
+mod phases;
+mod printing;
+
+pub use acts::{
+    changes_and_folds_answer_nothing, event_acts_tell_answers, looks_tell_answers,
+    pcpu_acts_tell_answers,
+};
+pub use answers::{Answer, NumberedAnswer};
+pub use phases::{lines_answer_in_turn, phases_end_with_all_answers, phases_open_with_no_answer};
+pub use printing::write_answer;

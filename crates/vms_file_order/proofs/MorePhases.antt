@@ -1,0 +1,115 @@
+-- For other crates too: a phase in file order by rules is one by any rules that may answer all that these answer.
+use Rattle.std.proofs.Common.{◌≡◌, ℕ, true, List, [], ◌∷◌, ◌++◌}
+use Rattle.std.specs.Prelude.{All}
+use Rattle.vms_base.specs.declared.headers.Header.{Header}
+use Rattle.vms_base.specs.declared.kinds.ZoneSize.{ZoneSize}
+use Rattle.vms_base.specs.Places.{Shape}
+use Rattle.vms_history.specs.declared.events.Event.{Event}
+use Rattle.vms_history.specs.Passes.{Role}
+use Rattle.vms_core.specs.declared.states.State.{State}
+use Rattle.vms_core.specs.declared.steps.Step.{Step}
+use Rattle.vms_core.specs.Pages.{History}
+use Rattle.vms_calls.specs.Changes.{HasWon}
+use Rattle.vms_calls.specs.HeaderFacts.{facts_of}
+use Rattle.vms_text.specs.declared.acts.Act.{Act}
+use Rattle.vms_text.specs.declared.acts.Act.TheVariants.{Mod, Inc, Dec, Ev, Cnt, Lim, Cmp, Sum, Rough, Csync, EvSum}
+use Rattle.vms_text.specs.declared.acts.Act.TheVariants.{Fold, Water, Val, Snap, Sys, Pressure, Normal, Dead, Kswapd}
+use Rattle.vms_text.specs.declared.acts.Item.{Item}
+use Rattle.vms_text.specs.declared.acts.Lane.{Lane}
+use Rattle.vms_text.specs.declared.acts.Lane.TheVariants.{Cpu, Control}
+use Rattle.vms_world.specs.declared.worlds.World.{World}
+use Rattle.vms_world.specs.Acts.{PageSteps}
+use Rattle.vms_world.specs.Lanes.{is_among, lanes_of}
+use Rattle.vms_world.specs.Phases.{Histories}
+use Rattle.vms_file_order.specs.FileOrder.{Follow, IsFileOrder}
+use Rattle.vms_file_order.specs.FileOrder.Follow.{none, line}
+use Rattle.vms_file_order.specs.FileOrderPhases.{IsFileOrderPhase}
+use Rattle.vms_file_order.specs.LanePasses.{PassSteps, pass_of}
+use Rattle.vms_file_order.specs.Tables.{page_passes}
+use Rattle.vms_file_order.proofs.MoreAnswers.{Buries-more, Includes, IsTurn-more, SetsNormal-more, SetsPressure-more}
+
+-- lines that follow one another by some steps of their acts do so by more
+module _ {K : Type 0} {role : K → Role} (passes : PassSteps K role)
+    (makes more : Lane → ℕ → Act → List (Event K) → List K → Type 0) (IsAlone : K → Type 0)
+    (includes : (lane : Lane) (p : ℕ) (act : Act) (h : List (Event K)) (steps : List K) → makes lane p act h steps
+    → more lane p act h steps) where
+  Follow-more : (lanes : List Lane) (items : List Item) (h : List (Event K)) → Follow passes makes IsAlone lanes items h
+      → Follow passes more IsAlone lanes items h
+  Follow-more lanes items h none = none
+  Follow-more lanes items h (line front next k steps follow among made alone) =
+      line front next k steps (Follow-more lanes front k follow) among
+      (includes next.lane (pass_of lanes next.lane) next.act k steps made) alone
+
+  IsFileOrder-more : (shape : Shape) (items : List Item) (h : List (Event K))
+      → IsFileOrder passes makes IsAlone shape items h → IsFileOrder passes more IsAlone shape items h
+  IsFileOrder-more shape items h order = record {
+    lines = order.lines;
+    follow = Follow-more (lanes_of shape items) items order.lines order.follow;
+    ends = order.ends;
+  }
+
+module _ (pressure more_pressure : ZoneSize → ℕ → ℕ → Type 0) (includes_pressure : Includes pressure more_pressure)
+    (normal more : ZoneSize → ℕ → ℕ → Type 0) (includes : Includes normal more) (header : Header) where
+  PageSteps-more : (base : State) (lane : Lane) (p : ℕ) (act : Act) (h : History) (steps : List Step)
+      → PageSteps header base pressure normal lane p act h steps
+      → PageSteps header base more_pressure more lane p act h steps
+  PageSteps-more base Control p (Pressure n) h steps makes =
+      SetsPressure-more normal more includes pressure more_pressure includes_pressure (facts_of header base) n p h steps
+      makes
+  PageSteps-more base Control p (Normal n) h steps makes =
+      SetsNormal-more normal more includes (facts_of header base) n p h steps makes
+  PageSteps-more base Control p (Dead c) h steps makes =
+      Buries-more normal more includes (facts_of header base) c p h steps makes
+  PageSteps-more base Control p (Kswapd n order most) h steps (answer, turn) = (
+    answer,
+    IsTurn-more normal more includes pressure more_pressure includes_pressure header base n order most p h steps answer
+        turn,
+  )
+  PageSteps-more base Control p (Mod k delta) h steps makes = makes
+  PageSteps-more base Control p (Inc k) h steps makes = makes
+  PageSteps-more base Control p (Dec k) h steps makes = makes
+  PageSteps-more base Control p (Ev k n) h steps makes = makes
+  PageSteps-more base Control p (Cnt j amount) h steps makes = makes
+  PageSteps-more base Control p (Lim j limit amount) h steps makes = makes
+  PageSteps-more base Control p (Cmp j rhs) h steps makes = makes
+  PageSteps-more base Control p (Sum j) h steps makes = makes
+  PageSteps-more base Control p (Rough j) h steps makes = makes
+  PageSteps-more base Control p (Csync j) h steps makes = makes
+  PageSteps-more base Control p (EvSum k) h steps makes = makes
+  PageSteps-more base Control p (Fold c) h steps makes = makes
+  PageSteps-more base Control p (Water g mark most) h steps makes = makes
+  PageSteps-more base Control p (Val k) h steps makes = makes
+  PageSteps-more base Control p (Snap k) h steps makes = makes
+  PageSteps-more base Control p (Sys i) h steps makes = makes
+  PageSteps-more base (Cpu d) p (Mod k delta) h steps makes = makes
+  PageSteps-more base (Cpu d) p (Inc k) h steps makes = makes
+  PageSteps-more base (Cpu d) p (Dec k) h steps makes = makes
+  PageSteps-more base (Cpu d) p (Ev k n) h steps makes = makes
+  PageSteps-more base (Cpu d) p (Cnt j amount) h steps makes = makes
+  PageSteps-more base (Cpu d) p (Lim j limit amount) h steps makes = makes
+  PageSteps-more base (Cpu d) p (Cmp j rhs) h steps makes = makes
+  PageSteps-more base (Cpu d) p (Sum j) h steps makes = makes
+  PageSteps-more base (Cpu d) p (Rough j) h steps makes = makes
+  PageSteps-more base (Cpu d) p (Csync j) h steps makes = makes
+  PageSteps-more base (Cpu d) p (EvSum k) h steps makes = makes
+  PageSteps-more base (Cpu d) p (Fold c) h steps makes = makes
+  PageSteps-more base (Cpu d) p (Water g mark most) h steps makes = makes
+  PageSteps-more base (Cpu d) p (Val k) h steps makes = makes
+  PageSteps-more base (Cpu d) p (Snap k) h steps makes = makes
+  PageSteps-more base (Cpu d) p (Sys i) h steps makes = makes
+  PageSteps-more base (Cpu d) p (Pressure n) h steps makes = makes
+  PageSteps-more base (Cpu d) p (Normal n) h steps makes = makes
+  PageSteps-more base (Cpu d) p (Dead c) h steps makes = makes
+  PageSteps-more base (Cpu d) p (Kswapd n order most) h steps makes = makes
+
+  pub IsFileOrderPhase-more : (w : World) (items : List Item) (hs : Histories)
+      → IsFileOrderPhase header pressure normal w items hs
+      → IsFileOrderPhase header more_pressure more w items hs
+  IsFileOrderPhase-more w items hs phase = record {
+    complete = phase.complete;
+    page_order = IsFileOrder-more page_passes (PageSteps header w.pages pressure normal)
+        (PageSteps header w.pages more_pressure more) HasWon (PageSteps-more w.pages) header.layout items hs.pages
+        phase.page_order;
+    event_order = phase.event_order;
+    pcpu_order = phase.pcpu_order;
+  }

@@ -1,0 +1,293 @@
+-- For other crates too: a line of the control lane's own goes on from an open phase, and tells its answer.
+use Rattle.std.proofs.Common.{◌≡◌, ℕ, false, List, [], ◌∷◌, ◌++◌, length, Option, Some, None, refl, sym, ap, subst}
+use Rattle.std.proofs.Common.{◌∙◌}
+use Rattle.std.proofs.lemmas.List.{length-map}
+use Rattle.vms_base.specs.declared.headers.Header.{Header}
+use Rattle.vms_base.specs.declared.ids.CpuId.{CpuId}
+use Rattle.vms_base.specs.declared.ids.PlaceId.{PlaceId}
+use Rattle.vms_base.specs.declared.kinds.ZoneSize.{ZoneSize}
+use Rattle.vms_base.specs.Places.{IsLayout}
+use Rattle.vms_history.specs.Events.{after, own}
+use Rattle.vms_history.proofs.Own.{own-after}
+use Rattle.vms_history.proofs.Prefixes.{base_can_begin}
+use Rattle.vms_core.specs.declared.states.State.{State}
+use Rattle.vms_core.specs.declared.steps.Facts.{Facts}
+use Rattle.vms_core.specs.declared.steps.Step.{Step}
+use Rattle.vms_core.specs.declared.steps.Step.TheVariants.{SetO}
+use Rattle.vms_core.specs.Own.{CarriesNothing}
+use Rattle.vms_core.specs.Pages.{History, pages}
+use Rattle.vms_event_core.specs.declared.states.EventState.{EventState}
+use Rattle.vms_event_core.specs.Events.{events}
+use Rattle.vms_pcpu_core.specs.Histories.{percpu}
+use Rattle.vms_pcpu_core.specs.States.{LockedState, counters_of}
+use Rattle.vms_calls.specs.CallerLaws.{CarriesAsBefore}
+use Rattle.vms_calls.specs.Changes.{HasWon}
+use Rattle.vms_calls.specs.HeaderFacts.{facts_of}
+use Rattle.vms_calls.specs.MayMake.{HasMade}
+use Rattle.vms_calls.specs.Ratings.{Buries, ByNormal, ByPressure, Choice, RatesNode, SetsNormal, SetsPressure}
+use Rattle.vms_calls.specs.Turns.{Balance, IsTurn}
+use Rattle.vms_calls.proofs.CallSteps.{Each, OfFolds, OfLooks, OfRatings, each-append, fold-each, node-each}
+use Rattle.vms_calls.proofs.CallSteps.{refresh-each, turn-each}
+use Rattle.vms_calls.proofs.CallerLaws.{IsStill, burial-leaves, ratings-still, still-leaves}
+use Rattle.vms_text.specs.declared.acts.Act.{Act}
+use Rattle.vms_text.specs.declared.acts.Act.TheVariants.{Dead, Kswapd, Normal, Pressure}
+use Rattle.vms_text.specs.declared.acts.Item.{Item}
+use Rattle.vms_text.specs.declared.acts.Lane.{Lane}
+use Rattle.vms_text.specs.declared.acts.Lane.TheVariants.{Control}
+use Rattle.vms_world.specs.declared.worlds.World.{World}
+use Rattle.vms_world.specs.Acts.{EventSteps, PageSteps, PcpuSteps}
+use Rattle.vms_world.specs.Phases.{Histories}
+use Rattle.vms_world.specs.Worlds.{IsWorldOf, event_facts, page_facts, pcpu_facts}
+use Rattle.vms_file_order.specs.FileOrder.{GoesOnWithLine}
+use Rattle.vms_file_order.specs.LanePasses.{pass_of}
+use Rattle.vms_file_order.specs.OpenPhases.{TableStates}
+use Rattle.vms_file_order.specs.Tables.{FindsLockFree, MeetsNobody, event_makes, pcpu_makes}
+use Rattle.vms_answers.specs.Answers.{Answer, LaneSteps, Tell}
+use Rattle.vms_answers.specs.Answers.Answer.{Balanced}
+use Rattle.vms_plain_ratings.specs.Control.{ControlCall, MakesCall, MakesUnladenCall}
+use Rattle.vms_plain_ratings.specs.KnownPeaks.{KnowsPeaks}
+use Rattle.vms_plain_lines.specs.ControlLines.{GoesOnKnowing}
+use Rattle.vms_plain_lines.specs.NextLines.{StandsNext}
+use Rattle.vms_plain_lines.proofs.ControlAnswers.{TellsFoldEvents, Tell-burial, Tell-normal, Tell-pressure, Tell-turn}
+use Rattle.vms_plain_lines.proofs.ControlPass.{CarriesNothing-open, Controls-open, HasMade-row}
+use Rattle.vms_plain_lines.proofs.LineSteps.{All-each}
+use Rattle.vms_plain_lines.proofs.TableParts.{none_of_counters, none_of_events}
+
+-- no step of the control pass is a lost exchange
+looks-won : OfLooks HasWon
+looks-won = record {
+  value = λ k v. tt;
+  system = λ i v. tt;
+  group = λ c j w. tt;
+  mark = λ g m a. tt;
+  cpu = λ c x. tt;
+}
+
+ratings-won : OfRatings HasWon
+ratings-won = record {
+  looks = looks-won;
+  acknowledged = λ c g x. tt;
+  threshold = λ c g t. tt;
+  set_mark = λ g m. tt;
+}
+
+folds-won : OfFolds HasWon
+folds-won = record {
+  threshold = λ g t a. tt;
+  take = λ c j w. tt;
+  place = λ k z. tt;
+  system = λ i z. tt;
+  acknowledge = λ g a. tt;
+}
+
+burial-won : (facts : Facts) (normal : ZoneSize → ℕ → ℕ → Type 0) (c : CpuId) (p : ℕ) (h : History) (steps : List Step)
+    → Buries facts normal c p h steps → Each HasWon steps
+burial-won facts normal c p h steps buries = subst (Each HasWon) (sym buries.in_order)
+    (each-append HasWon buries.fold (SetO c ∷ buries.refresh)
+    (fold-each HasWon folds-won facts.layout false c buries.fold buries.folds) (
+      tt,
+      refresh-each HasWon ratings-won facts normal p (after p (buries.fold ++ (SetO c ∷ [])) h) buries.refresh
+          buries.refreshes,
+    ))
+
+-- what holds of each line of the control lane with an act holds of a line that is one
+by-item : (P : Item → Type 0) (item : Item) (a : Act) → item.lane ≡ Control → item.act ≡ a
+    → P (record { number = item.number; lane = Control; act = a }) → P item
+by-item P item a lane act holds =
+    subst (λ (l : Lane). P (record { number = item.number; lane = l; act = item.act })) (sym lane)
+    (subst (λ (b : Act). P (record { number = item.number; lane = Control; act = b })) (sym act) holds)
+
+-- a world of the header has the header's percpu counters
+pub counters_of-world : (header : Header) (w : World) → IsWorldOf header w
+    → counters_of w.counters ≡ length header.counters
+counters_of-world header w of =
+    ap (λ (batches : List ℕ). length batches) of.batches ∙ length-map header.counters (λ decl. decl.batch)
+
+module _ (pressure normal : ZoneSize → ℕ → ℕ → Type 0) (header : Header) (w : World) (lanes : List Lane)
+    (items : List Item) (hs : Histories) (now : TableStates) where
+  abbrev facts : Facts
+  facts = page_facts header w
+
+  abbrev p : ℕ
+  p = pass_of lanes Control
+
+  abbrev of_control : ℕ → Act → Item
+  of_control number a = record { number = number; lane = Control; act = a }
+
+  -- an act of the control lane on the page counters: the pass makes the steps of a call, and the peaks are known again
+  record ControlPart (IsCall : ControlCall) (item : Item) (next : State) (known : List ℕ) : Type 0 where
+    pub part : GoesOnWithLine pages (PageSteps header w.pages pressure normal) HasWon facts lanes item hs.pages next
+    pub knows : KnowsPeaks facts (after p part.steps hs.pages) known
+    pub call : IsCall w.pages p hs.pages part.steps
+    pub made : HasMade facts (after p part.steps hs.pages) hs.pages p part.steps
+
+  module _ (number : ℕ) (a : Act) (IsCall : ControlCall) where
+    abbrev item : Item
+    item = of_control number a
+
+    module _ (stands : StandsNext header pressure normal w lanes items hs now item)
+        (makes : (steps : List Step) → IsCall w.pages p hs.pages steps
+        → PageSteps header w.pages pressure normal Control p a hs.pages steps)
+        (won : (steps : List Step) → IsCall w.pages p hs.pages steps → Each HasWon steps)
+        (leaves : (steps : List Step) → IsCall w.pages p hs.pages steps
+        → CarriesAsBefore header.layout p steps (own hs.pages p))
+        (peaks : List ℕ) (knows : KnowsPeaks facts hs.pages peaks) (next : State) (known : List ℕ)
+        (call : MakesUnladenCall header IsCall now.pages peaks next known) where
+      control-part : ControlPart IsCall item next known
+      control-part =
+          let controls = Controls-open pressure normal header w lanes items hs now stands.opened stands.among peaks
+          knows in
+          let unladen = CarriesNothing-open pressure normal header w lanes items hs now stands.opened stands.among in
+          let made = call w.pages hs.pages p controls unladen in
+          let left = leaves made.0 made.1 in
+          record {
+            part = record {
+              steps = made.0;
+              making = makes made.0 made.1;
+              alone = All-each HasWon made.0 (won made.0 made.1);
+              goes_on = made.3;
+              may_end = subst (CarriesNothing header.layout) (sym (own-after p made.0 hs.pages)) (record {
+                counters = λ k. left.counters k ∙ unladen.counters k;
+                items = λ i. left.items i ∙ unladen.items i;
+              });
+            };
+            knows = made.4;
+            call = made.1;
+            made = HasMade-row facts hs.pages p controls.control made.0 next made.3;
+          }
+
+      -- an act on the page counters alone
+      GoesOnKnowing-control : (answer : Option Answer)
+          → EventSteps (event_facts header w) Control a [] → PcpuSteps (pcpu_facts header w) Control a []
+          → ((steps : LaneSteps) → IsCall w.pages p hs.pages steps.pages
+          → HasMade facts (after p steps.pages hs.pages) hs.pages p steps.pages
+          → EventSteps (event_facts header w) Control a steps.events
+          → PcpuSteps (pcpu_facts header w) Control a steps.counters → Tell header w Control a steps answer)
+          → GoesOnKnowing header pressure normal w lanes item hs (record now { pages = next }) known answer
+      GoesOnKnowing-control answer no_events no_counters tell =
+          let on_pages = control-part in
+          let on_events = none_of_events pressure normal header w lanes items hs now item stands no_events in
+          let on_counters = none_of_counters pressure normal header w lanes items hs now item stands no_counters in
+          record {
+            line = record { pages = on_pages.part; events = on_events; counters = on_counters };
+            known = on_pages.knows;
+            tells = tell (record {
+              pages = on_pages.part.steps;
+              events = on_events.steps;
+              counters = on_counters.steps;
+            }) on_pages.call on_pages.made on_events.making on_counters.making;
+          }
+
+  rating-leaves : (Chooses : Choice) (n : PlaceId) (steps : List Step)
+      → RatesNode facts Chooses n p hs.pages steps → CarriesAsBefore header.layout p steps (own hs.pages p)
+  rating-leaves Chooses n steps call =
+      (still-leaves header.layout p steps (own hs.pages p)
+      (node-each IsStill ratings-still facts Chooses n p hs.pages steps call)).carries
+
+  module _ (item : Item) (lane : item.lane ≡ Control)
+      (stands : StandsNext header pressure normal w lanes items hs now item) (peaks : List ℕ)
+      (knows : KnowsPeaks facts hs.pages peaks) (next : State) (known : List ℕ) where
+    pub GoesOnKnowing-pressure : (n : PlaceId) → item.act ≡ Pressure n
+        → MakesCall header (λ base q h steps. SetsPressure (facts_of header base) pressure normal n q h steps)
+        now.pages peaks next known
+        → GoesOnKnowing header pressure normal w lanes item hs (record now { pages = next }) known None
+    GoesOnKnowing-pressure n act makes = by-item
+        (λ (i : Item). StandsNext header pressure normal w lanes items hs now i
+        → GoesOnKnowing header pressure normal w lanes i hs (record now { pages = next }) known None)
+        item (Pressure n) lane act
+        (λ here. GoesOnKnowing-control item.number (Pressure n)
+        (λ base q h steps. SetsPressure (facts_of header base) pressure normal n q h steps) here (λ steps call. call)
+        (λ steps call. node-each HasWon ratings-won facts (ByPressure pressure normal) n p hs.pages steps call)
+        (rating-leaves (ByPressure pressure normal) n) peaks knows next known
+        (λ base h q controls unladen. makes base h q controls) None refl refl
+        (λ steps call made. Tell-pressure header w pressure normal p (after p steps.pages hs.pages) hs.pages steps
+        made n call))
+        stands
+
+    pub GoesOnKnowing-normal : (n : PlaceId) → item.act ≡ Normal n
+        → MakesCall header (λ base q h steps. SetsNormal (facts_of header base) normal n q h steps) now.pages peaks
+        next known
+        → GoesOnKnowing header pressure normal w lanes item hs (record now { pages = next }) known None
+    GoesOnKnowing-normal n act makes = by-item
+        (λ (i : Item). StandsNext header pressure normal w lanes items hs now i
+        → GoesOnKnowing header pressure normal w lanes i hs (record now { pages = next }) known None)
+        item (Normal n) lane act
+        (λ here. GoesOnKnowing-control item.number (Normal n)
+        (λ base q h steps. SetsNormal (facts_of header base) normal n q h steps) here (λ steps call. call)
+        (λ steps call. node-each HasWon ratings-won facts (ByNormal normal) n p hs.pages steps call)
+        (rating-leaves (ByNormal normal) n) peaks knows next known
+        (λ base h q controls unladen. makes base h q controls) None refl refl
+        (λ steps call made. Tell-normal header w pressure normal p (after p steps.pages hs.pages) hs.pages steps
+        made n call))
+        stands
+
+    pub GoesOnKnowing-turn : (n : PlaceId) (order most : ℕ) → item.act ≡ Kswapd n order most → (answer : Balance)
+        → MakesCall header
+        (λ base q h steps. IsTurn header base pressure normal n order most q h steps answer) now.pages peaks next known
+        → GoesOnKnowing header pressure normal w lanes item hs (record now { pages = next }) known
+        (Some (Balanced answer))
+    GoesOnKnowing-turn n order most act answer makes = by-item
+        (λ (i : Item). StandsNext header pressure normal w lanes items hs now i
+        → GoesOnKnowing header pressure normal w lanes i hs (record now { pages = next }) known
+        (Some (Balanced answer)))
+        item (Kswapd n order most) lane act
+        (λ here. GoesOnKnowing-control item.number (Kswapd n order most)
+        (λ base q h steps. IsTurn header base pressure normal n order most q h steps answer) here
+        (λ steps call. (answer, call))
+        (λ steps call. turn-each HasWon ratings-won header w.pages pressure normal n order most p hs.pages steps answer
+        call)
+        (λ steps call. (still-leaves header.layout p steps (own hs.pages p)
+        (turn-each IsStill ratings-still header w.pages pressure normal n order most p hs.pages steps answer
+        call)).carries) peaks knows next known
+        (λ base h q controls unladen. makes base h q controls) (Some (Balanced answer)) refl refl
+        (λ steps call made. Tell-turn header w pressure normal p (after p steps.pages hs.pages) hs.pages steps made n
+        order most answer call))
+        stands
+
+    -- a burial, from its parts on the event counters and on the percpu counters
+    pub GoesOnKnowing-burial : TellsFoldEvents → counters_of w.counters ≡ length header.counters → (c : CpuId)
+        → item.act ≡ Dead c
+        → MakesUnladenCall header (λ base q h steps. Buries (facts_of header base) normal c q h steps) now.pages peaks
+        next known → (next_events : EventState) (next_counters : LockedState)
+        → GoesOnWithLine events (event_makes (event_facts header w)) MeetsNobody (event_facts header w) lanes item
+        hs.events next_events
+        → GoesOnWithLine percpu (pcpu_makes (pcpu_facts header w)) FindsLockFree (pcpu_facts header w) lanes item
+        hs.counters next_counters
+        → GoesOnKnowing header pressure normal w lanes item hs
+        (record { pages = next; events = next_events; counters = next_counters }) known None
+    GoesOnKnowing-burial folds_told one_each c act makes next_events next_counters on_events on_counters = by-item
+        (λ (i : Item). StandsNext header pressure normal w lanes items hs now i
+        → GoesOnWithLine events (event_makes (event_facts header w)) MeetsNobody (event_facts header w) lanes i
+        hs.events next_events
+        → GoesOnWithLine percpu (pcpu_makes (pcpu_facts header w)) FindsLockFree (pcpu_facts header w) lanes i
+        hs.counters next_counters
+        → GoesOnKnowing header pressure normal w lanes i hs
+        (record { pages = next; events = next_events; counters = next_counters }) known None)
+        item (Dead c) lane act by stands on_events on_counters
+      where
+        layout : IsLayout header.layout
+        layout = (base_can_begin pages facts hs.pages stands.opened.pages.legal).layout
+
+        by : StandsNext header pressure normal w lanes items hs now (of_control item.number (Dead c))
+            → GoesOnWithLine events (event_makes (event_facts header w)) MeetsNobody (event_facts header w) lanes
+            (of_control item.number (Dead c)) hs.events next_events
+            → GoesOnWithLine percpu (pcpu_makes (pcpu_facts header w)) FindsLockFree (pcpu_facts header w) lanes
+            (of_control item.number (Dead c)) hs.counters next_counters
+            → GoesOnKnowing header pressure normal w lanes (of_control item.number (Dead c)) hs
+            (record { pages = next; events = next_events; counters = next_counters }) known None
+        by here in_events in_counters =
+            let on_pages = control-part item.number (Dead c)
+            (λ base q h steps. Buries (facts_of header base) normal c q h steps) here (λ steps call. call)
+            (λ steps call. burial-won facts normal c p hs.pages steps call)
+            (λ steps call. (burial-leaves facts normal layout c p hs.pages steps call (own hs.pages p)).carries)
+            peaks knows next known makes in
+            record {
+              line = record { pages = on_pages.part; events = in_events; counters = in_counters };
+              known = on_pages.knows;
+              tells = Tell-burial header w pressure normal p (after p on_pages.part.steps hs.pages) hs.pages (record {
+                pages = on_pages.part.steps;
+                events = in_events.steps;
+                counters = in_counters.steps;
+              }) on_pages.made folds_told one_each c in_events.making.0 in_events.making.1 on_pages.call
+                  in_events.making.3 in_counters.making;
+            }

@@ -1,0 +1,190 @@
+use crate::PlainTables;
+use crate::laws::event_laws;
+use vms_base::{CpuId, CpuState, Header, PlaceId};
+use vms_calc::{Rule, Rules};
+use vms_plain_pages::Balance;
+
+impl PlainTables {
+    ghost use Rattle.std.specs.Prelude.{◌≡◌, ◌≢◌, ℕ, ◌+◌, ◌-◌, ◌<◌, ◌≤◌, ◌^◌, List, length, false, Some, None};
+    ghost use Rattle.vms_base.specs.declared.ids.CpuId.{CpuId};
+    ghost use Rattle.vms_base.specs.declared.kinds.CpuState.TheVariants.{Absent, Dead as DeadCpu, Online};
+    ghost use Rattle.vms_base.specs.Cpus.{HasOnline, state_at};
+    ghost use Rattle.vms_base.specs.Headers.{IsHeader};
+    ghost use Rattle.vms_base.specs.Places.{IsCpu, IsNode};
+    ghost use Rattle.vms_core.specs.declared.states.State.{State};
+    ghost use Rattle.vms_core.specs.Cells.{HasShape, cpu_at, with_cpu};
+    ghost use Rattle.vms_core.specs.Plain.{most_sets};
+    ghost use Rattle.vms_event_core.specs.Words.{IsEvent, word_at};
+    ghost use Rattle.vms_pcpu_core.specs.States.{counters_of};
+    ghost use Rattle.vms_answers.specs.Answers.Answer.{Balanced};
+    ghost use Rattle.vms_plain_events.specs.PlainWords.{HasWords, MovesWords};
+    ghost use Rattle.vms_plain_lines.specs.PlainStates.{GoesOnAlways};
+    ghost use Rattle.vms_plain_pages.specs.Alone.{HasRoom};
+    ghost use Rattle.vms_plain_pages.specs.Balances.{balance_at, balance_told};
+    ghost use Rattle.vms_plain_pages.specs.Folding.{FoldsCpu};
+    ghost use Rattle.vms_plain_pcpu.specs.Numbers.{HasLocals, HasRoomFor, MovesLocals};
+    ghost use Rattle.vms_plain_ratings.specs.KnownPeaks.{IsFull};
+    ghost use Rattle.vms_plain_ratings.specs.SetCounts.{SetAtMost, SetsAtMost, SetsOnly};
+    ghost use Rattle.vms_text.specs.declared.acts.Act.TheVariants.{Dead, Kswapd, Normal, Pressure};
+    ghost use Rattle.vms_text.specs.declared.acts.Item.{Item};
+    ghost use Rattle.vms_text.specs.declared.acts.Lane.TheVariants.{Control};
+
+    /// Sets the pressure thresholds of a node's zones, with marks that cover them (`set_pgdat_percpu_threshold` of
+    /// mm/vmstat.c with `calculate_pressure_threshold`).
+    pub fn set_pressure<N: Rule, P: Rule>(
+        &mut self,
+        rules: &Rules<N, P>,
+        header: &Header,
+        node: PlaceId,
+    )
+        requires header { IsHeader header.now }
+        requires shaped { HasShape header.now.layout self.old.pages }
+        requires full { IsFull header.now.layout self.old.peaks }
+        requires some_online { HasOnline header.now.layout self.old.pages.cpu }
+        requires room { SetAtMost header.now.layout (most_sets - 1) self.old.pages }
+        requires node { IsNode header.now.layout node.number }
+        ensures rest { SetsOnly self.old.pages self.new.pages }
+        ensures after { self.new ≡ record self.old { pages = self.new.pages; peaks = self.new.peaks } }
+        ensures sets { SetsAtMost header.now.layout 1 self.old.pages self.new.pages }
+        ensures full { IsFull header.now.layout self.new.peaks }
+        ensures goes_on { (item : Item) → item.lane ≡ Control → item.act ≡ Pressure node →
+            GoesOnAlways header.now (P.answers rules.now.pressure) (N.answers rules.now.normal) item self.old self.new
+            None }
+    {
+        vms_plain_ratings::set_pressure(&mut self.pages, &mut self.peaks, header, rules, node);
+    }
+
+    /// Sets the normal thresholds of a node's zones again (`set_pgdat_percpu_threshold` of mm/vmstat.c with
+    /// `calculate_normal_threshold`).
+    pub fn set_normal<N: Rule, P: Rule>(
+        &mut self,
+        rules: &Rules<N, P>,
+        header: &Header,
+        node: PlaceId,
+    )
+        requires header { IsHeader header.now }
+        requires shaped { HasShape header.now.layout self.old.pages }
+        requires full { IsFull header.now.layout self.old.peaks }
+        requires some_online { HasOnline header.now.layout self.old.pages.cpu }
+        requires room { SetAtMost header.now.layout (most_sets - 1) self.old.pages }
+        requires node { IsNode header.now.layout node.number }
+        ensures rest { SetsOnly self.old.pages self.new.pages }
+        ensures after { self.new ≡ record self.old { pages = self.new.pages; peaks = self.new.peaks } }
+        ensures sets { SetsAtMost header.now.layout 1 self.old.pages self.new.pages }
+        ensures full { IsFull header.now.layout self.new.peaks }
+        ensures goes_on { (item : Item) → item.lane ≡ Control → item.act ≡ Normal node →
+            GoesOnAlways header.now (P.answers rules.now.pressure) (N.answers rules.now.normal) item self.old self.new
+            None }
+    {
+        vms_plain_ratings::set_normal(&mut self.pages, &mut self.peaks, header, rules, node);
+    }
+
+    /// Takes a turn of kswapd on a node, for an order and a highest zone index (`kswapd_try_to_sleep` of mm/vmscan.c).
+    pub fn turn<N: Rule, P: Rule>(
+        &mut self,
+        rules: &Rules<N, P>,
+        header: &Header,
+        node: PlaceId,
+        order: u32,
+        most: u32,
+    ) -> Balance
+        requires header { IsHeader header.now }
+        requires numbers { HasRoom header.now.layout (2 ^ 61) self.old.pages }
+        requires full { IsFull header.now.layout self.old.peaks }
+        requires some_online { HasOnline header.now.layout self.old.pages.cpu }
+        requires room { SetAtMost header.now.layout (most_sets - 2) self.old.pages }
+        requires node { IsNode header.now.layout node.number }
+        requires order { order ≤ 10 }
+        requires most { most ≤ 3 }
+        ensures answer { (pressed : State) × SetsOnly self.old.pages pressed
+            × (balance_told result ≡ balance_at header.now node order most pressed) }
+        ensures rest { SetsOnly self.old.pages self.new.pages }
+        ensures after { self.new ≡ record self.old { pages = self.new.pages; peaks = self.new.peaks } }
+        ensures sets { SetsAtMost header.now.layout 2 self.old.pages self.new.pages }
+        ensures full { IsFull header.now.layout self.new.peaks }
+        ensures goes_on { (item : Item) → item.lane ≡ Control → item.act ≡ Kswapd node order most →
+            GoesOnAlways header.now (P.answers rules.now.pressure) (N.answers rules.now.normal) item self.old self.new
+            (Some (Balanced (balance_told result))) }
+    {
+        vms_plain_ratings::turn(
+            &mut self.pages,
+            &mut self.peaks,
+            header,
+            rules,
+            node,
+            order,
+            most,
+        )
+    }
+
+    /// Buries a dead CPU: what it has counted goes to the lowest-numbered CPU that is online, what it holds of percpu
+    /// counters to the shared parts, and it is folded and becomes absent (`vm_events_fold_cpu` and `vmstat_cpu_dead` of
+    /// mm/vmstat.c, `percpu_counter_cpu_dead` of lib/percpu_counter.c).
+    pub fn bury<N: Rule, P: Rule>(&mut self, rules: &Rules<N, P>, header: &Header, cpu: CpuId)
+        requires header { IsHeader header.now }
+        requires numbers { HasRoom header.now.layout (2 ^ 61) self.old.pages }
+        requires full { IsFull header.now.layout self.old.peaks }
+        requires some_online { HasOnline header.now.layout self.old.pages.cpu }
+        requires room { SetAtMost header.now.layout (most_sets - 1) self.old.pages }
+        requires cpu { IsCpu header.now.layout cpu.number }
+        requires dead { cpu_at self.old.pages cpu.number ≡ DeadCpu }
+        requires was_dead { state_at self.old.opening cpu.number ≡ DeadCpu }
+        requires was_online { HasOnline header.now.layout self.old.opening }
+        requires opening { length self.old.opening ≡ header.now.layout.cpus }
+        requires few { header.now.layout.cpus ≤ 128 }
+        requires events { HasWords self.old.events header.now.layout.cpus }
+        requires words { (c k : ℕ) → IsCpu header.now.layout c → IsEvent k → word_at self.old.events c k < 2 ^ 62 }
+        requires counters { (j : ℕ) → j < counters_of self.old.counters → HasRoomFor self.old.counters j }
+        requires one_batch_each { counters_of self.old.counters ≡ length header.now.counters }
+        requires few_counters { counters_of self.old.counters < 2 ^ 32 }
+        requires locals { HasLocals self.old.counters (cpu.number + 1) }
+        ensures pages { (folded : State) × FoldsCpu header.now.layout false cpu.number self.old.pages folded
+            × SetsOnly (with_cpu folded cpu.number Absent) self.new.pages }
+        ensures events { (into : CpuId) × (state_at self.old.opening into.number ≡ Online)
+            × ((b : ℕ) → b < into.number → state_at self.old.opening b ≢ Online)
+            × MovesWords cpu.number into.number self.old.events self.new.events }
+        ensures counters { MovesLocals cpu.number self.old.counters self.new.counters }
+        ensures opening { self.new.opening ≡ self.old.opening }
+        ensures sets { SetsAtMost header.now.layout 1 self.old.pages self.new.pages }
+        ensures full { IsFull header.now.layout self.new.peaks }
+        ensures goes_on { (item : Item) → item.lane ≡ Control → item.act ≡ Dead cpu →
+            GoesOnAlways header.now (P.answers rules.now.pressure) (N.answers rules.now.normal) item self.old self.new
+            None }
+    {
+        event_laws();
+        let into = lowest_online(self.opening.as_slice());
+        vms_plain_events::fold_events(&mut self.events, cpu, into);
+        vms_plain_pcpu::fold_dead(&mut self.counters, cpu);
+        vms_plain_ratings::bury(&mut self.pages, &mut self.peaks, header, rules, cpu);
+    }
+}
+
+ghost use Rattle.std.specs.Prelude.{◌≡◌, ◌≢◌, ℕ, ◌<◌, ◌≤◌, length};
+ghost use Rattle.vms_base.specs.declared.kinds.CpuState.TheVariants.{Online};
+ghost use Rattle.vms_base.specs.Cpus.{is_online as tells_online, state_at};
+
+/// The lowest-numbered CPU that is online by these states.
+fn lowest_online(states: &[CpuState]) -> CpuId
+    requires some { (c : ℕ) × (c < length states.now) × (state_at states.now c ≡ Online) }
+    requires few { length states.now ≤ 128 }
+    ensures within { result.number < length states.now }
+    ensures online { state_at states.now result.number ≡ Online }
+    ensures lowest { (b : ℕ) → b < result.number → state_at states.now b ≢ Online }
+{
+    for number in 0..states.len() as u32 {
+        if is_online(states[number as usize]) {
+            return CpuId { number };
+        }
+    }
+    CpuId { number: 0 }
+}
+
+#[inline]
+fn is_online(state: CpuState) -> bool
+    ensures { result ≡ tells_online state }
+{
+    match state {
+        CpuState::Online => true,
+        CpuState::Dead | CpuState::Absent => false,
+    }
+}

@@ -1,0 +1,221 @@
+-- How a replay ends the phase that is open.
+use Rattle.std.proofs.Common.{◌≡◌, ◌≢◌, ℕ, suc, ◌≤◌, true, List, [], ◌∷◌, ◌++◌, map}
+use Rattle.std.proofs.Common.{Option, Some}
+use Rattle.std.proofs.Common.{None, Ok, Err, refl, sym, ap, subst, ◌∙◌, arith, append-nil}
+use Rattle.std.specs.List.{flat_map}
+use Rattle.std.specs.Prelude.{reverse}
+use Rattle.vms_base.specs.declared.failures.Memory.{Memory}
+use Rattle.vms_base.specs.declared.headers.Header.{Header}
+use Rattle.vms_answers.specs.PhaseAnswers.{NumberedAnswer}
+use Rattle.vms_answers.specs.ToldAnswers.{numbered_told}
+use Rattle.vms_command.specs.Limits.{most_lines}
+use Rattle.vms_command.specs.Lines.{LinesAbove}
+use Rattle.vms_file_order.specs.WorldStarts.{IsStartOf}
+use Rattle.vms_file_order.proofs.JudgedLines.{start_at_end-lines}
+use Rattle.vms_phased.specs.Jobs.{Grows, MayGive}
+use Rattle.vms_phased.specs.Waiting.{Text}
+use Rattle.vms_phased.proofs.TakenTexts.{Grows-nil}
+use Rattle.vms_script.specs.FittingScripts.{Fits}
+use Rattle.vms_script.specs.PhaseScripts.{IsPhaseScript}
+use Rattle.vms_script.specs.Starts.{Start, first_start, start_after, start_at_end}
+use Rattle.vms_script.specs.Totals.{line_of}
+use Rattle.vms_text.specs.declared.acts.Item.{Item}
+use Rattle.vms_text.specs.declared.acts.Line.{Line}
+use Rattle.vms_world.specs.declared.worlds.World.{World}
+use Rattle.vms_world.specs.Phases.{Histories, left_by}
+use Rattle.vms_replay.specs.declared.bodies.Replay.{Replay}
+use Rattle.vms_replay_phase.specs.declared.phases.Replayed.{Replayed}
+use Rattle.vms_replay.specs.declared.waits.Wait.{Wait}
+use Rattle.vms_replay.specs.Engines.{MakesPhase}
+use Rattle.vms_replay.specs.MadePhases.{MadePhase}
+use Rattle.vms_replay.specs.Replaying.{Kept, MayBe, has_some}
+use Rattle.vms_replay.specs.ReplayStates.{Ended, EndsPhase, Holds, Runs}
+use Rattle.vms_replay.specs.Waits.{AreOf, Ascend, MayWrite, asking_numbers, wait_text}
+use Rattle.vms_replay.proofs.AskedAnswers.{AreOf-answers}
+use Rattle.vms_replay.proofs.WrittenWaits.{Ascend-asking, Ascend-increasing}
+
+some-list : {X : Type 0} (xs : List X) → xs ≢ [] → has_some xs ≡ true
+some-list [] others = absurd (others refl)
+some-list (x ∷ xs) others = refl
+
+Some-same : {X : Type 0} (x y : X) → Some x ≡ Some y → x ≡ y
+Some-same x y same = cc
+
+module _ (header : Header) (n : ℕ) (above : LinesAbove) (kept : Kept) (texts : List (Text MadePhase))
+    (held : Option World) (items : List Item) (waiting : List Wait)
+    (runs : Runs header n above kept texts held items waiting) where
+  -- the lines that a replay holds make a script
+  pub IsPhaseScript-held : n ≤ suc most_lines → IsPhaseScript items
+  IsPhaseScript-held most = subst IsPhaseScript (sym runs.keeps)
+      (record { few = omega (arith, runs.fewer, most); ascend = runs.fits.ascend })
+
+  -- and fit the world
+  pub start-held : (w : World) → held ≡ Some w
+      → (start : Start) × IsStartOf header start w × Fits header start items
+  start-held w is =
+      let same : w ≡ kept.world = Some-same w kept.world (sym is ∙ runs.in_world) in (
+        start_after first_start kept.above,
+        subst (IsStartOf header (start_after first_start kept.above)) (sym same) runs.begins,
+        subst (Fits header (start_after first_start kept.above)) (sym runs.keeps) runs.fits,
+      )
+
+  -- with no line no phase is made
+  pub Ended-none : items ≡ [] → (out : List ℕ) → Ended header above kept texts None held items waiting out out
+  Ended-none none out =
+      let no : kept.items ≡ [] = sym runs.keeps ∙ none in
+      record {
+        ended = ap has_some no;
+        prints = sym (append-nil out);
+        in_world = runs.in_world;
+        no_items = none;
+        no_waits = runs.only_open no;
+        begins = subst (λ (lines : List Line). IsStartOf header (start_after first_start lines) kept.world)
+            (sym (runs.lines ∙ ap (λ (is : List Item). reverse (map line_of is) ++ kept.above) no)) runs.begins;
+      }
+
+  -- histories that an engine made of the lines
+  module _ (Makes : Header → World → List Item → Histories → Type 0) (w : World) (is : held ≡ Some w)
+      (made made' : Option (List MadePhase)) (replayed : Replayed)
+      (makes : MakesPhase Makes header w items made made' replayed) where
+    abbrev given : MadePhase
+    given = record { world = w; items = items; histories = makes.histories }
+
+    same_world : w ≡ kept.world
+    same_world = Some-same w kept.world (sym is ∙ runs.in_world)
+
+    pub MayBe-made : MayBe Makes header kept.world kept.items given
+    MayBe-made = record {
+      from = same_world;
+      of = runs.keeps;
+      makes = subst (λ (v : World). Makes header v kept.items makes.histories) same_world
+          (subst (λ (xs : List Item). Makes header w xs makes.histories) runs.keeps makes.makes);
+    }
+
+    -- the lines that wait find their answers
+    pub MayWrite-held : MayWrite waiting (map numbered_told replayed.answers.items)
+    MayWrite-held = record {
+      ascend = subst Ascend (sym runs.asks) (Ascend-asking kept.items (Ascend-increasing _ runs.fits.ascend));
+      of = subst (AreOf (map numbered_told replayed.answers.items))
+          (sym (runs.asks ∙ ap asking_numbers (sym runs.keeps)))
+          (subst (λ (answers : List NumberedAnswer). AreOf answers (asking_numbers items)) (sym makes.answers)
+          (AreOf-answers header w items makes.histories));
+    }
+
+    pub Ended-made : items ≢ []
+        → ((start : Start) → IsStartOf header start w → Fits header start items
+        → IsStartOf header (start_at_end start (map line_of items)) (left_by header w makes.histories))
+        → (held' : Option World) (items' : List Item) (waiting' : List Wait) (out out' : List ℕ)
+        → held' ≡ Some replayed.world → items' ≡ [] → waiting' ≡ []
+        → out' ≡ out ++ flat_map (wait_text header (map numbered_told replayed.answers.items)) waiting
+        → Ended header above kept texts (Some given) held' items' waiting' out out'
+    Ended-made some leads held' items' waiting' out out' in_world no_items no_waits printed =
+        let start : Start = start_after first_start kept.above in
+        let here : IsStartOf header start w = subst (IsStartOf header start) (sym same_world) runs.begins in
+        let fits : Fits header start items = subst (Fits header start) (sym runs.keeps) runs.fits in
+        record {
+          ended = some-list kept.items (λ none. some (runs.keeps ∙ none));
+          prints = printed ∙ ap (λ (more : List ℕ). out ++ more)
+              (ap (λ (answers : List NumberedAnswer). flat_map (wait_text header answers) waiting) makes.answers
+              ∙ sym (runs.tells.same_text given));
+          in_world = in_world ∙ ap Some makes.world;
+          no_items = no_items;
+          no_waits = no_waits;
+          begins = subst (λ (s : Start). IsStartOf header s (left_by header w makes.histories))
+              (ap (λ (xs : List Item). start_at_end start (map line_of xs)) runs.keeps
+              ∙ start_at_end-lines kept.above kept.items
+              ∙ ap (start_after first_start) (sym runs.lines))
+              (leads start here fits);
+        }
+
+-- the end of a phase, of a replay of any engine
+module _ {E : Type 0} (Makes : Header → World → List Item → Histories → Type 0) (header : Header)
+    (replay replay' : Replay E) (made made' : Option (List MadePhase)) (out out' : List ℕ) where
+  -- nothing was made: a failed phase, or no open one
+  pub EndsPhase-failed : (error : Memory) → made' ≡ made
+      → EndsPhase Makes header replay replay' made made' (Err error) out out'
+  EndsPhase-failed error same = record {
+    given = None;
+    grows = subst (λ (m : Option (List MadePhase)). Grows made m []) (sym same) (Grows-nil made);
+    may_give = λ n above kept texts holds. tt;
+    same_built = tt;
+    goes = tt;
+  }
+
+  pub EndsPhase-none : replay' ≡ replay → made' ≡ made → replay.items.items ≡ [] → out' ≡ out
+      → EndsPhase Makes header replay replay' made made' (Ok tt) out out'
+  EndsPhase-none same same_made none same_out = record {
+    given = None;
+    grows = subst (λ (m : Option (List MadePhase)). Grows made m []) (sym same_made) (Grows-nil made);
+    may_give = λ n above kept texts holds. tt;
+    same_built = ap (λ (r : Replay E). r.built) same;
+    goes = λ n above kept texts holds.
+        subst (λ (r : Replay E). Ended header above kept texts None r.world r.items.items r.waits.items out out')
+        (sym same)
+        (subst (λ (text : List ℕ). Ended header above kept texts None replay.world replay.items.items
+        replay.waits.items out text) (sym same_out)
+        (Ended-none header n above kept texts replay.world replay.items.items replay.waits.items holds none out));
+  }
+
+  module _ (w : World) (is : replay.world ≡ Some w) (replayed : Replayed)
+      (makes : MakesPhase Makes header w replay.items.items made made' replayed) (some : replay.items.items ≢ []) where
+    abbrev outcome : MadePhase
+    outcome = record { world = w; items = replay.items.items; histories = makes.histories }
+
+    gives : (n : ℕ) (above : LinesAbove) (kept : Kept) (texts : List (Text MadePhase))
+        → Holds header n above kept texts replay
+        → MayGive (has_some kept.items) (MayBe Makes header kept.world kept.items) (Some outcome)
+    gives n above kept texts holds = (
+      some-list kept.items (λ none. some (holds.keeps ∙ none)),
+      MayBe-made header n above kept texts replay.world replay.items.items replay.waits.items holds Makes w is made
+          made'
+          replayed makes,
+    )
+
+    -- the phase was made, and its texts couldn't be written
+    pub EndsPhase-unwritten : (error : Memory)
+        → EndsPhase Makes header replay replay' made made' (Err error) out out'
+    EndsPhase-unwritten error = record {
+      given = Some outcome;
+      grows = makes.grows;
+      may_give = gives;
+      same_built = tt;
+      goes = tt;
+    }
+
+    -- the phase was made, and nothing waits any more
+    pub EndsPhase-made : replay'.built ≡ replay.built
+        → ((hs : Histories) → Makes header w replay.items.items hs → (start : Start) → IsStartOf header start w
+        → Fits header start replay.items.items
+        → IsStartOf header (start_at_end start (map line_of replay.items.items)) (left_by header w hs))
+        → replay'.world ≡ Some replayed.world → replay'.items.items ≡ [] → replay'.waits.items ≡ []
+        → out' ≡ out ++ flat_map (wait_text header (map numbered_told replayed.answers.items)) replay.waits.items
+        → EndsPhase Makes header replay replay' made made' (Ok tt) out out'
+    EndsPhase-made same_built leads in_world no_items no_waits printed = record {
+      given = Some outcome;
+      grows = makes.grows;
+      may_give = gives;
+      same_built = same_built;
+      goes = λ n above kept texts holds.
+          Ended-made header n above kept texts replay.world replay.items.items replay.waits.items holds Makes w is made
+          made' replayed makes some (leads makes.histories makes.makes) replay'.world replay'.items.items
+          replay'.waits.items out out' in_world no_items no_waits printed;
+    }
+
+-- lines that wait find their answers, whatever lines a replay stands after
+pub MayWrite-some : {E : Type 0} (Makes : Header → World → List Item → Histories → Type 0) (header : Header)
+    (replay : Replay E) (made made' : Option (List MadePhase)) (w : World) (replayed : Replayed)
+    → (n : ℕ) × (n ≤ suc most_lines) × (above : LinesAbove) × (kept : Kept) × (texts : List (Text MadePhase))
+    × Holds header n above kept texts replay
+    → replay.world ≡ Some w → MakesPhase Makes header w replay.items.items made made' replayed
+    → MayWrite replay.waits.items (map numbered_told replayed.answers.items)
+MayWrite-some Makes header replay made made' w replayed (n, most, above, kept, texts, holds) is makes =
+    MayWrite-held header n above kept texts replay.world replay.items.items replay.waits.items holds Makes w is made
+    made'
+    replayed makes
+
+-- what an engine makes of a script is what it makes of the lines
+pub MakesPhase-of : (Makes : Header → World → List Item → Histories → Type 0) (header : Header) (w : World)
+    (script items : List Item) (made made' : Option (List MadePhase)) (replayed : Replayed) → script ≡ items
+    → MakesPhase Makes header w script made made' replayed → MakesPhase Makes header w items made made' replayed
+MakesPhase-of Makes header w script items made made' replayed same makes =
+    subst (λ (xs : List Item). MakesPhase Makes header w xs made made' replayed) same makes

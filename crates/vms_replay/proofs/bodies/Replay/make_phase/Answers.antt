@@ -1,0 +1,58 @@
+-- A phase that failed, one whose texts couldn't be written, and one that was made.
+use Rattle.std.proofs.Common.{rules, ◌≡◌, ◌++◌, ◌∙◌, Some, refl, ap₂, map, List}
+use Rattle.std.specs.List.{flat_map}
+use Rattle.std.proofs.lemmas.Result.{err_from_is_err_and}
+use Rattle.vms_answers.specs.declared.answers.NumberedAnswer.{NumberedAnswer}
+use Rattle.vms_answers.specs.ToldAnswers.{numbered_told}
+use Rattle.vms_replay.specs.declared.waits.Wait.{Wait}
+use Rattle.vms_replay.specs.Waits.{wait_text}
+use Rattle.vms_replay.proofs.EndedPhases.{EndsPhase-failed, EndsPhase-made, EndsPhase-unwritten, MakesPhase-of}
+use Rattle.vms_replay.proofs.EndedPhases.{MayWrite-some}
+use Rattle.vms_replay.proofs.bodies.Replay.make_phase.Goals as goal
+
+pub returns-in_err-replayed : goal.returns-in_err-replayed
+returns-in_err-replayed g c =
+    let p = err_from_is_err_and c.from_residual.result c.from_residual.ensures.1 in
+    rw p.1 (EndsPhase-failed g.E.Engine.Makes c.args.header.now c.args.self.now _ _ _ c.args.out.now.items
+    c.args.out.now.items p.0 c.in_err-replayed.ensures)
+
+pub write_waits-requires : goal.write_waits-requires
+write_waits-requires g c =
+    let self = c.args.self.now in
+    let in_world : self.world ≡ Some c.in-Some.world = search rules in
+    let script : c.make-script.result ≡ self.items.items = search rules in
+    rw (c.as_slice.ensures.value, c.as_slice-2.ensures.value)
+    (MayWrite-some g.E.Engine.Makes c.args.header.now self _ _ c.in-Some.world c.in_ok-replayed.replayed
+    c.requires.holds
+    in_world (MakesPhase-of g.E.Engine.Makes c.args.header.now c.in-Some.world c.make-script.result self.items.items _ _
+    c.in_ok-replayed.replayed script c.in_ok-replayed.ensures))
+
+pub returns-in_err-write_waits : goal.returns-in_err-write_waits
+returns-in_err-write_waits g c =
+    let self = c.args.self.now in
+    let p = err_from_is_err_and c.from_residual-in_err-write_waits.result
+    c.from_residual-in_err-write_waits.ensures.1 in
+    let in_world : self.world ≡ Some c.in-Some.world = search rules in
+    let script : c.make-script.result ≡ self.items.items = search rules in
+    rw p.1 (EndsPhase-unwritten g.E.Engine.Makes c.args.header.now self _ _ _ c.args.out.now.items
+    c.write_waits.new.out.items c.in-Some.world in_world c.in_ok-replayed.replayed
+    (MakesPhase-of g.E.Engine.Makes c.args.header.now c.in-Some.world c.make-script.result self.items.items _ _
+    c.in_ok-replayed.replayed script c.in_ok-replayed.ensures) c.requires.some p.0)
+
+pub returns : goal.returns
+returns g c =
+    let self = c.args.self.now in
+    let header = c.args.header.now in
+    let in_world : self.world ≡ Some c.in-Some.world = search rules in
+    let script : c.make-script.result ≡ self.items.items = search rules in
+    EndsPhase-made g.E.Engine.Makes header self _ _ _ c.args.out.now.items c.write_waits.new.out.items c.in-Some.world
+    in_world c.in_ok-replayed.replayed
+    (MakesPhase-of g.E.Engine.Makes header c.in-Some.world c.make-script.result self.items.items _ _
+    c.in_ok-replayed.replayed script c.in_ok-replayed.ensures) c.requires.some refl
+    (λ hs makes start is fits. c.fitting_phases_are_phases.ensures.start header c.in-Some.world self.items.items hs
+    start
+    is fits (c.makes_lines.ensures header c.in-Some.world self.items.items hs makes))
+    refl (search rules) c.clear.ensures.items
+    (c.in_ok-write_waits.ensures
+    ∙ ap₂ (λ (answers : List NumberedAnswer) (ws : List Wait). c.args.out.now.items
+    ++ flat_map (wait_text header (map numbered_told answers)) ws) c.as_slice-2.ensures.value c.as_slice.ensures.value)

@@ -1,0 +1,14 @@
+-- The thresholds are the kernel's.
+use Rattle.std.proofs.Common.{◌≡◌, ap, subst, sym}
+use Rattle.vms_base.specs.Thresholds.{normal_threshold_of}
+use Rattle.vms_calc.specs.Rules.{RulePair}
+use Rattle.vms_replay.specs.KernelRules.{GoesBy}
+use Rattle.vms_replay.proofs.KernelThresholds.{started-normal}
+use Rattle.vms_replay.proofs.rules.start_by.Goals as goal
+
+pub returns : goal.returns
+returns g c =
+    let same : c.make.result.normal ≡ c.args.normal = ap (λ (pair : RulePair _ _). pair.normal) c.make.ensures in
+    let exact = subst (λ n. GoesBy normal_threshold_of (g.N.Rule.answers n)) (sym same) c.requires.exact in
+    started-normal c.args.header.now c.requires.header (g.N.Rule.answers c.make.result.normal) exact c.start-2.result
+    c.start-2.ensures.start

@@ -1,0 +1,37 @@
+-- A phase of a trace that was made, and what stands after it.
+use Rattle.std.specs.Prelude.{List, Option, Some, None}
+use Rattle.vms_base.specs.declared.headers.Header.{Header}
+use Rattle.vms_base.specs.declared.kinds.CpuState.TheVariants.{Online as IsOnline}
+use Rattle.vms_answers.specs.PhaseAnswers.{NumberedAnswer, answers_of}
+use Rattle.vms_core.specs.Cells.{with_cpu}
+use Rattle.vms_text.specs.declared.acts.Boundary.{Boundary}
+use Rattle.vms_text.specs.declared.acts.Boundary.TheVariants.{Offline, Online, Flush}
+use Rattle.vms_text.specs.declared.acts.Item.{Item}
+use Rattle.vms_world.specs.declared.worlds.World.{World}
+use Rattle.vms_world.specs.Boundaries.{brought_up, flushed, taken_down}
+use Rattle.vms_world.specs.Phases.{Histories, left_by}
+use Rattle.vms_world.specs.Refreshes.{count_online}
+use Rattle.vms_replay.specs.KernelRules.{normal_zones}
+
+-- a phase that was made: the world that it began with, its lines, and its histories
+pub record MadePhase : Type 0 where
+  pub world : World
+  pub items : List Item
+  pub histories : Histories
+
+-- what its lines answered
+abbrev pub answers_in : Header → MadePhase → List NumberedAnswer
+answers_in header made = answers_of header made.world made.items made.histories
+
+-- the world after it, or the one that stands where no phase was made
+abbrev pub world_after : Header → World → Option MadePhase → World
+world_after header w None = w
+world_after header w (Some made) = left_by header made.world made.histories
+
+-- what a boundary line makes of a world, where the thresholds are the kernel's
+abbrev pub crossed : Header → Boundary → World → World
+crossed header (Offline c) w = taken_down c.number w
+crossed header (Online c) w = brought_up header
+    (normal_zones header (count_online (with_cpu w.pages c.number IsOnline).cpu)) c.number w
+crossed header Flush w = flushed header.layout w
+crossed header _ w = w

@@ -1,0 +1,58 @@
+ghost use Rattle.std.specs.Prelude.{◌≡◌, List, Option, None, MatchResult};
+ghost use Rattle.vms_base.specs.declared.headers.Header.{Header};
+ghost use Rattle.vms_base.specs.Headers.{IsHeader};
+ghost use Rattle.vms_file_order.specs.MadePhases.{MakePhase};
+ghost use Rattle.vms_file_order.specs.WorldStarts.{IsStartOf};
+ghost use Rattle.vms_script.specs.FittingScripts.{Fits};
+ghost use Rattle.vms_script.specs.Starts.{Start};
+ghost use Rattle.vms_text.specs.declared.acts.Item.{Item};
+ghost use Rattle.vms_world.specs.declared.worlds.World.{World};
+ghost use Rattle.vms_world.specs.Phases.{Histories};
+ghost use Rattle.vms_replay.specs.Engines.{MakesPhase};
+ghost use Rattle.vms_replay.specs.KernelRules.{normal_rule, pressure_rule};
+ghost use Rattle.vms_replay.specs.MadePhases.{MadePhase};
+
+use std::alloc::Global;
+use vms_base::{Header, Memory};
+use vms_calls::ThresholdRules;
+use vms_replay_phase::Replayed;
+use vms_script::PhaseScript;
+use vms_world::World;
+
+/// What makes the phases of a trace.
+pub trait Engine {
+    // Which histories a phase of these lines from a world may have.
+    ghost Makes: { Header → World → List Item → Histories → Type 0 };
+
+    // The phases that were made so far, or none where the engine keeps none.
+    ghost made: { Self → Option (List MadePhase) };
+
+    /// Histories that a phase may have make its lines, by the kernel's rules of thresholds.
+    fn makes_lines()
+        ensures { (header : Header) (w : World) (items : List Item) (hs : Histories) → Makes header w items hs →
+            MakePhase header pressure_rule normal_rule w items hs };
+
+    /// Makes the lines of a phase from a world.
+    fn run_phase(
+        &mut self,
+        alloc: Global,
+        world: World,
+        header: &Header,
+        script: &PhaseScript,
+    ) -> Result<Replayed, Memory>
+        requires header { IsHeader header.now }
+        requires start { (start : Start) × IsStartOf header.now start world × Fits header.now start script.now }
+        ensures { MatchResult result
+            (MakesPhase Makes header.now world script.now (made self.old) (made self.new))
+            (λ _. made self.new ≡ made self.old) };
+}
+
+/// The kernel's rules of thresholds, `calculate_pressure_threshold` and `calculate_normal_threshold` of mm/vmstat.c.
+#[derive(Debug, Drop)]
+pub struct KernelRules;
+
+impl ThresholdRules for KernelRules {
+    ghost pressure = { pressure_rule };
+
+    ghost normal = { normal_rule };
+}

@@ -1,0 +1,74 @@
+ghost use Rattle.std.specs.Prelude.{map, IfOk};
+ghost use Rattle.vms_answers.specs.ToldAnswers.{numbered_told};
+ghost use Rattle.vms_base.specs.Headers.{IsHeader};
+ghost use Rattle.vms_base.specs.Thresholds.{normal_threshold_of, pressure_threshold_of};
+ghost use Rattle.vms_calc.specs.Rules.{IsThresholdRule};
+ghost use Rattle.vms_file_order.specs.WorldStarts.{IsStartOf};
+ghost use Rattle.vms_replay_phase.specs.ReplayedPhases.{IsReplayed};
+ghost use Rattle.vms_script.specs.FittingScripts.{Fits};
+ghost use Rattle.vms_script.specs.Starts.{Start};
+ghost use Rattle.vms_replay.specs.KernelRules.{GoesBy, normal_rule, pressure_rule};
+
+use crate::{Engine, KernelRules};
+use std::alloc::Global;
+use vms_base::{Header, Memory, ZoneSize};
+use vms_calc::{Rule, Rules, normal_threshold, pressure_threshold};
+use vms_file_order::file_order_makes_phases;
+use vms_replay_phase::{Replayed, replay_phase};
+use vms_script::PhaseScript;
+use vms_world::World;
+
+/// The engine that makes each phase in file order, as one thread does. It keeps no histories.
+#[derive(Debug, Drop)]
+pub struct FileOrder;
+
+impl Engine for FileOrder {
+    ghost use Rattle.std.specs.Prelude.{None};
+    ghost use Rattle.vms_replay.specs.FileOrders.{makes_in_order};
+
+    ghost Makes = { makes_in_order };
+
+    ghost made = { λ _. None };
+
+    fn makes_lines() {
+        file_order_makes_phases::<KernelRules>();
+    }
+
+    fn run_phase(
+        &mut self,
+        alloc: Global,
+        world: World,
+        header: &Header,
+        script: &PhaseScript,
+    ) -> Result<Replayed, Memory> {
+        replay_by(
+            alloc,
+            world,
+            header,
+            script,
+            |size: &ZoneSize, online: u32| normal_threshold(size, online),
+            |size: &ZoneSize, online: u32| pressure_threshold(size, online),
+        )
+    }
+}
+
+/// Replays a phase under the thresholds of these rules, which are the kernel's.
+fn replay_by<N: Rule, P: Rule>(
+    alloc: Global,
+    world: World,
+    header: &Header,
+    script: &PhaseScript,
+    normal: N,
+    pressure: P,
+) -> Result<Replayed, Memory>
+    requires header { IsHeader header.now }
+    requires start { (start : Start) × IsStartOf header.now start world × Fits header.now start script.now }
+    requires normal { IsThresholdRule (N.accepts normal) (N.answers normal) }
+    requires pressure { IsThresholdRule (P.accepts pressure) (P.answers pressure) }
+    requires exact_normal { GoesBy normal_threshold_of (N.answers normal) }
+    requires exact_pressure { GoesBy pressure_threshold_of (P.answers pressure) }
+    ensures { IfOk result (λ replayed. IsReplayed header.now pressure_rule normal_rule world script.now replayed.world
+        (map numbered_told replayed.answers.items)) }
+{
+    replay_phase(alloc, world, header, script, &Rules::make(normal, pressure))
+}

@@ -1,0 +1,4 @@
+pub mod SpentVolumes
+pub mod Countings
+pub mod MadeLines
+pub mod OpenReplays

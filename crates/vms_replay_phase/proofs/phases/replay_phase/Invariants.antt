@@ -1,0 +1,9 @@
+use Rattle.std.proofs.Common.{take}
+use Rattle.vms_world.specs.Lanes.{lanes_of}
+use Rattle.vms_replay_phase.specs.OpenReplays.{HasReplayed}
+use Rattle.vms_replay_phase.proofs.phases.replay_phase.Given as goal
+
+-- the lines so far are replayed
+abbrev pub invariant-loop-item : goal.invariant-loop-item
+invariant-loop-item g l = HasReplayed l.header (g.P.Rule.answers l.rules.pressure) (g.N.Rule.answers l.rules.normal)
+    l.fn.world (lanes_of l.header.layout l.script) (take l.item-index l.script) l.replay

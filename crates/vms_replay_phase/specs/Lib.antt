@@ -1,0 +1,5 @@
+pub mod Spending
+pub mod CountedVolumes
+pub mod Lines
+pub mod OpenReplays
+pub mod ReplayedPhases

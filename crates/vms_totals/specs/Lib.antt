@@ -1,0 +1,3 @@
+pub mod PlainSums
+pub mod Moves
+pub mod WayAnswers
