@@ -8,8 +8,8 @@ use Rattle.vms_line.specs.declared.causes.LineCause.{LineCause}
 use Rattle.vms_header.specs.Spelling.{spelled_header}
 use Rattle.vms_line.specs.Spelling.{spelled_line}
 use Rattle.vms_stream.specs.Behaviors.{Behavior}
-use Rattle.vms_phased.specs.Plain.{plainly}
-use Rattle.vms_phased.specs.Waiting.Text.{Plain}
+use Rattle.vms_stream.specs.Plain.{plainly}
+use Rattle.vms_stream.specs.Waiting.Text.{Plain}
 use Rattle.vms_command.specs.Bodies.{shown}
 use Rattle.vms_command.specs.Commands.{Command, CommandState, MayEnd-status_at_end, status_at_end, following}
 use Rattle.vms_command.specs.Lines.{LinesAbove}

@@ -12,13 +12,12 @@ use Rattle.vms_script.specs.JudgeStates.{Stands}
 use Rattle.vms_script.specs.declared.judges.LineJudge.{LineJudge}
 use Rattle.vms_stream.specs.declared.statuses.Status.{Status}
 use Rattle.vms_stream.specs.declared.statuses.Status.TheVariants.{TooLong}
-use Rattle.vms_stream.specs.Jobs.{TakesLines}
-use Rattle.vms_phased.specs.PhasedBehaviors.{PhasedBehavior, with_outcomes}
-use Rattle.vms_phased.specs.PhasedBehaviors.Way.{On}
-use Rattle.vms_phased.specs.Jobs.{MayGive, StandsOn, TakesPhased, at_most_one}
-use Rattle.vms_phased.specs.Waiting.{Text, Waiting, unless_stopped, waiting, waits_after}
-use Rattle.vms_phased.proofs.GivenOutcomes.{TakesLines-given, TakesLines-given_exceeding, TakesPhased-given}
-use Rattle.vms_phased.proofs.TakenTexts.{Grows-nil}
+use Rattle.vms_stream.specs.Jobs.{TakesLines, MayGive, StandsOn, TakesPhased, at_most_one}
+use Rattle.vms_stream.specs.PhasedBehaviors.{PhasedBehavior, with_outcomes}
+use Rattle.vms_stream.specs.PhasedBehaviors.Way.{On}
+use Rattle.vms_stream.specs.Waiting.{Text, Waiting, unless_stopped, waiting, waits_after}
+use Rattle.vms_stream.proofs.GivenOutcomes.{TakesLines-given, TakesLines-given_exceeding, TakesPhased-given}
+use Rattle.vms_stream.proofs.TakenTexts.{Grows-nil}
 use Rattle.vms_command.specs.declared.body_jobs.BodyJob.{BodyJob}
 use Rattle.vms_command.specs.declared.tallies.Tally.{Tally}
 use Rattle.vms_command.specs.Bodies.{GoesPast, TakesLine, SomeLine}

@@ -12,14 +12,14 @@ use Rattle.vms_stream.specs.declared.statuses.Status.{Status}
 use Rattle.vms_stream.specs.declared.statuses.Status.TheVariants.{TooLong}
 use Rattle.vms_stream.specs.declared.statuses.Status.TheVariants as statuses
 use Rattle.vms_stream.specs.Jobs.{Closes, TakesLines}
-use Rattle.vms_phased.specs.PhasedBehaviors.{PhasedBehavior, with_outcomes}
-use Rattle.vms_phased.specs.PhasedBehaviors.Way.{On}
-use Rattle.vms_phased.specs.Jobs.{ClosesPhased, MayGive, StandsOn, TakesPhased, at_most_one, shown_on}
-use Rattle.vms_phased.specs.Waiting.{Text, Waiting, unless_stopped, waiting}
-use Rattle.vms_phased.proofs.GivenOutcomes.{Closes-given, ClosesPhased-also, ClosesPhased-given, TakesLines-given}
-use Rattle.vms_phased.proofs.GivenOutcomes.{TakesLines-given_exceeding, TakesLines-given_refused, TakesPhased-also}
-use Rattle.vms_phased.proofs.GivenOutcomes.{TakesPhased-given}
-use Rattle.vms_phased.proofs.TakenTexts.{Grows-nil}
+use Rattle.vms_stream.specs.PhasedBehaviors.{PhasedBehavior, with_outcomes}
+use Rattle.vms_stream.specs.PhasedBehaviors.Way.{On}
+use Rattle.vms_stream.specs.Jobs.{ClosesPhased, MayGive, StandsOn, TakesPhased, at_most_one, shown_on}
+use Rattle.vms_stream.specs.Waiting.{Text, Waiting, unless_stopped, waiting}
+use Rattle.vms_stream.proofs.GivenOutcomes.{Closes-given, ClosesPhased-also, ClosesPhased-given, TakesLines-given}
+use Rattle.vms_stream.proofs.GivenOutcomes.{TakesLines-given_exceeding, TakesLines-given_refused, TakesPhased-also}
+use Rattle.vms_stream.proofs.GivenOutcomes.{TakesPhased-given}
+use Rattle.vms_stream.proofs.TakenTexts.{Grows-nil}
 use Rattle.vms_command.specs.declared.body_jobs.BodyJob.{BodyJob}
 use Rattle.vms_command.specs.declared.trace_jobs.Work.{Work}
 use Rattle.vms_command.specs.declared.trace_jobs.Work.TheVariants as works

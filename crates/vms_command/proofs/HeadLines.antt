@@ -6,7 +6,7 @@ use Rattle.vms_header.specs.declared.causes.HeaderCause.{HeaderCause}
 use Rattle.vms_header.specs.Drafts.{Draft, header_of}
 use Rattle.vms_header.specs.Stages.{Stage, HeadStep}
 use Rattle.vms_header.specs.Stages.HeadStep.{Goes, Ends}
-use Rattle.vms_phased.specs.Waiting.{Text}
+use Rattle.vms_stream.specs.Waiting.{Text}
 use Rattle.vms_stream.specs.declared.statuses.Status.TheVariants as statuses
 use Rattle.vms_command.specs.declared.body_jobs.BodyJob.{BodyJob}
 use Rattle.vms_command.specs.declared.trace_jobs.Work.TheVariants as works

@@ -9,11 +9,11 @@ use Rattle.vms_line.specs.declared.causes.LineCause.{LineCause}
 use Rattle.vms_script.specs.Judging.{judged}
 use Rattle.vms_stream.specs.Answers.{Answers, Says}
 use Rattle.vms_stream.specs.declared.statuses.Status.{Status}
-use Rattle.vms_phased.specs.PhasedAnswers.{AnswersPhased}
-use Rattle.vms_phased.specs.Plain.{AskNothing, plain_bytes, plainly}
-use Rattle.vms_phased.specs.Waiting.{IsAsking, Text, waiting}
-use Rattle.vms_phased.proofs.PlainAnswers.{Answers-plainly, plain_printed, plain_waits}
-use Rattle.vms_phased.proofs.TakenTexts.{Grows-nil}
+use Rattle.vms_stream.specs.PhasedAnswers.{AnswersPhased}
+use Rattle.vms_stream.specs.Plain.{AskNothing, plain_bytes, plainly}
+use Rattle.vms_stream.specs.Waiting.{IsAsking, Text, waiting}
+use Rattle.vms_stream.proofs.PlainAnswers.{Answers-plainly, plain_printed, plain_waits}
+use Rattle.vms_stream.proofs.TakenTexts.{Grows-nil}
 use Rattle.vms_command.specs.Bodies.{ClosesBody, EndsAfter, GoesPast, IsJudged, TakesLine, quietly, shown, shown_given}
 use Rattle.vms_command.specs.Commands.{Command, CommandState, ends_at_judged, ends_phase_at, following, line_text}
 use Rattle.vms_command.specs.Commands.{phase_at}

@@ -14,15 +14,14 @@ use Rattle.vms_script.specs.Judging.{judged}
 use Rattle.vms_stream.specs.declared.statuses.Status.{Status}
 use Rattle.vms_stream.specs.declared.statuses.Status.TheVariants.{TooLong}
 use Rattle.vms_stream.specs.declared.statuses.Status.TheVariants as statuses
-use Rattle.vms_stream.specs.Behaviors.{first_halt, halted, last_words, state_after, printed, printed_from}
+use Rattle.vms_stream.specs.Behaviors.{first_halt, halted, last_words, state_after, printed, printed_from, Behavior}
 use Rattle.vms_command.specs.Commands.{Command, CommandState, following, halted_at, exceeds, after_head, printed_head}
 use Rattle.vms_command.specs.Commands.{refuses}
 use Rattle.vms_command.specs.Commands.CommandState.{Heading, Body}
 use Rattle.vms_command.specs.Limits.{most_lines, exceeds_limit}
 use Rattle.vms_command.specs.Lines.{LinesAbove, come_to, nothing_above, with_judged}
 use Rattle.vms_command.specs.Texts.{WritesTexts, body_text, kept_of, printed_of, text_under}
-use Rattle.vms_phased.specs.Plain.{plain_bytes, plainly}
-use Rattle.vms_stream.specs.Behaviors.{Behavior}
+use Rattle.vms_stream.specs.Plain.{plain_bytes, plainly}
 
 -- where no limit is exceeded, a line stops the command for what it says alone
 unless_beyond : (b : Bool) (halt : Option Status) → (if b then Some TooLong else halt) ≢ Some TooLong

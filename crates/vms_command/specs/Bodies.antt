@@ -5,8 +5,8 @@ use Rattle.vms_text.specs.declared.acts.Line.{Line}
 use Rattle.vms_line.specs.declared.causes.LineCause.{LineCause}
 use Rattle.vms_script.specs.Judging.{judged}
 use Rattle.vms_stream.specs.declared.statuses.Status.{Status}
-use Rattle.vms_phased.specs.Jobs.{Grows, MayGive, at_most_one}
-use Rattle.vms_phased.specs.Waiting.{Text, Waiting, printed_with, waits_after}
+use Rattle.vms_stream.specs.Jobs.{Grows, MayGive, at_most_one}
+use Rattle.vms_stream.specs.Waiting.{Text, Waiting, printed_with, waits_after}
 use Rattle.vms_command.specs.Commands.{Command, CommandState, ends_at_judged}
 use Rattle.vms_command.specs.Commands.CommandState.{Heading, Body}
 use Rattle.vms_command.specs.Limits.{most_lines}

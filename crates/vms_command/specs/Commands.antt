@@ -11,8 +11,8 @@ use Rattle.vms_header.specs.Stages.{Stage, HeadStep, head_line, missing}
 use Rattle.vms_header.specs.Stages.Stage.{Opening}
 use Rattle.vms_header.specs.Stages.HeadStep.{Goes, Ends}
 use Rattle.vms_script.specs.Judging.{judged}
-use Rattle.vms_phased.specs.Waiting.{LineTexts, Text}
-use Rattle.vms_phased.specs.Waiting.Text.{Plain}
+use Rattle.vms_stream.specs.Waiting.{LineTexts, Text}
+use Rattle.vms_stream.specs.Waiting.Text.{Plain}
 use Rattle.vms_stream.specs.Behaviors.{MayEnd, MayHalt}
 use Rattle.vms_stream.specs.declared.statuses.Status.{Status}
 use Rattle.vms_stream.specs.declared.statuses.Status.TheVariants.{Done, Refused, TooLong}

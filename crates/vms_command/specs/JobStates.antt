@@ -8,7 +8,7 @@ use Rattle.vms_header.specs.Stages.HeadStep.{Goes, Ends}
 use Rattle.vms_header.specs.Laws.{IsWritable}
 use Rattle.vms_script.specs.JudgeStates.{Stands}
 use Rattle.vms_stream.specs.declared.statuses.Status.{Status}
-use Rattle.vms_phased.specs.Waiting.{Text, Waiting}
+use Rattle.vms_stream.specs.Waiting.{Text, Waiting}
 use Rattle.vms_command.specs.declared.body_jobs.BodyJob.{BodyJob}
 use Rattle.vms_command.specs.declared.trace_jobs.Work.{Work}
 use Rattle.vms_command.specs.declared.trace_jobs.Work.TheVariants as works

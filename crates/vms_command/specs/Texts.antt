@@ -6,7 +6,7 @@ use Rattle.vms_header.specs.Stages.{Fault, read_header}
 use Rattle.vms_script.specs.Judging.{judged}
 use Rattle.vms_stream.specs.declared.statuses.Status.TheVariants.{TooLong}
 use Rattle.vms_stream.specs.Behaviors.{halted, output}
-use Rattle.vms_phased.specs.Plain.{plain_bytes, plainly}
+use Rattle.vms_stream.specs.Plain.{plain_bytes, plainly}
 use Rattle.vms_command.specs.Commands.{Command, following}
 use Rattle.vms_command.specs.Lines.{LinesAbove, come_to, nothing_above, with_judged}
 use Rattle.vms_command.specs.Printing.{header_line}

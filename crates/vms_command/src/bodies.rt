@@ -6,7 +6,7 @@ ghost use Rattle.vms_command.specs.Commands.{Command};
 ghost use Rattle.vms_command.specs.Limits.{most_lines};
 ghost use Rattle.vms_command.specs.Lines.{LinesAbove, nothing_above};
 ghost use Rattle.vms_header.specs.Laws.{IsWritable};
-ghost use Rattle.vms_phased.specs.Waiting.{Text};
+ghost use Rattle.vms_stream.specs.Waiting.{Text};
 ghost use Rattle.vms_script.specs.JudgeStates.{IsInOneSpelling};
 
 use std::alloc::Global;

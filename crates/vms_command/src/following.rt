@@ -1,5 +1,5 @@
-ghost use Rattle.vms_phased.specs.PhasedAnswers.{AnswersPhased};
-ghost use Rattle.vms_phased.specs.Waiting.{waiting};
+ghost use Rattle.vms_stream.specs.PhasedAnswers.{AnswersPhased};
+ghost use Rattle.vms_stream.specs.Waiting.{waiting};
 ghost use Rattle.vms_command.specs.Bodies.{shown_given};
 ghost use Rattle.vms_command.specs.Commands.{following};
 
@@ -7,8 +7,7 @@ use crate::Body;
 use crate::trace_jobs::TraceJob;
 use std::alloc::Global;
 use vms_io::{Sink, Source};
-use vms_phased::stream_phased;
-use vms_stream::Status;
+use vms_stream::{Status, stream};
 
 /// The command whose body is `B`, over a trace whose phases the engine makes. The engine comes back.
 pub fn follow<B: Body, S: Source, K: Sink>(
@@ -20,5 +19,5 @@ pub fn follow<B: Body, S: Source, K: Sink>(
     ensures { AnswersPhased (waiting (following B.command)) (shown_given B.Shows) (B.made engine) (B.made result.1)
         S.remaining S.faults K.written K.faults src.old src.new out.old out.new result.0 }
 {
-    stream_phased(alloc, &mut TraceJob::<B>::begin(alloc), engine, src, out)
+    stream(alloc, &mut TraceJob::<B>::begin(alloc), engine, src, out)
 }

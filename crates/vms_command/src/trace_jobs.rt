@@ -5,8 +5,7 @@ use std::alloc::Global;
 use std::mem::replace;
 use vms_base::Memory;
 use vms_header::{HeaderReader, HeaderStep, ReadError};
-use vms_phased::PhasedJob;
-use vms_stream::Status;
+use vms_stream::{Job, Status};
 
 /// The most lines of a trace.
 const MOST_LINES: u32 = 1_000_000;
@@ -35,8 +34,8 @@ impl<B: Body> TraceJob<B> {
     ghost use Rattle.vms_command.specs.Limits.{most_lines};
     ghost use Rattle.vms_command.specs.JobStates.{IsHead, TakesHeadLine, StandsAt};
     ghost use Rattle.vms_header.specs.Stages.{Stage, head_line};
-    ghost use Rattle.vms_phased.specs.Jobs.{TakesPhased};
-    ghost use Rattle.vms_phased.specs.Waiting.{Waiting, waiting};
+    ghost use Rattle.vms_stream.specs.Jobs.{TakesPhased};
+    ghost use Rattle.vms_stream.specs.Waiting.{Waiting, waiting};
 
     /// Before the first line.
     pub(crate) fn begin(alloc: Global) -> TraceJob<B>
@@ -90,11 +89,11 @@ impl<B: Body> TraceJob<B> {
     }
 }
 
-impl<B: Body> PhasedJob for TraceJob<B> {
+impl<B: Body> Job for TraceJob<B> {
     ghost use Rattle.vms_command.specs.Bodies.{shown_given};
     ghost use Rattle.vms_command.specs.Commands.{CommandState, following};
     ghost use Rattle.vms_command.specs.JobStates.{StandsAt};
-    ghost use Rattle.vms_phased.specs.Waiting.{Waiting, waiting};
+    ghost use Rattle.vms_stream.specs.Waiting.{Waiting, waiting};
 
     type Engine = B::Engine;
 

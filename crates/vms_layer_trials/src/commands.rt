@@ -12,7 +12,7 @@ use vms_stream::Status;
 
 /// Writes a mark for each line, and one at the end for the last line.
 #[derive(Drop)]
-struct Marks {
+pub(crate) struct Marks {
     refused: bool,
 }
 
@@ -82,7 +82,7 @@ fn write_end(
     write_done_line(out, accepted, refused)
 }
 
-const FRONT: &[u8] = b"vmtrace 1\ncpus 1\nzone 0 Normal 262144 100 120 150\ngo\n";
+pub(crate) const FRONT: &[u8] = b"vmtrace 1\ncpus 1\nzone 0 Normal 262144 100 120 150\ngo\n";
 
 /// Whether a row has its status, and an output of its size, front and last bytes, where it is read in pieces of 64
 /// bytes.

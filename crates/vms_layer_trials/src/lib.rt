@@ -1,5 +1,5 @@
-//! Trials of the crates between the grammar and the commands: devices, streams, a command with a body of its own,
-//! scripts and their totals, and the start of a run.
+//! Trials of the crates between the grammar and the commands: devices, a command with a body of its own and its
+//! faults, scripts and their totals, and the start of a run.
 #![tactic(auto)]
 
 #[cfg(test)]
@@ -7,12 +7,12 @@ mod commands;
 #[cfg(test)]
 mod devices;
 #[cfg(test)]
+mod faults;
+#[cfg(test)]
 mod headers;
 #[cfg(test)]
 mod scripts;
 #[cfg(test)]
 mod starts;
-#[cfg(test)]
-mod streams;
 #[cfg(test)]
 mod totals;

@@ -12,9 +12,9 @@ use Rattle.vms_command.specs.Limits.{most_lines}
 use Rattle.vms_command.specs.Lines.{LinesAbove}
 use Rattle.vms_file_order.specs.WorldStarts.{IsStartOf}
 use Rattle.vms_file_order.proofs.JudgedLines.{start_at_end-lines}
-use Rattle.vms_phased.specs.Jobs.{Grows, MayGive}
-use Rattle.vms_phased.specs.Waiting.{Text}
-use Rattle.vms_phased.proofs.TakenTexts.{Grows-nil}
+use Rattle.vms_stream.specs.Jobs.{Grows, MayGive}
+use Rattle.vms_stream.specs.Waiting.{Text}
+use Rattle.vms_stream.proofs.TakenTexts.{Grows-nil}
 use Rattle.vms_script.specs.FittingScripts.{Fits}
 use Rattle.vms_script.specs.PhaseScripts.{IsPhaseScript}
 use Rattle.vms_script.specs.Starts.{Start, first_start, start_after, start_at_end}

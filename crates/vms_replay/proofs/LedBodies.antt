@@ -13,10 +13,10 @@ use Rattle.vms_command.specs.Commands.CommandState.{Body}
 use Rattle.vms_command.specs.Lines.{LinesAbove, nothing_above, with_judged}
 use Rattle.vms_file_order.proofs.JudgedLines.{Fits-judged}
 use Rattle.vms_line.specs.declared.causes.LineCause.{LineCause}
-use Rattle.vms_phased.specs.Leading.{Leads, leads_on, none_after}
-use Rattle.vms_phased.specs.Jobs.{MayGive, at_most_one}
-use Rattle.vms_phased.specs.PhasedBehaviors.{PhasedBehavior}
-use Rattle.vms_phased.specs.Waiting.{Text, Waiting, unless_stopped, waiting, waits_after}
+use Rattle.vms_stream.specs.Leading.{Leads, leads_on, none_after}
+use Rattle.vms_stream.specs.Jobs.{MayGive, at_most_one}
+use Rattle.vms_stream.specs.PhasedBehaviors.{PhasedBehavior}
+use Rattle.vms_stream.specs.Waiting.{Text, Waiting, unless_stopped, waiting, waits_after}
 use Rattle.vms_stream.specs.declared.statuses.Status.{Status}
 use Rattle.vms_script.specs.Judging.{counted, judged}
 use Rattle.vms_script.specs.Segments.{Between, Phase, Segment, numbered_lines, phase_if_any, segments_of, segments_with}

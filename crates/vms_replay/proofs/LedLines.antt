@@ -8,7 +8,7 @@ use Rattle.vms_command.specs.Lines.{LinesAbove}
 use Rattle.vms_file_order.specs.WorldStarts.{IsStartOf}
 use Rattle.vms_file_order.proofs.BoundaryStarts.{MayCross-allowed}
 use Rattle.vms_file_order.proofs.JudgedLines.{start_at_end-lines}
-use Rattle.vms_phased.specs.Jobs.{MayGive, at_most_one}
+use Rattle.vms_stream.specs.Jobs.{MayGive, at_most_one}
 use Rattle.vms_script.specs.FittingScripts.{Fits}
 use Rattle.vms_script.specs.Segments.{Between, phase_if_any}
 use Rattle.vms_script.specs.Starts.{Start, first_start, start_after, start_at_end}

@@ -14,9 +14,9 @@ use Rattle.vms_command.specs.Lines.{LinesAbove, with_judged}
 use Rattle.vms_command.specs.Printing.{refused_line}
 use Rattle.vms_file_order.proofs.JudgedLines.{Fits-judged}
 use Rattle.vms_line.specs.declared.causes.LineCause.{LineCause}
-use Rattle.vms_phased.specs.Waiting.{Text, printed_now, waits_with}
-use Rattle.vms_phased.specs.Waiting.Text.{Plain}
-use Rattle.vms_phased.proofs.TakenTexts.{Grows-nil}
+use Rattle.vms_stream.specs.Waiting.{Text, printed_now, waits_with}
+use Rattle.vms_stream.specs.Waiting.Text.{Plain}
+use Rattle.vms_stream.proofs.TakenTexts.{Grows-nil}
 use Rattle.vms_script.specs.Judging.{judged}
 use Rattle.vms_script.proofs.Feeding.{IsOpen-lane}
 use Rattle.vms_text.specs.declared.acts.Act.{Act}

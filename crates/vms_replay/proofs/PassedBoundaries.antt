@@ -14,10 +14,10 @@ use Rattle.vms_command.specs.Printing.{done_line}
 use Rattle.vms_file_order.specs.WorldStarts.{IsStartOf}
 use Rattle.vms_file_order.proofs.BoundaryStarts.{MayCross-allowed}
 use Rattle.vms_line.specs.Laws.{IsLineOf}
-use Rattle.vms_phased.specs.Jobs.{Grows, MayGive}
-use Rattle.vms_phased.specs.Waiting.{Text, printed_now, printed_with, waits_after}
-use Rattle.vms_phased.specs.Waiting.Text.{Plain}
-use Rattle.vms_phased.proofs.TakenTexts.{Grows-nil}
+use Rattle.vms_stream.specs.Jobs.{Grows, MayGive}
+use Rattle.vms_stream.specs.Waiting.{Text, printed_now, printed_with, waits_after}
+use Rattle.vms_stream.specs.Waiting.Text.{Plain}
+use Rattle.vms_stream.proofs.TakenTexts.{Grows-nil}
 use Rattle.vms_stream.specs.declared.statuses.Status.{Status}
 use Rattle.vms_stream.specs.declared.statuses.Status.TheVariants.{NotBuilt}
 use Rattle.vms_script.specs.Judging.{allowed_from, judged}

@@ -6,8 +6,8 @@ use Rattle.std.specs.List.{flat_map}
 use Rattle.std.specs.Prelude.{is_some}
 use Rattle.std.proofs.lemmas.List.Concat.{flat_map-append}
 use Rattle.vms_base.specs.declared.headers.Header.{Header}
-use Rattle.vms_phased.specs.Waiting.{Text, printed_now, printed_with, spelled, waits_after, waits_with}
-use Rattle.vms_phased.specs.Waiting.Text.{Plain, Asks}
+use Rattle.vms_stream.specs.Waiting.{Text, printed_now, printed_with, spelled, waits_after, waits_with}
+use Rattle.vms_stream.specs.Waiting.Text.{Plain, Asks}
 use Rattle.vms_text.specs.declared.acts.Act.{Act}
 use Rattle.vms_replay.specs.declared.waits.Wait.{Wait}
 use Rattle.vms_replay.specs.declared.waits.Wait.TheVariants as waits

@@ -3,7 +3,7 @@ use Rattle.std.specs.Prelude.{◌≡◌, List, [], ◌∷◌, Option, map}
 use Rattle.vms_base.specs.declared.headers.Header.{Header}
 use Rattle.vms_answers.specs.PhaseAnswers.{answers_of}
 use Rattle.vms_answers.specs.ToldAnswers.{numbered_told}
-use Rattle.vms_phased.specs.Jobs.{Grows}
+use Rattle.vms_stream.specs.Jobs.{Grows}
 use Rattle.vms_text.specs.declared.acts.Item.{Item}
 use Rattle.vms_world.specs.declared.worlds.World.{World}
 use Rattle.vms_world.specs.Phases.{Histories, left_by}

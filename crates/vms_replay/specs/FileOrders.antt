@@ -4,8 +4,8 @@ use Rattle.vms_base.specs.declared.headers.Header.{Header}
 use Rattle.vms_command.specs.Bodies.{shown_given}
 use Rattle.vms_command.specs.Commands.{following}
 use Rattle.vms_file_order.specs.FileOrderPhases.{IsFileOrderPhase}
-use Rattle.vms_phased.specs.PhasedAnswers.{SaysPhased}
-use Rattle.vms_phased.specs.Waiting.{waiting}
+use Rattle.vms_stream.specs.PhasedAnswers.{SaysPhased}
+use Rattle.vms_stream.specs.Waiting.{waiting}
 use Rattle.vms_stream.specs.declared.statuses.Status.{Status}
 use Rattle.vms_text.specs.declared.acts.Item.{Item}
 use Rattle.vms_world.specs.declared.worlds.World.{World}

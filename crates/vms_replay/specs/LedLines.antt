@@ -7,9 +7,9 @@ use Rattle.vms_command.specs.Commands.{following}
 use Rattle.vms_command.specs.Commands.CommandState.{Body}
 use Rattle.vms_command.specs.Lines.{LinesAbove, nothing_above, with_judged}
 use Rattle.vms_file_order.specs.WorldStarts.{IsStartOf}
-use Rattle.vms_phased.specs.Jobs.{MayGive, at_most_one}
-use Rattle.vms_phased.specs.Leading.{Leads}
-use Rattle.vms_phased.specs.Waiting.{waiting}
+use Rattle.vms_stream.specs.Jobs.{MayGive, at_most_one}
+use Rattle.vms_stream.specs.Leading.{Leads}
+use Rattle.vms_stream.specs.Waiting.{waiting}
 use Rattle.vms_script.specs.FittingScripts.{Fits}
 use Rattle.vms_script.specs.Segments.{Between, Segment, contents_of, phase_if_any}
 use Rattle.vms_script.specs.Starts.{first_start, start_after}

@@ -5,8 +5,8 @@ use Rattle.vms_base.specs.declared.failures.Memory.{Memory}
 use Rattle.vms_base.specs.declared.headers.Header.{Header}
 use Rattle.vms_command.specs.Lines.{LinesAbove}
 use Rattle.vms_file_order.specs.WorldStarts.{IsStartOf}
-use Rattle.vms_phased.specs.Jobs.{Grows, MayGive, at_most_one}
-use Rattle.vms_phased.specs.Waiting.{Text, spelled}
+use Rattle.vms_stream.specs.Jobs.{Grows, MayGive, at_most_one}
+use Rattle.vms_stream.specs.Waiting.{Text, spelled}
 use Rattle.vms_script.specs.FittingScripts.{Fits}
 use Rattle.vms_script.specs.Starts.{first_start, start_after}
 use Rattle.vms_script.specs.Totals.{line_of}

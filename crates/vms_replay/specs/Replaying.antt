@@ -9,8 +9,8 @@ use Rattle.vms_command.specs.Commands.{Command, MayEnd-status_at_end, status_at_
 use Rattle.vms_command.specs.Lines.{LinesAbove}
 use Rattle.vms_command.specs.Printing.{done_line, line_prefix, newline, refused_line}
 use Rattle.vms_line.specs.declared.causes.LineCause.{LineCause}
-use Rattle.vms_phased.specs.Waiting.{Text}
-use Rattle.vms_phased.specs.Waiting.Text.{Plain, Asks}
+use Rattle.vms_stream.specs.Waiting.{Text}
+use Rattle.vms_stream.specs.Waiting.Text.{Plain, Asks}
 use Rattle.vms_report.specs.Reports.{totals_report}
 use Rattle.vms_report.specs.Totals.{event_total, page_total, pcpu_total}
 use Rattle.vms_stream.specs.Behaviors.{MayEnd}

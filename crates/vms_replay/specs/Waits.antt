@@ -4,7 +4,7 @@ use Rattle.vms_base.specs.declared.headers.Header.{Header}
 use Rattle.vms_answers.specs.AnswerLines.{answer_line}
 use Rattle.vms_answers.specs.PhaseAnswers.{NumberedAnswer}
 use Rattle.vms_command.specs.Printing.{refused_line}
-use Rattle.vms_phased.specs.Waiting.{Text, spelled}
+use Rattle.vms_stream.specs.Waiting.{Text, spelled}
 use Rattle.vms_text.specs.declared.acts.Item.{Item}
 use Rattle.vms_replay.specs.declared.waits.Wait.{Wait}
 use Rattle.vms_replay.specs.declared.waits.Wait.TheVariants as waits

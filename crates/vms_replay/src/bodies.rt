@@ -37,7 +37,7 @@ impl<E: Engine> Replay<E> {
     ghost use Rattle.vms_command.specs.Bodies.{SomeLine, TakesLine};
     ghost use Rattle.vms_command.specs.Limits.{most_lines};
     ghost use Rattle.vms_command.specs.Lines.{LinesAbove, nothing_above};
-    ghost use Rattle.vms_phased.specs.Waiting.{Text};
+    ghost use Rattle.vms_stream.specs.Waiting.{Text};
     ghost use Rattle.vms_world.specs.declared.worlds.World.{World};
     ghost use Rattle.vms_world.specs.Boundaries.{MayCross};
     ghost use Rattle.vms_world.specs.Worlds.{IsWorldOf};

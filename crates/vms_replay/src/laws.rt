@@ -3,7 +3,7 @@ ghost use Rattle.vms_base.specs.declared.headers.Header.{Header};
 ghost use Rattle.vms_command.specs.Commands.{following};
 ghost use Rattle.vms_file_order.specs.FileOrderPhases.{KeepAllLaws};
 ghost use Rattle.vms_file_order.specs.WorldStarts.{IsStartOf};
-ghost use Rattle.vms_phased.specs.Laws.{WritesInOrder};
+ghost use Rattle.vms_stream.specs.Laws.{WritesInOrder};
 ghost use Rattle.vms_script.specs.FittingScripts.{Fits};
 ghost use Rattle.vms_script.specs.Starts.{Start};
 ghost use Rattle.vms_text.specs.declared.acts.Item.{Item};

@@ -1,7 +1,7 @@
 ghost use Rattle.vms_command.specs.Bodies.{shown_given};
 ghost use Rattle.vms_command.specs.Commands.{following};
-ghost use Rattle.vms_phased.specs.PhasedAnswers.{AnswersPhased};
-ghost use Rattle.vms_phased.specs.Waiting.{waiting};
+ghost use Rattle.vms_stream.specs.PhasedAnswers.{AnswersPhased};
+ghost use Rattle.vms_stream.specs.Waiting.{waiting};
 ghost use Rattle.vms_stream.specs.Answers.{Answers};
 ghost use Rattle.vms_replay.specs.FileOrders.{SaysReplay};
 ghost use Rattle.vms_replay.specs.Replaying.{nothing_shown, replaying};

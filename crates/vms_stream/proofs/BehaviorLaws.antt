@@ -1,4 +1,4 @@
--- For other crates too: a behavior over lines in two parts.
+-- A behavior over lines in two parts.
 use Rattle.std.proofs.Common.{◌≡◌, ℕ, List, [], ◌∷◌, ◌++◌, Option, Some, None, refl, sym, ap, ◌∙◌, append_assoc}
 use Rattle.std.proofs.Common.{append-nil}
 use Rattle.vms_stream.specs.declared.statuses.Status.{Status}

@@ -1,20 +1,20 @@
--- For other crates too: the end of a course.
+-- The end of a course.
 use Rattle.std.proofs.Common.{◌≡◌, ◌≢◌, ℕ, Bool, true, List, [], ◌++◌, take, drop, take-append-drop, inr, Option, None}
-use Rattle.std.proofs.Common.{Ok, Err, Result, refl, sym, ap, subst, ◌∙◌, append_assoc, append-nil, arith}
-use Rattle.std.specs.Io.KnownBytes.{Appends, Consumes, IsAtEnd}
-use Rattle.std.proofs.KnownBytes.{Appends-nil, Appends-trans, Consumes-nil, Consumes-trans}
+use Rattle.std.proofs.Common.{Ok, Err, refl, sym, ap, subst, ◌∙◌, append_assoc, append-nil}
+use Rattle.std.specs.Io.KnownBytes.{Appends, IsAtEnd}
+use Rattle.std.proofs.KnownBytes.{Appends-nil}
 use Rattle.vms_stream.specs.declared.courses.Course.{Course}
 use Rattle.vms_stream.specs.declared.statuses.Status.{Status}
 use Rattle.vms_stream.specs.declared.statuses.Status.TheVariants.{Done, Header, Memory, NotBuilt, ReadFault, Refused}
 use Rattle.vms_stream.specs.declared.statuses.Status.TheVariants.{WriteFault}
-use Rattle.vms_stream.specs.Answers.{Answers, Ends, FaultsOfSink, FaultsOfSource, IsLastPiece, Says}
-use Rattle.vms_stream.specs.Courses.{Finishes, IsCourse, Steps, lines_judged, status_in}
+use Rattle.vms_stream.specs.Answers.{Ends, FaultsOfSink, FaultsOfSource, IsLastPiece, Says}
+use Rattle.vms_stream.specs.Courses.{Finishes, IsCourse, lines_judged}
 use Rattle.vms_stream.specs.Jobs.{Closes}
 use Rattle.vms_stream.specs.Behaviors.{Behavior, MayEnd, state_after, halted, printed, output}
 use Rattle.vms_stream.specs.Pieces.{whole_lines, partial_line}
 use Rattle.vms_stream.proofs.BehaviorLaws.{halted-first, output-open, printed-begins}
 use Rattle.vms_stream.proofs.TwoPieces.{lines_of-parts}
-use Rattle.vms_stream.proofs.StepOutcomes.{begins, begins_at_end, no_piece}
+use Rattle.vms_stream.proofs.StepOutcomes.{begins_at_end, no_piece}
 use Rattle.vms_text.specs.Lines.{lines_of}
 
 -- after calls of which none failed
@@ -149,54 +149,3 @@ module _ {S : Type 0} (behavior : Behavior S) (shows : S → Type 0) where
           by Header may done = inr done
           by NotBuilt may done = done
           by _ may done = absurd may
-
-  -- there was no memory to begin
-  pub Answers-unbegun : {R K : Type 0} (left : R → Option (List ℕ)) (read_faults : R → ℕ) (held : K → Option (List ℕ))
-      (write_faults : K → ℕ) (src : R) (out : K) (stop : Status) → stop ≡ Memory
-      → Answers left read_faults held write_faults src src out out stop (Says behavior shows)
-  Answers-unbegun left read_faults held write_faults src out stop memory = record {
-    taken = [];
-    written = [];
-    consumes = Consumes-nil (left src);
-    appends = Appends-nil (held out);
-    answer = subst (λ (s : Status). Says behavior shows s [] [] (IsAtEnd (left src))) (sym memory)
-        (begins behavior shows [] (IsAtEnd (left src)) [] [] [] [] refl refl
-        (no_piece behavior shows [] (omega arith) refl) [] refl);
-    reads = subst (λ (s : Status). FaultsOfSource left read_faults s src src) (sym memory) refl;
-    writes = subst (λ (s : Status). FaultsOfSink held write_faults s out out) (sym memory) refl;
-  }
-
-  -- a course that goes on, stops or ends after what was taken and written before, when no call had failed
-  module _ {R K : Type 0} (left : R → Option (List ℕ)) (read_faults : R → ℕ) (held : K → Option (List ℕ))
-      (write_faults : K → ℕ) (taken written : List ℕ) (src src' src'' : R) (out out' out'' : K)
-      (consumes : Consumes (left src) (left src') taken) (appends : Appends (held out) (held out') written)
-      (none_read : read_faults src' ≡ read_faults src) (none_wrote : write_faults out' ≡ write_faults out) where
-    pub Answers-stopped : (stands : S → Type 0) (course : Course) (stop : Status)
-        → Steps behavior stands shows taken written course (left src') (left src'') (held out') (held out'') (Err stop)
-        → FaultsOfSource left read_faults stop src' src''
-        → FaultsOfSink held write_faults stop out' out''
-        → Answers left read_faults held write_faults src src'' out out'' stop (Says behavior shows)
-    Answers-stopped stands course stop steps reads writes = record {
-      taken = taken ++ steps.more;
-      written = written ++ steps.moved;
-      consumes = Consumes-trans (left src) (left src') (left src'') taken steps.more consumes steps.consumes;
-      appends = Appends-trans (held out) (held out') (held out'') written steps.moved appends steps.appends;
-      answer = steps.outcome;
-      reads = reads_after left read_faults src src' src'' stop none_read reads;
-      writes = writes_after held write_faults out out' out'' stop none_wrote writes;
-    }
-
-    pub Answers-ended : (result : Result Status Status) → IsAtEnd (left src')
-        → Finishes behavior shows taken written (held out') (held out'') result
-        → status_in result ≢ ReadFault
-        → FaultsOfSink held write_faults (status_in result) out' out''
-        → Answers left read_faults held write_faults src src' out out'' (status_in result) (Says behavior shows)
-    Answers-ended result ended finishes reads writes = record {
-      taken = taken;
-      written = written ++ finishes.moved;
-      consumes = consumes;
-      appends = Appends-trans (held out) (held out') (held out'') written finishes.moved appends finishes.appends;
-      answer = finishes.outcome (left src') ended;
-      reads = none_read_fails left read_faults src src' (status_in result) reads none_read;
-      writes = writes_after held write_faults out out' out'' (status_in result) none_wrote writes;
-    }

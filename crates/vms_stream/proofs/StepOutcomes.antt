@@ -1,19 +1,18 @@
--- For other crates too: what stands where a command stops, and where it goes on.
-use Rattle.std.proofs.Common.{◌≡◌, ℕ, ◌+◌, ◌-◌, ◌≤◌, ◌<◌, ◌⊎◌, max, Bool, true, false, List, [], ◌∷◌, ◌++◌, length}
-use Rattle.std.proofs.Common.{length-append, take, drop, take-append-drop, inl, inr, Option, Some, None, Ok, Err}
-use Rattle.std.proofs.Common.{Result, refl, sym, ap, subst, ◌∙◌, append_assoc, append-nil, arith}
-use Rattle.std.specs.Io.KnownBytes.{Appends, IsAtEnd, Keeps}
-use Rattle.std.proofs.KnownBytes.{Appends-nil, Consumes-nil, Consumes-kept}
+-- What stands where a command stops, and where it goes on.
+use Rattle.std.proofs.Common.{◌≡◌, ℕ, ◌+◌, ◌-◌, ◌≤◌, ◌<◌, max, Bool, true, false, List, [], ◌∷◌, ◌++◌, length, take}
+use Rattle.std.proofs.Common.{length-append, inl, inr, Option, Some, None, refl, sym, ap, subst, ◌∙◌, append_assoc}
+use Rattle.std.proofs.Common.{append-nil, arith}
+use Rattle.std.specs.Io.KnownBytes.{IsAtEnd}
 use Rattle.vms_io.specs.Reading.{Gets}
 use Rattle.vms_stream.specs.declared.courses.Course.{Course}
 use Rattle.vms_stream.specs.declared.statuses.Status.{Status}
-use Rattle.vms_stream.specs.declared.statuses.Status.TheVariants.{Header, Memory, ReadFault, TooLong, WriteFault}
+use Rattle.vms_stream.specs.declared.statuses.Status.TheVariants.{Header, TooLong}
 use Rattle.vms_stream.specs.Answers.{most_bytes, lines_taken, BeginsOutput, GoesOn, Halts, IsJudged, IsLastPiece, Says}
-use Rattle.vms_stream.specs.Courses.{IsCourse, Steps, StopsAt, lines_held, lines_judged}
+use Rattle.vms_stream.specs.Courses.{IsCourse, lines_held, lines_judged}
 use Rattle.vms_stream.specs.Jobs.{TakesLines}
 use Rattle.vms_stream.specs.Behaviors.{Behavior, MayHalt, state_after, halted, printed, output}
 use Rattle.vms_stream.specs.Pieces.{whole_lines, partial_line}
-use Rattle.vms_stream.proofs.PieceLines.{lines_counted, lines_counted-within, lines_taken-within, lines_both}
+use Rattle.vms_stream.proofs.PieceLines.{lines_counted, lines_counted-within, lines_both}
 use Rattle.vms_stream.proofs.BehaviorLaws.{MayHalt-halted, output-begins, printed-begins}
 use Rattle.vms_stream.proofs.TwoPieces.{partial_line-append}
 use Rattle.vms_stream.proofs.TakenLines.{TakesLines-after, TakesLines-both}
@@ -73,12 +72,6 @@ module _ {S : Type 0} (behavior : Behavior S) (shows : S → Type 0) where
     none_before = none;
   }
 
-  -- the first n bytes of what waits
-  part_written : (written waiting : List ℕ) (n : ℕ) → (written ++ take n waiting) ++ drop n waiting ≡ written ++ waiting
-  part_written written waiting n =
-      append_assoc written (take n waiting) (drop n waiting)
-      ∙ ap (λ (rest : List ℕ). written ++ rest) (take-append-drop n waiting)
-
   -- a course before the end of its input
   pub before_end : {stands : S → Type 0} (taken written : List ℕ) (course : Course)
       → IsCourse behavior stands taken written course
@@ -95,43 +88,8 @@ module _ {S : Type 0} (behavior : Behavior S) (shows : S → Type 0) where
     subst (λ (b : Bool). stands (state_after behavior behavior.start (lines_judged b taken))) isnt is.stands_after,
   )
 
-  -- nothing is taken and nothing written
-  nothing_more : (stop : Status) (taken written : List ℕ) (at_end : Type 0)
-      → Says behavior shows stop taken written at_end
-      → Says behavior shows stop (taken ++ []) (written ++ []) at_end
-  nothing_more stop taken written at_end says =
-      subst (λ (bytes : List ℕ). Says behavior shows stop (taken ++ []) bytes at_end)
-      (sym (append-nil written))
-      (subst (λ (bytes : List ℕ). Says behavior shows stop bytes written at_end) (sym (append-nil taken))
-      says)
-
   module _ {stands : S → Type 0} (stands' : S → Type 0) (taken written : List ℕ) (course : Course)
       (is : IsCourse behavior stands taken written course) (isnt : course.at_end ≡ false) where
-    unread : (stop : Status) (at_end : Type 0) → (stop ≡ ReadFault) ⊎ (stop ≡ Memory)
-        → Says behavior shows stop taken written at_end
-    unread stop at_end (inl fault) = subst (λ (s : Status). Says behavior shows s taken written at_end)
-        (sym fault) (before_end taken written course is isnt).0
-    unread stop at_end (inr memory) = subst (λ (s : Status). Says behavior shows s taken written at_end)
-        (sym memory)
-        (begins taken at_end (whole_lines taken) [] written []
-        (lines_taken-within taken is.within ∙ sym (append-nil (whole_lines taken))) (append-nil written
-        ∙ (before_end taken written course is isnt).0.all_written)
-        (no_piece taken is.within (before_end taken written course is isnt).0.none_halts) []
-        ((before_end taken written course is isnt).0.all_written
-        ∙ sym (append-nil (printed behavior behavior.start (whole_lines taken)))))
-
-    -- the read failed, or there was no memory for it
-    pub Steps-unread : (last : Course) (left left' held : Option (List ℕ)) (stop : Status) → Keeps left left'
-        → (stop ≡ ReadFault) ⊎ (stop ≡ Memory)
-        → Steps behavior stands' shows taken written last left left' held held (Err stop)
-    Steps-unread last left left' held stop keeps cause = record {
-      more = [];
-      moved = [];
-      consumes = Consumes-kept left left left' [] (Consumes-nil left) keeps;
-      appends = Appends-nil held;
-      outcome = nothing_more stop taken written (IsAtEnd left') (unread stop (IsAtEnd left') cause);
-    }
-
     module _ (read : Course) (left left' : Option (List ℕ))
         (gets : Gets course.input read.input left left' (read.taken - course.taken))
         (counted : course.taken ≤ read.taken) (ended : read.at_end ≡ true → read.taken ≡ course.taken)
@@ -189,22 +147,6 @@ module _ {S : Type 0} (behavior : Behavior S) (shows : S → Type 0) where
       above_written moved =
           ap (λ (front : List ℕ). front ++ moved) (before_end taken written course is isnt).0.all_written
 
-      -- there was no memory to judge it
-      pub Steps-unjudged : (last : Course) (held : Option (List ℕ)) (stop : Status) → stop ≡ Memory
-          → Steps behavior stands' shows taken written last left left' held held (Err stop)
-      Steps-unjudged last held stop memory = record {
-        more = more;
-        moved = [];
-        consumes = gets.consumes;
-        appends = Appends-nil held;
-        outcome = subst (λ (s : Status). Says behavior shows s text (written ++ []) (IsAtEnd left'))
-            (sym memory)
-            (begins text (IsAtEnd left') (whole_lines taken) _ (written ++ []) []
-            (sym (lines_both taken more is.within false (λ never. absurd cc)))
-            (append-nil (written ++ []) ∙ append-nil written ∙ (before_end taken written course is isnt).0.all_written)
-            last_piece [] (above_written []));
-      }
-
       module _ (halt : Option Status) (waiting : List ℕ)
           (judges : (s : S) → stands s
           → TakesLines behavior stands' s (lines_held read) halt read.waiting.items waiting)
@@ -220,34 +162,6 @@ module _ {S : Type 0} (behavior : Behavior S) (shows : S → Type 0) where
               (lines_held read)
               halt written read.waiting.items waiting
               (waits ∙ is.nothing_waits) (judges (state_after behavior behavior.start (whole_lines taken)) before.1))
-
-          -- the write failed
-          pub Steps-unwritten : (last : Course) (held held' : Option (List ℕ)) (n : ℕ) (stop : Status)
-              → Appends held held' (take n waiting) → stop ≡ WriteFault
-              → Steps behavior stands' shows taken written last left left' held held' (Err stop)
-          Steps-unwritten last held held' n stop appends cause = record {
-            more = more;
-            moved = take n waiting;
-            consumes = gets.consumes;
-            appends = appends;
-            outcome = subst (λ (s : Status). Says behavior shows s text (written ++ take n waiting)
-                (IsAtEnd left')) (sym cause) (by read.at_end refl);
-          }
-            where
-              by : (b : Bool) → read.at_end ≡ b
-                  → BeginsOutput behavior text (written ++ take n waiting) (IsAtEnd left')
-              by true end =
-                  let there = at_the_end end in
-                  begins_at_end text (IsAtEnd left') (written ++ take n waiting) (drop n waiting) there.0 there.1
-                  (part_written written waiting n ∙ judged.prints
-                  ∙ ap (λ (b : Bool). printed behavior behavior.start (lines_counted b text)) end)
-                  last_piece (take n waiting) (above_written (take n waiting))
-              by false before =
-                  begins text (IsAtEnd left') (lines_taken text) [] (written ++ take n waiting) (drop n waiting)
-                  (sym (append-nil (lines_taken text)))
-                  (part_written written waiting n ∙ judged.prints
-                  ∙ ap (λ (b : Bool). printed behavior behavior.start (lines_counted b text)) before)
-                  last_piece (take n waiting) (above_written (take n waiting))
 
           -- a line stops the command
           halts : (h : Status) → halt ≡ Some h → Halts behavior h text (written ++ waiting) (IsAtEnd left')
@@ -311,40 +225,4 @@ module _ {S : Type 0} (behavior : Behavior S) (shows : S → Type 0) where
                   nothing_waits = nothing_waits;
                   held = λ before. held (sym same_end ∙ before) within ∙ ap partial_line read_held
                       ∙ sym (partial_line-append taken more);
-                }
-
-            pub Steps-judged : (sunk sunk' : Option (List ℕ)) (result : Result (Unit {0}) Status)
-                → Appends sunk sunk' waiting → StopsAt halt last.taken result
-                → Steps behavior stands' shows taken written last left left' sunk sunk' result
-            Steps-judged sunk sunk' result appends stops =
-                by halt refl result (subst (λ (n : ℕ). StopsAt halt n result) same_count stops)
-              where
-                by : (found : Option Status) → halt ≡ found → (r : Result (Unit {0}) Status)
-                    → StopsAt found read.taken r
-                    → Steps behavior stands' shows taken written last left left' sunk sunk' r
-                by (Some h) is_found r stopped = subst
-                    (λ (r : Result (Unit {0}) Status). Steps behavior stands' shows taken written last left left' sunk
-                    sunk'
-                    r) (sym stopped) (record {
-                      more = more;
-                      moved = waiting;
-                      consumes = gets.consumes;
-                      appends = appends;
-                      outcome = says_halt h is_found;
-                    })
-                by None is_found (Ok done) within = record {
-                  more = more;
-                  moved = waiting;
-                  consumes = gets.consumes;
-                  appends = appends;
-                  outcome = (goes_on is_found within, λ end. (at_the_end (sym same_end ∙ end)).0);
-                }
-                by None is_found (Err stop) beyond = record {
-                  more = more;
-                  moved = waiting;
-                  consumes = gets.consumes;
-                  appends = appends;
-                  outcome = subst (λ (s : Status). Says behavior shows s text (written ++ waiting)
-                      (IsAtEnd left')) (sym beyond.0)
-                      (says_beyond read.at_end refl is_found (subst (λ (n : ℕ). most_bytes < n) text_count beyond.1));
                 }

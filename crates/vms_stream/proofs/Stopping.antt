@@ -1,4 +1,4 @@
--- For other crates too: a line, or too many bytes, stop a command without a failed call.
+-- A line, or too many bytes, stop a command without a failed call.
 use Rattle.std.proofs.Common.{◌≡◌, ℕ, List, Option, Some, None, Ok, Err, Result, sym, subst}
 use Rattle.vms_stream.specs.declared.statuses.Status.{Status}
 use Rattle.vms_stream.specs.declared.statuses.Status.TheVariants.{Header, TooLong}

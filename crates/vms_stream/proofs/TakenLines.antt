@@ -1,7 +1,6 @@
--- For other crates too: how a job takes lines in two parts.
-use Rattle.std.proofs.Common.{◌≡◌, ◌≢◌, ℕ, ◌<◌, ◌==◌, Bool, true, false, List, [], ◌∷◌, ◌++◌, length, length-append}
-use Rattle.std.proofs.Common.{Option, Some, None, inl, inr, refl, sym, ap, subst, ◌∙◌, append_assoc, append-nil}
-use Rattle.std.proofs.Common.{true≢false, eqb-true, arith}
+-- How a job takes lines in two parts.
+use Rattle.std.proofs.Common.{◌≡◌, ◌≢◌, ℕ, ◌==◌, Bool, false, List, [], ◌∷◌, ◌++◌, length, Option, Some, None, sym, ap}
+use Rattle.std.proofs.Common.{subst, ◌∙◌, append_assoc, append-nil, true≢false}
 use Rattle.vms_stream.specs.declared.statuses.Status.{Status}
 use Rattle.vms_stream.specs.declared.statuses.Status.TheVariants.{Header, TooLong}
 use Rattle.vms_stream.specs.Jobs.{TakesLines}
@@ -10,25 +9,9 @@ use Rattle.vms_stream.proofs.BehaviorLaws.{state_after-append, halted-append, pr
 use Rattle.vms_text.proofs.TextLaws.{lines_of-begin}
 use Rattle.vms_text.specs.Lines.{lines_of, SplitsLine}
 
--- a list whose length isn't 0 isn't empty, and one whose length is 0 is
+-- a list whose length isn't 0 isn't empty
 pub nonempty : (xs : List ℕ) (b : Bool) → b ≡ (length xs == 0) → b ≡ false → xs ≢ []
 nonempty xs b tested isnt = λ empty. true≢false (sym (tested ∙ ap (λ (ys : List ℕ). length ys == 0) empty) ∙ isnt)
-
-pub empty : (xs : List ℕ) (b : Bool) → b ≡ (length xs == 0) → b ≡ true → xs ≡ []
-empty [] b tested is = refl
-empty (x ∷ xs) b tested is = let none : length (x ∷ xs) ≡ 0 = eqb-true (length (x ∷ xs)) 0 (sym tested ∙ is) in
-    absurd (omega arith)
-
-not_nil : (xs : List ℕ) → xs ≢ [] → 0 < length xs
-not_nil [] none = absurd (none refl)
-not_nil (x ∷ xs) none = omega arith
-
--- what stands after the first line is shorter
-pub SplitsLine-shorter : (text line rest : List ℕ) → SplitsLine text line rest → text ≢ [] → length rest < length text
-SplitsLine-shorter text line rest splits some = elim splits.parts [
-  | inl ended ↦ omega (arith, ap length ended, length-append line (10 ∷ rest))
-  | inr whole ↦ omega (arith, ap length whole.1, not_nil text some)
-]
 
 module _ {S : Type 0} (behavior : Behavior S) (stands : S → Type 0) where
   -- after one line: the job takes it, refuses it, or the line exceeds a limit
@@ -108,35 +91,3 @@ pub one_further : (all above : List (List ℕ)) (rest line after : List ℕ) →
 one_further all above rest line after parts some splits =
     parts ∙ ap (λ (lines : List (List ℕ)). above ++ lines) (lines_of-begin rest line after splits some)
     ∙ sym (append_assoc above (line ∷ []) (lines_of after))
-
-module _ {S : Type 0} (behavior : Behavior S) (stands now next : S → Type 0) (all above : List (List ℕ))
-    (rest line after first out out' : List ℕ)
-    (parts : all ≡ above ++ lines_of rest) (some : rest ≢ []) (splits : SplitsLine rest line after)
-    (took : (s : S) → stands s → TakesLines behavior now s above None first out) (halt : Option Status)
-    (goes : (s : S) → now s → TakesLines behavior next s (line ∷ []) halt out out') where
-  -- one line further, if it doesn't stop the job
-  pub takes_line : (s : S) → stands s → TakesLines behavior next s (above ++ (line ∷ [])) halt first out'
-  takes_line s here =
-      let before = took s here in
-      TakesLines-both behavior next s above (line ∷ []) (above ++ (line ∷ [])) halt first out out' (sym before.halt_of)
-      before.prints refl
-      (goes (state_after behavior s above) (before.stands_after refl))
-
-  -- a line that stops it
-  pub takes_halt : (h : Status) → halt ≡ Some h → (s : S) → stands s
-      → TakesLines behavior next s all (Some h) first out'
-  takes_halt h is s here =
-      subst (λ (lines : List (List ℕ)). TakesLines behavior next s lines (Some h) first out')
-      (sym (one_further all above rest line after parts some splits))
-      (TakesLines-stopped behavior next s (above ++ (line ∷ [])) (lines_of after) h first out'
-      (subst (λ (found : Option Status). TakesLines behavior next s (above ++ (line ∷ [])) found first out') is
-      (takes_line s here)))
-
--- at the end of the text
-pub takes_end : {S : Type 0} (behavior : Behavior S) (stands now : S → Type 0) (all above : List (List ℕ))
-    (rest first out : List ℕ) → all ≡ above ++ lines_of rest → rest ≡ []
-    → ((s : S) → stands s → TakesLines behavior now s above None first out) → (s : S) → stands s
-    → TakesLines behavior now s all None first out
-takes_end behavior stands now all above rest first out parts none took s here =
-    subst (λ (lines : List (List ℕ)). TakesLines behavior now s lines None first out)
-    (sym (parts ∙ ap (λ (bytes : List ℕ). above ++ lines_of bytes) none ∙ append-nil above)) (took s here)

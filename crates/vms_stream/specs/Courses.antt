@@ -7,9 +7,15 @@ use Rattle.vms_io.specs.declared.failures.ReadError.TheVariants as failures
 use Rattle.vms_stream.specs.declared.courses.Course.{Course}
 use Rattle.vms_stream.specs.declared.statuses.Status.{Status}
 use Rattle.vms_stream.specs.declared.statuses.Status.TheVariants.{Memory, ReadFault, TooLong}
-use Rattle.vms_stream.specs.Answers.{most_bytes, FaultsOfSource, FaultsOfSink, Says}
+use Rattle.vms_stream.specs.Answers.{most_bytes, lines_taken, FaultsOfSource, FaultsOfSink, Says}
 use Rattle.vms_stream.specs.Behaviors.{Behavior, state_after, halted, printed}
+use Rattle.vms_stream.specs.Jobs.{Grows, StandsOn, shown_on}
+use Rattle.vms_stream.specs.Leading.{Leads, LeadsToEnd}
+use Rattle.vms_stream.specs.PhasedAnswers.{SaysPhased}
+use Rattle.vms_stream.specs.PhasedBehaviors.{PhasedBehavior, with_outcomes}
+use Rattle.vms_stream.specs.PhasedBehaviors.Way.{On}
 use Rattle.vms_stream.specs.Pieces.{whole_lines, partial_line}
+use Rattle.vms_stream.specs.Ways.{IsWhole}
 use Rattle.vms_text.specs.Lines.{lines_of}
 
 -- the status of a command that a read stopped
@@ -56,25 +62,48 @@ pub record IsCourse {S : Type 0} (behavior : Behavior S) (stands : S → Type 0)
   pub nothing_waits : course.waiting.items ≡ []
   pub held : course.at_end ≡ false → course.input ≡ partial_line taken
 
--- one piece further: bytes were taken and bytes were written, and the course goes on or stops
-pub record Steps {S : Type 0} (behavior : Behavior S) (stands shows : S → Type 0) (taken written : List ℕ)
-    (course' : Course) (left left' held held' : Option (List ℕ)) (result : Result (Unit {0}) Status) : Type 0 where
+-- the same of a command whose phases have outcomes: these are the outcomes of the phases that ended
+pub record IsPhasedCourse {S O : Type 0} (phased : PhasedBehavior S O) (stands : S → Type 0) (outcomes : List O)
+    (taken written : List ℕ) (course : Course) : Type 0 where
+  pub is_course : IsCourse (with_outcomes phased outcomes) (StandsOn stands) taken written course
+  pub leads : Leads phased phased.start outcomes (lines_judged course.at_end taken)
+
+-- one piece further: bytes were taken, phases made and bytes written, and the course goes on or stops
+pub record StepsPhased {S O : Type 0} (phased : PhasedBehavior S O) (stands : S → Type 0)
+    (shows : S → Option O → Type 0) (outcomes : List O) (taken written : List ℕ) (course' : Course)
+    (made made' : Option (List O)) (left left' held held' : Option (List ℕ)) (result : Result (Unit {0}) Status)
+    : Type 0 where
+  pub further : List O
   pub more : List ℕ
   pub moved : List ℕ
+  pub grows : Grows made made' further
   pub consumes : Consumes left left' more
   pub appends : Appends held held' moved
   pub outcome : MatchResult result
-      (λ _. IsCourse behavior stands (taken ++ more) (written ++ moved) course'
+      (λ _. IsPhasedCourse phased stands (outcomes ++ further) (taken ++ more) (written ++ moved) course'
       × (course'.at_end ≡ true → IsAtEnd left'))
-      (λ status. Says behavior shows status (taken ++ more) (written ++ moved) (IsAtEnd left'))
+      (λ stop. SaysPhased phased shows (outcomes ++ further) stop (taken ++ more) (written ++ moved)
+      (IsAtEnd left'))
 
--- the end of a course
+-- the end of a course, where the last words are written or the command stops before
 pub record Finishes {S : Type 0} (behavior : Behavior S) (shows : S → Type 0) (taken written : List ℕ)
     (held held' : Option (List ℕ)) (result : Result Status Status) : Type 0 where
   pub moved : List ℕ
   pub appends : Appends held held' moved
   pub outcome : (left : Option (List ℕ)) → IsAtEnd left
       → Says behavior shows (status_in result) taken (written ++ moved) (IsAtEnd left)
+
+-- the same with the outcome of the phase that ends there, if one does
+pub record FinishesPhased {S O : Type 0} (phased : PhasedBehavior S O) (shows : S → Option O → Type 0)
+    (outcomes : List O) (taken written : List ℕ) (made made' : Option (List O)) (held held' : Option (List ℕ))
+    (result : Result Status Status) : Type 0 where
+  pub further : List O
+  pub grows : Grows made made' further
+  pub within : length taken ≤ most_bytes
+  pub leads : LeadsToEnd phased phased.start (outcomes ++ further) (lines_of taken)
+  pub whole : IsWhole phased (On phased.start (outcomes ++ further)) (lines_taken taken)
+  pub finishes : Finishes (with_outcomes phased (outcomes ++ further)) (shown_on phased shows) taken written held held'
+      result
 
 -- a command stops where a line stops it, and else where there are too many bytes
 abbrev pub StopsAt : Option Status → ℕ → Result (Unit {0}) Status → Type 0

@@ -1,5 +1,14 @@
 pub mod Pieces
 pub mod Behaviors
-pub mod Jobs
 pub mod Answers
+pub mod PhasedBehaviors
+pub mod Ways
+pub mod Leading
+pub mod Jobs
+pub mod PhasedAnswers
+pub mod Waiting
+pub mod Orders
+pub mod Laws
+pub mod Plain
+pub mod Taking
 pub mod Courses

@@ -10,14 +10,14 @@ const MOST_BYTES: usize = 1 << 26;
 
 /// A command on its way through its input.
 #[derive(Drop)]
-pub struct Course {
+pub(crate) struct Course {
     /// What was read and not judged yet.
-    pub input: ReadBuffer,
+    input: ReadBuffer,
     /// What was printed and not written yet.
-    pub waiting: Vec<u8>,
+    waiting: Vec<u8>,
     /// How many bytes were read.
-    pub taken: usize,
-    pub at_end: bool,
+    taken: usize,
+    pub(crate) at_end: bool,
 }
 
 impl Course {
@@ -26,14 +26,14 @@ impl Course {
     ghost use Rattle.std.specs.Io.KnownBytes.{Appends, Keeps};
     ghost use Rattle.vms_io.specs.Reading.{Gets};
     ghost use Rattle.vms_stream.specs.Answers.{FaultsOfSink, most_bytes};
-    ghost use Rattle.vms_stream.specs.Courses.{CountsReads, CountsWrites, Finishes, IsCourse, Steps};
+    ghost use Rattle.vms_stream.specs.Courses.{CountsReads, CountsWrites, FinishesPhased, IsPhasedCourse, StepsPhased};
     ghost use Rattle.vms_stream.specs.Courses.{lines_held, status_in};
-    ghost use Rattle.vms_stream.specs.Jobs.{TakesLines};
     ghost use Rattle.vms_stream.specs.Pieces.{partial_line};
+    ghost use Rattle.vms_stream.specs.Taking.{TakesText};
     ghost use Rattle.vms_text.specs.Lines.{lines_of};
 
     /// Before the first piece.
-    pub fn begin(alloc: Global) -> Result<Course, Memory>
+    pub(crate) fn begin(alloc: Global) -> Result<Course, Memory>
         ensures { IfOk result (λ course. (course.input ≡ []) × (course.waiting.items ≡ [])
             × (course.taken ≡ 0) × (course.at_end ≡ false)) }
     {
@@ -46,7 +46,7 @@ impl Course {
     }
 
     /// Reads once more.
-    pub fn read<S: Source>(&mut self, src: &mut S) -> Result<(), Status>
+    fn read<S: Source>(&mut self, src: &mut S) -> Result<(), Status>
         requires counted { self.old.taken ≤ most_bytes }
         requires held { length self.old.input ≤ self.old.taken }
         ensures ok { OnOk result (Gets self.old.input self.new.input (S.remaining src.old) (S.remaining src.new)
@@ -66,7 +66,7 @@ impl Course {
     }
 
     /// How many of the bytes that are held can be judged.
-    pub fn ready(&mut self) -> usize
+    fn ready(&mut self) -> usize
         requires { self.old.taken ≤ most_bytes + length self.old.input }
         ensures within { result ≤ length self.old.input }
         ensures same { self.new ≡ self.old }
@@ -85,26 +85,39 @@ impl Course {
         }
     }
 
-    /// Judges the lines of what is held.
-    fn judge<J: Job>(&mut self, job: &mut J) -> Result<Option<Status>, Memory>
+    /// Judges the lines of what is held, and writes what waits wherever it is more than 64 KiB.
+    fn judge<J: Job, K: Sink>(
+        &mut self,
+        job: &mut J,
+        engine: &mut J::Engine,
+        out: &mut K,
+    ) -> Result<Option<Status>, Status>
         requires job { (s : J.State) × J.Stands job.old s }
         requires counted { self.old.taken ≤ most_bytes + length self.old.input }
-        ensures lines { IfOk result (λ halt. (s : J.State) → J.Stands job.old s →
-            TakesLines J.behavior (J.Stands job.new) s (lines_held self.old) halt
-            self.old.waiting.items self.new.waiting.items) }
+        ensures takes { TakesText J.behavior (J.Stands job.old) (J.Stands job.new)
+            (J.made engine.old) (J.made engine.new) (lines_held self.old) result
+            self.old.waiting.items self.new.waiting.items (K.written out.old) (K.written out.new) }
         ensures held { OnOk result (self.old.at_end ≡ false → self.old.taken ≤ most_bytes →
             self.new.input ≡ partial_line self.old.input) }
         ensures same_count { self.new.taken ≡ self.old.taken }
         ensures same_end { self.new.at_end ≡ self.old.at_end }
+        ensures cause { IfErr result (λ status. (status ≡ Status.Memory) ⊎ (status ≡ Status.WriteFault)) }
+        ensures counts { CountsWrites K.written K.faults result out.old out.new }
     {
         let ready = self.ready();
-        let halt = take_lines(job, &self.input.bytes()[..ready], &mut self.waiting)?;
+        let halt = take_lines(
+            job,
+            engine,
+            &self.input.bytes()[..ready],
+            &mut self.waiting,
+            out,
+        )?;
         self.input.drop_front(ready);
         Ok(halt)
     }
 
     /// Writes what waits. Then nothing waits.
-    pub fn flush<K: Sink>(&mut self, out: &mut K) -> Result<(), Status>
+    fn flush<K: Sink>(&mut self, out: &mut K) -> Result<(), Status>
         ensures ok { OnOk result (Appends (K.written out.old) (K.written out.new) self.old.waiting.items) }
         ensures empty { OnOk result (self.new.waiting.items ≡ []) }
         ensures err { OnErr result ((n : ℕ)
@@ -124,23 +137,24 @@ impl Course {
     pub(crate) fn step<J: Job, S: Source, K: Sink>(
         &mut self,
         job: &mut J,
+        engine: &mut J::Engine,
         src: &mut S,
         out: &mut K,
     ) -> Result<(), Status>
-        requires course { (taken : List ℕ) × (written : List ℕ)
-            × IsCourse J.behavior (J.Stands job.old) taken written self.old }
+        requires course { (outcomes : List J.Outcome) × (taken : List ℕ) × (written : List ℕ)
+            × IsPhasedCourse J.behavior (J.Stands job.old) outcomes taken written self.old }
         requires before_end { self.old.at_end ≡ false }
-        ensures steps { (taken : List ℕ) (written : List ℕ) →
-            IsCourse J.behavior (J.Stands job.old) taken written self.old →
-            Steps J.behavior (J.Stands job.new) J.Shows taken written self.new
-            (S.remaining src.old) (S.remaining src.new)
+        ensures steps { (outcomes : List J.Outcome) (taken : List ℕ) (written : List ℕ) →
+            IsPhasedCourse J.behavior (J.Stands job.old) outcomes taken written self.old →
+            StepsPhased J.behavior (J.Stands job.new) J.Shows outcomes taken written self.new
+            (J.made engine.old) (J.made engine.new) (S.remaining src.old) (S.remaining src.new)
             (K.written out.old) (K.written out.new) result }
         ensures reads { CountsReads S.remaining S.faults result src.old src.new }
         ensures writes { CountsWrites K.written K.faults result out.old out.new }
         ensures nearer { OnOk result (self.new.at_end ≡ false → self.old.taken < self.new.taken) }
     {
         self.read(src)?;
-        let halt = self.judge(job)?;
+        let halt = self.judge(job, engine, out)?;
         self.flush(out)?;
         stop_at(halt, self.taken)
     }
@@ -149,18 +163,20 @@ impl Course {
     pub(crate) fn finish<J: Job, K: Sink>(
         &mut self,
         job: &mut J,
+        engine: &mut J::Engine,
         out: &mut K,
     ) -> Result<Status, Status>
-        requires course { (taken : List ℕ) × (written : List ℕ)
-            × IsCourse J.behavior (J.Stands job.old) taken written self.old }
+        requires course { (outcomes : List J.Outcome) × (taken : List ℕ) × (written : List ℕ)
+            × IsPhasedCourse J.behavior (J.Stands job.old) outcomes taken written self.old }
         requires at_end { self.old.at_end ≡ true }
-        ensures finishes { (taken : List ℕ) (written : List ℕ) →
-            IsCourse J.behavior (J.Stands job.old) taken written self.old →
-            Finishes J.behavior J.Shows taken written (K.written out.old) (K.written out.new) result }
+        ensures finishes { (outcomes : List J.Outcome) (taken : List ℕ) (written : List ℕ) →
+            IsPhasedCourse J.behavior (J.Stands job.old) outcomes taken written self.old →
+            FinishesPhased J.behavior J.Shows outcomes taken written (J.made engine.old) (J.made engine.new)
+            (K.written out.old) (K.written out.new) result }
         ensures reads { status_in result ≢ Status.ReadFault }
         ensures writes { FaultsOfSink K.written K.faults (status_in result) out.old out.new }
     {
-        let ending = job.end(&mut self.waiting)?;
+        let ending = job.end(engine, &mut self.waiting)?;
         self.flush(out)?;
         Ok(ending)
     }
@@ -193,7 +209,7 @@ fn last_line_end(bytes: &[u8]) -> usize
 }
 
 /// Stops where a line stops the command, and else where there are too many bytes.
-pub fn stop_at(halt: Option<Status>, taken: usize) -> Result<(), Status>
+fn stop_at(halt: Option<Status>, taken: usize) -> Result<(), Status>
     ensures { StopsAt halt taken result }
 {
     match halt {

@@ -1,13 +1,20 @@
-//! A command over a text that is read through a buffer, piece by piece, and whose output is written piece by piece.
+//! A command over a text that is read and whose output is written piece by piece. Its phases are made by an engine, and
+//! what it prints depends on the outcomes of the phases that end at its lines.
 #![tactic(auto)]
 
 mod courses;
 mod jobs;
+mod laws;
 mod statuses;
 mod streaming;
 mod taking;
+mod texts;
 
-pub use courses::{Course, stop_at};
 pub use jobs::Job;
+pub use laws::{
+    lines_print_in_order, longer_outcomes, outcomes_stand_in_way, plain_commands_say_plainly,
+    waits_inside,
+};
 pub use statuses::Status;
 pub use streaming::stream;
+pub use texts::OrderedTexts;

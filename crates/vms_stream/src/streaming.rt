@@ -1,25 +1,35 @@
-ghost use Rattle.std.specs.Prelude.{List, ℕ};
-ghost use Rattle.vms_stream.specs.Answers.{Answers, Says};
+ghost use Rattle.std.specs.Prelude.{◌≡◌};
 ghost use Rattle.vms_stream.specs.Courses.{status_in};
+ghost use Rattle.vms_stream.specs.PhasedAnswers.{AnswersPhased};
 
 use crate::courses::Course;
 use crate::{Job, Status};
 use std::alloc::Global;
 use vms_io::{Sink, Source};
 
-/// Hands the lines of the input to a job, one after another, and writes what it prints, a piece at a time: what the
-/// lines of a piece print is written before the next piece is read.
+/// Hands the lines of the input to a job whose phases the engine makes, one after another, and writes what it prints:
+/// wherever more than 64 KiB wait, and all that waits before the next piece is read. The engine comes back.
 pub fn stream<J: Job, S: Source, K: Sink>(
     alloc: Global,
     job: &mut J,
+    engine: J::Engine,
     src: &mut S,
     out: &mut K,
-) -> Status
+) -> (Status, J::Engine)
     requires { J.Stands job.old J.behavior.start }
-    ensures { Answers S.remaining S.faults K.written K.faults src.old src.new out.old out.new result
-        (Says J.behavior J.Shows) }
+    ensures { AnswersPhased J.behavior J.Shows (J.made engine) (J.made result.1) S.remaining S.faults K.written K.faults
+        src.old src.new out.old out.new result.0 }
 {
-    match run(alloc, job, src, out) {
+    let mut engine = engine;
+    let ended = run(alloc, job, &mut engine, src, out);
+    (status_after(ended), engine)
+}
+
+/// The status of a command that ended or stopped.
+fn status_after(ended: Result<Status, Status>) -> Status
+    ensures { result ≡ status_in ended }
+{
+    match ended {
         Ok(status) | Err(status) => status,
     }
 }
@@ -28,16 +38,17 @@ pub fn stream<J: Job, S: Source, K: Sink>(
 fn run<J: Job, S: Source, K: Sink>(
     alloc: Global,
     job: &mut J,
+    engine: &mut J::Engine,
     src: &mut S,
     out: &mut K,
 ) -> Result<Status, Status>
     requires { J.Stands job.old J.behavior.start }
-    ensures { Answers S.remaining S.faults K.written K.faults src.old src.new out.old out.new (status_in result)
-        (Says J.behavior J.Shows) }
+    ensures { AnswersPhased J.behavior J.Shows (J.made engine.old) (J.made engine.new) S.remaining S.faults K.written
+        K.faults src.old src.new out.old out.new (status_in result) }
 {
     let mut course = Course::begin(alloc)?;
     'pieces: while !course.at_end {
-        course.step(job, src, out)?;
+        course.step(job, engine, src, out)?;
     }
-    course.finish(job, out)
+    course.finish(job, engine, out)
 }

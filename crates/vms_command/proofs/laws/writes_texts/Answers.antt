@@ -1,4 +1,4 @@
-use Rattle.vms_phased.proofs.TextOrder.{output-in_order}
+use Rattle.vms_stream.proofs.TextOrder.{output-in_order}
 use Rattle.vms_command.specs.Commands.{following}
 use Rattle.vms_command.proofs.WholeText.{WritesTexts-holds}
 use Rattle.vms_command.proofs.laws.writes_texts.Goals as goal

@@ -1,62 +1,90 @@
-use Rattle.std.proofs.Common.{[], ◌∷◌, ◌++◌, Option, refl, sym, subst, append-nil}
-use Rattle.vms_stream.specs.declared.statuses.Status.{Status}
-use Rattle.vms_stream.specs.Jobs.{TakesLines}
-use Rattle.vms_stream.specs.Behaviors.{state_after}
-use Rattle.vms_stream.proofs.TakenLines.{nonempty, empty, one_further, takes_line, takes_halt, takes_end}
-use Rattle.vms_stream.proofs.TakenLines.{SplitsLine-shorter}
+-- The lines so far, one more line, and what is written meanwhile.
+use Rattle.std.proofs.Common.{◌≡◌, ℕ, List, [], ◌∷◌, ◌++◌, Some, None, refl, sym, ap, ◌∙◌}
+use Rattle.std.proofs.Common.{append_assoc}
+use Rattle.std.proofs.KnownBytes.{Appends-nil}
+use Rattle.std.proofs.lemmas.Result.{err_from_is_err_and}
+use Rattle.vms_stream.proofs.CourseEnds.{writes_after}
+use Rattle.vms_stream.proofs.TakenLines.{nonempty, one_further}
+use Rattle.vms_stream.proofs.LeadingOutcomes.{Leads-more, Leads-none}
+use Rattle.vms_stream.proofs.TakenTexts.{Grows-nil, TakesText-failed, TakesText-line, TakesText-moved, TakesText-none}
+use Rattle.vms_stream.proofs.TakenTexts.{TakesText-stopped}
+use Rattle.vms_text.specs.Lines.{lines_of}
 use Rattle.vms_stream.proofs.taking.take_lines.Goals as goal
 
 pub lines-init : goal.lines-init
 lines-init g c = record {
   above = [];
   parts = refl;
-  took = λ s stands. record {
-    halt_of = refl;
-    prints = sym (append-nil c.args.out.now.items);
-    stands_after =
-        λ _. stands;
-  };
+  took = TakesText-none g.J.Job.behavior (g.J.Job.Stands c.args.job.now)
+      (g.J.Job.made c.args.engine.now) c.args.waiting.now.items (g.K.Sink.written c.args.out.now);
+  writes = refl;
 }
 
-pub take_line-requires : goal.take_line-requires
-take_line-requires g c =
-    let there = c.lines.invariant.took c.requires.0 c.requires.1 in
-    (state_after g.J.Job.behavior c.requires.0 c.lines.invariant.above, there.stands_after refl)
+pub returns-in_err-halt-clause-takes : goal.returns-in_err-halt-clause-takes
+returns-in_err-halt-clause-takes g c =
+    let p = err_from_is_err_and c.from_residual.result c.from_residual.ensures.1 in
+    let inv = c.lines.invariant in
+    let line = c.split_line.result.0.now in
+    let after = c.split_line.result.1.now in
+    let some = nonempty c.lines.rest.now c.is_empty.result c.is_empty.ensures c.lines-test.true in
+    let lines : lines_of c.args.text.now ≡ inv.above ++ (line ∷ lines_of after)
+    = one_further _ inv.above c.lines.rest.now line after inv.parts some c.split_line.ensures
+    ∙ append_assoc inv.above (line ∷ []) (lines_of after) in
+    rw p.1 (TakesText-failed g.J.Job.behavior _ _ _ _ inv.above _ _ _ _ inv.took _ _ c.take_line.ensures.outcomes
+    (lines_of c.args.text.now) (line ∷ lines_of after) p.0 _ [] c.lines.waiting.items c.take_line.new.out.items lines
+    c.take_line.ensures.grows
+    (λ s here. Leads-more g.J.Job.behavior s c.take_line.ensures.outcomes (line ∷ []) (lines_of after)
+    (c.take_line.ensures.leads s here)) refl (Appends-nil _))
 
-pub returns-in-Some : goal.returns-in-Some
-returns-in-Some g c =
-    takes_halt g.J.Job.behavior (g.J.Job.Stands c.args.job.now) (g.J.Job.Stands c.lines.job)
-    (g.J.Job.Stands c.take_line.new.self) _ c.lines.invariant.above
-    c.lines.rest.now _ _ c.args.out.now.items c.lines.out.items c.take_line.new.out.items c.lines.invariant.parts
-    (nonempty c.lines.rest.now c.is_empty.result c.is_empty.ensures c.lines-test.true)
-    c.split_line.ensures c.lines.invariant.took _ c.in_ok-halt.ensures
-    c.in-Some.halt c.in-Some.is
+pub returns-in-Some-clause-takes : goal.returns-in-Some-clause-takes
+returns-in-Some-clause-takes g c =
+    let inv = c.lines.invariant in
+    let line = c.split_line.result.0.now in
+    let after = c.split_line.result.1.now in
+    let some = nonempty c.lines.rest.now c.is_empty.result c.is_empty.ensures c.lines-test.true in
+    TakesText-stopped g.J.Job.behavior _ _ _ _ (lines_of c.args.text.now) (inv.above ++ line ∷ [])
+    (lines_of after) c.in-Some.halt _ _ _ _
+    (one_further _ inv.above c.lines.rest.now line after inv.parts some c.split_line.ensures)
+    (TakesText-line g.J.Job.behavior _ _ _ _ inv.above _ _ _ _ inv.took _ _ line c.take_line.result
+    c.in_ok-halt.field-0 (Some c.in-Some.halt) _ c.in_ok-halt.was c.in-Some.is c.take_line.ensures)
 
-pub lines-smaller : goal.lines-smaller
-lines-smaller g c = SplitsLine-shorter c.lines.rest.now _ _ c.split_line.ensures
-    (nonempty c.lines.rest.now c.is_empty.result c.is_empty.ensures c.lines-test.true)
+pub returns-in_err-write_above-clause-takes : goal.returns-in_err-write_above-clause-takes
+returns-in_err-write_above-clause-takes g c =
+    let p = err_from_is_err_and c.from_residual-in_err-write_above.result
+    c.from_residual-in_err-write_above.ensures.1 in
+    let inv = c.lines.invariant in
+    let line = c.split_line.result.0.now in
+    let after = c.split_line.result.1.now in
+    let some = nonempty c.lines.rest.now c.is_empty.result c.is_empty.ensures c.lines-test.true in
+    let writes = c.write_above.ensures.writes in
+    rw p.1 (TakesText-failed g.J.Job.behavior _ _ _ _ (inv.above ++ line ∷ []) _ _ _ _
+    (TakesText-line g.J.Job.behavior _ _ _ _ inv.above _ _ _ _ inv.took _ _ line c.take_line.result
+    c.in_ok-halt.field-0 None _ c.in_ok-halt.was c.in_default.is c.take_line.ensures) _ _ []
+    (lines_of c.args.text.now) (lines_of after) p.0 _ writes.moved writes.rest c.write_above.new.waiting.items
+    (one_further _ inv.above c.lines.rest.now line after inv.parts some c.split_line.ensures)
+    (Grows-nil _) (λ s here. Leads-none g.J.Job.behavior s (lines_of after)) writes.parts writes.appends)
+
+pub returns-in_err-write_above-clause-counts : goal.returns-in_err-write_above-clause-counts
+returns-in_err-write_above-clause-counts g c =
+    let p = err_from_is_err_and c.from_residual-in_err-write_above.result
+    c.from_residual-in_err-write_above.ensures.1 in
+    rw (p.1, p.2) (writes_after g.K.Sink.written g.K.Sink.faults c.args.out.now c.lines.out c.write_above.new.out _
+    c.lines.invariant.writes c.in_err-write_above.ensures.counts)
 
 pub lines-preserved : goal.lines-preserved
 lines-preserved g c =
     let inv = c.lines.invariant in
+    let line = c.split_line.result.0.now in
+    let after = c.split_line.result.1.now in
     let some = nonempty c.lines.rest.now c.is_empty.result c.is_empty.ensures c.lines-test.true in
+    let writes = c.in_ok-write_above.ensures.writes in
     record {
-      above = inv.above ++ (c.split_line.result.0.now ∷ []);
-      parts = one_further _ inv.above c.lines.rest.now _ _ inv.parts some c.split_line.ensures;
-      took = λ s stands.
-          subst (λ (halt : Option Status). TakesLines g.J.Job.behavior (g.J.Job.Stands c.take_line.new.self) s
-          (inv.above ++ (c.split_line.result.0.now ∷ [])) halt
-          c.args.out.now.items c.take_line.new.out.items) c.in_default.is
-          (takes_line g.J.Job.behavior (g.J.Job.Stands c.args.job.now) (g.J.Job.Stands c.lines.job)
-          (g.J.Job.Stands c.take_line.new.self) _ inv.above
-          c.lines.rest.now _ _ c.args.out.now.items c.lines.out.items c.take_line.new.out.items inv.parts some
-          c.split_line.ensures inv.took _ c.in_ok-halt.ensures
-          s stands);
+      above = inv.above ++ line ∷ [];
+      parts = one_further _ inv.above c.lines.rest.now line after inv.parts some c.split_line.ensures;
+      took = TakesText-moved g.J.Job.behavior _ _ _ _ (inv.above ++ line ∷ []) _ _ _ _
+          (TakesText-line g.J.Job.behavior _ _ _ _ inv.above _ _ _ _ inv.took _ _ line c.take_line.result
+          c.in_ok-halt.field-0 None _ c.in_ok-halt.was c.in_default.is c.take_line.ensures) _ writes.moved
+          c.write_above.new.waiting.items
+          (writes.parts ∙ ap (λ (rest : List ℕ). writes.moved ++ rest) (sym writes.waits)) writes.appends;
+      writes = c.in_ok-write_above.ensures.counts ∙ inv.writes;
     }
-
-pub returns : goal.returns
-returns g c =
-    takes_end g.J.Job.behavior (g.J.Job.Stands c.args.job.now) (g.J.Job.Stands c.lines.job)
-    _ c.lines.invariant.above c.lines.rest.now c.args.out.now.items
-    c.lines.out.items c.lines.invariant.parts
-    (empty c.lines.rest.now c.is_empty.result c.is_empty.ensures c.lines-test.false) c.lines.invariant.took

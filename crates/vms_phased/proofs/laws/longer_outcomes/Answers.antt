@@ -1,6 +1,0 @@
--- More outcomes on the same way.
-use Rattle.vms_phased.proofs.MoreOutcomes.{GoesWithMore-all}
-use Rattle.vms_phased.proofs.laws.longer_outcomes.Goals as goal
-
-pub returns : goal.returns
-returns g c outcomes more lines = GoesWithMore-all g.J.PhasedJob.behavior outcomes more lines

@@ -1,6 +1,0 @@
--- Two behaviors that differ in their start.
-use Rattle.vms_phased.proofs.MoreOutcomes.{AgreesFrom-all}
-use Rattle.vms_phased.proofs.laws.outcomes_stand_in_way.Goals as goal
-
-pub returns : goal.returns
-returns g c outcomes others way lines = AgreesFrom-all g.J.PhasedJob.behavior outcomes others way lines

@@ -1,0 +1,192 @@
+-- The end of a course of a command whose phases have outcomes.
+use Rattle.std.proofs.Common.{◌≡◌, ◌≢◌, ℕ, Bool, true, false, List, [], ◌++◌, inl, inr, Option, Err, Result, refl, sym}
+use Rattle.std.proofs.Common.{ap}
+use Rattle.std.proofs.Common.{subst, ◌∙◌, append-nil, arith}
+use Rattle.std.specs.Io.KnownBytes.{Appends, Consumes, IsAtEnd}
+use Rattle.std.proofs.KnownBytes.{Appends-nil, Appends-trans, Consumes-nil, Consumes-trans}
+use Rattle.vms_stream.specs.declared.courses.Course.{Course}
+use Rattle.vms_stream.specs.declared.statuses.Status.{Status}
+use Rattle.vms_stream.specs.declared.statuses.Status.TheVariants.{Memory}
+use Rattle.vms_stream.specs.declared.statuses.Status.TheVariants as statuses
+use Rattle.vms_stream.specs.Answers.{FaultsOfSink, FaultsOfSource, lines_taken}
+use Rattle.vms_stream.specs.Behaviors.{halted, printed, state_after}
+use Rattle.vms_stream.specs.Courses.{Finishes, lines_judged, status_in, FinishesPhased, IsPhasedCourse, StepsPhased}
+use Rattle.vms_stream.specs.Jobs.{Closes, Grows, StandsOn, shown_on}
+use Rattle.vms_stream.specs.Pieces.{partial_line}
+use Rattle.vms_stream.proofs.CourseEnds.{none_read_fails, reads_after, writes_after}
+use Rattle.vms_stream.proofs.PieceLines.{lines_taken-within}
+use Rattle.vms_stream.proofs.StepOutcomes.{begins, no_piece}
+use Rattle.vms_stream.proofs.TwoPieces.{lines_of-parts}
+use Rattle.vms_text.specs.Lines.{lines_of}
+use Rattle.vms_stream.specs.PhasedBehaviors.{PhasedBehavior, Way, with_outcomes}
+use Rattle.vms_stream.specs.PhasedBehaviors.Way.{On, Short}
+use Rattle.vms_stream.specs.Ways.{IsWhole}
+use Rattle.vms_stream.specs.Leading.{Leads, LeadsToEnd, UsedAtEnd}
+use Rattle.vms_stream.specs.PhasedAnswers.{AnswersPhased}
+use Rattle.vms_stream.proofs.LeadingOutcomes.{Leads-none, LeadsThrough-append}
+use Rattle.vms_stream.proofs.LongerWays.{IsWhole-front, IsWhole-of, StandsOn-also, StandsWith, StandsWith-on}
+use Rattle.vms_stream.proofs.PhasedSteps.{asked_of-any, longer}
+use Rattle.vms_stream.proofs.TakenTexts.{Grows-nil, Grows-trans}
+
+module _ {S O : Type 0} (phased : PhasedBehavior S O) (shows : S → Option O → Type 0) where
+  module _ {stands : S → Type 0} (outcomes : List O) (taken written : List ℕ) (course : Course)
+      (is : IsPhasedCourse phased stands outcomes taken written course) (at_end : course.at_end ≡ true) where
+    abbrev lines_all : lines_judged course.at_end taken ≡ lines_of taken
+    lines_all = ap (λ (b : Bool). lines_judged b taken) at_end
+
+    leads_end : (further : List O) → ((s : S) → stands s → UsedAtEnd phased s further)
+        → LeadsToEnd phased phased.start (outcomes ++ further) (lines_of taken)
+    leads_end further used =
+        subst (LeadsToEnd phased phased.start (outcomes ++ further)) (append-nil (lines_of taken))
+        (LeadsThrough-append phased (UsedAtEnd phased) outcomes further [] phased.start outcomes (lines_of taken)
+        (subst (Leads phased phased.start outcomes) lines_all is.leads)
+        (ap (halted (with_outcomes phased outcomes) (On phased.start outcomes)) (sym lines_all)
+        ∙ is.is_course.none_halts)
+        (StandsOn-also stands (λ s. UsedAtEnd phased s further)
+        (state_after (with_outcomes phased outcomes) (On phased.start outcomes) (lines_of taken)) used
+        (subst (λ (lines : List (List ℕ)). StandsOn stands
+        (state_after (with_outcomes phased outcomes) (On phased.start outcomes) lines)) lines_all
+        is.is_course.stands_after)))
+
+    whole_end : (further : List O) → IsWhole phased (On phased.start (outcomes ++ further)) (lines_taken taken)
+    whole_end further =
+        let way = On phased.start (outcomes ++ further) in
+        let behavior = with_outcomes phased (outcomes ++ further) in
+        let course' = longer phased shows outcomes taken written course is further in
+        IsWhole-front phased way (lines_taken taken) (lines_of (partial_line taken ++ []))
+        (subst (IsWhole phased way)
+        (lines_all ∙ ap lines_of (sym (append-nil taken)) ∙ lines_of-parts taken []
+        ∙ ap (λ (lines : List (List ℕ)). lines ++ lines_of (partial_line taken ++ []))
+        (sym (lines_taken-within taken is.is_course.within)))
+        (IsWhole-of phased (outcomes ++ further) way (lines_judged course.at_end taken)
+        (λ none. StandsWith-on stands further (state_after behavior way (lines_judged course.at_end taken))
+        course'.stands_after)))
+
+    -- the course ends, with the outcomes of the phase that ends there
+    pub FinishesPhased-of : (further : List O) (made made' : Option (List O)) (held held' : Option (List ℕ))
+        (result : Result Status Status) → Grows made made' further
+        → ((s : S) → stands s → UsedAtEnd phased s further)
+        → Finishes (with_outcomes phased (outcomes ++ further)) (shown_on phased shows) taken written held held' result
+        → FinishesPhased phased shows outcomes taken written made made' held held' result
+    FinishesPhased-of further made made' held held' result grows used finishes = record {
+      further = further;
+      grows = grows;
+      within = is.is_course.within;
+      leads = leads_end further used;
+      whole = whole_end further;
+      finishes = finishes;
+    }
+
+  -- a job that stands with these outcomes left closes as it does with them alone
+  pub Closes-with : (stands : S → Type 0) (all further : List O) (ending : Status) (out out' : List ℕ)
+      → ((s : S) → stands s → Closes (with_outcomes phased further) (shown_on phased shows)
+      (On s further) ending out out')
+      → (way : Way S O) → StandsWith stands further way
+      → Closes (with_outcomes phased all) (shown_on phased shows) way ending out out'
+  Closes-with stands all further ending out out' goes (On s left) here =
+      subst (λ (left : List O). Closes (with_outcomes phased all) (shown_on phased shows) (On s left) ending out out')
+      (sym here.1)
+      (let closes = goes s here.0 in
+      record { ends = closes.ends; prints = closes.prints; shown = closes.shown })
+  Closes-with stands all further ending out out' goes Short here = absurd here
+
+  -- before the first piece
+  pub IsPhasedCourse-begun : (stands : S → Type 0) (course : Course) → stands phased.start → course.input ≡ []
+      → course.waiting.items ≡ [] → course.taken ≡ 0 → course.at_end ≡ false
+      → IsPhasedCourse phased stands [] [] [] course
+  IsPhasedCourse-begun stands course here nothing_held nothing_waits none_taken before =
+      let none : lines_judged course.at_end [] ≡ [] = ap (λ (b : Bool). lines_judged b []) before in
+      let behavior = with_outcomes phased [] in
+      record {
+        is_course = record {
+          counted = none_taken;
+          within = omega arith;
+          none_halts = ap (halted behavior (On phased.start [])) none;
+          stands_after = subst (λ (lines : List (List ℕ)). StandsOn stands
+              (state_after behavior (On phased.start []) lines)) (sym none) (here, refl);
+          all_written = sym (ap (printed behavior (On phased.start [])) none);
+          nothing_waits = nothing_waits;
+          held = λ _. nothing_held;
+        };
+        leads = subst (Leads phased phased.start []) (sym none) refl;
+      }
+
+  -- there was no memory to begin
+  pub AnswersPhased-unbegun : {R K : Type 0} (made : Option (List O)) (left : R → Option (List ℕ))
+      (read_faults : R → ℕ) (held : K → Option (List ℕ)) (write_faults : K → ℕ) (src : R) (out : K) (stop : Status)
+      → stop ≡ Memory
+      → AnswersPhased phased shows made made left read_faults held write_faults src src out out stop
+  AnswersPhased-unbegun made left read_faults held write_faults src out stop memory =
+      subst (λ (s : Status). AnswersPhased phased shows made made left read_faults held write_faults src src out out
+      s) (sym memory) (record {
+        outcomes = [];
+        grows = Grows-nil made;
+        answers = record {
+          taken = [];
+          written = [];
+          consumes = Consumes-nil (left src);
+          appends = Appends-nil (held out);
+          answer = record {
+            says = begins (with_outcomes phased []) (shown_on phased shows) [] (IsAtEnd
+                (left src)) [] [] [] [] refl refl
+                (no_piece (with_outcomes phased []) (shown_on phased shows) [] (omega arith) refl) [] refl;
+            leads = inl (Leads-none phased phased.start []);
+            whole = tt;
+          };
+          reads = refl;
+          writes = refl;
+        };
+      })
+
+  -- after bytes were taken and written and phases made, and no call had failed
+  module _ {R K : Type 0} (left : R → Option (List ℕ)) (read_faults : R → ℕ) (held : K → Option (List ℕ))
+      (write_faults : K → ℕ) (outcomes : List O) (taken written : List ℕ) (made made' made'' : Option (List O))
+      (src src' src'' : R) (out out' out'' : K) (grows : Grows made made' outcomes)
+      (consumes : Consumes (left src) (left src') taken) (appends : Appends (held out) (held out') written)
+      (none_read : read_faults src' ≡ read_faults src) (none_wrote : write_faults out' ≡ write_faults out) where
+    pub AnswersPhased-stopped : (stands : S → Type 0) (course : Course) (stop : Status)
+        → StepsPhased phased stands shows outcomes taken written course made' made'' (left src') (left src'')
+        (held out')
+        (held out'') (Err stop)
+        → FaultsOfSource left read_faults stop src' src''
+        → FaultsOfSink held write_faults stop out' out''
+        → AnswersPhased phased shows made made'' left read_faults held write_faults src src'' out out'' stop
+    AnswersPhased-stopped stands course stop steps reads writes = record {
+      outcomes = outcomes ++ steps.further;
+      grows = Grows-trans made made' made'' outcomes steps.further grows steps.grows;
+      answers = record {
+        taken = taken ++ steps.more;
+        written = written ++ steps.moved;
+        consumes = Consumes-trans (left src) (left src') (left src'') taken steps.more consumes steps.consumes;
+        appends = Appends-trans (held out) (held out') (held out'') written steps.moved appends steps.appends;
+        answer = steps.outcome;
+        reads = reads_after left read_faults src src' src'' stop none_read reads;
+        writes = writes_after held write_faults out out' out'' stop none_wrote writes;
+      };
+    }
+
+    pub AnswersPhased-ended : (result : Result Status Status) → IsAtEnd (left src')
+        → FinishesPhased phased shows outcomes taken written made' made'' (held out') (held out'') result
+        → status_in result ≢ statuses.ReadFault
+        → FaultsOfSink held write_faults (status_in result) out' out''
+        → AnswersPhased phased shows made made'' left read_faults held write_faults src src' out out''
+        (status_in result)
+    AnswersPhased-ended result ended ends reads writes = record {
+      outcomes = outcomes ++ ends.further;
+      grows = Grows-trans made made' made'' outcomes ends.further grows ends.grows;
+      answers = record {
+        taken = taken;
+        written = written ++ ends.finishes.moved;
+        consumes = consumes;
+        appends = Appends-trans (held out) (held out') (held out'') written ends.finishes.moved appends
+            ends.finishes.appends;
+        answer = record {
+          says = ends.finishes.outcome (left src') ended;
+          leads = inr (ended, ends.within, ends.leads);
+          whole = asked_of-any (status_in result)
+              (IsWhole phased (On phased.start (outcomes ++ ends.further)) (lines_taken taken)) ends.whole;
+        };
+        reads = none_read_fails left read_faults src src' (status_in result) reads none_read;
+        writes = writes_after held write_faults out out' out'' (status_in result) none_wrote writes;
+      };
+    }

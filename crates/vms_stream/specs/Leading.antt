@@ -1,0 +1,40 @@
+-- Which outcomes lead through the lines of an input.
+use Rattle.std.specs.Prelude.{◌≡◌, ℕ, Bool, true, false, List, [], ◌∷◌, Option, Some, None}
+use Rattle.vms_stream.specs.declared.statuses.Status.{Status}
+use Rattle.vms_stream.specs.PhasedBehaviors.{PhasedBehavior}
+
+-- the outcomes that are left lead on where a phase ends, or none does: the next one is allowed. Where none is left the
+-- phase wasn't made, and nothing more is asked
+abbrev pub leads_on : {O : Type 0} → Bool → List O → (O → Type 0) → (Option O → List O → Type 0) → Type 0
+leads_on false outcomes allows later = later None outcomes
+leads_on true [] allows later = Unit {0}
+leads_on true (outcome ∷ left) allows later = allows outcome × later (Some outcome) left
+
+-- no phase is made after a line that stops the command
+abbrev pub none_after : {O : Type 0} → Option Status → List O → Type 0 → Type 0
+none_after None left later = later
+none_after (Some halt) left later = left ≡ []
+
+-- outcomes lead through these lines, and what is left of them after the last line is as asked
+abbrev pub LeadsThrough : {S O : Type 0} → PhasedBehavior S O → (S → List O → Type 0) → S → List O → List (List ℕ)
+    → Type 0
+LeadsThrough phased asked s outcomes [] = asked s outcomes
+LeadsThrough phased asked s outcomes (line ∷ lines) =
+    leads_on (phased.ends_phase s line) outcomes (phased.Allows s line)
+    (λ given left. none_after (phased.halts s line given) left
+    (LeadsThrough phased asked (phased.next s line given) left lines))
+
+-- the outcomes are those of the first phases that end at these lines, as many as there are outcomes
+abbrev pub AllUsed : {S O : Type 0} → S → List O → Type 0
+AllUsed s left = left ≡ []
+
+abbrev pub Leads : {S O : Type 0} → PhasedBehavior S O → S → List O → List (List ℕ) → Type 0
+Leads phased = LeadsThrough phased AllUsed
+
+-- the same where these lines are all of an input, at whose end a phase may end too
+abbrev pub UsedAtEnd : {S O : Type 0} → PhasedBehavior S O → S → List O → Type 0
+UsedAtEnd phased s outcomes =
+    leads_on (phased.ends_last s) outcomes (phased.AllowsLast s) (λ given left. left ≡ [])
+
+abbrev pub LeadsToEnd : {S O : Type 0} → PhasedBehavior S O → S → List O → List (List ℕ) → Type 0
+LeadsToEnd phased = LeadsThrough phased (UsedAtEnd phased)

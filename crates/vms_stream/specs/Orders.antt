@@ -1,0 +1,45 @@
+-- The texts of lines in the order of the lines.
+use Rattle.std.specs.Prelude.{◌≡◌, ℕ, true, false, List, [], ◌∷◌, Option, None}
+use Rattle.vms_stream.specs.Behaviors.{printed_from}
+use Rattle.vms_stream.specs.declared.statuses.Status.{Status}
+use Rattle.vms_stream.specs.PhasedBehaviors.{Supply, supply}
+use Rattle.vms_stream.specs.PhasedBehaviors.Supply.{Gives, Lacks}
+use Rattle.vms_stream.specs.Waiting.{LineTexts, Text, IsAsking, ends_at}
+use Rattle.vms_stream.specs.Waiting.Text.{Plain, Asks}
+
+-- a text, and what comes after it. A text asks for the first outcome that is left. Where none is left nothing is
+-- printed any more, as where a phase lacks its outcome
+abbrev pub text_then : {O : Type 0} → Text O → List O → Supply O → Option Status
+    → (Option O → List O → List ℕ) → List ℕ
+text_then text outcomes Lacks halt later = []
+text_then (Plain bytes) outcomes (Gives given left) halt later = printed_from halt bytes (later given left)
+text_then (Asks text) [] (Gives given left) halt later = []
+text_then (Asks text) (outcome ∷ others) (Gives given left) halt later =
+    printed_from halt (text outcome) (later given left)
+
+-- the texts of these lines one after another, each by the outcome of its phase, and what comes after the last line
+abbrev pub texts_in_order : {S O : Type 0} → LineTexts S O → (S → List O → List ℕ) → S → List O → List (List ℕ)
+    → List ℕ
+texts_in_order texts after s outcomes [] = after s outcomes
+texts_in_order texts after s outcomes (line ∷ lines) =
+    text_then (texts.text s line) outcomes (supply (ends_at texts s line) outcomes) (texts.halts s line)
+    (λ given left. texts_in_order texts after (texts.next s line given) left lines)
+
+-- nothing comes after the last line
+abbrev pub lines_in_order : {S O : Type 0} → LineTexts S O → List O → List (List ℕ) → List ℕ
+lines_in_order texts = texts_in_order texts (λ s left. []) texts.start
+
+-- the text at the end of the input comes after the last line
+abbrev pub last_in_order : {S O : Type 0} → LineTexts S O → S → List O → List ℕ
+last_in_order texts s outcomes =
+    text_then (texts.last s) outcomes (supply (texts.ends_last s) outcomes) None (λ given left. [])
+
+abbrev pub input_in_order : {S O : Type 0} → LineTexts S O → List O → List (List ℕ) → List ℕ
+input_in_order texts = texts_in_order texts (last_in_order texts) texts.start
+
+-- lines ask only inside a phase: this holds after a line that asks, and goes on to hold up to the end of the phase
+pub record AsksInside {S O : Type 0} (texts : LineTexts S O) (inside : S → Type 0) : Type 0 where
+  pub opens : (s : S) (line : List ℕ) → IsAsking (texts.text s line) → ends_at texts s line ≡ false →
+      inside (texts.next s line None)
+  pub stays : (s : S) (line : List ℕ) → inside s → ends_at texts s line ≡ false → inside (texts.next s line None)
+  pub closes : (s : S) → inside s → texts.ends_last s ≡ true
