@@ -58,7 +58,7 @@ module _ {S : Type 0} (behavior : Behavior S) (shows : S → Type 0) where
         at_end is.all_written
 
     abbrev last_piece : IsLastPiece behavior taken
-    last_piece = no_piece behavior shows taken is.within
+    last_piece = no_piece behavior taken is.within
         (halted-first behavior behavior.start (whole_lines taken) (lines_of (partial_line taken ++ []))
         (ap (halted behavior behavior.start) (sym (ap lines_of (sym (append-nil taken)) ∙ lines_of-parts taken []))
         ∙ none_halts))
@@ -79,7 +79,7 @@ module _ {S : Type 0} (behavior : Behavior S) (shows : S → Type 0) where
       appends = Appends-nil sunk;
       outcome = λ left ended. subst (λ (s : Status). Says behavior shows s taken (written ++ [])
           (IsAtEnd left)) (sym memory)
-          (begins_at_end behavior shows taken (IsAtEnd left) (written ++ []) [] ended is.within
+          (begins_at_end behavior taken (IsAtEnd left) (written ++ []) [] ended is.within
           (append-nil (written ++ []) ∙ append-nil written ∙ all_written) last_piece above.0
           (append-nil written ∙ above.1));
     }

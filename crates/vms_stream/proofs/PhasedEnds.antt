@@ -1,7 +1,6 @@
 -- The end of a course of a command whose phases have outcomes.
 use Rattle.std.proofs.Common.{◌≡◌, ◌≢◌, ℕ, Bool, true, false, List, [], ◌++◌, inl, inr, Option, Err, Result, refl, sym}
-use Rattle.std.proofs.Common.{ap}
-use Rattle.std.proofs.Common.{subst, ◌∙◌, append-nil, arith}
+use Rattle.std.proofs.Common.{ap, subst, ◌∙◌, append-nil, arith}
 use Rattle.std.specs.Io.KnownBytes.{Appends, Consumes, IsAtEnd}
 use Rattle.std.proofs.KnownBytes.{Appends-nil, Appends-trans, Consumes-nil, Consumes-trans}
 use Rattle.vms_stream.specs.declared.courses.Course.{Course}
@@ -127,9 +126,8 @@ module _ {S O : Type 0} (phased : PhasedBehavior S O) (shows : S → Option O �
           consumes = Consumes-nil (left src);
           appends = Appends-nil (held out);
           answer = record {
-            says = begins (with_outcomes phased []) (shown_on phased shows) [] (IsAtEnd
-                (left src)) [] [] [] [] refl refl
-                (no_piece (with_outcomes phased []) (shown_on phased shows) [] (omega arith) refl) [] refl;
+            says = begins (with_outcomes phased []) [] (IsAtEnd (left src)) [] [] [] [] refl refl
+                (no_piece (with_outcomes phased []) [] (omega arith) refl) [] refl;
             leads = inl (Leads-none phased phased.start []);
             whole = tt;
           };

@@ -1,8 +1,7 @@
 -- What stands where a command whose phases have outcomes stops, and where it goes on.
 use Rattle.std.proofs.Common.{◌≡◌, ℕ, ◌-◌, ◌≤◌, ◌<◌, ◌⊎◌, Bool, true, false, List, [], ◌++◌, length, take, drop}
 use Rattle.std.proofs.Common.{take-append-drop, inl, inr, Option, Some, None, Ok, Err, Result, refl, sym, ap, subst}
-use Rattle.std.proofs.Common.{◌∙◌}
-use Rattle.std.proofs.Common.{append_assoc, append-nil, arith, length-append}
+use Rattle.std.proofs.Common.{◌∙◌, append_assoc, append-nil, arith, length-append}
 use Rattle.std.specs.Io.KnownBytes.{Appends, IsAtEnd, Keeps}
 use Rattle.std.proofs.KnownBytes.{Appends-nil, Consumes-nil, Consumes-kept}
 use Rattle.vms_io.specs.Reading.{Gets}
@@ -70,8 +69,7 @@ module _ {S O : Type 0} (phased : PhasedBehavior S O) (shows : S → Option O �
 
       whole_now : IsWhole phased (On phased.start outcomes) (lines_taken taken)
       whole_now =
-          let now = before_end (with_outcomes phased outcomes) (shown_on phased shows) taken written course is.is_course
-          isnt in
+          let now = before_end (with_outcomes phased outcomes) taken written course is.is_course isnt in
           subst (IsWhole phased (On phased.start outcomes)) (sym same_taken)
           (IsWhole-of phased outcomes (On phased.start outcomes) (whole_lines taken)
           (λ none. StandsOn-on stands
@@ -81,18 +79,17 @@ module _ {S O : Type 0} (phased : PhasedBehavior S O) (shows : S → Option O �
           → SaysPhased phased shows outcomes stop taken written at_end
       says_unread stop at_end (inl fault) =
           subst (λ (s : Status). SaysPhased phased shows outcomes s taken written at_end) (sym fault) (record {
-            says = (before_end (with_outcomes phased outcomes) (shown_on phased shows) taken written course is.is_course
-                isnt).0;
+            says = (before_end (with_outcomes phased outcomes) taken written course is.is_course isnt).0;
             leads = inl (subst (Leads phased phased.start outcomes) (sym same_taken) leads_now);
             whole = whole_now;
           })
       says_unread stop at_end (inr memory) =
           let behavior = with_outcomes phased outcomes in
-          let now = before_end behavior (shown_on phased shows) taken written course is.is_course isnt in
+          let now = before_end behavior taken written course is.is_course isnt in
           subst (λ (s : Status). SaysPhased phased shows outcomes s taken written at_end) (sym memory) (record {
-            says = begins behavior (shown_on phased shows) taken at_end (whole_lines taken) [] written []
+            says = begins behavior taken at_end (whole_lines taken) [] written []
                 (same_taken ∙ sym (append-nil (whole_lines taken))) (append-nil written ∙ now.0.all_written)
-                (no_piece behavior (shown_on phased shows) taken is.is_course.within now.0.none_halts) []
+                (no_piece behavior taken is.is_course.within now.0.none_halts) []
                 (now.0.all_written ∙ sym (append-nil (printed behavior (On phased.start outcomes)
                 (whole_lines taken))));
             leads = inl (subst (Leads phased phased.start outcomes) (sym same_taken) leads_now);
@@ -141,21 +138,18 @@ module _ {S O : Type 0} (phased : PhasedBehavior S O) (shows : S → Option O �
         text = taken ++ gets.taken
 
         lines_same_all : whole_lines taken ++ lines_held read ≡ lines_counted read.at_end text
-        lines_same_all = lines_all behavior shown (StandsOn stands') taken written course
-            (longer further) isnt read left
-            left' gets counted ended waits
+        lines_same_all = lines_all behavior taken written course (longer further) isnt read left left' gets counted
+            ended waits
 
         there : read.at_end ≡ true → IsAtEnd left' × (length text ≤ most_bytes)
-        there = at_the_end behavior shown (StandsOn stands') taken written course (longer further) isnt read left left'
-            gets counted ended waits
+        there = at_the_end behavior taken written course (longer further) isnt read left left' gets counted ended waits
 
         abbrev piece : IsLastPiece behavior text
-        piece = last_piece behavior shown (StandsOn stands') taken written course (longer further) isnt read left left'
-            gets counted ended waits
+        piece = last_piece behavior taken written course (longer further) isnt read left left' gets counted ended waits
 
         leads_all : Leads phased phased.start (outcomes ++ further) (lines_counted read.at_end text)
         leads_all =
-            let now = before_end (with_outcomes phased outcomes) shown taken written course is.is_course isnt in
+            let now = before_end (with_outcomes phased outcomes) taken written course is.is_course isnt in
             subst (Leads phased phased.start (outcomes ++ further)) lines_same_all
             (LeadsThrough-append phased AllUsed outcomes further (lines_held read) phased.start outcomes
             (whole_lines taken) leads_now now.0.none_halts
@@ -182,18 +176,18 @@ module _ {S O : Type 0} (phased : PhasedBehavior S O) (shows : S → Option O �
             by : (b : Bool) → read.at_end ≡ b → BeginsOutput behavior text (written ++ moved) (IsAtEnd left')
             by true end =
                 let at = there end in
-                begins_at_end behavior shown text (IsAtEnd left') (written ++ moved) unwritten at.0 at.1
+                begins_at_end behavior text (IsAtEnd left') (written ++ moved) unwritten at.0 at.1
                 (prints ∙ ap (λ (b : Bool). printed behavior (On phased.start (outcomes ++ further))
                 (lines_counted b text)) end) piece moved
-                (above_written behavior shown (StandsOn stands') taken written course (longer further) isnt read left
-                left' gets counted ended waits moved)
+                (above_written behavior taken written course (longer further) isnt read left left' gets counted ended
+                waits moved)
             by false before =
-                begins behavior shown text (IsAtEnd left') (lines_taken text) [] (written ++ moved) unwritten
+                begins behavior text (IsAtEnd left') (lines_taken text) [] (written ++ moved) unwritten
                 (sym (append-nil (lines_taken text)))
                 (prints ∙ ap (λ (b : Bool). printed behavior (On phased.start (outcomes ++ further))
                 (lines_counted b text)) before) piece moved
-                (above_written behavior shown (StandsOn stands') taken written course (longer further) isnt read left
-                left' gets counted ended waits moved)
+                (above_written behavior taken written course (longer further) isnt read left left' gets counted ended
+                waits moved)
 
         says_begun : (stop : Status) (moved unwritten : List ℕ) → (stop ≡ Memory) ⊎ (stop ≡ WriteFault)
             → (written ++ moved) ++ unwritten
@@ -217,7 +211,7 @@ module _ {S O : Type 0} (phased : PhasedBehavior S O) (shows : S → Option O �
             ≡ moved ++ unwritten))
             → StepsPhased phased stands' shows outcomes taken written last made made' left left' held held' (Err stop)
         StepsPhased-failed last made made' held held' stop moved cause grows appends fails =
-            let now = before_end behavior shown taken written course (longer further) isnt in
+            let now = before_end behavior taken written course (longer further) isnt in
             let start = On phased.start (outcomes ++ further) in
             let way = state_after behavior start (whole_lines taken) in
             let front = by way now.1 in
@@ -263,9 +257,8 @@ module _ {S O : Type 0} (phased : PhasedBehavior S O) (shows : S → Option O �
 
           all_judged : TakesLines behavior (StandsOn stands') (On phased.start (outcomes ++ further))
               (lines_counted read.at_end text) halt [] (written ++ total)
-          all_judged = judged behavior shown (StandsOn stands') taken written course
-              (longer further) isnt read left left'
-              gets counted ended waits halt total judges
+          all_judged = judged behavior taken written course (longer further) isnt read left left' gets counted ended
+              waits (StandsOn stands') halt total judges
 
           -- the write failed
           pub StepsPhased-unwritten : (last : Course) (made made' : Option (List O)) (held held' : Option (List ℕ))
@@ -333,8 +326,8 @@ module _ {S O : Type 0} (phased : PhasedBehavior S O) (shows : S → Option O �
                     consumes = gets.consumes;
                     appends = appends;
                     outcome = record {
-                      says = says_halt behavior shown (StandsOn stands') taken written course (longer further) isnt read
-                          left left' gets counted ended waits halt total judges h is_found;
+                      says = says_halt behavior taken written course (longer further) isnt read left left' gets counted
+                          ended waits (StandsOn stands') halt total judges shown h is_found;
                       leads = leads_taken;
                       whole = asked_of-any h
                           (IsWhole phased (On phased.start (outcomes ++ further)) (lines_taken text)) whole_all;
@@ -349,10 +342,8 @@ module _ {S O : Type 0} (phased : PhasedBehavior S O) (shows : S → Option O �
                 appends = appends;
                 outcome = (
                   record {
-                    is_course = goes_on behavior shown (StandsOn stands') taken written course
-                        (longer further) isnt read
-                        left left' gets counted ended waits halt total judges last same_count same_end nothing_waits
-                        held
+                    is_course = goes_on behavior taken written course (longer further) isnt read left left' gets counted
+                        ended waits (StandsOn stands') halt total judges last same_count same_end nothing_waits held
                         is_found within;
                     leads = subst (Leads phased phased.start (outcomes ++ further))
                         (lines_counted-within read.at_end text (subst (λ (n : ℕ). n ≤ most_bytes) text_count within)
@@ -370,9 +361,8 @@ module _ {S O : Type 0} (phased : PhasedBehavior S O) (shows : S → Option O �
                 appends = appends;
                 outcome = subst (λ (s : Status). SaysPhased phased shows (outcomes ++ further) s text
                     (written ++ total) (IsAtEnd left')) (sym beyond.0) (record {
-                      says = says_beyond behavior shown (StandsOn stands') taken written course
-                          (longer further) isnt read
-                          left left' gets counted ended waits halt total judges read.at_end refl is_found
+                      says = says_beyond behavior taken written course (longer further) isnt read left left' gets counted
+                          ended waits (StandsOn stands') halt total judges shown read.at_end refl is_found
                           (subst (λ (n : ℕ). most_bytes < n) text_count beyond.1);
                       leads = leads_taken;
                       whole = whole_all;

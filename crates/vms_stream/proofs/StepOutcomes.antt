@@ -18,7 +18,7 @@ use Rattle.vms_stream.proofs.TwoPieces.{partial_line-append}
 use Rattle.vms_stream.proofs.TakenLines.{TakesLines-after, TakesLines-both}
 use Rattle.vms_text.specs.Lines.{lines_of}
 
-module _ {S : Type 0} (behavior : Behavior S) (shows : S → Type 0) where
+module _ {S : Type 0} (behavior : Behavior S) where
   -- what the first of the whole lines print, or a part of it, begins what all of them print
   pub begins : (text : List ℕ) (at_end : Type 0) (lines others : List (List ℕ)) (written unwritten : List ℕ)
       → lines_taken text ≡ lines ++ others
@@ -88,7 +88,7 @@ module _ {S : Type 0} (behavior : Behavior S) (shows : S → Type 0) where
     subst (λ (b : Bool). stands (state_after behavior behavior.start (lines_judged b taken))) isnt is.stands_after,
   )
 
-  module _ {stands : S → Type 0} (stands' : S → Type 0) (taken written : List ℕ) (course : Course)
+  module _ {stands : S → Type 0} (taken written : List ℕ) (course : Course)
       (is : IsCourse behavior stands taken written course) (isnt : course.at_end ≡ false) where
     module _ (read : Course) (left left' : Option (List ℕ))
         (gets : Gets course.input read.input left left' (read.taken - course.taken))
@@ -147,7 +147,7 @@ module _ {S : Type 0} (behavior : Behavior S) (shows : S → Type 0) where
       above_written moved =
           ap (λ (front : List ℕ). front ++ moved) (before_end taken written course is isnt).0.all_written
 
-      module _ (halt : Option Status) (waiting : List ℕ)
+      module _ (stands' : S → Type 0) (halt : Option Status) (waiting : List ℕ)
           (judges : (s : S) → stands s
           → TakesLines behavior stands' s (lines_held read) halt read.waiting.items waiting)
         where
@@ -177,9 +177,9 @@ module _ {S : Type 0} (behavior : Behavior S) (shows : S → Type 0) where
               counts true end = let there = at_the_end end in inr (there.0, there.1, refl)
               counts false before = inl refl
 
-          pub says_halt : (h : Status) → halt ≡ Some h
+          pub says_halt : (shows : S → Type 0) (h : Status) → halt ≡ Some h
               → Says behavior shows h text (written ++ waiting) (IsAtEnd left')
-          says_halt h stopped = by h (subst MayHalt (halts h stopped).halt_is
+          says_halt shows h stopped = by h (subst MayHalt (halts h stopped).halt_is
               (MayHalt-halted behavior behavior.start (halts h stopped).lines)) (halts h stopped)
             where
               by : (h : Status) → MayHalt (Some h) → Halts behavior h text (written ++ waiting) (IsAtEnd left')
@@ -189,10 +189,10 @@ module _ {S : Type 0} (behavior : Behavior S) (shows : S → Type 0) where
               by _ may stops = absurd may
 
           -- there are too many bytes
-          pub says_beyond : (b : Bool) → read.at_end ≡ b → halt ≡ None → most_bytes < length text
+          pub says_beyond : (shows : S → Type 0) (b : Bool) → read.at_end ≡ b → halt ≡ None → most_bytes < length text
               → Says behavior shows TooLong text (written ++ waiting) (IsAtEnd left')
-          says_beyond true end none beyond = absurd (omega (arith, beyond, (at_the_end end).1))
-          says_beyond false before none beyond =
+          says_beyond shows true end none beyond = absurd (omega (arith, beyond, (at_the_end end).1))
+          says_beyond shows false before none beyond =
               let same : lines_counted read.at_end text ≡ lines_taken text =
               ap (λ (b : Bool). lines_counted b text) before in
               inr (record {

@@ -1,7 +1,6 @@
 -- For other crates too: a job that takes the lines of a text one after another.
 use Rattle.std.proofs.Common.{◌≡◌, ℕ, List, [], ◌∷◌, ◌++◌, Option, Some, None, Ok, Err, Result, refl, sym, ap, subst}
-use Rattle.std.proofs.Common.{◌∙◌}
-use Rattle.std.proofs.Common.{append_assoc, append-nil}
+use Rattle.std.proofs.Common.{◌∙◌, append_assoc, append-nil}
 use Rattle.std.specs.Io.KnownBytes.{Appends}
 use Rattle.std.proofs.KnownBytes.{Appends-nil, Appends-trans}
 use Rattle.vms_stream.specs.declared.statuses.Status.{Status}
