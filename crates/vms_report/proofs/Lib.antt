@@ -1,2 +1,4 @@
 pub mod Sums
+pub mod Entries
+pub mod ItemNames
 pub mod SameReports

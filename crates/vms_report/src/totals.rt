@@ -1,93 +1,129 @@
-ghost use Rattle.std.specs.Prelude.{◌≡◌, ◌≤◌, ◌≤ℤ◌, ◌+ℤ◌, pos, unsigned_abs};
-ghost use Rattle.vms_base.specs.Places.{IsCounter, IsCpu};
-ghost use Rattle.vms_base.specs.Thresholds.{most_threshold};
-ghost use Rattle.vms_core.specs.Bases.{IsOpening};
-ghost use Rattle.vms_core.specs.Cells.{diff_at, value_at};
-ghost use Rattle.vms_core.specs.Totals.{differentials};
-ghost use Rattle.vms_event_core.specs.Bases.{most_in_base};
-ghost use Rattle.vms_event_core.specs.Words.{HasShape, IsEvent, word_at, words_of};
-ghost use Rattle.vms_pcpu_core.specs.Bases.{most_batch};
-ghost use Rattle.vms_pcpu_core.specs.States.{count_at, local_at};
-ghost use Rattle.vms_pcpu_core.specs.Totals.{locals};
-ghost use Rattle.vms_report.specs.Rooms.{HasRoom};
+ghost use Rattle.std.specs.Prelude.{◌≡◌, ◌∷◌, [], ◌++◌, ◌≤◌, flat_map, length, map, OnOk};
+ghost use Rattle.std.specs.Fmt.{signed_decimal};
+ghost use Rattle.std.specs.List.{enumerate_from, range_with_len};
+ghost use Rattle.vms_base.specs.Places.{IsPlace, place_count};
+ghost use Rattle.vms_report.specs.Items.{items_at};
+ghost use Rattle.vms_report.specs.Reports.{report_of};
+ghost use Rattle.vms_report.specs.Totals.{event_total as event_total_of, event_totals, page_total as page_total_of};
+ghost use Rattle.vms_report.specs.Totals.{pcpu_total, pcpu_totals, place_totals};
+ghost use Rattle.vms_text.specs.declared.acts.ReportKind.TheVariants.{Totals};
+ghost use Rattle.vms_text.specs.Spelling.{sentence};
+ghost use Rattle.vms_world.specs.Worlds.{IsWorldOf};
 
-use vms_base::{CounterId, CpuId, EventId, Layout};
-use vms_core::State;
-use vms_event_core::EventState;
-use vms_pcpu_core::PcpuState;
+use crate::all_cpus::{counter_total, event_total, page_total};
+use crate::items::names_of;
+use vms_base::{EventId, Header, Memory, PlaceId, event_names};
+use vms_text::{Word, is_node, words_of_place, write_words};
+use vms_world::World;
 
-/// How many events are counted.
-pub(crate) const EVENTS: u32 = 8;
-
-/// The global value of a counter and the differentials of all CPUs, in pages.
-pub(crate) fn page_total(pages: &State, layout: &Layout, counter: CounterId) -> i64
-    requires opening { IsOpening layout.now pages.now }
-    requires counter { IsCounter layout.now counter.number }
-    ensures { result ≡ value_at pages.now counter.number +ℤ differentials layout.now pages.now counter.number }
+/// Appends the report of the totals of a world: what each page counter, each event and each percpu counter adds up to
+/// over all CPUs, also those that are dead or absent. Pages are counted in 4096 bytes, and no total is clamped. After a
+/// failure `out` may end in a part of the report.
+pub fn write_totals(out: &mut Vec<u8>, header: &Header, world: &World) -> Result<(), Memory>
+    requires { IsWorldOf header.now world.now }
+    ensures { OnOk result (out.new.items ≡ out.old.items ++ report_of header.now world.now Totals) }
 {
-    let mut total = pages.value_at(counter);
-    for number in 0..layout.cpus() {
-        total += differential(pages, layout, CpuId { number }, counter);
+    let (items, counters) = (
+        header.layout.counters() as usize,
+        header.counters.len().min(16),
+    );
+    // A line has at most 56 bytes.
+    out.reserve(56 * (items + 8 + counters))?;
+    write_places(out, header, world)?;
+    write_events(out, header, world)?;
+    write_percpu(out, header, world)
+}
+
+fn write_places(out: &mut Vec<u8>, header: &Header, world: &World) -> Result<(), Memory>
+    requires { IsWorldOf header.now world.now }
+    ensures { OnOk result (out.new.items ≡ out.old.items ++ flat_map sentence (flat_map
+        (place_totals header.now (page_total_of header.now world.now))
+        (range_with_len 0 (place_count header.now.layout)))) }
+{
+    for number in 0..header.layout.places() {
+        write_place(out, header, world, PlaceId { number })?;
     }
-    total
+    Ok(())
 }
 
-#[inline]
-fn differential(pages: &State, layout: &Layout, cpu: CpuId, counter: CounterId) -> i64
-    requires opening { IsOpening layout.now pages.now }
-    requires cpu { IsCpu layout.now cpu.number }
-    requires counter { IsCounter layout.now counter.number }
-    ensures value { result ≡ diff_at pages.now cpu.number counter.number }
-    ensures bound { unsigned_abs result ≤ most_threshold }
+/// Appends the line of each item of a place.
+fn write_place(
+    out: &mut Vec<u8>,
+    header: &Header,
+    world: &World,
+    place: PlaceId,
+) -> Result<(), Memory>
+    requires world { IsWorldOf header.now world.now }
+    requires place { IsPlace header.now.layout place.number }
+    ensures { OnOk result (out.new.items ≡ out.old.items
+        ++ flat_map sentence (place_totals header.now (page_total_of header.now world.now) place.number)) }
 {
-    pages.diff_at(layout, cpu, counter)
+    let names = names_of(header, is_node(&header.layout, place));
+    write_items(out, header, world, place, names.as_slice())
 }
 
-/// What all CPUs have counted of an event.
-pub(crate) fn event_total(events: &EventState, layout: &Layout, event: EventId) -> i64
-    requires shaped { HasShape layout.now events.now }
-    requires event { IsEvent event.number }
-    requires most { words_of layout.now events.now event.number ≤ℤ pos most_in_base }
-    ensures { result ≡ words_of layout.now events.now event.number }
+fn write_items<'a>(
+    out: &mut Vec<u8>,
+    header: &'a Header,
+    world: &World,
+    place: PlaceId,
+    names: &[&'a [u8]],
+) -> Result<(), Memory>
+    requires world { IsWorldOf header.now world.now }
+    requires place { IsPlace header.now.layout place.number }
+    requires names { enumerate_from 0 (map (λ name. name.now) names.now) ≡ items_at header.now place.number }
+    requires most { length names.now ≤ header.now.layout.positions }
+    ensures { OnOk result (out.new.items ≡ out.old.items
+        ++ flat_map sentence (place_totals header.now (page_total_of header.now world.now) place.number)) }
 {
-    let mut total = 0;
-    for number in 0..layout.cpus() {
-        total += word(events, layout, CpuId { number }, event);
+    let (node, kind) = words_of_place(header, place);
+    for (position, name) in names.iter().enumerate() {
+        let counter = header.layout.counter(place, position as u32);
+        let total = page_total(&world.pages, &header.layout, counter);
+        write_words(out, &[node, kind, Word::Text(*name), Word::Signed(total)])?;
     }
-    total as i64
+    Ok(())
 }
 
-#[inline]
-fn word(events: &EventState, layout: &Layout, cpu: CpuId, event: EventId) -> u64
-    requires shaped { HasShape layout.now events.now }
-    requires cpu { IsCpu layout.now cpu.number }
-    requires event { IsEvent event.number }
-    ensures { result ≡ word_at events.now cpu.number event.number }
+fn write_events(out: &mut Vec<u8>, header: &Header, world: &World) -> Result<(), Memory>
+    requires { IsWorldOf header.now world.now }
+    ensures { OnOk result (out.new.items ≡ out.old.items
+        ++ flat_map sentence (event_totals (event_total_of header.now world.now))) }
 {
-    events.words.get(cpu.number as usize * EVENTS as usize + event.number as usize)
-}
-
-/// The shared part of a counter and the local parts of all CPUs.
-pub(crate) fn counter_total(counters: &PcpuState, layout: &Layout, counter: usize) -> i64
-    requires { HasRoom layout.now counters.now counter }
-    ensures { result ≡ count_at counters.now counter +ℤ locals layout.now counters.now counter }
-{
-    let mut total = counters.count.get(counter);
-    for number in 0..layout.cpus() {
-        total += local(counters, layout, CpuId { number }, counter);
+    for (number, name) in event_names().iter().enumerate() {
+        let event = EventId {
+            number: number as u32,
+        };
+        let total = event_total(&world.events, &header.layout, event);
+        write_named(out, b"event", name.as_bytes(), total)?;
     }
-    total
+    Ok(())
 }
 
-#[inline]
-fn local(counters: &PcpuState, layout: &Layout, cpu: CpuId, counter: usize) -> i64
-    requires room { HasRoom layout.now counters.now counter }
-    requires cpu { IsCpu layout.now cpu.number }
-    ensures value { result ≡ local_at counters.now cpu.number counter }
-    ensures bound { unsigned_abs result ≤ most_batch }
+fn write_percpu(out: &mut Vec<u8>, header: &Header, world: &World) -> Result<(), Memory>
+    requires { IsWorldOf header.now world.now }
+    ensures { OnOk result (out.new.items ≡ out.old.items
+        ++ flat_map sentence (pcpu_totals header.now (pcpu_total header.now world.now))) }
 {
-    let _length = counters.local.len();
-    let width = counters.batch.len();
-    let at = cpu.number as usize * width + counter;
-    counters.local.get(at)
+    for (counter, decl) in header.counters.as_slice().iter().enumerate() {
+        let total = counter_total(&world.counters, &header.layout, counter);
+        write_named(out, b"counter", decl.name.as_slice(), total)?;
+    }
+    Ok(())
+}
+
+/// Appends `WORD NAME VALUE`.
+fn write_named<'a>(
+    out: &mut Vec<u8>,
+    word: &'a [u8],
+    name: &'a [u8],
+    total: i64,
+) -> Result<(), Memory>
+    ensures { OnOk result (out.new.items
+        ≡ out.old.items ++ sentence (word.now ∷ name.now ∷ signed_decimal total ∷ [])) }
+{
+    write_words(
+        out,
+        &[Word::Text(word), Word::Text(name), Word::Signed(total)],
+    )
 }

@@ -1,0 +1,13 @@
+use Rattle.std.proofs.Common.{◌≡◌, ◌++◌, map, take}
+use Rattle.std.specs.Fmt.{signed_decimal}
+use Rattle.vms_base.specs.Cpus.{present_from}
+use Rattle.vms_pcpu_core.specs.States.{local_at}
+use Rattle.vms_text.specs.Writing.{spaced}
+use Rattle.vms_report.proofs.counters.push_locals.Given as goal
+
+-- the local parts of the CPUs so far
+abbrev pub invariant-loop-number : goal.invariant-loop-number
+invariant-loop-number l =
+    l.out.items ≡ l.initial.out.items ++ spaced
+    (map (λ cpu. signed_decimal (local_at l.world.counters cpu.number l.counter))
+    (present_from 0 (take l.number l.world.pages.cpu)))

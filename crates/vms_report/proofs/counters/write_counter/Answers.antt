@@ -1,0 +1,30 @@
+-- The pieces of the line.
+use Rattle.std.proofs.Common.{pos, List, ℕ, ◌∷◌, [], ◌++◌, ◌∙◌, ap, sym, codes, decimal, map, ℤ, ◌≡◌, rules, w64, to_z, of_z}
+use Rattle.std.specs.Fmt.{signed_decimal}
+use Rattle.vms_base.specs.Cpus.{present_from}
+use Rattle.vms_pcpu_core.specs.States.{count_at, local_at}
+use Rattle.vms_plain_pcpu.specs.Numbers.{total_in}
+use Rattle.vms_text.specs.Writing.{spaced}
+use Rattle.vms_text.proofs.Appends.{OnOk-from}
+use Rattle.vms_report.proofs.Entries.{line-of_pieces}
+use Rattle.vms_report.proofs.counters.write_counter.Goals as goal
+
+pub returns : goal.returns
+returns c =
+    let j = c.args.counter in
+    let s = c.args.world.now.counters in
+    let states = c.args.world.now.pages.cpu in
+    let decl = c.args.decl.now in
+    let got : to_z w64 (of_z w64 c.get.result) ≡ c.get.result = search rules in
+    let added : to_z w64 (of_z w64 c.total.result) ≡ c.total.result = search rules in
+    let shared : ℤ → List (List ℕ) = λ z. codes "batch" ∷ decimal decl.batch ∷ codes "count" ∷ signed_decimal z
+    ∷ codes "locals" ∷ [] in
+    let last : ℤ → List (List ℕ) = λ z. codes "sum" ∷ signed_decimal z ∷ [] in
+    OnOk-from c.push_sum.result _ _
+    (λ more. line-of_pieces decl.name (shared (count_at s j))
+    (map (λ cpu. signed_decimal (local_at s cpu.number j)) (present_from 0 states)) (last (total_in s states j)) _ _ _ _
+    (c.in_ok-push_shared.ensures ∙ ap (λ (z : ℤ). (c.args.out.now.items ++ decl.name) ++ spaced (shared z))
+    (got ∙ sym (c.get.ensures (pos 0))))
+    c.in_ok-push_locals.ensures
+    (more ∙ ap (λ (z : ℤ). (c.push_locals.new.out.items ++ spaced (last z)) ++ (10 ∷ [])) (added ∙ c.total.ensures)))
+    c.push_sum.ensures

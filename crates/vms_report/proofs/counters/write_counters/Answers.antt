@@ -1,0 +1,22 @@
+-- The line of a counter more.
+use Rattle.std.proofs.Common.{◌≡◌, ◌<◌, ◌++◌, ◌∙◌, flat_map, map, take, List, ap, sym, arith, length, get_or}
+use Rattle.std.specs.List.{enumerate_from}
+use Rattle.vms_base.specs.declared.headers.Decl.{Decl}
+use Rattle.vms_report.specs.Counters.{counter_words}
+use Rattle.vms_text.specs.Spelling.{sentence}
+use Rattle.vms_text.proofs.Appends.{append_twice}
+use Rattle.vms_report.proofs.Entries.{lines-more}
+use Rattle.vms_report.proofs.counters.write_counters.Goals as goal
+
+pub loop-counter-preserved : goal.loop-counter-preserved
+loop-counter-preserved c =
+    let counters = c.args.header.now.counters in
+    let n = c.loop-counter.counter in
+    let d = c.decl-item.result in
+    let listed = c.«as_slice-decl-items».ensures in
+    let within : n < length counters = omega (arith, c.loop-counter-test.true, ap length listed) in
+    let is : d ≡ get_or counters n d = c.decl-item.is ∙ ap (λ (xs : List Decl). get_or xs n d) listed in
+    append_twice _ _ _ _ _ _ c.in_ok-write_counter.ensures c.loop-counter.invariant
+    (ap (λ (decl : Decl). flat_map sentence (map (counter_words c.args.world.now) (enumerate_from 0 (take n counters)))
+    ++ sentence (counter_words c.args.world.now (n, decl))) is
+    ∙ sym (lines-more sentence (counter_words c.args.world.now) counters n d within))

@@ -1,0 +1,13 @@
+-- The lines of a place more.
+use Rattle.std.proofs.Common.{sym}
+use Rattle.vms_text.specs.Spelling.{sentence}
+use Rattle.vms_text.proofs.Appends.{append_twice}
+use Rattle.vms_report.specs.Totals.{page_total, place_totals}
+use Rattle.vms_report.proofs.Entries.{pieces-more}
+use Rattle.vms_report.proofs.totals.write_places.Goals as goal
+
+pub loop-number-preserved : goal.loop-number-preserved
+loop-number-preserved c =
+    let header = c.args.header.now in
+    append_twice _ _ _ _ _ _ c.in_ok-write_place.ensures c.loop-number.invariant
+    (sym (pieces-more sentence (place_totals header (page_total header c.args.world.now)) c.loop-number.number))

@@ -1,0 +1,18 @@
+-- What stands of a zone more.
+use Rattle.std.proofs.Common.{◌<◌, ◌++◌, ◌∙◌, List, ap, sym, arith, length, get_or}
+use Rattle.vms_base.specs.declared.kinds.ZoneName.{ZoneName}
+use Rattle.vms_text.proofs.Appends.{append_twice}
+use Rattle.vms_report.specs.Zoneinfo.{zone_text}
+use Rattle.vms_report.proofs.Entries.{texts-more}
+use Rattle.vms_report.proofs.zoneinfo.write_zones.Goals as goal
+
+pub loop-place-preserved : goal.loop-place-preserved
+loop-place-preserved c =
+    let header = c.args.header.now in
+    let w = c.args.world.now in
+    let n = c.loop-place.place in
+    let listed = c.zones-zone-items.ensures.value in
+    let within : n < length header.layout.zones = omega (arith, c.loop-place-test.true, ap length listed) in
+    append_twice _ _ _ _ _ _ (c.in_ok-write_zone.ensures
+    ∙ ap (λ (zones : List ZoneName). c.loop-place.out.items ++ zone_text header w (n, get_or zones n _)) listed)
+    c.loop-place.invariant (sym (texts-more (zone_text header w) header.layout.zones n _ within))
