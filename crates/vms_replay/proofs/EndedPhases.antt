@@ -1,11 +1,12 @@
 -- How a replay ends the phase that is open.
 use Rattle.std.proofs.Common.{◌≡◌, ◌≢◌, ℕ, suc, ◌≤◌, true, List, [], ◌∷◌, ◌++◌, map}
 use Rattle.std.proofs.Common.{Option, Some}
-use Rattle.std.proofs.Common.{None, Ok, Err, refl, sym, ap, subst, ◌∙◌, arith, append-nil}
+use Rattle.std.proofs.Common.{None, Ok, Err, refl, sym, ap, ap₂, subst, ◌∙◌, arith, append-nil}
 use Rattle.std.specs.List.{flat_map}
 use Rattle.std.specs.Prelude.{reverse}
 use Rattle.vms_base.specs.declared.failures.Memory.{Memory}
 use Rattle.vms_base.specs.declared.headers.Header.{Header}
+use Rattle.vms_answers.specs.declared.answers.NumberedAnswer.{NumberedAnswer as Told}
 use Rattle.vms_answers.specs.PhaseAnswers.{NumberedAnswer}
 use Rattle.vms_answers.specs.ToldAnswers.{numbered_told}
 use Rattle.vms_command.specs.Limits.{most_lines}
@@ -28,8 +29,9 @@ use Rattle.vms_replay_phase.specs.declared.phases.Replayed.{Replayed}
 use Rattle.vms_replay.specs.declared.waits.Wait.{Wait}
 use Rattle.vms_replay.specs.Engines.{MakesPhase}
 use Rattle.vms_replay.specs.MadePhases.{MadePhase}
+use Rattle.vms_replay.specs.PlainReports.{HasPlainTotals}
 use Rattle.vms_replay.specs.Replaying.{Kept, MayBe, has_some}
-use Rattle.vms_replay.specs.ReplayStates.{Ended, EndsPhase, Holds, Runs}
+use Rattle.vms_replay.specs.ReplayStates.{Ended, EndsPhase, Runs, StandsBefore}
 use Rattle.vms_replay.specs.Waits.{AreOf, Ascend, MayWrite, asking_numbers, wait_text}
 use Rattle.vms_replay.proofs.AskedAnswers.{AreOf-answers}
 use Rattle.vms_replay.proofs.WrittenWaits.{Ascend-asking, Ascend-increasing}
@@ -71,6 +73,7 @@ module _ (header : Header) (n : ℕ) (above : LinesAbove) (kept : Kept) (texts :
         no_waits = runs.only_open no;
         begins = subst (λ (lines : List Line). IsStartOf header (start_after first_start lines) kept.world)
             (sym (runs.lines ∙ ap (λ (is : List Item). reverse (map line_of is) ++ kept.above) no)) runs.begins;
+        totals = runs.totals;
       }
 
   -- histories that an engine made of the lines
@@ -104,11 +107,13 @@ module _ (header : Header) (n : ℕ) (above : LinesAbove) (kept : Kept) (texts :
     pub Ended-made : items ≢ []
         → ((start : Start) → IsStartOf header start w → Fits header start items
         → IsStartOf header (start_at_end start (map line_of items)) (left_by header w makes.histories))
+        → ((start : Start) → IsStartOf header start w → Fits header start items → (before : List MadePhase)
+        → HasPlainTotals header before w → HasPlainTotals header (given ∷ before) (left_by header w makes.histories))
         → (held' : Option World) (items' : List Item) (waiting' : List Wait) (out out' : List ℕ)
         → held' ≡ Some replayed.world → items' ≡ [] → waiting' ≡ []
         → out' ≡ out ++ flat_map (wait_text header (map numbered_told replayed.answers.items)) waiting
         → Ended header above kept texts (Some given) held' items' waiting' out out'
-    Ended-made some leads held' items' waiting' out out' in_world no_items no_waits printed =
+    Ended-made some leads adds held' items' waiting' out out' in_world no_items no_waits printed =
         let start : Start = start_after first_start kept.above in
         let here : IsStartOf header start w = subst (IsStartOf header start) (sym same_world) runs.begins in
         let fits : Fits header start items = subst (Fits header start) (sym runs.keeps) runs.fits in
@@ -125,6 +130,8 @@ module _ (header : Header) (n : ℕ) (above : LinesAbove) (kept : Kept) (texts :
               ∙ start_at_end-lines kept.above kept.items
               ∙ ap (start_after first_start) (sym runs.lines))
               (leads start here fits);
+          totals = adds start here fits kept.made
+              (subst (HasPlainTotals header kept.made) (sym same_world) runs.totals);
         }
 
 -- the end of a phase, of a replay of any engine
@@ -137,7 +144,6 @@ module _ {E : Type 0} (Makes : Header → World → List Item → Histories → 
     given = None;
     grows = subst (λ (m : Option (List MadePhase)). Grows made m []) (sym same) (Grows-nil made);
     may_give = λ n above kept texts holds. tt;
-    same_built = tt;
     goes = tt;
   }
 
@@ -147,13 +153,12 @@ module _ {E : Type 0} (Makes : Header → World → List Item → Histories → 
     given = None;
     grows = subst (λ (m : Option (List MadePhase)). Grows made m []) (sym same_made) (Grows-nil made);
     may_give = λ n above kept texts holds. tt;
-    same_built = ap (λ (r : Replay E). r.built) same;
     goes = λ n above kept texts holds.
         subst (λ (r : Replay E). Ended header above kept texts None r.world r.items.items r.waits.items out out')
         (sym same)
         (subst (λ (text : List ℕ). Ended header above kept texts None replay.world replay.items.items
         replay.waits.items out text) (sym same_out)
-        (Ended-none header n above kept texts replay.world replay.items.items replay.waits.items holds none out));
+        (Ended-none header n above kept texts replay.world replay.items.items replay.waits.items holds.runs none out));
   }
 
   module _ (w : World) (is : replay.world ≡ Some w) (replayed : Replayed)
@@ -162,11 +167,11 @@ module _ {E : Type 0} (Makes : Header → World → List Item → Histories → 
     outcome = record { world = w; items = replay.items.items; histories = makes.histories }
 
     gives : (n : ℕ) (above : LinesAbove) (kept : Kept) (texts : List (Text MadePhase))
-        → Holds header n above kept texts replay
+        → StandsBefore replay header n above kept texts
         → MayGive (has_some kept.items) (MayBe Makes header kept.world kept.items) (Some outcome)
     gives n above kept texts holds = (
-      some-list kept.items (λ none. some (holds.keeps ∙ none)),
-      MayBe-made header n above kept texts replay.world replay.items.items replay.waits.items holds Makes w is made
+      some-list kept.items (λ none. some (holds.runs.keeps ∙ none)),
+      MayBe-made header n above kept texts replay.world replay.items.items replay.waits.items holds.runs Makes w is made
           made'
           replayed makes,
     )
@@ -178,40 +183,50 @@ module _ {E : Type 0} (Makes : Header → World → List Item → Histories → 
       given = Some outcome;
       grows = makes.grows;
       may_give = gives;
-      same_built = tt;
       goes = tt;
     }
 
     -- the phase was made, and nothing waits any more
-    pub EndsPhase-made : replay'.built ≡ replay.built
-        → ((hs : Histories) → Makes header w replay.items.items hs → (start : Start) → IsStartOf header start w
-        → Fits header start replay.items.items
+    pub EndsPhase-made : ((hs : Histories) → Makes header w replay.items.items hs → (start : Start)
+        → IsStartOf header start w → Fits header start replay.items.items
         → IsStartOf header (start_at_end start (map line_of replay.items.items)) (left_by header w hs))
+        → ((hs : Histories) → Makes header w replay.items.items hs → (start : Start) → IsStartOf header start w
+        → Fits header start replay.items.items → (before : List MadePhase) → HasPlainTotals header before w
+        → HasPlainTotals header (record { world = w; items = replay.items.items; histories = hs } ∷ before)
+        (left_by header w hs))
         → replay'.world ≡ Some replayed.world → replay'.items.items ≡ [] → replay'.waits.items ≡ []
         → out' ≡ out ++ flat_map (wait_text header (map numbered_told replayed.answers.items)) replay.waits.items
         → EndsPhase Makes header replay replay' made made' (Ok tt) out out'
-    EndsPhase-made same_built leads in_world no_items no_waits printed = record {
+    EndsPhase-made leads adds in_world no_items no_waits printed = record {
       given = Some outcome;
       grows = makes.grows;
       may_give = gives;
-      same_built = same_built;
       goes = λ n above kept texts holds.
-          Ended-made header n above kept texts replay.world replay.items.items replay.waits.items holds Makes w is made
-          made' replayed makes some (leads makes.histories makes.makes) replay'.world replay'.items.items
-          replay'.waits.items out out' in_world no_items no_waits printed;
+          Ended-made header n above kept texts replay.world replay.items.items replay.waits.items holds.runs Makes w is
+          made made' replayed makes some (leads makes.histories makes.makes) (adds makes.histories makes.makes)
+          replay'.world replay'.items.items replay'.waits.items out out' in_world no_items no_waits printed;
     }
+
+-- what was printed of the same lines and answers
+pub printed-same : (header : Header) (out out' : List ℕ) (answers answers' : List Told) (waiting waiting' : List Wait)
+    → answers ≡ answers' → waiting ≡ waiting'
+    → out' ≡ out ++ flat_map (wait_text header (map numbered_told answers)) waiting
+    → out' ≡ out ++ flat_map (wait_text header (map numbered_told answers')) waiting'
+printed-same header out out' answers answers' waiting waiting' same_answers same_waiting printed =
+    printed
+    ∙ ap₂ (λ (told : List Told) (ws : List Wait). out ++ flat_map (wait_text header (map numbered_told told)) ws)
+    same_answers same_waiting
 
 -- lines that wait find their answers, whatever lines a replay stands after
 pub MayWrite-some : {E : Type 0} (Makes : Header → World → List Item → Histories → Type 0) (header : Header)
     (replay : Replay E) (made made' : Option (List MadePhase)) (w : World) (replayed : Replayed)
     → (n : ℕ) × (n ≤ suc most_lines) × (above : LinesAbove) × (kept : Kept) × (texts : List (Text MadePhase))
-    × Holds header n above kept texts replay
+    × StandsBefore replay header n above kept texts
     → replay.world ≡ Some w → MakesPhase Makes header w replay.items.items made made' replayed
     → MayWrite replay.waits.items (map numbered_told replayed.answers.items)
 MayWrite-some Makes header replay made made' w replayed (n, most, above, kept, texts, holds) is makes =
-    MayWrite-held header n above kept texts replay.world replay.items.items replay.waits.items holds Makes w is made
-    made'
-    replayed makes
+    MayWrite-held header n above kept texts replay.world replay.items.items replay.waits.items holds.runs Makes w is
+    made made' replayed makes
 
 -- what an engine makes of a script is what it makes of the lines
 pub MakesPhase-of : (Makes : Header → World → List Item → Histories → Type 0) (header : Header) (w : World)

@@ -1,25 +1,27 @@
 -- Outcomes that lead through the lines of a body lead through their segments.
-use Rattle.std.proofs.Common.{◌≡◌, ℕ, suc, ◌<◌, ◌&&◌, Bool, true, false, List, [], ◌∷◌, ◌++◌, map, refl, sym, ap}
+use Rattle.std.proofs.Common.{◌≡◌, ℕ, suc, ◌<◌, Bool, true, false, List, [], ◌∷◌, ◌++◌, refl, sym, ap}
 use Rattle.std.proofs.Common.{subst, ◌∙◌}
 use Rattle.std.proofs.Common.{Option, Some, None, Ok, Err, arith, append-nil, append_assoc}
-use Rattle.std.proofs.lemmas.List.{map-append}
-use Rattle.std.proofs.lemmas.List.Elements.{All-nil, All-push, All-weaker}
+use Rattle.std.proofs.lemmas.List.Elements.{All-push, All-weaker}
 use Rattle.std.specs.Prelude.{All, Result, is_some}
 use Rattle.vms_base.specs.declared.headers.Header.{Header}
 use Rattle.vms_base.specs.Headers.{IsHeader}
 use Rattle.vms_command.specs.Bodies.{IsJudged}
 use Rattle.vms_command.specs.Commands.{CommandState, ends_at_judged, following, halts_at}
 use Rattle.vms_command.specs.Commands.CommandState.{Body}
-use Rattle.vms_command.specs.Lines.{LinesAbove, nothing_above, with_judged}
+use Rattle.vms_command.specs.Lines.{LinesAbove, with_judged}
 use Rattle.vms_file_order.proofs.JudgedLines.{Fits-judged}
 use Rattle.vms_line.specs.declared.causes.LineCause.{LineCause}
-use Rattle.vms_stream.specs.Leading.{Leads, leads_on, none_after}
+use Rattle.vms_stream.specs.Leading.{LeadsThrough, leads_on, none_after}
 use Rattle.vms_stream.specs.Jobs.{MayGive, at_most_one}
-use Rattle.vms_stream.specs.PhasedBehaviors.{PhasedBehavior}
+use Rattle.vms_stream.specs.PhasedBehaviors.{PhasedBehavior, Supply, Way, halt_at, supply, way_after, with_outcomes}
+use Rattle.vms_stream.specs.PhasedBehaviors.Supply.{Gives, Lacks}
+use Rattle.vms_stream.specs.PhasedBehaviors.Way.{On, Short}
 use Rattle.vms_stream.specs.Waiting.{Text, Waiting, unless_stopped, waiting, waits_after}
+use Rattle.vms_stream.specs.Behaviors.{Behavior, first_halt, halted, state_after}
 use Rattle.vms_stream.specs.declared.statuses.Status.{Status}
 use Rattle.vms_script.specs.Judging.{counted, judged}
-use Rattle.vms_script.specs.Segments.{Between, Phase, Segment, numbered_lines, phase_if_any, segments_of, segments_with}
+use Rattle.vms_script.specs.Segments.{Between, Segment, numbered_lines, phase_if_any, segments_of, segments_with}
 use Rattle.vms_script.specs.Segments.{with_item}
 use Rattle.vms_script.proofs.Feeding.{IsOpen-lane}
 use Rattle.vms_text.specs.declared.acts.Act.{Act}
@@ -29,17 +31,13 @@ use Rattle.vms_text.specs.declared.acts.Lane.{Lane as LaneOf}
 use Rattle.vms_text.specs.declared.acts.Line.{Line}
 use Rattle.vms_text.specs.declared.acts.Line.TheVariants.{Blank, Lane, Boundary}
 use Rattle.vms_world.specs.declared.worlds.World.{World}
-use Rattle.vms_world.specs.PhaseLines.{LeadsThrough}
 use Rattle.vms_world.specs.Phases.{Histories}
-use Rattle.vms_replay.specs.KernelRules.{normal_rule, pressure_rule}
-use Rattle.vms_replay.specs.LedLines.{BodiesLeadOn, IsLed, LeadThroughFront}
 use Rattle.vms_replay.specs.MadePhases.{MadePhase}
-use Rattle.vms_replay.specs.Replaying.{Kept, MayBe, all_built, first_kept, has_some, is_built, is_open, line_text}
-use Rattle.vms_replay.specs.Replaying.{next_kept, replaying}
-use Rattle.vms_replay.proofs.LedLines.{FirstIsLed-holds, Knows, LeadsPast-led}
+use Rattle.vms_replay.specs.Replaying.{Kept, MayBe, has_some, judged_text, next_kept, replaying}
+use Rattle.vms_replay.proofs.LedLines.{IsLed, Knows, LeadOn, LeadOn-append, LeadsPast-led}
 
 -- segments with these lines before them
-abbrev with_items : List Item → List Segment → List Segment
+abbrev pub with_items : List Item → List Segment → List Segment
 with_items [] segments = segments
 with_items (item ∷ items) segments = with_item item (with_items items segments)
 
@@ -55,106 +53,160 @@ with_items-between (item ∷ []) n b segments = refl
 with_items-between (item ∷ second ∷ items) n b segments =
     ap (with_item item) (with_items-between (second ∷ items) n b segments)
 
--- a way on from another
-LeadsThrough-on : (header : Header) (segments more : List Segment) (hss others : List Histories) (w mid last : World)
-    → LeadsThrough header pressure_rule normal_rule segments hss w mid
-    → LeadsThrough header pressure_rule normal_rule more others mid last
-    → LeadsThrough header pressure_rule normal_rule (segments ++ more) (hss ++ others) w last
-LeadsThrough-on header [] more [] others w mid last same leads =
-    subst (λ (v : World). LeadsThrough header pressure_rule normal_rule more others v last) (sym same) leads
-LeadsThrough-on header [] more (hs ∷ hss) others w mid last none leads = absurd none
-LeadsThrough-on header (Phase items ∷ segments) more (hs ∷ hss) others w mid last (next, phase, through) leads =
-    (next, phase, LeadsThrough-on header segments more hss others next mid last through leads)
-LeadsThrough-on header (Phase items ∷ segments) more [] others w mid last none leads = absurd none
-LeadsThrough-on header (Between n b ∷ segments) more hss others w mid last (next, may, crosses, through) leads =
-    (next, may, crosses, LeadsThrough-on header segments more hss others next mid last through leads)
+pub with_items-none : (items : List Item) → with_items items [] ≡ phase_if_any items
+with_items-none [] = refl
+with_items-none (item ∷ []) = refl
+with_items-none (item ∷ second ∷ items) = ap (with_item item) (with_items-none (second ∷ items))
 
-abbrev histories_of : List MadePhase → List Histories
-histories_of phases = map (λ made. made.histories) phases
+module _ (Makes : Header → World → List Item → Histories → Type 0) (header : Header) (w : World) where
+  -- phases lead through the first of these segments. Where the replay finishes, these are all
+  pub record Front (Finishes : Type 0) (segments : List Segment) (made : List MadePhase) : Type 0 where
+    pub front : List Segment
+    pub rest : List Segment
+    pub last : World
+    pub parts : segments ≡ front ++ rest
+    pub leads : LeadOn Makes header front made w last
+    pub all : Finishes → rest ≡ []
 
-module _ (Makes : Header → World → List Item → Histories → Type 0) (knows : Knows Makes) (header : Header)
-    (valid : IsHeader header) (w : World) where
-  abbrev phased : PhasedBehavior (Waiting (CommandState Kept) MadePhase) MadePhase
-  phased = waiting (following (replaying Makes))
-
-  abbrev at : ℕ → LinesAbove → Kept → List (Text MadePhase) → Waiting (CommandState Kept) MadePhase
-  at n above kept waits = record { state = Body n header above kept; waits = waits }
-
-  stop : (segments more : List Segment) (done phases : List MadePhase) (mid : World)
-      → LeadsThrough header pressure_rule normal_rule segments (histories_of done) w mid → phases ≡ []
-      → LeadThroughFront header (segments ++ more) (done ++ phases) w
-  stop segments more done phases mid leads none = record {
+  -- no phase is made any more
+  pub Front-stopped : (Finishes : Type 0) (segments more : List Segment) (made phases : List MadePhase) (mid : World)
+      → LeadOn Makes header segments made w mid → phases ≡ [] → (Finishes → more ≡ [])
+      → Front Finishes (segments ++ more) (made ++ phases)
+  Front-stopped Finishes segments more made phases mid leads none all = record {
     front = segments;
     rest = more;
     last = mid;
     parts = refl;
-    leads = subst (λ (ps : List MadePhase). LeadsThrough header pressure_rule normal_rule segments (histories_of ps)
-        w mid)
-        (sym (ap (λ (ps : List MadePhase). done ++ ps) none ∙ append-nil done)) leads;
+    leads = subst (λ (ps : List MadePhase). LeadOn Makes header segments ps w mid)
+        (sym (ap (λ (ps : List MadePhase). made ++ ps) none ∙ append-nil made)) leads;
+    all = all;
   }
 
-  -- after a report that isn't built no phase is made
-  none-unbuilt : (texts : List (List ℕ)) (n : ℕ) (above : LinesAbove) (kept : Kept) (waits : List (Text MadePhase))
-      (phases : List MadePhase) → all_built above.lines ≡ false → Leads phased (at n above kept waits) phases texts
-      → phases ≡ []
-  none-unbuilt [] n above kept waits phases unbuilt leads = leads
-  none-unbuilt (text ∷ texts) n above kept waits phases unbuilt leads =
-      by (none-unbuilt texts) (is_open above kept) (ap (λ (x : Bool). x && has_some kept.items) unbuilt)
-      (halts_at {K = Kept} (Body n header above kept) text) (judged header above.lines text) leads
-    where
-      still : (x : Bool) → x && false ≡ false
-      still true = refl
-      still false = refl
+  pub Front-if : (Finishes Ends : Type 0) (segments : List Segment) (made : List MadePhase) → (Ends → Finishes)
+      → Front Finishes segments made → Front Ends segments made
+  Front-if Finishes Ends segments made so it = record {
+    front = it.front;
+    rest = it.rest;
+    last = it.last;
+    parts = it.parts;
+    leads = it.leads;
+    all = λ ends. it.all (so ends);
+  }
 
-      by : ((m : ℕ) (above' : LinesAbove) (kept' : Kept) (waits' : List (Text MadePhase)) (ps : List MadePhase)
-          → all_built above'.lines ≡ false → Leads phased (at m above' kept' waits') ps texts → ps ≡ [])
-          → (now_open : Bool) → now_open ≡ false → (h : Option Status) (j : Result Line LineCause)
-          → leads_on (unless_stopped h (ends_at_judged now_open j)) phases (MayBe Makes header kept.world kept.items)
-          (λ given left. none_after h left (Leads phased (at (suc n) (with_judged j above)
-          (next_kept header n above j given kept) (waits_after waits (line_text header n above j kept) given)) left
-          texts))
-          → phases ≡ []
-      by rec true same h j leads = absurd cc
-      by rec false same (Some halt) j leads = leads
-      by rec false same None (Ok Blank) leads = rec (suc n) _ _ _ phases unbuilt leads
-      by rec false same None (Ok (Lane lane act)) leads = rec (suc n) _ _ _ phases unbuilt leads
-      by rec false same None (Ok (Boundary b)) leads =
-          rec (suc n) _ _ _ phases (ap (λ (x : Bool). is_built b && x) unbuilt ∙ still (is_built b)) leads
-      by rec false same None (Err cause) leads = rec (suc n) _ _ _ phases unbuilt leads
+module _ (Makes : Header → World → List Item → Histories → Type 0) where
+  abbrev pub phased : PhasedBehavior (Waiting (CommandState Kept) MadePhase) MadePhase
+  phased = waiting (following (replaying Makes))
+
+  abbrev pub at : ℕ → Header → LinesAbove → Kept → List (Text MadePhase) → Waiting (CommandState Kept) MadePhase
+  at n header above kept waits = record { state = Body n header above kept; waits = waits }
+
+  -- a way goes through lines that don't stop the replay, and ends as asked
+  abbrev pub Finishes : List MadePhase → (Way (Waiting (CommandState Kept) MadePhase) MadePhase → Type 0)
+      → Way (Waiting (CommandState Kept) MadePhase) MadePhase → List (List ℕ) → Type 0
+  Finishes outcomes Ends way lines = (halted (with_outcomes phased outcomes) way lines ≡ None)
+      × Ends (state_after (with_outcomes phased outcomes) way lines)
+
+-- how outcomes end that lead through lines
+module _ (Makes : Header → World → List Item → Histories → Type 0) (knows : Knows Makes) (header : Header)
+    (valid : IsHeader header) (w : World) (outcomes : List MadePhase)
+    (asked : Waiting (CommandState Kept) MadePhase → List MadePhase → Type 0)
+    (Ends : Way (Waiting (CommandState Kept) MadePhase) MadePhase → Type 0) (short : Ends Short → ⊥)
+    (at_end : (n : ℕ) (above : LinesAbove) (kept : Kept) (waits : List (Text MadePhase))
+    (phases done : List MadePhase) (segments : List Segment) → IsLed header above kept
+    → LeadOn Makes header segments done w kept.world → asked (at Makes n header above kept waits) phases
+    → Front Makes header w (Ends (On (at Makes n header above kept waits) phases))
+    (segments ++ with_items kept.items []) (done ++ phases)) where
+  abbrev goes : Behavior (Way (Waiting (CommandState Kept) MadePhase) MadePhase)
+  goes = with_outcomes (phased Makes) outcomes
+
+  short-stays : (lines : List (List ℕ)) → state_after goes Short lines ≡ Short
+  short-stays [] = refl
+  short-stays (line ∷ lines) = short-stays lines
+
+  no-short : (lines : List (List ℕ)) → Ends (state_after goes Short lines) → ⊥
+  no-short lines ends = short (subst Ends (short-stays lines) ends)
 
   -- what is to be shown of lines, of which the first stands before line n
   abbrev Leaves : List (List ℕ) → Type 0
-  Leaves texts = (n : ℕ) (above : LinesAbove) (kept : Kept) (waits : List (Text MadePhase)) (phases done : List
-      MadePhase)
-      (segments : List Segment) → IsLed header above kept → All (λ (i : Item). i.number < n) kept.items
-      → LeadsThrough header pressure_rule normal_rule segments (histories_of done) w kept.world
-      → Leads phased (at n above kept waits) phases texts
-      → LeadThroughFront header
-      (segments ++ with_items kept.items (segments_of (numbered_lines header above.lines n texts))) (done ++ phases) w
+  Leaves texts = (n : ℕ) (above : LinesAbove) (kept : Kept) (waits : List (Text MadePhase))
+      (phases done : List MadePhase) (segments : List Segment) → IsLed header above kept
+      → All (λ (i : Item). i.number < n) kept.items → LeadOn Makes header segments done w kept.world
+      → LeadsThrough (phased Makes) asked (at Makes n header above kept waits) phases texts
+      → Front Makes header w (Finishes Makes outcomes Ends (On (at Makes n header above kept waits) phases) texts)
+      (segments ++ with_items kept.items (segments_of (numbered_lines header above.lines n texts))) (done ++ phases)
 
   module _ (texts : List (List ℕ)) (rec : Leaves texts) (n : ℕ) (above : LinesAbove) (kept : Kept)
       (waits : List (Text MadePhase)) (done : List MadePhase) (segments : List Segment) (led : IsLed header above kept)
       (below : All (λ (i : Item). i.number < n) kept.items)
-      (way : LeadsThrough header pressure_rule normal_rule segments (histories_of done) w kept.world) where
+      (way : LeadOn Makes header segments done w kept.world) where
     later_below : All (λ (i : Item). i.number < suc n) kept.items
     later_below = All-weaker (λ (i : Item). i.number < n) (λ (i : Item). i.number < suc n)
         (λ i less. omega (arith, less)) kept.items below
 
+    -- the state after the line, by what was judged of it, and the way and the halt by what the line gets
+    abbrev after : Result Line LineCause → Option MadePhase → Waiting (CommandState Kept) MadePhase
+    after j given = at Makes (suc n) header (with_judged j above) (next_kept header n above j given kept)
+        (waits_after waits (judged_text header n j kept) given)
+
+    abbrev onward : Result Line LineCause → Supply MadePhase → Way (Waiting (CommandState Kept) MadePhase) MadePhase
+    onward j (Gives given left) = On (after j given) left
+    onward j Lacks = Short
+
+    abbrev halt_by : Option Status → Supply MadePhase → Option Status
+    halt_by h (Gives given left) = h
+    halt_by h Lacks = None
+
+    abbrev FinishesPast : Option Status → Result Line LineCause → Supply MadePhase → Type 0
+    FinishesPast h j got = (first_halt (halt_by h got) (halted goes (onward j got) texts) ≡ None)
+        × Ends (state_after goes (onward j got) texts)
+
+    same-way : (text : List ℕ) (got : Supply MadePhase)
+        → way_after (phased Makes) (at Makes n header above kept waits) text got
+        ≡ onward (judged header above.lines text) got
+    same-way text (Gives given left) = refl
+    same-way text Lacks = refl
+
+    same-halt : (text : List ℕ) (got : Supply MadePhase)
+        → halt_at (phased Makes) (at Makes n header above kept waits) text got
+        ≡ halt_by (halts_at {K = Kept} (Body n header above kept) text) got
+    same-halt text (Gives given left) = refl
+    same-halt text Lacks = refl
+
+    pub FinishesPast-line : (text : List ℕ) (phases : List MadePhase)
+        → Finishes Makes outcomes Ends (On (at Makes n header above kept waits) phases) (text ∷ texts)
+        → FinishesPast (halts_at {K = Kept} (Body n header above kept) text) (judged header above.lines text)
+        (supply (unless_stopped (halts_at {K = Kept} (Body n header above kept) text)
+        (ends_at_judged (has_some kept.items) (judged header above.lines text))) phases)
+    FinishesPast-line text phases (none, ends) =
+        let h : Option Status = halts_at {K = Kept} (Body n header above kept) text in
+        let j : Result Line LineCause = judged header above.lines text in
+        let got : Supply MadePhase = supply (unless_stopped h (ends_at_judged (has_some kept.items) j)) phases in (
+          subst (λ (x : Way (Waiting (CommandState Kept) MadePhase) MadePhase).
+              first_halt (halt_by h got) (halted goes x texts) ≡ None) (same-way text got)
+              (subst (λ (x : Option Status). first_halt x
+              (halted goes (way_after (phased Makes) (at Makes n header above kept waits) text got) texts) ≡ None)
+              (same-halt text got) none),
+          subst (λ (x : Way (Waiting (CommandState Kept) MadePhase) MadePhase). Ends (state_after goes x texts))
+              (same-way text got) ends,
+        )
+
     -- past a line of a lane
     past-lane : (lane : LaneOf) (act : Act) → IsJudged header above (Ok (Lane lane act))
-        → (waits' : List (Text MadePhase)) (phases : List MadePhase)
-        → Leads phased (at (suc n) (with_judged (Ok (Lane lane act)) above)
-        (next_kept header n above (Ok (Lane lane act)) None kept) waits') phases texts
-        → LeadThroughFront header (segments ++ with_items kept.items
+        → (phases : List MadePhase)
+        → LeadsThrough (phased Makes) asked (after (Ok (Lane lane act)) None) phases texts
+        → Front Makes header w (Finishes Makes outcomes Ends (On (after (Ok (Lane lane act)) None) phases) texts)
+        (segments ++ with_items kept.items
         (with_item (record { number = n; lane = lane; act = act })
-        (segments_of (numbered_lines header (Lane lane act ∷ above.lines) (suc n) texts)))) (done ++ phases) w
-    past-lane lane act judged_is waits' phases leads =
+        (segments_of (numbered_lines header (Lane lane act ∷ above.lines) (suc n) texts)))) (done ++ phases)
+    past-lane lane act judged_is phases leads =
         let item : Item = record { number = n; lane = lane; act = act } in
         let later : List Segment = segments_of (numbered_lines header (Lane lane act ∷ above.lines) (suc n) texts) in
-        subst (λ (more : List Segment). LeadThroughFront header (segments ++ more) (done ++ phases) w)
+        subst (λ (more : List Segment). Front Makes header w
+        (Finishes Makes outcomes Ends (On (after (Ok (Lane lane act)) None) phases) texts) (segments ++ more)
+        (done ++ phases))
         (sym (with_items-push kept.items item later))
         (rec (suc n) (with_judged (Ok (Lane lane act)) above) (next_kept header n above (Ok (Lane lane act)) None kept)
-        waits' phases done segments
+        (waits_after waits (judged_text header n (Ok (Lane lane act)) kept) None) phases done segments
         (record {
           begins = led.begins;
           fits = Fits-judged kept.above kept.items header valid judged_is.0 n lane act
@@ -170,82 +222,76 @@ module _ (Makes : Header → World → List Item → Histories → Type 0) (know
     past-boundary : (b : BoundaryOf) → IsJudged header above (Ok (Boundary b)) → (given : Option MadePhase)
         → has_some kept.items ≡ is_some given
         → MayGive (has_some kept.items) (MayBe Makes header kept.world kept.items) given
-        → (waits' : List (Text MadePhase)) (phases : List MadePhase)
-        → Leads phased (at (suc n) (with_judged (Ok (Boundary b)) above)
-        (next_kept header n above (Ok (Boundary b)) given kept) waits') phases texts
-        → LeadThroughFront header (segments ++ with_items kept.items
+        → (phases : List MadePhase)
+        → LeadsThrough (phased Makes) asked (after (Ok (Boundary b)) given) phases texts
+        → Front Makes header w (Finishes Makes outcomes Ends (On (after (Ok (Boundary b)) given) phases) texts)
+        (segments ++ with_items kept.items
         (Between n b ∷ segments_of (numbered_lines header (Boundary b ∷ above.lines) (suc n) texts)))
-        ((done ++ at_most_one given) ++ phases) w
-    past-boundary b judged_is given ended may waits' phases leads =
+        ((done ++ at_most_one given) ++ phases)
+    past-boundary b judged_is given ended may phases leads =
         let past = LeadsPast-led Makes knows header n above b valid judged_is kept given led ended may in
         let cut : List Segment = phase_if_any kept.items ++ Between n b ∷ [] in
         let later : List Segment = segments_of (numbered_lines header (Boundary b ∷ above.lines) (suc n) texts) in
-        subst (λ (all : List Segment). LeadThroughFront header all ((done ++ at_most_one given) ++ phases) w)
+        let next : Kept = next_kept header n above (Ok (Boundary b)) given kept in
+        subst (λ (all : List Segment). Front Makes header w
+        (Finishes Makes outcomes Ends (On (after (Ok (Boundary b)) given) phases) texts) all
+        ((done ++ at_most_one given) ++ phases))
         (append_assoc segments cut later
         ∙ ap (λ (more : List Segment). segments ++ more) (sym (with_items-between kept.items n b later)))
-        (rec (suc n) (with_judged (Ok (Boundary b)) above) (next_kept header n above (Ok (Boundary b)) given kept)
-        waits'
-        phases (done ++ at_most_one given) (segments ++ cut) past.is_led (All-nil (λ (i : Item). i.number < suc n))
-        (subst (λ (hss : List Histories). LeadsThrough header pressure_rule normal_rule (segments ++ cut) hss w
-        (next_kept header n above (Ok (Boundary b)) given kept).world)
-        (sym (map-append (λ (made : MadePhase). made.histories) done (at_most_one given)))
-        (LeadsThrough-on header segments cut (histories_of done) (histories_of (at_most_one given)) w kept.world
-        (next_kept header n above (Ok (Boundary b)) given kept).world way past.leads)) leads)
+        (rec (suc n) (with_judged (Ok (Boundary b)) above) next
+        (waits_after waits (judged_text header n (Ok (Boundary b)) kept) given)
+        phases (done ++ at_most_one given) (segments ++ cut) past.is_led (λ k d less. absurd (omega (arith, less)))
+        (LeadOn-append Makes header segments cut done (at_most_one given) w kept.world next.world way past.leads)
+        leads)
 
     -- past any line
     past-line : (phases : List MadePhase) (now_open : Bool) → now_open ≡ has_some kept.items → (h : Option Status)
         (j : Result Line LineCause) → IsJudged header above j
         → leads_on (unless_stopped h (ends_at_judged now_open j)) phases (MayBe Makes header kept.world kept.items)
-        (λ given left. none_after h left (Leads phased (at (suc n) (with_judged j above)
-        (next_kept header n above j given kept) (waits_after waits (line_text header n above j kept) given)) left
-        texts))
-        → LeadThroughFront header (segments ++ with_items kept.items
-        (segments_with n j (segments_of (numbered_lines header (counted j above.lines) (suc n) texts)))) (done ++
-        phases) w
+        (λ given left. none_after h left (LeadsThrough (phased Makes) asked (after j given) left texts))
+        → Front Makes header w (FinishesPast h j (supply (unless_stopped h (ends_at_judged now_open j)) phases))
+        (segments ++ with_items kept.items
+        (segments_with n j (segments_of (numbered_lines header (counted j above.lines) (suc n) texts))))
+        (done ++ phases)
     past-line phases now_open same (Some halt) j judged_is leads =
-        stop segments (with_items kept.items
+        Front-stopped Makes header w _ segments (with_items kept.items
         (segments_with n j (segments_of (numbered_lines header (counted j above.lines) (suc n) texts)))) done phases
-        kept.world way leads
+        kept.world way leads (λ finishes. let none : Some halt ≡ None = finishes.0 in absurd cc)
     past-line phases now_open same None (Ok Blank) judged_is leads =
-        rec (suc n) above kept _ phases done segments led later_below way leads
+        rec (suc n) above kept (waits_after waits (judged_text header n (Ok Blank) kept) None) phases done segments
+        led later_below way leads
     past-line phases now_open same None (Err cause) judged_is leads =
-        rec (suc n) (with_judged (Err cause) above) kept _ phases done segments
+        rec (suc n) (with_judged (Err cause) above) kept
+        (waits_after waits (judged_text header n (Err cause) kept) None) phases done segments
         (record { begins = led.begins; fits = led.fits; lines = led.lines }) later_below way leads
     past-line phases now_open same None (Ok (Lane lane act)) judged_is leads =
-        past-lane lane act judged_is _ phases leads
+        past-lane lane act judged_is phases leads
     past-line phases false same None (Ok (Boundary b)) judged_is leads =
-        subst (λ (ps : List MadePhase). LeadThroughFront header (segments ++ with_items kept.items
-        (Between n b ∷ segments_of (numbered_lines header (Boundary b ∷ above.lines) (suc n) texts))) (ps ++ phases) w)
+        subst (λ (ps : List MadePhase). Front Makes header w
+        (Finishes Makes outcomes Ends (On (after (Ok (Boundary b)) None) phases) texts) (segments
+        ++ with_items kept.items
+        (Between n b ∷ segments_of (numbered_lines header (Boundary b ∷ above.lines) (suc n) texts))) (ps ++ phases))
         (append-nil done)
-        (past-boundary b judged_is None (sym same) tt _ phases leads)
+        (past-boundary b judged_is None (sym same) tt phases leads)
     past-line [] true same None (Ok (Boundary b)) judged_is leads =
-        stop segments (with_items kept.items
+        Front-stopped Makes header w _ segments (with_items kept.items
         (Between n b ∷ segments_of (numbered_lines header (Boundary b ∷ above.lines) (suc n) texts))) done []
-        kept.world way
-        refl
+        kept.world way refl (λ finishes. absurd (no-short texts finishes.1))
     past-line (made ∷ phases) true same None (Ok (Boundary b)) judged_is leads =
-        subst (λ (ps : List MadePhase). LeadThroughFront header (segments ++ with_items kept.items
-        (Between n b ∷ segments_of (numbered_lines header (Boundary b ∷ above.lines) (suc n) texts))) ps w)
+        subst (λ (ps : List MadePhase). Front Makes header w
+        (Finishes Makes outcomes Ends (On (after (Ok (Boundary b)) (Some made)) phases) texts) (segments
+        ++ with_items kept.items
+        (Between n b ∷ segments_of (numbered_lines header (Boundary b ∷ above.lines) (suc n) texts))) ps)
         (append_assoc done (made ∷ []) phases)
-        (past-boundary b judged_is (Some made) (sym same) (sym same, leads.0) _ phases leads.1)
+        (past-boundary b judged_is (Some made) (sym same) (sym same, leads.0) phases leads.1)
 
-  Leaves-lines : (texts : List (List ℕ)) → Leaves texts
+  pub Leaves-lines : (texts : List (List ℕ)) → Leaves texts
   Leaves-lines [] n above kept waits phases done segments led below way leads =
-      stop segments (with_items kept.items []) done phases kept.world way leads
+      Front-if Makes header w _ _ (segments ++ with_items kept.items []) (done ++ phases) (λ finishes. finishes.1)
+      (at_end n above kept waits phases done segments led way leads)
   Leaves-lines (text ∷ texts) n above kept waits phases done segments led below way leads =
-      by (all_built above.lines) refl (Leaves-lines texts)
-    where
-      by : (built : Bool) → all_built above.lines ≡ built → Leaves texts
-          → LeadThroughFront header (segments ++ with_items kept.items
-          (segments_of (numbered_lines header above.lines n (text ∷ texts)))) (done ++ phases) w
-      by true is rec = past-line texts rec n above kept waits done segments led below way phases (is_open above kept)
-          (ap (λ (x : Bool). x && has_some kept.items) is) (halts_at {K = Kept} (Body n header above kept) text)
-          (judged header above.lines text) (text, refl) leads
-      by false is rec =
-          stop segments (with_items kept.items (segments_of (numbered_lines header above.lines n (text ∷ texts)))) done
-          phases kept.world way (none-unbuilt (text ∷ texts) n above kept waits phases is leads)
-
-pub BodiesLeadOn-holds : (Makes : Header → World → List Item → Histories → Type 0) → Knows Makes → BodiesLeadOn Makes
-BodiesLeadOn-holds Makes knows header n texts phases valid leads =
-    Leaves-lines Makes knows header valid (first_kept header).world texts n nothing_above (first_kept header) [] phases
-    [] [] (FirstIsLed-holds header valid) (All-nil (λ (i : Item). i.number < n)) refl leads
+      Front-if Makes header w _ _ _ (done ++ phases)
+      (FinishesPast-line texts (Leaves-lines texts) n above kept waits done segments led below way text phases)
+      (past-line texts (Leaves-lines texts) n above kept waits done segments led below way phases
+      (has_some kept.items) refl (halts_at {K = Kept} (Body n header above kept) text)
+      (judged header above.lines text) (text, refl) leads)

@@ -1,16 +1,19 @@
--- A phase and the boundary line that ends it lead from world to world.
-use Rattle.std.proofs.Common.{◌≡◌, ℕ, List, [], ◌∷◌, ◌++◌, map, refl, sym, ap, subst, ◌∙◌, Option, Some, None, Ok}
-use Rattle.std.specs.Prelude.{is_some, reverse}
+-- A phase and the boundary line that ends it lead from world to world, and what is known of a phase that is made.
+use Rattle.std.proofs.Common.{◌≡◌, ℕ, true, false, List, [], ◌∷◌, ◌++◌, map, refl, sym, ap, ap₂, subst, ◌∙◌}
+use Rattle.std.proofs.Common.{Option, Some, None, Ok}
+use Rattle.std.proofs.lemmas.List.Elements.{All-cons, All-nil}
+use Rattle.std.specs.Prelude.{All, is_some, reverse}
 use Rattle.vms_base.specs.declared.headers.Header.{Header}
 use Rattle.vms_base.specs.Headers.{IsHeader}
 use Rattle.vms_command.specs.Bodies.{IsJudged}
-use Rattle.vms_command.specs.Lines.{LinesAbove}
+use Rattle.vms_command.specs.Lines.{LinesAbove, nothing_above, with_judged}
+use Rattle.vms_file_order.specs.FileOrderPhases.{KeepAllLaws}
 use Rattle.vms_file_order.specs.WorldStarts.{IsStartOf}
 use Rattle.vms_file_order.proofs.BoundaryStarts.{MayCross-allowed}
 use Rattle.vms_file_order.proofs.JudgedLines.{start_at_end-lines}
 use Rattle.vms_stream.specs.Jobs.{MayGive, at_most_one}
 use Rattle.vms_script.specs.FittingScripts.{Fits}
-use Rattle.vms_script.specs.Segments.{Between, phase_if_any}
+use Rattle.vms_script.specs.Segments.{Between, Phase, Segment, phase_if_any}
 use Rattle.vms_script.specs.Starts.{Start, first_start, start_after, start_at_end}
 use Rattle.vms_script.specs.Totals.{line_of}
 use Rattle.vms_script.proofs.Fitting.{Fits-none}
@@ -19,17 +22,24 @@ use Rattle.vms_text.specs.declared.acts.Item.{Item}
 use Rattle.vms_text.specs.declared.acts.Line.{Line}
 use Rattle.vms_text.specs.declared.acts.Line.TheVariants.{Boundary}
 use Rattle.vms_world.specs.declared.worlds.World.{World}
+use Rattle.vms_world.specs.Boundaries.{MayCross}
 use Rattle.vms_world.specs.PhaseLines.{IsWorldPhase, LeadsThrough}
 use Rattle.vms_world.specs.Phases.{Histories, left_by}
 use Rattle.vms_replay.specs.KernelRules.{normal_rule, pressure_rule}
-use Rattle.vms_replay.specs.LedLines.{FirstIsLed, IsLed, LeadsPast}
 use Rattle.vms_replay.specs.MadePhases.{MadePhase, crossed, world_after}
-use Rattle.vms_replay.specs.Replaying.{Kept, MayBe, has_some}
+use Rattle.vms_replay.specs.ReplayedTexts.{IsLawful, histories_in, phases_on}
+use Rattle.vms_replay.specs.Replaying.{Kept, MayBe, first_kept, has_some, next_kept}
 use Rattle.vms_replay.proofs.KernelThresholds.{Crosses-crossed, IsStartOf-past, IsStartOf-started}
 use Rattle.vms_replay.proofs.PassedBoundaries.{allowed-boundary, known-boundary}
 
-pub FirstIsLed-holds : FirstIsLed
-FirstIsLed-holds header valid = record {
+-- the lines that are kept fit the world that is kept, and are with the lines above them all that count
+pub record IsLed (header : Header) (above : LinesAbove) (kept : Kept) : Type 0 where
+  pub begins : IsStartOf header (start_after first_start kept.above) kept.world
+  pub fits : Fits header (start_after first_start kept.above) kept.items
+  pub lines : above.lines ≡ reverse (map line_of kept.items) ++ kept.above
+
+pub IsLed-first : (header : Header) → IsHeader header → IsLed header nothing_above (first_kept header)
+IsLed-first header valid = record {
   begins = IsStartOf-started header valid;
   fits = Fits-none header first_start;
   lines = refl;
@@ -43,75 +53,169 @@ pub record Knows (Makes : Header → World → List Item → Histories → Type 
   pub start : (header : Header) (start : Start) (w : World) (items : List Item) (hs : Histories)
       → IsStartOf header start w → Fits header start items → Makes header w items hs
       → IsStartOf header (start_at_end start (map line_of items)) (left_by header w hs)
+  pub laws : (header : Header) (w : World) (items : List Item) (hs : Histories) (next : World)
+      → IsWorldPhase header pressure_rule normal_rule w items hs next → KeepAllLaws header w hs
 
-module _ (Makes : Header → World → List Item → Histories → Type 0) (knows : Knows Makes) (header : Header) (n : ℕ)
-    (above : LinesAbove) (b : BoundaryOf) (valid : IsHeader header)
-    (judged_is : IsJudged header above (Ok (Boundary b))) where
-  -- the boundary line alone
-  crossing : (w : World) → IsStartOf header (start_after first_start above.lines) w
-      → LeadsThrough header pressure_rule normal_rule (Between n b ∷ []) [] w (crossed header b w)
-  crossing w is = (
-    crossed header b w,
-    MayCross-allowed header (start_after first_start above.lines) w is.states b
-        (known-boundary header valid above b judged_is) (allowed-boundary header valid above b judged_is),
-    Crosses-crossed header valid b w,
-    refl,
-  )
+module _ (Makes : Header → World → List Item → Histories → Type 0) (header : Header) where
+  -- a phase that was made of these lines from this world
+  pub record IsPhaseFrom (w : World) (items : List Item) (phase : MadePhase) : Type 0 where
+    pub be : MayBe Makes header w items phase
+    pub is : IsWorldPhase header pressure_rule normal_rule w items phase.histories
+        (left_by header phase.world phase.histories)
+    pub laws : KeepAllLaws header phase.world phase.histories
 
-  past : (kept : Kept) (given : Option MadePhase)
-      → IsStartOf header (start_after first_start above.lines) (world_after header kept.world given)
-      → LeadsThrough header pressure_rule normal_rule (phase_if_any kept.items ++ Between n b ∷ [])
-      (map (λ made. made.histories) (at_most_one given)) kept.world (crossed header b (world_after header kept.world
-      given))
-      → LeadsPast header n above kept b given
-  past kept given is leads = record {
-    leads = leads;
-    is_led = record {
-      begins = IsStartOf-past header valid (start_after first_start above.lines)
-          (world_after header kept.world given) is b (known-boundary header valid above b judged_is)
-          (allowed-boundary header valid above b judged_is);
-      fits = Fits-none header (start_after first_start (Boundary b ∷ above.lines));
-      lines = refl;
-    };
+  -- these phases lead through segments from one world to another
+  abbrev pub LeadOn : List Segment → List MadePhase → World → World → Type 0
+  LeadOn [] [] w last = w ≡ last
+  LeadOn (Phase items ∷ segments) (phase ∷ more) w last =
+      IsPhaseFrom w items phase × LeadOn segments more (left_by header phase.world phase.histories) last
+  LeadOn (Between n b ∷ segments) made w last =
+      MayCross header.layout w.pages b × LeadOn segments made (crossed header b w) last
+  LeadOn _ _ w last = ⊥
+
+  -- a way on from another
+  pub LeadOn-append : (segments more : List Segment) (made others : List MadePhase) (w mid last : World)
+      → LeadOn segments made w mid → LeadOn more others mid last
+      → LeadOn (segments ++ more) (made ++ others) w last
+  LeadOn-append [] more [] others w mid last same leads =
+      subst (λ (v : World). LeadOn more others v last) (sym same) leads
+  LeadOn-append [] more (phase ∷ made) others w mid last none leads = absurd none
+  LeadOn-append (Phase items ∷ segments) more (phase ∷ made) others w mid last (is, on) leads =
+      (is, LeadOn-append segments more made others (left_by header phase.world phase.histories) mid last on leads)
+  LeadOn-append (Phase items ∷ segments) more [] others w mid last none leads = absurd none
+  LeadOn-append (Between n b ∷ segments) more made others w mid last (may, on) leads =
+      (may, LeadOn-append segments more made others (crossed header b w) mid last on leads)
+
+  -- it is a way of the model, and the phases are those on it
+  pub record IsWay (segments : List Segment) (made : List MadePhase) (w last : World) : Type 0 where
+    pub way : LeadsThrough header pressure_rule normal_rule segments (histories_in made) w last
+    pub phases : phases_on header segments (histories_in made) w last way ≡ made
+    pub lawful : All (IsLawful Makes header) made
+
+  made-same : (w : World) (items : List Item) (phase : MadePhase) → MayBe Makes header w items phase
+      → record { world = w; items = items; histories = phase.histories } ≡ phase
+  made-same w items phase be =
+      ap₂ (λ (v : World) (xs : List Item). record { world = v; items = xs; histories = phase.histories })
+      (sym be.from) (sym be.of)
+
+  lawful-from : (w : World) (items : List Item) (phase : MadePhase) → IsPhaseFrom w items phase
+      → IsLawful Makes header phase
+  lawful-from w items phase is = record {
+    makes = subst (λ (xs : List Item). Makes header phase.world xs phase.histories) (sym is.be.of)
+        (subst (λ (v : World). Makes header v items phase.histories) (sym is.be.from) is.be.makes);
+    laws = is.laws;
   }
 
-  pub LeadsPast-led : (kept : Kept) (given : Option MadePhase) → IsLed header above kept
-      → has_some kept.items ≡ is_some given
-      → MayGive (has_some kept.items) (MayBe Makes header kept.world kept.items) given
-      → LeadsPast header n above kept b given
-  LeadsPast-led kept given led ended may = by kept.items refl given ended may
+  module _ (valid : IsHeader header) where
+    pub IsWay-led : (segments : List Segment) (made : List MadePhase) (w last : World) → LeadOn segments made w last
+        → IsWay segments made w last
+    IsWay-led [] [] w last same =
+        record { way = same; phases = refl; lawful = All-nil (IsLawful Makes header) }
+    IsWay-led [] (phase ∷ made) w last none = absurd none
+    IsWay-led (Phase items ∷ segments) [] w last none = absurd none
+    IsWay-led (Phase items ∷ segments) (phase ∷ made) w last (is, on) =
+        let left : World = left_by header phase.world phase.histories in
+        let later : IsWay segments made left last = IsWay-led segments made left last on in
+        record {
+          way = (left, is.is, later.way);
+          phases = ap₂ (λ (x : MadePhase) (xs : List MadePhase). x ∷ xs) (made-same w items phase is.be) later.phases;
+          lawful = All-cons (IsLawful Makes header) phase made (lawful-from w items phase is) later.lawful;
+        }
+    IsWay-led (Between n b ∷ segments) made w last (may, on) =
+        let later : IsWay segments made (crossed header b w) last =
+        IsWay-led segments made (crossed header b w) last on in
+        record {
+          way = (crossed header b w, may, Crosses-crossed header valid b w, later.way);
+          phases = later.phases;
+          lawful = later.lawful;
+        }
+
+module _ (Makes : Header → World → List Item → Histories → Type 0) (knows : Knows Makes) (header : Header) where
+  -- the phase that is open is made
+  module _ (above : LinesAbove) (kept : Kept) (led : IsLed header above kept) (phase : MadePhase)
+      (be : MayBe Makes header kept.world kept.items phase) where
+    abbrev start : Start
+    start = start_after first_start kept.above
+
+    abbrev left : World
+    left = left_by header phase.world phase.histories
+
+    begins : IsStartOf header start phase.world
+    begins = subst (IsStartOf header start) (sym be.from) led.begins
+
+    makes : Makes header phase.world kept.items phase.histories
+    makes = subst (λ (v : World). Makes header v kept.items phase.histories) (sym be.from) be.makes
+
+    phase-is : IsWorldPhase header pressure_rule normal_rule phase.world kept.items phase.histories left
+    phase-is = knows.phase header start phase.world kept.items phase.histories begins led.fits makes
+
+    pub IsPhaseFrom-led : IsPhaseFrom Makes header kept.world kept.items phase
+    IsPhaseFrom-led = record {
+      be = be;
+      is = subst (λ (v : World). IsWorldPhase header pressure_rule normal_rule v kept.items phase.histories left)
+          be.from phase-is;
+      laws = knows.laws header phase.world kept.items phase.histories left phase-is;
+    }
+
+    pub IsStartOf-left : IsStartOf header (start_after first_start above.lines) left
+    IsStartOf-left = subst (λ (s : Start). IsStartOf header s left)
+        (start_at_end-lines kept.above kept.items ∙ ap (start_after first_start) (sym led.lines))
+        (knows.start header start phase.world kept.items phase.histories begins led.fits makes)
+
+  -- past boundary line n, where the open phase has this outcome if one is open: the phase and the line lead from the
+  -- world that was kept to the one that is kept, and the lines fit it
+  pub record LeadsPast (n : ℕ) (above : LinesAbove) (kept : Kept) (b : BoundaryOf) (given : Option MadePhase) : Type 0
     where
-      by : (items : List Item) → kept.items ≡ items → (g : Option MadePhase) → has_some items ≡ is_some g
-          → MayGive (has_some items) (MayBe Makes header kept.world items) g → LeadsPast header n above kept b g
-      by [] is None same may =
-          let here : IsStartOf header (start_after first_start above.lines) kept.world =
-          subst (λ (lines : List Line). IsStartOf header (start_after first_start lines) kept.world)
-          (sym (led.lines ∙ ap (λ (xs : List Item). reverse (map line_of xs) ++ kept.above) is)) led.begins in
-          past kept None here
-          (subst (λ (xs : List Item). LeadsThrough header pressure_rule normal_rule (phase_if_any xs ++ Between n b ∷
-          [])
-          [] kept.world (crossed header b kept.world)) (sym is) (crossing kept.world here))
-      by [] is (Some made) same may = absurd cc
-      by (item ∷ items) is None same may = absurd cc
-      by (item ∷ items) is (Some made) same may =
-          let all : List Item = item ∷ items in
-          let start : Start = start_after first_start kept.above in
-          let fits : Fits header start all = subst (Fits header start) is led.fits in
-          let be = may.1 in
-          let after : World = left_by header made.world made.histories in
-          let begins : IsStartOf header start made.world = subst (IsStartOf header start) (sym be.from) led.begins in
-          let makes : Makes header made.world all made.histories =
-          subst (λ (v : World). Makes header v all made.histories) (sym be.from) be.makes in
-          let here : IsStartOf header (start_after first_start above.lines) after =
-          subst (λ (s : Start). IsStartOf header s after)
-          (ap (λ (xs : List Item). start_at_end start (map line_of xs)) (sym is)
-          ∙ start_at_end-lines kept.above kept.items ∙ ap (start_after first_start) (sym led.lines))
-          (knows.start header start made.world all made.histories begins fits makes) in
-          let phase : IsWorldPhase header pressure_rule normal_rule kept.world all made.histories after =
-          subst (λ (v : World). IsWorldPhase header pressure_rule normal_rule v all made.histories after) be.from
-          (knows.phase header start made.world all made.histories begins fits makes) in
-          past kept (Some made) here
-          (subst (λ (xs : List Item). LeadsThrough header pressure_rule normal_rule (phase_if_any xs ++ Between n b ∷
-          [])
-          (made.histories ∷ []) kept.world (crossed header b after)) (sym is)
-          (after, phase, crossing after here))
+      pub leads : LeadOn Makes header (phase_if_any kept.items ++ Between n b ∷ []) (at_most_one given) kept.world
+          (next_kept header n above (Ok (Boundary b)) given kept).world
+      pub is_led : IsLed header (with_judged (Ok (Boundary b)) above) (next_kept header n above (Ok (Boundary b)) given
+          kept)
+
+  module _ (n : ℕ) (above : LinesAbove) (b : BoundaryOf) (valid : IsHeader header)
+      (judged_is : IsJudged header above (Ok (Boundary b))) where
+    past : (kept : Kept) (given : Option MadePhase)
+        → IsStartOf header (start_after first_start above.lines) (world_after header kept.world given)
+        → (MayCross header.layout (world_after header kept.world given).pages b
+        → LeadOn Makes header (phase_if_any kept.items ++ Between n b ∷ []) (at_most_one given) kept.world
+        (crossed header b (world_after header kept.world given)))
+        → LeadsPast n above kept b given
+    past kept given is leads = record {
+      leads = leads (MayCross-allowed header (start_after first_start above.lines)
+          (world_after header kept.world given) is.states b (known-boundary header valid above b judged_is)
+          (allowed-boundary header valid above b judged_is));
+      is_led = record {
+        begins = IsStartOf-past header valid (start_after first_start above.lines)
+            (world_after header kept.world given) is b (known-boundary header valid above b judged_is)
+            (allowed-boundary header valid above b judged_is);
+        fits = Fits-none header (start_after first_start (Boundary b ∷ above.lines));
+        lines = refl;
+      };
+    }
+
+    pub LeadsPast-led : (kept : Kept) (given : Option MadePhase) → IsLed header above kept
+        → has_some kept.items ≡ is_some given
+        → MayGive (has_some kept.items) (MayBe Makes header kept.world kept.items) given
+        → LeadsPast n above kept b given
+    LeadsPast-led kept None led ended may = by kept.items refl ended
+      where
+        by : (items : List Item) → kept.items ≡ items → has_some items ≡ false → LeadsPast n above kept b None
+        by [] is same =
+            past kept None
+            (subst (λ (lines : List Line). IsStartOf header (start_after first_start lines) kept.world)
+            (sym (led.lines ∙ ap (λ (xs : List Item). reverse (map line_of xs) ++ kept.above) is)) led.begins)
+            (λ crosses. subst (λ (xs : List Item). LeadOn Makes header (phase_if_any xs ++ Between n b ∷ []) []
+            kept.world (crossed header b kept.world)) (sym is) (crosses, refl))
+        by (item ∷ items) is same = absurd cc
+    LeadsPast-led kept (Some phase) led ended may = by kept.items refl ended
+      where
+        by : (items : List Item) → kept.items ≡ items → has_some items ≡ true
+            → LeadsPast n above kept b (Some phase)
+        by [] is same = absurd cc
+        by (item ∷ items) is same =
+            past kept (Some phase) (IsStartOf-left above kept led phase may.1)
+            (λ crosses. subst (λ (xs : List Item). LeadOn Makes header (phase_if_any xs ++ Between n b ∷ [])
+            (phase ∷ []) kept.world (crossed header b (left_by header phase.world phase.histories))) (sym is) (
+              subst (λ (xs : List Item). IsPhaseFrom Makes header kept.world xs phase) is
+                  (IsPhaseFrom-led above kept led phase may.1),
+              (crosses, refl),
+            ))

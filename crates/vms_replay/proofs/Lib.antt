@@ -4,8 +4,11 @@ mod FirstLines
 mod KernelThresholds
 mod LedBodies
 mod LedLines
+mod LedTexts
 mod LineStands
 mod PassedBoundaries
+mod PlainTotals
+mod ReplayAnswers
 mod TextWaits
 mod WrittenWaits
 pub mod OrderedPhases

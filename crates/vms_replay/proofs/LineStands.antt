@@ -1,5 +1,5 @@
 -- How a replay takes a line at which no phase ends.
-use Rattle.std.proofs.Common.{◌≡◌, ◌≢◌, ℕ, ◌+◌, suc, ◌<◌, ◌&&◌, Bool, true, false, List, [], ◌∷◌, ◌++◌}
+use Rattle.std.proofs.Common.{◌≡◌, ◌≢◌, ℕ, suc, ◌<◌, Bool, true, false, List, [], ◌∷◌, ◌++◌}
 use Rattle.std.proofs.Common.{Option, None, Ok, Err, refl, sym, ap, ap₂, subst, ◌∙◌, arith, append-nil}
 use Rattle.std.proofs.Common.{length-append}
 use Rattle.std.proofs.Common.{if◌then◌else◌}
@@ -23,15 +23,14 @@ use Rattle.vms_text.specs.declared.acts.Act.{Act}
 use Rattle.vms_text.specs.declared.acts.Item.{Item}
 use Rattle.vms_text.specs.declared.acts.Lane.{Lane as LaneOf}
 use Rattle.vms_text.specs.declared.acts.Line.{Line}
-use Rattle.vms_text.specs.declared.acts.Line.TheVariants.{Blank, Lane, Boundary}
+use Rattle.vms_text.specs.declared.acts.Line.TheVariants.{Blank, Lane}
 use Rattle.vms_world.specs.declared.worlds.World.{World}
 use Rattle.vms_world.specs.Phases.{Histories}
 use Rattle.vms_replay.specs.declared.bodies.Replay.{Replay}
 use Rattle.vms_replay.specs.declared.waits.Wait.{Wait}
 use Rattle.vms_replay.specs.declared.waits.Wait.TheVariants as waits
 use Rattle.vms_replay.specs.MadePhases.{MadePhase}
-use Rattle.vms_replay.specs.Replaying.{Kept, act_text, all_built, has_some, is_asking, is_built, judged_text, line_text}
-use Rattle.vms_replay.specs.Replaying.{next_kept, replaying}
+use Rattle.vms_replay.specs.Replaying.{Kept, act_text, has_some, is_asking, judged_text, next_kept, replaying}
 use Rattle.vms_replay.specs.ReplayStates.{Runs, StandsBefore}
 use Rattle.vms_replay.specs.Waits.{TellsWaits, asked_numbers, asking_numbers}
 use Rattle.vms_replay.proofs.TextWaits.{TellsWaits-act, TellsWaits-nothing, TellsWaits-some, no-texts, printed_now-act}
@@ -95,6 +94,7 @@ module _ (header : Header) (n : ℕ) (above : LinesAbove) (kept : Kept) (texts :
           ∙ sym (asking-push kept.items (item ∷ []));
       only_open = λ none. absurd (some-last kept.items item none);
       begins = runs.begins;
+      totals = runs.totals;
       fits = Fits-judged kept.above kept.items header valid judged_is.0 n lane act
           (ap (λ (lines : List Line). judged header lines judged_is.0) (sym runs.lines) ∙ sym judged_is.1) runs.fits
           runs.below;
@@ -120,6 +120,7 @@ module _ (header : Header) (n : ℕ) (above : LinesAbove) (kept : Kept) (texts :
     asks = asks ∙ runs.asks;
     only_open = only_open;
     begins = runs.begins;
+    totals = runs.totals;
     fits = runs.fits;
     lines = same ∙ runs.lines;
     below = All-weaker (λ (i : Item). i.number < n) (λ (i : Item). i.number < suc n)
@@ -167,17 +168,6 @@ Runs-same header n above kept texts texts' held held' items items' waiting waiti
     (subst (λ (w : Option World). Runs header n above kept texts' w items waiting) (sym same_held)
     (subst (λ (ts : List (Text MadePhase)). Runs header n above kept ts held items waiting) (sym same_texts) runs)))
 
--- what a line prints of a replay whose lines are built, and of one that does nothing more
-pub text-built : (header : Header) (n : ℕ) (above : LinesAbove) (said : Result Line LineCause) (kept : Kept)
-    → all_built above.lines ≡ true → line_text header n above said kept ≡ judged_text header n said kept
-text-built header n above said kept built =
-    ap (λ (b : Bool). if b then judged_text header n said kept else Plain []) built
-
-text-unbuilt : (header : Header) (n : ℕ) (above : LinesAbove) (said : Result Line LineCause) (kept : Kept)
-    → all_built above.lines ≡ false → line_text header n above said kept ≡ Plain []
-text-unbuilt header n above said kept unbuilt =
-    ap (λ (b : Bool). if b then judged_text header n said kept else Plain []) unbuilt
-
 -- what holds of what was done
 pub then_ok : {P Q : Type 0} (result : Result (Unit {0}) Memory) → OnOk result P → (P → Q) → OnOk result Q
 then_ok (Ok done) holds on = on holds
@@ -193,9 +183,9 @@ module _ {E : Type 0} (Makes : Header → World → List Item → Histories → 
   -- the line prints this, and the replay stands after it
   pub record GoesOn (said : Result Line LineCause) (above : LinesAbove) (kept : Kept) (texts : List (Text MadePhase))
       (out out' : List ℕ) : Type 0 where
-    pub prints : out' ≡ out ++ printed_now texts (line_text header n above said kept)
+    pub prints : out' ≡ out ++ printed_now texts (judged_text header n said kept)
     pub stands_after : StandsBefore replay' header (suc n) (with_judged said above)
-        (next_kept header n above said None kept) (waits_with texts (line_text header n above said kept))
+        (next_kept header n above said None kept) (waits_with texts (judged_text header n said kept))
 
   -- the line failed, and no phase was made
   pub TakesLine-failed : (said : Result Line LineCause) (result : Result (Unit {0}) Memory) (error : Memory) (out
@@ -216,7 +206,7 @@ module _ {E : Type 0} (Makes : Header → World → List Item → Histories → 
   pub TakesLine-going_on : (said : Result Line LineCause) (result : Result (Unit {0}) Memory) (out out' : List ℕ)
       → ((above : LinesAbove) (kept : Kept) (texts : List (Text MadePhase))
       → StandsBefore replay header n above kept texts
-      → ends_at_judged (all_built above.lines && has_some kept.items) said ≡ false)
+      → ends_at_judged (has_some kept.items) said ≡ false)
       → OnOk result ((above : LinesAbove) (kept : Kept) (texts : List (Text MadePhase))
       → StandsBefore replay header n above kept texts → IsJudged header above said
       → GoesOn said above kept texts out out')
@@ -243,140 +233,71 @@ module _ {E : Type 0} (Makes : Header → World → List Item → Histories → 
   module _ (above : LinesAbove) (kept : Kept) (texts : List (Text MadePhase))
       (stands : StandsBefore replay header n above kept texts) where
     -- past a line of a lane
-    pub goes-lane : IsHeader header → replay.built ≡ true → (lane : LaneOf) (act : Act)
-        → replay'.built ≡ replay.built → replay'.world ≡ replay.world
+    pub goes-lane : IsHeader header → (lane : LaneOf) (act : Act) → replay'.world ≡ replay.world
         → replay'.items.items ≡ replay.items.items ++ record { number = n; lane = lane; act = act } ∷ []
         → replay'.waits.items ≡ replay.waits.items ++ (if is_asking act then waits.Answer n ∷ [] else [])
         → IsJudged header above (Ok (Lane lane act)) → (out : List ℕ)
         → GoesOn (Ok (Lane lane act)) above kept texts out out
-    goes-lane valid built lane act same_built same_world grown waits_grown judged_is out =
-        let lines_built : all_built above.lines ≡ true = sym stands.knows ∙ built in
-        let text = text-built header n above (Ok (Lane lane act)) kept lines_built in
+    goes-lane valid lane act same_world grown waits_grown judged_is out =
         let item : Item = record { number = n; lane = lane; act = act } in
+        let waits' : List (Text MadePhase) = waits_with texts (act_text header n act) in
         record {
-          prints = prints-nothing out _ (ap (printed_now texts) text ∙ printed_now-act header texts n act);
+          prints = prints-nothing out _ (printed_now-act header texts n act);
           stands_after = record {
-            knows = same_built ∙ stands.knows;
-            holds = λ still. Runs-same header (suc n) (with_judged (Ok (Lane lane act)) above)
-                (next_kept header n above (Ok (Lane lane act)) None kept)
-                (waits_with texts (act_text header n act))
-                (waits_with texts (line_text header n above (Ok (Lane lane act)) kept))
+            runs = Runs-same header (suc n) (with_judged (Ok (Lane lane act)) above)
+                (next_kept header n above (Ok (Lane lane act)) None kept) waits' waits'
                 replay.world replay'.world (replay.items.items ++ item ∷ []) replay'.items.items
-                replay'.waits.items replay'.waits.items
-                (ap (waits_with texts) text) same_world grown refl
+                replay'.waits.items replay'.waits.items refl same_world grown refl
                 (Runs-lane header n above kept texts replay.world replay.items.items replay.waits.items
-                (stands.holds built) valid lane act judged_is replay'.waits.items waits_grown);
+                stands.runs valid lane act judged_is replay'.waits.items waits_grown);
           };
         }
 
     -- past a line that is ignored
-    pub goes-blank : replay.built ≡ true → replay' ≡ replay → (out : List ℕ)
-        → GoesOn (Ok Blank) above kept texts out out
-    goes-blank built same out =
-        let lines_built : all_built above.lines ≡ true = sym stands.knows ∙ built in
-        let text = text-built header n above (Ok Blank) kept lines_built in
-        record {
-          prints = prints-nothing out _ (ap (printed_now texts) text ∙ printed_now-nothing texts);
-          stands_after = subst (λ (r : Replay E). StandsBefore r header (suc n) above kept
-              (waits_with texts (line_text header n above (Ok Blank) kept))) (sym same)
-              (record {
-                knows = stands.knows;
-                holds = λ still. Runs-same header (suc n) above kept (waits_with texts (Plain []))
-                    (waits_with texts (line_text header n above (Ok Blank) kept))
-                    replay.world replay.world replay.items.items replay.items.items replay.waits.items
-                    replay.waits.items (ap (waits_with texts) text) refl refl refl
-                    (Runs-blank header n above kept texts replay.world replay.items.items replay.waits.items
-                    (stands.holds built));
-              });
-        }
+    pub goes-blank : replay' ≡ replay → (out : List ℕ) → GoesOn (Ok Blank) above kept texts out out
+    goes-blank same out = record {
+      prints = prints-nothing out _ (printed_now-nothing texts);
+      stands_after = subst (λ (r : Replay E). StandsBefore r header (suc n) above kept (waits_with texts (Plain [])))
+          (sym same)
+          (record {
+            runs = Runs-blank header n above kept texts replay.world replay.items.items replay.waits.items
+                stands.runs;
+          });
+    }
 
     -- past a line that doesn't count, which is printed at once, or waits
-    module _ (built : replay.built ≡ true) (cause : LineCause) where
-      lines_built : all_built above.lines ≡ true
-      lines_built = sym stands.knows ∙ built
-
+    module _ (cause : LineCause) where
       abbrev refused : Text MadePhase
       refused = Plain (refused_line n cause)
-
-      text : line_text header n above (Err cause) kept ≡ refused
-      text = text-built header n above (Err cause) kept lines_built
 
       pub goes-refused_now : replay' ≡ replay → replay.waits.items ≡ [] → (out out' : List ℕ)
           → out' ≡ out ++ refused_line n cause → GoesOn (Err cause) above kept texts out out'
       goes-refused_now same none out out' printed =
-          let runs = stands.holds built in
-          let no = no-texts header replay.waits.items texts runs.tells none in
+          let no = no-texts header replay.waits.items texts stands.runs.tells none in
           record {
             prints = printed ∙ sym (ap (λ (more : List ℕ). out ++ more)
-                (ap₂ (λ (ts : List (Text MadePhase)) (t : Text MadePhase). printed_now ts t) no text));
+                (ap (λ (ts : List (Text MadePhase)). printed_now ts refused) no));
             stands_after = subst (λ (r : Replay E). StandsBefore r header (suc n) (with_judged (Err cause) above) kept
-                (waits_with texts (line_text header n above (Err cause) kept))) (sym same)
+                (waits_with texts refused)) (sym same)
                 (record {
-                  knows = stands.knows;
-                  holds = λ still. Runs-same header (suc n) (with_judged (Err cause) above) kept
-                      (waits_with texts refused) (waits_with texts (line_text header n above (Err cause) kept))
-                      replay.world replay.world replay.items.items replay.items.items replay.waits.items
-                      replay.waits.items (ap (waits_with texts) text) refl refl refl
-                      (Runs-refused_now header n above kept texts replay.world replay.items.items replay.waits.items
-                      runs cause none);
+                  runs = Runs-refused_now header n above kept texts replay.world replay.items.items
+                      replay.waits.items stands.runs cause none;
                 });
           }
 
-      pub goes-refused_later : replay'.built ≡ replay.built → replay'.world ≡ replay.world
-          → replay'.items.items ≡ replay.items.items
+      pub goes-refused_later : replay'.world ≡ replay.world → replay'.items.items ≡ replay.items.items
           → replay'.waits.items ≡ replay.waits.items ++ waits.Refused n cause ∷ []
           → replay.waits.items ≢ [] → (out : List ℕ) → GoesOn (Err cause) above kept texts out out
-      goes-refused_later same_built same_world same_items grown others out =
-          let runs = stands.holds built in
+      goes-refused_later same_world same_items grown others out =
           let some = some-wait replay.waits.items others in
           record {
-            prints = prints-nothing out _
-                (ap (printed_now texts) text ∙ printed_now-some texts refused (runs.tells.some ∙ some));
+            prints = prints-nothing out _ (printed_now-some texts refused (stands.runs.tells.some ∙ some));
             stands_after = record {
-              knows = same_built ∙ stands.knows;
-              holds = λ still. Runs-same header (suc n) (with_judged (Err cause) above) kept
-                  (waits_with texts refused) (waits_with texts (line_text header n above (Err cause) kept))
+              runs = Runs-same header (suc n) (with_judged (Err cause) above) kept
+                  (waits_with texts refused) (waits_with texts refused)
                   replay.world replay'.world replay.items.items replay'.items.items
-                  (replay.waits.items ++ waits.Refused n cause ∷ []) replay'.waits.items
-                  (ap (waits_with texts) text) same_world same_items grown
-                  (Runs-refused_later header n above kept texts replay.world replay.items.items replay.waits.items
-                  runs cause some);
+                  (replay.waits.items ++ waits.Refused n cause ∷ []) replay'.waits.items refl same_world same_items
+                  grown (Runs-refused_later header n above kept texts replay.world replay.items.items replay.waits.items
+                  stands.runs cause some);
             };
           }
-
-    -- a replay that does nothing more
-    pub goes-unbuilt : replay.built ≡ false → replay' ≡ replay → (said : Result Line LineCause) → (out : List ℕ)
-        → GoesOn said above kept texts out out
-    goes-unbuilt unbuilt same said out =
-        let lines_unbuilt : all_built above.lines ≡ false = sym stands.knows ∙ unbuilt in
-        record {
-          prints = prints-nothing out _
-              (ap (printed_now texts) (text-unbuilt header n above said kept lines_unbuilt) ∙ printed_now-nothing
-              texts);
-          stands_after = subst (λ (r : Replay E). StandsBefore r header (suc n) (with_judged said above)
-              (next_kept header n above said None kept) (waits_with texts (line_text header n above said kept))) (sym
-              same)
-              (record {
-                knows = unbuilt ∙ sym (stays-unbuilt said lines_unbuilt);
-                holds = λ still. let both : false ≡ true = sym unbuilt ∙ still in absurd cc;
-              });
-        }
-      where
-        by : (x : Bool) → x && false ≡ false
-        by true = refl
-        by false = refl
-
-        stays-unbuilt : (s : Result Line LineCause) → all_built above.lines ≡ false
-            → all_built (with_judged s above).lines ≡ false
-        stays-unbuilt (Ok Blank) is = is
-        stays-unbuilt (Ok (Lane lane act)) is = is
-        stays-unbuilt (Ok (Boundary b)) is = ap (λ (x : Bool). is_built b && x) is ∙ by (is_built b)
-        stays-unbuilt (Err cause) is = is
-
--- no phase ends at such a line
-pub no-end-unbuilt : (above : LinesAbove) (kept : Kept) (said : Result Line LineCause)
-    → all_built above.lines ≡ false → ends_at_judged (all_built above.lines && has_some kept.items) said ≡ false
-no-end-unbuilt above kept (Ok Blank) unbuilt = refl
-no-end-unbuilt above kept (Ok (Lane lane act)) unbuilt = refl
-no-end-unbuilt above kept (Ok (Boundary b)) unbuilt = ap (λ (x : Bool). x && has_some kept.items) unbuilt
-no-end-unbuilt above kept (Err cause) unbuilt = refl

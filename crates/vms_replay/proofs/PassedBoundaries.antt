@@ -1,7 +1,7 @@
 -- How a replay goes past a boundary line, and how it ends.
-use Rattle.std.proofs.Common.{◌≡◌, ℕ, suc, ◌<◌, ◌&&◌, Bool, true, false, List, [], ◌++◌, length}
+use Rattle.std.proofs.Common.{◌≡◌, ℕ, suc, ◌<◌, List, [], ◌++◌, length}
 use Rattle.std.proofs.Common.{Option, Some}
-use Rattle.std.proofs.Common.{None, Ok, Err, refl, sym, ap, ap₂, subst, ◌∙◌, arith, append_assoc, if◌then◌else◌}
+use Rattle.std.proofs.Common.{None, Ok, Err, refl, sym, ap, ap₂, subst, ◌∙◌, arith, append_assoc}
 use Rattle.std.proofs.lemmas.List.Elements.{All-nil}
 use Rattle.std.specs.Prelude.{OnOk, Result, is_some}
 use Rattle.vms_base.specs.declared.failures.Memory.{Memory}
@@ -14,13 +14,9 @@ use Rattle.vms_command.specs.Printing.{done_line}
 use Rattle.vms_file_order.specs.WorldStarts.{IsStartOf}
 use Rattle.vms_file_order.proofs.BoundaryStarts.{MayCross-allowed}
 use Rattle.vms_line.specs.Laws.{IsLineOf}
-use Rattle.vms_stream.specs.Jobs.{Grows, MayGive}
-use Rattle.vms_stream.specs.Waiting.{Text, printed_now, printed_with, waits_after}
-use Rattle.vms_stream.specs.Waiting.Text.{Plain}
-use Rattle.vms_stream.proofs.TakenTexts.{Grows-nil}
+use Rattle.vms_stream.specs.Waiting.{Text}
 use Rattle.vms_stream.specs.declared.statuses.Status.{Status}
-use Rattle.vms_stream.specs.declared.statuses.Status.TheVariants.{NotBuilt}
-use Rattle.vms_script.specs.Judging.{allowed_from, judged}
+use Rattle.vms_script.specs.Judging.{allowed_from}
 use Rattle.vms_script.specs.Starts.{first_start, start_after, start_past}
 use Rattle.vms_script.proofs.Fitting.{Fits-none}
 use Rattle.vms_script.proofs.Known.{judged-known, judged_from-allowed}
@@ -33,15 +29,16 @@ use Rattle.vms_world.specs.Phases.{Histories}
 use Rattle.vms_world.specs.Worlds.{IsWorldOf}
 use Rattle.vms_replay.specs.declared.bodies.Replay.{Replay}
 use Rattle.vms_replay.specs.declared.waits.Wait.{Wait}
-use Rattle.vms_replay.specs.MadePhases.{MadePhase, crossed, world_after}
-use Rattle.vms_replay.specs.Replaying.{Kept, MayBe, all_built, has_some, is_built, is_open, last_text, line_text}
-use Rattle.vms_replay.specs.Replaying.{next_kept, nothing_shown, replaying, report_text, text_after}
+use Rattle.vms_replay.specs.MadePhases.{MadePhase, crossed, with_given, world_after}
+use Rattle.vms_replay.specs.PlainReports.{HasPlainTotals}
+use Rattle.vms_replay.specs.Replaying.{Kept, boundary_report, has_some, next_kept, nothing_shown, replaying}
 use Rattle.vms_replay.specs.ReplayStates.{CrossesTo, Ended, EndsPhase, Runs, StandsBefore, printed_given}
+use Rattle.vms_replay.specs.ReplayStates.{world_report}
 use Rattle.vms_replay.specs.Waits.{TellsWaits, asked_numbers}
 use Rattle.vms_replay.proofs.KernelThresholds.{IsStartOf-past}
-use Rattle.vms_replay.proofs.LineStands.{prints-nothing, text-built, then_ok}
+use Rattle.vms_replay.proofs.LineStands.{then_ok}
+use Rattle.vms_replay.proofs.PlainTotals.{HasPlainTotals-crossed, report-plain}
 use Rattle.vms_replay.proofs.TextWaits.{TellsWaits-none, no-texts, none-some, none-waits, printed-after, printed-plain}
-use Rattle.vms_replay.proofs.TextWaits.{printed_now-nothing}
 
 -- a boundary line that counts is one of the header, and is allowed there
 module _ (header : Header) (valid : IsHeader header) (above : LinesAbove) (b : BoundaryOf)
@@ -63,92 +60,66 @@ module _ (header : Header) (n : ℕ) (above : LinesAbove) (kept : Kept) (texts :
   kept' = next_kept header n above (Ok (Boundary b)) given kept
 
   pub Runs-boundary : IsStartOf header (start_past (Boundary b) (start_after first_start above.lines)) kept'.world
+      → HasPlainTotals header kept'.made kept'.world
       → (held : Option World) (items : List Item) (waiting : List Wait) → held ≡ Some kept'.world → items ≡ []
       → waiting ≡ [] → Runs header (suc n) above' kept' [] held items waiting
-  Runs-boundary begins held items waiting in_world no_items no_waits = record {
+  Runs-boundary begins totals held items waiting in_world no_items no_waits = record {
     in_world = in_world;
     keeps = no_items;
     tells = subst (λ (ws : List Wait). TellsWaits header ws []) (sym no_waits) (TellsWaits-none header);
     asks = ap asked_numbers no_waits;
     only_open = λ none. no_waits;
     begins = begins;
+    totals = totals;
     fits = Fits-none header (start_after first_start kept'.above);
     lines = refl;
     below = All-nil (λ (i : Item). i.number < suc n);
     fewer = omega arith;
   }
 
-and-true : (x : Bool) → x ≡ x && true
-and-true true = refl
-and-true false = refl
-
 -- a replay ended the open phase, and went past the boundary line
 module _ {E : Type 0} (Makes : Header → World → List Item → Histories → Type 0) (replay mid replay' : Replay E)
     (header : Header) (n : ℕ) (above : LinesAbove) (kept : Kept) (texts : List (Text MadePhase))
-    (stands : StandsBefore replay header n above kept texts) (built : replay.built ≡ true) (given : Option MadePhase)
-    (out between : List ℕ)
+    (stands : StandsBefore replay header n above kept texts) (given : Option MadePhase) (out between : List ℕ)
     (ended : Ended header above kept texts given mid.world mid.items.items mid.waits.items out between) where
-  lines_built : all_built above.lines ≡ true
-  lines_built = sym stands.knows ∙ built
-
-  pub open-given : is_open above kept ≡ is_some given
-  open-given = ap (λ (x : Bool). x && has_some kept.items) lines_built ∙ ended.ended
-
   pub only-given : given ≡ None → texts ≡ []
   only-given none =
-      let runs = stands.holds built in
-      no-texts header replay.waits.items texts runs.tells
-      (runs.only_open (none-some kept.items (ended.ended ∙ ap is_some none)))
+      no-texts header replay.waits.items texts stands.runs.tells
+      (stands.runs.only_open (none-some kept.items (ended.ended ∙ ap is_some none)))
 
   module _ (b : BoundaryOf) (out' : List ℕ)
       (crosses : CrossesTo header n b (world_after header kept.world given) mid replay' between out')
       (leads : IsStartOf header (start_past (Boundary b) (start_after first_start above.lines))
+      (crossed header b (world_after header kept.world given)))
+      (totals : HasPlainTotals header (with_given given kept.made)
       (crossed header b (world_after header kept.world given))) where
     abbrev reported : Option MadePhase → List ℕ
-    reported g = report_text header n b (world_after header kept.world g)
+    reported g = boundary_report header n b (with_given g kept.made) (world_after header kept.world g)
 
-    text : line_text header n above (Ok (Boundary b)) kept ≡ text_after (has_some kept.items) reported
-    text = text-built header n above (Ok (Boundary b)) kept lines_built
-
-    no-waits : waits_after texts (line_text header n above (Ok (Boundary b)) kept) given ≡ []
-    no-waits = ap (λ (t : Text MadePhase). waits_after texts t given) text
-        ∙ none-waits texts given only-given (has_some kept.items) reported ended.ended
+    told : world_report header n b (world_after header kept.world given) ≡ reported given
+    told = report-plain header n b (with_given given kept.made) (world_after header kept.world given) ended.totals
 
     pub GoesPast-boundary :
         GoesPast (replaying Makes) (StandsBefore replay') header n above kept texts (Ok (Boundary b)) given out out'
     GoesPast-boundary = record {
-      ended = open-given;
-      prints = crosses.prints ∙ ap (λ (front : List ℕ). front ++ reported given) ended.prints
+      ended = ended.ended;
+      prints = crosses.prints ∙ ap₂ (λ (front rest : List ℕ). front ++ rest) ended.prints told
           ∙ append_assoc out (printed_given texts given) (reported given)
           ∙ sym (ap (λ (more : List ℕ). out ++ more)
-          (ap (λ (t : Text MadePhase). printed_with texts t given) text
-          ∙ printed-after texts given only-given (has_some kept.items) reported ended.ended));
+          (printed-after texts given only-given (has_some kept.items) reported ended.ended));
       stands_after = subst (λ (ts : List (Text MadePhase)). StandsBefore replay' header (suc n)
           (with_judged (Ok (Boundary b)) above) (next_kept header n above (Ok (Boundary b)) given kept) ts)
-          (sym no-waits)
+          (sym (none-waits texts given only-given (has_some kept.items) reported ended.ended))
           (record {
-            knows = crosses.knows ∙ and-true (is_built b)
-                ∙ sym (ap (λ (x : Bool). is_built b && x) lines_built);
-            holds = λ still. Runs-boundary header n above kept texts given b leads replay'.world replay'.items.items
-                replay'.waits.items crosses.in_world (crosses.same_items ∙ ended.no_items)
+            runs = Runs-boundary header n above kept texts given b leads totals replay'.world
+                replay'.items.items replay'.waits.items crosses.in_world (crosses.same_items ∙ ended.no_items)
                 (crosses.same_waits ∙ ended.no_waits);
           });
     }
 
 -- a line at which a phase ends
 module _ {E : Type 0} (Makes : Header → World → List Item → Histories → Type 0) (replay mid replay' : Replay E)
-    (made made' : Option (List MadePhase)) (header : Header) (n : ℕ) (built : replay.built ≡ true) (b : BoundaryOf)
-    (out between out' : List ℕ) where
-  may_give : (done : Result (Unit {0}) Memory)
-      → (ends : EndsPhase Makes header replay mid made made' done out between)
-      → (above : LinesAbove) (kept : Kept) (texts : List (Text MadePhase))
-      → StandsBefore replay header n above kept texts
-      → MayGive (is_open above kept) (MayBe Makes header kept.world kept.items) ends.given
-  may_give done ends above kept texts stands =
-      subst (λ (ended : Bool). MayGive ended (MayBe Makes header kept.world kept.items) ends.given)
-      (sym (ap (λ (x : Bool). x && has_some kept.items) (sym stands.knows ∙ built)))
-      (ends.may_give n above kept texts (stands.holds built))
-
+    (made made' : Option (List MadePhase)) (header : Header) (n : ℕ) (b : BoundaryOf) (out between out' : List ℕ) where
   -- the phase wasn't made, or what waits for it couldn't be written
   pub TakesLine-unended : (error failure : Memory)
       → EndsPhase Makes header replay mid made made' (Err error) out between
@@ -157,7 +128,7 @@ module _ {E : Type 0} (Makes : Header → World → List Item → Histories → 
   TakesLine-unended error failure ends = record {
     given = ends.given;
     grows = ends.grows;
-    may_give = λ above kept texts stands judged_is. may_give (Err error) ends above kept texts stands;
+    may_give = λ above kept texts stands judged_is. ends.may_give n above kept texts stands;
     goes = tt;
   }
 
@@ -166,7 +137,7 @@ module _ {E : Type 0} (Makes : Header → World → List Item → Histories → 
     pub found-world : IsHeader header → SomeLine (StandsBefore replay) header n (Ok (Boundary b))
         → (w : World) × (mid.world ≡ Some w) × IsWorldOf header w × MayCross header.layout w.pages b
     found-world valid line =
-        let ended = ends.goes n line.above line.kept line.waits (line.after.holds built) in (
+        let ended = ends.goes n line.above line.kept line.waits line.after in (
           world_after header line.kept.world ends.given,
           ended.in_world,
           ended.begins.world,
@@ -183,83 +154,52 @@ module _ {E : Type 0} (Makes : Header → World → List Item → Histories → 
     TakesLine-passed valid done crosses = record {
       given = ends.given;
       grows = ends.grows;
-      may_give = λ above kept texts stands judged_is. may_give (Ok tt) ends above kept texts stands;
+      may_give = λ above kept texts stands judged_is. ends.may_give n above kept texts stands;
       goes = then_ok done crosses (λ crossing above kept texts stands judged_is.
-          let ended = ends.goes n above kept texts (stands.holds built) in
-          GoesPast-boundary Makes replay mid replay' header n above kept texts stands built ends.given out between ended
-          b out' (crossing (world_after header kept.world ends.given) ended.in_world)
+          let ended = ends.goes n above kept texts stands in
+          GoesPast-boundary Makes replay mid replay' header n above kept texts stands ends.given out between ended b
+          out' (crossing (world_after header kept.world ends.given) ended.in_world)
           (IsStartOf-past header valid (start_after first_start above.lines)
           (world_after header kept.world ends.given) ended.begins b
-          (known-boundary header valid above b judged_is) (allowed-boundary header valid above b judged_is)));
+          (known-boundary header valid above b judged_is) (allowed-boundary header valid above b judged_is))
+          (HasPlainTotals-crossed header valid (with_given ends.given kept.made)
+          (world_after header kept.world ends.given) b ended.begins.world ended.totals));
     }
 
 -- a replay at the end of its trace
 module _ {E : Type 0} (Makes : Header → World → List Item → Histories → Type 0) (replay mid : Replay E)
     (made made' : Option (List MadePhase)) (header : Header) (accepted refused : ℕ) (out between out' : List ℕ) where
-  -- which does nothing more
-  pub ClosesBody-unbuilt : replay.built ≡ false → made' ≡ made → out' ≡ out
-      → ClosesBody {E = Memory} (replaying Makes) (StandsBefore replay) nothing_shown made made' header accepted refused
-      (Ok NotBuilt) out out'
-  ClosesBody-unbuilt unbuilt same same_out = record {
-    given = None;
-    grows = subst (λ (m : Option (List MadePhase)). Grows made m []) (sym same) (Grows-nil made);
-    may_give = λ n above kept texts stands accepts refuses. tt;
-    goes = λ n above kept texts stands accepts refuses.
-        let lines_unbuilt : all_built above.lines ≡ false = sym stands.knows ∙ unbuilt in
-        record {
-          ended = ap (λ (x : Bool). x && has_some kept.items) lines_unbuilt;
-          ends = sym (ap (λ (x : Bool). if x then status_at_end above.refused else NotBuilt) lines_unbuilt);
-          prints = same_out ∙ prints-nothing out _
-              (ap (λ (x : Bool). printed_now texts (Plain (if x then done_line (length above.lines) above.refused
-              else []))) lines_unbuilt ∙ printed_now-nothing texts);
-          shown = tt;
-        };
-  }
-
-  -- or where the phase wasn't made, or something couldn't be written
-  pub ClosesBody-failed : replay.built ≡ true → (done : Result (Unit {0}) Memory) (failure : Memory)
+  -- where the phase wasn't made, or something couldn't be written
+  pub ClosesBody-failed : (done : Result (Unit {0}) Memory) (failure : Memory)
       → EndsPhase Makes header replay mid made made' done out between
       → ClosesBody (replaying Makes) (StandsBefore replay) nothing_shown made made' header accepted refused
       (Err failure) out out'
-  ClosesBody-failed built done failure ends = record {
+  ClosesBody-failed done failure ends = record {
     given = ends.given;
     grows = ends.grows;
-    may_give = λ n above kept texts stands accepts refuses.
-        subst (λ (ended : Bool). MayGive ended (MayBe Makes header kept.world kept.items) ends.given)
-        (sym (ap (λ (x : Bool). x && has_some kept.items) (sym stands.knows ∙ built)))
-        (ends.may_give n above kept texts (stands.holds built));
+    may_give = λ n above kept texts stands accepts refuses. ends.may_give n above kept texts stands;
     goes = tt;
   }
 
-  pub ClosesBody-ended : replay.built ≡ true → EndsPhase Makes header replay mid made made' (Ok tt) out between
+  pub ClosesBody-ended : EndsPhase Makes header replay mid made made' (Ok tt) out between
       → (ending : Status) → ending ≡ status_at_end refused → out' ≡ between ++ done_line accepted refused
       → ClosesBody {E = Memory} (replaying Makes) (StandsBefore replay) nothing_shown made made' header accepted refused
       (Ok ending) out out'
-  ClosesBody-ended built ends ending is printed = record {
+  ClosesBody-ended ends ending is printed = record {
     given = ends.given;
     grows = ends.grows;
-    may_give = λ n above kept texts stands accepts refuses.
-        subst (λ (ended : Bool). MayGive ended (MayBe Makes header kept.world kept.items) ends.given)
-        (sym (ap (λ (x : Bool). x && has_some kept.items) (sym stands.knows ∙ built)))
-        (ends.may_give n above kept texts (stands.holds built));
+    may_give = λ n above kept texts stands accepts refuses. ends.may_give n above kept texts stands;
     goes = λ n above kept texts stands accepts refuses.
-        let ended = ends.goes n above kept texts (stands.holds built) in
-        let lines_built : all_built above.lines ≡ true = sym stands.knows ∙ built in
-        let only = only-given Makes replay mid mid header n above kept texts stands built ends.given out between
-        ended in
-        let told : done_line accepted refused ≡ done_line (length above.lines) above.refused =
-        ap₂ done_line accepts refuses in
-        let last : last_text above ≡ Plain (done_line (length above.lines) above.refused) =
-        ap (λ (x : Bool). Plain (if x then done_line (length above.lines) above.refused else [])) lines_built in
+        let ended = ends.goes n above kept texts stands in
+        let only = only-given Makes replay mid mid header n above kept texts stands ends.given out between ended in
         record {
-          ended = open-given Makes replay mid mid header n above kept texts stands built ends.given out between ended;
-          ends = is ∙ ap status_at_end refuses
-              ∙ sym (ap (λ (x : Bool). if x then status_at_end above.refused else NotBuilt) lines_built);
-          prints = printed ∙ ap₂ (λ (front rest : List ℕ). front ++ rest) ended.prints told
+          ended = ended.ended;
+          ends = is ∙ ap status_at_end refuses;
+          prints = printed
+              ∙ ap₂ (λ (front rest : List ℕ). front ++ rest) ended.prints (ap₂ done_line accepts refuses)
               ∙ append_assoc out (printed_given texts ends.given) (done_line (length above.lines) above.refused)
               ∙ sym (ap (λ (more : List ℕ). out ++ more)
-              (ap (λ (t : Text MadePhase). printed_with texts t ends.given) last
-              ∙ printed-plain texts ends.given only (done_line (length above.lines) above.refused)));
+              (printed-plain texts ends.given only (done_line (length above.lines) above.refused)));
           shown = tt;
         };
   }

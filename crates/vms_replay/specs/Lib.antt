@@ -1,9 +1,10 @@
 pub mod KernelRules
 pub mod MadePhases
+pub mod PlainReports
 pub mod Replaying
 pub mod Waits
 pub mod Engines
 pub mod ReplayStates
+pub mod ReplayedTexts
+pub mod ReplayAnswers
 pub mod FileOrders
-pub mod LedLines
-pub mod PlainReports

@@ -1,5 +1,5 @@
 -- A phase of a trace that was made, and what stands after it.
-use Rattle.std.specs.Prelude.{List, Option, Some, None}
+use Rattle.std.specs.Prelude.{List, ◌∷◌, Option, Some, None}
 use Rattle.vms_base.specs.declared.headers.Header.{Header}
 use Rattle.vms_base.specs.declared.kinds.CpuState.TheVariants.{Online as IsOnline}
 use Rattle.vms_answers.specs.PhaseAnswers.{NumberedAnswer, answers_of}
@@ -9,9 +9,14 @@ use Rattle.vms_text.specs.declared.acts.Boundary.TheVariants.{Offline, Online, F
 use Rattle.vms_text.specs.declared.acts.Item.{Item}
 use Rattle.vms_world.specs.declared.worlds.World.{World}
 use Rattle.vms_world.specs.Boundaries.{brought_up, flushed, taken_down}
+use Rattle.vms_world.specs.FirstWorlds.{started}
 use Rattle.vms_world.specs.Phases.{Histories, left_by}
 use Rattle.vms_world.specs.Refreshes.{count_online}
 use Rattle.vms_replay.specs.KernelRules.{normal_zones}
+
+-- the world that a run begins with, where the thresholds are the kernel's
+abbrev pub first_world : Header → World
+first_world header = started header (normal_zones header header.layout.cpus)
 
 -- a phase that was made: the world that it began with, its lines, and its histories
 pub record MadePhase : Type 0 where
@@ -28,7 +33,12 @@ abbrev pub world_after : Header → World → Option MadePhase → World
 world_after header w None = w
 world_after header w (Some made) = left_by header made.world made.histories
 
--- what a boundary line makes of a world, where the thresholds are the kernel's
+-- the phases that were made, the newest first, with the one that ends
+abbrev pub with_given : Option MadePhase → List MadePhase → List MadePhase
+with_given None made = made
+with_given (Some phase) made = phase ∷ made
+
+-- what a boundary line makes of a world, where they are the kernel's too
 abbrev pub crossed : Header → Boundary → World → World
 crossed header (Offline c) w = taken_down c.number w
 crossed header (Online c) w = brought_up header

@@ -1,36 +1,33 @@
--- What a report of the totals prints, by the lines of the phases before it.
-use Rattle.std.specs.Prelude.{◌≡◌, ℕ, pos, List, ◌++◌, All, codes}
+-- What a report of the totals prints: the plain sums of the lines of the phases before it.
+use Rattle.std.specs.Prelude.{◌≡◌, ℕ, ℤ, pos, List, map}
 use Rattle.vms_base.specs.declared.headers.Header.{Header}
-use Rattle.vms_base.specs.Headers.{IsHeader}
-use Rattle.vms_command.specs.Printing.{line_prefix, newline}
+use Rattle.vms_base.specs.Places.{IsCounter}
+use Rattle.vms_event_core.specs.Words.{IsEvent}
+use Rattle.vms_line.specs.Laws.{IsDeclared}
 use Rattle.vms_report.specs.Reports.{totals_report}
-use Rattle.vms_script.specs.Segments.{Segment}
+use Rattle.vms_report.specs.Totals.{event_total, page_total, pcpu_total}
 use Rattle.vms_script.specs.Totals.{plain_total}
-use Rattle.vms_totals.specs.PlainSums.{AreLinesOf, AreNumbered, adds_by_all, counts_by_all, phases_among}
-use Rattle.vms_totals.specs.WayAnswers.{answers_on}
+use Rattle.vms_text.specs.declared.acts.Item.{Item}
+use Rattle.vms_totals.specs.PlainSums.{adds_by_all, counts_by_all}
 use Rattle.vms_world.specs.declared.worlds.World.{World}
-use Rattle.vms_world.specs.FirstWorlds.{started}
-use Rattle.vms_world.specs.PhaseLines.{IsWorldRun, LeadsThrough}
-use Rattle.vms_world.specs.Phases.{Histories}
-use Rattle.vms_replay.specs.KernelRules.{normal_rule, pressure_rule}
-use Rattle.vms_replay.specs.Replaying.{first_kept, totals_text}
+use Rattle.vms_replay.specs.MadePhases.{MadePhase, answers_in}
 
--- these segments are a run to this world, and a report by line n prints the plain sums of their phases there: of each
--- page counter its base and all deltas, of each event all counts, and of each percpu counter all amounts, of limited
--- additions where the answer is yes
-pub record PrintsPlainSums (header : Header) (n : ℕ) (segments : List Segment) (hss : List Histories) (w : World)
-    : Type 0 where
-  pub run : IsWorldRun header pressure_rule normal_rule segments hss w
-  pub text : totals_text header n w ≡ line_prefix n ++ codes "report totals" ++ newline
-      ++ totals_report header (plain_total header (phases_among segments))
-      (λ k. pos (counts_by_all k (phases_among segments)))
-      (λ j. adds_by_all j
-      (answers_on header pressure_rule normal_rule segments hss (started header run.zones) w run.leads)
-      (phases_among segments))
+-- the lines of these phases
+abbrev pub lines_in : List MadePhase → List (List Item)
+lines_in made = map (λ phase. phase.items) made
 
--- so it is wherever segments lead from the world that a replay begins with
-abbrev pub ReportsPrintPlainSums : Type 0
-ReportsPrintPlainSums = (header : Header) (n : ℕ) (segments : List Segment) (hss : List Histories) (w : World)
-    → IsHeader header → All (AreLinesOf header) (phases_among segments) → All AreNumbered (phases_among segments)
-    → LeadsThrough header pressure_rule normal_rule segments hss (first_kept header).world w
-    → PrintsPlainSums header n segments hss w
+-- the amounts that percpu counter j was given in them, of limited additions where the answer is yes
+abbrev pub amounts_in : Header → List MadePhase → ℕ → ℤ
+amounts_in header made j = adds_by_all j (map (answers_in header) made) (lines_in made)
+
+-- the report: of each page counter its base and all deltas, of each event all counts, and of each percpu counter all
+-- amounts
+abbrev pub plain_report : Header → List MadePhase → List ℕ
+plain_report header made = totals_report header (plain_total header (lines_in made))
+    (λ k. pos (counts_by_all k (lines_in made))) (amounts_in header made)
+
+-- what a world adds up to are these sums
+pub record HasPlainTotals (header : Header) (made : List MadePhase) (w : World) : Type 0 where
+  pub pages : (k : ℕ) → IsCounter header.layout k → page_total header w k ≡ plain_total header (lines_in made) k
+  pub events : (k : ℕ) → IsEvent k → event_total header w k ≡ pos (counts_by_all k (lines_in made))
+  pub counters : (j : ℕ) → IsDeclared header j → pcpu_total header w j ≡ amounts_in header made j

@@ -1,27 +1,33 @@
 -- What a replay holds after the lines of a body that it took.
-use Rattle.std.specs.Prelude.{◌≡◌, ℕ, ◌<◌, true, List, [], ◌++◌, length, map, reverse, All, flat_map}
+use Rattle.std.specs.Prelude.{◌≡◌, ℕ, ◌<◌, List, [], ◌++◌, length, map, reverse, All, flat_map}
 use Rattle.std.specs.Prelude.{Option, Some, None, is_some, Result, OnOk}
 use Rattle.vms_base.specs.declared.failures.Memory.{Memory}
 use Rattle.vms_base.specs.declared.headers.Header.{Header}
 use Rattle.vms_command.specs.Lines.{LinesAbove}
+use Rattle.vms_command.specs.Printing.{line_prefix}
 use Rattle.vms_file_order.specs.WorldStarts.{IsStartOf}
+use Rattle.vms_line.specs.Spelling.{spelled_line}
 use Rattle.vms_stream.specs.Jobs.{Grows, MayGive, at_most_one}
 use Rattle.vms_stream.specs.Waiting.{Text, spelled}
+use Rattle.vms_report.specs.Reports.{report_of}
 use Rattle.vms_script.specs.FittingScripts.{Fits}
 use Rattle.vms_script.specs.Starts.{first_start, start_after}
 use Rattle.vms_script.specs.Totals.{line_of}
-use Rattle.vms_text.specs.declared.acts.Boundary.{Boundary}
+use Rattle.vms_text.specs.declared.acts.Boundary.{Boundary as BoundaryOf}
+use Rattle.vms_text.specs.declared.acts.Boundary.TheVariants.{Report}
 use Rattle.vms_text.specs.declared.acts.Item.{Item}
+use Rattle.vms_text.specs.declared.acts.Line.TheVariants.{Boundary}
 use Rattle.vms_world.specs.declared.worlds.World.{World}
 use Rattle.vms_world.specs.Phases.{Histories}
 use Rattle.vms_replay.specs.declared.bodies.Replay.{Replay}
 use Rattle.vms_replay.specs.declared.waits.Wait.{Wait}
-use Rattle.vms_replay.specs.MadePhases.{MadePhase, crossed, world_after}
-use Rattle.vms_replay.specs.Replaying.{Kept, MayBe, all_built, has_some, is_built, report_text}
+use Rattle.vms_replay.specs.MadePhases.{MadePhase, crossed, with_given, world_after}
+use Rattle.vms_replay.specs.PlainReports.{HasPlainTotals}
+use Rattle.vms_replay.specs.Replaying.{Kept, MayBe, has_some}
 use Rattle.vms_replay.specs.Waits.{TellsWaits, asked_numbers, asking_numbers}
 
--- a world and the lines of the open phase that a replay holds before line n, and those that wait: each boundary line so
--- far is built. The lines fit the world, and all that count are above the phase or of it
+-- a world and the lines of the open phase that a replay holds before line n, and those that wait: the lines fit the
+-- world, which adds up to the plain sums of the phases before it, and all that count are above the phase or of it
 pub record Runs (header : Header) (n : ℕ) (above : LinesAbove) (kept : Kept) (texts : List (Text MadePhase))
     (held : Option World) (items : List Item) (waiting : List Wait) : Type 0 where
   pub in_world : held ≡ Some kept.world
@@ -30,22 +36,17 @@ pub record Runs (header : Header) (n : ℕ) (above : LinesAbove) (kept : Kept) (
   pub asks : asked_numbers waiting ≡ asking_numbers kept.items
   pub only_open : kept.items ≡ [] → waiting ≡ []
   pub begins : IsStartOf header (start_after first_start kept.above) kept.world
+  pub totals : HasPlainTotals header kept.made kept.world
   pub fits : Fits header (start_after first_start kept.above) kept.items
   pub lines : above.lines ≡ reverse (map line_of kept.items) ++ kept.above
   pub below : All (λ item. item.number < n) kept.items
   pub fewer : length kept.items < n
 
 module _ {E : Type 0} where
-  -- what a replay holds
-  abbrev pub Holds : Header → ℕ → LinesAbove → Kept → List (Text MadePhase) → Replay E → Type 0
-  Holds header n above kept texts replay =
-      Runs header n above kept texts replay.world replay.items.items replay.waits.items
-
-  -- a replay before line n, after lines that came to this. After a report that isn't built it does nothing more
+  -- a replay before line n, after lines that came to this
   pub record StandsBefore (replay : Replay E) (header : Header) (n : ℕ) (above : LinesAbove) (kept : Kept)
       (texts : List (Text MadePhase)) : Type 0 where
-    pub knows : replay.built ≡ all_built above.lines
-    pub holds : replay.built ≡ true → Holds header n above kept texts replay
+    pub runs : Runs header n above kept texts replay.world replay.items.items replay.waits.items
 
 -- what waits is printed where the phase ends
 abbrev pub printed_given : List (Text MadePhase) → Option MadePhase → List ℕ
@@ -63,6 +64,7 @@ pub record Ended (header : Header) (above : LinesAbove) (kept : Kept) (texts : L
   pub no_items : items ≡ []
   pub no_waits : waiting ≡ []
   pub begins : IsStartOf header (start_after first_start above.lines) (world_after header kept.world given)
+  pub totals : HasPlainTotals header (with_given given kept.made) (world_after header kept.world given)
 
 module _ {E : Type 0} where
   -- a replay ended the phase that is open, if one is, whatever lines it stands after. Whether it fails or not, what was
@@ -73,19 +75,23 @@ module _ {E : Type 0} where
     pub given : Option MadePhase
     pub grows : Grows made made' (at_most_one given)
     pub may_give : (n : ℕ) (above : LinesAbove) (kept : Kept) (texts : List (Text MadePhase))
-        → Holds header n above kept texts replay
+        → StandsBefore replay header n above kept texts
         → MayGive (has_some kept.items) (MayBe Makes header kept.world kept.items) given
-    pub same_built : OnOk result (replay'.built ≡ replay.built)
     pub goes : OnOk result ((n : ℕ) (above : LinesAbove) (kept : Kept) (texts : List (Text MadePhase))
-        → Holds header n above kept texts replay
+        → StandsBefore replay header n above kept texts
         → Ended header above kept texts given replay'.world replay'.items.items replay'.waits.items out out')
+
+-- what boundary line n reports of the world that stands there
+abbrev pub world_report : Header → ℕ → BoundaryOf → World → List ℕ
+world_report header n (Report kind) w =
+    line_prefix n ++ spelled_line header (Boundary (Report kind)) ++ report_of header w kind
+world_report header n _ w = []
 
 module _ {E : Type 0} where
   -- a replay went past boundary line n from this world, where no phase was open, and printed what the line reports
-  pub record CrossesTo (header : Header) (n : ℕ) (b : Boundary) (w : World) (replay replay' : Replay E)
+  pub record CrossesTo (header : Header) (n : ℕ) (b : BoundaryOf) (w : World) (replay replay' : Replay E)
       (out out' : List ℕ) : Type 0 where
     pub in_world : replay'.world ≡ Some (crossed header b w)
     pub same_items : replay'.items.items ≡ replay.items.items
     pub same_waits : replay'.waits.items ≡ replay.waits.items
-    pub knows : replay'.built ≡ is_built b
-    pub prints : out' ≡ out ++ report_text header n b w
+    pub prints : out' ≡ out ++ world_report header n b w

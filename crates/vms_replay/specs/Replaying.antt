@@ -1,21 +1,18 @@
 -- What `replay` and `run` print of a trace, by the histories of its phases: refusals, answers and reports in the order
--- of lines. From a report on that isn't built they print nothing more.
-use Rattle.std.specs.Prelude.{◌≡◌, ℕ, nat_eq, ◌&&◌, Bool, true, false, if◌then◌else◌, List, [], ◌∷◌, ◌++◌}
-use Rattle.std.specs.Prelude.{codes, length, Option, Some, None, Result, Ok, Err}
+-- of lines.
+use Rattle.std.specs.Prelude.{◌≡◌, ℕ, nat_eq, Bool, true, false, if◌then◌else◌, List, [], ◌∷◌, ◌++◌}
+use Rattle.std.specs.Prelude.{length, Option, Some, None, Result, Ok, Err}
 use Rattle.vms_base.specs.declared.headers.Header.{Header}
 use Rattle.vms_answers.specs.AnswerLines.{answer_line}
 use Rattle.vms_answers.specs.PhaseAnswers.{NumberedAnswer}
 use Rattle.vms_command.specs.Commands.{Command, MayEnd-status_at_end, status_at_end}
 use Rattle.vms_command.specs.Lines.{LinesAbove}
-use Rattle.vms_command.specs.Printing.{done_line, line_prefix, newline, refused_line}
+use Rattle.vms_command.specs.Printing.{done_line, line_prefix, refused_line}
 use Rattle.vms_line.specs.declared.causes.LineCause.{LineCause}
+use Rattle.vms_line.specs.Spelling.{spelled_line}
 use Rattle.vms_stream.specs.Waiting.{Text}
 use Rattle.vms_stream.specs.Waiting.Text.{Plain, Asks}
-use Rattle.vms_report.specs.Reports.{totals_report}
-use Rattle.vms_report.specs.Totals.{event_total, page_total, pcpu_total}
-use Rattle.vms_stream.specs.Behaviors.{MayEnd}
-use Rattle.vms_stream.specs.declared.statuses.Status.{Status}
-use Rattle.vms_stream.specs.declared.statuses.Status.TheVariants.{NotBuilt}
+use Rattle.vms_report.specs.Reports.{report_of}
 use Rattle.vms_text.specs.declared.acts.Act.{Act}
 use Rattle.vms_text.specs.declared.acts.Act.TheVariants.{Lim, Cmp, Sum, Rough, EvSum, Water, Val, Snap, Sys, Kswapd}
 use Rattle.vms_text.specs.declared.acts.Boundary.{Boundary as BoundaryOf}
@@ -23,47 +20,33 @@ use Rattle.vms_text.specs.declared.acts.Boundary.TheVariants.{Report}
 use Rattle.vms_text.specs.declared.acts.Item.{Item}
 use Rattle.vms_text.specs.declared.acts.Line.{Line}
 use Rattle.vms_text.specs.declared.acts.Line.TheVariants.{Blank, Lane, Boundary}
+use Rattle.vms_text.specs.declared.acts.ReportKind.{ReportKind}
 use Rattle.vms_text.specs.declared.acts.ReportKind.TheVariants.{Totals}
 use Rattle.vms_world.specs.declared.worlds.World.{World}
-use Rattle.vms_world.specs.FirstWorlds.{started}
 use Rattle.vms_world.specs.Phases.{Histories}
-use Rattle.vms_replay.specs.KernelRules.{normal_zones}
-use Rattle.vms_replay.specs.MadePhases.{MadePhase, answers_in, crossed, world_after}
+use Rattle.vms_replay.specs.MadePhases.{MadePhase, answers_in, crossed, first_world, with_given, world_after}
+use Rattle.vms_replay.specs.PlainReports.{plain_report}
 
--- what is kept of the lines of a body: the world that the open phase begins with, the lines that count above that, the
--- newest first, and the lines of the phase, the oldest first
+-- what is kept of the lines of a body: the world that the open phase begins with, the lines that count above that and
+-- the phases that were made of them, the newest first, and the lines of the phase, the oldest first
 pub record Kept : Type 0 where
   pub world : World
   pub above : List Line
+  pub made : List MadePhase
   pub items : List Item
 
 abbrev pub first_kept : Header → Kept
 first_kept header = record {
-  world = started header (normal_zones header header.layout.cpus);
+  world = first_world header;
   above = [];
+  made = [];
   items = [];
 }
-
--- whether a boundary line is built: of the reports that of the totals is
-abbrev pub is_built : BoundaryOf → Bool
-is_built (Report Totals) = true
-is_built (Report kind) = false
-is_built _ = true
-
--- whether each boundary line of these is built
-abbrev pub all_built : List Line → Bool
-all_built [] = true
-all_built (Boundary b ∷ lines) = is_built b && all_built lines
-all_built (line ∷ lines) = all_built lines
 
 -- whether a list has an element
 abbrev pub has_some : {X : Type 0} → List X → Bool
 has_some [] = false
 has_some (x ∷ xs) = true
-
--- whether a phase is open that is to be made
-abbrev pub is_open : LinesAbove → Kept → Bool
-is_open above kept = all_built above.lines && has_some kept.items
 
 -- a phase that was made of the open one, where `Makes` says which histories it may have
 pub record MayBe (Makes : Header → World → List Item → Histories → Type 0) (header : Header) (w : World)
@@ -103,19 +86,21 @@ act_text header n act = if is_asking act then asking_text header n else Plain []
 abbrev pub text_after : Bool → (Option MadePhase → List ℕ) → Text MadePhase
 text_after phase_open text = if phase_open then Asks (λ made. text (Some made)) else Plain (text None)
 
--- `report totals` of a world, by the line of number n
-abbrev pub totals_text : Header → ℕ → World → List ℕ
-totals_text header n w = line_prefix n ++ codes "report totals" ++ newline
-    ++ totals_report header (page_total header w) (event_total header w) (pcpu_total header w)
+-- the report of this kind, after these phases: that of the totals are plain sums of their lines, and every other one
+-- tells of the world that stands there
+abbrev pub report_after : Header → ReportKind → List MadePhase → World → List ℕ
+report_after header Totals made w = plain_report header made
+report_after header kind made w = report_of header w kind
 
--- what a boundary line prints of the world that stands there
-abbrev pub report_text : Header → ℕ → BoundaryOf → World → List ℕ
-report_text header n (Report Totals) w = totals_text header n w
-report_text header n _ w = []
+-- what boundary line n prints: a report, below its line
+abbrev pub boundary_report : Header → ℕ → BoundaryOf → List MadePhase → World → List ℕ
+boundary_report header n (Report kind) made w =
+    line_prefix n ++ spelled_line header (Boundary (Report kind)) ++ report_after header kind made w
+boundary_report header n _ made w = []
 
 abbrev pub boundary_text : Header → ℕ → BoundaryOf → Kept → Text MadePhase
-boundary_text header n b kept =
-    text_after (has_some kept.items) (λ given. report_text header n b (world_after header kept.world given))
+boundary_text header n b kept = text_after (has_some kept.items)
+    (λ given. boundary_report header n b (with_given given kept.made) (world_after header kept.world given))
 
 -- the text of line n, by what was judged of it
 abbrev pub judged_text : Header → ℕ → Result Line LineCause → Kept → Text MadePhase
@@ -123,10 +108,6 @@ judged_text header n (Ok Blank) kept = Plain []
 judged_text header n (Ok (Lane lane act)) kept = act_text header n act
 judged_text header n (Ok (Boundary b)) kept = boundary_text header n b kept
 judged_text header n (Err cause) kept = Plain (refused_line n cause)
-
-abbrev pub line_text : Header → ℕ → LinesAbove → Result Line LineCause → Kept → Text MadePhase
-line_text header n above result kept =
-    if all_built above.lines then judged_text header n result kept else Plain []
 
 -- kept after line n, which counts, with the phase that ends there
 abbrev pub with_line : Header → ℕ → LinesAbove → Line → Option MadePhase → Kept → Kept
@@ -136,6 +117,7 @@ with_line header n above (Lane lane act) given kept =
 with_line header n above (Boundary b) given kept = record {
   world = crossed header b (world_after header kept.world given);
   above = Boundary b ∷ above.lines;
+  made = with_given given kept.made;
   items = [];
 }
 
@@ -143,32 +125,18 @@ abbrev pub next_kept : Header → ℕ → LinesAbove → Result Line LineCause �
 next_kept header n above (Ok line) given kept = with_line header n above line given kept
 next_kept header n above (Err cause) given kept = kept
 
--- what is printed at the end of the trace, and how the replay ends there
-abbrev pub last_text : LinesAbove → Text MadePhase
-last_text above = Plain (if all_built above.lines then done_line (length above.lines) above.refused else [])
-
-abbrev pub replay_ending : LinesAbove → Status
-replay_ending above = if all_built above.lines then status_at_end above.refused else NotBuilt
-
-pub MayEnd-replay_ending : (above : LinesAbove) → MayEnd (replay_ending above)
-MayEnd-replay_ending above = by (all_built above.lines)
-  where
-    by : (built : Bool) → MayEnd (if built then status_at_end above.refused else NotBuilt)
-    by true = MayEnd-status_at_end above.refused
-    by false = tt
-
 -- a replay, line by line, whose phases may have these histories: `Makes` says which, from a world and its lines
 abbrev pub replaying : (Header → World → List Item → Histories → Type 0) → Command Kept MadePhase
 replaying Makes = record {
   begins = first_kept;
   opens = λ header. [];
-  phase_open = λ header above kept. is_open above kept;
+  phase_open = λ header above kept. has_some kept.items;
   Allows = λ header above kept made. MayBe Makes header kept.world kept.items made;
   next = λ header n above result given kept. next_kept header n above result given kept;
-  text = λ header n above result kept. line_text header n above result kept;
-  last = λ header above kept. last_text above;
-  ends = replay_ending;
-  may_end = MayEnd-replay_ending;
+  text = λ header n above result kept. judged_text header n result kept;
+  last = λ header above kept. Plain (done_line (length above.lines) above.refused);
+  ends = λ above. status_at_end above.refused;
+  may_end = λ above. MayEnd-status_at_end above.refused;
 }
 
 -- it shows nothing at the end but what is printed there

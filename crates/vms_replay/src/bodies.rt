@@ -1,5 +1,5 @@
 use crate::asking::ask;
-use crate::boundaries::{crossed, is_built, write_report};
+use crate::boundaries::{crossed, write_boundary_report};
 use crate::rules::first_world;
 use crate::waits::{Wait, write_waits};
 use crate::{Engine, KernelRules};
@@ -12,6 +12,7 @@ use vms_file_order::fitting_phases_are_phases;
 use vms_line::{Act, Boundary, Item, Lane, Line, LineCause};
 use vms_script::{JudgedLine, PhaseScript};
 use vms_stream::Status;
+use vms_totals::phases_add_their_lines;
 use vms_world::World;
 
 /// A replay on its way through a body, whose phases an engine makes.
@@ -24,13 +25,11 @@ pub struct Replay<E> {
     pub(crate) items: Vec<Item>,
     /// The lines that print something once the open phase is made, from its first one on that answers.
     pub(crate) waits: Vec<Wait>,
-    /// Whether each boundary line so far is of a form that is built.
-    pub(crate) built: bool,
     pub(crate) engine: PhantomData<E>,
 }
 
 impl<E: Engine> Replay<E> {
-    ghost use Rattle.std.specs.Prelude.{◌≡◌, ◌≢◌, ◌≤◌, ℕ, suc, true, List, [], Option, Some, Ok, Err, IfOk};
+    ghost use Rattle.std.specs.Prelude.{◌≡◌, ◌≢◌, ◌≤◌, ℕ, suc, List, [], Option, Some, Ok, Err, IfOk};
     ghost use Rattle.std.specs.Prelude.{OnOk};
     ghost use Rattle.vms_base.specs.declared.headers.Header.{Header};
     ghost use Rattle.vms_base.specs.Headers.{IsHeader};
@@ -43,7 +42,7 @@ impl<E: Engine> Replay<E> {
     ghost use Rattle.vms_world.specs.Worlds.{IsWorldOf};
     ghost use Rattle.vms_replay.specs.MadePhases.{MadePhase};
     ghost use Rattle.vms_replay.specs.Replaying.{Kept, first_kept, replaying};
-    ghost use Rattle.vms_replay.specs.ReplayStates.{CrossesTo, EndsPhase, Holds, StandsBefore};
+    ghost use Rattle.vms_replay.specs.ReplayStates.{CrossesTo, EndsPhase, StandsBefore};
 
     /// Before the first line of a body.
     fn make(alloc: Global, header: &Header) -> Result<Replay<E>, Memory>
@@ -56,7 +55,6 @@ impl<E: Engine> Replay<E> {
             world: Some(first_world(alloc, header)?),
             items: Vec::new(alloc),
             waits: Vec::new(alloc),
-            built: true,
             engine: PhantomData,
         })
     }
@@ -74,7 +72,6 @@ impl<E: Engine> Replay<E> {
         requires header { IsHeader header.now }
         requires line { SomeLine (StandsBefore self.old) header.now number (Ok line.now) }
         requires most { number ≤ most_lines }
-        requires built { self.old.built ≡ true }
         ensures { TakesLine (replaying E.Makes) (StandsBefore self.old) (StandsBefore self.new) (E.made engine.old)
             (E.made engine.new) header.now number (Ok line.now) result out.old.items out.new.items }
     {
@@ -88,7 +85,6 @@ impl<E: Engine> Replay<E> {
     /// Keeps a line of a lane for the phase.
     #[inline(always)]
     fn keep(&mut self, number: u32, lane: Lane, act: Act) -> Result<(), Memory>
-        requires { self.old.built ≡ true }
         ensures { (header : Header) (made : Option (List MadePhase)) (out : List ℕ) → IsHeader header →
             TakesLine (replaying E.Makes) (StandsBefore self.old) (StandsBefore self.new) made made header number
             (Ok (Line.Lane lane act)) result out out }
@@ -100,7 +96,6 @@ impl<E: Engine> Replay<E> {
 
     /// Prints that a line doesn't count, at once or after those that wait.
     fn refuse(&mut self, number: u32, cause: LineCause, out: &mut Vec<u8>) -> Result<(), Memory>
-        requires { self.old.built ≡ true }
         ensures { (header : Header) (made : Option (List MadePhase)) →
             TakesLine (replaying E.Makes) (StandsBefore self.old) (StandsBefore self.new) made made header number
             (Err cause) result out.old.items out.new.items }
@@ -125,7 +120,6 @@ impl<E: Engine> Replay<E> {
         requires header { IsHeader header.now }
         requires line { SomeLine (StandsBefore self.old) header.now number (Ok (Line.Boundary boundary)) }
         requires most { number ≤ most_lines }
-        requires built { self.old.built ≡ true }
         ensures { TakesLine (replaying E.Makes) (StandsBefore self.old) (StandsBefore self.new) (E.made engine.old)
             (E.made engine.new) header.now number (Ok (Line.Boundary boundary)) result out.old.items out.new.items }
     {
@@ -142,7 +136,7 @@ impl<E: Engine> Replay<E> {
     ) -> Result<(), Memory>
         requires header { IsHeader header.now }
         requires holds { (n : ℕ) × (n ≤ suc most_lines) × (above : LinesAbove) × (kept : Kept)
-            × (texts : List (Text MadePhase)) × Holds header.now n above kept texts self.old }
+            × (texts : List (Text MadePhase)) × StandsBefore self.old header.now n above kept texts }
         ensures { EndsPhase E.Makes header.now self.old self.new (E.made engine.old) (E.made engine.new) result
             out.old.items out.new.items }
     {
@@ -162,7 +156,7 @@ impl<E: Engine> Replay<E> {
         requires header { IsHeader header.now }
         requires some { self.old.items.items ≢ [] }
         requires holds { (n : ℕ) × (n ≤ suc most_lines) × (above : LinesAbove) × (kept : Kept)
-            × (texts : List (Text MadePhase)) × Holds header.now n above kept texts self.old }
+            × (texts : List (Text MadePhase)) × StandsBefore self.old header.now n above kept texts }
         ensures { EndsPhase E.Makes header.now self.old self.new (E.made engine.old) (E.made engine.new) result
             out.old.items out.new.items }
     {
@@ -172,6 +166,7 @@ impl<E: Engine> Replay<E> {
         let script = PhaseScript::make(replace(&mut self.items, Vec::new(self.alloc)));
         E::makes_lines();
         fitting_phases_are_phases::<KernelRules>();
+        phases_add_their_lines::<KernelRules>();
         let replayed = engine.run_phase(self.alloc, world, header, &script)?;
         write_waits(
             out,
@@ -201,9 +196,8 @@ impl<E: Engine> Replay<E> {
         let Some(world) = self.world.take() else {
             return Ok(());
         };
-        write_report(out, header, number, boundary, &world)?;
+        write_boundary_report(out, header, number, boundary, &world)?;
         self.world = Some(crossed(world, header, boundary));
-        self.built = is_built(boundary);
         Ok(())
     }
 }
@@ -240,9 +234,6 @@ impl<E: Engine> Body for Replay<E> {
         judged: &JudgedLine<'_>,
         out: &mut Vec<u8>,
     ) -> Result<(), Memory> {
-        if !self.built {
-            return Ok(());
-        }
         match &judged.said {
             Ok(line) => self.take(engine, header, number, line, out),
             Err(cause) => self.refuse(number, *cause, out),
@@ -257,9 +248,6 @@ impl<E: Engine> Body for Replay<E> {
         refused: u32,
         out: &mut Vec<u8>,
     ) -> Result<Status, Memory> {
-        if !self.built {
-            return Ok(Status::NotBuilt);
-        }
         self.end_phase(engine, header, out)?;
         write_done_line(out, accepted, refused)?;
         Ok(status_at_end(refused))

@@ -15,8 +15,6 @@ mod waits;
 pub use bodies::Replay;
 pub use engines::{Engine, KernelRules};
 pub use file_order::FileOrder;
-pub use laws::{
-    boundaries_lead_on, lines_print_in_order, made_phases_keep_all_laws, reports_print_plain_sums,
-};
+pub use laws::{lines_print_in_order, phases_lead_through_texts};
 pub use tool::{replay_trace, tool_replay};
 pub use waits::Wait;

@@ -1,12 +1,8 @@
-ghost use Rattle.vms_command.specs.Bodies.{shown_given};
-ghost use Rattle.vms_command.specs.Commands.{following};
-ghost use Rattle.vms_stream.specs.PhasedAnswers.{AnswersPhased};
-ghost use Rattle.vms_stream.specs.Waiting.{waiting};
 ghost use Rattle.vms_stream.specs.Answers.{Answers};
 ghost use Rattle.vms_replay.specs.FileOrders.{SaysReplay};
-ghost use Rattle.vms_replay.specs.Replaying.{nothing_shown, replaying};
+ghost use Rattle.vms_replay.specs.ReplayAnswers.{AnswersReplayed};
 
-use crate::{Engine, FileOrder, Replay};
+use crate::{Engine, FileOrder, Replay, phases_lead_through_texts};
 use std::alloc::Global;
 use vms_command::follow;
 use vms_io::{Sink, Source};
@@ -20,14 +16,15 @@ pub fn replay_trace<E: Engine, S: Source, K: Sink>(
     src: &mut S,
     out: &mut K,
 ) -> (Status, E)
-    ensures { AnswersPhased (waiting (following (replaying E.Makes))) (shown_given nothing_shown) (E.made engine)
-        (E.made result.1) S.remaining S.faults K.written K.faults src.old src.new out.old out.new result.0 }
+    ensures { AnswersReplayed E.Makes (E.made engine) (E.made result.1) S.remaining S.faults K.written K.faults src.old
+        src.new out.old out.new result.0 }
 {
+    phases_lead_through_texts::<E>();
     follow::<Replay<E>, S, K>(alloc, engine, src, out)
 }
 
-/// The command `replay`: makes each phase of a trace in file order, and writes refusals, answers and reports in the order
-/// of its lines.
+/// The command `replay`: makes each phase of a trace in file order, and writes refusals, answers and reports in the
+/// order of its lines.
 pub fn tool_replay<S: Source, K: Sink>(alloc: Global, src: &mut S, out: &mut K) -> Status
     ensures { Answers S.remaining S.faults K.written K.faults src.old src.new out.old out.new result SaysReplay }
 {

@@ -9,7 +9,7 @@ returns g c =
       written = replayed.answers.written;
       consumes = replayed.answers.consumes;
       appends = replayed.answers.appends;
-      answer = (replayed.outcomes, replayed.answers.answer);
+      answer = record { made = replayed.made; says = replayed.answers.answer };
       reads = replayed.answers.reads;
       writes = replayed.answers.writes;
     }

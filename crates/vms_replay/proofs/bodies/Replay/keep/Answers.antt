@@ -22,5 +22,5 @@ returns g c = λ header made out valid.
     TakesLine-going_on g.E.Engine.Makes c.args.self.now _ made header c.args.number (Ok (Lane c.args.lane c.args.act))
     (Ok tt) out out (λ above kept texts stands. refl)
     (λ above kept texts stands judged_is. goes-lane g.E.Engine.Makes c.args.self.now _ made header c.args.number above
-    kept texts stands valid c.requires c.args.lane c.args.act refl refl c.in_ok-push.ensures.items c.in_ok-ask.ensures
+    kept texts stands valid c.args.lane c.args.act refl c.in_ok-push.ensures.items c.in_ok-ask.ensures
     judged_is out)

@@ -1,13 +1,9 @@
 -- A phase that failed, one whose texts couldn't be written, and one that was made.
-use Rattle.std.proofs.Common.{rules, ◌≡◌, ◌++◌, ◌∙◌, Some, refl, ap₂, map, List}
-use Rattle.std.specs.List.{flat_map}
+use Rattle.std.proofs.Common.{rules, ◌≡◌, Some, refl}
 use Rattle.std.proofs.lemmas.Result.{err_from_is_err_and}
-use Rattle.vms_answers.specs.declared.answers.NumberedAnswer.{NumberedAnswer}
-use Rattle.vms_answers.specs.ToldAnswers.{numbered_told}
-use Rattle.vms_replay.specs.declared.waits.Wait.{Wait}
-use Rattle.vms_replay.specs.Waits.{wait_text}
 use Rattle.vms_replay.proofs.EndedPhases.{EndsPhase-failed, EndsPhase-made, EndsPhase-unwritten, MakesPhase-of}
-use Rattle.vms_replay.proofs.EndedPhases.{MayWrite-some}
+use Rattle.vms_replay.proofs.EndedPhases.{MayWrite-some, printed-same}
+use Rattle.vms_replay.proofs.PlainTotals.{HasPlainTotals-phase}
 use Rattle.vms_replay.proofs.bodies.Replay.make_phase.Goals as goal
 
 pub returns-in_err-replayed : goal.returns-in_err-replayed
@@ -48,11 +44,17 @@ returns g c =
     EndsPhase-made g.E.Engine.Makes header self _ _ _ c.args.out.now.items c.write_waits.new.out.items c.in-Some.world
     in_world c.in_ok-replayed.replayed
     (MakesPhase-of g.E.Engine.Makes header c.in-Some.world c.make-script.result self.items.items _ _
-    c.in_ok-replayed.replayed script c.in_ok-replayed.ensures) c.requires.some refl
+    c.in_ok-replayed.replayed script c.in_ok-replayed.ensures) c.requires.some
     (λ hs makes start is fits. c.fitting_phases_are_phases.ensures.start header c.in-Some.world self.items.items hs
     start
     is fits (c.makes_lines.ensures header c.in-Some.world self.items.items hs makes))
+    (λ hs makes start is fits before has.
+    let lines = c.makes_lines.ensures header c.in-Some.world self.items.items hs makes in
+    let adds = c.phases_add_their_lines.ensures in
+    HasPlainTotals-phase header before c.in-Some.world self.items.items hs
+    (adds.pages header c.in-Some.world self.items.items hs lines fits.known)
+    (adds.events header c.in-Some.world self.items.items hs lines fits.known)
+    (adds.counters header c.in-Some.world self.items.items hs is.world lines fits.known fits.ascend) has)
     refl (search rules) c.clear.ensures.items
-    (c.in_ok-write_waits.ensures
-    ∙ ap₂ (λ (answers : List NumberedAnswer) (ws : List Wait). c.args.out.now.items
-    ++ flat_map (wait_text header (map numbered_told answers)) ws) c.as_slice-2.ensures.value c.as_slice.ensures.value)
+    (printed-same header c.args.out.now.items c.write_waits.new.out.items _ _ _ _ c.as_slice-2.ensures.value
+    c.as_slice.ensures.value c.in_ok-write_waits.ensures)

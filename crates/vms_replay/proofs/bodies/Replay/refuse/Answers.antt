@@ -19,7 +19,7 @@ returns-then-is_empty g c =
     (λ above kept texts stands. refl)
     (then_ok c.write_refused_line.result c.write_refused_line.ensures
     (λ printed above kept texts stands judged_is. goes-refused_now g.E.Engine.Makes c.args.self.now c.args.self.now
-    made header c.args.number above kept texts stands c.requires c.args.cause refl none c.args.out.now.items
+    made header c.args.number above kept texts stands c.args.cause refl none c.args.out.now.items
     c.write_refused_line.new.out.items printed))
 
 pub returns-in_err-push : goal.returns-in_err-push
@@ -34,5 +34,5 @@ returns g c =
     λ header made. TakesLine-going_on g.E.Engine.Makes c.args.self.now _ made header c.args.number
     (Err c.args.cause) (Ok tt) c.args.out.now.items c.args.out.now.items (λ above kept texts stands. refl)
     (λ above kept texts stands judged_is. goes-refused_later g.E.Engine.Makes c.args.self.now _ made header
-    c.args.number above kept texts stands c.requires c.args.cause refl refl refl c.in_ok-push.ensures.items others
+    c.args.number above kept texts stands c.args.cause refl refl c.in_ok-push.ensures.items others
     c.args.out.now.items)

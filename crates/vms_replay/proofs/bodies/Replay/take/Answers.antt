@@ -19,4 +19,4 @@ returns-in-Blank g c =
     (TakesLine-going_on g.E.Engine.Makes self self made header c.args.number (Ok Blank) (Ok tt) out out
     (λ above kept texts stands. refl)
     (λ above kept texts stands judged_is. goes-blank g.E.Engine.Makes self self made header c.args.number above kept
-    texts stands c.requires.built refl out))
+    texts stands refl out))

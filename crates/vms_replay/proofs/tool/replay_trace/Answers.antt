@@ -1,0 +1,9 @@
+-- The phases that lead through the lines taken lead through the segments of the text.
+use Rattle.vms_replay.proofs.ReplayAnswers.{AnswersReplayed-led}
+use Rattle.vms_replay.proofs.tool.replay_trace.Goals as goal
+
+pub returns : goal.returns
+returns g c =
+    AnswersReplayed-led g.E.Engine.Makes c.phases_lead_through_texts.ensures (g.E.Engine.made c.args.engine)
+    (g.E.Engine.made c.follow.result.1) g.S.Source.remaining g.S.Source.faults g.K.Sink.written g.K.Sink.faults
+    c.args.src.now c.follow.new.src c.args.out.now c.follow.new.out c.follow.result.0 c.follow.ensures
