@@ -5,7 +5,7 @@ use Rattle.std.specs.Io.KnownBytes.{Appends, IsAtEnd}
 use Rattle.std.proofs.KnownBytes.{Appends-nil}
 use Rattle.vms_stream.specs.declared.courses.Course.{Course}
 use Rattle.vms_stream.specs.declared.statuses.Status.{Status}
-use Rattle.vms_stream.specs.declared.statuses.Status.TheVariants.{Done, Header, Memory, NotBuilt, ReadFault, Refused}
+use Rattle.vms_stream.specs.declared.statuses.Status.TheVariants.{Done, Header, Memory, ReadFault, Refused}
 use Rattle.vms_stream.specs.declared.statuses.Status.TheVariants.{WriteFault}
 use Rattle.vms_stream.specs.Answers.{Ends, FaultsOfSink, FaultsOfSource, IsLastPiece, Says}
 use Rattle.vms_stream.specs.Courses.{Finishes, IsCourse, lines_judged}
@@ -147,5 +147,4 @@ module _ {S : Type 0} (behavior : Behavior S) (shows : S → Type 0) where
           by Done may done = done
           by Refused may done = done
           by Header may done = inr done
-          by NotBuilt may done = done
           by _ may done = absurd may

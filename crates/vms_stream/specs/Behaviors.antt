@@ -1,7 +1,7 @@
 -- What a command says of the lines of its input.
 use Rattle.std.specs.Prelude.{ℕ, List, [], ◌∷◌, ◌++◌, Option, Some, None}
 use Rattle.vms_stream.specs.declared.statuses.Status.{Status}
-use Rattle.vms_stream.specs.declared.statuses.Status.TheVariants.{Done, Header, NotBuilt, Refused, TooLong}
+use Rattle.vms_stream.specs.declared.statuses.Status.TheVariants.{Done, Header, Refused, TooLong}
 
 -- a line stops a command where it refuses the header, and where it exceeds a limit
 abbrev pub MayHalt : Option Status → Type 0
@@ -15,7 +15,6 @@ abbrev pub MayEnd : Status → Type 0
 MayEnd Done = Unit {0}
 MayEnd Refused = Unit {0}
 MayEnd Header = Unit {0}
-MayEnd NotBuilt = Unit {0}
 MayEnd _ = ⊥
 
 -- a command as its behavior from line to line, with a state between them

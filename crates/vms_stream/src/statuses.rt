@@ -20,8 +20,6 @@ pub enum Status {
     Memory,
     /// The input exceeds a limit, such as 64 MiB.
     TooLong,
-    /// The input was read to its end, and some line is of a form that isn't built.
-    NotBuilt,
 }
 
 impl From<Memory> for Status {

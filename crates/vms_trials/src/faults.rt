@@ -34,7 +34,7 @@ const REPORT: &[&str] = &[
 /// What stands before the last line of the output.
 const BEFORE_DONE: usize = 70 + BETWEEN.len() + AFTER_ZONE.len();
 
-static ROWS: [Row<'static>; 15] = [
+static ROWS: [Row<'static>; 14] = [
     Row {
         name: "the first read fails",
         words: &["replay"],
@@ -200,20 +200,6 @@ static ROWS: [Row<'static>; 15] = [
         output: &["line 1: BadMagic\n"],
         least: 8,
         most: 8,
-    },
-    Row {
-        name: "nothing is written after a report that isn't built",
-        words: &["replay"],
-        text: &[HEADER, "report vmstat\n", BODY],
-        devices: Devices {
-            failing_writes: &[1],
-            room: 0,
-            ..SOUND
-        },
-        status: Status::NotBuilt,
-        output: &[],
-        least: 0,
-        most: 0,
     },
     Row {
         name: "the write of the usage fails",

@@ -25,6 +25,4 @@ mod spelled;
 #[cfg(test)]
 mod texts;
 #[cfg(test)]
-mod unbuilt;
-#[cfg(test)]
 mod usage;
