@@ -1,4 +1,5 @@
 pub mod Sums
 pub mod Entries
-pub mod ItemNames
+pub mod PresentCpus
+pub mod Pieces
 pub mod SameReports

@@ -60,7 +60,8 @@ totals_report-same header page other_page event other_event counter other_counte
     (λ g low high. place_totals-same header page other_page pages g (omega (arith, high))) in
     let told = entries-same (λ x. codes "event" ∷ x.1 ∷ signed_decimal (event x.0) ∷ [])
     (λ x. codes "event" ∷ x.1 ∷ signed_decimal (other_event x.0) ∷ []) 0 event_names
-    (λ k name low high. ap (λ (z : ℤ). codes "event" ∷ name ∷ signed_decimal z ∷ []) (events k (omega (arith, high)))) in
+    (λ k name low high. ap (λ (z : ℤ). codes "event" ∷ name ∷ signed_decimal z ∷ [])
+    (events k (omega (arith, high)))) in
     let counted = entries-same (λ x. codes "counter" ∷ x.1.name ∷ signed_decimal (counter x.0) ∷ [])
     (λ x. codes "counter" ∷ x.1.name ∷ signed_decimal (other_counter x.0) ∷ []) 0 header.counters
     (λ j decl low high. ap (λ (z : ℤ). codes "counter" ∷ decl.name ∷ signed_decimal z ∷ [])

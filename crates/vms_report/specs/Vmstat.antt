@@ -1,5 +1,6 @@
 -- What `/proc/vmstat` tells of a world: the system-wide values, and the events of the CPUs that are online.
-use Rattle.std.specs.Prelude.{ℕ, ◌+◌, ◌/◌, ◌||◌, true, false, if◌then◌else◌, List, [], ◌∷◌, ◌++◌, codes, decimal, map, bytes_eq}
+use Rattle.std.specs.Prelude.{ℕ, ◌+◌, ◌/◌, ◌||◌, true, false, if◌then◌else◌, List, [], ◌∷◌, ◌++◌, codes, decimal}
+use Rattle.std.specs.Prelude.{map, bytes_eq}
 use Rattle.std.specs.List.{enumerate_from}
 use Rattle.vms_base.specs.declared.headers.Header.{Header}
 use Rattle.vms_base.specs.Cpus.{online_from}
@@ -10,18 +11,18 @@ use Rattle.vms_event_core.specs.Calls.{sum_over}
 use Rattle.vms_world.specs.declared.worlds.World.{World}
 use Rattle.vms_report.specs.Items.{items_of}
 
--- `pgpgin` and `pgpgout` count sectors of 512 bytes and are told in KiB, as `vmstat_start` of mm/vmstat.c tells them
+-- `pgpgin` and `pgpgout` count sectors of 512 bytes, and are told in KiB (`vmstat_start` of mm/vmstat.c)
 abbrev pub told_events : List ℕ → ℕ → ℕ
 told_events name count =
     if bytes_eq name (codes "pgpgin") || bytes_eq name (codes "pgpgout") then count / 2 else count
 
--- `NAME VALUE` for each item of the nodes, or else of the zones, whose system-wide values begin at `first`, in pages:
--- 0 where the value is negative
+-- `NAME VALUE` for each of these items, whose system-wide values begin at `first`: in pages, and 0 where the value is
+-- negative
 abbrev pub system_lines : World → ℕ → List (ℕ × List ℕ) → List (List (List ℕ))
 system_lines w first items =
     map (λ (p, name). name ∷ decimal (at_least_zero (system_at w.pages (first + p))) ∷ []) items
 
--- `NAME VALUE` for each event
+-- `NAME VALUE` for each event, as the CPUs that are online have counted it
 abbrev pub event_lines : World → List (List (List ℕ))
 event_lines w =
     map (λ (k, name). name ∷ decimal (told_events name (sum_over w.events k (online_from 0 w.pages.cpu))) ∷ [])

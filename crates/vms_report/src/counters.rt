@@ -1,4 +1,4 @@
-ghost use Rattle.std.specs.Prelude.{◌≡◌, ◌∷◌, [], ◌++◌, ◌<◌, codes, decimal, flat_map, length, map, slice_index, OnOk};
+ghost use Rattle.std.specs.Prelude.{◌≡◌, ◌∷◌, [], ◌++◌, ◌<◌, codes, decimal, flat_map, length, map, OnOk};
 ghost use Rattle.std.specs.Fmt.{signed_decimal};
 ghost use Rattle.vms_base.specs.Cpus.{present_from};
 ghost use Rattle.vms_pcpu_core.specs.States.{count_at, local_at};
@@ -16,15 +16,15 @@ use vms_base::{CpuId, Decl, Header, Memory};
 use vms_plain_pcpu::present_cpus_hold_all;
 use vms_world::World;
 
-/// Appends a line for each percpu counter (`struct percpu_counter` of the kernel): its batch, its shared part, the local
-/// part of each CPU that is online or dead, and what these come to. After a failure `out` may end in a part of the
-/// report.
+/// Appends a line for each percpu counter (`struct percpu_counter` of the kernel): its batch, its shared part, the
+/// local part of each CPU that is online or dead, and what these come to. After a failure `out` may end in a part of
+/// the report.
 pub fn write_counters(out: &mut Vec<u8>, header: &Header, world: &World) -> Result<(), Memory>
     requires { IsWorldOf header.now world.now }
     ensures { OnOk result (out.new.items ≡ out.old.items ++ report_of header.now world.now Counters) }
 {
     let (counters, cpus) = (header.counters.len().min(16), header.layout.cpus() as usize);
-    // A line has at most 88 bytes, and 7 for each local part.
+    // A header declares at most 16. A line has at most 88 bytes, and 7 for each local part.
     out.reserve(counters * (88 + 7 * cpus))?;
     for (counter, decl) in header.counters.as_slice().iter().enumerate() {
         write_counter(out, header, world, counter, decl)?;
@@ -71,8 +71,9 @@ fn push_locals(
 ) -> Result<(), Memory>
     requires world { IsWorldOf header.now world.now }
     requires counter { counter < length header.now.counters }
-    ensures { OnOk result (out.new.items ≡ out.old.items ++ spaced
-        (map (λ cpu. signed_decimal (local_at world.now.counters cpu.number counter)) (present_from 0 world.now.pages.cpu))) }
+    ensures { OnOk result (out.new.items ≡ out.old.items
+        ++ spaced (map (λ cpu. signed_decimal (local_at world.now.counters cpu.number counter))
+        (present_from 0 world.now.pages.cpu))) }
 {
     for (number, state) in world.pages.cpu.as_slice().iter().enumerate() {
         let cpu = CpuId {

@@ -27,7 +27,7 @@ pub fn write_totals(out: &mut Vec<u8>, header: &Header, world: &World) -> Result
         header.layout.counters() as usize,
         header.counters.len().min(16),
     );
-    // A line has at most 56 bytes.
+    // A header declares at most 16 percpu counters, and a line has at most 56 bytes.
     out.reserve(56 * (items + 8 + counters))?;
     write_places(out, header, world)?;
     write_events(out, header, world)?;

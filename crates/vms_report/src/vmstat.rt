@@ -18,8 +18,9 @@ use vms_text::{Word, write_words};
 use vms_world::World;
 
 /// Appends what `/proc/vmstat` tells (`vmstat_start` and `vmstat_show` of mm/vmstat.c): the system-wide values of the
-/// zone items and of the node items, in pages of 4096 bytes and 0 where they are negative, and what the online CPUs have
-/// counted of each event. After a failure `out` may end in a part of the report.
+/// zone items and of the node items, in pages of 4096 bytes and 0 where they are negative, and what the CPUs that are
+/// online have counted of each event, `pgpgin` and `pgpgout` in KiB. After a failure `out` may end in a part of the
+/// report.
 pub fn write_vmstat(out: &mut Vec<u8>, header: &Header, world: &World) -> Result<(), Memory>
     requires { IsWorldOf header.now world.now }
     ensures { OnOk result (out.new.items ≡ out.old.items ++ report_of header.now world.now Vmstat) }

@@ -1,4 +1,5 @@
-ghost use Rattle.std.specs.Prelude.{◌≡◌, ◌∷◌, [], ◌++◌, ◌<◌, ◌≤◌, ◌-◌, codes, decimal, flat_map, length, map, All, OnOk};
+ghost use Rattle.std.specs.Prelude.{◌≡◌, ◌∷◌, [], ◌++◌, ◌≤◌, ◌-◌, codes, decimal, flat_map, length, map, All};
+ghost use Rattle.std.specs.Prelude.{OnOk};
 ghost use Rattle.std.specs.Fmt.{signed_decimal};
 ghost use Rattle.std.specs.List.{enumerate_from, range_with_len};
 ghost use Rattle.vms_base.specs.Places.{IsCpu, IsNode, IsPlace, IsZone, counter_at};
@@ -35,8 +36,8 @@ pub fn write_zoneinfo(out: &mut Vec<u8>, header: &Header, world: &World) -> Resu
     write_nodes(out, header, world)
 }
 
-/// The bytes of the report at most: of a place 256 for the lines that only zones have, 48 for an item, and for a CPU 48
-/// and 5 for each differential.
+/// The bytes of the report at most: for each place 256 in the lines that only zones have, 48 for each item, and for each
+/// CPU 48 and 5 for each differential.
 fn room(layout: &Layout) -> usize {
     let (places, cpus) = (layout.places() as usize, layout.cpus() as usize);
     let positions = layout.positions() as usize;
@@ -72,7 +73,7 @@ fn write_nodes(out: &mut Vec<u8>, header: &Header, world: &World) -> Result<(), 
     Ok(())
 }
 
-/// Appends what stands of a zone.
+/// Appends the heading of a zone and the lines under it.
 fn write_zone(
     out: &mut Vec<u8>,
     header: &Header,
@@ -89,7 +90,7 @@ fn write_zone(
     write_place(out, header, world, place)
 }
 
-/// Appends what stands of a node.
+/// Appends the heading of a node and the lines under it.
 fn write_node(
     out: &mut Vec<u8>,
     header: &Header,
@@ -307,7 +308,8 @@ fn push_differentials(
     requires most { items ≤ header.now.layout.positions }
     requires cpu { IsCpu header.now.layout cpu.number }
     ensures { OnOk result (out.new.items ≡ out.old.items
-        ++ spaced (map (λ p. signed_decimal (diff_at world.now.pages cpu.number (counter_at header.now.layout place.number p))) (range_with_len 0 items))) }
+        ++ spaced (map (λ p. signed_decimal
+        (diff_at world.now.pages cpu.number (counter_at header.now.layout place.number p))) (range_with_len 0 items))) }
 {
     for position in 0..items {
         let counter = header.layout.counter(place, position);

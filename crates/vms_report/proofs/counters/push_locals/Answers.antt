@@ -7,7 +7,7 @@ use Rattle.vms_base.specs.declared.kinds.CpuState.TheVariants.{Online}
 use Rattle.vms_base.specs.Cpus.{is_present}
 use Rattle.vms_pcpu_core.specs.States.{local_at}
 use Rattle.vms_text.proofs.Appends.{append_twice}
-use Rattle.vms_report.proofs.Entries.{absent-more, present-more}
+use Rattle.vms_report.proofs.PresentCpus.{absent-more, present-more}
 use Rattle.vms_report.proofs.counters.push_locals.Goals as goal
 use Rattle.vms_report.proofs.counters.push_locals.Goals.{then-is_present+in_ok-push_next_number, else-is_present}
 

@@ -25,5 +25,5 @@ loop-position-preserved c =
     ∙ ap₂ (λ (word told : List ℕ). c.loop-position.out.items ++ sentence (word ∷ told ∷ []))
     (sym (get_or-map (λ (name : Bor (List ℕ)). name.now) c.args.names.now n _ [] here)) value)
     c.loop-position.invariant
-    (sym (lines-more sentence (λ x. x.1 ∷ decimal (at_least_zero (system_at pages (c.args.first + x.0))) ∷ []) names n []
-    within))
+    (sym (lines-more sentence (λ x. x.1 ∷ decimal (at_least_zero (system_at pages (c.args.first + x.0))) ∷ []) names n
+    [] within))

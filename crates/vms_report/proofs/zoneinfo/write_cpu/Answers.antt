@@ -8,7 +8,8 @@ use Rattle.vms_core.specs.Cells.{cpu_at, diff_at, threshold_at}
 use Rattle.vms_text.specs.Writing.{spaced}
 use Rattle.vms_report.specs.Items.{items_at}
 use Rattle.vms_report.specs.Zoneinfo.{dead_words}
-use Rattle.vms_report.proofs.Entries.{cpu-of_pieces, map-positions}
+use Rattle.vms_report.proofs.Entries.{map-positions}
+use Rattle.vms_report.proofs.Pieces.{cpu-of_pieces}
 use Rattle.vms_report.proofs.zoneinfo.write_cpu.Goals as goal
 
 pub returns : goal.returns

@@ -6,7 +6,7 @@ use Rattle.vms_base.specs.Cpus.{is_present}
 use Rattle.vms_text.proofs.Appends.{append_twice}
 use Rattle.vms_report.specs.Items.{indented}
 use Rattle.vms_report.specs.Zoneinfo.{cpu_words}
-use Rattle.vms_report.proofs.Entries.{absent-more, present-more}
+use Rattle.vms_report.proofs.PresentCpus.{absent-more, present-more}
 use Rattle.vms_report.proofs.zoneinfo.write_cpus.Goals as goal
 use Rattle.vms_report.proofs.zoneinfo.write_cpus.Goals.{then-is_present+in_ok-write_cpu, else-is_present}
 

@@ -1,6 +1,6 @@
 -- The pieces of the line.
 use Rattle.std.proofs.Common.{◌∷◌, [], ◌++◌, ◌∙◌, List, ℕ, ap, codes}
-use Rattle.vms_report.proofs.Entries.{heading-of_pieces}
+use Rattle.vms_report.proofs.Pieces.{heading-of_pieces}
 use Rattle.vms_report.proofs.zoneinfo.write_heading.Goals as goal
 
 pub returns : goal.returns

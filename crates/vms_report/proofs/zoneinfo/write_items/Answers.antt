@@ -24,11 +24,11 @@ loop-position-preserved c =
       c.loop-position-test.true,
       length-map c.args.names.now (λ (name : Bor (List ℕ)). name.now),
     ) in
+    let kept : to_z w64 (of_z w64 c.value_at.result) ≡ c.value_at.result = search rules in
     let name = sym (get_or-map (λ (name : Bor (List ℕ)). name.now) c.args.names.now n _ [] (omega (
       arith,
       c.loop-position-test.true,
     ))) in
-    let kept : to_z w64 (of_z w64 c.value_at.result) ≡ c.value_at.result = search rules in
     let value = c.clamped-value.ensures
     ∙ ap (λ (z : ℤ). decimal (at_least_zero z)) (kept ∙ c.value_at.ensures ∙ ap (value_at w.pages)
     c.counter-counter.ensures.value) in

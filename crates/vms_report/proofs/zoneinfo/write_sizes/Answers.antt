@@ -9,7 +9,7 @@ use Rattle.vms_text.specs.Writing.{text_of}
 use Rattle.vms_text.proofs.Appends.{OnOk-from}
 use Rattle.vms_report.specs.Items.{indented}
 use Rattle.vms_report.specs.Zoneinfo.{mark_lines, protection_words, told_value}
-use Rattle.vms_report.proofs.Entries.{lines-in_turn}
+use Rattle.vms_report.proofs.Pieces.{lines-in_turn}
 use Rattle.vms_report.proofs.zoneinfo.write_sizes.Goals as goal
 
 pub returns : goal.returns
