@@ -1,0 +1,437 @@
+#!/usr/bin/env python3
+"""Makes a trace of free pages from a real machine, and writes it to standard output.
+
+The header comes from /proc/zoneinfo: the CPUs that are online, the zones with managed pages, their watermarks, and
+what the counters begin with. The body comes from the text of the kernel's tracing buffer, as tracefs (`trace`),
+`trace-cmd report` or `perf script` give it. These events of kmem change nr_free_pages, by 2^order pages:
+
+  mm_page_alloc_zone_locked  fewer: a block leaves the zone's free lists, for a per-CPU list or for its user
+  mm_page_pcpu_drain         more: a block goes back from a per-CPU list
+  mm_page_free               more, where no per-CPU list has the order: above 3, but for that of a huge page, 9
+
+Pages on per-CPU lists are not free pages, so no other event changes the counter. The CPU is that of the event, the zone
+the one that spans the page. Each block is a change of its own; Linux 6.1 subtracts all blocks that fill a per-CPU list
+in one change. No event tells of a page that goes straight to its zone because its per-CPU list is busy.
+
+Notes on what was used and left out go to standard error."""
+import argparse
+import itertools
+import math
+import os
+import re
+import shutil
+import signal
+import sys
+import tempfile
+import time
+from collections import Counter as Tally
+from contextlib import contextmanager
+from dataclasses import dataclass, field
+from pathlib import Path
+
+import vmtrace
+from vmtrace import BadInput
+
+ZONE = re.compile(r"Node (\d+), zone +(\w+)$")
+FIELDS = ("min", "low", "high", "spanned", "managed")
+EVENT = re.compile(r".*\[(\d+)\]\s+(?:\S+\s+)?(\d+(?:\.\d+)?):\s+(?:\w+:)?(\w+):(.*)")
+ARGUMENT = re.compile(r"\b(pfn|order)=(0x[0-9a-f]+|\d+)\b")
+LOST = re.compile(r"CPU:?\s*\d+ \[(?:LOST )?(\d+ )?EVENTS(?: DROPPED)?\]")
+WRITTEN = re.compile(r"# entries-in-buffer/entries-written: (\d+)/(\d+)")
+TAKES, GIVES, FREES = "mm_page_alloc_zone_locked", "mm_page_pcpu_drain", "mm_page_free"
+COSTLY_ORDER, HUGE_ORDER, LAST_ORDER = 3, 9, 20
+TRACEFS = (Path("/sys/kernel/tracing"), Path("/sys/kernel/debug/tracing"))
+BUFFER_KB = "8192"
+REPORTS = ("vmstat", "zoneinfo", "totals", "counters")
+
+
+@dataclass
+class Zone:
+    """A zone as /proc/zoneinfo has it. `pages` has its numbers of pages and its first page frame, by their names."""
+
+    node: int
+    kind: str
+    line: int
+    pages: dict[str, int] = field(default_factory=dict)
+    items: dict[str, int] = field(default_factory=dict)
+
+    def __str__(self):
+        return f"{self.node} {self.kind}"
+
+    def spans(self, pfn):
+        return self.pages["start_pfn"] <= pfn < self.pages["start_pfn"] + self.pages["spanned"]
+
+
+@dataclass
+class Machine:
+    """The zones of a machine that a trace has, its nodes' counters in pages, and its online CPUs."""
+
+    zones: list[Zone]
+    nodes: dict[int, dict[str, int]]
+    cpus: set[int]
+    left_out: list[Zone]
+
+
+@dataclass(frozen=True)
+class Event:
+    """An event of the tracing buffer: the line of the text that has it, its CPU, its seconds since the first event."""
+
+    line: int
+    cpu: int
+    since: float
+    name: str
+    arguments: str
+
+
+@dataclass
+class Account:
+    """What was made of the events, counted by what is said of them; and the pages that they add up to, by zone."""
+
+    used: Tally = field(default_factory=Tally)
+    left_out: Tally = field(default_factory=Tally)
+    early: Tally = field(default_factory=Tally)
+    pages: Tally = field(default_factory=Tally)
+    lost: int = 0
+    cut: str = ""
+
+
+def read_zoneinfo(lines, name):
+    """The machine that the lines of /proc/zoneinfo describe."""
+    zones, nodes, cpus = [], {}, set()
+    counters = None
+    for number, line in enumerate(lines, 1):
+        words = line.split()
+        if found := ZONE.match(line.strip()):
+            zones.append(Zone(int(found[1]), found[2], number))
+            counters = zones[-1].items
+        elif not zones or len(words) < 2:
+            continue
+        elif words == ["per-node", "stats"]:
+            counters = nodes.setdefault(zones[-1].node, {})
+        elif words[:2] == ["pages", "free"]:
+            counters = zones[-1].items
+        elif words[0] == "cpu:":
+            cpus.add(number_of(words[1], name, number))
+        elif words[0] in FIELDS or words[0] == "start_pfn:":
+            zones[-1].pages[words[0].rstrip(":")] = number_of(words[1], name, number)
+        elif words[0] in vmtrace.ZONE_ITEMS + vmtrace.NODE_ITEMS:
+            counters[words[0]] = number_of(words[1], name, number)
+    kept = [zone for zone in zones if zone.pages.get("managed") and zone.kind in vmtrace.KINDS]
+    machine = Machine(kept, nodes, cpus, [zone for zone in zones if zone not in kept])
+    check_machine(machine, name)
+    return machine
+
+
+def number_of(word, name, line):
+    if not word.isdecimal():
+        raise BadInput(f"{name}:{line}: '{word}' is no number")
+    return int(word)
+
+
+def check_machine(machine, name):
+    """The machine is one that a trace can have, and tells all of its zones that is needed."""
+    if not machine.zones or not machine.cpus:
+        raise BadInput(f"{name}: not the text of /proc/zoneinfo: no zone with managed pages, or no CPU")
+    for zone in machine.zones:
+        missing = [word for word in FIELDS + ("start_pfn",) if word not in zone.pages]
+        if missing:
+            raise BadInput(f"{name}:{zone.line}: zone {zone} has no '{missing[0]}'")
+    most = vmtrace.MAX_CPUS[2]
+    if max(machine.cpus) >= most:
+        raise BadInput(f"{name}: CPU {max(machine.cpus)} is online, and a trace has at most {most} CPUs")
+    if len(machine.zones) > vmtrace.MAX_ZONES or max(zone.node for zone in machine.zones) > vmtrace.MAX_NODE:
+        raise BadInput(f"{name}: a trace has at most {vmtrace.MAX_ZONES} zones, of nodes 0 to {vmtrace.MAX_NODE}")
+
+
+def header_lines(machine, watermarks, added):
+    """The header, and CPUs taken down that aren't online. `added` has pages for nr_free_pages, by zone."""
+    cpus = max(machine.cpus) + 1
+    yield "vmtrace 1" if cpus <= vmtrace.MAX_CPUS[1] else "vmtrace 2"
+    yield f"cpus {cpus}"
+    if watermarks:
+        yield "watermarks {} {}".format(*watermarks)
+    for zone in machine.zones:
+        marks = "" if watermarks else " {min} {low} {high}".format(**zone.pages)
+        yield f"zone {zone} {zone.pages['managed']}{marks}"
+    for zone in machine.zones:
+        yield from base_lines(zone, vmtrace.ZONE_ITEMS, zone.items, {"nr_free_pages": added[str(zone)]})
+    for node in sorted({zone.node for zone in machine.zones}):
+        yield from base_lines(f"{node} node", vmtrace.NODE_ITEMS, machine.nodes.get(node, {}), {})
+    yield "go"
+    for cpu in sorted(set(range(cpus)) - machine.cpus):
+        yield f"offline {cpu}"
+        yield f"k dead {cpu}"
+
+
+def base_lines(place, items, values, added):
+    for item in items:
+        value = values.get(item, 0) + added.get(item, 0)
+        if value:
+            yield f"base {place} {item} {value}"
+
+
+def events_of(lines, name, account):
+    """The events of the text, in its order. Remarks and lines that are no events are passed over."""
+    first = None
+    other = False
+    for number, line in enumerate(lines, 1):
+        if event := EVENT.match(line):
+            seconds = float(event[2])
+            first = seconds if first is None else first
+            yield Event(number, int(event[1]), seconds - first, event[3], event[4])
+        elif lost := LOST.match(line):
+            account.lost += int(lost[1] or 1)
+        elif written := WRITTEN.match(line):
+            account.lost += int(written[2]) - int(written[1])
+        elif line.strip() and not line.startswith("#"):
+            other = True
+    if other and first is None:
+        raise BadInput(f"{name}: no line of it is an event of the kernel's tracing buffer")
+
+
+def pages_of(event, name):
+    """The page frame of an event, and by how many pages it changes the free pages of its zone, 0 included."""
+    arguments = dict(ARGUMENT.findall(event.arguments))
+    for word in ("pfn", "order"):
+        if word not in arguments:
+            raise BadInput(f"{name}:{event.line}: {event.name} has no number '{word}='")
+    pfn, order = (int(arguments[word], 16 if arguments[word].startswith("0x") else 10) for word in ("pfn", "order"))
+    if order > LAST_ORDER:
+        raise BadInput(f"{name}:{event.line}: the order {order} is too large")
+    if event.name == FREES and (order <= COSTLY_ORDER or order == HUGE_ORDER):
+        return pfn, 0
+    return pfn, -(1 << order) if event.name == TAKES else 1 << order
+
+
+def judged(event, machine, name):
+    """The zone of an event and by how many pages its free pages change; or 0 pages and why the event is left out."""
+    if event.name not in (TAKES, GIVES, FREES):
+        return None, 0, "changes no free pages"
+    pfn, pages = pages_of(event, name)
+    zones = [str(zone) for zone in machine.zones if zone.spans(pfn)]
+    if not pages:
+        return None, 0, "goes to a per-CPU list"
+    if len(zones) != 1:
+        return None, 0, "several zones span its page" if zones else "no zone of the trace spans its page"
+    if event.cpu not in machine.cpus:
+        return None, 0, f"on CPU {event.cpu}, which wasn't online"
+    return zones[0], pages, None
+
+
+class Paper:
+    """What a trace is written on: it takes lines as long as the program would read them and the last lines too."""
+
+    def __init__(self, out, limits, last):
+        self.out = out
+        self.last = last
+        self.lines = limits.lines - len(last)
+        self.bytes = limits.bytes - sum(len(line) + 1 for line in last)
+
+    def write(self, line):
+        """Whether there was room for the line."""
+        if self.lines < 1 or self.bytes < len(line) + 1:
+            return False
+        self.lines -= 1
+        self.bytes -= len(line) + 1
+        self.out.write(line + "\n")
+        return True
+
+    def end(self):
+        self.out.writelines(line + "\n" for line in self.last)
+
+
+def after_early(events, machine, name, skip, account):
+    """The events from `skip` seconds on. The changes of those before are taken into the account."""
+    for event in events:
+        if event.since >= skip:
+            return itertools.chain([event], events)
+        zone, pages, _ = judged(event, machine, name)
+        account.left_out["events before the window"] += 1
+        if pages:
+            account.early[zone] += pages
+    return iter(())
+
+
+def write_changes(paper, events, machine, name, end, account):
+    """Writes a line for each change of the events, up to `end` seconds or as long as there is room."""
+    for event in events:
+        if event.since >= end:
+            account.cut = f"the window ends before {name}:{event.line}"
+            return
+        zone, pages, reason = judged(event, machine, name)
+        if reason:
+            account.left_out[f"{event.name} ({reason})"] += 1
+        elif paper.write(f"c{event.cpu} mod {zone} nr_free_pages {pages}"):
+            account.used[event.name] += 1
+            account.pages[zone] += pages
+        else:
+            account.cut = f"stopped before {name}:{event.line}: the program reads no more lines or bytes"
+            return
+
+
+def write_trace(paper, events, machine, name, options, account):
+    """Writes the trace. What the window leaves out before it is added to the base values."""
+    events = after_early(events, machine, name, options.skip, account)
+    for line in header_lines(machine, options.watermarks, account.early):
+        paper.write(line)
+    write_changes(paper, events, machine, name, options.skip + options.seconds, account)
+    paper.end()
+
+
+def free_pages(text, name):
+    """The value of nr_free_pages in the text of /proc/vmstat."""
+    found = re.search(r"^nr_free_pages (\d+)$", text, re.M)
+    if not found:
+        raise BadInput(f"{name}: not the text of /proc/vmstat: no line 'nr_free_pages N'")
+    return int(found[1])
+
+
+def notes(machine, account, options, counted):
+    """What is to be said of the trace. `counted` is by how much /proc/vmstat changed, None where it isn't known."""
+    for zone in machine.left_out:
+        known = zone.kind in vmtrace.KINDS or not zone.pages.get("managed")
+        yield f"zone {zone} left out: {'no managed pages' if known else 'a trace has no such kind'}"
+    if options.watermarks:
+        yield from watermark_notes(machine, options.watermarks)
+    yield from event_notes(account)
+    if counted is not None and account.cut:
+        yield f"/proc/vmstat: nr_free_pages changed by {counted}; not compared, since later events are left out"
+    elif counted is not None:
+        total = sum(account.pages.values()) + sum(account.early.values())
+        yield f"/proc/vmstat: nr_free_pages changed by {counted}; the events' {total} is off by {total - counted}"
+
+
+def event_notes(account):
+    if account.lost:
+        yield f"{account.lost} events were lost before the recording was read"
+    for event, number in account.used.items():
+        yield f"used: {number} {event}"
+    for what, number in sorted(account.left_out.items()):
+        yield f"left out: {number} {what}"
+    for zone, pages in account.early.items():
+        yield f"added to the base value of {zone} nr_free_pages: {pages}, by events before the window"
+    for zone, pages in account.pages.items():
+        yield f"{zone} nr_free_pages: changed by {pages}"
+    if account.cut:
+        yield account.cut
+
+
+def watermark_notes(machine, watermarks):
+    managed = [zone.pages["managed"] for zone in machine.zones]
+    for zone, computed in zip(machine.zones, vmtrace.computed_watermarks(*watermarks, managed)):
+        found = zone.pages["min"], zone.pages["low"], zone.pages["high"]
+        relation = "as in zoneinfo" if found == computed else "but {} {} {} in zoneinfo".format(*found)
+        yield "zone {}: watermarks {} {} {}, {}".format(zone, *computed, relation)
+
+
+@contextmanager
+def tracing_instance():
+    """A tracing buffer of its own, with no event on, that is taken away afterwards. Other tracing isn't touched."""
+    if os.geteuid() != 0:
+        raise BadInput("--live needs root")
+    root = next((path for path in TRACEFS if (path / "instances").is_dir()), None)
+    if root is None:
+        raise BadInput("--live: no tracefs; as root: mount -t tracefs tracefs /sys/kernel/tracing")
+    instance = root / "instances" / f"from_kernel-{os.getpid()}"
+    signal.signal(signal.SIGTERM, lambda *_: sys.exit(1))
+    instance.mkdir()
+    try:
+        (instance / "tracing_on").write_text("0")
+        (instance / "buffer_size_kb").write_text(BUFFER_KB)
+        yield instance
+    finally:
+        (instance / "events" / "enable").write_text("0")
+        instance.rmdir()
+
+
+def record(seconds, recording):
+    """Records this machine: zoneinfo just before, the text of the events into the file, and vmstat before and after."""
+    with tracing_instance() as instance:
+        kmem = instance / "events" / "kmem"
+        (kmem / FREES / "filter").write_text(f"order > {COSTLY_ORDER}")
+        for event in (TAKES, GIVES, FREES):
+            (kmem / event / "enable").write_text("1")
+        before = Path("/proc/vmstat").read_text()
+        zoneinfo = Path("/proc/zoneinfo").read_text()
+        (instance / "tracing_on").write_text("1")
+        time.sleep(seconds)
+        (instance / "tracing_on").write_text("0")
+        after = Path("/proc/vmstat").read_text()
+        with vmtrace.open_text(str(instance / "trace")) as trace:
+            shutil.copyfileobj(trace, recording)
+    recording.seek(0)
+    return zoneinfo, before, after
+
+
+def seconds(text):
+    number = float(text)
+    if not 0 <= number < float("inf"):
+        raise ValueError
+    return number
+
+
+def parse(arguments):
+    parser = argparse.ArgumentParser(description=__doc__, formatter_class=argparse.RawDescriptionHelpFormatter)
+    source = parser.add_mutually_exclusive_group(required=True)
+    source.add_argument("--zoneinfo", metavar="FILE", help="/proc/zoneinfo, or a copy")
+    source.add_argument("--live", metavar="SECONDS", type=seconds,
+                        help="record this machine: as root, through a buffer of its own in tracefs")
+    parser.add_argument("--events", metavar="FILE",
+                        help="the text of the tracing buffer, also as .xz or .gz; - for standard input")
+    parser.add_argument("--vmstat", metavar=("BEFORE", "AFTER"), nargs=2,
+                        help="/proc/vmstat before and after the events, to compare with")
+    parser.add_argument("--watermarks", metavar=("MIN_FREE_KBYTES", "SCALE"), nargs=2, type=int,
+                        help="a line from which the program computes the watermarks, in place of those of zoneinfo")
+    parser.add_argument("--skip", metavar="SECONDS", type=seconds, default=0.0,
+                        help="leave the first seconds of the events out, and add their changes to the base values")
+    parser.add_argument("--seconds", metavar="N", type=seconds, default=math.inf,
+                        help="take no more than this many seconds")
+    parser.add_argument("--report", metavar="KIND", action="append", choices=REPORTS, default=[],
+                        help=f"end with a report: {', '.join(REPORTS)}; may be given again")
+    options = parser.parse_args(arguments)
+    if options.live is not None and (options.events or options.vmstat):
+        parser.error("--live records the events and vmstat by itself")
+    if options.watermarks and not (0 <= options.watermarks[0] <= vmtrace.MAX_KBYTES
+                                   and 1 <= options.watermarks[1] <= vmtrace.MAX_SCALE):
+        parser.error(f"--watermarks: from 0 to {vmtrace.MAX_KBYTES}, and from 1 to {vmtrace.MAX_SCALE}")
+    return options
+
+
+def make(machine, events, name, counted, options, limits):
+    """Writes the trace of a machine and the lines of that name, and the notes."""
+    account = Account()
+    paper = Paper(sys.stdout, limits, [f"report {kind}" for kind in options.report])
+    write_trace(paper, events_of(events, name, account), machine, name, options, account)
+    for note in notes(machine, account, options, counted):
+        print(f"from_kernel: {note}", file=sys.stderr)
+
+
+def make_live(options, limits):
+    with tempfile.TemporaryFile("w+", **vmtrace.ANY_BYTES) as recording:
+        zoneinfo, before, after = record(options.live, recording)
+        machine = read_zoneinfo(zoneinfo.splitlines(), "/proc/zoneinfo")
+        counted = free_pages(after, "/proc/vmstat") - free_pages(before, "/proc/vmstat")
+        make(machine, recording, "the recording", counted, options, limits)
+
+
+def make_from_files(options, limits):
+    machine = read_zoneinfo(vmtrace.lines_of(options.zoneinfo), options.zoneinfo)
+    counted = None
+    if options.vmstat:
+        before, after = (free_pages("\n".join(vmtrace.lines_of(name)), name) for name in options.vmstat)
+        counted = after - before
+    with vmtrace.open_text(options.events or os.devnull) as events:
+        make(machine, events, options.events, counted, options, limits)
+
+
+def main(arguments, limits=vmtrace.Limits()):
+    options = parse(arguments)
+    if options.live is None:
+        make_from_files(options, limits)
+    else:
+        make_live(options, limits)
+    return 0
+
+
+if __name__ == "__main__":
+    vmtrace.run(main)

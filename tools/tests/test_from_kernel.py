@@ -1,0 +1,276 @@
+"""from_kernel.py: texts of the kernel on one side, lines of a trace, worked out by hand, on the other."""
+import lzma
+import unittest
+from pathlib import Path
+
+from calls import SAMPLES, ToolTest, vmtrace
+
+ZONEINFO = """Node 0, zone      DMA
+  per-node stats
+      nr_inactive_anon 11
+      nr_slab_reclaimable 12
+      nr_dirty     13
+  pages free     100
+        boost    0
+        min      1
+        low      2
+        high     3
+        spanned  4095
+        present  3998
+        managed  3840
+        protection: (0, 3019, 16715)
+      nr_free_pages 100
+      nr_mlock     0
+  pagesets
+    cpu: 0
+              count:    5
+              high:     6
+              batch:    7
+  vm stats threshold: 6
+  start_pfn:           1
+Node 0, zone   Normal
+  pages free     5000
+        min      10
+        low      20
+        high     30
+        spanned  1000
+        present  1000
+        managed  900
+      nr_free_pages 5000
+      nr_mlock     4
+  pagesets
+    cpu: 0
+    cpu: 1
+  start_pfn:           4096
+Node 0, zone  Movable
+  pages free     0
+        min      32
+        low      32
+        high     32
+        spanned  0
+        present  0
+        managed  0
+"""
+HEADER = """vmtrace 1
+cpus 2
+zone 0 DMA 3840 1 2 3
+zone 0 Normal 900 10 20 30
+base 0 DMA nr_free_pages 100
+base 0 Normal nr_free_pages 5000
+base 0 Normal nr_mlock 4
+base 0 node nr_inactive_anon 11
+base 0 node nr_dirty 13
+go
+"""
+
+
+def event(name="mm_page_alloc_zone_locked", pfn="0x1000", order=0, cpu=0, seconds=1.5):
+    return f"          task-1      [{cpu:03}] d..3.  {seconds:.6f}: {name}: pfn={pfn} order={order} migratetype=1\n"
+
+
+class FromKernelTest(ToolTest):
+    tool = "from_kernel"
+
+    def make(self, events, *options, zoneinfo=ZONEINFO):
+        """The header, the body and the notes that are made of these texts."""
+        status, output, errors = self.call("--zoneinfo", self.file("zoneinfo", zoneinfo),
+                                           "--events", self.file("events", events), *options)
+        self.assertEqual(status, 0, errors)
+        header, _, body = output.partition("go\n")
+        return header + "go\n", body, errors
+
+    def test_help(self):
+        self.tells_help()
+
+    def test_header(self):
+        header, body, errors = self.make("")
+        self.assertEqual((header, body), (HEADER, ""))
+        self.assertIn("zone 0 Movable left out: no managed pages", errors)
+
+    def test_header_alone(self):
+        status, output, _ = self.call("--zoneinfo", self.file("zoneinfo", ZONEINFO), "--report", "zoneinfo")
+        self.assertEqual((status, output), (0, HEADER + "report zoneinfo\n"))
+
+    def test_events(self):
+        rows = [
+            ("a block for a per-CPU list", event(order=3), "c0 mod 0 Normal nr_free_pages -8\n"),
+            ("a block for its user", event(order=10, cpu=1), "c1 mod 0 Normal nr_free_pages -1024\n"),
+            ("a block from a per-CPU list", event("mm_page_pcpu_drain"), "c0 mod 0 Normal nr_free_pages 1\n"),
+            ("freed to a per-CPU list", event("mm_page_free", order=3), ""),
+            ("freed to the zone", event("mm_page_free", order=4), "c0 mod 0 Normal nr_free_pages 16\n"),
+            ("a huge page freed to a per-CPU list", event("mm_page_free", order=9), ""),
+            ("freed to the zone, largest", event("mm_page_free", order=10), "c0 mod 0 Normal nr_free_pages 1024\n"),
+            ("taken from a per-CPU list", event("mm_page_alloc"), ""),
+            ("freed in a batch", event("mm_page_free_batched"), ""),
+            ("the first page of DMA", event(pfn="0x1"), "c0 mod 0 DMA nr_free_pages -1\n"),
+            ("the last page of DMA", event(pfn="4095"), "c0 mod 0 DMA nr_free_pages -1\n"),
+            ("the last page of Normal", event(pfn="0x13e7"), "c0 mod 0 Normal nr_free_pages -1\n"),
+            ("the page after it", event(pfn="0x13e8"), ""),
+            ("a decimal page frame", event(pfn="04096"), "c0 mod 0 Normal nr_free_pages -1\n"),
+            ("a page before all zones", event(pfn="0x0"), ""),
+            ("a CPU that wasn't online", event(cpu=2), ""),
+        ]
+        for what, text, wanted in rows:
+            with self.subTest(what):
+                self.assertEqual(self.make(text)[1], wanted)
+
+    def test_spellings(self):
+        rows = {
+            "tracefs": "  kworker/0:1-12 [001] d..1.  10.5: mm_page_pcpu_drain: page=0000f3a1 pfn=0x1000 order=2 x=1",
+            "older tracefs": "   bash-7   [001] d..1 10.5: mm_page_pcpu_drain: page=ffffea0 pfn=4096 order=2 x=1",
+            "trace-cmd": "  my [002] task-12   [001]  10.5: mm_page_pcpu_drain:   page=0xffea pfn=0x1000 order=2 x=1",
+            "trace-cmd with flags": "  <idle>-0   [001] d..3.  10.500001: mm_page_pcpu_drain: pfn=0x1000 order=2",
+            "perf": "some task  12/13 [001]  10.500000: kmem:mm_page_pcpu_drain: page=(nil) pfn=0x1000 order=2 x=1",
+            "perf, unparsed": "a 12 [001] 10.5: kmem:mm_page_pcpu_drain: [FAILED TO PARSE] pfn=4096 order=2",
+        }
+        for what, line in rows.items():
+            with self.subTest(what):
+                self.assertEqual(self.make("# tracer: nop\n\n" + line + "\n")[1], "c1 mod 0 Normal nr_free_pages 4\n")
+
+    def test_zones_that_span_the_same_pages(self):
+        zoneinfo = ZONEINFO.replace("spanned  4095", "spanned  5000")
+        _, body, errors = self.make(event() + event(pfn="0x5"), zoneinfo=zoneinfo)
+        self.assertEqual(body, "c0 mod 0 DMA nr_free_pages -1\n")
+        self.assertIn("left out: 1 mm_page_alloc_zone_locked (several zones span its page)", errors)
+
+    def test_cpus_that_are_not_online(self):
+        zoneinfo = ZONEINFO.replace("    cpu: 1\n", "    cpu: 3\n")
+        header, body, _ = self.make(event(cpu=3), zoneinfo=zoneinfo)
+        self.assertIn("cpus 4\n", header)
+        self.assertEqual(body, "offline 1\nk dead 1\noffline 2\nk dead 2\nc3 mod 0 Normal nr_free_pages -1\n")
+
+    def test_many_cpus(self):
+        for last, version in ((63, 1), (64, 2), (127, 2)):
+            with self.subTest(last):
+                header = self.make("", zoneinfo=ZONEINFO.replace("cpu: 1", f"cpu: {last}"))[0]
+                self.assertTrue(header.startswith(f"vmtrace {version}\ncpus {last + 1}\n"))
+
+    def test_window(self):
+        events = "".join(event(order=n, seconds=10 + n / 10) for n in range(8))
+        header, body, errors = self.make(events, "--skip", "0.15", "--seconds", "0.2")
+        self.assertEqual(body, "c0 mod 0 Normal nr_free_pages -4\nc0 mod 0 Normal nr_free_pages -8\n")
+        self.assertIn("base 0 Normal nr_free_pages 4997\n", header)
+        self.assertIn("the window ends before events:5", errors)
+
+    def test_a_window_after_all_events(self):
+        header, body, _ = self.make(event() + event(), "--skip", "1")
+        self.assertEqual(body, "")
+        self.assertIn("base 0 Normal nr_free_pages 4998\n", header)
+
+    def test_limits(self):
+        change = len("c0 mod 0 Normal nr_free_pages -1\n")
+        report = len("report totals\n")
+        rows = [
+            (vmtrace.Limits(lines=13), 2),
+            (vmtrace.Limits(lines=14), 3),
+            (vmtrace.Limits(bytes=len(HEADER) + 2 * change + report), 2),
+            (vmtrace.Limits(bytes=len(HEADER) + 3 * change + report - 1), 2),
+            (vmtrace.Limits(bytes=len(HEADER) + 3 * change + report), 3),
+        ]
+        words = ["--zoneinfo", self.file("zoneinfo", ZONEINFO), "--events", self.file("events", event() * 3),
+                 "--report", "totals"]
+        for limits, wanted in rows:
+            with self.subTest(limits):
+                _, output, errors = self.call(*words, limits=limits)
+                self.assertEqual(output.count(" mod "), wanted)
+                self.assertTrue(output.endswith("-1\nreport totals\n"))
+                self.assertEqual("stopped before events:3: the program reads" in errors, wanted == 2)
+
+    def test_watermarks(self):
+        header, _, errors = self.make("", "--watermarks", "400", "30")
+        self.assertIn("cpus 2\nwatermarks 400 30\nzone 0 DMA 3840\nzone 0 Normal 900\nbase", header)
+        # 100 pages of 4740: 81 and 18, with steps of 20 (a quarter) or 11 (30 of 10,000), and of 4 or 2
+        self.assertIn("zone 0 DMA: watermarks 81 101 121, but 1 2 3 in zoneinfo", errors)
+        self.assertIn("zone 0 Normal: watermarks 18 22 26, but 10 20 30 in zoneinfo", errors)
+
+    def test_notes(self):
+        before = self.file("before", "nr_free_pages 5100\n")
+        after = self.file("after", "nr_zspages 0\nnr_free_pages 5090\n")
+        text = "# entries-in-buffer/entries-written: 5/9   #P:2\nCPU:1 [LOST 3 EVENTS]\nCPU:0 [EVENTS DROPPED]\n"
+        _, _, errors = self.make(text + event(order=3) + event("mm_page_free"), "--vmstat", before, after)
+        self.assertEqual(errors.replace("from_kernel: ", "").splitlines()[1:], [
+            "8 events were lost before the recording was read",
+            "used: 1 mm_page_alloc_zone_locked",
+            "left out: 1 mm_page_free (goes to a per-CPU list)",
+            "0 Normal nr_free_pages: changed by -8",
+            "/proc/vmstat: nr_free_pages changed by -10; the events' -8 is off by 2",
+        ])
+
+    def test_comparison_of_a_part(self):
+        vmstat = self.file("vmstat", "nr_free_pages 5100\n")
+        _, _, errors = self.make(event() + event(seconds=2), "--vmstat", vmstat, vmstat, "--skip", "0.1")
+        self.assertIn("the events' -2 is off by -2", errors)
+        _, _, errors = self.make(event() + event(seconds=2), "--vmstat", vmstat, vmstat, "--seconds", "0.1")
+        self.assertIn("not compared, since later events are left out", errors)
+
+    def test_the_recorded_second(self):
+        names = {name: SAMPLES / name for name in ("zoneinfo", "second.txt.xz", "vmstat.before", "vmstat.after")}
+        status, output, errors = self.call("--zoneinfo", names["zoneinfo"], "--events", names["second.txt.xz"],
+                                           "--vmstat", names["vmstat.before"], names["vmstat.after"])
+        changes = [line.split() for line in output.splitlines() if " mod " in line]
+        self.assertEqual((status, len(changes)), (0, 1973))
+        self.assertEqual({tuple(words[2:5]) for words in changes}, {("0", "Normal", "nr_free_pages")})
+        self.assertEqual(sum(int(words[5]) for words in changes), -2177)
+        self.assertIn("the events' -2177 is off by 94", errors)
+
+    def test_the_recorded_watermarks(self):
+        _, _, errors = self.call("--zoneinfo", SAMPLES / "zoneinfo", "--watermarks", "67584", "10")
+        self.assertEqual(errors.count(", as in zoneinfo\n"), 3)
+
+    def test_a_piece_of_the_recording(self):
+        _, output, errors = self.call("--zoneinfo", SAMPLES / "zoneinfo", "--events", SAMPLES / "piece.txt")
+        self.assertTrue(output.endswith("go\nc0 mod 0 Normal nr_free_pages -32\nc0 mod 0 Normal nr_free_pages -16\n"))
+        self.assertIn("left out: 44 mm_page_alloc (changes no free pages)", errors)
+
+    def test_standard_input(self):
+        status, output, _ = self.call("--zoneinfo", self.file("zoneinfo", ZONEINFO), "--events", "-", stdin=event())
+        self.assertEqual((status, output.splitlines()[-1]), (0, "c0 mod 0 Normal nr_free_pages -1"))
+
+    def test_bad_zoneinfo(self):
+        rows = [
+            ("zoneinfo: not the text of /proc/zoneinfo", ""),
+            ("zoneinfo: not the text of /proc/zoneinfo", "MemTotal: 16 kB\n"),
+            ("zoneinfo:24: zone 0 Normal has no 'spanned'", ZONEINFO.replace("        spanned  1000\n", "")),
+            ("zoneinfo:24: zone 0 Normal has no 'start_pfn'", ZONEINFO.replace("  start_pfn:           4096\n", "")),
+            ("zoneinfo:8: 'x' is no number", ZONEINFO.replace("min      1\n", "min      x\n")),
+            ("zoneinfo: CPU 128 is online", ZONEINFO.replace("cpu: 1", "cpu: 128")),
+            ("zoneinfo: a trace has at most 16 zones, of nodes 0 to 15", ZONEINFO.replace("Node 0", "Node 16")),
+        ]
+        for message, text in rows:
+            with self.subTest(message):
+                self.fails(message, "--zoneinfo", self.file("zoneinfo", text))
+
+    def test_bad_events(self):
+        self.file("zoneinfo", ZONEINFO)
+        rows = [
+            ("events: no line of it is an event", "some other text\n"),
+            ("events:2: mm_page_free has no number 'order='", event() + event("mm_page_free", order="x")),
+            ("events:1: mm_page_pcpu_drain has no number 'pfn='", event("mm_page_pcpu_drain", pfn="")),
+            ("events:1: the order 64 is too large", event(order=64)),
+        ]
+        for message, text in rows:
+            with self.subTest(message):
+                status, _, errors = self.call("--zoneinfo", "zoneinfo", "--events", self.file("events", text))
+                self.assertEqual(status, 1)
+                self.assertIn("from_kernel: " + message, errors)
+
+    def test_bad_files(self):
+        self.file("zoneinfo", ZONEINFO)
+        self.fails("from_kernel: nowhere: No such file", "--zoneinfo", "nowhere")
+        self.fails("from_kernel: nowhere: No such file", "--zoneinfo", "zoneinfo", "--events", "nowhere")
+        self.fails("zoneinfo: not the text of /proc/vmstat", "--zoneinfo", "zoneinfo", "--vmstat", "zoneinfo", "x")
+        Path("events.xz").write_bytes(lzma.compress(event().encode())[:-20])
+        status, _, errors = self.call("--zoneinfo", "zoneinfo", "--events", "events.xz")
+        self.assertEqual(status, 1)
+        self.assertIn("a packed file is damaged", errors)
+
+    def test_bad_words(self):
+        for words in ([], ["--zoneinfo", "z", "--live", "1"], ["--live", "1", "--events", "e"], ["--live", "x"],
+                      ["--zoneinfo", "z", "--skip", "-1"], ["--zoneinfo", "z", "--watermarks", "1", "0"],
+                      ["--zoneinfo", "z", "--report", "nothing"]):
+            with self.subTest(words):
+                self.fails("usage: from_kernel.py", *words, status=2)
+
+
+if __name__ == "__main__":
+    unittest.main()

@@ -1,0 +1,187 @@
+"""What the tools share: the names and limits of the trace format, and how a trace is read. Pages have 4096 bytes.
+
+The judge of a trace is the program. What is read here is what a tool needs to know of one that the program accepts.
+"""
+import gzip
+import lzma
+import os
+import re
+import sys
+from dataclasses import dataclass, field
+
+KINDS = ("DMA", "DMA32", "Normal", "Movable")
+ZONE_ITEMS = ("nr_free_pages", "nr_zone_inactive_anon", "nr_zone_active_anon", "nr_zone_inactive_file",
+              "nr_zone_active_file", "nr_zone_unevictable", "nr_zone_write_pending", "nr_mlock")
+NODE_ITEMS = ("nr_inactive_anon", "nr_active_anon", "nr_inactive_file", "nr_active_file", "nr_unevictable",
+              "nr_anon_pages", "nr_file_pages", "nr_dirty")
+PAGE_BYTES = 4096
+MAX_CPUS = {1: 64, 2: 128}
+MAX_ZONES = 16
+MAX_NODE = 15
+MAX_MANAGED = 2**40
+MAX_KBYTES = 2**40
+MAX_SCALE = 3000
+WORD = re.compile(r"[!-~]+")
+ANY_BYTES = {"encoding": "ascii", "errors": "surrogateescape", "newline": "\n"}
+
+
+class BadInput(Exception):
+    """What is wrong with what the user gave, with the file and the line where there are any."""
+
+
+@dataclass(frozen=True)
+class Limits:
+    """How many lines and bytes the program reads at most."""
+
+    lines: int = 1_000_000
+    bytes: int = 2**26
+
+
+@dataclass(frozen=True)
+class Counter:
+    """One item of a zone of a node, or of the node itself where the kind is `node`."""
+
+    node: int
+    kind: str
+    item: str
+
+    def __str__(self):
+        return f"{self.node} {self.kind} {self.item}"
+
+
+@dataclass(frozen=True)
+class Size:
+    """A zone's managed pages and its watermarks, in pages."""
+
+    managed: int
+    min: int
+    low: int
+    high: int
+
+
+@dataclass
+class Header:
+    """What the tools need of the header of a trace, which has so many lines."""
+
+    cpus: int = 0
+    zones: dict[tuple[int, str], Size] = field(default_factory=dict)
+    items: dict[str, list[str]] = field(default_factory=lambda: {"zone": list(ZONE_ITEMS), "node": list(NODE_ITEMS)})
+    in_bytes: set[str] = field(default_factory=set)
+    bases: dict[Counter, int] = field(default_factory=dict)
+    watermarks: tuple[int, int] | None = None
+    lines: int = 0
+
+    def has(self, counter):
+        if counter.kind == "node":
+            return any(node == counter.node for node, _ in self.zones) and counter.item in self.items["node"]
+        return (counter.node, counter.kind) in self.zones and counter.item in self.items["zone"]
+
+
+def words_of(line):
+    """The words of a line, none where the line is ignored."""
+    words = WORD.findall(line)
+    return [] if words and words[0].startswith("#") else words
+
+
+def counter_of(text):
+    """The counter of three words, as in `0 Normal nr_free_pages`."""
+    words = text.split()
+    if len(words) != 3 or not words[0].isdecimal():
+        raise BadInput(f"'{text}' is no counter: it has the form '0 Normal nr_free_pages' or '0 node nr_dirty'")
+    return Counter(int(words[0]), words[1], words[2])
+
+
+def computed_watermarks(kbytes, scale, managed):
+    """The three watermarks of each zone, in pages, as __setup_per_zone_wmarks has them.
+
+    `kbytes` is min_free_kbytes, `scale` is watermark_scale_factor, `managed` has the managed pages of each zone.
+    """
+    total = sum(managed)
+    for pages in managed:
+        lowest = kbytes // 4 * pages // total
+        step = max(lowest // 4, pages * scale // 10_000)
+        yield lowest, lowest + step, lowest + 2 * step
+
+
+def open_text(name):
+    """The file of that name, or standard input for `-`, whatever bytes it holds; .xz and .gz are unpacked."""
+    if name == "-":
+        sys.stdin.reconfigure(**ANY_BYTES)
+        return sys.stdin
+    opener = {".xz": lzma.open, ".gz": gzip.open}.get(os.path.splitext(name)[1], open)
+    return opener(name, "rt", **ANY_BYTES)
+
+
+def lines_of(name):
+    """The lines of a file without their byte 10."""
+    with open_text(name) as file:
+        return [line.rstrip("\n") for line in file]
+
+
+def within(word, least, most):
+    number = int(word)
+    if not least <= number <= most:
+        raise ValueError
+    return number
+
+
+def add_line(header, words):
+    """Adds what a header line says, or fails in Python's way where it is none."""
+    if words[0] == "cpus":
+        header.cpus = within(words[1], 1, MAX_CPUS[2])
+    elif words[0] == "watermarks":
+        header.watermarks = int(words[1]), int(words[2]) if len(words) > 2 else 10
+    elif words[0] == "item":
+        header.items[words[1]].append(words[2])
+        if words[3:] == ["bytes"]:
+            header.in_bytes.add(words[2])
+    elif words[0] == "zone":
+        marks = (0, 0, 0) if header.watermarks else map(int, words[4:7])
+        header.zones[int(words[1]), words[2]] = Size(within(words[3], 1, MAX_MANAGED), *marks)
+    elif words[0] == "base":
+        header.bases[Counter(int(words[1]), words[2], words[3])] = int(words[4])
+    elif words[0] not in ("vmtrace", "counter"):
+        raise ValueError
+
+
+def read_header(lines, name):
+    """The header of the trace that has these lines."""
+    header = Header()
+    for number, line in enumerate(lines, 1):
+        words = words_of(line)
+        if words == ["go"]:
+            header.lines = number
+            break
+        try:
+            if words:
+                add_line(header, words)
+        except (ValueError, IndexError, KeyError, TypeError):
+            raise BadInput(f"{name}:{number}: '{line.strip()}' is no header line of a trace") from None
+    if not header.lines or not header.cpus:
+        raise BadInput(f"{name}: no header of a trace that ends with 'go'")
+    if header.watermarks:
+        managed = [size.managed for size in header.zones.values()]
+        marks = computed_watermarks(*header.watermarks, managed)
+        header.zones = {zone: Size(pages, *three) for zone, pages, three in zip(header.zones, managed, marks)}
+    return header
+
+
+def run(main):
+    """Calls a tool's main and ends with its status: 1 with a message where what it was given is bad."""
+    tool = os.path.splitext(os.path.basename(sys.argv[0]))[0]
+    try:
+        status = main(sys.argv[1:])
+        sys.stdout.flush()
+    except BrokenPipeError:
+        os.dup2(os.open(os.devnull, os.O_WRONLY), sys.stdout.fileno())
+        status = 1
+    except BadInput as bad:
+        print(f"{tool}: {bad}", file=sys.stderr)
+        status = 1
+    except (lzma.LZMAError, EOFError) as error:
+        print(f"{tool}: a packed file is damaged: {error}", file=sys.stderr)
+        status = 1
+    except OSError as error:
+        print(f"{tool}: {error.filename or 'input or output'}: {error.strerror or error}", file=sys.stderr)
+        status = 1
+    sys.exit(status)
