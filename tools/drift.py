@@ -1,0 +1,338 @@
+#!/usr/bin/env python3
+"""Draws how far a counter's plain value is from its true total, over the lines of a trace that probe.py has probed.
+
+Upper part: the plain value (`val`), the snapshot (`snap`) and the true total, in pages; the true total is the base and
+every change that the program took. Lower part: by what value and snapshot differ from it. The band around the true
+total is the bound that holds of the value: the sum, over the CPUs, of the threshold under which each last changed the
+counter, 0 once it was folded. A value outside of the band ends the tool with status 1.
+
+The SVG, or with --data columns for gnuplot, goes to standard output:
+
+  probe.py TRACE '0 Normal nr_free_pages' 5 > probed.vmtrace
+  vozhkell replay < probed.vmtrace > probed.out
+  drift.py probed.vmtrace probed.out > drift.svg"""
+import argparse
+import re
+import sys
+from dataclasses import dataclass
+
+import vmtrace
+
+ANSWER = re.compile(r"line (\d+): (value|snapshot) (\d+)$")
+REFUSED = re.compile(r"line (\d+): refused: ")
+READINGS = {"val": "value", "snap": "snapshot"}
+WIDTH, MARGIN = 860, 70
+
+
+@dataclass
+class Point:
+    """A line of the trace where the counter was read, and numbers of pages. Value or snapshot may be missing."""
+
+    line: int
+    total: int
+    bound: int
+    value: int | None = None
+    snapshot: int | None = None
+
+    @property
+    def low(self):
+        """The smallest value that the bound allows. A value is never printed below 0."""
+        return max(0, self.total - self.bound)
+
+    @property
+    def high(self):
+        return max(0, self.total + self.bound)
+
+
+class Bound:
+    """How far the counter's global value can be from its true total, as the lines of a trace tell.
+
+    Where a line may change a threshold or may leave it, depending on a drift mark, the larger one is kept.
+    """
+
+    def __init__(self, header, counter):
+        self.node = counter.node
+        self.size = header.zones.get((counter.node, counter.kind))
+        self.managed = [size.managed for (node, kind), size in header.zones.items()
+                        if node == counter.node and counter.kind in (kind, "node")]
+        self.online = set(range(header.cpus))
+        self.thresholds = [0] * header.cpus
+        self.last = [0] * header.cpus
+        self.plugged = False
+        self.refresh()
+
+    def pages(self):
+        return sum(self.last)
+
+    def normal_threshold(self):
+        """calculate_normal_threshold; of a node the largest of its zones."""
+        return min(125, 2 * len(self.online).bit_length() * (1 + (max(self.managed) >> 15).bit_length()))
+
+    def pressure_threshold(self):
+        """calculate_pressure_threshold"""
+        return min(125, max(1, (self.size.low - self.size.min) // len(self.online)))
+
+    def refresh(self):
+        """refresh_zone_stat_thresholds"""
+        normal = self.normal_threshold()
+        for cpu in self.online:
+            self.thresholds[cpu] = normal
+        self.marked = self.size is not None and len(self.online) * normal > self.size.low - self.size.min
+
+    def changed(self, cpu):
+        self.last[cpu] = self.thresholds[cpu]
+
+    def fold(self, cpu):
+        self.last[cpu] = 0
+
+    def flush(self):
+        for cpu in self.online:
+            self.fold(cpu)
+
+    def pressure(self):
+        """set_pgdat_percpu_threshold with the rule of memory pressure: a zone without a drift mark keeps its own."""
+        if self.size and (self.marked or self.plugged):
+            for cpu in self.online:
+                pressure = self.pressure_threshold()
+                self.thresholds[cpu] = pressure if self.marked else max(pressure, self.thresholds[cpu])
+
+    def normal(self):
+        if self.size and (self.marked or self.plugged):
+            for cpu in self.online:
+                self.thresholds[cpu] = max(self.thresholds[cpu], self.normal_threshold())
+
+    def plug(self, word, cpu):
+        """Takes a CPU down, buries it or brings it up."""
+        self.plugged = True
+        if word == "offline":
+            self.online.discard(cpu)
+            return
+        if word == "online":
+            self.online.add(cpu)
+        self.fold(cpu)
+        self.refresh()
+
+    def follow(self, words):
+        """Takes in a line that the program took and that changes no counter."""
+        if words[0] == "flush":
+            self.flush()
+        elif words[0] in ("offline", "online"):
+            self.plug(words[0], int(words[1]))
+        elif words[1:2] == ["fold"]:
+            self.fold(int(words[2]))
+        elif words[1:2] == ["dead"]:
+            self.plug("dead", int(words[2]))
+        elif words[1:2] == ["pressure"] and int(words[2]) == self.node:
+            self.pressure()
+        elif words[1:2] == ["normal"] and int(words[2]) == self.node:
+            self.normal()
+        elif words[1:2] == ["kswapd"] and int(words[2]) == self.node:
+            before = self.thresholds[:]
+            self.pressure()
+            self.normal()
+            self.thresholds = list(map(max, before, self.thresholds))
+
+
+def read_answers(name):
+    """The numbers that the program printed, by line of the trace, and the lines that it refused."""
+    answers, refused = {}, set()
+    for line in vmtrace.lines_of(name):
+        if found := ANSWER.match(line):
+            answers[int(found[1])] = int(found[3])
+        elif found := REFUSED.match(line):
+            refused.add(int(found[1]))
+    return answers, refused
+
+
+def readings_of(lines, header):
+    """The counters that have a `val` or a `snap` line, in the order of these lines."""
+    found = {}
+    for line in lines[header.lines:]:
+        words = vmtrace.words_of(line)
+        if len(words) == 5 and words[1] in READINGS:
+            found[" ".join(words[2:])] = True
+    return list(found)
+
+
+def change_of(words, counter, header):
+    """The pages by which a lane's line changes the counter, None for any other line."""
+    if words[1:2] not in (["mod"], ["inc"], ["dec"]) or " ".join(words[2:5]) != str(counter):
+        return None
+    if words[1] == "mod":
+        return int(words[5]) // (vmtrace.PAGE_BYTES if counter.item in header.in_bytes else 1)
+    return 1 if words[1] == "inc" else -1
+
+
+def points_of(lines, header, counter, answers, refused, name):
+    """A point for each place of the trace where the counter was read, in the order of the lines."""
+    bound = Bound(header, counter)
+    total = header.bases.get(counter, 0)
+    points, place = [], None
+    answered = max(answers, default=0)
+    for number, line in enumerate(lines[header.lines:answered], header.lines + 1):
+        words = vmtrace.words_of(line)
+        if not words or number in refused:
+            continue
+        kind = READINGS.get(" ".join(words[1:2]))
+        if kind is None:
+            place = None
+            total += follow(words, header, counter, bound, f"{name}:{number}")
+        elif " ".join(words[2:]) == str(counter) and number in answers:
+            if place is None:
+                place = Point(number, total, bound.pages())
+                points.append(place)
+            setattr(place, kind, answers[number])
+    return points
+
+
+def follow(words, header, counter, bound, where):
+    """Takes a line that the program took into the bound; gives back by how many pages it changes the counter."""
+    try:
+        delta = change_of(words, counter, header)
+        if delta is None:
+            bound.follow(words)
+            return 0
+        bound.changed(int(words[0][1:]))
+        return delta
+    except (ValueError, IndexError, ZeroDivisionError):
+        raise vmtrace.BadInput(f"{where}: the program refuses this line, and its answers don't say so") from None
+
+
+def check(points, name):
+    """Every value keeps its bound."""
+    for point in points:
+        if point.value is not None and not point.low <= point.value <= point.high:
+            raise vmtrace.BadInput(f"{name}: line {point.line}: the value {point.value} is outside of {point.low} to "
+                                   f"{point.high}, so these aren't the answers to this trace")
+
+
+def data(points, counter):
+    yield f"# {counter}, in pages; NaN where it wasn't read"
+    yield "# line value snapshot total low high"
+    for point in points:
+        read = ["NaN" if number is None else str(number) for number in (point.value, point.snapshot)]
+        yield f"{point.line} {' '.join(read)} {point.total} {point.low} {point.high}"
+
+
+STYLE = """
+.back { fill: #ffffff } .frame { fill: none; stroke: #8c959f } text { fill: #24292f; font: 13px sans-serif }
+.band { fill: #8c959f; fill-opacity: 0.3 }
+.total { stroke: #24292f } .value { stroke: #cf222e } .snapshot { stroke: #0969da }
+polyline, line { fill: none; stroke-width: 1.5 } .snapshot { stroke-dasharray: 5 5 } .total { stroke-width: 3 }
+@media (prefers-color-scheme: dark) {
+.back { fill: #0d1117 } text { fill: #e6edf3 } .total { stroke: #e6edf3 } .value { stroke: #ff7b72 }
+.snapshot { stroke: #79c0ff } }
+"""
+
+
+@dataclass
+class Panel:
+    """A part of the drawing: where it begins and how high it is, and which numbers lie at its edges."""
+
+    top: int
+    height: int
+    left: int
+    right: int
+    low: int
+    high: int
+
+    def x(self, line):
+        return MARGIN + (line - self.left) * (WIDTH - 2 * MARGIN) / max(1, self.right - self.left)
+
+    def y(self, number):
+        return self.top + (self.high - number) * self.height / max(1, self.high - self.low)
+
+    def curve(self, name, dots):
+        places = " ".join(f"{self.x(line):.1f},{self.y(number):.1f}" for line, number in dots)
+        return f'<polyline class="{name}" points="{places}"/>'
+
+    def band(self, dots):
+        """The area between two numbers on each line."""
+        edge = [(line, high) for line, _, high in dots] + [(line, low) for line, low, _ in reversed(dots)]
+        places = " ".join(f"{self.x(line):.1f},{self.y(number):.1f}" for line, number in edge)
+        return f'<polygon class="band" points="{places}"/>'
+
+    def frame(self, title):
+        yield f'<rect class="frame" x="{MARGIN}" y="{self.top}" width="{WIDTH - 2 * MARGIN}" height="{self.height}"/>'
+        yield f'<text x="{MARGIN}" y="{self.top - 8}">{title}</text>'
+        for number in dict.fromkeys((self.high, (self.low + self.high) // 2, self.low)):
+            yield f'<text x="{MARGIN - 6}" y="{self.y(number) + 4:.1f}" text-anchor="end">{number}</text>'
+        for line in dict.fromkeys((self.left, (self.left + self.right) // 2, self.right)):
+            height = self.top + self.height + 16
+            yield f'<text x="{self.x(line):.1f}" y="{height}" text-anchor="middle">line {line}</text>'
+
+
+def drawing(points, counter):
+    left, right = points[0].line, points[-1].line
+    values = [(point.line, point.value, point.total) for point in points if point.value is not None]
+    snapshots = [(point.line, point.snapshot, point.total) for point in points if point.snapshot is not None]
+    read = [number for _, number, _ in values + snapshots]
+    upper = Panel(60, 260, left, right, min(read + [point.low for point in points]),
+                  max(read + [point.high for point in points]))
+    off = [number - max(0, total) for _, number, total in values + snapshots] + [point.bound for point in points]
+    widest = max(map(abs, off)) or 1
+    lower = Panel(380, 160, left, right, -widest, widest)
+    yield f'<svg xmlns="http://www.w3.org/2000/svg" viewBox="0 0 {WIDTH} 580" role="img">'
+    yield f"<title>{counter}: plain value, snapshot and true total</title><style>{STYLE}</style>"
+    yield f'<rect class="back" width="{WIDTH}" height="580"/>'
+    yield from legend()
+    yield upper.band([(point.line, point.low, point.high) for point in points])
+    yield upper.curve("total", [(point.line, max(0, point.total)) for point in points])
+    yield upper.curve("value", [(line, number) for line, number, _ in values])
+    yield upper.curve("snapshot", [(line, number) for line, number, _ in snapshots])
+    yield from upper.frame(f"{counter}, in pages")
+    yield lower.band([(point.line, -point.bound, point.bound) for point in points])
+    yield lower.curve("total", [(left, 0), (right, 0)])
+    yield lower.curve("value", [(line, number - max(0, total)) for line, number, total in values])
+    yield lower.curve("snapshot", [(line, number - max(0, total)) for line, number, total in snapshots])
+    yield from lower.frame("off the true total by, in pages")
+    yield "</svg>"
+
+
+def legend():
+    names = {"total": "true total", "value": "plain value", "snapshot": "snapshot"}
+    for n, (name, text) in enumerate(names.items()):
+        x = MARGIN + 150 * n
+        yield f'<line class="{name}" x1="{x}" y1="20" x2="{x + 30}" y2="20"/><text x="{x + 38}" y="24">{text}</text>'
+    x = MARGIN + 150 * len(names)
+    yield f'<rect class="band" x="{x}" y="13" width="30" height="14"/>'
+    yield f'<text x="{x + 38}" y="24">where the plain value can be</text>'
+
+
+def parse(arguments):
+    parser = argparse.ArgumentParser(description=__doc__, formatter_class=argparse.RawDescriptionHelpFormatter)
+    parser.add_argument("trace", metavar="TRACE", help="the probed trace")
+    parser.add_argument("output", metavar="OUTPUT", help="what `vozhkell replay` printed of it, - for standard input")
+    parser.add_argument("--counter", help="where the trace reads several: '0 Normal nr_free_pages'")
+    parser.add_argument("--data", action="store_true", help="columns for gnuplot in place of the SVG")
+    return parser.parse_args(arguments)
+
+
+def chosen_counter(lines, header, options):
+    readings = readings_of(lines, header)
+    if not readings:
+        raise vmtrace.BadInput(f"{options.trace}: no 'val' or 'snap' line; probe.py puts them in")
+    if options.counter is None and len(readings) > 1:
+        several = ", ".join(readings)
+        raise vmtrace.BadInput(f"{options.trace}: reads several counters, name one with --counter: {several}")
+    counter = vmtrace.counter_of(options.counter or readings[0])
+    if str(counter) not in readings or not header.has(counter):
+        raise vmtrace.BadInput(f"{options.trace}: doesn't read the counter '{counter}'")
+    return counter
+
+
+def main(arguments):
+    options = parse(arguments)
+    lines = vmtrace.lines_of(options.trace)
+    header = vmtrace.read_header(lines, options.trace)
+    counter = chosen_counter(lines, header, options)
+    points = points_of(lines, header, counter, *read_answers(options.output), options.trace)
+    if not points:
+        raise vmtrace.BadInput(f"{options.output}: has no answer to a reading of '{counter}' in {options.trace}")
+    check(points, options.output)
+    sys.stdout.writelines(line + "\n" for line in (data if options.data else drawing)(points, counter))
+    return 0
+
+
+if __name__ == "__main__":
+    vmtrace.run(main)

@@ -1,0 +1,160 @@
+"""drift.py: the numbers are those of the rules, worked out by hand.
+
+On 2 CPUs a zone of 262,144 pages has the threshold 20, on one 10; under memory pressure it has (125 - 100) / 2 = 12.
+"""
+import unittest
+from xml.etree import ElementTree
+
+from calls import ToolTest
+
+HEADER = """vmtrace 2
+cpus 2
+item node slab bytes
+zone 0 DMA 1000 1 2 3
+zone 0 Normal 262144 100 125 150
+base 0 Normal nr_free_pages 1000
+go
+"""
+FREE = "0 Normal nr_free_pages"
+VAL, SNAP = f"k val {FREE}", f"c1 snap {FREE}"
+TRACE = [
+    VAL, SNAP, f"c0 mod {FREE} -20",  # lines 8 to 10
+    VAL, SNAP, f"c1 mod {FREE} -21",
+    VAL, SNAP, f"c1 dec {FREE}", f"c9 inc {FREE}", "# a remark", "c1 mod 0 DMA nr_free_pages -5",
+    VAL, SNAP, "c1 fold 0",
+    VAL, f"c0 inc {FREE}",
+    SNAP,
+]
+OUTPUT = """line 8: value 1000
+line 9: snapshot 1000
+line 11: value 1000
+line 12: snapshot 980
+line 14: value 979
+line 15: snapshot 959
+line 17: refused: UnknownLane
+line 20: value 979
+line 21: snapshot 958
+line 23: value 959
+line 25: snapshot 959
+done accepted 15 refused 1
+"""
+DATA = """8 1000 1000 1000 1000 1000
+11 1000 980 980 960 1000
+14 979 959 959 919 999
+20 979 958 958 918 998
+23 959 NaN 958 938 978
+25 NaN 959 959 919 999
+"""
+
+
+class DriftTest(ToolTest):
+    tool = "drift"
+
+    def files(self, lines, output, header=HEADER):
+        return self.file("trace", header + "\n".join(lines) + "\n"), self.file("output", output)
+
+    def data(self, lines, output, *options, header=HEADER):
+        """The lines of numbers that gnuplot is to get."""
+        status, text, errors = self.call(*self.files(lines, output, header), "--data", *options)
+        self.assertEqual(status, 0, errors)
+        return "".join(line + "\n" for line in text.splitlines() if not line.startswith("#"))
+
+    def bound_after(self, *lines, counter=FREE, header=HEADER):
+        """The bound after these lines, which change a counter whose base is 1000 by 0 in all."""
+        number = header.count("\n") + len(lines) + 1
+        data = self.data([*lines, f"k val {counter}"], f"line {number}: value 1000\n", header=header)
+        _, _, _, total, low, high = map(float, data.split())
+        self.assertEqual(total - low, high - total)
+        return high - total
+
+    def test_help(self):
+        self.tells_help()
+
+    def test_data(self):
+        self.assertEqual(self.data(TRACE, OUTPUT), DATA)
+
+    def test_bounds(self):
+        c0, c1 = f"c0 mod {FREE} 0", f"c1 mod {FREE} 0"
+        rows = [
+            ("nothing was changed", [], 0),
+            ("one CPU", [c0, c0], 20),
+            ("both CPUs", [c0, c1], 40),
+            ("folded by another", [c0, c1, "c1 fold 0"], 20),
+            ("both folded", [c0, c1, "flush"], 0),
+            ("changed under pressure", [c0, "k pressure 0", c0], 12),
+            ("not changed under pressure", [c0, "k pressure 0"], 20),
+            ("pressure of another node", ["k pressure 1", c0], 20),
+            ("normal again", ["k pressure 0", "k normal 0", c0], 20),
+            ("kswapd takes both", [c0, "k kswapd 0 0 2", c0], 20),
+            ("a CPU that is down", [c0, c1, "offline 1"], 40),
+            ("a CPU that is buried", [c0, c1, "offline 1", "k dead 1", c0], 10),
+            ("a CPU that came back", [c1, "offline 1", "k dead 1", "online 1", c0, c1], 40),
+        ]
+        for what, lines, wanted in rows:
+            with self.subTest(what):
+                self.assertEqual(self.bound_after(*lines), wanted)
+
+    def test_a_zone_without_a_mark(self):
+        header = HEADER.replace("100 125 150", "100 200 300")
+        self.assertEqual(self.bound_after("k pressure 0", f"c0 mod {FREE} 0", header=header), 20)
+
+    def test_computed_watermarks(self):
+        # DMA has min 0 and low 1, Normal min 99 and low 361: more than 40 pages lie between
+        header = HEADER.replace("cpus 2\n", "cpus 2\nwatermarks 400 10\n")
+        header = header.replace(" 1 2 3\n", "\n").replace(" 100 125 150\n", "\n").replace("item node slab bytes\n", "")
+        self.assertEqual(self.bound_after("k pressure 0", f"c0 mod {FREE} 0", header=header), 20)
+
+    def test_a_counter_of_a_node(self):
+        header = HEADER.replace("go\n", "base 0 node nr_dirty 1000\ngo\n")
+        self.assertEqual(self.bound_after("k pressure 0", "c0 mod 0 node nr_dirty 0", counter="0 node nr_dirty",
+                                          header=header), 20)
+
+    def test_an_item_in_bytes(self):
+        data = self.data(["c0 mod 0 node slab 8192", "k val 0 node slab"], "line 9: value 0\n")
+        self.assertEqual(data, "9 0 NaN 2 0 22\n")
+
+    def test_a_total_below_zero(self):
+        data = self.data([f"c0 mod {FREE} -1030", VAL, SNAP], "line 9: value 0\nline 10: snapshot 0\n")
+        self.assertEqual(data, "9 0 0 -30 0 0\n")
+
+    def test_several_counters(self):
+        lines = [VAL, "k val 0 node nr_dirty"]
+        output = "line 8: value 1000\nline 9: value 0\n"
+        self.fails(f"name one with --counter: {FREE}, 0 node nr_dirty", *self.files(lines, output))
+        self.assertEqual(self.data(lines, output, "--counter", "0 node nr_dirty"), "9 0 NaN 0 0 0\n")
+
+    def test_an_output_that_ends_early(self):
+        self.assertEqual(self.data(TRACE, OUTPUT[:OUTPUT.index("line 12")]), "8 1000 1000 1000 1000 1000\n"
+                         "11 1000 NaN 980 960 1000\n")
+
+    def test_drawing(self):
+        for lines, output in ((TRACE, OUTPUT), ([VAL], "line 8: value 1000\n")):
+            status, text, _ = self.call(*self.files(lines, output))
+            drawing = ElementTree.fromstring(text)
+            shapes = [shape.get("class") for shape in drawing.iter() if shape.get("points") is not None]
+            self.assertEqual((status, drawing.tag), (0, "{http://www.w3.org/2000/svg}svg"))
+            self.assertEqual(shapes, ["band", "total", "value", "snapshot"] * 2)
+            self.assertIn("prefers-color-scheme: dark", text)
+
+    def test_bad_input(self):
+        trace, output = self.files(TRACE, OUTPUT)
+        plain = self.file("plain", HEADER)
+        wrong = self.file("wrong", OUTPUT.replace("line 14: value 979", "line 14: value 1000"))
+        other = self.file("other", OUTPUT.replace("line 17: refused: UnknownLane\n", ""))
+        rows = [
+            ("drift: nowhere: No such file", "nowhere", output),
+            ("drift: nowhere: No such file", trace, "nowhere"),
+            ("plain: no 'val' or 'snap' line", plain, output),
+            ("empty: no header of a trace that ends with 'go'", self.file("empty", ""), output),
+            ("trace: doesn't read the counter '0 node nr_dirty'", trace, output, "--counter", "0 node nr_dirty"),
+            ("plain: has no answer to a reading", trace, plain),
+            ("trace:17: the program refuses this line", trace, other),
+            ("wrong: line 14: the value 1000 is outside of 919 to 999", trace, wrong),
+        ]
+        for message, *words in rows:
+            with self.subTest(message):
+                self.fails(message, *words)
+
+
+if __name__ == "__main__":
+    unittest.main()
