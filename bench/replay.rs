@@ -1,16 +1,15 @@
 //! The job of `vozhkell replay` in plain Rust, written by hand. bench/run.sh measures the proved program beside it.
 //!
 //! It writes what the proved program writes, and ends with its statuses: 0, 1 for other words, 2 for a refused header,
-//! 3 where a line was refused, 4 for a failed read and 5 for a failed write, 7 past a limit, and 8 where a report other
-//! than that of the totals counts. From such a report on it writes nothing.
+//! 3 where a line was refused, 4 for a failed read and 5 for a failed write, and 7 past a limit.
 
 mod commands;
 mod names;
+mod report;
 mod trace;
 mod world;
 
 use commands::{Failure, Input, Output, Text};
-use names::EVENTS;
 use std::process::ExitCode;
 use trace::{Act, Cause, Header, KINDS, Lane, Line, REPORTS};
 use world::{Rule, Verdict, World};
@@ -20,14 +19,10 @@ struct Replay<'a> {
     world: World<'a>,
     /// What the phase that is open prints, from its first answer on. It is written once the phase has ended.
     waiting: Text,
-    is_built: bool,
 }
 
 impl Replay<'_> {
     fn take(&mut self, out: &mut Text, number: u64, judged: Result<Line, Cause>) {
-        if !self.is_built {
-            return;
-        }
         match judged {
             Ok(Line::Lane(Lane::Cpu(cpu), act)) => self.act_on_cpu(number, cpu, act),
             Ok(Line::Lane(Lane::Control, act)) => self.act(number, act),
@@ -105,32 +100,15 @@ impl Replay<'_> {
             Line::Offline(cpu) => self.world.take_down(cpu),
             Line::Online(cpu) => self.world.bring_up(cpu),
             Line::Flush => self.world.flush(),
-            Line::Report(kind) if REPORTS[kind] == "totals" => {
-                label(out, number, b"report totals\n");
-                self.write_totals(out);
+            Line::Report(kind) => {
+                label(out, number, b"report ");
+                out.text(REPORTS[kind].as_bytes());
+                out.text(b"\n");
+                report::WRITERS[kind](out, self.header, &self.world);
             }
-            Line::Report(_) => self.is_built = false,
             _ => {}
         }
         self.world.end_phase();
-    }
-
-    fn write_totals(&self, out: &mut Text) {
-        let (header, world) = (self.header, &self.world);
-        for place in 0..header.zones.len() + header.nodes.len() {
-            for position in 0..header.names(header.is_node(place)).len() {
-                let counter = (place << header.shift()) + position;
-                total(out, header.words_of(counter), world.total(counter));
-            }
-        }
-        for (event, name) in EVENTS.iter().enumerate() {
-            out.text(b"event ");
-            total(out, name.as_bytes(), world.events_of_all(event) as i64);
-        }
-        for (counter, declared) in header.counters.iter().enumerate() {
-            out.text(b"counter ");
-            total(out, declared.name.as_bytes(), world.sum(counter));
-        }
     }
 }
 
@@ -159,21 +137,11 @@ fn free(out: &mut Text, verdict: &Verdict) {
     out.text(if verdict.fast { b" fast\n" } else { b" snapshot\n" });
 }
 
-fn total(out: &mut Text, words: &[u8], n: i64) {
-    out.text(words);
-    out.text(b" ");
-    out.signed(n);
-    out.text(b"\n");
-}
-
 fn replay(input: &mut Input, out: &mut Output) -> Result<u8, Failure> {
     let header = input.header()?;
     let world = World::start(&header);
-    let mut replay = Replay { header: &header, world, waiting: Text::default(), is_built: true };
+    let mut replay = Replay { header: &header, world, waiting: Text::default() };
     let tally = input.body(&header, out, |out, number, judged| replay.take(out, number, judged))?;
-    if !replay.is_built {
-        return Ok(8);
-    }
     out.held.append(&mut replay.waiting);
     tally.write(&mut out.held)?;
     Ok(tally.status())

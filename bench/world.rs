@@ -266,6 +266,14 @@ impl<'a> World<'a> {
         world
     }
 
+    /// The CPUs that are online or dead, in ascending order, and whether each is dead.
+    pub fn present_cpus(&self) -> Vec<(usize, bool)> {
+        let dead = self.dead.iter().map(|&cpu| (cpu, true));
+        let mut present: Vec<_> = self.online.iter().map(|&cpu| (cpu, false)).chain(dead).collect();
+        present.sort();
+        present
+    }
+
     // What ends a phase.
 
     pub fn end_phase(&mut self) {
@@ -317,6 +325,23 @@ impl<'a> World<'a> {
 
     pub fn snapshot(&self, counter: usize) -> u64 {
         self.pages.snapshot(counter, &self.dead)
+    }
+
+    pub fn differential(&self, counter: usize, cpu: usize) -> i64 {
+        i64::from(self.pages.diffs(counter)[cpu])
+    }
+
+    pub fn threshold(&self, place: usize, cpu: usize) -> u64 {
+        u64::from(self.pages.thresholds[place * self.cpus + cpu])
+    }
+
+    pub fn mark(&self, zone: usize) -> u64 {
+        self.pages.marks[zone]
+    }
+
+    /// What a zone keeps for itself, by highest zone index.
+    pub fn reserves(&self, zone: usize) -> [u64; 4] {
+        self.pages.reserves[zone]
     }
 
     /// What a counter adds up to over all CPUs.
@@ -411,6 +436,10 @@ impl<'a> World<'a> {
 
     pub fn rough(&self, counter: usize) -> i64 {
         self.shared[counter].count
+    }
+
+    pub fn local(&self, counter: usize, cpu: usize) -> i64 {
+        self.locals[counter * self.cpus + cpu]
     }
 
     pub fn sum(&self, counter: usize) -> i64 {
