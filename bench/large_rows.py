@@ -2,9 +2,9 @@
 
     large_rows.py FOLDER
 
-They are for the limits of a trace, and for many changes of one counter. As in bench/rows there are NAME.vmtrace and
-NAME.out for each, and a table `statuses`. The outputs are put together from what each line prints by the rules of the
-format, not by a program that replays it.
+They are for the limits of a trace, for many changes of one counter, and for the largest report of each version. As in
+bench/rows there are NAME.vmtrace and NAME.out for each, and a table `statuses`. The outputs are put together from what
+each line prints by the rules of the format, not by a program that replays it.
 """
 import os
 import sys
@@ -86,10 +86,38 @@ def bytes_in_all(count):
     return lines, out + ["line 7: value 7", "done accepted 1 refused 1"], 3
 
 
+def largest_report(version, cpus):
+    """Sixteen nodes of a zone each. Every CPU but the first is dead, and hides 125 pages of every item."""
+    declared = [[f"{letter}{n}".ljust(16, "_") for n in range(8)] for letter in "zn"] if version == 2 else [[], []]
+    zone, node = ZONE + declared[0], NODE + declared[1]
+    most, managed = 1 << 48, 1 << 40
+    header = [f"vmtrace {version}", f"cpus {cpus}"]
+    header += [f"item {name} {item}" for name, items in zip(("zone", "node"), declared) for item in items]
+    header += [f"zone {n} Normal {managed} {managed} {managed} {managed}" for n in range(16)]
+    places = [(n, "Normal", item) for n in range(16) for item in zone]
+    places += [(n, "node", item) for n in range(16) for item in node]
+    header += [f"base {n} {kind} {item} {most}" for n, kind, item in places] + ["go"]
+    body = [f"c{cpu} mod {n} {kind} {item} -125" for cpu in range(cpus) for n, kind, item in places]
+    body += [f"offline {cpu}" for cpu in range(1, cpus)] + ["report zoneinfo"]
+    out = [f"line {len(header) + len(body)}: report zoneinfo"]
+    hidden = " -125" * len(zone)
+    held = [f"  cpu {cpu}{' dead' if cpu else ''} threshold 125 differentials{hidden}" for cpu in range(cpus)]
+    for n in range(16):
+        out += [f"Node {n}, zone Normal", f"  pages free {most}"]
+        out += [f"  {name} {managed}" for name in ("min", "low", "high", "managed")]
+        out += [f"  drift mark {managed + cpus * 125}", "  protection 0 0 0 0"]
+        out += [f"  {item} {most}" for item in zone] + held
+    for n in range(16):
+        out += [f"Node {n}, all zones"] + [f"  {item} {most}" for item in node] + held
+    return header + body, out + [f"done accepted {len(body)} refused 0"], 0
+
+
 ROWS = {
     "many_changes": many_changes(),
     "as_many_reports": reports(1_000),
     "too_many_reports": reports(1_001),
+    "largest_report": largest_report(1, 64),
+    "largest_report_of_version_2": largest_report(2, 128),
     "as_many_phases": phases(10_000),
     "too_many_phases": phases(10_001),
     "as_many_lines": lines_in_all(MOST_LINES),
