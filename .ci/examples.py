@@ -2,9 +2,12 @@
 """Gives the examples of documents to the program, and compares its answers: examples.py FORMATS OTHER.. -- PROGRAM WORD..
 
 Of each document: a block ``` WORD STATUS ``` is what the program writes, with that status, when it is called with that
-word and reads the last block ``` trace ```; a line `...` stands for any lines. Of the first document also: a row of the
-table of headers has the lines of an input and `line N: CAUSE` or `accepted`; a row of the table of body lines has a line,
-to be read after the block ``` header ``` and the lines above it, and `CAUSE`, `counts` or `ignored`.
+word and reads the last block ``` trace ```; a block ``` sh ``` is a command for bash, which ends with status 0 where the
+block after it isn't ``` output STATUS ```, what the command writes to standard output. A line `...` stands for any lines.
+
+Of the first document also: a row of the table of headers has the lines of an input and `line N: CAUSE` or `accepted`; a
+row of the table of body lines has a line, to be read after the block ``` header ``` and the lines above it, and `CAUSE`,
+`counts` or `ignored`.
 """
 import re
 import subprocess
@@ -50,11 +53,9 @@ def between(first, last):
 
 
 def shortened(text, wanted):
-    """The text with `...` for what stands between the parts of what is wanted, if it has these parts in their order."""
-    parts = wanted.split("...\n")
-    if len(parts) == 2 and text.startswith(parts[0]) and text.endswith(parts[1]):
-        return wanted
-    return text
+    """What is wanted, if the text is that with any lines for each `...`, and else the text."""
+    pattern = "(?:.*\n)*?".join(re.escape(part) for part in wanted.split("...\n"))
+    return wanted if re.fullmatch(pattern, text) else text
 
 
 def check_blocks(program, name, document):
@@ -66,6 +67,20 @@ def check_blocks(program, name, document):
         elif len(words) == 2 and words[0] in ("check", "replay"):
             status, found = run(program, words[0], trace)
             yield name + ": " + info, (status, shortened(found, text)), (int(words[1]), text)
+
+
+def check_commands(name, document):
+    found = blocks(document) + [("", "")]
+    for (info, command), (after, wanted) in zip(found, found[1:]):
+        if info != "sh":
+            continue
+        done = subprocess.run(["bash", "-c", command], capture_output=True, timeout=600)
+        text = done.stdout.decode(errors="replace")
+        words = after.split()
+        if words[:1] == ["output"]:
+            yield f"{name}: {command}", (done.returncode, shortened(text, wanted)), (int(words[1]), wanted)
+        else:
+            yield f"{name}: {command}", done.returncode, 0
 
 
 def check_headers(program, name, document):
@@ -107,7 +122,7 @@ def main(words):
     for name in names:
         with open(name, encoding="utf-8") as file:
             document = file.read()
-        checks = [check_blocks(program, name, document)]
+        checks = [check_blocks(program, name, document), check_commands(name, document)]
         if name == names[0]:
             checks += [check_headers(program, name, document), check_lines(program, name, document)]
         for check in checks:
