@@ -1,5 +1,6 @@
 """Writes a trace of every kind of line that `replay` replays: changes, queries, percpu counters, events, folds,
-thresholds, balance turns and CPU hotplug, in phases of 10 to 100,000 lines, with a few lines that are refused.
+thresholds, balance turns and CPU hotplug, in phases of 10 to 100,000 lines, with reports and a few lines that are
+refused.
 
     phases.py [SEED [LINES]]
 
@@ -14,6 +15,7 @@ ZONE = ("nr_free_pages nr_zone_inactive_anon nr_zone_active_anon nr_zone_inactiv
 NODE = ("nr_inactive_anon nr_active_anon nr_inactive_file nr_active_file nr_unevictable nr_anon_pages "
         "nr_file_pages nr_dirty").split()
 COUNTERS = "files inodes dentries".split()
+REPORTS = ["report vmstat", "report zoneinfo", "report totals", "report counters"]
 CPUS = 16
 # Each with its free pages at first, near which it is kept: about where the watermark tests change their answers.
 ZONES = {"0 DMA32": ("65536 200 260 320", 700), "0 Normal": ("524288 1000 1250 1500", 2400),
@@ -126,7 +128,7 @@ class Machine:
             cpu = self.absent.pop(self.draw(len(self.absent)))
             self.online.append(cpu)
             return f"online {cpu}"
-        return self.pick(["sync", "sync", "flush", "report totals"])
+        return self.pick(["sync", "sync", "flush", self.pick(REPORTS)])
 
 
 def main():
@@ -136,11 +138,11 @@ def main():
     for text in HEAD[:lines]:
         out.write(text + "\n")
     left = 0
-    for _ in range(lines - len(HEAD) - 1):
+    for _ in range(lines - len(HEAD) - len(REPORTS)):
         out.write((machine.line() if left else machine.boundary()) + "\n")
         left = left - 1 if left else int(10 ** (1 + 4 * machine.rng.random()))
-    if lines > len(HEAD):
-        out.write("report totals\n")
+    for text in REPORTS[:max(0, lines - len(HEAD))]:
+        out.write(text + "\n")
 
 
 if __name__ == "__main__":
