@@ -55,16 +55,18 @@ def from_socket(program, packets, fails=False):
     if fails:
         # A byte that we never read makes our end reset the connection when it is closed.
         theirs.send(b"x")
-    with theirs:
-        process = subprocess.Popen([program, "replay"], stdin=theirs, stdout=subprocess.PIPE)
-    with ours:
-        try:
-            for packet in packets:
-                ours.sendall(packet)
-        except BrokenPipeError:
-            pass
-    out = process.communicate(timeout=60)[0]
-    return process.returncode, out
+    with tempfile.TemporaryFile() as file:
+        with theirs:
+            process = subprocess.Popen([program, "replay"], stdin=theirs, stdout=file)
+        with ours:
+            try:
+                for packet in packets:
+                    ours.sendall(packet)
+            except BrokenPipeError:
+                pass
+        process.wait(timeout=60)
+        file.seek(0)
+        return process.returncode, file.read()
 
 
 def into_file(program, text, size):
