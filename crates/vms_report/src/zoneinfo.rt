@@ -36,8 +36,8 @@ pub fn write_zoneinfo(out: &mut Vec<u8>, header: &Header, world: &World) -> Resu
     write_nodes(out, header, world)
 }
 
-/// The bytes of the report at most: for each place 256 in the lines that only zones have, 48 for each item, and for each
-/// CPU 48 and 5 for each differential.
+/// The bytes of the report at most: for each place 256 in the lines that only zones have, 48 for each item, and for
+/// each CPU 48 and 5 for each differential.
 fn room(layout: &Layout) -> usize {
     let (places, cpus) = (layout.places() as usize, layout.cpus() as usize);
     let positions = layout.positions() as usize;
