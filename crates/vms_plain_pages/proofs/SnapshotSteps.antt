@@ -1,16 +1,16 @@
 -- The steps of a snapshot: each CPU is looked at.
 use Rattle.std.proofs.Common.{◌≡◌, ◌≢◌, ℕ, zero, suc, ◌+◌, ◌*◌, ◌/◌, ◌%◌, ◌^◌, ◌≤◌, ℤ, pos, ◌+ℤ◌, ◌≤ℤ◌, unsigned_abs}
-use Rattle.std.proofs.Common.{Bool, true, false, List, [], ◌∷◌, length, Option, if◌then◌else◌, refl, ap, ◌∙◌, arith}
+use Rattle.std.proofs.Common.{Bool, true, false, List, [], ◌∷◌, length, Option, if◌then◌else◌, refl, ap, sym, ◌<◌, ◌∙◌, arith}
 use Rattle.std.proofs.lemmas.Int.{ints}
 use Rattle.vms_base.specs.declared.ids.CounterId.{CounterId}
 use Rattle.vms_base.specs.declared.ids.CpuId.{CpuId}
 use Rattle.vms_base.specs.declared.kinds.CpuState.{CpuState}
 use Rattle.vms_base.specs.declared.kinds.CpuState.TheVariants.{Online, Dead, Absent}
-use Rattle.vms_base.specs.Cpus.{is_online}
+use Rattle.vms_base.specs.Cpus.{is_online, state_at}
 use Rattle.vms_base.specs.Places.{Shape, IsLayout, IsCounter, IsCpu, first_of, group_of}
 use Rattle.vms_base.proofs.Counts.{IsCounter-member, group_of-lt}
 use Rattle.vms_history.specs.Sums.{sum_below}
-use Rattle.vms_history.proofs.SumBounds.{sum_below-most, sum_below-size}
+use Rattle.vms_history.proofs.SumLaws.{sum_below-same}
 use Rattle.vms_alone.specs.InRow.{LeadsOn}
 use Rattle.vms_core.specs.declared.states.State.{State}
 use Rattle.vms_core.specs.declared.steps.Step.TheVariants.{LoadG}
@@ -81,17 +81,13 @@ module _ (shape : Shape) (layout : IsLayout shape) (s : State) (room : HasRoom s
   looks-from c (suc m) within =
       look c m (omega arith) (looks-from (suc c) m (omega arith)) (cpu_at s c) refl
 
--- what the online CPUs below n have not folded yet is little
-pub online_diffs-most : (shape : Shape) (s : State) (most : ℕ) → HasRoom shape most s → (k n : ℕ) → IsCounter shape k
-    → n ≤ shape.cpus → unsigned_abs (sum_below (λ c. online_diff s c k) n) ≤ n * 125
-online_diffs-most shape s most room k n k_in within =
-    let each = sum_below-most (λ c. pos (unsigned_abs (online_diff s c k))) n 125
-    (λ c below. by (is_online (cpu_at s c)) (diff_at s c k) (room.diffs c k (omega arith) k_in)) in
-    omega (arith, ints, sum_below-size (λ c. online_diff s c k) n, each)
-  where
-    by : (b : Bool) (z : ℤ) → unsigned_abs z ≤ 125 → pos (unsigned_abs (if b then z else pos 0)) ≤ℤ pos 125
-    by true z few = omega (arith, ints)
-    by false z few = omega (arith, ints)
+-- where all CPUs are online, the differentials of the online CPUs are those of all
+pub online_diffs-all : (shape : Shape) (s : State) → length s.cpu ≡ shape.cpus → (k : ℕ)
+    → ((c : ℕ) → c < length s.cpu → state_at s.cpu c ≡ Online)
+    → sum_below (λ c. diff_at s c k) shape.cpus ≡ sum_below (λ c. online_diff s c k) shape.cpus
+online_diffs-all shape s one_each k all =
+    sum_below-same (λ c. diff_at s c k) (λ c. online_diff s c k) shape.cpus
+    (λ c below. sym (ap (λ x. if is_online x then diff_at s c k else pos 0) (all c (omega (arith, one_each)))))
 
 -- a snapshot is made, and answers what the state tells
 pub snapshot-made : (shape : Shape) → IsLayout shape → (s : State) → HasRoom shape (2 ^ 61) s

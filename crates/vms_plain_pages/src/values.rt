@@ -1,8 +1,11 @@
-ghost use Rattle.std.specs.Prelude.{◌≡◌, ◌<◌, ◌≤◌, ◌^◌, length, Option, unsigned_abs};
+ghost use Rattle.std.specs.Prelude.{◌≡◌, ℕ, ◌*◌, ◌<◌, ◌≤◌, ◌^◌, ◌↔◌, length, IsTrue, Option, unsigned_abs};
 ghost use Rattle.vms_base.specs.declared.ids.CpuId.{CpuId};
+ghost use Rattle.vms_base.specs.declared.kinds.CpuState.TheVariants.{Online};
+ghost use Rattle.vms_base.specs.Cpus.{is_online as tells_online, state_at};
 ghost use Rattle.vms_base.specs.Places.{IsCounter, IsCpu};
 ghost use Rattle.vms_base.specs.Thresholds.{most_threshold};
-ghost use Rattle.vms_core.specs.Cells.{counters_of, system_at, value_at};
+ghost use Rattle.vms_core.specs.Cells.{counters_of, diff_at, system_at, value_at};
+ghost use Rattle.vms_history.specs.Sums.{sum_below};
 ghost use Rattle.vms_calls.specs.Looks.{IsPlaceValue, IsSnapshot, IsSystemValue, at_least_zero};
 ghost use Rattle.vms_plain_pages.specs.Alone.{HasRoom, MakesAlone};
 ghost use Rattle.vms_plain_pages.specs.Values.{online_diff, snapshot_of};
@@ -43,11 +46,76 @@ pub fn snapshot(pages: &Plain, layout: &Layout, counter: CounterId) -> u64
         MakesAlone who (λ steps. IsSnapshot layout.now counter steps result) pages.now pages.now }
     ensures answer { result ≡ snapshot_of layout.now pages.now counter.number }
 {
-    let mut sum = pages.load_place(counter);
+    // The layout's bounds are known once it is read.
+    let _ = layout.positions();
+    let hidden = hidden(pages, layout, counter);
+    clamped(pages.load_place(counter) + hidden)
+}
+
+/// What the online CPUs have not folded yet of a counter, in pages.
+fn hidden(pages: &Plain, layout: &Layout, counter: CounterId) -> i64
+    requires room { HasRoom layout.now (2 ^ 61) pages.now }
+    requires counter { IsCounter layout.now counter.number }
+    ensures value { result ≡ sum_below (λ c. online_diff pages.now c counter.number) layout.now.cpus }
+    ensures bound { unsigned_abs result ≤ 128 * most_threshold }
+{
+    // Where all CPUs are online, which is most often so, no CPU's state is looked at for its differential.
+    if are_online(pages.state().cpu.as_slice()) {
+        hidden_by_all(pages, layout, counter)
+    } else {
+        hidden_by_online(pages, layout, counter)
+    }
+}
+
+/// Whether all CPUs are online by these states.
+#[inline]
+fn are_online(states: &[CpuState]) -> bool
+    ensures { IsTrue result ↔ ((c : ℕ) → c < length states.now → state_at states.now c ≡ Online) }
+{
+    let mut all = true;
+    for state in states {
+        let online = is_online(*state);
+        all = all && online;
+    }
+    all
+}
+
+#[inline]
+fn is_online(state: CpuState) -> bool
+    ensures { result ≡ tells_online state }
+{
+    match state {
+        CpuState::Online => true,
+        CpuState::Dead | CpuState::Absent => false,
+    }
+}
+
+/// The differentials of all CPUs together, in pages.
+fn hidden_by_all(pages: &Plain, layout: &Layout, counter: CounterId) -> i64
+    requires room { HasRoom layout.now (2 ^ 61) pages.now }
+    requires counter { IsCounter layout.now counter.number }
+    ensures value { result ≡ sum_below (λ c. diff_at pages.now c counter.number) layout.now.cpus }
+    ensures bound { unsigned_abs result ≤ 128 * most_threshold }
+{
+    let mut sum = 0;
+    for number in 0..layout.cpus() {
+        sum += pages.state().diff_at(layout, CpuId { number }, counter);
+    }
+    sum
+}
+
+/// The differentials of the online CPUs together, in pages.
+fn hidden_by_online(pages: &Plain, layout: &Layout, counter: CounterId) -> i64
+    requires room { HasRoom layout.now (2 ^ 61) pages.now }
+    requires counter { IsCounter layout.now counter.number }
+    ensures value { result ≡ sum_below (λ c. online_diff pages.now c counter.number) layout.now.cpus }
+    ensures bound { unsigned_abs result ≤ 128 * most_threshold }
+{
+    let mut sum = 0;
     for number in 0..layout.cpus() {
         sum += online_differential(pages, layout, CpuId { number }, counter);
     }
-    clamped(sum)
+    sum
 }
 
 /// The differential of a CPU that is online, in pages, and 0 of any other CPU.
@@ -59,9 +127,10 @@ fn online_differential(pages: &Plain, layout: &Layout, cpu: CpuId, counter: Coun
     ensures value { result ≡ online_diff pages.now cpu.number counter.number }
     ensures bound { unsigned_abs result ≤ most_threshold }
 {
-    match pages.load_state(cpu) {
-        CpuState::Online => pages.state().diff_at(layout, cpu, counter),
-        CpuState::Dead | CpuState::Absent => 0,
+    if is_online(pages.load_state(cpu)) {
+        pages.state().diff_at(layout, cpu, counter)
+    } else {
+        0
     }
 }
 
