@@ -20,14 +20,14 @@ static AREAS: [&str; 10] = [
 /// What a test of a zone for blocks of an order answers.
 #[derive(Clone, Copy, Debug, PartialEq, Eq)]
 pub struct OrderVerdict {
-    /// Whether the zone passed.
-    pub yes: bool,
     /// The free pages that this rests on.
     pub free: u64,
-    /// Whether no snapshot of them was made.
-    pub fast: bool,
     /// The order of the free block that was found: none where none was looked for.
     pub area: Option<u32>,
+    /// Whether the zone passed.
+    pub yes: bool,
+    /// Whether no snapshot of the free pages was made.
+    pub fast: bool,
 }
 
 /// Tests whether a zone has more free pages than a watermark asks for and, above order 0, a free block of `2^order`

@@ -16,10 +16,10 @@ use vms_core::Plain;
 /// What a test of a watermark answers.
 #[derive(Clone, Copy, Debug, PartialEq, Eq)]
 pub struct Verdict {
-    /// Whether the zone has more free pages than the watermark and the zone's reserve ask for.
-    pub yes: bool,
     /// The free pages that this rests on.
     pub free: u64,
+    /// Whether the zone has more free pages than the watermark and the zone's reserve ask for.
+    pub yes: bool,
     /// Whether no snapshot was made.
     pub fast: bool,
 }
