@@ -60,6 +60,15 @@ impl PhaseScript {
         self.items.is_empty()
     }
 
+    /// The lines themselves.
+    #[inline]
+    pub fn into_items(self) -> Vec<Item>
+        ensures { result.items ≡ self }
+    {
+        let PhaseScript { items } = self;
+        items
+    }
+
     /// How many lines a lane has.
     pub fn count_of(&self, lane: Lane) -> usize
         ensures { result ≡ length (lane_items lane self.now) }
