@@ -168,6 +168,7 @@ impl<E: Engine> Replay<E> {
         fitting_phases_are_phases::<KernelRules>();
         phases_add_their_lines::<KernelRules>();
         let replayed = engine.run_phase(self.alloc, world, header, &script)?;
+        self.items = emptied(self.alloc, script.into_items());
         write_waits(
             out,
             header,
@@ -200,6 +201,23 @@ impl<E: Engine> Replay<E> {
         self.world = Some(crossed(world, header, boundary));
         Ok(())
     }
+}
+
+ghost use Rattle.std.specs.Prelude.{◌≡◌, []};
+
+/// The most lines for which a list keeps its memory between two phases.
+const MOST_KEPT: usize = 4096;
+
+/// An empty list for the lines of the next phase, in the memory of these where that isn't much.
+fn emptied(alloc: Global, items: Vec<Item>) -> Vec<Item>
+    ensures { result.items ≡ [] }
+{
+    if items.capacity() > MOST_KEPT {
+        return Vec::new(alloc);
+    }
+    let mut items = items;
+    items.clear();
+    items
 }
 
 impl<E: Engine> Body for Replay<E> {
