@@ -1,5 +1,6 @@
 pub mod GroupsTold
 pub mod SnapshotSteps
+pub mod OnlineMarks
 pub mod FoldedCounters
 pub mod FoldedGroups
 pub mod TakenGroups

@@ -1,4 +1,4 @@
-use Rattle.std.proofs.Common.{◌≡◌, ◌<◌, ℕ, true}
+use Rattle.std.proofs.Common.{◌≡◌, ◌<◌, ℕ}
 use Rattle.std.specs.Prelude.{◌↔◌}
 use Rattle.vms_base.specs.declared.kinds.CpuState.TheVariants.{Online}
 use Rattle.vms_base.specs.Cpus.{state_at}
@@ -6,4 +6,4 @@ use Rattle.vms_plain_pages.proofs.values.are_online.Given as goal
 
 -- whether the CPUs so far are online
 abbrev pub invariant-loop-state : goal.invariant-loop-state
-invariant-loop-state l = (l.all ≡ true) ↔ ((c : ℕ) → c < l.state-index → state_at l.states c ≡ Online)
+invariant-loop-state l = (l.marks ≡ 0) ↔ ((c : ℕ) → c < l.state-index → state_at l.states c ≡ Online)
