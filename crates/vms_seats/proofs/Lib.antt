@@ -1,0 +1,11 @@
+pub mod SeatLists
+pub mod SeatFits
+pub mod Opening
+pub mod MadeCalls
+pub mod WorkerSteps
+pub mod WorkerCalls
+pub mod PassBegins
+pub mod PassEnds
+pub mod MainBegins
+pub mod MainEnds
+pub mod LastHistory

@@ -1,0 +1,191 @@
+-- What the main pass asks of the words to begin a pass, and what that gives, by its seat.
+use Rattle.std.proofs.Common.{◌≡◌, ℕ, ◌<◌, true, cond, List, [], ◌∷◌, Option, Some, None, IfSome, refl, ap, sym, ◌∙◌}
+use Rattle.std.proofs.Common.{subst, arith, eq-eqb}
+use Rattle.atomic_table.specs.declared.shared.Seat.{Seat}
+use Rattle.atomic_table.specs.Seated.{TableId}
+use Rattle.atomic_table.specs.Table.{Allows, Splits, Me}
+use Rattle.vms_base.specs.declared.ids.CpuId.{CpuId}
+use Rattle.vms_history.specs.declared.events.Event.{Event}
+use Rattle.vms_history.specs.Events.{own}
+use Rattle.vms_history.specs.Legal.{Machine, IsLegal, IsQuiet}
+use Rattle.vms_history.specs.Passes.{begun, begun_in, lives_in, lives_after, owner_in, owner_after}
+use Rattle.vms_history.specs.Passes.Role.{Begins}
+use Rattle.vms_history.proofs.Own.{own-others}
+use Rattle.vms_history.proofs.PassLaws.{lives_in-main, owner_in-main, own-not_given}
+use Rattle.vms_seats.specs.declared.views.Held.{Held}
+use Rattle.vms_seats.specs.declared.views.View.{View}
+use Rattle.vms_seats.specs.MainSteps.{HasBegun, MayBeginPass, next_number}
+use Rattle.vms_seats.specs.Passes.{Pass, Shared, IsLive, IsMain, IsOf}
+use Rattle.vms_seats.specs.Plays.{Divides}
+use Rattle.vms_seats.specs.Rule.{Keeps}
+use Rattle.vms_seats.specs.Seats.{IsMainSeat, IsWorker, main_of, worker_of}
+use Rattle.vms_seats.specs.Views.{first_of, first_alone, second_alone, holding}
+use Rattle.vms_seats.proofs.PassBegins.{main_may_begin, main_splits}
+
+-- two steps that one plan names are one
+same_step : {K : Type 0} (planned : Option K) (first second : K) → planned ≡ Some first → planned ≡ Some second
+    → first ≡ second
+same_step planned first second one two = let both = sym one ∙ two in cc
+
+module _ {F K S : Type 0} (machine : Machine F K S) (shown : F → S → List ℕ) (quiet : IsQuiet machine)
+    (seat : Seat (Unit {0}) (View F K)) (main : IsMainSeat machine seat) (pass : Pass F K) (is : main_of seat ≡ pass)
+    (table : TableId) (key : F) (words : Shared F) (words_are : record { table = table; facts = key } ≡ words)
+    (of : IsOf pass words) (some : 0 < table.words) where
+  abbrev v : View F K
+  v = seat.me.0
+
+  abbrev k : Held K
+  k = first_of v.held
+
+  pub table_is : seat.table_id ≡ table
+  table_is = ap (λ (p : Pass F K). p.table) is ∙ of.table ∙ ap (λ (w : Shared F). w.table) (sym words_are)
+
+  facts_are : v.facts ≡ key
+  facts_are = ap (λ (p : Pass F K). p.facts) is ∙ of.facts ∙ ap (λ (w : Shared F). w.facts) (sym words_are)
+
+  module _ (who : Option CpuId) (planned : Option K) (may : MayBeginPass machine pass who planned) where
+    pub begin_may : (seat.table_id ≡ table) × (0 < table.words)
+        × Allows {S = Unit {0}} (λ s. Keeps machine shown key s.words s.views) table.slots seat.id seat.me 0 (λ n. n)
+        (λ found w. (w.1 ≡ seat.me.1) × Divides machine planned seat.me.0 w.0)
+    begin_may = (
+      table_is,
+      some,
+      subst
+          (λ facts. Allows {S = Unit {0}} (λ s. Keeps machine shown facts s.words s.views) table.slots seat.id seat.me 0
+          (λ n. n) (λ found w. (w.1 ≡ seat.me.1) × Divides machine planned seat.me.0 w.0))
+          facts_are
+          (main_may_begin machine shown quiet seat main table.slots who planned
+          (subst (λ p. MayBeginPass machine p who planned) (sym is) may)),
+    )
+
+    -- once the seat acts for both
+    module _ (after : Seat (Unit {0}) (View F K)) (divides : Divides machine planned v after.me.0) where
+      abbrev q : ℕ
+      q = next_number machine k.seen
+
+      pub begin_splits : Splits {S = Unit {0}} (λ s. Keeps machine shown key s.words s.views) after.id after.me.0
+          (first_alone after.me.0) (second_alone after.me.0)
+      begin_splits = subst
+          (λ (u : View F K). Splits {S = Unit {0}} (λ s. Keeps machine shown key s.words s.views) after.id u
+          (first_alone u) (second_alone u))
+          (sym divides.view)
+          (main_splits machine shown key after.id v (record { number = 0; seen = divides.seen })
+          (record { number = q; seen = divides.seen }) (λ none. omega arith))
+
+      -- the main pass and the other one after the split
+      abbrev new_main : Pass F K
+      new_main = record { table = table; facts = v.facts; number = 0; cpu = None; seen = divides.seen }
+
+      abbrev new_pass : Pass F K
+      new_pass = record { table = table; facts = v.facts; number = q; cpu = who; seen = divides.seen }
+
+      abbrev e : Event K
+      e = record { caller = 0; step = divides.step }
+
+      abbrev h : List (Event K)
+      h = divides.made.before
+
+      role_is : machine.role divides.step ≡ Begins q who
+      role_is = ap machine.role (same_step planned divides.step may.step divides.is may.is) ∙ may.begins
+          ∙ ap (λ (p : Pass F K). Begins (next_number machine p.seen) who) (sym is)
+
+      legal_now : IsLegal machine v.facts (e ∷ h)
+      legal_now = subst (IsLegal machine v.facts) divides.made.newest divides.made.legal
+
+      lives : lives_in machine.role divides.seen q ≡ true
+      lives = ap (λ es. lives_in machine.role es q) divides.made.newest
+          ∙ lives_in-main machine.role e h q refl
+          ∙ ap (λ t. lives_after t q (lives_in machine.role h q)) role_is
+          ∙ ap (λ b. cond b true (lives_in machine.role h q)) (eq-eqb q q refl)
+
+      owner : owner_in machine.role divides.seen q ≡ who
+      owner = ap (λ es. owner_in machine.role es q) divides.made.newest
+          ∙ owner_in-main machine.role e h q refl
+          ∙ ap (λ t. owner_after t q (owner_in machine.role h q)) role_is
+          ∙ ap (λ b. cond b who (owner_in machine.role h q)) (eq-eqb q q refl)
+
+      begun_before : begun_in machine.role h ≡ begun_in machine.role k.seen
+      begun_before = ap (begun machine.role) divides.made.own_same
+
+      no_steps : own divides.seen q ≡ []
+      no_steps = ap (λ es. own es q) divides.made.newest
+          ∙ own-others e h q (λ zero. omega arith)
+          ∙ own-not_given machine v.facts h q legal_now.0 (omega (arith, begun_before))
+
+      pub live_now : IsLive machine new_pass
+      live_now = record { legal = divides.made.legal; lives = lives; owner = owner }
+
+      begun_now : HasBegun machine new_main (main_of seat) new_pass who divides.step
+      begun_now = record {
+        main = record {
+          table = sym table_is;
+          facts = refl;
+          number = sym main.is_main.main;
+          cpu = refl;
+          extends = (
+            e ∷ divides.made.extends.0,
+            divides.made.newest ∙ ap (λ es. e ∷ es) divides.made.extends.1,
+          );
+        };
+        made = divides.made;
+        table = sym table_is;
+        facts = refl;
+        number = refl;
+        cpu = refl;
+        seen = refl;
+        live = live_now;
+        no_steps = no_steps;
+      }
+
+      -- the two seats after the split
+      module _ (left right : Seat (Unit {0}) (View F K)) (left_table : left.table_id ≡ after.table_id)
+          (right_table : right.table_id ≡ after.table_id) (after_table : after.table_id ≡ seat.table_id)
+          (left_me : left.me ≡ (first_alone after.me.0, after.me.1))
+          (right_me : right.me ≡ (second_alone after.me.0, []))
+          (after_empty : after.me.1 ≡ seat.me.1) where
+        left_view : left.me.0 ≡ holding v (record { number = 0; seen = divides.seen } ∷ [])
+        left_view = ap (λ (me : Me (Unit {0}) (View F K)). me.0) left_me ∙ ap first_alone divides.view
+
+        right_view : right.me.0 ≡ holding v (record { number = q; seen = divides.seen } ∷ [])
+        right_view = ap (λ (me : Me (Unit {0}) (View F K)). me.0) right_me ∙ ap second_alone divides.view
+
+        left_is : main_of left ≡ new_main
+        left_is = λ i. record {
+          table = (left_table ∙ after_table ∙ table_is) i;
+          facts = (left_view i).facts;
+          number = (first_of (left_view i).held).number;
+          cpu = None;
+          seen = (first_of (left_view i).held).seen;
+        }
+
+        right_is : worker_of right who ≡ new_pass
+        right_is = λ i. record {
+          table = (right_table ∙ after_table ∙ table_is) i;
+          facts = (right_view i).facts;
+          number = (first_of (right_view i).held).number;
+          cpu = who;
+          seen = (first_of (right_view i).held).seen;
+        }
+
+        pub begin_main : IsMainSeat machine left
+        begin_main = record {
+          empty = ap (λ (me : Me (Unit {0}) (View F K)). me.1) left_me ∙ after_empty ∙ main.empty;
+          one = subst (λ (u : View F K). u.held ≡ first_of u.held ∷ []) (sym left_view) refl;
+          is_main = subst (IsMain machine) (sym left_is)
+              (record { legal = divides.made.legal; main = refl; none = refl });
+        }
+
+        pub begin_worker : IsWorker machine right who
+        begin_worker = record {
+          empty = ap (λ (me : Me (Unit {0}) (View F K)). me.1) right_me;
+          one = subst (λ (u : View F K). u.held ≡ first_of u.held ∷ []) (sym right_view) refl;
+          live = subst (IsLive machine) (sym right_is) live_now;
+        }
+
+        pub begin_made : IfSome planned (λ step. HasBegun machine (main_of left) pass (worker_of right who) who step)
+        begin_made = subst
+            (λ it. IfSome it (λ step. HasBegun machine (main_of left) pass (worker_of right who) who step))
+            (sym divides.is)
+            (subst (λ p. HasBegun machine (main_of left) p (worker_of right who) who divides.step) is
+            (subst (λ p. HasBegun machine p (main_of seat) (worker_of right who) who divides.step) (sym left_is)
+            (subst (λ p. HasBegun machine new_main (main_of seat) p who divides.step) (sym right_is) begun_now)))

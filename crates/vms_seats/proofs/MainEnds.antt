@@ -1,0 +1,181 @@
+-- What the main pass asks of the words to end a pass, and what that gives, by its seat.
+use Rattle.std.proofs.Common.{◌≡◌, ◌≢◌, ℕ, ◌<◌, List, [], ◌∷◌, Option, None, IfSome, refl, ap, sym, ◌∙◌}
+use Rattle.std.proofs.Common.{subst, arith}
+use Rattle.atomic_table.specs.declared.shared.Seat.{Seat}
+use Rattle.atomic_table.specs.Seated.{TableId}
+use Rattle.atomic_table.specs.Table.{Allows, Joins, Me}
+use Rattle.vms_base.specs.declared.ids.CpuId.{CpuId}
+use Rattle.vms_history.specs.declared.events.Event.{Event}
+use Rattle.vms_history.specs.Events.{own}
+use Rattle.vms_history.specs.Legal.{Machine, IsQuiet}
+use Rattle.vms_history.specs.Passes.Role.{Ends}
+use Rattle.vms_history.proofs.Own.{own-others}
+use Rattle.vms_history.proofs.PassLaws.{live_is_given}
+use Rattle.vms_seats.specs.declared.views.Held.{Held}
+use Rattle.vms_seats.specs.declared.views.View.{View}
+use Rattle.vms_seats.specs.MainSteps.{HasEnded, MayEndPass}
+use Rattle.vms_seats.specs.Passes.{Pass, Shared, IsMain, IsOf}
+use Rattle.vms_seats.specs.Plays.{Unites}
+use Rattle.vms_seats.specs.Rule.{Keeps}
+use Rattle.vms_seats.specs.Seats.{IsMainSeat, IsWorker, main_of, worker_of}
+use Rattle.vms_seats.specs.Views.{first_of, both_held, holding, spent_view}
+use Rattle.vms_seats.proofs.PassEnds.{main_may_end, seats_join}
+
+-- a view that acts for one pass
+alone_is : {F K : Type 0} (v : View F K) → v.held ≡ first_of v.held ∷ [] → v ≡ holding v (first_of v.held ∷ [])
+alone_is v one = λ i. record { facts = v.facts; held = one i; past = v.past }
+
+module _ {F K S : Type 0} (machine : Machine F K S) (shown : F → S → List ℕ) (quiet : IsQuiet machine)
+    (seat : Seat (Unit {0}) (View F K)) (main : IsMainSeat machine seat) (pass : Pass F K) (is : main_of seat ≡ pass)
+    (table : TableId) (key : F) (words : Shared F) (words_are : record { table = table; facts = key } ≡ words)
+    (of : IsOf pass words) (some : 0 < table.words) where
+  abbrev v : View F K
+  v = seat.me.0
+
+  abbrev k : Held K
+  k = first_of v.held
+
+  pub table_is : seat.table_id ≡ table
+  table_is = ap (λ (p : Pass F K). p.table) is ∙ of.table ∙ ap (λ (w : Shared F). w.table) (sym words_are)
+
+  facts_are : v.facts ≡ key
+  facts_are = ap (λ (p : Pass F K). p.facts) is ∙ of.facts ∙ ap (λ (w : Shared F). w.facts) (sym words_are)
+
+  -- the main pass ends another
+  module _ (other : Seat (Unit {0}) (View F K)) (cpu : Option CpuId) (worker : IsWorker machine other cpu)
+      (theirs : Pass F K) (theirs_is : worker_of other cpu ≡ theirs) (theirs_of : IsOf theirs words) (blank : F)
+      (planned : Option K) (may : MayEndPass machine theirs planned) where
+    abbrev u : View F K
+    u = other.me.0
+
+    abbrev m : Held K
+    m = first_of u.held
+
+    their_table : other.table_id ≡ table
+    their_table = ap (λ (p : Pass F K). p.table) theirs_is ∙ theirs_of.table
+        ∙ ap (λ (w : Shared F). w.table) (sym words_are)
+
+    their_facts : theirs.facts ≡ v.facts
+    their_facts = theirs_of.facts ∙ ap (λ (w : Shared F). w.facts) (sym words_are) ∙ sym facts_are
+
+    their_number : theirs.number ≡ m.number
+    their_number = ap (λ (p : Pass F K). p.number) (sym theirs_is)
+
+    their_seen : theirs.seen ≡ m.seen
+    their_seen = ap (λ (p : Pass F K). p.seen) (sym theirs_is)
+
+    both_is : both_held v u ≡ holding v (k ∷ m ∷ [])
+    both_is = λ i. both_held (alone_is v main.one i) (alone_is u worker.one i)
+
+    pub end_joins : (seat.table_id ≡ table) × (other.table_id ≡ table) × (other.me.1 ≡ []) × (0 < table.words)
+        × Joins {S = Unit {0}} (λ s. Keeps machine shown key s.words s.views) seat.id v other.id u (both_held v u)
+        (spent_view blank)
+    end_joins = (
+      table_is,
+      their_table,
+      worker.empty,
+      some,
+      subst
+          (λ (x : View F K). Joins {S = Unit {0}} (λ s. Keeps machine shown key s.words s.views) seat.id x other.id u
+          (both_held x u) (spent_view blank))
+          (sym (alone_is v main.one))
+          (subst
+          (λ (y : View F K). Joins {S = Unit {0}} (λ s. Keeps machine shown key s.words s.views) seat.id
+          (holding v (k ∷ [])) other.id y (both_held (holding v (k ∷ [])) y) (spent_view blank))
+          (sym (alone_is u worker.one))
+          (seats_join machine shown key blank seat.id other.id v u k m)),
+    )
+
+    -- once the seat acts for both
+    module _ (after : Seat (Unit {0}) (View F K)) (after_table : after.table_id ≡ seat.table_id)
+        (after_me : after.me ≡ (both_held v u, seat.me.1)) where
+      me_is : after.me ≡ (holding v (k ∷ m ∷ []), [])
+      me_is = after_me ∙ (λ i. (both_is i, main.empty i))
+
+      given : m.number ≢ 0
+      given zero = let least = (live_is_given machine u.facts m.seen m.number worker.live.legal worker.live.lives).0 in
+          omega arith
+
+      role_is : machine.role may.step ≡ Ends m.number
+      role_is = may.ends ∙ ap Ends their_number
+
+      may_end : machine.MayEnd v.facts (own m.seen m.number)
+      may_end = subst (λ facts. machine.MayEnd facts (own m.seen m.number)) their_facts
+          (subst (λ n. machine.MayEnd theirs.facts (own m.seen n)) their_number
+          (subst (λ es. machine.MayEnd theirs.facts (own es theirs.number)) their_seen may.may_end))
+
+      pub end_may : (after.table_id ≡ table) × (0 < table.words)
+          × Allows {S = Unit {0}} (λ s. Keeps machine shown key s.words s.views) table.slots after.id after.me 0
+          (λ n. n)
+          (λ found w. (w.1 ≡ after.me.1) × Unites machine planned after.me.0 w.0)
+      end_may = (
+        after_table ∙ table_is,
+        some,
+        subst
+            (λ (me : Me (Unit {0}) (View F K)). Allows {S = Unit {0}} (λ s. Keeps machine shown key s.words s.views)
+            table.slots after.id me 0 (λ n. n) (λ found w. (w.1 ≡ me.1) × Unites machine planned me.0 w.0))
+            (sym me_is)
+            (subst
+            (λ facts. Allows {S = Unit {0}} (λ s. Keeps machine shown facts s.words s.views) table.slots after.id
+            (holding v (k ∷ m ∷ []), []) 0 (λ n. n)
+            (λ found w. (w.1 ≡ []) × Unites machine planned (holding v (k ∷ m ∷ [])) w.0))
+            facts_are
+            (main_may_end machine shown quiet v k m main.is_main.main given may.step role_is may_end after.id
+            table.slots planned may.is)),
+      )
+
+      -- once the other has ended
+      module _ (last : Seat (Unit {0}) (View F K)) (last_table : last.table_id ≡ after.table_id)
+          (last_empty : last.me.1 ≡ after.me.1) (unites : Unites machine planned after.me.0 last.me.0) where
+        united : Unites machine planned (holding v (k ∷ m ∷ [])) last.me.0
+        united = subst (λ (me : Me (Unit {0}) (View F K)). Unites machine planned me.0 last.me.0) me_is unites
+
+        abbrev new_main : Pass F K
+        new_main = record { table = table; facts = v.facts; number = 0; cpu = None; seen = united.seen }
+
+        abbrev e : Event K
+        e = record { caller = 0; step = united.step }
+
+        last_is : main_of last ≡ new_main
+        last_is = λ i. record {
+          table = (last_table ∙ after_table ∙ table_is) i;
+          facts = (united.view i).facts;
+          number = (first_of (united.view i).held).number;
+          cpu = None;
+          seen = (first_of (united.view i).held).seen;
+        }
+
+        pub end_main : IsMainSeat machine last
+        end_main = record {
+          empty = last_empty ∙ ap (λ (me : Me (Unit {0}) (View F K)). me.1) me_is;
+          one = subst (λ (x : View F K). x.held ≡ first_of x.held ∷ []) (sym united.view) refl;
+          is_main = subst (IsMain machine) (sym last_is)
+              (record { legal = united.made.made.legal; main = refl; none = refl });
+        }
+
+        all_steps : own united.seen m.number ≡ own m.seen m.number
+        all_steps = ap (λ es. own es m.number) united.made.made.newest
+            ∙ own-others e united.made.made.before m.number (λ zero. given (sym zero)) ∙ united.made.all_steps
+
+        ended_now : HasEnded machine new_main (main_of seat) (worker_of other cpu) united.step
+        ended_now = record {
+          main = record {
+            table = sym table_is;
+            facts = refl;
+            number = sym main.is_main.main;
+            cpu = refl;
+            extends = (
+              e ∷ united.made.made.extends.0,
+              united.made.made.newest ∙ ap (λ es. e ∷ es) united.made.made.extends.1,
+            );
+          };
+          made = united.made.made;
+          knew = united.made.knew;
+          all_steps = all_steps;
+        }
+
+        pub end_made : IfSome planned (λ step. HasEnded machine (main_of last) pass theirs step)
+        end_made = subst (λ it. IfSome it (λ step. HasEnded machine (main_of last) pass theirs step)) (sym united.is)
+            (subst (λ p. HasEnded machine (main_of last) p theirs united.step) is
+            (subst (λ p. HasEnded machine p (main_of seat) theirs united.step) (sym last_is)
+            (subst (λ p. HasEnded machine new_main (main_of seat) p united.step) theirs_is ended_now)))

@@ -1,0 +1,106 @@
+-- What the calls of a worker ask of the words and give, by its seat.
+use Rattle.std.proofs.Common.{◌≡◌, ℕ, ◌<◌, List, [], ◌∷◌, Option, IfSome, refl, ap, sym, ◌∙◌, subst}
+use Rattle.atomic_table.specs.declared.shared.Seat.{Seat}
+use Rattle.atomic_table.specs.Seated.{TableId}
+use Rattle.atomic_table.specs.Table.{Allows}
+use Rattle.vms_base.specs.declared.ids.CpuId.{CpuId}
+use Rattle.vms_history.specs.declared.events.Event.{Event}
+use Rattle.vms_history.specs.Legal.{Machine, IsLegal}
+use Rattle.vms_history.specs.PassSteps.{HasMade}
+use Rattle.vms_history.specs.Events.{after}
+use Rattle.vms_history.proofs.MadeSteps.{made-one}
+use Rattle.vms_history.proofs.Own.{Extends-both}
+use Rattle.vms_seats.specs.declared.views.View.{View}
+use Rattle.vms_seats.specs.Passes.{Pass, Shared, IsOf, IsLive}
+use Rattle.vms_seats.specs.Plays.{Advances}
+use Rattle.vms_seats.specs.Rule.{Keeps}
+use Rattle.vms_seats.specs.Seats.{IsWorker, worker_of}
+use Rattle.vms_seats.specs.Steps.{MayStep, MakesStep, MadeOne}
+use Rattle.vms_seats.specs.Views.{first_of}
+use Rattle.vms_seats.proofs.MadeCalls.{calls-live}
+use Rattle.vms_seats.proofs.WorkerSteps.{worker_may}
+
+module _ {F K S : Type 0} (machine : Machine F K S) where
+  -- one step is a row of steps
+  pub makes-made : (facts : F) (later earlier : List (Event K)) (p : ℕ) (step : K)
+      → MakesStep machine facts later earlier p step → HasMade machine facts later earlier p (step ∷ [])
+  makes-made facts later earlier p step makes =
+      let now : List (Event K) = record { caller = p; step = step } ∷ makes.before in
+      let one = made-one machine facts makes.before p step makes.others.lives
+      (subst (IsLegal machine facts) makes.newest makes.legal) in
+      subst (λ h. HasMade machine facts h earlier p (step ∷ [])) (sym makes.newest) (record {
+        legal = one.legal;
+        extends = Extends-both now makes.before earlier one.extends makes.others.extends;
+        lived = makes.others.lived;
+        lives = one.lives;
+        made = one.made ∙ ap (after p (step ∷ [])) makes.others.own_same;
+      })
+
+  module _ (old new : Seat (Unit {0}) (View F K)) (cpu : Option CpuId) (worker : IsWorker machine old cpu)
+      (table : new.table_id ≡ old.table_id) (empty : new.me.1 ≡ old.me.1) (plan : ℕ → Option K) (found : ℕ)
+      (advances : Advances machine plan old.me.0 found new.me.0) where
+    -- the pass after the step
+    abbrev after_step : Pass F K
+    after_step = record {
+      table = old.table_id;
+      facts = old.me.0.facts;
+      number = (first_of old.me.0.held).number;
+      cpu = cpu;
+      seen = advances.seen;
+    }
+
+    is_after_step : worker_of new cpu ≡ after_step
+    is_after_step = λ i. record {
+      table = table i;
+      facts = (advances.view i).facts;
+      number = (first_of (advances.view i).held).number;
+      cpu = cpu;
+      seen = (first_of (advances.view i).held).seen;
+    }
+
+    one_made : MadeOne machine after_step (worker_of old cpu) advances.step
+    one_made = record {
+      all = record {
+        table = refl;
+        facts = refl;
+        number = refl;
+        cpu = refl;
+        made = makes-made old.me.0.facts advances.seen (first_of old.me.0.held).seen (first_of old.me.0.held).number
+            advances.step advances.made;
+      };
+      at = advances.made;
+    }
+
+    pub step_made : IfSome (plan found) (λ step. MadeOne machine (worker_of new cpu) (worker_of old cpu) step)
+    step_made = subst (λ it. IfSome it (λ step. MadeOne machine (worker_of new cpu) (worker_of old cpu) step))
+        (sym advances.is)
+        (subst (λ pass. MadeOne machine pass (worker_of old cpu) advances.step) (sym is_after_step) one_made)
+
+    pub still_worker : IsWorker machine new cpu
+    still_worker = record {
+      empty = empty ∙ worker.empty;
+      one = subst (λ (v : View F K). v.held ≡ first_of v.held ∷ []) (sym advances.view) refl;
+      live = subst (IsLive machine) (sym is_after_step)
+          (calls-live machine after_step (worker_of old cpu) (advances.step ∷ []) worker.live one_made.all);
+    }
+
+-- what a step asks, where contracts see the worker as a pass
+module _ {F K S : Type 0} (machine : Machine F K S) (shown : F → S → List ℕ) where
+  pub step_may : (seat : Seat (Unit {0}) (View F K)) (cpu : Option CpuId) → IsWorker machine seat cpu
+      → (pass : Pass F K) → worker_of seat cpu ≡ pass
+      → (table : TableId) (key : F) (words : Shared F) → record { table = table; facts = key } ≡ words
+      → IsOf pass words → (place : ℕ) → place < words.table.words → (change : ℕ → ℕ) (plan : ℕ → Option K)
+      → MayStep machine shown pass place change plan
+      → (seat.table_id ≡ table) × (place < table.words)
+      × Allows (λ s. Keeps machine shown key s.words s.views) table.slots seat.id seat.me place change
+      (λ found w. (w.1 ≡ seat.me.1) × Advances machine plan seat.me.0 found w.0)
+  step_may seat cpu worker pass is table key words words_are of place inside change plan may = (
+    ap (λ (p : Pass F K). p.table) is ∙ of.table ∙ ap (λ (w : Shared F). w.table) (sym words_are),
+    subst (λ (w : Shared F). place < w.table.words) (sym words_are) inside,
+    subst
+        (λ fs. Allows (λ s. Keeps machine shown fs s.words s.views) table.slots seat.id seat.me place change
+        (λ found w. (w.1 ≡ seat.me.1) × Advances machine plan seat.me.0 found w.0))
+        (ap (λ (p : Pass F K). p.facts) is ∙ of.facts ∙ ap (λ (w : Shared F). w.facts) (sym words_are))
+        (worker_may machine shown seat cpu worker table.slots place change plan
+        (subst (λ p. MayStep machine shown p place change plan) (sym is) may)),
+  )

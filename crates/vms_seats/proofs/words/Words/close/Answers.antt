@@ -1,0 +1,21 @@
+-- The goals were what the split of the witness asks of the words, and that the words show the state at the end.
+use Rattle.std.proofs.Common.{◌∙◌}
+use Rattle.std.specs.Slots.{slots_items}
+use Rattle.vms_seats.proofs.LastHistory.{close_splits, close_shows}
+use Rattle.vms_seats.proofs.words.Words.close.Goals as goal
+
+pub split_seat-witness-requires : goal.split_seat-witness-requires
+split_seat-witness-requires g c = close_splits g.L.Ledger.machine g.L.Ledger.shown c.main.inside.seat c.main.invariant
+    c.args.main c.main.view_is c.self.inside.table.shared.table_id c.self.inside.table.shared.key c.args.self
+    c.self.view_is c.requires.words c.self.invariant.0
+
+pub invariant_of-result : goal.invariant_of-result
+invariant_of-result g c = (
+  c.close_with-words.ensures.values.0,
+  c.close_with-words.ensures.counts.1 ∙ c.self.invariant.1,
+  close_shows g.L.Ledger.machine g.L.Ledger.shown c.main.inside.seat c.main.invariant c.args.main c.main.view_is
+      c.self.inside.table.shared.table_id c.self.inside.table.shared.key c.args.self c.self.view_is c.requires.words
+      c.requires.ended c.split_seat-witness.new.seat c.split_seat-witness.result c.split_seat-witness.ensures.1
+      c.split_seat-witness.ensures.2 c.split_seat-witness.ensures.4 (slots_items c.close_with-words.result.words)
+      (slots_items c.close_with-words.result.slots) c.close_with-words.ensures.values.2,
+)

@@ -1,0 +1,62 @@
+ghost use Rattle.std.specs.Prelude.{◌≡◌, ℕ, IfSome};
+ghost use Rattle.vms_seats.specs.MainSteps.{HasBegun, HasEnded, MayBeginPass, MayEndPass};
+ghost use Rattle.vms_seats.specs.Passes.{IsMain, IsOf};
+
+use crate::views::{Beginning, Ending, View};
+use crate::words::Words;
+use crate::workers::Worker;
+use crate::{Change, Ledger};
+use atomic_table::Seat;
+use std::marker::Model;
+use vms_base::CpuId;
+
+/// The pass that begins and ends the others. Contracts see in it what they see in a worker; its number is 0.
+#[derive(Drop)]
+pub struct Main<L: Ledger> {
+    pub(crate) seat: Seat<(), View<L::Facts, L::Step>>,
+}
+
+impl<L: Ledger> Model for Main<L> {
+    ghost use Rattle.vms_seats.specs.Passes.{Pass};
+
+    ghost Value = { Pass L.Facts L.Step };
+
+    ghost use Rattle.vms_seats.specs.Seats.{IsMainSeat, main_of};
+
+    ghost view = { λ m. main_of m.seat };
+
+    ghost invariant = { λ m. IsMainSeat L.machine m.seat };
+}
+
+impl<L: Ledger> Main<L> {
+    /// What holds of a main pass at any time.
+    pub fn is_main(&self)
+        ensures { IsMain L.machine self.now }
+    {
+        let _ = &self.seat;
+    }
+
+    /// Begins a pass that owns a CPU, or a control pass.
+    pub fn begin<B: Change<L::Step>>(&mut self, words: &Words<L>, cpu: Option<CpuId>) -> Worker<L>
+        requires words { IsOf self.old words.now }
+        requires begins { MayBeginPass L.machine self.old cpu B.step }
+        ensures { IfSome B.step (λ step. HasBegun L.machine self.new self.old result cpu step) }
+    {
+        let shared = &words.table.shared;
+        shared.load::<Beginning<L, B>>(&mut self.seat, 0);
+        let seat = shared.split_seat::<Beginning<L, B>>(&mut self.seat);
+        Worker { seat, cpu }
+    }
+
+    /// Ends a pass. The main pass then knows all that it knew.
+    pub fn end<B: Change<L::Step>>(&mut self, words: &Words<L>, worker: Worker<L>)
+        requires words { IsOf self.old words.now × IsOf worker words.now }
+        requires ends { MayEndPass L.machine worker B.step }
+        ensures { IfSome B.step (λ step. HasEnded L.machine self.new self.old worker step) }
+    {
+        let shared = &words.table.shared;
+        let Worker { seat, cpu: _ } = worker;
+        shared.join_seat::<Ending<L, B>>(&mut self.seat, seat);
+        shared.load::<Ending<L, B>>(&mut self.seat, 0);
+    }
+}
