@@ -1,5 +1,5 @@
 -- What the main pass asks of the words to begin a pass, and what that gives, by its seat.
-use Rattle.std.proofs.Common.{◌≡◌, ℕ, ◌<◌, true, cond, List, [], ◌∷◌, Option, Some, None, IfSome, refl, ap, sym, ◌∙◌}
+use Rattle.std.proofs.Common.{◌≡◌, ℕ, ◌<◌, true, cond, List, [], ◌∷◌, Option, None, refl, ap, sym, ◌∙◌}
 use Rattle.std.proofs.Common.{subst, arith, eq-eqb}
 use Rattle.atomic_table.specs.declared.shared.Seat.{Seat}
 use Rattle.atomic_table.specs.Seated.{TableId}
@@ -22,11 +22,6 @@ use Rattle.vms_seats.specs.Seats.{IsMainSeat, IsWorker, main_of, worker_of}
 use Rattle.vms_seats.specs.Views.{first_of, first_alone, second_alone, holding}
 use Rattle.vms_seats.proofs.PassBegins.{main_may_begin, main_splits}
 
--- two steps that one plan names are one
-same_step : {K : Type 0} (planned : Option K) (first second : K) → planned ≡ Some first → planned ≡ Some second
-    → first ≡ second
-same_step planned first second one two = let both = sym one ∙ two in cc
-
 module _ {F K S : Type 0} (machine : Machine F K S) (shown : F → S → List ℕ) (quiet : IsQuiet machine)
     (seat : Seat (Unit {0}) (View F K)) (main : IsMainSeat machine seat) (pass : Pass F K) (is : main_of seat ≡ pass)
     (table : TableId) (key : F) (words : Shared F) (words_are : record { table = table; facts = key } ≡ words)
@@ -43,25 +38,30 @@ module _ {F K S : Type 0} (machine : Machine F K S) (shown : F → S → List �
   facts_are : v.facts ≡ key
   facts_are = ap (λ (p : Pass F K). p.facts) is ∙ of.facts ∙ ap (λ (w : Shared F). w.facts) (sym words_are)
 
-  module _ (who : Option CpuId) (planned : Option K) (may : MayBeginPass machine pass who planned) where
+  module _ (begins : ℕ → Option CpuId → K)
+      (begins_it : (r : ℕ) (o : Option CpuId) → machine.role (begins r o) ≡ Begins r o) (who : Option CpuId)
+      (may : MayBeginPass machine pass who) (picked : Option CpuId) (picked_is : picked ≡ who) where
     pub begin_may : (seat.table_id ≡ table) × (0 < table.words)
         × Allows {S = Unit {0}} (λ s. Keeps machine shown key s.words s.views) table.slots seat.id seat.me 0 (λ n. n)
-        (λ found w. (w.1 ≡ seat.me.1) × Divides machine planned seat.me.0 w.0)
+        (λ found w. (w.1 ≡ seat.me.1) × Divides machine begins picked seat.me.0 w.0)
     begin_may = (
       table_is,
       some,
       subst
           (λ facts. Allows {S = Unit {0}} (λ s. Keeps machine shown facts s.words s.views) table.slots seat.id seat.me 0
-          (λ n. n) (λ found w. (w.1 ≡ seat.me.1) × Divides machine planned seat.me.0 w.0))
+          (λ n. n) (λ found w. (w.1 ≡ seat.me.1) × Divides machine begins picked seat.me.0 w.0))
           facts_are
-          (main_may_begin machine shown quiet seat main table.slots who planned
-          (subst (λ p. MayBeginPass machine p who planned) (sym is) may)),
+          (main_may_begin machine shown quiet seat main table.slots begins begins_it picked
+          (subst (λ p. MayBeginPass machine p picked) (sym is) (subst (MayBeginPass machine pass) (sym picked_is) may))),
     )
 
     -- once the seat acts for both
-    module _ (after : Seat (Unit {0}) (View F K)) (divides : Divides machine planned v after.me.0) where
+    module _ (after : Seat (Unit {0}) (View F K)) (divided : Divides machine begins picked v after.me.0) where
       abbrev q : ℕ
       q = next_number machine k.seen
+
+      pub divides : Divides machine begins who v after.me.0
+      divides = subst (λ o. Divides machine begins o v after.me.0) picked_is divided
 
       pub begin_splits : Splits {S = Unit {0}} (λ s. Keeps machine shown key s.words s.views) after.id after.me.0
           (first_alone after.me.0) (second_alone after.me.0)
@@ -80,14 +80,13 @@ module _ {F K S : Type 0} (machine : Machine F K S) (shown : F → S → List �
       new_pass = record { table = table; facts = v.facts; number = q; cpu = who; seen = divides.seen }
 
       abbrev e : Event K
-      e = record { caller = 0; step = divides.step }
+      e = record { caller = 0; step = begins q who }
 
       abbrev h : List (Event K)
       h = divides.made.before
 
-      role_is : machine.role divides.step ≡ Begins q who
-      role_is = ap machine.role (same_step planned divides.step may.step divides.is may.is) ∙ may.begins
-          ∙ ap (λ (p : Pass F K). Begins (next_number machine p.seen) who) (sym is)
+      role_is : machine.role (begins q who) ≡ Begins q who
+      role_is = begins_it q who
 
       legal_now : IsLegal machine v.facts (e ∷ h)
       legal_now = subst (IsLegal machine v.facts) divides.made.newest divides.made.legal
@@ -115,7 +114,7 @@ module _ {F K S : Type 0} (machine : Machine F K S) (shown : F → S → List �
       pub live_now : IsLive machine new_pass
       live_now = record { legal = divides.made.legal; lives = lives; owner = owner }
 
-      begun_now : HasBegun machine new_main (main_of seat) new_pass who divides.step
+      begun_now : HasBegun machine begins new_main (main_of seat) new_pass who
       begun_now = record {
         main = record {
           table = sym table_is;
@@ -182,10 +181,7 @@ module _ {F K S : Type 0} (machine : Machine F K S) (shown : F → S → List �
           live = subst (IsLive machine) (sym right_is) live_now;
         }
 
-        pub begin_made : IfSome planned (λ step. HasBegun machine (main_of left) pass (worker_of right who) who step)
-        begin_made = subst
-            (λ it. IfSome it (λ step. HasBegun machine (main_of left) pass (worker_of right who) who step))
-            (sym divides.is)
-            (subst (λ p. HasBegun machine (main_of left) p (worker_of right who) who divides.step) is
-            (subst (λ p. HasBegun machine p (main_of seat) (worker_of right who) who divides.step) (sym left_is)
-            (subst (λ p. HasBegun machine new_main (main_of seat) p who divides.step) (sym right_is) begun_now)))
+        pub begin_made : HasBegun machine begins (main_of left) pass (worker_of right who) who
+        begin_made = subst (λ p. HasBegun machine begins (main_of left) p (worker_of right who) who) is
+            (subst (λ p. HasBegun machine begins p (main_of seat) (worker_of right who) who) (sym left_is)
+            (subst (λ p. HasBegun machine begins new_main (main_of seat) p who) (sym right_is) begun_now))

@@ -1,5 +1,5 @@
 -- What the main pass asks of the words to end a pass, and what that gives, by its seat.
-use Rattle.std.proofs.Common.{◌≡◌, ◌≢◌, ℕ, ◌<◌, List, [], ◌∷◌, Option, None, IfSome, refl, ap, sym, ◌∙◌}
+use Rattle.std.proofs.Common.{◌≡◌, ◌≢◌, ℕ, ◌<◌, List, [], ◌∷◌, Option, None, refl, ap, sym, ◌∙◌}
 use Rattle.std.proofs.Common.{subst, arith}
 use Rattle.atomic_table.specs.declared.shared.Seat.{Seat}
 use Rattle.atomic_table.specs.Seated.{TableId}
@@ -44,7 +44,7 @@ module _ {F K S : Type 0} (machine : Machine F K S) (shown : F → S → List �
   -- the main pass ends another
   module _ (other : Seat (Unit {0}) (View F K)) (cpu : Option CpuId) (worker : IsWorker machine other cpu)
       (theirs : Pass F K) (theirs_is : worker_of other cpu ≡ theirs) (theirs_of : IsOf theirs words) (blank : F)
-      (planned : Option K) (may : MayEndPass machine theirs planned) where
+      (ends : ℕ → K) (ends_it : (q : ℕ) → machine.role (ends q) ≡ Ends q) (may : MayEndPass machine theirs) where
     abbrev u : View F K
     u = other.me.0
 
@@ -96,45 +96,42 @@ module _ {F K S : Type 0} (machine : Machine F K S) (shown : F → S → List �
       given zero = let least = (live_is_given machine u.facts m.seen m.number worker.live.legal worker.live.lives).0 in
           omega arith
 
-      role_is : machine.role may.step ≡ Ends m.number
-      role_is = may.ends ∙ ap Ends their_number
-
       may_end : machine.MayEnd v.facts (own m.seen m.number)
       may_end = subst (λ facts. machine.MayEnd facts (own m.seen m.number)) their_facts
           (subst (λ n. machine.MayEnd theirs.facts (own m.seen n)) their_number
-          (subst (λ es. machine.MayEnd theirs.facts (own es theirs.number)) their_seen may.may_end))
+          (subst (λ es. machine.MayEnd theirs.facts (own es theirs.number)) their_seen may))
 
       pub end_may : (after.table_id ≡ table) × (0 < table.words)
           × Allows {S = Unit {0}} (λ s. Keeps machine shown key s.words s.views) table.slots after.id after.me 0
           (λ n. n)
-          (λ found w. (w.1 ≡ after.me.1) × Unites machine planned after.me.0 w.0)
+          (λ found w. (w.1 ≡ after.me.1) × Unites machine ends after.me.0 w.0)
       end_may = (
         after_table ∙ table_is,
         some,
         subst
             (λ (me : Me (Unit {0}) (View F K)). Allows {S = Unit {0}} (λ s. Keeps machine shown key s.words s.views)
-            table.slots after.id me 0 (λ n. n) (λ found w. (w.1 ≡ me.1) × Unites machine planned me.0 w.0))
+            table.slots after.id me 0 (λ n. n) (λ found w. (w.1 ≡ me.1) × Unites machine ends me.0 w.0))
             (sym me_is)
             (subst
             (λ facts. Allows {S = Unit {0}} (λ s. Keeps machine shown facts s.words s.views) table.slots after.id
             (holding v (k ∷ m ∷ []), []) 0 (λ n. n)
-            (λ found w. (w.1 ≡ []) × Unites machine planned (holding v (k ∷ m ∷ [])) w.0))
+            (λ found w. (w.1 ≡ []) × Unites machine ends (holding v (k ∷ m ∷ [])) w.0))
             facts_are
-            (main_may_end machine shown quiet v k m main.is_main.main given may.step role_is may_end after.id
-            table.slots planned may.is)),
+            (main_may_end machine shown quiet v k m main.is_main.main given ends ends_it may_end after.id
+            table.slots)),
       )
 
       -- once the other has ended
       module _ (last : Seat (Unit {0}) (View F K)) (last_table : last.table_id ≡ after.table_id)
-          (last_empty : last.me.1 ≡ after.me.1) (unites : Unites machine planned after.me.0 last.me.0) where
-        united : Unites machine planned (holding v (k ∷ m ∷ [])) last.me.0
-        united = subst (λ (me : Me (Unit {0}) (View F K)). Unites machine planned me.0 last.me.0) me_is unites
+          (last_empty : last.me.1 ≡ after.me.1) (unites : Unites machine ends after.me.0 last.me.0) where
+        united : Unites machine ends (holding v (k ∷ m ∷ [])) last.me.0
+        united = subst (λ (me : Me (Unit {0}) (View F K)). Unites machine ends me.0 last.me.0) me_is unites
 
         abbrev new_main : Pass F K
         new_main = record { table = table; facts = v.facts; number = 0; cpu = None; seen = united.seen }
 
         abbrev e : Event K
-        e = record { caller = 0; step = united.step }
+        e = record { caller = 0; step = ends m.number }
 
         last_is : main_of last ≡ new_main
         last_is = λ i. record {
@@ -157,7 +154,7 @@ module _ {F K S : Type 0} (machine : Machine F K S) (shown : F → S → List �
         all_steps = ap (λ es. own es m.number) united.made.made.newest
             ∙ own-others e united.made.made.before m.number (λ zero. given (sym zero)) ∙ united.made.all_steps
 
-        ended_now : HasEnded machine new_main (main_of seat) (worker_of other cpu) united.step
+        ended_now : HasEnded machine ends new_main (main_of seat) (worker_of other cpu)
         ended_now = record {
           main = record {
             table = sym table_is;
@@ -174,8 +171,7 @@ module _ {F K S : Type 0} (machine : Machine F K S) (shown : F → S → List �
           all_steps = all_steps;
         }
 
-        pub end_made : IfSome planned (λ step. HasEnded machine (main_of last) pass theirs step)
-        end_made = subst (λ it. IfSome it (λ step. HasEnded machine (main_of last) pass theirs step)) (sym united.is)
-            (subst (λ p. HasEnded machine (main_of last) p theirs united.step) is
-            (subst (λ p. HasEnded machine p (main_of seat) theirs united.step) (sym last_is)
-            (subst (λ p. HasEnded machine new_main (main_of seat) p united.step) theirs_is ended_now)))
+        pub end_made : HasEnded machine ends (main_of last) pass theirs
+        end_made = subst (λ p. HasEnded machine ends (main_of last) p theirs) is
+            (subst (λ p. HasEnded machine ends p (main_of seat) theirs) (sym last_is)
+            (subst (λ p. HasEnded machine ends new_main (main_of seat) p) theirs_is ended_now))

@@ -44,17 +44,22 @@ module _ {F K S : Type 0} (machine : Machine F K S) (shown : F → S → List �
   held = subst (λ ks. Holds ks k) (sym main.one) (inl refl)
 
   -- the main pass begins a pass
-  module _ (who : Option CpuId) (planned : Option K) (may : MayBeginPass machine (main_of seat) who planned)
+  module _ (begins : ℕ → Option CpuId → K)
+      (begins_it : (r : ℕ) (o : Option CpuId) → machine.role (begins r o) ≡ Begins r o) (who : Option CpuId)
+      (may : MayBeginPass machine (main_of seat) who)
       (words : List ℕ) (views : List (View F K)) (kept : Keeps machine shown v.facts words views)
       (at : get_elem? views seat.id ≡ some v) where
     abbrev h : List (Event K)
     h = kept.history
 
-    abbrev e : Event K
-    e = record { caller = 0; step = may.step }
-
     abbrev q : ℕ
     q = next_number machine k.seen
+
+    abbrev step : K
+    step = begins q who
+
+    abbrev e : Event K
+    e = record { caller = 0; step = step }
 
     fits : Fits machine.role h k
     fits = (kept.fits seat.id v at k held).1
@@ -65,23 +70,23 @@ module _ {F K S : Type 0} (machine : Machine F K S) (shown : F → S → List �
     q_is_next : q ≡ suc (begun_in machine.role h)
     q_is_next = ap (λ es. suc (Rattle.vms_history.specs.Passes.begun machine.role es)) (sym own_same)
 
-    differs : machine.role may.step ≢ Works
-    differs works = begins_not_works q who (sym may.begins ∙ works)
+    differs : machine.role step ≢ Works
+    differs works = begins_not_works q who (sym (begins_it q who) ∙ works)
 
-    acts : Acts machine v.facts h 0 (machine.role may.step)
-    acts = subst (Acts machine v.facts h 0) (sym may.begins)
+    acts : Acts machine v.facts h 0 (machine.role step)
+    acts = subst (Acts machine v.facts h 0) (sym (begins_it q who))
         (Acts-same machine v.facts k.seen h 0 (Begins q who) own_same
         (λ r is. absurd (begins_not_ends q r who is)) (refl, refl, may.may_own, may.free))
 
     legal : IsLegal machine v.facts (e ∷ h)
-    legal = (kept.legal, acts, quiet.asks_nothing v.facts h (state_after machine v.facts h) 0 may.step differs)
+    legal = (kept.legal, acts, quiet.asks_nothing v.facts h (state_after machine v.facts h) 0 step differs)
 
     same_state : state_after machine v.facts (e ∷ h) ≡ state_after machine v.facts h
-    same_state = quiet.leaves v.facts (owner_in machine.role h 0) may.step (state_after machine v.facts h) differs
+    same_state = quiet.leaves v.facts (owner_in machine.role h 0) step (state_after machine v.facts h) differs
 
     lives_now : (r : ℕ) → lives_in machine.role (e ∷ h) r ≡ lives_after (Begins q who) r (lives_in machine.role h r)
     lives_now r = lives_in-main machine.role e h r refl
-        ∙ ap (λ t. lives_after t r (lives_in machine.role h r)) may.begins
+        ∙ ap (λ t. lives_after t r (lives_in machine.role h r)) (begins_it q who)
 
     still : (r : ℕ) → lives_in machine.role h r ≡ true → lives_in machine.role (e ∷ h) r ≡ true
     still r lives = lives_now r ∙ by (nat_eq q r)
@@ -150,25 +155,24 @@ module _ {F K S : Type 0} (machine : Machine F K S) (shown : F → S → List �
       one_seat = one_seat-set views seat.id v w at kept.one_seat from;
     }
 
-    divides : Divides machine planned v w
+    divides : Divides machine begins who v w
     divides = record {
       seen = e ∷ h;
       view = refl;
-      step = may.step;
-      is = may.is;
       made = record { before = h; extends = fits.extends; own_same = own_same; newest = refl; legal = legal };
     }
 
-  pub main_may_begin : (slots : ℕ) (who : Option CpuId) (planned : Option K)
-      → MayBeginPass machine (main_of seat) who planned
+  pub main_may_begin : (slots : ℕ) (begins : ℕ → Option CpuId → K)
+      → ((r : ℕ) (o : Option CpuId) → machine.role (begins r o) ≡ Begins r o) → (who : Option CpuId)
+      → MayBeginPass machine (main_of seat) who
       → Allows (λ s. Keeps machine shown v.facts s.words s.views) slots seat.id seat.me 0 (λ n. n)
-      (λ found w. (w.1 ≡ seat.me.1) × Divides machine planned seat.me.0 w.0)
-  main_may_begin slots who planned may s kept long at small = (
-    w who planned may s.words s.views kept at,
+      (λ found w. (w.1 ≡ seat.me.1) × Divides machine begins who seat.me.0 w.0)
+  main_may_begin slots begins begins_it who may s kept long at small = (
+    w begins begins_it who may s.words s.views kept at,
     keeps,
     tt,
-    begins_on who planned may s.words s.views kept at,
-    (refl, divides who planned may s.words s.views kept at),
+    begins_on begins begins_it who may s.words s.views kept at,
+    (refl, divides begins begins_it who may s.words s.views kept at),
   )
 
 -- the seat of the main pass is split between it and the pass that began

@@ -1,6 +1,6 @@
 -- The join of two seats, and the step by which the joined pass ends, keep the rule.
 use Rattle.std.proofs.Common.{◌≡◌, ◌≢◌, ℕ, true, false, cond, List, [], ◌∷◌, set, slice_index}
-use Rattle.std.proofs.Common.{Option, Some, ◌⊎◌, inl, inr, ⊎_elim, refl, ap, sym, ◌∙◌, subst, ne_eqb}
+use Rattle.std.proofs.Common.{◌⊎◌, inl, inr, ⊎_elim, refl, ap, sym, ◌∙◌, subst, ne_eqb}
 use mathlib.Core.Option.{some}
 use lib.ListN.{get_elem?}
 use Rattle.atomic_table.specs.Table.{Allows, Joins, keeps}
@@ -96,8 +96,8 @@ module _ {F K S : Type 0} (machine : Machine F K S) (shown : F → S → List �
 
 -- the main pass ends the pass for which its seat acts too
 module _ {F K S : Type 0} (machine : Machine F K S) (shown : F → S → List ℕ) (quiet : IsQuiet machine)
-    (v : View F K) (a b : Held K) (main : a.number ≡ 0) (worker : b.number ≢ 0) (step : K)
-    (ends : machine.role step ≡ Ends b.number) (may_end : machine.MayEnd v.facts (own b.seen b.number)) where
+    (v : View F K) (a b : Held K) (main : a.number ≡ 0) (worker : b.number ≢ 0)
+    (ends : ℕ → K) (ends_it : (q : ℕ) → machine.role (ends q) ≡ Ends q) (may_end : machine.MayEnd v.facts (own b.seen b.number)) where
   module _ (id : ℕ) (words : List ℕ) (views : List (View F K)) (kept : Keeps machine shown v.facts words views)
       (at : get_elem? views id ≡ some (holding v (a ∷ b ∷ []))) where
     abbrev two : View F K
@@ -105,6 +105,9 @@ module _ {F K S : Type 0} (machine : Machine F K S) (shown : F → S → List �
 
     abbrev h : List (Event K)
     h = kept.history
+
+    abbrev step : K
+    step = ends b.number
 
     abbrev e : Event K
     e = record { caller = 0; step = step }
@@ -119,10 +122,10 @@ module _ {F K S : Type 0} (machine : Machine F K S) (shown : F → S → List �
     own_same = subst (λ n. own h n ≡ own a.seen n) main main_fits.own_same
 
     differs : machine.role step ≢ Works
-    differs works = ends_not_works b.number (sym ends ∙ works)
+    differs works = ends_not_works b.number (sym (ends_it b.number) ∙ works)
 
     acts : Acts machine v.facts h 0 (machine.role step)
-    acts = subst (Acts machine v.facts h 0) (sym ends) (
+    acts = subst (Acts machine v.facts h 0) (sym (ends_it b.number)) (
       refl,
       ⊎_elim (λ zero. absurd (worker zero)) (λ lives. lives) ending_fits.lives,
       subst (machine.MayEnd v.facts) (sym ending_fits.own_same) may_end,
@@ -136,7 +139,7 @@ module _ {F K S : Type 0} (machine : Machine F K S) (shown : F → S → List �
 
     still : (r : ℕ) → r ≢ b.number → lives_in machine.role h r ≡ true → lives_in machine.role (e ∷ h) r ≡ true
     still r other lives = lives_in-main machine.role e h r refl
-        ∙ ap (λ t. lives_after t r (lives_in machine.role h r)) ends
+        ∙ ap (λ t. lives_after t r (lives_in machine.role h r)) (ends_it b.number)
         ∙ ap (λ c. cond c false (lives_in machine.role h r)) (ne_eqb b.number r (λ same. other (sym same)))
         ∙ lives
 
@@ -177,12 +180,10 @@ module _ {F K S : Type 0} (machine : Machine F K S) (shown : F → S → List �
       one_seat = one_seat-set views id two w at kept.one_seat from;
     }
 
-    unites : (planned : Option K) → planned ≡ Some step → Unites machine planned two w
-    unites planned is = record {
+    unites : Unites machine ends two w
+    unites = record {
       seen = e ∷ h;
       view = refl;
-      step = step;
-      is = is;
       made = record {
         made = record { before = h; extends = main_fits.extends; own_same = own_same; newest = refl; legal = legal };
         knew = ending_fits.extends;
@@ -190,14 +191,14 @@ module _ {F K S : Type 0} (machine : Machine F K S) (shown : F → S → List �
       };
     }
 
-  pub main_may_end : (id slots : ℕ) (planned : Option K) → planned ≡ Some step
+  pub main_may_end : (id slots : ℕ)
       → Allows {S = Unit {0}} (λ s. Keeps machine shown v.facts s.words s.views) slots id
       (holding v (a ∷ b ∷ []), []) 0 (λ n. n)
-      (λ found w. (w.1 ≡ []) × Unites machine planned (holding v (a ∷ b ∷ [])) w.0)
-  main_may_end id slots planned is s kept long at small = (
+      (λ found w. (w.1 ≡ []) × Unites machine ends (holding v (a ∷ b ∷ [])) w.0)
+  main_may_end id slots s kept long at small = (
     w id s.words s.views kept at,
     keeps,
     tt,
     ends_on id s.words s.views kept at,
-    (refl, unites id s.words s.views kept at planned is),
+    (refl, unites id s.words s.views kept at),
   )

@@ -1,5 +1,5 @@
 -- What the calls of a worker ask of the words and give, by its seat.
-use Rattle.std.proofs.Common.{◌≡◌, ℕ, ◌<◌, List, [], ◌∷◌, Option, IfSome, refl, ap, sym, ◌∙◌, subst}
+use Rattle.std.proofs.Common.{◌≡◌, ℕ, ◌<◌, List, [], ◌∷◌, Option, Some, refl, ap, sym, ◌∙◌, subst}
 use Rattle.atomic_table.specs.declared.shared.Seat.{Seat}
 use Rattle.atomic_table.specs.Seated.{TableId}
 use Rattle.atomic_table.specs.Table.{Allows}
@@ -19,6 +19,9 @@ use Rattle.vms_seats.specs.Steps.{MayStep, MakesStep, MadeOne}
 use Rattle.vms_seats.specs.Views.{first_of}
 use Rattle.vms_seats.proofs.MadeCalls.{calls-live}
 use Rattle.vms_seats.proofs.WorkerSteps.{worker_may}
+
+Some-inj : {K : Type 0} (first second : K) → Some first ≡ Some second → first ≡ second
+Some-inj first second same = cc
 
 module _ {F K S : Type 0} (machine : Machine F K S) where
   -- one step is a row of steps
@@ -71,10 +74,13 @@ module _ {F K S : Type 0} (machine : Machine F K S) where
       at = advances.made;
     }
 
-    pub step_made : IfSome (plan found) (λ step. MadeOne machine (worker_of new cpu) (worker_of old cpu) step)
-    step_made = subst (λ it. IfSome it (λ step. MadeOne machine (worker_of new cpu) (worker_of old cpu) step))
-        (sym advances.is)
-        (subst (λ pass. MadeOne machine pass (worker_of old cpu) advances.step) (sym is_after_step) one_made)
+    -- the step is the one that was planned, and contracts see the worker as a pass
+    pub step_made : (told : ℕ → K) → plan ≡ (λ n. Some (told n)) → (pass : Pass F K) → worker_of old cpu ≡ pass
+        → MadeOne machine (worker_of new cpu) pass (told found)
+    step_made told planned pass is = subst (λ p. MadeOne machine (worker_of new cpu) p (told found)) is
+        (subst (MadeOne machine (worker_of new cpu) (worker_of old cpu))
+        (Some-inj advances.step (told found) (sym advances.is ∙ ap (λ (f : ℕ → Option K). f found) planned))
+        (subst (λ p. MadeOne machine p (worker_of old cpu) advances.step) (sym is_after_step) one_made))
 
     pub still_worker : IsWorker machine new cpu
     still_worker = record {
@@ -89,18 +95,22 @@ module _ {F K S : Type 0} (machine : Machine F K S) (shown : F → S → List �
   pub step_may : (seat : Seat (Unit {0}) (View F K)) (cpu : Option CpuId) → IsWorker machine seat cpu
       → (pass : Pass F K) → worker_of seat cpu ≡ pass
       → (table : TableId) (key : F) (words : Shared F) → record { table = table; facts = key } ≡ words
-      → IsOf pass words → (place : ℕ) → place < words.table.words → (change : ℕ → ℕ) (plan : ℕ → Option K)
-      → MayStep machine shown pass place change plan
+      → IsOf pass words → (place : ℕ) → place < words.table.words → (change : ℕ → ℕ) (told : ℕ → K)
+      → MayStep machine shown pass place change told → (plan : ℕ → Option K) → plan ≡ (λ n. Some (told n))
       → (seat.table_id ≡ table) × (place < table.words)
       × Allows (λ s. Keeps machine shown key s.words s.views) table.slots seat.id seat.me place change
       (λ found w. (w.1 ≡ seat.me.1) × Advances machine plan seat.me.0 found w.0)
-  step_may seat cpu worker pass is table key words words_are of place inside change plan may = (
+  step_may seat cpu worker pass is table key words words_are of place inside change told may plan planned = (
     ap (λ (p : Pass F K). p.table) is ∙ of.table ∙ ap (λ (w : Shared F). w.table) (sym words_are),
     subst (λ (w : Shared F). place < w.table.words) (sym words_are) inside,
     subst
         (λ fs. Allows (λ s. Keeps machine shown fs s.words s.views) table.slots seat.id seat.me place change
         (λ found w. (w.1 ≡ seat.me.1) × Advances machine plan seat.me.0 found w.0))
         (ap (λ (p : Pass F K). p.facts) is ∙ of.facts ∙ ap (λ (w : Shared F). w.facts) (sym words_are))
-        (worker_may machine shown seat cpu worker table.slots place change plan
-        (subst (λ p. MayStep machine shown p place change plan) (sym is) may)),
+        (subst
+        (λ plan. Allows {S = Unit {0}} (λ s. Keeps machine shown seat.me.0.facts s.words s.views) table.slots seat.id
+        seat.me place change (λ found w. (w.1 ≡ seat.me.1) × Advances machine plan seat.me.0 found w.0))
+        (sym planned)
+        (worker_may machine shown seat cpu worker table.slots place change told
+        (subst (λ p. MayStep machine shown p place change told) (sym is) may))),
   )

@@ -1,5 +1,5 @@
 -- A step of a worker keeps the rule.
-use Rattle.std.proofs.Common.{◌≡◌, ◌≢◌, ℕ, ◌<◌, true, List, [], ◌∷◌, set, slice_index, Option, ◌⊎◌, inl, inr, ⊎_elim}
+use Rattle.std.proofs.Common.{◌≡◌, ◌≢◌, ℕ, ◌<◌, true, List, [], ◌∷◌, set, slice_index, Option, Some, ◌⊎◌, inl, inr, ⊎_elim}
 use Rattle.std.proofs.Common.{refl, ap, sym, ◌∙◌, subst, arith}
 use mathlib.Core.Option.{some}
 use lib.ListN.{get_elem?}
@@ -56,11 +56,11 @@ module _ {F K S : Type 0} (machine : Machine F K S) (shown : F → S → List �
         main_is : k.number ≡ 0 → ⊥
         main_is main = let some = number_some in omega arith
 
-    module _ (place : ℕ) (change : ℕ → ℕ) (plan : ℕ → Option K)
+    module _ (place : ℕ) (change : ℕ → ℕ) (told : ℕ → K)
         (next : NextStep machine shown v.facts h k.number place (change (slice_index words place))
-        (plan (slice_index words place))) where
+        (told (slice_index words place))) where
       abbrev e : Event K
-      e = record { caller = k.number; step = next.step }
+      e = record { caller = k.number; step = told (slice_index words place) }
 
       abbrev w : View F K
       w = holding v (record { number = k.number; seen = e ∷ h } ∷ [])
@@ -104,26 +104,26 @@ module _ {F K S : Type 0} (machine : Machine F K S) (shown : F → S → List �
         one_seat = one_seat-set views seat.id v w at kept.one_seat from;
       }
 
-      advances : Advances machine plan v (slice_index words place) w
+      advances : Advances machine (λ n. Some (told n)) v (slice_index words place) w
       advances = record {
         seen = e ∷ h;
         view = refl;
-        step = next.step;
-        is = next.is;
+        step = told (slice_index words place);
+        is = refl;
         made = record { before = h; others = goes; newest = refl; legal = next.legal };
       }
 
-  pub worker_may : (slots place : ℕ) (change : ℕ → ℕ) (plan : ℕ → Option K)
-      → MayStep machine shown (worker_of seat cpu) place change plan
+  pub worker_may : (slots place : ℕ) (change : ℕ → ℕ) (told : ℕ → K)
+      → MayStep machine shown (worker_of seat cpu) place change told
       → Allows {S = Unit {0}} (λ s. Keeps machine shown v.facts s.words s.views) slots seat.id seat.me place change
-      (λ found w. (w.1 ≡ seat.me.1) × Advances machine plan seat.me.0 found w.0)
-  worker_may slots place change plan may s kept long at small =
+      (λ found w. (w.1 ≡ seat.me.1) × Advances machine (λ n. Some (told n)) seat.me.0 found w.0)
+  worker_may slots place change told may s kept long at small =
       let found : ℕ = slice_index s.words place in
       let stands = ap (λ ws. slice_index ws place) (sym kept.shows) in
       let next = may kept.history found (goes s.words s.views kept at) small stands in (
-        w s.words s.views kept at place change plan next,
+        w s.words s.views kept at place change told next,
         keeps,
         tt,
-        keeps_on s.words s.views kept at place change plan next,
-        (refl, advances s.words s.views kept at place change plan next),
+        keeps_on s.words s.views kept at place change told next,
+        (refl, advances s.words s.views kept at place change told next),
       )

@@ -1,32 +1,24 @@
 -- What the main pass makes: the step by which a pass begins, and the step by which one ends.
-use Rattle.std.specs.Prelude.{◌≡◌, ℕ, suc, List, [], ◌∷◌, Option, Some}
+use Rattle.std.specs.Prelude.{◌≡◌, ℕ, suc, List, [], ◌∷◌, Option}
 use Rattle.vms_base.specs.declared.ids.CpuId.{CpuId}
 use Rattle.vms_history.specs.declared.events.Event.{Event}
 use Rattle.vms_history.specs.Events.{Extends, own}
 use Rattle.vms_history.specs.Legal.{Machine, IsLegal}
 use Rattle.vms_history.specs.Passes.{begun_in, IsFree}
-use Rattle.vms_history.specs.Passes.Role.{Begins, Ends}
 use Rattle.vms_seats.specs.Passes.{Pass, IsLive}
 
 -- the number of the pass that begins next
 abbrev pub next_number : {F K S : Type 0} → Machine F K S → List (Event K) → ℕ
 next_number machine seen = suc (begun_in machine.role seen)
 
--- the main pass may begin a pass with this step, one that owns this CPU, or a control pass
-pub record MayBeginPass {F K S : Type 0} (machine : Machine F K S) (main : Pass F K) (who : Option CpuId)
-    (planned : Option K) : Type 0 where
-  pub step : K
-  pub is : planned ≡ Some step
-  pub begins : machine.role step ≡ Begins (next_number machine main.seen) who
+-- the main pass may begin a pass that owns this CPU, or a control pass
+pub record MayBeginPass {F K S : Type 0} (machine : Machine F K S) (main : Pass F K) (who : Option CpuId) : Type 0 where
   pub may_own : machine.MayOwn main.facts who
   pub free : IsFree machine.role main.seen who
 
--- the main pass may end this pass with this step
-pub record MayEndPass {F K S : Type 0} (machine : Machine F K S) (pass : Pass F K) (planned : Option K) : Type 0 where
-  pub step : K
-  pub is : planned ≡ Some step
-  pub ends : machine.role step ≡ Ends pass.number
-  pub may_end : machine.MayEnd pass.facts (own pass.seen pass.number)
+-- what the pass has done lets it end
+abbrev pub MayEndPass : {F K S : Type 0} → Machine F K S → Pass F K → Type 0
+MayEndPass machine pass = machine.MayEnd pass.facts (own pass.seen pass.number)
 
 -- the main pass made one step: what others had done before it, and that the history ended with it
 pub record MainMakes {F K S : Type 0} (machine : Machine F K S) (facts : F) (later earlier : List (Event K))
@@ -45,11 +37,11 @@ pub record SeesMore {F K : Type 0} (new old : Pass F K) : Type 0 where
   pub cpu : new.cpu ≡ old.cpu
   pub extends : Extends new.seen old.seen
 
--- the main pass began a pass by this step. That pass has made no step, and knows what the main pass knows
-pub record HasBegun {F K S : Type 0} (machine : Machine F K S) (new old pass : Pass F K) (who : Option CpuId)
-    (step : K) : Type 0 where
+-- the main pass began a pass by the step for that. This pass has made no step, and knows what the main pass knows
+pub record HasBegun {F K S : Type 0} (machine : Machine F K S) (begins : ℕ → Option CpuId → K) (new old pass : Pass F K)
+    (who : Option CpuId) : Type 0 where
   pub main : SeesMore new old
-  pub made : MainMakes machine old.facts new.seen old.seen step
+  pub made : MainMakes machine old.facts new.seen old.seen (begins (next_number machine old.seen) who)
   pub table : pass.table ≡ old.table
   pub facts : pass.facts ≡ old.facts
   pub number : pass.number ≡ next_number machine old.seen
@@ -58,10 +50,10 @@ pub record HasBegun {F K S : Type 0} (machine : Machine F K S) (new old pass : P
   pub live : IsLive machine pass
   pub no_steps : own pass.seen pass.number ≡ []
 
--- the main pass ended a pass by this step. What that pass had seen stood before it, and in what the main pass has seen
--- that pass has made the steps that it knew, and no others
-pub record HasEnded {F K S : Type 0} (machine : Machine F K S) (new old pass : Pass F K) (step : K) : Type 0 where
+-- the main pass ended a pass by the step for that. What that pass had seen stood before it, and in what the main pass
+-- has seen that pass has made the steps that it knew, and no others
+pub record HasEnded {F K S : Type 0} (machine : Machine F K S) (ends : ℕ → K) (new old pass : Pass F K) : Type 0 where
   pub main : SeesMore new old
-  pub made : MainMakes machine old.facts new.seen old.seen step
+  pub made : MainMakes machine old.facts new.seen old.seen (ends pass.number)
   pub knew : Extends made.before pass.seen
   pub all_steps : own new.seen pass.number ≡ own pass.seen pass.number

@@ -1,5 +1,6 @@
 -- What a step on a word tells the seat that makes it.
 use Rattle.std.specs.Prelude.{◌≡◌, ℕ, List, [], ◌∷◌, Option, Some}
+use Rattle.vms_base.specs.declared.ids.CpuId.{CpuId}
 use Rattle.vms_history.specs.declared.events.Event.{Event}
 use Rattle.vms_history.specs.Events.{Extends, own}
 use Rattle.vms_history.specs.Legal.{Machine}
@@ -18,13 +19,13 @@ pub record Advances {F K S : Type 0} (machine : Machine F K S) (plan : ℕ → O
   pub made : MakesStep machine v.facts seen (first_of v.held).seen (first_of v.held).number step
 
 -- the main pass begins a pass, for which the seat acts too
-pub record Divides {F K S : Type 0} (machine : Machine F K S) (planned : Option K) (v w : View F K) : Type 0 where
+pub record Divides {F K S : Type 0} (machine : Machine F K S) (begins : ℕ → Option CpuId → K)
+    (who : Option CpuId) (v w : View F K) : Type 0 where
   pub seen : List (Event K)
   pub view : w ≡ holding v (record { number = 0; seen = seen }
       ∷ record { number = next_number machine (first_of v.held).seen; seen = seen } ∷ [])
-  pub step : K
-  pub is : planned ≡ Some step
-  pub made : MainMakes machine v.facts seen (first_of v.held).seen step
+  pub made : MainMakes machine v.facts seen (first_of v.held).seen
+      (begins (next_number machine (first_of v.held).seen) who)
 
 -- what the main pass and the pass that it ends make together
 pub record TakesIn {F K S : Type 0} (machine : Machine F K S) (facts : F) (later earlier theirs : List (Event K))
@@ -34,9 +35,8 @@ pub record TakesIn {F K S : Type 0} (machine : Machine F K S) (facts : F) (later
   pub all_steps : own made.before number ≡ own theirs number
 
 -- the main pass ends the pass for which the seat acts too
-pub record Unites {F K S : Type 0} (machine : Machine F K S) (planned : Option K) (v w : View F K) : Type 0 where
+pub record Unites {F K S : Type 0} (machine : Machine F K S) (ends : ℕ → K) (v w : View F K) : Type 0 where
   pub seen : List (Event K)
   pub view : w ≡ holding v (record { number = 0; seen = seen } ∷ [])
-  pub step : K
-  pub is : planned ≡ Some step
-  pub made : TakesIn machine v.facts seen (first_of v.held).seen (second_of v.held).seen (second_of v.held).number step
+  pub made : TakesIn machine v.facts seen (first_of v.held).seen (second_of v.held).seen (second_of v.held).number
+      (ends (second_of v.held).number)

@@ -1,16 +1,14 @@
 -- What a call of a pass on one word makes: when it may, and what it has made.
-use Rattle.std.specs.Prelude.{◌≡◌, ℕ, ◌<◌, ◌^◌, List, [], ◌∷◌, Option, Some, slice_index, slice_set}
+use Rattle.std.specs.Prelude.{◌≡◌, ℕ, ◌<◌, ◌^◌, List, [], ◌∷◌, slice_index, slice_set}
 use Rattle.vms_history.specs.declared.events.Event.{Event}
 use Rattle.vms_history.specs.Legal.{Machine, IsLegal, state_after}
 use Rattle.vms_history.specs.PassSteps.{GoesOnWithout, HasMade}
 use Rattle.vms_seats.specs.Passes.{Pass}
 
--- after this history pass p may make a step that is planned for the number found, and the word at this place, with the
--- others as they are, then shows the next state
+-- after this history pass p may make this step, and the word at this place, with the others as they are, then shows the
+-- next state
 pub record NextStep {F K S : Type 0} (machine : Machine F K S) (shown : F → S → List ℕ) (facts : F)
-    (h : List (Event K)) (p place after : ℕ) (planned : Option K) : Type 0 where
-  pub step : K
-  pub is : planned ≡ Some step
+    (h : List (Event K)) (p place after : ℕ) (step : K) : Type 0 where
   pub legal : IsLegal machine facts (record { caller = p; step = step } ∷ h)
   pub shows : shown facts (state_after machine facts (record { caller = p; step = step } ∷ h))
       ≡ slice_set (shown facts (state_after machine facts h)) place after
@@ -18,7 +16,7 @@ pub record NextStep {F K S : Type 0} (machine : Machine F K S) (shown : F → S 
 -- whatever others have done since the pass looked, and whichever number it finds in the word, it may make the step
 -- that is planned for that number, as the word becomes `change` of it
 abbrev pub MayStep : {F K S : Type 0} → Machine F K S → (F → S → List ℕ) → Pass F K → ℕ → (ℕ → ℕ)
-    → (ℕ → Option K) → Type 0
+    → (ℕ → K) → Type 0
 MayStep {F} {K} machine shown pass place change plan = (h : List (Event K)) (found : ℕ)
     → GoesOnWithout machine pass.facts h pass.seen pass.number → found < 2 ^ 64
     → slice_index (shown pass.facts (state_after machine pass.facts h)) place ≡ found

@@ -1,5 +1,7 @@
-ghost use Rattle.std.specs.Prelude.{ℕ, List, Option, None};
+ghost use Rattle.std.specs.Prelude.{◌≡◌, ℕ, List, Option, None};
+ghost use Rattle.vms_base.specs.declared.ids.CpuId.{CpuId};
 ghost use Rattle.vms_history.specs.Legal.{Machine, IsQuiet};
+ghost use Rattle.vms_history.specs.Passes.Role.{Begins, Ends};
 
 use std::marker::Brand;
 
@@ -21,12 +23,25 @@ pub trait Ledger {
     // The words that show a state.
     ghost shown: { Self.Facts → State → List ℕ };
 
+    // The step that a call makes which planned this one and finds this number.
+    ghost told: { Self.Step → ℕ → Self.Step };
+
+    // The step by which a pass with this number begins, which owns a CPU or is the control pass.
+    ghost begins: { ℕ → Option CpuId → Self.Step };
+
+    ghost begins_it: { (q : ℕ) (who : Option CpuId) → machine.role (begins q who) ≡ Begins q who };
+
+    // The step by which the pass with this number ends.
+    ghost ends: { ℕ → Self.Step };
+
+    ghost ends_it: { (q : ℕ) → machine.role (ends q) ≡ Ends q };
+
     // Any facts. A seat that knows nothing any more has them in its view.
     ghost blank: { Self.Facts };
 }
 
-/// Which step a call on a word makes, by the number that it finds there. Each call picks its own.
-pub trait Plan<K> {
+// Which step is made, by the number that is found. Each call picks its own.
+pub(crate) trait Plan<K> {
     ghost step: { ℕ → Option K };
 }
 
@@ -34,11 +49,11 @@ impl<K> Plan<K> for Brand {
     ghost step = { λ found. None };
 }
 
-/// By which step the main pass begins or ends a pass. Each call picks its own.
-pub trait Change<K> {
-    ghost step: { Option K };
+// Which CPU a pass owns that begins. Each call picks its own.
+pub(crate) trait Owner {
+    ghost cpu: { Option CpuId };
 }
 
-impl<K> Change<K> for Brand {
-    ghost step = { None };
+impl Owner for Brand {
+    ghost cpu = { None };
 }

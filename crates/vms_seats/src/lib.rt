@@ -15,7 +15,7 @@ mod workers;
 
 pub use closing::{Closing, History};
 pub use laws::calls_add_up;
-pub use ledgers::{Change, Ledger, Plan};
+pub use ledgers::Ledger;
 pub use main_pass::Main;
 pub use words::Words;
 pub use workers::{Worker, Works};

@@ -1,13 +1,14 @@
-ghost use Rattle.std.specs.Prelude.{◌≡◌, ℕ, IfSome};
+ghost use Rattle.std.specs.Prelude.{◌≡◌};
 ghost use Rattle.vms_seats.specs.MainSteps.{HasBegun, HasEnded, MayBeginPass, MayEndPass};
 ghost use Rattle.vms_seats.specs.Passes.{IsMain, IsOf};
 
+use crate::Ledger;
+use crate::ledgers::Owner;
 use crate::views::{Beginning, Ending, View};
 use crate::words::Words;
 use crate::workers::Worker;
-use crate::{Change, Ledger};
 use atomic_table::Seat;
-use std::marker::Model;
+use std::marker::{Brand, Model};
 use vms_base::CpuId;
 
 /// The pass that begins and ends the others. Contracts see in it what they see in a worker; its number is 0.
@@ -37,26 +38,35 @@ impl<L: Ledger> Main<L> {
     }
 
     /// Begins a pass that owns a CPU, or a control pass.
-    pub fn begin<B: Change<L::Step>>(&mut self, words: &Words<L>, cpu: Option<CpuId>) -> Worker<L>
+    pub fn begin(&mut self, words: &Words<L>, cpu: Option<CpuId>) -> Worker<L>
         requires words { IsOf self.old words.now }
-        requires begins { MayBeginPass L.machine self.old cpu B.step }
-        ensures { IfSome B.step (λ step. HasBegun L.machine self.new self.old result cpu step) }
+        requires begins { MayBeginPass L.machine self.old cpu }
+        ensures { HasBegun L.machine L.begins self.new self.old result cpu }
+    {
+        self.begin_as::<Brand>(words, cpu)
+    }
+
+    fn begin_as<O: Owner>(&mut self, words: &Words<L>, cpu: Option<CpuId>) -> Worker<L>
+        requires owner { O.cpu ≡ cpu }
+        requires words { IsOf self.old words.now }
+        requires begins { MayBeginPass L.machine self.old cpu }
+        ensures { HasBegun L.machine L.begins self.new self.old result cpu }
     {
         let shared = &words.table.shared;
-        shared.load::<Beginning<L, B>>(&mut self.seat, 0);
-        let seat = shared.split_seat::<Beginning<L, B>>(&mut self.seat);
+        shared.load::<Beginning<L, O>>(&mut self.seat, 0);
+        let seat = shared.split_seat::<Beginning<L, O>>(&mut self.seat);
         Worker { seat, cpu }
     }
 
     /// Ends a pass. The main pass then knows all that it knew.
-    pub fn end<B: Change<L::Step>>(&mut self, words: &Words<L>, worker: Worker<L>)
+    pub fn end(&mut self, words: &Words<L>, worker: Worker<L>)
         requires words { IsOf self.old words.now × IsOf worker words.now }
-        requires ends { MayEndPass L.machine worker B.step }
-        ensures { IfSome B.step (λ step. HasEnded L.machine self.new self.old worker step) }
+        requires ends { MayEndPass L.machine worker }
+        ensures { HasEnded L.machine L.ends self.new self.old worker }
     {
         let shared = &words.table.shared;
         let Worker { seat, cpu: _ } = worker;
-        shared.join_seat::<Ending<L, B>>(&mut self.seat, seat);
-        shared.load::<Ending<L, B>>(&mut self.seat, 0);
+        shared.join_seat::<Ending<L>>(&mut self.seat, seat);
+        shared.load::<Ending<L>>(&mut self.seat, 0);
     }
 }

@@ -1,4 +1,5 @@
-use crate::{Change, Ledger, Plan};
+use crate::Ledger;
+use crate::ledgers::{Owner, Plan};
 use atomic_table::{Join, Play, Split, TableRule};
 use std::collections::LinkedList;
 use std::marker::PhantomData;
@@ -46,18 +47,18 @@ impl<L: Ledger, P: Plan<L::Step>> Play<(), View<L::Facts, L::Step>> for Working<
 }
 
 // The step by which a pass begins, and the split of the seat after it.
-pub(crate) struct Beginning<L, B> {
-    of: PhantomData<(L, B)>,
+pub(crate) struct Beginning<L, O> {
+    of: PhantomData<(L, O)>,
 }
 
-impl<L: Ledger, B: Change<L::Step>> Play<(), View<L::Facts, L::Step>> for Beginning<L, B> {
+impl<L: Ledger, O: Owner> Play<(), View<L::Facts, L::Step>> for Beginning<L, O> {
     ghost use Rattle.std.specs.Prelude.{◌≡◌};
     ghost use Rattle.vms_seats.specs.Plays.{Divides};
 
-    ghost then = { λ s v found w. (w.1 ≡ v.1) × Divides L.machine B.step v.0 w.0 };
+    ghost then = { λ s v found w. (w.1 ≡ v.1) × Divides L.machine L.begins O.cpu v.0 w.0 };
 }
 
-impl<L: Ledger, B: Change<L::Step>> Split<View<L::Facts, L::Step>> for Beginning<L, B> {
+impl<L: Ledger, O: Owner> Split<View<L::Facts, L::Step>> for Beginning<L, O> {
     ghost use Rattle.vms_seats.specs.Views.{first_alone, second_alone};
 
     ghost left = { first_alone };
@@ -66,11 +67,11 @@ impl<L: Ledger, B: Change<L::Step>> Split<View<L::Facts, L::Step>> for Beginning
 }
 
 // The join of two seats, and the step by which the joined pass ends.
-pub(crate) struct Ending<L, B> {
-    of: PhantomData<(L, B)>,
+pub(crate) struct Ending<L> {
+    of: PhantomData<L>,
 }
 
-impl<L: Ledger, B: Change<L::Step>> Join<View<L::Facts, L::Step>> for Ending<L, B> {
+impl<L: Ledger> Join<View<L::Facts, L::Step>> for Ending<L> {
     ghost use Rattle.vms_seats.specs.Views.{both_held, spent_view};
 
     ghost both = { both_held };
@@ -78,11 +79,11 @@ impl<L: Ledger, B: Change<L::Step>> Join<View<L::Facts, L::Step>> for Ending<L, 
     ghost spent = { spent_view L.blank };
 }
 
-impl<L: Ledger, B: Change<L::Step>> Play<(), View<L::Facts, L::Step>> for Ending<L, B> {
+impl<L: Ledger> Play<(), View<L::Facts, L::Step>> for Ending<L> {
     ghost use Rattle.std.specs.Prelude.{◌≡◌};
     ghost use Rattle.vms_seats.specs.Plays.{Unites};
 
-    ghost then = { λ s v found w. (w.1 ≡ v.1) × Unites L.machine B.step v.0 w.0 };
+    ghost then = { λ s v found w. (w.1 ≡ v.1) × Unites L.machine L.ends v.0 w.0 };
 }
 
 // The split of a seat that remembers what the main pass had seen.

@@ -1,12 +1,13 @@
-ghost use Rattle.std.specs.Prelude.{◌≡◌, ℕ, ◌+◌, ◌%◌, ◌^◌, ◌<◌, ◌==◌, if◌then◌else◌, IfSome};
+ghost use Rattle.std.specs.Prelude.{◌≡◌, ℕ, ◌+◌, ◌%◌, ◌^◌, ◌<◌, ◌==◌, if◌then◌else◌, Some};
 ghost use Rattle.vms_seats.specs.Passes.{Pass, IsOf, IsLive};
 ghost use Rattle.vms_seats.specs.Steps.{MayStep, MadeOne};
 
+use crate::Ledger;
+use crate::ledgers::Plan;
 use crate::views::{View, Working};
 use crate::words::Words;
-use crate::{Ledger, Plan};
 use atomic_table::Seat;
-use std::marker::Model;
+use std::marker::{Brand, Model};
 use vms_base::CpuId;
 
 /// A pass that works on shared words. Contracts see in it which words it was made from, its number, the CPU that it
@@ -40,7 +41,8 @@ impl<L: Ledger> Worker<L> {
     }
 }
 
-/// A pass that makes single steps on the words of one kind of table.
+/// A pass that makes single steps on the words of one kind of table. A call names the step that it plans; the step that it
+/// makes is this one with the number that was found.
 pub trait Works<L: Ledger> {
     // The pass that it is.
     ghost pass: { Self → Pass L.Facts L.Step };
@@ -49,43 +51,43 @@ pub trait Works<L: Ledger> {
     ghost Leaves: { L.Step → Type 0 };
 
     /// Loads a word.
-    fn load_at<P: Plan<L::Step>>(&mut self, words: &Words<L>, place: usize) -> u64
+    fn load_at(&mut self, words: &Words<L>, place: usize, plan: &L::Step) -> u64
         requires words { IsOf (pass self.old) words.now }
         requires place { place < words.now.table.words }
-        requires step { MayStep L.machine L.shown (pass self.old) place (λ n. n) P.step }
-        requires leaves { (n : ℕ) → IfSome (P.step n) Leaves }
-        ensures { IfSome (P.step result) (λ step. MadeOne L.machine (pass self.new) (pass self.old) step) };
+        requires step { MayStep L.machine L.shown (pass self.old) place (λ n. n) (L.told plan.now) }
+        requires leaves { (n : ℕ) → Leaves (L.told plan.now n) }
+        ensures { MadeOne L.machine (pass self.new) (pass self.old) (L.told plan.now result) };
 
     /// Puts a number into a word, and tells the one that stood there.
-    fn swap_at<P: Plan<L::Step>>(&mut self, words: &Words<L>, place: usize, new: u64) -> u64
+    fn swap_at(&mut self, words: &Words<L>, place: usize, new: u64, plan: &L::Step) -> u64
         requires words { IsOf (pass self.old) words.now }
         requires place { place < words.now.table.words }
-        requires step { MayStep L.machine L.shown (pass self.old) place (λ n. new) P.step }
-        requires leaves { (n : ℕ) → IfSome (P.step n) Leaves }
-        ensures { IfSome (P.step result) (λ step. MadeOne L.machine (pass self.new) (pass self.old) step) };
+        requires step { MayStep L.machine L.shown (pass self.old) place (λ n. new) (L.told plan.now) }
+        requires leaves { (n : ℕ) → Leaves (L.told plan.now n) }
+        ensures { MadeOne L.machine (pass self.new) (pass self.old) (L.told plan.now result) };
 
     /// Adds to a word, modulo 2^64, and tells the number that stood there.
-    fn add_at<P: Plan<L::Step>>(&mut self, words: &Words<L>, place: usize, amount: u64) -> u64
+    fn add_at(&mut self, words: &Words<L>, place: usize, amount: u64, plan: &L::Step) -> u64
         requires words { IsOf (pass self.old) words.now }
         requires place { place < words.now.table.words }
-        requires step { MayStep L.machine L.shown (pass self.old) place (λ n. (n + amount) % 2 ^ 64) P.step }
-        requires leaves { (n : ℕ) → IfSome (P.step n) Leaves }
-        ensures { IfSome (P.step result) (λ step. MadeOne L.machine (pass self.new) (pass self.old) step) };
+        requires step { MayStep L.machine L.shown (pass self.old) place (λ n. (n + amount) % 2 ^ 64) (L.told plan.now) }
+        requires leaves { (n : ℕ) → Leaves (L.told plan.now n) }
+        ensures { MadeOne L.machine (pass self.new) (pass self.old) (L.told plan.now result) };
 
     /// Puts a number into a word where the word is `old`, and tells the number that stood there in any case.
-    fn exchange_at<P: Plan<L::Step>>(
+    fn exchange_at(
         &mut self,
         words: &Words<L>,
         place: usize,
         old: u64,
         new: u64,
+        plan: &L::Step,
     ) -> u64
         requires words { IsOf (pass self.old) words.now }
         requires place { place < words.now.table.words }
-        requires step { MayStep L.machine L.shown (pass self.old) place
-            (λ n. if n == old then new else n) P.step }
-        requires leaves { (n : ℕ) → IfSome (P.step n) Leaves }
-        ensures { IfSome (P.step result) (λ step. MadeOne L.machine (pass self.new) (pass self.old) step) };
+        requires step { MayStep L.machine L.shown (pass self.old) place (λ n. if n == old then new else n) (L.told plan.now) }
+        requires leaves { (n : ℕ) → Leaves (L.told plan.now n) }
+        ensures { MadeOne L.machine (pass self.new) (pass self.old) (L.told plan.now result) };
 }
 
 impl<L: Ledger> Works<L> for Worker<L> {
@@ -94,7 +96,44 @@ impl<L: Ledger> Works<L> for Worker<L> {
     ghost Leaves = { λ step. Unit {0} };
 
     #[inline]
-    fn load_at<P: Plan<L::Step>>(&mut self, words: &Words<L>, place: usize) -> u64 {
+    fn load_at(&mut self, words: &Words<L>, place: usize, plan: &L::Step) -> u64 {
+        self.load_as::<Brand>(words, place, plan)
+    }
+
+    #[inline]
+    fn swap_at(&mut self, words: &Words<L>, place: usize, new: u64, plan: &L::Step) -> u64 {
+        self.swap_as::<Brand>(words, place, new, plan)
+    }
+
+    #[inline]
+    fn add_at(&mut self, words: &Words<L>, place: usize, amount: u64, plan: &L::Step) -> u64 {
+        self.add_as::<Brand>(words, place, amount, plan)
+    }
+
+    #[inline]
+    fn exchange_at(
+        &mut self,
+        words: &Words<L>,
+        place: usize,
+        old: u64,
+        new: u64,
+        plan: &L::Step,
+    ) -> u64 {
+        self.exchange_as::<Brand>(words, place, old, new, plan)
+    }
+}
+
+// The same calls, with the steps that they make as a ghost member, which an atomic step can name.
+impl<L: Ledger> Worker<L> {
+    #[inline]
+    fn load_as<P: Plan<L::Step>>(&mut self, words: &Words<L>, place: usize, plan: &L::Step) -> u64
+        requires planned { P.step ≡ λ n. Some (L.told plan.now n) }
+        requires words { IsOf self.old words.now }
+        requires place { place < words.now.table.words }
+        requires step { MayStep L.machine L.shown self.old place (λ n. n) (L.told plan.now) }
+        ensures { MadeOne L.machine self.new self.old (L.told plan.now result) }
+    {
+        let _ = plan;
         words
             .table
             .shared
@@ -102,7 +141,20 @@ impl<L: Ledger> Works<L> for Worker<L> {
     }
 
     #[inline]
-    fn swap_at<P: Plan<L::Step>>(&mut self, words: &Words<L>, place: usize, new: u64) -> u64 {
+    fn swap_as<P: Plan<L::Step>>(
+        &mut self,
+        words: &Words<L>,
+        place: usize,
+        new: u64,
+        plan: &L::Step,
+    ) -> u64
+        requires planned { P.step ≡ λ n. Some (L.told plan.now n) }
+        requires words { IsOf self.old words.now }
+        requires place { place < words.now.table.words }
+        requires step { MayStep L.machine L.shown self.old place (λ n. new) (L.told plan.now) }
+        ensures { MadeOne L.machine self.new self.old (L.told plan.now result) }
+    {
+        let _ = plan;
         words
             .table
             .shared
@@ -110,7 +162,20 @@ impl<L: Ledger> Works<L> for Worker<L> {
     }
 
     #[inline]
-    fn add_at<P: Plan<L::Step>>(&mut self, words: &Words<L>, place: usize, amount: u64) -> u64 {
+    fn add_as<P: Plan<L::Step>>(
+        &mut self,
+        words: &Words<L>,
+        place: usize,
+        amount: u64,
+        plan: &L::Step,
+    ) -> u64
+        requires planned { P.step ≡ λ n. Some (L.told plan.now n) }
+        requires words { IsOf self.old words.now }
+        requires place { place < words.now.table.words }
+        requires step { MayStep L.machine L.shown self.old place (λ n. (n + amount) % 2 ^ 64) (L.told plan.now) }
+        ensures { MadeOne L.machine self.new self.old (L.told plan.now result) }
+    {
+        let _ = plan;
         words
             .table
             .shared
@@ -118,13 +183,21 @@ impl<L: Ledger> Works<L> for Worker<L> {
     }
 
     #[inline]
-    fn exchange_at<P: Plan<L::Step>>(
+    fn exchange_as<P: Plan<L::Step>>(
         &mut self,
         words: &Words<L>,
         place: usize,
         old: u64,
         new: u64,
-    ) -> u64 {
+        plan: &L::Step,
+    ) -> u64
+        requires planned { P.step ≡ λ n. Some (L.told plan.now n) }
+        requires words { IsOf self.old words.now }
+        requires place { place < words.now.table.words }
+        requires step { MayStep L.machine L.shown self.old place (λ n. if n == old then new else n) (L.told plan.now) }
+        ensures { MadeOne L.machine self.new self.old (L.told plan.now result) }
+    {
+        let _ = plan;
         words
             .table
             .shared

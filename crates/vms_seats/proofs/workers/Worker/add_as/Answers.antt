@@ -1,16 +1,14 @@
 -- The goals were what the step asks of the words, that the seat is a worker's after it, and what it made.
-use Rattle.std.proofs.Common.{◌+◌, ◌%◌, ◌^◌, IfSome, subst}
-use Rattle.vms_seats.specs.Seats.{worker_of}
-use Rattle.vms_seats.specs.Steps.{MadeOne}
+use Rattle.std.proofs.Common.{◌+◌, ◌%◌, ◌^◌}
 use Rattle.vms_seats.proofs.WorkerCalls.{step_may, step_made, still_worker}
-use Rattle.vms_seats.proofs.workers.WorkerWorks.add_at.Goals as goal
+use Rattle.vms_seats.proofs.workers.Worker.add_as.Goals as goal
 
 pub fetch_add-requires : goal.fetch_add-requires
 fetch_add-requires g c = step_may
     g.L.Ledger.machine g.L.Ledger.shown c.self.inside.seat c.self.inside.cpu c.self.invariant
     c.args.self.now c.self.view_is c.words.inside.table.shared.table_id c.words.inside.table.shared.key c.args.words.now
     c.words.view_is c.requires.words c.args.place c.requires.place (λ n. (n + c.args.amount) % 2 ^ 64)
-    g.P.Plan.step c.requires.step
+    (g.L.Ledger.told c.args.plan.now) c.requires.step g.P.Plan.step c.requires.planned
 
 pub invariant_of-self : goal.invariant_of-self
 invariant_of-self g c = still_worker
@@ -19,9 +17,6 @@ invariant_of-self g c = still_worker
     c.fetch_add.ensures.2.1
 
 pub returns : goal.returns
-returns g c = subst
-    (λ pass. IfSome (g.P.Plan.step c.fetch_add.result)
-    (λ step. MadeOne g.L.Ledger.machine (worker_of c.fetch_add.new.seat c.self.inside.cpu) pass step))
-    c.self.view_is
-    (step_made g.L.Ledger.machine c.self.inside.seat c.fetch_add.new.seat c.self.inside.cpu c.self.invariant
-    c.fetch_add.ensures.0 c.fetch_add.ensures.2.0 g.P.Plan.step c.fetch_add.result c.fetch_add.ensures.2.1)
+returns g c = step_made g.L.Ledger.machine c.self.inside.seat c.fetch_add.new.seat c.self.inside.cpu c.self.invariant
+    c.fetch_add.ensures.0 c.fetch_add.ensures.2.0 g.P.Plan.step c.fetch_add.result c.fetch_add.ensures.2.1
+    (g.L.Ledger.told c.args.plan.now) c.requires.planned c.args.self.now c.self.view_is

@@ -1,16 +1,14 @@
 -- The goals were what the step asks of the words, that the seat is a worker's after it, and what it made.
-use Rattle.std.proofs.Common.{◌==◌, if◌then◌else◌, IfSome, subst}
-use Rattle.vms_seats.specs.Seats.{worker_of}
-use Rattle.vms_seats.specs.Steps.{MadeOne}
+use Rattle.std.proofs.Common.{◌==◌, if◌then◌else◌}
 use Rattle.vms_seats.proofs.WorkerCalls.{step_may, step_made, still_worker}
-use Rattle.vms_seats.proofs.workers.WorkerWorks.exchange_at.Goals as goal
+use Rattle.vms_seats.proofs.workers.Worker.exchange_as.Goals as goal
 
 pub compare_exchange-requires : goal.compare_exchange-requires
 compare_exchange-requires g c = step_may
     g.L.Ledger.machine g.L.Ledger.shown c.self.inside.seat c.self.inside.cpu c.self.invariant
     c.args.self.now c.self.view_is c.words.inside.table.shared.table_id c.words.inside.table.shared.key c.args.words.now
     c.words.view_is c.requires.words c.args.place c.requires.place (λ n. if n == c.args.old then c.args.new else n)
-    g.P.Plan.step c.requires.step
+    (g.L.Ledger.told c.args.plan.now) c.requires.step g.P.Plan.step c.requires.planned
 
 pub invariant_of-self : goal.invariant_of-self
 invariant_of-self g c = still_worker
@@ -19,10 +17,6 @@ invariant_of-self g c = still_worker
     c.compare_exchange.ensures.2.1
 
 pub returns : goal.returns
-returns g c = subst
-    (λ pass. IfSome (g.P.Plan.step c.compare_exchange.result)
-    (λ step. MadeOne g.L.Ledger.machine (worker_of c.compare_exchange.new.seat c.self.inside.cpu) pass step))
-    c.self.view_is
-    (step_made g.L.Ledger.machine c.self.inside.seat c.compare_exchange.new.seat c.self.inside.cpu c.self.invariant
-    c.compare_exchange.ensures.0 c.compare_exchange.ensures.2.0 g.P.Plan.step c.compare_exchange.result
-    c.compare_exchange.ensures.2.1)
+returns g c = step_made g.L.Ledger.machine c.self.inside.seat c.compare_exchange.new.seat c.self.inside.cpu c.self.invariant
+    c.compare_exchange.ensures.0 c.compare_exchange.ensures.2.0 g.P.Plan.step c.compare_exchange.result c.compare_exchange.ensures.2.1
+    (g.L.Ledger.told c.args.plan.now) c.requires.planned c.args.self.now c.self.view_is
