@@ -1,4 +1,4 @@
--- All laws hold of every legal history.
+-- For other crates too: all laws hold of every legal history.
 use Rattle.std.proofs.Common.{◌++◌, ◌∙◌}
 use Rattle.vms_history.proofs.Owners.{owner_may_own}
 use Rattle.vms_history.proofs.Prefixes.{prefix_is_legal}

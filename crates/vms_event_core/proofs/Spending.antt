@@ -1,4 +1,4 @@
--- What each CPU has counted of an event: its bound, its sum over the CPUs, and who knows it.
+-- For other crates too: what each CPU has counted of an event: its bound, its sum over the CPUs, and who knows it.
 use Rattle.std.proofs.Common.{◌≡◌, ◌≢◌, ℕ, ◌+◌, ◌≤◌, ◌&&◌, Bool, true, false, [], ◌∷◌, ◌++◌, Option}
 use Rattle.std.proofs.Common.{Some, None, pos, ◌+ℤ◌, refl, ap, ◌∙◌, arith, if◌then◌else◌, nat_eq, eq-eqb, eqb-true}
 use Rattle.std.proofs.lemmas.Int.{ints}
@@ -77,7 +77,7 @@ counted-spent facts h k =
     h
 
 -- a step of another than the owner of a CPU spends nothing of it
-spent_by-others : (who : Option CpuId) (c : CpuId) (k : ℕ) (step : EventStep) → who ≢ Some c
+pub spent_by-others : (who : Option CpuId) (c : CpuId) (k : ℕ) (step : EventStep) → who ≢ Some c
     → spent_by who c.number k step ≡ 0
 spent_by-others (Some o) c k (AddE l n) other = if-never (nat_eq o.number c.number && nat_eq l.number k) n 0 (λ here.
     other (ap Some (same_cpu o c

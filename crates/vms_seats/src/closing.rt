@@ -57,7 +57,8 @@ impl<L: Ledger> Words<L> {
     pub fn close(self, mut main: Main<L>) -> Closing<L>
         requires words { IsOf main self }
         requires ended { (q : ℕ) → lives_in L.machine.role main.seen q ≡ false }
-        ensures { result ≡ record { facts = self.facts; events = main.seen } }
+        ensures history { result ≡ record { facts = self.facts; events = main.seen } }
+        ensures complete { IsComplete L.machine self.facts main.seen }
     {
         let Words { table } = self;
         let Main { mut seat } = main;

@@ -1,5 +1,8 @@
--- The goals were what the split of the witness asks of the words, and that the words show the state at the end.
-use Rattle.std.proofs.Common.{◌∙◌}
+-- The goals were what the split of the witness asks of the words, that the words show the state at the end, and that the
+-- history is complete.
+use Rattle.std.proofs.Common.{◌∙◌, subst}
+use Rattle.vms_history.specs.Legal.{IsLegal}
+use Rattle.vms_seats.specs.Passes.{Pass}
 use Rattle.std.specs.Slots.{slots_items}
 use Rattle.vms_seats.proofs.LastHistory.{close_splits, close_shows}
 use Rattle.vms_seats.proofs.words.Words.close.Goals as goal
@@ -19,3 +22,12 @@ invariant_of-result g c = (
       c.split_seat-witness.ensures.2 c.split_seat-witness.ensures.4 (slots_items c.close_with-words.result.words)
       (slots_items c.close_with-words.result.slots) c.close_with-words.ensures.values.2,
 )
+
+pub returns-clause-complete : goal.returns-clause-complete
+returns-clause-complete g c = record {
+  legal = subst (λ facts. IsLegal g.L.Ledger.machine facts c.args.main.seen) c.requires.words.facts
+      (subst
+      (λ (p : Pass g.row.L-Facts.Denot g.row.L-Step.Denot). IsLegal g.L.Ledger.machine p.facts p.seen)
+      c.main.view_is c.main.invariant.is_main.legal);
+  ended = c.requires.ended;
+}

@@ -1,0 +1,3 @@
+pub mod CopiedWords
+pub mod KnownSpending
+pub mod OwnCounts

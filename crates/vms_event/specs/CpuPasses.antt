@@ -1,0 +1,29 @@
+-- What contracts see of a pass that owns a CPU.
+use Rattle.std.specs.Prelude.{◌≡◌, ℕ, ◌≤◌, List, length, slice_index, Option, Some}
+use Rattle.vms_base.specs.declared.ids.CpuId.{CpuId}
+use Rattle.vms_event_core.specs.declared.steps.EventFacts.{EventFacts}
+use Rattle.vms_event_core.specs.declared.steps.EventStep.{EventStep}
+use Rattle.vms_event_core.specs.Events.{events, History}
+use Rattle.vms_event_core.specs.Totals.{spent, spent_by}
+use Rattle.vms_event_core.specs.Words.{IsEvent, event_count}
+use Rattle.vms_seats.specs.Passes.{Pass, IsLive}
+
+-- the pass, and what its CPU has counted of each event since the run began
+pub record CpuPass : Type 0 where
+  pub pass : Pass EventFacts EventStep
+  pub volume : List ℕ
+
+-- the volumes are those of all events, and hold all that the CPU has counted in the history
+pub record Covers (h : History) (cpu : ℕ) (volume : List ℕ) : Type 0 where
+  pub one_each : length volume ≡ event_count
+  pub spent_within : (k : ℕ) → IsEvent k → spent h cpu k ≤ slice_index volume k
+
+-- a pass that lives and owns this CPU, and volumes that cover
+pub record IsCpuPass (pass : Pass EventFacts EventStep) (cpu : CpuId) (volume : List ℕ) : Type 0 where
+  pub live : IsLive events pass
+  pub owns : pass.cpu ≡ Some cpu
+  pub covers : Covers pass.seen cpu.number volume
+
+-- a step that spends nothing of a CPU's volume, whoever makes it
+abbrev pub SpendsNothing : EventStep → Type 0
+SpendsNothing step = (who : Option CpuId) (c k : ℕ) → spent_by who c k step ≡ 0

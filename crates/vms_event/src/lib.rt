@@ -1,0 +1,10 @@
+//! The event counters as words that threads share: what each call makes is its steps of the model, whatever other threads
+//! do meanwhile.
+#![tactic(auto)]
+
+mod counting;
+mod passes;
+mod tables;
+
+pub use passes::{EventCaller, EventControl, EventPass};
+pub use tables::{EventHistory, EventMain, EventTable, SharedEvents};

@@ -1,0 +1,223 @@
+ghost use Rattle.std.specs.Prelude.{◌≡◌, ℕ, Some, None};
+ghost use Rattle.vms_event_core.specs.declared.steps.EventStep.TheVariants.{Split, Join};
+ghost use Rattle.vms_event_core.specs.Events.{events, MayOwn};
+ghost use Rattle.vms_event_core.specs.Own.{CarriesNothing};
+ghost use Rattle.vms_event_core.specs.Steps.{role};
+ghost use Rattle.vms_event.specs.CpuPasses.{Covers, SpendsNothing};
+ghost use Rattle.vms_history.specs.Events.{own};
+ghost use Rattle.vms_history.specs.Passes.{IsFree};
+ghost use Rattle.vms_seats.specs.MainSteps.{HasBegun, HasEnded};
+ghost use Rattle.vms_seats.specs.Passes.{IsLive, IsOf};
+
+use crate::tables::{EventMain, EventTable, SharedEvents};
+use std::marker::Model;
+use vms_base::{CpuId, Volume};
+use vms_event_core::EventStep;
+use vms_seats::{Words, Worker, Works};
+
+/// A pass that owns a CPU. Contracts see in it the pass and what its CPU has counted of each event since the run began.
+#[derive(Drop)]
+pub struct EventPass {
+    pub(crate) worker: Worker<SharedEvents>,
+    pub(crate) cpu: CpuId,
+    pub(crate) volume: Volume,
+}
+
+impl Model for EventPass {
+    ghost use Rattle.vms_event.specs.CpuPasses.{CpuPass, IsCpuPass};
+
+    ghost Value = { CpuPass };
+
+    ghost view = { λ p. record { pass = p.worker; volume = p.volume } };
+
+    ghost invariant = { λ p. IsCpuPass p.worker p.cpu p.volume };
+}
+
+/// The control pass.
+#[derive(Drop)]
+pub struct EventControl {
+    pub(crate) worker: Worker<SharedEvents>,
+}
+
+impl Model for EventControl {
+    ghost use Rattle.std.specs.Prelude.{◌≡◌, None};
+    ghost use Rattle.vms_event_core.specs.declared.steps.EventFacts.{EventFacts};
+    ghost use Rattle.vms_event_core.specs.declared.steps.EventStep.{EventStep};
+    ghost use Rattle.vms_event_core.specs.Events.{events};
+    ghost use Rattle.vms_seats.specs.Passes.{Pass, IsLive};
+
+    ghost Value = { Pass EventFacts EventStep };
+
+    ghost view = { λ p. p.worker };
+
+    ghost invariant = { λ p. IsLive events p.worker × (p.worker.cpu ≡ None) };
+}
+
+impl EventTable {
+    /// Begins a pass that owns a CPU, with the volumes that the CPU has by then.
+    pub fn cpu_pass(&self, main: &mut EventMain, cpu: CpuId, volume: Volume) -> EventPass
+        requires table { IsOf main.old self.now }
+        requires online { MayOwn main.old.facts (Some cpu) }
+        requires free { IsFree role main.old.seen (Some cpu) }
+        requires volume { Covers main.old.seen cpu.number volume }
+        ensures begun { HasBegun events Split main.new main.old result.pass (Some cpu) }
+        ensures volume { result.volume ≡ volume }
+    {
+        let worker = main.begin(&self.words, Some(cpu));
+        EventPass {
+            worker,
+            cpu,
+            volume,
+        }
+    }
+
+    /// Begins the control pass.
+    pub fn control_pass(&self, main: &mut EventMain) -> EventControl
+        requires table { IsOf main.old self.now }
+        requires free { IsFree role main.old.seen None }
+        ensures begun { HasBegun events Split main.new main.old result None }
+    {
+        let worker = main.begin(&self.words, None);
+        EventControl { worker }
+    }
+
+    /// Ends a pass that owns a CPU, and gives the CPU's volumes back.
+    pub fn join_cpu(&self, main: &mut EventMain, pass: EventPass) -> Volume
+        requires table { IsOf main.old self.now × IsOf pass.pass self.now }
+        requires carries { CarriesNothing (own pass.pass.seen pass.pass.number) }
+        ensures ended { HasEnded events Join main.new main.old pass.pass }
+        ensures volume { result ≡ pass.volume }
+    {
+        let EventPass {
+            worker,
+            cpu: _,
+            volume,
+        } = pass;
+        main.end(&self.words, worker);
+        volume
+    }
+
+    /// Ends the control pass.
+    pub fn join_control(&self, main: &mut EventMain, pass: EventControl)
+        requires table { IsOf main.old self.now × IsOf pass self.now }
+        requires carries { CarriesNothing (own pass.seen pass.number) }
+        ensures ended { HasEnded events Join main.new main.old pass }
+    {
+        let EventControl { worker } = pass;
+        main.end(&self.words, worker);
+    }
+}
+
+/// A pass that may look at the event counters.
+pub trait EventCaller: Works<SharedEvents> {
+    /// The CPU that the pass owns; the control pass owns none.
+    fn own(&self) -> Option<CpuId>
+        ensures cpu { result ≡ (Self.pass self.now).cpu }
+        ensures live { IsLive events (Self.pass self.now) };
+}
+
+impl EventCaller for EventPass {
+    #[inline]
+    fn own(&self) -> Option<CpuId> {
+        Some(self.cpu)
+    }
+}
+
+impl EventCaller for EventControl {
+    #[inline]
+    fn own(&self) -> Option<CpuId> {
+        let _ = &self.worker;
+        None
+    }
+}
+
+/// Steps that spend nothing of a CPU's volume.
+impl Works<SharedEvents> for EventPass {
+    ghost pass = { λ p. p.pass };
+
+    ghost Leaves = { SpendsNothing };
+
+    #[inline]
+    fn load_at(&mut self, words: &Words<SharedEvents>, place: usize, plan: &EventStep) -> u64 {
+        self.worker.load_at(words, place, plan)
+    }
+
+    #[inline]
+    fn swap_at(
+        &mut self,
+        words: &Words<SharedEvents>,
+        place: usize,
+        new: u64,
+        plan: &EventStep,
+    ) -> u64 {
+        self.worker.swap_at(words, place, new, plan)
+    }
+
+    #[inline]
+    fn add_at(
+        &mut self,
+        words: &Words<SharedEvents>,
+        place: usize,
+        amount: u64,
+        plan: &EventStep,
+    ) -> u64 {
+        self.worker.add_at(words, place, amount, plan)
+    }
+
+    #[inline]
+    fn exchange_at(
+        &mut self,
+        words: &Words<SharedEvents>,
+        place: usize,
+        old: u64,
+        new: u64,
+        plan: &EventStep,
+    ) -> u64 {
+        self.worker.exchange_at(words, place, old, new, plan)
+    }
+}
+
+impl Works<SharedEvents> for EventControl {
+    ghost pass = { λ p. p };
+
+    ghost Leaves = { λ step. Unit {0} };
+
+    #[inline]
+    fn load_at(&mut self, words: &Words<SharedEvents>, place: usize, plan: &EventStep) -> u64 {
+        self.worker.load_at(words, place, plan)
+    }
+
+    #[inline]
+    fn swap_at(
+        &mut self,
+        words: &Words<SharedEvents>,
+        place: usize,
+        new: u64,
+        plan: &EventStep,
+    ) -> u64 {
+        self.worker.swap_at(words, place, new, plan)
+    }
+
+    #[inline]
+    fn add_at(
+        &mut self,
+        words: &Words<SharedEvents>,
+        place: usize,
+        amount: u64,
+        plan: &EventStep,
+    ) -> u64 {
+        self.worker.add_at(words, place, amount, plan)
+    }
+
+    #[inline]
+    fn exchange_at(
+        &mut self,
+        words: &Words<SharedEvents>,
+        place: usize,
+        old: u64,
+        new: u64,
+        plan: &EventStep,
+    ) -> u64 {
+        self.worker.exchange_at(words, place, old, new, plan)
+    }
+}
