@@ -1,4 +1,4 @@
-ghost use Rattle.std.specs.Prelude.{◌≡◌, ◌++◌, [], map, option_map, IfOk};
+ghost use Rattle.std.specs.Prelude.{◌≡◌, ◌++◌, [], map, IfOk, Some};
 ghost use Rattle.vms_answers.specs.PhaseAnswers.{with_answer};
 ghost use Rattle.vms_answers.specs.ToldAnswers.{answer_told, numbered_told};
 ghost use Rattle.vms_plain_lines.specs.SpentAmounts.{adds as adds_by};
@@ -82,15 +82,22 @@ impl OpenReplay {
         ensures { IfOk result (λ _. TakesLine header.now (P.answers rules.now.pressure) (N.answers rules.now.normal)
             item.now self.old self.new) }
     {
-        let answer = make_line(&mut self.tables, rules, header, item.lane, item.act);
-        spend(
-            &mut self.volumes,
-            header,
-            item.lane,
-            item.act,
-            adds(&answer),
-        );
-        note(&mut self.answers, item.number, answer)
+        match make_line(&mut self.tables, rules, header, item.lane, item.act) {
+            Some(answer) => {
+                spend(
+                    &mut self.volumes,
+                    header,
+                    item.lane,
+                    item.act,
+                    adds(&answer),
+                );
+                note(&mut self.answers, item.number, answer)
+            }
+            None => {
+                spend(&mut self.volumes, header, item.lane, item.act, true);
+                Ok(())
+            }
+        }
     }
 
     /// Ends the phase. The next one begins with nothing acknowledged and nothing set.
@@ -121,27 +128,21 @@ impl OpenReplay {
 
 /// Whether an act was made that answered this: a limited addition that answered no was not.
 #[inline]
-fn adds(answer: &Option<Answer>) -> bool
-    ensures { result ≡ adds_by (option_map answer_told answer.now) }
+fn adds(answer: &Answer) -> bool
+    ensures { result ≡ adds_by (Some (answer_told answer.now)) }
 {
     match answer {
-        Some(Answer::Limited(made)) => *made,
+        Answer::Limited(made) => *made,
         _ => true,
     }
 }
 
-/// Adds the answer of the line of this number, if it has one.
+/// Adds the answer of the line of this number.
 #[inline]
-fn note(
-    answers: &mut Vec<NumberedAnswer>,
-    number: u32,
-    answer: Option<Answer>,
-) -> Result<(), Memory>
+fn note(answers: &mut Vec<NumberedAnswer>, number: u32, answer: Answer) -> Result<(), Memory>
     ensures { IfOk result (λ _. map numbered_told answers.new.items
-        ≡ map numbered_told answers.old.items ++ with_answer number (option_map answer_told answer) []) }
+        ≡ map numbered_told answers.old.items ++ with_answer number (Some (answer_told answer)) []) }
 {
-    if let Some(answer) = answer {
-        answers.push(NumberedAnswer { number, answer })?;
-    }
+    answers.push(NumberedAnswer { number, answer })?;
     Ok(())
 }
