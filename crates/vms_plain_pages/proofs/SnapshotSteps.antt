@@ -1,6 +1,6 @@
 -- The steps of a snapshot: each CPU is looked at.
-use Rattle.std.proofs.Common.{◌≡◌, ◌≢◌, ℕ, zero, suc, ◌+◌, ◌*◌, ◌/◌, ◌%◌, ◌^◌, ◌≤◌, ℤ, pos, ◌+ℤ◌, ◌≤ℤ◌, unsigned_abs}
-use Rattle.std.proofs.Common.{Bool, true, false, List, [], ◌∷◌, length, Option, if◌then◌else◌, refl, ap, sym, ◌<◌, ◌∙◌, arith}
+use Rattle.std.proofs.Common.{◌≡◌, ◌≢◌, ℕ, zero, suc, ◌+◌, ◌*◌, ◌/◌, ◌%◌, ◌^◌, ◌≤◌, ℤ, pos, ◌+ℤ◌}
+use Rattle.std.proofs.Common.{false, List, [], ◌∷◌, length, Option, if◌then◌else◌, refl, ap, sym, ◌<◌, ◌∙◌, arith}
 use Rattle.std.proofs.lemmas.Int.{ints}
 use Rattle.vms_base.specs.declared.ids.CounterId.{CounterId}
 use Rattle.vms_base.specs.declared.ids.CpuId.{CpuId}
