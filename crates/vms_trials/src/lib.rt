@@ -3,19 +3,35 @@
 #![tactic(auto)]
 
 #[cfg(test)]
+mod balance;
+#[cfg(test)]
 mod causes;
 #[cfg(test)]
+mod changes;
+#[cfg(test)]
 mod devices;
+#[cfg(test)]
+mod events;
 #[cfg(test)]
 mod faults;
 #[cfg(test)]
 mod headers;
+#[cfg(test)]
+mod hotplug;
 #[cfg(test)]
 mod lanes_of_many_cpus;
 #[cfg(test)]
 mod lanes_of_one_cpu;
 #[cfg(test)]
 mod limits;
+#[cfg(test)]
+mod marks;
+#[cfg(test)]
+mod percpu_counters;
+#[cfg(test)]
+mod pressure;
+#[cfg(test)]
+mod refusals;
 #[cfg(test)]
 mod reports;
 #[cfg(test)]
@@ -26,3 +42,5 @@ mod spelled;
 mod texts;
 #[cfg(test)]
 mod usage;
+#[cfg(test)]
+mod watermarks;

@@ -33,3 +33,92 @@ event pgactivate 0
 event pgdeactivate 0
 event pgfault 0
 ";
+
+/// The header of two CPUs, a zone and a percpu counter: seven lines.
+pub const LANES: &str = "vmtrace 1
+cpus 2
+zone 0 Normal 262144 100 125 150
+base 0 Normal nr_free_pages 10000
+base 0 node nr_file_pages 500
+counter files 32
+go
+";
+
+/// A phase of the two CPUs of `LANES`, and the line that ends it: 20 lines.
+pub const FIRST_PHASE: &str = "c0 mod 0 Normal nr_free_pages -32
+c0 mod 0 node nr_file_pages 32
+c0 ev pgpgin 64
+c0 ev pgfault 3
+c1 mod 0 Normal nr_free_pages -8
+c1 mod 0 node nr_anon_pages 8
+c1 ev pgfault 2
+c1 inc 0 Normal nr_mlock
+c0 inc 0 node nr_dirty
+c0 inc 0 node nr_dirty
+c1 dec 0 node nr_dirty
+c0 cnt files 5
+c1 cnt files 40
+c0 ok 0 Normal high 2
+c0 snap 0 Normal nr_free_pages
+c1 sum files
+c1 cmp files 30
+k pressure 0
+c0 mod 0 Normal nr_free_pages -13
+sync
+";
+
+/// What is written of `FIRST_PHASE` after `LANES`.
+pub const FIRST_ANSWERS: &str = "line 21: yes free 9968 fast
+line 22: snapshot 9960
+line 23: sum 45
+line 24: compare 1 sum
+";
+
+/// The phase after `FIRST_PHASE`, with a report and a flush: eleven lines.
+pub const SECOND_PHASE: &str = "c0 mod 0 Normal nr_free_pages 10
+c1 mod 0 Normal nr_free_pages -4
+c1 lim files 100 20
+c0 lim files 100 56
+c0 val 0 Normal nr_free_pages
+c0 sys nr_free_pages
+c1 evsum pgfault
+c0 fold 1
+k normal 0
+report totals
+flush
+";
+
+/// What is written of `SECOND_PHASE` after `FIRST_PHASE`, where nothing follows.
+pub const SECOND_ANSWERS: &str = "line 30: limited yes
+line 31: limited no
+line 32: value 9955
+line 33: system 9955
+line 34: events 5
+line 37: report totals
+0 Normal nr_free_pages 9953
+0 Normal nr_zone_inactive_anon 0
+0 Normal nr_zone_active_anon 0
+0 Normal nr_zone_inactive_file 0
+0 Normal nr_zone_active_file 0
+0 Normal nr_zone_unevictable 0
+0 Normal nr_zone_write_pending 0
+0 Normal nr_mlock 1
+0 node nr_inactive_anon 0
+0 node nr_active_anon 0
+0 node nr_inactive_file 0
+0 node nr_active_file 0
+0 node nr_unevictable 0
+0 node nr_anon_pages 8
+0 node nr_file_pages 532
+0 node nr_dirty 1
+event pgpgin 64
+event pgpgout 0
+event pswpin 0
+event pswpout 0
+event pgfree 0
+event pgactivate 0
+event pgdeactivate 0
+event pgfault 5
+counter files 65
+done accepted 31 refused 0
+";
