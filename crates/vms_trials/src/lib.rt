@@ -13,6 +13,10 @@ mod devices;
 #[cfg(test)]
 mod events;
 #[cfg(test)]
+mod failed_reads;
+#[cfg(test)]
+mod failing_calls;
+#[cfg(test)]
 mod faults;
 #[cfg(test)]
 mod headers;

@@ -176,3 +176,61 @@ fn nothing_is_judged_past_a_limit(rt: HostRuntime) -> Result<(), Fail> {
     }
     Ok(())
 }
+
+/// A text that exceeds a limit: what stands after `HEADER`, a line that follows so often, and what stands last.
+struct Excess<'a> {
+    name: &'a str,
+    front: &'a str,
+    line: &'a str,
+    count: usize,
+    back: &'a str,
+    /// What `replay` writes of the lines above the one that exceeds the limit.
+    output: &'a str,
+}
+
+static EXCESSES: [Excess<'static>; 3] = [
+    Excess {
+        name: "the lane line that opens the phase 10,001",
+        front: "c9 fold 0\nk val 0 Normal nr_mlock\nsync\n",
+        line: "k fold 0\nsync\n",
+        count: 9999,
+        back: "c9 fold 0\nk val 0 Normal nr_mlock\nc9 fold 0\n",
+        output: "line 6: refused: UnknownLane\nline 7: value 0\nline 20007: refused: UnknownLane\n",
+    },
+    Excess {
+        name: "the line 1,000,001, in a phase that is open",
+        front: "c9 fold 0\nsync\nc9 fold 1\nk val 0 Normal nr_mlock\nc9 fold 0\n",
+        line: "\n",
+        count: 999990,
+        back: "c9 fold 0\n",
+        output: "line 6: refused: UnknownLane\nline 8: refused: UnknownLane\n",
+    },
+    Excess {
+        name: "a byte more than 64 MiB, in a phase that is open",
+        front: "k val 0 Normal nr_mlock\nsync\nc9 fold 0\nk val 0 Normal nr_mlock\nc9 fold 0\n",
+        line: "# A remark, which a command has to read to its end before it can leave it out.\n",
+        count: 849480,
+        back: "",
+        output: "line 6: value 0\nline 8: refused: UnknownLane\n",
+    },
+];
+
+/// Whether this is what `replay` writes of such a text.
+fn is_written(alloc: Global, excess: &Excess<'_>) -> Result<bool, Memory> {
+    let mut text = Vec::from_slice(alloc, HEADER.as_bytes())?;
+    text.extend_from_slice(excess.front.as_bytes())?;
+    for _ in 0..excess.count {
+        text.extend_from_slice(excess.line.as_bytes())?;
+    }
+    text.extend_from_slice(excess.back.as_bytes())?;
+    let (found, _src, out) = run(alloc, &["replay"], text.as_slice(), SOUND)?;
+    Ok(found == Status::TooLong && out.bytes() == excess.output.as_bytes())
+}
+
+#[test]
+fn what_stands_above_a_limit_is_written(rt: HostRuntime) -> Result<(), Fail> {
+    for excess in &EXCESSES {
+        assert!(rt; is_written(rt.alloc(), excess)?, "{}", excess.name);
+    }
+    Ok(())
+}
