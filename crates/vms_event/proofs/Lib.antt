@@ -1,3 +1,4 @@
 pub mod CopiedWords
 pub mod KnownSpending
 pub mod OwnCounts
+pub mod LoadedWords

@@ -1,8 +1,10 @@
 -- What contracts see of a pass that owns a CPU.
-use Rattle.std.specs.Prelude.{◌≡◌, ℕ, ◌≤◌, List, length, slice_index, Option, Some}
+use Rattle.std.specs.Prelude.{◌≡◌, ℕ, ◌≤◌, List, length, slice_index, Option, Some, None, refl}
 use Rattle.vms_base.specs.declared.ids.CpuId.{CpuId}
+use Rattle.vms_base.specs.declared.ids.EventId.{EventId}
 use Rattle.vms_event_core.specs.declared.steps.EventFacts.{EventFacts}
 use Rattle.vms_event_core.specs.declared.steps.EventStep.{EventStep}
+use Rattle.vms_event_core.specs.declared.steps.EventStep.TheVariants.{LoadE}
 use Rattle.vms_event_core.specs.Events.{events, History}
 use Rattle.vms_event_core.specs.Totals.{spent, spent_by}
 use Rattle.vms_event_core.specs.Words.{IsEvent, event_count}
@@ -27,3 +29,7 @@ pub record IsCpuPass (pass : Pass EventFacts EventStep) (cpu : CpuId) (volume : 
 -- a step that spends nothing of a CPU's volume, whoever makes it
 abbrev pub SpendsNothing : EventStep → Type 0
 SpendsNothing step = (who : Option CpuId) (c k : ℕ) → spent_by who c k step ≡ 0
+
+pub loads-spend_nothing : (c : CpuId) (k : EventId) (v : ℕ) → SpendsNothing (LoadE c k v)
+loads-spend_nothing c k v (Some d) e l = refl
+loads-spend_nothing c k v None e l = refl

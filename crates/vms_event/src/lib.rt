@@ -4,6 +4,7 @@
 
 mod counting;
 mod passes;
+mod summing;
 mod tables;
 
 pub use passes::{EventCaller, EventControl, EventPass};

@@ -1,5 +1,7 @@
 ghost use Rattle.std.specs.Prelude.{◌≡◌, ℕ, Some, None};
-ghost use Rattle.vms_event_core.specs.declared.steps.EventStep.TheVariants.{Split, Join};
+ghost use Rattle.vms_base.specs.declared.ids.CpuId.{CpuId};
+ghost use Rattle.vms_base.specs.declared.ids.EventId.{EventId};
+ghost use Rattle.vms_event_core.specs.declared.steps.EventStep.TheVariants.{LoadE, Split, Join};
 ghost use Rattle.vms_event_core.specs.Events.{events, MayOwn};
 ghost use Rattle.vms_event_core.specs.Own.{CarriesNothing};
 ghost use Rattle.vms_event_core.specs.Steps.{role};
@@ -114,9 +116,16 @@ pub trait EventCaller: Works<SharedEvents> {
     fn own(&self) -> Option<CpuId>
         ensures cpu { result ≡ (Self.pass self.now).cpu }
         ensures live { IsLive events (Self.pass self.now) };
+
+    // A load changes nothing that it keeps.
+    ghost loads_leave: { (c : CpuId) (k : EventId) (v : ℕ) → Self.Works.Leaves (LoadE c k v) };
 }
 
 impl EventCaller for EventPass {
+    ghost use Rattle.vms_event.specs.CpuPasses.{loads-spend_nothing};
+
+    ghost loads_leave = { loads-spend_nothing };
+
     #[inline]
     fn own(&self) -> Option<CpuId> {
         Some(self.cpu)
@@ -124,6 +133,8 @@ impl EventCaller for EventPass {
 }
 
 impl EventCaller for EventControl {
+    ghost loads_leave = { λ c k v. tt };
+
     #[inline]
     fn own(&self) -> Option<CpuId> {
         let _ = &self.worker;

@@ -1,0 +1,6 @@
+use Rattle.vms_event.proofs.LoadedWords.{SoFar}
+use Rattle.vms_event.proofs.tables.EventTable.all_events.Given as goal
+
+abbrev pub invariant-loop-number : goal.invariant-loop-number
+invariant-loop-number g l =
+    SoFar l.self.facts l.event (g.P.Works.pass l.pass) (g.P.Works.pass l.fn.pass) l.number l.sum

@@ -1,0 +1,64 @@
+ghost use Rattle.std.specs.Prelude.{◌≡◌, ℕ, List};
+ghost use Rattle.vms_base.specs.Cpus.{is_online as tells_online};
+ghost use Rattle.vms_base.specs.Places.{IsCpu};
+ghost use Rattle.vms_event_core.specs.declared.steps.EventStep.{EventStep};
+ghost use Rattle.vms_event_core.specs.declared.steps.EventStep.TheVariants.{LoadE};
+ghost use Rattle.vms_event_core.specs.Calls.{IsAllEvents, online_cpus};
+ghost use Rattle.vms_event_core.specs.Events.{events};
+ghost use Rattle.vms_event_core.specs.Words.{IsEvent};
+ghost use Rattle.vms_seats.specs.Passes.{IsOf};
+ghost use Rattle.vms_seats.specs.Steps.{Made, MadeOne};
+
+use crate::counting::place;
+use crate::passes::EventCaller;
+use crate::tables::EventTable;
+use vms_base::{CpuId, CpuState, EventId};
+use vms_event_core::EventStep;
+
+impl EventTable {
+    /// What the CPUs that are online have counted of an event (`all_vm_events` of mm/vmstat.c), each word as it is when it
+    /// is loaded.
+    pub fn all_events<P: EventCaller>(&self, pass: &mut P, event: EventId) -> u64
+        requires table { IsOf (P.pass pass.old) self.now }
+        requires event { IsEvent event.number }
+        ensures { (found : List ℕ) × (steps : List EventStep)
+            × IsAllEvents (online_cpus self.now.facts) event found steps result
+            × Made events (P.pass pass.new) (P.pass pass.old) steps }
+    {
+        let _ = pass.own();
+        let mut sum = 0;
+        for (number, state) in self.facts.cpus.as_slice().iter().enumerate() {
+            let cpu = CpuId {
+                number: number as u32,
+            };
+            if is_online(*state) {
+                sum += self.load_word(pass, cpu, event);
+            }
+        }
+        sum
+    }
+
+    #[inline]
+    fn load_word<P: EventCaller>(&self, pass: &mut P, cpu: CpuId, event: EventId) -> u64
+        requires table { IsOf (P.pass pass.old) self.now }
+        requires cpu { IsCpu self.now.facts.layout cpu.number }
+        requires event { IsEvent event.number }
+        ensures { MadeOne events (P.pass pass.new) (P.pass pass.old) (LoadE cpu event result) }
+    {
+        pass.load_at(
+            &self.words,
+            place(cpu, event),
+            &EventStep::LoadE(cpu, event, 0),
+        )
+    }
+}
+
+#[inline]
+fn is_online(state: CpuState) -> bool
+    ensures { result ≡ tells_online state }
+{
+    match state {
+        CpuState::Online => true,
+        CpuState::Dead | CpuState::Absent => false,
+    }
+}
