@@ -1,5 +1,6 @@
 -- A pass may load any word, and what its loads of one event found.
-use Rattle.std.proofs.Common.{◌≡◌, ℕ, zero, suc, ◌<◌, ◌≤◌, ◌+◌, ◌^◌, true, false, List, [], ◌∷◌, ◌++◌, length, drop, replicate, get_or}
+use Rattle.std.proofs.Common.{◌≡◌, ℕ, zero, suc, ◌<◌, ◌≤◌, ◌+◌, ◌^◌, true, false, List, [], ◌∷◌, ◌++◌, length, drop}
+use Rattle.std.proofs.Common.{replicate, get_or}
 use Rattle.std.proofs.Common.{Option, Some, None, slice_set, refl, ap, sym, ◌∙◌, subst, arith}
 use Rattle.std.proofs.Common.{append_assoc, append-nil, length-append}
 use Rattle.std.specs.Prelude.{sum}
@@ -207,7 +208,8 @@ module _ (facts : EventFacts) (k : EventId) (k_in : IsEvent k.number) (now old :
       made = subst (Made events new old) (sym (loads-more k so_far.cpus so_far.found c v so_far.same))
           (calls-next events new now old (loads k so_far.cpus so_far.found) (LoadE c k v) one so_far.made);
       adds = omega (arith, so_far.adds, sum-more so_far.found v);
-      most = most-more k (state_after facts new.seen) so_far.cpus so_far.found c v so_far.same grown (omega (arith, stands));
+      most = most-more k (state_after facts new.seen) so_far.cpus so_far.found c v so_far.same grown
+          (omega (arith, stands));
     }
       where
         c : CpuId

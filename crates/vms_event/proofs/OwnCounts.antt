@@ -1,6 +1,7 @@
 -- A pass may count on its own CPU, and its volumes cover what it has counted.
 use Rattle.std.proofs.Common.{◌≡◌, ℕ, ◌<◌, ◌≤◌, ◌+◌, ◌%◌, ◌^◌, Bool, true, false, nat_eq, ◌&&◌, List, [], ◌∷◌, length}
-use Rattle.std.proofs.Common.{slice_index, slice_set, Some, if◌then◌else◌, refl, ap, sym, ◌∙◌, subst, arith, eq-eqb, eqb-true}
+use Rattle.std.proofs.Common.{slice_index, slice_set, Some, if◌then◌else◌, refl, ap, sym, ◌∙◌, subst, arith, eq-eqb}
+use Rattle.std.proofs.Common.{eqb-true}
 use Rattle.std.proofs.Common.{get_or-set_same, get_or-set_other, length-set}
 use Rattle.std.proofs.lemmas.Bool.{eqb-false}
 use Rattle.std.proofs.lemmas.Nat.{mod-mul-add, mul-add-lt}

@@ -1,4 +1,5 @@
-ghost use Rattle.std.specs.Prelude.{◌≡◌, ◌+◌, ◌<◌, ◌≤◌, ◌↔◌, [], ◌∷◌, slice_index, slice_set, IsErr, OnOk, OnErr, IfErr};
+ghost use Rattle.std.specs.Prelude.{◌≡◌, ◌+◌, ◌<◌, ◌≤◌, ◌↔◌, [], ◌∷◌, slice_index, slice_set};
+ghost use Rattle.std.specs.Prelude.{IsErr, OnOk, OnErr, IfErr};
 ghost use Rattle.vms_base.specs.Volumes.{most_volume};
 ghost use Rattle.vms_event_core.specs.declared.steps.EventStep.TheVariants.{AddE};
 ghost use Rattle.vms_event_core.specs.Events.{events};

@@ -1,5 +1,5 @@
-//! The event counters as words that threads share: what each call makes is its steps of the model, whatever other threads
-//! do meanwhile.
+//! The event counters as words that threads share: what each call makes is its steps of the model, whatever other
+//! threads do meanwhile.
 #![tactic(auto)]
 
 mod counting;

@@ -16,8 +16,8 @@ use vms_base::{CpuId, CpuState, EventId};
 use vms_event_core::EventStep;
 
 impl EventTable {
-    /// What the CPUs that are online have counted of an event (`all_vm_events` of mm/vmstat.c), each word as it is when it
-    /// is loaded.
+    /// What the CPUs that are online have counted of an event (`all_vm_events` of mm/vmstat.c), each word as it is when
+    /// it is loaded.
     pub fn all_events<P: EventCaller>(&self, pass: &mut P, event: EventId) -> u64
         requires table { IsOf (P.pass pass.old) self.now }
         requires event { IsEvent event.number }

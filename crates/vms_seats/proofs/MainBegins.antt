@@ -52,7 +52,8 @@ module _ {F K S : Type 0} (machine : Machine F K S) (shown : F → S → List �
           (λ n. n) (λ found w. (w.1 ≡ seat.me.1) × Divides machine begins picked seat.me.0 w.0))
           facts_are
           (main_may_begin machine shown quiet seat main table.slots begins begins_it picked
-          (subst (λ p. MayBeginPass machine p picked) (sym is) (subst (MayBeginPass machine pass) (sym picked_is) may))),
+          (subst (λ p. MayBeginPass machine p picked) (sym is)
+          (subst (MayBeginPass machine pass) (sym picked_is) may))),
     )
 
     -- once the seat acts for both

@@ -97,7 +97,8 @@ module _ {F K S : Type 0} (machine : Machine F K S) (shown : F → S → List �
 -- the main pass ends the pass for which its seat acts too
 module _ {F K S : Type 0} (machine : Machine F K S) (shown : F → S → List ℕ) (quiet : IsQuiet machine)
     (v : View F K) (a b : Held K) (main : a.number ≡ 0) (worker : b.number ≢ 0)
-    (ends : ℕ → K) (ends_it : (q : ℕ) → machine.role (ends q) ≡ Ends q) (may_end : machine.MayEnd v.facts (own b.seen b.number)) where
+    (ends : ℕ → K) (ends_it : (q : ℕ) → machine.role (ends q) ≡ Ends q)
+    (may_end : machine.MayEnd v.facts (own b.seen b.number)) where
   module _ (id : ℕ) (words : List ℕ) (views : List (View F K)) (kept : Keeps machine shown v.facts words views)
       (at : get_elem? views id ≡ some (holding v (a ∷ b ∷ []))) where
     abbrev two : View F K

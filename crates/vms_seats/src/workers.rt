@@ -41,8 +41,8 @@ impl<L: Ledger> Worker<L> {
     }
 }
 
-/// A pass that makes single steps on the words of one kind of table. A call names the step that it plans; the step that it
-/// makes is this one with the number that was found.
+/// A pass that makes single steps on the words of one kind of table. A call names the step that it plans; the step that
+/// it makes is this one with the number that was found.
 pub trait Works<L: Ledger> {
     // The pass that it is.
     ghost pass: { Self → Pass L.Facts L.Step };
@@ -85,7 +85,8 @@ pub trait Works<L: Ledger> {
     ) -> u64
         requires words { IsOf (pass self.old) words.now }
         requires place { place < words.now.table.words }
-        requires step { MayStep L.machine L.shown (pass self.old) place (λ n. if n == old then new else n) (L.told plan.now) }
+        requires step { MayStep L.machine L.shown (pass self.old) place
+            (λ n. if n == old then new else n) (L.told plan.now) }
         requires leaves { (n : ℕ) → Leaves (L.told plan.now n) }
         ensures { MadeOne L.machine (pass self.new) (pass self.old) (L.told plan.now result) };
 }

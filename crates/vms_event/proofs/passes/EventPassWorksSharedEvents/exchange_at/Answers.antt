@@ -15,4 +15,5 @@ exchange_at-requires-clause-step c = subst
 
 pub invariant_of-self : goal.invariant_of-self
 invariant_of-self c = covers-left c.self.inside.worker c.self.inside.cpu c.self.inside.volume c.self.invariant
-    c.exchange_at.new.self (told c.args.plan.now c.exchange_at.result) (c.requires.leaves c.exchange_at.result) c.exchange_at.ensures
+    c.exchange_at.new.self (told c.args.plan.now c.exchange_at.result) (c.requires.leaves c.exchange_at.result)
+    c.exchange_at.ensures

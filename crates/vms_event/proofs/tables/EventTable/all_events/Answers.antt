@@ -8,7 +8,8 @@ use Rattle.vms_event.proofs.tables.EventTable.all_events.Goals.{then-is_online, 
 use Rattle.vms_event.proofs.tables.EventTable.all_events.Goals as goal
 
 pub loop-number-init : goal.loop-number-init
-loop-number-init g c = so_far-none c.args.self.now.facts c.args.event (g.P.Works.pass c.args.pass.now) c.own.ensures.live
+loop-number-init g c =
+    so_far-none c.args.self.now.facts c.args.event (g.P.Works.pass c.args.pass.now) c.own.ensures.live
 
 pub overflow_add-sum : goal.overflow_add-sum
 overflow_add-sum g c =

@@ -14,7 +14,8 @@ write_words-requires c =
     let legal = c.close-closing.ensures.complete.legal in
     let room = subst (λ (s : Shared EventFacts). length c.args.into.now.words ≡ length s.facts.base.words)
     (sym c.self.view_is) c.requires.room in
-    subst (λ (p : Phase EventFacts EventStep). length c.args.into.now.words ≡ length (state_after p.facts p.events).words)
+    subst
+    (λ (p : Phase EventFacts EventStep). length c.args.into.now.words ≡ length (state_after p.facts p.events).words)
     (sym c.close-closing.ensures.history)
     (room ∙ (base_can_begin events facts c.args.main.seen legal).shaped
     ∙ sym (HasShape-state_after facts c.args.main.seen legal))

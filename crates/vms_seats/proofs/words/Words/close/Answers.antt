@@ -1,5 +1,5 @@
--- The goals were what the split of the witness asks of the words, that the words show the state at the end, and that the
--- history is complete.
+-- The goals were what the split of the witness asks of the words, that the words show the state at the end, and that
+-- the history is complete.
 use Rattle.std.proofs.Common.{◌∙◌, subst}
 use Rattle.vms_history.specs.Legal.{IsLegal}
 use Rattle.vms_seats.specs.Passes.{Pass}

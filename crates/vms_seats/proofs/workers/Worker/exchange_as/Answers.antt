@@ -17,6 +17,8 @@ invariant_of-self g c = still_worker
     c.compare_exchange.ensures.2.1
 
 pub returns : goal.returns
-returns g c = step_made g.L.Ledger.machine c.self.inside.seat c.compare_exchange.new.seat c.self.inside.cpu c.self.invariant
-    c.compare_exchange.ensures.0 c.compare_exchange.ensures.2.0 g.P.Plan.step c.compare_exchange.result c.compare_exchange.ensures.2.1
+returns g c = step_made
+    g.L.Ledger.machine c.self.inside.seat c.compare_exchange.new.seat c.self.inside.cpu c.self.invariant
+    c.compare_exchange.ensures.0 c.compare_exchange.ensures.2.0 g.P.Plan.step c.compare_exchange.result
+    c.compare_exchange.ensures.2.1
     (g.L.Ledger.told c.args.plan.now) c.requires.planned c.args.self.now c.self.view_is
