@@ -1,0 +1,36 @@
+-- A pass of a table knows the table's layout, and so where its words stand.
+use Rattle.std.proofs.Common.{◌≡◌, ℕ, ap, sym, ◌∙◌, subst}
+use Rattle.vms_base.specs.Places.{Shape}
+use Rattle.vms_seats.specs.Passes.{Pass, Shared, IsOf}
+use Rattle.vms_seats.specs.Steps.{MayStep}
+use Rattle.vms_core.specs.declared.steps.Facts.{Facts}
+use Rattle.vms_core.specs.declared.steps.Step.{Step}
+use Rattle.vms_core.specs.Pages.{pages}
+use Rattle.vms_words.specs.declared.spots.Blocks.{Blocks}
+use Rattle.vms_words.specs.declared.spots.Spot.{Spot}
+use Rattle.vms_words.specs.PageTables.{AreFor}
+use Rattle.vms_words.specs.Shown.{shown}
+use Rattle.vms_words.specs.Spots.{blocks_of, place_in}
+
+module _ (facts : Facts) (blocks : Blocks) (words table : Shared Facts) (pass : Pass Facts Step)
+    (are : AreFor facts blocks words) (is : words ≡ table) (of : IsOf pass table) where
+  of-facts : facts ≡ pass.facts
+  of-facts = sym are.same ∙ ap (λ (w : Shared Facts). w.facts) is ∙ sym of.facts
+
+  -- a step may be made at the place of a word
+  pub may-at : (spot : Spot) (place : ℕ) → place ≡ place_in blocks spot → (change : ℕ → ℕ) (plan : ℕ → Step)
+      → MayStep pages shown pass (place_in (blocks_of pass.facts.layout) spot) change plan
+      → MayStep pages shown pass place change plan
+  may-at spot place at change plan may =
+      subst (λ n. MayStep pages shown pass n change plan)
+      (sym (at ∙ ap (λ (b : Blocks). place_in b spot)
+      (are.laid ∙ ap (λ (f : Facts). blocks_of f.layout) of-facts)))
+      may
+
+  -- what is known of the table's layout is known of the pass's
+  pub known-of : (Known : Shape → Type 0) → Known table.facts.layout → Known pass.facts.layout
+  known-of Known known = subst (λ (f : Facts). Known f.layout) (sym of.facts) known
+
+  -- and the other way, of the facts for which the words were made
+  pub known-in : (Known : Shape → Type 0) → Known pass.facts.layout → Known facts.layout
+  known-in Known known = subst (λ (f : Facts). Known f.layout) (sym of-facts) known

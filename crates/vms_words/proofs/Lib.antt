@@ -1,0 +1,12 @@
+pub mod Blocks
+pub mod Places
+pub mod GroupBytes
+pub mod GroupWords
+pub mod Begun
+pub mod ShownWords
+pub mod Volumes
+pub mod LoadSteps
+pub mod Numbers
+pub mod InTables
+pub mod Filled
+pub mod LastStates

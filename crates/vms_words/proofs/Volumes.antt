@@ -1,0 +1,41 @@
+-- Volumes hold what a CPU has spent, after a step that spends nothing.
+use Rattle.std.proofs.Common.{◌≡◌, ℕ, List, [], ◌∷◌, Option, Some, None, refl, sym, ap, ◌∙◌, subst, arith}
+use Rattle.vms_base.specs.declared.ids.CpuId.{CpuId}
+use Rattle.vms_history.specs.Passes.{owner_in}
+use Rattle.vms_seats.specs.Passes.{Pass}
+use Rattle.vms_seats.specs.Steps.{MadeOne}
+use Rattle.vms_seats.proofs.MadeCalls.{calls-live}
+use Rattle.vms_core.specs.declared.steps.Facts.{Facts}
+use Rattle.vms_core.specs.declared.steps.Step.{Step}
+use Rattle.vms_core.specs.declared.steps.Step.TheVariants.{Put}
+use Rattle.vms_core.specs.Pages.{pages}
+use Rattle.vms_core.specs.Steps.{role}
+use Rattle.vms_core.specs.Totals.{spent, spent_by}
+use Rattle.vms_core.proofs.KnowledgeKept.{OwnerKnows-holds}
+use Rattle.vms_words.specs.PagePasses.{HoldsSpending, IsOwningPass, SpendsNothing}
+
+spent_by-nothing : (who : Option CpuId) (c k : ℕ) (step : Step) → SpendsNothing step → spent_by who c k step ≡ 0
+spent_by-nothing None c k step nothing = refl
+spent_by-nothing (Some d) c k (Put l w t delta how) nothing = absurd nothing
+spent_by-nothing (Some d) c k _ nothing = refl
+
+module _ (new old : Pass Facts Step) (cpu : CpuId) (volume : List ℕ) (step : Step)
+    (owning : IsOwningPass old cpu volume) (made : MadeOne pages new old step) (nothing : SpendsNothing step) where
+  spent-same : (k : ℕ) → spent new.seen cpu.number k ≡ spent old.seen cpu.number k
+  spent-same k =
+      let before = made.at.before in
+      let none = spent_by-nothing (owner_in role before old.number) cpu.number k step nothing in
+      let was = (OwnerKnows-holds old.facts before old.seen old.number cpu made.at.others
+      (owning.live.owner ∙ owning.owns)).volumes k in
+      ap (λ h. spent h cpu.number k) made.at.newest ∙ omega (arith, none, was)
+
+  pub owning-step : IsOwningPass new cpu volume
+  owning-step = record {
+    live = calls-live pages new old (step ∷ []) owning.live made.all;
+    owns = made.all.cpu ∙ owning.owns;
+    holds = subst (λ facts. HoldsSpending facts.layout new.seen cpu.number volume) (sym made.all.facts) (record {
+      one_each = owning.holds.one_each;
+      spent_within = λ k known. rw (spent-same k) (owning.holds.spent_within k known);
+      most = owning.holds.most;
+    });
+  }

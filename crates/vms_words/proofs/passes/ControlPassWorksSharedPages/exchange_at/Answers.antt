@@ -1,0 +1,16 @@
+-- The goal was that the pass may make the step.
+use Rattle.std.proofs.Common.{◌==◌, if◌then◌else◌, sym, subst}
+use Rattle.vms_core.specs.declared.steps.Facts.{Facts}
+use Rattle.vms_core.specs.declared.steps.Step.{Step}
+use Rattle.vms_core.specs.Pages.{pages}
+use Rattle.vms_seats.specs.Passes.{Pass}
+use Rattle.vms_seats.specs.Steps.{MayStep}
+use Rattle.vms_words.specs.Shown.{shown}
+use Rattle.vms_words.specs.Told.{told}
+use Rattle.vms_words.proofs.passes.ControlPassWorksSharedPages.exchange_at.Goals as goal
+
+pub exchange_at-requires-clause-step : goal.exchange_at-requires-clause-step
+exchange_at-requires-clause-step c = subst
+    (λ (p : Pass Facts Step). MayStep pages shown p c.args.place
+    (λ n. if n == c.args.old then c.args.new else n) (told c.args.plan.now))
+    (sym c.self.view_is) c.requires.step

@@ -1,0 +1,19 @@
+-- The goals were that the pass may make the step, and that the volumes still hold what its CPU spent.
+use Rattle.std.proofs.Common.{◌+◌, ◌%◌, ◌^◌, sym, subst}
+use Rattle.vms_core.specs.Pages.{pages}
+use Rattle.vms_seats.specs.Steps.{MayStep}
+use Rattle.vms_words.specs.PagePasses.{OwningPass}
+use Rattle.vms_words.specs.Shown.{shown}
+use Rattle.vms_words.specs.Told.{told}
+use Rattle.vms_words.proofs.Volumes.{owning-step}
+use Rattle.vms_words.proofs.passes.CpuPassWorksSharedPages.add_at.Goals as goal
+
+pub add_at-requires-clause-step : goal.add_at-requires-clause-step
+add_at-requires-clause-step c = subst
+    (λ (p : OwningPass). MayStep pages shown p.pass c.args.place (λ n. (n + c.args.amount) % 2 ^ 64)
+    (told c.args.plan.now))
+    (sym c.self.view_is) c.requires.step
+
+pub invariant_of-self : goal.invariant_of-self
+invariant_of-self c = owning-step c.add_at.new.self c.self.inside.worker c.self.inside.cpu c.self.inside.volume
+    (told c.args.plan.now c.add_at.result) c.self.invariant c.add_at.ensures (c.requires.leaves c.add_at.result)

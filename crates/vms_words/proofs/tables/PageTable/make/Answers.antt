@@ -1,0 +1,42 @@
+-- The goals were that the words show the state at the start, that there are some, and that they stand in their blocks.
+use Rattle.std.proofs.Common.{◌≡◌, ◌<◌, ◌∙◌, sym, ap, subst}
+use Rattle.vms_base.specs.Places.{IsLayout}
+use Rattle.vms_core.specs.Bases.{IsBase}
+use Rattle.vms_calls.specs.HeaderFacts.{facts_of}
+use Rattle.vms_words.specs.declared.spots.Blocks.{Blocks}
+use Rattle.vms_words.proofs.ShownWords.{words-shown, length-words, some-words}
+use Rattle.vms_words.proofs.tables.PageTable.make.Goals as goal
+
+pub make-requires-clause-shown : goal.make-requires-clause-shown
+make-requires-clause-shown c = words-shown
+    (record { layout = c.copied.result; sizes = c.in_ok-from_slice.field-0; base = c.in_ok-copied.field-0 })
+    c.in_ok-copied.field-0 c.of-blocks.result c.as_slice-2.result.now c.of-blocks.ensures
+    (c.as_slice-2.ensures.value ∙ c.in_ok-first.ensures)
+
+pub make-requires-clause-some : goal.make-requires-clause-some
+make-requires-clause-some c =
+    subst (λ n. 0 < n)
+    (sym (length-words c.in_ok-copied.field-0 c.of-blocks.result c.as_slice-2.result.now
+    (c.as_slice-2.ensures.value ∙ c.in_ok-first.ensures)
+    ∙ ap (λ (b : Blocks). b.end) c.of-blocks.ensures))
+    (some-words
+    (record { layout = c.copied.result; sizes = c.in_ok-from_slice.field-0; base = c.in_ok-copied.field-0 })
+    (subst IsLayout (sym c.copied.ensures) c.requires.layout))
+
+pub invariant_of-result : goal.invariant_of-result
+invariant_of-result c = record {
+  base = subst IsBase same_facts c.requires;
+  same = c.in_ok-words.ensures.words.0;
+  laid = c.of-blocks.ensures;
+  count = c.in_ok-words.ensures.words.1
+      ∙ length-words c.in_ok-copied.field-0 c.of-blocks.result c.as_slice-2.result.now
+      (c.as_slice-2.ensures.value ∙ c.in_ok-first.ensures);
+}
+  where
+    same_facts : facts_of c.args.header.now c.args.base.now
+        ≡ record { layout = c.copied.result; sizes = c.in_ok-from_slice.field-0; base = c.in_ok-copied.field-0 }
+    same_facts i = record {
+      layout = sym c.copied.ensures i;
+      sizes = sym (c.in_ok-from_slice.ensures ∙ c.as_slice.ensures) i;
+      base = sym c.in_ok-copied.ensures i;
+    }

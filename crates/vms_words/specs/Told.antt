@@ -1,0 +1,37 @@
+-- What words tell of a state, and which step a call makes that finds a number.
+use Rattle.std.specs.Prelude.{◌≡◌, ℕ, suc, zero, ◌/◌, ◌%◌, ◌^◌, Option, Some, None, refl}
+use Rattle.vms_base.specs.declared.ids.CpuId.{CpuId}
+use Rattle.vms_base.specs.declared.kinds.CpuState.{CpuState}
+use Rattle.vms_base.specs.declared.kinds.CpuState.TheVariants.{Online, Dead, Absent}
+use Rattle.vms_base.specs.Numbers.{number_of}
+use Rattle.vms_history.specs.Passes.Role.{Begins, Ends}
+use Rattle.vms_core.specs.declared.steps.Step.{Step}
+use Rattle.vms_core.specs.declared.steps.Step.TheVariants.{LoadT, LoadG, LoadS, LoadM, LoadO, LoadA, Split, Join}
+use Rattle.vms_core.specs.Steps.{role}
+
+-- the state of a CPU
+abbrev pub cpu_told : ℕ → CpuState
+cpu_told zero = Online
+cpu_told (suc zero) = Dead
+cpu_told (suc (suc n)) = Absent
+
+-- the number that was acknowledged
+abbrev pub acknowledgement_told : ℕ → Option ℕ
+acknowledgement_told zero = None
+acknowledgement_told (suc n) = Some n
+
+-- a load tells the numbers in the word that it finds
+abbrev pub told : Step → ℕ → Step
+told (LoadT g t a) found = LoadT g (found % 2 ^ 32) (found / 2 ^ 32)
+told (LoadG k v) found = LoadG k (number_of found)
+told (LoadS i v) found = LoadS i (number_of found)
+told (LoadM g m a) found = LoadM g (found % 2 ^ 43) (found / 2 ^ 43)
+told (LoadO c x) found = LoadO c (cpu_told found)
+told (LoadA c g x) found = LoadA c g (acknowledgement_told found)
+told step found = step
+
+pub begins_it : (q : ℕ) (who : Option CpuId) → role (Split q who) ≡ Begins q who
+begins_it q who = refl
+
+pub ends_it : (q : ℕ) → role (Join q) ≡ Ends q
+ends_it q = refl

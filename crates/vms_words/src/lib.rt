@@ -1,0 +1,15 @@
+//! The page counters as words that threads share: each call makes single atomic steps on them, and the words show at
+//! every moment the state of one legal history.
+#![tactic(auto)]
+
+mod endings;
+mod ledgers;
+mod loads;
+mod packed;
+mod passes;
+mod spots;
+mod tables;
+
+pub use ledgers::SharedPages;
+pub use passes::{Caller, ControlPass, CpuPass};
+pub use tables::{MainPass, PageTable, PhaseHistory};

@@ -1,0 +1,241 @@
+ghost use Rattle.std.specs.Prelude.{◌≡◌, ℕ, ◌<◌, Some, None, false, [], length, map, IfOk};
+ghost use Rattle.std.specs.List.{range_with_len};
+ghost use Rattle.vms_base.specs.Cpus.{MayOwnCpu};
+ghost use Rattle.vms_core.specs.Bases.{IsBase, IsOpening, settled};
+ghost use Rattle.vms_core.specs.Cells.{HasShape};
+ghost use Rattle.vms_core.specs.declared.steps.Step.TheVariants.{Split, Join};
+ghost use Rattle.vms_core.specs.Own.{CarriesNothing};
+ghost use Rattle.vms_core.specs.Pages.{pages, IsLegal, state_after};
+ghost use Rattle.vms_core.specs.Steps.{role};
+ghost use Rattle.vms_calls.specs.HeaderFacts.{facts_of};
+ghost use Rattle.vms_history.specs.Events.{own};
+ghost use Rattle.vms_history.specs.Passes.{IsFree, lives_in};
+ghost use Rattle.vms_seats.specs.MainSteps.{HasBegun, HasEnded};
+ghost use Rattle.vms_seats.specs.Passes.{IsOf};
+ghost use Rattle.vms_words.specs.PagePasses.{HoldsSpending};
+ghost use Rattle.vms_base.specs.Places.{IsLayout};
+ghost use Rattle.vms_words.specs.Shown.{shown, word_at};
+ghost use Rattle.vms_words.specs.Spots.{blocks_of, spot_in};
+
+use crate::SharedPages;
+use crate::endings::{Cpus, Marks, Thresholds, Unacknowledged, Unset, Values, fill, fill_groups};
+use crate::packed::word_of;
+use crate::passes::{ControlPass, CpuPass};
+use crate::spots::Blocks;
+use std::alloc::Global;
+use std::marker::Model;
+use vms_base::{CpuId, CpuState, Header, Layout, Memory, Row, Volume};
+use vms_core::{Facts, State};
+use vms_seats::{Closing, History, Main, Words};
+
+/// The main pass of the page counters, which begins and ends the others.
+pub type MainPass = Main<SharedPages>;
+
+/// The history of a phase on the page counters, which is legal and complete. It stores no event.
+pub type PhaseHistory = History<SharedPages>;
+
+/// The page counters while threads change them. Contracts see which words they are, and the facts that their history
+/// begins with: the layout, the sizes and the state at the start.
+#[derive(Drop)]
+pub struct PageTable {
+    pub(crate) facts: Facts,
+    pub(crate) blocks: Blocks,
+    pub(crate) words: Words<SharedPages>,
+}
+
+impl Model for PageTable {
+    ghost use Rattle.vms_core.specs.declared.steps.Facts.{Facts};
+    ghost use Rattle.vms_seats.specs.Passes.{Shared};
+
+    ghost Value = { Shared Facts };
+
+    ghost use Rattle.vms_words.specs.PageTables.{AreFor};
+
+    ghost view = { λ t. t.words };
+
+    ghost invariant = { λ t. AreFor t.facts t.blocks t.words };
+}
+
+impl PageTable {
+    /// The page counters of a header's layout and sizes, which begin in this state. All memory of the phase is taken
+    /// here.
+    pub fn make(
+        alloc: Global,
+        header: &Header,
+        base: &State,
+    ) -> Result<(PageTable, MainPass), Memory>
+        requires { IsBase (facts_of header.now base.now) }
+        ensures table { IfOk result (λ made. made.0.facts ≡ facts_of header.now base.now) }
+        ensures main { IfOk result (λ made. IsOf made.1 made.0 × (made.1.seen ≡ [])) }
+    {
+        let facts = Facts {
+            layout: header.layout.copied(),
+            sizes: Row::from_slice(alloc, header.sizes.as_slice())?,
+            base: copied(alloc, base)?,
+        };
+        let blocks = Blocks::of(&facts.layout);
+        let first = opening_words(alloc, &facts.layout, blocks, &facts.base)?;
+        let (words, main) = Words::make(alloc, &facts, first.as_slice())?;
+        Ok((
+            PageTable {
+                facts,
+                blocks,
+                words,
+            },
+            main,
+        ))
+    }
+
+    /// The layout.
+    #[inline]
+    pub fn layout(&self) -> &Layout
+        ensures { result.now ≡ self.now.facts.layout }
+    {
+        &self.facts.layout
+    }
+
+    /// Begins a pass that owns a CPU, with the volumes that the CPU has by then.
+    pub fn cpu_pass(&self, main: &mut MainPass, cpu: CpuId, volume: Volume) -> CpuPass
+        requires table { IsOf main.old self.now }
+        requires online { MayOwnCpu self.now.facts.layout self.now.facts.base.cpu (Some cpu) }
+        requires free { IsFree role main.old.seen (Some cpu) }
+        requires volume { HoldsSpending self.now.facts.layout main.old.seen cpu.number volume }
+        ensures begun { HasBegun pages Split main.new main.old result.pass (Some cpu) }
+        ensures volume { result.volume ≡ volume }
+    {
+        let worker = main.begin(&self.words, Some(cpu));
+        CpuPass {
+            worker,
+            cpu,
+            volume,
+        }
+    }
+
+    /// Begins the control pass.
+    pub fn control_pass(&self, main: &mut MainPass) -> ControlPass
+        requires table { IsOf main.old self.now }
+        requires free { IsFree role main.old.seen None }
+        ensures begun { HasBegun pages Split main.new main.old result None }
+    {
+        let worker = main.begin(&self.words, None);
+        ControlPass { worker }
+    }
+
+    /// Ends a pass that owns a CPU, and gives the CPU's volumes back.
+    pub fn join_cpu(&self, main: &mut MainPass, pass: CpuPass) -> Volume
+        requires table { IsOf main.old self.now × IsOf pass.pass self.now }
+        requires carries { CarriesNothing self.now.facts.layout (own pass.pass.seen pass.pass.number) }
+        ensures ended { HasEnded pages Join main.new main.old pass.pass }
+        ensures volume { result ≡ pass.volume }
+    {
+        let CpuPass {
+            worker,
+            cpu: _,
+            volume,
+        } = pass;
+        main.end(&self.words, worker);
+        volume
+    }
+
+    /// Ends the control pass.
+    pub fn join_control(&self, main: &mut MainPass, pass: ControlPass)
+        requires table { IsOf main.old self.now × IsOf pass self.now }
+        requires carries { CarriesNothing self.now.facts.layout (own pass.seen pass.number) }
+        ensures ended { HasEnded pages Join main.new main.old pass }
+    {
+        let ControlPass { worker } = pass;
+        main.end(&self.words, worker);
+    }
+}
+
+impl PageTable {
+    /// Closes the table, once every other pass has ended, and writes its last state as the next phase begins with it:
+    /// nothing acknowledged, and nothing set. The history is what the main pass has seen.
+    pub fn close(self, main: MainPass, into: &mut State) -> PhaseHistory
+        requires table { IsOf main self }
+        requires ended { (q : ℕ) → lives_in role main.seen q ≡ false }
+        requires shaped { HasShape self.facts.layout into.old }
+        ensures history { result ≡ record { facts = self.facts; events = main.seen } }
+        ensures state { into.new ≡ settled (state_after self.facts main.seen) }
+    {
+        main.is_main();
+        let PageTable {
+            facts: _,
+            blocks,
+            words,
+        } = self;
+        let closing = words.close(main);
+        write_state(&closing, blocks, into);
+        closing.leave()
+    }
+}
+
+/// Writes the last state as the next phase begins with it.
+fn write_state(closing: &Closing<SharedPages>, blocks: Blocks, into: &mut State)
+    requires legal { IsLegal closing.now.facts closing.now.events }
+    requires laid { blocks ≡ blocks_of closing.now.facts.layout }
+    requires shaped { HasShape closing.now.facts.layout into.old }
+    ensures { into.new ≡ settled (state_after closing.now.facts closing.now.events) }
+{
+    fill::<i64, Values>(closing, 0, &mut into.place);
+    fill::<i64, Values>(closing, blocks.systems, &mut into.system);
+    fill_groups(
+        closing,
+        blocks.groups,
+        blocks.thresholds - blocks.groups,
+        &mut into.diff,
+    );
+    fill::<u32, Thresholds>(closing, blocks.thresholds, &mut into.threshold);
+    fill::<u64, Marks>(closing, blocks.marks, &mut into.mark);
+    fill::<CpuState, Cpus>(closing, blocks.cpus, &mut into.cpu);
+    fill::<Option<u32>, Unacknowledged>(closing, blocks.acknowledgements, &mut into.acknowledged);
+    fill::<u32, Unset>(closing, blocks.thresholds, &mut into.threshold_sets);
+    fill::<u32, Unset>(closing, blocks.marks, &mut into.mark_sets);
+}
+
+/// A copy of a state.
+fn copied(alloc: Global, state: &State) -> Result<State, Memory>
+    ensures { IfOk result (λ copy. copy ≡ state.now) }
+{
+    let place = Row::from_slice(alloc, state.place.as_slice())?;
+    let system = Row::from_slice(alloc, state.system.as_slice())?;
+    let diff = Row::from_slice(alloc, state.diff.as_slice())?;
+    let threshold = Row::from_slice(alloc, state.threshold.as_slice())?;
+    let mark = Row::from_slice(alloc, state.mark.as_slice())?;
+    let cpu = Row::from_slice(alloc, state.cpu.as_slice())?;
+    let acknowledged = Row::from_slice(alloc, state.acknowledged.as_slice())?;
+    let threshold_sets = Row::from_slice(alloc, state.threshold_sets.as_slice())?;
+    let mark_sets = Row::from_slice(alloc, state.mark_sets.as_slice())?;
+    Ok(State {
+        place,
+        system,
+        diff,
+        threshold,
+        mark,
+        cpu,
+        acknowledged,
+        threshold_sets,
+        mark_sets,
+    })
+}
+
+/// The words that show the state in which a phase begins.
+fn opening_words(
+    alloc: Global,
+    layout: &Layout,
+    blocks: Blocks,
+    state: &State,
+) -> Result<Vec<u64>, Memory>
+    requires layout { IsLayout layout.now }
+    requires laid { blocks ≡ blocks_of layout.now }
+    requires opening { IsOpening layout.now state.now }
+    ensures { IfOk result (λ words. words.items ≡ map (λ n. word_at state.now (spot_in blocks n))
+        (range_with_len 0 blocks.end)) }
+{
+    let mut words = Vec::with_capacity(alloc, blocks.end)?;
+    for place in 0..blocks.end {
+        let spot = blocks.spot_at(layout, place);
+        words.push(word_of(layout, state, spot))?;
+    }
+    Ok(words)
+}
