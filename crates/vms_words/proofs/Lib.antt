@@ -10,3 +10,4 @@ pub mod Numbers
 pub mod InTables
 pub mod Filled
 pub mod LastStates
+pub mod AddSteps

@@ -12,7 +12,7 @@ use Rattle.vms_core.specs.Bounded.{size_limit}
 use Rattle.vms_words.specs.Shown.{threshold_word, mark_word, cpu_word, acknowledgement_word}
 use Rattle.vms_words.specs.Told.{cpu_told, acknowledgement_told}
 
-fits-64 : (z : ℤ) → unsigned_abs z < 2 ^ 62 → SFits w64 z
+pub fits-64 : (z : ℤ) → unsigned_abs z < 2 ^ 62 → SFits w64 z
 fits-64 (pos n) small = record { sfits = omega (arith, ints) }
 fits-64 (negsuc n) small = record { sfits = omega (arith, ints) }
 

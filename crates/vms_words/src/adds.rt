@@ -1,0 +1,41 @@
+ghost use Rattle.vms_core.specs.Conditions.{AddsToPlace, AddsToSystem};
+ghost use Rattle.vms_core.specs.declared.steps.Step.TheVariants.{AddG, AddS};
+ghost use Rattle.vms_core.specs.Pages.{pages};
+ghost use Rattle.vms_seats.specs.Passes.{IsOf};
+ghost use Rattle.vms_seats.specs.Steps.{MadeOne};
+
+use crate::passes::Caller;
+use crate::spots::Spot;
+use crate::tables::PageTable;
+use vms_base::{CounterId, ItemId, encode};
+use vms_core::Step;
+
+impl PageTable {
+    /// Adds to a global value all that the pass carries there, in pages.
+    #[inline]
+    pub fn add_place<P: Caller>(&self, pass: &mut P, counter: CounterId, amount: i64)
+        requires table { IsOf (P.pass pass.old) self.now }
+        requires adds { AddsToPlace self.now.facts (P.pass pass.old).seen (P.pass pass.old).number counter amount }
+        ensures { MadeOne pages (P.pass pass.new) (P.pass pass.old) (AddG counter amount) }
+    {
+        pass.keeps();
+        let place = self
+            .blocks
+            .place_of(&self.facts.layout, Spot::Value(counter));
+        let plan = Step::AddG(counter, amount);
+        pass.add_at(&self.words, place, encode(amount), &plan);
+    }
+
+    /// Adds to a system-wide value all that the pass carries there, in pages.
+    #[inline]
+    pub fn add_system<P: Caller>(&self, pass: &mut P, item: ItemId, amount: i64)
+        requires table { IsOf (P.pass pass.old) self.now }
+        requires adds { AddsToSystem self.now.facts (P.pass pass.old).seen (P.pass pass.old).number item amount }
+        ensures { MadeOne pages (P.pass pass.new) (P.pass pass.old) (AddS item amount) }
+    {
+        pass.keeps();
+        let place = self.blocks.place_of(&self.facts.layout, Spot::System(item));
+        let plan = Step::AddS(item, amount);
+        pass.add_at(&self.words, place, encode(amount), &plan);
+    }
+}
