@@ -4,7 +4,7 @@
     bench/allocations.py [TRACE..]
 
 The program is crates/vozhkell/out/vozhkell, or the one that VOZHKELL names, called with the word `replay`. The traces
-are the whole run of docs/FORMATS.md and two phases of 2,000 lines, where none is given. A small library that is loaded
+are the stored run of the program and two phases of 2,000 lines, where none is given. A small library that is loaded
 before libc (cc builds it) makes the Nth call of malloc or realloc find no memory, for each N that a run reaches. Such a
 run ends with status 6, and what it wrote begins what the program writes where nothing is refused; or it asks for less,
 finds that, and ends as where nothing is refused. A line is printed for each trace, and the status is 1 if a run ends
@@ -72,7 +72,7 @@ def long_phases():
     return "".join(line + "\n" for line in lines).encode()
 
 
-def whole_run():
+def stored_run():
     with open(os.path.join(TOP, "crates", "vozhkell", "stdin"), "rb") as file:
         return file.read()
 
@@ -97,7 +97,7 @@ def main():
         print(__doc__.strip())
         return 0
     program = os.environ.get("VOZHKELL", os.path.join(TOP, "crates", "vozhkell", "out", "vozhkell"))
-    traces = {"whole run": whole_run(), "long phases": long_phases()}
+    traces = {"stored run": stored_run(), "long phases": long_phases()}
     if sys.argv[1:]:
         traces = {}
         for name in sys.argv[1:]:
