@@ -94,7 +94,13 @@ static LINES: [(&str, &str, usize, Status, &str); 15] = [
         "done accepted 20000 refused 0\n",
     ),
     ("replay", "k fold 0\nsync\n", 10001, Status::TooLong, ""),
-    ("replay", "report vmstat\n", 1001, Status::TooLong, ""),
+    (
+        "replay",
+        "report vmstat\n",
+        1001,
+        Status::TooLong,
+        "pgfault 0\n",
+    ),
     (
         "replay",
         "\n",
