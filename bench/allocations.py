@@ -6,8 +6,8 @@
 The program is crates/vozhkell/out/vozhkell, or the one that VOZHKELL names, called with the word `replay`. The traces
 are the stored run of the program and two phases of 2,000 lines, where none is given. A small library that is loaded
 before libc (cc builds it) makes the Nth call of malloc or realloc find no memory, for each N that a run reaches. Such a
-run ends with status 6, and what it wrote begins what the program writes where nothing is refused; or it asks for less,
-finds that, and ends as where nothing is refused. A line is printed for each trace, and the status is 1 if a run ends
+run ends with status 6, and what it wrote begins what the program writes where nothing is refused; or the same size is
+asked for again and found, and it ends as where nothing is refused. A line is printed for each trace, and the status is 1 if a run ends
 otherwise.
 """
 import os
