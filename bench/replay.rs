@@ -2,6 +2,9 @@
 //!
 //! It writes what the proved program writes, and ends with its statuses: 0, 1 for other words, 2 for a refused header,
 //! 3 where a line was refused, 4 for a failed read and 5 for a failed write, and 7 past a limit.
+//!
+//! It makes each line as it reads it. Where the environment has KEEP_LINES it keeps the lines of a phase until the phase
+//! ends, as the proved program does and as a program must that runs a phase's lanes on threads.
 
 mod commands;
 mod names;
@@ -11,6 +14,7 @@ mod world;
 
 use commands::{Failure, Input, Output, Text};
 use std::process::ExitCode;
+use std::{env, mem};
 use trace::{Act, Cause, Header, KINDS, Lane, Line, REPORTS};
 use world::{Rule, Verdict, World};
 
@@ -19,10 +23,28 @@ struct Replay<'a> {
     world: World<'a>,
     /// What the phase that is open prints, from its first answer on. It is written once the phase has ended.
     waiting: Text,
+    /// The lines of the phase that is open, where lines are kept.
+    kept: Vec<(u64, Result<Line, Cause>)>,
+    keeps: bool,
 }
 
 impl Replay<'_> {
     fn take(&mut self, out: &mut Text, number: u64, judged: Result<Line, Cause>) {
+        if self.keeps && matches!(judged, Ok(Line::Lane(..)) | Err(_)) {
+            self.kept.push((number, judged));
+        } else {
+            self.make_kept(out);
+            self.make(out, number, judged);
+        }
+    }
+
+    fn make_kept(&mut self, out: &mut Text) {
+        for (number, judged) in mem::take(&mut self.kept) {
+            self.make(out, number, judged);
+        }
+    }
+
+    fn make(&mut self, out: &mut Text, number: u64, judged: Result<Line, Cause>) {
         match judged {
             Ok(Line::Lane(Lane::Cpu(cpu), act)) => self.act_on_cpu(number, cpu, act),
             Ok(Line::Lane(Lane::Control, act)) => self.act(number, act),
@@ -140,8 +162,10 @@ fn free(out: &mut Text, verdict: &Verdict) {
 fn replay(input: &mut Input, out: &mut Output) -> Result<u8, Failure> {
     let header = input.header()?;
     let world = World::start(&header);
-    let mut replay = Replay { header: &header, world, waiting: Text::default() };
+    let keeps = env::var_os("KEEP_LINES").is_some();
+    let mut replay = Replay { header: &header, world, waiting: Text::default(), kept: Vec::new(), keeps };
     let tally = input.body(&header, out, |out, number, judged| replay.take(out, number, judged))?;
+    replay.make_kept(&mut out.held);
     out.held.append(&mut replay.waiting);
     tally.write(&mut out.held)?;
     Ok(tally.status())
