@@ -2,3 +2,5 @@ pub mod CopiedWords
 pub mod KnownSpending
 pub mod OwnCounts
 pub mod LoadedWords
+pub mod KeptControl
+pub mod MovedWords

@@ -27,7 +27,7 @@ use Rattle.vms_seats.proofs.MadeCalls.{calls-live}
 use Rattle.vms_event.proofs.KnownSpending.{given, owner-same, spent-same}
 
 -- a number below 2^64 is not wrapped
-unwrapped : (x : ℕ) → x < 2 ^ 64 → x % 2 ^ 64 ≡ x
+pub unwrapped : (x : ℕ) → x < 2 ^ 64 → x % 2 ^ 64 ≡ x
 unwrapped x below = ap (λ y. y % 2 ^ 64) (omega arith) ∙ mod-mul-add 0 (2 ^ 64) x below
 
 module _ (pass : Pass EventFacts EventStep) (cpu : CpuId) (volume : List ℕ) (mine : IsCpuPass pass cpu volume)

@@ -18,7 +18,7 @@ use vms_seats::Works;
 const MOST_VOLUME: u64 = 1 << 48;
 
 /// How many events are counted.
-const EVENTS: u32 = 8;
+pub(crate) const EVENTS: u32 = 8;
 
 /// Where the word of a CPU for an event stands.
 #[inline]

@@ -3,6 +3,7 @@
 #![tactic(auto)]
 
 mod counting;
+mod folding;
 mod passes;
 mod summing;
 mod tables;

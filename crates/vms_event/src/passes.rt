@@ -1,12 +1,11 @@
-ghost use Rattle.std.specs.Prelude.{◌≡◌, ℕ, Some, None};
+ghost use Rattle.std.specs.Prelude.{◌≡◌, ℕ, Some, None, refl};
 ghost use Rattle.vms_base.specs.declared.ids.CpuId.{CpuId};
 ghost use Rattle.vms_base.specs.declared.ids.EventId.{EventId};
 ghost use Rattle.vms_event_core.specs.declared.steps.EventStep.TheVariants.{LoadE, Split, Join};
 ghost use Rattle.vms_event_core.specs.Events.{events, MayOwn};
-ghost use Rattle.vms_event_core.specs.Own.{CarriesNothing};
 ghost use Rattle.vms_event_core.specs.Steps.{role};
+ghost use Rattle.vms_event.specs.ControlPasses.{IsControl};
 ghost use Rattle.vms_event.specs.CpuPasses.{Covers, SpendsNothing};
-ghost use Rattle.vms_history.specs.Events.{own};
 ghost use Rattle.vms_history.specs.Passes.{IsFree};
 ghost use Rattle.vms_seats.specs.MainSteps.{HasBegun, HasEnded};
 ghost use Rattle.vms_seats.specs.Passes.{IsLive, IsOf};
@@ -35,24 +34,32 @@ impl Model for EventPass {
     ghost invariant = { λ p. IsCpuPass p.worker p.cpu p.volume };
 }
 
-/// The control pass.
+/// The control pass. Between its calls it carries nothing.
 #[derive(Drop)]
 pub struct EventControl {
     pub(crate) worker: Worker<SharedEvents>,
 }
 
 impl Model for EventControl {
-    ghost use Rattle.std.specs.Prelude.{◌≡◌, None};
     ghost use Rattle.vms_event_core.specs.declared.steps.EventFacts.{EventFacts};
     ghost use Rattle.vms_event_core.specs.declared.steps.EventStep.{EventStep};
-    ghost use Rattle.vms_event_core.specs.Events.{events};
-    ghost use Rattle.vms_seats.specs.Passes.{Pass, IsLive};
+    ghost use Rattle.vms_event.specs.ControlPasses.{IsControl};
+    ghost use Rattle.vms_seats.specs.Passes.{Pass};
 
     ghost Value = { Pass EventFacts EventStep };
 
     ghost view = { λ p. p.worker };
 
-    ghost invariant = { λ p. IsLive events p.worker × (p.worker.cpu ≡ None) };
+    ghost invariant = { λ p. IsControl p.worker };
+}
+
+impl EventControl {
+    /// What holds of a control pass at any time.
+    pub fn is_control(&self)
+        ensures { IsControl self.now }
+    {
+        let _ = &self.worker;
+    }
 }
 
 impl EventTable {
@@ -86,7 +93,6 @@ impl EventTable {
     /// Ends a pass that owns a CPU, and gives the CPU's volumes back.
     pub fn join_cpu(&self, main: &mut EventMain, pass: EventPass) -> Volume
         requires table { IsOf main.old self.now × IsOf pass.pass self.now }
-        requires carries { CarriesNothing (own pass.pass.seen pass.pass.number) }
         ensures ended { HasEnded events Join main.new main.old pass.pass }
         ensures volume { result ≡ pass.volume }
     {
@@ -102,7 +108,6 @@ impl EventTable {
     /// Ends the control pass.
     pub fn join_control(&self, main: &mut EventMain, pass: EventControl)
         requires table { IsOf main.old self.now × IsOf pass self.now }
-        requires carries { CarriesNothing (own pass.seen pass.number) }
         ensures ended { HasEnded events Join main.new main.old pass }
     {
         let EventControl { worker } = pass;
@@ -133,7 +138,7 @@ impl EventCaller for EventPass {
 }
 
 impl EventCaller for EventControl {
-    ghost loads_leave = { λ c k v. tt };
+    ghost loads_leave = { λ c k v l. refl };
 
     #[inline]
     fn own(&self) -> Option<CpuId> {
@@ -188,10 +193,13 @@ impl Works<SharedEvents> for EventPass {
     }
 }
 
+/// Steps that leave what the pass carries.
 impl Works<SharedEvents> for EventControl {
+    ghost use Rattle.vms_event.specs.ControlPasses.{MovesNothing};
+
     ghost pass = { λ p. p };
 
-    ghost Leaves = { λ step. Unit {0} };
+    ghost Leaves = { MovesNothing };
 
     #[inline]
     fn load_at(&mut self, words: &Words<SharedEvents>, place: usize, plan: &EventStep) -> u64 {

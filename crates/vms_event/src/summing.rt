@@ -54,7 +54,7 @@ impl EventTable {
 }
 
 #[inline]
-fn is_online(state: CpuState) -> bool
+pub(crate) fn is_online(state: CpuState) -> bool
     ensures { result ≡ tells_online state }
 {
     match state {

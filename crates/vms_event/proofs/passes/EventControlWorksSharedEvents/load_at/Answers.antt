@@ -1,12 +1,12 @@
--- The goals were that the step may be made, and that the pass lives and is the control pass.
-use Rattle.std.proofs.Common.{[], ◌∷◌, sym, subst, ◌∙◌}
+-- The goals were that the step may be made, and that the control pass still carries nothing.
+use Rattle.std.proofs.Common.{sym, subst}
 use Rattle.vms_event_core.specs.declared.steps.EventFacts.{EventFacts}
 use Rattle.vms_event_core.specs.declared.steps.EventStep.{EventStep}
 use Rattle.vms_event_core.specs.Events.{events}
 use Rattle.vms_event.specs.SharedWords.{shown, told}
 use Rattle.vms_seats.specs.Passes.{Pass}
 use Rattle.vms_seats.specs.Steps.{MayStep}
-use Rattle.vms_seats.proofs.MadeCalls.{calls-live}
+use Rattle.vms_event.proofs.KeptControl.{control-left}
 use Rattle.vms_event.proofs.passes.EventControlWorksSharedEvents.load_at.Goals as goal
 
 pub load_at-requires-clause-step : goal.load_at-requires-clause-step
@@ -16,8 +16,5 @@ load_at-requires-clause-step c = subst
     (sym c.self.view_is) c.requires.step
 
 pub invariant_of-self : goal.invariant_of-self
-invariant_of-self c = (
-  calls-live events c.load_at.new.self c.self.inside.worker (told c.args.plan.now c.load_at.result ∷ [])
-      c.self.invariant.0 c.load_at.ensures.all,
-  c.load_at.ensures.all.cpu ∙ c.self.invariant.1,
-)
+invariant_of-self c = control-left c.load_at.new.self c.self.inside.worker (told c.args.plan.now c.load_at.result)
+    c.self.invariant (c.requires.leaves c.load_at.result) c.load_at.ensures

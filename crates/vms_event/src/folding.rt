@@ -1,0 +1,85 @@
+ghost use Rattle.std.specs.Prelude.{◌≡◌, ◌≢◌, ℕ, ◌<◌, ◌^◌, List, length};
+ghost use Rattle.vms_base.specs.declared.kinds.CpuState.TheVariants.{Online, Dead};
+ghost use Rattle.vms_base.specs.Cpus.{state_at};
+ghost use Rattle.vms_event_core.specs.declared.steps.EventStep.{EventStep};
+ghost use Rattle.vms_event_core.specs.Bases.{cpu_at, IsLowestOnline};
+ghost use Rattle.vms_event_core.specs.Calls.{IsFoldEvents, moves};
+ghost use Rattle.vms_event_core.specs.Events.{events};
+ghost use Rattle.vms_event_core.specs.Words.{IsEvent};
+ghost use Rattle.vms_seats.specs.Passes.{IsOf};
+ghost use Rattle.vms_seats.specs.Steps.{Made};
+
+use crate::counting::{EVENTS, place};
+use crate::passes::EventControl;
+use crate::summing::is_online;
+use crate::tables::EventTable;
+use vms_base::{CpuId, CpuState, EventId};
+use vms_event_core::EventStep;
+use vms_seats::Works;
+
+impl EventTable {
+    /// Moves what a dead CPU has counted into the words of the lowest-numbered CPU that is online
+    /// (`vm_events_fold_cpu` of mm/vmstat.c, which moves it to the CPU that it runs on). A word is taken and set to 0
+    /// in one step; the step that adds what was found follows, unless that is 0.
+    pub fn fold_events(&self, pass: &mut EventControl, dead: CpuId)
+        requires table { IsOf pass.old self.now }
+        requires dead { cpu_at self.now.facts dead.number ≡ Dead }
+        ensures { (into : CpuId) × (found : List ℕ) × (steps : List EventStep)
+            × IsLowestOnline self.now.facts into.number × IsFoldEvents dead into found steps
+            × Made events pass.new pass.old steps }
+    {
+        pass.is_control();
+        let into = self.lowest_online();
+        for number in 0..EVENTS {
+            pass.move_word(self, dead, into, EventId { number });
+        }
+    }
+
+    fn lowest_online(&self) -> CpuId
+        ensures { IsLowestOnline self.now.facts result.number }
+    {
+        first_online(self.facts.cpus.as_slice())
+    }
+}
+
+impl EventControl {
+    /// Moves one word, and tells what was found in it.
+    fn move_word(&mut self, table: &EventTable, from: CpuId, into: CpuId, event: EventId) -> u64
+        requires table { IsOf self.old table.now }
+        requires from { cpu_at table.now.facts from.number ≡ Dead }
+        requires into { IsLowestOnline table.now.facts into.number }
+        requires event { IsEvent event.number }
+        ensures { Made events self.new self.old (moves from into event.number result) }
+    {
+        let found = self.worker.swap_at(
+            &table.words,
+            place(from, event),
+            0,
+            &EventStep::TakeE(from, event, 0),
+        );
+        if found != 0 {
+            self.worker.add_at(
+                &table.words,
+                place(into, event),
+                found,
+                &EventStep::AddF(into, event, found),
+            );
+        }
+        found
+    }
+}
+
+/// The lowest-numbered CPU that is online by these states.
+fn first_online(states: &[CpuState]) -> CpuId
+    requires some { (c : ℕ) × (c < length states.now) × (state_at states.now c ≡ Online) }
+    requires few { length states.now < 2 ^ 32 }
+    ensures online { state_at states.now result.number ≡ Online }
+    ensures lowest { (b : ℕ) → b < result.number → state_at states.now b ≢ Online }
+{
+    for number in 0..states.len() as u32 {
+        if is_online(states[number as usize]) {
+            return CpuId { number };
+        }
+    }
+    CpuId { number: 0 }
+}
