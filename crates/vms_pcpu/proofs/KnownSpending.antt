@@ -1,0 +1,92 @@
+-- What a pass that owns a CPU knows of what the CPU has spent.
+use Rattle.std.proofs.Common.{◌≡◌, ◌≢◌, ℕ, ◌≤◌, Bool, true, false, nat_eq, List, [], ◌∷◌, ◌++◌, Option, Some, None, ℤ}
+use Rattle.std.proofs.Common.{if◌then◌else◌, refl, ap, sym, ◌∙◌, subst, arith, eqb-true}
+use Rattle.vms_base.specs.declared.ids.CpuId.{CpuId}
+use Rattle.vms_history.specs.Events.{own}
+use Rattle.vms_history.specs.Passes.{owner_in, IsFree}
+use Rattle.vms_history.proofs.FreeOwners.{holds_while_free}
+use Rattle.vms_history.proofs.Own.{own-on_top}
+use Rattle.vms_pcpu_core.specs.declared.steps.PcpuFacts.{PcpuFacts}
+use Rattle.vms_pcpu_core.specs.declared.steps.PcpuStep.{PcpuStep}
+use Rattle.vms_pcpu_core.specs.declared.steps.PcpuStep.TheVariants.{Split}
+use Rattle.vms_pcpu_core.specs.Histories.{percpu, History, IsLegal}
+use Rattle.vms_pcpu_core.specs.Own.{holds_lock, carried}
+use Rattle.vms_pcpu_core.specs.OwnSteps.{IsIdle}
+use Rattle.vms_pcpu_core.specs.Steps.{role}
+use Rattle.vms_pcpu_core.specs.Totals.{is_owned, spent, spent_by}
+use Rattle.vms_pcpu.specs.IdlePasses.{HoldsSpending, IsReady, IsCpuPass}
+use Rattle.vms_seats.specs.MainSteps.{HasBegun, next_number}
+use Rattle.vms_seats.specs.Passes.{Pass}
+
+-- a pass that owns another CPU, or none, spends nothing of this one
+spent-elsewhere : (who : Option CpuId) (cpu : CpuId) → who ≢ Some cpu → (j : ℕ) (carrying : ℤ) (step : PcpuStep)
+    → spent_by who cpu.number j carrying step ≡ 0
+spent-elsewhere None cpu elsewhere j carrying step = refl
+spent-elsewhere (Some d) cpu elsewhere j carrying step = by (nat_eq d.number cpu.number) refl
+  where
+    by : (b : Bool) → nat_eq d.number cpu.number ≡ b → spent_by (Some d) cpu.number j carrying step ≡ 0
+    by true same =
+        absurd (elsewhere (ap (λ n. Some (record { number = n })) (eqb-true d.number cpu.number same)))
+    by false differs = rw differs refl
+
+-- while nobody owns a CPU, nobody spends anything of it
+spent-free : (facts : PcpuFacts) (h : History) (cpu : CpuId) → IsFree role h (Some cpu) → (m : History)
+    → IsLegal facts (m ++ h) → own m 0 ≡ [] → (j : ℕ) → spent (m ++ h) cpu.number j ≡ spent h cpu.number j
+spent-free facts h cpu free =
+    holds_while_free percpu facts h (Some cpu) free
+    (λ g. (j : ℕ) → spent g cpu.number j ≡ spent h cpu.number j)
+    (λ e m legal others elsewhere same j.
+    let none = spent-elsewhere (owner_in role (m ++ h) e.caller) cpu elsewhere j
+    (carried j (own (m ++ h) e.caller)) e.step in
+    omega (arith, none, same j))
+    (λ j. refl)
+
+split-spends_nothing : (who owner : Option CpuId) (q c j : ℕ) (carrying : ℤ)
+    → spent_by owner c j carrying (Split q who) ≡ 0
+split-spends_nothing who owner q c j carrying = by (is_owned owner c) refl
+  where
+    by : (b : Bool) → is_owned owner c ≡ b → spent_by owner c j carrying (Split q who) ≡ 0
+    by true is = rw is refl
+    by false is = rw is refl
+
+pub nothing-idle : IsIdle []
+nothing-idle = record { no_lock = λ j. refl; nothing_carried = λ j. refl }
+
+-- a pass that has begun is ready
+pub begun-ready : (new old pass : Pass PcpuFacts PcpuStep) (who : Option CpuId)
+    → HasBegun percpu Split new old pass who → IsReady pass
+begun-ready new old pass who begun = record {
+  live = begun.live;
+  idle = subst IsIdle (sym begun.no_steps) nothing-idle;
+}
+
+-- where the volumes hold what its CPU has spent so far, they hold what it knows
+pub begun-owns : (new old pass : Pass PcpuFacts PcpuStep) (cpu : CpuId) (volume : List ℕ)
+    → HasBegun percpu Split new old pass (Some cpu) → IsFree role old.seen (Some cpu)
+    → HoldsSpending old.facts old.seen cpu.number volume → IsCpuPass pass cpu volume
+begun-owns new old pass cpu volume begun free holds = record {
+  ready = begun-ready new old pass (Some cpu) begun;
+  owns = begun.cpu;
+  holds = subst (λ facts. HoldsSpending facts pass.seen cpu.number volume) (sym begun.facts) (record {
+    one_each = holds.one_each;
+    spent_within = λ j j_in. omega (arith, spent_is j, holds.spent_within j j_in);
+  });
+}
+  where
+    h : History
+    h = begun.made.before
+
+    m : History
+    m = begun.made.extends.0
+
+    legal_before : IsLegal old.facts h
+    legal_before = (subst (IsLegal old.facts) begun.made.newest begun.made.legal).0
+
+    spent_is : (j : ℕ) → spent pass.seen cpu.number j ≡ spent old.seen cpu.number j
+    spent_is j = ap (λ g. spent g cpu.number j) (begun.seen ∙ begun.made.newest)
+        ∙ (let nothing = split-spends_nothing (Some cpu) (owner_in role h 0) (next_number percpu old.seen) cpu.number j
+        (carried j (own h 0)) in
+        omega (arith, nothing))
+        ∙ ap (λ g. spent g cpu.number j) begun.made.extends.1
+        ∙ spent-free old.facts old.seen cpu free m (subst (IsLegal old.facts) begun.made.extends.1 legal_before)
+        (own-on_top m old.seen 0 [] (ap (λ g. own g 0) (sym begun.made.extends.1) ∙ begun.made.own_same)) j

@@ -1,0 +1,18 @@
+-- The goal was that the load may be made.
+use Rattle.std.proofs.Common.{pos, sym, subst}
+use Rattle.vms_pcpu_core.specs.declared.steps.PcpuFacts.{PcpuFacts}
+use Rattle.vms_pcpu_core.specs.declared.steps.PcpuStep.TheVariants.{LoadC}
+use Rattle.vms_pcpu_core.specs.Histories.{percpu}
+use Rattle.vms_pcpu_core.specs.States.{IsPcpu}
+use Rattle.vms_pcpu.specs.SharedWords.{shown, told}
+use Rattle.vms_pcpu.proofs.StepWords.{count-load}
+use Rattle.vms_pcpu.proofs.tables.PcpuTable.load_count.Goals as goal
+use Rattle.vms_seats.specs.Steps.{MayStep}
+
+pub load_at-requires-clause-step : goal.load_at-requires-clause-step
+load_at-requires-clause-step c =
+    let j = c.args.counter in
+    subst (λ at. MayStep percpu shown c.args.worker.now at (λ n. n) (told (LoadC j (pos 0))))
+    (sym c.count_place.ensures.place)
+    (count-load c.args.worker.now j
+    (subst (λ (f : PcpuFacts). IsPcpu f j.number) (sym c.requires.table.facts) c.requires.counter))

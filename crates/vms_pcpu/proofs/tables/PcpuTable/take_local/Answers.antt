@@ -1,0 +1,23 @@
+-- The goal was that the local part may be taken.
+use Rattle.std.proofs.Common.{pos, ap, sym, ◌∙◌, subst}
+use Rattle.vms_base.specs.Places.{IsCpu}
+use Rattle.vms_pcpu_core.specs.declared.steps.PcpuFacts.{PcpuFacts}
+use Rattle.vms_pcpu_core.specs.declared.steps.PcpuStep.TheVariants.{TakeL}
+use Rattle.vms_pcpu_core.specs.Histories.{percpu}
+use Rattle.vms_pcpu_core.specs.States.{IsPcpu, counters_of}
+use Rattle.vms_pcpu.specs.SharedWords.{shown, told, local_place}
+use Rattle.vms_pcpu.proofs.StepWords.{local-take}
+use Rattle.vms_pcpu.proofs.tables.PcpuTable.take_local.Goals as goal
+use Rattle.vms_seats.specs.Steps.{MayStep}
+
+pub swap_at-requires-clause-step : goal.swap_at-requires-clause-step
+swap_at-requires-clause-step c =
+    let j = c.args.counter in
+    let cpu = c.args.cpu in
+    let facts = sym c.requires.table.facts in
+    subst (λ at. MayStep percpu shown c.args.worker.now at (λ n. 0) (told (TakeL j cpu (pos 0))))
+    (sym (c.local_place.ensures.place
+    ∙ ap (λ (f : PcpuFacts). local_place (counters_of f.base) cpu.number j.number) facts))
+    (local-take c.args.worker.now j
+    (subst (λ (f : PcpuFacts). IsPcpu f j.number) facts c.requires.counter) cpu
+    (subst (λ (f : PcpuFacts). IsCpu f.layout cpu.number) facts c.requires.cpu) c.requires.may)

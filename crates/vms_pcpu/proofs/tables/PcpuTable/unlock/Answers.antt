@@ -1,0 +1,19 @@
+-- The goal was that the lock may be given back.
+use Rattle.std.proofs.Common.{ap, sym, ◌∙◌, subst}
+use Rattle.vms_pcpu_core.specs.declared.steps.PcpuFacts.{PcpuFacts}
+use Rattle.vms_pcpu_core.specs.declared.steps.PcpuStep.TheVariants.{Unlock}
+use Rattle.vms_pcpu_core.specs.Histories.{percpu}
+use Rattle.vms_pcpu_core.specs.States.{IsPcpu, counters_of}
+use Rattle.vms_pcpu.specs.SharedWords.{shown, told, lock_place}
+use Rattle.vms_pcpu.proofs.StepWords.{lock-release}
+use Rattle.vms_pcpu.proofs.tables.PcpuTable.unlock.Goals as goal
+use Rattle.vms_seats.specs.Steps.{MayStep}
+
+pub swap_at-requires-clause-step : goal.swap_at-requires-clause-step
+swap_at-requires-clause-step c =
+    let j = c.args.counter in
+    let facts = sym c.requires.table.facts in
+    subst (λ at. MayStep percpu shown c.args.worker.now at (λ n. 0) (told (Unlock j)))
+    (sym (c.lock_place.ensures.place ∙ ap (λ (f : PcpuFacts). lock_place (counters_of f.base) j.number) facts))
+    (lock-release c.args.worker.now j (subst (λ (f : PcpuFacts). IsPcpu f j.number) facts c.requires.counter)
+    c.requires.may)

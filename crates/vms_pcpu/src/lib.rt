@@ -1,0 +1,13 @@
+//! The percpu counters as words that threads share: what each call makes is its steps of the model, whatever other
+//! threads do meanwhile.
+#![tactic(auto)]
+
+mod ledgers;
+mod passes;
+mod places;
+mod stepping;
+mod tables;
+
+pub use ledgers::SharedPcpu;
+pub use passes::{PcpuControl, PcpuPass};
+pub use tables::{PcpuHistory, PcpuMain, PcpuTable};

@@ -1,0 +1,181 @@
+ghost use Rattle.std.specs.Prelude.{◌≡◌, ℕ, ◌+◌, ◌≤◌, ◌<◌, ◌++◌, ◌^◌, pos, false, [], length, map, IfOk, OnOk};
+ghost use Rattle.std.specs.Prelude.{slice_index, slice_index_or, count_by};
+ghost use Rattle.vms_base.specs.Cpus.{is_present as tells_present};
+ghost use Rattle.vms_base.specs.Numbers.{word_of, number_of};
+ghost use Rattle.vms_history.specs.Passes.{lives_in};
+ghost use Rattle.vms_pcpu_core.specs.Bases.{IsBase};
+ghost use Rattle.vms_pcpu_core.specs.Histories.{state_after};
+ghost use Rattle.vms_pcpu_core.specs.Laws.{numbers_after};
+ghost use Rattle.vms_pcpu_core.specs.States.{unlocked};
+ghost use Rattle.vms_pcpu_core.specs.Steps.{role};
+ghost use Rattle.vms_pcpu.specs.SharedWords.{shown};
+ghost use Rattle.vms_seats.specs.Passes.{IsOf};
+
+use crate::ledgers::SharedPcpu;
+use std::alloc::Global;
+use std::marker::Model;
+use vms_base::{CpuState, Layout, Memory, Row, decode, encode};
+use vms_pcpu_core::{PcpuFacts, PcpuState};
+use vms_seats::{Closing, History, Main, Words};
+
+/// The main pass of the percpu counters, which begins and ends the others.
+pub type PcpuMain = Main<SharedPcpu>;
+
+/// The history of a phase on the percpu counters, which is legal and complete. It stores no event.
+pub type PcpuHistory = History<SharedPcpu>;
+
+/// The percpu counters while threads change them. Contracts see which words they are, and the facts that their history
+/// begins with: the layout, the state of each CPU, and the numbers at the start.
+#[derive(Drop)]
+pub struct PcpuTable {
+    pub(crate) facts: PcpuFacts,
+    /// How many CPUs are online or dead.
+    pub(crate) present: u64,
+    pub(crate) words: Words<SharedPcpu>,
+}
+
+impl Model for PcpuTable {
+    ghost use Rattle.vms_pcpu_core.specs.declared.steps.PcpuFacts.{PcpuFacts};
+    ghost use Rattle.vms_seats.specs.Passes.{Shared};
+    ghost use Rattle.vms_pcpu.specs.SharedWords.{AreFor};
+
+    ghost Value = { Shared PcpuFacts };
+
+    ghost view = { λ t. t.words };
+
+    ghost invariant = { λ t. AreFor t.facts t.present t.words };
+}
+
+impl PcpuTable {
+    /// The percpu counters of a layout, whose CPUs are in these states, with these numbers under free locks. All memory
+    /// of a phase is taken here.
+    pub fn make(
+        alloc: Global,
+        layout: &Layout,
+        base: &PcpuState,
+        cpus: &[CpuState],
+    ) -> Result<(PcpuTable, PcpuMain), Memory>
+        requires { IsBase (record { layout = layout.now; cpus = cpus.now; base = base.now }) }
+        ensures table { IfOk result (λ made. made.0.facts
+            ≡ record { layout = layout.now; cpus = cpus.now; base = base.now }) }
+        ensures main { IfOk result (λ made. IsOf made.1 made.0 × (made.1.seen ≡ [])) }
+    {
+        let facts = PcpuFacts {
+            layout: layout.copied(),
+            cpus: Row::from_slice(alloc, cpus)?,
+            base: PcpuState {
+                batch: Row::from_slice(alloc, base.batch.as_slice())?,
+                count: Row::from_slice(alloc, base.count.as_slice())?,
+                local: Row::from_slice(alloc, base.local.as_slice())?,
+            },
+        };
+        let present = count_present(facts.cpus.as_slice());
+        let first = opening_words(alloc, &facts)?;
+        let (words, main) = Words::make(alloc, &facts, first.as_slice())?;
+        Ok((
+            PcpuTable {
+                facts,
+                present,
+                words,
+            },
+            main,
+        ))
+    }
+
+    /// The layout.
+    #[inline]
+    pub fn layout(&self) -> &Layout
+        ensures { result.now ≡ self.now.facts.layout }
+    {
+        &self.facts.layout
+    }
+
+    /// Closes the words, once every other pass has ended, and writes the numbers as they are then. The history is what
+    /// the main pass has seen.
+    pub fn close(self, main: PcpuMain, into: &mut PcpuState) -> PcpuHistory
+        requires table { IsOf main self }
+        requires ended { (q : ℕ) → lives_in role main.seen q ≡ false }
+        ensures history { result ≡ record { facts = self.facts; events = main.seen } }
+        ensures state { into.new ≡ numbers_after self.facts main.seen }
+    {
+        let PcpuTable {
+            facts,
+            present: _,
+            words,
+        } = self;
+        let PcpuFacts {
+            layout: _,
+            cpus: _,
+            base,
+        } = facts;
+        let PcpuState {
+            batch,
+            mut count,
+            mut local,
+        } = base;
+        let closing = words.close(main);
+        fill(&closing, 0, &mut count);
+        fill(&closing, 2 * batch.len(), &mut local);
+        *into = PcpuState {
+            batch,
+            count,
+            local,
+        };
+        closing.leave()
+    }
+}
+
+/// How many CPUs are online or dead.
+fn count_present(cpus: &[CpuState]) -> u64
+    ensures { result ≡ count_by tells_present cpus.now }
+{
+    cpus.iter().filter(|state| is_present(**state)).count() as u64
+}
+
+#[inline]
+pub(crate) fn is_present(state: CpuState) -> bool
+    ensures { result ≡ tells_present state }
+{
+    match state {
+        CpuState::Online | CpuState::Dead => true,
+        CpuState::Absent => false,
+    }
+}
+
+/// The words that show the numbers of a base under free locks.
+fn opening_words(alloc: Global, facts: &PcpuFacts) -> Result<Vec<u64>, Memory>
+    requires { IsBase facts.now }
+    ensures { IfOk result (λ words. words.items ≡ shown facts.now (unlocked facts.now)) }
+{
+    let base = &facts.base;
+    let mut words = Vec::new(alloc);
+    push_numbers(&mut words, base.count.as_slice())?;
+    words.resize(2 * base.batch.len(), 0)?;
+    push_numbers(&mut words, base.local.as_slice())?;
+    words.push(0)?;
+    Ok(words)
+}
+
+/// Appends the words of numbers.
+fn push_numbers(words: &mut Vec<u64>, numbers: &[i64]) -> Result<(), Memory>
+    ensures { OnOk result (words.new.items ≡ words.old.items ++ map word_of numbers.now) }
+{
+    for number in numbers {
+        words.push(encode(*number))?;
+    }
+    Ok(())
+}
+
+/// Fills a row with the numbers in the words that begin at a place.
+fn fill(closing: &Closing<SharedPcpu>, start: usize, row: &mut Row<i64>)
+    requires within { start + length row.old
+        < length (shown closing.now.facts (state_after closing.now.facts closing.now.events)) }
+    requires fits { start + length row.old < 2 ^ 64 }
+    ensures len { length row.new ≡ length row.old }
+    ensures each { (n : ℕ) → n < length row.old → slice_index_or row.new n (pos 0) ≡ number_of
+        (slice_index (shown closing.now.facts (state_after closing.now.facts closing.now.events)) (start + n)) }
+{
+    for n in 0..row.len() {
+        row.set(n, decode(closing.word(start + n)));
+    }
+}
