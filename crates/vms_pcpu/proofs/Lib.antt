@@ -4,3 +4,11 @@ pub mod StepWords
 pub mod KnownSpending
 pub mod OpeningWords
 pub mod ClosedNumbers
+pub mod SmallNumbers
+pub mod ReadyPasses
+pub mod LockTries
+pub mod MovedLocals
+pub mod AddCalls
+pub mod LoadedLocals
+pub mod SumSteps
+pub mod FoldedCounters

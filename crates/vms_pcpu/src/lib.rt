@@ -2,9 +2,13 @@
 //! threads do meanwhile.
 #![tactic(auto)]
 
+mod adding;
+mod folding;
 mod ledgers;
+mod locking;
 mod passes;
 mod places;
+mod reading;
 mod stepping;
 mod tables;
 

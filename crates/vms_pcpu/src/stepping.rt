@@ -1,9 +1,11 @@
-ghost use Rattle.std.specs.Prelude.{◌≡◌, ℤ, [], ◌∷◌, Some, if◌then◌else◌};
+ghost use Rattle.std.specs.Prelude.{◌≡◌, ◌≤◌, ℤ, [], ◌∷◌, Some, if◌then◌else◌, unsigned_abs};
 ghost use Rattle.vms_base.specs.Places.{IsCpu};
 ghost use Rattle.vms_history.specs.Passes.{owner_in};
 ghost use Rattle.vms_pcpu_core.specs.declared.steps.PcpuStep.TheVariants.{AddL, LoadL, LoadC, Won};
 ghost use Rattle.vms_pcpu_core.specs.declared.steps.PcpuStep.TheVariants.{Missed, TakeL, AddC, Unlock};
+ghost use Rattle.vms_pcpu_core.specs.Bases.{most_batch};
 ghost use Rattle.vms_pcpu_core.specs.Histories.{percpu};
+ghost use Rattle.vms_pcpu_core.specs.Laws.{most_number};
 ghost use Rattle.vms_pcpu_core.specs.MayCall.{MayMake};
 ghost use Rattle.vms_pcpu_core.specs.States.{IsPcpu};
 ghost use Rattle.vms_pcpu_core.specs.Steps.{role};
@@ -23,7 +25,8 @@ impl PcpuTable {
     pub(crate) fn load_count(&self, worker: &mut Worker<SharedPcpu>, counter: PcpuId) -> i64
         requires table { IsOf worker.old self.now }
         requires counter { IsPcpu self.now.facts counter.number }
-        ensures { MadeOne percpu worker.new worker.old (LoadC counter result) }
+        ensures made { MadeOne percpu worker.new worker.old (LoadC counter result) }
+        ensures bound { unsigned_abs result ≤ most_number }
     {
         let plan = PcpuStep::LoadC(counter, 0);
         decode(worker.load_at(&self.words, self.count_place(counter), &plan))
@@ -40,7 +43,8 @@ impl PcpuTable {
         requires table { IsOf worker.old self.now }
         requires counter { IsPcpu self.now.facts counter.number }
         requires cpu { IsCpu self.now.facts.layout cpu.number }
-        ensures { MadeOne percpu worker.new worker.old (LoadL counter cpu result) }
+        ensures made { MadeOne percpu worker.new worker.old (LoadL counter cpu result) }
+        ensures bound { unsigned_abs result ≤ most_batch }
     {
         let plan = PcpuStep::LoadL(counter, cpu, 0);
         decode(worker.load_at(&self.words, self.local_place(cpu, counter), &plan))
@@ -82,7 +86,8 @@ impl PcpuTable {
         requires cpu { IsCpu self.now.facts.layout cpu.number }
         requires may { (v : ℤ) → MayMake worker.old.facts worker.old.number worker.old.seen
             (TakeL counter cpu v ∷ []) }
-        ensures { MadeOne percpu worker.new worker.old (TakeL counter cpu result) }
+        ensures made { MadeOne percpu worker.new worker.old (TakeL counter cpu result) }
+        ensures bound { unsigned_abs result ≤ most_batch }
     {
         let plan = PcpuStep::TakeL(counter, cpu, 0);
         decode(worker.swap_at(&self.words, self.local_place(cpu, counter), 0, &plan))

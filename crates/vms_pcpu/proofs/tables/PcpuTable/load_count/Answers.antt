@@ -8,6 +8,10 @@ use Rattle.vms_pcpu.specs.SharedWords.{shown, told}
 use Rattle.vms_pcpu.proofs.StepWords.{count-load}
 use Rattle.vms_pcpu.proofs.tables.PcpuTable.load_count.Goals as goal
 use Rattle.vms_seats.specs.Steps.{MayStep}
+use Rattle.std.proofs.Common.{arith}
+use Rattle.vms_base.specs.Numbers.{number_of}
+use Rattle.vms_pcpu_core.specs.Laws.{most_number}
+use Rattle.vms_pcpu.proofs.SmallNumbers.{count-small, passed-small}
 
 pub load_at-requires-clause-step : goal.load_at-requires-clause-step
 load_at-requires-clause-step c =
@@ -16,3 +20,9 @@ load_at-requires-clause-step c =
     (sym c.count_place.ensures.place)
     (count-load c.args.worker.now j
     (subst (λ (f : PcpuFacts). IsPcpu f j.number) (sym c.requires.table.facts) c.requires.counter))
+
+pub returns-clause-bound : goal.returns-clause-bound
+returns-clause-bound c =
+    let v = number_of c.load_at.result in
+    let small = count-small c.load_at.new.self c.args.worker.now c.args.counter v c.load_at.ensures in
+    passed-small c.decode.result v most_number c.decode.ensures.value small (omega arith)

@@ -9,6 +9,10 @@ use Rattle.vms_pcpu.specs.SharedWords.{shown, told, local_place}
 use Rattle.vms_pcpu.proofs.StepWords.{local-load}
 use Rattle.vms_pcpu.proofs.tables.PcpuTable.load_local.Goals as goal
 use Rattle.vms_seats.specs.Steps.{MayStep}
+use Rattle.std.proofs.Common.{arith}
+use Rattle.vms_base.specs.Numbers.{number_of}
+use Rattle.vms_pcpu_core.specs.Bases.{most_batch}
+use Rattle.vms_pcpu.proofs.SmallNumbers.{load-small, passed-small}
 
 pub load_at-requires-clause-step : goal.load_at-requires-clause-step
 load_at-requires-clause-step c =
@@ -21,3 +25,9 @@ load_at-requires-clause-step c =
     (local-load c.args.worker.now j
     (subst (λ (f : PcpuFacts). IsPcpu f j.number) facts c.requires.counter) cpu
     (subst (λ (f : PcpuFacts). IsCpu f.layout cpu.number) facts c.requires.cpu))
+
+pub returns-clause-bound : goal.returns-clause-bound
+returns-clause-bound c =
+    let v = number_of c.load_at.result in
+    let small = load-small c.load_at.new.self c.args.worker.now c.args.counter v c.args.cpu c.load_at.ensures in
+    passed-small c.decode.result v most_batch c.decode.ensures.value small (omega arith)

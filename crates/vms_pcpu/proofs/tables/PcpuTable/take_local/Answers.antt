@@ -9,6 +9,10 @@ use Rattle.vms_pcpu.specs.SharedWords.{shown, told, local_place}
 use Rattle.vms_pcpu.proofs.StepWords.{local-take}
 use Rattle.vms_pcpu.proofs.tables.PcpuTable.take_local.Goals as goal
 use Rattle.vms_seats.specs.Steps.{MayStep}
+use Rattle.std.proofs.Common.{arith}
+use Rattle.vms_base.specs.Numbers.{number_of}
+use Rattle.vms_pcpu_core.specs.Bases.{most_batch}
+use Rattle.vms_pcpu.proofs.SmallNumbers.{take-small, passed-small}
 
 pub swap_at-requires-clause-step : goal.swap_at-requires-clause-step
 swap_at-requires-clause-step c =
@@ -21,3 +25,9 @@ swap_at-requires-clause-step c =
     (local-take c.args.worker.now j
     (subst (λ (f : PcpuFacts). IsPcpu f j.number) facts c.requires.counter) cpu
     (subst (λ (f : PcpuFacts). IsCpu f.layout cpu.number) facts c.requires.cpu) c.requires.may)
+
+pub returns-clause-bound : goal.returns-clause-bound
+returns-clause-bound c =
+    let v = number_of c.swap_at.result in
+    let small = take-small c.swap_at.new.self c.args.worker.now c.args.counter v c.args.cpu c.swap_at.ensures in
+    passed-small c.decode.result v most_batch c.decode.ensures.value small (omega arith)

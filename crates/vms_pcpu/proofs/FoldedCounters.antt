@@ -1,0 +1,72 @@
+-- The local parts of a dead CPU are moved counter after counter.
+use Rattle.std.proofs.Common.{◌≡◌, ℕ, suc, ◌+◌, ◌<◌, ◌≤◌, List, [], ◌∷◌, ◌++◌, length, None, pos, refl, ap, sym, ◌∙◌}
+use Rattle.std.proofs.Common.{subst, arith, ⊎_elim}
+use Rattle.std.proofs.lemmas.Bool.{cases_lt}
+use Rattle.std.proofs.lemmas.List.{get_or_past}
+use Rattle.vms_base.specs.declared.ids.CpuId.{CpuId}
+use Rattle.vms_base.specs.declared.ids.PcpuId.{PcpuId}
+use Rattle.vms_base.specs.declared.kinds.CpuState.TheVariants.{Dead, Absent}
+use Rattle.vms_base.specs.Places.{IsCpu}
+use Rattle.vms_history.specs.Passes.{owner_in}
+use Rattle.vms_pcpu_core.specs.declared.steps.PcpuFacts.{PcpuFacts}
+use Rattle.vms_pcpu_core.specs.declared.steps.PcpuStep.{PcpuStep}
+use Rattle.vms_pcpu_core.specs.Calls.{IsSync, IsFoldDead}
+use Rattle.vms_pcpu_core.specs.Calls.IsFoldDead.{no_counter, one_counter}
+use Rattle.vms_pcpu_core.specs.Conditions.{MayTake}
+use Rattle.vms_pcpu_core.specs.Histories.{percpu}
+use Rattle.vms_pcpu_core.specs.MayCall.{MayCall}
+use Rattle.vms_pcpu_core.specs.States.{cpu_at}
+use Rattle.vms_pcpu_core.specs.Steps.{role}
+use Rattle.vms_pcpu_core.proofs.OwnSteps.{fold_dead-adds}
+use Rattle.vms_pcpu.specs.IdlePasses.{IsReady}
+use Rattle.vms_pcpu.proofs.ReadyPasses.{calls-after, owner-after, ready-after, ready-calls}
+use Rattle.vms_seats.specs.Passes.{Pass}
+use Rattle.vms_seats.specs.Steps.{Made}
+use Rattle.vms_seats.proofs.MadeCalls.{calls-none, calls-both}
+
+-- a dead CPU is one of the layout
+pub dead-known : (facts : PcpuFacts) → length facts.cpus ≡ facts.layout.cpus → (c : ℕ) → cpu_at facts c ≡ Dead
+    → IsCpu facts.layout c
+dead-known facts long c dead = ⊎_elim (λ within. omega (arith, within, long))
+    (λ past. absurd (none (sym (get_or_past facts.cpus c Absent past) ∙ dead)))
+    (cases_lt c (length facts.cpus))
+  where
+    none : Absent ≡ Dead → ⊥
+    none same = cc
+
+-- the local parts for the first n counters have moved
+pub record FoldsBelow (dead : CpuId) (now old : Pass PcpuFacts PcpuStep) (n : ℕ) : Type 0 where
+  pub steps : List PcpuStep
+  pub folds : IsFoldDead dead n steps
+  pub made : Made percpu now old steps
+
+module _ (dead : CpuId) (old : Pass PcpuFacts PcpuStep) (ready : IsReady old) (control : old.cpu ≡ None) where
+  pub folds-none : FoldsBelow dead old old 0
+  folds-none = record { steps = []; folds = no_counter; made = calls-none percpu old ready.live }
+
+  module _ (now : Pass PcpuFacts PcpuStep) (n : ℕ) (folded : FoldsBelow dead now old n) where
+    pub folds-calls : MayCall now.facts now.seen now.number
+    folds-calls = calls-after now old (record { number = 0 }) (pos 0) folded.steps folded.made
+        (fold_dead-adds (record { number = 0 }) dead n folded.steps folded.folds) (ready-calls old ready)
+
+    pub folds-whose : cpu_at old.facts dead.number ≡ Dead
+        → MayTake now.facts (owner_in role now.seen now.number) dead
+    folds-whose is = subst (λ who. MayTake now.facts who dead)
+        (sym (owner-after now old folded.steps None folded.made (ready.live.owner ∙ control)))
+        (ap (λ (f : PcpuFacts). cpu_at f dead.number) folded.made.facts ∙ is)
+
+    pub folds-more : (new : Pass PcpuFacts PcpuStep) (back : List PcpuStep)
+        → IsSync dead (record { number = n }) back → Made percpu new now back → FoldsBelow dead new old (n + 1)
+    folds-more new back sync made = record {
+      steps = folded.steps ++ back;
+      folds = subst (λ (m : ℕ). IsFoldDead dead m (folded.steps ++ back)) (omega arith)
+          (one_counter n folded.steps back folded.folds sync);
+      made = calls-both percpu new now old folded.steps back made folded.made;
+    }
+
+    pub folds-ready : IsReady now × (now.cpu ≡ None)
+    folds-ready = (
+      ready-after now old (record { number = 0 }) (pos 0) folded.steps folded.made
+          (fold_dead-adds (record { number = 0 }) dead n folded.steps folded.folds) ready,
+      folded.made.cpu ∙ control,
+    )

@@ -1,0 +1,42 @@
+-- The goals were that each counter's local part may be moved, and that these are the steps of the whole fold.
+use Rattle.std.proofs.Common.{◌≡◌, ap, sym, ◌∙◌, subst}
+use Rattle.vms_base.specs.declared.kinds.CpuState.TheVariants.{Dead}
+use Rattle.vms_pcpu_core.specs.declared.steps.PcpuFacts.{PcpuFacts}
+use Rattle.vms_pcpu_core.specs.declared.steps.PcpuStep.{PcpuStep}
+use Rattle.vms_pcpu_core.specs.States.{cpu_at}
+use Rattle.vms_pcpu.proofs.FoldedCounters.{dead-known, folds-none, folds-calls, folds-whose, folds-more, folds-ready}
+use Rattle.vms_pcpu.proofs.ReadyPasses.{of-after}
+use Rattle.vms_pcpu.proofs.tables.PcpuTable.fold_dead.Goals as goal
+use Rattle.vms_seats.specs.Passes.{Pass, IsOf}
+
+pub loop-number-init : goal.loop-number-init
+loop-number-init g c = folds-none c.args.dead c.pass.inside.worker c.pass.invariant.0 c.pass.invariant.1
+
+pub sync_by-requires-clause-table : goal.sync_by-requires-clause-table
+sync_by-requires-clause-table g c =
+    of-after c.loop-number.pass-inside.worker c.pass.inside.worker c.loop-number.invariant.steps c.args.self.now
+    c.loop-number.invariant.made
+    (subst (λ (p : Pass PcpuFacts PcpuStep). IsOf p c.args.self.now) (sym c.pass.view_is) c.requires.table)
+
+pub sync_by-requires-clause-calls : goal.sync_by-requires-clause-calls
+sync_by-requires-clause-calls g c =
+    folds-calls c.args.dead c.pass.inside.worker c.pass.invariant.0 c.pass.invariant.1 c.loop-number.pass-inside.worker
+    c.loop-number.number c.loop-number.invariant
+
+pub sync_by-requires-clause-whose : goal.sync_by-requires-clause-whose
+sync_by-requires-clause-whose g c =
+    folds-whose c.args.dead c.pass.inside.worker c.pass.invariant.0 c.pass.invariant.1 c.loop-number.pass-inside.worker
+    c.loop-number.number c.loop-number.invariant
+    (ap (λ (f : PcpuFacts). cpu_at f c.args.dead.number)
+    (ap (λ (p : Pass PcpuFacts PcpuStep). p.facts) c.pass.view_is ∙ c.requires.table.facts) ∙ c.requires.dead)
+
+pub loop-number-preserved : goal.loop-number-preserved
+loop-number-preserved g c =
+    folds-more c.args.dead c.pass.inside.worker c.pass.invariant.0 c.pass.invariant.1 c.loop-number.pass-inside.worker
+    c.loop-number.number c.loop-number.invariant c.sync_by.new.worker c.sync_by.ensures.0 c.sync_by.ensures.1
+    c.sync_by.ensures.2
+
+pub invariant_of-pass : goal.invariant_of-pass
+invariant_of-pass g c =
+    folds-ready c.args.dead c.pass.inside.worker c.pass.invariant.0 c.pass.invariant.1 c.loop-number.pass-inside.worker
+    c.loop-number.number c.loop-number.invariant

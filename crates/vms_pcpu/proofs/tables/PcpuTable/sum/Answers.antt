@@ -1,0 +1,34 @@
+-- The goals were that the pass is ready again, and that the steps are those of the call.
+use Rattle.std.proofs.Common.{◌≡◌, ◌<◌, ℤ, w64, to_z, of_z, sym, subst, arith}
+use Rattle.vms_pcpu_core.specs.Calls.{IsSum, present_cpus}
+use Rattle.vms_pcpu_core.proofs.OwnSteps.{sum-adds}
+use Rattle.vms_pcpu.specs.IdlePasses.{CpuPass, MakesCall}
+use Rattle.vms_pcpu.proofs.ReadyPasses.{owns-nothing}
+use Rattle.vms_pcpu.proofs.SmallNumbers.{same_word}
+use Rattle.vms_pcpu.proofs.tables.PcpuTable.sum.Goals as goal
+
+pub invariant_of-pass : goal.invariant_of-pass
+invariant_of-pass g c =
+    let j = c.args.counter in
+    owns-nothing c.sum_by.new.worker c.pass.inside.worker j c.sum_by.ensures.made.0 c.sum_by.ensures.made.2
+    (sum-adds j (present_cpus c.args.self.now.facts) j c.sum_by.ensures.made.0 c.sum_by.result c.sum_by.ensures.made.1)
+    c.pass.inside.cpu c.pass.inside.volume c.pass.invariant
+
+pub returns-clause-made : goal.returns-clause-made
+returns-clause-made g c =
+    let j = c.args.counter in
+    let facts = c.args.self.now.facts in
+    let answer : ℤ = c.sum_by.result in
+    let small = c.sum_by.ensures.bound in
+    let same : to_z w64 (of_z w64 answer) ≡ answer = same_word answer (omega (arith, small)) in
+    subst
+    (λ (p : CpuPass). MakesCall c.sum_by.new.worker p.pass
+    (λ own steps. IsSum (present_cpus facts) j steps (to_z w64 (of_z w64 answer))))
+    c.pass.view_is
+    (record {
+      cpu = c.pass.inside.cpu;
+      owns = c.pass.invariant.owns;
+      steps = c.sum_by.ensures.made.0;
+      is_call = subst (IsSum (present_cpus facts) j c.sum_by.ensures.made.0) (sym same) c.sum_by.ensures.made.1;
+      made = c.sum_by.ensures.made.2;
+    })

@@ -1,0 +1,146 @@
+ghost use Rattle.std.specs.Prelude.{◌≡◌, ◌+◌, ◌<◌, ◌≤◌, ◌↔◌, List, Some, IsErr, IfErr, IfOk, OnOk, OnErr, pos, unsigned_abs};
+ghost use Rattle.std.specs.Prelude.{slice_index, slice_set};
+ghost use Rattle.vms_base.specs.Places.{IsCpu};
+ghost use Rattle.vms_base.specs.Volumes.{most_volume};
+ghost use Rattle.vms_pcpu_core.specs.declared.steps.PcpuStep.{PcpuStep};
+ghost use Rattle.vms_pcpu_core.specs.Calls.{IsAdd, IsSync};
+ghost use Rattle.vms_pcpu_core.specs.Histories.{percpu};
+ghost use Rattle.vms_history.specs.Passes.{owner_in};
+ghost use Rattle.vms_pcpu_core.specs.Conditions.{MayTake};
+ghost use Rattle.vms_pcpu_core.specs.MayCall.{MayChange, MayCall};
+ghost use Rattle.vms_pcpu_core.specs.Steps.{role};
+ghost use Rattle.vms_pcpu_core.specs.States.{IsPcpu, batch_at};
+ghost use Rattle.vms_pcpu.specs.IdlePasses.{MakesCall};
+ghost use Rattle.vms_seats.specs.Passes.{IsOf};
+ghost use Rattle.vms_seats.specs.Steps.{Made};
+
+use crate::ledgers::SharedPcpu;
+use crate::passes::PcpuPass;
+use crate::tables::PcpuTable;
+use std::sync::Wait;
+use vms_base::{CpuId, Overflow, PcpuId};
+use vms_seats::Worker;
+
+/// What one CPU may change a counter by over a run, in absolute sum.
+const MOST_VOLUME: u64 = 1 << 48;
+
+impl PcpuTable {
+    /// Adds an amount to a counter on the pass's CPU (`percpu_counter_add_batch` of lib/percpu_counter.c). It waits for
+    /// the counter's lock where the local part reaches the batch.
+    pub fn add<R: Wait>(
+        &self,
+        rt: &R,
+        pass: &mut PcpuPass,
+        counter: PcpuId,
+        amount: i64,
+    ) -> Result<(), Overflow>
+        requires table { IsOf pass.old.pass self.now }
+        requires counter { IsPcpu self.now.facts counter.number }
+        ensures made { OnOk result (MakesCall pass.new.pass pass.old.pass
+            (λ own steps. IsAdd (batch_at self.now.facts.base counter.number) own counter amount steps)) }
+        ensures volume { OnOk result (pass.new.volume ≡ slice_set pass.old.volume counter.number
+            (slice_index pass.old.volume counter.number + unsigned_abs amount)) }
+        ensures overflow { IsErr result ↔
+            (most_volume < slice_index pass.old.volume counter.number + unsigned_abs amount) }
+        ensures told { IfErr result (λ e. e ≡
+            record { volume = slice_index pass.old.volume counter.number; size = unsigned_abs amount }) }
+        ensures err { OnErr result (pass.new ≡ pass.old) }
+    {
+        let volume = pass.volume_with(counter, amount)?;
+        self.add_by(rt, &mut pass.worker, pass.cpu, counter, amount);
+        pass.volume.set(counter.number as usize, volume);
+        Ok(())
+    }
+
+    fn add_by<R: Wait>(
+        &self,
+        rt: &R,
+        worker: &mut Worker<SharedPcpu>,
+        own: CpuId,
+        counter: PcpuId,
+        amount: i64,
+    )
+        requires table { IsOf worker.old self.now }
+        requires may { MayChange worker.old.facts worker.old.seen worker.old.number own counter amount }
+        ensures { (steps : List PcpuStep)
+            × IsAdd (batch_at self.now.facts.base counter.number) own counter amount steps
+            × Made percpu worker.new worker.old steps }
+    {
+        let local = self.load_local(worker, own, counter);
+        if (local + amount).unsigned_abs() < u64::from(self.batch(counter)) {
+            self.add_local(worker, own, counter, amount);
+        } else {
+            self.lock(rt, worker, counter);
+            self.move_local(worker, own, counter, amount);
+        }
+    }
+
+    /// Moves the local part of the pass's CPU to the shared part (`percpu_counter_sync` of lib/percpu_counter.c), under
+    /// the counter's lock, for which it waits.
+    pub fn sync<R: Wait>(&self, rt: &R, pass: &mut PcpuPass, counter: PcpuId)
+        requires table { IsOf pass.old.pass self.now }
+        requires counter { IsPcpu self.now.facts counter.number }
+        ensures made { MakesCall pass.new.pass pass.old.pass (λ own steps. IsSync own counter steps) }
+        ensures volume { pass.new.volume ≡ pass.old.volume }
+    {
+        self.sync_by(rt, &mut pass.worker, pass.cpu, counter);
+    }
+
+    /// Moves the local part of a CPU to the shared part under the counter's lock.
+    pub(crate) fn sync_by<R: Wait>(
+        &self,
+        rt: &R,
+        worker: &mut Worker<SharedPcpu>,
+        cpu: CpuId,
+        counter: PcpuId,
+    )
+        requires table { IsOf worker.old self.now }
+        requires counter { IsPcpu self.now.facts counter.number }
+        requires cpu { IsCpu self.now.facts.layout cpu.number }
+        requires calls { MayCall worker.old.facts worker.old.seen worker.old.number }
+        requires whose { MayTake worker.old.facts (owner_in role worker.old.seen worker.old.number) cpu }
+        ensures { (steps : List PcpuStep) × IsSync cpu counter steps × Made percpu worker.new worker.old steps }
+    {
+        self.lock(rt, worker, counter);
+        self.move_local(worker, cpu, counter, 0);
+    }
+
+    /// What a local part of a counter may reach.
+    #[inline]
+    pub(crate) fn batch(&self, counter: PcpuId) -> u32
+        requires { IsPcpu self.now.facts counter.number }
+        ensures { result ≡ batch_at self.now.facts.base counter.number }
+    {
+        self.facts.base.batch.get(counter.number as usize)
+    }
+}
+
+impl PcpuPass {
+    /// What the pass's CPU has changed a counter by since the run began, in absolute sum.
+    #[inline]
+    pub fn volume_of(&self, counter: PcpuId) -> u64
+        requires { IsPcpu self.now.pass.facts counter.number }
+        ensures { result ≡ slice_index self.now.volume counter.number }
+    {
+        self.volume.get(counter.number as usize)
+    }
+
+    /// The same with one more amount, unless that is more than one run may make.
+    #[inline]
+    pub(crate) fn volume_with(&self, counter: PcpuId, amount: i64) -> Result<u64, Overflow>
+        requires { IsPcpu self.now.pass.facts counter.number }
+        ensures fits { IfOk result (λ volume.
+            (volume ≡ slice_index self.now.volume counter.number + unsigned_abs amount) × (volume ≤ most_volume)) }
+        ensures overflow { IsErr result ↔
+            (most_volume < slice_index self.now.volume counter.number + unsigned_abs amount) }
+        ensures told { IfErr result (λ e. e ≡
+            record { volume = slice_index self.now.volume counter.number; size = unsigned_abs amount }) }
+    {
+        let volume = self.volume_of(counter);
+        let size = amount.unsigned_abs();
+        if size > MOST_VOLUME || volume > MOST_VOLUME - size {
+            return Err(Overflow { volume, size });
+        }
+        Ok(volume + size)
+    }
+}

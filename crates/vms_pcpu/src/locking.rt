@@ -1,0 +1,59 @@
+ghost use Rattle.std.specs.Prelude.{◌≡◌, ℤ, ◌≤◌, ◌+ℤ◌, List, [], ◌∷◌, unsigned_abs};
+ghost use Rattle.vms_base.specs.Places.{IsCpu};
+ghost use Rattle.vms_base.specs.Volumes.{most_volume};
+ghost use Rattle.vms_pcpu_core.specs.declared.steps.PcpuStep.{PcpuStep};
+ghost use Rattle.vms_pcpu_core.specs.declared.steps.PcpuStep.TheVariants.{TakeL, AddC, Unlock};
+ghost use Rattle.vms_pcpu_core.specs.Calls.{Locks};
+ghost use Rattle.vms_pcpu_core.specs.Histories.{percpu};
+ghost use Rattle.vms_pcpu_core.specs.MayCall.{MayMake};
+ghost use Rattle.vms_pcpu_core.specs.States.{IsPcpu};
+ghost use Rattle.vms_seats.specs.Passes.{IsOf};
+ghost use Rattle.vms_seats.specs.Steps.{Made};
+
+use crate::ledgers::SharedPcpu;
+use crate::tables::PcpuTable;
+use crossbeam_utils::Backoff;
+use std::sync::Wait;
+use vms_base::{CpuId, PcpuId};
+use vms_seats::Worker;
+
+impl PcpuTable {
+    /// Takes the lock of a counter. While others hold it, the call waits and tries again; each try is a step.
+    pub(crate) fn lock<R: Wait>(&self, rt: &R, worker: &mut Worker<SharedPcpu>, counter: PcpuId)
+        requires table { IsOf worker.old self.now }
+        requires counter { IsPcpu self.now.facts counter.number }
+        ensures { (steps : List PcpuStep) × Locks counter steps × Made percpu worker.new worker.old steps }
+    {
+        let _ = worker.cpu();
+        let backoff = Backoff::new();
+        for _ in rt.forever() {
+            if self.try_lock(worker, counter) {
+                return;
+            }
+            backoff.snooze();
+        }
+        unreachable!()
+    }
+
+    /// Under the lock, moves a CPU's local part to the shared part together with an amount, and gives the lock back.
+    pub(crate) fn move_local(
+        &self,
+        worker: &mut Worker<SharedPcpu>,
+        cpu: CpuId,
+        counter: PcpuId,
+        amount: i64,
+    )
+        requires table { IsOf worker.old self.now }
+        requires counter { IsPcpu self.now.facts counter.number }
+        requires cpu { IsCpu self.now.facts.layout cpu.number }
+        requires amount { unsigned_abs amount ≤ most_volume }
+        requires may { (v : ℤ) → MayMake worker.old.facts worker.old.number worker.old.seen
+            (TakeL counter cpu v ∷ AddC counter (v +ℤ amount) ∷ Unlock counter ∷ []) }
+        ensures { (v : ℤ) × Made percpu worker.new worker.old
+            (TakeL counter cpu v ∷ AddC counter (v +ℤ amount) ∷ Unlock counter ∷ []) }
+    {
+        let local = self.take_local(worker, cpu, counter);
+        self.add_count(worker, counter, local + amount);
+        self.unlock(worker, counter);
+    }
+}
