@@ -12,3 +12,4 @@ pub mod AddCalls
 pub mod LoadedLocals
 pub mod SumSteps
 pub mod FoldedCounters
+pub mod LimitCalls

@@ -5,6 +5,7 @@
 mod adding;
 mod folding;
 mod ledgers;
+mod limiting;
 mod locking;
 mod passes;
 mod places;

@@ -1,0 +1,41 @@
+-- The goal was that the pass is ready again, and that its volumes hold what its CPU has spent.
+use Rattle.std.proofs.Common.{◌≡◌, ◌+◌, ◌≤◌, Bool, true, false, ℤ, pos, unsigned_abs, slice_index, slice_set, w64, to_z}
+use Rattle.std.proofs.Common.{of_z, if◌then◌else◌, ap, sym, ◌∙◌, subst, arith}
+use Rattle.std.proofs.lemmas.Int.{ints, to_z-of_z}
+use Rattle.vms_pcpu_core.specs.declared.steps.PcpuFacts.{PcpuFacts}
+use Rattle.vms_pcpu_core.specs.Calls.{present_cpus, unknown}
+use Rattle.vms_pcpu_core.specs.States.{IsPcpu, batch_at}
+use Rattle.vms_pcpu_core.proofs.OwnSteps.{limited_add-adds}
+use Rattle.vms_pcpu.specs.IdlePasses.{CpuPass, IsCpuPass}
+use Rattle.vms_pcpu.proofs.ReadyPasses.{owns-amount}
+use Rattle.vms_pcpu.proofs.tables.PcpuTable.limited_add.Goals as goal
+
+-- what is added is no larger than the amount
+at_most : (answer : Bool) (passed amount : ℤ) → passed ≡ amount
+    → unsigned_abs (if answer then passed else pos 0) ≤ unsigned_abs amount
+at_most true passed amount same = let sizes = ap unsigned_abs same in omega (arith, sizes)
+at_most false passed amount same = omega arith
+
+pub invariant_of-pass : goal.invariant_of-pass
+invariant_of-pass g c =
+    let j = c.args.counter in
+    let cpu = c.pass.inside.cpu in
+    let volume = c.pass.inside.volume in
+    let facts = c.args.self.now.facts in
+    let amount : ℤ = c.args.amount in
+    let passed : ℤ = to_z w64 (of_z w64 amount) in
+    let limit : ℤ = to_z w64 (of_z w64 c.args.limit) in
+    let steps = c.limited_add_by-answer.ensures.0 in
+    let answer : Bool = c.limited_add_by-answer.result in
+    let same : passed ≡ amount = to_z-of_z w64 amount c.ranges.amount in
+    let before = ap (λ (p : CpuPass). slice_index p.volume j.number) c.pass.view_is in
+    let sum : c.in_ok-volume.volume ≡ slice_index volume j.number + unsigned_abs amount =
+    omega (arith, ints, c.in_ok-volume.ensures.fits.0, before, ap unsigned_abs same) in
+    let of_pass = ap (λ (p : CpuPass). p.pass.facts) c.pass.view_is ∙ c.requires.table.facts in
+    subst (IsCpuPass c.limited_add_by-answer.new.worker cpu)
+    (sym (c.set.ensures ∙ ap (slice_set volume j.number) sum))
+    (owns-amount c.limited_add_by-answer.new.worker c.pass.inside.worker j (if answer then passed else pos 0)
+    (unsigned_abs amount) steps c.limited_add_by-answer.ensures.2
+    (limited_add-adds (batch_at facts.base j.number) (unknown facts j.number) (present_cpus facts) cpu j limit passed
+    steps answer c.limited_add_by-answer.ensures.1) (at_most answer passed amount same)
+    (subst (λ (f : PcpuFacts). IsPcpu f j.number) (sym of_pass) c.requires.counter) cpu volume c.pass.invariant)

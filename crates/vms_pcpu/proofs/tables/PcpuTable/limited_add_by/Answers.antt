@@ -1,0 +1,176 @@
+-- The goals were that each step may be made, and that the steps are those of a limited addition.
+use Rattle.std.proofs.Common.{◌≡◌, ◌≤◌, ◌+ℤ◌, Bool, true, false, ℤ, unsigned_abs, w64, to_z, of_z, List, [], ◌∷◌, sym, subst}
+use Rattle.std.proofs.Common.{◌∙◌, arith}
+use Rattle.vms_base.specs.Places.{IsCpu}
+use Rattle.vms_base.specs.Volumes.{most_volume}
+use Rattle.vms_pcpu_core.specs.declared.steps.PcpuFacts.{PcpuFacts}
+use Rattle.vms_pcpu_core.specs.declared.steps.PcpuStep.{PcpuStep}
+use Rattle.vms_pcpu_core.specs.declared.steps.PcpuStep.TheVariants.{TakeL, AddC, Unlock}
+use Rattle.vms_pcpu_core.specs.Calls.{IsLimitedAdd, Judges, present_cpus, unknown}
+use Rattle.vms_pcpu_core.specs.Calls.Settles.{yes_ends, no_ends}
+use Rattle.vms_pcpu_core.specs.Histories.{percpu}
+use Rattle.vms_pcpu_core.specs.MayCall.{MayMake}
+use Rattle.vms_pcpu_core.specs.States.{batch_at}
+use Rattle.vms_pcpu_core.proofs.Totals.{owned}
+use Rattle.vms_pcpu.proofs.LimitCalls.{limited_nothing, zero_word, other_word, probes-as, judges-as}
+use Rattle.vms_pcpu.proofs.LimitCalls.{ending-may, ending-made}
+use Rattle.vms_pcpu.proofs.SmallNumbers.{same_sum, same_word}
+use Rattle.vms_pcpu.proofs.tables.PcpuTable.limited_add_by.Goals as goal
+use Rattle.vms_seats.specs.Steps.{Made}
+
+pub returns-then-amount-eq0 : goal.returns-then-amount-eq0
+returns-then-amount-eq0 g c =
+    let old = c.args.worker.now in
+    let own = c.args.own in
+    let j = c.args.counter in
+    let facts = c.args.self.now.facts in
+    let limit : ℤ = c.args.limit in
+    let amount : ℤ = c.args.amount in
+    let room_left = c.requires.may.affordable in
+    let most : unsigned_abs amount ≤ most_volume = omega (arith, room_left) in
+    limited_nothing old own j limit amount c.requires.may facts c.requires.table.facts
+    (zero_word amount most c.if-amount-eq0.true)
+
+pub move_local-requires-clause-cpu : goal.move_local-requires-clause-cpu
+move_local-requires-clause-cpu g c =
+    let old = c.args.worker.now in
+    subst (λ (f : PcpuFacts). IsCpu f.layout c.args.own.number) c.requires.table.facts
+    (owned old.facts old.seen old.number c.args.own c.requires.may.calls.legal c.requires.may.owner)
+
+pub move_local-requires-clause-may : goal.move_local-requires-clause-may
+move_local-requires-clause-may g c =
+    let old = c.args.worker.now in
+    let own = c.args.own in
+    let j = c.args.counter in
+    let facts = c.args.self.now.facts in
+    let limit : ℤ = c.args.limit in
+    let amount : ℤ = c.args.amount in
+    let room_left = c.requires.may.affordable in
+    let most : unsigned_abs amount ≤ most_volume = omega (arith, room_left) in
+    let small = c.load_count.ensures.bound in
+    let limit_most = c.requires.limit in
+    let v = c.load_count.result in
+    let limits : to_z w64 (of_z w64 limit) ≡ limit = same_word limit (omega (arith, limit_most)) in
+    let amounts : to_z w64 (of_z w64 amount) ≡ amount = same_word amount (omega (arith, most)) in
+    let value = same_sum v amount (omega (arith, small)) (omega (arith, most)) in
+    let probing = c.if-add_unlocked.ensures.0 in
+    let probes = probes-as (batch_at facts.base j.number) (unknown facts j.number) _ limit own j _ amount probing limits
+    amounts c.if-add_unlocked.ensures.1 in
+    let judged = c.keeps_limit-keeps.new.worker in
+    let loads = c.keeps_limit-keeps.ensures.0 in
+    let judges = subst
+    (λ (b : Bool). Judges (unknown facts j.number) limit (present_cpus facts) j amount (v +ℤ amount) loads b)
+    c.if-keeps.true
+    (judges-as (unknown facts j.number) _ limit (present_cpus facts) j _ amount _ (v +ℤ amount) loads
+    c.keeps_limit-keeps.result limits amounts value c.keeps_limit-keeps.ensures.1) in
+    subst
+    (λ (a : ℤ). (u : ℤ) → MayMake judged.facts judged.number judged.seen
+    (TakeL j own u ∷ AddC j (u +ℤ a) ∷ Unlock j ∷ [])) (sym amounts)
+    (λ u. ending-may old own j limit amount c.requires.may facts c.requires.table.facts
+    (other_word amount c.if-amount-eq0.false) c.add_unlocked.new.worker probing probes c.if-add_unlocked.ensures.2
+    c.lock.new.worker c.lock.ensures.0 c.lock.ensures.1 c.lock.ensures.2 c.load_count.new.worker v
+    c.load_count.ensures.made judged loads c.keeps_limit-keeps.ensures.2 true (TakeL j own u ∷ AddC j (u +ℤ amount) ∷ Unlock j ∷ []) judges (yes_ends u))
+
+pub unlock-requires-clause-may : goal.unlock-requires-clause-may
+unlock-requires-clause-may g c =
+    let old = c.args.worker.now in
+    let own = c.args.own in
+    let j = c.args.counter in
+    let facts = c.args.self.now.facts in
+    let limit : ℤ = c.args.limit in
+    let amount : ℤ = c.args.amount in
+    let room_left = c.requires.may.affordable in
+    let most : unsigned_abs amount ≤ most_volume = omega (arith, room_left) in
+    let small = c.load_count.ensures.bound in
+    let limit_most = c.requires.limit in
+    let v = c.load_count.result in
+    let limits : to_z w64 (of_z w64 limit) ≡ limit = same_word limit (omega (arith, limit_most)) in
+    let amounts : to_z w64 (of_z w64 amount) ≡ amount = same_word amount (omega (arith, most)) in
+    let value = same_sum v amount (omega (arith, small)) (omega (arith, most)) in
+    let probing = c.if-add_unlocked.ensures.0 in
+    let probes = probes-as (batch_at facts.base j.number) (unknown facts j.number) _ limit own j _ amount probing limits
+    amounts c.if-add_unlocked.ensures.1 in
+    let judged = c.keeps_limit-keeps.new.worker in
+    let loads = c.keeps_limit-keeps.ensures.0 in
+    let judges = subst
+    (λ (b : Bool). Judges (unknown facts j.number) limit (present_cpus facts) j amount (v +ℤ amount) loads b)
+    c.if-keeps.false
+    (judges-as (unknown facts j.number) _ limit (present_cpus facts) j _ amount _ (v +ℤ amount) loads
+    c.keeps_limit-keeps.result limits amounts value c.keeps_limit-keeps.ensures.1) in
+    ending-may old own j limit amount c.requires.may facts c.requires.table.facts
+    (other_word amount c.if-amount-eq0.false) c.add_unlocked.new.worker probing probes c.if-add_unlocked.ensures.2
+    c.lock.new.worker c.lock.ensures.0 c.lock.ensures.1 c.lock.ensures.2 c.load_count.new.worker v
+    c.load_count.ensures.made judged loads c.keeps_limit-keeps.ensures.2 false (Unlock j ∷ []) judges no_ends
+
+pub returns-then-keeps : goal.returns-then-keeps
+returns-then-keeps g c =
+    let old = c.args.worker.now in
+    let own = c.args.own in
+    let j = c.args.counter in
+    let facts = c.args.self.now.facts in
+    let limit : ℤ = c.args.limit in
+    let amount : ℤ = c.args.amount in
+    let room_left = c.requires.may.affordable in
+    let most : unsigned_abs amount ≤ most_volume = omega (arith, room_left) in
+    let small = c.load_count.ensures.bound in
+    let limit_most = c.requires.limit in
+    let v = c.load_count.result in
+    let limits : to_z w64 (of_z w64 limit) ≡ limit = same_word limit (omega (arith, limit_most)) in
+    let amounts : to_z w64 (of_z w64 amount) ≡ amount = same_word amount (omega (arith, most)) in
+    let value = same_sum v amount (omega (arith, small)) (omega (arith, most)) in
+    let probing = c.if-add_unlocked.ensures.0 in
+    let probes = probes-as (batch_at facts.base j.number) (unknown facts j.number) _ limit own j _ amount probing limits
+    amounts c.if-add_unlocked.ensures.1 in
+    let judged = c.keeps_limit-keeps.new.worker in
+    let loads = c.keeps_limit-keeps.ensures.0 in
+    let judges = subst
+    (λ (b : Bool). Judges (unknown facts j.number) limit (present_cpus facts) j amount (v +ℤ amount) loads b)
+    c.if-keeps.true
+    (judges-as (unknown facts j.number) _ limit (present_cpus facts) j _ amount _ (v +ℤ amount) loads
+    c.keeps_limit-keeps.result limits amounts value c.keeps_limit-keeps.ensures.1) in
+    let u = c.move_local.ensures.0 in
+    subst
+    (λ (b : Bool). (steps : List PcpuStep)
+    × IsLimitedAdd (batch_at facts.base j.number) (unknown facts j.number) (present_cpus facts) own j limit amount steps b
+    × Made percpu c.move_local.new.worker old steps) (sym c.if-keeps.true)
+    (ending-made old own j limit amount c.requires.may facts c.requires.table.facts
+    (other_word amount c.if-amount-eq0.false) c.add_unlocked.new.worker probing probes c.if-add_unlocked.ensures.2
+    c.lock.new.worker c.lock.ensures.0 c.lock.ensures.1 c.lock.ensures.2 c.load_count.new.worker v
+    c.load_count.ensures.made judged loads c.keeps_limit-keeps.ensures.2 true (TakeL j own u ∷ AddC j (u +ℤ amount) ∷ Unlock j ∷ []) judges (yes_ends u) c.move_local.new.worker
+    (subst (λ (a : ℤ). Made percpu c.move_local.new.worker judged (TakeL j own u ∷ AddC j (u +ℤ a) ∷ Unlock j ∷ []))
+    amounts c.move_local.ensures.1))
+
+pub returns-else-keeps : goal.returns-else-keeps
+returns-else-keeps g c =
+    let old = c.args.worker.now in
+    let own = c.args.own in
+    let j = c.args.counter in
+    let facts = c.args.self.now.facts in
+    let limit : ℤ = c.args.limit in
+    let amount : ℤ = c.args.amount in
+    let room_left = c.requires.may.affordable in
+    let most : unsigned_abs amount ≤ most_volume = omega (arith, room_left) in
+    let small = c.load_count.ensures.bound in
+    let limit_most = c.requires.limit in
+    let v = c.load_count.result in
+    let limits : to_z w64 (of_z w64 limit) ≡ limit = same_word limit (omega (arith, limit_most)) in
+    let amounts : to_z w64 (of_z w64 amount) ≡ amount = same_word amount (omega (arith, most)) in
+    let value = same_sum v amount (omega (arith, small)) (omega (arith, most)) in
+    let probing = c.if-add_unlocked.ensures.0 in
+    let probes = probes-as (batch_at facts.base j.number) (unknown facts j.number) _ limit own j _ amount probing limits
+    amounts c.if-add_unlocked.ensures.1 in
+    let judged = c.keeps_limit-keeps.new.worker in
+    let loads = c.keeps_limit-keeps.ensures.0 in
+    let judges = subst
+    (λ (b : Bool). Judges (unknown facts j.number) limit (present_cpus facts) j amount (v +ℤ amount) loads b)
+    c.if-keeps.false
+    (judges-as (unknown facts j.number) _ limit (present_cpus facts) j _ amount _ (v +ℤ amount) loads
+    c.keeps_limit-keeps.result limits amounts value c.keeps_limit-keeps.ensures.1) in
+    subst
+    (λ (b : Bool). (steps : List PcpuStep)
+    × IsLimitedAdd (batch_at facts.base j.number) (unknown facts j.number) (present_cpus facts) own j limit amount steps b
+    × Made percpu c.unlock.new.worker old steps) (sym c.if-keeps.false)
+    (ending-made old own j limit amount c.requires.may facts c.requires.table.facts
+    (other_word amount c.if-amount-eq0.false) c.add_unlocked.new.worker probing probes c.if-add_unlocked.ensures.2
+    c.lock.new.worker c.lock.ensures.0 c.lock.ensures.1 c.lock.ensures.2 c.load_count.new.worker v
+    c.load_count.ensures.made judged loads c.keeps_limit-keeps.ensures.2 false (Unlock j ∷ []) judges no_ends c.unlock.new.worker c.unlock.ensures.all)

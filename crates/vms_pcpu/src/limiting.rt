@@ -1,0 +1,171 @@
+ghost use Rattle.std.specs.Prelude.{◌≡◌, ◌≢◌, ◌+◌, ◌<◌, ◌≤◌, ◌^◌, ◌↔◌, List, IsErr, IfErr, IfOk, OnOk, MatchBool};
+ghost use Rattle.std.specs.Prelude.{OnErr, pos, unsigned_abs, slice_index, slice_set, true};
+ghost use Rattle.vms_base.specs.Volumes.{most_volume};
+ghost use Rattle.vms_pcpu_core.specs.declared.steps.PcpuStep.{PcpuStep};
+ghost use Rattle.vms_pcpu_core.specs.Calls.{IsLimitedAdd, Probes, Judges, present_cpus};
+ghost use Rattle.vms_pcpu_core.specs.Calls.{unknown as unknown_in, room as room_of};
+ghost use Rattle.vms_pcpu_core.specs.Histories.{percpu};
+ghost use Rattle.vms_pcpu_core.specs.MayCall.{MayChange};
+ghost use Rattle.vms_pcpu_core.specs.States.{IsPcpu, batch_at};
+ghost use Rattle.vms_pcpu.specs.IdlePasses.{MakesCall};
+ghost use Rattle.vms_seats.specs.Passes.{IsOf};
+ghost use Rattle.vms_seats.specs.Steps.{Made};
+
+use crate::ledgers::SharedPcpu;
+use crate::passes::PcpuPass;
+use crate::tables::PcpuTable;
+use std::sync::Wait;
+use vms_base::{CpuId, Overflow, PcpuId};
+use vms_seats::Worker;
+
+impl PcpuTable {
+    /// Adds an amount to a counter on the pass's CPU where the counter then keeps a limit, so far as the call sees, and
+    /// says whether it does. The limit is the most for a positive amount, and the least for a negative one. It waits for
+    /// the counter's lock where the shared part alone can't decide. The volume grows by the amount's size whatever the
+    /// answer is. No counterpart in Linux 6.1.
+    pub fn limited_add<R: Wait>(
+        &self,
+        rt: &R,
+        pass: &mut PcpuPass,
+        counter: PcpuId,
+        limit: i64,
+        amount: i64,
+    ) -> Result<bool, Overflow>
+        requires table { IsOf pass.old.pass self.now }
+        requires counter { IsPcpu self.now.facts counter.number }
+        requires limit { unsigned_abs limit ≤ 2 ^ 60 }
+        ensures made { IfOk result (λ answer. MakesCall pass.new.pass pass.old.pass (λ own steps.
+            IsLimitedAdd (batch_at self.now.facts.base counter.number) (unknown_in self.now.facts counter.number)
+            (present_cpus self.now.facts) own counter limit amount steps answer)) }
+        ensures volume { OnOk result (pass.new.volume ≡ slice_set pass.old.volume counter.number
+            (slice_index pass.old.volume counter.number + unsigned_abs amount)) }
+        ensures overflow { IsErr result ↔
+            (most_volume < slice_index pass.old.volume counter.number + unsigned_abs amount) }
+        ensures told { IfErr result (λ e. e ≡
+            record { volume = slice_index pass.old.volume counter.number; size = unsigned_abs amount }) }
+        ensures err { OnErr result (pass.new ≡ pass.old) }
+    {
+        let volume = pass.volume_with(counter, amount)?;
+        let answer = self.limited_add_by(rt, &mut pass.worker, pass.cpu, counter, limit, amount);
+        pass.volume.set(counter.number as usize, volume);
+        Ok(answer)
+    }
+
+    fn limited_add_by<R: Wait>(
+        &self,
+        rt: &R,
+        worker: &mut Worker<SharedPcpu>,
+        own: CpuId,
+        counter: PcpuId,
+        limit: i64,
+        amount: i64,
+    ) -> bool
+        requires table { IsOf worker.old self.now }
+        requires limit { unsigned_abs limit ≤ 2 ^ 60 }
+        requires may { MayChange worker.old.facts worker.old.seen worker.old.number own counter amount }
+        ensures { (steps : List PcpuStep)
+            × IsLimitedAdd (batch_at self.now.facts.base counter.number) (unknown_in self.now.facts counter.number)
+            (present_cpus self.now.facts) own counter limit amount steps result
+            × Made percpu worker.new worker.old steps }
+    {
+        if amount == 0 {
+            return true;
+        }
+        if self.add_unlocked(worker, own, counter, limit, amount) {
+            return true;
+        }
+        self.lock(rt, worker, counter);
+        let value = self.load_count(worker, counter) + amount;
+        let keeps = self.keeps_limit(worker, counter, limit, amount, value);
+        if keeps {
+            self.move_local(worker, own, counter, amount);
+        } else {
+            self.unlock(worker, counter);
+        }
+        keeps
+    }
+
+    /// Adds an amount without the lock, where the local part stays within the batch and the limit is further off than
+    /// what the CPUs may hold; and says whether that is so.
+    fn add_unlocked(
+        &self,
+        worker: &mut Worker<SharedPcpu>,
+        own: CpuId,
+        counter: PcpuId,
+        limit: i64,
+        amount: i64,
+    ) -> bool
+        requires table { IsOf worker.old self.now }
+        requires limit { unsigned_abs limit ≤ 2 ^ 60 }
+        requires some { amount ≢ pos 0 }
+        requires may { MayChange worker.old.facts worker.old.seen worker.old.number own counter amount }
+        ensures { MatchBool result
+            ((steps : List PcpuStep)
+            × IsLimitedAdd (batch_at self.now.facts.base counter.number) (unknown_in self.now.facts counter.number)
+            (present_cpus self.now.facts) own counter limit amount steps true
+            × Made percpu worker.new worker.old steps)
+            ((steps : List PcpuStep)
+            × Probes (batch_at self.now.facts.base counter.number) (unknown_in self.now.facts counter.number) limit own
+            counter amount steps
+            × Made percpu worker.new worker.old steps) }
+    {
+        let sum = self.load_local(worker, own, counter) + amount;
+        if sum.unsigned_abs() > u64::from(self.batch(counter)) {
+            return false;
+        }
+        let left = room(limit, amount, self.load_count(worker, counter));
+        if left < self.unknown(counter) as i64 {
+            return false;
+        }
+        self.add_local(worker, own, counter, amount);
+        true
+    }
+
+    /// Whether a value keeps a limit: by itself where what the CPUs may hold can't matter, and else together with the
+    /// local parts.
+    fn keeps_limit(
+        &self,
+        worker: &mut Worker<SharedPcpu>,
+        counter: PcpuId,
+        limit: i64,
+        amount: i64,
+        value: i64,
+    ) -> bool
+        requires table { IsOf worker.old self.now }
+        requires counter { IsPcpu self.now.facts counter.number }
+        requires limit { unsigned_abs limit ≤ 2 ^ 60 }
+        requires amount { unsigned_abs amount ≤ most_volume }
+        requires value { unsigned_abs value ≤ 2 ^ 61 }
+        ensures { (steps : List PcpuStep)
+            × Judges (unknown_in self.now.facts counter.number) limit (present_cpus self.now.facts) counter amount value
+            steps result
+            × Made percpu worker.new worker.old steps }
+    {
+        let _ = worker.cpu();
+        let unknown = self.unknown(counter) as i64;
+        let left = room(limit, amount, value);
+        if left + unknown < 0 {
+            return false;
+        }
+        if left >= unknown {
+            return true;
+        }
+        let sum = self.load_locals(worker, counter);
+        room(limit, amount, value + sum) >= 0
+    }
+}
+
+/// How far a value is from the limit, on the side on which an amount may lead.
+#[inline]
+fn room(limit: i64, amount: i64, value: i64) -> i64
+    requires limit { unsigned_abs limit ≤ 2 ^ 60 }
+    requires value { unsigned_abs value ≤ 2 ^ 61 + 2 ^ 60 }
+    ensures room { result ≡ room_of limit amount value }
+    ensures bound { unsigned_abs result ≤ 2 ^ 62 }
+{
+    if amount > 0 {
+        limit - value
+    } else {
+        value - limit
+    }
+}
