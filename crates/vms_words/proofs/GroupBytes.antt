@@ -1,11 +1,13 @@
--- The word of eight bytes gives them back.
+-- The word of eight bytes gives them back, and eight bytes are one list.
 use Rattle.std.proofs.Common.{◌≡◌, ℕ, zero, suc, ◌<◌, ℤ, pos, negsuc, List, [], ◌∷◌, length, get_or, map}
-use Rattle.std.proofs.Common.{refl, arith, ◌∙◌, ap}
+use Rattle.std.proofs.Common.{replicate, refl, arith, ◌∙◌, ap, subst}
 use Rattle.std.specs.Int.{w8, w64, cast_signed, cast_unsigned, from_le_bytes}
+use Rattle.std.proofs.Math.Dec.{T_prop}
 use Rattle.std.proofs.lemmas.Int.{ints, to_z-of_z}
 use Rattle.std.proofs.lemmas.List.{length-map}
 use Rattle.std.proofs.lemmas.Nat.{le_bytes_8}
 use mir.Val.{SFits}
+use Rattle.vms_base.specs.declared.groups.Diffs.{Diffs}
 use Rattle.vms_base.specs.Groups.{IsByte, AreBytes, word_of_bytes, bytes_of_word}
 
 byte-fits : (z : ℤ) → IsByte z → SFits w8 z
@@ -33,3 +35,20 @@ bytes-of_word zs eight are =
     (le_bytes_8 (map (cast_unsigned w8) zs) (from_le_bytes w64 (map (cast_unsigned w8) zs))
     (length-map zs (cast_unsigned w8) ∙ eight) (bytes-below zs are) refl)
     ∙ bytes-back zs are
+
+pub word-of_zeros : word_of_bytes (replicate 8 (pos 0)) ≡ 0
+unfolding word_of_bytes
+word-of_zeros = refl
+
+-- lists of eight with the same entries are one
+are_bytes-prop : (values : List ℤ) → IsProp (AreBytes values)
+are_bytes-prop values = hlevel T_prop
+
+list_of : (values : List ℤ) → AreBytes values → Diffs
+list_of values bytes = record { values = values; bytes = bytes }
+
+pub same-list : (w v : Diffs) → w.values ≡ v.values → w ≡ v
+unfolding list_of
+same-list w v same =
+    subst (λ (values : List ℤ). (bytes : AreBytes values) → w ≡ list_of values bytes) same
+    (λ bytes. ap (list_of w.values) (are_bytes-prop w.values w.bytes bytes)) v.bytes

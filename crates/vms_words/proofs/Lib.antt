@@ -11,3 +11,5 @@ pub mod InTables
 pub mod Filled
 pub mod LastStates
 pub mod AddSteps
+pub mod GroupChanges
+pub mod GroupSteps

@@ -1,5 +1,6 @@
 pub mod Spots
 pub mod Shown
+pub mod Lists
 pub mod Told
 pub mod PagePasses
 pub mod PageTables

@@ -6,8 +6,10 @@ use Rattle.vms_base.specs.declared.kinds.CpuState.TheVariants.{Online, Dead, Abs
 use Rattle.vms_base.specs.Numbers.{number_of}
 use Rattle.vms_history.specs.Passes.Role.{Begins, Ends}
 use Rattle.vms_core.specs.declared.steps.Step.{Step}
-use Rattle.vms_core.specs.declared.steps.Step.TheVariants.{LoadT, LoadG, LoadS, LoadM, LoadO, LoadA, Split, Join}
+use Rattle.vms_core.specs.declared.steps.Step.TheVariants.{LoadT, LoadD, Take, LoadG, LoadS, LoadM, LoadO}
+use Rattle.vms_core.specs.declared.steps.Step.TheVariants.{LoadA, Split, Join}
 use Rattle.vms_core.specs.Steps.{role}
+use Rattle.vms_words.specs.Lists.{list_told}
 
 -- the state of a CPU
 abbrev pub cpu_told : ℕ → CpuState
@@ -20,9 +22,11 @@ abbrev pub acknowledgement_told : ℕ → Option ℕ
 acknowledgement_told zero = None
 acknowledgement_told (suc n) = Some n
 
--- a load tells the numbers in the word that it finds
+-- a load tells the numbers in the word that it finds, and so does a take
 abbrev pub told : Step → ℕ → Step
 told (LoadT g t a) found = LoadT g (found % 2 ^ 32) (found / 2 ^ 32)
+told (LoadD c j w) found = LoadD c j (list_told found)
+told (Take c j w) found = Take c j (list_told found)
 told (LoadG k v) found = LoadG k (number_of found)
 told (LoadS i v) found = LoadS i (number_of found)
 told (LoadM g m a) found = LoadM g (found % 2 ^ 43) (found / 2 ^ 43)

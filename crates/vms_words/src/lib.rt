@@ -4,6 +4,7 @@
 
 mod adds;
 mod endings;
+mod groups;
 mod ledgers;
 mod loads;
 mod packed;

@@ -1,0 +1,45 @@
+ghost use Rattle.vms_base.specs.Places.{IsCpu, IsGroup};
+ghost use Rattle.vms_core.specs.declared.steps.Step.TheVariants.{LoadD, Take};
+ghost use Rattle.vms_core.specs.Pages.{pages};
+ghost use Rattle.vms_seats.specs.Passes.{IsOf};
+ghost use Rattle.vms_seats.specs.Steps.{MadeOne};
+
+use crate::passes::Caller;
+use crate::spots::Spot;
+use crate::tables::PageTable;
+use vms_base::{CpuId, Diffs, GroupId, unpack};
+use vms_core::Step;
+
+impl PageTable {
+    /// Loads a CPU's eight differentials of a group, in pages.
+    #[inline]
+    pub fn load_diffs<P: Caller>(&self, pass: &mut P, cpu: CpuId, group: GroupId) -> Diffs
+        requires table { IsOf (P.pass pass.old) self.now }
+        requires cpu { IsCpu self.now.facts.layout cpu.number }
+        requires group { IsGroup self.now.facts.layout group.number }
+        ensures { MadeOne pages (P.pass pass.new) (P.pass pass.old) (LoadD cpu group result) }
+    {
+        pass.keeps();
+        let place = self
+            .blocks
+            .place_of(&self.facts.layout, Spot::Group(cpu, group));
+        let plan = Step::LoadD(cpu, group, Diffs::zeros());
+        unpack(pass.load_at(&self.words, place, &plan))
+    }
+
+    /// Takes a CPU's eight differentials of a group, in pages, which become 0.
+    #[inline]
+    pub fn take<P: Caller>(&self, pass: &mut P, cpu: CpuId, group: GroupId) -> Diffs
+        requires table { IsOf (P.pass pass.old) self.now }
+        requires cpu { IsCpu self.now.facts.layout cpu.number }
+        requires group { IsGroup self.now.facts.layout group.number }
+        ensures { MadeOne pages (P.pass pass.new) (P.pass pass.old) (Take cpu group result) }
+    {
+        pass.keeps();
+        let place = self
+            .blocks
+            .place_of(&self.facts.layout, Spot::Group(cpu, group));
+        let plan = Step::Take(cpu, group, Diffs::zeros());
+        unpack(pass.swap_at(&self.words, place, 0, &plan))
+    }
+}
