@@ -36,6 +36,10 @@ bytes-of_word zs eight are =
     (length-map zs (cast_unsigned w8) ∙ eight) (bytes-below zs are) refl)
     ∙ bytes-back zs are
 
+pub length-read : (word : ℕ) → length (bytes_of_word word) ≡ 8
+unfolding bytes_of_word
+length-read word = refl
+
 pub word-of_zeros : word_of_bytes (replicate 8 (pos 0)) ≡ 0
 unfolding word_of_bytes
 word-of_zeros = refl

@@ -13,3 +13,6 @@ pub mod LastStates
 pub mod AddSteps
 pub mod GroupChanges
 pub mod GroupSteps
+pub mod PutSteps
+pub mod PutVolumes
+pub mod PutCalls

@@ -3,4 +3,5 @@ pub mod Shown
 pub mod Lists
 pub mod Told
 pub mod PagePasses
+pub mod Puts
 pub mod PageTables

@@ -1,13 +1,15 @@
 -- What words tell of a state, and which step a call makes that finds a number.
-use Rattle.std.specs.Prelude.{◌≡◌, ℕ, suc, zero, ◌/◌, ◌%◌, ◌^◌, Option, Some, None, refl}
+use Rattle.std.specs.Prelude.{◌≡◌, ℕ, suc, zero, ◌/◌, ◌%◌, ◌^◌, ◌==◌, if◌then◌else◌, Option, Some, None, refl}
 use Rattle.vms_base.specs.declared.ids.CpuId.{CpuId}
 use Rattle.vms_base.specs.declared.kinds.CpuState.{CpuState}
 use Rattle.vms_base.specs.declared.kinds.CpuState.TheVariants.{Online, Dead, Absent}
+use Rattle.vms_base.specs.Groups.{word_of_bytes}
 use Rattle.vms_base.specs.Numbers.{number_of}
+use Rattle.vms_base.specs.Places.{group_of}
 use Rattle.vms_history.specs.Passes.Role.{Begins, Ends}
 use Rattle.vms_core.specs.declared.steps.Step.{Step}
-use Rattle.vms_core.specs.declared.steps.Step.TheVariants.{LoadT, LoadD, Take, LoadG, LoadS, LoadM, LoadO}
-use Rattle.vms_core.specs.declared.steps.Step.TheVariants.{LoadA, Split, Join}
+use Rattle.vms_core.specs.declared.steps.Step.TheVariants.{LoadT, LoadD, Put, Miss, Take, LoadG, LoadS}
+use Rattle.vms_core.specs.declared.steps.Step.TheVariants.{LoadM, LoadO, LoadA, Split, Join}
 use Rattle.vms_core.specs.Steps.{role}
 use Rattle.vms_words.specs.Lists.{list_told}
 
@@ -22,10 +24,14 @@ abbrev pub acknowledgement_told : ℕ → Option ℕ
 acknowledgement_told zero = None
 acknowledgement_told (suc n) = Some n
 
--- a load tells the numbers in the word that it finds, and so does a take
+-- a load tells the numbers in the word that it finds, and so does a take. A put is a miss where it finds another list
 abbrev pub told : Step → ℕ → Step
 told (LoadT g t a) found = LoadT g (found % 2 ^ 32) (found / 2 ^ 32)
 told (LoadD c j w) found = LoadD c j (list_told found)
+told (Put k w t delta how) found =
+    if found == word_of_bytes w.values
+    then Put k w t delta how
+    else Miss (record { number = group_of k.number }) w
 told (Take c j w) found = Take c j (list_told found)
 told (LoadG k v) found = LoadG k (number_of found)
 told (LoadS i v) found = LoadS i (number_of found)

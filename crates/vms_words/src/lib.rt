@@ -9,9 +9,11 @@ mod ledgers;
 mod loads;
 mod packed;
 mod passes;
+mod puts;
 mod spots;
 mod tables;
 
 pub use ledgers::SharedPages;
 pub use passes::{Caller, ControlPass, CpuPass};
+pub use puts::PutDone;
 pub use tables::{MainPass, PageTable, PhaseHistory};

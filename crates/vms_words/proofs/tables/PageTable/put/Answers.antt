@@ -1,0 +1,151 @@
+-- The goals were that the pass may make the put, and that the put or the miss is what it made.
+use Rattle.std.proofs.Common.{◌≡◌, ℕ, ◌+◌, ◌==◌, List, length, get_or, ℤ, unsigned_abs, to_z, of_z, w64}
+use Rattle.std.proofs.Common.{refl, sym, ap, ◌∙◌, subst, arith, if◌then◌else◌}
+use Rattle.std.proofs.Math.ListN.{set}
+use Rattle.std.proofs.lemmas.Int.{to_z-of_z}
+use Rattle.vms_base.specs.Groups.{word_of_bytes}
+use Rattle.vms_base.specs.Places.{IsCpu, group_of}
+use Rattle.vms_seats.specs.Passes.{IsOf}
+use Rattle.vms_seats.specs.Steps.{MadeOne}
+use Rattle.vms_core.specs.declared.steps.Step.{Step}
+use Rattle.vms_core.specs.declared.steps.Step.TheVariants.{Put, Miss}
+use Rattle.vms_core.specs.Pages.{pages}
+use Rattle.vms_words.specs.declared.spots.Spot.TheVariants.{Group}
+use Rattle.vms_words.specs.PagePasses.{OwningPass, IsOwningPass}
+use Rattle.vms_words.specs.Puts.{MayPut, HasPut, HasMissed}
+use Rattle.vms_words.specs.Told.{told}
+use Rattle.vms_words.proofs.GroupBytes.{length-read}
+use Rattle.vms_words.proofs.InTables.{may-at, known-in}
+use Rattle.vms_words.proofs.LoadSteps.{owned-known}
+use Rattle.vms_words.proofs.PutCalls.{passed-byte, passed-differential, passed-carried, threshold-most, put-may}
+use Rattle.vms_words.proofs.PutCalls.{told-put, told-missed, missed-zeros, missed-other}
+use Rattle.vms_words.proofs.PutVolumes.{owning-put}
+use Rattle.vms_words.proofs.Volumes.{owning-step}
+use Rattle.vms_words.proofs.tables.PageTable.put.Goals as goal
+
+pub with_entry-requires-clause-byte : goal.with_entry-requires-clause-byte
+with_entry-requires-clause-byte c =
+    let puts = subst (λ (p : OwningPass). MayPut p c.args.counter c.args.found.now c.args.threshold c.args.delta)
+    (sym c.pass.view_is) c.requires.puts in
+    passed-byte c.change-changed.result.differential c.args.threshold c.change-changed.ensures.within
+    (threshold-most c.pass.inside.worker c.pass.inside.cpu c.pass.inside.volume c.args.counter c.args.found.now
+    c.args.threshold c.args.delta c.pass.invariant puts)
+
+pub place_of-place-requires-clause-spot : goal.place_of-place-requires-clause-spot
+place_of-place-requires-clause-spot c =
+    let of = subst (λ (p : OwningPass). IsOf p.pass c.args.self.now) (sym c.pass.view_is) c.requires.table in (
+      known-in c.self.inside.facts c.self.inside.blocks c.self.inside.words c.args.self.now c.pass.inside.worker
+          c.self.invariant c.self.view_is of (λ shape. IsCpu shape c.pass.inside.cpu.number)
+          (owned-known c.pass.inside.worker c.pass.inside.cpu c.pass.invariant.live c.pass.invariant.owns),
+      c.group-group.ensures.bound,
+    )
+
+pub exchange_at-stood-requires-clause-step : goal.exchange_at-stood-requires-clause-step
+exchange_at-stood-requires-clause-step c =
+    let k = c.args.counter in
+    let w = c.args.found.now in
+    let t = c.args.threshold in
+    let of = subst (λ (p : OwningPass). IsOf p.pass c.args.self.now) (sym c.pass.view_is) c.requires.table in
+    let puts = subst (λ (p : OwningPass). MayPut p k w t c.args.delta) (sym c.pass.view_is) c.requires.puts in
+    let most = threshold-most c.pass.inside.worker c.pass.inside.cpu c.pass.inside.volume k w t c.args.delta
+    c.pass.invariant puts in
+    may-at c.self.inside.facts c.self.inside.blocks c.self.inside.words c.args.self.now c.pass.inside.worker
+    c.self.invariant c.self.view_is of (Group c.pass.inside.cpu c.group-group.result) c.place_of-place.result
+    c.place_of-place.ensures.value (λ n. if n == c.pack-old.result then c.pack-new.result else n)
+    (told (Put k w t (to_z w64 (of_z w64 c.args.delta)) c.args.mode))
+    (put-may c.pass.inside.worker c.pass.inside.cpu c.pass.inside.volume k w t c.args.delta c.pass.invariant puts
+    c.args.mode c.group-group.result c.pack-old.result c.pack-new.result
+    (to_z w64 (of_z w64 c.change-changed.result.differential)) (to_z w64 (of_z w64 c.args.delta))
+    (sym (ap length c.pack-old.ensures.read) ∙ length-read c.pack-old.result) c.group-group.ensures.value
+    c.pack-old.ensures.value (c.pack-new.ensures.value ∙ ap word_of_bytes c.with_entry.ensures)
+    (passed-differential k.number w t c.args.delta c.ranges.delta c.args.mode c.change-changed.result.differential
+    c.change-changed.ensures.within most c.change-changed.ensures.differential)
+    (to_z-of_z w64 c.args.delta c.ranges.delta))
+
+-- a miss
+missed : (c : goal.Then-stood-old) → MadeOne pages c.exchange_at-stood.new.self c.pass.inside.worker
+    (Miss (record { number = group_of c.args.counter.number }) c.args.found.now)
+missed c =
+    subst (λ (step : Step). MadeOne pages c.exchange_at-stood.new.self c.pass.inside.worker step)
+    (told-missed c.args.counter c.args.found.now c.args.threshold (to_z w64 (of_z w64 c.args.delta)) c.args.mode
+    c.exchange_at-stood.result (λ same. c.if-stood-old.true (same ∙ sym c.pack-old.ensures.value)))
+    c.exchange_at-stood.ensures
+
+pub invariant_of-pass : goal.invariant_of-pass
+invariant_of-pass c = owning-step c.exchange_at-stood.new.self c.pass.inside.worker c.pass.inside.cpu
+    c.pass.inside.volume (Miss (record { number = group_of c.args.counter.number }) c.args.found.now) c.pass.invariant
+    (missed c) tt
+
+pub returns-then-stood-old : goal.returns-then-stood-old
+returns-then-stood-old c =
+    subst
+    (λ (p : OwningPass). HasMissed (record { pass = c.exchange_at-stood.new.self; volume = c.pass.inside.volume }) p
+    c.args.counter c.args.found.now)
+    c.pass.view_is
+    (record {
+      made = missed c;
+      volume = refl;
+      zeros = missed-zeros c.exchange_at-stood.new.self c.pass.inside.worker c.pass.invariant.live
+          (record { number = group_of c.args.counter.number }) c.args.found.now (missed c);
+      other = missed-other c.exchange_at-stood.new.self c.pass.inside.worker c.pass.invariant.live
+          (record { number = group_of c.args.counter.number }) c.args.found.now (missed c);
+    })
+
+-- the volume that grows
+pub overflow_add-volume : goal.overflow_add-volume
+overflow_add-volume c =
+    let puts = subst (λ (p : OwningPass). MayPut p c.args.counter c.args.found.now c.args.threshold c.args.delta)
+    (sym c.pass.view_is) c.requires.puts in
+    let at : get_or c.pass.inside.volume c.args.counter.number 0 ≡ c.get.result = c.get.ensures 0 in
+    let size : c.unsigned_abs.result ≡ unsigned_abs c.args.delta =
+    c.unsigned_abs.ensures.value ∙ ap unsigned_abs (to_z-of_z w64 c.args.delta c.ranges.delta) in
+    record { fits = omega (arith, puts.affordable, at, size) }
+
+-- a put
+put : (c : goal.After-struct_told-2-1) → MadeOne pages c.exchange_at-stood.new.self c.pass.inside.worker
+    (Put c.args.counter c.args.found.now c.args.threshold c.args.delta c.args.mode)
+put c =
+    subst (λ (step : Step). MadeOne pages c.exchange_at-stood.new.self c.pass.inside.worker step)
+    (told-put c.args.counter c.args.found.now c.args.threshold (to_z w64 (of_z w64 c.args.delta)) c.args.mode
+    c.exchange_at-stood.result (c.if-stood-old.false ∙ c.pack-old.ensures.value)
+    ∙ ap (λ (z : ℤ). Put c.args.counter c.args.found.now c.args.threshold z c.args.mode)
+    (to_z-of_z w64 c.args.delta c.ranges.delta))
+    c.exchange_at-stood.ensures
+
+grown : (c : goal.After-struct_told-2-1) → c.set.new.self ≡ set c.pass.inside.volume c.args.counter.number
+    (get_or c.pass.inside.volume c.args.counter.number 0 + unsigned_abs c.args.delta)
+grown c =
+    let at : get_or c.pass.inside.volume c.args.counter.number 0 ≡ c.get.result = c.get.ensures 0 in
+    let size : c.unsigned_abs.result ≡ unsigned_abs c.args.delta =
+    c.unsigned_abs.ensures.value ∙ ap unsigned_abs (to_z-of_z w64 c.args.delta c.ranges.delta) in
+    let sum : c.get.result + c.unsigned_abs.result
+    ≡ get_or c.pass.inside.volume c.args.counter.number 0 + unsigned_abs c.args.delta = omega (arith, at, size) in
+    c.set.ensures ∙ ap (λ (n : ℕ). set c.pass.inside.volume c.args.counter.number n) sum
+
+pub invariant_of-pass-2 : goal.invariant_of-pass-2
+invariant_of-pass-2 c =
+    let puts = subst (λ (p : OwningPass). MayPut p c.args.counter c.args.found.now c.args.threshold c.args.delta)
+    (sym c.pass.view_is) c.requires.puts in
+    subst (λ (volume : List ℕ). IsOwningPass c.exchange_at-stood.new.self c.pass.inside.cpu volume) (sym (grown c))
+    (owning-put c.exchange_at-stood.new.self c.pass.inside.worker c.pass.inside.cpu c.pass.inside.volume
+    c.args.counter c.args.found.now c.args.threshold c.args.delta c.args.mode c.pass.invariant (put c) puts.counter
+    puts.affordable)
+
+pub returns : goal.returns
+returns c =
+    let puts = subst (λ (p : OwningPass). MayPut p c.args.counter c.args.found.now c.args.threshold c.args.delta)
+    (sym c.pass.view_is) c.requires.puts in
+    subst
+    (λ (p : OwningPass). HasPut (record { pass = c.exchange_at-stood.new.self; volume = c.set.new.self }) p
+    c.args.counter c.args.found.now c.args.threshold c.args.delta c.args.mode
+    (to_z w64 (of_z w64 c.change-changed.result.carried)))
+    c.pass.view_is
+    (record {
+      made = put c;
+      carries = passed-carried c.args.counter.number c.args.found.now c.args.threshold c.args.delta c.ranges.delta
+          c.args.mode c.change-changed.result.carried c.change-changed.ensures.bound
+          (threshold-most c.pass.inside.worker c.pass.inside.cpu c.pass.inside.volume c.args.counter c.args.found.now
+          c.args.threshold c.args.delta c.pass.invariant puts)
+          (omega (arith, puts.affordable)) c.change-changed.ensures.carried;
+      grown = grown c;
+    })
