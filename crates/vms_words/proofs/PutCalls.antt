@@ -1,5 +1,5 @@
 -- What a pass may put, and what it has made by then, from what it is asked.
-use Rattle.std.proofs.Common.{◌≡◌, ◌≢◌, ℕ, ◌+◌, ◌%◌, ◌<◌, ◌≤◌, ◌^◌, ◌==◌, Bool, true, false, List, length}
+use Rattle.std.proofs.Common.{◌≡◌, ◌≢◌, ℕ, ◌+◌, ◌%◌, ◌<◌, ◌≤◌, ◌^◌, ◌==◌, Bool, true, false, List, length, get_or}
 use Rattle.std.proofs.Common.{Option, Some, None, ℤ, pos, negsuc, unsigned_abs, to_z, of_z, w64}
 use Rattle.std.proofs.Common.{refl, sym, ap, ◌∙◌, subst, arith, if◌then◌else◌, eq-eqb}
 use Rattle.std.proofs.Math.ListN.{set}
@@ -153,18 +153,34 @@ module _ (pass : Pass Facts Step) (cpu : CpuId) (volume : List ℕ) (k : Counter
       (sym (new_is ∙ ap (λ (z : ℤ). word_of_bytes (set w.values (k.number % 8) z)) d_is))
       (group-put pass cpu k w t delta how eight may-exchange))))
 
-module _ (k : CounterId) (w : Diffs) (t : ℕ) (delta : ℤ) (how : Mode) (stood : ℕ) where
-  chosen : (b : Bool) → (stood == word_of_bytes w.values) ≡ b → told (Put k w t delta how) stood
-      ≡ (if b then Put k w t delta how else Miss (record { number = group_of k.number }) w)
-  chosen b is =
-      ap (λ (a : Bool). if a then Put k w t delta how else Miss (record { number = group_of k.number }) w) is
+-- what the exchange made, by the word that it found
+module _ (new old : Pass Facts Step) (k : CounterId) (w : Diffs) (t : ℕ) (passed delta : ℤ) (how : Mode)
+    (stood word : ℕ) (word_is : word ≡ word_of_bytes w.values) (passed_is : passed ≡ delta)
+    (made : MadeOne pages new old (told (Put k w t passed how) stood)) where
+  abbrev miss : Step
+  miss = Miss (record { number = group_of k.number }) w
 
-  pub told-put : stood ≡ word_of_bytes w.values → told (Put k w t delta how) stood ≡ Put k w t delta how
-  told-put same = chosen true (eq-eqb stood (word_of_bytes w.values) same)
+  chosen : (b : Bool) → (stood == word_of_bytes w.values) ≡ b
+      → MadeOne pages new old (if b then Put k w t passed how else miss)
+  chosen b is = subst (λ (a : Bool). MadeOne pages new old (if a then Put k w t passed how else miss)) is made
 
-  pub told-missed : stood ≢ word_of_bytes w.values
-      → told (Put k w t delta how) stood ≡ Miss (record { number = group_of k.number }) w
-  told-missed differs = chosen false (ne_eqb stood (word_of_bytes w.values) differs)
+  pub made-put : stood ≡ word → MadeOne pages new old (Put k w t delta how)
+  made-put same =
+      subst (λ (z : ℤ). MadeOne pages new old (Put k w t z how)) passed_is
+      (chosen true (eq-eqb stood (word_of_bytes w.values) (same ∙ word_is)))
+
+  pub made-miss : stood ≢ word → MadeOne pages new old miss
+  made-miss differs =
+      chosen false (ne_eqb stood (word_of_bytes w.values) (λ same. differs (same ∙ sym word_is)))
+
+-- the volume that grew, from what was read of it
+pub grown-is : (volume grown : List ℕ) (k had size : ℕ) (passed delta : ℤ) → get_or volume k 0 ≡ had
+    → size ≡ unsigned_abs passed → passed ≡ delta → grown ≡ set volume k (had + size)
+    → grown ≡ set volume k (get_or volume k 0 + unsigned_abs delta)
+grown-is volume grown k had size passed delta at size_is passed_is is =
+    let sum : had + size ≡ get_or volume k 0 + unsigned_abs delta =
+    omega (arith, at, size_is, ap unsigned_abs passed_is) in
+    is ∙ ap (set volume k) sum
 
 -- after a miss all eight are 0
 module _ (new old : Pass Facts Step) (live : IsLive pages old) (j : GroupId) (w : Diffs)

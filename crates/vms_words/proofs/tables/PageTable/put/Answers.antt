@@ -1,15 +1,11 @@
 -- The goals were that the pass may make the put, and that the put or the miss is what it made.
-use Rattle.std.proofs.Common.{◌≡◌, ℕ, ◌+◌, ◌==◌, List, length, get_or, ℤ, unsigned_abs, to_z, of_z, w64}
+use Rattle.std.proofs.Common.{◌≡◌, ℕ, ◌==◌, List, length, get_or, unsigned_abs, to_z, of_z, w64}
 use Rattle.std.proofs.Common.{refl, sym, ap, ◌∙◌, subst, arith, if◌then◌else◌}
-use Rattle.std.proofs.Math.ListN.{set}
 use Rattle.std.proofs.lemmas.Int.{to_z-of_z}
 use Rattle.vms_base.specs.Groups.{word_of_bytes}
 use Rattle.vms_base.specs.Places.{IsCpu, group_of}
 use Rattle.vms_seats.specs.Passes.{IsOf}
-use Rattle.vms_seats.specs.Steps.{MadeOne}
-use Rattle.vms_core.specs.declared.steps.Step.{Step}
 use Rattle.vms_core.specs.declared.steps.Step.TheVariants.{Put, Miss}
-use Rattle.vms_core.specs.Pages.{pages}
 use Rattle.vms_words.specs.declared.spots.Spot.TheVariants.{Group}
 use Rattle.vms_words.specs.PagePasses.{OwningPass, IsOwningPass}
 use Rattle.vms_words.specs.Puts.{MayPut, HasPut, HasMissed}
@@ -18,7 +14,7 @@ use Rattle.vms_words.proofs.GroupBytes.{length-read}
 use Rattle.vms_words.proofs.InTables.{may-at, known-in}
 use Rattle.vms_words.proofs.LoadSteps.{owned-known}
 use Rattle.vms_words.proofs.PutCalls.{passed-byte, passed-differential, passed-carried, threshold-most, put-may}
-use Rattle.vms_words.proofs.PutCalls.{told-put, told-missed, missed-zeros, missed-other}
+use Rattle.vms_words.proofs.PutCalls.{made-put, made-miss, missed-zeros, missed-other, grown-is}
 use Rattle.vms_words.proofs.PutVolumes.{owning-put}
 use Rattle.vms_words.proofs.Volumes.{owning-step}
 use Rattle.vms_words.proofs.tables.PageTable.put.Goals as goal
@@ -62,36 +58,34 @@ exchange_at-stood-requires-clause-step c =
     c.change-changed.ensures.within most c.change-changed.ensures.differential)
     (to_z-of_z w64 c.args.delta c.ranges.delta))
 
--- a miss
-missed : (c : goal.Then-stood-old) → MadeOne pages c.exchange_at-stood.new.self c.pass.inside.worker
-    (Miss (record { number = group_of c.args.counter.number }) c.args.found.now)
-missed c =
-    subst (λ (step : Step). MadeOne pages c.exchange_at-stood.new.self c.pass.inside.worker step)
-    (told-missed c.args.counter c.args.found.now c.args.threshold (to_z w64 (of_z w64 c.args.delta)) c.args.mode
-    c.exchange_at-stood.result (λ same. c.if-stood-old.true (same ∙ sym c.pack-old.ensures.value)))
-    c.exchange_at-stood.ensures
-
 pub invariant_of-pass : goal.invariant_of-pass
-invariant_of-pass c = owning-step c.exchange_at-stood.new.self c.pass.inside.worker c.pass.inside.cpu
-    c.pass.inside.volume (Miss (record { number = group_of c.args.counter.number }) c.args.found.now) c.pass.invariant
-    (missed c) tt
+invariant_of-pass c =
+    let made = made-miss c.exchange_at-stood.new.self c.pass.inside.worker c.args.counter c.args.found.now
+    c.args.threshold (to_z w64 (of_z w64 c.args.delta)) c.args.delta c.args.mode c.exchange_at-stood.result
+    c.pack-old.result c.pack-old.ensures.value (to_z-of_z w64 c.args.delta c.ranges.delta) c.exchange_at-stood.ensures
+    c.if-stood-old.true in
+    owning-step c.exchange_at-stood.new.self c.pass.inside.worker c.pass.inside.cpu c.pass.inside.volume
+    (Miss (record { number = group_of c.args.counter.number }) c.args.found.now) c.pass.invariant made tt
 
 pub returns-then-stood-old : goal.returns-then-stood-old
 returns-then-stood-old c =
+    let made = made-miss c.exchange_at-stood.new.self c.pass.inside.worker c.args.counter c.args.found.now
+    c.args.threshold (to_z w64 (of_z w64 c.args.delta)) c.args.delta c.args.mode c.exchange_at-stood.result
+    c.pack-old.result c.pack-old.ensures.value (to_z-of_z w64 c.args.delta c.ranges.delta) c.exchange_at-stood.ensures
+    c.if-stood-old.true in
     subst
     (λ (p : OwningPass). HasMissed (record { pass = c.exchange_at-stood.new.self; volume = c.pass.inside.volume }) p
     c.args.counter c.args.found.now)
     c.pass.view_is
     (record {
-      made = missed c;
+      made = made;
       volume = refl;
       zeros = missed-zeros c.exchange_at-stood.new.self c.pass.inside.worker c.pass.invariant.live
-          (record { number = group_of c.args.counter.number }) c.args.found.now (missed c);
+          (record { number = group_of c.args.counter.number }) c.args.found.now made;
       other = missed-other c.exchange_at-stood.new.self c.pass.inside.worker c.pass.invariant.live
-          (record { number = group_of c.args.counter.number }) c.args.found.now (missed c);
+          (record { number = group_of c.args.counter.number }) c.args.found.now made;
     })
 
--- the volume that grows
 pub overflow_add-volume : goal.overflow_add-volume
 overflow_add-volume c =
     let puts = subst (λ (p : OwningPass). MayPut p c.args.counter c.args.found.now c.args.threshold c.args.delta)
@@ -101,38 +95,25 @@ overflow_add-volume c =
     c.unsigned_abs.ensures.value ∙ ap unsigned_abs (to_z-of_z w64 c.args.delta c.ranges.delta) in
     record { fits = omega (arith, puts.affordable, at, size) }
 
--- a put
-put : (c : goal.After-struct_told-2-1) → MadeOne pages c.exchange_at-stood.new.self c.pass.inside.worker
-    (Put c.args.counter c.args.found.now c.args.threshold c.args.delta c.args.mode)
-put c =
-    subst (λ (step : Step). MadeOne pages c.exchange_at-stood.new.self c.pass.inside.worker step)
-    (told-put c.args.counter c.args.found.now c.args.threshold (to_z w64 (of_z w64 c.args.delta)) c.args.mode
-    c.exchange_at-stood.result (c.if-stood-old.false ∙ c.pack-old.ensures.value)
-    ∙ ap (λ (z : ℤ). Put c.args.counter c.args.found.now c.args.threshold z c.args.mode)
-    (to_z-of_z w64 c.args.delta c.ranges.delta))
-    c.exchange_at-stood.ensures
-
-grown : (c : goal.After-struct_told-2-1) → c.set.new.self ≡ set c.pass.inside.volume c.args.counter.number
-    (get_or c.pass.inside.volume c.args.counter.number 0 + unsigned_abs c.args.delta)
-grown c =
-    let at : get_or c.pass.inside.volume c.args.counter.number 0 ≡ c.get.result = c.get.ensures 0 in
-    let size : c.unsigned_abs.result ≡ unsigned_abs c.args.delta =
-    c.unsigned_abs.ensures.value ∙ ap unsigned_abs (to_z-of_z w64 c.args.delta c.ranges.delta) in
-    let sum : c.get.result + c.unsigned_abs.result
-    ≡ get_or c.pass.inside.volume c.args.counter.number 0 + unsigned_abs c.args.delta = omega (arith, at, size) in
-    c.set.ensures ∙ ap (λ (n : ℕ). set c.pass.inside.volume c.args.counter.number n) sum
-
 pub invariant_of-pass-2 : goal.invariant_of-pass-2
 invariant_of-pass-2 c =
+    let passed = to_z-of_z w64 c.args.delta c.ranges.delta in
     let puts = subst (λ (p : OwningPass). MayPut p c.args.counter c.args.found.now c.args.threshold c.args.delta)
     (sym c.pass.view_is) c.requires.puts in
-    subst (λ (volume : List ℕ). IsOwningPass c.exchange_at-stood.new.self c.pass.inside.cpu volume) (sym (grown c))
+    let made = made-put c.exchange_at-stood.new.self c.pass.inside.worker c.args.counter c.args.found.now
+    c.args.threshold (to_z w64 (of_z w64 c.args.delta)) c.args.delta c.args.mode c.exchange_at-stood.result
+    c.pack-old.result c.pack-old.ensures.value passed c.exchange_at-stood.ensures c.if-stood-old.false in
+    let grown = grown-is c.pass.inside.volume c.set.new.self c.args.counter.number c.get.result c.unsigned_abs.result
+    (to_z w64 (of_z w64 c.args.delta)) c.args.delta (c.get.ensures 0) c.unsigned_abs.ensures.value passed
+    c.set.ensures in
+    subst (λ (volume : List ℕ). IsOwningPass c.exchange_at-stood.new.self c.pass.inside.cpu volume) (sym grown)
     (owning-put c.exchange_at-stood.new.self c.pass.inside.worker c.pass.inside.cpu c.pass.inside.volume
-    c.args.counter c.args.found.now c.args.threshold c.args.delta c.args.mode c.pass.invariant (put c) puts.counter
+    c.args.counter c.args.found.now c.args.threshold c.args.delta c.args.mode c.pass.invariant made puts.counter
     puts.affordable)
 
 pub returns : goal.returns
 returns c =
+    let passed = to_z-of_z w64 c.args.delta c.ranges.delta in
     let puts = subst (λ (p : OwningPass). MayPut p c.args.counter c.args.found.now c.args.threshold c.args.delta)
     (sym c.pass.view_is) c.requires.puts in
     subst
@@ -141,11 +122,15 @@ returns c =
     (to_z w64 (of_z w64 c.change-changed.result.carried)))
     c.pass.view_is
     (record {
-      made = put c;
+      made = made-put c.exchange_at-stood.new.self c.pass.inside.worker c.args.counter c.args.found.now
+          c.args.threshold (to_z w64 (of_z w64 c.args.delta)) c.args.delta c.args.mode c.exchange_at-stood.result
+          c.pack-old.result c.pack-old.ensures.value passed c.exchange_at-stood.ensures c.if-stood-old.false;
       carries = passed-carried c.args.counter.number c.args.found.now c.args.threshold c.args.delta c.ranges.delta
           c.args.mode c.change-changed.result.carried c.change-changed.ensures.bound
           (threshold-most c.pass.inside.worker c.pass.inside.cpu c.pass.inside.volume c.args.counter c.args.found.now
           c.args.threshold c.args.delta c.pass.invariant puts)
           (omega (arith, puts.affordable)) c.change-changed.ensures.carried;
-      grown = grown c;
+      grown = grown-is c.pass.inside.volume c.set.new.self c.args.counter.number c.get.result
+          c.unsigned_abs.result (to_z w64 (of_z w64 c.args.delta)) c.args.delta (c.get.ensures 0)
+          c.unsigned_abs.ensures.value passed c.set.ensures;
     })
