@@ -16,3 +16,5 @@ pub mod GroupSteps
 pub mod PutSteps
 pub mod PutVolumes
 pub mod PutCalls
+pub mod SetSteps
+pub mod AcknowledgeSteps

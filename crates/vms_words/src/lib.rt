@@ -2,6 +2,7 @@
 //! every moment the state of one legal history.
 #![tactic(auto)]
 
+mod acknowledgements;
 mod adds;
 mod endings;
 mod groups;
