@@ -14,7 +14,7 @@ use Rattle.vms_words.specs.Spots.{blocks_of, place_in}
 
 module _ (facts : Facts) (blocks : Blocks) (words table : Shared Facts) (pass : Pass Facts Step)
     (are : AreFor facts blocks words) (is : words ≡ table) (of : IsOf pass table) where
-  of-facts : facts ≡ pass.facts
+  pub of-facts : facts ≡ pass.facts
   of-facts = sym are.same ∙ ap (λ (w : Shared Facts). w.facts) is ∙ sym of.facts
 
   -- a step may be made at the place of a word

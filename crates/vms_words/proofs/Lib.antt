@@ -17,4 +17,14 @@ pub mod PutSteps
 pub mod PutVolumes
 pub mod PutCalls
 pub mod SetSteps
+pub mod DeadZeros
+pub mod KeptSettings
+pub mod OpeningSettings
+pub mod MainSettings
 pub mod AcknowledgeSteps
+pub mod ThresholdSteps
+pub mod MarkSteps
+pub mod AbsentSteps
+pub mod ControlPasses
+pub mod AcknowledgedLoads
+pub mod KnownSettings

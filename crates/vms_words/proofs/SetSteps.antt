@@ -36,15 +36,15 @@ module _ (pass : Pass Facts Step) (spot : Spot) (known : IsSpot pass.facts.layou
     → (other : Spot) → IsSpot pass.facts.layout other → other ≢ spot
     → word_at (state_after pass.facts (event pass.number step ∷ h)) other ≡ word_at (state_after pass.facts h) other)
   where
-  pub set-may : MayStep pages shown pass (place_in (blocks_of pass.facts.layout) spot) (λ n. after) (λ n. step)
-  set-may h found goes fits stands =
-      let legal : IsLegal pass.facts (event pass.number step ∷ h) =
-      (goes.legal, acts pass.facts h pass.seen pass.number goes step works, meets h goes) in
-      record {
-        legal = legal;
-        shows = shown-set pass.facts (state_after pass.facts h) (state_after pass.facts (event pass.number step ∷ h)) spot
-            known after (here h legal goes) (others h legal goes);
-      }
+    pub set-may : MayStep pages shown pass (place_in (blocks_of pass.facts.layout) spot) (λ n. after) (λ n. step)
+    set-may h found goes fits stands =
+        let legal : IsLegal pass.facts (event pass.number step ∷ h) =
+        (goes.legal, acts pass.facts h pass.seen pass.number goes step works, meets h goes) in
+        record {
+          legal = legal;
+          shows = shown-set pass.facts (state_after pass.facts h) (state_after pass.facts (event pass.number step ∷ h)) spot
+              known after (here h legal goes) (others h legal goes);
+        }
 
 -- a CPU and a place of which one is another
 pub other-cell : (c d : CpuId) (g f : PlaceId) → ((c ≡ d) → (g ≡ f) → ⊥)

@@ -5,3 +5,4 @@ pub mod Told
 pub mod PagePasses
 pub mod Puts
 pub mod PageTables
+pub mod KeptSettings

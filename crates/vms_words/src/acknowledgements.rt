@@ -1,15 +1,18 @@
+ghost use Rattle.vms_base.specs.Places.{IsCpu, IsZone};
 ghost use Rattle.vms_core.specs.Conditions.{Acknowledges};
-ghost use Rattle.vms_core.specs.declared.steps.Step.TheVariants.{SetA};
+ghost use Rattle.vms_core.specs.declared.steps.Step.TheVariants.{SetA, LoadA};
 ghost use Rattle.vms_core.specs.Pages.{pages};
 ghost use Rattle.vms_seats.specs.Passes.{IsOf};
 ghost use Rattle.vms_seats.specs.Steps.{MadeOne};
 
-use crate::packed::acknowledgement_word;
-use crate::passes::Caller;
+use crate::kept::is_number;
+use crate::packed::{acknowledged_of, acknowledgement_word};
+use crate::passes::{Caller, ControlPass};
 use crate::spots::Spot;
 use crate::tables::PageTable;
-use vms_base::PlaceId;
+use vms_base::{CpuId, PlaceId};
 use vms_core::Step;
+use vms_seats::Works;
 
 impl PageTable {
     /// Acknowledges the own threshold of a zone by the number of its sets that the pass loaded last, once the pass has
@@ -34,5 +37,29 @@ impl PageTable {
             acknowledgement_word(Some(number)),
             &plan,
         );
+    }
+    /// Loads what a CPU acknowledged last of a zone: the number of a threshold's sets, or nothing. One that acknowledged
+    /// the newest threshold uses no larger one any more, so that its peak becomes this threshold.
+    #[inline]
+    pub fn load_acknowledged(
+        &self,
+        pass: &mut ControlPass,
+        cpu: CpuId,
+        zone: PlaceId,
+    ) -> Option<u32>
+        requires table { IsOf pass.old self.now }
+        requires cpu { IsCpu self.now.facts.layout cpu.number }
+        requires zone { IsZone self.now.facts.layout zone.number }
+        ensures { MadeOne pages pass.new pass.old (LoadA cpu zone result) }
+    {
+        let place = self
+            .blocks
+            .place_of(&self.facts.layout, Spot::Acknowledgement(cpu, zone));
+        let newest = pass.kept.sets_at(&self.facts.layout, cpu, zone);
+        let plan = Step::LoadA(cpu, zone, None);
+        let found = acknowledged_of(pass.worker.load_at(&self.words, place, &plan));
+        pass.kept
+            .keep_found(&self.facts.layout, cpu, zone, is_number(found, newest));
+        found
     }
 }

@@ -2,7 +2,7 @@ ghost use Rattle.std.specs.Prelude.{◌≡◌, ◌/◌, ◌%◌, ◌^◌, ◌<�
 ghost use Rattle.vms_base.specs.Groups.{AreBytes};
 ghost use Rattle.vms_core.specs.Bases.{IsOpening};
 ghost use Rattle.vms_words.specs.Shown as words;
-ghost use Rattle.vms_words.specs.Told.{cpu_told};
+ghost use Rattle.vms_words.specs.Told.{acknowledgement_told, cpu_told};
 ghost use Rattle.vms_words.specs.Spots.{IsSpot};
 
 use crate::spots::Spot;
@@ -83,6 +83,18 @@ pub(crate) fn acknowledgement_word(number: Option<u32>) -> u64
     match number {
         None => 0,
         Some(number) => u64::from(number) + 1,
+    }
+}
+
+/// What a CPU acknowledged, by the word that shows it.
+#[inline]
+pub(crate) fn acknowledged_of(word: u64) -> Option<u32>
+    requires { word ≤ 2 ^ 32 }
+    ensures { result ≡ acknowledgement_told word }
+{
+    match word {
+        0 => None,
+        _ => Some((word - 1) as u32),
     }
 }
 

@@ -5,10 +5,11 @@ ghost use Rattle.vms_seats.specs.Passes.{IsLive};
 ghost use Rattle.vms_words.specs.PagePasses.{KeepsNumbers};
 
 use crate::SharedPages;
+use crate::kept::Settings;
 use std::marker::Model;
 use vms_base::{CounterId, CpuId, Volume};
 use vms_core::Step;
-use vms_seats::{Words, Worker, Works};
+use vms_seats::{Main, Words, Worker, Works};
 
 /// A pass that owns a CPU. Contracts see in it the pass, and what its CPU has changed each counter by since the run
 /// began, in absolute sum.
@@ -29,23 +30,47 @@ impl Model for CpuPass {
     ghost invariant = { λ p. IsOwningPass p.worker p.cpu p.volume };
 }
 
-/// The control pass.
+/// The control pass. It keeps in memory what it knows of the settings by its own steps.
 #[derive(Drop)]
 pub struct ControlPass {
     pub(crate) worker: Worker<SharedPages>,
+    pub(crate) kept: Settings,
 }
 
 impl Model for ControlPass {
-    ghost use Rattle.std.specs.Prelude.{◌≡◌, None};
     ghost use Rattle.vms_core.specs.declared.steps.Facts.{Facts};
     ghost use Rattle.vms_core.specs.declared.steps.Step.{Step};
     ghost use Rattle.vms_seats.specs.Passes.{Pass};
 
     ghost Value = { Pass Facts Step };
 
+    ghost use Rattle.vms_words.specs.KeptSettings.{IsControlPass};
+
     ghost view = { λ p. p.worker };
 
-    ghost invariant = { λ p. p.worker.cpu ≡ None };
+    ghost invariant = { λ p. IsControlPass p.worker p.kept };
+}
+
+/// The main pass of the page counters, which begins and ends the others.
+#[derive(Drop)]
+pub struct MainPass {
+    pub(crate) main: Main<SharedPages>,
+    // What the next control pass begins with. It is none while a control pass lives.
+    pub(crate) kept: Option<Settings>,
+}
+
+impl Model for MainPass {
+    ghost use Rattle.vms_core.specs.declared.steps.Facts.{Facts};
+    ghost use Rattle.vms_core.specs.declared.steps.Step.{Step};
+    ghost use Rattle.vms_seats.specs.Passes.{Pass};
+
+    ghost Value = { Pass Facts Step };
+
+    ghost use Rattle.vms_words.specs.KeptSettings.{IsMainPass};
+
+    ghost view = { λ p. p.main };
+
+    ghost invariant = { λ p. IsMainPass p.main p.kept };
 }
 
 /// A pass that works on the page counters: one that owns a CPU, or the control pass.

@@ -138,7 +138,7 @@ ghost use Rattle.vms_base.specs.Places as places;
 
 /// The place of a cell of a table that begins at a place, with so many things for each CPU.
 #[inline]
-fn cell_from(start: usize, width: usize, cpu: CpuId, thing: u32) -> usize
+pub(crate) fn cell_from(start: usize, width: usize, cpu: CpuId, thing: u32) -> usize
     requires { start + places.cell width cpu.number thing < 2 ^ 63 }
     ensures { result ≡ start + places.cell width cpu.number thing }
 {
@@ -146,7 +146,7 @@ fn cell_from(start: usize, width: usize, cpu: CpuId, thing: u32) -> usize
 }
 
 /// The CPU and the thing of a cell, where each CPU has so many.
-fn row_and_column(cell: usize, width: usize) -> (CpuId, u32)
+pub(crate) fn row_and_column(cell: usize, width: usize) -> (CpuId, u32)
     requires { (0 < width) × (cell < 2 ^ 32) }
     ensures cpu { result.0.number ≡ cell / width }
     ensures thing { result.1 ≡ cell % width }

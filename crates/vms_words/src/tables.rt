@@ -19,17 +19,15 @@ ghost use Rattle.vms_words.specs.Spots.{blocks_of, spot_in};
 
 use crate::SharedPages;
 use crate::endings::{Cpus, Marks, Thresholds, Unacknowledged, Unset, Values, fill, fill_groups};
+use crate::kept::Settings;
 use crate::packed::word_of;
-use crate::passes::{ControlPass, CpuPass};
+use crate::passes::{ControlPass, CpuPass, MainPass};
 use crate::spots::Blocks;
 use std::alloc::Global;
 use std::marker::Model;
 use vms_base::{CpuId, CpuState, Header, Layout, Memory, Row, Volume};
 use vms_core::{Facts, State};
-use vms_seats::{Closing, History, Main, Words};
-
-/// The main pass of the page counters, which begins and ends the others.
-pub type MainPass = Main<SharedPages>;
+use vms_seats::{Closing, History, Words};
 
 /// The history of a phase on the page counters, which is legal and complete. It stores no event.
 pub type PhaseHistory = History<SharedPages>;
@@ -74,6 +72,7 @@ impl PageTable {
             base: copied(alloc, base)?,
         };
         let blocks = Blocks::of(&facts.layout);
+        let kept = Settings::opening(alloc, &facts.layout, &facts.base)?;
         let first = opening_words(alloc, &facts.layout, blocks, &facts.base)?;
         let (words, main) = Words::make(alloc, &facts, first.as_slice())?;
         Ok((
@@ -82,7 +81,10 @@ impl PageTable {
                 blocks,
                 words,
             },
-            main,
+            MainPass {
+                main,
+                kept: Some(kept),
+            },
         ))
     }
 
@@ -103,7 +105,7 @@ impl PageTable {
         ensures begun { HasBegun pages Split main.new main.old result.pass (Some cpu) }
         ensures volume { result.volume ≡ volume }
     {
-        let worker = main.begin(&self.words, Some(cpu));
+        let worker = main.main.begin(&self.words, Some(cpu));
         CpuPass {
             worker,
             cpu,
@@ -111,14 +113,17 @@ impl PageTable {
         }
     }
 
-    /// Begins the control pass.
+    /// Begins the control pass, which goes on from what an earlier one knew of the settings.
     pub fn control_pass(&self, main: &mut MainPass) -> ControlPass
         requires table { IsOf main.old self.now }
         requires free { IsFree role main.old.seen None }
         ensures begun { HasBegun pages Split main.new main.old result None }
     {
-        let worker = main.begin(&self.words, None);
-        ControlPass { worker }
+        let Some(kept) = main.kept.take() else {
+            unreachable!();
+        };
+        let worker = main.main.begin(&self.words, None);
+        ControlPass { worker, kept }
     }
 
     /// Ends a pass that owns a CPU, and gives the CPU's volumes back.
@@ -133,7 +138,7 @@ impl PageTable {
             cpu: _,
             volume,
         } = pass;
-        main.end(&self.words, worker);
+        main.main.end(&self.words, worker);
         volume
     }
 
@@ -143,8 +148,9 @@ impl PageTable {
         requires carries { CarriesNothing self.now.facts.layout (own pass.seen pass.number) }
         ensures ended { HasEnded pages Join main.new main.old pass }
     {
-        let ControlPass { worker } = pass;
-        main.end(&self.words, worker);
+        let ControlPass { worker, kept } = pass;
+        main.main.end(&self.words, worker);
+        main.kept = Some(kept);
     }
 }
 
@@ -158,6 +164,7 @@ impl PageTable {
         ensures history { result ≡ record { facts = self.facts; events = main.seen } }
         ensures state { into.new ≡ settled (state_after self.facts main.seen) }
     {
+        let MainPass { main, kept: _ } = main;
         main.is_main();
         let PageTable {
             facts: _,

@@ -1,4 +1,4 @@
--- The goal was that the pass may make the step.
+-- The goals were that the pass may make the step, and that it still keeps what stands.
 use Rattle.std.proofs.Common.{◌==◌, if◌then◌else◌, sym, subst}
 use Rattle.vms_core.specs.declared.steps.Facts.{Facts}
 use Rattle.vms_core.specs.declared.steps.Step.{Step}
@@ -7,6 +7,7 @@ use Rattle.vms_seats.specs.Passes.{Pass}
 use Rattle.vms_seats.specs.Steps.{MayStep}
 use Rattle.vms_words.specs.Shown.{shown}
 use Rattle.vms_words.specs.Told.{told}
+use Rattle.vms_words.proofs.ControlPasses.{IsControlPass-kept}
 use Rattle.vms_words.proofs.passes.ControlPassWorksSharedPages.exchange_at.Goals as goal
 
 pub exchange_at-requires-clause-step : goal.exchange_at-requires-clause-step
@@ -14,3 +15,7 @@ exchange_at-requires-clause-step c = subst
     (λ (p : Pass Facts Step). MayStep pages shown p c.args.place
     (λ n. if n == c.args.old then c.args.new else n) (told c.args.plan.now))
     (sym c.self.view_is) c.requires.step
+
+pub invariant_of-self : goal.invariant_of-self
+invariant_of-self c = IsControlPass-kept c.exchange_at.new.self c.self.inside.worker c.self.inside.kept
+    (told c.args.plan.now c.exchange_at.result) c.self.invariant c.exchange_at.ensures (c.requires.leaves c.exchange_at.result)

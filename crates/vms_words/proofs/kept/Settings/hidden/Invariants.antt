@@ -1,0 +1,14 @@
+use Rattle.std.proofs.Common.{◌≡◌, ◌≤◌, ◌*◌, ◌^◌}
+use Rattle.vms_base.specs.Cpus.{state_at}
+use Rattle.vms_history.specs.Sums.{count_below}
+use Rattle.vms_core.specs.Peaks.{if_present}
+use Rattle.vms_words.specs.KeptSettings.{kept_peak}
+use Rattle.vms_words.proofs.kept.Settings.hidden.Given as goal
+
+-- what the CPUs so far may hide
+abbrev pub invariant-loop-number : goal.invariant-loop-number
+invariant-loop-number l = record {
+  value : l.sum
+      ≡ count_below (λ c. if_present (state_at l.self.cpus c) (kept_peak l.layout l.self c l.zone.number)) l.number;
+  most : l.sum ≤ l.number * 2 ^ 32;
+}

@@ -1,0 +1,57 @@
+-- The goals were that the pass may set the threshold, and that it keeps that it did.
+use Rattle.std.proofs.Common.{◌≡◌, ◌+◌, sym, ap, ◌∙◌, subst}
+use Rattle.vms_seats.specs.Passes.{Pass}
+use Rattle.vms_seats.specs.Steps.{MayStep}
+use Rattle.vms_core.specs.declared.steps.Facts.{Facts}
+use Rattle.vms_core.specs.declared.steps.Step.{Step}
+use Rattle.vms_core.specs.declared.steps.Step.TheVariants.{SetT}
+use Rattle.vms_core.specs.Cells.{threshold_sets_at}
+use Rattle.vms_core.specs.Conditions.{SetsThreshold}
+use Rattle.vms_core.specs.Pages.{pages, state_after}
+use Rattle.vms_words.specs.declared.spots.Spot.TheVariants.{Threshold}
+use Rattle.vms_words.specs.KeptSettings.{IsControlPass, kept_sets, with_kept_threshold}
+use Rattle.vms_words.specs.Shown.{shown}
+use Rattle.vms_words.specs.Spots.{blocks_of, place_in}
+use Rattle.vms_words.specs.Told.{told}
+use Rattle.vms_words.proofs.ControlPasses.{IsControlPass-made, worker-of, worker-knows}
+use Rattle.vms_words.proofs.InTables.{may-at, of-facts}
+use Rattle.vms_words.proofs.ThresholdSteps.{threshold-may}
+use Rattle.vms_words.proofs.tables.PageTable.set_threshold.Goals as goal
+
+pub swap_at-requires-clause-step : goal.swap_at-requires-clause-step
+swap_at-requires-clause-step c =
+    let pass = c.pass.inside.worker in
+    let cpu = c.args.cpu in
+    let place = c.args.place in
+    let of = worker-of pass c.args.pass.now c.args.self.now c.pass.view_is c.requires.table in
+    let sets = worker-knows pass c.args.pass.now c.args.self.now c.pass.view_is c.requires.table
+    (λ (facts : Facts) (p : Pass Facts Step).
+    SetsThreshold facts p.seen (state_after facts p.seen) p.number cpu place c.args.t) c.requires.sets in
+    let number : c.sets_at-number.result
+    ≡ threshold_sets_at (state_after pass.facts pass.seen) cpu.number place.number =
+    c.sets_at-number.ensures
+    ∙ ap (λ (facts : Facts). kept_sets facts.layout c.pass.inside.kept cpu.number place.number)
+    (of-facts c.self.inside.facts c.self.inside.blocks c.self.inside.words c.args.self.now pass c.self.invariant
+    c.self.view_is of)
+    ∙ c.pass.invariant.knows.threshold_sets cpu.number place.number sets.cpu sets.place in
+    may-at c.self.inside.facts c.self.inside.blocks c.self.inside.words c.args.self.now pass c.self.invariant
+    c.self.view_is of (Threshold cpu place) c.place_of-at.result c.place_of-at.ensures.value
+    (λ n. c.threshold_word-word.result) (told (SetT cpu place c.args.t))
+    (subst
+    (λ word. MayStep pages shown pass (place_in (blocks_of pass.facts.layout) (Threshold cpu place))
+    (λ n. word) (told (SetT cpu place c.args.t)))
+    (sym c.threshold_word-word.ensures)
+    (threshold-may pass cpu place c.args.t (c.sets_at-number.result + 1) sets (ap (λ n. n + 1) (sym number))))
+
+pub invariant_of-pass : goal.invariant_of-pass
+invariant_of-pass c =
+    let pass = c.pass.inside.worker in
+    let of = worker-of pass c.args.pass.now c.args.self.now c.pass.view_is c.requires.table in
+    subst (IsControlPass c.swap_at.new.self)
+    (sym (c.keep_threshold.ensures
+    ∙ ap (λ (facts : Facts). with_kept_threshold facts.layout c.args.cpu.number c.args.place.number c.args.t
+    c.pass.inside.kept)
+    (of-facts c.self.inside.facts c.self.inside.blocks c.self.inside.words c.args.self.now pass c.self.invariant
+    c.self.view_is of)))
+    (IsControlPass-made c.swap_at.new.self pass c.pass.inside.kept (SetT c.args.cpu c.args.place c.args.t)
+    c.pass.invariant c.swap_at.ensures)
