@@ -7,12 +7,20 @@ use Rattle.vms_seats.specs.Steps.{MadeOne}
 use Rattle.vms_seats.proofs.MadeCalls.{calls-live}
 use Rattle.vms_core.specs.declared.steps.Facts.{Facts}
 use Rattle.vms_core.specs.declared.steps.Step.{Step}
-use Rattle.vms_core.specs.declared.steps.Step.TheVariants.{Put}
+use Rattle.vms_core.specs.declared.steps.Step.TheVariants.{Put, SetT, SetM, SetO, LoadA}
 use Rattle.vms_core.specs.Pages.{pages}
 use Rattle.vms_core.specs.Steps.{role}
 use Rattle.vms_core.specs.Totals.{spent, spent_by}
 use Rattle.vms_core.proofs.KnowledgeKept.{OwnerKnows-holds}
-use Rattle.vms_words.specs.PagePasses.{HoldsSpending, IsOwningPass, SpendsNothing}
+use Rattle.vms_words.specs.PagePasses.{HoldsSpending, IsOwningPass, SpendsNothing, KeepsNumbers}
+
+pub keeps-spends : (step : Step) → KeepsNumbers step → SpendsNothing step
+keeps-spends (Put k w t delta how) keeps = keeps
+keeps-spends (SetT c g t) keeps = tt
+keeps-spends (SetM g m) keeps = tt
+keeps-spends (SetO c) keeps = tt
+keeps-spends (LoadA c g x) keeps = tt
+keeps-spends _ keeps = tt
 
 spent_by-nothing : (who : Option CpuId) (c k : ℕ) (step : Step) → SpendsNothing step → spent_by who c k step ≡ 0
 spent_by-nothing None c k step nothing = refl

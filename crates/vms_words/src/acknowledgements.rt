@@ -1,3 +1,4 @@
+ghost use Rattle.std.specs.Prelude.{◌≡◌};
 ghost use Rattle.vms_base.specs.Places.{IsCpu, IsZone};
 ghost use Rattle.vms_core.specs.Conditions.{Acknowledges};
 ghost use Rattle.vms_core.specs.declared.steps.Step.TheVariants.{SetA, LoadA};
@@ -21,9 +22,9 @@ impl PageTable {
     pub fn acknowledge<P: Caller>(&self, pass: &mut P, zone: PlaceId, number: u32)
         requires table { IsOf (P.pass pass.old) self.now }
         requires acknowledges { Acknowledges self.now.facts (P.pass pass.old).seen (P.pass pass.old).number zone number }
-        ensures { MadeOne pages (P.pass pass.new) (P.pass pass.old) (SetA zone number) }
+        ensures made { MadeOne pages (P.pass pass.new) (P.pass pass.old) (SetA zone number) }
+        ensures volume { P.volume pass.new ≡ P.volume pass.old }
     {
-        pass.keeps();
         let Some(cpu) = pass.own() else {
             unreachable!();
         };
@@ -38,6 +39,7 @@ impl PageTable {
             &plan,
         );
     }
+
     /// Loads what a CPU acknowledged last of a zone: the number of a threshold's sets, or nothing. One that acknowledged
     /// the newest threshold uses no larger one any more, so that its peak becomes this threshold.
     #[inline]

@@ -1,3 +1,4 @@
+ghost use Rattle.std.specs.Prelude.{◌≡◌};
 ghost use Rattle.vms_core.specs.Conditions.{AddsToPlace, AddsToSystem};
 ghost use Rattle.vms_core.specs.declared.steps.Step.TheVariants.{AddG, AddS};
 ghost use Rattle.vms_core.specs.Pages.{pages};
@@ -16,9 +17,9 @@ impl PageTable {
     pub fn add_place<P: Caller>(&self, pass: &mut P, counter: CounterId, amount: i64)
         requires table { IsOf (P.pass pass.old) self.now }
         requires adds { AddsToPlace self.now.facts (P.pass pass.old).seen (P.pass pass.old).number counter amount }
-        ensures { MadeOne pages (P.pass pass.new) (P.pass pass.old) (AddG counter amount) }
+        ensures made { MadeOne pages (P.pass pass.new) (P.pass pass.old) (AddG counter amount) }
+        ensures volume { P.volume pass.new ≡ P.volume pass.old }
     {
-        pass.keeps();
         let place = self
             .blocks
             .place_of(&self.facts.layout, Spot::Value(counter));
@@ -31,9 +32,9 @@ impl PageTable {
     pub fn add_system<P: Caller>(&self, pass: &mut P, item: ItemId, amount: i64)
         requires table { IsOf (P.pass pass.old) self.now }
         requires adds { AddsToSystem self.now.facts (P.pass pass.old).seen (P.pass pass.old).number item amount }
-        ensures { MadeOne pages (P.pass pass.new) (P.pass pass.old) (AddS item amount) }
+        ensures made { MadeOne pages (P.pass pass.new) (P.pass pass.old) (AddS item amount) }
+        ensures volume { P.volume pass.new ≡ P.volume pass.old }
     {
-        pass.keeps();
         let place = self.blocks.place_of(&self.facts.layout, Spot::System(item));
         let plan = Step::AddS(item, amount);
         pass.add_at(&self.words, place, encode(amount), &plan);

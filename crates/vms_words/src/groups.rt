@@ -1,3 +1,4 @@
+ghost use Rattle.std.specs.Prelude.{◌≡◌};
 ghost use Rattle.vms_base.specs.Places.{IsCpu, IsGroup};
 ghost use Rattle.vms_core.specs.declared.steps.Step.TheVariants.{LoadD, Take};
 ghost use Rattle.vms_core.specs.Pages.{pages};
@@ -17,9 +18,9 @@ impl PageTable {
         requires table { IsOf (P.pass pass.old) self.now }
         requires cpu { IsCpu self.now.facts.layout cpu.number }
         requires group { IsGroup self.now.facts.layout group.number }
-        ensures { MadeOne pages (P.pass pass.new) (P.pass pass.old) (LoadD cpu group result) }
+        ensures made { MadeOne pages (P.pass pass.new) (P.pass pass.old) (LoadD cpu group result) }
+        ensures volume { P.volume pass.new ≡ P.volume pass.old }
     {
-        pass.keeps();
         let place = self
             .blocks
             .place_of(&self.facts.layout, Spot::Group(cpu, group));
@@ -33,9 +34,9 @@ impl PageTable {
         requires table { IsOf (P.pass pass.old) self.now }
         requires cpu { IsCpu self.now.facts.layout cpu.number }
         requires group { IsGroup self.now.facts.layout group.number }
-        ensures { MadeOne pages (P.pass pass.new) (P.pass pass.old) (Take cpu group result) }
+        ensures made { MadeOne pages (P.pass pass.new) (P.pass pass.old) (Take cpu group result) }
+        ensures volume { P.volume pass.new ≡ P.volume pass.old }
     {
-        pass.keeps();
         let place = self
             .blocks
             .place_of(&self.facts.layout, Spot::Group(cpu, group));

@@ -1,4 +1,4 @@
-ghost use Rattle.std.specs.Prelude.{IsSome};
+ghost use Rattle.std.specs.Prelude.{◌≡◌, IsSome};
 ghost use Rattle.vms_base.specs.Places.{IsCpu, IsPlace, IsZone, IsCounter, IsItem};
 ghost use Rattle.vms_core.specs.declared.steps.Step.TheVariants.{LoadT, LoadG, LoadS, LoadM, LoadO};
 ghost use Rattle.vms_core.specs.Pages.{pages};
@@ -18,9 +18,9 @@ impl PageTable {
     pub fn load_place<P: Caller>(&self, pass: &mut P, counter: CounterId) -> i64
         requires table { IsOf (P.pass pass.old) self.now }
         requires counter { IsCounter self.now.facts.layout counter.number }
-        ensures { MadeOne pages (P.pass pass.new) (P.pass pass.old) (LoadG counter result) }
+        ensures made { MadeOne pages (P.pass pass.new) (P.pass pass.old) (LoadG counter result) }
+        ensures volume { P.volume pass.new ≡ P.volume pass.old }
     {
-        pass.keeps();
         let place = self
             .blocks
             .place_of(&self.facts.layout, Spot::Value(counter));
@@ -32,9 +32,9 @@ impl PageTable {
     pub fn load_system<P: Caller>(&self, pass: &mut P, item: ItemId) -> i64
         requires table { IsOf (P.pass pass.old) self.now }
         requires item { IsItem self.now.facts.layout item.number }
-        ensures { MadeOne pages (P.pass pass.new) (P.pass pass.old) (LoadS item result) }
+        ensures made { MadeOne pages (P.pass pass.new) (P.pass pass.old) (LoadS item result) }
+        ensures volume { P.volume pass.new ≡ P.volume pass.old }
     {
-        pass.keeps();
         let place = self.blocks.place_of(&self.facts.layout, Spot::System(item));
         decode(pass.load_at(&self.words, place, &Step::LoadS(item, 0)))
     }
@@ -45,9 +45,9 @@ impl PageTable {
         requires table { IsOf (P.pass pass.old) self.now }
         requires place { IsPlace self.now.facts.layout place.number }
         requires owns { IsSome (P.pass pass.old).cpu }
-        ensures { MadeOne pages (P.pass pass.new) (P.pass pass.old) (LoadT place result.t result.number) }
+        ensures made { MadeOne pages (P.pass pass.new) (P.pass pass.old) (LoadT place result.t result.number) }
+        ensures volume { P.volume pass.new ≡ P.volume pass.old }
     {
-        pass.keeps();
         let Some(cpu) = pass.own() else {
             unreachable!();
         };
@@ -62,9 +62,9 @@ impl PageTable {
     pub fn load_mark<P: Caller>(&self, pass: &mut P, zone: PlaceId) -> MarkRead
         requires table { IsOf (P.pass pass.old) self.now }
         requires zone { IsZone self.now.facts.layout zone.number }
-        ensures { MadeOne pages (P.pass pass.new) (P.pass pass.old) (LoadM zone result.mark result.number) }
+        ensures made { MadeOne pages (P.pass pass.new) (P.pass pass.old) (LoadM zone result.mark result.number) }
+        ensures volume { P.volume pass.new ≡ P.volume pass.old }
     {
-        pass.keeps();
         let place = self.blocks.place_of(&self.facts.layout, Spot::Mark(zone));
         mark_of(pass.load_at(&self.words, place, &Step::LoadM(zone, 0, 0)))
     }
@@ -74,9 +74,9 @@ impl PageTable {
     pub fn load_state<P: Caller>(&self, pass: &mut P, cpu: CpuId) -> CpuState
         requires table { IsOf (P.pass pass.old) self.now }
         requires cpu { IsCpu self.now.facts.layout cpu.number }
-        ensures { MadeOne pages (P.pass pass.new) (P.pass pass.old) (LoadO cpu result) }
+        ensures made { MadeOne pages (P.pass pass.new) (P.pass pass.old) (LoadO cpu result) }
+        ensures volume { P.volume pass.new ≡ P.volume pass.old }
     {
-        pass.keeps();
         let place = self.blocks.place_of(&self.facts.layout, Spot::Cpu(cpu));
         cpu_of(pass.load_at(&self.words, place, &Step::LoadO(cpu, CpuState::Online)))
     }

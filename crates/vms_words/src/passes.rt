@@ -1,8 +1,12 @@
-ghost use Rattle.std.specs.Prelude.{◌≡◌};
+ghost use Rattle.std.specs.Prelude.{◌≡◌, ℕ, ◌+◌, ◌%◌, ◌^◌, ◌<◌, List, []};
+ghost use Rattle.vms_core.specs.declared.steps.Facts.{Facts};
 ghost use Rattle.vms_core.specs.declared.steps.Step.{Step};
 ghost use Rattle.vms_core.specs.Pages.{pages};
-ghost use Rattle.vms_seats.specs.Passes.{IsLive};
+ghost use Rattle.vms_seats.specs.Passes.{Pass, IsOf, IsLive};
+ghost use Rattle.vms_seats.specs.Steps.{MayStep, MadeOne};
 ghost use Rattle.vms_words.specs.PagePasses.{KeepsNumbers};
+ghost use Rattle.vms_words.specs.Shown.{shown};
+ghost use Rattle.vms_words.specs.Told.{told};
 
 use crate::SharedPages;
 use crate::kept::Settings;
@@ -73,21 +77,61 @@ impl Model for MainPass {
     ghost invariant = { λ p. IsMainPass p.main p.kept };
 }
 
-/// A pass that works on the page counters: one that owns a CPU, or the control pass.
-pub trait Caller: Works<SharedPages> {
+/// A pass that works on the page counters: one that owns a CPU, or the control pass. Each of its steps on a word changes
+/// no volume and no setting. A call names the step that it plans; the step that it makes is this one with the number
+/// that was found.
+pub trait Caller {
+    // The pass that it is.
+    ghost pass: { Self → Pass Facts Step };
+
+    // What the pass's CPU has changed each counter by since the run began; none for a control pass.
+    ghost volume: { Self → List ℕ };
+
     /// The CPU that the pass owns; a control pass owns none.
     fn own(&self) -> Option<CpuId>
-        ensures cpu { result ≡ (Self.pass self.now).cpu }
-        ensures live { IsLive pages (Self.pass self.now) };
+        ensures cpu { result ≡ (pass self.now).cpu }
+        ensures live { IsLive pages (pass self.now) };
 
-    /// What holds of every pass: a step that changes no volume and no setting leaves what the pass keeps of them.
-    fn keeps(&self)
-        ensures { (step : Step) → KeepsNumbers step → Self.Leaves step };
+    /// Loads a word.
+    fn load_at(&mut self, words: &Words<SharedPages>, place: usize, plan: &Step) -> u64
+        requires words { IsOf (pass self.old) words.now }
+        requires place { place < words.now.table.words }
+        requires step { MayStep pages shown (pass self.old) place (λ n. n) (told plan.now) }
+        requires leaves { (n : ℕ) → KeepsNumbers (told plan.now n) }
+        ensures made { MadeOne pages (pass self.new) (pass self.old) (told plan.now result) }
+        ensures volume { volume self.new ≡ volume self.old };
+
+    /// Puts a number into a word, and tells the one that stood there.
+    fn swap_at(&mut self, words: &Words<SharedPages>, place: usize, new: u64, plan: &Step) -> u64
+        requires words { IsOf (pass self.old) words.now }
+        requires place { place < words.now.table.words }
+        requires step { MayStep pages shown (pass self.old) place (λ n. new) (told plan.now) }
+        requires leaves { (n : ℕ) → KeepsNumbers (told plan.now n) }
+        ensures made { MadeOne pages (pass self.new) (pass self.old) (told plan.now result) }
+        ensures volume { volume self.new ≡ volume self.old };
+
+    /// Adds to a word, modulo 2^64, and tells the number that stood there.
+    fn add_at(&mut self, words: &Words<SharedPages>, place: usize, amount: u64, plan: &Step) -> u64
+        requires words { IsOf (pass self.old) words.now }
+        requires place { place < words.now.table.words }
+        requires step { MayStep pages shown (pass self.old) place (λ n. (n + amount) % 2 ^ 64) (told plan.now) }
+        requires leaves { (n : ℕ) → KeepsNumbers (told plan.now n) }
+        ensures made { MadeOne pages (pass self.new) (pass self.old) (told plan.now result) }
+        ensures volume { volume self.new ≡ volume self.old };
 }
 
 impl CpuPass {
-    ghost use Rattle.std.specs.Prelude.{slice_index_or};
+    ghost use Rattle.std.specs.Prelude.{slice_index_or, Some};
     ghost use Rattle.vms_base.specs.Places.{IsCounter};
+
+    /// The CPU that the pass owns.
+    #[inline]
+    pub fn cpu(&self) -> CpuId
+        ensures owns { self.now.pass.cpu ≡ Some result }
+        ensures live { IsLive pages self.now.pass }
+    {
+        self.cpu
+    }
 
     /// What the CPU has changed a counter by since the run began, in absolute sum.
     #[inline]
@@ -99,65 +143,17 @@ impl CpuPass {
     }
 }
 
-impl Works<SharedPages> for CpuPass {
-    ghost use Rattle.vms_words.specs.PagePasses.{SpendsNothing};
-
+impl Caller for CpuPass {
     ghost pass = { λ p. p.pass };
 
-    ghost Leaves = { SpendsNothing };
+    ghost volume = { λ p. p.volume };
 
-    #[inline]
-    fn load_at(&mut self, words: &Words<SharedPages>, place: usize, plan: &Step) -> u64 {
-        self.worker.load_at(words, place, plan)
-    }
-
-    #[inline]
-    fn swap_at(&mut self, words: &Words<SharedPages>, place: usize, new: u64, plan: &Step) -> u64 {
-        self.worker.swap_at(words, place, new, plan)
-    }
-
-    #[inline]
-    fn add_at(
-        &mut self,
-        words: &Words<SharedPages>,
-        place: usize,
-        amount: u64,
-        plan: &Step,
-    ) -> u64 {
-        self.worker.add_at(words, place, amount, plan)
-    }
-
-    #[inline]
-    fn exchange_at(
-        &mut self,
-        words: &Words<SharedPages>,
-        place: usize,
-        old: u64,
-        new: u64,
-        plan: &Step,
-    ) -> u64 {
-        self.worker.exchange_at(words, place, old, new, plan)
-    }
-}
-
-impl Caller for CpuPass {
     #[inline]
     fn own(&self) -> Option<CpuId> {
         self.worker.cpu()
     }
 
     #[inline]
-    fn keeps(&self) {}
-}
-
-impl Works<SharedPages> for ControlPass {
-    ghost use Rattle.vms_words.specs.PagePasses.{KeepsNumbers};
-
-    ghost pass = { λ p. p };
-
-    ghost Leaves = { KeepsNumbers };
-
-    #[inline]
     fn load_at(&mut self, words: &Words<SharedPages>, place: usize, plan: &Step) -> u64 {
         self.worker.load_at(words, place, plan)
     }
@@ -176,27 +172,37 @@ impl Works<SharedPages> for ControlPass {
         plan: &Step,
     ) -> u64 {
         self.worker.add_at(words, place, amount, plan)
-    }
-
-    #[inline]
-    fn exchange_at(
-        &mut self,
-        words: &Words<SharedPages>,
-        place: usize,
-        old: u64,
-        new: u64,
-        plan: &Step,
-    ) -> u64 {
-        self.worker.exchange_at(words, place, old, new, plan)
     }
 }
 
 impl Caller for ControlPass {
+    ghost pass = { λ p. p };
+
+    ghost volume = { λ p. [] };
+
     #[inline]
     fn own(&self) -> Option<CpuId> {
         self.worker.cpu()
     }
 
     #[inline]
-    fn keeps(&self) {}
+    fn load_at(&mut self, words: &Words<SharedPages>, place: usize, plan: &Step) -> u64 {
+        self.worker.load_at(words, place, plan)
+    }
+
+    #[inline]
+    fn swap_at(&mut self, words: &Words<SharedPages>, place: usize, new: u64, plan: &Step) -> u64 {
+        self.worker.swap_at(words, place, new, plan)
+    }
+
+    #[inline]
+    fn add_at(
+        &mut self,
+        words: &Words<SharedPages>,
+        place: usize,
+        amount: u64,
+        plan: &Step,
+    ) -> u64 {
+        self.worker.add_at(words, place, amount, plan)
+    }
 }

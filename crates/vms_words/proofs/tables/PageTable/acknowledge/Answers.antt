@@ -17,7 +17,7 @@ use Rattle.vms_words.proofs.tables.PageTable.acknowledge.Goals as goal
 
 pub place_of-place-requires-clause-spot : goal.place_of-place-requires-clause-spot
 place_of-place-requires-clause-spot g c =
-    let pass = g.P.Works.pass c.args.pass.now in
+    let pass = g.P.Caller.pass c.args.pass.now in
     let acknowledges = subst (λ (f : Facts). Acknowledges f pass.seen pass.number c.args.zone c.args.number)
     (sym c.requires.table.facts) c.requires.acknowledges in (
       known-in c.self.inside.facts c.self.inside.blocks c.self.inside.words c.args.self.now pass c.self.invariant
@@ -29,7 +29,7 @@ place_of-place-requires-clause-spot g c =
 
 pub swap_at-requires-clause-step : goal.swap_at-requires-clause-step
 swap_at-requires-clause-step g c =
-    let pass = g.P.Works.pass c.args.pass.now in
+    let pass = g.P.Caller.pass c.args.pass.now in
     let owns = sym c.own.ensures.cpu ∙ c.in-Some.is in
     may-at c.self.inside.facts c.self.inside.blocks c.self.inside.words c.args.self.now pass c.self.invariant
     c.self.view_is c.requires.table (Acknowledgement c.in-Some.cpu c.args.zone) c.place_of-place.result

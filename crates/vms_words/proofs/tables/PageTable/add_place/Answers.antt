@@ -16,7 +16,7 @@ use Rattle.vms_words.proofs.tables.PageTable.add_place.Goals as goal
 
 pub add_at-requires-clause-step : goal.add_at-requires-clause-step
 add_at-requires-clause-step g c =
-    let pass = g.P.Works.pass c.args.pass.now in
+    let pass = g.P.Caller.pass c.args.pass.now in
     subst
     (λ a. MayStep pages shown pass c.place_of-place.result (λ n. (n + c.encode.result) % 2 ^ 64)
     (told (AddG c.args.counter a)))

@@ -15,7 +15,7 @@ use Rattle.vms_words.proofs.tables.PageTable.take.Goals as goal
 
 pub swap_at-requires-clause-step : goal.swap_at-requires-clause-step
 swap_at-requires-clause-step g c =
-    let pass = g.P.Works.pass c.args.pass.now in
+    let pass = g.P.Caller.pass c.args.pass.now in
     may-at c.self.inside.facts c.self.inside.blocks c.self.inside.words c.args.self.now pass c.self.invariant
     c.self.view_is c.requires.table (Group c.args.cpu c.args.group) c.place_of-place.result
     c.place_of-place.ensures.value (λ n. 0) (told (Take c.args.cpu c.args.group c.zeros.result))
@@ -25,9 +25,9 @@ swap_at-requires-clause-step g c =
     (known-of c.self.inside.facts c.self.inside.blocks c.self.inside.words c.args.self.now pass c.self.invariant
     c.self.view_is c.requires.table (λ shape. IsGroup shape c.args.group.number) c.requires.group))
 
-pub returns : goal.returns
-returns g c =
+pub returns-clause-made : goal.returns-clause-made
+returns-clause-made g c =
     subst
-    (λ (w : Diffs). MadeOne pages (g.P.Works.pass c.swap_at.new.self) (g.P.Works.pass c.args.pass.now)
+    (λ (w : Diffs). MadeOne pages (g.P.Caller.pass c.swap_at.new.self) (g.P.Caller.pass c.args.pass.now)
     (Take c.args.cpu c.args.group w))
-    (same-list (list_told c.swap_at.result) c.unpack.result (sym c.unpack.ensures.value)) c.swap_at.ensures
+    (same-list (list_told c.swap_at.result) c.unpack.result (sym c.unpack.ensures.value)) c.swap_at.ensures.made

@@ -8,13 +8,13 @@ use Rattle.vms_seats.specs.Steps.{MayStep}
 use Rattle.vms_words.specs.Shown.{shown}
 use Rattle.vms_words.specs.Told.{told}
 use Rattle.vms_words.proofs.ControlPasses.{IsControlPass-kept}
-use Rattle.vms_words.proofs.passes.ControlPassWorksSharedPages.swap_at.Goals as goal
+use Rattle.vms_words.proofs.passes.ControlPassCaller.load_at.Goals as goal
 
-pub swap_at-requires-clause-step : goal.swap_at-requires-clause-step
-swap_at-requires-clause-step c = subst
-    (λ (p : Pass Facts Step). MayStep pages shown p c.args.place (λ n. c.args.new) (told c.args.plan.now))
+pub load_at-requires-clause-step : goal.load_at-requires-clause-step
+load_at-requires-clause-step c = subst
+    (λ (p : Pass Facts Step). MayStep pages shown p c.args.place (λ n. n) (told c.args.plan.now))
     (sym c.self.view_is) c.requires.step
 
 pub invariant_of-self : goal.invariant_of-self
-invariant_of-self c = IsControlPass-kept c.swap_at.new.self c.self.inside.worker c.self.inside.kept
-    (told c.args.plan.now c.swap_at.result) c.self.invariant c.swap_at.ensures (c.requires.leaves c.swap_at.result)
+invariant_of-self c = IsControlPass-kept c.load_at.new.self c.self.inside.worker c.self.inside.kept
+    (told c.args.plan.now c.load_at.result) c.self.invariant c.load_at.ensures (c.requires.leaves c.load_at.result)

@@ -8,7 +8,7 @@ use Rattle.vms_seats.specs.Steps.{MayStep}
 use Rattle.vms_words.specs.Shown.{shown}
 use Rattle.vms_words.specs.Told.{told}
 use Rattle.vms_words.proofs.ControlPasses.{IsControlPass-kept}
-use Rattle.vms_words.proofs.passes.ControlPassWorksSharedPages.add_at.Goals as goal
+use Rattle.vms_words.proofs.passes.ControlPassCaller.add_at.Goals as goal
 
 pub add_at-requires-clause-step : goal.add_at-requires-clause-step
 add_at-requires-clause-step c = subst
