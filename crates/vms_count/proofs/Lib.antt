@@ -1,0 +1,2 @@
+pub mod PassEvents
+pub mod ChangeSteps

@@ -1,0 +1,6 @@
+//! What an allocator calls on the page counters that threads share: a change of a counter, and the fold of a CPU.
+#![tactic(auto)]
+
+mod changing;
+
+pub use changing::{add, dec, inc};
