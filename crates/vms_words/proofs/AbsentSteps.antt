@@ -1,5 +1,6 @@
 -- A dead CPU may be made absent that might be made so before others acted.
-use Rattle.std.proofs.Common.{◌≡◌, ◌≢◌, ◌∷◌, Option, Some, None, nat_eq, refl, sym, ap, ◌∙◌, if◌then◌else◌, eq-eqb, eqb-true}
+use Rattle.std.proofs.Common.{◌≡◌, ◌≢◌, ◌∷◌, Option, Some, None, nat_eq, refl, sym, ap, ◌∙◌}
+use Rattle.std.proofs.Common.{if◌then◌else◌, eq-eqb, eqb-true}
 use Rattle.vms_base.specs.declared.ids.CpuId.{CpuId}
 use Rattle.vms_base.specs.declared.kinds.CpuState.TheVariants.{Online, Dead, Absent}
 use Rattle.vms_history.specs.PassSteps.{GoesOnWithout}

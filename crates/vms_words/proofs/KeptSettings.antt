@@ -78,7 +78,7 @@ Knows-later facts later earlier kept stands knows = record {
   threshold_sets = λ c g c_in g_in. knows.threshold_sets c g c_in g_in ∙ sym (stands.threshold_sets c g);
   mark_sets = λ g g_in. knows.mark_sets g g_in ∙ sym (stands.mark_sets g);
   cpus = λ c c_in. knows.cpus c c_in ∙ sym (stands.cpus c);
-  most_sets = knows.most_sets ∙ largest-same facts.layout (state_after facts earlier) (state_after facts later)
+  largest = knows.largest ∙ largest-same facts.layout (state_after facts earlier) (state_after facts later)
       (λ c g c_in g_in. stands.threshold_sets c g) (λ g g_in. stands.mark_sets g);
 }
 
@@ -126,7 +126,8 @@ module _ (facts : Facts) (h : History) (p : ℕ) (kept : Settings) (is : IsKept 
       by : (b : Bool) → nat_lt f.number (length shape.zones) ≡ b
           → get_or (if b then set kept.peaks (cell (length shape.zones) d.number f.number)
           (max t (kept_peak shape kept d.number f.number)) else kept.peaks) (cell (length shape.zones) c g) 0
-          ≡ (if nat_eq d.number c && nat_eq f.number g then max t (kept_peak shape kept c g) else kept_peak shape kept c g)
+          ≡ (if nat_eq d.number c && nat_eq f.number g then max t (kept_peak shape kept c g)
+          else kept_peak shape kept c g)
       by true zone = get_or-changed_cell (length shape.zones) shape.cpus (max t) kept.peaks d.number f.number c g 0
           is.peaks meets.cpu (ltb-true f.number (length shape.zones) zone) g_in
       by false node =
@@ -206,7 +207,8 @@ module _ (facts : Facts) (h : History) (p : ℕ) (kept : Settings) (is : IsKept 
 
   -- the largest number of sets, by those of the state before
   module _ (after : State) (step : Step) (meets : Meets facts h s p step)
-      (thresholds : (c g : ℕ) → IsPlace shape g → threshold_sets_at after c g ≡ sets_after c g step (threshold_sets_at s c g))
+      (thresholds : (c g : ℕ) → IsPlace shape g
+      → threshold_sets_at after c g ≡ sets_after c g step (threshold_sets_at s c g))
       (marks : (g : ℕ) → mark_sets_at after g ≡ mark_sets_after g step (mark_sets_at s g)) where
     -- a number that stood is within those that stand
     grows : (t : Step) → (c g n : ℕ) → n ≤ sets_after c g t n
@@ -240,8 +242,8 @@ module _ (facts : Facts) (h : History) (p : ℕ) (kept : Settings) (is : IsKept 
       → ((g : ℕ) → mark_sets_at after g ≡ mark_sets_after g step (mark_sets_at s g))
       → ((c g : ℕ) → IsCpu shape c → IsPlace shape g → kept_sets shape kept c g ≡ threshold_sets_at s c g)
       → ((g : ℕ) → IsZone shape g → get_or kept.mark_sets g 0 ≡ mark_sets_at s g)
-      → kept.most_sets ≡ largest_sets shape s
-      → (kept_after shape step kept).most_sets ≡ largest_sets shape after
+      → kept.largest_sets ≡ largest_sets shape s
+      → (kept_after shape step kept).largest_sets ≡ largest_sets shape after
   most-after after (SetT d f t) meets thresholds marks kept_thresholds kept_marks most =
       let stood = stood-within after (SetT d f t) meets thresholds marks in
       let number = kept_thresholds d.number f.number meets.cpu meets.place in
@@ -250,7 +252,7 @@ module _ (facts : Facts) (h : History) (p : ℕ) (kept : Settings) (is : IsKept 
       ∙ ap (λ b. if b then suc (threshold_sets_at s d.number f.number) else threshold_sets_at s d.number f.number)
       (same-cell d.number f.number) in
       let here = threshold-within shape after d.number f.number meets.cpu meets.place in
-      let down = largest-most shape after (max (kept_sets shape kept d.number f.number + 1) kept.most_sets)
+      let down = largest-most shape after (max (kept_sets shape kept d.number f.number + 1) kept.largest_sets)
       (λ c g c_in g_in. each c g (nat_eq d.number c && nat_eq f.number g) refl (thresholds c g g_in)
       (omega (arith, threshold-within shape s c g c_in g_in, most)))
       (λ g g_in. omega (arith, marks g, mark-within shape s g g_in, most)) in
@@ -258,8 +260,8 @@ module _ (facts : Facts) (h : History) (p : ℕ) (kept : Settings) (is : IsKept 
     where
       each : (c g : ℕ) (b : Bool) → (nat_eq d.number c && nat_eq f.number g) ≡ b
           → threshold_sets_at after c g ≡ (if b then suc (threshold_sets_at s c g) else threshold_sets_at s c g)
-          → threshold_sets_at s c g ≤ kept.most_sets
-          → threshold_sets_at after c g ≤ max (kept_sets shape kept d.number f.number + 1) kept.most_sets
+          → threshold_sets_at s c g ≤ kept.largest_sets
+          → threshold_sets_at after c g ≤ max (kept_sets shape kept d.number f.number + 1) kept.largest_sets
       each c g true here becomes within =
           let parts = and_parts (nat_eq d.number c) (nat_eq f.number g) here in
           let same : threshold_sets_at s d.number f.number ≡ threshold_sets_at s c g =
@@ -274,15 +276,15 @@ module _ (facts : Facts) (h : History) (p : ℕ) (kept : Settings) (is : IsKept 
       ∙ ap (λ b. if b then suc (mark_sets_at s f.number) else mark_sets_at s f.number)
       (eq-eqb f.number f.number refl) in
       let here = mark-within shape after f.number meets.zone in
-      let down = largest-most shape after (max (get_or kept.mark_sets f.number 0 + 1) kept.most_sets)
+      let down = largest-most shape after (max kept.largest_sets (get_or kept.mark_sets f.number 0 + 1))
       (λ c g c_in g_in. omega (arith, thresholds c g g_in, threshold-within shape s c g c_in g_in, most))
       (λ g g_in. each g (nat_eq f.number g) refl (marks g) (omega (arith, mark-within shape s g g_in, most))) in
       omega (arith, stood, number, this, here, down, most)
     where
       each : (g : ℕ) (b : Bool) → nat_eq f.number g ≡ b
           → mark_sets_at after g ≡ (if b then suc (mark_sets_at s g) else mark_sets_at s g)
-          → mark_sets_at s g ≤ kept.most_sets
-          → mark_sets_at after g ≤ max (get_or kept.mark_sets f.number 0 + 1) kept.most_sets
+          → mark_sets_at s g ≤ kept.largest_sets
+          → mark_sets_at after g ≤ max kept.largest_sets (get_or kept.mark_sets f.number 0 + 1)
       each g true here becomes within =
           let same : mark_sets_at s f.number ≡ mark_sets_at s g = rw (eqb-true f.number g here) refl in
           omega (arith, becomes, same, kept_marks f.number meets.zone)
@@ -322,7 +324,7 @@ Knows-step facts h p step kept legal knows =
       cpus = λ c c_in.
           cpus-after facts h p kept knows.is_kept step legal.2 c ∙ ap (cpu_after c step) (knows.cpus c c_in)
           ∙ sym (cpu_at-newest facts e h legal c);
-      most_sets = most-after facts h p kept knows.is_kept (state_after facts (e ∷ h)) step legal.2
+      largest = most-after facts h p kept knows.is_kept (state_after facts (e ∷ h)) step legal.2
           (sets-newest facts e h legal) (mark_sets_at-newest facts e h legal) knows.threshold_sets knows.mark_sets
-          knows.most_sets;
+          knows.largest;
     }

@@ -70,8 +70,8 @@ module _ (new old pass : Pass Facts Step) (cpu : CpuId) (begun : HasBegun pages 
         had.0,
         had.1,
         subst (λ (f : Facts). Knows f new.seen had.0) (sym begun.main.facts)
-            (Knows-made old.facts new.seen old.seen (Split (next_number pages old.seen) (Some cpu)) begun.made had.0 refl
-            free_before had.2),
+            (Knows-made old.facts new.seen old.seen (Split (next_number pages old.seen) (Some cpu)) begun.made had.0
+            refl free_before had.2),
       )
 
 -- while it ends one
@@ -132,7 +132,8 @@ module _ (new old pass : Pass Facts Step) (begun : HasBegun pages Split new old 
   }
 
 -- and hands it back
-module _ (new old pass : Pass Facts Step) (ended : HasEnded pages Join new old pass) (same_facts : pass.facts ≡ old.facts)
+module _ (new old pass : Pass Facts Step) (ended : HasEnded pages Join new old pass)
+    (same_facts : pass.facts ≡ old.facts)
     (kept : Settings) (control : IsControlPass pass kept) where
   pub IsMainPass-back : IsMainPass new (Some kept)
   IsMainPass-back free =

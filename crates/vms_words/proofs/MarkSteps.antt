@@ -47,7 +47,8 @@ module _ (pass : Pass Facts Step) (g : PlaceId) (m number : ℕ)
 
     newest : (f : ℕ)
         → word_at (state_after pass.facts (event pass.number (SetM g m) ∷ h)) (Mark (record { number = f }))
-        ≡ (if nat_eq g.number f then mark_word m (suc (mark_sets_at s f)) else mark_word (mark_at s f) (mark_sets_at s f))
+        ≡ (if nat_eq g.number f then mark_word m (suc (mark_sets_at s f))
+        else mark_word (mark_at s f) (mark_sets_at s f))
     newest f =
         ap (λ n. mark_word n (mark_sets_at (state_after pass.facts (event pass.number (SetM g m) ∷ h)) f))
         (mark_at-newest pass.facts (event pass.number (SetM g m)) h legal f)

@@ -16,9 +16,10 @@ module _ (facts : Facts) (layout : IsLayout facts.layout) (opening : IsOpening f
     (kept : Settings) (peaks_full : length kept.peaks ≡ facts.layout.cpus * length facts.layout.zones)
     (peaks : (n : ℕ) → n < facts.layout.cpus * length facts.layout.zones → get_or kept.peaks n 0
     ≡ opening_peak facts.layout facts.base (n / length facts.layout.zones) (n % length facts.layout.zones))
-    (thresholds : kept.thresholds ≡ facts.base.threshold) (threshold_sets : kept.threshold_sets ≡ facts.base.threshold_sets)
+    (thresholds : kept.thresholds ≡ facts.base.threshold)
+    (threshold_sets : kept.threshold_sets ≡ facts.base.threshold_sets)
     (mark_sets : kept.mark_sets ≡ facts.base.mark_sets) (cpus : kept.cpus ≡ facts.base.cpu)
-    (none : kept.most_sets ≡ 0) where
+    (none : kept.largest_sets ≡ 0) where
   threshold-same : (c g : ℕ) → kept_threshold facts.layout kept c g ≡ threshold_at facts.base c g
   threshold-same c g = rw (thresholds, places_of-shaped facts.layout facts.base layout opening.shaped) refl
 
@@ -43,7 +44,7 @@ module _ (facts : Facts) (layout : IsLayout facts.layout) (opening : IsOpening f
     threshold_sets = λ c g c_in g_in. sets-same c g;
     mark_sets = λ g g_in. ap (λ (row : List ℕ). get_or row g 0) mark_sets;
     cpus = λ c c_in. ap (λ states. state_at states c) cpus;
-    most_sets =
+    largest =
         let most = largest-most facts.layout facts.base 0
         (λ c g c_in g_in. omega (arith, opening.unset_thresholds c g c_in g_in))
         (λ g g_in. omega (arith, opening.unset_marks g g_in)) in

@@ -42,7 +42,8 @@ module _ (pass : Pass Facts Step) (spot : Spot) (known : IsSpot pass.facts.layou
         (goes.legal, acts pass.facts h pass.seen pass.number goes step works, meets h goes) in
         record {
           legal = legal;
-          shows = shown-set pass.facts (state_after pass.facts h) (state_after pass.facts (event pass.number step ∷ h)) spot
+          shows = shown-set pass.facts (state_after pass.facts h)
+              (state_after pass.facts (event pass.number step ∷ h)) spot
               known after (here h legal goes) (others h legal goes);
         }
 

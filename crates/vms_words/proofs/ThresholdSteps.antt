@@ -1,5 +1,6 @@
 -- A threshold may be set that might be set before others acted. Its word tells one more set than stood.
-use Rattle.std.proofs.Common.{◌≡◌, ◌≢◌, ℕ, suc, ◌+◌, ◌∷◌, ◌&&◌, Bool, true, false, Option, Some, None, nat_eq, refl, sym}
+use Rattle.std.proofs.Common.{◌≡◌, ◌≢◌, ℕ, suc, ◌+◌, ◌∷◌, ◌&&◌, Bool, true, false, Option, Some, None, nat_eq, refl}
+use Rattle.std.proofs.Common.{sym}
 use Rattle.std.proofs.Common.{ap, ◌∙◌, arith, if◌then◌else◌}
 use Rattle.vms_base.specs.declared.ids.CpuId.{CpuId}
 use Rattle.vms_base.specs.declared.ids.PlaceId.{PlaceId}

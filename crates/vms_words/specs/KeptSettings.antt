@@ -57,7 +57,7 @@ pub record Knows (facts : Facts) (h : History) (kept : Settings) : Type 0 where
   pub mark_sets : (g : ℕ) → IsZone facts.layout g →
       slice_index_or kept.mark_sets g 0 ≡ mark_sets_at (state_after facts h) g
   pub cpus : (c : ℕ) → IsCpu facts.layout c → state_at kept.cpus c ≡ cpu_at (state_after facts h) c
-  pub most_sets : kept.most_sets ≡ largest_sets facts.layout (state_after facts h)
+  pub largest : kept.largest_sets ≡ largest_sets facts.layout (state_after facts h)
 
 -- what is kept after a threshold was set. One of a zone may raise the peak
 abbrev pub with_kept_threshold : Shape → ℕ → ℕ → ℕ → Settings → Settings
@@ -69,7 +69,7 @@ with_kept_threshold shape c g t kept =
           else kept.peaks;
       thresholds = slice_set kept.thresholds (cell (place_count shape) c g) t;
       threshold_sets = slice_set kept.threshold_sets (cell (place_count shape) c g) number;
-      most_sets = max number kept.most_sets;
+      largest_sets = max number kept.largest_sets;
     }
 
 -- what is kept after a mark was set
@@ -78,7 +78,7 @@ with_kept_mark g kept =
     let number = slice_index_or kept.mark_sets g 0 + 1 in
     record kept {
       mark_sets = slice_set kept.mark_sets g number;
-      most_sets = max number kept.most_sets;
+      largest_sets = max kept.largest_sets number;
     }
 
 -- what is kept after a load of what a CPU acknowledged. Where that is the newest threshold, it is the peak
@@ -106,4 +106,5 @@ pub record IsControlPass (pass : Pass Facts Step) (kept : Settings) : Type 0 whe
 
 -- while no control pass lives, the main pass keeps what the next one begins with
 abbrev pub IsMainPass : Pass Facts Step → Option Settings → Type 0
-IsMainPass main kept = IsFree role main.seen None → (now : Settings) × (kept ≡ Some now) × Knows main.facts main.seen now
+IsMainPass main kept =
+    IsFree role main.seen None → (now : Settings) × (kept ≡ Some now) × Knows main.facts main.seen now

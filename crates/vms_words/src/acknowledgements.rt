@@ -21,7 +21,8 @@ impl PageTable {
     #[inline]
     pub fn acknowledge<P: Caller>(&self, pass: &mut P, zone: PlaceId, number: u32)
         requires table { IsOf (P.pass pass.old) self.now }
-        requires acknowledges { Acknowledges self.now.facts (P.pass pass.old).seen (P.pass pass.old).number zone number }
+        requires acknowledges { Acknowledges self.now.facts (P.pass pass.old).seen
+            (P.pass pass.old).number zone number }
         ensures made { MadeOne pages (P.pass pass.new) (P.pass pass.old) (SetA zone number) }
         ensures volume { P.volume pass.new ≡ P.volume pass.old }
     {
@@ -40,8 +41,8 @@ impl PageTable {
         );
     }
 
-    /// Loads what a CPU acknowledged last of a zone: the number of a threshold's sets, or nothing. One that acknowledged
-    /// the newest threshold uses no larger one any more, so that its peak becomes this threshold.
+    /// Loads what a CPU acknowledged last of a zone: the number of a threshold's sets, or nothing. A CPU that
+    /// acknowledged the newest threshold uses no larger one any more, so its peak becomes this threshold.
     #[inline]
     pub fn load_acknowledged(
         &self,

@@ -8,7 +8,8 @@ use std::alloc::Global;
 use vms_base::{CpuId, CpuState, Layout, Memory, PlaceId, Row};
 use vms_core::State;
 
-/// What the control pass keeps in memory of the settings, since it alone changes them.
+/// What the control pass keeps in memory, since it alone changes it: thresholds, how often they and the marks were set,
+/// the CPUs' states, and the peaks that follow from its steps.
 #[derive(Debug, Drop)]
 pub(crate) struct Settings {
     /// The largest threshold that each CPU may still be using in each zone, in pages, by CPU and then zone.
@@ -22,7 +23,7 @@ pub(crate) struct Settings {
     /// Whether each CPU is online, dead or absent.
     pub cpus: Row<CpuState>,
     /// The largest number of sets of any one threshold or mark.
-    pub most_sets: u32,
+    pub largest_sets: u32,
 }
 
 impl Settings {
@@ -48,7 +49,7 @@ impl Settings {
             threshold_sets: Row::from_slice(alloc, state.threshold_sets.as_slice())?,
             mark_sets: Row::from_slice(alloc, state.mark_sets.as_slice())?,
             cpus: Row::from_slice(alloc, state.cpu.as_slice())?,
-            most_sets: 0,
+            largest_sets: 0,
         })
     }
 
@@ -121,7 +122,7 @@ impl Settings {
         let number = self.threshold_sets.get(at) + 1;
         self.thresholds.set(at, t);
         self.threshold_sets.set(at, number);
-        self.most_sets = number.max(self.most_sets);
+        self.largest_sets = number.max(self.largest_sets);
         let zones = layout.zones().len();
         if (place.number as usize) < zones {
             let peak_at = cell_from(0, zones, cpu, place.number);
@@ -141,11 +142,11 @@ impl Settings {
         let at = zone.number as usize;
         let number = self.mark_sets.get(at) + 1;
         self.mark_sets.set(at, number);
-        self.most_sets = number.max(self.most_sets);
+        self.largest_sets = self.largest_sets.max(number);
     }
 
-    /// Keeps whether a CPU was found to have acknowledged the newest threshold of a zone. It then uses no larger one any
-    /// more.
+    /// Keeps whether a CPU was found to have acknowledged the newest threshold of a zone. If so, it uses no larger one
+    /// any more.
     #[inline]
     pub fn keep_found(&mut self, layout: &Layout, cpu: CpuId, zone: PlaceId, newest: bool)
         requires layout { IsLayout layout.now }

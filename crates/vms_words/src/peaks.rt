@@ -36,12 +36,14 @@ impl PageTable {
     #[inline]
     pub fn most_sets(&self, pass: &ControlPass) -> u32
         requires { IsOf pass.now self.now }
-        ensures value { result ≡ largest_sets self.now.facts.layout (state_after self.now.facts pass.now.seen) }
-        ensures thresholds { (c g : ℕ) → IsCpu self.now.facts.layout c → IsPlace self.now.facts.layout g →
+        ensures value { result
+            ≡ largest_sets self.now.facts.layout (state_after self.now.facts pass.now.seen) }
+        ensures thresholds { (c g : ℕ) →
+            IsCpu self.now.facts.layout c → IsPlace self.now.facts.layout g →
             threshold_sets_at (state_after self.now.facts pass.now.seen) c g ≤ result }
         ensures marks { (g : ℕ) → IsZone self.now.facts.layout g →
             mark_sets_at (state_after self.now.facts pass.now.seen) g ≤ result }
     {
-        pass.kept.most_sets
+        pass.kept.largest_sets
     }
 }

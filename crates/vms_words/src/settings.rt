@@ -20,8 +20,10 @@ impl PageTable {
     #[inline]
     pub fn set_threshold(&self, pass: &mut ControlPass, cpu: CpuId, place: PlaceId, t: u32)
         requires table { IsOf pass.old self.now }
-        requires sets { SetsThreshold self.now.facts pass.old.seen (state_after self.now.facts pass.old.seen) pass.old.number cpu place t }
-        requires number { threshold_sets_at (state_after self.now.facts pass.old.seen) cpu.number place.number < most_sets }
+        requires sets { SetsThreshold self.now.facts pass.old.seen
+            (state_after self.now.facts pass.old.seen) pass.old.number cpu place t }
+        requires number { threshold_sets_at (state_after self.now.facts pass.old.seen)
+            cpu.number place.number < most_sets }
         ensures { MadeOne pages pass.new pass.old (SetT cpu place t) }
     {
         let at = self
@@ -39,7 +41,8 @@ impl PageTable {
     pub fn set_mark(&self, pass: &mut ControlPass, zone: PlaceId, m: u64)
         requires table { IsOf pass.old self.now }
         requires sets { SetsMark self.now.facts pass.old.seen pass.old.number zone m }
-        requires number { mark_sets_at (state_after self.now.facts pass.old.seen) zone.number < most_sets }
+        requires number { mark_sets_at (state_after self.now.facts pass.old.seen) zone.number
+            < most_sets }
         ensures { MadeOne pages pass.new pass.old (SetM zone m) }
     {
         let at = self.blocks.place_of(&self.facts.layout, Spot::Mark(zone));
@@ -54,7 +57,8 @@ impl PageTable {
     #[inline]
     pub fn set_absent(&self, pass: &mut ControlPass, cpu: CpuId)
         requires table { IsOf pass.old self.now }
-        requires sets { SetsAbsent self.now.facts pass.old.seen (state_after self.now.facts pass.old.seen) pass.old.number cpu }
+        requires sets { SetsAbsent self.now.facts pass.old.seen
+            (state_after self.now.facts pass.old.seen) pass.old.number cpu }
         ensures { MadeOne pages pass.new pass.old (SetO cpu) }
     {
         let at = self.blocks.place_of(&self.facts.layout, Spot::Cpu(cpu));

@@ -14,7 +14,8 @@ loop-at-preserved c =
       same_length = ap length c.set.ensures ∙ length-set c.loop-at.peaks c.loop-at.at c.opening_peak.result
           ∙ c.loop-at.invariant.same_length;
       done = filled-more (λ n. opening_peak shape s (n / zones) (n % zones)) c.loop-at.at c.loop-at.peaks
-          c.set.new.self c.opening_peak.result 0 (omega (arith, c.loop-at.invariant.same_length, c.loop-at-test.true, end))
+          c.set.new.self c.opening_peak.result 0
+          (omega (arith, c.loop-at.invariant.same_length, c.loop-at-test.true, end))
           c.set.ensures
           (c.opening_peak.ensures.value
           ∙ ap (λ n. opening_peak shape s n c.row_and_column-zone.result.1) c.row_and_column-zone.ensures.cpu

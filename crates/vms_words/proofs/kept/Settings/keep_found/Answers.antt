@@ -8,7 +8,8 @@ use Rattle.vms_words.proofs.kept.Settings.keep_found.Goals as goal
 pub get-threshold-requires : goal.get-threshold-requires
 get-threshold-requires c =
     let shape = c.args.layout.now in
-    let at = c.cell_from-at.ensures ∙ ap (λ width. 0 + cell width c.args.cpu.number c.args.zone.number) c.places.ensures.value in
+    let at = c.cell_from-at.ensures
+    ∙ ap (λ width. 0 + cell width c.args.cpu.number c.args.zone.number) c.places.ensures.value in
     let place = zone-place (length shape.zones) (length shape.nodes) c.args.zone.number c.requires.zone in
     omega (
       arith,

@@ -13,7 +13,7 @@ returns c sizes =
       threshold_sets = c.in_ok-from_slice-2.field-0;
       mark_sets = c.in_ok-from_slice-3.field-0;
       cpus = c.in_ok-from_slice-4.field-0;
-      most_sets = 0;
+      largest_sets = 0;
     })
     c.in_ok-opening_peaks.ensures.len c.in_ok-opening_peaks.ensures.each
     (c.in_ok-from_slice.ensures ∙ c.as_slice.ensures) (c.in_ok-from_slice-2.ensures ∙ c.as_slice-2.ensures)

@@ -7,7 +7,8 @@ use Rattle.vms_words.proofs.kept.Settings.sets_at.Goals as goal
 pub get-requires : goal.get-requires
 get-requires c =
     let shape = c.args.layout.now in
-    let at = c.cell_from-at.ensures ∙ ap (λ width. 0 + cell width c.args.cpu.number c.args.place.number) c.places.ensures.value in
+    let at = c.cell_from-at.ensures
+    ∙ ap (λ width. 0 + cell width c.args.cpu.number c.args.place.number) c.places.ensures.value in
     omega (
       arith,
       at,

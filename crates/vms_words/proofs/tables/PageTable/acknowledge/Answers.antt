@@ -35,7 +35,8 @@ swap_at-requires-clause-step g c =
     c.self.view_is c.requires.table (Acknowledgement c.in-Some.cpu c.args.zone) c.place_of-place.result
     c.place_of-place.ensures.value (λ n. c.acknowledgement_word.result) (told (SetA c.args.zone c.args.number))
     (subst
-    (λ word. MayStep pages shown pass (place_in (blocks_of pass.facts.layout) (Acknowledgement c.in-Some.cpu c.args.zone))
+    (λ word. MayStep pages shown pass
+    (place_in (blocks_of pass.facts.layout) (Acknowledgement c.in-Some.cpu c.args.zone))
     (λ n. word) (told (SetA c.args.zone c.args.number)))
     (sym c.acknowledgement_word.ensures)
     (acknowledge-may pass c.in-Some.cpu c.args.zone c.args.number

@@ -6,7 +6,8 @@ use Rattle.vms_core.specs.declared.steps.Step.TheVariants.{LoadA}
 use Rattle.vms_core.specs.Peaks.{is_number}
 use Rattle.vms_words.specs.declared.spots.Spot.TheVariants.{Acknowledgement}
 use Rattle.vms_words.specs.KeptSettings.{IsControlPass, kept_sets, with_kept_peak}
-use Rattle.vms_words.specs.Told.{told, acknowledgement_told}
+use Rattle.vms_words.specs.Told.{acknowledgement_told}
+use Rattle.vms_words.specs.Told as words
 use Rattle.vms_words.proofs.AcknowledgedLoads.{acknowledged-fits}
 use Rattle.vms_words.proofs.ControlPasses.{IsControlPass-made, worker-of}
 use Rattle.vms_words.proofs.InTables.{may-at, known-of, of-facts}
@@ -19,7 +20,7 @@ load_at-requires-clause-step c =
     let of = worker-of pass c.args.pass.now c.args.self.now c.pass.view_is c.requires.table in
     may-at c.self.inside.facts c.self.inside.blocks c.self.inside.words c.args.self.now pass c.self.invariant
     c.self.view_is of (Acknowledgement c.args.cpu c.args.zone) c.place_of-place.result c.place_of-place.ensures.value
-    (λ n. n) (told (LoadA c.args.cpu c.args.zone None))
+    (λ n. n) (words.told (LoadA c.args.cpu c.args.zone None))
     (acknowledgement-load pass c.args.cpu c.args.zone None c.pass.invariant.live c.pass.invariant.none
     (known-of c.self.inside.facts c.self.inside.blocks c.self.inside.words c.args.self.now pass c.self.invariant
     c.self.view_is of (λ shape. IsCpu shape c.args.cpu.number) c.requires.cpu)
@@ -46,15 +47,15 @@ invariant_of-pass c =
     let of = worker-of pass c.args.pass.now c.args.self.now c.pass.view_is c.requires.table in
     let same = of-facts c.self.inside.facts c.self.inside.blocks c.self.inside.words c.args.self.now pass
     c.self.invariant c.self.view_is of in
+    let told = acknowledgement_told c.load_at.result in
     let newest : c.is_number.result
-    ≡ is_number (acknowledgement_told c.load_at.result) (kept_sets c.self.inside.facts.layout kept cpu.number zone.number) =
+    ≡ is_number told (kept_sets c.self.inside.facts.layout kept cpu.number zone.number) =
     c.is_number.ensures
     ∙ ap (λ (found : Option ℕ). is_number found c.sets_at-newest.result) c.acknowledged_of-found.ensures
-    ∙ ap (is_number (acknowledgement_told c.load_at.result)) c.sets_at-newest.ensures in
+    ∙ ap (is_number told) c.sets_at-newest.ensures in
     subst (IsControlPass c.load_at.new.self)
     (sym (c.keep_found.ensures
     ∙ ap (λ (b : Bool). with_kept_peak c.self.inside.facts.layout cpu.number zone.number b kept) newest
     ∙ ap (λ (facts : Facts). with_kept_peak facts.layout cpu.number zone.number
-    (is_number (acknowledgement_told c.load_at.result) (kept_sets facts.layout kept cpu.number zone.number)) kept) same))
-    (IsControlPass-made c.load_at.new.self pass kept (LoadA cpu zone (acknowledgement_told c.load_at.result))
-    c.pass.invariant c.load_at.ensures)
+    (is_number told (kept_sets facts.layout kept cpu.number zone.number)) kept) same))
+    (IsControlPass-made c.load_at.new.self pass kept (LoadA cpu zone told) c.pass.invariant c.load_at.ensures)
