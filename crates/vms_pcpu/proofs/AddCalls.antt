@@ -1,6 +1,5 @@
 -- The steps of an addition and of a sync may be made one after another.
-use Rattle.std.proofs.Common.{◌≡◌, ℕ, ◌≤◌, ◌<◌, ◌+ℤ◌, ℤ, pos, unsigned_abs, List, [], ◌∷◌, ◌++◌, sym, ap, subst, arith}
-use Rattle.std.proofs.Common.{append_assoc, ◌∙◌}
+use Rattle.std.proofs.Common.{◌≡◌, ℕ, ◌≤◌, ◌<◌, ◌+ℤ◌, ℤ, pos, unsigned_abs, List, [], ◌∷◌, ◌++◌, sym, subst, arith}
 use Rattle.std.proofs.lemmas.Int.{ints}
 use Rattle.vms_base.specs.declared.ids.CpuId.{CpuId}
 use Rattle.vms_base.specs.declared.ids.PcpuId.{PcpuId}
@@ -18,7 +17,7 @@ use Rattle.vms_pcpu_core.specs.MayCall.{MayMake, MayCall, MayChange}
 use Rattle.vms_pcpu_core.specs.States.{IsPcpu, batch_at}
 use Rattle.vms_pcpu_core.specs.Steps.{role}
 use Rattle.vms_pcpu_core.proofs.CallsAllowed.{MakesAdd-holds, MakesSync-holds}
-use Rattle.vms_pcpu.proofs.CallSteps.{may-front, may-rest}
+use Rattle.vms_pcpu.proofs.CallSteps.{may-rest}
 use Rattle.vms_seats.specs.Passes.{Pass}
 use Rattle.vms_seats.specs.Steps.{Made, MadeOne}
 use Rattle.vms_seats.proofs.MadeCalls.{calls-both, calls-next}

@@ -1,5 +1,5 @@
 -- What a pass may still make of the steps of a call, once it has made some of them.
-use Rattle.std.proofs.Common.{◌≡◌, ℕ, List, [], ◌∷◌, ◌++◌, refl, sym, ap, ◌∙◌, subst, append_assoc}
+use Rattle.std.proofs.Common.{ℕ, List, [], ◌∷◌, ◌++◌, refl, sym, ap, ◌∙◌, subst, append_assoc}
 use Rattle.vms_history.specs.PassSteps.{GoesOnWithout, HasMade}
 use Rattle.vms_history.proofs.MadeSteps.{made-both}
 use Rattle.vms_pcpu_core.specs.declared.steps.PcpuFacts.{PcpuFacts}

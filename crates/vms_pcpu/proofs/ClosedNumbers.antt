@@ -1,17 +1,16 @@
 -- What is read from the words of a closed history are the numbers of its last state.
 use Rattle.std.proofs.Common.{◌≡◌, ℕ, zero, suc, ◌+◌, ◌*◌, ◌/◌, ◌%◌, ◌<◌, List, [], length, get_or, slice_index, ℤ, pos}
-use Rattle.std.proofs.Common.{unsigned_abs, ◌≤◌, refl, sym, ap, ◌∙◌, subst, arith}
+use Rattle.std.proofs.Common.{unsigned_abs, ◌≤◌, sym, ap, ◌∙◌, subst, arith}
 use Rattle.std.proofs.lemmas.List.{ext_get_or}
 use Rattle.std.proofs.lemmas.Nat.{div-add-mod', div_below, mod_below}
-use Rattle.vms_base.specs.Numbers.{word_of, number_of}
+use Rattle.vms_base.specs.Numbers.{number_of}
 use Rattle.vms_base.specs.Places.{cell}
 use Rattle.vms_history.proofs.Prefixes.{base_can_begin}
-use Rattle.vms_pcpu_core.specs.declared.states.PcpuState.{PcpuState}
 use Rattle.vms_pcpu_core.specs.declared.steps.PcpuFacts.{PcpuFacts}
 use Rattle.vms_pcpu_core.specs.Bases.{IsBase}
 use Rattle.vms_pcpu_core.specs.Histories.{percpu, History, IsLegal, state_after}
 use Rattle.vms_pcpu_core.specs.Laws.{KeepsLaws, most_number}
-use Rattle.vms_pcpu_core.specs.States.{LockedState, counters_of, count_at, local_at}
+use Rattle.vms_pcpu_core.specs.States.{LockedState, counters_of, count_at}
 use Rattle.vms_pcpu_core.proofs.AllLaws.{laws-kept}
 use Rattle.vms_pcpu.specs.SharedWords.{shown, word_count}
 use Rattle.vms_pcpu.proofs.ShownNumbers.{length-shown, shown-count, shown-local_at}

@@ -1,10 +1,9 @@
 -- The local parts of a dead CPU are moved counter after counter.
-use Rattle.std.proofs.Common.{◌≡◌, ℕ, suc, ◌+◌, ◌<◌, ◌≤◌, List, [], ◌∷◌, ◌++◌, length, None, pos, refl, ap, sym, ◌∙◌}
+use Rattle.std.proofs.Common.{◌≡◌, ℕ, ◌+◌, List, [], ◌++◌, length, None, pos, ap, sym, ◌∙◌}
 use Rattle.std.proofs.Common.{subst, arith, ⊎_elim}
 use Rattle.std.proofs.lemmas.Bool.{cases_lt}
 use Rattle.std.proofs.lemmas.List.{get_or_past}
 use Rattle.vms_base.specs.declared.ids.CpuId.{CpuId}
-use Rattle.vms_base.specs.declared.ids.PcpuId.{PcpuId}
 use Rattle.vms_base.specs.declared.kinds.CpuState.TheVariants.{Dead, Absent}
 use Rattle.vms_base.specs.Places.{IsCpu}
 use Rattle.vms_history.specs.Passes.{owner_in}

@@ -1,6 +1,6 @@
 -- What a pass that owns a CPU knows of what the CPU has spent.
-use Rattle.std.proofs.Common.{◌≡◌, ◌≢◌, ℕ, ◌≤◌, Bool, true, false, nat_eq, List, [], ◌∷◌, ◌++◌, Option, Some, None, ℤ}
-use Rattle.std.proofs.Common.{if◌then◌else◌, refl, ap, sym, ◌∙◌, subst, arith, eqb-true}
+use Rattle.std.proofs.Common.{◌≡◌, ◌≢◌, ℕ, Bool, true, false, nat_eq, List, [], ◌++◌, Option, Some, None, ℤ}
+use Rattle.std.proofs.Common.{refl, ap, sym, ◌∙◌, subst, arith, eqb-true}
 use Rattle.vms_base.specs.declared.ids.CpuId.{CpuId}
 use Rattle.vms_history.specs.Events.{own}
 use Rattle.vms_history.specs.Passes.{owner_in, IsFree}
@@ -10,7 +10,7 @@ use Rattle.vms_pcpu_core.specs.declared.steps.PcpuFacts.{PcpuFacts}
 use Rattle.vms_pcpu_core.specs.declared.steps.PcpuStep.{PcpuStep}
 use Rattle.vms_pcpu_core.specs.declared.steps.PcpuStep.TheVariants.{Split}
 use Rattle.vms_pcpu_core.specs.Histories.{percpu, History, IsLegal}
-use Rattle.vms_pcpu_core.specs.Own.{holds_lock, carried}
+use Rattle.vms_pcpu_core.specs.Own.{carried}
 use Rattle.vms_pcpu_core.specs.OwnSteps.{IsIdle}
 use Rattle.vms_pcpu_core.specs.Steps.{role}
 use Rattle.vms_pcpu_core.specs.Totals.{is_owned, spent, spent_by}

@@ -1,6 +1,6 @@
 -- The steps of a limited addition may be made one after another.
-use Rattle.std.proofs.Common.{◌≡◌, ◌≢◌, ℕ, ◌≤◌, ◌<◌, ◌^◌, ◌+ℤ◌, ◌-ℤ◌, ◌≤ℤ◌, ◌<ℤ◌, ℤ, pos, negsuc, unsigned_abs, Bool}
-use Rattle.std.proofs.Common.{true, false, List, [], ◌∷◌, ◌++◌, w64, to_z, of_z, refl, sym, ap, subst, ◌∙◌, append_assoc}
+use Rattle.std.proofs.Common.{◌≡◌, ◌≢◌, ℕ, ◌≤◌, ◌<◌, ◌^◌, ◌+ℤ◌, ◌≤ℤ◌, ◌<ℤ◌, ℤ, pos, negsuc, unsigned_abs, Bool}
+use Rattle.std.proofs.Common.{true, List, [], ◌∷◌, ◌++◌, w64, to_z, of_z, refl, sym, ap, subst, ◌∙◌, append_assoc}
 use Rattle.std.proofs.Common.{arith}
 use Rattle.vms_base.specs.declared.ids.CpuId.{CpuId}
 use Rattle.vms_base.specs.declared.ids.PcpuId.{PcpuId}
@@ -8,16 +8,15 @@ use Rattle.vms_base.specs.Volumes.{most_volume}
 use Rattle.vms_history.proofs.MadeSteps.{made-none}
 use Rattle.vms_pcpu_core.specs.declared.steps.PcpuFacts.{PcpuFacts}
 use Rattle.vms_pcpu_core.specs.declared.steps.PcpuStep.{PcpuStep}
-use Rattle.vms_pcpu_core.specs.declared.steps.PcpuStep.TheVariants.{AddL, LoadL, LoadC, TakeL, AddC, Unlock}
+use Rattle.vms_pcpu_core.specs.declared.steps.PcpuStep.TheVariants.{AddL, LoadL, LoadC}
 use Rattle.vms_pcpu_core.specs.Calls.{Locks, Probes, Judges, Settles, IsLimitedAdd, present_cpus, room, unknown}
 use Rattle.vms_pcpu_core.specs.Calls.Probes.{large, narrow}
-use Rattle.vms_pcpu_core.specs.Calls.Settles.{yes_ends, no_ends}
 use Rattle.vms_pcpu_core.specs.Calls.IsLimitedAdd.{nothing, unlocked, locked}
 use Rattle.vms_pcpu_core.specs.Histories.{percpu}
 use Rattle.vms_pcpu_core.specs.MayCall.{MayMake, MayChange}
 use Rattle.vms_pcpu_core.specs.States.{batch_at}
 use Rattle.vms_pcpu_core.proofs.CallsAllowed.{MakesLimitedAdd-holds}
-use Rattle.vms_pcpu.proofs.CallSteps.{may-front, may-rest}
+use Rattle.vms_pcpu.proofs.CallSteps.{may-rest}
 use Rattle.vms_pcpu.proofs.SmallNumbers.{same_word}
 use Rattle.vms_seats.specs.Passes.{Pass}
 use Rattle.vms_seats.specs.Steps.{Made, MadeOne}

@@ -1,5 +1,5 @@
 -- A local part is taken and put into the shared part together with an amount, and the lock is given back.
-use Rattle.std.proofs.Common.{◌≡◌, ◌+ℤ◌, ℤ, List, [], ◌∷◌, sym, subst}
+use Rattle.std.proofs.Common.{◌≡◌, ◌+ℤ◌, ℤ, [], ◌∷◌, sym, subst}
 use Rattle.vms_base.specs.declared.ids.CpuId.{CpuId}
 use Rattle.vms_base.specs.declared.ids.PcpuId.{PcpuId}
 use Rattle.vms_pcpu_core.specs.declared.steps.PcpuFacts.{PcpuFacts}

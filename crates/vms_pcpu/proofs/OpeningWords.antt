@@ -1,10 +1,10 @@
 -- The words that show the numbers of a base under free locks.
-use Rattle.std.proofs.Common.{◌≡◌, ℕ, zero, suc, ◌+◌, ◌-◌, ◌*◌, ◌<◌, false, List, [], ◌∷◌, ◌++◌, length, map, take}
+use Rattle.std.proofs.Common.{◌≡◌, ℕ, zero, suc, ◌-◌, ◌*◌, false, List, [], ◌∷◌, ◌++◌, length, map, take}
 use Rattle.std.proofs.Common.{replicate, refl, sym, ap, ◌∙◌, arith, append_assoc}
 use Rattle.std.proofs.lemmas.List.{length-map, take_all}
 use Rattle.vms_base.specs.Numbers.{word_of}
 use Rattle.vms_pcpu_core.specs.declared.steps.PcpuFacts.{PcpuFacts}
-use Rattle.vms_pcpu_core.specs.Bases.{IsBase, HasLengths}
+use Rattle.vms_pcpu_core.specs.Bases.{IsBase}
 use Rattle.vms_pcpu_core.specs.States.{counters_of, unlocked}
 use Rattle.vms_pcpu_core.proofs.Shapes.{HasShape-state_after}
 use Rattle.vms_pcpu.specs.SharedWords.{shown, lock_word, word_count}

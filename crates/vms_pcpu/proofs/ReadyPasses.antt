@@ -1,7 +1,7 @@
 -- A pass is ready again after each call, and its volumes hold what its CPU has spent.
-use Rattle.std.proofs.Common.{◌≡◌, ℕ, ◌+◌, ◌≤◌, ◌<◌, Bool, true, false, nat_eq, List, length, slice_index, slice_set}
+use Rattle.std.proofs.Common.{◌≡◌, ℕ, ◌+◌, ◌≤◌, Bool, true, false, nat_eq, List, length, slice_index, slice_set}
 use Rattle.std.proofs.Common.{Option, Some, ℤ, pos, unsigned_abs, if◌then◌else◌, refl, ap, sym, ◌∙◌, subst, arith}
-use Rattle.std.proofs.Common.{length-set, ne_eqb, eqb-true}
+use Rattle.std.proofs.Common.{length-set, eqb-true}
 use Rattle.vms_history.proofs.Cells.{get_or-set}
 use Rattle.vms_base.specs.declared.ids.CpuId.{CpuId}
 use Rattle.vms_base.specs.declared.ids.PcpuId.{PcpuId}
@@ -15,9 +15,8 @@ use Rattle.vms_pcpu_core.specs.declared.steps.PcpuStep.{PcpuStep}
 use Rattle.vms_pcpu_core.specs.Histories.{percpu, IsLegal}
 use Rattle.vms_pcpu_core.specs.MayCall.{MayCall, MayChange}
 use Rattle.vms_pcpu_core.specs.OwnSteps.{IsIdle, AddsAmount}
-use Rattle.vms_pcpu_core.specs.States.{IsPcpu, counters_of}
+use Rattle.vms_pcpu_core.specs.States.{IsPcpu}
 use Rattle.vms_pcpu_core.specs.Steps.{role}
-use Rattle.vms_pcpu_core.specs.Totals.{spent}
 use Rattle.vms_pcpu_core.proofs.CallsWithin.{made-by_living}
 use Rattle.vms_pcpu_core.proofs.OwnSteps.{LeavesIdle-holds}
 use Rattle.vms_pcpu_core.proofs.StepConditions.{spends-amount}

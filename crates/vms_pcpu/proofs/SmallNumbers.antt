@@ -1,5 +1,5 @@
 -- The numbers that single steps tell are small, and small numbers stay as they are when they are passed on.
-use Rattle.std.proofs.Common.{◌≡◌, ℕ, ◌≤◌, ◌<◌, ◌^◌, List, [], ◌∷◌, ℤ, pos, negsuc, ◌+ℤ◌, ◌-ℤ◌, unsigned_abs}
+use Rattle.std.proofs.Common.{◌≡◌, ℕ, ◌≤◌, ◌<◌, ◌^◌, ◌∷◌, ℤ, ◌+ℤ◌, ◌-ℤ◌, unsigned_abs}
 use Rattle.std.proofs.Common.{FitsSigned, w64, to_z, of_z, ap, sym, ◌∙◌, subst, arith}
 use Rattle.std.proofs.lemmas.Int.{ints, to_z-of_z}
 use Rattle.vms_base.specs.declared.ids.CpuId.{CpuId}
@@ -8,8 +8,8 @@ use Rattle.vms_history.proofs.Prefixes.{base_can_begin}
 use Rattle.vms_pcpu_core.specs.declared.steps.PcpuFacts.{PcpuFacts}
 use Rattle.vms_pcpu_core.specs.declared.steps.PcpuStep.{PcpuStep}
 use Rattle.vms_pcpu_core.specs.declared.steps.PcpuStep.TheVariants.{LoadL, LoadC, TakeL}
-use Rattle.vms_pcpu_core.specs.Bases.{IsBase, most_batch}
-use Rattle.vms_pcpu_core.specs.Histories.{percpu, History, IsLegal, state_after}
+use Rattle.vms_pcpu_core.specs.Bases.{most_batch}
+use Rattle.vms_pcpu_core.specs.Histories.{percpu, History, IsLegal}
 use Rattle.vms_pcpu_core.specs.Laws.{most_number}
 use Rattle.vms_pcpu_core.specs.MadeBetween.{event}
 use Rattle.vms_pcpu_core.proofs.Bounds.{locals-bounded}

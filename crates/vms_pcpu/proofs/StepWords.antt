@@ -1,5 +1,5 @@
 -- Each step that a pass may make changes one word as its effect says.
-use Rattle.std.proofs.Common.{◌≡◌, ℕ, ◌+◌, ◌%◌, ◌<◌, ◌≤◌, ◌^◌, ◌==◌, Bool, true, false, List, [], ◌∷◌, Option, Some}
+use Rattle.std.proofs.Common.{◌≡◌, ℕ, ◌+◌, ◌%◌, ◌≤◌, ◌^◌, ◌==◌, Bool, true, false, [], ◌∷◌, Some}
 use Rattle.std.proofs.Common.{if◌then◌else◌, ℤ, pos, negsuc, ◌+ℤ◌, unsigned_abs, set, refl, sym, ap, ◌∙◌, subst, arith}
 use Rattle.std.proofs.lemmas.Int.{ints, to_z-of_z}
 use Rattle.std.proofs.lemmas.List.{set-get_or}
@@ -10,7 +10,7 @@ use Rattle.vms_base.specs.declared.ids.PcpuId.{PcpuId}
 use Rattle.vms_base.specs.Numbers.{word_of, number_of}
 use Rattle.vms_base.specs.Places.{IsCpu}
 use Rattle.vms_history.specs.Legal.{Acts}
-use Rattle.vms_history.specs.PassSteps.{GoesOnWithout, HasMade}
+use Rattle.vms_history.specs.PassSteps.{GoesOnWithout}
 use Rattle.vms_history.specs.Passes.{owner_in}
 use Rattle.vms_history.specs.Passes.Role.{Works}
 use Rattle.vms_history.proofs.MadeSteps.{made-owner}

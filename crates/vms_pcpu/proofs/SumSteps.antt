@@ -1,8 +1,7 @@
 -- The steps of a sum and of a comparison may be made one after another.
-use Rattle.std.proofs.Common.{◌≡◌, ℕ, ◌≤◌, ◌<◌, ◌+ℤ◌, ◌-ℤ◌, ℤ, pos, negsuc, zero, suc, unsigned_abs, List, [], ◌∷◌, ◌++◌}
+use Rattle.std.proofs.Common.{◌≡◌, ◌≤◌, ◌<◌, ◌+ℤ◌, ◌-ℤ◌, ℤ, pos, negsuc, zero, suc, unsigned_abs, List, [], ◌∷◌, ◌++◌}
 use Rattle.std.proofs.Common.{true, false, refl, sym, ap, subst, ◌∙◌, append_assoc, w8, to_z, of_z}
 use Rattle.vms_base.specs.declared.ids.PcpuId.{PcpuId}
-use Rattle.vms_pcpu_core.specs.declared.answers.Compare.{Compare}
 use Rattle.vms_pcpu_core.specs.declared.steps.PcpuFacts.{PcpuFacts}
 use Rattle.vms_pcpu_core.specs.declared.steps.PcpuStep.{PcpuStep}
 use Rattle.vms_pcpu_core.specs.declared.steps.PcpuStep.TheVariants.{LoadC, Unlock}

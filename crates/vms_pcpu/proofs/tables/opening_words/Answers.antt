@@ -1,5 +1,5 @@
 -- The goal was that what is appended are the words of the base.
-use Rattle.std.proofs.Common.{◌*◌, ◌++◌, ap, sym, ◌∙◌, map}
+use Rattle.std.proofs.Common.{◌*◌, ◌++◌, ap, ◌∙◌, map}
 use Rattle.vms_base.specs.Numbers.{word_of}
 use Rattle.vms_pcpu.proofs.OpeningWords.{opening-shown}
 use Rattle.vms_pcpu.proofs.tables.opening_words.Goals as goal

@@ -1,5 +1,5 @@
 -- The goal was that the pass is ready again, and that its volumes hold what its CPU has spent.
-use Rattle.std.proofs.Common.{◌≡◌, ◌+◌, ◌≤◌, ℤ, unsigned_abs, slice_index, slice_set, w64, to_z, of_z, ap, sym, ◌∙◌}
+use Rattle.std.proofs.Common.{◌≡◌, ◌+◌, ℤ, unsigned_abs, slice_index, slice_set, w64, to_z, of_z, ap, sym, ◌∙◌}
 use Rattle.std.proofs.Common.{subst, arith}
 use Rattle.std.proofs.lemmas.Int.{ints, to_z-of_z}
 use Rattle.vms_pcpu_core.specs.declared.steps.PcpuFacts.{PcpuFacts}

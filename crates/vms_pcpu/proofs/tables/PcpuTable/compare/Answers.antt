@@ -1,5 +1,5 @@
 -- The goals were that the pass is ready again, and that the steps are those of the call.
-use Rattle.std.proofs.Common.{◌≡◌, ℤ, w64, to_z, of_z, sym, subst}
+use Rattle.std.proofs.Common.{◌≡◌, ℤ, w64, to_z, of_z, subst}
 use Rattle.std.proofs.lemmas.Int.{to_z-of_z}
 use Rattle.vms_pcpu_core.specs.Calls.{IsCompare, present_cpus, unknown}
 use Rattle.vms_pcpu_core.proofs.OwnSteps.{compare-adds}

@@ -1,5 +1,5 @@
 -- The goals were that the sum may be made, and that the steps are those of a comparison, by the count or by the sum.
-use Rattle.std.proofs.Common.{◌≡◌, ◌<◌, ◌≤◌, ◌-ℤ◌, ℤ, unsigned_abs, w8, w64, to_z, of_z, arith}
+use Rattle.std.proofs.Common.{◌<◌, ◌≤◌, ◌-ℤ◌, ℤ, unsigned_abs, w8, to_z, of_z, arith}
 use Rattle.std.proofs.lemmas.Int.{ints}
 use Rattle.vms_pcpu_core.specs.Calls.{unknown}
 use Rattle.vms_pcpu.proofs.SmallNumbers.{same_difference}

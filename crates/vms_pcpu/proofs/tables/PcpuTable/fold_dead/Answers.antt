@@ -1,10 +1,9 @@
 -- The goals were that each counter's local part may be moved, and that these are the steps of the whole fold.
-use Rattle.std.proofs.Common.{◌≡◌, ap, sym, ◌∙◌, subst}
-use Rattle.vms_base.specs.declared.kinds.CpuState.TheVariants.{Dead}
+use Rattle.std.proofs.Common.{ap, sym, ◌∙◌, subst}
 use Rattle.vms_pcpu_core.specs.declared.steps.PcpuFacts.{PcpuFacts}
 use Rattle.vms_pcpu_core.specs.declared.steps.PcpuStep.{PcpuStep}
 use Rattle.vms_pcpu_core.specs.States.{cpu_at}
-use Rattle.vms_pcpu.proofs.FoldedCounters.{dead-known, folds-none, folds-calls, folds-whose, folds-more, folds-ready}
+use Rattle.vms_pcpu.proofs.FoldedCounters.{folds-none, folds-calls, folds-whose, folds-more, folds-ready}
 use Rattle.vms_pcpu.proofs.ReadyPasses.{of-after}
 use Rattle.vms_pcpu.proofs.tables.PcpuTable.fold_dead.Goals as goal
 use Rattle.vms_seats.specs.Passes.{Pass, IsOf}

@@ -1,5 +1,5 @@
 -- The goals were that the value is judged by what the CPUs may hold, or by what they hold.
-use Rattle.std.proofs.Common.{◌≡◌, ◌+ℤ◌, ◌≤ℤ◌, ◌<ℤ◌, int_le, Bool, ℤ, pos, unsigned_abs, [], ap, sym, subst, ◌∙◌, arith}
+use Rattle.std.proofs.Common.{◌≡◌, ◌+ℤ◌, ◌≤ℤ◌, ◌<ℤ◌, int_le, Bool, ℤ, pos, [], ap, sym, subst, ◌∙◌, arith}
 use Rattle.std.proofs.lemmas.Int.{ints}
 use Rattle.vms_pcpu_core.specs.Calls.{Judges, present_cpus, room, unknown}
 use Rattle.vms_pcpu_core.specs.Calls.Judges.{beyond, inside, close}

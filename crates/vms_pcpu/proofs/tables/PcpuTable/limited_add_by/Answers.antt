@@ -1,6 +1,6 @@
 -- The goals were that each step may be made, and that the steps are those of a limited addition.
 use Rattle.std.proofs.Common.{◌≡◌, ◌≤◌, ◌+ℤ◌, Bool, true, false, ℤ, unsigned_abs, w64, to_z, of_z, List, [], ◌∷◌, sym, subst}
-use Rattle.std.proofs.Common.{◌∙◌, arith}
+use Rattle.std.proofs.Common.{arith}
 use Rattle.vms_base.specs.Places.{IsCpu}
 use Rattle.vms_base.specs.Volumes.{most_volume}
 use Rattle.vms_pcpu_core.specs.declared.steps.PcpuFacts.{PcpuFacts}

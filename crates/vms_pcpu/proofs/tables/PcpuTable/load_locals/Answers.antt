@@ -1,5 +1,5 @@
 -- The goals were that the loads so far add up.
-use Rattle.std.proofs.Common.{◌≡◌, ℤ, ◌+◌, ◌≤◌, List, length, w64, to_z, ap, sym, ◌∙◌, subst, arith}
+use Rattle.std.proofs.Common.{ℤ, ◌+◌, ◌≤◌, List, length, w64, to_z, ap, sym, ◌∙◌, subst, arith}
 use Rattle.std.proofs.lemmas.Int.{ints}
 use Rattle.vms_base.specs.declared.kinds.CpuState.{CpuState}
 use Rattle.vms_base.specs.declared.kinds.CpuState.TheVariants.{Online}

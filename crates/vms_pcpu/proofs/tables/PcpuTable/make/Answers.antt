@@ -1,5 +1,5 @@
 -- The goals were that there is a word, and that the table is for its facts.
-use Rattle.std.proofs.Common.{◌≡◌, ◌<◌, length, ap, ◌∙◌, arith, rules, count_by}
+use Rattle.std.proofs.Common.{◌≡◌, length, ap, ◌∙◌, arith, rules, count_by}
 use Rattle.vms_base.specs.Cpus.{is_present}
 use Rattle.vms_pcpu_core.specs.declared.steps.PcpuFacts.{PcpuFacts}
 use Rattle.vms_pcpu_core.specs.Bases.{IsBase}

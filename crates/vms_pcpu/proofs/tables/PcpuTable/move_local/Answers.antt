@@ -1,8 +1,5 @@
 -- The goals were that each step may be made, and that the sum fits.
-use Rattle.std.proofs.Common.{◌≡◌, ◌+ℤ◌, ℤ, FitsSigned, w64, to_z, of_z, [], ◌∷◌, sym, subst, arith}
-use Rattle.std.proofs.lemmas.Int.{ints}
-use Rattle.vms_pcpu_core.specs.declared.steps.PcpuStep.TheVariants.{AddC}
-use Rattle.vms_pcpu_core.specs.MayCall.{MayMake}
+use Rattle.std.proofs.Common.{arith}
 use Rattle.vms_pcpu.proofs.MovedLocals.{take-may, add-may, unlock-may, moved}
 use Rattle.vms_pcpu.proofs.SmallNumbers.{same_sum}
 use Rattle.vms_pcpu.proofs.tables.PcpuTable.move_local.Goals as goal

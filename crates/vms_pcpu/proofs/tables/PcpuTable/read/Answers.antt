@@ -1,6 +1,5 @@
 -- The goals were that the pass is ready again, and that the load is the call's one step.
-use Rattle.std.proofs.Common.{◌≡◌, [], ◌∷◌, refl, ap, sym, ◌∙◌, subst, arith, ℤ, List, w64, to_z, of_z}
-use Rattle.vms_pcpu_core.specs.declared.steps.PcpuStep.{PcpuStep}
+use Rattle.std.proofs.Common.{[], ◌∷◌, refl, ap, sym, subst, arith, ℤ, w64, to_z, of_z}
 use Rattle.vms_pcpu_core.specs.declared.steps.PcpuStep.TheVariants.{LoadC}
 use Rattle.vms_pcpu_core.specs.Calls.{IsRead}
 use Rattle.vms_pcpu_core.proofs.OwnSteps.{read-adds}

@@ -1,5 +1,5 @@
 -- The goals were that the pass is ready again, and that the steps are those of the call.
-use Rattle.std.proofs.Common.{◌≡◌, ◌<◌, ℤ, w64, to_z, of_z, sym, subst, arith}
+use Rattle.std.proofs.Common.{◌≡◌, ℤ, w64, to_z, of_z, sym, subst, arith}
 use Rattle.vms_pcpu_core.specs.Calls.{IsSum, present_cpus}
 use Rattle.vms_pcpu_core.proofs.OwnSteps.{sum-adds}
 use Rattle.vms_pcpu.specs.IdlePasses.{CpuPass, MakesCall}

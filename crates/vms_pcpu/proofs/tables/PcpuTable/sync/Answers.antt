@@ -1,5 +1,5 @@
 -- The goals were that the CPU is one of the layout, and that the pass is ready again.
-use Rattle.std.proofs.Common.{◌≡◌, Some, subst, ap, sym, ◌∙◌}
+use Rattle.std.proofs.Common.{subst, ap, ◌∙◌}
 use Rattle.vms_base.specs.Places.{IsCpu}
 use Rattle.vms_pcpu_core.specs.declared.steps.PcpuFacts.{PcpuFacts}
 use Rattle.vms_pcpu_core.proofs.OwnSteps.{sync-adds}
