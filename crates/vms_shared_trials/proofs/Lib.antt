@@ -1,2 +1,3 @@
 pub mod TwoPasses
 pub mod EventVolumes
+pub mod CounterVolumes
