@@ -5,6 +5,7 @@ mod acts;
 mod answers;
 mod phases;
 mod printing;
+mod test_lines;
 
 pub use acts::{
     changes_and_folds_answer_nothing, event_acts_tell_answers, looks_tell_answers,
