@@ -1,0 +1,138 @@
+#!/usr/bin/env python3
+"""Measures changes of shared counters on threads: the proved program crates/vms_bench beside the same in C.
+
+    bench/words.py [-k KIND]... [-t THREADS]... [-n CHANGES] [-r RUNS] [--cc COMMAND]
+
+Both programs are built: the proved one by `rt run` in crates/vms_bench, bench/words.c by a C compiler for the processor
+that the proved program is built for. Each makes CHANGES changes on every one of THREADS threads, pinned to that many
+processors, the two programs in turn. What they write has to be the same. The time is that of the processors, which all
+threads take together, by thread; a run of a single change is taken off, so what is left is the changes' own.
+
+For each kind and number of threads the medians of the runs in nanoseconds a change are printed, with the least in
+brackets, and the ratio of the two medians and of the two least times: at most 1.1 is wanted. The status is 1 if the two
+programs write different things, and 2 if something can't be built or run.
+
+Needed are Linux, python3 and a C compiler with pthreads. The proved program may be named in VMS_BENCH; then it isn't built.
+Times vary with what else the machine does, so the load average is printed too.
+"""
+import argparse
+import os
+import statistics
+import subprocess
+import sys
+import tempfile
+
+TOP = os.path.dirname(os.path.dirname(os.path.abspath(__file__)))
+CRATE = os.path.join(TOP, "crates", "vms_bench")
+KINDS = {
+    "pages": "changes of a page counter, each 20th past the threshold",
+    "events": "counts of an event",
+}
+FLAGS = ["-std=c11", "-O3", "-march=x86-64-v2", "-Wall", "-Wextra", "-Werror", "-pthread"]
+
+
+class Fault(Exception):
+    """Why there is nothing to measure."""
+
+
+def run(words, processors=None, **how):
+    """What a program writes, and the seconds of processors that it took. It runs on these alone, if some are given."""
+    pin = (lambda: os.sched_setaffinity(0, processors)) if processors else None
+    try:
+        process = subprocess.Popen(
+            words, stdout=subprocess.PIPE, stderr=subprocess.STDOUT, text=True, preexec_fn=pin, **how)
+    except OSError as error:
+        raise Fault(f"{words[0]} can't be run: {error.strerror}") from error
+    with process.stdout as pipe:
+        written = pipe.read()
+    _, status, used = os.wait4(process.pid, 0)
+    process.returncode = os.waitstatus_to_exitcode(status)
+    if process.returncode != 0:
+        lines = written.strip().splitlines()
+        raise Fault(f"`{' '.join(words)}` ended with status {process.returncode}: {lines[-1] if lines else 'no word'}")
+    return written, used.ru_utime + used.ru_stime
+
+
+def proved_program():
+    named = os.environ.get("VMS_BENCH")
+    if named:
+        if not os.access(named, os.X_OK):
+            raise Fault(f"VMS_BENCH names {named}, which is no program")
+        return named
+    run(["rt", "run", "--", "events", "1", "1"], cwd=CRATE)
+    return os.path.join(CRATE, "out", "vms_bench")
+
+
+def c_program(compiler, folder):
+    program = os.path.join(folder, "words")
+    run([*compiler.split(), *FLAGS, "-o", program, os.path.join(TOP, "bench", "words.c")])
+    return program
+
+
+def nanoseconds(programs, kind, threads, changes, runs):
+    """The times of a change by each program, run by run."""
+    processors = sorted(os.sched_getaffinity(0))[:threads]
+    if len(processors) < threads:
+        raise Fault(f"{threads} threads want as many processors, and there are {len(processors)}")
+    times = {name: [] for name in programs}
+    for _ in range(runs):
+        written = {}
+        for name, program in programs.items():
+            _, start = run([program, kind, "1", str(threads)], processors)
+            written[name], whole = run([program, kind, str(changes), str(threads)], processors)
+            times[name].append(1e9 * (whole - start) / (changes - 1) / threads)
+        if len(set(written.values())) > 1:
+            told = ", ".join(f"{name} {text.strip()!r}" for name, text in written.items())
+            print(f"bench/words.py: {kind} on {threads} threads differ: {told}", file=sys.stderr)
+            sys.exit(1)
+    return times
+
+
+def positive(text):
+    number = int(text)
+    if number < 1:
+        raise ValueError
+    return number
+
+
+def arguments():
+    parser = argparse.ArgumentParser(
+        description=__doc__.split("\n\n")[0],
+        epilog="\n\n".join(__doc__.split("\n\n")[2:]),
+        formatter_class=argparse.RawDescriptionHelpFormatter,
+    )
+    parser.add_argument("-k", "--kind", action="append", choices=KINDS, help="a kind of change; all where none is given")
+    parser.add_argument("-t", "--threads", action="append", type=positive, help="1 to 4; 1, 2 and 4 where none is given")
+    parser.add_argument("-n", "--changes", type=positive, default=10_000_000, help="of each thread (10000000)")
+    parser.add_argument("-r", "--runs", type=positive, default=11, help="of each program (11)")
+    parser.add_argument("--cc", default=os.environ.get("CC", "cc"), metavar="COMMAND", help="the C compiler (cc)")
+    words = parser.parse_args()
+    if words.changes < 2:
+        parser.error("the times of 2 changes at least can be told from that of one")
+    if any(threads > 4 for threads in words.threads or []):
+        parser.error("the programs start at most 4 threads")
+    return words
+
+
+def main():
+    words = arguments()
+    with tempfile.TemporaryDirectory() as folder:
+        try:
+            programs = {"proved": proved_program(), "C": c_program(words.cc, folder)}
+            print(f"load average {os.getloadavg()[0]:.2f}; {words.changes} changes a thread, {words.runs} runs in turn")
+            for kind in words.kind or KINDS:
+                print(f"{kind}: {KINDS[kind]}")
+                for threads in words.threads or (1, 2, 4):
+                    times = nanoseconds(programs, kind, threads, words.changes, words.runs)
+                    medians = {name: statistics.median(taken) for name, taken in times.items()}
+                    told = ", ".join(f"{name} {medians[name]:.2f} ns ({min(taken):.2f})" for name, taken in times.items())
+                    least = min(times["proved"]) / min(times["C"])
+                    print(f"  {threads} thread{'s' * (threads > 1)}: {told}, "
+                          f"ratio {medians['proved'] / medians['C']:.2f} ({least:.2f})", flush=True)
+        except Fault as fault:
+            print(f"bench/words.py: {fault}", file=sys.stderr)
+            sys.exit(2)
+
+
+if __name__ == "__main__":
+    main()

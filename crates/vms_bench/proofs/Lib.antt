@@ -1,0 +1,7 @@
+mod Beginning
+mod EventBases
+mod EventPasses
+mod LevelBases
+mod PageCalls
+mod PageChanges
+mod PagePasses

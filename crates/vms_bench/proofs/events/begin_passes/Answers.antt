@@ -1,0 +1,29 @@
+-- The goals were that each CPU may be owned, and that the CPUs after it stay unused.
+use Rattle.std.proofs.Common.{◌≡◌, ℕ, ◌+◌, ◌*◌, ◌<◌, ◌≤◌, [], ◌∷◌, ◌++◌, All, Some, ◌∙◌, sym, subst, arith}
+use Rattle.std.proofs.lemmas.List.Elements.{All-push, All-same}
+use Rattle.vms_event_core.specs.declared.steps.EventFacts.{EventFacts}
+use Rattle.vms_event_core.specs.Events.{MayOwn}
+use Rattle.vms_event.specs.declared.passes.EventPass.{EventPass}
+use Rattle.vms_seats.specs.Passes.{IsOf}
+use Rattle.vms_bench.proofs.EventPasses.{begun-unused}
+use Rattle.vms_bench.proofs.events.begin_passes.Goals as goal
+
+pub cpu_pass-requires-clause-online : goal.cpu_pass-requires-clause-online
+cpu_pass-requires-clause-online c =
+    subst (λ (facts : EventFacts). MayOwn facts (Some c.cpu_of_thread.result)) (sym c.loop-thread.invariant.0.facts)
+    (c.requires.online c.cpu_of_thread.result.number (omega arith))
+
+pub loop-thread-preserved : goal.loop-thread-preserved
+loop-thread-preserved c =
+    let begun = c.cpu_pass.ensures.begun in
+    let of = c.loop-thread.invariant.0 in (
+      record { table = begun.main.table ∙ of.table; facts = begun.main.facts ∙ of.facts },
+      begun-unused c.cpu_pass.new.main c.loop-thread.main c.cpu_pass.result.pass c.cpu_of_thread.result
+          (16 * c.loop-thread.thread) (16 * (c.loop-thread.thread + 1)) begun c.loop-thread.invariant.1
+          (omega arith) (omega arith),
+      All-same (λ (p : EventPass). IsOf p.pass c.args.table.now) c.push.new.self.items
+          (c.loop-thread.passes.items ++ c.cpu_pass.result ∷ []) c.in_ok-push.ensures.items
+          (All-push (λ (p : EventPass). IsOf p.pass c.args.table.now) c.loop-thread.passes.items c.cpu_pass.result
+          c.loop-thread.invariant.2
+          (record { table = begun.table ∙ of.table; facts = begun.facts ∙ of.facts })),
+    )

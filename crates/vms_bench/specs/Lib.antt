@@ -1,0 +1,4 @@
+pub mod Beginnings
+pub mod Events
+pub mod Levels
+pub mod Pages

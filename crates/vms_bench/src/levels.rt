@@ -1,0 +1,45 @@
+ghost use Rattle.std.specs.Prelude.{◌≡◌, ◌*◌, ◌^◌, ◌<◌, IfOk, replicate};
+ghost use Rattle.vms_bench.specs.Levels.{IsLevel};
+
+use std::alloc::Global;
+use vms_base::{CpuState, Layout, Memory, Row};
+use vms_core::State;
+
+/// Page counters that are all 0, where every threshold is the same and every CPU is online.
+pub(crate) fn level(alloc: Global, layout: &Layout, threshold: u32) -> Result<State, Memory>
+    ensures { IfOk result (IsLevel layout.now threshold) }
+{
+    let zones = layout.zones().len() as u32;
+    let place = Row::filled(alloc, layout.counters() as usize, 0)?;
+    let system = Row::filled(alloc, layout.items() as usize, 0)?;
+    let diff = for_each_cpu(alloc, layout, layout.counters(), 0)?;
+    let thresholds = for_each_cpu(alloc, layout, layout.places(), threshold)?;
+    let mark = Row::filled(alloc, zones as usize, 0)?;
+    let cpu = Row::filled(alloc, layout.cpus() as usize, CpuState::Online)?;
+    let acknowledged = for_each_cpu(alloc, layout, zones, None)?;
+    let threshold_sets = for_each_cpu(alloc, layout, layout.places(), 0)?;
+    let mark_sets = Row::filled(alloc, zones as usize, 0)?;
+    Ok(State {
+        place,
+        system,
+        diff,
+        threshold: thresholds,
+        mark,
+        cpu,
+        acknowledged,
+        threshold_sets,
+        mark_sets,
+    })
+}
+
+/// A number for each CPU and each of `width` things.
+fn for_each_cpu<T: Copy>(
+    alloc: Global,
+    layout: &Layout,
+    width: u32,
+    value: T,
+) -> Result<Row<T>, Memory>
+    ensures { IfOk result (λ row. row ≡ replicate (layout.now.cpus * width) value) }
+{
+    Row::filled(alloc, layout.cpus() as usize * width as usize, value)
+}

@@ -1,0 +1,34 @@
+//! Makes changes of shared counters on threads, and writes what the counters are then, which is the same whatever the
+//! schedule. `bench/words.py` measures how long that takes.
+#![tactic(auto)]
+
+mod changes;
+mod events;
+mod levels;
+mod machine;
+mod pages;
+mod requests;
+
+use crate::events::count_events;
+use crate::pages::change_pages;
+use crate::requests::{Kind, Request, read_request};
+use anyhow::Result;
+
+fn main(rt: HostRuntime) -> Result<()> {
+    let Request {
+        kind,
+        changes,
+        threads,
+    } = read_request(&rt)?;
+    match kind {
+        Kind::Events => {
+            let total = count_events(&rt, rt.alloc(), changes, threads)?;
+            println!(rt; "counted {total}")?;
+        }
+        Kind::Pages => {
+            let (value, system) = change_pages(&rt, rt.alloc(), changes, threads)?;
+            println!(rt; "value {value}, system-wide {system}")?;
+        }
+    }
+    Ok(())
+}
