@@ -10,6 +10,9 @@
  * differentials, exchanges that word, and where the differential passed the threshold it adds it to the global value of the
  * counter and to the system-wide value of the item. 19 changes stay within the threshold and the 20th passes it.
  * events: a change adds 1 to the CPU's word of an event.
+ *
+ * Compiled with -DVOLUMES it also keeps what each CPU has changed and counted so far, in absolute sum, and looks at each
+ * change whether that may grow, as the proved program does.
  */
 #include <pthread.h>
 #include <stdatomic.h>
@@ -37,14 +40,27 @@ struct blocks {
     size_t groups_each, places_each;
 };
 
-/* What a thread works on: the words, where they stand, its CPU, the counter of the zone that it changes, and how many
- * changes it makes. The counter's number is that of the threads: no compiler can know it. */
+/* What a thread works on: the words, where they stand, its CPU, the counter of the zone that it changes, how many changes
+ * it makes, and its volumes. The counter's number is that of the threads: no compiler can know it. */
 struct work {
     _Atomic uint64_t *words;
     struct blocks blocks;
     uint32_t cpu, counter;
     uint64_t changes;
+    uint64_t *volumes;
 };
+
+/* Adds the size of a change to what the CPU has changed of a number, or ends the program: it may be 2^48 at most. */
+static inline void grow(struct work *w, uint32_t number, uint64_t size)
+{
+#ifdef VOLUMES
+    if (w->volumes[number] > (UINT64_C(1) << 48) - size)
+        exit(3);
+    w->volumes[number] += size;
+#else
+    (void)w, (void)number, (void)size;
+#endif
+}
 
 static struct blocks page_blocks(void)
 {
@@ -86,6 +102,7 @@ static inline void change(struct work *w, uint32_t counter, int64_t delta)
         if (atomic_compare_exchange_strong(group, &found, with_differential(found, counter, sum - carried)))
             break;
     }
+    grow(w, counter, (uint64_t)(delta < 0 ? -delta : delta));
     if (carried != 0) {
         atomic_fetch_add(&words[counter], (uint64_t)carried);
         atomic_fetch_add(&words[w->blocks.systems + item], (uint64_t)carried);
@@ -103,8 +120,10 @@ static void *change_pages(void *arg)
 static void *count_events(void *arg)
 {
     struct work *w = arg;
-    for (uint64_t n = 0; n < w->changes; n++)
+    for (uint64_t n = 0; n < w->changes; n++) {
         atomic_fetch_add(&w->words[w->cpu * EVENTS + EVENT], 1);
+        grow(w, EVENT, 1);
+    }
     return NULL;
 }
 
@@ -138,8 +157,14 @@ int main(int argc, char **argv)
         return 2;
     }
     struct work each[MOST_THREADS];
-    for (int n = 0; n < threads; n++)
-        each[n] = (struct work){words, blocks, (uint32_t)(CPUS_APART * n), (uint32_t)threads, changes};
+    for (int n = 0; n < threads; n++) {
+        uint64_t *volumes = calloc(ITEMS * PLACES, sizeof *volumes);
+        if (volumes == NULL) {
+            fputs("words: want of memory\n", stderr);
+            return 2;
+        }
+        each[n] = (struct work){words, blocks, (uint32_t)(CPUS_APART * n), (uint32_t)threads, changes, volumes};
+    }
 
     if (strcmp(argv[1], "pages") == 0) {
         for (size_t n = blocks.thresholds; n < blocks.marks; n++)

@@ -1,7 +1,7 @@
 #!/usr/bin/env python3
 """Measures changes of shared counters on threads: the proved program crates/vms_bench beside the same in C.
 
-    bench/words.py [-k KIND]... [-t THREADS]... [-n CHANGES] [-r RUNS] [--cc COMMAND]
+    bench/words.py [-k KIND]... [-t THREADS]... [-n CHANGES] [-r RUNS] [--volumes] [--cc COMMAND]
 
 Both programs are built: the proved one by `rt run` in crates/vms_bench, bench/words.c by a C compiler for the processor
 that the proved program is built for. Each makes CHANGES changes on every one of THREADS threads, pinned to that many
@@ -63,9 +63,9 @@ def proved_program():
     return os.path.join(CRATE, "out", "vms_bench")
 
 
-def c_program(compiler, folder):
+def c_program(compiler, flags, folder):
     program = os.path.join(folder, "words")
-    run([*compiler.split(), *FLAGS, "-o", program, os.path.join(TOP, "bench", "words.c")])
+    run([*compiler.split(), *flags, "-o", program, os.path.join(TOP, "bench", "words.c")])
     return program
 
 
@@ -106,6 +106,8 @@ def arguments():
     parser.add_argument("-n", "--changes", type=positive, default=10_000_000, help="of each thread (10000000)")
     parser.add_argument("-r", "--runs", type=positive, default=11, help="of each program (11)")
     parser.add_argument("--cc", default=os.environ.get("CC", "cc"), metavar="COMMAND", help="the C compiler (cc)")
+    parser.add_argument("--volumes", action="store_true",
+                        help="let the C program keep what each CPU has changed so far, as the proved one does")
     words = parser.parse_args()
     if words.changes < 2:
         parser.error("the times of 2 changes at least can be told from that of one")
@@ -118,7 +120,7 @@ def main():
     words = arguments()
     with tempfile.TemporaryDirectory() as folder:
         try:
-            programs = {"proved": proved_program(), "C": c_program(words.cc, folder)}
+            programs = {"proved": proved_program(), "C": c_program(words.cc, FLAGS + ["-DVOLUMES"] * words.volumes, folder)}
             print(f"load average {os.getloadavg()[0]:.2f}; {words.changes} changes a thread, {words.runs} runs in turn")
             for kind in words.kind or KINDS:
                 print(f"{kind}: {KINDS[kind]}")
