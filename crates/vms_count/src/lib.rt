@@ -2,5 +2,7 @@
 #![tactic(auto)]
 
 mod changing;
+mod folding;
 
 pub use changing::{add, dec, inc};
+pub use folding::fold;
