@@ -1,0 +1,107 @@
+-- For other crates too: the loads of a test of a watermark, and what it rests on then.
+use Rattle.std.proofs.Common.{◌≡◌, ℕ, Bool, true, false, not, ◌&&◌, ◌||◌, nat_eq, nat_lt, ℤ, List, [], ◌∷◌, ◌++◌}
+use Rattle.std.proofs.Common.{refl, sym, ap, ◌∙◌, subst}
+use Rattle.vms_base.specs.declared.headers.Header.{Header}
+use Rattle.vms_base.specs.declared.ids.CounterId.{CounterId}
+use Rattle.vms_base.specs.declared.ids.PlaceId.{PlaceId}
+use Rattle.vms_base.specs.declared.kinds.WaterMark.{WaterMark}
+use Rattle.vms_base.specs.Places.{Shape, counter_at}
+use Rattle.vms_base.specs.Watermarks.{limit_of}
+use Rattle.vms_calls.specs.Looks.{Frees, IsPlaceValue, IsSnapshot, IsWatermarkTest, at_least_zero, free_pages}
+use Rattle.vms_calls.specs.Looks.{is_doubtful}
+use Rattle.vms_core.specs.declared.states.MarkRead.{MarkRead}
+use Rattle.vms_core.specs.declared.steps.Facts.{Facts}
+use Rattle.vms_core.specs.declared.steps.Step.{Step}
+use Rattle.vms_core.specs.declared.steps.Step.TheVariants.{LoadG, LoadM}
+use Rattle.vms_core.specs.Pages.{pages}
+use Rattle.vms_look.specs.Looking.{HasFree}
+use Rattle.vms_seats.specs.Passes.{Pass}
+use Rattle.vms_seats.specs.Steps.{Made, MadeOne}
+use Rattle.vms_seats.proofs.MadeCalls.{calls-both}
+
+-- the loads of a test, and whether there is doubt after them
+module _ (shape : Shape) (g : PlaceId) (k : CounterId) (is_free : k.number ≡ counter_at shape g.number 0)
+    (third two one old : Pass Facts Step) (first second : MarkRead)
+    (made_first : MadeOne pages one old (LoadM g first.mark first.number)) (free : ℕ)
+    (made_value : (steps : List Step) × IsPlaceValue k steps free × Made pages two one steps)
+    (made_second : MadeOne pages third two (LoadM g second.mark second.number)) (doubt : Bool)
+    (told : doubt ≡ (not (nat_eq first.mark second.mark && nat_eq first.number second.number)
+    || (not (nat_eq first.mark 0) && nat_lt free first.mark))) where
+  abbrev value : ℤ
+  value = made_value.1.value
+
+  same : k ≡ free_pages shape g
+  same = ap (λ (n : ℕ). record { number = n }) is_free
+
+  answers : free ≡ at_least_zero value
+  answers = made_value.1.answers
+
+  doubt-is : is_doubtful first value second ≡ doubt
+  doubt-is = sym (told ∙ ap (λ (v : ℕ). not (nat_eq first.mark second.mark && nat_eq first.number second.number)
+      || (not (nat_eq first.mark 0) && nat_lt v first.mark)) answers)
+
+  abbrev loads : List Step
+  loads = LoadM g first.mark first.number ∷ LoadG k value ∷ LoadM g second.mark second.number ∷ []
+
+  made_loads : Made pages third old loads
+  made_loads =
+      calls-both pages third two old (LoadM g first.mark first.number ∷ LoadG k value ∷ [])
+      (LoadM g second.mark second.number ∷ []) made_second.all
+      (calls-both pages two one old (LoadM g first.mark first.number ∷ []) (LoadG k value ∷ [])
+      (subst (Made pages two one) made_value.1.in_order made_value.2) made_first.all)
+
+  at_free : (new : Pass Facts Step) (further : List Step) → Made pages new old (loads ++ further)
+      → Made pages new old (LoadM g first.mark first.number ∷ LoadG (free_pages shape g) value
+      ∷ LoadM g second.mark second.number ∷ further)
+  at_free new further = subst (λ (j : CounterId). Made pages new old (LoadM g first.mark first.number ∷ LoadG j value
+      ∷ LoadM g second.mark second.number ∷ further)) same
+
+  pub free-loaded : doubt ≡ false → HasFree shape third old g free true
+  free-loaded none = record {
+    first = first;
+    value = value;
+    second = second;
+    further = [];
+    frees = subst (λ (d : Bool). Frees shape (free_pages shape g) d value [] free) (sym (doubt-is ∙ none))
+        (refl, answers);
+    is_fast = ap not (sym (doubt-is ∙ none));
+    made = at_free third [] made_loads;
+  }
+
+  pub free-snapshot : doubt ≡ true → (new : Pass Facts Step) (answer : ℕ)
+      → (steps : List Step) × IsSnapshot shape k steps answer × Made pages new third steps
+      → HasFree shape new old g answer false
+  free-snapshot some new answer took = record {
+    first = first;
+    value = value;
+    second = second;
+    further = took.0;
+    frees = subst (λ (d : Bool). Frees shape (free_pages shape g) d value took.0 answer) (sym (doubt-is ∙ some))
+        (subst (λ (j : CounterId). IsSnapshot shape j took.0 answer) same took.1);
+    is_fast = ap not (sym (doubt-is ∙ some));
+    made = at_free new took.0 (calls-both pages new third old loads took.0 took.2 made_loads);
+  }
+
+-- the whole test, by the header's limit
+pub tested : (header : Header) (shape : Shape) → header.layout ≡ shape → (new old : Pass Facts Step) (g : PlaceId)
+    (mark : WaterMark) (most free : ℕ) (fast passes : Bool) → passes ≡ nat_lt (limit_of header g.number mark most) free
+    → HasFree shape new old g free fast
+    → (steps : List Step)
+    × IsWatermarkTest header g mark most steps (record { yes = passes; free = free; fast = fast })
+    × Made pages new old steps
+tested header shape laid new old g mark most free fast passes is found =
+    let has = subst (λ (s : Shape). HasFree s new old g free fast) (sym laid) found in (
+      LoadM g has.first.mark has.first.number ∷ LoadG (free_pages header.layout g) has.value
+          ∷ LoadM g has.second.mark has.second.number ∷ has.further,
+      record {
+        first = has.first;
+        value = has.value;
+        second = has.second;
+        further = has.further;
+        in_order = refl;
+        frees = has.frees;
+        fast = has.is_fast;
+        yes = is;
+      },
+      has.made,
+    )

@@ -1,0 +1,9 @@
+//! What an allocator and reclaim code ask of the page counters while threads change them: values, snapshots, and
+//! whether a zone has pages enough. Each call makes single loads, with no wait, no refusal and no memory.
+#![tactic(auto)]
+
+mod values;
+mod watermarks;
+
+pub use values::{place_value, snapshot, system_value};
+pub use watermarks::{Verdict, watermark_ok};

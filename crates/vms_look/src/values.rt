@@ -1,0 +1,95 @@
+ghost use Rattle.std.specs.Prelude.{◌≡◌, ◌≤◌, ◌∷◌, [], List, unsigned_abs};
+ghost use Rattle.vms_base.specs.Cpus.{is_online as tells_online};
+ghost use Rattle.vms_base.specs.Places.{IsCounter, IsCpu, IsItem};
+ghost use Rattle.vms_calls.specs.Looks.{IsPlaceValue, IsSnapshot, IsSystemValue, at_least_zero};
+ghost use Rattle.vms_core.specs.declared.steps.Step.{Step};
+ghost use Rattle.vms_core.specs.Pages.{pages};
+ghost use Rattle.vms_look.specs.Looking.{HasLooked};
+ghost use Rattle.vms_seats.specs.Passes.{IsOf};
+ghost use Rattle.vms_seats.specs.Steps.{Made};
+
+use vms_base::{CounterId, CpuId, CpuState, ItemId};
+use vms_words::{Caller, PageTable};
+
+/// The global value of a counter, in pages, and 0 where it is negative (`zone_page_state` of include/linux/vmstat.h and
+/// `node_page_state_pages` of mm/vmstat.c).
+#[inline]
+pub fn place_value<P: Caller>(table: &PageTable, pass: &mut P, counter: CounterId) -> u64
+    requires table { IsOf (P.pass pass.old) table.now }
+    requires counter { IsCounter table.now.facts.layout counter.number }
+    ensures made { (steps : List Step) × IsPlaceValue counter steps result
+        × Made pages (P.pass pass.new) (P.pass pass.old) steps }
+    ensures volume { P.volume pass.new ≡ P.volume pass.old }
+{
+    clamped(table.load_place(pass, counter))
+}
+
+/// The system-wide value of an item, in pages, and 0 where it is negative (`global_zone_page_state` and
+/// `global_node_page_state_pages` of include/linux/vmstat.h).
+#[inline]
+pub fn system_value<P: Caller>(table: &PageTable, pass: &mut P, item: ItemId) -> u64
+    requires table { IsOf (P.pass pass.old) table.now }
+    requires item { IsItem table.now.facts.layout item.number }
+    ensures made { (steps : List Step) × IsSystemValue item steps result
+        × Made pages (P.pass pass.new) (P.pass pass.old) steps }
+    ensures volume { P.volume pass.new ≡ P.volume pass.old }
+{
+    clamped(table.load_system(pass, item))
+}
+
+/// The global value of a counter with what the CPUs have not folded yet that are found online, in pages, and 0 where
+/// that is negative (`zone_page_state_snapshot` of include/linux/vmstat.h; the same of a node's counter). The global
+/// value is loaded first, and then CPU after CPU, so it need not be the value at any one moment.
+pub fn snapshot<P: Caller>(table: &PageTable, pass: &mut P, counter: CounterId) -> u64
+    requires table { IsOf (P.pass pass.old) table.now }
+    requires counter { IsCounter table.now.facts.layout counter.number }
+    ensures made { (steps : List Step) × IsSnapshot table.now.facts.layout counter steps result
+        × Made pages (P.pass pass.new) (P.pass pass.old) steps }
+    ensures volume { P.volume pass.new ≡ P.volume pass.old }
+{
+    // The pass is known to live once it is asked for its CPU.
+    let _ = pass.own();
+    let mut sum = table.load_place(pass, counter);
+    for number in 0..table.layout().cpus() {
+        sum += hidden(table, pass, CpuId { number }, counter);
+    }
+    clamped(sum)
+}
+
+/// The differential of a CPU that is found online, in pages, and 0 of any other CPU.
+#[inline]
+fn hidden<P: Caller>(table: &PageTable, pass: &mut P, cpu: CpuId, counter: CounterId) -> i64
+    requires table { IsOf (P.pass pass.old) table.now }
+    requires cpu { IsCpu table.now.facts.layout cpu.number }
+    requires counter { IsCounter table.now.facts.layout counter.number }
+    ensures made { HasLooked (P.pass pass.new) (P.pass pass.old) counter cpu result }
+    ensures volume { P.volume pass.new ≡ P.volume pass.old }
+    ensures bound { unsigned_abs result ≤ 128 }
+{
+    // The pass is known to live once it is asked for its CPU.
+    let _ = pass.own();
+    if is_online(table.load_state(pass, cpu)) {
+        let group = table.layout().group(counter);
+        let found = table.load_diffs(pass, cpu, group);
+        found.values[(counter.number % 8) as usize]
+    } else {
+        0
+    }
+}
+
+#[inline]
+fn is_online(state: CpuState) -> bool
+    ensures { result ≡ tells_online state }
+{
+    match state {
+        CpuState::Online => true,
+        CpuState::Dead | CpuState::Absent => false,
+    }
+}
+
+#[inline]
+fn clamped(pages: i64) -> u64
+    ensures { result ≡ at_least_zero pages }
+{
+    pages.max(0) as u64
+}
