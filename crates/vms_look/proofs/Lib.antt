@@ -1,2 +1,3 @@
 pub mod LookSteps
 pub mod TestSteps
+pub mod TruePages

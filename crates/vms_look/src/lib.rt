@@ -2,8 +2,10 @@
 //! whether a zone has pages enough. Each call makes single loads, with no wait, no refusal and no memory.
 #![tactic(auto)]
 
+mod laws;
 mod values;
 mod watermarks;
 
+pub use laws::values_tell_true_pages;
 pub use values::{place_value, snapshot, system_value};
 pub use watermarks::{Verdict, watermark_ok};
