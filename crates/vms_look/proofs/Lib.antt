@@ -1,3 +1,6 @@
+pub mod PassSteps
+pub mod StandingDiffs
 pub mod LookSteps
+pub mod TestMoments
 pub mod TestSteps
 pub mod TruePages

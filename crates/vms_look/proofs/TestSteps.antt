@@ -1,5 +1,5 @@
 -- For other crates too: the loads of a test of a watermark, and what it rests on then.
-use Rattle.std.proofs.Common.{◌≡◌, ℕ, Bool, true, false, not, ◌&&◌, ◌||◌, nat_eq, nat_lt, ℤ, List, [], ◌∷◌, ◌++◌}
+use Rattle.std.proofs.Common.{◌≡◌, ℕ, Bool, true, false, not, ◌&&◌, ◌||◌, nat_eq, nat_lt, ℤ, to_z, of_z, w64, List, [], ◌∷◌, ◌++◌}
 use Rattle.std.proofs.Common.{refl, sym, ap, ◌∙◌, subst}
 use Rattle.vms_base.specs.declared.headers.Header.{Header}
 use Rattle.vms_base.specs.declared.ids.CounterId.{CounterId}
@@ -7,7 +7,7 @@ use Rattle.vms_base.specs.declared.ids.PlaceId.{PlaceId}
 use Rattle.vms_base.specs.declared.kinds.WaterMark.{WaterMark}
 use Rattle.vms_base.specs.Places.{Shape, counter_at}
 use Rattle.vms_base.specs.Watermarks.{limit_of}
-use Rattle.vms_calls.specs.Looks.{Frees, IsPlaceValue, IsSnapshot, IsWatermarkTest, at_least_zero, free_pages}
+use Rattle.vms_calls.specs.Looks.{Frees, IsSnapshot, IsWatermarkTest, at_least_zero, free_pages}
 use Rattle.vms_calls.specs.Looks.{is_doubtful}
 use Rattle.vms_core.specs.declared.states.MarkRead.{MarkRead}
 use Rattle.vms_core.specs.declared.steps.Facts.{Facts}
@@ -15,6 +15,7 @@ use Rattle.vms_core.specs.declared.steps.Step.{Step}
 use Rattle.vms_core.specs.declared.steps.Step.TheVariants.{LoadG, LoadM}
 use Rattle.vms_core.specs.Pages.{pages}
 use Rattle.vms_look.specs.Looking.{HasFree}
+use Rattle.vms_look.proofs.PassSteps.{value-told}
 use Rattle.vms_seats.specs.Passes.{Pass}
 use Rattle.vms_seats.specs.Steps.{Made, MadeOne}
 use Rattle.vms_seats.proofs.MadeCalls.{calls-both}
@@ -22,19 +23,17 @@ use Rattle.vms_seats.proofs.MadeCalls.{calls-both}
 -- the loads of a test, and whether there is doubt after them
 module _ (shape : Shape) (g : PlaceId) (k : CounterId) (is_free : k.number ≡ counter_at shape g.number 0)
     (third two one old : Pass Facts Step) (first second : MarkRead)
-    (made_first : MadeOne pages one old (LoadM g first.mark first.number)) (free : ℕ)
-    (made_value : (steps : List Step) × IsPlaceValue k steps free × Made pages two one steps)
+    (made_first : MadeOne pages one old (LoadM g first.mark first.number)) (value : ℤ)
+    (made_value : MadeOne pages two one (LoadG k value)) (free : ℕ)
+    (is : free ≡ at_least_zero (to_z w64 (of_z w64 value)))
     (made_second : MadeOne pages third two (LoadM g second.mark second.number)) (doubt : Bool)
     (told : doubt ≡ (not (nat_eq first.mark second.mark && nat_eq first.number second.number)
     || (not (nat_eq first.mark 0) && nat_lt free first.mark))) where
-  abbrev value : ℤ
-  value = made_value.1.value
+  answers : free ≡ at_least_zero value
+  answers = is ∙ ap at_least_zero (value-told two one k value made_value)
 
   same : k ≡ free_pages shape g
   same = ap (λ (n : ℕ). record { number = n }) is_free
-
-  answers : free ≡ at_least_zero value
-  answers = made_value.1.answers
 
   doubt-is : is_doubtful first value second ≡ doubt
   doubt-is = sym (told ∙ ap (λ (v : ℕ). not (nat_eq first.mark second.mark && nat_eq first.number second.number)
@@ -47,8 +46,8 @@ module _ (shape : Shape) (g : PlaceId) (k : CounterId) (is_free : k.number ≡ c
   made_loads =
       calls-both pages third two old (LoadM g first.mark first.number ∷ LoadG k value ∷ [])
       (LoadM g second.mark second.number ∷ []) made_second.all
-      (calls-both pages two one old (LoadM g first.mark first.number ∷ []) (LoadG k value ∷ [])
-      (subst (Made pages two one) made_value.1.in_order made_value.2) made_first.all)
+      (calls-both pages two one old (LoadM g first.mark first.number ∷ []) (LoadG k value ∷ []) made_value.all
+      made_first.all)
 
   at_free : (new : Pass Facts Step) (further : List Step) → Made pages new old (loads ++ further)
       → Made pages new old (LoadM g first.mark first.number ∷ LoadG (free_pages shape g) value

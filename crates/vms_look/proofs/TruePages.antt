@@ -1,8 +1,8 @@
 -- For other crates too: what is true of a zone's free pages where their value stands above the zone's mark.
-use Rattle.std.proofs.Common.{◌≡◌, ℕ, zero, suc, ◌+◌, ◌<◌, ◌≤◌, ℤ, pos, negsuc, ◌+ℤ◌, ◌≤ℤ◌, unsigned_abs, sym, subst}
+use Rattle.std.proofs.Common.{ℕ, suc, ◌<◌, ◌≤◌, ℤ, pos, negsuc, ◌+ℤ◌, ◌≤ℤ◌, unsigned_abs, subst}
 use Rattle.std.proofs.Common.{arith}
 use Rattle.std.proofs.lemmas.Int.{ints}
-use Rattle.vms_base.specs.Places.{IsZone, counter_at, place_of}
+use Rattle.vms_base.specs.Places.{IsZone, counter_at}
 use Rattle.vms_base.specs.Sizes.{gap_of, size_at}
 use Rattle.vms_calls.specs.Looks.{at_least_zero}
 use Rattle.vms_core.specs.declared.steps.Facts.{Facts}
@@ -16,7 +16,7 @@ use Rattle.vms_core.proofs.KeptLaws.{laws-kept}
 use Rattle.vms_history.specs.Sums.{count_below}
 use Rattle.vms_history.proofs.CountLemmas.{sum_below-sizes}
 use Rattle.vms_history.proofs.Prefixes.{base_can_begin}
-use Rattle.vms_look.specs.Truth.{HasTruly, MarksKeepHigh, NoMarksKeepLimit, free_value}
+use Rattle.vms_look.specs.Truth.{MarksKeepHigh, NoMarksKeepLimit, free_value}
 
 -- a value that isn't below a number above 0 is not negative
 value-least : (z : ℤ) (n : ℕ) → 0 < n → n ≤ at_least_zero z → pos n ≤ℤ z

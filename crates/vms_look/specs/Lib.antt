@@ -1,2 +1,3 @@
+pub mod SnapshotTotals
 pub mod Looking
 pub mod Truth

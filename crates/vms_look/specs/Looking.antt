@@ -1,5 +1,5 @@
 -- What the parts of a look found while others act.
-use Rattle.std.specs.Prelude.{◌≡◌, ℕ, Bool, not, ℤ, pos, List, ◌∷◌}
+use Rattle.std.specs.Prelude.{◌≡◌, ℕ, Bool, not, ℤ, pos, List, ◌∷◌, ◌++◌}
 use Rattle.vms_base.specs.declared.ids.CounterId.{CounterId}
 use Rattle.vms_base.specs.declared.ids.CpuId.{CpuId}
 use Rattle.vms_base.specs.declared.ids.PlaceId.{PlaceId}
@@ -12,7 +12,8 @@ use Rattle.vms_core.specs.declared.steps.Facts.{Facts}
 use Rattle.vms_core.specs.declared.steps.Step.{Step}
 use Rattle.vms_core.specs.declared.steps.Step.TheVariants.{LoadG, LoadM}
 use Rattle.vms_core.specs.Cells.{entry}
-use Rattle.vms_core.specs.Pages.{pages}
+use Rattle.vms_core.specs.Pages.{pages, History, state_after}
+use Rattle.vms_look.specs.SnapshotTotals.{AllLeaveDiffs, EndsWithStep, online_diff}
 use Rattle.vms_look.specs.declared.watermarks.Verdict.{Verdict}
 use Rattle.vms_seats.specs.Passes.{Pass}
 use Rattle.vms_seats.specs.Steps.{Made}
@@ -26,11 +27,15 @@ abbrev pub found_at : ℕ → Look → ℤ
 found_at k (online w) = entry w.values k
 found_at k (other x differs) = pos 0
 
--- the pass looked at a CPU, whose differential for a counter it found so
+-- the pass looked at a CPU, whose differential for a counter it found so; `since` is what all callers made meanwhile
 pub record HasLooked (new old : Pass Facts Step) (k : CounterId) (c : CpuId) (found : ℤ) : Type 0 where
   pub look : Look
   pub tells : found ≡ found_at k.number look
   pub made : Made pages new old (look_steps (group_of k.number) c.number look)
+  pub since : History
+  pub grew : new.seen ≡ since ++ old.seen
+  pub ends : EndsWithStep old.number new.seen
+  pub stood : AllLeaveDiffs k.number since → found ≡ online_diff (state_after old.facts old.seen) k.number c.number
 
 -- the pass loaded a zone's drift mark before and after its free pages, and took a snapshot of them where there was doubt
 pub record HasFree (shape : Shape) (new old : Pass Facts Step) (g : PlaceId) (free : ℕ) (fast : Bool)

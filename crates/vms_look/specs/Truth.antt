@@ -1,13 +1,20 @@
 -- What is true of a counter where its value stands above a mark.
-use Rattle.std.specs.Prelude.{◌≡◌, ℕ, suc, ◌+◌, ◌<◌, ◌≤◌, pos, ◌+ℤ◌, ◌≤ℤ◌}
+use Rattle.std.specs.Prelude.{◌≡◌, ℕ, suc, ◌+◌, ◌<◌, ◌≤◌, ℤ, pos, ◌+ℤ◌, ◌≤ℤ◌, ◌∷◌, ◌++◌}
+use Rattle.vms_base.specs.declared.ids.PlaceId.{PlaceId}
 use Rattle.vms_base.specs.Places.{IsZone, counter_at}
 use Rattle.vms_base.specs.Sizes.{gap_of, size_at}
-use Rattle.vms_calls.specs.Looks.{at_least_zero}
+use Rattle.vms_calls.specs.Looks.{at_least_zero, free_pages}
+use Rattle.vms_core.specs.declared.states.MarkRead.{MarkRead}
 use Rattle.vms_core.specs.declared.steps.Facts.{Facts}
+use Rattle.vms_core.specs.declared.steps.Step.{Step}
+use Rattle.vms_core.specs.declared.steps.Step.TheVariants.{LoadG, LoadM}
 use Rattle.vms_core.specs.Cells.{mark_at, value_at}
 use Rattle.vms_core.specs.Drift.{negative_carried}
+use Rattle.vms_core.specs.MarkNumbers.{MarkStands}
 use Rattle.vms_core.specs.Pages.{History, IsLegal, state_after}
 use Rattle.vms_core.specs.Totals.{true_total}
+use Rattle.vms_history.specs.Events.{Extends}
+use Rattle.vms_seats.specs.Passes.{Pass}
 
 -- the true total of counter k is at least so many pages, less `hidden` and less the negative amounts that callers carry
 abbrev pub HasTruly : Facts → History → ℕ → ℕ → ℕ → Type 0
@@ -29,3 +36,36 @@ abbrev pub NoMarksKeepLimit : Type 0
 NoMarksKeepLimit = (facts : Facts) (h : History) (g limit : ℕ) → IsLegal facts h → IsZone facts.layout g →
     mark_at (state_after facts h) g ≡ 0 → limit < free_value facts h g →
     HasTruly facts h (counter_at facts.layout g 0) (suc limit) (gap_of (size_at facts.sizes g))
+
+-- a pass loaded the free pages of zone g between two loads of the zone's mark, which told the same mark with the same
+-- number; `moment` is the history before the load of the free pages
+pub record LoadsBetween (new old : Pass Facts Step) (g : PlaceId) (mark : MarkRead) (moment : History) : Type 0 where
+  -- the histories before the first and before the second load of the mark
+  pub first : History
+  pub last : History
+  pub value : ℤ
+  pub begins : Extends first old.seen
+  pub marks : Extends moment (record { caller = old.number; step = LoadM g mark.mark mark.number } ∷ first)
+  pub loads : Extends last
+      (record { caller = old.number; step = LoadG (free_pages old.facts.layout g) value } ∷ moment)
+  pub marks_again : Extends new.seen
+      (record { caller = old.number; step = LoadM g mark.mark mark.number } ∷ last)
+
+-- what a test that answers yes without a snapshot says of zone g, where its free pages exceed a limit. The mark that it
+-- loaded before and again after stood at the moment of its load of the free pages. If that mark isn't 0, the zone truly
+-- had at least `high` free pages then; if it is 0, more than the limit, less the pages between `min` and `low`. In both
+-- cases less the negative amounts that callers carried at that moment.
+pub record SaysTruly (new old : Pass Facts Step) (g : PlaceId) (limit : ℕ) : Type 0 where
+  pub mark : MarkRead
+  pub moment : History
+  pub between : LoadsBetween new old g mark moment
+  pub legal : IsLegal old.facts moment
+  pub stands : MarkStands old.facts moment g.number mark.mark mark.number
+  pub marked : 0 < mark.mark →
+      HasTruly old.facts moment (counter_at old.facts.layout g.number 0) (size_at old.facts.sizes g.number).high 0
+  pub unmarked : mark.mark ≡ 0 → HasTruly old.facts moment (counter_at old.facts.layout g.number 0) (suc limit)
+      (gap_of (size_at old.facts.sizes g.number))
+
+-- a fact of every moment that a pass has seen
+abbrev pub AtEachMoment : Pass Facts Step → (Facts → History → Type 0) → Type 0
+AtEachMoment pass Holds = (since h : History) → pass.seen ≡ since ++ h → Holds pass.facts h

@@ -5,6 +5,7 @@ ghost use Rattle.vms_calls.specs.Looks.{IsPlaceValue, IsSnapshot, IsSystemValue,
 ghost use Rattle.vms_core.specs.declared.steps.Step.{Step};
 ghost use Rattle.vms_core.specs.Pages.{pages};
 ghost use Rattle.vms_look.specs.Looking.{HasLooked};
+ghost use Rattle.vms_look.specs.SnapshotTotals.{SumsTruly};
 ghost use Rattle.vms_seats.specs.Passes.{IsOf};
 ghost use Rattle.vms_seats.specs.Steps.{Made};
 
@@ -39,12 +40,15 @@ pub fn system_value<P: Caller>(table: &PageTable, pass: &mut P, item: ItemId) ->
 
 /// The global value of a counter with what the CPUs have not folded yet that are found online, in pages, and 0 where
 /// that is negative (`zone_page_state_snapshot` of include/linux/vmstat.h; the same of a node's counter). The global
-/// value is loaded first, and then CPU after CPU, so it need not be the value at any one moment.
+/// value is loaded first, and then CPU after CPU, so it need not be the value at any one moment. Where no caller puts
+/// to the counter or takes its group meanwhile, the sum is the counter's true total at the load of the global
+/// value, less what callers carry then and less what dead CPUs hide.
 pub fn snapshot<P: Caller>(table: &PageTable, pass: &mut P, counter: CounterId) -> u64
     requires table { IsOf (P.pass pass.old) table.now }
     requires counter { IsCounter table.now.facts.layout counter.number }
     ensures made { (steps : List Step) × IsSnapshot table.now.facts.layout counter steps result
         × Made pages (P.pass pass.new) (P.pass pass.old) steps }
+    ensures truly { SumsTruly (P.pass pass.new) (P.pass pass.old) counter result }
     ensures volume { P.volume pass.new ≡ P.volume pass.old }
 {
     // The pass is known to live once it is asked for its CPU.
@@ -87,8 +91,9 @@ fn is_online(state: CpuState) -> bool
     }
 }
 
+/// A number of pages as a caller is told it: 0 where it is negative.
 #[inline]
-fn clamped(pages: i64) -> u64
+pub(crate) fn clamped(pages: i64) -> u64
     ensures { result ≡ at_least_zero pages }
 {
     pages.max(0) as u64

@@ -1,15 +1,17 @@
-ghost use Rattle.std.specs.Prelude.{◌≡◌, ◌+◌, ◌≤◌, ◌^◌, ◌&&◌, ◌||◌, List, All, length, nat_eq, nat_lt, not};
+ghost use Rattle.std.specs.Prelude.{◌≡◌, ◌+◌, ◌<◌, ◌≤◌, ◌^◌, ◌&&◌, ◌||◌, ℕ, true, false, List, All, length, nat_eq, nat_lt, not};
 ghost use Rattle.vms_base.specs.Places.{IsZone};
 ghost use Rattle.vms_base.specs.Sizes.{IsValidSize, watermark_of};
 ghost use Rattle.vms_base.specs.Watermarks.{limit_of};
-ghost use Rattle.vms_calls.specs.Looks.{IsWatermarkTest};
+ghost use Rattle.vms_calls.specs.Looks.{IsWatermarkTest, free_pages as free_counter};
 ghost use Rattle.vms_core.specs.declared.steps.Step.{Step};
 ghost use Rattle.vms_core.specs.Pages.{pages};
 ghost use Rattle.vms_look.specs.Looking.{HasFree, verdict_told};
+ghost use Rattle.vms_look.specs.SnapshotTotals.{SumsTruly};
+ghost use Rattle.vms_look.specs.Truth.{SaysTruly};
 ghost use Rattle.vms_seats.specs.Passes.{IsOf};
 ghost use Rattle.vms_seats.specs.Steps.{Made};
 
-use crate::values::{place_value, snapshot};
+use crate::values::{clamped, snapshot};
 use vms_base::{Header, PlaceId, WaterMark, ZoneSize};
 use vms_calc::reserve;
 use vms_core::MarkRead;
@@ -29,6 +31,10 @@ pub struct Verdict {
 /// Tests whether a zone has more free pages than a watermark asks for, for a request that may use the zones of its node
 /// up to the zone index `most` (`zone_watermark_ok_safe` of mm/page_alloc.c at order 0). The zone's drift mark is loaded
 /// before and after its free pages. Where it was set in between, or they are below it, the free pages are a snapshot.
+///
+/// A yes without a snapshot tells of the moment when the free pages were loaded. Under a mark the zone truly had at least
+/// `high` pages then; without one it had more than was asked for, less the pages between `min` and `low`. In both cases
+/// less the negative amounts that callers carried.
 pub fn watermark_ok<P: Caller>(
     table: &PageTable,
     pass: &mut P,
@@ -44,6 +50,10 @@ pub fn watermark_ok<P: Caller>(
     requires most { most ≤ 3 }
     ensures made { (steps : List Step) × IsWatermarkTest header.now zone mark most steps (verdict_told result)
         × Made pages (P.pass pass.new) (P.pass pass.old) steps }
+    ensures truly { result.yes ≡ true → result.fast ≡ true →
+        SaysTruly (P.pass pass.new) (P.pass pass.old) zone (limit_of header.now zone.number mark most) }
+    ensures summed { result.fast ≡ false →
+        SumsTruly (P.pass pass.new) (P.pass pass.old) (free_counter table.now.facts.layout zone) result.free }
     ensures volume { P.volume pass.new ≡ P.volume pass.old }
 {
     // The pass is known to live once it is asked for its CPU.
@@ -88,13 +98,17 @@ fn free_pages<P: Caller>(table: &PageTable, pass: &mut P, zone: PlaceId) -> (u64
     requires table { IsOf (P.pass pass.old) table.now }
     requires zone { IsZone table.now.facts.layout zone.number }
     ensures made { HasFree table.now.facts.layout (P.pass pass.new) (P.pass pass.old) zone result.0 result.1 }
+    ensures truly { result.1 ≡ true → (limit : ℕ) → limit < result.0 →
+        SaysTruly (P.pass pass.new) (P.pass pass.old) zone limit }
+    ensures summed { result.1 ≡ false →
+        SumsTruly (P.pass pass.new) (P.pass pass.old) (free_counter table.now.facts.layout zone) result.0 }
     ensures volume { P.volume pass.new ≡ P.volume pass.old }
 {
     // The layout's bounds are known once it is read.
     let _ = table.layout().positions();
     let counter = table.layout().counter(zone, 0);
     let first = table.load_mark(pass, zone);
-    let value = place_value(table, pass, counter);
+    let value = clamped(table.load_place(pass, counter));
     let second = table.load_mark(pass, zone);
     if is_doubtful(first, value, second) {
         (snapshot(table, pass, counter), false)

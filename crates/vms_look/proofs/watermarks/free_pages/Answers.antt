@@ -1,6 +1,13 @@
--- The goals were what the free pages rest on, with a snapshot and without.
-use Rattle.std.proofs.Common.{ap, ◌∙◌}
-use Rattle.vms_base.specs.Places.{Shape, counter_at}
+-- The goals were what the free pages rest on, with a snapshot and without, and what is true of them then.
+use Rattle.std.proofs.Common.{◌≡◌, ℕ, ◌∙◌, ap, sym, subst}
+use Rattle.vms_base.specs.declared.ids.CounterId.{CounterId}
+use Rattle.vms_base.specs.Places.{Shape, IsZone, counter_at}
+use Rattle.vms_calls.specs.Looks.{free_pages}
+use Rattle.vms_core.specs.declared.steps.Facts.{Facts}
+use Rattle.vms_history.proofs.Own.{Extends-both}
+use Rattle.vms_look.specs.SnapshotTotals.{SumsTruly}
+use Rattle.vms_look.proofs.LookSteps.{sums-whole_call}
+use Rattle.vms_look.proofs.TestMoments.{says_truly}
 use Rattle.vms_look.proofs.TestSteps.{free-loaded, free-snapshot}
 use Rattle.vms_look.proofs.watermarks.free_pages.Goals as goal
 
@@ -8,18 +15,55 @@ pub returns-then-is_doubtful-clause-made : goal.returns-then-is_doubtful-clause-
 returns-then-is_doubtful-clause-made g c =
     free-snapshot c.args.table.now.facts.layout c.args.zone c.counter-counter.result
     (c.counter-counter.ensures.value ∙ ap (λ (shape : Shape). counter_at shape c.args.zone.number 0) c.layout-2.ensures)
-    (g.P.Caller.pass c.load_mark-second.new.pass) (g.P.Caller.pass c.place_value-value.new.pass)
+    (g.P.Caller.pass c.load_mark-second.new.pass) (g.P.Caller.pass c.load_place.new.pass)
     (g.P.Caller.pass c.load_mark-first.new.pass) (g.P.Caller.pass c.args.pass.now)
-    c.load_mark-first.result c.load_mark-second.result c.load_mark-first.ensures.made c.place_value-value.result
-    c.place_value-value.ensures.made c.load_mark-second.ensures.made c.is_doubtful.result c.is_doubtful.ensures
+    c.load_mark-first.result c.load_mark-second.result c.load_mark-first.ensures.made c.load_place.result
+    c.load_place.ensures.made c.clamped-value.result
+    c.clamped-value.ensures c.load_mark-second.ensures.made
+    c.is_doubtful.result c.is_doubtful.ensures
     c.if-is_doubtful.true (g.P.Caller.pass c.snapshot.new.pass) c.snapshot.result c.snapshot.ensures.made
 
 pub returns-else-is_doubtful-clause-made : goal.returns-else-is_doubtful-clause-made
 returns-else-is_doubtful-clause-made g c =
     free-loaded c.args.table.now.facts.layout c.args.zone c.counter-counter.result
     (c.counter-counter.ensures.value ∙ ap (λ (shape : Shape). counter_at shape c.args.zone.number 0) c.layout-2.ensures)
-    (g.P.Caller.pass c.load_mark-second.new.pass) (g.P.Caller.pass c.place_value-value.new.pass)
+    (g.P.Caller.pass c.load_mark-second.new.pass) (g.P.Caller.pass c.load_place.new.pass)
     (g.P.Caller.pass c.load_mark-first.new.pass) (g.P.Caller.pass c.args.pass.now)
-    c.load_mark-first.result c.load_mark-second.result c.load_mark-first.ensures.made c.place_value-value.result
-    c.place_value-value.ensures.made c.load_mark-second.ensures.made c.is_doubtful.result c.is_doubtful.ensures
+    c.load_mark-first.result c.load_mark-second.result c.load_mark-first.ensures.made c.load_place.result
+    c.load_place.ensures.made c.clamped-value.result
+    c.clamped-value.ensures c.load_mark-second.ensures.made
+    c.is_doubtful.result c.is_doubtful.ensures
     c.if-is_doubtful.false
+
+pub returns-else-is_doubtful-clause-truly : goal.returns-else-is_doubtful-clause-truly
+returns-else-is_doubtful-clause-truly g c fast limit more =
+    let facts = c.requires.table.facts in
+    says_truly c.args.zone c.counter-counter.result (g.P.Caller.pass c.load_mark-second.new.pass)
+    (g.P.Caller.pass c.load_place.new.pass) (g.P.Caller.pass c.load_mark-first.new.pass) (g.P.Caller.pass c.args.pass.now)
+    c.load_mark-first.result c.load_mark-second.result c.load_place.result c.load_mark-first.ensures.made
+    c.load_place.ensures.made c.load_mark-second.ensures.made
+    (subst (λ (f : Facts). IsZone f.layout c.args.zone.number) (sym facts) c.requires.zone)
+    (c.counter-counter.ensures.value
+    ∙ ap (λ (shape : Shape). counter_at shape c.args.zone.number 0)
+    (c.layout-2.ensures ∙ sym (ap (λ (f : Facts). f.layout) facts)))
+    c.clamped-value.result c.clamped-value.ensures c.is_doubtful.result c.is_doubtful.ensures c.if-is_doubtful.false limit
+    more
+
+pub returns-then-is_doubtful-clause-summed : goal.returns-then-is_doubtful-clause-summed
+returns-then-is_doubtful-clause-summed g c none =
+    let old = g.P.Caller.pass c.args.pass.now in
+    let third = g.P.Caller.pass c.load_mark-second.new.pass in
+    let two = g.P.Caller.pass c.load_place.new.pass in
+    let one = g.P.Caller.pass c.load_mark-first.new.pass in
+    let new = g.P.Caller.pass c.snapshot.new.pass in
+    let first = c.load_mark-first.ensures.made.all in
+    let second = c.load_place.ensures.made.all in
+    let last = c.load_mark-second.ensures.made.all in
+    let is_free : c.counter-counter.result ≡ free_pages c.args.table.now.facts.layout c.args.zone =
+    ap (λ (n : ℕ). record { number = n })
+    (c.counter-counter.ensures.value ∙ ap (λ (shape : Shape). counter_at shape c.args.zone.number 0) c.layout-2.ensures) in
+    sums-whole_call new third old (free_pages c.args.table.now.facts.layout c.args.zone) c.snapshot.result
+    (last.facts ∙ second.facts ∙ first.facts) (last.number ∙ second.number ∙ first.number)
+    (Extends-both third.seen two.seen old.seen last.made.extends
+    (Extends-both two.seen one.seen old.seen second.made.extends first.made.extends))
+    (subst (λ (k : CounterId). SumsTruly new third k c.snapshot.result) is_free c.snapshot.ensures.truly)

@@ -1,0 +1,70 @@
+-- What a snapshot of a counter comes to where the differentials stay as they are.
+use Rattle.std.specs.Prelude.{◌≡◌, ◌≢◌, ℕ, Bool, true, false, ℤ, pos, ◌+ℤ◌, List, [], ◌∷◌, ◌++◌, All, length}
+use Rattle.std.specs.Prelude.{if◌then◌else◌}
+use Rattle.vms_base.specs.declared.ids.CounterId.{CounterId}
+use Rattle.vms_base.specs.declared.kinds.CpuState.{CpuState}
+use Rattle.vms_base.specs.declared.kinds.CpuState.TheVariants.{Dead}
+use Rattle.vms_base.specs.Cpus.{is_online}
+use Rattle.vms_base.specs.Places.{Shape, group_of}
+use Rattle.vms_calls.specs.Lists.{in_turn}
+use Rattle.vms_calls.specs.Looks.{Look, at_least_zero, hidden, look_steps}
+use Rattle.vms_core.specs.declared.states.State.{State}
+use Rattle.vms_core.specs.declared.steps.Facts.{Facts}
+use Rattle.vms_core.specs.declared.steps.Step.{Step}
+use Rattle.vms_core.specs.declared.steps.Step.TheVariants.{LoadG, Put, Take}
+use Rattle.vms_core.specs.Cells.{cpu_at, diff_at}
+use Rattle.vms_core.specs.Pages.{History, carried_by_all, state_after}
+use Rattle.vms_core.specs.Totals.{true_total}
+use Rattle.vms_history.specs.declared.events.Event.{Event}
+use Rattle.vms_history.specs.Events.{Extends, own, after}
+use Rattle.vms_history.specs.Sums.{sum_below}
+use Rattle.vms_seats.specs.Passes.{Pass}
+
+-- a step that puts nothing to counter k and doesn't take its group
+abbrev pub LeavesDiffs : ℕ → Step → Type 0
+LeavesDiffs k (Put l w t delta how) = l.number ≢ k
+LeavesDiffs k (Take c j w) = j.number ≢ group_of k
+LeavesDiffs k _ = Unit {0}
+
+-- no event does
+abbrev pub AllLeaveDiffs : ℕ → History → Type 0
+AllLeaveDiffs k h = All (λ (e : Event Step). LeavesDiffs k e.step) h
+
+-- the differential of CPU c for counter k where the CPU is online, and 0 of any other
+abbrev pub online_diff : State → ℕ → ℕ → ℤ
+online_diff s k c = if is_online (cpu_at s c) then diff_at s c k else pos 0
+
+-- what the CPUs that are dead hide of counter k
+abbrev pub is_dead : CpuState → Bool
+is_dead Dead = true
+is_dead _ = false
+
+abbrev pub dead_diff : State → ℕ → ℕ → ℤ
+dead_diff s k c = if is_dead (cpu_at s c) then diff_at s c k else pos 0
+
+abbrev pub hidden_by_dead : Shape → State → ℕ → ℤ
+hidden_by_dead shape s k = sum_below (dead_diff s k) shape.cpus
+
+-- the newest event of a history is a step of caller p
+abbrev pub EndsWithStep : ℕ → History → Type 0
+EndsWithStep p h = (step : Step) × (before : History) × (h ≡ record { caller = p; step = step } ∷ before)
+
+-- a snapshot of counter k. The pass loads the global value after `moment` and looks at each CPU then; `since` is what
+-- all callers make from that load on up to the last look. If no caller puts to the counter or takes its group
+-- meanwhile, the value with what the looks find is the counter's true total at the moment, less what all callers carry
+-- and less what dead CPUs hide.
+pub record SumsTruly (new old : Pass Facts Step) (k : CounterId) (answer : ℕ) : Type 0 where
+  pub moment : History
+  pub since : History
+  pub value : ℤ
+  pub looks : List Look
+  pub begins : Extends moment old.seen
+  pub load : new.seen ≡ since ++ (record { caller = old.number; step = LoadG k value } ∷ moment)
+  pub ends : EndsWithStep old.number new.seen
+  pub one_each : length looks ≡ old.facts.layout.cpus
+  pub made : own since old.number ≡ after old.number (in_turn (look_steps (group_of k.number)) 0 looks) []
+  pub answers : answer ≡ at_least_zero (value +ℤ hidden k.number looks)
+  pub truly : AllLeaveDiffs k.number since →
+      (value +ℤ hidden k.number looks) +ℤ (carried_by_all moment k.number
+      +ℤ hidden_by_dead old.facts.layout (state_after old.facts moment) k.number)
+      ≡ true_total old.facts moment k.number
