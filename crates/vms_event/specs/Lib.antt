@@ -1,3 +1,4 @@
 pub mod SharedWords
 pub mod CpuPasses
 pub mod ControlPasses
+pub mod FoldedCpus

@@ -6,6 +6,7 @@ ghost use Rattle.vms_event_core.specs.Bases.{cpu_at, IsLowestOnline};
 ghost use Rattle.vms_event_core.specs.Calls.{IsFoldEvents, moves};
 ghost use Rattle.vms_event_core.specs.Events.{events};
 ghost use Rattle.vms_event_core.specs.Words.{IsEvent};
+ghost use Rattle.vms_event.specs.FoldedCpus.{HasFolded};
 ghost use Rattle.vms_seats.specs.Passes.{IsOf};
 ghost use Rattle.vms_seats.specs.Steps.{Made};
 
@@ -14,25 +15,29 @@ use crate::passes::EventControl;
 use crate::summing::is_online;
 use crate::tables::EventTable;
 use vms_base::{CpuId, CpuState, EventId};
-use vms_event_core::EventStep;
+use vms_event_core::{EventStep, folded_words_are_zero, laws_are_kept};
 use vms_seats::Works;
 
 impl EventTable {
     /// Moves what a dead CPU has counted into the words of the lowest-numbered CPU that is online
     /// (`vm_events_fold_cpu` of mm/vmstat.c, which moves it to the CPU that it runs on). A word is taken and set to 0
-    /// in one step; the step that adds what was found follows, unless that is 0.
+    /// in one step; the step that adds what was found follows, unless that is 0. When it returns, each word has moved
+    /// once, whoever else folded the CPU, and no count is left.
     pub fn fold_events(&self, pass: &mut EventControl, dead: CpuId)
         requires table { IsOf pass.old self.now }
         requires dead { cpu_at self.now.facts dead.number ≡ Dead }
-        ensures { (into : CpuId) × (found : List ℕ) × (steps : List EventStep)
+        ensures made { (into : CpuId) × (found : List ℕ) × (steps : List EventStep)
             × IsLowestOnline self.now.facts into.number × IsFoldEvents dead into found steps
             × Made events pass.new pass.old steps }
+        ensures folded { HasFolded pass.new dead }
     {
         pass.is_control();
         let into = self.lowest_online();
         for number in 0..EVENTS {
             pass.move_word(self, dead, into, EventId { number });
         }
+        folded_words_are_zero();
+        laws_are_kept();
     }
 
     fn lowest_online(&self) -> CpuId

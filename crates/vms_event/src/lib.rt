@@ -4,9 +4,11 @@
 
 mod counting;
 mod folding;
+mod laws;
 mod passes;
 mod summing;
 mod tables;
 
+pub use laws::{AnyEventPass, totals_are_kept};
 pub use passes::{EventCaller, EventControl, EventPass};
 pub use tables::{EventHistory, EventMain, EventTable, SharedEvents};

@@ -7,19 +7,25 @@ use Rattle.vms_base.specs.declared.ids.CpuId.{CpuId}
 use Rattle.vms_base.specs.declared.kinds.CpuState.TheVariants.{Dead, Absent}
 use Rattle.vms_base.specs.Places.{IsCpu}
 use Rattle.vms_history.specs.Passes.{owner_in}
+use Rattle.vms_history.proofs.Prefixes.{base_can_begin}
 use Rattle.vms_pcpu_core.specs.declared.steps.PcpuFacts.{PcpuFacts}
 use Rattle.vms_pcpu_core.specs.declared.steps.PcpuStep.{PcpuStep}
 use Rattle.vms_pcpu_core.specs.Calls.{IsSync, IsFoldDead}
 use Rattle.vms_pcpu_core.specs.Calls.IsFoldDead.{no_counter, one_counter}
 use Rattle.vms_pcpu_core.specs.Conditions.{MayTake}
 use Rattle.vms_pcpu_core.specs.Histories.{percpu}
+use Rattle.vms_pcpu_core.specs.Laws.{MovesOnce, numbers_after}
 use Rattle.vms_pcpu_core.specs.MayCall.{MayCall}
-use Rattle.vms_pcpu_core.specs.States.{cpu_at}
+use Rattle.vms_pcpu_core.specs.States.{IsPcpu, counters_of, cpu_at, local_at}
 use Rattle.vms_pcpu_core.specs.Steps.{role}
+use Rattle.vms_pcpu_core.proofs.CallsWithin.{made-by_living}
+use Rattle.vms_pcpu_core.proofs.DeadLocals.{dead-moves_once}
+use Rattle.vms_pcpu_core.proofs.FoldedCpus.{folded-none}
 use Rattle.vms_pcpu_core.proofs.OwnSteps.{fold_dead-adds}
+use Rattle.vms_pcpu.specs.Answers.{HasFolded}
 use Rattle.vms_pcpu.specs.IdlePasses.{IsReady}
 use Rattle.vms_pcpu.proofs.ReadyPasses.{calls-after, owner-after, ready-after, ready-calls}
-use Rattle.vms_seats.specs.Passes.{Pass}
+use Rattle.vms_seats.specs.Passes.{Pass, Shared, IsOf}
 use Rattle.vms_seats.specs.Steps.{Made}
 use Rattle.vms_seats.proofs.MadeCalls.{calls-none, calls-both}
 
@@ -69,3 +75,35 @@ module _ (dead : CpuId) (old : Pass PcpuFacts PcpuStep) (ready : IsReady old) (c
           (fold_dead-adds (record { number = 0 }) dead n folded.steps folded.folds) ready,
       folded.made.cpu ∙ control,
     )
+
+-- once a dead CPU was folded, each of its local parts has moved once, and none is left
+pub has-folded : (new old : Pass PcpuFacts PcpuStep) (words : Shared PcpuFacts) (dead : CpuId) (n : ℕ) → IsOf old words
+    → cpu_at words.facts dead.number ≡ Dead → n ≡ counters_of words.facts.base → FoldsBelow dead new old n
+    → HasFolded new dead
+has-folded new old words dead n of is_dead all folded =
+    record {
+      none_left =
+          subst
+          (λ (facts : PcpuFacts). (j : ℕ) → IsPcpu facts j → local_at (numbers_after facts new.seen) dead.number j ≡ pos 0)
+          (sym made.facts)
+          (λ j j_in.
+          folded-none old.facts old.seen new.seen [] old.number dead n folded.steps
+          (made-by_living old.facts old.seen new.seen old.number folded.steps made.made) folded.folds dead_here
+          made.made.legal j (omega (arith, j_in, every)) j_in);
+      moved_once =
+          subst (λ (facts : PcpuFacts). (j : ℕ) → IsPcpu facts j → MovesOnce facts new.seen dead.number j)
+          (sym made.facts)
+          (λ j j_in.
+          dead-moves_once old.facts new.seen made.made.legal dead.number j
+          (dead-known old.facts (base_can_begin percpu old.facts new.seen made.made.legal).lengths.one_state_each
+          dead.number dead_here) j_in dead_here);
+    }
+  where
+    made : Made percpu new old folded.steps
+    made = folded.made
+
+    every : n ≡ counters_of old.facts.base
+    every = all ∙ ap (λ (facts : PcpuFacts). counters_of facts.base) (sym of.facts)
+
+    dead_here : cpu_at old.facts dead.number ≡ Dead
+    dead_here = subst (λ (facts : PcpuFacts). cpu_at facts dead.number ≡ Dead) (sym of.facts) is_dead

@@ -1,4 +1,4 @@
--- What a pass that owns a CPU knows of what the CPU has spent.
+-- For other crates too: what a pass that owns a CPU knows of what the CPU has spent.
 use Rattle.std.proofs.Common.{◌≡◌, ◌≢◌, ℕ, Bool, true, false, nat_eq, List, [], ◌++◌, Option, Some, None, ℤ}
 use Rattle.std.proofs.Common.{refl, ap, sym, ◌∙◌, subst, arith, eqb-true}
 use Rattle.vms_base.specs.declared.ids.CpuId.{CpuId}
@@ -30,7 +30,7 @@ spent-elsewhere (Some d) cpu elsewhere j carrying step = by (nat_eq d.number cpu
     by false differs = rw differs refl
 
 -- while nobody owns a CPU, nobody spends anything of it
-spent-free : (facts : PcpuFacts) (h : History) (cpu : CpuId) → IsFree role h (Some cpu) → (m : History)
+pub spent-free : (facts : PcpuFacts) (h : History) (cpu : CpuId) → IsFree role h (Some cpu) → (m : History)
     → IsLegal facts (m ++ h) → own m 0 ≡ [] → (j : ℕ) → spent (m ++ h) cpu.number j ≡ spent h cpu.number j
 spent-free facts h cpu free =
     holds_while_free percpu facts h (Some cpu) free
@@ -41,7 +41,7 @@ spent-free facts h cpu free =
     omega (arith, none, same j))
     (λ j. refl)
 
-split-spends_nothing : (who owner : Option CpuId) (q c j : ℕ) (carrying : ℤ)
+pub split-spends_nothing : (who owner : Option CpuId) (q c j : ℕ) (carrying : ℤ)
     → spent_by owner c j carrying (Split q who) ≡ 0
 split-spends_nothing who owner q c j carrying = by (is_owned owner c) refl
   where

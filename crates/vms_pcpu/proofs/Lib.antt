@@ -13,3 +13,4 @@ pub mod LoadedLocals
 pub mod SumSteps
 pub mod FoldedCounters
 pub mod LimitCalls
+pub mod AnswersMean

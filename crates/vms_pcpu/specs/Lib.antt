@@ -1,2 +1,3 @@
 pub mod SharedWords
 pub mod IdlePasses
+pub mod Answers

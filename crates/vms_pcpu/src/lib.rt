@@ -4,6 +4,7 @@
 
 mod adding;
 mod folding;
+mod laws;
 mod ledgers;
 mod limiting;
 mod locking;
@@ -13,6 +14,7 @@ mod reading;
 mod stepping;
 mod tables;
 
+pub use laws::{AnyPcpuPass, totals_are_kept};
 pub use ledgers::SharedPcpu;
 pub use passes::{PcpuControl, PcpuPass};
 pub use tables::{PcpuHistory, PcpuMain, PcpuTable};

@@ -7,6 +7,7 @@ ghost use Rattle.vms_pcpu_core.specs.Calls.{unknown as unknown_in, room as room_
 ghost use Rattle.vms_pcpu_core.specs.Histories.{percpu};
 ghost use Rattle.vms_pcpu_core.specs.MayCall.{MayChange};
 ghost use Rattle.vms_pcpu_core.specs.States.{IsPcpu, batch_at};
+ghost use Rattle.vms_pcpu.specs.Answers.{LimitedAddMeans};
 ghost use Rattle.vms_pcpu.specs.IdlePasses.{MakesCall};
 ghost use Rattle.vms_seats.specs.Passes.{IsOf};
 ghost use Rattle.vms_seats.specs.Steps.{Made};
@@ -23,6 +24,11 @@ impl PcpuTable {
     /// says whether it does. The limit is the most for a positive amount, and the least for a negative one. It waits for
     /// the counter's lock where the shared part alone can't decide. The volume grows by the amount's size whatever the
     /// answer is. No counterpart in Linux 6.1.
+    ///
+    /// A `yes` keeps the limit if nobody else adds meanwhile. Others can push the true total past it by at most what they
+    /// added since the call's first step, plus what they still carried when it loaded the shared part without the lock.
+    /// A `no` comes only where the true total when the lock was won and the amount are past the limit, together with
+    /// what others added from there to the call's last reading. For a caller alone with the counter both are exact.
     pub fn limited_add<R: Wait>(
         &self,
         rt: &R,
@@ -37,6 +43,8 @@ impl PcpuTable {
         ensures made { IfOk result (λ answer. MakesCall pass.new.pass pass.old.pass (λ own steps.
             IsLimitedAdd (batch_at self.now.facts.base counter.number) (unknown_in self.now.facts counter.number)
             (present_cpus self.now.facts) own counter limit amount steps answer)) }
+        ensures means { amount ≢ pos 0 → IfOk result (λ answer.
+            LimitedAddMeans pass.new.pass pass.old.pass counter limit amount answer) }
         ensures volume { OnOk result (pass.new.volume ≡ slice_set pass.old.volume counter.number
             (slice_index pass.old.volume counter.number + unsigned_abs amount)) }
         ensures overflow { IsErr result ↔

@@ -7,6 +7,7 @@ ghost use Rattle.vms_pcpu_core.specs.Histories.{percpu};
 ghost use Rattle.vms_pcpu_core.specs.Laws.{most_number};
 ghost use Rattle.vms_pcpu_core.specs.MayCall.{MayCall};
 ghost use Rattle.vms_pcpu_core.specs.States.{IsPcpu};
+ghost use Rattle.vms_pcpu.specs.Answers.{SumMeans, CompareMeans};
 ghost use Rattle.vms_pcpu.specs.IdlePasses.{MakesCall};
 ghost use Rattle.vms_seats.specs.Passes.{IsOf};
 ghost use Rattle.vms_seats.specs.Steps.{Made};
@@ -32,12 +33,14 @@ impl PcpuTable {
     }
 
     /// The shared part of a counter and the local parts of the CPUs that are online or dead (`__percpu_counter_sum` of
-    /// lib/percpu_counter.c), under the counter's lock, for which it waits.
+    /// lib/percpu_counter.c), under the counter's lock, for which it waits. The answer is the true total when the lock
+    /// was won, and what each CPU added to its local part from there until the call loaded that part.
     pub fn sum<R: Wait>(&self, rt: &R, pass: &mut PcpuPass, counter: PcpuId) -> i64
         requires table { IsOf pass.old.pass self.now }
         requires counter { IsPcpu self.now.facts counter.number }
         ensures made { MakesCall pass.new.pass pass.old.pass
             (λ own steps. IsSum (present_cpus self.now.facts) counter steps result) }
+        ensures means { SumMeans pass.new.pass pass.old.pass counter result }
         ensures volume { pass.new.volume ≡ pass.old.volume }
     {
         self.sum_by(rt, &mut pass.worker, counter)
@@ -45,7 +48,8 @@ impl PcpuTable {
 
     /// Compares a counter with a number (`__percpu_counter_compare` of lib/percpu_counter.c): by the shared part alone
     /// where that is further off than what the CPUs may hold, and else by the sum, for which it waits for the counter's
-    /// lock.
+    /// lock. A rough answer is the sign of the true total, less what is carried, less the number, when the shared part
+    /// was loaded; any other is the sign of a sum less the number.
     pub fn compare<R: Wait>(
         &self,
         rt: &R,
@@ -59,6 +63,7 @@ impl PcpuTable {
         ensures made { MakesCall pass.new.pass pass.old.pass
             (λ own steps. IsCompare (unknown_in self.now.facts counter.number) (present_cpus self.now.facts) counter
             rhs steps result) }
+        ensures means { CompareMeans pass.new.pass pass.old.pass counter rhs result }
         ensures volume { pass.new.volume ≡ pass.old.volume }
     {
         self.compare_by(rt, &mut pass.worker, counter, rhs)

@@ -11,5 +11,5 @@ fold_events-requires-clause-table c = is_of-later c.args.table.now c.loop.pass c
 
 pub loop-preserved : goal.loop-preserved
 loop-preserved c = sees_more-both c.fold_events.new.pass c.loop.pass c.args.pass
-    (sees_more-made events c.fold_events.new.pass c.loop.pass c.fold_events.ensures.2 c.fold_events.ensures.5)
+    (sees_more-made events c.fold_events.new.pass c.loop.pass c.fold_events.ensures.made.2 c.fold_events.ensures.made.5)
     c.loop.invariant

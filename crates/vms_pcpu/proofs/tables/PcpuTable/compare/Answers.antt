@@ -4,6 +4,7 @@ use Rattle.std.proofs.lemmas.Int.{to_z-of_z}
 use Rattle.vms_pcpu_core.specs.Calls.{IsCompare, present_cpus, unknown}
 use Rattle.vms_pcpu_core.proofs.OwnSteps.{compare-adds}
 use Rattle.vms_pcpu.specs.IdlePasses.{CpuPass, MakesCall}
+use Rattle.vms_pcpu.proofs.AnswersMean.{compare-means}
 use Rattle.vms_pcpu.proofs.ReadyPasses.{owns-nothing}
 use Rattle.vms_pcpu.proofs.tables.PcpuTable.compare.Goals as goal
 
@@ -38,3 +39,8 @@ returns-clause-made g c =
           c.compare_by.ensures.1;
       made = c.compare_by.ensures.2;
     })
+
+pub returns-clause-means : goal.returns-clause-means
+returns-clause-means g c =
+    compare-means c.compare_by.new.worker c.args.pass.now.pass c.args.self.now c.requires.table c.args.counter
+    c.args.rhs c.compare_by.result (returns-clause-made g c)

@@ -1,12 +1,13 @@
--- The goals were that each counter's local part may be moved, and that these are the steps of the whole fold.
-use Rattle.std.proofs.Common.{ap, sym, ◌∙◌, subst}
+-- The goals were that each counter's local part may be moved, that these are the steps of the whole fold, and that
+-- nothing is left then.
+use Rattle.std.proofs.Common.{◌≡◌, ap, sym, ◌∙◌, subst, arith}
 use Rattle.vms_pcpu_core.specs.declared.steps.PcpuFacts.{PcpuFacts}
 use Rattle.vms_pcpu_core.specs.declared.steps.PcpuStep.{PcpuStep}
-use Rattle.vms_pcpu_core.specs.States.{cpu_at}
-use Rattle.vms_pcpu.proofs.FoldedCounters.{folds-none, folds-calls, folds-whose, folds-more, folds-ready}
+use Rattle.vms_pcpu_core.specs.States.{counters_of, cpu_at}
+use Rattle.vms_pcpu.proofs.FoldedCounters.{folds-none, folds-calls, folds-whose, folds-more, folds-ready, has-folded}
 use Rattle.vms_pcpu.proofs.ReadyPasses.{of-after}
 use Rattle.vms_pcpu.proofs.tables.PcpuTable.fold_dead.Goals as goal
-use Rattle.vms_seats.specs.Passes.{Pass, IsOf}
+use Rattle.vms_seats.specs.Passes.{Pass, Shared, IsOf}
 
 pub loop-number-init : goal.loop-number-init
 loop-number-init g c = folds-none c.args.dead c.pass.inside.worker c.pass.invariant.0 c.pass.invariant.1
@@ -39,3 +40,12 @@ pub invariant_of-pass : goal.invariant_of-pass
 invariant_of-pass g c =
     folds-ready c.args.dead c.pass.inside.worker c.pass.invariant.0 c.pass.invariant.1 c.loop-number.pass-inside.worker
     c.loop-number.number c.loop-number.invariant
+
+pub returns-clause-folded : goal.returns-clause-folded
+returns-clause-folded g c =
+    let of = subst (λ (p : Pass PcpuFacts PcpuStep). IsOf p c.args.self.now) (sym c.pass.view_is) c.requires.table in
+    let facts : c.self.inside.facts ≡ c.args.self.now.facts =
+    sym c.self.invariant.same ∙ ap (λ (s : Shared PcpuFacts). s.facts) c.self.view_is in
+    let every = ap (λ (f : PcpuFacts). counters_of f.base) facts in
+    has-folded c.loop-number.pass-inside.worker c.pass.inside.worker c.args.self.now c.args.dead c.loop-number.number of
+    c.requires.dead (omega (arith, every)) c.loop-number.invariant

@@ -1,14 +1,17 @@
--- The goal was that the pass is ready again, and that its volumes hold what its CPU has spent.
+-- The goals were that the pass is ready again, that its volumes hold what its CPU has spent, and what the answer means.
 use Rattle.std.proofs.Common.{◌≡◌, ◌+◌, ◌≤◌, Bool, true, false, ℤ, pos, unsigned_abs, slice_index, slice_set, w64, to_z}
 use Rattle.std.proofs.Common.{of_z, if◌then◌else◌, ap, sym, ◌∙◌, subst, arith}
 use Rattle.std.proofs.lemmas.Int.{ints, to_z-of_z}
 use Rattle.vms_pcpu_core.specs.declared.steps.PcpuFacts.{PcpuFacts}
-use Rattle.vms_pcpu_core.specs.Calls.{present_cpus, unknown}
+use Rattle.vms_pcpu_core.specs.Calls.{IsLimitedAdd, present_cpus, unknown}
 use Rattle.vms_pcpu_core.specs.States.{IsPcpu, batch_at}
 use Rattle.vms_pcpu_core.proofs.OwnSteps.{limited_add-adds}
+use Rattle.vms_pcpu.specs.Answers.{LimitedAddMeans}
 use Rattle.vms_pcpu.specs.IdlePasses.{CpuPass, IsCpuPass}
+use Rattle.vms_pcpu.proofs.AnswersMean.{limited_add-means}
 use Rattle.vms_pcpu.proofs.ReadyPasses.{owns-amount}
 use Rattle.vms_pcpu.proofs.tables.PcpuTable.limited_add.Goals as goal
+use Rattle.vms_seats.specs.Passes.{IsOf}
 
 -- what is added is no larger than the amount
 at_most : (answer : Bool) (passed amount : ℤ) → passed ≡ amount
@@ -39,3 +42,37 @@ invariant_of-pass g c =
     (limited_add-adds (batch_at facts.base j.number) (unknown facts j.number) (present_cpus facts) cpu j limit passed
     steps answer c.limited_add_by-answer.ensures.1) (at_most answer passed amount same)
     (subst (λ (f : PcpuFacts). IsPcpu f j.number) (sym of_pass) c.requires.counter) cpu volume c.pass.invariant)
+
+pub returns-clause-means : goal.returns-clause-means
+returns-clause-means g c some =
+    let j = c.args.counter in
+    let words = c.args.self.now in
+    let facts = words.facts in
+    let steps = c.limited_add_by-answer.ensures.0 in
+    let answer : Bool = c.limited_add_by-answer.result in
+    let cpu = c.pass.inside.cpu in
+    let amount : ℤ = c.args.amount in
+    let limit : ℤ = c.args.limit in
+    let same_amount : to_z w64 (of_z w64 amount) ≡ amount = to_z-of_z w64 amount c.ranges.amount in
+    let same_limit : to_z w64 (of_z w64 limit) ≡ limit = to_z-of_z w64 limit c.ranges.limit in
+    subst (λ (p : CpuPass). LimitedAddMeans c.limited_add_by-answer.new.worker p.pass j limit amount answer)
+    c.pass.view_is
+    (limited_add-means c.limited_add_by-answer.new.worker c.pass.inside.worker words
+    (subst (λ (p : CpuPass). IsOf p.pass words) (sym c.pass.view_is) c.requires.table) j limit amount answer
+    c.pass.invariant.ready
+    (record {
+      cpu = cpu;
+      owns = c.pass.invariant.owns;
+      steps = steps;
+      is_call =
+          subst
+          (λ (a : ℤ).
+          IsLimitedAdd (batch_at facts.base j.number) (unknown facts j.number) (present_cpus facts) cpu j limit a steps
+          answer) same_amount
+          (subst
+          (λ (a : ℤ).
+          IsLimitedAdd (batch_at facts.base j.number) (unknown facts j.number) (present_cpus facts) cpu j a
+          (to_z w64 (of_z w64 amount)) steps answer) same_limit c.limited_add_by-answer.ensures.1);
+      made = c.limited_add_by-answer.ensures.2;
+    })
+    some)

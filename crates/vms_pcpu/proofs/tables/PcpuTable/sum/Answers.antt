@@ -3,6 +3,7 @@ use Rattle.std.proofs.Common.{◌≡◌, ℤ, w64, to_z, of_z, sym, subst, arith
 use Rattle.vms_pcpu_core.specs.Calls.{IsSum, present_cpus}
 use Rattle.vms_pcpu_core.proofs.OwnSteps.{sum-adds}
 use Rattle.vms_pcpu.specs.IdlePasses.{CpuPass, MakesCall}
+use Rattle.vms_pcpu.proofs.AnswersMean.{sum-means}
 use Rattle.vms_pcpu.proofs.ReadyPasses.{owns-nothing}
 use Rattle.vms_pcpu.proofs.SmallNumbers.{same_word}
 use Rattle.vms_pcpu.proofs.tables.PcpuTable.sum.Goals as goal
@@ -32,3 +33,8 @@ returns-clause-made g c =
       is_call = subst (IsSum (present_cpus facts) j c.sum_by.ensures.made.0) (sym same) c.sum_by.ensures.made.1;
       made = c.sum_by.ensures.made.2;
     })
+
+pub returns-clause-means : goal.returns-clause-means
+returns-clause-means g c =
+    sum-means c.sum_by.new.worker c.args.pass.now.pass c.args.self.now c.requires.table c.args.counter
+    (to_z w64 (of_z w64 c.sum_by.result)) (returns-clause-made g c)
