@@ -1,4 +1,4 @@
--- The zones of a node up to a zone index, and the first of them that passes.
+-- For other crates too: the zones of a node up to a zone index, and the first of them that passes.
 use Rattle.std.proofs.Common.{◌≡◌, ℕ, zero, suc, ◌+◌, ◌-◌, ◌<◌, nat_eq, nat_le, ◌&&◌, Bool, true, false, List, [], ◌∷◌}
 use Rattle.std.proofs.Common.{◌++◌, length, map, filter, get_or, if◌then◌else◌, Some, None, refl, sym, ap, subst, ◌∙◌}
 use Rattle.std.proofs.Common.{arith}
@@ -25,7 +25,7 @@ module _ (shape : Shape) (most node : ℕ) where
   abbrev pub is_one : ℕ → Bool
   is_one g = nat_eq (node_of_zone shape g) node && nat_le (index_at g) most
 
-  zones_below-next : (n : ℕ) → zones_below (suc n) ≡ zones_below n ++ (if is_one n then n ∷ [] else [])
+  pub zones_below-next : (n : ℕ) → zones_below (suc n) ≡ zones_below n ++ (if is_one n then n ∷ [] else [])
   zones_below-next n =
       ap (filter (λ g. nat_le (index_at g) most))
       (filter-append (λ g. nat_eq (node_of_zone shape g) node) (numbers_below n) (n ∷ []))

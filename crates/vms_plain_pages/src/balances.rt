@@ -49,7 +49,7 @@ pub fn balance_test(pages: &Plain, header: &Header, node: PlaceId, order: u32, m
 }
 
 /// Whether a zone is one of a node, up to a zone index.
-fn is_up_to(zone: ZoneName, node: u32, most: u32) -> bool
+pub fn is_up_to(zone: ZoneName, node: u32, most: u32) -> bool
     ensures { result ≡ (nat_eq zone.node node && nat_le (zone_index zone.kind) most) }
 {
     zone.node == node && zone.kind as u32 <= most

@@ -136,7 +136,7 @@ fn has_block(pages: &Plain, header: &Header, zone: PlaceId, order: u32) -> bool
 
 /// Which of the zones' declared items counts the free blocks of an order. Its position follows those of the eight fixed
 /// items.
-fn item_index(header: &Header, order: u32) -> Option<usize>
+pub fn item_index(header: &Header, order: u32) -> Option<usize>
     requires header { IsHeader header.now }
     requires least { 1 ≤ order }
     requires most { order ≤ 10 }

@@ -53,7 +53,7 @@ pub fn watermark_test(
 }
 
 /// What the free pages of a zone have to exceed, in pages: the watermark and the zone's reserve.
-pub(crate) fn limit(header: &Header, zone: PlaceId, mark: WaterMark, most: u32) -> u64
+pub fn limit(header: &Header, zone: PlaceId, mark: WaterMark, most: u32) -> u64
     requires header { IsHeader header.now }
     requires zone { IsZone header.now.layout zone.number }
     requires most { most ≤ 3 }
