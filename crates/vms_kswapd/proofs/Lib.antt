@@ -1,0 +1,3 @@
+pub mod BlockSearches
+pub mod OrderTests
+pub mod ZoneTests

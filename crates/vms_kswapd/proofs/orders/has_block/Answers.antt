@@ -1,0 +1,35 @@
+-- The goals were what the look found, with an item for the order and without one.
+use Rattle.std.proofs.Common.{ℕ, not, nat_eq, List, [], Option, Some, None, if◌then◌else◌, sym, ◌∙◌, subst}
+use Rattle.vms_base.specs.Areas.{area_at}
+use Rattle.vms_base.specs.Places.{Shape}
+use Rattle.vms_calls.specs.Looks.{IsSnapshot}
+use Rattle.vms_calls.specs.Turns.{FindsBlock}
+use Rattle.vms_calls.specs.Turns.FindsBlock.{nowhere}
+use Rattle.vms_core.specs.declared.steps.Step.{Step}
+use Rattle.vms_core.specs.Pages.{pages}
+use Rattle.vms_kswapd.specs.Seeking.{HasSought}
+use Rattle.vms_kswapd.proofs.BlockSearches.{area-sought}
+use Rattle.vms_seats.specs.Steps.{Made}
+use Rattle.vms_seats.proofs.MadeCalls.{calls-none}
+use Rattle.vms_kswapd.proofs.orders.has_block.Goals as goal
+
+pub returns-in-Some-clause-made : goal.returns-in-Some-clause-made
+returns-in-Some-clause-made g c =
+    let shape = c.args.header.now.layout in
+    let new = g.P.Caller.pass c.snapshot.new.pass in
+    let old = g.P.Caller.pass c.args.pass.now in
+    let blocks = c.snapshot.result in
+    subst (λ (found : Option ℕ). HasSought shape new old c.args.zone (area_at c.args.order found)
+    (if not (nat_eq blocks 0) then Some c.args.order else None)) (sym c.in-Some.is ∙ c.item_index.ensures.value)
+    (area-sought shape c.args.zone new old c.counter-counter.result c.args.order c.in-Some.index blocks
+    c.counter-counter.ensures.value
+    (subst (λ (s : Shape). (steps : List Step) × IsSnapshot s c.counter-counter.result steps blocks
+    × Made pages new old steps) (sym c.requires.layout) c.snapshot.ensures.made))
+
+pub returns-in-None-clause-made : goal.returns-in-None-clause-made
+returns-in-None-clause-made g c = (
+  [],
+  subst (λ (found : Option ℕ). FindsBlock c.args.header.now.layout c.args.zone (area_at c.args.order found) [] None)
+      (sym c.in-None.is ∙ c.item_index.ensures.value) nowhere,
+  calls-none pages (g.P.Caller.pass c.args.pass.now) c.own.ensures.live,
+)

@@ -1,0 +1,51 @@
+-- What a yes of a test for an order and of a balance test says.
+use Rattle.std.specs.Prelude.{◌≡◌, ◌≢◌, ℕ, ◌≤◌, true, List, ◌++◌, Contains, Option, Some}
+use Rattle.vms_base.specs.declared.headers.Header.{Header}
+use Rattle.vms_base.specs.declared.ids.PlaceId.{PlaceId}
+use Rattle.vms_base.specs.declared.kinds.WaterMark.TheVariants.{High}
+use Rattle.vms_base.specs.Areas.{Area, areas_of}
+use Rattle.vms_base.specs.Watermarks.{limit_of}
+use Rattle.vms_calls.specs.Looks.{IsSnapshot}
+use Rattle.vms_calls.specs.Ratings.{node_number}
+use Rattle.vms_calls.specs.Turns.{IsOrderTest, blocks_at, zones_up_to}
+use Rattle.vms_core.specs.declared.steps.Facts.{Facts}
+use Rattle.vms_core.specs.declared.steps.Step.{Step}
+use Rattle.vms_core.specs.Pages.{pages}
+use Rattle.vms_look.specs.Truth.{SaysTruly}
+use Rattle.vms_plain_pages.specs.declared.balances.Balance.{Balance}
+use Rattle.vms_plain_pages.specs.declared.balances.Balance.TheVariants.{Yes, No}
+use Rattle.vms_plain_pages.specs.declared.orders.OrderVerdict.{OrderVerdict}
+use Rattle.vms_plain_pages.specs.Orders.{order_verdict_told}
+use Rattle.vms_seats.specs.Passes.{Pass}
+use Rattle.vms_seats.specs.Steps.{Made}
+
+-- the steps end with a snapshot of the free blocks of zone g of an order or larger, and it isn't 0
+pub record FoundBlock (header : Header) (g : PlaceId) (order : ℕ) (steps : List Step) (found : Option ℕ) : Type 0 where
+  pub area : Area
+  pub declared : Contains (areas_of header.items) area
+  pub least : order ≤ area.order
+  pub named : found ≡ Some area.order
+  pub earlier : List Step
+  pub look : List Step
+  pub blocks : ℕ
+  pub in_order : steps ≡ earlier ++ look
+  pub snapshot : IsSnapshot header.layout (blocks_at header.layout g area) look blocks
+  pub some : blocks ≢ 0
+
+-- the call ended with a test of zone g of the node that was yes. Where its free pages are no snapshot, they truly were
+-- there as a yes under the high watermark says; and above order 0 it found a free block as large as was asked for.
+pub record HasPassed (header : Header) (new old : Pass Facts Step) (n : PlaceId) (order most : ℕ) (g : PlaceId)
+    (verdict : OrderVerdict) : Type 0 where
+  pub one_of : Contains (zones_up_to header.layout most (node_number header.layout n)) g.number
+  pub passed : verdict.yes ≡ true
+  pub earlier : List Step
+  pub test : List Step
+  pub made : Made pages new old (earlier ++ test)
+  pub tests : IsOrderTest header g High most order test (order_verdict_told verdict)
+  pub truly : verdict.fast ≡ true → SaysTruly new old g (limit_of header g.number High most)
+  pub block : order ≢ 0 → FoundBlock header g order test verdict.area
+
+-- a yes names a zone that passed
+abbrev pub NamesPassed : Header → (new old : Pass Facts Step) → PlaceId → (order most : ℕ) → Balance → Type 0
+NamesPassed header new old n order most (Yes g verdict) = HasPassed header new old n order most g verdict
+NamesPassed header new old n order most No = Unit {0}

@@ -1,0 +1,56 @@
+ghost use Rattle.std.specs.Prelude.{◌≡◌, ◌≤◌, List};
+ghost use Rattle.vms_base.specs.Headers.{IsHeader};
+ghost use Rattle.vms_base.specs.Places.{IsNode};
+ghost use Rattle.vms_calls.specs.Turns.{IsBalanceTest};
+ghost use Rattle.vms_core.specs.declared.steps.Step.{Step};
+ghost use Rattle.vms_core.specs.Pages.{pages};
+ghost use Rattle.vms_kswapd.specs.Passing.{NamesPassed};
+ghost use Rattle.vms_plain_pages.specs.Balances.{balance_told};
+ghost use Rattle.vms_seats.specs.Passes.{IsOf};
+ghost use Rattle.vms_seats.specs.Steps.{Made};
+
+use crate::orders::zone_ok;
+use vms_base::{Header, PlaceId, WaterMark};
+use vms_plain_pages::{Balance, is_up_to};
+use vms_words::{Caller, PageTable};
+
+/// Tests whether a node is balanced for an order (`pgdat_balanced` of mm/vmscan.c): its zones up to the zone index
+/// `most` are tested in order by their `high` watermark, up to the first that passes. Unlike the kernel's, the answer
+/// is no where the node has no such zone.
+pub fn balanced<P: Caller>(
+    table: &PageTable,
+    pass: &mut P,
+    header: &Header,
+    node: PlaceId,
+    order: u32,
+    most: u32,
+) -> Balance
+    requires table { IsOf (P.pass pass.old) table.now }
+    requires header { IsHeader header.now }
+    requires layout { header.now.layout ≡ table.now.facts.layout }
+    requires sizes { header.now.sizes ≡ table.now.facts.sizes }
+    requires node { IsNode header.now.layout node.number }
+    requires order { order ≤ 10 }
+    requires most { most ≤ 3 }
+    ensures made { (steps : List Step) × IsBalanceTest header.now node order most steps (balance_told result)
+        × Made pages (P.pass pass.new) (P.pass pass.old) steps }
+    ensures passed { NamesPassed header.now (P.pass pass.new) (P.pass pass.old) node order most result }
+    ensures volume { P.volume pass.new ≡ P.volume pass.old }
+{
+    // The pass is known to live once it is asked for its CPU.
+    let _ = pass.own();
+    let zones = header.layout.zones();
+    let number = header.layout.nodes()[node.number as usize - zones.len()];
+    for place in 0..zones.len() {
+        if is_up_to(zones[place], number, most) {
+            let zone = PlaceId {
+                number: place as u32,
+            };
+            let verdict = zone_ok(table, pass, header, zone, WaterMark::High, order, most);
+            if verdict.yes {
+                return Balance::Yes(zone, verdict);
+            }
+        }
+    }
+    Balance::No
+}
