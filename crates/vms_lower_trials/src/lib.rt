@@ -1,5 +1,5 @@
-//! Trials of the crates at the bottom: layouts, encodings and formulas, words, headers and lines with their causes, and
-//! what is written of them.
+//! Trials of the crates at the bottom: layouts, encodings and formulas, words, headers and lines with their causes, what
+//! is written of them, and a text that is made.
 #![tactic(auto)]
 
 #[cfg(test)]
@@ -10,6 +10,8 @@ mod headers;
 mod layouts;
 #[cfg(test)]
 mod lines;
+#[cfg(test)]
+mod made_texts;
 #[cfg(test)]
 mod spellings;
 #[cfg(test)]
