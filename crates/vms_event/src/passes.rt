@@ -1,4 +1,4 @@
-ghost use Rattle.std.specs.Prelude.{◌≡◌, ℕ, Some, None, refl};
+ghost use Rattle.std.specs.Prelude.{◌≡◌, ℕ, ◌<◌, List, [], Some, None, refl};
 ghost use Rattle.vms_base.specs.declared.ids.CpuId.{CpuId};
 ghost use Rattle.vms_base.specs.declared.ids.EventId.{EventId};
 ghost use Rattle.vms_event_core.specs.declared.steps.EventStep.TheVariants.{LoadE, Split, Join};
@@ -6,9 +6,11 @@ ghost use Rattle.vms_event_core.specs.Events.{events, MayOwn};
 ghost use Rattle.vms_event_core.specs.Steps.{role};
 ghost use Rattle.vms_event.specs.ControlPasses.{IsControl};
 ghost use Rattle.vms_event.specs.CpuPasses.{Covers, SpendsNothing};
+ghost use Rattle.vms_event.specs.SharedWords.{shown, told};
 ghost use Rattle.vms_history.specs.Passes.{IsFree};
 ghost use Rattle.vms_seats.specs.MainSteps.{HasBegun, HasEnded};
 ghost use Rattle.vms_seats.specs.Passes.{IsLive, IsOf};
+ghost use Rattle.vms_seats.specs.Steps.{MayStep, MadeOne};
 
 use crate::tables::{EventMain, EventTable, SharedEvents};
 use std::marker::Model;
@@ -117,10 +119,22 @@ impl EventTable {
 
 /// A pass that may look at the event counters.
 pub trait EventCaller: Works<SharedEvents> {
+    // What the pass's CPU has counted of each event since the run began; none for the control pass.
+    ghost volume: { Self → List ℕ };
+
     /// The CPU that the pass owns; the control pass owns none.
     fn own(&self) -> Option<CpuId>
         ensures cpu { result ≡ (Self.pass self.now).cpu }
         ensures live { IsLive events (Self.pass self.now) };
+
+    /// Loads a word, and leaves the volumes.
+    fn load(&mut self, words: &Words<SharedEvents>, place: usize, plan: &EventStep) -> u64
+        requires words { IsOf (Self.pass self.old) words.now }
+        requires place { place < words.now.table.words }
+        requires step { MayStep events shown (Self.pass self.old) place (λ n. n) (told plan.now) }
+        requires leaves { (n : ℕ) → Self.Works.Leaves (told plan.now n) }
+        ensures made { MadeOne events (Self.pass self.new) (Self.pass self.old) (told plan.now result) }
+        ensures volume { volume self.new ≡ volume self.old };
 
     // A load changes nothing that it keeps.
     ghost loads_leave: { (c : CpuId) (k : EventId) (v : ℕ) → Self.Works.Leaves (LoadE c k v) };
@@ -129,21 +143,35 @@ pub trait EventCaller: Works<SharedEvents> {
 impl EventCaller for EventPass {
     ghost use Rattle.vms_event.specs.CpuPasses.{loads-spend_nothing};
 
+    ghost volume = { λ p. p.volume };
+
     ghost loads_leave = { loads-spend_nothing };
 
     #[inline]
     fn own(&self) -> Option<CpuId> {
         Some(self.cpu)
     }
+
+    #[inline]
+    fn load(&mut self, words: &Words<SharedEvents>, place: usize, plan: &EventStep) -> u64 {
+        self.worker.load_at(words, place, plan)
+    }
 }
 
 impl EventCaller for EventControl {
+    ghost volume = { λ p. [] };
+
     ghost loads_leave = { λ c k v l. refl };
 
     #[inline]
     fn own(&self) -> Option<CpuId> {
         let _ = &self.worker;
         None
+    }
+
+    #[inline]
+    fn load(&mut self, words: &Words<SharedEvents>, place: usize, plan: &EventStep) -> u64 {
+        self.worker.load_at(words, place, plan)
     }
 }
 

@@ -21,9 +21,10 @@ impl EventTable {
     pub fn all_events<P: EventCaller>(&self, pass: &mut P, event: EventId) -> u64
         requires table { IsOf (P.pass pass.old) self.now }
         requires event { IsEvent event.number }
-        ensures { (found : List ℕ) × (steps : List EventStep)
+        ensures made { (found : List ℕ) × (steps : List EventStep)
             × IsAllEvents (online_cpus self.now.facts) event found steps result
             × Made events (P.pass pass.new) (P.pass pass.old) steps }
+        ensures volume { P.volume pass.new ≡ P.volume pass.old }
     {
         let _ = pass.own();
         let mut sum = 0;
@@ -43,9 +44,10 @@ impl EventTable {
         requires table { IsOf (P.pass pass.old) self.now }
         requires cpu { IsCpu self.now.facts.layout cpu.number }
         requires event { IsEvent event.number }
-        ensures { MadeOne events (P.pass pass.new) (P.pass pass.old) (LoadE cpu event result) }
+        ensures made { MadeOne events (P.pass pass.new) (P.pass pass.old) (LoadE cpu event result) }
+        ensures volume { P.volume pass.new ≡ P.volume pass.old }
     {
-        pass.load_at(
+        pass.load(
             &self.words,
             place(cpu, event),
             &EventStep::LoadE(cpu, event, 0),

@@ -7,8 +7,8 @@ use Rattle.vms_event.proofs.LoadedWords.{load-may}
 use Rattle.vms_seats.specs.Steps.{MayStep}
 use Rattle.vms_event.proofs.tables.EventTable.load_word.Goals as goal
 
-pub load_at-requires-clause-step : goal.load_at-requires-clause-step
-load_at-requires-clause-step g c = subst
+pub load-requires-clause-step : goal.load-requires-clause-step
+load-requires-clause-step g c = subst
     (λ at. MayStep events shown (g.P.Works.pass c.args.pass.now) at (λ n. n)
     (λ found. LoadE c.args.cpu c.args.event found))
     (sym c.place.ensures)

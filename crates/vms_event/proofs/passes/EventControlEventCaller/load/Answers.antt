@@ -1,0 +1,20 @@
+-- The goals were that the step may be made, and that the control pass still carries nothing.
+use Rattle.std.proofs.Common.{sym, subst}
+use Rattle.vms_event_core.specs.declared.steps.EventFacts.{EventFacts}
+use Rattle.vms_event_core.specs.declared.steps.EventStep.{EventStep}
+use Rattle.vms_event_core.specs.Events.{events}
+use Rattle.vms_event.specs.SharedWords.{shown, told}
+use Rattle.vms_seats.specs.Passes.{Pass}
+use Rattle.vms_seats.specs.Steps.{MayStep}
+use Rattle.vms_event.proofs.KeptControl.{control-left}
+use Rattle.vms_event.proofs.passes.EventControlEventCaller.load.Goals as goal
+
+pub load_at-requires-clause-step : goal.load_at-requires-clause-step
+load_at-requires-clause-step c = subst
+    (λ (p : Pass EventFacts EventStep). MayStep events shown p c.args.place
+    (λ n. n) (told c.args.plan.now))
+    (sym c.self.view_is) c.requires.step
+
+pub invariant_of-self : goal.invariant_of-self
+invariant_of-self c = control-left c.load_at.new.self c.self.inside.worker (told c.args.plan.now c.load_at.result)
+    c.self.invariant (c.requires.leaves c.load_at.result) c.load_at.ensures

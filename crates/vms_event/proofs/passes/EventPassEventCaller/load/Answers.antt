@@ -1,0 +1,18 @@
+-- The goals were that the step may be made, and that the volumes still cover what the CPU has counted.
+use Rattle.std.proofs.Common.{sym, subst}
+use Rattle.vms_event_core.specs.Events.{events}
+use Rattle.vms_event.specs.CpuPasses.{CpuPass}
+use Rattle.vms_event.specs.SharedWords.{shown, told}
+use Rattle.vms_event.proofs.KnownSpending.{covers-left}
+use Rattle.vms_seats.specs.Steps.{MayStep}
+use Rattle.vms_event.proofs.passes.EventPassEventCaller.load.Goals as goal
+
+pub load_at-requires-clause-step : goal.load_at-requires-clause-step
+load_at-requires-clause-step c = subst
+    (λ (p : CpuPass). MayStep events shown p.pass c.args.place
+    (λ n. n) (told c.args.plan.now))
+    (sym c.self.view_is) c.requires.step
+
+pub invariant_of-self : goal.invariant_of-self
+invariant_of-self c = covers-left c.self.inside.worker c.self.inside.cpu c.self.inside.volume c.self.invariant
+    c.load_at.new.self (told c.args.plan.now c.load_at.result) (c.requires.leaves c.load_at.result) c.load_at.ensures
