@@ -1,0 +1,52 @@
+-- The passes of a lane on the three tables, as contracts see them.
+use Rattle.std.specs.Prelude.{◌≡◌, length, Option}
+use Rattle.vms_base.specs.declared.ids.CpuId.{CpuId}
+use Rattle.vms_base.specs.Places.{counter_count}
+use Rattle.vms_core.specs.declared.steps.Facts.{Facts}
+use Rattle.vms_core.specs.declared.steps.Step.{Step}
+use Rattle.vms_core.specs.Pages as page_histories
+use Rattle.vms_event_core.specs.declared.steps.EventFacts.{EventFacts}
+use Rattle.vms_event_core.specs.declared.steps.EventStep.{EventStep}
+use Rattle.vms_event_core.specs.Events as event_histories
+use Rattle.vms_event_core.specs.Words.{event_count}
+use Rattle.vms_pcpu_core.specs.declared.steps.PcpuFacts.{PcpuFacts}
+use Rattle.vms_pcpu_core.specs.declared.steps.PcpuStep.{PcpuStep}
+use Rattle.vms_pcpu_core.specs.Histories.{percpu}
+use Rattle.vms_pcpu_core.specs.States.{counters_of}
+use Rattle.vms_seats.specs.Passes.{IsLive, IsOf, Pass}
+use Rattle.vms_tables.specs.declared.passes.CpuPasses.{CpuPasses}
+use Rattle.vms_tables.specs.declared.tables.Tables.{Tables}
+
+-- a pass in each table, whether or not they own a CPU
+pub record TablePasses : Type 0 where
+  pub pages : Pass Facts Step
+  pub events : Pass EventFacts EventStep
+  pub counters : Pass PcpuFacts PcpuStep
+
+-- those of a CPU's lane
+abbrev pub passes_of : CpuPasses → TablePasses
+passes_of passes = record { pages = passes.page.pass; events = passes.event.pass; counters = passes.pcpu.pass }
+
+-- each was made from its table
+pub record AreOf (tables : Tables) (passes : TablePasses) : Type 0 where
+  pub pages : IsOf passes.pages tables.pages
+  pub events : IsOf passes.events tables.events
+  pub counters : IsOf passes.counters tables.counters
+
+-- all three own this CPU, or none does
+pub record AllOwn (who : Option CpuId) (passes : TablePasses) : Type 0 where
+  pub pages : passes.pages.cpu ≡ who
+  pub events : passes.events.cpu ≡ who
+  pub counters : passes.counters.cpu ≡ who
+
+-- each lives in the legal history that it has seen
+pub record AreLive (passes : TablePasses) : Type 0 where
+  pub pages : IsLive page_histories.pages passes.pages
+  pub events : IsLive event_histories.events passes.events
+  pub counters : IsLive percpu passes.counters
+
+-- there is a volume for each page counter, each event and each percpu counter
+pub record HaveVolumes (tables : Tables) (passes : CpuPasses) : Type 0 where
+  pub page : length passes.page.volume ≡ counter_count tables.pages.facts.layout
+  pub event : length passes.event.volume ≡ event_count
+  pub pcpu : length passes.pcpu.volume ≡ counters_of tables.counters.facts.base
