@@ -1,0 +1,16 @@
+-- The CPUs that the control pass sets thresholds on.
+use Rattle.std.specs.Prelude.{ℕ, ◌<◌, ◌≤◌, List, length, slice_index_or}
+use Rattle.vms_base.specs.declared.ids.CpuId.{CpuId}
+use Rattle.vms_calls.specs.MayCall.{AreOnline}
+use Rattle.vms_core.specs.declared.steps.Facts.{Facts}
+
+-- the number of the CPU at a place of a list
+abbrev pub number_in : List CpuId → ℕ → ℕ
+number_in online n = (slice_index_or online n (record { number = 0 })).number
+
+-- some CPUs that are online from the start of the phase to its end, in ascending order
+pub record FoundOnline (facts : Facts) (online : List CpuId) : Type 0 where
+  pub some : 1 ≤ length online
+  pub few : length online ≤ facts.layout.cpus
+  pub each : AreOnline facts.layout facts.base online
+  pub ascending : (i j : ℕ) → i < j → j < length online → number_in online i < number_in online j

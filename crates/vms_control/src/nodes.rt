@@ -1,0 +1,134 @@
+ghost use Rattle.std.specs.Prelude.{◌≡◌, ◌≢◌, ℕ, suc, ◌<◌, ◌≤◌, List, length};
+ghost use Rattle.vms_base.specs.Places.{IsNode};
+ghost use Rattle.vms_calls.specs.Ratings.{RatesNode, SetsNormal, SetsPressure, VisitsEach, node_number, zones_on};
+ghost use Rattle.vms_core.specs.declared.steps.Step.{Step};
+ghost use Rattle.vms_core.specs.Conditions.{IsControl};
+ghost use Rattle.vms_core.specs.Own.{CarriesNothing};
+ghost use Rattle.vms_core.specs.Pages.{pages, state_after};
+ghost use Rattle.vms_core.specs.Plain.{most_sets};
+ghost use Rattle.vms_control.specs.declared.rating.Rating.TheVariants.{Refresh};
+ghost use Rattle.vms_control.specs.Online.{FoundOnline};
+ghost use Rattle.vms_control.specs.Rated.{choice_of, rated_by};
+ghost use Rattle.vms_control.specs.SetCounts.{MayStillSet, SetsAtMost, once};
+ghost use Rattle.vms_history.specs.Events.{own};
+ghost use Rattle.vms_seats.specs.Passes.{IsOf};
+ghost use Rattle.vms_seats.specs.Steps.{Made};
+ghost use Rattle.vms_words.specs.KeptSettings.{largest_sets};
+
+use crate::online::load_online;
+use crate::rating::Rating;
+use crate::visiting::visit;
+use vms_base::{CpuId, Header, PlaceId};
+use vms_calc::{Rule, Rules};
+use vms_words::{Caller, ControlPass, PageTable};
+
+/// Sets the pressure thresholds of a node's zones, under marks that cover them (`set_pgdat_percpu_threshold` of
+/// mm/vmstat.c with `calculate_pressure_threshold`). A zone whose mark is 0 keeps its thresholds.
+///
+/// At every moment each mark covers what the CPUs may hide of its zone by the thresholds that they may still be using:
+/// this holds of every legal history, and so in the middle of this call too. A mark comes down, also to 0, where CPUs
+/// acknowledged smaller thresholds or became absent. A mark that came down to 0 is one that `set_normal` then leaves.
+pub fn set_pressure<N: Rule, P: Rule>(
+    table: &PageTable,
+    pass: &mut ControlPass,
+    header: &Header,
+    rules: &Rules<N, P>,
+    node: PlaceId,
+)
+    requires table { IsOf pass.old table.now }
+    requires sizes { header.now.sizes ≡ table.now.facts.sizes }
+    requires node { IsNode table.now.facts.layout node.number }
+    requires room { largest_sets table.now.facts.layout (state_after table.now.facts pass.old.seen) < most_sets }
+    ensures made { (steps : List Step) × SetsPressure table.now.facts (P.answers rules.now.pressure)
+        (N.answers rules.now.normal) node pass.old.number pass.old.seen steps × Made pages pass.new pass.old steps }
+    ensures carries { CarriesNothing table.now.facts.layout (own pass.old.seen pass.old.number) →
+        CarriesNothing table.now.facts.layout (own pass.new.seen pass.new.number) }
+    ensures sets { largest_sets table.now.facts.layout (state_after table.now.facts pass.new.seen)
+        ≤ suc (largest_sets table.now.facts.layout (state_after table.now.facts pass.old.seen)) }
+{
+    rate_node(table, pass, header, rules, node, Rating::Pressure);
+}
+
+/// Sets the normal thresholds of a node's zones again, under marks that cover them (`set_pgdat_percpu_threshold` of
+/// mm/vmstat.c with `calculate_normal_threshold`). A zone whose mark is 0 keeps its thresholds.
+pub fn set_normal<N: Rule, P: Rule>(
+    table: &PageTable,
+    pass: &mut ControlPass,
+    header: &Header,
+    rules: &Rules<N, P>,
+    node: PlaceId,
+)
+    requires table { IsOf pass.old table.now }
+    requires sizes { header.now.sizes ≡ table.now.facts.sizes }
+    requires node { IsNode table.now.facts.layout node.number }
+    requires room { largest_sets table.now.facts.layout (state_after table.now.facts pass.old.seen) < most_sets }
+    ensures made { (steps : List Step) × SetsNormal table.now.facts (N.answers rules.now.normal) node pass.old.number
+        pass.old.seen steps × Made pages pass.new pass.old steps }
+    ensures carries { CarriesNothing table.now.facts.layout (own pass.old.seen pass.old.number) →
+        CarriesNothing table.now.facts.layout (own pass.new.seen pass.new.number) }
+    ensures sets { largest_sets table.now.facts.layout (state_after table.now.facts pass.new.seen)
+        ≤ suc (largest_sets table.now.facts.layout (state_after table.now.facts pass.old.seen)) }
+{
+    rate_node(table, pass, header, rules, node, Rating::Normal);
+}
+
+/// Looks which CPUs are online, and visits the zones of a node.
+fn rate_node<N: Rule, P: Rule>(
+    table: &PageTable,
+    pass: &mut ControlPass,
+    header: &Header,
+    rules: &Rules<N, P>,
+    node: PlaceId,
+    rating: Rating,
+)
+    requires table { IsOf pass.old table.now }
+    requires sizes { header.now.sizes ≡ table.now.facts.sizes }
+    requires node { IsNode table.now.facts.layout node.number }
+    requires node_alone { rating ≢ Refresh }
+    requires room { largest_sets table.now.facts.layout (state_after table.now.facts pass.old.seen) < most_sets }
+    ensures made { (steps : List Step) × RatesNode table.now.facts
+        (choice_of rating (P.answers rules.now.pressure) (N.answers rules.now.normal)) node pass.old.number
+        pass.old.seen steps × Made pages pass.new pass.old steps }
+    ensures sets { largest_sets table.now.facts.layout (state_after table.now.facts pass.new.seen)
+        ≤ suc (largest_sets table.now.facts.layout (state_after table.now.facts pass.old.seen)) }
+{
+    let online = load_online(table, pass);
+    visit_node(table, pass, header, rules, node, online.as_slice(), rating);
+}
+
+/// Visits the zones of a node.
+fn visit_node<N: Rule, P: Rule>(
+    table: &PageTable,
+    pass: &mut ControlPass,
+    header: &Header,
+    rules: &Rules<N, P>,
+    node: PlaceId,
+    online: &[CpuId],
+    rating: Rating,
+)
+    requires table { IsOf pass.old table.now }
+    requires sizes { header.now.sizes ≡ table.now.facts.sizes }
+    requires node { IsNode table.now.facts.layout node.number }
+    requires online { FoundOnline table.now.facts online.now }
+    requires room { IsControl pass.old.seen pass.old.number → (g : ℕ) → MayStillSet table.now.facts pass.old.seen g }
+    ensures made { (ts : List ℕ) × (steps : List Step) × VisitsEach table.now.facts pass.old.number online.now
+        (rated_by rating (P.answers rules.now.pressure) (N.answers rules.now.normal) table.now.facts pass.old.number
+        online.now) (zones_on table.now.facts.layout (node_number table.now.facts.layout node)) ts pass.old.seen steps
+        × Made pages pass.new pass.old steps }
+    ensures control { IsControl pass.old.seen pass.old.number }
+    ensures sets { SetsAtMost table.now.facts (once 0 (length table.now.facts.layout.zones))
+        (once 0 (length table.now.facts.layout.zones)) pass.new.seen pass.old.seen }
+{
+    // The pass is known to live once it is asked for its CPU.
+    let _ = pass.own();
+    let layout = table.layout();
+    let number = layout.nodes()[node.number as usize - layout.zones().len()];
+    for zone in 0..layout.zones().len() {
+        if layout.zones()[zone].node == number {
+            let zone = PlaceId {
+                number: zone as u32,
+            };
+            visit(table, pass, header, rules, zone, online, rating);
+        }
+    }
+}

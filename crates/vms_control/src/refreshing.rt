@@ -1,0 +1,136 @@
+ghost use Rattle.std.specs.Prelude.{◌≡◌, ℕ, suc, ◌+◌, ◌<◌, ◌≤◌, List, Contains, length, slice_index_or};
+ghost use Rattle.vms_base.specs.Places.{place_count};
+ghost use Rattle.vms_base.specs.Thresholds.{most_threshold};
+ghost use Rattle.vms_calls.specs.Lists.{in_turn};
+ghost use Rattle.vms_calls.specs.Ratings.{ByNormal, Rates, Refreshes, VisitsEach, largest_on, numbers_below};
+ghost use Rattle.vms_calls.specs.Ratings.{threshold_steps};
+ghost use Rattle.vms_core.specs.declared.steps.Step.{Step};
+ghost use Rattle.vms_core.specs.Conditions.{IsControl};
+ghost use Rattle.vms_core.specs.Own.{CarriesNothing};
+ghost use Rattle.vms_core.specs.Pages.{pages, state_after};
+ghost use Rattle.vms_core.specs.Plain.{most_sets};
+ghost use Rattle.vms_control.specs.Online.{FoundOnline};
+ghost use Rattle.vms_control.specs.SetCounts.{MayStillSet, SetsAtMost, never, once};
+ghost use Rattle.vms_history.specs.Events.{own};
+ghost use Rattle.vms_seats.specs.Passes.{IsOf};
+ghost use Rattle.vms_seats.specs.Steps.{Made};
+ghost use Rattle.vms_words.specs.KeptSettings.{largest_sets};
+
+use crate::online::load_online;
+use crate::rating::{Rating, set_thresholds};
+use crate::visiting::visit;
+use arrayvec::ArrayVec;
+use vms_base::{CpuId, Header, Layout, PlaceId};
+use vms_calc::{Rule, Rules};
+use vms_words::{Caller, ControlPass, PageTable};
+
+/// Gives each zone its normal threshold, under a mark that covers it, and then each node the largest of its zones
+/// (`refresh_zone_stat_thresholds` of mm/vmstat.c). CPUs that are not online keep theirs.
+///
+/// Linux sets a zone's mark after its thresholds, and leaves an older mark where the thresholds need none. Here the mark
+/// comes first, and it comes down where CPUs acknowledged smaller thresholds or became absent. So at every moment each
+/// mark covers what the CPUs may hide of its zone, which holds of every legal history.
+pub fn refresh_thresholds<N: Rule, P: Rule>(
+    table: &PageTable,
+    pass: &mut ControlPass,
+    header: &Header,
+    rules: &Rules<N, P>,
+)
+    requires table { IsOf pass.old table.now }
+    requires sizes { header.now.sizes ≡ table.now.facts.sizes }
+    requires room { largest_sets table.now.facts.layout (state_after table.now.facts pass.old.seen) < most_sets }
+    ensures made { (steps : List Step) × Refreshes table.now.facts (N.answers rules.now.normal) pass.old.number
+        pass.old.seen steps × Made pages pass.new pass.old steps }
+    ensures carries { CarriesNothing table.now.facts.layout (own pass.old.seen pass.old.number) →
+        CarriesNothing table.now.facts.layout (own pass.new.seen pass.new.number) }
+    ensures sets { largest_sets table.now.facts.layout (state_after table.now.facts pass.new.seen)
+        ≤ suc (largest_sets table.now.facts.layout (state_after table.now.facts pass.old.seen)) }
+{
+    let online = load_online(table, pass);
+    let thresholds = visit_all(table, pass, header, rules, online.as_slice());
+    set_nodes(table, pass, online.as_slice(), thresholds.as_slice());
+}
+
+/// Visits every zone. Returns the thresholds that they got, in pages.
+fn visit_all<N: Rule, P: Rule>(
+    table: &PageTable,
+    pass: &mut ControlPass,
+    header: &Header,
+    rules: &Rules<N, P>,
+    online: &[CpuId],
+) -> ArrayVec<u32, 16>
+    requires table { IsOf pass.old table.now }
+    requires sizes { header.now.sizes ≡ table.now.facts.sizes }
+    requires online { FoundOnline table.now.facts online.now }
+    requires room { IsControl pass.old.seen pass.old.number → (g : ℕ) → MayStillSet table.now.facts pass.old.seen g }
+    ensures made { (steps : List Step) × VisitsEach table.now.facts pass.old.number online.now
+        (Rates table.now.facts pass.old.number online.now (ByNormal (N.answers rules.now.normal)))
+        (numbers_below (length table.now.facts.layout.zones)) result.items pass.old.seen steps
+        × Made pages pass.new pass.old steps }
+    ensures control { IsControl pass.old.seen pass.old.number }
+    ensures sets { SetsAtMost table.now.facts (once 0 (length table.now.facts.layout.zones))
+        (once 0 (length table.now.facts.layout.zones)) pass.new.seen pass.old.seen }
+    ensures length { length result.items ≡ length table.now.facts.layout.zones }
+    ensures least { (g : ℕ) → g < length table.now.facts.layout.zones → 1 ≤ slice_index_or result.items g 0 }
+    ensures most { (g : ℕ) → g < length table.now.facts.layout.zones →
+        slice_index_or result.items g 0 ≤ most_threshold }
+{
+    // The pass is known to live once it is asked for its CPU.
+    let _ = pass.own();
+    let mut thresholds = ArrayVec::new();
+    for zone in 0..table.layout().zones().len() {
+        let zone = PlaceId {
+            number: zone as u32,
+        };
+        thresholds.push(visit(table, pass, header, rules, zone, online, Rating::Refresh));
+    }
+    thresholds
+}
+
+/// Gives each node the largest threshold of its zones, in pages.
+fn set_nodes(table: &PageTable, pass: &mut ControlPass, online: &[CpuId], thresholds: &[u32])
+    requires table { IsOf pass.old table.now }
+    requires control { IsControl pass.old.seen pass.old.number }
+    requires online { FoundOnline table.now.facts online.now }
+    requires room { (g : ℕ) → length table.now.facts.layout.zones ≤ g →
+        MayStillSet table.now.facts pass.old.seen g }
+    requires length { length thresholds.now ≡ length table.now.facts.layout.zones }
+    requires least { (g : ℕ) → g < length table.now.facts.layout.zones → 1 ≤ slice_index_or thresholds.now g 0 }
+    requires most { (g : ℕ) → g < length table.now.facts.layout.zones →
+        slice_index_or thresholds.now g 0 ≤ most_threshold }
+    ensures made { Made pages pass.new pass.old (in_turn
+        (λ i node. threshold_steps (length table.now.facts.layout.zones + i)
+        (largest_on table.now.facts.layout thresholds.now node) online.now) 0 table.now.facts.layout.nodes) }
+    ensures sets { SetsAtMost table.now.facts
+        (once (length table.now.facts.layout.zones) (place_count table.now.facts.layout)) never
+        pass.new.seen pass.old.seen }
+{
+    // The pass is known to live once it is asked for its CPU.
+    let _ = pass.own();
+    let layout = table.layout();
+    let zones = layout.zones().len();
+    for number in zones as u32..layout.places() {
+        let node = layout.nodes()[number as usize - zones];
+        let threshold = node_threshold(layout, thresholds, node);
+        set_thresholds(table, pass, PlaceId { number }, online, threshold);
+    }
+}
+
+/// The largest threshold of the zones of a node, in pages.
+fn node_threshold(layout: &Layout, thresholds: &[u32], node: u32) -> u32
+    requires length { length thresholds.now ≡ length layout.now.zones }
+    requires node { Contains layout.now.nodes node }
+    requires least { (g : ℕ) → g < length layout.now.zones → 1 ≤ slice_index_or thresholds.now g 0 }
+    requires most { (g : ℕ) → g < length layout.now.zones → slice_index_or thresholds.now g 0 ≤ most_threshold }
+    ensures value { result ≡ largest_on layout.now thresholds.now node }
+    ensures least { 1 ≤ result }
+    ensures most { result ≤ most_threshold }
+{
+    let mut largest = 0;
+    for g in 0..layout.zones().len() {
+        if layout.zones()[g].node == node {
+            largest = largest.max(thresholds[g]);
+        }
+    }
+    largest
+}
