@@ -1,1 +1,9 @@
 pub mod PeakSums
+pub mod SameSums
+pub mod PassCalls
+pub mod StepCounts
+pub mod FoundCpus
+pub mod SetThresholds
+pub mod AcknowledgedLoads
+pub mod RatedZone
+pub mod VisitedZone

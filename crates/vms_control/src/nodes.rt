@@ -1,5 +1,5 @@
 ghost use Rattle.std.specs.Prelude.{◌≡◌, ◌≢◌, ℕ, suc, ◌<◌, ◌≤◌, List, length};
-ghost use Rattle.vms_base.specs.Places.{IsNode};
+ghost use Rattle.vms_base.specs.Places.{IsNode, IsPlace};
 ghost use Rattle.vms_calls.specs.Ratings.{RatesNode, SetsNormal, SetsPressure, VisitsEach, node_number, zones_on};
 ghost use Rattle.vms_core.specs.declared.steps.Step.{Step};
 ghost use Rattle.vms_core.specs.Conditions.{IsControl};
@@ -20,6 +20,7 @@ use crate::rating::Rating;
 use crate::visiting::visit;
 use vms_base::{CpuId, Header, PlaceId};
 use vms_calc::{Rule, Rules};
+use vms_calls::control_passes_know_by_own_steps;
 use vms_words::{Caller, ControlPass, PageTable};
 
 /// Sets the pressure thresholds of a node's zones, under marks that cover them (`set_pgdat_percpu_threshold` of
@@ -89,9 +90,13 @@ fn rate_node<N: Rule, P: Rule>(
     ensures made { (steps : List Step) × RatesNode table.now.facts
         (choice_of rating (P.answers rules.now.pressure) (N.answers rules.now.normal)) node pass.old.number
         pass.old.seen steps × Made pages pass.new pass.old steps }
+    ensures carries { CarriesNothing table.now.facts.layout (own pass.old.seen pass.old.number) →
+        CarriesNothing table.now.facts.layout (own pass.new.seen pass.new.number) }
     ensures sets { largest_sets table.now.facts.layout (state_after table.now.facts pass.new.seen)
         ≤ suc (largest_sets table.now.facts.layout (state_after table.now.facts pass.old.seen)) }
 {
+    // What a pass computed from peaks stands, whatever others did meanwhile.
+    control_passes_know_by_own_steps();
     let online = load_online(table, pass);
     visit_node(table, pass, header, rules, node, online.as_slice(), rating);
 }
@@ -110,7 +115,8 @@ fn visit_node<N: Rule, P: Rule>(
     requires sizes { header.now.sizes ≡ table.now.facts.sizes }
     requires node { IsNode table.now.facts.layout node.number }
     requires online { FoundOnline table.now.facts online.now }
-    requires room { IsControl pass.old.seen pass.old.number → (g : ℕ) → MayStillSet table.now.facts pass.old.seen g }
+    requires room { IsControl pass.old.seen pass.old.number → (g : ℕ) → IsPlace table.now.facts.layout g →
+        MayStillSet table.now.facts pass.old.seen g }
     ensures made { (ts : List ℕ) × (steps : List Step) × VisitsEach table.now.facts pass.old.number online.now
         (rated_by rating (P.answers rules.now.pressure) (N.answers rules.now.normal) table.now.facts pass.old.number
         online.now) (zones_on table.now.facts.layout (node_number table.now.facts.layout node)) ts pass.old.seen steps
@@ -121,6 +127,7 @@ fn visit_node<N: Rule, P: Rule>(
 {
     // The pass is known to live once it is asked for its CPU.
     let _ = pass.own();
+    control_passes_know_by_own_steps();
     let layout = table.layout();
     let number = layout.nodes()[node.number as usize - layout.zones().len()];
     for zone in 0..layout.zones().len() {

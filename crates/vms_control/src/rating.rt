@@ -1,4 +1,4 @@
-ghost use Rattle.std.specs.Prelude.{◌≡◌, ℕ, suc, ◌+◌, ◌*◌, ◌^◌, ◌<◌, ◌≤◌, length};
+ghost use Rattle.std.specs.Prelude.{◌≡◌, ◌≢◌, ℕ, suc, ◌+◌, ◌*◌, ◌^◌, ◌<◌, ◌≤◌, length};
 ghost use Rattle.vms_base.specs.Places.{IsCpu, IsPlace, IsZone};
 ghost use Rattle.vms_base.specs.Sizes.{IsValidSize, size_at};
 ghost use Rattle.vms_base.specs.Thresholds.{most_threshold};
@@ -103,6 +103,8 @@ pub(crate) fn rate(
     ensures sets { SetsAtMost table.now.facts (once zone.number (suc zone.number))
         (once zone.number (suc zone.number)) pass.new.seen pass.old.seen }
 {
+    // The pass is known to live once it is asked for its CPU.
+    let _ = pass.own();
     let hidden = hidden_under(table, pass, zone, online, chosen.threshold);
     let linux = linux_mark(size, online.len() as u32, chosen.usual);
     mark_zone(table, pass, zone, found, cover_mark(size, linux, hidden));
@@ -137,7 +139,8 @@ fn hidden_under(
 /// Sets a zone's mark where it is another than the one that was found.
 fn mark_zone(table: &PageTable, pass: &mut ControlPass, zone: PlaceId, found: u64, mark: u64)
     requires table { IsOf pass.old table.now }
-    requires sets { SetsMark table.now.facts pass.old.seen pass.old.number zone mark }
+    requires control { IsControl pass.old.seen pass.old.number }
+    requires sets { mark ≢ found → SetsMark table.now.facts pass.old.seen pass.old.number zone mark }
     requires found { mark_at (state_after table.now.facts pass.old.seen) zone.number ≡ found }
     requires room { mark_sets_at (state_after table.now.facts pass.old.seen) zone.number < most_sets }
     ensures made { Made pages pass.new pass.old (mark_steps zone.number found mark) }

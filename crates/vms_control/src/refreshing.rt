@@ -1,5 +1,5 @@
 ghost use Rattle.std.specs.Prelude.{◌≡◌, ℕ, suc, ◌+◌, ◌<◌, ◌≤◌, List, Contains, length, slice_index_or};
-ghost use Rattle.vms_base.specs.Places.{place_count};
+ghost use Rattle.vms_base.specs.Places.{IsPlace, place_count};
 ghost use Rattle.vms_base.specs.Thresholds.{most_threshold};
 ghost use Rattle.vms_calls.specs.Lists.{in_turn};
 ghost use Rattle.vms_calls.specs.Ratings.{ByNormal, Rates, Refreshes, VisitsEach, largest_on, numbers_below};
@@ -22,6 +22,7 @@ use crate::visiting::visit;
 use arrayvec::ArrayVec;
 use vms_base::{CpuId, Header, Layout, PlaceId};
 use vms_calc::{Rule, Rules};
+use vms_calls::control_passes_know_by_own_steps;
 use vms_words::{Caller, ControlPass, PageTable};
 
 /// Gives each zone its normal threshold, under a mark that covers it, and then each node the largest of its zones
@@ -46,6 +47,8 @@ pub fn refresh_thresholds<N: Rule, P: Rule>(
     ensures sets { largest_sets table.now.facts.layout (state_after table.now.facts pass.new.seen)
         ≤ suc (largest_sets table.now.facts.layout (state_after table.now.facts pass.old.seen)) }
 {
+    // What a pass computed from peaks stands, whatever others did meanwhile.
+    control_passes_know_by_own_steps();
     let online = load_online(table, pass);
     let thresholds = visit_all(table, pass, header, rules, online.as_slice());
     set_nodes(table, pass, online.as_slice(), thresholds.as_slice());
@@ -62,7 +65,8 @@ fn visit_all<N: Rule, P: Rule>(
     requires table { IsOf pass.old table.now }
     requires sizes { header.now.sizes ≡ table.now.facts.sizes }
     requires online { FoundOnline table.now.facts online.now }
-    requires room { IsControl pass.old.seen pass.old.number → (g : ℕ) → MayStillSet table.now.facts pass.old.seen g }
+    requires room { IsControl pass.old.seen pass.old.number → (g : ℕ) → IsPlace table.now.facts.layout g →
+        MayStillSet table.now.facts pass.old.seen g }
     ensures made { (steps : List Step) × VisitsEach table.now.facts pass.old.number online.now
         (Rates table.now.facts pass.old.number online.now (ByNormal (N.answers rules.now.normal)))
         (numbers_below (length table.now.facts.layout.zones)) result.items pass.old.seen steps
@@ -77,6 +81,7 @@ fn visit_all<N: Rule, P: Rule>(
 {
     // The pass is known to live once it is asked for its CPU.
     let _ = pass.own();
+    control_passes_know_by_own_steps();
     let mut thresholds = ArrayVec::new();
     for zone in 0..table.layout().zones().len() {
         let zone = PlaceId {
@@ -92,7 +97,7 @@ fn set_nodes(table: &PageTable, pass: &mut ControlPass, online: &[CpuId], thresh
     requires table { IsOf pass.old table.now }
     requires control { IsControl pass.old.seen pass.old.number }
     requires online { FoundOnline table.now.facts online.now }
-    requires room { (g : ℕ) → length table.now.facts.layout.zones ≤ g →
+    requires room { (g : ℕ) → length table.now.facts.layout.zones ≤ g → IsPlace table.now.facts.layout g →
         MayStillSet table.now.facts pass.old.seen g }
     requires length { length thresholds.now ≡ length table.now.facts.layout.zones }
     requires least { (g : ℕ) → g < length table.now.facts.layout.zones → 1 ≤ slice_index_or thresholds.now g 0 }

@@ -16,6 +16,7 @@ ghost use Rattle.std.specs.Prelude.{suc};
 use crate::rating::{Rating, choose, rate, spares};
 use vms_base::{CpuId, Header, PlaceId};
 use vms_calc::{Rule, Rules};
+use vms_calls::control_passes_know_by_own_steps;
 use vms_words::{Caller, ControlPass, PageTable};
 
 /// Looks what was acknowledged of a zone and what its mark is, and gives it the thresholds of the call. Returns the
@@ -44,6 +45,8 @@ pub(crate) fn visit<N: Rule, P: Rule>(
     ensures least { rating ≡ Refresh → 1 ≤ result }
     ensures most { result ≤ most_threshold }
 {
+    // What a pass computed from peaks stands, whatever others did meanwhile.
+    control_passes_know_by_own_steps();
     load_acknowledged(table, pass, zone, online);
     let found = table.load_mark(pass, zone).mark;
     if spares(rating, found) {

@@ -1,0 +1,46 @@
+-- For other crates too: what stands of a pass after a part of its call, from what it was before.
+use Rattle.std.proofs.Common.{◌≡◌, ℕ, List, None, sym, ap, ◌∙◌, subst}
+use Rattle.vms_calls.specs.MayCall.{KnowsByOwnSteps}
+use Rattle.vms_calls.specs.MayMake.{HasMade}
+use Rattle.vms_core.specs.declared.steps.Facts.{Facts}
+use Rattle.vms_core.specs.declared.steps.Step.{Step}
+use Rattle.vms_core.specs.Conditions.{IsControl}
+use Rattle.vms_core.specs.Pages.{pages}
+use Rattle.vms_core.specs.Steps.{role}
+use Rattle.vms_control.proofs.SameSums.{SameSums}
+use Rattle.vms_history.specs.Events.{after}
+use Rattle.vms_history.specs.Passes.{owner_in}
+use Rattle.vms_history.proofs.MadeSteps.{made-owner}
+use Rattle.vms_seats.specs.Passes.{Pass, Shared, IsOf}
+use Rattle.vms_seats.specs.Steps.{Made, MadeOne, MakesStep}
+
+-- one step, by the facts of the words
+pub step-at : (words : Shared Facts) (new old : Pass Facts Step) (step : Step) → IsOf old words
+    → MadeOne pages new old step → MakesStep pages words.facts new.seen old.seen old.number step
+step-at words new old step of one =
+    subst (λ (f : Facts). MakesStep pages f new.seen old.seen old.number step) of.facts one.at
+
+module _ (words : Shared Facts) (new old : Pass Facts Step) (steps : List Step) (of : IsOf old words)
+    (made : Made pages new old steps) where
+  pub of-new : IsOf new words
+  of-new = record { table = made.table ∙ of.table; facts = made.facts ∙ of.facts }
+
+  pub has-made : HasMade words.facts new.seen old.seen old.number steps
+  has-made = subst (λ (f : Facts). HasMade f new.seen old.seen old.number steps) of.facts made.made
+
+  -- it owns the same CPU, or none still
+  owner-same : owner_in role new.seen new.number ≡ owner_in role old.seen old.number
+  owner-same = ap (owner_in role new.seen) made.number
+      ∙ made-owner pages words.facts new.seen old.seen old.number steps has-made
+
+  pub control-new : IsControl old.seen old.number → IsControl new.seen new.number
+  control-new control = owner-same ∙ control
+
+  pub control-old : IsControl new.seen new.number → IsControl old.seen old.number
+  control-old control = sym owner-same ∙ control
+
+  -- further steps come to the same sums of peaks as after these in a row
+  pub sums-made : KnowsByOwnSteps → IsControl old.seen old.number
+      → SameSums words.facts old.number new.seen (after old.number steps old.seen)
+  sums-made know control more g =
+      (know words.facts new.seen old.seen old.number steps has-made control).peak_sums more g

@@ -1,0 +1,179 @@
+-- Zones are visited one after another.
+use Rattle.std.proofs.Common.{◌≡◌, ◌≢◌, ℕ, suc, ◌+◌, ◌-◌, ◌<◌, ◌≤◌, nat_eq, if◌then◌else◌, Bool, true, false, List, []}
+use Rattle.std.proofs.Common.{◌∷◌, ◌++◌, length, get_or, map, refl, sym, ap, ◌∙◌, subst, arith, append_assoc, add-one}
+use Rattle.std.proofs.Common.{eq-eqb}
+use Rattle.std.specs.Prelude.{filter, Contains}
+use Rattle.std.proofs.lemmas.Bool.{ne_eqb}
+use Rattle.std.proofs.lemmas.List.{append-nil, get_or_default, length-map}
+use Rattle.std.proofs.Math.ListN.{get_or-map}
+use Rattle.std.proofs.lemmas.List.Elements.{filter-append}
+use Rattle.vms_base.specs.declared.ids.CpuId.{CpuId}
+use Rattle.vms_base.specs.declared.ids.PlaceId.{PlaceId}
+use Rattle.vms_base.specs.declared.kinds.ZoneKind.TheVariants.{Dma}
+use Rattle.vms_base.specs.declared.kinds.ZoneName.{ZoneName}
+use Rattle.vms_base.specs.declared.kinds.ZoneSize.{ZoneSize}
+use Rattle.vms_base.specs.Places.{Shape, IsLayout, IsNode, IsPlace, IsZone, node_of_zone}
+use Rattle.vms_calls.specs.MayCall.{KnowsByOwnSteps}
+use Rattle.vms_calls.specs.Ratings.{ByNormal, ByPressure, Visits, VisitsEach, node_number, numbers_below}
+use Rattle.vms_calls.specs.Ratings.VisitsEach.{none, next}
+use Rattle.vms_core.specs.declared.steps.Facts.{Facts}
+use Rattle.vms_core.specs.declared.steps.Step.{Step}
+use Rattle.vms_core.specs.Conditions.{IsControl}
+use Rattle.vms_core.specs.Pages.{pages, History}
+use Rattle.vms_control.specs.declared.rating.Rating.{Rating}
+use Rattle.vms_control.specs.declared.rating.Rating.TheVariants.{Pressure, Normal, Refresh}
+use Rattle.vms_control.specs.Rated.{rated_by}
+use Rattle.vms_control.specs.SetCounts.{MayStillSet, SetsAtMost, once}
+use Rattle.vms_control.proofs.PassCalls.{control-old, of-new, sums-made}
+use Rattle.vms_control.proofs.SameSums.{GoesBySums, marked-same, rates-same, visits-same}
+use Rattle.vms_control.proofs.StepCounts.{once-next, once-other, set-both, set-none, still-may}
+use Rattle.vms_history.specs.Events.{after}
+use Rattle.vms_history.proofs.Own.{after-steps}
+use Rattle.vms_seats.specs.Passes.{Pass, Shared, IsOf, IsLive}
+use Rattle.vms_seats.specs.Steps.{Made}
+use Rattle.vms_seats.proofs.MadeCalls.{calls-both, calls-none}
+
+-- a further visit
+module _ (facts : Facts) (p : ℕ) (online : List CpuId) (Rated : ℕ → ℕ → ℕ → History → List Step → Type 0) where
+  each-more : (gs ts : List ℕ) (h : History) (first : List Step) → VisitsEach facts p online Rated gs ts h first
+      → (g t : ℕ) (last : List Step) → Visits facts p online Rated g t (after p first h) last
+      → VisitsEach facts p online Rated (gs ++ (g ∷ [])) (ts ++ (t ∷ [])) h (first ++ last)
+  each-more gs ts h first (none k) g t last visit =
+      subst (VisitsEach facts p online Rated (g ∷ []) (t ∷ []) k) (append-nil last)
+      (next g t [] [] k last [] visit (none (after p last k)))
+  each-more gs ts h steps (next z u gs' ts' k first rest one more) g t last visit =
+      subst (VisitsEach facts p online Rated (z ∷ (gs' ++ (g ∷ []))) (u ∷ (ts' ++ (t ∷ []))) k)
+      (sym (append_assoc first rest last))
+      (next z u (gs' ++ (g ∷ [])) (ts' ++ (t ∷ [])) k first (rest ++ last) one
+      (each-more gs' ts' (after p first k) rest more g t last
+      (subst (λ (j : History). Visits facts p online Rated g t j last) (after-steps p first rest k) visit)))
+
+module _ (words : Shared Facts) (old : Pass Facts Step) (pressure normal : ZoneSize → ℕ → ℕ → Type 0)
+    (rating : Rating) (online : List CpuId) where
+  -- how zones are rated
+  abbrev pub Rated : ℕ → ℕ → ℕ → ℕ → History → List Step → Type 0
+  Rated p = rated_by rating pressure normal words.facts p online
+
+  -- these zones were visited and got these thresholds, and no zone from n on was set
+  pub record Visited (gs ts : List ℕ) (n : ℕ) (now : Pass Facts Step) : Type 0 where
+    pub steps : List Step
+    pub visits : VisitsEach words.facts old.number online (Rated old.number) gs ts old.seen steps
+    pub made : Made pages now old steps
+    pub sets : IsControl old.seen old.number → SetsAtMost words.facts (once 0 n) (once 0 n) now.seen old.seen
+
+  pub visited-none : IsLive pages old → Visited [] [] 0 old
+  visited-none live = record {
+    steps = [];
+    visits = none old.seen;
+    made = calls-none pages old live;
+    sets = λ control. set-both words.facts _ _ _ _ (once 0 0) (once 0 0) old.seen old.seen old.seen
+        (set-none words.facts old.seen) (set-none words.facts old.seen) (λ m. omega arith) (λ m. omega arith);
+  }
+
+  goes_by_sums : (r : Rating) → GoesBySums words.facts old.number online
+      (rated_by r pressure normal words.facts old.number online)
+  goes_by_sums Pressure = marked-same words.facts old.number online (ByPressure pressure normal)
+  goes_by_sums Normal = marked-same words.facts old.number online (ByNormal normal)
+  goes_by_sums Refresh = rates-same words.facts old.number online (ByNormal normal)
+
+  module _ (of : IsOf old words) (gs ts : List ℕ) (n : ℕ) (now : Pass Facts Step)
+      (so_far : Visited gs ts n now) where
+    pub visited-of : IsOf now words
+    visited-of = of-new words now old so_far.steps of so_far.made
+
+    pub visited-control : IsControl now.seen now.number → IsControl old.seen old.number
+    visited-control = control-old words now old so_far.steps of so_far.made
+
+    -- the next zone may be set
+    pub visited-room : IsPlace words.facts.layout n
+        → (IsControl old.seen old.number → (g : ℕ) → IsPlace words.facts.layout g →
+        MayStillSet words.facts old.seen g)
+        → IsControl now.seen now.number → MayStillSet words.facts now.seen n
+    visited-room place room control =
+        let before = visited-control control in
+        let past = once-other 0 n n (omega arith) in
+        still-may words.facts (once 0 n) (once 0 n) now.seen old.seen n place (so_far.sets before) past past
+        (room before n place)
+
+    -- a zone that is passed over
+    pub visited-past : Visited gs ts (n + 1) now
+    visited-past = record {
+      steps = so_far.steps;
+      visits = so_far.visits;
+      made = so_far.made;
+      sets = λ control. set-both words.facts (once 0 n) (once 0 n) _ _ (once 0 (n + 1)) (once 0 (n + 1)) now.seen
+          now.seen old.seen (set-none words.facts now.seen) (so_far.sets control)
+          (λ m. let less = once-next n m in omega (arith, less)) (λ m. let less = once-next n m in omega (arith, less));
+    }
+
+    -- one that is visited
+    pub visited-more : KnowsByOwnSteps → (t : ℕ) (new : Pass Facts Step)
+        → (steps : List Step) × Visits words.facts now.number online (Rated now.number) n t now.seen steps
+        × Made pages new now steps
+        → IsControl now.seen now.number
+        → SetsAtMost words.facts (once n (suc n)) (once n (suc n)) new.seen now.seen
+        → Visited (gs ++ (n ∷ [])) (ts ++ (t ∷ [])) (n + 1) new
+    visited-more know t new visit control sets =
+        let p = old.number in
+        let at_old : Visits words.facts p online (Rated p) n t now.seen visit.0 =
+        subst (λ (q : ℕ). Visits words.facts q online (Rated q) n t now.seen visit.0) so_far.made.number visit.1 in
+        record {
+          steps = so_far.steps ++ visit.0;
+          visits = each-more words.facts p online (Rated p) gs ts old.seen so_far.steps so_far.visits n t visit.0
+              (visits-same words.facts p online (Rated p) (goes_by_sums rating) n t now.seen
+              (after p so_far.steps old.seen) visit.0
+              (sums-made words now old so_far.steps of so_far.made know (visited-control control)) at_old);
+          made = calls-both pages new now old so_far.steps visit.0 visit.2 so_far.made;
+          sets = λ first. set-both words.facts (once 0 n) (once 0 n) (once n (suc n)) (once n (suc n)) (once 0 (n + 1))
+              (once 0 (n + 1)) new.seen now.seen old.seen sets (so_far.sets first) (once-next n) (once-next n);
+        }
+
+-- whether zone g is on a node, by a list of its zones
+module _ (shape : Shape) (zs : List ZoneName) (g node : ℕ) (same : zs ≡ shape.zones) where
+  abbrev none_named : ZoneName
+  none_named = record { node = 0; kind = Dma }
+
+  same-node : node_of_zone shape g ≡ (get_or zs g none_named).node
+  same-node = get_or-map (λ (zone : ZoneName). zone.node) shape.zones g none_named
+      ∙ ap (λ (xs : List ZoneName). (get_or xs g none_named).node) (sym same)
+
+  pub on-true : (get_or zs g none_named).node ≡ node → nat_eq (node_of_zone shape g) node ≡ true
+  on-true is = eq-eqb (node_of_zone shape g) node (same-node ∙ is)
+
+  pub on-false : (get_or zs g none_named).node ≢ node → nat_eq (node_of_zone shape g) node ≡ false
+  on-false other = ne_eqb (node_of_zone shape g) node (λ is. other (sym same-node ∙ is))
+
+-- one zone more, if it is on the node
+module _ (shape : Shape) (node : ℕ) where
+  abbrev pub is_on : ℕ → Bool
+  is_on g = nat_eq (node_of_zone shape g) node
+
+  abbrev pub zones_so_far : ℕ → List ℕ
+  zones_so_far m = filter is_on (numbers_below m)
+
+  zones-by : (n : ℕ) (b : Bool) → is_on n ≡ b
+      → zones_so_far (n + 1) ≡ zones_so_far n ++ (if b then n ∷ [] else [])
+  zones-by n b is = ap zones_so_far (add-one n) ∙ filter-append is_on (numbers_below n) (n ∷ [])
+      ∙ ap (λ b. zones_so_far n ++ (if b then n ∷ [] else [])) is
+
+  pub zones-more : (n : ℕ) → is_on n ≡ true → zones_so_far (n + 1) ≡ zones_so_far n ++ (n ∷ [])
+  zones-more n is = zones-by n true is
+
+  pub zones-same : (n : ℕ) → is_on n ≡ false → zones_so_far (n + 1) ≡ zones_so_far n
+  zones-same n is = zones-by n false is ∙ append-nil (zones_so_far n)
+
+-- a node has a zone
+pub zone-on : (shape : Shape) → IsLayout shape → (n : PlaceId) → IsNode shape n.number
+    → (g : ℕ) × IsZone shape g × (nat_eq (node_of_zone shape g) (node_number shape n) ≡ true)
+zone-on shape layout n is_node =
+    let i = n.number - length shape.zones in
+    let node = node_number shape n in
+    let i_in : i < length shape.nodes = omega (arith, is_node.0, is_node.1) in
+    let named = (layout.nodes_named node).0 (i, i_in, get_or_default shape.nodes i node 0 i_in) in
+    let g = named.0 in
+    let at : node_of_zone shape g ≡ node =
+    get_or_default (map (λ (zone : ZoneName). zone.node) shape.zones) g 0 node named.1 ∙ named.2 in (
+      g,
+      (let same = length-map shape.zones (λ (zone : ZoneName). zone.node) in let below = named.1 in omega arith),
+      eq-eqb (node_of_zone shape g) node at,
+    )

@@ -1,0 +1,16 @@
+use Rattle.std.proofs.Common.{◌≡◌, ℕ, ◌<◌, List, Option, length, take}
+use Rattle.vms_calls.specs.Ratings.{acknowledged_steps}
+use Rattle.vms_core.specs.Conditions.{IsControl}
+use Rattle.vms_core.specs.Pages.{pages}
+use Rattle.vms_control.specs.SetCounts.{SetsAtMost, never}
+use Rattle.vms_control.proofs.visiting.load_acknowledged.Given as goal
+use Rattle.vms_seats.specs.Steps.{Made}
+
+-- what the CPUs so far acknowledged was loaded
+abbrev pub invariant-loop-cpu : goal.invariant-loop-cpu
+invariant-loop-cpu l = record {
+  made : (numbers : List (Option ℕ)) × (length numbers ≡ l.cpu-index)
+      × Made pages l.pass l.fn.pass (acknowledged_steps l.zone.number (take l.cpu-index l.online) numbers);
+  control : 0 < l.cpu-index → IsControl l.fn.pass.seen l.fn.pass.number;
+  sets : SetsAtMost l.table.facts never never l.pass.seen l.fn.pass.seen;
+}

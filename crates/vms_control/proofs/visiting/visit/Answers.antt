@@ -1,0 +1,108 @@
+-- The loads leave room, and with the rating they make the visit.
+use Rattle.std.proofs.Common.{◌≡◌, ℕ, suc, length, List, sym, ap, ◌∙◌, subst, arith, get_or}
+use Rattle.vms_base.specs.declared.kinds.ZoneSize.{ZoneSize}
+use Rattle.vms_base.specs.Sizes.{IsValidSize, size_at}
+use Rattle.vms_control.specs.Rated.{choice_of, is_spared}
+use Rattle.vms_control.specs.SetCounts.{never, once}
+use Rattle.vms_control.proofs.StepCounts.{set-both, set-none}
+use Rattle.vms_control.proofs.VisitedZone.{base-loaded, control-loaded, loads-may, loads-still, no_size}
+use Rattle.vms_control.proofs.VisitedZone.{visit-rated, visit-spared, zone-sized, zone-valid}
+use Rattle.vms_control.proofs.visiting.visit.Goals as goal
+
+pub returns-then-spares-clause-made : goal.returns-then-spares-clause-made
+returns-then-spares-clause-made g c =
+    visit-spared c.args.table.now c.load_mark-found.new.pass c.load_acknowledged.new.pass c.args.pass.now
+    c.requires.table c.control_passes_know_by_own_steps.ensures c.args.online.now c.args.zone.number c.requires.zone
+    c.load_mark-found.result c.load_acknowledged.ensures.made c.load_acknowledged.ensures.control
+    c.load_mark-found.ensures.made
+    (g.P.Rule.answers c.args.rules.now.pressure) (g.N.Rule.answers c.args.rules.now.normal) c.args.rating
+    (sym c.spares.ensures ∙ c.if-spares.true)
+
+pub returns-then-spares-clause-sets : goal.returns-then-spares-clause-sets
+returns-then-spares-clause-sets g c =
+    let of_zone = once c.args.zone.number (suc c.args.zone.number) in
+    set-both c.args.table.now.facts never never never never of_zone of_zone c.load_mark-found.new.pass.seen
+    c.load_mark-found.new.pass.seen c.args.pass.now.seen
+    (set-none c.args.table.now.facts c.load_mark-found.new.pass.seen)
+    (loads-still c.args.table.now c.load_mark-found.new.pass c.load_acknowledged.new.pass c.args.pass.now
+    c.requires.table c.control_passes_know_by_own_steps.ensures c.args.online.now c.args.zone.number c.requires.zone
+    c.load_mark-found.result c.load_acknowledged.ensures.made c.load_acknowledged.ensures.control
+    c.load_mark-found.ensures.made c.load_acknowledged.ensures.sets)
+    (λ n. omega arith) (λ n. omega arith)
+
+pub get-size-requires : goal.get-size-requires
+get-size-requires g c =
+    zone-sized c.args.table.now c.load_mark-found.new.pass c.load_acknowledged.new.pass c.args.pass.now
+    c.requires.table c.control_passes_know_by_own_steps.ensures c.args.online.now c.args.zone.number c.requires.zone
+    c.load_mark-found.result c.load_acknowledged.ensures.made c.load_acknowledged.ensures.control
+    c.load_mark-found.ensures.made c.args.header.now.sizes c.requires.sizes
+
+pub overflow_cast-online : goal.overflow_cast-online
+overflow_cast-online g c =
+    let base = base-loaded c.args.table.now c.load_mark-found.new.pass c.load_acknowledged.new.pass c.args.pass.now
+    c.requires.table c.control_passes_know_by_own_steps.ensures c.args.online.now c.args.zone.number c.requires.zone
+    c.load_mark-found.result c.load_acknowledged.ensures.made c.load_acknowledged.ensures.control
+    c.load_mark-found.ensures.made in
+    let most = base.layout.cpus_most in
+    omega (arith, most, c.requires.online.few)
+
+pub choose-chosen-requires-clause-size : goal.choose-chosen-requires-clause-size
+choose-chosen-requires-clause-size g c =
+    subst IsValidSize (c.get-size.ensures no_size)
+    (zone-valid c.args.table.now c.load_mark-found.new.pass c.load_acknowledged.new.pass c.args.pass.now
+    c.requires.table c.control_passes_know_by_own_steps.ensures c.args.online.now c.args.zone.number c.requires.zone
+    c.load_mark-found.result c.load_acknowledged.ensures.made c.load_acknowledged.ensures.control
+    c.load_mark-found.ensures.made c.args.header.now.sizes c.requires.sizes)
+
+pub choose-chosen-requires-clause-most_online : goal.choose-chosen-requires-clause-most_online
+choose-chosen-requires-clause-most_online g c =
+    let base = base-loaded c.args.table.now c.load_mark-found.new.pass c.load_acknowledged.new.pass c.args.pass.now
+    c.requires.table c.control_passes_know_by_own_steps.ensures c.args.online.now c.args.zone.number c.requires.zone
+    c.load_mark-found.result c.load_acknowledged.ensures.made c.load_acknowledged.ensures.control
+    c.load_mark-found.ensures.made in
+    let most = base.layout.cpus_most in
+    omega (arith, most, c.requires.online.few)
+
+pub rate-requires-clause-control : goal.rate-requires-clause-control
+rate-requires-clause-control g c =
+    control-loaded c.args.table.now c.load_mark-found.new.pass c.load_acknowledged.new.pass c.args.pass.now
+    c.requires.table c.control_passes_know_by_own_steps.ensures c.args.online.now c.args.zone.number c.requires.zone
+    c.load_mark-found.result c.load_acknowledged.ensures.made c.load_acknowledged.ensures.control
+    c.load_mark-found.ensures.made
+
+pub rate-requires-clause-room : goal.rate-requires-clause-room
+rate-requires-clause-room g c =
+    loads-may c.args.table.now c.load_mark-found.new.pass c.load_acknowledged.new.pass c.args.pass.now
+    c.requires.table c.control_passes_know_by_own_steps.ensures c.args.online.now c.args.zone.number c.requires.zone
+    c.load_mark-found.result c.load_acknowledged.ensures.made c.load_acknowledged.ensures.control
+    c.load_mark-found.ensures.made c.load_acknowledged.ensures.sets
+    (c.requires.room c.load_acknowledged.ensures.control)
+
+pub returns-clause-made : goal.returns-clause-made
+returns-clause-made g c =
+    let pressure = g.P.Rule.answers c.args.rules.now.pressure in
+    let normal = g.N.Rule.answers c.args.rules.now.normal in
+    let online = length c.args.online.now in
+    let chosen = c.choose-chosen.result in
+    let size_is = sym (c.get-size.ensures no_size)
+    ∙ ap (λ (sizes : List ZoneSize). get_or sizes c.args.zone.number no_size) c.requires.sizes in
+    let choice : choice_of c.args.rating pressure normal (size_at c.args.table.now.facts.sizes c.args.zone.number)
+    online chosen.threshold chosen.usual =
+    subst (λ (size : ZoneSize). choice_of c.args.rating pressure normal size online chosen.threshold chosen.usual)
+    size_is c.choose-chosen.ensures.chosen in
+    visit-rated c.args.table.now c.load_mark-found.new.pass c.load_acknowledged.new.pass c.args.pass.now
+    c.requires.table c.control_passes_know_by_own_steps.ensures c.args.online.now c.args.zone.number c.requires.zone
+    c.load_mark-found.result c.load_acknowledged.ensures.made c.load_acknowledged.ensures.control
+    c.load_mark-found.ensures.made pressure normal c.args.rating (sym c.spares.ensures ∙ c.if-spares.false)
+    chosen.threshold chosen.usual choice c.rate.new.pass c.rate.ensures.made
+
+pub returns-clause-sets : goal.returns-clause-sets
+returns-clause-sets g c =
+    let of_zone = once c.args.zone.number (suc c.args.zone.number) in
+    set-both c.args.table.now.facts never never of_zone of_zone of_zone of_zone c.rate.new.pass.seen
+    c.load_mark-found.new.pass.seen c.args.pass.now.seen c.rate.ensures.sets
+    (loads-still c.args.table.now c.load_mark-found.new.pass c.load_acknowledged.new.pass c.args.pass.now
+    c.requires.table c.control_passes_know_by_own_steps.ensures c.args.online.now c.args.zone.number c.requires.zone
+    c.load_mark-found.result c.load_acknowledged.ensures.made c.load_acknowledged.ensures.control
+    c.load_mark-found.ensures.made c.load_acknowledged.ensures.sets)
+    (λ n. omega arith) (λ n. omega arith)
