@@ -7,3 +7,5 @@ pub mod SetThresholds
 pub mod AcknowledgedLoads
 pub mod RatedZone
 pub mod VisitedZone
+pub mod LargestSets
+pub mod VisitedZones

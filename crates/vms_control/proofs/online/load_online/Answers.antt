@@ -4,7 +4,7 @@ use Rattle.vms_base.specs.declared.ids.CpuId.{CpuId}
 use Rattle.vms_base.specs.Places.{IsCpu, Shape}
 use Rattle.vms_core.specs.Bases.{IsBase}
 use Rattle.vms_core.specs.Pages.{pages}
-use Rattle.vms_control.proofs.FoundCpus.{FoundSoFar, found-all, found-online, found-other}
+use Rattle.vms_control.proofs.FoundCpus.{FoundSoFar, found-all, found-none, found-online, found-other}
 use Rattle.vms_control.proofs.PassCalls.{of-new}
 use Rattle.vms_control.proofs.online.load_online.Goals as goal
 use Rattle.vms_control.proofs.online.load_online.Goals.{then-is_online, else-is_online}
@@ -51,3 +51,8 @@ returns-clause-found c =
     found-all words.facts c.loop-number.pass c.args.pass.now c.loop-number.number c.loop-number.online
     (subst IsBase c.requires.table.facts (base_can_begin pages c.args.pass.now.facts c.args.pass.now.seen
     c.own.ensures.live.legal)) c.loop-number.invariant all
+
+pub loop-number-init : goal.loop-number-init
+loop-number-init c =
+    subst (FoundSoFar c.args.table.now.facts c.args.pass.now c.args.pass.now 0) (sym c.none-online.ensures)
+    (found-none c.args.table.now.facts c.args.pass.now c.own.ensures.live)

@@ -1,0 +1,148 @@
+-- A zone more is visited, if it is on the node; the node has a zone, whose visit tells that the pass is the control pass.
+use Rattle.std.proofs.Common.{◌≡◌, ℕ, suc, ◌+◌, ◌-◌, ◌<◌, nat_eq, true, List, [], ◌∷◌, ◌++◌, length, sym, get_or}
+use Rattle.std.proofs.Common.{ap, subst, ◌∙◌, arith, ⊎_elim, true≢false}
+use Rattle.std.proofs.lemmas.Bool.{cases_eq}
+use Rattle.vms_base.specs.declared.kinds.ZoneName.{ZoneName}
+use Rattle.vms_base.specs.Places.{IsPlace, Shape, node_of_zone}
+use Rattle.vms_calls.specs.Ratings.{node_number}
+use Rattle.vms_core.specs.declared.steps.Facts.{Facts}
+use Rattle.vms_core.specs.declared.steps.Step.{Step}
+use Rattle.vms_core.specs.Bases.{IsBase}
+use Rattle.vms_core.specs.Conditions.{IsControl}
+use Rattle.vms_core.specs.Pages.{pages}
+use Rattle.vms_control.specs.SetCounts.{SetsAtMost, once}
+use Rattle.vms_control.proofs.VisitedZones.{Visited, on-false, on-true, visited-control, visited-more, visited-none}
+use Rattle.vms_control.proofs.VisitedZones.{visited-past, visited-room, zone-on, zones-more, zones-same, zones_so_far}
+use Rattle.vms_control.proofs.nodes.visit_node.Goals as goal
+use Rattle.vms_control.proofs.nodes.visit_node.Goals.{then-zones-zone, else-zones-zone}
+use Rattle.vms_history.proofs.Prefixes.{base_can_begin}
+use Rattle.vms_seats.specs.Passes.{Pass}
+
+pub loop-zone-init : goal.loop-zone-init
+loop-zone-init g c = record {
+  visited = (
+    [],
+    visited-none c.args.table.now c.args.pass.now (g.P.Rule.answers c.args.rules.now.pressure)
+        (g.N.Rule.answers c.args.rules.now.normal) c.args.rating c.args.online.now c.own.ensures.live,
+  );
+  control = λ z below on. absurd (omega arith);
+}
+
+pub visit-requires-clause-room : goal.visit-requires-clause-room
+visit-requires-clause-room g c =
+    let words = c.args.table.now in
+    let same = ap (λ (shape : Shape). length shape.zones) c.layout-layout.ensures in
+    let place : IsPlace words.facts.layout c.loop-zone.zone = omega (
+      arith,
+      c.loop-zone-test.true,
+      ap length c.zones-zone-end.ensures.value,
+      same,
+    ) in
+    visited-room words c.args.pass.now (g.P.Rule.answers c.args.rules.now.pressure)
+    (g.N.Rule.answers c.args.rules.now.normal) c.args.rating c.args.online.now c.requires.table _
+    c.loop-zone.invariant.visited.0 c.loop-zone.zone c.loop-zone.pass c.loop-zone.invariant.visited.1 place
+    c.requires.room
+
+pub loop-zone-preserved : goal.loop-zone-preserved
+loop-zone-preserved g c =
+    let words = c.args.table.now in
+    let shape = words.facts.layout in
+    let old = c.args.pass.now in
+    let now = c.loop-zone.pass in
+    let n = c.loop-zone.zone in
+    let node = get_or c.nodes.result.now (c.args.node.number - length c.zones.result.now) 0 in
+    let pressure = g.P.Rule.answers c.args.rules.now.pressure in
+    let normal = g.N.Rule.answers c.args.rules.now.normal in
+    let online = c.args.online.now in
+    let so_far = c.loop-zone.invariant in
+    let zones_are = c.zones-in-loop-zone.ensures.value ∙ ap (λ (s : Shape). s.zones) c.layout-layout.ensures in
+    elim c.if-zones-zone.branch [
+      | then-zones-zone w ↦
+          let on = on-true shape c.zones-in-loop-zone.result.now n node zones_are w.if-zones-zone.true in
+          let ts = so_far.visited.0 ++ (w.visit.result ∷ []) in
+          let visited = visited-more words old pressure normal c.args.rating online c.requires.table
+          (zones_so_far shape node n) so_far.visited.0 n now so_far.visited.1
+          c.control_passes_know_by_own_steps.ensures w.visit.result w.visit.new.pass w.visit.ensures.made
+          w.visit.ensures.control w.visit.ensures.sets in
+          record {
+            visited = (
+              ts,
+              subst (Visited words old pressure normal c.args.rating online (zones_so_far shape node (n + 1)) ts (n + 1))
+                  (sym w.pass-is)
+                  (subst (λ (gs : List ℕ). Visited words old pressure normal c.args.rating online gs ts (n + 1)
+                  w.visit.new.pass) (sym (zones-more shape node n on)) visited),
+            );
+            control = λ z below on_node. visited-control words old pressure normal c.args.rating online
+                c.requires.table (zones_so_far shape node n) so_far.visited.0 n now so_far.visited.1
+                w.visit.ensures.control;
+          }
+      | else-zones-zone w ↦
+          let off = on-false shape c.zones-in-loop-zone.result.now n node zones_are w.if-zones-zone.false in
+          let past = visited-past words old pressure normal c.args.rating online c.requires.table
+          (zones_so_far shape node n) so_far.visited.0 n now so_far.visited.1 in
+          record {
+            visited = (
+              so_far.visited.0,
+              subst (Visited words old pressure normal c.args.rating online (zones_so_far shape node (n + 1))
+                  so_far.visited.0 (n + 1)) (sym w.pass-is)
+                  (subst (λ (gs : List ℕ). Visited words old pressure normal c.args.rating online gs so_far.visited.0
+                  (n + 1) now) (sym (zones-same shape node n off)) past),
+            );
+            control = λ z below on_node. ⊎_elim
+                (λ (here : z ≡ n). absurd (true≢false
+                (sym (subst (λ (m : ℕ). nat_eq (node_of_zone shape m) node ≡ true) here on_node) ∙ off)))
+                (λ (other : z ≡ n → ⊥). so_far.control z (omega arith) on_node)
+                (cases_eq z n);
+          }
+    ]
+
+pub returns-clause-control : goal.returns-clause-control
+returns-clause-control g c =
+    let words = c.args.table.now in
+    let shape = words.facts.layout in
+    let old = c.args.pass.now in
+    let base = subst IsBase c.requires.table.facts (base_can_begin pages old.facts old.seen c.own.ensures.live.legal) in
+    let one = zone-on shape base.layout c.args.node c.requires.node in
+    let is_node : node_number shape c.args.node
+    ≡ get_or c.nodes.result.now (c.args.node.number - length c.zones.result.now) 0 =
+    sym (ap (λ (xs : List ℕ). get_or xs (c.args.node.number - length c.zones.result.now) 0)
+    (c.nodes.ensures.value ∙ ap (λ (s : Shape). s.nodes) c.layout-layout.ensures)
+    ∙ ap (λ (xs : List ZoneName). get_or shape.nodes (c.args.node.number - length xs) 0)
+    (c.zones.ensures.value ∙ ap (λ (s : Shape). s.zones) c.layout-layout.ensures)) in
+    let same = ap (λ (s : Shape). length s.zones) c.layout-layout.ensures in
+    let below : one.0 < c.loop-zone.zone = omega (
+      arith,
+      one.1,
+      c.loop-zone-test.false,
+      ap length c.zones-zone-end.ensures.value,
+      same,
+    ) in
+    c.loop-zone.invariant.control one.0 below
+    (subst (λ (m : ℕ). nat_eq (node_of_zone shape one.0) m ≡ true) is_node one.2)
+
+pub returns-clause-sets : goal.returns-clause-sets
+returns-clause-sets g c =
+    let words = c.args.table.now in
+    let shape = words.facts.layout in
+    let old = c.args.pass.now in
+    let same = ap (λ (s : Shape). length s.zones) c.layout-layout.ensures in
+    let all : c.loop-zone.zone ≡ length shape.zones = omega (
+      arith,
+      c.loop-zone-test.false,
+      c.loop-zone.auto.«zone-end»,
+      ap length c.zones-zone-end.ensures.value,
+      same,
+    ) in
+    let base = subst IsBase c.requires.table.facts (base_can_begin pages old.facts old.seen c.own.ensures.live.legal) in
+    let one = zone-on shape base.layout c.args.node c.requires.node in
+    let is_node : node_number shape c.args.node
+    ≡ get_or c.nodes.result.now (c.args.node.number - length c.zones.result.now) 0 =
+    sym (ap (λ (xs : List ℕ). get_or xs (c.args.node.number - length c.zones.result.now) 0)
+    (c.nodes.ensures.value ∙ ap (λ (s : Shape). s.nodes) c.layout-layout.ensures)
+    ∙ ap (λ (xs : List ZoneName). get_or shape.nodes (c.args.node.number - length xs) 0)
+    (c.zones.ensures.value ∙ ap (λ (s : Shape). s.zones) c.layout-layout.ensures)) in
+    let below : one.0 < c.loop-zone.zone = omega (arith, one.1, all) in
+    let control : IsControl old.seen old.number = c.loop-zone.invariant.control one.0 below
+    (subst (λ (m : ℕ). nat_eq (node_of_zone shape one.0) m ≡ true) is_node one.2) in
+    subst (λ (m : ℕ). SetsAtMost words.facts (once 0 m) (once 0 m) c.loop-zone.pass.seen old.seen) all
+    (c.loop-zone.invariant.visited.1.sets control)
