@@ -9,3 +9,4 @@ pub mod RatedZone
 pub mod VisitedZone
 pub mod LargestSets
 pub mod VisitedZones
+pub mod WholeCalls

@@ -1,0 +1,122 @@
+-- The loads of the CPUs' states and the visits make a whole call.
+use Rattle.std.proofs.Common.{◌≡◌, ◌≢◌, ℕ, ◌+◌, ◌<◌, ◌≤◌, ◌&&◌, nat_le, nat_lt, Bool, true, false, if◌then◌else◌, List}
+use Rattle.std.proofs.Common.{◌++◌, length, refl, sym, ap, ◌∙◌, subst, arith}
+use Rattle.std.proofs.lemmas.Bool.Decides.{nat_tests}
+use Rattle.vms_base.specs.declared.ids.CpuId.{CpuId}
+use Rattle.vms_base.specs.declared.ids.PlaceId.{PlaceId}
+use Rattle.vms_base.specs.declared.kinds.CpuState.{CpuState}
+use Rattle.vms_base.specs.declared.kinds.ZoneSize.{ZoneSize}
+use Rattle.vms_base.specs.Cpus.{online_from}
+use Rattle.vms_base.specs.Places.{Shape, IsPlace}
+use Rattle.vms_calls.specs.Lists.{in_turn}
+use Rattle.vms_calls.specs.MayCall.{KnowsByOwnSteps}
+use Rattle.vms_calls.specs.Ratings.{ByNormal, ByPressure, Choice, RatesMarked, RatesNode, VisitsEach, node_number}
+use Rattle.vms_calls.specs.Ratings.{state_steps, zones_on}
+use Rattle.vms_calls.proofs.CallSteps.{Each, node-each}
+use Rattle.vms_calls.proofs.CallerLaws.{IsStill, ratings-still, still-leaves}
+use Rattle.vms_core.specs.declared.steps.Facts.{Facts}
+use Rattle.vms_core.specs.declared.steps.Step.{Step}
+use Rattle.vms_core.specs.Conditions.{IsControl}
+use Rattle.vms_core.specs.Own.{CarriesNothing, carried, carried_of_item}
+use Rattle.vms_core.specs.Pages.{pages, History, state_after}
+use Rattle.vms_core.specs.Plain.{most_sets}
+use Rattle.vms_control.specs.declared.rating.Rating.{Rating}
+use Rattle.vms_control.specs.declared.rating.Rating.TheVariants.{Pressure, Normal, Refresh}
+use Rattle.vms_control.specs.Rated.{choice_of, rated_by}
+use Rattle.vms_control.specs.SetCounts.{MayStillSet, SetsAtMost, never, once}
+use Rattle.vms_control.proofs.LargestSets.{largest-may}
+use Rattle.vms_control.proofs.PassCalls.{control-old, sums-made}
+use Rattle.vms_control.proofs.SameSums.{marked-same, visits_each-same}
+use Rattle.vms_control.proofs.StepCounts.{still-may}
+use Rattle.vms_history.specs.declared.events.Event.{Event}
+use Rattle.vms_history.specs.Events.{after, own}
+use Rattle.vms_seats.specs.Passes.{Pass, Shared, IsOf}
+use Rattle.vms_seats.specs.Steps.{Made}
+use Rattle.vms_seats.proofs.MadeCalls.{calls-both}
+use Rattle.vms_words.specs.KeptSettings.{largest_sets}
+
+pub once-little : (from to g : ℕ) → once from to g ≤ 1
+once-little from to g = by (nat_le from g && nat_lt g to)
+  where
+    by : (b : Bool) → (if b then 1 else 0) ≤ 1
+    by true = omega arith
+    by false = omega arith
+
+-- steps that move nothing leave what the pass carries
+pub still-nothing : (shape : Shape) (new old : Pass Facts Step) (steps : List Step) → Made pages new old steps
+    → Each IsStill steps → CarriesNothing shape (own old.seen old.number)
+    → CarriesNothing shape (own new.seen new.number)
+still-nothing shape new old steps made still nothing =
+    let mine : own new.seen new.number ≡ after old.number steps (own old.seen old.number) =
+    ap (own new.seen) made.number ∙ made.made.made in
+    let leaves = still-leaves shape old.number steps (own old.seen old.number) still in
+    record {
+      counters = λ k. ap (carried k) mine ∙ leaves.carries.counters k ∙ nothing.counters k;
+      items = λ i. ap (carried_of_item shape i) mine ∙ leaves.carries.items i ∙ nothing.items i;
+    }
+
+module _ (words : Shared Facts) (mid old : Pass Facts Step) (of : IsOf old words) (states : List CpuState)
+    (loaded : Made pages mid old (in_turn state_steps 0 states)) where
+  pub first-control : IsControl mid.seen mid.number → IsControl old.seen old.number
+  first-control = control-old words mid old (in_turn state_steps 0 states) of loaded
+
+  -- after the loads each word may be set once more
+  pub loaded-room : (IsControl old.seen old.number → SetsAtMost words.facts never never mid.seen old.seen)
+      → largest_sets words.facts.layout (state_after words.facts old.seen) < most_sets
+      → IsControl mid.seen mid.number → (g : ℕ) → IsPlace words.facts.layout g → MayStillSet words.facts mid.seen g
+  loaded-room still room control g g_in =
+      still-may words.facts never never mid.seen old.seen g g_in (still (first-control control)) refl refl
+      (largest-may words.facts old.seen room g g_in)
+
+  module _ (know : KnowsByOwnSteps) (control : IsControl mid.seen mid.number)
+      (one_each : length states ≡ words.facts.layout.cpus) (online : List CpuId) (found : online ≡ online_from 0 states)
+      (n : PlaceId) (new : Pass Facts Step) where
+    abbrev zones : List ℕ
+    zones = zones_on words.facts.layout (node_number words.facts.layout n)
+
+    node-made : (Chooses : Choice) → (ts : List ℕ) (steps : List Step)
+        → VisitsEach words.facts mid.number online (RatesMarked words.facts mid.number online Chooses) zones ts mid.seen
+        steps → Made pages new mid steps
+        → (steps : List Step) × RatesNode words.facts Chooses n old.number old.seen steps × Made pages new old steps
+    node-made Chooses ts steps visits made =
+        let p = old.number in
+        let loads = in_turn state_steps 0 states in
+        let cs = online_from 0 states in
+        let at_old : VisitsEach words.facts p cs (RatesMarked words.facts p cs Chooses) zones ts mid.seen steps =
+        subst (λ (ds : List CpuId). VisitsEach words.facts p ds (RatesMarked words.facts p ds Chooses) zones ts mid.seen
+        steps) found
+        (subst (λ (q : ℕ). VisitsEach words.facts q online (RatesMarked words.facts q online Chooses) zones ts mid.seen
+        steps) loaded.number visits) in (
+          loads ++ steps,
+          record {
+            states = states;
+            one_each = one_each;
+            thresholds = ts;
+            further = steps;
+            visits = visits_each-same words.facts p cs (RatesMarked words.facts p cs Chooses)
+                (marked-same words.facts p cs Chooses) zones ts mid.seen (after p loads old.seen) steps
+                (sums-made words mid old loads of loaded know (first-control control)) at_old;
+            in_order = refl;
+          },
+          calls-both pages new mid old loads steps made loaded,
+        )
+
+    pub node-call : (pressure normal : ZoneSize → ℕ → ℕ → Type 0) (rating : Rating) → rating ≢ Refresh
+        → (ts : List ℕ) × (steps : List Step) × VisitsEach words.facts mid.number online
+        (rated_by rating pressure normal words.facts mid.number online) zones ts mid.seen steps
+        × Made pages new mid steps
+        → (steps : List Step) × RatesNode words.facts (choice_of rating pressure normal) n old.number old.seen steps
+        × Made pages new old steps
+    node-call pressure normal Pressure other visited =
+        node-made (ByPressure pressure normal) visited.0 visited.1 visited.2 visited.3
+    node-call pressure normal Normal other visited =
+        node-made (ByNormal normal) visited.0 visited.1 visited.2 visited.3
+    node-call pressure normal Refresh other visited = absurd (other refl)
+
+-- what the pass carried it carries after the call
+pub node-nothing : (facts : Facts) (Chooses : Choice) (n : PlaceId) (new old : Pass Facts Step) (steps : List Step)
+    → RatesNode facts Chooses n old.number old.seen steps → Made pages new old steps
+    → CarriesNothing facts.layout (own old.seen old.number) → CarriesNothing facts.layout (own new.seen new.number)
+node-nothing facts Chooses n new old steps rates made =
+    still-nothing facts.layout new old steps made
+    (node-each IsStill ratings-still facts Chooses n old.number old.seen steps rates)
