@@ -1,12 +1,14 @@
+pub mod PushedLists
 pub mod PeakSums
 pub mod SameSums
 pub mod PassCalls
 pub mod StepCounts
+pub mod LargestSets
 pub mod FoundCpus
 pub mod SetThresholds
 pub mod AcknowledgedLoads
 pub mod RatedZone
 pub mod VisitedZone
-pub mod LargestSets
 pub mod VisitedZones
+pub mod NodeThresholds
 pub mod WholeCalls

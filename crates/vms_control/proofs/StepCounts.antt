@@ -58,6 +58,9 @@ once-next n g = grind (arith, nat_tests)
 pub once-from : (from n g : ℕ) → from ≤ n → once n (suc n) g + once from n g ≤ once from (n + 1) g
 once-from from n g past = grind (arith, nat_tests)
 
+pub once-parts : (mid to g : ℕ) → once mid to g + once 0 mid g ≤ 1
+once-parts mid to g = grind (arith, nat_tests)
+
 -- one step of the control pass
 module _ (facts : Facts) (later earlier : History) (p : ℕ) (step : Step)
     (at : MakesStep pages facts later earlier p step) (control : IsControl earlier p) where

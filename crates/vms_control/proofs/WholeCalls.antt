@@ -10,9 +10,10 @@ use Rattle.vms_base.specs.Cpus.{online_from}
 use Rattle.vms_base.specs.Places.{Shape, IsPlace}
 use Rattle.vms_calls.specs.Lists.{in_turn}
 use Rattle.vms_calls.specs.MayCall.{KnowsByOwnSteps}
-use Rattle.vms_calls.specs.Ratings.{ByNormal, ByPressure, Choice, RatesMarked, RatesNode, VisitsEach, node_number}
+use Rattle.vms_calls.specs.Ratings.{ByNormal, ByPressure, Choice, Rates, RatesMarked, RatesNode, Refreshes}
+use Rattle.vms_calls.specs.Ratings.{VisitsEach, node_number, numbers_below}
 use Rattle.vms_calls.specs.Ratings.{state_steps, zones_on}
-use Rattle.vms_calls.proofs.CallSteps.{Each, node-each}
+use Rattle.vms_calls.proofs.CallSteps.{Each, node-each, refresh-each}
 use Rattle.vms_calls.proofs.CallerLaws.{IsStill, ratings-still, still-leaves}
 use Rattle.vms_core.specs.declared.steps.Facts.{Facts}
 use Rattle.vms_core.specs.declared.steps.Step.{Step}
@@ -25,8 +26,9 @@ use Rattle.vms_control.specs.declared.rating.Rating.TheVariants.{Pressure, Norma
 use Rattle.vms_control.specs.Rated.{choice_of, rated_by}
 use Rattle.vms_control.specs.SetCounts.{MayStillSet, SetsAtMost, never, once}
 use Rattle.vms_control.proofs.LargestSets.{largest-may}
+use Rattle.vms_control.proofs.NodeThresholds.{node_steps}
 use Rattle.vms_control.proofs.PassCalls.{control-old, sums-made}
-use Rattle.vms_control.proofs.SameSums.{marked-same, visits_each-same}
+use Rattle.vms_control.proofs.SameSums.{marked-same, rates-same, visits_each-same}
 use Rattle.vms_control.proofs.StepCounts.{still-may}
 use Rattle.vms_history.specs.declared.events.Event.{Event}
 use Rattle.vms_history.specs.Events.{after, own}
@@ -70,22 +72,22 @@ module _ (words : Shared Facts) (mid old : Pass Facts Step) (of : IsOf old words
 
   module _ (know : KnowsByOwnSteps) (control : IsControl mid.seen mid.number)
       (one_each : length states ≡ words.facts.layout.cpus) (online : List CpuId) (found : online ≡ online_from 0 states)
-      (n : PlaceId) (new : Pass Facts Step) where
-    abbrev zones : List ℕ
-    zones = zones_on words.facts.layout (node_number words.facts.layout n)
+      (new : Pass Facts Step) where
+    abbrev zones : PlaceId → List ℕ
+    zones n = zones_on words.facts.layout (node_number words.facts.layout n)
 
-    node-made : (Chooses : Choice) → (ts : List ℕ) (steps : List Step)
-        → VisitsEach words.facts mid.number online (RatesMarked words.facts mid.number online Chooses) zones ts mid.seen
+    node-made : (n : PlaceId) (Chooses : Choice) → (ts : List ℕ) (steps : List Step)
+        → VisitsEach words.facts mid.number online (RatesMarked words.facts mid.number online Chooses) (zones n) ts mid.seen
         steps → Made pages new mid steps
         → (steps : List Step) × RatesNode words.facts Chooses n old.number old.seen steps × Made pages new old steps
-    node-made Chooses ts steps visits made =
+    node-made n Chooses ts steps visits made =
         let p = old.number in
         let loads = in_turn state_steps 0 states in
         let cs = online_from 0 states in
-        let at_old : VisitsEach words.facts p cs (RatesMarked words.facts p cs Chooses) zones ts mid.seen steps =
-        subst (λ (ds : List CpuId). VisitsEach words.facts p ds (RatesMarked words.facts p ds Chooses) zones ts mid.seen
+        let at_old : VisitsEach words.facts p cs (RatesMarked words.facts p cs Chooses) (zones n) ts mid.seen steps =
+        subst (λ (ds : List CpuId). VisitsEach words.facts p ds (RatesMarked words.facts p ds Chooses) (zones n) ts mid.seen
         steps) found
-        (subst (λ (q : ℕ). VisitsEach words.facts q online (RatesMarked words.facts q online Chooses) zones ts mid.seen
+        (subst (λ (q : ℕ). VisitsEach words.facts q online (RatesMarked words.facts q online Chooses) (zones n) ts mid.seen
         steps) loaded.number visits) in (
           loads ++ steps,
           record {
@@ -94,24 +96,68 @@ module _ (words : Shared Facts) (mid old : Pass Facts Step) (of : IsOf old words
             thresholds = ts;
             further = steps;
             visits = visits_each-same words.facts p cs (RatesMarked words.facts p cs Chooses)
-                (marked-same words.facts p cs Chooses) zones ts mid.seen (after p loads old.seen) steps
+                (marked-same words.facts p cs Chooses) (zones n) ts mid.seen (after p loads old.seen) steps
                 (sums-made words mid old loads of loaded know (first-control control)) at_old;
             in_order = refl;
           },
           calls-both pages new mid old loads steps made loaded,
         )
 
-    pub node-call : (pressure normal : ZoneSize → ℕ → ℕ → Type 0) (rating : Rating) → rating ≢ Refresh
+    pub node-call : (n : PlaceId) (pressure normal : ZoneSize → ℕ → ℕ → Type 0) (rating : Rating) → rating ≢ Refresh
         → (ts : List ℕ) × (steps : List Step) × VisitsEach words.facts mid.number online
-        (rated_by rating pressure normal words.facts mid.number online) zones ts mid.seen steps
+        (rated_by rating pressure normal words.facts mid.number online) (zones n) ts mid.seen steps
         × Made pages new mid steps
         → (steps : List Step) × RatesNode words.facts (choice_of rating pressure normal) n old.number old.seen steps
         × Made pages new old steps
-    node-call pressure normal Pressure other visited =
-        node-made (ByPressure pressure normal) visited.0 visited.1 visited.2 visited.3
-    node-call pressure normal Normal other visited =
-        node-made (ByNormal normal) visited.0 visited.1 visited.2 visited.3
-    node-call pressure normal Refresh other visited = absurd (other refl)
+    node-call n pressure normal Pressure other visited =
+        node-made n (ByPressure pressure normal) visited.0 visited.1 visited.2 visited.3
+    node-call n pressure normal Normal other visited =
+        node-made n (ByNormal normal) visited.0 visited.1 visited.2 visited.3
+    node-call n pressure normal Refresh other visited = absurd (other refl)
+
+    -- all zones are visited, and then the thresholds of all nodes are set
+    pub refresh-call : (normal : ZoneSize → ℕ → ℕ → Type 0) (ts : List ℕ) (visited : Pass Facts Step)
+        → (steps : List Step) × VisitsEach words.facts mid.number online
+        (Rates words.facts mid.number online (ByNormal normal)) (numbers_below (length words.facts.layout.zones)) ts
+        mid.seen steps × Made pages visited mid steps
+        → Made pages new visited (in_turn (node_steps words.facts.layout ts online) 0 words.facts.layout.nodes)
+        → (steps : List Step) × Refreshes words.facts normal old.number old.seen steps × Made pages new old steps
+    refresh-call normal ts visited visits nodes_set =
+        let p = old.number in
+        let loads = in_turn state_steps 0 states in
+        let cs = online_from 0 states in
+        let gs = numbers_below (length words.facts.layout.zones) in
+        let steps = visits.0 in
+        let last = in_turn (node_steps words.facts.layout ts cs) 0 words.facts.layout.nodes in
+        let at_old : VisitsEach words.facts p cs (Rates words.facts p cs (ByNormal normal)) gs ts mid.seen steps =
+        subst (λ (ds : List CpuId). VisitsEach words.facts p ds (Rates words.facts p ds (ByNormal normal)) gs ts
+        mid.seen steps) found
+        (subst (λ (q : ℕ). VisitsEach words.facts q online (Rates words.facts q online (ByNormal normal)) gs ts mid.seen
+        steps) loaded.number visits.1) in
+        let set : Made pages new visited last =
+        subst (λ (ds : List CpuId). Made pages new visited
+        (in_turn (node_steps words.facts.layout ts ds) 0 words.facts.layout.nodes)) found nodes_set in (
+          (loads ++ steps) ++ last,
+          record {
+            states = states;
+            one_each = one_each;
+            thresholds = ts;
+            further = steps;
+            visits = visits_each-same words.facts p cs (Rates words.facts p cs (ByNormal normal))
+                (rates-same words.facts p cs (ByNormal normal)) gs ts mid.seen (after p loads old.seen) steps
+                (sums-made words mid old loads of loaded know (first-control control)) at_old;
+            in_order = refl;
+          },
+          calls-both pages new visited old (loads ++ steps) last set
+              (calls-both pages visited mid old loads steps visits.2 loaded),
+        )
+
+pub refresh-nothing : (facts : Facts) (normal : ZoneSize → ℕ → ℕ → Type 0) (new old : Pass Facts Step)
+    (steps : List Step) → Refreshes facts normal old.number old.seen steps → Made pages new old steps
+    → CarriesNothing facts.layout (own old.seen old.number) → CarriesNothing facts.layout (own new.seen new.number)
+refresh-nothing facts normal new old steps refresh made =
+    still-nothing facts.layout new old steps made
+    (refresh-each IsStill ratings-still facts normal old.number old.seen steps refresh)
 
 -- what the pass carried it carries after the call
 pub node-nothing : (facts : Facts) (Chooses : Choice) (n : PlaceId) (new old : Pass Facts Step) (steps : List Step)

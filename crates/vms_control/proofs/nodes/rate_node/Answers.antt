@@ -23,7 +23,7 @@ returns-clause-made g c =
     let made = c.load_online-online.ensures.made in
     node-call c.args.table.now c.load_online-online.new.pass c.args.pass.now c.requires.table made.0 made.3
     c.control_passes_know_by_own_steps.ensures c.visit_node.ensures.control made.1 c.as_slice.result.now
-    (c.as_slice.ensures.value ∙ made.2) c.args.node c.visit_node.new.pass (g.P.Rule.answers c.args.rules.now.pressure)
+    (c.as_slice.ensures.value ∙ made.2) c.visit_node.new.pass c.args.node (g.P.Rule.answers c.args.rules.now.pressure)
     (g.N.Rule.answers c.args.rules.now.normal) c.args.rating c.requires.node_alone c.visit_node.ensures.made
 
 pub returns-clause-carries : goal.returns-clause-carries
