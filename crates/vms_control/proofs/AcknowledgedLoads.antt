@@ -1,5 +1,5 @@
 -- What CPUs acknowledged is loaded, one after another. The first load tells that the pass is the control pass.
-use Rattle.std.proofs.Common.{◌≡◌, ℕ, suc, ◌+◌, ◌<◌, List, [], ◌∷◌, ◌++◌, length, get_or, take, refl, sym, ap, ◌∙◌}
+use Rattle.std.proofs.Common.{◌≡◌, ℕ, ◌+◌, ◌<◌, List, [], ◌∷◌, ◌++◌, length, get_or, take, refl, sym, ap, ◌∙◌}
 use Rattle.std.proofs.Common.{subst, arith, length-append, Option}
 use Rattle.std.proofs.lemmas.List.{length-take-le, take_more}
 use Rattle.vms_base.specs.declared.ids.CpuId.{CpuId}

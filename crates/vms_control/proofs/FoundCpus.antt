@@ -1,8 +1,7 @@
 -- The CPUs that were found online so far, and all of them once each was looked at.
-use Rattle.std.proofs.Common.{◌≡◌, ◌≢◌, ℕ, suc, zero, ◌+◌, ◌<◌, ◌≤◌, nat_eq, Bool, true, false, true≢false}
-use Rattle.std.proofs.Common.{if◌then◌else◌, List, [], ◌∷◌, ◌++◌, length, get_or, refl, sym, ap, ◌∙◌, subst, arith}
+use Rattle.std.proofs.Common.{◌≡◌, ◌≢◌, ℕ, suc, ◌+◌, ◌<◌, ◌≤◌, nat_eq, Bool, true, false, true≢false}
+use Rattle.std.proofs.Common.{if◌then◌else◌, List, [], ◌∷◌, ◌++◌, length, refl, sym, ap, ◌∙◌, subst, arith}
 use Rattle.std.proofs.Common.{⊎_elim, append_assoc, append-nil, length-append}
-use Rattle.std.specs.Prelude.{All}
 use Rattle.std.proofs.Math.ListN.{get_or-append}
 use Rattle.std.proofs.Math.Seq.{get_or-append_seam}
 use Rattle.std.proofs.lemmas.Bool.{cases_eq}
@@ -28,7 +27,6 @@ use Rattle.vms_core.specs.Conditions.{IsControl}
 use Rattle.vms_control.specs.SetCounts.{SetsAtMost, never}
 use Rattle.vms_control.proofs.StepCounts.{set-both, set-none, set-still}
 use Rattle.vms_control.specs.Online.{FoundOnline, number_in}
-use Rattle.vms_history.specs.declared.events.Event.{Event}
 use Rattle.vms_seats.specs.Passes.{Pass, Shared, IsOf, IsLive}
 use Rattle.vms_seats.specs.Steps.{Made, MadeOne, MakesStep}
 use Rattle.vms_seats.proofs.MadeCalls.{calls-both, calls-none}

@@ -1,5 +1,5 @@
 -- For other crates too: the largest number of sets of one threshold or mark, after a call that sets each once at most.
-use Rattle.std.proofs.Common.{ℕ, suc, ◌+◌, ◌<◌, ◌≤◌, length, arith}
+use Rattle.std.proofs.Common.{ℕ, suc, ◌<◌, ◌≤◌, length, arith}
 use Rattle.vms_base.specs.Places.{Shape, IsCpu, IsPlace, IsZone, place_count}
 use Rattle.vms_core.specs.declared.states.State.{State}
 use Rattle.vms_core.specs.declared.steps.Facts.{Facts}

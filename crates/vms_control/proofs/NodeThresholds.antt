@@ -1,5 +1,5 @@
 -- The thresholds of nodes may be set, and one node after another gets its own.
-use Rattle.std.proofs.Common.{◌≡◌, ◌≢◌, ℕ, suc, zero, ◌+◌, ◌-◌, ◌<◌, ◌≤◌, nat_eq, if◌then◌else◌, List, [], ◌∷◌, ◌++◌}
+use Rattle.std.proofs.Common.{◌≡◌, ℕ, ◌+◌, ◌<◌, ◌≤◌, nat_eq, if◌then◌else◌, List, [], ◌∷◌, ◌++◌}
 use Rattle.std.proofs.Common.{length, get_or, map, take, sym, ap, ◌∙◌, subst, arith, eq-eqb}
 use Rattle.std.specs.Prelude.{All, Contains}
 use Rattle.std.proofs.lemmas.List.{get_or_default, length-map, length-take-le, take_more}
@@ -21,7 +21,6 @@ use Rattle.vms_core.specs.Pages.{pages, History, IsLegal}
 use Rattle.vms_core.proofs.LiveOwners.{online-stays}
 use Rattle.vms_control.specs.Online.{FoundOnline}
 use Rattle.vms_control.proofs.FoundCpus.{in_turn-more}
-use Rattle.vms_history.specs.Sums.{largest_below}
 use Rattle.vms_history.proofs.CountLemmas.{largest_below-least}
 use Rattle.vms_history.proofs.MadeSteps.{made-given, made-owner}
 use Rattle.vms_seats.specs.Passes.{Pass}

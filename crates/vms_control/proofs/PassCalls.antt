@@ -1,5 +1,5 @@
 -- For other crates too: what stands of a pass after a part of its call, from what it was before.
-use Rattle.std.proofs.Common.{◌≡◌, ℕ, List, None, sym, ap, ◌∙◌, subst}
+use Rattle.std.proofs.Common.{◌≡◌, List, sym, ap, ◌∙◌, subst}
 use Rattle.vms_calls.specs.MayCall.{KnowsByOwnSteps}
 use Rattle.vms_calls.specs.MayMake.{HasMade}
 use Rattle.vms_core.specs.declared.steps.Facts.{Facts}

@@ -1,6 +1,6 @@
 -- For other crates too: what a call that sets thresholds makes depends on the history in which it begins by the sums of
 -- peaks alone, and these are the same after what the control pass made while others acted as after its steps in a row.
-use Rattle.std.proofs.Common.{◌≡◌, ℕ, List, ◌++◌, length, sym, ap, ◌∙◌, subst}
+use Rattle.std.proofs.Common.{◌≡◌, ℕ, List, ◌++◌, length, sym, ap, ◌∙◌}
 use Rattle.vms_base.specs.declared.ids.CpuId.{CpuId}
 use Rattle.vms_base.specs.declared.ids.PlaceId.{PlaceId}
 use Rattle.vms_base.specs.declared.kinds.ZoneSize.{ZoneSize}
@@ -9,7 +9,7 @@ use Rattle.vms_base.specs.Marks.{cover_mark_of, linux_mark_of}
 use Rattle.vms_base.specs.Sizes.{size_at}
 use Rattle.vms_calls.specs.Lists.{in_turn}
 use Rattle.vms_calls.specs.Ratings.{Choice, ByNormal, Rates, RatesMarked, RatesNode, Refreshes, Visits, VisitsEach}
-use Rattle.vms_calls.specs.Ratings.{mark_for, mark_steps, state_steps, threshold_steps}
+use Rattle.vms_calls.specs.Ratings.{mark_steps, state_steps, threshold_steps}
 use Rattle.vms_calls.specs.Ratings.RatesMarked.{unmarked, marked}
 use Rattle.vms_calls.specs.Ratings.VisitsEach.{none, next}
 use Rattle.vms_core.specs.declared.steps.Facts.{Facts}

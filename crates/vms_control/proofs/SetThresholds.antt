@@ -1,14 +1,13 @@
 -- Thresholds are set on CPUs that were found online, one after another.
-use Rattle.std.proofs.Common.{◌≡◌, ◌≢◌, ℕ, suc, zero, ◌+◌, ◌<◌, ◌≤◌, ◌&&◌, nat_eq, Bool, true, false, if◌then◌else◌}
+use Rattle.std.proofs.Common.{◌≡◌, ℕ, suc, ◌+◌, ◌<◌, ◌≤◌, ◌&&◌, nat_eq, Bool, true, false, if◌then◌else◌}
 use Rattle.std.proofs.Common.{List, [], ◌∷◌, ◌++◌, length, get_or, take, refl, sym, ap, ◌∙◌, subst, arith}
 use Rattle.std.proofs.Common.{append_assoc, eqb-true}
 use Rattle.std.specs.Prelude.{drop}
 use Rattle.std.proofs.lemmas.Bool.{ne_eqb}
 use Rattle.std.proofs.lemmas.List.{map-append, take_more, take-append-drop}
 use Rattle.vms_base.specs.declared.ids.CpuId.{CpuId}
-use Rattle.vms_base.specs.declared.ids.PlaceId.{PlaceId}
-use Rattle.vms_base.specs.Places.{IsCpu, IsPlace}
-use Rattle.vms_calls.specs.MayMake.{HasMade, MayMake}
+use Rattle.vms_base.specs.Places.{IsPlace}
+use Rattle.vms_calls.specs.MayMake.{MayMake}
 use Rattle.vms_calls.specs.Ratings.{threshold_steps}
 use Rattle.vms_core.specs.declared.steps.Facts.{Facts}
 use Rattle.vms_core.specs.declared.steps.Step.{Step}
@@ -18,7 +17,7 @@ use Rattle.vms_core.specs.Conditions.{IsControl, SetsThreshold}
 use Rattle.vms_core.specs.Pages.{pages, History, state_after}
 use Rattle.vms_control.specs.Online.{FoundOnline, number_in}
 use Rattle.vms_control.specs.SetCounts.{SetsAtMost, never, once}
-use Rattle.vms_control.proofs.PassCalls.{has-made, step-at}
+use Rattle.vms_control.proofs.PassCalls.{has-made}
 use Rattle.vms_control.proofs.StepCounts.{mark_sets-next, once-at, sets-next}
 use Rattle.vms_seats.specs.Passes.{Pass, Shared, IsOf}
 use Rattle.vms_seats.specs.Steps.{Made, MadeOne, MakesStep}

@@ -1,12 +1,12 @@
 -- How often thresholds and marks were set after one step more, and after parts of a call.
-use Rattle.std.proofs.Common.{◌≡◌, ℕ, suc, ◌+◌, ◌<◌, ◌≤◌, ◌&&◌, nat_eq, nat_le, nat_lt, Bool, true, false, if◌then◌else◌}
-use Rattle.std.proofs.Common.{◌∷◌, refl, sym, ap, ◌∙◌, subst, arith}
+use Rattle.std.proofs.Common.{◌≡◌, ℕ, suc, ◌+◌, ◌≤◌, nat_eq, Bool, true, false, if◌then◌else◌}
+use Rattle.std.proofs.Common.{◌∷◌, refl, ap, ◌∙◌, subst, arith}
 use Rattle.std.proofs.lemmas.Bool.Decides.{nat_tests}
 use Rattle.vms_base.specs.declared.ids.PlaceId.{PlaceId}
-use Rattle.vms_base.specs.Places.{IsCpu, IsPlace, IsZone}
+use Rattle.vms_base.specs.Places.{IsPlace}
 use Rattle.vms_core.specs.declared.steps.Facts.{Facts}
 use Rattle.vms_core.specs.declared.steps.Step.{Step}
-use Rattle.vms_core.specs.declared.steps.Step.TheVariants.{SetT, SetM}
+use Rattle.vms_core.specs.declared.steps.Step.TheVariants.{SetM}
 use Rattle.vms_core.specs.Cells.{mark_at, mark_sets_at, threshold_sets_at}
 use Rattle.vms_core.specs.Conditions.{IsControl}
 use Rattle.vms_core.specs.Effects.{mark_after, mark_sets_after}

@@ -1,14 +1,13 @@
 -- A zone is visited: what was acknowledged and its mark are loaded, and then it is rated or spared.
-use Rattle.std.proofs.Common.{◌≡◌, ◌≢◌, ℕ, ◌+◌, ◌<◌, ◌≤◌, nat_eq, Bool, true, false, true≢false, List, [], ◌∷◌, ◌++◌}
-use Rattle.std.proofs.Common.{length, get_or, Option, refl, sym, ap, ◌∙◌, subst, arith, eq-eqb, eqb-true}
+use Rattle.std.proofs.Common.{◌≡◌, ℕ, ◌<◌, true, false, true≢false, List, [], ◌∷◌, ◌++◌}
+use Rattle.std.proofs.Common.{length, get_or, Option, refl, sym, ◌∙◌, subst, arith, eq-eqb, eqb-true}
 use Rattle.std.proofs.lemmas.List.{append-nil}
 use Rattle.vms_base.specs.declared.ids.CpuId.{CpuId}
-use Rattle.vms_base.specs.declared.ids.PlaceId.{PlaceId}
 use Rattle.vms_base.specs.declared.kinds.ZoneSize.{ZoneSize}
 use Rattle.vms_base.specs.Places.{IsPlace, IsZone}
 use Rattle.vms_base.specs.Sizes.{IsValidSize, size_at}
 use Rattle.vms_calls.specs.MayCall.{KnowsByOwnSteps}
-use Rattle.vms_calls.specs.Ratings.{Rates, RatesMarked, Visits, acknowledged_steps, rating_steps}
+use Rattle.vms_calls.specs.Ratings.{Rates, Visits, acknowledged_steps, rating_steps}
 use Rattle.vms_calls.specs.Ratings.RatesMarked.{unmarked, marked}
 use Rattle.vms_core.specs.declared.states.MarkRead.{MarkRead}
 use Rattle.vms_core.specs.declared.steps.Facts.{Facts}
@@ -20,7 +19,7 @@ use Rattle.vms_core.specs.Pages.{pages, History}
 use Rattle.vms_control.specs.declared.rating.Rating.{Rating}
 use Rattle.vms_control.specs.declared.rating.Rating.TheVariants.{Pressure, Normal, Refresh}
 use Rattle.vms_control.specs.Rated.{choice_of, is_spared, rated_by}
-use Rattle.vms_control.specs.SetCounts.{SetsAtMost, MayStillSet, never, once}
+use Rattle.vms_control.specs.SetCounts.{SetsAtMost, MayStillSet, never}
 use Rattle.vms_control.proofs.PassCalls.{control-new, has-made, of-new, step-at, sums-made}
 use Rattle.vms_control.proofs.SameSums.{rates-same}
 use Rattle.vms_control.proofs.StepCounts.{set-both, set-still, still-may}

@@ -1,7 +1,6 @@
 -- The loads of the CPUs' states and the visits make a whole call.
-use Rattle.std.proofs.Common.{◌≡◌, ◌≢◌, ℕ, ◌+◌, ◌<◌, ◌≤◌, ◌&&◌, nat_le, nat_lt, Bool, true, false, if◌then◌else◌, List}
-use Rattle.std.proofs.Common.{◌++◌, length, refl, sym, ap, ◌∙◌, subst, arith}
-use Rattle.std.proofs.lemmas.Bool.Decides.{nat_tests}
+use Rattle.std.proofs.Common.{◌≡◌, ◌≢◌, ℕ, ◌<◌, ◌≤◌, ◌&&◌, nat_le, nat_lt, Bool, true, false, if◌then◌else◌, List}
+use Rattle.std.proofs.Common.{◌++◌, length, refl, ap, ◌∙◌, subst, arith}
 use Rattle.vms_base.specs.declared.ids.CpuId.{CpuId}
 use Rattle.vms_base.specs.declared.ids.PlaceId.{PlaceId}
 use Rattle.vms_base.specs.declared.kinds.CpuState.{CpuState}
@@ -19,7 +18,7 @@ use Rattle.vms_core.specs.declared.steps.Facts.{Facts}
 use Rattle.vms_core.specs.declared.steps.Step.{Step}
 use Rattle.vms_core.specs.Conditions.{IsControl}
 use Rattle.vms_core.specs.Own.{CarriesNothing, carried, carried_of_item}
-use Rattle.vms_core.specs.Pages.{pages, History, state_after}
+use Rattle.vms_core.specs.Pages.{pages, state_after}
 use Rattle.vms_core.specs.Plain.{most_sets}
 use Rattle.vms_control.specs.declared.rating.Rating.{Rating}
 use Rattle.vms_control.specs.declared.rating.Rating.TheVariants.{Pressure, Normal, Refresh}
@@ -30,7 +29,6 @@ use Rattle.vms_control.proofs.NodeThresholds.{node_steps}
 use Rattle.vms_control.proofs.PassCalls.{control-old, sums-made}
 use Rattle.vms_control.proofs.SameSums.{marked-same, rates-same, visits_each-same}
 use Rattle.vms_control.proofs.StepCounts.{still-may}
-use Rattle.vms_history.specs.declared.events.Event.{Event}
 use Rattle.vms_history.specs.Events.{after, own}
 use Rattle.vms_seats.specs.Passes.{Pass, Shared, IsOf}
 use Rattle.vms_seats.specs.Steps.{Made}

@@ -1,5 +1,5 @@
 -- The loads and the visits make the call, and each word was set once at most.
-use Rattle.std.proofs.Common.{ℕ, suc, length, sym, ap, ◌∙◌, subst, arith}
+use Rattle.std.proofs.Common.{length, sym, ◌∙◌, subst, arith}
 use Rattle.vms_control.specs.Online.{FoundOnline}
 use Rattle.vms_control.specs.Rated.{choice_of}
 use Rattle.vms_control.specs.SetCounts.{never, once}

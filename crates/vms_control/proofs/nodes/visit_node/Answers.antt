@@ -1,12 +1,10 @@
 -- A zone more is visited, if it is on the node; the node has a zone, whose visit tells that the pass is the control pass.
-use Rattle.std.proofs.Common.{◌≡◌, ℕ, suc, ◌+◌, ◌-◌, ◌<◌, nat_eq, true, List, [], ◌∷◌, ◌++◌, length, sym, get_or}
+use Rattle.std.proofs.Common.{◌≡◌, ℕ, ◌+◌, ◌-◌, ◌<◌, nat_eq, true, List, [], ◌∷◌, ◌++◌, length, sym, get_or}
 use Rattle.std.proofs.Common.{ap, subst, ◌∙◌, arith, ⊎_elim, true≢false}
 use Rattle.std.proofs.lemmas.Bool.{cases_eq}
 use Rattle.vms_base.specs.declared.kinds.ZoneName.{ZoneName}
 use Rattle.vms_base.specs.Places.{IsPlace, Shape, node_of_zone}
 use Rattle.vms_calls.specs.Ratings.{node_number}
-use Rattle.vms_core.specs.declared.steps.Facts.{Facts}
-use Rattle.vms_core.specs.declared.steps.Step.{Step}
 use Rattle.vms_core.specs.Bases.{IsBase}
 use Rattle.vms_core.specs.Conditions.{IsControl}
 use Rattle.vms_core.specs.Pages.{pages}
@@ -16,7 +14,6 @@ use Rattle.vms_control.proofs.VisitedZones.{visited-past, visited-room, zone-on,
 use Rattle.vms_control.proofs.nodes.visit_node.Goals as goal
 use Rattle.vms_control.proofs.nodes.visit_node.Goals.{then-zones-zone, else-zones-zone}
 use Rattle.vms_history.proofs.Prefixes.{base_can_begin}
-use Rattle.vms_seats.specs.Passes.{Pass}
 
 pub loop-zone-init : goal.loop-zone-init
 loop-zone-init g c = record {

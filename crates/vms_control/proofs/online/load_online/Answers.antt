@@ -1,6 +1,5 @@
 -- A CPU more was looked at, and all of them at the end.
-use Rattle.std.proofs.Common.{◌≡◌, ◌+◌, ◌++◌, [], ◌∷◌, List, sym, ap, ◌∙◌, subst, arith}
-use Rattle.vms_base.specs.declared.ids.CpuId.{CpuId}
+use Rattle.std.proofs.Common.{◌≡◌, ◌+◌, sym, ap, ◌∙◌, subst, arith}
 use Rattle.vms_base.specs.Places.{IsCpu, Shape}
 use Rattle.vms_core.specs.Bases.{IsBase}
 use Rattle.vms_core.specs.Pages.{pages}

@@ -1,8 +1,7 @@
 -- One CPU more has the threshold, and what all hide stays small.
-use Rattle.std.proofs.Common.{◌≡◌, ℕ, ◌+◌, ◌-◌, ◌*◌, ◌≤◌, take, sym, ap, ◌∙◌, subst, arith}
+use Rattle.std.proofs.Common.{◌≡◌, ℕ, ◌+◌, ◌-◌, take, sym, ap, ◌∙◌, subst, arith}
 use Rattle.vms_base.specs.Places.{IsPlace}
 use Rattle.vms_calls.specs.Ratings.{threshold_steps}
-use Rattle.vms_core.specs.Bases.{IsBase}
 use Rattle.vms_core.specs.Pages.{pages, IsLegal}
 use Rattle.vms_core.specs.Peaks.{peak, peak_sum}
 use Rattle.vms_core.proofs.PeakBounds.{peaks-in_range}

@@ -1,9 +1,9 @@
 -- The mark is the one that covers, and it and the thresholds may be set.
-use Rattle.std.proofs.Common.{◌≡◌, ℕ, length, w32, Fits, sym, ap, ◌∙◌, subst, arith}
+use Rattle.std.proofs.Common.{ℕ, length, sym, ap, ◌∙◌, subst, arith}
 use Rattle.vms_base.specs.declared.kinds.ZoneSize.{ZoneSize}
 use Rattle.vms_base.specs.Marks.{cover_mark_of, linux_mark_of}
 use Rattle.vms_base.specs.Sizes.{IsValidSize, size_at}
-use Rattle.vms_calls.specs.Ratings.{mark_for, mark_steps}
+use Rattle.vms_calls.specs.Ratings.{mark_steps}
 use Rattle.vms_control.proofs.PassCalls.{control-new}
 use Rattle.vms_control.proofs.RatedZone.{few, may-mark, may-thresholds, rated, valid}
 use Rattle.vms_control.proofs.rating.rate.Goals as goal

@@ -1,5 +1,5 @@
 -- One CPU more has the threshold.
-use Rattle.std.proofs.Common.{ℕ, length, take}
+use Rattle.std.proofs.Common.{take}
 use Rattle.vms_calls.specs.Ratings.{threshold_steps}
 use Rattle.vms_control.proofs.PassCalls.{control-new, of-new, step-at}
 use Rattle.vms_control.proofs.SetThresholds.{may-set, next_set, set-counts, set-made, set-unset}

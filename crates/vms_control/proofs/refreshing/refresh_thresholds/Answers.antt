@@ -1,5 +1,5 @@
 -- The loads, the visits and the thresholds of nodes make the call, and each word was set once at most.
-use Rattle.std.proofs.Common.{ℕ, suc, ◌+◌, ◌≤◌, List, length, refl, sym, ap, ◌∙◌, subst, arith}
+use Rattle.std.proofs.Common.{ℕ, ◌+◌, List, length, sym, ◌∙◌, subst, arith}
 use Rattle.vms_base.specs.declared.ids.CpuId.{CpuId}
 use Rattle.vms_base.specs.Places.{place_count}
 use Rattle.vms_calls.specs.Lists.{in_turn}

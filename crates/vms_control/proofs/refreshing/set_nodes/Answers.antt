@@ -1,5 +1,5 @@
 -- A node more gets its threshold.
-use Rattle.std.proofs.Common.{◌≡◌, ℕ, suc, ◌+◌, ◌-◌, ◌<◌, ◌≤◌, List, length, get_or, take, sym, ap, subst, ◌∙◌, arith}
+use Rattle.std.proofs.Common.{◌≡◌, ℕ, suc, ◌+◌, ◌-◌, ◌<◌, ◌≤◌, List, length, get_or, take, ap, subst, ◌∙◌, arith}
 use Rattle.vms_base.specs.Places.{IsPlace, Shape}
 use Rattle.vms_calls.specs.Lists.{in_turn}
 use Rattle.vms_calls.specs.Ratings.{largest_on, threshold_steps}

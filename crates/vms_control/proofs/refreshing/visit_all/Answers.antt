@@ -1,5 +1,5 @@
 -- A zone more is visited.
-use Rattle.std.proofs.Common.{◌≡◌, ℕ, ◌+◌, ◌<◌, ◌≤◌, List, [], ◌∷◌, ◌++◌, length, get_or, sym, ap, subst, ◌∙◌}
+use Rattle.std.proofs.Common.{ℕ, ◌+◌, ◌<◌, ◌≤◌, List, [], ◌∷◌, ◌++◌, length, get_or, sym, ap, subst, ◌∙◌}
 use Rattle.std.proofs.Common.{arith, refl, add-one}
 use Rattle.vms_base.specs.Places.{IsPlace, Shape}
 use Rattle.vms_base.specs.Thresholds.{most_threshold}

@@ -1,5 +1,5 @@
 -- What one CPU more acknowledged was loaded.
-use Rattle.std.proofs.Common.{ℕ, ◌+◌, refl, arith, get_or, take}
+use Rattle.std.proofs.Common.{refl, arith, get_or, take}
 use Rattle.vms_calls.specs.Ratings.{acknowledged_steps}
 use Rattle.vms_core.specs.declared.steps.Step.TheVariants.{LoadA}
 use Rattle.vms_control.specs.SetCounts.{never}

@@ -1,8 +1,8 @@
 -- The loads leave room, and with the rating they make the visit.
-use Rattle.std.proofs.Common.{◌≡◌, ℕ, suc, length, List, sym, ap, ◌∙◌, subst, arith, get_or}
+use Rattle.std.proofs.Common.{suc, length, List, sym, ap, ◌∙◌, subst, arith, get_or}
 use Rattle.vms_base.specs.declared.kinds.ZoneSize.{ZoneSize}
 use Rattle.vms_base.specs.Sizes.{IsValidSize, size_at}
-use Rattle.vms_control.specs.Rated.{choice_of, is_spared}
+use Rattle.vms_control.specs.Rated.{choice_of}
 use Rattle.vms_control.specs.SetCounts.{never, once}
 use Rattle.vms_control.proofs.StepCounts.{set-both, set-none}
 use Rattle.vms_control.proofs.VisitedZone.{base-loaded, control-loaded, loads-may, loads-still, no_size}
