@@ -16,7 +16,8 @@ world_of tables = record {
 }
 
 -- the tables are those of one phase of a run with this header: each was told what a phase from their world is told, so
--- that the same CPUs are online, dead and absent in all, and there is a percpu counter for each that the header declares
+-- that the same CPUs are online, dead and absent in all, and there is a percpu counter for each that the header
+-- declares
 pub record AreTables (header : Header) (tables : Tables) : Type 0 where
   pub pages : tables.pages.facts ≡ page_facts header (world_of tables)
   pub events : tables.events.facts ≡ event_facts header (world_of tables)

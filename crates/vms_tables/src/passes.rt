@@ -2,8 +2,8 @@ use vms_event::{EventCaller, EventPass};
 use vms_pcpu::PcpuPass;
 use vms_words::{Caller, CpuPass};
 
-/// The passes of a CPU's lane: one in each table, which own the lane's CPU. Contracts see in each the pass, and what its
-/// CPU has changed each thing by since the run began, in absolute sum.
+/// The passes of a CPU's lane: one in each table, which own the lane's CPU. Contracts see in each the pass, and what
+/// its CPU has changed each thing by since the run began, in absolute sum.
 #[derive(Drop)]
 pub struct CpuPasses {
     pub page: CpuPass,
