@@ -1,0 +1,254 @@
+-- The lines of a lane, one after another.
+use Rattle.std.proofs.Common.{◌≡◌, ℕ, ◌+◌, ◌<◌, ◌≤◌, List, [], ◌∷◌, ◌++◌, length, Option, Some, None, refl, sym, ap}
+use Rattle.std.proofs.Common.{◌∙◌, subst, arith, append_assoc, append-nil, drop, get_or}
+use Rattle.std.proofs.lemmas.List.{drop_all, drop_more}
+use Rattle.vms_base.specs.declared.headers.Header.{Header}
+use Rattle.vms_base.specs.declared.kinds.ZoneSize.{ZoneSize}
+use Rattle.vms_history.specs.declared.events.Event.{Event}
+use Rattle.vms_history.specs.Events.{own}
+use Rattle.vms_history.specs.Legal.{Machine}
+use Rattle.vms_core.specs.Pages.{pages}
+use Rattle.vms_event_core.specs.Events.{events}
+use Rattle.vms_pcpu_core.specs.Histories.{percpu}
+use Rattle.vms_script.specs.declared.lane_scripts.LaneItem.{LaneItem}
+use Rattle.vms_script.specs.Volumes.{spent_on_counter, spent_on_event, spent_on_pcpu}
+use Rattle.vms_seats.specs.Passes.{Pass}
+use Rattle.vms_seats.specs.Steps.{Made}
+use Rattle.vms_seats.proofs.MadeCalls.{calls-both, calls-none}
+use Rattle.vms_tables.specs.declared.passes.CpuPasses.{CpuPasses}
+use Rattle.vms_tables.specs.Passes.{AreLive, TablePasses}
+use Rattle.vms_text.specs.declared.acts.Act.{Act}
+use Rattle.vms_text.specs.declared.acts.Lane.{Lane}
+use Rattle.vms_world.specs.declared.worlds.World.{World}
+use Rattle.vms_world.specs.Acts.{EventSteps, PageSteps, PcpuSteps}
+use Rattle.vms_world.specs.Lanes.{MakesActs}
+use Rattle.vms_world.specs.Lanes.MakesActs.{act as one_act}
+use Rattle.vms_world.specs.Worlds.{event_facts, pcpu_facts}
+use Rattle.vms_answers.specs.Answers.{Answer, LaneSteps, no_steps, then_steps}
+use Rattle.vms_answers.specs.PhaseAnswers.{NumberedAnswer, with_answer}
+use Rattle.vms_answers.proofs.OpenAnswers.{LaneSteps-same}
+use Rattle.vms_lane.specs.Lines.{MakeAct}
+use Rattle.vms_lane.specs.Scripts.{GoesOnWith, MakeLines, acts_in, read_lane}
+use Rattle.vms_lane.specs.Spending.{HasGrown, HasRoom, HaveRoom, HaveSpent, spent_by, spent_by_all, sum_of}
+use Rattle.vms_lane.proofs.GrownVolumes.{grown-none}
+
+-- the acts of a pass, by its steps
+module _ {F K S : Type 0} (machine : Machine F K S) (makes : Act → List (Event K) → List K → Type 0) where
+  -- one act
+  pub acts-one : (new old : Pass F K) (act : Act) (steps : List K) → makes act old.seen steps
+      → Made machine new old steps → GoesOnWith makes old.number (act ∷ []) new.seen old.seen
+  acts-one new old act steps is_act made before so_far =
+      let p = old.number in
+      let more = made.made.extends.0 in
+      let same : new.seen ≡ more ++ old.seen = made.made.extends.1 in
+      subst (MakesActs makes p (before ++ act ∷ [])) (sym same)
+      (one_act before act old.seen more steps so_far is_act
+      (ap (λ (h : List (Event K)). own h p) (sym same) ∙ made.made.made))
+
+  -- an act, and others after it
+  pub acts-next : (p : ℕ) (act : Act) (acts : List Act) (last mid first : List (Event K))
+      → GoesOnWith makes p acts last mid → GoesOnWith makes p (act ∷ []) mid first
+      → GoesOnWith makes p (act ∷ acts) last first
+  acts-next p act acts last mid first rest one before so_far =
+      subst (λ (all : List Act). MakesActs makes p all last) (append_assoc before (act ∷ []) acts)
+      (rest (before ++ act ∷ []) (one before so_far))
+
+  -- none
+  pub acts-none : (p : ℕ) (h : List (Event K)) → GoesOnWith makes p [] h h
+  acts-none p h before so_far =
+      subst (λ (all : List Act). MakesActs makes p all h) (sym (append-nil before)) so_far
+
+-- steps in a row
+steps-assoc : (a b c : LaneSteps) → then_steps (then_steps a b) c ≡ then_steps a (then_steps b c)
+steps-assoc a b c = LaneSteps-same (then_steps (then_steps a b) c) (then_steps a (then_steps b c))
+    (append_assoc a.pages b.pages c.pages) (append_assoc a.events b.events c.events)
+    (append_assoc a.counters b.counters c.counters)
+
+-- an answer comes before those of later lines
+pub with_answer-first : (n : ℕ) (answer : Option Answer) (answers : List NumberedAnswer)
+    → with_answer n answer [] ++ answers ≡ with_answer n answer answers
+with_answer-first n None answers = refl
+with_answer-first n (Some answer) answers = refl
+
+module _ (header : Header) (pressure normal : ZoneSize → ℕ → ℕ → Type 0) (w : World) (lane : Lane) where
+  abbrev Lines : List LaneItem → TablePasses → TablePasses → List NumberedAnswer → Type 0
+  Lines items new old answers = MakeLines header pressure normal w lane items new old answers
+
+  -- no line
+  pub lines-none : (passes : TablePasses) → AreLive passes → Lines [] passes passes []
+  lines-none passes live = record {
+    steps = no_steps;
+    pages = calls-none pages passes.pages live.pages;
+    events = calls-none events passes.events live.events;
+    counters = calls-none percpu passes.counters live.counters;
+    page_acts = acts-none pages (PageSteps header w.pages pressure normal lane passes.pages.number)
+        passes.pages.number passes.pages.seen;
+    event_acts = acts-none events (λ act h. EventSteps (event_facts header w) lane act) passes.events.number
+        passes.events.seen;
+    pcpu_acts = acts-none percpu (λ act h. PcpuSteps (pcpu_facts header w) lane act) passes.counters.number
+        passes.counters.seen;
+    tells = λ rest. refl;
+  }
+
+  -- a line, and those after it
+  pub lines-next : (item : LaneItem) (items : List LaneItem) (last mid first : TablePasses) (answer : Option Answer)
+      (answers : List NumberedAnswer) → Lines items last mid answers
+      → MakeAct header pressure normal w lane item.act mid first answer
+      → Lines (item ∷ items) last first (with_answer item.number answer answers)
+  lines-next item items last mid first answer answers lines line = record {
+    steps = then_steps line.steps lines.steps;
+    pages = calls-both pages last.pages mid.pages first.pages line.steps.pages lines.steps.pages lines.pages
+        line.pages;
+    events = calls-both events last.events mid.events first.events line.steps.events lines.steps.events lines.events
+        line.events;
+    counters = calls-both percpu last.counters mid.counters first.counters line.steps.counters lines.steps.counters
+        lines.counters line.counters;
+    page_acts = acts-next pages (PageSteps header w.pages pressure normal lane first.pages.number)
+        first.pages.number item.act (acts_in items) last.pages.seen mid.pages.seen first.pages.seen
+        (subst (λ (p : ℕ). GoesOnWith (PageSteps header w.pages pressure normal lane p) p (acts_in items)
+        last.pages.seen mid.pages.seen) line.pages.number lines.page_acts)
+        (acts-one pages (PageSteps header w.pages pressure normal lane first.pages.number) mid.pages first.pages
+        item.act line.steps.pages line.page_act line.pages);
+    event_acts = acts-next events (λ act h. EventSteps (event_facts header w) lane act) first.events.number item.act
+        (acts_in items) last.events.seen mid.events.seen first.events.seen
+        (subst (λ (p : ℕ). GoesOnWith (λ act h. EventSteps (event_facts header w) lane act) p (acts_in items)
+        last.events.seen mid.events.seen) line.events.number lines.event_acts)
+        (acts-one events (λ act h. EventSteps (event_facts header w) lane act) mid.events first.events item.act
+        line.steps.events line.event_act line.events);
+    pcpu_acts = acts-next percpu (λ act h. PcpuSteps (pcpu_facts header w) lane act) first.counters.number item.act
+        (acts_in items) last.counters.seen mid.counters.seen first.counters.seen
+        (subst (λ (p : ℕ). GoesOnWith (λ act h. PcpuSteps (pcpu_facts header w) lane act) p (acts_in items)
+        last.counters.seen mid.counters.seen) line.counters.number lines.pcpu_acts)
+        (acts-one percpu (λ act h. PcpuSteps (pcpu_facts header w) lane act) mid.counters first.counters item.act
+        line.steps.counters line.pcpu_act line.counters);
+    tells = λ rest.
+        ap (λ (steps : LaneSteps). read_lane header w lane (item ∷ items) steps)
+        (steps-assoc line.steps lines.steps rest)
+        ∙ ap (λ (read : Option Answer × LaneSteps). (
+          with_answer item.number read.0 (read_lane header w lane items read.1).0,
+          (read_lane header w lane items read.1).1,
+        )) (line.tells (then_steps lines.steps rest))
+        ∙ ap (λ (read : List NumberedAnswer × LaneSteps). (with_answer item.number answer read.0, read.1))
+        (lines.tells rest);
+  }
+
+-- what acts spend, one after another
+module _ (measure : ℕ → Act → ℕ) (act : Act) (acts : List Act) where
+  pub room-first : (volume : List ℕ) → HasRoom (λ k. sum_of (measure k) (act ∷ acts)) volume
+      → HasRoom (λ k. measure k act) volume
+  room-first volume room k inside = let all = room k inside in omega arith
+
+  pub room-rest : (new old : List ℕ) → HasGrown (λ k. measure k act) new old
+      → HasRoom (λ k. sum_of (measure k) (act ∷ acts)) old → HasRoom (λ k. sum_of (measure k) acts) new
+  room-rest new old grown room k inside =
+      let was_inside : k < length old = subst (λ (n : ℕ). k < n) grown.one_each inside in
+      let all = room k was_inside in
+      let now = grown.each k in
+      omega arith
+
+  pub grown-next : (last mid first : List ℕ) → HasGrown (λ k. sum_of (measure k) acts) last mid
+      → HasGrown (λ k. measure k act) mid first → HasGrown (λ k. sum_of (measure k) (act ∷ acts)) last first
+  grown-next last mid first rest one = record {
+    one_each = rest.one_each ∙ one.one_each;
+    each = λ k. let more = rest.each k in let now = one.each k in omega arith;
+  }
+
+module _ (act : Act) (acts : List Act) where
+  pub rooms-first : (passes : CpuPasses) → HaveRoom (spent_by_all (act ∷ acts)) passes
+      → HaveRoom (spent_by act) passes
+  rooms-first passes room = record {
+    page = room-first spent_on_counter act acts passes.page.volume room.page;
+    event = room-first spent_on_event act acts passes.event.volume room.event;
+    pcpu = room-first spent_on_pcpu act acts passes.pcpu.volume room.pcpu;
+  }
+
+  pub rooms-rest : (new old : CpuPasses) → HaveSpent (spent_by act) new old
+      → HaveRoom (spent_by_all (act ∷ acts)) old → HaveRoom (spent_by_all acts) new
+  rooms-rest new old spent room = record {
+    page = room-rest spent_on_counter act acts new.page.volume old.page.volume spent.page room.page;
+    event = room-rest spent_on_event act acts new.event.volume old.event.volume spent.event room.event;
+    pcpu = room-rest spent_on_pcpu act acts new.pcpu.volume old.pcpu.volume spent.pcpu room.pcpu;
+  }
+
+  pub spent-next : (last mid first : CpuPasses) → HaveSpent (spent_by_all acts) last mid
+      → HaveSpent (spent_by act) mid first → HaveSpent (spent_by_all (act ∷ acts)) last first
+  spent-next last mid first rest one = record {
+    page = grown-next spent_on_counter act acts last.page.volume mid.page.volume first.page.volume rest.page one.page;
+    event = grown-next spent_on_event act acts last.event.volume mid.event.volume first.event.volume rest.event
+        one.event;
+    pcpu = grown-next spent_on_pcpu act acts last.pcpu.volume mid.pcpu.volume first.pcpu.volume rest.pcpu one.pcpu;
+  }
+
+-- no act spends anything
+pub spent-none : (passes : CpuPasses) → HaveSpent (spent_by_all []) passes passes
+spent-none passes = record {
+  page = grown-none (λ k. 0) (λ k. refl) passes.page.volume passes.page.volume refl;
+  event = grown-none (λ e. 0) (λ e. refl) passes.event.volume passes.event.volume refl;
+  pcpu = grown-none (λ j. 0) (λ j. refl) passes.pcpu.volume passes.pcpu.volume refl;
+}
+
+-- a turn over the lines of a script, and its end
+module _ (items : List LaneItem) (n : ℕ) where
+  module _ (none : LaneItem) (inside : n < length items) where
+    abbrev pub here : LaneItem
+    here = get_or items n none
+
+    left : drop n items ≡ here ∷ drop (n + 1) items
+    left = drop_more items n none inside
+
+    pub turn-room : (passes : CpuPasses) → HaveRoom (spent_by_all (acts_in (drop n items))) passes
+        → HaveRoom (spent_by here.act) passes
+    turn-room passes room = rooms-first here.act (acts_in (drop (n + 1) items)) passes
+        (subst (λ (xs : List LaneItem). HaveRoom (spent_by_all (acts_in xs)) passes) left room)
+
+    pub turn-rest : (new old : CpuPasses) → HaveSpent (spent_by here.act) new old
+        → HaveRoom (spent_by_all (acts_in (drop n items))) old
+        → HaveRoom (spent_by_all (acts_in (drop (n + 1) items))) new
+    turn-rest new old spent room = rooms-rest here.act (acts_in (drop (n + 1) items)) new old spent
+        (subst (λ (xs : List LaneItem). HaveRoom (spent_by_all (acts_in xs)) old) left room)
+
+    pub turn-spent : (next now old : CpuPasses) → HaveSpent (spent_by here.act) next now
+        → ((last : CpuPasses) → HaveSpent (spent_by_all (acts_in (drop n items))) last now
+        → HaveSpent (spent_by_all (acts_in items)) last old) → (last : CpuPasses)
+        → HaveSpent (spent_by_all (acts_in (drop (n + 1) items))) last next
+        → HaveSpent (spent_by_all (acts_in items)) last old
+    turn-spent next now old spent so_far last rest = so_far last
+        (subst (λ (xs : List LaneItem). HaveSpent (spent_by_all (acts_in xs)) last now) (sym left)
+        (spent-next here.act (acts_in (drop (n + 1) items)) last next now rest spent))
+
+    module _ (header : Header) (pressure normal : ZoneSize → ℕ → ℕ → Type 0) (w : World) (lane : Lane) where
+      pub turn-lines : (next now old : TablePasses) (answer : Option Answer) (answers : List NumberedAnswer)
+          → MakeAct header pressure normal w lane here.act next now answer
+          → ((last : TablePasses) (more : List NumberedAnswer)
+          → MakeLines header pressure normal w lane (drop n items) last now more
+          → MakeLines header pressure normal w lane items last old (answers ++ more)) → (last : TablePasses)
+          (more : List NumberedAnswer) → MakeLines header pressure normal w lane (drop (n + 1) items) last next more
+          → MakeLines header pressure normal w lane items last old
+          ((answers ++ with_answer here.number answer []) ++ more)
+      turn-lines next now old answer answers makes so_far last more rest =
+          subst (MakeLines header pressure normal w lane items last old)
+          (sym (append_assoc answers (with_answer here.number answer []) more
+          ∙ ap (λ (all : List NumberedAnswer). answers ++ all) (with_answer-first here.number answer more)))
+          (so_far last (with_answer here.number answer more)
+          (subst (λ (xs : List LaneItem). MakeLines header pressure normal w lane xs last now
+          (with_answer here.number answer more)) (sym left)
+          (lines-next header pressure normal w lane here (drop (n + 1) items) last next now answer more rest makes)))
+
+  module _ (past : length items ≤ n) where
+    pub end-spent : (now old : CpuPasses)
+        → ((last : CpuPasses) → HaveSpent (spent_by_all (acts_in (drop n items))) last now
+        → HaveSpent (spent_by_all (acts_in items)) last old) → HaveSpent (spent_by_all (acts_in items)) now old
+    end-spent now old so_far = so_far now
+        (subst (λ (xs : List LaneItem). HaveSpent (spent_by_all (acts_in xs)) now now) (sym (drop_all n items past))
+        (spent-none now))
+
+    pub end-lines : (header : Header) (pressure normal : ZoneSize → ℕ → ℕ → Type 0) (w : World) (lane : Lane)
+        (now old : TablePasses) (answers : List NumberedAnswer) → AreLive now
+        → ((last : TablePasses) (more : List NumberedAnswer)
+        → MakeLines header pressure normal w lane (drop n items) last now more
+        → MakeLines header pressure normal w lane items last old (answers ++ more))
+        → MakeLines header pressure normal w lane items now old answers
+    end-lines header pressure normal w lane now old answers live so_far =
+        subst (MakeLines header pressure normal w lane items now old) (append-nil answers)
+        (so_far now [] (subst (λ (xs : List LaneItem). MakeLines header pressure normal w lane xs now now [])
+        (sym (drop_all n items past)) (lines-none header pressure normal w lane now live)))

@@ -1,0 +1,6 @@
+pub mod Spending
+pub mod Ready
+pub mod Acts
+pub mod Lines
+pub mod TableActs
+pub mod Scripts

@@ -1,0 +1,16 @@
+-- The passes of a CPU's lane between two lines.
+use Rattle.std.specs.Prelude.{Some}
+use Rattle.vms_base.specs.declared.ids.CpuId.{CpuId}
+use Rattle.vms_history.specs.Events.{own}
+use Rattle.vms_core.specs.Own.{CarriesNothing}
+use Rattle.vms_tables.specs.declared.passes.CpuPasses.{CpuPasses}
+use Rattle.vms_tables.specs.declared.tables.Tables.{Tables}
+use Rattle.vms_tables.specs.Passes.{AllOwn, AreOf, HaveVolumes, passes_of}
+
+-- passes of these tables that own CPU c, with a volume for each thing, of which the one on the page counters carries
+-- nothing. That the one on the percpu counters carries nothing and holds no lock is kept by its type.
+pub record AreReady (tables : Tables) (c : CpuId) (passes : CpuPasses) : Type 0 where
+  pub of : AreOf tables (passes_of passes)
+  pub owner : AllOwn (Some c) (passes_of passes)
+  pub volumes : HaveVolumes tables passes
+  pub nothing : CarriesNothing tables.pages.facts.layout (own passes.page.pass.seen passes.page.pass.number)
