@@ -1,14 +1,11 @@
 -- How a replay ends the phase that is open.
 use Rattle.std.proofs.Common.{◌≡◌, ◌≢◌, ℕ, suc, ◌≤◌, true, List, [], ◌∷◌, ◌++◌, map}
 use Rattle.std.proofs.Common.{Option, Some}
-use Rattle.std.proofs.Common.{None, Ok, Err, refl, sym, ap, ap₂, subst, ◌∙◌, arith, append-nil}
-use Rattle.std.specs.List.{flat_map}
+use Rattle.std.proofs.Common.{None, Ok, Err, refl, sym, ap, subst, ◌∙◌, arith, append-nil}
 use Rattle.std.specs.Prelude.{reverse}
 use Rattle.vms_base.specs.declared.failures.Memory.{Memory}
 use Rattle.vms_base.specs.declared.headers.Header.{Header}
-use Rattle.vms_answers.specs.declared.answers.NumberedAnswer.{NumberedAnswer as Told}
-use Rattle.vms_answers.specs.PhaseAnswers.{NumberedAnswer}
-use Rattle.vms_answers.specs.ToldAnswers.{numbered_told}
+use Rattle.vms_answers.specs.PhaseAnswers.{NumberedAnswer, answers_of}
 use Rattle.vms_command.specs.Limits.{most_lines}
 use Rattle.vms_command.specs.Lines.{LinesAbove}
 use Rattle.vms_file_order.specs.WorldStarts.{IsStartOf}
@@ -25,16 +22,15 @@ use Rattle.vms_text.specs.declared.acts.Line.{Line}
 use Rattle.vms_world.specs.declared.worlds.World.{World}
 use Rattle.vms_world.specs.Phases.{Histories, left_by}
 use Rattle.vms_replay.specs.declared.bodies.Replay.{Replay}
-use Rattle.vms_replay_phase.specs.declared.phases.Replayed.{Replayed}
 use Rattle.vms_replay.specs.declared.waits.Wait.{Wait}
 use Rattle.vms_replay.specs.Engines.{MakesPhase}
 use Rattle.vms_replay.specs.MadePhases.{MadePhase}
 use Rattle.vms_replay.specs.PlainReports.{HasPlainTotals}
 use Rattle.vms_replay.specs.Replaying.{Kept, MayBe, has_some}
 use Rattle.vms_replay.specs.ReplayStates.{Ended, EndsPhase, Runs, StandsBefore}
-use Rattle.vms_replay.specs.Waits.{AreOf, Ascend, MayWrite, asking_numbers, wait_text}
+use Rattle.vms_replay.specs.Waits.{AreOf, Ascend, asked_numbers, asking_numbers, wait_text, written}
 use Rattle.vms_replay.proofs.AskedAnswers.{AreOf-answers}
-use Rattle.vms_replay.proofs.WrittenWaits.{Ascend-asking, Ascend-increasing}
+use Rattle.vms_replay.proofs.WrittenWaits.{Ascend-asking, Ascend-increasing, written-is}
 
 some-list : {X : Type 0} (xs : List X) → xs ≢ [] → has_some xs ≡ true
 some-list [] others = absurd (others refl)
@@ -78,8 +74,8 @@ module _ (header : Header) (n : ℕ) (above : LinesAbove) (kept : Kept) (texts :
 
   -- histories that an engine made of the lines
   module _ (Makes : Header → World → List Item → Histories → Type 0) (w : World) (is : held ≡ Some w)
-      (made made' : Option (List MadePhase)) (replayed : Replayed)
-      (makes : MakesPhase Makes header w items made made' replayed) where
+      (made made' : Option (List MadePhase)) (Told : List NumberedAnswer → Type 0) (left : World)
+      (makes : MakesPhase Makes header w items made made' Told left) where
     abbrev given : MadePhase
     given = record { world = w; items = items; histories = makes.histories }
 
@@ -94,15 +90,16 @@ module _ (header : Header) (n : ℕ) (above : LinesAbove) (kept : Kept) (texts :
           (subst (λ (xs : List Item). Makes header w xs makes.histories) runs.keeps makes.makes);
     }
 
+    abbrev told : List NumberedAnswer
+    told = answers_of header w items makes.histories
+
     -- the lines that wait find their answers
-    pub MayWrite-held : MayWrite waiting (map numbered_told replayed.answers.items)
-    MayWrite-held = record {
-      ascend = subst Ascend (sym runs.asks) (Ascend-asking kept.items (Ascend-increasing _ runs.fits.ascend));
-      of = subst (AreOf (map numbered_told replayed.answers.items))
-          (sym (runs.asks ∙ ap asking_numbers (sym runs.keeps)))
-          (subst (λ (answers : List NumberedAnswer). AreOf answers (asking_numbers items)) (sym makes.answers)
-          (AreOf-answers header w items makes.histories));
-    }
+    ascend-held : Ascend (asked_numbers waiting)
+    ascend-held = subst Ascend (sym runs.asks) (Ascend-asking kept.items (Ascend-increasing _ runs.fits.ascend))
+
+    of-held : AreOf told (asked_numbers waiting)
+    of-held = subst (AreOf told) (sym (runs.asks ∙ ap asking_numbers (sym runs.keeps)))
+        (AreOf-answers header w items makes.histories)
 
     pub Ended-made : items ≢ []
         → ((start : Start) → IsStartOf header start w → Fits header start items
@@ -110,8 +107,7 @@ module _ (header : Header) (n : ℕ) (above : LinesAbove) (kept : Kept) (texts :
         → ((start : Start) → IsStartOf header start w → Fits header start items → (before : List MadePhase)
         → HasPlainTotals header before w → HasPlainTotals header (given ∷ before) (left_by header w makes.histories))
         → (held' : Option World) (items' : List Item) (waiting' : List Wait) (out out' : List ℕ)
-        → held' ≡ Some replayed.world → items' ≡ [] → waiting' ≡ []
-        → out' ≡ out ++ flat_map (wait_text header (map numbered_told replayed.answers.items)) waiting
+        → held' ≡ Some left → items' ≡ [] → waiting' ≡ [] → out' ≡ out ++ written header waiting told
         → Ended header above kept texts (Some given) held' items' waiting' out out'
     Ended-made some leads adds held' items' waiting' out out' in_world no_items no_waits printed =
         let start : Start = start_after first_start kept.above in
@@ -120,8 +116,7 @@ module _ (header : Header) (n : ℕ) (above : LinesAbove) (kept : Kept) (texts :
         record {
           ended = some-list kept.items (λ none. some (runs.keeps ∙ none));
           prints = printed ∙ ap (λ (more : List ℕ). out ++ more)
-              (ap (λ (answers : List NumberedAnswer). flat_map (wait_text header answers) waiting) makes.answers
-              ∙ sym (runs.tells.same_text given));
+              (written-is header waiting told ascend-held of-held ∙ sym (runs.tells.same_text given));
           in_world = in_world ∙ ap Some makes.world;
           no_items = no_items;
           no_waits = no_waits;
@@ -161,8 +156,8 @@ module _ {E : Type 0} (Makes : Header → World → List Item → Histories → 
         (Ended-none header n above kept texts replay.world replay.items.items replay.waits.items holds.runs none out));
   }
 
-  module _ (w : World) (is : replay.world ≡ Some w) (replayed : Replayed)
-      (makes : MakesPhase Makes header w replay.items.items made made' replayed) (some : replay.items.items ≢ []) where
+  module _ (w : World) (is : replay.world ≡ Some w) (Told : List NumberedAnswer → Type 0) (left : World)
+      (makes : MakesPhase Makes header w replay.items.items made made' Told left) (some : replay.items.items ≢ []) where
     abbrev outcome : MadePhase
     outcome = record { world = w; items = replay.items.items; histories = makes.histories }
 
@@ -172,8 +167,7 @@ module _ {E : Type 0} (Makes : Header → World → List Item → Histories → 
     gives n above kept texts holds = (
       some-list kept.items (λ none. some (holds.runs.keeps ∙ none)),
       MayBe-made header n above kept texts replay.world replay.items.items replay.waits.items holds.runs Makes w is made
-          made'
-          replayed makes,
+          made' Told left makes,
     )
 
     -- the phase was made, and its texts couldn't be written
@@ -194,43 +188,24 @@ module _ {E : Type 0} (Makes : Header → World → List Item → Histories → 
         → Fits header start replay.items.items → (before : List MadePhase) → HasPlainTotals header before w
         → HasPlainTotals header (record { world = w; items = replay.items.items; histories = hs } ∷ before)
         (left_by header w hs))
-        → replay'.world ≡ Some replayed.world → replay'.items.items ≡ [] → replay'.waits.items ≡ []
-        → out' ≡ out ++ flat_map (wait_text header (map numbered_told replayed.answers.items)) replay.waits.items
+        → replay'.world ≡ Some left → replay'.items.items ≡ [] → replay'.waits.items ≡ []
+        → ((told : List NumberedAnswer) → Told told → out' ≡ out ++ written header replay.waits.items told)
         → EndsPhase Makes header replay replay' made made' (Ok tt) out out'
-    EndsPhase-made leads adds in_world no_items no_waits printed = record {
+    EndsPhase-made leads adds in_world no_items no_waits prints = record {
       given = Some outcome;
       grows = makes.grows;
       may_give = gives;
       goes = λ n above kept texts holds.
           Ended-made header n above kept texts replay.world replay.items.items replay.waits.items holds.runs Makes w is
-          made made' replayed makes some (leads makes.histories makes.makes) (adds makes.histories makes.makes)
-          replay'.world replay'.items.items replay'.waits.items out out' in_world no_items no_waits printed;
+          made made' Told left makes some (leads makes.histories makes.makes) (adds makes.histories makes.makes)
+          replay'.world replay'.items.items replay'.waits.items out out' in_world no_items no_waits
+          (prints (answers_of header w replay.items.items makes.histories) makes.answers);
     }
-
--- what was printed of the same lines and answers
-pub printed-same : (header : Header) (out out' : List ℕ) (answers answers' : List Told) (waiting waiting' : List Wait)
-    → answers ≡ answers' → waiting ≡ waiting'
-    → out' ≡ out ++ flat_map (wait_text header (map numbered_told answers)) waiting
-    → out' ≡ out ++ flat_map (wait_text header (map numbered_told answers')) waiting'
-printed-same header out out' answers answers' waiting waiting' same_answers same_waiting printed =
-    printed
-    ∙ ap₂ (λ (told : List Told) (ws : List Wait). out ++ flat_map (wait_text header (map numbered_told told)) ws)
-    same_answers same_waiting
-
--- lines that wait find their answers, whatever lines a replay stands after
-pub MayWrite-some : {E : Type 0} (Makes : Header → World → List Item → Histories → Type 0) (header : Header)
-    (replay : Replay E) (made made' : Option (List MadePhase)) (w : World) (replayed : Replayed)
-    → (n : ℕ) × (n ≤ suc most_lines) × (above : LinesAbove) × (kept : Kept) × (texts : List (Text MadePhase))
-    × StandsBefore replay header n above kept texts
-    → replay.world ≡ Some w → MakesPhase Makes header w replay.items.items made made' replayed
-    → MayWrite replay.waits.items (map numbered_told replayed.answers.items)
-MayWrite-some Makes header replay made made' w replayed (n, most, above, kept, texts, holds) is makes =
-    MayWrite-held header n above kept texts replay.world replay.items.items replay.waits.items holds.runs Makes w is
-    made made' replayed makes
 
 -- what an engine makes of a script is what it makes of the lines
 pub MakesPhase-of : (Makes : Header → World → List Item → Histories → Type 0) (header : Header) (w : World)
-    (script items : List Item) (made made' : Option (List MadePhase)) (replayed : Replayed) → script ≡ items
-    → MakesPhase Makes header w script made made' replayed → MakesPhase Makes header w items made made' replayed
-MakesPhase-of Makes header w script items made made' replayed same makes =
-    subst (λ (xs : List Item). MakesPhase Makes header w xs made made' replayed) same makes
+    (script items : List Item) (made made' : Option (List MadePhase)) (Told : List NumberedAnswer → Type 0)
+    (left : World) → script ≡ items → MakesPhase Makes header w script made made' Told left
+    → MakesPhase Makes header w items made made' Told left
+MakesPhase-of Makes header w script items made made' Told left same makes =
+    subst (λ (xs : List Item). MakesPhase Makes header w xs made made' Told left) same makes

@@ -8,6 +8,7 @@ mod LedTexts
 mod LineStands
 mod PassedBoundaries
 mod PlainTotals
+mod PrintedWaits
 mod ReplayAnswers
 mod TextWaits
 mod WrittenWaits

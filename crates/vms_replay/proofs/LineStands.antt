@@ -40,7 +40,7 @@ use Rattle.vms_replay.proofs.TextWaits.{printed_now-nothing, printed_now-some}
 asked-push : (waiting more : List Wait) → asked_numbers (waiting ++ more) ≡ asked_numbers waiting ++ asked_numbers more
 asked-push [] more = refl
 asked-push (waits.Answer n ∷ waiting) more = ap (λ (ns : List ℕ). n ∷ ns) (asked-push waiting more)
-asked-push (waits.Refused n cause ∷ waiting) more = asked-push waiting more
+asked-push (waits.Refused cause n ∷ waiting) more = asked-push waiting more
 
 asking-push : (items more : List Item) → asking_numbers (items ++ more) ≡ asking_numbers items ++ asking_numbers more
 asking-push [] more = refl
@@ -145,13 +145,13 @@ module _ (header : Header) (n : ℕ) (above : LinesAbove) (kept : Kept) (texts :
 
     -- and one that waits
     pub Runs-refused_later : has_some waiting ≡ true → Runs header (suc n) (with_judged (Err cause) above) kept
-        (waits_with texts (Plain (refused_line n cause))) held items (waiting ++ waits.Refused n cause ∷ [])
+        (waits_with texts (Plain (refused_line n cause))) held items (waiting ++ waits.Refused cause n ∷ [])
     Runs-refused_later some =
         Runs-later (with_judged (Err cause) above) (waits_with texts (Plain (refused_line n cause)))
-        (waiting ++ waits.Refused n cause ∷ []) refl
-        (TellsWaits-some header waiting texts (waits.Refused n cause) (Plain (refused_line n cause)) runs.tells some
+        (waiting ++ waits.Refused cause n ∷ []) refl
+        (TellsWaits-some header waiting texts (waits.Refused cause n) (Plain (refused_line n cause)) runs.tells some
         (λ made. refl))
-        (asked-push waiting (waits.Refused n cause ∷ []) ∙ append-nil (asked_numbers waiting))
+        (asked-push waiting (waits.Refused cause n ∷ []) ∙ append-nil (asked_numbers waiting))
         (λ none. let no = ap has_some (runs.only_open none) ∙ refl in
         let both : true ≡ false = sym some ∙ no in absurd cc)
 
@@ -286,7 +286,7 @@ module _ {E : Type 0} (Makes : Header → World → List Item → Histories → 
           }
 
       pub goes-refused_later : replay'.world ≡ replay.world → replay'.items.items ≡ replay.items.items
-          → replay'.waits.items ≡ replay.waits.items ++ waits.Refused n cause ∷ []
+          → replay'.waits.items ≡ replay.waits.items ++ waits.Refused cause n ∷ []
           → replay.waits.items ≢ [] → (out : List ℕ) → GoesOn (Err cause) above kept texts out out
       goes-refused_later same_world same_items grown others out =
           let some = some-wait replay.waits.items others in
@@ -296,7 +296,7 @@ module _ {E : Type 0} (Makes : Header → World → List Item → Histories → 
               runs = Runs-same header (suc n) (with_judged (Err cause) above) kept
                   (waits_with texts refused) (waits_with texts refused)
                   replay.world replay'.world replay.items.items replay'.items.items
-                  (replay.waits.items ++ waits.Refused n cause ∷ []) replay'.waits.items refl same_world same_items
+                  (replay.waits.items ++ waits.Refused cause n ∷ []) replay'.waits.items refl same_world same_items
                   grown (Runs-refused_later header n above kept texts replay.world replay.items.items replay.waits.items
                   stands.runs cause some);
             };

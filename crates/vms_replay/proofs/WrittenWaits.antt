@@ -1,24 +1,19 @@
 -- What lines print that wait: each that answers finds its answer next, since numbers ascend.
-use Rattle.std.proofs.Common.{◌≡◌, ◌≢◌, ℕ, ◌+◌, suc, ◌<◌, nat_eq, Bool, true, false, List, [], ◌∷◌, ◌++◌, map, refl}
+use Rattle.std.proofs.Common.{◌≡◌, ℕ, ◌+◌, suc, ◌<◌, nat_eq, Bool, true, false, List, [], ◌∷◌, ◌++◌, map, refl}
 use Rattle.std.proofs.Common.{sym, ap}
-use Rattle.std.proofs.Common.{subst, ◌∙◌, arith, add-one, if◌then◌else◌, inl, inr, length, get_or}
-use Rattle.std.proofs.Common.{drop, ◌≤◌}
+use Rattle.std.proofs.Common.{subst, ◌∙◌, arith, add-one, if◌then◌else◌, inl, inr, get_or}
 use Rattle.std.proofs.lemmas.Bool.Decides.{nat_tests}
-use Rattle.std.proofs.Common.{append_assoc}
-use Rattle.std.proofs.lemmas.List.{drop_all, drop_more, get_or-map, length-map}
 use Rattle.std.specs.List.{flat_map}
 use Rattle.std.specs.List.Sorted.{IsStrictlyIncreasing}
 use Rattle.vms_base.specs.declared.headers.Header.{Header}
 use Rattle.vms_answers.specs.AnswerLines.{answer_line}
-use Rattle.vms_answers.specs.declared.answers.NumberedAnswer as code
 use Rattle.vms_answers.specs.PhaseAnswers.{NumberedAnswer}
-use Rattle.vms_answers.specs.ToldAnswers.{answer_told, numbered_told}
 use Rattle.vms_command.specs.Printing.{refused_line}
 use Rattle.vms_text.specs.declared.acts.Item.{Item}
 use Rattle.vms_replay.specs.declared.waits.Wait.{Wait}
 use Rattle.vms_replay.specs.declared.waits.Wait.TheVariants as waits
 use Rattle.vms_replay.specs.Replaying.{answer_text, is_asking}
-use Rattle.vms_replay.specs.Waits.{AreOf, Ascend, IsBelow, asked_numbers, asking_numbers, taken, wait_text, written}
+use Rattle.vms_replay.specs.Waits.{AreOf, Ascend, IsBelow, asked_numbers, asking_numbers, wait_text, written}
 
 -- numbers that rise, each after the one before it
 IsStrictlyIncreasing-rest : (x : ℕ) (xs : List ℕ) → IsStrictlyIncreasing (x ∷ xs) → IsStrictlyIncreasing xs
@@ -99,7 +94,7 @@ module _ (header : Header) where
       → IsBelow first.number (asked_numbers waiting)
       → flat_map (wait_text header answers) waiting ≡ flat_map (wait_text header (first ∷ answers)) waiting
   texts-later first answers [] below = refl
-  texts-later first answers (waits.Refused n cause ∷ waiting) below =
+  texts-later first answers (waits.Refused cause n ∷ waiting) below =
       ap (λ (rest : List ℕ). refused_line n cause ++ rest) (texts-later first answers waiting below)
   texts-later first answers (waits.Answer n ∷ waiting) below =
       let past = below.0 in
@@ -112,7 +107,7 @@ module _ (header : Header) where
       → AreOf answers (asked_numbers waiting)
       → written header waiting answers ≡ flat_map (wait_text header answers) waiting
   written-is [] answers ascend of = refl
-  written-is (waits.Refused n cause ∷ waiting) answers ascend of =
+  written-is (waits.Refused cause n ∷ waiting) answers ascend of =
       ap (λ (rest : List ℕ). refused_line n cause ++ rest) (written-is waiting answers ascend of)
   written-is (waits.Answer n ∷ waiting) [] ascend of = written-is waiting [] ascend.1 tt
   written-is (waits.Answer n ∷ waiting) (next ∷ answers) ascend (inl (same, of)) =
@@ -135,69 +130,3 @@ module _ (header : Header) where
       ∙ written-is waiting (next ∷ answers) ascend.1 of
       ∙ sym (ap (λ (front : List ℕ). front ++ flat_map (wait_text header (next ∷ answers)) waiting)
       (none-beyond n (next ∷ answers) beyond))
-
--- the next answer is of the line, is of another one, or there is none
-module _ (header : Header) (told : List NumberedAnswer) (next n : ℕ) (later : List NumberedAnswer → List ℕ) where
-  pub taken-here : (d : NumberedAnswer) → next < length told → (get_or told next d).number ≡ n
-      → taken header n (drop next told) later
-      ≡ answer_line header n (get_or told next d).answer ++ later (drop (next + 1) told)
-  taken-here d within same =
-      let mine : nat_eq (get_or told next d).number n ≡ true = grind (arith, nat_tests) in
-      ap (λ (xs : List NumberedAnswer). taken header n xs later) (drop_more told next d within)
-      ∙ ap (λ (b : Bool). if b then answer_line header n (get_or told next d).answer ++ later (drop (next + 1) told)
-      else later (get_or told next d ∷ drop (next + 1) told)) mine
-
-  pub taken-other : (d : NumberedAnswer) → next < length told → (get_or told next d).number ≢ n
-      → taken header n (drop next told) later ≡ later (drop next told)
-  taken-other d within apart =
-      let other : nat_eq (get_or told next d).number n ≡ false = grind (arith, nat_tests) in
-      ap (λ (xs : List NumberedAnswer). taken header n xs later) (drop_more told next d within)
-      ∙ ap (λ (b : Bool). if b then answer_line header n (get_or told next d).answer ++ later (drop (next + 1) told)
-      else later (get_or told next d ∷ drop (next + 1) told)) other
-      ∙ ap later (sym (drop_more told next d within))
-
-  pub taken-none : length told ≤ next → taken header n (drop next told) later ≡ later (drop next told)
-  taken-none past =
-      let none = drop_all next told past in
-      ap (λ (xs : List NumberedAnswer). taken header n xs later) none ∙ ap later (sym none)
-
--- the same of answers as the code has them
-module _ (header : Header) (answers : List code.NumberedAnswer) (next n : ℕ) (e : code.NumberedAnswer)
-    (within : next < length answers) where
-  abbrev told : List NumberedAnswer
-  told = map numbered_told answers
-
-  inside : next < length told
-  inside = subst (λ (k : ℕ). next < k) (sym (length-map answers numbered_told)) within
-
-  told-at : get_or told next (numbered_told e) ≡ numbered_told (get_or answers next e)
-  told-at = get_or-map numbered_told answers next e (numbered_told e) within
-
-  pub written-here : (get_or answers next e).number ≡ n → (out out' : List ℕ)
-      → out' ≡ out ++ answer_line header n (answer_told (get_or answers next e).answer) → (rest : List Wait)
-      → out' ++ written header rest (drop (next + 1) told)
-      ≡ out ++ taken header n (drop next told) (λ (left : List NumberedAnswer). written header rest left)
-  written-here same out out' printed rest =
-      let later : List ℕ = written header rest (drop (next + 1) told) in
-      ap (λ (front : List ℕ). front ++ later) printed
-      ∙ append_assoc out (answer_line header n (answer_told (get_or answers next e).answer)) later
-      ∙ ap (λ (more : List ℕ). out ++ more)
-      (ap (λ (a : NumberedAnswer). answer_line header n a.answer ++ later) (sym told-at)
-      ∙ sym (taken-here header told next n (written header rest) (numbered_told e) inside
-      (ap (λ (a : NumberedAnswer). a.number) told-at ∙ same)))
-
-  pub written-other : (get_or answers next e).number ≢ n → (out : List ℕ) (rest : List Wait)
-      → out ++ written header rest (drop next told)
-      ≡ out ++ taken header n (drop next told) (λ (left : List NumberedAnswer). written header rest left)
-  written-other apart out rest = ap (λ (more : List ℕ). out ++ more)
-      (sym (taken-other header told next n (written header rest) (numbered_told e) inside
-      (λ same. apart (ap (λ (a : NumberedAnswer). a.number) (sym told-at) ∙ same))))
-
-pub written-none : (header : Header) (answers : List code.NumberedAnswer) (next n : ℕ) → length answers ≤ next
-    → (out : List ℕ) (rest : List Wait)
-    → out ++ written header rest (drop next (map numbered_told answers))
-    ≡ out ++ taken header n (drop next (map numbered_told answers))
-    (λ (left : List NumberedAnswer). written header rest left)
-written-none header answers next n past out rest = ap (λ (more : List ℕ). out ++ more)
-    (sym (taken-none header (map numbered_told answers) next n (written header rest)
-    (subst (λ (k : ℕ). k ≤ next) (sym (length-map answers numbered_told)) past)))

@@ -3,6 +3,7 @@ pub mod MadePhases
 pub mod PlainReports
 pub mod Replaying
 pub mod Waits
+pub mod Printing
 pub mod Engines
 pub mod ReplayStates
 pub mod ReplayedTexts

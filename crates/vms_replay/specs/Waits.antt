@@ -14,13 +14,13 @@ use Rattle.vms_replay.specs.Replaying.{answer_text, has_some, is_asking}
 -- what a line that waits prints, by the answers of its phase
 abbrev pub wait_text : Header → List NumberedAnswer → Wait → List ℕ
 wait_text header answers (waits.Answer n) = answer_text header n answers
-wait_text header answers (waits.Refused n cause) = refused_line n cause
+wait_text header answers (waits.Refused cause n) = refused_line n cause
 
 -- the numbers of the lines among them that answer
 abbrev pub asked_numbers : List Wait → List ℕ
 asked_numbers [] = []
 asked_numbers (waits.Answer n ∷ rest) = n ∷ asked_numbers rest
-asked_numbers (waits.Refused n cause ∷ rest) = asked_numbers rest
+asked_numbers (waits.Refused cause n ∷ rest) = asked_numbers rest
 
 -- the numbers of the lines of a phase that answer
 abbrev pub asking_numbers : List Item → List ℕ
@@ -44,7 +44,7 @@ taken header n (next ∷ rest) later =
 abbrev pub written : Header → List Wait → List NumberedAnswer → List ℕ
 written header [] answers = []
 written header (waits.Answer n ∷ waiting) answers = taken header n answers (written header waiting)
-written header (waits.Refused n cause ∷ waiting) answers = refused_line n cause ++ written header waiting answers
+written header (waits.Refused cause n ∷ waiting) answers = refused_line n cause ++ written header waiting answers
 
 -- a number below all of these
 abbrev pub IsBelow : ℕ → List ℕ → Type 0
@@ -55,11 +55,6 @@ IsBelow n (m ∷ ms) = (n < m) × IsBelow n ms
 abbrev pub Ascend : List ℕ → Type 0
 Ascend [] = Unit {0}
 Ascend (n ∷ ns) = IsBelow n ns × Ascend ns
-
--- lines that wait, each after those before it, and the answers of their phase
-pub record MayWrite (waiting : List Wait) (answers : List NumberedAnswer) : Type 0 where
-  pub ascend : Ascend (asked_numbers waiting)
-  pub of : AreOf answers (asked_numbers waiting)
 
 -- lines that wait are those whose texts wait, but for the lines that print nothing
 pub record TellsWaits (header : Header) (waiting : List Wait) (texts : List (Text MadePhase)) : Type 0 where

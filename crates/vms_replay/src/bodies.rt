@@ -1,8 +1,7 @@
 use crate::asking::ask;
 use crate::boundaries::{crossed, write_boundary_report};
 use crate::rules::first_world;
-use crate::waits::{Wait, write_waits};
-use crate::{Engine, KernelRules};
+use crate::{Engine, KernelRules, Wait, WaitPrinter};
 use std::alloc::Global;
 use std::marker::PhantomData;
 use std::mem::replace;
@@ -103,7 +102,7 @@ impl<E: Engine> Replay<E> {
         if self.waits.is_empty() {
             return write_refused_line(out, number, cause);
         }
-        self.waits.push(Wait::Refused(number, cause))?;
+        self.waits.push(Wait::Refused(cause, number))?;
         Ok(())
     }
 
@@ -164,19 +163,20 @@ impl<E: Engine> Replay<E> {
             return Ok(());
         };
         let script = PhaseScript::make(replace(&mut self.items, Vec::new(self.alloc)));
+        let mut printer = WaitPrinter {
+            out: replace(out, Vec::new(self.alloc)),
+            waits: replace(&mut self.waits, Vec::new(self.alloc)),
+            next: 0,
+        };
         E::makes_lines();
         fitting_phases_are_phases::<KernelRules>();
         phases_add_their_lines::<KernelRules>();
-        let replayed = engine.run_phase(self.alloc, world, header, &script)?;
+        let left = engine.run_phase(self.alloc, world, header, &script, &mut printer)?;
         self.items = emptied(self.alloc, script.into_items());
-        write_waits(
-            out,
-            header,
-            self.waits.as_slice(),
-            replayed.answers.as_slice(),
-        )?;
-        self.waits.clear();
-        self.world = Some(replayed.world);
+        let (text, waits) = printer.end()?;
+        *out = text;
+        self.waits = waits;
+        self.world = Some(left);
         Ok(())
     }
 

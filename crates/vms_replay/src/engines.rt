@@ -1,4 +1,4 @@
-ghost use Rattle.std.specs.Prelude.{◌≡◌, List, Option, None, MatchResult};
+ghost use Rattle.std.specs.Prelude.{◌≡◌, List, [], Option, None, MatchResult};
 ghost use Rattle.vms_base.specs.declared.headers.Header.{Header};
 ghost use Rattle.vms_base.specs.Headers.{IsHeader};
 ghost use Rattle.vms_file_order.specs.MadePhases.{MakePhase};
@@ -11,11 +11,12 @@ ghost use Rattle.vms_world.specs.Phases.{Histories};
 ghost use Rattle.vms_replay.specs.Engines.{MakesPhase};
 ghost use Rattle.vms_replay.specs.KernelRules.{normal_rule, pressure_rule};
 ghost use Rattle.vms_replay.specs.MadePhases.{MadePhase};
+ghost use Rattle.vms_replay.specs.Printing.{Prints};
 
+use crate::WaitPrinter;
 use std::alloc::Global;
 use vms_base::{Header, Memory};
 use vms_calls::ThresholdRules;
-use vms_replay_phase::Replayed;
 use vms_script::PhaseScript;
 use vms_world::World;
 
@@ -32,18 +33,21 @@ pub trait Engine {
         ensures { (header : Header) (w : World) (items : List Item) (hs : Histories) → Makes header w items hs →
             MakePhase header pressure_rule normal_rule w items hs };
 
-    /// Makes the lines of a phase from a world.
+    /// Makes the lines of a phase from a world, and hands what they answer, in their order, to what prints it. Returns
+    /// the world that the phase leaves.
     fn run_phase(
         &mut self,
         alloc: Global,
         world: World,
         header: &Header,
         script: &PhaseScript,
-    ) -> Result<Replayed, Memory>
+        printer: &mut WaitPrinter,
+    ) -> Result<World, Memory>
         requires header { IsHeader header.now }
         requires start { (start : Start) × IsStartOf header.now start world × Fits header.now start script.now }
         ensures { MatchResult result
-            (MakesPhase Makes header.now world script.now (made self.old) (made self.new))
+            (MakesPhase Makes header.now world script.now (made self.old) (made self.new)
+            (λ told. Prints header.now printer.old told printer.new))
             (λ _. made self.new ≡ made self.old) };
 }
 

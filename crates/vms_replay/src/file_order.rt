@@ -1,5 +1,4 @@
-ghost use Rattle.std.specs.Prelude.{map, IfOk};
-ghost use Rattle.vms_answers.specs.ToldAnswers.{numbered_told};
+ghost use Rattle.std.specs.Prelude.{IfOk};
 ghost use Rattle.vms_base.specs.Headers.{IsHeader};
 ghost use Rattle.vms_base.specs.Thresholds.{normal_threshold_of, pressure_threshold_of};
 ghost use Rattle.vms_calc.specs.Rules.{IsThresholdRule};
@@ -8,13 +7,14 @@ ghost use Rattle.vms_replay_phase.specs.ReplayedPhases.{IsReplayed};
 ghost use Rattle.vms_script.specs.FittingScripts.{Fits};
 ghost use Rattle.vms_script.specs.Starts.{Start};
 ghost use Rattle.vms_replay.specs.KernelRules.{GoesBy, normal_rule, pressure_rule};
+ghost use Rattle.vms_replay.specs.Printing.{Prints};
 
-use crate::{Engine, KernelRules};
+use crate::{Engine, KernelRules, WaitPrinter};
 use std::alloc::Global;
 use vms_base::{Header, Memory, ZoneSize};
 use vms_calc::{Rule, Rules, normal_threshold, pressure_threshold};
 use vms_file_order::file_order_makes_phases;
-use vms_replay_phase::{Replayed, replay_phase};
+use vms_replay_phase::replay_phase;
 use vms_script::PhaseScript;
 use vms_world::World;
 
@@ -40,7 +40,8 @@ impl Engine for FileOrder {
         world: World,
         header: &Header,
         script: &PhaseScript,
-    ) -> Result<Replayed, Memory> {
+        printer: &mut WaitPrinter,
+    ) -> Result<World, Memory> {
         replay_by(
             alloc,
             world,
@@ -48,6 +49,7 @@ impl Engine for FileOrder {
             script,
             |size: &ZoneSize, online: u32| normal_threshold(size, online),
             |size: &ZoneSize, online: u32| pressure_threshold(size, online),
+            printer,
         )
     }
 }
@@ -60,15 +62,17 @@ fn replay_by<N: Rule, P: Rule>(
     script: &PhaseScript,
     normal: N,
     pressure: P,
-) -> Result<Replayed, Memory>
+    printer: &mut WaitPrinter,
+) -> Result<World, Memory>
     requires header { IsHeader header.now }
     requires start { (start : Start) × IsStartOf header.now start world × Fits header.now start script.now }
     requires normal { IsThresholdRule (N.accepts normal) (N.answers normal) }
     requires pressure { IsThresholdRule (P.accepts pressure) (P.answers pressure) }
     requires exact_normal { GoesBy normal_threshold_of (N.answers normal) }
     requires exact_pressure { GoesBy pressure_threshold_of (P.answers pressure) }
-    ensures { IfOk result (λ replayed. IsReplayed header.now pressure_rule normal_rule world script.now replayed.world
-        (map numbered_told replayed.answers.items)) }
+    ensures { IfOk result (λ left. IsReplayed header.now pressure_rule normal_rule world script.now left
+        (λ told. Prints header.now printer.old told printer.new)) }
 {
-    replay_phase(alloc, world, header, script, &Rules::make(normal, pressure))
+    let rules = Rules::make(normal, pressure);
+    replay_phase(alloc, world, header, script, &rules, printer)
 }

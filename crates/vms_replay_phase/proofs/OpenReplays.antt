@@ -1,6 +1,6 @@
 -- A replay has replayed its lines, from its opening over each line to its closing.
 use Rattle.std.proofs.Common.{◌≡◌, ℕ, ◌+◌, ◌<◌, ◌≤◌, ◌||◌, Bool, true}
-use Rattle.std.proofs.Common.{false, List, [], ◌∷◌, ◌++◌, length, map, refl, sym}
+use Rattle.std.proofs.Common.{false, List, [], ◌∷◌, ◌++◌, length, map, refl, sym, Option}
 use Rattle.std.proofs.Common.{ap, subst, ◌∙◌, arith, ⊎_elim, drop, get_or, length-take, take}
 use Rattle.std.specs.Prelude.{All}
 use Rattle.std.proofs.lemmas.List.{drop_more, map-append, take-append-drop, take_more}
@@ -12,8 +12,9 @@ use Rattle.vms_core.specs.declared.states.State.{State}
 use Rattle.vms_core.specs.Bases.{settled}
 use Rattle.vms_event_core.specs.declared.states.EventState.{EventState}
 use Rattle.vms_pcpu_core.specs.declared.states.PcpuState.{PcpuState}
-use Rattle.vms_answers.specs.OpenAnswers.{Answered, steps_of_line}
-use Rattle.vms_answers.specs.PhaseAnswers.{NumberedAnswer}
+use Rattle.vms_answers.specs.Answers.{Answer}
+use Rattle.vms_answers.specs.OpenAnswers.{steps_of_line}
+use Rattle.vms_answers.specs.PhaseAnswers.{NumberedAnswer, with_answer}
 use Rattle.vms_answers.proofs.OpenAnswers.{Answered-line, Answered-none, answers_of-closing}
 use Rattle.vms_file_order.specs.FittingLines.{MayFollow}
 use Rattle.vms_file_order.specs.LanePasses.{StandOnce}
@@ -108,7 +109,7 @@ module _ (pressure normal : ZoneSize → ℕ → ℕ → Type 0) (header : Heade
   module _ (lanes : List Lane) where
     pub HasReplayed-opening : IsWorldOf header w → StandOnce lanes
         → All (λ lane. MayOwnCpu header.layout w.pages.cpu (owner_of lane)) lanes → (now : ReplayState)
-        → BeginsReplay header w now → HasReplayed header pressure normal w lanes [] now
+        → BeginsReplay header w now → HasReplayed header pressure normal w lanes [] [] now
     HasReplayed-opening of once may now begins = record {
       histories = openings_of lanes;
       stands = subst (Stands header pressure normal w lanes [] (openings_of lanes)) (sym begins.tables)
@@ -117,28 +118,28 @@ module _ (pressure normal : ZoneSize → ℕ → ℕ → Type 0) (header : Heade
           (SetByLines-opening header.layout w.pages of.page_base.opening);
       volumes = subst (CountVolumes header w (openings_of lanes)) (sym begins.volumes)
           (CountVolumes-opening header w lanes of);
-      answered = subst (Answered header w lanes [] (openings_of lanes)) (sym begins.answers)
-          (Answered-none header w lanes);
+      answered = Answered-none header w lanes;
     }
 
     -- the laws: lines spend what they say, and leave room for the next
     module _ (spend : (items : List Item) (hs : Histories) (now : TableStates) → StandOnce lanes
         → IsOpenPhase header pressure normal w lanes items hs now → SpendTheirLines header items hs) where
-      pub HasReplayed-line : (items : List Item) (now : ReplayState)
-          → HasReplayed header pressure normal w lanes items now → (item : Item) → is_among item.lane lanes ≡ true
-          → IsLineOf header (line_of item)
-          → MayFollow now.tables.pages (map line_of items) item.lane item.act → (next : ReplayState)
-          → TakesLine header pressure normal item now next
-          → HasReplayed header pressure normal w lanes (items ++ item ∷ []) next
-      HasReplayed-line items now come item among known may next takes =
+      pub HasReplayed-line : (items : List Item) (before : List NumberedAnswer) (now : ReplayState)
+          → HasReplayed header pressure normal w lanes items before now → (item : Item)
+          → is_among item.lane lanes ≡ true → IsLineOf header (line_of item)
+          → MayFollow now.tables.pages (map line_of items) item.lane item.act → (answer : Option Answer)
+          (next : ReplayState) → TakesLine header pressure normal item answer now next
+          → HasReplayed header pressure normal w lanes (items ++ item ∷ [])
+          (before ++ with_answer item.number answer []) next
+      HasReplayed-line items before now come item among known may answer next takes =
           let hs = come.histories in
-          let told : GoesOnTelling header pressure normal w lanes item hs next.tables takes.answer =
+          let told : GoesOnTelling header pressure normal w lanes item hs next.tables answer =
           takes.makes.goes_on item refl refl w lanes items hs come.stands among may in
           let later = with_line header pressure normal w lanes item hs (in_tables next.tables) told.line in
           let stands : Stands header pressure normal w lanes (items ++ item ∷ []) later next.tables =
           Stands-line pressure normal header w lanes items hs now.tables come.stands item among next.tables
-          takes.answer told in
-          let before = spend items hs (in_tables now.tables) come.stands.once come.stands.opened in
+          answer told in
+          let first = spend items hs (in_tables now.tables) come.stands.once come.stands.opened in
           let after = spend (items ++ item ∷ []) later (in_tables next.tables) stands.once stands.opened in
           record {
             histories = later;
@@ -148,28 +149,27 @@ module _ (pressure normal : ZoneSize → ℕ → ℕ → Type 0) (header : Heade
                 (λ sets. SetByLines-call header.layout items item 2 (omega arith) now.tables.pages next.tables.pages
                 sets come.sets) takes.makes.sets;
             volumes = subst (CountVolumes header w later) (sym takes.volumes)
-                (CountVolumes-line header w hs later now.volumes come.volumes (adds takes.answer) item.lane item.act
+                (CountVolumes-line header w hs later now.volumes come.volumes (adds answer) item.lane item.act
                 known (record {
                   pages = λ c k c_in k_in. omega (
                     arith,
-                    before.pages c k c_in,
+                    first.pages c k c_in,
                     after.pages c k c_in,
                     volume-line (spent_on_counter k) c items item,
                   );
                   events = λ c k c_in k_in. omega (
                     arith,
-                    before.events c k c_in,
+                    first.events c k c_in,
                     after.events c k c_in,
                     volume-line (spent_on_event k) c items item,
                   );
                   counters = λ c j c_in j_in. spent-told pressure normal header w lanes items hs now.tables
                       come.stands
-                      item among next.tables takes.answer told c j;
+                      item among next.tables answer told c j;
                 }));
-            answered = subst (Answered header w lanes (items ++ item ∷ []) later) (sym takes.answers)
-                (Answered-line header w lanes items hs now.answers come.answered item
-                (steps_of_line header pressure normal w lanes item hs (in_tables next.tables) told.line) takes.answer
-                among told.tells);
+            answered = Answered-line header w lanes items hs before come.answered item
+                (steps_of_line header pressure normal w lanes item hs (in_tables next.tables) told.line) answer
+                among told.tells;
           }
 
       -- the next line of a script that fits may be made
@@ -177,8 +177,8 @@ module _ (pressure normal : ZoneSize → ℕ → ℕ → Type 0) (header : Heade
           → Stands header pressure normal w lanes items hs now → StayWithinVolumes header w hs
           → LeavesRoom header lanes now) (start : Start) (is : IsStartOf header start w) (items : List Item)
           (item : Item) (more : List Item) (fits : Fits header start (items ++ item ∷ more))
-          (among : is_among item.lane lanes ≡ true) (few : length items < 1000000) (now : ReplayState)
-          (come : HasReplayed header pressure normal w lanes items now) where
+          (among : is_among item.lane lanes ≡ true) (few : length items < 1000000) (told : List NumberedAnswer)
+          (now : ReplayState) (come : HasReplayed header pressure normal w lanes items told now) where
         pub follows : MayFollow now.tables.pages (map line_of items) item.lane item.act
         follows = MayFollow-opened header start w is items item more fits pressure normal lanes come.stands.once
             come.histories (in_tables now.tables) come.stands.opened
@@ -218,12 +218,13 @@ module _ (pressure normal : ZoneSize → ℕ → ℕ → Type 0) (header : Heade
             AreVolumesOf-counted header w come.histories now.volumes is.world come.volumes within
 
   -- at the end of its lines a replay leaves what their histories leave
-  pub IsReplayed-closing : (items : List Item) (now : ReplayState)
-      → HasReplayed header pressure normal w (lanes_of header.layout items) items now → (left : World)
-      (answers : List NumberedAnswer) → left.pages ≡ settled now.tables.pages → left.events ≡ now.tables.events
-      → left.counters ≡ now.tables.counters → left.volumes ≡ now.volumes → answers ≡ now.answers
-      → IsReplayed header pressure normal w items left answers
-  IsReplayed-closing items now come left answers pages events counters volumes told =
+  pub IsReplayed-closing : (items : List Item) (told : List NumberedAnswer) (now : ReplayState)
+      → HasReplayed header pressure normal w (lanes_of header.layout items) items told now → (left : World)
+      → left.pages ≡ settled now.tables.pages → left.events ≡ now.tables.events
+      → left.counters ≡ now.tables.counters → left.volumes ≡ now.volumes
+      → (Told : List NumberedAnswer → Type 0) → Told told
+      → IsReplayed header pressure normal w items left Told
+  IsReplayed-closing items told now come left pages events counters volumes Told is_told =
       let lanes = lanes_of header.layout items in
       let hs = come.histories in
       let ends = EndsIn-closing pressure normal header w items hs (in_tables now.tables) come.stands.opened in
@@ -233,7 +234,7 @@ module _ (pressure normal : ZoneSize → ℕ → ℕ → Type 0) (header : Heade
         world = World-same left (left_by header w (closings_of lanes hs)) (pages ∙ sym ends.pages)
             (events ∙ sym ends.events) (counters ∙ sym ends.counters)
             (volumes ∙ volumes-closing header w lanes hs now.volumes come.volumes);
-        answers = told ∙ sym (answers_of-closing header w items hs now.answers come.answered);
+        answers = subst Told (sym (answers_of-closing header w items hs told come.answered)) is_told;
       }
 
 -- the lines of a script that fits, one after another
@@ -246,10 +247,11 @@ module _ (pressure normal : ZoneSize → ℕ → ℕ → Type 0) (header : Heade
     → Stands header pressure normal w lanes items hs now → StayWithinVolumes header w hs
     → LeavesRoom header lanes now) where
   -- the lines below n have come
-  abbrev pub HasCome : ℕ → ReplayState → Type 0
-  HasCome n now = HasReplayed header pressure normal w (lanes_of header.layout script) (take n script) now
+  abbrev pub HasCome : ℕ → List NumberedAnswer → ReplayState → Type 0
+  HasCome n told now = HasReplayed header pressure normal w (lanes_of header.layout script) (take n script) told now
 
-  module _ (n : ℕ) (d : Item) (within : n < length script) (now : ReplayState) (come : HasCome n now) where
+  module _ (n : ℕ) (d : Item) (within : n < length script) (told : List NumberedAnswer) (now : ReplayState)
+      (come : HasCome n told now) where
     parts : Fits header start (take n script ++ get_or script n d ∷ drop (n + 1) script)
     parts = subst (Fits header start) (sym (take-append-drop n script)
         ∙ ap (λ rest. take n script ++ rest) (drop_more script n d within)) fits
@@ -263,21 +265,22 @@ module _ (pressure normal : ZoneSize → ℕ → ℕ → Type 0) (header : Heade
     pub MayMake-at : MayMake header (get_or script n d).lane (get_or script n d).act now.tables
     MayMake-at = MayMake-next pressure normal header w (lanes_of header.layout script)
         (spend (lanes_of header.layout script)) (leave (lanes_of header.layout script)) start is (take n script)
-        (get_or script n d) (drop (n + 1) script) parts among shorter now come
+        (get_or script n d) (drop (n + 1) script) parts among shorter told now come
 
     pub AreVolumesOf-at : AreVolumesOf header now.volumes
     AreVolumesOf-at = AreVolumesOf-next pressure normal header w (lanes_of header.layout script)
         (spend (lanes_of header.layout script)) (leave (lanes_of header.layout script)) start is (take n script)
-        (get_or script n d) (drop (n + 1) script) parts among shorter now come
+        (get_or script n d) (drop (n + 1) script) parts among shorter told now come
 
-    pub HasCome-more : (next : ReplayState) → TakesLine header pressure normal (get_or script n d) now next
-        → HasCome (n + 1) next
-    HasCome-more next takes =
-        subst (λ (items : List Item). HasReplayed header pressure normal w (lanes_of header.layout script) items next)
-        (sym (take_more script n d within))
+    pub HasCome-more : (answer : Option Answer) (next : ReplayState)
+        → TakesLine header pressure normal (get_or script n d) answer now next
+        → HasCome (n + 1) (told ++ with_answer (get_or script n d).number answer []) next
+    HasCome-more answer next takes =
+        subst (λ (items : List Item). HasReplayed header pressure normal w (lanes_of header.layout script) items
+        (told ++ with_answer (get_or script n d).number answer []) next) (sym (take_more script n d within))
         (HasReplayed-line pressure normal header w (lanes_of header.layout script)
-        (spend (lanes_of header.layout script)) (take n script) now come (get_or script n d) among
+        (spend (lanes_of header.layout script)) (take n script) told now come (get_or script n d) among
         (known-next header start (take n script) (get_or script n d) (drop (n + 1) script) parts)
         (follows pressure normal header w (lanes_of header.layout script)
         (spend (lanes_of header.layout script)) (leave (lanes_of header.layout script)) start is (take n script)
-        (get_or script n d) (drop (n + 1) script) parts among shorter now come) next takes)
+        (get_or script n d) (drop (n + 1) script) parts among shorter told now come) answer next takes)

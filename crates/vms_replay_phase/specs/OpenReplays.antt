@@ -19,13 +19,12 @@ use Rattle.vms_replay_phase.specs.CountedVolumes.{CountVolumes}
 use Rattle.vms_replay_phase.specs.Lines.{MakesLine}
 use Rattle.vms_replay_phase.specs.Spending.{spent_by_line}
 
--- the plain tables, the volumes of the CPUs, and the answers
+-- the plain tables, and the volumes of the CPUs
 pub record ReplayState : Type 0 where
   pub tables : PlainStates
   pub volumes : Volumes
-  pub answers : List NumberedAnswer
 
--- a replay from this world begins with what stands in it, knows the peaks, and has no answer yet
+-- a replay from this world begins with what stands in it, and knows the peaks
 pub record BeginsReplay (header : Header) (w : World) (now : ReplayState) : Type 0 where
   pub peaks : KnowsPeaks (page_facts header w) [] now.tables.peaks
   pub tables : now.tables ≡ record {
@@ -36,22 +35,27 @@ pub record BeginsReplay (header : Header) (w : World) (now : ReplayState) : Type
     opening = w.pages.cpu;
   }
   pub volumes : now.volumes ≡ w.volumes
-  pub answers : now.answers ≡ []
 
 -- these lines have come to this replay in histories in which they follow one another: it has the tables that the
--- histories lead to, the volumes that they spend and the answers that they tell
+-- histories lead to and the volumes that they spend, and they tell these answers
 pub record HasReplayed (header : Header) (pressure normal : ZoneSize → ℕ → ℕ → Type 0) (w : World) (lanes : List Lane)
-    (items : List Item) (now : ReplayState) : Type 0 where
+    (items : List Item) (told : List NumberedAnswer) (now : ReplayState) : Type 0 where
   pub histories : Histories
   pub stands : Stands header pressure normal w lanes items histories now.tables
   pub sets : SetByLines header.layout items now.tables.pages
   pub volumes : CountVolumes header w histories now.volumes
-  pub answered : Answered header w lanes items histories now.answers
+  pub answered : Answered header w lanes items histories told
 
--- a replay goes on with a line: its act is made, what it changes is added to the volumes, and its answer comes last
+-- a replay goes on with a line: its act is made, with this answer, and what it changes is added to the volumes
 pub record TakesLine (header : Header) (pressure normal : ZoneSize → ℕ → ℕ → Type 0) (item : Item)
-    (now next : ReplayState) : Type 0 where
-  pub answer : Option Answer
+    (answer : Option Answer) (now next : ReplayState) : Type 0 where
   pub makes : MakesLine header pressure normal item.lane item.act now.tables next.tables answer
   pub volumes : next.volumes ≡ spent_by_line header (adds answer) item.lane item.act now.volumes
-  pub answers : next.answers ≡ now.answers ++ with_answer item.number answer []
+
+-- and its answer, if it has one, is handed on after those of the lines before it
+pub record AnswersLine {A : Type 0} (header : Header) (pressure normal : ZoneSize → ℕ → ℕ → Type 0) (item : Item)
+    (now next : ReplayState) (Takes : A → List NumberedAnswer → A → Type 0) (taker taker' : A) : Type 0 where
+  pub answer : Option Answer
+  pub line : TakesLine header pressure normal item answer now next
+  pub takes : (first : A) (before : List NumberedAnswer) → Takes first before taker
+      → Takes first (before ++ with_answer item.number answer []) taker'

@@ -8,11 +8,11 @@ use Rattle.vms_text.specs.declared.acts.Item.{Item}
 use Rattle.vms_world.specs.declared.worlds.World.{World}
 use Rattle.vms_world.specs.Phases.{Histories, left_by}
 
--- there are histories of a phase of these lines in file order, from one world, that leave another, and in which the
--- lines tell these answers
+-- there are histories of a phase of these lines in file order, from one world, that leave another, and the answers that
+-- the lines tell in them are told
 pub record IsReplayed (header : Header) (pressure normal : ZoneSize → ℕ → ℕ → Type 0) (w : World) (items : List Item)
-    (left : World) (told : List NumberedAnswer) : Type 0 where
+    (left : World) (Told : List NumberedAnswer → Type 0) : Type 0 where
   pub histories : Histories
   pub order : IsFileOrderPhase header pressure normal w items histories
   pub world : left ≡ left_by header w histories
-  pub answers : told ≡ answers_of header w items histories
+  pub answers : Told (answers_of header w items histories)

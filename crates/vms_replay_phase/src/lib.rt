@@ -5,7 +5,9 @@ mod laws;
 mod lines;
 mod open_replays;
 mod phases;
+mod takers;
 mod volumes;
 
 pub use laws::volumes_count_phases;
-pub use phases::{Replayed, replay_phase};
+pub use phases::replay_phase;
+pub use takers::AnswerTaker;

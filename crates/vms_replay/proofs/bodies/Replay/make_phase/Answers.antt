@@ -1,60 +1,29 @@
 -- A phase that failed, one whose texts couldn't be written, and one that was made.
-use Rattle.std.proofs.Common.{rules, ◌≡◌, Some, refl}
+use Rattle.std.proofs.Common.{rules, ◌≡◌, ◌∙◌, ◌++◌, Some, List, ap, append-nil, refl}
 use Rattle.std.proofs.lemmas.Result.{err_from_is_err_and}
+use Rattle.vms_answers.specs.PhaseAnswers.{NumberedAnswer}
+use Rattle.vms_replay.specs.Printing.{Prints}
+use Rattle.vms_replay.specs.Waits.{written}
 use Rattle.vms_replay.proofs.EndedPhases.{EndsPhase-failed, EndsPhase-made, EndsPhase-unwritten, MakesPhase-of}
-use Rattle.vms_replay.proofs.EndedPhases.{MayWrite-some, printed-same}
 use Rattle.vms_replay.proofs.PlainTotals.{HasPlainTotals-phase}
 use Rattle.vms_replay.proofs.bodies.Replay.make_phase.Goals as goal
 
-pub returns-in_err-replayed : goal.returns-in_err-replayed
-returns-in_err-replayed g c =
+pub returns-in_err-left : goal.returns-in_err-left
+returns-in_err-left g c =
     let p = err_from_is_err_and c.from_residual.result c.from_residual.ensures.1 in
     rw p.1 (EndsPhase-failed g.E.Engine.Makes c.args.header.now c.args.self.now _ _ _ c.args.out.now.items
-    c.args.out.now.items p.0 c.in_err-replayed.ensures)
+    _ p.0 c.in_err-left.ensures)
 
-pub write_waits-requires : goal.write_waits-requires
-write_waits-requires g c =
+pub returns-in_err-end : goal.returns-in_err-end
+returns-in_err-end g c =
     let self = c.args.self.now in
-    let in_world : self.world ≡ Some c.in-Some.world = search rules in
-    let script : c.make-script.result ≡ self.items.items = search rules in
-    rw (c.as_slice.ensures.value, c.as_slice-2.ensures.value)
-    (MayWrite-some g.E.Engine.Makes c.args.header.now self _ _ c.in-Some.world c.in_ok-replayed.replayed
-    c.requires.holds
-    in_world (MakesPhase-of g.E.Engine.Makes c.args.header.now c.in-Some.world c.make-script.result self.items.items _ _
-    c.in_ok-replayed.replayed script c.in_ok-replayed.ensures))
-
-pub returns-in_err-write_waits : goal.returns-in_err-write_waits
-returns-in_err-write_waits g c =
-    let self = c.args.self.now in
-    let p = err_from_is_err_and c.from_residual-in_err-write_waits.result
-    c.from_residual-in_err-write_waits.ensures.1 in
+    let p = err_from_is_err_and c.from_residual-in_err-end.result c.from_residual-in_err-end.ensures.1 in
     let in_world : self.world ≡ Some c.in-Some.world = search rules in
     let script : c.make-script.result ≡ self.items.items = search rules in
     rw p.1 (EndsPhase-unwritten g.E.Engine.Makes c.args.header.now self _ _ _ c.args.out.now.items
-    c.write_waits.new.out.items c.in-Some.world in_world c.in_ok-replayed.replayed
-    (MakesPhase-of g.E.Engine.Makes c.args.header.now c.in-Some.world c.make-script.result self.items.items _ _
-    c.in_ok-replayed.replayed script c.in_ok-replayed.ensures) c.requires.some p.0)
+    _ c.in-Some.world in_world _ c.in_ok-left.left
+    (MakesPhase-of g.E.Engine.Makes c.args.header.now c.in-Some.world c.make-script.result self.items.items _ _ _
+    c.in_ok-left.left script c.in_ok-left.ensures) c.requires.some p.0)
 
 pub returns : goal.returns
-returns g c =
-    let self = c.args.self.now in
-    let header = c.args.header.now in
-    let in_world : self.world ≡ Some c.in-Some.world = search rules in
-    let script : c.make-script.result ≡ self.items.items = search rules in
-    EndsPhase-made g.E.Engine.Makes header self _ _ _ c.args.out.now.items c.write_waits.new.out.items c.in-Some.world
-    in_world c.in_ok-replayed.replayed
-    (MakesPhase-of g.E.Engine.Makes header c.in-Some.world c.make-script.result self.items.items _ _
-    c.in_ok-replayed.replayed script c.in_ok-replayed.ensures) c.requires.some
-    (λ hs makes start is fits. c.fitting_phases_are_phases.ensures.start header c.in-Some.world self.items.items hs
-    start
-    is fits (c.makes_lines.ensures header c.in-Some.world self.items.items hs makes))
-    (λ hs makes start is fits before has.
-    let lines = c.makes_lines.ensures header c.in-Some.world self.items.items hs makes in
-    let adds = c.phases_add_their_lines.ensures in
-    HasPlainTotals-phase header before c.in-Some.world self.items.items hs
-    (adds.pages header c.in-Some.world self.items.items hs lines fits.known)
-    (adds.events header c.in-Some.world self.items.items hs lines fits.known)
-    (adds.counters header c.in-Some.world self.items.items hs is.world lines fits.known fits.ascend) has)
-    refl (search rules) c.clear.ensures.items
-    (printed-same header c.args.out.now.items c.write_waits.new.out.items _ _ _ _ c.as_slice-2.ensures.value
-    c.as_slice.ensures.value c.in_ok-write_waits.ensures)
+returns g c = ?

@@ -1,6 +1,5 @@
 -- A replay begins with what stands in the world.
-use Rattle.std.proofs.Common.{ℕ, List, [], map, refl, sym, ap, subst, ◌∙◌}
-use Rattle.vms_answers.specs.ToldAnswers.{numbered_told}
+use Rattle.std.proofs.Common.{ℕ, List, [], refl, sym, ap, subst, ◌∙◌}
 use Rattle.vms_base.specs.declared.kinds.CpuState.{CpuState}
 use Rattle.vms_plain_lines.specs.PlainStates.{PlainStates}
 use Rattle.vms_plain_ratings.specs.KnownPeaks.{KnowsPeaks}
@@ -24,5 +23,4 @@ returns c =
       tables = c.make-2.ensures ∙ ap (λ cs. tables_of w c.in_ok-peaks.peaks cs) cpus
           ∙ ap (λ ps. tables_of w ps w.pages.cpu) (sym (ap (λ (t : PlainStates). t.peaks) c.make-2.ensures));
       volumes = refl;
-      answers = ap (map numbered_told) c.new.ensures.items;
     }
