@@ -5,8 +5,8 @@ ghost use Rattle.vms_core.specs.Cells.{eight_zeros};
 ghost use Rattle.vms_core.specs.Own.{CarriesNothing};
 ghost use Rattle.vms_bench.specs.Pages.{Carries, HasLooked, IsOwn, IsTarget, own_of};
 
-use vms_base::{CounterId, CpuId, Diffs, GroupId, ItemId, Layout, Mode, Overflow, PlaceId};
-use vms_words::{CpuPass, PageTable, PutDone};
+use vms_base::{CounterId, CpuId, GroupId, ItemId, Layout, Mode, Overflow, PlaceId};
+use vms_words::{CpuPass, PackedDiffs, PageTable, PutDone};
 
 /// What one CPU may change a counter by over a run, in absolute sum.
 const MOST_VOLUME: u64 = 1 << 48;
@@ -67,7 +67,7 @@ fn exchange(
     table: &PageTable,
     pass: &mut CpuPass,
     target: &Target,
-    found: &Diffs,
+    found: &PackedDiffs,
     threshold: u32,
     delta: i64,
 ) -> Result<i64, Overflow>
@@ -104,7 +104,7 @@ fn exchange_zeros(
     ensures own { IsOwn pass.new table.now target.now.cpu }
     ensures carries { Carries table.now.facts.layout target.now.counter.number result (own_of pass.new) }
 {
-    let zeros = Diffs::zeros();
+    let zeros = PackedDiffs::zeros();
     match table.put(pass, target.counter, &zeros, threshold, delta, Mode::Mod) {
         PutDone::Done(amount) => amount,
         PutDone::Missed => unreachable!(),

@@ -12,8 +12,9 @@ ghost use Rattle.vms_seats.specs.Passes.{IsOf};
 ghost use Rattle.vms_seats.specs.Steps.{Made};
 ghost use Rattle.vms_count.specs.Changing.{GoesWith, HasChanged, CarriesFor, HasLoaded, HasExchanged};
 
-use vms_base::{CounterId, Diffs, Mode, Overflow};
-use vms_words::{CpuPass, PageTable, PutDone};
+use crate::counters::{item_of, place_of};
+use vms_base::{CounterId, Mode, Overflow};
+use vms_words::{CpuPass, PackedDiffs, PageTable, PutDone};
 
 /// What one CPU may change a counter by over a run, in absolute sum.
 const MOST_VOLUME: u64 = 1 << 48;
@@ -65,7 +66,7 @@ fn change(table: &PageTable, pass: &mut CpuPass, counter: CounterId, delta: i64,
     ensures carries { CarriesNothing table.now.facts.layout (own pass.new.pass.seen pass.new.pass.number) }
 {
     let _ = pass.cpu();
-    let place = table.layout().place_of(counter);
+    let place = place_of(table.layout(), counter);
     let threshold = table.load_threshold(pass, place).t;
     let amount = exchange(table, pass, counter, threshold, delta, mode);
     carry(table, pass, counter, amount);
@@ -98,7 +99,7 @@ fn exchange(
     match table.put(pass, counter, &found, threshold, delta, mode) {
         PutDone::Done(amount) => amount,
         PutDone::Missed => {
-            let zeros = Diffs::zeros();
+            let zeros = PackedDiffs::zeros();
             match table.put(pass, counter, &zeros, threshold, delta, mode) {
                 PutDone::Done(amount) => amount,
                 PutDone::Missed => unreachable!(),
@@ -121,7 +122,7 @@ fn carry(table: &PageTable, pass: &mut CpuPass, counter: CounterId, amount: i64)
     let _ = pass.cpu();
     if amount != 0 {
         table.add_place(pass, counter, amount);
-        table.add_system(pass, table.layout().item_of(counter), amount);
+        table.add_system(pass, item_of(table.layout(), counter), amount);
     }
 }
 

@@ -11,6 +11,7 @@ ghost use Rattle.vms_seats.specs.Steps.{Made};
 ghost use Rattle.vms_count.specs.Folding.{owns, mine, sum_at, AreSums, NoneForCounters, HasFolded};
 ghost use Rattle.vms_count.specs.Folding.{FoldsGroups, FoldsPlace, FoldsPlaces};
 
+use crate::counters::item_of;
 use vms_base::{CounterId, CpuId, GroupId, ItemId, PlaceId};
 use vms_words::{Caller, PageTable};
 
@@ -132,7 +133,7 @@ fn fold_group<P: Caller>(
         let counter = CounterId {
             number: 8 * group.number + n,
         };
-        add_entry(table, pass, counter, found.values[n as usize], sums);
+        add_entry(table, pass, counter, found.entry(n), sums);
     }
 }
 
@@ -159,7 +160,7 @@ fn add_entry<P: Caller>(
     let _ = pass.own();
     if amount != 0 {
         table.add_place(pass, counter, amount);
-        sums[table.layout().item_of(counter).number as usize] += amount;
+        sums[item_of(table.layout(), counter).number as usize] += amount;
     }
 }
 

@@ -2,6 +2,7 @@
 #![tactic(auto)]
 
 mod changing;
+mod counters;
 mod folding;
 
 pub use changing::{add, dec, inc};

@@ -41,10 +41,6 @@ online-true Online on = refl
 online-true Dead on = absurd cc
 online-true Absent on = absurd cc
 
--- an entry of a list fits a word
-pub entry-fits : (w : Diffs) (k : ℕ) → FitsSigned w64 (entry w.values k)
-entry-fits w k = let byte = w.bytes (k % 8) in omega (arith, ints, byte.0, byte.1)
-
 pub entry-small : (w : Diffs) (k : ℕ) → unsigned_abs (entry w.values k) ≤ 128
 entry-small w k = let byte = w.bytes (k % 8) in omega (arith, ints, byte.0, byte.1)
 

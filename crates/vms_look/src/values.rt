@@ -75,7 +75,7 @@ fn hidden<P: Caller>(table: &PageTable, pass: &mut P, cpu: CpuId, counter: Count
     if is_online(table.load_state(pass, cpu)) {
         let group = table.layout().group(counter);
         let found = table.load_diffs(pass, cpu, group);
-        found.values[(counter.number % 8) as usize]
+        found.entry(counter.number % 8)
     } else {
         0
     }

@@ -10,7 +10,7 @@ use mir.Val.{SFits}
 use Rattle.vms_base.specs.declared.groups.Diffs.{Diffs}
 use Rattle.vms_base.specs.Groups.{IsByte, AreBytes, word_of_bytes, bytes_of_word}
 
-byte-fits : (z : ℤ) → IsByte z → SFits w8 z
+pub byte-fits : (z : ℤ) → IsByte z → SFits w8 z
 byte-fits (pos n) is = record { sfits = omega (arith, ints) }
 byte-fits (negsuc n) is = record { sfits = omega (arith, ints) }
 

@@ -1,6 +1,7 @@
 pub mod Blocks
 pub mod Places
 pub mod GroupBytes
+pub mod PackedEntries
 pub mod GroupWords
 pub mod Begun
 pub mod ShownWords

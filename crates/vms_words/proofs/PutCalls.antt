@@ -60,15 +60,16 @@ passed-byte z t within most =
     (byte-within z (omega (arith, within, most)))
 
 -- what a change makes of an entry and an amount that were passed on, and passes on itself
-module _ (k : ℕ) (w : Diffs) (t : ℕ) (delta : ℤ) (fits : SFits w64 delta) (how : Mode) where
+module _ (k : ℕ) (w : Diffs) (t : ℕ) (delta : ℤ) (fits : SFits w64 delta) (how : Mode) (read : ℤ)
+    (read_is : read ≡ entry w.values k) where
   abbrev passed_entry : ℤ
-  passed_entry = to_z w64 (of_z w64 (entry w.values k))
+  passed_entry = to_z w64 (of_z w64 read)
 
   abbrev passed_delta : ℤ
   passed_delta = to_z w64 (of_z w64 delta)
 
   entry_is : passed_entry ≡ entry w.values k
-  entry_is = byte-passed w.values w.bytes (k % 8)
+  entry_is = ap (λ (z : ℤ). to_z w64 (of_z w64 z)) read_is ∙ byte-passed w.values w.bytes (k % 8)
 
   delta_is : passed_delta ≡ delta
   delta_is = to_z-of_z w64 delta fits
@@ -154,15 +155,18 @@ module _ (pass : Pass Facts Step) (cpu : CpuId) (volume : List ℕ) (k : Counter
       (group-put pass cpu k w t delta how eight may-exchange))))
 
 -- what the exchange made, by the word that it found
-module _ (new old : Pass Facts Step) (k : CounterId) (w : Diffs) (t : ℕ) (passed delta : ℤ) (how : Mode)
-    (stood word : ℕ) (word_is : word ≡ word_of_bytes w.values) (passed_is : passed ≡ delta)
-    (made : MadeOne pages new old (told (Put k w t passed how) stood)) where
+module _ (new old : Pass Facts Step) (k : CounterId) (listed w : Diffs) (t : ℕ) (passed delta : ℤ) (how : Mode)
+    (stood word : ℕ) (listed_is : listed ≡ w) (word_is : word ≡ word_of_bytes w.values) (passed_is : passed ≡ delta)
+    (made : MadeOne pages new old (told (Put k listed t passed how) stood)) where
   abbrev miss : Step
   miss = Miss (record { number = group_of k.number }) w
 
+  made_of : MadeOne pages new old (told (Put k w t passed how) stood)
+  made_of = subst (λ (v : Diffs). MadeOne pages new old (told (Put k v t passed how) stood)) listed_is made
+
   chosen : (b : Bool) → (stood == word_of_bytes w.values) ≡ b
       → MadeOne pages new old (if b then Put k w t passed how else miss)
-  chosen b is = subst (λ (a : Bool). MadeOne pages new old (if a then Put k w t passed how else miss)) is made
+  chosen b is = subst (λ (a : Bool). MadeOne pages new old (if a then Put k w t passed how else miss)) is made_of
 
   pub made-put : stood ≡ word → MadeOne pages new old (Put k w t delta how)
   made-put same =

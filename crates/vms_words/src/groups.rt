@@ -5,16 +5,17 @@ ghost use Rattle.vms_core.specs.Pages.{pages};
 ghost use Rattle.vms_seats.specs.Passes.{IsOf};
 ghost use Rattle.vms_seats.specs.Steps.{MadeOne};
 
+use crate::lists::PackedDiffs;
 use crate::passes::Caller;
 use crate::spots::Spot;
 use crate::tables::PageTable;
-use vms_base::{CpuId, Diffs, GroupId, unpack};
+use vms_base::{CpuId, Diffs, GroupId};
 use vms_core::Step;
 
 impl PageTable {
     /// Loads a CPU's eight differentials of a group, in pages.
     #[inline]
-    pub fn load_diffs<P: Caller>(&self, pass: &mut P, cpu: CpuId, group: GroupId) -> Diffs
+    pub fn load_diffs<P: Caller>(&self, pass: &mut P, cpu: CpuId, group: GroupId) -> PackedDiffs
         requires table { IsOf (P.pass pass.old) self.now }
         requires cpu { IsCpu self.now.facts.layout cpu.number }
         requires group { IsGroup self.now.facts.layout group.number }
@@ -25,12 +26,12 @@ impl PageTable {
             .blocks
             .place_of(&self.facts.layout, Spot::Group(cpu, group));
         let plan = Step::LoadD(cpu, group, Diffs::zeros());
-        unpack(pass.load_at(&self.words, place, &plan))
+        PackedDiffs::of_word(pass.load_at(&self.words, place, &plan))
     }
 
     /// Takes a CPU's eight differentials of a group, in pages, which become 0.
     #[inline]
-    pub fn take<P: Caller>(&self, pass: &mut P, cpu: CpuId, group: GroupId) -> Diffs
+    pub fn take<P: Caller>(&self, pass: &mut P, cpu: CpuId, group: GroupId) -> PackedDiffs
         requires table { IsOf (P.pass pass.old) self.now }
         requires cpu { IsCpu self.now.facts.layout cpu.number }
         requires group { IsGroup self.now.facts.layout group.number }
@@ -41,6 +42,6 @@ impl PageTable {
             .blocks
             .place_of(&self.facts.layout, Spot::Group(cpu, group));
         let plan = Step::Take(cpu, group, Diffs::zeros());
-        unpack(pass.swap_at(&self.words, place, 0, &plan))
+        PackedDiffs::of_word(pass.swap_at(&self.words, place, 0, &plan))
     }
 }

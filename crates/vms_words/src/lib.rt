@@ -8,6 +8,7 @@ mod endings;
 mod groups;
 mod kept;
 mod ledgers;
+mod lists;
 mod loads;
 mod packed;
 mod passes;
@@ -18,6 +19,7 @@ mod spots;
 mod tables;
 
 pub use ledgers::SharedPages;
+pub use lists::PackedDiffs;
 pub use passes::{Caller, ControlPass, CpuPass, MainPass};
 pub use puts::PutDone;
 pub use tables::{PageTable, PhaseHistory};

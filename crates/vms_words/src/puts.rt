@@ -1,7 +1,8 @@
+use crate::lists::PackedDiffs;
 use crate::passes::CpuPass;
 use crate::spots::Spot;
 use crate::tables::PageTable;
-use vms_base::{CounterId, Diffs, Mode, pack};
+use vms_base::{CounterId, Mode};
 use vms_core::{Step, overstep};
 use vms_seats::Works;
 
@@ -24,7 +25,7 @@ impl PageTable {
         &self,
         pass: &mut CpuPass,
         counter: CounterId,
-        found: &Diffs,
+        found: &PackedDiffs,
         threshold: u32,
         delta: i64,
         mode: Mode,
@@ -34,15 +35,15 @@ impl PageTable {
         ensures { PutsOrMisses pass.new pass.old counter found.now threshold delta mode result }
     {
         let cpu = pass.cpu;
-        let entry = (counter.number % 8) as usize;
-        let changed = change(mode, threshold, found.values[entry], delta);
-        let old = pack(found);
-        let new = pack(&with_entry(found, entry, changed.differential));
+        let position = counter.number % 8;
+        let changed = change(mode, threshold, found.entry(position), delta);
+        let old = found.word();
+        let new = found.with_entry(position, changed.differential).word();
         let group = self.facts.layout.group(counter);
         let place = self
             .blocks
             .place_of(&self.facts.layout, Spot::Group(cpu, group));
-        let plan = Step::Put(counter, *found, threshold, delta, mode);
+        let plan = Step::Put(counter, found.list(), threshold, delta, mode);
         let stood = pass.worker.exchange_at(&self.words, place, old, new, &plan);
         if stood != old {
             return PutDone::Missed;
@@ -54,8 +55,7 @@ impl PageTable {
     }
 }
 
-ghost use Rattle.std.specs.Prelude.{◌≡◌, ◌+◌, ◌<◌, ◌≤◌, ◌^◌, unsigned_abs, slice_set};
-ghost use Rattle.vms_base.specs.Groups.{IsByte};
+ghost use Rattle.std.specs.Prelude.{◌≡◌, ◌+◌, ◌≤◌, ◌^◌, unsigned_abs};
 ghost use Rattle.vms_core.specs.Changes.{differential_after, carried_by};
 
 /// What a change makes of a differential, in pages: the one that stays, and what goes to the global values.
@@ -86,16 +86,4 @@ fn change(mode: Mode, threshold: u32, found: i64, delta: i64) -> Changed
         differential: -overstep,
         carried: sum + overstep,
     }
-}
-
-/// The list with one entry changed.
-#[inline]
-fn with_entry(list: &Diffs, at: usize, differential: i64) -> Diffs
-    requires at { at < 8 }
-    requires byte { IsByte differential }
-    ensures { result.values ≡ slice_set list.now.values at differential }
-{
-    let mut values = list.values;
-    values[at] = differential;
-    Diffs { values }
 }

@@ -2,7 +2,7 @@
 use Rattle.std.proofs.Common.{◌≡◌, ℕ, ◌+◌, ◌*◌, ◌^◌, ◌+ℤ◌, pos, length, get_or, to_z, of_z, w64}
 use Rattle.std.proofs.Common.{FitsSigned, sym, ap, subst, ◌∙◌, arith, length-set}
 use Rattle.std.proofs.Math.ListN.{set}
-use Rattle.std.proofs.lemmas.Int.{ints, to_z-of_z}
+use Rattle.std.proofs.lemmas.Int.{to_z-of_z}
 use Rattle.vms_base.specs.Places.{IsLayout, item_of}
 use Rattle.vms_base.proofs.Counts.{group_count-most, item_of-lt}
 use Rattle.vms_calls.specs.Folds.{to_place}
@@ -47,15 +47,13 @@ add_entry-requires-clause-table g c =
 pub add_entry-requires-clause-carries : goal.add_entry-requires-clause-carries
 add_entry-requires-clause-carries g c =
     let w = c.take-found.result in
-    let z = get_or w.values c.loop-n.n (pos 0) in
-    let range = w.bytes c.loop-n.n in
-    let fits : FitsSigned w64 z = omega (arith, ints) in
+    let fits : FitsSigned w64 c.entry.result = search in
     let eight = taken-eight (g.P.Caller.pass c.take-found.new.pass) (g.P.Caller.pass c.args.pass.now) c.args.cpu
     c.args.group w c.take-found.ensures.made in
     next-carried c.args.table.now.facts.layout c.args.group.number w.values c.args.cpu
     (g.P.Caller.pass c.take-found.new.pass) c.args.sums.now c.loop-n.n c.loop-n-test.true (omega (arith, eight))
     (g.P.Caller.pass c.loop-n.pass) c.loop-n.sums c.loop-n.invariant.0
-    ∙ sym (to_z-of_z w64 z fits)
+    ∙ sym (to_z-of_z w64 c.entry.result fits ∙ c.entry.ensures.value)
 
 pub add_entry-requires-clause-sums : goal.add_entry-requires-clause-sums
 add_entry-requires-clause-sums g c =
@@ -72,9 +70,8 @@ loop-n-preserved g c =
     let n = c.loop-n.n in
     let w = c.take-found.result in
     let z = get_or w.values n (pos 0) in
-    let range = w.bytes n in
-    let fits : FitsSigned w64 z = omega (arith, ints) in
-    let same : to_z w64 (of_z w64 z) ≡ z = to_z-of_z w64 z fits in
+    let fits : FitsSigned w64 c.entry.result = search in
+    let same : to_z w64 (of_z w64 c.entry.result) ≡ z = to_z-of_z w64 c.entry.result fits ∙ c.entry.ensures.value in
     let item = item_of shape (8 * j + n) in
     let long : length c.loop-n.sums ≡ 32 = sym (length-set c.loop-n.sums _ _) ∙ sym (ap length c.add_entry.ensures.sum)
     ∙ c.add_entry.array_long in

@@ -2,13 +2,17 @@
 use Rattle.std.proofs.Common.{◌≡◌, ℕ, ◌==◌, List, length, get_or, unsigned_abs, to_z, of_z, w64}
 use Rattle.std.proofs.Common.{refl, sym, ap, ◌∙◌, subst, arith, if◌then◌else◌}
 use Rattle.std.proofs.lemmas.Int.{to_z-of_z}
+use Rattle.vms_base.specs.declared.groups.Diffs.{Diffs}
 use Rattle.vms_base.specs.Groups.{word_of_bytes}
 use Rattle.vms_base.specs.Places.{IsCpu, group_of}
 use Rattle.vms_seats.specs.Passes.{IsOf}
+use Rattle.vms_seats.specs.Steps.{MayStep}
 use Rattle.vms_core.specs.declared.steps.Step.TheVariants.{Put, Miss}
+use Rattle.vms_core.specs.Pages.{pages}
 use Rattle.vms_words.specs.declared.spots.Spot.TheVariants.{Group}
 use Rattle.vms_words.specs.PagePasses.{OwningPass, IsOwningPass}
 use Rattle.vms_words.specs.Puts.{MayPut, HasPut, HasMissed}
+use Rattle.vms_words.specs.Shown.{shown}
 use Rattle.vms_words.specs.Told.{told}
 use Rattle.vms_words.proofs.GroupBytes.{length-read}
 use Rattle.vms_words.proofs.InTables.{may-at, known-in}
@@ -45,33 +49,37 @@ exchange_at-stood-requires-clause-step c =
     let puts = subst (λ (p : OwningPass). MayPut p k w t c.args.delta) (sym c.pass.view_is) c.requires.puts in
     let most = threshold-most c.pass.inside.worker c.pass.inside.cpu c.pass.inside.volume k w t c.args.delta
     c.pass.invariant puts in
-    may-at c.self.inside.facts c.self.inside.blocks c.self.inside.words c.args.self.now c.pass.inside.worker
+    subst (λ (v : Diffs). MayStep pages shown c.pass.inside.worker c.place_of-place.result
+    (λ n. if n == c.word-old.result then c.word-new.result else n)
+    (told (Put k v t (to_z w64 (of_z w64 c.args.delta)) c.args.mode))) (sym c.list.ensures)
+    (may-at c.self.inside.facts c.self.inside.blocks c.self.inside.words c.args.self.now c.pass.inside.worker
     c.self.invariant c.self.view_is of (Group c.pass.inside.cpu c.group-group.result) c.place_of-place.result
-    c.place_of-place.ensures.value (λ n. if n == c.pack-old.result then c.pack-new.result else n)
+    c.place_of-place.ensures.value (λ n. if n == c.word-old.result then c.word-new.result else n)
     (told (Put k w t (to_z w64 (of_z w64 c.args.delta)) c.args.mode))
     (put-may c.pass.inside.worker c.pass.inside.cpu c.pass.inside.volume k w t c.args.delta c.pass.invariant puts
-    c.args.mode c.group-group.result c.pack-old.result c.pack-new.result
+    c.args.mode c.group-group.result c.word-old.result c.word-new.result
     (to_z w64 (of_z w64 c.change-changed.result.differential)) (to_z w64 (of_z w64 c.args.delta))
-    (sym (ap length c.pack-old.ensures.read) ∙ length-read c.pack-old.result) c.group-group.ensures.value
-    c.pack-old.ensures.value (c.pack-new.ensures.value ∙ ap word_of_bytes c.with_entry.ensures)
-    (passed-differential k.number w t c.args.delta c.ranges.delta c.args.mode c.change-changed.result.differential
+    (sym (ap length c.word-old.ensures.read) ∙ length-read c.word-old.result) c.group-group.ensures.value
+    c.word-old.ensures.value (c.word-new.ensures.value ∙ ap word_of_bytes c.with_entry.ensures)
+    (passed-differential k.number w t c.args.delta c.ranges.delta c.args.mode c.entry.result c.entry.ensures.value
+    c.change-changed.result.differential
     c.change-changed.ensures.within most c.change-changed.ensures.differential)
-    (to_z-of_z w64 c.args.delta c.ranges.delta))
+    (to_z-of_z w64 c.args.delta c.ranges.delta)))
 
 pub invariant_of-pass : goal.invariant_of-pass
 invariant_of-pass c =
-    let made = made-miss c.exchange_at-stood.new.self c.pass.inside.worker c.args.counter c.args.found.now
-    c.args.threshold (to_z w64 (of_z w64 c.args.delta)) c.args.delta c.args.mode c.exchange_at-stood.result
-    c.pack-old.result c.pack-old.ensures.value (to_z-of_z w64 c.args.delta c.ranges.delta) c.exchange_at-stood.ensures
+    let made = made-miss c.exchange_at-stood.new.self c.pass.inside.worker c.args.counter c.list.result
+    c.args.found.now c.args.threshold (to_z w64 (of_z w64 c.args.delta)) c.args.delta c.args.mode
+    c.exchange_at-stood.result c.word-old.result c.list.ensures c.word-old.ensures.value (to_z-of_z w64 c.args.delta c.ranges.delta) c.exchange_at-stood.ensures
     c.if-stood-old.true in
     owning-step c.exchange_at-stood.new.self c.pass.inside.worker c.pass.inside.cpu c.pass.inside.volume
     (Miss (record { number = group_of c.args.counter.number }) c.args.found.now) c.pass.invariant made tt
 
 pub returns-then-stood-old : goal.returns-then-stood-old
 returns-then-stood-old c =
-    let made = made-miss c.exchange_at-stood.new.self c.pass.inside.worker c.args.counter c.args.found.now
-    c.args.threshold (to_z w64 (of_z w64 c.args.delta)) c.args.delta c.args.mode c.exchange_at-stood.result
-    c.pack-old.result c.pack-old.ensures.value (to_z-of_z w64 c.args.delta c.ranges.delta) c.exchange_at-stood.ensures
+    let made = made-miss c.exchange_at-stood.new.self c.pass.inside.worker c.args.counter c.list.result
+    c.args.found.now c.args.threshold (to_z w64 (of_z w64 c.args.delta)) c.args.delta c.args.mode
+    c.exchange_at-stood.result c.word-old.result c.list.ensures c.word-old.ensures.value (to_z-of_z w64 c.args.delta c.ranges.delta) c.exchange_at-stood.ensures
     c.if-stood-old.true in
     subst
     (λ (p : OwningPass). HasMissed (record { pass = c.exchange_at-stood.new.self; volume = c.pass.inside.volume }) p
@@ -100,9 +108,9 @@ invariant_of-pass-2 c =
     let passed = to_z-of_z w64 c.args.delta c.ranges.delta in
     let puts = subst (λ (p : OwningPass). MayPut p c.args.counter c.args.found.now c.args.threshold c.args.delta)
     (sym c.pass.view_is) c.requires.puts in
-    let made = made-put c.exchange_at-stood.new.self c.pass.inside.worker c.args.counter c.args.found.now
-    c.args.threshold (to_z w64 (of_z w64 c.args.delta)) c.args.delta c.args.mode c.exchange_at-stood.result
-    c.pack-old.result c.pack-old.ensures.value passed c.exchange_at-stood.ensures c.if-stood-old.false in
+    let made = made-put c.exchange_at-stood.new.self c.pass.inside.worker c.args.counter c.list.result
+    c.args.found.now c.args.threshold (to_z w64 (of_z w64 c.args.delta)) c.args.delta c.args.mode
+    c.exchange_at-stood.result c.word-old.result c.list.ensures c.word-old.ensures.value passed c.exchange_at-stood.ensures c.if-stood-old.false in
     let grown = grown-is c.pass.inside.volume c.set.new.self c.args.counter.number c.get.result c.unsigned_abs.result
     (to_z w64 (of_z w64 c.args.delta)) c.args.delta (c.get.ensures 0) c.unsigned_abs.ensures.value passed
     c.set.ensures in
@@ -122,11 +130,11 @@ returns c =
     (to_z w64 (of_z w64 c.change-changed.result.carried)))
     c.pass.view_is
     (record {
-      made = made-put c.exchange_at-stood.new.self c.pass.inside.worker c.args.counter c.args.found.now
-          c.args.threshold (to_z w64 (of_z w64 c.args.delta)) c.args.delta c.args.mode c.exchange_at-stood.result
-          c.pack-old.result c.pack-old.ensures.value passed c.exchange_at-stood.ensures c.if-stood-old.false;
+      made = made-put c.exchange_at-stood.new.self c.pass.inside.worker c.args.counter c.list.result
+          c.args.found.now c.args.threshold (to_z w64 (of_z w64 c.args.delta)) c.args.delta c.args.mode
+          c.exchange_at-stood.result c.word-old.result c.list.ensures c.word-old.ensures.value passed c.exchange_at-stood.ensures c.if-stood-old.false;
       carries = passed-carried c.args.counter.number c.args.found.now c.args.threshold c.args.delta c.ranges.delta
-          c.args.mode c.change-changed.result.carried c.change-changed.ensures.bound
+          c.args.mode c.entry.result c.entry.ensures.value c.change-changed.result.carried c.change-changed.ensures.bound
           (threshold-most c.pass.inside.worker c.pass.inside.cpu c.pass.inside.volume c.args.counter c.args.found.now
           c.args.threshold c.args.delta c.pass.invariant puts)
           (omega (arith, puts.affordable)) c.change-changed.ensures.carried;

@@ -1,14 +1,8 @@
--- The goals were that the pass may make the take, and that it tells the list that was found.
-use Rattle.std.proofs.Common.{sym, subst}
-use Rattle.vms_base.specs.declared.groups.Diffs.{Diffs}
+-- The goal was that the pass may make the take.
 use Rattle.vms_base.specs.Places.{IsCpu, IsGroup}
 use Rattle.vms_core.specs.declared.steps.Step.TheVariants.{Take}
-use Rattle.vms_core.specs.Pages.{pages}
-use Rattle.vms_seats.specs.Steps.{MadeOne}
 use Rattle.vms_words.specs.declared.spots.Spot.TheVariants.{Group}
-use Rattle.vms_words.specs.Lists.{list_told}
 use Rattle.vms_words.specs.Told.{told}
-use Rattle.vms_words.proofs.GroupBytes.{same-list}
 use Rattle.vms_words.proofs.GroupSteps.{group-take}
 use Rattle.vms_words.proofs.InTables.{may-at, known-of}
 use Rattle.vms_words.proofs.tables.PageTable.take.Goals as goal
@@ -24,10 +18,3 @@ swap_at-requires-clause-step g c =
     c.self.view_is c.requires.table (λ shape. IsCpu shape c.args.cpu.number) c.requires.cpu)
     (known-of c.self.inside.facts c.self.inside.blocks c.self.inside.words c.args.self.now pass c.self.invariant
     c.self.view_is c.requires.table (λ shape. IsGroup shape c.args.group.number) c.requires.group))
-
-pub returns-clause-made : goal.returns-clause-made
-returns-clause-made g c =
-    subst
-    (λ (w : Diffs). MadeOne pages (g.P.Caller.pass c.swap_at.new.self) (g.P.Caller.pass c.args.pass.now)
-    (Take c.args.cpu c.args.group w))
-    (same-list (list_told c.swap_at.result) c.unpack.result (sym c.unpack.ensures.value)) c.swap_at.ensures.made
