@@ -42,6 +42,7 @@ pub fn set_pressure<N: Rule, P: Rule>(
     requires room { largest_sets table.now.facts.layout (state_after table.now.facts pass.old.seen) < most_sets }
     ensures made { (steps : List Step) × SetsPressure table.now.facts (P.answers rules.now.pressure)
         (N.answers rules.now.normal) node pass.old.number pass.old.seen steps × Made pages pass.new pass.old steps }
+    ensures control { IsControl pass.old.seen pass.old.number }
     ensures carries { CarriesNothing table.now.facts.layout (own pass.old.seen pass.old.number) →
         CarriesNothing table.now.facts.layout (own pass.new.seen pass.new.number) }
     ensures sets { largest_sets table.now.facts.layout (state_after table.now.facts pass.new.seen)
@@ -65,6 +66,7 @@ pub fn set_normal<N: Rule, P: Rule>(
     requires room { largest_sets table.now.facts.layout (state_after table.now.facts pass.old.seen) < most_sets }
     ensures made { (steps : List Step) × SetsNormal table.now.facts (N.answers rules.now.normal) node pass.old.number
         pass.old.seen steps × Made pages pass.new pass.old steps }
+    ensures control { IsControl pass.old.seen pass.old.number }
     ensures carries { CarriesNothing table.now.facts.layout (own pass.old.seen pass.old.number) →
         CarriesNothing table.now.facts.layout (own pass.new.seen pass.new.number) }
     ensures sets { largest_sets table.now.facts.layout (state_after table.now.facts pass.new.seen)
@@ -90,6 +92,7 @@ fn rate_node<N: Rule, P: Rule>(
     ensures made { (steps : List Step) × RatesNode table.now.facts
         (choice_of rating (P.answers rules.now.pressure) (N.answers rules.now.normal)) node pass.old.number
         pass.old.seen steps × Made pages pass.new pass.old steps }
+    ensures control { IsControl pass.old.seen pass.old.number }
     ensures carries { CarriesNothing table.now.facts.layout (own pass.old.seen pass.old.number) →
         CarriesNothing table.now.facts.layout (own pass.new.seen pass.new.number) }
     ensures sets { largest_sets table.now.facts.layout (state_after table.now.facts pass.new.seen)

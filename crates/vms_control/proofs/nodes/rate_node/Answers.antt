@@ -26,6 +26,12 @@ returns-clause-made g c =
     (c.as_slice.ensures.value ∙ made.2) c.visit_node.new.pass c.args.node (g.P.Rule.answers c.args.rules.now.pressure)
     (g.N.Rule.answers c.args.rules.now.normal) c.args.rating c.requires.node_alone c.visit_node.ensures.made
 
+pub returns-clause-control : goal.returns-clause-control
+returns-clause-control g c =
+    let made = c.load_online-online.ensures.made in
+    first-control c.args.table.now c.load_online-online.new.pass c.args.pass.now c.requires.table made.0 made.3
+    c.visit_node.ensures.control
+
 pub returns-clause-carries : goal.returns-clause-carries
 returns-clause-carries g c =
     let call = returns-clause-made g c in
