@@ -1,3 +1,4 @@
 pub mod BlockSearches
 pub mod OrderTests
 pub mod ZoneTests
+pub mod TurnSteps

@@ -32,7 +32,7 @@ pub record FoundBlock (header : Header) (g : PlaceId) (order : ℕ) (steps : Lis
   pub snapshot : IsSnapshot header.layout (blocks_at header.layout g area) look blocks
   pub some : blocks ≢ 0
 
--- the call ended with a test of zone g of the node that was yes. Where its free pages are no snapshot, they truly were
+-- the call made a test of zone g of the node that was yes. Where its free pages are no snapshot, they truly were
 -- there as a yes under the high watermark says; and above order 0 it found a free block as large as was asked for.
 pub record HasPassed (header : Header) (new old : Pass Facts Step) (n : PlaceId) (order most : ℕ) (g : PlaceId)
     (verdict : OrderVerdict) : Type 0 where
@@ -40,7 +40,8 @@ pub record HasPassed (header : Header) (new old : Pass Facts Step) (n : PlaceId)
   pub passed : verdict.yes ≡ true
   pub earlier : List Step
   pub test : List Step
-  pub made : Made pages new old (earlier ++ test)
+  pub later : List Step
+  pub made : Made pages new old (earlier ++ (test ++ later))
   pub tests : IsOrderTest header g High most order test (order_verdict_told verdict)
   pub truly : verdict.fast ≡ true → SaysTruly new old g (limit_of header g.number High most)
   pub block : order ≢ 0 → FoundBlock header g order test verdict.area

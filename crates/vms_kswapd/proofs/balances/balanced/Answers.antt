@@ -1,5 +1,6 @@
 -- A zone that passes ends the test, and one that fails is passed over.
-use Rattle.std.proofs.Common.{◌≡◌, ℕ, ◌+◌, ◌-◌, ◌<◌, true, List, ◌++◌, length, get_or, refl, sym, ap, ◌∙◌, subst, arith}
+use Rattle.std.proofs.Common.{◌≡◌, ℕ, ◌+◌, ◌-◌, ◌<◌, true, List, [], ◌++◌, length, get_or, refl, sym, ap, ◌∙◌, subst, arith}
+use Rattle.std.proofs.Common.{append-nil}
 use Rattle.std.specs.Prelude.{Contains}
 use Rattle.vms_base.specs.declared.kinds.WaterMark.TheVariants.{High}
 use Rattle.vms_base.specs.declared.kinds.ZoneKind.TheVariants.{Dma}
@@ -8,6 +9,8 @@ use Rattle.vms_base.specs.Watermarks.{limit_of}
 use Rattle.vms_calls.specs.Ratings.{node_number}
 use Rattle.vms_calls.specs.Turns.{Balances, zones_up_to}
 use Rattle.vms_calls.specs.Turns.Balance.{Yes}
+use Rattle.vms_core.specs.declared.steps.Step.{Step}
+use Rattle.vms_core.specs.Pages.{pages}
 use Rattle.vms_history.proofs.Own.{Extends-same}
 use Rattle.vms_kswapd.proofs.OrderTests.{order-found}
 use Rattle.vms_kswapd.proofs.ZoneTests.{FailedSoFar, failed-next, failed-none, failed-other, passed-first, passed-made}
@@ -15,6 +18,7 @@ use Rattle.vms_kswapd.proofs.ZoneTests.{passed-one_of}
 use Rattle.vms_look.proofs.TestMoments.{truly-whole_call}
 use Rattle.vms_plain_pages.specs.Orders.{order_verdict_told}
 use Rattle.vms_plain_pages.proofs.ZonesUpTo.{is_one, is_one-told}
+use Rattle.vms_seats.specs.Steps.{Made}
 use Rattle.vms_kswapd.proofs.balances.balanced.Goals as goal
 use Rattle.vms_kswapd.proofs.balances.balanced.Goals.{then-is_up_to+else-verdict, else-is_up_to}
 
@@ -88,7 +92,9 @@ returns-then-verdict-clause-passed g c =
       passed = c.if-verdict.true;
       earlier = so_far.before;
       test = tested.0;
-      made = passed-made header c.args.most c.args.order node now old place so_far new verdict tested one;
+      later = [];
+      made = subst (λ (ks : List Step). Made pages new old (so_far.before ++ ks)) (sym (append-nil tested.0))
+          (passed-made header c.args.most c.args.order node now old place so_far new verdict tested one);
       tests = tested.1;
       truly = λ fast.
           truly-whole_call new new now old (record { number = place }) (limit_of header place High c.args.most)
