@@ -5,3 +5,4 @@ pub mod MadeOnEvents
 pub mod MadeOnCounters
 pub mod MadeLines
 pub mod MadeScripts
+pub mod LaneActs
