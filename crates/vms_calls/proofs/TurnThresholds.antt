@@ -1,4 +1,4 @@
--- Which thresholds the steps of a turn leave.
+-- For other crates too: which thresholds the steps of a turn leave.
 use Rattle.std.proofs.Common.{◌≡◌, ◌≢◌, ℕ, suc, zero, ◌&&◌, inl, inr, ⊎_elim, Bool, true}
 use Rattle.std.proofs.Common.{false, nat_eq, if◌then◌else◌, List, [], ◌∷◌, ◌++◌, length, Option, Some, None}
 use Rattle.std.proofs.Common.{refl, sym, ap, ◌∙◌, subst, arith, append_assoc, eq-eqb, ne_eqb}
