@@ -2,3 +2,4 @@ pub mod BlockSearches
 pub mod OrderTests
 pub mod ZoneTests
 pub mod TurnSteps
+pub mod TurnRules

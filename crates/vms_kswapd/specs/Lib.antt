@@ -1,2 +1,3 @@
 pub mod Seeking
 pub mod Passing
+pub mod LeftThresholds

@@ -7,6 +7,7 @@ ghost use Rattle.vms_core.specs.Own.{CarriesNothing};
 ghost use Rattle.vms_core.specs.Pages.{pages, state_after};
 ghost use Rattle.vms_core.specs.Plain.{most_sets};
 ghost use Rattle.vms_history.specs.Events.{own};
+ghost use Rattle.vms_kswapd.specs.LeftThresholds.{LeavesRule};
 ghost use Rattle.vms_kswapd.specs.Passing.{NamesPassed};
 ghost use Rattle.vms_plain_pages.specs.Balances.{balance_told};
 ghost use Rattle.vms_seats.specs.Passes.{IsOf};
@@ -44,9 +45,12 @@ pub fn kswapd_turn<N: Rule, P: Rule>(
     requires order { order ≤ 10 }
     requires most { most ≤ 3 }
     requires room { suc (largest_sets table.now.facts.layout (state_after table.now.facts pass.old.seen)) < most_sets }
-    ensures made { (steps : List Step) × IsTurn header.now table.now.facts.base (P.answers rules.now.pressure)
-        (N.answers rules.now.normal) node order most pass.old.number pass.old.seen steps (balance_told result)
-        × Made pages pass.new pass.old steps }
+    ensures made { (steps : List Step)
+        × (turn : IsTurn header.now table.now.facts.base (P.answers rules.now.pressure) (N.answers rules.now.normal) node
+        order most pass.old.number pass.old.seen steps (balance_told result))
+        × Made pages pass.new pass.old steps
+        × LeavesRule header.now table.now.facts.base (P.answers rules.now.pressure) (N.answers rules.now.normal) node
+        order most pass.old.number pass.old.seen steps (balance_told result) turn pass.new.seen }
     ensures passed { NamesPassed header.now pass.new pass.old node order most result }
     ensures carries { CarriesNothing table.now.facts.layout (own pass.old.seen pass.old.number) →
         CarriesNothing table.now.facts.layout (own pass.new.seen pass.new.number) }

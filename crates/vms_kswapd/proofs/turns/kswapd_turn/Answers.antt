@@ -1,5 +1,8 @@
--- The three calls are a turn, and each threshold and mark was set twice at most.
-use Rattle.std.proofs.Common.{arith}
+-- The three calls are a turn, the thresholds of its rule stand after it, and each threshold and mark was set twice at most.
+use Rattle.std.proofs.Common.{arith, ◌∙◌, sym, subst}
+use Rattle.vms_calls.specs.MayMake.{HasMade}
+use Rattle.vms_core.specs.declared.steps.Facts.{Facts}
+use Rattle.vms_kswapd.proofs.TurnRules.{rules-stand}
 use Rattle.vms_kswapd.proofs.TurnSteps.{facts-are, names-whole, tested-carries, tested-sets, turn-made}
 use Rattle.vms_plain_pages.specs.Balances.{balance_told}
 use Rattle.vms_kswapd.proofs.turns.kswapd_turn.Goals as goal
@@ -16,14 +19,26 @@ pub returns-clause-made : goal.returns-clause-made
 returns-clause-made g c =
     let words = c.args.table.now in
     let header = c.args.header.now in
+    let old = c.args.pass.now in
+    let new = c.settle.new.pass in
+    let pressure = g.P.Rule.answers c.args.rules.now.pressure in
+    let normal = g.N.Rule.answers c.args.rules.now.normal in
+    let answer = balance_told c.balanced-balance.result in
+    let know = c.control_passes_know_by_own_steps.ensures in
     let pressed = c.set_pressure.ensures.made in
+    let control = c.set_pressure.ensures.control in
     let tested = c.balanced-balance.ensures.made in
-    turn-made words header (g.P.Rule.answers c.args.rules.now.pressure) (g.N.Rule.answers c.args.rules.now.normal)
-    c.args.node c.args.order c.args.most (facts-are header words.facts c.requires.layout c.requires.sizes)
-    c.balanced-balance.new.pass c.set_pressure.new.pass c.args.pass.now c.requires.table
-    c.control_passes_know_by_own_steps.ensures c.set_pressure.ensures.control pressed.0 tested.0
-    (balance_told c.balanced-balance.result) pressed.1 pressed.2 tested.1 tested.2 c.settle.new.pass
-    c.settle.ensures.made
+    let same = facts-are header words.facts c.requires.layout c.requires.sizes in
+    let made = turn-made words header pressure normal c.args.node c.args.order c.args.most same
+    c.balanced-balance.new.pass c.set_pressure.new.pass old c.requires.table know control pressed.0 tested.0 answer
+    pressed.1 pressed.2 tested.1 tested.2 new c.settle.ensures.made in (
+      made.0,
+      made.1,
+      made.2,
+      rules-stand header words.facts.base old.number new.seen old.seen made.0
+          (subst (λ (f : Facts). HasMade f new.seen old.seen old.number made.0) (c.requires.table.facts ∙ sym same)
+          made.2.made) know control pressure normal c.args.node c.args.order c.args.most answer made.1,
+    )
 
 pub returns-clause-passed : goal.returns-clause-passed
 returns-clause-passed g c =
