@@ -1,0 +1,5 @@
+mod StillSettings
+mod AbsentCpus
+mod BuriedCpus
+mod TakenAway
+mod WholeBurials
