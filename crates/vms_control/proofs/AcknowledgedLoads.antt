@@ -40,7 +40,8 @@ module _ (g i : ℕ) (online : List CpuId) (i_in : i < length online) (new now o
         numbers ++ (x ∷ []),
         length-append numbers (x ∷ []) ∙ ap (λ (n : ℕ). n + 1) so_far.1,
         subst (Made pages new old)
-            (sym (ap (λ (cs : List CpuId). acknowledged_steps g cs (numbers ++ (x ∷ []))) (take_more online i no_cpu i_in)
+            (sym (ap (λ (cs : List CpuId). acknowledged_steps g cs (numbers ++ (x ∷ [])))
+            (take_more online i no_cpu i_in)
             ∙ acknowledged-more g (take i online) numbers (get_or online i no_cpu) x (short ∙ sym so_far.1)))
             (calls-next pages new now old (acknowledged_steps g (take i online) numbers)
             (LoadA (get_or online i no_cpu) (record { number = g }) x) one so_far.2),

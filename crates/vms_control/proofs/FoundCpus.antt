@@ -23,14 +23,11 @@ use Rattle.vms_core.specs.Pages.{pages, History, IsLegal, state_after}
 use Rattle.vms_core.specs.Peaks.{cpu_after, cpu_in}
 use Rattle.vms_core.proofs.LiveOwners.{online-stays}
 use Rattle.vms_core.proofs.Settings.{cpu_at-state_after}
-use Rattle.vms_core.specs.Conditions.{IsControl}
-use Rattle.vms_control.specs.SetCounts.{SetsAtMost, never}
-use Rattle.vms_control.proofs.StepCounts.{set-both, set-none, set-still}
 use Rattle.vms_control.specs.Online.{FoundOnline, number_in}
 use Rattle.vms_seats.specs.Passes.{Pass, Shared, IsOf, IsLive}
 use Rattle.vms_seats.specs.Steps.{Made, MadeOne, MakesStep}
 use Rattle.vms_seats.proofs.MadeCalls.{calls-both, calls-none}
-use Rattle.vms_control.proofs.PassCalls.{control-new, step-at}
+use Rattle.vms_control.proofs.PassCalls.{step-at}
 
 abbrev no_cpu : CpuId
 no_cpu = record { number = 0 }
@@ -59,8 +56,10 @@ online_from-more c (y ∷ ys) x = by (is_online y)
     last : List CpuId
     last = if is_online x then record { number = c + suc (length ys) } ∷ [] else []
 
-    by : (b : Bool) → online_from (suc c) (ys ++ (x ∷ [])) ≡ online_from (suc c) ys ++ last
-        → (if b then record { number = c } ∷ online_from (suc c) (ys ++ (x ∷ [])) else online_from (suc c) (ys ++ (x ∷ [])))
+    all : List CpuId
+    all = online_from (suc c) (ys ++ (x ∷ []))
+
+    by : (b : Bool) → all ≡ online_from (suc c) ys ++ last → (if b then record { number = c } ∷ all else all)
         ≡ (if b then record { number = c } ∷ online_from (suc c) ys else online_from (suc c) ys) ++ last
     by true rest = ap (λ (cs : List CpuId). record { number = c } ∷ cs) rest
     by false rest = rest
@@ -103,7 +102,6 @@ pub record FoundSoFar (facts : Facts) (now old : Pass Facts Step) (n : ℕ) (onl
   pub each : AreOnline facts.layout facts.base online
   pub below : (i : ℕ) → i < length online → number_in online i < n
   pub ascending : (i j : ℕ) → i < j → j < length online → number_in online i < number_in online j
-  pub still : IsControl old.seen old.number → SetsAtMost facts never never now.seen old.seen
 
 pub found-none : (facts : Facts) (old : Pass Facts Step) → IsLive pages old → FoundSoFar facts old old 0 []
 found-none facts old live = record {
@@ -116,11 +114,10 @@ found-none facts old live = record {
   each = λ i d i_in. absurd (omega arith);
   below = λ i i_in. absurd (omega arith);
   ascending = λ i j before j_in. absurd (omega arith);
-  still = λ control. set-none facts old.seen;
 }
 
 module _ (words : Shared Facts) (now old : Pass Facts Step) (n : ℕ) (online : List CpuId)
-    (so_far : FoundSoFar words.facts now old n online) (first : IsOf old words) (of : IsOf now words) (new : Pass Facts Step) (x : CpuState)
+    (so_far : FoundSoFar words.facts now old n online) (of : IsOf now words) (new : Pass Facts Step) (x : CpuState)
     (n_in : IsCpu words.facts.layout n) (one : MadeOne pages new now (LoadO (record { number = n }) x)) where
   abbrev facts : Facts
   facts = words.facts
@@ -163,15 +160,6 @@ module _ (words : Shared Facts) (now old : Pass Facts Step) (n : ℕ) (online : 
       (let count : 0 + length so_far.states ≡ n = omega (arith, so_far.one_each) in count)
       ∙ ap (λ (cs : List CpuId). cs ++ (if b then record { number = n } ∷ [] else [])) (sym so_far.found)
 
-  then_still : IsControl now.seen now.number → SetsAtMost facts never never now.seen old.seen
-      → SetsAtMost facts never never new.seen old.seen
-  then_still control before = set-both facts never never never never never never new.seen now.seen old.seen
-      (set-still facts new.seen now.seen now.number (LoadO (record { number = n }) x) at control (λ c f m. refl)
-      (λ f m. refl)) before (λ m. omega arith) (λ m. omega arith)
-
-  controls : IsOf old words → IsControl old.seen old.number → IsControl now.seen now.number
-  controls first = control-new words now old (in_turn state_steps 0 so_far.states) first so_far.made
-
   pub found-other : is_online x ≡ false → FoundSoFar facts new old (n + 1) online
   found-other off = record {
     states = then_states;
@@ -187,7 +175,6 @@ module _ (words : Shared Facts) (now old : Pass Facts Step) (n : ℕ) (online : 
     each = so_far.each;
     below = λ i i_in. omega (arith, so_far.below i i_in);
     ascending = so_far.ascending;
-    still = λ control. then_still (controls first control) (so_far.still control);
   }
 
   pub found-online : is_online x ≡ true → FoundSoFar facts new old (n + 1) (online ++ (record { number = n } ∷ []))
@@ -224,7 +211,6 @@ module _ (words : Shared Facts) (now old : Pass Facts Step) (n : ℕ) (online : 
               so_far.ascending i j before j_then,
             ))
             (cases_eq j (length online));
-        still = λ control. then_still (controls first control) (so_far.still control);
       }
 
 pub found-all : (facts : Facts) (now old : Pass Facts Step) (n : ℕ) (online : List CpuId) → IsBase facts
@@ -234,6 +220,7 @@ found-all facts now old n online base so_far all =
     record {
       some = so_far.some up.0 (let within = up.1 in omega (arith, within, all)) up.2;
       few = omega (arith, so_far.few, all);
+      most = let cpus = base.layout.cpus_most in omega (arith, so_far.few, all, cpus);
       each = so_far.each;
       ascending = so_far.ascending;
     }

@@ -1,5 +1,5 @@
--- For other crates too: the largest number of sets of one threshold or mark, after a call that sets each once at most.
-use Rattle.std.proofs.Common.{ℕ, suc, ◌<◌, ◌≤◌, length, arith}
+-- For other crates too: the largest number of sets of one threshold or mark, by how often each was set since.
+use Rattle.std.proofs.Common.{ℕ, ◌+◌, ◌<◌, ◌≤◌, length, arith}
 use Rattle.vms_base.specs.Places.{Shape, IsCpu, IsPlace, IsZone, place_count}
 use Rattle.vms_core.specs.declared.states.State.{State}
 use Rattle.vms_core.specs.declared.steps.Facts.{Facts}
@@ -33,20 +33,22 @@ module _ (facts : Facts) where
     mark = λ zone. let most = mark-most facts.layout (state_after facts h) g zone in omega (arith, most, room);
   }
 
-  -- one more at most
-  pub largest-grows : (f g : ℕ → ℕ) (later earlier : History) → SetsAtMost facts f g later earlier
-      → ((n : ℕ) → f n ≤ 1) → ((n : ℕ) → g n ≤ 1)
-      → largest_sets facts.layout (state_after facts later) ≤ suc (largest_sets facts.layout (state_after facts earlier))
-  largest-grows f g later earlier sets f_most g_most =
+  -- it grows by as often as each was set at most
+  pub largest-grows : (f g : ℕ → ℕ) (times : ℕ) (later earlier : History) → SetsAtMost facts f g later earlier
+      → ((n : ℕ) → f n ≤ times) → ((n : ℕ) → g n ≤ times)
+      → largest_sets facts.layout (state_after facts later)
+      ≤ times + largest_sets facts.layout (state_after facts earlier)
+  largest-grows f g times later earlier sets f_most g_most =
       let shape = facts.layout in
       let s = state_after facts earlier in
       let next = state_after facts later in
       let rows =
       largest_below-most (λ c. largest_below (λ n. threshold_sets_at next c n) (place_count shape)) shape.cpus
-      (suc (largest_sets shape s))
-      (λ c c_in. largest_below-most (λ n. threshold_sets_at next c n) (place_count shape) (suc (largest_sets shape s))
+      (times + largest_sets shape s)
+      (λ c c_in. largest_below-most (λ n. threshold_sets_at next c n) (place_count shape)
+      (times + largest_sets shape s)
       (λ n n_in. let most = threshold-most shape s c n c_in n_in in
       omega (arith, sets.thresholds c n c_in n_in, f_most n, most))) in
-      let zones = largest_below-most (λ n. mark_sets_at next n) (length shape.zones) (suc (largest_sets shape s))
+      let zones = largest_below-most (λ n. mark_sets_at next n) (length shape.zones) (times + largest_sets shape s)
       (λ n n_in. let most = mark-most shape s n n_in in omega (arith, sets.marks n n_in, g_most n, most)) in
       omega (arith, rows, zones)

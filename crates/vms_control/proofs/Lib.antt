@@ -2,6 +2,7 @@ pub mod PushedLists
 pub mod PeakSums
 pub mod SameSums
 pub mod PassCalls
+pub mod QuietSteps
 pub mod StepCounts
 pub mod LargestSets
 pub mod FoundCpus

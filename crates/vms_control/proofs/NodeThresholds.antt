@@ -84,7 +84,8 @@ module _ (shape : Shape) (ts : List ℕ) (online : List CpuId) where
   node_steps i node = threshold_steps (length shape.zones + i) (largest_on shape ts node) online
 
   pub nodes-more : (new now old : Pass Facts Step) (i t : ℕ) → i < length shape.nodes
-      → Made pages now old (in_turn node_steps 0 (take i shape.nodes)) → t ≡ largest_on shape ts (get_or shape.nodes i 0)
+      → Made pages now old (in_turn node_steps 0 (take i shape.nodes))
+      → t ≡ largest_on shape ts (get_or shape.nodes i 0)
       → Made pages new now (threshold_steps (length shape.zones + i) t online)
       → Made pages new old (in_turn node_steps 0 (take (i + 1) shape.nodes))
   nodes-more new now old i t i_in made is set =

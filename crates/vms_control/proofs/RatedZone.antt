@@ -1,28 +1,32 @@
 -- A zone is rated: its mark may be set, and then its thresholds.
 use Rattle.std.proofs.Common.{◌≡◌, ◌≢◌, ℕ, ◌≤◌, Bool, if◌then◌else◌, List, [], ◌∷◌, ◌++◌, length}
-use Rattle.std.proofs.Common.{refl, sym, ap, ◌∙◌, subst, append_assoc, arith}
+use Rattle.std.proofs.Common.{refl, sym, ap, ◌∙◌, subst, append_assoc}
 use Rattle.std.proofs.lemmas.Bool.{ne_eqb}
 use Rattle.std.proofs.lemmas.List.Elements.{All-weaker}
 use Rattle.vms_base.specs.declared.ids.CpuId.{CpuId}
 use Rattle.vms_base.specs.declared.kinds.CpuState.TheVariants.{Online}
+use Rattle.vms_base.specs.declared.kinds.ZoneSize.{ZoneSize}
+use Rattle.vms_base.specs.Marks.{cover_mark_of, linux_mark_of}
 use Rattle.vms_base.specs.Places.{IsCpu, IsZone}
-use Rattle.vms_base.specs.Sizes.{IsValidSize, size_at}
+use Rattle.vms_base.specs.Sizes.{size_at}
 use Rattle.vms_base.specs.Thresholds.{most_threshold}
 use Rattle.vms_calls.specs.MayCall.{AreOnline}
 use Rattle.vms_calls.specs.MayMake.{ControlsIn, MayMake}
 use Rattle.vms_calls.specs.Ratings.{Choice, Rates, mark_for, mark_steps, rating_steps, threshold_steps}
 use Rattle.vms_calls.proofs.ChoiceRanges.{GivesBoth}
-use Rattle.vms_calls.proofs.ControlCalls.{base, rating-may, valid_sizes}
+use Rattle.vms_calls.proofs.ControlCalls.{rating-may}
 use Rattle.vms_calls.proofs.MayBegin.{call-whole}
 use Rattle.vms_core.specs.declared.steps.Facts.{Facts}
 use Rattle.vms_core.specs.declared.steps.Step.{Step}
 use Rattle.vms_core.specs.declared.steps.Step.TheVariants.{SetM}
 use Rattle.vms_core.specs.Cells.{cpu_at, mark_at}
 use Rattle.vms_core.specs.Conditions.{IsControl, SetsMark}
-use Rattle.vms_core.specs.Pages.{pages, IsLegal, state_after}
+use Rattle.vms_core.specs.Pages.{pages, History, IsLegal, state_after}
+use Rattle.vms_core.specs.Peaks.{peak_sum}
 use Rattle.vms_core.proofs.LiveOwners.{online-stays}
 use Rattle.vms_control.specs.Online.{FoundOnline}
 use Rattle.vms_control.proofs.PassCalls.{has-made}
+use Rattle.vms_history.specs.Events.{after}
 use Rattle.vms_history.proofs.MadeSteps.{made-both, made-none}
 use Rattle.vms_seats.specs.Passes.{Pass, Shared, IsOf, IsLive}
 use Rattle.vms_seats.specs.Steps.{Made}
@@ -35,6 +39,17 @@ InRange size online t usual =
 
 in_range-gives : GivesBoth InRange
 in_range-gives size online t usual valid some few chosen = chosen
+
+-- the mark that is computed is the one that covers
+pub mark-is : (facts : Facts) (p : ℕ) (online : List CpuId) (h : History) (g usual t : ℕ) (size : ZoneSize)
+    (linux hidden mark : ℕ) → size ≡ size_at facts.sizes g → linux ≡ linux_mark_of size (length online) usual
+    → hidden ≡ peak_sum facts g (after p (threshold_steps g t online) h) → mark ≡ cover_mark_of size linux hidden
+    → mark ≡ mark_for facts p online h g usual t
+mark-is facts p online h g usual t size linux hidden mark size_is linux_is hidden_is is = is
+    ∙ ap (λ (n : ℕ). cover_mark_of size n hidden) linux_is
+    ∙ ap (λ (n : ℕ). cover_mark_of size (linux_mark_of size (length online) usual) n) hidden_is
+    ∙ ap (λ (z : ZoneSize). cover_mark_of z (linux_mark_of z (length online) usual)
+    (peak_sum facts g (after p (threshold_steps g t online) h))) size_is
 
 module _ (words : Shared Facts) (old : Pass Facts Step) (of : IsOf old words) (live : IsLive pages old)
     (control : IsControl old.seen old.number) (online : List CpuId) (found : FoundOnline words.facts online)
@@ -51,12 +66,6 @@ module _ (words : Shared Facts) (old : Pass Facts Step) (of : IsOf old words) (l
 
   controls : ControlsIn facts old.seen p
   controls = record { living = record { legal = legal; lives = live.lives }; control = control }
-
-  pub valid : IsValidSize (size_at facts.sizes g)
-  valid = valid_sizes facts old.seen p controls g zone
-
-  pub few : length online ≤ 128
-  few = let most = (base facts old.seen p controls).layout.cpus_most in omega (arith, found.few, most)
 
   online_now : AreOnline facts.layout (state_after facts old.seen) online
   online_now = All-weaker (λ (c : CpuId). IsCpu facts.layout c.number × (cpu_at facts.base c.number ≡ Online))

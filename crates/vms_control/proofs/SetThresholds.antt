@@ -103,7 +103,8 @@ module _ (g t : ℕ) (online : List CpuId) (i : ℕ) (i_in : i < length online) 
     set-unset j past j_in =
         let rises = found.ascending i j (omega arith) j_in in
         sets-next facts later now p next_set at control (number_in online j) g g_in
-        ∙ ap (λ (b : Bool). if b && nat_eq g g then suc (threshold_sets_at (state_after facts now) (number_in online j) g)
+        ∙ ap (λ (b : Bool). if b && nat_eq g g
+        then suc (threshold_sets_at (state_after facts now) (number_in online j) g)
         else threshold_sets_at (state_after facts now) (number_in online j) g)
         (ne_eqb c (number_in online j) (λ same. omega arith))
         ∙ unset j (omega arith) j_in

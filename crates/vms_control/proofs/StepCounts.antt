@@ -88,18 +88,6 @@ module _ (facts : Facts) (later earlier : History) (p : ℕ) (step : Step)
       ∙ mark_at-newest facts (record { caller = p; step = step }) at.before legal g
       ∙ ap (mark_after g step) (knows.marks g)
 
-  -- one that sets nothing
-  pub set-still : ((c g n : ℕ) → sets_after c g step n ≡ n) → ((g n : ℕ) → mark_sets_after g step n ≡ n)
-      → SetsAtMost facts never never later earlier
-  set-still thresholds marks = record {
-    thresholds = λ c g c_in g_in. omega (
-      arith,
-      sets-next c g g_in,
-      thresholds c g (threshold_sets_at (state_after facts earlier) c g),
-    );
-    marks = λ g g_in. omega (arith, mark_sets-next g, marks g (mark_sets_at (state_after facts earlier) g));
-  }
-
 -- one that sets a mark
 pub set-mark : (facts : Facts) (later earlier : History) (p : ℕ) (g : PlaceId) (m : ℕ)
     → MakesStep pages facts later earlier p (SetM g m) → IsControl earlier p

@@ -9,6 +9,7 @@ use Rattle.vms_base.specs.Sizes.{IsValidSize, size_at}
 use Rattle.vms_calls.specs.MayCall.{KnowsByOwnSteps}
 use Rattle.vms_calls.specs.Ratings.{Rates, Visits, acknowledged_steps, rating_steps}
 use Rattle.vms_calls.specs.Ratings.RatesMarked.{unmarked, marked}
+use Rattle.vms_calls.proofs.CallSteps.{Each, each-append}
 use Rattle.vms_core.specs.declared.states.MarkRead.{MarkRead}
 use Rattle.vms_core.specs.declared.steps.Facts.{Facts}
 use Rattle.vms_core.specs.declared.steps.Step.{Step}
@@ -20,9 +21,10 @@ use Rattle.vms_control.specs.declared.rating.Rating.{Rating}
 use Rattle.vms_control.specs.declared.rating.Rating.TheVariants.{Pressure, Normal, Refresh}
 use Rattle.vms_control.specs.Rated.{choice_of, is_spared, rated_by}
 use Rattle.vms_control.specs.SetCounts.{SetsAtMost, MayStillSet, never}
-use Rattle.vms_control.proofs.PassCalls.{control-new, has-made, of-new, step-at, sums-made}
+use Rattle.vms_control.proofs.PassCalls.{control-new, has-made, sums-made}
 use Rattle.vms_control.proofs.SameSums.{rates-same}
-use Rattle.vms_control.proofs.StepCounts.{set-both, set-still, still-may}
+use Rattle.vms_control.proofs.QuietSteps.{SetsNothing, quiet-sets}
+use Rattle.vms_control.proofs.StepCounts.{still-may}
 use Rattle.vms_history.specs.Events.{after}
 use Rattle.vms_history.proofs.Prefixes.{base_can_begin}
 use Rattle.vms_seats.specs.Passes.{Pass, Shared, IsOf}
@@ -74,10 +76,7 @@ module _ (words : Shared Facts) (loaded found old : Pass Facts Step) (of : IsOf 
   pub control-loaded : IsControl loaded.seen loaded.number
   control-loaded = control-new words loaded old loads of made-loads control
 
-  control-found : IsControl found.seen found.number
-  control-found = control-new words found old (acknowledged_steps g online acknowledged.0) of acknowledged.2 control
-
-  pub base-loaded : IsBase facts
+  base-loaded : IsBase facts
   base-loaded = base_can_begin pages facts loaded.seen (has-made words loaded old loads of made-loads).legal
 
   pub zone-sized : (sizes : List ZoneSize) → sizes ≡ facts.sizes → g < length sizes
@@ -89,19 +88,21 @@ module _ (words : Shared Facts) (loaded found old : Pass Facts Step) (of : IsOf 
       (base-loaded.sizes g no_size (zone-sized facts.sizes refl))
 
   -- the loads set nothing
-  pub loads-still : SetsAtMost facts never never found.seen old.seen → SetsAtMost facts never never loaded.seen old.seen
-  loads-still before = set-both facts never never never never never never loaded.seen found.seen old.seen
-      (set-still facts loaded.seen found.seen found.number (LoadM (record { number = g }) mark.mark mark.number)
-      (step-at words loaded found (LoadM (record { number = g }) mark.mark mark.number)
-      (of-new words found old (acknowledged_steps g online acknowledged.0) of acknowledged.2) one) control-found
-      (λ c f n. refl) (λ f n. refl))
-      before (λ n. omega arith) (λ n. omega arith)
+  acknowledged-quiet : (cs : List CpuId) (numbers : List (Option ℕ))
+      → Each SetsNothing (acknowledged_steps g cs numbers)
+  acknowledged-quiet [] numbers = tt
+  acknowledged-quiet (c ∷ cs) [] = tt
+  acknowledged-quiet (c ∷ cs) (x ∷ numbers) = (tt, acknowledged-quiet cs numbers)
 
-  pub loads-may : SetsAtMost facts never never found.seen old.seen → MayStillSet facts old.seen g
-      → MayStillSet facts loaded.seen g
-  loads-may before may =
+  pub loads-still : SetsAtMost facts never never loaded.seen old.seen
+  loads-still = quiet-sets facts loaded.seen old.seen p loads (has-made words loaded old loads of made-loads) control
+      (each-append SetsNothing (acknowledged_steps g online acknowledged.0)
+      (LoadM (record { number = g }) mark.mark mark.number ∷ []) (acknowledged-quiet online acknowledged.0) (tt, tt))
+
+  pub loads-may : MayStillSet facts old.seen g → MayStillSet facts loaded.seen g
+  loads-may may =
       let place : IsPlace facts.layout g = omega (arith, zone) in
-      still-may facts never never loaded.seen old.seen g place (loads-still before) refl refl may
+      still-may facts never never loaded.seen old.seen g place loads-still refl refl may
 
   module _ (pressure normal : ZoneSize → ℕ → ℕ → Type 0) (rating : Rating) where
     -- the relation of a visit

@@ -1,5 +1,5 @@
 -- Zones are visited one after another.
-use Rattle.std.proofs.Common.{◌≡◌, ◌≢◌, ℕ, suc, ◌+◌, ◌-◌, ◌<◌, nat_eq, if◌then◌else◌, Bool, true, false, List, []}
+use Rattle.std.proofs.Common.{◌≡◌, ◌≢◌, ℕ, suc, ◌+◌, ◌-◌, ◌<◌, ◌≤◌, nat_eq, if◌then◌else◌, Bool, true, false, List, []}
 use Rattle.std.proofs.Common.{◌∷◌, ◌++◌, length, get_or, map, sym, ap, ◌∙◌, subst, arith, append_assoc, add-one}
 use Rattle.std.proofs.Common.{eq-eqb}
 use Rattle.std.specs.Prelude.{filter}
@@ -163,7 +163,7 @@ module _ (shape : Shape) (node : ℕ) where
   zones-same n is = zones-by n false is ∙ append-nil (zones_so_far n)
 
 -- a node has a zone
-pub zone-on : (shape : Shape) → IsLayout shape → (n : PlaceId) → IsNode shape n.number
+zone-on : (shape : Shape) → IsLayout shape → (n : PlaceId) → IsNode shape n.number
     → (g : ℕ) × IsZone shape g × (nat_eq (node_of_zone shape g) (node_number shape n) ≡ true)
 zone-on shape layout n is_node =
     let i = n.number - length shape.zones in
@@ -177,3 +177,12 @@ zone-on shape layout n is_node =
       (let same = length-map shape.zones (λ (zone : ZoneName). zone.node) in let below = named.1 in omega arith),
       eq-eqb (node_of_zone shape g) node at,
     )
+
+-- what the visit of each of its zones tells is told once all zones are past
+pub node-tells : (shape : Shape) → IsLayout shape → (n : PlaceId) → IsNode shape n.number → (Told : Type 0) (node m : ℕ)
+    → node_number shape n ≡ node → length shape.zones ≤ m
+    → ((g : ℕ) → g < m → nat_eq (node_of_zone shape g) node ≡ true → Told) → Told
+node-tells shape layout n is_node Told node m same past each =
+    let one = zone-on shape layout n is_node in
+    each one.0 (let zone = one.1 in omega (arith, zone, past))
+    (subst (λ (k : ℕ). nat_eq (node_of_zone shape one.0) k ≡ true) same one.2)

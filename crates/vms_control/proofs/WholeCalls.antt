@@ -12,7 +12,7 @@ use Rattle.vms_calls.specs.MayCall.{KnowsByOwnSteps}
 use Rattle.vms_calls.specs.Ratings.{ByNormal, ByPressure, Choice, Rates, RatesMarked, RatesNode, Refreshes}
 use Rattle.vms_calls.specs.Ratings.{VisitsEach, node_number, numbers_below}
 use Rattle.vms_calls.specs.Ratings.{state_steps, zones_on}
-use Rattle.vms_calls.proofs.CallSteps.{Each, node-each, refresh-each}
+use Rattle.vms_calls.proofs.CallSteps.{Each, node-each, refresh-each, states-each}
 use Rattle.vms_calls.proofs.CallerLaws.{IsStill, ratings-still, still-leaves}
 use Rattle.vms_core.specs.declared.steps.Facts.{Facts}
 use Rattle.vms_core.specs.declared.steps.Step.{Step}
@@ -26,7 +26,8 @@ use Rattle.vms_control.specs.Rated.{choice_of, rated_by}
 use Rattle.vms_control.specs.SetCounts.{MayStillSet, SetsAtMost, never, once}
 use Rattle.vms_control.proofs.LargestSets.{largest-may}
 use Rattle.vms_control.proofs.NodeThresholds.{node_steps}
-use Rattle.vms_control.proofs.PassCalls.{control-old, sums-made}
+use Rattle.vms_control.proofs.PassCalls.{control-old, has-made, sums-made}
+use Rattle.vms_control.proofs.QuietSteps.{SetsNothing, looks-set_nothing, quiet-sets}
 use Rattle.vms_control.proofs.SameSums.{marked-same, rates-same, visits_each-same}
 use Rattle.vms_control.proofs.StepCounts.{still-may}
 use Rattle.vms_history.specs.Events.{after, own}
@@ -57,15 +58,20 @@ still-nothing shape new old steps made still nothing =
 
 module _ (words : Shared Facts) (mid old : Pass Facts Step) (of : IsOf old words) (states : List CpuState)
     (loaded : Made pages mid old (in_turn state_steps 0 states)) where
-  pub first-control : IsControl mid.seen mid.number → IsControl old.seen old.number
+  first-control : IsControl mid.seen mid.number → IsControl old.seen old.number
   first-control = control-old words mid old (in_turn state_steps 0 states) of loaded
 
-  -- after the loads each word may be set once more
-  pub loaded-room : (IsControl old.seen old.number → SetsAtMost words.facts never never mid.seen old.seen)
-      → largest_sets words.facts.layout (state_after words.facts old.seen) < most_sets
+  -- the loads set nothing
+  pub loaded-still : IsControl mid.seen mid.number → SetsAtMost words.facts never never mid.seen old.seen
+  loaded-still control = quiet-sets words.facts mid.seen old.seen old.number (in_turn state_steps 0 states)
+      (has-made words mid old (in_turn state_steps 0 states) of loaded) (first-control control)
+      (states-each SetsNothing looks-set_nothing 0 states)
+
+  -- so each word may be set once more after them
+  pub loaded-room : largest_sets words.facts.layout (state_after words.facts old.seen) < most_sets
       → IsControl mid.seen mid.number → (g : ℕ) → IsPlace words.facts.layout g → MayStillSet words.facts mid.seen g
-  loaded-room still room control g g_in =
-      still-may words.facts never never mid.seen old.seen g g_in (still (first-control control)) refl refl
+  loaded-room room control g g_in =
+      still-may words.facts never never mid.seen old.seen g g_in (loaded-still control) refl refl
       (largest-may words.facts old.seen room g g_in)
 
   module _ (know : KnowsByOwnSteps) (control : IsControl mid.seen mid.number)
@@ -75,18 +81,18 @@ module _ (words : Shared Facts) (mid old : Pass Facts Step) (of : IsOf old words
     zones n = zones_on words.facts.layout (node_number words.facts.layout n)
 
     node-made : (n : PlaceId) (Chooses : Choice) → (ts : List ℕ) (steps : List Step)
-        → VisitsEach words.facts mid.number online (RatesMarked words.facts mid.number online Chooses) (zones n) ts mid.seen
-        steps → Made pages new mid steps
+        → VisitsEach words.facts mid.number online (RatesMarked words.facts mid.number online Chooses) (zones n) ts
+        mid.seen steps → Made pages new mid steps
         → (steps : List Step) × RatesNode words.facts Chooses n old.number old.seen steps × Made pages new old steps
     node-made n Chooses ts steps visits made =
         let p = old.number in
         let loads = in_turn state_steps 0 states in
         let cs = online_from 0 states in
         let at_old : VisitsEach words.facts p cs (RatesMarked words.facts p cs Chooses) (zones n) ts mid.seen steps =
-        subst (λ (ds : List CpuId). VisitsEach words.facts p ds (RatesMarked words.facts p ds Chooses) (zones n) ts mid.seen
-        steps) found
-        (subst (λ (q : ℕ). VisitsEach words.facts q online (RatesMarked words.facts q online Chooses) (zones n) ts mid.seen
-        steps) loaded.number visits) in (
+        subst (λ (ds : List CpuId). VisitsEach words.facts p ds (RatesMarked words.facts p ds Chooses) (zones n) ts
+        mid.seen steps) found
+        (subst (λ (q : ℕ). VisitsEach words.facts q online (RatesMarked words.facts q online Chooses) (zones n) ts
+        mid.seen steps) loaded.number visits) in (
           loads ++ steps,
           record {
             states = states;

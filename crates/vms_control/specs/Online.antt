@@ -12,5 +12,6 @@ number_in online n = (slice_index_or online n (record { number = 0 })).number
 pub record FoundOnline (facts : Facts) (online : List CpuId) : Type 0 where
   pub some : 1 ≤ length online
   pub few : length online ≤ facts.layout.cpus
+  pub most : length online ≤ 128
   pub each : AreOnline facts.layout facts.base online
   pub ascending : (i j : ℕ) → i < j → j < length online → number_in online i < number_in online j

@@ -3,17 +3,14 @@ ghost use Rattle.vms_base.specs.Places.{IsNode, IsPlace};
 ghost use Rattle.vms_calls.specs.Ratings.{RatesNode, SetsNormal, SetsPressure, VisitsEach, node_number, zones_on};
 ghost use Rattle.vms_core.specs.declared.steps.Step.{Step};
 ghost use Rattle.vms_core.specs.Conditions.{IsControl};
-ghost use Rattle.vms_core.specs.Own.{CarriesNothing};
-ghost use Rattle.vms_core.specs.Pages.{pages, state_after};
-ghost use Rattle.vms_core.specs.Plain.{most_sets};
+ghost use Rattle.vms_core.specs.Pages.{pages};
 ghost use Rattle.vms_control.specs.declared.rating.Rating.TheVariants.{Refresh};
 ghost use Rattle.vms_control.specs.Online.{FoundOnline};
 ghost use Rattle.vms_control.specs.Rated.{choice_of, rated_by};
-ghost use Rattle.vms_control.specs.SetCounts.{MayStillSet, SetsAtMost, once};
-ghost use Rattle.vms_history.specs.Events.{own};
+ghost use Rattle.vms_control.specs.SetCounts.{HasRoom, MayStillSet, SetsAtMost, SetsOnceMore, once};
+ghost use Rattle.vms_control.specs.Unladen.{StaysUnladen};
 ghost use Rattle.vms_seats.specs.Passes.{IsOf};
 ghost use Rattle.vms_seats.specs.Steps.{Made};
-ghost use Rattle.vms_words.specs.KeptSettings.{largest_sets};
 
 use crate::online::load_online;
 use crate::rating::Rating;
@@ -28,7 +25,9 @@ use vms_words::{Caller, ControlPass, PageTable};
 ///
 /// At every moment each mark covers what the CPUs may hide of its zone by the thresholds that they may still be using:
 /// this holds of every legal history, and so in the middle of this call too. A mark comes down, also to 0, where CPUs
-/// acknowledged smaller thresholds or became absent. A mark that came down to 0 is one that `set_normal` then leaves.
+/// acknowledged smaller thresholds or became absent. Where it came down to 0, `set_normal` then leaves the zone as it is.
+///
+/// `PageTable::most_sets` has to be below 2,000,000, and grows by at most 1.
 pub fn set_pressure<N: Rule, P: Rule>(
     table: &PageTable,
     pass: &mut ControlPass,
@@ -39,20 +38,19 @@ pub fn set_pressure<N: Rule, P: Rule>(
     requires table { IsOf pass.old table.now }
     requires sizes { header.now.sizes ≡ table.now.facts.sizes }
     requires node { IsNode table.now.facts.layout node.number }
-    requires room { largest_sets table.now.facts.layout (state_after table.now.facts pass.old.seen) < most_sets }
+    requires room { HasRoom table.now.facts pass.old.seen }
     ensures made { (steps : List Step) × SetsPressure table.now.facts (P.answers rules.now.pressure)
         (N.answers rules.now.normal) node pass.old.number pass.old.seen steps × Made pages pass.new pass.old steps }
     ensures control { IsControl pass.old.seen pass.old.number }
-    ensures carries { CarriesNothing table.now.facts.layout (own pass.old.seen pass.old.number) →
-        CarriesNothing table.now.facts.layout (own pass.new.seen pass.new.number) }
-    ensures sets { largest_sets table.now.facts.layout (state_after table.now.facts pass.new.seen)
-        ≤ suc (largest_sets table.now.facts.layout (state_after table.now.facts pass.old.seen)) }
+    ensures carries { StaysUnladen table.now.facts pass.new pass.old }
+    ensures sets { SetsOnceMore table.now.facts pass.new.seen pass.old.seen }
 {
     rate_node(table, pass, header, rules, node, Rating::Pressure);
 }
 
 /// Sets the normal thresholds of a node's zones again, under marks that cover them (`set_pgdat_percpu_threshold` of
-/// mm/vmstat.c with `calculate_normal_threshold`). A zone whose mark is 0 keeps its thresholds.
+/// mm/vmstat.c with `calculate_normal_threshold`). A zone whose mark is 0 keeps its thresholds. What `set_pressure` says
+/// of marks and of `PageTable::most_sets` holds of this call too.
 pub fn set_normal<N: Rule, P: Rule>(
     table: &PageTable,
     pass: &mut ControlPass,
@@ -63,14 +61,12 @@ pub fn set_normal<N: Rule, P: Rule>(
     requires table { IsOf pass.old table.now }
     requires sizes { header.now.sizes ≡ table.now.facts.sizes }
     requires node { IsNode table.now.facts.layout node.number }
-    requires room { largest_sets table.now.facts.layout (state_after table.now.facts pass.old.seen) < most_sets }
+    requires room { HasRoom table.now.facts pass.old.seen }
     ensures made { (steps : List Step) × SetsNormal table.now.facts (N.answers rules.now.normal) node pass.old.number
         pass.old.seen steps × Made pages pass.new pass.old steps }
     ensures control { IsControl pass.old.seen pass.old.number }
-    ensures carries { CarriesNothing table.now.facts.layout (own pass.old.seen pass.old.number) →
-        CarriesNothing table.now.facts.layout (own pass.new.seen pass.new.number) }
-    ensures sets { largest_sets table.now.facts.layout (state_after table.now.facts pass.new.seen)
-        ≤ suc (largest_sets table.now.facts.layout (state_after table.now.facts pass.old.seen)) }
+    ensures carries { StaysUnladen table.now.facts pass.new pass.old }
+    ensures sets { SetsOnceMore table.now.facts pass.new.seen pass.old.seen }
 {
     rate_node(table, pass, header, rules, node, Rating::Normal);
 }
@@ -88,15 +84,13 @@ fn rate_node<N: Rule, P: Rule>(
     requires sizes { header.now.sizes ≡ table.now.facts.sizes }
     requires node { IsNode table.now.facts.layout node.number }
     requires node_alone { rating ≢ Refresh }
-    requires room { largest_sets table.now.facts.layout (state_after table.now.facts pass.old.seen) < most_sets }
+    requires room { HasRoom table.now.facts pass.old.seen }
     ensures made { (steps : List Step) × RatesNode table.now.facts
         (choice_of rating (P.answers rules.now.pressure) (N.answers rules.now.normal)) node pass.old.number
         pass.old.seen steps × Made pages pass.new pass.old steps }
     ensures control { IsControl pass.old.seen pass.old.number }
-    ensures carries { CarriesNothing table.now.facts.layout (own pass.old.seen pass.old.number) →
-        CarriesNothing table.now.facts.layout (own pass.new.seen pass.new.number) }
-    ensures sets { largest_sets table.now.facts.layout (state_after table.now.facts pass.new.seen)
-        ≤ suc (largest_sets table.now.facts.layout (state_after table.now.facts pass.old.seen)) }
+    ensures carries { StaysUnladen table.now.facts pass.new pass.old }
+    ensures sets { SetsOnceMore table.now.facts pass.new.seen pass.old.seen }
 {
     // What a pass computed from peaks stands, whatever others did meanwhile.
     control_passes_know_by_own_steps();

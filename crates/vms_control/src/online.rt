@@ -3,10 +3,8 @@ ghost use Rattle.vms_base.specs.declared.kinds.CpuState.{CpuState};
 ghost use Rattle.vms_base.specs.Cpus.{is_online as tells_online, online_from};
 ghost use Rattle.vms_calls.specs.Lists.{in_turn};
 ghost use Rattle.vms_calls.specs.Ratings.{state_steps};
-ghost use Rattle.vms_core.specs.Conditions.{IsControl};
 ghost use Rattle.vms_core.specs.Pages.{pages};
 ghost use Rattle.vms_control.specs.Online.{FoundOnline};
-ghost use Rattle.vms_control.specs.SetCounts.{SetsAtMost, never};
 ghost use Rattle.vms_seats.specs.Passes.{IsOf};
 ghost use Rattle.vms_seats.specs.Steps.{Made};
 
@@ -68,8 +66,6 @@ pub(crate) fn load_online(table: &PageTable, pass: &mut ControlPass) -> OnlineCp
     ensures made { (states : List CpuState) × (length states ≡ table.now.facts.layout.cpus)
         × (result ≡ online_from 0 states) × Made pages pass.new pass.old (in_turn state_steps 0 states) }
     ensures found { FoundOnline table.now.facts result }
-    ensures sets { IsControl pass.old.seen pass.old.number →
-        SetsAtMost table.now.facts never never pass.new.seen pass.old.seen }
 {
     // The pass is known to live once it is asked for its CPU.
     let _ = pass.own();

@@ -91,6 +91,7 @@ pub(crate) fn rate(
     requires control { IsControl pass.old.seen pass.old.number }
     requires zone { IsZone table.now.facts.layout zone.number }
     requires size { size.now ≡ size_at table.now.facts.sizes zone.number }
+    requires valid { IsValidSize size.now }
     requires found { mark_at (state_after table.now.facts pass.old.seen) zone.number ≡ found }
     requires online { FoundOnline table.now.facts online.now }
     requires least { 1 ≤ chosen.threshold }

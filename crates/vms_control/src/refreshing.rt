@@ -6,15 +6,12 @@ ghost use Rattle.vms_calls.specs.Ratings.{ByNormal, Rates, Refreshes, VisitsEach
 ghost use Rattle.vms_calls.specs.Ratings.{threshold_steps};
 ghost use Rattle.vms_core.specs.declared.steps.Step.{Step};
 ghost use Rattle.vms_core.specs.Conditions.{IsControl};
-ghost use Rattle.vms_core.specs.Own.{CarriesNothing};
-ghost use Rattle.vms_core.specs.Pages.{pages, state_after};
-ghost use Rattle.vms_core.specs.Plain.{most_sets};
+ghost use Rattle.vms_core.specs.Pages.{pages};
 ghost use Rattle.vms_control.specs.Online.{FoundOnline};
-ghost use Rattle.vms_control.specs.SetCounts.{MayStillSet, SetsAtMost, never, once};
-ghost use Rattle.vms_history.specs.Events.{own};
+ghost use Rattle.vms_control.specs.SetCounts.{HasRoom, MayStillSet, SetsAtMost, SetsOnceMore, never, once};
+ghost use Rattle.vms_control.specs.Unladen.{StaysUnladen};
 ghost use Rattle.vms_seats.specs.Passes.{IsOf};
 ghost use Rattle.vms_seats.specs.Steps.{Made};
-ghost use Rattle.vms_words.specs.KeptSettings.{largest_sets};
 
 use crate::online::load_online;
 use crate::rating::{Rating, set_thresholds};
@@ -28,9 +25,12 @@ use vms_words::{Caller, ControlPass, PageTable};
 /// Gives each zone its normal threshold, under a mark that covers it, and then each node the largest of its zones
 /// (`refresh_zone_stat_thresholds` of mm/vmstat.c). CPUs that are not online keep theirs.
 ///
-/// Linux sets a zone's mark after its thresholds, and leaves an older mark where the thresholds need none. Here the mark
-/// comes first, and it comes down where CPUs acknowledged smaller thresholds or became absent. So at every moment each
-/// mark covers what the CPUs may hide of its zone, which holds of every legal history.
+/// Linux sets a zone's mark after its thresholds, and leaves an older mark where the thresholds need none. Here the
+/// mark comes first, and it comes down where CPUs acknowledged smaller thresholds or became absent. At every moment
+/// each mark covers what the CPUs may hide of its zone by the thresholds that they may still be using: this holds of
+/// every legal history, and so in the middle of this call too.
+///
+/// `PageTable::most_sets` has to be below 2,000,000, and grows by at most 1.
 pub fn refresh_thresholds<N: Rule, P: Rule>(
     table: &PageTable,
     pass: &mut ControlPass,
@@ -39,13 +39,11 @@ pub fn refresh_thresholds<N: Rule, P: Rule>(
 )
     requires table { IsOf pass.old table.now }
     requires sizes { header.now.sizes ≡ table.now.facts.sizes }
-    requires room { largest_sets table.now.facts.layout (state_after table.now.facts pass.old.seen) < most_sets }
+    requires room { HasRoom table.now.facts pass.old.seen }
     ensures made { (steps : List Step) × Refreshes table.now.facts (N.answers rules.now.normal) pass.old.number
         pass.old.seen steps × Made pages pass.new pass.old steps }
-    ensures carries { CarriesNothing table.now.facts.layout (own pass.old.seen pass.old.number) →
-        CarriesNothing table.now.facts.layout (own pass.new.seen pass.new.number) }
-    ensures sets { largest_sets table.now.facts.layout (state_after table.now.facts pass.new.seen)
-        ≤ suc (largest_sets table.now.facts.layout (state_after table.now.facts pass.old.seen)) }
+    ensures carries { StaysUnladen table.now.facts pass.new pass.old }
+    ensures sets { SetsOnceMore table.now.facts pass.new.seen pass.old.seen }
 {
     // What a pass computed from peaks stands, whatever others did meanwhile.
     control_passes_know_by_own_steps();

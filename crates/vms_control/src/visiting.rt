@@ -8,7 +8,7 @@ ghost use Rattle.vms_core.specs.Pages.{pages};
 ghost use Rattle.vms_control.specs.declared.rating.Rating.TheVariants.{Refresh};
 ghost use Rattle.vms_control.specs.Online.{FoundOnline};
 ghost use Rattle.vms_control.specs.Rated.{rated_by};
-ghost use Rattle.vms_control.specs.SetCounts.{MayStillSet, SetsAtMost, never, once};
+ghost use Rattle.vms_control.specs.SetCounts.{MayStillSet, SetsAtMost, once};
 ghost use Rattle.vms_seats.specs.Passes.{IsOf};
 ghost use Rattle.vms_seats.specs.Steps.{Made};
 ghost use Rattle.std.specs.Prelude.{suc};
@@ -66,7 +66,6 @@ fn load_acknowledged(table: &PageTable, pass: &mut ControlPass, zone: PlaceId, o
     ensures made { (numbers : List (Option ℕ)) × (length numbers ≡ length online.now)
         × Made pages pass.new pass.old (acknowledged_steps zone.number online.now numbers) }
     ensures control { IsControl pass.old.seen pass.old.number }
-    ensures sets { SetsAtMost table.now.facts never never pass.new.seen pass.old.seen }
 {
     // The pass is known to live once it is asked for its CPU.
     let _ = pass.own();

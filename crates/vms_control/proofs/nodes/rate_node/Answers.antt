@@ -5,7 +5,7 @@ use Rattle.vms_control.specs.Rated.{choice_of}
 use Rattle.vms_control.specs.SetCounts.{never, once}
 use Rattle.vms_control.proofs.LargestSets.{largest-grows}
 use Rattle.vms_control.proofs.StepCounts.{set-both}
-use Rattle.vms_control.proofs.WholeCalls.{first-control, loaded-room, node-call, node-nothing, once-little}
+use Rattle.vms_control.proofs.WholeCalls.{first-control, loaded-room, loaded-still, node-call, node-nothing, once-little}
 use Rattle.vms_control.proofs.nodes.rate_node.Goals as goal
 
 pub visit_node-requires-clause-online : goal.visit_node-requires-clause-online
@@ -15,7 +15,7 @@ visit_node-requires-clause-online g c =
 pub visit_node-requires-clause-room : goal.visit_node-requires-clause-room
 visit_node-requires-clause-room g c =
     loaded-room c.args.table.now c.load_online-online.new.pass c.args.pass.now c.requires.table
-    c.load_online-online.ensures.made.0 c.load_online-online.ensures.made.3 c.load_online-online.ensures.sets
+    c.load_online-online.ensures.made.0 c.load_online-online.ensures.made.3
     c.requires.room
 
 pub returns-clause-made : goal.returns-clause-made
@@ -43,10 +43,11 @@ returns-clause-sets g c =
     let facts = c.args.table.now.facts in
     let all = once 0 (length facts.layout.zones) in
     let made = c.load_online-online.ensures.made in
-    let control = first-control c.args.table.now c.load_online-online.new.pass c.args.pass.now c.requires.table made.0
+    let still = loaded-still c.args.table.now c.load_online-online.new.pass c.args.pass.now c.requires.table made.0
     made.3 c.visit_node.ensures.control in
-    largest-grows facts all all c.visit_node.new.pass.seen c.args.pass.now.seen
+    let grown = largest-grows facts all all 1 c.visit_node.new.pass.seen c.args.pass.now.seen
     (set-both facts never never all all all all c.visit_node.new.pass.seen c.load_online-online.new.pass.seen
-    c.args.pass.now.seen c.visit_node.ensures.sets (c.load_online-online.ensures.sets control) (λ n. omega arith)
+    c.args.pass.now.seen c.visit_node.ensures.sets still (λ n. omega arith)
     (λ n. omega arith))
-    (once-little 0 (length facts.layout.zones)) (once-little 0 (length facts.layout.zones))
+    (once-little 0 (length facts.layout.zones)) (once-little 0 (length facts.layout.zones)) in
+    omega (arith, grown)

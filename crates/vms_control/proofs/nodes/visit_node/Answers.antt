@@ -1,16 +1,17 @@
--- A zone more is visited, if it is on the node; the node has a zone, whose visit tells that the pass is the control pass.
-use Rattle.std.proofs.Common.{◌≡◌, ℕ, ◌+◌, ◌-◌, ◌<◌, nat_eq, true, List, [], ◌∷◌, ◌++◌, length, sym, get_or}
+-- A zone more is visited, if it is on the node. The node has a zone, whose visit tells that the pass is the control
+-- pass.
+use Rattle.std.proofs.Common.{◌≡◌, ℕ, ◌+◌, ◌-◌, ◌≤◌, nat_eq, true, List, [], ◌∷◌, ◌++◌, length, sym, get_or}
 use Rattle.std.proofs.Common.{ap, subst, ◌∙◌, arith, ⊎_elim, true≢false}
 use Rattle.std.proofs.lemmas.Bool.{cases_eq}
 use Rattle.vms_base.specs.declared.kinds.ZoneName.{ZoneName}
 use Rattle.vms_base.specs.Places.{IsPlace, Shape, node_of_zone}
-use Rattle.vms_calls.specs.Ratings.{node_number}
 use Rattle.vms_core.specs.Bases.{IsBase}
 use Rattle.vms_core.specs.Conditions.{IsControl}
 use Rattle.vms_core.specs.Pages.{pages}
 use Rattle.vms_control.specs.SetCounts.{SetsAtMost, once}
 use Rattle.vms_control.proofs.VisitedZones.{Visited, on-false, on-true, visited-control, visited-more, visited-none}
-use Rattle.vms_control.proofs.VisitedZones.{visited-past, visited-room, zone-on, zones-more, zones-same, zones_so_far}
+use Rattle.vms_control.proofs.VisitedZones.{node-tells, visited-past, visited-room, zones-more, zones-same}
+use Rattle.vms_control.proofs.VisitedZones.{zones_so_far}
 use Rattle.vms_control.proofs.nodes.visit_node.Goals as goal
 use Rattle.vms_control.proofs.nodes.visit_node.Goals.{then-zones-zone, else-zones-zone}
 use Rattle.vms_history.proofs.Prefixes.{base_can_begin}
@@ -64,8 +65,8 @@ loop-zone-preserved g c =
           record {
             visited = (
               ts,
-              subst (Visited words old pressure normal c.args.rating online (zones_so_far shape node (n + 1)) ts (n + 1))
-                  (sym w.pass-is)
+              subst (Visited words old pressure normal c.args.rating online (zones_so_far shape node (n + 1)) ts
+                  (n + 1)) (sym w.pass-is)
                   (subst (λ (gs : List ℕ). Visited words old pressure normal c.args.rating online gs ts (n + 1)
                   w.visit.new.pass) (sym (zones-more shape node n on)) visited),
             );
@@ -95,51 +96,32 @@ loop-zone-preserved g c =
 
 pub returns-clause-control : goal.returns-clause-control
 returns-clause-control g c =
-    let words = c.args.table.now in
-    let shape = words.facts.layout in
+    let shape = c.args.table.now.facts.layout in
     let old = c.args.pass.now in
+    let laid = c.layout-layout.ensures in
     let base = subst IsBase c.requires.table.facts (base_can_begin pages old.facts old.seen c.own.ensures.live.legal) in
-    let one = zone-on shape base.layout c.args.node c.requires.node in
-    let is_node : node_number shape c.args.node
-    ≡ get_or c.nodes.result.now (c.args.node.number - length c.zones.result.now) 0 =
-    sym (ap (λ (xs : List ℕ). get_or xs (c.args.node.number - length c.zones.result.now) 0)
-    (c.nodes.ensures.value ∙ ap (λ (s : Shape). s.nodes) c.layout-layout.ensures)
+    let same = ap length c.zones-zone-end.ensures.value ∙ ap (λ (s : Shape). length s.zones) laid in
+    let past : length shape.zones ≤ c.loop-zone.zone = omega (arith, c.loop-zone-test.false, same) in
+    node-tells shape base.layout c.args.node c.requires.node (IsControl old.seen old.number)
+    (get_or c.nodes.result.now (c.args.node.number - length c.zones.result.now) 0) c.loop-zone.zone
+    (sym (ap (λ (xs : List ℕ). get_or xs (c.args.node.number - length c.zones.result.now) 0)
+    (c.nodes.ensures.value ∙ ap (λ (s : Shape). s.nodes) laid)
     ∙ ap (λ (xs : List ZoneName). get_or shape.nodes (c.args.node.number - length xs) 0)
-    (c.zones.ensures.value ∙ ap (λ (s : Shape). s.zones) c.layout-layout.ensures)) in
-    let same = ap (λ (s : Shape). length s.zones) c.layout-layout.ensures in
-    let below : one.0 < c.loop-zone.zone = omega (
-      arith,
-      one.1,
-      c.loop-zone-test.false,
-      ap length c.zones-zone-end.ensures.value,
-      same,
-    ) in
-    c.loop-zone.invariant.control one.0 below
-    (subst (λ (m : ℕ). nat_eq (node_of_zone shape one.0) m ≡ true) is_node one.2)
+    (c.zones.ensures.value ∙ ap (λ (s : Shape). s.zones) laid)))
+    past c.loop-zone.invariant.control
 
 pub returns-clause-sets : goal.returns-clause-sets
 returns-clause-sets g c =
     let words = c.args.table.now in
     let shape = words.facts.layout in
     let old = c.args.pass.now in
-    let same = ap (λ (s : Shape). length s.zones) c.layout-layout.ensures in
+    let laid = c.layout-layout.ensures in
+    let same = ap length c.zones-zone-end.ensures.value ∙ ap (λ (s : Shape). length s.zones) laid in
     let all : c.loop-zone.zone ≡ length shape.zones = omega (
       arith,
       c.loop-zone-test.false,
       c.loop-zone.auto.«zone-end»,
-      ap length c.zones-zone-end.ensures.value,
       same,
     ) in
-    let base = subst IsBase c.requires.table.facts (base_can_begin pages old.facts old.seen c.own.ensures.live.legal) in
-    let one = zone-on shape base.layout c.args.node c.requires.node in
-    let is_node : node_number shape c.args.node
-    ≡ get_or c.nodes.result.now (c.args.node.number - length c.zones.result.now) 0 =
-    sym (ap (λ (xs : List ℕ). get_or xs (c.args.node.number - length c.zones.result.now) 0)
-    (c.nodes.ensures.value ∙ ap (λ (s : Shape). s.nodes) c.layout-layout.ensures)
-    ∙ ap (λ (xs : List ZoneName). get_or shape.nodes (c.args.node.number - length xs) 0)
-    (c.zones.ensures.value ∙ ap (λ (s : Shape). s.zones) c.layout-layout.ensures)) in
-    let below : one.0 < c.loop-zone.zone = omega (arith, one.1, all) in
-    let control : IsControl old.seen old.number = c.loop-zone.invariant.control one.0 below
-    (subst (λ (m : ℕ). nat_eq (node_of_zone shape one.0) m ≡ true) is_node one.2) in
     subst (λ (m : ℕ). SetsAtMost words.facts (once 0 m) (once 0 m) c.loop-zone.pass.seen old.seen) all
-    (c.loop-zone.invariant.visited.1.sets control)
+    (c.loop-zone.invariant.visited.1.sets (returns-clause-control g c))

@@ -28,11 +28,11 @@ loop-number-preserved c =
       | then-is_online w ↦
           subst (FoundSoFar words.facts c.load_state.new.pass old (n + 1)) (sym (w.online-is))
           (subst (FoundSoFar words.facts c.load_state.new.pass old (n + 1)) (sym w.push.ensures)
-          (found-online words now old n c.loop-number.online so_far c.requires.table of c.load_state.new.pass c.load_state.result n_in
+          (found-online words now old n c.loop-number.online so_far of c.load_state.new.pass c.load_state.result n_in
           c.load_state.ensures.made (sym c.is_online.ensures ∙ w.if-is_online.true)))
       | else-is_online w ↦
           subst (FoundSoFar words.facts c.load_state.new.pass old (n + 1)) (sym (w.online-is))
-          (found-other words now old n c.loop-number.online so_far c.requires.table of c.load_state.new.pass c.load_state.result n_in
+          (found-other words now old n c.loop-number.online so_far of c.load_state.new.pass c.load_state.result n_in
           c.load_state.ensures.made (sym c.is_online.ensures ∙ w.if-is_online.false))
     ]
 

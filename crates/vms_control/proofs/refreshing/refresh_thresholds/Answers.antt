@@ -9,14 +9,14 @@ use Rattle.vms_control.proofs.LargestSets.{largest-grows}
 use Rattle.vms_control.proofs.NodeThresholds.{node_steps}
 use Rattle.vms_control.proofs.PassCalls.{control-new}
 use Rattle.vms_control.proofs.StepCounts.{once-other, once-parts, set-both, still-may}
-use Rattle.vms_control.proofs.WholeCalls.{first-control, loaded-room, once-little, refresh-call, refresh-nothing}
+use Rattle.vms_control.proofs.WholeCalls.{loaded-room, loaded-still, once-little, refresh-call, refresh-nothing}
 use Rattle.vms_control.proofs.refreshing.refresh_thresholds.Goals as goal
 use Rattle.vms_seats.specs.Steps.{Made}
 
 pub visit_all-thresholds-requires-clause-room : goal.visit_all-thresholds-requires-clause-room
 visit_all-thresholds-requires-clause-room g c =
     loaded-room c.args.table.now c.load_online-online.new.pass c.args.pass.now c.requires.table
-    c.load_online-online.ensures.made.0 c.load_online-online.ensures.made.3 c.load_online-online.ensures.sets
+    c.load_online-online.ensures.made.0 c.load_online-online.ensures.made.3
     c.requires.room
 
 pub set_nodes-requires-clause-control : goal.set_nodes-requires-clause-control
@@ -37,7 +37,7 @@ set_nodes-requires-clause-room g c place past place_in =
     still-may facts zones zones c.visit_all-thresholds.new.pass.seen c.load_online-online.new.pass.seen place place_in
     c.visit_all-thresholds.ensures.sets none none
     (loaded-room c.args.table.now c.load_online-online.new.pass c.args.pass.now c.requires.table
-    c.load_online-online.ensures.made.0 c.load_online-online.ensures.made.3 c.load_online-online.ensures.sets
+    c.load_online-online.ensures.made.0 c.load_online-online.ensures.made.3
     c.requires.room c.visit_all-thresholds.ensures.control place place_in)
 
 pub returns-clause-made : goal.returns-clause-made
@@ -71,14 +71,15 @@ returns-clause-sets g c =
     let zones = once 0 (length facts.layout.zones) in
     let nodes = once (length facts.layout.zones) (place_count facts.layout) in
     let made = c.load_online-online.ensures.made in
-    let control = first-control c.args.table.now c.load_online-online.new.pass c.args.pass.now c.requires.table made.0
+    let still = loaded-still c.args.table.now c.load_online-online.new.pass c.args.pass.now c.requires.table made.0
     made.3 c.visit_all-thresholds.ensures.control in
     let visited = set-both facts never never zones zones zones zones c.visit_all-thresholds.new.pass.seen
     c.load_online-online.new.pass.seen c.args.pass.now.seen c.visit_all-thresholds.ensures.sets
-    (c.load_online-online.ensures.sets control) (λ n. omega arith) (λ n. omega arith) in
-    largest-grows facts (λ n. nodes n + zones n) (λ n. never n + zones n) c.set_nodes.new.pass.seen c.args.pass.now.seen
+    still (λ n. omega arith) (λ n. omega arith) in
+    let grown = largest-grows facts (λ n. nodes n + zones n) (λ n. never n + zones n) 1 c.set_nodes.new.pass.seen c.args.pass.now.seen
     (set-both facts zones zones nodes never (λ n. nodes n + zones n) (λ n. never n + zones n)
     c.set_nodes.new.pass.seen c.visit_all-thresholds.new.pass.seen c.args.pass.now.seen c.set_nodes.ensures.sets visited
     (λ n. omega arith) (λ n. omega arith))
     (once-parts (length facts.layout.zones) (place_count facts.layout))
-    (λ n. let little = once-little 0 (length facts.layout.zones) n in omega (arith, little))
+    (λ n. let little = once-little 0 (length facts.layout.zones) n in omega (arith, little)) in
+    omega (arith, grown)

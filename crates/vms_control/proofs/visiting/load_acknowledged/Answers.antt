@@ -1,11 +1,8 @@
 -- What one CPU more acknowledged was loaded.
-use Rattle.std.proofs.Common.{refl, arith, get_or, take}
+use Rattle.std.proofs.Common.{take}
 use Rattle.vms_calls.specs.Ratings.{acknowledged_steps}
-use Rattle.vms_core.specs.declared.steps.Step.TheVariants.{LoadA}
-use Rattle.vms_control.specs.SetCounts.{never}
 use Rattle.vms_control.proofs.AcknowledgedLoads.{load-controls, loads-more}
-use Rattle.vms_control.proofs.PassCalls.{control-old, of-new, step-at}
-use Rattle.vms_control.proofs.StepCounts.{set-both, set-still}
+use Rattle.vms_control.proofs.PassCalls.{control-old, of-new}
 use Rattle.vms_control.proofs.visiting.load_acknowledged.Goals as goal
 
 pub loop-cpu-preserved : goal.loop-cpu-preserved
@@ -18,17 +15,11 @@ loop-cpu-preserved c =
     let now = c.loop-cpu.pass in
     let old = c.args.pass.now in
     let new = c.load_acknowledged.new.pass in
-    let x = c.load_acknowledged.result in
     let so_far = c.loop-cpu.invariant in
     let steps = acknowledged_steps g (take i online) so_far.made.0 in
-    let load = LoadA (get_or online i (record { number = 0 })) (record { number = g }) x in
     let of = of-new words now old steps c.requires.table so_far.made.2 in
-    let control = load-controls g i online i_in new now old x c.load_acknowledged.ensures words of in
     record {
-      made = loads-more g i online i_in new now old x c.load_acknowledged.ensures so_far.made;
-      control = λ some. control-old words now old steps c.requires.table so_far.made.2 control;
-      sets = set-both words.facts never never never never never never new.seen now.seen old.seen
-          (set-still words.facts new.seen now.seen now.number load
-          (step-at words new now load of c.load_acknowledged.ensures) control (λ d f n. refl) (λ f n. refl))
-          so_far.sets (λ n. omega arith) (λ n. omega arith);
+      made = loads-more g i online i_in new now old c.load_acknowledged.result c.load_acknowledged.ensures so_far.made;
+      control = λ some. control-old words now old steps c.requires.table so_far.made.2
+          (load-controls g i online i_in new now old c.load_acknowledged.result c.load_acknowledged.ensures words of);
     }

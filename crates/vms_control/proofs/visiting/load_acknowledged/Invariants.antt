@@ -2,7 +2,6 @@ use Rattle.std.proofs.Common.{◌≡◌, ℕ, ◌<◌, List, Option, length, tak
 use Rattle.vms_calls.specs.Ratings.{acknowledged_steps}
 use Rattle.vms_core.specs.Conditions.{IsControl}
 use Rattle.vms_core.specs.Pages.{pages}
-use Rattle.vms_control.specs.SetCounts.{SetsAtMost, never}
 use Rattle.vms_control.proofs.visiting.load_acknowledged.Given as goal
 use Rattle.vms_seats.specs.Steps.{Made}
 
@@ -12,5 +11,4 @@ invariant-loop-cpu l = record {
   made : (numbers : List (Option ℕ)) × (length numbers ≡ l.cpu-index)
       × Made pages l.pass l.fn.pass (acknowledged_steps l.zone.number (take l.cpu-index l.online) numbers);
   control : 0 < l.cpu-index → IsControl l.fn.pass.seen l.fn.pass.number;
-  sets : SetsAtMost l.table.facts never never l.pass.seen l.fn.pass.seen;
 }

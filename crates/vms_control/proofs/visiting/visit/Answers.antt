@@ -1,12 +1,12 @@
 -- The loads leave room, and with the rating they make the visit.
-use Rattle.std.proofs.Common.{suc, length, List, sym, ap, ◌∙◌, subst, arith, get_or}
+use Rattle.std.proofs.Common.{suc, length, List, sym, ◌∙◌, subst, arith, get_or}
 use Rattle.vms_base.specs.declared.kinds.ZoneSize.{ZoneSize}
 use Rattle.vms_base.specs.Sizes.{IsValidSize, size_at}
 use Rattle.vms_control.specs.Rated.{choice_of}
 use Rattle.vms_control.specs.SetCounts.{never, once}
 use Rattle.vms_control.proofs.StepCounts.{set-both, set-none}
-use Rattle.vms_control.proofs.VisitedZone.{base-loaded, control-loaded, loads-may, loads-still, no_size}
-use Rattle.vms_control.proofs.VisitedZone.{visit-rated, visit-spared, zone-sized, zone-valid}
+use Rattle.vms_control.proofs.VisitedZone.{control-loaded, loads-may, loads-still, no_size, visit-rated, visit-spared}
+use Rattle.vms_control.proofs.VisitedZone.{zone-sized, zone-valid}
 use Rattle.vms_control.proofs.visiting.visit.Goals as goal
 
 pub returns-then-spares-clause-made : goal.returns-then-spares-clause-made
@@ -21,13 +21,13 @@ returns-then-spares-clause-made g c =
 pub returns-then-spares-clause-sets : goal.returns-then-spares-clause-sets
 returns-then-spares-clause-sets g c =
     let of_zone = once c.args.zone.number (suc c.args.zone.number) in
-    set-both c.args.table.now.facts never never never never of_zone of_zone c.load_mark-found.new.pass.seen
-    c.load_mark-found.new.pass.seen c.args.pass.now.seen
-    (set-none c.args.table.now.facts c.load_mark-found.new.pass.seen)
+    let loaded = c.load_mark-found.new.pass.seen in
+    set-both c.args.table.now.facts never never never never of_zone of_zone loaded loaded c.args.pass.now.seen
+    (set-none c.args.table.now.facts loaded)
     (loads-still c.args.table.now c.load_mark-found.new.pass c.load_acknowledged.new.pass c.args.pass.now
     c.requires.table c.control_passes_know_by_own_steps.ensures c.args.online.now c.args.zone.number c.requires.zone
     c.load_mark-found.result c.load_acknowledged.ensures.made c.load_acknowledged.ensures.control
-    c.load_mark-found.ensures.made c.load_acknowledged.ensures.sets)
+    c.load_mark-found.ensures.made)
     (λ n. omega arith) (λ n. omega arith)
 
 pub get-size-requires : goal.get-size-requires
@@ -35,16 +35,8 @@ get-size-requires g c =
     zone-sized c.args.table.now c.load_mark-found.new.pass c.load_acknowledged.new.pass c.args.pass.now
     c.requires.table c.control_passes_know_by_own_steps.ensures c.args.online.now c.args.zone.number c.requires.zone
     c.load_mark-found.result c.load_acknowledged.ensures.made c.load_acknowledged.ensures.control
-    c.load_mark-found.ensures.made c.args.header.now.sizes c.requires.sizes
-
-pub overflow_cast-online : goal.overflow_cast-online
-overflow_cast-online g c =
-    let base = base-loaded c.args.table.now c.load_mark-found.new.pass c.load_acknowledged.new.pass c.args.pass.now
-    c.requires.table c.control_passes_know_by_own_steps.ensures c.args.online.now c.args.zone.number c.requires.zone
-    c.load_mark-found.result c.load_acknowledged.ensures.made c.load_acknowledged.ensures.control
-    c.load_mark-found.ensures.made in
-    let most = base.layout.cpus_most in
-    omega (arith, most, c.requires.online.few)
+    c.load_mark-found.ensures.made
+    c.args.header.now.sizes c.requires.sizes
 
 pub choose-chosen-requires-clause-size : goal.choose-chosen-requires-clause-size
 choose-chosen-requires-clause-size g c =
@@ -52,16 +44,17 @@ choose-chosen-requires-clause-size g c =
     (zone-valid c.args.table.now c.load_mark-found.new.pass c.load_acknowledged.new.pass c.args.pass.now
     c.requires.table c.control_passes_know_by_own_steps.ensures c.args.online.now c.args.zone.number c.requires.zone
     c.load_mark-found.result c.load_acknowledged.ensures.made c.load_acknowledged.ensures.control
-    c.load_mark-found.ensures.made c.args.header.now.sizes c.requires.sizes)
+    c.load_mark-found.ensures.made
+    c.args.header.now.sizes c.requires.sizes)
 
-pub choose-chosen-requires-clause-most_online : goal.choose-chosen-requires-clause-most_online
-choose-chosen-requires-clause-most_online g c =
-    let base = base-loaded c.args.table.now c.load_mark-found.new.pass c.load_acknowledged.new.pass c.args.pass.now
+pub rate-requires-clause-valid : goal.rate-requires-clause-valid
+rate-requires-clause-valid g c =
+    subst IsValidSize (c.get-size.ensures no_size)
+    (zone-valid c.args.table.now c.load_mark-found.new.pass c.load_acknowledged.new.pass c.args.pass.now
     c.requires.table c.control_passes_know_by_own_steps.ensures c.args.online.now c.args.zone.number c.requires.zone
     c.load_mark-found.result c.load_acknowledged.ensures.made c.load_acknowledged.ensures.control
-    c.load_mark-found.ensures.made in
-    let most = base.layout.cpus_most in
-    omega (arith, most, c.requires.online.few)
+    c.load_mark-found.ensures.made
+    c.args.header.now.sizes c.requires.sizes)
 
 pub rate-requires-clause-control : goal.rate-requires-clause-control
 rate-requires-clause-control g c =
@@ -75,7 +68,7 @@ rate-requires-clause-room g c =
     loads-may c.args.table.now c.load_mark-found.new.pass c.load_acknowledged.new.pass c.args.pass.now
     c.requires.table c.control_passes_know_by_own_steps.ensures c.args.online.now c.args.zone.number c.requires.zone
     c.load_mark-found.result c.load_acknowledged.ensures.made c.load_acknowledged.ensures.control
-    c.load_mark-found.ensures.made c.load_acknowledged.ensures.sets
+    c.load_mark-found.ensures.made
     (c.requires.room c.load_acknowledged.ensures.control)
 
 pub returns-clause-made : goal.returns-clause-made
@@ -84,17 +77,18 @@ returns-clause-made g c =
     let normal = g.N.Rule.answers c.args.rules.now.normal in
     let online = length c.args.online.now in
     let chosen = c.choose-chosen.result in
-    let size_is = sym (c.get-size.ensures no_size)
-    ∙ ap (λ (sizes : List ZoneSize). get_or sizes c.args.zone.number no_size) c.requires.sizes in
     let choice : choice_of c.args.rating pressure normal (size_at c.args.table.now.facts.sizes c.args.zone.number)
     online chosen.threshold chosen.usual =
-    subst (λ (size : ZoneSize). choice_of c.args.rating pressure normal size online chosen.threshold chosen.usual)
-    size_is c.choose-chosen.ensures.chosen in
+    subst (λ (sizes : List ZoneSize). choice_of c.args.rating pressure normal (get_or sizes c.args.zone.number no_size)
+    online chosen.threshold chosen.usual) c.requires.sizes
+    (subst (λ (size : ZoneSize). choice_of c.args.rating pressure normal size online chosen.threshold chosen.usual)
+    (sym (c.get-size.ensures no_size)) c.choose-chosen.ensures.chosen) in
     visit-rated c.args.table.now c.load_mark-found.new.pass c.load_acknowledged.new.pass c.args.pass.now
     c.requires.table c.control_passes_know_by_own_steps.ensures c.args.online.now c.args.zone.number c.requires.zone
     c.load_mark-found.result c.load_acknowledged.ensures.made c.load_acknowledged.ensures.control
-    c.load_mark-found.ensures.made pressure normal c.args.rating (sym c.spares.ensures ∙ c.if-spares.false)
-    chosen.threshold chosen.usual choice c.rate.new.pass c.rate.ensures.made
+    c.load_mark-found.ensures.made
+    pressure normal c.args.rating (sym c.spares.ensures ∙ c.if-spares.false) chosen.threshold chosen.usual choice
+    c.rate.new.pass c.rate.ensures.made
 
 pub returns-clause-sets : goal.returns-clause-sets
 returns-clause-sets g c =
@@ -104,5 +98,5 @@ returns-clause-sets g c =
     (loads-still c.args.table.now c.load_mark-found.new.pass c.load_acknowledged.new.pass c.args.pass.now
     c.requires.table c.control_passes_know_by_own_steps.ensures c.args.online.now c.args.zone.number c.requires.zone
     c.load_mark-found.result c.load_acknowledged.ensures.made c.load_acknowledged.ensures.control
-    c.load_mark-found.ensures.made c.load_acknowledged.ensures.sets)
+    c.load_mark-found.ensures.made)
     (λ n. omega arith) (λ n. omega arith)
