@@ -1,5 +1,5 @@
 -- The passes of a lane on the three tables, as contracts see them.
-use Rattle.std.specs.Prelude.{◌≡◌, length, Option}
+use Rattle.std.specs.Prelude.{◌≡◌, [], length, Option}
 use Rattle.vms_base.specs.declared.ids.CpuId.{CpuId}
 use Rattle.vms_base.specs.Places.{counter_count}
 use Rattle.vms_core.specs.declared.steps.Facts.{Facts}
@@ -15,6 +15,7 @@ use Rattle.vms_pcpu_core.specs.Histories.{percpu}
 use Rattle.vms_pcpu_core.specs.States.{counters_of}
 use Rattle.vms_seats.specs.Passes.{IsLive, IsOf, Pass}
 use Rattle.vms_tables.specs.declared.passes.CpuPasses.{CpuPasses}
+use Rattle.vms_tables.specs.declared.tables.MainPasses.{MainPasses}
 use Rattle.vms_tables.specs.declared.tables.Tables.{Tables}
 
 -- a pass in each table, whether or not they own a CPU
@@ -27,11 +28,21 @@ pub record TablePasses : Type 0 where
 abbrev pub passes_of : CpuPasses → TablePasses
 passes_of passes = record { pages = passes.page.pass; events = passes.event.pass; counters = passes.pcpu.pass }
 
+-- the main passes
+abbrev pub mains_of : MainPasses → TablePasses
+mains_of mains = record { pages = mains.page; events = mains.event; counters = mains.pcpu }
+
 -- each was made from its table
 pub record AreOf (tables : Tables) (passes : TablePasses) : Type 0 where
   pub pages : IsOf passes.pages tables.pages
   pub events : IsOf passes.events tables.events
   pub counters : IsOf passes.counters tables.counters
+
+-- no step was made yet that they know of
+pub record HaveSeenNothing (passes : TablePasses) : Type 0 where
+  pub pages : passes.pages.seen ≡ []
+  pub events : passes.events.seen ≡ []
+  pub counters : passes.counters.seen ≡ []
 
 -- all three own this CPU, or none does
 pub record AllOwn (who : Option CpuId) (passes : TablePasses) : Type 0 where

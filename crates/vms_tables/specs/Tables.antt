@@ -23,3 +23,9 @@ pub record AreTables (header : Header) (tables : Tables) : Type 0 where
   pub events : tables.events.facts ≡ event_facts header (world_of tables)
   pub counters : tables.counters.facts ≡ pcpu_facts header (world_of tables)
   pub declared : counters_of tables.counters.facts.base ≡ length header.counters
+
+-- the tables began with this world
+pub record AreMadeFrom (w : World) (tables : Tables) : Type 0 where
+  pub pages : tables.pages.facts.base ≡ w.pages
+  pub events : tables.events.facts.base ≡ w.events
+  pub counters : tables.counters.facts.base ≡ w.counters

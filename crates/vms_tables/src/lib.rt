@@ -5,4 +5,4 @@ mod passes;
 mod tables;
 
 pub use passes::CpuPasses;
-pub use tables::Tables;
+pub use tables::{MainPasses, Tables};
