@@ -3,7 +3,7 @@ ghost use Rattle.vms_base.specs.Places as places;
 
 use vms_base::{CounterId, ItemId, Layout, PlaceId};
 
-/// The place of a counter. Where `Layout::place_of` divides, it shifts, which takes a tenth of the time.
+/// The place of a counter. Where `Layout::place_of` divides, it shifts.
 #[inline]
 pub(crate) fn place_of(layout: &Layout, counter: CounterId) -> PlaceId
     ensures value { result.number ≡ places.place_of layout.now counter.number }
