@@ -10,13 +10,11 @@ use Rattle.vms_core.specs.declared.steps.Step.TheVariants.{LoadA}
 use Rattle.vms_core.specs.Conditions.{IsControl}
 use Rattle.vms_core.specs.Pages.{pages, IsLegal}
 use Rattle.vms_core.proofs.KnowledgeKept.{owner_in-goes_on}
+use Rattle.vms_control.specs.Online.{no_cpu}
 use Rattle.vms_control.proofs.PassCalls.{step-at}
 use Rattle.vms_seats.specs.Passes.{Pass, Shared, IsOf}
 use Rattle.vms_seats.specs.Steps.{Made, MadeOne}
 use Rattle.vms_seats.proofs.MadeCalls.{calls-next}
-
-abbrev no_cpu : CpuId
-no_cpu = record { number = 0 }
 
 -- one load more
 acknowledged-more : (g : ℕ) (cs : List CpuId) (numbers : List (Option ℕ)) (c : CpuId) (x : Option ℕ)

@@ -23,14 +23,11 @@ use Rattle.vms_core.specs.Pages.{pages, History, IsLegal, state_after}
 use Rattle.vms_core.specs.Peaks.{cpu_after, cpu_in}
 use Rattle.vms_core.proofs.LiveOwners.{online-stays}
 use Rattle.vms_core.proofs.Settings.{cpu_at-state_after}
-use Rattle.vms_control.specs.Online.{FoundOnline, number_in}
+use Rattle.vms_control.specs.Online.{FoundOnline, no_cpu, number_in}
 use Rattle.vms_seats.specs.Passes.{Pass, Shared, IsOf, IsLive}
 use Rattle.vms_seats.specs.Steps.{Made, MadeOne, MakesStep}
 use Rattle.vms_seats.proofs.MadeCalls.{calls-both, calls-none}
 use Rattle.vms_control.proofs.PassCalls.{step-at}
-
-abbrev no_cpu : CpuId
-no_cpu = record { number = 0 }
 
 -- one thing more in a row
 pub in_turn-more : {X : Type 0} (steps : ℕ → X → List Step) (n : ℕ) (xs : List X) (x : X)

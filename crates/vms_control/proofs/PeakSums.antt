@@ -16,7 +16,7 @@ use Rattle.vms_core.specs.declared.steps.Step.TheVariants.{SetT}
 use Rattle.vms_core.specs.Cells.{cpu_at}
 use Rattle.vms_core.specs.Pages.{History}
 use Rattle.vms_core.specs.Peaks.{cpu_in, if_present, peak, peak_sum}
-use Rattle.vms_control.specs.Online.{FoundOnline, number_in}
+use Rattle.vms_control.specs.Online.{FoundOnline, no_cpu, number_in}
 use Rattle.vms_history.specs.Events.{after}
 use Rattle.vms_history.specs.Sums.{count_below}
 use Rattle.vms_history.proofs.CountLemmas.{count_below-most, count_below-same}
@@ -40,9 +40,6 @@ count_below-grown f g (suc n) c more c_in here others = ⊎_elim
 -- the larger of two numbers is the one and what the other has more
 max-grown : (t before : ℕ) → max t before ≡ before + (t - before)
 max-grown t before = omega arith
-
-abbrev no_cpu : CpuId
-no_cpu = record { number = 0 }
 
 module _ (facts : Facts) (p g t : ℕ) where
   -- the CPUs' states stay

@@ -15,16 +15,13 @@ use Rattle.vms_core.specs.declared.steps.Step.TheVariants.{SetT}
 use Rattle.vms_core.specs.Cells.{threshold_sets_at}
 use Rattle.vms_core.specs.Conditions.{IsControl, SetsThreshold}
 use Rattle.vms_core.specs.Pages.{pages, History, state_after}
-use Rattle.vms_control.specs.Online.{FoundOnline, number_in}
+use Rattle.vms_control.specs.Online.{FoundOnline, no_cpu, number_in}
 use Rattle.vms_control.specs.SetCounts.{SetsAtMost, never, once}
 use Rattle.vms_control.proofs.PassCalls.{has-made}
 use Rattle.vms_control.proofs.StepCounts.{mark_sets-next, once-at, sets-next}
 use Rattle.vms_seats.specs.Passes.{Pass, Shared, IsOf}
 use Rattle.vms_seats.specs.Steps.{Made, MadeOne, MakesStep}
 use Rattle.vms_seats.proofs.MadeCalls.{calls-next}
-
-abbrev no_cpu : CpuId
-no_cpu = record { number = 0 }
 
 module _ (g t : ℕ) (online : List CpuId) (i : ℕ) (i_in : i < length online) where
   -- the step for the next CPU

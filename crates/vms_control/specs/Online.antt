@@ -4,9 +4,13 @@ use Rattle.vms_base.specs.declared.ids.CpuId.{CpuId}
 use Rattle.vms_calls.specs.MayCall.{AreOnline}
 use Rattle.vms_core.specs.declared.steps.Facts.{Facts}
 
+-- what is read past the end of a list of CPUs
+abbrev pub no_cpu : CpuId
+no_cpu = record { number = 0 }
+
 -- the number of the CPU at a place of a list
 abbrev pub number_in : List CpuId → ℕ → ℕ
-number_in online n = (slice_index_or online n (record { number = 0 })).number
+number_in online n = (slice_index_or online n no_cpu).number
 
 -- some CPUs that are online from the start of the phase to its end, in ascending order
 pub record FoundOnline (facts : Facts) (online : List CpuId) : Type 0 where
