@@ -58,7 +58,7 @@ still-nothing shape new old steps made still nothing =
 
 module _ (words : Shared Facts) (mid old : Pass Facts Step) (of : IsOf old words) (states : List CpuState)
     (loaded : Made pages mid old (in_turn state_steps 0 states)) where
-  first-control : IsControl mid.seen mid.number → IsControl old.seen old.number
+  pub first-control : IsControl mid.seen mid.number → IsControl old.seen old.number
   first-control = control-old words mid old (in_turn state_steps 0 states) of loaded
 
   -- the loads set nothing
