@@ -28,7 +28,8 @@ use Rattle.vms_answers.specs.Answers.{Answer, LaneSteps, no_steps, then_steps}
 use Rattle.vms_answers.specs.PhaseAnswers.{NumberedAnswer, with_answer}
 use Rattle.vms_answers.proofs.OpenAnswers.{LaneSteps-same}
 use Rattle.vms_lane.specs.Lines.{MakeAct}
-use Rattle.vms_lane.specs.Scripts.{GoesOnWith, MakeLines, acts_in, read_lane}
+use Rattle.vms_lane.specs.Scripts.{GoesOnWith, MakeLines, acts_in}
+use Rattle.vms_merge.specs.Merging.{read_lane}
 use Rattle.vms_lane.specs.Spending.{HasGrown, HasRoom, HaveRoom, HaveSpent, spent_by, spent_by_all, sum_of}
 use Rattle.vms_lane.proofs.GrownVolumes.{grown-none}
 

@@ -1,5 +1,5 @@
 -- What the passes of a lane make of its lines.
-use Rattle.std.specs.Prelude.{◌≡◌, ℕ, List, [], ◌∷◌, ◌++◌, map, Option}
+use Rattle.std.specs.Prelude.{◌≡◌, ℕ, List, ◌++◌, map}
 use Rattle.vms_base.specs.declared.headers.Header.{Header}
 use Rattle.vms_base.specs.declared.kinds.ZoneSize.{ZoneSize}
 use Rattle.vms_history.specs.declared.events.Event.{Event}
@@ -14,8 +14,9 @@ use Rattle.vms_world.specs.declared.worlds.World.{World}
 use Rattle.vms_world.specs.Acts.{EventSteps, PageSteps, PcpuSteps}
 use Rattle.vms_world.specs.Lanes.{MakesActs}
 use Rattle.vms_world.specs.Worlds.{event_facts, pcpu_facts}
-use Rattle.vms_answers.specs.Answers.{Answer, LaneSteps, read_act, then_steps}
-use Rattle.vms_answers.specs.PhaseAnswers.{NumberedAnswer, with_answer}
+use Rattle.vms_answers.specs.Answers.{LaneSteps, then_steps}
+use Rattle.vms_answers.specs.PhaseAnswers.{NumberedAnswer}
+use Rattle.vms_merge.specs.Merging.{read_lane}
 use Rattle.vms_tables.specs.Passes.{TablePasses}
 
 -- the acts of lines
@@ -27,14 +28,6 @@ abbrev pub GoesOnWith : {K : Type 0} → (Act → List (Event K) → List K → 
     → List (Event K) → Type 0
 GoesOnWith makes p acts later earlier = (before : List Act) → MakesActs makes p before earlier →
     MakesActs makes p (before ++ acts) later
-
--- the answers of a lane's lines, the oldest first, as the steps of its passes tell them, and the steps after those
-abbrev pub read_lane : Header → World → Lane → List LaneItem → LaneSteps → List NumberedAnswer × LaneSteps
-read_lane header w lane [] steps = ([], steps)
-read_lane header w lane (item ∷ items) steps =
-    let read : Option Answer × LaneSteps = read_act header w lane item.act steps in
-    let rest : List NumberedAnswer × LaneSteps = read_lane header w lane items read.1 in
-    (with_answer item.number read.0 rest.0, rest.1)
 
 -- the passes of a lane made its lines one after another in a phase from this world, whatever others did in between, and
 -- nothing else: their steps are those of the acts in order, and tell these answers
