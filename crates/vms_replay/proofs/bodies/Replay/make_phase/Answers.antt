@@ -1,11 +1,9 @@
 -- A phase that failed, one whose texts couldn't be written, and one that was made.
-use Rattle.std.proofs.Common.{rules, ◌≡◌, ◌∙◌, ◌++◌, Some, List, ap, append-nil, refl}
+use Rattle.std.proofs.Common.{rules, ◌≡◌, ◌∙◌, Some, refl}
 use Rattle.std.proofs.lemmas.Result.{err_from_is_err_and}
-use Rattle.vms_answers.specs.PhaseAnswers.{NumberedAnswer}
-use Rattle.vms_replay.specs.Printing.{Prints}
-use Rattle.vms_replay.specs.Waits.{written}
 use Rattle.vms_replay.proofs.EndedPhases.{EndsPhase-failed, EndsPhase-made, EndsPhase-unwritten, MakesPhase-of}
 use Rattle.vms_replay.proofs.PlainTotals.{HasPlainTotals-phase}
+use Rattle.vms_replay.proofs.PrintedWaits.{printed-all}
 use Rattle.vms_replay.proofs.bodies.Replay.make_phase.Goals as goal
 
 pub returns-in_err-left : goal.returns-in_err-left
@@ -26,4 +24,24 @@ returns-in_err-end g c =
     c.in_ok-left.left script c.in_ok-left.ensures) c.requires.some p.0)
 
 pub returns : goal.returns
-returns g c = ?
+returns g c =
+    let self = c.args.self.now in
+    let header = c.args.header.now in
+    let in_world : self.world ≡ Some c.in-Some.world = search rules in
+    let script : c.make-script.result ≡ self.items.items = search rules in
+    EndsPhase-made g.E.Engine.Makes header self _ _ _ c.args.out.now.items _ c.in-Some.world
+    in_world _ c.in_ok-left.left
+    (MakesPhase-of g.E.Engine.Makes header c.in-Some.world c.make-script.result self.items.items _ _ _
+    c.in_ok-left.left script c.in_ok-left.ensures) c.requires.some
+    (λ hs makes start is fits. c.fitting_phases_are_phases.ensures.start header c.in-Some.world self.items.items hs
+    start
+    is fits (c.makes_lines.ensures header c.in-Some.world self.items.items hs makes))
+    (λ hs makes start is fits before has.
+    let lines = c.makes_lines.ensures header c.in-Some.world self.items.items hs makes in
+    let adds = c.phases_add_their_lines.ensures in
+    HasPlainTotals-phase header before c.in-Some.world self.items.items hs
+    (adds.pages header c.in-Some.world self.items.items hs lines fits.known)
+    (adds.events header c.in-Some.world self.items.items hs lines fits.known)
+    (adds.counters header c.in-Some.world self.items.items hs is.world lines fits.known fits.ascend) has)
+    refl (search rules) c.in_ok-end.ensures.none
+    (λ told prints. c.in_ok-end.ensures.text header ∙ printed-all header _ _ told prints)
