@@ -28,7 +28,7 @@ use Rattle.vms_replay.specs.MadePhases.{MadePhase}
 use Rattle.vms_replay.specs.PlainReports.{HasPlainTotals}
 use Rattle.vms_replay.specs.Replaying.{Kept, MayBe, has_some}
 use Rattle.vms_replay.specs.ReplayStates.{Ended, EndsPhase, Runs, StandsBefore}
-use Rattle.vms_replay.specs.Waits.{AreOf, Ascend, asked_numbers, asking_numbers, wait_text, written}
+use Rattle.vms_replay.specs.Waits.{AreOf, Ascend, asked_numbers, asking_numbers, written}
 use Rattle.vms_replay.proofs.AskedAnswers.{AreOf-answers}
 use Rattle.vms_replay.proofs.WrittenWaits.{Ascend-asking, Ascend-increasing, written-is}
 

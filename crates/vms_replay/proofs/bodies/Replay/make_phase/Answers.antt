@@ -1,6 +1,8 @@
 -- A phase that failed, one whose texts couldn't be written, and one that was made.
-use Rattle.std.proofs.Common.{rules, ◌≡◌, ◌∙◌, Some, refl}
+use Rattle.std.proofs.Common.{rules, ◌≡◌, ◌∙◌, ◌++◌, ℕ, List, Some, ap₂, refl}
 use Rattle.std.proofs.lemmas.Result.{err_from_is_err_and}
+use Rattle.vms_replay.specs.declared.waits.Wait.{Wait}
+use Rattle.vms_replay.specs.Waits.{written}
 use Rattle.vms_replay.proofs.EndedPhases.{EndsPhase-failed, EndsPhase-made, EndsPhase-unwritten, MakesPhase-of}
 use Rattle.vms_replay.proofs.PlainTotals.{HasPlainTotals-phase}
 use Rattle.vms_replay.proofs.PrintedWaits.{printed-all}
@@ -12,10 +14,10 @@ returns-in_err-left g c =
     rw p.1 (EndsPhase-failed g.E.Engine.Makes c.args.header.now c.args.self.now _ _ _ c.args.out.now.items
     _ p.0 c.in_err-left.ensures)
 
-pub returns-in_err-end : goal.returns-in_err-end
-returns-in_err-end g c =
+pub returns-in_err-text : goal.returns-in_err-text
+returns-in_err-text g c =
     let self = c.args.self.now in
-    let p = err_from_is_err_and c.from_residual-in_err-end.result c.from_residual-in_err-end.ensures.1 in
+    let p = err_from_is_err_and c.from_residual-in_err-text.result c.from_residual-in_err-text.ensures.1 in
     let in_world : self.world ≡ Some c.in-Some.world = search rules in
     let script : c.make-script.result ≡ self.items.items = search rules in
     rw p.1 (EndsPhase-unwritten g.E.Engine.Makes c.args.header.now self _ _ _ c.args.out.now.items
@@ -29,6 +31,8 @@ returns g c =
     let header = c.args.header.now in
     let in_world : self.world ≡ Some c.in-Some.world = search rules in
     let script : c.make-script.result ≡ self.items.items = search rules in
+    let text : c.replace-2.result.items ≡ c.args.out.now.items = search rules in
+    let waiting : c.replace-3.result.items ≡ self.waits.items = search rules in
     EndsPhase-made g.E.Engine.Makes header self _ _ _ c.args.out.now.items _ c.in-Some.world
     in_world _ c.in_ok-left.left
     (MakesPhase-of g.E.Engine.Makes header c.in-Some.world c.make-script.result self.items.items _ _ _
@@ -43,5 +47,6 @@ returns g c =
     (adds.pages header c.in-Some.world self.items.items hs lines fits.known)
     (adds.events header c.in-Some.world self.items.items hs lines fits.known)
     (adds.counters header c.in-Some.world self.items.items hs is.world lines fits.known fits.ascend) has)
-    refl (search rules) c.in_ok-end.ensures.none
-    (λ told prints. c.in_ok-end.ensures.text header ∙ printed-all header _ _ told prints)
+    refl (search rules) c.in_ok-text.ensures.none
+    (λ told prints. c.in_ok-text.ensures.text header ∙ printed-all header _ _ told prints
+    ∙ ap₂ (λ (front : List ℕ) (ws : List Wait). front ++ written header ws told) text waiting)
