@@ -1,6 +1,6 @@
 /* What crates/vms_bench does on shared words, in C11 with sequentially consistent atomics: bench/words.py measures both.
  *
- *     words pages|events CHANGES THREADS
+ *     words pages|events|locals CHANGES THREADS
  *
  * Each of THREADS threads makes CHANGES changes on a CPU of its own, and then the plain numbers are written, which are the
  * same whatever the schedule. The CPUs are 0, 16, 32 and 48 of 64, so that no two threads have words in one line of the
@@ -10,6 +10,9 @@
  * differentials, exchanges that word, and where the differential passed the threshold it adds it to the global value of the
  * counter and to the system-wide value of the item. 19 changes stay within the threshold and the 20th passes it.
  * events: a change adds 1 to the CPU's word of an event.
+ * locals: a change adds AMOUNT to the CPU's local part of a percpu counter, or takes it away again, in turn. It loads the
+ * local part, and adds to it where the sum stays below the batch, which it always does; else it would move the local part to
+ * the shared part under the counter's lock.
  *
  * Compiled with -DVOLUMES it also keeps what each CPU has changed and counted so far, in absolute sum, and looks at each
  * change whether that may grow, as the proved program does.
@@ -31,7 +34,10 @@ enum {
     THRESHOLD = 98,
     DELTA = 5,
     EVENTS = 8,
-    EVENT = 4
+    EVENT = 4,
+    COUNTERS = 8,
+    BATCH = 65536,
+    AMOUNT = 3
 };
 
 /* Where the words of each kind begin. */
@@ -40,11 +46,13 @@ struct blocks {
     size_t groups_each, places_each;
 };
 
-/* What a thread works on: the words, where they stand, its CPU, the counter of the zone that it changes, how many changes
- * it makes, and its volumes. The counter's number is that of the threads: no compiler can know it. */
+/* What a thread works on: the words, where they stand, the batches of the percpu counters, its CPU, the counter that it
+ * changes, how many changes it makes, and its volumes. The counter's number is that of the threads: no compiler can know
+ * it. */
 struct work {
     _Atomic uint64_t *words;
     struct blocks blocks;
+    const uint32_t *batches;
     uint32_t cpu, counter;
     uint64_t changes;
     uint64_t *volumes;
@@ -127,6 +135,46 @@ static void *count_events(void *arg)
     return NULL;
 }
 
+/* Where the words of the percpu counters stand: the shared parts, the locks, and the local parts by CPU and then counter. */
+static inline _Atomic uint64_t *local_part(const struct work *w, uint32_t cpu, uint32_t counter)
+{
+    return &w->words[2 * COUNTERS + cpu * COUNTERS + counter];
+}
+
+/* Moves the local part of the CPU to the shared part together with an amount, under the counter's lock. */
+static void move_local(struct work *w, uint32_t counter, int64_t amount)
+{
+    _Atomic uint64_t *lock = &w->words[COUNTERS + counter];
+    for (uint64_t found = 0; !atomic_compare_exchange_strong(lock, &found, 1); found = 0)
+        ;
+    uint64_t local = atomic_exchange(local_part(w, w->cpu, counter), 0);
+    atomic_fetch_add(&w->words[counter], local + (uint64_t)amount);
+    atomic_exchange(lock, 0);
+}
+
+/* percpu_counter_add_batch. */
+static inline void add_local(struct work *w, uint32_t counter, int64_t amount)
+{
+    _Atomic uint64_t *local = local_part(w, w->cpu, counter);
+    int64_t sum = (int64_t)atomic_load(local) + amount;
+    if ((uint64_t)(sum < 0 ? -sum : sum) < w->batches[counter])
+        atomic_fetch_add(local, (uint64_t)amount);
+    else
+        move_local(w, counter, amount);
+    grow(w, counter, (uint64_t)(amount < 0 ? -amount : amount));
+}
+
+static void *add_locals(void *arg)
+{
+    struct work *w = arg;
+    int64_t amount = AMOUNT;
+    for (uint64_t n = 0; n < w->changes; n++) {
+        add_local(w, w->counter, amount);
+        amount = -amount;
+    }
+    return NULL;
+}
+
 static void run_all(struct work *each, int threads, void *(*body)(void *))
 {
     pthread_t started[MOST_THREADS];
@@ -146,16 +194,20 @@ int main(int argc, char **argv)
     uint64_t changes = argc == 4 ? strtoull(argv[2], &end, 10) : 0;
     int threads = argc == 4 && *end == '\0' ? atoi(argv[3]) : 0;
     if (threads < 1 || threads > MOST_THREADS || changes == 0) {
-        fputs("usage: words pages|events CHANGES THREADS\n", stderr);
+        fputs("usage: words pages|events|locals CHANGES THREADS\n", stderr);
         return 2;
     }
     struct blocks blocks = page_blocks();
-    size_t count = 64 * EVENTS > blocks.end ? 64 * EVENTS : blocks.end;
+    size_t locals_end = 2 * COUNTERS + CPUS * COUNTERS; /* more than there are words of events */
+    size_t count = locals_end > blocks.end ? locals_end : blocks.end;
     _Atomic uint64_t *words = calloc(count, sizeof *words);
     if (words == NULL) {
         fputs("words: want of memory\n", stderr);
         return 2;
     }
+    uint32_t batches[COUNTERS];
+    for (int n = 0; n < COUNTERS; n++)
+        batches[n] = BATCH;
     struct work each[MOST_THREADS];
     for (int n = 0; n < threads; n++) {
         uint64_t *volumes = calloc(ITEMS * PLACES, sizeof *volumes);
@@ -163,7 +215,7 @@ int main(int argc, char **argv)
             fputs("words: want of memory\n", stderr);
             return 2;
         }
-        each[n] = (struct work){words, blocks, (uint32_t)(CPUS_APART * n), (uint32_t)threads, changes, volumes};
+        each[n] = (struct work){words, blocks, batches, (uint32_t)(CPUS_APART * n), (uint32_t)threads, changes, volumes};
     }
 
     if (strcmp(argv[1], "pages") == 0) {
@@ -178,8 +230,14 @@ int main(int argc, char **argv)
         for (int cpu = 0; cpu < CPUS; cpu++)
             total += atomic_load(&words[cpu * EVENTS + EVENT]);
         printf("counted %llu", (unsigned long long)total);
+    } else if (strcmp(argv[1], "locals") == 0) {
+        run_all(each, threads, add_locals);
+        int64_t sum = (int64_t)atomic_load(&words[each[0].counter]);
+        for (uint32_t cpu = 0; cpu < CPUS; cpu++)
+            sum += (int64_t)atomic_load(local_part(&each[0], cpu, each[0].counter));
+        printf("sum %lld", (long long)sum);
     } else {
-        fputs("usage: words pages|events CHANGES THREADS\n", stderr);
+        fputs("usage: words pages|events|locals CHANGES THREADS\n", stderr);
         return 2;
     }
     putchar('\n');

@@ -27,6 +27,7 @@ CRATE = os.path.join(TOP, "crates", "vms_bench")
 KINDS = {
     "pages": "changes of a page counter, each 20th past the threshold",
     "events": "counts of an event",
+    "locals": "additions to a percpu counter within its batch",
 }
 FLAGS = ["-std=c11", "-O3", "-march=x86-64-v2", "-Wall", "-Wextra", "-Werror", "-pthread"]
 

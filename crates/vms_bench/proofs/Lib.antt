@@ -2,6 +2,8 @@ mod Beginning
 mod EventBases
 mod EventPasses
 mod LevelBases
+mod LocalBases
+mod LocalPasses
 mod PageCalls
 mod PageChanges
 mod PagePasses

@@ -1,4 +1,5 @@
 pub mod Beginnings
 pub mod Events
 pub mod Levels
+pub mod Locals
 pub mod Pages

@@ -5,11 +5,13 @@
 mod changes;
 mod events;
 mod levels;
+mod locals;
 mod machine;
 mod pages;
 mod requests;
 
 use crate::events::count_events;
+use crate::locals::add_locals;
 use crate::pages::change_pages;
 use crate::requests::{Kind, Request, read_request};
 use anyhow::Result;
@@ -24,6 +26,10 @@ fn main(rt: HostRuntime) -> Result<()> {
         Kind::Events => {
             let total = count_events(&rt, rt.alloc(), changes, threads)?;
             println!(rt; "counted {total}")?;
+        }
+        Kind::Locals => {
+            let sum = add_locals(&rt, rt.alloc(), changes, threads)?;
+            println!(rt; "sum {sum}")?;
         }
         Kind::Pages => {
             let (value, system) = change_pages(&rt, rt.alloc(), changes, threads)?;

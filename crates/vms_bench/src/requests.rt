@@ -6,6 +6,7 @@ use std::env::Env;
 #[derive(Clone, Copy, Debug, PartialEq, Eq)]
 pub(crate) enum Kind {
     Events,
+    Locals,
     Pages,
 }
 
@@ -18,7 +19,7 @@ pub(crate) struct Request {
     pub threads: u32,
 }
 
-const USAGE: &str = "usage: vms_bench events|pages CHANGES THREADS";
+const USAGE: &str = "usage: vms_bench events|locals|pages CHANGES THREADS";
 
 /// The request of the words after the program's name.
 pub(crate) fn read_request<R: Env + AllocGlobal>(rt: &R) -> Result<Request> {
@@ -28,6 +29,7 @@ pub(crate) fn read_request<R: Env + AllocGlobal>(rt: &R) -> Result<Request> {
     };
     let kind = match kind.as_str() {
         "events" => Kind::Events,
+        "locals" => Kind::Locals,
         "pages" => Kind::Pages,
         _ => bail!("{USAGE}"),
     };

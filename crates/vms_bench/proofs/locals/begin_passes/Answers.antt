@@ -1,0 +1,37 @@
+-- The goals were that each CPU may be owned, that it has spent nothing, and that the CPUs after it stay unused.
+use Rattle.std.proofs.Common.{◌≡◌, ℕ, ◌+◌, ◌*◌, ◌<◌, ◌≤◌, [], ◌∷◌, ◌++◌, All, Some, ◌∙◌, ap, sym, subst, arith}
+use Rattle.std.proofs.lemmas.List.Elements.{All-push, All-same}
+use Rattle.vms_pcpu_core.specs.declared.steps.PcpuFacts.{PcpuFacts}
+use Rattle.vms_pcpu_core.specs.Histories.{MayOwn}
+use Rattle.vms_pcpu_core.specs.States.{counters_of}
+use Rattle.vms_pcpu.specs.declared.passes.PcpuPass.{PcpuPass}
+use Rattle.vms_seats.specs.Passes.{IsOf}
+use Rattle.vms_bench.proofs.LocalPasses.{begun-unused, unused-holds}
+use Rattle.vms_bench.proofs.locals.begin_passes.Goals as goal
+
+pub cpu_pass-requires-clause-online : goal.cpu_pass-requires-clause-online
+cpu_pass-requires-clause-online c =
+    subst (λ (facts : PcpuFacts). MayOwn facts (Some c.cpu_of_thread.result)) (sym c.loop-thread.invariant.0.facts)
+    (c.requires.open.online c.cpu_of_thread.result.number (omega arith))
+
+pub cpu_pass-requires-clause-volume : goal.cpu_pass-requires-clause-volume
+cpu_pass-requires-clause-volume c =
+    unused-holds c.loop-thread.main.facts c.loop-thread.main.seen (16 * c.loop-thread.thread)
+    c.cpu_of_thread.result.number c.in_ok-volume.volume c.loop-thread.invariant.1 (omega arith)
+    (ap (λ (facts : PcpuFacts). counters_of facts.base) c.loop-thread.invariant.0.facts ∙ c.requires.open.eight)
+    c.in_ok-volume.ensures
+
+pub loop-thread-preserved : goal.loop-thread-preserved
+loop-thread-preserved c =
+    let begun = c.cpu_pass.ensures.begun in
+    let of = c.loop-thread.invariant.0 in (
+      record { table = begun.main.table ∙ of.table; facts = begun.main.facts ∙ of.facts },
+      begun-unused c.cpu_pass.new.main c.loop-thread.main c.cpu_pass.result.pass c.cpu_of_thread.result
+          (16 * c.loop-thread.thread) (16 * (c.loop-thread.thread + 1)) begun c.loop-thread.invariant.1
+          (omega arith) (omega arith),
+      All-same (λ (p : PcpuPass). IsOf p.pass c.args.table.now) c.push.new.self.items
+          (c.loop-thread.passes.items ++ c.cpu_pass.result ∷ []) c.in_ok-push.ensures.items
+          (All-push (λ (p : PcpuPass). IsOf p.pass c.args.table.now) c.loop-thread.passes.items c.cpu_pass.result
+          c.loop-thread.invariant.2
+          (record { table = begun.table ∙ of.table; facts = begun.facts ∙ of.facts })),
+    )
