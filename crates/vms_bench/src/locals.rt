@@ -116,9 +116,11 @@ fn add_each<R: Threads + Wait + Sync>(
     requires table { All (λ p. IsOf p.pass table.now) passes.items }
     ensures { IfOk result (λ added. All (λ r. IfOk r (λ p. IsOf p.pass table.now)) added.items) }
 {
-    thread::map_vec(rt, passes, &|pass| {
-        add_often(rt, table, pass, counter, changes)
-    })
+    thread::map_vec(
+        rt,
+        passes,
+        &|pass| { add_often(rt, table, pass, counter, changes) },
+    )
 }
 
 /// The sum of a counter, once every thread has ended.
