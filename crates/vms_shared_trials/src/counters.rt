@@ -104,6 +104,14 @@ fn added_often<R: Wait>(
     (pass, refused)
 }
 
+fn sum<R: Wait>(rt: &R, table: &PcpuTable, pass: &mut PcpuPass) -> i64
+    requires table { IsOf pass.old.pass table.now }
+    requires counter { IsPcpu table.now.facts 0 }
+    ensures { SeesMore pass.new.pass pass.old.pass }
+{
+    table.sum(rt, pass, FILES)
+}
+
 /// Two threads add an amount on the CPUs 0 and 1, each so many times. Tells how often that was refused, the sum before
 /// the passes end, and the numbers at the end.
 fn two_that_add<R: Threads + Wait + Sync>(
@@ -130,7 +138,7 @@ fn two_that_add<R: Threads + Wait + Sync>(
             ensures { SeesMore result.0.pass second.pass }
         { added_often(rt, shared, second, amount, times) },
     );
-    let sum = table.sum(rt, &mut first, FILES);
+    let sum = sum(rt, &table, &mut first);
     table.join_cpu(&mut main, first);
     table.join_cpu(&mut main, second);
     table.close(main, &mut end);
@@ -152,7 +160,7 @@ fn adds_in_turn<R: Wait>(
         add(rt, &table, &mut pass, once),
         add(rt, &table, &mut pass, again),
     ];
-    let sum = table.sum(rt, &mut pass, FILES);
+    let sum = sum(rt, &table, &mut pass);
     table.join_cpu(&mut main, pass);
     table.close(main, &mut end);
     Ok((answers, sum, end))
