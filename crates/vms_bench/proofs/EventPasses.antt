@@ -17,7 +17,7 @@ use Rattle.vms_event.specs.SharedWords.{begins_it}
 use Rattle.vms_seats.specs.MainSteps.{HasBegun, next_number}
 use Rattle.vms_seats.specs.Passes.{Pass}
 use Rattle.vms_bench.specs.Events.{IsUnused}
-use Rattle.vms_bench.proofs.Beginning.{owns_below-free, begun-owns_below}
+use Rattle.vms_bench_base.proofs.Beginning.{owns_below-free, begun-owns_below}
 
 split-spends_nothing : (o who : Option CpuId) (q c k : ℕ) → spent_by o c k (Split q who) ≡ 0
 split-spends_nothing (Some d) who q c k = refl

@@ -1,9 +1,6 @@
-mod Beginning
 mod EventBases
 mod EventPasses
-mod LevelBases
 mod LocalBases
 mod LocalPasses
 mod PageCalls
 mod PageChanges
-mod PagePasses

@@ -20,7 +20,7 @@ use Rattle.vms_pcpu.proofs.KnownSpending.{spent-free, split-spends_nothing}
 use Rattle.vms_seats.specs.MainSteps.{HasBegun, next_number}
 use Rattle.vms_seats.specs.Passes.{Pass}
 use Rattle.vms_bench.specs.Locals.{IsUnused}
-use Rattle.vms_bench.proofs.Beginning.{owns_below-free, begun-owns_below}
+use Rattle.vms_bench_base.proofs.Beginning.{owns_below-free, begun-owns_below}
 
 -- no volume holds what an unused CPU has spent
 pub unused-holds : (facts : PcpuFacts) (h : History) (least cpu : ℕ) (volume : List ℕ) → IsUnused least h → least ≤ cpu

@@ -1,6 +1,7 @@
 -- What the calls of a change leave.
-use Rattle.std.proofs.Common.{◌≡◌, ◌≢◌, ℕ, ◌<◌, ℤ, pos, List, ◌∷◌, refl, sym, ap, ◌∙◌, subst}
+use Rattle.std.proofs.Common.{◌≡◌, ◌≢◌, ℕ, ◌<◌, ℤ, pos, List, ◌∷◌, Option, Some, unwrap_or, refl, sym, ap, ◌∙◌, subst}
 use Rattle.vms_base.specs.declared.groups.Diffs.{Diffs}
+use Rattle.vms_base.specs.declared.ids.CpuId.{CpuId}
 use Rattle.vms_base.specs.declared.ids.CounterId.{CounterId}
 use Rattle.vms_base.specs.declared.ids.GroupId.{GroupId}
 use Rattle.vms_base.specs.declared.kinds.Mode.{Mode}
@@ -84,6 +85,10 @@ missed-looked shape new old target w t missed looked =
       as_loaded = looked.as_loaded;
       nothing = nothing-missed shape old.pass.number (own_of old) j w looked.nothing;
     })
+
+-- a pass owns one CPU
+pub same-owner : (who : Option CpuId) (c d : CpuId) → who ≡ Some c → who ≡ Some d → c ≡ d
+same-owner who c d is also = ap (λ (o : Option CpuId). unwrap_or o d) (sym is ∙ also)
 
 pub loads-looked : (shape : Shape) (new then old : OwningPass) (target : Target) → IsTarget shape target
     → (t n : ℕ) (w : Diffs) → MadeOne pages then.pass old.pass (LoadT target.place t n)

@@ -99,6 +99,3 @@ module _ (shape : Shape) (p : ℕ) (h : List (Event Step)) where
   pub loaded-here : (g : PlaceId) (k t n : ℕ) → g.number ≡ place_of shape k
       → loaded (place_of shape k) (event p (LoadT g t n) ∷ h) ≡ Some (record { t = t; number = n })
   loaded-here g k t n is = rw (eq-eqb g.number (place_of shape k) is) refl
-
-pub none-carried : (shape : Shape) → CarriesNothing shape []
-none-carried shape = record { counters = λ k. refl; items = λ i. refl }

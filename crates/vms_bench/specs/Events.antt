@@ -4,7 +4,7 @@ use Rattle.vms_event_core.specs.declared.steps.EventFacts.{EventFacts}
 use Rattle.vms_event_core.specs.Events.{History, MayOwn}
 use Rattle.vms_event_core.specs.Steps.{role}
 use Rattle.vms_event_core.specs.Totals.{spent}
-use Rattle.vms_bench.specs.Beginnings.{OwnsBelow}
+use Rattle.vms_bench_base.specs.Beginnings.{OwnsBelow}
 
 -- a pass may own each of the 64 CPUs
 abbrev pub AreOnline : EventFacts → Type 0

@@ -5,7 +5,7 @@ use Rattle.vms_pcpu_core.specs.Histories.{History, MayOwn}
 use Rattle.vms_pcpu_core.specs.States.{counters_of}
 use Rattle.vms_pcpu_core.specs.Steps.{role}
 use Rattle.vms_pcpu_core.specs.Totals.{spent}
-use Rattle.vms_bench.specs.Beginnings.{OwnsBelow}
+use Rattle.vms_bench_base.specs.Beginnings.{OwnsBelow}
 
 -- there are eight counters, and a pass may own each of the 64 CPUs
 pub record AreOpen (facts : PcpuFacts) : Type 0 where

@@ -2,29 +2,14 @@
 use Rattle.std.specs.Prelude.{◌≡◌, ℕ, ◌<◌, ◌≤◌, nat_eq, ℤ, pos, List, if◌then◌else◌, Some}
 use Rattle.vms_base.specs.declared.ids.CpuId.{CpuId}
 use Rattle.vms_base.specs.Places.{Shape, IsCpu, IsCounter, IsGroup, IsItem, group_of, item_of, place_of}
-use Rattle.vms_base.specs.Cpus.{MayOwnCpu}
 use Rattle.vms_history.specs.declared.events.Event.{Event}
 use Rattle.vms_history.specs.Events.{own}
 use Rattle.vms_core.specs.declared.steps.Facts.{Facts}
 use Rattle.vms_core.specs.declared.steps.Step.{Step}
 use Rattle.vms_core.specs.Own.{carried, carried_of_item, found, loaded, CarriesNothing}
-use Rattle.vms_core.specs.Pages.{History}
-use Rattle.vms_core.specs.Steps.{role}
-use Rattle.vms_core.specs.Totals.{spent}
 use Rattle.vms_seats.specs.Passes.{Shared, IsOf}
 use Rattle.vms_words.specs.PagePasses.{OwningPass}
 use Rattle.vms_bench.specs.declared.changes.Target.{Target}
-use Rattle.vms_bench.specs.declared.pages.Job.{Job}
-use Rattle.vms_bench.specs.Beginnings.{OwnsBelow}
-
--- a pass may own each of the 64 CPUs
-abbrev pub AreOnline : Facts → Type 0
-AreOnline facts = (c : ℕ) → c < 64 → MayOwnCpu facts.layout facts.base.cpu (Some (record { number = c }))
-
--- no pass has owned a CPU from this number on, and these CPUs have changed nothing
-pub record IsUnused (least : ℕ) (h : History) : Type 0 where
-  pub owners : OwnsBelow role least h
-  pub unspent : (c k : ℕ) → least ≤ c → spent h c k ≡ 0
 
 -- a counter of the layout, with its place, its group and its item
 pub record IsTarget (shape : Shape) (target : Target) : Type 0 where
@@ -49,12 +34,6 @@ pub record Carries (shape : Shape) (counter : ℕ) (amount : ℤ) (mine : List (
 -- what a pass has done itself
 abbrev pub own_of : OwningPass → List (Event Step)
 own_of pass = own pass.pass.seen pass.pass.number
-
--- a thread may work with these: a pass of the table that carries nothing, and a counter to change on the pass's CPU
-pub record IsJob (table : Shared Facts) (job : Job) : Type 0 where
-  pub target : IsTarget table.facts.layout job.target
-  pub own : IsOwn job.pass table job.target.cpu
-  pub idle : CarriesNothing table.facts.layout (own_of job.pass)
 
 -- what the pass found last in the counter's group, and loaded last of its place; it carries nothing
 pub record HasLooked (shape : Shape) (target : Target) (values : List ℤ) (t : ℕ) (mine : List (Event Step)) : Type 0 where

@@ -54,8 +54,10 @@ pub(crate) fn change(
     ensures own { OnOk result (IsOwn pass.new table.now target.now.cpu) }
     ensures idle { OnOk result (CarriesNothing table.now.facts.layout (own_of pass.new)) }
 {
+    let cpu = pass.cpu();
+    let group = table.layout().group(target.counter);
     let threshold = table.load_threshold(pass, target.place);
-    let found = table.load_diffs(pass, target.cpu, target.group);
+    let found = table.load_diffs(pass, cpu, group);
     let amount = exchange(table, pass, target, &found, threshold.t, delta)?;
     carry(table, pass, target, amount);
     Ok(())

@@ -3,12 +3,13 @@ ghost use Rattle.vms_base.specs.declared.ids.CpuId.{CpuId};
 ghost use Rattle.vms_bench.specs.Events.{AreOnline};
 ghost use Rattle.vms_seats.specs.Passes.{IsOf};
 
-use crate::machine::{CPUS, MOST_THREADS, cpu_of_thread, machine};
+use crate::CPUS;
 use anyhow::{Result, bail};
 use std::alloc::{AllocError, Global};
 use std::thread;
 use std::thread::Threads;
 use vms_base::{CpuState, EventId, Memory, Overflow, Row, Volume};
+use vms_bench_base::{MOST_THREADS, cpu_of_thread, machine};
 use vms_event::{EventMain, EventPass, EventTable};
 use vms_event_core::EventState;
 
@@ -38,7 +39,7 @@ fn make_table(alloc: Global) -> Result<(EventTable, EventMain)>
     ensures online { IfOk result (λ made. AreOnline made.0.facts) }
     ensures main { IfOk result (λ made. IsOf made.1 made.0 × (made.1.seen ≡ [])) }
 {
-    let layout = machine()?;
+    let layout = machine(CPUS)?;
     let words = Row::filled(alloc, CPUS as usize * EVENTS, 0)?;
     let cpus = Row::filled(alloc, CPUS as usize, CpuState::Online)?;
     let made = EventTable::make(alloc, &layout, &EventState { words }, cpus.as_slice())?;

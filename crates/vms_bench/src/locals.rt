@@ -2,13 +2,14 @@ ghost use Rattle.std.specs.Prelude.{◌≡◌, ◌<◌, ◌≤◌, [], All, IfOk
 ghost use Rattle.vms_bench.specs.Locals.{AreOpen};
 ghost use Rattle.vms_seats.specs.Passes.{IsOf};
 
-use crate::machine::{CPUS, MOST_THREADS, cpu_of_thread, machine};
+use crate::CPUS;
 use anyhow::{Result, bail};
 use std::alloc::{AllocError, Global};
 use std::sync::Wait;
 use std::thread;
 use std::thread::Threads;
 use vms_base::{CpuState, Memory, Overflow, PcpuId, Row, Volume};
+use vms_bench_base::{MOST_THREADS, cpu_of_thread, machine};
 use vms_pcpu::{PcpuMain, PcpuPass, PcpuTable};
 use vms_pcpu_core::PcpuState;
 
@@ -47,7 +48,7 @@ fn make_table(alloc: Global) -> Result<(PcpuTable, PcpuMain)>
     ensures open { IfOk result (λ made. AreOpen made.0.facts) }
     ensures main { IfOk result (λ made. IsOf made.1 made.0 × (made.1.seen ≡ [])) }
 {
-    let layout = machine()?;
+    let layout = machine(CPUS)?;
     let batch = Row::filled(alloc, COUNTERS, BATCH)?;
     let count = Row::filled(alloc, COUNTERS, 0)?;
     let local = Row::filled(alloc, CPUS as usize * COUNTERS, 0)?;

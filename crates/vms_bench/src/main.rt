@@ -4,9 +4,7 @@
 
 mod changes;
 mod events;
-mod levels;
 mod locals;
-mod machine;
 mod pages;
 mod requests;
 
@@ -15,6 +13,9 @@ use crate::locals::add_locals;
 use crate::pages::change_pages;
 use crate::requests::{Kind, Request, read_request};
 use anyhow::Result;
+
+/// How many CPUs the machine has.
+pub(crate) const CPUS: u32 = 64;
 
 fn main(rt: HostRuntime) -> Result<()> {
     let Request {

@@ -9,6 +9,7 @@ pub mod Volumes
 pub mod LoadSteps
 pub mod Numbers
 pub mod InTables
+pub mod OwnGroups
 pub mod Filled
 pub mod LastStates
 pub mod AddSteps

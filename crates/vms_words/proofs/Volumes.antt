@@ -13,6 +13,7 @@ use Rattle.vms_core.specs.Steps.{role}
 use Rattle.vms_core.specs.Totals.{spent, spent_by}
 use Rattle.vms_core.proofs.KnowledgeKept.{OwnerKnows-holds}
 use Rattle.vms_words.specs.PagePasses.{HoldsSpending, IsOwningPass, SpendsNothing, KeepsNumbers}
+use Rattle.vms_words.specs.Spots.{groups_start}
 
 pub keeps-spends : (step : Step) → KeepsNumbers step → SpendsNothing step
 keeps-spends (Put k w t delta how) keeps = keeps
@@ -47,3 +48,13 @@ module _ (new old : Pass Facts Step) (cpu : CpuId) (volume : List ℕ) (step : S
       most = owning.holds.most;
     });
   }
+
+-- so it is with what the pass keeps beside them: where the CPU's groups begin
+pub keeping-step : (new old : Pass Facts Step) (cpu : CpuId) (first : ℕ) (volume : List ℕ) (step : Step)
+    → IsOwningPass old cpu volume × (first ≡ groups_start old.facts.layout cpu.number) → MadeOne pages new old step
+    → SpendsNothing step
+    → IsOwningPass new cpu volume × (first ≡ groups_start new.facts.layout cpu.number)
+keeping-step new old cpu first volume step (owning, at) made nothing = (
+  owning-step new old cpu volume step owning made nothing,
+  subst (λ (facts : Facts). first ≡ groups_start facts.layout cpu.number) (sym made.all.facts) at,
+)

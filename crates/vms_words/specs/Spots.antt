@@ -48,6 +48,10 @@ place_in b (Mark g) = b.marks + g.number
 place_in b (Cpu c) = b.cpus + c.number
 place_in b (Acknowledgement c g) = b.acknowledgements + cell b.zones_each c.number g.number
 
+-- the place of a CPU's first group
+abbrev pub groups_start : Shape → ℕ → ℕ
+groups_start shape c = (blocks_of shape).groups + cell (blocks_of shape).groups_each c 0
+
 -- the word at a place
 abbrev pub spot_in : Blocks → ℕ → Spot
 spot_in b n =

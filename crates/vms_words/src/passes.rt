@@ -21,17 +21,22 @@ use vms_seats::{Main, Words, Worker, Works};
 pub struct CpuPass {
     pub(crate) worker: Worker<SharedPages>,
     pub(crate) cpu: CpuId,
+    /// Where the words of the CPU's groups begin.
+    pub(crate) first_group: usize,
     pub(crate) volume: Volume,
 }
 
 impl Model for CpuPass {
+    ghost use Rattle.std.specs.Prelude.{◌≡◌};
     ghost use Rattle.vms_words.specs.PagePasses.{OwningPass, IsOwningPass};
+    ghost use Rattle.vms_words.specs.Spots.{groups_start};
 
     ghost Value = { OwningPass };
 
     ghost view = { λ p. record { pass = p.worker; volume = p.volume } };
 
-    ghost invariant = { λ p. IsOwningPass p.worker p.cpu p.volume };
+    ghost invariant = { λ p. IsOwningPass p.worker p.cpu p.volume
+        × (p.first_group ≡ groups_start p.worker.facts.layout p.cpu.number) };
 }
 
 /// The control pass. It keeps in memory what it knows of the settings by its own steps.
@@ -143,6 +148,17 @@ impl CpuPass {
     }
 }
 
+impl MainPass {
+    ghost use Rattle.vms_seats.specs.Passes.{IsMain};
+
+    /// What holds of the main pass at any time.
+    pub fn is_main(&self)
+        ensures { IsMain pages self.now }
+    {
+        self.main.is_main();
+    }
+}
+
 impl Caller for CpuPass {
     ghost pass = { λ p. p.pass };
 
@@ -150,7 +166,9 @@ impl Caller for CpuPass {
 
     #[inline]
     fn own(&self) -> Option<CpuId> {
-        self.worker.cpu()
+        // The pass is known to live once its worker is asked for the CPU.
+        let _ = self.worker.cpu();
+        Some(self.cpu)
     }
 
     #[inline]

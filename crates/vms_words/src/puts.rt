@@ -1,6 +1,5 @@
 use crate::lists::PackedDiffs;
 use crate::passes::CpuPass;
-use crate::spots::Spot;
 use crate::tables::PageTable;
 use vms_base::{CounterId, Mode};
 use vms_core::{Step, overstep};
@@ -34,15 +33,13 @@ impl PageTable {
         requires puts { MayPut pass.old counter found.now threshold delta }
         ensures { PutsOrMisses pass.new pass.old counter found.now threshold delta mode result }
     {
-        let cpu = pass.cpu;
+        let first_group = pass.first_group;
         let position = counter.number % 8;
         let changed = change(mode, threshold, found.entry(position), delta);
         let old = found.word();
         let new = found.with_entry(position, changed.differential).word();
         let group = self.facts.layout.group(counter);
-        let place = self
-            .blocks
-            .place_of(&self.facts.layout, Spot::Group(cpu, group));
+        let place = first_group + group.number as usize;
         let plan = Step::Put(counter, found.list(), threshold, delta, mode);
         let stood = pass.worker.exchange_at(&self.words, place, old, new, &plan);
         if stood != old {

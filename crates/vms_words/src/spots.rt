@@ -36,8 +36,8 @@ pub(crate) struct Blocks {
 
 impl Blocks {
     ghost use Rattle.std.specs.Prelude.{◌≡◌, ◌<◌};
-    ghost use Rattle.vms_base.specs.Places.{IsLayout};
-    ghost use Rattle.vms_words.specs.Spots.{blocks_of, place_in, spot_in, IsSpot};
+    ghost use Rattle.vms_base.specs.Places.{IsCpu, IsLayout};
+    ghost use Rattle.vms_words.specs.Spots.{blocks_of, groups_start, place_in, spot_in, IsSpot};
 
     /// The blocks of a layout's table.
     pub fn of(layout: &Layout) -> Blocks
@@ -91,6 +91,17 @@ impl Blocks {
                 cell_from(self.acknowledgements, self.zones_each, cpu, zone.number)
             }
         }
+    }
+
+    /// The place of a CPU's first group among all words.
+    pub fn first_group(&self, layout: &Layout, cpu: CpuId) -> usize
+        requires layout { IsLayout layout.now }
+        requires laid { self.now ≡ blocks_of layout.now }
+        requires cpu { IsCpu layout.now cpu.number }
+        ensures { result ≡ groups_start layout.now cpu.number }
+    {
+        let _ = layout;
+        cell_from(self.groups, self.groups_each, cpu, 0)
     }
 
     /// What the word at a place holds.

@@ -105,10 +105,12 @@ impl PageTable {
         ensures begun { HasBegun pages Split main.new main.old result.pass (Some cpu) }
         ensures volume { result.volume ≡ volume }
     {
+        let first_group = self.blocks.first_group(&self.facts.layout, cpu);
         let worker = main.main.begin(&self.words, Some(cpu));
         CpuPass {
             worker,
             cpu,
+            first_group,
             volume,
         }
     }
@@ -136,6 +138,7 @@ impl PageTable {
         let CpuPass {
             worker,
             cpu: _,
+            first_group: _,
             volume,
         } = pass;
         main.main.end(&self.words, worker);

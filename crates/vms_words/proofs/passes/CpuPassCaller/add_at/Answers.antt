@@ -5,7 +5,7 @@ use Rattle.vms_seats.specs.Steps.{MayStep}
 use Rattle.vms_words.specs.PagePasses.{OwningPass}
 use Rattle.vms_words.specs.Shown.{shown}
 use Rattle.vms_words.specs.Told.{told}
-use Rattle.vms_words.proofs.Volumes.{owning-step, keeps-spends}
+use Rattle.vms_words.proofs.Volumes.{keeping-step, keeps-spends}
 use Rattle.vms_words.proofs.passes.CpuPassCaller.add_at.Goals as goal
 
 pub add_at-requires-clause-step : goal.add_at-requires-clause-step
@@ -15,6 +15,7 @@ add_at-requires-clause-step c = subst
     (sym c.self.view_is) c.requires.step
 
 pub invariant_of-self : goal.invariant_of-self
-invariant_of-self c = owning-step c.add_at.new.self c.self.inside.worker c.self.inside.cpu c.self.inside.volume
+invariant_of-self c =
+    keeping-step c.add_at.new.self c.self.inside.worker c.self.inside.cpu c.self.inside.first_group c.self.inside.volume
     (told c.args.plan.now c.add_at.result) c.self.invariant c.add_at.ensures
     (keeps-spends (told c.args.plan.now c.add_at.result) (c.requires.leaves c.add_at.result))

@@ -12,4 +12,4 @@ invariant_of-main c =
     IsMainPass-ended c.end.new.self c.main.inside.main c.pass.inside.worker c.pass.inside.cpu c.end.ensures
     (ap (λ (p : OwningPass). p.pass.facts) c.pass.view_is ∙ c.requires.table.1.facts ∙ sym c.requires.table.0.facts
     ∙ sym (ap (λ (p : Pass Facts Step). p.facts) c.main.view_is))
-    c.pass.invariant.live c.pass.invariant.owns c.main.inside.kept c.main.invariant
+    c.pass.invariant.0.live c.pass.invariant.0.owns c.main.inside.kept c.main.invariant

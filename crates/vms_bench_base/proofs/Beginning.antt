@@ -1,5 +1,5 @@
--- A pass begins on a CPU past those that were owned.
-use Rattle.std.proofs.Common.{◌≡◌, ℕ, ◌<◌, ◌≤◌, Bool, true, false, List, ◌∷◌, Option, Some, refl, ap, sym, ◌∙◌}
+-- For other crates too: a pass begins on a CPU past those that were owned.
+use Rattle.std.proofs.Common.{◌≡◌, ℕ, ◌<◌, ◌≤◌, Bool, true, false, List, Option, Some, ap, sym, ◌∙◌}
 use Rattle.std.proofs.Common.{subst, arith, if◌then◌else◌, nat_eq}
 use Rattle.vms_base.specs.declared.ids.CpuId.{CpuId}
 use Rattle.vms_history.specs.declared.events.Event.{Event}
@@ -9,7 +9,7 @@ use Rattle.vms_history.specs.Passes.{Role, owner, owner_after, owner_in, IsFree}
 use Rattle.vms_history.specs.Passes.Role.{Begins}
 use Rattle.vms_seats.specs.MainSteps.{HasBegun, next_number}
 use Rattle.vms_seats.specs.Passes.{Pass}
-use Rattle.vms_bench.specs.Beginnings.{OwnsBelow}
+use Rattle.vms_bench_base.specs.Beginnings.{OwnsBelow}
 
 -- a CPU past those that were owned is free
 pub owns_below-free : {K : Type 0} (role : K → Role) (least : ℕ) (h : List (Event K)) (c : CpuId)

@@ -1,17 +1,16 @@
--- Page counters that are level: all of them 0, all thresholds the same, and every CPU online.
-use Rattle.std.specs.Prelude.{◌≡◌, ℕ, ◌*◌, pos, length, replicate, None}
+-- Page counters that are level: all of them the same, all thresholds the same, and every CPU online.
+use Rattle.std.specs.Prelude.{◌≡◌, ◌*◌, ℤ, pos, length, replicate, None}
 use Rattle.vms_base.specs.declared.kinds.CpuState.TheVariants.{Online}
-use Rattle.vms_base.specs.declared.kinds.ZoneSize.{ZoneSize}
 use Rattle.vms_base.specs.Places.{Shape, counter_count, item_count, place_count}
 use Rattle.vms_core.specs.declared.states.State.{State}
 
 -- the numbers of such a state
-pub record IsLevel (shape : Shape) (t : ℕ) (s : State) : Type 0 where
-  pub place : s.place ≡ replicate (counter_count shape) (pos 0)
-  pub system : s.system ≡ replicate (item_count shape) (pos 0)
+pub record IsLevel (shape : Shape) (value : ℤ) (s : State) : Type 0 where
+  pub place : s.place ≡ replicate (counter_count shape) value
+  pub system : s.system ≡ replicate (item_count shape) value
   pub diff : s.diff ≡ replicate (shape.cpus * counter_count shape) (pos 0)
-  pub threshold : s.threshold ≡ replicate (shape.cpus * place_count shape) t
-  pub mark : s.mark ≡ replicate (length shape.zones) 0
+  pub threshold : s.threshold ≡ replicate (shape.cpus * place_count shape) 98
+  pub mark : s.mark ≡ replicate (length shape.zones) 50000
   pub cpu : s.cpu ≡ replicate shape.cpus Online
   pub acknowledged : s.acknowledged ≡ replicate (shape.cpus * length shape.zones) None
   pub threshold_sets : s.threshold_sets ≡ replicate (shape.cpus * place_count shape) 0

@@ -1,0 +1,5 @@
+pub mod Beginning
+mod Counters
+mod LevelBases
+mod PagePasses
+pub mod ReadyPasses

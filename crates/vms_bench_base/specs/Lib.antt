@@ -1,0 +1,5 @@
+pub mod Beginnings
+pub mod Levels
+pub mod Machines
+pub mod ReadyPasses
+pub mod Starts
