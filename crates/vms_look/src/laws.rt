@@ -1,9 +1,12 @@
+ghost use Rattle.vms_core.specs.declared.steps.Facts.{Facts};
+ghost use Rattle.vms_core.specs.declared.steps.Step.{Step};
 ghost use Rattle.vms_core.specs.Drift.{BoundsDrift, BoundsSystemDrift};
-ghost use Rattle.vms_core.specs.Pages.{BoundsDifferentials, KeepsSystemTotals, KeepsTotals};
+ghost use Rattle.vms_core.specs.Pages.{BoundsDifferentials, IsLegal, KeepsSystemTotals, KeepsTotals};
 ghost use Rattle.vms_core.specs.PeakLaws.{BoundsByPeaks, KeepsPeaksInRange};
 ghost use Rattle.vms_look.specs.Truth.{AtEachMoment, MarksKeepHigh, NoMarksKeepLimit};
+ghost use Rattle.vms_seats.specs.Passes.{Pass};
 
-use vms_words::Caller;
+use vms_words::{Caller, ControlPass, CpuPass, MainPass};
 
 /// What a value of free pages means at any moment of a legal history, whatever threads carry then. Where the zone's mark
 /// isn't 0 and the value isn't below it, the zone truly has `high` pages, less the negative amounts carried. Where the
@@ -13,12 +16,46 @@ pub fn values_tell_true_pages()
     ensures unmarked { NoMarksKeepLimit }
 {}
 
+/// A pass of the page counters: one that owns a CPU, the control pass or the main pass.
+pub trait AnyPagePass {
+    // The pass that it is.
+    ghost pass: { Self → Pass Facts Step };
+
+    /// What a pass has seen is legal.
+    fn has_seen_legal(&self)
+        ensures { IsLegal (pass self.now).facts (pass self.now).seen };
+}
+
+impl AnyPagePass for CpuPass {
+    ghost pass = { λ p. p.pass };
+
+    fn has_seen_legal(&self) {
+        let _ = self.own();
+    }
+}
+
+impl AnyPagePass for ControlPass {
+    ghost pass = { λ p. p };
+
+    fn has_seen_legal(&self) {
+        let _ = self.own();
+    }
+}
+
+impl AnyPagePass for MainPass {
+    ghost pass = { λ p. p };
+
+    fn has_seen_legal(&self) {
+        self.is_main();
+    }
+}
+
 /// At every moment that a pass has seen, while others act, nothing is lost and no value is far off. The global value of a
 /// counter, what the CPUs have not folded and what callers carry add up to the base and the changes made since; so do
 /// the system-wide value of an item and those of its counters. A differential is at most the threshold that was used
 /// on it last, and that at most the peak of its CPU and place, which is at most 125. So a global value alone is off by at
 /// most the thresholds that the CPUs used last and the sizes of what callers carry.
-pub fn totals_are_kept<P: Caller>(pass: &P)
+pub fn totals_are_kept<P: AnyPagePass>(pass: &P)
     ensures totals { AtEachMoment (P.pass pass.now) KeepsTotals }
     ensures system_totals { AtEachMoment (P.pass pass.now) KeepsSystemTotals }
     ensures differentials { AtEachMoment (P.pass pass.now) BoundsDifferentials }
@@ -27,6 +64,5 @@ pub fn totals_are_kept<P: Caller>(pass: &P)
     ensures drift { AtEachMoment (P.pass pass.now) BoundsDrift }
     ensures system_drift { AtEachMoment (P.pass pass.now) BoundsSystemDrift }
 {
-    // What the pass has seen is known to be legal once it is asked for its CPU.
-    let _ = pass.own();
+    pass.has_seen_legal();
 }

@@ -6,6 +6,6 @@ mod laws;
 mod values;
 mod watermarks;
 
-pub use laws::{totals_are_kept, values_tell_true_pages};
+pub use laws::{AnyPagePass, totals_are_kept, values_tell_true_pages};
 pub use values::{place_value, snapshot, system_value};
 pub use watermarks::{Verdict, watermark_ok};

@@ -6,9 +6,9 @@ use Rattle.vms_look.proofs.laws.totals_are_kept.Goals as goal
 
 pub returns : goal.returns
 returns g c =
-    let pass = g.P.Caller.pass c.args.pass.now in
+    let pass = g.P.AnyPagePass.pass c.args.pass.now in
     let laws = λ (since h : History) (is : pass.seen ≡ since ++ h).
-    laws-kept_before pass.facts since h (subst (IsLegal pass.facts) is c.own.ensures.live.legal) in
+    laws-kept_before pass.facts since h (subst (IsLegal pass.facts) is c.has_seen_legal.ensures) in
     record {
       totals = λ since h is. (laws since h is).totals;
       system_totals = λ since h is. (laws since h is).system_totals;
