@@ -4,5 +4,14 @@ pub mod MadeOnPages
 pub mod MadeOnEvents
 pub mod MadeOnCounters
 pub mod MadeLines
+pub mod ControlKinds
+pub mod RatedByControl
+pub mod MadeByControl
+pub mod ControlledCpus
+pub mod LaneKinds
 pub mod MadeScripts
+pub mod ScriptTurns
 pub mod LaneActs
+pub mod FittingLanes
+pub mod FreshControl
+pub mod RoomForLanes

@@ -1,7 +1,6 @@
 -- The lines of a lane, one after another.
-use Rattle.std.proofs.Common.{◌≡◌, ℕ, ◌+◌, ◌<◌, ◌≤◌, List, [], ◌∷◌, ◌++◌, length, Option, Some, None, refl, sym, ap}
-use Rattle.std.proofs.Common.{◌∙◌, subst, arith, append_assoc, append-nil, drop, get_or}
-use Rattle.std.proofs.lemmas.List.{drop_all, drop_more}
+use Rattle.std.proofs.Common.{◌≡◌, ℕ, ◌<◌, List, [], ◌∷◌, ◌++◌, length, Option, Some, None, refl, sym, ap}
+use Rattle.std.proofs.Common.{◌∙◌, subst, arith, append_assoc, append-nil}
 use Rattle.vms_base.specs.declared.headers.Header.{Header}
 use Rattle.vms_base.specs.declared.kinds.ZoneSize.{ZoneSize}
 use Rattle.vms_history.specs.declared.events.Event.{Event}
@@ -187,69 +186,3 @@ spent-none passes = record {
   event = grown-none (λ e. 0) (λ e. refl) passes.event.volume passes.event.volume refl;
   pcpu = grown-none (λ j. 0) (λ j. refl) passes.pcpu.volume passes.pcpu.volume refl;
 }
-
--- a turn over the lines of a script, and its end
-module _ (items : List LaneItem) (n : ℕ) where
-  module _ (none : LaneItem) (inside : n < length items) where
-    abbrev pub here : LaneItem
-    here = get_or items n none
-
-    left : drop n items ≡ here ∷ drop (n + 1) items
-    left = drop_more items n none inside
-
-    pub turn-room : (passes : CpuPasses) → HaveRoom (spent_by_all (acts_in (drop n items))) passes
-        → HaveRoom (spent_by here.act) passes
-    turn-room passes room = rooms-first here.act (acts_in (drop (n + 1) items)) passes
-        (subst (λ (xs : List LaneItem). HaveRoom (spent_by_all (acts_in xs)) passes) left room)
-
-    pub turn-rest : (new old : CpuPasses) → HaveSpent (spent_by here.act) new old
-        → HaveRoom (spent_by_all (acts_in (drop n items))) old
-        → HaveRoom (spent_by_all (acts_in (drop (n + 1) items))) new
-    turn-rest new old spent room = rooms-rest here.act (acts_in (drop (n + 1) items)) new old spent
-        (subst (λ (xs : List LaneItem). HaveRoom (spent_by_all (acts_in xs)) old) left room)
-
-    pub turn-spent : (next now old : CpuPasses) → HaveSpent (spent_by here.act) next now
-        → ((last : CpuPasses) → HaveSpent (spent_by_all (acts_in (drop n items))) last now
-        → HaveSpent (spent_by_all (acts_in items)) last old) → (last : CpuPasses)
-        → HaveSpent (spent_by_all (acts_in (drop (n + 1) items))) last next
-        → HaveSpent (spent_by_all (acts_in items)) last old
-    turn-spent next now old spent so_far last rest = so_far last
-        (subst (λ (xs : List LaneItem). HaveSpent (spent_by_all (acts_in xs)) last now) (sym left)
-        (spent-next here.act (acts_in (drop (n + 1) items)) last next now rest spent))
-
-    module _ (header : Header) (pressure normal : ZoneSize → ℕ → ℕ → Type 0) (w : World) (lane : Lane) where
-      pub turn-lines : (next now old : TablePasses) (answer : Option Answer) (answers : List NumberedAnswer)
-          → MakeAct header pressure normal w lane here.act next now answer
-          → ((last : TablePasses) (more : List NumberedAnswer)
-          → MakeLines header pressure normal w lane (drop n items) last now more
-          → MakeLines header pressure normal w lane items last old (answers ++ more)) → (last : TablePasses)
-          (more : List NumberedAnswer) → MakeLines header pressure normal w lane (drop (n + 1) items) last next more
-          → MakeLines header pressure normal w lane items last old
-          ((answers ++ with_answer here.number answer []) ++ more)
-      turn-lines next now old answer answers makes so_far last more rest =
-          subst (MakeLines header pressure normal w lane items last old)
-          (sym (append_assoc answers (with_answer here.number answer []) more
-          ∙ ap (λ (all : List NumberedAnswer). answers ++ all) (with_answer-first here.number answer more)))
-          (so_far last (with_answer here.number answer more)
-          (subst (λ (xs : List LaneItem). MakeLines header pressure normal w lane xs last now
-          (with_answer here.number answer more)) (sym left)
-          (lines-next header pressure normal w lane here (drop (n + 1) items) last next now answer more rest makes)))
-
-  module _ (past : length items ≤ n) where
-    pub end-spent : (now old : CpuPasses)
-        → ((last : CpuPasses) → HaveSpent (spent_by_all (acts_in (drop n items))) last now
-        → HaveSpent (spent_by_all (acts_in items)) last old) → HaveSpent (spent_by_all (acts_in items)) now old
-    end-spent now old so_far = so_far now
-        (subst (λ (xs : List LaneItem). HaveSpent (spent_by_all (acts_in xs)) now now) (sym (drop_all n items past))
-        (spent-none now))
-
-    pub end-lines : (header : Header) (pressure normal : ZoneSize → ℕ → ℕ → Type 0) (w : World) (lane : Lane)
-        (now old : TablePasses) (answers : List NumberedAnswer) → AreLive now
-        → ((last : TablePasses) (more : List NumberedAnswer)
-        → MakeLines header pressure normal w lane (drop n items) last now more
-        → MakeLines header pressure normal w lane items last old (answers ++ more))
-        → MakeLines header pressure normal w lane items now old answers
-    end-lines header pressure normal w lane now old answers live so_far =
-        subst (MakeLines header pressure normal w lane items now old) (append-nil answers)
-        (so_far now [] (subst (λ (xs : List LaneItem). MakeLines header pressure normal w lane xs now now [])
-        (sym (drop_all n items past)) (lines-none header pressure normal w lane now live)))

@@ -1,5 +1,7 @@
 pub mod Spending
 pub mod Ready
+pub mod Controlling
+pub mod LanePasses
 pub mod Acts
 pub mod Lines
 pub mod TableActs

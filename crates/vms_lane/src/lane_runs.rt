@@ -4,55 +4,68 @@ ghost use Rattle.vms_answers.specs.PhaseAnswers.{with_answer};
 ghost use Rattle.vms_answers.specs.ToldAnswers.{answer_told, numbered_told};
 ghost use Rattle.vms_base.specs.Headers.{IsHeader};
 ghost use Rattle.vms_line.specs.Laws.{IsActOf};
-ghost use Rattle.vms_tables.specs.Passes.{passes_of};
 ghost use Rattle.vms_tables.specs.Tables.{AreTables, world_of};
-ghost use Rattle.vms_text.specs.declared.acts.Lane.TheVariants.{Cpu};
-ghost use Rattle.vms_lane.specs.Ready.{AreReady};
+ghost use Rattle.vms_lane.specs.LanePasses.{AreReadyFor, HaveSpentAll, MayMakeActs, passes_in};
 ghost use Rattle.vms_lane.specs.Scripts.{MakeLines, acts_in};
-ghost use Rattle.vms_lane.specs.Spending.{HaveRoom, HaveSpent, spent_by_all};
 
 use crate::line_runs::run_line;
+use crate::passes::LanePasses;
 use std::alloc::Global;
 use std::sync::Wait;
 use vms_answers::{Answer, NumberedAnswer};
-use vms_base::{CpuId, Header, Memory};
+use vms_base::{Header, Memory};
 use vms_calc::{Rule, Rules};
+use vms_gate::Gate;
 use vms_script::LaneScript;
-use vms_tables::{CpuPasses, Tables};
+use vms_tables::Tables;
+use vms_text::Lane;
 
-/// Makes the lines of a CPU's lane one after another, whatever other lanes make meanwhile, and returns what they
-/// answer. Room for all answers is reserved first: where no memory is found no step was made. It may wait for the locks
-/// of percpu counters.
-pub fn run_cpu_lane<R: Wait, N: Rule, P: Rule>(
+/// Makes the lines of a lane one after another, whatever other lanes make meanwhile, and returns what they answer. Room
+/// for all answers is reserved first: where no memory is found no step was made. It may wait for the locks of percpu
+/// counters. Before the steps of each line it calls the gate with the number of the lane's CPU, or that of the CPUs for
+/// the control lane, and the number of the line.
+pub fn run_lane<G: Gate, R: Wait, N: Rule, P: Rule>(
     rt: &R,
     alloc: Global,
+    gate: &G,
     tables: &Tables,
     header: &Header,
     rules: &Rules<N, P>,
-    passes: &mut CpuPasses,
-    cpu: CpuId,
+    passes: &mut LanePasses,
+    lane: Lane,
     script: &LaneScript,
 ) -> Result<Vec<NumberedAnswer>, Memory>
     requires header { IsHeader header.now }
     requires tables { AreTables header.now tables.now }
-    requires passes { AreReady tables.now cpu passes.old }
-    requires acts { All (λ item. IsActOf header.now (Cpu cpu) item.act) script.now }
-    requires room { HaveRoom (spent_by_all (acts_in script.now)) passes.old }
+    requires passes { AreReadyFor tables.now lane passes.old }
+    requires acts { All (λ item. IsActOf header.now lane item.act) script.now }
+    requires may { MayMakeActs tables.now (acts_in script.now) passes.old }
     ensures makes { IfOk result (λ answers. MakeLines header.now (P.answers rules.now.pressure)
-        (N.answers rules.now.normal) (world_of tables.now) (Cpu cpu) script.now (passes_of passes.new)
-        (passes_of passes.old) (map numbered_told answers.items)) }
-    ensures spends { OnOk result (HaveSpent (spent_by_all (acts_in script.now)) passes.new passes.old) }
-    ensures ready { AreReady tables.now cpu passes.new }
+        (N.answers rules.now.normal) (world_of tables.now) lane script.now (passes_in passes.new)
+        (passes_in passes.old) (map numbered_told answers.items)) }
+    ensures spends { OnOk result (HaveSpentAll (acts_in script.now) passes.new passes.old) }
+    ensures ready { AreReadyFor tables.now lane passes.new }
     ensures err { OnErr result (passes.new ≡ passes.old) }
 {
     let items = script.as_slice();
+    let number = lane_number(header, lane);
     let mut answers = Vec::with_capacity(alloc, items.len())?;
     for item in items {
-        let answer = run_line(rt, tables, header, rules, passes, cpu, item.act);
+        gate.at(number, item.number);
+        let answer = run_line(rt, tables, header, rules, passes, lane, item.act);
         note(&mut answers, item.number, answer);
     }
     passes.are_live();
     Ok(answers)
+}
+
+/// The number of a lane at the gate.
+#[inline]
+fn lane_number(header: &Header, lane: Lane) -> u32 {
+    match lane {
+        Lane::Cpu(cpu) => cpu.number,
+        Lane::Control => header.layout.cpus(),
+    }
 }
 
 /// Adds the answer of the line of this number, if it has one: there is room for it.

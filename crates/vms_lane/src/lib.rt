@@ -1,13 +1,18 @@
-//! What a CPU's lane makes of its lines on the three tables while the other lanes make theirs: in each table the steps
-//! of its lines, in their order, and nothing else.
+//! What a lane makes of its lines on the three tables while the other lanes make theirs: in each table the steps of its
+//! lines, in their order, and nothing else.
 #![tactic(auto)]
 
 mod amounts;
+mod control_acts;
+mod control_lines;
 mod counter_acts;
+mod cpu_lines;
 mod event_acts;
 mod lane_runs;
 mod line_runs;
 mod page_acts;
+mod passes;
 
-pub use lane_runs::run_cpu_lane;
+pub use lane_runs::run_lane;
 pub use line_runs::run_line;
+pub use passes::LanePasses;

@@ -1,112 +1,85 @@
--- A line is made on the table that its act concerns.
-use Rattle.std.proofs.Common.{◌≡◌, true, false, sym, ◌∙◌, option_map}
+-- A line is made by the passes of its lane.
+use Rattle.std.proofs.Common.{sym, subst, option_map}
 use Rattle.vms_answers.specs.ToldAnswers.{answer_told}
-use Rattle.vms_lane.specs.Acts.{is_on_counters, is_on_events}
-use Rattle.vms_lane.proofs.MadeLines.{event-made, event-spent, page-made, page-nothing, page-spent, pcpu-made}
-use Rattle.vms_lane.proofs.MadeLines.{pcpu-spent, ready-after}
+use Rattle.vms_burial.specs.Passes as burial
+use Rattle.vms_line.specs.Laws.{IsActOf}
+use Rattle.vms_tables.specs.Passes.{passes_of}
+use Rattle.vms_tables.specs.Tables.{world_of}
+use Rattle.vms_text.specs.declared.acts.Lane.{Lane}
+use Rattle.vms_lane.specs.declared.passes.LanePasses.{LanePasses}
+use Rattle.vms_lane.specs.declared.passes.LanePasses.TheVariants.{Cpu as OfCpu, Control as OfControl}
+use Rattle.vms_lane.specs.LanePasses.{AreLeftBy, AreReadyFor, MayMakeAct, passes_in}
+use Rattle.vms_lane.specs.Lines.{MakeAct}
+use Rattle.vms_lane.proofs.LaneKinds.{lane-of_control, lane-of_cpu}
 use Rattle.vms_lane.proofs.line_runs.run_line.Goals as goal
 
-pub run_event_act-requires : goal.run_event_act-requires
-run_event_act-requires g c = record {
-  table = c.requires.passes.of.events;
-  one_each = c.requires.passes.volumes.event;
-  act = c.requires.act;
-  events = sym c.concerns_events.ensures ∙ c.if-concerns_events.true;
-  room = c.requires.room.event;
-}
-
-pub returns-then-concerns_events : goal.returns-then-concerns_events
-returns-then-concerns_events g c =
-    let header = c.args.header.now in
+pub run_cpu_line-requires : goal.run_cpu_line-requires
+run_cpu_line-requires g c =
     let tables = c.args.tables.now in
-    let pressure = g.P.Rule.answers c.args.rules.now.pressure in
-    let normal = g.N.Rule.answers c.args.rules.now.normal in
-    let old = c.args.passes.now in
-    let answer = option_map answer_told c.run_event_act.result in
-    let on : is_on_events c.args.act ≡ true = sym c.concerns_events.ensures ∙ c.if-concerns_events.true in
-    let pass = c.run_event_act.new.pass in
-    let new = record old { event = pass } in
-    let makes = event-made header pressure normal tables c.requires.tables c.args.cpu c.args.act old answer
-    c.are_live.ensures on pass c.run_event_act.ensures.made in
-    let spends = event-spent header pressure normal tables c.requires.tables c.args.cpu c.args.act old answer
-    c.are_live.ensures on pass c.run_event_act.ensures.grown in
+    let own = c.in-Cpu.passes in
+    let ready = subst (AreReadyFor tables c.args.lane) c.in-Cpu.is c.requires.passes in
+    let is_lane = lane-of_cpu tables c.args.lane own c.cpu-cpu.result ready c.cpu-cpu.ensures.owns in
     record {
-      makes = makes;
-      spends = spends;
-      ready = ready-after header pressure normal tables c.requires.tables c.args.cpu c.args.act old answer
-          c.requires.passes new makes spends c.requires.passes.nothing;
+      header = c.requires.header;
+      tables = c.requires.tables;
+      passes = subst (λ (lane : Lane). AreReadyFor tables lane (OfCpu own)) is_lane ready;
+      act = subst (λ (lane : Lane). IsActOf c.args.header.now lane c.args.act) is_lane c.requires.act;
+      room = subst (MayMakeAct tables c.args.act) c.in-Cpu.is c.requires.may;
     }
 
-pub run_pcpu_act-requires : goal.run_pcpu_act-requires
-run_pcpu_act-requires g c = record {
-  table = c.requires.passes.of.counters;
-  declared = c.requires.tables.declared;
-  owner = c.requires.passes.owner.counters;
-  one_each = c.requires.passes.volumes.pcpu;
-  act = c.requires.act;
-  counters = sym c.concerns_counters.ensures ∙ c.if-concerns_counters.true;
-  room = c.requires.room.pcpu;
-}
-
-pub returns-then-concerns_counters : goal.returns-then-concerns_counters
-returns-then-concerns_counters g c =
-    let header = c.args.header.now in
+pub returns-in-Cpu : goal.returns-in-Cpu
+returns-in-Cpu g c =
     let tables = c.args.tables.now in
+    let header = c.args.header.now in
     let pressure = g.P.Rule.answers c.args.rules.now.pressure in
     let normal = g.N.Rule.answers c.args.rules.now.normal in
-    let old = c.args.passes.now in
-    let answer = option_map answer_told c.run_pcpu_act.result in
-    let off : is_on_events c.args.act ≡ false = sym c.concerns_events.ensures ∙ c.if-concerns_events.false in
-    let on : is_on_counters c.args.act ≡ true = sym c.concerns_counters.ensures ∙ c.if-concerns_counters.true in
-    let pass = c.run_pcpu_act.new.pass in
-    let new = record old { pcpu = pass } in
-    let makes = pcpu-made header pressure normal tables c.requires.tables c.args.cpu c.args.act old answer
-    c.are_live.ensures off on pass c.run_pcpu_act.ensures.made in
-    let spends = pcpu-spent header pressure normal tables c.requires.tables c.args.cpu c.args.act old answer
-    c.are_live.ensures off on pass c.run_pcpu_act.ensures.grown in
+    let own = c.in-Cpu.passes in
+    let new = c.run_cpu_line.new.passes in
+    let answer = option_map answer_told c.run_cpu_line.result in
+    let ready = subst (AreReadyFor tables c.args.lane) c.in-Cpu.is c.requires.passes in
+    let is_lane = lane-of_cpu tables c.args.lane own c.cpu-cpu.result ready c.cpu-cpu.ensures.owns in
     record {
-      makes = makes;
-      spends = spends;
-      ready = ready-after header pressure normal tables c.requires.tables c.args.cpu c.args.act old answer
-          c.requires.passes new makes spends c.requires.passes.nothing;
+      makes = subst (λ (old : LanePasses). MakeAct header pressure normal (world_of tables) c.args.lane c.args.act
+          (passes_of new) (passes_in old) answer) (sym c.in-Cpu.is)
+          (subst (λ (lane : Lane). MakeAct header pressure normal (world_of tables) lane c.args.act (passes_of new)
+          (passes_of own) answer) (sym is_lane) c.run_cpu_line.ensures.makes);
+      leaves = subst (AreLeftBy tables c.args.act (OfCpu new)) (sym c.in-Cpu.is) c.run_cpu_line.ensures.spends;
+      ready = subst (λ (lane : Lane). AreReadyFor tables lane (OfCpu new)) (sym is_lane)
+          c.run_cpu_line.ensures.ready;
     }
 
-pub run_page_act-requires : goal.run_page_act-requires
-run_page_act-requires g c = record {
-  header = c.requires.header;
-  table = c.requires.passes.of.pages;
-  facts = c.requires.tables.pages;
-  owner = c.requires.passes.owner.pages;
-  nothing = c.requires.passes.nothing;
-  one_each = c.requires.passes.volumes.page;
-  act = c.requires.act;
-  no_events = sym c.concerns_events.ensures ∙ c.if-concerns_events.false;
-  no_counters = sym c.concerns_counters.ensures ∙ c.if-concerns_counters.false;
-  room = c.requires.room.page;
-}
-
-pub returns-else-concerns_counters : goal.returns-else-concerns_counters
-returns-else-concerns_counters g c =
-    let header = c.args.header.now in
+pub run_control_line-requires : goal.run_control_line-requires
+run_control_line-requires g c =
     let tables = c.args.tables.now in
+    let own = c.in-Control.passes in
+    let ready = subst (AreReadyFor tables c.args.lane) c.in-Control.is c.requires.passes in
+    let is_lane = lane-of_control tables c.args.lane own ready in
+    record {
+      header = c.requires.header;
+      tables = c.requires.tables;
+      passes = subst (λ (lane : Lane). AreReadyFor tables lane (OfControl own)) is_lane ready;
+      act = subst (λ (lane : Lane). IsActOf c.args.header.now lane c.args.act) is_lane c.requires.act;
+      may = subst (MayMakeAct tables c.args.act) c.in-Control.is c.requires.may;
+    }
+
+pub returns-in-Control : goal.returns-in-Control
+returns-in-Control g c =
+    let tables = c.args.tables.now in
+    let header = c.args.header.now in
     let pressure = g.P.Rule.answers c.args.rules.now.pressure in
     let normal = g.N.Rule.answers c.args.rules.now.normal in
-    let old = c.args.passes.now in
-    let answer = option_map answer_told c.run_page_act.result in
-    let no_events : is_on_events c.args.act ≡ false = sym c.concerns_events.ensures ∙ c.if-concerns_events.false in
-    let no_counters : is_on_counters c.args.act ≡ false =
-    sym c.concerns_counters.ensures ∙ c.if-concerns_counters.false in
-    let pass = c.run_page_act.new.pass in
-    let new = record old { page = pass } in
-    let makes = page-made header pressure normal tables c.requires.tables c.args.cpu c.args.act old answer
-    c.are_live.ensures no_events no_counters pass c.run_page_act.ensures.made in
-    let spends = page-spent header pressure normal tables c.requires.tables c.args.cpu c.args.act old answer
-    c.are_live.ensures no_events no_counters pass c.run_page_act.ensures.grown in
+    let own = c.in-Control.passes in
+    let new = c.run_control_line.new.passes in
+    let answer = option_map answer_told c.run_control_line.result in
+    let ready = subst (AreReadyFor tables c.args.lane) c.in-Control.is c.requires.passes in
+    let is_lane = lane-of_control tables c.args.lane own ready in
     record {
-      makes = makes;
-      spends = spends;
-      ready = ready-after header pressure normal tables c.requires.tables c.args.cpu c.args.act old answer
-          c.requires.passes new makes spends
-          (page-nothing header pressure normal tables c.requires.tables c.args.cpu c.args.act old answer
-          c.are_live.ensures no_events no_counters pass c.run_page_act.ensures.made);
+      makes = subst (λ (old : LanePasses). MakeAct header pressure normal (world_of tables) c.args.lane c.args.act
+          (burial.passes_of new) (passes_in old) answer) (sym c.in-Control.is)
+          (subst (λ (lane : Lane). MakeAct header pressure normal (world_of tables) lane c.args.act
+          (burial.passes_of new) (burial.passes_of own) answer) (sym is_lane) c.run_control_line.ensures.makes);
+      leaves = subst (AreLeftBy tables c.args.act (OfControl new)) (sym c.in-Control.is)
+          c.run_control_line.ensures.controls;
+      ready = subst (λ (lane : Lane). AreReadyFor tables lane (OfControl new)) (sym is_lane)
+          c.run_control_line.ensures.ready;
     }

@@ -1,7 +1,7 @@
 -- The goal was that no other act concerns the percpu counters.
 use Rattle.std.proofs.Common.{sym}
 use Rattle.vms_lane.proofs.ActKinds.{rest-no_counters}
-use Rattle.vms_lane.proofs.line_runs.concerns_counters.Goals as goal
+use Rattle.vms_lane.proofs.cpu_lines.concerns_counters.Goals as goal
 
 pub returns-in_default : goal.returns-in_default
 returns-in_default c = sym (rest-no_counters c.args.act (record {

@@ -5,15 +5,13 @@ use Rattle.vms_answers.specs.PhaseAnswers.{NumberedAnswer, with_answer}
 use Rattle.vms_answers.specs.ToldAnswers.{answer_told, numbered_told}
 use Rattle.vms_line.specs.Laws.{IsActOf}
 use Rattle.vms_script.specs.declared.lane_scripts.LaneItem.{LaneItem}
-use Rattle.vms_tables.specs.Passes.{passes_of}
 use Rattle.vms_tables.specs.Tables.{world_of}
 use Rattle.vms_text.specs.declared.acts.Act.TheVariants.{Mod}
-use Rattle.vms_text.specs.declared.acts.Lane.TheVariants.{Cpu}
+use Rattle.vms_lane.specs.LanePasses.{AreLeftBy, MayMakeAct, passes_in}
 use Rattle.vms_lane.specs.Lines.{MakeAct}
 use Rattle.vms_lane.specs.Scripts.{MakeLines}
-use Rattle.vms_lane.specs.Spending.{HaveRoom, HaveSpent, spent_by}
-use Rattle.vms_lane.proofs.MadeScripts.{end-lines, end-spent, turn-lines, turn-rest, turn-room, turn-spent}
-use Rattle.vms_lane.proofs.lane_runs.run_cpu_lane.Goals as goal
+use Rattle.vms_lane.proofs.ScriptTurns.{end-lines, end-spent, turn-lines, turn-may, turn-rest, turn-spent}
+use Rattle.vms_lane.proofs.lane_runs.run_lane.Goals as goal
 
 -- what stands where no line is read
 abbrev no_item : LaneItem
@@ -24,14 +22,14 @@ loop-item-init g c =
     let made = c.in_ok-answers.ensures in
     record {
       ready = c.requires.passes;
-      room = c.requires.room;
+      may = c.requires.may;
       few = omega (arith, made.len);
       fits = subst (λ (items : List LaneItem). length items ≤ vec_capacity c.in_ok-answers.answers)
           c.as_slice-items.ensures.items made.capacity;
       lines = λ last more lines.
           subst (λ (answers : List NumberedAnswer). MakeLines c.args.header.now
           (g.P.Rule.answers c.args.rules.now.pressure) (g.N.Rule.answers c.args.rules.now.normal)
-          (world_of c.args.tables.now) (Cpu c.args.cpu) c.args.script.now last (passes_of c.args.passes.now)
+          (world_of c.args.tables.now) c.args.lane c.args.script.now last (passes_in c.args.passes.now)
           (answers ++ more)) (sym (ap (map numbered_told) made.items)) lines;
       spent = λ last spent. spent;
     }
@@ -45,10 +43,11 @@ run_line-answer-requires g c =
       header = c.requires.header;
       tables = c.requires.tables;
       passes = c.loop-item.invariant.ready;
-      act = subst (λ (items : List LaneItem). IsActOf c.args.header.now (Cpu c.args.cpu) (get_or items n no_item).act)
+      act = subst (λ (items : List LaneItem). IsActOf c.args.header.now c.args.lane (get_or items n no_item).act)
           (sym same) (c.requires.acts n no_item inside);
-      room = subst (λ (items : List LaneItem). HaveRoom (spent_by (get_or items n no_item).act) c.loop-item.passes)
-          (sym same) (turn-room c.args.script.now n no_item inside c.loop-item.passes c.loop-item.invariant.room);
+      may = subst (λ (items : List LaneItem). MayMakeAct c.args.tables.now (get_or items n no_item).act
+          c.loop-item.passes) (sym same)
+          (turn-may c.args.script.now n no_item inside c.args.tables.now c.loop-item.passes c.loop-item.invariant.may);
     }
 
 pub note-requires : goal.note-requires
@@ -70,25 +69,25 @@ loop-item-preserved g c =
     let normal = g.N.Rule.answers c.args.rules.now.normal in
     let w = world_of c.args.tables.now in
     let answer = option_map answer_told c.run_line-answer.result in
-    let makes = subst (λ (items : List LaneItem). MakeAct header pressure normal w (Cpu c.args.cpu)
-    (get_or items n no_item).act (passes_of next) (passes_of now) answer) same c.run_line-answer.ensures.makes in
-    let spends = subst (λ (items : List LaneItem). HaveSpent (spent_by (get_or items n no_item).act) next now) same
-    c.run_line-answer.ensures.spends in
+    let makes = subst (λ (items : List LaneItem). MakeAct header pressure normal w c.args.lane
+    (get_or items n no_item).act (passes_in next) (passes_in now) answer) same c.run_line-answer.ensures.makes in
+    let leaves = subst (λ (items : List LaneItem). AreLeftBy c.args.tables.now (get_or items n no_item).act next now)
+    same c.run_line-answer.ensures.leaves in
     let noted = subst (λ (items : List LaneItem). map numbered_told c.note.new.answers.items
     ≡ map numbered_told c.loop-item.answers.items ++ with_answer (get_or items n no_item).number answer []) same
     c.note.ensures.answers in
     record {
       ready = c.run_line-answer.ensures.ready;
-      room = turn-rest script n no_item inside next now spends c.loop-item.invariant.room;
+      may = turn-rest script n no_item inside c.args.tables.now next now leaves c.loop-item.invariant.may;
       few = omega (arith, c.note.ensures.len, c.loop-item.invariant.few);
       fits = omega (arith, c.note.ensures.capacity, c.loop-item.invariant.fits);
       lines = λ last more rest.
-          subst (λ (answers : List NumberedAnswer). MakeLines header pressure normal w (Cpu c.args.cpu) script last
-          (passes_of c.args.passes.now) (answers ++ more)) (sym noted)
-          (turn-lines script n no_item inside header pressure normal w (Cpu c.args.cpu) (passes_of next) (passes_of now)
-          (passes_of c.args.passes.now) answer (map numbered_told c.loop-item.answers.items) makes
+          subst (λ (answers : List NumberedAnswer). MakeLines header pressure normal w c.args.lane script last
+          (passes_in c.args.passes.now) (answers ++ more)) (sym noted)
+          (turn-lines script n no_item inside header pressure normal w c.args.lane (passes_in next) (passes_in now)
+          (passes_in c.args.passes.now) answer (map numbered_told c.loop-item.answers.items) makes
           c.loop-item.invariant.lines last more rest);
-      spent = λ last rest. turn-spent script n no_item inside next now c.args.passes.now spends
+      spent = λ last rest. turn-spent script n no_item inside c.args.tables.now next now c.args.passes.now leaves
           c.loop-item.invariant.spent last rest;
     }
 
@@ -100,8 +99,8 @@ returns g c =
     c.loop-item-test.false in
     record {
       makes = end-lines script n past c.args.header.now (g.P.Rule.answers c.args.rules.now.pressure)
-          (g.N.Rule.answers c.args.rules.now.normal) (world_of c.args.tables.now) (Cpu c.args.cpu)
-          (passes_of c.loop-item.passes) (passes_of c.args.passes.now)
+          (g.N.Rule.answers c.args.rules.now.normal) (world_of c.args.tables.now) c.args.lane
+          (passes_in c.loop-item.passes) (passes_in c.args.passes.now)
           (map numbered_told c.loop-item.answers.items) c.are_live.ensures c.loop-item.invariant.lines;
       spends = end-spent script n past c.loop-item.passes c.args.passes.now c.loop-item.invariant.spent;
       ready = c.loop-item.invariant.ready;

@@ -1,0 +1,129 @@
+-- The acts by which the control lane sets thresholds, by the calls that make them; and how often each threshold and
+-- mark was set.
+use Rattle.std.proofs.Common.{◌≡◌, ℕ, true, List, Option, Some, None, refl, sym, ◌∙◌}
+use Rattle.std.proofs.Common.{subst, arith}
+use Rattle.vms_base.specs.declared.headers.Header.{Header}
+use Rattle.vms_base.specs.declared.ids.PlaceId.{PlaceId}
+use Rattle.vms_base.specs.declared.kinds.ZoneSize.{ZoneSize}
+use Rattle.vms_base.specs.Places.{IsNode, Shape}
+use Rattle.vms_history.specs.Events.{own}
+use Rattle.vms_calls.specs.HeaderFacts.{facts_of}
+use Rattle.vms_calls.specs.MayMake.{HasMade}
+use Rattle.vms_calls.specs.Ratings.{SetsNormal, SetsPressure}
+use Rattle.vms_calls.specs.Turns.{Balance, IsTurn}
+use Rattle.vms_calls.proofs.CallSteps.{Each, fold-each, snapshot-each, test-each}
+use Rattle.vms_control.specs.SetCounts.{never}
+use Rattle.vms_control.specs.Unladen.{StaysUnladen}
+use Rattle.vms_control.proofs.LargestSets.{largest-grows}
+use Rattle.vms_control.proofs.PassCalls.{has-made}
+use Rattle.vms_control.proofs.QuietSteps.{SetsNothing, folds-set_nothing, looks-set_nothing, quiet-sets}
+use Rattle.vms_core.specs.declared.states.State.{State}
+use Rattle.vms_core.specs.declared.steps.Facts.{Facts}
+use Rattle.vms_core.specs.declared.steps.Step.{Step}
+use Rattle.vms_core.specs.Conditions.{IsControl}
+use Rattle.vms_core.specs.Own.{CarriesNothing}
+use Rattle.vms_core.specs.Pages.{History, pages}
+use Rattle.vms_plain_lines.proofs.ControlAnswers.{Tell-normal, Tell-pressure, Tell-turn}
+use Rattle.vms_seats.specs.Passes.{IsLive, IsOf, Pass, Shared}
+use Rattle.vms_seats.specs.Steps.{Made}
+use Rattle.vms_text.specs.declared.acts.Act.{Act}
+use Rattle.vms_text.specs.declared.acts.Act.TheVariants.{Fold, Water, Val, Snap, Sys, Pressure, Normal, Kswapd}
+use Rattle.vms_text.specs.declared.acts.Lane.TheVariants.{Control}
+use Rattle.vms_world.specs.declared.worlds.World.{World}
+use Rattle.vms_world.specs.Acts.{PageSteps, owns}
+use Rattle.vms_answers.specs.Answers.{Answer, on_pages}
+use Rattle.vms_answers.specs.Answers.Answer.{Balanced}
+use Rattle.vms_lane.specs.Acts.{is_fold_or_look}
+use Rattle.vms_lane.specs.Controlling.{SetsTwice}
+use Rattle.vms_lane.specs.TableActs.{MakesOnPages}
+use Rattle.vms_lane.proofs.MadeOnPages.{act-made, layout-same}
+
+-- a call that sets thresholds, by the control pass of the page counters of a header
+module _ (header : Header) (pressure normal : ZoneSize → ℕ → ℕ → Type 0) (words : Shared Facts)
+    (same : words.facts ≡ facts_of header words.facts.base) (new old : Pass Facts Step) (of : IsOf old words)
+    (nothing : CarriesNothing words.facts.layout (own old.seen old.number)) where
+  abbrev base : State
+  base = words.facts.base
+
+  -- the world that an answer is told in, with these page counters
+  abbrev with_base : World → World
+  with_base w = record w { pages = base }
+
+  made-here : (steps : List Step) → Made pages new old steps
+      → HasMade (facts_of header base) new.seen old.seen old.number steps
+  made-here steps made = subst (λ (f : Facts). HasMade f new.seen old.seen old.number steps) same
+      (has-made words new old steps of made)
+
+  nothing-here : StaysUnladen words.facts new old → CarriesNothing header.layout (own new.seen new.number)
+  nothing-here stays = subst (λ (shape : Shape). CarriesNothing shape (own new.seen new.number))
+      (layout-same header pressure normal words.facts same) (stays nothing)
+
+  pub pressure-made : (n : PlaceId) (steps : List Step)
+      → SetsPressure words.facts pressure normal n old.number old.seen steps → Made pages new old steps
+      → StaysUnladen words.facts new old → (b : Act) → b ≡ Pressure n
+      → MakesOnPages header pressure normal base Control b new old None
+  pressure-made n steps sets made stays b is =
+      let call : SetsPressure (facts_of header base) pressure normal n old.number old.seen steps =
+      subst (λ (f : Facts). SetsPressure f pressure normal n old.number old.seen steps) same sets in
+      act-made header pressure normal words.facts same Control new old None (Pressure n) steps made call
+      (λ w. Tell-pressure header (with_base w) pressure normal old.number new.seen old.seen (on_pages steps)
+      (made-here steps made) n call refl refl) (nothing-here stays) b is
+
+  pub normal-made : (n : PlaceId) (steps : List Step)
+      → SetsNormal words.facts normal n old.number old.seen steps → Made pages new old steps
+      → StaysUnladen words.facts new old → (b : Act) → b ≡ Normal n
+      → MakesOnPages header pressure normal base Control b new old None
+  normal-made n steps sets made stays b is =
+      let call : SetsNormal (facts_of header base) normal n old.number old.seen steps =
+      subst (λ (f : Facts). SetsNormal f normal n old.number old.seen steps) same sets in
+      act-made header pressure normal words.facts same Control new old None (Normal n) steps made call
+      (λ w. Tell-normal header (with_base w) pressure normal old.number new.seen old.seen (on_pages steps)
+      (made-here steps made) n call refl refl) (nothing-here stays) b is
+
+  pub turn-made : (n : PlaceId) (order most : ℕ) (answer : Balance) (steps : List Step)
+      → IsTurn header base pressure normal n order most old.number old.seen steps answer → Made pages new old steps
+      → StaysUnladen words.facts new old → (b : Act) → b ≡ Kswapd n order most
+      → MakesOnPages header pressure normal base Control b new old (Some (Balanced answer))
+  turn-made n order most answer steps turn made stays b is =
+      act-made header pressure normal words.facts same Control new old (Some (Balanced answer))
+      (Kswapd n order most) steps made (answer, turn)
+      (λ w. Tell-turn header (with_base w) pressure normal old.number new.seen old.seen (on_pages steps)
+      (made-here steps made) n order most answer turn refl refl) (nothing-here stays) b is
+
+-- a pass that lives and owns no CPU is the control pass
+pub control-of : (pass : Pass Facts Step) → IsLive pages pass → pass.cpu ≡ None → IsControl pass.seen pass.number
+control-of pass live none = live.owner ∙ none
+
+-- a fold and a look set nothing
+looks-quiet : (header : Header) (base : State) (pressure normal : ZoneSize → ℕ → ℕ → Type 0) (p : ℕ) (h : History)
+    (a : Act) (steps : List Step) → is_fold_or_look a ≡ true
+    → PageSteps header base pressure normal Control p a h steps → Each SetsNothing steps
+looks-quiet header base pressure normal p h (Fold c) steps on makes =
+    fold-each SetsNothing folds-set_nothing header.layout (owns Control c) c steps makes
+looks-quiet header base pressure normal p h (Water g mark most) steps on (answer, makes) =
+    test-each SetsNothing looks-set_nothing header g mark most steps answer makes
+looks-quiet header base pressure normal p h (Val k) steps on (answer, makes) =
+    subst (Each SetsNothing) (sym makes.in_order) (tt, tt)
+looks-quiet header base pressure normal p h (Snap k) steps on (answer, makes) =
+    snapshot-each SetsNothing looks-set_nothing header.layout k steps answer makes
+looks-quiet header base pressure normal p h (Sys i) steps on (answer, makes) =
+    subst (Each SetsNothing) (sym makes.in_order) (tt, tt)
+looks-quiet header base pressure normal p h _ steps on makes = absurd cc
+
+-- so no threshold and no mark was set by the control pass, or by another
+pub looks-sets : (header : Header) (pressure normal : ZoneSize → ℕ → ℕ → Type 0) (words : Shared Facts)
+    (new old : Pass Facts Step) → IsOf old words → IsLive pages old → old.cpu ≡ None → (a : Act)
+    → is_fold_or_look a ≡ true → (answer : Option Answer)
+    → MakesOnPages header pressure normal words.facts.base Control a new old answer
+    → SetsTwice words.facts new.seen old.seen
+looks-sets header pressure normal words new old of live none a on answer makes =
+    let sets = quiet-sets words.facts new.seen old.seen old.number makes.steps
+    (has-made words new old makes.steps of makes.made) (control-of old live none)
+    (looks-quiet header words.facts.base pressure normal old.number old.seen a makes.steps on makes.is_act) in
+    let most = largest-grows words.facts never never 0 new.seen old.seen sets (λ n. omega arith) (λ n. omega arith) in
+    omega (arith, most)
+
+-- what a call asks of its node
+pub node-in : (header : Header) (facts : Facts) → facts ≡ facts_of header facts.base → (n : ℕ)
+    → IsNode header.layout n → IsNode facts.layout n
+node-in header facts same n known = subst (λ (f : Facts). IsNode f.layout n) (sym same) known
