@@ -1,4 +1,4 @@
--- The answers of lanes, merged in the order of the lines of a phase.
+-- For other crates too: the answers of lanes, merged in the order of the lines of a phase.
 use Rattle.std.proofs.Common.{◌≡◌, ℕ, suc, ◌+◌, ◌<◌, nat_eq, Bool, true, false, List, [], ◌∷◌, ◌++◌, map, refl, sym, ap}
 use Rattle.std.proofs.Common.{◌∙◌, arith, if◌then◌else◌, Option, Some, None}
 use Rattle.std.proofs.lemmas.Bool.Decides.{nat_tests}
@@ -63,7 +63,7 @@ with_answer-append n None answers = refl
 with_answer-append n (Some answer) answers = refl
 
 -- lanes that are told the same are merged to the same
-merged-everywhere : (items : List Item) (t u : Lane → List NumberedAnswer) → ((lane : Lane) → t lane ≡ u lane)
+pub merged-everywhere : (items : List Item) (t u : Lane → List NumberedAnswer) → ((lane : Lane) → t lane ≡ u lane)
     → merged items t ≡ merged items u
 merged-everywhere [] t u same = refl
 merged-everywhere (item ∷ items) t u same =

@@ -1,4 +1,4 @@
--- The volumes after a line: they are more by what the line changes.
+-- For other crates too: the volumes after a line, which are more by what the line changes.
 use Rattle.std.proofs.Common.{◌≡◌, ℕ, zero, ◌+◌, ◌*◌, ◌<◌, nat_eq, Bool, true, false, if◌then◌else◌, List, length}
 use Rattle.std.proofs.Common.{get_or, refl, sym, ap, ◌∙◌, arith, inl, inr, unsigned_abs, length-set}
 use Rattle.std.proofs.Common.{ℤ, get_or-set_same, get_or-set_other}

@@ -9,5 +9,7 @@ mod takers;
 mod volumes;
 
 pub use laws::volumes_count_phases;
+pub use open_replays::adds;
 pub use phases::replay_phase;
 pub use takers::AnswerTaker;
+pub use volumes::spend;

@@ -98,7 +98,7 @@ impl OpenReplay {
 
 /// Whether an act was made that answered this, or nothing: a limited addition that answered no was not.
 #[inline]
-fn adds(answer: &Option<Answer>) -> bool
+pub fn adds(answer: &Option<Answer>) -> bool
     ensures { result ≡ adds_by (option_map answer_told answer.now) }
 {
     match answer {

@@ -16,7 +16,7 @@ const EVENTS: usize = 8;
 
 /// Adds what a line changes to the volumes of its CPU. A limited addition adds its amount only where it was made.
 #[inline]
-pub(crate) fn spend(volumes: &mut Volumes, header: &Header, lane: Lane, act: Act, made: bool)
+pub fn spend(volumes: &mut Volumes, header: &Header, lane: Lane, act: Act, made: bool)
     requires volumes { AreVolumesOf header.now volumes.old }
     requires line { IsLineOf header.now (LaneLine lane act) }
     ensures { volumes.new ≡ spent_by_line header.now made lane act volumes.old }
