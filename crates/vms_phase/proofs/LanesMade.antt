@@ -1,0 +1,198 @@
+-- Histories in which the passes of the lanes have made their lines are a phase of these lines, which answer what the
+-- lanes were told.
+use Rattle.std.proofs.Common.{◌≡◌, ℕ, suc, Bool, true, false, List, [], ◌∷◌, ◌++◌, map, refl, sym, ap}
+use Rattle.std.proofs.Common.{subst, ◌∙◌, if◌then◌else◌, append-nil}
+use Rattle.std.specs.Prelude.{All}
+use Rattle.std.specs.List.Sorted.{IsStrictlyIncreasing}
+use Rattle.std.proofs.lemmas.List.Elements.{All-head, All-tail}
+use Rattle.vms_base.specs.declared.headers.Header.{Header}
+use Rattle.vms_base.specs.declared.ids.CpuId.{CpuId}
+use Rattle.vms_base.specs.declared.kinds.ZoneSize.{ZoneSize}
+use Rattle.vms_base.specs.Places.{IsCpu}
+use Rattle.vms_history.specs.declared.events.Event.{Event}
+use Rattle.vms_history.specs.Events.{after, own}
+use Rattle.vms_core.specs.declared.steps.Step.{Step}
+use Rattle.vms_core.specs.Steps as page_steps
+use Rattle.vms_event_core.specs.declared.steps.EventStep.{EventStep}
+use Rattle.vms_event_core.specs.Steps as event_steps
+use Rattle.vms_pcpu_core.specs.declared.steps.PcpuStep.{PcpuStep}
+use Rattle.vms_pcpu_core.specs.Steps as pcpu_steps
+use Rattle.vms_seats.specs.Passes.{Pass}
+use Rattle.vms_script.specs.declared.lane_scripts.LaneItem.{LaneItem}
+use Rattle.vms_script.specs.PhaseScripts.{is_lane, lane_items}
+use Rattle.vms_text.specs.declared.acts.Act.{Act}
+use Rattle.vms_text.specs.declared.acts.Item.{Item}
+use Rattle.vms_text.specs.declared.acts.Lane.{Lane}
+use Rattle.vms_text.specs.declared.acts.Lane.TheVariants.{Cpu}
+use Rattle.vms_world.specs.declared.worlds.World.{World}
+use Rattle.vms_world.specs.Acts.{EventSteps, PageSteps, PcpuSteps}
+use Rattle.vms_world.specs.Lanes.{HasLanes, MakesActs, acts_of, is_among, lane_at, lanes_of}
+use Rattle.vms_world.specs.Phases.{Histories}
+use Rattle.vms_world.specs.Worlds.{event_facts, pcpu_facts}
+use Rattle.vms_file_order.specs.LanePasses.{pass_of}
+use Rattle.vms_file_order.specs.MadePhases.{MakePhase}
+use Rattle.vms_file_order.proofs.LaneLists.{HasPlace-among, StandOnce-lanes, pass_of-lane_at}
+use Rattle.vms_answers.specs.Answers.{LaneSteps, no_steps, then_steps}
+use Rattle.vms_answers.specs.PhaseAnswers.{NumberedAnswer, answers_of, steps_by, steps_of}
+use Rattle.vms_answers.proofs.OpenAnswers.{LaneSteps-same}
+use Rattle.vms_lane.specs.Scripts.{GoesOnWith, acts_in}
+use Rattle.vms_lane.proofs.LaneActs.{acts-fresh, acts-later, acts_in-lane_items}
+use Rattle.vms_merge.specs.Merging.{LanesAnswer, merged, read_lane, taken, with_told}
+use Rattle.vms_phase.specs.AddedAmounts.{added_by}
+use Rattle.vms_phase.specs.GrownVolumes.{SpendAsTold, lane_answers}
+use Rattle.vms_phase.specs.BegunLanes.{IsWhole}
+use Rattle.vms_phase.specs.LanesMade.{AreMadeByLanes, HasMadeLane}
+use Rattle.vms_phase.proofs.AddedAmounts.{steps_by-own}
+use Rattle.vms_phase.proofs.GrownVolumes.{lane_items-apart}
+
+-- lanes that are told the same are merged to the same, where lines have these lanes
+merged-among : (items : List Item) (t u : Lane → List NumberedAnswer) (P : Lane → Type 0)
+    → ((lane : Lane) → P lane → t lane ≡ u lane) → All (λ (item : Item). P item.lane) items
+    → merged items t ≡ merged items u
+merged-among [] t u P same each = refl
+merged-among (item ∷ items) t u P same each =
+    let l = item.lane in let n = item.number in
+    let first : List NumberedAnswer × List NumberedAnswer = taken n (u l) in
+    ap (λ (answers : List NumberedAnswer).
+    (taken n answers).0 ++ merged items (with_told l (taken n answers).1 t))
+    (same l (All-head (λ (i : Item). P i.lane) item items each))
+    ∙ ap (λ (more : List NumberedAnswer). first.0 ++ more)
+    (merged-among items (with_told l first.1 t) (with_told l first.1 u) P
+    (λ lane is. by first.1 lane (is_lane l lane) (same lane is))
+    (All-tail (λ (i : Item). P i.lane) item items each))
+  where
+    by : (answers : List NumberedAnswer) (lane : Lane) (b : Bool) → t lane ≡ u lane
+        → (if b then answers else t lane) ≡ (if b then answers else u lane)
+    by answers lane true is = refl
+    by answers lane false is = is
+
+-- what a whole pass has made of acts stands in the history
+module _ {F K : Type 0} (makes : Act → List (Event K) → List K → Type 0) (number : ℕ) (first last : Pass F K)
+    (h : List (Event K)) (whole : IsWhole number first last h) where
+  whole-acts : (acts : List Act) → GoesOnWith makes number acts last.seen first.seen → MakesActs makes number acts h
+  whole-acts acts goes = acts-later makes number acts h last.seen whole.extends whole.all_steps
+      (acts-fresh makes number acts last.seen first.seen whole.fresh.none goes)
+
+  -- and its steps are those that the history has of it
+  whole-steps : (steps : List K) → own last.seen number ≡ after number steps (own first.seen number)
+      → steps_by h number ≡ steps
+  whole-steps steps made =
+      steps_by-own h number steps (whole.all_steps ∙ made ∙ ap (after number steps) whole.fresh.none)
+
+module _ (header : Header) (pressure normal : ZoneSize → ℕ → ℕ → Type 0) (w : World) (items : List Item)
+    (hs : Histories) where
+  abbrev lanes : List Lane
+  lanes = lanes_of header.layout items
+
+  -- one lane
+  module _ (number : ℕ) (lane : Lane) (answers : List NumberedAnswer)
+      (has : HasMadeLane header pressure normal w items hs number lane answers) where
+    page-acts : MakesActs (PageSteps header w.pages pressure normal lane number) number (acts_of lane items) hs.pages
+    page-acts =
+        let makes : ℕ → Act → List (Event Step) → List Step → Type 0 = PageSteps header w.pages pressure normal lane in
+        subst (λ (acts : List Act). MakesActs (makes number) number acts hs.pages) (acts_in-lane_items lane items)
+        (whole-acts (makes number) number has.first.pages has.last.pages hs.pages has.pages
+        (acts_in (lane_items lane items))
+        (subst (λ (p : ℕ). GoesOnWith (makes p) p (acts_in (lane_items lane items)) has.last.pages.seen
+        has.first.pages.seen) has.pages.fresh.is has.lines.page_acts))
+
+    event-acts : MakesActs (λ act h. EventSteps (event_facts header w) lane act) number (acts_of lane items) hs.events
+    event-acts =
+        let makes : Act → List (Event EventStep) → List EventStep → Type 0 =
+        λ act h. EventSteps (event_facts header w) lane act in
+        subst (λ (acts : List Act). MakesActs makes number acts hs.events) (acts_in-lane_items lane items)
+        (whole-acts makes number has.first.events has.last.events hs.events has.events
+        (acts_in (lane_items lane items))
+        (subst (λ (p : ℕ). GoesOnWith makes p (acts_in (lane_items lane items)) has.last.events.seen
+        has.first.events.seen) has.events.fresh.is has.lines.event_acts))
+
+    pcpu-acts : MakesActs (λ act h. PcpuSteps (pcpu_facts header w) lane act) number (acts_of lane items) hs.counters
+    pcpu-acts =
+        let makes : Act → List (Event PcpuStep) → List PcpuStep → Type 0 =
+        λ act h. PcpuSteps (pcpu_facts header w) lane act in
+        subst (λ (acts : List Act). MakesActs makes number acts hs.counters) (acts_in-lane_items lane items)
+        (whole-acts makes number has.first.counters has.last.counters hs.counters has.counters
+        (acts_in (lane_items lane items))
+        (subst (λ (p : ℕ). GoesOnWith makes p (acts_in (lane_items lane items)) has.last.counters.seen
+        has.first.counters.seen) has.counters.fresh.is has.lines.pcpu_acts))
+
+    -- its answers are those that the histories tell
+    answers-read : pass_of lanes lane ≡ number → lane_answers header w items hs lane ≡ answers
+    answers-read is =
+        let lines = has.lines in
+        let here : LaneSteps = record {
+          pages = steps_by hs.pages number;
+          events = steps_by hs.events number;
+          counters = steps_by hs.counters number;
+        } in
+        let pages = whole-steps (λ act h steps. Unit {0}) number has.first.pages has.last.pages hs.pages has.pages
+        lines.steps.pages (subst (λ (p : ℕ). own has.last.pages.seen p
+        ≡ after p lines.steps.pages (own has.first.pages.seen p)) has.pages.fresh.is lines.pages.made.made) in
+        let events = whole-steps (λ act h steps. Unit {0}) number has.first.events has.last.events hs.events has.events
+        lines.steps.events (subst (λ (p : ℕ). own has.last.events.seen p
+        ≡ after p lines.steps.events (own has.first.events.seen p)) has.events.fresh.is lines.events.made.made) in
+        let counters = whole-steps (λ act h steps. Unit {0}) number has.first.counters has.last.counters hs.counters
+        has.counters lines.steps.counters (subst (λ (p : ℕ). own has.last.counters.seen p
+        ≡ after p lines.steps.counters (own has.first.counters.seen p)) has.counters.fresh.is lines.counters.made.made) in
+        let same : here ≡ then_steps lines.steps no_steps =
+        LaneSteps-same here (then_steps lines.steps no_steps) (pages ∙ sym (append-nil lines.steps.pages))
+        (events ∙ sym (append-nil lines.steps.events)) (counters ∙ sym (append-nil lines.steps.counters)) in
+        let by_number : steps_of lanes hs lane ≡ here =
+        ap (λ (p : ℕ). let steps : LaneSteps = record {
+          pages = steps_by hs.pages p;
+          events = steps_by hs.events p;
+          counters = steps_by hs.counters p;
+        } in steps) is in
+        ap (λ (steps : LaneSteps). (read_lane header w lane (lane_items lane items) steps).0) (by_number ∙ same)
+        ∙ ap (λ (read : List NumberedAnswer × LaneSteps). read.0) (lines.tells no_steps)
+
+  module _ (told : Lane → List NumberedAnswer) (made : AreMadeByLanes header pressure normal w items hs told) where
+    pub MakePhase-lanes : HasLanes page_steps.role lanes hs.pages → HasLanes event_steps.role lanes hs.events
+        → HasLanes pcpu_steps.role lanes hs.counters → MakePhase header pressure normal w items hs
+    MakePhase-lanes pages events counters = record {
+      complete = made.complete;
+      page_lanes = pages;
+      event_lanes = events;
+      pcpu_lanes = counters;
+      page_lines = λ n below. page-acts (suc n) (lane_at lanes n) (told (lane_at lanes n)) (made.lanes n below);
+      event_lines = λ n below. event-acts (suc n) (lane_at lanes n) (told (lane_at lanes n)) (made.lanes n below);
+      pcpu_lines = λ n below. pcpu-acts (suc n) (lane_at lanes n) (told (lane_at lanes n)) (made.lanes n below);
+    }
+
+    -- each lane that has lines was told what the histories tell
+    told-same : (lane : Lane) → is_among lane lanes ≡ true → lane_answers header w items hs lane ≡ told lane
+    told-same lane among =
+        let at = HasPlace-among lanes lane among in
+        subst (λ (l : Lane). lane_answers header w items hs l ≡ told l) at.there
+        (answers-read (suc at.place) (lane_at lanes at.place) (told (lane_at lanes at.place))
+        (made.lanes at.place at.below)
+        (pass_of-lane_at lanes at.place (StandOnce-lanes header.layout items) at.below).number)
+
+    pub answers-merged : LanesAnswer → IsStrictlyIncreasing (map (λ (item : Item). item.number) items)
+        → All (λ (item : Item). is_among item.lane lanes ≡ true) items
+        → answers_of header w items hs ≡ merged items told
+    answers-merged law up among =
+        law header w items (steps_of lanes hs) up
+        ∙ merged-among items (lane_answers header w items hs) told (λ lane. is_among lane lanes ≡ true) told-same among
+
+    pub SpendAsTold-lanes : SpendAsTold header items (lane_answers header w items hs) hs
+        → SpendAsTold header items told hs
+    SpendAsTold-lanes spend = record {
+      pages = spend.pages;
+      events = spend.events;
+      counters = λ c j known. spend.counters c j known ∙ same (record { number = c }) j known;
+    }
+      where
+        same : (c : CpuId) (j : ℕ) → IsCpu header.layout c.number
+            → added_by j (lane_items (Cpu c) items) (lane_answers header w items hs (Cpu c))
+            ≡ added_by j (lane_items (Cpu c) items) (told (Cpu c))
+        same c j known = by (is_among (Cpu c) lanes) refl
+          where
+            by : (b : Bool) → is_among (Cpu c) lanes ≡ b
+                → added_by j (lane_items (Cpu c) items) (lane_answers header w items hs (Cpu c))
+                ≡ added_by j (lane_items (Cpu c) items) (told (Cpu c))
+            by true among = ap (added_by j (lane_items (Cpu c) items)) (told-same (Cpu c) among)
+            by false apart =
+                let none = lane_items-apart header items c known apart in
+                ap (λ (is : List LaneItem). added_by j is (lane_answers header w items hs (Cpu c))) none
+                ∙ sym (ap (λ (is : List LaneItem). added_by j is (told (Cpu c))) none)

@@ -1,0 +1,9 @@
+-- The lanes of the CPUs so far have begun.
+use Rattle.vms_tables.specs.Passes.{mains_of}
+use Rattle.vms_world.specs.Lanes.{lanes_below}
+use Rattle.vms_phase.specs.Jobs.{HaveBegunJobs}
+use Rattle.vms_phase.proofs.jobs.begin_cpu_lanes.Given as goal
+
+abbrev pub invariant-loop-number : goal.invariant-loop-number
+invariant-loop-number l =
+    HaveBegunJobs l.header l.tables l.world l.script (lanes_below l.number l.script) (mains_of l.mains) l.jobs.items

@@ -1,0 +1,13 @@
+-- The lanes so far have ended, and the results of the others are left.
+use Rattle.std.proofs.Common.{◌≡◌, length}
+use Rattle.std.specs.Vec.Iter.{into_iter_items, into_iter_len}
+use Rattle.vms_tables.specs.Passes.{mains_of}
+use Rattle.vms_world.specs.Lanes.{lanes_of}
+use Rattle.vms_phase.specs.JoinedLanes.{HaveJoinedLanes}
+use Rattle.vms_phase.proofs.lane_joins.join_lanes.Given as goal
+
+abbrev pub invariant-loop-result : goal.invariant-loop-result
+invariant-loop-result g l =
+    HaveJoinedLanes l.header (g.P.Rule.answers l.rules.pressure) (g.N.Rule.answers l.rules.normal) l.tables l.world
+    l.script (lanes_of l.header.layout l.script) (mains_of l.mains) l.lanes.items (into_iter_items l.result-iterator)
+    × (into_iter_len l.result-iterator ≡ length (into_iter_items l.result-iterator))

@@ -1,0 +1,10 @@
+pub mod AddedAmounts
+pub mod GrownVolumes
+pub mod BegunLanes
+pub mod LanesMade
+pub mod LanePasses
+pub mod Rooms
+pub mod Jobs
+pub mod JoinedLanes
+pub mod SideBySide
+pub mod EndedTables

@@ -1,0 +1,190 @@
+ghost use Rattle.std.specs.Prelude.{◌≡◌, ◌+◌, ◌<◌, suc, IfOk, OnOk};
+ghost use Rattle.vms_file_order.specs.WorldStarts.{IsStartOf};
+ghost use Rattle.vms_base.specs.Headers.{IsHeader};
+ghost use Rattle.vms_phase.specs.Jobs.{HasRunJob, HaveBegunJobs, MayRunJob};
+ghost use Rattle.vms_script.specs.FittingScripts.{Fits};
+ghost use Rattle.vms_script.specs.Starts.{Start};
+ghost use Rattle.vms_tables.specs.Passes.{AreOf, HaveSeenNothing, mains_of};
+ghost use Rattle.vms_world.specs.Lanes.{lanes_below, lanes_of};
+ghost use Rattle.vms_tables.specs.Tables.{AreMadeFrom, AreTables};
+
+use crate::control_passes::begin_control;
+use crate::passes::begin_cpu;
+use std::alloc::Global;
+use std::sync::Wait;
+use vms_answers::NumberedAnswer;
+use vms_base::{CpuId, Header, Memory};
+use vms_calc::{Rule, Rules};
+use vms_gate::Gate;
+use vms_lane::{LanePasses, run_lane};
+use vms_script::{LaneScript, PhaseScript};
+use vms_tables::{MainPasses, Tables};
+use vms_text::Lane;
+use vms_world::World;
+
+/// A lane that is to run: its passes and its lines.
+#[derive(Drop)]
+pub struct LaneJob {
+    pub lane: Lane,
+    pub passes: LanePasses,
+    pub script: LaneScript,
+}
+
+/// A lane that has run: its passes, and what its lines answer.
+#[derive(Drop)]
+pub struct LaneDone {
+    pub lane: Lane,
+    pub passes: LanePasses,
+    pub answers: Vec<NumberedAnswer>,
+}
+
+/// Makes the lines of a lane, whatever the other lanes make meanwhile. It may wait for the locks of percpu counters.
+pub fn run_job<G: Gate, R: Wait, N: Rule, P: Rule>(
+    rt: &R,
+    alloc: Global,
+    gate: &G,
+    tables: &Tables,
+    header: &Header,
+    rules: &Rules<N, P>,
+    job: LaneJob,
+) -> Result<LaneDone, Memory>
+    requires header { IsHeader header.now }
+    requires tables { AreTables header.now tables.now }
+    requires job { MayRunJob header.now tables.now job }
+    ensures { IfOk result (λ done. HasRunJob header.now (P.answers rules.now.pressure)
+        (N.answers rules.now.normal) tables.now job done) }
+{
+    let LaneJob {
+        lane,
+        mut passes,
+        script,
+    } = job;
+    let answers = run_lane(
+        rt,
+        alloc,
+        gate,
+        tables,
+        header,
+        rules,
+        &mut passes,
+        lane,
+        &script,
+    )?;
+    Ok(LaneDone {
+        lane,
+        passes,
+        answers,
+    })
+}
+
+/// Begins the passes of the lanes that have lines, from tables in which nothing was made yet: of the CPUs' lanes in
+/// ascending order, and then of the control lane. Returns the lanes with their passes and lines.
+pub fn begin_lanes(
+    alloc: Global,
+    header: &Header,
+    tables: &Tables,
+    mains: &mut MainPasses,
+    world: &World,
+    script: &PhaseScript,
+) -> Result<Vec<LaneJob>, Memory>
+    requires tables { AreTables header.now tables.now }
+    requires made { AreMadeFrom world.now tables.now }
+    requires of { AreOf tables.now (mains_of mains.old) }
+    requires nothing { HaveSeenNothing (mains_of mains.old) }
+    requires start { (start : Start) × IsStartOf header.now start world.now × Fits header.now start script.now }
+    ensures { IfOk result (λ jobs. HaveBegunJobs header.now tables.now world.now script.now
+        (lanes_of header.now.layout script.now) (mains_of mains.new) jobs.items) }
+{
+    let mut jobs = begin_cpu_lanes(alloc, header, tables, mains, world, script)?;
+    begin_control_lane(alloc, header, tables, mains, world, script, &mut jobs)?;
+    Ok(jobs)
+}
+
+/// Begins the passes of the CPUs' lanes that have lines, in ascending order, from tables in which nothing was made yet.
+/// Returns the lanes with their passes and lines.
+pub fn begin_cpu_lanes(
+    alloc: Global,
+    header: &Header,
+    tables: &Tables,
+    mains: &mut MainPasses,
+    world: &World,
+    script: &PhaseScript,
+) -> Result<Vec<LaneJob>, Memory>
+    requires tables { AreTables header.now tables.now }
+    requires made { AreMadeFrom world.now tables.now }
+    requires of { AreOf tables.now (mains_of mains.old) }
+    requires nothing { HaveSeenNothing (mains_of mains.old) }
+    requires start { (start : Start) × IsStartOf header.now start world.now × Fits header.now start script.now }
+    ensures { IfOk result (λ jobs. HaveBegunJobs header.now tables.now world.now script.now
+        (lanes_below header.now.layout.cpus script.now) (mains_of mains.new) jobs.items) }
+{
+    let mut jobs = Vec::new(alloc);
+    for number in 0..header.layout.cpus() {
+        let cpu = CpuId { number };
+        begin_next(alloc, header, tables, mains, world, script, cpu, &mut jobs)?;
+    }
+    Ok(jobs)
+}
+
+/// Begins the passes of a CPU's lane, if it has lines.
+fn begin_next(
+    alloc: Global,
+    header: &Header,
+    tables: &Tables,
+    mains: &mut MainPasses,
+    world: &World,
+    script: &PhaseScript,
+    cpu: CpuId,
+    jobs: &mut Vec<LaneJob>,
+) -> Result<(), Memory>
+    requires tables { AreTables header.now tables.now }
+    requires made { AreMadeFrom world.now tables.now }
+    requires start { (start : Start) × IsStartOf header.now start world.now × Fits header.now start script.now }
+    requires cpu { cpu.number < header.now.layout.cpus }
+    requires below { HaveBegunJobs header.now tables.now world.now script.now (lanes_below cpu.number script.now)
+        (mains_of mains.old) jobs.old.items }
+    ensures { OnOk result (HaveBegunJobs header.now tables.now world.now script.now
+        (lanes_below (suc cpu.number) script.now) (mains_of mains.new) jobs.new.items) }
+{
+    let lane = Lane::Cpu(cpu);
+    if script.count_of(lane) > 0 {
+        let lines = script.lane_script(alloc, lane)?;
+        let passes = begin_cpu(alloc, header, tables, mains, world, cpu)?;
+        jobs.push(LaneJob {
+            lane,
+            passes: LanePasses::Cpu(passes),
+            script: lines,
+        })?;
+    }
+    Ok(())
+}
+
+/// Begins the passes of the control lane, if it has lines.
+fn begin_control_lane(
+    alloc: Global,
+    header: &Header,
+    tables: &Tables,
+    mains: &mut MainPasses,
+    world: &World,
+    script: &PhaseScript,
+    jobs: &mut Vec<LaneJob>,
+) -> Result<(), Memory>
+    requires made { AreMadeFrom world.now tables.now }
+    requires start { (start : Start) × IsStartOf header.now start world.now × Fits header.now start script.now }
+    requires below { HaveBegunJobs header.now tables.now world.now script.now
+        (lanes_below header.now.layout.cpus script.now) (mains_of mains.old) jobs.old.items }
+    ensures { OnOk result (HaveBegunJobs header.now tables.now world.now script.now
+        (lanes_of header.now.layout script.now) (mains_of mains.new) jobs.new.items) }
+{
+    if script.count_of(Lane::Control) > 0 {
+        let lines = script.lane_script(alloc, Lane::Control)?;
+        let _ = lines.as_slice();
+        let passes = begin_control(tables, mains);
+        jobs.push(LaneJob {
+            lane: Lane::Control,
+            passes: LanePasses::Control(passes),
+            script: lines,
+        })?;
+    }
+    Ok(())
+}

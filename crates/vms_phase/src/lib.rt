@@ -1,0 +1,36 @@
+//! Phases whose lanes run side by side: the passes of the lanes begin and end in turn, and what they make is a phase of
+//! the lines, whatever the order in which the lanes' steps came.
+#![tactic(auto)]
+
+mod closings;
+mod control_passes;
+mod jobs;
+mod joins;
+mod lane_joins;
+mod laws;
+mod passes;
+mod rooms;
+mod rule_laws;
+mod rules;
+mod runs;
+mod side_by_side;
+mod threads;
+mod turns;
+mod volumes;
+
+pub use closings::{ClosedHistories, close, tables_are_told};
+pub use control_passes::{begin_control, join_control};
+pub use jobs::{LaneDone, LaneJob, begin_cpu_lanes, begin_lanes, run_job};
+pub use joins::{fitting_lanes_have_ended, lanes_go_in_turn};
+pub use lane_joins::{JoinedLane, join_lanes};
+pub use laws::{
+    fitting_lanes_make_phases, grown_volumes_are_left, lanes_make_phases, phases_spend_as_told,
+};
+pub use passes::{begin_cpu, join_cpu};
+pub use rooms::{fitting_jobs_may_run, fitting_lanes_have_room};
+pub use rule_laws::lanes_make_phases_by;
+pub use runs::{joined_lanes_are_made, run_lanes};
+pub use side_by_side::{MadePhase, make_side_by_side};
+pub use threads::run_jobs;
+pub use turns::{fresh_cpus_have_spent_nothing, lanes_begin_in_turn, lanes_end_in_turn};
+pub use volumes::grow_volumes;

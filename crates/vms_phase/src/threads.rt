@@ -1,0 +1,42 @@
+ghost use Rattle.std.specs.Prelude.{All, IfOk};
+ghost use Rattle.vms_base.specs.Headers.{IsHeader};
+ghost use Rattle.vms_phase.specs.Jobs.{HasRunJob, HaveRunJobs, MayRunJob};
+ghost use Rattle.vms_tables.specs.Tables.{AreTables};
+
+use crate::jobs::{LaneDone, LaneJob, run_job};
+use std::alloc::Global;
+use std::sync::Wait;
+use std::thread;
+use std::thread::Threads;
+use vms_base::{Header, Memory};
+use vms_calc::{Rule, Rules};
+use vms_gate::Gate;
+use vms_tables::Tables;
+
+/// Lets a thread for each job make its lines. Returns once all have, with the results in the order of the jobs.
+pub fn run_jobs<G: Gate, R: Threads + Wait + Sync, N: Rule + Sync, P: Rule + Sync>(
+    rt: &R,
+    alloc: Global,
+    gate: &G,
+    tables: &Tables,
+    header: &Header,
+    rules: &Rules<N, P>,
+    jobs: Vec<LaneJob>,
+) -> Result<Vec<Result<LaneDone, Memory>>, Memory>
+    requires header { IsHeader header.now }
+    requires tables { AreTables header.now tables.now }
+    requires jobs { All (MayRunJob header.now tables.now) jobs.items }
+    ensures { IfOk result (λ results. HaveRunJobs header.now (P.answers rules.now.pressure)
+        (N.answers rules.now.normal) tables.now jobs.items results.items) }
+{
+    let results = thread::map_vec(
+        rt,
+        jobs,
+        &|job: LaneJob| -> Result<LaneDone, Memory>
+            requires { IsHeader header.now × AreTables header.now tables.now × MayRunJob header.now tables.now job }
+            ensures { IfOk result (HasRunJob header.entry.now (P.answers rules.entry.now.pressure)
+                (N.answers rules.entry.now.normal) tables.entry.now job) }
+        { run_job(rt, alloc, gate, tables, header, rules, job) },
+    )?;
+    Ok(results)
+}
