@@ -1,19 +1,27 @@
 #!/usr/bin/env python3
-"""Measures changes of shared counters on threads: the proved program crates/vms_bench beside the same in C.
+"""Measures calls on shared counters on threads: the proved programs crates/vms_bench and crates/vms_call_bench beside
+the same in C.
 
-    bench/words.py [-k KIND]... [-t THREADS]... [-n CHANGES] [-r RUNS] [--volumes] [--cc COMMAND]
+    bench/words.py [-k KIND]... [-t THREADS]... [-n CALLS] [-r RUNS] [--volumes] [--cc COMMAND]
 
-Both programs are built: the proved one by `rt run` in crates/vms_bench, bench/words.c by a C compiler for the processor
-that the proved program is built for. Each makes CHANGES changes on every one of THREADS threads, pinned to that many
-processors, the two programs in turn. What they write has to be the same. The time is that of the processors, which all
-threads take together, by thread; a run of a single change is taken off, so what is left is the changes' own.
+The programs are built: the proved ones by `rt run` in their crates, bench/words.c by a C compiler for the processor
+that the proved ones are built for. Each makes CALLS calls on every one of THREADS threads, pinned to that many
+processors, the proved program and the one in C in turn. What they write has to be the same. The time is that of the
+processors, which all threads take together, by thread; a run of a single call is taken off, so what is left is the
+calls' own.
 
-For each kind and number of threads the medians of the runs in nanoseconds a change are printed, with the least in
-brackets, and the ratio of the two medians and of the two least times: at most 1.1 is wanted. The status is 1 if the two
-programs write different things, and 2 if something can't be built or run.
+For each kind and number of threads the medians of the runs in nanoseconds a call are printed, with the least in
+brackets, and the ratio of the two medians and of the two least times: at most 1.1 is wanted. The status is 1 if the
+two programs write different things, and 2 if something can't be built or run.
 
-Needed are Linux, python3 and a C compiler with pthreads. The proved program may be named in VMS_BENCH; then it isn't built.
-Times vary with what else the machine does, so the load average is printed too.
+The kind pages makes its changes by single steps on words, events and locals call crates/vms_event and
+crates/vms_pcpu: these three are of crates/vms_bench. The others call crates/vms_count and crates/vms_look, by
+crates/vms_call_bench. What each call does is told at the head of bench/words.c. On the 4 CPUs of snapshots4 works one
+thread alone, since the CPUs of two threads stand 16 apart.
+
+Needed are Linux, python3 and a C compiler with pthreads. The proved programs may be named in VMS_BENCH and
+VMS_CALL_BENCH; then they aren't built. Times vary with what else the machine does, so the load average is printed
+too.
 """
 import argparse
 import os
@@ -23,13 +31,30 @@ import sys
 import tempfile
 
 TOP = os.path.dirname(os.path.dirname(os.path.abspath(__file__)))
-CRATE = os.path.join(TOP, "crates", "vms_bench")
+BENCH = "vms_bench"
+CALL_BENCH = "vms_call_bench"
+
+
+class Kind:
+    """What is called, by the program of which crate, and on how many threads at most."""
+
+    def __init__(self, crate, told, threads=4):
+        self.crate, self.told, self.threads = crate, told, threads
+
+
 KINDS = {
-    "pages": "changes of a page counter, each 20th past the threshold",
-    "events": "counts of an event",
-    "locals": "additions to a percpu counter within its batch",
+    "pages": Kind(BENCH, "changes of a page counter by single steps, each 20th past the threshold"),
+    "events": Kind(BENCH, "counts of an event"),
+    "locals": Kind(BENCH, "additions to a percpu counter within its batch"),
+    "adds": Kind(CALL_BENCH, "changes of a page counter by `add`, each 20th past the threshold"),
+    "folds": Kind(CALL_BENCH, "changes of a page counter by `add`, each with a `fold` of the CPU by its owner"),
+    "watermarks": Kind(CALL_BENCH, "tests by `watermark_ok` that take no snapshot"),
+    "snapshots4": Kind(CALL_BENCH, "tests by `watermark_ok` that take the snapshot on 4 CPUs", threads=1),
+    "snapshots64": Kind(CALL_BENCH, "tests by `watermark_ok` that take the snapshot on 64 CPUs"),
+    "snapshots128": Kind(CALL_BENCH, "tests by `watermark_ok` that take the snapshot on 128 CPUs"),
 }
-FLAGS = ["-std=c11", "-O3", "-march=x86-64-v2", "-Wall", "-Wextra", "-Werror", "-pthread"]
+# Loops are aligned, since else the time of a short one goes by where it happens to stand.
+FLAGS = ["-std=c11", "-O3", "-march=x86-64-v2", "-falign-loops=32", "-Wall", "-Wextra", "-Werror", "-pthread"]
 
 
 class Fault(Exception):
@@ -54,14 +79,16 @@ def run(words, processors=None, **how):
     return written, used.ru_utime + used.ru_stime
 
 
-def proved_program():
-    named = os.environ.get("VMS_BENCH")
+def proved_program(kind):
+    crate = KINDS[kind].crate
+    named = os.environ.get(crate.upper())
     if named:
         if not os.access(named, os.X_OK):
-            raise Fault(f"VMS_BENCH names {named}, which is no program")
+            raise Fault(f"{crate.upper()} names {named}, which is no program")
         return named
-    run(["rt", "run", "--", "events", "1", "1"], cwd=CRATE)
-    return os.path.join(CRATE, "out", "vms_bench")
+    folder = os.path.join(TOP, "crates", crate)
+    run(["rt", "run", "--", kind, "1", "1"], cwd=folder)
+    return os.path.join(folder, "out", crate)
 
 
 def c_program(compiler, flags, folder):
@@ -70,8 +97,8 @@ def c_program(compiler, flags, folder):
     return program
 
 
-def nanoseconds(programs, kind, threads, changes, runs):
-    """The times of a change by each program, run by run."""
+def nanoseconds(programs, kind, threads, calls, runs):
+    """The times of a call by each program, run by run."""
     processors = sorted(os.sched_getaffinity(0))[:threads]
     if len(processors) < threads:
         raise Fault(f"{threads} threads want as many processors, and there are {len(processors)}")
@@ -80,8 +107,8 @@ def nanoseconds(programs, kind, threads, changes, runs):
         written = {}
         for name, program in programs.items():
             _, start = run([program, kind, "1", str(threads)], processors)
-            written[name], whole = run([program, kind, str(changes), str(threads)], processors)
-            times[name].append(1e9 * (whole - start) / (changes - 1) / threads)
+            written[name], whole = run([program, kind, str(calls), str(threads)], processors)
+            times[name].append(1e9 * (whole - start) / (calls - 1) / threads)
         if len(set(written.values())) > 1:
             told = ", ".join(f"{name} {text.strip()!r}" for name, text in written.items())
             print(f"bench/words.py: {kind} on {threads} threads differ: {told}", file=sys.stderr)
@@ -102,16 +129,16 @@ def arguments():
         epilog="\n\n".join(__doc__.split("\n\n")[2:]),
         formatter_class=argparse.RawDescriptionHelpFormatter,
     )
-    parser.add_argument("-k", "--kind", action="append", choices=KINDS, help="a kind of change; all where none is given")
+    parser.add_argument("-k", "--kind", action="append", choices=KINDS, help="a kind of call; all where none is given")
     parser.add_argument("-t", "--threads", action="append", type=positive, help="1 to 4; 1, 2 and 4 where none is given")
-    parser.add_argument("-n", "--changes", type=positive, default=10_000_000, help="of each thread (10000000)")
+    parser.add_argument("-n", "--calls", type=positive, default=10_000_000, help="of each thread (10000000)")
     parser.add_argument("-r", "--runs", type=positive, default=11, help="of each program (11)")
     parser.add_argument("--cc", default=os.environ.get("CC", "cc"), metavar="COMMAND", help="the C compiler (cc)")
     parser.add_argument("--volumes", action="store_true",
                         help="let the C program keep what each CPU has changed so far, as the proved one does")
     words = parser.parse_args()
-    if words.changes < 2:
-        parser.error("the times of 2 changes at least can be told from that of one")
+    if words.calls < 2:
+        parser.error("the times of 2 calls at least can be told from that of one")
     if any(threads > 4 for threads in words.threads or []):
         parser.error("the programs start at most 4 threads")
     return words
@@ -121,14 +148,18 @@ def main():
     words = arguments()
     with tempfile.TemporaryDirectory() as folder:
         try:
-            programs = {"proved": proved_program(), "C": c_program(words.cc, FLAGS + ["-DVOLUMES"] * words.volumes, folder)}
-            print(f"load average {os.getloadavg()[0]:.2f}; {words.changes} changes a thread, {words.runs} runs in turn")
+            in_c = c_program(words.cc, FLAGS + ["-DVOLUMES"] * words.volumes, folder)
+            print(f"load average {os.getloadavg()[0]:.2f}; {words.calls} calls a thread, {words.runs} runs in turn")
             for kind in words.kind or KINDS:
-                print(f"{kind}: {KINDS[kind]}")
+                programs = {"proved": proved_program(kind), "C": in_c}
+                print(f"{kind}: {KINDS[kind].told}")
                 for threads in words.threads or (1, 2, 4):
-                    times = nanoseconds(programs, kind, threads, words.changes, words.runs)
+                    if threads > KINDS[kind].threads:
+                        continue
+                    times = nanoseconds(programs, kind, threads, words.calls, words.runs)
                     medians = {name: statistics.median(taken) for name, taken in times.items()}
-                    told = ", ".join(f"{name} {medians[name]:.2f} ns ({min(taken):.2f})" for name, taken in times.items())
+                    told = ", ".join(
+                        f"{name} {medians[name]:.2f} ns ({min(taken):.2f})" for name, taken in times.items())
                     least = min(times["proved"]) / min(times["C"])
                     print(f"  {threads} thread{'s' * (threads > 1)}: {told}, "
                           f"ratio {medians['proved'] / medians['C']:.2f} ({least:.2f})", flush=True)

@@ -1,0 +1,5 @@
+use Rattle.vms_bench_base.specs.ReadyPasses.{IsReady}
+use Rattle.vms_call_bench.proofs.changes.add_often.Given as goal
+
+abbrev pub invariant-loop : goal.invariant-loop
+invariant-loop l = IsReady l.table l.pass

@@ -1,0 +1,4 @@
+pub mod TwoPasses
+pub mod ThreePasses
+pub mod Volumes
+pub mod IdlePasses

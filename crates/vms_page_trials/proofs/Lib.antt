@@ -1,0 +1,3 @@
+pub mod TwoPasses
+pub mod BothPasses
+pub mod Opened
