@@ -57,9 +57,9 @@ fn own_answer(answers: &[NumberedAnswer], next: usize, number: u32) -> Option<Nu
     }
 }
 
-/// Where the answers of a lane stand.
+/// Where the answers of a lane stand in such a list, counted from 0.
 #[inline]
-fn place_of(lane: Lane) -> usize
+pub fn place_of(lane: Lane) -> usize
     ensures { result ≡ place_in_lists lane }
 {
     match lane {

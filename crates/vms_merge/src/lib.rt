@@ -4,5 +4,5 @@
 mod lane_answers;
 mod laws;
 
-pub use lane_answers::{LaneAnswers, take_answer};
+pub use lane_answers::{LaneAnswers, place_of, take_answer};
 pub use laws::lanes_answer_their_lines;
