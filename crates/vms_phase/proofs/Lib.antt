@@ -1,5 +1,6 @@
 pub mod AddedAmounts
 mod GrownLines
+mod PlacedAnswers
 pub mod GrownVolumes
 pub mod LanesMade
 pub mod BegunLanes

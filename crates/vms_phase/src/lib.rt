@@ -9,6 +9,8 @@ mod joins;
 mod lane_joins;
 mod laws;
 mod passes;
+mod phases;
+mod placing;
 mod rooms;
 mod rule_laws;
 mod rules;
@@ -27,6 +29,8 @@ pub use laws::{
     fitting_lanes_make_phases, grown_volumes_are_left, lanes_make_phases, phases_spend_as_told,
 };
 pub use passes::{begin_cpu, join_cpu};
+pub use phases::{PhaseDone, run_phase};
+pub use placing::place_answers;
 pub use rooms::{fitting_jobs_may_run, fitting_lanes_have_room};
 pub use rule_laws::lanes_make_phases_by;
 pub use runs::{joined_lanes_are_made, run_lanes};

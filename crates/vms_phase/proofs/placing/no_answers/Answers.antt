@@ -1,0 +1,1 @@
+-- A further place has no answer.
