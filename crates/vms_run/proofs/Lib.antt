@@ -1,1 +1,4 @@
 mod HandedAnswers
+mod KeptPhases
+mod KernelPhases
+mod MadeAnswers

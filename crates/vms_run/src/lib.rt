@@ -1,7 +1,16 @@
-//! What the command `run` makes of the phases of a trace: the answers of lanes that ran side by side are handed on in
-//! the order of the lines.
+//! The commands `run` and `gen`: the engine that makes each phase of a trace with a thread for each lane, and keeps the
+//! histories of the phases. The answers of the lanes are handed on in the order of the lines.
 #![tactic(auto)]
 
 mod handing;
+mod run_phases;
+mod runners;
+mod running;
+mod threads;
+mod tool;
 
 pub use handing::hand_on;
+pub use run_phases::{Histories, RunPhase};
+pub use runners::PhaseRunner;
+pub use threads::OnThreads;
+pub use tool::{tool_gen, tool_run};

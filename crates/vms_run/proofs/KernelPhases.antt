@@ -1,0 +1,86 @@
+-- A phase by rules which go by the kernel's formulas is one by the kernel's rules.
+use Rattle.std.proofs.Common.{ℕ, suc, List}
+use Rattle.std.specs.Prelude.{Result, Ok, Err, IfOk}
+use Rattle.vms_base.specs.declared.failures.Memory.{Memory}
+use Rattle.vms_base.specs.declared.headers.Header.{Header}
+use Rattle.vms_base.specs.declared.kinds.ZoneSize.{ZoneSize}
+use Rattle.vms_base.specs.Thresholds.{normal_threshold_of, pressure_threshold_of}
+use Rattle.vms_history.specs.declared.events.Event.{Event}
+use Rattle.vms_core.specs.declared.steps.Step.{Step}
+use Rattle.vms_core.specs.Pages.{History}
+use Rattle.vms_calls.specs.HeaderFacts.{facts_of}
+use Rattle.vms_text.specs.declared.acts.Act.{Act}
+use Rattle.vms_text.specs.declared.acts.Act.TheVariants.{Mod, Pressure, Normal, Dead, Kswapd}
+use Rattle.vms_text.specs.declared.acts.Item.{Item}
+use Rattle.vms_text.specs.declared.acts.Lane.{Lane}
+use Rattle.vms_text.specs.declared.acts.Lane.TheVariants.{Cpu, Control}
+use Rattle.vms_world.specs.declared.worlds.World.{World}
+use Rattle.vms_world.specs.Acts.{PageSteps}
+use Rattle.vms_world.specs.Lanes.{MakesActs, acts_of, lane_at, lanes_of}
+use Rattle.vms_world.specs.Lanes.MakesActs.{none as no_act, act as one_act}
+use Rattle.vms_world.specs.Phases.{Histories}
+use Rattle.vms_file_order.specs.MadePhases.{MakePhase}
+use Rattle.vms_file_order.proofs.MoreAnswers.{Buries-more, Includes, IsTurn-more, SetsNormal-more, SetsPressure-more}
+use Rattle.vms_phase.specs.declared.phases.PhaseDone.{PhaseDone}
+use Rattle.vms_phase.specs.SideBySide.{histories_of}
+use Rattle.vms_replay.specs.KernelRules.{GoesBy, normal_rule, pressure_rule}
+use Rattle.vms_run.specs.Threads.{makes_on_threads}
+
+-- acts by some steps are acts by more
+module _ {K : Type 0} (makes more : Act → List (Event K) → List K → Type 0) (p : ℕ)
+    (includes : (act : Act) (h : List (Event K)) (steps : List K) → makes act h steps → more act h steps) where
+  MakesActs-more : (acts : List Act) (h : List (Event K)) → MakesActs makes p acts h → MakesActs more p acts h
+  MakesActs-more acts h (no_act k nothing) = no_act k nothing
+  MakesActs-more acts h (one_act before next k front steps made making own_is) =
+      one_act before next k front steps (MakesActs-more before k made) (includes next k steps making) own_is
+
+module _ (pressure normal : ZoneSize → ℕ → ℕ → Type 0) (by_pressure : GoesBy pressure_threshold_of pressure)
+    (by_normal : GoesBy normal_threshold_of normal) (header : Header) (w : World) where
+  in_pressure : Includes pressure pressure_rule
+  in_pressure = λ size online t answer valid least most. by_pressure size online t valid least most answer
+
+  in_normal : Includes normal normal_rule
+  in_normal = λ size online t answer valid least most. by_normal size online t valid least most answer
+
+  PageSteps-kernel : (lane : Lane) (p : ℕ) (act : Act) (h : History) (steps : List Step)
+      → PageSteps header w.pages pressure normal lane p act h steps
+      → PageSteps header w.pages pressure_rule normal_rule lane p act h steps
+  PageSteps-kernel Control p (Pressure n) h steps makes =
+      SetsPressure-more normal normal_rule in_normal pressure pressure_rule in_pressure (facts_of header w.pages) n p h
+      steps makes
+  PageSteps-kernel Control p (Normal n) h steps makes =
+      SetsNormal-more normal normal_rule in_normal (facts_of header w.pages) n p h steps makes
+  PageSteps-kernel Control p (Dead c) h steps makes =
+      Buries-more normal normal_rule in_normal (facts_of header w.pages) c p h steps makes
+  PageSteps-kernel Control p (Kswapd n order most) h steps (answer, turn) = (
+    answer,
+    IsTurn-more normal normal_rule in_normal pressure pressure_rule in_pressure header w.pages n order most p h steps
+        answer turn,
+  )
+  PageSteps-kernel (Cpu d) p (Mod k delta) h steps makes = makes
+  PageSteps-kernel lane p act h steps makes = makes
+
+  MakePhase-kernel : (items : List Item) (hs : Histories) → MakePhase header pressure normal w items hs
+      → makes_on_threads header w items hs
+  MakePhase-kernel items hs phase =
+      let lanes = lanes_of header.layout items in
+      record {
+        complete = phase.complete;
+        page_lanes = phase.page_lanes;
+        event_lanes = phase.event_lanes;
+        pcpu_lanes = phase.pcpu_lanes;
+        page_lines = λ n below.
+            MakesActs-more (PageSteps header w.pages pressure normal (lane_at lanes n) (suc n))
+            (PageSteps header w.pages pressure_rule normal_rule (lane_at lanes n) (suc n)) (suc n)
+            (PageSteps-kernel (lane_at lanes n) (suc n)) (acts_of (lane_at lanes n) items) hs.pages
+            (phase.page_lines n below);
+        event_lines = phase.event_lines;
+        pcpu_lines = phase.pcpu_lines;
+      }
+
+  -- the same of a phase that was run
+  pub makes_on_threads-kernel : (items : List Item) (result : Result PhaseDone Memory)
+      → IfOk result (λ done. MakePhase header pressure normal w items (histories_of done.histories))
+      → IfOk result (λ done. makes_on_threads header w items (histories_of done.histories))
+  makes_on_threads-kernel items (Ok done) phase = MakePhase-kernel items (histories_of done.histories) phase
+  makes_on_threads-kernel items (Err error) phase = tt

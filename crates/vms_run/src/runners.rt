@@ -1,0 +1,41 @@
+use vms_base::{Header, Memory};
+use vms_phase::PhaseDone;
+use vms_script::PhaseScript;
+use vms_world::World;
+
+/// What runs the lines of a phase from a world. Every closure over them is one.
+pub trait PhaseRunner: Drop {
+    ghost use Rattle.std.specs.Prelude.{List, Result};
+    ghost use Rattle.vms_base.specs.declared.failures.Memory.{Memory};
+    ghost use Rattle.vms_base.specs.declared.headers.Header.{Header};
+    ghost use Rattle.vms_phase.specs.declared.phases.PhaseDone.{PhaseDone};
+    ghost use Rattle.vms_text.specs.declared.acts.Item.{Item};
+    ghost use Rattle.vms_world.specs.declared.worlds.World.{World};
+
+    // The runner may be called with these lines of a phase from this world.
+    ghost accepts: { Self → Header → World → List Item → Type 0 };
+
+    // The last is what it may return then.
+    ghost returns: { Self → Header → World → List Item → Result PhaseDone Memory → Type 0 };
+
+    fn run(&self, header: &Header, world: World, script: &PhaseScript) -> Result<PhaseDone, Memory>
+        requires { accepts self.now header.now world script.now }
+        ensures { returns self.now header.now world script.now result };
+}
+
+impl<F: Fn(&Header, World, &PhaseScript) -> Result<PhaseDone, Memory>> PhaseRunner for F {
+    ghost use Rattle.vms_run.specs.Runners.{Accepts, Returns};
+
+    ghost accepts = { Accepts F.Fn };
+
+    ghost returns = { Returns F.Fn };
+
+    fn run(
+        &self,
+        header: &Header,
+        world: World,
+        script: &PhaseScript,
+    ) -> Result<PhaseDone, Memory> {
+        self(header, world, script)
+    }
+}
