@@ -1,13 +1,23 @@
 -- What is said under words.
-use Rattle.std.proofs.Common.{◌≡◌, ℕ, List, [], take, drop, take-append-drop, Option, None, refl, sym, subst}
-use Rattle.std.specs.Io.KnownBytes.{Appends, IsAtEnd}
+use Rattle.std.proofs.Common.{◌≡◌, ◌≢◌, ◌∙◌, ℕ, List, [], ◌++◌, take, drop, take-append-drop, append-nil}
+use Rattle.std.proofs.Common.{Option, Some, None, refl, sym, subst}
+use Rattle.std.proofs.lemmas.Option.{same_Some}
+use Rattle.std.specs.Io.KnownBytes.{Appends, Consumes, IsAtEnd}
 use Rattle.std.proofs.KnownBytes.{Consumes-nil}
-use Rattle.vms_stream.specs.Answers.{Answers, FaultsOfSink, FaultsOfSource}
+use Rattle.vms_check.specs.Checking.{check, nothing_shown}
+use Rattle.vms_gen.specs.declared.numbers.Numbers.{Numbers}
+use Rattle.vms_replay.specs.FileOrders.{SaysReplay}
+use Rattle.vms_replay.specs.MadePhases.{MadePhase}
+use Rattle.vms_replay.specs.ReplayAnswers.{AnswersReplayed}
+use Rattle.vms_run.specs.MadeTexts.{AnswersMade}
+use Rattle.vms_run.specs.Threads.{makes_on_threads}
+use Rattle.vms_stream.specs.Answers.{Answers, FaultsOfSink, FaultsOfSource, Says}
 use Rattle.vms_stream.specs.declared.statuses.Status.{Status}
-use Rattle.vms_stream.specs.declared.statuses.Status.TheVariants.{Words, WriteFault}
-use Rattle.vms_tool.specs.Answers.{SaysOf, SaysUnder, ShownAs, ShowsUsage, usage_line}
+use Rattle.vms_stream.specs.declared.statuses.Status.TheVariants.{Words, ReadFault, WriteFault}
+use Rattle.vms_tool.specs.Answers.{AnswersUnder, SaysOf, ShownAs, ShowsUsage, usage_line}
 use Rattle.vms_tool.specs.Naming.{command_of}
 use Rattle.vms_tool.specs.declared.naming.Command.{Command}
+use Rattle.vms_tool.specs.declared.naming.Command.TheVariants.{Check, Replay, Run, Gen}
 
 -- the write of the usage line failed
 pub ShowsUsage-unwritten : (held held' : Option (List ℕ)) (n : ℕ) → Appends held held' (take n usage_line)
@@ -25,34 +35,97 @@ shown_reads left faults src Words written shown = refl
 shown_reads left faults src WriteFault written shown = refl
 shown_reads left faults src _ written shown = absurd shown
 
+-- where no read failed, no fault of the source is told
+unfailed_reads : {S : Type 0} (left : S → Option (List ℕ)) (faults : S → ℕ) (src : S) (status : Status)
+    → status ≢ ReadFault → FaultsOfSource left faults status src src
+unfailed_reads left faults src ReadFault none = absurd (none refl)
+unfailed_reads left faults src _ none = refl
+
 module _ {S K : Type 0} (left : S → Option (List ℕ)) (read_faults : S → ℕ) (held : K → Option (List ℕ))
-    (write_faults : K → ℕ) where
+    (write_faults : K → ℕ) (src src' : S) (out out' : K) (words : List (List ℕ)) (status : Status)
+    (old new : List MadePhase) where
   -- what a command answers is what its words say
-  pub Answers-named : (src src' : S) (out out' : K) (words : List (List ℕ)) (named : Option Command) (status : Status)
-      → command_of words ≡ named
-      → Answers left read_faults held write_faults src src' out out' status (SaysOf named)
-      → Answers left read_faults held write_faults src src' out out' status (SaysUnder words)
-  Answers-named src src' out out' words named status is answers = record {
+  under_named : (named : Option Command) (made : List MadePhase) → command_of words ≡ named → new ≡ old ++ made
+      → Answers left read_faults held write_faults src src' out out' status (SaysOf named made)
+      → AnswersUnder words old new left read_faults held write_faults src src' out out' status
+  under_named named made is grows answers = record {
+    made = made;
+    grows = grows;
+    answers = subst (λ (n : Option Command).
+        Answers left read_faults held write_faults src src' out out' status (SaysOf n made)) (sym is) answers;
+  }
+
+  -- the same answers, of which more is said
+  answers_saying : (says more : Status → List ℕ → List ℕ → Type 0 → Type 0)
+      → ((taken written : List ℕ) (at_end : Type 0) → says status taken written at_end
+      → more status taken written at_end)
+      → Answers left read_faults held write_faults src src' out out' status says
+      → Answers left read_faults held write_faults src src' out out' status more
+  answers_saying says more follows answers = record {
     taken = answers.taken;
     written = answers.written;
     consumes = answers.consumes;
     appends = answers.appends;
-    answer = subst (λ (n : Option Command). SaysOf n status answers.taken answers.written (IsAtEnd (left src')))
-        (sym is) answers.answer;
+    answer = follows answers.taken answers.written (IsAtEnd (left src')) answers.answer;
     reads = answers.reads;
     writes = answers.writes;
   }
 
+  -- the commands that make no phase on threads
+  pub under_check : command_of words ≡ Some Check → new ≡ old
+      → Answers left read_faults held write_faults src src' out out' status (Says check nothing_shown)
+      → AnswersUnder words old new left read_faults held write_faults src src' out out' status
+  under_check is same answers = under_named (Some Check) [] is (same ∙ sym (append-nil old))
+      (answers_saying (Says check nothing_shown) (SaysOf (Some Check) []) (λ taken written at_end says. (refl, says))
+      answers)
+
+  pub under_replay : command_of words ≡ Some Replay → new ≡ old
+      → Answers left read_faults held write_faults src src' out out' status SaysReplay
+      → AnswersUnder words old new left read_faults held write_faults src src' out out' status
+  under_replay is same answers = under_named (Some Replay) [] is (same ∙ sym (append-nil old))
+      (answers_saying SaysReplay (SaysOf (Some Replay) []) (λ taken written at_end says. (refl, says)) answers)
+
+  -- a run of what the source gives
+  pub under_run : command_of words ≡ Some Run
+      → AnswersReplayed makes_on_threads (Some old) (Some new) left read_faults held write_faults src src' out out'
+      status
+      → AnswersUnder words old new left read_faults held write_faults src src' out out' status
+  under_run is ran = under_named (Some Run) ran.made is (same_Some new (old ++ ran.made) ran.grows) ran.answers
+
+  -- a run of what numbers make
+  pub under_gen : (numbers : Numbers) → command_of words ≡ Some (Gen numbers) → src' ≡ src
+      → AnswersMade numbers old new held write_faults out out' status
+      → AnswersUnder words old new left read_faults held write_faults src src' out out' status
+  under_gen numbers is unread ran =
+      under_named (Some (Gen numbers)) ran.made is (same_Some new (old ++ ran.made) ran.grows) record {
+        taken = [];
+        written = ran.written;
+        consumes = subst (λ (s : S). Consumes (left src) (left s) []) (sym unread) (Consumes-nil (left src));
+        appends = ran.appends;
+        answer = record {
+          untaken = refl;
+          read = ran.taken;
+          left = ran.left;
+          parts = ran.text;
+          says = ran.answer;
+          reads = ran.reads;
+        };
+        reads = subst (λ (s : S). FaultsOfSource left read_faults status src s) (sym unread)
+            (unfailed_reads left read_faults src status ran.reads);
+        writes = ran.writes;
+      }
+
   -- words that name no command
-  pub Answers-unnamed : (src : S) (out out' : K) (status : Status) → ShowsUsage (held out) (held out') status
+  pub under_none : command_of words ≡ None → new ≡ old → src' ≡ src → ShowsUsage (held out) (held out') status
       → FaultsOfSink held write_faults status out out'
-      → Answers left read_faults held write_faults src src out out' status (SaysOf None)
-  Answers-unnamed src out out' status shows writes = record {
+      → AnswersUnder words old new left read_faults held write_faults src src' out out' status
+  under_none is same unread shows writes = under_named None [] is (same ∙ sym (append-nil old)) record {
     taken = [];
     written = shows.written;
-    consumes = Consumes-nil (left src);
+    consumes = subst (λ (s : S). Consumes (left src) (left s) []) (sym unread) (Consumes-nil (left src));
     appends = shows.appends;
-    answer = (refl, shows.outcome);
-    reads = shown_reads left read_faults src status shows.written shows.outcome;
+    answer = (refl, refl, shows.outcome);
+    reads = subst (λ (s : S). FaultsOfSource left read_faults status src s) (sym unread)
+        (shown_reads left read_faults src status shows.written shows.outcome);
     writes = writes;
   }

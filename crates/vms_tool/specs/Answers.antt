@@ -1,14 +1,19 @@
 -- What each status says, by the words.
-use Rattle.std.specs.Prelude.{◌≡◌, ℕ, List, [], ◌∷◌, ◌++◌, codes, Option, Some, None}
+use Rattle.std.specs.Prelude.{◌≡◌, ◌≢◌, ℕ, List, [], ◌∷◌, ◌++◌, codes, Option, Some, None}
 use Rattle.std.specs.Io.KnownBytes.{Appends}
 use Rattle.vms_check.specs.Checking.{check, nothing_shown}
+use Rattle.vms_gen.specs.Texts.{made_text}
+use Rattle.vms_gen.specs.declared.numbers.Numbers.{Numbers}
 use Rattle.vms_replay.specs.FileOrders.{SaysReplay}
+use Rattle.vms_replay.specs.MadePhases.{MadePhase}
+use Rattle.vms_replay.specs.ReplayAnswers.{SaysReplayed}
+use Rattle.vms_run.specs.Threads.{makes_on_threads}
+use Rattle.vms_stream.specs.Answers.{Answers, Says}
 use Rattle.vms_stream.specs.declared.statuses.Status.{Status}
-use Rattle.vms_stream.specs.declared.statuses.Status.TheVariants.{Words, WriteFault}
-use Rattle.vms_stream.specs.Answers.{Says}
+use Rattle.vms_stream.specs.declared.statuses.Status.TheVariants.{Words, ReadFault, WriteFault}
 use Rattle.vms_tool.specs.Naming.{command_of}
 use Rattle.vms_tool.specs.declared.naming.Command.{Command}
-use Rattle.vms_tool.specs.declared.naming.Command.TheVariants.{Check, Replay}
+use Rattle.vms_tool.specs.declared.naming.Command.TheVariants.{Check, Replay, Run, Gen}
 
 -- what is written for words that name no command
 abbrev pub usage_line : List ℕ
@@ -25,11 +30,39 @@ pub record ShowsUsage (held held' : Option (List ℕ)) (status : Status) : Type 
   pub appends : Appends held held' written
   pub outcome : ShownAs status written
 
--- what each status says of a command; with words that name none nothing is read, and the usage line is written
-abbrev pub SaysOf : Option Command → Status → List ℕ → List ℕ → Type 0 → Type 0
-SaysOf (Some Check) status taken written at_end = Says check nothing_shown status taken written at_end
-SaysOf (Some Replay) status taken written at_end = SaysReplay status taken written at_end
-SaysOf None status taken written at_end = (taken ≡ []) × ShownAs status written
+-- what each status of `gen` says: nothing was taken of the source. Of the text that its numbers make a first part was
+-- read, and the phases that were made of it and what was written are those of a run that takes it. No read failed
+pub record SaysMade (numbers : Numbers) (made : List MadePhase) (status : Status) (taken written : List ℕ)
+    : Type 0 where
+  pub untaken : taken ≡ []
+  pub read : List ℕ
+  pub left : List ℕ
+  pub parts : made_text numbers.seed numbers.cpus numbers.lines ≡ read ++ left
+  pub says : SaysReplayed makes_on_threads made status read written (left ≡ [])
+  pub reads : status ≢ ReadFault
 
-abbrev pub SaysUnder : List (List ℕ) → Status → List ℕ → List ℕ → Type 0 → Type 0
-SaysUnder words status taken written at_end = SaysOf (command_of words) status taken written at_end
+-- what each status says of a command that made these phases on threads; with words that name none nothing is read, and
+-- the usage line is written
+abbrev pub SaysOf : Option Command → List MadePhase → Status → List ℕ → List ℕ → Type 0 → Type 0
+SaysOf (Some Check) made status taken written at_end =
+    (made ≡ []) × Says check nothing_shown status taken written at_end
+SaysOf (Some Replay) made status taken written at_end = (made ≡ []) × SaysReplay status taken written at_end
+SaysOf (Some Run) made status taken written at_end = SaysReplayed makes_on_threads made status taken written at_end
+SaysOf (Some (Gen numbers)) made status taken written at_end = SaysMade numbers made status taken written
+SaysOf None made status taken written at_end = (made ≡ []) × (taken ≡ []) × ShownAs status written
+
+-- what the program did under these words: the phases that it made on threads are appended to the histories that stood,
+-- and its status says of them what was taken of the source, what was written to the sink, and which calls failed
+pub record AnswersUnder {S K : Type 0} (words : List (List ℕ)) (old new : List MadePhase)
+    (left : S → Option (List ℕ)) (read_faults : S → ℕ) (held : K → Option (List ℕ)) (write_faults : K → ℕ)
+    (src src' : S) (out out' : K) (status : Status) : Type 0 where
+  pub made : List MadePhase
+  pub grows : new ≡ old ++ made
+  pub answers : Answers left read_faults held write_faults src src' out out' status
+      (SaysOf (command_of words) made)
+
+-- words with which nothing is read: those of `gen`, and those that name no command
+abbrev pub ReadsNothing : Option Command → Type 0
+ReadsNothing (Some (Gen numbers)) = Unit {0}
+ReadsNothing None = Unit {0}
+ReadsNothing _ = ⊥

@@ -1,25 +1,38 @@
-ghost use Rattle.std.specs.Prelude.{◌≡◌, None, map, string_bytes};
-ghost use Rattle.vms_stream.specs.Answers.{Answers, FaultsOfSink};
-ghost use Rattle.vms_tool.specs.Answers.{SaysUnder, ShowsUsage};
+ghost use Rattle.std.specs.Prelude.{◌≡◌, ◌⊎◌, None, Some, map, string_bytes};
+ghost use Rattle.vms_stream.specs.Answers.{FaultsOfSink};
+ghost use Rattle.vms_tool.specs.Answers.{AnswersUnder, ReadsNothing, ShowsUsage};
 ghost use Rattle.vms_tool.specs.Naming.{command_of};
 
 use crate::naming::{Command, named_by};
-use crate::{Status, tool_check, tool_replay};
+use crate::{Gate, Histories, Status, tool_check, tool_gen, tool_replay, tool_run};
 use std::alloc::Global;
+use std::sync::Wait;
+use std::thread::Threads;
 use vms_io::{Sink, Source, write_all};
 
 /// The line for words that name no command.
 const USAGE: &[u8] = b"usage: check | replay | run | gen SEED CPUS LINES\n";
 
-/// Does what the words say: they are those after the program's name.
-pub fn tool<S: Source, K: Sink>(alloc: Global, words: &[String], src: &mut S, out: &mut K) -> Status
-    ensures answers { Answers S.remaining S.faults K.written K.faults src.old src.new out.old out.new result
-        (SaysUnder (map (λ word. string_bytes word) words.now)) }
-    ensures unread { command_of (map (λ word. string_bytes word) words.now) ≡ None → src.new ≡ src.old }
+/// Does what the words say: they are those after the program's name. With `run` and `gen` the lanes of a phase run on
+/// threads, which call the gate before each line, and the histories of each phase are appended to those that stand.
+pub fn tool<R: Threads + Wait + Sync, G: Gate, S: Source, K: Sink>(
+    rt: &R,
+    alloc: Global,
+    words: &[String],
+    src: &mut S,
+    out: &mut K,
+    gate: &G,
+    histories: &mut Histories,
+) -> Status
+    ensures answers { AnswersUnder (map (λ word. string_bytes word) words.now) histories.old histories.new S.remaining
+        S.faults K.written K.faults src.old src.new out.old out.new result }
+    ensures unread { ReadsNothing (command_of (map (λ word. string_bytes word) words.now)) → src.new ≡ src.old }
 {
     match named_by(words) {
         Some(Command::Check) => tool_check(alloc, src, out),
         Some(Command::Replay) => tool_replay(alloc, src, out),
+        Some(Command::Run) => tool_run(rt, alloc, src, out, gate, histories),
+        Some(Command::Gen(numbers)) => tool_gen(rt, alloc, numbers, out, gate, histories),
         None => show_usage(out),
     }
 }

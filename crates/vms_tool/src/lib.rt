@@ -7,5 +7,8 @@ mod naming;
 pub use commands::tool;
 pub use naming::Command;
 pub use vms_check::tool_check;
+pub use vms_gate::{Gate, OpenGate};
+pub use vms_gen::Numbers;
 pub use vms_replay::tool_replay;
+pub use vms_run::{Histories, tool_gen, tool_run};
 pub use vms_stream::Status;

@@ -1,11 +1,36 @@
-use Rattle.std.proofs.Common.{None, map, string_bytes, sym, ◌∙◌}
-use Rattle.vms_tool.proofs.Saying.{Answers-named, Answers-unnamed}
+-- Each command: what it answers is what its words say.
+use Rattle.std.proofs.Common.{Some, ap, map, string_bytes, refl, sym, ◌∙◌}
+use Rattle.vms_tool.proofs.Saying.{under_check, under_gen, under_none, under_replay}
+use Rattle.vms_tool.specs.declared.naming.Command.{Command}
 use Rattle.vms_tool.proofs.commands.tool.Goals as goal
+
+pub returns-in-Some-Check-clause-answers : goal.returns-in-Some-Check-clause-answers
+returns-in-Some-Check-clause-answers g c =
+    under_check g.S.Source.remaining g.S.Source.faults g.K.Sink.written g.K.Sink.faults c.args.src.now
+    c.tool_check.new.src c.args.out.now c.tool_check.new.out (map (λ word. string_bytes word) c.args.words.now)
+    c.tool_check.result c.args.histories.now c.args.histories.now
+    (sym c.named_by.ensures.named ∙ c.in-Some-Check.is
+    ∙ ap (λ (named : Command). Some named) c.in-Some-Check.field-0-is) refl c.tool_check.ensures
+
+pub returns-in-Some-Replay-clause-answers : goal.returns-in-Some-Replay-clause-answers
+returns-in-Some-Replay-clause-answers g c =
+    under_replay g.S.Source.remaining g.S.Source.faults g.K.Sink.written g.K.Sink.faults c.args.src.now
+    c.tool_replay.new.src c.args.out.now c.tool_replay.new.out (map (λ word. string_bytes word) c.args.words.now)
+    c.tool_replay.result c.args.histories.now c.args.histories.now
+    (sym c.named_by.ensures.named ∙ c.in-Some-Replay.is
+    ∙ ap (λ (named : Command). Some named) c.in-Some-Replay.field-0-is) refl c.tool_replay.ensures
+
+pub returns-in-Some-Gen-clause-answers : goal.returns-in-Some-Gen-clause-answers
+returns-in-Some-Gen-clause-answers g c =
+    under_gen g.S.Source.remaining g.S.Source.faults g.K.Sink.written g.K.Sink.faults c.args.src.now
+    c.args.src.now c.args.out.now c.tool_gen.new.out (map (λ word. string_bytes word) c.args.words.now)
+    c.tool_gen.result c.args.histories.now c.tool_gen.new.histories
+    c.in-Some-Gen.numbers (sym c.named_by.ensures.named ∙ c.in-Some-Gen.is
+    ∙ ap (λ (named : Command). Some named) c.in-Some-Gen.field-0-is) refl c.tool_gen.ensures
 
 pub returns-in-None-clause-answers : goal.returns-in-None-clause-answers
 returns-in-None-clause-answers g c =
-    Answers-named g.S.Source.remaining g.S.Source.faults g.K.Sink.written g.K.Sink.faults c.args.src.now c.args.src.now
-    c.args.out.now c.show_usage.new.out (map (λ word. string_bytes word) c.args.words.now) None c.show_usage.result
-    (sym c.named_by.ensures ∙ c.in-None.is)
-    (Answers-unnamed g.S.Source.remaining g.S.Source.faults g.K.Sink.written g.K.Sink.faults c.args.src.now
-    c.args.out.now c.show_usage.new.out c.show_usage.result c.show_usage.ensures.usage c.show_usage.ensures.writes)
+    under_none g.S.Source.remaining g.S.Source.faults g.K.Sink.written g.K.Sink.faults c.args.src.now
+    c.args.src.now c.args.out.now c.show_usage.new.out (map (λ word. string_bytes word) c.args.words.now)
+    c.show_usage.result c.args.histories.now c.args.histories.now
+    (sym c.named_by.ensures.named ∙ c.in-None.is) refl refl c.show_usage.ensures.usage c.show_usage.ensures.writes
