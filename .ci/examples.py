@@ -64,7 +64,7 @@ def check_blocks(program, name, document):
         words = info.split()
         if words == ["trace"]:
             trace = text
-        elif len(words) == 2 and words[0] in ("check", "replay"):
+        elif len(words) == 2 and words[0] in ("check", "replay", "run"):
             status, found = run(program, words[0], trace)
             yield name + ": " + info, (status, shortened(found, text)), (int(words[1]), text)
 

@@ -208,7 +208,7 @@ k kswapd 0 0 2
 #[test]
 fn zones_are_balanced_by_pages_and_blocks(rt: HostRuntime) -> Result<(), Fail> {
     for trial in &ROWS {
-        assert!(rt; answers(rt.alloc(), trial)?, "{}", trial.name);
+        assert!(rt; answers(&rt, rt.alloc(), trial)?, "{}", trial.name);
     }
     Ok(())
 }
@@ -295,7 +295,7 @@ done accepted 8 refused 0
 #[test]
 fn turns_leave_thresholds(rt: HostRuntime) -> Result<(), Fail> {
     for trial in &TURNS {
-        assert!(rt; answers(rt.alloc(), trial)?, "{}", trial.name);
+        assert!(rt; answers(&rt, rt.alloc(), trial)?, "{}", trial.name);
     }
     Ok(())
 }

@@ -1,6 +1,8 @@
 use crate::runs::{Trial, answers};
 use std::alloc::Global;
+use std::sync::Wait;
 use std::test::Fail;
+use std::thread::Threads;
 use vms_base::Memory;
 use vms_tool::Status;
 
@@ -72,7 +74,12 @@ static REFUSED: [(&str, &str); 52] = [
 ];
 
 /// Whether a line is refused for this cause.
-fn is_refused(alloc: Global, line: &str, cause: &str) -> Result<bool, Memory> {
+fn is_refused<R: Threads + Wait + Sync>(
+    rt: &R,
+    alloc: Global,
+    line: &str,
+    cause: &str,
+) -> Result<bool, Memory> {
     let trial = Trial {
         name: "a line that is refused",
         words: &["check"],
@@ -85,13 +92,13 @@ fn is_refused(alloc: Global, line: &str, cause: &str) -> Result<bool, Memory> {
             "\n# done accepted 0 refused 1\n",
         ],
     };
-    answers(alloc, &trial)
+    answers(rt, alloc, &trial)
 }
 
 #[test]
 fn names_the_first_cause(rt: HostRuntime) -> Result<(), Fail> {
     for (line, cause) in &REFUSED {
-        assert!(rt; is_refused(rt.alloc(), line, cause)?, "{line}");
+        assert!(rt; is_refused(&rt, rt.alloc(), line, cause)?, "{line}");
     }
     Ok(())
 }

@@ -300,7 +300,7 @@ line 9: report totals
 #[test]
 fn answers_and_totals_show_changes(rt: HostRuntime) -> Result<(), Fail> {
     for trial in &ROWS {
-        assert!(rt; answers(rt.alloc(), trial)?, "{}", trial.name);
+        assert!(rt; answers(&rt, rt.alloc(), trial)?, "{}", trial.name);
     }
     Ok(())
 }

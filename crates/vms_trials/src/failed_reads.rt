@@ -1,13 +1,16 @@
 use crate::devices::{Devices, SOUND};
 use crate::runs::{Trial, answers_on};
-use crate::texts::{FIRST_ANSWERS, FIRST_PHASE, HEADER, LANES};
+use crate::texts::{FIRST_ANSWERS, FIRST_PHASE, HEADER, LANES, SHORT_ANSWERS, SHORT_PHASE};
 use std::alloc::Global;
+use std::sync::Wait;
 use std::test::Fail;
+use std::thread::Threads;
 use vms_base::Memory;
 use vms_tool::Status;
 
-/// What stands after `FIRST_PHASE` and above the read that fails, and what `replay` writes of it: the phases that a
-/// boundary line ended, and of the open one the lines that are refused above its first answer.
+/// What stands after a first phase and above the read that fails, and what is written of it: the phases that a boundary
+/// line ended, and of the open one the lines that are refused above its first answer. In no phase do lines of two lanes
+/// count.
 static REPLAYED: [(&str, &str); 8] = [
     ("", ""),
     ("c0 val 0 Normal nr_mlock", ""),
@@ -50,7 +53,13 @@ static CHECKED: [(&str, &str); 5] = [
 ];
 
 /// Whether a command writes this where the read after a text fails, by one piece or byte by byte.
-fn writes(alloc: Global, command: &str, text: &[&str], output: &[&str]) -> Result<bool, Memory> {
+fn writes<R: Threads + Wait + Sync>(
+    rt: &R,
+    alloc: Global,
+    command: &str,
+    text: &[&str],
+    output: &[&str],
+) -> Result<bool, Memory> {
     let trial = Trial {
         name: "the read after a text fails",
         words: &[command],
@@ -61,31 +70,51 @@ fn writes(alloc: Global, command: &str, text: &[&str], output: &[&str]) -> Resul
     let bytes = text.concat(alloc)?.len();
     let after_each = u32::try_from(bytes).unwrap_or(0).saturating_add(1);
     let after_one = if bytes == 0 { 1 } else { 2 };
-    Ok(fails_at(alloc, &trial, 65536, after_one)? && fails_at(alloc, &trial, 1, after_each)?)
+    Ok(
+        fails_at(rt, alloc, &trial, 65536, after_one)?
+            && fails_at(rt, alloc, &trial, 1, after_each)?,
+    )
 }
 
 /// Whether a trial has the status and the output that are due where the read of this number fails.
-fn fails_at(alloc: Global, trial: &Trial<'_>, read: usize, number: u32) -> Result<bool, Memory> {
+fn fails_at<R: Threads + Wait + Sync>(
+    rt: &R,
+    alloc: Global,
+    trial: &Trial<'_>,
+    read: usize,
+    number: u32,
+) -> Result<bool, Memory> {
     let fails: [u32; 1] = [number];
     let devices = Devices {
         read,
         failing_reads: &fails,
         ..SOUND
     };
-    answers_on(alloc, trial, devices)
+    answers_on(rt, alloc, trial, devices)
 }
 
 #[test]
-fn replay_writes_phases_that_ended_above_a_failed_read(rt: HostRuntime) -> Result<(), Fail> {
+fn phases_that_ended_above_a_failed_read_are_written(rt: HostRuntime) -> Result<(), Fail> {
     for (text, output) in &REPLAYED {
         assert!(rt;
             writes(
+                &rt,
                 rt.alloc(),
                 "replay",
                 &[LANES, FIRST_PHASE, text],
                 &[FIRST_ANSWERS, output]
             )?,
-            "{text}"
+            "replay, {text}"
+        );
+        assert!(rt;
+            writes(
+                &rt,
+                rt.alloc(),
+                "run",
+                &[LANES, SHORT_PHASE, text],
+                &[SHORT_ANSWERS, output]
+            )?,
+            "run, {text}"
         );
     }
     Ok(())
@@ -95,10 +124,17 @@ fn replay_writes_phases_that_ended_above_a_failed_read(rt: HostRuntime) -> Resul
 fn nothing_is_written_of_a_part_of_a_header(rt: HostRuntime) -> Result<(), Fail> {
     for text in &HEADERS {
         assert!(rt;
-            writes(rt.alloc(), "replay", &[text], &[])?,
+            writes(&rt, rt.alloc(), "replay", &[text], &[])?,
             "replay, {text}"
         );
-        assert!(rt; writes(rt.alloc(), "check", &[text], &[])?, "check, {text}");
+        assert!(rt;
+            writes(&rt, rt.alloc(), "run", &[text], &[])?,
+            "run, {text}"
+        );
+        assert!(rt;
+            writes(&rt, rt.alloc(), "check", &[text], &[])?,
+            "check, {text}"
+        );
     }
     Ok(())
 }
@@ -107,7 +143,7 @@ fn nothing_is_written_of_a_part_of_a_header(rt: HostRuntime) -> Result<(), Fail>
 fn check_writes_lines_above_a_failed_read(rt: HostRuntime) -> Result<(), Fail> {
     for (text, output) in &CHECKED {
         assert!(rt;
-            writes(rt.alloc(), "check", &[HEADER, text], &[HEADER, output])?,
+            writes(&rt, rt.alloc(), "check", &[HEADER, text], &[HEADER, output])?,
             "{text}"
         );
     }

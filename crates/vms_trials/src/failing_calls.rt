@@ -1,94 +1,148 @@
 use crate::devices::{Devices, SOUND};
 use crate::runs::{Trial, answers_on, run};
-use crate::texts::{FIRST_ANSWERS, FIRST_PHASE, LANES, SECOND_ANSWERS, SECOND_PHASE};
+use crate::texts::{
+    FIRST_ANSWERS, FIRST_PHASE, LANES, RACING_ANSWERS, RACING_PHASE, SECOND_ANSWERS, SECOND_PHASE,
+    TOTALLED_ANSWERS, TOTALLED_PHASE,
+};
 use std::alloc::Global;
+use std::sync::Wait;
 use std::test::Fail;
+use std::thread::Threads;
 use vms_base::Memory;
 use vms_tool::Status;
 
-/// Two phases of two CPUs: 784 bytes, of which 821 are written.
-static TRIAL: Trial<'static> = Trial {
-    name: "every kind of line of two CPUs",
-    words: &["replay"],
-    text: &[LANES, FIRST_PHASE, SECOND_PHASE],
-    status: Status::Done,
-    output: &[FIRST_ANSWERS, SECOND_ANSWERS],
-};
+/// A trial, and how many calls its devices need where they move 64 bytes a call.
+struct Piecewise<'a> {
+    trial: Trial<'a>,
+    /// The reads, with the one that tells the end.
+    reads: u32,
+    /// The writes, with the one of the last line, of a text that is read at once.
+    writes: u32,
+}
+
+static TRIALS: [Piecewise<'static>; 2] = [
+    Piecewise {
+        trial: Trial {
+            name: "two phases of two CPUs: 784 bytes, of which 821 are written",
+            words: &["replay"],
+            text: &[LANES, FIRST_PHASE, SECOND_PHASE],
+            status: Status::Done,
+            output: &[FIRST_ANSWERS, SECOND_ANSWERS],
+        },
+        reads: 14,
+        writes: 14,
+    },
+    Piecewise {
+        trial: Trial {
+            name: "a phase whose lanes race, and one of one lane: 423 bytes, of which 735 are written",
+            words: &["run"],
+            text: &[LANES, RACING_PHASE, TOTALLED_PHASE],
+            status: Status::Refused,
+            output: &[RACING_ANSWERS, TOTALLED_ANSWERS],
+        },
+        reads: 8,
+        writes: 13,
+    },
+];
 
 /// The most bytes of a read and of a write.
 const PIECE: usize = 64;
-
-/// The reads of the text by pieces, with the one that tells its end.
-const READS: u32 = 14;
-
-/// The writes of the output by pieces, with the one of its last line.
-const WRITES: u32 = 14;
 
 /// The bytes of the text up to the word `go`.
 const UP_TO_GO: usize = LANES.len() - 1;
 
 /// Whether these devices lead to this status, with at most so many bytes written, which begin the output.
-fn begins_output(
+fn begins_output<R: Threads + Wait + Sync>(
+    rt: &R,
     alloc: Global,
+    trial: &Trial<'_>,
     devices: Devices<'_>,
     status: Status,
     most: usize,
 ) -> Result<bool, Memory> {
-    let text = TRIAL.text.concat(alloc)?;
-    let output = TRIAL.output.concat(alloc)?;
-    let (found, _src, out) = run(alloc, TRIAL.words, text.as_bytes(), devices)?;
+    let text = trial.text.concat(alloc)?;
+    let output = trial.output.concat(alloc)?;
+    let (found, _src, out) = run(rt, alloc, trial.words, text.as_bytes(), devices)?;
     let written = out.bytes();
     Ok(found == status && output.as_bytes().starts_with(written) && written.len() <= most)
 }
 
-#[test]
-fn each_read_fails_in_turn(rt: HostRuntime) -> Result<(), Fail> {
-    for number in 1..=READS {
+/// Whether a read that fails ends a trial, whichever read it is.
+fn fails_with_each_read<R: Threads + Wait + Sync>(
+    rt: &R,
+    alloc: Global,
+    piecewise: &Piecewise<'_>,
+) -> Result<bool, Memory> {
+    let trial = &piecewise.trial;
+    for number in 1..=piecewise.reads {
         let fails: [u32; 1] = [number];
         let devices = Devices {
             read: PIECE,
             failing_reads: &fails,
             ..SOUND
         };
-        assert!(rt;
-            begins_output(rt.alloc(), devices, Status::ReadFault, SOUND.room)?,
-            "read {number}"
-        );
+        if !begins_output(rt, alloc, trial, devices, Status::ReadFault, SOUND.room)? {
+            return Ok(false);
+        }
     }
+    let fails: [u32; 1] = [piecewise.reads.saturating_add(1)];
     let devices = Devices {
         read: PIECE,
-        failing_reads: &[READS + 1],
+        failing_reads: &fails,
         ..SOUND
     };
-    assert!(rt; answers_on(rt.alloc(), &TRIAL, devices)?);
-    Ok(())
+    answers_on(rt, alloc, trial, devices)
 }
 
-#[test]
-fn each_write_fails_in_turn(rt: HostRuntime) -> Result<(), Fail> {
-    for done in 0..WRITES {
+/// Whether a write that fails ends a trial, whichever write it is.
+fn fails_with_each_write<R: Threads + Wait + Sync>(
+    rt: &R,
+    alloc: Global,
+    piecewise: &Piecewise<'_>,
+) -> Result<bool, Memory> {
+    let trial = &piecewise.trial;
+    for done in 0..piecewise.writes {
         let fails: [u32; 1] = [done + 1];
         let devices = Devices {
             write: PIECE,
             failing_writes: &fails,
             ..SOUND
         };
-        assert!(rt;
-            begins_output(
-                rt.alloc(),
-                devices,
-                Status::WriteFault,
-                done as usize * PIECE
-            )?,
-            "after {done} writes"
-        );
+        let most = done as usize * PIECE;
+        if !begins_output(rt, alloc, trial, devices, Status::WriteFault, most)? {
+            return Ok(false);
+        }
     }
+    let fails: [u32; 1] = [piecewise.writes.saturating_add(1)];
     let devices = Devices {
         write: PIECE,
-        failing_writes: &[WRITES + 1],
+        failing_writes: &fails,
         ..SOUND
     };
-    assert!(rt; answers_on(rt.alloc(), &TRIAL, devices)?);
+    answers_on(rt, alloc, trial, devices)
+}
+
+#[test]
+fn each_read_fails_in_turn(rt: HostRuntime) -> Result<(), Fail> {
+    for piecewise in &TRIALS {
+        assert!(rt;
+            fails_with_each_read(&rt, rt.alloc(), piecewise)?,
+            "{}",
+            piecewise.trial.name
+        );
+    }
+    Ok(())
+}
+
+#[test]
+fn each_write_fails_in_turn(rt: HostRuntime) -> Result<(), Fail> {
+    for piecewise in &TRIALS {
+        assert!(rt;
+            fails_with_each_write(&rt, rt.alloc(), piecewise)?,
+            "{}",
+            piecewise.trial.name
+        );
+    }
     Ok(())
 }
 
@@ -99,18 +153,36 @@ fn a_write_of_eight_bytes_stays(rt: HostRuntime) -> Result<(), Fail> {
         failing_writes: &[2],
         ..SOUND
     };
-    assert!(rt; begins_output(rt.alloc(), devices, Status::WriteFault, 8)?);
+    for piecewise in &TRIALS {
+        assert!(rt;
+            begins_output(
+                &rt,
+                rt.alloc(),
+                &piecewise.trial,
+                devices,
+                Status::WriteFault,
+                8
+            )?,
+            "{}",
+            piecewise.trial.name
+        );
+    }
     Ok(())
 }
 
 /// Whether a command refuses the header of a text that is cut before its word `go`, and else tells by its status
 /// whether lines were refused.
-fn tells_refusals(alloc: Global, command: &str, text: &[u8]) -> Result<bool, Memory> {
+fn tells_refusals<R: Threads + Wait + Sync>(
+    rt: &R,
+    alloc: Global,
+    command: &str,
+    text: &[u8],
+) -> Result<bool, Memory> {
     let devices = Devices {
         room: 2048,
         ..SOUND
     };
-    let (status, _src, out) = run(alloc, &[command], text, devices)?;
+    let (status, _src, out) = run(rt, alloc, &[command], text, devices)?;
     if text.len() < UP_TO_GO {
         return Ok(status == Status::Header);
     }
@@ -124,15 +196,19 @@ fn tells_refusals(alloc: Global, command: &str, text: &[u8]) -> Result<bool, Mem
 
 #[test]
 fn a_text_is_cut_after_each_byte(rt: HostRuntime) -> Result<(), Fail> {
-    let text = TRIAL.text.concat(rt.alloc())?;
+    let text = [LANES, FIRST_PHASE, SECOND_PHASE].concat(rt.alloc())?;
     let bytes = text.as_bytes();
     for size in 0..=bytes.len() {
         assert!(rt;
-            tells_refusals(rt.alloc(), "replay", &bytes[..size])?,
+            tells_refusals(&rt, rt.alloc(), "replay", &bytes[..size])?,
             "replay, {size} bytes"
         );
         assert!(rt;
-            tells_refusals(rt.alloc(), "check", &bytes[..size])?,
+            tells_refusals(&rt, rt.alloc(), "run", &bytes[..size])?,
+            "run, {size} bytes"
+        );
+        assert!(rt;
+            tells_refusals(&rt, rt.alloc(), "check", &bytes[..size])?,
             "check, {size} bytes"
         );
     }

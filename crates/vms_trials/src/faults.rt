@@ -2,7 +2,9 @@ use crate::devices::{Devices, SOUND};
 use crate::runs::{Trial, answers_on, run};
 use crate::texts::{AFTER_ZONE, BETWEEN, HEADER};
 use std::alloc::Global;
+use std::sync::Wait;
 use std::test::Fail;
+use std::thread::Threads;
 use vms_base::Memory;
 use vms_tool::Status;
 
@@ -203,7 +205,7 @@ static ROWS: [Row<'static>; 14] = [
     },
     Row {
         name: "the write of the usage fails",
-        words: &["run"],
+        words: &["runs"],
         text: &[HEADER, BODY],
         devices: Devices {
             failing_writes: &[1],
@@ -216,7 +218,7 @@ static ROWS: [Row<'static>; 14] = [
     },
     Row {
         name: "other words read nothing",
-        words: &["run"],
+        words: &["runs"],
         text: &[HEADER, BODY],
         devices: Devices {
             failing_reads: &[1],
@@ -230,10 +232,14 @@ static ROWS: [Row<'static>; 14] = [
 ];
 
 /// Whether a run has its status, and wrote a beginning of its output that is long enough.
-fn begins_output(alloc: Global, row: &Row<'_>) -> Result<bool, Memory> {
+fn begins_output<R: Threads + Wait + Sync>(
+    rt: &R,
+    alloc: Global,
+    row: &Row<'_>,
+) -> Result<bool, Memory> {
     let text = row.text.concat(alloc)?;
     let output = row.output.concat(alloc)?;
-    let (status, _src, out) = run(alloc, row.words, text.as_bytes(), row.devices)?;
+    let (status, _src, out) = run(rt, alloc, row.words, text.as_bytes(), row.devices)?;
     let written = out.bytes();
     Ok(
         status == row.status
@@ -246,7 +252,7 @@ fn begins_output(alloc: Global, row: &Row<'_>) -> Result<bool, Memory> {
 #[test]
 fn faults_leave_a_prefix_of_the_output(rt: HostRuntime) -> Result<(), Fail> {
     for row in &ROWS {
-        assert!(rt; begins_output(rt.alloc(), row)?, "{}", row.name);
+        assert!(rt; begins_output(&rt, rt.alloc(), row)?, "{}", row.name);
     }
     Ok(())
 }
@@ -274,6 +280,6 @@ fn writes_all_above_a_failed_read(rt: HostRuntime) -> Result<(), Fail> {
         failing_reads: &fails,
         ..SOUND
     };
-    assert!(rt; answers_on(rt.alloc(), &trial, devices)?);
+    assert!(rt; answers_on(&rt, rt.alloc(), &trial, devices)?);
     Ok(())
 }

@@ -1,6 +1,8 @@
 use crate::runs::{Trial, answers};
 use std::alloc::Global;
+use std::sync::Wait;
 use std::test::Fail;
+use std::thread::Threads;
 use vms_base::Memory;
 use vms_tool::Status;
 
@@ -76,12 +78,26 @@ static ROWS: [(&str, &str); 23] = [
     ),
 ];
 
-/// Whether `replay` and `check` refuse the header of a text with this output.
-fn are_refused(alloc: Global, text: &str, output: &str) -> Result<bool, Memory> {
-    Ok(is_refused(alloc, "replay", text, output)? && is_refused(alloc, "check", text, output)?)
+/// Whether `replay`, `run` and `check` refuse the header of a text with this output.
+fn are_refused<R: Threads + Wait + Sync>(
+    rt: &R,
+    alloc: Global,
+    text: &str,
+    output: &str,
+) -> Result<bool, Memory> {
+    Ok(
+        is_refused(rt, alloc, "replay", text, output)?
+            && is_refused(rt, alloc, "check", text, output)?,
+    )
 }
 
-fn is_refused(alloc: Global, command: &str, text: &str, output: &str) -> Result<bool, Memory> {
+fn is_refused<R: Threads + Wait + Sync>(
+    rt: &R,
+    alloc: Global,
+    command: &str,
+    text: &str,
+    output: &str,
+) -> Result<bool, Memory> {
     let trial = Trial {
         name: "a header that is refused",
         words: &[command],
@@ -89,13 +105,13 @@ fn is_refused(alloc: Global, command: &str, text: &str, output: &str) -> Result<
         status: Status::Header,
         output: &[output],
     };
-    answers(alloc, &trial)
+    answers(rt, alloc, &trial)
 }
 
 #[test]
 fn names_the_first_line_at_fault(rt: HostRuntime) -> Result<(), Fail> {
     for (text, output) in &ROWS {
-        assert!(rt; are_refused(rt.alloc(), text, output)?, "{text}");
+        assert!(rt; are_refused(&rt, rt.alloc(), text, output)?, "{text}");
     }
     Ok(())
 }

@@ -297,7 +297,7 @@ c1 mod 0 node slab 1152921504606851072
 #[test]
 fn many_cpus_are_replayed(rt: HostRuntime) -> Result<(), Fail> {
     for trial in &ROWS {
-        assert!(rt; answers(rt.alloc(), trial)?, "{}", trial.name);
+        assert!(rt; answers(&rt, rt.alloc(), trial)?, "{}", trial.name);
     }
     Ok(())
 }
@@ -327,6 +327,11 @@ fn each_of_64_cpus_changes_the_most(rt: HostRuntime) -> Result<(), Fail> {
             "done accepted 65 refused 0\n",
         ],
     };
-    assert!(rt; answers(rt.alloc(), &trial)?);
+    assert!(rt; answers(&rt, rt.alloc(), &trial)?);
+    let ran = Trial {
+        words: &["run"],
+        ..trial
+    };
+    assert!(rt; answers(&rt, rt.alloc(), &ran)?);
     Ok(())
 }

@@ -246,7 +246,7 @@ report totals
 #[test]
 fn one_cpu_is_replayed(rt: HostRuntime) -> Result<(), Fail> {
     for trial in &ROWS {
-        assert!(rt; answers(rt.alloc(), trial)?, "{}", trial.name);
+        assert!(rt; answers(&rt, rt.alloc(), trial)?, "{}", trial.name);
     }
     Ok(())
 }

@@ -19,9 +19,13 @@ mod failing_calls;
 #[cfg(test)]
 mod faults;
 #[cfg(test)]
+mod generated;
+#[cfg(test)]
 mod headers;
 #[cfg(test)]
 mod hotplug;
+#[cfg(test)]
+mod kept_histories;
 #[cfg(test)]
 mod lanes_of_many_cpus;
 #[cfg(test)]
@@ -31,9 +35,13 @@ mod limits;
 #[cfg(test)]
 mod marks;
 #[cfg(test)]
+mod meetings;
+#[cfg(test)]
 mod percpu_counters;
 #[cfg(test)]
 mod pressure;
+#[cfg(test)]
+mod races;
 #[cfg(test)]
 mod refusals;
 #[cfg(test)]

@@ -2,7 +2,9 @@ use crate::devices::{Devices, SOUND};
 use crate::runs::run;
 use crate::texts::HEADER;
 use std::alloc::Global;
+use std::sync::Wait;
 use std::test::Fail;
+use std::thread::Threads;
 use vms_base::Memory;
 use vms_tool::Status;
 
@@ -27,7 +29,8 @@ static ROWS: [(&str, usize, Status, &str); 3] = [
 ];
 
 /// Whether a text that begins so, and has so many bytes in all, has this status and this output.
-fn ends_as(
+fn ends_as<R: Threads + Wait + Sync>(
+    rt: &R,
     alloc: Global,
     front: &str,
     size: usize,
@@ -40,7 +43,7 @@ fn ends_as(
     };
     let mut text = Vec::from_slice(alloc, front.as_bytes())?;
     text.resize(size, b'x')?;
-    let (found, _src, out) = run(alloc, &["replay"], text.as_slice(), devices)?;
+    let (found, _src, out) = run(rt, alloc, &["replay"], text.as_slice(), devices)?;
     Ok(found == status && out.bytes() == output.as_bytes())
 }
 
@@ -48,7 +51,7 @@ fn ends_as(
 fn inputs_have_at_most_64_mib(rt: HostRuntime) -> Result<(), Fail> {
     for (front, size, status, output) in &ROWS {
         assert!(rt;
-            ends_as(rt.alloc(), front, *size, *status, output)?,
+            ends_as(&rt, rt.alloc(), front, *size, *status, output)?,
             "{size} bytes"
         );
     }
@@ -57,7 +60,7 @@ fn inputs_have_at_most_64_mib(rt: HostRuntime) -> Result<(), Fail> {
 
 /// A command, a line that a text has so often after `HEADER`, the status, and the last line that is written. An empty
 /// one stands for no output at all.
-static LINES: [(&str, &str, usize, Status, &str); 15] = [
+static LINES: [(&str, &str, usize, Status, &str); 17] = [
     (
         "replay",
         "report totals\n",
@@ -110,6 +113,14 @@ static LINES: [(&str, &str, usize, Status, &str); 15] = [
     ),
     ("replay", "\n", 999996, Status::TooLong, ""),
     (
+        "run",
+        "report vmstat\n",
+        1001,
+        Status::TooLong,
+        "pgfault 0\n",
+    ),
+    ("run", "\n", 999996, Status::TooLong, ""),
+    (
         "check",
         "report totals\n",
         1000,
@@ -148,7 +159,8 @@ static LINES: [(&str, &str, usize, Status, &str); 15] = [
 ];
 
 /// Whether a text with a line so often has this status, and this is the last line that is written of it.
-fn ends_with(
+fn ends_with<R: Threads + Wait + Sync>(
+    rt: &R,
     alloc: Global,
     command: &str,
     line: &str,
@@ -164,7 +176,7 @@ fn ends_with(
     for _ in 0..count {
         text.extend_from_slice(line.as_bytes())?;
     }
-    let (found, _src, out) = run(alloc, &[command], text.as_slice(), devices)?;
+    let (found, _src, out) = run(rt, alloc, &[command], text.as_slice(), devices)?;
     Ok(
         found == status
             && out.bytes().ends_with(last.as_bytes())
@@ -176,7 +188,7 @@ fn ends_with(
 fn nothing_is_judged_past_a_limit(rt: HostRuntime) -> Result<(), Fail> {
     for (command, line, count, status, last) in &LINES {
         assert!(rt;
-            ends_with(rt.alloc(), command, line, *count, *status, last)?,
+            ends_with(&rt, rt.alloc(), command, line, *count, *status, last)?,
             "{command}, {line}, {count} times"
         );
     }
@@ -190,7 +202,7 @@ struct Excess<'a> {
     line: &'a str,
     count: usize,
     back: &'a str,
-    /// What `replay` writes of the lines above the one that exceeds the limit.
+    /// What `replay` and `run` write of the lines above the one that exceeds the limit.
     output: &'a str,
 }
 
@@ -221,22 +233,36 @@ static EXCESSES: [Excess<'static>; 3] = [
     },
 ];
 
-/// Whether this is what `replay` writes of such a text.
-fn is_written(alloc: Global, excess: &Excess<'_>) -> Result<bool, Memory> {
+/// Whether this is what a command writes of such a text.
+fn is_written<R: Threads + Wait + Sync>(
+    rt: &R,
+    alloc: Global,
+    command: &str,
+    excess: &Excess<'_>,
+) -> Result<bool, Memory> {
     let mut text = Vec::from_slice(alloc, HEADER.as_bytes())?;
     text.extend_from_slice(excess.front.as_bytes())?;
     for _ in 0..excess.count {
         text.extend_from_slice(excess.line.as_bytes())?;
     }
     text.extend_from_slice(excess.back.as_bytes())?;
-    let (found, _src, out) = run(alloc, &["replay"], text.as_slice(), SOUND)?;
+    let (found, _src, out) = run(rt, alloc, &[command], text.as_slice(), SOUND)?;
     Ok(found == Status::TooLong && out.bytes() == excess.output.as_bytes())
 }
 
 #[test]
 fn what_stands_above_a_limit_is_written(rt: HostRuntime) -> Result<(), Fail> {
     for excess in &EXCESSES {
-        assert!(rt; is_written(rt.alloc(), excess)?, "{}", excess.name);
+        assert!(rt;
+            is_written(&rt, rt.alloc(), "replay", excess)?,
+            "replay, {}",
+            excess.name
+        );
+        assert!(rt;
+            is_written(&rt, rt.alloc(), "run", excess)?,
+            "run, {}",
+            excess.name
+        );
     }
     Ok(())
 }

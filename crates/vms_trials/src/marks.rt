@@ -202,7 +202,7 @@ done accepted 13 refused 0
 #[test]
 fn marks_fall_once_acknowledged(rt: HostRuntime) -> Result<(), Fail> {
     for trial in &ROWS {
-        assert!(rt; answers(rt.alloc(), trial)?, "{}", trial.name);
+        assert!(rt; answers(&rt, rt.alloc(), trial)?, "{}", trial.name);
     }
     Ok(())
 }
@@ -269,7 +269,7 @@ c0 ok 0 Normal high 2
 #[test]
 fn peaks_keep_marks(rt: HostRuntime) -> Result<(), Fail> {
     for trial in &PEAKS {
-        assert!(rt; answers(rt.alloc(), trial)?, "{}", trial.name);
+        assert!(rt; answers(&rt, rt.alloc(), trial)?, "{}", trial.name);
     }
     Ok(())
 }

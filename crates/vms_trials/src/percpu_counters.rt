@@ -257,7 +257,7 @@ line 10: report totals
 #[test]
 fn locals_reach_the_count_past_the_batch(rt: HostRuntime) -> Result<(), Fail> {
     for trial in &ROWS {
-        assert!(rt; answers(rt.alloc(), trial)?, "{}", trial.name);
+        assert!(rt; answers(&rt, rt.alloc(), trial)?, "{}", trial.name);
     }
     Ok(())
 }

@@ -238,7 +238,7 @@ done accepted 9 refused 0
 #[test]
 fn pressure_lowers_thresholds(rt: HostRuntime) -> Result<(), Fail> {
     for trial in &ROWS {
-        assert!(rt; answers(rt.alloc(), trial)?, "{}", trial.name);
+        assert!(rt; answers(&rt, rt.alloc(), trial)?, "{}", trial.name);
     }
     Ok(())
 }

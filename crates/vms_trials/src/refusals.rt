@@ -165,7 +165,7 @@ c0 snap 0 Normal nr_free_pages
 #[test]
 fn refused_lines_change_nothing(rt: HostRuntime) -> Result<(), Fail> {
     for trial in &ROWS {
-        assert!(rt; answers(rt.alloc(), trial)?, "{}", trial.name);
+        assert!(rt; answers(&rt, rt.alloc(), trial)?, "{}", trial.name);
     }
     Ok(())
 }

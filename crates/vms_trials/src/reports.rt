@@ -138,7 +138,7 @@ done accepted 1 refused 0
 #[test]
 fn a_report_has_a_line_for_each_counter(rt: HostRuntime) -> Result<(), Fail> {
     for trial in &ROWS {
-        assert!(rt; answers(rt.alloc(), trial)?, "{}", trial.name);
+        assert!(rt; answers(&rt, rt.alloc(), trial)?, "{}", trial.name);
     }
     Ok(())
 }

@@ -1,8 +1,10 @@
 use crate::devices::{Devices, SOUND};
 use std::alloc::Global;
+use std::sync::Wait;
+use std::thread::Threads;
 use vms_base::Memory;
 use vms_io::{MemSink, MemSource};
-use vms_tool::{Status, tool};
+use vms_tool::{Gate, Histories, OpenGate, Status, tool};
 
 /// A text, and what is due of it where the devices never fail.
 #[derive(Clone, Copy)]
@@ -20,11 +22,26 @@ pub struct Trial<'a> {
 const PIECES: [(usize, usize); 5] = [(65536, 65536), (1, 8), (7, 1), (64, 8), (7, 7)];
 
 /// Runs what the words name on a text: its status, and the devices as it left them.
-pub fn run(
+pub fn run<R: Threads + Wait + Sync>(
+    rt: &R,
     alloc: Global,
     words: &[&str],
     text: &[u8],
     devices: Devices<'_>,
+) -> Result<(Status, MemSource, MemSink), Memory> {
+    let mut histories = Histories::make(alloc);
+    run_at(rt, alloc, words, text, devices, &OpenGate, &mut histories)
+}
+
+/// The same where the lanes call this gate, and the histories of phases on threads are appended to these.
+pub fn run_at<R: Threads + Wait + Sync, G: Gate>(
+    rt: &R,
+    alloc: Global,
+    words: &[&str],
+    text: &[u8],
+    devices: Devices<'_>,
+    gate: &G,
+    histories: &mut Histories,
 ) -> Result<(Status, MemSource, MemSink), Memory> {
     let mut owned = Vec::new(alloc);
     for word in words {
@@ -35,19 +52,50 @@ pub fn run(
     let mut src = MemSource::make(bytes, devices.read.max(1), fails);
     let fails = Vec::from_slice(alloc, devices.failing_writes)?;
     let mut out = MemSink::make(alloc, devices.write.max(1), fails, devices.room)?;
-    let status = tool(alloc, owned.as_slice(), &mut src, &mut out);
+    let status = tool(
+        rt,
+        alloc,
+        owned.as_slice(),
+        &mut src,
+        &mut out,
+        gate,
+        histories,
+    );
     Ok((status, src, out))
 }
 
-/// Whether a trial has the status and the output that are due, whatever the pieces of its text.
-pub fn answers(alloc: Global, trial: &Trial<'_>) -> Result<bool, Memory> {
+/// Whether a trial has the status and the output that are due, whatever the pieces of its text. A trace that is
+/// replayed is run too, where none of its phases has lines of two lanes: its output can't be another one then.
+pub fn answers<R: Threads + Wait + Sync>(
+    rt: &R,
+    alloc: Global,
+    trial: &Trial<'_>,
+) -> Result<bool, Memory> {
+    if !answers_in_pieces(rt, alloc, trial)? {
+        return Ok(false);
+    }
+    if !matches!(trial.words, ["replay"]) || !are_phases_of_one_lane(alloc, trial.text)? {
+        return Ok(true);
+    }
+    let ran = Trial {
+        words: &["run"],
+        ..*trial
+    };
+    answers_in_pieces(rt, alloc, &ran)
+}
+
+fn answers_in_pieces<R: Threads + Wait + Sync>(
+    rt: &R,
+    alloc: Global,
+    trial: &Trial<'_>,
+) -> Result<bool, Memory> {
     for (read, write) in PIECES {
         let devices = Devices {
             read,
             write,
             ..SOUND
         };
-        if !answers_on(alloc, trial, devices)? {
+        if !answers_on(rt, alloc, trial, devices)? {
             return Ok(false);
         }
     }
@@ -55,9 +103,41 @@ pub fn answers(alloc: Global, trial: &Trial<'_>) -> Result<bool, Memory> {
 }
 
 /// Whether a trial has the status and the output that are due, on these devices.
-pub fn answers_on(alloc: Global, trial: &Trial<'_>, devices: Devices<'_>) -> Result<bool, Memory> {
+pub fn answers_on<R: Threads + Wait + Sync>(
+    rt: &R,
+    alloc: Global,
+    trial: &Trial<'_>,
+    devices: Devices<'_>,
+) -> Result<bool, Memory> {
     let text = trial.text.concat(alloc)?;
     let output = trial.output.concat(alloc)?;
-    let (status, _src, out) = run(alloc, trial.words, text.as_bytes(), devices)?;
+    let (status, _src, out) = run(rt, alloc, trial.words, text.as_bytes(), devices)?;
     Ok(status == trial.status && out.bytes() == output.as_bytes())
+}
+
+/// Whether no phase of a text has lines of two lanes. Lines that are refused count, and of boundary lines those alone
+/// that are never refused.
+fn are_phases_of_one_lane(alloc: Global, text: &[&str]) -> Result<bool, Memory> {
+    let text = text.concat(alloc)?;
+    let mut lane: Option<&str> = None;
+    for line in text.as_str().split('\n') {
+        match line.split_whitespace().next() {
+            Some("sync" | "flush" | "report") => lane = None,
+            Some(word) if is_lane(word) => match lane {
+                Some(other) if other != word => return Ok(false),
+                _ => lane = Some(word),
+            },
+            _ => {}
+        }
+    }
+    Ok(true)
+}
+
+/// Whether a word is that of a lane: `k`, or `c` and a digit.
+fn is_lane(word: &str) -> bool {
+    match word.as_bytes() {
+        [b'k'] => true,
+        [b'c', digit, ..] => digit.is_ascii_digit(),
+        _ => false,
+    }
 }

@@ -1,7 +1,9 @@
 use crate::devices::SOUND;
 use crate::runs::{Trial, answers, run};
 use std::alloc::Global;
+use std::sync::Wait;
 use std::test::Fail;
+use std::thread::Threads;
 use vms_base::Memory;
 use vms_tool::Status;
 
@@ -306,23 +308,31 @@ aaaaaaaaaaaaaaaaaaaaaaaaaaaaaaaaaaaaaaaaaaaaaaaaaaaaaaaaaaaaaaaaaaaaaaaaaaaaaaaa
 #[test]
 fn writes_the_one_spelling_whatever_the_pieces(rt: HostRuntime) -> Result<(), Fail> {
     for trial in &ROWS {
-        assert!(rt; answers(rt.alloc(), trial)?, "{}", trial.name);
+        assert!(rt; answers(&rt, rt.alloc(), trial)?, "{}", trial.name);
     }
     Ok(())
 }
 
 /// Whether what is written of a text is accepted, unless its header is refused.
-fn is_accepted_again(alloc: Global, trial: &Trial<'_>) -> Result<bool, Memory> {
+fn is_accepted_again<R: Threads + Wait + Sync>(
+    rt: &R,
+    alloc: Global,
+    trial: &Trial<'_>,
+) -> Result<bool, Memory> {
     let text = trial.text.concat(alloc)?;
-    let (first, _src, out) = run(alloc, &["check"], text.as_bytes(), SOUND)?;
-    let (again, _src, _out) = run(alloc, &["check"], out.bytes(), SOUND)?;
+    let (first, _src, out) = run(rt, alloc, &["check"], text.as_bytes(), SOUND)?;
+    let (again, _src, _out) = run(rt, alloc, &["check"], out.bytes(), SOUND)?;
     Ok(first == Status::Header || again == Status::Done)
 }
 
 #[test]
 fn accepts_what_it_wrote(rt: HostRuntime) -> Result<(), Fail> {
     for trial in &ROWS {
-        assert!(rt; is_accepted_again(rt.alloc(), trial)?, "{}", trial.name);
+        assert!(rt;
+            is_accepted_again(&rt, rt.alloc(), trial)?,
+            "{}",
+            trial.name
+        );
     }
     Ok(())
 }

@@ -122,3 +122,73 @@ event pgfault 5
 counter files 65
 done accepted 31 refused 0
 ";
+
+/// A phase of `LANES` whose lanes change one counter while its thresholds are set, and the line that ends it: 13 lines.
+/// What its lines print is the same in any order of the lanes.
+pub const RACING_PHASE: &str = "c0 mod 0 Normal nr_free_pages -32
+k pressure 0
+c1 mod 0 Normal nr_free_pages 30
+c9 fold 0
+c0 inc 0 Normal nr_mlock
+c1 ev pgfault 2
+c0 fold 1
+k fold 0
+k normal 0
+c1 fold 0
+c0 evsum pswpin
+c1 cnt files 40
+sync
+";
+
+/// What is written of `RACING_PHASE` after `LANES`.
+pub const RACING_ANSWERS: &str = "line 11: refused: UnknownLane
+line 18: events 0
+";
+
+/// The phase after `RACING_PHASE`, of one lane, with a report: five lines.
+pub const TOTALLED_PHASE: &str = "c0 snap 0 Normal nr_free_pages
+c0 evsum pgfault
+c0 sum files
+report totals
+flush
+";
+
+/// What is written of `TOTALLED_PHASE` after `RACING_PHASE`, where nothing follows.
+pub const TOTALLED_ANSWERS: &str = "line 21: snapshot 9998
+line 22: events 2
+line 23: sum 40
+line 24: report totals
+0 Normal nr_free_pages 9998
+0 Normal nr_zone_inactive_anon 0
+0 Normal nr_zone_active_anon 0
+0 Normal nr_zone_inactive_file 0
+0 Normal nr_zone_active_file 0
+0 Normal nr_zone_unevictable 0
+0 Normal nr_zone_write_pending 0
+0 Normal nr_mlock 1
+0 node nr_inactive_anon 0
+0 node nr_active_anon 0
+0 node nr_inactive_file 0
+0 node nr_active_file 0
+0 node nr_unevictable 0
+0 node nr_anon_pages 0
+0 node nr_file_pages 500
+0 node nr_dirty 0
+event pgpgin 0
+event pgpgout 0
+event pswpin 0
+event pswpout 0
+event pgfree 0
+event pgactivate 0
+event pgdeactivate 0
+event pgfault 2
+counter files 40
+done accepted 17 refused 1
+";
+
+/// A phase of one lane and blank lines, as long as `FIRST_PHASE`: 20 lines.
+pub const SHORT_PHASE: &str =
+    "k val 0 Normal nr_free_pages\n\n\n\n\n\n\n\n\n\n\n\n\n\n\n\n\n\n\nsync\n";
+
+/// What is written of `SHORT_PHASE` after `LANES`.
+pub const SHORT_ANSWERS: &str = "line 8: value 10000\n";

@@ -2,26 +2,42 @@ use crate::devices::SOUND;
 use crate::runs::run;
 use crate::texts::HEADER;
 use std::alloc::Global;
+use std::sync::Wait;
 use std::test::Fail;
+use std::thread::Threads;
 use vms_base::Memory;
 use vms_io::Source;
 use vms_tool::Status;
 
 /// Words that name no command.
-static WORDS: [&[&str]; 8] = [
+static WORDS: [&[&str]; 18] = [
     &[],
     &[""],
     &["check", "x"],
-    &["run"],
-    &["gen", "1", "1", "1"],
     &["replay", "x"],
     &["replay "],
     &["Replay"],
+    &["run", "x"],
+    &["running"],
+    &["gen"],
+    &["gen", "1", "1"],
+    &["gen", "1", "1", "1", "1"],
+    &["gen", "1", "0", "5"],
+    &["gen", "1", "65", "5"],
+    &["gen", "1", "1", "0"],
+    &["gen", "1", "1", "900001"],
+    &["gen", "18446744073709551616", "1", "1"],
+    &["gen", "01", "1", "1"],
+    &["run", "1", "1", "1"],
 ];
 
 /// Whether the usage line is written, and nothing is read.
-fn shows_usage(alloc: Global, words: &[&str]) -> Result<bool, Memory> {
-    let (status, mut src, out) = run(alloc, words, HEADER.as_bytes(), SOUND)?;
+fn shows_usage<R: Threads + Wait + Sync>(
+    rt: &R,
+    alloc: Global,
+    words: &[&str],
+) -> Result<bool, Memory> {
+    let (status, mut src, out) = run(rt, alloc, words, HEADER.as_bytes(), SOUND)?;
     let mut left = [0; 256];
     Ok(
         status == Status::Words
@@ -33,7 +49,7 @@ fn shows_usage(alloc: Global, words: &[&str]) -> Result<bool, Memory> {
 #[test]
 fn other_words_are_answered_with_the_usage(rt: HostRuntime) -> Result<(), Fail> {
     for (number, words) in WORDS.iter().enumerate() {
-        assert!(rt; shows_usage(rt.alloc(), words)?, "row {number}");
+        assert!(rt; shows_usage(&rt, rt.alloc(), words)?, "row {number}");
     }
     Ok(())
 }

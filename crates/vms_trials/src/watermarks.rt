@@ -253,7 +253,7 @@ done accepted 8 refused 0
 #[test]
 fn tests_take_the_snapshot_below_the_mark(rt: HostRuntime) -> Result<(), Fail> {
     for trial in &ROWS {
-        assert!(rt; answers(rt.alloc(), trial)?, "{}", trial.name);
+        assert!(rt; answers(&rt, rt.alloc(), trial)?, "{}", trial.name);
     }
     Ok(())
 }
