@@ -1,20 +1,25 @@
 -- A turn over the lines of a lane's script, and its end, whichever lane it is.
 use Rattle.std.proofs.Common.{◌≡◌, ℕ, ◌+◌, ◌<◌, ◌≤◌, List, [], ◌∷◌, ◌++◌, length, Option, sym, ap, ◌∙◌, subst}
-use Rattle.std.proofs.Common.{append_assoc, append-nil, drop, get_or}
+use Rattle.std.proofs.Common.{append_assoc, append-nil, arith, cond, drop, filter, get_or, map, Bool, true, false}
+use Rattle.std.specs.Prelude.{All}
 use Rattle.std.proofs.lemmas.List.{drop_all, drop_more}
+use Rattle.std.proofs.lemmas.List.Elements.{All-head, All-tail}
 use Rattle.vms_base.specs.declared.headers.Header.{Header}
 use Rattle.vms_base.specs.declared.kinds.ZoneSize.{ZoneSize}
+use Rattle.vms_line.specs.Laws.{IsActOf}
 use Rattle.vms_script.specs.declared.lane_scripts.LaneItem.{LaneItem}
 use Rattle.vms_tables.specs.declared.tables.Tables.{Tables}
+use Rattle.vms_script.specs.PhaseScripts.{is_lane, lane_item, lane_items}
 use Rattle.vms_tables.specs.Passes.{AreLive, TablePasses}
+use Rattle.vms_tables.specs.Tables.{world_of}
+use Rattle.vms_text.specs.declared.acts.Item.{Item}
 use Rattle.vms_text.specs.declared.acts.Act.{Act}
 use Rattle.vms_text.specs.declared.acts.Lane.{Lane}
-use Rattle.vms_world.specs.declared.worlds.World.{World}
 use Rattle.vms_answers.specs.Answers.{Answer}
 use Rattle.vms_answers.specs.PhaseAnswers.{NumberedAnswer, with_answer}
 use Rattle.vms_lane.specs.declared.passes.LanePasses.{LanePasses}
 use Rattle.vms_lane.specs.declared.passes.LanePasses.TheVariants.{Cpu as OfCpu, Control as OfControl}
-use Rattle.vms_lane.specs.LanePasses.{HaveSpentAll, AreLeftBy, MayMakeActs, MayMakeAct}
+use Rattle.vms_lane.specs.LanePasses.{AreReadyFor, HaveSpentAll, AreLeftBy, MayMakeActs, MayMakeAct, passes_in}
 use Rattle.vms_lane.specs.Lines.{MakeAct}
 use Rattle.vms_lane.specs.Scripts.{MakeLines, acts_in}
 use Rattle.vms_lane.proofs.ControlledCpus.{control-first, control-rest}
@@ -48,67 +53,110 @@ all-none : (passes : LanePasses) → HaveSpentAll [] passes passes
 all-none (OfCpu passes) = spent-none passes
 all-none (OfControl passes) = tt
 
--- a turn over the lines of a script, and its end
-module _ (items : List LaneItem) (n : ℕ) where
-  module _ (none : LaneItem) (inside : n < length items) where
-    abbrev pub here : LaneItem
+-- the lines of a script that were made so far, from these first passes: whatever the lines that are left make, with it
+-- these make the whole, and there is room for the answers of those that are left
+pub record MadeSoFar (header : Header) (pressure normal : ZoneSize → ℕ → ℕ → Type 0) (tables : Tables) (lane : Lane)
+    (script left : List LaneItem) (now first : LanePasses) (told : List NumberedAnswer) (count room : ℕ)
+    : Type 0 where
+  pub ready : AreReadyFor tables lane now
+  pub acts : All (λ item. IsActOf header lane item.act) left
+  pub may : MayMakeActs tables (acts_in left) now
+  pub fits : count + length left ≤ room
+  pub lines : (last : TablePasses) (more : List NumberedAnswer)
+      → MakeLines header pressure normal (world_of tables) lane left last (passes_in now) more
+      → MakeLines header pressure normal (world_of tables) lane script last (passes_in first) (told ++ more)
+  pub spent : (last : LanePasses) → HaveSpentAll (acts_in left) last now → HaveSpentAll (acts_in script) last first
+
+module _ (header : Header) (pressure normal : ZoneSize → ℕ → ℕ → Type 0) (tables : Tables) (lane : Lane)
+    (script : List LaneItem) where
+  -- before the first line
+  pub so_far-none : (first : LanePasses) (told : List NumberedAnswer) (count room : ℕ) → AreReadyFor tables lane first
+      → All (λ (item : LaneItem). IsActOf header lane item.act) script → MayMakeActs tables (acts_in script) first
+      → told ≡ [] → count ≡ 0 → length script ≤ room
+      → MadeSoFar header pressure normal tables lane script script first first told count room
+  so_far-none first told count room ready acts may none zero_told fits = record {
+    ready = ready;
+    acts = acts;
+    may = may;
+    fits = omega (arith, zero_told, fits);
+    lines = λ last more lines. subst (λ (answers : List NumberedAnswer). MakeLines header pressure normal
+        (world_of tables) lane script last (passes_in first) (answers ++ more)) (sym none) lines;
+    spent = λ last spent. spent;
+  }
+
+  -- a line comes next, and then those that are left
+  module _ (here : LaneItem) (left : List LaneItem) (now first : LanePasses) (told : List NumberedAnswer)
+      (count room : ℕ)
+      (so_far : MadeSoFar header pressure normal tables lane script (here ∷ left) now first told count room) where
+    pub so_far-act : IsActOf header lane here.act
+    so_far-act = All-head (λ (item : LaneItem). IsActOf header lane item.act) here left so_far.acts
+
+    pub so_far-may : MayMakeAct tables here.act now
+    so_far-may = may-first tables here.act (acts_in left) now so_far.may
+
+    pub so_far-room : count < room
+    so_far-room = omega (arith, so_far.fits)
+
+    pub so_far-next : (next : LanePasses) (answer : Option Answer) (more_told : List NumberedAnswer)
+        (more_count more_room : ℕ) → AreReadyFor tables lane next
+        → MakeAct header pressure normal (world_of tables) lane here.act (passes_in next) (passes_in now) answer
+        → AreLeftBy tables here.act next now → more_told ≡ told ++ with_answer here.number answer []
+        → more_count ≤ count + 1 → more_room ≡ room
+        → MadeSoFar header pressure normal tables lane script left next first more_told more_count more_room
+    so_far-next next answer more_told more_count more_room ready makes leaves noted counted same = record {
+      ready = ready;
+      acts = All-tail (λ (item : LaneItem). IsActOf header lane item.act) here left so_far.acts;
+      may = may-rest tables here.act (acts_in left) next now leaves so_far.may;
+      fits = omega (arith, counted, same, so_far.fits);
+      lines = λ last more rest. subst (MakeLines header pressure normal (world_of tables) lane script last
+          (passes_in first))
+          (ap (λ (all : List NumberedAnswer). told ++ all) (sym (with_answer-first here.number answer more))
+          ∙ sym (append_assoc told (with_answer here.number answer []) more)
+          ∙ ap (λ (all : List NumberedAnswer). all ++ more) (sym noted))
+          (so_far.lines last (with_answer here.number answer more)
+          (lines-next header pressure normal (world_of tables) lane here left last (passes_in next) (passes_in now)
+          answer more rest makes));
+      spent = λ last rest. so_far.spent last
+          (all-next tables here.act (acts_in left) last next now rest leaves);
+    }
+
+  -- no line is left
+  module _ (now first : LanePasses) (told : List NumberedAnswer) (count room : ℕ)
+      (so_far : MadeSoFar header pressure normal tables lane script [] now first told count room) where
+    pub so_far-spent : HaveSpentAll (acts_in script) now first
+    so_far-spent = so_far.spent now (all-none now)
+
+    pub so_far-lines : AreLive (passes_in now)
+        → MakeLines header pressure normal (world_of tables) lane script (passes_in now) (passes_in first) told
+    so_far-lines live =
+        subst (MakeLines header pressure normal (world_of tables) lane script (passes_in now) (passes_in first))
+        (append-nil told)
+        (so_far.lines (passes_in now) [] (lines-none header pressure normal (world_of tables) lane (passes_in now) live))
+
+-- the lines of a lane among others: those that are left from the n-th on
+module _ (lane : Lane) (items : List Item) (n : ℕ) where
+  module _ (none : Item) (inside : n < length items) where
+    abbrev here : Item
     here = get_or items n none
 
     left : drop n items ≡ here ∷ drop (n + 1) items
     left = drop_more items n none inside
 
-    module _ (tables : Tables) where
-      pub turn-may : (passes : LanePasses) → MayMakeActs tables (acts_in (drop n items)) passes
-          → MayMakeAct tables here.act passes
-      turn-may passes may = may-first tables here.act (acts_in (drop (n + 1) items)) passes
-          (subst (λ (xs : List LaneItem). MayMakeActs tables (acts_in xs) passes) left may)
+    pub lane_items-own : is_lane lane here.lane ≡ true
+        → lane_items lane (drop n items) ≡ lane_item here ∷ lane_items lane (drop (n + 1) items)
+    lane_items-own own = ap (lane_items lane) left ∙ ap (by (drop (n + 1) items)) own
+      where
+        by : List Item → Bool → List LaneItem
+        by rest b = map lane_item (cond b (here ∷ filter (λ (i : Item). is_lane lane i.lane) rest)
+            (filter (λ (i : Item). is_lane lane i.lane) rest))
 
-      pub turn-rest : (new old : LanePasses) → AreLeftBy tables here.act new old
-          → MayMakeActs tables (acts_in (drop n items)) old → MayMakeActs tables (acts_in (drop (n + 1) items)) new
-      turn-rest new old leaves may = may-rest tables here.act (acts_in (drop (n + 1) items)) new old leaves
-          (subst (λ (xs : List LaneItem). MayMakeActs tables (acts_in xs) old) left may)
+    pub lane_items-other : is_lane lane here.lane ≡ false
+        → lane_items lane (drop n items) ≡ lane_items lane (drop (n + 1) items)
+    lane_items-other other = ap (lane_items lane) left ∙ ap (by (drop (n + 1) items)) other
+      where
+        by : List Item → Bool → List LaneItem
+        by rest b = map lane_item (cond b (here ∷ filter (λ (i : Item). is_lane lane i.lane) rest)
+            (filter (λ (i : Item). is_lane lane i.lane) rest))
 
-      pub turn-spent : (next now old : LanePasses) → AreLeftBy tables here.act next now
-          → ((last : LanePasses) → HaveSpentAll (acts_in (drop n items)) last now
-          → HaveSpentAll (acts_in items) last old) → (last : LanePasses)
-          → HaveSpentAll (acts_in (drop (n + 1) items)) last next → HaveSpentAll (acts_in items) last old
-      turn-spent next now old leaves so_far last rest = so_far last
-          (subst (λ (xs : List LaneItem). HaveSpentAll (acts_in xs) last now) (sym left)
-          (all-next tables here.act (acts_in (drop (n + 1) items)) last next now rest leaves))
-
-    module _ (header : Header) (pressure normal : ZoneSize → ℕ → ℕ → Type 0) (w : World) (lane : Lane) where
-      pub turn-lines : (next now old : TablePasses) (answer : Option Answer) (answers : List NumberedAnswer)
-          → MakeAct header pressure normal w lane here.act next now answer
-          → ((last : TablePasses) (more : List NumberedAnswer)
-          → MakeLines header pressure normal w lane (drop n items) last now more
-          → MakeLines header pressure normal w lane items last old (answers ++ more)) → (last : TablePasses)
-          (more : List NumberedAnswer) → MakeLines header pressure normal w lane (drop (n + 1) items) last next more
-          → MakeLines header pressure normal w lane items last old
-          ((answers ++ with_answer here.number answer []) ++ more)
-      turn-lines next now old answer answers makes so_far last more rest =
-          subst (MakeLines header pressure normal w lane items last old)
-          (sym (append_assoc answers (with_answer here.number answer []) more
-          ∙ ap (λ (all : List NumberedAnswer). answers ++ all) (with_answer-first here.number answer more)))
-          (so_far last (with_answer here.number answer more)
-          (subst (λ (xs : List LaneItem). MakeLines header pressure normal w lane xs last now
-          (with_answer here.number answer more)) (sym left)
-          (lines-next header pressure normal w lane here (drop (n + 1) items) last next now answer more rest makes)))
-
-  module _ (past : length items ≤ n) where
-    pub end-spent : (now old : LanePasses)
-        → ((last : LanePasses) → HaveSpentAll (acts_in (drop n items)) last now
-        → HaveSpentAll (acts_in items) last old) → HaveSpentAll (acts_in items) now old
-    end-spent now old so_far = so_far now
-        (subst (λ (xs : List LaneItem). HaveSpentAll (acts_in xs) now now) (sym (drop_all n items past))
-        (all-none now))
-
-    pub end-lines : (header : Header) (pressure normal : ZoneSize → ℕ → ℕ → Type 0) (w : World) (lane : Lane)
-        (now old : TablePasses) (answers : List NumberedAnswer) → AreLive now
-        → ((last : TablePasses) (more : List NumberedAnswer)
-        → MakeLines header pressure normal w lane (drop n items) last now more
-        → MakeLines header pressure normal w lane items last old (answers ++ more))
-        → MakeLines header pressure normal w lane items now old answers
-    end-lines header pressure normal w lane now old answers live so_far =
-        subst (MakeLines header pressure normal w lane items now old) (append-nil answers)
-        (so_far now [] (subst (λ (xs : List LaneItem). MakeLines header pressure normal w lane xs now now [])
-        (sym (drop_all n items past)) (lines-none header pressure normal w lane now live)))
+  pub lane_items-end : length items ≤ n → lane_items lane (drop n items) ≡ []
+  lane_items-end past = ap (lane_items lane) (drop_all n items past)

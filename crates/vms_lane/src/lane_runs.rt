@@ -8,6 +8,7 @@ ghost use Rattle.vms_tables.specs.Tables.{AreTables, world_of};
 ghost use Rattle.vms_lane.specs.LanePasses.{AreReadyFor, HaveSpentAll, MayMakeActs, passes_in};
 ghost use Rattle.vms_lane.specs.Scripts.{MakeLines, acts_in};
 
+use crate::lane_lines::{LaneLines, is_of};
 use crate::line_runs::run_line;
 use crate::passes::LanePasses;
 use std::alloc::Global;
@@ -16,7 +17,6 @@ use vms_answers::{Answer, NumberedAnswer};
 use vms_base::{Header, Memory};
 use vms_calc::{Rule, Rules};
 use vms_gate::Gate;
-use vms_script::LaneScript;
 use vms_tables::Tables;
 use vms_text::Lane;
 
@@ -33,27 +33,29 @@ pub fn run_lane<G: Gate, R: Wait, N: Rule, P: Rule>(
     rules: &Rules<N, P>,
     passes: &mut LanePasses,
     lane: Lane,
-    script: &LaneScript,
+    lines: &LaneLines<'_>,
 ) -> Result<Vec<NumberedAnswer>, Memory>
     requires header { IsHeader header.now }
     requires tables { AreTables header.now tables.now }
     requires passes { AreReadyFor tables.now lane passes.old }
-    requires acts { All (λ item. IsActOf header.now lane item.act) script.now }
-    requires may { MayMakeActs tables.now (acts_in script.now) passes.old }
+    requires acts { All (λ item. IsActOf header.now lane item.act) lines.now }
+    requires may { MayMakeActs tables.now (acts_in lines.now) passes.old }
     ensures makes { IfOk result (λ answers. MakeLines header.now (P.answers rules.now.pressure)
-        (N.answers rules.now.normal) (world_of tables.now) lane script.now (passes_in passes.new)
+        (N.answers rules.now.normal) (world_of tables.now) lane lines.now (passes_in passes.new)
         (passes_in passes.old) (map numbered_told answers.items)) }
-    ensures spends { OnOk result (HaveSpentAll (acts_in script.now) passes.new passes.old) }
+    ensures spends { OnOk result (HaveSpentAll (acts_in lines.now) passes.new passes.old) }
     ensures ready { AreReadyFor tables.now lane passes.new }
     ensures err { OnErr result (passes.new ≡ passes.old) }
 {
-    let items = script.as_slice();
+    let own = lines.lane;
     let number = lane_number(header, lane);
-    let mut answers = Vec::with_capacity(alloc, items.len())?;
-    for item in items {
-        gate.at(number, item.number);
-        let answer = run_line(rt, tables, header, rules, passes, lane, item.act);
-        note(&mut answers, item.number, answer);
+    let mut answers = Vec::with_capacity(alloc, lines.len())?;
+    for item in lines.script.as_slice() {
+        if is_of(own, item) {
+            gate.at(number, item.number);
+            let answer = run_line(rt, tables, header, rules, passes, lane, item.act);
+            note(&mut answers, item.number, answer);
+        }
     }
     passes.are_live();
     Ok(answers)

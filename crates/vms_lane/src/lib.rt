@@ -8,11 +8,13 @@ mod control_lines;
 mod counter_acts;
 mod cpu_lines;
 mod event_acts;
+mod lane_lines;
 mod lane_runs;
 mod line_runs;
 mod page_acts;
 mod passes;
 
+pub use lane_lines::LaneLines;
 pub use lane_runs::run_lane;
 pub use line_runs::run_line;
 pub use passes::LanePasses;

@@ -65,7 +65,7 @@ module _ (header : Header) (tables : Tables) (w : World) (items : List Item) (ma
       (begun : BeginPasses None new mains (burial.passes_of passes)) (script : List LaneItem)
       (lines : script ≡ lane_items Control items) where
     abbrev control_job : LaneJob
-    control_job = record { lane = Control; passes = OfControl passes; script = script }
+    control_job = record { lane = Control; passes = OfControl passes; lines = script }
 
     abbrev all : List Lane
     all = lanes ++ Control ∷ []

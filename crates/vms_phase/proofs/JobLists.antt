@@ -1,7 +1,7 @@
 -- The passes of lanes begin one after another, with their jobs.
 use Rattle.std.proofs.Common.{◌≡◌, ℕ, suc, ◌+◌, ◌<◌, ◌≤◌, ◌||◌, Bool, true, false, cond, List, [], ◌∷◌, ◌++◌}
 use Rattle.std.proofs.Common.{length, map, filter, Some, refl, sym, ap, subst, ◌∙◌, arith, append-nil}
-use Rattle.std.proofs.Common.{if◌then◌else◌}
+use Rattle.std.proofs.Common.{if◌then◌else◌, IsTrue, ◌↔◌}
 use Rattle.std.proofs.lemmas.List.Elements.{All-append, All-cons, All-get_or, All-nil}
 use Rattle.vms_base.specs.declared.headers.Header.{Header}
 use Rattle.vms_base.specs.declared.ids.CpuId.{CpuId}
@@ -19,6 +19,7 @@ use Rattle.vms_pcpu_core.specs.declared.steps.PcpuFacts.{PcpuFacts}
 use Rattle.vms_pcpu_core.specs.Histories.{percpu}
 use Rattle.vms_calls.specs.HeaderFacts.{facts_of}
 use Rattle.vms_seats.specs.Passes.{Pass}
+use Rattle.vms_script.specs.declared.lane_scripts.LaneItem.{LaneItem}
 use Rattle.vms_script.specs.FittingScripts.{Fits}
 use Rattle.vms_script.specs.PhaseScripts.{is_lane, lane_item, lane_items}
 use Rattle.vms_script.specs.Starts.{Start}
@@ -113,6 +114,16 @@ has_line-none lane (item ∷ items) none =
     by false false same none rest = rest none
     by true false same none rest = absurd cc
     by false true same none rest = absurd cc
+
+-- lines that are those of a script: there are some, or none
+pub some-lines : (script lines : List LaneItem) (empty : Bool) → lines ≡ script → (IsTrue empty ↔ (lines ≡ []))
+    → empty ≡ false → 0 < length script
+some-lines [] lines empty same told some = let none : IsTrue empty = told.1 same in absurd cc
+some-lines (line ∷ script) lines empty same told some = omega arith
+
+pub no-lines : (script lines : List LaneItem) (empty : Bool) → lines ≡ script → (IsTrue empty ↔ (lines ≡ []))
+    → empty ≡ true → length script ≤ 0
+no-lines script lines empty same told none = omega (arith, ap length (sym same ∙ told.0 none))
 
 -- the facts of tables that were made from a world
 module _ (header : Header) (tables : Tables) (w : World) (are : AreTables header tables) (made : AreMadeFrom w tables)

@@ -66,7 +66,7 @@ module _ (header : Header) (pressure normal : ZoneSize → ℕ → ℕ → Type 
         (passes_in done.passes) (passes_in job.passes) answers =
         subst (λ (script : List LaneItem). MakeLines header pressure normal (world_of tables) lane script
         (passes_in done.passes) (passes_in job.passes) answers) is.lines
-        (subst (λ (l : Lane). MakeLines header pressure normal (world_of tables) l job.script
+        (subst (λ (l : Lane). MakeLines header pressure normal (world_of tables) l job.lines
         (passes_in done.passes) (passes_in job.passes) answers) is.is run.lines) in
         record {
           first = job.passes;

@@ -71,18 +71,18 @@ module _ (header : Header) where
       (c : CpuId) (job : LaneJob) → IsStartOf header start w → Fits header start items → IsCpu header.layout c.number
       → IsJob header tables w items number (Cpu c) job → MayRunJob header tables job
   MayRunJob-fitting tables w start items number c job is fits c_in job_is = record {
-    acts = subst (λ (lane : Lane). All (λ (item : LaneItem). IsActOf header lane item.act) job.script) (sym job_is.is)
+    acts = subst (λ (lane : Lane). All (λ (item : LaneItem). IsActOf header lane item.act) job.lines) (sym job_is.is)
         (subst (All (λ (item : LaneItem). IsActOf header (Cpu c) item.act)) (sym job_is.lines)
         (lane-acts (Cpu c) items fits.known));
     ready = subst (λ (lane : Lane). AreReadyFor tables lane job.passes) (sym job_is.is) job_is.ready;
     may = by job.passes job_is.ready job_is.volumes;
   }
     where
-      room : LeaveRoom header w c.number (acts_in job.script)
+      room : LeaveRoom header w c.number (acts_in job.lines)
       room = subst (λ (lines : List LaneItem). LeaveRoom header w c.number (acts_in lines)) (sym job_is.lines)
           (LeaveRoom-fitting header w start items is fits c c_in)
 
       by : (passes : LanePasses) → AreReadyFor tables (Cpu c) passes → HaveVolumesFor header w (Cpu c) passes
-          → MayMakeActs tables (acts_in job.script) passes
-      by (OfCpu passes) ready volumes = HaveRoom-volumes w c passes job.script volumes room
+          → MayMakeActs tables (acts_in job.lines) passes
+      by (OfCpu passes) ready volumes = HaveRoom-volumes w c passes job.lines volumes room
       by (OfControl passes) ready volumes = absurd ready

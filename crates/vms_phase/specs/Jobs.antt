@@ -31,7 +31,7 @@ HaveVolumesFor header w _ _ = Unit {0}
 pub record IsJob (header : Header) (tables : Tables) (w : World) (items : List Item) (number : ℕ) (lane : Lane)
     (job : LaneJob) : Type 0 where
   pub is : job.lane ≡ lane
-  pub lines : job.script ≡ lane_items lane items
+  pub lines : job.lines ≡ lane_items lane items
   pub fresh : AreFresh number (passes_in job.passes)
   pub ready : AreReadyFor tables lane job.passes
   pub volumes : HaveVolumesFor header w lane job.passes
@@ -45,9 +45,9 @@ AreJobs header tables w items number _ _ = ⊥
 
 -- the lines of a job may be made: they are of its lane, whose passes may make them all
 pub record MayRunJob (header : Header) (tables : Tables) (job : LaneJob) : Type 0 where
-  pub acts : All (λ item. IsActOf header job.lane item.act) job.script
+  pub acts : All (λ item. IsActOf header job.lane item.act) job.lines
   pub ready : AreReadyFor tables job.lane job.passes
-  pub may : MayMakeActs tables (acts_in job.script) job.passes
+  pub may : MayMakeActs tables (acts_in job.lines) job.passes
 
 -- the main passes of these tables have begun these lanes, and these are their jobs, of which each may be run
 pub record HaveBegunJobs (header : Header) (tables : Tables) (w : World) (items : List Item) (lanes : List Lane)
@@ -61,9 +61,9 @@ pub record HaveBegunJobs (header : Header) (tables : Tables) (w : World) (items 
 pub record HasRunJob (header : Header) (pressure normal : ZoneSize → ℕ → ℕ → Type 0) (tables : Tables)
     (job : LaneJob) (done : LaneDone) : Type 0 where
   pub lane : done.lane ≡ job.lane
-  pub lines : MakeLines header pressure normal (world_of tables) job.lane job.script (passes_in done.passes)
+  pub lines : MakeLines header pressure normal (world_of tables) job.lane job.lines (passes_in done.passes)
       (passes_in job.passes) (map numbered_told done.answers.items)
-  pub spent : HaveSpentAll (acts_in job.script) done.passes job.passes
+  pub spent : HaveSpentAll (acts_in job.lines) done.passes job.passes
   pub ready : AreReadyFor tables job.lane done.passes
 
 -- jobs were run: there is a result for each, in the same order, unless no memory was found for it

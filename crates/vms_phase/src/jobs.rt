@@ -16,18 +16,18 @@ use vms_answers::NumberedAnswer;
 use vms_base::{CpuId, Header, Memory};
 use vms_calc::{Rule, Rules};
 use vms_gate::Gate;
-use vms_lane::{LanePasses, run_lane};
-use vms_script::{LaneScript, PhaseScript};
+use vms_lane::{LaneLines, LanePasses, run_lane};
+use vms_script::PhaseScript;
 use vms_tables::{MainPasses, Tables};
 use vms_text::Lane;
 use vms_world::World;
 
 /// A lane that is to run: its passes and its lines.
 #[derive(Drop)]
-pub struct LaneJob {
+pub struct LaneJob<'a> {
     pub lane: Lane,
     pub passes: LanePasses,
-    pub script: LaneScript,
+    pub lines: LaneLines<'a>,
 }
 
 /// A lane that has run: its passes, and what its lines answer.
@@ -46,18 +46,18 @@ pub fn run_job<G: Gate, R: Wait, N: Rule, P: Rule>(
     tables: &Tables,
     header: &Header,
     rules: &Rules<N, P>,
-    job: LaneJob,
+    job: LaneJob<'_>,
 ) -> Result<LaneDone, Memory>
     requires header { IsHeader header.now }
     requires tables { AreTables header.now tables.now }
     requires job { MayRunJob header.now tables.now job }
     ensures { IfOk result (λ done. HasRunJob header.now (P.answers rules.now.pressure)
-        (N.answers rules.now.normal) tables.now job done) }
+        (N.answers rules.now.normal) tables.now job.entry done) }
 {
     let LaneJob {
         lane,
         mut passes,
-        script,
+        lines,
     } = job;
     let answers = run_lane(
         rt,
@@ -68,7 +68,7 @@ pub fn run_job<G: Gate, R: Wait, N: Rule, P: Rule>(
         rules,
         &mut passes,
         lane,
-        &script,
+        &lines,
     )?;
     Ok(LaneDone {
         lane,
@@ -79,14 +79,14 @@ pub fn run_job<G: Gate, R: Wait, N: Rule, P: Rule>(
 
 /// Begins the passes of the lanes that have lines, from tables in which nothing was made yet: of the CPUs' lanes in
 /// ascending order, and then of the control lane. Returns the lanes with their passes and lines.
-pub fn begin_lanes(
+pub fn begin_lanes<'a>(
     alloc: Global,
     header: &Header,
     tables: &Tables,
     mains: &mut MainPasses,
     world: &World,
-    script: &PhaseScript,
-) -> Result<Vec<LaneJob>, Memory>
+    script: &'a PhaseScript,
+) -> Result<Vec<LaneJob<'a>>, Memory>
     requires tables { AreTables header.now tables.now }
     requires made { AreMadeFrom world.now tables.now }
     requires of { AreOf tables.now (mains_of mains.old) }
@@ -96,20 +96,20 @@ pub fn begin_lanes(
         (lanes_of header.now.layout script.now) (mains_of mains.new) jobs.items) }
 {
     let mut jobs = begin_cpu_lanes(alloc, header, tables, mains, world, script)?;
-    begin_control_lane(alloc, header, tables, mains, world, script, &mut jobs)?;
+    begin_control_lane(header, tables, mains, world, script, &mut jobs)?;
     Ok(jobs)
 }
 
 /// Begins the passes of the CPUs' lanes that have lines, in ascending order, from tables in which nothing was made yet.
 /// Returns the lanes with their passes and lines.
-pub fn begin_cpu_lanes(
+pub fn begin_cpu_lanes<'a>(
     alloc: Global,
     header: &Header,
     tables: &Tables,
     mains: &mut MainPasses,
     world: &World,
-    script: &PhaseScript,
-) -> Result<Vec<LaneJob>, Memory>
+    script: &'a PhaseScript,
+) -> Result<Vec<LaneJob<'a>>, Memory>
     requires tables { AreTables header.now tables.now }
     requires made { AreMadeFrom world.now tables.now }
     requires of { AreOf tables.now (mains_of mains.old) }
@@ -127,15 +127,15 @@ pub fn begin_cpu_lanes(
 }
 
 /// Begins the passes of a CPU's lane, if it has lines.
-fn begin_next(
+fn begin_next<'a>(
     alloc: Global,
     header: &Header,
     tables: &Tables,
     mains: &mut MainPasses,
     world: &World,
-    script: &PhaseScript,
+    script: &'a PhaseScript,
     cpu: CpuId,
-    jobs: &mut Vec<LaneJob>,
+    jobs: &mut Vec<LaneJob<'a>>,
 ) -> Result<(), Memory>
     requires tables { AreTables header.now tables.now }
     requires made { AreMadeFrom world.now tables.now }
@@ -147,27 +147,26 @@ fn begin_next(
         (lanes_below (suc cpu.number) script.now) (mains_of mains.new) jobs.new.items) }
 {
     let lane = Lane::Cpu(cpu);
-    if script.count_of(lane) > 0 {
-        let lines = script.lane_script(alloc, lane)?;
+    let lines = LaneLines::of(script, lane);
+    if !lines.is_empty() {
         let passes = begin_cpu(alloc, header, tables, mains, world, cpu)?;
         jobs.push(LaneJob {
             lane,
             passes: LanePasses::Cpu(passes),
-            script: lines,
+            lines,
         })?;
     }
     Ok(())
 }
 
 /// Begins the passes of the control lane, if it has lines.
-fn begin_control_lane(
-    alloc: Global,
+fn begin_control_lane<'a>(
     header: &Header,
     tables: &Tables,
     mains: &mut MainPasses,
     world: &World,
-    script: &PhaseScript,
-    jobs: &mut Vec<LaneJob>,
+    script: &'a PhaseScript,
+    jobs: &mut Vec<LaneJob<'a>>,
 ) -> Result<(), Memory>
     requires made { AreMadeFrom world.now tables.now }
     requires start { (start : Start) × IsStartOf header.now start world.now × Fits header.now start script.now }
@@ -176,14 +175,14 @@ fn begin_control_lane(
     ensures { OnOk result (HaveBegunJobs header.now tables.now world.now script.now
         (lanes_of header.now.layout script.now) (mains_of mains.new) jobs.new.items) }
 {
-    if script.count_of(Lane::Control) > 0 {
-        let lines = script.lane_script(alloc, Lane::Control)?;
-        let _ = lines.as_slice();
+    let lines = LaneLines::of(script, Lane::Control);
+    if !lines.is_empty() {
+        let _ = script.as_slice();
         let passes = begin_control(tables, mains);
         jobs.push(LaneJob {
             lane: Lane::Control,
             passes: LanePasses::Control(passes),
-            script: lines,
+            lines,
         })?;
     }
     Ok(())

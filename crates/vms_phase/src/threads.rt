@@ -21,21 +21,21 @@ pub fn run_jobs<G: Gate, R: Threads + Wait + Sync, N: Rule + Sync, P: Rule + Syn
     tables: &Tables,
     header: &Header,
     rules: &Rules<N, P>,
-    jobs: Vec<LaneJob>,
+    jobs: Vec<LaneJob<'_>>,
 ) -> Result<Vec<Result<LaneDone, Memory>>, Memory>
     requires header { IsHeader header.now }
     requires tables { AreTables header.now tables.now }
     requires jobs { All (MayRunJob header.now tables.now) jobs.items }
     ensures { IfOk result (λ results. HaveRunJobs header.now (P.answers rules.now.pressure)
-        (N.answers rules.now.normal) tables.now jobs.items results.items) }
+        (N.answers rules.now.normal) tables.now jobs.entry.items results.items) }
 {
     let results = thread::map_vec(
         rt,
         jobs,
-        &|job: LaneJob| -> Result<LaneDone, Memory>
+        &|job: LaneJob<'_>| -> Result<LaneDone, Memory>
             requires { IsHeader header.now × AreTables header.now tables.now × MayRunJob header.now tables.now job }
             ensures { IfOk result (HasRunJob header.entry.now (P.answers rules.entry.now.pressure)
-                (N.answers rules.entry.now.normal) tables.entry.now job) }
+                (N.answers rules.entry.now.normal) tables.entry.now job.entry) }
         { run_job(rt, alloc, gate, tables, header, rules, job) },
     )?;
     Ok(results)

@@ -1,108 +1,123 @@
--- Line by line the passes make the script.
-use Rattle.std.proofs.Common.{◌≡◌, ◌<◌, ◌≤◌, List, [], ◌++◌, length, map, get_or, pos, sym, ap, subst, arith}
-use Rattle.std.proofs.Common.{option_map, vec_capacity}
-use Rattle.vms_answers.specs.PhaseAnswers.{NumberedAnswer, with_answer}
+-- A line of the lane is made next; the lines of others leave what was made so far.
+use Rattle.std.proofs.Common.{◌≡◌, true, false, ◌+◌, ◌≤◌, List, [], ◌∷◌, drop, length, map, option_map, slice_index_or}
+use Rattle.std.proofs.Common.{pos, sym, subst, vec_capacity, vec_len, arith}
 use Rattle.vms_answers.specs.ToldAnswers.{answer_told, numbered_told}
-use Rattle.vms_line.specs.Laws.{IsActOf}
 use Rattle.vms_script.specs.declared.lane_scripts.LaneItem.{LaneItem}
-use Rattle.vms_tables.specs.Tables.{world_of}
+use Rattle.vms_script.specs.PhaseScripts.{lane_item, lane_items}
 use Rattle.vms_text.specs.declared.acts.Act.TheVariants.{Mod}
-use Rattle.vms_lane.specs.LanePasses.{AreLeftBy, MayMakeAct, passes_in}
-use Rattle.vms_lane.specs.Lines.{MakeAct}
-use Rattle.vms_lane.specs.Scripts.{MakeLines}
-use Rattle.vms_lane.proofs.ScriptTurns.{end-lines, end-spent, turn-lines, turn-may, turn-rest, turn-spent}
+use Rattle.vms_text.specs.declared.acts.Item.{Item}
+use Rattle.vms_text.specs.declared.acts.Lane.TheVariants.{Cpu}
+use Rattle.vms_lane.proofs.ScriptTurns.{MadeSoFar, lane_items-end, lane_items-other, lane_items-own, so_far-act}
+use Rattle.vms_lane.proofs.ScriptTurns.{so_far-lines, so_far-may, so_far-next, so_far-spent}
 use Rattle.vms_lane.proofs.lane_runs.run_lane.Goals as goal
+use Rattle.vms_lane.proofs.lane_runs.run_lane.Goals.{then-is_of, else-is_of}
 
 -- what stands where no line is read
-abbrev no_item : LaneItem
-no_item = record { number = 0; act = Mod (record { number = 0 }) (pos 0) }
-
-pub loop-item-init : goal.loop-item-init
-loop-item-init g c =
-    let made = c.in_ok-answers.ensures in
-    record {
-      ready = c.requires.passes;
-      may = c.requires.may;
-      few = omega (arith, made.len);
-      fits = subst (λ (items : List LaneItem). length items ≤ vec_capacity c.in_ok-answers.answers)
-          c.as_slice-items.ensures.items made.capacity;
-      lines = λ last more lines.
-          subst (λ (answers : List NumberedAnswer). MakeLines c.args.header.now
-          (g.P.Rule.answers c.args.rules.now.pressure) (g.N.Rule.answers c.args.rules.now.normal)
-          (world_of c.args.tables.now) c.args.lane c.args.script.now last (passes_in c.args.passes.now)
-          (answers ++ more)) (sym (ap (map numbered_told) made.items)) lines;
-      spent = λ last spent. spent;
-    }
+abbrev no_item : Item
+no_item = record {
+  number = 0;
+  lane = Cpu (record { number = 0 });
+  act = Mod (record { number = 0 }) (pos 0);
+}
 
 pub run_line-answer-requires : goal.run_line-answer-requires
 run_line-answer-requires g c =
-    let n = c.loop-item.item-index in
-    let same = c.as_slice-items.ensures.items in
-    let inside = subst (λ (items : List LaneItem). n < length items) same c.loop-item-test.true in
-    record {
-      header = c.requires.header;
-      tables = c.requires.tables;
-      passes = c.loop-item.invariant.ready;
-      act = subst (λ (items : List LaneItem). IsActOf c.args.header.now c.args.lane (get_or items n no_item).act)
-          (sym same) (c.requires.acts n no_item inside);
-      may = subst (λ (items : List LaneItem). MayMakeAct c.args.tables.now (get_or items n no_item).act
-          c.loop-item.passes) (sym same)
-          (turn-may c.args.script.now n no_item inside c.args.tables.now c.loop-item.passes c.loop-item.invariant.may);
-    }
-
-pub note-requires : goal.note-requires
-note-requires g c =
-    let inside = subst (λ (items : List LaneItem). c.loop-item.item-index < length items)
-    c.as_slice-items.ensures.items c.loop-item-test.true in
-    omega (arith, inside, c.loop-item.invariant.few, c.loop-item.invariant.fits)
-
-pub loop-item-preserved : goal.loop-item-preserved
-loop-item-preserved g c =
-    let n = c.loop-item.item-index in
-    let script = c.args.script.now in
-    let same = c.as_slice-items.ensures.items in
-    let inside = subst (λ (items : List LaneItem). n < length items) same c.loop-item-test.true in
-    let now = c.loop-item.passes in
-    let next = c.run_line-answer.new.passes in
     let header = c.args.header.now in
     let pressure = g.P.Rule.answers c.args.rules.now.pressure in
     let normal = g.N.Rule.answers c.args.rules.now.normal in
-    let w = world_of c.args.tables.now in
-    let answer = option_map answer_told c.run_line-answer.result in
-    let makes = subst (λ (items : List LaneItem). MakeAct header pressure normal w c.args.lane
-    (get_or items n no_item).act (passes_in next) (passes_in now) answer) same c.run_line-answer.ensures.makes in
-    let leaves = subst (λ (items : List LaneItem). AreLeftBy c.args.tables.now (get_or items n no_item).act next now)
-    same c.run_line-answer.ensures.leaves in
-    let noted = subst (λ (items : List LaneItem). map numbered_told c.note.new.answers.items
-    ≡ map numbered_told c.loop-item.answers.items ++ with_answer (get_or items n no_item).number answer []) same
-    c.note.ensures.answers in
+    let tables = c.args.tables.now in
+    let lane = c.args.lane in
+    let script = c.args.lines.now in
+    let own = c.lines.inside.lane in
+    let items = c.as_slice-item-items.result.now in
+    let n = c.loop-item.item-index in
+    let now = c.loop-item.passes in
+    let first = c.args.passes.now in
+    let told = map numbered_told c.loop-item.answers.items in
+    let count = vec_len c.loop-item.answers in
+    let room = vec_capacity c.loop-item.answers in
+    let here = slice_index_or items n no_item in
+    let rest = lane_items own (drop (n + 1) items) in
+    let so_far : MadeSoFar header pressure normal tables lane script (lane_item here ∷ rest) now first told count room =
+    subst (λ (left : List LaneItem). MadeSoFar header pressure normal tables lane script left now first told count room)
+    (lane_items-own own items n no_item c.loop-item-test.true (subst (λ b. b ≡ true) c.is_of.ensures c.if-is_of.true))
+    c.loop-item.invariant in
     record {
-      ready = c.run_line-answer.ensures.ready;
-      may = turn-rest script n no_item inside c.args.tables.now next now leaves c.loop-item.invariant.may;
-      few = omega (arith, c.note.ensures.len, c.loop-item.invariant.few);
-      fits = omega (arith, c.note.ensures.capacity, c.loop-item.invariant.fits);
-      lines = λ last more rest.
-          subst (λ (answers : List NumberedAnswer). MakeLines header pressure normal w c.args.lane script last
-          (passes_in c.args.passes.now) (answers ++ more)) (sym noted)
-          (turn-lines script n no_item inside header pressure normal w c.args.lane (passes_in next) (passes_in now)
-          (passes_in c.args.passes.now) answer (map numbered_told c.loop-item.answers.items) makes
-          c.loop-item.invariant.lines last more rest);
-      spent = λ last rest. turn-spent script n no_item inside c.args.tables.now next now c.args.passes.now leaves
-          c.loop-item.invariant.spent last rest;
+      header = c.requires.header;
+      tables = c.requires.tables;
+      passes = so_far.ready;
+      act = so_far-act header pressure normal tables lane script (lane_item here) rest now first told count room so_far;
+      may = so_far-may header pressure normal tables lane script (lane_item here) rest now first told count room so_far;
     }
+
+pub loop-item-preserved : goal.loop-item-preserved
+loop-item-preserved g c =
+    let header = c.args.header.now in
+    let pressure = g.P.Rule.answers c.args.rules.now.pressure in
+    let normal = g.N.Rule.answers c.args.rules.now.normal in
+    let tables = c.args.tables.now in
+    let lane = c.args.lane in
+    let script = c.args.lines.now in
+    let own = c.lines.inside.lane in
+    let items = c.as_slice-item-items.result.now in
+    let n = c.loop-item.item-index in
+    let now = c.loop-item.passes in
+    let first = c.args.passes.now in
+    let told = map numbered_told c.loop-item.answers.items in
+    let count = vec_len c.loop-item.answers in
+    let room = vec_capacity c.loop-item.answers in
+    let here = slice_index_or items n no_item in
+    let rest = lane_items own (drop (n + 1) items) in
+    elim c.if-is_of.branch [
+      | then-is_of w ↦
+          let so_far : MadeSoFar header pressure normal tables lane script (lane_item here ∷ rest) now first told count
+          room = subst (λ (left : List LaneItem). MadeSoFar header pressure normal tables lane script left now first told
+          count room) (lane_items-own own items n no_item c.loop-item-test.true (subst (λ b. b ≡ true) c.is_of.ensures w.if-is_of.true))
+          c.loop-item.invariant in
+          subst (λ passes. MadeSoFar header pressure normal tables lane script rest passes first
+          (map numbered_told c.if-is_of.answers.items) (vec_len c.if-is_of.answers) (vec_capacity c.if-is_of.answers))
+          (sym w.passes-is)
+          (subst (λ answers. MadeSoFar header pressure normal tables lane script rest w.run_line-answer.new.passes first
+          (map numbered_told answers.items) (vec_len answers) (vec_capacity answers)) (sym w.answers-is)
+          (so_far-next header pressure normal tables lane script (lane_item here) rest now first told count room so_far
+          w.run_line-answer.new.passes (option_map answer_told w.run_line-answer.result)
+          (map numbered_told w.note.new.answers.items) (vec_len w.note.new.answers) (vec_capacity w.note.new.answers)
+          w.run_line-answer.ensures.ready w.run_line-answer.ensures.makes w.run_line-answer.ensures.leaves
+          w.note.ensures.answers w.note.ensures.len w.note.ensures.capacity))
+      | else-is_of w ↦
+          subst (λ passes. MadeSoFar header pressure normal tables lane script rest passes first
+          (map numbered_told c.if-is_of.answers.items) (vec_len c.if-is_of.answers) (vec_capacity c.if-is_of.answers))
+          (sym w.passes-is)
+          (subst (λ answers. MadeSoFar header pressure normal tables lane script rest now first
+          (map numbered_told answers.items) (vec_len answers) (vec_capacity answers)) (sym w.answers-is)
+          (subst (λ (left : List LaneItem). MadeSoFar header pressure normal tables lane script left now first told count
+          room) (lane_items-other own items n no_item c.loop-item-test.true (subst (λ b. b ≡ false) c.is_of.ensures w.if-is_of.false))
+          c.loop-item.invariant))
+    ]
 
 pub returns : goal.returns
 returns g c =
+    let header = c.args.header.now in
+    let pressure = g.P.Rule.answers c.args.rules.now.pressure in
+    let normal = g.N.Rule.answers c.args.rules.now.normal in
+    let tables = c.args.tables.now in
+    let lane = c.args.lane in
+    let script = c.args.lines.now in
+    let own = c.lines.inside.lane in
+    let items = c.as_slice-item-items.result.now in
     let n = c.loop-item.item-index in
-    let script = c.args.script.now in
-    let past = subst (λ (items : List LaneItem). length items ≤ n) c.as_slice-items.ensures.items
-    c.loop-item-test.false in
+    let now = c.loop-item.passes in
+    let first = c.args.passes.now in
+    let told = map numbered_told c.loop-item.answers.items in
+    let count = vec_len c.loop-item.answers in
+    let room = vec_capacity c.loop-item.answers in
+    let past : length items ≤ n = omega (arith, c.loop-item-test.false) in
+    let so_far : MadeSoFar header pressure normal tables lane script [] now first told count room =
+    subst (λ (left : List LaneItem). MadeSoFar header pressure normal tables lane script left now first told count room)
+    (lane_items-end own items n past) c.loop-item.invariant in
     record {
-      makes = end-lines script n past c.args.header.now (g.P.Rule.answers c.args.rules.now.pressure)
-          (g.N.Rule.answers c.args.rules.now.normal) (world_of c.args.tables.now) c.args.lane
-          (passes_in c.loop-item.passes) (passes_in c.args.passes.now)
-          (map numbered_told c.loop-item.answers.items) c.are_live.ensures c.loop-item.invariant.lines;
-      spends = end-spent script n past c.loop-item.passes c.args.passes.now c.loop-item.invariant.spent;
-      ready = c.loop-item.invariant.ready;
+      makes = so_far-lines header pressure normal tables lane script now first told count room so_far c.are_live.ensures;
+      spends = so_far-spent header pressure normal tables lane script now first told count room so_far;
+      ready = so_far.ready;
       err = tt;
     }

@@ -1,25 +1,12 @@
-use Rattle.std.proofs.Common.{◌≤◌, List, ◌++◌, drop, length, map, vec_capacity, vec_len}
-use Rattle.vms_answers.specs.PhaseAnswers.{NumberedAnswer}
+-- Of the lines that are left those of the lane go on from what was made so far.
+use Rattle.std.proofs.Common.{drop, map, vec_capacity, vec_len}
 use Rattle.vms_answers.specs.ToldAnswers.{numbered_told}
-use Rattle.vms_tables.specs.Passes.{TablePasses}
-use Rattle.vms_tables.specs.Tables.{world_of}
-use Rattle.vms_lane.specs.declared.passes.LanePasses.{LanePasses}
-use Rattle.vms_lane.specs.LanePasses.{AreReadyFor, HaveSpentAll, MayMakeActs, passes_in}
-use Rattle.vms_lane.specs.Scripts.{MakeLines, acts_in}
+use Rattle.vms_script.specs.PhaseScripts.{lane_items}
+use Rattle.vms_lane.proofs.ScriptTurns.{MadeSoFar}
 use Rattle.vms_lane.proofs.lane_runs.run_lane.Given as goal
 
--- whatever the lines that are left make, with it the lines so far make the whole
 abbrev pub invariant-loop-item : goal.invariant-loop-item
-invariant-loop-item g l = record {
-  ready : AreReadyFor l.tables l.lane l.passes;
-  may : MayMakeActs l.tables (acts_in (drop l.item-index l.script)) l.passes;
-  few : vec_len l.answers ≤ l.item-index;
-  fits : length l.script ≤ vec_capacity l.answers;
-  lines : (last : TablePasses) (more : List NumberedAnswer) →
-      MakeLines l.header (g.P.Rule.answers l.rules.pressure) (g.N.Rule.answers l.rules.normal) (world_of l.tables)
-      l.lane (drop l.item-index l.script) last (passes_in l.passes) more →
-      MakeLines l.header (g.P.Rule.answers l.rules.pressure) (g.N.Rule.answers l.rules.normal) (world_of l.tables)
-      l.lane l.script last (passes_in l.fn.passes) (map numbered_told l.answers.items ++ more);
-  spent : (last : LanePasses) → HaveSpentAll (acts_in (drop l.item-index l.script)) last l.passes →
-      HaveSpentAll (acts_in l.script) last l.fn.passes;
-}
+invariant-loop-item g l =
+    MadeSoFar l.header (g.P.Rule.answers l.rules.pressure) (g.N.Rule.answers l.rules.normal) l.tables l.lane l.lines
+    (lane_items l.own (drop l.item-index l.item-items)) l.passes l.fn.passes (map numbered_told l.answers.items)
+    (vec_len l.answers) (vec_capacity l.answers)

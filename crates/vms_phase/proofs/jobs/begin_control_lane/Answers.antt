@@ -1,6 +1,7 @@
 -- The control lane's passes may begin, and its job stands next.
-use Rattle.std.proofs.Common.{◌<◌, ◌≤◌, List, length, sym, subst, arith, ◌∷◌, [], ◌++◌}
-use Rattle.vms_script.specs.PhaseScripts.{lane_items}
+use Rattle.std.proofs.Common.{◌<◌, ◌≤◌, List, length, ap, sym, subst, arith, ◌∷◌, [], ◌++◌}
+use Rattle.vms_script.specs.PhaseScripts.{IsLaneScript, lane_items}
+use Rattle.vms_script.proofs.LaneItems.{IsLaneScript-of}
 use Rattle.vms_tables.specs.Passes.{mains_of}
 use Rattle.vms_text.specs.declared.acts.Lane.{Lane}
 use Rattle.vms_text.specs.declared.acts.Lane.TheVariants.{Control}
@@ -9,14 +10,15 @@ use Rattle.vms_lane.specs.declared.passes.LanePasses.TheVariants.{Control as OfC
 use Rattle.vms_phase.specs.declared.jobs.LaneJob.{LaneJob}
 use Rattle.vms_phase.specs.Jobs.{HaveBegunJobs}
 use Rattle.vms_phase.proofs.ControlJobs.{HaveBegunJobs-control}
-use Rattle.vms_phase.proofs.JobLists.{control-apart, control-more, control-once, control-skip}
+use Rattle.vms_phase.proofs.JobLists.{control-apart, control-more, control-once, control-skip, no-lines, some-lines}
 use Rattle.vms_phase.proofs.jobs.begin_control_lane.Goals as goal
 
 pub begin_control-passes-requires-clause-apart : goal.begin_control-passes-requires-clause-apart
 begin_control-passes-requires-clause-apart c =
     let header = c.args.header.now in
     let items = c.args.script.now in
-    let some : 0 < length (lane_items Control items) = omega (arith, c.count_of.ensures) in
+    let some : 0 < length (lane_items Control items) = some-lines (lane_items Control items) c.of-lines.result
+    c.is_empty.result c.of-lines.ensures c.is_empty.ensures c.if-not-is_empty.true in
     let apart = control-apart header c.args.tables.now c.args.world.now items some in
     (lanes_below header.layout.cpus items, c.requires.below.begun, apart.0, apart.1)
 
@@ -26,24 +28,29 @@ returns-in_ok-push c =
     let tables = c.args.tables.now in
     let w = c.args.world.now in
     let items = c.args.script.now in
-    let some : 0 < length (lane_items Control items) = omega (arith, c.count_of.ensures) in
+    let some : 0 < length (lane_items Control items) = some-lines (lane_items Control items) c.of-lines.result
+    c.is_empty.result c.of-lines.ensures c.is_empty.ensures c.if-not-is_empty.true in
     let lanes = lanes_below header.layout.cpus items in
     let new = mains_of c.begin_control-passes.new.mains in
+    let kept : IsLaneScript (lane_items Control items) = IsLaneScript-of Control items c.as_slice.ensures.kept in
+    let few : length c.of-lines.result ≤ 1000000 = omega (arith, kept.few, ap length c.of-lines.ensures) in
     let start = c.requires.start in
     let job : LaneJob =
-    record { lane = Control; passes = OfControl c.begin_control-passes.result; script = c.in_ok-lines.lines } in
+    record { lane = Control; passes = OfControl c.begin_control-passes.result; lines = c.of-lines.result } in
     subst (λ (jobs : List LaneJob). HaveBegunJobs header tables w items (lanes_of header.layout items) new jobs)
     (sym c.in_ok-push.ensures.items)
     (subst (λ (ls : List Lane). HaveBegunJobs header tables w items ls new (c.args.jobs.now.items ++ job ∷ []))
     (control-more header tables w items some)
     (HaveBegunJobs-control header tables w items c.requires.made start.0 start.1 start.2 lanes
     (mains_of c.args.mains.now) c.args.jobs.now.items c.requires.below new c.begin_control-passes.result
-    c.begin_control-passes.ensures.begun c.in_ok-lines.lines c.in_ok-lines.ensures (control-once header tables w items some)
-    c.as_slice.ensures.kept.few
+    c.begin_control-passes.ensures.begun c.of-lines.result c.of-lines.ensures (control-once header tables w items some)
+    few
     (record { of = c.begin_control-passes.ensures.of; nothing = c.begin_control-passes.ensures.nothing })))
 
-pub returns-else-count_of-gt0 : goal.returns-else-count_of-gt0
-returns-else-count_of-gt0 c =
-    let none : length (lane_items Control c.args.script.now) ≤ 0 = omega (arith, c.count_of.ensures) in
+pub returns-else-not-is_empty : goal.returns-else-not-is_empty
+returns-else-not-is_empty c =
+    let none : length (lane_items Control c.args.script.now) ≤ 0 =
+    no-lines (lane_items Control c.args.script.now) c.of-lines.result c.is_empty.result c.of-lines.ensures
+    c.is_empty.ensures c.if-not-is_empty.false in
     control-skip c.args.header.now c.args.tables.now c.args.world.now c.args.script.now (mains_of c.args.mains.now)
     c.args.jobs.now.items c.requires.below none

@@ -1,5 +1,5 @@
 -- The lane's passes may begin, and its job stands next.
-use Rattle.std.proofs.Common.{suc, ◌<◌, ◌≤◌, List, length, refl, sym, subst, arith, [], ◌∷◌, ◌++◌}
+use Rattle.std.proofs.Common.{suc, ◌<◌, ◌≤◌, List, length, refl, sym, subst, [], ◌∷◌, ◌++◌}
 use Rattle.vms_script.specs.PhaseScripts.{lane_items}
 use Rattle.vms_tables.specs.Passes.{mains_of}
 use Rattle.vms_text.specs.declared.acts.Lane.{Lane}
@@ -9,13 +9,15 @@ use Rattle.vms_lane.specs.declared.passes.LanePasses.TheVariants.{Cpu as OfCpu}
 use Rattle.vms_phase.specs.declared.jobs.LaneJob.{LaneJob}
 use Rattle.vms_phase.specs.Jobs.{HaveBegunJobs, IsJob}
 use Rattle.vms_phase.proofs.JobLists.{AreFresh-next, HaveBegunBelow-skip, HaveBegunJobs-next, MayBeginLane-next}
-use Rattle.vms_phase.proofs.JobLists.{lanes-more}
+use Rattle.vms_phase.proofs.JobLists.{lanes-more, no-lines, some-lines}
 use Rattle.vms_phase.proofs.ReadyJobs.{MayRunJob-fitting}
 use Rattle.vms_phase.proofs.jobs.begin_next.Goals as goal
 
 pub begin_cpu-requires-clause-may : goal.begin_cpu-requires-clause-may
 begin_cpu-requires-clause-may c =
-    let some : 0 < length (lane_items (Cpu c.args.cpu) c.args.script.now) = omega (arith, c.count_of.ensures) in
+    let some : 0 < length (lane_items (Cpu c.args.cpu) c.args.script.now) =
+    some-lines (lane_items (Cpu c.args.cpu) c.args.script.now) c.of-lines.result c.is_empty.result c.of-lines.ensures
+    c.is_empty.ensures c.if-not-is_empty.true in
     let start = c.requires.start in (
       lanes_below c.args.cpu.number c.args.script.now,
       MayBeginLane-next c.args.header.now c.args.tables.now c.args.world.now c.args.script.now c.args.cpu
@@ -29,16 +31,18 @@ returns-in_ok-push c =
     let tables = c.args.tables.now in
     let w = c.args.world.now in
     let items = c.args.script.now in
-    let some : 0 < length (lane_items (Cpu c.args.cpu) items) = omega (arith, c.count_of.ensures) in
+    let some : 0 < length (lane_items (Cpu c.args.cpu) items) =
+    some-lines (lane_items (Cpu c.args.cpu) items) c.of-lines.result c.is_empty.result c.of-lines.ensures
+    c.is_empty.ensures c.if-not-is_empty.true in
     let lanes = lanes_below c.args.cpu.number items in
     let mains = mains_of c.args.mains.now in
     let new = mains_of c.begin_cpu.new.mains in
     let job : LaneJob =
-    record { lane = Cpu c.args.cpu; passes = OfCpu c.in_ok-passes.passes; script = c.in_ok-lines.lines } in
+    record { lane = Cpu c.args.cpu; passes = OfCpu c.in_ok-passes.passes; lines = c.of-lines.result } in
     let start = c.requires.start in
     let is : IsJob header tables w items (suc (length lanes)) (Cpu c.args.cpu) job = record {
       is = refl;
-      lines = c.in_ok-lines.ensures;
+      lines = c.of-lines.ensures;
       fresh = AreFresh-next header tables w items lanes mains c.args.jobs.now.items c.requires.below (Cpu c.args.cpu)
           new job c.in_ok-passes.ensures.begun;
       ready = c.in_ok-passes.ensures.ready;
@@ -53,8 +57,10 @@ returns-in_ok-push c =
     (MayRunJob-fitting header tables w start.0 items (suc (length lanes)) c.args.cpu job start.1 start.2
     c.requires.cpu is)))
 
-pub returns-else-count_of-gt0 : goal.returns-else-count_of-gt0
-returns-else-count_of-gt0 c =
-    let none : length (lane_items (Cpu c.args.cpu) c.args.script.now) ≤ 0 = omega (arith, c.count_of.ensures) in
+pub returns-else-not-is_empty : goal.returns-else-not-is_empty
+returns-else-not-is_empty c =
+    let none : length (lane_items (Cpu c.args.cpu) c.args.script.now) ≤ 0 =
+    no-lines (lane_items (Cpu c.args.cpu) c.args.script.now) c.of-lines.result c.is_empty.result c.of-lines.ensures
+    c.is_empty.ensures c.if-not-is_empty.false in
     HaveBegunBelow-skip c.args.header.now c.args.tables.now c.args.world.now c.args.script.now c.args.cpu
     (mains_of c.args.mains.now) c.args.jobs.now.items c.requires.below none
