@@ -6,3 +6,5 @@
 mod counters;
 #[cfg(test)]
 mod events;
+#[cfg(test)]
+mod percpu_calls;
