@@ -2,9 +2,15 @@
 thresholds, balance turns and CPU hotplug, in phases of 10 to 100,000 lines, with reports and a few lines that are
 refused.
 
-    phases.py [SEED [LINES]]
+    phases.py [SEED [LINES [CPUS [PHASE]]]]
 
-There are 1,000,000 lines where LINES isn't given. The same SEED, 1 where none is given, gives the same trace.
+There are 1,000,000 lines where LINES isn't given, and 16 CPUs where CPUS isn't given. The same SEED, 1 where none is
+given, gives the same trace.
+
+With PHASE, PHASE lines stand before each boundary line. A few of them are refused or ignored, as in other traces. The
+last phase has the lines that are left, so a PHASE of LINES makes one phase. At most one CPU is away at a time, so that
+nearly all lanes have lines, and fewer boundary lines are reports, of which an input may have 1,000. It may have 10,000
+phases, so a trace of 1,000,000 lines wants a PHASE of at least 100.
 """
 import random
 import sys
@@ -16,27 +22,41 @@ NODE = ("nr_inactive_anon nr_active_anon nr_inactive_file nr_active_file nr_unev
         "nr_file_pages nr_dirty").split()
 COUNTERS = "files inodes dentries".split()
 REPORTS = ["report vmstat", "report zoneinfo", "report totals", "report counters"]
-CPUS = 16
-# Each with its free pages at first, near which it is kept: about where the watermark tests change their answers.
-ZONES = {"0 DMA32": ("65536 200 260 320", 700), "0 Normal": ("524288 1000 1250 1500", 2400),
-         "1 Normal": ("1048576 100 600 1100", 2100), "1 Movable": ("16384 50 80 110", 200)}
-HEAD = ["vmtrace 2", f"cpus {CPUS}", "item zone area4", "item zone area7", "item node slab bytes"]
-HEAD += [f"zone {zone} {size}" for zone, (size, _) in ZONES.items()]
-HEAD += [f"base {zone} nr_free_pages {free}" for zone, (_, free) in ZONES.items()]
-HEAD += ["base 1 node nr_file_pages 5000", "counter files", "counter inodes 1", "counter dentries 300", "go"]
+# Each with the pages by which its free pages are above `high` on 16 CPUs, at first and later on: about where the
+# watermark tests change their answers.
+ZONES = {"0 DMA32": ("65536 200 260 320", 380), "0 Normal": ("524288 1000 1250 1500", 900),
+         "1 Normal": ("1048576 100 600 1100", 1000), "1 Movable": ("16384 50 80 110", 90)}
+
+
+def free_pages(zone, cpus):
+    """About how many free pages a zone has."""
+    size, above = ZONES[zone]
+    return int(size.split()[-1]) + above * cpus // 16
+
+
+def head(cpus):
+    """The lines of the header."""
+    lines = ["vmtrace 2", f"cpus {cpus}", "item zone area4", "item zone area7", "item node slab bytes"]
+    lines += [f"zone {zone} {size}" for zone, (size, _) in ZONES.items()]
+    lines += [f"base {zone} nr_free_pages {free_pages(zone, cpus)}" for zone in ZONES]
+    return lines + ["base 1 node nr_file_pages 5000", "counter files", "counter inodes 1", "counter dentries 300", "go"]
 
 
 class Machine:
     """What the trace has made of the machine, so that most of its lines count."""
 
-    def __init__(self, seed):
+    def __init__(self, seed, cpus, phase):
         self.rng = random.Random(seed)
         self.draw = self.rng.randrange
         self.pick = self.rng.choice
-        self.online = list(range(CPUS))
+        self.cpus = cpus
+        self.phase = phase
+        # As many CPUs stay online at least.
+        self.least = max(1, cpus - 1) if phase else 2
+        self.online = list(range(cpus))
         self.dead = []
         self.absent = []
-        self.free = {zone: free for zone, (_, free) in ZONES.items()}
+        self.free = {zone: free_pages(zone, cpus) for zone in ZONES}
 
     def counter(self):
         if self.draw(3):
@@ -48,7 +68,7 @@ class Machine:
         if kind < 5:
             zone = self.pick(list(ZONES))
             pages = self.draw(97) if self.draw(5) else self.draw(3)
-            if (self.free[zone] > ZONES[zone][1]) != (self.draw(4) == 0):
+            if (self.free[zone] > free_pages(zone, self.cpus)) != (self.draw(4) == 0):
                 pages = -pages
             self.free[zone] += pages
             return f"{lane} mod {zone} nr_free_pages {pages}"
@@ -83,7 +103,7 @@ class Machine:
         return self.pick([f"{lane} mod {self.counter()} 0{self.draw(9)}", f"c9{self.draw(9)} inc {self.counter()}",
                           f"{lane} inc 0 node slab", f"{lane} inc {self.counter()} 1", f"{lane} sum nothing",
                           f"online {self.pick(self.online)}", f"k dead {self.pick(self.online)}",
-                          f"c{self.draw(CPUS)} sum files"])
+                          f"c{self.draw(self.cpus)} sum files"])
 
     def line(self):
         lane = f"c{self.pick(self.online)}"
@@ -100,7 +120,7 @@ class Machine:
         if kind < 880:
             return f"{either} evsum {self.pick(EVENTS)}"
         if kind < 905:
-            return f"{either} fold {self.draw(CPUS)}"
+            return f"{either} fold {self.draw(self.cpus)}"
         if kind < 930:
             return f"{lane} fold {lane[1:]}"
         if kind < 950:
@@ -120,7 +140,7 @@ class Machine:
 
     def boundary(self):
         kind = self.draw(10)
-        if kind < 3 and len(self.online) > 2:
+        if kind < 3 and len(self.online) > self.least:
             cpu = self.online.pop(self.draw(len(self.online)))
             self.dead.append(cpu)
             return f"offline {cpu}"
@@ -128,20 +148,33 @@ class Machine:
             cpu = self.absent.pop(self.draw(len(self.absent)))
             self.online.append(cpu)
             return f"online {cpu}"
-        return self.pick(["sync", "sync", "flush", self.pick(REPORTS)])
+        return self.pick(["sync", "sync", "flush", self.pick(REPORTS)] + ["sync"] * (4 if self.phase else 0))
+
+    def length(self):
+        """How many lines the next phase has."""
+        return self.phase or int(10 ** (1 + 4 * self.rng.random()))
+
+    def body(self, lines):
+        """So many lines of phases and the boundary lines between them."""
+        left = self.phase
+        for _ in range(lines):
+            if left:
+                yield self.line()
+                left -= 1
+            else:
+                yield self.boundary()
+                left = self.length()
 
 
 def main():
-    seed, lines = (int(word) for word in (sys.argv[1:] + ["1", "1000000"][len(sys.argv) - 1:])[:2])
-    machine = Machine(seed)
+    seed, lines, cpus, phase = (int(word) for word in sys.argv[1:] + ["1", "1000000", "16", "0"][len(sys.argv) - 1:])
+    begin = head(cpus)
     out = sys.stdout
-    for text in HEAD[:lines]:
+    for text in begin[:lines]:
         out.write(text + "\n")
-    left = 0
-    for _ in range(lines - len(HEAD) - len(REPORTS)):
-        out.write((machine.line() if left else machine.boundary()) + "\n")
-        left = left - 1 if left else int(10 ** (1 + 4 * machine.rng.random()))
-    for text in REPORTS[:max(0, lines - len(HEAD))]:
+    for text in Machine(seed, cpus, phase).body(lines - len(begin) - len(REPORTS)):
+        out.write(text + "\n")
+    for text in REPORTS[:max(0, lines - len(begin))]:
         out.write(text + "\n")
 
 
