@@ -209,7 +209,7 @@ impl Input {
         &mut self,
         header: &Header,
         out: &mut Output,
-        mut take: impl FnMut(&mut Text, u64, Result<Line, Cause>),
+        mut take: impl FnMut(&mut Output, u64, Result<Line, Cause>) -> io::Result<()>,
     ) -> Result<Tally, Failure> {
         let mut judge = Judge::new(header);
         let mut tally = Tally::default();
@@ -220,10 +220,8 @@ impl Input {
                 Ok(line) => tally.add(line)?,
                 Err(_) => tally.refused += 1,
             }
-            take(&mut out.held, self.number, judged);
-            if out.held.0.len() > BUFFER {
-                out.hand_on()?;
-            }
+            take(out, self.number, judged)?;
+            out.hand_on_much()?;
         }
         Ok(tally)
     }
@@ -294,6 +292,12 @@ impl Output {
     fn make() -> io::Result<Output> {
         let sink = File::from(io::stdout().as_fd().try_clone_to_owned()?);
         Ok(Output { sink, held: Text(Vec::with_capacity(2 * BUFFER)) })
+    }
+
+    /// Writes what is held, if it is much.
+    #[inline]
+    pub fn hand_on_much(&mut self) -> io::Result<()> {
+        if self.held.0.len() > BUFFER { self.hand_on() } else { Ok(()) }
     }
 
     /// Writes what is held. It isn't tried again if that fails.

@@ -1,15 +1,18 @@
-//! The four reports of `replay`, for the plain program: the lines after `line N: report KIND`.
+//! The four reports, for the plain programs: the lines after `line N: report KIND`.
 
 use crate::commands::Text;
+use crate::counters::Counters;
 use crate::names::EVENTS;
-use crate::trace::{Header, KINDS, MARKS};
-use crate::world::World;
+use crate::trace::{KINDS, MARKS};
 
-/// The reports in the order of `trace::REPORTS`.
-pub const WRITERS: [fn(&mut Text, &Header, &World); 4] = [vmstat, zoneinfo, totals, counters];
+/// Writes the report of this kind. They stand in the order of `trace::REPORTS`.
+pub fn write<C: Counters>(out: &mut Text, world: &C, kind: usize) {
+    [vmstat, zoneinfo, totals, counters][kind](out, world);
+}
 
 /// What the system shows of each item and event.
-fn vmstat(out: &mut Text, header: &Header, world: &World) {
+fn vmstat<C: Counters>(out: &mut Text, world: &C) {
+    let header = world.limits().header;
     for (class, is_node) in [(0, false), (header.positions(), true)] {
         for (position, name) in header.names(is_node).iter().enumerate() {
             unsigned(out, name, world.system_value(class + position));
@@ -24,7 +27,8 @@ fn vmstat(out: &mut Text, header: &Header, world: &World) {
 }
 
 /// The zones, then the nodes, each with what its CPUs hold.
-fn zoneinfo(out: &mut Text, header: &Header, world: &World) {
+fn zoneinfo<C: Counters>(out: &mut Text, world: &C) {
+    let header = world.limits().header;
     let present = world.present_cpus();
     for (place, zone) in header.zones.iter().enumerate() {
         node(out, zone.node);
@@ -39,17 +43,17 @@ fn zoneinfo(out: &mut Text, header: &Header, world: &World) {
         unsigned(out, "  managed", zone.managed);
         unsigned(out, "  drift mark", world.mark(place));
         out.text(b"  protection");
-        for pages in world.reserves(place) {
+        for pages in world.limits().reserves[place] {
             out.text(b" ");
             out.number(pages);
         }
         out.text(b"\n");
-        items(out, header, world, place, &present);
+        items(out, world, place, &present);
     }
     for (n, &number) in header.nodes.iter().enumerate() {
         node(out, number);
         out.text(b"all zones\n");
-        items(out, header, world, header.zones.len() + n, &present);
+        items(out, world, header.zones.len() + n, &present);
     }
 }
 
@@ -60,7 +64,8 @@ fn node(out: &mut Text, number: u64) {
 }
 
 /// The items of a place, and what each CPU holds of them.
-fn items(out: &mut Text, header: &Header, world: &World, place: usize, present: &[(usize, bool)]) {
+fn items<C: Counters>(out: &mut Text, world: &C, place: usize, present: &[(usize, bool)]) {
+    let header = world.limits().header;
     let names = header.names(header.is_node(place));
     let first = place << header.shift();
     for (position, name) in names.iter().enumerate() {
@@ -82,8 +87,9 @@ fn items(out: &mut Text, header: &Header, world: &World, place: usize, present: 
 }
 
 /// What each counter adds up to, with what all CPUs hold of it.
-fn totals(out: &mut Text, header: &Header, world: &World) {
-    for place in 0..header.zones.len() + header.nodes.len() {
+fn totals<C: Counters>(out: &mut Text, world: &C) {
+    let header = world.limits().header;
+    for place in 0..header.places() {
         for position in 0..header.names(header.is_node(place)).len() {
             let counter = (place << header.shift()) + position;
             signed(out, header.words_of(counter), world.total(counter));
@@ -100,7 +106,8 @@ fn totals(out: &mut Text, header: &Header, world: &World) {
 }
 
 /// The percpu counters: their shared parts, and the local parts of the CPUs that are online or dead.
-fn counters(out: &mut Text, header: &Header, world: &World) {
+fn counters<C: Counters>(out: &mut Text, world: &C) {
+    let header = world.limits().header;
     let present = world.present_cpus();
     for (counter, declared) in header.counters.iter().enumerate() {
         out.text(declared.name.as_bytes());

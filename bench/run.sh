@@ -1,14 +1,19 @@
 #!/usr/bin/env bash
-# Measures the proved program beside the same job in plain Rust, bench/replay.rs or bench/check.rs, on a trace of
-# 1,000,000 lines: for `replay` changes of counters (bench/changes.py), for `check` lines of every form
-# (bench/mixed.py).
+# Measures the proved program beside the same job in plain Rust, bench/replay.rs, bench/check.rs or bench/run.rs, on a
+# trace of 1,000,000 lines: for `replay` changes of counters (bench/changes.py), for `check` lines of every form
+# (bench/mixed.py), for `run` lines of every kind on 8 CPUs (bench/phases.py), in phases of 200, then of 10,000, and
+# then of 1,000,000 lines.
 #
-#     bench/run.sh replay|check [N]
+#     bench/run.sh replay|check|run [N]
 #
 # Both read the trace from a file and write to /dev/null, N times each (21 where no N is given), one after the other in
 # turn. Printed are the median wall time of each, from start to end of its process, the ratio of the medians, and the
 # most memory that each held (VmHWM of /proc, read through one more run that isn't timed). The status is 1 if the two
 # write different outputs or end with different statuses, and 2 if there is nothing to measure.
+#
+# For `run` the plain program comes in two forms: `plain` starts a thread for each lane and phase, `standing` has a
+# thread for each lane, which waits for its lines of each phase. What is printed may differ from run to run. Compared
+# are the statuses, and what bench/agree.py compares.
 #
 # Needed are Linux, bash, python3, rustc, and the proved program, which `./vozhkell replay < examples/first.vmtrace`
 # builds. Another program may be named in VOZHKELL. Times vary with what else the machine does: with the plain program
@@ -21,44 +26,71 @@ command=${1:-}
 rounds=${2:-21}
 proved=${VOZHKELL:-$top/crates/vozhkell/out/vozhkell}
 
-if ! [[ $command =~ ^(replay|check)$ && $rounds =~ ^[1-9][0-9]*$ ]]; then
-    echo "usage: bench/run.sh replay|check [N]" >&2
+if ! [[ $command =~ ^(replay|check|run)$ && $rounds =~ ^[1-9][0-9]*$ ]]; then
+    echo "usage: bench/run.sh replay|check|run [N]" >&2
     exit 2
 fi
 if ! [ -x "$proved" ]; then
     echo "bench/run.sh: there is no $proved: build it by ./vozhkell replay < examples/first.vmtrace" >&2
     exit 2
 fi
+unset STANDING_THREADS
 work=$(mktemp -d) || exit 2
 trap 'rm -rf "$work"' EXIT
-rustc -O --edition 2021 -o "$work/plain" "$top/bench/$command.rs" || exit 2
+flags=(-O --edition 2021)
+# The proved program is built for this processor.
+[ "$command" = run ] && flags+=(-C target-cpu=x86-64-v2)
+rustc "${flags[@]}" -o "$work/plain" "$top/bench/$command.rs" || exit 2
 
-declare -A generators=([replay]=changes [check]=mixed)
-python3 -B "$top/bench/${generators[$command]}.py" >"$work/trace" || exit 2
+# compared: both programs write the same of the trace and end with the same status.
+compared() {
+    local proved_status plain_status
+    "$proved" "$command" <"$work/trace" >"$work/proved.out"
+    proved_status=$?
+    "$work/plain" "$command" <"$work/trace" >"$work/plain.out"
+    plain_status=$?
+    if ! cmp "$work/proved.out" "$work/plain.out" || [ $proved_status != $plain_status ]; then
+        echo "the outputs or statuses differ: proved $proved_status, plain $plain_status" >&2
+        return 1
+    fi
+    echo "both write: $(tail -n 1 "$work/proved.out"), status $proved_status"
+}
 
-"$proved" "$command" <"$work/trace" >"$work/proved.out"
-proved_status=$?
-"$work/plain" "$command" <"$work/trace" >"$work/plain.out"
-plain_status=$?
-if ! cmp "$work/proved.out" "$work/plain.out" || [ $proved_status != $plain_status ]; then
-    echo "the outputs or statuses differ: proved $proved_status, plain $plain_status" >&2
-    exit 1
-fi
-echo "both write: $(tail -n 1 "$work/proved.out"), status $proved_status"
+# runs_compared LINES: the same of runs, but for what differs from run to run.
+runs_compared() {
+    local proved_status plain_status standing_status
+    "$proved" run <"$work/trace" >"$work/proved.out"
+    proved_status=$?
+    "$work/plain" run <"$work/trace" >"$work/plain.out"
+    plain_status=$?
+    STANDING_THREADS=1 "$work/plain" run <"$work/trace" >"$work/standing.out"
+    standing_status=$?
+    if ! python3 -B "$top/bench/agree.py" "$work"/{trace,proved.out,plain.out,standing.out} ||
+        [ $proved_status != $plain_status ] || [ $proved_status != $standing_status ]; then
+        echo "phases of $1 lines: the outputs or statuses differ:" \
+            "proved $proved_status, plain $plain_status, standing $standing_status" >&2
+        return 1
+    fi
+    echo "phases of $1 lines: all write: $(tail -n 1 "$work/proved.out"), status $proved_status"
+}
 
-exec 3<<'PYTHON'
+cat >"$work/measure.py" <<'PYTHON'
+import os
 import statistics
 import subprocess
 import sys
 import time
 
 rounds, trace, command = int(sys.argv[1]), sys.argv[2], sys.argv[3]
-programs = {"proved": sys.argv[4], "plain": sys.argv[5]}
+programs = {"proved": (sys.argv[4], {}), "plain": (sys.argv[5], {})}
+if command == "run":
+    programs["standing"] = (sys.argv[5], {"STANDING_THREADS": "1"})
 
 
 def start(program):
+    path, environment = program
     with open(trace, "rb") as text:
-        return subprocess.Popen([program, command], stdin=text, stdout=subprocess.DEVNULL)
+        return subprocess.Popen([path, command], stdin=text, stdout=subprocess.DEVNULL, env=os.environ | environment)
 
 
 def seconds(program):
@@ -82,11 +114,32 @@ for _ in range(rounds):
     for name, program in programs.items():
         times[name].append(seconds(program))
 medians = {name: statistics.median(taken) for name, taken in times.items()}
-for name, program in programs.items():
-    print(f"{name}: median {1000 * medians[name]:.1f} ms of {rounds} runs, "
-          f"least {1000 * min(times[name]):.1f} ms, peak memory {most_memory(program) / 1024:.1f} MiB")
 least = {name: min(taken) for name, taken in times.items()}
-print(f"proved / plain: {medians['proved'] / medians['plain']:.2f} by medians, "
-      f"{least['proved'] / least['plain']:.2f} by least times")
+memory = {name: most_memory(program) for name, program in programs.items()}
+for name in programs:
+    print(f"{name}: median {1000 * medians[name]:.1f} ms of {rounds} runs, "
+          f"least {1000 * least[name]:.1f} ms, peak memory {memory[name] / 1024:.1f} MiB")
+for name in list(programs)[1:]:
+    ratios = f"{medians['proved'] / medians[name]:.2f} by medians, {least['proved'] / least[name]:.2f} by least times"
+    if command == "run":
+        ratios += f", {memory['proved'] / memory[name]:.2f} by peak memory"
+    print(f"proved / {name}: {ratios}")
 PYTHON
-python3 /dev/fd/3 "$rounds" "$work/trace" "$command" "$proved" "$work/plain"
+
+measured() { python3 "$work/measure.py" "$rounds" "$work/trace" "$command" "$proved" "$work/plain"; }
+
+case $command in
+    replay | check)
+        declare -A generators=([replay]=changes [check]=mixed)
+        python3 -B "$top/bench/${generators[$command]}.py" >"$work/trace" || exit 2
+        compared || exit 1
+        measured
+        ;;
+    run)
+        for lines in 200 10000 1000000; do
+            python3 -B "$top/bench/phases.py" 1 1000000 8 $lines >"$work/trace" || exit 2
+            runs_compared $lines || exit 1
+            measured || exit 2
+        done
+        ;;
+esac

@@ -199,6 +199,17 @@ pub enum Act {
     Kswapd(usize, u64, u64),
 }
 
+impl Act {
+    /// Whether a line with this act answers something.
+    pub fn answers(self) -> bool {
+        use Act::*;
+        matches!(
+            self,
+            Val(_) | Snap(_) | Sys(_) | EvSum(_) | Rough(_) | Sum(_) | Cmp(..) | Lim(..) | Water(..) | Kswapd(..)
+        )
+    }
+}
+
 #[derive(Clone, Copy)]
 pub enum Line {
     Blank,
@@ -345,8 +356,19 @@ impl Header {
         &self.class(node).words
     }
 
+    /// How many zones and nodes there are.
+    pub fn places(&self) -> usize {
+        self.zones.len() + self.nodes.len()
+    }
+
     pub fn is_node(&self, place: usize) -> bool {
         place >= self.zones.len()
+    }
+
+    /// The item of a counter: those of zones come first, then those of nodes, `positions` each.
+    pub fn item_of(&self, counter: usize) -> usize {
+        let class = if self.is_node(counter >> self.shift()) { self.positions() } else { 0 };
+        class + (counter & (self.positions() - 1))
     }
 
     fn zone(&self, node: u64, word: &[u8]) -> Option<usize> {
