@@ -1,6 +1,6 @@
 -- Each command: what it answers is what its words say.
 use Rattle.std.proofs.Common.{Some, ap, map, string_bytes, refl, sym, ◌∙◌}
-use Rattle.vms_tool.proofs.Saying.{under_check, under_gen, under_none, under_replay}
+use Rattle.vms_tool.proofs.Saying.{under_check, under_gen, under_none, under_replay, under_run}
 use Rattle.vms_tool.specs.declared.naming.Command.{Command}
 use Rattle.vms_tool.proofs.commands.tool.Goals as goal
 
@@ -19,6 +19,14 @@ returns-in-Some-Replay-clause-answers g c =
     c.tool_replay.result c.args.histories.now c.args.histories.now
     (sym c.named_by.ensures.named ∙ c.in-Some-Replay.is
     ∙ ap (λ (named : Command). Some named) c.in-Some-Replay.field-0-is) refl c.tool_replay.ensures
+
+pub returns-in-Some-Run-clause-answers : goal.returns-in-Some-Run-clause-answers
+returns-in-Some-Run-clause-answers g c =
+    under_run g.S.Source.remaining g.S.Source.faults g.K.Sink.written g.K.Sink.faults c.args.src.now
+    c.tool_run.new.src c.args.out.now c.tool_run.new.out (map (λ word. string_bytes word) c.args.words.now)
+    c.tool_run.result c.args.histories.now c.tool_run.new.histories
+    (sym c.named_by.ensures.named ∙ c.in-Some-Run.is
+    ∙ ap (λ (named : Command). Some named) c.in-Some-Run.field-0-is) c.tool_run.ensures
 
 pub returns-in-Some-Gen-clause-answers : goal.returns-in-Some-Gen-clause-answers
 returns-in-Some-Gen-clause-answers g c =
