@@ -1,4 +1,4 @@
--- What a pass is after its calls, and that it carries nothing.
+-- For other crates too: what a pass is after its calls, and that it carries nothing.
 use Rattle.std.proofs.Common.{◌≡◌, ℕ, List, [], ◌∷◌, Option, refl, sym, ◌∙◌, ap, subst, arith}
 use Rattle.std.proofs.lemmas.Int.{ints}
 use Rattle.vms_base.specs.declared.ids.CpuId.{CpuId}

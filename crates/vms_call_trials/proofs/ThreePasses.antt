@@ -1,4 +1,5 @@
--- Three passes begin, work while the others act, and end: what the main pass knows at each of its steps.
+-- For other crates too: three passes begin, work while the others act, and end. What the main pass knows at each of its
+-- steps.
 use Rattle.std.proofs.Common.{◌≡◌, ◌≢◌, ℕ, nat_eq, if◌then◌else◌, Bool, true, false, true≢false, List, [], ◌∷◌}
 use Rattle.std.proofs.Common.{Option, Some, None, refl, ap, sym, ◌∙◌}
 use Rattle.vms_base.specs.declared.ids.CpuId.{CpuId}

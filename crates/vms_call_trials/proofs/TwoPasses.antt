@@ -1,4 +1,5 @@
--- Two passes begin, work while the other acts, and end: what the main pass knows at each of its steps.
+-- For other crates too: two passes begin, work while the other acts, and end. What the main pass knows at each of its
+-- steps.
 use Rattle.std.proofs.Common.{◌≡◌, ◌≢◌, ℕ, suc, nat_eq, if◌then◌else◌, Bool, true, false, true≢false, List, [], ◌∷◌, ◌++◌}
 use Rattle.std.proofs.Common.{Option, None, refl, ap, sym, ◌∙◌, subst, append-nil}
 use Rattle.vms_base.specs.declared.ids.CpuId.{CpuId}

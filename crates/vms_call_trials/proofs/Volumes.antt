@@ -1,4 +1,4 @@
--- The volumes with which two passes begin on CPUs that have changed nothing.
+-- For other crates too: the volumes with which two passes begin on CPUs that have changed nothing.
 use Rattle.std.proofs.Common.{◌≡◌, ℕ, ◌<◌, ◌≤◌, List, [], ◌∷◌, get_or, length, replicate, Option, refl, sym, subst}
 use Rattle.std.proofs.Common.{arith, ⊎_elim}
 use Rattle.std.proofs.lemmas.Bool.{cases_lt}
