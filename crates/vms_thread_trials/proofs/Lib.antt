@@ -1,0 +1,3 @@
+pub mod IdleCalls
+pub mod FirstCounters
+pub mod FirstPuts

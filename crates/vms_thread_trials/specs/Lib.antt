@@ -1,0 +1,2 @@
+pub mod IdleCalls
+pub mod Machines
