@@ -1,0 +1,45 @@
+-- A pass begins, works while others act, and ends: then none lives.
+use Rattle.std.proofs.Common.{◌≡◌, ℕ, nat_eq, if◌then◌else◌, Bool, true, false, [], ◌∷◌, Option, refl, ap, sym, ◌∙◌}
+use Rattle.vms_base.specs.declared.ids.CpuId.{CpuId}
+use Rattle.vms_history.specs.Events.{own}
+use Rattle.vms_history.specs.Legal.{Machine}
+use Rattle.vms_history.specs.Passes.{lives, lives_after, lives_in}
+use Rattle.vms_history.specs.Passes.Role.{Begins, Ends}
+use Rattle.vms_seats.specs.MainSteps.{HasBegun, HasEnded}
+use Rattle.vms_seats.specs.Passes.{Pass}
+use Rattle.vms_call_trials.proofs.TwoPasses.{own-begun, own-ended}
+
+module _ {F K S : Type 0} (machine : Machine F K S) (begins : ℕ → Option CpuId → K)
+    (begins_it : (q : ℕ) (who : Option CpuId) → machine.role (begins q who) ≡ Begins q who)
+    (ends : ℕ → K) (ends_it : (q : ℕ) → machine.role (ends q) ≡ Ends q) where
+  -- what the main pass has done once a pass has begun
+  pub one-begun : (m0 m1 a : Pass F K) (x : Option CpuId) → m0.seen ≡ [] → HasBegun machine begins m1 m0 a x
+      → own m1.seen 0 ≡ record { caller = 0; step = begins a.number x } ∷ []
+  one-begun m0 m1 a x none a_begun =
+      own-begun machine begins begins_it ends ends_it m1 m0 a x a_begun
+      ∙ ap (λ h. record { caller = 0; step = begins a.number x } ∷ own h 0) none
+
+  -- one pass has begun and ended
+  pub one-over : (m1 m2 a : Pass F K) (x : Option CpuId)
+      → own m1.seen 0 ≡ record { caller = 0; step = begins a.number x } ∷ [] → HasEnded machine ends m2 m1 a
+      → (q : ℕ) → lives_in machine.role m2.seen q ≡ false
+  one-over m1 m2 a x begun a_ended q =
+      ap (λ h. lives machine.role h q)
+      (own-ended machine begins begins_it ends ends_it m2 m1 a a_ended
+      ∙ ap (λ h. record { caller = 0; step = ends a.number } ∷ h) begun)
+      ∙ (λ i. lives_after (ends_it a.number i) q (lives_after (begins_it a.number x i) q false))
+      ∙ by (nat_eq a.number q)
+    where
+      by : (s : Bool) → (if s then false else if s then true else false) ≡ false
+      by true = refl
+      by false = refl
+
+  -- the same of a pass by what it was when it began
+  pub one-ended : (m0 m1 m2 begun ended : Pass F K) (who : Option CpuId) → m0.seen ≡ []
+      → HasBegun machine begins m1 m0 begun who → HasEnded machine ends m2 m1 ended → ended.number ≡ begun.number
+      → (q : ℕ) → lives_in machine.role m2.seen q ≡ false
+  one-ended m0 m1 m2 begun ended who none has_begun has_ended same =
+      one-over m1 m2 ended who
+      (one-begun m0 m1 begun who none has_begun
+      ∙ ap (λ p. record { caller = 0; step = begins p who } ∷ []) (sym same))
+      has_ended
