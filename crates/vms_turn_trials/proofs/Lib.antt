@@ -1,1 +1,5 @@
 pub mod EndedPasses
+pub mod Looked
+pub mod Opened
+pub mod BuriedPasses
+pub mod Worked

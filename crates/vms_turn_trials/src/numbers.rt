@@ -1,8 +1,12 @@
 ghost use Rattle.std.specs.Prelude.{◌≤◌, IfOk};
-ghost use Rattle.vms_base.specs.Places.{IsNode, IsZone};
+ghost use Rattle.vms_base.specs.Places.{IsCounter, IsNode, IsZone};
 
 use std::test::Fail;
-use vms_base::{CounterId, Layout, PlaceId};
+use vms_base::{CounterId, CpuId, Layout, PlaceId};
+
+pub(crate) const CPU_0: CpuId = CpuId { number: 0 };
+
+pub(crate) const CPU_1: CpuId = CpuId { number: 1 };
 
 /// The first zone, its `nr_free_pages`, and the second zone.
 pub(crate) const ZONE: PlaceId = PlaceId { number: 0 };
@@ -12,6 +16,16 @@ pub(crate) const FREE: CounterId = CounterId { number: 0 };
 pub(crate) const NEXT_ZONE: PlaceId = PlaceId { number: 1 };
 
 // A number that a trial names, if there is such a thing.
+
+pub(crate) fn known_counter(layout: &Layout, counter: CounterId) -> Result<CounterId, Fail>
+    ensures { IfOk result (λ known. IsCounter layout.now known.number) }
+{
+    if counter.number < layout.counters() {
+        Ok(counter)
+    } else {
+        Err(Fail::new("the layout has no such counter"))
+    }
+}
 
 pub(crate) fn known_zone(layout: &Layout, zone: PlaceId) -> Result<PlaceId, Fail>
     ensures { IfOk result (λ known. IsZone layout.now known.number) }
