@@ -50,6 +50,7 @@ fn is_own(who: Option<CpuId>, cpu: CpuId) -> bool
 
 /// Takes the groups of a place. The owner of the CPU acknowledges the threshold of a zone as it was before the groups
 /// were taken.
+#[inline]
 fn fold_place<P: Caller>(
     table: &PageTable,
     pass: &mut P,
@@ -81,6 +82,7 @@ fn fold_place<P: Caller>(
 }
 
 /// Takes the groups of a place.
+#[inline(always)]
 fn fold_groups<P: Caller>(
     table: &PageTable,
     pass: &mut P,
@@ -108,6 +110,7 @@ fn fold_groups<P: Caller>(
 }
 
 /// Takes a group, and adds each differential to the global value of its counter and to the sum of its item.
+#[inline(always)]
 fn fold_group<P: Caller>(
     table: &PageTable,
     pass: &mut P,
@@ -165,6 +168,7 @@ fn add_entry<P: Caller>(
 }
 
 /// Adds the sums of the items to the system-wide values: no step is made for 0.
+#[inline]
 fn add_sums<P: Caller>(table: &PageTable, pass: &mut P, sums: &[i64; MOST_ITEMS])
     requires table { IsOf (P.pass pass.old) table.now }
     requires carries { (i : ℕ) → IsItem table.now.facts.layout i →
