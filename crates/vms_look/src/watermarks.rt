@@ -123,6 +123,8 @@ fn is_doubtful(first: MarkRead, value: u64, second: MarkRead) -> bool
     ensures { result ≡ (not (nat_eq first.mark second.mark && nat_eq first.number second.number)
         || (not (nat_eq first.mark 0) && nat_lt value first.mark)) }
 {
-    !(first.mark == second.mark && first.number == second.number)
-        || (first.mark != 0 && value < first.mark)
+    if first.mark != second.mark || first.number != second.number {
+        return true;
+    }
+    first.mark != 0 && value < first.mark
 }
