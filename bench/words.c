@@ -27,7 +27,8 @@
  * group.
  *
  * Compiled with -DVOLUMES it also keeps what each CPU has changed and counted so far, in absolute sum, and looks at
- * each change whether that may grow, as the proved programs do.
+ * each change whether that may grow, as the proved programs do. Compiled with -DFUNCTIONS a change, a fold and a test
+ * of a watermark are functions that are called, as they are in the kernel and in the proved programs.
  */
 #include <pthread.h>
 #include <stdatomic.h>
@@ -55,6 +56,12 @@ enum {
     BATCH = 65536,
     AMOUNT = 3
 };
+
+#ifdef FUNCTIONS
+#define CALLED static __attribute__((noinline))
+#else
+#define CALLED static inline
+#endif
 
 enum zone_kind { DMA, DMA32, NORMAL, MOVABLE };
 enum watermark { MIN, LOW, HIGH };
@@ -138,9 +145,8 @@ static inline uint64_t with_differential(uint64_t group, uint32_t counter, int64
 }
 
 /* A change of mod_zone_page_state without an overstep. The exchange is made once more where another thread took the
- * group
- * meanwhile: its differentials are 0 then. */
-static inline void change(struct work *w, uint32_t counter, int64_t delta)
+ * group meanwhile: its differentials are 0 then. */
+CALLED void change(struct work *w, uint32_t counter, int64_t delta)
 {
     _Atomic uint64_t *words = w->words;
     uint32_t place = counter / ITEMS, item = counter % ITEMS;
@@ -172,7 +178,7 @@ static void *change_pages(void *arg)
 
 /* The fold of a CPU by its owner: refresh_cpu_vm_stats, with an acknowledgement of the zone's threshold. Each place
  * has one group. */
-static void fold(const struct work *w)
+CALLED void fold(const struct work *w)
 {
     _Atomic uint64_t *words = w->words;
     const struct blocks *b = &w->blocks;
@@ -257,7 +263,7 @@ static uint64_t snapshot(const struct work *w, uint32_t counter)
 
 /* zone_watermark_ok_safe at order 0. The lower 43 bits of a mark's word are the mark, the upper ones how often it was
  * set. */
-static struct verdict watermark_ok(const struct work *w, uint32_t zone, enum watermark mark, uint32_t highest)
+CALLED struct verdict watermark_ok(const struct work *w, uint32_t zone, enum watermark mark, uint32_t highest)
 {
     uint64_t pages = limit(w->header, zone, mark, highest);
     uint32_t counter = zone * w->blocks.items;

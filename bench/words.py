@@ -2,7 +2,7 @@
 """Measures calls on shared counters on threads: the proved programs crates/vms_bench and crates/vms_call_bench beside
 the same in C.
 
-    bench/words.py [-k KIND]... [-t THREADS]... [-n CALLS] [-r RUNS] [--volumes] [--cc COMMAND]
+    bench/words.py [-k KIND]... [-t THREADS]... [-n CALLS] [-r RUNS] [--volumes] [--functions] [--cc COMMAND]
 
 The programs are built: the proved ones by `rt run` in their crates, bench/words.c by a C compiler for the processor
 that the proved ones are built for. Each makes CALLS calls on every one of THREADS threads, pinned to that many
@@ -136,6 +136,8 @@ def arguments():
     parser.add_argument("--cc", default=os.environ.get("CC", "cc"), metavar="COMMAND", help="the C compiler (cc)")
     parser.add_argument("--volumes", action="store_true",
                         help="let the C program keep what each CPU has changed so far, as the proved one does")
+    parser.add_argument("--functions", action="store_true",
+                        help="let the C program call its changes, folds and tests, as the kernel and the proved one do")
     words = parser.parse_args()
     if words.calls < 2:
         parser.error("the times of 2 calls at least can be told from that of one")
@@ -146,9 +148,10 @@ def arguments():
 
 def main():
     words = arguments()
+    flags = FLAGS + ["-DVOLUMES"] * words.volumes + ["-DFUNCTIONS"] * words.functions
     with tempfile.TemporaryDirectory() as folder:
         try:
-            in_c = c_program(words.cc, FLAGS + ["-DVOLUMES"] * words.volumes, folder)
+            in_c = c_program(words.cc, flags, folder)
             print(f"load average {os.getloadavg()[0]:.2f}; {words.calls} calls a thread, {words.runs} runs in turn")
             for kind in words.kind or KINDS:
                 programs = {"proved": proved_program(kind), "C": in_c}
