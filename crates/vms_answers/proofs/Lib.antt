@@ -1,2 +1,3 @@
 pub mod OpenAnswers
 pub mod ActAnswers
+pub mod KeptAnswers

@@ -1,5 +1,12 @@
+ghost use Rattle.std.specs.Prelude.{◌≡◌};
+ghost use Rattle.vms_answers.specs.Answers.Answer.{Balanced};
+ghost use Rattle.vms_answers.specs.ToldAnswers.{IsKeepable, answer_told, balanced_by, numbered_told};
+ghost use Rattle.vms_calls.specs.Turns.Balance.{Yes};
+ghost use Rattle.vms_plain_pages.specs.Orders.{order_verdict_told};
+
+use vms_base::PlaceId;
 use vms_pcpu_core::Compare;
-use vms_plain_pages::{Balance, Verdict};
+use vms_plain_pages::{Balance, OrderVerdict, Verdict};
 
 /// What a line answers.
 #[derive(Clone, Copy, Debug, PartialEq, Eq)]
@@ -26,10 +33,187 @@ pub enum Answer {
     Balanced(Balance),
 }
 
-/// The answer of a line.
+/// The answer of a line, with the number of the line in the trace, counted from 1. It takes 16 bytes, where a number beside
+/// an `Answer` takes 48: a phase keeps many. Where fields have no names, the number of the line is the first.
 #[derive(Clone, Copy, Debug, PartialEq, Eq)]
-pub struct NumberedAnswer {
-    /// The number of the line in the trace, counted from 1.
-    pub number: u32,
-    pub answer: Answer,
+pub enum NumberedAnswer {
+    /// Whether a zone has free pages enough, whether no snapshot of them was made, and how many there are.
+    Tested {
+        yes: bool,
+        fast: bool,
+        number: u32,
+        free: u64,
+    },
+    /// A counter in pages, as a reader sees it.
+    Value(u32, u64),
+    /// A counter in pages with all differentials.
+    Snapshot(u32, u64),
+    /// A system-wide value in pages.
+    System(u32, u64),
+    /// What the online CPUs have counted of an event.
+    Events(u32, u64),
+    /// The shared part of a percpu counter.
+    Count(u32, i64),
+    /// The sum of a percpu counter over all CPUs.
+    Total(u32, i64),
+    /// How a percpu counter compares with a number.
+    Compared(u32, Compare),
+    /// Whether an amount was added to a percpu counter within its limit.
+    Limited(u32, bool),
+    /// A node is balanced by this zone, whose test made no snapshot: the order of the free block that was found, if one was
+    /// looked for, and the free pages.
+    BalancedFast {
+        zone: u8,
+        area: Option<u8>,
+        number: u32,
+        free: u64,
+    },
+    /// The same where the test made a snapshot of the free pages.
+    BalancedBySnapshot {
+        zone: u8,
+        area: Option<u8>,
+        number: u32,
+        free: u64,
+    },
+    /// No zone of a node passed.
+    Unbalanced(u32),
+}
+
+const _: () = prove!(size_of::<NumberedAnswer>() == 16);
+
+impl NumberedAnswer {
+    ghost use Rattle.std.specs.Prelude.{◌≡◌};
+    ghost use Rattle.vms_answers.specs.ToldAnswers.{IsKeepable, answer_told, numbered_told};
+
+    /// Keeps the answer of the line of this number. A zone that passed has a number of at most 8 bits, and so has the
+    /// order of its free block.
+    #[inline]
+    pub fn of(number: u32, answer: Answer) -> NumberedAnswer
+        requires { IsKeepable (answer_told answer) }
+        ensures { numbered_told result ≡ record { number = number; answer = answer_told answer } }
+    {
+        match answer {
+            Answer::Tested(verdict) => NumberedAnswer::Tested {
+                yes: verdict.yes,
+                fast: verdict.fast,
+                number,
+                free: verdict.free,
+            },
+            Answer::Value(pages) => NumberedAnswer::Value(number, pages),
+            Answer::Snapshot(pages) => NumberedAnswer::Snapshot(number, pages),
+            Answer::System(pages) => NumberedAnswer::System(number, pages),
+            Answer::Events(sum) => NumberedAnswer::Events(number, sum),
+            Answer::Count(count) => NumberedAnswer::Count(number, count),
+            Answer::Total(sum) => NumberedAnswer::Total(number, sum),
+            Answer::Compared(compare) => NumberedAnswer::Compared(number, compare),
+            Answer::Limited(made) => NumberedAnswer::Limited(number, made),
+            Answer::Balanced(Balance::Yes(zone, verdict)) => balanced(number, zone, verdict),
+            Answer::Balanced(Balance::No) => NumberedAnswer::Unbalanced(number),
+        }
+    }
+
+    /// The number of the line.
+    #[inline]
+    pub fn number(&self) -> u32
+        ensures { result ≡ (numbered_told self.now).number }
+    {
+        match *self {
+            NumberedAnswer::Tested { number, .. } => number,
+            NumberedAnswer::Value(number, _) => number,
+            NumberedAnswer::Snapshot(number, _) => number,
+            NumberedAnswer::System(number, _) => number,
+            NumberedAnswer::Events(number, _) => number,
+            NumberedAnswer::Count(number, _) => number,
+            NumberedAnswer::Total(number, _) => number,
+            NumberedAnswer::Compared(number, _) => number,
+            NumberedAnswer::Limited(number, _) => number,
+            NumberedAnswer::BalancedFast { number, .. } => number,
+            NumberedAnswer::BalancedBySnapshot { number, .. } => number,
+            NumberedAnswer::Unbalanced(number) => number,
+        }
+    }
+
+    /// What the line answers.
+    #[inline]
+    pub fn answer(&self) -> Answer
+        ensures { answer_told result ≡ (numbered_told self.now).answer }
+    {
+        match *self {
+            NumberedAnswer::Tested {
+                yes,
+                fast,
+                free,
+                ..
+            } => Answer::Tested(Verdict { free, yes, fast }),
+            NumberedAnswer::Value(_, pages) => Answer::Value(pages),
+            NumberedAnswer::Snapshot(_, pages) => Answer::Snapshot(pages),
+            NumberedAnswer::System(_, pages) => Answer::System(pages),
+            NumberedAnswer::Events(_, sum) => Answer::Events(sum),
+            NumberedAnswer::Count(_, count) => Answer::Count(count),
+            NumberedAnswer::Total(_, sum) => Answer::Total(sum),
+            NumberedAnswer::Compared(_, compare) => Answer::Compared(compare),
+            NumberedAnswer::Limited(_, made) => Answer::Limited(made),
+            NumberedAnswer::BalancedFast {
+                zone,
+                area,
+                free,
+                ..
+            } => balance(zone, area, free, true),
+            NumberedAnswer::BalancedBySnapshot {
+                zone,
+                area,
+                free,
+                ..
+            } => balance(zone, area, free, false),
+            NumberedAnswer::Unbalanced(_) => Answer::Balanced(Balance::No),
+        }
+    }
+}
+
+/// Keeps the answer that a node is balanced by this zone.
+fn balanced(number: u32, zone: PlaceId, verdict: OrderVerdict) -> NumberedAnswer
+    requires { IsKeepable (Balanced (Yes zone (order_verdict_told verdict))) }
+    ensures { numbered_told result
+        ≡ record { number = number; answer = Balanced (Yes zone (order_verdict_told verdict)) } }
+{
+    let zone = zone.number as u8;
+    let area = match verdict.area {
+        Some(order) => Some(order as u8),
+        None => None,
+    };
+    let free = verdict.free;
+    if verdict.fast {
+        NumberedAnswer::BalancedFast {
+            zone,
+            area,
+            number,
+            free,
+        }
+    } else {
+        NumberedAnswer::BalancedBySnapshot {
+            zone,
+            area,
+            number,
+            free,
+        }
+    }
+}
+
+/// The answer that a node is balanced by this zone.
+fn balance(zone: u8, area: Option<u8>, free: u64, fast: bool) -> Answer
+    ensures { answer_told result ≡ balanced_by zone area free fast }
+{
+    let verdict = OrderVerdict {
+        free,
+        area: match area {
+            Some(order) => Some(order as u32),
+            None => None,
+        },
+        yes: true,
+        fast,
+    };
+    let zone = PlaceId {
+        number: zone as u32,
+    };
+    Answer::Balanced(Balance::Yes(zone, verdict))
 }

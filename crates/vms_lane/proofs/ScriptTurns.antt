@@ -135,12 +135,9 @@ module _ (header : Header) (pressure normal : ZoneSize → ℕ → ℕ → Type 
 
 -- the lines of a lane among others: those that are left from the n-th on
 module _ (lane : Lane) (items : List Item) (n : ℕ) where
-  module _ (none : Item) (inside : n < length items) where
-    abbrev here : Item
-    here = get_or items n none
-
+  module _ (here : Item) (at : here ≡ get_or items n here) (inside : n < length items) where
     left : drop n items ≡ here ∷ drop (n + 1) items
-    left = drop_more items n none inside
+    left = subst (λ (item : Item). drop n items ≡ item ∷ drop (n + 1) items) (sym at) (drop_more items n here inside)
 
     pub lane_items-own : is_lane lane here.lane ≡ true
         → lane_items lane (drop n items) ≡ lane_item here ∷ lane_items lane (drop (n + 1) items)

@@ -3,7 +3,7 @@ ghost use Rattle.std.specs.List.{list_any};
 ghost use Rattle.vms_script.specs.PhaseScripts.{is_lane};
 
 use std::marker::Model;
-use vms_script::PhaseScript;
+use vms_script::{PhaseScript, is_of};
 use vms_text::{Item, Lane};
 
 /// The lines of one lane among those of a phase, in the order of the text. They stay where they stand: a lane passes over
@@ -55,16 +55,4 @@ fn has_line(items: &[Item], lane: Lane) -> bool
     ensures { result ≡ list_any (λ item. is_lane lane item.lane) items.now }
 {
     items.iter().any(|item| is_of(lane, item))
-}
-
-/// Whether a line is of this lane.
-#[inline]
-pub(crate) fn is_of(lane: Lane, item: &Item) -> bool
-    ensures { result ≡ is_lane lane item.now.lane }
-{
-    match (lane, item.lane) {
-        (Lane::Cpu(cpu), Lane::Cpu(other)) => cpu.number == other.number,
-        (Lane::Control, Lane::Control) => true,
-        _ => false,
-    }
 }

@@ -1,14 +1,14 @@
-ghost use Rattle.std.specs.Prelude.{◌≡◌, ◌+◌, ◌<◌, ◌≤◌, ◌++◌, [], map, All, IfOk, OnOk, OnErr, option_map, vec_len};
-ghost use Rattle.std.specs.Prelude.{vec_capacity};
+ghost use Rattle.std.specs.Prelude.{◌≡◌, ◌+◌, ◌<◌, ◌≤◌, ◌++◌, [], map, All, IfOk, IfSome, OnOk, OnErr};
+ghost use Rattle.std.specs.Prelude.{option_map, vec_capacity, vec_len};
 ghost use Rattle.vms_answers.specs.PhaseAnswers.{with_answer};
-ghost use Rattle.vms_answers.specs.ToldAnswers.{answer_told, numbered_told};
+ghost use Rattle.vms_answers.specs.ToldAnswers.{IsKeepable, answer_told, numbered_told};
 ghost use Rattle.vms_base.specs.Headers.{IsHeader};
 ghost use Rattle.vms_line.specs.Laws.{IsActOf};
 ghost use Rattle.vms_tables.specs.Tables.{AreTables, world_of};
 ghost use Rattle.vms_lane.specs.LanePasses.{AreReadyFor, HaveSpentAll, MayMakeActs, passes_in};
 ghost use Rattle.vms_lane.specs.Scripts.{MakeLines, acts_in};
 
-use crate::lane_lines::{LaneLines, is_of};
+use crate::lane_lines::LaneLines;
 use crate::line_runs::run_line;
 use crate::passes::LanePasses;
 use std::alloc::Global;
@@ -17,6 +17,7 @@ use vms_answers::{Answer, NumberedAnswer};
 use vms_base::{Header, Memory};
 use vms_calc::{Rule, Rules};
 use vms_gate::Gate;
+use vms_script::is_of;
 use vms_tables::Tables;
 use vms_text::Lane;
 
@@ -73,13 +74,14 @@ fn lane_number(header: &Header, lane: Lane) -> u32 {
 /// Adds the answer of the line of this number, if it has one: there is room for it.
 #[inline]
 fn note(answers: &mut Vec<NumberedAnswer>, number: u32, answer: Option<Answer>)
-    requires { vec_len answers.old < vec_capacity answers.old }
+    requires room { vec_len answers.old < vec_capacity answers.old }
+    requires keepable { IfSome (option_map answer_told answer) IsKeepable }
     ensures answers { map numbered_told answers.new.items
         ≡ map numbered_told answers.old.items ++ with_answer number (option_map answer_told answer) [] }
     ensures len { vec_len answers.new ≤ vec_len answers.old + 1 }
     ensures capacity { vec_capacity answers.new ≡ vec_capacity answers.old }
 {
     if let Some(answer) = answer {
-        answers.push_reserved(NumberedAnswer { number, answer });
+        answers.push_reserved(NumberedAnswer::of(number, answer));
     }
 }

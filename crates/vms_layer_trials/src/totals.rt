@@ -11,6 +11,7 @@ use std::test::Fail;
 use vms_base::{CounterId, CpuId};
 use vms_line::{Act, Item, Lane};
 use vms_script::{PhaseScript, plain_totals};
+use vms_text::KeptLane;
 
 /// The first CPU changes the first counter by so many pages.
 fn change(number: u32, pages: i64) -> Item
@@ -22,7 +23,7 @@ fn change(number: u32, pages: i64) -> Item
 {
     Item {
         number,
-        lane: Lane::Cpu(CpuId { number: 0 }),
+        lane: KeptLane::of(Lane::Cpu(CpuId { number: 0 })),
         act: Act::Mod(CounterId { number: 0 }, pages),
     }
 }

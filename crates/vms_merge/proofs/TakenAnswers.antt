@@ -28,13 +28,13 @@ module _ (answers : List code.NumberedAnswer) (next number : ℕ) (answer : code
   abbrev told : List NumberedAnswer
   told = map numbered_told answers
 
-  pub taken-next : answer.number ≡ number
+  pub taken-next : (numbered_told answer).number ≡ number
       → taken number (drop next told) ≡ (numbered_told answer ∷ [], drop (suc next) told)
   taken-next own =
       ap (taken number) (told-next answers next answer within is)
       ∙ taken-own number (numbered_told answer) (drop (suc next) told) own
 
-  pub taken-none : answer.number ≢ number → taken number (drop next told) ≡ ([], drop next told)
+  pub taken-none : (numbered_told answer).number ≢ number → taken number (drop next told) ≡ ([], drop next told)
   taken-none other =
       subst (λ (left : List NumberedAnswer). taken number left ≡ ([], left))
       (sym (told-next answers next answer within is))

@@ -33,7 +33,7 @@ pub fn take_answer(
         ≡ with_told item.now.lane (taken item.now.number (left_of lanes.now counts.old item.now.lane)).1
         (left_of lanes.now counts.old) lane }
 {
-    let place = place_of(item.lane);
+    let place = place_of(item.lane.lane());
     let next = counts.get(place);
     let answer = own_answer(lanes[place].items.as_slice(), next, item.number)?;
     counts.set(place, next + 1);
@@ -50,7 +50,7 @@ fn own_answer(answers: &[NumberedAnswer], next: usize, number: u32) -> Option<Nu
         ≡ ([], drop next (map numbered_told answers.now))) }
 {
     let answer = answers.get(next)?;
-    if answer.number == number {
+    if answer.number() == number {
         Some(*answer)
     } else {
         None

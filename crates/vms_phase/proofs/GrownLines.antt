@@ -184,20 +184,18 @@ GrowAsTold-same header w items told other v same grow = record {
 }
 
 -- the next of some lines
-module _ (header : Header) (items : List Item) (n : ℕ) (none : Item) (within : n < length items)
-    (left later : Lane → List NumberedAnswer) (v v' : Volumes) (is : IsLineOf header (line_of (get_or items n none)))
-    (grew : v' ≡ next header (get_or items n none) (drop (n + 1) items) left later v is)
+module _ (header : Header) (items : List Item) (n : ℕ) (item : Item) (at : item ≡ get_or items n item)
+    (within : n < length items) (left later : Lane → List NumberedAnswer) (v v' : Volumes)
+    (is : IsLineOf header (line_of item)) (grew : v' ≡ next header item (drop (n + 1) items) left later v is)
     (room : HaveRoomFor header (drop n items) v) where
-  abbrev item : Item
-  item = get_or items n none
-
   abbrev others : List Item
   others = drop (n + 1) items
 
   drop-next : drop n items ≡ item ∷ others
   drop-next =
       let step : n + 1 ≡ suc n = omega arith in
-      drop-cons items n none within ∙ ap (λ m. item ∷ drop m items) (sym step)
+      drop-cons items n item within ∙ ap (λ (line : Item). line ∷ drop (suc n) items) (sym at)
+      ∙ ap (λ m. item ∷ drop m items) (sym step)
 
   room-now : HaveRoomFor header (item ∷ others) v
   room-now = subst (λ (lines : List Item). HaveRoomFor header lines v) drop-next room

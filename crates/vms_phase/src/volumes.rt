@@ -67,7 +67,7 @@ fn grow_line(
         (left_of lanes.now counts.old) lane }
 {
     let added = has_added(take_answer(lanes, counts, item));
-    spend(volumes, header, item.lane, item.act, added);
+    spend(volumes, header, item.lane.lane(), item.act, added);
 }
 
 /// Whether a line adds its amount that was told this.
@@ -76,7 +76,7 @@ fn has_added(told: Option<NumberedAnswer>) -> bool
     ensures { result ≡ adds_by (first_answer (option_to_list (option_map numbered_told told))) }
 {
     match told {
-        Some(numbered) => adds(&Some(numbered.answer)),
+        Some(numbered) => adds(&Some(numbered.answer())),
         None => true,
     }
 }

@@ -11,8 +11,11 @@ use vms_file_order::fitting_phases_are_phases;
 use vms_line::{Act, Boundary, Item, Lane, Line, LineCause};
 use vms_script::{JudgedLine, PhaseScript};
 use vms_stream::Status;
+use vms_text::KeptLane;
 use vms_totals::phases_add_their_lines;
 use vms_world::World;
+
+const _: () = prove!(size_of::<Item>() == 32);
 
 /// A replay on its way through a body, whose phases an engine makes.
 #[derive(Drop)]
@@ -36,6 +39,7 @@ impl<E: Engine> Replay<E> {
     ghost use Rattle.vms_command.specs.Limits.{most_lines};
     ghost use Rattle.vms_command.specs.Lines.{LinesAbove, nothing_above};
     ghost use Rattle.vms_stream.specs.Waiting.{Text};
+    ghost use Rattle.vms_text.specs.KeptLanes.{IsKeepable};
     ghost use Rattle.vms_world.specs.declared.worlds.World.{World};
     ghost use Rattle.vms_world.specs.Boundaries.{MayCross};
     ghost use Rattle.vms_world.specs.Worlds.{IsWorldOf};
@@ -84,12 +88,17 @@ impl<E: Engine> Replay<E> {
     /// Keeps a line of a lane for the phase.
     #[inline(always)]
     fn keep(&mut self, number: u32, lane: Lane, act: Act) -> Result<(), Memory>
+        requires { IsKeepable lane }
         ensures { (header : Header) (made : Option (List MadePhase)) (out : List ℕ) → IsHeader header →
             TakesLine (replaying E.Makes) (StandsBefore self.old) (StandsBefore self.new) made made header number
             (Ok (Line.Lane lane act)) result out out }
     {
         ask(&mut self.waits, number, act)?;
-        self.items.push(Item { number, lane, act })?;
+        self.items.push(Item {
+            number,
+            lane: KeptLane::of(lane),
+            act,
+        })?;
         Ok(())
     }
 

@@ -72,9 +72,10 @@ impl OpenReplay {
         ensures { TakesLine header.now (P.answers rules.now.pressure) (N.answers rules.now.normal) item.now
             (option_map answer_told result) self.old self.new }
     {
-        let answer = make_line(&mut self.tables, rules, header, item.lane, item.act);
+        let lane = item.lane.lane();
+        let answer = make_line(&mut self.tables, rules, header, lane, item.act);
         let added = adds(&answer);
-        spend(&mut self.volumes, header, item.lane, item.act, added);
+        spend(&mut self.volumes, header, lane, item.act, added);
         answer
     }
 

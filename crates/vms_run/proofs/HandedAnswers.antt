@@ -1,5 +1,5 @@
 -- Answers that are handed on line by line are merged in the order of the lines.
-use Rattle.std.proofs.Common.{◌≡◌, ℕ, suc, ◌+◌, ◌<◌, ◌∙◌, List, ◌++◌, ap, append_assoc, arith, drop, drop-cons, get_or}
+use Rattle.std.proofs.Common.{◌≡◌, ℕ, suc, ◌+◌, ◌<◌, ◌∙◌, List, ◌∷◌, ◌++◌, ap, append_assoc, arith, drop, drop-cons, get_or}
 use Rattle.std.proofs.Common.{length, sym}
 use Rattle.vms_answers.specs.PhaseAnswers.{NumberedAnswer}
 use Rattle.vms_text.specs.declared.acts.Item.{Item}
@@ -7,11 +7,9 @@ use Rattle.vms_text.specs.declared.acts.Lane.{Lane}
 use Rattle.vms_merge.specs.Merging.{merged, taken, with_told}
 use Rattle.vms_merge.proofs.MergedLines.{merged-everywhere}
 
-module _ (items : List Item) (n : ℕ) (none : Item) (all before : List NumberedAnswer)
+module _ (items : List Item) (n : ℕ) (item : Item) (at : item ≡ get_or items n item)
+    (all before : List NumberedAnswer)
     (left later : Lane → List NumberedAnswer) where
-  abbrev item : Item
-  item = get_or items n none
-
   abbrev first : List NumberedAnswer × List NumberedAnswer
   first = taken item.number (left item.lane)
 
@@ -26,5 +24,6 @@ module _ (items : List Item) (n : ℕ) (none : Item) (all before : List Numbered
       ∙ append_assoc before first.0 (merged rest later)
       ∙ ap (λ (more : List NumberedAnswer). before ++ (first.0 ++ more))
       (merged-everywhere rest later (with_told item.lane first.1 left) told)
-      ∙ ap (λ (lines : List Item). before ++ merged lines left) (sym (drop-cons items n none within))
+      ∙ ap (λ (lines : List Item). before ++ merged lines left) (ap (λ (line : Item). line ∷ rest) at
+      ∙ sym (drop-cons items n item within))
       ∙ parts

@@ -50,7 +50,7 @@ fn hand_line<A: AnswerTaker>(
         (left_of lanes.now counts.old) lane }
 {
     match take_answer(lanes, counts, item) {
-        Some(numbered) => taker.take(header, numbered.number, &numbered.answer),
+        Some(numbered) => taker.take(header, numbered.number(), &numbered.answer()),
         None => Ok(()),
     }
 }

@@ -14,3 +14,4 @@ pub mod BodySegments
 pub mod Sizes
 pub mod Changes
 pub mod LaneItems
+pub mod KeptLines

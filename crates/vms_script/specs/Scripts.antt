@@ -4,6 +4,7 @@ use Rattle.vms_base.specs.declared.headers.Header.{Header}
 use Rattle.vms_text.specs.declared.acts.Item.{Item}
 use Rattle.vms_text.specs.declared.acts.Line.{Line}
 use Rattle.vms_text.specs.declared.acts.Line.TheVariants.{Blank, Lane, Boundary}
+use Rattle.vms_text.specs.KeptLanes.{IsKeepable}
 use Rattle.vms_script.specs.declared.scripters.Fed.{Fed}
 use Rattle.vms_script.specs.declared.scripters.FeedError.{FeedError}
 use Rattle.vms_script.specs.declared.scripters.FeedError.TheVariants.{Refused, Memory}
@@ -55,6 +56,11 @@ with_taken script = record script { above = script.lines; taken = script.taken +
 -- the phases that were taken and the one that is held
 abbrev pub phases_of : Script → List (List Item)
 phases_of script = script.taken ++ script.items ∷ []
+
+-- a line whose lane may be kept, if it is one of a lane
+abbrev pub MayKeep : Line → Type 0
+MayKeep (Lane lane act) = IsKeepable lane
+MayKeep _ = Unit {0}
 
 -- what is told of a line that counts, or is blank
 abbrev pub fed_of : Line → Fed

@@ -16,6 +16,6 @@ pub use laws::{
     boundaries_cut, fitting_scripts_stay_within, lines_make_one_phase, segments_have_all_lines,
     segments_may_stand,
 };
-pub use phase_scripts::PhaseScript;
+pub use phase_scripts::{PhaseScript, is_of};
 pub use scripters::{Fed, FeedError, Scripter};
 pub use totals::{PageTotals, plain_totals};

@@ -91,7 +91,7 @@ fn items_of_lane(alloc: Global, items: &[Item], lane: Lane) -> Result<Vec<LaneIt
 {
     let mut found = Vec::with_capacity(alloc, lane_count(items, lane))?;
     for item in items {
-        if is_lane(lane, item.lane) {
+        if is_of(lane, item) {
             found.push(LaneItem {
                 number: item.number,
                 act: item.act,
@@ -105,15 +105,15 @@ fn items_of_lane(alloc: Global, items: &[Item], lane: Lane) -> Result<Vec<LaneIt
 fn lane_count(items: &[Item], lane: Lane) -> usize
     ensures { result ≡ count_by (λ item. is_lane lane item.lane) items.now }
 {
-    items.iter().filter(|item| is_lane(lane, item.lane)).count()
+    items.iter().filter(|item| is_of(lane, item)).count()
 }
 
-/// Whether two lanes are one.
+/// Whether a line is one of a lane.
 #[inline]
-fn is_lane(lane: Lane, other: Lane) -> bool
-    ensures { result ≡ is_lane lane other }
+pub fn is_of(lane: Lane, item: &Item) -> bool
+    ensures { result ≡ is_lane lane item.now.lane }
 {
-    match (lane, other) {
+    match (lane, item.lane.lane()) {
         (Lane::Cpu(cpu), Lane::Cpu(other)) => cpu.number == other.number,
         (Lane::Control, Lane::Control) => true,
         _ => false,

@@ -2,6 +2,7 @@ use crate::{LineJudge, PhaseScript};
 use std::alloc::{AllocError, Global};
 use vms_base::{Header, Memory};
 use vms_line::{Boundary, Item, Line, LineCause};
+use vms_text::KeptLane;
 
 /// What a line that was fed came to.
 #[derive(Clone, Copy, Debug, PartialEq, Eq)]
@@ -47,7 +48,7 @@ impl Scripter {
     ghost use Rattle.std.specs.Prelude.{◌≡◌, ◌<◌, All, IfOk, vec_capacity, vec_len};
     ghost use Rattle.vms_base.specs.Headers.{IsHeader};
     ghost use Rattle.vms_script.specs.Scripts.{Feeds, HoldsScript, IsOpen, Script, SomeScripter, Takes, fed_of};
-    ghost use Rattle.vms_script.specs.Scripts.{first_script, with_line};
+    ghost use Rattle.vms_script.specs.Scripts.{MayKeep, first_script, with_line};
 
     /// A scripter before the first line of a body with this header.
     pub fn make(alloc: Global, header: &Header) -> Result<Scripter, Memory>
@@ -88,7 +89,8 @@ impl Scripter {
 
     /// Keeps a line that counts, if it is one of a lane.
     fn keep(&mut self, number: u32, said: Line) -> Fed
-        requires { vec_len self.old.items < vec_capacity self.old.items }
+        requires room { vec_len self.old.items < vec_capacity self.old.items }
+        requires may { MayKeep said }
         ensures fed { result ≡ fed_of said }
         ensures judge { self.new.judge ≡ self.old.judge }
         ensures items { (script : Script) → self.old.items.items ≡ script.items →
@@ -97,7 +99,11 @@ impl Scripter {
         match said {
             Line::Blank => Fed::Blank,
             Line::Lane(lane, act) => {
-                self.items.push_reserved(Item { number, lane, act });
+                self.items.push_reserved(Item {
+                    number,
+                    lane: KeptLane::of(lane),
+                    act,
+                });
                 Fed::Kept
             }
             Line::Boundary(boundary) => Fed::Boundary(boundary),

@@ -6,3 +6,4 @@ pub mod Reading
 pub mod PlaceNames
 pub mod Spelling
 pub mod Writing
+pub mod KeptLanes

@@ -1,3 +1,4 @@
+use crate::kept_lanes::KeptLane;
 use vms_base::{CounterId, CpuId, EventId, ItemId, PcpuId, PlaceId, WaterMark};
 
 /// Whose line it is: a CPU's, or the control's, which belongs to no CPU.
@@ -96,6 +97,6 @@ pub enum Line {
 pub struct Item {
     /// The number of the line in the text, counted from 1.
     pub number: u32,
-    pub lane: Lane,
+    pub lane: KeptLane,
     pub act: Act,
 }

@@ -3,6 +3,7 @@
 
 mod acts;
 mod cutting;
+mod kept_lanes;
 mod line_words;
 mod marks;
 mod names;
@@ -14,6 +15,7 @@ mod writing;
 
 pub use acts::{Act, Boundary, Item, Lane, Line, ReportKind};
 pub use cutting::{lines_append, lines_begin, split_line};
+pub use kept_lanes::KeptLane;
 pub use line_words::{cut_at_spaces, cut_line, cut_words, is_clean, is_ignored};
 pub use names::is_name;
 pub use numbers::{is_number, numbers_read_back, read_signed, read_unsigned, read_within};

@@ -1,24 +1,15 @@
 -- A line of the lane is made next; the lines of others leave what was made so far.
-use Rattle.std.proofs.Common.{◌≡◌, true, false, ◌+◌, ◌≤◌, List, [], ◌∷◌, drop, length, map, option_map, slice_index_or}
-use Rattle.std.proofs.Common.{pos, sym, subst, vec_capacity, vec_len, arith}
+use Rattle.std.proofs.Common.{◌≡◌, true, false, ◌+◌, ◌≤◌, List, [], ◌∷◌, drop, length, map, option_map}
+use Rattle.std.proofs.Common.{sym, subst, vec_capacity, vec_len, arith}
 use Rattle.vms_answers.specs.ToldAnswers.{answer_told, numbered_told}
 use Rattle.vms_script.specs.declared.lane_scripts.LaneItem.{LaneItem}
 use Rattle.vms_script.specs.PhaseScripts.{lane_item, lane_items}
-use Rattle.vms_text.specs.declared.acts.Act.TheVariants.{Mod}
-use Rattle.vms_text.specs.declared.acts.Item.{Item}
-use Rattle.vms_text.specs.declared.acts.Lane.TheVariants.{Cpu}
+use Rattle.vms_tables.specs.Tables.{world_of}
+use Rattle.vms_answers.proofs.KeptAnswers.{told-keepable}
 use Rattle.vms_lane.proofs.ScriptTurns.{MadeSoFar, lane_items-end, lane_items-other, lane_items-own, so_far-act}
 use Rattle.vms_lane.proofs.ScriptTurns.{so_far-lines, so_far-may, so_far-next, so_far-spent}
 use Rattle.vms_lane.proofs.lane_runs.run_lane.Goals as goal
 use Rattle.vms_lane.proofs.lane_runs.run_lane.Goals.{then-is_of, else-is_of}
-
--- what stands where no line is read
-abbrev no_item : Item
-no_item = record {
-  number = 0;
-  lane = Cpu (record { number = 0 });
-  act = Mod (record { number = 0 }) (pos 0);
-}
 
 pub run_line-answer-requires : goal.run_line-answer-requires
 run_line-answer-requires g c =
@@ -36,11 +27,11 @@ run_line-answer-requires g c =
     let told = map numbered_told c.loop-item.answers.items in
     let count = vec_len c.loop-item.answers in
     let room = vec_capacity c.loop-item.answers in
-    let here = slice_index_or items n no_item in
+    let here = c.item-item.result in
     let rest = lane_items own (drop (n + 1) items) in
     let so_far : MadeSoFar header pressure normal tables lane script (lane_item here ∷ rest) now first told count room =
     subst (λ (left : List LaneItem). MadeSoFar header pressure normal tables lane script left now first told count room)
-    (lane_items-own own items n no_item c.loop-item-test.true (subst (λ b. b ≡ true) c.is_of.ensures c.if-is_of.true))
+    (lane_items-own own items n here c.item-item.is c.loop-item-test.true (subst (λ b. b ≡ true) c.is_of.ensures c.if-is_of.true))
     c.loop-item.invariant in
     record {
       header = c.requires.header;
@@ -49,6 +40,13 @@ run_line-answer-requires g c =
       act = so_far-act header pressure normal tables lane script (lane_item here) rest now first told count room so_far;
       may = so_far-may header pressure normal tables lane script (lane_item here) rest now first told count room so_far;
     }
+
+-- what the line answers can be kept
+pub note-requires-clause-keepable : goal.note-requires-clause-keepable
+note-requires-clause-keepable g c =
+    let made = c.run_line-answer.ensures.makes in
+    told-keepable c.args.header.now c.requires.header (world_of c.args.tables.now) c.args.lane c.item-item.result.act
+    made.steps (option_map answer_told c.run_line-answer.result) made.tells
 
 pub loop-item-preserved : goal.loop-item-preserved
 loop-item-preserved g c =
@@ -66,13 +64,13 @@ loop-item-preserved g c =
     let told = map numbered_told c.loop-item.answers.items in
     let count = vec_len c.loop-item.answers in
     let room = vec_capacity c.loop-item.answers in
-    let here = slice_index_or items n no_item in
+    let here = c.item-item.result in
     let rest = lane_items own (drop (n + 1) items) in
     elim c.if-is_of.branch [
       | then-is_of w ↦
           let so_far : MadeSoFar header pressure normal tables lane script (lane_item here ∷ rest) now first told count
           room = subst (λ (left : List LaneItem). MadeSoFar header pressure normal tables lane script left now first told
-          count room) (lane_items-own own items n no_item c.loop-item-test.true (subst (λ b. b ≡ true) c.is_of.ensures w.if-is_of.true))
+          count room) (lane_items-own own items n here c.item-item.is c.loop-item-test.true (subst (λ b. b ≡ true) c.is_of.ensures w.if-is_of.true))
           c.loop-item.invariant in
           subst (λ passes. MadeSoFar header pressure normal tables lane script rest passes first
           (map numbered_told c.if-is_of.answers.items) (vec_len c.if-is_of.answers) (vec_capacity c.if-is_of.answers))
@@ -91,7 +89,7 @@ loop-item-preserved g c =
           (subst (λ answers. MadeSoFar header pressure normal tables lane script rest now first
           (map numbered_told answers.items) (vec_len answers) (vec_capacity answers)) (sym w.answers-is)
           (subst (λ (left : List LaneItem). MadeSoFar header pressure normal tables lane script left now first told count
-          room) (lane_items-other own items n no_item c.loop-item-test.true (subst (λ b. b ≡ false) c.is_of.ensures w.if-is_of.false))
+          room) (lane_items-other own items n here c.item-item.is c.loop-item-test.true (subst (λ b. b ≡ false) c.is_of.ensures w.if-is_of.false))
           c.loop-item.invariant))
     ]
 

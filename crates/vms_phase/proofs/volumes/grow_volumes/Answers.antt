@@ -1,20 +1,16 @@
 -- Line by line the volumes grow, as the lanes were told.
-use Rattle.std.proofs.Common.{◌≡◌, ℕ, ◌∙◌, List, ap, drop, length, pos, subst, sym}
+use Rattle.std.proofs.Common.{◌≡◌, ℕ, ◌∙◌, List, ap, drop, length, subst, sym}
 use Rattle.std.proofs.lemmas.List.{length-replicate}
-use Rattle.vms_text.specs.declared.acts.Act.TheVariants.{Mod}
 use Rattle.vms_text.specs.declared.acts.Item.{Item}
-use Rattle.vms_text.specs.declared.acts.Lane.TheVariants.{Cpu}
-use Rattle.vms_merge.specs.Told.{left_of, told_by}
+use Rattle.vms_line.specs.Laws.{IsLineOf}
+use Rattle.vms_script.specs.Totals.{line_of}
+use Rattle.vms_merge.specs.Told.{HasPlace, left_of, told_by}
 use Rattle.vms_world.specs.declared.worlds.Volumes.{Volumes}
 use Rattle.vms_phase.specs.GrownVolumes.{GrowAsTold}
 use Rattle.vms_phase.proofs.GrownLines.{AreVolumesOf-room, GrowAsTold-same, grown-last}
 use Rattle.vms_phase.proofs.GrownLines.{grown-next, left_of-all, room-next}
 use Rattle.vms_phase.proofs.LaneRooms.{HaveRoomFor, HaveRoomFor-fitting}
 use Rattle.vms_phase.proofs.volumes.grow_volumes.Goals as goal
-
--- what stands where no line is read
-abbrev no_item : Item
-no_item = record { number = 0; lane = Cpu (record { number = 0 }); act = Mod (record { number = 0 }) (pos 0) }
 
 pub loop-item-init : goal.loop-item-init
 loop-item-init c =
@@ -39,6 +35,16 @@ grow_line-requires-clause-volumes c =
     AreVolumesOf-room c.args.header.now (drop c.loop-item.item-index c.args.items.now) c.loop-item.volumes
     c.loop-item.invariant.room
 
+pub grow_line-requires-clause-line : goal.grow_line-requires-clause-line
+grow_line-requires-clause-line c =
+    subst (λ (line : Item). IsLineOf c.args.header.now (line_of line)) (sym c.item-item.is)
+    (c.requires.start.4.known c.loop-item.item-index c.item-item.result c.loop-item-test.true)
+
+pub grow_line-requires-clause-place : goal.grow_line-requires-clause-place
+grow_line-requires-clause-place c =
+    subst (λ (line : Item). HasPlace c.args.lanes.now line.lane) (sym c.item-item.is)
+    (c.requires.places c.loop-item.item-index c.item-item.result c.loop-item-test.true)
+
 pub loop-item-preserved : goal.loop-item-preserved
 loop-item-preserved c =
     let header = c.args.header.now in
@@ -50,15 +56,17 @@ loop-item-preserved c =
     let v = c.loop-item.volumes in
     let v' = c.grow_line.new.volumes in
     let inside = c.loop-item-test.true in
-    let is = c.requires.start.4.known n no_item inside in
+    let item = c.item-item.result in
+    let is = subst (λ (line : Item). IsLineOf header (line_of line)) (sym c.item-item.is)
+    (c.requires.start.4.known n item inside) in
     let grew = c.grow_line.ensures.volumes in
     let room = c.loop-item.invariant.room in
     record {
-      room = room-next header items n no_item inside left later v v' is grew room;
+      room = room-next header items n item c.item-item.is inside left later v v' is grew room;
       one_each = c.grow_line.ensures.one_each;
       grown = λ w last grow.
           c.loop-item.invariant.grown w last
-          (grown-next header items n no_item inside left later v v' is grew room c.grow_line.ensures.left w last grow);
+          (grown-next header items n item c.item-item.is inside left later v v' is grew room c.grow_line.ensures.left w last grow);
     }
 
 pub returns-clause-grown : goal.returns-clause-grown

@@ -1,22 +1,16 @@
 -- Line by line the phase is replayed, and at the end it closes.
-use Rattle.std.proofs.Common.{◌≡◌, ◌++◌, ◌<◌, ◌≤◌, List, [], get_or, length, pos, take, sym, subst}
+use Rattle.std.proofs.Common.{◌≡◌, ◌++◌, ◌<◌, ◌≤◌, List, [], get_or, length, take, sym, subst}
 use Rattle.std.proofs.lemmas.List.{take_all}
 use Rattle.vms_answers.specs.PhaseAnswers.{with_answer}
 use Rattle.vms_file_order.proofs.FittingOpenings.{owners-online}
 use Rattle.vms_file_order.proofs.LaneLists.{StandOnce-lanes}
-use Rattle.vms_text.specs.declared.acts.Act.TheVariants.{Mod}
 use Rattle.vms_text.specs.declared.acts.Item.{Item}
-use Rattle.vms_text.specs.declared.acts.Lane.TheVariants.{Cpu}
 use Rattle.vms_replay_phase.specs.Lines.{MayMake}
 use Rattle.vms_world.specs.Lanes.{lanes_of}
 use Rattle.vms_replay_phase.specs.OpenReplays.{AnswersLine, HasReplayed}
 use Rattle.vms_replay_phase.proofs.OpenReplays.{AreVolumesOf-at, HasCome-more, HasReplayed-opening, IsReplayed-closing}
 use Rattle.vms_replay_phase.proofs.OpenReplays.{MayMake-at}
 use Rattle.vms_replay_phase.proofs.phases.replay_phase.Goals as goal
-
--- what stands where no item is read
-abbrev no_item : Item
-no_item = record { number = 0; lane = Cpu (record { number = 0 }); act = Mod (record { number = 0 }) (pos 0) }
 
 pub open-requires : goal.open-requires
 open-requires g c = c.requires.start.1.world
@@ -35,17 +29,19 @@ pub make_next-requires-clause-may : goal.make_next-requires-clause-may
 make_next-requires-clause-may g c =
     let start = c.requires.start in
     let same = c.as_slice-item-items.ensures.items in
-    subst (λ (items : List Item). MayMake c.args.header.now (get_or items c.loop-item.item-index no_item).lane
-    (get_or items c.loop-item.item-index no_item).act c.loop-item.replay.tables) (sym same)
+    let item = c.item-item.result in
+    subst (λ (line : Item). MayMake c.args.header.now line.lane line.act c.loop-item.replay.tables) (sym c.item-item.is)
+    (subst (λ (items : List Item). MayMake c.args.header.now (get_or items c.loop-item.item-index item).lane
+    (get_or items c.loop-item.item-index item).act c.loop-item.replay.tables) (sym same)
     (MayMake-at (g.P.Rule.answers c.args.rules.now.pressure)
     (g.N.Rule.answers c.args.rules.now.normal) c.args.header.now c.args.world start.0 start.1 c.args.script.now
     start.2
     c.as_slice-item-items.ensures.kept.few
     (λ lanes. c.open_phases_spend_their_lines.ensures c.args.header.now c.args.world lanes)
     (λ lanes items hs now. c.open_phases_leave_room.ensures c.args.header.now c.args.world lanes items hs now
-    start.1.world) c.loop-item.item-index no_item
+    start.1.world) c.loop-item.item-index c.item-item.result
     (subst (λ (items : List Item). c.loop-item.item-index < length items) same c.loop-item-test.true)
-    c.loop-item.invariant.0 c.loop-item.replay c.loop-item.invariant.1)
+    c.loop-item.invariant.0 c.loop-item.replay c.loop-item.invariant.1))
 
 pub make_next-requires-clause-volumes : goal.make_next-requires-clause-volumes
 make_next-requires-clause-volumes g c =
@@ -57,7 +53,7 @@ make_next-requires-clause-volumes g c =
     c.as_slice-item-items.ensures.kept.few
     (λ lanes. c.open_phases_spend_their_lines.ensures c.args.header.now c.args.world lanes)
     (λ lanes items hs now. c.open_phases_leave_room.ensures c.args.header.now c.args.world lanes items hs now
-    start.1.world) c.loop-item.item-index no_item
+    start.1.world) c.loop-item.item-index c.item-item.result
     (subst (λ (items : List Item). c.loop-item.item-index < length items) same c.loop-item-test.true)
     c.loop-item.invariant.0 c.loop-item.replay c.loop-item.invariant.1
 
@@ -68,18 +64,22 @@ loop-item-preserved g c =
     let told = c.loop-item.invariant.0 in
     let line = subst (λ (items : List Item). AnswersLine c.args.header.now
     (g.P.Rule.answers c.args.rules.now.pressure) (g.N.Rule.answers c.args.rules.now.normal)
-    (get_or items c.loop-item.item-index no_item) c.loop-item.replay c.make_next.new.replay
-    (g.A.AnswerTaker.Takes c.args.header.now) c.loop-item.taker c.make_next.new.taker) same c.in_ok-make_next.ensures in
+    (get_or items c.loop-item.item-index c.item-item.result) c.loop-item.replay c.make_next.new.replay
+    (g.A.AnswerTaker.Takes c.args.header.now) c.loop-item.taker c.make_next.new.taker) same
+    (subst (λ (line : Item). AnswersLine c.args.header.now
+    (g.P.Rule.answers c.args.rules.now.pressure) (g.N.Rule.answers c.args.rules.now.normal)
+    line c.loop-item.replay c.make_next.new.replay (g.A.AnswerTaker.Takes c.args.header.now) c.loop-item.taker
+    c.make_next.new.taker) c.item-item.is c.in_ok-make_next.ensures) in
     let more = HasCome-more (g.P.Rule.answers c.args.rules.now.pressure)
     (g.N.Rule.answers c.args.rules.now.normal) c.args.header.now c.args.world start.0 start.1 c.args.script.now
     start.2
     c.as_slice-item-items.ensures.kept.few
     (λ lanes. c.open_phases_spend_their_lines.ensures c.args.header.now c.args.world lanes)
     (λ lanes items hs now. c.open_phases_leave_room.ensures c.args.header.now c.args.world lanes items hs now
-    start.1.world) c.loop-item.item-index no_item
+    start.1.world) c.loop-item.item-index c.item-item.result
     (subst (λ (items : List Item). c.loop-item.item-index < length items) same c.loop-item-test.true)
     told c.loop-item.replay c.loop-item.invariant.1 line.answer c.make_next.new.replay line.line in (
-      told ++ with_answer (get_or c.args.script.now c.loop-item.item-index no_item).number line.answer [],
+      told ++ with_answer (get_or c.args.script.now c.loop-item.item-index c.item-item.result).number line.answer [],
       more,
       line.takes c.args.taker.now told c.loop-item.invariant.2,
     )

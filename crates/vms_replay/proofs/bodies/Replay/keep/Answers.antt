@@ -1,6 +1,7 @@
 -- A line of a lane, and one for which memory ran out.
-use Rattle.std.proofs.Common.{Ok, refl}
+use Rattle.std.proofs.Common.{◌≡◌, [], ◌∷◌, ◌++◌, Ok, refl, subst}
 use Rattle.std.proofs.lemmas.Result.{err_from_is_err_and}
+use Rattle.vms_text.specs.declared.acts.Lane.{Lane as LaneOf}
 use Rattle.vms_text.specs.declared.acts.Line.TheVariants.{Lane}
 use Rattle.vms_replay.proofs.LineStands.{TakesLine-failed, TakesLine-going_on, goes-lane}
 use Rattle.vms_replay.proofs.bodies.Replay.keep.Goals as goal
@@ -22,5 +23,8 @@ returns g c = λ header made out valid.
     TakesLine-going_on g.E.Engine.Makes c.args.self.now _ made header c.args.number (Ok (Lane c.args.lane c.args.act))
     (Ok tt) out out (λ above kept texts stands. refl)
     (λ above kept texts stands judged_is. goes-lane g.E.Engine.Makes c.args.self.now _ made header c.args.number above
-    kept texts stands valid c.args.lane c.args.act refl c.in_ok-push.ensures.items c.in_ok-ask.ensures
-    judged_is out)
+    kept texts stands valid c.args.lane c.args.act refl
+    (subst (λ (lane : LaneOf). c.push.new.self.items
+    ≡ c.args.self.now.items.items ++ record { number = c.args.number; lane = lane; act = c.args.act } ∷ [])
+    c.of.ensures c.in_ok-push.ensures.items)
+    c.in_ok-ask.ensures judged_is out)

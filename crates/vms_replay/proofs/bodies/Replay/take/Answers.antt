@@ -1,8 +1,11 @@
--- A line that is ignored.
+-- A line that is ignored, and one that is kept.
 use Rattle.std.proofs.Common.{Ok, refl, sym, subst}
 use Rattle.vms_command.specs.Bodies.{TakesLine}
 use Rattle.vms_text.specs.declared.acts.Line.{Line}
 use Rattle.vms_text.specs.declared.acts.Line.TheVariants.{Blank}
+use Rattle.vms_script.specs.Scripts.{MayKeep}
+use Rattle.vms_script.proofs.KeptLines.{may_keep}
+use Rattle.vms_script.proofs.Known.{judged-known}
 use Rattle.vms_replay.specs.Replaying.{replaying}
 use Rattle.vms_replay.specs.ReplayStates.{StandsBefore}
 use Rattle.vms_replay.proofs.LineStands.{TakesLine-going_on, goes-blank}
@@ -20,3 +23,11 @@ returns-in-Blank g c =
     (λ above kept texts stands. refl)
     (λ above kept texts stands judged_is. goes-blank g.E.Engine.Makes self self made header c.args.number above kept
     texts stands refl out))
+
+-- a line that counts is one of its header
+pub keep-requires : goal.keep-requires
+keep-requires g c =
+    let some = c.requires.line in
+    let header = c.args.header.now in
+    subst MayKeep c.in-Lane.is (may_keep header c.args.line.now c.requires.header
+    (judged-known header some.above.lines some.judged.0 c.args.line.now c.requires.header (sym some.judged.1)))

@@ -8,6 +8,7 @@ use Rattle.vms_script.specs.Judging.{allowed, counted, judged}
 use Rattle.vms_script.specs.JudgeStates.{Stands}
 use Rattle.vms_script.specs.Starts.{first_start, start_after}
 use Rattle.vms_script.proofs.Feeding.{HoldsScript-after}
+use Rattle.vms_script.proofs.KeptLines.{may_keep}
 use Rattle.vms_script.proofs.Known.{judged-known, judged_from-allowed}
 use Rattle.vms_script.proofs.scripters.Scripter.feed.Goals as goal
 
@@ -56,3 +57,14 @@ returns-in-Err c = λ script of is_open holds.
         volumes = holds.volumes;
       },
     )
+
+-- the line that was judged is one of the header
+pub keep-requires-clause-may : goal.keep-requires-clause-may
+keep-requires-clause-may c =
+    let some = c.requires.scripter in
+    let here = subst (λ (header : Header). Stands header some.script.lines c.args.self.now.judge) some.of
+    some.holds.stands in
+    let judged_here = c.judge.ensures.said some.script.lines here in
+    may_keep c.args.header.now c.in-Ok.said c.requires.header
+    (judged-known c.args.header.now some.script.lines c.args.line.now c.in-Ok.said c.requires.header
+    (sym judged_here.0 ∙ c.in-Ok.is))
