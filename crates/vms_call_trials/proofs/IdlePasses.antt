@@ -14,7 +14,7 @@ use Rattle.vms_seats.specs.MainSteps.{HasBegun}
 use Rattle.vms_seats.specs.Passes.{Pass, Shared, IsOf}
 use Rattle.vms_seats.specs.Steps.{Made, MadeOne}
 use Rattle.vms_words.specs.Told.{begins_it}
-use Rattle.vms_call_trials.proofs.TwoPasses.{is_of-begun}
+use Rattle.vms_trial_passes.proofs.TwoPasses.{is_of-begun}
 use Rattle.vms_call_trials.specs.Ready.{HaveBegun, IsIdle}
 
 pub is_of-made : (table : Shared Facts) (new old : Pass Facts Step) (steps : List Step) → Made pages new old steps

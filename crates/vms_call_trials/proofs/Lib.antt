@@ -1,4 +1,2 @@
-pub mod TwoPasses
-pub mod ThreePasses
 pub mod Volumes
 pub mod IdlePasses

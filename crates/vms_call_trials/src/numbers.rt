@@ -78,16 +78,6 @@ pub(crate) fn first_node(layout: &Layout) -> Result<PlaceId, Fail>
     }
 }
 
-pub(crate) fn known_order(order: u32) -> Result<u32, Fail>
-    ensures { IfOk result (λ known. known ≤ 10) }
-{
-    if order <= 10 {
-        Ok(order)
-    } else {
-        Err(Fail::new("there is no such order"))
-    }
-}
-
 pub(crate) fn known_index(most: u32) -> Result<u32, Fail>
     ensures { IfOk result (λ known. known ≤ 3) }
 {

@@ -25,7 +25,7 @@ use Rattle.vms_count.specs.Changing.{HasChanged}
 use Rattle.vms_words.specs.PagePasses.{HoldsSpending, OwningPass}
 use Rattle.vms_words.specs.Told.{begins_it, ends_it}
 use Rattle.vms_page_trials.specs.IdlePasses.{IsIdle, StaysIdle, HasBegunBoth}
-use Rattle.vms_page_trials.proofs.TwoPasses.{is_of-begun, is_of-later, first-seen, own-begun, own-ended}
+use Rattle.vms_trial_passes.proofs.TwoPasses.{is_of-begun, is_of-later, first-seen, own-begun, own-ended}
 
 -- the pass that made no step carries nothing
 none-carried : (shape : Shape) → CarriesNothing shape []

@@ -1,3 +1,2 @@
-pub mod TwoPasses
 pub mod EventVolumes
 pub mod CounterVolumes

@@ -21,7 +21,7 @@ use Rattle.vms_seats.specs.Steps.{Made}
 use Rattle.vms_tables.specs.declared.tables.MainPasses.{MainPasses}
 use Rattle.vms_tables.specs.declared.tables.Tables.{Tables}
 use Rattle.vms_tables.specs.Tables.{AreTables}
-use Rattle.vms_call_trials.proofs.TwoPasses.{is_of-later, sees_more-made, sees_more-same}
+use Rattle.vms_trial_passes.proofs.TwoPasses.{is_of-later, sees_more-made, sees_more-same}
 use Rattle.vms_call_trials.specs.Ready.{IsHeaderOf}
 use Rattle.vms_turn_trials.specs.BurialPasses.{AreReady, HaveBegun, SeeMore}
 

@@ -13,7 +13,7 @@ use Rattle.vms_seats.specs.Passes.{Shared}
 use Rattle.vms_words.specs.PagePasses.{OwningPass}
 use Rattle.vms_call_trials.specs.Ready.{IsIdle}
 use Rattle.vms_call_trials.proofs.IdlePasses.{idle-made}
-use Rattle.vms_call_trials.proofs.TwoPasses.{sees_more-made, sees_more-same}
+use Rattle.vms_trial_passes.proofs.TwoPasses.{sees_more-made, sees_more-same}
 
 -- after a change, whether it is made or refused
 pub worked-changed : (k : CounterId) (delta : ℤ) (how : Mode) {T E : Type 0} (table : Shared Facts)

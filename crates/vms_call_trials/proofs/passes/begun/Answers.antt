@@ -5,7 +5,7 @@ use Rattle.vms_core.specs.declared.steps.Step.TheVariants.{Split}
 use Rattle.vms_core.specs.Pages.{pages}
 use Rattle.vms_words.specs.Told.{begins_it}
 use Rattle.vms_call_trials.proofs.Volumes.{holds-second}
-use Rattle.vms_call_trials.proofs.TwoPasses.{first-seen}
+use Rattle.vms_trial_passes.proofs.TwoPasses.{first-seen}
 use Rattle.vms_call_trials.proofs.passes.begun.Goals as goal
 
 pub cpu_pass-second-requires-clause-volume : goal.cpu_pass-second-requires-clause-volume

@@ -3,7 +3,7 @@ use Rattle.std.proofs.Common.{sym, subst}
 use Rattle.vms_pcpu.specs.IdlePasses.{CpuPass}
 use Rattle.vms_pcpu_core.specs.Histories.{percpu}
 use Rattle.vms_seats.specs.MainSteps.{SeesMore}
-use Rattle.vms_shared_trials.proofs.TwoPasses.{sees_more-same, sees_more-made}
+use Rattle.vms_trial_passes.proofs.TwoPasses.{sees_more-same, sees_more-made}
 use Rattle.vms_shared_trials.proofs.counters.add.Goals as goal
 
 pub returns-in-Ok : goal.returns-in-Ok

@@ -1,6 +1,6 @@
 -- The goals were that the pass is the same, and knows more, after each turn.
 use Rattle.std.proofs.Common.{arith}
-use Rattle.vms_shared_trials.proofs.TwoPasses.{sees_more-same, sees_more-both, is_of-later}
+use Rattle.vms_trial_passes.proofs.TwoPasses.{sees_more-same, sees_more-both, is_of-later}
 use Rattle.vms_shared_trials.proofs.counters.add_often.Goals.{then-is_err, else-is_err}
 use Rattle.vms_shared_trials.proofs.counters.add_often.Goals as goal
 

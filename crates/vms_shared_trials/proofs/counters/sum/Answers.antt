@@ -1,6 +1,6 @@
 -- The goal was that the pass is the same, and knows more.
 use Rattle.vms_pcpu_core.specs.Histories.{percpu}
-use Rattle.vms_shared_trials.proofs.TwoPasses.{sees_more-made}
+use Rattle.vms_trial_passes.proofs.TwoPasses.{sees_more-made}
 use Rattle.vms_shared_trials.proofs.counters.sum.Goals as goal
 
 pub returns : goal.returns

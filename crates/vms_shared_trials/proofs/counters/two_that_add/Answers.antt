@@ -5,7 +5,7 @@ use Rattle.vms_pcpu_core.specs.declared.steps.PcpuStep.TheVariants.{Split}
 use Rattle.vms_pcpu_core.specs.Histories.{percpu}
 use Rattle.vms_pcpu.specs.SharedWords.{begins_it}
 use Rattle.vms_shared_trials.proofs.CounterVolumes.{holds-second}
-use Rattle.vms_shared_trials.proofs.TwoPasses.{first-seen}
+use Rattle.vms_trial_passes.proofs.TwoPasses.{first-seen}
 use Rattle.vms_shared_trials.proofs.counters.two_that_add.Goals as goal
 
 pub cpu_pass-second-requires-clause-volume : goal.cpu_pass-second-requires-clause-volume

@@ -4,7 +4,7 @@ use Rattle.vms_event.specs.CpuPasses.{CpuPass}
 use Rattle.vms_event_core.specs.declared.steps.EventStep.TheVariants.{AddE}
 use Rattle.vms_event_core.specs.Events.{events}
 use Rattle.vms_seats.specs.MainSteps.{SeesMore}
-use Rattle.vms_shared_trials.proofs.TwoPasses.{sees_more-same, sees_more-made}
+use Rattle.vms_trial_passes.proofs.TwoPasses.{sees_more-same, sees_more-made}
 use Rattle.vms_shared_trials.proofs.events.count.Goals as goal
 
 pub returns-in-Ok : goal.returns-in-Ok

@@ -1,6 +1,6 @@
 -- The goals were that the pass is the same, and knows more, after each turn.
 use Rattle.vms_event_core.specs.Events.{events}
-use Rattle.vms_shared_trials.proofs.TwoPasses.{sees_more-same, sees_more-both, sees_more-made, is_of-later}
+use Rattle.vms_trial_passes.proofs.TwoPasses.{sees_more-same, sees_more-both, sees_more-made, is_of-later}
 use Rattle.vms_shared_trials.proofs.events.folded_often.Goals as goal
 
 pub loop-init : goal.loop-init

@@ -4,7 +4,7 @@ use Rattle.vms_event_core.specs.declared.steps.EventStep.TheVariants.{Split, Joi
 use Rattle.vms_event_core.specs.Events.{events}
 use Rattle.vms_event.specs.SharedWords.{begins_it, ends_it}
 use Rattle.vms_shared_trials.proofs.EventVolumes.{covers-second}
-use Rattle.vms_shared_trials.proofs.TwoPasses.{first-seen, free-second, two-ended}
+use Rattle.vms_trial_passes.proofs.TwoPasses.{first-seen, free-second, two-ended}
 use Rattle.vms_shared_trials.proofs.events.two_that_count.Goals as goal
 
 pub cpu_pass-second-requires-clause-volume : goal.cpu_pass-second-requires-clause-volume

@@ -7,8 +7,8 @@ use Rattle.vms_history.specs.Events.{own}
 use Rattle.vms_core.specs.Pages.{pages}
 use Rattle.vms_words.specs.Told.{begins_it, ends_it}
 use Rattle.vms_call_trials.proofs.IdlePasses.{idle-begun}
-use Rattle.vms_call_trials.proofs.ThreePasses.{free-control, three-begun}
-use Rattle.vms_call_trials.proofs.TwoPasses.{first-seen, free-first, free-second, is_of-later, own-begun}
+use Rattle.vms_trial_passes.proofs.ThreePasses.{free-control, three-begun}
+use Rattle.vms_trial_passes.proofs.TwoPasses.{first-seen, free-first, free-second, is_of-later, own-begun}
 use Rattle.vms_call_trials.proofs.Volumes.{holds-first, holds-second}
 use Rattle.vms_thread_trials.proofs.openings.begun.Goals as goal
 

@@ -3,8 +3,8 @@ use Rattle.std.proofs.Common.{Some, None}
 use Rattle.vms_core.specs.declared.steps.Step.TheVariants.{Split, Join}
 use Rattle.vms_core.specs.Pages.{pages}
 use Rattle.vms_words.specs.Told.{begins_it, ends_it}
-use Rattle.vms_call_trials.proofs.ThreePasses.{three-ended}
-use Rattle.vms_call_trials.proofs.TwoPasses.{is_of-later}
+use Rattle.vms_trial_passes.proofs.ThreePasses.{three-ended}
+use Rattle.vms_trial_passes.proofs.TwoPasses.{is_of-later}
 use Rattle.vms_thread_trials.proofs.openings.close.Goals as goal
 
 pub join_cpu-requires-2-clause-table : goal.join_cpu-requires-2-clause-table

@@ -3,7 +3,7 @@ use Rattle.std.proofs.Common.{None}
 use Rattle.vms_core.specs.declared.steps.Step.TheVariants.{Split}
 use Rattle.vms_core.specs.Pages.{pages}
 use Rattle.vms_words.specs.Told.{begins_it}
-use Rattle.vms_call_trials.proofs.TwoPasses.{free-first, is_of-begun}
+use Rattle.vms_trial_passes.proofs.TwoPasses.{free-first, is_of-begun}
 use Rattle.vms_turn_trials.proofs.balances.node_tested.Goals as goal
 
 pub control_pass-pass-requires-clause-free : goal.control_pass-pass-requires-clause-free

@@ -10,7 +10,7 @@ use Rattle.vms_pcpu_core.specs.Histories.{percpu}
 use Rattle.vms_pcpu.specs.SharedWords.{begins_it as pcpu_begins, ends_it as pcpu_ends}
 use Rattle.vms_words.specs.Told.{begins_it, ends_it}
 use Rattle.vms_call_trials.proofs.IdlePasses.{idle-begun}
-use Rattle.vms_call_trials.proofs.TwoPasses.{first-seen, free-first, free-second, is_of-begun, is_of-later}
+use Rattle.vms_trial_passes.proofs.TwoPasses.{first-seen, free-first, free-second, is_of-begun, is_of-later}
 use Rattle.vms_call_trials.proofs.Volumes.{holds-second}
 use Rattle.vms_turn_trials.proofs.EndedPasses.{one-begun, two-begun}
 use Rattle.vms_turn_trials.proofs.burials.begun.Goals as goal

@@ -9,7 +9,7 @@ use Rattle.vms_pcpu_core.specs.declared.steps.PcpuStep.TheVariants.{Split as Pcp
 use Rattle.vms_pcpu_core.specs.Histories.{percpu}
 use Rattle.vms_pcpu.specs.SharedWords.{begins_it as pcpu_begins, ends_it as pcpu_ends}
 use Rattle.vms_words.specs.Told.{begins_it, ends_it}
-use Rattle.vms_call_trials.proofs.TwoPasses.{is_of-later}
+use Rattle.vms_trial_passes.proofs.TwoPasses.{is_of-later}
 use Rattle.vms_turn_trials.proofs.EndedPasses.{one-over, two-over}
 use Rattle.vms_turn_trials.proofs.burials.ended.Goals as goal
 

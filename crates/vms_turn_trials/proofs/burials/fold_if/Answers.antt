@@ -1,7 +1,7 @@
 -- The goals were that the pass carries nothing after the fold, and is the same.
 use Rattle.vms_core.specs.Pages.{pages}
 use Rattle.vms_call_trials.proofs.IdlePasses.{idle-made}
-use Rattle.vms_call_trials.proofs.TwoPasses.{sees_more-made, sees_more-same}
+use Rattle.vms_trial_passes.proofs.TwoPasses.{sees_more-made, sees_more-same}
 use Rattle.vms_turn_trials.proofs.burials.fold_if.Goals as goal
 
 pub fold-requires-clause-table : goal.fold-requires-clause-table

@@ -4,7 +4,7 @@ use Rattle.vms_base.specs.Places.{Shape, IsZone}
 use Rattle.vms_core.specs.Pages.{pages}
 use Rattle.vms_history.specs.Events.{own}
 use Rattle.vms_look.specs.Looking.{verdict_told}
-use Rattle.vms_call_trials.proofs.TwoPasses.{sees_more-made}
+use Rattle.vms_trial_passes.proofs.TwoPasses.{sees_more-made}
 use Rattle.vms_turn_trials.proofs.Looked.{idle-looked}
 use Rattle.vms_turn_trials.proofs.looks.tested.Goals as goal
 

@@ -1,5 +1,5 @@
 -- The goal was that the pass is the same after the three tests.
-use Rattle.vms_call_trials.proofs.TwoPasses.{sees_more-both}
+use Rattle.vms_trial_passes.proofs.TwoPasses.{sees_more-both}
 use Rattle.vms_turn_trials.proofs.threads.all_tested.Goals as goal
 
 pub returns-clause-sees : goal.returns-clause-sees

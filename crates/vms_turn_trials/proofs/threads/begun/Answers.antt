@@ -5,8 +5,8 @@ use Rattle.vms_core.specs.declared.steps.Step.TheVariants.{Split, Join}
 use Rattle.vms_core.specs.Pages.{pages}
 use Rattle.vms_words.specs.Told.{begins_it, ends_it}
 use Rattle.vms_call_trials.proofs.IdlePasses.{idle-begun}
-use Rattle.vms_call_trials.proofs.ThreePasses.{free-control, three-begun}
-use Rattle.vms_call_trials.proofs.TwoPasses.{first-seen, free-first, free-second, is_of-later}
+use Rattle.vms_trial_passes.proofs.ThreePasses.{free-control, three-begun}
+use Rattle.vms_trial_passes.proofs.TwoPasses.{first-seen, free-first, free-second, is_of-later}
 use Rattle.vms_call_trials.proofs.Volumes.{holds-first, holds-second}
 use Rattle.vms_turn_trials.proofs.EndedPasses.{two-begun}
 use Rattle.vms_turn_trials.proofs.threads.begun.Goals as goal

@@ -1,7 +1,7 @@
 -- The goals were that the pass carries nothing after each turn, and is the same.
 use Rattle.vms_core.specs.Pages.{pages}
 use Rattle.vms_call_trials.proofs.IdlePasses.{idle-made}
-use Rattle.vms_call_trials.proofs.TwoPasses.{sees_more-same, sees_more-both, sees_more-made}
+use Rattle.vms_trial_passes.proofs.TwoPasses.{sees_more-same, sees_more-both, sees_more-made}
 use Rattle.vms_turn_trials.proofs.threads.fold_often.Goals as goal
 
 pub loop-init : goal.loop-init

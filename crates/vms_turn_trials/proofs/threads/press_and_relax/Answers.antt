@@ -1,5 +1,5 @@
 -- The goals were that the pass is the same after both calls.
-use Rattle.vms_call_trials.proofs.TwoPasses.{sees_more-both}
+use Rattle.vms_trial_passes.proofs.TwoPasses.{sees_more-both}
 use Rattle.vms_turn_trials.proofs.threads.press_and_relax.Goals as goal
 
 pub returns-then-pressed-clause-sees : goal.returns-then-pressed-clause-sees

@@ -1,6 +1,6 @@
 -- The goals were that the pass carries nothing after each turn, and is the same.
 use Rattle.std.proofs.Common.{arith}
-use Rattle.vms_call_trials.proofs.TwoPasses.{sees_more-same, sees_more-both}
+use Rattle.vms_trial_passes.proofs.TwoPasses.{sees_more-same, sees_more-both}
 use Rattle.vms_turn_trials.proofs.threads.rate_often.Goals.{then-not-press_and_relax, else-not-press_and_relax}
 use Rattle.vms_turn_trials.proofs.threads.rate_often.Goals as goal
 

@@ -1,7 +1,7 @@
 -- The goals were that the pass carries nothing after a turn, and is the same.
 use Rattle.vms_core.specs.Pages.{pages}
 use Rattle.vms_call_trials.proofs.IdlePasses.{idle-made}
-use Rattle.vms_call_trials.proofs.TwoPasses.{sees_more-made}
+use Rattle.vms_trial_passes.proofs.TwoPasses.{sees_more-made}
 use Rattle.vms_turn_trials.proofs.turns.turn.Goals as goal
 
 pub returns-clause-idle : goal.returns-clause-idle

@@ -4,7 +4,7 @@ use Rattle.vms_core.specs.declared.steps.Step.TheVariants.{Split, Join}
 use Rattle.vms_core.specs.Pages.{pages}
 use Rattle.vms_words.specs.Told.{begins_it, ends_it}
 use Rattle.vms_call_trials.proofs.IdlePasses.{idle-begun}
-use Rattle.vms_call_trials.proofs.TwoPasses.{free-first, is_of-later}
+use Rattle.vms_trial_passes.proofs.TwoPasses.{free-first, is_of-later}
 use Rattle.vms_turn_trials.proofs.EndedPasses.{one-ended}
 use Rattle.vms_turn_trials.proofs.turns.turned_on.Goals as goal
 

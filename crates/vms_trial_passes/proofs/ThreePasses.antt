@@ -10,7 +10,7 @@ use Rattle.vms_history.specs.Passes.{Role, lives, lives_after, lives_in, owner, 
 use Rattle.vms_history.specs.Passes.Role.{Begins, Ends}
 use Rattle.vms_seats.specs.MainSteps.{HasBegun, HasEnded}
 use Rattle.vms_seats.specs.Passes.{Pass}
-use Rattle.vms_call_trials.proofs.TwoPasses.{own-begun, own-ended}
+use Rattle.vms_trial_passes.proofs.TwoPasses.{own-begun, own-ended}
 
 module _ {F K S : Type 0} (machine : Machine F K S) (begins : ℕ → Option CpuId → K)
     (begins_it : (q : ℕ) (who : Option CpuId) → machine.role (begins q who) ≡ Begins q who)

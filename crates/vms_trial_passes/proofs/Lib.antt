@@ -1,0 +1,2 @@
+pub mod TwoPasses
+pub mod ThreePasses
