@@ -41,7 +41,8 @@ entries-first shape narrow w =
     sum_below-same (λ n. if nat_eq (item_of shape (first_of 0 + n)) 0 then get_or w.values n (pos 0) else pos 0)
     (λ n. if nat_eq n 0 then get_or w.values n (pos 0) else pos 0) 8
     (λ n below.
-    let at : item_of shape (first_of 0 + n) ≡ n = item-first shape narrow (first_of 0 + n) (omega arith) ∙ omega arith in
+    let at : item_of shape (first_of 0 + n) ≡ n =
+    item-first shape narrow (first_of 0 + n) (omega arith) ∙ omega arith in
     ap (λ i. if nat_eq i 0 then get_or w.values n (pos 0) else pos 0) at)
     ∙ omega (arith, ints)
 

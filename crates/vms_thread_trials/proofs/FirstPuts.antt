@@ -1,4 +1,5 @@
--- The owner of a CPU exchanges the first group: what it has loaded, and what it may put after its load and after a miss.
+-- The owner of a CPU exchanges the first group: what it has loaded, and what it may put after its load and
+-- after a miss.
 use Rattle.std.proofs.Common.{◌≡◌, ℕ, ◌+◌, ◌≤◌, pos, ◌+ℤ◌, List, ◌∷◌, Some, refl, sym, ap, ◌∙◌, subst, arith}
 use Rattle.std.proofs.Common.{eq-eqb, slice_index_or}
 use Rattle.std.proofs.lemmas.Int.{ints}
@@ -97,7 +98,8 @@ module _ (facts : Facts) (old : OwningPass) (same : old.pass.facts ≡ facts) (c
 
   pub found-put : MayPut looked (record { number = 0 }) w t (pos 2)
   found-put = may-put facts looked (one.all.facts ∙ same) cpu (one.all.cpu ∙ owns) counter w
-      (ap (found cpu 0) (own-next looked.pass old.pass _ loads) ∙ rw (eq-eqb cpu.number cpu.number refl) refl) t has_then
+      (ap (found cpu 0) (own-next looked.pass old.pass _ loads)
+      ∙ rw (eq-eqb cpu.number cpu.number refl) refl) t has_then
       nothing_then (subst (λ (v : List ℕ). slice_index_or v 0 0 + 2 ≤ most_volume) (sym volume) room)
 
   -- where the exchange misses, zeros stand until the pass puts

@@ -151,8 +151,8 @@ fn fold_often(
     (pass, control)
 }
 
-/// A thread changes the first two counters on CPU 0, so many times, while another folds that CPU by CPU 1's pass and by the
-/// control pass. Tells how often a change was refused, and the page counters at the end.
+/// A thread changes the first two counters on CPU 0, so many times, while another folds that CPU by CPU 1's pass and by
+/// the control pass. Tells how often a change was refused, and the page counters at the end.
 fn changes_beside_folds<R: Threads + Sync>(
     rt: &R,
     alloc: Global,

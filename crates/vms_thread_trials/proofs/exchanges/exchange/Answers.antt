@@ -8,16 +8,19 @@ use Rattle.vms_thread_trials.proofs.exchanges.exchange.Goals as goal
 
 pub group-group-requires : goal.group-group-requires
 group-group-requires c =
-    subst (λ (s : Shape). IsCounter s 0) (sym c.layout.ensures) (is_first c.args.table.now.facts.layout c.requires.narrow)
+    subst (λ (s : Shape). IsCounter s 0) (sym c.layout.ensures)
+    (is_first c.args.table.now.facts.layout c.requires.narrow)
 
 pub load_diffs-found-requires-clause-cpu : goal.load_diffs-found-requires-clause-cpu
 load_diffs-found-requires-clause-cpu c =
-    known-cpu c.args.table.now.facts c.args.owner.now.pass c.requires.table.facts c.cpu-cpu.ensures.live c.cpu-cpu.result
+    known-cpu c.args.table.now.facts c.args.owner.now.pass c.requires.table.facts c.cpu-cpu.ensures.live
+    c.cpu-cpu.result
     c.cpu-cpu.ensures.owns
 
 pub take_first-amount-requires-clause-cpu : goal.take_first-amount-requires-clause-cpu
 take_first-amount-requires-clause-cpu c =
-    known-cpu c.args.table.now.facts c.args.owner.now.pass c.requires.table.facts c.cpu-cpu.ensures.live c.cpu-cpu.result
+    known-cpu c.args.table.now.facts c.args.owner.now.pass c.requires.table.facts c.cpu-cpu.ensures.live
+    c.cpu-cpu.result
     c.cpu-cpu.ensures.owns
 
 pub put-requires-clause-table : goal.put-requires-clause-table

@@ -14,7 +14,8 @@ use Rattle.vms_thread_trials.proofs.exchanges.take_first.Goals as goal
 
 pub group-group-requires : goal.group-group-requires
 group-group-requires c =
-    subst (λ (s : Shape). IsCounter s 0) (sym c.layout.ensures) (is_first c.args.table.now.facts.layout c.requires.narrow)
+    subst (λ (s : Shape). IsCounter s 0) (sym c.layout.ensures)
+    (is_first c.args.table.now.facts.layout c.requires.narrow)
 
 pub returns-clause-table : goal.returns-clause-table
 returns-clause-table c =
@@ -27,7 +28,8 @@ returns-clause-carries c =
     let new = c.take-taken.new.pass in
     let old = c.args.control.now in
     let taken = c.take-taken.result in
-    let group : c.group-group.result ≡ record { number = 0 } = ap (λ n. record { number = n }) c.group-group.ensures.value in
+    let group : c.group-group.result ≡ record { number = 0 } = ap (λ n. record { number = n })
+    c.group-group.ensures.value in
     let byte = c.entry.ensures.byte in
     let fits : FitsSigned w64 c.entry.result = omega (arith, ints, byte) in
     subst (λ (z : ℤ). CarriesFor layout 0 z (own new.seen new.number))

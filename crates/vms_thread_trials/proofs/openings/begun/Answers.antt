@@ -26,7 +26,8 @@ cpu_pass-first-requires-clause-free c =
 pub cpu_pass-first-requires-clause-volume : goal.cpu_pass-first-requires-clause-volume
 cpu_pass-first-requires-clause-volume c =
     holds-first c.args.table.now.facts.layout c.args.main.now.seen 0 c.in_ok-first_volume.first_volume c.requires.begins
-    (c.in_ok-first_volume.ensures ∙ ap (λ n. replicate n 0) (c.counters-counters.ensures.value ∙ ap counter_count c.layout.ensures))
+    (c.in_ok-first_volume.ensures ∙ ap (λ n. replicate n 0)
+    (c.counters-counters.ensures.value ∙ ap counter_count c.layout.ensures))
 
 pub cpu_pass-second-requires-clause-table : goal.cpu_pass-second-requires-clause-table
 cpu_pass-second-requires-clause-table c =
@@ -47,7 +48,8 @@ cpu_pass-second-requires-clause-volume c =
     c.in_ok-second_volume.second_volume
     (first-seen pages Split begins_it c.cpu_pass-first.new.main c.args.main.now c.cpu_pass-first.result.pass
     (Some (record { number = 0 })) c.requires.begins c.cpu_pass-first.ensures.begun)
-    (c.in_ok-second_volume.ensures ∙ ap (λ n. replicate n 0) (c.counters-counters.ensures.value ∙ ap counter_count c.layout.ensures))
+    (c.in_ok-second_volume.ensures ∙ ap (λ n. replicate n 0)
+    (c.counters-counters.ensures.value ∙ ap counter_count c.layout.ensures))
 
 pub control_pass-control-requires-clause-table : goal.control_pass-control-requires-clause-table
 control_pass-control-requires-clause-table c =
@@ -62,7 +64,8 @@ control_pass-control-requires-clause-free c =
     c.cpu_pass-second.result.pass.number (record { number = 0 }) (record { number = 1 })
     (own-begun pages Split begins_it Join ends_it c.cpu_pass-second.new.main c.cpu_pass-first.new.main
     c.cpu_pass-second.result.pass (Some (record { number = 1 })) c.cpu_pass-second.ensures.begun
-    ∙ ap (λ h. record { caller = 0; step = Split c.cpu_pass-second.result.pass.number (Some (record { number = 1 })) } ∷ h)
+    ∙ ap (λ h. record { caller = 0; step = Split c.cpu_pass-second.result.pass.number (Some (record { number = 1 })) }
+    ∷ h)
     (own-begun pages Split begins_it Join ends_it c.cpu_pass-first.new.main c.args.main.now c.cpu_pass-first.result.pass
     (Some (record { number = 0 })) c.cpu_pass-first.ensures.begun
     ∙ ap (λ h. record { caller = 0; step = Split c.cpu_pass-first.result.pass.number (Some (record { number = 0 })) }

@@ -18,7 +18,8 @@ turn-balance-requires-clause-idle g c =
 
 pub join_control-requires-clause-table : goal.join_control-requires-clause-table
 join_control-requires-clause-table g c = (
-  is_of-later c.args.opening.table c.control_pass-pass.new.main c.args.opening.main c.control_pass-pass.ensures.begun.main
+  is_of-later c.args.opening.table c.control_pass-pass.new.main c.args.opening.main
+      c.control_pass-pass.ensures.begun.main
       c.requires.main.0,
   c.turn-balance.ensures.idle.of,
 )
@@ -28,12 +29,14 @@ join_control-requires-clause-carries g c = c.turn-balance.ensures.idle.carries
 
 pub close-requires-clause-table : goal.close-requires-clause-table
 close-requires-clause-table g c =
-    is_of-later c.args.opening.table c.join_control.new.main c.control_pass-pass.new.main c.join_control.ensures.ended.main
+    is_of-later c.args.opening.table c.join_control.new.main c.control_pass-pass.new.main
+    c.join_control.ensures.ended.main
     (is_of-later c.args.opening.table c.control_pass-pass.new.main c.args.opening.main
     c.control_pass-pass.ensures.begun.main c.requires.main.0)
 
 pub close-requires-clause-ended : goal.close-requires-clause-ended
 close-requires-clause-ended g c =
-    one-ended pages Split begins_it Join ends_it c.args.opening.main c.control_pass-pass.new.main c.join_control.new.main
+    one-ended pages Split begins_it Join ends_it c.args.opening.main c.control_pass-pass.new.main
+    c.join_control.new.main
     c.control_pass-pass.result c.turn-balance.new.pass None c.requires.main.1 c.control_pass-pass.ensures.begun
     c.join_control.ensures.ended c.turn-balance.ensures.sees.number
