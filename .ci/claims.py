@@ -41,7 +41,7 @@ def main(name):
         document = file.read()
     functions, wrong, tried = {}, [], 0
     heads = " ".join(line for line in document.splitlines() if line.startswith("## "))
-    for line in pathlib.Path("crates.txt").read_text(encoding="utf-8").splitlines():
+    for line in re.findall(r"^[^#\n].*", pathlib.Path("crates.txt").read_text(encoding="utf-8"), re.M):
         crate = line.split(":")[0]
         if "`vms_" in heads and not crate.endswith("_trials") and f"`{crate}`" not in heads:
             wrong.append(f"{crate}: no heading")

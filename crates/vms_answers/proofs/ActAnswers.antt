@@ -1,57 +1,32 @@
 -- For other crates too: the steps of an act tell its answer, by the laws of the calls.
-use Rattle.std.proofs.Common.{◌≡◌, ℕ, Bool, ℤ, List, [], ◌++◌, length, Option, Some, None, refl, ap}
-use Rattle.vms_base.specs.declared.headers.Header.{Header}
-use Rattle.vms_base.specs.declared.ids.CounterId.{CounterId}
-use Rattle.vms_base.specs.declared.ids.CpuId.{CpuId}
-use Rattle.vms_base.specs.declared.ids.EventId.{EventId}
-use Rattle.vms_base.specs.declared.ids.ItemId.{ItemId}
-use Rattle.vms_base.specs.declared.ids.PcpuId.{PcpuId}
-use Rattle.vms_base.specs.declared.ids.PlaceId.{PlaceId}
-use Rattle.vms_base.specs.declared.kinds.Mode.{Mode}
-use Rattle.vms_base.specs.declared.kinds.WaterMark.{WaterMark}
-use Rattle.vms_core.specs.declared.steps.Step.{Step}
-use Rattle.vms_calls.specs.ChangeReadings.{TellsChange, read_change}
-use Rattle.vms_calls.specs.Changes.{IsChange}
-use Rattle.vms_calls.specs.FoldReadings.{TellsFold, read_fold}
-use Rattle.vms_calls.specs.Folds.{IsFold}
-use Rattle.vms_calls.specs.LookReadings.{TellsPlaceValue, TellsSnapshot, TellsSystemValue, TellsTest, read_snapshot}
-use Rattle.vms_calls.specs.LookReadings.{read_test, read_value}
-use Rattle.vms_calls.specs.Looks.{IsPlaceValue, IsSnapshot, IsSystemValue, IsWatermarkTest, Verdict}
-use Rattle.vms_event_core.specs.declared.steps.EventStep.{EventStep}
-use Rattle.vms_event_core.specs.Calls.{IsAllEvents, IsCount, online_cpus, read_all_events, read_count as read_event}
-use Rattle.vms_pcpu_core.specs.declared.answers.Compare.{Compare}
-use Rattle.vms_pcpu_core.specs.declared.steps.PcpuStep.{PcpuStep}
-use Rattle.vms_pcpu_core.specs.Calls.{IsAdd, IsCompare, IsLimitedAdd, IsRead, IsSum, IsSync, unknown}
-use Rattle.vms_pcpu_core.specs.Readings.{read_add, read_compare, read_count, read_limited_add, read_sum, read_sync}
-use Rattle.vms_pcpu_core.proofs.Readings.{read_add-call, read_compare-call, read_count-call, read_limited_add-call}
-use Rattle.vms_pcpu_core.proofs.Readings.{read_sum-call, read_sync-call}
-use Rattle.vms_text.specs.declared.acts.Act.TheVariants.{Mod, Inc, Dec, Ev, Cnt, Lim, Cmp, Sum, Rough, Csync, EvSum}
-use Rattle.vms_text.specs.declared.acts.Act.TheVariants.{Fold, Water, Val, Snap, Sys}
-use Rattle.vms_text.specs.declared.acts.Lane.{Lane}
-use Rattle.vms_text.specs.declared.acts.Lane.TheVariants.{Cpu, Control}
+use Rattle.std.proofs.Common.{◌≡◌, ◌≢◌, ℕ, ℤ, List, [], ◌++◌, Option, Some, None, refl, ap, ◌∙◌}
+use Rattle.vms_world.specs.Common.{Header, CounterId, CpuId, ItemId, PlaceId, Mode, WaterMark, Step, TellsChange}
+use Rattle.vms_world.specs.Common.{read_change, IsChange, TellsFold, read_fold, IsFold, TellsPlaceValue, TellsSnapshot}
+use Rattle.vms_world.specs.Common.{TellsSystemValue, TellsTest, read_snapshot, read_test, read_value, Verdict}
+use Rattle.vms_world.specs.Common.{IsPlaceValue, IsSnapshot, IsSystemValue, IsWatermarkTest, EventAnswer}
+use Rattle.vms_world.specs.Common.{Total as EventTotal, EventCall, EventFacts, EventStep, IsEventCall, read_event_call}
+use Rattle.vms_world.specs.Common.{PcpuAnswer, PcpuCall, PcpuFacts, PcpuStep, IsPcpuCall, Act, Ev, EvSum, Fold, Water}
+use Rattle.vms_world.specs.Common.{Val, Snap, Sys, Lane, Cpu, Control, event_call, lane_owns, pcpu_call, event_facts}
+use Rattle.vms_world.specs.Common.{pcpu_facts}
+use Rattle.vms_event_core.specs.declared.call_values.EventAnswer.TheVariants.{Done}
+use Rattle.vms_pcpu_core.proofs.Common.{tells-call}
+use Rattle.vms_text.specs.declared.acts.Act.TheVariants.{Mod, Inc, Dec, Dead}
 use Rattle.vms_world.specs.declared.worlds.World.{World}
-use Rattle.vms_world.specs.Acts.{owns}
-use Rattle.vms_world.specs.Worlds.{event_facts, pcpu_facts}
-use Rattle.vms_answers.specs.Answers.{Answer, LaneSteps, Tell, by_counters, by_events, by_pages, nothing, on_counters}
-use Rattle.vms_answers.specs.Answers.{on_events, on_pages, then_steps}
+use Rattle.vms_answers.specs.declared.answers.Answer.{Answer}
+use Rattle.vms_answers.specs.Common.{LaneSteps, Tell, by_pages, event_told, first_answer, joined, nothing, on_counters}
+use Rattle.vms_answers.specs.Common.{on_events, on_pages, read_event_act, read_page_act, pcpu_told, read_act}
+use Rattle.vms_answers.specs.Common.{read_pcpu_act, then_steps, told}
 use Rattle.vms_answers.proofs.OpenAnswers.{LaneSteps-same}
-use Rattle.vms_answers.specs.Answers.Answer.{Tested, Value, Snapshot, System, Events, Count, Total, Compared, Limited}
+use Rattle.vms_answers.specs.declared.answers.Answer.TheVariants.{Tested, Value, Snapshot, System}
 
--- the laws of the calls on event counters: their steps tell the sum and where they end, whatever follows them
-abbrev pub TellsCount : Type 0
-TellsCount = (k : EventId) (n : ℕ) (steps rest : List EventStep) → IsCount k n steps
-    → read_event (steps ++ rest) ≡ (tt, rest)
-
-abbrev pub TellsAllEvents : Type 0
-TellsAllEvents = (cpus : List CpuId) (k : EventId) (found : List ℕ) (steps rest : List EventStep) (answer : ℕ)
-    → IsAllEvents cpus k found steps answer → read_all_events (length cpus) (steps ++ rest) ≡ (answer, rest)
+-- the law of the calls on event counters: their steps tell the answer and where they end, whatever follows them
+abbrev pub TellsEventCall : Type 0
+TellsEventCall = (facts : EventFacts) (call : EventCall) (steps rest : List EventStep) (answer : EventAnswer)
+    → IsEventCall facts call steps answer → read_event_call facts call (steps ++ rest) ≡ (answer, rest)
 
 -- steps of a line that makes none in the other tables
 pub on_pages-alone : (steps : LaneSteps) → steps.events ≡ [] → steps.counters ≡ [] → steps ≡ on_pages steps.pages
 on_pages-alone steps no_events no_counters = LaneSteps-same steps (on_pages steps.pages) refl no_events no_counters
-
-pub on_events-alone : (steps : LaneSteps) → steps.pages ≡ [] → steps.counters ≡ [] → steps ≡ on_events steps.events
-on_events-alone steps no_pages no_counters = LaneSteps-same steps (on_events steps.events) no_pages refl no_counters
 
 pub on_counters-alone : (steps : LaneSteps) → steps.pages ≡ [] → steps.events ≡ []
     → steps ≡ on_counters steps.counters
@@ -63,17 +38,6 @@ module _ {A : Type 0} (tell : A → Option Answer) (answer : A) where
       → ((rest : List Step) → read (steps ++ rest) ≡ (answer, rest)) → (rest : LaneSteps)
       → by_pages tell (then_steps (on_pages steps) rest) (read (steps ++ rest.pages)) ≡ (tell answer, rest)
   by_pages-told read steps told rest = ap (by_pages tell (then_steps (on_pages steps) rest)) (told rest.pages)
-
-  pub by_events-told : (read : List EventStep → A × List EventStep) (steps : List EventStep)
-      → ((rest : List EventStep) → read (steps ++ rest) ≡ (answer, rest)) → (rest : LaneSteps)
-      → by_events tell (then_steps (on_events steps) rest) (read (steps ++ rest.events)) ≡ (tell answer, rest)
-  by_events-told read steps told rest = ap (by_events tell (then_steps (on_events steps) rest)) (told rest.events)
-
-  pub by_counters-told : (read : List PcpuStep → A × List PcpuStep) (steps : List PcpuStep)
-      → ((rest : List PcpuStep) → read (steps ++ rest) ≡ (answer, rest)) → (rest : LaneSteps)
-      → by_counters tell (then_steps (on_counters steps) rest) (read (steps ++ rest.counters)) ≡ (tell answer, rest)
-  by_counters-told read steps told rest = ap (by_counters tell (then_steps (on_counters steps) rest))
-      (told rest.counters)
 
 module _ (header : Header) (w : World) where
   -- a change and a fold answer nothing
@@ -93,13 +57,13 @@ module _ (header : Header) (w : World) where
       by_pages-told nothing tt read_change steps (told header.layout c k delta how steps change)
 
   pub Tell-fold : TellsFold → (lane : Lane) (c : CpuId) (steps : List Step)
-      → IsFold header.layout (owns lane c) c steps → Tell header w lane (Fold c) (on_pages steps) None
+      → IsFold header.layout (lane_owns lane c) c steps → Tell header w lane (Fold c) (on_pages steps) None
   Tell-fold told (Cpu d) c steps fold =
-      by_pages-told nothing tt (read_fold header.layout (owns (Cpu d) c)) steps
-      (told header.layout (owns (Cpu d) c) c steps fold)
+      by_pages-told nothing tt (read_fold header.layout (lane_owns (Cpu d) c)) steps
+      (told header.layout (lane_owns (Cpu d) c) c steps fold)
   Tell-fold told Control c steps fold =
-      by_pages-told nothing tt (read_fold header.layout (owns Control c)) steps
-      (told header.layout (owns Control c) c steps fold)
+      by_pages-told nothing tt (read_fold header.layout (lane_owns Control c)) steps
+      (told header.layout (lane_owns Control c) c steps fold)
 
   -- a look at a value tells it, and a test its verdict
   pub Tell-test : TellsTest → (lane : Lane) (g : PlaceId) (mark : WaterMark) (most : ℕ) (steps : List Step)
@@ -136,58 +100,82 @@ module _ (header : Header) (w : World) where
   Tell-system told Control i steps answer call =
       by_pages-told (λ (value : ℕ). Some (System value)) answer read_value steps (told i steps answer call)
 
-  -- a count of an event answers nothing, and the sum over the online CPUs is told
-  pub Tell-count : TellsCount → (c : CpuId) (k : EventId) (n : ℕ) (steps : List EventStep)
-      → IsCount k n steps → Tell header w (Cpu c) (Ev k n) (on_events steps) None
-  Tell-count told c k n steps call =
-      by_events-told nothing tt read_event steps (λ rest. told k n steps rest call)
+  -- an act that makes a call on event counters makes none on the others, unless it buries a CPU
+  events-no_pages : (lane : Lane) (a : Act) (call : EventCall) → event_call lane a ≡ Some call
+      → ((c : CpuId) → a ≢ Dead c) → (steps : List Step) → read_page_act header lane a steps ≡ (None, steps)
+  events-no_pages (Cpu d) (Dead c) call is no_burial steps = absurd (no_burial c refl)
+  events-no_pages Control (Dead c) call is no_burial steps = absurd (no_burial c refl)
+  events-no_pages _ _ call is no_burial steps = cc
 
-  pub Tell-events : TellsAllEvents → (lane : Lane) (k : EventId) (found : List ℕ) (steps : List EventStep) (answer : ℕ)
-      → IsAllEvents (online_cpus (event_facts header w)) k found steps answer
-      → Tell header w lane (EvSum k) (on_events steps) (Some (Events answer))
-  Tell-events told (Cpu d) k found steps answer call =
-      let cpus = online_cpus (event_facts header w) in
-      by_events-told (λ (sum : ℕ). Some (Events sum)) answer (read_all_events (length cpus)) steps
-      (λ rest. told cpus k found steps rest answer call)
-  Tell-events told Control k found steps answer call =
-      let cpus = online_cpus (event_facts header w) in
-      by_events-told (λ (sum : ℕ). Some (Events sum)) answer (read_all_events (length cpus)) steps
-      (λ rest. told cpus k found steps rest answer call)
+  events-no_counters : (lane : Lane) (a : Act) (call : EventCall) → event_call lane a ≡ Some call
+      → ((c : CpuId) → a ≢ Dead c) → pcpu_call lane a ≡ None
+  events-no_counters (Cpu d) (Dead c) call is no_burial = absurd (no_burial c refl)
+  events-no_counters Control (Dead c) call is no_burial = absurd (no_burial c refl)
+  events-no_counters _ _ call is no_burial = cc
 
-  -- the calls on percpu counters
-  pub Tell-add : (c : CpuId) (j : PcpuId) (batch : ℕ) (amount : ℤ) (steps : List PcpuStep)
-      → IsAdd batch c j amount steps → Tell header w (Cpu c) (Cnt j amount) (on_counters steps) None
-  Tell-add c j batch amount steps call =
-      by_counters-told nothing tt read_add steps (λ rest. read_add-call batch c j amount steps rest call)
+  pub Tell-events : TellsEventCall → (lane : Lane) (a : Act) (call : EventCall) (steps : List EventStep)
+      (answer : EventAnswer) → event_call lane a ≡ Some call → ((c : CpuId) → a ≢ Dead c)
+      → IsEventCall (event_facts header w) call steps answer
+      → Tell header w lane a (on_events steps) (event_told answer)
+  Tell-events reads lane a call steps answer is no_burial made rest =
+      let facts : EventFacts = event_facts header w in
+      let in_events : read_event_act facts (event_call lane a) (steps ++ rest.events)
+      ≡ (event_told answer, rest.events) =
+      ap (λ (makes : Option EventCall). read_event_act facts makes (steps ++ rest.events)) is
+      ∙ ap (λ (read : EventAnswer × List EventStep). told event_told read)
+      (reads facts call steps rest.events answer made) in
+      ap (λ (read : Option Answer × List Step). joined read
+      (read_event_act facts (event_call lane a) (steps ++ rest.events))
+      (read_pcpu_act (pcpu_facts header w) (pcpu_call lane a) rest.counters))
+      (events-no_pages lane a call is no_burial rest.pages)
+      ∙ ap (λ (read : Option Answer × List EventStep). joined (None, rest.pages) read
+      (read_pcpu_act (pcpu_facts header w) (pcpu_call lane a) rest.counters)) in_events
+      ∙ ap (λ (makes : Option PcpuCall). joined (None, rest.pages) (event_told answer, rest.events)
+      (read_pcpu_act (pcpu_facts header w) makes rest.counters)) (events-no_counters lane a call is no_burial)
+      ∙ ap (λ (first : Option Answer). (first, rest)) (by answer)
+    where
+      by : (x : EventAnswer) → first_answer (event_told x) None ≡ event_told x
+      by Done = refl
+      by (EventTotal sum) = refl
 
-  pub Tell-limited_add : (c : CpuId) (j : PcpuId) (batch most : ℕ) (cpus : List CpuId) (limit amount : ℤ)
-      (steps : List PcpuStep) (answer : Bool) → IsLimitedAdd batch most cpus c j limit amount steps answer
-      → Tell header w (Cpu c) (Lim j limit amount) (on_counters steps) (Some (Limited answer))
-  Tell-limited_add c j batch most cpus limit amount steps answer call =
-      by_counters-told (λ (made : Bool). Some (Limited made)) answer (read_limited_add amount) steps
-      (λ rest. read_limited_add-call batch most cpus c j limit amount steps rest answer call)
+  -- an act of a CPU's lane that makes a call on percpu counters makes none on the others
+  counters-no_pages : (c : CpuId) (a : Act) (call : PcpuCall) → pcpu_call (Cpu c) a ≡ Some call → (steps : List Step)
+      → read_page_act header (Cpu c) a steps ≡ (None, steps)
+  counters-no_pages c (Mod k delta) call is steps = absurd cc
+  counters-no_pages c (Inc k) call is steps = absurd cc
+  counters-no_pages c (Dec k) call is steps = absurd cc
+  counters-no_pages c (Fold d) call is steps = absurd cc
+  counters-no_pages c (Water g mark most) call is steps = absurd cc
+  counters-no_pages c (Val k) call is steps = absurd cc
+  counters-no_pages c (Snap k) call is steps = absurd cc
+  counters-no_pages c (Sys i) call is steps = absurd cc
+  counters-no_pages c _ call is steps = refl
 
-  pub Tell-compare : (c : CpuId) (j : PcpuId) (cpus : List CpuId) (rhs : ℤ) (steps : List PcpuStep) (answer : Compare)
-      → IsCompare (unknown (pcpu_facts header w) j.number) cpus j rhs steps answer
-      → Tell header w (Cpu c) (Cmp j rhs) (on_counters steps) (Some (Compared answer))
-  Tell-compare c j cpus rhs steps answer call =
-      let most = unknown (pcpu_facts header w) j.number in
-      by_counters-told (λ (told : Compare). Some (Compared told)) answer (read_compare most rhs) steps
-      (λ rest. read_compare-call most cpus j rhs steps rest answer call)
+  counters-no_events : (c : CpuId) (a : Act) (call : PcpuCall) → pcpu_call (Cpu c) a ≡ Some call
+      → event_call (Cpu c) a ≡ None
+  counters-no_events c (Ev k n) call is = absurd cc
+  counters-no_events c (EvSum k) call is = absurd cc
+  counters-no_events c _ call is = refl
 
-  pub Tell-sum : (c : CpuId) (j : PcpuId) (cpus : List CpuId) (steps : List PcpuStep) (answer : ℤ)
-      → IsSum cpus j steps answer → Tell header w (Cpu c) (Sum j) (on_counters steps) (Some (Total answer))
-  Tell-sum c j cpus steps answer call =
-      by_counters-told (λ (sum : ℤ). Some (Total sum)) answer read_sum steps
-      (λ rest. read_sum-call cpus j steps rest answer call)
+  -- what is read of an act of a CPU's lane that makes a call on percpu counters
+  pub read-by_call : (c : CpuId) (call : PcpuCall) (a : Act) → pcpu_call (Cpu c) a ≡ Some call → (steps : LaneSteps)
+      → read_act header w (Cpu c) a steps
+      ≡ joined (None, steps.pages) (None, steps.events) (read_pcpu_act (pcpu_facts header w) (Some call) steps.counters)
+  read-by_call c call a is steps =
+      let facts : PcpuFacts = pcpu_facts header w in
+      ap (λ (read : Option Answer × List Step). joined read
+      (read_event_act (event_facts header w) (event_call (Cpu c) a) steps.events)
+      (read_pcpu_act facts (pcpu_call (Cpu c) a) steps.counters)) (counters-no_pages c a call is steps.pages)
+      ∙ ap (λ (makes : Option EventCall). joined (None, steps.pages)
+      (read_event_act (event_facts header w) makes steps.events)
+      (read_pcpu_act facts (pcpu_call (Cpu c) a) steps.counters)) (counters-no_events c a call is)
+      ∙ ap (λ (makes : Option PcpuCall). joined (None, steps.pages) (None, steps.events)
+      (read_pcpu_act facts makes steps.counters)) is
 
-  pub Tell-rough : (c : CpuId) (j : PcpuId) (steps : List PcpuStep) (answer : ℤ)
-      → IsRead j steps answer → Tell header w (Cpu c) (Rough j) (on_counters steps) (Some (Count answer))
-  Tell-rough c j steps answer call =
-      by_counters-told (λ (count : ℤ). Some (Count count)) answer read_count steps
-      (λ rest. read_count-call j steps rest answer call)
-
-  pub Tell-sync : (c cpu : CpuId) (j : PcpuId) (steps : List PcpuStep) → IsSync cpu j steps
-      → Tell header w (Cpu c) (Csync j) (on_counters steps) None
-  Tell-sync c cpu j steps call =
-      by_counters-told nothing tt read_sync steps (λ rest. read_sync-call cpu j steps rest call)
+  pub Tell-call : (c : CpuId) (call : PcpuCall) (a : Act) → pcpu_call (Cpu c) a ≡ Some call → (steps : List PcpuStep)
+      (answer : PcpuAnswer) → IsPcpuCall (pcpu_facts header w) (Some c) call steps answer
+      → Tell header w (Cpu c) a (on_counters steps) (pcpu_told answer)
+  Tell-call c call a is steps answer made rest =
+      read-by_call c call a is (then_steps (on_counters steps) rest)
+      ∙ ap (λ (read : PcpuAnswer × List PcpuStep). joined (None, rest.pages) (None, rest.events)
+      (told pcpu_told read)) (tells-call (pcpu_facts header w) (Some c) call steps rest.counters answer made)

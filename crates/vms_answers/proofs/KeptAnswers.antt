@@ -1,36 +1,24 @@
 -- For other crates too: what lines answer can be kept in 16 bytes.
-use Rattle.std.proofs.Common.{◌≡◌, ◌<◌, ◌≤◌, ◌+◌, ℕ, suc, zero, nat_eq, nat_le, ◌&&◌, not, Bool, true, false, List}
-use Rattle.std.proofs.Common.{[], ◌∷◌, ◌++◌}
-use Rattle.std.proofs.Common.{filter, length, position, if◌then◌else◌, Option, Some, None, refl, ap, subst, arith}
+use Rattle.std.proofs.Common.{◌≡◌, ◌<◌, ◌≤◌, ◌+◌, ℕ, suc, zero, nat_eq, nat_le, ◌&&◌, not, Bool, true, false, List, []}
+use Rattle.std.proofs.Common.{◌∷◌, ◌++◌, filter, length, position, if◌then◌else◌, Option, Some, None, refl, ap, subst}
+use Rattle.std.proofs.Common.{arith}
 use Rattle.std.specs.Prelude.{IfSome}
 use Rattle.std.specs.Str.{bytes_eq}
-use Rattle.vms_base.specs.declared.headers.Header.{Header}
-use Rattle.vms_base.specs.declared.headers.ItemDecl.{ItemDecl}
-use Rattle.vms_base.specs.declared.ids.PlaceId.{PlaceId}
-use Rattle.vms_base.specs.declared.kinds.WaterMark.{WaterMark}
-use Rattle.vms_base.specs.declared.kinds.WaterMark.TheVariants.{High}
-use Rattle.vms_base.specs.Areas.{Area, area_at, area_names, areas_from, areas_named, areas_of}
-use Rattle.vms_base.specs.Headers.{IsHeader}
-use Rattle.vms_base.specs.Watermarks.{limit_of}
-use Rattle.vms_core.specs.declared.steps.Step.{Step}
-use Rattle.vms_calls.specs.LookReadings.{read_snapshot, read_test}
-use Rattle.vms_calls.specs.Looks.{Verdict}
-use Rattle.vms_calls.specs.RatingReadings.{read_node_rating}
-use Rattle.vms_calls.specs.Ratings.{node_number, numbers_below, zones_on}
-use Rattle.vms_calls.specs.TurnReadings.{block_or, passed_or, read_areas, read_balance, read_blocks, read_order_test}
-use Rattle.vms_calls.specs.TurnReadings.{read_turn, read_zones, settled_read, with_blocks}
-use Rattle.vms_calls.specs.Turns.{Balance, OrderVerdict, blocks_at, has_room, zones_up_to}
-use Rattle.vms_calls.specs.Turns.Balance.{Yes, No}
-use Rattle.vms_text.specs.declared.acts.Act.{Act}
-use Rattle.vms_text.specs.declared.acts.Act.TheVariants.{Mod, Inc, Dec, Ev, Cnt, Lim, Cmp, Sum, Rough, Csync, EvSum}
-use Rattle.vms_text.specs.declared.acts.Act.TheVariants.{Fold, Water, Val, Snap, Sys, Pressure, Normal, Dead, Kswapd}
-use Rattle.vms_text.specs.declared.acts.Lane.{Lane}
-use Rattle.vms_text.specs.declared.acts.Lane.TheVariants.{Cpu, Control}
+use Rattle.vms_world.specs.Common.{Header, ItemDecl, PlaceId, WaterMark, High, Area, area_at, area_names, areas_from}
+use Rattle.vms_world.specs.Common.{areas_named, areas_of, IsHeader, limit_of, Step, read_snapshot, read_test, Verdict}
+use Rattle.vms_world.specs.Common.{read_node_rating, node_number, numbers_below, zones_on, block_or, passed_or}
+use Rattle.vms_world.specs.Common.{read_areas, read_balance, read_blocks, read_order_test, read_turn, read_zones}
+use Rattle.vms_world.specs.Common.{settled_read, with_blocks, Balance, OrderVerdict, blocks_at, has_room, zones_up_to}
+use Rattle.vms_world.specs.Common.{Yes, No, EventAnswer, Total as EventTotal, EventCall, EventStep, read_event_call}
+use Rattle.vms_world.specs.Common.{PcpuAnswer, PcpuCall, PcpuStep, read_pcpu_call, Act, Kswapd, Lane, Cpu, Control}
+use Rattle.vms_world.specs.Common.{event_call, pcpu_call, event_facts, pcpu_facts}
+use Rattle.vms_event_core.specs.declared.call_values.EventAnswer.TheVariants.{Done}
+use Rattle.vms_pcpu_core.specs.declared.answers.PcpuAnswer.TheVariants as kinds
 use Rattle.vms_world.specs.declared.worlds.World.{World}
-use Rattle.vms_answers.specs.Answers.{Answer, LaneSteps, Tell, no_steps, read_act}
-use Rattle.vms_answers.specs.Answers.{then_steps}
-use Rattle.vms_answers.specs.Answers.Answer.{Balanced}
-use Rattle.vms_answers.specs.ToldAnswers.{IsKeepable}
+use Rattle.vms_answers.specs.declared.answers.Answer.{Answer}
+use Rattle.vms_answers.specs.Common.{LaneSteps, Tell, event_told, first_answer, no_steps, read_act, pcpu_told}
+use Rattle.vms_answers.specs.Common.{read_event_act, read_page_act, read_pcpu_act, then_steps, IsKeepableAnswer}
+use Rattle.vms_answers.specs.declared.answers.Answer.TheVariants.{Balanced}
 
 -- the orders of these areas have at most 8 bits
 abbrev AreSmall : List Area → Type 0
@@ -131,7 +119,7 @@ zones-below (suc n) less =
 
 -- a verdict on a node that can be kept
 abbrev IsKept : Balance → Type 0
-IsKept balance = IsKeepable (Balanced balance)
+IsKept balance = IsKeepableAnswer (Balanced balance)
 
 module _ (header : Header) where
   kept-zones : (most order : ℕ) (gs : List ℕ) (steps : List Step) → AreSmallZones gs
@@ -169,34 +157,51 @@ module _ (header : Header) where
       (zones-below (length header.layout.zones) (omega (arith, valid.is_layout.zones_most))))))
 
 module _ (header : Header) (valid : IsHeader header) (w : World) where
-  read-kept : (lane : Lane) (act : Act) (steps : LaneSteps) → IfSome (read_act header w lane act steps).0 IsKeepable
-  read-kept (Cpu c) (Mod k delta) steps = tt
-  read-kept (Cpu c) (Inc k) steps = tt
-  read-kept (Cpu c) (Dec k) steps = tt
-  read-kept (Cpu c) (Ev k n) steps = tt
-  read-kept (Cpu c) (Cnt j amount) steps = tt
-  read-kept (Cpu c) (Lim j limit amount) steps = tt
-  read-kept (Cpu c) (Cmp j rhs) steps = tt
-  read-kept (Cpu c) (Sum j) steps = tt
-  read-kept (Cpu c) (Rough j) steps = tt
-  read-kept (Cpu c) (Csync j) steps = tt
-  read-kept lane (EvSum k) steps = tt
-  read-kept lane (Fold c) steps = tt
-  read-kept lane (Water g mark most) steps = tt
-  read-kept lane (Val k) steps = tt
-  read-kept lane (Snap k) steps = tt
-  read-kept lane (Sys i) steps = tt
-  read-kept Control (Pressure n) steps = tt
-  read-kept Control (Normal n) steps = tt
-  read-kept Control (Dead c) steps = tt
-  read-kept Control (Kswapd n order most) steps =
-      kept-turn header valid n order most steps.pages
-  read-kept _ _ steps = tt
+  page-kept : (lane : Lane) (act : Act) (steps : List Step)
+      → IfSome (read_page_act header lane act steps).0 IsKeepableAnswer
+  page-kept (Cpu c) (Kswapd n order most) steps = tt
+  page-kept Control (Kswapd n order most) steps = kept-turn header valid n order most steps
+  page-kept _ _ steps = tt
+
+  event-kept : (call : Option EventCall) (steps : List EventStep)
+      → IfSome (read_event_act (event_facts header w) call steps).0 IsKeepableAnswer
+  event-kept None steps = tt
+  event-kept (Some call) steps = by (read_event_call (event_facts header w) call steps).0
+    where
+      by : (answer : EventAnswer) → IfSome (event_told answer) IsKeepableAnswer
+      by Done = tt
+      by (EventTotal sum) = tt
+
+  pcpu-kept : (call : Option PcpuCall) (steps : List PcpuStep)
+      → IfSome (read_pcpu_act (pcpu_facts header w) call steps).0 IsKeepableAnswer
+  pcpu-kept None steps = tt
+  pcpu-kept (Some call) steps = by (read_pcpu_call (pcpu_facts header w) call steps).0
+    where
+      by : (answer : PcpuAnswer) → IfSome (pcpu_told answer) IsKeepableAnswer
+      by kinds.Done = tt
+      by (kinds.Limited made) = tt
+      by (kinds.Compared answer) = tt
+      by (kinds.Total sum) = tt
+      by (kinds.Count count) = tt
+
+  first-kept : (first other : Option Answer) → IfSome first IsKeepableAnswer → IfSome other IsKeepableAnswer
+      → IfSome (first_answer first other) IsKeepableAnswer
+  first-kept (Some answer) other kept more = kept
+  first-kept None other kept more = more
+
+  read-kept : (lane : Lane) (act : Act) (steps : LaneSteps) →
+      IfSome (read_act header w lane act steps).0 IsKeepableAnswer
+  read-kept lane act steps =
+      let events = read_event_act (event_facts header w) (event_call lane act) steps.events in
+      let counters = read_pcpu_act (pcpu_facts header w) (pcpu_call lane act) steps.counters in
+      first-kept (read_page_act header lane act steps.pages).0 (first_answer events.0 counters.0)
+      (page-kept lane act steps.pages) (first-kept events.0 counters.0
+      (event-kept (event_call lane act) steps.events) (pcpu-kept (pcpu_call lane act) steps.counters))
 
   -- what the steps of an act tell can be kept
   pub told-keepable : (lane : Lane) (act : Act) (steps : LaneSteps) (answer : Option Answer)
-      → Tell header w lane act steps answer → IfSome answer IsKeepable
+      → Tell header w lane act steps answer → IfSome answer IsKeepableAnswer
   told-keepable lane act steps answer tells =
-      subst (λ (told : Option Answer). IfSome told IsKeepable)
+      subst (λ (told : Option Answer). IfSome told IsKeepableAnswer)
       (ap (λ (read : Option Answer × LaneSteps). read.0) (tells no_steps))
       (read-kept lane act (then_steps steps no_steps))

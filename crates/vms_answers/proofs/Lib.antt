@@ -1,3 +1,7 @@
 pub mod OpenAnswers
 pub mod ActAnswers
 pub mod KeptAnswers
+pub mod ControlAnswers
+pub mod MergedLines
+mod TakenAnswers
+pub mod Common

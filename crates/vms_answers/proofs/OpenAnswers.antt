@@ -1,32 +1,20 @@
 -- For other crates too: the answers of the lines so far, from the opening of a phase on to its closing.
-use Rattle.std.proofs.Common.{◌≡◌, ◌≢◌, ℕ, Bool, true, false, if◌then◌else◌, List, [], ◌∷◌, ◌++◌, map}
-use Rattle.std.proofs.Common.{Option, Some, None, refl, sym, ap, subst, ◌∙◌, arith, append_assoc, append-nil}
+use Rattle.std.proofs.Common.{◌≡◌, ◌≢◌, ℕ, Bool, true, false, if◌then◌else◌, List, [], ◌∷◌, ◌++◌, map, Option, Some}
+use Rattle.std.proofs.Common.{None, refl, sym, ap, subst, ◌∙◌, arith, append_assoc, append-nil}
 use Rattle.std.specs.Prelude.{All, reverse}
 use Rattle.std.proofs.lemmas.List.{map-append, reverse-append}
 use Rattle.std.proofs.lemmas.List.Elements.{All-head, All-nil, All-push, All-tail}
-use Rattle.vms_base.specs.declared.headers.Header.{Header}
-use Rattle.vms_history.specs.declared.events.Event.{Event}
-use Rattle.vms_history.specs.Events.{after, own}
-use Rattle.vms_history.proofs.Own.{own-after, own-after_others}
-use Rattle.vms_core.specs.declared.steps.Step.{Step}
-use Rattle.vms_event_core.specs.declared.steps.EventStep.{EventStep}
-use Rattle.vms_pcpu_core.specs.declared.steps.PcpuStep.{PcpuStep}
-use Rattle.vms_script.specs.PhaseScripts.{is_lane}
-use Rattle.vms_text.specs.declared.acts.Item.{Item}
-use Rattle.vms_text.specs.declared.acts.Lane.{Lane}
+use Rattle.vms_world.specs.Common.{Header, Event, after, own, Step, EventStep, PcpuStep, is_lane, Item, Lane, is_among}
+use Rattle.vms_world.specs.Common.{lanes_of, TableHistories}
+use Rattle.vms_history.proofs.Common.{own-after, own-after_others}
 use Rattle.vms_world.specs.declared.worlds.World.{World}
-use Rattle.vms_world.specs.Lanes.{is_among, lanes_of}
-use Rattle.vms_world.specs.Phases.{Histories}
-use Rattle.vms_file_order.specs.LanePasses.{ends_from, pass_of}
-use Rattle.vms_file_order.specs.OpenPhases.{closings_of, openings_of}
-use Rattle.vms_file_order.specs.Tables.{page_passes, event_passes, pcpu_passes}
-use Rattle.vms_file_order.proofs.LaneLists.{HasPlace-among, is_lane-same, is_lane-self, lane_at-pass_of}
-use Rattle.vms_file_order.proofs.LaneLists.{pass_of-least}
-use Rattle.vms_file_order.proofs.Openings.{own-opening_others}
-use Rattle.vms_answers.specs.Answers.{Answer, LaneSteps, Tell, no_steps, read_act, then_steps}
-use Rattle.vms_answers.specs.OpenAnswers.{Answered, then_later}
-use Rattle.vms_answers.specs.PhaseAnswers.{NumberedAnswer, answers_of, read_lines, steps_by, steps_of, with_answer}
-use Rattle.vms_answers.specs.PhaseAnswers.{with_left}
+use Rattle.vms_file_order.specs.Common.{ends_from, pass_of, closings_of, openings_of, page_passes, event_passes}
+use Rattle.vms_file_order.specs.Common.{pcpu_passes}
+use Rattle.vms_file_order.proofs.Common.{HasPlace-among, is_lane-same, is_lane-self, lane_at-pass_of, pass_of-least}
+use Rattle.vms_file_order.proofs.Common.{own-opening_others}
+use Rattle.vms_answers.specs.declared.answers.Answer.{Answer}
+use Rattle.vms_answers.specs.Common.{LaneSteps, Tell, no_steps, read_act, then_steps, Answered, then_later}
+use Rattle.vms_answers.specs.Common.{NumberedAnswer, answers_of, read_lines, steps_by, steps_of, with_answer, with_left}
 
 -- steps that agree in each table
 abbrev made : List Step → List EventStep → List PcpuStep → LaneSteps
@@ -77,14 +65,14 @@ pass_of-apart lanes l m among_l among_m apart same =
     absurd cc
 
 -- the histories with steps of a line
-abbrev with_steps : List Lane → Item → Histories → LaneSteps → Histories
+abbrev with_steps : List Lane → Item → TableHistories → LaneSteps → TableHistories
 with_steps lanes item hs steps = record {
   pages = after (pass_of lanes item.lane) steps.pages hs.pages;
   events = after (pass_of lanes item.lane) steps.events hs.events;
   counters = after (pass_of lanes item.lane) steps.counters hs.counters;
 }
 
-module _ (lanes : List Lane) (item : Item) (hs : Histories) (steps : LaneSteps) where
+module _ (lanes : List Lane) (item : Item) (hs : TableHistories) (steps : LaneSteps) where
   steps_of-mine : steps_of lanes (with_steps lanes item hs steps) item.lane
       ≡ then_steps (steps_of lanes hs item.lane) steps
   steps_of-mine =
@@ -119,7 +107,7 @@ steps_of-opening lanes lane among =
     (steps_by-opening hs.counters q (own-opening_others pcpu_passes lanes q other))
 
 -- and none more in the closing
-steps_of-closing : (lanes : List Lane) (hs : Histories) (lane : Lane) → is_among lane lanes ≡ true
+steps_of-closing : (lanes : List Lane) (hs : TableHistories) (lane : Lane) → is_among lane lanes ≡ true
     → steps_of lanes (closings_of lanes hs) lane ≡ then_steps (steps_of lanes hs lane) no_steps
 steps_of-closing lanes hs lane among =
     let q = pass_of lanes lane in
@@ -202,9 +190,9 @@ module _ (header : Header) (w : World) where
         by left lane false among = refl
 
     -- the steps of a line come after those of its lane so far
-    module _ (hs : Histories) (item : Item) (steps : LaneSteps) (among : is_among item.lane lanes ≡ true)
+    module _ (hs : TableHistories) (item : Item) (steps : LaneSteps) (among : is_among item.lane lanes ≡ true)
         (left : Lane → LaneSteps) where
-      abbrev more : Histories
+      abbrev more : TableHistories
       more = with_steps lanes item hs steps
 
       abbrev first : LaneSteps
@@ -234,7 +222,7 @@ module _ (header : Header) (w : World) where
               absurd cc
           by false false is_none other = refl
 
-    pub Answered-line : (items : List Item) (hs : Histories) (answers : List NumberedAnswer)
+    pub Answered-line : (items : List Item) (hs : TableHistories) (answers : List NumberedAnswer)
         → Answered header w lanes items hs answers → (item : Item) (steps : LaneSteps) (answer : Option Answer)
         → is_among item.lane lanes ≡ true → Tell header w item.lane item.act steps answer
         → Answered header w lanes (items ++ item ∷ []) (with_steps lanes item hs steps)
@@ -253,7 +241,7 @@ module _ (header : Header) (w : World) where
           ∙ sym (append_assoc answers (with_answer item.number answer []) (read_lines header w later left));
     }
 
-  pub answers_of-closing : (items : List Item) (hs : Histories) (answers : List NumberedAnswer)
+  pub answers_of-closing : (items : List Item) (hs : TableHistories) (answers : List NumberedAnswer)
       → Answered header w (lanes_of header.layout items) items hs answers
       → answers_of header w items (closings_of (lanes_of header.layout items) hs) ≡ answers
   answers_of-closing items hs answers answered =

@@ -1,15 +1,10 @@
 -- How the answer of a line is printed.
 use Rattle.std.specs.Prelude.{ℕ, Bool, if◌then◌else◌, List, [], ◌∷◌, ◌++◌, flat_map, codes, decimal, option_to_list}
 use Rattle.std.specs.Fmt.{signed_decimal}
-use Rattle.vms_base.specs.declared.headers.Header.{Header}
-use Rattle.vms_base.specs.declared.ids.PlaceId.{PlaceId}
-use Rattle.vms_base.specs.Names.{kind_names}
-use Rattle.vms_base.specs.Places.{zone_at, zone_index}
-use Rattle.vms_calls.specs.Turns.Balance.{Yes, No}
-use Rattle.vms_text.specs.Spelling.{entry, sentence}
-use Rattle.vms_answers.specs.Answers.{Answer}
-use Rattle.vms_answers.specs.Answers.Answer.{Tested, Value, Snapshot, System, Events, Count, Total, Compared}
-use Rattle.vms_answers.specs.Answers.Answer.{Limited, Balanced}
+use Rattle.vms_world.specs.Common.{Header, PlaceId, kind_names, zone_at, zone_index, Yes, No, entry_if_any, sentence}
+use Rattle.vms_answers.specs.declared.answers.Answer.{Answer}
+use Rattle.vms_answers.specs.declared.answers.Answer.TheVariants.{Tested, Value, Snapshot, System, Events, Count, Total}
+use Rattle.vms_answers.specs.declared.answers.Answer.TheVariants.{Compared, Limited, Balanced}
 
 abbrev pub yes_or_no : Bool → List ℕ
 yes_or_no test = if test then codes "yes" else codes "no"
@@ -21,7 +16,8 @@ free_words free fast = codes "free" ∷ decimal free ∷ (if fast then codes "fa
 -- the word of a zone's kind
 abbrev pub kind_word : Header → PlaceId → List (List ℕ)
 kind_word header zone =
-    flat_map (λ name. entry kind_names (zone_index name.kind)) (option_to_list (zone_at header.layout zone.number))
+    flat_map (λ name. entry_if_any kind_names (zone_index name.kind))
+    (option_to_list (zone_at header.layout zone.number))
 
 -- the words of an answer: pages and events are counted, and an order is 1, 0 or -1
 abbrev pub answer_words : Header → Answer → List (List ℕ)

@@ -1,45 +1,17 @@
 -- What lines answer, and what the steps of an act tell of it.
-use Rattle.std.specs.Prelude.{◌≡◌, ℕ, Bool, ℤ, List, [], ◌++◌, length, Option, Some, None}
-use Rattle.vms_base.specs.declared.headers.Header.{Header}
-use Rattle.vms_core.specs.declared.steps.Step.{Step}
-use Rattle.vms_calls.specs.ChangeReadings.{read_change}
-use Rattle.vms_calls.specs.FoldReadings.{read_fold}
-use Rattle.vms_calls.specs.LookReadings.{read_snapshot, read_test, read_value}
-use Rattle.vms_calls.specs.Looks.{Verdict}
-use Rattle.vms_calls.specs.RatingReadings.{read_burial, read_node_rating}
-use Rattle.vms_calls.specs.TurnReadings.{read_turn}
-use Rattle.vms_calls.specs.Turns.{Balance}
-use Rattle.vms_event_core.specs.declared.steps.EventStep.{EventStep}
-use Rattle.vms_event_core.specs.Calls.{online_cpus, read_all_events, read_count as read_event, read_fold_events}
-use Rattle.vms_event_core.specs.Words.{event_count}
-use Rattle.vms_pcpu_core.specs.declared.answers.Compare.{Compare}
-use Rattle.vms_pcpu_core.specs.declared.steps.PcpuStep.{PcpuStep}
-use Rattle.vms_pcpu_core.specs.Calls.{unknown}
-use Rattle.vms_pcpu_core.specs.Readings.{read_add, read_compare, read_count, read_fold_dead, read_limited_add, read_sum}
-use Rattle.vms_pcpu_core.specs.Readings.{read_sync}
-use Rattle.vms_text.specs.declared.acts.Act.{Act}
-use Rattle.vms_text.specs.declared.acts.Act.TheVariants.{Mod, Inc, Dec, Ev, Cnt, Lim, Cmp, Sum, Rough, Csync, EvSum}
-use Rattle.vms_text.specs.declared.acts.Act.TheVariants.{Fold, Water, Val, Snap, Sys, Pressure, Normal, Dead, Kswapd}
-use Rattle.vms_text.specs.declared.acts.Lane.{Lane}
-use Rattle.vms_text.specs.declared.acts.Lane.TheVariants.{Cpu, Control}
+use Rattle.std.specs.Prelude.{◌≡◌, List, [], ◌++◌, Option, Some, None}
+use Rattle.vms_world.specs.Common.{Header, Step, read_change, read_fold, read_snapshot, read_test, read_value}
+use Rattle.vms_world.specs.Common.{read_burial, read_node_rating, read_turn, EventAnswer, Total as EventTotal}
+use Rattle.vms_world.specs.Common.{EventCall, EventFacts, EventStep, read_event_call, PcpuAnswer, PcpuCall, PcpuFacts}
+use Rattle.vms_world.specs.Common.{PcpuStep, read_pcpu_call, Act, Fold, Water, Val, Snap, Sys, Pressure, Normal, Kswapd}
+use Rattle.vms_world.specs.Common.{Lane, Cpu, Control, event_call, lane_owns, pcpu_call, event_facts, pcpu_facts}
+use Rattle.vms_event_core.specs.declared.call_values.EventAnswer.TheVariants.{Done}
+use Rattle.vms_pcpu_core.specs.declared.answers.PcpuAnswer.TheVariants as kinds
+use Rattle.vms_text.specs.declared.acts.Act.TheVariants.{Mod, Inc, Dec, Dead}
 use Rattle.vms_world.specs.declared.worlds.World.{World}
-use Rattle.vms_world.specs.Acts.{owns}
-use Rattle.vms_world.specs.Worlds.{event_facts, pcpu_facts}
-
--- what a line answers, by what is printed of it: a verdict on a watermark, a value of a counter, a snapshot, a
--- system-wide value, a sum of events, the count of a percpu counter, its sum, a comparison, whether a limited addition
--- was made, and the verdict on a node
-pub data Answer : Type 0 where
-  Tested : Verdict → Answer
-  Value : ℕ → Answer
-  Snapshot : ℕ → Answer
-  System : ℕ → Answer
-  Events : ℕ → Answer
-  Count : ℤ → Answer
-  Total : ℤ → Answer
-  Compared : Compare → Answer
-  Limited : Bool → Answer
-  Balanced : Balance → Answer
+use Rattle.vms_answers.specs.declared.answers.Answer.{Answer}
+use Rattle.vms_answers.specs.declared.answers.Answer.TheVariants.{Tested, Value, Snapshot, System, Events, Count, Total}
+use Rattle.vms_answers.specs.declared.answers.Answer.TheVariants.{Compared, Limited, Balanced}
 
 -- steps of one lane's pass in each table, the oldest first
 pub record LaneSteps : Type 0 where
@@ -72,55 +44,73 @@ then_steps first rest = record {
 abbrev pub by_pages : {A : Type 0} → (A → Option Answer) → LaneSteps → A × List Step → Option Answer × LaneSteps
 by_pages tell steps (answer, rest) = (tell answer, record steps { pages = rest })
 
-abbrev pub by_events : {A : Type 0} → (A → Option Answer) → LaneSteps → A × List EventStep
-    → Option Answer × LaneSteps
-by_events tell steps (answer, rest) = (tell answer, record steps { events = rest })
-
-abbrev pub by_counters : {A : Type 0} → (A → Option Answer) → LaneSteps → A × List PcpuStep
-    → Option Answer × LaneSteps
-by_counters tell steps (answer, rest) = (tell answer, record steps { counters = rest })
+-- what was read of a table, as an answer or nothing, with the steps after it
+abbrev pub told : {A K : Type 0} → (A → Option Answer) → A × List K → Option Answer × List K
+told tell (answer, rest) = (tell answer, rest)
 
 abbrev pub nothing : {A : Type 0} → A → Option Answer
 nothing done = None
 
+-- what the steps of a pass on the page counters answer that begin with those of an act, and the steps after them
+abbrev pub read_page_act : Header → Lane → Act → List Step → Option Answer × List Step
+read_page_act header (Cpu c) (Mod k delta) steps = told nothing (read_change steps)
+read_page_act header (Cpu c) (Inc k) steps = told nothing (read_change steps)
+read_page_act header (Cpu c) (Dec k) steps = told nothing (read_change steps)
+read_page_act header lane (Fold c) steps = told nothing (read_fold header.layout (lane_owns lane c) steps)
+read_page_act header lane (Water g mark most) steps =
+    told (λ verdict. Some (Tested verdict)) (read_test header g mark most steps)
+read_page_act header lane (Val k) steps = told (λ value. Some (Value value)) (read_value steps)
+read_page_act header lane (Snap k) steps =
+    told (λ value. Some (Snapshot value)) (read_snapshot header.layout k steps)
+read_page_act header lane (Sys i) steps = told (λ value. Some (System value)) (read_value steps)
+read_page_act header Control (Pressure n) steps = told nothing (read_node_rating header.layout n steps)
+read_page_act header Control (Normal n) steps = told nothing (read_node_rating header.layout n steps)
+read_page_act header Control (Dead c) steps = told nothing (read_burial header.layout steps)
+read_page_act header Control (Kswapd n order most) steps =
+    told (λ balance. Some (Balanced balance)) (read_turn header n order most steps)
+read_page_act header _ _ steps = (None, steps)
+
+-- the answer of a line by that of its call on the event counters
+abbrev pub event_told : EventAnswer → Option Answer
+event_told Done = None
+event_told (EventTotal sum) = Some (Events sum)
+
+-- the same on the event counters, by the call that the act makes there
+abbrev pub read_event_act : EventFacts → Option EventCall → List EventStep → Option Answer × List EventStep
+read_event_act facts None steps = (None, steps)
+read_event_act facts (Some call) steps = told event_told (read_event_call facts call steps)
+
+-- the answer of a line by that of its call on the percpu counters
+abbrev pub pcpu_told : PcpuAnswer → Option Answer
+pcpu_told kinds.Done = None
+pcpu_told (kinds.Limited made) = Some (Limited made)
+pcpu_told (kinds.Compared answer) = Some (Compared answer)
+pcpu_told (kinds.Total sum) = Some (Total sum)
+pcpu_told (kinds.Count count) = Some (Count count)
+
+-- the same on the percpu counters
+abbrev pub read_pcpu_act : PcpuFacts → Option PcpuCall → List PcpuStep → Option Answer × List PcpuStep
+read_pcpu_act facts None steps = (None, steps)
+read_pcpu_act facts (Some call) steps = told pcpu_told (read_pcpu_call facts call steps)
+
+-- an answer, or else that one
+abbrev pub first_answer : Option Answer → Option Answer → Option Answer
+first_answer (Some answer) other = Some answer
+first_answer None other = other
+
+-- what was read of the three tables: one of them answers at most
+abbrev pub joined : Option Answer × List Step → Option Answer × List EventStep → Option Answer × List PcpuStep
+    → Option Answer × LaneSteps
+joined pages events counters = (
+  first_answer pages.0 (first_answer events.0 counters.0),
+  record { pages = pages.1; events = events.1; counters = counters.1 },
+)
+
 -- what the steps of a lane answer that begin with those of an act in a phase from this world, and the steps after them
 abbrev pub read_act : Header → World → Lane → Act → LaneSteps → Option Answer × LaneSteps
-read_act header w (Cpu c) (Mod k delta) steps = by_pages nothing steps (read_change steps.pages)
-read_act header w (Cpu c) (Inc k) steps = by_pages nothing steps (read_change steps.pages)
-read_act header w (Cpu c) (Dec k) steps = by_pages nothing steps (read_change steps.pages)
-read_act header w (Cpu c) (Ev k n) steps = by_events nothing steps (read_event steps.events)
-read_act header w (Cpu c) (Cnt j amount) steps = by_counters nothing steps (read_add steps.counters)
-read_act header w (Cpu c) (Lim j limit amount) steps =
-    by_counters (λ made. Some (Limited made)) steps (read_limited_add amount steps.counters)
-read_act header w (Cpu c) (Cmp j rhs) steps = by_counters (λ answer. Some (Compared answer)) steps
-    (read_compare (unknown (pcpu_facts header w) j.number) rhs steps.counters)
-read_act header w (Cpu c) (Sum j) steps = by_counters (λ sum. Some (Total sum)) steps (read_sum steps.counters)
-read_act header w (Cpu c) (Rough j) steps = by_counters (λ count. Some (Count count)) steps (read_count steps.counters)
-read_act header w (Cpu c) (Csync j) steps = by_counters nothing steps (read_sync steps.counters)
-read_act header w lane (EvSum k) steps = by_events (λ sum. Some (Events sum)) steps
-    (read_all_events (length (online_cpus (event_facts header w))) steps.events)
-read_act header w lane (Fold c) steps =
-    by_pages nothing steps (read_fold header.layout (owns lane c) steps.pages)
-read_act header w lane (Water g mark most) steps =
-    by_pages (λ verdict. Some (Tested verdict)) steps (read_test header g mark most steps.pages)
-read_act header w lane (Val k) steps = by_pages (λ value. Some (Value value)) steps (read_value steps.pages)
-read_act header w lane (Snap k) steps =
-    by_pages (λ value. Some (Snapshot value)) steps (read_snapshot header.layout k steps.pages)
-read_act header w lane (Sys i) steps = by_pages (λ value. Some (System value)) steps (read_value steps.pages)
-read_act header w Control (Pressure n) steps =
-    by_pages nothing steps (read_node_rating header.layout n steps.pages)
-read_act header w Control (Normal n) steps = by_pages nothing steps (read_node_rating header.layout n steps.pages)
-read_act header w Control (Dead c) steps = (
-  None,
-  record {
-    pages = (read_burial header.layout steps.pages).1;
-    events = (read_fold_events event_count steps.events).1;
-    counters = (read_fold_dead (length header.counters) steps.counters).1;
-  },
-)
-read_act header w Control (Kswapd n order most) steps =
-    by_pages (λ balance. Some (Balanced balance)) steps (read_turn header n order most steps.pages)
-read_act header w _ _ steps = (None, steps)
+read_act header w lane act steps = joined (read_page_act header lane act steps.pages)
+    (read_event_act (event_facts header w) (event_call lane act) steps.events)
+    (read_pcpu_act (pcpu_facts header w) (pcpu_call lane act) steps.counters)
 
 -- steps in the three tables tell this answer of an act, or none, whatever follows them
 abbrev pub Tell : Header → World → Lane → Act → LaneSteps → Option Answer → Type 0

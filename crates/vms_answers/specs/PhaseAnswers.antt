@@ -1,16 +1,10 @@
 -- What the lines of a phase answer, by its histories.
 use Rattle.std.specs.Prelude.{ℕ, List, [], ◌∷◌, map, reverse, if◌then◌else◌, Option, Some, None}
-use Rattle.vms_base.specs.declared.headers.Header.{Header}
-use Rattle.vms_history.specs.declared.events.Event.{Event}
-use Rattle.vms_history.specs.Events.{own}
-use Rattle.vms_text.specs.declared.acts.Item.{Item}
-use Rattle.vms_text.specs.declared.acts.Lane.{Lane}
-use Rattle.vms_script.specs.PhaseScripts.{is_lane}
+use Rattle.vms_world.specs.Common.{Header, Event, own, Item, Lane, is_lane, lanes_of, TableHistories}
 use Rattle.vms_world.specs.declared.worlds.World.{World}
-use Rattle.vms_world.specs.Lanes.{lanes_of}
-use Rattle.vms_world.specs.Phases.{Histories}
-use Rattle.vms_file_order.specs.LanePasses.{pass_of}
-use Rattle.vms_answers.specs.Answers.{Answer, LaneSteps, read_act}
+use Rattle.vms_file_order.specs.Common.{pass_of}
+use Rattle.vms_answers.specs.declared.answers.Answer.{Answer}
+use Rattle.vms_answers.specs.Answers.{LaneSteps, read_act}
 
 -- the answer of the line of this number
 pub record NumberedAnswer : Type 0 where
@@ -22,7 +16,7 @@ abbrev pub steps_by : {K : Type 0} → List (Event K) → ℕ → List K
 steps_by h p = map (λ e. e.step) (reverse (own h p))
 
 -- those of the pass of a lane
-abbrev pub steps_of : List Lane → Histories → Lane → LaneSteps
+abbrev pub steps_of : List Lane → TableHistories → Lane → LaneSteps
 steps_of lanes hs lane = record {
   pages = steps_by hs.pages (pass_of lanes lane);
   events = steps_by hs.events (pass_of lanes lane);
@@ -45,5 +39,5 @@ read_lines header w (item ∷ items) left =
     with_answer item.number read.0 (read_lines header w items (with_left item.lane read.1 left))
 
 -- the answers of the lines of a phase from this world
-abbrev pub answers_of : Header → World → List Item → Histories → List NumberedAnswer
+abbrev pub answers_of : Header → World → List Item → TableHistories → List NumberedAnswer
 answers_of header w items hs = read_lines header w items (steps_of (lanes_of header.layout items) hs)

@@ -1,32 +1,13 @@
-ghost use Rattle.std.specs.Prelude.{ℕ, Bool, ℤ, List, Some, None};
-ghost use Rattle.vms_base.specs.declared.headers.Header.{Header};
-ghost use Rattle.vms_base.specs.declared.ids.CounterId.{CounterId};
-ghost use Rattle.vms_base.specs.declared.ids.CpuId.{CpuId};
-ghost use Rattle.vms_base.specs.declared.ids.EventId.{EventId};
-ghost use Rattle.vms_base.specs.declared.ids.ItemId.{ItemId};
-ghost use Rattle.vms_base.specs.declared.ids.PcpuId.{PcpuId};
-ghost use Rattle.vms_base.specs.declared.ids.PlaceId.{PlaceId};
-ghost use Rattle.vms_base.specs.declared.kinds.Mode.{Mode};
-ghost use Rattle.vms_base.specs.declared.kinds.WaterMark.{WaterMark};
-ghost use Rattle.vms_core.specs.declared.steps.Step.{Step};
-ghost use Rattle.vms_calls.specs.Changes.{IsChange};
-ghost use Rattle.vms_calls.specs.Folds.{IsFold};
-ghost use Rattle.vms_calls.specs.Looks.{IsPlaceValue, IsSnapshot, IsSystemValue, IsWatermarkTest, Verdict};
-ghost use Rattle.vms_event_core.specs.declared.steps.EventStep.{EventStep};
-ghost use Rattle.vms_event_core.specs.Calls.{IsAllEvents, IsCount, online_cpus};
-ghost use Rattle.vms_pcpu_core.specs.declared.answers.Compare.{Compare};
-ghost use Rattle.vms_pcpu_core.specs.declared.steps.PcpuStep.{PcpuStep};
-ghost use Rattle.vms_pcpu_core.specs.Calls.{IsAdd, IsCompare, IsLimitedAdd, IsRead, IsSum, IsSync, unknown};
-ghost use Rattle.vms_text.specs.declared.acts.Act.TheVariants.{Mod, Inc, Dec, Ev, Cnt, Lim, Cmp, Sum, Rough, Csync};
-ghost use Rattle.vms_text.specs.declared.acts.Act.TheVariants.{EvSum, Fold, Water, Val, Snap, Sys};
-ghost use Rattle.vms_text.specs.declared.acts.Lane.{Lane};
-ghost use Rattle.vms_text.specs.declared.acts.Lane.TheVariants.{Cpu};
+ghost use Rattle.std.specs.Prelude.{◌≡◌, ◌≢◌, ℕ, ℤ, List, Some, None};
+ghost use Rattle.vms_world.specs.Common.{Header, CounterId, CpuId, ItemId, PlaceId, Mode, WaterMark, Step, IsChange};
+ghost use Rattle.vms_world.specs.Common.{IsFold, Verdict, IsPlaceValue, IsSnapshot, IsSystemValue, IsWatermarkTest};
+ghost use Rattle.vms_world.specs.Common.{EventAnswer, EventCall, EventStep, IsEventCall, PcpuAnswer, PcpuCall};
+ghost use Rattle.vms_world.specs.Common.{PcpuStep, IsPcpuCall, Act, Fold, Water, Val, Snap, Sys, Lane, Cpu, event_call};
+ghost use Rattle.vms_world.specs.Common.{lane_owns, pcpu_call, event_facts, pcpu_facts};
+ghost use Rattle.vms_text.specs.declared.acts.Act.TheVariants.{Mod, Inc, Dec, Dead};
 ghost use Rattle.vms_world.specs.declared.worlds.World.{World};
-ghost use Rattle.vms_world.specs.Acts.{owns};
-ghost use Rattle.vms_world.specs.Worlds.{event_facts, pcpu_facts};
-ghost use Rattle.vms_answers.specs.Answers.{Tell, on_counters, on_events, on_pages};
-ghost use Rattle.vms_answers.specs.Answers.Answer.{Tested, Value, Snapshot, System, Events, Count, Total, Compared};
-ghost use Rattle.vms_answers.specs.Answers.Answer.{Limited};
+ghost use Rattle.vms_answers.specs.Answers.{Tell, event_told, on_counters, on_events, on_pages, pcpu_told};
+ghost use Rattle.vms_answers.specs.declared.answers.Answer.TheVariants.{Tested, Value, Snapshot, System};
 
 /// A line that changes a counter or folds a CPU answers nothing, and its steps tell where they end.
 pub fn changes_and_folds_answer_nothing()
@@ -40,7 +21,8 @@ pub fn changes_and_folds_answer_nothing()
         (steps : List Step) → IsChange header.layout c k delta how steps →
         Tell header w (Cpu c) (Dec k) (on_pages steps) None }
     ensures fold { (header : Header) (w : World) (lane : Lane) (c : CpuId) (steps : List Step) →
-        IsFold header.layout (owns lane c) c steps → Tell header w lane (Fold c) (on_pages steps) None }
+        IsFold header.layout (lane_owns lane c) c steps →
+        Tell header w lane (Fold c) (on_pages steps) None }
 {
     vms_calls::changes_and_folds_are_told();
 }
@@ -61,37 +43,21 @@ pub fn looks_tell_answers()
     vms_calls::answers_are_told();
 }
 
-/// A line that counts an event answers nothing. The steps of one that sums an event over the online CPUs tell the sum.
+/// The steps of the call that a line makes on the event counters tell what it answers, unless it buries a CPU and so
+/// makes calls on the other tables too.
 pub fn event_acts_tell_answers()
-    ensures count { (header : Header) (w : World) (c : CpuId) (k : EventId) (n : ℕ) (steps : List EventStep) →
-        IsCount k n steps → Tell header w (Cpu c) (Ev k n) (on_events steps) None }
-    ensures sum { (header : Header) (w : World) (lane : Lane) (k : EventId) (found : List ℕ)
-        (steps : List EventStep) (answer : ℕ) →
-        IsAllEvents (online_cpus (event_facts header w)) k found steps answer →
-        Tell header w lane (EvSum k) (on_events steps) (Some (Events answer)) }
+    ensures { (header : Header) (w : World) (lane : Lane) (act : Act) (call : EventCall) (steps : List EventStep)
+        (answer : EventAnswer) → event_call lane act ≡ Some call → ((c : CpuId) → act ≢ Dead c) →
+        IsEventCall (event_facts header w) call steps answer →
+        Tell header w lane act (on_events steps) (event_told answer) }
 {
     vms_event_core::answers_are_read();
 }
 
-/// The steps of a line on a percpu counter tell what it answers: nothing for an addition and where a local part is
-/// moved.
+/// The steps of a line that makes a call on a percpu counter tell what the call answers.
 pub fn pcpu_acts_tell_answers()
-    ensures add { (header : Header) (w : World) (c : CpuId) (j : PcpuId) (batch : ℕ) (amount : ℤ)
-        (steps : List PcpuStep) → IsAdd batch c j amount steps →
-        Tell header w (Cpu c) (Cnt j amount) (on_counters steps) None }
-    ensures limited_add { (header : Header) (w : World) (c : CpuId) (j : PcpuId) (batch most : ℕ)
-        (cpus : List CpuId) (limit amount : ℤ) (steps : List PcpuStep) (answer : Bool) →
-        IsLimitedAdd batch most cpus c j limit amount steps answer →
-        Tell header w (Cpu c) (Lim j limit amount) (on_counters steps) (Some (Limited answer)) }
-    ensures compare { (header : Header) (w : World) (c : CpuId) (j : PcpuId) (cpus : List CpuId) (rhs : ℤ)
-        (steps : List PcpuStep) (answer : Compare) →
-        IsCompare (unknown (pcpu_facts header w) j.number) cpus j rhs steps answer →
-        Tell header w (Cpu c) (Cmp j rhs) (on_counters steps) (Some (Compared answer)) }
-    ensures sum { (header : Header) (w : World) (c : CpuId) (j : PcpuId) (cpus : List CpuId)
-        (steps : List PcpuStep) (answer : ℤ) → IsSum cpus j steps answer →
-        Tell header w (Cpu c) (Sum j) (on_counters steps) (Some (Total answer)) }
-    ensures rough { (header : Header) (w : World) (c : CpuId) (j : PcpuId) (steps : List PcpuStep) (answer : ℤ) →
-        IsRead j steps answer → Tell header w (Cpu c) (Rough j) (on_counters steps) (Some (Count answer)) }
-    ensures sync { (header : Header) (w : World) (c cpu : CpuId) (j : PcpuId) (steps : List PcpuStep) →
-        IsSync cpu j steps → Tell header w (Cpu c) (Csync j) (on_counters steps) None }
+    ensures { (header : Header) (w : World) (c : CpuId) (call : PcpuCall) (act : Act) →
+        pcpu_call (Cpu c) act ≡ Some call → (steps : List PcpuStep) (answer : PcpuAnswer) →
+        IsPcpuCall (pcpu_facts header w) (Some c) call steps answer →
+        Tell header w (Cpu c) act (on_counters steps) (pcpu_told answer) }
 {}

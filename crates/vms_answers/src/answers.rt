@@ -1,12 +1,13 @@
 ghost use Rattle.std.specs.Prelude.{◌≡◌};
-ghost use Rattle.vms_answers.specs.Answers.Answer.{Balanced};
-ghost use Rattle.vms_answers.specs.ToldAnswers.{IsKeepable, answer_told, balanced_by, numbered_told};
-ghost use Rattle.vms_calls.specs.Turns.Balance.{Yes};
-ghost use Rattle.vms_plain_pages.specs.Orders.{order_verdict_told};
+ghost use Rattle.vms_answers.specs.Answers.{event_told as told_by_events, pcpu_told as told_by_pcpu};
+ghost use Rattle.vms_answers.specs.declared.answers.Answer.TheVariants.{Balanced};
+ghost use Rattle.vms_answers.specs.ToldAnswers.{IsKeepableAnswer, balanced_by, answer_of_kept};
+ghost use Rattle.vms_world.specs.Common.{Yes};
 
 use vms_base::PlaceId;
-use vms_pcpu_core::Compare;
-use vms_plain_pages::{Balance, OrderVerdict, Verdict};
+use vms_calls::{Balance, OrderVerdict, Verdict};
+use vms_event_core::EventAnswer;
+use vms_pcpu_core::{Compare, PcpuAnswer};
 
 /// What a line answers.
 #[derive(Clone, Copy, Debug, PartialEq, Eq)]
@@ -31,6 +32,31 @@ pub enum Answer {
     Limited(bool),
     /// Whether a node is balanced.
     Balanced(Balance),
+}
+
+/// What a call on event counters answers to the line that makes it, if that asks something.
+#[inline]
+pub fn event_told(answer: EventAnswer) -> Option<Answer>
+    ensures { result ≡ told_by_events answer }
+{
+    match answer {
+        EventAnswer::Done => None,
+        EventAnswer::Total(sum) => Some(Answer::Events(sum)),
+    }
+}
+
+/// What a call on percpu counters answers to the line that makes it, if that asks something.
+#[inline]
+pub fn pcpu_told(answer: PcpuAnswer) -> Option<Answer>
+    ensures { result ≡ told_by_pcpu answer }
+{
+    match answer {
+        PcpuAnswer::Done => None,
+        PcpuAnswer::Limited(made) => Some(Answer::Limited(made)),
+        PcpuAnswer::Compared(compare) => Some(Answer::Compared(compare)),
+        PcpuAnswer::Total(sum) => Some(Answer::Total(sum)),
+        PcpuAnswer::Count(count) => Some(Answer::Count(count)),
+    }
 }
 
 /// The answer of a line, with the number of the line in the trace, counted from 1. It takes 16 bytes, where a number beside
@@ -83,14 +109,14 @@ const _: () = prove!(size_of::<NumberedAnswer>() == 16);
 
 impl NumberedAnswer {
     ghost use Rattle.std.specs.Prelude.{◌≡◌};
-    ghost use Rattle.vms_answers.specs.ToldAnswers.{IsKeepable, answer_told, numbered_told};
+    ghost use Rattle.vms_answers.specs.ToldAnswers.{IsKeepableAnswer, answer_of_kept};
 
     /// Keeps the answer of the line of this number. A zone that passed has a number of at most 8 bits, and so has the
     /// order of its free block.
     #[inline]
     pub fn of(number: u32, answer: Answer) -> NumberedAnswer
-        requires { IsKeepable (answer_told answer) }
-        ensures { numbered_told result ≡ record { number = number; answer = answer_told answer } }
+        requires { IsKeepableAnswer answer }
+        ensures { answer_of_kept result ≡ record { number = number; answer = answer } }
     {
         match answer {
             Answer::Tested(verdict) => NumberedAnswer::Tested {
@@ -115,7 +141,7 @@ impl NumberedAnswer {
     /// The number of the line.
     #[inline]
     pub fn number(&self) -> u32
-        ensures { result ≡ (numbered_told self.now).number }
+        ensures { result ≡ (answer_of_kept self.now).number }
     {
         match *self {
             NumberedAnswer::Tested { number, .. } => number,
@@ -136,7 +162,7 @@ impl NumberedAnswer {
     /// What the line answers.
     #[inline]
     pub fn answer(&self) -> Answer
-        ensures { answer_told result ≡ (numbered_told self.now).answer }
+        ensures { result ≡ (answer_of_kept self.now).answer }
     {
         match *self {
             NumberedAnswer::Tested {
@@ -172,9 +198,9 @@ impl NumberedAnswer {
 
 /// Keeps the answer that a node is balanced by this zone.
 fn balanced(number: u32, zone: PlaceId, verdict: OrderVerdict) -> NumberedAnswer
-    requires { IsKeepable (Balanced (Yes zone (order_verdict_told verdict))) }
-    ensures { numbered_told result
-        ≡ record { number = number; answer = Balanced (Yes zone (order_verdict_told verdict)) } }
+    requires { IsKeepableAnswer (Balanced (Yes zone verdict)) }
+    ensures { answer_of_kept result
+        ≡ record { number = number; answer = Balanced (Yes zone verdict) } }
 {
     let zone = zone.number as u8;
     let area = match verdict.area {
@@ -201,7 +227,7 @@ fn balanced(number: u32, zone: PlaceId, verdict: OrderVerdict) -> NumberedAnswer
 
 /// The answer that a node is balanced by this zone.
 fn balance(zone: u8, area: Option<u8>, free: u64, fast: bool) -> Answer
-    ensures { answer_told result ≡ balanced_by zone area free fast }
+    ensures { result ≡ balanced_by zone area free fast }
 {
     let verdict = OrderVerdict {
         free,

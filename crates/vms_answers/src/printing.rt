@@ -1,15 +1,14 @@
 ghost use Rattle.std.specs.Prelude.{◌≡◌, ◌∷◌, ◌++◌, codes, decimal, if◌then◌else◌, map, OnErr, OnOk};
 ghost use Rattle.std.specs.Fmt.{signed_decimal};
-ghost use Rattle.vms_text.specs.Spelling.{sentence};
-ghost use Rattle.vms_text.specs.Writing.{Begins, text_of};
+ghost use Rattle.vms_world.specs.Common.{sentence, text_of};
+ghost use Rattle.vms_text.specs.Writing.{Begins};
 ghost use Rattle.vms_answers.specs.AnswerLines.{answer_line, free_words, kind_word, yes_or_no};
-ghost use Rattle.vms_answers.specs.ToldAnswers.{answer_told};
 
 use crate::Answer;
 use crate::test_lines::write_tested;
 use itoa::Buffer;
 use vms_base::{Header, Memory, PlaceId, kind_name};
-use vms_plain_pages::Balance;
+use vms_calls::Balance;
 use vms_text::{Word, write_words};
 
 /// Appends the line of the answer of a line, which has this number in the trace. After a failure `out` may end in a
@@ -20,8 +19,7 @@ pub fn write_answer(
     number: u32,
     answer: &Answer,
 ) -> Result<(), Memory>
-    ensures ok { OnOk result (out.new.items
-        ≡ out.old.items ++ answer_line header.now number (answer_told answer.now)) }
+    ensures ok { OnOk result (out.new.items ≡ out.old.items ++ answer_line header.now number answer.now) }
     ensures err { OnErr result (Begins out.old.items out.new.items) }
 {
     match *answer {

@@ -1,12 +1,11 @@
-ghost use Rattle.std.specs.Prelude.{◌≡◌, ◌+◌, ◌≤◌, ◌∷◌, ◌++◌, codes, decimal, drop, if◌then◌else◌, length};
-ghost use Rattle.std.specs.Prelude.{OnErr, OnOk};
-ghost use Rattle.vms_text.specs.Spelling.{sentence};
+ghost use Rattle.std.specs.Prelude.{◌≡◌, ◌+◌, ◌≤◌, ◌∷◌, ◌++◌, codes, decimal, drop, if◌then◌else◌, length, OnErr, OnOk};
+ghost use Rattle.vms_world.specs.Common.{sentence};
 ghost use Rattle.vms_text.specs.Writing.{Begins};
 ghost use Rattle.vms_answers.specs.AnswerLines.{free_words, yes_or_no};
 
 use itoa::write_digits;
 use vms_base::Memory;
-use vms_plain_pages::Verdict;
+use vms_calls::Verdict;
 
 /// The most bytes of the line of a test.
 const MOST: usize = 72;

@@ -1,7 +1,7 @@
 -- For other crates too: where the numbers of CPUs stand in one list.
 use Rattle.std.proofs.Common.{◌≡◌, ℕ, ◌*◌, ◌/◌, ◌%◌, ◌<◌, arith}
 use Rattle.std.proofs.lemmas.Nat.{same_from_place, mul-add-lt, div-mul-add, mod-mul-add}
-use Rattle.vms_base.specs.Places.{cell}
+use Rattle.vms_base.specs.Common.{cell}
 
 module _ (width : ℕ) where
   -- a cell is of one CPU and one thing

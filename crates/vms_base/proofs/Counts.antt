@@ -5,8 +5,8 @@ use Rattle.std.specs.List.Sorted.{IsStrictlyIncreasing}
 use Rattle.std.proofs.lemmas.Bool.Decides.{nat_tests}
 use Rattle.std.proofs.lemmas.Bool.{cases_lt}
 use Rattle.std.proofs.lemmas.Nat.{div_below, mod_below, div-mul-add, mod-mul-add, div-add-mod'}
-use Rattle.vms_base.specs.Places.{Shape, IsLayout, place_count, counter_count, group_count, counter_at, place_of}
-use Rattle.vms_base.specs.Places.{position_of, group_of, first_of, item_of, IsPlace, IsCounter, IsGroup, IsItem}
+use Rattle.vms_base.specs.Common.{Shape, IsLayout, place_count, counter_count, group_count, counter_at, place_of}
+use Rattle.vms_base.specs.Common.{position_of, group_of, first_of_group, item_of, IsPlace, IsCounter, IsGroup, IsItem}
 
 -- numbers that rise grow by at least one a step
 grows : (xs : List ℕ) → IsStrictlyIncreasing xs → (k : ℕ) → k < length xs → k ≤ get_or xs k 0
@@ -80,12 +80,13 @@ module _ (shape : Shape) (layout : IsLayout shape) where
   counter_at-whole counter = omega (arith, div-add-mod' counter shape.positions)
 
   -- the counters of a group have one place
-  pub place_of-first_of_group : (counter : ℕ) → place_of shape (first_of (group_of counter)) ≡ place_of shape counter
+  pub place_of-first_of_group : (counter : ℕ) →
+      place_of shape (first_of_group (group_of counter)) ≡ place_of shape counter
   place_of-first_of_group counter = by_positions (λ n. 8 * (counter / 8) / n ≡ counter / n) (omega arith) (omega arith)
 
   -- the eight counters of a group
-  pub IsCounter-member : (group i : ℕ) → IsGroup shape group → i < 8 → IsCounter shape (first_of group + i)
+  pub IsCounter-member : (group i : ℕ) → IsGroup shape group → i < 8 → IsCounter shape (first_of_group group + i)
   IsCounter-member group i within below = omega (arith, group_count-whole)
 
-pub group_of-member : (group i : ℕ) → i < 8 → group_of (first_of group + i) ≡ group
+pub group_of-member : (group i : ℕ) → i < 8 → group_of (first_of_group group + i) ≡ group
 group_of-member group i below = omega arith

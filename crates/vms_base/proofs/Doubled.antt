@@ -1,8 +1,7 @@
 -- For other crates too: when one zone stands at two places of a list.
 use Rattle.std.proofs.Common.{◌≡◌, ◌≢◌, ℕ, ◌<◌, List, length, get_or, take, map, arith, sym, ◌∙◌, ap}
-use Rattle.std.specs.Prelude.{IsPermutation, Contains, AllPairs, ◌==◌, Some}
+use Rattle.std.specs.Prelude.{IsPermutation, Contains, AllPairs, ◌==◌, Some, Decides, Bool}
 use Rattle.std.specs.List.Sorted.{IsStrictlyIncreasing}
-use Rattle.std.specs.Prelude.{Decides, Bool}
 use Rattle.std.proofs.lemmas.Bool.Decides.{nat_tests}
 use Rattle.vms_base.specs.declared.kinds.ZoneKind.TheVariants.{Dma}
 use Rattle.std.proofs.lemmas.Bool.{eqb-true, eq-eqb}
@@ -12,7 +11,7 @@ use Rattle.std.proofs.lemmas.Map.Keys.{IsDistinct-IsPermutation}
 use Rattle.std.proofs.lemmas.Map.Made.{AllPairs-from_IsDistinct, IsDistinct-from_AllPairs}
 use Rattle.std.proofs.lemmas.Option.{slice_get-get_or}
 use Rattle.vms_base.specs.declared.kinds.ZoneName.{ZoneName}
-use Rattle.vms_base.specs.Places.{rank_of, HasDoubled}
+use Rattle.vms_base.specs.Common.{rank_of, HasDoubled}
 use Rattle.vms_base.proofs.Zones.{rank_of-injective}
 use Rattle.vms_base.proofs.Ranks.{rises}
 

@@ -8,3 +8,4 @@ pub mod Words
 pub mod Cells
 pub mod Counts
 pub mod Values
+pub mod Common

@@ -8,7 +8,7 @@ use Rattle.std.proofs.lemmas.List.Elements.{Contains-get_or}
 use Rattle.std.proofs.lemmas.List.Sorted.{length_permutation, All-permutation}
 use Rattle.vms_base.specs.declared.kinds.ZoneKind.TheVariants.{Dma}
 use Rattle.vms_base.specs.declared.kinds.ZoneName.{ZoneName}
-use Rattle.vms_base.specs.Places.{rank_of, IsLayout, IsWidth}
+use Rattle.vms_base.specs.Common.{rank_of, IsLayout, IsWidth}
 
 pub not_empty : (n : ℕ) (empty : Bool) → empty ≡ (n == 0) → empty ≡ false → 0 < n
 not_empty n empty is test = grind (arith, nat_tests)

@@ -3,10 +3,8 @@ use Rattle.std.proofs.Common.{◌≡◌, ℕ, List, [], ◌∷◌, refl}
 use Rattle.vms_base.specs.declared.kinds.ZoneKind.TheVariants.{Dma32, Normal}
 use Rattle.vms_base.specs.declared.kinds.ZoneSize.{ZoneSize}
 use Rattle.vms_base.specs.Numbers.{highest_bit}
-use Rattle.vms_base.specs.Places.{Shape}
-use Rattle.vms_base.specs.Thresholds.{normal_threshold_of, pressure_threshold_of}
-use Rattle.vms_base.specs.Marks.{linux_mark_of, cover_mark_of}
-use Rattle.vms_base.specs.Watermarks.{zone_marks_of, reserve_of}
+use Rattle.vms_base.specs.Common.{Shape, normal_threshold_of, pressure_threshold_of, linux_mark_of, cover_mark_of}
+use Rattle.vms_base.specs.Common.{zone_marks_of, reserve_of}
 
 abbrev sized : ℕ → ℕ → ZoneSize
 sized managed low = record { managed = managed; min = 100; low = low; high = 150 }

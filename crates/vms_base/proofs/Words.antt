@@ -6,7 +6,8 @@ use Rattle.std.proofs.lemmas.Int.{ints, to_z-of_z, of_z-to_z}
 use Rattle.std.proofs.lemmas.List.{length-map}
 use Rattle.std.proofs.lemmas.Nat.{le_bytes_8, from_le_bytes-to_le_bytes_8}
 use mir.Val.{SFits}
-use Rattle.vms_base.specs.Groups.{IsByte, AreBytes, word_of_bytes, bytes_of_word}
+use Rattle.vms_base.specs.Common.{IsByte, AreBytes}
+use Rattle.vms_base.specs.Groups.{word_of_bytes, bytes_of_word}
 
 byte_fits : (z : ℤ) → IsByte z → SFits w8 z
 byte_fits (pos n) h = record { sfits = omega (arith, ints) }

@@ -8,7 +8,7 @@ use Rattle.vms_base.specs.declared.ids.PlaceId.{PlaceId}
 use Rattle.vms_base.specs.declared.kinds.ZoneKind.{ZoneKind}
 use Rattle.vms_base.specs.declared.kinds.ZoneKind.TheVariants.{Dma, Dma32, Normal, Movable}
 use Rattle.vms_base.specs.declared.kinds.ZoneName.{ZoneName}
-use Rattle.vms_base.specs.Places.{Shape, zone_index, rank_of, zone_place, zone_at, node_place, node_at}
+use Rattle.vms_base.specs.Common.{Shape, zone_index, rank_of, zone_place, zone_at, node_place, node_at}
 use Rattle.vms_base.proofs.Lookups.{position-at, position-known}
 
 abbrev kind_at : ℕ → ZoneKind

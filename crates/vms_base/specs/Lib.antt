@@ -10,3 +10,4 @@ pub mod Areas
 pub mod Thresholds
 pub mod Marks
 pub mod Watermarks
+pub mod Common

@@ -7,8 +7,8 @@ abbrev pub word_of : ℤ → ℕ
 word_of z = cast_unsigned w64 z
 
 -- the signed number with this word
-abbrev pub number_of : ℕ → ℤ
-number_of w = cast_signed w64 w
+abbrev pub signed_of_word : ℕ → ℤ
+signed_of_word w = cast_signed w64 w
 
 -- the largest k up to a limit for which 2 ^ (k - 1) is at most x, and 0 where there is none
 unfoldable pub highest_bit : ℕ → ℕ → ℕ

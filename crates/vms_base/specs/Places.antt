@@ -60,8 +60,8 @@ abbrev pub group_of : ℕ → ℕ
 group_of counter = counter / 8
 
 -- the first counter of a group
-abbrev pub first_of : ℕ → ℕ
-first_of group = 8 * group
+abbrev pub first_of_group : ℕ → ℕ
+first_of_group group = 8 * group
 
 -- the system-wide value of a counter's item: the values of the zone items come first
 abbrev pub item_of : Shape → ℕ → ℕ

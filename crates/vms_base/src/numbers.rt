@@ -1,6 +1,6 @@
 ghost use Rattle.std.specs.Prelude.{◌≡◌, ◌++◌, ◌<◌, ◌≤◌, ◌^◌, ◌-◌, OnOk, OnErr};
 ghost use Rattle.std.specs.Fmt.{signed_decimal};
-ghost use Rattle.vms_base.specs.Numbers.{word_of, number_of, bits_of};
+ghost use Rattle.vms_base.specs.Numbers.{word_of, signed_of_word, bits_of};
 
 use crate::Memory;
 use itoa::Buffer;
@@ -16,7 +16,7 @@ pub fn encode(v: i64) -> u64
 /// The signed number whose two's-complement word is `w`.
 #[inline]
 pub fn decode(w: u64) -> i64
-    ensures value { result ≡ number_of w }
+    ensures value { result ≡ signed_of_word w }
     ensures read { word_of result ≡ w }
 {
     w.cast_signed()

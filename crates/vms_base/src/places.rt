@@ -49,8 +49,8 @@ impl Layout {
     ghost use Rattle.std.specs.Prelude.{◌≡◌, ℕ, ◌+◌, ◌*◌, ◌/◌, ◌%◌, ◌<◌, ◌≤◌, ◌↔◌, length, map, option_map, Contains};
     ghost use Rattle.std.specs.Prelude.{All, IsSome, IfSome, Some, MatchResult};
     ghost use Rattle.vms_base.specs.Places.{Shape, IsLayout, place_count, counter_count, group_count, item_count};
-    ghost use Rattle.vms_base.specs.Places.{place_of, item_of, group_of, first_of, counter_at, zone_place, node_place};
-    ghost use Rattle.vms_base.specs.Places.{zone_at, node_at, LaysOut, IsRefused, IsWidth};
+    ghost use Rattle.vms_base.specs.Places.{place_of, item_of, group_of, first_of_group, counter_at, zone_place};
+    ghost use Rattle.vms_base.specs.Places.{node_place, zone_at, node_at, LaysOut, IsRefused, IsWidth};
 
     /// The layout of these zones, in any order, and of 1 to 64 CPUs, with eight items a place.
     pub fn make(zones: &[ZoneName], cpus: u32) -> Result<Layout, LayoutError>
@@ -250,7 +250,7 @@ impl Layout {
     #[inline]
     pub fn place_of_group(&self, group: GroupId) -> PlaceId
         requires { group.number < group_count self.now }
-        ensures value { result.number ≡ place_of self.now (first_of group.number) }
+        ensures value { result.number ≡ place_of self.now (first_of_group group.number) }
         ensures bound { result.number < place_count self.now }
         ensures is_layout { IsLayout self.now }
     {

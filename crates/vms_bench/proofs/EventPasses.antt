@@ -1,23 +1,17 @@
 -- A pass begins that counts events, on a CPU that has counted nothing.
-use Rattle.std.proofs.Common.{◌≡◌, ℕ, ◌+◌, ◌<◌, ◌≤◌, [], ◌∷◌, ◌++◌, Option, Some, None, refl, ap, sym}
-use Rattle.std.proofs.Common.{◌∙◌, subst, arith}
-use Rattle.vms_base.specs.declared.ids.CpuId.{CpuId}
-use Rattle.vms_history.specs.Events.{own}
-use Rattle.vms_history.specs.Passes.{owner_in, IsFree}
-use Rattle.vms_history.proofs.FreeOwners.{holds_while_free}
-use Rattle.vms_history.proofs.Own.{own-on_top}
+use Rattle.std.proofs.Common.{◌≡◌, ℕ, ◌+◌, ◌<◌, ◌≤◌, [], ◌∷◌, ◌++◌, Option, Some, None, refl, ap, sym, ◌∙◌, subst}
+use Rattle.std.proofs.Common.{arith}
+use Rattle.vms_calls.specs.Common.{CpuId, own, owner_in, IsFree}
+use Rattle.vms_history.proofs.Common.{holds_while_free, own-on_top}
 use Rattle.vms_event_core.specs.declared.steps.EventFacts.{EventFacts}
 use Rattle.vms_event_core.specs.declared.steps.EventStep.{EventStep}
 use Rattle.vms_event_core.specs.declared.steps.EventStep.TheVariants.{Split}
-use Rattle.vms_event_core.specs.Events.{events, History, IsLegal}
-use Rattle.vms_event_core.specs.Steps.{role}
-use Rattle.vms_event_core.specs.Totals.{spent, spent_by}
-use Rattle.vms_event_core.proofs.Spending.{spent_by-others}
-use Rattle.vms_event.specs.SharedWords.{begins_it}
-use Rattle.vms_seats.specs.MainSteps.{HasBegun, next_number}
-use Rattle.vms_seats.specs.Passes.{Pass}
+use Rattle.vms_event_core.specs.Common.{events, History, IsLegal, role, spent, spent_by}
+use Rattle.vms_event_core.proofs.Common.{spent_by-others}
+use Rattle.vms_event.specs.Common.{begins_it}
+use Rattle.vms_seats.specs.Common.{HasBegun, next_number, Pass}
 use Rattle.vms_bench.specs.Events.{IsUnused}
-use Rattle.vms_bench_base.proofs.Beginning.{owns_below-free, begun-owns_below}
+use Rattle.vms_bench_base.proofs.Common.{owns_below-free, begun-owns_below}
 
 split-spends_nothing : (o who : Option CpuId) (q c k : ℕ) → spent_by o c k (Split q who) ≡ 0
 split-spends_nothing (Some d) who q c k = refl

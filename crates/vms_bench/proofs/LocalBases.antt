@@ -1,15 +1,12 @@
 -- Zeros, with every CPU online and the same batch for each counter, are a base of the percpu counters.
-use Rattle.std.proofs.Common.{◌≡◌, ℕ, ◌*◌, ◌^◌, ◌<◌, ◌≤◌, ℤ, pos, unsigned_abs, List, length, get_or, replicate, refl, ap}
-use Rattle.std.proofs.Common.{sym, ◌∙◌, subst, arith}
+use Rattle.std.proofs.Common.{◌≡◌, ℕ, ◌*◌, ◌^◌, ◌<◌, ◌≤◌, ℤ, pos, unsigned_abs, List, length, get_or, replicate, refl}
+use Rattle.std.proofs.Common.{ap, sym, ◌∙◌, subst, arith}
 use Rattle.std.proofs.lemmas.List.{get_or-replicate, length-replicate}
-use Rattle.vms_base.specs.declared.kinds.CpuState.{CpuState}
-use Rattle.vms_base.specs.declared.kinds.CpuState.TheVariants.{Online, Absent}
-use Rattle.vms_base.specs.Places.{Shape, IsLayout, cell}
-use Rattle.vms_core.proofs.LevelStates.{get_or-copies}
+use Rattle.vms_calls.specs.Common.{CpuState, Online, Absent, Shape, IsLayout, cell}
+use Rattle.vms_core.proofs.Common.{get_or-copies}
 use Rattle.vms_pcpu_core.specs.declared.steps.PcpuFacts.{PcpuFacts}
-use Rattle.vms_pcpu_core.specs.Bases.{IsBase}
-use Rattle.vms_pcpu_core.specs.States.{batch_at, count_at, local_at, counters_of}
-use Rattle.vms_bench.specs.Locals.{AreOpen}
+use Rattle.vms_pcpu_core.specs.Common.{IsBase, batch_at, count_at, local_at, counters_of}
+use Rattle.vms_bench.specs.Common.{AreOpen}
 
 module _ (shape : Shape) (cpus : List CpuState) (batches : List ℕ) (counts locals : List ℤ) (layout : IsLayout shape)
     (number : shape.cpus ≡ 64) (online : cpus ≡ replicate 64 Online) (same : batches ≡ replicate 8 65536)

@@ -1,26 +1,18 @@
 -- A pass begins that adds to percpu counters, on a CPU that has added nothing.
-use Rattle.std.proofs.Common.{◌≡◌, ℕ, ◌+◌, ◌<◌, ◌≤◌, List, [], ◌++◌, length, replicate, Some, ap, sym}
-use Rattle.std.proofs.Common.{◌∙◌, subst, arith}
+use Rattle.std.proofs.Common.{◌≡◌, ℕ, ◌+◌, ◌<◌, ◌≤◌, List, [], ◌++◌, length, replicate, Some, ap, sym, ◌∙◌, subst}
+use Rattle.std.proofs.Common.{arith}
 use Rattle.std.proofs.lemmas.List.{length-replicate}
-use Rattle.vms_base.specs.declared.ids.CpuId.{CpuId}
-use Rattle.vms_history.specs.Events.{own}
-use Rattle.vms_history.specs.Passes.{owner_in}
-use Rattle.vms_history.proofs.Own.{own-on_top}
+use Rattle.vms_calls.specs.Common.{CpuId, own, owner_in}
+use Rattle.vms_history.proofs.Common.{own-on_top}
 use Rattle.vms_pcpu_core.specs.declared.steps.PcpuFacts.{PcpuFacts}
 use Rattle.vms_pcpu_core.specs.declared.steps.PcpuStep.{PcpuStep}
 use Rattle.vms_pcpu_core.specs.declared.steps.PcpuStep.TheVariants.{Split}
-use Rattle.vms_pcpu_core.specs.Histories.{percpu, History, IsLegal}
-use Rattle.vms_pcpu_core.specs.Own.{carried}
-use Rattle.vms_pcpu_core.specs.States.{counters_of}
-use Rattle.vms_pcpu_core.specs.Steps.{role}
-use Rattle.vms_pcpu_core.specs.Totals.{spent}
-use Rattle.vms_pcpu.specs.IdlePasses.{HoldsSpending}
-use Rattle.vms_pcpu.specs.SharedWords.{begins_it}
-use Rattle.vms_pcpu.proofs.KnownSpending.{spent-free, split-spends_nothing}
-use Rattle.vms_seats.specs.MainSteps.{HasBegun, next_number}
-use Rattle.vms_seats.specs.Passes.{Pass}
-use Rattle.vms_bench.specs.Locals.{IsUnused}
-use Rattle.vms_bench_base.proofs.Beginning.{owns_below-free, begun-owns_below}
+use Rattle.vms_pcpu_core.specs.Common.{percpu, History, IsLegal, carried, counters_of, role, spent}
+use Rattle.vms_pcpu.specs.Common.{HoldsSpending, begins_it}
+use Rattle.vms_pcpu.proofs.Common.{spent-free, split-spends_nothing}
+use Rattle.vms_seats.specs.Common.{HasBegun, next_number, Pass}
+use Rattle.vms_bench.specs.Common.{IsUnused}
+use Rattle.vms_bench_base.proofs.Common.{owns_below-free, begun-owns_below}
 
 -- no volume holds what an unused CPU has spent
 pub unused-holds : (facts : PcpuFacts) (h : History) (least cpu : ℕ) (volume : List ℕ) → IsUnused least h → least ≤ cpu

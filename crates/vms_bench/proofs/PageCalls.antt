@@ -1,28 +1,15 @@
 -- What the calls of a change leave.
 use Rattle.std.proofs.Common.{◌≡◌, ◌≢◌, ℕ, ◌<◌, ℤ, pos, List, ◌∷◌, Option, Some, unwrap_or, refl, sym, ap, ◌∙◌, subst}
-use Rattle.vms_base.specs.declared.groups.Diffs.{Diffs}
-use Rattle.vms_base.specs.declared.ids.CpuId.{CpuId}
-use Rattle.vms_base.specs.declared.ids.CounterId.{CounterId}
-use Rattle.vms_base.specs.declared.ids.GroupId.{GroupId}
-use Rattle.vms_base.specs.declared.kinds.Mode.{Mode}
-use Rattle.vms_base.specs.Places.{Shape, group_of, place_of}
-use Rattle.vms_history.specs.declared.events.Event.{Event}
-use Rattle.vms_history.specs.Events.{own}
-use Rattle.vms_core.specs.declared.steps.Facts.{Facts}
-use Rattle.vms_core.specs.declared.steps.Step.{Step}
-use Rattle.vms_core.specs.declared.steps.Step.TheVariants.{LoadT, LoadD, Put, Miss, AddG, AddS}
-use Rattle.vms_core.specs.Cells.{eight_zeros}
-use Rattle.vms_core.specs.Conditions.{AddsToPlace, AddsToSystem}
-use Rattle.vms_core.specs.Own.{CarriesNothing, carried_of_item, found, loaded}
-use Rattle.vms_core.specs.Pages.{pages}
-use Rattle.vms_seats.specs.Steps.{MadeOne}
-use Rattle.vms_words.specs.PagePasses.{OwningPass}
-use Rattle.vms_words.specs.Puts.{HasPut, HasMissed}
+use Rattle.vms_calls.specs.Common.{Diffs, CpuId, CounterId, GroupId, Mode, Shape, group_of, place_of, Event, own, Facts}
+use Rattle.vms_calls.specs.Common.{Step, LoadT, LoadD, Put, Miss, AddG, AddS, eight_zeros, AddsToPlace, AddsToSystem}
+use Rattle.vms_calls.specs.Common.{CarriesNothing, carried_of_item, found, loaded, pages}
+use Rattle.vms_seats.specs.Common.{MadeOne}
+use Rattle.vms_words.specs.Common.{OwningPass, HasPut, HasMissed}
 use Rattle.vms_bench.specs.declared.changes.Target.{Target}
-use Rattle.vms_bench.specs.Pages.{Carries, HasLooked, IsTarget, own_of}
+use Rattle.vms_bench.specs.Common.{Carries, HasLooked, IsTarget, own_of}
 use Rattle.vms_bench.proofs.PageChanges.{event, carries-nothing, nothing-loaded, nothing-found, nothing-missed}
-use Rattle.vms_bench.proofs.PageChanges.{carries-put, carried-here, added-both, item-carried}
-use Rattle.vms_bench.proofs.PageChanges.{found-here, missed-here, loaded-here}
+use Rattle.vms_bench.proofs.PageChanges.{carries-put, carried-here, added-both, item-carried, found-here, missed-here}
+use Rattle.vms_bench.proofs.PageChanges.{loaded-here}
 
 -- what a pass has done itself, after one more step
 own-one : (new old : OwningPass) (step : Step) → MadeOne pages new.pass old.pass step

@@ -1,22 +1,11 @@
 -- What a pass carries on its way through a change.
-use Rattle.std.proofs.Common.{◌≡◌, ◌≢◌, ℕ, ◌+◌, ◌≤◌, nat_eq, Bool, true, false, ℤ, pos, neg_ℤ, ◌+ℤ◌, List, [], ◌∷◌, Some}
-use Rattle.std.proofs.Common.{refl, sym, ap, ◌∙◌, subst, arith, eq-eqb, if◌then◌else◌, unsigned_abs}
+use Rattle.std.proofs.Common.{◌≡◌, ◌≢◌, ℕ, ◌+◌, ◌≤◌, nat_eq, Bool, true, false, ℤ, pos, neg_ℤ, ◌+ℤ◌, List, [], ◌∷◌}
+use Rattle.std.proofs.Common.{Some, refl, sym, ap, ◌∙◌, subst, arith, eq-eqb, if◌then◌else◌, unsigned_abs}
 use Rattle.std.proofs.lemmas.Int.{ints}
-use Rattle.vms_base.specs.declared.groups.Diffs.{Diffs}
-use Rattle.vms_base.specs.declared.ids.CounterId.{CounterId}
-use Rattle.vms_base.specs.declared.ids.CpuId.{CpuId}
-use Rattle.vms_base.specs.declared.ids.GroupId.{GroupId}
-use Rattle.vms_base.specs.declared.ids.ItemId.{ItemId}
-use Rattle.vms_base.specs.declared.ids.PlaceId.{PlaceId}
-use Rattle.vms_base.specs.declared.kinds.Mode.{Mode}
-use Rattle.vms_base.specs.Places.{Shape, group_of, item_of, place_of}
-use Rattle.vms_history.specs.declared.events.Event.{Event}
-use Rattle.vms_core.specs.declared.steps.Step.{Step}
-use Rattle.vms_core.specs.declared.steps.Step.TheVariants.{LoadT, LoadD, Put, Miss, AddG, AddS}
-use Rattle.vms_core.specs.Cells.{entry, eight_zeros}
-use Rattle.vms_core.specs.Changes.{carried_by}
-use Rattle.vms_core.specs.Own.{CarriesNothing, carried, carried_of_item, found, loaded}
-use Rattle.vms_bench.specs.Pages.{Carries}
+use Rattle.vms_calls.specs.Common.{Diffs, CounterId, CpuId, GroupId, ItemId, PlaceId, Mode, Shape, group_of, item_of}
+use Rattle.vms_calls.specs.Common.{place_of, Event, Step, LoadT, LoadD, Put, Miss, AddG, AddS, entry, eight_zeros}
+use Rattle.vms_calls.specs.Common.{carried_by, CarriesNothing, carried, carried_of_item, found, loaded}
+use Rattle.vms_bench.specs.Common.{Carries}
 
 abbrev pub event : ℕ → Step → Event Step
 event p step = record { caller = p; step = step }

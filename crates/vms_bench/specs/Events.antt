@@ -1,10 +1,8 @@
 -- What is known of the event counters before threads count.
 use Rattle.std.specs.Prelude.{◌≡◌, ℕ, ◌<◌, ◌≤◌, Some}
 use Rattle.vms_event_core.specs.declared.steps.EventFacts.{EventFacts}
-use Rattle.vms_event_core.specs.Events.{History, MayOwn}
-use Rattle.vms_event_core.specs.Steps.{role}
-use Rattle.vms_event_core.specs.Totals.{spent}
-use Rattle.vms_bench_base.specs.Beginnings.{OwnsBelow}
+use Rattle.vms_event_core.specs.Common.{History, MayOwn, role, spent}
+use Rattle.vms_bench_base.specs.Common.{OwnsBelow}
 
 -- a pass may own each of the 64 CPUs
 abbrev pub AreOnline : EventFacts → Type 0

@@ -1,3 +1,4 @@
 pub mod Events
 pub mod Locals
 pub mod Pages
+pub mod Common

@@ -1,11 +1,8 @@
 -- What is known of the percpu counters before threads add.
 use Rattle.std.specs.Prelude.{◌≡◌, ℕ, ◌<◌, ◌≤◌, Some}
 use Rattle.vms_pcpu_core.specs.declared.steps.PcpuFacts.{PcpuFacts}
-use Rattle.vms_pcpu_core.specs.Histories.{History, MayOwn}
-use Rattle.vms_pcpu_core.specs.States.{counters_of}
-use Rattle.vms_pcpu_core.specs.Steps.{role}
-use Rattle.vms_pcpu_core.specs.Totals.{spent}
-use Rattle.vms_bench_base.specs.Beginnings.{OwnsBelow}
+use Rattle.vms_pcpu_core.specs.Common.{History, MayOwn, counters_of, role, spent}
+use Rattle.vms_bench_base.specs.Common.{OwnsBelow}
 
 -- there are eight counters, and a pass may own each of the 64 CPUs
 pub record AreOpen (facts : PcpuFacts) : Type 0 where

@@ -1,14 +1,9 @@
 -- What is known of the page counters while threads change them.
 use Rattle.std.specs.Prelude.{◌≡◌, ℕ, ◌<◌, ◌≤◌, nat_eq, ℤ, pos, List, if◌then◌else◌, Some}
-use Rattle.vms_base.specs.declared.ids.CpuId.{CpuId}
-use Rattle.vms_base.specs.Places.{Shape, IsCpu, IsCounter, IsGroup, IsItem, group_of, item_of, place_of}
-use Rattle.vms_history.specs.declared.events.Event.{Event}
-use Rattle.vms_history.specs.Events.{own}
-use Rattle.vms_core.specs.declared.steps.Facts.{Facts}
-use Rattle.vms_core.specs.declared.steps.Step.{Step}
-use Rattle.vms_core.specs.Own.{carried, carried_of_item, found, loaded, CarriesNothing}
-use Rattle.vms_seats.specs.Passes.{Shared, IsOf}
-use Rattle.vms_words.specs.PagePasses.{OwningPass}
+use Rattle.vms_calls.specs.Common.{CpuId, Shape, IsCpu, IsCounter, IsGroup, IsItem, group_of, item_of, place_of, Event}
+use Rattle.vms_calls.specs.Common.{own, Facts, Step, carried, carried_of_item, found, loaded, CarriesNothing}
+use Rattle.vms_seats.specs.Common.{Shared, IsFrom}
+use Rattle.vms_words.specs.Common.{OwningPass}
 use Rattle.vms_bench.specs.declared.changes.Target.{Target}
 
 -- a counter of the layout, with its place, its group and its item
@@ -23,7 +18,7 @@ pub record IsTarget (shape : Shape) (target : Target) : Type 0 where
 
 -- a pass of this table, which owns this CPU
 pub record IsOwn (pass : OwningPass) (table : Shared Facts) (cpu : CpuId) : Type 0 where
-  pub of : IsOf pass.pass table
+  pub of : IsFrom pass.pass table
   pub owns : pass.pass.cpu ≡ Some cpu
 
 -- a caller carries this amount for a counter and for its item, and nothing else

@@ -1,8 +1,5 @@
 ghost use Rattle.std.specs.Prelude.{◌≡◌, ◌+◌, ◌≤◌, OnOk, IfOk, slice_index_or, unsigned_abs};
-ghost use Rattle.vms_base.specs.Places.{IsCpu, IsCounter};
-ghost use Rattle.vms_base.specs.Volumes.{most_volume};
-ghost use Rattle.vms_core.specs.Cells.{eight_zeros};
-ghost use Rattle.vms_core.specs.Own.{CarriesNothing};
+ghost use Rattle.vms_calls.specs.Common.{IsCpu, IsCounter, most_volume, eight_zeros, CarriesNothing};
 ghost use Rattle.vms_bench.specs.Pages.{Carries, HasLooked, IsOwn, IsTarget, own_of};
 
 use vms_base::{CounterId, CpuId, GroupId, ItemId, Layout, Mode, Overflow, PlaceId};

@@ -1,7 +1,7 @@
 ghost use Rattle.std.specs.Prelude.{◌≡◌, ℕ, ◌<◌, ◌≤◌, [], All, IfOk, Some};
-ghost use Rattle.vms_base.specs.declared.ids.CpuId.{CpuId};
+ghost use Rattle.vms_calls.specs.Common.{CpuId};
 ghost use Rattle.vms_bench.specs.Events.{AreOnline};
-ghost use Rattle.vms_seats.specs.Passes.{IsOf};
+ghost use Rattle.vms_seats.specs.Common.{IsFrom};
 
 use crate::CPUS;
 use anyhow::{Result, bail};
@@ -37,7 +37,7 @@ pub(crate) fn count_events<R: Threads + Sync>(
 /// The event counters of the machine, in which all CPUs are online and have counted nothing.
 fn make_table(alloc: Global) -> Result<(EventTable, EventMain)>
     ensures online { IfOk result (λ made. AreOnline made.0.facts) }
-    ensures main { IfOk result (λ made. IsOf made.1 made.0 × (made.1.seen ≡ [])) }
+    ensures main { IfOk result (λ made. IsFrom made.1 made.0 × (made.1.seen ≡ [])) }
 {
     let layout = machine(CPUS)?;
     let words = Row::filled(alloc, CPUS as usize * EVENTS, 0)?;
@@ -53,11 +53,11 @@ fn begin_passes(
     main: &mut EventMain,
     threads: u32,
 ) -> Result<Vec<EventPass>, Memory>
-    requires table { IsOf main.old table.now }
+    requires table { IsFrom main.old table.now }
     requires begins { main.old.seen ≡ [] }
     requires online { AreOnline table.now.facts }
     requires threads { threads ≤ 4 }
-    ensures { IfOk result (λ passes. All (λ p. IsOf p.pass table.now) passes.items) }
+    ensures { IfOk result (λ passes. All (λ p. IsFrom p.pass table.now) passes.items) }
 {
     let mut passes = Vec::with_capacity(alloc, threads as usize)?;
     for thread in 0..threads {
@@ -69,8 +69,8 @@ fn begin_passes(
 
 /// Counts an event on a pass's CPU, one by one.
 fn count(table: &EventTable, mut pass: EventPass, changes: u64) -> Result<EventPass, Overflow>
-    requires { IsOf pass.pass table.now }
-    ensures { IfOk result (λ p. IsOf p.pass table.now) }
+    requires { IsFrom pass.pass table.now }
+    ensures { IfOk result (λ p. IsFrom p.pass table.now) }
 {
     for _ in 0..changes {
         table.count(&mut pass, EVENT, 1)?;
@@ -85,15 +85,16 @@ fn count_each<R: Threads + Sync>(
     passes: Vec<EventPass>,
     changes: u64,
 ) -> Result<Vec<Result<EventPass, Overflow>>, AllocError>
-    requires { All (λ p. IsOf p.pass table.now) passes.items }
-    ensures { IfOk result (λ counted. All (λ r. IfOk r (λ p. IsOf p.pass table.now)) counted.items) }
+    requires { All (λ p. IsFrom p.pass table.now) passes.items }
+    ensures { IfOk result
+        (λ counted. All (λ r. IfOk r (λ p. IsFrom p.pass table.now)) counted.items) }
 {
     thread::map_vec(rt, passes, &|pass| count(table, pass, changes))
 }
 
 /// What all CPUs have counted, once every thread has ended.
 fn last_total(table: &EventTable, counted: Vec<Result<EventPass, Overflow>>) -> Result<u64>
-    requires { All (λ r. IfOk r (λ p. IsOf p.pass table.now)) counted.items }
+    requires { All (λ r. IfOk r (λ p. IsFrom p.pass table.now)) counted.items }
 {
     let mut total = 0;
     for pass in counted {

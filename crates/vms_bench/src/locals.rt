@@ -1,6 +1,6 @@
 ghost use Rattle.std.specs.Prelude.{◌≡◌, ◌<◌, ◌≤◌, [], All, IfOk};
 ghost use Rattle.vms_bench.specs.Locals.{AreOpen};
-ghost use Rattle.vms_seats.specs.Passes.{IsOf};
+ghost use Rattle.vms_seats.specs.Common.{IsFrom};
 
 use crate::CPUS;
 use anyhow::{Result, bail};
@@ -46,7 +46,7 @@ pub(crate) fn add_locals<R: Threads + Wait + Sync>(
 /// The percpu counters of the machine, all 0, in which all CPUs are online.
 fn make_table(alloc: Global) -> Result<(PcpuTable, PcpuMain)>
     ensures open { IfOk result (λ made. AreOpen made.0.facts) }
-    ensures main { IfOk result (λ made. IsOf made.1 made.0 × (made.1.seen ≡ [])) }
+    ensures main { IfOk result (λ made. IsFrom made.1 made.0 × (made.1.seen ≡ [])) }
 {
     let layout = machine(CPUS)?;
     let batch = Row::filled(alloc, COUNTERS, BATCH)?;
@@ -69,11 +69,11 @@ fn begin_passes(
     main: &mut PcpuMain,
     threads: u32,
 ) -> Result<Vec<PcpuPass>, Memory>
-    requires table { IsOf main.old table.now }
+    requires table { IsFrom main.old table.now }
     requires begins { main.old.seen ≡ [] }
     requires open { AreOpen table.now.facts }
     requires threads { threads ≤ 4 }
-    ensures { IfOk result (λ passes. All (λ p. IsOf p.pass table.now) passes.items) }
+    ensures { IfOk result (λ passes. All (λ p. IsFrom p.pass table.now) passes.items) }
 {
     let mut passes = Vec::with_capacity(alloc, threads as usize)?;
     for thread in 0..threads {
@@ -93,8 +93,8 @@ fn add_often<R: Wait>(
 ) -> Result<PcpuPass, Overflow>
     requires open { AreOpen table.now.facts }
     requires counter { counter.number < 8 }
-    requires table { IsOf pass.pass table.now }
-    ensures { IfOk result (λ p. IsOf p.pass table.now) }
+    requires table { IsFrom pass.pass table.now }
+    ensures { IfOk result (λ p. IsFrom p.pass table.now) }
 {
     let mut amount = AMOUNT;
     for _ in 0..changes {
@@ -114,8 +114,8 @@ fn add_each<R: Threads + Wait + Sync>(
 ) -> Result<Vec<Result<PcpuPass, Overflow>>, AllocError>
     requires open { AreOpen table.now.facts }
     requires counter { counter.number < 8 }
-    requires table { All (λ p. IsOf p.pass table.now) passes.items }
-    ensures { IfOk result (λ added. All (λ r. IfOk r (λ p. IsOf p.pass table.now)) added.items) }
+    requires table { All (λ p. IsFrom p.pass table.now) passes.items }
+    ensures { IfOk result (λ added. All (λ r. IfOk r (λ p. IsFrom p.pass table.now)) added.items) }
 {
     thread::map_vec(
         rt,
@@ -133,7 +133,7 @@ fn last_sum<R: Wait>(
 ) -> Result<i64>
     requires open { AreOpen table.now.facts }
     requires counter { counter.number < 8 }
-    requires table { All (λ r. IfOk r (λ p. IsOf p.pass table.now)) added.items }
+    requires table { All (λ r. IfOk r (λ p. IsFrom p.pass table.now)) added.items }
 {
     let mut sum = 0;
     for pass in added {

@@ -1,7 +1,7 @@
 ghost use Rattle.std.specs.Prelude.{All, IfOk};
-ghost use Rattle.vms_base.specs.Places.{IsCounter};
-ghost use Rattle.vms_bench_base.specs.ReadyPasses.{IsReady};
-ghost use Rattle.vms_seats.specs.Passes.{IsOf};
+ghost use Rattle.vms_calls.specs.Common.{IsCounter};
+ghost use Rattle.vms_bench_base.specs.Common.{IsReady};
+ghost use Rattle.vms_seats.specs.Common.{IsFrom};
 
 use crate::CPUS;
 use crate::changes::{Target, change};
@@ -43,7 +43,8 @@ fn change_each<R: Threads + Sync>(
 ) -> Result<Vec<Result<CpuPass, Overflow>>, AllocError>
     requires counter { IsCounter table.now.facts.layout counter.number }
     requires passes { All (IsReady table.now) passes.items }
-    ensures { IfOk result (λ changed. All (λ r. IfOk r (λ p. IsOf p.pass table.now)) changed.items) }
+    ensures { IfOk result
+        (λ changed. All (λ r. IfOk r (λ p. IsFrom p.pass table.now)) changed.items) }
 {
     thread::map_vec(
         rt,
@@ -61,7 +62,7 @@ fn change_often(
 ) -> Result<CpuPass, Overflow>
     requires counter { IsCounter table.now.facts.layout counter.number }
     requires ready { IsReady table.now pass }
-    ensures { IfOk result (λ p. IsOf p.pass table.now) }
+    ensures { IfOk result (λ p. IsFrom p.pass table.now) }
 {
     let target = Target::of(table.layout(), pass.cpu(), counter);
     for _ in 0..changes {

@@ -1,15 +1,9 @@
 -- For other crates too: a pass begins on a CPU past those that were owned.
-use Rattle.std.proofs.Common.{◌≡◌, ℕ, ◌<◌, ◌≤◌, Bool, true, false, List, Option, Some, ap, sym, ◌∙◌}
-use Rattle.std.proofs.Common.{subst, arith, if◌then◌else◌, nat_eq}
-use Rattle.vms_base.specs.declared.ids.CpuId.{CpuId}
-use Rattle.vms_history.specs.declared.events.Event.{Event}
-use Rattle.vms_history.specs.Events.{own}
-use Rattle.vms_history.specs.Legal.{Machine}
-use Rattle.vms_history.specs.Passes.{Role, owner, owner_after, owner_in, IsFree}
-use Rattle.vms_history.specs.Passes.Role.{Begins}
-use Rattle.vms_seats.specs.MainSteps.{HasBegun, next_number}
-use Rattle.vms_seats.specs.Passes.{Pass}
-use Rattle.vms_bench_base.specs.Beginnings.{OwnsBelow}
+use Rattle.std.proofs.Common.{◌≡◌, ℕ, ◌<◌, ◌≤◌, Bool, true, false, List, Option, Some, ap, sym, ◌∙◌, subst, arith}
+use Rattle.std.proofs.Common.{if◌then◌else◌, nat_eq}
+use Rattle.vms_calls.specs.Common.{CpuId, Event, own, Machine, Role, owner, owner_after, owner_in, IsFree, Begins}
+use Rattle.vms_seats.specs.Common.{HasBegun, next_number, Pass}
+use Rattle.vms_bench_base.specs.Common.{OwnsBelow}
 
 -- a CPU past those that were owned is free
 pub owns_below-free : {K : Type 0} (role : K → Role) (least : ℕ) (h : List (Event K)) (c : CpuId)

@@ -1,6 +1,6 @@
 -- Each place has eight counters at least.
 use Rattle.std.proofs.Common.{◌≡◌, ℕ, ◌*◌, ◌<◌, ◌≤◌, arith, ⊎_elim, subst, sym}
-use Rattle.vms_base.specs.Places.{Shape, IsLayout, IsCounter, place_count}
+use Rattle.vms_calls.specs.Common.{Shape, IsLayout, IsCounter, place_count}
 
 pub first_counters : (shape : Shape) → IsLayout shape → (k : ℕ) → k < 8 → IsCounter shape k
 first_counters shape layout k within =

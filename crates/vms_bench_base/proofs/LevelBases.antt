@@ -1,23 +1,15 @@
 -- Level page counters are a base, whose marks cover what the CPUs may hide.
-use Rattle.std.proofs.Common.{◌≡◌, ℕ, ◌*◌, ◌^◌, ◌<◌, ◌≤◌, ℤ, pos, List, [], length, get_or, replicate, refl, ap, sym, ◌∙◌}
-use Rattle.std.proofs.Common.{subst, arith, ⊎_elim, unsigned_abs, None}
+use Rattle.std.proofs.Common.{◌≡◌, ℕ, ◌*◌, ◌^◌, ◌<◌, ◌≤◌, ℤ, pos, List, [], length, get_or, replicate, refl, ap, sym}
+use Rattle.std.proofs.Common.{◌∙◌, subst, arith, ⊎_elim, unsigned_abs, None}
 use Rattle.std.proofs.lemmas.Bool.{cases_lt}
 use Rattle.std.proofs.lemmas.List.{get_or_past, get_or-replicate, length-replicate}
 use Rattle.std.proofs.lemmas.List.Elements.{All-replicate, All-same}
-use Rattle.vms_base.specs.declared.kinds.CpuState.{CpuState}
-use Rattle.vms_base.specs.declared.kinds.CpuState.TheVariants.{Online, Dead, Absent}
-use Rattle.vms_base.specs.declared.kinds.ZoneSize.{ZoneSize}
-use Rattle.vms_base.specs.Places.{Shape, IsLayout, IsZone, cell, counter_at, counter_count, place_count}
-use Rattle.vms_base.specs.Sizes.{IsValidSize, size_at}
-use Rattle.vms_history.proofs.CountLemmas.{count_below-most, largest_below-most}
-use Rattle.vms_core.specs.declared.states.State.{State}
-use Rattle.vms_core.specs.declared.steps.Facts.{Facts}
-use Rattle.vms_core.specs.Bases.{IsBase, IsOpening}
-use Rattle.vms_core.specs.Cells.{counters_of, places_of, diff_at, cpu_at, mark_at}
-use Rattle.vms_core.specs.Peaks.{if_present, opening_peak, peak_sum}
-use Rattle.vms_core.proofs.LevelStates.{IsOpening-level, get_or-copies}
-use Rattle.vms_bench_base.specs.Levels.{IsLevel}
-use Rattle.vms_bench_base.specs.Machines.{AreOnline, size_of_zones}
+use Rattle.vms_calls.specs.Common.{CpuState, Online, Dead, Absent, ZoneSize, Shape, IsLayout, IsZone, cell, counter_at}
+use Rattle.vms_calls.specs.Common.{counter_count, place_count, IsValidSize, size_at, State, Facts, IsBase, IsOpening}
+use Rattle.vms_calls.specs.Common.{counters_of, places_of, diff_at, cpu_at, mark_at, if_present, opening_peak, peak_sum}
+use Rattle.vms_history.proofs.Common.{count_below-most, largest_below-most}
+use Rattle.vms_core.proofs.Common.{IsOpening-level, get_or-copies}
+use Rattle.vms_bench_base.specs.Common.{IsLevel, AreOnline, size_of_zones}
 
 -- an entry of copies is the copy, or the default past their end, and so at most the copy where the default is 0
 copies-most : (n i t : ℕ) → get_or (replicate n t) i 0 ≤ t

@@ -3,3 +3,4 @@ mod Counters
 mod LevelBases
 mod PagePasses
 pub mod ReadyPasses
+pub mod Common

@@ -1,19 +1,11 @@
 -- A pass begins that changes page counters, on a CPU that has changed nothing.
-use Rattle.std.proofs.Common.{◌≡◌, ℕ, ◌<◌, ◌≤◌, Option, Some, None, refl}
-use Rattle.std.proofs.Common.{ap, ◌∙◌, subst, arith}
-use Rattle.vms_base.specs.declared.ids.CpuId.{CpuId}
-use Rattle.vms_history.specs.Passes.{owner_in}
-use Rattle.vms_core.specs.declared.steps.Facts.{Facts}
-use Rattle.vms_core.specs.declared.steps.Step.{Step}
-use Rattle.vms_core.specs.declared.steps.Step.TheVariants.{Split}
-use Rattle.vms_core.specs.Pages.{pages, IsLegal}
-use Rattle.vms_core.specs.Steps.{role}
-use Rattle.vms_core.specs.Totals.{spent, spent_by}
-use Rattle.vms_core.proofs.FreeCpus.{cpu-stands}
-use Rattle.vms_seats.specs.MainSteps.{HasBegun, next_number}
-use Rattle.vms_seats.specs.Passes.{Pass}
-use Rattle.vms_words.specs.Told.{begins_it}
-use Rattle.vms_bench_base.specs.ReadyPasses.{IsUnused}
+use Rattle.std.proofs.Common.{◌≡◌, ℕ, ◌<◌, ◌≤◌, Option, Some, None, refl, ap, ◌∙◌, subst, arith}
+use Rattle.vms_calls.specs.Common.{CpuId, owner_in, Facts, Step, Split, pages, role, spent, spent_by}
+use Rattle.vms_core.specs.Pages.{IsLegal}
+use Rattle.vms_core.proofs.Common.{cpu-stands}
+use Rattle.vms_seats.specs.Common.{HasBegun, next_number, Pass}
+use Rattle.vms_words.specs.Common.{begins_it}
+use Rattle.vms_bench_base.specs.Common.{IsUnused}
 use Rattle.vms_bench_base.proofs.Beginning.{owns_below-free, begun-owns_below}
 
 split-spends_nothing : (o who : Option CpuId) (q c k : ℕ) → spent_by o c k (Split q who) ≡ 0

@@ -1,15 +1,9 @@
 -- For other crates too: a pass that made steps and carries nothing then is ready again.
 use Rattle.std.proofs.Common.{[], List, refl, ◌∙◌}
-use Rattle.vms_base.specs.Places.{Shape}
-use Rattle.vms_history.specs.Events.{own}
-use Rattle.vms_core.specs.declared.steps.Facts.{Facts}
-use Rattle.vms_core.specs.declared.steps.Step.{Step}
-use Rattle.vms_core.specs.Own.{CarriesNothing}
-use Rattle.vms_core.specs.Pages.{pages}
-use Rattle.vms_seats.specs.Passes.{Shared}
-use Rattle.vms_seats.specs.Steps.{Made}
-use Rattle.vms_words.specs.PagePasses.{OwningPass}
-use Rattle.vms_bench_base.specs.ReadyPasses.{IsReady}
+use Rattle.vms_calls.specs.Common.{Shape, own, Facts, Step, CarriesNothing, pages}
+use Rattle.vms_seats.specs.Common.{Shared, Made}
+use Rattle.vms_words.specs.Common.{OwningPass}
+use Rattle.vms_bench_base.specs.Common.{IsReady}
 
 pub none-carried : (shape : Shape) → CarriesNothing shape []
 none-carried shape = record { counters = λ k. refl; items = λ i. refl }

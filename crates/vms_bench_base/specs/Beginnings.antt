@@ -1,8 +1,6 @@
 -- Passes begin on CPUs in ascending order.
 use Rattle.std.specs.Prelude.{◌≡◌, ℕ, ◌<◌, List, Some}
-use Rattle.vms_base.specs.declared.ids.CpuId.{CpuId}
-use Rattle.vms_history.specs.declared.events.Event.{Event}
-use Rattle.vms_history.specs.Passes.{Role, owner_in}
+use Rattle.vms_calls.specs.Common.{CpuId, Event, Role, owner_in}
 
 -- the CPUs that passes have owned are below this number
 abbrev pub OwnsBelow : {K : Type 0} → (K → Role) → ℕ → List (Event K) → Type 0

@@ -1,8 +1,6 @@
 -- Page counters that are level: all of them the same, all thresholds the same, and every CPU online.
 use Rattle.std.specs.Prelude.{◌≡◌, ◌*◌, ℤ, pos, length, replicate, None}
-use Rattle.vms_base.specs.declared.kinds.CpuState.TheVariants.{Online}
-use Rattle.vms_base.specs.Places.{Shape, counter_count, item_count, place_count}
-use Rattle.vms_core.specs.declared.states.State.{State}
+use Rattle.vms_calls.specs.Common.{Online, Shape, counter_count, item_count, place_count, State}
 
 -- the numbers of such a state
 pub record IsLevel (shape : Shape) (value : ℤ) (s : State) : Type 0 where

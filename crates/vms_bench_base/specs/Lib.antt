@@ -3,3 +3,4 @@ pub mod Levels
 pub mod Machines
 pub mod ReadyPasses
 pub mod Starts
+pub mod Common

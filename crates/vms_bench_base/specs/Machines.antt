@@ -1,10 +1,6 @@
 -- What is known of a machine and of its page counters before threads change them.
 use Rattle.std.specs.Prelude.{◌≡◌, ℕ, ◌<◌, length, replicate, Some}
-use Rattle.vms_base.specs.declared.headers.Header.{Header}
-use Rattle.vms_base.specs.declared.kinds.ZoneSize.{ZoneSize}
-use Rattle.vms_base.specs.Cpus.{MayOwnCpu}
-use Rattle.vms_base.specs.Places.{IsLayout}
-use Rattle.vms_core.specs.declared.steps.Facts.{Facts}
+use Rattle.vms_calls.specs.Common.{Header, ZoneSize, MayOwnCpu, IsLayout, Facts}
 
 -- the size of each zone: 4 GiB, in pages
 abbrev pub size_of_zones : ZoneSize

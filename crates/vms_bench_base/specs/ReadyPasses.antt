@@ -1,20 +1,13 @@
 -- Passes that may begin any call, and CPUs that no pass has owned yet.
 use Rattle.std.specs.Prelude.{◌≡◌, ℕ, ◌≤◌, Some}
-use Rattle.vms_base.specs.declared.ids.CpuId.{CpuId}
-use Rattle.vms_base.specs.Places.{IsCpu}
-use Rattle.vms_history.specs.Events.{own}
-use Rattle.vms_core.specs.declared.steps.Facts.{Facts}
-use Rattle.vms_core.specs.Own.{CarriesNothing}
-use Rattle.vms_core.specs.Pages.{History}
-use Rattle.vms_core.specs.Steps.{role}
-use Rattle.vms_core.specs.Totals.{spent}
-use Rattle.vms_seats.specs.Passes.{Shared, IsOf}
-use Rattle.vms_words.specs.PagePasses.{OwningPass}
+use Rattle.vms_calls.specs.Common.{CpuId, IsCpu, own, Facts, CarriesNothing, History, role, spent}
+use Rattle.vms_seats.specs.Common.{Shared, IsFrom}
+use Rattle.vms_words.specs.Common.{OwningPass}
 use Rattle.vms_bench_base.specs.Beginnings.{OwnsBelow}
 
 -- a pass of this table that owns a CPU of the layout and carries nothing
 pub record IsReady (table : Shared Facts) (pass : OwningPass) : Type 0 where
-  pub of : IsOf pass.pass table
+  pub of : IsFrom pass.pass table
   pub cpu : CpuId
   pub owns : pass.pass.cpu ≡ Some cpu
   pub known : IsCpu table.facts.layout cpu.number

@@ -1,8 +1,6 @@
 -- What is known where threads begin to work.
 use Rattle.std.specs.Prelude.{◌≡◌, ℕ, ◌<◌, All}
-use Rattle.vms_base.specs.declared.headers.Header.{Header}
-use Rattle.vms_base.specs.Places.{IsCounter, IsZone}
-use Rattle.vms_core.specs.declared.steps.Facts.{Facts}
+use Rattle.vms_calls.specs.Common.{Header, IsCounter, IsZone, Facts}
 use Rattle.vms_bench_base.specs.declared.tables.Started.{Started}
 use Rattle.vms_bench_base.specs.ReadyPasses.{IsReady}
 

@@ -1,5 +1,5 @@
 ghost use Rattle.std.specs.Prelude.{◌≡◌, ◌*◌, ◌<◌, IfOk};
-ghost use Rattle.vms_base.specs.Places.{IsLayout};
+ghost use Rattle.vms_calls.specs.Common.{IsLayout};
 ghost use Rattle.vms_bench_base.specs.Machines.{IsMachine};
 
 use std::alloc::Global;

@@ -1,9 +1,9 @@
 ghost use Rattle.std.specs.Prelude.{◌≡◌, ◌+◌, ◌*◌, ◌^◌, ◌≤◌, [], All, IfOk, unsigned_abs};
-ghost use Rattle.vms_base.specs.Places.{IsCounter};
+ghost use Rattle.vms_calls.specs.Common.{IsCounter};
 ghost use Rattle.vms_bench_base.specs.Machines.{AreOnline, IsMachine};
 ghost use Rattle.vms_bench_base.specs.ReadyPasses.{IsReady};
 ghost use Rattle.vms_bench_base.specs.Starts.{IsStarted};
-ghost use Rattle.vms_seats.specs.Passes.{IsOf};
+ghost use Rattle.vms_seats.specs.Common.{IsFrom};
 
 use crate::levels::level;
 use crate::machines::{cpu_of_thread, header};
@@ -44,7 +44,7 @@ fn make_table(alloc: Global, header: &Header, value: i64) -> Result<(PageTable, 
     ensures online { IfOk result (λ made. AreOnline made.0.facts) }
     ensures layout { IfOk result (λ made. made.0.facts.layout ≡ header.now.layout) }
     ensures sizes { IfOk result (λ made. made.0.facts.sizes ≡ header.now.sizes) }
-    ensures main { IfOk result (λ made. IsOf made.1 made.0 × (made.1.seen ≡ [])) }
+    ensures main { IfOk result (λ made. IsFrom made.1 made.0 × (made.1.seen ≡ [])) }
 {
     let base = level(alloc, &header.layout, value)?;
     let made = PageTable::make(alloc, header, &base)?;
@@ -58,7 +58,7 @@ fn begin_passes(
     main: &mut MainPass,
     threads: u32,
 ) -> Result<Vec<CpuPass>, Memory>
-    requires table { IsOf main.old table.now }
+    requires table { IsFrom main.old table.now }
     requires begins { main.old.seen ≡ [] }
     requires online { AreOnline table.now.facts }
     requires threads { threads ≤ 4 }
@@ -81,7 +81,7 @@ pub fn last_values(
     counter: CounterId,
 ) -> Result<(i64, i64), Overflow>
     requires counter { IsCounter table.now.facts.layout counter.number }
-    requires table { All (λ r. IfOk r (λ p. IsOf p.pass table.now)) passes.items }
+    requires table { All (λ r. IfOk r (λ p. IsFrom p.pass table.now)) passes.items }
 {
     let item = table.layout().item_of(counter);
     let mut values = (0, 0);

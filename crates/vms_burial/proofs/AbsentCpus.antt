@@ -1,28 +1,15 @@
 -- Once the control pass has folded a dead CPU, the CPU may become absent, whatever others did.
 use Rattle.std.proofs.Common.{◌≡◌, ℕ, ◌+◌, false, List, [], ◌∷◌, ◌++◌, length, map, Option, None, refl, arith}
 use Rattle.std.proofs.lemmas.List.{length-map}
-use Rattle.vms_base.specs.declared.ids.CpuId.{CpuId}
+use Rattle.vms_world.specs.Common.{CpuId, ZoneSize, online_from, IsCpu, GivesThresholds, own, after, IsFold, in_turn}
+use Rattle.vms_world.specs.Common.{MakesBurial, ControlsIn, HasMade, ByNormal, Rates, Refreshes, VisitsEach}
+use Rattle.vms_world.specs.Common.{acknowledged_steps, largest_on, numbers_below, rating_steps, state_steps}
+use Rattle.vms_world.specs.Common.{threshold_steps, next, Facts, Step, LoadM, SetO, cpu_at, SetsAbsent, pages}
 use Rattle.vms_base.specs.declared.kinds.CpuState.TheVariants.{Dead}
-use Rattle.vms_base.specs.declared.kinds.ZoneSize.{ZoneSize}
-use Rattle.vms_base.specs.Cpus.{online_from}
-use Rattle.vms_base.specs.Places.{IsCpu}
-use Rattle.vms_base.specs.Thresholds.{GivesThresholds}
-use Rattle.vms_history.specs.Events.{own, after}
-use Rattle.vms_history.proofs.Prefixes.{base_can_begin}
-use Rattle.vms_calls.specs.Folds.{IsFold}
-use Rattle.vms_calls.specs.Lists.{in_turn}
-use Rattle.vms_calls.specs.MayCall.{MakesBurial}
-use Rattle.vms_calls.specs.MayMake.{ControlsIn, HasMade}
-use Rattle.vms_calls.specs.Ratings.{ByNormal, Rates, Refreshes, VisitsEach, acknowledged_steps, largest_on}
-use Rattle.vms_calls.specs.Ratings.{numbers_below, rating_steps, state_steps, threshold_steps}
-use Rattle.vms_calls.specs.Ratings.VisitsEach.{none, next}
-use Rattle.vms_core.specs.declared.steps.Facts.{Facts}
-use Rattle.vms_core.specs.declared.steps.Step.{Step}
-use Rattle.vms_core.specs.declared.steps.Step.TheVariants.{LoadM, SetO}
-use Rattle.vms_core.specs.Cells.{cpu_at}
-use Rattle.vms_core.specs.Conditions.{SetsAbsent}
+use Rattle.vms_history.proofs.Common.{base_can_begin}
+use Rattle.vms_calls.specs.Ratings.VisitsEach.{none}
 use Rattle.vms_core.specs.Own.{CarriesNothing}
-use Rattle.vms_core.specs.Pages.{pages, History, state_after}
+use Rattle.vms_core.specs.Pages.{History, state_after}
 
 -- a rule that answers 1
 abbrev pub IsOne : ZoneSize → ℕ → ℕ → Type 0

@@ -1,18 +1,9 @@
 -- What stands of a CPU that was dead and became absent, whatever others did.
-use Rattle.std.proofs.Common.{◌≡◌, ℕ, nat_eq, Bool, true, false, [], ◌∷◌, ◌++◌, refl, ◌∙◌, eq-eqb}
-use Rattle.std.proofs.Common.{if◌then◌else◌, pos}
-use Rattle.vms_base.specs.declared.ids.CpuId.{CpuId}
-use Rattle.vms_base.specs.declared.kinds.CpuState.{CpuState}
-use Rattle.vms_base.specs.declared.kinds.CpuState.TheVariants.{Dead, Absent}
-use Rattle.vms_base.specs.Places.{IsCpu, IsCounter}
-use Rattle.vms_core.specs.declared.steps.Facts.{Facts}
-use Rattle.vms_core.specs.declared.steps.Step.{Step}
-use Rattle.vms_core.specs.declared.steps.Step.TheVariants.{SetO}
-use Rattle.vms_core.specs.Cells.{cpu_at, diff_at}
-use Rattle.vms_core.specs.Laws.{KeepsLaws}
+use Rattle.std.proofs.Common.{◌≡◌, ℕ, nat_eq, Bool, true, false, [], ◌∷◌, ◌++◌, refl, ◌∙◌, eq-eqb, if◌then◌else◌, pos}
+use Rattle.vms_world.specs.Common.{CpuId, CpuState, Absent, IsCpu, IsCounter, Facts, Step, SetO, cpu_at, diff_at}
+use Rattle.vms_world.specs.Common.{KeepsLaws, cpu_after, cpu_in, MovesOnce}
+use Rattle.vms_base.specs.declared.kinds.CpuState.TheVariants.{Dead}
 use Rattle.vms_core.specs.Pages.{History, state_after}
-use Rattle.vms_core.specs.Peaks.{cpu_after, cpu_in}
-use Rattle.vms_core.specs.Taken.{MovesOnce}
 
 -- a CPU that is dead was dead in the base
 pub dead-first : (facts : Facts) (c : ℕ) (h : History) → cpu_in facts c h ≡ Dead → cpu_at facts.base c ≡ Dead

@@ -2,23 +2,13 @@
 use Rattle.std.proofs.Common.{◌≡◌, ◌≢◌, ℕ, nat_eq, Bool, true, false, List, [], ◌∷◌, ◌++◌, None, refl, sym, ap, ◌∙◌}
 use Rattle.std.proofs.Common.{subst, if◌then◌else◌}
 use Rattle.std.proofs.lemmas.Bool.{eqb-false}
-use Rattle.vms_base.specs.Places.{IsPlace}
-use Rattle.vms_history.specs.declared.events.Event.{Event}
-use Rattle.vms_history.specs.Events.{own, after}
-use Rattle.vms_history.specs.Passes.{lives_in, owner_in}
-use Rattle.vms_history.proofs.GoesOn.{holds_while_live}
-use Rattle.vms_history.proofs.MadeSteps.{made-given}
-use Rattle.vms_history.proofs.Own.{own-on_top}
-use Rattle.vms_history.proofs.PassLaws.{owner_acts_alone}
-use Rattle.vms_calls.proofs.CallSteps.{Each, OfFolds}
-use Rattle.vms_calls.specs.MayMake.{HasMade}
-use Rattle.vms_core.specs.declared.steps.Facts.{Facts}
-use Rattle.vms_core.specs.declared.steps.Step.{Step}
-use Rattle.vms_core.specs.declared.steps.Step.TheVariants.{SetT, SetM}
-use Rattle.vms_core.specs.Cells.{mark_sets_at, threshold_sets_at}
-use Rattle.vms_core.specs.Pages.{pages, History, IsLegal, state_after}
+use Rattle.vms_world.specs.Common.{IsPlace, Event, own, after, lives_in, owner_in, HasMade, Facts, Step, SetT, SetM}
+use Rattle.vms_world.specs.Common.{mark_sets_at, threshold_sets_at, pages}
+use Rattle.vms_history.proofs.Common.{holds_while_live, made-given, own-on_top, owner_acts_alone}
+use Rattle.vms_calls.proofs.Common.{Each, OfFolds}
+use Rattle.vms_core.specs.Pages.{History, IsLegal, state_after}
 use Rattle.vms_core.specs.Steps.{role}
-use Rattle.vms_core.proofs.Settings.{mark_sets_at-newest, sets-newest}
+use Rattle.vms_core.proofs.Common.{mark_sets_at-newest, sets-newest}
 
 -- a step that sets no threshold and no mark
 abbrev pub SetsNothing : Step → Type 0

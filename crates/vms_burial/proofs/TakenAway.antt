@@ -1,31 +1,17 @@
 -- The control pass folds a dead CPU and makes it absent, whatever others do meanwhile.
 use Rattle.std.proofs.Common.{◌≡◌, ℕ, ◌<◌, false, [], ◌∷◌, ◌++◌, length, None, sym, ap, ◌∙◌, subst, arith}
-use Rattle.vms_base.specs.declared.ids.CpuId.{CpuId}
-use Rattle.vms_base.specs.declared.kinds.CpuState.TheVariants.{Dead, Absent}
-use Rattle.vms_base.specs.Places.{Shape, IsCpu, place_count}
-use Rattle.vms_history.specs.Events.{own}
-use Rattle.vms_history.specs.Sums.{largest_below}
-use Rattle.vms_history.proofs.CountLemmas.{largest_below-least, largest_below-most}
-use Rattle.vms_calls.specs.CallerLaws.{LeavesCaller}
-use Rattle.vms_calls.specs.Folds.{IsFold}
-use Rattle.vms_calls.specs.MayCall.{MakesBurial}
-use Rattle.vms_calls.specs.MayMake.{HasMade}
-use Rattle.vms_calls.proofs.CallerLaws.{still-leaves}
-use Rattle.vms_calls.proofs.CallSteps.{each-append, fold-each}
-use Rattle.vms_core.specs.declared.steps.Facts.{Facts}
-use Rattle.vms_core.specs.declared.steps.Step.{Step}
-use Rattle.vms_core.specs.declared.steps.Step.TheVariants.{SetO}
-use Rattle.vms_core.specs.Cells.{cpu_at, mark_sets_at, threshold_sets_at}
-use Rattle.vms_core.specs.Conditions.{SetsAbsent}
-use Rattle.vms_core.specs.Laws.{KeepsLaws}
-use Rattle.vms_core.specs.Own.{CarriesNothing, carried, carried_of_item}
-use Rattle.vms_core.specs.Pages.{pages, History, IsLegal, state_after}
-use Rattle.vms_core.specs.Peaks.{cpu_in}
-use Rattle.vms_count.specs.Folding.{HasFolded, owns}
-use Rattle.vms_seats.specs.Passes.{Pass, Shared, IsOf, IsLive}
-use Rattle.vms_seats.specs.Steps.{Made, MadeOne}
-use Rattle.vms_seats.proofs.MadeCalls.{calls-both}
-use Rattle.vms_words.specs.KeptSettings.{largest_sets}
+use Rattle.vms_world.specs.Common.{CpuId, Absent, Shape, IsCpu, place_count, own, largest_below, LeavesCaller, IsFold}
+use Rattle.vms_world.specs.Common.{MakesBurial, HasMade, Facts, Step, SetO, cpu_at, mark_sets_at, threshold_sets_at}
+use Rattle.vms_world.specs.Common.{SetsAbsent, KeepsLaws, carried_of_item, pages, cpu_in}
+use Rattle.vms_base.specs.declared.kinds.CpuState.TheVariants.{Dead}
+use Rattle.vms_history.proofs.Common.{largest_below-least, largest_below-most}
+use Rattle.vms_calls.proofs.Common.{still-leaves, each-append, fold-each}
+use Rattle.vms_core.specs.Own.{CarriesNothing, carried}
+use Rattle.vms_core.specs.Pages.{History, IsLegal, state_after}
+use Rattle.vms_count.specs.Common.{HasFolded, owns_cpu}
+use Rattle.vms_seats.specs.Common.{Pass, Shared, IsFrom, IsLive, Made, MadeOne}
+use Rattle.vms_seats.proofs.Common.{calls-both}
+use Rattle.vms_words.specs.Common.{largest_sets}
 use Rattle.vms_burial.proofs.AbsentCpus.{IsOne, folded-absent}
 use Rattle.vms_burial.proofs.BuriedCpus.{IsGone, dead-first, absent-now, gone}
 use Rattle.vms_burial.proofs.StillSettings.{SetsNothing, StandStill, folds-set_nothing, stand-still}
@@ -65,7 +51,7 @@ absent-carries shape new old c made nothing =
     leaves = still-leaves shape old.number (SetO c ∷ []) (own old.seen old.number) (tt, tt)
 
 module _ (laws : (facts : Facts) (more h : History) → IsLegal facts (more ++ h) → KeepsLaws facts h)
-    (words : Shared Facts) (old : Pass Facts Step) (c : CpuId) (of : IsOf old words) (none : old.cpu ≡ None)
+    (words : Shared Facts) (old : Pass Facts Step) (c : CpuId) (of : IsFrom old words) (none : old.cpu ≡ None)
     (live : IsLive pages old) (c_in : IsCpu words.facts.layout c.number)
     (dead : cpu_at (state_after words.facts old.seen) c.number ≡ Dead) where
   legal-old : IsLegal words.facts old.seen
@@ -78,7 +64,7 @@ module _ (laws : (facts : Facts) (more h : History) → IsLegal facts (more ++ h
 
   module _ (folded : Pass Facts Step) (folds : HasFolded words.facts.layout folded old c) where
     pub is-fold : IsFold words.facts.layout false c folds.steps
-    is-fold = subst (λ b. IsFold words.facts.layout b c folds.steps) (ap (λ who. owns who c) none) folds.fold
+    is-fold = subst (λ b. IsFold words.facts.layout b c folds.steps) (ap (λ who. owns_cpu who c) none) folds.fold
 
     pub may-be_absent : MakesBurial IsOne → CarriesNothing words.facts.layout (own old.seen old.number)
         → SetsAbsent words.facts folded.seen (state_after words.facts folded.seen) folded.number c

@@ -1,26 +1,12 @@
 -- A burial as a whole: what was folded and taken away, and the refresh after it.
 use Rattle.std.proofs.Common.{◌≡◌, ℕ, false, List, [], ◌∷◌, ◌++◌, refl, sym, ap, ◌∙◌, subst, append_assoc}
-use Rattle.vms_base.specs.declared.ids.CpuId.{CpuId}
-use Rattle.vms_base.specs.declared.kinds.CpuState.TheVariants.{Dead, Absent}
-use Rattle.vms_base.specs.declared.kinds.ZoneSize.{ZoneSize}
-use Rattle.vms_base.specs.Places.{IsCpu}
-use Rattle.vms_history.specs.Events.{after}
-use Rattle.vms_calls.specs.Folds.{IsFold}
-use Rattle.vms_calls.specs.MayCall.{KnowsByOwnSteps}
-use Rattle.vms_calls.specs.Ratings.{Buries, Refreshes}
-use Rattle.vms_control.proofs.PassCalls.{sums-made}
-use Rattle.vms_control.proofs.SameSums.{refresh-same}
-use Rattle.vms_core.specs.declared.steps.Facts.{Facts}
-use Rattle.vms_core.specs.declared.steps.Step.{Step}
-use Rattle.vms_core.specs.declared.steps.Step.TheVariants.{SetO}
-use Rattle.vms_core.specs.Cells.{cpu_at}
-use Rattle.vms_core.specs.Conditions.{IsControl}
-use Rattle.vms_core.specs.Laws.{KeepsLaws}
-use Rattle.vms_core.specs.Pages.{pages, History, IsLegal, state_after}
-use Rattle.vms_core.specs.Peaks.{cpu_in}
-use Rattle.vms_seats.specs.Passes.{Pass, Shared, IsOf}
-use Rattle.vms_seats.specs.Steps.{Made}
-use Rattle.vms_seats.proofs.MadeCalls.{calls-both}
+use Rattle.vms_world.specs.Common.{CpuId, Absent, ZoneSize, IsCpu, after, IsFold, KnowsByOwnSteps, Buries, Refreshes}
+use Rattle.vms_world.specs.Common.{Facts, Step, SetO, cpu_at, IsControl, KeepsLaws, pages, cpu_in}
+use Rattle.vms_base.specs.declared.kinds.CpuState.TheVariants.{Dead}
+use Rattle.vms_control.proofs.Common.{sums-made, refresh-same}
+use Rattle.vms_core.specs.Pages.{History, IsLegal, state_after}
+use Rattle.vms_seats.specs.Common.{Pass, Shared, IsFrom, Made}
+use Rattle.vms_seats.proofs.Common.{calls-both}
 use Rattle.vms_burial.proofs.BuriedCpus.{IsGone, absent-later, gone}
 
 -- the pass has made the steps of a burial
@@ -30,7 +16,7 @@ pub record HasBuried (words : Shared Facts) (normal : ZoneSize → ℕ → ℕ �
   pub buries : Buries words.facts normal c old.number old.seen steps
   pub made : Made pages new old steps
 
-module _ (words : Shared Facts) (new mid old : Pass Facts Step) (c : CpuId) (of : IsOf old words) where
+module _ (words : Shared Facts) (new mid old : Pass Facts Step) (c : CpuId) (of : IsFrom old words) where
   pub has-buried : KnowsByOwnSteps → IsControl old.seen old.number → (normal : ZoneSize → ℕ → ℕ → Type 0)
       → (fold refresh : List Step) → IsFold words.facts.layout false c fold
       → Made pages mid old (fold ++ (SetO c ∷ []))

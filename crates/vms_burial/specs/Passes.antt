@@ -2,7 +2,7 @@
 use Rattle.std.specs.Prelude.{◌≡◌}
 use Rattle.vms_burial.specs.declared.passes.ControlPasses.{ControlPasses}
 use Rattle.vms_tables.specs.declared.tables.Tables.{Tables}
-use Rattle.vms_tables.specs.Passes.{TablePasses}
+use Rattle.vms_tables.specs.Common.{TablePasses}
 
 -- a pass in each table
 abbrev pub passes_of : ControlPasses → TablePasses

@@ -1,23 +1,14 @@
 ghost use Rattle.std.specs.Prelude.{◌≡◌, suc, ◌<◌, ◌≤◌, ◌^◌, false, List, [], ◌∷◌, ◌++◌};
 ghost use Rattle.vms_base.specs.declared.kinds.CpuState.TheVariants.{Dead};
-ghost use Rattle.vms_base.specs.Headers.{IsHeader};
-ghost use Rattle.vms_base.specs.Places.{IsCpu};
-ghost use Rattle.vms_calls.specs.Folds.{IsFold};
-ghost use Rattle.vms_calls.specs.Ratings.{Buries};
-ghost use Rattle.vms_core.specs.declared.steps.Step.{Step};
-ghost use Rattle.vms_core.specs.declared.steps.Step.TheVariants.{SetO};
-ghost use Rattle.vms_core.specs.Cells.{cpu_at};
+ghost use Rattle.vms_world.specs.Common.{IsHeader, IsCpu, IsFold, Buries, Step, SetO, cpu_at, pages, most_sets, own};
 ghost use Rattle.vms_core.specs.Own.{CarriesNothing};
-ghost use Rattle.vms_core.specs.Pages.{pages, state_after};
-ghost use Rattle.vms_core.specs.Plain.{most_sets};
-ghost use Rattle.vms_history.specs.Events.{own};
+ghost use Rattle.vms_core.specs.Pages.{state_after};
 ghost use Rattle.vms_pcpu_core.specs.States.{counters_of};
-ghost use Rattle.vms_seats.specs.Steps.{Made};
-ghost use Rattle.vms_burial.specs.Burials.{IsBuried, MovesEvents, MovesLocals};
+ghost use Rattle.vms_seats.specs.Common.{Made};
+ghost use Rattle.vms_burial.specs.Burials.{IsBuried, FoldsDeadEvents, FoldsDeadLocals};
 ghost use Rattle.vms_burial.specs.Passes.{AreAlike, passes_of};
-ghost use Rattle.vms_tables.specs.Passes.{AreOf};
-ghost use Rattle.vms_tables.specs.Tables.{AreTables};
-ghost use Rattle.vms_words.specs.KeptSettings.{largest_sets};
+ghost use Rattle.vms_tables.specs.Common.{AreFrom, AreTables};
+ghost use Rattle.vms_words.specs.Common.{largest_sets};
 
 use crate::passes::ControlPasses;
 use crate::rules::Least;
@@ -34,7 +25,7 @@ use vms_words::Caller;
 /// Folds a dead CPU in all tables, and makes it absent.
 fn take_away<R: Wait>(rt: &R, tables: &Tables, passes: &mut ControlPasses, cpu: CpuId)
     requires alike { AreAlike tables.now }
-    requires passes { AreOf tables.now (passes_of passes.old) }
+    requires passes { AreFrom tables.now (passes_of passes.old) }
     requires few { counters_of tables.now.counters.facts.base < 2 ^ 32 }
     requires cpu { IsCpu tables.now.pages.facts.layout cpu.number }
     requires dead { cpu_at (state_after tables.now.pages.facts passes.old.page.seen) cpu.number ≡ Dead }
@@ -42,8 +33,8 @@ fn take_away<R: Wait>(rt: &R, tables: &Tables, passes: &mut ControlPasses, cpu: 
         (own passes.old.page.seen passes.old.page.number) }
     ensures page { (steps : List Step) × IsFold tables.now.pages.facts.layout false cpu steps
         × Made pages passes.new.page passes.old.page (steps ++ (SetO cpu ∷ [])) }
-    ensures event { MovesEvents tables.now.events.facts passes.new.event passes.old.event cpu }
-    ensures pcpu { MovesLocals tables.now.counters.facts passes.new.pcpu passes.old.pcpu cpu }
+    ensures event { FoldsDeadEvents tables.now.events.facts passes.new.event passes.old.event cpu }
+    ensures pcpu { FoldsDeadLocals tables.now.counters.facts passes.new.pcpu passes.old.pcpu cpu }
     ensures buried { IsBuried passes.new cpu }
     ensures carries { CarriesNothing tables.now.pages.facts.layout
         (own passes.new.page.seen passes.new.page.number) }
@@ -76,7 +67,7 @@ pub fn bury<R: Wait, N: Rule, P: Rule>(
 )
     requires header { IsHeader header.now }
     requires tables { AreTables header.now tables.now }
-    requires passes { AreOf tables.now (passes_of passes.old) }
+    requires passes { AreFrom tables.now (passes_of passes.old) }
     requires cpu { IsCpu tables.now.pages.facts.layout cpu.number }
     requires dead { cpu_at (state_after tables.now.pages.facts passes.old.page.seen) cpu.number ≡ Dead }
     requires nothing { CarriesNothing tables.now.pages.facts.layout
@@ -85,8 +76,8 @@ pub fn bury<R: Wait, N: Rule, P: Rule>(
         (state_after tables.now.pages.facts passes.old.page.seen) < most_sets }
     ensures page { (steps : List Step) × Buries tables.now.pages.facts (N.answers rules.now.normal) cpu
         passes.old.page.number passes.old.page.seen steps × Made pages passes.new.page passes.old.page steps }
-    ensures event { MovesEvents tables.now.events.facts passes.new.event passes.old.event cpu }
-    ensures pcpu { MovesLocals tables.now.counters.facts passes.new.pcpu passes.old.pcpu cpu }
+    ensures event { FoldsDeadEvents tables.now.events.facts passes.new.event passes.old.event cpu }
+    ensures pcpu { FoldsDeadLocals tables.now.counters.facts passes.new.pcpu passes.old.pcpu cpu }
     ensures buried { IsBuried passes.new cpu }
     ensures carries { CarriesNothing tables.now.pages.facts.layout
         (own passes.new.page.seen passes.new.page.number) }

@@ -2,7 +2,7 @@
 use Rattle.std.specs.Prelude.{ℕ, ◌==◌, ◌&&◌, nat_lt, nat_le, if◌then◌else◌}
 use Rattle.vms_base.specs.declared.kinds.ZoneName.{ZoneName}
 use Rattle.vms_base.specs.declared.kinds.ZoneSize.{ZoneSize}
-use Rattle.vms_base.specs.Places.{zone_index}
+use Rattle.vms_base.specs.Common.{zone_index}
 
 -- the pages of a zone of this node above one zone index and up to another, and 0 of every other zone
 abbrev pub counted : ℕ → ℕ → ℕ → ZoneName × ZoneSize → ℕ

@@ -5,8 +5,7 @@ use Rattle.std.proofs.lemmas.Bool.Decides.{nat_tests}
 use Rattle.std.proofs.lemmas.Option.{slice_get-get_or}
 use Rattle.vms_base.specs.declared.kinds.ZoneName.{ZoneName}
 use Rattle.vms_base.specs.declared.kinds.ZoneSize.{ZoneSize}
-use Rattle.vms_base.specs.Places.{Shape, zone_at, zone_index}
-use Rattle.vms_base.specs.Watermarks.{reserve_ratio, managed_between, reserve_of}
+use Rattle.vms_base.specs.Common.{Shape, zone_at, zone_index, reserve_ratio, managed_between, reserve_of}
 
 module _ (shape : Shape) (place : ℕ) (default : ZoneName) (within : place < length shape.zones) where
   abbrev found : ZoneName

@@ -1,3 +1,5 @@
 pub mod Sums
 pub mod Counted
 pub mod FoundZones
+pub mod AreaLists
+pub mod Common

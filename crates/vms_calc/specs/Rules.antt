@@ -3,19 +3,19 @@ use Rattle.std.specs.Prelude.{◌≡◌, ℕ, ◌≤◌}
 use Rattle.std.specs.Fn.{Shared}
 use denote.Ref.{Bor}
 use Rattle.vms_base.specs.declared.kinds.ZoneSize.{ZoneSize}
-use Rattle.vms_base.specs.Sizes.{IsValidSize}
-use Rattle.vms_base.specs.Thresholds.{GivesThresholds}
+use Rattle.vms_base.specs.Common.{IsValidSize, GivesThresholds}
 
 -- the predicates of closures that are called at a zone's size and a number of CPUs and answer a number
-abbrev pub Predicates : Type 0 → Type 1
-Predicates F = Shared F (Bor ZoneSize × (ℕ × Unit {0})) ℕ
+abbrev pub RulePredicates : Type 0 → Type 1
+RulePredicates F = Shared F (Bor ZoneSize × (ℕ × Unit {0})) ℕ
 
 -- a closure may be called at this size and number of CPUs
-pub record Accepts {F : Type 0} (g : Predicates F) (f : F) (size : ZoneSize) (online : ℕ) : Type 0 where
+pub record AcceptsSize {F : Type 0} (g : RulePredicates F) (f : F) (size : ZoneSize) (online : ℕ) : Type 0 where
   pub callable : (shown : Bor ZoneSize) → shown.now ≡ size → g.pre f (shown, (online, tt))
 
 -- a number is what a closure may answer at this size and number of CPUs
-pub record Answers {F : Type 0} (g : Predicates F) (f : F) (size : ZoneSize) (online threshold : ℕ) : Type 0 where
+pub record AnswersThreshold {F : Type 0} (g : RulePredicates F) (f : F) (size : ZoneSize)
+    (online threshold : ℕ) : Type 0 where
   pub shown : Bor ZoneSize
   pub shows : shown.now ≡ size
   pub answered : g.post f (shown, (online, tt)) threshold

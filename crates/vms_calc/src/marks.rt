@@ -1,6 +1,5 @@
 ghost use Rattle.std.specs.Prelude.{◌≡◌, ◌*◌, ◌+◌, ◌<◌, ◌≤◌, ◌^◌, max};
-ghost use Rattle.vms_base.specs.Marks.{Covers, linux_mark_of, cover_mark_of};
-ghost use Rattle.vms_base.specs.Sizes.{IsValidSize};
+ghost use Rattle.vms_base.specs.Common.{Covers, linux_mark_of, cover_mark_of, IsValidSize};
 
 use vms_base::ZoneSize;
 

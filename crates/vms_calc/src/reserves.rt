@@ -1,7 +1,6 @@
 ghost use Rattle.std.specs.Prelude.{◌≡◌, ◌<◌, ◌≤◌, ◌^◌, ◌==◌, ◌&&◌, nat_lt, nat_le, if◌then◌else◌, All, IfSome};
-ghost use Rattle.vms_base.specs.Places.{IsZone, zone_at, zone_index};
-ghost use Rattle.vms_base.specs.Sizes.{IsValidSize};
-ghost use Rattle.vms_base.specs.Watermarks.{reserve_of, reserve_ratio, managed_between};
+ghost use Rattle.vms_base.specs.Common.{IsZone, zone_at, zone_index, IsValidSize, reserve_of, reserve_ratio};
+ghost use Rattle.vms_base.specs.Common.{managed_between};
 
 use vms_base::{Header, Layout, PlaceId, ZoneKind, ZoneName, ZoneSize};
 

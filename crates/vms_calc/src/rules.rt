@@ -1,8 +1,7 @@
 ghost use Rattle.std.specs.Prelude.{◌≡◌, ℕ, ◌≤◌};
 ghost use Rattle.vms_base.specs.declared.kinds.ZoneSize.{ZoneSize};
-ghost use Rattle.vms_base.specs.Sizes.{IsValidSize};
-ghost use Rattle.vms_base.specs.Thresholds.{most_threshold, GivesThresholds};
-ghost use Rattle.vms_calc.specs.Rules.{Accepts, Answers, IsThresholdRule};
+ghost use Rattle.vms_base.specs.Common.{IsValidSize, most_threshold, GivesThresholds};
+ghost use Rattle.vms_calc.specs.Rules.{AcceptsSize, AnswersThreshold, IsThresholdRule};
 
 use std::marker::Model;
 use vms_base::ZoneSize;
@@ -21,9 +20,9 @@ pub trait Rule: Drop {
 }
 
 impl<F: Fn(&ZoneSize, u32) -> u32> Rule for F {
-    ghost accepts = { Accepts F.Fn };
+    ghost accepts = { AcceptsSize F.Fn };
 
-    ghost answers = { Answers F.Fn };
+    ghost answers = { AnswersThreshold F.Fn };
 
     #[inline]
     fn answer(&self, size: &ZoneSize, online: u32) -> u32 {

@@ -1,6 +1,6 @@
 ghost use Rattle.std.specs.Prelude.{◌≡◌, ◌*◌, ◌≤◌};
-ghost use Rattle.vms_base.specs.Sizes.{IsValidSize, gap_of};
-ghost use Rattle.vms_base.specs.Thresholds.{most_threshold, normal_threshold_of, pressure_threshold_of};
+ghost use Rattle.vms_base.specs.Common.{IsValidSize, gap_of, most_threshold, normal_threshold_of};
+ghost use Rattle.vms_base.specs.Common.{pressure_threshold_of};
 
 use vms_base::{ZoneSize, fls};
 

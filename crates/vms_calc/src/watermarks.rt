@@ -1,6 +1,5 @@
 ghost use Rattle.std.specs.Prelude.{◌≡◌, ◌*◌, ◌/◌, ◌<◌, ◌≤◌, ◌^◌};
-ghost use Rattle.vms_base.specs.Sizes.{IsValidSize};
-ghost use Rattle.vms_base.specs.Watermarks.{zone_marks_of};
+ghost use Rattle.vms_base.specs.Common.{IsValidSize, zone_marks_of};
 
 use vms_base::ZoneSize;
 

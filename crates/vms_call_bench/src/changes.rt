@@ -1,7 +1,7 @@
 ghost use Rattle.std.specs.Prelude.{All, IfOk};
-ghost use Rattle.vms_base.specs.Places.{IsCounter};
-ghost use Rattle.vms_bench_base.specs.ReadyPasses.{IsReady};
-ghost use Rattle.vms_seats.specs.Passes.{IsOf};
+ghost use Rattle.vms_calls.specs.Common.{IsCounter};
+ghost use Rattle.vms_bench_base.specs.Common.{IsReady};
+ghost use Rattle.vms_seats.specs.Common.{IsFrom};
 
 use crate::requests::Change;
 use anyhow::{Result, bail};
@@ -48,7 +48,8 @@ fn change_each<R: Threads + Sync>(
 ) -> Result<Vec<Result<CpuPass, Overflow>>, AllocError>
     requires counter { IsCounter table.now.facts.layout counter.number }
     requires passes { All (IsReady table.now) passes.items }
-    ensures { IfOk result (λ changed. All (λ r. IfOk r (λ p. IsOf p.pass table.now)) changed.items) }
+    ensures { IfOk result
+        (λ changed. All (λ r. IfOk r (λ p. IsFrom p.pass table.now)) changed.items) }
 {
     thread::map_vec(
         rt,
@@ -67,7 +68,7 @@ fn change_often(
 ) -> Result<CpuPass, Overflow>
     requires counter { IsCounter table.now.facts.layout counter.number }
     requires ready { IsReady table.now pass }
-    ensures { IfOk result (λ p. IsOf p.pass table.now) }
+    ensures { IfOk result (λ p. IsFrom p.pass table.now) }
 {
     match change {
         Change::Add => add_often(table, pass, counter, calls),
@@ -84,7 +85,7 @@ fn add_often(
 ) -> Result<CpuPass, Overflow>
     requires counter { IsCounter table.now.facts.layout counter.number }
     requires ready { IsReady table.now pass }
-    ensures { IfOk result (λ p. IsOf p.pass table.now) }
+    ensures { IfOk result (λ p. IsFrom p.pass table.now) }
 {
     for _ in 0..calls {
         add(table, &mut pass, counter, DELTA, Mode::Mod)?;
@@ -101,7 +102,7 @@ fn fold_often(
 ) -> Result<CpuPass, Overflow>
     requires counter { IsCounter table.now.facts.layout counter.number }
     requires ready { IsReady table.now pass }
-    ensures { IfOk result (λ p. IsOf p.pass table.now) }
+    ensures { IfOk result (λ p. IsFrom p.pass table.now) }
 {
     let cpu = pass.cpu();
     for _ in 0..calls {

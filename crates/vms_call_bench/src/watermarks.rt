@@ -1,7 +1,6 @@
 ghost use Rattle.std.specs.Prelude.{All};
-ghost use Rattle.vms_base.specs.Places.{IsZone};
-ghost use Rattle.vms_bench_base.specs.ReadyPasses.{IsReady};
-ghost use Rattle.vms_bench_base.specs.Starts.{IsHeaderOf};
+ghost use Rattle.vms_calls.specs.Common.{IsZone};
+ghost use Rattle.vms_bench_base.specs.Common.{IsReady, IsHeaderOf};
 
 use anyhow::{Result, bail};
 use std::alloc::{AllocError, Global};

@@ -1,24 +1,15 @@
 -- For other crates too: what a pass is after its calls, and that it carries nothing.
 use Rattle.std.proofs.Common.{◌≡◌, ℕ, List, [], ◌∷◌, Option, refl, sym, ◌∙◌, ap, subst, arith}
 use Rattle.std.proofs.lemmas.Int.{ints}
-use Rattle.vms_base.specs.declared.ids.CpuId.{CpuId}
-use Rattle.vms_base.specs.declared.ids.PlaceId.{PlaceId}
-use Rattle.vms_base.specs.Places.{Shape}
-use Rattle.vms_history.specs.Events.{own}
-use Rattle.vms_core.specs.declared.steps.Facts.{Facts}
-use Rattle.vms_core.specs.declared.steps.Step.{Step}
-use Rattle.vms_core.specs.declared.steps.Step.TheVariants.{Split, LoadT}
-use Rattle.vms_core.specs.Own.{CarriesNothing}
-use Rattle.vms_core.specs.Pages.{pages, History}
-use Rattle.vms_seats.specs.MainSteps.{HasBegun}
-use Rattle.vms_seats.specs.Passes.{Pass, Shared, IsOf}
-use Rattle.vms_seats.specs.Steps.{Made, MadeOne}
-use Rattle.vms_words.specs.Told.{begins_it}
-use Rattle.vms_trial_passes.proofs.TwoPasses.{is_of-begun}
-use Rattle.vms_call_trials.specs.Ready.{HaveBegun, IsIdle}
+use Rattle.vms_calls.specs.Common.{CpuId, PlaceId, Shape, own, Facts, Step, Split, LoadT, CarriesNothing, pages}
+use Rattle.vms_calls.specs.Common.{History}
+use Rattle.vms_seats.specs.Common.{HasBegun, Pass, Shared, IsFrom, Made, MadeOne}
+use Rattle.vms_words.specs.Common.{begins_it}
+use Rattle.vms_seats.proofs.Common.{is_of-begun}
+use Rattle.vms_call_trials.specs.Common.{HaveBegun, IsIdle}
 
 pub is_of-made : (table : Shared Facts) (new old : Pass Facts Step) (steps : List Step) → Made pages new old steps
-    → IsOf old table → IsOf new table
+    → IsFrom old table → IsFrom new table
 is_of-made table new old steps made of = record { table = made.table ∙ of.table; facts = made.facts ∙ of.facts }
 
 pub idle-made : (table : Shared Facts) (new old : Pass Facts Step) (steps : List Step) → Made pages new old steps
@@ -31,7 +22,7 @@ none-carried shape = record { counters = λ k. refl; items = λ i. refl }
 
 -- a pass that has begun carries nothing
 pub idle-begun : (table : Shared Facts) (new old pass : Pass Facts Step) (who : Option CpuId)
-    → HasBegun pages Split new old pass who → IsOf old table → IsIdle table pass
+    → HasBegun pages Split new old pass who → IsFrom old table → IsIdle table pass
 idle-begun table new old pass who begun of = record {
   of = is_of-begun pages Split begins_it table new old pass who begun of;
   carries = subst (CarriesNothing table.facts.layout) (sym begun.no_steps) (none-carried table.facts.layout);

@@ -1,2 +1,3 @@
 pub mod Volumes
 pub mod IdlePasses
+pub mod Common

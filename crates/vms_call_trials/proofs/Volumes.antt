@@ -3,12 +3,8 @@ use Rattle.std.proofs.Common.{◌≡◌, ℕ, ◌<◌, ◌≤◌, List, [], ◌�
 use Rattle.std.proofs.Common.{arith, ⊎_elim}
 use Rattle.std.proofs.lemmas.Bool.{cases_lt}
 use Rattle.std.proofs.lemmas.List.{get_or_past, get_or-replicate, length-replicate}
-use Rattle.vms_base.specs.declared.ids.CpuId.{CpuId}
-use Rattle.vms_base.specs.Places.{Shape, counter_count}
-use Rattle.vms_core.specs.declared.steps.Step.TheVariants.{Split}
-use Rattle.vms_core.specs.Pages.{History}
-use Rattle.vms_core.specs.Totals.{spent}
-use Rattle.vms_words.specs.PagePasses.{HoldsSpending}
+use Rattle.vms_calls.specs.Common.{CpuId, Shape, counter_count, Split, History, spent}
+use Rattle.vms_words.specs.Common.{HoldsSpending}
 
 -- each entry of a list of copies is the copy, and past its end too where that is the default
 get_or-copies : {X : Type 0} (n i : ℕ) (x : X) → get_or (replicate n x) i x ≡ x

@@ -1,15 +1,7 @@
 -- What lets passes work on a table of page counters between two calls.
 use Rattle.std.specs.Prelude.{◌≡◌, ℕ, [], ◌∷◌, Some, None}
-use Rattle.vms_base.specs.Cpus.{MayOwnCpu}
-use Rattle.vms_base.specs.declared.headers.Header.{Header}
-use Rattle.vms_base.specs.Headers.{IsHeader}
-use Rattle.vms_core.specs.declared.steps.Facts.{Facts}
-use Rattle.vms_core.specs.declared.steps.Step.{Step}
-use Rattle.vms_core.specs.declared.steps.Step.TheVariants.{Split}
-use Rattle.vms_core.specs.Own.{CarriesNothing}
-use Rattle.vms_core.specs.Pages.{History}
-use Rattle.vms_history.specs.Events.{own}
-use Rattle.vms_seats.specs.Passes.{Pass, Shared, IsOf}
+use Rattle.vms_calls.specs.Common.{MayOwnCpu, Header, IsHeader, Facts, Step, Split, CarriesNothing, History, own}
+use Rattle.vms_seats.specs.Common.{Pass, Shared, IsFrom}
 
 -- a pass may own CPU c
 abbrev pub MayOwn : Shared Facts → ℕ → Type 0
@@ -17,7 +9,7 @@ MayOwn table c = MayOwnCpu table.facts.layout table.facts.base.cpu (Some (record
 
 -- a pass of this table that carries nothing
 pub record IsIdle (table : Shared Facts) (pass : Pass Facts Step) : Type 0 where
-  pub of : IsOf pass table
+  pub of : IsFrom pass table
   pub carries : CarriesNothing table.facts.layout (own pass.seen pass.number)
 
 -- two passes that own a CPU, and the control pass
@@ -30,7 +22,7 @@ pub record AreIdle (table : Shared Facts) (first second control : Pass Facts Ste
 pub record AreReady (table : Shared Facts) (first second control : Pass Facts Step) : Type 0 where
   pub first_idle : IsIdle table first
   pub second_idle : IsIdle table second
-  pub control_of : IsOf control table
+  pub control_of : IsFrom control table
 
 -- the table is one of this header
 pub record IsHeaderOf (header : Header) (table : Shared Facts) : Type 0 where

@@ -1,5 +1,5 @@
 use vms_base::{CounterId, CpuId, CpuState, GroupId, ItemId, PlaceId, WaterMark};
-use vms_look::Verdict;
+use vms_calls::Verdict;
 
 /// A call of a pass that owns a CPU.
 #[derive(Clone, Copy, Debug)]

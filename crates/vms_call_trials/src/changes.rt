@@ -1,6 +1,6 @@
-ghost use Rattle.vms_base.specs.Places.{IsCounter, IsCpu, IsPlace};
+ghost use Rattle.vms_calls.specs.Common.{IsCounter, IsCpu, IsPlace};
 ghost use Rattle.vms_call_trials.specs.Ready.{IsIdle};
-ghost use Rattle.vms_seats.specs.MainSteps.{SeesMore};
+ghost use Rattle.vms_seats.specs.Common.{SeesMore};
 
 use crate::calls::{Answer, Work};
 use crate::numbers::{known_counter, known_cpu, known_place};

@@ -1,5 +1,5 @@
 ghost use Rattle.vms_call_trials.specs.Ready.{IsHeaderOf};
-ghost use Rattle.vms_seats.specs.Passes.{IsOf};
+ghost use Rattle.vms_seats.specs.Common.{IsFrom};
 
 use crate::calls::{Answer, Look};
 use crate::numbers::{known_counter, known_cpu, known_group, known_index, known_item, known_zone};
@@ -15,9 +15,9 @@ pub(crate) fn look(
     header: &Header,
     look: Look,
 ) -> Result<Answer, Fail>
-    requires table { IsOf pass.old table.now }
+    requires table { IsFrom pass.old table.now }
     requires header { IsHeaderOf header.now table.now }
-    ensures { IsOf pass.new table.now }
+    ensures { IsFrom pass.new table.now }
 {
     match look {
         Look::Value(counter) => value(table, pass, counter),
@@ -33,16 +33,16 @@ pub(crate) fn look(
 }
 
 fn value(table: &PageTable, pass: &mut ControlPass, counter: CounterId) -> Result<Answer, Fail>
-    requires { IsOf pass.old table.now }
-    ensures { IsOf pass.new table.now }
+    requires { IsFrom pass.old table.now }
+    ensures { IsFrom pass.new table.now }
 {
     let counter = known_counter(table.layout(), counter)?;
     Ok(Answer::Pages(place_value(table, pass, counter)))
 }
 
 fn value_of_item(table: &PageTable, pass: &mut ControlPass, item: ItemId) -> Result<Answer, Fail>
-    requires { IsOf pass.old table.now }
-    ensures { IsOf pass.new table.now }
+    requires { IsFrom pass.old table.now }
+    ensures { IsFrom pass.new table.now }
 {
     let item = known_item(table.layout(), item)?;
     Ok(Answer::Pages(system_value(table, pass, item)))
@@ -53,24 +53,24 @@ fn snapshot_of(
     pass: &mut ControlPass,
     counter: CounterId,
 ) -> Result<Answer, Fail>
-    requires { IsOf pass.old table.now }
-    ensures { IsOf pass.new table.now }
+    requires { IsFrom pass.old table.now }
+    ensures { IsFrom pass.new table.now }
 {
     let counter = known_counter(table.layout(), counter)?;
     Ok(Answer::Pages(snapshot(table, pass, counter)))
 }
 
 fn global(table: &PageTable, pass: &mut ControlPass, counter: CounterId) -> Result<Answer, Fail>
-    requires { IsOf pass.old table.now }
-    ensures { IsOf pass.new table.now }
+    requires { IsFrom pass.old table.now }
+    ensures { IsFrom pass.new table.now }
 {
     let counter = known_counter(table.layout(), counter)?;
     Ok(Answer::Number(table.load_place(pass, counter)))
 }
 
 fn system(table: &PageTable, pass: &mut ControlPass, item: ItemId) -> Result<Answer, Fail>
-    requires { IsOf pass.old table.now }
-    ensures { IsOf pass.new table.now }
+    requires { IsFrom pass.old table.now }
+    ensures { IsFrom pass.new table.now }
 {
     let item = known_item(table.layout(), item)?;
     Ok(Answer::Number(table.load_system(pass, item)))
@@ -82,8 +82,8 @@ fn diffs(
     cpu: CpuId,
     group: GroupId,
 ) -> Result<Answer, Fail>
-    requires { IsOf pass.old table.now }
-    ensures { IsOf pass.new table.now }
+    requires { IsFrom pass.old table.now }
+    ensures { IsFrom pass.new table.now }
 {
     let cpu = known_cpu(table.layout(), cpu)?;
     let group = known_group(table.layout(), group)?;
@@ -101,16 +101,16 @@ fn diffs(
 }
 
 fn mark(table: &PageTable, pass: &mut ControlPass, zone: PlaceId) -> Result<Answer, Fail>
-    requires { IsOf pass.old table.now }
-    ensures { IsOf pass.new table.now }
+    requires { IsFrom pass.old table.now }
+    ensures { IsFrom pass.new table.now }
 {
     let zone = known_zone(table.layout(), zone)?;
     Ok(Answer::Mark(table.load_mark(pass, zone).mark))
 }
 
 fn state(table: &PageTable, pass: &mut ControlPass, cpu: CpuId) -> Result<Answer, Fail>
-    requires { IsOf pass.old table.now }
-    ensures { IsOf pass.new table.now }
+    requires { IsFrom pass.old table.now }
+    ensures { IsFrom pass.new table.now }
 {
     let cpu = known_cpu(table.layout(), cpu)?;
     Ok(Answer::State(table.load_state(pass, cpu)))
@@ -124,9 +124,9 @@ fn watermark(
     mark: WaterMark,
     most: u32,
 ) -> Result<Answer, Fail>
-    requires table { IsOf pass.old table.now }
+    requires table { IsFrom pass.old table.now }
     requires header { IsHeaderOf header.now table.now }
-    ensures { IsOf pass.new table.now }
+    ensures { IsFrom pass.new table.now }
 {
     let zone = known_zone(table.layout(), zone)?;
     let most = known_index(most)?;

@@ -1,5 +1,5 @@
 ghost use Rattle.std.specs.Prelude.{◌≤◌, IfOk};
-ghost use Rattle.vms_base.specs.Places.{IsCounter, IsCpu, IsGroup, IsItem, IsNode, IsPlace, IsZone};
+ghost use Rattle.vms_calls.specs.Common.{IsCounter, IsCpu, IsGroup, IsItem, IsNode, IsPlace, IsZone};
 
 use std::test::Fail;
 use vms_base::{CounterId, CpuId, GroupId, ItemId, Layout, PlaceId};

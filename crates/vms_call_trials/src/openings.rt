@@ -1,8 +1,7 @@
 ghost use Rattle.std.specs.Prelude.{◌≡◌, [], IfOk};
-ghost use Rattle.vms_base.specs.Headers.{IsHeader};
+ghost use Rattle.vms_calls.specs.Common.{IsHeader, HasShape};
 ghost use Rattle.vms_call_trials.specs.Ready.{IsHeaderOf, MayOwn};
-ghost use Rattle.vms_core.specs.Cells.{HasShape};
-ghost use Rattle.vms_seats.specs.Passes.{IsOf};
+ghost use Rattle.vms_seats.specs.Common.{IsFrom};
 
 use crate::passes::{CPU_0, CPU_1};
 use std::alloc::Global;
@@ -83,7 +82,7 @@ pub(crate) fn opened(alloc: Global, header: &Header, base: State) -> Result<Open
     requires { IsHeader header.now }
     ensures header { IfOk result (λ made. IsHeaderOf header.now made.table) }
     ensures shaped { IfOk result (λ made. HasShape made.table.facts.layout made.base) }
-    ensures main { IfOk result (λ made. IsOf made.main made.table × (made.main.seen ≡ [])) }
+    ensures main { IfOk result (λ made. IsFrom made.main made.table × (made.main.seen ≡ [])) }
     ensures owns { IfOk result (λ made. MayOwn made.table 0 × MayOwn made.table 1) }
 {
     let facts = Facts {

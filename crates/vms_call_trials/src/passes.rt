@@ -1,7 +1,7 @@
 ghost use Rattle.std.specs.Prelude.{◌≡◌, [], IfOk};
 ghost use Rattle.vms_call_trials.specs.Ready.{AreIdle, AreReady, HaveBegun, MayOwn};
-ghost use Rattle.vms_core.specs.Cells.{HasShape};
-ghost use Rattle.vms_seats.specs.Passes.{IsOf};
+ghost use Rattle.vms_calls.specs.Common.{HasShape};
+ghost use Rattle.vms_seats.specs.Common.{IsFrom};
 
 use std::alloc::Global;
 use vms_base::{CpuId, Memory, Row};
@@ -24,10 +24,10 @@ pub(crate) struct Passes {
 
 /// The passes of a table that was made just now.
 pub(crate) fn begun(alloc: Global, table: &PageTable, main: &mut MainPass) -> Result<Passes, Memory>
-    requires table { IsOf main.old table.now }
+    requires table { IsFrom main.old table.now }
     requires begins { main.old.seen ≡ [] }
     requires owns { MayOwn table.now 0 × MayOwn table.now 1 }
-    ensures main { IsOf main.new table.now }
+    ensures main { IsFrom main.new table.now }
     ensures idle { IfOk result (λ passes. AreIdle table.now passes.first.pass passes.second.pass passes.control) }
     ensures ready { IfOk result (λ passes. AreReady table.now passes.first.pass passes.second.pass passes.control) }
     ensures begun { IfOk result (λ passes.
@@ -48,7 +48,7 @@ pub(crate) fn begun(alloc: Global, table: &PageTable, main: &mut MainPass) -> Re
 
 /// Ends the passes, and closes the table.
 pub(crate) fn close(table: PageTable, mut main: MainPass, passes: Passes, into: &mut State)
-    requires main { IsOf main table }
+    requires main { IsFrom main table }
     requires passes { AreIdle table passes.first.pass passes.second.pass passes.control }
     requires begun { HaveBegun main.seen passes.first.pass.number passes.second.pass.number passes.control.number }
     requires shaped { HasShape table.facts.layout into.old }

@@ -1,5 +1,4 @@
-ghost use Rattle.vms_base.specs.Headers.{IsHeader};
-ghost use Rattle.vms_calc.specs.Rules.{IsThresholdRule};
+ghost use Rattle.vms_calls.specs.Common.{IsHeader, IsThresholdRule};
 ghost use Rattle.vms_call_trials.specs.Ready.{AreReady, IsHeaderOf};
 
 use crate::calls::{Answer, Call};

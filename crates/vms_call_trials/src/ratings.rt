@@ -1,7 +1,6 @@
-ghost use Rattle.vms_base.specs.Places.{IsNode};
+ghost use Rattle.vms_calls.specs.Common.{IsNode};
 ghost use Rattle.vms_call_trials.specs.Ready.{IsHeaderOf, IsIdle};
-ghost use Rattle.vms_seats.specs.MainSteps.{SeesMore};
-ghost use Rattle.vms_seats.specs.Passes.{IsOf};
+ghost use Rattle.vms_seats.specs.Common.{SeesMore, IsFrom};
 
 use crate::calls::{Answer, Rate};
 use crate::numbers::first_node;
@@ -65,9 +64,9 @@ pub(crate) fn rate<N: Rule, P: Rule>(
     rules: &Rules<N, P>,
     rate: Rate,
 ) -> Result<Answer, Fail>
-    requires table { IsOf pass.old table.now }
+    requires table { IsFrom pass.old table.now }
     requires header { IsHeaderOf header.now table.now }
-    ensures { IsOf pass.new table.now }
+    ensures { IsFrom pass.new table.now }
 {
     if table.most_sets(pass) >= MOST_SETS {
         return Err(Fail::new("thresholds were set too often in this phase"));

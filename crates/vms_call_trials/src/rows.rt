@@ -5,7 +5,7 @@ use crate::plays::{Played, differs, differs_at_most};
 use Call::{Control, First, Second};
 use std::test::Fail;
 use vms_base::{CounterId, GroupId, ItemId, PlaceId, WaterMark};
-use vms_look::Verdict;
+use vms_calls::Verdict;
 
 /// Two CPUs and a zone of 1 GiB, whose `min` and `low` are 25 pages apart.
 pub(crate) const TWO_CPUS: &str = "vmtrace 1\ncpus 2\nzone 0 Normal 262144 100 125 150\ngo\n";

@@ -1,27 +1,18 @@
 -- What a pass made while others acted agrees with the same steps in a row: in what it may go by, the two histories are
 -- the same.
-use Rattle.std.proofs.Common.{◌≡◌, ◌≢◌, ℕ, ◌+◌, ◌≤◌, true, List, [], ◌∷◌, ◌++◌}
-use Rattle.std.proofs.Common.{Some, None, refl, sym, ap, ◌∙◌, subst, arith, append_assoc}
+use Rattle.std.proofs.Common.{◌≡◌, ◌≢◌, ℕ, ◌+◌, ◌≤◌, true, List, [], ◌∷◌, ◌++◌, Some, None, refl, sym, ap, ◌∙◌, subst}
+use Rattle.std.proofs.Common.{arith, append_assoc}
 use Rattle.std.proofs.lemmas.List.{append-nil}
-use Rattle.vms_base.specs.declared.ids.CpuId.{CpuId}
+use Rattle.vms_history.specs.Common.{CpuId, own, after, owner, owner_in, lives_in, begun_in}
 use Rattle.vms_history.specs.declared.events.Event.{Event}
-use Rattle.vms_history.specs.Events.{own, after}
-use Rattle.vms_history.specs.Passes.{owner, owner_in, lives_in, begun_in}
-use Rattle.vms_history.proofs.Own.{own-mine, own-others, after-steps}
-use Rattle.vms_history.proofs.OwnAt.{last_in_row}
-use Rattle.vms_history.proofs.PassLaws.{live_is_given, lives_in-before, begun_in-append}
-use Rattle.vms_history.proofs.Prefixes.{prefix_is_legal}
+use Rattle.vms_history.proofs.Common.{own-mine, own-others, after-steps, last_in_row, live_is_given, lives_in-before}
+use Rattle.vms_history.proofs.Common.{begun_in-append, prefix_is_legal}
 use Rattle.vms_core.specs.declared.steps.Facts.{Facts}
 use Rattle.vms_core.specs.declared.steps.Step.{Step}
-use Rattle.vms_core.specs.Cells.{mark_at}
-use Rattle.vms_core.specs.Knowledge.{GoesOnWithout}
-use Rattle.vms_calls.specs.MayMake.{HasMade}
-use Rattle.vms_core.specs.Pages.{pages, History, IsLegal, state_after}
-use Rattle.vms_core.specs.Steps.{role}
-use Rattle.vms_core.specs.Totals.{spent, spent_by}
+use Rattle.vms_core.specs.Common.{mark_at, GoesOnWithout, pages, History, IsLegal, state_after, role, spent, spent_by}
+use Rattle.vms_calls.specs.Common.{HasMade}
 use Rattle.vms_calls.proofs.RatingCovers.{SamePeaks, SamePeaks-next}
-use Rattle.vms_core.proofs.Settings.{mark_after, mark_at-newest}
-use Rattle.vms_core.proofs.KnowledgeKept.{owner_in-goes_on, OwnerKnows-holds, control-knows_later}
+use Rattle.vms_core.proofs.Common.{mark_after, mark_at-newest, owner_in-goes_on, OwnerKnows-holds, control-knows_later}
 
 -- what holds of no steps, and of one step more, holds of all
 pub by_last : (P : List Step → Type 0) → P [] → ((ks : List Step) (k : Step) → P ks → P (ks ++ (k ∷ [])))

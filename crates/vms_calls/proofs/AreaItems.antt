@@ -8,13 +8,9 @@ use Rattle.std.proofs.lemmas.List.{length-map}
 use Rattle.std.proofs.lemmas.List.Elements.{All-append, All-nil, All-cons, All-weaker, filter_passes}
 use Rattle.std.proofs.lemmas.List.Kept.{AllPairs-cons, AllPairs-filter}
 use Rattle.std.proofs.lemmas.List.Quantifiers.{position-Some}
-use Rattle.vms_base.specs.declared.headers.Header.{Header}
-use Rattle.vms_base.specs.declared.headers.ItemDecl.{ItemDecl}
-use Rattle.vms_base.specs.Areas.{Area, area_at, area_names, areas_named, areas_of, areas_from}
-use Rattle.vms_base.specs.Headers.{IsHeader}
-use Rattle.vms_base.specs.Names.{zone_items}
-use Rattle.vms_base.specs.Places.{Shape}
-use Rattle.vms_calls.specs.TurnLaws.{AreasAscend}
+use Rattle.vms_history.specs.Common.{Header, ItemDecl, Area, area_at, area_names, areas_named, areas_of, areas_from}
+use Rattle.vms_history.specs.Common.{IsHeader, zone_items, Shape}
+use Rattle.vms_calls.specs.Common.{AreasAscend}
 
 -- the areas are zone items of the layout
 abbrev pub AreItems : Shape → List Area → Type 0

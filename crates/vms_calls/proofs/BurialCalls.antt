@@ -1,13 +1,11 @@
 -- The control pass may make the steps of a burial.
 use Rattle.std.proofs.Common.{ℕ, sym, ◌∙◌}
-use Rattle.vms_base.specs.declared.kinds.ZoneSize.{ZoneSize}
-use Rattle.vms_base.specs.Thresholds.{GivesThresholds}
-use Rattle.vms_calls.specs.MayCall.{MakesBurial}
-use Rattle.vms_calls.specs.Ratings.{Buries}
+use Rattle.vms_history.specs.Common.{ZoneSize, GivesThresholds}
+use Rattle.vms_calls.specs.Common.{MakesBurial, Buries}
 use Rattle.vms_calls.proofs.MayBegin.{call-begins}
 use Rattle.vms_calls.proofs.BurialRuns.{burial-runs}
 use Rattle.vms_calls.proofs.ControlCalls.{base, valid_sizes, control-may}
-use Rattle.vms_core.proofs.Settings.{cpu_at-state_after}
+use Rattle.vms_core.proofs.Common.{cpu_at-state_after}
 
 pub burial-may : (normal : ZoneSize → ℕ → ℕ → Type 0) → GivesThresholds normal → MakesBurial normal
 burial-may normal normals facts h p c controls c_in dead nothing =

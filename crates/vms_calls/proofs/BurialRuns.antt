@@ -1,35 +1,24 @@
 -- The steps of a burial meet their conditions in a row.
-use Rattle.std.proofs.Common.{◌≡◌, ℕ, suc, ◌+◌, ◌<◌, ◌≤◌, ◌⊎◌, ⊎_elim, zero, false, ℤ, pos, negsuc}
-use Rattle.std.proofs.Common.{true≢false, List, [], ◌∷◌, ◌++◌, length, None, refl, sym, ap, ◌∙◌, subst, arith}
+use Rattle.std.proofs.Common.{◌≡◌, ℕ, suc, ◌+◌, ◌<◌, ◌≤◌, ◌⊎◌, ⊎_elim, zero, false, ℤ, pos, negsuc, true≢false, List}
+use Rattle.std.proofs.Common.{[], ◌∷◌, ◌++◌, length, None, refl, sym, ap, ◌∙◌, subst, arith}
 use Rattle.std.specs.Prelude.{All}
 use Rattle.std.proofs.lemmas.Bool.{cases_lt}
-use Rattle.vms_base.specs.declared.groups.Diffs.{Diffs}
-use Rattle.vms_base.specs.declared.ids.CpuId.{CpuId}
-use Rattle.vms_base.specs.declared.kinds.CpuState.TheVariants.{Dead}
-use Rattle.vms_base.specs.declared.kinds.ZoneSize.{ZoneSize}
-use Rattle.vms_base.specs.Places.{IsLayout, IsCpu, IsZone, IsGroup, place_count, item_count, counter_at, group_of}
-use Rattle.vms_base.specs.Sizes.{IsValidSize, size_at}
-use Rattle.vms_history.specs.Events.{own, after}
-use Rattle.vms_history.proofs.Own.{own-after, after-steps}
+use Rattle.vms_history.specs.Common.{Diffs, CpuId, Dead, ZoneSize, IsLayout, IsCpu, IsZone, IsGroup, place_count}
+use Rattle.vms_history.specs.Common.{item_count, counter_at, group_of, IsValidSize, size_at, own, after}
+use Rattle.vms_history.specs.Common.{GivesThresholds}
+use Rattle.vms_history.proofs.Common.{own-after, after-steps}
 use Rattle.vms_core.specs.declared.steps.Facts.{Facts}
 use Rattle.vms_core.specs.declared.steps.Step.{Step}
 use Rattle.vms_core.specs.declared.steps.Step.TheVariants.{SetO}
-use Rattle.vms_calls.specs.Ratings.{Buries, Refreshes}
-use Rattle.vms_calls.specs.Folds.{FoundPlace, HasGroups, IsFold, place_steps, system_steps}
-use Rattle.vms_calls.specs.Folds.{to_system, group_steps, lists_of, taken_of_item, acknowledges}
-use Rattle.vms_core.specs.Knowledge.{HasTakenAll}
-use Rattle.vms_calls.specs.Lists.{in_turn}
-use Rattle.vms_base.specs.Thresholds.{GivesThresholds}
-use Rattle.vms_core.specs.Own.{CarriesNothing, moved}
-use Rattle.vms_core.specs.Pages.{History}
-use Rattle.vms_core.specs.Peaks.{cpu_in}
-use Rattle.vms_core.specs.Taken.{has_taken}
+use Rattle.vms_calls.specs.Common.{Buries, Refreshes, FoundPlace, HasGroups, IsFold, place_steps, system_steps}
+use Rattle.vms_calls.specs.Common.{to_system, group_steps, lists_of, taken_of_item, acknowledges, in_turn}
+use Rattle.vms_core.specs.Common.{HasTakenAll, CarriesNothing, moved, History, cpu_in, has_taken}
 use Rattle.vms_calls.proofs.Agreement.{event}
 use Rattle.vms_calls.proofs.FoldRuns.{fold-runs}
 use Rattle.vms_calls.proofs.FoldSums.{group-moved, next_group}
 use Rattle.vms_calls.proofs.StepRuns.{Runs, runs-append}
-use Rattle.vms_calls.proofs.TakenSteps.{OnlyMoves, HasTake, only-append, only-groups, has-group}
-use Rattle.vms_calls.proofs.TakenSteps.{has-left, has-right, has_taken-made, cpus-kept}
+use Rattle.vms_calls.proofs.TakenSteps.{OnlyMoves, HasTake, only-append, only-groups, has-group, has-left, has-right}
+use Rattle.vms_calls.proofs.TakenSteps.{has_taken-made, cpus-kept}
 use Rattle.vms_calls.proofs.VisitRuns.{refresh-runs}
 
 only-systems : (facts : Facts) (ws : List Diffs) (i n : ℕ) → OnlyMoves (system_steps facts.layout ws i n)

@@ -1,45 +1,27 @@
 -- For other crates too: what holds of each kind of step that a call makes holds of all its steps.
-use Rattle.std.proofs.Common.{ℕ, suc, zero, Bool, true, false, nat_eq, ℤ, pos, negsuc}
-use Rattle.std.proofs.Common.{◌+◌, if◌then◌else◌, List, [], ◌∷◌, ◌++◌, length, Option, sym, subst}
-use Rattle.vms_base.specs.declared.groups.Diffs.{Diffs}
-use Rattle.vms_base.specs.declared.headers.Header.{Header}
-use Rattle.vms_base.specs.declared.ids.CounterId.{CounterId}
-use Rattle.vms_base.specs.declared.ids.CpuId.{CpuId}
-use Rattle.vms_base.specs.declared.ids.GroupId.{GroupId}
-use Rattle.vms_base.specs.declared.ids.ItemId.{ItemId}
-use Rattle.vms_base.specs.declared.ids.PlaceId.{PlaceId}
-use Rattle.vms_base.specs.declared.kinds.CpuState.{CpuState}
-use Rattle.vms_base.specs.declared.kinds.WaterMark.{WaterMark}
-use Rattle.vms_base.specs.declared.kinds.WaterMark.TheVariants.{High}
-use Rattle.vms_base.specs.declared.kinds.ZoneSize.{ZoneSize}
-use Rattle.vms_base.specs.Areas.{Area, areas_of, areas_from}
-use Rattle.vms_base.specs.Cpus.{online_from}
-use Rattle.vms_base.specs.Places.{Shape, item_count, counter_at, group_of, first_of}
-use Rattle.vms_base.specs.Watermarks.{limit_of}
-use Rattle.vms_history.specs.Events.{after}
+use Rattle.std.proofs.Common.{ℕ, suc, zero, Bool, true, false, nat_eq, ℤ, pos, negsuc, ◌+◌, if◌then◌else◌, List, []}
+use Rattle.std.proofs.Common.{◌∷◌, ◌++◌, length, Option, sym, subst}
+use Rattle.vms_history.specs.Common.{Diffs, Header, CounterId, CpuId, GroupId, ItemId, PlaceId, CpuState, WaterMark}
+use Rattle.vms_history.specs.Common.{High, ZoneSize, Area, areas_of, areas_from, online_from, Shape, item_count}
+use Rattle.vms_history.specs.Common.{counter_at, group_of, first_of_group, limit_of, after}
 use Rattle.vms_core.specs.declared.states.State.{State}
 use Rattle.vms_core.specs.declared.steps.Facts.{Facts}
 use Rattle.vms_core.specs.declared.steps.Step.{Step}
-use Rattle.vms_core.specs.declared.steps.Step.TheVariants.{LoadT, LoadD, AddG, AddS, Take, LoadG, LoadS}
-use Rattle.vms_core.specs.declared.steps.Step.TheVariants.{LoadM, LoadO, SetT, SetM, SetA, LoadA}
-use Rattle.vms_core.specs.Pages.{History}
-use Rattle.vms_calls.specs.Folds.{FoundPlace, IsFold, to_place, to_system, group_steps}
-use Rattle.vms_calls.specs.Folds.{place_steps, system_steps, acknowledges, lists_of, taken_of_item}
-use Rattle.vms_calls.specs.HeaderFacts.{facts_of}
-use Rattle.vms_calls.specs.Lists.{in_turn}
-use Rattle.vms_calls.specs.Looks.{Look, Verdict, Frees, IsSnapshot}
-use Rattle.vms_calls.specs.Looks.{IsWatermarkTest, look_steps, is_doubtful, free_pages}
-use Rattle.vms_calls.specs.Looks.Look.{online, other}
-use Rattle.vms_calls.specs.Ratings.{Choice, ByNormal, ByPressure, Rates, RatesMarked, VisitsEach}
-use Rattle.vms_calls.specs.Ratings.{RatesNode, Refreshes, acknowledged_steps, state_steps, threshold_steps, mark_steps}
-use Rattle.vms_calls.specs.Ratings.{mark_for, node_number, numbers_below, zones_on, largest_on}
-use Rattle.vms_calls.specs.Ratings.RatesMarked.{unmarked, marked}
-use Rattle.vms_calls.specs.Ratings.VisitsEach.{none, next}
-use Rattle.vms_calls.specs.Turns.{OrderVerdict, Balance, FindsBlock, Further, Blocks, Balances}
-use Rattle.vms_calls.specs.Turns.{IsOrderTest, IsTurn, Settles, has_room, zones_up_to}
-use Rattle.vms_calls.specs.Turns.Balance.{Yes, No}
-use Rattle.vms_calls.specs.Turns.FindsBlock.{nowhere, empty, some}
-use Rattle.vms_calls.specs.Turns.Balances.{no_zone, fails, passes}
+use Rattle.vms_core.specs.declared.steps.Step.TheVariants.{LoadT, LoadD, AddG, AddS, Take, LoadG, LoadS, LoadM, LoadO}
+use Rattle.vms_core.specs.declared.steps.Step.TheVariants.{SetT, SetM, SetA, LoadA}
+use Rattle.vms_core.specs.Common.{History}
+use Rattle.vms_calls.specs.Common.{FoundPlace, IsFold, to_place, to_system, group_steps, place_steps, system_steps}
+use Rattle.vms_calls.specs.Common.{acknowledges, lists_of, taken_of_item, facts_of, in_turn, Look, Frees, IsSnapshot}
+use Rattle.vms_calls.specs.Common.{IsWatermarkTest, look_steps, is_doubtful, free_pages, online, other, Choice}
+use Rattle.vms_calls.specs.Common.{ByNormal, ByPressure, Rates, RatesMarked, VisitsEach, RatesNode, Refreshes}
+use Rattle.vms_calls.specs.Common.{acknowledged_steps, state_steps, threshold_steps, mark_steps, mark_for, node_number}
+use Rattle.vms_calls.specs.Common.{numbers_below, zones_on, largest_on, unmarked, marked, none, next, FindsBlock}
+use Rattle.vms_calls.specs.Common.{Further, LooksForBlock, Balances, IsOrderTest, IsTurn, SetsAfterYes, has_room}
+use Rattle.vms_calls.specs.Common.{zones_up_to, nowhere, empty, some, no_zone, fails, passes}
+use Rattle.vms_calls.specs.declared.answers.Verdict.{Verdict}
+use Rattle.vms_calls.specs.declared.answers.OrderVerdict.{OrderVerdict}
+use Rattle.vms_calls.specs.declared.answers.Balance.{Balance}
+use Rattle.vms_calls.specs.declared.answers.Balance.TheVariants.{Yes, No}
 
 -- each of these steps is one of a kind
 abbrev pub Each : (Step → Type 0) → List Step → Type 0
@@ -113,7 +95,7 @@ module _ (Kind : Step → Type 0) where
         snapshot-each shape _ steps' blocks snapshot
 
     blocks-each : (header : Header) (g : PlaceId) (n : ℕ) (room : Bool) (steps : List Step) (answer : OrderVerdict)
-        → Blocks header g n room steps answer → Each Kind steps
+        → LooksForBlock header g n room steps answer → Each Kind steps
     blocks-each header g n true steps answer blocks =
         finds-each header.layout g (areas_from n (areas_of header.items)) steps answer.area blocks.0
     blocks-each header g n false steps answer blocks = subst (Each Kind) (sym blocks.0) tt
@@ -222,7 +204,7 @@ module _ (Kind : Step → Type 0) where
         (nodes-each (length facts.layout.zones) largest online 0 facts.layout.nodes))
 
     settles-each : (facts : Facts) (normal : ZoneSize → ℕ → ℕ → Type 0) (n : PlaceId) (p : ℕ) (answer : Balance)
-        (h : History) (steps : List Step) → Settles facts normal n p answer h steps → Each Kind steps
+        (h : History) (steps : List Step) → SetsAfterYes facts normal n p answer h steps → Each Kind steps
     settles-each facts normal n p (Yes g verdict) h steps settles =
         node-each facts (ByNormal normal) n p h steps settles
     settles-each facts normal n p No h steps settles = subst (Each Kind) (sym settles) tt
@@ -251,8 +233,8 @@ module _ (Kind : Step → Type 0) where
     groups-each c j [] = tt
     groups-each c j (w ∷ ws) = (
       of.take _ _ _,
-      each-append (in_turn to_place (first_of j) w.values)
-          (in_turn (group_steps c) (suc j) ws) (adds-each (first_of j) w.values) (groups-each c (suc j) ws),
+      each-append (in_turn to_place (first_of_group j) w.values)
+          (in_turn (group_steps c) (suc j) ws) (adds-each (first_of_group j) w.values) (groups-each c (suc j) ws),
     )
 
     place-each : (shape : Shape) (b : Bool) (c : CpuId) (g : ℕ) (found : FoundPlace)

@@ -1,32 +1,16 @@
 -- For other crates too: calls leave what their caller carries, and what the CPUs have spent but for the size of a
 -- change.
-use Rattle.std.proofs.Common.{◌≡◌, ℕ, ◌+◌, ◌&&◌, Bool, true, false, nat_eq, if◌then◌else◌, ℤ, pos, neg_ℤ, List}
-use Rattle.std.proofs.Common.{[], ◌∷◌, ◌++◌, Option, Some, None, refl, sym, ap, ◌∙◌, subst, arith, unsigned_abs}
+use Rattle.std.proofs.Common.{◌≡◌, ℕ, ◌+◌, ◌&&◌, Bool, true, false, nat_eq, if◌then◌else◌, ℤ, pos, neg_ℤ, List, [], ◌∷◌}
+use Rattle.std.proofs.Common.{◌++◌, Option, Some, None, refl, sym, ap, ◌∙◌, subst, arith, unsigned_abs}
 use Rattle.std.proofs.lemmas.Int.{ints}
-use Rattle.vms_base.specs.declared.groups.Diffs.{Diffs}
-use Rattle.vms_base.specs.declared.ids.CounterId.{CounterId}
-use Rattle.vms_base.specs.declared.ids.CpuId.{CpuId}
-use Rattle.vms_base.specs.declared.kinds.Mode.{Mode}
-use Rattle.vms_base.specs.declared.kinds.ZoneSize.{ZoneSize}
-use Rattle.vms_base.specs.Places.{Shape, IsLayout, place_of, group_of, item_of}
-use Rattle.vms_history.specs.Events.{own, after}
-use Rattle.vms_history.specs.Passes.{owner, owner_after, owner_in}
-use Rattle.vms_history.specs.Passes.Role.{Works}
+use Rattle.vms_history.specs.Common.{Diffs, CounterId, CpuId, Mode, ZoneSize, Shape, IsLayout, place_of, group_of}
+use Rattle.vms_history.specs.Common.{item_of, own, after, owner, owner_after, owner_in, Works}
 use Rattle.vms_core.specs.declared.steps.Facts.{Facts}
 use Rattle.vms_core.specs.declared.steps.Step.{Step}
 use Rattle.vms_core.specs.declared.steps.Step.TheVariants.{LoadT, LoadD, Put, AddG, AddS, Take, SetO}
-use Rattle.vms_core.specs.Cells.{entry}
-use Rattle.vms_core.specs.Changes.{carried_by}
-use Rattle.vms_core.specs.Own.{moved, moved_of_item}
-use Rattle.vms_core.specs.Pages.{History}
-use Rattle.vms_core.specs.Steps.{role}
-use Rattle.vms_core.specs.Totals.{change_size, spent, spent_by}
-use Rattle.vms_calls.specs.CallerLaws.{CarriesAsBefore, LeavesCaller, ChangesLeave, ChangesSpend}
-use Rattle.vms_calls.specs.Changes.{Carries, Exchanges, IsChange}
-use Rattle.vms_calls.specs.Changes.Carries.{nothing, amount}
-use Rattle.vms_calls.specs.Changes.Exchanges.{won, missed}
-use Rattle.vms_calls.specs.Folds.{IsFold}
-use Rattle.vms_calls.specs.Ratings.{Buries}
+use Rattle.vms_core.specs.Common.{entry, carried_by, moved, moved_of_item, History, role, change_size, spent, spent_by}
+use Rattle.vms_calls.specs.Common.{CarriesAsBefore, LeavesCaller, ChangesLeave, ChangesSpend, Carries, Exchanges}
+use Rattle.vms_calls.specs.Common.{IsChange, nothing, amount, won, missed, IsFold, Buries}
 use Rattle.vms_calls.proofs.Amounts.{if-neg_zero, if-cancelled}
 use Rattle.vms_calls.proofs.CallSteps.{Each, OfLooks, OfRatings, OfFolds, each-append, fold-each, refresh-each}
 use Rattle.vms_calls.proofs.FoldSums.{sum_steps, total-after, sum-append, fold-moves, fold-moves_of_item}

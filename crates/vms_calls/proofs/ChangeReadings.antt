@@ -1,16 +1,10 @@
 -- The steps of a change tell where they end.
 use Rattle.std.proofs.Common.{◌≡◌, ℕ, suc, zero, ℤ, pos, negsuc, List, ◌++◌, refl, ap, ◌∙◌, append_assoc}
-use Rattle.vms_base.specs.declared.groups.Diffs.{Diffs}
-use Rattle.vms_base.specs.declared.ids.CounterId.{CounterId}
-use Rattle.vms_base.specs.declared.kinds.Mode.{Mode}
-use Rattle.vms_base.specs.Places.{Shape}
+use Rattle.vms_history.specs.Common.{Diffs, CounterId, Mode, Shape}
 use Rattle.vms_core.specs.declared.steps.Step.{Step}
-use Rattle.vms_core.specs.Cells.{entry}
-use Rattle.vms_core.specs.Changes.{carried_by}
-use Rattle.vms_calls.specs.Changes.{Carries, Exchanges}
-use Rattle.vms_calls.specs.Changes.Carries.{nothing, amount}
-use Rattle.vms_calls.specs.Changes.Exchanges.{won, missed}
-use Rattle.vms_calls.specs.ChangeReadings.{TellsChange, read_additions, read_exchange, read_change}
+use Rattle.vms_core.specs.Common.{entry, carried_by}
+use Rattle.vms_calls.specs.Common.{Carries, Exchanges, nothing, amount, won, missed, TellsChange, read_additions}
+use Rattle.vms_calls.specs.Common.{read_exchange, read_change}
 
 additions-told : (shape : Shape) (k : CounterId) (z : ℤ) (steps rest : List Step) → Carries shape k z steps
     → read_additions z (steps ++ rest) ≡ (tt, rest)

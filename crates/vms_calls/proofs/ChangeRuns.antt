@@ -1,34 +1,20 @@
 -- The steps of a change meet their conditions in a row.
-use Rattle.std.proofs.Common.{◌≡◌, ℕ, ◌+◌, ◌≤◌, nat_eq, true, ℤ, List, [], ◌∷◌}
-use Rattle.std.proofs.Common.{◌++◌, Some, refl, sym, ap, ◌∙◌, subst, arith, eq-eqb, unsigned_abs}
+use Rattle.std.proofs.Common.{◌≡◌, ℕ, ◌+◌, ◌≤◌, nat_eq, true, ℤ, List, [], ◌∷◌, ◌++◌, Some, refl, sym, ap, ◌∙◌, subst}
+use Rattle.std.proofs.Common.{arith, eq-eqb, unsigned_abs}
 use Rattle.std.proofs.lemmas.Int.{ints}
-use Rattle.vms_base.specs.declared.groups.Diffs.{Diffs}
-use Rattle.vms_base.specs.declared.ids.CounterId.{CounterId}
-use Rattle.vms_base.specs.declared.ids.CpuId.{CpuId}
-use Rattle.vms_base.specs.declared.kinds.Mode.{Mode}
-use Rattle.vms_base.specs.Places.{IsLayout, IsCounter, place_of, group_of, item_of}
-use Rattle.vms_history.specs.Events.{own, after}
-use Rattle.vms_history.specs.Passes.{owner_in}
-use Rattle.vms_history.proofs.Own.{own-mine, own-after}
-use Rattle.vms_history.proofs.Prefixes.{base_can_begin}
+use Rattle.vms_history.specs.Common.{Diffs, CounterId, CpuId, Mode, IsLayout, IsCounter, place_of, group_of, item_of}
+use Rattle.vms_history.specs.Common.{own, after, owner_in, most_volume}
+use Rattle.vms_history.proofs.Common.{own-mine, own-after, base_can_begin}
 use Rattle.vms_core.specs.declared.steps.Facts.{Facts}
 use Rattle.vms_core.specs.declared.steps.Step.{Step}
 use Rattle.vms_core.specs.declared.steps.Step.TheVariants.{LoadT, LoadD, Put, Miss, AddG}
-use Rattle.vms_calls.specs.Changes.{Carries, Exchanges, IsChange}
-use Rattle.vms_calls.specs.Changes.Carries.{nothing, amount}
-use Rattle.vms_calls.specs.Changes.Exchanges.{won, missed}
-use Rattle.vms_core.specs.Cells.{entry}
-use Rattle.vms_core.specs.Changes.{carried_by}
-use Rattle.vms_base.specs.Volumes.{most_volume}
-use Rattle.vms_calls.specs.MayCall.{MakesChange}
-use Rattle.vms_core.specs.Own.{CarriesNothing, carried, carried_of_item, found, loaded}
-use Rattle.vms_core.specs.Pages.{pages, History}
-use Rattle.vms_core.specs.Steps.{role}
-use Rattle.vms_core.specs.Totals.{spent}
+use Rattle.vms_calls.specs.Common.{Carries, Exchanges, IsChange, nothing, amount, won, missed, MakesChange}
+use Rattle.vms_core.specs.Common.{entry, carried_by, CarriesNothing, carried, carried_of_item, found, loaded, pages}
+use Rattle.vms_core.specs.Common.{History, role, spent}
 use Rattle.vms_calls.proofs.CallerLaws.{spent-no_put}
 use Rattle.vms_calls.proofs.MayBegin.{call-begins}
 use Rattle.vms_calls.proofs.Agreement.{event}
-use Rattle.vms_base.proofs.Counts.{place_of-lt, group_of-lt, item_of-lt}
+use Rattle.vms_base.proofs.Common.{place_of-lt, group_of-lt, item_of-lt}
 use Rattle.vms_calls.proofs.StepRuns.{Runs, Exchanging, runs-may}
 
 module _ (facts : Facts) (layout : IsLayout facts.layout) (p : ℕ) (cpu : CpuId) (k : CounterId)

@@ -1,9 +1,7 @@
 -- For other crates too: the two thresholds that a call chooses are of 1 to 125, where its rules give such thresholds.
 use Rattle.std.proofs.Common.{ℕ, ◌≤◌, sym, subst}
-use Rattle.vms_base.specs.declared.kinds.ZoneSize.{ZoneSize}
-use Rattle.vms_base.specs.Sizes.{IsValidSize}
-use Rattle.vms_base.specs.Thresholds.{most_threshold, GivesThresholds}
-use Rattle.vms_calls.specs.Ratings.{Choice, ByNormal, ByPressure}
+use Rattle.vms_history.specs.Common.{ZoneSize, IsValidSize, most_threshold, GivesThresholds}
+use Rattle.vms_calls.specs.Common.{Choice, ByNormal, ByPressure}
 
 -- a threshold of this range
 abbrev InRange : ℕ → Type 0

@@ -1,27 +1,19 @@
 -- For other crates too: the control pass may make the steps that set thresholds and marks.
 use Rattle.std.proofs.Common.{◌≡◌, ℕ, suc, List, [], ◌∷◌, length, None, ⊎_elim, sym, ◌∙◌, subst, arith}
 use Rattle.std.specs.Prelude.{All}
-use Rattle.vms_base.specs.declared.ids.CpuId.{CpuId}
-use Rattle.vms_base.specs.declared.kinds.CpuState.TheVariants.{Online}
-use Rattle.vms_base.specs.declared.kinds.ZoneSize.{ZoneSize}
-use Rattle.vms_base.specs.Places.{IsCpu, IsZone}
-use Rattle.vms_base.specs.Sizes.{IsValidSize, size_at}
-use Rattle.vms_history.proofs.Prefixes.{base_can_begin}
+use Rattle.vms_history.specs.Common.{CpuId, Online, ZoneSize, IsCpu, IsZone, IsValidSize, size_at, GivesThresholds}
+use Rattle.vms_history.proofs.Common.{base_can_begin}
 use Rattle.vms_core.specs.declared.steps.Facts.{Facts}
 use Rattle.vms_core.specs.declared.steps.Step.{Step}
-use Rattle.vms_core.specs.Bases.{IsBase}
-use Rattle.vms_core.specs.Cells.{cpu_at}
-use Rattle.vms_calls.specs.MayMake.{MayMake, ControlsIn}
-use Rattle.vms_base.specs.Thresholds.{GivesThresholds}
-use Rattle.vms_calls.specs.MayCall.{MakesRating, MakesNodeRating, MakesRefresh}
-use Rattle.vms_core.specs.Pages.{pages, History, state_after}
+use Rattle.vms_core.specs.Common.{IsBase, cpu_at, pages, History, state_after}
+use Rattle.vms_calls.specs.Common.{MayMake, ControlsIn, MakesRating, MakesNodeRating, MakesRefresh, Choice, Rates}
+use Rattle.vms_calls.specs.Common.{RatesNode, Refreshes}
 use Rattle.vms_calls.proofs.Agreement.{mark_at-told}
-use Rattle.vms_calls.specs.Ratings.{Choice, Rates, RatesNode, Refreshes}
 use Rattle.vms_calls.proofs.ChoiceRanges.{GivesBoth}
 use Rattle.vms_calls.proofs.MayBegin.{call-begins}
 use Rattle.vms_calls.proofs.RatingRuns.{OccursIn, rating-runs}
 use Rattle.vms_calls.proofs.StepRuns.{Runs, runs-may}
-use Rattle.vms_core.proofs.Settings.{cpu_at-state_after}
+use Rattle.vms_core.proofs.Common.{cpu_at-state_after}
 use Rattle.vms_calls.proofs.VisitRuns.{node-runs, refresh-runs}
 
 all-one_of : (P : CpuId → Type 0) (c : CpuId) (cs : List CpuId) → All P cs → OccursIn c cs → P c

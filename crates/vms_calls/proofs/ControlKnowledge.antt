@@ -1,21 +1,15 @@
 -- The control pass knows peaks, thresholds, marks and the CPUs' states by its own steps.
 use Rattle.std.proofs.Common.{◌≡◌, ◌≢◌, ℕ, List, [], ◌∷◌, None, refl, sym, ap, ◌∙◌, subst, arith}
-use Rattle.vms_history.specs.Events.{after}
-use Rattle.vms_history.specs.Passes.{owner, owner_in}
-use Rattle.vms_history.proofs.Own.{own-after_others}
-use Rattle.vms_history.proofs.PassLaws.{live_is_given}
-use Rattle.vms_history.proofs.Prefixes.{prefix_is_legal}
+use Rattle.vms_history.specs.Common.{after, owner, owner_in}
+use Rattle.vms_history.proofs.Common.{own-after_others, live_is_given, prefix_is_legal}
 use Rattle.vms_core.specs.declared.steps.Facts.{Facts}
 use Rattle.vms_core.specs.declared.steps.Step.{Step}
 use Rattle.vms_core.specs.declared.steps.Step.TheVariants.{SetM}
-use Rattle.vms_calls.specs.Ratings.{mark_left, mark_left_by}
-use Rattle.vms_calls.specs.MayCall.{KnowsByOwnSteps}
-use Rattle.vms_core.specs.Pages.{pages, History, IsLegal}
-use Rattle.vms_core.specs.Steps.{role}
-use Rattle.vms_calls.specs.MayMake.{HasMade}
+use Rattle.vms_calls.specs.Common.{mark_left, mark_left_by, KnowsByOwnSteps, HasMade}
+use Rattle.vms_core.specs.Common.{pages, History, IsLegal, role}
 use Rattle.vms_calls.proofs.Agreement.{Agrees, event, mark_in, mark_at-told, made-agrees}
 use Rattle.vms_calls.proofs.RatingCovers.{SamePeaks-after, peak_sum-same}
-use Rattle.vms_core.proofs.Settings.{mark_after}
+use Rattle.vms_core.proofs.Common.{mark_after}
 
 mark_left_by-after : (g m : ℕ) (step : Step) → mark_after g step m ≡ mark_left_by g step m
 mark_left_by-after g m (SetM f mark) = refl

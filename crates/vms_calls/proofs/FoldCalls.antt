@@ -1,10 +1,8 @@
 -- A pass may make the steps of a fold.
-use Rattle.vms_history.specs.Passes.{owner_in}
-use Rattle.vms_history.proofs.Prefixes.{base_can_begin}
-use Rattle.vms_calls.specs.MayCall.{MakesFold}
-use Rattle.vms_core.specs.Pages.{pages}
-use Rattle.vms_core.specs.Steps.{role}
-use Rattle.vms_calls.specs.Folds.{IsFold}
+use Rattle.vms_history.specs.Common.{owner_in}
+use Rattle.vms_history.proofs.Common.{base_can_begin}
+use Rattle.vms_calls.specs.Common.{MakesFold, IsFold}
+use Rattle.vms_core.specs.Common.{pages, role}
 use Rattle.vms_calls.proofs.MayBegin.{call-begins}
 use Rattle.vms_calls.proofs.FoldRuns.{fold-runs}
 use Rattle.vms_calls.proofs.StepRuns.{runs-may}

@@ -1,18 +1,14 @@
 -- The steps of a fold tell where they end.
-use Rattle.std.proofs.Common.{◌≡◌, ℕ, suc, zero, ◌/◌, Bool, true, false, ℤ, pos, negsuc}
-use Rattle.std.proofs.Common.{List, [], ◌∷◌, ◌++◌, length, refl, sym, ap, ◌∙◌, arith, append_assoc}
+use Rattle.std.proofs.Common.{◌≡◌, ℕ, suc, zero, ◌/◌, Bool, true, false, ℤ, pos, negsuc, List, [], ◌∷◌, ◌++◌, length}
+use Rattle.std.proofs.Common.{refl, sym, ap, ◌∙◌, arith, append_assoc}
 use Rattle.std.specs.Prelude.{All}
-use Rattle.vms_base.specs.declared.groups.Diffs.{Diffs}
-use Rattle.vms_base.specs.declared.ids.CpuId.{CpuId}
-use Rattle.vms_base.specs.Places.{Shape, item_count, counter_at, group_of, first_of}
+use Rattle.vms_history.specs.Common.{Diffs, CpuId, Shape, item_count, counter_at, group_of, first_of_group}
 use Rattle.vms_core.specs.declared.steps.Step.{Step}
 use Rattle.vms_core.specs.declared.steps.Step.TheVariants.{SetA}
-use Rattle.vms_calls.specs.FoldReadings.{TellsFold, without_entries, with_list, read_groups}
-use Rattle.vms_calls.specs.FoldReadings.{without_acknowledgement, read_place, then_lists, read_places}
-use Rattle.vms_calls.specs.FoldReadings.{without_item, without_items, read_items, read_fold}
-use Rattle.vms_calls.specs.Folds.{FoundPlace, HasGroups, to_place, to_system, group_steps}
-use Rattle.vms_calls.specs.Folds.{place_steps, system_steps, acknowledges, lists_of, taken_of_item}
-use Rattle.vms_calls.specs.Lists.{in_turn}
+use Rattle.vms_calls.specs.Common.{TellsFold, without_entries, with_list, read_groups, without_acknowledgement}
+use Rattle.vms_calls.specs.Common.{read_place, then_lists, read_places, without_item, without_items, read_items}
+use Rattle.vms_calls.specs.Common.{read_fold, FoundPlace, HasGroups, to_place, to_system, group_steps, place_steps}
+use Rattle.vms_calls.specs.Common.{system_steps, acknowledges, lists_of, taken_of_item, in_turn}
 
 entries-told : (n : ℕ) (ds : List ℤ) (rest : List Step) → without_entries ds (in_turn to_place n ds ++ rest) ≡ rest
 entries-told n [] rest = refl
@@ -24,10 +20,10 @@ groups-told : (c : CpuId) (j : ℕ) (ws : List Diffs) (rest : List Step)
     → read_groups (length ws) (in_turn (group_steps c) j ws ++ rest) ≡ (ws, rest)
 groups-told c j [] rest = refl
 groups-told c j (w ∷ ws) rest =
-    let entries = in_turn to_place (first_of j) w.values in
+    let entries = in_turn to_place (first_of_group j) w.values in
     let more = in_turn (group_steps c) (suc j) ws in
     ap (λ ks. with_list w (read_groups (length ws) (without_entries w.values ks))) (append_assoc entries more rest)
-    ∙ ap (λ ks. with_list w (read_groups (length ws) ks)) (entries-told (first_of j) w.values (more ++ rest))
+    ∙ ap (λ ks. with_list w (read_groups (length ws) ks)) (entries-told (first_of_group j) w.values (more ++ rest))
     ∙ ap (with_list w) (groups-told c (suc j) ws rest)
 
 -- the same for as many groups as a place has

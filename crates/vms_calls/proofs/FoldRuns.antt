@@ -1,29 +1,24 @@
 -- The steps of a fold meet their conditions in a row.
-use Rattle.std.proofs.Common.{◌≡◌, ◌≢◌, ℕ, suc, zero, ◌+◌, ◌/◌, ◌<◌, ◌≤◌, inl, ⊎_elim, Bool}
-use Rattle.std.proofs.Common.{true, false, nat_eq, nat_lt, if◌then◌else◌, ℤ, pos, negsuc, neg_ℤ, ◌+ℤ◌, List, []}
-use Rattle.std.proofs.Common.{◌∷◌, ◌++◌, length, Option, Some, refl, sym, ap, ◌∙◌, subst, arith, eq-eqb}
+use Rattle.std.proofs.Common.{◌≡◌, ◌≢◌, ℕ, suc, zero, ◌+◌, ◌/◌, ◌<◌, ◌≤◌, inl, ⊎_elim, Bool, true, false, nat_eq}
+use Rattle.std.proofs.Common.{nat_lt, if◌then◌else◌, ℤ, pos, negsuc, neg_ℤ, ◌+ℤ◌, List, [], ◌∷◌, ◌++◌, length, Option}
+use Rattle.std.proofs.Common.{Some, refl, sym, ap, ◌∙◌, subst, arith, eq-eqb}
 use Rattle.std.specs.Prelude.{All}
 use Rattle.std.proofs.lemmas.Bool.{and_parts, ltb-true, ne_eqb}
 use Rattle.std.proofs.lemmas.Int.{ints}
-use Rattle.vms_base.specs.declared.groups.Diffs.{Diffs}
-use Rattle.vms_base.specs.declared.ids.CpuId.{CpuId}
-use Rattle.vms_base.specs.Places.{IsLayout, IsCpu, IsPlace, IsZone, IsGroup, IsItem, place_count}
-use Rattle.vms_base.specs.Places.{counter_count, group_count, item_count, counter_at, place_of, group_of, first_of}
-use Rattle.vms_history.specs.Events.{own, after, total}
-use Rattle.vms_history.proofs.Own.{own-mine, own-after, after-steps}
+use Rattle.vms_history.specs.Common.{Diffs, CpuId, IsLayout, IsCpu, IsPlace, IsZone, IsGroup, IsItem, place_count}
+use Rattle.vms_history.specs.Common.{counter_count, group_count, item_count, counter_at, place_of, group_of}
+use Rattle.vms_history.specs.Common.{first_of_group, own, after, total}
+use Rattle.vms_history.proofs.Common.{own-mine, own-after, after-steps}
 use Rattle.vms_core.specs.declared.steps.Facts.{Facts}
 use Rattle.vms_core.specs.declared.steps.Step.{Step}
 use Rattle.vms_core.specs.declared.steps.Step.TheVariants.{LoadT, AddG, AddS, Take, SetA}
-use Rattle.vms_core.specs.Conditions.{Acknowledges}
-use Rattle.vms_calls.specs.Folds.{FoundPlace, HasGroups, IsFold, to_place, to_system, group_steps}
-use Rattle.vms_calls.specs.Folds.{place_steps, system_steps, acknowledges, lists_of, taken_of_item}
-use Rattle.vms_calls.specs.Lists.{in_turn}
-use Rattle.vms_core.specs.Own.{CarriesNothing, moved, moved_of_item, carried, carried_of_item}
-use Rattle.vms_core.specs.Own.{loaded, took, has_put, entries_of}
-use Rattle.vms_core.specs.Pages.{History}
+use Rattle.vms_core.specs.Common.{Acknowledges, CarriesNothing, moved, moved_of_item, carried, carried_of_item, loaded}
+use Rattle.vms_core.specs.Common.{took, has_put, entries_of, History}
+use Rattle.vms_calls.specs.Common.{FoundPlace, HasGroups, IsFold, to_place, to_system, group_steps, place_steps}
+use Rattle.vms_calls.specs.Common.{system_steps, acknowledges, lists_of, taken_of_item, in_turn}
 use Rattle.vms_calls.proofs.Amounts.{if-zero_more, if-cancelled}
 use Rattle.vms_calls.proofs.Agreement.{event}
-use Rattle.vms_core.proofs.Effects.{group-within}
+use Rattle.vms_core.proofs.Common.{group-within}
 use Rattle.vms_calls.proofs.FoldSums.{sum_steps, total-after, amount, amount-outside, amount-group, group-moved}
 use Rattle.vms_calls.proofs.FoldSums.{group-of_item, place-sum, places-sum, nothing-worth, item-worth}
 use Rattle.vms_calls.proofs.StepRuns.{Runs, Knows, runs-append}
@@ -83,7 +78,7 @@ module _ (facts : Facts) (layout : IsLayout facts.layout) (p : ℕ) (who : Optio
         → NoneCarried g → P (after p (group_steps c j w) g) → Runs facts p who (group_steps c j w) g P
     group-run j w g P j_in eight none rest = (
       λ knows. (c_in, j_in),
-      λ knows told. adds-run (first_of j) w.values (event facts p (Take c (record { number = j }) w) ∷ g) P
+      λ knows told. adds-run (first_of_group j) w.values (event facts p (Take c (record { number = j }) w) ∷ g) P
           (let within = group-within (counter_count facts.layout) j j_in in omega arith)
           (λ k. omega (
             arith,
@@ -119,7 +114,7 @@ module _ (facts : Facts) (layout : IsLayout facts.layout) (p : ℕ) (who : Optio
         layout.positions
 
     -- and they stand where the place's groups do
-    group-place : (z j : ℕ) → place_of facts.layout (first_of j) ≡ z
+    group-place : (z j : ℕ) → place_of facts.layout (first_of_group j) ≡ z
         → (group_of (counter_at facts.layout z 0) ≤ j) ×
         (j < group_of (counter_at facts.layout z 0) + facts.layout.positions / 8)
     group-place z j = ⊎_elim

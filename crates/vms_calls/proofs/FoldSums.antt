@@ -1,26 +1,22 @@
 -- What the steps of a fold take out of the differentials they add to the global values.
-use Rattle.std.proofs.Common.{◌≡◌, ◌≢◌, ℕ, suc, zero, ◌+◌, ◌*◌, ◌/◌, ◌%◌, ◌<◌, ◌≤◌, ◌⊎◌, inl}
-use Rattle.std.proofs.Common.{inr, ⊎_elim, Bool, true, false, nat_eq, if◌then◌else◌, ℤ, pos, negsuc, neg_ℤ, ◌+ℤ◌, List}
-use Rattle.std.proofs.Common.{[], ◌∷◌, ◌++◌, length, get_or, refl, sym, ap, ◌∙◌, arith, eq-eqb, eqb-true}
+use Rattle.std.proofs.Common.{◌≡◌, ◌≢◌, ℕ, suc, zero, ◌+◌, ◌*◌, ◌/◌, ◌%◌, ◌<◌, ◌≤◌, ◌⊎◌, inl, inr, ⊎_elim, Bool, true}
+use Rattle.std.proofs.Common.{false, nat_eq, if◌then◌else◌, ℤ, pos, negsuc, neg_ℤ, ◌+ℤ◌, List, [], ◌∷◌, ◌++◌, length}
+use Rattle.std.proofs.Common.{get_or, refl, sym, ap, ◌∙◌, arith, eq-eqb, eqb-true}
 use Rattle.std.specs.Prelude.{All}
 use Rattle.std.proofs.lemmas.Bool.{cases_lt, eqb-false, ne_eqb}
 use Rattle.std.proofs.lemmas.Int.{ints}
 use Rattle.std.proofs.lemmas.List.{get_or_past}
-use Rattle.vms_base.specs.declared.groups.Diffs.{Diffs}
-use Rattle.vms_base.specs.declared.ids.CpuId.{CpuId}
-use Rattle.vms_base.specs.declared.ids.PlaceId.{PlaceId}
-use Rattle.vms_base.specs.Places.{Shape, IsLayout, item_count, item_of, counter_at, group_of, first_of}
+use Rattle.vms_history.specs.Common.{Diffs, CpuId, PlaceId, Shape, IsLayout, item_count, item_of, counter_at, group_of}
+use Rattle.vms_history.specs.Common.{first_of_group, total, after}
 use Rattle.vms_history.specs.declared.events.Event.{Event}
-use Rattle.vms_history.specs.Events.{total, after}
-use Rattle.vms_history.proofs.SumLaws.{sum_below-zeros}
-use Rattle.vms_base.proofs.Counts.{item_of-lt}
+use Rattle.vms_history.proofs.Common.{sum_below-zeros}
+use Rattle.vms_base.proofs.Common.{item_of-lt}
 use Rattle.vms_core.specs.declared.steps.Step.{Step}
 use Rattle.vms_core.specs.declared.steps.Step.TheVariants.{LoadT, SetA}
 use Rattle.vms_calls.proofs.Amounts.{if-neg, if-neg_zero}
-use Rattle.vms_calls.specs.Lists.{in_turn}
-use Rattle.vms_core.specs.Own.{moved, moved_of_item, entries_of}
-use Rattle.vms_calls.specs.Folds.{FoundPlace, HasGroups, IsFold, to_place, to_system, group_steps}
-use Rattle.vms_calls.specs.Folds.{place_steps, system_steps, acknowledges, lists_of, taken_of_item}
+use Rattle.vms_calls.specs.Common.{in_turn, FoundPlace, HasGroups, IsFold, to_place, to_system, group_steps}
+use Rattle.vms_calls.specs.Common.{place_steps, system_steps, acknowledges, lists_of, taken_of_item}
+use Rattle.vms_core.specs.Common.{moved, moved_of_item, entries_of}
 
 -- the sum of a measure of steps
 abbrev pub sum_steps : (Step → ℤ) → List Step → ℤ
@@ -263,11 +259,11 @@ module _ (shape : Shape) (ws : List Diffs) (i : ℕ) where
 module _ (shape : Shape) (layout : IsLayout shape) (i : ℕ) (past : item_count shape ≤ i) where
   entries-past : (j : ℕ) (w : Diffs) → entries_of shape i j w ≡ pos 0
   entries-past j w = sum_below-zeros
-      (λ n. if nat_eq (item_of shape (first_of j + n)) i then get_or w.values n (pos 0) else pos 0) 8
+      (λ n. if nat_eq (item_of shape (first_of_group j + n)) i then get_or w.values n (pos 0) else pos 0) 8
       (λ n below.
-      let within = item_of-lt shape layout (first_of j + n) in
-      let other : nat_eq (item_of shape (first_of j + n)) i ≡ false =
-      ne_eqb (item_of shape (first_of j + n)) i (λ e. omega arith) in
+      let within = item_of-lt shape layout (first_of_group j + n) in
+      let other : nat_eq (item_of shape (first_of_group j + n)) i ≡ false =
+      ne_eqb (item_of shape (first_of_group j + n)) i (λ e. omega arith) in
       ap (λ (b : Bool). if b then get_or w.values n (pos 0) else pos 0) other)
 
   taken-past : (j : ℕ) (ws : List Diffs) → taken_of_item shape i j ws ≡ pos 0

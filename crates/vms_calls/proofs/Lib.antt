@@ -1,3 +1,5 @@
+pub mod PushedLists
+pub mod ZonesOn
 pub mod LoneChanges
 pub mod LookReadings
 pub mod ChangeReadings
@@ -30,3 +32,5 @@ pub mod TurnRuns
 pub mod OnlineFound
 pub mod PassedZones
 pub mod ControlKnowledge
+pub mod ZonesUpTo
+pub mod Common

@@ -3,40 +3,23 @@ use Rattle.std.proofs.Common.{◌≡◌, ◌≢◌, ℕ, ◌+◌, nat_eq, ◌&&�
 use Rattle.std.proofs.Common.{refl, sym, ap, ◌∙◌, subst, arith, eq-eqb, if◌then◌else◌, unsigned_abs, ⊎_elim}
 use Rattle.std.proofs.lemmas.Int.{ints}
 use Rattle.std.proofs.lemmas.List.Elements.{All-from_recursion}
-use Rattle.vms_base.specs.declared.groups.Diffs.{Diffs}
-use Rattle.vms_base.specs.declared.ids.CounterId.{CounterId}
-use Rattle.vms_base.specs.declared.ids.CpuId.{CpuId}
-use Rattle.vms_base.specs.declared.kinds.CpuState.TheVariants.{Online}
-use Rattle.vms_base.specs.declared.kinds.Mode.{Mode}
-use Rattle.vms_base.specs.Places.{IsLayout, place_of, group_of, item_of}
-use Rattle.vms_base.proofs.Counts.{place_of-lt, group_of-lt, item_of-lt}
+use Rattle.vms_history.specs.Common.{Diffs, CounterId, CpuId, Online, Mode, IsLayout, place_of, group_of, item_of, own}
+use Rattle.vms_history.specs.Common.{Works}
+use Rattle.vms_base.proofs.Common.{place_of-lt, group_of-lt, item_of-lt}
 use Rattle.vms_history.specs.declared.events.Event.{Event}
-use Rattle.vms_history.specs.Events.{own}
-use Rattle.vms_history.specs.Passes.Role.{Works}
-use Rattle.vms_history.proofs.Own.{own-after_others}
-use Rattle.vms_history.proofs.Prefixes.{base_can_begin}
-use Rattle.vms_core.proofs.WorkerSteps.{event, Stands, Stands-next, owner_now, spent-after}
-use Rattle.vms_core.proofs.WithChange.{with_carried-nothing, with_change-steps}
+use Rattle.vms_history.proofs.Common.{own-after_others, base_can_begin, zero_or_not}
+use Rattle.vms_core.proofs.Common.{event, Stands, Stands-next, owner_now, spent-after, with_carried-nothing}
+use Rattle.vms_core.proofs.Common.{with_change-steps, group_is_list}
 use Rattle.vms_calls.proofs.Amounts.{if-cancelled}
-use Rattle.vms_history.proofs.Choices.{zero_or_not}
 use Rattle.vms_core.specs.declared.states.State.{State}
 use Rattle.vms_core.specs.declared.steps.Facts.{Facts}
 use Rattle.vms_core.specs.declared.steps.Step.{Step}
 use Rattle.vms_core.specs.declared.steps.Step.TheVariants.{LoadT, LoadD, Put, AddG, AddS}
-use Rattle.vms_calls.specs.Changes.{Carries, HasWon}
-use Rattle.vms_calls.specs.Changes.Carries.{nothing, amount}
-use Rattle.vms_calls.specs.Changes.Exchanges.{won}
-use Rattle.vms_core.specs.Cells.{TellsGroup, entry, value_at, threshold_at}
-use Rattle.vms_core.specs.Cells.{threshold_sets_at, cpu_at, with_value, with_diff}
-use Rattle.vms_core.proofs.GroupLists.{group_is_list}
-use Rattle.vms_core.specs.Changes.{differential_after, carried_by}
-use Rattle.vms_core.specs.Conditions.{Meets, Owns}
-use Rattle.vms_calls.specs.LoneChanges.{MayChange, FollowsAlone, GoesOnWithChange}
-use Rattle.vms_core.specs.ChangedStates.{with_carried, with_change}
-use Rattle.vms_core.specs.Own.{CarriesNothing, carried, carried_of_item, found, loaded}
-use Rattle.vms_core.specs.Pages.{pages, History, state_after}
-use Rattle.vms_core.specs.Steps.{role, own_effect, effect_of}
-use Rattle.vms_core.specs.Totals.{spent, spent_by}
+use Rattle.vms_calls.specs.Common.{Carries, HasWon, nothing, amount, won, MayChange, FollowsAlone, GoesOnWithChange}
+use Rattle.vms_core.specs.Common.{TellsGroup, entry, value_at, threshold_at, threshold_sets_at, cpu_at, with_value}
+use Rattle.vms_core.specs.Common.{with_diff, differential_after, carried_by, Meets, Owns, with_carried, with_change}
+use Rattle.vms_core.specs.Common.{CarriesNothing, carried, carried_of_item, found, loaded, pages, History, state_after}
+use Rattle.vms_core.specs.Common.{role, own_effect, effect_of, spent, spent_by}
 
 if_zero : (b : Bool) (z rest : ℤ) → z ≡ pos 0 → rest ≡ pos 0 → (if b then z else pos 0) +ℤ rest ≡ pos 0
 if_zero true z rest none e = omega (arith, ints)

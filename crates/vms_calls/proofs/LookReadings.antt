@@ -1,22 +1,15 @@
 -- The steps of the calls that look at values tell their answers.
-use Rattle.std.proofs.Common.{◌≡◌, ◌≢◌, ℕ, suc, Bool, true, false, not, nat_lt, ℤ, pos}
-use Rattle.std.proofs.Common.{◌+ℤ◌, List, [], ◌∷◌, ◌++◌, length, refl, sym, ap, ◌∙◌, arith}
+use Rattle.std.proofs.Common.{◌≡◌, ◌≢◌, ℕ, suc, Bool, true, false, not, nat_lt, ℤ, pos, ◌+ℤ◌, List, [], ◌∷◌, ◌++◌}
+use Rattle.std.proofs.Common.{length, refl, sym, ap, ◌∙◌, arith}
 use Rattle.std.proofs.lemmas.Int.{ints}
-use Rattle.vms_base.specs.declared.kinds.CpuState.{CpuState}
-use Rattle.vms_base.specs.declared.kinds.CpuState.TheVariants.{Online, Dead, Absent}
-use Rattle.vms_base.specs.declared.headers.Header.{Header}
-use Rattle.vms_base.specs.declared.ids.PlaceId.{PlaceId}
-use Rattle.vms_base.specs.declared.kinds.WaterMark.{WaterMark}
-use Rattle.vms_base.specs.Places.{group_of}
+use Rattle.vms_history.specs.Common.{CpuState, Online, Dead, Absent, Header, PlaceId, WaterMark, group_of, is_online}
+use Rattle.vms_history.specs.Common.{limit_of}
 use Rattle.vms_core.specs.declared.steps.Step.{Step}
-use Rattle.vms_core.specs.Cells.{entry}
-use Rattle.vms_calls.specs.Lists.{in_turn}
-use Rattle.vms_calls.specs.Looks.{Look, Verdict, Frees, look_steps, hidden, at_least_zero, is_doubtful, free_pages}
-use Rattle.vms_calls.specs.Looks.Look.{online, other}
-use Rattle.vms_calls.specs.LookReadings.{TellsPlaceValue, TellsSystemValue, TellsSnapshot, TellsTest}
-use Rattle.vms_calls.specs.LookReadings.{read_looks, read_further, verdict_of}
-use Rattle.vms_base.specs.Cpus.{is_online}
-use Rattle.vms_base.specs.Watermarks.{limit_of}
+use Rattle.vms_core.specs.Common.{entry}
+use Rattle.vms_calls.specs.Common.{in_turn, Look, Frees, look_steps, hidden, at_least_zero, is_doubtful, free_pages}
+use Rattle.vms_calls.specs.Common.{online, other, TellsPlaceValue, TellsSystemValue, TellsSnapshot, TellsTest}
+use Rattle.vms_calls.specs.Common.{read_looks, read_further, verdict_of}
+use Rattle.vms_calls.specs.declared.answers.Verdict.{Verdict}
 
 pub place_value-told : TellsPlaceValue
 place_value-told k steps answer call rest = rw (call.in_order, call.answers) refl

@@ -1,29 +1,20 @@
 -- The steps of the calls that look at values may be made.
 use Rattle.std.proofs.Common.{ℕ, suc, ◌+◌, ◌≤◌, ℤ, Bool, true, false, List, [], ◌∷◌, length, sym, subst, arith}
-use Rattle.vms_base.specs.declared.ids.CounterId.{CounterId}
-use Rattle.vms_base.specs.Places.{IsCounter, IsGroup, IsZone, group_of}
-use Rattle.vms_history.specs.Passes.{owner_in}
-use Rattle.vms_history.proofs.Prefixes.{base_can_begin}
+use Rattle.vms_history.specs.Common.{CounterId, IsCounter, IsGroup, IsZone, group_of, owner_in, Header, WaterMark}
+use Rattle.vms_history.specs.Common.{CpuId, PlaceId, IsLayout}
+use Rattle.vms_history.proofs.Common.{base_can_begin}
 use Rattle.vms_core.specs.declared.steps.Facts.{Facts}
 use Rattle.vms_core.specs.declared.steps.Step.{Step}
-use Rattle.vms_calls.specs.Lists.{in_turn}
-use Rattle.vms_calls.specs.HeaderFacts.{facts_of}
-use Rattle.vms_calls.specs.Looks.{Look, Verdict, Frees, IsPlaceValue, IsSystemValue}
-use Rattle.vms_calls.specs.Looks.{IsSnapshot, IsWatermarkTest, look_steps, is_doubtful, free_pages}
-use Rattle.vms_calls.specs.Looks.Look.{online, other}
-use Rattle.vms_calls.specs.MayCall.{MakesPlaceValue, MakesSystemValue, MakesSnapshot, MakesTest}
-use Rattle.vms_core.specs.Pages.{pages, History}
-use Rattle.vms_core.specs.Steps.{role}
-use Rattle.vms_core.proofs.CounterRanges.{first-known}
-use Rattle.vms_base.proofs.Counts.{group_of-lt}
+use Rattle.vms_calls.specs.Common.{in_turn, facts_of, Look, Frees, IsPlaceValue, IsSystemValue, IsSnapshot}
+use Rattle.vms_calls.specs.Common.{IsWatermarkTest, look_steps, is_doubtful, free_pages, online, other, MakesPlaceValue}
+use Rattle.vms_calls.specs.Common.{MakesSystemValue, MakesSnapshot, MakesTest}
+use Rattle.vms_calls.specs.declared.answers.Verdict.{Verdict}
+use Rattle.vms_core.specs.Common.{pages, History, role}
+use Rattle.vms_core.proofs.Common.{first-known}
+use Rattle.vms_base.proofs.Common.{group_of-lt}
 use Rattle.vms_calls.proofs.MayBegin.{call-begins}
 use Rattle.vms_calls.proofs.StepRuns.{Runs, runs-may}
-use Rattle.vms_base.specs.declared.headers.Header.{Header}
-use Rattle.vms_base.specs.declared.kinds.WaterMark.{WaterMark}
 use Rattle.vms_core.specs.declared.states.State.{State}
-use Rattle.vms_base.specs.declared.ids.CpuId.{CpuId}
-use Rattle.vms_base.specs.declared.ids.PlaceId.{PlaceId}
-use Rattle.vms_base.specs.Places.{IsLayout}
 use Rattle.std.specs.Prelude.{Option}
 
 module _ (facts : Facts) (layout : IsLayout facts.layout) (p : ℕ) (who : Option CpuId) where

@@ -3,8 +3,8 @@
 use Rattle.std.proofs.Common.{ℕ, List, ◌∷◌, ◌++◌, refl, subst}
 use Rattle.vms_core.specs.declared.steps.Facts.{Facts}
 use Rattle.vms_core.specs.declared.steps.Step.{Step}
-use Rattle.vms_core.specs.Pages.{History}
-use Rattle.vms_calls.specs.MayMake.{MayMake, MayBegin}
+use Rattle.vms_core.specs.Common.{History}
+use Rattle.vms_calls.specs.Common.{MayMake, MayBegin}
 
 module _ (facts : Facts) (p : ℕ) (h : History) (IsCall : List Step → Type 0) where
   pub call-begins : ((steps : List Step) → IsCall steps → MayMake facts p h steps) → MayBegin facts p h IsCall

@@ -1,19 +1,14 @@
 -- A call that was made while others acted leaves its caller as its steps in a row do.
-use Rattle.std.proofs.Common.{◌≡◌, ℕ, ◌+◌, Bool, true, false, nat_eq, if◌then◌else◌, pos}
-use Rattle.std.proofs.Common.{◌+ℤ◌, List, [], Some, ap, ◌∙◌, arith, unsigned_abs}
+use Rattle.std.proofs.Common.{◌≡◌, ℕ, ◌+◌, Bool, true, false, nat_eq, if◌then◌else◌, pos, ◌+ℤ◌, List, [], Some, ap, ◌∙◌}
+use Rattle.std.proofs.Common.{arith, unsigned_abs}
 use Rattle.std.proofs.lemmas.Int.{ints}
-use Rattle.vms_base.specs.declared.ids.CpuId.{CpuId}
-use Rattle.vms_history.specs.Events.{own, after, total}
-use Rattle.vms_history.specs.Passes.{owner_in}
+use Rattle.vms_history.specs.Common.{CpuId, own, after, total, owner_in}
 use Rattle.vms_core.specs.declared.steps.Facts.{Facts}
 use Rattle.vms_core.specs.declared.steps.Step.{Step}
-use Rattle.vms_core.specs.Own.{carried, carried_of_item}
-use Rattle.vms_core.specs.Pages.{History}
-use Rattle.vms_core.specs.Steps.{role}
-use Rattle.vms_core.specs.Totals.{change_size, spent}
-use Rattle.vms_core.proofs.Spending.{owner-spends}
-use Rattle.vms_calls.specs.CallerLaws.{CarriesAsBefore, CarriesAsEarlier, CallsLeaveMeanwhile, ChangesLeaveMeanwhile}
-use Rattle.vms_calls.specs.MayMake.{HasMade}
+use Rattle.vms_core.specs.Common.{carried, carried_of_item, History, role, change_size, spent}
+use Rattle.vms_core.proofs.Common.{owner-spends}
+use Rattle.vms_calls.specs.Common.{CarriesAsBefore, CarriesAsEarlier, CallsLeaveMeanwhile, ChangesLeaveMeanwhile}
+use Rattle.vms_calls.specs.Common.{HasMade}
 use Rattle.vms_calls.proofs.CallerLaws.{change-leaves}
 use Rattle.vms_calls.proofs.FoldSums.{total-after}
 

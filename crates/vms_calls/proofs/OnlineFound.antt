@@ -1,31 +1,20 @@
 -- For other crates too: in a legal history each call that asks a rule finds a CPU online.
-use Rattle.std.proofs.Common.{◌≡◌, ℕ, suc, ◌+◌, ◌<◌, ◌≤◌, ⊎_elim, Bool, true, false, true≢false, if◌then◌else◌}
-use Rattle.std.proofs.Common.{List, [], ◌∷◌, ◌++◌, length, sym, ap, ◌∙◌, subst, arith, append_assoc}
+use Rattle.std.proofs.Common.{◌≡◌, ℕ, suc, ◌+◌, ◌<◌, ◌≤◌, ⊎_elim, Bool, true, false, true≢false, if◌then◌else◌, List}
+use Rattle.std.proofs.Common.{[], ◌∷◌, ◌++◌, length, sym, ap, ◌∙◌, subst, arith, append_assoc}
 use Rattle.std.proofs.lemmas.Bool.{cases_eq}
 use Rattle.std.proofs.lemmas.List.{append-nil}
-use Rattle.vms_base.specs.declared.ids.PlaceId.{PlaceId}
-use Rattle.vms_base.specs.declared.kinds.CpuState.{CpuState}
-use Rattle.vms_base.specs.declared.kinds.CpuState.TheVariants.{Online}
-use Rattle.vms_base.specs.declared.kinds.ZoneSize.{ZoneSize}
-use Rattle.vms_base.specs.Cpus.{online_from, is_online}
-use Rattle.vms_history.specs.Events.{after}
-use Rattle.vms_history.proofs.Prefixes.{base_can_begin}
+use Rattle.vms_history.specs.Common.{PlaceId, CpuState, Online, ZoneSize, online_from, is_online, after}
+use Rattle.vms_history.proofs.Common.{base_can_begin}
 use Rattle.vms_core.specs.declared.steps.Facts.{Facts}
 use Rattle.vms_core.specs.declared.steps.Step.{Step}
 use Rattle.vms_core.specs.declared.steps.Step.TheVariants.{LoadO, SetO}
-use Rattle.vms_core.specs.Cells.{cpu_at}
-use Rattle.vms_core.specs.Pages.{pages, History}
-use Rattle.vms_core.proofs.LiveOwners.{online-stays}
-use Rattle.vms_calls.specs.HeaderFacts.{facts_of}
-use Rattle.vms_calls.specs.Lists.{in_turn}
-use Rattle.vms_calls.specs.MayMake.{HasMade}
-use Rattle.vms_calls.specs.RatingReadings.{SomeOnline, NodeFindsOnline, RefreshFindsOnline, BurialFindsOnline}
-use Rattle.vms_calls.specs.Ratings.{Choice, ByNormal, ByPressure, RatesNode}
-use Rattle.vms_calls.specs.Ratings.{Refreshes, state_steps, threshold_steps, largest_on}
-use Rattle.vms_calls.specs.TurnLaws.{TurnFindsOnline}
-use Rattle.vms_calls.specs.TurnReadings.{SettlesOnline}
-use Rattle.vms_calls.specs.Turns.{Balance, Settles}
-use Rattle.vms_calls.specs.Turns.Balance.{Yes, No}
+use Rattle.vms_core.specs.Common.{cpu_at, pages, History}
+use Rattle.vms_core.proofs.Common.{online-stays}
+use Rattle.vms_calls.specs.Common.{facts_of, in_turn, HasMade, SomeOnline, NodeFindsOnline, RefreshFindsOnline}
+use Rattle.vms_calls.specs.Common.{BurialFindsOnline, Choice, ByNormal, ByPressure, RatesNode, Refreshes, state_steps}
+use Rattle.vms_calls.specs.Common.{threshold_steps, largest_on, TurnFindsOnline, SettlesOnline, SetsAfterYes}
+use Rattle.vms_calls.specs.declared.answers.Balance.{Balance}
+use Rattle.vms_calls.specs.declared.answers.Balance.TheVariants.{Yes, No}
 use Rattle.vms_calls.proofs.Agreement.{by_last, made-last}
 
 module _ (facts : Facts) (p : ℕ) (earlier : History) where
@@ -110,7 +99,7 @@ module _ (facts : Facts) (p : ℕ) (earlier : History) where
       (subst (HasMade facts later earlier p) same has)
 
   SettlesOnline-holds : (normal : ZoneSize → ℕ → ℕ → Type 0) (n : PlaceId) (answer : Balance) (h : History)
-      (steps xs : List Step) (settles : Settles facts normal n p answer h steps) (later : History)
+      (steps xs : List Step) (settles : SetsAfterYes facts normal n p answer h steps) (later : History)
       → HasMade facts later earlier p (xs ++ steps)
       → SettlesOnline facts normal n p answer h steps settles
   SettlesOnline-holds normal n (Yes g verdict) h steps xs settles later has =

@@ -1,23 +1,17 @@
 -- A balance test names a zone that passed, and above order 0 a free block as large as was asked for.
-use Rattle.std.proofs.Common.{◌≡◌, ◌≢◌, ℕ, suc, zero, ◌≤◌, Bool, true, false, true≢false, nat_le}
-use Rattle.std.proofs.Common.{List, ◌∷◌, Option, Some, None, is_some, refl, sym, ap, ◌∙◌, arith}
+use Rattle.std.proofs.Common.{◌≡◌, ◌≢◌, ℕ, suc, zero, ◌≤◌, Bool, true, false, true≢false, nat_le, List, ◌∷◌, Option}
+use Rattle.std.proofs.Common.{Some, None, is_some, refl, sym, ap, ◌∙◌, arith}
 use Rattle.std.specs.Prelude.{All, Contains}
 use Rattle.std.proofs.lemmas.Bool.{leb-true}
 use Rattle.std.proofs.lemmas.List.Elements.{filter_passes}
-use Rattle.vms_base.specs.declared.headers.Header.{Header}
-use Rattle.vms_base.specs.declared.ids.PlaceId.{PlaceId}
-use Rattle.vms_base.specs.declared.kinds.WaterMark.{WaterMark}
-use Rattle.vms_base.specs.declared.kinds.WaterMark.TheVariants.{High}
-use Rattle.vms_base.specs.Areas.{Area, areas_of, areas_from}
-use Rattle.vms_base.specs.Watermarks.{limit_of}
+use Rattle.vms_history.specs.Common.{Header, PlaceId, WaterMark, High, Area, areas_of, areas_from, limit_of}
 use Rattle.vms_core.specs.declared.steps.Step.{Step}
-use Rattle.vms_calls.specs.Looks.{Verdict}
-use Rattle.vms_calls.specs.Ratings.{node_number}
-use Rattle.vms_calls.specs.TurnLaws.{NamesPassed}
-use Rattle.vms_calls.specs.Turns.{OrderVerdict, Balance, FindsBlock, Further, Blocks, Balances, has_room, zones_up_to}
-use Rattle.vms_calls.specs.Turns.Balance.{Yes, No}
-use Rattle.vms_calls.specs.Turns.FindsBlock.{nowhere, empty, some}
-use Rattle.vms_calls.specs.Turns.Balances.{no_zone, fails, passes}
+use Rattle.vms_calls.specs.declared.answers.Verdict.{Verdict}
+use Rattle.vms_calls.specs.Common.{node_number, BalanceNamesZone, FindsBlock, Further, LooksForBlock, Balances}
+use Rattle.vms_calls.specs.Common.{has_room, zones_up_to, nowhere, empty, some, no_zone, fails, passes}
+use Rattle.vms_calls.specs.declared.answers.OrderVerdict.{OrderVerdict}
+use Rattle.vms_calls.specs.declared.answers.Balance.{Balance}
+use Rattle.vms_calls.specs.declared.answers.Balance.TheVariants.{Yes, No}
 
 -- a block that was found is as large as was asked for
 module _ (header : Header) (g : PlaceId) (order : ℕ) where
@@ -32,7 +26,7 @@ module _ (header : Header) (g : PlaceId) (order : ℕ) where
       omega arith
 
   block-of : (room : Bool) (steps : List Step) (answer : OrderVerdict)
-      → Blocks header g order room steps answer
+      → LooksForBlock header g order room steps answer
       → answer.yes ≡ true → (o : ℕ) × (answer.area ≡ Some o) × (order ≤ o)
   block-of false steps answer blocks passed = absurd (true≢false (sym passed ∙ blocks.1))
   block-of true steps answer blocks passed = by answer.area refl
@@ -84,8 +78,8 @@ balance-named header most order gs steps answer (passes g gs' steps' verdict tes
       order test.verdict test.further verdict test.blocks passed;
 }
 
-pub NamesPassed-holds : NamesPassed
-NamesPassed-holds header n order most steps g verdict call =
+pub BalanceNamesZone-holds : BalanceNamesZone
+BalanceNamesZone-holds header n order most steps g verdict call =
     let named = balance-named header most order (zones_up_to header.layout most (node_number header.layout n)) steps
     (Yes g verdict) call in
     record { one_of = named.one_of; passed = named.passed; block = named.block }

@@ -1,21 +1,16 @@
 -- For other crates too: rating a zone leaves a mark that covers what the CPUs may hide.
-use Rattle.std.proofs.Common.{◌≡◌, ℕ, ◌+◌, Bool, true, false, ◌&&◌, nat_eq, nat_le, if◌then◌else◌, max, List}
-use Rattle.std.proofs.Common.{[], ◌∷◌, ◌++◌, length, refl, sym, ap, ◌∙◌, arith, eq-eqb, eqb-true, subst}
+use Rattle.std.proofs.Common.{◌≡◌, ℕ, ◌+◌, Bool, true, false, ◌&&◌, nat_eq, nat_le, if◌then◌else◌, max, List, [], ◌∷◌}
+use Rattle.std.proofs.Common.{◌++◌, length, refl, sym, ap, ◌∙◌, arith, eq-eqb, eqb-true, subst}
 use Rattle.std.proofs.lemmas.Bool.Decides.{nat_tests}
-use Rattle.vms_base.specs.declared.ids.CpuId.{CpuId}
-use Rattle.vms_base.specs.declared.kinds.ZoneSize.{ZoneSize}
-use Rattle.vms_base.specs.Marks.{Covers, cover_mark_of, linux_mark_of}
-use Rattle.vms_base.specs.Sizes.{gap_of, size_at}
+use Rattle.vms_history.specs.Common.{CpuId, ZoneSize, Covers, cover_mark_of, linux_mark_of, gap_of, size_at, after}
 use Rattle.vms_history.specs.declared.events.Event.{Event}
-use Rattle.vms_history.specs.Events.{after}
 use Rattle.vms_core.specs.declared.steps.Facts.{Facts}
 use Rattle.vms_core.specs.declared.steps.Step.{Step}
 use Rattle.vms_core.specs.declared.steps.Step.TheVariants.{SetM}
-use Rattle.vms_calls.specs.Ratings.{RatingCovers, mark_left, threshold_steps, mark_for}
-use Rattle.vms_core.specs.Pages.{History}
-use Rattle.vms_core.specs.Peaks.{sets, sets_after, threshold_in, threshold_after, peak}
-use Rattle.vms_core.specs.Peaks.{peak_after, cpu_in, cpu_after, if_present, peak_sum}
-use Rattle.vms_history.proofs.CountLemmas.{count_below-same}
+use Rattle.vms_calls.specs.Common.{RatingCovers, mark_left, threshold_steps, mark_for}
+use Rattle.vms_core.specs.Common.{History, sets, sets_after, threshold_in, threshold_after, peak, peak_after, cpu_in}
+use Rattle.vms_core.specs.Common.{cpu_after, if_present, peak_sum}
+use Rattle.vms_history.proofs.Common.{count_below-same}
 
 pub cover_mark-covers : (size : ZoneSize) (linux hidden : ℕ) → Covers size (cover_mark_of size linux hidden) hidden
 cover_mark-covers size linux hidden = by (nat_eq linux 0) (nat_le hidden (gap_of size)) refl

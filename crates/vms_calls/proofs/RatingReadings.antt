@@ -1,25 +1,18 @@
 -- For other crates too: the steps of the calls that set thresholds, and of a burial, tell where they end.
-use Rattle.std.proofs.Common.{◌≡◌, ℕ, suc, ◌+◌, ◌≤◌, Bool, true, false, nat_eq, if◌then◌else◌, List, []}
-use Rattle.std.proofs.Common.{◌∷◌, ◌++◌, length, Option, refl, sym, ap, ◌∙◌, arith, append_assoc, ne_eqb}
-use Rattle.vms_base.specs.declared.ids.CpuId.{CpuId}
-use Rattle.vms_base.specs.declared.kinds.CpuState.{CpuState}
-use Rattle.vms_base.specs.declared.kinds.ZoneSize.{ZoneSize}
-use Rattle.vms_base.specs.Cpus.{online_from, is_online}
-use Rattle.vms_history.specs.Events.{after}
+use Rattle.std.proofs.Common.{◌≡◌, ℕ, suc, ◌+◌, ◌≤◌, Bool, true, false, nat_eq, if◌then◌else◌, List, [], ◌∷◌, ◌++◌}
+use Rattle.std.proofs.Common.{length, Option, refl, sym, ap, ◌∙◌, arith, append_assoc, ne_eqb}
+use Rattle.vms_history.specs.Common.{CpuId, CpuState, ZoneSize, online_from, is_online, after}
 use Rattle.vms_core.specs.declared.steps.Facts.{Facts}
 use Rattle.vms_core.specs.declared.steps.Step.{Step}
 use Rattle.vms_core.specs.declared.steps.Step.TheVariants.{LoadM, SetM, SetO}
-use Rattle.vms_core.specs.Pages.{History}
-use Rattle.vms_calls.specs.Lists.{in_turn}
-use Rattle.vms_calls.specs.RatingReadings.{TellsNodeRating, TellsRefresh, TellsBurial, counted, read_states, read_mark}
-use Rattle.vms_calls.specs.RatingReadings.{without_sets, without_rating, without_marked, without_visits, without_rated}
-use Rattle.vms_calls.specs.RatingReadings.{without_ratings, without_nodes, read_zones_of, read_node_rating, read_all}
-use Rattle.vms_calls.specs.RatingReadings.{read_refresh, read_removal, read_burial}
-use Rattle.vms_calls.specs.Ratings.{Choice, ByNormal, Rates, RatesMarked, Visits}
-use Rattle.vms_calls.specs.Ratings.{VisitsEach, acknowledged_steps, state_steps, threshold_steps, mark_for}
-use Rattle.vms_calls.specs.Ratings.{rating_steps, node_number, numbers_below, zones_on, largest_on}
-use Rattle.vms_calls.specs.Ratings.RatesMarked.{unmarked, marked}
-use Rattle.vms_calls.specs.Ratings.VisitsEach.{none, next}
+use Rattle.vms_core.specs.Common.{History}
+use Rattle.vms_calls.specs.Common.{in_turn, TellsNodeRating, TellsRefresh, TellsBurial, counted_online, read_states}
+use Rattle.vms_calls.specs.Common.{read_mark, without_sets, without_rating, without_marked, without_visits}
+use Rattle.vms_calls.specs.Common.{without_rated, without_ratings, without_nodes, read_zones_of, read_node_rating}
+use Rattle.vms_calls.specs.Common.{read_all, read_refresh, read_removal, read_burial, Choice, ByNormal, Rates}
+use Rattle.vms_calls.specs.Common.{RatesMarked, Visits, VisitsEach, acknowledged_steps, state_steps, threshold_steps}
+use Rattle.vms_calls.specs.Common.{mark_for, rating_steps, node_number, numbers_below, zones_on, largest_on, unmarked}
+use Rattle.vms_calls.specs.Common.{marked, none, next}
 use Rattle.vms_calls.proofs.FoldReadings.{fold-told}
 
 -- the loads of the CPUs' states
@@ -27,9 +20,9 @@ states-told : (c : ℕ) (states : List CpuState) (rest : List Step)
     → read_states (length states) (in_turn state_steps c states ++ rest) ≡ (length (online_from c states), rest)
 states-told c [] rest = refl
 states-told c (x ∷ xs) rest =
-    ap (counted (is_online x)) (states-told (suc c) xs rest) ∙ by (is_online x)
+    ap (counted_online (is_online x)) (states-told (suc c) xs rest) ∙ by (is_online x)
   where
-    by : (b : Bool) → counted b (length (online_from (suc c) xs), rest)
+    by : (b : Bool) → counted_online b (length (online_from (suc c) xs), rest)
         ≡ (length (if b then record { number = c } ∷ online_from (suc c) xs else online_from (suc c) xs), rest)
     by true = refl
     by false = refl
@@ -93,31 +86,33 @@ module _ (facts : Facts) (Chooses : Choice) (p : ℕ) (online : List CpuId) (fou
       ap read_mark parts
       ∙ read_mark-skips z visit.mark.mark visit.mark.number online visit.numbers (visit.further ++ rest)
 
+  -- visits of zones, of which each is told by `one` once its mark is read, and all by `skip`
+  module _ (Rated : ℕ → ℕ → ℕ → History → List Step → Type 0) (one : ℕ × List Step → List Step)
+      (skip : List ℕ → List Step → List Step) (skip_none : (ks : List Step) → skip [] ks ≡ ks)
+      (skip_next : (g : ℕ) (gs : List ℕ) (ks : List Step) → skip (g ∷ gs) ks ≡ skip gs (one (read_mark ks)))
+      (told : (z t m : ℕ) (h : History) (steps : List Step) → Rated z t m h steps → (rest : List Step)
+      → one (m, steps ++ rest) ≡ rest) where
+    each-told : (gs ts : List ℕ) (h : History) (steps : List Step) → VisitsEach facts p online Rated gs ts h steps
+        → (rest : List Step) → skip gs (steps ++ rest) ≡ rest
+    each-told gs ts h steps (none g) rest = skip_none rest
+    each-told gs ts h steps (next z t gs' ts' g first more visit visits) rest =
+        skip_next z gs' ((first ++ more) ++ rest)
+        ∙ ap (λ ks. skip gs' (one (read_mark ks))) (append_assoc first more rest)
+        ∙ ap (λ (found : ℕ × List Step). skip gs' (one found)) (visit-told Rated z t g first visit (more ++ rest))
+        ∙ ap (skip gs') (told z t visit.mark.mark (after p visit.loads g) visit.further visit.rated (more ++ rest))
+        ∙ each-told gs' ts' (after p first g) more visits rest
+
   visits-told : (gs ts : List ℕ) (h : History) (steps : List Step)
       → VisitsEach facts p online (RatesMarked facts p online Chooses) gs ts h steps
       → (rest : List Step) → without_visits (length online) gs (steps ++ rest) ≡ rest
-  visits-told gs ts h steps (none g) rest = refl
-  visits-told gs ts h steps (next z t gs' ts' g first more visit visits) rest =
-      ap (λ ks. without_visits (length online) gs' (without_marked (length online) (read_mark ks)))
-      (append_assoc first more rest)
-      ∙ ap (λ (told : ℕ × List Step). without_visits (length online) gs' (without_marked (length online) told))
-      (visit-told (RatesMarked facts p online Chooses) z t g first visit (more ++ rest))
-      ∙ ap (without_visits (length online) gs')
-      (marked-told z t visit.mark.mark (after p visit.loads g) visit.further visit.rated (more ++ rest))
-      ∙ visits-told gs' ts' (after p first g) more visits rest
+  visits-told = each-told (RatesMarked facts p online Chooses) (without_marked (length online))
+      (without_visits (length online)) (λ ks. refl) (λ g gs ks. refl) marked-told
 
   ratings-told : (gs ts : List ℕ) (h : History) (steps : List Step)
       → VisitsEach facts p online (Rates facts p online Chooses) gs ts h steps
       → (rest : List Step) → without_ratings (length online) gs (steps ++ rest) ≡ rest
-  ratings-told gs ts h steps (none g) rest = refl
-  ratings-told gs ts h steps (next z t gs' ts' g first more visit visits) rest =
-      ap (λ ks. without_ratings (length online) gs' (without_rated (length online) (read_mark ks)))
-      (append_assoc first more rest)
-      ∙ ap (λ (told : ℕ × List Step). without_ratings (length online) gs' (without_rated (length online) told))
-      (visit-told (Rates facts p online Chooses) z t g first visit (more ++ rest))
-      ∙ ap (without_ratings (length online) gs')
-      (rated-told z t visit.mark.mark (after p visit.loads g) visit.further visit.rated (more ++ rest))
-      ∙ ratings-told gs' ts' (after p first g) more visits rest
+  ratings-told = each-told (Rates facts p online Chooses) (without_rated (length online))
+      (without_ratings (length online)) (λ ks. refl) (λ g gs ks. refl) rated-told
 
 nodes-told : (online : List CpuId) (first : ℕ) (largest : ℕ → ℕ) (i : ℕ) (nodes : List ℕ) (rest : List Step)
     → without_nodes (length online) nodes

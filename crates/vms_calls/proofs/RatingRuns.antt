@@ -1,27 +1,20 @@
 -- The steps that rate zones and nodes meet their conditions in a row.
-use Rattle.std.proofs.Common.{◌≡◌, ℕ, suc, zero, ◌+◌, ◌*◌, ◌^◌, ◌<◌, ◌≤◌, Bool, true, false}
-use Rattle.std.proofs.Common.{◌&&◌, nat_eq, nat_le, nat_lt, max, if◌then◌else◌, List, [], ◌∷◌, ◌++◌, length, None}
-use Rattle.std.proofs.Common.{◌⊎◌, inl, inr, refl, sym, ◌∙◌, subst, arith, eq-eqb, eqb-true}
+use Rattle.std.proofs.Common.{◌≡◌, ℕ, suc, zero, ◌+◌, ◌*◌, ◌^◌, ◌<◌, ◌≤◌, Bool, true, false, ◌&&◌, nat_eq, nat_le}
+use Rattle.std.proofs.Common.{nat_lt, max, if◌then◌else◌, List, [], ◌∷◌, ◌++◌, length, None, ◌⊎◌, inl, inr, refl, sym}
+use Rattle.std.proofs.Common.{◌∙◌, subst, arith, eq-eqb, eqb-true}
 use Rattle.std.proofs.lemmas.Bool.Decides.{nat_tests}
 use Rattle.std.proofs.Math.Nat.{mul-le-mul_left}
-use Rattle.vms_base.specs.declared.ids.CpuId.{CpuId}
-use Rattle.vms_base.specs.declared.kinds.CpuState.{CpuState}
-use Rattle.vms_base.specs.declared.kinds.CpuState.TheVariants.{Online, Dead, Absent}
-use Rattle.vms_base.specs.declared.kinds.ZoneSize.{ZoneSize}
-use Rattle.vms_base.specs.Marks.{Covers, cover_mark_of, linux_mark_of}
-use Rattle.vms_base.specs.Places.{IsLayout, IsCpu, IsPlace, IsZone}
-use Rattle.vms_base.specs.Sizes.{IsValidSize, gap_of, size_at}
-use Rattle.vms_base.specs.Thresholds.{most_threshold}
-use Rattle.vms_history.specs.Events.{after}
+use Rattle.vms_history.specs.Common.{CpuId, CpuState, Online, Dead, Absent, ZoneSize, Covers, cover_mark_of}
+use Rattle.vms_history.specs.Common.{linux_mark_of, IsLayout, IsCpu, IsPlace, IsZone, IsValidSize, gap_of, size_at}
+use Rattle.vms_history.specs.Common.{most_threshold, after}
 use Rattle.vms_core.specs.declared.steps.Facts.{Facts}
 use Rattle.vms_core.specs.declared.steps.Step.{Step}
 use Rattle.vms_core.specs.declared.steps.Step.TheVariants.{SetT, SetM}
-use Rattle.vms_calls.specs.Ratings.{threshold_steps, mark_for, rating_steps}
-use Rattle.vms_core.specs.Pages.{History}
-use Rattle.vms_core.specs.Peaks.{peak, peak_sum, cpu_in, if_present}
+use Rattle.vms_calls.specs.Common.{threshold_steps, mark_for, rating_steps}
+use Rattle.vms_core.specs.Common.{History, peak, peak_sum, cpu_in, if_present}
 use Rattle.vms_calls.proofs.Agreement.{event, mark_in}
-use Rattle.vms_history.proofs.CountLemmas.{count_below-least, count_below-most}
-use Rattle.vms_core.proofs.MarkCovers.{if_present-least, Covers-less}
+use Rattle.vms_history.proofs.Common.{count_below-least, count_below-most}
+use Rattle.vms_core.proofs.Common.{if_present-least, Covers-less}
 use Rattle.vms_calls.proofs.RatingCovers.{SamePeaks-after, peak_sum-same, cover_mark-covers}
 use Rattle.vms_calls.proofs.StepRuns.{Runs, Knows}
 

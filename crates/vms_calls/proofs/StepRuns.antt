@@ -1,44 +1,24 @@
 -- The condition of each step by the history in which a pass's steps stand in a row, and that the steps may then be made
 -- while others act.
-use Rattle.std.proofs.Common.{◌≡◌, ◌≢◌, ℕ, ◌+◌, ◌≤◌, ℤ, List, [], ◌∷◌, ◌++◌}
-use Rattle.std.proofs.Common.{unsigned_abs, Option, Some, None, sym, ap, ◌∙◌, subst, arith, ⊎_elim}
-use Rattle.vms_base.specs.declared.groups.Diffs.{Diffs}
-use Rattle.vms_base.specs.declared.ids.CounterId.{CounterId}
-use Rattle.vms_base.specs.declared.ids.CpuId.{CpuId}
-use Rattle.vms_base.specs.declared.ids.GroupId.{GroupId}
-use Rattle.vms_base.specs.declared.ids.PlaceId.{PlaceId}
-use Rattle.vms_base.specs.declared.kinds.CpuState.TheVariants.{Online, Dead}
-use Rattle.vms_base.specs.Marks.{Covers}
-use Rattle.vms_base.specs.Places.{IsCpu, IsPlace, IsZone, IsCounter, IsItem, IsGroup, place_of, group_of}
-use Rattle.vms_base.specs.Thresholds.{most_threshold}
-use Rattle.vms_history.specs.Events.{own, after}
-use Rattle.vms_history.specs.Legal.{Acts}
-use Rattle.vms_history.specs.Passes.{owner, owner_in}
-use Rattle.vms_history.specs.Passes.Role.{Works}
-use Rattle.vms_history.proofs.Own.{own-after_others}
-use Rattle.vms_history.proofs.PassLaws.{live_is_given}
+use Rattle.std.proofs.Common.{◌≡◌, ◌≢◌, ℕ, ◌+◌, ◌≤◌, ℤ, List, [], ◌∷◌, ◌++◌, unsigned_abs, Option, Some, None, sym, ap}
+use Rattle.std.proofs.Common.{◌∙◌, subst, arith, ⊎_elim}
+use Rattle.vms_history.specs.Common.{Diffs, CounterId, CpuId, GroupId, PlaceId, Online, Dead, Covers, IsCpu, IsPlace}
+use Rattle.vms_history.specs.Common.{IsZone, IsCounter, IsItem, IsGroup, place_of, group_of, most_threshold, own, after}
+use Rattle.vms_history.specs.Common.{Acts, owner, owner_in, Works, size_at, most_volume}
+use Rattle.vms_history.proofs.Common.{own-after_others, live_is_given}
 use Rattle.vms_core.specs.declared.steps.Facts.{Facts}
 use Rattle.vms_core.specs.declared.steps.Step.{Step}
 use Rattle.vms_core.specs.declared.steps.Step.TheVariants.{LoadT, LoadD, Put, Miss, AddG, AddS, Take, LoadG, LoadS}
 use Rattle.vms_core.specs.declared.steps.Step.TheVariants.{LoadM, LoadO, SetT, SetM, SetO, SetA, LoadA, Split, Join}
-use Rattle.vms_base.specs.Sizes.{size_at}
-use Rattle.vms_core.specs.Cells.{TellsGroup, mark_at, cpu_at}
-use Rattle.vms_core.specs.Conditions.{Meets, AddsToPlace, AddsToSystem, Acknowledges, SetsMark, IsControl}
-use Rattle.vms_base.specs.Volumes.{most_volume}
-use Rattle.vms_core.specs.Knowledge.{MayExchange, HasTakenAll}
-use Rattle.vms_calls.specs.MayMake.{HasMade, Tells, MayMake, IsLivePass}
-use Rattle.vms_core.specs.Own.{CarriesNothing, carried, carried_of_item, found, loaded, took, has_put}
-use Rattle.vms_core.specs.Pages.{pages, History, IsLegal, state_after}
-use Rattle.vms_core.specs.Peaks.{peak, peak_sum, cpu_in}
-use Rattle.vms_core.specs.Steps.{role}
-use Rattle.vms_core.specs.Totals.{spent}
+use Rattle.vms_core.specs.Common.{TellsGroup, mark_at, cpu_at, Meets, AddsToPlace, AddsToSystem, Acknowledges, SetsMark}
+use Rattle.vms_core.specs.Common.{IsControl, MayExchange, HasTakenAll, CarriesNothing, carried, carried_of_item, found}
+use Rattle.vms_core.specs.Common.{loaded, took, has_put, pages, History, IsLegal, state_after, peak, peak_sum, cpu_in}
+use Rattle.vms_core.specs.Common.{role, spent}
+use Rattle.vms_calls.specs.Common.{HasMade, Tells, MayMake, IsLivePass}
 use Rattle.vms_calls.proofs.Agreement.{Agrees, by_last, event, mark_in, mark_at-told, made-last, made-agrees}
-use Rattle.vms_core.proofs.ControlSteps.{SetsAbsent-taken}
-use Rattle.vms_core.proofs.Exchanges.{put-follows, miss-follows, zeros-win}
-use Rattle.vms_core.proofs.LiveOwners.{owned-online}
-use Rattle.vms_core.proofs.PeakBounds.{peaks-in_range}
+use Rattle.vms_core.proofs.Common.{SetsAbsent-taken, put-follows, miss-follows, zeros-win, owned-online, peaks-in_range}
+use Rattle.vms_core.proofs.Common.{cpu_at-state_after}
 use Rattle.vms_calls.proofs.RatingCovers.{SamePeaks-next, peak_sum-same}
-use Rattle.vms_core.proofs.Settings.{cpu_at-state_after}
 
 module _ (facts : Facts) (p : ℕ) where
   -- the pass may exchange the list that it found

@@ -1,22 +1,15 @@
 -- What a caller took and loaded, by the steps that take groups and add to global values.
-use Rattle.std.proofs.Common.{◌≡◌, ℕ, suc, ◌+◌, ◌<◌, ◌≤◌, zero, ◌⊎◌, inl, inr, ⊎_elim, ◌&&◌, Bool, true}
-use Rattle.std.proofs.Common.{nat_eq, if◌then◌else◌, ℤ, pos, negsuc, List, [], ◌∷◌, ◌++◌, length, refl, arith, eq-eqb}
+use Rattle.std.proofs.Common.{◌≡◌, ℕ, suc, ◌+◌, ◌<◌, ◌≤◌, zero, ◌⊎◌, inl, inr, ⊎_elim, ◌&&◌, Bool, true, nat_eq}
+use Rattle.std.proofs.Common.{if◌then◌else◌, ℤ, pos, negsuc, List, [], ◌∷◌, ◌++◌, length, refl, arith, eq-eqb}
 use Rattle.std.proofs.lemmas.Bool.{cases_eq}
-use Rattle.vms_base.specs.declared.groups.Diffs.{Diffs}
-use Rattle.vms_base.specs.declared.ids.CpuId.{CpuId}
-use Rattle.vms_base.specs.Places.{Shape, first_of}
+use Rattle.vms_history.specs.Common.{Diffs, CpuId, Shape, first_of_group, after}
 use Rattle.vms_history.specs.declared.events.Event.{Event}
-use Rattle.vms_history.specs.Events.{after}
 use Rattle.vms_core.specs.declared.steps.Facts.{Facts}
 use Rattle.vms_core.specs.declared.steps.Step.{Step}
 use Rattle.vms_core.specs.declared.steps.Step.TheVariants.{AddG, AddS, Take}
-use Rattle.vms_calls.specs.Folds.{to_place, group_steps}
-use Rattle.vms_calls.specs.Lists.{in_turn}
-use Rattle.vms_core.specs.Own.{loaded, took, has_put}
-use Rattle.vms_core.specs.Pages.{History}
-use Rattle.vms_core.specs.Peaks.{cpu_in}
-use Rattle.vms_core.specs.Taken.{has_taken}
-use Rattle.vms_history.proofs.Choices.{if-either}
+use Rattle.vms_calls.specs.Common.{to_place, group_steps, in_turn}
+use Rattle.vms_core.specs.Common.{loaded, took, has_put, History, cpu_in, has_taken}
+use Rattle.vms_history.proofs.Common.{if-either}
 
 -- steps that take groups and add to global values
 abbrev pub OnlyMoves : List Step → Type 0
@@ -132,8 +125,9 @@ only-adds n (negsuc d ∷ ds) = only-adds (suc n) ds
 
 pub only-groups : (c : CpuId) (j : ℕ) (ws : List Diffs) → OnlyMoves (in_turn (group_steps c) j ws)
 only-groups c j [] = tt
-only-groups c j (w ∷ ws) = only-append (in_turn to_place (first_of j) w.values) (in_turn (group_steps c) (suc j) ws)
-    (only-adds (first_of j) w.values) (only-groups c (suc j) ws)
+only-groups c j (w ∷ ws) =
+    only-append (in_turn to_place (first_of_group j) w.values) (in_turn (group_steps c) (suc j) ws)
+    (only-adds (first_of_group j) w.values) (only-groups c (suc j) ws)
 
 pub has-group : (c : CpuId) (first : ℕ) (ws : List Diffs) (j : ℕ) → first ≤ j → j < first + length ws
     → HasTake c.number j (in_turn (group_steps c) first ws)
@@ -145,5 +139,5 @@ has-group c first (w ∷ ws) j from to =
         → HasTake c.number j (in_turn (group_steps c) first (w ∷ ws))
     by (inl here) rest = inl (refl, here)
     by (inr other) rest =
-        inr (has-right c.number j (in_turn to_place (first_of first) w.values)
+        inr (has-right c.number j (in_turn to_place (first_of_group first) w.values)
         (in_turn (group_steps c) (suc first) ws) (rest (omega arith)))

@@ -1,30 +1,20 @@
 -- For other crates too: the steps of a test of a zone for an order, of a balance test and of a turn tell their answers.
-use Rattle.std.proofs.Common.{◌≡◌, ℕ, suc, zero, Bool, true, false, nat_eq, if◌then◌else◌, List, ◌∷◌}
-use Rattle.std.proofs.Common.{◌++◌, Option, None, is_some, refl, sym, ap, ◌∙◌, append_assoc, ne_eqb}
-use Rattle.vms_base.specs.declared.headers.Header.{Header}
-use Rattle.vms_base.specs.declared.ids.PlaceId.{PlaceId}
-use Rattle.vms_base.specs.declared.kinds.WaterMark.{WaterMark}
-use Rattle.vms_base.specs.declared.kinds.WaterMark.TheVariants.{High}
-use Rattle.vms_base.specs.declared.kinds.ZoneSize.{ZoneSize}
-use Rattle.vms_base.specs.Areas.{Area, areas_of, areas_from}
-use Rattle.vms_base.specs.Places.{Shape}
-use Rattle.vms_base.specs.Watermarks.{limit_of}
-use Rattle.vms_history.specs.Events.{after}
+use Rattle.std.proofs.Common.{◌≡◌, ℕ, suc, zero, Bool, true, false, nat_eq, if◌then◌else◌, List, ◌∷◌, ◌++◌, Option}
+use Rattle.std.proofs.Common.{None, is_some, refl, sym, ap, ◌∙◌, append_assoc, ne_eqb}
+use Rattle.vms_history.specs.Common.{Header, PlaceId, WaterMark, High, ZoneSize, Area, areas_of, areas_from, Shape}
+use Rattle.vms_history.specs.Common.{limit_of, after}
 use Rattle.vms_core.specs.declared.states.State.{State}
 use Rattle.vms_core.specs.declared.steps.Step.{Step}
-use Rattle.vms_core.specs.Pages.{History}
-use Rattle.vms_calls.specs.HeaderFacts.{facts_of}
-use Rattle.vms_calls.specs.LookReadings.{read_snapshot}
-use Rattle.vms_calls.specs.Looks.{Verdict}
-use Rattle.vms_calls.specs.Ratings.{ByNormal, ByPressure, node_number}
-use Rattle.vms_calls.specs.TurnReadings.{TellsOrderTest, TellsBalance, TellsTurn, SettlesOnline, block_or}
-use Rattle.vms_calls.specs.TurnReadings.{read_blocks, without_blocks, with_blocks, read_areas, read_order_test}
-use Rattle.vms_calls.specs.TurnReadings.{passed_or, read_zones, read_balance, settled_read, read_turn}
-use Rattle.vms_calls.specs.Turns.{OrderVerdict, Balance, FindsBlock, Further, Blocks}
-use Rattle.vms_calls.specs.Turns.{Balances, Settles, blocks_at, has_room, zones_up_to}
-use Rattle.vms_calls.specs.Turns.FindsBlock.{nowhere, empty, some}
-use Rattle.vms_calls.specs.Turns.Balances.{no_zone, fails, passes}
-use Rattle.vms_calls.specs.Turns.Balance.{Yes, No}
+use Rattle.vms_core.specs.Common.{History}
+use Rattle.vms_calls.specs.Common.{facts_of, read_snapshot, ByNormal, ByPressure, node_number, TellsOrderTest}
+use Rattle.vms_calls.specs.Common.{TellsBalance, TellsTurn, SettlesOnline, block_or, read_blocks, without_blocks}
+use Rattle.vms_calls.specs.Common.{with_blocks, read_areas, read_order_test, passed_or, read_zones, read_balance}
+use Rattle.vms_calls.specs.Common.{settled_read, read_turn, FindsBlock, Further, LooksForBlock, Balances, SetsAfterYes}
+use Rattle.vms_calls.specs.Common.{blocks_at, has_room, zones_up_to, nowhere, empty, some, no_zone, fails, passes}
+use Rattle.vms_calls.specs.declared.answers.Verdict.{Verdict}
+use Rattle.vms_calls.specs.declared.answers.OrderVerdict.{OrderVerdict}
+use Rattle.vms_calls.specs.declared.answers.Balance.{Balance}
+use Rattle.vms_calls.specs.declared.answers.Balance.TheVariants.{Yes, No}
 use Rattle.vms_calls.proofs.LookReadings.{snapshot-told, test-told}
 use Rattle.vms_calls.proofs.RatingReadings.{node-told}
 
@@ -56,7 +46,7 @@ module _ (shape : Shape) (g : PlaceId) where
 -- what a test of a watermark leaves to a test for an order, in a header's zone
 module _ (header : Header) (g : PlaceId) (mark : WaterMark) (most : ℕ) (verdict : Verdict) (answer : OrderVerdict)
     (free : answer.free ≡ verdict.free) (fast : answer.fast ≡ verdict.fast) (rest : List Step) where
-  blocks-read : (n : ℕ) (room : Bool) (steps : List Step) → Blocks header g n room steps answer
+  blocks-read : (n : ℕ) (room : Bool) (steps : List Step) → LooksForBlock header g n room steps answer
       → (if room
       then with_blocks verdict (read_blocks header.layout g (areas_from n (areas_of header.items)) (steps ++ rest))
       else without_blocks false verdict (steps ++ rest))
@@ -106,7 +96,7 @@ balance-told header n order most steps answer call rest =
 
 module _ (header : Header) (base : State) (normal : ZoneSize → ℕ → ℕ → Type 0) (n : PlaceId) (p : ℕ) where
   settled-told : (answer : Balance) (h : History) (steps : List Step)
-      (settles : Settles (facts_of header base) normal n p answer h steps)
+      (settles : SetsAfterYes (facts_of header base) normal n p answer h steps)
       → SettlesOnline (facts_of header base) normal n p answer h steps settles
       → (rest : List Step) → settled_read header n (answer, steps ++ rest) ≡ (answer, rest)
   settled-told (Yes g verdict) h steps settles found rest =

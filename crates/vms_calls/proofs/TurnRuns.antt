@@ -1,39 +1,25 @@
 -- The steps of a test for an order, of a balance test and of a turn may be made.
-use Rattle.std.proofs.Common.{ℕ, suc, zero, ◌<◌, Bool, true, false, nat_eq, nat_le, map}
-use Rattle.std.proofs.Common.{List, ◌++◌, length, Option, None, get_or, sym, subst, arith}
+use Rattle.std.proofs.Common.{ℕ, suc, zero, ◌<◌, Bool, true, false, nat_eq, nat_le, map, List, ◌++◌, length, Option}
+use Rattle.std.proofs.Common.{None, get_or, sym, subst, arith}
 use Rattle.std.specs.Prelude.{All}
 use Rattle.std.proofs.lemmas.List.Elements.{All-filter, All-head, All-tail}
-use Rattle.vms_base.specs.declared.headers.Header.{Header}
-use Rattle.vms_base.specs.declared.ids.CpuId.{CpuId}
-use Rattle.vms_base.specs.declared.ids.PlaceId.{PlaceId}
-use Rattle.vms_base.specs.declared.kinds.WaterMark.{WaterMark}
-use Rattle.vms_base.specs.declared.kinds.WaterMark.TheVariants.{High}
-use Rattle.vms_base.specs.declared.kinds.ZoneName.{ZoneName}
-use Rattle.vms_base.specs.declared.kinds.ZoneSize.{ZoneSize}
-use Rattle.vms_base.specs.Areas.{Area, areas_of, areas_from}
-use Rattle.vms_base.specs.Headers.{IsHeader}
-use Rattle.vms_base.specs.Places.{IsLayout, IsZone, zone_index, node_of_zone}
-use Rattle.vms_base.specs.Sizes.{IsValidSize, size_at}
-use Rattle.vms_base.specs.Thresholds.{GivesThresholds}
-use Rattle.vms_base.specs.Watermarks.{limit_of}
-use Rattle.vms_history.specs.Events.{after}
-use Rattle.vms_history.specs.Passes.{owner_in}
-use Rattle.vms_history.proofs.Own.{after-steps}
+use Rattle.vms_history.specs.Common.{Header, CpuId, PlaceId, WaterMark, High, ZoneName, ZoneSize, Area, areas_of}
+use Rattle.vms_history.specs.Common.{areas_from, IsHeader, IsLayout, IsZone, zone_index, node_of_zone, IsValidSize}
+use Rattle.vms_history.specs.Common.{size_at, GivesThresholds, limit_of, after, owner_in}
+use Rattle.vms_history.proofs.Common.{after-steps}
 use Rattle.vms_core.specs.declared.states.State.{State}
 use Rattle.vms_core.specs.declared.steps.Facts.{Facts}
 use Rattle.vms_core.specs.declared.steps.Step.{Step}
-use Rattle.vms_core.specs.Pages.{History}
-use Rattle.vms_core.specs.Steps.{role}
-use Rattle.vms_core.proofs.CounterRanges.{counter_at-known}
-use Rattle.vms_calls.specs.HeaderFacts.{facts_of}
-use Rattle.vms_calls.specs.Looks.{Verdict}
-use Rattle.vms_calls.specs.MayCall.{MakesOrderTest, MakesBalanceTest, MakesTurn}
-use Rattle.vms_calls.specs.Ratings.{ByNormal, ByPressure, node_number, numbers_below, zones_on}
-use Rattle.vms_calls.specs.Turns.{OrderVerdict, Balance, FindsBlock, Further, Blocks, Balances, IsOrderTest}
-use Rattle.vms_calls.specs.Turns.{IsBalanceTest, IsTurn, Settles, has_room, blocks_at, zones_up_to}
-use Rattle.vms_calls.specs.Turns.Balance.{Yes, No}
-use Rattle.vms_calls.specs.Turns.FindsBlock.{nowhere, empty, some}
-use Rattle.vms_calls.specs.Turns.Balances.{no_zone, fails, passes}
+use Rattle.vms_core.specs.Common.{History, role}
+use Rattle.vms_core.proofs.Common.{counter_at-known}
+use Rattle.vms_calls.specs.Common.{facts_of, MakesOrderTest, MakesBalanceTest, MakesTurn, ByNormal, ByPressure}
+use Rattle.vms_calls.specs.Common.{node_number, numbers_below, zones_on, FindsBlock, Further, LooksForBlock, Balances}
+use Rattle.vms_calls.specs.Common.{IsOrderTest, IsBalanceTest, IsTurn, SetsAfterYes, has_room, blocks_at, zones_up_to}
+use Rattle.vms_calls.specs.Common.{nowhere, empty, some, no_zone, fails, passes}
+use Rattle.vms_calls.specs.declared.answers.Verdict.{Verdict}
+use Rattle.vms_calls.specs.declared.answers.OrderVerdict.{OrderVerdict}
+use Rattle.vms_calls.specs.declared.answers.Balance.{Balance}
+use Rattle.vms_calls.specs.declared.answers.Balance.TheVariants.{Yes, No}
 use Rattle.vms_calls.proofs.AreaItems.{AreItems, areas-items}
 use Rattle.vms_calls.proofs.ChoiceRanges.{normal-gives, pressure-gives}
 use Rattle.vms_calls.proofs.ControlCalls.{valid_sizes, control-may}
@@ -78,7 +64,7 @@ module _ (header : Header) (valid : IsHeader header) (base : State) (p : ℕ) (w
 
   blocks-runs : (g : PlaceId) → IsZone header.layout g.number
       → (n : ℕ) (room : Bool) (steps : List Step) (answer : OrderVerdict) (h : History)
-      → Blocks header g n room steps answer → MayHere steps h
+      → LooksForBlock header g n room steps answer → MayHere steps h
   blocks-runs g zone n true steps answer h blocks =
       finds-runs (facts_of header base) valid.is_layout p who g zone (areas_from n (areas_of header.items)) steps
       answer.area h
@@ -147,7 +133,7 @@ module _ (pressure normal : ZoneSize → ℕ → ℕ → Type 0) (pressures : Gi
     (normals : GivesThresholds normal) (header : Header) (valid : IsHeader header) (base : State)
     (size : (z : ℕ) → IsZone header.layout z → IsValidSize (size_at header.sizes z)) (p : ℕ) (n : PlaceId) where
   settles-runs : (answer : Balance) (h : History) (steps : List Step)
-      → Settles (facts_of header base) normal n p answer h steps → MayHere header valid base p None steps h
+      → SetsAfterYes (facts_of header base) normal n p answer h steps → MayHere header valid base p None steps h
   settles-runs (Yes g verdict) h steps settles =
       node-runs (facts_of header base) valid.is_layout size p (ByNormal normal) (normal-gives normal normals)
       n h steps settles
@@ -164,7 +150,7 @@ module _ (pressure normal : ZoneSize → ℕ → ℕ → Type 0) (pressures : Gi
       (may-append facts valid.is_layout p None call.test call.further (after p call.pressed h)
       (balance-runs header valid base p None n order most call.test answer (after p call.pressed h) call.tests)
       (settles-runs answer (after p call.test (after p call.pressed h)) call.further
-      (subst (λ now. Settles facts normal n p answer now call.further) (after-steps p call.pressed call.test h)
+      (subst (λ now. SetsAfterYes facts normal n p answer now call.further) (after-steps p call.pressed call.test h)
       call.settles))))
 
 pub turn-may : (pressure normal : ZoneSize → ℕ → ℕ → Type 0) → GivesThresholds pressure → GivesThresholds normal

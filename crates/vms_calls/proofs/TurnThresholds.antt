@@ -1,30 +1,19 @@
 -- For other crates too: which thresholds the steps of a turn leave.
-use Rattle.std.proofs.Common.{◌≡◌, ◌≢◌, ℕ, suc, zero, ◌&&◌, inl, inr, ⊎_elim, Bool, true}
-use Rattle.std.proofs.Common.{false, nat_eq, if◌then◌else◌, List, [], ◌∷◌, ◌++◌, length, Option, Some, None}
-use Rattle.std.proofs.Common.{refl, sym, ap, ◌∙◌, subst, arith, append_assoc, eq-eqb, ne_eqb}
+use Rattle.std.proofs.Common.{◌≡◌, ◌≢◌, ℕ, suc, zero, ◌&&◌, inl, inr, ⊎_elim, Bool, true, false, nat_eq, if◌then◌else◌}
+use Rattle.std.proofs.Common.{List, [], ◌∷◌, ◌++◌, length, Option, Some, None, refl, sym, ap, ◌∙◌, subst, arith}
+use Rattle.std.proofs.Common.{append_assoc, eq-eqb, ne_eqb}
 use Rattle.std.specs.Prelude.{Contains}
 use Rattle.std.proofs.lemmas.Bool.{and_right, cases_eq}
-use Rattle.vms_base.specs.declared.ids.CpuId.{CpuId}
-use Rattle.vms_base.specs.declared.ids.PlaceId.{PlaceId}
-use Rattle.vms_base.specs.declared.kinds.CpuState.{CpuState}
-use Rattle.vms_base.specs.declared.kinds.ZoneSize.{ZoneSize}
-use Rattle.vms_base.specs.Cpus.{online_from}
-use Rattle.vms_base.specs.Sizes.{size_at}
-use Rattle.vms_history.specs.Events.{after}
+use Rattle.vms_history.specs.Common.{CpuId, PlaceId, CpuState, ZoneSize, online_from, size_at, after}
 use Rattle.vms_core.specs.declared.steps.Facts.{Facts}
 use Rattle.vms_core.specs.declared.steps.Step.{Step}
 use Rattle.vms_core.specs.declared.steps.Step.TheVariants.{LoadM, SetT, SetM}
-use Rattle.vms_core.specs.Pages.{History}
-use Rattle.vms_calls.specs.HeaderFacts.{facts_of}
-use Rattle.vms_calls.specs.Lists.{in_turn}
-use Rattle.vms_calls.specs.Ratings.{Choice, ByNormal, ByPressure, RatesNode, RatesMarked}
-use Rattle.vms_calls.specs.Ratings.{Visits, VisitsEach, acknowledged_steps, state_steps, threshold_steps}
-use Rattle.vms_calls.specs.Ratings.{mark_for, mark_steps, node_number, zones_on}
-use Rattle.vms_calls.specs.Ratings.RatesMarked.{unmarked, marked}
-use Rattle.vms_calls.specs.Ratings.VisitsEach.{none, next}
-use Rattle.vms_calls.specs.TurnLaws.{LeavesByRule, LeavesNormal, LeavesPressure, last_mark, last_set}
-use Rattle.vms_calls.specs.Turns.{zones_up_to}
-use Rattle.vms_calls.specs.Turns.Balance.{No}
+use Rattle.vms_core.specs.Common.{History}
+use Rattle.vms_calls.specs.Common.{facts_of, in_turn, Choice, ByNormal, ByPressure, RatesNode, RatesMarked, Visits}
+use Rattle.vms_calls.specs.Common.{VisitsEach, acknowledged_steps, state_steps, threshold_steps, mark_for, mark_steps}
+use Rattle.vms_calls.specs.Common.{node_number, zones_on, unmarked, marked, none, next, LeavesByRule, LeavesNormal}
+use Rattle.vms_calls.specs.Common.{LeavesPressure, last_mark, last_set, zones_up_to}
+use Rattle.vms_calls.specs.declared.answers.Balance.TheVariants.{No}
 use Rattle.vms_calls.proofs.CallSteps.{Each, OfLooks, balance-each, states-each}
 use Rattle.vms_calls.proofs.RatingRuns.{OccursIn}
 

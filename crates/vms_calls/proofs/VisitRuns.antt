@@ -1,36 +1,23 @@
 -- The steps that visit zones, and those that set the thresholds of nodes, meet their conditions in a row.
-use Rattle.std.proofs.Common.{◌≡◌, ℕ, suc, zero, ◌+◌, ◌<◌, ◌≤◌, Bool, true, false, nat_eq}
-use Rattle.std.proofs.Common.{if◌then◌else◌, List, [], ◌∷◌, ◌++◌, length, map, get_or, Option, None, inl}
-use Rattle.std.proofs.Common.{inr, ⊎_elim, refl, sym, ap, ◌∙◌, subst, arith, eq-eqb, length-append}
+use Rattle.std.proofs.Common.{◌≡◌, ℕ, suc, zero, ◌+◌, ◌<◌, ◌≤◌, Bool, true, false, nat_eq, if◌then◌else◌, List, [], ◌∷◌}
+use Rattle.std.proofs.Common.{◌++◌, length, map, get_or, Option, None, inl, inr, ⊎_elim, refl, sym, ap, ◌∙◌, subst}
+use Rattle.std.proofs.Common.{arith, eq-eqb, length-append}
 use Rattle.std.specs.Prelude.{All}
 use Rattle.std.proofs.lemmas.List.{get_or_default, length-map}
 use Rattle.std.proofs.lemmas.List.Elements.{All-append, All-weaker, All-filter, All-head, All-tail}
-use Rattle.vms_base.specs.declared.ids.CpuId.{CpuId}
-use Rattle.vms_base.specs.declared.ids.PlaceId.{PlaceId}
-use Rattle.vms_base.specs.declared.kinds.CpuState.{CpuState}
-use Rattle.vms_base.specs.declared.kinds.CpuState.TheVariants.{Online, Dead, Absent}
-use Rattle.vms_base.specs.declared.kinds.ZoneName.{ZoneName}
-use Rattle.vms_base.specs.declared.kinds.ZoneSize.{ZoneSize}
-use Rattle.vms_base.specs.Places.{IsLayout, IsCpu, IsZone, place_count, node_of_zone}
-use Rattle.vms_base.specs.Sizes.{IsValidSize, size_at}
-use Rattle.vms_base.specs.Thresholds.{most_threshold, GivesThresholds}
-use Rattle.vms_history.specs.Events.{after}
-use Rattle.vms_history.proofs.Own.{after-steps}
+use Rattle.vms_history.specs.Common.{CpuId, PlaceId, CpuState, Online, Dead, Absent, ZoneName, ZoneSize, IsLayout}
+use Rattle.vms_history.specs.Common.{IsCpu, IsZone, place_count, node_of_zone, IsValidSize, size_at, most_threshold}
+use Rattle.vms_history.specs.Common.{GivesThresholds, after, online_from, is_online}
+use Rattle.vms_history.proofs.Common.{after-steps, largest_below-least, largest_below-most}
 use Rattle.vms_core.specs.declared.steps.Facts.{Facts}
 use Rattle.vms_core.specs.declared.steps.Step.{Step}
 use Rattle.vms_core.specs.declared.steps.Step.TheVariants.{LoadM, LoadO, LoadA}
-use Rattle.vms_calls.specs.Ratings.{Choice, ByNormal, node_number, Rates, RatesMarked}
-use Rattle.vms_calls.specs.Ratings.{Visits, VisitsEach, RatesNode, Refreshes, acknowledged_steps}
-use Rattle.vms_calls.specs.Ratings.{state_steps, threshold_steps, numbers_below, zones_on, largest_on}
-use Rattle.vms_base.specs.Cpus.{online_from, is_online}
-use Rattle.vms_calls.specs.Ratings.RatesMarked.{unmarked, marked}
-use Rattle.vms_calls.specs.Ratings.VisitsEach.{none, next}
-use Rattle.vms_calls.specs.Lists.{in_turn}
-use Rattle.vms_core.specs.Pages.{History}
-use Rattle.vms_core.specs.Peaks.{cpu_in}
+use Rattle.vms_calls.specs.Common.{Choice, ByNormal, node_number, Rates, RatesMarked, Visits, VisitsEach, RatesNode}
+use Rattle.vms_calls.specs.Common.{Refreshes, acknowledged_steps, state_steps, threshold_steps, numbers_below, zones_on}
+use Rattle.vms_calls.specs.Common.{largest_on, unmarked, marked, none, next, in_turn}
+use Rattle.vms_core.specs.Common.{History, cpu_in}
 use Rattle.vms_calls.proofs.ChoiceRanges.{GivesBoth, normal-gives}
 use Rattle.vms_calls.proofs.Agreement.{event, mark_in}
-use Rattle.vms_history.proofs.CountLemmas.{largest_below-least, largest_below-most}
 use Rattle.vms_calls.proofs.RatingRuns.{OccursIn, AreOnline, MaySet, rating-runs, thresholds-run}
 use Rattle.vms_calls.proofs.StepRuns.{Runs, runs-append}
 

@@ -1,17 +1,9 @@
 -- What each call leaves as it was: what its caller carries, and what the CPUs have spent.
 use Rattle.std.specs.Prelude.{◌≡◌, ℕ, ◌+◌, nat_eq, ◌&&◌, ℤ, pos, ◌+ℤ◌, List, if◌then◌else◌, Some, unsigned_abs}
-use Rattle.vms_base.specs.declared.ids.CounterId.{CounterId}
-use Rattle.vms_base.specs.declared.ids.CpuId.{CpuId}
-use Rattle.vms_base.specs.declared.kinds.Mode.{Mode}
-use Rattle.vms_base.specs.Places.{Shape}
-use Rattle.vms_history.specs.Events.{own, after, total}
-use Rattle.vms_history.specs.Passes.{owner_in}
+use Rattle.vms_history.specs.Common.{CounterId, CpuId, Mode, Shape, own, after, total, owner_in}
 use Rattle.vms_core.specs.declared.steps.Facts.{Facts}
 use Rattle.vms_core.specs.declared.steps.Step.{Step}
-use Rattle.vms_core.specs.Own.{carried, carried_of_item}
-use Rattle.vms_core.specs.Pages.{History}
-use Rattle.vms_core.specs.Steps.{role}
-use Rattle.vms_core.specs.Totals.{change_size, spent}
+use Rattle.vms_core.specs.Common.{carried, carried_of_item, History, role, change_size, spent}
 use Rattle.vms_calls.specs.Changes.{IsChange}
 use Rattle.vms_calls.specs.MayMake.{HasMade}
 

@@ -1,13 +1,9 @@
 -- What the steps of a change tell of where they end.
 use Rattle.std.specs.Prelude.{◌≡◌, zero, suc, ℤ, pos, negsuc, List, [], ◌∷◌, ◌++◌}
-use Rattle.vms_base.specs.declared.ids.CounterId.{CounterId}
-use Rattle.vms_base.specs.declared.ids.CpuId.{CpuId}
-use Rattle.vms_base.specs.declared.kinds.Mode.{Mode}
-use Rattle.vms_base.specs.Places.{Shape}
+use Rattle.vms_history.specs.Common.{CounterId, CpuId, Mode, Shape}
 use Rattle.vms_core.specs.declared.steps.Step.{Step}
 use Rattle.vms_core.specs.declared.steps.Step.TheVariants.{LoadT, LoadD, Put, Miss, AddG, AddS}
-use Rattle.vms_core.specs.Cells.{entry}
-use Rattle.vms_core.specs.Changes.{carried_by}
+use Rattle.vms_core.specs.Common.{entry, carried_by}
 use Rattle.vms_calls.specs.Changes.{IsChange}
 
 -- the additions of an amount, which are there where it isn't 0

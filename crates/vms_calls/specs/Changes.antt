@@ -1,14 +1,9 @@
 -- The steps that a change of a counter makes, and how often it misses.
 use Rattle.std.specs.Prelude.{◌≡◌, ◌≢◌, ℕ, suc, ℤ, pos, List, [], ◌∷◌, ◌++◌, All}
-use Rattle.vms_base.specs.declared.groups.Diffs.{Diffs}
-use Rattle.vms_base.specs.declared.ids.CounterId.{CounterId}
-use Rattle.vms_base.specs.declared.ids.CpuId.{CpuId}
-use Rattle.vms_base.specs.declared.kinds.Mode.{Mode}
-use Rattle.vms_base.specs.Places.{Shape, place_of, group_of, item_of}
+use Rattle.vms_history.specs.Common.{Diffs, CounterId, CpuId, Mode, Shape, place_of, group_of, item_of}
 use Rattle.vms_core.specs.declared.steps.Step.{Step}
 use Rattle.vms_core.specs.declared.steps.Step.TheVariants.{LoadT, LoadD, Put, Miss, AddG, AddS}
-use Rattle.vms_core.specs.Cells.{entry, eight_zeros}
-use Rattle.vms_core.specs.Changes.{carried_by}
+use Rattle.vms_core.specs.Common.{entry, eight_zeros, carried_by}
 
 -- the additions that carry an amount to the global values: none where it is 0
 pub data Carries (shape : Shape) (k : CounterId) : ℤ → List Step → Type 0 where

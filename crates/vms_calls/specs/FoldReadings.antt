@@ -1,8 +1,6 @@
 -- What the steps of a fold tell of where they end.
 use Rattle.std.specs.Prelude.{◌≡◌, ℕ, zero, suc, ◌/◌, Bool, true, ℤ, pos, negsuc, List, [], ◌∷◌, ◌++◌}
-use Rattle.vms_base.specs.declared.groups.Diffs.{Diffs}
-use Rattle.vms_base.specs.declared.ids.CpuId.{CpuId}
-use Rattle.vms_base.specs.Places.{Shape, place_count, item_count}
+use Rattle.vms_history.specs.Common.{Diffs, CpuId, Shape, place_count, item_count}
 use Rattle.vms_core.specs.declared.steps.Step.{Step}
 use Rattle.vms_core.specs.declared.steps.Step.TheVariants.{LoadT, Take, AddG, AddS, SetA}
 use Rattle.vms_calls.specs.Folds.{IsFold, acknowledges, taken_of_item}

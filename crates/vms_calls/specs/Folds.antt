@@ -1,13 +1,11 @@
 -- The steps of a fold of a CPU.
-use Rattle.std.specs.Prelude.{◌≡◌, ℕ, suc, zero, ◌/◌, ◌&&◌, nat_lt, Bool, true, false}
-use Rattle.std.specs.Prelude.{ℤ, pos, ◌+ℤ◌, List, [], ◌∷◌, ◌++◌, length, All}
-use Rattle.vms_base.specs.declared.groups.Diffs.{Diffs}
-use Rattle.vms_base.specs.declared.ids.CpuId.{CpuId}
-use Rattle.vms_base.specs.Places.{Shape, place_count, item_count, counter_at, group_of, first_of}
+use Rattle.std.specs.Prelude.{◌≡◌, ℕ, suc, zero, ◌/◌, ◌&&◌, nat_lt, Bool, true, false, ℤ, pos, ◌+ℤ◌, List, [], ◌∷◌}
+use Rattle.std.specs.Prelude.{◌++◌, length, All}
+use Rattle.vms_history.specs.Common.{Diffs, CpuId, Shape, place_count, item_count, counter_at, group_of, first_of_group}
 use Rattle.vms_core.specs.declared.states.Threshold.{Threshold}
 use Rattle.vms_core.specs.declared.steps.Step.{Step}
 use Rattle.vms_core.specs.declared.steps.Step.TheVariants.{LoadT, Take, AddG, AddS, SetA}
-use Rattle.vms_core.specs.Own.{entries_of}
+use Rattle.vms_core.specs.Common.{entries_of}
 use Rattle.vms_calls.specs.Lists.{in_turn}
 
 -- the addition of an amount to the global value of counter k, and to the system-wide value of item i: none of 0
@@ -21,7 +19,7 @@ to_system i z = AddS (record { number = i }) z ∷ []
 
 -- a group is taken, and each entry is added to its counter
 abbrev pub group_steps : CpuId → ℕ → Diffs → List Step
-group_steps c j w = Take c (record { number = j }) w ∷ in_turn to_place (first_of j) w.values
+group_steps c j w = Take c (record { number = j }) w ∷ in_turn to_place (first_of_group j) w.values
 
 -- what was found of a place: the own threshold, where it is acknowledged, and the list of each group
 pub record FoundPlace : Type 0 where

@@ -1,5 +1,5 @@
 -- The facts of a phase on the page counters, from its header and the state in which it begins.
-use Rattle.vms_base.specs.declared.headers.Header.{Header}
+use Rattle.vms_history.specs.Common.{Header}
 use Rattle.vms_core.specs.declared.states.State.{State}
 use Rattle.vms_core.specs.declared.steps.Facts.{Facts}
 

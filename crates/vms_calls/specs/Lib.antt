@@ -8,6 +8,7 @@ pub mod LookReadings
 pub mod Folds
 pub mod FoldReadings
 pub mod Ratings
+pub mod Choices
 pub mod RatingReadings
 pub mod Turns
 pub mod TurnReadings
@@ -16,3 +17,4 @@ pub mod TurnExamples
 pub mod CallerLaws
 pub mod MayMake
 pub mod MayCall
+pub mod Common

@@ -1,23 +1,12 @@
 -- How a legal history goes on with a change that meets no other caller.
 use Rattle.std.specs.Prelude.{◌≡◌, ◌≢◌, ℕ, ◌+◌, ◌≤◌, nat_eq, ◌&&◌, true, ℤ, List, if◌then◌else◌, Some, unsigned_abs}
-use Rattle.vms_base.specs.declared.ids.CounterId.{CounterId}
-use Rattle.vms_base.specs.declared.ids.CpuId.{CpuId}
-use Rattle.vms_base.specs.declared.kinds.CpuState.TheVariants.{Online}
-use Rattle.vms_base.specs.declared.kinds.Mode.{Mode}
-use Rattle.vms_base.specs.Places.{IsCpu, IsCounter}
-use Rattle.vms_history.specs.Events.{own, after}
-use Rattle.vms_history.specs.Passes.{lives_in, owner_in}
+use Rattle.vms_history.specs.Common.{CounterId, CpuId, Online, Mode, IsCpu, IsCounter, own, after, lives_in, owner_in}
+use Rattle.vms_history.specs.Common.{most_volume}
 use Rattle.vms_core.specs.declared.states.State.{State}
 use Rattle.vms_core.specs.declared.steps.Facts.{Facts}
 use Rattle.vms_core.specs.declared.steps.Step.{Step}
 use Rattle.vms_calls.specs.Changes.{IsChangeAlone}
-use Rattle.vms_core.specs.Cells.{cpu_at}
-use Rattle.vms_core.specs.ChangedStates.{with_change}
-use Rattle.vms_base.specs.Volumes.{most_volume}
-use Rattle.vms_core.specs.Own.{CarriesNothing}
-use Rattle.vms_core.specs.Pages.{History, IsLegal, state_after}
-use Rattle.vms_core.specs.Steps.{role}
-use Rattle.vms_core.specs.Totals.{spent}
+use Rattle.vms_core.specs.Common.{cpu_at, with_change, CarriesNothing, History, IsLegal, state_after, role, spent}
 
 -- in this history pass p may change a counter of its CPU
 pub record MayChange (facts : Facts) (h : History) (p : ℕ) (cpu : CpuId) (k : CounterId) (delta : ℤ) : Type 0 where

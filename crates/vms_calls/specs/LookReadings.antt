@@ -1,20 +1,14 @@
 -- What the steps of a call tell of its answer: each function gives the answer, and the steps that follow the call's.
-use Rattle.std.specs.Prelude.{◌≡◌, ℕ, suc, zero, nat_lt, Bool, true, false}
-use Rattle.std.specs.Prelude.{ℤ, pos, ◌+ℤ◌, List, [], ◌∷◌, ◌++◌, if◌then◌else◌}
-use Rattle.vms_base.specs.declared.headers.Header.{Header}
-use Rattle.vms_base.specs.declared.ids.CounterId.{CounterId}
-use Rattle.vms_base.specs.declared.ids.ItemId.{ItemId}
-use Rattle.vms_base.specs.declared.ids.PlaceId.{PlaceId}
-use Rattle.vms_base.specs.declared.kinds.WaterMark.{WaterMark}
-use Rattle.vms_base.specs.Watermarks.{limit_of}
-use Rattle.vms_base.specs.Cpus.{is_online}
-use Rattle.vms_base.specs.Places.{Shape}
+use Rattle.std.specs.Prelude.{◌≡◌, ℕ, suc, zero, nat_lt, Bool, true, false, ℤ, pos, ◌+ℤ◌, List, [], ◌∷◌, ◌++◌}
+use Rattle.std.specs.Prelude.{if◌then◌else◌}
+use Rattle.vms_history.specs.Common.{Header, CounterId, ItemId, PlaceId, WaterMark, limit_of, is_online, Shape}
 use Rattle.vms_core.specs.declared.states.MarkRead.{MarkRead}
 use Rattle.vms_core.specs.declared.steps.Step.{Step}
 use Rattle.vms_core.specs.declared.steps.Step.TheVariants.{LoadD, LoadG, LoadS, LoadM, LoadO}
-use Rattle.vms_core.specs.Cells.{entry}
-use Rattle.vms_calls.specs.Looks.{Verdict, IsPlaceValue, IsSystemValue, IsSnapshot}
-use Rattle.vms_calls.specs.Looks.{IsWatermarkTest, at_least_zero, is_doubtful, free_pages}
+use Rattle.vms_core.specs.Common.{entry}
+use Rattle.vms_calls.specs.declared.answers.Verdict.{Verdict}
+use Rattle.vms_calls.specs.Looks.{IsPlaceValue, IsSystemValue, IsSnapshot, IsWatermarkTest, at_least_zero, is_doubtful}
+use Rattle.vms_calls.specs.Looks.{free_pages}
 
 -- the value that a load tells, the differential of counter k, the mark, and whether a CPU is online
 abbrev pub value_told : Step → ℤ

@@ -1,20 +1,13 @@
 -- The steps of the calls that look at values, what each call answers, and how its steps tell the answer.
-use Rattle.std.specs.Prelude.{◌≡◌, ◌≢◌, ℕ, ◌&&◌, ◌||◌, not, nat_eq, nat_lt, Bool, true}
-use Rattle.std.specs.Prelude.{false, ℤ, pos, negsuc, ◌+ℤ◌, List, [], ◌∷◌, length}
-use Rattle.vms_base.specs.declared.groups.Diffs.{Diffs}
-use Rattle.vms_base.specs.declared.headers.Header.{Header}
-use Rattle.vms_base.specs.declared.ids.CounterId.{CounterId}
-use Rattle.vms_base.specs.declared.ids.ItemId.{ItemId}
-use Rattle.vms_base.specs.declared.ids.PlaceId.{PlaceId}
-use Rattle.vms_base.specs.declared.kinds.CpuState.{CpuState}
-use Rattle.vms_base.specs.declared.kinds.CpuState.TheVariants.{Online}
-use Rattle.vms_base.specs.declared.kinds.WaterMark.{WaterMark}
-use Rattle.vms_base.specs.Places.{Shape, group_of, counter_at}
-use Rattle.vms_base.specs.Watermarks.{limit_of}
+use Rattle.std.specs.Prelude.{◌≡◌, ◌≢◌, ℕ, ◌&&◌, ◌||◌, not, nat_eq, nat_lt, Bool, true, false, ℤ, pos, negsuc, ◌+ℤ◌}
+use Rattle.std.specs.Prelude.{List, [], ◌∷◌, length}
+use Rattle.vms_history.specs.Common.{Diffs, Header, CounterId, ItemId, PlaceId, CpuState, Online, WaterMark, Shape}
+use Rattle.vms_history.specs.Common.{group_of, counter_at, limit_of}
 use Rattle.vms_core.specs.declared.states.MarkRead.{MarkRead}
 use Rattle.vms_core.specs.declared.steps.Step.{Step}
 use Rattle.vms_core.specs.declared.steps.Step.TheVariants.{LoadD, LoadG, LoadS, LoadM, LoadO}
-use Rattle.vms_core.specs.Cells.{entry}
+use Rattle.vms_core.specs.Common.{entry}
+use Rattle.vms_calls.specs.declared.answers.Verdict.{Verdict}
 use Rattle.vms_calls.specs.Lists.{in_turn}
 
 -- a number of pages as a caller is told it: 0 where it is negative
@@ -58,13 +51,6 @@ pub record IsSnapshot (shape : Shape) (k : CounterId) (steps : List Step) (answe
   pub one_each : length looks ≡ shape.cpus
   pub in_order : steps ≡ LoadG k value ∷ in_turn (look_steps (group_of k.number)) 0 looks
   pub answers : answer ≡ at_least_zero (value +ℤ hidden k.number looks)
-
--- what a test of a watermark answers: whether there are pages enough, the number that this rests on, and whether no
--- snapshot was made
-pub record Verdict : Type 0 where
-  pub yes : Bool
-  pub free : ℕ
-  pub fast : Bool
 
 -- the counter of a zone's free pages
 abbrev pub free_pages : Shape → PlaceId → CounterId

@@ -1,36 +1,24 @@
 -- The steps of each call may be made one after another, whatever other callers do between them, and whatever the later
 -- ones will tell.
 use Rattle.std.specs.Prelude.{◌≡◌, ℕ, ◌≤◌, Bool, true, ℤ, List, length, All, Some}
-use Rattle.vms_base.specs.declared.headers.Header.{Header}
-use Rattle.vms_base.specs.declared.ids.CounterId.{CounterId}
-use Rattle.vms_base.specs.declared.ids.CpuId.{CpuId}
-use Rattle.vms_base.specs.declared.ids.ItemId.{ItemId}
-use Rattle.vms_base.specs.declared.ids.PlaceId.{PlaceId}
-use Rattle.vms_base.specs.declared.kinds.CpuState.TheVariants.{Online, Dead}
-use Rattle.vms_base.specs.declared.kinds.Mode.{Mode}
-use Rattle.vms_base.specs.declared.kinds.WaterMark.{WaterMark}
-use Rattle.vms_base.specs.declared.kinds.ZoneSize.{ZoneSize}
-use Rattle.vms_base.specs.Headers.{IsHeader}
-use Rattle.vms_base.specs.Places.{Shape, IsCpu, IsZone, IsCounter, IsItem}
-use Rattle.vms_history.specs.Events.{own, after}
-use Rattle.vms_history.specs.Passes.{owner_in}
+use Rattle.vms_history.specs.Common.{Header, CounterId, CpuId, ItemId, PlaceId, Online, Dead, Mode, WaterMark, ZoneSize}
+use Rattle.vms_history.specs.Common.{IsHeader, Shape, IsCpu, IsZone, IsCounter, IsItem, own, after, owner_in}
 use Rattle.vms_core.specs.declared.states.State.{State}
 use Rattle.vms_core.specs.declared.steps.Facts.{Facts}
 use Rattle.vms_core.specs.declared.steps.Step.{Step}
-use Rattle.vms_core.specs.Cells.{mark_at, cpu_at}
-use Rattle.vms_core.specs.Conditions.{IsControl}
-use Rattle.vms_core.specs.Own.{CarriesNothing}
-use Rattle.vms_core.specs.Pages.{History, state_after}
-use Rattle.vms_core.specs.Peaks.{sets, threshold_in, peak, cpu_in, peak_sum}
-use Rattle.vms_core.specs.Steps.{role}
+use Rattle.vms_core.specs.Common.{mark_at, cpu_at, IsControl, CarriesNothing, History, state_after, sets, threshold_in}
+use Rattle.vms_core.specs.Common.{peak, cpu_in, peak_sum, role}
 use Rattle.vms_calls.specs.Changes.{IsChange}
 use Rattle.vms_calls.specs.Folds.{IsFold}
 use Rattle.vms_calls.specs.LoneChanges.{MayChange}
 use Rattle.vms_calls.specs.HeaderFacts.{facts_of}
-use Rattle.vms_calls.specs.Looks.{Verdict, IsPlaceValue, IsSystemValue, IsSnapshot, IsWatermarkTest}
+use Rattle.vms_calls.specs.declared.answers.Verdict.{Verdict}
+use Rattle.vms_calls.specs.Looks.{IsPlaceValue, IsSystemValue, IsSnapshot, IsWatermarkTest}
 use Rattle.vms_calls.specs.MayMake.{HasMade, MayBegin, IsLivePass, ControlsIn}
 use Rattle.vms_calls.specs.Ratings.{Choice, Rates, RatesNode, Refreshes, Buries, mark_left}
-use Rattle.vms_calls.specs.Turns.{OrderVerdict, Balance, IsOrderTest, IsBalanceTest, IsTurn}
+use Rattle.vms_calls.specs.declared.answers.OrderVerdict.{OrderVerdict}
+use Rattle.vms_calls.specs.declared.answers.Balance.{Balance}
+use Rattle.vms_calls.specs.Turns.{IsOrderTest, IsBalanceTest, IsTurn}
 
 -- a live pass may load the value of a counter, and of an item
 abbrev pub MakesPlaceValue : Type 0

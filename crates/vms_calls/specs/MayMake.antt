@@ -1,18 +1,14 @@
 -- A pass makes steps one after another while others act: what it has made, and that it may make the next one.
 use Rattle.std.specs.Prelude.{◌≡◌, ℕ, true, ◌⊎◌, List, Some}
-use Rattle.vms_base.specs.declared.ids.CpuId.{CpuId}
-use Rattle.vms_base.specs.Places.{group_of}
+use Rattle.vms_history.specs.Common.{CpuId, group_of, lives_in, owner_in}
 use Rattle.vms_history.specs.PassSteps as making
-use Rattle.vms_history.specs.Passes.{lives_in, owner_in}
 use Rattle.vms_core.specs.declared.steps.Facts.{Facts}
 use Rattle.vms_core.specs.declared.steps.Step.{Step}
-use Rattle.vms_core.specs.declared.steps.Step.TheVariants.{LoadT, LoadD, Put, Miss, Take}
-use Rattle.vms_core.specs.declared.steps.Step.TheVariants.{LoadG, LoadS, LoadM, LoadO, LoadA}
-use Rattle.vms_core.specs.Cells.{TellsGroup, value_at, system_at, threshold_at, threshold_sets_at}
-use Rattle.vms_core.specs.Cells.{mark_at, mark_sets_at, cpu_at, acknowledged_at, eight_zeros}
-use Rattle.vms_core.specs.Conditions.{IsControl}
-use Rattle.vms_core.specs.Pages.{pages, History, IsLegal, state_after}
-use Rattle.vms_core.specs.Steps.{role}
+use Rattle.vms_core.specs.declared.steps.Step.TheVariants.{LoadT, LoadD, Put, Miss, Take, LoadG, LoadS, LoadM, LoadO}
+use Rattle.vms_core.specs.declared.steps.Step.TheVariants.{LoadA}
+use Rattle.vms_core.specs.Common.{TellsGroup, value_at, system_at, threshold_at, threshold_sets_at, mark_at}
+use Rattle.vms_core.specs.Common.{mark_sets_at, cpu_at, acknowledged_at, eight_zeros, IsControl, pages, History}
+use Rattle.vms_core.specs.Common.{IsLegal, state_after, role}
 
 -- pass p lives and has made these steps since the earlier history, the oldest first, whatever others did in between
 abbrev pub HasMade : Facts → History → History → ℕ → List Step → Type 0

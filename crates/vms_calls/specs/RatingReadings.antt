@@ -1,30 +1,25 @@
 -- What the steps of the calls that set thresholds, and of a burial, tell of where they end.
-use Rattle.std.specs.Prelude.{◌≡◌, ℕ, suc, zero, ◌≤◌, nat_eq, Bool, true}
-use Rattle.std.specs.Prelude.{false, List, [], ◌∷◌, ◌++◌, length, if◌then◌else◌}
-use Rattle.vms_base.specs.declared.ids.CpuId.{CpuId}
-use Rattle.vms_base.specs.declared.ids.PlaceId.{PlaceId}
-use Rattle.vms_base.specs.declared.kinds.CpuState.{CpuState}
-use Rattle.vms_base.specs.declared.kinds.ZoneSize.{ZoneSize}
-use Rattle.vms_base.specs.Cpus.{online_from}
-use Rattle.vms_base.specs.Places.{Shape}
+use Rattle.std.specs.Prelude.{◌≡◌, ℕ, suc, zero, ◌≤◌, nat_eq, Bool, true, false, List, [], ◌∷◌, ◌++◌, length}
+use Rattle.std.specs.Prelude.{if◌then◌else◌}
+use Rattle.vms_history.specs.Common.{CpuId, PlaceId, CpuState, ZoneSize, online_from, Shape}
 use Rattle.vms_core.specs.declared.steps.Facts.{Facts}
 use Rattle.vms_core.specs.declared.steps.Step.{Step}
 use Rattle.vms_core.specs.declared.steps.Step.TheVariants.{LoadM, SetT, SetM, SetO}
-use Rattle.vms_core.specs.Pages.{History}
+use Rattle.vms_core.specs.Common.{History}
 use Rattle.vms_calls.specs.FoldReadings.{read_fold}
 use Rattle.vms_calls.specs.LookReadings.{online_told}
 use Rattle.vms_calls.specs.MayMake.{HasMade}
 use Rattle.vms_calls.specs.Ratings.{Choice, RatesNode, Refreshes, Buries, node_number, numbers_below, zones_on}
 
 -- how many of n CPUs the loads of their states tell to be online
-abbrev pub counted : Bool → ℕ × List Step → ℕ × List Step
-counted true (count, rest) = (suc count, rest)
-counted false (count, rest) = (count, rest)
+abbrev pub counted_online : Bool → ℕ × List Step → ℕ × List Step
+counted_online true (count, rest) = (suc count, rest)
+counted_online false (count, rest) = (count, rest)
 
 abbrev pub read_states : ℕ → List Step → ℕ × List Step
 read_states zero steps = (0, steps)
 read_states (suc n) [] = (0, [])
-read_states (suc n) (load ∷ rest) = counted (online_told load) (read_states n rest)
+read_states (suc n) (load ∷ rest) = counted_online (online_told load) (read_states n rest)
 
 -- the first mark that is loaded
 abbrev pub read_mark : List Step → ℕ × List Step

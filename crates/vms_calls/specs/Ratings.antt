@@ -1,24 +1,15 @@
 -- The steps of the calls that set thresholds and marks, and of a burial, on top of the history in which a call begins.
-use Rattle.std.specs.Prelude.{◌≡◌, ◌≢◌, ℕ, suc, zero, ◌+◌, ◌-◌, nat_eq, false, List}
-use Rattle.std.specs.Prelude.{[], ◌∷◌, ◌++◌, length, map, filter, slice_index_or, if◌then◌else◌, Option}
-use Rattle.vms_base.specs.declared.ids.CpuId.{CpuId}
-use Rattle.vms_base.specs.declared.ids.PlaceId.{PlaceId}
-use Rattle.vms_base.specs.declared.kinds.CpuState.{CpuState}
-use Rattle.vms_base.specs.declared.kinds.ZoneSize.{ZoneSize}
-use Rattle.vms_base.specs.Marks.{Covers, linux_mark_of, cover_mark_of}
-use Rattle.vms_base.specs.Places.{Shape, node_of_zone}
-use Rattle.vms_history.specs.Events.{after}
+use Rattle.std.specs.Prelude.{◌≡◌, ◌≢◌, ℕ, suc, zero, ◌+◌, ◌-◌, nat_eq, false, List, [], ◌∷◌, ◌++◌, length, map, filter}
+use Rattle.std.specs.Prelude.{slice_index_or, if◌then◌else◌, Option}
+use Rattle.vms_history.specs.Common.{CpuId, PlaceId, CpuState, ZoneSize, Covers, linux_mark_of, cover_mark_of, Shape}
+use Rattle.vms_history.specs.Common.{node_of_zone, after, size_at, largest_below, online_from}
 use Rattle.vms_core.specs.declared.states.MarkRead.{MarkRead}
 use Rattle.vms_core.specs.declared.steps.Facts.{Facts}
 use Rattle.vms_core.specs.declared.steps.Step.{Step}
 use Rattle.vms_core.specs.declared.steps.Step.TheVariants.{LoadM, LoadO, LoadA, SetT, SetM, SetO}
-use Rattle.vms_base.specs.Sizes.{size_at}
 use Rattle.vms_calls.specs.Folds.{IsFold}
 use Rattle.vms_calls.specs.Lists.{in_turn}
-use Rattle.vms_core.specs.Pages.{History}
-use Rattle.vms_core.specs.Peaks.{peak_sum}
-use Rattle.vms_history.specs.Sums.{largest_below}
-use Rattle.vms_base.specs.Cpus.{online_from}
+use Rattle.vms_core.specs.Common.{History, peak_sum}
 
 -- a load of a CPU's state
 abbrev pub state_steps : ℕ → CpuState → List Step

@@ -1,13 +1,9 @@
 -- Steps of turns of kswapd on a machine of one CPU, one zone and one node, where the zone has no mark.
 use Rattle.std.specs.Prelude.{ℕ, pos, false, List, [], ◌∷◌, codes, replicate, None}
-use Rattle.vms_base.specs.declared.headers.Header.{Header}
-use Rattle.vms_base.specs.declared.headers.ItemDecl.{ItemDecl}
-use Rattle.vms_base.specs.declared.ids.PlaceId.{PlaceId}
-use Rattle.vms_base.specs.declared.kinds.CpuState.TheVariants.{Online, Absent}
-use Rattle.vms_base.specs.declared.kinds.ZoneKind.TheVariants.{Normal}
+use Rattle.vms_history.specs.Common.{Header, ItemDecl, PlaceId, Online, Absent, Normal}
 use Rattle.vms_core.specs.declared.steps.Step.{Step}
 use Rattle.vms_core.specs.declared.steps.Step.TheVariants.{LoadG, LoadM, LoadO, LoadA}
-use Rattle.vms_core.specs.LoweredThreshold.{cpu, zone}
+use Rattle.vms_core.specs.Common.{cpu, zone}
 
 -- an item of the zones that counts pages
 abbrev pub zone_item : List ℕ → ItemDecl

@@ -1,28 +1,21 @@
 -- Which thresholds a turn of kswapd leaves, and what its calls and its balance test find.
-use Rattle.std.specs.Prelude.{◌≡◌, ◌≢◌, ℕ, ◌<◌, ◌≤◌, nat_eq, ◌&&◌, true, List, []}
-use Rattle.std.specs.Prelude.{◌∷◌, ◌++◌, length, All, AllPairs, Contains, if◌then◌else◌, Option, Some, None}
-use Rattle.vms_base.specs.declared.headers.Header.{Header}
-use Rattle.vms_base.specs.declared.headers.ItemDecl.{ItemDecl}
-use Rattle.vms_base.specs.declared.ids.CpuId.{CpuId}
-use Rattle.vms_base.specs.declared.ids.PlaceId.{PlaceId}
-use Rattle.vms_base.specs.declared.kinds.CpuState.{CpuState}
-use Rattle.vms_base.specs.declared.kinds.ZoneSize.{ZoneSize}
-use Rattle.vms_base.specs.Areas.{areas_of, areas_from}
-use Rattle.vms_base.specs.Cpus.{online_from}
-use Rattle.vms_base.specs.Places.{Shape}
-use Rattle.vms_base.specs.Sizes.{size_at}
-use Rattle.vms_history.specs.Events.{after}
+use Rattle.std.specs.Prelude.{◌≡◌, ◌≢◌, ℕ, ◌<◌, ◌≤◌, nat_eq, ◌&&◌, true, List, [], ◌∷◌, ◌++◌, length, All, AllPairs}
+use Rattle.std.specs.Prelude.{Contains, if◌then◌else◌, Option, Some, None}
+use Rattle.vms_history.specs.Common.{Header, ItemDecl, CpuId, PlaceId, CpuState, ZoneSize, areas_of, areas_from}
+use Rattle.vms_history.specs.Common.{online_from, Shape, size_at, after}
 use Rattle.vms_core.specs.declared.states.State.{State}
 use Rattle.vms_core.specs.declared.steps.Step.{Step}
 use Rattle.vms_core.specs.declared.steps.Step.TheVariants.{LoadM, SetT}
-use Rattle.vms_core.specs.Pages.{History}
+use Rattle.vms_core.specs.Common.{History}
 use Rattle.vms_calls.specs.HeaderFacts.{facts_of}
 use Rattle.vms_calls.specs.MayMake.{HasMade}
 use Rattle.vms_calls.specs.RatingReadings.{SomeOnline}
 use Rattle.vms_calls.specs.Ratings.{node_number}
 use Rattle.vms_calls.specs.TurnReadings.{SettlesOnline}
-use Rattle.vms_calls.specs.Turns.{OrderVerdict, Balance, IsBalanceTest, IsTurn, zones_up_to}
-use Rattle.vms_calls.specs.Turns.Balance.{Yes, No}
+use Rattle.vms_calls.specs.declared.answers.OrderVerdict.{OrderVerdict}
+use Rattle.vms_calls.specs.declared.answers.Balance.{Balance}
+use Rattle.vms_calls.specs.Turns.{IsBalanceTest, IsTurn, zones_up_to}
+use Rattle.vms_calls.specs.declared.answers.Balance.TheVariants.{Yes, No}
 
 -- the areas for blocks of an order and larger: each is of a smaller order than every later one, and none is of a
 -- smaller order than was asked for
@@ -80,14 +73,14 @@ TurnFindsOnline pressure normal = (header : Header) (base : State) (n : PlaceId)
     turn.settles
 
 -- a zone that passed for an order: the answer is yes, and above order 0 a free block as large was found
-pub record HasPassed (shape : Shape) (n : PlaceId) (order most : ℕ) (g : PlaceId) (verdict : OrderVerdict)
+pub record PassesForOrder (shape : Shape) (n : PlaceId) (order most : ℕ) (g : PlaceId) (verdict : OrderVerdict)
     : Type 0 where
   pub one_of : Contains (zones_up_to shape most (node_number shape n)) g.number
   pub passed : verdict.yes ≡ true
   pub block : order ≢ 0 → (o : ℕ) × (verdict.area ≡ Some o) × (order ≤ o)
 
 -- a balance test names a zone of the node that passed
-abbrev pub NamesPassed : Type 0
-NamesPassed = (header : Header) (n : PlaceId) (order most : ℕ) (steps : List Step) (g : PlaceId)
+abbrev pub BalanceNamesZone : Type 0
+BalanceNamesZone = (header : Header) (n : PlaceId) (order most : ℕ) (steps : List Step) (g : PlaceId)
     (verdict : OrderVerdict) → IsBalanceTest header n order most steps (Yes g verdict) →
-    HasPassed header.layout n order most g verdict
+    PassesForOrder header.layout n order most g verdict

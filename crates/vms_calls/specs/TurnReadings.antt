@@ -1,27 +1,21 @@
 -- What the steps of a test for an order, of a balance test and of a turn of kswapd tell of the answer.
-use Rattle.std.specs.Prelude.{◌≡◌, ℕ, suc, zero, nat_eq, Bool, false, List}
-use Rattle.std.specs.Prelude.{[], ◌∷◌, ◌++◌, if◌then◌else◌, Option, Some, None, is_some}
-use Rattle.vms_base.specs.declared.headers.Header.{Header}
-use Rattle.vms_base.specs.declared.ids.PlaceId.{PlaceId}
-use Rattle.vms_base.specs.declared.kinds.WaterMark.{WaterMark}
-use Rattle.vms_base.specs.declared.kinds.WaterMark.TheVariants.{High}
-use Rattle.vms_base.specs.declared.kinds.ZoneSize.{ZoneSize}
-use Rattle.vms_base.specs.Areas.{Area, areas_of, areas_from}
-use Rattle.vms_base.specs.Places.{Shape}
-use Rattle.vms_base.specs.Watermarks.{limit_of}
-use Rattle.vms_history.specs.Events.{after}
+use Rattle.std.specs.Prelude.{◌≡◌, ℕ, suc, zero, nat_eq, Bool, false, List, [], ◌∷◌, ◌++◌, if◌then◌else◌, Option, Some}
+use Rattle.std.specs.Prelude.{None, is_some}
+use Rattle.vms_history.specs.Common.{Header, PlaceId, WaterMark, High, ZoneSize, Area, areas_of, areas_from, Shape}
+use Rattle.vms_history.specs.Common.{limit_of, after}
 use Rattle.vms_core.specs.declared.states.State.{State}
 use Rattle.vms_core.specs.declared.steps.Facts.{Facts}
 use Rattle.vms_core.specs.declared.steps.Step.{Step}
-use Rattle.vms_core.specs.Pages.{History}
+use Rattle.vms_core.specs.Common.{History}
 use Rattle.vms_calls.specs.HeaderFacts.{facts_of}
 use Rattle.vms_calls.specs.LookReadings.{read_snapshot, read_test}
-use Rattle.vms_calls.specs.Looks.{Verdict}
+use Rattle.vms_calls.specs.declared.answers.Verdict.{Verdict}
 use Rattle.vms_calls.specs.RatingReadings.{SomeOnline, read_node_rating}
 use Rattle.vms_calls.specs.Ratings.{node_number}
-use Rattle.vms_calls.specs.Turns.{OrderVerdict, Balance, IsOrderTest, IsBalanceTest, IsTurn}
-use Rattle.vms_calls.specs.Turns.{Settles, blocks_at, has_room, zones_up_to}
-use Rattle.vms_calls.specs.Turns.Balance.{Yes, No}
+use Rattle.vms_calls.specs.declared.answers.OrderVerdict.{OrderVerdict}
+use Rattle.vms_calls.specs.declared.answers.Balance.{Balance}
+use Rattle.vms_calls.specs.Turns.{IsOrderTest, IsBalanceTest, IsTurn, SetsAfterYes, blocks_at, has_room, zones_up_to}
+use Rattle.vms_calls.specs.declared.answers.Balance.TheVariants.{Yes, No}
 
 -- the order of the first area whose snapshot isn't 0
 abbrev pub block_or : ℕ → ℕ × List Step → (List Step → Option ℕ × List Step) → Option ℕ × List Step
@@ -78,7 +72,7 @@ read_turn header n order most steps =
 
 -- the call that follows the balance test of a turn, where there is one, found a CPU online
 abbrev pub SettlesOnline : (facts : Facts) (normal : ZoneSize → ℕ → ℕ → Type 0) (n : PlaceId) (p : ℕ) (answer : Balance)
-    (h : History) (steps : List Step) → Settles facts normal n p answer h steps → Type 0
+    (h : History) (steps : List Step) → SetsAfterYes facts normal n p answer h steps → Type 0
 SettlesOnline facts normal n p (Yes g verdict) h steps rates = SomeOnline rates.states
 SettlesOnline facts normal n p No h steps none = Unit {0}
 

@@ -1,36 +1,24 @@
 -- The steps of a test for an order, of a balance test of a node and of a turn of kswapd, and what each answers
 -- (`__zone_watermark_ok` of mm/page_alloc.c, `pgdat_balanced` and `kswapd_try_to_sleep` of mm/vmscan.c).
-use Rattle.std.specs.Prelude.{◌≡◌, ◌≢◌, ℕ, suc, zero, ◌+◌, ◌-◌, ◌^◌, nat_le, nat_lt, Bool, true}
-use Rattle.std.specs.Prelude.{false, List, [], ◌∷◌, ◌++◌, map, filter, slice_index_or, Option, Some, None, is_some}
-use Rattle.vms_base.specs.declared.headers.Header.{Header}
-use Rattle.vms_base.specs.declared.ids.CounterId.{CounterId}
-use Rattle.vms_base.specs.declared.ids.PlaceId.{PlaceId}
-use Rattle.vms_base.specs.declared.kinds.WaterMark.{WaterMark}
-use Rattle.vms_base.specs.declared.kinds.WaterMark.TheVariants.{High}
-use Rattle.vms_base.specs.declared.kinds.ZoneSize.{ZoneSize}
-use Rattle.vms_base.specs.Areas.{Area, areas_of, areas_from}
-use Rattle.vms_base.specs.Places.{Shape, counter_at, zone_index}
-use Rattle.vms_base.specs.Watermarks.{limit_of}
-use Rattle.vms_history.specs.Events.{after}
+use Rattle.std.specs.Prelude.{◌≡◌, ◌≢◌, ℕ, suc, zero, ◌+◌, ◌-◌, ◌^◌, nat_le, nat_lt, Bool, true, false, List, [], ◌∷◌}
+use Rattle.std.specs.Prelude.{◌++◌, map, filter, slice_index_or, Option, Some, None, is_some}
+use Rattle.vms_history.specs.Common.{Header, CounterId, PlaceId, WaterMark, High, ZoneSize, Area, areas_of, areas_from}
+use Rattle.vms_history.specs.Common.{Shape, counter_at, zone_index, limit_of, after}
 use Rattle.vms_core.specs.declared.states.State.{State}
 use Rattle.vms_core.specs.declared.steps.Facts.{Facts}
 use Rattle.vms_core.specs.declared.steps.Step.{Step}
-use Rattle.vms_core.specs.Pages.{History}
+use Rattle.vms_core.specs.Common.{History}
 use Rattle.vms_calls.specs.HeaderFacts.{facts_of}
-use Rattle.vms_calls.specs.Looks.{Verdict, IsSnapshot, IsWatermarkTest}
+use Rattle.vms_calls.specs.declared.answers.Balance.{Balance}
+use Rattle.vms_calls.specs.declared.answers.Balance.TheVariants.{Yes, No}
+use Rattle.vms_calls.specs.declared.answers.OrderVerdict.{OrderVerdict}
+use Rattle.vms_calls.specs.declared.answers.Verdict.{Verdict}
+use Rattle.vms_calls.specs.Looks.{IsSnapshot, IsWatermarkTest}
 use Rattle.vms_calls.specs.Ratings.{SetsPressure, SetsNormal, node_number, zones_on}
 
 -- the counter of an area of zone g
 abbrev pub blocks_at : Shape → PlaceId → Area → CounterId
 blocks_at shape g area = record { number = counter_at shape g.number area.position }
-
--- what a test of a zone for blocks of an order answers: whether it passed, the free pages, whether no snapshot of them
--- was made, and the order of the free block that was found
-pub record OrderVerdict : Type 0 where
-  pub yes : Bool
-  pub free : ℕ
-  pub fast : Bool
-  pub area : Option ℕ
 
 -- the steps that look for a free block in these areas: snapshots up to the first that isn't 0
 pub data FindsBlock (shape : Shape) (g : PlaceId) : List Area → List Step → Option ℕ → Type 0 where
@@ -48,18 +36,18 @@ has_room limit order free = nat_lt (limit + (2 ^ order - 1)) free
 
 -- the steps after those of the watermark test, where blocks above order 0 are asked for, from whether there is room: a
 -- look for a block, or none and no
-abbrev pub Blocks : Header → PlaceId → ℕ → Bool → List Step → OrderVerdict → Type 0
-Blocks header g order true steps answer =
+abbrev pub LooksForBlock : Header → PlaceId → ℕ → Bool → List Step → OrderVerdict → Type 0
+LooksForBlock header g order true steps answer =
     FindsBlock header.layout g (areas_from order (areas_of header.items)) steps answer.area
     × (answer.yes ≡ is_some answer.area)
-Blocks header g order false steps answer = (steps ≡ []) × (answer.yes ≡ false) × (answer.area ≡ None)
+LooksForBlock header g order false steps answer = (steps ≡ []) × (answer.yes ≡ false) × (answer.area ≡ None)
 
 -- the same for every order: at order 0 there is none, and the answer is that of the watermark test
 abbrev pub Further : Header → PlaceId → WaterMark → (most order : ℕ) → Verdict → List Step → OrderVerdict → Type 0
 Further header g mark most zero verdict steps answer =
     (steps ≡ []) × (answer.yes ≡ verdict.yes) × (answer.area ≡ None)
 Further header g mark most (suc n) verdict steps answer =
-    Blocks header g (suc n) (has_room (limit_of header g.number mark most) (suc n) verdict.free) steps answer
+    LooksForBlock header g (suc n) (has_room (limit_of header g.number mark most) (suc n) verdict.free) steps answer
 
 -- a test whether zone g has more free pages than a watermark asks for, and a free block of an order or larger
 pub record IsOrderTest (header : Header) (g : PlaceId) (mark : WaterMark) (most order : ℕ) (steps : List Step)
@@ -72,11 +60,6 @@ pub record IsOrderTest (header : Header) (g : PlaceId) (mark : WaterMark) (most 
   pub in_order : steps ≡ test ++ further
   pub free : answer.free ≡ verdict.free
   pub fast : answer.fast ≡ verdict.fast
-
--- what a test whether a node is balanced answers: the first zone that passed, or none
-pub data Balance : Type 0 where
-  Yes : PlaceId → OrderVerdict → Balance
-  No : Balance
 
 -- tests of these zones in order, up to the first that passes: each of the zone's high watermark
 pub data Balances (header : Header) (most order : ℕ) : List ℕ → List Step → Balance → Type 0 where
@@ -101,9 +84,9 @@ IsBalanceTest header n order most steps answer =
     Balances header most order (zones_up_to header.layout most (node_number header.layout n)) steps answer
 
 -- what follows the balance test: after yes the normal thresholds are set, after no nothing
-abbrev pub Settles : Facts → (ZoneSize → ℕ → ℕ → Type 0) → PlaceId → ℕ → Balance → History → List Step → Type 0
-Settles facts normal n p (Yes g verdict) h steps = SetsNormal facts normal n p h steps
-Settles facts normal n p No h steps = steps ≡ []
+abbrev pub SetsAfterYes : Facts → (ZoneSize → ℕ → ℕ → Type 0) → PlaceId → ℕ → Balance → History → List Step → Type 0
+SetsAfterYes facts normal n p (Yes g verdict) h steps = SetsNormal facts normal n p h steps
+SetsAfterYes facts normal n p No h steps = steps ≡ []
 
 -- a turn of kswapd on a node, from a state in which a phase of the header began: thresholds under pressure, the balance
 -- test, and after yes normal thresholds
@@ -114,5 +97,5 @@ pub record IsTurn (header : Header) (base : State) (pressure normal : ZoneSize �
   pub test : List Step
   pub tests : IsBalanceTest header n order most test answer
   pub further : List Step
-  pub settles : Settles (facts_of header base) normal n p answer (after p (pressed ++ test) h) further
+  pub settles : SetsAfterYes (facts_of header base) normal n p answer (after p (pressed ++ test) h) further
   pub in_order : steps ≡ pressed ++ (test ++ further)

@@ -1,4 +1,4 @@
-ghost use Rattle.vms_base.specs.Thresholds.{GivesThresholds};
+ghost use Rattle.vms_history.specs.Common.{GivesThresholds};
 ghost use Rattle.vms_calls.specs.MayCall.{MakesPlaceValue, MakesSystemValue, MakesSnapshot, MakesTest, MakesOrderTest};
 ghost use Rattle.vms_calls.specs.MayCall.{MakesBalanceTest, MakesTurn, MakesRating, MakesNodeRating, MakesRefresh};
 ghost use Rattle.vms_calls.specs.MayCall.{MakesFold, MakesBurial, MakesChange};

@@ -1,19 +1,16 @@
 ghost use Rattle.std.specs.Prelude.{ℕ, Bool, List};
-ghost use Rattle.vms_base.specs.declared.headers.Header.{Header};
-ghost use Rattle.vms_base.specs.declared.ids.CounterId.{CounterId};
-ghost use Rattle.vms_base.specs.declared.ids.CpuId.{CpuId};
-ghost use Rattle.vms_base.specs.declared.ids.ItemId.{ItemId};
-ghost use Rattle.vms_base.specs.declared.ids.PlaceId.{PlaceId};
-ghost use Rattle.vms_base.specs.declared.kinds.WaterMark.{WaterMark};
-ghost use Rattle.vms_base.specs.Places.{Shape, IsLayout};
+ghost use Rattle.vms_history.specs.Common.{Header, CounterId, CpuId, ItemId, PlaceId, WaterMark, Shape, IsLayout};
 ghost use Rattle.vms_core.specs.declared.states.State.{State};
 ghost use Rattle.vms_core.specs.declared.steps.Facts.{Facts};
 ghost use Rattle.vms_calls.specs.CallerLaws.{Leaves, CallsLeaveMeanwhile, ChangesLeaveMeanwhile};
 ghost use Rattle.vms_calls.specs.Folds.{IsFold};
-ghost use Rattle.vms_calls.specs.Looks.{Verdict, IsPlaceValue, IsSystemValue, IsSnapshot, IsWatermarkTest};
+ghost use Rattle.vms_calls.specs.declared.answers.Verdict.{Verdict};
+ghost use Rattle.vms_calls.specs.Looks.{IsPlaceValue, IsSystemValue, IsSnapshot, IsWatermarkTest};
 ghost use Rattle.vms_calls.specs.MayCall.{KnowsByOwnSteps};
 ghost use Rattle.vms_calls.specs.Ratings.{Refreshes, Buries, SetsPressure, SetsNormal};
-ghost use Rattle.vms_calls.specs.Turns.{OrderVerdict, Balance, IsOrderTest, IsBalanceTest, IsTurn};
+ghost use Rattle.vms_calls.specs.declared.answers.OrderVerdict.{OrderVerdict};
+ghost use Rattle.vms_calls.specs.declared.answers.Balance.{Balance};
+ghost use Rattle.vms_calls.specs.Turns.{IsOrderTest, IsBalanceTest, IsTurn};
 
 use crate::ThresholdRules;
 

@@ -1,8 +1,5 @@
 ghost use Rattle.std.specs.Prelude.{◌≤◌, ℕ, ℤ, List};
-ghost use Rattle.vms_base.specs.declared.ids.CounterId.{CounterId};
-ghost use Rattle.vms_base.specs.declared.ids.CpuId.{CpuId};
-ghost use Rattle.vms_base.specs.declared.kinds.Mode.{Mode};
-ghost use Rattle.vms_base.specs.Places.{Shape};
+ghost use Rattle.vms_history.specs.Common.{CounterId, CpuId, Mode, Shape};
 ghost use Rattle.vms_core.specs.declared.steps.Step.{Step};
 ghost use Rattle.vms_calls.specs.CallerLaws.{ChangesLeave, ChangesSpend};
 ghost use Rattle.vms_calls.specs.Changes.{IsChange, miss_count};

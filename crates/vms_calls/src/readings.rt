@@ -1,8 +1,8 @@
 ghost use Rattle.vms_calls.specs.ChangeReadings.{TellsChange};
 ghost use Rattle.vms_calls.specs.FoldReadings.{TellsFold};
 ghost use Rattle.vms_calls.specs.LookReadings.{TellsPlaceValue, TellsSystemValue, TellsSnapshot, TellsTest};
-ghost use Rattle.vms_calls.specs.RatingReadings.{TellsNodeRating, TellsRefresh, TellsBurial};
-ghost use Rattle.vms_calls.specs.RatingReadings.{NodeFindsOnline, RefreshFindsOnline, BurialFindsOnline};
+ghost use Rattle.vms_calls.specs.RatingReadings.{TellsNodeRating, TellsRefresh, TellsBurial, NodeFindsOnline};
+ghost use Rattle.vms_calls.specs.RatingReadings.{RefreshFindsOnline, BurialFindsOnline};
 ghost use Rattle.vms_calls.specs.Ratings.{ByNormal, ByPressure};
 ghost use Rattle.vms_calls.specs.TurnLaws.{TurnFindsOnline};
 ghost use Rattle.vms_calls.specs.TurnReadings.{TellsOrderTest, TellsBalance, TellsTurn};

@@ -1,4 +1,4 @@
-ghost use Rattle.vms_calls.specs.TurnLaws.{AreasAscend, LeavesNormal, LeavesPressure, NamesPassed};
+ghost use Rattle.vms_calls.specs.TurnLaws.{AreasAscend, LeavesNormal, LeavesPressure, BalanceNamesZone};
 
 use crate::ThresholdRules;
 
@@ -10,7 +10,7 @@ pub fn areas_ascend()
 
 /// A balance test that answers yes names a zone that passed, and above order 0 a free block as large as was asked for.
 pub fn balance_tests_name_what_passed()
-    ensures { NamesPassed }
+    ensures { BalanceNamesZone }
 {}
 
 /// After yes a turn of kswapd leaves thresholds of the normal rule, after no those of the pressure rule. It leaves them

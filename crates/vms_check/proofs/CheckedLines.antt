@@ -1,7 +1,7 @@
 -- A check makes no phase, and its texts are plain.
 use Rattle.std.proofs.Common.{refl}
-use Rattle.vms_check.specs.Checking.{checking}
-use Rattle.vms_command.proofs.PlainBodies.{IsPlain}
+use Rattle.vms_check.specs.Common.{checking}
+use Rattle.vms_command.proofs.Common.{IsPlain}
 
 pub IsPlain-checking : IsPlain checking
 IsPlain-checking = record {

@@ -12,18 +12,13 @@ use Rattle.std.proofs.lemmas.List.Sums.{AllPass-from_list_all}
 use Rattle.vms_base.specs.declared.headers.Header.{Header}
 use Rattle.vms_text.specs.declared.acts.Line.{Line}
 use Rattle.vms_text.specs.declared.acts.Line.TheVariants.{Blank}
-use Rattle.vms_text.specs.Lines.{lines_of}
-use Rattle.vms_text.specs.Words.{is_word_byte}
-use Rattle.vms_text.proofs.TextLaws.{lines_of-first}
-use Rattle.vms_text.proofs.Values.{and_left, and_right}
+use Rattle.vms_text.specs.Common.{lines_of, is_word_byte, and_then, most_line}
+use Rattle.vms_text.proofs.Common.{lines_of-first, and_left, and_right, ShortWord-from, decimal-short}
 use Rattle.vms_line.specs.declared.causes.LineCause.{LineCause}
 use Rattle.vms_line.specs.declared.causes.LineCause.TheVariants as causes
-use Rattle.vms_line.specs.Body.{read_line}
-use Rattle.vms_text.specs.Reading.{and_then, most_line}
-use Rattle.vms_text.proofs.Sentences.{ShortWord-from}
-use Rattle.vms_text.proofs.SpelledNumbers.{decimal-short}
-use Rattle.vms_script.specs.Judging.{allowed, judged}
-use Rattle.vms_command.specs.Printing.{done_line, line_cause, line_prefix, refused_line}
+use Rattle.vms_line.specs.Common.{read_line}
+use Rattle.vms_script.specs.Common.{allowed, judged}
+use Rattle.vms_command.specs.Common.{done_line, line_cause, line_prefix, refused_line}
 
 -- a text of at most this many bytes, on one line
 record IsPiece (most : ℕ) (text : List ℕ) : Type 0 where

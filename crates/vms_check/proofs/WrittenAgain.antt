@@ -6,34 +6,22 @@ use Rattle.std.specs.Prelude.{Result, Ok, Err}
 use Rattle.std.proofs.lemmas.List.{drop_at, length-drop, length-map}
 use Rattle.std.proofs.lemmas.List.Elements.{All-head, All-tail}
 use Rattle.vms_base.specs.declared.headers.Header.{Header}
-use Rattle.vms_base.specs.Headers.{IsHeader}
+use Rattle.vms_base.specs.Common.{IsHeader}
 use Rattle.vms_text.specs.declared.acts.Line.{Line}
 use Rattle.vms_text.specs.declared.acts.Line.TheVariants.{Blank, Lane, Boundary}
-use Rattle.vms_text.specs.Lines.{lines_of}
-use Rattle.vms_text.specs.Words.{joined}
-use Rattle.vms_text.proofs.TextLaws.{lines_of-append, lines_of-first}
+use Rattle.vms_text.specs.Common.{lines_of, joined, and_then, sentence}
+use Rattle.vms_text.proofs.Common.{lines_of-append, lines_of-first, IsFew, few-one_line}
 use Rattle.vms_line.specs.declared.causes.LineCause.{LineCause}
-use Rattle.vms_header.specs.Stages.{Fault, read_header}
-use Rattle.vms_header.specs.Laws.{IsSettled, IsWritable}
-use Rattle.vms_line.specs.Laws.{ReadsBack}
-use Rattle.vms_text.specs.Reading.{and_then}
-use Rattle.vms_header.specs.Spelling.{header_words}
-use Rattle.vms_text.specs.Spelling.{sentence}
-use Rattle.vms_line.specs.Spelling.{spelled_line}
-use Rattle.vms_header.proofs.HeaderSteps.{lines_of-sentences}
-use Rattle.vms_header.proofs.HeadersRead.{header_words-few, HeadersReadBack-holds}
-use Rattle.vms_line.proofs.LinesRead.{LinesReadBack-holds}
-use Rattle.vms_text.proofs.Sentences.{IsFew, few-one_line}
-use Rattle.vms_header.proofs.HeaderSettled.{read_header-settled}
-use Rattle.vms_header.proofs.Written.{read_header-writable}
-use Rattle.vms_script.specs.Judging.{allowed, judged}
-use Rattle.vms_command.specs.Limits.{most_lines}
-use Rattle.vms_command.specs.Lines.{LinesAbove, come_to, nothing_above, with_judged}
-use Rattle.vms_command.proofs.BodyLines.{one_more}
-use Rattle.vms_script.proofs.Known.{judged-known, judged-read}
-use Rattle.vms_command.specs.Texts.{printed_of}
-use Rattle.vms_check.specs.Checking.{checked_end, checked_line, checking}
-use Rattle.vms_check.specs.Laws.{ChecksAgain}
+use Rattle.vms_header.specs.Common.{Fault, read_header, IsSettled, IsWritable, header_words}
+use Rattle.vms_line.specs.Common.{ReadsBack, spelled_line}
+use Rattle.vms_header.proofs.Common.{lines_of-sentences, header_words-few, HeadersReadBack-holds, read_header-settled}
+use Rattle.vms_header.proofs.Common.{read_header-writable}
+use Rattle.vms_line.proofs.Common.{LinesReadBack-holds}
+use Rattle.vms_script.specs.Common.{allowed, judged}
+use Rattle.vms_command.specs.Common.{most_lines, LinesAbove, come_to, nothing_above, with_judged, printed_of}
+use Rattle.vms_command.proofs.Common.{one_more}
+use Rattle.vms_script.proofs.Common.{judged-known, judged-read}
+use Rattle.vms_check.specs.Common.{checked_end, checked_line, checking, ChecksAgain}
 use Rattle.vms_check.proofs.Remarks.{IsRemark, done_is_remark, refused_is_remark, remark-judged, remark-one_line}
 
 -- with none refused

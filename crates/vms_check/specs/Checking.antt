@@ -5,16 +5,11 @@ use Rattle.vms_base.specs.declared.headers.Header.{Header}
 use Rattle.vms_text.specs.declared.acts.Line.{Line}
 use Rattle.vms_text.specs.declared.acts.Line.TheVariants.{Blank}
 use Rattle.vms_line.specs.declared.causes.LineCause.{LineCause}
-use Rattle.vms_header.specs.Spelling.{spelled_header}
-use Rattle.vms_line.specs.Spelling.{spelled_line}
-use Rattle.vms_stream.specs.Behaviors.{Behavior}
-use Rattle.vms_stream.specs.Plain.{plainly}
-use Rattle.vms_stream.specs.Waiting.Text.{Plain}
-use Rattle.vms_command.specs.Bodies.{shown}
-use Rattle.vms_command.specs.Commands.{Command, CommandState, MayEnd-status_at_end, status_at_end, following}
-use Rattle.vms_command.specs.Lines.{LinesAbove}
-use Rattle.vms_command.specs.Printing.{refused_line, done_line}
-use Rattle.vms_command.specs.Texts.{text_of}
+use Rattle.vms_header.specs.Common.{spelled_header}
+use Rattle.vms_line.specs.Common.{spelled_line}
+use Rattle.vms_stream.specs.Common.{Behavior, plainly, Plain}
+use Rattle.vms_command.specs.Common.{shown_at_end, TraceCommand, CommandState, MayEnd-status_at_end, status_at_end}
+use Rattle.vms_command.specs.Common.{following, LinesAbove, refused_line, done_line, command_text}
 
 -- what is written for a line that counts, and nothing for a blank one
 abbrev pub accepted_line : Header → Line → List ℕ
@@ -31,7 +26,7 @@ abbrev pub checked_end : LinesAbove → List ℕ
 checked_end above = codes "# " ++ done_line (length above.lines) above.refused
 
 -- the command `check`: it keeps nothing of the lines but what they came to, and makes no phase
-abbrev pub checking : Command (Unit {0}) ⊥
+abbrev pub checking : TraceCommand (Unit {0}) ⊥
 checking = record {
   begins = λ header. tt;
   opens = spelled_header;
@@ -51,8 +46,8 @@ check = plainly (following checking)
 -- what is written for a text: the one line of a refused header, or the header, what is written for each line, and the
 -- last line
 abbrev pub check_output : List ℕ → List ℕ
-check_output text = text_of checking text
+check_output text = command_text checking text
 
 -- it shows nothing at the end but what is printed there
-abbrev pub nothing_shown : CommandState (Unit {0}) → Type 0
-nothing_shown = shown (λ header above kept. Unit {0})
+abbrev pub shown_by_check : CommandState (Unit {0}) → Type 0
+shown_by_check = shown_at_end (λ header above kept. Unit {0})

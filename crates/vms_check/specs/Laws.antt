@@ -1,14 +1,11 @@
 -- Laws of what a check writes.
 use Rattle.std.specs.Prelude.{◌≡◌, ◌≢◌, ◌≤◌, ℕ, suc, List, ◌++◌, length, drop, Some, Ok}
 use Rattle.vms_base.specs.declared.headers.Header.{Header}
-use Rattle.vms_text.specs.Lines.{lines_of}
-use Rattle.vms_header.specs.Stages.{read_header}
-use Rattle.vms_header.specs.Spelling.{header_words, spelled_header}
+use Rattle.vms_text.specs.Common.{lines_of}
+use Rattle.vms_header.specs.Common.{read_header, header_words, spelled_header}
 use Rattle.vms_stream.specs.declared.statuses.Status.TheVariants.{TooLong}
-use Rattle.vms_stream.specs.Behaviors.{halted, output}
-use Rattle.vms_command.specs.Limits.{most_lines}
-use Rattle.vms_command.specs.Lines.{come_to, nothing_above}
-use Rattle.vms_command.specs.Texts.{body_text}
+use Rattle.vms_stream.specs.Common.{halted, output}
+use Rattle.vms_command.specs.Common.{most_lines, come_to, nothing_above, body_text}
 use Rattle.vms_check.specs.Checking.{check, check_output, checking}
 
 -- what a check writes line by line of a text within the limits is its output, which header and body define

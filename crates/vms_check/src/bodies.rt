@@ -13,7 +13,7 @@ pub(crate) struct CheckBody;
 impl Body for CheckBody {
     ghost use Rattle.std.specs.Prelude.{None};
     ghost use Rattle.vms_check.specs.Checking.{checking};
-    ghost use Rattle.vms_command.specs.Bodies.{quietly};
+    ghost use Rattle.vms_command.specs.Common.{quietly};
 
     type Engine = ();
 
@@ -63,10 +63,9 @@ impl Body for CheckBody {
 }
 
 ghost use Rattle.std.specs.Prelude.{◌≡◌, ◌++◌, ◌∷◌, [], IfSome, OnOk, codes};
-ghost use Rattle.vms_base.specs.Headers.{IsHeader};
-ghost use Rattle.vms_line.specs.Laws.{IsLineOf};
-ghost use Rattle.vms_line.specs.Spelling.{spelled_line};
-ghost use Rattle.vms_command.specs.Printing.{refused_line};
+ghost use Rattle.vms_base.specs.Common.{IsHeader};
+ghost use Rattle.vms_line.specs.Common.{IsLineOf, spelled_line};
+ghost use Rattle.vms_command.specs.Common.{refused_line};
 ghost use Rattle.vms_check.specs.Checking.{accepted_line};
 
 /// Appends a line that counts in its one spelling, whose bytes may be at hand, and nothing for a blank one.

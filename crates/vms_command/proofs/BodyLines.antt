@@ -7,26 +7,18 @@ use Rattle.vms_base.specs.declared.headers.Header.{Header}
 use Rattle.vms_text.specs.declared.acts.Line.{Line}
 use Rattle.vms_text.specs.declared.acts.Line.TheVariants as said
 use Rattle.vms_line.specs.declared.causes.LineCause.{LineCause}
-use Rattle.vms_script.specs.Judging.{counted, judged}
-use Rattle.vms_script.specs.JudgeStates.{Stands}
+use Rattle.vms_script.specs.Common.{with_counted, judged, JudgeStands}
 use Rattle.vms_script.specs.declared.judges.LineJudge.{LineJudge}
 use Rattle.vms_stream.specs.declared.statuses.Status.{Status}
 use Rattle.vms_stream.specs.declared.statuses.Status.TheVariants.{TooLong}
-use Rattle.vms_stream.specs.Jobs.{TakesLines, MayGive, StandsOn, TakesPhased, at_most_one}
-use Rattle.vms_stream.specs.PhasedBehaviors.{PhasedBehavior, with_outcomes}
-use Rattle.vms_stream.specs.PhasedBehaviors.Way.{On}
-use Rattle.vms_stream.specs.Waiting.{Text, Waiting, unless_stopped, waiting, waits_after}
-use Rattle.vms_stream.proofs.GivenOutcomes.{TakesLines-given, TakesLines-given_exceeding, TakesPhased-given}
-use Rattle.vms_stream.proofs.TakenTexts.{Grows-nil}
+use Rattle.vms_stream.specs.Common.{TakesLines, MayGive, StandsOn, TakesPhased, at_most_one, PhasedBehavior}
+use Rattle.vms_stream.specs.Common.{with_outcomes, On, Text, Waiting, unless_stopped, waiting, waits_after}
+use Rattle.vms_stream.proofs.Common.{TakesLines-given, TakesLines-given_exceeding, TakesPhased-given, Grows-nil}
 use Rattle.vms_command.specs.declared.body_jobs.BodyJob.{BodyJob}
 use Rattle.vms_command.specs.declared.tallies.Tally.{Tally}
-use Rattle.vms_command.specs.Bodies.{GoesPast, TakesLine, SomeLine}
-use Rattle.vms_command.specs.Commands.{Command, CommandState, ends_at_judged, exceeds, following, halted_at, halts_at}
-use Rattle.vms_command.specs.Commands.CommandState.{Body}
-use Rattle.vms_command.specs.Limits.{exceeds_limit, most_lines}
-use Rattle.vms_command.specs.Lines.{LinesAbove, with_judged}
-use Rattle.vms_command.specs.JobStates.{InBody, StandsAfter}
-use Rattle.vms_command.specs.Tallies.{Adds, IsTallyOf}
+use Rattle.vms_command.specs.Common.{GoesPast, BodyTakes, SomeLine, TraceCommand, CommandState, ends_at_judged, exceeds}
+use Rattle.vms_command.specs.Common.{following, halted_at, halts_at, Body, exceeds_limit, most_lines, LinesAbove}
+use Rattle.vms_command.specs.Common.{with_judged, InBody, StandsAfter, Adds, IsTallyOf}
 
 -- a line adds one at most
 pub one_more : (result : Result Line LineCause) (above : LinesAbove)
@@ -38,7 +30,7 @@ one_more (Ok (said.Boundary boundary)) above = omega arith
 one_more (Err cause) above = omega arith
 
 lines-with_judged : (result : Result Line LineCause) (above : LinesAbove)
-    → counted result above.lines ≡ (with_judged result above).lines
+    → with_counted result above.lines ≡ (with_judged result above).lines
 lines-with_judged (Ok line) above = refl
 lines-with_judged (Err cause) above = refl
 
@@ -53,10 +45,11 @@ only_exceeds false status is = absurd cc
 
 -- what a judge answered to a line
 abbrev Judges : Header → List ℕ → LineJudge → Result Line LineCause → LineJudge → Type 0
-Judges header text judge result judge' = (lines : List Line) → Stands header lines judge →
-    (result ≡ judged header lines text) × Stands header (counted result lines) judge'
+Judges header text judge result judge' = (lines : List Line) → JudgeStands header lines judge →
+    (result ≡ judged header lines text) × JudgeStands header (with_counted result lines) judge'
 
-module _ {K O B : Type 0} (command : Command K O) (stands : B → Header → ℕ → LinesAbove → K → List (Text O) → Type 0)
+module _ {K O B : Type 0} (command : TraceCommand K O)
+    (stands : B → Header → ℕ → LinesAbove → K → List (Text O) → Type 0)
     (job : BodyJob B) (n : ℕ) (text : List ℕ) (result : Result Line LineCause) (judge' : LineJudge)
     (judges : Judges job.header text job.judge result judge') where
   -- the body stands after some lines, and the next one is judged
@@ -127,7 +120,7 @@ module _ {K O B : Type 0} (command : Command K O) (stands : B → Header → ℕ
           ∙ ap (ends_at_judged (command.phase_open job.header above kept)) (sym (judges above.lines here.judges).0)
 
       may_give : {F : Type 0} (answer : Result (Unit {0}) F)
-          → (took : TakesLine command (stands job.body) (stands body') made made' job.header n result answer out out')
+          → (took : BodyTakes command (stands job.body) (stands body') made made' job.header n result answer out out')
           → (now : Waiting (CommandState K) O) → InBody stands n job now
           → MayGive (phased.ends_phase now text) (phased.Allows now text) took.given
       may_give answer took now here =
@@ -140,7 +133,7 @@ module _ {K O B : Type 0} (command : Command K O) (stands : B → Header → ℕ
 
       -- after a line at which its body failed
       pub line-failed : {E F : Type 0} (error : E) (failure : F) (next : Waiting (CommandState K) O → Type 0)
-          → TakesLine command (stands job.body) (stands body') made made' job.header n result (Err failure) out out'
+          → BodyTakes command (stands job.body) (stands body') made made' job.header n result (Err failure) out out'
           → TakesPhased phased (InBody stands n job) next made made' text (Err error) out out'
       line-failed error failure next took =
           TakesPhased-given phased made made' text out out' (Err error) (InBody stands n job) next took.given took.grows
@@ -153,7 +146,7 @@ module _ {K O B : Type 0} (command : Command K O) (stands : B → Header → ℕ
           out out'
           → phased.ends_phase (before above kept waits) text ≡ is_some given
           → IsTallyOf (with_judged (judged job.header above.lines text) above) tally'
-          → Stands job.header (with_judged (judged job.header above.lines text) above).lines judge'
+          → JudgeStands job.header (with_judged (judged job.header above.lines text) above).lines judge'
           → TakesLines (with_outcomes phased (at_most_one given)) (StandsOn (InBody stands (suc n) after))
           (On (before above kept waits) (at_most_one given)) (text ∷ []) None out out'
       line-goes above kept waits given here fewer goes ended tells knows =
@@ -175,7 +168,7 @@ module _ {K O B : Type 0} (command : Command K O) (stands : B → Header → ℕ
           })
 
       pub line-taken : {E F : Type 0} (done : Unit {0})
-          → TakesLine {E = F} command (stands job.body) (stands body') made made' job.header n result (Ok done) out out'
+          → BodyTakes {E = F} command (stands job.body) (stands body') made made' job.header n result (Ok done) out out'
           → TakesPhased {E = E} phased (InBody stands n job) (InBody stands (suc n) after) made made' text (Ok None)
           out out'
       line-taken done took =
@@ -197,5 +190,6 @@ module _ {K O B : Type 0} (command : Command K O) (stands : B → Header → ℕ
           (ends-as above kept waits stood ∙ past.ended)
           (subst (λ (r : Result Line LineCause). IsTallyOf (with_judged r above) tally') known.0
           ((adds above stood.tells).tells none))
-          (subst (λ (r : Result Line LineCause). Stands job.header (with_judged r above).lines judge') known.0
-          (subst (λ (lines : List Line). Stands job.header lines judge') (lines-with_judged result above) known.1))))
+          (subst (λ (r : Result Line LineCause). JudgeStands job.header (with_judged r above).lines judge') known.0
+          (subst (λ (lines : List Line). JudgeStands job.header lines judge')
+          (lines-with_judged result above) known.1))))

@@ -1,38 +1,28 @@
 -- How a command takes a line.
-use Rattle.std.proofs.Common.{◌≡◌, ◌≢◌, ℕ, suc, ◌+◌, ◌<◌, ◌≤◌, nat_lt, true, false, List, [], ◌∷◌, ◌++◌, Option}
-use Rattle.std.proofs.Common.{Some, None, refl, sym, ap, ap₂, subst, ◌∙◌, arith, IfOk, length}
+use Rattle.std.proofs.Common.{◌≡◌, ◌≢◌, ℕ, suc, ◌+◌, ◌<◌, ◌≤◌, nat_lt, true, false, List, [], ◌∷◌, ◌++◌, Option, Some}
+use Rattle.std.proofs.Common.{None, refl, sym, ap, ap₂, subst, ◌∙◌, arith, IfOk, length}
 use Rattle.std.specs.Prelude.{OnOk, Result, Ok, Err}
 use Rattle.std.proofs.lemmas.Bool.Decides.{nat_tests}
 use Rattle.vms_base.specs.declared.headers.Header.{Header}
 use Rattle.vms_header.specs.declared.causes.HeaderCause.{HeaderCause}
-use Rattle.vms_header.specs.Drafts.{Draft, header_of}
-use Rattle.vms_header.specs.Stages.{Stage, HeadStep, head_line, missing}
-use Rattle.vms_header.specs.Stages.HeadStep.{Goes, Ends}
+use Rattle.vms_header.specs.Common.{Draft, header_of, Stage, HeadStep, head_line, missing, Goes, Ends}
 use Rattle.vms_stream.specs.declared.statuses.Status.{Status}
 use Rattle.vms_stream.specs.declared.statuses.Status.TheVariants.{TooLong}
 use Rattle.vms_stream.specs.declared.statuses.Status.TheVariants as statuses
-use Rattle.vms_stream.specs.Jobs.{Closes, TakesLines}
-use Rattle.vms_stream.specs.PhasedBehaviors.{PhasedBehavior, with_outcomes}
-use Rattle.vms_stream.specs.PhasedBehaviors.Way.{On}
-use Rattle.vms_stream.specs.Jobs.{ClosesPhased, MayGive, StandsOn, TakesPhased, at_most_one, shown_on}
-use Rattle.vms_stream.specs.Waiting.{Text, Waiting, unless_stopped, waiting}
-use Rattle.vms_stream.proofs.GivenOutcomes.{Closes-given, ClosesPhased-also, ClosesPhased-given, TakesLines-given}
-use Rattle.vms_stream.proofs.GivenOutcomes.{TakesLines-given_exceeding, TakesLines-given_refused, TakesPhased-also}
-use Rattle.vms_stream.proofs.GivenOutcomes.{TakesPhased-given}
-use Rattle.vms_stream.proofs.TakenTexts.{Grows-nil}
+use Rattle.vms_stream.specs.Common.{Closes, TakesLines, PhasedBehavior, with_outcomes, On, ClosesPhased, MayGive}
+use Rattle.vms_stream.specs.Common.{StandsOn, TakesPhased, at_most_one, shown_on, Text, Waiting, unless_stopped}
+use Rattle.vms_stream.specs.Common.{waiting}
+use Rattle.vms_stream.proofs.Common.{Closes-given, ClosesPhased-also, ClosesPhased-given, TakesLines-given}
+use Rattle.vms_stream.proofs.Common.{TakesLines-given_exceeding, TakesLines-given_refused, TakesPhased-also}
+use Rattle.vms_stream.proofs.Common.{TakesPhased-given, Grows-nil}
 use Rattle.vms_command.specs.declared.body_jobs.BodyJob.{BodyJob}
 use Rattle.vms_command.specs.declared.trace_jobs.Work.{Work}
 use Rattle.vms_command.specs.declared.trace_jobs.Work.TheVariants as works
 use Rattle.vms_command.specs.declared.trace_jobs.TraceJob.{TraceJob}
-use Rattle.vms_command.specs.Bodies.{ClosesBody, EndsAfter, SomeEnd, shown_given}
-use Rattle.vms_command.specs.Commands.{Command, CommandState, after_head, following, halted_at, halts_at, refuses}
-use Rattle.vms_command.specs.Commands.{ends_phase_at}
-use Rattle.vms_command.specs.Commands.CommandState.{Heading, Body}
-use Rattle.vms_command.specs.Limits.{most_lines}
-use Rattle.vms_command.specs.Lines.{LinesAbove, nothing_above}
-use Rattle.vms_command.specs.Printing.{header_line}
-use Rattle.vms_command.specs.JobStates.{InBody, InSomeBody, IsHead, IsWork, StandsAt, StepsToWork}
-use Rattle.vms_command.specs.JobStates.{TakesHeadLine}
+use Rattle.vms_command.specs.Common.{ClosesBody, EndsAfter, SomeEnd, shown_given, TraceCommand, CommandState}
+use Rattle.vms_command.specs.Common.{after_head, following, halted_at, halts_at, refuses, ends_phase_at, Heading, Body}
+use Rattle.vms_command.specs.Common.{most_lines, LinesAbove, nothing_above, header_line, InBody, InSomeBody, IsHead}
+use Rattle.vms_command.specs.Common.{IsWork, StandsAt, StepsToWork, TakesHeadLine}
 use Rattle.vms_command.proofs.BodyLines.{within_limit}
 
 -- a fault alone stops a header
@@ -48,7 +38,7 @@ unless_stopped-none (Some halt) = refl
 beyond_limit : (n : ℕ) (halt : Option Status) → most_lines < n → halted_at n halt ≡ Some TooLong
 beyond_limit n halt beyond = let test : nat_lt most_lines n ≡ true = grind (arith, nat_tests) in rw test refl
 
-module _ {K O B : Type 0} (command : Command K O)
+module _ {K O B : Type 0} (command : TraceCommand K O)
     (stands : B → Header → ℕ → LinesAbove → K → List (Text O) → Type 0) where
   abbrev phased : PhasedBehavior (Waiting (CommandState K) O) O
   phased = waiting (following command)

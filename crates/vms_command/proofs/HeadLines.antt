@@ -3,19 +3,15 @@ use Rattle.std.proofs.Common.{◌≡◌, ℕ, List, ◌++◌, Some, None, refl, 
 use Rattle.std.specs.Prelude.{Result, Ok, Err}
 use Rattle.vms_base.specs.declared.headers.Header.{Header}
 use Rattle.vms_header.specs.declared.causes.HeaderCause.{HeaderCause}
-use Rattle.vms_header.specs.Drafts.{Draft, header_of}
-use Rattle.vms_header.specs.Stages.{Stage, HeadStep}
-use Rattle.vms_header.specs.Stages.HeadStep.{Goes, Ends}
-use Rattle.vms_stream.specs.Waiting.{Text}
+use Rattle.vms_header.specs.Common.{Draft, header_of, Stage, HeadStep, Goes, Ends}
+use Rattle.vms_stream.specs.Common.{Text}
 use Rattle.vms_stream.specs.declared.statuses.Status.TheVariants as statuses
 use Rattle.vms_command.specs.declared.body_jobs.BodyJob.{BodyJob}
 use Rattle.vms_command.specs.declared.trace_jobs.Work.TheVariants as works
-use Rattle.vms_command.specs.Commands.{Command}
-use Rattle.vms_command.specs.Lines.{LinesAbove}
-use Rattle.vms_command.specs.Printing.{header_line}
-use Rattle.vms_command.specs.JobStates.{BeginsBody, TakesHeadLine}
+use Rattle.vms_command.specs.Common.{TraceCommand, LinesAbove, header_line, BeginsBody, TakesHeadLine}
 
-module _ {K O B : Type 0} (command : Command K O) (stands : B → Header → ℕ → LinesAbove → K → List (Text O) → Type 0)
+module _ {K O B : Type 0} (command : TraceCommand K O)
+    (stands : B → Header → ℕ → LinesAbove → K → List (Text O) → Type 0)
     (n : ℕ) (read : Result HeadStep HeaderCause) where
   -- the header goes on
   pub head-goes : (stage : Stage) (out : List ℕ) → read ≡ Ok (Goes stage)

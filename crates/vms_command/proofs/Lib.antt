@@ -3,3 +3,4 @@ pub mod HeadLines
 pub mod CommandLines
 pub mod WholeText
 pub mod PlainBodies
+pub mod Common

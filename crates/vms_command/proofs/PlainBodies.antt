@@ -1,27 +1,21 @@
 -- For other crates too: a body of a command that asks for nothing.
-use Rattle.std.proofs.Common.{◌≡◌, ℕ, Bool, false, List, ◌++◌, length, Option, None, refl, sym, ap, subst}
-use Rattle.std.proofs.Common.{◌∙◌}
+use Rattle.std.proofs.Common.{◌≡◌, ℕ, Bool, false, List, ◌++◌, length, Option, None, refl, sym, ap, subst, ◌∙◌}
 use Rattle.std.specs.Prelude.{IfOk, OnOk, Result, Ok, Err}
 use Rattle.vms_base.specs.declared.headers.Header.{Header}
 use Rattle.vms_text.specs.declared.acts.Line.{Line}
 use Rattle.vms_text.specs.declared.acts.Line.TheVariants.{Blank, Lane, Boundary}
 use Rattle.vms_line.specs.declared.causes.LineCause.{LineCause}
-use Rattle.vms_script.specs.Judging.{judged}
-use Rattle.vms_stream.specs.Answers.{Answers, Says}
+use Rattle.vms_script.specs.Common.{judged}
+use Rattle.vms_stream.specs.Common.{TakesAndWrites, Says, AnswersPhased, AskNothing, plain_bytes, plainly, IsAsking}
+use Rattle.vms_stream.specs.Common.{Text, waiting}
 use Rattle.vms_stream.specs.declared.statuses.Status.{Status}
-use Rattle.vms_stream.specs.PhasedAnswers.{AnswersPhased}
-use Rattle.vms_stream.specs.Plain.{AskNothing, plain_bytes, plainly}
-use Rattle.vms_stream.specs.Waiting.{IsAsking, Text, waiting}
-use Rattle.vms_stream.proofs.PlainAnswers.{Answers-plainly, plain_printed, plain_waits}
-use Rattle.vms_stream.proofs.TakenTexts.{Grows-nil}
-use Rattle.vms_command.specs.Bodies.{ClosesBody, EndsAfter, GoesPast, IsJudged, TakesLine, quietly, shown, shown_given}
-use Rattle.vms_command.specs.Commands.{Command, CommandState, ends_at_judged, ends_phase_at, following, line_text}
-use Rattle.vms_command.specs.Commands.{phase_at}
-use Rattle.vms_command.specs.Commands.CommandState.{Heading, Body}
-use Rattle.vms_command.specs.Lines.{LinesAbove, with_judged}
+use Rattle.vms_stream.proofs.Common.{TakesAndWrites-plainly, plain_printed, plain_waits, Grows-nil}
+use Rattle.vms_command.specs.Common.{ClosesBody, EndsAfter, GoesPast, IsJudgedAfter, BodyTakes, quietly, shown_at_end}
+use Rattle.vms_command.specs.Common.{shown_given, TraceCommand, CommandState, ends_at_judged, ends_phase_at, following}
+use Rattle.vms_command.specs.Common.{line_text, phase_at, Heading, Body, LinesAbove, with_judged}
 
 -- a command that makes no phase, and whose texts are plain
-pub record IsPlain {K O : Type 0} (command : Command K O) : Type 0 where
+pub record IsPlain {K O : Type 0} (command : TraceCommand K O) : Type 0 where
   pub no_phase : (header : Header) (above : LinesAbove) (kept : K) → command.phase_open header above kept ≡ false
   pub plain_text : (header : Header) (n : ℕ) (above : LinesAbove) (said : Result Line LineCause) (kept : K)
       → IsAsking (command.text header n above said kept) → ⊥
@@ -32,7 +26,7 @@ no_end (Ok (Lane lane act)) = refl
 no_end (Ok (Boundary boundary)) = refl
 no_end (Err cause) = refl
 
-module _ {K O : Type 0} (command : Command K O) (is_plain : IsPlain command) where
+module _ {K O : Type 0} (command : TraceCommand K O) (is_plain : IsPlain command) where
   none-ends : (header : Header) (above : LinesAbove) (kept : K) (said : Result Line LineCause)
       → ends_at_judged (command.phase_open header above kept) said ≡ false
   none-ends header above kept said =
@@ -55,26 +49,26 @@ module _ {K O : Type 0} (command : Command K O) (is_plain : IsPlain command) whe
   asks_nothing = record { lines = lines-end_none; plain_text = lines-plain; last = none-open }
 
   -- what it answers
-  pub Answers-plain : {R S : Type 0} (shows : Header → LinesAbove → K → Option O → Type 0)
+  pub TakesAndWrites-plain : {R S : Type 0} (shows : Header → LinesAbove → K → Option O → Type 0)
       (made made' : Option (List O)) (left : R → Option (List ℕ)) (read_faults : R → ℕ) (held : S → Option (List ℕ))
       (write_faults : S → ℕ) (src src' : R) (out out' : S) (status : Status)
       → AnswersPhased (waiting (following command)) (shown_given shows) made made' left read_faults held write_faults
       src src' out out' status
-      → Answers left read_faults held write_faults src src' out out' status
-      (Says (plainly (following command)) (shown (λ header above kept. shows header above kept None)))
-  Answers-plain shows made made' left read_faults held write_faults src src' out out' status answers =
-      Answers-plainly (following command) asks_nothing (shown_given shows) made made' left read_faults held
+      → TakesAndWrites left read_faults held write_faults src src' out out' status
+      (Says (plainly (following command)) (shown_at_end (λ header above kept. shows header above kept None)))
+  TakesAndWrites-plain shows made made' left read_faults held write_faults src src' out out' status answers =
+      TakesAndWrites-plainly (following command) asks_nothing (shown_given shows) made made' left read_faults held
       write_faults src src' out out' status answers
 
   -- its body takes a line
   module _ {E P : Type 0} (stands stands' : Header → LinesAbove → K → Type 0) (made : Option (List O))
       (header : Header) (n : ℕ) (said : Result Line LineCause) (result : Result (Unit {0}) E) (out out' : List ℕ)
       (does : OnOk result P)
-      (goes : P → (above : LinesAbove) (kept : K) → stands header above kept → IsJudged header above said →
+      (goes : P → (above : LinesAbove) (kept : K) → stands header above kept → IsJudgedAfter header above said →
       stands' header (with_judged said above) (command.next header n above said None kept)
       × (out' ≡ out ++ plain_bytes (command.text header n above said kept))) where
-    pub TakesLine-plain : TakesLine command (quietly stands) (quietly stands') made made header n said result out out'
-    TakesLine-plain = record {
+    pub BodyTakes-plain : BodyTakes command (quietly stands) (quietly stands') made made header n said result out out'
+    BodyTakes-plain = record {
       given = None;
       grows = Grows-nil made;
       may_give = λ above kept waits here judged_is. tt;
@@ -83,7 +77,7 @@ module _ {K O : Type 0} (command : Command K O) (is_plain : IsPlain command) whe
       where
         by : (r : Result (Unit {0}) E) → OnOk r P
             → OnOk r ((above : LinesAbove) (kept : K) (waits : List (Text O)) → quietly stands header n above kept waits
-            → IsJudged header above said →
+            → IsJudgedAfter header above said →
             GoesPast command (quietly stands') header n above kept waits said None out out')
         by (Ok done) does = λ above kept waits here judged_is.
             let text = command.text header n above said kept in

@@ -4,24 +4,19 @@ use Rattle.std.proofs.Common.{◌≡◌, ◌≢◌, ℕ, zero, suc, Bool, true, 
 use Rattle.std.proofs.Common.{drop, Option, Some, None, refl, sym, ap, ◌∙◌, append_assoc, append-nil}
 use Rattle.std.specs.Prelude.{Result, Ok, Err}
 use Rattle.vms_base.specs.declared.headers.Header.{Header}
-use Rattle.vms_text.specs.Lines.{lines_of}
+use Rattle.vms_text.specs.Common.{lines_of}
 use Rattle.vms_header.specs.declared.causes.HeaderCause.{HeaderCause}
-use Rattle.vms_header.specs.Drafts.{header_of}
-use Rattle.vms_header.specs.Stages.{Stage, HeadStep, head_line, header_from, on_step}
-use Rattle.vms_header.specs.Stages.Stage.{Opening}
-use Rattle.vms_header.specs.Stages.HeadStep.{Goes, Ends}
-use Rattle.vms_script.specs.Judging.{judged}
+use Rattle.vms_header.specs.Common.{header_of, Stage, HeadStep, head_line, header_from, on_step, Opening, Goes, Ends}
+use Rattle.vms_script.specs.Common.{judged}
 use Rattle.vms_stream.specs.declared.statuses.Status.{Status}
 use Rattle.vms_stream.specs.declared.statuses.Status.TheVariants.{TooLong}
 use Rattle.vms_stream.specs.declared.statuses.Status.TheVariants as statuses
-use Rattle.vms_stream.specs.Behaviors.{first_halt, halted, last_words, state_after, printed, printed_from, Behavior}
-use Rattle.vms_command.specs.Commands.{Command, CommandState, following, halted_at, exceeds, after_head, printed_head}
-use Rattle.vms_command.specs.Commands.{refuses}
-use Rattle.vms_command.specs.Commands.CommandState.{Heading, Body}
-use Rattle.vms_command.specs.Limits.{most_lines, exceeds_limit}
-use Rattle.vms_command.specs.Lines.{LinesAbove, come_to, nothing_above, with_judged}
-use Rattle.vms_command.specs.Texts.{WritesTexts, body_text, kept_of, printed_of, text_under}
-use Rattle.vms_stream.specs.Plain.{plain_bytes, plainly}
+use Rattle.vms_stream.specs.Common.{first_halt, halted, last_words, state_after, printed, printed_from, Behavior}
+use Rattle.vms_stream.specs.Common.{plain_bytes, plainly}
+use Rattle.vms_command.specs.Common.{TraceCommand, CommandState, following, halted_at, exceeds, after_head}
+use Rattle.vms_command.specs.Common.{printed_head, refuses, Heading, Body, most_lines, exceeds_limit, LinesAbove}
+use Rattle.vms_command.specs.Common.{come_to, nothing_above, with_judged, WritesTexts, body_text, kept_by_command}
+use Rattle.vms_command.specs.Common.{printed_of, text_under}
 
 -- where no limit is exceeded, a line stops the command for what it says alone
 unless_beyond : (b : Bool) (halt : Option Status) → (if b then Some TooLong else halt) ≢ Some TooLong
@@ -67,7 +62,7 @@ written-refused : (halt : Option Status) (line later : List ℕ) (rest : Option 
 written-refused halt line later rest words refused = ap (λ (at : Option Status). written_at at line later rest words)
     refused ∙ append-nil line
 
-module _ {K O : Type 0} (command : Command K O) where
+module _ {K O : Type 0} (command : TraceCommand K O) where
   abbrev behavior : Behavior (CommandState K)
   behavior = plainly (following command)
 
@@ -80,7 +75,7 @@ module _ {K O : Type 0} (command : Command K O) where
       → halted behavior (Body n header above kept) lines ≢ Some TooLong
       → written_from (Body n header above kept) lines
       ≡ printed_of command header n above kept lines ++ plain_bytes (command.last header (come_to header above lines)
-      (kept_of command header n above kept lines))
+      (kept_by_command command header n above kept lines))
   body_written n header above kept [] within = refl
   body_written n header above kept (line ∷ lines) within =
       let result = judged header above.lines line in
@@ -99,7 +94,7 @@ module _ {K O : Type 0} (command : Command K O) where
       (later_within (halted_at n (exceeds over)) (halted behavior next lines) none within))
       ∙ sym (append_assoc text (printed_of command header (suc n) above' kept' lines)
       (plain_bytes (command.last header (come_to header above' lines)
-      (kept_of command header (suc n) above' kept' lines))))
+      (kept_by_command command header (suc n) above' kept' lines))))
 
   -- what is written from a line of the header on, by what was read of the line
   step_written : (k : ℕ) (stage : Stage) (read : Result HeadStep HeaderCause) (lines all : List (List ℕ))

@@ -3,18 +3,17 @@ use Rattle.std.specs.Prelude.{◌≡◌, ℕ, ◌≤◌, suc, List, [], ◌++◌
 use Rattle.vms_base.specs.declared.headers.Header.{Header}
 use Rattle.vms_text.specs.declared.acts.Line.{Line}
 use Rattle.vms_line.specs.declared.causes.LineCause.{LineCause}
-use Rattle.vms_script.specs.Judging.{judged}
+use Rattle.vms_script.specs.Common.{judged}
 use Rattle.vms_stream.specs.declared.statuses.Status.{Status}
-use Rattle.vms_stream.specs.Jobs.{Grows, MayGive, at_most_one}
-use Rattle.vms_stream.specs.Waiting.{Text, Waiting, printed_with, waits_after}
-use Rattle.vms_command.specs.Commands.{Command, CommandState, ends_at_judged}
+use Rattle.vms_stream.specs.Common.{Grows, MayGive, at_most_one, Text, Waiting, printed_with, waits_after}
+use Rattle.vms_command.specs.Commands.{TraceCommand, CommandState, ends_at_judged}
 use Rattle.vms_command.specs.Commands.CommandState.{Heading, Body}
 use Rattle.vms_command.specs.Limits.{most_lines}
 use Rattle.vms_command.specs.Lines.{LinesAbove, with_judged}
 
 -- what is judged of some line of a body after lines that came to this
-abbrev pub IsJudged : Header → LinesAbove → Result Line LineCause → Type 0
-IsJudged header above result = (text : List ℕ) × (result ≡ judged header above.lines text)
+abbrev pub IsJudgedAfter : Header → LinesAbove → Result Line LineCause → Type 0
+IsJudgedAfter header above result = (text : List ℕ) × (result ≡ judged header above.lines text)
 
 -- a body before line n, after some lines, and what is judged of it. These texts wait for the outcome of the open phase
 pub record SomeLine {K O : Type 0} (stands : Header → ℕ → LinesAbove → K → List (Text O) → Type 0) (header : Header)
@@ -23,7 +22,7 @@ pub record SomeLine {K O : Type 0} (stands : Header → ℕ → LinesAbove → K
   pub kept : K
   pub waits : List (Text O)
   pub after : stands header n above kept waits
-  pub judged : IsJudged header above result
+  pub judged : IsJudgedAfter header above result
 
 -- a body of which no text waits
 abbrev pub quietly : {K O : Type 0} → (Header → LinesAbove → K → Type 0) → Header → ℕ → LinesAbove → K
@@ -32,7 +31,7 @@ quietly stands header n above kept waits = stands header above kept × (waits �
 
 -- a body took line n, of which this was judged, after lines that came to this. A phase that ends there was given its
 -- outcome
-pub record GoesPast {K O : Type 0} (command : Command K O)
+pub record GoesPast {K O : Type 0} (command : TraceCommand K O)
     (stands' : Header → ℕ → LinesAbove → K → List (Text O) → Type 0)
     (header : Header) (n : ℕ) (above : LinesAbove) (kept : K) (waits : List (Text O))
     (said : Result Line LineCause) (given : Option O) (out out' : List ℕ) : Type 0 where
@@ -43,17 +42,17 @@ pub record GoesPast {K O : Type 0} (command : Command K O)
 
 -- a body takes line n, of which this was judged, whatever lines it stands after. Whether it fails or not, what was made
 -- before grows by the outcome that is given
-pub record TakesLine {K O E : Type 0} (command : Command K O)
+pub record BodyTakes {K O E : Type 0} (command : TraceCommand K O)
     (stands stands' : Header → ℕ → LinesAbove → K → List (Text O) → Type 0) (made made' : Option (List O))
     (header : Header) (n : ℕ) (said : Result Line LineCause) (result : Result (Unit {0}) E) (out out' : List ℕ)
     : Type 0 where
   pub given : Option O
   pub grows : Grows made made' (at_most_one given)
   pub may_give : (above : LinesAbove) (kept : K) (waits : List (Text O)) → stands header n above kept waits
-      → IsJudged header above said →
+      → IsJudgedAfter header above said →
       MayGive (ends_at_judged (command.phase_open header above kept) said) (command.Allows header above kept) given
   pub goes : OnOk result ((above : LinesAbove) (kept : K) (waits : List (Text O)) → stands header n above kept waits
-      → IsJudged header above said →
+      → IsJudgedAfter header above said →
       GoesPast command stands' header n above kept waits said given out out')
 
 -- a body after all lines of a trace, with how many of them count and how many were refused
@@ -69,7 +68,7 @@ pub record SomeEnd {K O : Type 0} (stands : Header → ℕ → LinesAbove → K 
   pub refuses : refused ≡ above.refused
 
 -- a body ended its trace, and what it shows of it. A phase that was open was given its outcome
-pub record EndsAfter {K O : Type 0} (command : Command K O) (shows : Header → LinesAbove → K → Option O → Type 0)
+pub record EndsAfter {K O : Type 0} (command : TraceCommand K O) (shows : Header → LinesAbove → K → Option O → Type 0)
     (header : Header) (above : LinesAbove) (kept : K) (waits : List (Text O)) (given : Option O) (ending : Status)
     (out out' : List ℕ) : Type 0 where
   pub ended : command.phase_open header above kept ≡ is_some given
@@ -79,7 +78,7 @@ pub record EndsAfter {K O : Type 0} (command : Command K O) (shows : Header → 
 
 -- a body ends its trace, whatever lines it stands after. Whether it fails or not, what was made before grows by the
 -- outcome that is given
-pub record ClosesBody {K O E : Type 0} (command : Command K O)
+pub record ClosesBody {K O E : Type 0} (command : TraceCommand K O)
     (stands : Header → ℕ → LinesAbove → K → List (Text O) → Type 0)
     (shows : Header → LinesAbove → K → Option O → Type 0) (made made' : Option (List O)) (header : Header)
     (accepted refused : ℕ) (result : Result Status E) (out out' : List ℕ) : Type 0 where
@@ -93,11 +92,11 @@ pub record ClosesBody {K O E : Type 0} (command : Command K O)
       EndsAfter command shows header above kept waits given ending out out')
 
 -- what a command shows at the end of a trace: nothing of a header that doesn't end
-abbrev pub shown : {K : Type 0} → (Header → LinesAbove → K → Type 0) → CommandState K → Type 0
-shown shows (Heading n stage) = Unit {0}
-shown shows (Body n header above kept) = shows header above kept
+abbrev pub shown_at_end : {K : Type 0} → (Header → LinesAbove → K → Type 0) → CommandState K → Type 0
+shown_at_end shows (Heading n stage) = Unit {0}
+shown_at_end shows (Body n header above kept) = shows header above kept
 
 -- the same with the outcome of the phase that ends there
 abbrev pub shown_given : {K O : Type 0} → (Header → LinesAbove → K → Option O → Type 0)
     → Waiting (CommandState K) O → Option O → Type 0
-shown_given shows now given = shown (λ header above kept. shows header above kept given) now.state
+shown_given shows now given = shown_at_end (λ header above kept. shows header above kept given) now.state

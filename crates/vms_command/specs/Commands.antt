@@ -1,19 +1,14 @@
 -- Commands on a trace by what they say from line to line: through the header, and then through the body.
-use Rattle.std.specs.Prelude.{Bool, true, false, ℕ, suc, nat_lt, if◌then◌else◌, List, [], Option, Some, None}
-use Rattle.std.specs.Prelude.{Result, Ok, Err}
+use Rattle.std.specs.Prelude.{Bool, true, false, ℕ, suc, nat_lt, if◌then◌else◌, List, [], Option, Some, None, Result}
+use Rattle.std.specs.Prelude.{Ok, Err}
 use Rattle.vms_base.specs.declared.headers.Header.{Header}
 use Rattle.vms_text.specs.declared.acts.Line.{Line}
 use Rattle.vms_text.specs.declared.acts.Line.TheVariants.{Boundary}
 use Rattle.vms_header.specs.declared.causes.HeaderCause.{HeaderCause}
 use Rattle.vms_line.specs.declared.causes.LineCause.{LineCause}
-use Rattle.vms_header.specs.Drafts.{header_of}
-use Rattle.vms_header.specs.Stages.{Stage, HeadStep, head_line, missing}
-use Rattle.vms_header.specs.Stages.Stage.{Opening}
-use Rattle.vms_header.specs.Stages.HeadStep.{Goes, Ends}
-use Rattle.vms_script.specs.Judging.{judged}
-use Rattle.vms_stream.specs.Waiting.{LineTexts, Text}
-use Rattle.vms_stream.specs.Waiting.Text.{Plain}
-use Rattle.vms_stream.specs.Behaviors.{MayEnd, MayHalt}
+use Rattle.vms_header.specs.Common.{header_of, Stage, HeadStep, head_line, missing, Opening, Goes, Ends}
+use Rattle.vms_script.specs.Common.{judged}
+use Rattle.vms_stream.specs.Common.{LineTexts, Text, Plain, MayEnd, MayHalt}
 use Rattle.vms_stream.specs.declared.statuses.Status.{Status}
 use Rattle.vms_stream.specs.declared.statuses.Status.TheVariants.{Done, Refused, TooLong}
 use Rattle.vms_stream.specs.declared.statuses.Status.TheVariants as statuses
@@ -23,7 +18,7 @@ use Rattle.vms_command.specs.Printing.{header_line}
 
 -- a command on a trace: what it keeps of the lines of the body, beside what they came to, and what it prints. Its
 -- phases have outcomes: a phase that is open ends at the next boundary line that counts, or at the end of the trace
-pub record Command (K O : Type 0) : Type 1 where
+pub record TraceCommand (K O : Type 0) : Type 1 where
   -- kept after the header, and printed there
   pub begins : Header → K
   pub opens : Header → List ℕ
@@ -61,13 +56,13 @@ pub data CommandState (K : Type 0) : Type 0 where
   Body : ℕ → Header → LinesAbove → K → CommandState K
 
 -- a header's line: its first fault stops the command, and `go` begins the body
-abbrev pub after_head : {K O : Type 0} → Command K O → ℕ → Stage → Result HeadStep HeaderCause → CommandState K
+abbrev pub after_head : {K O : Type 0} → TraceCommand K O → ℕ → Stage → Result HeadStep HeaderCause → CommandState K
 after_head command n stage (Ok (Goes next)) = Heading (suc n) next
 after_head command n stage (Ok (Ends draft)) =
     Body (suc n) (header_of draft) nothing_above (command.begins (header_of draft))
 after_head command n stage (Err cause) = Heading n stage
 
-abbrev pub printed_head : {K O : Type 0} → Command K O → ℕ → Result HeadStep HeaderCause → List ℕ
+abbrev pub printed_head : {K O : Type 0} → TraceCommand K O → ℕ → Result HeadStep HeaderCause → List ℕ
 printed_head command n (Ok (Goes next)) = []
 printed_head command n (Ok (Ends draft)) = command.opens (header_of draft)
 printed_head command n (Err cause) = header_line (record { line = n; cause = cause })
@@ -77,29 +72,29 @@ refuses (Ok read) = None
 refuses (Err cause) = Some statuses.Header
 
 -- whether a phase is open, and which outcomes it may have
-abbrev pub phase_at : {K O : Type 0} → Command K O → CommandState K → Bool
+abbrev pub phase_at : {K O : Type 0} → TraceCommand K O → CommandState K → Bool
 phase_at command (Heading n stage) = false
 phase_at command (Body n header above kept) = command.phase_open header above kept
 
-abbrev pub allows_at : {K O : Type 0} → Command K O → CommandState K → O → Type 0
+abbrev pub allows_at : {K O : Type 0} → TraceCommand K O → CommandState K → O → Type 0
 allows_at command (Heading n stage) = λ outcome. ⊥
 allows_at command (Body n header above kept) = command.Allows header above kept
 
 -- whether a phase ends at a line
-abbrev pub ends_phase_at : {K O : Type 0} → Command K O → CommandState K → List ℕ → Bool
+abbrev pub ends_phase_at : {K O : Type 0} → TraceCommand K O → CommandState K → List ℕ → Bool
 ends_phase_at command (Heading n stage) line = false
 ends_phase_at command (Body n header above kept) line =
     ends_at_judged (command.phase_open header above kept) (judged header above.lines line)
 
 -- after a line, by the outcome of the phase that ends there
-abbrev pub after_line : {K O : Type 0} → Command K O → CommandState K → List ℕ → Option O → CommandState K
+abbrev pub after_line : {K O : Type 0} → TraceCommand K O → CommandState K → List ℕ → Option O → CommandState K
 after_line command (Heading n stage) line given = after_head command n stage (head_line stage line)
 after_line command (Body n header above kept) line given =
     Body (suc n) header (with_judged (judged header above.lines line) above)
     (command.next header n above (judged header above.lines line) given kept)
 
 -- the text of a line
-abbrev pub line_text : {K O : Type 0} → Command K O → CommandState K → List ℕ → Text O
+abbrev pub line_text : {K O : Type 0} → TraceCommand K O → CommandState K → List ℕ → Text O
 line_text command (Heading n stage) line = Plain (printed_head command n (head_line stage line))
 line_text command (Body n header above kept) line = command.text header n above (judged header above.lines line) kept
 
@@ -117,11 +112,11 @@ halts_at (Body n header above kept) line =
     halted_at n (exceeds (exceeds_limit above.lines (judged header above.lines line)))
 
 -- the text at the end of a trace, and how the command ends there
-abbrev pub end_text : {K O : Type 0} → Command K O → CommandState K → Text O
+abbrev pub end_text : {K O : Type 0} → TraceCommand K O → CommandState K → Text O
 end_text command (Heading n stage) = Plain (header_line (record { line = n; cause = missing stage }))
 end_text command (Body n header above kept) = command.last header above kept
 
-abbrev pub ends_as : {K O : Type 0} → Command K O → CommandState K → Status
+abbrev pub ends_as : {K O : Type 0} → TraceCommand K O → CommandState K → Status
 ends_as command (Heading n stage) = statuses.Header
 ends_as command (Body n header above kept) = command.ends above
 
@@ -141,13 +136,13 @@ MayHalt-halts_at (Body n header above kept) line =
     let over = exceeds_limit above.lines (judged header above.lines line) in
     MayHalt-if (nat_lt most_lines n) (exceeds over) (MayHalt-if over None tt)
 
-pub MayEnd-ends_as : {K O : Type 0} (command : Command K O) (state : CommandState K)
+pub MayEnd-ends_as : {K O : Type 0} (command : TraceCommand K O) (state : CommandState K)
     → MayEnd (ends_as command state)
 MayEnd-ends_as command (Heading n stage) = tt
 MayEnd-ends_as command (Body n header above kept) = command.may_end above
 
 -- a command, line by line
-abbrev pub following : {K O : Type 0} → Command K O → LineTexts (CommandState K) O
+abbrev pub following : {K O : Type 0} → TraceCommand K O → LineTexts (CommandState K) O
 following command = record {
   start = Heading 1 Opening;
   ends_phase = ends_phase_at command;

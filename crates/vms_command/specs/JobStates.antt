@@ -2,18 +2,15 @@
 use Rattle.std.specs.Prelude.{◌≡◌, ℕ, ◌+◌, ◌<◌, ◌≤◌, suc, List, [], ◌++◌, length, Option, None, Result, Ok}
 use Rattle.vms_base.specs.declared.headers.Header.{Header}
 use Rattle.vms_header.specs.declared.causes.HeaderCause.{HeaderCause}
-use Rattle.vms_header.specs.Drafts.{header_of}
-use Rattle.vms_header.specs.Stages.{Stage, HeadStep}
-use Rattle.vms_header.specs.Stages.HeadStep.{Goes, Ends}
-use Rattle.vms_header.specs.Laws.{IsWritable}
-use Rattle.vms_script.specs.JudgeStates.{Stands}
+use Rattle.vms_header.specs.Common.{header_of, Stage, HeadStep, Goes, Ends, IsWritable}
+use Rattle.vms_script.specs.Common.{JudgeStands}
 use Rattle.vms_stream.specs.declared.statuses.Status.{Status}
-use Rattle.vms_stream.specs.Waiting.{Text, Waiting}
+use Rattle.vms_stream.specs.Common.{Text, Waiting}
 use Rattle.vms_command.specs.declared.body_jobs.BodyJob.{BodyJob}
 use Rattle.vms_command.specs.declared.trace_jobs.Work.{Work}
 use Rattle.vms_command.specs.declared.trace_jobs.Work.TheVariants as works
 use Rattle.vms_command.specs.declared.trace_jobs.TraceJob.{TraceJob}
-use Rattle.vms_command.specs.Commands.{Command, CommandState, printed_head, refuses}
+use Rattle.vms_command.specs.Commands.{TraceCommand, CommandState, printed_head, refuses}
 use Rattle.vms_command.specs.Commands.CommandState.{Heading, Body}
 use Rattle.vms_command.specs.Limits.{most_lines}
 use Rattle.vms_command.specs.Lines.{LinesAbove, nothing_above}
@@ -23,7 +20,7 @@ use Rattle.vms_command.specs.Tallies.{IsTallyOf}
 pub record StandsAfter {K O B : Type 0} (stands : B → Header → ℕ → LinesAbove → K → List (Text O) → Type 0)
     (n : ℕ) (above : LinesAbove) (kept : K) (waits : List (Text O)) (job : BodyJob B) : Type 0 where
   pub writable : IsWritable job.header
-  pub judges : Stands job.header above.lines job.judge
+  pub judges : JudgeStands job.header above.lines job.judge
   pub tells : IsTallyOf above job.tally
   pub after : stands job.body job.header n above kept waits
 
@@ -45,7 +42,7 @@ pub record InSomeBody {K O B : Type 0} (stands : B → Header → ℕ → LinesA
   pub inside : InBody stands number job now
 
 -- a header was accepted, and its body begins
-pub record BeginsBody {K O B : Type 0} (command : Command K O)
+pub record BeginsBody {K O B : Type 0} (command : TraceCommand K O)
     (stands : B → Header → ℕ → LinesAbove → K → List (Text O) → Type 0)
     (header : Header) (out out' : List ℕ) (job : BodyJob B) : Type 0 where
   pub printed : out' ≡ out ++ command.opens header
@@ -58,7 +55,8 @@ IsHead stage (works.Header reader) = reader ≡ stage
 IsHead stage work = ⊥
 
 -- the work that comes after a line of a header, by what was read of it
-abbrev pub StepsToWork : {K O B : Type 0} → Command K O → (B → Header → ℕ → LinesAbove → K → List (Text O) → Type 0)
+abbrev pub StepsToWork : {K O B : Type 0} → TraceCommand K O →
+    (B → Header → ℕ → LinesAbove → K → List (Text O) → Type 0)
     → Result HeadStep HeaderCause → Work B → Type 0
 StepsToWork command stands (Ok (Goes stage)) work = IsHead stage work
 StepsToWork command stands (Ok (Ends draft)) (works.Body job) = (job.header ≡ header_of draft)
@@ -66,7 +64,7 @@ StepsToWork command stands (Ok (Ends draft)) (works.Body job) = (job.header ≡ 
 StepsToWork command stands read work = ⊥
 
 -- a command took line n of a header, of which this was read
-pub record TakesHeadLine {K O B : Type 0} (command : Command K O)
+pub record TakesHeadLine {K O B : Type 0} (command : TraceCommand K O)
     (stands : B → Header → ℕ → LinesAbove → K → List (Text O) → Type 0) (n : ℕ)
     (read : Result HeadStep HeaderCause) (halt : Option Status) (out out' : List ℕ) (work : Work B) : Type 0 where
   pub halt_is : halt ≡ refuses read

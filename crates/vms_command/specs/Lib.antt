@@ -6,3 +6,4 @@ pub mod Texts
 pub mod Bodies
 pub mod Tallies
 pub mod JobStates
+pub mod Common

@@ -3,7 +3,7 @@ use Rattle.std.specs.Prelude.{ℕ, suc, List, [], ◌∷◌, Result, Ok, Err}
 use Rattle.vms_base.specs.declared.headers.Header.{Header}
 use Rattle.vms_text.specs.declared.acts.Line.{Line}
 use Rattle.vms_line.specs.declared.causes.LineCause.{LineCause}
-use Rattle.vms_script.specs.Judging.{judged, counted}
+use Rattle.vms_script.specs.Common.{judged, with_counted}
 
 -- the lines that count, the newest first, and how many were refused
 pub record LinesAbove : Type 0 where
@@ -15,7 +15,7 @@ nothing_above = record { lines = []; refused = 0 }
 
 -- with one line more, by what was judged of it
 abbrev pub with_judged : Result Line LineCause → LinesAbove → LinesAbove
-with_judged (Ok line) above = record above { lines = counted (Ok line) above.lines }
+with_judged (Ok line) above = record above { lines = with_counted (Ok line) above.lines }
 with_judged (Err cause) above = record above { refused = suc above.refused }
 
 -- with these lines more

@@ -4,7 +4,7 @@ use Rattle.vms_header.specs.declared.causes.HeaderCause.{HeaderCause}
 use Rattle.vms_header.specs.declared.causes.HeaderCause.TheVariants as header_causes
 use Rattle.vms_line.specs.declared.causes.LineCause.{LineCause}
 use Rattle.vms_line.specs.declared.causes.LineCause.TheVariants as line_causes
-use Rattle.vms_header.specs.Stages.{Fault}
+use Rattle.vms_header.specs.Common.{Fault}
 
 abbrev pub newline : List ℕ
 newline = 10 ∷ []

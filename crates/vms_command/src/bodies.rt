@@ -1,13 +1,13 @@
 ghost use Rattle.std.specs.Prelude.{◌≡◌, ℕ, ◌≤◌, ◌++◌, [], List, Option, IfOk, OnOk};
-ghost use Rattle.vms_base.specs.Headers.{IsHeader};
+ghost use Rattle.vms_base.specs.Common.{IsHeader};
 ghost use Rattle.vms_base.specs.declared.headers.Header.{Header};
-ghost use Rattle.vms_command.specs.Bodies.{ClosesBody, TakesLine, SomeEnd, SomeLine};
-ghost use Rattle.vms_command.specs.Commands.{Command};
+ghost use Rattle.vms_command.specs.Bodies.{ClosesBody, BodyTakes, SomeEnd, SomeLine};
+ghost use Rattle.vms_command.specs.Commands.{TraceCommand};
 ghost use Rattle.vms_command.specs.Limits.{most_lines};
 ghost use Rattle.vms_command.specs.Lines.{LinesAbove, nothing_above};
-ghost use Rattle.vms_header.specs.Laws.{IsWritable};
-ghost use Rattle.vms_stream.specs.Waiting.{Text};
-ghost use Rattle.vms_script.specs.JudgeStates.{IsInOneSpelling};
+ghost use Rattle.vms_header.specs.Common.{IsWritable};
+ghost use Rattle.vms_stream.specs.Common.{Text};
+ghost use Rattle.vms_script.specs.Common.{IsInOneSpelling};
 
 use std::alloc::Global;
 use vms_base::{Header, Memory};
@@ -23,7 +23,7 @@ pub trait Body: Drop + Sized {
 
     ghost Outcome: { Type 0 };
 
-    ghost command: { Command Kept Outcome };
+    ghost command: { TraceCommand Kept Outcome };
 
     // The outcomes that the engine made so far, or none where it keeps none.
     ghost made: { Self.Engine → Option (List Outcome) };
@@ -56,7 +56,8 @@ pub trait Body: Drop + Sized {
         requires line { SomeLine (Stands self.old) header.now number judged.now.said }
         requires most { number ≤ most_lines }
         requires spelled { IsInOneSpelling header.now judged.now }
-        ensures { TakesLine command (Stands self.old) (Stands self.new) (made engine.old) (made engine.new) header.now
+        ensures { BodyTakes command (Stands self.old) (Stands self.new) (made engine.old)
+            (made engine.new) header.now
             number judged.now.said result out.old.items out.new.items };
 
     /// Comes to the end of the trace, where the open phase ends, appends what is printed there, and says how the

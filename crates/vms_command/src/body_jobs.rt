@@ -16,9 +16,8 @@ pub(crate) struct BodyJob<B> {
 
 impl<B: Body> BodyJob<B> {
     ghost use Rattle.std.specs.Prelude.{suc, ◌≤◌, IfOk};
-    ghost use Rattle.vms_header.specs.Laws.{IsWritable};
-    ghost use Rattle.vms_stream.specs.Jobs.{ClosesPhased, TakesPhased};
-    ghost use Rattle.vms_stream.specs.Waiting.{Waiting, waiting};
+    ghost use Rattle.vms_header.specs.Common.{IsWritable};
+    ghost use Rattle.vms_stream.specs.Common.{ClosesPhased, TakesPhased, Waiting, waiting};
     ghost use Rattle.vms_command.specs.Bodies.{shown_given};
     ghost use Rattle.vms_command.specs.Commands.{CommandState, following};
     ghost use Rattle.vms_command.specs.Limits.{most_lines};

@@ -1,5 +1,4 @@
-ghost use Rattle.vms_stream.specs.PhasedAnswers.{AnswersPhased};
-ghost use Rattle.vms_stream.specs.Waiting.{waiting};
+ghost use Rattle.vms_stream.specs.Common.{AnswersPhased, waiting};
 ghost use Rattle.vms_command.specs.Bodies.{shown_given};
 ghost use Rattle.vms_command.specs.Commands.{following};
 

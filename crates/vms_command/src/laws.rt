@@ -1,6 +1,6 @@
 ghost use Rattle.vms_command.specs.Commands.{following};
 ghost use Rattle.vms_command.specs.Texts.{WritesTexts};
-ghost use Rattle.vms_stream.specs.Laws.{WritesInOrder};
+ghost use Rattle.vms_stream.specs.Common.{WritesInOrder};
 
 use crate::Body;
 

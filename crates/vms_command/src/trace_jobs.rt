@@ -33,9 +33,8 @@ impl<B: Body> TraceJob<B> {
     ghost use Rattle.vms_command.specs.Commands.{CommandState, following};
     ghost use Rattle.vms_command.specs.Limits.{most_lines};
     ghost use Rattle.vms_command.specs.JobStates.{IsHead, TakesHeadLine, StandsAt};
-    ghost use Rattle.vms_header.specs.Stages.{Stage, head_line};
-    ghost use Rattle.vms_stream.specs.Jobs.{TakesPhased};
-    ghost use Rattle.vms_stream.specs.Waiting.{Waiting, waiting};
+    ghost use Rattle.vms_header.specs.Common.{Stage, head_line};
+    ghost use Rattle.vms_stream.specs.Common.{TakesPhased, Waiting, waiting};
 
     /// Before the first line.
     pub(crate) fn begin(alloc: Global) -> TraceJob<B>
@@ -93,7 +92,7 @@ impl<B: Body> Job for TraceJob<B> {
     ghost use Rattle.vms_command.specs.Bodies.{shown_given};
     ghost use Rattle.vms_command.specs.Commands.{CommandState, following};
     ghost use Rattle.vms_command.specs.JobStates.{StandsAt};
-    ghost use Rattle.vms_stream.specs.Waiting.{Waiting, waiting};
+    ghost use Rattle.vms_stream.specs.Common.{Waiting, waiting};
 
     type Engine = B::Engine;
 
@@ -134,7 +133,7 @@ impl<B: Body> Job for TraceJob<B> {
 }
 
 ghost use Rattle.std.specs.Prelude.{IfOk};
-ghost use Rattle.vms_header.specs.Stages.{Stage, head_line};
+ghost use Rattle.vms_header.specs.Common.{Stage, head_line};
 ghost use Rattle.vms_command.specs.JobStates.{IsHead, TakesHeadLine};
 
 /// Takes the line of this number, where a header is read.

@@ -1,20 +1,14 @@
 -- What CPUs acknowledged is loaded, one after another. The first load tells that the pass is the control pass.
-use Rattle.std.proofs.Common.{◌≡◌, ℕ, ◌+◌, ◌<◌, List, [], ◌∷◌, ◌++◌, length, get_or, take, refl, sym, ap, ◌∙◌}
-use Rattle.std.proofs.Common.{subst, arith, length-append, Option}
+use Rattle.std.proofs.Common.{◌≡◌, ℕ, ◌+◌, ◌<◌, List, [], ◌∷◌, ◌++◌, length, get_or, take, refl, sym, ap, ◌∙◌, subst}
+use Rattle.std.proofs.Common.{arith, length-append, Option}
 use Rattle.std.proofs.lemmas.List.{length-take-le, take_more}
-use Rattle.vms_base.specs.declared.ids.CpuId.{CpuId}
-use Rattle.vms_calls.specs.Ratings.{acknowledged_steps}
-use Rattle.vms_core.specs.declared.steps.Facts.{Facts}
-use Rattle.vms_core.specs.declared.steps.Step.{Step}
-use Rattle.vms_core.specs.declared.steps.Step.TheVariants.{LoadA}
-use Rattle.vms_core.specs.Conditions.{IsControl}
-use Rattle.vms_core.specs.Pages.{pages, IsLegal}
-use Rattle.vms_core.proofs.KnowledgeKept.{owner_in-goes_on}
-use Rattle.vms_control.specs.Online.{no_cpu}
+use Rattle.vms_calls.specs.Common.{CpuId, acknowledged_steps, Facts, Step, LoadA, IsControl, pages}
+use Rattle.vms_core.specs.Pages.{IsLegal}
+use Rattle.vms_core.proofs.Common.{owner_in-goes_on}
+use Rattle.vms_control.specs.Common.{no_cpu}
 use Rattle.vms_control.proofs.PassCalls.{step-at}
-use Rattle.vms_seats.specs.Passes.{Pass, Shared, IsOf}
-use Rattle.vms_seats.specs.Steps.{Made, MadeOne}
-use Rattle.vms_seats.proofs.MadeCalls.{calls-next}
+use Rattle.vms_seats.specs.Common.{Pass, Shared, IsFrom, Made, MadeOne}
+use Rattle.vms_seats.proofs.Common.{calls-next}
 
 -- one load more
 acknowledged-more : (g : ℕ) (cs : List CpuId) (numbers : List (Option ℕ)) (c : CpuId) (x : Option ℕ)
@@ -45,7 +39,7 @@ module _ (g i : ℕ) (online : List CpuId) (i_in : i < length online) (new now o
             (LoadA (get_or online i no_cpu) (record { number = g }) x) one so_far.2),
       )
 
-  pub load-controls : (words : Shared Facts) → IsOf now words → IsControl now.seen now.number
+  pub load-controls : (words : Shared Facts) → IsFrom now words → IsControl now.seen now.number
   load-controls words of =
       let at = step-at words new now (LoadA (get_or online i no_cpu) (record { number = g }) x) of one in
       let legal = subst (IsLegal words.facts) at.newest at.legal in

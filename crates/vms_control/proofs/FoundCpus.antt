@@ -1,32 +1,19 @@
 -- The CPUs that were found online so far, and all of them once each was looked at.
-use Rattle.std.proofs.Common.{◌≡◌, ◌≢◌, ℕ, suc, ◌+◌, ◌<◌, ◌≤◌, nat_eq, Bool, true, false, true≢false}
-use Rattle.std.proofs.Common.{if◌then◌else◌, List, [], ◌∷◌, ◌++◌, length, refl, sym, ap, ◌∙◌, subst, arith}
-use Rattle.std.proofs.Common.{⊎_elim, append_assoc, append-nil, length-append}
+use Rattle.std.proofs.Common.{◌≡◌, ◌≢◌, ℕ, suc, ◌+◌, ◌<◌, ◌≤◌, nat_eq, Bool, true, false, true≢false, if◌then◌else◌}
+use Rattle.std.proofs.Common.{List, [], ◌∷◌, ◌++◌, length, refl, sym, ap, ◌∙◌, subst, arith, ⊎_elim, append_assoc}
+use Rattle.std.proofs.Common.{append-nil, length-append}
 use Rattle.std.proofs.Math.ListN.{get_or-append}
 use Rattle.std.proofs.Math.Seq.{get_or-append_seam}
 use Rattle.std.proofs.lemmas.Bool.{cases_eq}
 use Rattle.std.proofs.lemmas.List.Elements.{All-append}
-use Rattle.vms_base.specs.declared.ids.CpuId.{CpuId}
-use Rattle.vms_base.specs.declared.kinds.CpuState.{CpuState}
-use Rattle.vms_base.specs.declared.kinds.CpuState.TheVariants.{Online, Dead, Absent}
-use Rattle.vms_base.specs.Cpus.{is_online, online_from}
-use Rattle.vms_base.specs.Places.{IsCpu}
-use Rattle.vms_calls.specs.Lists.{in_turn}
-use Rattle.vms_calls.specs.MayCall.{AreOnline}
-use Rattle.vms_calls.specs.Ratings.{state_steps}
-use Rattle.vms_core.specs.declared.steps.Facts.{Facts}
-use Rattle.vms_core.specs.declared.steps.Step.{Step}
-use Rattle.vms_core.specs.declared.steps.Step.TheVariants.{LoadO, SetO}
-use Rattle.vms_core.specs.Bases.{IsBase}
-use Rattle.vms_core.specs.Cells.{cpu_at}
-use Rattle.vms_core.specs.Pages.{pages, History, IsLegal, state_after}
-use Rattle.vms_core.specs.Peaks.{cpu_after, cpu_in}
-use Rattle.vms_core.proofs.LiveOwners.{online-stays}
-use Rattle.vms_core.proofs.Settings.{cpu_at-state_after}
-use Rattle.vms_control.specs.Online.{FoundOnline, no_cpu, number_in}
-use Rattle.vms_seats.specs.Passes.{Pass, Shared, IsOf, IsLive}
-use Rattle.vms_seats.specs.Steps.{Made, MadeOne, MakesStep}
-use Rattle.vms_seats.proofs.MadeCalls.{calls-both, calls-none}
+use Rattle.vms_calls.specs.Common.{CpuId, CpuState, Online, Dead, Absent, is_online, online_from, IsCpu, in_turn}
+use Rattle.vms_calls.specs.Common.{AreOnline, state_steps, Facts, Step, LoadO, SetO, IsBase, cpu_at, pages, History}
+use Rattle.vms_calls.specs.Common.{state_after, cpu_after, cpu_in}
+use Rattle.vms_core.specs.Pages.{IsLegal}
+use Rattle.vms_core.proofs.Common.{online-stays, cpu_at-state_after}
+use Rattle.vms_control.specs.Common.{FoundOnline, no_cpu, cpu_number_in}
+use Rattle.vms_seats.specs.Common.{Pass, Shared, IsFrom, IsLive, Made, MadeOne, MakesStep}
+use Rattle.vms_seats.proofs.Common.{calls-both, calls-none}
 use Rattle.vms_control.proofs.PassCalls.{step-at}
 
 -- one thing more in a row
@@ -81,11 +68,11 @@ cpu_in-was facts c (e ∷ h) is = cpu_in-was facts c h (cpu-was c e.step (cpu_in
 
 -- a number more at the end of a list
 module _ (online : List CpuId) (c : CpuId) where
-  number-earlier : (i : ℕ) → i < length online → number_in (online ++ (c ∷ [])) i ≡ number_in online i
+  number-earlier : (i : ℕ) → i < length online → cpu_number_in (online ++ (c ∷ [])) i ≡ cpu_number_in online i
   number-earlier i i_in = ap (λ (d : CpuId). d.number) (get_or-append online (c ∷ []) no_cpu i i_in)
 
-  number-last : (i : ℕ) → i ≡ length online → number_in (online ++ (c ∷ [])) i ≡ c.number
-  number-last i is = ap (number_in (online ++ (c ∷ []))) is
+  number-last : (i : ℕ) → i ≡ length online → cpu_number_in (online ++ (c ∷ [])) i ≡ c.number
+  number-last i is = ap (cpu_number_in (online ++ (c ∷ []))) is
       ∙ ap (λ (d : CpuId). d.number) (get_or-append_seam online c [] no_cpu)
 
 -- the states of the CPUs below n were loaded, and these were online
@@ -97,8 +84,8 @@ pub record FoundSoFar (facts : Facts) (now old : Pass Facts Step) (n : ℕ) (onl
   pub few : length online ≤ n
   pub some : (c : ℕ) → c < n → cpu_at facts.base c ≡ Online → 1 ≤ length online
   pub each : AreOnline facts.layout facts.base online
-  pub below : (i : ℕ) → i < length online → number_in online i < n
-  pub ascending : (i j : ℕ) → i < j → j < length online → number_in online i < number_in online j
+  pub below : (i : ℕ) → i < length online → cpu_number_in online i < n
+  pub ascending : (i j : ℕ) → i < j → j < length online → cpu_number_in online i < cpu_number_in online j
 
 pub found-none : (facts : Facts) (old : Pass Facts Step) → IsLive pages old → FoundSoFar facts old old 0 []
 found-none facts old live = record {
@@ -114,7 +101,7 @@ found-none facts old live = record {
 }
 
 module _ (words : Shared Facts) (now old : Pass Facts Step) (n : ℕ) (online : List CpuId)
-    (so_far : FoundSoFar words.facts now old n online) (of : IsOf now words) (new : Pass Facts Step) (x : CpuState)
+    (so_far : FoundSoFar words.facts now old n online) (of : IsFrom now words) (new : Pass Facts Step) (x : CpuState)
     (n_in : IsCpu words.facts.layout n) (one : MadeOne pages new now (LoadO (record { number = n }) x)) where
   abbrev facts : Facts
   facts = words.facts

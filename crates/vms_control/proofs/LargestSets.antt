@@ -1,15 +1,10 @@
 -- For other crates too: the largest number of sets of one threshold or mark, by how often each was set since.
 use Rattle.std.proofs.Common.{ℕ, ◌+◌, ◌<◌, ◌≤◌, length, arith}
-use Rattle.vms_base.specs.Places.{Shape, IsCpu, IsPlace, IsZone, place_count}
-use Rattle.vms_core.specs.declared.states.State.{State}
-use Rattle.vms_core.specs.declared.steps.Facts.{Facts}
-use Rattle.vms_core.specs.Cells.{mark_sets_at, threshold_sets_at}
-use Rattle.vms_core.specs.Pages.{History, state_after}
-use Rattle.vms_core.specs.Plain.{most_sets}
-use Rattle.vms_control.specs.SetCounts.{MayStillSet, SetsAtMost}
-use Rattle.vms_history.specs.Sums.{largest_below}
-use Rattle.vms_history.proofs.CountLemmas.{largest_below-least, largest_below-most}
-use Rattle.vms_words.specs.KeptSettings.{largest_sets}
+use Rattle.vms_calls.specs.Common.{Shape, IsCpu, IsPlace, IsZone, place_count, State, Facts, mark_sets_at}
+use Rattle.vms_calls.specs.Common.{threshold_sets_at, History, state_after, most_sets, largest_below}
+use Rattle.vms_control.specs.Common.{MayStillSet, SetsAtMost}
+use Rattle.vms_history.proofs.Common.{largest_below-least, largest_below-most}
+use Rattle.vms_words.specs.Common.{largest_sets}
 
 module _ (shape : Shape) (s : State) where
   threshold-most : (c g : ℕ) → IsCpu shape c → IsPlace shape g → threshold_sets_at s c g ≤ largest_sets shape s

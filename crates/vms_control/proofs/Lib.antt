@@ -1,4 +1,3 @@
-pub mod PushedLists
 pub mod PeakSums
 pub mod SameSums
 pub mod PassCalls
@@ -13,3 +12,4 @@ pub mod VisitedZone
 pub mod VisitedZones
 pub mod NodeThresholds
 pub mod WholeCalls
+pub mod Common

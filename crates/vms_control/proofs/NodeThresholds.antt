@@ -1,31 +1,18 @@
 -- The thresholds of nodes may be set, and one node after another gets its own.
-use Rattle.std.proofs.Common.{◌≡◌, ℕ, ◌+◌, ◌<◌, ◌≤◌, nat_eq, if◌then◌else◌, List, [], ◌∷◌, ◌++◌}
-use Rattle.std.proofs.Common.{length, get_or, map, take, sym, ap, ◌∙◌, subst, arith, eq-eqb}
-use Rattle.std.specs.Prelude.{All, Contains}
-use Rattle.std.proofs.lemmas.List.{get_or_default, length-map, length-take-le, take_more}
+use Rattle.std.proofs.Common.{◌≡◌, ℕ, ◌+◌, ◌<◌, ◌≤◌, List, [], ◌∷◌, ◌++◌, length, get_or, take, sym, ap, ◌∙◌, subst}
+use Rattle.std.proofs.Common.{arith}
+use Rattle.std.specs.Prelude.{All}
+use Rattle.std.proofs.lemmas.List.{length-take-le, take_more}
 use Rattle.std.proofs.lemmas.List.Elements.{All-head, All-tail}
-use Rattle.vms_base.specs.declared.ids.CpuId.{CpuId}
-use Rattle.vms_base.specs.declared.kinds.CpuState.TheVariants.{Online}
-use Rattle.vms_base.specs.declared.kinds.ZoneName.{ZoneName}
-use Rattle.vms_base.specs.Places.{Shape, IsCpu, IsLayout, IsPlace, node_of_zone}
-use Rattle.vms_base.specs.Thresholds.{most_threshold}
-use Rattle.vms_calls.specs.Lists.{in_turn}
-use Rattle.vms_calls.specs.MayMake.{MayMake}
-use Rattle.vms_calls.specs.Ratings.{largest_on, threshold_steps}
-use Rattle.vms_core.specs.declared.steps.Facts.{Facts}
-use Rattle.vms_core.specs.declared.steps.Step.{Step}
-use Rattle.vms_core.specs.declared.steps.Step.TheVariants.{SetT}
-use Rattle.vms_core.specs.Cells.{cpu_at}
-use Rattle.vms_core.specs.Conditions.{IsControl}
-use Rattle.vms_core.specs.Pages.{pages, History, IsLegal}
-use Rattle.vms_core.proofs.LiveOwners.{online-stays}
-use Rattle.vms_control.specs.Online.{FoundOnline}
+use Rattle.vms_calls.specs.Common.{CpuId, Online, Shape, IsCpu, IsPlace, most_threshold, in_turn, MayMake, largest_on}
+use Rattle.vms_calls.specs.Common.{threshold_steps, Facts, Step, SetT, cpu_at, IsControl, pages, History}
+use Rattle.vms_core.specs.Pages.{IsLegal}
+use Rattle.vms_core.proofs.Common.{online-stays}
+use Rattle.vms_control.specs.Common.{FoundOnline}
 use Rattle.vms_control.proofs.FoundCpus.{in_turn-more}
-use Rattle.vms_history.proofs.CountLemmas.{largest_below-least}
-use Rattle.vms_history.proofs.MadeSteps.{made-given, made-owner}
-use Rattle.vms_seats.specs.Passes.{Pass}
-use Rattle.vms_seats.specs.Steps.{Made}
-use Rattle.vms_seats.proofs.MadeCalls.{calls-both}
+use Rattle.vms_history.proofs.Common.{made-given, made-owner}
+use Rattle.vms_seats.specs.Common.{Pass, Made}
+use Rattle.vms_seats.proofs.Common.{calls-both}
 
 -- one of the steps that set thresholds sets that of a CPU
 step-of : (g t : ℕ) (cs : List CpuId) (done : List Step) (step : Step) (rest : List Step) (P : CpuId → Type 0)
@@ -59,24 +46,6 @@ node-may facts h p g t online control past g_in least most found later done step
         covers = λ zone. absurd (omega arith);
       },
     )
-
--- the largest threshold on a node is one of its zones'
-pub largest-least : (shape : Shape) → IsLayout shape → (ts : List ℕ)
-    → ((g : ℕ) → g < length shape.zones → 1 ≤ get_or ts g 0) → (node : ℕ) → Contains shape.nodes node
-    → 1 ≤ largest_on shape ts node
-largest-least shape layout ts each node known =
-    let named = (layout.nodes_named node).0 known in
-    let g = named.0 in
-    let zone : g < length shape.zones =
-    (let same = length-map shape.zones (λ (zone : ZoneName). zone.node) in let below = named.1 in omega arith) in
-    let at : node_of_zone shape g ≡ node =
-    get_or_default (map (λ (zone : ZoneName). zone.node) shape.zones) g 0 node named.1 ∙ named.2 in
-    let here : of g ≡ get_or ts g 0 =
-    ap (λ b. if b then get_or ts g 0 else 0) (eq-eqb (node_of_zone shape g) node at) in
-    omega (arith, largest_below-least of (length shape.zones) g zone, here, each g zone)
-  where
-    of : ℕ → ℕ
-    of y = if nat_eq (node_of_zone shape y) node then get_or ts y 0 else 0
 
 module _ (shape : Shape) (ts : List ℕ) (online : List CpuId) where
   -- the steps for these nodes, of which the first has the number n among all nodes

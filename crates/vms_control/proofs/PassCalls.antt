@@ -1,28 +1,19 @@
 -- For other crates too: what stands of a pass after a part of its call, from what it was before.
 use Rattle.std.proofs.Common.{◌≡◌, List, sym, ap, ◌∙◌, subst}
-use Rattle.vms_calls.specs.MayCall.{KnowsByOwnSteps}
-use Rattle.vms_calls.specs.MayMake.{HasMade}
-use Rattle.vms_core.specs.declared.steps.Facts.{Facts}
-use Rattle.vms_core.specs.declared.steps.Step.{Step}
-use Rattle.vms_core.specs.Conditions.{IsControl}
-use Rattle.vms_core.specs.Pages.{pages}
-use Rattle.vms_core.specs.Steps.{role}
+use Rattle.vms_calls.specs.Common.{KnowsByOwnSteps, HasMade, Facts, Step, IsControl, pages, role, after, owner_in}
 use Rattle.vms_control.proofs.SameSums.{SameSums}
-use Rattle.vms_history.specs.Events.{after}
-use Rattle.vms_history.specs.Passes.{owner_in}
-use Rattle.vms_history.proofs.MadeSteps.{made-owner}
-use Rattle.vms_seats.specs.Passes.{Pass, Shared, IsOf}
-use Rattle.vms_seats.specs.Steps.{Made, MadeOne, MakesStep}
+use Rattle.vms_history.proofs.Common.{made-owner}
+use Rattle.vms_seats.specs.Common.{Pass, Shared, IsFrom, Made, MadeOne, MakesStep}
 
 -- one step, by the facts of the words
-pub step-at : (words : Shared Facts) (new old : Pass Facts Step) (step : Step) → IsOf old words
+pub step-at : (words : Shared Facts) (new old : Pass Facts Step) (step : Step) → IsFrom old words
     → MadeOne pages new old step → MakesStep pages words.facts new.seen old.seen old.number step
 step-at words new old step of one =
     subst (λ (f : Facts). MakesStep pages f new.seen old.seen old.number step) of.facts one.at
 
-module _ (words : Shared Facts) (new old : Pass Facts Step) (steps : List Step) (of : IsOf old words)
+module _ (words : Shared Facts) (new old : Pass Facts Step) (steps : List Step) (of : IsFrom old words)
     (made : Made pages new old steps) where
-  pub of-new : IsOf new words
+  pub of-new : IsFrom new words
   of-new = record { table = made.table ∙ of.table; facts = made.facts ∙ of.facts }
 
   pub has-made : HasMade words.facts new.seen old.seen old.number steps

@@ -4,23 +4,10 @@ use Rattle.std.proofs.Common.{if◌then◌else◌, List, [], ◌∷◌, ◌++◌
 use Rattle.std.proofs.Common.{arith, ⊎_elim, eq-eqb}
 use Rattle.std.proofs.lemmas.Bool.{cases_eq, ne_eqb}
 use Rattle.std.proofs.lemmas.List.{get_or-take, length-take-le, map-append, take_more}
-use Rattle.vms_base.specs.declared.ids.CpuId.{CpuId}
-use Rattle.vms_base.specs.declared.kinds.CpuState.{CpuState}
-use Rattle.vms_base.specs.declared.kinds.CpuState.TheVariants.{Online, Dead, Absent}
-use Rattle.vms_base.specs.Places.{IsCpu}
-use Rattle.vms_base.specs.Thresholds.{most_threshold}
-use Rattle.vms_calls.specs.Ratings.{threshold_steps}
-use Rattle.vms_core.specs.declared.steps.Facts.{Facts}
-use Rattle.vms_core.specs.declared.steps.Step.{Step}
-use Rattle.vms_core.specs.declared.steps.Step.TheVariants.{SetT}
-use Rattle.vms_core.specs.Cells.{cpu_at}
-use Rattle.vms_core.specs.Pages.{History}
-use Rattle.vms_core.specs.Peaks.{cpu_in, if_present, peak, peak_sum}
-use Rattle.vms_control.specs.Online.{FoundOnline, no_cpu, number_in}
-use Rattle.vms_history.specs.Events.{after}
-use Rattle.vms_history.specs.Sums.{count_below}
-use Rattle.vms_history.proofs.CountLemmas.{count_below-most, count_below-same}
-use Rattle.vms_history.proofs.Own.{after-steps}
+use Rattle.vms_calls.specs.Common.{CpuId, CpuState, Online, Dead, Absent, IsCpu, most_threshold, threshold_steps, Facts}
+use Rattle.vms_calls.specs.Common.{Step, SetT, cpu_at, History, cpu_in, if_present, peak, peak_sum, after, count_below}
+use Rattle.vms_control.specs.Common.{FoundOnline, no_cpu, cpu_number_in}
+use Rattle.vms_history.proofs.Common.{count_below-most, count_below-same, after-steps}
 
 -- a sum of which one number grew
 count_below-grown : (f g : ℕ → ℕ) (n c more : ℕ) → c < n → g c ≡ f c + more → ((i : ℕ) → i < n → i ≢ c → g i ≡ f i)
@@ -50,7 +37,7 @@ module _ (facts : Facts) (p g t : ℕ) where
       cpus-set cs (record { caller = p; step = SetT c (record { number = g }) t } ∷ h) d
 
   -- and so do the peaks of other CPUs
-  peaks-set : (cs : List CpuId) (h : History) (d : ℕ) → ((j : ℕ) → j < length cs → number_in cs j ≢ d)
+  peaks-set : (cs : List CpuId) (h : History) (d : ℕ) → ((j : ℕ) → j < length cs → cpu_number_in cs j ≢ d)
       → peak facts d g (after p (threshold_steps g t cs) h) ≡ peak facts d g h
   peaks-set [] h d others = refl
   peaks-set (c ∷ cs) h d others =
@@ -94,7 +81,7 @@ module _ (facts : Facts) (p g t : ℕ) where
     pub sum-more : (i : ℕ) → i < length online
         → peak_sum facts g (after p (threshold_steps g t (take (i + 1) online)) h)
         ≡ peak_sum facts g (after p (threshold_steps g t (take i online)) h)
-        + (t - peak facts (number_in online i) g h)
+        + (t - peak facts (cpu_number_in online i) g h)
     sum-more i i_in =
         let cs = take i online in
         let c = get_or online i no_cpu in
@@ -108,7 +95,7 @@ module _ (facts : Facts) (p g t : ℕ) where
         (peaks-set cs h c.number (λ j j_in same.
         let before : j < i = omega arith in
         let rises = found.ascending j i before i_in in
-        let is : number_in cs j ≡ number_in online j =
+        let is : cpu_number_in cs j ≡ cpu_number_in online j =
         ap (λ (d : CpuId). d.number) (get_or-take i online j no_cpu before) in
         omega (arith, rises, is, same)))
 

@@ -2,28 +2,14 @@
 -- whatever others do between them.
 use Rattle.std.proofs.Common.{◌≡◌, ◌≢◌, ℕ, List, [], ◌∷◌, ◌++◌, true, refl, sym, ◌∙◌, subst, arith, ⊎_elim}
 use Rattle.std.proofs.lemmas.Bool.{cases_eq}
-use Rattle.vms_base.specs.Places.{IsPlace}
-use Rattle.vms_calls.specs.MayMake.{HasMade}
-use Rattle.vms_calls.proofs.CallSteps.{Each, OfFolds, OfLooks}
-use Rattle.vms_core.specs.declared.steps.Facts.{Facts}
-use Rattle.vms_core.specs.declared.steps.Step.{Step}
-use Rattle.vms_core.specs.declared.steps.Step.TheVariants.{SetT, SetM}
-use Rattle.vms_core.specs.Cells.{mark_sets_at, threshold_sets_at}
-use Rattle.vms_core.specs.Conditions.{IsControl}
-use Rattle.vms_core.specs.Effects.{mark_sets_after}
-use Rattle.vms_core.specs.Pages.{pages, History, IsLegal, state_after}
-use Rattle.vms_core.specs.Peaks.{sets_after}
-use Rattle.vms_core.specs.Steps.{role}
-use Rattle.vms_core.proofs.KnowledgeKept.{event-leaves}
-use Rattle.vms_core.proofs.Settings.{mark_sets_at-newest, sets-newest}
-use Rattle.vms_control.specs.SetCounts.{SetsAtMost, never}
-use Rattle.vms_history.specs.declared.events.Event.{Event}
-use Rattle.vms_history.specs.Events.{after, own}
-use Rattle.vms_history.specs.Passes.{lives_in, owner_in}
-use Rattle.vms_history.proofs.GoesOn.{holds_while_live}
-use Rattle.vms_history.proofs.MadeSteps.{made-given}
-use Rattle.vms_history.proofs.Own.{own-mine, own-on_top}
-use Rattle.vms_history.proofs.PassLaws.{owner_acts_alone}
+use Rattle.vms_calls.specs.Common.{IsPlace, HasMade, Facts, Step, SetT, SetM, mark_sets_at, threshold_sets_at}
+use Rattle.vms_calls.specs.Common.{IsControl, mark_sets_after, pages, History, state_after, sets_after, role, Event}
+use Rattle.vms_calls.specs.Common.{after, own, lives_in, owner_in}
+use Rattle.vms_calls.proofs.Common.{Each, OfFolds, OfLooks}
+use Rattle.vms_core.specs.Pages.{IsLegal}
+use Rattle.vms_core.proofs.Common.{event-leaves, mark_sets_at-newest, sets-newest}
+use Rattle.vms_control.specs.Common.{SetsAtMost, never}
+use Rattle.vms_history.proofs.Common.{holds_while_live, made-given, own-mine, own-on_top, owner_acts_alone}
 
 -- a step that sets no threshold and no mark
 abbrev pub SetsNothing : Step → Type 0

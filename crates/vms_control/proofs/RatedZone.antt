@@ -1,36 +1,20 @@
 -- A zone is rated: its mark may be set, and then its thresholds.
-use Rattle.std.proofs.Common.{◌≡◌, ◌≢◌, ℕ, ◌≤◌, Bool, if◌then◌else◌, List, [], ◌∷◌, ◌++◌, length}
-use Rattle.std.proofs.Common.{refl, sym, ap, ◌∙◌, subst, append_assoc}
+use Rattle.std.proofs.Common.{◌≡◌, ◌≢◌, ℕ, ◌≤◌, Bool, if◌then◌else◌, List, [], ◌∷◌, ◌++◌, length, refl, sym, ap, ◌∙◌}
+use Rattle.std.proofs.Common.{subst, append_assoc}
 use Rattle.std.proofs.lemmas.Bool.{ne_eqb}
 use Rattle.std.proofs.lemmas.List.Elements.{All-weaker}
-use Rattle.vms_base.specs.declared.ids.CpuId.{CpuId}
-use Rattle.vms_base.specs.declared.kinds.CpuState.TheVariants.{Online}
-use Rattle.vms_base.specs.declared.kinds.ZoneSize.{ZoneSize}
-use Rattle.vms_base.specs.Marks.{cover_mark_of, linux_mark_of}
-use Rattle.vms_base.specs.Places.{IsCpu, IsZone}
-use Rattle.vms_base.specs.Sizes.{size_at}
-use Rattle.vms_base.specs.Thresholds.{most_threshold}
-use Rattle.vms_calls.specs.MayCall.{AreOnline}
-use Rattle.vms_calls.specs.MayMake.{ControlsIn, MayMake}
-use Rattle.vms_calls.specs.Ratings.{Choice, Rates, mark_for, mark_steps, rating_steps, threshold_steps}
-use Rattle.vms_calls.proofs.ChoiceRanges.{GivesBoth}
-use Rattle.vms_calls.proofs.ControlCalls.{rating-may}
-use Rattle.vms_calls.proofs.MayBegin.{call-whole}
-use Rattle.vms_core.specs.declared.steps.Facts.{Facts}
-use Rattle.vms_core.specs.declared.steps.Step.{Step}
-use Rattle.vms_core.specs.declared.steps.Step.TheVariants.{SetM}
-use Rattle.vms_core.specs.Cells.{cpu_at, mark_at}
-use Rattle.vms_core.specs.Conditions.{IsControl, SetsMark}
-use Rattle.vms_core.specs.Pages.{pages, History, IsLegal, state_after}
-use Rattle.vms_core.specs.Peaks.{peak_sum}
-use Rattle.vms_core.proofs.LiveOwners.{online-stays}
-use Rattle.vms_control.specs.Online.{FoundOnline}
+use Rattle.vms_calls.specs.Common.{CpuId, Online, ZoneSize, cover_mark_of, linux_mark_of, IsCpu, IsZone, size_at}
+use Rattle.vms_calls.specs.Common.{most_threshold, AreOnline, ControlsIn, MayMake, Choice, Rates, mark_for, mark_steps}
+use Rattle.vms_calls.specs.Common.{rating_steps, threshold_steps, Facts, Step, SetM, cpu_at, mark_at, IsControl}
+use Rattle.vms_calls.specs.Common.{SetsMark, pages, History, state_after, peak_sum, after}
+use Rattle.vms_calls.proofs.Common.{GivesBoth, rating-may, call-whole}
+use Rattle.vms_core.specs.Pages.{IsLegal}
+use Rattle.vms_core.proofs.Common.{online-stays}
+use Rattle.vms_control.specs.Common.{FoundOnline}
 use Rattle.vms_control.proofs.PassCalls.{has-made}
-use Rattle.vms_history.specs.Events.{after}
-use Rattle.vms_history.proofs.MadeSteps.{made-both, made-none}
-use Rattle.vms_seats.specs.Passes.{Pass, Shared, IsOf, IsLive}
-use Rattle.vms_seats.specs.Steps.{Made}
-use Rattle.vms_seats.proofs.MadeCalls.{calls-both}
+use Rattle.vms_history.proofs.Common.{made-both, made-none}
+use Rattle.vms_seats.specs.Common.{Pass, Shared, IsFrom, IsLive, Made}
+use Rattle.vms_seats.proofs.Common.{calls-both}
 
 -- two thresholds of the range
 abbrev pub InRange : Choice
@@ -51,7 +35,7 @@ mark-is facts p online h g usual t size linux hidden mark size_is linux_is hidde
     ∙ ap (λ (z : ZoneSize). cover_mark_of z (linux_mark_of z (length online) usual)
     (peak_sum facts g (after p (threshold_steps g t online) h))) size_is
 
-module _ (words : Shared Facts) (old : Pass Facts Step) (of : IsOf old words) (live : IsLive pages old)
+module _ (words : Shared Facts) (old : Pass Facts Step) (of : IsFrom old words) (live : IsLive pages old)
     (control : IsControl old.seen old.number) (online : List CpuId) (found : FoundOnline words.facts online)
     (g t usual m : ℕ) (zone : IsZone words.facts.layout g) (stands : mark_at (state_after words.facts old.seen) g ≡ m)
     (least : 1 ≤ t) (most : t ≤ most_threshold) (least_usual : 1 ≤ usual) (most_usual : usual ≤ most_threshold) where

@@ -1,23 +1,11 @@
 -- For other crates too: what a call that sets thresholds makes depends on the history in which it begins by the sums of
 -- peaks alone, and these are the same after what the control pass made while others acted as after its steps in a row.
 use Rattle.std.proofs.Common.{◌≡◌, ℕ, List, ◌++◌, length, sym, ap, ◌∙◌}
-use Rattle.vms_base.specs.declared.ids.CpuId.{CpuId}
-use Rattle.vms_base.specs.declared.ids.PlaceId.{PlaceId}
-use Rattle.vms_base.specs.declared.kinds.ZoneSize.{ZoneSize}
-use Rattle.vms_base.specs.Cpus.{online_from}
-use Rattle.vms_base.specs.Marks.{cover_mark_of, linux_mark_of}
-use Rattle.vms_base.specs.Sizes.{size_at}
-use Rattle.vms_calls.specs.Lists.{in_turn}
-use Rattle.vms_calls.specs.Ratings.{Choice, ByNormal, Rates, RatesMarked, RatesNode, Refreshes, Visits, VisitsEach}
-use Rattle.vms_calls.specs.Ratings.{mark_steps, state_steps, threshold_steps}
-use Rattle.vms_calls.specs.Ratings.RatesMarked.{unmarked, marked}
-use Rattle.vms_calls.specs.Ratings.VisitsEach.{none, next}
-use Rattle.vms_core.specs.declared.steps.Facts.{Facts}
-use Rattle.vms_core.specs.declared.steps.Step.{Step}
-use Rattle.vms_core.specs.Pages.{History}
-use Rattle.vms_core.specs.Peaks.{peak_sum}
-use Rattle.vms_history.specs.Events.{after}
-use Rattle.vms_history.proofs.Own.{after-steps}
+use Rattle.vms_calls.specs.Common.{CpuId, PlaceId, ZoneSize, online_from, cover_mark_of, linux_mark_of, size_at}
+use Rattle.vms_calls.specs.Common.{in_turn, Choice, ByNormal, Rates, RatesMarked, RatesNode, Refreshes, Visits}
+use Rattle.vms_calls.specs.Common.{VisitsEach, mark_steps, state_steps, threshold_steps, unmarked, marked, none, next}
+use Rattle.vms_calls.specs.Common.{Facts, Step, History, peak_sum, after}
+use Rattle.vms_history.proofs.Common.{after-steps}
 
 -- whatever further steps of pass p come, the sums of peaks after them are the same
 abbrev pub SameSums : Facts → ℕ → History → History → Type 0

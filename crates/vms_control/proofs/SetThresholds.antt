@@ -1,27 +1,16 @@
 -- Thresholds are set on CPUs that were found online, one after another.
-use Rattle.std.proofs.Common.{◌≡◌, ℕ, suc, ◌+◌, ◌<◌, ◌≤◌, ◌&&◌, nat_eq, Bool, true, false, if◌then◌else◌}
-use Rattle.std.proofs.Common.{List, [], ◌∷◌, ◌++◌, length, get_or, take, refl, sym, ap, ◌∙◌, subst, arith}
-use Rattle.std.proofs.Common.{append_assoc, eqb-true}
+use Rattle.std.proofs.Common.{◌≡◌, ℕ, suc, ◌+◌, ◌<◌, ◌≤◌, ◌&&◌, nat_eq, Bool, true, false, if◌then◌else◌, List, [], ◌∷◌}
+use Rattle.std.proofs.Common.{◌++◌, length, get_or, take, refl, sym, ap, ◌∙◌, subst, arith, append_assoc, eqb-true}
 use Rattle.std.specs.Prelude.{drop}
 use Rattle.std.proofs.lemmas.Bool.{ne_eqb}
 use Rattle.std.proofs.lemmas.List.{map-append, take_more, take-append-drop}
-use Rattle.vms_base.specs.declared.ids.CpuId.{CpuId}
-use Rattle.vms_base.specs.Places.{IsPlace}
-use Rattle.vms_calls.specs.MayMake.{MayMake}
-use Rattle.vms_calls.specs.Ratings.{threshold_steps}
-use Rattle.vms_core.specs.declared.steps.Facts.{Facts}
-use Rattle.vms_core.specs.declared.steps.Step.{Step}
-use Rattle.vms_core.specs.declared.steps.Step.TheVariants.{SetT}
-use Rattle.vms_core.specs.Cells.{threshold_sets_at}
-use Rattle.vms_core.specs.Conditions.{IsControl, SetsThreshold}
-use Rattle.vms_core.specs.Pages.{pages, History, state_after}
-use Rattle.vms_control.specs.Online.{FoundOnline, no_cpu, number_in}
-use Rattle.vms_control.specs.SetCounts.{SetsAtMost, never, once}
+use Rattle.vms_calls.specs.Common.{CpuId, IsPlace, MayMake, threshold_steps, Facts, Step, SetT, threshold_sets_at}
+use Rattle.vms_calls.specs.Common.{IsControl, SetsThreshold, pages, History, state_after}
+use Rattle.vms_control.specs.Common.{FoundOnline, no_cpu, cpu_number_in, SetsAtMost, never, once}
 use Rattle.vms_control.proofs.PassCalls.{has-made}
 use Rattle.vms_control.proofs.StepCounts.{mark_sets-next, once-at, sets-next}
-use Rattle.vms_seats.specs.Passes.{Pass, Shared, IsOf}
-use Rattle.vms_seats.specs.Steps.{Made, MadeOne, MakesStep}
-use Rattle.vms_seats.proofs.MadeCalls.{calls-next}
+use Rattle.vms_seats.specs.Common.{Pass, Shared, IsFrom, Made, MadeOne, MakesStep}
+use Rattle.vms_seats.proofs.Common.{calls-next}
 
 module _ (g t : ℕ) (online : List CpuId) (i : ℕ) (i_in : i < length online) where
   -- the step for the next CPU
@@ -40,7 +29,7 @@ module _ (g t : ℕ) (online : List CpuId) (i : ℕ) (i_in : i < length online) 
       ∙ append_assoc (threshold_steps g t (take i online)) (next_set ∷ [])
       (threshold_steps g t (drop (i + 1) online))
 
-  module _ (words : Shared Facts) (now old : Pass Facts Step) (of : IsOf old words)
+  module _ (words : Shared Facts) (now old : Pass Facts Step) (of : IsFrom old words)
       (made : Made pages now old (threshold_steps g t (take i online))) where
     -- it may be made
     pub may-set : MayMake words.facts old.number old.seen (threshold_steps g t online)
@@ -61,10 +50,10 @@ module _ (g t : ℕ) (online : List CpuId) (i : ℕ) (i_in : i < length online) 
       (later now earlier : History) (p : ℕ) (at : MakesStep pages facts later now p next_set)
       (control : IsControl now p) (sets : SetsAtMost facts (once g (suc g)) never now earlier)
       (unset : (j : ℕ) → i ≤ j → j < length online →
-      threshold_sets_at (state_after facts now) (number_in online j) g
-      ≡ threshold_sets_at (state_after facts earlier) (number_in online j) g) where
+      threshold_sets_at (state_after facts now) (cpu_number_in online j) g
+      ≡ threshold_sets_at (state_after facts earlier) (cpu_number_in online j) g) where
     abbrev c : ℕ
-    c = number_in online i
+    c = cpu_number_in online i
 
     pub set-counts : SetsAtMost facts (once g (suc g)) never later earlier
     set-counts = record {
@@ -95,13 +84,13 @@ module _ (g t : ℕ) (online : List CpuId) (i : ℕ) (i_in : i < length online) 
         by d f false b of_cpu of_place set before = omega (arith, set, before)
 
     pub set-unset : (j : ℕ) → i + 1 ≤ j → j < length online →
-        threshold_sets_at (state_after facts later) (number_in online j) g
-        ≡ threshold_sets_at (state_after facts earlier) (number_in online j) g
+        threshold_sets_at (state_after facts later) (cpu_number_in online j) g
+        ≡ threshold_sets_at (state_after facts earlier) (cpu_number_in online j) g
     set-unset j past j_in =
         let rises = found.ascending i j (omega arith) j_in in
-        sets-next facts later now p next_set at control (number_in online j) g g_in
+        sets-next facts later now p next_set at control (cpu_number_in online j) g g_in
         ∙ ap (λ (b : Bool). if b && nat_eq g g
-        then suc (threshold_sets_at (state_after facts now) (number_in online j) g)
-        else threshold_sets_at (state_after facts now) (number_in online j) g)
-        (ne_eqb c (number_in online j) (λ same. omega arith))
+        then suc (threshold_sets_at (state_after facts now) (cpu_number_in online j) g)
+        else threshold_sets_at (state_after facts now) (cpu_number_in online j) g)
+        (ne_eqb c (cpu_number_in online j) (λ same. omega arith))
         ∙ unset j (omega arith) j_in

@@ -1,22 +1,14 @@
 -- How often thresholds and marks were set after one step more, and after parts of a call.
-use Rattle.std.proofs.Common.{◌≡◌, ℕ, suc, ◌+◌, ◌≤◌, nat_eq, Bool, true, false, if◌then◌else◌}
-use Rattle.std.proofs.Common.{◌∷◌, refl, ap, ◌∙◌, subst, arith}
+use Rattle.std.proofs.Common.{◌≡◌, ℕ, suc, ◌+◌, ◌≤◌, nat_eq, Bool, true, false, if◌then◌else◌, ◌∷◌, refl, ap, ◌∙◌}
+use Rattle.std.proofs.Common.{subst, arith}
 use Rattle.std.proofs.lemmas.Bool.Decides.{nat_tests}
-use Rattle.vms_base.specs.declared.ids.PlaceId.{PlaceId}
-use Rattle.vms_base.specs.Places.{IsPlace}
-use Rattle.vms_core.specs.declared.steps.Facts.{Facts}
-use Rattle.vms_core.specs.declared.steps.Step.{Step}
-use Rattle.vms_core.specs.declared.steps.Step.TheVariants.{SetM}
-use Rattle.vms_core.specs.Cells.{mark_at, mark_sets_at, threshold_sets_at}
-use Rattle.vms_core.specs.Conditions.{IsControl}
-use Rattle.vms_core.specs.Effects.{mark_after, mark_sets_after}
-use Rattle.vms_core.specs.Knowledge.{ControlKnows}
-use Rattle.vms_core.specs.Pages.{pages, History, IsLegal, state_after}
-use Rattle.vms_core.specs.Peaks.{sets_after}
-use Rattle.vms_core.proofs.KnowledgeKept.{control-knows_later}
-use Rattle.vms_core.proofs.Settings.{mark_at-newest, mark_sets_at-newest, sets-newest}
-use Rattle.vms_control.specs.SetCounts.{SetsAtMost, MayStillSet, never, once}
-use Rattle.vms_seats.specs.Steps.{MakesStep}
+use Rattle.vms_calls.specs.Common.{PlaceId, IsPlace, Facts, Step, SetM, mark_at, mark_sets_at, threshold_sets_at}
+use Rattle.vms_calls.specs.Common.{IsControl, mark_after, mark_sets_after, ControlKnows, pages, History, state_after}
+use Rattle.vms_calls.specs.Common.{sets_after}
+use Rattle.vms_core.specs.Pages.{IsLegal}
+use Rattle.vms_core.proofs.Common.{control-knows_later, mark_at-newest, mark_sets_at-newest, sets-newest}
+use Rattle.vms_control.specs.Common.{SetsAtMost, MayStillSet, never, once}
+use Rattle.vms_seats.specs.Common.{MakesStep}
 
 module _ (facts : Facts) where
   pub set-none : (h : History) → SetsAtMost facts never never h h

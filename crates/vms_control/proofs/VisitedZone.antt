@@ -1,35 +1,21 @@
 -- A zone is visited: what was acknowledged and its mark are loaded, and then it is rated or spared.
-use Rattle.std.proofs.Common.{◌≡◌, ℕ, ◌<◌, true, false, true≢false, List, [], ◌∷◌, ◌++◌}
-use Rattle.std.proofs.Common.{length, get_or, Option, refl, sym, ◌∙◌, subst, arith, eq-eqb, eqb-true}
+use Rattle.std.proofs.Common.{◌≡◌, ℕ, ◌<◌, true, false, true≢false, List, [], ◌∷◌, ◌++◌, length, get_or, Option, refl}
+use Rattle.std.proofs.Common.{sym, ◌∙◌, subst, arith, eq-eqb, eqb-true}
 use Rattle.std.proofs.lemmas.List.{append-nil}
-use Rattle.vms_base.specs.declared.ids.CpuId.{CpuId}
-use Rattle.vms_base.specs.declared.kinds.ZoneSize.{ZoneSize}
-use Rattle.vms_base.specs.Places.{IsPlace, IsZone}
-use Rattle.vms_base.specs.Sizes.{IsValidSize, size_at}
-use Rattle.vms_calls.specs.MayCall.{KnowsByOwnSteps}
-use Rattle.vms_calls.specs.Ratings.{Rates, Visits, acknowledged_steps, rating_steps}
-use Rattle.vms_calls.specs.Ratings.RatesMarked.{unmarked, marked}
-use Rattle.vms_calls.proofs.CallSteps.{Each, each-append}
-use Rattle.vms_core.specs.declared.states.MarkRead.{MarkRead}
-use Rattle.vms_core.specs.declared.steps.Facts.{Facts}
-use Rattle.vms_core.specs.declared.steps.Step.{Step}
-use Rattle.vms_core.specs.declared.steps.Step.TheVariants.{LoadM}
-use Rattle.vms_core.specs.Bases.{IsBase}
-use Rattle.vms_core.specs.Conditions.{IsControl}
-use Rattle.vms_core.specs.Pages.{pages, History}
-use Rattle.vms_control.specs.declared.rating.Rating.{Rating}
-use Rattle.vms_control.specs.declared.rating.Rating.TheVariants.{Pressure, Normal, Refresh}
-use Rattle.vms_control.specs.Rated.{choice_of, is_spared, rated_by}
-use Rattle.vms_control.specs.SetCounts.{SetsAtMost, MayStillSet, never}
+use Rattle.vms_calls.specs.Common.{CpuId, ZoneSize, IsPlace, IsZone, IsValidSize, size_at, KnowsByOwnSteps, Rates}
+use Rattle.vms_calls.specs.Common.{Visits, acknowledged_steps, rating_steps, unmarked, marked, MarkRead, Facts, Step}
+use Rattle.vms_calls.specs.Common.{LoadM, IsBase, IsControl, pages, History, after, choice_of, is_spared, rated_by}
+use Rattle.vms_calls.proofs.Common.{Each, each-append}
+use Rattle.vms_calls.specs.declared.choices.Rating.{Rating}
+use Rattle.vms_calls.specs.declared.choices.Rating.TheVariants.{Pressure, Normal, Refresh}
+use Rattle.vms_control.specs.Common.{SetsAtMost, MayStillSet, never}
 use Rattle.vms_control.proofs.PassCalls.{control-new, has-made, sums-made}
 use Rattle.vms_control.proofs.SameSums.{rates-same}
 use Rattle.vms_control.proofs.QuietSteps.{SetsNothing, quiet-sets}
 use Rattle.vms_control.proofs.StepCounts.{still-may}
-use Rattle.vms_history.specs.Events.{after}
-use Rattle.vms_history.proofs.Prefixes.{base_can_begin}
-use Rattle.vms_seats.specs.Passes.{Pass, Shared, IsOf}
-use Rattle.vms_seats.specs.Steps.{Made, MadeOne}
-use Rattle.vms_seats.proofs.MadeCalls.{calls-both, calls-next}
+use Rattle.vms_history.proofs.Common.{base_can_begin}
+use Rattle.vms_seats.specs.Common.{Pass, Shared, IsFrom, Made, MadeOne}
+use Rattle.vms_seats.proofs.Common.{calls-both, calls-next}
 
 abbrev pub no_size : ZoneSize
 no_size = record { managed = 0; min = 0; low = 0; high = 0 }
@@ -54,7 +40,7 @@ module _ (pressure normal : ZoneSize → ℕ → ℕ → Type 0) (facts : Facts)
       marked t m h steps (λ zero_mark. true≢false (sym (eq-eqb m 0 zero_mark) ∙ is)) rates
   not_spared Refresh is t steps rates = rates
 
-module _ (words : Shared Facts) (loaded found old : Pass Facts Step) (of : IsOf old words) (know : KnowsByOwnSteps)
+module _ (words : Shared Facts) (loaded found old : Pass Facts Step) (of : IsFrom old words) (know : KnowsByOwnSteps)
     (online : List CpuId) (g : ℕ) (zone : IsZone words.facts.layout g) (mark : MarkRead)
     (acknowledged : (numbers : List (Option ℕ)) × (length numbers ≡ length online)
     × Made pages found old (acknowledged_steps g online numbers)) (control : IsControl old.seen old.number)

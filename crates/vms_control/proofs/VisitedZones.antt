@@ -1,37 +1,19 @@
 -- Zones are visited one after another.
-use Rattle.std.proofs.Common.{◌≡◌, ◌≢◌, ℕ, suc, ◌+◌, ◌-◌, ◌<◌, ◌≤◌, nat_eq, if◌then◌else◌, Bool, true, false, List, []}
-use Rattle.std.proofs.Common.{◌∷◌, ◌++◌, length, get_or, map, sym, ap, ◌∙◌, subst, arith, append_assoc, add-one}
-use Rattle.std.proofs.Common.{eq-eqb}
-use Rattle.std.specs.Prelude.{filter}
-use Rattle.std.proofs.lemmas.Bool.{ne_eqb}
+use Rattle.std.proofs.Common.{◌≡◌, ℕ, suc, ◌+◌, ◌-◌, ◌<◌, ◌≤◌, nat_eq, true, List, [], ◌∷◌, ◌++◌, length, map, sym, ◌∙◌}
+use Rattle.std.proofs.Common.{subst, arith, append_assoc, eq-eqb}
 use Rattle.std.proofs.lemmas.List.{append-nil, get_or_default, length-map}
-use Rattle.std.proofs.Math.ListN.{get_or-map}
-use Rattle.std.proofs.lemmas.List.Elements.{filter-append}
-use Rattle.vms_base.specs.declared.ids.CpuId.{CpuId}
-use Rattle.vms_base.specs.declared.ids.PlaceId.{PlaceId}
-use Rattle.vms_base.specs.declared.kinds.ZoneKind.TheVariants.{Dma}
-use Rattle.vms_base.specs.declared.kinds.ZoneName.{ZoneName}
-use Rattle.vms_base.specs.declared.kinds.ZoneSize.{ZoneSize}
-use Rattle.vms_base.specs.Places.{Shape, IsLayout, IsNode, IsPlace, IsZone, node_of_zone}
-use Rattle.vms_calls.specs.MayCall.{KnowsByOwnSteps}
-use Rattle.vms_calls.specs.Ratings.{ByNormal, ByPressure, Visits, VisitsEach, node_number, numbers_below}
-use Rattle.vms_calls.specs.Ratings.VisitsEach.{none, next}
-use Rattle.vms_core.specs.declared.steps.Facts.{Facts}
-use Rattle.vms_core.specs.declared.steps.Step.{Step}
-use Rattle.vms_core.specs.Conditions.{IsControl}
-use Rattle.vms_core.specs.Pages.{pages, History}
-use Rattle.vms_control.specs.declared.rating.Rating.{Rating}
-use Rattle.vms_control.specs.declared.rating.Rating.TheVariants.{Pressure, Normal, Refresh}
-use Rattle.vms_control.specs.Rated.{rated_by}
-use Rattle.vms_control.specs.SetCounts.{MayStillSet, SetsAtMost, once}
+use Rattle.vms_calls.specs.Common.{CpuId, PlaceId, ZoneName, ZoneSize, Shape, IsLayout, IsNode, IsPlace, IsZone}
+use Rattle.vms_calls.specs.Common.{node_of_zone, KnowsByOwnSteps, ByNormal, ByPressure, Visits, VisitsEach, node_number}
+use Rattle.vms_calls.specs.Common.{none, next, Facts, Step, IsControl, pages, History, after, rated_by}
+use Rattle.vms_calls.specs.declared.choices.Rating.{Rating}
+use Rattle.vms_calls.specs.declared.choices.Rating.TheVariants.{Pressure, Normal, Refresh}
+use Rattle.vms_control.specs.Common.{MayStillSet, SetsAtMost, once}
 use Rattle.vms_control.proofs.PassCalls.{control-old, of-new, sums-made}
 use Rattle.vms_control.proofs.SameSums.{GoesBySums, marked-same, rates-same, visits-same}
 use Rattle.vms_control.proofs.StepCounts.{once-next, once-other, set-both, set-none, still-may}
-use Rattle.vms_history.specs.Events.{after}
-use Rattle.vms_history.proofs.Own.{after-steps}
-use Rattle.vms_seats.specs.Passes.{Pass, Shared, IsOf, IsLive}
-use Rattle.vms_seats.specs.Steps.{Made}
-use Rattle.vms_seats.proofs.MadeCalls.{calls-both, calls-none}
+use Rattle.vms_history.proofs.Common.{after-steps}
+use Rattle.vms_seats.specs.Common.{Pass, Shared, IsFrom, IsLive, Made}
+use Rattle.vms_seats.proofs.Common.{calls-both, calls-none}
 
 -- a further visit
 module _ (facts : Facts) (p : ℕ) (online : List CpuId) (Rated : ℕ → ℕ → ℕ → History → List Step → Type 0) where
@@ -76,9 +58,9 @@ module _ (words : Shared Facts) (old : Pass Facts Step) (pressure normal : ZoneS
   goes_by_sums Normal = marked-same words.facts old.number online (ByNormal normal)
   goes_by_sums Refresh = rates-same words.facts old.number online (ByNormal normal)
 
-  module _ (of : IsOf old words) (gs ts : List ℕ) (n : ℕ) (now : Pass Facts Step)
+  module _ (of : IsFrom old words) (gs ts : List ℕ) (n : ℕ) (now : Pass Facts Step)
       (so_far : Visited gs ts n now) where
-    pub visited-of : IsOf now words
+    pub visited-of : IsFrom now words
     visited-of = of-new words now old so_far.steps of so_far.made
 
     pub visited-control : IsControl now.seen now.number → IsControl old.seen old.number
@@ -127,40 +109,6 @@ module _ (words : Shared Facts) (old : Pass Facts Step) (pressure normal : ZoneS
           sets = λ first. set-both words.facts (once 0 n) (once 0 n) (once n (suc n)) (once n (suc n)) (once 0 (n + 1))
               (once 0 (n + 1)) new.seen now.seen old.seen sets (so_far.sets first) (once-next n) (once-next n);
         }
-
--- whether zone g is on a node, by a list of its zones
-module _ (shape : Shape) (zs : List ZoneName) (g node : ℕ) (same : zs ≡ shape.zones) where
-  abbrev none_named : ZoneName
-  none_named = record { node = 0; kind = Dma }
-
-  same-node : node_of_zone shape g ≡ (get_or zs g none_named).node
-  same-node = get_or-map (λ (zone : ZoneName). zone.node) shape.zones g none_named
-      ∙ ap (λ (xs : List ZoneName). (get_or xs g none_named).node) (sym same)
-
-  pub on-true : (get_or zs g none_named).node ≡ node → nat_eq (node_of_zone shape g) node ≡ true
-  on-true is = eq-eqb (node_of_zone shape g) node (same-node ∙ is)
-
-  pub on-false : (get_or zs g none_named).node ≢ node → nat_eq (node_of_zone shape g) node ≡ false
-  on-false other = ne_eqb (node_of_zone shape g) node (λ is. other (sym same-node ∙ is))
-
--- one zone more, if it is on the node
-module _ (shape : Shape) (node : ℕ) where
-  abbrev pub is_on : ℕ → Bool
-  is_on g = nat_eq (node_of_zone shape g) node
-
-  abbrev pub zones_so_far : ℕ → List ℕ
-  zones_so_far m = filter is_on (numbers_below m)
-
-  zones-by : (n : ℕ) (b : Bool) → is_on n ≡ b
-      → zones_so_far (n + 1) ≡ zones_so_far n ++ (if b then n ∷ [] else [])
-  zones-by n b is = ap zones_so_far (add-one n) ∙ filter-append is_on (numbers_below n) (n ∷ [])
-      ∙ ap (λ b. zones_so_far n ++ (if b then n ∷ [] else [])) is
-
-  pub zones-more : (n : ℕ) → is_on n ≡ true → zones_so_far (n + 1) ≡ zones_so_far n ++ (n ∷ [])
-  zones-more n is = zones-by n true is
-
-  pub zones-same : (n : ℕ) → is_on n ≡ false → zones_so_far (n + 1) ≡ zones_so_far n
-  zones-same n is = zones-by n false is ∙ append-nil (zones_so_far n)
 
 -- a node has a zone
 zone-on : (shape : Shape) → IsLayout shape → (n : PlaceId) → IsNode shape n.number

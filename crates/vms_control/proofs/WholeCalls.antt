@@ -1,40 +1,24 @@
 -- The loads of the CPUs' states and the visits make a whole call.
-use Rattle.std.proofs.Common.{◌≡◌, ◌≢◌, ℕ, ◌<◌, ◌≤◌, ◌&&◌, nat_le, nat_lt, Bool, true, false, if◌then◌else◌, List}
-use Rattle.std.proofs.Common.{◌++◌, length, refl, ap, ◌∙◌, subst, arith}
-use Rattle.vms_base.specs.declared.ids.CpuId.{CpuId}
-use Rattle.vms_base.specs.declared.ids.PlaceId.{PlaceId}
-use Rattle.vms_base.specs.declared.kinds.CpuState.{CpuState}
-use Rattle.vms_base.specs.declared.kinds.ZoneSize.{ZoneSize}
-use Rattle.vms_base.specs.Cpus.{online_from}
-use Rattle.vms_base.specs.Places.{Shape, IsPlace}
-use Rattle.vms_calls.specs.Lists.{in_turn}
-use Rattle.vms_calls.specs.MayCall.{KnowsByOwnSteps}
-use Rattle.vms_calls.specs.Ratings.{ByNormal, ByPressure, Choice, Rates, RatesMarked, RatesNode, Refreshes}
-use Rattle.vms_calls.specs.Ratings.{VisitsEach, node_number, numbers_below}
-use Rattle.vms_calls.specs.Ratings.{state_steps, zones_on}
-use Rattle.vms_calls.proofs.CallSteps.{Each, node-each, refresh-each, states-each}
-use Rattle.vms_calls.proofs.CallerLaws.{IsStill, ratings-still, still-leaves}
-use Rattle.vms_core.specs.declared.steps.Facts.{Facts}
-use Rattle.vms_core.specs.declared.steps.Step.{Step}
-use Rattle.vms_core.specs.Conditions.{IsControl}
-use Rattle.vms_core.specs.Own.{CarriesNothing, carried, carried_of_item}
-use Rattle.vms_core.specs.Pages.{pages, state_after}
-use Rattle.vms_core.specs.Plain.{most_sets}
-use Rattle.vms_control.specs.declared.rating.Rating.{Rating}
-use Rattle.vms_control.specs.declared.rating.Rating.TheVariants.{Pressure, Normal, Refresh}
-use Rattle.vms_control.specs.Rated.{choice_of, rated_by}
-use Rattle.vms_control.specs.SetCounts.{MayStillSet, SetsAtMost, never, once}
+use Rattle.std.proofs.Common.{◌≡◌, ◌≢◌, ℕ, ◌<◌, ◌≤◌, ◌&&◌, nat_le, nat_lt, Bool, true, false, if◌then◌else◌, List, ◌++◌}
+use Rattle.std.proofs.Common.{length, refl, ap, ◌∙◌, subst, arith}
+use Rattle.vms_calls.specs.Common.{CpuId, PlaceId, CpuState, ZoneSize, online_from, Shape, IsPlace, in_turn}
+use Rattle.vms_calls.specs.Common.{KnowsByOwnSteps, ByNormal, ByPressure, Choice, Rates, RatesMarked, RatesNode}
+use Rattle.vms_calls.specs.Common.{Refreshes, VisitsEach, node_number, numbers_below, state_steps, zones_on, Facts}
+use Rattle.vms_calls.specs.Common.{Step, IsControl, CarriesNothing, carried, carried_of_item, pages, state_after}
+use Rattle.vms_calls.specs.Common.{most_sets, after, own, choice_of, rated_by}
+use Rattle.vms_calls.proofs.Common.{Each, node-each, refresh-each, states-each, IsStill, ratings-still, still-leaves}
+use Rattle.vms_calls.specs.declared.choices.Rating.{Rating}
+use Rattle.vms_calls.specs.declared.choices.Rating.TheVariants.{Pressure, Normal, Refresh}
+use Rattle.vms_control.specs.Common.{MayStillSet, SetsAtMost, never, once}
 use Rattle.vms_control.proofs.LargestSets.{largest-may}
 use Rattle.vms_control.proofs.NodeThresholds.{node_steps}
 use Rattle.vms_control.proofs.PassCalls.{control-old, has-made, sums-made}
 use Rattle.vms_control.proofs.QuietSteps.{SetsNothing, looks-set_nothing, quiet-sets}
 use Rattle.vms_control.proofs.SameSums.{marked-same, rates-same, visits_each-same}
 use Rattle.vms_control.proofs.StepCounts.{still-may}
-use Rattle.vms_history.specs.Events.{after, own}
-use Rattle.vms_seats.specs.Passes.{Pass, Shared, IsOf}
-use Rattle.vms_seats.specs.Steps.{Made}
-use Rattle.vms_seats.proofs.MadeCalls.{calls-both}
-use Rattle.vms_words.specs.KeptSettings.{largest_sets}
+use Rattle.vms_seats.specs.Common.{Pass, Shared, IsFrom, Made}
+use Rattle.vms_seats.proofs.Common.{calls-both}
+use Rattle.vms_words.specs.Common.{largest_sets}
 
 pub once-little : (from to g : ℕ) → once from to g ≤ 1
 once-little from to g = by (nat_le from g && nat_lt g to)
@@ -56,7 +40,7 @@ still-nothing shape new old steps made still nothing =
       items = λ i. ap (carried_of_item shape i) mine ∙ leaves.carries.items i ∙ nothing.items i;
     }
 
-module _ (words : Shared Facts) (mid old : Pass Facts Step) (of : IsOf old words) (states : List CpuState)
+module _ (words : Shared Facts) (mid old : Pass Facts Step) (of : IsFrom old words) (states : List CpuState)
     (loaded : Made pages mid old (in_turn state_steps 0 states)) where
   pub first-control : IsControl mid.seen mid.number → IsControl old.seen old.number
   first-control = control-old words mid old (in_turn state_steps 0 states) of loaded

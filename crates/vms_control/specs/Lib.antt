@@ -1,4 +1,4 @@
 pub mod Online
-pub mod Rated
 pub mod SetCounts
 pub mod Unladen
+pub mod Common

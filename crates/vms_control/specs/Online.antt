@@ -1,16 +1,14 @@
 -- The CPUs that the control pass sets thresholds on.
 use Rattle.std.specs.Prelude.{ℕ, ◌<◌, ◌≤◌, List, length, slice_index_or}
-use Rattle.vms_base.specs.declared.ids.CpuId.{CpuId}
-use Rattle.vms_calls.specs.MayCall.{AreOnline}
-use Rattle.vms_core.specs.declared.steps.Facts.{Facts}
+use Rattle.vms_calls.specs.Common.{CpuId, AreOnline, Facts}
 
 -- what is read past the end of a list of CPUs
 abbrev pub no_cpu : CpuId
 no_cpu = record { number = 0 }
 
 -- the number of the CPU at a place of a list
-abbrev pub number_in : List CpuId → ℕ → ℕ
-number_in online n = (slice_index_or online n no_cpu).number
+abbrev pub cpu_number_in : List CpuId → ℕ → ℕ
+cpu_number_in online n = (slice_index_or online n no_cpu).number
 
 -- some CPUs that are online from the start of the phase to its end, in ascending order
 pub record FoundOnline (facts : Facts) (online : List CpuId) : Type 0 where
@@ -18,4 +16,4 @@ pub record FoundOnline (facts : Facts) (online : List CpuId) : Type 0 where
   pub few : length online ≤ facts.layout.cpus
   pub most : length online ≤ 128
   pub each : AreOnline facts.layout facts.base online
-  pub ascending : (i j : ℕ) → i < j → j < length online → number_in online i < number_in online j
+  pub ascending : (i j : ℕ) → i < j → j < length online → cpu_number_in online i < cpu_number_in online j

@@ -1,11 +1,8 @@
 -- How often thresholds and marks were set since an earlier history, and whether they may be set once more.
 use Rattle.std.specs.Prelude.{ℕ, suc, ◌+◌, ◌<◌, ◌≤◌, ◌&&◌, nat_le, nat_lt, if◌then◌else◌}
-use Rattle.vms_base.specs.Places.{IsCpu, IsPlace, IsZone}
-use Rattle.vms_core.specs.declared.steps.Facts.{Facts}
-use Rattle.vms_core.specs.Cells.{mark_sets_at, threshold_sets_at}
-use Rattle.vms_core.specs.Pages.{History, state_after}
-use Rattle.vms_core.specs.Plain.{most_sets}
-use Rattle.vms_words.specs.KeptSettings.{largest_sets}
+use Rattle.vms_calls.specs.Common.{IsCpu, IsPlace, IsZone, Facts, mark_sets_at, threshold_sets_at, History, state_after}
+use Rattle.vms_calls.specs.Common.{most_sets}
+use Rattle.vms_words.specs.Common.{largest_sets}
 
 -- once for each place from one on and below another, never for the others
 abbrev pub once : (from to g : ℕ) → ℕ
@@ -28,8 +25,8 @@ pub record MayStillSet (facts : Facts) (h : History) (g : ℕ) : Type 0 where
   pub mark : IsZone facts.layout g → mark_sets_at (state_after facts h) g < most_sets
 
 -- no threshold and no mark was set as often as may be
-abbrev pub HasRoom : Facts → History → Type 0
-HasRoom facts h = largest_sets facts.layout (state_after facts h) < most_sets
+abbrev pub HasSetsLeft : Facts → History → Type 0
+HasSetsLeft facts h = largest_sets facts.layout (state_after facts h) < most_sets
 
 -- the largest number of sets of any one threshold or mark grew by at most 1 since
 abbrev pub SetsOnceMore : Facts → History → History → Type 0

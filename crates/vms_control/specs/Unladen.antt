@@ -1,9 +1,6 @@
 -- What a control call leaves of what its pass carries.
-use Rattle.vms_core.specs.declared.steps.Facts.{Facts}
-use Rattle.vms_core.specs.declared.steps.Step.{Step}
-use Rattle.vms_core.specs.Own.{CarriesNothing}
-use Rattle.vms_history.specs.Events.{own}
-use Rattle.vms_seats.specs.Passes.{Pass}
+use Rattle.vms_calls.specs.Common.{Facts, Step, CarriesNothing, own}
+use Rattle.vms_seats.specs.Common.{Pass}
 
 -- a pass that carried nothing before carries nothing after
 abbrev pub StaysUnladen : Facts → Pass Facts Step → Pass Facts Step → Type 0

@@ -1,23 +1,17 @@
 ghost use Rattle.std.specs.Prelude.{◌≡◌, ◌≢◌, ℕ, suc, ◌<◌, ◌≤◌, List, length};
-ghost use Rattle.vms_base.specs.Places.{IsNode, IsPlace};
-ghost use Rattle.vms_calls.specs.Ratings.{RatesNode, SetsNormal, SetsPressure, VisitsEach, node_number, zones_on};
-ghost use Rattle.vms_core.specs.declared.steps.Step.{Step};
-ghost use Rattle.vms_core.specs.Conditions.{IsControl};
-ghost use Rattle.vms_core.specs.Pages.{pages};
-ghost use Rattle.vms_control.specs.declared.rating.Rating.TheVariants.{Refresh};
+ghost use Rattle.vms_calls.specs.Common.{IsNode, IsPlace, RatesNode, SetsNormal, SetsPressure, VisitsEach, node_number};
+ghost use Rattle.vms_calls.specs.Common.{zones_on, Step, IsControl, pages, choice_of, rated_by};
+ghost use Rattle.vms_calls.specs.declared.choices.Rating.TheVariants.{Refresh};
 ghost use Rattle.vms_control.specs.Online.{FoundOnline};
-ghost use Rattle.vms_control.specs.Rated.{choice_of, rated_by};
-ghost use Rattle.vms_control.specs.SetCounts.{HasRoom, MayStillSet, SetsAtMost, SetsOnceMore, once};
+ghost use Rattle.vms_control.specs.SetCounts.{HasSetsLeft, MayStillSet, SetsAtMost, SetsOnceMore, once};
 ghost use Rattle.vms_control.specs.Unladen.{StaysUnladen};
-ghost use Rattle.vms_seats.specs.Passes.{IsOf};
-ghost use Rattle.vms_seats.specs.Steps.{Made};
+ghost use Rattle.vms_seats.specs.Common.{IsFrom, Made};
 
 use crate::online::load_online;
-use crate::rating::Rating;
 use crate::visiting::visit;
 use vms_base::{CpuId, Header, PlaceId};
 use vms_calc::{Rule, Rules};
-use vms_calls::control_passes_know_by_own_steps;
+use vms_calls::{Rating, control_passes_know_by_own_steps};
 use vms_words::{Caller, ControlPass, PageTable};
 
 /// Sets the pressure thresholds of a node's zones, under marks that cover them (`set_pgdat_percpu_threshold` of
@@ -35,10 +29,10 @@ pub fn set_pressure<N: Rule, P: Rule>(
     rules: &Rules<N, P>,
     node: PlaceId,
 )
-    requires table { IsOf pass.old table.now }
+    requires table { IsFrom pass.old table.now }
     requires sizes { header.now.sizes ≡ table.now.facts.sizes }
     requires node { IsNode table.now.facts.layout node.number }
-    requires room { HasRoom table.now.facts pass.old.seen }
+    requires room { HasSetsLeft table.now.facts pass.old.seen }
     ensures made { (steps : List Step) × SetsPressure table.now.facts (P.answers rules.now.pressure)
         (N.answers rules.now.normal) node pass.old.number pass.old.seen steps × Made pages pass.new pass.old steps }
     ensures control { IsControl pass.old.seen pass.old.number }
@@ -58,10 +52,10 @@ pub fn set_normal<N: Rule, P: Rule>(
     rules: &Rules<N, P>,
     node: PlaceId,
 )
-    requires table { IsOf pass.old table.now }
+    requires table { IsFrom pass.old table.now }
     requires sizes { header.now.sizes ≡ table.now.facts.sizes }
     requires node { IsNode table.now.facts.layout node.number }
-    requires room { HasRoom table.now.facts pass.old.seen }
+    requires room { HasSetsLeft table.now.facts pass.old.seen }
     ensures made { (steps : List Step) × SetsNormal table.now.facts (N.answers rules.now.normal) node pass.old.number
         pass.old.seen steps × Made pages pass.new pass.old steps }
     ensures control { IsControl pass.old.seen pass.old.number }
@@ -80,11 +74,11 @@ fn rate_node<N: Rule, P: Rule>(
     node: PlaceId,
     rating: Rating,
 )
-    requires table { IsOf pass.old table.now }
+    requires table { IsFrom pass.old table.now }
     requires sizes { header.now.sizes ≡ table.now.facts.sizes }
     requires node { IsNode table.now.facts.layout node.number }
     requires node_alone { rating ≢ Refresh }
-    requires room { HasRoom table.now.facts pass.old.seen }
+    requires room { HasSetsLeft table.now.facts pass.old.seen }
     ensures made { (steps : List Step) × RatesNode table.now.facts
         (choice_of rating (P.answers rules.now.pressure) (N.answers rules.now.normal)) node pass.old.number
         pass.old.seen steps × Made pages pass.new pass.old steps }
@@ -108,7 +102,7 @@ fn visit_node<N: Rule, P: Rule>(
     online: &[CpuId],
     rating: Rating,
 )
-    requires table { IsOf pass.old table.now }
+    requires table { IsFrom pass.old table.now }
     requires sizes { header.now.sizes ≡ table.now.facts.sizes }
     requires node { IsNode table.now.facts.layout node.number }
     requires online { FoundOnline table.now.facts online.now }

@@ -1,12 +1,7 @@
 ghost use Rattle.std.specs.Prelude.{◌≡◌, ℕ, ◌<◌, ◌≤◌, ◌++◌, [], ◌∷◌, List, length};
-ghost use Rattle.vms_base.specs.declared.kinds.CpuState.{CpuState};
-ghost use Rattle.vms_base.specs.Cpus.{is_online as tells_online, online_from};
-ghost use Rattle.vms_calls.specs.Lists.{in_turn};
-ghost use Rattle.vms_calls.specs.Ratings.{state_steps};
-ghost use Rattle.vms_core.specs.Pages.{pages};
+ghost use Rattle.vms_calls.specs.Common.{CpuState, is_online as tells_online, online_from, in_turn, state_steps, pages};
 ghost use Rattle.vms_control.specs.Online.{FoundOnline};
-ghost use Rattle.vms_seats.specs.Passes.{IsOf};
-ghost use Rattle.vms_seats.specs.Steps.{Made};
+ghost use Rattle.vms_seats.specs.Common.{IsFrom, Made};
 
 use std::marker::Model;
 use vms_base::{CpuId, CpuState};
@@ -24,7 +19,7 @@ pub(crate) struct OnlineCpus {
 
 impl Model for OnlineCpus {
     ghost use Rattle.std.specs.Prelude.{List, ◌≤◌, take};
-    ghost use Rattle.vms_base.specs.declared.ids.CpuId.{CpuId};
+    ghost use Rattle.vms_calls.specs.Common.{CpuId};
 
     ghost Value = { List CpuId };
 
@@ -62,7 +57,7 @@ impl OnlineCpus {
 
 /// Looks which CPUs are online.
 pub(crate) fn load_online(table: &PageTable, pass: &mut ControlPass) -> OnlineCpus
-    requires table { IsOf pass.old table.now }
+    requires table { IsFrom pass.old table.now }
     ensures made { (states : List CpuState) × (length states ≡ table.now.facts.layout.cpus)
         × (result ≡ online_from 0 states) × Made pages pass.new pass.old (in_turn state_steps 0 states) }
     ensures found { FoundOnline table.now.facts result }

@@ -1,80 +1,16 @@
 ghost use Rattle.std.specs.Prelude.{◌≡◌, ◌≢◌, ℕ, suc, ◌+◌, ◌*◌, ◌^◌, ◌<◌, ◌≤◌, length};
-ghost use Rattle.vms_base.specs.Places.{IsCpu, IsPlace, IsZone};
-ghost use Rattle.vms_base.specs.Sizes.{IsValidSize, size_at};
-ghost use Rattle.vms_base.specs.Thresholds.{most_threshold};
-ghost use Rattle.vms_calls.specs.MayMake.{MayMake};
-ghost use Rattle.vms_calls.specs.Ratings.{mark_steps, rating_steps, threshold_steps};
-ghost use Rattle.vms_core.specs.Cells.{mark_at, mark_sets_at, threshold_sets_at};
-ghost use Rattle.vms_core.specs.Conditions.{IsControl, SetsMark};
-ghost use Rattle.vms_core.specs.Pages.{pages, state_after};
-ghost use Rattle.vms_core.specs.Peaks.{peak_sum};
-ghost use Rattle.vms_core.specs.Plain.{most_sets};
+ghost use Rattle.vms_calls.specs.Common.{IsCpu, IsPlace, IsZone, IsValidSize, size_at, most_threshold, MayMake};
+ghost use Rattle.vms_calls.specs.Common.{mark_steps, rating_steps, threshold_steps, mark_at, mark_sets_at};
+ghost use Rattle.vms_calls.specs.Common.{threshold_sets_at, IsControl, SetsMark, pages, state_after, peak_sum};
+ghost use Rattle.vms_calls.specs.Common.{most_sets, after};
 ghost use Rattle.vms_control.specs.Online.{FoundOnline};
-ghost use Rattle.vms_control.specs.Rated.{choice_of, is_spared};
 ghost use Rattle.vms_control.specs.SetCounts.{MayStillSet, SetsAtMost, never, once};
-ghost use Rattle.vms_history.specs.Events.{after};
-ghost use Rattle.vms_seats.specs.Passes.{IsOf};
-ghost use Rattle.vms_seats.specs.Steps.{Made};
+ghost use Rattle.vms_seats.specs.Common.{IsFrom, Made};
 
 use vms_base::{CpuId, PlaceId, ZoneSize};
-use vms_calc::{Rule, Rules, cover_mark, linux_mark};
+use vms_calc::{cover_mark, linux_mark};
+use vms_calls::Chosen;
 use vms_words::{Caller, ControlPass, PageTable};
-
-/// Which call gives thresholds to zones.
-#[derive(Clone, Copy, Debug, PartialEq, Eq)]
-pub(crate) enum Rating {
-    /// `set_pressure`.
-    Pressure,
-    /// `set_normal`.
-    Normal,
-    /// `refresh_thresholds`.
-    Refresh,
-}
-
-/// The thresholds that rules answered for a zone, in pages.
-#[derive(Clone, Copy, Debug, PartialEq, Eq)]
-pub(crate) struct Chosen {
-    /// The one that is set.
-    pub(crate) threshold: u32,
-    /// The one that Linux's mark is for.
-    pub(crate) usual: u32,
-}
-
-/// Whether a zone with this mark keeps its thresholds.
-#[inline]
-pub(crate) fn spares(rating: Rating, mark: u64) -> bool
-    ensures { result ≡ is_spared rating mark }
-{
-    match rating {
-        Rating::Pressure | Rating::Normal => mark == 0,
-        Rating::Refresh => false,
-    }
-}
-
-/// Asks each rule once that the call goes by.
-pub(crate) fn choose<N: Rule, P: Rule>(
-    rules: &Rules<N, P>,
-    rating: Rating,
-    size: &ZoneSize,
-    online: u32,
-) -> Chosen
-    requires size { IsValidSize size.now }
-    requires least_online { 1 ≤ online }
-    requires most_online { online ≤ 128 }
-    ensures chosen { choice_of rating (P.answers rules.now.pressure) (N.answers rules.now.normal) size.now online
-        result.threshold result.usual }
-    ensures least { 1 ≤ result.threshold }
-    ensures most { result.threshold ≤ most_threshold }
-    ensures least_usual { 1 ≤ result.usual }
-    ensures usual { result.usual ≤ most_threshold }
-{
-    let usual = rules.normal(size, online);
-    let threshold = match rating {
-        Rating::Pressure => rules.pressure(size, online),
-        Rating::Normal | Rating::Refresh => usual,
-    };
-    Chosen { threshold, usual }
-}
 
 /// Gives a zone a threshold, and the mark that covers what all CPUs may hide then. The mark comes first: a threshold
 /// may grow only under a mark that covers it.
@@ -87,7 +23,7 @@ pub(crate) fn rate(
     online: &[CpuId],
     chosen: Chosen,
 )
-    requires table { IsOf pass.old table.now }
+    requires table { IsFrom pass.old table.now }
     requires control { IsControl pass.old.seen pass.old.number }
     requires zone { IsZone table.now.facts.layout zone.number }
     requires size { size.now ≡ size_at table.now.facts.sizes zone.number }
@@ -120,7 +56,7 @@ fn hidden_under(
     online: &[CpuId],
     threshold: u32,
 ) -> u64
-    requires table { IsOf pass.now table.now }
+    requires table { IsFrom pass.now table.now }
     requires zone { IsZone table.now.facts.layout zone.number }
     requires online { FoundOnline table.now.facts online.now }
     requires most { threshold ≤ most_threshold }
@@ -139,7 +75,7 @@ fn hidden_under(
 
 /// Sets a zone's mark where it is another than the one that was found.
 fn mark_zone(table: &PageTable, pass: &mut ControlPass, zone: PlaceId, found: u64, mark: u64)
-    requires table { IsOf pass.old table.now }
+    requires table { IsFrom pass.old table.now }
     requires control { IsControl pass.old.seen pass.old.number }
     requires sets { mark ≢ found → SetsMark table.now.facts pass.old.seen pass.old.number zone mark }
     requires found { mark_at (state_after table.now.facts pass.old.seen) zone.number ≡ found }
@@ -162,7 +98,7 @@ pub(crate) fn set_thresholds(
     online: &[CpuId],
     threshold: u32,
 )
-    requires table { IsOf pass.old table.now }
+    requires table { IsFrom pass.old table.now }
     requires control { IsControl pass.old.seen pass.old.number }
     requires place { IsPlace table.now.facts.layout place.number }
     requires online { FoundOnline table.now.facts online.now }

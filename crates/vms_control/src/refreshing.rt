@@ -1,25 +1,19 @@
-ghost use Rattle.std.specs.Prelude.{◌≡◌, ℕ, suc, ◌+◌, ◌<◌, ◌≤◌, List, Contains, length, slice_index_or};
-ghost use Rattle.vms_base.specs.Places.{IsPlace, place_count};
-ghost use Rattle.vms_base.specs.Thresholds.{most_threshold};
-ghost use Rattle.vms_calls.specs.Lists.{in_turn};
-ghost use Rattle.vms_calls.specs.Ratings.{ByNormal, Rates, Refreshes, VisitsEach, largest_on, numbers_below};
-ghost use Rattle.vms_calls.specs.Ratings.{threshold_steps};
-ghost use Rattle.vms_core.specs.declared.steps.Step.{Step};
-ghost use Rattle.vms_core.specs.Conditions.{IsControl};
-ghost use Rattle.vms_core.specs.Pages.{pages};
+ghost use Rattle.std.specs.Prelude.{◌≡◌, ℕ, suc, ◌+◌, ◌<◌, ◌≤◌, List, length, slice_index_or};
+ghost use Rattle.vms_calls.specs.Common.{IsPlace, place_count, most_threshold, in_turn, ByNormal, Rates, Refreshes};
+ghost use Rattle.vms_calls.specs.Common.{VisitsEach, largest_on, numbers_below, threshold_steps, Step, IsControl};
+ghost use Rattle.vms_calls.specs.Common.{pages};
 ghost use Rattle.vms_control.specs.Online.{FoundOnline};
-ghost use Rattle.vms_control.specs.SetCounts.{HasRoom, MayStillSet, SetsAtMost, SetsOnceMore, never, once};
+ghost use Rattle.vms_control.specs.SetCounts.{HasSetsLeft, MayStillSet, SetsAtMost, SetsOnceMore, never, once};
 ghost use Rattle.vms_control.specs.Unladen.{StaysUnladen};
-ghost use Rattle.vms_seats.specs.Passes.{IsOf};
-ghost use Rattle.vms_seats.specs.Steps.{Made};
+ghost use Rattle.vms_seats.specs.Common.{IsFrom, Made};
 
 use crate::online::load_online;
-use crate::rating::{Rating, set_thresholds};
+use crate::rating::set_thresholds;
 use crate::visiting::visit;
 use arrayvec::ArrayVec;
-use vms_base::{CpuId, Header, Layout, PlaceId};
+use vms_base::{CpuId, Header, PlaceId};
 use vms_calc::{Rule, Rules};
-use vms_calls::control_passes_know_by_own_steps;
+use vms_calls::{Rating, control_passes_know_by_own_steps, node_threshold};
 use vms_words::{Caller, ControlPass, PageTable};
 
 /// Gives each zone its normal threshold, under a mark that covers it, and then each node the largest of its zones
@@ -37,9 +31,9 @@ pub fn refresh_thresholds<N: Rule, P: Rule>(
     header: &Header,
     rules: &Rules<N, P>,
 )
-    requires table { IsOf pass.old table.now }
+    requires table { IsFrom pass.old table.now }
     requires sizes { header.now.sizes ≡ table.now.facts.sizes }
-    requires room { HasRoom table.now.facts pass.old.seen }
+    requires room { HasSetsLeft table.now.facts pass.old.seen }
     ensures made { (steps : List Step) × Refreshes table.now.facts (N.answers rules.now.normal) pass.old.number
         pass.old.seen steps × Made pages pass.new pass.old steps }
     ensures carries { StaysUnladen table.now.facts pass.new pass.old }
@@ -60,7 +54,7 @@ fn visit_all<N: Rule, P: Rule>(
     rules: &Rules<N, P>,
     online: &[CpuId],
 ) -> ArrayVec<u32, 16>
-    requires table { IsOf pass.old table.now }
+    requires table { IsFrom pass.old table.now }
     requires sizes { header.now.sizes ≡ table.now.facts.sizes }
     requires online { FoundOnline table.now.facts online.now }
     requires room { IsControl pass.old.seen pass.old.number → (g : ℕ) → IsPlace table.now.facts.layout g →
@@ -92,7 +86,7 @@ fn visit_all<N: Rule, P: Rule>(
 
 /// Gives each node the largest threshold of its zones, in pages.
 fn set_nodes(table: &PageTable, pass: &mut ControlPass, online: &[CpuId], thresholds: &[u32])
-    requires table { IsOf pass.old table.now }
+    requires table { IsFrom pass.old table.now }
     requires control { IsControl pass.old.seen pass.old.number }
     requires online { FoundOnline table.now.facts online.now }
     requires room { (g : ℕ) → length table.now.facts.layout.zones ≤ g → IsPlace table.now.facts.layout g →
@@ -117,23 +111,4 @@ fn set_nodes(table: &PageTable, pass: &mut ControlPass, online: &[CpuId], thresh
         let threshold = node_threshold(layout, thresholds, node);
         set_thresholds(table, pass, PlaceId { number }, online, threshold);
     }
-}
-
-/// The largest threshold of the zones of a node, in pages.
-fn node_threshold(layout: &Layout, thresholds: &[u32], node: u32) -> u32
-    requires length { length thresholds.now ≡ length layout.now.zones }
-    requires node { Contains layout.now.nodes node }
-    requires least { (g : ℕ) → g < length layout.now.zones → 1 ≤ slice_index_or thresholds.now g 0 }
-    requires most { (g : ℕ) → g < length layout.now.zones → slice_index_or thresholds.now g 0 ≤ most_threshold }
-    ensures value { result ≡ largest_on layout.now thresholds.now node }
-    ensures least { 1 ≤ result }
-    ensures most { result ≤ most_threshold }
-{
-    let mut largest = 0;
-    for g in 0..layout.zones().len() {
-        if layout.zones()[g].node == node {
-            largest = largest.max(thresholds[g]);
-        }
-    }
-    largest
 }

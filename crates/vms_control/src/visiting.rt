@@ -1,22 +1,15 @@
-ghost use Rattle.std.specs.Prelude.{◌≡◌, ℕ, ◌<◌, ◌≤◌, List, Option, length};
-ghost use Rattle.vms_base.specs.Places.{IsZone};
-ghost use Rattle.vms_base.specs.Thresholds.{most_threshold};
-ghost use Rattle.vms_calls.specs.Ratings.{Visits, acknowledged_steps};
-ghost use Rattle.vms_core.specs.declared.steps.Step.{Step};
-ghost use Rattle.vms_core.specs.Conditions.{IsControl};
-ghost use Rattle.vms_core.specs.Pages.{pages};
-ghost use Rattle.vms_control.specs.declared.rating.Rating.TheVariants.{Refresh};
+ghost use Rattle.std.specs.Prelude.{◌≡◌, ℕ, ◌<◌, ◌≤◌, List, Option, length, suc};
+ghost use Rattle.vms_calls.specs.Common.{IsZone, most_threshold, Visits, acknowledged_steps, Step, IsControl, pages};
+ghost use Rattle.vms_calls.specs.Common.{rated_by};
+ghost use Rattle.vms_calls.specs.declared.choices.Rating.TheVariants.{Refresh};
 ghost use Rattle.vms_control.specs.Online.{FoundOnline};
-ghost use Rattle.vms_control.specs.Rated.{rated_by};
 ghost use Rattle.vms_control.specs.SetCounts.{MayStillSet, SetsAtMost, once};
-ghost use Rattle.vms_seats.specs.Passes.{IsOf};
-ghost use Rattle.vms_seats.specs.Steps.{Made};
-ghost use Rattle.std.specs.Prelude.{suc};
+ghost use Rattle.vms_seats.specs.Common.{IsFrom, Made};
 
-use crate::rating::{Rating, choose, rate, spares};
+use crate::rating::rate;
 use vms_base::{CpuId, Header, PlaceId};
 use vms_calc::{Rule, Rules};
-use vms_calls::control_passes_know_by_own_steps;
+use vms_calls::{Rating, choose, control_passes_know_by_own_steps, spares};
 use vms_words::{Caller, ControlPass, PageTable};
 
 /// Looks what was acknowledged of a zone and what its mark is, and gives it the thresholds of the call. Returns the
@@ -30,7 +23,7 @@ pub(crate) fn visit<N: Rule, P: Rule>(
     online: &[CpuId],
     rating: Rating,
 ) -> u32
-    requires table { IsOf pass.old table.now }
+    requires table { IsFrom pass.old table.now }
     requires sizes { header.now.sizes ≡ table.now.facts.sizes }
     requires zone { IsZone table.now.facts.layout zone.number }
     requires online { FoundOnline table.now.facts online.now }
@@ -60,7 +53,7 @@ pub(crate) fn visit<N: Rule, P: Rule>(
 
 /// Looks what CPUs acknowledged of a zone. One that acknowledged the threshold that stands uses no larger one any more.
 fn load_acknowledged(table: &PageTable, pass: &mut ControlPass, zone: PlaceId, online: &[CpuId])
-    requires table { IsOf pass.old table.now }
+    requires table { IsFrom pass.old table.now }
     requires zone { IsZone table.now.facts.layout zone.number }
     requires online { FoundOnline table.now.facts online.now }
     ensures made { (numbers : List (Option ℕ)) × (length numbers ≡ length online.now)

@@ -1,17 +1,12 @@
 -- A differential is at most the threshold that was used on it last.
-use Rattle.std.proofs.Common.{◌≡◌, ℕ, ◌≤◌, ◌&&◌, Bool, true, false, [], ◌∷◌, Option}
-use Rattle.std.proofs.Common.{Some, None, ℤ, pos, unsigned_abs, refl, arith, if◌then◌else◌, nat_eq}
-use Rattle.vms_base.specs.declared.ids.CpuId.{CpuId}
-use Rattle.vms_base.specs.Places.{group_of}
-use Rattle.vms_history.specs.Passes.{owner_in}
+use Rattle.std.proofs.Common.{◌≡◌, ℕ, ◌≤◌, ◌&&◌, Bool, true, false, [], ◌∷◌, Option, Some, None, ℤ, pos, unsigned_abs}
+use Rattle.std.proofs.Common.{refl, arith, if◌then◌else◌, nat_eq}
+use Rattle.vms_history.specs.Common.{CpuId, group_of, owner_in}
 use Rattle.vms_core.specs.declared.steps.Facts.{Facts}
 use Rattle.vms_core.specs.declared.steps.Step.{Step}
 use Rattle.vms_core.specs.declared.steps.Step.TheVariants.{Put, Take}
-use Rattle.vms_core.specs.Cells.{diff_at, entry}
-use Rattle.vms_core.specs.Changes.{differential_after}
-use Rattle.vms_core.specs.Steps.{role, effect}
-use Rattle.vms_core.specs.Totals.{last_after, last_threshold}
-use Rattle.vms_core.specs.Pages.{History, IsLegal, state_after, BoundsDifferentials}
+use Rattle.vms_core.specs.Common.{diff_at, entry, differential_after, role, effect, last_after, last_threshold, History}
+use Rattle.vms_core.specs.Common.{IsLegal, state_after, BoundsDifferentials}
 use Rattle.vms_core.proofs.ChangeLemmas.{differential_after-within}
 use Rattle.vms_core.proofs.Shapes.{HasShape-state_after}
 use Rattle.vms_core.proofs.Effects.{diff_after, diff_at-effect}

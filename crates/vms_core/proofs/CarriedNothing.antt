@@ -1,23 +1,17 @@
 -- For other crates too: who doesn't live carries nothing.
-use Rattle.std.proofs.Common.{◌≡◌, ◌≢◌, ℕ, suc, ◌⊎◌, inl, inr, ⊎_elim, Bool, true, false, []}
-use Rattle.std.proofs.Common.{◌∷◌, pos, refl, sym, ap, ◌∙◌, subst, arith, if◌then◌else◌, nat_eq, eqb-true}
+use Rattle.std.proofs.Common.{◌≡◌, ◌≢◌, ℕ, suc, ◌⊎◌, inl, inr, ⊎_elim, Bool, true, false, [], ◌∷◌, pos, refl, sym, ap}
+use Rattle.std.proofs.Common.{◌∙◌, subst, arith, if◌then◌else◌, nat_eq, eqb-true}
 use Rattle.std.proofs.lemmas.Bool.{cases_eq}
 use Rattle.std.proofs.lemmas.Int.{ints}
-use Rattle.vms_base.specs.Places.{Shape}
+use Rattle.vms_history.specs.Common.{Shape, own, Acts, Role, lives_in, lives_after, begun_in, Works, Begins, Ends}
 use Rattle.vms_history.specs.declared.events.Event.{Event}
-use Rattle.vms_history.specs.Events.{own}
-use Rattle.vms_history.specs.Legal.{Acts}
-use Rattle.vms_history.specs.Passes.{Role, lives_in, lives_after, begun_in}
-use Rattle.vms_history.specs.Passes.Role.{Works, Begins, Ends}
-use Rattle.vms_history.proofs.Own.{own-mine, own-others}
-use Rattle.vms_history.proofs.PassLaws.{caller_lives, caller_works, live_is_given, lives_in-role}
-use Rattle.vms_history.proofs.SumLaws.{sum_below-zeros}
+use Rattle.vms_history.proofs.Common.{own-mine, own-others, caller_lives, caller_works, live_is_given, lives_in-role}
+use Rattle.vms_history.proofs.Common.{sum_below-zeros}
 use Rattle.vms_core.specs.declared.steps.Facts.{Facts}
 use Rattle.vms_core.specs.declared.steps.Step.{Step}
 use Rattle.vms_core.specs.declared.steps.Step.TheVariants.{Split, Join}
-use Rattle.vms_core.specs.Own.{carried, carried_of_item, CarriesNothing}
-use Rattle.vms_core.specs.Pages.{pages, History, IsLegal, IsComplete, carried_by_all, carried_of_item_by_all}
-use Rattle.vms_core.specs.Steps.{role}
+use Rattle.vms_core.specs.Common.{carried, carried_of_item, CarriesNothing, pages, History, IsLegal, IsComplete}
+use Rattle.vms_core.specs.Common.{carried_by_all, carried_of_item_by_all, role}
 
 -- a step that begins or ends a pass moves nothing
 quiet-moves_nothing : (shape : Shape) (step : Step) (mine : History) (p : ℕ) → role step ≢ Works

@@ -1,20 +1,14 @@
 -- What callers carry, and what they added: no more than what they took out.
-use Rattle.std.proofs.Common.{◌≡◌, ℕ, suc, ◌+◌, ◌≤◌, Bool, true, false, [], ◌∷◌}
-use Rattle.std.proofs.Common.{ℤ, pos, ◌+ℤ◌, ◌≤ℤ◌, unsigned_abs, refl, arith, nat_eq, eqb-true}
+use Rattle.std.proofs.Common.{◌≡◌, ℕ, suc, ◌+◌, ◌≤◌, Bool, true, false, [], ◌∷◌, ℤ, pos, ◌+ℤ◌, ◌≤ℤ◌, unsigned_abs, refl}
+use Rattle.std.proofs.Common.{arith, nat_eq, eqb-true}
 use Rattle.std.proofs.lemmas.Int.{ints}
 use Rattle.std.proofs.lemmas.Bool.{eqb-false}
 use Rattle.vms_history.specs.declared.events.Event.{Event}
-use Rattle.vms_history.specs.Events.{own, total}
-use Rattle.vms_history.specs.Passes.{begun_in}
-use Rattle.vms_history.specs.Sums.{sum_below}
-use Rattle.vms_history.proofs.CallerSums.{total-of_callers}
-use Rattle.vms_history.proofs.Own.{own-mine, own-others}
-use Rattle.vms_history.proofs.Prefixes.{own-keeps}
-use Rattle.vms_history.proofs.SumBounds.{sum_below-le}
+use Rattle.vms_history.specs.Common.{own, total, begun_in, sum_below}
+use Rattle.vms_history.proofs.Common.{total-of_callers, own-mine, own-others, own-keeps, sum_below-le}
 use Rattle.vms_core.specs.declared.steps.Facts.{Facts}
 use Rattle.vms_core.specs.declared.steps.Step.{Step}
-use Rattle.vms_core.specs.Pages.{pages, History, IsLegal}
-use Rattle.vms_core.specs.Steps.{role}
+use Rattle.vms_core.specs.Common.{pages, History, IsLegal, role}
 
 -- the sizes of all steps of a history together
 abbrev pub sizes : (Step → ℕ) → History → ℤ

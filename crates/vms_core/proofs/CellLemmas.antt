@@ -1,17 +1,17 @@
 -- What reads find in a list after a row of zeros was written, and in a row of eight.
-use Rattle.std.proofs.Common.{◌≡◌, ◌≢◌, ℕ, zero, suc, ◌+◌, ◌*◌, ◌/◌, ◌%◌, ◌<◌}
-use Rattle.std.proofs.Common.{◌≤◌, Bool, true, false, ◌&&◌, List, length, get_or, ℤ, pos}
-use Rattle.std.proofs.Common.{refl, sym, ◌∙◌, arith, eqb-true, length-set, get_or-set_other, take, drop, length-take}
-use Rattle.std.proofs.Common.{length-drop, get_or-take, get_or-drop, ap, ⊎_elim, if◌then◌else◌, nat_eq}
+use Rattle.std.proofs.Common.{◌≡◌, ◌≢◌, ℕ, zero, suc, ◌+◌, ◌*◌, ◌/◌, ◌%◌, ◌<◌, ◌≤◌, Bool, true, false, ◌&&◌, List}
+use Rattle.std.proofs.Common.{length, get_or, ℤ, pos, refl, sym, ◌∙◌, arith, eqb-true, length-set, get_or-set_other}
+use Rattle.std.proofs.Common.{take, drop, length-take, length-drop, get_or-take, get_or-drop, ap, ⊎_elim, if◌then◌else◌}
+use Rattle.std.proofs.Common.{nat_eq}
 use Rattle.std.proofs.lemmas.Bool.{eqb-false, cases_lt}
 use Rattle.std.proofs.lemmas.Int.{ints}
 use Rattle.std.proofs.lemmas.List.{get_or_past}
-use Rattle.vms_base.specs.Groups.{AreBytes}
-use Rattle.vms_base.specs.Places.{cell}
-use Rattle.vms_base.proofs.Cells.{cell-injective, cell-lt}
-use Rattle.vms_history.proofs.Cells.{get_or-set}
+use Rattle.vms_history.specs.Common.{AreBytes, cell}
+use Rattle.vms_base.proofs.Common.{cell-injective, cell-lt}
+use Rattle.vms_history.proofs.Common.{get_or-set}
 use Rattle.vms_core.specs.declared.states.State.{State}
-use Rattle.vms_core.specs.Cells.{TellsGroup, counters_of, zeroed}
+use Rattle.vms_core.specs.Common.{TellsGroup, counters_of}
+use Rattle.vms_core.specs.Cells.{zeroed}
 
 pub length-zeroed : (xs : List ℤ) (start n : ℕ) → length (zeroed xs start n) ≡ length xs
 unfolding zeroed

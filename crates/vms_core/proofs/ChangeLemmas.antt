@@ -1,11 +1,10 @@
 -- For other crates too: a change under a threshold: it loses nothing, and leaves no more than the threshold.
-use Rattle.std.proofs.Common.{◌≡◌, ℕ, ◌≤◌, Bool, true, false, ℤ, pos}
-use Rattle.std.proofs.Common.{neg_ℤ, ◌+ℤ◌, unsigned_abs, refl, arith, if◌then◌else◌, nat_le}
+use Rattle.std.proofs.Common.{◌≡◌, ℕ, ◌≤◌, Bool, true, false, ℤ, pos, neg_ℤ, ◌+ℤ◌, unsigned_abs, refl, arith}
+use Rattle.std.proofs.Common.{if◌then◌else◌, nat_le}
 use Rattle.std.proofs.lemmas.Int.{ints}
 use Rattle.std.proofs.lemmas.Bool.Decides.{nat_tests}
-use Rattle.vms_base.specs.declared.kinds.Mode.{Mode}
-use Rattle.vms_base.specs.declared.kinds.Mode.TheVariants.{Mod, Inc, Dec}
-use Rattle.vms_core.specs.Changes.{overstep_of, differential_after, carried_by}
+use Rattle.vms_history.specs.Common.{Mode, Mod, Inc, Dec}
+use Rattle.vms_core.specs.Common.{overstep_of, differential_after, carried_by}
 
 overstep_of-within : (how : Mode) (t : ℕ) → unsigned_abs (neg_ℤ (overstep_of how t)) ≤ t
 overstep_of-within Mod t = omega (arith, ints)

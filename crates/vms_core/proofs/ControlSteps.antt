@@ -2,19 +2,13 @@
 -- become absent.
 use Rattle.std.proofs.Common.{◌≡◌, ℕ, ◌+◌, ◌*◌, ◌%◌, pos, sym, ap, ◌∙◌, arith}
 use Rattle.std.proofs.lemmas.List.{get_or-replicate}
-use Rattle.vms_base.specs.declared.ids.CpuId.{CpuId}
-use Rattle.vms_base.specs.declared.ids.PlaceId.{PlaceId}
-use Rattle.vms_base.specs.declared.kinds.CpuState.TheVariants.{Dead}
-use Rattle.vms_base.specs.Places.{IsCpu, group_of}
-use Rattle.vms_base.proofs.Counts.{group_of-lt}
-use Rattle.vms_history.specs.Events.{own}
-use Rattle.vms_history.proofs.Prefixes.{base_can_begin}
+use Rattle.vms_history.specs.Common.{CpuId, PlaceId, Dead, IsCpu, group_of, own}
+use Rattle.vms_base.proofs.Common.{group_of-lt}
+use Rattle.vms_history.proofs.Common.{base_can_begin}
 use Rattle.vms_core.specs.declared.steps.Facts.{Facts}
 use Rattle.vms_core.specs.declared.steps.Step.TheVariants.{SetT}
-use Rattle.vms_core.specs.Cells.{diff_at, cpu_at}
-use Rattle.vms_core.specs.Conditions.{IsControl, SetsThreshold, SetsMark, SetsAbsent}
-use Rattle.vms_core.specs.Knowledge.{GoesOnWithout, HasTakenAll}
-use Rattle.vms_core.specs.Pages.{pages, History, IsLegal, state_after}
+use Rattle.vms_core.specs.Common.{diff_at, cpu_at, IsControl, SetsThreshold, SetsMark, SetsAbsent, GoesOnWithout}
+use Rattle.vms_core.specs.Common.{HasTakenAll, pages, History, IsLegal, state_after}
 use Rattle.vms_core.proofs.DeadCpus.{dead≢online}
 use Rattle.vms_core.proofs.LiveOwners.{online-stays}
 use Rattle.vms_core.proofs.OfflineGroups.{offline-stay_taken}

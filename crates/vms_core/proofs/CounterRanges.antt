@@ -1,8 +1,8 @@
 -- For other crates too: the counters of a place of a layout are the layout's.
 use Rattle.std.proofs.Common.{◌≡◌, ℕ, ◌<◌, arith}
 use Rattle.std.proofs.lemmas.Nat.{mul-add-lt}
-use Rattle.vms_base.specs.Places.{Shape, IsLayout, IsCounter, IsPlace, place_count, counter_at, place_of}
-use Rattle.vms_base.proofs.Counts.{position_of-lt, counter_at-place}
+use Rattle.vms_history.specs.Common.{Shape, IsLayout, IsCounter, IsPlace, place_count, counter_at, place_of}
+use Rattle.vms_base.proofs.Common.{position_of-lt, counter_at-place}
 
 module _ (shape : Shape) (layout : IsLayout shape) where
   pub counter_at-known : (g n : ℕ) → IsPlace shape g → n < shape.positions → IsCounter shape (counter_at shape g n)

@@ -1,31 +1,20 @@
 -- What a dead CPU hid moves once.
-use Rattle.std.proofs.Common.{◌≡◌, ℕ, suc, ◌<◌, ◌≤◌, ◌&&◌, ◌⊎◌, inl, inr, ⊎_elim, Bool}
-use Rattle.std.proofs.Common.{true, false, [], ◌∷◌, Option, Some, None, ℤ, pos, ◌+ℤ◌, unsigned_abs}
-use Rattle.std.proofs.Common.{refl, sym, ap, ◌∙◌, arith, if◌then◌else◌, nat_eq, nat_lt, eqb-true}
+use Rattle.std.proofs.Common.{◌≡◌, ℕ, suc, ◌<◌, ◌≤◌, ◌&&◌, ◌⊎◌, inl, inr, ⊎_elim, Bool, true, false, [], ◌∷◌, Option}
+use Rattle.std.proofs.Common.{Some, None, ℤ, pos, ◌+ℤ◌, unsigned_abs, refl, sym, ap, ◌∙◌, arith, if◌then◌else◌, nat_eq}
+use Rattle.std.proofs.Common.{nat_lt, eqb-true}
 use Rattle.std.proofs.lemmas.Int.{ints}
 use Rattle.std.proofs.lemmas.Bool.Decides.{nat_tests}
 use Rattle.std.proofs.lemmas.Bool.{and_parts}
-use Rattle.vms_base.specs.declared.groups.Diffs.{Diffs}
-use Rattle.vms_base.specs.declared.ids.CounterId.{CounterId}
-use Rattle.vms_base.specs.declared.ids.CpuId.{CpuId}
-use Rattle.vms_base.specs.declared.ids.GroupId.{GroupId}
-use Rattle.vms_base.specs.declared.kinds.CpuState.{CpuState}
-use Rattle.vms_base.specs.declared.kinds.CpuState.TheVariants.{Online, Dead, Absent}
-use Rattle.vms_base.specs.Places.{IsCounter, group_of}
-use Rattle.vms_history.specs.Passes.{owner_in}
-use Rattle.vms_history.proofs.Choices.{if-never}
-use Rattle.vms_history.proofs.TakenOnce.{TakenOnce, TakenOnce-none, TakenOnce-left, TakenOnce-taken}
+use Rattle.vms_history.specs.Common.{Diffs, CounterId, CpuId, GroupId, CpuState, Online, Dead, Absent, IsCounter}
+use Rattle.vms_history.specs.Common.{group_of, owner_in}
+use Rattle.vms_history.proofs.Common.{if-never, TakenOnce, TakenOnce-none, TakenOnce-left, TakenOnce-taken}
 use Rattle.vms_core.specs.declared.states.State.{State}
 use Rattle.vms_core.specs.declared.steps.Facts.{Facts}
 use Rattle.vms_core.specs.declared.steps.Step.{Step}
 use Rattle.vms_core.specs.declared.steps.Step.TheVariants.{Put, Take, SetO}
-use Rattle.vms_core.specs.Cells.{HasShape, diff_at, cpu_at, entry}
-use Rattle.vms_core.specs.Changes.{differential_after}
-use Rattle.vms_core.specs.Conditions.{Meets, Puts, FindsGroup}
-use Rattle.vms_core.specs.Peaks.{cpu_after}
-use Rattle.vms_core.specs.Steps.{role}
-use Rattle.vms_core.specs.Taken.{taken_by, taken, takings, MovesDeadOnce}
-use Rattle.vms_core.specs.Pages.{History, IsLegal, state_after}
+use Rattle.vms_core.specs.Common.{HasShape, diff_at, cpu_at, entry, differential_after, Meets, Puts, FindsGroup}
+use Rattle.vms_core.specs.Common.{cpu_after, role, taken_by, taken, takings, MovesDeadOnce, History, IsLegal}
+use Rattle.vms_core.specs.Common.{state_after}
 use Rattle.vms_core.proofs.HiddenPages.{absent-zero}
 use Rattle.vms_core.proofs.Settings.{cpu_at-newest}
 use Rattle.vms_core.proofs.Shapes.{HasShape-state_after}

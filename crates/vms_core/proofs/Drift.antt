@@ -1,20 +1,14 @@
 -- A global value is off by no more than the differentials and what is carried.
 use Rattle.std.proofs.Common.{ℕ, zero, suc, ◌≤◌, ℤ, pos, negsuc, ◌+ℤ◌, ◌≤ℤ◌, unsigned_abs, arith, if◌then◌else◌, nat_eq}
 use Rattle.std.proofs.lemmas.Int.{ints}
-use Rattle.vms_base.specs.Places.{IsCounter, item_of, counter_count}
-use Rattle.vms_history.specs.Events.{own}
-use Rattle.vms_history.specs.Passes.{begun_in}
-use Rattle.vms_history.specs.Sums.{count_below, sum_below}
+use Rattle.vms_history.specs.Common.{IsCounter, item_of, counter_count, own, begun_in, count_below, sum_below}
 use Rattle.vms_core.specs.declared.steps.Facts.{Facts}
-use Rattle.vms_core.specs.Cells.{diff_at}
-use Rattle.vms_core.specs.Drift.{BoundsDrift, BoundsSystemDrift, BoundsExcess, size_below_zero}
-use Rattle.vms_core.specs.Drift.{last_thresholds, last_thresholds_of_item, carried_sizes, carried_of_item_sizes}
-use Rattle.vms_core.specs.Own.{carried, carried_of_item}
-use Rattle.vms_core.specs.Pages.{History, IsLegal, state_after, carried_by_all, carried_of_item_by_all}
-use Rattle.vms_core.specs.Steps.{role}
-use Rattle.vms_core.specs.Totals.{differentials, differentials_of_item, last_threshold}
+use Rattle.vms_core.specs.Common.{diff_at, BoundsDrift, BoundsSystemDrift, BoundsExcess, size_below_zero}
+use Rattle.vms_core.specs.Common.{last_thresholds, last_thresholds_of_item, carried_sizes, carried_of_item_sizes}
+use Rattle.vms_core.specs.Common.{carried, carried_of_item, History, IsLegal, state_after, carried_by_all}
+use Rattle.vms_core.specs.Common.{carried_of_item_by_all, role, differentials, differentials_of_item, last_threshold}
 use Rattle.vms_core.proofs.Bounds.{within-if, diff_at-bounded}
-use Rattle.vms_history.proofs.CountLemmas.{sum_below-sizes}
+use Rattle.vms_history.proofs.Common.{sum_below-sizes}
 use Rattle.vms_core.proofs.Items.{system_totals-kept}
 use Rattle.vms_core.proofs.Sums.{totals-kept}
 

@@ -1,24 +1,20 @@
 -- For other crates too: what a step that meets its condition makes of the lists of a state, and of its global values
 -- and differentials.
-use Rattle.std.proofs.Common.{◌≡◌, ℕ, ◌+◌, ◌*◌, ◌/◌, ◌<◌, ◌≤◌, ◌&&◌, List, length, get_or, Option}
-use Rattle.std.proofs.Common.{Some, None, ℤ, pos, ◌+ℤ◌, refl, ap, ◌∙◌, arith, length-set, if◌then◌else◌, nat_eq}
-use Rattle.vms_base.specs.declared.ids.CpuId.{CpuId}
-use Rattle.vms_base.specs.Places.{Shape, cell, counter_count, IsCpu, IsCounter, IsGroup, group_of}
-use Rattle.vms_base.proofs.Cells.{cell-lt}
+use Rattle.std.proofs.Common.{◌≡◌, ℕ, ◌+◌, ◌*◌, ◌/◌, ◌<◌, ◌≤◌, ◌&&◌, List, length, get_or, Option, Some, None, ℤ, pos}
+use Rattle.std.proofs.Common.{◌+ℤ◌, refl, ap, ◌∙◌, arith, length-set, if◌then◌else◌, nat_eq}
+use Rattle.vms_history.specs.Common.{CpuId, Shape, cell, counter_count, IsCpu, IsCounter, IsGroup, group_of, owner_in}
+use Rattle.vms_history.specs.Common.{Absent}
+use Rattle.vms_base.proofs.Common.{cell-lt}
 use Rattle.vms_history.specs.declared.events.Event.{Event}
-use Rattle.vms_history.specs.Passes.{owner_in}
-use Rattle.vms_base.specs.declared.kinds.CpuState.TheVariants.{Absent}
-use Rattle.vms_history.proofs.Cells.{get_or-changed, get_or-set_cell}
+use Rattle.vms_history.proofs.Common.{get_or-changed, get_or-set_cell}
 use Rattle.vms_core.specs.declared.states.State.{State}
 use Rattle.vms_core.specs.declared.steps.Facts.{Facts}
 use Rattle.vms_core.specs.declared.steps.Step.{Step}
 use Rattle.vms_core.specs.declared.steps.Step.TheVariants.{Put, AddG, AddS, Take, SetT, SetM, SetO, SetA}
-use Rattle.vms_core.specs.Cells.{HasShape, counters_of, places_of, zones_of, value_at, system_at, threshold_sets_at}
-use Rattle.vms_core.specs.Cells.{mark_sets_at, diff_at, entry, with_value, with_diff, with_group_zeroed}
-use Rattle.vms_core.specs.Changes.{differential_after}
-use Rattle.vms_core.specs.Conditions.{Meets, Owns}
+use Rattle.vms_core.specs.Common.{HasShape, counters_of, places_of, zones_of, value_at, system_at, threshold_sets_at}
+use Rattle.vms_core.specs.Common.{mark_sets_at, diff_at, entry, with_value, with_diff, with_group_zeroed}
+use Rattle.vms_core.specs.Common.{differential_after, Meets, Owns, role, effect, effect_of, own_effect}
 pub use Rattle.vms_core.specs.Effects.{diff_after, value_after, system_after}
-use Rattle.vms_core.specs.Steps.{role, effect, effect_of, own_effect}
 use Rattle.vms_core.proofs.CellLemmas.{get_or-zeroed_cells, length-zeroed}
 
 -- a step leaves the lengths of all lists

@@ -1,21 +1,15 @@
 -- The differentials of a group that was emptied are 0 until its owner's next put.
-use Rattle.std.proofs.Common.{◌≡◌, ℕ, ◌+◌, ◌*◌, ◌/◌, ◌%◌, ◌&&◌, Bool, true, false, true≢false, [], ◌∷◌, Option}
-use Rattle.std.proofs.Common.{Some, None, ℤ, pos, refl, sym, ap, ◌∙◌, arith, if◌then◌else◌, nat_eq, eqb-true, eq-eqb}
+use Rattle.std.proofs.Common.{◌≡◌, ℕ, ◌+◌, ◌*◌, ◌/◌, ◌%◌, ◌&&◌, Bool, true, false, true≢false, [], ◌∷◌, Option, Some}
+use Rattle.std.proofs.Common.{None, ℤ, pos, refl, sym, ap, ◌∙◌, arith, if◌then◌else◌, nat_eq, eqb-true, eq-eqb}
 use Rattle.std.proofs.lemmas.List.{get_or-replicate, length-replicate}
 use Rattle.std.proofs.lemmas.Bool.{and_parts}
-use Rattle.vms_base.specs.declared.ids.CpuId.{CpuId}
-use Rattle.vms_base.specs.Places.{IsCounter, group_of, counter_count}
-use Rattle.vms_history.specs.Passes.{owner_in}
+use Rattle.vms_history.specs.Common.{CpuId, IsCounter, group_of, counter_count, owner_in}
 use Rattle.vms_core.specs.declared.states.State.{State}
 use Rattle.vms_core.specs.declared.steps.Facts.{Facts}
 use Rattle.vms_core.specs.declared.steps.Step.{Step}
 use Rattle.vms_core.specs.declared.steps.Step.TheVariants.{Put, Miss, Take}
-use Rattle.vms_core.specs.Cells.{HasShape, diff_at, eight_zeros, entry}
-use Rattle.vms_core.specs.Changes.{differential_after}
-use Rattle.vms_core.specs.Conditions.{Meets}
-use Rattle.vms_core.specs.Steps.{role}
-use Rattle.vms_core.specs.Taken.{emptied_after, is_emptied, KeepsEmptied}
-use Rattle.vms_core.specs.Pages.{History, IsLegal, state_after}
+use Rattle.vms_core.specs.Common.{HasShape, diff_at, eight_zeros, entry, differential_after, Meets, role, emptied_after}
+use Rattle.vms_core.specs.Common.{is_emptied, KeepsEmptied, History, IsLegal, state_after}
 use Rattle.vms_core.proofs.Shapes.{HasShape-state_after}
 use Rattle.vms_core.proofs.Effects.{owned, group-within, diff_after, diff_at-effect}
 use Rattle.vms_core.proofs.Sums.{entry-told}

@@ -1,24 +1,13 @@
 -- For other crates too: an exchange of what its owner found wins, or the group was taken.
 use Rattle.std.proofs.Common.{◌≡◌, ℕ, ⊎_elim, ◌∷◌, Some, ℤ, sym, ap, ◌∙◌, subst, arith}
-use Rattle.vms_base.specs.declared.groups.Diffs.{Diffs}
-use Rattle.vms_base.specs.declared.ids.CounterId.{CounterId}
-use Rattle.vms_base.specs.declared.ids.CpuId.{CpuId}
-use Rattle.vms_base.specs.declared.ids.GroupId.{GroupId}
-use Rattle.vms_base.specs.declared.kinds.Mode.{Mode}
-use Rattle.vms_base.specs.Places.{IsGroup, place_of, group_of}
-use Rattle.vms_base.proofs.Counts.{group_of-lt}
-use Rattle.vms_history.specs.Events.{own}
-use Rattle.vms_history.specs.Legal.{Acts}
-use Rattle.vms_history.specs.Passes.Role.{Works}
-use Rattle.vms_history.proofs.PassLaws.{live_is_given}
-use Rattle.vms_history.proofs.Prefixes.{base_can_begin}
+use Rattle.vms_history.specs.Common.{Diffs, CounterId, CpuId, GroupId, Mode, IsGroup, place_of, group_of, own, Acts}
+use Rattle.vms_history.specs.Common.{Works}
+use Rattle.vms_base.proofs.Common.{group_of-lt}
+use Rattle.vms_history.proofs.Common.{live_is_given, base_can_begin}
 use Rattle.vms_core.specs.declared.steps.Facts.{Facts}
 use Rattle.vms_core.specs.declared.steps.Step.TheVariants.{Put, Miss}
-use Rattle.vms_core.specs.Cells.{TellsGroup, eight_zeros}
-use Rattle.vms_core.specs.Conditions.{Owns}
-use Rattle.vms_core.specs.Knowledge.{MayExchange, GoesOnWithout, StandsOrTaken}
-use Rattle.vms_core.specs.Own.{found, loaded, CarriesNothing}
-use Rattle.vms_core.specs.Pages.{pages, History, IsLegal, state_after}
+use Rattle.vms_core.specs.Common.{TellsGroup, eight_zeros, Owns, MayExchange, GoesOnWithout, StandsOrTaken, found}
+use Rattle.vms_core.specs.Common.{loaded, CarriesNothing, pages, History, IsLegal, state_after}
 use Rattle.vms_core.proofs.LiveOwners.{owned-online, found-stands}
 use Rattle.vms_core.proofs.KnowledgeKept.{OwnerKnows-holds}
 

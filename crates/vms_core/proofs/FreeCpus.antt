@@ -1,23 +1,15 @@
 -- For other crates too: what stands of a CPU while no pass owns it, and of all settings while no control pass lives.
-use Rattle.std.proofs.Common.{◌≡◌, ◌≢◌, ℕ, ◌&&◌, [], ◌∷◌, ◌++◌, Option, Some}
-use Rattle.std.proofs.Common.{None, refl, sym, ap, ◌∙◌, subst, arith, nat_eq, eqb-true}
+use Rattle.std.proofs.Common.{◌≡◌, ◌≢◌, ℕ, ◌&&◌, [], ◌∷◌, ◌++◌, Option, Some, None, refl, sym, ap, ◌∙◌, subst, arith}
+use Rattle.std.proofs.Common.{nat_eq, eqb-true}
 use Rattle.std.proofs.lemmas.Bool.{and_parts}
-use Rattle.vms_base.specs.declared.ids.CpuId.{CpuId}
+use Rattle.vms_history.specs.Common.{CpuId, own, owner_in, IsFree}
 use Rattle.vms_history.specs.declared.events.Event.{Event}
-use Rattle.vms_history.specs.Events.{own}
-use Rattle.vms_history.specs.Passes.{owner_in, IsFree}
-use Rattle.vms_history.proofs.Choices.{if-never}
-use Rattle.vms_history.proofs.FreeOwners.{holds_while_free}
-use Rattle.vms_history.proofs.Own.{own-on_top}
-use Rattle.vms_history.proofs.Owners.{same_cpu}
+use Rattle.vms_history.proofs.Common.{if-never, holds_while_free, own-on_top, same_cpu}
 use Rattle.vms_core.specs.declared.steps.Facts.{Facts}
 use Rattle.vms_core.specs.declared.steps.Step.{Step}
 use Rattle.vms_core.specs.declared.steps.Step.TheVariants.{SetA}
-use Rattle.vms_core.specs.Cells.{acknowledged_at}
-use Rattle.vms_core.specs.Knowledge.{GoesOnWithoutMain, StandsFree, ControlKnows}
-use Rattle.vms_core.specs.Pages.{pages, History, IsLegal, state_after}
-use Rattle.vms_core.specs.Steps.{role}
-use Rattle.vms_core.specs.Totals.{spent}
+use Rattle.vms_core.specs.Common.{acknowledged_at, GoesOnWithoutMain, StandsFree, ControlKnows, pages, History, IsLegal}
+use Rattle.vms_core.specs.Common.{state_after, role, spent}
 use Rattle.vms_core.proofs.Settings.{acknowledged_after, acknowledged_at-newest}
 use Rattle.vms_core.proofs.KnowledgeKept.{spent_by-others, event-leaves, knows-none, knows-both}
 

@@ -1,26 +1,20 @@
 -- For other crates too: the differentials of a group stand as one list of eight, and so do the lists that steps name.
-use Rattle.std.proofs.Common.{◌≡◌, ℕ, ◌+◌, ◌*◌, ◌%◌, ◌<◌, ◌≤◌, ◌&&◌, Bool, true}
-use Rattle.std.proofs.Common.{false, List, [], ◌∷◌, length, take, drop, Option, Some, None}
-use Rattle.std.proofs.Common.{ℤ, pos, ◌∙◌, ⊎_elim, arith, length-set, if◌then◌else◌, nat_eq, unsigned_abs}
+use Rattle.std.proofs.Common.{◌≡◌, ℕ, ◌+◌, ◌*◌, ◌%◌, ◌<◌, ◌≤◌, ◌&&◌, Bool, true, false, List, [], ◌∷◌, length, take}
+use Rattle.std.proofs.Common.{drop, Option, Some, None, ℤ, pos, ◌∙◌, ⊎_elim, arith, length-set, if◌then◌else◌, nat_eq}
+use Rattle.std.proofs.Common.{unsigned_abs}
 use Rattle.std.proofs.lemmas.Bool.{cases_lt}
 use Rattle.std.proofs.lemmas.List.{get_or_past, length-replicate}
-use Rattle.vms_base.specs.declared.ids.CpuId.{CpuId}
-use Rattle.vms_base.specs.Groups.{AreBytes}
-use Rattle.vms_base.specs.Places.{IsCounter, cell, counter_count, group_of, place_of}
-use Rattle.vms_base.specs.Thresholds.{most_threshold}
-use Rattle.vms_base.proofs.Counts.{place_of-lt}
-use Rattle.vms_history.specs.Events.{own}
-use Rattle.vms_history.proofs.Prefixes.{base_can_begin, own-keeps}
+use Rattle.vms_history.specs.Common.{CpuId, AreBytes, IsCounter, cell, counter_count, group_of, place_of}
+use Rattle.vms_history.specs.Common.{most_threshold, own}
+use Rattle.vms_base.proofs.Common.{place_of-lt}
+use Rattle.vms_history.proofs.Common.{base_can_begin, own-keeps}
 use Rattle.vms_core.proofs.PlainData.{byte}
 use Rattle.vms_core.specs.declared.states.State.{State}
 use Rattle.vms_core.specs.declared.steps.Facts.{Facts}
 use Rattle.vms_core.specs.declared.steps.Step.{Step}
 use Rattle.vms_core.specs.declared.steps.Step.TheVariants.{LoadD, Put, Miss, Take}
-use Rattle.vms_core.specs.Cells.{TellsGroup, counters_of, diff_at, eight_zeros}
-use Rattle.vms_core.specs.Conditions.{Meets}
-use Rattle.vms_core.specs.Knowledge.{NamesEight, NameEight, GroupsAreLists}
-use Rattle.vms_core.specs.Own.{found, found_after}
-use Rattle.vms_core.specs.Pages.{pages, History, IsLegal, state_after}
+use Rattle.vms_core.specs.Common.{TellsGroup, counters_of, diff_at, eight_zeros, Meets, NamesEight, NameEight}
+use Rattle.vms_core.specs.Common.{GroupsAreLists, found, found_after, pages, History, IsLegal, state_after}
 use Rattle.vms_core.proofs.CellLemmas.{TellsGroup-cells}
 use Rattle.vms_core.proofs.Effects.{group-within, group-cells}
 use Rattle.vms_core.proofs.PeakBounds.{last_within-holds, peaks-in_range}

@@ -1,24 +1,16 @@
 -- What the CPUs hide of a counter is at most their peaks.
-use Rattle.std.proofs.Common.{◌≡◌, ℕ, ◌≤◌, ◌&&◌, Bool, true, false, [], ◌∷◌, Option, Some, None}
-use Rattle.std.proofs.Common.{ℤ, pos, unsigned_abs, refl, sym, ap, ◌∙◌, arith, subst, if◌then◌else◌, nat_eq, eqb-true}
+use Rattle.std.proofs.Common.{◌≡◌, ℕ, ◌≤◌, ◌&&◌, Bool, true, false, [], ◌∷◌, Option, Some, None, ℤ, pos, unsigned_abs}
+use Rattle.std.proofs.Common.{refl, sym, ap, ◌∙◌, arith, subst, if◌then◌else◌, nat_eq, eqb-true}
 use Rattle.std.proofs.lemmas.Bool.{and_parts}
-use Rattle.vms_base.specs.declared.ids.CpuId.{CpuId}
-use Rattle.vms_base.specs.declared.kinds.CpuState.{CpuState}
-use Rattle.vms_base.specs.declared.kinds.CpuState.TheVariants.{Online, Dead, Absent}
-use Rattle.vms_base.specs.Places.{IsCounter, place_of, group_of}
-use Rattle.vms_history.specs.Passes.{owner_in}
+use Rattle.vms_history.specs.Common.{CpuId, CpuState, Online, Dead, Absent, IsCounter, place_of, group_of, owner_in}
 use Rattle.vms_core.specs.declared.states.State.{State}
 use Rattle.vms_core.specs.declared.steps.Facts.{Facts}
 use Rattle.vms_core.specs.declared.steps.Step.{Step}
 use Rattle.vms_core.specs.declared.steps.Step.TheVariants.{Put, Take, SetO}
-use Rattle.vms_core.specs.Cells.{HasShape, diff_at, cpu_at, entry}
-use Rattle.vms_core.specs.Changes.{differential_after}
-use Rattle.vms_core.specs.Conditions.{Meets}
-use Rattle.vms_core.specs.Pages.{History, IsLegal, state_after}
-use Rattle.vms_core.specs.PeakLaws.{HidesNothingAbsent, BoundsHidden}
-use Rattle.vms_core.specs.Peaks.{cpu_after, cpu_in, peak, if_present}
-use Rattle.vms_core.specs.Steps.{role}
-use Rattle.vms_history.proofs.CountLemmas.{count_below-least}
+use Rattle.vms_core.specs.Common.{HasShape, diff_at, cpu_at, entry, differential_after, Meets, History, IsLegal}
+use Rattle.vms_core.specs.Common.{state_after, HidesNothingAbsent, BoundsHidden, cpu_after, cpu_in, peak, if_present}
+use Rattle.vms_core.specs.Common.{role}
+use Rattle.vms_history.proofs.Common.{count_below-least}
 use Rattle.vms_core.proofs.Effects.{diff_after, diff_at-effect, owned}
 use Rattle.vms_core.proofs.PeakBounds.{last_within-holds}
 use Rattle.vms_core.proofs.Settings.{cpu_at-newest, cpu_at-state_after}

@@ -5,10 +5,10 @@ use Rattle.std.proofs.Math.Nat.{mul-le-mul_right}
 use Rattle.std.proofs.lemmas.Int.{ints}
 use Rattle.std.proofs.lemmas.Bool.{ne_eqb, cases_lt}
 use Rattle.std.proofs.lemmas.Bool.Decides.{nat_tests}
-use Rattle.vms_base.specs.Places.{Shape, IsLayout, IsCounter, counter_at, item_of, counter_count, place_count}
-use Rattle.vms_base.proofs.Counts.{nodes_most-holds, counter_at-place, counter_at-position}
-use Rattle.vms_history.specs.Sums.{sum_below}
-use Rattle.vms_history.proofs.SumLaws.{sum_below-same, sum_below-zeros}
+use Rattle.vms_history.specs.Common.{Shape, IsLayout, IsCounter, counter_at, item_of, counter_count, place_count}
+use Rattle.vms_history.specs.Common.{sum_below}
+use Rattle.vms_base.proofs.Common.{nodes_most-holds, counter_at-place, counter_at-position}
+use Rattle.vms_history.proofs.Common.{sum_below-same, sum_below-zeros}
 use Rattle.vms_core.proofs.CounterRanges.{counter_at-known}
 use Rattle.vms_core.proofs.Items.{sum_below-split}
 

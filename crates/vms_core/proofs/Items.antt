@@ -1,33 +1,21 @@
 -- Nothing is lost of any item: system-wide values, differentials and what is carried add up to the true totals.
-use Rattle.std.proofs.Common.{◌≡◌, ℕ, suc, zero, ◌+◌, ◌-◌, ◌*◌, ◌/◌, ◌<◌, ◌≤◌, ◌⊎◌, ◌&&◌, Bool}
-use Rattle.std.proofs.Common.{true, false, [], ◌∷◌, Option, Some, None, get_or, length-set, ℤ, pos, ◌+ℤ◌, ◌-ℤ◌}
-use Rattle.std.proofs.Common.{refl, sym, ap, ◌∙◌, arith, inl, inr, ⊎_elim, if◌then◌else◌, nat_eq, eq-eqb, eqb-true}
+use Rattle.std.proofs.Common.{◌≡◌, ℕ, suc, zero, ◌+◌, ◌-◌, ◌*◌, ◌/◌, ◌<◌, ◌≤◌, ◌⊎◌, ◌&&◌, Bool, true, false, [], ◌∷◌}
+use Rattle.std.proofs.Common.{Option, Some, None, get_or, length-set, ℤ, pos, ◌+ℤ◌, ◌-ℤ◌, refl, sym, ap, ◌∙◌, arith}
+use Rattle.std.proofs.Common.{inl, inr, ⊎_elim, if◌then◌else◌, nat_eq, eq-eqb, eqb-true}
 use Rattle.std.proofs.lemmas.Int.{ints}
 use Rattle.std.proofs.lemmas.Bool.{ne_eqb}
-use Rattle.vms_base.specs.declared.groups.Diffs.{Diffs}
-use Rattle.vms_base.specs.declared.ids.CounterId.{CounterId}
-use Rattle.vms_base.specs.declared.ids.CpuId.{CpuId}
-use Rattle.vms_base.specs.declared.ids.GroupId.{GroupId}
-use Rattle.vms_base.specs.declared.ids.ItemId.{ItemId}
-use Rattle.vms_base.specs.declared.kinds.Mode.{Mode}
-use Rattle.vms_base.specs.Places.{Shape, cell, IsCounter, group_of, first_of, item_of, counter_count}
-use Rattle.vms_history.specs.Events.{total}
-use Rattle.vms_history.specs.Passes.{owner_in, begun_in}
-use Rattle.vms_history.specs.Sums.{sum_below}
-use Rattle.vms_history.proofs.Choices.{if-either, if-cancels}
-use Rattle.vms_history.proofs.SumLaws.{sum_below-same, sum_below-sum, sum_below-zeros}
-use Rattle.vms_history.proofs.CallerSums.{total-of_callers}
+use Rattle.vms_history.specs.Common.{Diffs, CounterId, CpuId, GroupId, ItemId, Mode, Shape, cell, IsCounter, group_of}
+use Rattle.vms_history.specs.Common.{first_of_group, item_of, counter_count, total, owner_in, begun_in, sum_below}
+use Rattle.vms_history.proofs.Common.{if-either, if-cancels, sum_below-same, sum_below-sum, sum_below-zeros}
+use Rattle.vms_history.proofs.Common.{total-of_callers}
 use Rattle.vms_core.specs.declared.states.State.{State}
 use Rattle.vms_core.specs.declared.steps.Facts.{Facts}
 use Rattle.vms_core.specs.declared.steps.Step.{Step}
 use Rattle.vms_core.specs.declared.steps.Step.TheVariants.{Put, AddG, AddS, Take}
-use Rattle.vms_core.specs.Cells.{HasShape, with_value, value_at, system_at, diff_at, entry}
-use Rattle.vms_core.specs.Changes.{differential_after, carried_by}
-use Rattle.vms_core.specs.Conditions.{Meets, Puts, FindsGroup}
-use Rattle.vms_core.specs.Own.{moved_of_item}
-use Rattle.vms_core.specs.Steps.{role, effect}
-use Rattle.vms_core.specs.Totals.{differentials, differentials_of_item, change_of_item, true_total_of_item}
-use Rattle.vms_core.specs.Pages.{History, IsLegal, state_after, pages, carried_of_item_by_all, KeepsSystemTotals}
+use Rattle.vms_core.specs.Common.{HasShape, with_value, value_at, system_at, diff_at, entry, differential_after}
+use Rattle.vms_core.specs.Common.{carried_by, Meets, Puts, FindsGroup, moved_of_item, role, effect, differentials}
+use Rattle.vms_core.specs.Common.{differentials_of_item, change_of_item, true_total_of_item, History, IsLegal}
+use Rattle.vms_core.specs.Common.{state_after, pages, carried_of_item_by_all, KeepsSystemTotals}
 use Rattle.vms_core.proofs.ChangeLemmas.{differential_after-carried_by}
 use Rattle.vms_core.proofs.Shapes.{HasShape-state_after}
 use Rattle.vms_core.proofs.Effects.{owned, group-within, diff_at-effect, system_at-effect}
@@ -84,7 +72,7 @@ module _ (is_in : ℕ → Bool) (n : ℕ) where
   -- changes of the counters of one group
   pub group_change : (j : ℕ) (f : ℕ → ℤ) → j < n / 8
       → sum_below (λ k. if is_in k then (if nat_eq j (group_of k) then f k else pos 0) else pos 0) n
-      ≡ sum_below (λ i. if is_in (first_of j + i) then f (first_of j + i) else pos 0) 8
+      ≡ sum_below (λ i. if is_in (first_of_group j + i) then f (first_of_group j + i) else pos 0) 8
   group_change j f j_in =
       let change : ℕ → ℤ = λ k. if is_in k then (if nat_eq j (group_of k) then f k else pos 0) else pos 0 in
       let part = sum_below-part change (8 * j) 8 n (group-within n j j_in) (λ k other.
@@ -150,11 +138,12 @@ module _ (facts : Facts) (h : History) (s : State) (p : ℕ) (shaped : HasShape 
       differentials-write shape s after k d.number (nat_eq j.number (group_of k)) (pos 0) finds.cpu
       (λ c. write c k k_in)) in
       let group = group_change is_in (counter_count shape) j.number out finds.group in
-      let first : ℕ → ℤ = λ n. if is_in (first_of j.number + n) then out (first_of j.number + n) else pos 0 in
-      let second : ℕ → ℤ = λ n. if is_in (first_of j.number + n) then get_or w.values n (pos 0) else pos 0 in
+      let first : ℕ → ℤ = λ n.
+      if is_in (first_of_group j.number + n) then out (first_of_group j.number + n) else pos 0 in
+      let second : ℕ → ℤ = λ n. if is_in (first_of_group j.number + n) then get_or w.values n (pos 0) else pos 0 in
       let none : sum_below (λ n. first n +ℤ second n) 8 ≡ pos 0 =
       sum_below-zeros (λ n. first n +ℤ second n) 8 (λ n less.
-      if-cancels (is_in (first_of j.number + n)) (diff_at s d.number (first_of j.number + n))
+      if-cancels (is_in (first_of_group j.number + n)) (diff_at s d.number (first_of_group j.number + n))
       (get_or w.values n (pos 0))
       (λ here. finds.values.each n less)) in
       rw system_same (omega (arith, ints, changed, group, none, sum_below-sum first second 8))

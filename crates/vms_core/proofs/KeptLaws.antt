@@ -1,9 +1,8 @@
 -- For other crates too: all laws of a legal history in one record.
 use Rattle.std.proofs.Common.{◌++◌}
-use Rattle.vms_history.proofs.Prefixes.{prefix_is_legal}
+use Rattle.vms_history.proofs.Common.{prefix_is_legal}
 use Rattle.vms_core.specs.declared.steps.Facts.{Facts}
-use Rattle.vms_core.specs.Laws.{KeepsLaws}
-use Rattle.vms_core.specs.Pages.{pages, History, IsLegal}
+use Rattle.vms_core.specs.Common.{KeepsLaws, pages, History, IsLegal}
 use Rattle.vms_core.proofs.Bounds.{diff_at-bounded}
 use Rattle.vms_core.proofs.DeadCpus.{dead-move_once}
 use Rattle.vms_core.proofs.Drift.{drift-bounded, system_drift-bounded, excess-bounded}

@@ -1,31 +1,19 @@
 -- For other crates too: what a pass that made no step since knows of a history that went on.
-use Rattle.std.proofs.Common.{◌≡◌, ◌≢◌, ℕ, ◌≤◌, ◌&&◌, true, [], ◌∷◌, ◌++◌, Option, Some}
-use Rattle.std.proofs.Common.{None, refl, sym, ap, ◌∙◌, subst, arith, nat_eq, eqb-true, unsigned_abs}
+use Rattle.std.proofs.Common.{◌≡◌, ◌≢◌, ℕ, ◌≤◌, ◌&&◌, true, [], ◌∷◌, ◌++◌, Option, Some, None, refl, sym, ap, ◌∙◌}
+use Rattle.std.proofs.Common.{subst, arith, nat_eq, eqb-true, unsigned_abs}
 use Rattle.std.proofs.lemmas.Bool.{and_parts}
-use Rattle.vms_base.specs.declared.ids.CpuId.{CpuId}
-use Rattle.vms_base.specs.declared.kinds.CpuState.{CpuState}
+use Rattle.vms_history.specs.Common.{CpuId, CpuState, own, Acts, owner_in, lives_in, begun_in}
 use Rattle.vms_history.specs.declared.events.Event.{Event}
-use Rattle.vms_history.specs.Events.{own}
-use Rattle.vms_history.specs.Legal.{Acts}
-use Rattle.vms_history.specs.Passes.{owner_in, lives_in, begun_in}
-use Rattle.vms_history.proofs.Choices.{if-never}
-use Rattle.vms_history.proofs.GoesOn.{holds_while_live}
-use Rattle.vms_history.proofs.Own.{own-none, own-on_top}
-use Rattle.vms_history.proofs.Owners.{same_cpu, owner_is_caller}
-use Rattle.vms_history.proofs.PassLaws.{live_is_given, owner_in-append, owner_acts_alone}
-use Rattle.vms_history.proofs.Prefixes.{prefix_is_legal}
+use Rattle.vms_history.proofs.Common.{if-never, holds_while_live, own-none, own-on_top, same_cpu, owner_is_caller}
+use Rattle.vms_history.proofs.Common.{live_is_given, owner_in-append, owner_acts_alone, prefix_is_legal}
+use Rattle.vms_history.proofs.Common.{count_below-same}
 use Rattle.vms_core.specs.declared.states.State.{State}
 use Rattle.vms_core.specs.declared.steps.Facts.{Facts}
 use Rattle.vms_core.specs.declared.steps.Step.{Step}
 use Rattle.vms_core.specs.declared.steps.Step.TheVariants.{Put, SetT, SetM, SetO, LoadA}
-use Rattle.vms_core.specs.Conditions.{Meets}
-use Rattle.vms_core.specs.Knowledge.{GoesOnWithout, OwnerKnows, ControlKnows}
-use Rattle.vms_core.specs.Pages.{pages, History, IsLegal, state_after}
-use Rattle.vms_core.specs.Peaks.{sets, sets_after, threshold_in, threshold_after, peak}
-use Rattle.vms_core.specs.Peaks.{peak_after, peak_sum, cpu_in, cpu_after, if_present}
-use Rattle.vms_core.specs.Steps.{role, effect}
-use Rattle.vms_core.specs.Totals.{spent, spent_by}
-use Rattle.vms_history.proofs.CountLemmas.{count_below-same}
+use Rattle.vms_core.specs.Common.{Meets, GoesOnWithout, OwnerKnows, ControlKnows, pages, History, IsLegal, state_after}
+use Rattle.vms_core.specs.Common.{sets, sets_after, threshold_in, threshold_after, peak, peak_after, peak_sum, cpu_in}
+use Rattle.vms_core.specs.Common.{cpu_after, if_present, role, effect, spent, spent_by}
 
 -- a step of a caller that isn't the control pass leaves what the control pass alone sets
 module _ (facts : Facts) (g : History) (s : State) (q : ℕ) (elsewhere : q ≢ 0 → owner_in role g q ≡ None → ⊥) where

@@ -1,15 +1,13 @@
 -- For other crates too: a state of a layout in which each global value and each threshold is the same.
-use Rattle.std.proofs.Common.{◌≡◌, ℕ, ◌*◌, ◌^◌, ◌<◌, ◌≤◌, ℤ, pos}
-use Rattle.std.proofs.Common.{length, get_or, replicate, None, arith, unsigned_abs, ⊎_elim}
+use Rattle.std.proofs.Common.{◌≡◌, ℕ, ◌*◌, ◌^◌, ◌<◌, ◌≤◌, ℤ, pos, length, get_or, replicate, None, arith, unsigned_abs}
+use Rattle.std.proofs.Common.{⊎_elim}
 use Rattle.std.proofs.lemmas.Bool.{cases_lt}
 use Rattle.std.proofs.lemmas.List.{get_or_past, get_or-replicate, length-replicate}
-use Rattle.vms_base.specs.declared.kinds.CpuState.TheVariants.{Online}
-use Rattle.vms_base.specs.Places.{Shape, IsLayout, IsCpu, IsPlace, cell, counter_count, item_count, place_count}
-use Rattle.vms_base.specs.Thresholds.{most_threshold}
-use Rattle.vms_base.proofs.Cells.{cell-lt}
+use Rattle.vms_history.specs.Common.{Online, Shape, IsLayout, IsCpu, IsPlace, cell, counter_count, item_count}
+use Rattle.vms_history.specs.Common.{place_count, most_threshold}
+use Rattle.vms_base.proofs.Common.{cell-lt}
 use Rattle.vms_core.specs.declared.states.State.{State}
-use Rattle.vms_core.specs.Bases.{IsOpening}
-use Rattle.vms_core.specs.Cells.{HasShape, places_of, threshold_at, cpu_at}
+use Rattle.vms_core.specs.Common.{IsOpening, HasShape, places_of, threshold_at, cpu_at}
 use Rattle.vms_core.proofs.PlainData.{places_of-shaped}
 
 -- each entry of a list of copies is the copy, and past its end too where that is the default

@@ -41,3 +41,4 @@ pub mod CarriedNothing
 pub mod SettledEnds
 pub mod GroupLists
 pub mod KeptLaws
+pub mod Common

@@ -1,37 +1,23 @@
 -- For other crates too: the CPU of a pass is online, and what its live owner found last stands or was taken.
-use Rattle.std.proofs.Common.{◌≡◌, ◌≢◌, ℕ, ◌+◌, ◌*◌, ◌/◌, ◌%◌, ◌<◌, ◌&&◌, inl, inr, ⊎_elim}
-use Rattle.std.proofs.Common.{Bool, true, false, List, [], ◌∷◌, Option, Some, None, ℤ, pos, get_or}
-use Rattle.std.proofs.Common.{refl, sym, ap, ◌∙◌, arith, if◌then◌else◌, nat_eq, eqb-true, eq-eqb, length-set}
+use Rattle.std.proofs.Common.{◌≡◌, ◌≢◌, ℕ, ◌+◌, ◌*◌, ◌/◌, ◌%◌, ◌<◌, ◌&&◌, inl, inr, ⊎_elim, Bool, true, false, List, []}
+use Rattle.std.proofs.Common.{◌∷◌, Option, Some, None, ℤ, pos, get_or, refl, sym, ap, ◌∙◌, arith, if◌then◌else◌, nat_eq}
+use Rattle.std.proofs.Common.{eqb-true, eq-eqb, length-set}
 use Rattle.std.proofs.Math.ListN.{set}
 use Rattle.std.proofs.lemmas.Bool.{and_parts, eqb-false, ne_eqb}
 use Rattle.std.proofs.lemmas.List.{get_or-replicate, length-replicate}
 use Rattle.std.proofs.lemmas.Option.{same_Some}
-use Rattle.vms_base.specs.declared.groups.Diffs.{Diffs}
-use Rattle.vms_base.specs.declared.ids.CounterId.{CounterId}
-use Rattle.vms_base.specs.declared.ids.CpuId.{CpuId}
-use Rattle.vms_base.specs.declared.ids.GroupId.{GroupId}
-use Rattle.vms_base.specs.declared.kinds.CpuState.TheVariants.{Online, Absent}
-use Rattle.vms_base.specs.Places.{IsGroup, group_of, counter_count}
+use Rattle.vms_history.specs.Common.{Diffs, CounterId, CpuId, GroupId, Online, Absent, IsGroup, group_of, counter_count}
+use Rattle.vms_history.specs.Common.{own, owner_in}
 use Rattle.vms_history.specs.declared.events.Event.{Event}
-use Rattle.vms_history.specs.Events.{own}
-use Rattle.vms_history.specs.Passes.{owner_in}
-use Rattle.vms_history.proofs.Cells.{get_or-set}
-use Rattle.vms_history.proofs.Choices.{if-never}
-use Rattle.vms_history.proofs.Own.{own-mine, own-others}
-use Rattle.vms_history.proofs.Owners.{same_cpu, owner_may_own, owner_is_caller}
+use Rattle.vms_history.proofs.Common.{get_or-set, if-never, own-mine, own-others, same_cpu, owner_may_own}
+use Rattle.vms_history.proofs.Common.{owner_is_caller}
 use Rattle.vms_core.specs.declared.states.State.{State}
 use Rattle.vms_core.specs.declared.steps.Facts.{Facts}
 use Rattle.vms_core.specs.declared.steps.Step.{Step}
 use Rattle.vms_core.specs.declared.steps.Step.TheVariants.{LoadD, Put, Miss, Take, SetO}
-use Rattle.vms_core.specs.Cells.{HasShape, TellsGroup, diff_at, cpu_at, entry, eight_zeros}
-use Rattle.vms_core.specs.Changes.{differential_after}
-use Rattle.vms_core.specs.Conditions.{Meets, Puts}
-use Rattle.vms_core.specs.Knowledge.{OwnsOnline, StandsOrTaken, KnowsFound}
-use Rattle.vms_core.specs.Own.{found, found_after}
-use Rattle.vms_core.specs.Pages.{pages, History, IsLegal, state_after}
-use Rattle.vms_core.specs.Peaks.{cpu_after}
-use Rattle.vms_core.specs.PeakLaws.{OwnsNow}
-use Rattle.vms_core.specs.Steps.{role}
+use Rattle.vms_core.specs.Common.{HasShape, TellsGroup, diff_at, cpu_at, entry, eight_zeros, differential_after, Meets}
+use Rattle.vms_core.specs.Common.{Puts, OwnsOnline, StandsOrTaken, KnowsFound, found, found_after, pages, History}
+use Rattle.vms_core.specs.Common.{IsLegal, state_after, cpu_after, OwnsNow, role}
 use Rattle.vms_core.proofs.Owners.{OwnsNow-before}
 use Rattle.vms_core.proofs.Settings.{cpu_at-newest}
 use Rattle.vms_core.proofs.DeadCpus.{dead≢online}

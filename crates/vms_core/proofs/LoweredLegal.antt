@@ -1,21 +1,13 @@
 -- For other crates too: which histories of a lowered threshold are legal, and which aren't.
-use Rattle.std.proofs.Common.{◌≡◌, ℕ, ◌+◌, ◌*◌, ◌≤◌, Bool, true, false, true≢false, [], length, get_or, Option}
-use Rattle.std.proofs.Common.{Some, None, inl, pos, refl, sym, ap, ◌∙◌, arith, subst, if◌then◌else◌, nat_eq}
+use Rattle.std.proofs.Common.{◌≡◌, ℕ, ◌+◌, ◌*◌, ◌≤◌, Bool, true, false, true≢false, [], length, get_or, Option, Some}
+use Rattle.std.proofs.Common.{None, inl, pos, refl, sym, ap, ◌∙◌, arith, subst, if◌then◌else◌, nat_eq}
 use Rattle.std.proofs.lemmas.List.Elements.{All-nil, All-cons}
-use Rattle.vms_base.specs.declared.groups.Diffs.{Diffs}
-use Rattle.vms_base.specs.Marks.{Covers}
-use Rattle.vms_base.specs.Places.{IsLayout, cell}
-use Rattle.vms_base.specs.Sizes.{IsValidSize, size_at}
-use Rattle.vms_history.specs.Events.{own}
+use Rattle.vms_history.specs.Common.{Diffs, Covers, IsLayout, cell, IsValidSize, size_at, own}
 use Rattle.vms_core.specs.declared.states.Threshold.{Threshold}
-use Rattle.vms_core.specs.Bases.{IsBase}
-use Rattle.vms_core.specs.Cells.{mark_at, eight_zeros}
-use Rattle.vms_core.specs.Own.{took}
-use Rattle.vms_core.specs.Pages.{IsLegal}
-use Rattle.vms_core.specs.Peaks.{peak_sum}
-use Rattle.vms_core.specs.LoweredThreshold.{state_of_one, one_zone, cpu, lowered, told}
-use Rattle.vms_core.specs.LoweredThreshold.{after_take, acknowledged, found_none, found_newest, found_older}
-use Rattle.vms_core.specs.LoweredThreshold.{uncovered_threshold, uncovered_mark, acknowledged_early, acknowledged_other}
+use Rattle.vms_core.specs.Common.{IsBase, mark_at, eight_zeros, took, IsLegal, peak_sum, state_of_one, one_zone, cpu}
+use Rattle.vms_core.specs.Common.{threshold_lowered, threshold_loaded, after_take, acknowledged, found_none}
+use Rattle.vms_core.specs.Common.{found_newest, found_older, uncovered_threshold, uncovered_mark, acknowledged_early}
+use Rattle.vms_core.specs.Common.{acknowledged_other}
 use Rattle.vms_core.proofs.LevelStates.{IsOpening-level, get_or-copies}
 
 layout : IsLayout one_zone.layout
@@ -58,7 +50,7 @@ none_controls : (b : Bool) → (if b then true else false) ≡ true → (if b th
 none_controls true lives owner = cc
 none_controls false lives owner = cc
 
-pub lowered_legal : IsLegal one_zone lowered
+pub lowered_legal : IsLegal one_zone threshold_lowered
 lowered_legal = (
   (
     (base, (refl, refl, (omega arith, refl), λ q lives owner. true≢false (sym lives)), tt),
@@ -77,7 +69,7 @@ lowered_legal = (
   },
 )
 
-told_legal : IsLegal one_zone told
+told_legal : IsLegal one_zone threshold_loaded
 told_legal = (
   lowered_legal,
   (λ main. omega arith, refl),

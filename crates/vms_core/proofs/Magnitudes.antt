@@ -1,20 +1,14 @@
 -- Every number of a legal history but a mark stays below 2^62.
-use Rattle.std.proofs.Common.{◌≡◌, ℕ, ◌+◌, ◌*◌, ◌^◌, ◌<◌, ◌≤◌, Bool, true, false}
-use Rattle.std.proofs.Common.{[], ◌∷◌, ℤ, pos, ◌+ℤ◌, ◌≤ℤ◌, unsigned_abs, arith, if◌then◌else◌, nat_eq}
+use Rattle.std.proofs.Common.{◌≡◌, ℕ, ◌+◌, ◌*◌, ◌^◌, ◌<◌, ◌≤◌, Bool, true, false, [], ◌∷◌, ℤ, pos, ◌+ℤ◌, ◌≤ℤ◌}
+use Rattle.std.proofs.Common.{unsigned_abs, arith, if◌then◌else◌, nat_eq}
 use Rattle.std.proofs.lemmas.Int.{ints}
-use Rattle.vms_base.specs.Places.{IsCpu, IsCounter}
-use Rattle.vms_history.specs.Passes.{owner_in}
-use Rattle.vms_history.proofs.Prefixes.{base_can_begin}
-use Rattle.vms_history.proofs.SumBounds.{sum_below-most}
+use Rattle.vms_history.specs.Common.{IsCpu, IsCounter, owner_in}
+use Rattle.vms_history.proofs.Common.{base_can_begin, sum_below-most}
 use Rattle.vms_core.specs.declared.steps.Facts.{Facts}
 use Rattle.vms_core.specs.declared.steps.Step.{Step}
 use Rattle.vms_core.specs.declared.steps.Step.TheVariants.{AddG, AddS}
-use Rattle.vms_core.specs.Bases.{IsBase}
-use Rattle.vms_core.specs.Bounded.{moved_out, StaysBelow, size_limit}
-use Rattle.vms_core.specs.Cells.{value_at, system_at, diff_at}
-use Rattle.vms_core.specs.Own.{moved, moved_of_item}
-use Rattle.vms_core.specs.Pages.{pages, History, IsLegal, state_after}
-use Rattle.vms_core.specs.Steps.{role}
+use Rattle.vms_core.specs.Common.{IsBase, moved_out, StaysBelow, size_limit, value_at, system_at, diff_at, moved}
+use Rattle.vms_core.specs.Common.{moved_of_item, pages, History, IsLegal, state_after, role}
 use Rattle.vms_core.proofs.Carrying.{sizes, carried-within, added-within}
 use Rattle.vms_core.proofs.Effects.{value_after, value_at-effect, system_after, system_at-effect}
 use Rattle.vms_core.proofs.ItemSums.{item-most}

@@ -1,23 +1,14 @@
 -- For other crates too: every mark covers what the CPUs may hide of its zone.
-use Rattle.std.proofs.Common.{◌≡◌, ◌≢◌, ℕ, ◌≤◌, max, ◌&&◌, Bool, true, false, []}
-use Rattle.std.proofs.Common.{◌∷◌, refl, sym, subst, arith, ⊎_elim, if◌then◌else◌, nat_eq, eqb-true, ne_eqb}
+use Rattle.std.proofs.Common.{◌≡◌, ◌≢◌, ℕ, ◌≤◌, max, ◌&&◌, Bool, true, false, [], ◌∷◌, refl, sym, subst, arith, ⊎_elim}
+use Rattle.std.proofs.Common.{if◌then◌else◌, nat_eq, eqb-true, ne_eqb}
 use Rattle.std.proofs.lemmas.Bool.{and_right, cases_eq}
-use Rattle.vms_base.specs.declared.kinds.CpuState.{CpuState}
-use Rattle.vms_base.specs.declared.kinds.CpuState.TheVariants.{Online, Dead, Absent}
-use Rattle.vms_base.specs.declared.kinds.ZoneSize.{ZoneSize}
-use Rattle.vms_base.specs.Marks.{Covers}
-use Rattle.vms_base.specs.Places.{IsZone}
+use Rattle.vms_history.specs.Common.{CpuState, Online, Dead, Absent, ZoneSize, Covers, IsZone, size_at}
 use Rattle.vms_core.specs.declared.steps.Facts.{Facts}
 use Rattle.vms_core.specs.declared.steps.Step.{Step}
 use Rattle.vms_core.specs.declared.steps.Step.TheVariants.{SetT, SetM, SetO, LoadA}
-use Rattle.vms_base.specs.Sizes.{size_at}
-use Rattle.vms_core.specs.Cells.{mark_at}
-use Rattle.vms_core.specs.Conditions.{Meets}
-use Rattle.vms_core.specs.Pages.{History, IsLegal, state_after}
-use Rattle.vms_core.specs.PeakLaws.{KeepsCovers}
-use Rattle.vms_core.specs.Peaks.{is_number, peak_after, peak, cpu_after, cpu_in}
-use Rattle.vms_core.specs.Peaks.{if_present, peak_sum, sets, threshold_in}
-use Rattle.vms_history.proofs.CountLemmas.{count_below-least}
+use Rattle.vms_core.specs.Common.{mark_at, Meets, History, IsLegal, state_after, KeepsCovers, is_number, peak_after}
+use Rattle.vms_core.specs.Common.{peak, cpu_after, cpu_in, if_present, peak_sum, sets, threshold_in}
+use Rattle.vms_history.proofs.Common.{count_below-least}
 use Rattle.vms_core.proofs.PeakBounds.{threshold_in-within}
 use Rattle.vms_core.proofs.Settings.{mark_after, mark_at-newest}
 

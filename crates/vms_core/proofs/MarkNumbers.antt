@@ -1,15 +1,12 @@
 -- For other crates too: the number of a mark's sets never falls, and while it stands so does the mark.
-use Rattle.std.proofs.Common.{◌≡◌, ℕ, suc, ◌≤◌, Bool, true, false, [], ◌∷◌}
-use Rattle.std.proofs.Common.{◌++◌, refl, sym, ◌∙◌, subst, arith, if◌then◌else◌, nat_eq}
-use Rattle.vms_base.specs.declared.ids.PlaceId.{PlaceId}
-use Rattle.vms_history.specs.Events.{Extends}
-use Rattle.vms_history.proofs.Prefixes.{prefix_is_legal}
+use Rattle.std.proofs.Common.{◌≡◌, ℕ, suc, ◌≤◌, Bool, true, false, [], ◌∷◌, ◌++◌, refl, sym, ◌∙◌, subst, arith}
+use Rattle.std.proofs.Common.{if◌then◌else◌, nat_eq}
+use Rattle.vms_history.specs.Common.{PlaceId, Extends}
+use Rattle.vms_history.proofs.Common.{prefix_is_legal}
 use Rattle.vms_core.specs.declared.steps.Facts.{Facts}
 use Rattle.vms_core.specs.declared.steps.Step.{Step}
 use Rattle.vms_core.specs.declared.steps.Step.TheVariants.{LoadM, SetM}
-use Rattle.vms_core.specs.Cells.{mark_at, mark_sets_at}
-use Rattle.vms_core.specs.MarkNumbers.{MarkStands}
-use Rattle.vms_core.specs.Pages.{pages, History, IsLegal, state_after}
+use Rattle.vms_core.specs.Common.{mark_at, mark_sets_at, MarkStands, pages, History, IsLegal, state_after}
 use Rattle.vms_core.proofs.Settings.{mark_after, mark_sets_after, mark_at-newest, mark_sets_at-newest}
 
 -- a step raises the number or leaves it, and where it leaves it it leaves the mark

@@ -4,23 +4,14 @@ use Rattle.std.proofs.Common.{neg_ℤ, ◌+ℤ◌, unsigned_abs, refl, ap, ◌�
 use Rattle.std.proofs.lemmas.Int.{ints}
 use Rattle.std.proofs.lemmas.Bool.Decides.{nat_tests}
 use Rattle.std.proofs.lemmas.Bool.{and_parts}
-use Rattle.vms_base.specs.declared.ids.CpuId.{CpuId}
-use Rattle.vms_base.specs.declared.kinds.Mode.{Mode}
-use Rattle.vms_base.specs.declared.kinds.Mode.TheVariants.{Mod, Inc, Dec}
-use Rattle.vms_base.specs.Places.{group_of}
-use Rattle.vms_history.specs.Passes.{owner_in}
+use Rattle.vms_history.specs.Common.{CpuId, Mode, Mod, Inc, Dec, group_of, owner_in, most_volume}
 use Rattle.vms_core.specs.declared.states.State.{State}
 use Rattle.vms_core.specs.declared.steps.Facts.{Facts}
 use Rattle.vms_core.specs.declared.steps.Step.{Step}
 use Rattle.vms_core.specs.declared.steps.Step.TheVariants.{Put, Take}
-use Rattle.vms_core.specs.Bounded.{moved_out_by, KeepsVolumes, BoundsMoves}
-use Rattle.vms_core.specs.Cells.{HasShape, diff_at, entry}
-use Rattle.vms_core.specs.Changes.{overstep_of, differential_after, carried_by}
-use Rattle.vms_core.specs.Conditions.{Meets}
-use Rattle.vms_base.specs.Volumes.{most_volume}
-use Rattle.vms_core.specs.Pages.{History, IsLegal, state_after}
-use Rattle.vms_core.specs.Steps.{role}
-use Rattle.vms_core.specs.Totals.{spent, spent_by}
+use Rattle.vms_core.specs.Common.{moved_out_by, KeepsVolumes, BoundsMoves, HasShape, diff_at, entry, overstep_of}
+use Rattle.vms_core.specs.Common.{differential_after, carried_by, Meets, History, IsLegal, state_after, role, spent}
+use Rattle.vms_core.specs.Common.{spent_by}
 use Rattle.vms_core.proofs.DeadCpus.{take-told}
 use Rattle.vms_core.proofs.Effects.{owned, diff_after, diff_at-effect}
 use Rattle.vms_core.proofs.Shapes.{HasShape-state_after}

@@ -1,15 +1,13 @@
 -- For other crates too: what the newest event of a legal history makes of each number of the state.
 use Rattle.std.proofs.Common.{◌∷◌, refl}
 use Rattle.vms_history.specs.declared.events.Event.{Event}
-use Rattle.vms_history.specs.Passes.{owner_in}
+use Rattle.vms_history.specs.Common.{owner_in}
 use Rattle.vms_core.specs.declared.steps.Facts.{Facts}
 use Rattle.vms_core.specs.declared.steps.Step.{Step}
-use Rattle.vms_core.specs.NumberChanges.{ChangesNumbers}
-use Rattle.vms_core.specs.Pages.{History, IsLegal, state_after}
-use Rattle.vms_core.specs.Steps.{role}
+use Rattle.vms_core.specs.Common.{ChangesNumbers, History, IsLegal, state_after, role}
 use Rattle.vms_core.proofs.Effects.{value_at-effect, system_at-effect, diff_at-effect}
-use Rattle.vms_core.proofs.Settings.{threshold_at-newest, sets-newest, cpu_at-newest}
-use Rattle.vms_core.proofs.Settings.{mark_at-newest, mark_sets_at-newest, acknowledged_at-newest}
+use Rattle.vms_core.proofs.Settings.{threshold_at-newest, sets-newest, cpu_at-newest, mark_at-newest}
+use Rattle.vms_core.proofs.Settings.{mark_sets_at-newest, acknowledged_at-newest}
 use Rattle.vms_core.proofs.Shapes.{HasShape-state_after}
 
 pub numbers-change : (facts : Facts) (e : Event Step) (h : History) → IsLegal facts (e ∷ h) → ChangesNumbers facts e h

@@ -1,25 +1,16 @@
 -- A group of a CPU that isn't online stays emptied.
-use Rattle.std.proofs.Common.{◌≡◌, ◌≢◌, ℕ, ◌<◌, ◌&&◌, Bool, true, false, [], ◌∷◌, Option}
-use Rattle.std.proofs.Common.{Some, None, pos, get_or, refl, sym, ap, ◌∙◌, if◌then◌else◌, nat_eq, eqb-true}
+use Rattle.std.proofs.Common.{◌≡◌, ◌≢◌, ℕ, ◌<◌, ◌&&◌, Bool, true, false, [], ◌∷◌, Option, Some, None, pos, get_or, refl}
+use Rattle.std.proofs.Common.{sym, ap, ◌∙◌, if◌then◌else◌, nat_eq, eqb-true}
 use Rattle.std.proofs.lemmas.List.{get_or-replicate}
 use Rattle.std.proofs.lemmas.Bool.{and_parts}
-use Rattle.vms_base.specs.declared.groups.Diffs.{Diffs}
-use Rattle.vms_base.specs.declared.ids.CpuId.{CpuId}
-use Rattle.vms_base.specs.declared.ids.GroupId.{GroupId}
-use Rattle.vms_base.specs.declared.kinds.CpuState.TheVariants.{Online}
-use Rattle.vms_base.specs.Places.{group_of}
-use Rattle.vms_history.specs.Events.{own}
-use Rattle.vms_history.specs.Passes.{owner_in}
-use Rattle.vms_history.proofs.Choices.{if-either}
+use Rattle.vms_history.specs.Common.{Diffs, CpuId, GroupId, Online, group_of, own, owner_in}
+use Rattle.vms_history.proofs.Common.{if-either}
 use Rattle.vms_core.specs.declared.states.State.{State}
 use Rattle.vms_core.specs.declared.steps.Facts.{Facts}
 use Rattle.vms_core.specs.declared.steps.Step.{Step}
 use Rattle.vms_core.specs.declared.steps.Step.TheVariants.{Put, Miss, Take}
-use Rattle.vms_core.specs.Cells.{HasShape, cpu_at}
-use Rattle.vms_core.specs.Conditions.{Meets}
-use Rattle.vms_core.specs.Pages.{History, IsLegal, state_after}
-use Rattle.vms_core.specs.Steps.{role}
-use Rattle.vms_core.specs.Taken.{emptied_after, is_emptied, has_taken_after, has_taken, KeepsOfflineTaken}
+use Rattle.vms_core.specs.Common.{HasShape, cpu_at, Meets, History, IsLegal, state_after, role, emptied_after}
+use Rattle.vms_core.specs.Common.{is_emptied, has_taken_after, has_taken, KeepsOfflineTaken}
 use Rattle.vms_core.proofs.DeadCpus.{online-in_base}
 use Rattle.vms_core.proofs.Effects.{owned}
 use Rattle.vms_core.proofs.Emptied.{emptied-kept}

@@ -1,34 +1,21 @@
 -- What leaves the differentials, by counter, by CPU and by item, and what of it callers may carry.
-use Rattle.std.proofs.Common.{◌≡◌, ℕ, ◌+◌, ◌*◌, ◌/◌, ◌%◌, ◌<◌, ◌≤◌, ◌&&◌, Bool}
-use Rattle.std.proofs.Common.{true, false, ◌∷◌, Option, Some, None, get_or, ℤ, pos, neg_ℤ}
-use Rattle.std.proofs.Common.{◌+ℤ◌, unsigned_abs, refl, sym, ap, ◌∙◌, arith, if◌then◌else◌, nat_eq, eqb-true}
+use Rattle.std.proofs.Common.{◌≡◌, ℕ, ◌+◌, ◌*◌, ◌/◌, ◌%◌, ◌<◌, ◌≤◌, ◌&&◌, Bool, true, false, ◌∷◌, Option, Some, None}
+use Rattle.std.proofs.Common.{get_or, ℤ, pos, neg_ℤ, ◌+ℤ◌, unsigned_abs, refl, sym, ap, ◌∙◌, arith, if◌then◌else◌}
+use Rattle.std.proofs.Common.{nat_eq, eqb-true}
 use Rattle.std.proofs.lemmas.Int.{ints}
-use Rattle.vms_base.specs.declared.groups.Diffs.{Diffs}
-use Rattle.vms_base.specs.declared.ids.CounterId.{CounterId}
-use Rattle.vms_base.specs.declared.ids.CpuId.{CpuId}
-use Rattle.vms_base.specs.declared.ids.GroupId.{GroupId}
-use Rattle.vms_base.specs.Places.{Shape, IsCounter, group_of, first_of, item_of, counter_count}
+use Rattle.vms_history.specs.Common.{Diffs, CounterId, CpuId, GroupId, Shape, IsCounter, group_of, first_of_group}
+use Rattle.vms_history.specs.Common.{item_of, counter_count, own, total, owner_in, sum_below, count_below}
 use Rattle.vms_history.specs.declared.events.Event.{Event}
-use Rattle.vms_history.specs.Events.{own, total}
-use Rattle.vms_history.specs.Passes.{owner_in}
-use Rattle.vms_history.specs.Sums.{sum_below, count_below}
-use Rattle.vms_history.proofs.CallerSums.{total-by_parts}
-use Rattle.vms_history.proofs.Choices.{if-map, if-either}
-use Rattle.vms_history.proofs.SumLaws.{sum_below-same, sum_below-zeros, sum_below-only}
+use Rattle.vms_history.proofs.Common.{total-by_parts, if-map, if-either, sum_below-same, sum_below-zeros}
+use Rattle.vms_history.proofs.Common.{sum_below-only, sum_below-sizes, pos-count_below}
 use Rattle.vms_core.specs.declared.states.State.{State}
 use Rattle.vms_core.specs.declared.steps.Facts.{Facts}
 use Rattle.vms_core.specs.declared.steps.Step.{Step}
 use Rattle.vms_core.specs.declared.steps.Step.TheVariants.{Put, Take, AddG, AddS}
-use Rattle.vms_core.specs.Bounded.{moved_out_by, moved_out}
-use Rattle.vms_core.specs.Cells.{HasShape, entry}
-use Rattle.vms_core.specs.Changes.{carried_by}
-use Rattle.vms_core.specs.Conditions.{Meets}
-use Rattle.vms_core.specs.Own.{moved, moved_of_item, carried, carried_of_item}
-use Rattle.vms_core.specs.Pages.{pages, History, IsLegal, state_after}
-use Rattle.vms_core.specs.Steps.{role}
+use Rattle.vms_core.specs.Common.{moved_out_by, moved_out, HasShape, entry, carried_by, Meets, moved, moved_of_item}
+use Rattle.vms_core.specs.Common.{carried, carried_of_item, pages, History, IsLegal, state_after, role}
 use Rattle.vms_core.proofs.Bounds.{within-if}
 use Rattle.vms_core.proofs.Carrying.{sizes}
-use Rattle.vms_history.proofs.CountLemmas.{sum_below-sizes, pos-count_below}
 use Rattle.vms_core.proofs.Effects.{owned}
 use Rattle.vms_core.proofs.Items.{one_change, group_change, if-sum}
 use Rattle.vms_core.proofs.Shapes.{HasShape-state_after}
@@ -49,7 +36,7 @@ abbrev pub size_out_of_item : Shape → ℕ → Step → ℕ
 size_out_of_item shape i (Put l w t delta how) =
     if nat_eq (item_of shape l.number) i then unsigned_abs (carried_by how t (entry w.values l.number) delta) else 0
 size_out_of_item shape i (Take c j w) =
-    count_below (λ n. if nat_eq (item_of shape (first_of j.number + n)) i
+    count_below (λ n. if nat_eq (item_of shape (first_of_group j.number + n)) i
     then unsigned_abs (get_or w.values n (pos 0)) else 0) 8
 size_out_of_item shape i _ = 0
 
@@ -88,7 +75,7 @@ module _ (facts : Facts) (h : History) (s : State) (p : ℕ) where
       moved-size (nat_eq (item_of facts.layout l.number) i) (carried_by how t (entry w.values l.number) delta)
       (carried_of_item facts.layout i (own h p))
   kept_by_step_of_item i (Take c j w) meets =
-      let is_in : ℕ → Bool = λ n. nat_eq (item_of facts.layout (first_of j.number + n)) i in
+      let is_in : ℕ → Bool = λ n. nat_eq (item_of facts.layout (first_of_group j.number + n)) i in
       let all = sum_below-sizes (λ n. if is_in n then get_or w.values n (pos 0) else pos 0)
       (λ n. if is_in n then unsigned_abs (get_or w.values n (pos 0)) else 0) 8
       (λ n below. within-if (is_in n) (get_or w.values n (pos 0)) (pos 0)
@@ -161,15 +148,15 @@ module _ (facts : Facts) (h : History) (s : State) (p : ℕ) (i : ℕ) where
       → pos (size_out_of_item facts.layout i (Take c j w)) ≡ over_item (λ k. pos (size_out k (Take c j w)))
   size_out_of_item-take c j w j_in =
       let told : ℕ → ℤ = λ n.
-      if is_in (first_of j.number + n) then pos (unsigned_abs (get_or w.values n (pos 0))) else pos 0 in
+      if is_in (first_of_group j.number + n) then pos (unsigned_abs (get_or w.values n (pos 0))) else pos 0 in
       let f : ℕ → ℤ = λ k. pos (unsigned_abs (entry w.values k)) in
       let first = pos-count_below
-      (λ n. if is_in (first_of j.number + n) then unsigned_abs (get_or w.values n (pos 0)) else 0) 8 in
+      (λ n. if is_in (first_of_group j.number + n) then unsigned_abs (get_or w.values n (pos 0)) else 0) 8 in
       let second = sum_below-same
-      (λ n. pos (if is_in (first_of j.number + n) then unsigned_abs (get_or w.values n (pos 0)) else 0))
-      (λ n. if is_in (first_of j.number + n) then f (first_of j.number + n) else pos 0) 8 (λ n less.
+      (λ n. pos (if is_in (first_of_group j.number + n) then unsigned_abs (get_or w.values n (pos 0)) else 0))
+      (λ n. if is_in (first_of_group j.number + n) then f (first_of_group j.number + n) else pos 0) 8 (λ n less.
       let at : (8 * j.number + n) % 8 ≡ n = omega arith in
-      rw at (if-map pos (is_in (first_of j.number + n)) (unsigned_abs (get_or w.values n (pos 0))) 0)) in
+      rw at (if-map pos (is_in (first_of_group j.number + n)) (unsigned_abs (get_or w.values n (pos 0))) 0)) in
       let third = group_change is_in (counter_count facts.layout) j.number f j_in in
       let fourth = sum_below-same (λ k. if is_in k then pos (size_out k (Take c j w)) else pos 0)
       (λ k. if is_in k then (if nat_eq j.number (group_of k) then f k else pos 0) else pos 0)

@@ -1,14 +1,9 @@
 -- What a pass may do by its own events it may still do after steps of others.
 use Rattle.std.proofs.Common.{ℕ, ℤ, ap, ◌∙◌}
-use Rattle.vms_base.specs.declared.ids.CounterId.{CounterId}
-use Rattle.vms_base.specs.declared.ids.CpuId.{CpuId}
-use Rattle.vms_base.specs.declared.ids.ItemId.{ItemId}
-use Rattle.vms_base.specs.declared.ids.PlaceId.{PlaceId}
+use Rattle.vms_history.specs.Common.{CounterId, CpuId, ItemId, PlaceId}
 use Rattle.vms_core.specs.declared.steps.Facts.{Facts}
-use Rattle.vms_core.specs.Conditions.{Owns, AddsToPlace, AddsToSystem, Acknowledges}
-use Rattle.vms_core.specs.Knowledge.{GoesOnWithout}
-use Rattle.vms_core.specs.Own.{loaded, took, has_put, carried, carried_of_item}
-use Rattle.vms_core.specs.Pages.{History}
+use Rattle.vms_core.specs.Common.{Owns, AddsToPlace, AddsToSystem, Acknowledges, GoesOnWithout, loaded, took, has_put}
+use Rattle.vms_core.specs.Common.{carried, carried_of_item, History}
 use Rattle.vms_core.proofs.KnowledgeKept.{owner_in-goes_on}
 
 module _ (facts : Facts) (later earlier : History) (p : ℕ) (goes : GoesOnWithout facts later earlier p) where

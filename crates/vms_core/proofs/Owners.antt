@@ -1,19 +1,13 @@
 -- An owner after an event was one before or is new.
-use Rattle.std.proofs.Common.{◌≡◌, ℕ, suc, Bool, true, false, [], ◌∷◌, Some, ◌⊎◌}
-use Rattle.std.proofs.Common.{inl, inr, refl, sym, ◌∙◌, arith, if◌then◌else◌, nat_eq, eqb-true}
-use Rattle.vms_base.specs.declared.ids.CpuId.{CpuId}
+use Rattle.std.proofs.Common.{◌≡◌, ℕ, suc, Bool, true, false, [], ◌∷◌, Some, ◌⊎◌, inl, inr, refl, sym, ◌∙◌, arith}
+use Rattle.std.proofs.Common.{if◌then◌else◌, nat_eq, eqb-true}
+use Rattle.vms_history.specs.Common.{CpuId, own, Acts, Role, begun_in, lives_in, lives_after, owner_in, owner_after}
+use Rattle.vms_history.specs.Common.{Works, Begins, Ends}
 use Rattle.vms_history.specs.declared.events.Event.{Event}
-use Rattle.vms_history.specs.Events.{own}
-use Rattle.vms_history.specs.Legal.{Acts}
-use Rattle.vms_history.specs.Passes.{Role, begun_in, lives_in, lives_after, owner_in, owner_after}
-use Rattle.vms_history.specs.Passes.Role.{Works, Begins, Ends}
-use Rattle.vms_history.proofs.Own.{own-others}
-use Rattle.vms_history.proofs.PassLaws.{lives_in-role, owner_in-role, own-not_given}
+use Rattle.vms_history.proofs.Common.{own-others, lives_in-role, owner_in-role, own-not_given}
 use Rattle.vms_core.specs.declared.steps.Facts.{Facts}
 use Rattle.vms_core.specs.declared.steps.Step.{Step}
-use Rattle.vms_core.specs.Pages.{pages, History, IsLegal}
-use Rattle.vms_core.specs.PeakLaws.{OwnsNow}
-use Rattle.vms_core.specs.Steps.{role}
+use Rattle.vms_core.specs.Common.{pages, History, IsLegal, OwnsNow, role}
 
 -- an owner after an event was one before, or has made no event
 pub OwnsNow-before : (facts : Facts) (e : Event Step) (h : History) → IsLegal facts (e ∷ h) → (p : ℕ) (c : CpuId)

@@ -2,8 +2,8 @@
 use Rattle.std.proofs.Common.{◌≡◌, ℕ, ◌<◌, false, ℤ, ◌+ℤ◌, unsigned_abs, arith, nat_le}
 use Rattle.std.proofs.lemmas.Bool.Decides.{nat_tests}
 use Rattle.std.specs.Prelude.{neg_ℤ}
-use Rattle.vms_base.specs.declared.kinds.Mode.{Mode}
-use Rattle.vms_core.specs.Changes.{overstep_of, differential_after, carried_by}
+use Rattle.vms_history.specs.Common.{Mode}
+use Rattle.vms_core.specs.Common.{overstep_of, differential_after, carried_by}
 
 module _ (how : Mode) (t : ℕ) (found delta : ℤ) (past : t < unsigned_abs (found +ℤ delta)) where
   past_threshold : nat_le (unsigned_abs (found +ℤ delta)) t ≡ false

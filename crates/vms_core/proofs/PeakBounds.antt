@@ -1,39 +1,28 @@
 -- For other crates too: the bounds of peaks, acknowledgements and loads in every legal history.
-use Rattle.std.proofs.Common.{◌≡◌, ◌≢◌, ℕ, ◌%◌, ◌≤◌, true≢false, [], ◌∷◌, Option, Some}
-use Rattle.std.proofs.Common.{None, unsigned_abs, refl, sym, ap, ◌∙◌, subst, arith, ⊎_elim}
+use Rattle.std.proofs.Common.{◌≡◌, ◌≢◌, ℕ, ◌%◌, ◌≤◌, true≢false, [], ◌∷◌, Option, Some, None, unsigned_abs, refl, sym}
+use Rattle.std.proofs.Common.{ap, ◌∙◌, subst, arith, ⊎_elim}
 use Rattle.std.proofs.lemmas.Bool.{cases_eq}
-use Rattle.vms_base.specs.declared.ids.CpuId.{CpuId}
-use Rattle.vms_base.specs.Places.{IsLayout, IsCpu, IsPlace, IsZone, IsCounter, place_of, counter_at, group_of}
-use Rattle.vms_base.specs.Thresholds.{most_threshold}
-use Rattle.vms_base.proofs.Counts.{place_of-lt, position_of-lt, counter_at-whole}
+use Rattle.vms_history.specs.Common.{CpuId, IsLayout, IsCpu, IsPlace, IsZone, IsCounter, place_of, counter_at, group_of}
+use Rattle.vms_history.specs.Common.{most_threshold, own, owner_in}
+use Rattle.vms_base.proofs.Common.{place_of-lt, position_of-lt, counter_at-whole}
 use Rattle.vms_history.specs.declared.events.Event.{Event}
-use Rattle.vms_history.specs.Events.{own}
-use Rattle.vms_history.specs.Passes.{owner_in}
-use Rattle.vms_history.proofs.Own.{own-mine, own-others}
-use Rattle.vms_history.proofs.Owners.{owner_may_own}
-use Rattle.vms_history.proofs.PassLaws.{caller_lives, live_is_given, owner_in-not_given, one_live_owner}
-use Rattle.vms_history.proofs.Prefixes.{base_can_begin}
+use Rattle.vms_history.proofs.Common.{own-mine, own-others, owner_may_own, caller_lives, live_is_given}
+use Rattle.vms_history.proofs.Common.{owner_in-not_given, one_live_owner, base_can_begin, largest_below-least}
+use Rattle.vms_history.proofs.Common.{largest_below-most}
 use Rattle.vms_core.specs.declared.states.Threshold.{Threshold}
 use Rattle.vms_core.specs.declared.steps.Facts.{Facts}
 use Rattle.vms_core.specs.declared.steps.Step.{Step}
-use Rattle.vms_core.specs.Bases.{IsOpening}
-use Rattle.vms_core.specs.Cells.{diff_at, threshold_at}
-use Rattle.vms_core.specs.Own.{loaded, took}
-use Rattle.vms_core.specs.Pages.{pages, History, IsLegal, state_after}
-use Rattle.vms_core.specs.PeakLaws.{BoundsByPeaks, BoundsThresholds, KeepsPeaksInRange, OwnsNow}
-use Rattle.vms_core.specs.PeakLaws.{IsAcknowledged, BoundsUsed, BoundsLoaded, BoundsLoadedByPeaks}
-use Rattle.vms_core.specs.PeakLaws.{LoadsSetNumbers, AcknowledgesSetNumbers}
-use Rattle.vms_core.specs.Peaks.{sets, threshold_in, peak}
-use Rattle.vms_core.specs.Steps.{role}
-use Rattle.vms_core.specs.Totals.{last_threshold}
-use Rattle.vms_history.proofs.CountLemmas.{largest_below-least, largest_below-most}
+use Rattle.vms_core.specs.Common.{IsOpening, diff_at, threshold_at, loaded, took, pages, History, IsLegal, state_after}
+use Rattle.vms_core.specs.Common.{BoundsByPeaks, BoundsThresholds, KeepsPeaksInRange, OwnsNow, IsAcknowledged}
+use Rattle.vms_core.specs.Common.{BoundsUsed, BoundsLoaded, BoundsLoadedByPeaks, LoadsSetNumbers}
+use Rattle.vms_core.specs.Common.{AcknowledgesSetNumbers, sets, threshold_in, peak, role, last_threshold}
 use Rattle.vms_core.proofs.Bounds.{diff_at-bounded}
 use Rattle.vms_core.proofs.CounterRanges.{counter_at-known, first-known, counter_at-first}
 use Rattle.vms_core.proofs.Owners.{OwnsNow-before}
-use Rattle.vms_core.proofs.PeakSteps.{View, IsBounded, IsTold, IsBounded-forgets}
-use Rattle.vms_core.proofs.PeakSteps.{view_after, IsBounded-mine, IsBounded-others}
-use Rattle.vms_core.proofs.Settings.{acknowledged_in, threshold_at-state_after}
-use Rattle.vms_core.proofs.Settings.{sets-state_after, acknowledged_at-state_after}
+use Rattle.vms_core.proofs.PeakSteps.{View, IsBounded, IsTold, IsBounded-forgets, view_after, IsBounded-mine}
+use Rattle.vms_core.proofs.PeakSteps.{IsBounded-others}
+use Rattle.vms_core.proofs.Settings.{acknowledged_in, threshold_at-state_after, sets-state_after}
+use Rattle.vms_core.proofs.Settings.{acknowledged_at-state_after}
 
 module _ (facts : Facts) (c : CpuId) (g k : ℕ) where
   -- the numbers after a history, with what a list of own events loaded and took

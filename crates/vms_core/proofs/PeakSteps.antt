@@ -1,27 +1,19 @@
 -- The bounds between a threshold, its peak, its acknowledgement, what an owner loaded of it and what was used last, and
 -- that each step keeps them.
-use Rattle.std.proofs.Common.{◌≡◌, ◌≢◌, ℕ, suc, ◌≤◌, max, ◌&&◌, Bool, true, false, Option, Some}
-use Rattle.std.proofs.Common.{None, refl, sym, ap, ◌∙◌, subst, arith, if◌then◌else◌, nat_eq, eqb-true, ne_eqb}
+use Rattle.std.proofs.Common.{◌≡◌, ◌≢◌, ℕ, suc, ◌≤◌, max, ◌&&◌, Bool, true, false, Option, Some, None, refl, sym, ap}
+use Rattle.std.proofs.Common.{◌∙◌, subst, arith, if◌then◌else◌, nat_eq, eqb-true, ne_eqb}
 use Rattle.std.proofs.lemmas.Bool.{and_parts}
-use Rattle.vms_base.specs.declared.ids.CpuId.{CpuId}
-use Rattle.vms_base.specs.declared.ids.PlaceId.{PlaceId}
-use Rattle.vms_base.specs.Places.{IsLayout, IsCounter, IsZone, place_of, group_of}
-use Rattle.vms_base.specs.Thresholds.{most_threshold}
-use Rattle.vms_base.proofs.Counts.{group_of-lt, place_of-first_of_group}
-use Rattle.vms_history.specs.Events.{own}
-use Rattle.vms_history.specs.Passes.{owner_in}
+use Rattle.vms_history.specs.Common.{CpuId, PlaceId, IsLayout, IsCounter, IsZone, place_of, group_of, most_threshold}
+use Rattle.vms_history.specs.Common.{own, owner_in}
+use Rattle.vms_base.proofs.Common.{group_of-lt, place_of-first_of_group}
 use Rattle.vms_core.specs.declared.states.State.{State}
 use Rattle.vms_core.specs.declared.states.Threshold.{Threshold}
 use Rattle.vms_core.specs.declared.steps.Facts.{Facts}
 use Rattle.vms_core.specs.declared.steps.Step.{Step}
 use Rattle.vms_core.specs.declared.steps.Step.TheVariants.{LoadT, Put, Take, SetT, SetA, LoadA}
-use Rattle.vms_core.specs.Cells.{threshold_at, threshold_sets_at, acknowledged_at}
-use Rattle.vms_core.specs.Conditions.{Meets}
-use Rattle.vms_core.specs.Own.{loaded_after, loaded, took_after, took}
-use Rattle.vms_core.specs.Pages.{History}
-use Rattle.vms_core.specs.Peaks.{sets_after, threshold_after, is_number, peak_after}
-use Rattle.vms_core.specs.Steps.{role}
-use Rattle.vms_core.specs.Totals.{last_after}
+use Rattle.vms_core.specs.Common.{threshold_at, threshold_sets_at, acknowledged_at, Meets, loaded_after, loaded}
+use Rattle.vms_core.specs.Common.{took_after, took, History, sets_after, threshold_after, is_number, peak_after, role}
+use Rattle.vms_core.specs.Common.{last_after}
 use Rattle.vms_core.proofs.Settings.{acknowledged_after}
 
 -- the numbers of one CPU for a place and one of its counters, with what an owner loaded of the place and whether it

@@ -8,15 +8,13 @@ use Rattle.std.proofs.lemmas.Bool.{cases_eq, cases_lt}
 use Rattle.std.proofs.lemmas.List.{get_or_past}
 use Rattle.std.proofs.lemmas.Nat.{div-add-mod', div_below, mod_below}
 use Rattle.std.proofs.lemmas.Int.{ints}
-use Rattle.vms_base.specs.Groups.{IsByte, AreBytes}
-use Rattle.vms_base.specs.Places.{Shape, IsLayout, cell, counter_count, place_count}
-use Rattle.vms_base.specs.Thresholds.{most_threshold}
-use Rattle.vms_base.proofs.Cells.{cell-lt}
+use Rattle.vms_history.specs.Common.{IsByte, AreBytes, Shape, IsLayout, cell, counter_count, place_count}
+use Rattle.vms_history.specs.Common.{most_threshold}
+use Rattle.vms_base.proofs.Common.{cell-lt}
 use Rattle.vms_core.specs.declared.states.State.{State}
-use Rattle.vms_core.specs.Bases.{IsOpening}
-use Rattle.vms_core.specs.Plain.{IsPlainBase}
-use Rattle.vms_core.specs.Cells.{HasShape, TellsGroup, counters_of, places_of, zones_of, zeroed}
-use Rattle.vms_core.specs.Plain.{IsPlain}
+use Rattle.vms_core.specs.Common.{IsOpening, IsPlainBase, HasShape, TellsGroup, counters_of, places_of, zones_of}
+use Rattle.vms_core.specs.Common.{IsPlain}
+use Rattle.vms_core.specs.Cells.{zeroed}
 use Rattle.vms_core.proofs.CellLemmas.{TellsGroup-cells, AreBytes-cells, length-zeroed}
 
 -- what holds of each cell of a table, and of the default, holds at each index of its list

@@ -1,18 +1,13 @@
 -- Thresholds and marks stay in their ranges.
-use Rattle.std.proofs.Common.{◌≡◌, ℕ, ◌^◌, ◌<◌, ◌≤◌, ◌&&◌, Bool, true}
-use Rattle.std.proofs.Common.{false, [], ◌∷◌, sym, ◌∙◌, arith, if◌then◌else◌, nat_eq}
-use Rattle.vms_base.specs.declared.kinds.CpuState.{CpuState}
-use Rattle.vms_base.specs.declared.kinds.CpuState.TheVariants.{Online, Absent}
-use Rattle.vms_base.specs.Places.{IsCpu, IsPlace}
+use Rattle.std.proofs.Common.{◌≡◌, ℕ, ◌^◌, ◌<◌, ◌≤◌, ◌&&◌, Bool, true, false, [], ◌∷◌, sym, ◌∙◌, arith, if◌then◌else◌}
+use Rattle.std.proofs.Common.{nat_eq}
+use Rattle.vms_history.specs.Common.{CpuState, Online, Absent, IsCpu, IsPlace}
 use Rattle.vms_core.specs.declared.states.State.{State}
 use Rattle.vms_core.specs.declared.steps.Facts.{Facts}
 use Rattle.vms_core.specs.declared.steps.Step.{Step}
 use Rattle.vms_core.specs.declared.steps.Step.TheVariants.{SetT, SetM, SetO}
-use Rattle.vms_core.specs.Cells.{mark_at}
-use Rattle.vms_core.specs.Conditions.{Meets}
-use Rattle.vms_core.specs.Pages.{History, IsLegal, state_after}
-use Rattle.vms_core.specs.PeakLaws.{KeepsThresholdsInRange, KeepsMarksInRange}
-use Rattle.vms_core.specs.Peaks.{threshold_after, threshold_in, cpu_after, cpu_in}
+use Rattle.vms_core.specs.Common.{mark_at, Meets, History, IsLegal, state_after, KeepsThresholdsInRange}
+use Rattle.vms_core.specs.Common.{KeepsMarksInRange, threshold_after, threshold_in, cpu_after, cpu_in}
 use Rattle.vms_core.proofs.PeakBounds.{thresholds-within, peaks-in_range}
 use Rattle.vms_core.proofs.Settings.{mark_after, mark_at-newest, threshold_at-state_after, cpu_at-state_after}
 

@@ -1,28 +1,21 @@
 -- For other crates too: what a step that meets its condition makes of thresholds, numbers of sets, marks, CPU states
 -- and acknowledgements, and what stands of them after a legal history.
-use Rattle.std.proofs.Common.{◌≡◌, ℕ, suc, ◌+◌, ◌*◌, ◌/◌, ◌&&◌, [], ◌∷◌, List, length}
-use Rattle.std.proofs.Common.{get_or, Option, Some, None, refl, ap, ◌∙◌, add-one, length-set, if◌then◌else◌, nat_eq}
+use Rattle.std.proofs.Common.{◌≡◌, ℕ, suc, ◌+◌, ◌*◌, ◌/◌, ◌&&◌, [], ◌∷◌, List, length, get_or, Option, Some, None, refl}
+use Rattle.std.proofs.Common.{ap, ◌∙◌, add-one, length-set, if◌then◌else◌, nat_eq}
 use Rattle.std.proofs.Math.ListN.{set}
-use Rattle.vms_base.specs.declared.ids.CpuId.{CpuId}
-use Rattle.vms_base.specs.declared.kinds.CpuState.{CpuState}
-use Rattle.vms_base.specs.declared.kinds.CpuState.TheVariants.{Absent}
-use Rattle.vms_base.specs.Places.{IsLayout, IsCpu, IsPlace, IsZone, cell, place_count}
+use Rattle.vms_history.specs.Common.{CpuId, CpuState, Absent, IsLayout, IsCpu, IsPlace, IsZone, cell, place_count}
+use Rattle.vms_history.specs.Common.{owner_in}
 use Rattle.vms_history.specs.declared.events.Event.{Event}
-use Rattle.vms_history.specs.Passes.{owner_in}
-use Rattle.vms_history.proofs.Prefixes.{base_can_begin}
-use Rattle.vms_history.proofs.Cells.{get_or-set, get_or-changed, get_or-set_cell, get_or-changed_cell}
+use Rattle.vms_history.proofs.Common.{base_can_begin, get_or-set, get_or-changed, get_or-set_cell, get_or-changed_cell}
 use Rattle.vms_core.specs.declared.states.State.{State}
 use Rattle.vms_core.specs.declared.steps.Facts.{Facts}
 use Rattle.vms_core.specs.declared.steps.Step.{Step}
 use Rattle.vms_core.specs.declared.steps.Step.TheVariants.{SetT, SetM, SetO, SetA}
-use Rattle.vms_core.specs.Cells.{HasShape, places_of, zones_of, threshold_at, threshold_sets_at}
-use Rattle.vms_core.specs.Cells.{mark_at, mark_sets_at, cpu_at, acknowledged_at, with_mark}
-use Rattle.vms_core.specs.Conditions.{Meets}
+use Rattle.vms_core.specs.Common.{HasShape, places_of, zones_of, threshold_at, threshold_sets_at, mark_at, mark_sets_at}
+use Rattle.vms_core.specs.Common.{cpu_at, acknowledged_at, with_mark, Meets, pages, History, IsLegal, state_after}
+use Rattle.vms_core.specs.Common.{sets_after, threshold_after, cpu_after, TellsThresholds, TellsNumbers, TellsCpus}
+use Rattle.vms_core.specs.Common.{role, effect}
 pub use Rattle.vms_core.specs.Effects.{mark_after, mark_sets_after, acknowledged_after}
-use Rattle.vms_core.specs.Pages.{pages, History, IsLegal, state_after}
-use Rattle.vms_core.specs.Peaks.{sets_after, threshold_after, cpu_after}
-use Rattle.vms_core.specs.PeakLaws.{TellsThresholds, TellsNumbers, TellsCpus}
-use Rattle.vms_core.specs.Steps.{role, effect}
 use Rattle.vms_core.proofs.Effects.{owned}
 use Rattle.vms_core.proofs.PlainData.{places_of-shaped}
 use Rattle.vms_core.proofs.Shapes.{HasShape-state_after}

@@ -1,37 +1,26 @@
 -- For other crates too: the state that a complete history leaves may open the next phase, and its totals grew by no
 -- more than the volumes.
-use Rattle.std.proofs.Common.{◌≡◌, ℕ, ◌+◌, ◌*◌, ◌^◌, ◌<◌, ◌≤◌, Bool, [], ℤ, pos}
-use Rattle.std.proofs.Common.{◌+ℤ◌, ◌-ℤ◌, unsigned_abs, None, ap, ◌∙◌, subst, arith, if◌then◌else◌, nat_eq}
+use Rattle.std.proofs.Common.{◌≡◌, ℕ, ◌+◌, ◌*◌, ◌^◌, ◌<◌, ◌≤◌, Bool, [], ℤ, pos, ◌+ℤ◌, ◌-ℤ◌, unsigned_abs, None, ap}
+use Rattle.std.proofs.Common.{◌∙◌, subst, arith, if◌then◌else◌, nat_eq}
 use Rattle.std.proofs.Math.ListN.{get_or-map}
 use Rattle.std.proofs.lemmas.List.{length-map}
 use Rattle.std.proofs.lemmas.Int.{ints}
-use Rattle.vms_base.specs.Places.{Shape, IsLayout, IsCpu, IsCounter, IsItem}
-use Rattle.vms_base.specs.Places.{IsPlace, counter_at, counter_count, item_of, place_of}
-use Rattle.vms_base.specs.Sizes.{size_at}
-use Rattle.vms_base.specs.Thresholds.{most_threshold}
-use Rattle.vms_base.specs.Volumes.{most_volume}
-use Rattle.vms_base.proofs.Counts.{place_of-lt, counter_at-place}
-use Rattle.vms_history.specs.Events.{total}
-use Rattle.vms_history.specs.Sums.{sum_below, count_below}
-use Rattle.vms_history.proofs.Choices.{if-map, if-either}
-use Rattle.vms_history.proofs.CallerSums.{total-by_parts}
-use Rattle.vms_history.proofs.CountLemmas.{pos-count_below, count_below-least, largest_below-most}
-use Rattle.vms_history.proofs.CountLemmas.{count_below-sum, count_below-most}
-use Rattle.vms_history.proofs.Prefixes.{base_can_begin}
-use Rattle.vms_history.proofs.SumBounds.{sum_below-most, sum_below-size}
-use Rattle.vms_history.proofs.SumLaws.{sum_below-same, sum_below-sum, sum_below-zeros}
+use Rattle.vms_history.specs.Common.{Shape, IsLayout, IsCpu, IsCounter, IsItem, IsPlace, counter_at, counter_count}
+use Rattle.vms_history.specs.Common.{item_of, place_of, size_at, most_threshold, most_volume, total, sum_below}
+use Rattle.vms_history.specs.Common.{count_below}
+use Rattle.vms_base.proofs.Common.{place_of-lt, counter_at-place}
+use Rattle.vms_history.proofs.Common.{if-map, if-either, total-by_parts, pos-count_below, count_below-least}
+use Rattle.vms_history.proofs.Common.{largest_below-most, count_below-sum, count_below-most, base_can_begin}
+use Rattle.vms_history.proofs.Common.{sum_below-most, sum_below-size, sum_below-same, sum_below-sum, sum_below-zeros}
 use Rattle.vms_core.specs.declared.states.State.{State}
 use Rattle.vms_core.specs.declared.steps.Facts.{Facts}
 use Rattle.vms_core.specs.declared.steps.Step.{Step}
 use Rattle.vms_core.specs.declared.steps.Step.TheVariants.{Put}
-use Rattle.vms_core.specs.Bases.{IsBase, IsOpening, settled, next_facts}
-use Rattle.vms_core.specs.Cells.{HasShape, value_at, system_at, diff_at, mark_at, cpu_at}
-use Rattle.vms_core.specs.Conditions.{Meets}
-use Rattle.vms_core.specs.Ends.{grown, AreVolumes, IsWithinVolumes}
-use Rattle.vms_core.specs.Pages.{pages, History, IsLegal, IsComplete, state_after}
-use Rattle.vms_core.specs.Peaks.{opening_peak, peak, peak_sum, cpu_in, if_present}
-use Rattle.vms_core.specs.Totals.{change_of, change_of_item, differentials, differentials_of_item}
-use Rattle.vms_core.specs.Totals.{values_of_item, true_total, true_total_of_item, spent}
+use Rattle.vms_core.specs.Common.{IsBase, IsOpening, settled, next_facts, HasShape, value_at, system_at, diff_at}
+use Rattle.vms_core.specs.Common.{mark_at, cpu_at, Meets, grown, AreWithinVolumes, IsWithinVolumes, pages, History}
+use Rattle.vms_core.specs.Common.{IsLegal, IsComplete, state_after, opening_peak, peak, peak_sum, cpu_in, if_present}
+use Rattle.vms_core.specs.Common.{change_of, change_of_item, differentials, differentials_of_item, values_of_item}
+use Rattle.vms_core.specs.Common.{true_total, true_total_of_item, spent}
 use Rattle.vms_core.proofs.CarriedNothing.{carried_by_all-none, none-carried_of_item}
 use Rattle.vms_core.proofs.CounterRanges.{counter_at-known}
 use Rattle.vms_core.proofs.HiddenPages.{absent-zero}
@@ -187,7 +176,7 @@ module _ (facts : Facts) (h : History) where
         )
 
     module _ (volume : ℕ → ℕ → ℕ) (base : IsWithinVolumes shape volume facts.base)
-        (volumes : AreVolumes shape (grown volume h)) where
+        (volumes : AreWithinVolumes shape (grown volume h)) where
       total-grown : (k : ℕ) → IsCounter shape k
           → unsigned_abs (value_at ended k +ℤ differentials shape ended k)
           ≤ most_volume + count_below (λ c. grown volume h c k) shape.cpus

@@ -1,33 +1,21 @@
 -- For other crates too: what CPUs spend is what their owners' own events change.
-use Rattle.std.proofs.Common.{◌≡◌, ◌≢◌, ℕ, suc, ◌<◌, ◌&&◌, Bool, true, false, List, []}
-use Rattle.std.proofs.Common.{◌∷◌, ◌++◌, Option, Some, None, ℤ, pos, ◌+ℤ◌, ◌-ℤ◌, ◌≤ℤ◌, unsigned_abs}
-use Rattle.std.proofs.Common.{refl, sym, ap, ◌∙◌, subst, append_assoc, arith, if◌then◌else◌, nat_eq, eq-eqb, ⊎_elim}
+use Rattle.std.proofs.Common.{◌≡◌, ◌≢◌, ℕ, suc, ◌<◌, ◌&&◌, Bool, true, false, List, [], ◌∷◌, ◌++◌, Option, Some, None}
+use Rattle.std.proofs.Common.{ℤ, pos, ◌+ℤ◌, ◌-ℤ◌, ◌≤ℤ◌, unsigned_abs, refl, sym, ap, ◌∙◌, subst, append_assoc, arith}
+use Rattle.std.proofs.Common.{if◌then◌else◌, nat_eq, eq-eqb, ⊎_elim}
 use Rattle.std.proofs.lemmas.Int.{ints}
 use Rattle.std.proofs.lemmas.Bool.{cases_eq}
-use Rattle.vms_base.specs.declared.ids.CpuId.{CpuId}
+use Rattle.vms_history.specs.Common.{CpuId, own, after, total, owner_in, lives_in, begun_in, sum_below, HasMade}
 use Rattle.vms_history.specs.declared.events.Event.{Event}
-use Rattle.vms_history.specs.Events.{own, after, total}
-use Rattle.vms_history.specs.Passes.{owner_in, lives_in, begun_in}
-use Rattle.vms_history.specs.Sums.{sum_below}
-use Rattle.vms_history.proofs.Choices.{if-map, if-either}
-use Rattle.vms_history.proofs.CallerSums.{total-by_parts}
-use Rattle.vms_history.proofs.Own.{own-mine, own-others, after-append}
-use Rattle.vms_history.proofs.GoesOn.{holds_while_live}
-use Rattle.vms_history.proofs.Owners.{owner_is_caller}
-use Rattle.vms_history.specs.PassSteps.{HasMade}
-use Rattle.vms_history.proofs.PassLaws.{live_is_given, caller_is_given, caller_is_below, owner_in-append}
-use Rattle.vms_history.proofs.Prefixes.{prefix_is_legal}
-use Rattle.vms_history.proofs.SumLaws.{total-append, sum_below-zeros, sum_below-changed, sum_below-only}
+use Rattle.vms_history.proofs.Common.{if-map, if-either, total-by_parts, own-mine, own-others, after-append}
+use Rattle.vms_history.proofs.Common.{holds_while_live, owner_is_caller, live_is_given, caller_is_given}
+use Rattle.vms_history.proofs.Common.{caller_is_below, owner_in-append, prefix_is_legal, total-append, sum_below-zeros}
+use Rattle.vms_history.proofs.Common.{sum_below-changed, sum_below-only}
 use Rattle.vms_core.specs.declared.states.State.{State}
 use Rattle.vms_core.specs.declared.steps.Facts.{Facts}
 use Rattle.vms_core.specs.declared.steps.Step.{Step}
 use Rattle.vms_core.specs.declared.steps.Step.TheVariants.{Put}
-use Rattle.vms_core.specs.Cells.{HasShape}
-use Rattle.vms_core.specs.Conditions.{Meets}
-use Rattle.vms_core.specs.Pages.{pages, History, IsLegal, state_after}
-use Rattle.vms_core.specs.Spending.{is_owner, SumsSpending, SumsChanges}
-use Rattle.vms_core.specs.Steps.{role}
-use Rattle.vms_core.specs.Totals.{change_of, change_size, spent, spent_by}
+use Rattle.vms_core.specs.Common.{HasShape, Meets, pages, History, IsLegal, state_after, is_owner, SumsSpending}
+use Rattle.vms_core.specs.Common.{SumsChanges, role, change_of, change_size, spent, spent_by}
 use Rattle.vms_core.proofs.Effects.{owned}
 use Rattle.vms_core.proofs.Shapes.{HasShape-state_after}
 use Rattle.vms_core.proofs.KnowledgeKept.{spent_by-others}

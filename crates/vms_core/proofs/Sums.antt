@@ -2,28 +2,16 @@
 use Rattle.std.proofs.Common.{◌≡◌, ℕ, suc, ◌+◌, ◌*◌, ◌%◌, ◌&&◌, Bool, true, false, List, [], ◌∷◌, Option, Some, None, ℤ}
 use Rattle.std.proofs.Common.{pos, neg_ℤ, ◌+ℤ◌, ◌-ℤ◌, refl, ap, ◌∙◌, arith, if◌then◌else◌, nat_eq, eqb-true}
 use Rattle.std.proofs.lemmas.Int.{ints}
-use Rattle.vms_base.specs.declared.groups.Diffs.{Diffs}
-use Rattle.vms_base.specs.declared.ids.CounterId.{CounterId}
-use Rattle.vms_base.specs.declared.ids.CpuId.{CpuId}
-use Rattle.vms_base.specs.declared.ids.GroupId.{GroupId}
-use Rattle.vms_base.specs.declared.kinds.Mode.{Mode}
-use Rattle.vms_base.specs.Places.{Shape, IsCpu, IsCounter, group_of}
-use Rattle.vms_history.specs.Events.{total}
-use Rattle.vms_history.specs.Passes.{owner_in, begun_in}
-use Rattle.vms_history.proofs.Choices.{if-cancels}
-use Rattle.vms_history.proofs.SumLaws.{sum_below-same, sum_below-one}
-use Rattle.vms_history.proofs.CallerSums.{total-of_callers}
+use Rattle.vms_history.specs.Common.{Diffs, CounterId, CpuId, GroupId, Mode, Shape, IsCpu, IsCounter, group_of, total}
+use Rattle.vms_history.specs.Common.{owner_in, begun_in}
+use Rattle.vms_history.proofs.Common.{if-cancels, sum_below-same, sum_below-one, total-of_callers}
 use Rattle.vms_core.specs.declared.states.State.{State}
 use Rattle.vms_core.specs.declared.steps.Facts.{Facts}
 use Rattle.vms_core.specs.declared.steps.Step.{Step}
 use Rattle.vms_core.specs.declared.steps.Step.TheVariants.{Put, AddG, Take}
-use Rattle.vms_core.specs.Cells.{HasShape, TellsGroup, value_at, diff_at, entry}
-use Rattle.vms_core.specs.Changes.{differential_after, carried_by}
-use Rattle.vms_core.specs.Conditions.{Meets, Puts, FindsGroup}
-use Rattle.vms_core.specs.Own.{moved}
-use Rattle.vms_core.specs.Steps.{role, effect}
-use Rattle.vms_core.specs.Totals.{differentials, change_of, true_total}
-use Rattle.vms_core.specs.Pages.{History, IsLegal, state_after, pages, carried_by_all, KeepsTotals}
+use Rattle.vms_core.specs.Common.{HasShape, TellsGroup, value_at, diff_at, entry, differential_after, carried_by, Meets}
+use Rattle.vms_core.specs.Common.{Puts, FindsGroup, moved, role, effect, differentials, change_of, true_total, History}
+use Rattle.vms_core.specs.Common.{IsLegal, state_after, pages, carried_by_all, KeepsTotals}
 use Rattle.vms_core.proofs.ChangeLemmas.{differential_after-carried_by}
 use Rattle.vms_core.proofs.Shapes.{HasShape-state_after}
 use Rattle.vms_core.proofs.Effects.{owned, value_at-effect, diff_at-effect}

@@ -2,14 +2,13 @@
 use Rattle.std.proofs.Common.{◌≡◌, ℕ, ◌<◌, ℤ, pos, ◌+ℤ◌, List, length, refl, ◌∙◌, arith, length-set, get_or-set_same}
 use Rattle.std.proofs.lemmas.Int.{ints}
 use Rattle.std.proofs.lemmas.List.{set-get_or}
-use Rattle.vms_base.specs.declared.kinds.Mode.{Mode}
-use Rattle.vms_base.specs.Places.{Shape, IsCpu, IsCounter, IsItem, cell, counter_count, place_of, group_of, item_of}
-use Rattle.vms_base.proofs.Cells.{cell-lt}
+use Rattle.vms_history.specs.Common.{Mode, Shape, IsCpu, IsCounter, IsItem, cell, counter_count, place_of, group_of}
+use Rattle.vms_history.specs.Common.{item_of}
+use Rattle.vms_base.proofs.Common.{cell-lt}
 use Rattle.vms_core.specs.declared.states.State.{State}
-use Rattle.vms_core.specs.Cells.{HasShape, TellsGroup, counters_of, entry, value_at}
-use Rattle.vms_core.specs.Cells.{system_at, diff_at, threshold_at, with_diff}
-use Rattle.vms_core.specs.Changes.{differential_after, carried_by}
-use Rattle.vms_core.specs.ChangedStates.{with_carried, with_change_of, with_change}
+use Rattle.vms_core.specs.Common.{HasShape, TellsGroup, counters_of, entry, value_at, system_at, diff_at, threshold_at}
+use Rattle.vms_core.specs.Common.{with_diff, differential_after, carried_by, with_carried, with_change}
+use Rattle.vms_core.specs.ChangedStates.{with_change_of}
 use Rattle.vms_core.proofs.ChangeLemmas.{differential_after-carried_by}
 use Rattle.vms_core.proofs.Sums.{entry-told}
 

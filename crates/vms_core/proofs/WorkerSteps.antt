@@ -1,19 +1,13 @@
 -- For other crates too: a pass that owns a CPU makes steps on top of a legal history, and no other caller does.
 use Rattle.std.proofs.Common.{◌≡◌, ◌≢◌, ℕ, ◌+◌, true, ◌∷◌, Some, refl, sym, ap, ◌∙◌, subst}
-use Rattle.vms_base.specs.declared.ids.CpuId.{CpuId}
+use Rattle.vms_history.specs.Common.{CpuId, own, Acts, Role, lives, owner, owner_in, Works}
 use Rattle.vms_history.specs.declared.events.Event.{Event}
-use Rattle.vms_history.specs.Events.{own}
-use Rattle.vms_history.specs.Legal.{Acts}
-use Rattle.vms_history.specs.Passes.{Role, lives, owner, owner_in}
-use Rattle.vms_history.specs.Passes.Role.{Works}
-use Rattle.vms_history.proofs.Own.{own-mine, own-others}
+use Rattle.vms_history.proofs.Common.{own-mine, own-others}
 use Rattle.vms_core.specs.declared.states.State.{State}
 use Rattle.vms_core.specs.declared.steps.Facts.{Facts}
 use Rattle.vms_core.specs.declared.steps.Step.{Step}
-use Rattle.vms_core.specs.Conditions.{Meets}
-use Rattle.vms_core.specs.Pages.{pages, History, IsLegal, state_after}
-use Rattle.vms_core.specs.Steps.{role, own_effect, effect_of}
-use Rattle.vms_core.specs.Totals.{spent, spent_by}
+use Rattle.vms_core.specs.Common.{Meets, pages, History, IsLegal, state_after, role, own_effect, effect_of, spent}
+use Rattle.vms_core.specs.Common.{spent_by}
 
 module _ (facts : Facts) (p : ℕ) (cpu : CpuId) (other_than_main : p ≢ 0) where
   abbrev pub event : Step → Event Step

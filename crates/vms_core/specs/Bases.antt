@@ -1,15 +1,11 @@
 -- The states that a history may begin with.
 use Rattle.std.specs.Prelude.{◌≡◌, ℕ, ◌^◌, ◌<◌, ◌≤◌, pos, [], length, map, All, None, unsigned_abs}
-use Rattle.vms_base.specs.declared.kinds.CpuState.TheVariants.{Online, Absent}
-use Rattle.vms_base.specs.Cpus.{HasOnline}
-use Rattle.vms_base.specs.Places.{Shape, IsLayout, IsCpu, IsPlace, IsZone, IsCounter, IsItem}
-use Rattle.vms_base.specs.Sizes.{IsValidSize, size_at}
-use Rattle.vms_base.specs.Marks.{Covers}
-use Rattle.vms_base.specs.Thresholds.{most_threshold}
+use Rattle.vms_history.specs.Common.{Online, Absent, HasOnline, Shape, IsLayout, IsCpu, IsPlace, IsZone, IsCounter}
+use Rattle.vms_history.specs.Common.{IsItem, IsValidSize, size_at, Covers, most_threshold}
 use Rattle.vms_core.specs.declared.states.State.{State}
 use Rattle.vms_core.specs.declared.steps.Facts.{Facts}
-use Rattle.vms_core.specs.Cells.{HasShape, value_at, system_at, diff_at, threshold_at}
-use Rattle.vms_core.specs.Cells.{threshold_sets_at, mark_at, mark_sets_at, cpu_at, acknowledged_at}
+use Rattle.vms_core.specs.Cells.{HasShape, value_at, system_at, diff_at, threshold_at, threshold_sets_at, mark_at}
+use Rattle.vms_core.specs.Cells.{mark_sets_at, cpu_at, acknowledged_at}
 use Rattle.vms_core.specs.Peaks.{peak_sum}
 
 -- a state between two phases: its numbers are in their ranges, an absent CPU hides nothing, and nothing was set or

@@ -1,16 +1,12 @@
 -- How large the numbers of a legal history may become.
-use Rattle.std.specs.Prelude.{ℕ, ◌+◌, ◌*◌, ◌^◌, ◌<◌, ◌≤◌, nat_eq}
-use Rattle.std.specs.Prelude.{◌&&◌, [], ◌∷◌, if◌then◌else◌, Option, Some, unsigned_abs}
-use Rattle.vms_base.specs.declared.ids.CpuId.{CpuId}
-use Rattle.vms_base.specs.Places.{IsCpu, IsCounter, IsItem, group_of}
-use Rattle.vms_history.specs.Events.{own}
-use Rattle.vms_history.specs.Passes.{owner_in}
+use Rattle.std.specs.Prelude.{ℕ, ◌+◌, ◌*◌, ◌^◌, ◌<◌, ◌≤◌, nat_eq, ◌&&◌, [], ◌∷◌, if◌then◌else◌, Option, Some}
+use Rattle.std.specs.Prelude.{unsigned_abs}
+use Rattle.vms_history.specs.Common.{CpuId, IsCpu, IsCounter, IsItem, group_of, own, owner_in, most_volume}
 use Rattle.vms_core.specs.declared.steps.Facts.{Facts}
 use Rattle.vms_core.specs.declared.steps.Step.{Step}
 use Rattle.vms_core.specs.declared.steps.Step.TheVariants.{Put, Take}
 use Rattle.vms_core.specs.Cells.{value_at, system_at, diff_at, entry}
 use Rattle.vms_core.specs.Changes.{carried_by}
-use Rattle.vms_base.specs.Volumes.{most_volume}
 use Rattle.vms_core.specs.Own.{carried, carried_of_item}
 use Rattle.vms_core.specs.Pages.{History, state_after}
 use Rattle.vms_core.specs.Steps.{role}

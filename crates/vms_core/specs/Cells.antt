@@ -1,9 +1,7 @@
 -- Where the numbers of a state stand, and what a write makes of the state.
-use Rattle.std.specs.Prelude.{◌≡◌, ℕ, suc, zero, ◌+◌, ◌*◌, ◌/◌, ◌%◌, ◌<◌, ℤ}
-use Rattle.std.specs.Prelude.{pos, List, length, slice_index_or, slice_set, replicate, Option, Some, None}
-use Rattle.vms_base.specs.Places.{Shape, cell, place_count, counter_count, item_count}
-use Rattle.vms_base.specs.declared.kinds.CpuState.{CpuState}
-use Rattle.vms_base.specs.Cpus.{state_at}
+use Rattle.std.specs.Prelude.{◌≡◌, ℕ, suc, zero, ◌+◌, ◌*◌, ◌/◌, ◌%◌, ◌<◌, ℤ, pos, List, length, slice_index_or}
+use Rattle.std.specs.Prelude.{slice_set, replicate, Option, Some, None}
+use Rattle.vms_history.specs.Common.{Shape, cell, place_count, counter_count, item_count, CpuState, state_at}
 use Rattle.vms_core.specs.declared.states.State.{State}
 
 -- how many counters, places and zones a state has

@@ -1,7 +1,6 @@
 -- What a change of a counter that meets no other caller makes of a state.
 use Rattle.std.specs.Prelude.{ℕ, ℤ, ◌+ℤ◌}
-use Rattle.vms_base.specs.declared.kinds.Mode.{Mode}
-use Rattle.vms_base.specs.Places.{Shape, place_of, item_of}
+use Rattle.vms_history.specs.Common.{Mode, Shape, place_of, item_of}
 use Rattle.vms_core.specs.declared.states.State.{State}
 use Rattle.vms_core.specs.Cells.{value_at, system_at, diff_at, threshold_at, with_value, with_system, with_diff}
 use Rattle.vms_core.specs.Changes.{differential_after, carried_by}

@@ -1,7 +1,6 @@
 -- A change of a counter under a threshold (`mod_zone_state` and `mod_node_state` of mm/vmstat.c).
 use Rattle.std.specs.Prelude.{ℕ, ◌/◌, nat_le, unsigned_abs, ℤ, pos, neg_ℤ, ◌+ℤ◌, if◌then◌else◌}
-use Rattle.vms_base.specs.declared.kinds.Mode.{Mode}
-use Rattle.vms_base.specs.declared.kinds.Mode.TheVariants.{Mod, Inc, Dec}
+use Rattle.vms_history.specs.Common.{Mode, Mod, Inc, Dec}
 
 -- how far a change that passes the threshold goes beyond what it has to
 abbrev pub overstep_of : Mode → ℕ → ℤ

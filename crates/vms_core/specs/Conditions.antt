@@ -1,32 +1,21 @@
 -- What each kind of step asks, in the state before it and of the history before it.
-use Rattle.std.specs.Prelude.{◌≡◌, ◌≢◌, ℕ, ◌+◌, ◌^◌, ◌<◌, ◌≤◌, true, false}
-use Rattle.std.specs.Prelude.{ℤ, pos, List, ◌∷◌, Option, Some, None, unsigned_abs}
-use Rattle.vms_base.specs.declared.groups.Diffs.{Diffs}
-use Rattle.vms_base.specs.declared.ids.CounterId.{CounterId}
-use Rattle.vms_base.specs.declared.ids.CpuId.{CpuId}
-use Rattle.vms_base.specs.declared.ids.GroupId.{GroupId}
-use Rattle.vms_base.specs.declared.ids.ItemId.{ItemId}
-use Rattle.vms_base.specs.declared.ids.PlaceId.{PlaceId}
-use Rattle.vms_base.specs.declared.kinds.CpuState.TheVariants.{Online, Dead}
-use Rattle.vms_base.specs.Volumes.{most_volume}
-use Rattle.vms_base.specs.Places.{IsCpu, IsPlace, IsZone, IsCounter, IsGroup, IsItem, place_of, group_of, first_of}
-use Rattle.vms_base.specs.Marks.{Covers}
-use Rattle.vms_base.specs.Thresholds.{most_threshold}
+use Rattle.std.specs.Prelude.{◌≡◌, ◌≢◌, ℕ, ◌+◌, ◌^◌, ◌<◌, ◌≤◌, true, false, ℤ, pos, List, ◌∷◌, Option, Some, None}
+use Rattle.std.specs.Prelude.{unsigned_abs}
+use Rattle.vms_history.specs.Common.{Diffs, CounterId, CpuId, GroupId, ItemId, PlaceId, Online, Dead, most_volume}
+use Rattle.vms_history.specs.Common.{IsCpu, IsPlace, IsZone, IsCounter, IsGroup, IsItem, place_of, group_of}
+use Rattle.vms_history.specs.Common.{first_of_group, Covers, most_threshold, own, owner_in, size_at}
 use Rattle.vms_history.specs.declared.events.Event.{Event}
-use Rattle.vms_history.specs.Events.{own}
-use Rattle.vms_history.specs.Passes.{owner_in}
 use Rattle.vms_core.specs.declared.states.State.{State}
 use Rattle.vms_core.specs.declared.steps.Facts.{Facts}
 use Rattle.vms_core.specs.declared.steps.Step.{Step}
 use Rattle.vms_core.specs.declared.steps.Step.TheVariants.{LoadT, LoadD, Put, Miss, AddG, AddS, Take, LoadG, LoadS}
 use Rattle.vms_core.specs.declared.steps.Step.TheVariants.{LoadM, LoadO, SetT, SetM, SetO, SetA, LoadA, Split, Join}
-use Rattle.vms_core.specs.Cells.{TellsGroup, value_at, system_at, diff_at, threshold_at, threshold_sets_at}
-use Rattle.vms_core.specs.Cells.{mark_at, mark_sets_at, cpu_at, acknowledged_at, eight_zeros}
+use Rattle.vms_core.specs.Cells.{TellsGroup, value_at, system_at, diff_at, threshold_at, threshold_sets_at, mark_at}
+use Rattle.vms_core.specs.Cells.{mark_sets_at, cpu_at, acknowledged_at, eight_zeros}
 use Rattle.vms_core.specs.Steps.{role}
 use Rattle.vms_core.specs.Own.{found, loaded, took, has_put, carried, carried_of_item, CarriesNothing}
 use Rattle.vms_core.specs.Totals.{spent}
 use Rattle.vms_core.specs.Peaks.{peak_sum}
-use Rattle.vms_base.specs.Sizes.{size_at}
 
 -- the pass owns this CPU
 pub record Owns (facts : Facts) (h : List (Event Step)) (p : ℕ) (c : CpuId) : Type 0 where
@@ -128,7 +117,7 @@ pub record Acknowledges (facts : Facts) (h : List (Event Step)) (p : ℕ) (g : P
   pub zone : IsZone facts.layout g.number
   pub t : ℕ
   pub as_loaded : loaded g.number (own h p) ≡ Some (record { t = t; number = a })
-  pub took_each : (j : ℕ) → IsGroup facts.layout j → place_of facts.layout (first_of j) ≡ g.number →
+  pub took_each : (j : ℕ) → IsGroup facts.layout j → place_of facts.layout (first_of_group j) ≡ g.number →
       took cpu g.number j (own h p) ≡ true
   pub put_nothing : has_put facts.layout g.number (own h p) ≡ false
 

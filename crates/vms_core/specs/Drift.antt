@@ -1,13 +1,10 @@
 -- How far a global value is from the truth.
 use Rattle.std.specs.Prelude.{ℕ, suc, ◌+◌, ◌≤◌, nat_eq, ℤ, pos, negsuc, ◌+ℤ◌, ◌-ℤ◌, ◌≤ℤ◌, if◌then◌else◌, unsigned_abs}
-use Rattle.vms_base.specs.Places.{Shape, IsCounter, IsItem, item_of, counter_count}
-use Rattle.vms_history.specs.Events.{own}
-use Rattle.vms_history.specs.Passes.{begun_in}
+use Rattle.vms_history.specs.Common.{Shape, IsCounter, IsItem, item_of, counter_count, own, begun_in, count_below}
 use Rattle.vms_core.specs.declared.steps.Facts.{Facts}
 use Rattle.vms_core.specs.Cells.{value_at, system_at}
 use Rattle.vms_core.specs.Own.{carried, carried_of_item}
 use Rattle.vms_core.specs.Pages.{History, state_after}
-use Rattle.vms_history.specs.Sums.{count_below}
 use Rattle.vms_core.specs.Steps.{role}
 use Rattle.vms_core.specs.Totals.{last_threshold, differentials, true_total, true_total_of_item}
 

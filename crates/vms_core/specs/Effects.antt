@@ -1,7 +1,6 @@
 -- What a step makes of single numbers of a state.
 use Rattle.std.specs.Prelude.{ℕ, suc, nat_eq, ◌&&◌, ℤ, pos, ◌+ℤ◌, if◌then◌else◌, Option, Some}
-use Rattle.vms_base.specs.declared.ids.CpuId.{CpuId}
-use Rattle.vms_base.specs.Places.{group_of}
+use Rattle.vms_history.specs.Common.{CpuId, group_of}
 use Rattle.vms_core.specs.declared.steps.Step.{Step}
 use Rattle.vms_core.specs.declared.steps.Step.TheVariants.{Put, AddG, AddS, Take, SetM, SetA}
 use Rattle.vms_core.specs.Cells.{entry}

@@ -1,8 +1,6 @@
 -- The state that a complete history leaves.
 use Rattle.std.specs.Prelude.{◌≡◌, ℕ, ◌+◌, ◌≤◌, ◌+ℤ◌, unsigned_abs}
-use Rattle.vms_base.specs.Places.{Shape, IsCpu, IsCounter, IsItem}
-use Rattle.vms_base.specs.Volumes.{most_volume}
-use Rattle.vms_history.specs.Sums.{count_below}
+use Rattle.vms_history.specs.Common.{Shape, IsCpu, IsCounter, IsItem, most_volume, count_below}
 use Rattle.vms_core.specs.declared.states.State.{State}
 use Rattle.vms_core.specs.Cells.{value_at, system_at}
 use Rattle.vms_core.specs.Pages.{History}
@@ -13,8 +11,8 @@ abbrev pub grown : (ℕ → ℕ → ℕ) → History → ℕ → ℕ → ℕ
 grown volume h c k = volume c k + spent h c k
 
 -- no volume is larger than a CPU may change a counter by
-abbrev pub AreVolumes : Shape → (ℕ → ℕ → ℕ) → Type 0
-AreVolumes shape volume = (c k : ℕ) → IsCpu shape c → IsCounter shape k → volume c k ≤ most_volume
+abbrev pub AreWithinVolumes : Shape → (ℕ → ℕ → ℕ) → Type 0
+AreWithinVolumes shape volume = (c k : ℕ) → IsCpu shape c → IsCounter shape k → volume c k ≤ most_volume
 
 -- a state of a run in which CPUs changed counters by so much: each global value with its differentials is at most 2^48
 -- and the volumes, and each system-wide value is the sum of the global values of its counters

@@ -1,21 +1,15 @@
 -- What a pass that lives knows of the state by its own events.
 use Rattle.std.specs.Prelude.{◌≡◌, ℕ, ◌+◌, ◌≤◌, true, ◌⊎◌, ℤ, List, [], ◌∷◌, length, Some, unsigned_abs}
-use Rattle.vms_base.specs.declared.groups.Diffs.{Diffs}
-use Rattle.vms_base.specs.declared.ids.CounterId.{CounterId}
-use Rattle.vms_base.specs.declared.ids.CpuId.{CpuId}
-use Rattle.vms_base.specs.declared.kinds.CpuState.TheVariants.{Online}
-use Rattle.vms_base.specs.Places.{IsCpu, IsZone, IsCounter, IsGroup, place_of, group_of}
+use Rattle.vms_history.specs.Common.{Diffs, CounterId, CpuId, Online, IsCpu, IsZone, IsCounter, IsGroup, place_of}
+use Rattle.vms_history.specs.Common.{group_of, Extends, own, owner_in, most_volume}
 use Rattle.vms_history.specs.declared.events.Event.{Event}
-use Rattle.vms_history.specs.Events.{Extends, own}
 use Rattle.vms_history.specs.PassSteps as making
-use Rattle.vms_history.specs.Passes.{owner_in}
 use Rattle.vms_core.specs.declared.states.State.{State}
 use Rattle.vms_core.specs.declared.steps.Facts.{Facts}
 use Rattle.vms_core.specs.declared.steps.Step.{Step}
 use Rattle.vms_core.specs.declared.steps.Step.TheVariants.{LoadD, Put, Miss, Take}
-use Rattle.vms_core.specs.Cells.{TellsGroup, threshold_at, threshold_sets_at, mark_at}
-use Rattle.vms_core.specs.Cells.{mark_sets_at, cpu_at, acknowledged_at, eight_zeros}
-use Rattle.vms_base.specs.Volumes.{most_volume}
+use Rattle.vms_core.specs.Cells.{TellsGroup, threshold_at, threshold_sets_at, mark_at, mark_sets_at, cpu_at}
+use Rattle.vms_core.specs.Cells.{acknowledged_at, eight_zeros}
 use Rattle.vms_core.specs.Own.{found, loaded, CarriesNothing}
 use Rattle.vms_core.specs.Pages.{pages, History, IsLegal, state_after}
 use Rattle.vms_core.specs.Peaks.{sets, threshold_in, cpu_in, peak, peak_sum}

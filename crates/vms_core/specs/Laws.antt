@@ -5,10 +5,10 @@ use Rattle.vms_core.specs.Cells.{HasShape}
 use Rattle.vms_core.specs.Drift.{BoundsDrift, BoundsSystemDrift, BoundsExcess}
 use Rattle.vms_core.specs.Knowledge.{NameEight, GroupsAreLists, OwnsOnline, KnowsFound}
 use Rattle.vms_core.specs.Pages.{History, state_after, KeepsTotals, KeepsSystemTotals, BoundsDifferentials}
-use Rattle.vms_core.specs.PeakLaws.{TellsThresholds, TellsNumbers, TellsCpus, KeepsThresholdsInRange}
-use Rattle.vms_core.specs.PeakLaws.{KeepsMarksInRange, BoundsByPeaks, BoundsThresholds, KeepsPeaksInRange}
-use Rattle.vms_core.specs.PeakLaws.{BoundsUsed, BoundsLoaded, BoundsLoadedByPeaks, LoadsSetNumbers}
-use Rattle.vms_core.specs.PeakLaws.{AcknowledgesSetNumbers, KeepsCovers, HidesNothingAbsent, BoundsHidden}
+use Rattle.vms_core.specs.PeakLaws.{TellsThresholds, TellsNumbers, TellsCpus, KeepsThresholdsInRange, KeepsMarksInRange}
+use Rattle.vms_core.specs.PeakLaws.{BoundsByPeaks, BoundsThresholds, KeepsPeaksInRange, BoundsUsed, BoundsLoaded}
+use Rattle.vms_core.specs.PeakLaws.{BoundsLoadedByPeaks, LoadsSetNumbers, AcknowledgesSetNumbers, KeepsCovers}
+use Rattle.vms_core.specs.PeakLaws.{HidesNothingAbsent, BoundsHidden}
 use Rattle.vms_core.specs.Spending.{SumsSpending, SumsChanges}
 use Rattle.vms_core.specs.Taken.{KeepsEmptied, KeepsOfflineTaken, MovesDeadOnce}
 

@@ -22,3 +22,4 @@ pub mod Knowledge
 pub mod Spending
 pub mod Laws
 pub mod Ends
+pub mod Common

@@ -1,11 +1,6 @@
 -- A machine of one CPU, one zone and one node, and histories in which the CPU's threshold of the zone is lowered.
 use Rattle.std.specs.Prelude.{ℕ, pos, [], ◌∷◌, replicate, Some, None}
-use Rattle.vms_base.specs.declared.groups.Diffs.{Diffs}
-use Rattle.vms_base.specs.declared.ids.CpuId.{CpuId}
-use Rattle.vms_base.specs.declared.ids.GroupId.{GroupId}
-use Rattle.vms_base.specs.declared.ids.PlaceId.{PlaceId}
-use Rattle.vms_base.specs.declared.kinds.CpuState.TheVariants.{Online}
-use Rattle.vms_base.specs.declared.kinds.ZoneKind.TheVariants.{Normal}
+use Rattle.vms_history.specs.Common.{Diffs, CpuId, GroupId, PlaceId, Online, Normal}
 use Rattle.vms_core.specs.declared.states.State.{State}
 use Rattle.vms_core.specs.declared.steps.Facts.{Facts}
 use Rattle.vms_core.specs.declared.steps.Step.{Step}
@@ -48,26 +43,26 @@ abbrev pub next : ℕ → Step → History → History
 next p step h = record { caller = p; step = step } ∷ h
 
 -- pass 1 begins, which owns the CPU, and pass 2, the control pass
-abbrev pub begun : History
-begun = next 0 (Split 2 None) (next 0 (Split 1 (Some cpu)) [])
+abbrev pub both_begun : History
+both_begun = next 0 (Split 2 None) (next 0 (Split 1 (Some cpu)) [])
 
 -- the control pass lowers the threshold, and the owner loads it
-abbrev pub lowered : History
-lowered = next 2 (SetT cpu zone 5) begun
+abbrev pub threshold_lowered : History
+threshold_lowered = next 2 (SetT cpu zone 5) both_begun
 
-abbrev pub told : History
-told = next 1 (LoadT zone 5 1) lowered
+abbrev pub threshold_loaded : History
+threshold_loaded = next 1 (LoadT zone 5 1) threshold_lowered
 
 -- the owner takes the zone's differentials and acknowledges the threshold
 abbrev pub after_take : Diffs → History
-after_take zeros = next 1 (Take cpu group zeros) told
+after_take zeros = next 1 (Take cpu group zeros) threshold_loaded
 
 abbrev pub acknowledged : Diffs → History
 acknowledged zeros = next 1 (SetA zone 1) (after_take zeros)
 
 -- the control pass finds no acknowledgement, finds that of the newest threshold, or finds it after a newer one was set
 abbrev pub found_none : History
-found_none = next 2 (LoadA cpu zone None) lowered
+found_none = next 2 (LoadA cpu zone None) threshold_lowered
 
 abbrev pub found_newest : Diffs → History
 found_newest zeros = next 2 (LoadA cpu zone (Some 1)) (acknowledged zeros)
@@ -77,14 +72,14 @@ found_older zeros = next 2 (LoadA cpu zone (Some 1)) (next 2 (SetT cpu zone 3) (
 
 -- a threshold that the pages between `min` and `low` don't cover, and a mark that is less than `high` and the peak
 abbrev pub uncovered_threshold : History
-uncovered_threshold = next 2 (SetT cpu zone 31) begun
+uncovered_threshold = next 2 (SetT cpu zone 31) both_begun
 
 abbrev pub uncovered_mark : History
-uncovered_mark = next 2 (SetM zone 179) begun
+uncovered_mark = next 2 (SetM zone 179) both_begun
 
 -- the owner acknowledges with differentials left, or a number that it wasn't told
 abbrev pub acknowledged_early : History
-acknowledged_early = next 1 (SetA zone 1) told
+acknowledged_early = next 1 (SetA zone 1) threshold_loaded
 
 abbrev pub acknowledged_other : Diffs → History
 acknowledged_other zeros = next 1 (SetA zone 0) (after_take zeros)

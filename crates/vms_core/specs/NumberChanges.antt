@@ -1,14 +1,13 @@
 -- What the newest event of a history makes of each number of the state.
 use Rattle.std.specs.Prelude.{◌≡◌, ℕ, ◌∷◌}
-use Rattle.vms_base.specs.Places.{IsPlace, IsZone, IsCounter}
+use Rattle.vms_history.specs.Common.{IsPlace, IsZone, IsCounter, owner_in}
 use Rattle.vms_history.specs.declared.events.Event.{Event}
-use Rattle.vms_history.specs.Passes.{owner_in}
 use Rattle.vms_core.specs.declared.steps.Facts.{Facts}
 use Rattle.vms_core.specs.declared.steps.Step.{Step}
-use Rattle.vms_core.specs.Cells.{value_at, system_at, diff_at, threshold_at, threshold_sets_at}
-use Rattle.vms_core.specs.Cells.{mark_at, mark_sets_at, cpu_at, acknowledged_at}
-use Rattle.vms_core.specs.Effects.{value_after, system_after, diff_after}
-use Rattle.vms_core.specs.Effects.{mark_after, mark_sets_after, acknowledged_after}
+use Rattle.vms_core.specs.Cells.{value_at, system_at, diff_at, threshold_at, threshold_sets_at, mark_at, mark_sets_at}
+use Rattle.vms_core.specs.Cells.{cpu_at, acknowledged_at}
+use Rattle.vms_core.specs.Effects.{value_after, system_after, diff_after, mark_after, mark_sets_after}
+use Rattle.vms_core.specs.Effects.{acknowledged_after}
 use Rattle.vms_core.specs.Pages.{History, state_after}
 use Rattle.vms_core.specs.Peaks.{sets_after, threshold_after, cpu_after}
 use Rattle.vms_core.specs.Steps.{role}

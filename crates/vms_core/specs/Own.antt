@@ -1,12 +1,8 @@
 -- What a caller knows and carries, by its own events alone, the newest first.
-use Rattle.std.specs.Prelude.{◌≡◌, ℕ, ◌+◌, ◌%◌, nat_eq, ◌&&◌, Bool, true, false, ℤ, pos}
-use Rattle.std.specs.Prelude.{neg_ℤ, List, [], ◌∷◌, slice_index_or, slice_set, if◌then◌else◌, Option, Some, None}
-use Rattle.vms_base.specs.declared.groups.Diffs.{Diffs}
-use Rattle.vms_base.specs.declared.ids.CpuId.{CpuId}
-use Rattle.vms_base.specs.Places.{Shape, place_of, group_of, first_of, item_of}
+use Rattle.std.specs.Prelude.{◌≡◌, ℕ, ◌+◌, ◌%◌, nat_eq, ◌&&◌, Bool, true, false, ℤ, pos, neg_ℤ, List, [], ◌∷◌}
+use Rattle.std.specs.Prelude.{slice_index_or, slice_set, if◌then◌else◌, Option, Some, None}
+use Rattle.vms_history.specs.Common.{Diffs, CpuId, Shape, place_of, group_of, first_of_group, item_of, total, sum_below}
 use Rattle.vms_history.specs.declared.events.Event.{Event}
-use Rattle.vms_history.specs.Events.{total}
-use Rattle.vms_history.specs.Sums.{sum_below}
 use Rattle.vms_core.specs.declared.states.Threshold.{Threshold}
 use Rattle.vms_core.specs.declared.steps.Step.{Step}
 use Rattle.vms_core.specs.declared.steps.Step.TheVariants.{LoadT, LoadD, Put, Miss, AddG, AddS, Take}
@@ -68,7 +64,8 @@ moved k _ = pos 0
 -- the entries for item i in the list of group j
 abbrev pub entries_of : Shape → ℕ → ℕ → Diffs → ℤ
 entries_of shape i j w =
-    sum_below (λ n. if nat_eq (item_of shape (first_of j + n)) i then slice_index_or w.values n (pos 0) else pos 0) 8
+    sum_below (λ n. if nat_eq (item_of shape (first_of_group j + n)) i then slice_index_or w.values n
+    (pos 0) else pos 0) 8
 
 -- the same for an item: what a step moves out of the differentials of its counters, less what it adds to its
 -- system-wide value

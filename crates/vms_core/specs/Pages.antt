@@ -1,14 +1,9 @@
 -- The table of page counters, and what holds of each of its legal histories.
 use Rattle.std.specs.Prelude.{◌≡◌, ℕ, suc, ◌≤◌, ℤ, ◌+ℤ◌, List, Option, unsigned_abs}
-use Rattle.vms_base.specs.declared.ids.CpuId.{CpuId}
-use Rattle.vms_base.specs.Cpus.{MayOwnCpu}
-use Rattle.vms_base.specs.Places.{Shape, IsCpu, IsCounter, IsItem}
+use Rattle.vms_history.specs.Common.{CpuId, MayOwnCpu, Shape, IsCpu, IsCounter, IsItem, own, Machine, begun_in}
+use Rattle.vms_history.specs.Common.{sum_below}
 use Rattle.vms_history.specs.declared.events.Event.{Event}
-use Rattle.vms_history.specs.Events.{own}
-use Rattle.vms_history.specs.Legal.{Machine}
 use Rattle.vms_history.specs.Legal as legal
-use Rattle.vms_history.specs.Passes.{begun_in}
-use Rattle.vms_history.specs.Sums.{sum_below}
 use Rattle.vms_core.specs.declared.states.State.{State}
 use Rattle.vms_core.specs.declared.steps.Facts.{Facts}
 use Rattle.vms_core.specs.declared.steps.Step.{Step}

@@ -1,20 +1,13 @@
 -- What holds of thresholds, peaks, acknowledgements and marks after every legal history.
 use Rattle.std.specs.Prelude.{◌≡◌, ℕ, ◌^◌, ◌<◌, ◌≤◌, true, pos, Some, unsigned_abs}
-use Rattle.vms_base.specs.declared.ids.CpuId.{CpuId}
-use Rattle.vms_base.specs.declared.kinds.CpuState.TheVariants.{Online, Absent}
-use Rattle.vms_base.specs.Marks.{Covers}
-use Rattle.vms_base.specs.Places.{IsCpu, IsPlace, IsZone, IsCounter, place_of}
-use Rattle.vms_base.specs.Thresholds.{most_threshold}
-use Rattle.vms_history.specs.Events.{own}
-use Rattle.vms_history.specs.Passes.{lives_in, owner_in}
+use Rattle.vms_history.specs.Common.{CpuId, Online, Absent, Covers, IsCpu, IsPlace, IsZone, IsCounter, place_of}
+use Rattle.vms_history.specs.Common.{most_threshold, own, lives_in, owner_in, size_at, count_below}
 use Rattle.vms_core.specs.declared.states.Threshold.{Threshold}
 use Rattle.vms_core.specs.declared.steps.Facts.{Facts}
-use Rattle.vms_base.specs.Sizes.{size_at}
 use Rattle.vms_core.specs.Cells.{diff_at, threshold_at, threshold_sets_at, mark_at, cpu_at, acknowledged_at}
 use Rattle.vms_core.specs.Own.{loaded}
 use Rattle.vms_core.specs.Pages.{History, state_after}
 use Rattle.vms_core.specs.Peaks.{sets, threshold_in, peak, cpu_in, peak_sum}
-use Rattle.vms_history.specs.Sums.{count_below}
 use Rattle.vms_core.specs.Steps.{role}
 use Rattle.vms_core.specs.Totals.{last_threshold}
 

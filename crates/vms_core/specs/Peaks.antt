@@ -1,11 +1,8 @@
 -- The largest thresholds that a CPU may still be using, and what all CPUs may hide of a zone's pages.
-use Rattle.std.specs.Prelude.{ℕ, suc, max, nat_eq, ◌&&◌, Bool, false, List}
-use Rattle.std.specs.Prelude.{[], ◌∷◌, if◌then◌else◌, Option, Some, None, unsigned_abs}
-use Rattle.vms_base.specs.declared.kinds.CpuState.{CpuState}
-use Rattle.vms_base.specs.declared.kinds.CpuState.TheVariants.{Absent}
-use Rattle.vms_base.specs.Places.{Shape, counter_at}
+use Rattle.std.specs.Prelude.{ℕ, suc, max, nat_eq, ◌&&◌, Bool, false, List, [], ◌∷◌, if◌then◌else◌, Option, Some, None}
+use Rattle.std.specs.Prelude.{unsigned_abs}
+use Rattle.vms_history.specs.Common.{CpuState, Absent, Shape, counter_at, count_below, largest_below}
 use Rattle.vms_history.specs.declared.events.Event.{Event}
-use Rattle.vms_history.specs.Sums.{count_below, largest_below}
 use Rattle.vms_core.specs.declared.states.State.{State}
 use Rattle.vms_core.specs.declared.steps.Facts.{Facts}
 use Rattle.vms_core.specs.declared.steps.Step.{Step}

@@ -1,7 +1,6 @@
 -- Plain data of the page counters.
 use Rattle.std.specs.Prelude.{◌≡◌, ℕ, ◌^◌, ◌<◌, ◌≤◌, pos, length, slice_index_or, unsigned_abs}
-use Rattle.vms_base.specs.Places.{Shape, IsLayout}
-use Rattle.vms_base.specs.Thresholds.{most_threshold}
+use Rattle.vms_history.specs.Common.{Shape, IsLayout, most_threshold}
 use Rattle.vms_core.specs.declared.states.State.{State}
 use Rattle.vms_core.specs.Bases.{IsOpening}
 use Rattle.vms_core.specs.Cells.{HasShape, counters_of, places_of}

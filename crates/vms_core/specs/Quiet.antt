@@ -1,8 +1,6 @@
 -- A Split and a Join leave the page counters as they are, and ask nothing beyond the rules of the passes.
 use Rattle.std.specs.Prelude.{◌≡◌, ◌≢◌, Option, Some, None, refl, ℕ}
-use Rattle.vms_base.specs.declared.ids.CpuId.{CpuId}
-use Rattle.vms_history.specs.Legal.{IsQuiet}
-use Rattle.vms_history.specs.Passes.Role.{Works}
+use Rattle.vms_history.specs.Common.{CpuId, IsQuiet, Works}
 use Rattle.vms_core.specs.declared.states.State.{State}
 use Rattle.vms_core.specs.declared.steps.Facts.{Facts}
 use Rattle.vms_core.specs.declared.steps.Step.{Step}

@@ -1,9 +1,6 @@
 -- What each caller's own events spend.
 use Rattle.std.specs.Prelude.{◌≡◌, ℕ, suc, nat_eq, Bool, false, pos, if◌then◌else◌, Option, Some, None}
-use Rattle.vms_base.specs.declared.ids.CpuId.{CpuId}
-use Rattle.vms_history.specs.Events.{own, total}
-use Rattle.vms_history.specs.Passes.{owner_in, begun_in}
-use Rattle.vms_history.specs.Sums.{sum_below}
+use Rattle.vms_history.specs.Common.{CpuId, own, total, owner_in, begun_in, sum_below}
 use Rattle.vms_core.specs.declared.steps.Facts.{Facts}
 use Rattle.vms_core.specs.Pages.{History}
 use Rattle.vms_core.specs.Steps.{role}

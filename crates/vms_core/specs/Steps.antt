@@ -1,15 +1,12 @@
 -- What each kind of step does to the passes and to the state.
 use Rattle.std.specs.Prelude.{◌+ℤ◌, Option, Some, None}
-use Rattle.vms_base.specs.declared.ids.CpuId.{CpuId}
-use Rattle.vms_base.specs.declared.kinds.CpuState.TheVariants.{Absent}
-use Rattle.vms_history.specs.Passes.{Role}
-use Rattle.vms_history.specs.Passes.Role.{Works, Begins, Ends}
+use Rattle.vms_history.specs.Common.{CpuId, Absent, Role, Works, Begins, Ends}
 use Rattle.vms_core.specs.declared.states.State.{State}
 use Rattle.vms_core.specs.declared.steps.Step.{Step}
 use Rattle.vms_core.specs.declared.steps.Step.TheVariants.{Put, AddG, AddS, Take, SetT, SetM, SetO, SetA, Split, Join}
 use Rattle.vms_core.specs.declared.steps.Facts.{Facts}
-use Rattle.vms_core.specs.Cells.{value_at, system_at, entry, with_value, with_system, with_diff}
-use Rattle.vms_core.specs.Cells.{with_group_zeroed, with_threshold, with_mark, with_cpu, with_acknowledged}
+use Rattle.vms_core.specs.Cells.{value_at, system_at, entry, with_value, with_system, with_diff, with_group_zeroed}
+use Rattle.vms_core.specs.Cells.{with_threshold, with_mark, with_cpu, with_acknowledged}
 use Rattle.vms_core.specs.Changes.{differential_after}
 
 -- a Split begins a pass and a Join ends one

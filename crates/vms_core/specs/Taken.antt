@@ -1,11 +1,8 @@
 -- Groups that were emptied, and what is taken of a CPU.
-use Rattle.std.specs.Prelude.{◌≡◌, ◌≢◌, ℕ, suc, ◌≤◌, nat_eq, nat_lt, ◌&&◌, Bool, true}
-use Rattle.std.specs.Prelude.{false, ℤ, pos, ◌+ℤ◌, [], ◌∷◌, if◌then◌else◌, Option, Some, unsigned_abs}
-use Rattle.vms_base.specs.declared.ids.CpuId.{CpuId}
-use Rattle.vms_base.specs.declared.kinds.CpuState.TheVariants.{Online, Dead, Absent}
-use Rattle.vms_base.specs.Places.{IsCpu, IsCounter, IsGroup, group_of}
-use Rattle.vms_history.specs.Events.{own, total}
-use Rattle.vms_history.specs.Passes.{owner_in}
+use Rattle.std.specs.Prelude.{◌≡◌, ◌≢◌, ℕ, suc, ◌≤◌, nat_eq, nat_lt, ◌&&◌, Bool, true, false, ℤ, pos, ◌+ℤ◌, [], ◌∷◌}
+use Rattle.std.specs.Prelude.{if◌then◌else◌, Option, Some, unsigned_abs}
+use Rattle.vms_history.specs.Common.{CpuId, Online, Dead, Absent, IsCpu, IsCounter, IsGroup, group_of, own, total}
+use Rattle.vms_history.specs.Common.{owner_in}
 use Rattle.vms_core.specs.declared.steps.Facts.{Facts}
 use Rattle.vms_core.specs.declared.steps.Step.{Step}
 use Rattle.vms_core.specs.declared.steps.Step.TheVariants.{Put, Miss, Take}

@@ -1,12 +1,8 @@
 -- What a whole history changed, and the thresholds that it used last.
-use Rattle.std.specs.Prelude.{ℕ, ◌+◌, nat_eq, ◌&&◌, ℤ, pos, ◌+ℤ◌}
-use Rattle.std.specs.Prelude.{List, [], ◌∷◌, if◌then◌else◌, Option, Some, unsigned_abs}
-use Rattle.vms_base.specs.declared.ids.CpuId.{CpuId}
-use Rattle.vms_base.specs.Places.{Shape, group_of, item_of, counter_count}
+use Rattle.std.specs.Prelude.{ℕ, ◌+◌, nat_eq, ◌&&◌, ℤ, pos, ◌+ℤ◌, List, [], ◌∷◌, if◌then◌else◌, Option, Some}
+use Rattle.std.specs.Prelude.{unsigned_abs}
+use Rattle.vms_history.specs.Common.{CpuId, Shape, group_of, item_of, counter_count, total, owner_in, sum_below}
 use Rattle.vms_history.specs.declared.events.Event.{Event}
-use Rattle.vms_history.specs.Events.{total}
-use Rattle.vms_history.specs.Passes.{owner_in}
-use Rattle.vms_history.specs.Sums.{sum_below}
 use Rattle.vms_core.specs.declared.states.State.{State}
 use Rattle.vms_core.specs.declared.steps.Facts.{Facts}
 use Rattle.vms_core.specs.declared.steps.Step.{Step}

@@ -3,8 +3,7 @@ use vms_base::{CounterId, CpuId, Layout, Mode};
 
 impl Plain {
     ghost use Rattle.std.specs.Prelude.{◌≡◌, ◌+◌, ◌^◌, ◌<◌, ◌≤◌, ◌+ℤ◌, unsigned_abs};
-    ghost use Rattle.vms_base.specs.Places.{IsCpu, IsCounter, item_of};
-    ghost use Rattle.vms_base.specs.declared.kinds.CpuState.TheVariants.{Online};
+    ghost use Rattle.vms_history.specs.Common.{IsCpu, IsCounter, item_of, Online};
     ghost use Rattle.vms_core.specs.Cells.{HasShape, cpu_at, value_at, system_at, diff_at};
     ghost use Rattle.vms_core.specs.ChangedStates.{with_carried, with_change};
 

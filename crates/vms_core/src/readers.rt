@@ -4,8 +4,7 @@ use vms_base::{CounterId, CpuId, CpuState, Diffs, GroupId, ItemId, Layout, Place
 
 impl State {
     ghost use Rattle.std.specs.Prelude.{◌≡◌, ◌<◌, length};
-    ghost use Rattle.vms_base.specs.Groups.{AreBytes};
-    ghost use Rattle.vms_base.specs.Places.{IsCpu, IsPlace, IsZone, IsCounter, IsGroup};
+    ghost use Rattle.vms_history.specs.Common.{AreBytes, IsCpu, IsPlace, IsZone, IsCounter, IsGroup};
     ghost use Rattle.vms_core.specs.Cells as cells;
     ghost use Rattle.vms_core.specs.Cells.{HasShape, TellsGroup};
 

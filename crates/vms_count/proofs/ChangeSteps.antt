@@ -1,38 +1,21 @@
 -- A change: when it may put, and what its steps are together.
-use Rattle.std.proofs.Common.{◌≡◌, ◌≢◌, ℕ, ◌+◌, ◌≤◌, true, nat_eq, ℤ, pos, List, [], ◌∷◌, ◌++◌, Some}
-use Rattle.std.proofs.Common.{refl, sym, ap, ◌∙◌, subst, arith, eq-eqb, slice_index_or, slice_set, unsigned_abs}
+use Rattle.std.proofs.Common.{◌≡◌, ◌≢◌, ℕ, ◌+◌, ◌≤◌, true, nat_eq, ℤ, pos, List, [], ◌∷◌, ◌++◌, Some, refl, sym, ap}
+use Rattle.std.proofs.Common.{◌∙◌, subst, arith, eq-eqb, slice_index_or, slice_set, unsigned_abs}
 use Rattle.std.proofs.lemmas.Int.{ints}
-use Rattle.vms_base.specs.declared.groups.Diffs.{Diffs}
-use Rattle.vms_base.specs.declared.ids.CounterId.{CounterId}
-use Rattle.vms_base.specs.declared.ids.CpuId.{CpuId}
-use Rattle.vms_base.specs.declared.ids.GroupId.{GroupId}
-use Rattle.vms_base.specs.declared.ids.ItemId.{ItemId}
-use Rattle.vms_base.specs.declared.ids.PlaceId.{PlaceId}
-use Rattle.vms_base.specs.declared.kinds.Mode.{Mode}
-use Rattle.vms_base.specs.Places.{Shape, IsLayout, IsCpu, IsCounter, IsItem, place_of, group_of, item_of}
-use Rattle.vms_base.specs.Volumes.{most_volume}
-use Rattle.vms_base.proofs.Counts.{item_of-lt}
-use Rattle.vms_history.specs.Events.{own, after}
-use Rattle.vms_calls.specs.Changes.{Carries, IsChange}
-use Rattle.vms_calls.proofs.CallerLaws.{change-leaves}
-use Rattle.vms_calls.specs.Changes.Exchanges.{won, missed}
-use Rattle.vms_core.specs.declared.steps.Facts.{Facts}
-use Rattle.vms_core.specs.declared.steps.Step.{Step}
-use Rattle.vms_core.specs.declared.steps.Step.TheVariants.{LoadT, LoadD, Put, Miss, AddG, AddS}
-use Rattle.vms_core.specs.Cells.{entry, eight_zeros}
-use Rattle.vms_core.specs.Changes.{carried_by}
-use Rattle.vms_core.specs.Conditions.{AddsToSystem}
-use Rattle.vms_core.specs.Own.{CarriesNothing, carried, carried_of_item, found, loaded}
-use Rattle.vms_core.specs.Pages.{pages}
-use Rattle.vms_core.proofs.KeptLaws.{laws-kept}
-use Rattle.vms_seats.specs.Passes.{Pass, IsLive}
-use Rattle.vms_seats.specs.Steps.{Made, MadeOne}
-use Rattle.vms_seats.proofs.MadeCalls.{calls-none, calls-next, calls-both}
-use Rattle.vms_words.specs.PagePasses.{OwningPass}
-use Rattle.vms_words.specs.Puts.{MayPut, HasPut, HasMissed}
-use Rattle.vms_count.specs.Changing.{CarriesFor, HasLoaded, HasExchanged, HasChanged}
-use Rattle.vms_count.proofs.PassEvents.{own-next, carried-next, carried_of_item-next, nothing-next}
-use Rattle.vms_count.proofs.PassEvents.{loaded-load, found-load, found-miss}
+use Rattle.vms_calls.specs.Common.{Diffs, CounterId, CpuId, GroupId, ItemId, PlaceId, Mode, Shape, IsLayout, IsCpu}
+use Rattle.vms_calls.specs.Common.{IsCounter, IsItem, place_of, group_of, item_of, most_volume, own, after, Carries}
+use Rattle.vms_calls.specs.Common.{IsChange, won, missed, Facts, Step, LoadT, LoadD, Put, Miss, AddG, AddS, entry}
+use Rattle.vms_calls.specs.Common.{eight_zeros, carried_by, AddsToSystem, CarriesNothing, carried, carried_of_item}
+use Rattle.vms_calls.specs.Common.{found, loaded, pages}
+use Rattle.vms_base.proofs.Common.{item_of-lt}
+use Rattle.vms_calls.proofs.Common.{change-leaves}
+use Rattle.vms_core.proofs.Common.{laws-kept}
+use Rattle.vms_seats.specs.Common.{Pass, IsLive, Made, MadeOne}
+use Rattle.vms_seats.proofs.Common.{calls-none, calls-next, calls-both}
+use Rattle.vms_words.specs.Common.{OwningPass, MayPut, HasPut, HasMissed}
+use Rattle.vms_count.specs.Common.{CarriesFor, HasLoaded, HasExchanged, HasChanged}
+use Rattle.vms_count.proofs.PassEvents.{own-next, carried-next, carried_of_item-next, nothing-next, loaded-load}
+use Rattle.vms_count.proofs.PassEvents.{found-load, found-miss}
 
 -- what a put asks, by the layout of the table
 pub may-put : (pass : OwningPass) (facts : Facts) → pass.pass.facts ≡ facts

@@ -2,22 +2,11 @@
 use Rattle.std.proofs.Common.{◌≡◌, ℕ, zero, suc, Bool, true, false, ◌&&◌, nat_eq, ℤ, pos, negsuc, neg_ℤ, ◌+ℤ◌, List}
 use Rattle.std.proofs.Common.{if◌then◌else◌, length, refl, ap, ◌∙◌, subst, arith, eq-eqb}
 use Rattle.std.proofs.lemmas.Int.{ints}
-use Rattle.vms_base.specs.declared.groups.Diffs.{Diffs}
-use Rattle.vms_base.specs.declared.ids.CpuId.{CpuId}
-use Rattle.vms_base.specs.declared.ids.GroupId.{GroupId}
-use Rattle.vms_base.specs.Places.{Shape}
-use Rattle.vms_history.specs.Events.{own, after}
-use Rattle.vms_calls.specs.Folds.{to_place}
-use Rattle.vms_core.specs.declared.steps.Facts.{Facts}
-use Rattle.vms_core.specs.declared.steps.Step.{Step}
-use Rattle.vms_core.specs.declared.steps.Step.TheVariants.{Take}
-use Rattle.vms_core.specs.Knowledge.{NameEight}
-use Rattle.vms_core.specs.Own.{carried, carried_of_item, loaded, took, has_put}
-use Rattle.vms_core.specs.Pages.{pages}
-use Rattle.vms_core.proofs.KeptLaws.{laws-kept}
-use Rattle.vms_seats.specs.Passes.{Pass, Shared, IsOf}
-use Rattle.vms_seats.specs.Steps.{Made, MadeOne}
-use Rattle.vms_count.specs.Folding.{mine, KeepsLoads}
+use Rattle.vms_calls.specs.Common.{Diffs, CpuId, GroupId, Shape, own, after, to_place, Facts, Step, Take, NameEight}
+use Rattle.vms_calls.specs.Common.{carried, carried_of_item, loaded, took, has_put, pages}
+use Rattle.vms_core.proofs.Common.{laws-kept}
+use Rattle.vms_seats.specs.Common.{Pass, Shared, IsFrom, Made, MadeOne}
+use Rattle.vms_count.specs.Common.{mine, KeepsLoads}
 use Rattle.vms_count.proofs.PassEvents.{own-next}
 
 pub mine-after : (new old : Pass Facts Step) (steps : List Step) → Made pages new old steps
@@ -96,7 +85,7 @@ module _ (shape : Shape) (c : CpuId) where
 
 -- the pass is of the same table still
 pub of-made : (new old : Pass Facts Step) (words : Shared Facts) (steps : List Step) → Made pages new old steps
-    → IsOf old words → IsOf new words
+    → IsFrom old words → IsFrom new words
 of-made new old words steps made of = record { table = made.table ∙ of.table; facts = made.facts ∙ of.facts }
 
 -- a list that was taken has eight entries

@@ -1,19 +1,12 @@
 -- The additions to the system-wide values at the end of a fold.
-use Rattle.std.proofs.Common.{◌≡◌, ◌≢◌, ℕ, suc, zero, ◌+◌, ◌≤◌, false, nat_eq, ℤ, pos, negsuc, List, []}
-use Rattle.std.proofs.Common.{◌∷◌, ◌++◌, refl, sym, ap, subst, ◌∙◌, arith, append_assoc, append-nil, ne_eqb}
+use Rattle.std.proofs.Common.{◌≡◌, ◌≢◌, ℕ, suc, zero, ◌+◌, ◌≤◌, false, nat_eq, ℤ, pos, negsuc, List, [], ◌∷◌, ◌++◌}
+use Rattle.std.proofs.Common.{refl, sym, ap, subst, ◌∙◌, arith, append_assoc, append-nil, ne_eqb}
 use Rattle.std.proofs.lemmas.Int.{ints}
-use Rattle.vms_base.specs.declared.groups.Diffs.{Diffs}
-use Rattle.vms_base.specs.Places.{Shape, IsItem}
-use Rattle.vms_calls.specs.Folds.{system_steps, taken_of_item, to_system}
-use Rattle.vms_core.specs.declared.steps.Facts.{Facts}
-use Rattle.vms_core.specs.declared.steps.Step.{Step}
-use Rattle.vms_core.specs.declared.steps.Step.TheVariants.{AddS}
-use Rattle.vms_core.specs.Own.{carried_of_item}
-use Rattle.vms_core.specs.Pages.{pages}
-use Rattle.vms_seats.specs.Passes.{Pass, Shared, IsOf, IsLive}
-use Rattle.vms_seats.specs.Steps.{Made, MadeOne}
-use Rattle.vms_seats.proofs.MadeCalls.{calls-none, calls-next}
-use Rattle.vms_count.specs.Folding.{mine, sum_at}
+use Rattle.vms_calls.specs.Common.{Diffs, Shape, IsItem, system_steps, taken_of_item, to_system, Facts, Step, AddS}
+use Rattle.vms_calls.specs.Common.{carried_of_item, pages}
+use Rattle.vms_seats.specs.Common.{Pass, Shared, IsFrom, IsLive, Made, MadeOne}
+use Rattle.vms_seats.proofs.Common.{calls-none, calls-next}
+use Rattle.vms_count.specs.Common.{mine, sum_at}
 use Rattle.vms_count.proofs.FoldEvents.{of-made}
 use Rattle.vms_count.proofs.PassEvents.{carried_of_item-next}
 
@@ -47,7 +40,7 @@ module _ (shape : Shape) (sums : List ℤ) (old : Pass Facts Step) where
   pub record AddsItems (n : ℕ) (now : Pass Facts Step) : Type 0 where
     pub made : (ws : List Diffs) → AreTaken ws → Made pages now old (system_steps shape ws 0 n)
     pub left : (i : ℕ) → n ≤ i → IsItem shape i → carried_of_item shape i (mine now) ≡ sum_at sums i
-    pub of : (words : Shared Facts) → IsOf old words → IsOf now words
+    pub of : (words : Shared Facts) → IsFrom old words → IsFrom now words
 
   pub AddsItems-none : IsLive pages old
       → ((i : ℕ) → IsItem shape i → carried_of_item shape i (mine old) ≡ sum_at sums i) → AddsItems 0 old

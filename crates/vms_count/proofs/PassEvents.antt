@@ -1,18 +1,9 @@
 -- What a pass carries, and what it last found and loaded, after one step more.
 use Rattle.std.proofs.Common.{◌≡◌, ℕ, pos, ◌+ℤ◌, ◌∷◌, Some, refl, ap, ◌∙◌, arith, eq-eqb}
 use Rattle.std.proofs.lemmas.Int.{ints}
-use Rattle.vms_base.specs.declared.groups.Diffs.{Diffs}
-use Rattle.vms_base.specs.declared.ids.CpuId.{CpuId}
-use Rattle.vms_base.specs.Places.{Shape}
-use Rattle.vms_history.specs.Events.{own}
-use Rattle.vms_core.specs.declared.steps.Facts.{Facts}
-use Rattle.vms_core.specs.declared.steps.Step.{Step}
-use Rattle.vms_core.specs.declared.steps.Step.TheVariants.{LoadT, LoadD, Miss}
-use Rattle.vms_core.specs.Cells.{eight_zeros}
-use Rattle.vms_core.specs.Own.{CarriesNothing, carried, carried_of_item, found, loaded, moved, moved_of_item}
-use Rattle.vms_core.specs.Pages.{pages}
-use Rattle.vms_seats.specs.Passes.{Pass}
-use Rattle.vms_seats.specs.Steps.{MadeOne}
+use Rattle.vms_calls.specs.Common.{Diffs, CpuId, Shape, own, Facts, Step, LoadT, LoadD, Miss, eight_zeros}
+use Rattle.vms_calls.specs.Common.{CarriesNothing, carried, carried_of_item, found, loaded, moved, moved_of_item, pages}
+use Rattle.vms_seats.specs.Common.{Pass, MadeOne}
 
 module _ (new old : Pass Facts Step) (step : Step) (one : MadeOne pages new old step) where
   pub own-next : own new.seen new.number ≡ record { caller = old.number; step = step } ∷ own old.seen old.number

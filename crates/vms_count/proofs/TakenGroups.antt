@@ -1,6 +1,6 @@
 -- Groups that a fold takes: each differential is added to a global value and to a sum.
-use Rattle.std.proofs.Common.{◌≡◌, ◌≢◌, ℕ, suc, ◌+◌, ◌*◌, ◌%◌, ◌<◌, ◌≤◌, ◌⊎◌, inl, inr, nat_eq, Bool, true}
-use Rattle.std.proofs.Common.{false, ℤ, pos, neg_ℤ, ◌+ℤ◌, ◌≤ℤ◌, unsigned_abs, List, [], ◌∷◌, ◌++◌, length, get_or, drop}
+use Rattle.std.proofs.Common.{◌≡◌, ◌≢◌, ℕ, suc, ◌+◌, ◌*◌, ◌%◌, ◌<◌, ◌≤◌, ◌⊎◌, inl, inr, nat_eq, Bool, true, false, ℤ}
+use Rattle.std.proofs.Common.{pos, neg_ℤ, ◌+ℤ◌, ◌≤ℤ◌, unsigned_abs, List, [], ◌∷◌, ◌++◌, length, get_or, drop}
 use Rattle.std.proofs.Common.{if◌then◌else◌, refl, sym, ap, subst, ◌∙◌, arith, append_assoc, length-append, append-nil}
 use Rattle.std.proofs.Common.{eq-eqb, ne_eqb}
 use Rattle.std.proofs.Math.ListN.{set}
@@ -10,28 +10,16 @@ use Rattle.std.proofs.lemmas.Bool.Decides.{nat_tests}
 use Rattle.std.proofs.lemmas.Int.{ints}
 use Rattle.std.proofs.lemmas.List.{drop_all, set-get_or}
 use Rattle.std.proofs.lemmas.List.Elements.{All-append, All-cons, All-nil}
-use Rattle.vms_base.specs.declared.groups.Diffs.{Diffs}
-use Rattle.vms_base.specs.declared.ids.CpuId.{CpuId}
-use Rattle.vms_base.specs.Groups.{AreBytes}
-use Rattle.vms_base.specs.Places.{Shape, first_of, group_of, item_of}
-use Rattle.vms_history.specs.Sums.{sum_below}
-use Rattle.vms_history.proofs.Cells.{get_or-set}
-use Rattle.vms_history.proofs.SumBounds.{sum_below-most, sum_below-size}
-use Rattle.vms_calls.specs.Folds.{group_steps, taken_of_item, to_place}
-use Rattle.vms_calls.specs.Lists.{in_turn}
-use Rattle.vms_core.specs.declared.steps.Facts.{Facts}
-use Rattle.vms_core.specs.declared.steps.Step.{Step}
-use Rattle.vms_core.specs.declared.steps.Step.TheVariants.{Take}
-use Rattle.vms_core.specs.Cells.{entry}
-use Rattle.vms_core.specs.Own.{carried, carried_of_item, took}
-use Rattle.vms_core.specs.Pages.{pages}
-use Rattle.vms_seats.specs.Passes.{Pass, IsLive}
-use Rattle.vms_seats.specs.Steps.{Made, MadeOne}
-use Rattle.vms_seats.proofs.MadeCalls.{calls-none, calls-both}
-use Rattle.vms_count.specs.Folding.{mine, sum_at, AreSums, NoneForCounters, KeepsLoads, FoldsGroups}
+use Rattle.vms_calls.specs.Common.{Diffs, CpuId, AreBytes, Shape, first_of_group, group_of, item_of, sum_below}
+use Rattle.vms_calls.specs.Common.{group_steps, taken_of_item, to_place, in_turn, Facts, Step, Take, entry, carried}
+use Rattle.vms_calls.specs.Common.{carried_of_item, took, pages}
+use Rattle.vms_history.proofs.Common.{get_or-set, sum_below-most, sum_below-size}
+use Rattle.vms_seats.specs.Common.{Pass, IsLive, Made, MadeOne}
+use Rattle.vms_seats.proofs.Common.{calls-none, calls-both}
+use Rattle.vms_count.specs.Common.{mine, sum_at, AreSums, NoneForCounters, KeepsLoads, FoldsGroups}
 use Rattle.vms_count.proofs.PassEvents.{carried-next, carried_of_item-next}
-use Rattle.vms_count.proofs.FoldEvents.{placed-carried, placed-item, placed-keeps, taken-keeps, taken-now}
-use Rattle.vms_count.proofs.FoldEvents.{keeps-same, keeps-both}
+use Rattle.vms_count.proofs.FoldEvents.{placed-carried, placed-item, placed-keeps, taken-keeps, taken-now, keeps-same}
+use Rattle.vms_count.proofs.FoldEvents.{keeps-both}
 
 pub in_turn-append : {X : Type 0} (steps : ℕ → X → List Step) (n : ℕ) (xs ys : List X)
     → in_turn steps n (xs ++ ys) ≡ in_turn steps n xs ++ in_turn steps (n + length xs) ys
@@ -65,7 +53,7 @@ set-nothing sums i z none =
 module _ (shape : Shape) (j : ℕ) (values : List ℤ) (c : CpuId) (taken : Pass Facts Step) (before : List ℤ) where
   -- what entry m adds to item i
   abbrev entry_for : ℕ → ℕ → ℤ
-  entry_for i m = if nat_eq (item_of shape (first_of j + m)) i then get_or values m (pos 0) else pos 0
+  entry_for i m = if nat_eq (item_of shape (first_of_group j + m)) i then get_or values m (pos 0) else pos 0
 
   -- the first n entries of the list are added
   pub record AddsEntries (n : ℕ) (now : Pass Facts Step) (sums : List ℤ) : Type 0 where
@@ -84,7 +72,7 @@ module _ (shape : Shape) (j : ℕ) (values : List ℤ) (c : CpuId) (taken : Pass
       → AddsEntries n now sums → AreSums most before → AreSums (most + n * 128) sums
   AreSums-entries bytes n most now sums adds small = record {
     each = λ i. let few = sum_below-most (λ m. pos (unsigned_abs (entry_for i m))) n 128
-        (λ m less. by (nat_eq (item_of shape (first_of j + m)) i) (get_or values m (pos 0)) (byte m)) in
+        (λ m less. by (nat_eq (item_of shape (first_of_group j + m)) i) (get_or values m (pos 0)) (byte m)) in
         let was = small.each i in
         omega (arith, ints, adds.summed i, sum_below-size (entry_for i) n, few);
   }

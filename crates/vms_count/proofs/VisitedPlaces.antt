@@ -1,34 +1,23 @@
 -- Places that a fold visits one after another, and the whole fold.
 use Rattle.std.proofs.Common.{◌≡◌, ℕ, suc, ◌+◌, ◌*◌, ◌/◌, ◌<◌, ◌≤◌, ⊎_elim, Bool, true, false, nat_lt, ◌&&◌, ℤ, pos}
-use Rattle.std.proofs.Common.{unsigned_abs}
-use Rattle.std.specs.Prelude.{replicate}
+use Rattle.std.proofs.Common.{unsigned_abs, ◌+ℤ◌, List, [], ◌∷◌, ◌++◌, length, Some, refl, sym, ap, subst, ◌∙◌, arith}
+use Rattle.std.proofs.Common.{append_assoc, length-append, append-nil, eq-eqb}
+use Rattle.std.specs.Prelude.{replicate, All}
 use Rattle.std.proofs.lemmas.Bool.Decides.{nat_tests}
-use Rattle.vms_core.proofs.LevelStates.{get_or-copies}
-use Rattle.std.proofs.Common.{◌+ℤ◌, List, [], ◌∷◌, ◌++◌, length, Some, refl, sym, ap, subst, ◌∙◌, arith, append_assoc}
-use Rattle.std.proofs.Common.{length-append, append-nil, eq-eqb}
-use Rattle.std.specs.Prelude.{All}
+use Rattle.vms_core.proofs.Common.{get_or-copies}
 use Rattle.std.proofs.lemmas.Int.{ints}
 use Rattle.std.proofs.lemmas.List.Elements.{All-append, All-cons, All-nil}
-use Rattle.vms_base.specs.declared.groups.Diffs.{Diffs}
-use Rattle.vms_base.specs.declared.ids.CpuId.{CpuId}
-use Rattle.vms_base.specs.Places.{Shape, IsLayout, IsCpu, IsGroup, IsPlace, IsZone, counter_at, first_of, group_of}
-use Rattle.vms_base.specs.Places.{item_count, place_count, place_of}
-use Rattle.vms_base.proofs.Counts.{place_count-most}
-use Rattle.vms_history.specs.Events.{own, after}
-use Rattle.vms_calls.proofs.CallerLaws.{fold-leaves}
-use Rattle.vms_calls.specs.Folds.{FoundPlace, HasGroups, acknowledges, group_steps, lists_of, place_steps}
-use Rattle.vms_calls.specs.Folds.{system_steps, taken_of_item}
-use Rattle.vms_calls.specs.Lists.{in_turn}
-use Rattle.vms_core.specs.declared.steps.Facts.{Facts}
-use Rattle.vms_core.specs.declared.steps.Step.{Step}
-use Rattle.vms_core.specs.declared.steps.Step.TheVariants.{LoadT, SetA}
-use Rattle.vms_core.specs.Conditions.{Acknowledges}
-use Rattle.vms_core.specs.Own.{CarriesNothing, carried, carried_of_item, has_put}
-use Rattle.vms_core.specs.Pages.{pages}
-use Rattle.vms_seats.specs.Passes.{Pass, IsLive}
-use Rattle.vms_seats.specs.Steps.{Made, MadeOne}
-use Rattle.vms_seats.proofs.MadeCalls.{calls-none, calls-both, calls-live}
-use Rattle.vms_count.specs.Folding.{owns, mine, sum_at, AreSums, NoneForCounters, FoldsGroups, FoldsPlace, FoldsPlaces, HasFolded}
+use Rattle.vms_calls.specs.Common.{Diffs, CpuId, Shape, IsLayout, IsCpu, IsGroup, IsPlace, IsZone, counter_at}
+use Rattle.vms_calls.specs.Common.{first_of_group, group_of, item_count, place_count, place_of, own, after, FoundPlace}
+use Rattle.vms_calls.specs.Common.{HasGroups, acknowledges, group_steps, lists_of, place_steps, system_steps}
+use Rattle.vms_calls.specs.Common.{taken_of_item, in_turn, Facts, Step, LoadT, SetA, Acknowledges, CarriesNothing}
+use Rattle.vms_calls.specs.Common.{carried, carried_of_item, has_put, pages}
+use Rattle.vms_base.proofs.Common.{place_count-most}
+use Rattle.vms_calls.proofs.Common.{fold-leaves}
+use Rattle.vms_seats.specs.Common.{Pass, IsLive, Made, MadeOne}
+use Rattle.vms_seats.proofs.Common.{calls-none, calls-both, calls-live}
+use Rattle.vms_count.specs.Common.{owns_cpu, mine, sum_at, AreSums, NoneForCounters, FoldsGroups, FoldsPlace}
+use Rattle.vms_count.specs.Common.{FoldsPlaces, HasFolded}
 use Rattle.vms_count.proofs.PassEvents.{own-next, carried-next, carried_of_item-next, loaded-load}
 use Rattle.vms_count.proofs.FoldEvents.{mine-after}
 use Rattle.vms_count.proofs.TakenGroups.{in_turn-append, taken_of_item-append}
@@ -55,7 +44,7 @@ module _ (shape : Shape) (layout : IsLayout shape) where
       by_positions (λ w. (w * g + 0) / 8 < 64) (omega (arith, most)) (omega (arith, most))
 
   -- the groups of a place stand in a row
-  group-range : (g j : ℕ) → place_of shape (first_of j) ≡ g
+  group-range : (g j : ℕ) → place_of shape (first_of_group j) ≡ g
       → (group_of (counter_at shape g 0) ≤ j) × (j < group_of (counter_at shape g 0) + shape.positions / 8)
   group-range g j = by_positions
       (λ w. (8 * j) / w ≡ g → ((w * g + 0) / 8 ≤ j) × (j < (w * g + 0) / 8 + w / 8))
@@ -258,11 +247,11 @@ module _ (shape : Shape) (is_own : Bool) (c : CpuId) where
 
 -- the whole fold
 module _ (shape : Shape) (c : CpuId) (new now old : Pass Facts Step) (before sums : List ℤ)
-    (places : FoldsPlaces shape (owns old.cpu c) c (place_count shape) now old before sums)
+    (places : FoldsPlaces shape (owns_cpu old.cpu c) c (place_count shape) now old before sums)
     (added : Made pages new now (system_steps shape (lists_of places.places) 0 (item_count shape))) where
   pub folded-whole : HasFolded shape new old c
   folded-whole = record {
-    steps = in_turn (visit shape (owns old.cpu c) c) 0 places.places
+    steps = in_turn (visit shape (owns_cpu old.cpu c) c) 0 places.places
         ++ system_steps shape (lists_of places.places) 0 (item_count shape);
     fold = record {
       places = places.places;
@@ -270,7 +259,7 @@ module _ (shape : Shape) (c : CpuId) (new now old : Pass Facts Step) (before sum
       groups = places.groups;
       in_order = refl;
     };
-    made = calls-both pages new now old (in_turn (visit shape (owns old.cpu c) c) 0 places.places)
+    made = calls-both pages new now old (in_turn (visit shape (owns_cpu old.cpu c) c) 0 places.places)
         (system_steps shape (lists_of places.places) 0 (item_count shape)) added places.made;
   }
 
@@ -278,7 +267,7 @@ module _ (shape : Shape) (c : CpuId) (new now old : Pass Facts Step) (before sum
 pub folded-nothing : (shape : Shape) → IsLayout shape → (new old : Pass Facts Step) (c : CpuId)
     → HasFolded shape new old c → CarriesNothing shape (mine old) → CarriesNothing shape (mine new)
 folded-nothing shape layout new old c has nothing =
-    let leaves = fold-leaves shape layout (owns old.cpu c) c old.number has.steps (mine old) has.fold in
+    let leaves = fold-leaves shape layout (owns_cpu old.cpu c) c old.number has.steps (mine old) has.fold in
     let after_all = mine-after new old has.steps has.made in
     record {
       counters = λ k. ap (carried k) after_all ∙ leaves.carries.counters k ∙ nothing.counters k;

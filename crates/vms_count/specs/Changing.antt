@@ -1,22 +1,9 @@
 -- What a change of a counter makes while others act.
 use Rattle.std.specs.Prelude.{◌≡◌, ℕ, ℤ, pos, negsuc, List, ◌∷◌, Some}
-use Rattle.vms_base.specs.declared.groups.Diffs.{Diffs}
-use Rattle.vms_base.specs.declared.ids.CounterId.{CounterId}
-use Rattle.vms_base.specs.declared.ids.CpuId.{CpuId}
-use Rattle.vms_base.specs.declared.kinds.Mode.{Mode}
-use Rattle.vms_base.specs.declared.kinds.Mode.TheVariants.{Mod, Inc, Dec}
-use Rattle.vms_base.specs.Places.{Shape, place_of, group_of, item_of}
-use Rattle.vms_history.specs.Events.{own}
-use Rattle.vms_calls.specs.Changes.{Exchanges, IsChange}
-use Rattle.vms_core.specs.declared.steps.Facts.{Facts}
-use Rattle.vms_core.specs.declared.steps.Step.{Step}
-use Rattle.vms_core.specs.declared.steps.Step.TheVariants.{LoadD}
-use Rattle.vms_core.specs.Cells.{entry}
-use Rattle.vms_core.specs.Changes.{carried_by}
-use Rattle.vms_core.specs.Own.{carried, carried_of_item, loaded}
-use Rattle.vms_core.specs.Pages.{pages, History}
-use Rattle.vms_seats.specs.Passes.{Pass}
-use Rattle.vms_seats.specs.Steps.{Made}
+use Rattle.vms_calls.specs.Common.{Diffs, CounterId, CpuId, Mode, Mod, Inc, Dec, Shape, place_of, group_of, item_of}
+use Rattle.vms_calls.specs.Common.{own, Exchanges, IsChange, Facts, Step, LoadD, entry, carried_by, carried}
+use Rattle.vms_calls.specs.Common.{carried_of_item, loaded, pages, History}
+use Rattle.vms_seats.specs.Common.{Pass, Made}
 
 -- a change that oversteps upwards adds a page, and one that oversteps downwards takes one
 abbrev pub GoesWith : Mode → ℤ → Type 0

@@ -1,29 +1,20 @@
 -- What the parts of a fold make while others act, and of the sums that are taken for the items.
 use Rattle.std.specs.Prelude.{◌≡◌, ℕ, ◌+◌, ◌<◌, ◌≤◌, nat_eq, Bool, true, false, ℤ, pos, ◌+ℤ◌, List, length, All}
 use Rattle.std.specs.Prelude.{slice_index_or, Option, Some, None, unsigned_abs}
-use Rattle.vms_base.specs.declared.groups.Diffs.{Diffs}
-use Rattle.vms_base.specs.declared.ids.CpuId.{CpuId}
-use Rattle.vms_base.specs.Places.{Shape, counter_at, group_of}
-use Rattle.vms_history.specs.Events.{own}
-use Rattle.vms_calls.specs.Folds.{FoundPlace, HasGroups, IsFold, acknowledges, group_steps, place_steps, lists_of}
-use Rattle.vms_calls.specs.Folds.{taken_of_item}
-use Rattle.vms_calls.specs.Lists.{in_turn}
-use Rattle.vms_core.specs.declared.steps.Facts.{Facts}
-use Rattle.vms_core.specs.declared.steps.Step.{Step}
-use Rattle.vms_core.specs.Own.{carried, carried_of_item, loaded, took, has_put}
-use Rattle.vms_core.specs.Pages.{pages, History}
-use Rattle.vms_seats.specs.Passes.{Pass}
-use Rattle.vms_seats.specs.Steps.{Made}
+use Rattle.vms_calls.specs.Common.{Diffs, CpuId, Shape, counter_at, group_of, own, FoundPlace, HasGroups, IsFold}
+use Rattle.vms_calls.specs.Common.{acknowledges, group_steps, place_steps, lists_of, taken_of_item, in_turn, Facts}
+use Rattle.vms_calls.specs.Common.{Step, carried, carried_of_item, loaded, took, has_put, pages, History}
+use Rattle.vms_seats.specs.Common.{Pass, Made}
 
 -- whether a pass that owns `who` owns this CPU
-abbrev pub owns : Option CpuId → CpuId → Bool
-owns (Some d) c = nat_eq d.number c.number
-owns None c = false
+abbrev pub owns_cpu : Option CpuId → CpuId → Bool
+owns_cpu (Some d) c = nat_eq d.number c.number
+owns_cpu None c = false
 
 -- the pass folded a CPU by the steps of a fold, whatever others did in between; its owner acknowledges
 pub record HasFolded (shape : Shape) (new old : Pass Facts Step) (c : CpuId) : Type 0 where
   pub steps : List Step
-  pub fold : IsFold shape (owns old.cpu c) c steps
+  pub fold : IsFold shape (owns_cpu old.cpu c) c steps
   pub made : Made pages new old steps
 
 -- the pass's own events

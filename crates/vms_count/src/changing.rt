@@ -1,15 +1,7 @@
-ghost use Rattle.std.specs.Prelude.{◌≡◌, ◌+◌, ◌<◌, ◌≤◌, ◌↔◌, List, slice_index_or, slice_set, unsigned_abs};
-ghost use Rattle.std.specs.Prelude.{IsErr, OnOk, OnErr, IfErr, pos, negsuc};
-ghost use Rattle.vms_base.specs.declared.kinds.Mode.TheVariants.{Inc, Dec};
-ghost use Rattle.vms_base.specs.Places.{IsCounter};
-ghost use Rattle.vms_base.specs.Volumes.{most_volume};
-ghost use Rattle.vms_history.specs.Events.{own};
-ghost use Rattle.vms_calls.specs.Changes.{Carries};
-ghost use Rattle.vms_core.specs.declared.steps.Step.{Step};
-ghost use Rattle.vms_core.specs.Own.{CarriesNothing};
-ghost use Rattle.vms_core.specs.Pages.{pages};
-ghost use Rattle.vms_seats.specs.Passes.{IsOf};
-ghost use Rattle.vms_seats.specs.Steps.{Made};
+ghost use Rattle.std.specs.Prelude.{◌≡◌, ◌+◌, ◌<◌, ◌≤◌, ◌↔◌, List, slice_index_or, slice_set, unsigned_abs, IsErr};
+ghost use Rattle.std.specs.Prelude.{OnOk, OnErr, IfErr, pos, negsuc};
+ghost use Rattle.vms_calls.specs.Common.{Inc, Dec, IsCounter, most_volume, own, Carries, Step, CarriesNothing, pages};
+ghost use Rattle.vms_seats.specs.Common.{IsFrom, Made};
 ghost use Rattle.vms_count.specs.Changing.{GoesWith, HasChanged, CarriesFor, HasLoaded, HasExchanged};
 
 use crate::counters::{item_of, place_of};
@@ -29,7 +21,7 @@ pub fn add(
     delta: i64,
     mode: Mode,
 ) -> Result<(), Overflow>
-    requires table { IsOf pass.old.pass table.now }
+    requires table { IsFrom pass.old.pass table.now }
     requires counter { IsCounter table.now.facts.layout counter.number }
     requires mode { GoesWith mode delta }
     requires nothing { CarriesNothing table.now.facts.layout (own pass.old.pass.seen pass.old.pass.number) }
@@ -56,7 +48,7 @@ pub fn add(
 
 #[inline]
 fn change(table: &PageTable, pass: &mut CpuPass, counter: CounterId, delta: i64, mode: Mode)
-    requires table { IsOf pass.old.pass table.now }
+    requires table { IsFrom pass.old.pass table.now }
     requires counter { IsCounter table.now.facts.layout counter.number }
     requires nothing { CarriesNothing table.now.facts.layout (own pass.old.pass.seen pass.old.pass.number) }
     requires room { slice_index_or pass.old.volume counter.number 0 + unsigned_abs delta ≤ most_volume }
@@ -82,7 +74,7 @@ fn exchange(
     delta: i64,
     mode: Mode,
 ) -> i64
-    requires table { IsOf pass.old.pass table.now }
+    requires table { IsFrom pass.old.pass table.now }
     requires counter { IsCounter table.now.facts.layout counter.number }
     requires loaded { HasLoaded table.now.facts.layout pass.old.pass counter threshold }
     requires nothing { CarriesNothing table.now.facts.layout (own pass.old.pass.seen pass.old.pass.number) }
@@ -111,7 +103,7 @@ fn exchange(
 // What the pass carries goes to both global values: no step is made for 0.
 #[inline]
 fn carry(table: &PageTable, pass: &mut CpuPass, counter: CounterId, amount: i64)
-    requires table { IsOf pass.old.pass table.now }
+    requires table { IsFrom pass.old.pass table.now }
     requires counter { IsCounter table.now.facts.layout counter.number }
     requires carries { CarriesFor table.now.facts.layout counter.number amount
         (own pass.old.pass.seen pass.old.pass.number) }
@@ -130,7 +122,7 @@ fn carry(table: &PageTable, pass: &mut CpuPass, counter: CounterId, amount: i64)
 /// oversteps by half a threshold.
 #[inline]
 pub fn inc(table: &PageTable, pass: &mut CpuPass, counter: CounterId) -> Result<(), Overflow>
-    requires table { IsOf pass.old.pass table.now }
+    requires table { IsFrom pass.old.pass table.now }
     requires counter { IsCounter table.now.facts.layout counter.number }
     requires nothing { CarriesNothing table.now.facts.layout (own pass.old.pass.seen pass.old.pass.number) }
     ensures made { OnOk result (HasChanged table.now.facts.layout pass.new.pass pass.old.pass counter (pos 1) Inc) }
@@ -151,7 +143,7 @@ pub fn inc(table: &PageTable, pass: &mut CpuPass, counter: CounterId) -> Result<
 /// oversteps by half a threshold.
 #[inline]
 pub fn dec(table: &PageTable, pass: &mut CpuPass, counter: CounterId) -> Result<(), Overflow>
-    requires table { IsOf pass.old.pass table.now }
+    requires table { IsFrom pass.old.pass table.now }
     requires counter { IsCounter table.now.facts.layout counter.number }
     requires nothing { CarriesNothing table.now.facts.layout (own pass.old.pass.seen pass.old.pass.number) }
     ensures made { OnOk result (HasChanged table.now.facts.layout pass.new.pass pass.old.pass counter (negsuc 0) Dec) }

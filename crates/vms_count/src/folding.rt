@@ -1,15 +1,11 @@
-ghost use Rattle.std.specs.Prelude.{◌≡◌, ℕ, ◌+◌, ◌/◌, ◌≤◌, ◌^◌, ◌+ℤ◌, true, List, [], ◌∷◌, Some};
-ghost use Rattle.std.specs.Prelude.{length, slice_set, unsigned_abs};
-ghost use Rattle.vms_base.specs.declared.groups.Diffs.{Diffs};
-ghost use Rattle.vms_base.specs.Places.{IsCounter, IsCpu, IsGroup, IsItem, IsPlace, counter_at, group_of};
-ghost use Rattle.vms_base.specs.Places.{item_count, item_of};
-ghost use Rattle.vms_calls.specs.Folds.{acknowledges, system_steps, taken_of_item, to_place};
-ghost use Rattle.vms_core.specs.Own.{CarriesNothing, carried, carried_of_item};
-ghost use Rattle.vms_core.specs.Pages.{pages};
-ghost use Rattle.vms_seats.specs.Passes.{IsOf};
-ghost use Rattle.vms_seats.specs.Steps.{Made};
-ghost use Rattle.vms_count.specs.Folding.{owns, mine, sum_at, AreSums, NoneForCounters, HasFolded};
-ghost use Rattle.vms_count.specs.Folding.{FoldsGroups, FoldsPlace, FoldsPlaces};
+ghost use Rattle.std.specs.Prelude.{◌≡◌, ℕ, ◌+◌, ◌/◌, ◌≤◌, ◌^◌, ◌+ℤ◌, true, List, [], ◌∷◌, Some, length, slice_set};
+ghost use Rattle.std.specs.Prelude.{unsigned_abs};
+ghost use Rattle.vms_calls.specs.Common.{Diffs, IsCounter, IsCpu, IsGroup, IsItem, IsPlace, counter_at, group_of};
+ghost use Rattle.vms_calls.specs.Common.{item_count, item_of, acknowledges, system_steps, taken_of_item, to_place};
+ghost use Rattle.vms_calls.specs.Common.{CarriesNothing, carried, carried_of_item, pages};
+ghost use Rattle.vms_seats.specs.Common.{IsFrom, Made};
+ghost use Rattle.vms_count.specs.Folding.{owns_cpu, mine, sum_at, AreSums, NoneForCounters, HasFolded, FoldsGroups};
+ghost use Rattle.vms_count.specs.Folding.{FoldsPlace, FoldsPlaces};
 
 use crate::counters::item_of;
 use vms_base::{CounterId, CpuId, GroupId, ItemId, PlaceId};
@@ -22,7 +18,7 @@ const MOST_ITEMS: usize = 32;
 /// (`cpu_vm_stats_fold` and, by the CPU's owner, `refresh_cpu_vm_stats` of mm/vmstat.c). The owner acknowledges the
 /// threshold of each zone once the zone's differentials are taken, which is not the kernel's.
 pub fn fold<P: Caller>(table: &PageTable, pass: &mut P, cpu: CpuId)
-    requires table { IsOf (P.pass pass.old) table.now }
+    requires table { IsFrom (P.pass pass.old) table.now }
     requires cpu { IsCpu table.now.facts.layout cpu.number }
     requires nothing { CarriesNothing table.now.facts.layout (mine (P.pass pass.old)) }
     ensures folds { HasFolded table.now.facts.layout (P.pass pass.new) (P.pass pass.old) cpu }
@@ -40,7 +36,7 @@ pub fn fold<P: Caller>(table: &PageTable, pass: &mut P, cpu: CpuId)
 /// Whether a pass that owns `who` owns this CPU.
 #[inline]
 fn is_own(who: Option<CpuId>, cpu: CpuId) -> bool
-    ensures { result ≡ owns who cpu }
+    ensures { result ≡ owns_cpu who cpu }
 {
     match who {
         Some(own) => own.number == cpu.number,
@@ -59,7 +55,7 @@ fn fold_place<P: Caller>(
     place: PlaceId,
     sums: &mut [i64; MOST_ITEMS],
 )
-    requires table { IsOf (P.pass pass.old) table.now }
+    requires table { IsFrom (P.pass pass.old) table.now }
     requires cpu { IsCpu table.now.facts.layout cpu.number }
     requires own { own ≡ true → (P.pass pass.old).cpu ≡ Some cpu }
     requires place { IsPlace table.now.facts.layout place.number }
@@ -90,7 +86,7 @@ fn fold_groups<P: Caller>(
     place: PlaceId,
     sums: &mut [i64; MOST_ITEMS],
 )
-    requires table { IsOf (P.pass pass.old) table.now }
+    requires table { IsFrom (P.pass pass.old) table.now }
     requires cpu { IsCpu table.now.facts.layout cpu.number }
     requires place { IsPlace table.now.facts.layout place.number }
     requires none { NoneForCounters (P.pass pass.old) }
@@ -118,7 +114,7 @@ fn fold_group<P: Caller>(
     group: GroupId,
     sums: &mut [i64; MOST_ITEMS],
 )
-    requires table { IsOf (P.pass pass.old) table.now }
+    requires table { IsFrom (P.pass pass.old) table.now }
     requires cpu { IsCpu table.now.facts.layout cpu.number }
     requires group { IsGroup table.now.facts.layout group.number }
     requires none { NoneForCounters (P.pass pass.old) }
@@ -150,7 +146,7 @@ fn add_entry<P: Caller>(
     amount: i64,
     sums: &mut [i64; MOST_ITEMS],
 )
-    requires table { IsOf (P.pass pass.old) table.now }
+    requires table { IsFrom (P.pass pass.old) table.now }
     requires counter { IsCounter table.now.facts.layout counter.number }
     requires carries { carried counter.number (mine (P.pass pass.old)) ≡ amount }
     requires amount { unsigned_abs amount ≤ 128 }
@@ -170,7 +166,7 @@ fn add_entry<P: Caller>(
 /// Adds the sums of the items to the system-wide values: no step is made for 0.
 #[inline]
 fn add_sums<P: Caller>(table: &PageTable, pass: &mut P, sums: &[i64; MOST_ITEMS])
-    requires table { IsOf (P.pass pass.old) table.now }
+    requires table { IsFrom (P.pass pass.old) table.now }
     requires carries { (i : ℕ) → IsItem table.now.facts.layout i →
         carried_of_item table.now.facts.layout i (mine (P.pass pass.old)) ≡ sum_at sums.now i }
     requires sums { AreSums (2 ^ 21) sums.now }

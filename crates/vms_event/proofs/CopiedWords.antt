@@ -1,6 +1,6 @@
 -- A list is written place by place.
-use Rattle.std.proofs.Common.{◌≡◌, ℕ, zero, suc, ◌<◌, ◌+◌, List, [], ◌∷◌, length, set, slice_get, Some}
-use Rattle.std.proofs.Common.{refl, ap, sym, ◌∙◌, arith, length-set, ⊎_elim}
+use Rattle.std.proofs.Common.{◌≡◌, ℕ, zero, suc, ◌<◌, ◌+◌, List, [], ◌∷◌, length, set, slice_get, Some, refl, ap, sym}
+use Rattle.std.proofs.Common.{◌∙◌, arith, length-set, ⊎_elim}
 use Rattle.std.proofs.lemmas.Option.{slice_get_within}
 use Rattle.std.proofs.lemmas.Bool.{cases_lt}
 

@@ -1,26 +1,20 @@
 -- A pass carries nothing between its calls.
-use Rattle.std.proofs.Common.{◌≡◌, ℕ, zero, suc, Bool, true, false, nat_eq, if◌then◌else◌, List, [], ◌∷◌}
-use Rattle.std.proofs.Common.{ℤ, pos, neg_ℤ, ◌+ℤ◌, inl, inr, ap, ◌∙◌, arith}
+use Rattle.std.proofs.Common.{◌≡◌, ℕ, zero, suc, Bool, true, false, nat_eq, if◌then◌else◌, List, [], ◌∷◌, ℤ, pos, neg_ℤ}
+use Rattle.std.proofs.Common.{◌+ℤ◌, inl, inr, ap, ◌∙◌, arith}
 use Rattle.std.proofs.lemmas.Int.{ints}
-use Rattle.vms_base.specs.declared.ids.CpuId.{CpuId}
-use Rattle.vms_history.specs.Events.{own}
-use Rattle.vms_history.proofs.Choices.{zero_or_not}
+use Rattle.vms_history.specs.Common.{CpuId, own}
+use Rattle.vms_history.proofs.Common.{zero_or_not}
 use Rattle.vms_event_core.specs.declared.steps.EventFacts.{EventFacts}
 use Rattle.vms_event_core.specs.declared.steps.EventStep.{EventStep}
-use Rattle.vms_event_core.specs.Calls.{moves}
-use Rattle.vms_event_core.specs.CallLaws.{CarryAsBefore}
-use Rattle.vms_event_core.specs.Events.{events}
-use Rattle.vms_event_core.specs.Own.{carried, CarriesNothing}
-use Rattle.vms_event_core.proofs.AllLaws.{beginnings-kept}
-use Rattle.vms_event.specs.ControlPasses.{IsControl, MovesNothing}
-use Rattle.vms_event.specs.CpuPasses.{IsCpuPass}
-use Rattle.vms_seats.specs.Passes.{Pass}
-use Rattle.vms_seats.specs.Steps.{Made, MadeOne}
-use Rattle.vms_seats.proofs.MadeCalls.{calls-live}
+use Rattle.vms_event_core.specs.Common.{moves, CarryAsBefore, events, carried, CarriesNothing}
+use Rattle.vms_event_core.proofs.Common.{beginnings-kept}
+use Rattle.vms_event.specs.Common.{IsIdleControl, MovesNothing, IsCpuPass}
+use Rattle.vms_seats.specs.Common.{Pass, Made, MadeOne}
+use Rattle.vms_seats.proofs.Common.{calls-live}
 
 -- the control pass, after steps that leave it carrying what it carried before
-control-after : (new old : Pass EventFacts EventStep) (steps : List EventStep) → IsControl old → CarryAsBefore steps
-    → Made events new old steps → IsControl new
+control-after : (new old : Pass EventFacts EventStep) (steps : List EventStep) → IsIdleControl old → CarryAsBefore steps
+    → Made events new old steps → IsIdleControl new
 control-after new old steps control same made = record {
   live = calls-live events new old steps control.live made;
   owns_none = made.cpu ∙ control.owns_none;
@@ -28,8 +22,8 @@ control-after new old steps control same made = record {
       ∙ same old.number k (own old.seen old.number) ∙ control.carries k k_in;
 }
 
-pub control-left : (new old : Pass EventFacts EventStep) (step : EventStep) → IsControl old → MovesNothing step
-    → MadeOne events new old step → IsControl new
+pub control-left : (new old : Pass EventFacts EventStep) (step : EventStep) → IsIdleControl old → MovesNothing step
+    → MadeOne events new old step → IsIdleControl new
 control-left new old step control nothing one =
     control-after new old (step ∷ []) control (λ p k h. omega (arith, ints, nothing k)) one.all
 
@@ -47,8 +41,8 @@ moves-carry from into k (suc v) p l h = by (nat_eq k l) (carried l h)
     by false before = omega (arith, ints)
 
 -- the control pass, after it has moved a word
-pub control-moved : (new old : Pass EventFacts EventStep) (from into : CpuId) (k v : ℕ) → IsControl old
-    → Made events new old (moves from into k v) → IsControl new
+pub control-moved : (new old : Pass EventFacts EventStep) (from into : CpuId) (k v : ℕ) → IsIdleControl old
+    → Made events new old (moves from into k v) → IsIdleControl new
 control-moved new old from into k v control made =
     control-after new old (moves from into k v) control (moves-carry from into k v) made
 

@@ -1,25 +1,16 @@
 -- What a pass that owns a CPU knows of its counts, whatever others do.
-use Rattle.std.proofs.Common.{◌≡◌, ℕ, ◌<◌, ◌≤◌, true, List, [], ◌∷◌, ◌++◌, Option, Some, None, refl, ap, sym}
-use Rattle.std.proofs.Common.{◌∙◌, subst, arith}
-use Rattle.vms_base.specs.declared.ids.CpuId.{CpuId}
-use Rattle.vms_history.specs.Events.{own}
-use Rattle.vms_history.specs.PassSteps.{GoesOnWithout, HasMade}
-use Rattle.vms_history.specs.Passes.{begun_in, lives_in, owner_in, IsFree}
-use Rattle.vms_history.proofs.FreeOwners.{holds_while_free}
-use Rattle.vms_history.proofs.MadeSteps.{made-owner, made-given}
-use Rattle.vms_history.proofs.Own.{own-on_top}
+use Rattle.std.proofs.Common.{◌≡◌, ℕ, ◌<◌, ◌≤◌, true, List, [], ◌∷◌, ◌++◌, Option, Some, None, refl, ap, sym, ◌∙◌}
+use Rattle.std.proofs.Common.{subst, arith}
+use Rattle.vms_history.specs.Common.{CpuId, own, GoesOnWithout, HasMade, begun_in, lives_in, owner_in, IsFree}
+use Rattle.vms_history.proofs.Common.{holds_while_free, made-owner, made-given, own-on_top}
 use Rattle.vms_event_core.specs.declared.steps.EventFacts.{EventFacts}
 use Rattle.vms_event_core.specs.declared.steps.EventStep.{EventStep}
 use Rattle.vms_event_core.specs.declared.steps.EventStep.TheVariants.{Split}
-use Rattle.vms_event_core.specs.Events.{events, History, IsLegal}
-use Rattle.vms_event_core.specs.Steps.{role}
-use Rattle.vms_event_core.specs.Totals.{spent, spent_by}
-use Rattle.vms_event_core.proofs.Spending.{spending-known, spent_by-others}
-use Rattle.vms_event.specs.CpuPasses.{Covers, IsCpuPass, SpendsNothing}
-use Rattle.vms_seats.specs.MainSteps.{HasBegun, next_number}
-use Rattle.vms_seats.specs.Passes.{Pass}
-use Rattle.vms_seats.specs.Steps.{MadeOne}
-use Rattle.vms_seats.proofs.MadeCalls.{calls-live}
+use Rattle.vms_event_core.specs.Common.{events, History, IsLegal, role, spent, spent_by}
+use Rattle.vms_event_core.proofs.Common.{spending-known, spent_by-others}
+use Rattle.vms_event.specs.Common.{HoldsSpending, IsCpuPass, SpendsNothing}
+use Rattle.vms_seats.specs.Common.{HasBegun, next_number, Pass, MadeOne}
+use Rattle.vms_seats.proofs.Common.{calls-live}
 
 module _ (pass : Pass EventFacts EventStep) (h : History)
     (goes : GoesOnWithout events pass.facts h pass.seen pass.number) where
@@ -66,7 +57,7 @@ split-spends_nothing None who q c k = refl
 -- a pass that begins, where the volumes cover what its CPU has counted so far
 pub begun-covers : (new old pass : Pass EventFacts EventStep) (cpu : CpuId) (volume : List ℕ)
     → HasBegun events Split new old pass (Some cpu) → IsFree role old.seen (Some cpu)
-    → Covers old.seen cpu.number volume → IsCpuPass pass cpu volume
+    → HoldsSpending old.seen cpu.number volume → IsCpuPass pass cpu volume
 begun-covers new old pass cpu volume begun free covers = record {
   live = begun.live;
   owns = begun.cpu;

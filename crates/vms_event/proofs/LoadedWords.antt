@@ -1,35 +1,25 @@
 -- A pass may load any word, and what its loads of one event found.
 use Rattle.std.proofs.Common.{◌≡◌, ℕ, zero, suc, ◌<◌, ◌≤◌, ◌+◌, ◌^◌, true, false, List, [], ◌∷◌, ◌++◌, length, drop}
-use Rattle.std.proofs.Common.{replicate, get_or}
-use Rattle.std.proofs.Common.{Option, Some, None, slice_set, refl, ap, sym, ◌∙◌, subst, arith}
+use Rattle.std.proofs.Common.{replicate, get_or, Option, Some, None, slice_set, refl, ap, sym, ◌∙◌, subst, arith}
 use Rattle.std.proofs.Common.{append_assoc, append-nil, length-append}
 use Rattle.std.specs.Prelude.{sum}
 use Rattle.std.proofs.lemmas.List.{set-get_or, drop_more, drop_all, length-replicate}
 use Rattle.std.proofs.lemmas.List.Sums.{sum_by-cons, sum_by-append}
 use Rattle.std.proofs.lemmas.Nat.{mul-add-lt}
-use Rattle.vms_base.specs.declared.ids.CpuId.{CpuId}
-use Rattle.vms_base.specs.declared.ids.EventId.{EventId}
-use Rattle.vms_base.specs.declared.kinds.CpuState.{CpuState}
-use Rattle.vms_base.specs.declared.kinds.CpuState.TheVariants.{Online, Dead, Absent}
-use Rattle.vms_base.specs.Cpus.{is_online, online_from}
-use Rattle.vms_base.specs.Places.{cell, IsCpu}
+use Rattle.vms_history.specs.Common.{CpuId, EventId, CpuState, Online, Dead, Absent, is_online, online_from, cell}
+use Rattle.vms_history.specs.Common.{IsCpu, owner_in}
 use Rattle.vms_history.specs.declared.events.Event.{Event}
-use Rattle.vms_history.specs.Passes.{owner_in}
 use Rattle.vms_event_core.specs.declared.states.EventState.{EventState}
 use Rattle.vms_event_core.specs.declared.steps.EventFacts.{EventFacts}
 use Rattle.vms_event_core.specs.declared.steps.EventStep.{EventStep}
 use Rattle.vms_event_core.specs.declared.steps.EventStep.TheVariants.{LoadE}
-use Rattle.vms_event_core.specs.Bases.{cpu_at}
-use Rattle.vms_event_core.specs.Calls.{AtMostStands, IsAllEvents, loads, online_cpus}
-use Rattle.vms_event_core.specs.Events.{events, History, IsLegal, state_after}
-use Rattle.vms_event_core.specs.Steps.{role, effect}
-use Rattle.vms_event_core.specs.Words.{IsEvent, event_count, word_at}
-use Rattle.vms_event_core.proofs.AllLaws.{beginnings-kept}
-use Rattle.vms_event_core.proofs.OnlineCpus.{words-grow, all_events-most}
-use Rattle.vms_event.specs.SharedWords.{shown, AreFor}
-use Rattle.vms_seats.specs.Passes.{Pass, Shared, IsLive}
-use Rattle.vms_seats.specs.Steps.{Made, MadeOne, MayStep}
-use Rattle.vms_seats.proofs.MadeCalls.{calls-none, calls-next}
+use Rattle.vms_event_core.specs.Common.{cpu_at, AtMostStands, IsAllEvents, loads, online_cpus, events, History, IsLegal}
+use Rattle.vms_event_core.specs.Common.{state_after, role, effect, IsEvent, event_count, word_at}
+use Rattle.vms_event_core.proofs.Common.{beginnings-kept, words-grow, all_events-most}
+use Rattle.vms_event.specs.SharedWords.{shown}
+use Rattle.vms_event.specs.Common.{AreMadeFor}
+use Rattle.vms_seats.specs.Common.{Pass, Shared, IsLive, Made, MadeOne, MayStep}
+use Rattle.vms_seats.proofs.Common.{calls-none, calls-next}
 use Rattle.vms_event.proofs.KnownSpending.{given}
 
 load-leaves : (facts : EventFacts) (who : Option CpuId) (c : CpuId) (k : EventId) (v : ℕ) (s : EventState)
@@ -58,7 +48,7 @@ load-may pass facts same c k c_in k_in h found goes small stands =
           ∙ ap (slice_set s.words (cell event_count c.number k.number)) stands;
     }
 
-pub load-place : (facts : EventFacts) (words : Shared EventFacts) → AreFor facts words → (c : CpuId) (k : EventId)
+pub load-place : (facts : EventFacts) (words : Shared EventFacts) → AreMadeFor facts words → (c : CpuId) (k : EventId)
     → IsCpu words.facts.layout c.number → IsEvent k.number → cell event_count c.number k.number < words.table.words
 load-place facts words for c k c_in k_in =
     let known : c.number < facts.layout.cpus = subst (λ (f : EventFacts). IsCpu f.layout c.number) for.same c_in in

@@ -1,32 +1,22 @@
 -- The control pass may move the words of a dead CPU, and what its moves of all events make.
-use Rattle.std.proofs.Common.{◌≡◌, ◌≢◌, ℕ, zero, suc, ◌+◌, ◌<◌, ◌%◌, ◌^◌, List, [], ◌∷◌, ◌++◌, length}
-use Rattle.std.proofs.Common.{None, slice_set, pos, nat_eq, if◌then◌else◌, true, inl, inr, refl, ap, sym, ◌∙◌}
-use Rattle.std.proofs.Common.{subst, arith, eq-eqb, append-nil, append_assoc, length-append}
+use Rattle.std.proofs.Common.{◌≡◌, ◌≢◌, ℕ, zero, suc, ◌+◌, ◌<◌, ◌%◌, ◌^◌, List, [], ◌∷◌, ◌++◌, length, None, slice_set}
+use Rattle.std.proofs.Common.{pos, nat_eq, if◌then◌else◌, true, inl, inr, refl, ap, sym, ◌∙◌, subst, arith, eq-eqb}
+use Rattle.std.proofs.Common.{append-nil, append_assoc, length-append}
 use Rattle.std.proofs.lemmas.Bool.{cases_lt}
 use Rattle.std.proofs.lemmas.Int.{ints}
 use Rattle.std.proofs.lemmas.List.{get_or_past}
-use Rattle.vms_base.specs.declared.ids.CpuId.{CpuId}
-use Rattle.vms_base.specs.declared.ids.EventId.{EventId}
-use Rattle.vms_base.specs.declared.kinds.CpuState.TheVariants.{Dead, Absent}
-use Rattle.vms_base.specs.Places.{cell, IsCpu}
-use Rattle.vms_history.specs.Events.{own}
-use Rattle.vms_history.specs.Passes.{owner_in}
-use Rattle.vms_history.proofs.Prefixes.{base_can_begin}
+use Rattle.vms_history.specs.Common.{CpuId, EventId, Dead, Absent, cell, IsCpu, own, owner_in}
+use Rattle.vms_history.proofs.Common.{base_can_begin}
 use Rattle.vms_event_core.specs.declared.steps.EventFacts.{EventFacts}
 use Rattle.vms_event_core.specs.declared.steps.EventStep.{EventStep}
 use Rattle.vms_event_core.specs.declared.steps.EventStep.TheVariants.{TakeE, AddF}
-use Rattle.vms_event_core.specs.Bases.{IsBase, cpu_at, IsLowestOnline}
-use Rattle.vms_event_core.specs.Calls.{moves, folds}
-use Rattle.vms_event_core.specs.Events.{events, state_after}
-use Rattle.vms_event_core.specs.Own.{carried}
-use Rattle.vms_event_core.specs.Steps.{role, effect}
-use Rattle.vms_event_core.specs.Words.{IsEvent, event_count}
-use Rattle.vms_event_core.proofs.AllLaws.{beginnings-kept}
-use Rattle.vms_event.specs.ControlPasses.{IsControl}
+use Rattle.vms_event_core.specs.Common.{IsBase, cpu_at, IsLowestOnline, moves, folds, events, state_after, carried}
+use Rattle.vms_event_core.specs.Common.{role, effect, IsEvent, event_count}
+use Rattle.vms_event_core.proofs.Common.{beginnings-kept}
+use Rattle.vms_event.specs.Common.{IsIdleControl}
 use Rattle.vms_event.specs.SharedWords.{shown}
-use Rattle.vms_seats.specs.Passes.{Pass, IsLive}
-use Rattle.vms_seats.specs.Steps.{Made, MadeOne, MayStep}
-use Rattle.vms_seats.proofs.MadeCalls.{calls-none, calls-next, calls-both, calls-live}
+use Rattle.vms_seats.specs.Common.{Pass, IsLive, Made, MadeOne, MayStep}
+use Rattle.vms_seats.proofs.Common.{calls-none, calls-next, calls-both, calls-live}
 use Rattle.vms_event.proofs.KnownSpending.{given, owner-same}
 use Rattle.vms_event.proofs.OwnCounts.{unwrapped}
 
@@ -38,7 +28,7 @@ present-is_cpu facts base c present = elim (cases_lt c (length facts.cpus)) [
 ]
 
 -- the control pass may take a word of a dead CPU
-pub take-may : (pass : Pass EventFacts EventStep) → IsControl pass → (from : CpuId) (k : EventId)
+pub take-may : (pass : Pass EventFacts EventStep) → IsIdleControl pass → (from : CpuId) (k : EventId)
     → cpu_at pass.facts from.number ≡ Dead → IsEvent k.number
     → MayStep events shown pass (cell event_count from.number k.number) (λ n. 0) (λ found. TakeE from k found)
 take-may pass control from k dead k_in h found goes small stands =
@@ -70,7 +60,7 @@ pub record Carries (pass : Pass EventFacts EventStep) (k v : ℕ) : Type 0 where
   pub owns_none : pass.cpu ≡ None
   pub amount : carried k (own pass.seen pass.number) ≡ pos v
 
-pub taken-carries : (new old : Pass EventFacts EventStep) (from : CpuId) (k : EventId) (v : ℕ) → IsControl old
+pub taken-carries : (new old : Pass EventFacts EventStep) (from : CpuId) (k : EventId) (v : ℕ) → IsIdleControl old
     → IsEvent k.number → MadeOne events new old (TakeE from k v) → Carries new k.number v
 taken-carries new old from k v control k_in one = record {
   live = calls-live events new old (TakeE from k v ∷ []) control.live one.all;
@@ -138,7 +128,7 @@ pub record FoldedSoFar (from into : CpuId) (now old : Pass EventFacts EventStep)
   pub one_each : length found ≡ n
   pub made : Made events now old (folds from into 0 found)
 
-pub folded-none : (from into : CpuId) (pass : Pass EventFacts EventStep) → IsControl pass
+pub folded-none : (from into : CpuId) (pass : Pass EventFacts EventStep) → IsIdleControl pass
     → FoldedSoFar from into pass pass 0
 folded-none from into pass control =
     record { found = []; one_each = refl; made = calls-none events pass control.live }

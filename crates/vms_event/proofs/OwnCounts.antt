@@ -1,29 +1,20 @@
 -- A pass may count on its own CPU, and its volumes cover what it has counted.
 use Rattle.std.proofs.Common.{◌≡◌, ℕ, ◌<◌, ◌≤◌, ◌+◌, ◌%◌, ◌^◌, Bool, true, false, nat_eq, ◌&&◌, List, [], ◌∷◌, length}
 use Rattle.std.proofs.Common.{slice_index, slice_set, Some, if◌then◌else◌, refl, ap, sym, ◌∙◌, subst, arith, eq-eqb}
-use Rattle.std.proofs.Common.{eqb-true}
-use Rattle.std.proofs.Common.{get_or-set_same, get_or-set_other, length-set}
+use Rattle.std.proofs.Common.{eqb-true, get_or-set_same, get_or-set_other, length-set}
 use Rattle.std.proofs.lemmas.Bool.{eqb-false}
 use Rattle.std.proofs.lemmas.Nat.{mod-mul-add, mul-add-lt}
-use Rattle.vms_base.specs.declared.ids.CpuId.{CpuId}
-use Rattle.vms_base.specs.declared.ids.EventId.{EventId}
-use Rattle.vms_base.specs.Places.{cell}
-use Rattle.vms_base.specs.Volumes.{most_volume}
-use Rattle.vms_history.specs.Passes.{owner_in}
+use Rattle.vms_history.specs.Common.{CpuId, EventId, cell, most_volume, owner_in}
 use Rattle.vms_event_core.specs.declared.steps.EventFacts.{EventFacts}
 use Rattle.vms_event_core.specs.declared.steps.EventStep.{EventStep}
 use Rattle.vms_event_core.specs.declared.steps.EventStep.TheVariants.{AddE}
-use Rattle.vms_event_core.specs.Events.{events, History, state_after}
-use Rattle.vms_event_core.specs.Steps.{role, effect}
-use Rattle.vms_event_core.specs.Totals.{spent, spent_by}
-use Rattle.vms_event_core.specs.Words.{IsEvent, event_count}
-use Rattle.vms_event_core.proofs.AllLaws.{beginnings-kept}
-use Rattle.vms_event_core.proofs.StateWords.{owner_known}
-use Rattle.vms_event.specs.CpuPasses.{IsCpuPass}
-use Rattle.vms_event.specs.SharedWords.{shown, AreFor}
-use Rattle.vms_seats.specs.Passes.{Pass, Shared, IsOf}
-use Rattle.vms_seats.specs.Steps.{MadeOne, MayStep}
-use Rattle.vms_seats.proofs.MadeCalls.{calls-live}
+use Rattle.vms_event_core.specs.Common.{events, History, state_after, role, effect, spent, spent_by, IsEvent}
+use Rattle.vms_event_core.specs.Common.{event_count}
+use Rattle.vms_event_core.proofs.Common.{beginnings-kept, owner_known}
+use Rattle.vms_event.specs.Common.{IsCpuPass, AreMadeFor}
+use Rattle.vms_event.specs.SharedWords.{shown}
+use Rattle.vms_seats.specs.Common.{Pass, Shared, IsFrom, MadeOne, MayStep}
+use Rattle.vms_seats.proofs.Common.{calls-live}
 use Rattle.vms_event.proofs.KnownSpending.{given, owner-same, spent-same}
 
 -- a number below 2^64 is not wrapped
@@ -67,7 +58,7 @@ module _ (pass : Pass EventFacts EventStep) (cpu : CpuId) (volume : List ℕ) (m
       }
 
   -- the word that the pass counts in is one of the table's
-  pub own-place : (facts : EventFacts) (words : Shared EventFacts) → AreFor facts words → IsOf pass words
+  pub own-place : (facts : EventFacts) (words : Shared EventFacts) → AreMadeFor facts words → IsFrom pass words
       → place < words.table.words
   own-place facts words for of =
       let known : cpu.number < facts.layout.cpus = subst (λ (f : EventFacts). cpu.number < f.layout.cpus)

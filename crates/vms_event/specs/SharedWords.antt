@@ -1,14 +1,12 @@
 -- How shared words show the event counters.
 use Rattle.std.specs.Prelude.{◌≡◌, ℕ, List, [], length, Option, refl}
-use Rattle.vms_base.specs.declared.ids.CpuId.{CpuId}
-use Rattle.vms_history.specs.Passes.Role.{Begins, Ends}
+use Rattle.vms_history.specs.Common.{CpuId, Begins, Ends}
 use Rattle.vms_event_core.specs.declared.states.EventState.{EventState}
 use Rattle.vms_event_core.specs.declared.steps.EventFacts.{EventFacts}
 use Rattle.vms_event_core.specs.declared.steps.EventStep.{EventStep}
 use Rattle.vms_event_core.specs.declared.steps.EventStep.TheVariants.{LoadE, TakeE, Split, Join}
-use Rattle.vms_event_core.specs.Bases.{IsBase}
-use Rattle.vms_event_core.specs.Steps.{role}
-use Rattle.vms_seats.specs.Passes.{Shared}
+use Rattle.vms_event_core.specs.Common.{IsBase, role}
+use Rattle.vms_seats.specs.Common.{Shared}
 
 -- each word stands for itself
 abbrev pub shown : EventFacts → EventState → List ℕ
@@ -35,7 +33,7 @@ no_facts = record {
 }
 
 -- the words were made for these facts, and there is one for each CPU and event
-pub record AreFor (facts : EventFacts) (words : Shared EventFacts) : Type 0 where
+pub record AreMadeFor (facts : EventFacts) (words : Shared EventFacts) : Type 0 where
   pub base : IsBase facts
   pub same : words.facts ≡ facts
   pub count : words.table.words ≡ length facts.base.words

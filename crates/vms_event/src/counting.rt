@@ -1,12 +1,9 @@
-ghost use Rattle.std.specs.Prelude.{◌≡◌, ◌+◌, ◌<◌, ◌≤◌, ◌↔◌, [], ◌∷◌, slice_index, slice_set};
-ghost use Rattle.std.specs.Prelude.{IsErr, OnOk, OnErr, IfErr};
-ghost use Rattle.vms_base.specs.Volumes.{most_volume};
+ghost use Rattle.std.specs.Prelude.{◌≡◌, ◌+◌, ◌<◌, ◌≤◌, ◌↔◌, [], ◌∷◌, slice_index, slice_set, IsErr, OnOk, OnErr};
+ghost use Rattle.std.specs.Prelude.{IfErr};
+ghost use Rattle.vms_history.specs.Common.{most_volume, cell};
 ghost use Rattle.vms_event_core.specs.declared.steps.EventStep.TheVariants.{AddE};
-ghost use Rattle.vms_event_core.specs.Events.{events};
-ghost use Rattle.vms_event_core.specs.Words.{IsEvent, event_count};
-ghost use Rattle.vms_base.specs.Places.{cell};
-ghost use Rattle.vms_seats.specs.Passes.{IsOf};
-ghost use Rattle.vms_seats.specs.Steps.{Made};
+ghost use Rattle.vms_event_core.specs.Common.{events, IsEvent, event_count};
+ghost use Rattle.vms_seats.specs.Common.{IsFrom, Made};
 
 use crate::passes::EventPass;
 use crate::tables::EventTable;
@@ -31,7 +28,7 @@ pub(crate) fn place(cpu: CpuId, event: EventId) -> usize
 impl EventTable {
     /// Counts an event `n` times on the pass's CPU (`count_vm_events` of include/linux/vmstat.h).
     pub fn count(&self, pass: &mut EventPass, event: EventId, n: u64) -> Result<(), Overflow>
-        requires table { IsOf pass.old.pass self.now }
+        requires table { IsFrom pass.old.pass self.now }
         requires event { IsEvent event.number }
         ensures made { OnOk result (Made events pass.new.pass pass.old.pass (AddE event n ∷ [])) }
         ensures volume { OnOk result (pass.new.volume ≡ slice_set pass.old.volume event.number
@@ -61,8 +58,8 @@ impl EventPass {
     }
 
     #[inline]
-    fn add(&mut self, table: &EventTable, event: EventId, n: u64)
-        requires table { IsOf self.old.pass table.now }
+    pub(crate) fn add(&mut self, table: &EventTable, event: EventId, n: u64)
+        requires table { IsFrom self.old.pass table.now }
         requires event { IsEvent event.number }
         requires room { slice_index self.old.volume event.number + n ≤ most_volume }
         ensures made { Made events self.new.pass self.old.pass (AddE event n ∷ []) }

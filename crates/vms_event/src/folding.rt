@@ -1,14 +1,9 @@
 ghost use Rattle.std.specs.Prelude.{◌≡◌, ◌≢◌, ℕ, ◌<◌, ◌^◌, List, length};
-ghost use Rattle.vms_base.specs.declared.kinds.CpuState.TheVariants.{Online, Dead};
-ghost use Rattle.vms_base.specs.Cpus.{state_at};
+ghost use Rattle.vms_history.specs.Common.{Online, Dead, state_at};
 ghost use Rattle.vms_event_core.specs.declared.steps.EventStep.{EventStep};
-ghost use Rattle.vms_event_core.specs.Bases.{cpu_at, IsLowestOnline};
-ghost use Rattle.vms_event_core.specs.Calls.{IsFoldEvents, moves};
-ghost use Rattle.vms_event_core.specs.Events.{events};
-ghost use Rattle.vms_event_core.specs.Words.{IsEvent};
-ghost use Rattle.vms_event.specs.FoldedCpus.{HasFolded};
-ghost use Rattle.vms_seats.specs.Passes.{IsOf};
-ghost use Rattle.vms_seats.specs.Steps.{Made};
+ghost use Rattle.vms_event_core.specs.Common.{cpu_at, IsLowestOnline, IsFoldEvents, moves, events, IsEvent};
+ghost use Rattle.vms_event.specs.FoldedCpus.{HasFoldedDead};
+ghost use Rattle.vms_seats.specs.Common.{IsFrom, Made};
 
 use crate::counting::{EVENTS, place};
 use crate::passes::EventControl;
@@ -24,12 +19,12 @@ impl EventTable {
     /// in one step; the step that adds what was found follows, unless that is 0. When it returns, each word has moved
     /// once, whoever else folded the CPU, and no count is left.
     pub fn fold_events(&self, pass: &mut EventControl, dead: CpuId)
-        requires table { IsOf pass.old self.now }
+        requires table { IsFrom pass.old self.now }
         requires dead { cpu_at self.now.facts dead.number ≡ Dead }
         ensures made { (into : CpuId) × (found : List ℕ) × (steps : List EventStep)
             × IsLowestOnline self.now.facts into.number × IsFoldEvents dead into found steps
             × Made events pass.new pass.old steps }
-        ensures folded { HasFolded pass.new dead }
+        ensures folded { HasFoldedDead pass.new dead }
     {
         pass.is_control();
         let into = self.lowest_online();
@@ -50,7 +45,7 @@ impl EventTable {
 impl EventControl {
     /// Moves one word, and tells what was found in it.
     fn move_word(&mut self, table: &EventTable, from: CpuId, into: CpuId, event: EventId) -> u64
-        requires table { IsOf self.old table.now }
+        requires table { IsFrom self.old table.now }
         requires from { cpu_at table.now.facts from.number ≡ Dead }
         requires into { IsLowestOnline table.now.facts into.number }
         requires event { IsEvent event.number }

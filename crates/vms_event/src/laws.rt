@@ -1,9 +1,8 @@
 ghost use Rattle.vms_event_core.specs.declared.steps.EventFacts.{EventFacts};
 ghost use Rattle.vms_event_core.specs.declared.steps.EventStep.{EventStep};
-ghost use Rattle.vms_event_core.specs.Events.{History, IsLegal};
-ghost use Rattle.vms_event_core.specs.Laws.{KeepsLaws};
-ghost use Rattle.vms_history.specs.Events.{Extends};
-ghost use Rattle.vms_seats.specs.Passes.{Pass};
+ghost use Rattle.vms_event_core.specs.Common.{History, IsLegal, KeepsLaws};
+ghost use Rattle.vms_history.specs.Common.{Extends};
+ghost use Rattle.vms_seats.specs.Common.{Pass};
 
 use crate::passes::{EventCaller, EventControl, EventPass};
 use crate::tables::EventMain;

@@ -2,6 +2,7 @@
 //! threads do meanwhile.
 #![tactic(auto)]
 
+mod calls;
 mod counting;
 mod folding;
 mod laws;

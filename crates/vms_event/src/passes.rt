@@ -1,16 +1,11 @@
 ghost use Rattle.std.specs.Prelude.{◌≡◌, ℕ, ◌<◌, List, [], Some, None, refl};
-ghost use Rattle.vms_base.specs.declared.ids.CpuId.{CpuId};
-ghost use Rattle.vms_base.specs.declared.ids.EventId.{EventId};
+ghost use Rattle.vms_history.specs.Common.{CpuId, EventId, IsFree};
 ghost use Rattle.vms_event_core.specs.declared.steps.EventStep.TheVariants.{LoadE, Split, Join};
-ghost use Rattle.vms_event_core.specs.Events.{events, MayOwn};
-ghost use Rattle.vms_event_core.specs.Steps.{role};
-ghost use Rattle.vms_event.specs.ControlPasses.{IsControl};
-ghost use Rattle.vms_event.specs.CpuPasses.{Covers, SpendsNothing};
+ghost use Rattle.vms_event_core.specs.Common.{events, MayOwn, role};
+ghost use Rattle.vms_event.specs.ControlPasses.{IsIdleControl};
+ghost use Rattle.vms_event.specs.CpuPasses.{HoldsSpending, SpendsNothing};
 ghost use Rattle.vms_event.specs.SharedWords.{shown, told};
-ghost use Rattle.vms_history.specs.Passes.{IsFree};
-ghost use Rattle.vms_seats.specs.MainSteps.{HasBegun, HasEnded};
-ghost use Rattle.vms_seats.specs.Passes.{IsLive, IsOf};
-ghost use Rattle.vms_seats.specs.Steps.{MayStep, MadeOne};
+ghost use Rattle.vms_seats.specs.Common.{HasBegun, HasEnded, IsLive, IsFrom, MayStep, MadeOne};
 
 use crate::tables::{EventMain, EventTable, SharedEvents};
 use std::marker::Model;
@@ -45,20 +40,20 @@ pub struct EventControl {
 impl Model for EventControl {
     ghost use Rattle.vms_event_core.specs.declared.steps.EventFacts.{EventFacts};
     ghost use Rattle.vms_event_core.specs.declared.steps.EventStep.{EventStep};
-    ghost use Rattle.vms_event.specs.ControlPasses.{IsControl};
-    ghost use Rattle.vms_seats.specs.Passes.{Pass};
+    ghost use Rattle.vms_event.specs.ControlPasses.{IsIdleControl};
+    ghost use Rattle.vms_seats.specs.Common.{Pass};
 
     ghost Value = { Pass EventFacts EventStep };
 
     ghost view = { λ p. p.worker };
 
-    ghost invariant = { λ p. IsControl p.worker };
+    ghost invariant = { λ p. IsIdleControl p.worker };
 }
 
 impl EventControl {
     /// What holds of a control pass at any time.
     pub fn is_control(&self)
-        ensures { IsControl self.now }
+        ensures { IsIdleControl self.now }
     {
         let _ = &self.worker;
     }
@@ -67,10 +62,10 @@ impl EventControl {
 impl EventTable {
     /// Begins a pass that owns a CPU, with the volumes that the CPU has by then.
     pub fn cpu_pass(&self, main: &mut EventMain, cpu: CpuId, volume: Volume) -> EventPass
-        requires table { IsOf main.old self.now }
+        requires table { IsFrom main.old self.now }
         requires online { MayOwn main.old.facts (Some cpu) }
         requires free { IsFree role main.old.seen (Some cpu) }
-        requires volume { Covers main.old.seen cpu.number volume }
+        requires volume { HoldsSpending main.old.seen cpu.number volume }
         ensures begun { HasBegun events Split main.new main.old result.pass (Some cpu) }
         ensures volume { result.volume ≡ volume }
     {
@@ -84,7 +79,7 @@ impl EventTable {
 
     /// Begins the control pass.
     pub fn control_pass(&self, main: &mut EventMain) -> EventControl
-        requires table { IsOf main.old self.now }
+        requires table { IsFrom main.old self.now }
         requires free { IsFree role main.old.seen None }
         ensures begun { HasBegun events Split main.new main.old result None }
     {
@@ -94,7 +89,7 @@ impl EventTable {
 
     /// Ends a pass that owns a CPU, and gives the CPU's volumes back.
     pub fn join_cpu(&self, main: &mut EventMain, pass: EventPass) -> Volume
-        requires table { IsOf main.old self.now × IsOf pass.pass self.now }
+        requires table { IsFrom main.old self.now × IsFrom pass.pass self.now }
         ensures ended { HasEnded events Join main.new main.old pass.pass }
         ensures volume { result ≡ pass.volume }
     {
@@ -109,7 +104,7 @@ impl EventTable {
 
     /// Ends the control pass.
     pub fn join_control(&self, main: &mut EventMain, pass: EventControl)
-        requires table { IsOf main.old self.now × IsOf pass self.now }
+        requires table { IsFrom main.old self.now × IsFrom pass self.now }
         ensures ended { HasEnded events Join main.new main.old pass }
     {
         let EventControl { worker } = pass;
@@ -129,7 +124,7 @@ pub trait EventCaller: Works<SharedEvents> {
 
     /// Loads a word, and leaves the volumes.
     fn load(&mut self, words: &Words<SharedEvents>, place: usize, plan: &EventStep) -> u64
-        requires words { IsOf (Self.pass self.old) words.now }
+        requires words { IsFrom (Self.pass self.old) words.now }
         requires place { place < words.now.table.words }
         requires step { MayStep events shown (Self.pass self.old) place (λ n. n) (told plan.now) }
         requires leaves { (n : ℕ) → Self.Works.Leaves (told plan.now n) }

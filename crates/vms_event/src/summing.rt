@@ -1,13 +1,9 @@
 ghost use Rattle.std.specs.Prelude.{◌≡◌, ℕ, List};
-ghost use Rattle.vms_base.specs.Cpus.{is_online as tells_online};
-ghost use Rattle.vms_base.specs.Places.{IsCpu};
+ghost use Rattle.vms_history.specs.Common.{is_online as tells_online, IsCpu};
 ghost use Rattle.vms_event_core.specs.declared.steps.EventStep.{EventStep};
 ghost use Rattle.vms_event_core.specs.declared.steps.EventStep.TheVariants.{LoadE};
-ghost use Rattle.vms_event_core.specs.Calls.{IsAllEvents, online_cpus};
-ghost use Rattle.vms_event_core.specs.Events.{events};
-ghost use Rattle.vms_event_core.specs.Words.{IsEvent};
-ghost use Rattle.vms_seats.specs.Passes.{IsOf};
-ghost use Rattle.vms_seats.specs.Steps.{Made, MadeOne};
+ghost use Rattle.vms_event_core.specs.Common.{IsAllEvents, online_cpus, events, IsEvent};
+ghost use Rattle.vms_seats.specs.Common.{IsFrom, Made, MadeOne};
 
 use crate::counting::place;
 use crate::passes::EventCaller;
@@ -19,7 +15,7 @@ impl EventTable {
     /// What the CPUs that are online have counted of an event (`all_vm_events` of mm/vmstat.c), each word as it is when
     /// it is loaded.
     pub fn all_events<P: EventCaller>(&self, pass: &mut P, event: EventId) -> u64
-        requires table { IsOf (P.pass pass.old) self.now }
+        requires table { IsFrom (P.pass pass.old) self.now }
         requires event { IsEvent event.number }
         ensures made { (found : List ℕ) × (steps : List EventStep)
             × IsAllEvents (online_cpus self.now.facts) event found steps result
@@ -41,7 +37,7 @@ impl EventTable {
 
     #[inline]
     fn load_word<P: EventCaller>(&self, pass: &mut P, cpu: CpuId, event: EventId) -> u64
-        requires table { IsOf (P.pass pass.old) self.now }
+        requires table { IsFrom (P.pass pass.old) self.now }
         requires cpu { IsCpu self.now.facts.layout cpu.number }
         requires event { IsEvent event.number }
         ensures made { MadeOne events (P.pass pass.new) (P.pass pass.old) (LoadE cpu event result) }

@@ -1,9 +1,7 @@
 ghost use Rattle.std.specs.Prelude.{◌≡◌, ℕ, false, [], length, IfOk};
-ghost use Rattle.vms_event_core.specs.Bases.{IsBase};
-ghost use Rattle.vms_event_core.specs.Events.{state_after};
-ghost use Rattle.vms_event_core.specs.Steps.{role};
-ghost use Rattle.vms_history.specs.Passes.{lives_in};
-ghost use Rattle.vms_seats.specs.Passes.{IsOf};
+ghost use Rattle.vms_event_core.specs.Common.{IsBase, state_after, role};
+ghost use Rattle.vms_history.specs.Common.{lives_in};
+ghost use Rattle.vms_seats.specs.Common.{IsFrom};
 
 use std::alloc::Global;
 use std::marker::Model;
@@ -18,8 +16,7 @@ pub struct SharedEvents;
 impl Ledger for SharedEvents {
     ghost use Rattle.vms_event_core.specs.declared.states.EventState.{EventState};
     ghost use Rattle.vms_event_core.specs.declared.steps.EventStep.TheVariants.{Split, Join};
-    ghost use Rattle.vms_event_core.specs.Events.{events};
-    ghost use Rattle.vms_event_core.specs.Quiet.{quiet_events};
+    ghost use Rattle.vms_event_core.specs.Common.{events, quiet_events};
     ghost use Rattle.vms_event.specs.SharedWords.{shown, told, begins_it, ends_it, no_facts};
 
     type Facts = EventFacts;
@@ -63,15 +60,15 @@ pub struct EventTable {
 
 impl Model for EventTable {
     ghost use Rattle.vms_event_core.specs.declared.steps.EventFacts.{EventFacts};
-    ghost use Rattle.vms_seats.specs.Passes.{Shared};
+    ghost use Rattle.vms_seats.specs.Common.{Shared};
 
     ghost Value = { Shared EventFacts };
 
-    ghost use Rattle.vms_event.specs.SharedWords.{AreFor};
+    ghost use Rattle.vms_event.specs.SharedWords.{AreMadeFor};
 
     ghost view = { λ t. t.words };
 
-    ghost invariant = { λ t. AreFor t.facts t.words };
+    ghost invariant = { λ t. AreMadeFor t.facts t.words };
 }
 
 impl EventTable {
@@ -86,7 +83,7 @@ impl EventTable {
         requires { IsBase (record { layout = layout.now; cpus = cpus.now; base = base.now }) }
         ensures table { IfOk result (λ made. made.0.facts
             ≡ record { layout = layout.now; cpus = cpus.now; base = base.now }) }
-        ensures main { IfOk result (λ made. IsOf made.1 made.0 × (made.1.seen ≡ [])) }
+        ensures main { IfOk result (λ made. IsFrom made.1 made.0 × (made.1.seen ≡ [])) }
     {
         let facts = EventFacts {
             layout: layout.copied(),
@@ -110,7 +107,7 @@ impl EventTable {
     /// Closes the words, once every other pass has ended, and writes what they are then. The history is what the main
     /// pass has seen.
     pub fn close(self, main: EventMain, into: &mut EventState) -> EventHistory
-        requires table { IsOf main self }
+        requires table { IsFrom main self }
         requires ended { (q : ℕ) → lives_in role main.seen q ≡ false }
         requires room { length into.old.words ≡ length self.facts.base.words }
         ensures history { result ≡ record { facts = self.facts; events = main.seen } }

@@ -1,10 +1,8 @@
 -- For other crates too: all laws hold of every legal history.
 use Rattle.std.proofs.Common.{◌++◌, ◌∙◌}
-use Rattle.vms_history.proofs.Owners.{owner_may_own}
-use Rattle.vms_history.proofs.Prefixes.{prefix_is_legal}
+use Rattle.vms_history.proofs.Common.{owner_may_own, prefix_is_legal}
 use Rattle.vms_event_core.specs.declared.steps.EventFacts.{EventFacts}
-use Rattle.vms_event_core.specs.Events.{events, History, IsLegal}
-use Rattle.vms_event_core.specs.Laws.{KeepsLaws}
+use Rattle.vms_event_core.specs.Common.{events, History, IsLegal, KeepsLaws}
 use Rattle.vms_event_core.proofs.Bounds.{words-bounded}
 use Rattle.vms_event_core.proofs.Carrying.{carries_as_control}
 use Rattle.vms_event_core.proofs.DeadCpus.{dead_words-move_once}

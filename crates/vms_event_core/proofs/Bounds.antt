@@ -2,21 +2,12 @@
 use Rattle.std.proofs.Common.{◌≡◌, ℕ, suc, ◌*◌, ◌<◌, ◌≤◌, pos, ◌+ℤ◌, ◌≤ℤ◌, inl, inr, ap, arith}
 use Rattle.std.proofs.lemmas.Int.{ints}
 use Rattle.std.proofs.lemmas.Bool.{cases_lt}
-use Rattle.vms_base.specs.Places.{IsCpu}
-use Rattle.vms_history.specs.Events.{own}
-use Rattle.vms_history.specs.Passes.{begun_in}
-use Rattle.vms_history.proofs.PassLaws.{own-not_given}
-use Rattle.vms_history.proofs.Prefixes.{base_can_begin}
-use Rattle.vms_history.proofs.SumBounds.{sum_below-not_negative, sum_below-each, sum_below-most}
+use Rattle.vms_history.specs.Common.{IsCpu, own, begun_in, most_volume}
+use Rattle.vms_history.proofs.Common.{own-not_given, base_can_begin, sum_below-not_negative, sum_below-each}
+use Rattle.vms_history.proofs.Common.{sum_below-most}
 use Rattle.vms_event_core.specs.declared.steps.EventFacts.{EventFacts}
-use Rattle.vms_event_core.specs.Bases.{IsBase, most_in_base}
-use Rattle.vms_base.specs.Volumes.{most_volume}
-use Rattle.vms_event_core.specs.Events.{events, History, IsLegal, state_after, true_total}
-use Rattle.vms_event_core.specs.Laws.{most_in_sum, BoundsWords}
-use Rattle.vms_event_core.specs.Own.{carried}
-use Rattle.vms_event_core.specs.Steps.{role}
-use Rattle.vms_event_core.specs.Totals.{spent}
-use Rattle.vms_event_core.specs.Words.{IsEvent, word_at, words_of}
+use Rattle.vms_event_core.specs.Common.{IsBase, most_in_base, events, History, IsLegal, state_after, true_total}
+use Rattle.vms_event_core.specs.Common.{most_in_sum, BoundsWords, carried, role, spent, IsEvent, word_at, sum_of_words}
 use Rattle.vms_event_core.proofs.Carrying.{carried-not_negative}
 use Rattle.vms_event_core.proofs.Spending.{spent-affordable, counted-spent}
 use Rattle.vms_event_core.proofs.Totals.{totals-kept}
@@ -39,9 +30,9 @@ module _ (facts : EventFacts) (h : History) (legal : IsLegal facts h) where
   each_word : (k i : ℕ) → i < facts.layout.cpus → pos 0 ≤ℤ pos (word_at (state_after facts h) i k)
   each_word k i below = omega (arith, ints)
 
-  pub words_of-most : (k : ℕ) → IsEvent k
-      → words_of facts.layout (state_after facts h) k ≤ℤ pos (most_in_sum facts.layout)
-  words_of-most k k_in =
+  pub sum_of_words-most : (k : ℕ) → IsEvent k
+      → sum_of_words facts.layout (state_after facts h) k ≤ℤ pos (most_in_sum facts.layout)
+  sum_of_words-most k k_in =
       let others = sum_below-not_negative (λ i. carried k (own h i)) (suc (begun_in role h)) (each_carried k) in
       omega (arith, ints, others, totals-kept facts h legal k k_in, true_total-most k k_in)
 
@@ -50,7 +41,7 @@ module _ (facts : EventFacts) (h : History) (legal : IsLegal facts h) where
   word-most c k c_in k_in =
       let part = sum_below-each (λ i. pos (word_at (state_after facts h) i k)) c facts.layout.cpus c_in (each_word k) in
       let word : pos (word_at (state_after facts h) c k) ≤ℤ pos (most_in_sum facts.layout) =
-      omega (arith, ints, part, words_of-most k k_in) in
+      omega (arith, ints, part, sum_of_words-most k k_in) in
       omega (arith, ints, word)
 
   carried_most-holds : (p k : ℕ) → IsEvent k → carried k (own h p) ≤ℤ pos (most_in_sum facts.layout)

@@ -1,13 +1,15 @@
 -- The steps of a call leave its caller carrying what it carried before.
-use Rattle.std.proofs.Common.{◌≡◌, ℕ, zero, suc, Bool, true, false, List, [], ◌∷◌}
-use Rattle.std.proofs.Common.{ℤ, pos, neg_ℤ, ◌+ℤ◌, refl, ◌∙◌, arith, if◌then◌else◌, nat_eq}
+use Rattle.std.proofs.Common.{◌≡◌, ℕ, zero, suc, Bool, true, false, List, [], ◌∷◌, ℤ, pos, neg_ℤ, ◌+ℤ◌, refl, ◌∙◌}
+use Rattle.std.proofs.Common.{arith, if◌then◌else◌, nat_eq}
 use Rattle.std.proofs.lemmas.Int.{ints}
-use Rattle.vms_base.specs.declared.ids.CpuId.{CpuId}
-use Rattle.vms_base.specs.declared.ids.EventId.{EventId}
+use Rattle.vms_history.specs.Common.{CpuId, EventId}
+use Rattle.vms_event_core.specs.declared.call_values.EventAnswer.{EventAnswer}
+use Rattle.vms_event_core.specs.declared.call_values.EventAnswer.TheVariants.{Done, Total}
+use Rattle.vms_event_core.specs.declared.call_values.EventCall.{EventCall}
+use Rattle.vms_event_core.specs.declared.call_values.EventCall.TheVariants.{Count, Sum, FoldDead}
+use Rattle.vms_event_core.specs.declared.steps.EventFacts.{EventFacts}
 use Rattle.vms_event_core.specs.declared.steps.EventStep.{EventStep}
-use Rattle.vms_event_core.specs.Calls.{loads, folds, IsCount, IsAllEvents, IsFoldEvents}
-use Rattle.vms_event_core.specs.CallLaws.{CarryAsBefore}
-use Rattle.vms_event_core.specs.Own.{carried}
+use Rattle.vms_event_core.specs.Common.{IsEventCall, folds, loads, online_cpus, CarryAsBefore, carried}
 
 -- what a take that found 0 moves, and what a take and its addition move together, is nothing
 pub empty_take-moves : (b : Bool) (before : ℤ) → (if b then pos 0 else pos 0) +ℤ before ≡ before
@@ -33,13 +35,11 @@ folds-carry from into k (zero ∷ found) p l h =
 folds-carry from into k (suc v ∷ found) p l h =
     folds-carry from into (suc k) found p l _ ∙ take_and_add-move (nat_eq k l) (suc v) (carried l h)
 
-pub count-carries : (k : EventId) (n : ℕ) (steps : List EventStep) → IsCount k n steps → CarryAsBefore steps
-count-carries k n steps call p l h = rw call.in_order (empty_take-moves false (carried l h))
-
-pub all_events-carry : (cpus : List CpuId) (k : EventId) (found : List ℕ) (steps : List EventStep) (answer : ℕ)
-    → IsAllEvents cpus k found steps answer → CarryAsBefore steps
-all_events-carry cpus k found steps answer call p l h = rw call.in_order (loads-carry k cpus found p l h)
-
-pub fold_events-carry : (from into : CpuId) (found : List ℕ) (steps : List EventStep)
-    → IsFoldEvents from into found steps → CarryAsBefore steps
-fold_events-carry from into found steps call p l h = rw call.in_order (folds-carry from into 0 found p l h)
+pub call-carries : (facts : EventFacts) (call : EventCall) (steps : List EventStep) (answer : EventAnswer)
+    → IsEventCall facts call steps answer → CarryAsBefore steps
+call-carries facts (Count k n) steps Done is p l h = rw is.in_order (empty_take-moves false (carried l h))
+call-carries facts (Sum k) steps (Total answer) (found, is) p l h =
+    rw is.in_order (loads-carry k (online_cpus facts) found p l h)
+call-carries facts (FoldDead c) steps Done (into, found, lowest, is) p l h =
+    rw is.in_order (folds-carry c into 0 found p l h)
+call-carries facts _ steps _ is p l h = absurd is

@@ -1,23 +1,20 @@
--- What a call spends of its CPU's volume: a count its number, another call nothing.
-use Rattle.std.proofs.Common.{◌≡◌, ℕ, zero, suc, Bool, true, false, List, [], ◌∷◌, ◌++◌, Option, Some}
-use Rattle.std.proofs.Common.{None, pos, ◌+ℤ◌, All, refl, sym, ap, ◌∙◌, subst, arith, if◌then◌else◌, nat_eq}
+-- For other crates too: what a call spends of its CPU's volume, a count its number and another call nothing.
+use Rattle.std.proofs.Common.{◌≡◌, ℕ, zero, suc, Bool, true, false, List, [], ◌∷◌, ◌++◌, Option, Some, None, pos, ◌+ℤ◌}
+use Rattle.std.proofs.Common.{All, refl, sym, ap, ◌∙◌, subst, arith, if◌then◌else◌, nat_eq, ◌&&◌, eq-eqb}
 use Rattle.std.proofs.lemmas.Int.{ints}
 use Rattle.std.proofs.lemmas.List.Elements.{All-nil, All-cons, All-head, All-tail}
-use Rattle.vms_base.specs.declared.ids.CpuId.{CpuId}
-use Rattle.vms_base.specs.declared.ids.EventId.{EventId}
-use Rattle.vms_history.specs.Events.{own, after, total}
-use Rattle.vms_history.proofs.Own.{after-append}
-use Rattle.vms_history.proofs.SumLaws.{total-append}
-use Rattle.vms_history.specs.Passes.{lives_in, owner_in}
+use Rattle.vms_history.specs.Common.{CpuId, EventId, own, after, total, lives_in, owner_in}
+use Rattle.vms_history.proofs.Common.{after-append, total-append, made-given}
+use Rattle.vms_event_core.specs.declared.call_values.EventAnswer.{EventAnswer}
+use Rattle.vms_event_core.specs.declared.call_values.EventAnswer.TheVariants.{Done, Total}
+use Rattle.vms_event_core.specs.declared.call_values.EventCall.{EventCall}
+use Rattle.vms_event_core.specs.declared.call_values.EventCall.TheVariants.{Count, Sum, FoldDead}
 use Rattle.vms_event_core.specs.declared.steps.EventFacts.{EventFacts}
 use Rattle.vms_event_core.specs.declared.steps.EventStep.{EventStep}
-use Rattle.vms_event_core.specs.declared.steps.EventStep.TheVariants.{LoadE, TakeE, AddF}
-use Rattle.vms_event_core.specs.Calls.{loads, folds, IsCount, IsAllEvents, IsFoldEvents}
-use Rattle.vms_event_core.specs.Events.{events, History, IsLegal}
-use Rattle.vms_event_core.specs.CallLaws.{HasMade, SpendNothing, SpendsSince, KeepsSpending, counted_of}
-use Rattle.vms_event_core.specs.Steps.{role}
-use Rattle.vms_event_core.specs.Totals.{counted, spent, spent_by}
-use Rattle.vms_history.proofs.MadeSteps.{made-given}
+use Rattle.vms_event_core.specs.declared.steps.EventStep.TheVariants.{AddE, LoadE, TakeE, AddF}
+use Rattle.vms_event_core.specs.Common.{IsAllEvents, IsEventCall, IsFoldEvents, event_spent, folds, loads, online_cpus}
+use Rattle.vms_event_core.specs.Common.{events, History, IsLegal, HasMade, SpendNothing, SpendsSince, KeepsSpending}
+use Rattle.vms_event_core.specs.Common.{role, counted, spent, spent_by}
 use Rattle.vms_event_core.proofs.Spending.{spent_by-owner, GoesAlong, spent-goes_along}
 
 module _ (facts : EventFacts) (later earlier : History) (p : ℕ) (steps : List EventStep)
@@ -44,19 +41,6 @@ module _ (facts : EventFacts) (later earlier : History) (p : ℕ) (steps : List 
       ap (total (counted k)) (after-append p steps [] (own earlier p))
       ∙ total-append (counted k) (after p steps []) (own earlier p) in
       omega (arith, ints, all, parts)
-
-  pub count-spends : (k : EventId) (n : ℕ) → IsCount k n steps → SpendsSince later earlier p (counted_of k n)
-  count-spends k n call c l owns =
-      let all = spent-made c l owns in
-      let counts : total (counted l) (after p steps (own earlier p))
-      ≡ pos (counted_of k n l) +ℤ total (counted l) (own earlier p) =
-      ap (λ ks. total (counted l) (after p ks (own earlier p))) call.in_order ∙ by (nat_eq k.number l) in
-      omega (arith, ints, all, counts)
-    where
-      by : (b : Bool) → (if b then pos n else pos 0) +ℤ total (counted l) (own earlier p)
-          ≡ pos (if b then n else 0) +ℤ total (counted l) (own earlier p)
-      by true = refl
-      by false = refl
 
 nothing-counted : (c : CpuId) (k p : ℕ) (steps : List EventStep)
     → All (λ step. spent_by (Some c) c.number k step ≡ 0) steps
@@ -111,10 +95,64 @@ folds-spend from into k (suc v ∷ found) who c l =
     (All-cons (λ step. spent_by who c l step ≡ 0) _ (folds from into (suc k) found)
     (added-spends who c l into (record { number = k }) (suc v)) (folds-spend from into (suc k) found who c l))
 
-pub all_events-spend : (cpus : List CpuId) (k : EventId) (found : List ℕ) (steps : List EventStep) (answer : ℕ)
+loads-spent : (cpus : List CpuId) (k : EventId) (found : List ℕ) (steps : List EventStep) (answer : ℕ)
     → IsAllEvents cpus k found steps answer → SpendNothing steps
-all_events-spend cpus k found steps answer call = subst SpendNothing (sym call.in_order) (loads-spend k cpus found)
+loads-spent cpus k found steps answer is = subst SpendNothing (sym is.in_order) (loads-spend k cpus found)
 
-pub fold_events-spend : (from into : CpuId) (found : List ℕ) (steps : List EventStep)
-    → IsFoldEvents from into found steps → SpendNothing steps
-fold_events-spend from into found steps call = subst SpendNothing (sym call.in_order) (folds-spend from into 0 found)
+folds-spent : (from into : CpuId) (found : List ℕ) (steps : List EventStep) → IsFoldEvents from into found steps
+    → SpendNothing steps
+folds-spent from into found steps is = subst SpendNothing (sym is.in_order) (folds-spend from into 0 found)
+
+-- a count of no times
+count-spend_nothing : (k : EventId) (n : ℕ) → n ≡ 0 → SpendNothing (AddE k n ∷ [])
+count-spend_nothing k n none who c l =
+    All-cons (λ step. spent_by who c l step ≡ 0) (AddE k n) [] (by who) (All-nil (λ step. spent_by who c l step ≡ 0))
+  where
+    either : (b : Bool) → (if b then n else 0) ≡ 0
+    either true = none
+    either false = refl
+
+    by : (who : Option CpuId) → spent_by who c l (AddE k n) ≡ 0
+    by None = refl
+    by (Some o) = either (nat_eq o.number c && nat_eq k.number l)
+
+pub calls-spend_nothing : (facts : EventFacts) (call : EventCall) (steps : List EventStep) (answer : EventAnswer)
+    → IsEventCall facts call steps answer → ((k : ℕ) → event_spent call k ≡ 0) → SpendNothing steps
+calls-spend_nothing facts (Count k n) steps Done is none =
+    let same : nat_eq k.number k.number ≡ true = eq-eqb k.number k.number refl in
+    let here : (if nat_eq k.number k.number then n else 0) ≡ n = rw same refl in
+    subst SpendNothing (sym is.in_order) (count-spend_nothing k n (sym here ∙ none k.number))
+calls-spend_nothing facts (Sum k) steps (Total answer) (found, is) none =
+    loads-spent (online_cpus facts) k found steps answer is
+calls-spend_nothing facts (FoldDead c) steps Done (into, found, lowest, is) none = folds-spent c into found steps is
+calls-spend_nothing facts _ steps _ is none = absurd is
+
+-- what the steps of a call count is what the call spends
+pub call-counts : (facts : EventFacts) (k p : ℕ) (call : EventCall) (steps : List EventStep) (answer : EventAnswer)
+    → IsEventCall facts call steps answer → (h : History)
+    → total (counted k) (after p steps h) ≡ pos (event_spent call k) +ℤ total (counted k) h
+call-counts facts k p (Count l n) steps Done is h =
+    ap (λ ks. total (counted k) (after p ks h)) is.in_order ∙ by (nat_eq l.number k)
+  where
+    by : (b : Bool) → (if b then pos n else pos 0) +ℤ total (counted k) h
+        ≡ pos (if b then n else 0) +ℤ total (counted k) h
+    by true = refl
+    by false = refl
+call-counts facts k p (Sum l) steps (Total answer) (found, is) h =
+    let none = loads-spent (online_cpus facts) l found steps answer is in
+    omega (arith, ints, nothing-counted (record { number = 0 }) k p steps (none (Some (record { number = 0 })) 0 k) h)
+call-counts facts k p (FoldDead d) steps Done (into, found, lowest, is) h =
+    let none = folds-spent d into found steps is in
+    omega (arith, ints, nothing-counted d k p steps (none (Some d) d.number k) h)
+call-counts facts k p _ steps _ is h = absurd is
+
+pub call-spends : (facts : EventFacts) (later earlier : History) (p : ℕ) (call : EventCall) (steps : List EventStep)
+    (answer : EventAnswer) → HasMade facts later earlier p steps → IsEventCall facts call steps answer
+    → SpendsSince later earlier p (event_spent call)
+call-spends facts later earlier p call steps answer made is c k owns =
+    omega (
+      arith,
+      ints,
+      spent-made facts later earlier p steps made c k owns,
+      call-counts facts k p call steps answer is (own earlier p),
+    )

@@ -1,28 +1,19 @@
 -- Who carries something, and that no amount carried is negative.
-use Rattle.std.proofs.Common.{◌≡◌, ◌≢◌, ℕ, suc, cond, ne_eqb, ◌<◌, ◌≤◌, ◌==◌, Bool}
-use Rattle.std.proofs.Common.{true, false, true≢false, [], ◌∷◌, pos, neg_ℤ, ◌+ℤ◌, ◌≤ℤ◌, inl}
-use Rattle.std.proofs.Common.{inr, refl, sym, ap, ◌∙◌, subst, arith, if◌then◌else◌, nat_eq, eqb-true}
+use Rattle.std.proofs.Common.{◌≡◌, ◌≢◌, ℕ, suc, cond, ne_eqb, ◌<◌, ◌≤◌, ◌==◌, Bool, true, false, true≢false, [], ◌∷◌}
+use Rattle.std.proofs.Common.{pos, neg_ℤ, ◌+ℤ◌, ◌≤ℤ◌, inl, inr, refl, sym, ap, ◌∙◌, subst, arith, if◌then◌else◌, nat_eq}
+use Rattle.std.proofs.Common.{eqb-true}
 use Rattle.std.proofs.lemmas.Int.{ints}
 use Rattle.std.proofs.lemmas.Bool.{eqb-false}
 use Rattle.vms_history.specs.declared.events.Event.{Event}
-use Rattle.vms_history.specs.Events.{own}
-use Rattle.vms_history.specs.Legal.{Acts}
-use Rattle.vms_history.specs.Passes.{Role, begun_in, lives_after, lives_in, owner_after, owner_in}
-use Rattle.vms_history.specs.Passes.Role.{Works, Begins, Ends}
-use Rattle.vms_history.proofs.Choices.{zero_or_not}
-use Rattle.vms_history.proofs.Prefixes.{own-keeps}
-use Rattle.vms_history.proofs.SumLaws.{sum_below-zeros}
-use Rattle.vms_history.proofs.PassLaws.{live_is_given, lives_in-role, owner_in-role}
-use Rattle.vms_history.proofs.Own.{own-mine, own-others}
+use Rattle.vms_history.specs.Common.{own, Acts, Role, begun_in, lives_after, lives_in, owner_after, owner_in, Works}
+use Rattle.vms_history.specs.Common.{Begins, Ends}
+use Rattle.vms_history.proofs.Common.{zero_or_not, own-keeps, sum_below-zeros, live_is_given, lives_in-role}
+use Rattle.vms_history.proofs.Common.{owner_in-role, own-mine, own-others}
 use Rattle.vms_event_core.specs.declared.steps.EventFacts.{EventFacts}
 use Rattle.vms_event_core.specs.declared.steps.EventStep.{EventStep}
 use Rattle.vms_event_core.specs.declared.steps.EventStep.TheVariants.{TakeE, AddF}
-use Rattle.vms_event_core.specs.Conditions.{Meets}
-use Rattle.vms_event_core.specs.Events.{events, History, IsLegal, IsComplete, state_after, carried_by_all}
-use Rattle.vms_event_core.specs.Laws.{IsLiveControl}
-use Rattle.vms_event_core.specs.Own.{moved, carried}
-use Rattle.vms_event_core.specs.Steps.{role}
-use Rattle.vms_event_core.specs.Words.{IsEvent}
+use Rattle.vms_event_core.specs.Common.{Meets, events, History, IsLegal, IsComplete, state_after, carried_by_all}
+use Rattle.vms_event_core.specs.Common.{IsLiveControl, moved, carried, role, IsEvent}
 use Rattle.vms_event_core.specs.declared.states.EventState.{EventState}
 
 -- a step that meets its condition leaves no negative amount

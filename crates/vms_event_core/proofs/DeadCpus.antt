@@ -1,24 +1,16 @@
 -- What stands in the words of a CPU that is dead in the base.
-use Rattle.std.proofs.Common.{◌≡◌, ◌≢◌, ℕ, zero, suc, ◌+◌, ◌&&◌, ◌⊎◌, inl, inr}
-use Rattle.std.proofs.Common.{Bool, true, false, [], ◌∷◌, Option, Some, None, ℤ, pos}
-use Rattle.std.proofs.Common.{◌+ℤ◌, refl, sym, ap, subst, ◌∙◌, arith, if◌then◌else◌, nat_eq, eqb-true}
+use Rattle.std.proofs.Common.{◌≡◌, ◌≢◌, ℕ, zero, suc, ◌+◌, ◌&&◌, ◌⊎◌, inl, inr, Bool, true, false, [], ◌∷◌, Option}
+use Rattle.std.proofs.Common.{Some, None, ℤ, pos, ◌+ℤ◌, refl, sym, ap, subst, ◌∙◌, arith, if◌then◌else◌, nat_eq}
+use Rattle.std.proofs.Common.{eqb-true}
 use Rattle.std.proofs.lemmas.Int.{ints}
-use Rattle.vms_base.specs.declared.ids.CpuId.{CpuId}
-use Rattle.vms_base.specs.declared.kinds.CpuState.TheVariants.{Online, Dead}
-use Rattle.vms_history.specs.Events.{total}
-use Rattle.vms_history.specs.Passes.{owner_in}
-use Rattle.vms_history.proofs.TakenOnce.{TakenOnce, TakenOnce-none, TakenOnce-left, TakenOnce-taken}
+use Rattle.vms_history.specs.Common.{CpuId, Online, Dead, total, owner_in}
+use Rattle.vms_history.proofs.Common.{TakenOnce, TakenOnce-none, TakenOnce-left, TakenOnce-taken}
 use Rattle.vms_event_core.specs.declared.states.EventState.{EventState}
 use Rattle.vms_event_core.specs.declared.steps.EventFacts.{EventFacts}
 use Rattle.vms_event_core.specs.declared.steps.EventStep.{EventStep}
 use Rattle.vms_event_core.specs.declared.steps.EventStep.TheVariants.{AddE, TakeE, AddF}
-use Rattle.vms_event_core.specs.Bases.{cpu_at}
-use Rattle.vms_event_core.specs.Conditions.{Meets}
-use Rattle.vms_event_core.specs.Events.{History, IsLegal, state_after}
-use Rattle.vms_event_core.specs.Laws.{MovesOnce}
-use Rattle.vms_event_core.specs.Steps.{role}
-use Rattle.vms_event_core.specs.Totals.{taken_from, takes_by, takes, found_some, word_after, word_in}
-use Rattle.vms_event_core.specs.Words.{IsEvent, word_at}
+use Rattle.vms_event_core.specs.Common.{cpu_at, Meets, History, IsLegal, state_after, MovesOnce, role, taken_from}
+use Rattle.vms_event_core.specs.Common.{takes_by, takes, found_some, word_after, word_in, IsEvent, word_at}
 use Rattle.vms_event_core.proofs.StateWords.{word_at-state_after}
 use Rattle.vms_event_core.proofs.OfflineCpus.{owner-online, added-elsewhere}
 

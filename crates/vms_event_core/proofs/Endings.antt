@@ -1,17 +1,11 @@
 -- For other crates too: the words at the end of a complete history are a base again.
 use Rattle.std.proofs.Common.{ℕ, pos, ◌+ℤ◌, ◌≤ℤ◌, ◌∙◌, arith}
 use Rattle.std.proofs.lemmas.Int.{ints}
-use Rattle.vms_base.specs.Volumes.{most_volume}
-use Rattle.vms_history.specs.Sums.{sum_below}
-use Rattle.vms_history.proofs.Prefixes.{base_can_begin}
-use Rattle.vms_history.proofs.SumBounds.{sum_below-most}
-use Rattle.vms_history.proofs.SumLaws.{sum_below-same, sum_below-sum}
+use Rattle.vms_history.specs.Common.{most_volume, sum_below}
+use Rattle.vms_history.proofs.Common.{base_can_begin, sum_below-most, sum_below-same, sum_below-sum}
 use Rattle.vms_event_core.specs.declared.steps.EventFacts.{EventFacts}
-use Rattle.vms_event_core.specs.Bases.{IsBase}
-use Rattle.vms_event_core.specs.Endings.{ending, LeavesRoom, BeginsAgain, IsPaid, spent_by_now, StaysWithinVolumes}
-use Rattle.vms_event_core.specs.Events.{events, History, IsComplete, true_total}
-use Rattle.vms_event_core.specs.Totals.{spent}
-use Rattle.vms_event_core.specs.Words.{IsEvent}
+use Rattle.vms_event_core.specs.Common.{IsBase, ending, LeavesRoom, BeginsAgain, IsPaid, spent_by_now}
+use Rattle.vms_event_core.specs.Common.{StaysWithinVolumes, events, History, IsComplete, true_total, spent, IsEvent}
 use Rattle.vms_event_core.proofs.OfflineCpus.{absent-zero}
 use Rattle.vms_event_core.proofs.Spending.{counted-spent}
 use Rattle.vms_event_core.proofs.StateWords.{HasShape-state_after, word_at-state_after}

@@ -1,35 +1,26 @@
 -- The steps of each call may be made while others act.
-use Rattle.std.proofs.Common.{◌≡◌, ◌≢◌, ℕ, zero, suc, ◌+◌, ◌<◌, ◌≤◌, Bool, true, false}
-use Rattle.std.proofs.Common.{List, [], ◌∷◌, ◌++◌, length, Some, None, All, inl, inr, pos}
-use Rattle.std.proofs.Common.{refl, sym, ap, ◌∙◌, subst, arith, if◌then◌else◌, nat_eq, eq-eqb}
+use Rattle.std.proofs.Common.{◌≡◌, ◌≢◌, ℕ, zero, suc, ◌+◌, ◌<◌, ◌≤◌, Bool, true, false, List, [], ◌∷◌, ◌++◌, length}
+use Rattle.std.proofs.Common.{Some, None, All, inl, inr, pos, refl, sym, ap, ◌∙◌, subst, arith, if◌then◌else◌, nat_eq}
+use Rattle.std.proofs.Common.{eq-eqb}
 use Rattle.std.proofs.lemmas.Int.{ints}
 use Rattle.std.proofs.lemmas.Bool.{cases_lt}
 use Rattle.std.proofs.lemmas.List.{get_or_past}
 use Rattle.std.proofs.lemmas.List.Elements.{All-nil, All-cons, All-head, All-tail, All-weaker}
-use Rattle.vms_base.specs.declared.ids.CpuId.{CpuId}
-use Rattle.vms_base.specs.declared.ids.EventId.{EventId}
-use Rattle.vms_base.specs.declared.kinds.CpuState.{CpuState}
-use Rattle.vms_base.specs.declared.kinds.CpuState.TheVariants.{Dead, Absent}
-use Rattle.vms_base.specs.Cpus.{online_from, is_online, state_at}
-use Rattle.vms_base.specs.Places.{IsCpu}
-use Rattle.vms_base.specs.Volumes.{most_volume}
-use Rattle.vms_history.specs.Events.{own, after, total}
-use Rattle.vms_history.specs.Passes.{owner_in}
-use Rattle.vms_history.proofs.Prefixes.{base_can_begin}
+use Rattle.vms_history.specs.Common.{CpuId, EventId, CpuState, Dead, Absent, online_from, is_online, state_at, IsCpu}
+use Rattle.vms_history.specs.Common.{most_volume, own, after, total, owner_in}
+use Rattle.vms_history.proofs.Common.{base_can_begin, made-given, made-owner}
+use Rattle.vms_event_core.specs.declared.call_values.EventAnswer.{EventAnswer}
+use Rattle.vms_event_core.specs.declared.call_values.EventAnswer.TheVariants.{Done, Total}
+use Rattle.vms_event_core.specs.declared.call_values.EventCall.{EventCall}
+use Rattle.vms_event_core.specs.declared.call_values.EventCall.TheVariants.{Count, Sum, FoldDead}
 use Rattle.vms_event_core.specs.declared.steps.EventFacts.{EventFacts}
 use Rattle.vms_event_core.specs.declared.steps.EventStep.{EventStep}
 use Rattle.vms_event_core.specs.declared.steps.EventStep.TheVariants.{AddE, LoadE, TakeE, AddF, Split, Join}
-use Rattle.vms_event_core.specs.Bases.{cpu_at, IsBase, IsLowestOnline}
-use Rattle.vms_event_core.specs.Calls.{loads, folds, online_cpus}
-use Rattle.vms_event_core.specs.Events.{events, History, IsLegal}
-use Rattle.vms_event_core.specs.CallLaws.{HasMade, Tells, MayMake, MakesCount, MakesAllEvents, MakesFoldEvents}
-use Rattle.vms_event_core.specs.Own.{carried, CarriesNothing}
-use Rattle.vms_event_core.specs.Steps.{role}
-use Rattle.vms_event_core.specs.Totals.{counted, spent}
-use Rattle.vms_event_core.specs.Words.{IsEvent, event_count}
+use Rattle.vms_event_core.specs.Common.{cpu_at, IsBase, IsLowestOnline, IsEventCall, folds, loads, online_cpus, events}
+use Rattle.vms_event_core.specs.Common.{History, IsLegal, HasMade, MayCall, MayMake, Tells, carried, CarriesNothing}
+use Rattle.vms_event_core.specs.Common.{role, counted, spent, IsEvent, event_count}
 use Rattle.vms_event_core.proofs.CallCarrying.{empty_take-moves, take_and_add-move}
 use Rattle.vms_event_core.proofs.CallSpending.{spent-made}
-use Rattle.vms_history.proofs.MadeSteps.{made-given, made-owner}
 
 module _ (facts : EventFacts) (p : ℕ) (earlier : History) where
   -- a pass that has counted nothing since may count
@@ -200,26 +191,25 @@ online_cpus-known facts base =
     All-weaker (λ d. d.number < 0 + length facts.cpus) (λ d. IsCpu facts.layout d.number)
     (λ d below. let each = base.one_state_each in omega arith) (online_cpus facts) (online_from-known 0 facts.cpus)
 
-pub count-may : MakesCount
-count-may facts h p cpu k n steps owns k_in affordable call =
-    runs-may facts p h steps (λ base. subst (λ ks. Runs facts p h ks (own h p)) (sym call.in_order) (
-      record { cpu = cpu; owns = owns; event = k_in; affordable = affordable; none_since = refl },
+pub call-may : (facts : EventFacts) (h : History) (p : ℕ) (call : EventCall) (steps : List EventStep)
+    (answer : EventAnswer) → MayCall facts h p call → IsEventCall facts call steps answer → MayMake facts p h steps
+call-may facts h p (Count k n) steps Done may is =
+    runs-may facts p h steps (λ base. subst (λ ks. Runs facts p h ks (own h p)) (sym is.in_order) (
+      record { cpu = may.cpu; owns = may.owns; event = may.event; affordable = may.affordable; none_since = refl },
       tt,
     ))
-
-pub all_events-may : MakesAllEvents
-all_events-may facts h p k found steps answer k_in call =
-    runs-may facts p h steps (λ base. subst (λ ks. Runs facts p h ks (own h p)) (sym call.in_order)
+call-may facts h p (Sum k) steps (Total answer) k_in (found, is) =
+    runs-may facts p h steps (λ base. subst (λ ks. Runs facts p h ks (own h p)) (sym is.in_order)
     (loads-run facts p h k (online_cpus facts) found (own h p) k_in (online_cpus-known facts base)))
-
-pub fold_events-may : MakesFoldEvents
-fold_events-may facts h p from into found steps control nothing dead lowest call =
+call-may facts h p (FoldDead from) steps Done may (into, found, lowest, is) =
     runs-may facts p h steps (λ base.
     let online = lowest.online in
+    let dead = may.dead in
     let from_known = present-known facts.cpus from.number (λ absent. absurd cc) in
     let into_known = present-known facts.cpus into.number (λ absent. absurd cc) in
     let from_in : IsCpu facts.layout from.number = (let each = base.one_state_each in omega arith) in
     let into_in : IsCpu facts.layout into.number = (let each = base.one_state_each in omega arith) in
-    subst (λ ks. Runs facts p h ks (own h p)) (sym call.in_order)
-    (folds-run facts p h from into control from_in dead into_in lowest 0 found (own h p) nothing
-    (let eight = call.one_each in omega arith)))
+    subst (λ ks. Runs facts p h ks (own h p)) (sym is.in_order)
+    (folds-run facts p h from into may.control from_in dead into_in lowest 0 found (own h p) may.nothing
+    (let eight = is.one_each in omega arith)))
+call-may facts h p _ steps _ may is = absurd is

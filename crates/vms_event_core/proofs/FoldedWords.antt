@@ -1,24 +1,16 @@
 -- The words of a CPU that was folded are 0.
-use Rattle.std.proofs.Common.{◌≡◌, ℕ, zero, suc, ◌+◌, ◌<◌, ◌≤◌, ◌&&◌, Bool, true, false}
-use Rattle.std.proofs.Common.{true≢false, List, [], ◌∷◌, ◌++◌, length, Option, Some, None, inl, inr}
-use Rattle.std.proofs.Common.{refl, sym, ap, ◌∙◌, arith, if◌then◌else◌, nat_eq, eq-eqb, eqb-true}
+use Rattle.std.proofs.Common.{◌≡◌, ℕ, zero, suc, ◌+◌, ◌<◌, ◌≤◌, ◌&&◌, Bool, true, false, true≢false, List, [], ◌∷◌}
+use Rattle.std.proofs.Common.{◌++◌, length, Option, Some, None, inl, inr, refl, sym, ap, ◌∙◌, arith, if◌then◌else◌}
+use Rattle.std.proofs.Common.{nat_eq, eq-eqb, eqb-true}
 use Rattle.std.proofs.lemmas.Bool.{and_parts, cases_lt}
-use Rattle.vms_base.specs.declared.ids.CpuId.{CpuId}
-use Rattle.vms_base.specs.declared.kinds.CpuState.TheVariants.{Dead}
+use Rattle.vms_history.specs.Common.{CpuId, Dead, own, after, owner_in}
 use Rattle.vms_history.specs.declared.events.Event.{Event}
-use Rattle.vms_history.specs.Events.{own, after}
-use Rattle.vms_history.specs.Passes.{owner_in}
 use Rattle.vms_event_core.specs.declared.states.EventState.{EventState}
 use Rattle.vms_event_core.specs.declared.steps.EventFacts.{EventFacts}
 use Rattle.vms_event_core.specs.declared.steps.EventStep.{EventStep}
 use Rattle.vms_event_core.specs.declared.steps.EventStep.TheVariants.{TakeE}
-use Rattle.vms_event_core.specs.Bases.{cpu_at}
-use Rattle.vms_event_core.specs.Calls.{folds}
-use Rattle.vms_event_core.specs.Conditions.{Meets}
-use Rattle.vms_event_core.specs.Events.{History, IsLegal, state_after}
-use Rattle.vms_event_core.specs.CallLaws.{LeavesZeros}
-use Rattle.vms_event_core.specs.Steps.{role}
-use Rattle.vms_event_core.specs.Totals.{word_after, word_in}
+use Rattle.vms_event_core.specs.Common.{cpu_at, folds, Meets, History, IsLegal, state_after, LeavesZeros, role}
+use Rattle.vms_event_core.specs.Common.{word_after, word_in}
 use Rattle.vms_event_core.proofs.OfflineCpus.{zero-stays}
 use Rattle.vms_event_core.proofs.StateWords.{word_at-state_after}
 

@@ -15,3 +15,4 @@ pub mod CallSpending
 pub mod FoldedWords
 pub mod FittingSteps
 pub mod SummedWords
+pub mod Common

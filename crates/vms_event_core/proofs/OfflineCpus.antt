@@ -1,23 +1,14 @@
 -- What stands in the words of a CPU that is not online: no step adds to them.
-use Rattle.std.proofs.Common.{◌≡◌, ◌≢◌, ℕ, ◌+◌, ◌&&◌, Bool, true, false, [], ◌∷◌, ◌++◌}
-use Rattle.std.proofs.Common.{Option, Some, None, refl, sym, ap, ◌∙◌, if◌then◌else◌, nat_eq, eqb-true}
-use Rattle.vms_base.specs.declared.ids.CpuId.{CpuId}
-use Rattle.vms_base.specs.declared.kinds.CpuState.TheVariants.{Online, Absent}
-use Rattle.vms_base.specs.Places.{IsCpu}
-use Rattle.vms_history.specs.Passes.{owner_in}
-use Rattle.vms_history.proofs.Choices.{if-either}
-use Rattle.vms_history.proofs.Owners.{owner_may_own}
-use Rattle.vms_history.proofs.Prefixes.{prefix_is_legal}
+use Rattle.std.proofs.Common.{◌≡◌, ◌≢◌, ℕ, ◌+◌, ◌&&◌, Bool, true, false, [], ◌∷◌, ◌++◌, Option, Some, None, refl, sym}
+use Rattle.std.proofs.Common.{ap, ◌∙◌, if◌then◌else◌, nat_eq, eqb-true}
+use Rattle.vms_history.specs.Common.{CpuId, Online, Absent, IsCpu, owner_in}
+use Rattle.vms_history.proofs.Common.{if-either, owner_may_own, prefix_is_legal}
 use Rattle.vms_event_core.specs.declared.states.EventState.{EventState}
 use Rattle.vms_event_core.specs.declared.steps.EventFacts.{EventFacts}
 use Rattle.vms_event_core.specs.declared.steps.EventStep.{EventStep}
 use Rattle.vms_event_core.specs.declared.steps.EventStep.TheVariants.{AddE, TakeE, AddF}
-use Rattle.vms_event_core.specs.Bases.{cpu_at}
-use Rattle.vms_event_core.specs.Conditions.{Meets}
-use Rattle.vms_event_core.specs.Events.{events, History, IsLegal, state_after}
-use Rattle.vms_event_core.specs.Steps.{role}
-use Rattle.vms_event_core.specs.Totals.{word_after, word_in}
-use Rattle.vms_event_core.specs.Words.{IsEvent, word_at}
+use Rattle.vms_event_core.specs.Common.{cpu_at, Meets, events, History, IsLegal, state_after, role, word_after, word_in}
+use Rattle.vms_event_core.specs.Common.{IsEvent, word_at}
 use Rattle.vms_event_core.proofs.StateWords.{word_at-state_after}
 
 -- who acts for a CPU acts for one that is online

@@ -4,27 +4,16 @@ use Rattle.std.proofs.Common.{None, ℤ, pos, ◌+ℤ◌, ◌≤ℤ◌, refl, sy
 use Rattle.std.specs.Prelude.{sum}
 use Rattle.std.proofs.lemmas.Int.{ints}
 use Rattle.std.proofs.lemmas.List.Sums.{sum_by-cons}
-use Rattle.vms_base.specs.declared.ids.CpuId.{CpuId}
-use Rattle.vms_base.specs.declared.ids.EventId.{EventId}
-use Rattle.vms_base.specs.declared.kinds.CpuState.{CpuState}
-use Rattle.vms_base.specs.declared.kinds.CpuState.TheVariants.{Online, Dead, Absent}
-use Rattle.vms_base.specs.Cpus.{online_from}
-use Rattle.vms_history.specs.Passes.{owner_in}
-use Rattle.vms_history.specs.Sums.{sum_below}
-use Rattle.vms_history.proofs.Prefixes.{base_can_begin, prefix_is_legal}
+use Rattle.vms_history.specs.Common.{CpuId, EventId, CpuState, Online, Dead, Absent, online_from, owner_in, sum_below}
+use Rattle.vms_history.proofs.Common.{base_can_begin, prefix_is_legal}
 use Rattle.vms_event_core.specs.declared.states.EventState.{EventState}
 use Rattle.vms_event_core.specs.declared.steps.EventFacts.{EventFacts}
 use Rattle.vms_event_core.specs.declared.steps.EventStep.{EventStep}
 use Rattle.vms_event_core.specs.declared.steps.EventStep.TheVariants.{AddE, TakeE, AddF}
-use Rattle.vms_event_core.specs.Bases.{cpu_at}
-use Rattle.vms_event_core.specs.Calls.{online_cpus, AtMostStands, IsAllEvents}
-use Rattle.vms_event_core.specs.Conditions.{Meets}
-use Rattle.vms_event_core.specs.Events.{events, History, IsLegal, state_after}
-use Rattle.vms_event_core.specs.Laws.{most_in_sum}
-use Rattle.vms_event_core.specs.Steps.{role}
-use Rattle.vms_event_core.specs.Totals.{word_after, word_in}
-use Rattle.vms_event_core.specs.Words.{IsEvent, word_at, words_of}
-use Rattle.vms_event_core.proofs.Bounds.{words_of-most}
+use Rattle.vms_event_core.specs.Common.{cpu_at, online_cpus, AtMostStands, IsAllEvents, Meets, events, History, IsLegal}
+use Rattle.vms_event_core.specs.Common.{state_after, most_in_sum, role, word_after, word_in, IsEvent, word_at}
+use Rattle.vms_event_core.specs.Common.{sum_of_words}
+use Rattle.vms_event_core.proofs.Bounds.{sum_of_words-most}
 use Rattle.vms_event_core.proofs.StateWords.{word_at-state_after}
 
 larger-if : (b : Bool) (word n : ℕ) → word ≤ (if b then word + n else word)
@@ -118,8 +107,8 @@ all_events-most facts h k found steps answer legal k_in call most =
     let one_each : 0 + length facts.cpus ≡ facts.layout.cpus =
     (let states = (base_can_begin events facts h legal).one_state_each in omega arith) in
     let all : words_below (state_after facts h) k.number (0 + length facts.cpus)
-    ≡ words_of facts.layout (state_after facts h) k.number =
+    ≡ sum_of_words facts.layout (state_after facts h) k.number =
     ap (words_below (state_after facts h) k.number) one_each in
     let sum_most : pos (sum found) ≤ℤ pos (most_in_sum facts.layout) =
-    omega (arith, ints, part, all, words_of-most facts h legal k.number k_in) in
+    omega (arith, ints, part, all, sum_of_words-most facts h legal k.number k_in) in
     rw call.adds_up (omega (arith, ints, sum_most))

@@ -1,30 +1,18 @@
 -- For other crates too: what each CPU has counted of an event: its bound, its sum over the CPUs, and who knows it.
-use Rattle.std.proofs.Common.{◌≡◌, ◌≢◌, ℕ, ◌+◌, ◌≤◌, ◌&&◌, Bool, true, false, [], ◌∷◌, ◌++◌, Option}
-use Rattle.std.proofs.Common.{Some, None, pos, ◌+ℤ◌, refl, ap, ◌∙◌, arith, if◌then◌else◌, nat_eq, eq-eqb, eqb-true}
+use Rattle.std.proofs.Common.{◌≡◌, ◌≢◌, ℕ, ◌+◌, ◌≤◌, ◌&&◌, Bool, true, false, [], ◌∷◌, ◌++◌, Option, Some, None, pos}
+use Rattle.std.proofs.Common.{◌+ℤ◌, refl, ap, ◌∙◌, arith, if◌then◌else◌, nat_eq, eq-eqb, eqb-true}
 use Rattle.std.proofs.lemmas.Int.{ints}
 use Rattle.std.proofs.lemmas.Bool.{and_parts, eqb-false}
-use Rattle.vms_base.specs.declared.ids.CpuId.{CpuId}
-use Rattle.vms_base.specs.Places.{IsCpu}
+use Rattle.vms_history.specs.Common.{CpuId, IsCpu, own, total, begun_in, lives_in, owner_in, sum_below, most_volume}
 use Rattle.vms_history.specs.declared.events.Event.{Event}
-use Rattle.vms_history.specs.Events.{own, total}
-use Rattle.vms_history.specs.Passes.{begun_in, lives_in, owner_in}
-use Rattle.vms_history.specs.Sums.{sum_below}
-use Rattle.vms_history.proofs.CallerSums.{total-by_parts}
-use Rattle.vms_history.proofs.Choices.{if-map, if-never}
-use Rattle.vms_history.proofs.GoesOn.{holds_while_live}
-use Rattle.vms_history.proofs.Own.{own-mine, own-others, own-append}
-use Rattle.vms_history.proofs.Owners.{same_cpu, owner_is_caller}
-use Rattle.vms_history.proofs.SumLaws.{sum_below-zeros, sum_below-only}
+use Rattle.vms_history.proofs.Common.{total-by_parts, if-map, if-never, holds_while_live, own-mine, own-others}
+use Rattle.vms_history.proofs.Common.{own-append, same_cpu, owner_is_caller, sum_below-zeros, sum_below-only}
 use Rattle.vms_event_core.specs.declared.states.EventState.{EventState}
 use Rattle.vms_event_core.specs.declared.steps.EventFacts.{EventFacts}
 use Rattle.vms_event_core.specs.declared.steps.EventStep.{EventStep}
 use Rattle.vms_event_core.specs.declared.steps.EventStep.TheVariants.{AddE}
-use Rattle.vms_event_core.specs.Conditions.{Meets}
-use Rattle.vms_base.specs.Volumes.{most_volume}
-use Rattle.vms_event_core.specs.Events.{events, History, IsLegal, state_after}
-use Rattle.vms_event_core.specs.CallLaws.{KeepsSpending}
-use Rattle.vms_event_core.specs.Steps.{role}
-use Rattle.vms_event_core.specs.Totals.{counted, spent, spent_by}
+use Rattle.vms_event_core.specs.Common.{Meets, events, History, IsLegal, state_after, KeepsSpending, role, counted}
+use Rattle.vms_event_core.specs.Common.{spent, spent_by}
 use Rattle.vms_event_core.proofs.StateWords.{owner_known}
 
 spent_by-affordable : (facts : EventFacts) (h : History) (s : EventState) (p c k : ℕ) (who : Option CpuId)

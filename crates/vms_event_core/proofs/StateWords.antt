@@ -1,15 +1,10 @@
 -- For other crates too: the words in every legal history are those that the steps made.
 use Rattle.std.proofs.Common.{◌≡◌, ℕ, [], ◌∷◌, Some, refl, ap, ◌∙◌}
-use Rattle.vms_base.specs.declared.ids.CpuId.{CpuId}
-use Rattle.vms_base.specs.Places.{IsCpu}
-use Rattle.vms_history.specs.Passes.{owner_in}
-use Rattle.vms_history.proofs.Owners.{owner_may_own}
-use Rattle.vms_history.proofs.Prefixes.{base_can_begin, state_after-keeps}
+use Rattle.vms_history.specs.Common.{CpuId, IsCpu, owner_in}
+use Rattle.vms_history.proofs.Common.{owner_may_own, base_can_begin, state_after-keeps}
 use Rattle.vms_event_core.specs.declared.steps.EventFacts.{EventFacts}
-use Rattle.vms_event_core.specs.Events.{events, History, IsLegal, state_after}
-use Rattle.vms_event_core.specs.Steps.{role}
-use Rattle.vms_event_core.specs.Totals.{word_after, word_in}
-use Rattle.vms_event_core.specs.Words.{IsEvent, HasShape, word_at}
+use Rattle.vms_event_core.specs.Common.{events, History, IsLegal, state_after, role, word_after, word_in, IsEvent}
+use Rattle.vms_event_core.specs.Common.{HasShape, word_at}
 use Rattle.vms_event_core.proofs.WordLemmas.{HasShape-effect, word_at-effect}
 
 pub HasShape-state_after : (facts : EventFacts) (h : History) → IsLegal facts h

@@ -1,27 +1,17 @@
 -- What the sum of an event found lies between what stood when the call began and what stands.
-use Rattle.std.proofs.Common.{◌≡◌, ℕ, suc, ◌+◌, ◌≤◌, Bool, true, false, List, [], ◌∷◌}
-use Rattle.std.proofs.Common.{◌++◌, length, All, sym, ap, ◌∙◌, subst, arith, if◌then◌else◌, nat_eq}
+use Rattle.std.proofs.Common.{◌≡◌, ℕ, suc, ◌+◌, ◌≤◌, Bool, true, false, List, [], ◌∷◌, ◌++◌, length, All, sym, ap, ◌∙◌}
+use Rattle.std.proofs.Common.{subst, arith, if◌then◌else◌, nat_eq}
 use Rattle.std.specs.Prelude.{sum}
 use Rattle.std.proofs.lemmas.List.Elements.{All-nil, All-cons, All-head, All-tail}
 use Rattle.std.proofs.lemmas.List.Sums.{sum_by-cons}
-use Rattle.vms_base.specs.declared.ids.CpuId.{CpuId}
-use Rattle.vms_base.specs.declared.ids.EventId.{EventId}
-use Rattle.vms_base.specs.declared.kinds.CpuState.{CpuState}
-use Rattle.vms_base.specs.declared.kinds.CpuState.TheVariants.{Online, Dead, Absent}
-use Rattle.vms_base.specs.Cpus.{online_from, state_at}
+use Rattle.vms_history.specs.Common.{CpuId, EventId, CpuState, Online, Dead, Absent, online_from, state_at, own, after}
 use Rattle.vms_history.specs.declared.events.Event.{Event}
-use Rattle.vms_history.specs.Events.{own, after}
-use Rattle.vms_history.proofs.Own.{own-on_top}
+use Rattle.vms_history.proofs.Common.{own-on_top, joined-legal, earlier-legal}
 use Rattle.vms_event_core.specs.declared.steps.EventFacts.{EventFacts}
 use Rattle.vms_event_core.specs.declared.steps.EventStep.{EventStep}
 use Rattle.vms_event_core.specs.declared.steps.EventStep.TheVariants.{LoadE}
-use Rattle.vms_event_core.specs.Bases.{cpu_at}
-use Rattle.vms_event_core.specs.Calls.{AtMostStands, IsAllEvents, loads, online_cpus, sum_over}
-use Rattle.vms_event_core.specs.Events.{events, History, IsLegal, state_after}
-use Rattle.vms_event_core.specs.CallLaws.{HasMade, SumsBetween}
-use Rattle.vms_event_core.specs.Totals.{word_in}
-use Rattle.vms_event_core.specs.Words.{IsEvent}
-use Rattle.vms_history.proofs.MadeSteps.{joined-legal, earlier-legal}
+use Rattle.vms_event_core.specs.Common.{cpu_at, AtMostStands, IsAllEvents, loads, online_cpus, sum_over, events}
+use Rattle.vms_event_core.specs.Common.{History, IsLegal, state_after, HasMade, SumsBetween, word_in, IsEvent}
 use Rattle.vms_event_core.proofs.OnlineCpus.{word_in-grows}
 use Rattle.vms_event_core.proofs.StateWords.{word_at-state_after}
 

@@ -1,27 +1,16 @@
 -- Nothing is lost: the words and what is carried add up to the true totals.
-use Rattle.std.proofs.Common.{◌≡◌, ℕ, suc, ◌+◌, Bool, true, false, [], ◌∷◌, Option, Some, None, ℤ}
-use Rattle.std.proofs.Common.{pos, neg_ℤ, ◌+ℤ◌, ◌-ℤ◌, refl, sym, ap, ◌∙◌, arith, if◌then◌else◌, nat_eq, eqb-true}
+use Rattle.std.proofs.Common.{◌≡◌, ℕ, suc, ◌+◌, Bool, true, false, [], ◌∷◌, Option, Some, None, ℤ, pos, neg_ℤ, ◌+ℤ◌}
+use Rattle.std.proofs.Common.{◌-ℤ◌, refl, sym, ap, ◌∙◌, arith, if◌then◌else◌, nat_eq, eqb-true}
 use Rattle.std.proofs.lemmas.Int.{ints}
-use Rattle.vms_base.specs.declared.ids.CpuId.{CpuId}
-use Rattle.vms_base.specs.Places.{IsCpu}
-use Rattle.vms_history.specs.Events.{total}
-use Rattle.vms_history.specs.Passes.{begun_in, owner_in}
-use Rattle.vms_history.specs.Sums.{sum_below}
-use Rattle.vms_history.proofs.Choices.{if-cancels}
-use Rattle.vms_history.proofs.SumLaws.{sum_below-same, sum_below-one}
-use Rattle.vms_history.proofs.CallerSums.{total-of_callers}
+use Rattle.vms_history.specs.Common.{CpuId, IsCpu, total, begun_in, owner_in, sum_below}
+use Rattle.vms_history.proofs.Common.{if-cancels, sum_below-same, sum_below-one, total-of_callers}
 use Rattle.vms_event_core.specs.declared.states.EventState.{EventState}
 use Rattle.vms_event_core.specs.declared.steps.EventFacts.{EventFacts}
 use Rattle.vms_event_core.specs.declared.steps.EventStep.{EventStep}
 use Rattle.vms_event_core.specs.declared.steps.EventStep.TheVariants.{AddE, TakeE, AddF}
-use Rattle.vms_event_core.specs.Conditions.{Meets}
-use Rattle.vms_event_core.specs.Events.{events, History, IsLegal, state_after, carried_by_all, true_total, IsComplete}
-use Rattle.vms_event_core.specs.Endings.{HoldsTotals}
-use Rattle.vms_event_core.specs.Laws.{KeepsTotals}
-use Rattle.vms_event_core.specs.Own.{moved}
-use Rattle.vms_event_core.specs.Steps.{role}
-use Rattle.vms_event_core.specs.Totals.{counted, word_after, word_in}
-use Rattle.vms_event_core.specs.Words.{IsEvent, word_at, words_of}
+use Rattle.vms_event_core.specs.Common.{Meets, events, History, IsLegal, state_after, carried_by_all, true_total}
+use Rattle.vms_event_core.specs.Common.{IsComplete, HoldsTotals, KeepsTotals, moved, role, counted, word_after, word_in}
+use Rattle.vms_event_core.specs.Common.{IsEvent, word_at, sum_of_words}
 use Rattle.vms_event_core.proofs.Carrying.{nothing_in_hand, nothing_carried}
 use Rattle.vms_event_core.proofs.StateWords.{owner_known, word_at-state_after}
 
@@ -59,9 +48,9 @@ module _ (facts : EventFacts) (h : History) (s : EventState) (p k : ℕ) (f : �
   AddsUp-step None _ is known meets = refl
   AddsUp-step (Some o) _ is known meets = refl
 
-words_of-told : (facts : EventFacts) (h : History) (k : ℕ) → IsLegal facts h → IsEvent k
-    → words_of facts.layout (state_after facts h) k ≡ sum_below (λ c. pos (word_in facts h c k)) facts.layout.cpus
-words_of-told facts h k legal k_in =
+sum_of_words-told : (facts : EventFacts) (h : History) (k : ℕ) → IsLegal facts h → IsEvent k
+    → sum_of_words facts.layout (state_after facts h) k ≡ sum_below (λ c. pos (word_in facts h c k)) facts.layout.cpus
+sum_of_words-told facts h k legal k_in =
     sum_below-same (λ c. pos (word_at (state_after facts h) c k)) (λ c. pos (word_in facts h c k)) facts.layout.cpus
     (λ c c_in. ap pos (word_at-state_after facts h c k legal k_in))
 
@@ -79,7 +68,7 @@ pub totals-kept : (facts : EventFacts) (h : History) → IsLegal facts h → Kee
 totals-kept facts h legal k k_in =
     let all : total (moved k) h ≡ carried_by_all h k =
     total-of_callers events facts (moved k) h (suc (begun_in role h)) legal (omega arith) in
-    rw (words_of-told facts h k legal k_in, ← all) (words_in-moved facts h k legal k_in)
+    rw (sum_of_words-told facts h k legal k_in, ← all) (words_in-moved facts h k legal k_in)
 
 -- where every pass has ended, the words alone are the true total
 pub totals-held : (facts : EventFacts) (h : History) (k : ℕ) → IsComplete facts h → IsEvent k → HoldsTotals facts h k

@@ -1,17 +1,14 @@
 -- What a step that meets its condition makes of the words.
 use Rattle.std.proofs.Common.{◌≡◌, ℕ, ◌+◌, ◌&&◌, List, Option, Some, None, refl, ◌∙◌, length-set, if◌then◌else◌, nat_eq}
-use Rattle.vms_base.specs.declared.ids.CpuId.{CpuId}
-use Rattle.vms_base.specs.Places.{Shape, cell, IsCpu}
+use Rattle.vms_history.specs.Common.{CpuId, Shape, cell, IsCpu}
 use Rattle.vms_history.specs.declared.events.Event.{Event}
-use Rattle.vms_history.proofs.Cells.{get_or-set_cell, get_or-changed_cell}
+use Rattle.vms_history.proofs.Common.{get_or-set_cell, get_or-changed_cell}
 use Rattle.vms_event_core.specs.declared.states.EventState.{EventState}
 use Rattle.vms_event_core.specs.declared.steps.EventFacts.{EventFacts}
 use Rattle.vms_event_core.specs.declared.steps.EventStep.{EventStep}
 use Rattle.vms_event_core.specs.declared.steps.EventStep.TheVariants.{AddE, TakeE, AddF}
-use Rattle.vms_event_core.specs.Conditions.{Meets}
-use Rattle.vms_event_core.specs.Steps.{effect_of, effect}
-use Rattle.vms_event_core.specs.Totals.{word_after}
-use Rattle.vms_event_core.specs.Words.{event_count, IsEvent, HasShape, word_at, with_word}
+use Rattle.vms_event_core.specs.Common.{Meets, effect_of, effect, word_after, event_count, IsEvent, HasShape, word_at}
+use Rattle.vms_event_core.specs.Common.{with_word}
 
 module _ (shape : Shape) (s : EventState) (shaped : HasShape shape s) where
   -- a write changes one word

@@ -1,11 +1,8 @@
 -- The facts that a history may begin with.
 use Rattle.std.specs.Prelude.{◌≡◌, ◌≢◌, ℕ, ◌^◌, ◌<◌, pos, ◌≤ℤ◌, length}
-use Rattle.vms_base.specs.declared.kinds.CpuState.{CpuState}
-use Rattle.vms_base.specs.declared.kinds.CpuState.TheVariants.{Online, Absent}
-use Rattle.vms_base.specs.Cpus.{state_at, HasOnline}
-use Rattle.vms_base.specs.Places.{IsLayout, IsCpu}
+use Rattle.vms_history.specs.Common.{CpuState, Online, Absent, state_at, HasOnline, IsLayout, IsCpu}
 use Rattle.vms_event_core.specs.declared.steps.EventFacts.{EventFacts}
-use Rattle.vms_event_core.specs.Words.{IsEvent, HasShape, word_at, words_of}
+use Rattle.vms_event_core.specs.Words.{IsEvent, HasShape, word_at, sum_of_words}
 
 -- whether a CPU is online, dead or absent
 abbrev pub cpu_at : EventFacts → ℕ → CpuState
@@ -28,4 +25,4 @@ pub record IsBase (facts : EventFacts) : Type 0 where
   pub shaped : HasShape facts.layout facts.base
   pub some_online : HasOnline facts.layout facts.cpus
   pub absent : (c k : ℕ) → IsCpu facts.layout c → cpu_at facts c ≡ Absent → IsEvent k → word_at facts.base c k ≡ 0
-  pub sums : (k : ℕ) → IsEvent k → words_of facts.layout facts.base k ≤ℤ pos most_in_base
+  pub sums : (k : ℕ) → IsEvent k → sum_of_words facts.layout facts.base k ≤ℤ pos most_in_base

@@ -1,17 +1,15 @@
 -- A pass makes the steps of a call while others act: what it has made, what it spends, and that it may make the next.
-use Rattle.std.specs.Prelude.{◌≡◌, ℕ, nat_eq, ◌+◌, ◌≤◌, List, ◌++◌, if◌then◌else◌, Option, Some, None, All}
-use Rattle.vms_base.specs.declared.ids.CpuId.{CpuId}
-use Rattle.vms_base.specs.declared.ids.EventId.{EventId}
-use Rattle.vms_base.specs.declared.kinds.CpuState.TheVariants.{Dead}
-use Rattle.vms_base.specs.Volumes.{most_volume}
-use Rattle.vms_history.specs.Events.{own, after}
+use Rattle.std.specs.Prelude.{◌≡◌, ℕ, ◌+◌, ◌≤◌, List, ◌++◌, Option, Some, None, All}
+use Rattle.vms_history.specs.Common.{CpuId, EventId, Dead, own, after, owner_in}
 use Rattle.vms_history.specs.PassSteps as making
-use Rattle.vms_history.specs.Passes.{owner_in}
+use Rattle.vms_event_core.specs.declared.call_values.EventCall.{EventCall}
+use Rattle.vms_event_core.specs.declared.call_values.EventCall.TheVariants.{Count, Sum, FoldDead}
 use Rattle.vms_event_core.specs.declared.steps.EventFacts.{EventFacts}
 use Rattle.vms_event_core.specs.declared.steps.EventStep.{EventStep}
 use Rattle.vms_event_core.specs.declared.steps.EventStep.TheVariants.{LoadE, TakeE}
-use Rattle.vms_event_core.specs.Bases.{cpu_at, IsLowestOnline}
-use Rattle.vms_event_core.specs.Calls.{IsCount, IsAllEvents, IsFoldEvents, AtMostStands, online_cpus, sum_over}
+use Rattle.vms_event_core.specs.Bases.{cpu_at}
+use Rattle.vms_event_core.specs.Calls.{IsFoldEvents, AtMostStands, online_cpus, sum_over}
+use Rattle.vms_event_core.specs.Conditions.{Counts}
 use Rattle.vms_event_core.specs.Events.{events, History, IsLegal, state_after}
 use Rattle.vms_event_core.specs.Own.{carried, CarriesNothing}
 use Rattle.vms_event_core.specs.Steps.{role}
@@ -33,23 +31,17 @@ Tells facts h p _ = Unit {0}
 abbrev pub MayMake : EventFacts → ℕ → History → List EventStep → Type 0
 MayMake facts p earlier steps = making.MayMake events Tells facts p earlier steps
 
--- the owner of a CPU may count an event within the CPU's volume
-abbrev pub MakesCount : Type 0
-MakesCount = (facts : EventFacts) (h : History) (p : ℕ) (cpu : CpuId) (k : EventId) (n : ℕ) (steps : List EventStep) →
-    owner_in role h p ≡ Some cpu → IsEvent k.number → spent h cpu.number k.number + n ≤ most_volume →
-    IsCount k n steps → MayMake facts p h steps
+-- the control pass may fold a dead CPU, where it carries nothing
+pub record FoldsDead (facts : EventFacts) (h : History) (p : ℕ) (c : CpuId) : Type 0 where
+  pub control : owner_in role h p ≡ None
+  pub nothing : CarriesNothing (own h p)
+  pub dead : cpu_at facts c.number ≡ Dead
 
--- a pass may sum up an event over the CPUs that are online
-abbrev pub MakesAllEvents : Type 0
-MakesAllEvents = (facts : EventFacts) (h : History) (p : ℕ) (k : EventId) (found : List ℕ) (steps : List EventStep)
-    (answer : ℕ) → IsEvent k.number → IsAllEvents (online_cpus facts) k found steps answer → MayMake facts p h steps
-
--- the control pass may fold a dead CPU into the lowest-numbered CPU that is online, where it carries nothing
-abbrev pub MakesFoldEvents : Type 0
-MakesFoldEvents = (facts : EventFacts) (h : History) (p : ℕ) (from into : CpuId) (found : List ℕ)
-    (steps : List EventStep) → owner_in role h p ≡ None → CarriesNothing (own h p) →
-    cpu_at facts from.number ≡ Dead → IsLowestOnline facts into.number → IsFoldEvents from into found steps →
-    MayMake facts p h steps
+-- where pass p may make a call: the owner of a CPU may count within the CPU's volume, and every pass may sum up
+abbrev pub MayCall : EventFacts → History → ℕ → EventCall → Type 0
+MayCall facts h p (Count k n) = Counts h p k n
+MayCall facts h p (Sum k) = IsEvent k.number
+MayCall facts h p (FoldDead c) = FoldsDead facts h p c
 
 -- steps of a call leave their caller carrying what it carried before
 abbrev pub CarryAsBefore : List EventStep → Type 0
@@ -68,10 +60,6 @@ SpendsSince later earlier p more = (c : CpuId) (k : ℕ) → owner_in role earli
 abbrev pub KeepsSpending : History → History → ℕ → Type 0
 KeepsSpending later earlier p = (c : CpuId) (k : ℕ) → owner_in role earlier p ≡ Some c →
     spent later c.number k ≡ spent earlier c.number k
-
--- a count spends its number of its event alone
-abbrev pub counted_of : EventId → ℕ → ℕ → ℕ
-counted_of k n l = if nat_eq k.number l then n else 0
 
 -- once a fold of a CPU is made, whatever others did in between and do afterwards, the words of that CPU are 0
 abbrev pub LeavesZeros : Type 0

@@ -1,13 +1,16 @@
 -- The steps that each call makes, oldest first, and what is read off them: its answer, and the steps after the call's.
-use Rattle.std.specs.Prelude.{◌≡◌, ℕ, suc, zero, ◌+◌, ◌≤◌, List, [], ◌∷◌, ◌++◌, length, sum}
-use Rattle.vms_base.specs.declared.ids.CpuId.{CpuId}
-use Rattle.vms_base.specs.declared.ids.EventId.{EventId}
-use Rattle.vms_base.specs.Cpus.{online_from}
+use Rattle.std.specs.Prelude.{◌≡◌, ℕ, suc, zero, ◌+◌, ◌≤◌, nat_eq, List, [], ◌∷◌, ◌++◌, length, sum, if◌then◌else◌}
+use Rattle.vms_history.specs.Common.{CpuId, EventId, online_from}
+use Rattle.vms_event_core.specs.declared.call_values.EventAnswer.{EventAnswer}
+use Rattle.vms_event_core.specs.declared.call_values.EventAnswer.TheVariants.{Done, Total}
+use Rattle.vms_event_core.specs.declared.call_values.EventCall.{EventCall}
+use Rattle.vms_event_core.specs.declared.call_values.EventCall.TheVariants.{Count, Sum, FoldDead}
 use Rattle.vms_event_core.specs.declared.states.EventState.{EventState}
 use Rattle.vms_event_core.specs.declared.steps.EventFacts.{EventFacts}
 use Rattle.vms_event_core.specs.declared.steps.EventStep.{EventStep}
 use Rattle.vms_event_core.specs.declared.steps.EventStep.TheVariants.{AddE, LoadE, TakeE, AddF}
-use Rattle.vms_event_core.specs.Words.{event_count, word_at}
+use Rattle.vms_event_core.specs.Bases.{IsLowestOnline}
+use Rattle.vms_event_core.specs.Words.{IsEvent, event_count, word_at}
 
 -- the CPUs that are online, in ascending order
 abbrev pub online_cpus : EventFacts → List CpuId
@@ -17,10 +20,10 @@ online_cpus facts = online_from 0 facts.cpus
 pub record IsCount (k : EventId) (n : ℕ) (steps : List EventStep) : Type 0 where
   pub in_order : steps ≡ AddE k n ∷ []
 
--- a count answers nothing
-abbrev pub read_count : List EventStep → Unit {0} × List EventStep
-read_count (AddE k n ∷ steps) = (tt, steps)
-read_count steps = (tt, steps)
+-- the steps after a count
+abbrev pub read_event : List EventStep → List EventStep
+read_event (AddE k n ∷ steps) = steps
+read_event steps = steps
 
 -- loads of the words of these CPUs, which found these numbers
 abbrev pub loads : EventId → List CpuId → List ℕ → List EventStep
@@ -60,6 +63,36 @@ read_fold_events (suc n) (TakeE c k zero ∷ steps) = (0 ∷ (read_fold_events n
 read_fold_events (suc n) (TakeE c k (suc v) ∷ AddF d l a ∷ steps) =
     (suc v ∷ (read_fold_events n steps).0, (read_fold_events n steps).1)
 read_fold_events n steps = ([], steps)
+
+-- the steps of each call with what it answers: a sum is over the CPUs that are online, and a dead CPU is folded into the
+-- lowest-numbered of them
+abbrev pub IsEventCall : EventFacts → EventCall → List EventStep → EventAnswer → Type 0
+IsEventCall facts (Count k n) steps Done = IsCount k n steps
+IsEventCall facts (Sum k) steps (Total answer) =
+    (found : List ℕ) × IsAllEvents (online_cpus facts) k found steps answer
+IsEventCall facts (FoldDead c) steps Done =
+    (into : CpuId) × (found : List ℕ) × IsLowestOnline facts into.number × IsFoldEvents c into found steps
+IsEventCall facts _ steps _ = ⊥
+
+-- what the steps of a call answer, and the steps after them
+abbrev pub read_event_call : EventFacts → EventCall → List EventStep → EventAnswer × List EventStep
+read_event_call facts (Count k n) steps = (Done, read_event steps)
+read_event_call facts (Sum k) steps = (
+  Total (read_all_events (length (online_cpus facts)) steps).0,
+  (read_all_events (length (online_cpus facts)) steps).1,
+)
+read_event_call facts (FoldDead c) steps = (Done, (read_fold_events event_count steps).1)
+
+-- what a call spends of its CPU's volume on event l: a count its number, on its own event alone
+abbrev pub event_spent : EventCall → ℕ → ℕ
+event_spent (Count k n) l = if nat_eq k.number l then n else 0
+event_spent _ l = 0
+
+-- a call that a pass which owns a CPU may make: a CPU is folded by the control pass alone
+abbrev pub IsCpuCall : EventCall → Type 0
+IsCpuCall (Count k n) = IsEvent k.number
+IsCpuCall (Sum k) = IsEvent k.number
+IsCpuCall (FoldDead c) = ⊥
 
 -- each of these numbers is at most the word of its CPU
 abbrev pub AtMostStands : EventState → ℕ → List CpuId → List ℕ → Type 0

@@ -1,13 +1,7 @@
 -- What each kind of step asks, in the words before it and of the history before it.
 use Rattle.std.specs.Prelude.{◌≡◌, ◌≢◌, ℕ, ◌+◌, ◌≤◌, pos, List, Some, None}
-use Rattle.vms_base.specs.declared.ids.CpuId.{CpuId}
-use Rattle.vms_base.specs.declared.ids.EventId.{EventId}
-use Rattle.vms_base.specs.declared.kinds.CpuState.TheVariants.{Dead}
-use Rattle.vms_base.specs.Volumes.{most_volume}
-use Rattle.vms_base.specs.Places.{IsCpu}
+use Rattle.vms_history.specs.Common.{CpuId, EventId, Dead, most_volume, IsCpu, own, owner_in}
 use Rattle.vms_history.specs.declared.events.Event.{Event}
-use Rattle.vms_history.specs.Events.{own}
-use Rattle.vms_history.specs.Passes.{owner_in}
 use Rattle.vms_event_core.specs.declared.states.EventState.{EventState}
 use Rattle.vms_event_core.specs.declared.steps.EventFacts.{EventFacts}
 use Rattle.vms_event_core.specs.declared.steps.EventStep.{EventStep}

@@ -1,17 +1,12 @@
 -- The table of event counters, and what holds of each of its legal histories.
 use Rattle.std.specs.Prelude.{ℕ, suc, ℤ, ◌+ℤ◌, List, Option}
-use Rattle.vms_base.specs.declared.ids.CpuId.{CpuId}
-use Rattle.vms_base.specs.Cpus.{MayOwnCpu}
+use Rattle.vms_history.specs.Common.{CpuId, MayOwnCpu, own, total, Machine, begun_in, sum_below}
 use Rattle.vms_history.specs.declared.events.Event.{Event}
-use Rattle.vms_history.specs.Events.{own, total}
-use Rattle.vms_history.specs.Legal.{Machine}
 use Rattle.vms_history.specs.Legal as legal
-use Rattle.vms_history.specs.Passes.{begun_in}
-use Rattle.vms_history.specs.Sums.{sum_below}
 use Rattle.vms_event_core.specs.declared.states.EventState.{EventState}
 use Rattle.vms_event_core.specs.declared.steps.EventFacts.{EventFacts}
 use Rattle.vms_event_core.specs.declared.steps.EventStep.{EventStep}
-use Rattle.vms_event_core.specs.Words.{words_of}
+use Rattle.vms_event_core.specs.Words.{sum_of_words}
 use Rattle.vms_event_core.specs.Steps.{role, effect}
 use Rattle.vms_event_core.specs.Own.{carried, CarriesNothing}
 use Rattle.vms_event_core.specs.Totals.{counted}
@@ -53,4 +48,4 @@ carried_by_all h k = sum_below (λ p. carried k (own h p)) (suc (begun_in role h
 
 -- the words of the base and every count since: what an event is in truth
 abbrev pub true_total : EventFacts → History → ℕ → ℤ
-true_total facts h k = words_of facts.layout facts.base k +ℤ total (counted k) h
+true_total facts h k = sum_of_words facts.layout facts.base k +ℤ total (counted k) h

@@ -1,24 +1,19 @@
 -- What holds of every legal history of event counters.
 use Rattle.std.specs.Prelude.{◌≡◌, ◌≢◌, ℕ, true, ◌+◌, ◌*◌, ◌≤◌, ◌<◌, ◌^◌, pos, ◌+ℤ◌, ◌≤ℤ◌, Some, None}
-use Rattle.vms_base.specs.declared.ids.CpuId.{CpuId}
-use Rattle.vms_base.specs.declared.kinds.CpuState.TheVariants.{Dead, Absent}
-use Rattle.vms_base.specs.Places.{Shape, IsCpu}
-use Rattle.vms_base.specs.Volumes.{most_volume}
-use Rattle.vms_history.specs.Events.{own, total}
-use Rattle.vms_history.specs.Passes.{lives_in, owner_in}
-use Rattle.vms_history.specs.Sums.{sum_below}
+use Rattle.vms_history.specs.Common.{CpuId, Dead, Absent, Shape, IsCpu, most_volume, own, total, lives_in, owner_in}
+use Rattle.vms_history.specs.Common.{sum_below}
 use Rattle.vms_event_core.specs.declared.steps.EventFacts.{EventFacts}
 use Rattle.vms_event_core.specs.Bases.{cpu_at, most_in_base}
 use Rattle.vms_event_core.specs.Events.{History, MayOwn, state_after, carried_by_all, true_total}
 use Rattle.vms_event_core.specs.Own.{carried}
 use Rattle.vms_event_core.specs.Steps.{role}
 use Rattle.vms_event_core.specs.Totals.{counted, taken_from, takes, spent, word_in}
-use Rattle.vms_event_core.specs.Words.{IsEvent, HasShape, word_at, words_of}
+use Rattle.vms_event_core.specs.Words.{IsEvent, HasShape, word_at, sum_of_words}
 
 -- no count is lost and none is counted twice: the words of an event and what is carried for it add up to its true total
 abbrev pub KeepsTotals : EventFacts → History → Type 0
 KeepsTotals facts h = (k : ℕ) → IsEvent k →
-    words_of facts.layout (state_after facts h) k +ℤ carried_by_all h k ≡ true_total facts h k
+    sum_of_words facts.layout (state_after facts h) k +ℤ carried_by_all h k ≡ true_total facts h k
 
 -- what the words of one event and all that is carried for it may come to
 abbrev pub most_in_sum : Shape → ℕ
@@ -27,7 +22,7 @@ most_in_sum shape = most_in_base + shape.cpus * most_volume
 -- the words of an event and all that is carried for it stay below that in sum, and so does each of them
 pub record BoundsWords (facts : EventFacts) (h : History) : Type 0 where
   pub sums : (k : ℕ) → IsEvent k →
-      (words_of facts.layout (state_after facts h) k +ℤ carried_by_all h k) ≤ℤ pos (most_in_sum facts.layout)
+      (sum_of_words facts.layout (state_after facts h) k +ℤ carried_by_all h k) ≤ℤ pos (most_in_sum facts.layout)
   pub words : (c k : ℕ) → IsCpu facts.layout c → IsEvent k →
       word_at (state_after facts h) c k ≤ most_in_sum facts.layout
   pub carried_least : (p k : ℕ) → pos 0 ≤ℤ carried k (own h p)

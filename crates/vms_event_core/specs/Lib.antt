@@ -10,3 +10,4 @@ pub mod Laws
 pub mod Endings
 pub mod Calls
 pub mod CallLaws
+pub mod Common

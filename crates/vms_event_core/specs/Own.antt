@@ -1,7 +1,7 @@
 -- What a caller carries, by its own events alone.
 use Rattle.std.specs.Prelude.{◌≡◌, ℕ, nat_eq, ℤ, pos, neg_ℤ, List, if◌then◌else◌}
 use Rattle.vms_history.specs.declared.events.Event.{Event}
-use Rattle.vms_history.specs.Events.{total}
+use Rattle.vms_history.specs.Common.{total}
 use Rattle.vms_event_core.specs.declared.steps.EventStep.{EventStep}
 use Rattle.vms_event_core.specs.declared.steps.EventStep.TheVariants.{TakeE, AddF}
 use Rattle.vms_event_core.specs.Words.{IsEvent}

@@ -1,8 +1,6 @@
 -- A Split and a Join leave the event counters as they are, and ask nothing beyond the rules of the passes.
 use Rattle.std.specs.Prelude.{◌≡◌, ◌≢◌, Option, Some, None, refl, ℕ}
-use Rattle.vms_base.specs.declared.ids.CpuId.{CpuId}
-use Rattle.vms_history.specs.Legal.{IsQuiet}
-use Rattle.vms_history.specs.Passes.Role.{Works}
+use Rattle.vms_history.specs.Common.{CpuId, IsQuiet, Works}
 use Rattle.vms_event_core.specs.declared.states.EventState.{EventState}
 use Rattle.vms_event_core.specs.declared.steps.EventFacts.{EventFacts}
 use Rattle.vms_event_core.specs.declared.steps.EventStep.{EventStep}

@@ -1,8 +1,6 @@
 -- What each kind of step does to the passes and to the words.
 use Rattle.std.specs.Prelude.{◌+◌, Option, Some, None}
-use Rattle.vms_base.specs.declared.ids.CpuId.{CpuId}
-use Rattle.vms_history.specs.Passes.{Role}
-use Rattle.vms_history.specs.Passes.Role.{Works, Begins, Ends}
+use Rattle.vms_history.specs.Common.{CpuId, Role, Works, Begins, Ends}
 use Rattle.vms_event_core.specs.declared.states.EventState.{EventState}
 use Rattle.vms_event_core.specs.declared.steps.EventFacts.{EventFacts}
 use Rattle.vms_event_core.specs.declared.steps.EventStep.{EventStep}

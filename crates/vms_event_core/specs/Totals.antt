@@ -1,8 +1,7 @@
 -- What a whole history counted, spent and took.
 use Rattle.std.specs.Prelude.{ℕ, suc, zero, ◌+◌, nat_eq, ◌&&◌, ℤ, pos, List, [], ◌∷◌, if◌then◌else◌, Option, Some}
-use Rattle.vms_base.specs.declared.ids.CpuId.{CpuId}
+use Rattle.vms_history.specs.Common.{CpuId, owner_in}
 use Rattle.vms_history.specs.declared.events.Event.{Event}
-use Rattle.vms_history.specs.Passes.{owner_in}
 use Rattle.vms_event_core.specs.declared.steps.EventFacts.{EventFacts}
 use Rattle.vms_event_core.specs.declared.steps.EventStep.{EventStep}
 use Rattle.vms_event_core.specs.declared.steps.EventStep.TheVariants.{AddE, TakeE, AddF}

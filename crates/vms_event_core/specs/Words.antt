@@ -1,7 +1,6 @@
 -- Where the words of the event counters stand, and what a write makes of them.
 use Rattle.std.specs.Prelude.{◌≡◌, ℕ, ◌*◌, ◌<◌, ℤ, pos, length, slice_index_or, slice_set}
-use Rattle.vms_base.specs.Places.{Shape, cell}
-use Rattle.vms_history.specs.Sums.{sum_below}
+use Rattle.vms_history.specs.Common.{Shape, cell, sum_below}
 use Rattle.vms_event_core.specs.declared.states.EventState.{EventState}
 
 -- how many events are counted
@@ -25,5 +24,5 @@ abbrev pub HasShape : Shape → EventState → Type 0
 HasShape shape s = length s.words ≡ shape.cpus * event_count
 
 -- the sum of the words of all CPUs for an event
-abbrev pub words_of : Shape → EventState → ℕ → ℤ
-words_of shape s k = sum_below (λ c. pos (word_at s c k)) shape.cpus
+abbrev pub sum_of_words : Shape → EventState → ℕ → ℤ
+sum_of_words shape s k = sum_below (λ c. pos (word_at s c k)) shape.cpus

@@ -1,55 +1,46 @@
-ghost use Rattle.std.specs.Prelude.{◌≡◌, ◌≢◌, ◌≤◌, ℕ, List, length, ◌++◌};
-ghost use Rattle.vms_base.specs.declared.ids.CpuId.{CpuId};
-ghost use Rattle.vms_base.specs.declared.ids.EventId.{EventId};
-ghost use Rattle.vms_base.specs.declared.kinds.CpuState.TheVariants.{Online};
+ghost use Rattle.std.specs.Prelude.{◌≡◌, ◌≢◌, ◌≤◌, ℕ, List, ◌++◌};
+ghost use Rattle.vms_history.specs.Common.{CpuId, EventId, Online};
+ghost use Rattle.vms_event_core.specs.declared.call_values.EventAnswer.{EventAnswer};
+ghost use Rattle.vms_event_core.specs.declared.call_values.EventCall.{EventCall};
 ghost use Rattle.vms_event_core.specs.declared.steps.EventFacts.{EventFacts};
 ghost use Rattle.vms_event_core.specs.declared.steps.EventStep.{EventStep};
 ghost use Rattle.vms_event_core.specs.Bases.{cpu_at};
-ghost use Rattle.vms_event_core.specs.Calls.{AtMostStands, IsCount, IsAllEvents, IsFoldEvents};
-ghost use Rattle.vms_event_core.specs.Calls.{read_count, read_all_events, read_fold_events, online_cpus};
+ghost use Rattle.vms_event_core.specs.Calls.{AtMostStands, IsAllEvents, IsEventCall, IsFoldEvents, event_spent};
+ghost use Rattle.vms_event_core.specs.Calls.{read_event_call, read_fold_events, online_cpus};
 ghost use Rattle.vms_event_core.specs.Events.{History, IsLegal, state_after};
 ghost use Rattle.vms_event_core.specs.Laws.{most_in_sum};
-ghost use Rattle.vms_event_core.specs.CallLaws.{HasMade, MakesCount, MakesAllEvents, MakesFoldEvents};
-ghost use Rattle.vms_event_core.specs.CallLaws.{CarryAsBefore, SpendNothing, SpendsSince, KeepsSpending};
-ghost use Rattle.vms_event_core.specs.CallLaws.{counted_of, LeavesZeros, SumsBetween};
+ghost use Rattle.vms_event_core.specs.CallLaws.{CarryAsBefore, HasMade, KeepsSpending, LeavesZeros, MayCall, MayMake};
+ghost use Rattle.vms_event_core.specs.CallLaws.{SpendNothing, SpendsSince, SumsBetween};
 ghost use Rattle.vms_event_core.specs.Words.{IsEvent, event_count, word_at};
 
-/// What a call found and answered can be read off its steps, whatever steps follow.
+/// What a call answered can be read off its steps, whatever steps follow, and what a fold found.
 pub fn answers_are_read()
-    ensures count { (k : EventId) (n : ℕ) (steps rest : List EventStep) → IsCount k n steps →
-        read_count (steps ++ rest) ≡ (tt, rest) }
-    ensures all_events { (cpus : List CpuId) (k : EventId) (found : List ℕ) (steps rest : List EventStep)
-        (answer : ℕ) → IsAllEvents cpus k found steps answer →
-        read_all_events (length cpus) (steps ++ rest) ≡ (answer, rest) }
-    ensures fold_events { (from into : CpuId) (found : List ℕ) (steps rest : List EventStep) →
+    ensures call { (facts : EventFacts) (call : EventCall) (steps rest : List EventStep) (answer : EventAnswer) →
+        IsEventCall facts call steps answer → read_event_call facts call (steps ++ rest) ≡ (answer, rest) }
+    ensures found { (from into : CpuId) (found : List ℕ) (steps rest : List EventStep) →
         IsFoldEvents from into found steps → read_fold_events event_count (steps ++ rest) ≡ (found, rest) }
 {}
 
 /// A pass may make the steps of each call, whatever others do between them.
 pub fn calls_may_be_made()
-    ensures count { MakesCount }
-    ensures all_events { MakesAllEvents }
-    ensures fold_events { MakesFoldEvents }
+    ensures { (facts : EventFacts) (h : History) (p : ℕ) (call : EventCall) (steps : List EventStep)
+        (answer : EventAnswer) → MayCall facts h p call → IsEventCall facts call steps answer →
+        MayMake facts p h steps }
 {}
 
 /// A call leaves its caller carrying what it carried before.
 pub fn calls_carry_nothing()
-    ensures count { (k : EventId) (n : ℕ) (steps : List EventStep) → IsCount k n steps → CarryAsBefore steps }
-    ensures all_events { (cpus : List CpuId) (k : EventId) (found : List ℕ) (steps : List EventStep)
-        (answer : ℕ) → IsAllEvents cpus k found steps answer → CarryAsBefore steps }
-    ensures fold_events { (from into : CpuId) (found : List ℕ) (steps : List EventStep) →
-        IsFoldEvents from into found steps → CarryAsBefore steps }
+    ensures { (facts : EventFacts) (call : EventCall) (steps : List EventStep) (answer : EventAnswer) →
+        IsEventCall facts call steps answer → CarryAsBefore steps }
 {}
 
 /// A count spends exactly its number of its event, of the CPU that its caller owns. The other calls spend nothing.
 pub fn counts_alone_spend()
-    ensures count { (facts : EventFacts) (later earlier : History) (p : ℕ) (k : EventId) (n : ℕ)
-        (steps : List EventStep) → HasMade facts later earlier p steps → IsCount k n steps →
-        SpendsSince later earlier p (counted_of k n) }
-    ensures all_events { (cpus : List CpuId) (k : EventId) (found : List ℕ) (steps : List EventStep)
-        (answer : ℕ) → IsAllEvents cpus k found steps answer → SpendNothing steps }
-    ensures fold_events { (from into : CpuId) (found : List ℕ) (steps : List EventStep) →
-        IsFoldEvents from into found steps → SpendNothing steps }
+    ensures call { (facts : EventFacts) (later earlier : History) (p : ℕ) (call : EventCall)
+        (steps : List EventStep) (answer : EventAnswer) → HasMade facts later earlier p steps →
+        IsEventCall facts call steps answer → SpendsSince later earlier p (event_spent call) }
+    ensures nothing { (facts : EventFacts) (call : EventCall) (steps : List EventStep) (answer : EventAnswer) →
+        IsEventCall facts call steps answer → ((k : ℕ) → event_spent call k ≡ 0) → SpendNothing steps }
     ensures others { (facts : EventFacts) (later earlier : History) (p : ℕ) (steps : List EventStep) →
         HasMade facts later earlier p steps → SpendNothing steps → KeepsSpending later earlier p }
 {}

@@ -1,17 +1,15 @@
 ghost use Rattle.std.specs.Prelude.{◌≡◌, ◌≤◌, ℕ, pos, ◌+ℤ◌, true, Some, List, [], ◌++◌};
-ghost use Rattle.vms_base.specs.declared.ids.CpuId.{CpuId};
+ghost use Rattle.vms_history.specs.Common.{CpuId, own, after, total, begun_in, lives_in, owner_in};
 ghost use Rattle.vms_event_core.specs.declared.steps.EventFacts.{EventFacts};
 ghost use Rattle.vms_event_core.specs.declared.steps.EventStep.{EventStep};
-ghost use Rattle.vms_event_core.specs.Endings.{HoldsTotals, ending, LeavesRoom, BeginsAgain};
-ghost use Rattle.vms_event_core.specs.Endings.{IsPaid, spent_by_now, StaysWithinVolumes};
+ghost use Rattle.vms_event_core.specs.Endings.{HoldsTotals, ending, LeavesRoom, BeginsAgain, IsPaid, spent_by_now};
+ghost use Rattle.vms_event_core.specs.Endings.{StaysWithinVolumes};
 ghost use Rattle.vms_event_core.specs.Events.{History, IsLegal, IsComplete};
 ghost use Rattle.vms_event_core.specs.Laws.{KeepsLaws};
 ghost use Rattle.vms_event_core.specs.CallLaws.{HasMade, KeepsSpending};
 ghost use Rattle.vms_event_core.specs.Steps.{role};
 ghost use Rattle.vms_event_core.specs.Totals.{counted, spent};
 ghost use Rattle.vms_event_core.specs.Words.{IsEvent};
-ghost use Rattle.vms_history.specs.Events.{own, after, total};
-ghost use Rattle.vms_history.specs.Passes.{begun_in, lives_in, owner_in};
 
 /// All laws of the event counters hold at every moment of a legal history, after each of its steps.
 pub fn laws_are_kept()

@@ -4,8 +4,7 @@ ghost use Rattle.std.specs.Prelude.{◌≡◌, nat_eq, ◌&&◌, ◌+◌, ◌*�
 ghost use Rattle.vms_event_core.specs.Own as carrying;
 ghost use Rattle.vms_event_core.specs.Totals as totals;
 ghost use Rattle.vms_event_core.specs.Words as words;
-ghost use Rattle.vms_history.specs.Events.{own};
-ghost use Rattle.vms_base.specs.Places.{IsCpu, cell};
+ghost use Rattle.vms_history.specs.Common.{own, IsCpu, cell};
 
 use crate::JudgedEvents;
 use vms_base::{CpuId, EventId};

@@ -1,11 +1,9 @@
 //! Whether a history may begin with these facts.
 
 ghost use Rattle.std.specs.Prelude.{◌≡◌, ◌↔◌, ℕ, ◌*◌, ◌<◌, IsTrue, length, pos, ◌≤ℤ◌};
-ghost use Rattle.vms_base.specs.Cpus.{HasOnline};
-ghost use Rattle.vms_base.specs.Places.{IsLayout, IsCpu};
-ghost use Rattle.vms_base.specs.declared.kinds.CpuState.TheVariants.{Online, Absent};
+ghost use Rattle.vms_history.specs.Common.{HasOnline, IsLayout, IsCpu, Online, Absent};
 ghost use Rattle.vms_event_core.specs.Bases as bases;
-ghost use Rattle.vms_event_core.specs.Words.{IsEvent, HasShape, event_count, word_at, words_of};
+ghost use Rattle.vms_event_core.specs.Common.{IsEvent, HasShape, event_count, word_at, sum_of_words};
 
 use crate::amounts::base_word;
 use vms_base::{CpuId, CpuState, EventId};
@@ -112,7 +110,7 @@ fn absent_have_no_count(facts: &EventFacts) -> bool
 fn base_sum(facts: &EventFacts, k: EventId) -> u128
     requires shaped { HasShape facts.now.layout facts.now.base }
     requires event { IsEvent k.number }
-    ensures { pos result ≡ words_of facts.now.layout facts.now.base k.number }
+    ensures { pos result ≡ sum_of_words facts.now.layout facts.now.base k.number }
 {
     let mut sum: u128 = 0;
     for number in 0..facts.layout.cpus() {
@@ -125,7 +123,7 @@ fn base_sum(facts: &EventFacts, k: EventId) -> u128
 fn sums_fit(facts: &EventFacts) -> bool
     requires { HasShape facts.now.layout facts.now.base }
     ensures { IsTrue result ↔ ((k : ℕ) → IsEvent k →
-        words_of facts.now.layout facts.now.base k ≤ℤ pos bases.most_in_base) }
+        sum_of_words facts.now.layout facts.now.base k ≤ℤ pos bases.most_in_base) }
 {
     for number in 0..8 {
         if base_sum(facts, EventId { number }) > 1 << 60 {

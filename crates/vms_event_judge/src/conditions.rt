@@ -2,15 +2,9 @@
 
 ghost use Rattle.std.specs.Prelude.{◌≡◌, ◌≢◌, ◌↔◌, ℕ, ◌<◌, IsTrue, None, reverse, pos};
 ghost use Rattle.vms_event_core.specs.Conditions as conditions;
-ghost use Rattle.vms_event_core.specs.Events.{MayOwn, IsLegal, state_after};
-ghost use Rattle.vms_event_core.specs.Own.{CarriesNothing};
-ghost use Rattle.vms_event_core.specs.Own.{carried as carried_of};
-ghost use Rattle.vms_event_core.specs.Bases.{cpu_at};
-ghost use Rattle.vms_base.specs.declared.kinds.CpuState.TheVariants.{Dead};
-ghost use Rattle.vms_history.specs.Passes.{owner_in};
-ghost use Rattle.vms_event_core.specs.Steps.{role};
-ghost use Rattle.vms_event_core.specs.Words.{IsEvent};
-ghost use Rattle.vms_history.specs.Events.{own};
+ghost use Rattle.vms_event_core.specs.Common.{MayOwn, IsLegal, state_after, CarriesNothing, carried as carried_of};
+ghost use Rattle.vms_event_core.specs.Common.{cpu_at, role, IsEvent};
+ghost use Rattle.vms_history.specs.Common.{Dead, owner_in, own};
 
 use crate::JudgedEvents;
 use crate::amounts::{carried, spent, word};

@@ -1,6 +1,5 @@
 ghost use Rattle.vms_event_core.specs.declared.states.EventState.{EventState};
-ghost use Rattle.vms_event_core.specs.Events.{events};
-ghost use Rattle.vms_event_core.specs.Quiet.{quiet_events};
+ghost use Rattle.vms_event_core.specs.Common.{events, quiet_events};
 
 use crate::bases::is_base;
 use crate::conditions::{carries_nothing, may_own, meets};

@@ -1,47 +1,25 @@
 -- For other crates too: a CPU goes absent in a phase by a line that buries it, and by no other.
-use Rattle.std.proofs.Common.{◌≡◌, ℕ, zero, suc, ◌<◌, ◌≤◌, nat_eq, Bool, true, false, List, [], ◌∷◌, ◌++◌}
-use Rattle.std.proofs.Common.{length, None, inl, inr, ◌⊎◌, refl, sym, ap, subst, ◌∙◌, arith, eq-eqb, eqb-true}
-use Rattle.std.proofs.Common.{append_assoc, if◌then◌else◌}
+use Rattle.std.proofs.Common.{◌≡◌, ℕ, zero, suc, ◌<◌, ◌≤◌, nat_eq, Bool, true, false, List, [], ◌∷◌, ◌++◌, length, None}
+use Rattle.std.proofs.Common.{inl, inr, ◌⊎◌, refl, sym, ap, subst, ◌∙◌, arith, eq-eqb, eqb-true, append_assoc}
+use Rattle.std.proofs.Common.{if◌then◌else◌}
 use Rattle.std.specs.List.{Contains}
 use Rattle.std.proofs.lemmas.List.Elements.{Contains-append_left, Contains-push}
-use Rattle.vms_base.specs.declared.headers.Header.{Header}
-use Rattle.vms_base.specs.declared.ids.CpuId.{CpuId}
-use Rattle.vms_base.specs.declared.kinds.CpuState.{CpuState}
-use Rattle.vms_base.specs.declared.kinds.CpuState.TheVariants.{Absent}
-use Rattle.vms_base.specs.declared.kinds.ZoneSize.{ZoneSize}
-use Rattle.vms_history.specs.declared.events.Event.{Event}
-use Rattle.vms_history.specs.Events.{after, own}
-use Rattle.vms_history.specs.Passes.{begun_in, owner_in}
-use Rattle.vms_history.proofs.Own.{own-append, own-mine}
-use Rattle.vms_history.proofs.PassLaws.{live_is_given, owner_in-append, begun_in-append}
-use Rattle.vms_history.proofs.Prefixes.{prefix_is_legal}
-use Rattle.vms_core.specs.declared.states.State.{State}
-use Rattle.vms_core.specs.declared.steps.Facts.{Facts}
-use Rattle.vms_core.specs.declared.steps.Step.{Step}
-use Rattle.vms_core.specs.declared.steps.Step.TheVariants.{SetO}
-use Rattle.vms_core.specs.Cells.{cpu_at}
-use Rattle.vms_core.specs.Pages.{pages, History, IsLegal}
-use Rattle.vms_core.specs.Peaks.{cpu_after, cpu_in}
+use Rattle.vms_world.specs.Common.{Header, CpuId, CpuState, Absent, ZoneSize, Event, after, own, begun_in, owner_in}
+use Rattle.vms_world.specs.Common.{State, Facts, Step, SetO, cpu_at, pages, cpu_after, cpu_in, facts_of, Buries}
+use Rattle.vms_world.specs.Common.{ByNormal, ByPressure, Act, Fold, Water, Val, Snap, Sys, Pressure, Normal, Kswapd}
+use Rattle.vms_world.specs.Common.{Item, Lane, Control, PageSteps, lane_owns, HasLanes, MakesActs, MakesLines, acts_of}
+use Rattle.vms_world.specs.Common.{is_among, lane_at, lanes_of, act as one_act, TableHistories, left_by, page_facts}
+use Rattle.vms_history.proofs.Common.{own-append, own-mine, live_is_given, owner_in-append, begun_in-append}
+use Rattle.vms_history.proofs.Common.{prefix_is_legal}
+use Rattle.vms_core.specs.Pages.{History, IsLegal}
 use Rattle.vms_core.specs.Steps.{role}
-use Rattle.vms_core.proofs.KeptLaws.{laws-kept}
-use Rattle.vms_calls.specs.HeaderFacts.{facts_of}
-use Rattle.vms_calls.specs.Ratings.{Buries, ByNormal, ByPressure}
-use Rattle.vms_calls.proofs.CallSteps.{Each, OfFolds, OfLooks, OfRatings, each-append, fold-each, node-each}
-use Rattle.vms_calls.proofs.CallSteps.{refresh-each, snapshot-each, test-each, turn-each}
-use Rattle.vms_text.specs.declared.acts.Act.{Act}
-use Rattle.vms_text.specs.declared.acts.Act.TheVariants.{Fold, Water, Val, Snap, Sys, Pressure, Normal, Dead, Kswapd}
-use Rattle.vms_text.specs.declared.acts.Item.{Item}
-use Rattle.vms_text.specs.declared.acts.Lane.{Lane}
-use Rattle.vms_text.specs.declared.acts.Lane.TheVariants.{Control}
+use Rattle.vms_core.proofs.Common.{laws-kept}
+use Rattle.vms_calls.proofs.Common.{Each, OfFolds, OfLooks, OfRatings, each-append, fold-each, node-each, refresh-each}
+use Rattle.vms_calls.proofs.Common.{snapshot-each, test-each, turn-each}
+use Rattle.vms_text.specs.declared.acts.Act.TheVariants.{Dead}
 use Rattle.vms_world.specs.declared.worlds.World.{World}
-use Rattle.vms_world.specs.Acts.{PageSteps, owns}
-use Rattle.vms_world.specs.Lanes.{HasLanes, MakesActs, MakesLines, acts_of, is_among, lane_at, lanes_of}
-use Rattle.vms_world.specs.Lanes.MakesActs.{none as no_act, act as one_act}
-use Rattle.vms_world.specs.Phases.{Histories, left_by}
-use Rattle.vms_world.specs.Worlds.{page_facts}
-use Rattle.vms_file_order.specs.Burials.{AbsentAreBuried}
-use Rattle.vms_file_order.specs.LanePasses.{pass_of}
-use Rattle.vms_file_order.specs.MadePhases.{MakePhase}
+use Rattle.vms_world.specs.Lanes.MakesActs.{none as no_act}
+use Rattle.vms_file_order.specs.Common.{AbsentAreBuried, pass_of, MakeInAnyOrder}
 use Rattle.vms_file_order.proofs.LaneLists.{owner_of-injective}
 use Rattle.vms_file_order.proofs.MadeActs.{MadeAct, MakesActs-lane, StandsIn, each-made, step-made}
 
@@ -81,7 +59,7 @@ module _ (header : Header) (base : State) (pressure normal : ZoneSize → ℕ �
   act-stays : (p : ℕ) (a : Act) (h : History) (steps : List Step)
       → PageSteps header base pressure normal Control p a h steps → (a ≡ Dead c) ⊎ Each (Stays c.number) steps
   act-stays p (Fold d) h steps makes =
-      inr (fold-each (Stays c.number) (stays-folds c.number) header.layout (owns Control d) d steps makes)
+      inr (fold-each (Stays c.number) (stays-folds c.number) header.layout (lane_owns Control d) d steps makes)
   act-stays p (Water g mark most) h steps (answer, makes) =
       inr (test-each (Stays c.number) (stays-looks c.number) header g mark most steps answer makes)
   act-stays p (Val k) h steps (answer, makes) = inr (subst (Each (Stays c.number)) (sym makes.in_order) (tt, tt))
@@ -308,8 +286,8 @@ module _ (pressure normal : ZoneSize → ℕ → ℕ → Type 0) (header : Heade
       }
 
 module _ (pressure normal : ZoneSize → ℕ → ℕ → Type 0) (header : Header) (w : World) (items : List Item)
-    (hs : Histories) (phase : MakePhase header pressure normal w items hs) where
-  pub AbsentAreBuried-made : AbsentAreBuried header w items (left_by header w hs)
+    (hs : TableHistories) (phase : MakeInAnyOrder header pressure normal w items hs) where
+  pub AbsentAreBuried-made : AbsentAreBuried header w items (left_by header w items hs)
   AbsentAreBuried-made c c_in gone = by (cpu_in-either (page_facts header w) c.number hs.pages)
     where
       is : cpu_in (page_facts header w) c.number hs.pages ≡ Absent

@@ -3,19 +3,10 @@ use Rattle.std.proofs.Common.{◌≡◌, ℕ, ◌+◌, nat_eq, ◌&&◌, Bool, t
 use Rattle.std.proofs.Common.{map, refl, sym, ap, subst, ◌∙◌, arith, if◌then◌else◌}
 use Rattle.std.specs.Prelude.{filter}
 use Rattle.std.proofs.lemmas.Int.{ints}
-use Rattle.vms_base.specs.declared.ids.CpuId.{CpuId}
-use Rattle.vms_history.specs.declared.events.Event.{Event}
-use Rattle.vms_history.specs.Events.{after, own}
-use Rattle.vms_script.specs.PhaseScripts.{is_lane}
-use Rattle.vms_script.specs.Totals.{line_of}
-use Rattle.vms_script.specs.Volumes.{by_cpu, volume}
-use Rattle.vms_text.specs.declared.acts.Act.{Act}
-use Rattle.vms_text.specs.declared.acts.Item.{Item}
-use Rattle.vms_text.specs.declared.acts.Lane.{Lane}
-use Rattle.vms_text.specs.declared.acts.Lane.TheVariants.{Cpu, Control}
+use Rattle.vms_world.specs.Common.{CpuId, Event, after, own, is_lane, line_of, by_cpu, volume, Act, Item, Lane, Cpu}
+use Rattle.vms_world.specs.Common.{Control, MakesActs, acts_of, act as one_act}
 use Rattle.vms_text.specs.declared.acts.Line.TheVariants.{Lane as LaneLine}
-use Rattle.vms_world.specs.Lanes.{MakesActs, acts_of}
-use Rattle.vms_world.specs.Lanes.MakesActs.{none as no_act, act as one_act}
+use Rattle.vms_world.specs.Lanes.MakesActs.{none as no_act}
 
 -- a number under conditions, as an integer
 pub pos-if : (b : Bool) (n : ℕ) → (if b then pos n else pos 0) ≡ pos (if b then n else 0)

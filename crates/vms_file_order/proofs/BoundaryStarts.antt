@@ -2,33 +2,19 @@
 use Rattle.std.proofs.Common.{◌≡◌, ◌≢◌, ℕ, zero, suc, ◌<◌, ◌≤◌, nat_eq, Bool, true, false, inl, inr, ◌⊎◌, refl, sym, ap}
 use Rattle.std.proofs.Common.{subst, ◌∙◌, arith, eq-eqb, if◌then◌else◌, Ok, Err}
 use Rattle.std.proofs.lemmas.Bool.{cases_eq}
-use Rattle.vms_base.specs.declared.headers.Header.{Header}
-use Rattle.vms_base.specs.declared.ids.CpuId.{CpuId}
-use Rattle.vms_base.specs.declared.kinds.CpuState.{CpuState}
-use Rattle.vms_base.specs.declared.kinds.CpuState.TheVariants.{Online as IsOnline, Dead as IsDead, Absent}
-use Rattle.vms_base.specs.declared.kinds.ZoneSize.{ZoneSize}
-use Rattle.vms_base.specs.Cpus.{is_online}
-use Rattle.vms_base.specs.Places.{IsCpu}
-use Rattle.vms_base.specs.Thresholds.{GivesThresholds}
-use Rattle.vms_history.proofs.Cells.{get_or-set}
-use Rattle.vms_core.specs.declared.states.State.{State}
-use Rattle.vms_core.specs.Cells.{cpu_at, with_cpu}
-use Rattle.vms_line.specs.declared.causes.LineCause.TheVariants.{LastCpu, NotOnline}
-use Rattle.vms_line.specs.Laws.{IsLineOf}
-use Rattle.vms_script.specs.Cpus.{online_among}
-use Rattle.vms_script.specs.Judging.{allowed_from, allowed_online}
-use Rattle.vms_script.specs.Starts.{Start, start_past}
-use Rattle.vms_script.proofs.LineVolumes.{IsWithin-allowed}
+use Rattle.vms_world.specs.Common.{Header, CpuId, CpuState, Absent, ZoneSize, is_online, IsCpu, GivesThresholds, State}
+use Rattle.vms_world.specs.Common.{cpu_at, with_cpu, LastCpu, NotOnline, IsLineOf, online_among, allowed_from}
+use Rattle.vms_world.specs.Common.{allowed_online, Start, start_past, Offline, Flush, Report, Crosses, MayCross}
+use Rattle.vms_world.specs.Common.{flushed_pages, refreshed, IsWorldOf}
+use Rattle.vms_base.specs.declared.kinds.CpuState.TheVariants.{Online as IsOnline, Dead as IsDead}
+use Rattle.vms_history.proofs.Common.{get_or-set}
+use Rattle.vms_script.proofs.Common.{IsWithin-allowed}
 use Rattle.vms_text.specs.declared.acts.Boundary.{Boundary as BoundaryOf}
-use Rattle.vms_text.specs.declared.acts.Boundary.TheVariants.{Sync, Offline, Online, Flush, Report}
+use Rattle.vms_text.specs.declared.acts.Boundary.TheVariants.{Sync, Online}
 use Rattle.vms_text.specs.declared.acts.Line.TheVariants.{Boundary}
 use Rattle.vms_world.specs.declared.worlds.World.{World}
-use Rattle.vms_world.specs.Boundaries.{Crosses, MayCross, flushed_pages}
-use Rattle.vms_world.specs.Refreshes.{refreshed}
-use Rattle.vms_world.specs.Worlds.{IsWorldOf}
-use Rattle.vms_world.proofs.Crossings.{IsWorldOf-crossed}
-use Rattle.vms_file_order.specs.Burials.{HasStates}
-use Rattle.vms_file_order.specs.WorldStarts.{IsStartOf}
+use Rattle.vms_world.proofs.Common.{IsWorldOf-crossed}
+use Rattle.vms_file_order.specs.Common.{HasStates, IsStartOf}
 use Rattle.vms_file_order.proofs.CpuStates.{is_online-state}
 
 -- a CPU below n that is online, other than c

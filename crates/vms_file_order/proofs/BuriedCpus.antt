@@ -4,45 +4,24 @@ use Rattle.std.proofs.Common.{◌++◌, length, Option, Some, None, inl, inr, �
 use Rattle.std.proofs.Common.{append_assoc, if◌then◌else◌}
 use Rattle.std.specs.List.{Contains}
 use Rattle.std.proofs.lemmas.Bool.Decides.{nat_tests}
-use Rattle.vms_base.specs.declared.headers.Header.{Header}
-use Rattle.vms_base.specs.declared.ids.CpuId.{CpuId}
-use Rattle.vms_base.specs.declared.kinds.CpuState.TheVariants.{Online, Dead as IsDead, Absent}
-use Rattle.vms_base.specs.declared.kinds.ZoneSize.{ZoneSize}
-use Rattle.vms_base.specs.Places.{IsCpu}
-use Rattle.vms_history.specs.declared.events.Event.{Event}
-use Rattle.vms_history.specs.Passes.{owner_in}
-use Rattle.vms_core.specs.Cells.{cpu_at}
-use Rattle.vms_history.proofs.Prefixes.{prefix_is_legal}
-use Rattle.vms_event_core.specs.declared.steps.EventFacts.{EventFacts}
-use Rattle.vms_event_core.specs.declared.steps.EventStep.{EventStep}
-use Rattle.vms_event_core.specs.declared.steps.EventStep.TheVariants.{TakeE, AddF}
+use Rattle.vms_world.specs.Common.{Header, CpuId, Absent, ZoneSize, IsCpu, Event, owner_in, cpu_at, Total, EventFacts}
+use Rattle.vms_world.specs.Common.{EventStep, TakeE, AddF, folds, moves, word_after, word_in, IsEvent, word_at}
+use Rattle.vms_world.specs.Common.{numbers_after, IsPcpu, local_at, Act, Item, Control, EventSteps, acts_of, has_line}
+use Rattle.vms_world.specs.Common.{is_among, lanes_of, TableHistories, LeavesNothing, left_by, event_facts, pcpu_facts}
+use Rattle.vms_base.specs.declared.kinds.CpuState.TheVariants.{Online, Dead as IsDead}
+use Rattle.vms_history.proofs.Common.{prefix_is_legal}
+use Rattle.vms_event_core.specs.declared.call_values.EventAnswer.TheVariants.{Done}
 use Rattle.vms_event_core.specs.Bases as event_bases
-use Rattle.vms_event_core.specs.Calls.{folds, moves}
 use Rattle.vms_event_core.specs.Events as events
 use Rattle.vms_event_core.specs.Laws as event_laws
 use Rattle.vms_event_core.specs.Steps as event_steps
-use Rattle.vms_event_core.specs.Totals.{word_after, word_in}
-use Rattle.vms_event_core.specs.Words.{IsEvent, word_at}
-use Rattle.vms_event_core.proofs.StateWords.{word_at-state_after}
+use Rattle.vms_event_core.proofs.Common.{word_at-state_after}
 use Rattle.vms_pcpu_core.specs.Histories as percpu
-use Rattle.vms_pcpu_core.specs.Laws.{numbers_after}
-use Rattle.vms_pcpu_core.specs.States.{IsPcpu, counters_of, local_at}
-use Rattle.vms_pcpu_core.proofs.AllLaws.{laws-kept}
-use Rattle.vms_pcpu_core.proofs.FoldedCpus.{folded-none}
-use Rattle.vms_pcpu_core.proofs.Shapes.{HasShape-state_after}
-use Rattle.vms_text.specs.declared.acts.Act.{Act}
+use Rattle.vms_pcpu_core.specs.States.{counters_of}
+use Rattle.vms_pcpu_core.proofs.Common.{laws-kept, folded-none, fold-call, HasShape-state_after}
 use Rattle.vms_text.specs.declared.acts.Act.TheVariants.{Dead}
-use Rattle.vms_text.specs.declared.acts.Item.{Item}
-use Rattle.vms_text.specs.declared.acts.Lane.TheVariants.{Control}
 use Rattle.vms_world.specs.declared.worlds.World.{World}
-use Rattle.vms_world.specs.Acts.{EventSteps}
-use Rattle.vms_world.specs.Lanes.{acts_of, has_line, is_among, lanes_of}
-use Rattle.vms_world.specs.Phases.{Histories, LeavesNothing, left_by}
-use Rattle.vms_world.specs.Worlds.{event_facts, pcpu_facts}
-use Rattle.vms_file_order.specs.Burials.{AbsentAreBuried}
-use Rattle.vms_file_order.specs.LanePasses.{pass_of}
-use Rattle.vms_file_order.specs.MadePhases.{MakePhase}
-use Rattle.vms_file_order.specs.Tables.{event_makes, pcpu_makes}
+use Rattle.vms_file_order.specs.Common.{AbsentAreBuried, pass_of, MakeInAnyOrder, event_makes, pcpu_makes}
 use Rattle.vms_file_order.proofs.LaneLists.{among-lanes}
 use Rattle.vms_file_order.proofs.MadeActs.{MadeAct, MakesActs-lane, each-made, step-made}
 use Rattle.vms_file_order.proofs.OnePass.{acts_of-none}
@@ -123,8 +102,9 @@ module _ (stays : (facts : EventFacts) (m h : events.History) (c k : ℕ) → ev
     → word_at (events.state_after facts (m ++ h)) c k ≡ 0)
     (keeps : (facts : EventFacts) (more h : events.History) → events.IsLegal facts (more ++ h)
     → event_laws.KeepsLaws facts h)
-    (header : Header) (pressure normal : ZoneSize → ℕ → ℕ → Type 0) (w : World) (items : List Item) (hs : Histories)
-    (phase : MakePhase header pressure normal w items hs) where
+    (header : Header) (pressure normal : ZoneSize → ℕ → ℕ → Type 0) (w : World) (items : List Item)
+    (hs : TableHistories)
+    (phase : MakeInAnyOrder header pressure normal w items hs) where
   -- what a burial leaves of an event
   buried-events : (c : CpuId) → Contains (acts_of Control items) (Dead c) → (k : ℕ) → IsEvent k
       → IsTaken (event_facts header w) hs.events c.number k
@@ -140,7 +120,8 @@ module _ (stays : (facts : EventFacts) (m h : events.History) (c k : ℕ) → ev
       at : (p : ℕ) (act : MadeAct (event_makes (event_facts header w) Control p) p (Dead c) hs.events)
           → EventSteps (event_facts header w) Control (Dead c) act.steps
           → IsTaken (event_facts header w) hs.events c.number k
-      at p act (into, found, lowest, fold) =
+      at p act (Total answer, no_call) = absurd no_call
+      at p act (Done, (into, found, lowest, fold)) =
           let facts = event_facts header w in
           let takes = folds-take c into 0 k k found (omega arith) (omega (arith, k_in, fold.one_each)) in
           let stands = step-made (event_makes facts Control p) p (Dead c) hs.events act takes.first
@@ -176,10 +157,10 @@ module _ (stays : (facts : EventFacts) (m h : events.History) (c k : ℕ) → ev
         legal = prefix_is_legal percpu.percpu facts act.since (act.more ++ act.before) whole;
         goes_on = (act.more, refl);
         made = act.made;
-      }) act.making dead whole j j_in j_in
+      }) (fold-call facts c act.steps act.making) dead whole j j_in j_in
 
-  pub LeavesNothing-buried : AbsentAreBuried header w items (left_by header w hs)
-      → LeavesNothing header (left_by header w hs)
+  pub LeavesNothing-buried : AbsentAreBuried header w items (left_by header w items hs)
+      → LeavesNothing header (left_by header w items hs)
   LeavesNothing-buried buried = record {
     events = λ c k c_in gone k_in. of_events (record { number = c }) k k_in c_in
         (buried (record { number = c }) c_in gone);

@@ -4,25 +4,12 @@ use Rattle.std.proofs.Common.{refl, sym, ap, subst, ◌∙◌, arith, if◌then�
 use Rattle.std.specs.Prelude.{All, filter}
 use Rattle.std.specs.List.{Contains}
 use Rattle.std.proofs.lemmas.List.Elements.{All-head, All-tail}
-use Rattle.vms_base.specs.declared.headers.Header.{Header}
-use Rattle.vms_base.specs.declared.ids.CpuId.{CpuId}
-use Rattle.vms_base.specs.declared.kinds.CpuState.{CpuState}
-use Rattle.vms_base.specs.declared.kinds.CpuState.TheVariants.{Absent}
-use Rattle.vms_core.specs.Cells.{cpu_at}
-use Rattle.vms_line.specs.Laws.{IsActOf, IsLineOf}
-use Rattle.vms_script.specs.Cpus.{state_past}
-use Rattle.vms_script.specs.PhaseScripts.{is_lane}
-use Rattle.vms_script.specs.Starts.{Start, start_at_end, start_past}
-use Rattle.vms_script.specs.Totals.{line_of}
-use Rattle.vms_text.specs.declared.acts.Act.{Act}
+use Rattle.vms_world.specs.Common.{Header, CpuId, CpuState, Absent, cpu_at, IsActOf, IsLineOf, state_past, is_lane}
+use Rattle.vms_world.specs.Common.{Start, start_at_end, start_past, line_of, Act, Item, Lane, Cpu, Control, acts_of}
 use Rattle.vms_text.specs.declared.acts.Act.TheVariants.{Dead}
-use Rattle.vms_text.specs.declared.acts.Item.{Item}
-use Rattle.vms_text.specs.declared.acts.Lane.{Lane}
-use Rattle.vms_text.specs.declared.acts.Lane.TheVariants.{Cpu, Control}
 use Rattle.vms_text.specs.declared.acts.Line.TheVariants.{Lane as LaneLine}
 use Rattle.vms_world.specs.declared.worlds.World.{World}
-use Rattle.vms_world.specs.Lanes.{acts_of}
-use Rattle.vms_file_order.specs.Burials.{AbsentAreBuried, HasStates}
+use Rattle.vms_file_order.specs.Common.{AbsentAreBuried, HasStates}
 
 Contains-later : {X : Type 0} (y x : X) (xs : List X) → Contains xs x → Contains (y ∷ xs) x
 Contains-later y x xs (k, within, is) = (suc k, omega arith, is)

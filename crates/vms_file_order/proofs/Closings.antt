@@ -3,16 +3,11 @@ use Rattle.std.proofs.Common.{◌≡◌, ◌≢◌, ℕ, suc, ◌+◌, ◌<◌, 
 use Rattle.std.proofs.Common.{length, refl, sym, ap, subst, ◌∙◌, arith, if◌then◌else◌}
 use Rattle.std.proofs.lemmas.Bool.{false_from_ne_true}
 use Rattle.std.proofs.lemmas.Bool.Decides.{nat_tests}
-use Rattle.vms_history.specs.declared.events.Event.{Event}
-use Rattle.vms_history.specs.Events.{own, after}
-use Rattle.vms_history.specs.Legal.{Machine, IsComplete, IsLegal, IsQuiet, Acts, state_after}
-use Rattle.vms_history.specs.Passes.{Role, begun_after, begun_in, lives, lives_after, lives_in, owner_after}
-use Rattle.vms_history.specs.Passes.{owner_in}
-use Rattle.vms_history.specs.Passes.Role.{Works, Ends}
-use Rattle.vms_history.proofs.Own.{own-others}
-use Rattle.vms_text.specs.declared.acts.Lane.{Lane}
-use Rattle.vms_file_order.specs.LanePasses.{PassSteps, closing_of, ends_from}
-use Rattle.vms_file_order.specs.FileOrder.{StandsOpen}
+use Rattle.vms_world.specs.Common.{Event, own, after, Machine, IsQuiet, Acts, Role, begun_after, begun_in, lives}
+use Rattle.vms_world.specs.Common.{lives_after, lives_in, owner_after, owner_in, Works, Ends, Lane}
+use Rattle.vms_history.specs.Legal.{IsComplete, IsLegal, state_after}
+use Rattle.vms_history.proofs.Common.{own-others}
+use Rattle.vms_file_order.specs.Common.{PassSteps, closing_of, ends_from, StandsOpen}
 use Rattle.vms_file_order.proofs.Openings.{lives-lane, lives-only}
 
 module _ {K : Type 0} {role : K → Role} (passes : PassSteps K role) where

@@ -2,37 +2,17 @@
 use Rattle.std.proofs.Common.{◌≡◌, ℕ, Bool, true, false, List, length, map, inl, inr, ◌⊎◌, refl, sym, ap, ◌∙◌, arith}
 use Rattle.std.specs.Prelude.{All}
 use Rattle.std.specs.List.{Contains}
-use Rattle.vms_base.specs.declared.headers.Header.{Header}
-use Rattle.vms_base.specs.declared.ids.CpuId.{CpuId}
-use Rattle.vms_base.specs.declared.kinds.CpuState.{CpuState}
-use Rattle.vms_base.specs.declared.kinds.CpuState.TheVariants.{Online as IsOnline, Dead as IsDead, Absent}
-use Rattle.vms_base.specs.declared.kinds.ZoneSize.{ZoneSize}
-use Rattle.vms_base.specs.Cpus.{is_online}
-use Rattle.vms_base.specs.Places.{IsCpu}
-use Rattle.vms_core.specs.Cells.{cpu_at}
+use Rattle.vms_world.specs.Common.{Header, CpuId, CpuState, Absent, ZoneSize, is_online, IsCpu, cpu_at, cpu_in, HasWon}
+use Rattle.vms_world.specs.Common.{IsLineOf, Start, start_at_end, line_of, Act, Item, Lane, Control, PageSteps}
+use Rattle.vms_world.specs.Common.{HasLanes, MakesLines, acts_of, is_among, lanes_of, TableHistories, left_by}
+use Rattle.vms_world.specs.Common.{page_facts}
+use Rattle.vms_base.specs.declared.kinds.CpuState.TheVariants.{Online as IsOnline, Dead as IsDead}
 use Rattle.vms_core.specs.Pages.{History, IsLegal, state_after}
-use Rattle.vms_core.specs.Peaks.{cpu_in}
 use Rattle.vms_core.specs.Steps.{role}
-use Rattle.vms_core.proofs.KeptLaws.{laws-kept}
-use Rattle.vms_calls.specs.Changes.{HasWon}
-use Rattle.vms_line.specs.Laws.{IsLineOf}
-use Rattle.vms_script.specs.Starts.{Start, start_at_end}
-use Rattle.vms_script.specs.Totals.{line_of}
-use Rattle.vms_text.specs.declared.acts.Act.{Act}
+use Rattle.vms_core.proofs.Common.{laws-kept}
 use Rattle.vms_text.specs.declared.acts.Act.TheVariants.{Dead}
-use Rattle.vms_text.specs.declared.acts.Item.{Item}
-use Rattle.vms_text.specs.declared.acts.Lane.{Lane}
-use Rattle.vms_text.specs.declared.acts.Lane.TheVariants.{Control}
 use Rattle.vms_world.specs.declared.worlds.World.{World}
-use Rattle.vms_world.specs.Acts.{PageSteps}
-use Rattle.vms_world.specs.Lanes.{HasLanes, MakesLines, acts_of, is_among, lanes_of}
-use Rattle.vms_world.specs.Phases.{Histories, left_by}
-use Rattle.vms_world.specs.Worlds.{page_facts}
-use Rattle.vms_file_order.specs.Burials.{HasStates}
-use Rattle.vms_file_order.specs.LanePasses.{StandOnce}
-use Rattle.vms_file_order.specs.MadePhases.{MakePhase}
-use Rattle.vms_file_order.specs.OpenPhases.{IsOpenPhase, TableStates}
-use Rattle.vms_file_order.specs.Tables.{page_passes}
+use Rattle.vms_file_order.specs.Common.{HasStates, StandOnce, MakeInAnyOrder, IsOpenPhase, TableStates, page_passes}
 use Rattle.vms_file_order.proofs.AbsentCpus.{GoesAbsent, absent-by_line, cpu_in-absent, cpu_in-either}
 use Rattle.vms_file_order.proofs.AbsentCpus.{line-makes_absent}
 use Rattle.vms_file_order.proofs.BuriedCpus.{control-among}
@@ -76,12 +56,12 @@ module _ (pressure normal : ZoneSize → ℕ → ℕ → Type 0) (header : Heade
     cpu_at-lines c c_in = (laws-kept (page_facts header w) h legal).told_cpus c c_in
         ∙ cpu_in-lines (record { number = c }) c_in
 
-  pub HasStates-made : (hs : Histories) → MakePhase header pressure normal w items hs
-      → HasStates header (start_at_end start (map line_of items)) (left_by header w hs)
+  pub HasStates-made : (hs : TableHistories) → MakeInAnyOrder header pressure normal w items hs
+      → HasStates header (start_at_end start (map line_of items)) (left_by header w items hs)
   HasStates-made hs phase = cpu_at-lines (lanes_of header.layout items) hs.pages phase.complete.pages.legal
       phase.page_lanes phase.page_lines (control-among header items)
 
-  module _ (lanes : List Lane) (once : StandOnce lanes) (hs : Histories) (now : TableStates)
+  module _ (lanes : List Lane) (once : StandOnce lanes) (hs : TableHistories) (now : TableStates)
       (opened : IsOpenPhase header pressure normal w lanes items hs now) where
     control-opened : (a : Act) → Contains (acts_of Control items) a → is_among Control lanes ≡ true
     control-opened a (k, within, is) = by (is_among Control lanes) refl

@@ -3,14 +3,8 @@ use Rattle.std.proofs.Common.{◌≡◌, ℕ, ◌+◌, List, [], ◌∷◌, ◌+
 use Rattle.std.specs.List.Sorted.{IsStrictlyIncreasing}
 use Rattle.std.proofs.Math.Seq.{get_or-append_seam}
 use Rattle.std.proofs.lemmas.List.{get_or_append_left, map-append}
-use Rattle.vms_base.specs.declared.headers.Header.{Header}
-use Rattle.vms_line.specs.Laws.{IsLineOf}
-use Rattle.vms_script.specs.FittingScripts.{AreAllowed, Fits}
-use Rattle.vms_script.specs.Judging.{allowed_from}
-use Rattle.vms_script.specs.Starts.{Start, start_at_end, start_past}
-use Rattle.vms_script.specs.Totals.{line_of}
-use Rattle.vms_text.specs.declared.acts.Item.{Item}
-use Rattle.vms_text.specs.declared.acts.Line.{Line}
+use Rattle.vms_world.specs.Common.{Header, IsLineOf, AreAllowed, Fits, allowed_from, Start, start_at_end, start_past}
+use Rattle.vms_world.specs.Common.{line_of, Item, Line}
 
 -- the front of numbers that rise
 IsStrictlyIncreasing-front : (xs ys : List ℕ) → IsStrictlyIncreasing (xs ++ ys) → IsStrictlyIncreasing xs

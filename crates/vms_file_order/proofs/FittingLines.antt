@@ -1,86 +1,50 @@
 -- For other crates too: in an open phase of lines that fit no CPU passes its volumes, and the next line may follow.
 use Rattle.std.proofs.Common.{◌≡◌, ◌≢◌, ℕ, ◌+◌, nat_eq, Bool, true, false, List, ◌∷◌, ◌++◌, map, refl, sym, ◌∙◌, arith}
-use Rattle.std.proofs.Common.{eq-eqb, if◌then◌else◌, Ok, Err, unsigned_abs}
-use Rattle.vms_base.specs.declared.headers.Header.{Header}
-use Rattle.vms_base.specs.declared.ids.CpuId.{CpuId}
-use Rattle.vms_base.specs.declared.kinds.CpuState.{CpuState}
-use Rattle.vms_base.specs.declared.kinds.CpuState.TheVariants.{Online, Dead as IsDead, Absent}
-use Rattle.vms_base.specs.declared.kinds.ZoneSize.{ZoneSize}
-use Rattle.vms_base.specs.Cpus.{is_online}
-use Rattle.vms_base.specs.Places.{IsCpu}
-use Rattle.vms_core.specs.declared.states.State.{State}
-use Rattle.vms_core.specs.Cells.{cpu_at}
-use Rattle.vms_line.specs.declared.causes.LineCause.TheVariants.{NotOnline, Overflow}
-use Rattle.vms_line.specs.Laws.{IsLineOf}
-use Rattle.vms_script.specs.FittingScripts.{Fits}
-use Rattle.vms_script.specs.Judging.{allowed_burial, allowed_from, overflows_from}
-use Rattle.vms_script.specs.Starts.{IsWithin, Start, start_at_end, start_past}
-use Rattle.vms_script.specs.Totals.{line_of}
-use Rattle.vms_script.proofs.Fitting.{FittingScriptsStayWithin-holds}
-use Rattle.vms_script.proofs.LineVolumes.{IsWithin-allowed}
-use Rattle.vms_text.specs.declared.acts.Act.{Act}
-use Rattle.vms_text.specs.declared.acts.Act.TheVariants.{Mod, Inc, Dec, Ev, Cnt, Lim, Dead}
-use Rattle.vms_text.specs.declared.acts.Item.{Item}
-use Rattle.vms_text.specs.declared.acts.Lane.{Lane as LaneOf}
-use Rattle.vms_text.specs.declared.acts.Lane.TheVariants.{Cpu, Control}
-use Rattle.vms_text.specs.declared.acts.Line.{Line}
+use Rattle.std.proofs.Common.{eq-eqb, if◌then◌else◌, Ok, Err}
+use Rattle.vms_world.specs.Common.{Header, CpuId, CpuState, Absent, ZoneSize, is_online, IsCpu, State, cpu_at}
+use Rattle.vms_world.specs.Common.{NotOnline, Overflow, IsLineOf, Fits, allowed_burial, allowed_from, overflows_from}
+use Rattle.vms_world.specs.Common.{Start, start_at_end, start_past, line_of, spent_on_counter, spent_on_event}
+use Rattle.vms_world.specs.Common.{spent_on_pcpu, Act, Item, Lane as LaneOf, Cpu, Control, Line, TableHistories}
+use Rattle.vms_world.specs.Common.{SpendTheirLines, StayWithinVolumes}
+use Rattle.vms_base.specs.declared.kinds.CpuState.TheVariants.{Online, Dead as IsDead}
+use Rattle.vms_script.specs.Starts.{IsWithin}
+use Rattle.vms_script.proofs.Common.{FittingScriptsStayWithin-holds, IsWithin-allowed}
+use Rattle.vms_text.specs.declared.acts.Act.TheVariants.{Dead}
 use Rattle.vms_text.specs.declared.acts.Line.TheVariants.{Lane}
 use Rattle.vms_world.specs.declared.worlds.World.{World}
-use Rattle.vms_world.specs.Phases.{Histories, StayWithinVolumes}
-use Rattle.vms_file_order.specs.FittingLines.{FitsBeside, MayFollow}
-use Rattle.vms_file_order.specs.LanePasses.{StandOnce}
-use Rattle.vms_file_order.specs.OpenPhases.{IsOpenPhase, TableStates}
-use Rattle.vms_file_order.specs.PhaseVolumes.{SpendTheirLines}
-use Rattle.vms_file_order.specs.WorldStarts.{IsStartOf}
+use Rattle.vms_file_order.specs.Common.{FitsBeside, MayFollow, StandOnce, IsOpenPhase, TableStates, IsStartOf}
 use Rattle.vms_file_order.proofs.BuryingLines.{state-present}
 use Rattle.vms_file_order.proofs.CpuStates.{cpu_at-opened, is_online-state}
 use Rattle.vms_file_order.proofs.PhaseVolumes.{GrowsBy, GrowsBy-lines, StayWithinVolumes-fitting}
 use Rattle.vms_file_order.proofs.FittingFronts.{Fits-front, allowed_from-next, known-next}
 
--- what is spent on a thing by its own CPU
-spent-here : (c k size : ℕ) → (if nat_eq c c then (if nat_eq k k then size else 0) else 0) ≡ size
-spent-here c k size = rw (eq-eqb c c refl, eq-eqb k k refl) refl
+-- what is said of a thing by itself
+pub own-size : (k size : ℕ) → (if nat_eq k k then size else 0) ≡ size
+own-size k size = rw (eq-eqb k k refl) refl
 
 -- a start that lines lead to, with an act of a CPU's lane that leaves no volume past the most
 module _ (start next : Start) (lines : List Line) (grows : GrowsBy start next lines) (c : CpuId) where
   FitsBeside-within : (act : Act) → IsWithin (start_past (Lane (Cpu c) act) next) → FitsBeside lines c.number act
-  FitsBeside-within (Mod k pages) within = omega (
-    arith,
-    within.counters c.number k.number,
-    spent-here c.number k.number (unsigned_abs pages),
-    grows.counters c.number k.number,
-  )
-  FitsBeside-within (Inc k) within = omega (
-    arith,
-    within.counters c.number k.number,
-    spent-here c.number k.number 1,
-    grows.counters c.number k.number,
-  )
-  FitsBeside-within (Dec k) within = omega (
-    arith,
-    within.counters c.number k.number,
-    spent-here c.number k.number 1,
-    grows.counters c.number k.number,
-  )
-  FitsBeside-within (Ev event n) within = omega (
-    arith,
-    within.events c.number event.number,
-    spent-here c.number event.number n,
-    grows.events c.number event.number,
-  )
-  FitsBeside-within (Cnt j amount) within = omega (
-    arith,
-    within.pcpu c.number j.number,
-    spent-here c.number j.number (unsigned_abs amount),
-    grows.pcpu c.number j.number,
-  )
-  FitsBeside-within (Lim j limit amount) within = omega (
-    arith,
-    within.pcpu c.number j.number,
-    spent-here c.number j.number (unsigned_abs amount),
-    grows.pcpu c.number j.number,
-  )
-  FitsBeside-within _ within = tt
+  FitsBeside-within act within = record {
+    counters = λ k. omega (
+      arith,
+      within.counters c.number k,
+      own-size c.number (spent_on_counter k act),
+      grows.counters c.number k,
+    );
+    events = λ e. omega (
+      arith,
+      within.events c.number e,
+      own-size c.number (spent_on_event e act),
+      grows.events c.number e,
+    );
+    pcpu = λ j. omega (
+      arith,
+      within.pcpu c.number j,
+      own-size c.number (spent_on_pcpu j act),
+      grows.pcpu c.number j,
+    );
+  }
 
 -- a line that counts finds its CPU online, or the CPU that it buries dead
 online-allowed : (header : Header) (start : Start) (c : CpuId) (act : Act)
@@ -142,13 +106,13 @@ module _ (header : Header) (start : Start) (w : World) (is : IsStartOf header st
 
       -- and where they are as its lines have made them
       pub MayFollow-opened : (pressure normal : ZoneSize → ℕ → ℕ → Type 0) (lanes : List LaneOf) → StandOnce lanes
-          → (hs : Histories) (now : TableStates) → IsOpenPhase header pressure normal w lanes items hs now
+          → (hs : TableHistories) (now : TableStates) → IsOpenPhase header pressure normal w lanes items hs now
           → MayFollow now.pages (map line_of items) item.lane item.act
       MayFollow-opened pressure normal lanes once hs now opened = may_follow now.pages (λ c c_in present.
           cpu_at-opened pressure normal header w start is.states items front.known lanes once hs now opened c c_in)
 
   -- no CPU passes its volumes
-  pub StayWithinVolumes-front : (items more : List Item) → Fits header start (items ++ more) → (hs : Histories)
+  pub StayWithinVolumes-front : (items more : List Item) → Fits header start (items ++ more) → (hs : TableHistories)
       → SpendTheirLines header items hs → StayWithinVolumes header w hs
   StayWithinVolumes-front items more fits hs spend = StayWithinVolumes-fitting header w items hs start spend
       is.volumes (Fits-front header start items more fits) is.within

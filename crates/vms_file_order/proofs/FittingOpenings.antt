@@ -1,23 +1,11 @@
 -- For other crates too: a phase of lines that fit opens for the lanes that have lines.
 use Rattle.std.proofs.Common.{◌≡◌, ℕ, ◌+◌, Bool, true, false, ◌||◌, List, [], ◌∷◌, ◌++◌, map, refl, ap, subst}
 use Rattle.std.specs.Prelude.{All}
-use Rattle.vms_base.specs.declared.headers.Header.{Header}
-use Rattle.vms_base.specs.declared.kinds.ZoneSize.{ZoneSize}
-use Rattle.vms_base.specs.Cpus.{MayOwnCpu}
-use Rattle.vms_line.specs.Laws.{IsLineOf}
-use Rattle.vms_script.specs.FittingScripts.{Fits}
-use Rattle.vms_script.specs.PhaseScripts.{is_lane}
-use Rattle.vms_script.specs.Starts.{Start}
-use Rattle.vms_script.specs.Totals.{line_of}
-use Rattle.vms_text.specs.declared.acts.Item.{Item}
-use Rattle.vms_text.specs.declared.acts.Lane.{Lane as LaneOf}
-use Rattle.vms_text.specs.declared.acts.Lane.TheVariants.{Cpu, Control}
+use Rattle.vms_world.specs.Common.{Header, ZoneSize, MayOwnCpu, IsLineOf, Fits, is_lane, Start, line_of, Item}
+use Rattle.vms_world.specs.Common.{Lane as LaneOf, Cpu, Control, has_line, lanes_of, owner_of}
 use Rattle.vms_text.specs.declared.acts.Line.TheVariants.{Lane}
 use Rattle.vms_world.specs.declared.worlds.World.{World}
-use Rattle.vms_world.specs.Lanes.{has_line, lanes_of, owner_of}
-use Rattle.vms_file_order.specs.FittingLines.{MayFollow}
-use Rattle.vms_file_order.specs.OpenPhases.{IsOpenPhase, opening_states, openings_of}
-use Rattle.vms_file_order.specs.WorldStarts.{IsStartOf}
+use Rattle.vms_file_order.specs.Common.{MayFollow, IsOpenPhase, opening_states, openings_of, IsStartOf}
 use Rattle.vms_file_order.proofs.LaneLists.{All-lanes, StandOnce-lanes, is_lane-same}
 use Rattle.vms_file_order.proofs.OpenPhases.{IsOpenPhase-opening}
 use Rattle.vms_file_order.proofs.FittingFronts.{known-next}

@@ -5,23 +5,13 @@ use Rattle.std.specs.Prelude.{All, filter}
 use Rattle.std.proofs.lemmas.Bool.{cases_eq}
 use Rattle.std.proofs.lemmas.List.{map-append}
 use Rattle.std.proofs.lemmas.List.Elements.{All-cons, All-head, All-nil, All-tail, filter-append}
-use Rattle.vms_base.specs.declared.ids.CpuId.{CpuId}
-use Rattle.vms_base.specs.Places.{Shape}
-use Rattle.vms_history.specs.declared.events.Event.{Event}
-use Rattle.vms_history.specs.Events.{own, after}
-use Rattle.vms_history.specs.Legal.{Machine}
-use Rattle.vms_history.specs.Passes.{Role, begun, owner}
-use Rattle.vms_history.proofs.Own.{after-append, own-after, own-after_others, own-append}
-use Rattle.vms_script.specs.PhaseScripts.{is_lane}
-use Rattle.vms_text.specs.declared.acts.Act.{Act}
-use Rattle.vms_text.specs.declared.acts.Item.{Item}
-use Rattle.vms_text.specs.declared.acts.Lane.{Lane}
-use Rattle.vms_world.specs.Lanes.{HasLanes, MakesActs, MakesLines, acts_of, is_among, lane_at, lanes_of, owner_of}
-use Rattle.vms_world.specs.Lanes.MakesActs.{none as no_act, act as one_act}
-use Rattle.vms_file_order.specs.LanePasses.{PassSteps, StandOnce, begins_from, closing_of, ends_from, opening_of}
-use Rattle.vms_file_order.specs.LanePasses.{pass_of}
-use Rattle.vms_file_order.specs.FileOrder.{Follow, GoesOnWithLine, IsFileOrder, StandsOpen}
-use Rattle.vms_file_order.specs.FileOrder.Follow.{none, line}
+use Rattle.vms_world.specs.Common.{CpuId, Shape, Event, own, after, Machine, Role, begun, owner, is_lane, Act, Item}
+use Rattle.vms_world.specs.Common.{Lane, HasLanes, MakesActs, MakesLines, acts_of, is_among, lane_at, lanes_of}
+use Rattle.vms_world.specs.Common.{owner_of, act as one_act}
+use Rattle.vms_history.proofs.Common.{after-append, own-after, own-after_others, own-append}
+use Rattle.vms_world.specs.Lanes.MakesActs.{none as no_act}
+use Rattle.vms_file_order.specs.Common.{PassSteps, StandOnce, begins_from, closing_of, ends_from, opening_of, pass_of}
+use Rattle.vms_file_order.specs.Common.{Follow, GoesOnWithLine, IsFileOrder, StandsOpen, none, line}
 use Rattle.vms_file_order.proofs.LaneLists.{StandOnce-lanes, is_lane-same, is_lane-self, lane_at-pass_of}
 use Rattle.vms_file_order.proofs.LaneLists.{pass_of-lane_at, pass_of-least}
 use Rattle.vms_file_order.proofs.Openings.{begun-begins, owner-lane, own-opening, own-opening_others}

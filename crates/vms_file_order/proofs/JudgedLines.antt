@@ -2,27 +2,17 @@
 -- lines of the phase so far.
 use Rattle.std.proofs.Common.{◌≡◌, ℕ, ◌<◌, List, [], ◌∷◌, ◌++◌, map, sym, ap, subst, ◌∙◌, Ok}
 use Rattle.std.specs.Prelude.{All, reverse}
-use Rattle.vms_base.specs.declared.headers.Header.{Header}
-use Rattle.vms_base.specs.Headers.{IsHeader}
-use Rattle.vms_line.specs.Laws.{IsLineOf}
-use Rattle.vms_script.specs.FittingScripts.{Fits}
-use Rattle.vms_script.specs.Judging.{allowed, allowed_from, judged}
-use Rattle.vms_script.specs.Scripts.{IsOpen, Script, phase_start}
-use Rattle.vms_script.specs.Starts.{Start, first_start, start_after, start_at_end, start_past}
-use Rattle.vms_script.specs.Totals.{line_of}
-use Rattle.vms_script.proofs.Fitting.{Fits-push, start_at_end-after}
-use Rattle.vms_script.proofs.Known.{judged-known, judged_from-allowed}
-use Rattle.vms_text.specs.declared.acts.Act.{Act}
+use Rattle.vms_world.specs.Common.{Header, IsHeader, IsLineOf, Fits, allowed, allowed_from, judged, IsOpenScript}
+use Rattle.vms_world.specs.Common.{Script, phase_start, Start, first_start, start_after, start_at_end, start_past}
+use Rattle.vms_world.specs.Common.{line_of, Act, Item, Lane as LaneOf, Line}
+use Rattle.vms_script.proofs.Common.{Fits-push, start_at_end-after, judged-known, judged_from-allowed}
 use Rattle.vms_text.specs.declared.acts.Boundary.{Boundary as BoundaryOf}
-use Rattle.vms_text.specs.declared.acts.Item.{Item}
-use Rattle.vms_text.specs.declared.acts.Lane.{Lane as LaneOf}
-use Rattle.vms_text.specs.declared.acts.Line.{Line}
 use Rattle.vms_text.specs.declared.acts.Line.TheVariants.{Lane, Boundary}
 use Rattle.vms_world.specs.declared.worlds.World.{World}
-use Rattle.vms_file_order.specs.WorldStarts.{IsStartOf}
+use Rattle.vms_file_order.specs.Common.{IsStartOf}
 
 -- a scripter's phase leads to what all lines make of the first start
-pub start_at_end-script : (script : Script) → IsOpen script
+pub start_at_end-script : (script : Script) → IsOpenScript script
     → start_at_end (phase_start script) (map line_of script.items) ≡ start_after first_start script.lines
 start_at_end-script script is_open = start_at_end-after first_start script.above (map line_of script.items)
     ∙ ap (start_after first_start) (sym is_open)

@@ -1,20 +1,14 @@
 -- For other crates too: the lanes that have lines stand once each, and the numbers of their passes.
-use Rattle.std.proofs.Common.{◌≡◌, ◌≢◌, ℕ, zero, suc, ◌<◌, ◌≤◌, nat_eq, ◌||◌, Bool, true, false, List, [], ◌∷◌}
-use Rattle.std.proofs.Common.{◌++◌, length, refl, sym, ap, subst, ◌∙◌, arith, if◌then◌else◌, append-nil, ⊎_elim}
+use Rattle.std.proofs.Common.{◌≡◌, ◌≢◌, ℕ, zero, suc, ◌<◌, ◌≤◌, nat_eq, ◌||◌, Bool, true, false, List, [], ◌∷◌, ◌++◌}
+use Rattle.std.proofs.Common.{length, refl, sym, ap, subst, ◌∙◌, arith, if◌then◌else◌, append-nil, ⊎_elim}
 use Rattle.std.specs.Prelude.{All}
 use Rattle.std.proofs.Math.Bool.{or-true}
 use Rattle.std.proofs.lemmas.Bool.{cases_eq}
 use Rattle.std.proofs.lemmas.Bool.Decides.{nat_tests}
 use Rattle.std.proofs.lemmas.List.Elements.{All-append, All-cons, All-head, All-nil, All-tail}
-use Rattle.vms_base.specs.declared.headers.Header.{Header}
-use Rattle.vms_base.specs.Places.{Shape}
-use Rattle.vms_line.specs.Laws.{IsLaneOf}
-use Rattle.vms_script.specs.PhaseScripts.{is_lane}
-use Rattle.vms_text.specs.declared.acts.Item.{Item}
-use Rattle.vms_text.specs.declared.acts.Lane.{Lane}
-use Rattle.vms_text.specs.declared.acts.Lane.TheVariants.{Cpu, Control}
-use Rattle.vms_world.specs.Lanes.{has_line, is_among, lane_at, lanes_below, lanes_of, owner_of}
-use Rattle.vms_file_order.specs.LanePasses.{StandOnce, pass_of}
+use Rattle.vms_world.specs.Common.{Header, Shape, IsLaneOf, is_lane, Item, Lane, Cpu, Control, has_line, is_among}
+use Rattle.vms_world.specs.Common.{lane_at, lanes_below, lanes_of, owner_of}
+use Rattle.vms_file_order.specs.Common.{StandOnce, pass_of}
 
 -- lanes that are one
 pub is_lane-same : (l m : Lane) → is_lane l m ≡ true → l ≡ m

@@ -25,3 +25,5 @@ pub mod JudgedLines
 pub mod SegmentStarts
 pub mod MoreAnswers
 pub mod MorePhases
+pub mod FittingCalls
+pub mod Common

@@ -4,15 +4,11 @@ use Rattle.std.proofs.Common.{◌⊎◌, refl, sym, ap, subst, ◌∙◌, arith,
 use Rattle.std.specs.List.{Contains}
 use Rattle.std.proofs.lemmas.Bool.{cases_eq}
 use Rattle.std.proofs.lemmas.List.{get_or_append_left, get_or_push}
-use Rattle.vms_history.specs.declared.events.Event.{Event}
-use Rattle.vms_history.specs.Events.{after, own}
-use Rattle.vms_history.proofs.Own.{after-append, after-steps}
-use Rattle.vms_text.specs.declared.acts.Act.{Act}
-use Rattle.vms_text.specs.declared.acts.Item.{Item}
-use Rattle.vms_text.specs.declared.acts.Lane.{Lane}
-use Rattle.vms_world.specs.Lanes.{MakesActs, MakesLines, acts_of, is_among}
-use Rattle.vms_world.specs.Lanes.MakesActs.{none as no_act, act as one_act}
-use Rattle.vms_file_order.specs.LanePasses.{pass_of}
+use Rattle.vms_world.specs.Common.{Event, after, own, Act, Item, Lane, MakesActs, MakesLines, acts_of, is_among}
+use Rattle.vms_world.specs.Common.{act as one_act}
+use Rattle.vms_history.proofs.Common.{after-append, after-steps}
+use Rattle.vms_world.specs.Lanes.MakesActs.{none as no_act}
+use Rattle.vms_file_order.specs.Common.{pass_of}
 use Rattle.vms_file_order.proofs.LaneLists.{HasPlace-among}
 
 -- the pass of a lane with lines has made the acts of its lines

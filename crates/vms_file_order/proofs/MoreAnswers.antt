@@ -1,26 +1,12 @@
 -- For other crates too: a call that goes by rules goes by any rules that may answer all that these answer.
 use Rattle.std.proofs.Common.{◌≡◌, ℕ, List, [], ◌∷◌, ◌++◌, length}
-use Rattle.vms_base.specs.declared.headers.Header.{Header}
-use Rattle.vms_base.specs.declared.ids.CpuId.{CpuId}
-use Rattle.vms_base.specs.declared.ids.PlaceId.{PlaceId}
-use Rattle.vms_base.specs.declared.kinds.ZoneSize.{ZoneSize}
-use Rattle.vms_base.specs.Cpus.{online_from}
-use Rattle.vms_base.specs.Sizes.{size_at}
-use Rattle.vms_history.specs.Events.{after}
-use Rattle.vms_core.specs.declared.states.State.{State}
-use Rattle.vms_core.specs.declared.steps.Facts.{Facts}
-use Rattle.vms_core.specs.declared.steps.Step.{Step}
-use Rattle.vms_core.specs.declared.steps.Step.TheVariants.{SetO}
+use Rattle.vms_world.specs.Common.{Header, CpuId, PlaceId, ZoneSize, online_from, size_at, after, State, Facts, Step}
+use Rattle.vms_world.specs.Common.{SetO, facts_of, in_turn, Buries, ByNormal, ByPressure, Choice, Rates, RatesMarked}
+use Rattle.vms_world.specs.Common.{RatesNode, Refreshes, SetsNormal, SetsPressure, Visits, VisitsEach, node_number}
+use Rattle.vms_world.specs.Common.{numbers_below, state_steps, zones_on, unmarked, marked, next, Balance, IsTurn}
+use Rattle.vms_world.specs.Common.{SetsAfterYes, Yes, No}
 use Rattle.vms_core.specs.Pages.{History}
-use Rattle.vms_calls.specs.HeaderFacts.{facts_of}
-use Rattle.vms_calls.specs.Lists.{in_turn}
-use Rattle.vms_calls.specs.Ratings.{Buries, ByNormal, ByPressure, Choice, Rates, RatesMarked, RatesNode, Refreshes}
-use Rattle.vms_calls.specs.Ratings.{SetsNormal, SetsPressure, Visits, VisitsEach, node_number, numbers_below}
-use Rattle.vms_calls.specs.Ratings.{state_steps, zones_on}
-use Rattle.vms_calls.specs.Ratings.RatesMarked.{unmarked, marked}
-use Rattle.vms_calls.specs.Ratings.VisitsEach.{none, next}
-use Rattle.vms_calls.specs.Turns.{Balance, IsTurn, Settles}
-use Rattle.vms_calls.specs.Turns.Balance.{Yes, No}
+use Rattle.vms_calls.specs.Ratings.VisitsEach.{none}
 
 -- a rule may answer all that another answers
 abbrev pub Includes : (answers more : ZoneSize → ℕ → ℕ → Type 0) → Type 0
@@ -134,10 +120,10 @@ module _ (normal more : ZoneSize → ℕ → ℕ → Type 0) (includes : Include
     SetsPressure-more facts = RatesNode-more facts (ByPressure pressure normal) (ByPressure more_pressure more)
         (IncludesChoice-pressure pressure normal more_pressure more includes_pressure includes)
 
-    Settles-more : (facts : Facts) (n : PlaceId) (p : ℕ) (answer : Balance) (h : History) (steps : List Step)
-        → Settles facts normal n p answer h steps → Settles facts more n p answer h steps
-    Settles-more facts n p (Yes g verdict) h steps sets = SetsNormal-more facts n p h steps sets
-    Settles-more facts n p No h steps nothing = nothing
+    SetsAfterYes-more : (facts : Facts) (n : PlaceId) (p : ℕ) (answer : Balance) (h : History) (steps : List Step)
+        → SetsAfterYes facts normal n p answer h steps → SetsAfterYes facts more n p answer h steps
+    SetsAfterYes-more facts n p (Yes g verdict) h steps sets = SetsNormal-more facts n p h steps sets
+    SetsAfterYes-more facts n p No h steps nothing = nothing
 
     pub IsTurn-more : (header : Header) (base : State) (n : PlaceId) (order most p : ℕ) (h : History)
         (steps : List Step) (answer : Balance)
@@ -149,7 +135,7 @@ module _ (normal more : ZoneSize → ℕ → ℕ → Type 0) (includes : Include
       test = turn.test;
       tests = turn.tests;
       further = turn.further;
-      settles = Settles-more (facts_of header base) n p answer (after p (turn.pressed ++ turn.test) h) turn.further
+      settles = SetsAfterYes-more (facts_of header base) n p answer (after p (turn.pressed ++ turn.test) h) turn.further
           turn.settles;
       in_order = turn.in_order;
     }

@@ -1,31 +1,12 @@
 -- For other crates too: a phase in file order by rules is one by any rules that may answer all that these answer.
-use Rattle.std.proofs.Common.{◌≡◌, ℕ, true, List, [], ◌∷◌, ◌++◌}
-use Rattle.std.specs.Prelude.{All}
-use Rattle.vms_base.specs.declared.headers.Header.{Header}
-use Rattle.vms_base.specs.declared.kinds.ZoneSize.{ZoneSize}
-use Rattle.vms_base.specs.Places.{Shape}
-use Rattle.vms_history.specs.declared.events.Event.{Event}
-use Rattle.vms_history.specs.Passes.{Role}
-use Rattle.vms_core.specs.declared.states.State.{State}
-use Rattle.vms_core.specs.declared.steps.Step.{Step}
+use Rattle.std.proofs.Common.{ℕ, List}
+use Rattle.vms_world.specs.Common.{Header, ZoneSize, Shape, Event, Role, State, Step, HasWon, facts_of, Act, Pressure}
+use Rattle.vms_world.specs.Common.{Normal, Kswapd, Item, Lane, Control, PageSteps, lanes_of, TableHistories}
 use Rattle.vms_core.specs.Pages.{History}
-use Rattle.vms_calls.specs.Changes.{HasWon}
-use Rattle.vms_calls.specs.HeaderFacts.{facts_of}
-use Rattle.vms_text.specs.declared.acts.Act.{Act}
-use Rattle.vms_text.specs.declared.acts.Act.TheVariants.{Mod, Inc, Dec, Ev, Cnt, Lim, Cmp, Sum, Rough, Csync, EvSum}
-use Rattle.vms_text.specs.declared.acts.Act.TheVariants.{Fold, Water, Val, Snap, Sys, Pressure, Normal, Dead, Kswapd}
-use Rattle.vms_text.specs.declared.acts.Item.{Item}
-use Rattle.vms_text.specs.declared.acts.Lane.{Lane}
-use Rattle.vms_text.specs.declared.acts.Lane.TheVariants.{Cpu, Control}
+use Rattle.vms_text.specs.declared.acts.Act.TheVariants.{Dead}
 use Rattle.vms_world.specs.declared.worlds.World.{World}
-use Rattle.vms_world.specs.Acts.{PageSteps}
-use Rattle.vms_world.specs.Lanes.{is_among, lanes_of}
-use Rattle.vms_world.specs.Phases.{Histories}
-use Rattle.vms_file_order.specs.FileOrder.{Follow, IsFileOrder}
-use Rattle.vms_file_order.specs.FileOrder.Follow.{none, line}
-use Rattle.vms_file_order.specs.FileOrderPhases.{IsFileOrderPhase}
-use Rattle.vms_file_order.specs.LanePasses.{PassSteps, pass_of}
-use Rattle.vms_file_order.specs.Tables.{page_passes}
+use Rattle.vms_file_order.specs.Common.{Follow, IsFileOrder, none, line, IsFileOrderPhase, PassSteps, pass_of}
+use Rattle.vms_file_order.specs.Common.{page_passes}
 use Rattle.vms_file_order.proofs.MoreAnswers.{Buries-more, Includes, IsTurn-more, SetsNormal-more, SetsPressure-more}
 
 -- lines that follow one another by some steps of their acts do so by more
@@ -65,44 +46,9 @@ module _ (pressure more_pressure : ZoneSize → ℕ → ℕ → Type 0) (include
     IsTurn-more normal more includes pressure more_pressure includes_pressure header base n order most p h steps answer
         turn,
   )
-  PageSteps-more base Control p (Mod k delta) h steps makes = makes
-  PageSteps-more base Control p (Inc k) h steps makes = makes
-  PageSteps-more base Control p (Dec k) h steps makes = makes
-  PageSteps-more base Control p (Ev k n) h steps makes = makes
-  PageSteps-more base Control p (Cnt j amount) h steps makes = makes
-  PageSteps-more base Control p (Lim j limit amount) h steps makes = makes
-  PageSteps-more base Control p (Cmp j rhs) h steps makes = makes
-  PageSteps-more base Control p (Sum j) h steps makes = makes
-  PageSteps-more base Control p (Rough j) h steps makes = makes
-  PageSteps-more base Control p (Csync j) h steps makes = makes
-  PageSteps-more base Control p (EvSum k) h steps makes = makes
-  PageSteps-more base Control p (Fold c) h steps makes = makes
-  PageSteps-more base Control p (Water g mark most) h steps makes = makes
-  PageSteps-more base Control p (Val k) h steps makes = makes
-  PageSteps-more base Control p (Snap k) h steps makes = makes
-  PageSteps-more base Control p (Sys i) h steps makes = makes
-  PageSteps-more base (Cpu d) p (Mod k delta) h steps makes = makes
-  PageSteps-more base (Cpu d) p (Inc k) h steps makes = makes
-  PageSteps-more base (Cpu d) p (Dec k) h steps makes = makes
-  PageSteps-more base (Cpu d) p (Ev k n) h steps makes = makes
-  PageSteps-more base (Cpu d) p (Cnt j amount) h steps makes = makes
-  PageSteps-more base (Cpu d) p (Lim j limit amount) h steps makes = makes
-  PageSteps-more base (Cpu d) p (Cmp j rhs) h steps makes = makes
-  PageSteps-more base (Cpu d) p (Sum j) h steps makes = makes
-  PageSteps-more base (Cpu d) p (Rough j) h steps makes = makes
-  PageSteps-more base (Cpu d) p (Csync j) h steps makes = makes
-  PageSteps-more base (Cpu d) p (EvSum k) h steps makes = makes
-  PageSteps-more base (Cpu d) p (Fold c) h steps makes = makes
-  PageSteps-more base (Cpu d) p (Water g mark most) h steps makes = makes
-  PageSteps-more base (Cpu d) p (Val k) h steps makes = makes
-  PageSteps-more base (Cpu d) p (Snap k) h steps makes = makes
-  PageSteps-more base (Cpu d) p (Sys i) h steps makes = makes
-  PageSteps-more base (Cpu d) p (Pressure n) h steps makes = makes
-  PageSteps-more base (Cpu d) p (Normal n) h steps makes = makes
-  PageSteps-more base (Cpu d) p (Dead c) h steps makes = makes
-  PageSteps-more base (Cpu d) p (Kswapd n order most) h steps makes = makes
+  PageSteps-more base _ p _ h steps makes = makes
 
-  pub IsFileOrderPhase-more : (w : World) (items : List Item) (hs : Histories)
+  pub IsFileOrderPhase-more : (w : World) (items : List Item) (hs : TableHistories)
       → IsFileOrderPhase header pressure normal w items hs
       → IsFileOrderPhase header more_pressure more w items hs
   IsFileOrderPhase-more w items hs phase = record {

@@ -1,35 +1,20 @@
 -- What a CPU spends in a history with the lanes of lines is what the pass of its lane makes.
-use Rattle.std.proofs.Common.{◌≡◌, ◌≢◌, ℕ, zero, suc, ◌<◌, ◌≤◌, Bool, true, false, ℤ, pos, ◌+ℤ◌, List, [], ◌∷◌}
-use Rattle.std.proofs.Common.{◌++◌, ◌||◌, ◌⊎◌, inl, inr, length, map, Option, Some, None, refl, sym, ap, subst, ◌∙◌}
-use Rattle.std.proofs.Common.{arith, if◌then◌else◌}
-use Rattle.std.proofs.Common.{append_assoc, eqb-true}
+use Rattle.std.proofs.Common.{◌≡◌, ◌≢◌, ℕ, zero, suc, ◌<◌, ◌≤◌, Bool, true, false, ℤ, pos, ◌+ℤ◌, List, [], ◌∷◌, ◌++◌}
+use Rattle.std.proofs.Common.{◌||◌, ◌⊎◌, inl, inr, length, map, Option, Some, None, refl, sym, ap, subst, ◌∙◌, arith}
+use Rattle.std.proofs.Common.{if◌then◌else◌, append_assoc, eqb-true}
 use Rattle.std.specs.Prelude.{filter}
 use Rattle.std.proofs.lemmas.Bool.{cases_eq}
 use Rattle.std.proofs.lemmas.Bool.Decides.{nat_tests}
 use Rattle.std.proofs.lemmas.Int.{ints}
-use Rattle.vms_base.specs.declared.headers.Header.{Header}
-use Rattle.vms_base.specs.declared.ids.CpuId.{CpuId}
-use Rattle.vms_base.specs.Places.{IsCpu}
-use Rattle.vms_history.specs.declared.events.Event.{Event}
-use Rattle.vms_history.specs.Events.{own}
-use Rattle.vms_history.specs.Legal.{Machine, IsLegal}
-use Rattle.vms_history.specs.Passes.{begun_in, owner_in}
-use Rattle.vms_history.proofs.Own.{own-mine, own-others}
-use Rattle.vms_history.proofs.Owners.{owner_is_given}
-use Rattle.vms_history.proofs.PassLaws.{begun_in-append, caller_is_given, owner_in-append, own-not_given}
-use Rattle.vms_history.proofs.Prefixes.{prefix_is_legal}
-use Rattle.vms_core.specs.Spending.{is_owner}
-use Rattle.vms_script.specs.PhaseScripts.{is_lane}
-use Rattle.vms_text.specs.declared.acts.Act.{Act}
-use Rattle.vms_text.specs.declared.acts.Item.{Item}
-use Rattle.vms_text.specs.declared.acts.Lane.{Lane}
-use Rattle.vms_text.specs.declared.acts.Lane.TheVariants.{Cpu}
-use Rattle.vms_world.specs.Lanes.{HasLanes, MakesActs, MakesLines, acts_of, has_line, is_among, lane_at, lanes_of}
-use Rattle.vms_world.specs.Lanes.{owner_of}
+use Rattle.vms_world.specs.Common.{Header, CpuId, IsCpu, Event, own, Machine, begun_in, owner_in, is_owner, is_lane}
+use Rattle.vms_world.specs.Common.{Act, Item, Lane, Cpu, HasLanes, MakesActs, MakesLines, acts_of, has_line, is_among}
+use Rattle.vms_world.specs.Common.{lane_at, lanes_of, owner_of}
+use Rattle.vms_history.specs.Legal.{IsLegal}
+use Rattle.vms_history.proofs.Common.{own-mine, own-others, owner_is_given, begun_in-append, caller_is_given}
+use Rattle.vms_history.proofs.Common.{owner_in-append, own-not_given, prefix_is_legal}
 use Rattle.vms_world.specs.Lanes.MakesActs.{none as no_act}
-use Rattle.vms_file_order.specs.LanePasses.{StandOnce, pass_of}
-use Rattle.vms_file_order.proofs.LaneLists.{HasPlace-among, among-lanes, owner_of-injective}
-use Rattle.vms_file_order.proofs.LaneLists.{pass_of-lane_at}
+use Rattle.vms_file_order.specs.Common.{StandOnce, pass_of}
+use Rattle.vms_file_order.proofs.LaneLists.{HasPlace-among, among-lanes, owner_of-injective, pass_of-lane_at}
 use Rattle.vms_file_order.proofs.MadeActs.{MakesActs-lane}
 
 is_owner-some : (who : Option CpuId) (c : CpuId) → is_owner who c.number ≡ true → who ≡ Some c

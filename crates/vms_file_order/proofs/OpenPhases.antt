@@ -1,31 +1,14 @@
 -- For other crates too: a phase opens in the three tables, goes on with lines, and closes in file order.
 use Rattle.std.proofs.Common.{◌≡◌, ℕ, true, List, [], ◌∷◌, ◌++◌, refl, ap}
 use Rattle.std.specs.Prelude.{All}
-use Rattle.vms_base.specs.declared.headers.Header.{Header}
-use Rattle.vms_base.specs.declared.kinds.ZoneSize.{ZoneSize}
-use Rattle.vms_base.specs.Cpus.{MayOwnCpu}
-use Rattle.vms_core.specs.Bases.{settled}
-use Rattle.vms_core.specs.Pages.{pages}
-use Rattle.vms_core.specs.Quiet.{quiet_pages}
-use Rattle.vms_event_core.specs.Events.{events}
-use Rattle.vms_event_core.specs.Quiet.{quiet_events}
-use Rattle.vms_pcpu_core.specs.Histories.{percpu}
-use Rattle.vms_pcpu_core.specs.Quiet.{quiet_percpu}
-use Rattle.vms_calls.specs.Changes.{HasWon}
-use Rattle.vms_text.specs.declared.acts.Item.{Item}
-use Rattle.vms_text.specs.declared.acts.Lane.{Lane}
+use Rattle.vms_world.specs.Common.{Header, ZoneSize, MayOwnCpu, settled, pages, quiet_pages, events, quiet_events}
+use Rattle.vms_world.specs.Common.{percpu, quiet_percpu, HasWon, Item, Lane, PageSteps, is_among, lanes_of, owner_of}
+use Rattle.vms_world.specs.Common.{TableHistories, left_by, IsWorldOf, page_facts, event_facts, pcpu_facts}
 use Rattle.vms_world.specs.declared.worlds.World.{World}
-use Rattle.vms_world.specs.Acts.{PageSteps}
-use Rattle.vms_world.specs.Lanes.{is_among, lanes_of, owner_of}
-use Rattle.vms_world.specs.Phases.{Histories, left_by}
-use Rattle.vms_world.specs.Worlds.{IsWorldOf, page_facts, event_facts, pcpu_facts}
-use Rattle.vms_file_order.specs.FileOrder.Follow.{none}
-use Rattle.vms_file_order.specs.FileOrderPhases.{IsFileOrderPhase}
-use Rattle.vms_file_order.specs.LanePasses.{StandOnce}
-use Rattle.vms_file_order.specs.OpenPhases.{EndsIn, GoesOnInTables, IsOpenPhase, TableStates, closings_of}
-use Rattle.vms_file_order.specs.OpenPhases.{opening_states, openings_of, with_line}
-use Rattle.vms_file_order.specs.Tables.{page_passes, event_passes, pcpu_passes, event_makes, pcpu_makes}
-use Rattle.vms_file_order.specs.Tables.{FindsLockFree, MeetsNobody}
+use Rattle.vms_file_order.specs.Common.{none, IsFileOrderPhase, StandOnce, EndsIn, GoesOnInTables, IsOpenPhase}
+use Rattle.vms_file_order.specs.Common.{TableStates, closings_of, opening_states, openings_of, histories_with_line}
+use Rattle.vms_file_order.specs.Common.{page_passes, event_passes, pcpu_passes, event_makes, pcpu_makes, FindsLockFree}
+use Rattle.vms_file_order.specs.Common.{MeetsNobody}
 use Rattle.vms_file_order.proofs.Closings.{IsComplete-closing, state_after-closing}
 use Rattle.vms_file_order.proofs.FollowedLines.{Follow-line, StandsOpen-line}
 use Rattle.vms_file_order.proofs.Openings.{StandsOpen-opening}
@@ -46,11 +29,11 @@ module _ (pressure normal : ZoneSize → ℕ → ℕ → Type 0) (header : Heade
         (λ j known. refl) may once;
   }
 
-  pub IsOpenPhase-line : (lanes : List Lane) (items : List Item) (hs : Histories) (now : TableStates)
+  pub IsOpenPhase-line : (lanes : List Lane) (items : List Item) (hs : TableHistories) (now : TableStates)
       → IsOpenPhase header pressure normal w lanes items hs now → (item : Item) (next : TableStates)
       → is_among item.lane lanes ≡ true → (line : GoesOnInTables header pressure normal w lanes item hs next)
       → IsOpenPhase header pressure normal w lanes (items ++ item ∷ [])
-      (with_line header pressure normal w lanes item hs next line) next
+      (histories_with_line header pressure normal w lanes item hs next line) next
   IsOpenPhase-line lanes items hs now opened item next among line =
       let page = PageSteps header w.pages pressure normal in
       let event = event_makes (event_facts header w) in
@@ -70,7 +53,7 @@ module _ (pressure normal : ZoneSize → ℕ → ℕ → Type 0) (header : Heade
             hs.counters next.counters among line.counters now.counters opened.counters;
       }
 
-  module _ (items : List Item) (hs : Histories) (now : TableStates)
+  module _ (items : List Item) (hs : TableHistories) (now : TableStates)
       (opened : IsOpenPhase header pressure normal w (lanes_of header.layout items) items hs now) where
     abbrev lanes : List Lane
     lanes = lanes_of header.layout items
@@ -90,7 +73,7 @@ module _ (pressure normal : ZoneSize → ℕ → ℕ → Type 0) (header : Heade
       pcpu_order = record { lines = hs.counters; follow = opened.pcpu_lines; ends = refl };
     }
 
-    pub EndsIn-closing : EndsIn (left_by header w (closings_of lanes hs)) now
+    pub EndsIn-closing : EndsIn (left_by header w items (closings_of lanes hs)) now
     EndsIn-closing = record {
       pages = ap settled (state_after-closing pages quiet_pages page_passes (page_facts header w) lanes hs.pages
           now.pages opened.pages);

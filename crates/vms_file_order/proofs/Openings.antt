@@ -3,18 +3,13 @@ use Rattle.std.proofs.Common.{◌≡◌, ◌≢◌, ℕ, suc, ◌+◌, ◌<◌, 
 use Rattle.std.proofs.Common.{◌∷◌, length, Option, refl, sym, ap, subst, ◌∙◌, arith, if◌then◌else◌}
 use Rattle.std.proofs.lemmas.Bool.Decides.{nat_tests}
 use Rattle.std.proofs.lemmas.List.Elements.{All-head, All-tail}
-use Rattle.vms_base.specs.declared.ids.CpuId.{CpuId}
-use Rattle.vms_history.specs.declared.events.Event.{Event}
-use Rattle.vms_history.specs.Events.{own, after}
-use Rattle.vms_history.specs.Legal.{Machine, IsLegal, IsQuiet, Acts, state_after}
-use Rattle.vms_history.specs.Passes.{Role, begun, begun_after, lives, lives_after, owner, owner_after, owner_in}
-use Rattle.vms_history.specs.Passes.Role.{Works, Begins}
-use Rattle.vms_history.proofs.Own.{own-after, own-after_others}
-use Rattle.vms_script.specs.PhaseScripts.{is_lane}
-use Rattle.vms_text.specs.declared.acts.Lane.{Lane}
-use Rattle.vms_world.specs.Lanes.{is_among, owner_of}
-use Rattle.vms_file_order.specs.LanePasses.{MayOwnEach, PassSteps, StandOnce, begins_from, opening_of, pass_of}
-use Rattle.vms_file_order.specs.FileOrder.{HasPass, StandsOpen}
+use Rattle.vms_world.specs.Common.{CpuId, Event, own, after, Machine, IsQuiet, Acts, Role, begun, begun_after, lives}
+use Rattle.vms_world.specs.Common.{lives_after, owner, owner_after, owner_in, Works, is_lane, Lane, is_among, owner_of}
+use Rattle.vms_history.specs.Legal.{IsLegal, state_after}
+use Rattle.vms_history.specs.Passes.Role.{Begins}
+use Rattle.vms_history.proofs.Common.{own-after, own-after_others}
+use Rattle.vms_file_order.specs.Common.{MayOwnEach, PassSteps, StandOnce, begins_from, opening_of, pass_of, HasPass}
+use Rattle.vms_file_order.specs.Common.{StandsOpen}
 use Rattle.vms_file_order.proofs.LaneLists.{is_among-first, is_among-later, is_lane-same, owner_of-injective}
 use Rattle.vms_file_order.proofs.LaneLists.{pass_of-least, pass_of-most}
 

@@ -1,42 +1,20 @@
 -- For other crates too: what each CPU spends on page counters in a phase is the volume of its lines.
-use Rattle.std.proofs.Common.{◌≡◌, ℕ, false, List, [], nat_eq, Bool, ℤ, pos, negsuc, ◌+ℤ◌, map}
-use Rattle.std.proofs.Common.{unsigned_abs, Option, Some, None, refl, sym, ap, ◌∙◌, arith, if◌then◌else◌}
+use Rattle.std.proofs.Common.{◌≡◌, ℕ, false, List, [], nat_eq, Bool, ℤ, pos, negsuc, ◌+ℤ◌, map, unsigned_abs, Option}
+use Rattle.std.proofs.Common.{Some, None, refl, sym, ap, ◌∙◌, arith, if◌then◌else◌}
 use Rattle.std.proofs.lemmas.Int.{ints}
-use Rattle.vms_base.specs.declared.headers.Header.{Header}
-use Rattle.vms_base.specs.declared.ids.CounterId.{CounterId}
-use Rattle.vms_base.specs.declared.ids.CpuId.{CpuId}
-use Rattle.vms_base.specs.declared.ids.ItemId.{ItemId}
-use Rattle.vms_base.specs.declared.ids.PlaceId.{PlaceId}
-use Rattle.vms_base.specs.declared.kinds.Mode.{Mode}
+use Rattle.vms_world.specs.Common.{Header, CounterId, CpuId, ItemId, PlaceId, Mode, WaterMark, ZoneSize, Shape}
+use Rattle.vms_world.specs.Common.{IsLayout, after, total, owner_in, State, Step, Put, pages, is_owner, change_size}
+use Rattle.vms_world.specs.Common.{ChangesLeave, Leaves, IsChange, IsFold, facts_of, Verdict, IsPlaceValue, IsSnapshot}
+use Rattle.vms_world.specs.Common.{IsSystemValue, IsWatermarkTest, line_of, spent_on_counter, volume, Act, Fold, Water}
+use Rattle.vms_world.specs.Common.{Val, Snap, Sys, Item, Lane, Cpu, PageSteps, lane_owns, HasLanes, MakesLines, acts_of}
+use Rattle.vms_world.specs.Common.{is_among}
 use Rattle.vms_base.specs.declared.kinds.Mode.TheVariants.{Mod as Modify, Inc as Raise, Dec as Lower}
-use Rattle.vms_base.specs.declared.kinds.WaterMark.{WaterMark}
-use Rattle.vms_base.specs.declared.kinds.ZoneSize.{ZoneSize}
-use Rattle.vms_base.specs.Places.{Shape, IsLayout}
-use Rattle.vms_history.specs.Events.{after, total}
-use Rattle.vms_history.specs.Passes.{owner_in}
-use Rattle.vms_history.proofs.Choices.{if-either}
-use Rattle.vms_core.specs.declared.states.State.{State}
-use Rattle.vms_core.specs.declared.steps.Step.{Step}
-use Rattle.vms_core.specs.declared.steps.Step.TheVariants.{Put}
-use Rattle.vms_core.specs.Pages.{pages, History, IsLegal}
-use Rattle.vms_core.specs.Spending.{is_owner}
+use Rattle.vms_history.proofs.Common.{if-either}
+use Rattle.vms_core.specs.Pages.{History, IsLegal}
 use Rattle.vms_core.specs.Steps.{role}
-use Rattle.vms_core.specs.Totals.{change_size, spent, spent_by}
-use Rattle.vms_calls.specs.CallerLaws.{ChangesLeave, Leaves}
-use Rattle.vms_calls.specs.Changes.{IsChange}
-use Rattle.vms_calls.specs.Folds.{IsFold}
-use Rattle.vms_calls.specs.HeaderFacts.{facts_of}
-use Rattle.vms_calls.specs.Looks.{IsPlaceValue, IsSnapshot, IsSystemValue, IsWatermarkTest, Verdict}
-use Rattle.vms_script.specs.Totals.{line_of}
-use Rattle.vms_script.specs.Volumes.{spent_on_counter, volume}
-use Rattle.vms_text.specs.declared.acts.Act.{Act}
-use Rattle.vms_text.specs.declared.acts.Act.TheVariants.{Mod, Inc, Dec, Fold, Water, Val, Snap, Sys}
-use Rattle.vms_text.specs.declared.acts.Item.{Item}
-use Rattle.vms_text.specs.declared.acts.Lane.{Lane}
-use Rattle.vms_text.specs.declared.acts.Lane.TheVariants.{Cpu}
-use Rattle.vms_world.specs.Acts.{PageSteps, owns}
-use Rattle.vms_world.specs.Lanes.{HasLanes, MakesLines, acts_of, is_among}
-use Rattle.vms_file_order.specs.LanePasses.{StandOnce}
+use Rattle.vms_core.specs.Totals.{spent, spent_by}
+use Rattle.vms_text.specs.declared.acts.Act.TheVariants.{Mod, Inc, Dec}
+use Rattle.vms_file_order.specs.Common.{StandOnce}
 use Rattle.vms_file_order.proofs.ActSums.{pos-if, pos-if_both, total-acts, volume-acts}
 use Rattle.vms_file_order.proofs.OnePass.{spends-lines}
 
@@ -83,7 +61,7 @@ module _ (changes : ChangesLeave)
   act-size p (Inc counter) h steps makes g = change-size counter (pos 1) Raise 1 refl p steps makes g
   act-size p (Dec counter) h steps makes g = change-size counter (negsuc 0) Lower 1 refl p steps makes g
   act-size p (Fold d) h steps makes g = as-before (after p steps g) g
-      ((fold header.layout (owns (Cpu c) d) d is_layout p h steps makes g).changes k)
+      ((fold header.layout (lane_owns (Cpu c) d) d is_layout p h steps makes g).changes k)
   act-size p (Water zone mark most) h steps makes g = as-before (after p steps g) g
       ((test header zone mark most p h steps makes g).changes k)
   act-size p (Val counter) h steps makes g = as-before (after p steps g) g

@@ -1,26 +1,18 @@
 -- For other crates too: the three histories of a phase in file order are a phase of its lines, and meet nobody.
 use Rattle.std.proofs.Common.{ℕ, List, refl}
 use Rattle.std.specs.Prelude.{All}
-use Rattle.vms_base.specs.declared.headers.Header.{Header}
-use Rattle.vms_base.specs.declared.kinds.ZoneSize.{ZoneSize}
-use Rattle.vms_calls.specs.Changes.{HasWon}
-use Rattle.vms_text.specs.declared.acts.Item.{Item}
+use Rattle.vms_world.specs.Common.{Header, ZoneSize, HasWon, Item, PageSteps, FitVolumes, IsWorldPhase, TableHistories}
+use Rattle.vms_world.specs.Common.{LeavesNothing, SpendTheirLines, left_by, event_facts, pcpu_facts}
 use Rattle.vms_world.specs.declared.worlds.World.{World}
-use Rattle.vms_world.specs.Acts.{PageSteps}
-use Rattle.vms_world.specs.PhaseLines.{IsWorldPhase}
-use Rattle.vms_world.specs.Phases.{Histories, LeavesNothing, StayWithinVolumes, left_by}
-use Rattle.vms_world.specs.Worlds.{event_facts, pcpu_facts}
-use Rattle.vms_file_order.specs.MadePhases.{MakePhase}
-use Rattle.vms_file_order.specs.FileOrderPhases.{IsFileOrderPhase}
-use Rattle.vms_file_order.specs.Tables.{page_passes, event_passes, pcpu_passes, event_makes, pcpu_makes}
-use Rattle.vms_file_order.specs.Tables.{FindsLockFree, MeetsNobody}
+use Rattle.vms_file_order.specs.Common.{MakeInAnyOrder, IsFileOrderPhase, page_passes, event_passes, pcpu_passes}
+use Rattle.vms_file_order.specs.Common.{event_makes, pcpu_makes, FindsLockFree, MeetsNobody}
 use Rattle.vms_file_order.proofs.FollowedLines.{All-in_order, HasLanes-in_order, MakesLines-in_order}
 
 pub IsWorldPhase-made : (pressure normal : ZoneSize → ℕ → ℕ → Type 0) (header : Header) (w : World) (items : List Item)
-    (hs : Histories) → MakePhase header pressure normal w items hs → StayWithinVolumes header w hs
-    → LeavesNothing header (left_by header w hs)
-    → IsWorldPhase header pressure normal w items hs (left_by header w hs)
-IsWorldPhase-made pressure normal header w items hs phase within nothing = record {
+    (hs : TableHistories) → MakeInAnyOrder header pressure normal w items hs → SpendTheirLines header items hs
+    → FitVolumes header w items → LeavesNothing header (left_by header w items hs)
+    → IsWorldPhase header pressure normal w items hs (left_by header w items hs)
+IsWorldPhase-made pressure normal header w items hs phase spend fit nothing = record {
   complete = phase.complete;
   page_lanes = phase.page_lanes;
   event_lanes = phase.event_lanes;
@@ -28,15 +20,16 @@ IsWorldPhase-made pressure normal header w items hs phase within nothing = recor
   page_lines = phase.page_lines;
   event_lines = phase.event_lines;
   pcpu_lines = phase.pcpu_lines;
-  volumes = within;
+  spent = spend;
+  volumes = fit;
   buried = nothing;
   left = refl;
 }
 
 module _ (header : Header) (pressure normal : ZoneSize → ℕ → ℕ → Type 0) (w : World) (items : List Item)
-    (hs : Histories) (order : IsFileOrderPhase header pressure normal w items hs) where
-  pub MakePhase-in_order : MakePhase header pressure normal w items hs
-  MakePhase-in_order = record {
+    (hs : TableHistories) (order : IsFileOrderPhase header pressure normal w items hs) where
+  pub MakeInAnyOrder-in_order : MakeInAnyOrder header pressure normal w items hs
+  MakeInAnyOrder-in_order = record {
     complete = order.complete;
     page_lanes = HasLanes-in_order page_passes (PageSteps header w.pages pressure normal) HasWon header.layout items
         hs.pages order.page_order;

@@ -1,33 +1,13 @@
 -- For other crates too: by the laws of calls, what the histories of a phase spend is what its lines say.
 use Rattle.std.proofs.Common.{ℕ, Bool, List}
-use Rattle.vms_base.specs.declared.headers.Header.{Header}
-use Rattle.vms_base.specs.declared.ids.CounterId.{CounterId}
-use Rattle.vms_base.specs.declared.ids.CpuId.{CpuId}
-use Rattle.vms_base.specs.declared.ids.ItemId.{ItemId}
-use Rattle.vms_base.specs.declared.ids.PlaceId.{PlaceId}
-use Rattle.vms_base.specs.declared.kinds.WaterMark.{WaterMark}
-use Rattle.vms_base.specs.declared.kinds.ZoneSize.{ZoneSize}
-use Rattle.vms_base.specs.Places.{Shape, IsLayout}
-use Rattle.vms_history.proofs.Prefixes.{base_can_begin}
-use Rattle.vms_core.specs.Pages.{pages}
-use Rattle.vms_calls.specs.CallerLaws.{ChangesLeave, Leaves}
-use Rattle.vms_calls.specs.Changes.{HasWon}
-use Rattle.vms_calls.specs.Folds.{IsFold}
-use Rattle.vms_calls.specs.Looks.{IsPlaceValue, IsSnapshot, IsSystemValue, IsWatermarkTest, Verdict}
-use Rattle.vms_text.specs.declared.acts.Item.{Item}
-use Rattle.vms_text.specs.declared.acts.Lane.{Lane}
-use Rattle.vms_text.specs.declared.acts.Lane.TheVariants.{Cpu}
+use Rattle.vms_world.specs.Common.{Header, CounterId, CpuId, ItemId, PlaceId, WaterMark, ZoneSize, Shape, IsLayout}
+use Rattle.vms_world.specs.Common.{pages, ChangesLeave, Leaves, HasWon, IsFold, Verdict, IsPlaceValue, IsSnapshot}
+use Rattle.vms_world.specs.Common.{IsSystemValue, IsWatermarkTest, Item, Lane, Cpu, PageSteps, lanes_of, TableHistories}
+use Rattle.vms_world.specs.Common.{SpendTheirLines, page_facts, event_facts, pcpu_facts}
+use Rattle.vms_history.proofs.Common.{base_can_begin}
 use Rattle.vms_world.specs.declared.worlds.World.{World}
-use Rattle.vms_world.specs.Acts.{PageSteps}
-use Rattle.vms_world.specs.Lanes.{lanes_of}
-use Rattle.vms_world.specs.Phases.{Histories}
-use Rattle.vms_world.specs.Worlds.{page_facts, event_facts, pcpu_facts}
-use Rattle.vms_file_order.specs.LanePasses.{StandOnce}
-use Rattle.vms_file_order.specs.MadePhases.{MakePhase}
-use Rattle.vms_file_order.specs.OpenPhases.{IsOpenPhase, TableStates}
-use Rattle.vms_file_order.specs.PhaseVolumes.{SpendTheirLines}
-use Rattle.vms_file_order.specs.Tables.{FindsLockFree, MeetsNobody, event_makes, event_passes, page_passes, pcpu_makes}
-use Rattle.vms_file_order.specs.Tables.{pcpu_passes}
+use Rattle.vms_file_order.specs.Common.{StandOnce, MakeInAnyOrder, IsOpenPhase, TableStates, FindsLockFree, MeetsNobody}
+use Rattle.vms_file_order.specs.Common.{event_makes, event_passes, page_passes, pcpu_makes, pcpu_passes}
 use Rattle.vms_file_order.proofs.EventVolumes.{events-spend_lines}
 use Rattle.vms_file_order.proofs.FollowedLines.{HasLanes-followed, MakesActs-followed, acts_of-followed}
 use Rattle.vms_file_order.proofs.LaneLists.{StandOnce-lanes}
@@ -50,7 +30,8 @@ module _ (changes : ChangesLeave)
     (fold : (shape : Shape) (is_own : Bool) (c : CpuId) → IsLayout shape → Leaves shape
     (λ p h steps. IsFold shape is_own c steps))
     (pressure normal : ZoneSize → ℕ → ℕ → Type 0) (header : Header) (w : World) where
-  pub SpendTheirLines-made : (items : List Item) (hs : Histories) → MakePhase header pressure normal w items hs
+  pub SpendTheirLines-made : (items : List Item) (hs : TableHistories) →
+      MakeInAnyOrder header pressure normal w items hs
       → SpendTheirLines header items hs
   SpendTheirLines-made items hs makes =
       let ls = lanes_of header.layout items in
@@ -68,7 +49,7 @@ module _ (changes : ChangesLeave)
             makes.pcpu_lines;
       }
 
-  pub SpendTheirLines-opened : (ls : List Lane) (items : List Item) (hs : Histories) (now : TableStates)
+  pub SpendTheirLines-opened : (ls : List Lane) (items : List Item) (hs : TableHistories) (now : TableStates)
       → StandOnce ls → IsOpenPhase header pressure normal w ls items hs now → SpendTheirLines header items hs
   SpendTheirLines-opened ls items hs now once opened =
       let page = PageSteps header w.pages pressure normal in

@@ -1,31 +1,16 @@
 -- For other crates too: where the lines of a run begin, and what phases of lines that fit make of it.
 use Rattle.std.proofs.Common.{◌≡◌, ℕ, ◌*◌, List, length, map, arith}
-use Rattle.vms_base.specs.declared.headers.Header.{Header}
-use Rattle.vms_base.specs.declared.kinds.ZoneSize.{ZoneSize}
-use Rattle.vms_base.specs.Headers.{IsHeader}
-use Rattle.vms_base.specs.Places.{cell, counter_count}
-use Rattle.vms_base.specs.Thresholds.{GivesThresholds}
-use Rattle.vms_core.proofs.LevelStates.{get_or-copies}
-use Rattle.vms_event_core.specs.Words.{event_count}
-use Rattle.vms_script.specs.FittingScripts.{Fits}
-use Rattle.vms_script.specs.Starts.{Start, first_start, start_at_end}
-use Rattle.vms_script.specs.Totals.{line_of}
-use Rattle.vms_script.proofs.Fitting.{FittingScriptsStayWithin-holds}
-use Rattle.vms_script.proofs.LineVolumes.{IsWithin-first}
-use Rattle.vms_text.specs.declared.acts.Item.{Item}
+use Rattle.vms_world.specs.Common.{Header, ZoneSize, IsHeader, cell, counter_count, GivesThresholds, event_count, Fits}
+use Rattle.vms_world.specs.Common.{Start, first_start, start_at_end, line_of, Item, started, IsWorldPhase, FitVolumes}
+use Rattle.vms_world.specs.Common.{TableHistories, LeavesNothing, SpendTheirLines, left_by, AreAnswers, event_volume}
+use Rattle.vms_world.specs.Common.{page_volume, pcpu_volume}
+use Rattle.vms_core.proofs.Common.{get_or-copies}
+use Rattle.vms_script.proofs.Common.{FittingScriptsStayWithin-holds, IsWithin-first}
 use Rattle.vms_world.specs.declared.worlds.World.{World}
-use Rattle.vms_world.specs.FirstWorlds.{started}
-use Rattle.vms_world.specs.PhaseLines.{IsWorldPhase}
-use Rattle.vms_world.specs.Phases.{Histories, LeavesNothing, StayWithinVolumes, left_by}
-use Rattle.vms_world.specs.Refreshes.{AreAnswers}
-use Rattle.vms_world.specs.Worlds.{event_volume, page_volume, pcpu_volume}
-use Rattle.vms_world.proofs.FirstWorlds.{IsWorldOf-start, online-bare}
-use Rattle.vms_world.proofs.PhaseEnds.{IsWorldOf-left_by}
-use Rattle.vms_file_order.specs.MadePhases.{MakePhase}
-use Rattle.vms_file_order.specs.PhaseVolumes.{SpendTheirLines}
-use Rattle.vms_file_order.specs.WorldStarts.{IsStartOf}
+use Rattle.vms_world.proofs.Common.{IsWorldOf-start, online-bare, IsWorldOf-left_by}
+use Rattle.vms_file_order.specs.Common.{MakeInAnyOrder, IsStartOf}
 use Rattle.vms_file_order.proofs.CpuStates.{HasStates-made}
-use Rattle.vms_file_order.proofs.PhaseVolumes.{CoversVolumes-left, StayWithinVolumes-fitting}
+use Rattle.vms_file_order.proofs.PhaseVolumes.{CoversVolumes-left, FitVolumes-fitting}
 use Rattle.vms_file_order.proofs.PhasesInOrder.{IsWorldPhase-made}
 
 -- the first start is one of the world that a run begins with
@@ -53,19 +38,19 @@ IsStartOf-first header valid answers gives zones are = record {
 
 -- a phase of lines that fit
 module _ (pressure normal : ZoneSize → ℕ → ℕ → Type 0) (header : Header) (start : Start) (w : World)
-    (is : IsStartOf header start w) (items : List Item) (fits : Fits header start items) (hs : Histories)
-    (phase : MakePhase header pressure normal w items hs) (spend : SpendTheirLines header items hs)
-    (nothing : LeavesNothing header (left_by header w hs)) where
-  stay : StayWithinVolumes header w hs
-  stay = StayWithinVolumes-fitting header w items hs start spend is.volumes fits is.within
+    (is : IsStartOf header start w) (items : List Item) (fits : Fits header start items) (hs : TableHistories)
+    (phase : MakeInAnyOrder header pressure normal w items hs) (spend : SpendTheirLines header items hs)
+    (nothing : LeavesNothing header (left_by header w items hs)) where
+  fit : FitVolumes header w items
+  fit = FitVolumes-fitting header w items start is.volumes fits is.within
 
-  pub IsWorldPhase-fitting : IsWorldPhase header pressure normal w items hs (left_by header w hs)
-  IsWorldPhase-fitting = IsWorldPhase-made pressure normal header w items hs phase stay nothing
+  pub IsWorldPhase-fitting : IsWorldPhase header pressure normal w items hs (left_by header w items hs)
+  IsWorldPhase-fitting = IsWorldPhase-made pressure normal header w items hs phase spend fit nothing
 
-  pub IsStartOf-left : IsStartOf header (start_at_end start (map line_of items)) (left_by header w hs)
+  pub IsStartOf-left : IsStartOf header (start_at_end start (map line_of items)) (left_by header w items hs)
   IsStartOf-left = record {
-    world = IsWorldOf-left_by header w hs is.world phase.complete stay nothing;
+    world = IsWorldOf-left_by header w items hs is.world phase.complete spend fit nothing;
     states = HasStates-made pressure normal header w start is.states items fits.known hs phase;
-    volumes = CoversVolumes-left header w items hs start spend is.volumes is.world phase.complete;
+    volumes = CoversVolumes-left header w items hs start is.volumes is.world phase.complete;
     within = FittingScriptsStayWithin-holds header start items fits is.within;
   }

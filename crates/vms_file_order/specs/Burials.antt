@@ -1,17 +1,9 @@
 -- Who is absent after a phase, and which line buried it.
 use Rattle.std.specs.Prelude.{◌≡◌, ℕ, ◌⊎◌, List}
 use Rattle.std.specs.List.{Contains}
-use Rattle.vms_base.specs.declared.headers.Header.{Header}
-use Rattle.vms_base.specs.declared.ids.CpuId.{CpuId}
-use Rattle.vms_base.specs.declared.kinds.CpuState.TheVariants.{Absent}
-use Rattle.vms_base.specs.Places.{IsCpu}
-use Rattle.vms_core.specs.Cells.{cpu_at}
+use Rattle.vms_world.specs.Common.{Header, CpuId, Absent, IsCpu, cpu_at, Item, Control, Start, acts_of}
 use Rattle.vms_text.specs.declared.acts.Act.TheVariants.{Dead}
-use Rattle.vms_text.specs.declared.acts.Item.{Item}
-use Rattle.vms_text.specs.declared.acts.Lane.TheVariants.{Control}
-use Rattle.vms_script.specs.Starts.{Start}
 use Rattle.vms_world.specs.declared.worlds.World.{World}
-use Rattle.vms_world.specs.Lanes.{acts_of}
 
 -- whoever is absent after these lines was absent before them, or a line of the control lane buries it
 abbrev pub AbsentAreBuried : Header → World → List Item → World → Type 0

@@ -1,15 +1,8 @@
 -- The histories of a phase in file order: the lanes' passes begin, the lines follow one another, the passes end.
 use Rattle.std.specs.Prelude.{◌≡◌, ◌≢◌, ℕ, true, List, [], ◌∷◌, ◌++◌, All}
-use Rattle.vms_base.specs.Places.{Shape}
-use Rattle.vms_history.specs.declared.events.Event.{Event}
-use Rattle.vms_history.specs.Events.{after, own}
-use Rattle.vms_history.specs.Legal.{Machine, IsLegal, state_after}
-use Rattle.vms_history.specs.Passes.{Role, lives_in, owner_in}
-use Rattle.vms_alone.specs.InRow.{GoesOnTo}
-use Rattle.vms_text.specs.declared.acts.Act.{Act}
-use Rattle.vms_text.specs.declared.acts.Item.{Item}
-use Rattle.vms_text.specs.declared.acts.Lane.{Lane}
-use Rattle.vms_world.specs.Lanes.{is_among, lanes_of, owner_of}
+use Rattle.vms_world.specs.Common.{Shape, Event, after, own, Machine, Role, lives_in, owner_in, GoesOnTo, Act, Item}
+use Rattle.vms_world.specs.Common.{Lane, is_among, lanes_of, owner_of}
+use Rattle.vms_history.specs.Legal.{IsLegal, state_after}
 use Rattle.vms_file_order.specs.LanePasses.{PassSteps, closing_of, opening_of, pass_of}
 
 -- `makes` says which steps an act may make, by a pass of a lane, where it begins in a history; `IsAlone` what each step

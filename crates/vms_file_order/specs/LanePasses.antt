@@ -1,14 +1,7 @@
 -- The passes of lanes: the steps that begin and end them, their numbers, and which of them may begin.
 use Rattle.std.specs.Prelude.{◌≡◌, ℕ, suc, false, List, [], ◌∷◌, All, if◌then◌else◌, Option}
-use Rattle.vms_base.specs.declared.ids.CpuId.{CpuId}
-use Rattle.vms_history.specs.declared.events.Event.{Event}
-use Rattle.vms_history.specs.Events.{after}
-use Rattle.vms_history.specs.Legal.{Machine}
-use Rattle.vms_history.specs.Passes.{Role}
-use Rattle.vms_history.specs.Passes.Role.{Begins, Ends}
-use Rattle.vms_text.specs.declared.acts.Lane.{Lane}
-use Rattle.vms_script.specs.PhaseScripts.{is_lane}
-use Rattle.vms_world.specs.Lanes.{is_among, owner_of}
+use Rattle.vms_world.specs.Common.{CpuId, Event, after, Machine, Role, Ends, Lane, is_lane, is_among, owner_of}
+use Rattle.vms_history.specs.Passes.Role.{Begins}
 
 -- the steps of a table that begin and end pass q
 pub record PassSteps (K : Type 0) (role : K → Role) : Type 0 where

@@ -8,3 +8,4 @@ pub mod Burials
 pub mod OpenPhases
 pub mod WorldStarts
 pub mod FittingLines
+pub mod Common

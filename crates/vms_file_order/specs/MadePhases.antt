@@ -1,21 +1,17 @@
 -- Histories that make the lines of a phase, whether in file order or not.
 use Rattle.std.specs.Prelude.{ℕ, List}
-use Rattle.vms_base.specs.declared.headers.Header.{Header}
-use Rattle.vms_base.specs.declared.kinds.ZoneSize.{ZoneSize}
+use Rattle.vms_world.specs.Common.{Header, ZoneSize, Item, PageSteps, HasLanes, MakesLines, lanes_of, AreComplete}
+use Rattle.vms_world.specs.Common.{TableHistories, event_facts, pcpu_facts}
 use Rattle.vms_core.specs.Steps as page_steps
 use Rattle.vms_event_core.specs.Steps as event_steps
 use Rattle.vms_pcpu_core.specs.Steps as pcpu_steps
-use Rattle.vms_text.specs.declared.acts.Item.{Item}
 use Rattle.vms_world.specs.declared.worlds.World.{World}
-use Rattle.vms_world.specs.Acts.{PageSteps}
-use Rattle.vms_world.specs.Lanes.{HasLanes, MakesLines, lanes_of}
-use Rattle.vms_world.specs.Phases.{AreComplete, Histories}
-use Rattle.vms_world.specs.Worlds.{event_facts, pcpu_facts}
 use Rattle.vms_file_order.specs.Tables.{event_makes, pcpu_makes}
 
 -- these histories make a phase of these lines from this world, whatever they spend and leave
-pub record MakePhase (header : Header) (pressure normal : ZoneSize → ℕ → ℕ → Type 0) (w : World) (items : List Item)
-    (hs : Histories) : Type 0 where
+pub record MakeInAnyOrder (header : Header) (pressure normal : ZoneSize → ℕ → ℕ → Type 0) (w : World)
+    (items : List Item)
+    (hs : TableHistories) : Type 0 where
   pub complete : AreComplete header w hs
   pub page_lanes : HasLanes page_steps.role (lanes_of header.layout items) hs.pages
   pub event_lanes : HasLanes event_steps.role (lanes_of header.layout items) hs.events

@@ -1,21 +1,13 @@
 -- What the three tables say of passes, of steps that meet no other caller, and of acts.
 use Rattle.std.specs.Prelude.{ℕ, List, refl}
-use Rattle.vms_history.specs.declared.events.Event.{Event}
+use Rattle.vms_world.specs.Common.{Event, Step, EventFacts, EventStep, PcpuFacts, PcpuStep, Missed, Act, Lane}
+use Rattle.vms_world.specs.Common.{EventSteps, PcpuSteps}
 use Rattle.vms_core.specs.Steps as page_steps
-use Rattle.vms_core.specs.declared.steps.Step.{Step}
 use Rattle.vms_core.specs.declared.steps.Step.TheVariants as page
 use Rattle.vms_event_core.specs.Steps as event_steps
-use Rattle.vms_event_core.specs.declared.steps.EventFacts.{EventFacts}
-use Rattle.vms_event_core.specs.declared.steps.EventStep.{EventStep}
 use Rattle.vms_event_core.specs.declared.steps.EventStep.TheVariants as event
 use Rattle.vms_pcpu_core.specs.Steps as pcpu_steps
-use Rattle.vms_pcpu_core.specs.declared.steps.PcpuFacts.{PcpuFacts}
-use Rattle.vms_pcpu_core.specs.declared.steps.PcpuStep.{PcpuStep}
 use Rattle.vms_pcpu_core.specs.declared.steps.PcpuStep.TheVariants as percpu
-use Rattle.vms_pcpu_core.specs.declared.steps.PcpuStep.TheVariants.{Missed}
-use Rattle.vms_text.specs.declared.acts.Act.{Act}
-use Rattle.vms_text.specs.declared.acts.Lane.{Lane}
-use Rattle.vms_world.specs.Acts.{EventSteps, PcpuSteps}
 use Rattle.vms_file_order.specs.LanePasses.{PassSteps}
 
 -- in each table a Split begins a pass and a Join ends one

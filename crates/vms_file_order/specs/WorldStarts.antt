@@ -1,8 +1,7 @@
 -- What the lines before a world say of it.
-use Rattle.vms_base.specs.declared.headers.Header.{Header}
-use Rattle.vms_script.specs.Starts.{IsWithin, Start}
+use Rattle.vms_world.specs.Common.{Header, Start, IsWorldOf}
+use Rattle.vms_script.specs.Starts.{IsWithin}
 use Rattle.vms_world.specs.declared.worlds.World.{World}
-use Rattle.vms_world.specs.Worlds.{IsWorldOf}
 use Rattle.vms_file_order.specs.Burials.{HasStates}
 use Rattle.vms_file_order.specs.PhaseVolumes.{CoversVolumes}
 

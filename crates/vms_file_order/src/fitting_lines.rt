@@ -1,14 +1,7 @@
 ghost use Rattle.std.specs.Prelude.{List, [], ◌∷◌, ◌++◌, map};
-ghost use Rattle.vms_base.specs.declared.headers.Header.{Header};
-ghost use Rattle.vms_line.specs.Laws.{IsLineOf};
-ghost use Rattle.vms_script.specs.FittingScripts.{Fits};
-ghost use Rattle.vms_script.specs.Starts.{Start};
-ghost use Rattle.vms_script.specs.Totals.{line_of};
-ghost use Rattle.vms_text.specs.declared.acts.Item.{Item};
-ghost use Rattle.vms_text.specs.declared.acts.Lane.{Lane};
+ghost use Rattle.vms_world.specs.Common.{Header, IsLineOf, Fits, Start, line_of, Item, Lane, lanes_of, TableHistories};
+ghost use Rattle.vms_world.specs.Common.{StayWithinVolumes};
 ghost use Rattle.vms_world.specs.declared.worlds.World.{World};
-ghost use Rattle.vms_world.specs.Lanes.{lanes_of};
-ghost use Rattle.vms_world.specs.Phases.{Histories, StayWithinVolumes};
 ghost use Rattle.vms_file_order.specs.FittingLines.{MayFollow};
 ghost use Rattle.vms_file_order.specs.LanePasses.{StandOnce};
 ghost use Rattle.vms_file_order.specs.OpenPhases.{IsOpenPhase, TableStates, opening_states, openings_of};
@@ -36,11 +29,13 @@ pub fn fitting_phases_open<R: ThresholdRules>()
 /// Some lines of a script that fits a start of its world have come in an open phase: no CPU has passed its volumes, and
 /// the next line may follow, by the states that the CPUs are in and by those that the phase began with.
 pub fn fitting_lines_follow<R: ThresholdRules>()
-    ensures volumes { (header : Header) (w : World) (lanes : List Lane) (items : List Item) (hs : Histories)
+    ensures volumes { (header : Header) (w : World) (lanes : List Lane) (items : List Item)
+        (hs : TableHistories)
         (now : TableStates) (start : Start) (more : List Item) → StandOnce lanes →
         IsOpenPhase header R.pressure R.normal w lanes items hs now → IsStartOf header start w →
         Fits header start (items ++ more) → StayWithinVolumes header w hs }
-    ensures next { (header : Header) (w : World) (lanes : List Lane) (items : List Item) (hs : Histories)
+    ensures next { (header : Header) (w : World) (lanes : List Lane) (items : List Item)
+        (hs : TableHistories)
         (now : TableStates) (start : Start) (item : Item) (more : List Item) → StandOnce lanes →
         IsOpenPhase header R.pressure R.normal w lanes items hs now → IsStartOf header start w →
         Fits header start (items ++ item ∷ more) → MayFollow now.pages (map line_of items) item.lane item.act }

@@ -1,11 +1,7 @@
 ghost use Rattle.std.specs.Prelude.{◌≡◌, ◌≢◌, ℕ, true, List, [], ◌∷◌, ◌++◌};
-ghost use Rattle.vms_base.specs.Places.{Shape};
-ghost use Rattle.vms_history.specs.declared.events.Event.{Event};
-ghost use Rattle.vms_history.specs.Events.{after, own};
+ghost use Rattle.vms_world.specs.Common.{Shape, Event, after, own, Item, Lane, HasLanes, MakesLines, is_among};
+ghost use Rattle.vms_world.specs.Common.{lanes_of};
 ghost use Rattle.vms_history.specs.Legal.{IsComplete, state_after};
-ghost use Rattle.vms_text.specs.declared.acts.Item.{Item};
-ghost use Rattle.vms_text.specs.declared.acts.Lane.{Lane};
-ghost use Rattle.vms_world.specs.Lanes.{HasLanes, MakesLines, is_among, lanes_of};
 ghost use Rattle.vms_file_order.specs.FileOrder.{Follow, GoesOnWithLine, HasPass, IsFileOrder, StandsOpen};
 ghost use Rattle.vms_file_order.specs.LanePasses.{MayOwnEach, StandOnce, closing_of, opening_of, pass_of};
 

@@ -1,17 +1,8 @@
 ghost use Rattle.std.specs.Prelude.{◌≡◌, ℕ, ◌<◌, List, [], ◌∷◌, ◌++◌, All, Ok, map, reverse};
-ghost use Rattle.vms_base.specs.declared.headers.Header.{Header};
-ghost use Rattle.vms_base.specs.Headers.{IsHeader};
-ghost use Rattle.vms_line.specs.Laws.{IsLineOf};
-ghost use Rattle.vms_script.specs.FittingScripts.{Fits};
-ghost use Rattle.vms_script.specs.Judging.{allowed_from, judged};
-ghost use Rattle.vms_script.specs.Scripts.{IsOpen, Script, phase_start};
-ghost use Rattle.vms_script.specs.Starts.{first_start, start_after, start_at_end, start_past};
-ghost use Rattle.vms_script.specs.Totals.{line_of};
-ghost use Rattle.vms_text.specs.declared.acts.Act.{Act};
+ghost use Rattle.vms_world.specs.Common.{Header, IsHeader, IsLineOf, Fits, allowed_from, judged, IsOpenScript, Script};
+ghost use Rattle.vms_world.specs.Common.{phase_start, first_start, start_after, start_at_end, start_past, line_of, Act};
+ghost use Rattle.vms_world.specs.Common.{Item, Lane as LaneOf, Line};
 ghost use Rattle.vms_text.specs.declared.acts.Boundary.{Boundary as BoundaryOf};
-ghost use Rattle.vms_text.specs.declared.acts.Item.{Item};
-ghost use Rattle.vms_text.specs.declared.acts.Lane.{Lane as LaneOf};
-ghost use Rattle.vms_text.specs.declared.acts.Line.{Line};
 ghost use Rattle.vms_text.specs.declared.acts.Line.TheVariants.{Lane, Boundary};
 
 /// What the lines of a phase make of what it began with is what they and all lines above make of the first start, and
@@ -23,7 +14,7 @@ pub fn starts_go_by_all_lines()
     ensures boundary { (above : List Line) (items : List Item) (boundary : BoundaryOf) →
         start_past (Boundary boundary) (start_at_end (start_after first_start above) (map line_of items))
         ≡ start_after first_start (Boundary boundary ∷ (reverse (map line_of items) ++ above)) }
-    ensures script { (script : Script) → IsOpen script →
+    ensures script { (script : Script) → IsOpenScript script →
         start_at_end (phase_start script) (map line_of script.items) ≡ start_after first_start script.lines }
 {}
 

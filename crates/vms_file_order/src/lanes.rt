@@ -1,10 +1,5 @@
 ghost use Rattle.std.specs.Prelude.{◌≡◌, true, List, All};
-ghost use Rattle.vms_base.specs.declared.headers.Header.{Header};
-ghost use Rattle.vms_base.specs.Places.{Shape};
-ghost use Rattle.vms_line.specs.Laws.{IsLaneOf};
-ghost use Rattle.vms_text.specs.declared.acts.Item.{Item};
-ghost use Rattle.vms_text.specs.declared.acts.Lane.{Lane};
-ghost use Rattle.vms_world.specs.Lanes.{has_line, is_among, lanes_of};
+ghost use Rattle.vms_world.specs.Common.{Header, Shape, IsLaneOf, Item, Lane, has_line, is_among, lanes_of};
 ghost use Rattle.vms_file_order.specs.LanePasses.{StandOnce};
 
 /// The lanes that have lines stand once each. Each has a line, and the lane of each line is among them.

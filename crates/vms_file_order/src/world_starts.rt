@@ -1,24 +1,13 @@
 ghost use Rattle.std.specs.Prelude.{◌≡◌, ℕ, List, [], Ok, map};
-ghost use Rattle.vms_base.specs.declared.headers.Header.{Header};
-ghost use Rattle.vms_base.specs.Headers.{IsHeader};
-ghost use Rattle.vms_base.specs.Thresholds.{GivesThresholds};
-ghost use Rattle.vms_line.specs.Laws.{IsLineOf};
-ghost use Rattle.vms_script.specs.FittingScripts.{Fits};
-ghost use Rattle.vms_script.specs.Judging.{allowed_from, counted_of};
-ghost use Rattle.vms_script.specs.Segments.{AreSegments, Segment, contents_of, lines_of_segments};
-ghost use Rattle.vms_script.specs.Starts.{Start, first_start, start_after, start_at_end, start_past};
-ghost use Rattle.vms_script.specs.Totals.{line_of};
+ghost use Rattle.vms_world.specs.Common.{Header, IsHeader, GivesThresholds, IsLineOf, Fits, allowed_from, counted_of};
+ghost use Rattle.vms_world.specs.Common.{AreSegments, Segment, contents_of, lines_of_segments, Start, first_start};
+ghost use Rattle.vms_world.specs.Common.{start_after, start_at_end, start_past, line_of, Item, Crosses, MayCross};
+ghost use Rattle.vms_world.specs.Common.{started, IsWorldPhase, IsWorldRun, TableHistories, left_by, AreAnswers};
 ghost use Rattle.vms_text.specs.declared.acts.Boundary.{Boundary as BoundaryOf};
-ghost use Rattle.vms_text.specs.declared.acts.Item.{Item};
 ghost use Rattle.vms_text.specs.declared.acts.Line.TheVariants.{Boundary};
 ghost use Rattle.vms_world.specs.declared.worlds.World.{World};
-ghost use Rattle.vms_world.specs.Boundaries.{Crosses, MayCross};
-ghost use Rattle.vms_world.specs.FirstWorlds.{started};
-ghost use Rattle.vms_world.specs.PhaseLines.{IsWorldPhase, IsWorldRun};
-ghost use Rattle.vms_world.specs.Phases.{Histories, left_by};
-ghost use Rattle.vms_world.specs.Refreshes.{AreAnswers};
 ghost use Rattle.vms_file_order.specs.Burials.{HasStates};
-ghost use Rattle.vms_file_order.specs.MadePhases.{MakePhase};
+ghost use Rattle.vms_file_order.specs.MadePhases.{MakeInAnyOrder};
 ghost use Rattle.vms_file_order.specs.WorldStarts.{IsStartOf};
 
 use crate::{phases_bury_who_goes_absent, phases_spend_their_lines};
@@ -34,12 +23,16 @@ pub fn runs_begin_with_first_start<R: ThresholdRules>()
 /// Histories that make lines which fit a start of their world are a phase of them, and what the lines make of the start
 /// is a start of the world that the phase leaves.
 pub fn fitting_phases_are_phases<R: ThresholdRules>()
-    ensures phase { (header : Header) (w : World) (items : List Item) (hs : Histories) (start : Start) →
-        IsStartOf header start w → Fits header start items → MakePhase header R.pressure R.normal w items hs →
-        IsWorldPhase header R.pressure R.normal w items hs (left_by header w hs) }
-    ensures start { (header : Header) (w : World) (items : List Item) (hs : Histories) (start : Start) →
-        IsStartOf header start w → Fits header start items → MakePhase header R.pressure R.normal w items hs →
-        IsStartOf header (start_at_end start (map line_of items)) (left_by header w hs) }
+    ensures phase { (header : Header) (w : World) (items : List Item) (hs : TableHistories)
+        (start : Start) →
+        IsStartOf header start w → Fits header start items →
+        MakeInAnyOrder header R.pressure R.normal w items hs →
+        IsWorldPhase header R.pressure R.normal w items hs (left_by header w items hs) }
+    ensures start { (header : Header) (w : World) (items : List Item) (hs : TableHistories)
+        (start : Start) →
+        IsStartOf header start w → Fits header start items →
+        MakeInAnyOrder header R.pressure R.normal w items hs →
+        IsStartOf header (start_at_end start (map line_of items)) (left_by header w items hs) }
 {
     phases_spend_their_lines::<R>();
     phases_bury_who_goes_absent::<R>();
@@ -61,14 +54,14 @@ pub fn fitting_boundaries_cross<R: ThresholdRules>()
 /// What the lines of a run make of the first start is a start of the world that the run ends with, if its segments may
 /// stand there, as those of a body do.
 pub fn runs_keep_starts<R: ThresholdRules>()
-    ensures segments { (header : Header) (segments : List Segment) (hss : List Histories) (last : World) →
+    ensures segments { (header : Header) (segments : List Segment) (hss : List TableHistories)
+        (last : World) →
         IsHeader header → GivesThresholds R.normal → AreSegments header first_start segments →
         IsWorldRun header R.pressure R.normal segments hss last →
         IsStartOf header (start_at_end first_start (lines_of_segments segments)) last }
-    ensures body { (header : Header) (n : ℕ) (texts : List (List ℕ)) (hss : List Histories) (last : World) →
+    ensures body { (header : Header) (n : ℕ) (texts : List (List ℕ)) (hss : List TableHistories)
+        (last : World) →
         IsHeader header → GivesThresholds R.normal →
         IsWorldRun header R.pressure R.normal (contents_of header n texts).segments hss last →
         IsStartOf header (start_after first_start (counted_of header [] texts)) last }
-{
-    phases_spend_their_lines::<R>();
-}
+{}

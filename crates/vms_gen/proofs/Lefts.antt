@@ -1,14 +1,13 @@
 -- The lines that are left once one more was made, and the bytes that are left once some were given.
 use Rattle.std.proofs.Common.{ℕ, zero, suc, ◌≡◌, ◌≢◌, ◌+◌, ◌-◌, ◌≤◌, List, ◌++◌, refl, arith, flat_map, Option, Some}
-use Rattle.std.proofs.Common.{sym}
-use Rattle.std.proofs.Common.{ap, ◌∙◌, append_assoc, drop, drop-drop, length, length-append, length-drop, subst, take}
+use Rattle.std.proofs.Common.{sym, ap, ◌∙◌, append_assoc, drop, drop-drop, length, length-append, length-drop, subst}
+use Rattle.std.proofs.Common.{take}
 use Rattle.std.proofs.Math.Seq.{drop-append-add, take-append-add, take-append_seam, take-length}
 use Rattle.std.proofs.lemmas.List.{append-nil, length-take-le, take-append-drop}
 use Rattle.std.proofs.Math.ListN.{drop_of_length-le}
 use borrow.Rule.Slice.PartMut.{put_mid}
-use Rattle.vms_text.specs.Spelling.{sentence}
-use Rattle.vms_gen.specs.Left.{lines_from}
-use Rattle.vms_gen.specs.Texts.{line_at, lines_after, next_state}
+use Rattle.vms_text.specs.Common.{sentence}
+use Rattle.vms_gen.specs.Common.{lines_from, line_at, lines_after, next_state}
 
 next-lines : (cpus n x : ℕ) → n ≢ 0 → flat_map sentence (lines_after cpus n x)
     ≡ sentence (line_at cpus (next_state x)) ++ flat_map sentence (lines_after cpus (n - 1) (next_state x))

@@ -1,22 +1,18 @@
 -- Room for the words of a line.
 use Rattle.std.proofs.Common.{ℕ, zero, suc, ◌≡◌, ◌+◌, ◌<◌, ◌≤◌, ◌^◌, List, [], ◌∷◌, ◌++◌, length, map, take, get_or}
-use Rattle.std.proofs.Common.{arith}
-use Rattle.std.proofs.Common.{length-append, refl, ap, sym, ◌∙◌, Bor, ◌%◌, pos, ◌-ℤ◌, w64}
+use Rattle.std.proofs.Common.{arith, length-append, refl, ap, sym, ◌∙◌, Bor, ◌%◌, pos, ◌-ℤ◌, w64}
 use Rattle.std.proofs.lemmas.Fmt.{length-decimal-le}
 use Rattle.std.proofs.lemmas.List.{get_or-map, length-map}
 use Rattle.std.proofs.lemmas.List.Sums.{AllPass-from_list_all}
 use Rattle.std.proofs.lemmas.Int.{ints}
 use Rattle.std.specs.Fmt.{decimal, signed_decimal}
 use Rattle.std.specs.Int.RustNames.{FitsSigned}
-use Rattle.vms_base.specs.Names.{zone_items}
-use Rattle.vms_text.specs.Spelling.{entry}
-use Rattle.vms_text.specs.Writing.{spaced, text_of}
+use Rattle.vms_base.specs.Common.{zone_items}
+use Rattle.vms_text.specs.Common.{entry_if_any, spaced, text_of}
 use Rattle.vms_text.specs.declared.writing.Word.{Word}
 use Rattle.vms_text.specs.declared.writing.Word.TheVariants.{Text}
-use Rattle.vms_text.proofs.Entries.{entry-within}
-use Rattle.vms_text.proofs.Sentences.{is_short, ShortWord-from}
-use Rattle.vms_text.proofs.SpelledNumbers.{signed-short}
-use Rattle.vms_gen.specs.Texts.{amount_word}
+use Rattle.vms_text.proofs.Common.{entry_if_any-within, is_short, ShortWord-from, signed-short}
+use Rattle.vms_gen.specs.Common.{amount_word}
 
 abbrev pub no_word : Word
 no_word = Text (record { ref_ptr = (0, 0); now = [] })
@@ -41,11 +37,12 @@ decimal-room n fits = length-decimal-le 20 n (omega arith) (omega arith) fits
 
 -- a name that is taken from the list of names
 pub name-of : (names : List (Bor (List ℕ))) (m : ℕ) (d : Bor (List ℕ)) (name : List ℕ)
-    → name ≡ (get_or names m d).now → map (λ name. name.now) names ≡ zone_items → m < 8 → name ∷ [] ≡ entry zone_items m
+    → name ≡ (get_or names m d).now → map (λ name. name.now) names ≡ zone_items → m < 8 →
+    name ∷ [] ≡ entry_if_any zone_items m
 name-of names m d name is same within =
     let long : length names ≡ 8 = sym (length-map names (λ name. name.now)) ∙ ap length same in
     ap (λ word. word ∷ []) (is ∙ sym (get_or-map (λ name. name.now) names m d [] (omega arith)))
-    ∙ ap (λ items. get_or items m [] ∷ []) same ∙ sym (entry-within zone_items m [] within)
+    ∙ ap (λ items. get_or items m [] ∷ []) same ∙ sym (entry_if_any-within zone_items m [] within)
 
 pub name-short : (names : List (Bor (List ℕ))) (m : ℕ) (d : Bor (List ℕ)) (name : List ℕ)
     → name ≡ (get_or names m d).now → map (λ name. name.now) names ≡ zone_items → m < 8 → length name ≤ 21

@@ -1,7 +1,7 @@
 -- The numbers that words give.
 use Rattle.std.specs.Prelude.{ℕ, ◌≤◌, List, [], ◌∷◌, codes, bytes_eq, if◌then◌else◌, Option, None, option_and_then}
 use Rattle.std.specs.Prelude.{option_map}
-use Rattle.vms_text.specs.Numbers.{number_within, unsigned_of}
+use Rattle.vms_text.specs.Common.{number_within, unsigned_of}
 use Rattle.vms_gen.specs.Texts.{IsCpuCount}
 use Rattle.vms_gen.specs.declared.numbers.Numbers.{Numbers}
 

@@ -1,9 +1,9 @@
 -- The text that is made from three numbers.
-use Rattle.std.specs.Prelude.{ℕ, zero, suc, ◌+◌, ◌*◌, ◌/◌, ◌%◌, ◌^◌, ◌≤◌, ◌==◌, nat_lt, if◌then◌else◌, pos, ◌-ℤ◌}
-use Rattle.std.specs.Prelude.{List, [], ◌∷◌, ◌++◌, codes, decimal, flat_map, map}
+use Rattle.std.specs.Prelude.{ℕ, zero, suc, ◌+◌, ◌*◌, ◌/◌, ◌%◌, ◌^◌, ◌≤◌, ◌==◌, nat_lt, if◌then◌else◌, pos, ◌-ℤ◌, List}
+use Rattle.std.specs.Prelude.{[], ◌∷◌, ◌++◌, codes, decimal, flat_map, map}
 use Rattle.std.specs.Fmt.{signed_decimal}
-use Rattle.vms_base.specs.Names.{zone_items}
-use Rattle.vms_text.specs.Spelling.{entry, sentence}
+use Rattle.vms_base.specs.Common.{zone_items}
+use Rattle.vms_text.specs.Common.{entry_if_any, sentence}
 
 -- 1 to 64 CPUs
 pub record IsCpuCount (cpus : ℕ) : Type 0 where
@@ -31,38 +31,39 @@ header_lines cpus =
     ∷ []
 
 -- the word of a CPU's lane
-abbrev pub lane_word : ℕ → List ℕ
-lane_word cpu = 99 ∷ decimal cpu
+abbrev pub cpu_lane_word : ℕ → List ℕ
+cpu_lane_word cpu = 99 ∷ decimal cpu
 
 -- the word of an amount: the remainder of a number by a width, less a half of it
 abbrev pub amount_word : ℕ → ℕ → ℕ → List ℕ
 amount_word n width half = signed_decimal (pos (n % width) -ℤ pos half)
 
 -- the words of a line: `kind` says which line it is, `cpu` whose lane it is in, and `rest` what it names
-abbrev pub line_words : ℕ → ℕ → ℕ → ℕ → List (List ℕ)
-line_words cpus kind cpu rest =
+abbrev pub made_line_words : ℕ → ℕ → ℕ → ℕ → List (List ℕ)
+made_line_words cpus kind cpu rest =
     if nat_lt kind 8
-    then lane_word cpu ∷ codes "mod" ∷ codes "0" ∷ codes "Normal"
-    ∷ entry zone_items (rest % 8) ++ amount_word (rest / 8) 65 32 ∷ []
+    then cpu_lane_word cpu ∷ codes "mod" ∷ codes "0" ∷ codes "Normal"
+    ∷ entry_if_any zone_items (rest % 8) ++ amount_word (rest / 8) 65 32 ∷ []
     else if nat_lt kind 10
-    then lane_word cpu ∷ codes "inc" ∷ codes "0" ∷ codes "Normal" ∷ codes "nr_free_pages" ∷ []
+    then cpu_lane_word cpu ∷ codes "inc" ∷ codes "0" ∷ codes "Normal" ∷ codes "nr_free_pages" ∷ []
     else if kind == 10
-    then lane_word cpu ∷ codes "dec" ∷ codes "0" ∷ codes "node" ∷ codes "nr_dirty" ∷ []
+    then cpu_lane_word cpu ∷ codes "dec" ∷ codes "0" ∷ codes "node" ∷ codes "nr_dirty" ∷ []
     else if kind == 11
-    then lane_word cpu ∷ codes "ev" ∷ codes "pgfault" ∷ decimal (rest % 4) ∷ []
+    then cpu_lane_word cpu ∷ codes "ev" ∷ codes "pgfault" ∷ decimal (rest % 4) ∷ []
     else if kind == 12
-    then lane_word cpu ∷ codes "cnt" ∷ codes "files" ∷ amount_word rest 129 64 ∷ []
+    then cpu_lane_word cpu ∷ codes "cnt" ∷ codes "files" ∷ amount_word rest 129 64 ∷ []
     else if kind == 13
-    then lane_word cpu ∷ codes "fold" ∷ decimal (rest % cpus) ∷ []
+    then cpu_lane_word cpu ∷ codes "fold" ∷ decimal (rest % cpus) ∷ []
     else if kind == 14
     then codes "k" ∷ (if rest % 2 == 0 then codes "pressure" else codes "normal") ∷ codes "0" ∷ []
     else if rest % 64 == 0
     then codes "sync" ∷ []
-    else lane_word cpu ∷ codes "mod" ∷ codes "0" ∷ codes "node" ∷ codes "nr_file_pages" ∷ amount_word rest 65 32 ∷ []
+    else cpu_lane_word cpu ∷ codes "mod" ∷ codes "0" ∷ codes "node" ∷ codes "nr_file_pages"
+    ∷ amount_word rest 65 32 ∷ []
 
 -- the words of a number that was drawn: its last four bits are the kind, and the CPU and the rest stand above them
 abbrev pub drawn_words : ℕ → ℕ → List (List ℕ)
-drawn_words cpus r = line_words cpus (r % 16) ((r / 16) % cpus) (r / 1024)
+drawn_words cpus r = made_line_words cpus (r % 16) ((r / 16) % cpus) (r / 1024)
 
 -- the words of the line of a state, of which the upper 31 bits are drawn
 abbrev pub line_at : ℕ → ℕ → List (List ℕ)

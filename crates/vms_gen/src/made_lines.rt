@@ -1,7 +1,6 @@
 ghost use Rattle.std.specs.Prelude.{◌≡◌, ◌∷◌, ◌%◌, ◌≤◌, [], flat_map, length};
-ghost use Rattle.vms_base.specs.Names.{zone_items};
-ghost use Rattle.vms_text.specs.Spelling.{entry, sentence};
-ghost use Rattle.vms_text.specs.Writing.{text_of};
+ghost use Rattle.vms_base.specs.Common.{zone_items};
+ghost use Rattle.vms_text.specs.Common.{entry_if_any, sentence, text_of};
 ghost use Rattle.vms_gen.specs.Texts.{IsCpuCount, amount_word, header_lines, last_line, line_at, next_state};
 
 use crate::spelling::{LineText, put_bytes, put_line};
@@ -138,7 +137,7 @@ fn lane(number: u64, cpus: u32) -> u32
 
 /// The name of the zone item that a number stands for.
 fn zone_item(number: u64) -> Word<'static>
-    ensures name { text_of result ∷ [] ≡ entry zone_items (number % 8) }
+    ensures name { text_of result ∷ [] ≡ entry_if_any zone_items (number % 8) }
     ensures short { length (text_of result) ≤ 21 }
 {
     Word::Text(item_names(false)[(number % 8) as usize].as_bytes())

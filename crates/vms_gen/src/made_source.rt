@@ -17,7 +17,7 @@ pub struct MadeSource {
 
 impl Model for MadeSource {
     ghost use Rattle.std.specs.Prelude.{ℕ, ◌≤◌, List, ◌++◌, drop, flat_map, length};
-    ghost use Rattle.vms_text.specs.Spelling.{sentence};
+    ghost use Rattle.vms_text.specs.Common.{sentence};
     ghost use Rattle.vms_gen.specs.Left.{lines_left};
 
     ghost Value = { List ℕ };
@@ -29,7 +29,7 @@ impl Model for MadeSource {
 
 ghost use Rattle.std.specs.Prelude.{◌≡◌, ◌<◌, ◌≤◌, [], ◌++◌, length, take, drop, min, Some, Ok, IfOk};
 ghost use Rattle.std.specs.Io.KnownBytes.{ReadConsumes};
-ghost use Rattle.vms_io.specs.Faults.{CountsFaults};
+ghost use Rattle.vms_io.specs.Common.{CountsFaults};
 ghost use Rattle.vms_gen.specs.Numbers.{InRange};
 ghost use Rattle.vms_gen.specs.Texts.{made_text};
 

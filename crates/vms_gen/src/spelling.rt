@@ -1,7 +1,6 @@
 ghost use Rattle.std.specs.Prelude.{◌≡◌, ◌+◌, ◌≤◌, ◌++◌, ◌∷◌, length, map};
 ghost use Rattle.arrayvec.specs.ArrayVec.{array_vec_len};
-ghost use Rattle.vms_text.specs.Spelling.{sentence};
-ghost use Rattle.vms_text.specs.Writing.{spaced, text_of};
+ghost use Rattle.vms_text.specs.Common.{sentence, spaced, text_of};
 
 use arrayvec::ArrayVec;
 use itoa::Buffer;

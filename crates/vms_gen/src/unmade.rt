@@ -15,7 +15,7 @@ pub(crate) struct Unmade {
 
 impl Unmade {
     ghost use Rattle.std.specs.Prelude.{◌≡◌, ◌<◌, ◌++◌, [], flat_map, length, IfNone, IfSome};
-    ghost use Rattle.vms_text.specs.Spelling.{sentence};
+    ghost use Rattle.vms_text.specs.Common.{sentence};
     ghost use Rattle.vms_gen.specs.Left.{lines_left};
 
     /// Makes the next line.

@@ -6,8 +6,8 @@ use Rattle.std.proofs.lemmas.List.{length-take-le, take_more}
 use Rattle.std.specs.Fmt.{signed_decimal}
 use Rattle.std.specs.Prelude.{codes}
 use Rattle.vms_base.specs.declared.headers.Header.{Header}
-use Rattle.vms_header.specs.Spelling.{base_line_words, base_lines_from}
-use Rattle.vms_text.specs.Spelling.{counter_words, sentence}
+use Rattle.vms_header.specs.Common.{base_line_words, base_lines_from}
+use Rattle.vms_text.specs.Common.{counter_words, sentence}
 
 -- a base other than 0 has a line
 pub base_line_words-based : (header : Header) (counter : ℕ) (value : ℤ) → value ≢ pos 0

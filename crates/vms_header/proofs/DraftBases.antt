@@ -4,9 +4,8 @@ use Rattle.std.proofs.lemmas.List.{length-replicate, length-set}
 use Rattle.std.proofs.lemmas.List.Sorted.{All-permutation, IsPermutation-reverse, IsPermutation-sym}
 use Rattle.std.specs.List.{All}
 use Rattle.std.specs.List.Sorted.{IsPermutation}
-use Rattle.vms_base.specs.Places.{counter_count}
-use Rattle.vms_header.specs.DraftFacts.{IsDraft}
-use Rattle.vms_header.specs.Drafts.{Base, Draft, bases_of, shape_of}
+use Rattle.vms_base.specs.Common.{counter_count}
+use Rattle.vms_header.specs.Common.{IsDraft, Base, Draft, bases_of, shape_of}
 
 pub length-bases_of : (count : ℕ) (bases : List Base) → length (bases_of count bases) ≡ count
 length-bases_of count [] = length-replicate count (pos 0)

@@ -14,40 +14,32 @@ use Rattle.vms_base.specs.declared.headers.ItemDecl.{ItemDecl}
 use Rattle.vms_base.specs.declared.kinds.ZoneKind.{ZoneKind}
 use Rattle.vms_base.specs.declared.kinds.ZoneName.{ZoneName}
 use Rattle.vms_base.specs.declared.kinds.ZoneSize.{ZoneSize}
-use Rattle.vms_base.specs.Headers.{IsValidDecl, class_names}
-use Rattle.vms_base.specs.Names.{is_name, node_items, zone_items}
-use Rattle.vms_base.specs.Places.{IsLayout, Shape, counter_at, node_place, place_count, rank_of, zone_place}
-use Rattle.vms_base.proofs.Counts.{counter_at-place, counter_at-position}
-use Rattle.vms_text.specs.Numbers.{signed_of}
+use Rattle.vms_base.specs.Common.{IsValidDecl, class_names, is_name, node_items, zone_items, IsLayout, Shape}
+use Rattle.vms_base.specs.Common.{counter_at, node_place, place_count, rank_of, zone_place}
+use Rattle.vms_base.proofs.Common.{counter_at-place, counter_at-position}
+use Rattle.vms_text.specs.Common.{signed_of, words_of, declared_items, is_node_place, item_named, kind_named}
+use Rattle.vms_text.specs.Common.{place_named, zone_named, and_then, is_clean, is_ignored, most_line}
 use Rattle.vms_header.specs.declared.causes.HeaderCause.{HeaderCause}
 use Rattle.vms_header.specs.declared.causes.HeaderCause.TheVariants.{BadNumber, BadMarks, BadBatch, BadCpus}
 use Rattle.vms_header.specs.declared.causes.HeaderCause.TheVariants.{DoubledCounter, LineTooLong, Malformed, NoZone}
 use Rattle.vms_header.specs.declared.causes.HeaderCause.TheVariants.{TooManyCounters, UnknownName}
-use Rattle.vms_header.specs.DraftFacts.{IsBase, IsDraft, IsShare, IsSized, IsStage, IsHeadStep}
-use Rattle.vms_header.specs.Drafts.{Base, Draft, Share, Zone, most_cpus, names_of, nodes_of, section_index}
-use Rattle.vms_header.specs.Drafts.{positions_of, shape_of}
-use Rattle.vms_header.specs.Drafts.Section.{AtBases, AtCounters, AtCpus, AtItems, AtWatermarks, AtZones}
-use Rattle.vms_text.specs.Words.{words_of}
-use Rattle.vms_text.proofs.Values.{and_left, and_right}
-use Rattle.vms_header.specs.Drafts.{first_draft}
-use Rattle.vms_header.specs.Stages.{Stage, HeadStep, are_words, cpus_line, draft_line, go_row, going, head_line, is_due}
-use Rattle.vms_header.specs.Stages.{stage_line, version_line, with_cpus}
-use Rattle.vms_header.specs.Stages.Stage.{Opening, Versioned, Drafting}
-use Rattle.vms_header.specs.Stages.HeadStep.{Goes, Ends}
+use Rattle.vms_header.specs.Common.{IsNamedBase, IsDraft, IsShare, IsSized, IsStage, IsHeadStep, Base, Draft, Share}
+use Rattle.vms_header.specs.Common.{Zone, most_cpus, names_of, nodes_of, section_index, positions_of, shape_of, Section}
+use Rattle.vms_header.specs.Common.{AtBases, AtCounters, AtCpus, AtItems, AtWatermarks, AtZones, first_draft, Stage}
+use Rattle.vms_header.specs.Common.{HeadStep, are_words, cpus_line, draft_line, go_row, going, head_line, is_due}
+use Rattle.vms_header.specs.Common.{stage_line, version_line, with_cpus, Opening, Versioned, Drafting, Goes, Ends}
+use Rattle.vms_header.specs.Common.{any_number, any_zone_row, base_row, class_field, counter_row, item_row, unit_field}
+use Rattle.vms_header.specs.Common.{watermarks_row, base_counter, after_zones, kind_field, name_field, header_number}
+use Rattle.vms_header.specs.Common.{rising, value_field, value_in_range, with_base, with_counter, with_new_zone}
+use Rattle.vms_header.specs.Common.{base_words, item_from_words, read_item, share_words, unmarked_zone_words, zone_name}
+use Rattle.vms_header.specs.Common.{zone_size, read_zone}
+use Rattle.vms_text.proofs.Common.{and_left, and_right, position-lt}
 use Rattle.vms_header.proofs.RowsByValues.{base_row-read, item_row-read, unmarked_zone_row-read, watermarks_row-read}
 use Rattle.vms_header.proofs.RowsByValues.{zone_row-read}
-use Rattle.vms_header.specs.Sections.{any_number, any_zone_row, base_row, class_field, counter_row, item_row}
-use Rattle.vms_header.specs.Sections.{unit_field, watermarks_row, base_counter, after_zones, kind_field, name_field}
-use Rattle.vms_header.specs.Sections.{number_in, rising, value_field, value_in_range, with_base, with_counter}
-use Rattle.vms_header.specs.Sections.{with_new_zone}
-use Rattle.vms_header.specs.Values.{base_words, item_of, item_words, share_words, unmarked_zone_words, zone_name}
-use Rattle.vms_header.specs.Values.{zone_size, zone_words}
-use Rattle.vms_text.specs.PlaceNames.{declared_items, is_node_place, item_named, kind_named, place_named, zone_named}
-use Rattle.vms_text.specs.Reading.{and_then, is_clean, is_ignored, most_line}
-use Rattle.vms_header.proofs.DraftsKept.{and_then-ok, when-ok, number_in-within, ok-same, ok_or-ok, or-false, past}
-use Rattle.vms_header.proofs.DraftsKept.{unless-ok, with_new_zone-keeps, none-here, with_item-keeps, with_share-keeps}
+use Rattle.vms_header.proofs.DraftsKept.{and_then-ok, when-ok, header_number-within, ok-same, ok_or-ok, or-false, past}
+use Rattle.vms_header.proofs.DraftsKept.{unless-ok, with_new_zone-keeps, none-here, draft_with_item-keeps}
+use Rattle.vms_header.proofs.DraftsKept.{with_share-keeps}
 use Rattle.vms_header.proofs.HeadNames.{list_any-map}
-use Rattle.vms_text.proofs.Positions.{position-lt}
 use Rattle.vms_header.proofs.RankedLayouts.{names-rise, nodes_of-from, nodes_of-rises, nodes_of-to}
 
 -- positions of a version
@@ -162,7 +154,7 @@ base_with counter value = record { counter = counter; value = value }
 
 -- what a base line says
 pub base_words-valid : (draft : Draft) (node kind item value : List ℕ) (base : Base) → IsDraft draft
-    → 0 < length draft.zones → base_words draft node kind item value ≡ Ok base → IsBase draft base
+    → 0 < length draft.zones → base_words draft node kind item value ≡ Ok base → IsNamedBase draft base
 base_words-valid draft node kind item value base is some made =
     let shape = shape_of draft in
     let node_part = and_then-ok (any_number node) _ base made in
@@ -188,42 +180,52 @@ base_words-valid draft node kind item value base is some made =
     let at_place = counter_at-place shape layout place k inside in
     let at_position = counter_at-position shape layout place k inside in
     let placed : Base = record { counter = counter_at shape place k; value = value_part.0 } in
-    let valid : IsBase draft placed = record {
+    let valid : IsNamedBase draft placed = record {
       known = omega (arith, mul-add-lt place shape.positions k (place_count shape) known inside);
       named = rw at_position (subst (λ p. k < length (class_names (not (nat_lt p (length shape.zones))) draft.items))
           (sym at_place) below);
       most = within_range in_range.0 value_part.0 in_range.2;
     } in
-    subst (IsBase draft) (ap (λ counter. base_with counter value_part.0) counter_is
+    subst (IsNamedBase draft) (ap (λ counter. base_with counter value_part.0) counter_is
     ∙ ok-same (base_with counter_part.0 value_part.0) base value_part.2) valid
 
+-- a draft at one of its last sections, with these base values and percpu counters
+late-keeps : (draft : Draft) (section : Section) (bases : List Base) (counters : List Decl) → IsDraft draft
+    → 4 ≤ section_index section → All (IsNamedBase draft) bases → length counters ≤ 16 → All IsValidDecl counters
+    → AllPairs ◌≢◌ (map (λ decl. decl.name) counters)
+    → IsDraft (record draft { section = section; bases = bases; counters = counters })
+late-keeps draft section bases counters is late bases_are most valid differ = record {
+  cpus_least = is.cpus_least;
+  cpus_most = is.cpus_most;
+  share_valid = is.share_valid;
+  zones_most = is.zones_most;
+  zones_ascend = is.zones_ascend;
+  zones_nodes = is.zones_nodes;
+  zones_sized = is.zones_sized;
+  items_wide = is.items_wide;
+  zone_items_most = is.zone_items_most;
+  node_items_most = is.node_items_most;
+  items_valid = is.items_valid;
+  items_differ = is.items_differ;
+  bases_late = λ early. absurd (omega (arith, early, late));
+  bases_valid = All-weaker (IsNamedBase draft)
+      (IsNamedBase (record draft { section = section; bases = bases; counters = counters }))
+      (λ base is. record { known = is.known; named = is.named; most = is.most }) bases bases_are;
+  counters_most = most;
+  counters_valid = valid;
+  counters_differ = differ;
+}
+
 -- the draft with a base value
-with_base-keeps : (draft : Draft) (base : Base) (next : Draft) → IsDraft draft → IsBase draft base
+with_base-keeps : (draft : Draft) (base : Base) (next : Draft) → IsDraft draft → IsNamedBase draft base
     → with_base draft base.counter base.value ≡ Ok next → IsDraft next
 with_base-keeps draft base next is valid made =
     let new = unless-ok (list_any (λ other. nat_eq other.counter base.counter) draft.bases) DoubledCounter _ next
     made in
-    subst IsDraft (ok-same (record draft { section = AtBases; bases = base ∷ draft.bases }) next new.1) (record {
-      cpus_least = is.cpus_least;
-      cpus_most = is.cpus_most;
-      share_valid = is.share_valid;
-      zones_most = is.zones_most;
-      zones_ascend = is.zones_ascend;
-      zones_nodes = is.zones_nodes;
-      zones_sized = is.zones_sized;
-      items_wide = is.items_wide;
-      zone_items_most = is.zone_items_most;
-      node_items_most = is.node_items_most;
-      items_valid = is.items_valid;
-      items_differ = is.items_differ;
-      bases_late = λ early. absurd (omega (arith, early));
-      bases_valid = All-weaker (IsBase draft) (IsBase (record draft { section = AtBases; bases = base ∷ draft.bases }))
-          (λ base is. record { known = is.known; named = is.named; most = is.most }) (base ∷ draft.bases)
-          (All-cons (IsBase draft) base draft.bases valid is.bases_valid);
-      counters_most = is.counters_most;
-      counters_valid = is.counters_valid;
-      counters_differ = is.counters_differ;
-    })
+    subst IsDraft (ok-same (record draft { section = AtBases; bases = base ∷ draft.bases }) next new.1)
+    (late-keeps draft AtBases (base ∷ draft.bases) draft.counters is (omega arith)
+    (All-cons (IsNamedBase draft) base draft.bases valid is.bases_valid) is.counters_most is.counters_valid
+    is.counters_differ)
 
 batch_range : (batch : ℕ) → (nat_lt batch 1 || nat_lt 65536 batch) ≡ false → (1 ≤ batch) × (batch ≤ 65536)
 batch_range batch test =
@@ -247,30 +249,12 @@ with_counter-keeps draft name batch next is form made =
     let names = map (λ decl. decl.name) draft.counters in
     let decl : Decl = record { name = name; batch = batch } in
     subst IsDraft (ok-same (record draft { section = AtCounters; counters = draft.counters ++ decl ∷ [] }) next full.1)
-    (record {
-      cpus_least = is.cpus_least;
-      cpus_most = is.cpus_most;
-      share_valid = is.share_valid;
-      zones_most = is.zones_most;
-      zones_ascend = is.zones_ascend;
-      zones_nodes = is.zones_nodes;
-      zones_sized = is.zones_sized;
-      items_wide = is.items_wide;
-      zone_items_most = is.zone_items_most;
-      node_items_most = is.node_items_most;
-      items_valid = is.items_valid;
-      items_differ = is.items_differ;
-      bases_late = λ early. absurd (omega (arith, early));
-      bases_valid = All-weaker (IsBase draft)
-          (IsBase (record draft { section = AtCounters; counters = draft.counters ++ decl ∷ [] }))
-          (λ base is. record { known = is.known; named = is.named; most = is.most }) draft.bases is.bases_valid;
-      counters_most = omega (arith, length-append draft.counters (decl ∷ []), past (length draft.counters) 16 full.0);
-      counters_valid = All-push IsValidDecl draft.counters decl is.counters_valid
-          (record { form = form; batch_least = within.0; batch_most = within.1 });
-      counters_differ = subst (AllPairs ◌≢◌) (sym (map-append (λ decl. decl.name) draft.counters (decl ∷ [])))
-          (all_pairs_push ◌≢◌ names name is.counters_differ (none-here name names (any-names name draft.counters
-          ∙ new.0)));
-    })
+    (late-keeps draft AtCounters draft.bases (draft.counters ++ decl ∷ []) is (omega arith) is.bases_valid
+    (omega (arith, length-append draft.counters (decl ∷ []), past (length draft.counters) 16 full.0))
+    (All-push IsValidDecl draft.counters decl is.counters_valid
+    (record { form = form; batch_least = within.0; batch_most = within.1 }))
+    (subst (AllPairs ◌≢◌) (sym (map-append (λ decl. decl.name) draft.counters (decl ∷ [])))
+    (all_pairs_push ◌≢◌ names name is.counters_differ (none-here name names (any-names name draft.counters ∙ new.0)))))
 
 -- a name that a word gives has the form
 name_field-form : (word name : List ℕ) → name_field word ≡ Ok name → is_name name ≡ true
@@ -285,21 +269,21 @@ share_with kbytes scale = record { kbytes = kbytes; scale = scale }
 share_words-valid : (words : List (List ℕ)) (share : Share) → share_words words ≡ Ok share → IsShare share
 share_words-valid [] share is = absurd cc
 share_words-valid (kbytes ∷ []) share is =
-    let part = and_then-ok (number_in 0 (2 ^ 40) kbytes) _ share is in
+    let part = and_then-ok (header_number 0 (2 ^ 40) kbytes) _ share is in
     let valid : IsShare (share_with part.0 10) =
     record {
-      kbytes_most = (number_in-within 0 (2 ^ 40) kbytes part.0 part.1).1;
+      kbytes_most = (header_number-within 0 (2 ^ 40) kbytes part.0 part.1).1;
       scale_least = omega arith;
       scale_most = omega arith;
     } in
     subst IsShare (ok-same (share_with part.0 10) share part.2) valid
 share_words-valid (kbytes ∷ scale ∷ []) share is =
-    let part = and_then-ok (number_in 0 (2 ^ 40) kbytes) _ share is in
-    let next = and_then-ok (number_in 1 3000 scale) _ share part.2 in
-    let range = number_in-within 1 3000 scale next.0 next.1 in
+    let part = and_then-ok (header_number 0 (2 ^ 40) kbytes) _ share is in
+    let next = and_then-ok (header_number 1 3000 scale) _ share part.2 in
+    let range = header_number-within 1 3000 scale next.0 next.1 in
     let valid : IsShare (share_with part.0 next.0) =
     record {
-      kbytes_most = (number_in-within 0 (2 ^ 40) kbytes part.0 part.1).1;
+      kbytes_most = (header_number-within 0 (2 ^ 40) kbytes part.0 part.1).1;
       scale_least = range.0;
       scale_most = range.1;
     } in
@@ -318,10 +302,10 @@ name_with node kind = record { node = node; kind = kind }
 
 zone_name-node : (node kind : List ℕ) (name : ZoneName) → zone_name node kind ≡ Ok name → name.node ≤ 15
 zone_name-node node kind name is =
-    let part = and_then-ok (number_in 0 15 node) _ name is in
+    let part = and_then-ok (header_number 0 15 node) _ name is in
     let next = and_then-ok (kind_field kind) _ name part.2 in
     subst (λ name. name.node ≤ 15) (ok-same (name_with part.0 next.0) name next.2)
-    (number_in-within 0 15 node part.0 part.1).1
+    (header_number-within 0 15 node part.0 part.1).1
 
 abbrev zone_with : ZoneName → ℕ → ℕ → ℕ → ℕ → Zone
 zone_with name managed least middle most =
@@ -334,8 +318,8 @@ unmarked_zone_words-sized (node ∷ []) zone is = absurd cc
 unmarked_zone_words-sized (node ∷ kind ∷ []) zone is = absurd cc
 unmarked_zone_words-sized (node ∷ kind ∷ managed ∷ []) zone is =
     let part = and_then-ok (zone_name node kind) _ zone is in
-    let next = and_then-ok (number_in 1 (2 ^ 40) managed) _ zone part.2 in
-    let range = number_in-within 1 (2 ^ 40) managed next.0 next.1 in
+    let next = and_then-ok (header_number 1 (2 ^ 40) managed) _ zone part.2 in
+    let range = header_number-within 1 (2 ^ 40) managed next.0 next.1 in
     let valid : IsSized (zone_with part.0 next.0 0 0 0).size = record {
       valid = record {
         managed_least = range.0;
@@ -356,31 +340,31 @@ size_with managed least middle most = record { managed = managed; min = least; l
 abbrev zone_of : ZoneName → ZoneSize → Zone
 zone_of name size = record { name = name; size = size }
 
-zone_words-measured : (words : List (List ℕ)) (zone : Zone) → zone_words words ≡ Ok zone → IsMeasured zone
-zone_words-measured [] zone is = absurd cc
-zone_words-measured (a ∷ []) zone is = absurd cc
-zone_words-measured (a ∷ b ∷ []) zone is = absurd cc
-zone_words-measured (a ∷ b ∷ c ∷ []) zone is = absurd cc
-zone_words-measured (a ∷ b ∷ c ∷ d ∷ []) zone is = absurd cc
-zone_words-measured (a ∷ b ∷ c ∷ d ∷ e ∷ []) zone is = absurd cc
-zone_words-measured (node ∷ kind ∷ managed ∷ least ∷ middle ∷ most ∷ []) zone is =
+read_zone-measured : (words : List (List ℕ)) (zone : Zone) → read_zone words ≡ Ok zone → IsMeasured zone
+read_zone-measured [] zone is = absurd cc
+read_zone-measured (a ∷ []) zone is = absurd cc
+read_zone-measured (a ∷ b ∷ []) zone is = absurd cc
+read_zone-measured (a ∷ b ∷ c ∷ []) zone is = absurd cc
+read_zone-measured (a ∷ b ∷ c ∷ d ∷ []) zone is = absurd cc
+read_zone-measured (a ∷ b ∷ c ∷ d ∷ e ∷ []) zone is = absurd cc
+read_zone-measured (node ∷ kind ∷ managed ∷ least ∷ middle ∷ most ∷ []) zone is =
     let part = and_then-ok (zone_name node kind) _ zone is in
     let sized = and_then-ok (zone_size managed least middle most) _ zone part.2 in
-    let one = and_then-ok (number_in 1 (2 ^ 40) managed) _ sized.0 sized.1 in
-    let two = and_then-ok (number_in 0 (2 ^ 40) least) _ sized.0 one.2 in
-    let three = and_then-ok (number_in 0 (2 ^ 40) middle) _ sized.0 two.2 in
-    let four = and_then-ok (number_in 0 (2 ^ 40) most) _ sized.0 three.2 in
-    let range = number_in-within 1 (2 ^ 40) managed one.0 one.1 in
+    let one = and_then-ok (header_number 1 (2 ^ 40) managed) _ sized.0 sized.1 in
+    let two = and_then-ok (header_number 0 (2 ^ 40) least) _ sized.0 one.2 in
+    let three = and_then-ok (header_number 0 (2 ^ 40) middle) _ sized.0 two.2 in
+    let four = and_then-ok (header_number 0 (2 ^ 40) most) _ sized.0 three.2 in
+    let range = header_number-within 1 (2 ^ 40) managed one.0 one.1 in
     let size = size_with one.0 two.0 three.0 four.0 in
     let measured : IsMeasured (zone_of part.0 size) = record {
       node_most = zone_name-node node kind part.0 part.1;
       managed_least = range.0;
       managed_most = range.1;
-      high_most = (number_in-within 0 (2 ^ 40) most four.0 four.1).1;
+      high_most = (header_number-within 0 (2 ^ 40) most four.0 four.1).1;
     } in
     subst IsMeasured (ap (zone_of part.0) (ok-same size sized.0 four.2)
     ∙ ok-same (zone_of part.0 sized.0) zone sized.2) measured
-zone_words-measured (a ∷ b ∷ c ∷ d ∷ e ∷ f ∷ g ∷ words) zone is = absurd cc
+read_zone-measured (a ∷ b ∷ c ∷ d ∷ e ∷ f ∷ g ∷ words) zone is = absurd cc
 
 rising_marks : (a b c : ℕ) → (nat_le a b && nat_le b c) ≡ true → (a ≤ b) × (b ≤ c)
 rising_marks a b c test = (grind (arith, nat_tests), grind (arith, nat_tests))
@@ -430,33 +414,33 @@ watermarks_row-keeps draft fields next is due made =
 abbrev item_with : List ℕ → Bool → Bool → ItemDecl
 item_with name node bytes = record { name = name; node = node; bytes = bytes }
 
-item_of-form : (class name : List ℕ) (unit : Result Bool HeaderCause) (item : ItemDecl)
-    → item_of class name unit ≡ Ok item → is_name item.name ≡ true
-item_of-form class name unit item is =
+item_from_words-form : (class name : List ℕ) (unit : Result Bool HeaderCause) (item : ItemDecl)
+    → item_from_words class name unit ≡ Ok item → is_name item.name ≡ true
+item_from_words-form class name unit item is =
     let one = and_then-ok (class_field class) _ item is in
     let two = and_then-ok (name_field name) _ item one.2 in
     let three = and_then-ok unit _ item two.2 in
     subst (λ item. is_name item.name ≡ true) (ok-same (item_with two.0 one.0 three.0) item three.2)
     (name_field-form name two.0 two.1)
 
-item_words-form : (words : List (List ℕ)) (item : ItemDecl) → item_words words ≡ Ok item → is_name item.name ≡ true
-item_words-form [] item is = absurd cc
-item_words-form (class ∷ []) item is = absurd cc
-item_words-form (class ∷ name ∷ []) item is = item_of-form class name (Ok false) item is
-item_words-form (class ∷ name ∷ unit ∷ []) item is = item_of-form class name (unit_field unit) item is
-item_words-form (class ∷ name ∷ unit ∷ word ∷ words) item is = absurd cc
+read_item-form : (words : List (List ℕ)) (item : ItemDecl) → read_item words ≡ Ok item → is_name item.name ≡ true
+read_item-form [] item is = absurd cc
+read_item-form (class ∷ []) item is = absurd cc
+read_item-form (class ∷ name ∷ []) item is = item_from_words-form class name (Ok false) item is
+read_item-form (class ∷ name ∷ unit ∷ []) item is = item_from_words-form class name (unit_field unit) item is
+read_item-form (class ∷ name ∷ unit ∷ word ∷ words) item is = absurd cc
 
 item_row-keeps : (draft : Draft) (fields : List (List ℕ)) (next : Draft) → IsDraft draft → draft.wide ≡ true
     → section_index draft.section ≤ 2 → item_row draft fields ≡ Ok next → IsDraft next
 item_row-keeps draft fields next is wide due made =
-    let part = and_then-ok (item_words fields) _ next (sym (item_row-read draft fields) ∙ made) in
-    with_item-keeps draft part.0 next is wide due (item_words-form fields part.0 part.1) part.2
+    let part = and_then-ok (read_item fields) _ next (sym (item_row-read draft fields) ∙ made) in
+    draft_with_item-keeps draft part.0 next is wide due (read_item-form fields part.0 part.1) part.2
 
 any_zone_row-keeps : (draft : Draft) (share : Option Share) (fields : List (List ℕ)) (next : Draft) → IsDraft draft
     → section_index draft.section ≤ 3 → any_zone_row draft share fields ≡ Ok next → IsDraft next
 any_zone_row-keeps draft None fields next is due made =
-    let part = and_then-ok (zone_words fields) _ next (sym (zone_row-read draft fields) ∙ made) in
-    rising-keeps draft part.0 next is due (zone_words-measured fields part.0 part.1) part.2
+    let part = and_then-ok (read_zone fields) _ next (sym (zone_row-read draft fields) ∙ made) in
+    rising-keeps draft part.0 next is due (read_zone-measured fields part.0 part.1) part.2
 any_zone_row-keeps draft (Some share) fields next is due made =
     let part = and_then-ok (unmarked_zone_words fields) _ next (sym (unmarked_zone_row-read draft fields) ∙ made) in
     let sized = unmarked_zone_words-sized fields part.0 part.1 in

@@ -11,18 +11,14 @@ use Rattle.std.proofs.lemmas.Slice.Eq.{bytes_eq-Decides}
 use Rattle.std.specs.List.{All, AllPairs, Contains, filter, list_any}
 use Rattle.std.specs.List.Sorted.{IsStrictlyIncreasing}
 use Rattle.vms_base.specs.declared.headers.ItemDecl.{ItemDecl}
-use Rattle.vms_base.specs.Headers.{IsValidItem}
-use Rattle.vms_base.specs.Names.{is_name, node_items, zone_items}
-use Rattle.vms_base.specs.Places.{rank_of}
-use Rattle.vms_text.proofs.Values.{number_within-is}
+use Rattle.vms_base.specs.Common.{IsValidItem, is_name, node_items, zone_items, rank_of}
+use Rattle.vms_text.proofs.Common.{number_within-is}
 use Rattle.vms_header.specs.declared.causes.HeaderCause.TheVariants.{BadNumber, DoubledZone, TooManyZones, DoubledItem}
 use Rattle.vms_header.specs.declared.causes.HeaderCause.TheVariants.{TooManyItems}
-use Rattle.vms_header.specs.DraftFacts.{IsBase, IsDraft, IsShare, IsSized}
-use Rattle.vms_header.specs.Drafts.{Draft, Share, Zone, section_index, with_zone}
-use Rattle.vms_header.specs.Drafts.Section.{AtWatermarks, AtItems, AtZones}
-use Rattle.vms_header.specs.Sections.{is_item_name, number_in, with_item, with_new_zone}
-use Rattle.vms_text.specs.PlaceNames.{declared_items}
-use Rattle.vms_text.specs.Reading.{and_then}
+use Rattle.vms_header.specs.Common.{IsNamedBase, IsDraft, IsShare, IsSized, Draft, Share, Zone, section_index}
+use Rattle.vms_header.specs.Common.{with_zone, AtWatermarks, AtItems, AtZones, is_item_name, header_number}
+use Rattle.vms_header.specs.Common.{draft_with_item, with_new_zone}
+use Rattle.vms_text.specs.Common.{declared_items, and_then}
 use Rattle.vms_header.proofs.RankedLayouts.{contains-split, contains-tail, rises-cons, rises-head, rises-tail}
 
 -- what a step gives goes back to what it was given
@@ -48,9 +44,9 @@ ok_or-ok None e a is = absurd cc
 pub ok-same : {A E : Type 0} (a b : A) → ◌≡◌ {A = Result A E} (Ok a) (Ok b) → a ≡ b
 ok-same a b is = cc
 
-pub number_in-within : (least most : ℕ) (word : List ℕ) (n : ℕ) → number_in least most word ≡ Ok n
+pub header_number-within : (least most : ℕ) (word : List ℕ) (n : ℕ) → header_number least most word ≡ Ok n
     → (least ≤ n) × (n ≤ most)
-number_in-within least most word n is =
+header_number-within least most word n is =
     let within = number_within-is least most word n (ok_or-ok _ BadNumber n is) in
     (within.least_is, within.most_is)
 
@@ -160,8 +156,8 @@ with_new_zone-keeps draft zone next is early node sized made =
       items_valid = is.items_valid;
       items_differ = is.items_differ;
       bases_late = λ _. none;
-      bases_valid = subst (All (IsBase (record draft { section = AtZones; zones = with_zone zone draft.zones })))
-          (sym none) (All-nil (IsBase (record draft { section = AtZones; zones = with_zone zone draft.zones })));
+      bases_valid = subst (All (IsNamedBase (record draft { section = AtZones; zones = with_zone zone draft.zones })))
+          (sym none) (All-nil (IsNamedBase (record draft { section = AtZones; zones = with_zone zone draft.zones })));
       counters_most = is.counters_most;
       counters_valid = is.counters_valid;
       counters_differ = is.counters_differ;
@@ -186,8 +182,8 @@ with_share-keeps draft share is early valid =
       items_valid = is.items_valid;
       items_differ = is.items_differ;
       bases_late = λ _. none;
-      bases_valid = subst (All (IsBase (record draft { section = AtWatermarks; share = Some share }))) (sym none)
-          (All-nil (IsBase (record draft { section = AtWatermarks; share = Some share })));
+      bases_valid = subst (All (IsNamedBase (record draft { section = AtWatermarks; share = Some share }))) (sym none)
+          (All-nil (IsNamedBase (record draft { section = AtWatermarks; share = Some share })));
       counters_most = is.counters_most;
       counters_valid = is.counters_valid;
       counters_differ = is.counters_differ;
@@ -229,9 +225,9 @@ declared-push node items item most room =
       pushed node item.node items item refl most room,
     )
 
-pub with_item-keeps : (draft : Draft) (item : ItemDecl) (next : Draft) → IsDraft draft → draft.wide ≡ true
-    → section_index draft.section ≤ 2 → is_name item.name ≡ true → with_item draft item ≡ Ok next → IsDraft next
-with_item-keeps draft item next is wide early name made =
+pub draft_with_item-keeps : (draft : Draft) (item : ItemDecl) (next : Draft) → IsDraft draft → draft.wide ≡ true
+    → section_index draft.section ≤ 2 → is_name item.name ≡ true → draft_with_item draft item ≡ Ok next → IsDraft next
+draft_with_item-keeps draft item next is wide early name made =
     let doubled = unless-ok (is_item_name draft.items item.name) DoubledItem _ next made in
     let full = unless-ok (nat_le 8 (length (declared_items item.node draft.items))) TooManyItems _ next doubled.1 in
     let room = past (length (declared_items item.node draft.items)) 8 full.0 in
@@ -258,7 +254,7 @@ with_item-keeps draft item next is wide early name made =
       items_differ = subst (AllPairs ◌≢◌) (sym (map-append (λ item. item.name) draft.items (item ∷ [])))
           (all_pairs_push ◌≢◌ names item.name is.items_differ (none-here item.name names new.1));
       bases_late = λ _. none;
-      bases_valid = subst (All (IsBase after)) (sym none) (All-nil (IsBase after));
+      bases_valid = subst (All (IsNamedBase after)) (sym none) (All-nil (IsNamedBase after));
       counters_most = is.counters_most;
       counters_valid = is.counters_valid;
       counters_differ = is.counters_differ;

@@ -3,13 +3,9 @@ use Rattle.std.proofs.Common.{ℕ, ◌≡◌, ◌≤◌, Bool, false, cond, nat_
 use Rattle.std.proofs.Common.{Ok, Err, refl, sym, ap, ◌∙◌, arith}
 use Rattle.std.proofs.lemmas.Bool.Decides.{nat_tests}
 use Rattle.vms_header.specs.declared.causes.HeaderCause.TheVariants.{LineTooLong, Malformed}
-use Rattle.vms_header.specs.Drafts.{Draft, Share}
-use Rattle.vms_header.specs.Stages.{Stage, draft_line, head_line, stage_line}
-use Rattle.vms_header.specs.Stages.Stage.{Opening, Versioned, Drafting}
-use Rattle.vms_header.specs.Stages.HeadStep.{Goes}
-use Rattle.vms_header.specs.Sections.{any_zone_row}
-use Rattle.vms_text.specs.Reading.{is_clean, is_ignored}
-use Rattle.vms_text.specs.Words.{words_of}
+use Rattle.vms_header.specs.Common.{Draft, Share, Stage, draft_line, head_line, stage_line, Opening, Versioned}
+use Rattle.vms_header.specs.Common.{Drafting, Goes, any_zone_row}
+use Rattle.vms_text.specs.Common.{is_clean, is_ignored, words_of}
 
 module _ (a b c d e f g h : List ℕ) (words : List (List ℕ)) where
   any_zone-long : (draft : Draft) (share : Option Share)

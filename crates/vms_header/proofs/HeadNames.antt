@@ -3,8 +3,8 @@ use Rattle.std.proofs.Common.{ℕ, ◌≡◌, ◌∙◌, Bool, ◌||◌, List, [
 use Rattle.std.proofs.lemmas.List.Folds.{list_any-append}
 use Rattle.std.specs.List.{list_any}
 use Rattle.vms_base.specs.declared.headers.ItemDecl.{ItemDecl}
-use Rattle.vms_base.specs.Names.{node_items, zone_items}
-use Rattle.vms_header.specs.Sections.{is_item_name}
+use Rattle.vms_base.specs.Common.{node_items, zone_items}
+use Rattle.vms_header.specs.Common.{is_item_name}
 
 -- a test of what a list is made of
 pub list_any-map : {X Y : Type 0} (p : Y → Bool) (f : X → Y) (xs : List X)

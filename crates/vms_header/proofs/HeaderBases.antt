@@ -16,33 +16,24 @@ use Rattle.std.specs.Prelude.{◌==◌, Ok, Result, codes, ok_or, slice_index_or
 use Rattle.vms_base.specs.declared.headers.Header.{Header}
 use Rattle.vms_base.specs.declared.kinds.ZoneName.{ZoneName}
 use Rattle.vms_base.specs.declared.kinds.ZoneSize.{ZoneSize}
-use Rattle.vms_base.specs.Headers.{IsHeader, class_names, is_of_node}
-use Rattle.vms_base.specs.Places.{LaysOut, Shape, counter_at, counter_count, place_of, position_of}
-use Rattle.vms_base.proofs.Counts.{counter_at-whole, place_of-lt}
+use Rattle.vms_base.specs.Common.{IsHeader, class_names, is_of_node, LaysOut, Shape, counter_at, counter_count}
+use Rattle.vms_base.specs.Common.{place_of, position_of}
+use Rattle.vms_base.proofs.Common.{counter_at-whole, place_of-lt}
 use Rattle.vms_header.specs.declared.causes.HeaderCause.{HeaderCause}
 use Rattle.vms_header.specs.declared.causes.HeaderCause.TheVariants.{UnknownName}
-use Rattle.vms_header.specs.Drafts.{Base, Draft, Section, Zone, bases_of, names_of, nodes_of, section_index}
-use Rattle.vms_header.specs.Drafts.{positions_of, shape_of}
-use Rattle.vms_header.specs.Drafts.Section.{AtBases}
-use Rattle.vms_header.specs.Stages.{Stage, going, stage_line}
-use Rattle.vms_header.specs.Stages.Stage.{Drafting}
-use Rattle.vms_header.specs.Stages.HeadStep.{Goes}
-use Rattle.vms_header.specs.Sections.{base_row, value_field, with_base}
-use Rattle.vms_text.specs.PlaceNames.{IsKnown}
-use Rattle.vms_text.specs.PlaceNames.{item_named, place_named}
-use Rattle.vms_text.specs.Reading.{and_then}
-use Rattle.vms_header.specs.Spelling.{base_lines_from, base_line_words}
-use Rattle.vms_text.specs.Spelling.{counter_words, place_words}
+use Rattle.vms_header.specs.Common.{Base, Draft, Section, Zone, bases_of, names_of, nodes_of, section_index}
+use Rattle.vms_header.specs.Common.{positions_of, shape_of, AtBases, Stage, going, stage_line, Drafting, Goes, base_row}
+use Rattle.vms_header.specs.Common.{value_field, with_base, base_lines_from, base_line_words}
+use Rattle.vms_text.specs.Common.{IsKnown, item_named, place_named, and_then, counter_words, place_words}
 use Rattle.vms_header.proofs.BaseLines.{base_line_words-based}
-use Rattle.vms_text.proofs.CounterWords.{counter_words-at, item_word-found, item_word-short}
+use Rattle.vms_text.proofs.Common.{counter_words-at, item_word-found, item_word-short, SpellsPlace, below-other}
+use Rattle.vms_text.proofs.Common.{place-spelled, IsFew, decimal-short, signed-short, signed_of-spelled}
+use Rattle.vms_text.proofs.Common.{unsigned_of-decimal}
 use Rattle.vms_header.proofs.HeaderItems.{drafted, due, list_any-none}
 use Rattle.vms_header.proofs.HeaderSteps.{LinesLead, LinesLead-cons, LinesLead-none, LinesLead-one}
 use Rattle.vms_header.proofs.HeaderZones.{zone_of}
 use Rattle.vms_header.proofs.Middles.{All-middle, map-zip_first}
-use Rattle.vms_text.proofs.PlacesRead.{SpellsPlace, below-other, place-spelled}
-use Rattle.vms_text.proofs.Sentences.{IsFew}
 use Rattle.vms_header.proofs.RankedLayouts.{LaysOut-ranked}
-use Rattle.vms_text.proofs.SpelledNumbers.{decimal-short, signed-short, signed_of-spelled, unsigned_of-decimal}
 
 -- the zones of a header, with their sizes
 abbrev pub zones_of : Header → List Zone

@@ -7,22 +7,14 @@ use Rattle.std.specs.List.{All, list_any}
 use Rattle.std.specs.Prelude.{AllPairs, Ok, bytes_eq}
 use Rattle.vms_base.specs.declared.headers.Decl.{Decl}
 use Rattle.vms_base.specs.declared.headers.Header.{Header}
-use Rattle.vms_base.specs.Headers.{IsHeader, IsValidDecl}
-use Rattle.vms_base.specs.Names.{is_name}
-use Rattle.vms_header.specs.Drafts.{Base, Draft, Section}
-use Rattle.vms_header.specs.Drafts.Section.{AtCounters}
-use Rattle.vms_header.specs.Stages.{going, stage_line}
-use Rattle.vms_header.specs.Stages.Stage.{Drafting}
-use Rattle.vms_header.specs.Stages.HeadStep.{Goes}
-use Rattle.vms_header.specs.Sections.{with_counter}
-use Rattle.vms_header.specs.Spelling.{counter_line_words}
+use Rattle.vms_base.specs.Common.{IsHeader, IsValidDecl, is_name}
+use Rattle.vms_header.specs.Common.{Base, Draft, Section, AtCounters, going, stage_line, Drafting, Goes, with_counter}
+use Rattle.vms_header.specs.Common.{counter_line_words}
 use Rattle.vms_header.proofs.HeaderBases.{some_zones, zones_of}
 use Rattle.vms_header.proofs.HeaderItems.{after-differs, drafted, list_any-none}
 use Rattle.vms_header.proofs.HeaderSteps.{LinesLead, LinesLead-cons, LinesLead-none, LinesLead-one}
-use Rattle.vms_text.proofs.ItemNames.{name-short}
+use Rattle.vms_text.proofs.Common.{name-short, IsFew, decimal-short, unsigned_of-decimal}
 use Rattle.vms_header.proofs.Middles.{All-from_map, All-middle}
-use Rattle.vms_text.proofs.Sentences.{IsFew}
-use Rattle.vms_text.proofs.SpelledNumbers.{decimal-short, unsigned_of-decimal}
 
 module _ (header : Header) (is : IsHeader header) (bases : List Base) where
   abbrev at : Section → List Decl → Draft

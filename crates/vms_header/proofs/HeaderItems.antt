@@ -10,20 +10,12 @@ use Rattle.std.specs.Prelude.{◌==◌, AllPairs, Contains, Ok, bytes_eq}
 use Rattle.vms_base.specs.declared.headers.Decl.{Decl}
 use Rattle.vms_base.specs.declared.headers.Header.{Header}
 use Rattle.vms_base.specs.declared.headers.ItemDecl.{ItemDecl}
-use Rattle.vms_base.specs.Headers.{IsHeader, IsValidItem, declared_names}
-use Rattle.vms_base.specs.Names.{is_name, node_items, zone_items}
-use Rattle.vms_header.specs.Drafts.{Base, Draft, Section, Zone, section_index}
-use Rattle.vms_header.specs.Drafts.Section.{AtItems}
-use Rattle.vms_header.specs.Stages.{going, is_due, stage_line}
-use Rattle.vms_header.specs.Stages.Stage.{Drafting}
-use Rattle.vms_header.specs.Stages.HeadStep.{Goes}
-use Rattle.vms_header.specs.Sections.{is_item_name, with_item}
-use Rattle.vms_text.specs.PlaceNames.{declared_items}
-use Rattle.vms_header.specs.Spelling.{item_words}
+use Rattle.vms_base.specs.Common.{IsHeader, IsValidItem, declared_names, is_name, node_items, zone_items}
+use Rattle.vms_header.specs.Common.{Base, Draft, Section, Zone, section_index, AtItems, going, is_due, stage_line}
+use Rattle.vms_header.specs.Common.{Drafting, Goes, is_item_name, draft_with_item, item_words}
+use Rattle.vms_text.specs.Common.{declared_items}
 use Rattle.vms_header.proofs.HeaderSteps.{LinesLead, LinesLead-cons, LinesLead-none, LinesLead-one}
-use Rattle.vms_text.proofs.ItemNames.{name-short}
-use Rattle.vms_text.proofs.NameLookups.{bytes_eq-other}
-use Rattle.vms_text.proofs.Sentences.{IsFew, is_short}
+use Rattle.vms_text.proofs.Common.{name-short, bytes_eq-other, IsFew, is_short}
 
 -- the draft of some of a header's items, zones, bases and percpu counters
 abbrev pub drafted : Header → Section → List ItemDecl → List Zone → List Base → List Decl → Draft
@@ -67,7 +59,7 @@ item_few name false false short = record { some = omega arith; few = omega arith
 item_read : (draft : Draft) (name : List ℕ) (node bytes : Bool) → is_name name ≡ true → draft.wide ≡ true
     → is_due draft AtItems ≡ true
     → stage_line (Drafting draft) true (item_words (record { name = name; node = node; bytes = bytes }))
-    ≡ going (with_item draft (record { name = name; node = node; bytes = bytes }))
+    ≡ going (draft_with_item draft (record { name = name; node = node; bytes = bytes }))
 item_read draft name true true named wide is_at = rw (wide, is_at, named) refl
 item_read draft name true false named wide is_at = rw (wide, is_at, named) refl
 item_read draft name false true named wide is_at = rw (wide, is_at, named) refl
@@ -129,7 +121,7 @@ module _ (header : Header) (is : IsHeader header) where
     item_leads section before =
         let draft = drafted header section done [] [] [] in
         let read = item_read draft item.name item.node item.bytes item_valid.form wide (due draft AtItems before) in
-        let goes : going (with_item draft item)
+        let goes : going (draft_with_item draft item)
         ≡ Ok (Goes (Drafting (drafted header AtItems (done ++ item ∷ []) [] [] []))) = rw (item_new, few_items) refl in
         LinesLead-one (Drafting draft) (Drafting (drafted header AtItems (done ++ item ∷ []) [] [] []))
         (item_words item)

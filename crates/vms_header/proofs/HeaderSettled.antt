@@ -2,10 +2,8 @@
 use Rattle.std.proofs.Common.{ℕ, suc, ◌≡◌, ◌+◌, ◌<◌, ◌≤◌, List, [], ◌∷◌, ◌++◌, length, Result, Ok, Err, refl, ap, ◌∙◌}
 use Rattle.std.proofs.Common.{arith}
 use Rattle.vms_base.specs.declared.headers.Header.{Header}
-use Rattle.vms_header.specs.Stages.{Fault, Stage, head_line, header_from, on_step, read_header}
-use Rattle.vms_header.specs.Stages.Stage.{Opening}
-use Rattle.vms_header.specs.Stages.HeadStep.{Goes, Ends}
-use Rattle.vms_header.specs.Laws.{IsSettled}
+use Rattle.vms_header.specs.Common.{Fault, Stage, head_line, header_from, on_step, read_header, Opening, Goes, Ends}
+use Rattle.vms_header.specs.Common.{IsSettled}
 
 -- what lines from line n on answer, whatever comes after them
 abbrev Settles : ℕ → Stage → List (List ℕ) → Result (Header × ℕ) Fault → Type 0

@@ -5,14 +5,10 @@ use Rattle.std.proofs.lemmas.List.{map-append}
 use Rattle.std.specs.List.{All}
 use Rattle.std.proofs.lemmas.List.Elements.{All-append, All-cons, All-head, All-nil, All-tail}
 use Rattle.std.specs.Prelude.{Ok}
-use Rattle.vms_text.specs.Lines.{lines_of}
-use Rattle.vms_text.specs.Words.{joined}
-use Rattle.vms_text.proofs.TextLaws.{lines_of-first}
-use Rattle.vms_header.specs.Drafts.{Draft, header_of}
-use Rattle.vms_header.specs.Stages.{Stage, head_line, header_from, on_step, stage_line}
-use Rattle.vms_header.specs.Stages.HeadStep.{Ends, Goes}
-use Rattle.vms_text.specs.Spelling.{sentence}
-use Rattle.vms_text.proofs.Sentences.{IsFew, few-clean, few-ignored, few-length, few-one_line, few-words_of}
+use Rattle.vms_text.specs.Common.{lines_of, joined, sentence}
+use Rattle.vms_text.proofs.Common.{lines_of-first, IsFew, few-clean, few-ignored, few-length, few-one_line}
+use Rattle.vms_text.proofs.Common.{few-words_of}
+use Rattle.vms_header.specs.Common.{Draft, header_of, Stage, head_line, header_from, on_step, stage_line, Ends, Goes}
 
 -- the lines of sentences are their words, joined
 pub lines_of-sentences : (lines : List (List (List ℕ))) → All IsFew lines

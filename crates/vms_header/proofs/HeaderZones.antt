@@ -11,26 +11,15 @@ use Rattle.std.specs.Prelude.{AllPairs, Ok, codes, zip}
 use Rattle.vms_base.specs.declared.headers.Header.{Header}
 use Rattle.vms_base.specs.declared.kinds.ZoneName.{ZoneName}
 use Rattle.vms_base.specs.declared.kinds.ZoneSize.{ZoneSize}
-use Rattle.vms_base.specs.Places.{rank_of}
-use Rattle.vms_base.specs.Sizes.{IsValidSize}
-use Rattle.vms_base.proofs.Ranks.{rises}
-use Rattle.vms_header.specs.Drafts.{Draft, Section, Zone, section_index, with_zone}
-use Rattle.vms_header.specs.Drafts.Section.{AtZones}
-use Rattle.vms_header.specs.Stages.{going, is_due, stage_line}
-use Rattle.vms_header.specs.Stages.Stage.{Drafting}
-use Rattle.vms_header.specs.Stages.HeadStep.{Goes}
-use Rattle.vms_header.specs.Sections.{with_new_zone}
-use Rattle.vms_header.specs.Laws.{IsWritable}
-use Rattle.vms_header.specs.Spelling.{zone_line_words}
-use Rattle.vms_text.proofs.Apart.{AllPairs-from_map}
+use Rattle.vms_base.specs.Common.{rank_of, IsValidSize}
+use Rattle.vms_base.proofs.Common.{rises}
+use Rattle.vms_header.specs.Common.{Draft, Section, Zone, section_index, with_zone, AtZones, going, is_due, stage_line}
+use Rattle.vms_header.specs.Common.{Drafting, Goes, with_new_zone, IsWritable, zone_line_words}
+use Rattle.vms_text.proofs.Common.{AllPairs-from_map, below-other, kind_named-word, kind_word, kind_word-entry}
+use Rattle.vms_text.proofs.Common.{kind_word-short, zone_node-most, IsFew, number_within-decimal, decimal-short}
 use Rattle.vms_header.proofs.HeaderItems.{drafted, due, list_any-none}
 use Rattle.vms_header.proofs.HeaderSteps.{LinesLead, LinesLead-cons, LinesLead-none, LinesLead-one}
 use Rattle.vms_header.proofs.Middles.{All-from_map, All-middle, AllPairs-middle, map-zip_first, map-zip_second}
-use Rattle.vms_text.proofs.PlacesRead.{below-other, kind_named-word, kind_word, kind_word-entry, kind_word-short}
-use Rattle.vms_text.proofs.PlacesRead.{zone_node-most}
-use Rattle.vms_text.proofs.Sentences.{IsFew}
-use Rattle.vms_text.proofs.NumberLaws.{number_within-decimal}
-use Rattle.vms_text.proofs.SpelledNumbers.{decimal-short}
 
 abbrev pub zone_of : ZoneName × ZoneSize → Zone
 zone_of pair = record { name = pair.0; size = pair.1 }

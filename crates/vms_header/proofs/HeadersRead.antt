@@ -10,17 +10,12 @@ use Rattle.std.specs.Prelude.{◌==◌, Ok, codes, if◌then◌else◌, zip}
 use Rattle.vms_base.specs.declared.headers.Header.{Header}
 use Rattle.vms_base.specs.declared.kinds.ZoneName.{ZoneName}
 use Rattle.vms_base.specs.declared.kinds.ZoneSize.{ZoneSize}
-use Rattle.vms_base.specs.Places.{Shape, counter_count}
-use Rattle.vms_text.specs.Lines.{lines_of}
-use Rattle.vms_text.specs.Words.{joined}
-use Rattle.vms_header.specs.Drafts.{Base, Draft, Section, Zone, bases_of, header_of, most_cpus}
-use Rattle.vms_header.specs.Drafts.Section.{AtCpus}
-use Rattle.vms_header.specs.Stages.{read_header, stage_line, with_cpus}
-use Rattle.vms_header.specs.Stages.Stage.{Drafting, Opening, Versioned}
-use Rattle.vms_header.specs.Stages.HeadStep.{Ends, Goes}
-use Rattle.vms_header.specs.Laws.{HeadersReadBack, IsWritable}
-use Rattle.vms_header.specs.Spelling.{base_lines_from, counter_line_words, cpus_words, header_words, item_words}
-use Rattle.vms_header.specs.Spelling.{spelled_header, version_words, zone_line_words}
+use Rattle.vms_base.specs.Common.{Shape, counter_count}
+use Rattle.vms_text.specs.Common.{lines_of, joined}
+use Rattle.vms_header.specs.Common.{Base, Draft, Section, Zone, bases_of, header_of, most_cpus, AtCpus, read_header}
+use Rattle.vms_header.specs.Common.{stage_line, with_cpus, Drafting, Opening, Versioned, Ends, Goes, HeadersReadBack}
+use Rattle.vms_header.specs.Common.{IsWritable, base_lines_from, counter_line_words, cpus_words, header_words}
+use Rattle.vms_header.specs.Common.{item_words, spelled_header, version_words, zone_line_words}
 use Rattle.vms_header.proofs.HeaderBases.{bases_lead, shape-back, some_zones, zones_of}
 use Rattle.vms_header.proofs.HeaderCounters.{counters_lead}
 use Rattle.vms_header.proofs.HeaderItems.{drafted, items_lead}
@@ -28,8 +23,7 @@ use Rattle.vms_header.proofs.HeaderSteps.{LinesLead, ends-one, LinesLead-append,
 use Rattle.vms_header.proofs.HeaderSteps.{lines_of-sentences}
 use Rattle.vms_header.proofs.HeaderZones.{zone_of, zones_lead}
 use Rattle.vms_header.proofs.Middles.{map-zip_second}
-use Rattle.vms_text.proofs.Sentences.{IsFew}
-use Rattle.vms_text.proofs.SpelledNumbers.{decimal-short, unsigned_of-decimal}
+use Rattle.vms_text.proofs.Common.{IsFew, decimal-short, unsigned_of-decimal}
 
 abbrev version_line_of : Bool → List (List ℕ)
 version_line_of wide = codes "vmtrace" ∷ (if wide then codes "2" else codes "1") ∷ []

@@ -18,3 +18,4 @@ pub mod DraftLines
 pub mod EightWords
 pub mod Written
 pub mod ParsingSteps
+pub mod Common

@@ -2,15 +2,12 @@
 use Rattle.std.proofs.Common.{ℕ, suc, ◌≡◌, ◌≢◌, ◌+◌, ◌-◌, ◌<◌, ◌≤◌, List, [], ◌∷◌, length, Ok, Err, refl, sym, subst}
 use Rattle.std.proofs.Common.{ap, ◌∙◌, arith, inl, inr, length-append}
 use Rattle.vms_base.specs.declared.headers.Header.{Header}
-use Rattle.vms_text.specs.Lines.{SplitsLine, lines_of}
-use Rattle.vms_text.proofs.TextLaws.{CutsLines-reached, Reaches, Reaches-line, Reaches-start, lines_of-begin}
+use Rattle.vms_text.specs.Common.{SplitsLine, lines_of}
+use Rattle.vms_text.proofs.Common.{CutsLines-reached, Reaches, Reaches-line, Reaches-start, lines_of-begin}
 use Rattle.vms_header.specs.declared.causes.ReadError.{ReadError}
 use Rattle.vms_header.specs.declared.causes.ReadError.TheVariants.{Refused, Memory}
-use Rattle.vms_header.specs.Drafts.{Draft, header_of}
-use Rattle.vms_header.specs.Stages.{ReadsHeader, Stage, head_line, header_from, missing, on_step, read_header}
-use Rattle.vms_header.specs.Stages.Stage.{Opening}
-use Rattle.vms_header.specs.Stages.HeadStep.{Goes, Ends}
-use Rattle.vms_header.specs.Steps.{StepsTo, at_line}
+use Rattle.vms_header.specs.Common.{Draft, header_of, ReadsHeader, Stage, head_line, header_from, missing, on_step}
+use Rattle.vms_header.specs.Common.{read_header, Opening, Goes, Ends, StepsTo, at_line}
 
 -- the lines before line n were read, up to this stage, and these bytes are left
 pub record IsReadTo (text : List ℕ) (n : ℕ) (stage : Stage) (rest : List ℕ) : Type 0 where

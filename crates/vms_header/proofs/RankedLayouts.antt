@@ -12,12 +12,9 @@ use Rattle.std.specs.List.Sorted.{IsStrictlyIncreasing}
 use Rattle.vms_base.specs.declared.kinds.ZoneName.{ZoneName}
 use Rattle.vms_base.specs.declared.places.LayoutError.{LayoutError}
 use Rattle.vms_base.specs.declared.places.LayoutError.TheVariants.{NoZone, TooManyZones, DoubledZone, BadCpus}
-use Rattle.vms_base.specs.Places.{IsRefused, LaysOut, Shape, rank_of}
-use Rattle.vms_base.proofs.Doubled.{not-HasDoubled}
-use Rattle.vms_base.proofs.Ranks.{rises}
-use Rattle.vms_base.proofs.Zones.{node-le, rank_of-injective}
-use Rattle.vms_header.specs.DraftFacts.{IsDraft}
-use Rattle.vms_header.specs.Drafts.{Draft, Zone, most_cpus, names_of, nodes_of}
+use Rattle.vms_base.specs.Common.{IsRefused, LaysOut, Shape, rank_of}
+use Rattle.vms_base.proofs.Common.{not-HasDoubled, rises, node-le, rank_of-injective}
+use Rattle.vms_header.specs.Common.{IsDraft, Draft, Zone, most_cpus, names_of, nodes_of}
 
 pub contains-tail : {X : Type 0} (x : X) (xs : List X) (n : X) → Contains xs n → Contains (x ∷ xs) n
 contains-tail x xs n found = (suc found.0, omega (arith, found.1), found.2)

@@ -3,17 +3,15 @@ use Rattle.std.proofs.Common.{ℕ, ◌≡◌, ◌^◌, ◌+◌, ◌∙◌, true,
 use Rattle.std.proofs.Common.{Err, refl, sym, ap, arith, nat_lt, nat_eq, ok_or, ◌≢◌, Bor, map, get_or}
 use Rattle.std.proofs.Math.Numerals.{one-add}
 use Rattle.std.specs.List.{insert, position_or_len}
-use Rattle.vms_base.specs.Places.{rank_of}
+use Rattle.vms_base.specs.Common.{rank_of}
 use Rattle.vms_header.specs.declared.causes.HeaderCause.{HeaderCause}
 use Rattle.vms_header.specs.declared.causes.HeaderCause.TheVariants.{Malformed, NoZone, UnknownName}
-use Rattle.vms_header.specs.Drafts.{Draft, Share, Zone, shape_of, with_zone}
-use Rattle.vms_header.specs.Drafts.Section.{AtWatermarks}
-use Rattle.vms_header.specs.Sections.{any_number, base_counter, base_row, value_field, with_base, class_field, item_row}
-use Rattle.vms_header.specs.Sections.{kind_field, name_field, number_in, rising, unit_field, unmarked_zone_row}
-use Rattle.vms_header.specs.Sections.{watermarks_row, with_item, with_new_zone, zone_row}
-use Rattle.vms_header.specs.Values.{base_words, item_words, share_words, unmarked_zone_words, zone_words}
-use Rattle.vms_text.specs.PlaceNames.{place_named}
-use Rattle.vms_text.specs.Reading.{and_then}
+use Rattle.vms_header.specs.Common.{Draft, Share, Zone, shape_of, with_zone, AtWatermarks, any_number, base_counter}
+use Rattle.vms_header.specs.Common.{base_row, value_field, with_base, class_field, item_row, kind_field, name_field}
+use Rattle.vms_header.specs.Common.{header_number, rising, unit_field, unmarked_zone_row, watermarks_row}
+use Rattle.vms_header.specs.Common.{draft_with_item, with_new_zone, zone_row, base_words, read_item, share_words}
+use Rattle.vms_header.specs.Common.{unmarked_zone_words, read_zone}
+use Rattle.vms_text.specs.Common.{place_named, and_then}
 
 -- a step over two others is a step over each
 and_then-and_then : {A B C E : Type 0} (r : Result A E) (f : A → Result B E) (g : B → Result C E)
@@ -33,24 +31,24 @@ with_share draft share = Ok (record draft { section = AtWatermarks; share = Some
 pub watermarks_row-read : (draft : Draft) (words : List (List ℕ))
     → watermarks_row draft words ≡ and_then (share_words words) (with_share draft)
 watermarks_row-read draft [] = refl
-watermarks_row-read draft (kbytes ∷ []) = sym (and_then-and_then (number_in 0 (2 ^ 40) kbytes) _ (with_share draft))
+watermarks_row-read draft (kbytes ∷ []) = sym (and_then-and_then (header_number 0 (2 ^ 40) kbytes) _ (with_share draft))
 watermarks_row-read draft (kbytes ∷ scale ∷ []) =
-    sym (and_then-and_then (number_in 0 (2 ^ 40) kbytes) _ (with_share draft)
-    ∙ and_then-same (number_in 0 (2 ^ 40) kbytes) _ _ (λ kbytes. and_then-and_then (number_in 1 3000 scale) _
+    sym (and_then-and_then (header_number 0 (2 ^ 40) kbytes) _ (with_share draft)
+    ∙ and_then-same (header_number 0 (2 ^ 40) kbytes) _ _ (λ kbytes. and_then-and_then (header_number 1 3000 scale) _
     (with_share draft)))
 watermarks_row-read draft (kbytes ∷ scale ∷ word ∷ words) = refl
 
 pub item_row-read : (draft : Draft) (words : List (List ℕ))
-    → item_row draft words ≡ and_then (item_words words) (with_item draft)
+    → item_row draft words ≡ and_then (read_item words) (draft_with_item draft)
 item_row-read draft [] = refl
 item_row-read draft (class ∷ []) = refl
 item_row-read draft (class ∷ name ∷ []) =
-    sym (and_then-and_then (class_field class) _ (with_item draft)
-    ∙ and_then-same (class_field class) _ _ (λ node. and_then-and_then (name_field name) _ (with_item draft)))
+    sym (and_then-and_then (class_field class) _ (draft_with_item draft)
+    ∙ and_then-same (class_field class) _ _ (λ node. and_then-and_then (name_field name) _ (draft_with_item draft)))
 item_row-read draft (class ∷ name ∷ unit ∷ []) =
-    sym (and_then-and_then (class_field class) _ (with_item draft)
-    ∙ and_then-same (class_field class) _ _ (λ node. and_then-and_then (name_field name) _ (with_item draft)
-    ∙ and_then-same (name_field name) _ _ (λ name. and_then-and_then (unit_field unit) _ (with_item draft))))
+    sym (and_then-and_then (class_field class) _ (draft_with_item draft)
+    ∙ and_then-same (class_field class) _ _ (λ node. and_then-and_then (name_field name) _ (draft_with_item draft)
+    ∙ and_then-same (name_field name) _ _ (λ name. and_then-and_then (unit_field unit) _ (draft_with_item draft))))
 item_row-read draft (class ∷ name ∷ unit ∷ word ∷ words) = refl
 
 -- the same of words given one by one
@@ -70,7 +68,7 @@ unmarked_zone_row-read draft [] = refl
 unmarked_zone_row-read draft (node ∷ []) = refl
 unmarked_zone_row-read draft (node ∷ kind ∷ []) = refl
 unmarked_zone_row-read draft (node ∷ kind ∷ managed ∷ []) =
-    unmarked_parts (number_in 0 15 node) (kind_field kind) (number_in 1 (2 ^ 40) managed)
+    unmarked_parts (header_number 0 15 node) (kind_field kind) (header_number 1 (2 ^ 40) managed)
     (λ node kind. record { node = node; kind = kind })
     (λ name managed. record { name = name; size = record { managed = managed; min = 0; low = 0; high = 0 } })
     (with_new_zone draft)
@@ -93,7 +91,7 @@ marked_parts (Ok n) (Ok k) (Ok m) (Ok a) (Ok b) (Err e) name size zone next = re
 marked_parts (Ok n) (Ok k) (Ok m) (Ok a) (Ok b) (Ok c) name size zone next = refl
 
 pub zone_row-read : (draft : Draft) (words : List (List ℕ))
-    → zone_row draft words ≡ and_then (zone_words words) (rising draft)
+    → zone_row draft words ≡ and_then (read_zone words) (rising draft)
 zone_row-read draft [] = refl
 zone_row-read draft (node ∷ []) = refl
 zone_row-read draft (node ∷ kind ∷ []) = refl
@@ -101,8 +99,9 @@ zone_row-read draft (node ∷ kind ∷ managed ∷ []) = refl
 zone_row-read draft (node ∷ kind ∷ managed ∷ least ∷ []) = refl
 zone_row-read draft (node ∷ kind ∷ managed ∷ least ∷ middle ∷ []) = refl
 zone_row-read draft (node ∷ kind ∷ managed ∷ least ∷ middle ∷ most ∷ []) =
-    marked_parts (number_in 0 15 node) (kind_field kind) (number_in 1 (2 ^ 40) managed) (number_in 0 (2 ^ 40) least)
-    (number_in 0 (2 ^ 40) middle) (number_in 0 (2 ^ 40) most)
+    marked_parts (header_number 0 15 node) (kind_field kind) (header_number 1 (2 ^ 40) managed)
+    (header_number 0 (2 ^ 40) least)
+    (header_number 0 (2 ^ 40) middle) (header_number 0 (2 ^ 40) most)
     (λ node kind. record { node = node; kind = kind })
     (λ managed least middle most. record { managed = managed; min = least; low = middle; high = most })
     (λ name size. record { name = name; size = size }) (rising draft)

@@ -8,10 +8,10 @@ use Rattle.std.specs.Prelude.{codes, zip}
 use Rattle.vms_base.specs.declared.headers.Header.{Header}
 use Rattle.vms_base.specs.declared.kinds.ZoneName.{ZoneName}
 use Rattle.vms_base.specs.declared.kinds.ZoneSize.{ZoneSize}
-use Rattle.vms_header.specs.Spelling.{base_lines_from, counter_line_words, cpus_words, item_words, spelled_header}
-use Rattle.vms_header.specs.Spelling.{version_words, zone_line_words}
-use Rattle.vms_text.specs.Spelling.{sentence}
-use Rattle.vms_text.proofs.Appends.{lines-take_more}
+use Rattle.vms_header.specs.Common.{base_lines_from, counter_line_words, cpus_words, item_words, spelled_header}
+use Rattle.vms_header.specs.Common.{version_words, zone_line_words}
+use Rattle.vms_text.specs.Common.{sentence}
+use Rattle.vms_text.proofs.Common.{lines-take_more}
 
 -- the line of one zone more
 pub zone_lines-take_more : (zones : List ZoneName) (sizes : List ZoneSize) (i : ℕ) (zone : ZoneName) (size : ZoneSize)

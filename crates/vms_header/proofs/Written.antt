@@ -8,18 +8,11 @@ use Rattle.std.proofs.lemmas.List.{get_or-set_other, length-map}
 use Rattle.std.proofs.lemmas.List.Elements.{All-head, All-map, All-replicate, All-set, All-tail, All-weaker}
 use Rattle.std.specs.List.{All}
 use Rattle.vms_base.specs.declared.headers.Header.{Header}
-use Rattle.vms_base.specs.Headers.{IsNamed}
-use Rattle.vms_base.specs.Places.{counter_count}
-use Rattle.vms_base.specs.Sizes.{IsValidSize}
-use Rattle.vms_base.specs.Watermarks.{zone_marks_of}
-use Rattle.vms_header.specs.DraftFacts.{IsBase, IsDraft, IsShare, IsSized, IsStage}
-use Rattle.vms_header.specs.Drafts.{Base, Draft, Share, Zone, bases_of, header_of, managed_pages, positions_of}
-use Rattle.vms_header.specs.Drafts.{shape_of, sizes_under}
-use Rattle.vms_header.specs.Stages.{Fault, Stage, head_line, header_from, on_step, read_header}
-use Rattle.vms_header.specs.Stages.Stage.{Opening}
-use Rattle.vms_header.specs.Stages.HeadStep.{Goes, Ends}
-use Rattle.vms_header.specs.Laws.{IsWritable}
-use Rattle.vms_text.specs.PlaceNames.{declared_items}
+use Rattle.vms_base.specs.Common.{IsNamed, counter_count, IsValidSize, zone_marks_of}
+use Rattle.vms_header.specs.Common.{IsNamedBase, IsDraft, IsShare, IsSized, IsStage, Base, Draft, Share, Zone, bases_of}
+use Rattle.vms_header.specs.Common.{header_of, managed_pages, positions_of, shape_of, sizes_under, Fault, Stage}
+use Rattle.vms_header.specs.Common.{head_line, header_from, on_step, read_header, Opening, Goes, Ends, IsWritable}
+use Rattle.vms_text.specs.Common.{declared_items}
 use Rattle.vms_header.proofs.DraftBases.{length-bases_of}
 use Rattle.vms_header.proofs.DraftLines.{draft-layout, head_line-keeps}
 
@@ -63,27 +56,27 @@ sizes-sized (Some share) zones valid all =
     (managed_pages zones) valid.kbytes_most valid.scale_most (all k d below).valid.managed_least
     (all k d below).valid.managed_most (managed-within zones k d below))
 
-bases_most-holds : (draft : Draft) (count : ℕ) (bases : List Base) → All (IsBase draft) bases
+bases_most-holds : (draft : Draft) (count : ℕ) (bases : List Base) → All (IsNamedBase draft) bases
     → All (λ base. unsigned_abs base ≤ 2 ^ 48) (bases_of count bases)
 bases_most-holds draft count [] all = All-replicate (λ base. unsigned_abs base ≤ 2 ^ 48) count (pos 0) (omega arith)
 bases_most-holds draft count (base ∷ bases) all =
     All-set (λ base. unsigned_abs base ≤ 2 ^ 48) (bases_of count bases) base.counter base.value
-    (All-head (IsBase draft) base bases all).most
-    (bases_most-holds draft count bases (All-tail (IsBase draft) base bases all))
+    (All-head (IsNamedBase draft) base bases all).most
+    (bases_most-holds draft count bases (All-tail (IsNamedBase draft) base bases all))
 
 zeros : (count counter : ℕ) → get_or (replicate count (pos 0)) counter (pos 0) ≡ pos 0
 zeros zero counter = refl
 zeros (suc count) zero = refl
 zeros (suc count) (suc counter) = zeros count counter
 
-bases_unnamed-holds : (draft : Draft) (count : ℕ) (bases : List Base) (counter : ℕ) → All (IsBase draft) bases
+bases_unnamed-holds : (draft : Draft) (count : ℕ) (bases : List Base) (counter : ℕ) → All (IsNamedBase draft) bases
     → ¬ IsNamed (header_of draft) counter → get_or (bases_of count bases) counter (pos 0) ≡ pos 0
 bases_unnamed-holds draft count [] counter all unnamed = zeros count counter
 bases_unnamed-holds draft count (base ∷ bases) counter all unnamed =
-    let named = (All-head (IsBase draft) base bases all).named in
+    let named = (All-head (IsNamedBase draft) base bases all).named in
     let other : counter ≢ base.counter = λ same. unnamed (subst (IsNamed (header_of draft)) (sym same) named) in
     get_or-set_other (bases_of count bases) base.counter counter base.value (pos 0) other
-    ∙ bases_unnamed-holds draft count bases counter (All-tail (IsBase draft) base bases all) unnamed
+    ∙ bases_unnamed-holds draft count bases counter (All-tail (IsNamedBase draft) base bases all) unnamed
 
 narrow-items : (draft : Draft) → IsDraft draft → positions_of draft.wide ≡ 8 → draft.items ≡ []
 narrow-items draft is narrow = is.items_wide (by draft.wide narrow)

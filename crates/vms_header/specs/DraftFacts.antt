@@ -3,14 +3,13 @@ use Rattle.std.specs.Prelude.{◌≡◌, ◌≢◌, ◌<◌, ◌≤◌, ◌^◌,
 use Rattle.std.specs.Prelude.{IfSome}
 use Rattle.std.specs.List.Sorted.{IsStrictlyIncreasing}
 use Rattle.vms_base.specs.declared.kinds.ZoneSize.{ZoneSize}
-use Rattle.vms_base.specs.Headers.{IsValidDecl, IsValidItem, class_names, is_of_node}
-use Rattle.vms_base.specs.Places.{counter_count, position_of, rank_of}
-use Rattle.vms_base.specs.Sizes.{IsValidSize}
+use Rattle.vms_base.specs.Common.{IsValidDecl, IsValidItem, class_names, is_of_node, counter_count, position_of}
+use Rattle.vms_base.specs.Common.{rank_of, IsValidSize}
 use Rattle.vms_header.specs.Drafts.{Base, Draft, Share, most_cpus, section_index, shape_of}
 use Rattle.vms_header.specs.Stages.{Stage, HeadStep}
 use Rattle.vms_header.specs.Stages.Stage.{Opening, Versioned, Drafting}
 use Rattle.vms_header.specs.Stages.HeadStep.{Goes, Ends}
-use Rattle.vms_text.specs.PlaceNames.{declared_items}
+use Rattle.vms_text.specs.Common.{declared_items}
 
 -- the fields of a `watermarks` line
 pub record IsShare (share : Share) : Type 0 where
@@ -24,7 +23,7 @@ pub record IsSized (size : ZoneSize) : Type 0 where
   pub high_most : size.high ≤ 2 ^ 40
 
 -- a base value of a counter that has a name
-pub record IsBase (draft : Draft) (base : Base) : Type 0 where
+pub record IsNamedBase (draft : Draft) (base : Base) : Type 0 where
   pub known : base.counter < counter_count (shape_of draft)
   pub named : position_of (shape_of draft) base.counter
       < length (class_names (is_of_node (shape_of draft) base.counter) draft.items)
@@ -45,7 +44,7 @@ pub record IsDraft (draft : Draft) : Type 0 where
   pub items_valid : All IsValidItem draft.items
   pub items_differ : AllPairs ◌≢◌ (map (λ item. item.name) draft.items)
   pub bases_late : section_index draft.section ≤ 3 → draft.bases ≡ []
-  pub bases_valid : All (IsBase draft) draft.bases
+  pub bases_valid : All (IsNamedBase draft) draft.bases
   pub counters_most : length draft.counters ≤ 16
   pub counters_valid : All IsValidDecl draft.counters
   pub counters_differ : AllPairs ◌≢◌ (map (λ decl. decl.name) draft.counters)

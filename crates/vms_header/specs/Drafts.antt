@@ -9,8 +9,7 @@ use Rattle.vms_base.specs.declared.kinds.ZoneSize.{ZoneSize}
 pub use Rattle.vms_header.specs.declared.drafts.Base.{Base}
 pub use Rattle.vms_header.specs.declared.drafts.Share.{Share}
 pub use Rattle.vms_header.specs.declared.drafts.Zone.{Zone}
-use Rattle.vms_base.specs.Places.{Shape, rank_of, counter_count}
-use Rattle.vms_base.specs.Watermarks.{zone_marks_of}
+use Rattle.vms_base.specs.Common.{Shape, rank_of, counter_count, zone_marks_of}
 
 -- the kinds of lines after `cpus`, in their order
 pub data Section : Type 0 where

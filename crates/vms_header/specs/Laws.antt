@@ -1,8 +1,8 @@
 -- Laws of headers, each for every text and header.
 use Rattle.std.specs.Prelude.{◌≡◌, ℕ, ◌^◌, ◌+◌, ◌≤◌, List, ◌++◌, length, All, Result, Ok, Err}
 use Rattle.vms_base.specs.declared.headers.Header.{Header}
-use Rattle.vms_base.specs.Headers.{IsHeader}
-use Rattle.vms_text.specs.Lines.{lines_of}
+use Rattle.vms_base.specs.Common.{IsHeader}
+use Rattle.vms_text.specs.Common.{lines_of}
 use Rattle.vms_header.specs.Stages.{Fault, read_header}
 use Rattle.vms_header.specs.Spelling.{spelled_header, header_words}
 

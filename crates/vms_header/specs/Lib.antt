@@ -7,3 +7,4 @@ pub mod Readers
 pub mod Spelling
 pub mod Laws
 pub mod Steps
+pub mod Common

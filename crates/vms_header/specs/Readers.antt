@@ -39,15 +39,15 @@ draft_of draft = record {
 }
 
 -- an answer that needs no memory: what is found, as `view` shows it, or the cause
-abbrev pub Tells : {A B : Type 0} → (A → B) → Result B HeaderCause → Result A HeaderCause → Type 0
-Tells view answer (Ok found) = answer ≡ Ok (view found)
-Tells view answer (Err cause) = answer ≡ Err cause
+abbrev pub IsSameAnswer : {A B : Type 0} → (A → B) → Result B HeaderCause → Result A HeaderCause → Type 0
+IsSameAnswer view answer (Ok found) = answer ≡ Ok (view found)
+IsSameAnswer view answer (Err cause) = answer ≡ Err cause
 
 -- an answer for which memory may run out, of which nothing is said: what is found, as `view` shows it, or the cause
-abbrev pub Reads : {A B : Type 0} → (A → B) → Result B HeaderCause → Result A ReadError → Type 0
-Reads view answer (Ok found) = answer ≡ Ok (view found)
-Reads view answer (Err (Refused cause)) = answer ≡ Err cause
-Reads view answer (Err Memory) = Unit {0}
+abbrev pub IsSameRead : {A B : Type 0} → (A → B) → Result B HeaderCause → Result A ReadError → Type 0
+IsSameRead view answer (Ok found) = answer ≡ Ok (view found)
+IsSameRead view answer (Err (Refused cause)) = answer ≡ Err cause
+IsSameRead view answer (Err Memory) = Unit {0}
 
 -- a stage, as the reader keeps it
 abbrev pub stage_of : KeptStage → Stage

@@ -6,9 +6,9 @@ use Rattle.std.specs.Prelude.{ok_or, Result, Ok, Err}
 use Rattle.std.specs.List.{list_any}
 use Rattle.vms_base.specs.declared.headers.ItemDecl.{ItemDecl}
 use Rattle.vms_base.specs.declared.kinds.ZoneKind.{ZoneKind}
-use Rattle.vms_base.specs.Names.{is_name, zone_items, node_items}
-use Rattle.vms_base.specs.Places.{rank_of, counter_at}
-use Rattle.vms_text.specs.Numbers.{number_within, unsigned_of, signed_of}
+use Rattle.vms_base.specs.Common.{is_name, zone_items, node_items, rank_of, counter_at}
+use Rattle.vms_text.specs.Common.{number_within, unsigned_of, signed_of, kind_named, place_named, item_named}
+use Rattle.vms_text.specs.Common.{declared_items, and_then}
 use Rattle.vms_header.specs.declared.causes.HeaderCause.{HeaderCause}
 use Rattle.vms_header.specs.declared.causes.HeaderCause.TheVariants.{BadNumber, NoZone, DoubledZone, TooManyZones}
 use Rattle.vms_header.specs.declared.causes.HeaderCause.TheVariants.{BadMarks, UnknownName, DoubledCounter, BadBatch}
@@ -16,12 +16,10 @@ use Rattle.vms_header.specs.declared.causes.HeaderCause.TheVariants.{Malformed, 
 use Rattle.vms_header.specs.declared.causes.HeaderCause.TheVariants.{TooManyItems}
 use Rattle.vms_header.specs.Drafts.{Zone, Share, Draft, with_zone, shape_of}
 use Rattle.vms_header.specs.Drafts.Section.{AtWatermarks, AtItems, AtZones, AtBases, AtCounters}
-use Rattle.vms_text.specs.PlaceNames.{kind_named, place_named, item_named, declared_items}
-use Rattle.vms_text.specs.Reading.{and_then}
 
 -- a number from this to that
-abbrev pub number_in : ℕ → ℕ → List ℕ → Result ℕ HeaderCause
-number_in least most word = ok_or (number_within least most word) BadNumber
+abbrev pub header_number : ℕ → ℕ → List ℕ → Result ℕ HeaderCause
+header_number least most word = ok_or (number_within least most word) BadNumber
 
 -- a number of 64 bits
 abbrev pub any_number : List ℕ → Result ℕ HeaderCause
@@ -34,10 +32,10 @@ name_field word = if is_name word then Ok word else Err UnknownName
 -- `watermarks KBYTES SCALE`, where SCALE is 10 if it is left out
 abbrev pub watermarks_row : Draft → List (List ℕ) → Result Draft HeaderCause
 watermarks_row draft (kbytes ∷ []) =
-    and_then (number_in 0 (2 ^ 40) kbytes) (λ kbytes.
+    and_then (header_number 0 (2 ^ 40) kbytes) (λ kbytes.
     Ok (record draft { section = AtWatermarks; share = Some (record { kbytes = kbytes; scale = 10 }) }))
 watermarks_row draft (kbytes ∷ scale ∷ []) =
-    and_then (number_in 0 (2 ^ 40) kbytes) (λ kbytes. and_then (number_in 1 3000 scale) (λ scale.
+    and_then (header_number 0 (2 ^ 40) kbytes) (λ kbytes. and_then (header_number 1 3000 scale) (λ scale.
     Ok (record draft { section = AtWatermarks; share = Some (record { kbytes = kbytes; scale = scale }) })))
 watermarks_row draft _ = Err Malformed
 
@@ -57,8 +55,8 @@ abbrev pub is_item_name : List ItemDecl → List ℕ → Bool
 is_item_name items name = list_any (bytes_eq name) (zone_items ++ node_items ++ map (λ item. item.name) items)
 
 -- the draft with one item more
-abbrev pub with_item : Draft → ItemDecl → Result Draft HeaderCause
-with_item draft item =
+abbrev pub draft_with_item : Draft → ItemDecl → Result Draft HeaderCause
+draft_with_item draft item =
     if is_item_name draft.items item.name then Err DoubledItem
     else if nat_le 8 (length (declared_items item.node draft.items)) then Err TooManyItems
     else Ok (record draft { section = AtItems; items = draft.items ++ item ∷ [] })
@@ -67,10 +65,10 @@ with_item draft item =
 abbrev pub item_row : Draft → List (List ℕ) → Result Draft HeaderCause
 item_row draft (class ∷ name ∷ []) =
     and_then (class_field class) (λ node. and_then (name_field name) (λ name.
-    with_item draft (record { name = name; node = node; bytes = false })))
+    draft_with_item draft (record { name = name; node = node; bytes = false })))
 item_row draft (class ∷ name ∷ unit ∷ []) =
     and_then (class_field class) (λ node. and_then (name_field name) (λ name. and_then (unit_field unit) (λ bytes.
-    with_item draft (record { name = name; node = node; bytes = bytes }))))
+    draft_with_item draft (record { name = name; node = node; bytes = bytes }))))
 item_row draft _ = Err Malformed
 
 -- the kind of zones that a word names
@@ -93,10 +91,10 @@ rising draft zone =
 -- `zone NODE KIND MANAGED MIN LOW HIGH`
 abbrev pub zone_row : Draft → List (List ℕ) → Result Draft HeaderCause
 zone_row draft (node ∷ kind ∷ managed ∷ least ∷ middle ∷ most ∷ []) =
-    and_then (number_in 0 15 node) (λ node. and_then (kind_field kind) (λ kind.
-    and_then (number_in 1 (2 ^ 40) managed) (λ managed.
-    and_then (number_in 0 (2 ^ 40) least) (λ least. and_then (number_in 0 (2 ^ 40) middle) (λ middle.
-    and_then (number_in 0 (2 ^ 40) most) (λ most.
+    and_then (header_number 0 15 node) (λ node. and_then (kind_field kind) (λ kind.
+    and_then (header_number 1 (2 ^ 40) managed) (λ managed.
+    and_then (header_number 0 (2 ^ 40) least) (λ least. and_then (header_number 0 (2 ^ 40) middle) (λ middle.
+    and_then (header_number 0 (2 ^ 40) most) (λ most.
     rising draft (record {
       name = record { node = node; kind = kind };
       size = record { managed = managed; min = least; low = middle; high = most };
@@ -106,8 +104,8 @@ zone_row draft _ = Err Malformed
 -- `zone NODE KIND MANAGED`, where a `watermarks` line gives the marks
 abbrev pub unmarked_zone_row : Draft → List (List ℕ) → Result Draft HeaderCause
 unmarked_zone_row draft (node ∷ kind ∷ managed ∷ []) =
-    and_then (number_in 0 15 node) (λ node. and_then (kind_field kind) (λ kind.
-    and_then (number_in 1 (2 ^ 40) managed) (λ managed.
+    and_then (header_number 0 15 node) (λ node. and_then (kind_field kind) (λ kind.
+    and_then (header_number 1 (2 ^ 40) managed) (λ managed.
     with_new_zone draft (record {
       name = record { node = node; kind = kind };
       size = record { managed = managed; min = 0; low = 0; high = 0 };

@@ -7,7 +7,7 @@ use Rattle.vms_base.specs.declared.headers.Header.{Header}
 use Rattle.vms_base.specs.declared.headers.ItemDecl.{ItemDecl}
 use Rattle.vms_base.specs.declared.kinds.ZoneName.{ZoneName}
 use Rattle.vms_base.specs.declared.kinds.ZoneSize.{ZoneSize}
-use Rattle.vms_text.specs.Spelling.{counter_words, sentence, zone_words}
+use Rattle.vms_text.specs.Common.{counter_words, sentence, zone_words}
 
 -- the lines of a header, as lists of words
 abbrev pub version_words : Header → List (List ℕ)

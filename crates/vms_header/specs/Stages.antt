@@ -3,14 +3,12 @@ use Rattle.std.specs.Prelude.{ℕ, suc, ◌≡◌, ◌≤◌, nat_lt, nat_le, �
 use Rattle.std.specs.Prelude.{length, take, drop, codes, bytes_eq, Result, Ok, Err}
 use Rattle.std.specs.Cmp.Lexicographic.{pointwise}
 use Rattle.vms_base.specs.declared.headers.Header.{Header}
-use Rattle.vms_text.specs.Lines.{lines_of}
-use Rattle.vms_text.specs.Words.{words_of}
+use Rattle.vms_text.specs.Common.{lines_of, words_of, and_then, most_line, is_ignored, is_clean}
 use Rattle.vms_header.specs.declared.causes.HeaderCause.{HeaderCause}
 use Rattle.vms_header.specs.declared.causes.HeaderCause.TheVariants.{BadMagic, BadCpus, MissingGo, Malformed}
 use Rattle.vms_header.specs.declared.causes.HeaderCause.TheVariants.{LineTooLong}
 use Rattle.vms_header.specs.declared.causes.HeaderError.{HeaderError}
 use Rattle.vms_header.specs.declared.causes.HeaderError.TheVariants.{Bad, Memory}
-use Rattle.vms_text.specs.Reading.{and_then, most_line, is_ignored, is_clean}
 use Rattle.vms_header.specs.Drafts.{Draft, Section, section_index, first_draft, most_cpus, header_of}
 use Rattle.vms_header.specs.Drafts.Section.{AtCpus, AtItems, AtZones, AtBases}
 use Rattle.vms_header.specs.Sections.{any_number, watermarks_row, item_row, any_zone_row, after_zones, base_row}

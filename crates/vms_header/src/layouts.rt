@@ -1,6 +1,6 @@
 ghost use Rattle.std.specs.Prelude.{◌≡◌, ◌<◌, ◌≤◌, All, map, length, MatchResult};
 ghost use Rattle.arrayvec.specs.ArrayVec.{array_vec_len};
-ghost use Rattle.vms_base.specs.Places.{IsRefused, LaysOut};
+ghost use Rattle.vms_base.specs.Common.{IsRefused, LaysOut};
 ghost use Rattle.vms_header.specs.DraftFacts.{IsDraft};
 ghost use Rattle.vms_header.specs.Drafts.{most_cpus, names_of, positions_of, shape_of};
 ghost use Rattle.vms_header.specs.Readers.{draft_of};

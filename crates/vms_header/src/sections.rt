@@ -1,20 +1,17 @@
 ghost use Rattle.std.specs.Prelude.{◌≡◌, ◌<◌, ◌∷◌, [], ◌++◌, bytes_eq, length, map, nat_eq, nat_lt, position, ok_or};
 ghost use Rattle.std.specs.Prelude.{◌≤◌, true, false, None, Ok, IfOk};
 ghost use Rattle.std.specs.List.{list_any, position_or_len};
-ghost use Rattle.vms_base.specs.Names.{node_items, zone_items};
-ghost use Rattle.vms_base.specs.Places.{counter_at, place_count, rank_of};
+ghost use Rattle.vms_base.specs.Common.{node_items, zone_items, counter_at, place_count, rank_of, class_names};
 ghost use Rattle.vms_header.specs.Drafts.{shape_of};
 ghost use Rattle.vms_header.specs.Sections.{any_zone_row, base_row, counter_row, is_item_name, item_row, name_field};
 ghost use Rattle.vms_header.specs.Sections.{rising, unmarked_zone_row, watermarks_row, with_base, with_counter};
-ghost use Rattle.vms_header.specs.Sections.{with_item, with_new_zone, zone_row};
-ghost use Rattle.vms_header.specs.Values.{item_of, item_words, base_words};
-ghost use Rattle.vms_base.specs.Headers.{class_names};
+ghost use Rattle.vms_header.specs.Sections.{draft_with_item, with_new_zone, zone_row};
+ghost use Rattle.vms_header.specs.Values.{item_from_words, read_item, base_words};
 ghost use Rattle.arrayvec.specs.ArrayVec.{array_vec_len};
 ghost use Rattle.vms_header.specs.declared.causes.HeaderCause.TheVariants.{UnknownName};
 ghost use Rattle.vms_header.specs.DraftFacts.{IsDraft};
-ghost use Rattle.vms_text.specs.PlaceNames.{declared_items, item_named, place_named};
-ghost use Rattle.vms_text.specs.Reading.{and_then};
-ghost use Rattle.vms_header.specs.Readers.{draft_of, Reads, Tells};
+ghost use Rattle.vms_text.specs.Common.{declared_items, item_named, place_named, and_then};
+ghost use Rattle.vms_header.specs.Readers.{draft_of, IsSameRead, IsSameAnswer};
 
 use crate::drafts::{Base, Draft, Section, Zone};
 use crate::layouts::layout_of;
@@ -31,7 +28,8 @@ const MOST_BASES: usize = 512;
 
 /// Reads `watermarks KBYTES SCALE`.
 pub(crate) fn watermarks_row(draft: Draft, fields: &[&[u8]]) -> Result<Draft, HeaderCause>
-    ensures { Tells draft_of (watermarks_row (draft_of draft) (map (λ field. field.now) fields.now)) result }
+    ensures { IsSameAnswer draft_of
+        (watermarks_row (draft_of draft) (map (λ field. field.now) fields.now)) result }
 {
     let share = share_words(fields)?;
     Ok(Draft {
@@ -43,14 +41,15 @@ pub(crate) fn watermarks_row(draft: Draft, fields: &[&[u8]]) -> Result<Draft, He
 
 /// Reads `item CLASS NAME` or `item CLASS NAME bytes`.
 pub(crate) fn item_row(alloc: Global, draft: Draft, fields: &[&[u8]]) -> Result<Draft, ReadError>
-    ensures { Reads draft_of (item_row (draft_of draft) (map (λ field. field.now) fields.now)) result }
+    ensures { IsSameRead draft_of
+        (item_row (draft_of draft) (map (λ field. field.now) fields.now)) result }
 {
     let item = item_words(alloc, fields)?;
     with_item(draft, item)
 }
 
 fn item_words(alloc: Global, fields: &[&[u8]]) -> Result<ItemDecl, ReadError>
-    ensures { Reads (λ item. item) (item_words (map (λ field. field.now) fields.now)) result }
+    ensures { IsSameRead (λ item. item) (read_item (map (λ field. field.now) fields.now)) result }
 {
     match fields.len() {
         2 => item_of(alloc, fields[0], fields[1], Ok(false)),
@@ -65,7 +64,7 @@ fn item_of(
     name: &[u8],
     unit: Result<bool, HeaderCause>,
 ) -> Result<ItemDecl, ReadError>
-    ensures { Reads (λ item. item) (item_of class.now name.now unit) result }
+    ensures { IsSameRead (λ item. item) (item_from_words class.now name.now unit) result }
 {
     let node = class_field(class)?;
     let name = name_field(name)?;
@@ -79,7 +78,7 @@ fn item_of(
 
 /// A name of the form.
 fn name_field(word: &[u8]) -> Result<&[u8], HeaderCause>
-    ensures { Tells (λ name. name.now) (name_field word.now) result }
+    ensures { IsSameAnswer (λ name. name.now) (name_field word.now) result }
 {
     if is_name(word) {
         Ok(word)
@@ -90,7 +89,7 @@ fn name_field(word: &[u8]) -> Result<&[u8], HeaderCause>
 
 /// Adds an item, unless another has its name or its class has eight declared items.
 fn with_item(draft: Draft, item: ItemDecl) -> Result<Draft, ReadError>
-    ensures { Reads draft_of (with_item (draft_of draft) item) result }
+    ensures { IsSameRead draft_of (draft_with_item (draft_of draft) item) result }
 {
     if is_item_name(draft.items.as_slice(), item.name.as_slice()) {
         return Err(ReadError::Refused(HeaderCause::DoubledItem));
@@ -141,7 +140,8 @@ fn declared_count(node: bool, items: &[ItemDecl]) -> usize
 
 /// Reads `zone NODE KIND MANAGED MIN LOW HIGH`, or `zone NODE KIND MANAGED` after a `watermarks` line.
 pub(crate) fn any_zone_row(draft: Draft, fields: &[&[u8]]) -> Result<Draft, HeaderCause>
-    ensures { Tells draft_of (any_zone_row (draft_of draft) draft.share (map (λ field. field.now) fields.now)) result }
+    ensures { IsSameAnswer draft_of
+        (any_zone_row (draft_of draft) draft.share (map (λ field. field.now) fields.now)) result }
 {
     match draft.share {
         None => zone_row(draft, fields),
@@ -151,7 +151,8 @@ pub(crate) fn any_zone_row(draft: Draft, fields: &[&[u8]]) -> Result<Draft, Head
 
 /// Reads `zone NODE KIND MANAGED MIN LOW HIGH`.
 fn zone_row(draft: Draft, fields: &[&[u8]]) -> Result<Draft, HeaderCause>
-    ensures { Tells draft_of (zone_row (draft_of draft) (map (λ field. field.now) fields.now)) result }
+    ensures { IsSameAnswer draft_of
+        (zone_row (draft_of draft) (map (λ field. field.now) fields.now)) result }
 {
     let zone = zone_words(fields)?;
     rising(draft, zone)
@@ -159,7 +160,8 @@ fn zone_row(draft: Draft, fields: &[&[u8]]) -> Result<Draft, HeaderCause>
 
 /// Reads `zone NODE KIND MANAGED`, where a `watermarks` line gives the marks.
 fn unmarked_zone_row(draft: Draft, fields: &[&[u8]]) -> Result<Draft, HeaderCause>
-    ensures { Tells draft_of (unmarked_zone_row (draft_of draft) (map (λ field. field.now) fields.now)) result }
+    ensures { IsSameAnswer draft_of
+        (unmarked_zone_row (draft_of draft) (map (λ field. field.now) fields.now)) result }
 {
     let zone = unmarked_zone_words(fields)?;
     with_new_zone(draft, zone)
@@ -167,7 +169,7 @@ fn unmarked_zone_row(draft: Draft, fields: &[&[u8]]) -> Result<Draft, HeaderCaus
 
 /// Adds a zone whose marks rise.
 fn rising(draft: Draft, zone: Zone) -> Result<Draft, HeaderCause>
-    ensures { Tells draft_of (rising (draft_of draft) zone) result }
+    ensures { IsSameAnswer draft_of (rising (draft_of draft) zone) result }
 {
     if zone.size.min <= zone.size.low && zone.size.low <= zone.size.high {
         with_new_zone(draft, zone)
@@ -178,7 +180,7 @@ fn rising(draft: Draft, zone: Zone) -> Result<Draft, HeaderCause>
 
 /// Adds a zone, unless the draft has it already or has 16.
 fn with_new_zone(draft: Draft, zone: Zone) -> Result<Draft, HeaderCause>
-    ensures { Tells draft_of (with_new_zone (draft_of draft) zone) result }
+    ensures { IsSameAnswer draft_of (with_new_zone (draft_of draft) zone) result }
 {
     let rank = zone.name.rank();
     if has_rank(draft.zones.as_slice(), rank) {
@@ -222,7 +224,8 @@ fn above(zones: &[Zone], rank: u64) -> Option<usize>
 /// Reads `base PLACE ITEM VALUE`.
 pub(crate) fn base_row(draft: Draft, fields: &[&[u8]]) -> Result<Draft, ReadError>
     requires { IsDraft (draft_of draft) }
-    ensures { Reads draft_of (base_row (draft_of draft) (map (λ field. field.now) fields.now)) result }
+    ensures { IsSameRead draft_of
+        (base_row (draft_of draft) (map (λ field. field.now) fields.now)) result }
 {
     if fields.len() != 4 {
         return Err(ReadError::Refused(HeaderCause::Malformed));
@@ -238,7 +241,8 @@ fn base_of(
     value: &[u8],
 ) -> Result<Draft, ReadError>
     requires { IsDraft (draft_of draft) }
-    ensures { Reads draft_of (base_row (draft_of draft) (node.now ∷ kind.now ∷ item.now ∷ value.now ∷ [])) result }
+    ensures { IsSameRead draft_of
+        (base_row (draft_of draft) (node.now ∷ kind.now ∷ item.now ∷ value.now ∷ [])) result }
 {
     if draft.zones.is_empty() {
         return Err(ReadError::Refused(HeaderCause::NoZone));
@@ -295,7 +299,7 @@ fn base_counter(
 
 /// Adds a base value, unless its counter has one.
 fn with_base(draft: Draft, base: Base) -> Result<Draft, ReadError>
-    ensures { Reads draft_of (with_base (draft_of draft) base.counter base.value) result }
+    ensures { IsSameRead draft_of (with_base (draft_of draft) base.counter base.value) result }
 {
     if has_base(draft.bases.as_slice(), base.counter) {
         return Err(ReadError::Refused(HeaderCause::DoubledCounter));
@@ -328,7 +332,8 @@ fn has_base(bases: &[Base], counter: u32) -> bool
 
 /// Reads `counter NAME BATCH`, where BATCH is twice the CPUs and at least 32 if it is left out.
 pub(crate) fn counter_row(alloc: Global, draft: Draft, fields: &[&[u8]]) -> Result<Draft, ReadError>
-    ensures { Reads draft_of (counter_row (draft_of draft) (map (λ field. field.now) fields.now)) result }
+    ensures { IsSameRead draft_of
+        (counter_row (draft_of draft) (map (λ field. field.now) fields.now)) result }
 {
     if fields.is_empty() || fields.len() > 2 {
         return Err(ReadError::Refused(HeaderCause::Malformed));
@@ -346,7 +351,7 @@ pub(crate) fn counter_row(alloc: Global, draft: Draft, fields: &[&[u8]]) -> Resu
 
 /// Adds a percpu counter, unless the draft has its name already, its batch is out of range, or the draft has 16.
 fn with_counter(alloc: Global, draft: Draft, name: &[u8], batch: u64) -> Result<Draft, ReadError>
-    ensures { Reads draft_of (with_counter (draft_of draft) name.now batch) result }
+    ensures { IsSameRead draft_of (with_counter (draft_of draft) name.now batch) result }
 {
     if has_name(draft.counters.as_slice(), name) {
         return Err(ReadError::Refused(HeaderCause::DoubledCounter));

@@ -1,14 +1,11 @@
 ghost use Rattle.std.specs.Prelude.{◌≡◌, ◌∷◌, [], if◌then◌else◌, codes, ◌≢◌, ◌++◌, ◌<◌, pos, flat_map, length, map};
 ghost use Rattle.std.specs.Prelude.{slice_index_or, zip, All, OnErr, OnOk};
 ghost use Rattle.std.specs.Fmt.{signed_decimal};
-ghost use Rattle.vms_base.specs.Headers.{IsHeader};
-ghost use Rattle.vms_base.specs.Places.{counter_count};
-ghost use Rattle.vms_text.specs.PlaceNames.{IsKnown};
+ghost use Rattle.vms_base.specs.Common.{IsHeader, counter_count};
+ghost use Rattle.vms_text.specs.Common.{IsKnown, counter_words, sentence, Begins, text_of};
 ghost use Rattle.vms_header.specs.Laws.{IsWritable};
 ghost use Rattle.vms_header.specs.Spelling.{base_line_words, base_lines_from, counter_line_words, cpus_words};
 ghost use Rattle.vms_header.specs.Spelling.{item_words, spelled_header, version_words, zone_line_words};
-ghost use Rattle.vms_text.specs.Spelling.{counter_words, sentence};
-ghost use Rattle.vms_text.specs.Writing.{Begins, text_of};
 
 use vms_base::{CounterId, Decl, Header, ItemDecl, Memory, ZoneName, ZoneSize, kind_name};
 use vms_text::{Word, words_of_counter, write_words};

@@ -10,7 +10,7 @@ ghost use Rattle.vms_header.specs.Stages.{version_line, with_cpus};
 ghost use Rattle.vms_header.specs.Stages.Stage.{Versioned};
 ghost use Rattle.vms_header.specs.Stages.HeadStep.{Goes};
 ghost use Rattle.vms_header.specs.Sections.{any_zone_row, base_row, counter_row, item_row, watermarks_row};
-ghost use Rattle.vms_header.specs.Readers.{draft_of, section_of, stage_of, step_of, Reads, Tells};
+ghost use Rattle.vms_header.specs.Readers.{draft_of, section_of, stage_of, step_of, IsSameRead, IsSameAnswer};
 
 use crate::drafts::{Draft, HeadStep, Section, Stage};
 use crate::sections::{any_zone_row, base_row, counter_row, item_row, watermarks_row};
@@ -27,7 +27,8 @@ pub(crate) fn stage_line(
     words: &[&[u8]],
 ) -> Result<HeadStep, ReadError>
     requires { IsStage (stage_of stage) }
-    ensures { Reads step_of (stage_line (stage_of stage) clean (map (λ word. word.now) words.now)) result }
+    ensures { IsSameRead step_of
+        (stage_line (stage_of stage) clean (map (λ word. word.now) words.now)) result }
 {
     match stage {
         Stage::Opening => Ok(version_line(clean, words)?),
@@ -50,7 +51,7 @@ pub(crate) fn stage_line(
 
 /// Reads `vmtrace 1` or `vmtrace 2`.
 fn version_line(clean: bool, words: &[&[u8]]) -> Result<HeadStep, HeaderCause>
-    ensures { Tells step_of (version_line clean (map (λ word. word.now) words.now)) result }
+    ensures { IsSameAnswer step_of (version_line clean (map (λ word. word.now) words.now)) result }
 {
     if is_version(words, b"1") {
         versioned(clean, false)
@@ -62,7 +63,8 @@ fn version_line(clean: bool, words: &[&[u8]]) -> Result<HeadStep, HeaderCause>
 }
 
 fn versioned(clean: bool, wide: bool) -> Result<HeadStep, HeaderCause>
-    ensures { Tells step_of (if clean then Ok (Goes (Versioned wide)) else Err Malformed) result }
+    ensures { IsSameAnswer step_of
+        (if clean then Ok (Goes (Versioned wide)) else Err Malformed) result }
 {
     if clean {
         Ok(HeadStep::Goes(Stage::Versioned(wide)))
@@ -79,7 +81,7 @@ fn is_version(words: &[&[u8]], number: &[u8]) -> bool
 
 /// Reads `cpus N`.
 fn cpus_line(alloc: Global, wide: bool, words: &[&[u8]]) -> Result<HeadStep, ReadError>
-    ensures { Reads step_of (cpus_line wide (map (λ word. word.now) words.now)) result }
+    ensures { IsSameRead step_of (cpus_line wide (map (λ word. word.now) words.now)) result }
 {
     if words.len() != 2 {
         return Err(ReadError::Refused(HeaderCause::Malformed));
@@ -88,7 +90,7 @@ fn cpus_line(alloc: Global, wide: bool, words: &[&[u8]]) -> Result<HeadStep, Rea
 }
 
 fn cpus_of(alloc: Global, wide: bool, word: &[u8], number: &[u8]) -> Result<HeadStep, ReadError>
-    ensures { Reads step_of (cpus_line wide (word.now ∷ number.now ∷ [])) result }
+    ensures { IsSameRead step_of (cpus_line wide (word.now ∷ number.now ∷ [])) result }
 {
     if word != b"cpus".as_slice() {
         return Err(ReadError::Refused(HeaderCause::Malformed));
@@ -98,7 +100,7 @@ fn cpus_of(alloc: Global, wide: bool, word: &[u8], number: &[u8]) -> Result<Head
 }
 
 fn with_cpus(alloc: Global, wide: bool, cpus: u64) -> Result<HeadStep, ReadError>
-    ensures { Reads step_of (with_cpus wide cpus) result }
+    ensures { IsSameRead step_of (with_cpus wide cpus) result }
 {
     if 1 <= cpus && cpus <= most_cpus(wide) {
         Ok(HeadStep::Goes(Stage::Drafting(first_draft(alloc, wide, cpus as u32))))
@@ -133,7 +135,8 @@ fn first_draft(alloc: Global, wide: bool, cpus: u32) -> Draft
 /// Reads a line after `cpus`.
 fn draft_line(alloc: Global, draft: Draft, words: &[&[u8]]) -> Result<HeadStep, ReadError>
     requires { IsDraft (draft_of draft) }
-    ensures { Reads step_of (draft_line (draft_of draft) (map (λ word. word.now) words.now)) result }
+    ensures { IsSameRead step_of
+        (draft_line (draft_of draft) (map (λ word. word.now) words.now)) result }
 {
     match words {
         [] => Err(ReadError::Refused(HeaderCause::Malformed)),
@@ -149,7 +152,8 @@ fn verb_line(
     fields: &[&[u8]],
 ) -> Result<HeadStep, ReadError>
     requires { IsDraft (draft_of draft) }
-    ensures { Reads step_of (draft_line (draft_of draft) (word.now ∷ map (λ field. field.now) fields.now)) result }
+    ensures { IsSameRead step_of
+        (draft_line (draft_of draft) (word.now ∷ map (λ field. field.now) fields.now)) result }
 {
     if word == b"watermarks".as_slice() {
         if is_due(&draft, Section::Cpus) {
@@ -192,21 +196,23 @@ fn is_due(draft: &Draft, section: Section) -> bool
 }
 
 fn watermarks_line(draft: Draft, fields: &[&[u8]]) -> Result<HeadStep, ReadError>
-    ensures { Reads step_of (going (watermarks_row (draft_of draft) (map (λ field. field.now) fields.now))) result }
+    ensures { IsSameRead step_of
+        (going (watermarks_row (draft_of draft) (map (λ field. field.now) fields.now))) result }
 {
     let draft = watermarks_row(draft, fields)?;
     Ok(HeadStep::Goes(Stage::Drafting(draft)))
 }
 
 fn item_line(alloc: Global, draft: Draft, fields: &[&[u8]]) -> Result<HeadStep, ReadError>
-    ensures { Reads step_of (going (item_row (draft_of draft) (map (λ field. field.now) fields.now))) result }
+    ensures { IsSameRead step_of
+        (going (item_row (draft_of draft) (map (λ field. field.now) fields.now))) result }
 {
     let draft = item_row(alloc, draft, fields)?;
     Ok(HeadStep::Goes(Stage::Drafting(draft)))
 }
 
 fn zone_line(draft: Draft, fields: &[&[u8]]) -> Result<HeadStep, ReadError>
-    ensures { Reads step_of
+    ensures { IsSameRead step_of
         (going (any_zone_row (draft_of draft) draft.share (map (λ field. field.now) fields.now))) result }
 {
     let draft = any_zone_row(draft, fields)?;
@@ -215,14 +221,16 @@ fn zone_line(draft: Draft, fields: &[&[u8]]) -> Result<HeadStep, ReadError>
 
 fn base_line(draft: Draft, fields: &[&[u8]]) -> Result<HeadStep, ReadError>
     requires { IsDraft (draft_of draft) }
-    ensures { Reads step_of (going (base_row (draft_of draft) (map (λ field. field.now) fields.now))) result }
+    ensures { IsSameRead step_of
+        (going (base_row (draft_of draft) (map (λ field. field.now) fields.now))) result }
 {
     let draft = base_row(draft, fields)?;
     Ok(HeadStep::Goes(Stage::Drafting(draft)))
 }
 
 fn counter_line(alloc: Global, draft: Draft, fields: &[&[u8]]) -> Result<HeadStep, ReadError>
-    ensures { Reads step_of (going (counter_row (draft_of draft) (map (λ field. field.now) fields.now))) result }
+    ensures { IsSameRead step_of
+        (going (counter_row (draft_of draft) (map (λ field. field.now) fields.now))) result }
 {
     let draft = counter_row(alloc, draft, fields)?;
     Ok(HeadStep::Goes(Stage::Drafting(draft)))
@@ -230,7 +238,8 @@ fn counter_line(alloc: Global, draft: Draft, fields: &[&[u8]]) -> Result<HeadSte
 
 /// Reads `go`.
 fn go_row(draft: Draft, fields: &[&[u8]]) -> Result<HeadStep, ReadError>
-    ensures { Reads step_of (go_row (draft_of draft) (map (λ field. field.now) fields.now)) result }
+    ensures { IsSameRead step_of
+        (go_row (draft_of draft) (map (λ field. field.now) fields.now)) result }
 {
     if !fields.is_empty() {
         return Err(ReadError::Refused(HeaderCause::Malformed));

@@ -1,6 +1,7 @@
 ghost use Rattle.std.specs.Prelude.{◌≡◌, ◌≤◌, [], ◌∷◌, map, IfOk};
-ghost use Rattle.vms_header.specs.Sections.{number_in, any_number, class_field, kind_field, unit_field, value_field};
-ghost use Rattle.vms_header.specs.Values.{share_words, zone_name, zone_words, unmarked_zone_words, zone_size};
+ghost use Rattle.vms_header.specs.Sections.{header_number, any_number, class_field, kind_field, unit_field};
+ghost use Rattle.vms_header.specs.Sections.{value_field};
+ghost use Rattle.vms_header.specs.Values.{share_words, zone_name, read_zone, unmarked_zone_words, zone_size};
 
 use crate::HeaderCause;
 use crate::drafts::{Share, Zone};
@@ -29,7 +30,7 @@ fn share_of(kbytes: &[u8], scale: &[u8]) -> Result<Share, HeaderCause>
 
 /// Reads `NODE KIND MANAGED MIN LOW HIGH`.
 pub(crate) fn zone_words(fields: &[&[u8]]) -> Result<Zone, HeaderCause>
-    ensures { result ≡ zone_words (map (λ field. field.now) fields.now) }
+    ensures { result ≡ read_zone (map (λ field. field.now) fields.now) }
 {
     if fields.len() != 6 {
         return Err(HeaderCause::Malformed);
@@ -47,7 +48,8 @@ fn zone_of(
     low: &[u8],
     high: &[u8],
 ) -> Result<Zone, HeaderCause>
-    ensures { result ≡ zone_words (node.now ∷ kind.now ∷ managed.now ∷ min.now ∷ low.now ∷ high.now ∷ []) }
+    ensures { result
+        ≡ read_zone (node.now ∷ kind.now ∷ managed.now ∷ min.now ∷ low.now ∷ high.now ∷ []) }
 {
     Ok(Zone {
         name: zone_name(node, kind)?,
@@ -101,7 +103,7 @@ fn zone_size(managed: &[u8], min: &[u8], low: &[u8], high: &[u8]) -> Result<Zone
 
 /// A number from `least` to `most`.
 fn number_in(least: u64, most: u64, word: &[u8]) -> Result<u64, HeaderCause>
-    ensures value { result ≡ number_in least most word.now }
+    ensures value { result ≡ header_number least most word.now }
     ensures within { IfOk result (λ number. (least ≤ number) × (number ≤ most)) }
 {
     read_within(word, least, most).ok_or(HeaderCause::BadNumber)

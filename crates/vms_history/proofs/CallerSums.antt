@@ -2,10 +2,7 @@
 use Rattle.std.proofs.Common.{◌≡◌, ℕ, ◌<◌, List, [], ◌∷◌, ℤ, pos, ◌+ℤ◌, ◌-ℤ◌, refl, ap, sym, arith}
 use Rattle.std.proofs.lemmas.Int.{ints}
 use Rattle.vms_history.specs.declared.events.Event.{Event}
-use Rattle.vms_history.specs.Events.{own, total}
-use Rattle.vms_history.specs.Sums.{sum_below}
-use Rattle.vms_history.specs.Passes.{begun_in}
-use Rattle.vms_history.specs.Legal.{Machine, IsLegal}
+use Rattle.vms_history.specs.Common.{own, total, sum_below, begun_in, Machine, IsLegal}
 use Rattle.vms_history.proofs.Own.{own-mine, own-others}
 use Rattle.vms_history.proofs.Prefixes.{legal_before}
 use Rattle.vms_history.proofs.PassLaws.{caller_is_below}

@@ -3,8 +3,8 @@ use Rattle.std.proofs.Common.{◌≡◌, ℕ, ◌*◌, ◌<◌, ◌&&◌, Bool, 
 use Rattle.std.proofs.Common.{eq-eqb, eqb-true, get_or-set_same, get_or-set_other, if◌then◌else◌, nat_eq}
 use Rattle.std.proofs.Math.ListN.{set}
 use Rattle.std.proofs.lemmas.Bool.{eqb-false, ne_eqb}
-use Rattle.vms_base.specs.Places.{cell}
-use Rattle.vms_base.proofs.Cells.{cell-injective, cell-lt}
+use Rattle.vms_base.specs.Common.{cell}
+use Rattle.vms_base.proofs.Common.{cell-injective, cell-lt}
 
 module _ {X : Type 0} where
   pub get_or-set : (xs : List X) (i j : ℕ) (v d : X) → i < length xs

@@ -3,7 +3,7 @@
 use Rattle.std.proofs.Common.{◌≡◌, ℕ, zero, suc, ◌+◌, ◌*◌, ◌<◌, ◌≤◌, ℤ, pos, unsigned_abs, refl, ap, arith, ⊎_elim}
 use Rattle.std.proofs.lemmas.Bool.{cases_eq}
 use Rattle.std.proofs.lemmas.Int.{ints}
-use Rattle.vms_history.specs.Sums.{sum_below, count_below, largest_below}
+use Rattle.vms_history.specs.Common.{sum_below, count_below, largest_below}
 use Rattle.vms_history.proofs.SumBounds.{sum_below-le, sum_below-size}
 
 pub pos-count_below : (g : ℕ → ℕ) (n : ℕ) → pos (count_below g n) ≡ sum_below (λ k. pos (g k)) n

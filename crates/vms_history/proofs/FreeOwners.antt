@@ -3,9 +3,7 @@
 use Rattle.std.proofs.Common.{◌≡◌, ◌≢◌, List, [], ◌∷◌, ◌++◌, Option, ap, sym, subst, ◌∙◌, append_assoc}
 use Rattle.vms_base.specs.declared.ids.CpuId.{CpuId}
 use Rattle.vms_history.specs.declared.events.Event.{Event}
-use Rattle.vms_history.specs.Events.{own}
-use Rattle.vms_history.specs.Legal.{Machine, IsLegal}
-use Rattle.vms_history.specs.Passes.{lives, owner, owner_in, IsFree}
+use Rattle.vms_history.specs.Common.{own, Machine, IsLegal, lives, owner, owner_in, IsFree}
 use Rattle.vms_history.proofs.Own.{own-none, own-append}
 use Rattle.vms_history.proofs.PassLaws.{caller_lives}
 use Rattle.vms_history.proofs.Prefixes.{legal_before, acts_of, prefix_is_legal}

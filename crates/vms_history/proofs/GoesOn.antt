@@ -2,9 +2,7 @@
 -- leave it be.
 use Rattle.std.proofs.Common.{◌≡◌, ℕ, ◌≤◌, nat_eq, if◌then◌else◌, Bool, true, false, List, [], ◌∷◌, ◌++◌, arith}
 use Rattle.vms_history.specs.declared.events.Event.{Event}
-use Rattle.vms_history.specs.Events.{own}
-use Rattle.vms_history.specs.Legal.{Machine, IsLegal}
-use Rattle.vms_history.specs.Passes.{begun_in, lives_in, owner_in}
+use Rattle.vms_history.specs.Common.{own, Machine, IsLegal, begun_in, lives_in, owner_in}
 use Rattle.vms_history.proofs.Prefixes.{legal_before}
 use Rattle.vms_history.proofs.PassLaws.{begun_in-append, lives_in-before, owner_in-append}
 

@@ -13,3 +13,5 @@ pub mod CountLemmas
 pub mod CallerSums
 pub mod Cells
 pub mod TakenOnce
+pub mod InRow
+pub mod Common

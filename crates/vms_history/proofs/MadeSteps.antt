@@ -1,10 +1,8 @@
 -- For other crates too: how "goes on without me" and "has made these steps" add up.
 use Rattle.std.proofs.Common.{◌≡◌, ◌≢◌, ℕ, ◌<◌, ◌≤◌, true, List, [], ◌∷◌, ◌++◌, refl, ap, sym, ◌∙◌, subst, arith}
 use Rattle.vms_history.specs.declared.events.Event.{Event}
-use Rattle.vms_history.specs.Events.{own, after}
-use Rattle.vms_history.specs.Legal.{Machine, IsLegal}
-use Rattle.vms_history.specs.PassSteps.{GoesOnWithout, HasMade, MayMake, MayBegin}
-use Rattle.vms_history.specs.Passes.{begun_in, lives_in, owner_in}
+use Rattle.vms_history.specs.Common.{own, after, Machine, IsLegal, GoesOnWithout, HasMade, MayMake, MayBegin, begun_in}
+use Rattle.vms_history.specs.Common.{lives_in, owner_in}
 use Rattle.vms_history.proofs.Own.{own-mine, after-steps, Extends-same, Extends-both}
 use Rattle.vms_history.proofs.PassLaws.{live_is_given, lives_in-others, owner_in-append}
 use Rattle.vms_history.proofs.Prefixes.{prefix_is_legal}

@@ -1,10 +1,9 @@
 -- For other crates too: a caller's own events, each with the history that stood before it.
-use Rattle.std.proofs.Common.{◌≡◌, ℕ, ◌==◌, cond, Bool, true, false, List, [], ◌∷◌, ◌++◌}
-use Rattle.std.proofs.Common.{map, All, refl, ap, sym, subst, ◌∙◌, append_assoc, eq-eqb, eqb-true}
+use Rattle.std.proofs.Common.{◌≡◌, ℕ, ◌==◌, cond, Bool, true, false, List, [], ◌∷◌, ◌++◌, map, All, refl, ap, sym}
+use Rattle.std.proofs.Common.{subst, ◌∙◌, append_assoc, eq-eqb, eqb-true}
 use Rattle.std.proofs.lemmas.List.Elements.{All-nil, All-cons, All-weaker}
 use Rattle.vms_history.specs.declared.events.Event.{Event}
-use Rattle.vms_history.specs.Events.{Extends, own, own_at, after, NewestOwn}
-use Rattle.vms_history.specs.Legal.{Machine, IsLegal, MadeAt}
+use Rattle.vms_history.specs.Common.{Extends, own, own_at, after, NewestOwn, Machine, IsLegal, MadeAt}
 use Rattle.vms_history.proofs.Own.{Extends-same, Extends-both, own-append, own-on_top, after-append, after-steps}
 use Rattle.vms_history.proofs.Prefixes.{legal_before, prefix_is_legal}
 

@@ -1,12 +1,11 @@
 -- For other crates too: what legal histories say of the passes that own a CPU.
-use Rattle.std.proofs.Common.{◌≡◌, ℕ, ◌<◌, ◌≤◌, ◌==◌, cond, Bool, true, false, List}
-use Rattle.std.proofs.Common.{[], ◌∷◌, Some, inl, inr, sym, ap, subst, ◌∙◌, arith}
+use Rattle.std.proofs.Common.{◌≡◌, ℕ, ◌<◌, ◌≤◌, ◌==◌, cond, Bool, true, false, List, [], ◌∷◌, Some, inl, inr, sym, ap}
+use Rattle.std.proofs.Common.{subst, ◌∙◌, arith}
 use Rattle.std.proofs.lemmas.Bool.{cases_lt}
 use Rattle.vms_base.specs.declared.ids.CpuId.{CpuId}
 use Rattle.vms_history.specs.declared.events.Event.{Event}
-use Rattle.vms_history.specs.Passes.{Role, begun_in, lives_in, owner_after, owner_in}
-use Rattle.vms_history.specs.Passes.Role.{Works, Begins, Ends}
-use Rattle.vms_history.specs.Legal.{Machine, IsLegal, Acts}
+use Rattle.vms_history.specs.Common.{Role, begun_in, lives_in, owner_after, owner_in, Works, Begins, Ends, Machine}
+use Rattle.vms_history.specs.Common.{IsLegal, Acts}
 use Rattle.vms_history.proofs.Prefixes.{legal_before, acts_of}
 use Rattle.vms_history.proofs.PassLaws.{owner_in-not_given, owner_in-role, owner_acts_alone}
 

@@ -2,11 +2,8 @@
 use Rattle.std.proofs.Common.{◌≡◌, ◌≢◌, ℕ, suc, ◌<◌, ◌≤◌, ◌==◌, cond, Bool, true, false, true≢false, List, [], ◌∷◌}
 use Rattle.std.proofs.Common.{◌++◌, None, ◌⊎◌, inl, inr, ⊎_elim, refl, ap, sym, subst, ◌∙◌, arith, ne_eqb, eqb-true}
 use Rattle.vms_history.specs.declared.events.Event.{Event}
-use Rattle.vms_history.specs.Events.{own}
-use Rattle.vms_history.specs.Passes.{Role, begun, begun_after, begun_in, lives}
-use Rattle.vms_history.specs.Passes.{lives_after, lives_in, owner, owner_after, owner_in}
-use Rattle.vms_history.specs.Passes.Role.{Works, Begins, Ends}
-use Rattle.vms_history.specs.Legal.{Machine, IsLegal, Acts}
+use Rattle.vms_history.specs.Common.{own, Role, begun, begun_after, begun_in, lives, lives_after, lives_in, owner}
+use Rattle.vms_history.specs.Common.{owner_after, owner_in, Works, Begins, Ends, Machine, IsLegal, Acts}
 use Rattle.vms_history.proofs.Own.{own-mine, own-others, own-append}
 use Rattle.vms_history.proofs.Prefixes.{legal_before, acts_of}
 

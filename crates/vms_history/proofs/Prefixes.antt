@@ -1,11 +1,9 @@
 -- For other crates too: what a legal history says of its newest event and of its beginnings, and what every step keeps.
-use Rattle.std.proofs.Common.{◌≡◌, ℕ, nat_eq, if◌then◌else◌, Bool, true, false, List}
-use Rattle.std.proofs.Common.{[], ◌∷◌, ◌++◌, Option, refl, subst, eqb-true}
+use Rattle.std.proofs.Common.{◌≡◌, ℕ, nat_eq, if◌then◌else◌, Bool, true, false, List, [], ◌∷◌, ◌++◌, Option, refl}
+use Rattle.std.proofs.Common.{subst, eqb-true}
 use Rattle.vms_base.specs.declared.ids.CpuId.{CpuId}
 use Rattle.vms_history.specs.declared.events.Event.{Event}
-use Rattle.vms_history.specs.Events.{own}
-use Rattle.vms_history.specs.Passes.{owner_in}
-use Rattle.vms_history.specs.Legal.{Machine, IsLegal, Acts, state_after}
+use Rattle.vms_history.specs.Common.{own, owner_in, Machine, IsLegal, Acts, state_after}
 
 module _ {F K S : Type 0} (machine : Machine F K S) (facts : F) where
   pub legal_before : (e : Event K) (h : List (Event K)) → IsLegal machine facts (e ∷ h) → IsLegal machine facts h

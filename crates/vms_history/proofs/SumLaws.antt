@@ -5,8 +5,7 @@ use Rattle.std.proofs.Math.Bool.{and-false}
 use Rattle.std.proofs.lemmas.Int.{ints}
 use Rattle.std.proofs.lemmas.Bool.Decides.{nat_tests}
 use Rattle.vms_history.specs.declared.events.Event.{Event}
-use Rattle.vms_history.specs.Events.{total}
-use Rattle.vms_history.specs.Sums.{sum_below}
+use Rattle.vms_history.specs.Common.{total, sum_below}
 
 pub total-append : {K : Type 0} (measure : K → ℤ) (m h : List (Event K))
     → total measure (m ++ h) ≡ total measure m +ℤ total measure h

@@ -1,12 +1,16 @@
 //! Histories of the steps that several callers make on one table, and the laws that hold of every legal one.
 //!
 //! A table says what its steps mean by a record, its machine. What the passes may do, the state after a history and
-//! the laws on passes, prefixes and sums stand here once, for every table.
+//! the laws on passes, prefixes and sums stand here once, for every table, and what a caller makes that meets no
+//! other: its steps follow one another in a row, and each tells what stands.
 #![tactic(auto)]
 
+mod alone;
 mod events;
 mod laws;
+mod state_tables;
 
+pub use alone::steps_go_on_alone;
 pub use events::Event;
 pub use laws::{
     Table, acting_goes_by_own_events, ended_is_over, free_cpus_are_left_alone, histories_extend,
@@ -16,3 +20,4 @@ pub use laws::{
     prefix_is_legal, quiet_steps_leave, role_changes_passes, steps_in_a_row, sum_goes_by_values,
     total_adds_up, total_by_caller, who_may_act,
 };
+pub use state_tables::StateTable;

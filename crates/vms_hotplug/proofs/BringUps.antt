@@ -1,17 +1,11 @@
 -- A world in which a CPU came online stays one of its header.
 use Rattle.std.proofs.Common.{◌≡◌, ℕ, List, sym, subst}
 use Rattle.std.proofs.Math.ListN.{set}
-use Rattle.vms_base.specs.declared.headers.Header.{Header}
-use Rattle.vms_base.specs.declared.kinds.CpuState.{CpuState}
+use Rattle.vms_world.specs.Common.{Header, CpuState, ZoneSize, IsCpu, GivesThresholds, State, AreAnswers, count_online}
+use Rattle.vms_world.specs.Common.{refreshed, IsWorldOf}
 use Rattle.vms_base.specs.declared.kinds.CpuState.TheVariants.{Online}
-use Rattle.vms_base.specs.declared.kinds.ZoneSize.{ZoneSize}
-use Rattle.vms_base.specs.Places.{IsCpu}
-use Rattle.vms_base.specs.Thresholds.{GivesThresholds}
-use Rattle.vms_core.specs.declared.states.State.{State}
 use Rattle.vms_world.specs.declared.worlds.World.{World}
-use Rattle.vms_world.specs.Refreshes.{AreAnswers, count_online, refreshed}
-use Rattle.vms_world.specs.Worlds.{IsWorldOf}
-use Rattle.vms_world.proofs.BroughtUp.{IsWorldOf-brought_up}
+use Rattle.vms_world.proofs.Common.{IsWorldOf-brought_up}
 
 module _ (header : Header) (w : World) (c : ℕ) (of : IsWorldOf header w) (c_in : IsCpu header.layout c)
     (answers : ZoneSize → ℕ → ℕ → Type 0) (gives : GivesThresholds answers) (next : State) where

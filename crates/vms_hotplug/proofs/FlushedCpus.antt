@@ -1,19 +1,15 @@
 -- A flush, CPU by CPU.
-use Rattle.std.proofs.Common.{◌≡◌, ℕ, suc, ◌+◌, ◌*◌, ◌^◌, ◌≤◌, ◌&&◌, nat_eq, nat_lt, Bool, true, false, ℤ, pos}
-use Rattle.std.proofs.Common.{◌+ℤ◌, unsigned_abs, get_or, if◌then◌else◌, refl, sym, ap, subst, ◌∙◌, arith}
+use Rattle.std.proofs.Common.{◌≡◌, ℕ, suc, ◌+◌, ◌*◌, ◌^◌, ◌≤◌, ◌&&◌, nat_eq, nat_lt, Bool, true, false, ℤ, pos, ◌+ℤ◌}
+use Rattle.std.proofs.Common.{unsigned_abs, get_or, if◌then◌else◌, refl, sym, ap, subst, ◌∙◌, arith}
 use Rattle.std.proofs.lemmas.Bool.Decides.{nat_tests}
 use Rattle.std.proofs.lemmas.Int.{ints}
-use Rattle.vms_base.specs.Cpus.{is_online}
-use Rattle.vms_base.specs.Places.{Shape, IsLayout, IsCounter, IsCpu, IsItem, cell, counter_count, item_count, item_of}
-use Rattle.vms_base.specs.Thresholds.{most_threshold}
-use Rattle.vms_history.specs.Sums.{sum_below}
-use Rattle.vms_history.proofs.SumLaws.{sum_below-same, sum_below-sum, sum_below-zeros}
-use Rattle.vms_core.specs.declared.states.State.{State}
-use Rattle.vms_core.specs.Cells.{HasShape, cpu_at, diff_at, system_at, value_at}
-use Rattle.vms_world.specs.Boundaries.{folded_at, folded_of, folded_of_item, flushed_pages}
-use Rattle.vms_world.proofs.Flushes.{if-sum}
-use Rattle.vms_world.proofs.ListedReads.{is_listed_by_cpu, is_listed}
-use Rattle.vms_hotplug.specs.Folding.{FoldsCpu, HasRoom}
+use Rattle.vms_world.specs.Common.{is_online, Shape, IsLayout, IsCounter, IsCpu, IsItem, cell, counter_count}
+use Rattle.vms_world.specs.Common.{item_count, item_of, most_threshold, sum_below, State, cpu_at, diff_at, system_at}
+use Rattle.vms_world.specs.Common.{value_at, folded_at, folded_of, folded_of_item, flushed_pages}
+use Rattle.vms_history.proofs.Common.{sum_below-same, sum_below-sum, sum_below-zeros}
+use Rattle.vms_core.specs.Cells.{HasShape}
+use Rattle.vms_world.proofs.Common.{if-sum, is_listed_by_cpu, is_listed}
+use Rattle.vms_hotplug.specs.Common.{FlushesCpu, IsSmallState}
 use Rattle.vms_hotplug.proofs.Folds.{parts-most}
 
 module _ (shape : Shape) (s : State) where
@@ -27,14 +23,14 @@ module _ (shape : Shape) (s : State) where
   -- the online CPUs below n are folded
   pub record FlushesBelow (n : ℕ) (now : State) : Type 0 where
     pub rest : now ≡ record s { place = now.place; system = now.system; diff = now.diff }
-    pub room : HasRoom shape (2 ^ 60 + n * 64000) now
+    pub room : IsSmallState shape (2 ^ 60 + n * 64000) now
     pub values : (k : ℕ) → IsCounter shape k → value_at now k ≡ value_at s k +ℤ folded_below n k
     pub systems : (i : ℕ) → IsItem shape i
         → system_at now i ≡ system_at s i +ℤ sum_below (of_item (folded_below n) i) (counter_count shape)
     pub diffs : (c k : ℕ) → IsCpu shape c → IsCounter shape k
         → diff_at now c k ≡ (if is_online (cpu_at s c) && nat_lt c n then pos 0 else diff_at s c k)
 
-  pub FlushesBelow-none : HasRoom shape (2 ^ 60) s → FlushesBelow 0 s
+  pub FlushesBelow-none : IsSmallState shape (2 ^ 60) s → FlushesBelow 0 s
   FlushesBelow-none room = record {
     rest = refl;
     room = room;
@@ -104,7 +100,7 @@ module _ (shape : Shape) (s : State) where
             absurd cc
 
     -- CPU n is online and folded
-    module _ (layout : IsLayout shape) (n_in : IsCpu shape n) (next : State) (folds : FoldsCpu shape n now next)
+    module _ (layout : IsLayout shape) (n_in : IsCpu shape n) (next : State) (folds : FlushesCpu shape n now next)
         (online : is_online (cpu_at s n) ≡ true) where
       folded-is : (k : ℕ) → IsCounter shape k → diff_at now n k ≡ folded_at s n k
       folded-is k k_in =
@@ -154,7 +150,7 @@ module _ (shape : Shape) (s : State) where
           by false other true on false less false up was = was
           by false other true on false less true up was = absurd (grind (arith, nat_tests))
 
-      room-next : HasRoom shape (2 ^ 60 + (n + 1) * 64000) next
+      room-next : IsSmallState shape (2 ^ 60 + (n + 1) * 64000) next
       room-next = record {
         shaped = folds.shaped;
         diffs = λ c k c_in k_in. subst (λ (z : ℤ). unsigned_abs z ≤ most_threshold) (sym (folds.diffs c k c_in k_in))

@@ -1,19 +1,15 @@
 -- A fold of one CPU, counter by counter.
-use Rattle.std.proofs.Common.{◌≡◌, ℕ, suc, ◌+◌, ◌<◌, ◌≤◌, ◌&&◌, nat_eq, nat_lt, Bool, true, false, ℤ, pos}
-use Rattle.std.proofs.Common.{◌+ℤ◌, ◌≤ℤ◌, unsigned_abs, length, get_or, if◌then◌else◌, refl, sym, ap, subst, ◌∙◌, arith}
-use Rattle.std.proofs.Common.{length-set}
+use Rattle.std.proofs.Common.{◌≡◌, ℕ, suc, ◌+◌, ◌<◌, ◌≤◌, ◌&&◌, nat_eq, nat_lt, Bool, true, false, ℤ, pos, ◌+ℤ◌, ◌≤ℤ◌}
+use Rattle.std.proofs.Common.{unsigned_abs, length, get_or, if◌then◌else◌, refl, sym, ap, subst, ◌∙◌, arith, length-set}
 use Rattle.std.proofs.lemmas.Bool.Decides.{nat_tests}
 use Rattle.std.proofs.lemmas.Int.{ints}
-use Rattle.vms_base.specs.Places.{Shape, IsLayout, IsCounter, IsCpu, IsItem, cell, counter_count, item_of}
-use Rattle.vms_base.specs.Thresholds.{most_threshold}
-use Rattle.vms_base.proofs.Counts.{counter_count-most, item_of-lt}
-use Rattle.vms_history.specs.Sums.{sum_below}
-use Rattle.vms_history.proofs.Cells.{get_or-set, get_or-set_cell}
-use Rattle.vms_history.proofs.SumBounds.{sum_below-most, sum_below-size}
-use Rattle.vms_core.specs.declared.states.State.{State}
-use Rattle.vms_core.specs.Cells.{HasShape, diff_at, system_at, value_at, with_diff}
-use Rattle.vms_core.specs.ChangedStates.{with_carried}
-use Rattle.vms_hotplug.specs.Folding.{FoldsCpu, HasRoom}
+use Rattle.vms_world.specs.Common.{Shape, IsLayout, IsCounter, IsCpu, IsItem, cell, counter_count, item_of}
+use Rattle.vms_world.specs.Common.{most_threshold, sum_below, State, diff_at, system_at, value_at, with_diff}
+use Rattle.vms_world.specs.Common.{with_carried}
+use Rattle.vms_base.proofs.Common.{counter_count-most, item_of-lt}
+use Rattle.vms_history.proofs.Common.{get_or-set, get_or-set_cell, sum_below-most, sum_below-size}
+use Rattle.vms_core.specs.Cells.{HasShape}
+use Rattle.vms_hotplug.specs.Common.{FlushesCpu, IsSmallState}
 
 module _ (shape : Shape) (c : ℕ) (s : State) where
   -- what counter k adds to item i
@@ -43,11 +39,11 @@ module _ (shape : Shape) (c : ℕ) (s : State) where
         by true z few = omega (arith, ints)
         by false z few = omega (arith, ints)
 
-    module _ (most : ℕ) (room : HasRoom shape most s) (m : ℕ) (m_in : IsCounter shape m) (now : State)
+    module _ (most : ℕ) (room : IsSmallState shape most s) (m : ℕ) (m_in : IsCounter shape m) (now : State)
         (so_far : FoldsBelow m now) where
       -- there is room for a counter more
-      pub HasRoom-folded : HasRoom shape (most + 64000) now
-      HasRoom-folded = record {
+      pub IsSmallState-folded : IsSmallState shape (most + 64000) now
+      IsSmallState-folded = record {
         shaped = so_far.shaped;
         diffs = λ d k d_in k_in. subst (λ (z : ℤ). unsigned_abs z ≤ most_threshold) (sym (so_far.diffs d k d_in k_in))
             (zero_or (nat_eq c d && nat_lt k m) (diff_at s d k) (room.diffs d k d_in k_in));
@@ -189,8 +185,8 @@ module _ (shape : Shape) (c : ℕ) (s : State) where
         by true z = refl
         by false z = refl
 
-    pub FoldsCpu-all : (now : State) → FoldsBelow (counter_count shape) now → FoldsCpu shape c s now
-    FoldsCpu-all now so_far = record {
+    pub FlushesCpu-all : (now : State) → FoldsBelow (counter_count shape) now → FlushesCpu shape c s now
+    FlushesCpu-all now so_far = record {
       rest = so_far.rest;
       shaped = so_far.shaped;
       values = λ k k_in. let all : nat_lt k (counter_count shape) ≡ true = grind (arith, nat_tests) in

@@ -5,11 +5,8 @@ use Rattle.std.proofs.Common.{length-set, get_or-set_same, get_or-set_other}
 use Rattle.std.proofs.Math.ListN.{set}
 use Rattle.std.proofs.lemmas.Bool.Decides.{nat_tests}
 use Rattle.std.proofs.lemmas.Int.{ints}
-use Rattle.vms_base.specs.declared.headers.Header.{Header}
-use Rattle.vms_base.specs.Places.{IsLayout, item_of, item_count}
-use Rattle.vms_base.proofs.Counts.{item_of-lt}
-use Rattle.vms_history.specs.Sums.{sum_below}
-use Rattle.vms_world.specs.FirstWorlds.{base_of}
+use Rattle.vms_world.specs.Common.{Header, IsLayout, item_of, item_count, sum_below, base_of}
+use Rattle.vms_base.proofs.Common.{item_of-lt}
 
 -- each item has the bases of its counters below n
 pub record HasBases (header : Header) (n : ℕ) (values : List ℤ) : Type 0 where

@@ -1,18 +1,12 @@
 -- The thresholds that are set are those of the definition, and marks may be set under them.
 use Rattle.std.proofs.Common.{◌≡◌, ℕ, ◌≤◌, All, List, length, get_or, if◌then◌else◌, refl, sym, ap, subst, ◌∙◌}
-use Rattle.vms_base.specs.declared.headers.Header.{Header}
-use Rattle.vms_base.specs.Cpus.{is_online, state_at}
-use Rattle.vms_base.specs.Places.{Shape, IsLayout, cell, place_count}
-use Rattle.vms_base.specs.Sizes.{IsValidSize}
-use Rattle.vms_core.specs.declared.states.State.{State}
-use Rattle.vms_core.proofs.PlainData.{places_of-shaped}
-use Rattle.vms_world.specs.Listed.{listed_by_cpu}
-use Rattle.vms_world.specs.Refreshes.{MayRefresh, count_online, place_threshold, refreshed, with_marks}
-use Rattle.vms_world.specs.Refreshes.{with_thresholds}
-use Rattle.vms_world.proofs.Answers.{count_online-least, count_online-most}
-use Rattle.vms_world.proofs.PlaceThresholds.{AreThresholds}
-use Rattle.vms_world.proofs.RefreshedStates.{shaped-refreshed, threshold_most}
-use Rattle.vms_hotplug.specs.Settings.{MayMark}
+use Rattle.vms_world.specs.Common.{Header, is_online, state_at, Shape, IsLayout, cell, place_count, IsValidSize, State}
+use Rattle.vms_world.specs.Common.{listed_by_cpu, MayRefresh, count_online, place_threshold, refreshed, with_marks}
+use Rattle.vms_world.specs.Common.{with_thresholds}
+use Rattle.vms_core.proofs.Common.{places_of-shaped}
+use Rattle.vms_world.proofs.Common.{count_online-least, count_online-most, AreThresholds, shaped-refreshed}
+use Rattle.vms_world.proofs.Common.{threshold_most}
+use Rattle.vms_hotplug.specs.Common.{MayMark}
 
 -- the thresholds by CPU and place where online CPUs got those of these zones
 abbrev pub rows_of : Shape → State → List ℕ → List ℕ

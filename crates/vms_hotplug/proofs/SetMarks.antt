@@ -3,11 +3,9 @@ use Rattle.std.proofs.Common.{◌≡◌, ◌≢◌, ℕ, ◌+◌, ◌<◌, List,
 use Rattle.std.proofs.Common.{length-set, get_or-set_same, get_or-set_other}
 use Rattle.std.proofs.Math.ListN.{set}
 use Rattle.std.proofs.lemmas.Bool.{cases_eq}
-use Rattle.vms_base.specs.declared.headers.Header.{Header}
-use Rattle.vms_core.specs.declared.states.State.{State}
-use Rattle.vms_world.specs.Refreshes.{with_marks, zone_mark}
-use Rattle.vms_world.proofs.ListedReads.{is_listed}
-use Rattle.vms_hotplug.specs.Settings.{MayMark}
+use Rattle.vms_world.specs.Common.{Header, State, with_marks, zone_mark}
+use Rattle.vms_world.proofs.Common.{is_listed}
+use Rattle.vms_hotplug.specs.Common.{MayMark}
 
 module _ (header : Header) (zones : List ℕ) (s : State) where
   -- the zones below n have their marks, and all else stays

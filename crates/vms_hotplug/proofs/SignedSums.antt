@@ -3,10 +3,7 @@ use Rattle.std.proofs.Common.{◌≡◌, ℕ, ◌^◌, ◌≤◌, ℤ, pos, ◌+
 use Rattle.std.proofs.Common.{refl, ap, ◌∙◌, arith}
 use Rattle.std.proofs.Math.ListN.{set}
 use Rattle.std.proofs.lemmas.Int.{ints, to_z-of_z}
-use Rattle.vms_base.specs.Places.{Shape, cell, item_of}
-use Rattle.vms_core.specs.declared.states.State.{State}
-use Rattle.vms_core.specs.Cells.{diff_at, system_at, value_at, with_diff}
-use Rattle.vms_core.specs.ChangedStates.{with_carried}
+use Rattle.vms_world.specs.Common.{Shape, cell, item_of, State, diff_at, system_at, value_at, with_diff, with_carried}
 
 pub same_sum : (v d : ℤ) → unsigned_abs v ≤ 2 ^ 61 → unsigned_abs d ≤ 125
     → to_z w64 (of_z w64 (to_z w64 (of_z w64 v) +ℤ to_z w64 (of_z w64 d))) ≡ v +ℤ d

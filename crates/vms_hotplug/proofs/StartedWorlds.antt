@@ -1,17 +1,10 @@
 -- A refresh of the bare page counters, with nothing counted, is the world that a run begins with.
 use Rattle.std.proofs.Common.{◌≡◌, ℕ, List, sym, ap, subst}
 use Rattle.std.specs.Prelude.{Result, Ok, Err, IfOk}
-use Rattle.vms_base.specs.declared.failures.Memory.{Memory}
-use Rattle.vms_base.specs.declared.headers.Header.{Header}
-use Rattle.vms_base.specs.declared.kinds.ZoneSize.{ZoneSize}
-use Rattle.vms_base.specs.Headers.{IsHeader}
-use Rattle.vms_base.specs.Thresholds.{GivesThresholds}
-use Rattle.vms_core.specs.declared.states.State.{State}
+use Rattle.vms_world.specs.Common.{Memory, Header, ZoneSize, IsHeader, GivesThresholds, State, AreAnswers, MayRefresh}
+use Rattle.vms_world.specs.Common.{count_online, refreshed, bare_pages, started, with_nothing_counted, IsWorldOf}
 use Rattle.vms_world.specs.declared.worlds.World.{World}
-use Rattle.vms_world.specs.Refreshes.{AreAnswers, MayRefresh, count_online, refreshed}
-use Rattle.vms_world.specs.FirstWorlds.{bare_pages, started, with_nothing_counted}
-use Rattle.vms_world.specs.Worlds.{IsWorldOf}
-use Rattle.vms_world.proofs.FirstWorlds.{IsWorldOf-start, MayRefresh-bare, count_online-replicate}
+use Rattle.vms_world.proofs.Common.{IsWorldOf-start, MayRefresh-bare, count_online-replicate}
 
 -- what holds of a world holds of a result that is this world
 IfOk-is : (P : World → Type 0) (w : World) → P w → (result : Result World Memory) → IfOk result (λ x. x ≡ w)

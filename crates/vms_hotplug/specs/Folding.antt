@@ -1,20 +1,18 @@
 -- A fold of one CPU.
 use Rattle.std.specs.Prelude.{◌≡◌, ℕ, ◌≤◌, nat_eq, ◌+ℤ◌, pos, unsigned_abs, if◌then◌else◌}
-use Rattle.vms_base.specs.Places.{Shape, IsCounter, IsCpu, IsItem, counter_count, item_of}
-use Rattle.vms_base.specs.Thresholds.{most_threshold}
-use Rattle.vms_history.specs.Sums.{sum_below}
-use Rattle.vms_core.specs.declared.states.State.{State}
-use Rattle.vms_core.specs.Cells.{HasShape, diff_at, system_at, value_at}
+use Rattle.vms_world.specs.Common.{Shape, IsCounter, IsCpu, IsItem, counter_count, item_of, most_threshold, sum_below}
+use Rattle.vms_world.specs.Common.{State, diff_at, system_at, value_at}
+use Rattle.vms_core.specs.Cells.{HasShape}
 
 -- the lists are those of the layout, differentials are small, and no global or system-wide value is larger than `most`
-pub record HasRoom (shape : Shape) (most : ℕ) (s : State) : Type 0 where
+pub record IsSmallState (shape : Shape) (most : ℕ) (s : State) : Type 0 where
   pub shaped : HasShape shape s
   pub diffs : (c k : ℕ) → IsCpu shape c → IsCounter shape k → unsigned_abs (diff_at s c k) ≤ most_threshold
   pub values : (k : ℕ) → IsCounter shape k → unsigned_abs (value_at s k) ≤ most
   pub systems : (i : ℕ) → IsItem shape i → unsigned_abs (system_at s i) ≤ most
 
 -- the differentials of CPU c are added to the global values and to the system-wide ones, and are 0; all else stays
-pub record FoldsCpu (shape : Shape) (c : ℕ) (s next : State) : Type 0 where
+pub record FlushesCpu (shape : Shape) (c : ℕ) (s next : State) : Type 0 where
   pub rest : next ≡ record s { place = next.place; system = next.system; diff = next.diff }
   pub shaped : HasShape shape next
   pub values : (k : ℕ) → IsCounter shape k → value_at next k ≡ value_at s k +ℤ diff_at s c k

@@ -1,14 +1,8 @@
 -- What it takes to set thresholds and marks.
 use Rattle.std.specs.Prelude.{◌≡◌, ◌≢◌, ℕ, ◌<◌, ◌≤◌, List, length, slice_index_or, if◌then◌else◌, unsigned_abs, All}
-use Rattle.vms_base.specs.declared.headers.Header.{Header}
-use Rattle.vms_base.specs.declared.kinds.CpuState.{CpuState}
-use Rattle.vms_base.specs.Cpus.{is_online, state_at}
-use Rattle.vms_base.specs.Places.{Shape, IsCounter, IsCpu, IsPlace, IsZone, cell}
-use Rattle.vms_base.specs.Sizes.{IsValidSize}
-use Rattle.vms_base.specs.Thresholds.{most_threshold}
-use Rattle.vms_core.specs.declared.states.State.{State}
-use Rattle.vms_core.specs.Cells.{HasShape, diff_at, threshold_at}
-use Rattle.vms_world.specs.Refreshes.{count_online}
+use Rattle.vms_world.specs.Common.{Header, CpuState, is_online, state_at, Shape, IsCounter, IsCpu, IsPlace, IsZone}
+use Rattle.vms_world.specs.Common.{cell, IsValidSize, most_threshold, State, diff_at, threshold_at, count_online}
+use Rattle.vms_core.specs.Cells.{HasShape}
 
 -- the lists are those of the layout, and neither a differential nor a threshold is larger than a threshold may be
 pub record HasPeaks (shape : Shape) (s : State) : Type 0 where

@@ -1,11 +1,7 @@
 ghost use Rattle.std.specs.Prelude.{◌≡◌, ◌≢◌, ℕ, ◌<◌, length, List};
-ghost use Rattle.vms_base.specs.declared.headers.Header.{Header};
-ghost use Rattle.vms_base.specs.declared.kinds.CpuState.TheVariants.{Online, Absent};
-ghost use Rattle.vms_base.specs.Places.{IsCpu};
-ghost use Rattle.vms_core.specs.Cells.{cpu_at, with_cpu};
-ghost use Rattle.vms_world.specs.Boundaries.{brought_up, taken_down};
-ghost use Rattle.vms_world.specs.Refreshes.{AreAnswers, count_online};
-ghost use Rattle.vms_world.specs.Worlds.{IsWorldOf};
+ghost use Rattle.vms_world.specs.Common.{Header, Absent, IsCpu, cpu_at, with_cpu, brought_up, taken_down, AreAnswers};
+ghost use Rattle.vms_world.specs.Common.{count_online, IsWorldOf};
+ghost use Rattle.vms_base.specs.declared.kinds.CpuState.TheVariants.{Online};
 
 use crate::refreshing::refresh;
 use vms_base::{CpuId, CpuState, Header};

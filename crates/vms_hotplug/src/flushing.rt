@@ -1,10 +1,7 @@
 ghost use Rattle.std.specs.Prelude.{◌≡◌, ◌+◌, ◌^◌, pos};
-ghost use Rattle.vms_base.specs.Places.{IsCounter, IsCpu};
-ghost use Rattle.vms_core.specs.Cells.{diff_at, with_diff};
-ghost use Rattle.vms_core.specs.ChangedStates.{with_carried};
-ghost use Rattle.vms_hotplug.specs.Folding.{FoldsCpu, HasRoom};
-ghost use Rattle.vms_world.specs.Boundaries.{flushed, flushed_pages};
-ghost use Rattle.vms_world.specs.Worlds.{IsWorldOf};
+ghost use Rattle.vms_world.specs.Common.{IsCounter, IsCpu, diff_at, with_diff, with_carried, flushed, flushed_pages};
+ghost use Rattle.vms_world.specs.Common.{IsWorldOf};
+ghost use Rattle.vms_hotplug.specs.Folding.{FlushesCpu, IsSmallState};
 
 use crate::refreshing::is_online;
 use vms_base::{CounterId, CpuId, Header, Layout};
@@ -22,7 +19,7 @@ pub fn flush(world: &mut World, header: &Header)
 }
 
 fn flush_pages(pages: &mut State, layout: &Layout)
-    requires { HasRoom layout.now (2 ^ 60) pages.old }
+    requires { IsSmallState layout.now (2 ^ 60) pages.old }
     ensures { pages.new ≡ flushed_pages layout.now pages.old }
 {
     for number in 0..layout.cpus() {
@@ -35,9 +32,9 @@ fn flush_pages(pages: &mut State, layout: &Layout)
 
 /// Folds the differentials of one CPU.
 fn fold(pages: &mut State, layout: &Layout, cpu: CpuId)
-    requires room { HasRoom layout.now (2 ^ 60 + 2 ^ 59) pages.old }
+    requires room { IsSmallState layout.now (2 ^ 60 + 2 ^ 59) pages.old }
     requires cpu { IsCpu layout.now cpu.number }
-    ensures { FoldsCpu layout.now cpu.number pages.old pages.new }
+    ensures { FlushesCpu layout.now cpu.number pages.old pages.new }
 {
     for number in 0..layout.counters() {
         fold_counter(pages, layout, cpu, CounterId { number });
@@ -46,7 +43,7 @@ fn fold(pages: &mut State, layout: &Layout, cpu: CpuId)
 
 /// Moves a differential to the global value of its counter and to the system-wide value of its item.
 fn fold_counter(pages: &mut State, layout: &Layout, cpu: CpuId, counter: CounterId)
-    requires room { HasRoom layout.now (2 ^ 61) pages.old }
+    requires room { IsSmallState layout.now (2 ^ 61) pages.old }
     requires cpu { IsCpu layout.now cpu.number }
     requires counter { IsCounter layout.now counter.number }
     ensures { pages.new ≡ with_carried layout.now counter.number (diff_at pages.old cpu.number counter.number)

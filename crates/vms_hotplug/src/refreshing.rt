@@ -1,8 +1,6 @@
 ghost use Rattle.std.specs.Prelude.{◌≡◌, ℕ, ◌≤◌, List, length, All};
-ghost use Rattle.vms_base.specs.Cpus.{is_online as tells_online};
-ghost use Rattle.vms_base.specs.Places.{IsLayout};
-ghost use Rattle.vms_base.specs.Sizes.{IsValidSize};
-ghost use Rattle.vms_world.specs.Refreshes.{AreAnswers, MayRefresh, count_online, refreshed};
+ghost use Rattle.vms_world.specs.Common.{is_online as tells_online, IsLayout, IsValidSize, AreAnswers, MayRefresh};
+ghost use Rattle.vms_world.specs.Common.{count_online, refreshed};
 
 use crate::settings::{set_marks, set_thresholds, zone_thresholds};
 use vms_base::{CpuState, Header};

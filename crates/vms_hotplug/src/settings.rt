@@ -1,13 +1,9 @@
 ghost use Rattle.std.specs.Prelude.{◌≡◌, ℕ, ◌*◌, ◌<◌, ◌≤◌, length, slice_index, slice_index_or, if◌then◌else◌, All};
-ghost use Rattle.vms_base.specs.Cpus.{is_online as tells_online, state_at};
-ghost use Rattle.vms_base.specs.Places.{IsCpu, IsPlace, IsZone, cell, place_count};
-ghost use Rattle.vms_base.specs.Sizes.{IsValidSize, size_at};
-ghost use Rattle.vms_base.specs.Thresholds.{most_threshold};
-ghost use Rattle.vms_core.specs.Peaks.{opening_peak as opening_peak_of};
-ghost use Rattle.vms_calls.specs.Ratings.{largest_on};
-ghost use Rattle.vms_world.specs.Listed.{listed_by_cpu};
-ghost use Rattle.vms_world.specs.Refreshes.{count_online, hidden_in, place_threshold as place_threshold_of};
-ghost use Rattle.vms_world.specs.Refreshes.{with_marks, zone_mark as zone_mark_of};
+ghost use Rattle.vms_world.specs.Common.{is_online as tells_online, state_at, IsCpu, IsPlace, IsZone, cell};
+ghost use Rattle.vms_world.specs.Common.{place_count, IsValidSize, size_at, most_threshold};
+ghost use Rattle.vms_world.specs.Common.{opening_peak as opening_peak_of, largest_on, listed_by_cpu, count_online};
+ghost use Rattle.vms_world.specs.Common.{hidden_in, place_threshold as place_threshold_of, with_marks};
+ghost use Rattle.vms_world.specs.Common.{zone_mark as zone_mark_of};
 ghost use Rattle.vms_hotplug.specs.Settings.{HasPeaks, MayMark, SetsPlace};
 
 use crate::refreshing::is_online;

@@ -1,8 +1,6 @@
 ghost use Rattle.std.specs.Prelude.{◌≡◌, ◌≤◌, ℕ, List, length, map, IfOk};
-ghost use Rattle.vms_base.specs.Headers.{IsHeader};
-ghost use Rattle.vms_world.specs.Refreshes.{AreAnswers};
-ghost use Rattle.vms_world.specs.FirstWorlds.{bare_pages as bare_pages_of, started, with_nothing_counted};
-ghost use Rattle.vms_world.specs.Worlds.{IsWorldOf};
+ghost use Rattle.vms_world.specs.Common.{IsHeader, AreAnswers, bare_pages as bare_pages_of, started};
+ghost use Rattle.vms_world.specs.Common.{with_nothing_counted, IsWorldOf};
 
 use crate::refreshing::refresh;
 use crate::summing::systems;

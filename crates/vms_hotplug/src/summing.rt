@@ -1,8 +1,5 @@
 ghost use Rattle.std.specs.Prelude.{◌≡◌, ℕ, ◌<◌, ◌^◌, ◌+ℤ◌, length, pos, slice_index_or, slice_set, unsigned_abs, IfOk};
-ghost use Rattle.vms_base.specs.Headers.{IsHeader};
-ghost use Rattle.vms_base.specs.Places.{item_count};
-ghost use Rattle.vms_world.specs.Listed.{listed};
-ghost use Rattle.vms_world.specs.FirstWorlds.{base_of_item};
+ghost use Rattle.vms_world.specs.Common.{IsHeader, item_count, listed, base_of_item};
 
 use std::alloc::Global;
 use vms_base::{CounterId, Header, Memory, Row};

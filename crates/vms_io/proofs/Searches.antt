@@ -4,7 +4,7 @@ use Rattle.std.proofs.Common.{◌∙◌, subst, arith, append_assoc, length-drop
 use Rattle.std.proofs.Math.Seq.{take-add, drop-append-add}
 use Rattle.std.proofs.lemmas.List.{drop-take, get_or-take, length-take-le}
 use Rattle.std.proofs.lemmas.List.Elements.{Contains-append_cases}
-use Rattle.vms_io.specs.Reading.{Searched, WholeLines}
+use Rattle.vms_io.specs.Common.{Searched, WholeLines}
 
 -- what stands after two fronts
 drop-both : (bytes : List ℕ) (s n : ℕ) → s ≤ length bytes → drop n (drop s bytes) ≡ drop (s + n) bytes

@@ -1,12 +1,12 @@
 -- What a source or a sink in memory holds, and how a call changes it.
 use Rattle.std.specs.Prelude.{ℕ, ◌-◌, ◌≤◌, min, List, ◌++◌, length, drop}
-use Rattle.vms_io.specs.Faults.{Tally, after_call, after_fault}
+use Rattle.vms_io.specs.Faults.{FaultTally, after_call, after_fault}
 
 -- the bytes that are left, and how many a call gives at most
 pub record Supply : Type 0 where
   pub left : List ℕ
   pub piece : ℕ
-  pub calls : Tally
+  pub calls : FaultTally
 
 -- how many bytes a read into this much room gets
 abbrev pub read_size : Supply → ℕ → ℕ
@@ -25,7 +25,7 @@ pub record Store : Type 0 where
   pub written : List ℕ
   pub room : ℕ
   pub piece : ℕ
-  pub calls : Tally
+  pub calls : FaultTally
 
 -- no room is left
 abbrev pub IsFull : Store → Type 0

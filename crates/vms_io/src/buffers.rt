@@ -97,8 +97,8 @@ impl ReadBuffer {
     }
 }
 
-/// How many bytes are whole lines.
-fn last_line_end(bytes: &[u8]) -> usize
+/// How many of these bytes are whole lines.
+pub fn last_line_end(bytes: &[u8]) -> usize
     ensures { WholeLines bytes.now result }
 {
     match memrchr(b'\n', bytes) {

@@ -12,7 +12,7 @@ mod std_sink;
 mod std_source;
 mod tallies;
 
-pub use buffers::ReadBuffer;
+pub use buffers::{ReadBuffer, last_line_end};
 pub use failures::{Failed, ReadError};
 pub use loops::write_all;
 pub use mem_sink::MemSink;

@@ -11,15 +11,15 @@ pub(crate) struct Calls {
 
 impl Model for Calls {
     ghost use Rattle.std.specs.Prelude.{vec_items};
-    ghost use Rattle.vms_io.specs.Faults.{Tally};
+    ghost use Rattle.vms_io.specs.Faults.{FaultTally};
 
-    ghost Value = { Tally };
+    ghost Value = { FaultTally };
 
     ghost view = { λ calls. record { fails = vec_items calls.fails; made = calls.made; failed = calls.failed } };
 }
 
 ghost use Rattle.std.specs.Prelude.{◌≡◌, ◌↔◌, Contains, IsTrue};
-ghost use Rattle.vms_io.specs.Faults.{after_call, counted};
+ghost use Rattle.vms_io.specs.Faults.{after_call, one_call_more};
 
 impl Calls {
     pub(crate) fn make(fails: Vec<u32>) -> Calls
@@ -44,7 +44,7 @@ impl Calls {
 
     /// Counts one more fault.
     pub(crate) fn fault(&mut self) -> Failed
-        ensures { self.new ≡ record self.old { failed = counted self.old.failed } }
+        ensures { self.new ≡ record self.old { failed = one_call_more self.old.failed } }
     {
         self.failed = self.failed.saturating_add(1);
         Failed

@@ -1,3 +1,4 @@
 pub mod Prefixes
 pub mod Given
 pub mod OneVerdict
+pub mod Common

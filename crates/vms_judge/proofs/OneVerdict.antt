@@ -4,11 +4,11 @@ use Rattle.std.specs.Prelude.{reverse}
 use Rattle.std.proofs.lemmas.List.{take-take}
 use Rattle.std.proofs.lemmas.Bool.{cases_lt}
 use Rattle.vms_history.specs.declared.events.Event.{Event}
-use Rattle.vms_history.specs.Legal.{Machine, IsLegal, IsComplete}
-use Rattle.vms_history.proofs.Prefixes.{base_can_begin}
+use Rattle.vms_history.specs.Common.{Machine, IsLegal, IsComplete}
+use Rattle.vms_history.proofs.Common.{base_can_begin}
 use Rattle.vms_judge.specs.declared.verdicts.Verdict.{Verdict}
 use Rattle.vms_judge.specs.declared.verdicts.Verdict.TheVariants.{NoBase, Illegal, Open, Complete}
-use Rattle.vms_judge.specs.Verdicts.{IsFirstIllegal, IsOpen, IsVerdict}
+use Rattle.vms_judge.specs.Common.{IsFirstIllegal, IsOpen, IsVerdict}
 use Rattle.vms_judge.proofs.Prefixes.{legal_first}
 
 module _ {F K S : Type 0} (machine : Machine F K S) (facts : F) (events : List (Event K)) where

@@ -1,8 +1,7 @@
 -- What a verdict says of facts and events.
 use Rattle.std.specs.Prelude.{◌≡◌, ℕ, ◌+◌, ◌<◌, true, List, length, reverse, take}
 use Rattle.vms_history.specs.declared.events.Event.{Event}
-use Rattle.vms_history.specs.Legal.{Machine, IsLegal, IsComplete}
-use Rattle.vms_history.specs.Passes.{lives_in}
+use Rattle.vms_history.specs.Common.{Machine, IsLegal, IsComplete, lives_in}
 use Rattle.vms_judge.specs.declared.verdicts.Verdict.{Verdict}
 use Rattle.vms_judge.specs.declared.verdicts.Verdict.TheVariants.{NoBase, Illegal, Open, Complete}
 

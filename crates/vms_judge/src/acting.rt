@@ -1,6 +1,5 @@
 ghost use Rattle.std.specs.Prelude.{◌≡◌, ◌≢◌, ◌<◌, ◌↔◌, ℕ, true, false, IsTrue, MatchBool, reverse};
-ghost use Rattle.vms_history.specs.Legal.{Acts, IsLegal};
-ghost use Rattle.vms_history.specs.Passes.{IsFree, lives_in, owner_in};
+ghost use Rattle.vms_history.specs.Common.{Acts, IsLegal, IsFree, lives_in, owner_in};
 ghost use Rattle.vms_judge.specs.Roles.{role_of};
 
 use crate::passes::{begun, lives, owner};

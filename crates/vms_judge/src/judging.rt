@@ -1,5 +1,5 @@
 ghost use Rattle.std.specs.Prelude.{◌≡◌, ◌↔◌, ◌∷◌, IsTrue, reverse};
-ghost use Rattle.vms_history.specs.Legal.{IsLegal};
+ghost use Rattle.vms_history.specs.Common.{IsLegal};
 ghost use Rattle.vms_judge.specs.Verdicts.{IsVerdict};
 
 use crate::acting::{acts, all_ended};

@@ -1,6 +1,5 @@
 ghost use Rattle.std.specs.Prelude.{◌≡◌, ◌↔◌, ◌∷◌, IsTrue, reverse};
-ghost use Rattle.vms_history.specs.Events.{own};
-ghost use Rattle.vms_history.specs.Legal.{IsLegal, state_after};
+ghost use Rattle.vms_history.specs.Common.{own, IsLegal, state_after};
 ghost use Rattle.vms_judge.specs.Roles.{role_of};
 
 use crate::Role;

@@ -1,27 +1,16 @@
 -- For other crates too: a look for a free block in one area after another.
-use Rattle.std.proofs.Common.{◌≡◌, ℕ, suc, ◌+◌, ◌-◌, ◌<◌, ◌≤◌, nat_eq, not, Bool, true, false, List, [], ◌∷◌}
-use Rattle.std.proofs.Common.{◌++◌, length, drop, Option, Some, None, if◌then◌else◌, refl, sym, ap, subst, ◌∙◌, arith}
+use Rattle.std.proofs.Common.{◌≡◌, ℕ, suc, ◌+◌, ◌-◌, ◌<◌, ◌≤◌, nat_eq, not, Bool, true, false, List, [], ◌∷◌, ◌++◌}
+use Rattle.std.proofs.Common.{length, drop, Option, Some, None, if◌then◌else◌, refl, sym, ap, subst, ◌∙◌, arith}
 use Rattle.std.proofs.Common.{append_assoc, append-nil, eqb-true}
 use Rattle.std.proofs.Math.Seq.{drop-cons}
 use Rattle.std.proofs.lemmas.Bool.{eqb-false}
-use Rattle.vms_base.specs.declared.headers.Header.{Header}
-use Rattle.vms_base.specs.declared.headers.ItemDecl.{ItemDecl}
-use Rattle.vms_base.specs.declared.ids.CounterId.{CounterId}
-use Rattle.vms_base.specs.declared.ids.PlaceId.{PlaceId}
-use Rattle.vms_base.specs.Areas.{Area, area_at, area_names, areas_from, areas_named, areas_of}
-use Rattle.vms_base.specs.Places.{Shape, counter_at}
-use Rattle.vms_calls.specs.Looks.{IsSnapshot}
-use Rattle.vms_calls.specs.Turns.{FindsBlock, blocks_at}
-use Rattle.vms_calls.specs.Turns.FindsBlock.{nowhere, empty, some}
-use Rattle.vms_core.specs.declared.steps.Facts.{Facts}
-use Rattle.vms_core.specs.declared.steps.Step.{Step}
-use Rattle.vms_core.specs.Pages.{pages}
-use Rattle.vms_kswapd.specs.Seeking.{HasSought}
-use Rattle.vms_plain_pages.specs.Orders.{area_index}
-use Rattle.vms_plain_pages.proofs.AreaLists.{areas_from-later}
-use Rattle.vms_seats.specs.Passes.{Pass, Shared, IsLive, IsOf}
-use Rattle.vms_seats.specs.Steps.{Made}
-use Rattle.vms_seats.proofs.MadeCalls.{calls-none, calls-both}
+use Rattle.vms_calls.specs.Common.{Header, ItemDecl, CounterId, PlaceId, Area, area_at, area_names, areas_from}
+use Rattle.vms_calls.specs.Common.{areas_named, areas_of, Shape, counter_at, IsSnapshot, FindsBlock, blocks_at, nowhere}
+use Rattle.vms_calls.specs.Common.{empty, some, Facts, Step, pages, area_index}
+use Rattle.vms_kswapd.specs.Common.{HasSought}
+use Rattle.vms_calc.proofs.Common.{areas_from-later}
+use Rattle.vms_seats.specs.Common.{Pass, Shared, IsLive, IsFrom, Made}
+use Rattle.vms_seats.proofs.Common.{calls-none, calls-both}
 
 module _ (shape : Shape) (g : PlaceId) where
   -- none of the first areas has a block, so the others decide
@@ -100,7 +89,7 @@ module _ (header : Header) (g : PlaceId) (order : ℕ) where
   }
 
   module _ (now old : Pass Facts Step) (n : ℕ) (so_far : SoughtSoFar header g order now old n) where
-    pub sought-of : (words : Shared Facts) → IsOf old words → IsOf now words
+    pub sought-of : (words : Shared Facts) → IsFrom old words → IsFrom now words
     sought-of words is = record {
       table = so_far.made.table ∙ is.table;
       facts = so_far.made.facts ∙ is.facts;

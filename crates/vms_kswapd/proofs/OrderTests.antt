@@ -1,27 +1,19 @@
 -- For other crates too: the steps of a test for an order, and what a yes says.
-use Rattle.std.proofs.Common.{◌≡◌, ◌≢◌, ℕ, zero, suc, nat_le, nat_lt, Bool, true, false}
-use Rattle.std.proofs.Common.{true≢false, List, [], ◌++◌, Option, Some, None, is_some, refl, sym, ap, subst, ◌∙◌}
-use Rattle.std.proofs.Common.{arith, append_assoc, append-nil, filter}
+use Rattle.std.proofs.Common.{◌≡◌, ◌≢◌, ℕ, zero, suc, nat_le, nat_lt, Bool, true, false, true≢false, List, [], ◌++◌}
+use Rattle.std.proofs.Common.{Option, Some, None, is_some, refl, sym, ap, subst, ◌∙◌, arith, append_assoc, append-nil}
+use Rattle.std.proofs.Common.{filter}
 use Rattle.std.specs.Prelude.{All, Contains}
 use Rattle.std.proofs.lemmas.Bool.{leb-true}
 use Rattle.std.proofs.lemmas.Bool.Decides.{nat_tests}
 use Rattle.std.proofs.lemmas.List.Elements.{All-contains, All-filter, Contains-get_or, filter_passes}
-use Rattle.vms_base.specs.declared.headers.Header.{Header}
-use Rattle.vms_base.specs.declared.ids.PlaceId.{PlaceId}
-use Rattle.vms_base.specs.declared.kinds.WaterMark.{WaterMark}
-use Rattle.vms_base.specs.Areas.{Area, areas_from, areas_of}
-use Rattle.vms_base.specs.Watermarks.{limit_of}
-use Rattle.vms_calls.specs.Looks.{Verdict, IsWatermarkTest}
-use Rattle.vms_calls.specs.Turns.{Blocks, FindsBlock, Further, IsOrderTest, OrderVerdict, has_room}
-use Rattle.vms_calls.specs.Turns.FindsBlock.{nowhere, empty, some}
-use Rattle.vms_core.specs.declared.steps.Facts.{Facts}
-use Rattle.vms_core.specs.declared.steps.Step.{Step}
-use Rattle.vms_core.specs.Pages.{pages}
-use Rattle.vms_kswapd.specs.Passing.{FoundBlock}
-use Rattle.vms_kswapd.specs.Seeking.{Seeks}
-use Rattle.vms_seats.specs.Passes.{Pass}
-use Rattle.vms_seats.specs.Steps.{Made}
-use Rattle.vms_seats.proofs.MadeCalls.{calls-both}
+use Rattle.vms_calls.specs.Common.{Header, PlaceId, WaterMark, Area, areas_from, areas_of, limit_of, IsWatermarkTest}
+use Rattle.vms_calls.specs.Common.{LooksForBlock, FindsBlock, Further, IsOrderTest, has_room, nowhere, empty, some}
+use Rattle.vms_calls.specs.Common.{Facts, Step, pages}
+use Rattle.vms_calls.specs.declared.answers.Verdict.{Verdict}
+use Rattle.vms_calls.specs.declared.answers.OrderVerdict.{OrderVerdict}
+use Rattle.vms_kswapd.specs.Common.{FoundBlock, Seeks}
+use Rattle.vms_seats.specs.Common.{Pass, Made}
+use Rattle.vms_seats.proofs.Common.{calls-both}
 
 -- the answer of a test by the watermark's and by the block that was found
 abbrev pub with_area : Verdict → Bool → Option ℕ → OrderVerdict
@@ -29,7 +21,7 @@ with_area verdict passed area = record { yes = passed; free = verdict.free; fast
 
 module _ (header : Header) (g : PlaceId) (mark : WaterMark) (most : ℕ) (verdict : Verdict) where
   seeks-blocks : (order : ℕ) (room : Bool) (steps : List Step) (area : Option ℕ) → Seeks header g order room steps area
-      → Blocks header g order room steps (with_area verdict (is_some area) area)
+      → LooksForBlock header g order room steps (with_area verdict (is_some area) area)
   seeks-blocks order true steps area seeks = (seeks, refl)
   seeks-blocks order false steps area seeks = (seeks.0, ap is_some seeks.1, seeks.1)
 
@@ -136,7 +128,8 @@ module _ (header : Header) (g : PlaceId) (order : ℕ) where
     some = there;
   }
 
-  found-block : (room : Bool) (steps : List Step) (answer : OrderVerdict) → Blocks header g order room steps answer
+  found-block : (room : Bool) (steps : List Step) (answer : OrderVerdict) →
+      LooksForBlock header g order room steps answer
       → answer.yes ≡ true → FoundBlock header g order steps answer.area
   found-block false steps answer blocks passed = absurd (true≢false (sym passed ∙ blocks.1))
   found-block true steps answer blocks passed = by answer.area refl

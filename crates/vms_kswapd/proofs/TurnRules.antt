@@ -2,30 +2,14 @@
 use Rattle.std.proofs.Common.{◌≡◌, ℕ, ◌&&◌, nat_eq, Bool, true, false, List, [], ◌∷◌, length, Option, Some, None}
 use Rattle.std.proofs.Common.{if◌then◌else◌, sym, subst, ◌∙◌, arith}
 use Rattle.std.proofs.lemmas.Option.{same_Some}
-use Rattle.vms_base.specs.declared.headers.Header.{Header}
-use Rattle.vms_base.specs.declared.ids.PlaceId.{PlaceId}
-use Rattle.vms_base.specs.declared.kinds.CpuState.{CpuState}
-use Rattle.vms_base.specs.declared.kinds.ZoneSize.{ZoneSize}
-use Rattle.vms_base.specs.Cpus.{online_from}
-use Rattle.vms_base.specs.Places.{IsPlace}
-use Rattle.vms_base.specs.Sizes.{size_at}
-use Rattle.vms_calls.specs.HeaderFacts.{facts_of}
-use Rattle.vms_calls.specs.MayCall.{KnowsByOwnSteps}
-use Rattle.vms_calls.specs.MayMake.{HasMade}
-use Rattle.vms_calls.specs.TurnLaws.{LeavesByRule, last_set}
-use Rattle.vms_calls.specs.Turns.{Balance, IsTurn}
-use Rattle.vms_calls.specs.Turns.Balance.{Yes, No}
-use Rattle.vms_calls.proofs.TurnThresholds.{LeavesNormal-holds, LeavesPressure-holds}
-use Rattle.vms_core.specs.declared.states.State.{State}
-use Rattle.vms_core.specs.declared.steps.Facts.{Facts}
-use Rattle.vms_core.specs.declared.steps.Step.{Step}
-use Rattle.vms_core.specs.declared.steps.Step.TheVariants.{SetT}
-use Rattle.vms_core.specs.Conditions.{IsControl}
-use Rattle.vms_core.specs.Pages.{History}
-use Rattle.vms_core.specs.Peaks.{threshold_in}
-use Rattle.vms_core.proofs.KeptLaws.{laws-kept}
-use Rattle.vms_history.specs.Events.{after}
-use Rattle.vms_kswapd.specs.LeftThresholds.{LeavesRule, StandsByRule}
+use Rattle.vms_calls.specs.Common.{Header, PlaceId, CpuState, ZoneSize, online_from, IsPlace, size_at, facts_of}
+use Rattle.vms_calls.specs.Common.{KnowsByOwnSteps, HasMade, LeavesByRule, last_set, IsTurn, State, Facts, Step, SetT}
+use Rattle.vms_calls.specs.Common.{IsControl, History, threshold_in, after}
+use Rattle.vms_calls.specs.declared.answers.Balance.{Balance}
+use Rattle.vms_calls.specs.declared.answers.Balance.TheVariants.{Yes, No}
+use Rattle.vms_calls.proofs.Common.{LeavesNormal-holds, LeavesPressure-holds}
+use Rattle.vms_core.proofs.Common.{laws-kept}
+use Rattle.vms_kswapd.specs.Common.{LeavesRule, StandsByRule}
 
 -- the threshold that steps set last stands after them
 last-set_stands : (facts : Facts) (p c g : ℕ) (steps : List Step) (h : History) (before : Option ℕ) (t : ℕ)

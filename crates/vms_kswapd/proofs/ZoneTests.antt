@@ -3,19 +3,14 @@ use Rattle.std.proofs.Common.{◌≡◌, ℕ, zero, suc, ◌+◌, ◌-◌, ◌<�
 use Rattle.std.proofs.Common.{if◌then◌else◌, refl, sym, ap, subst, ◌∙◌, arith, append_assoc, append-nil}
 use Rattle.std.specs.Prelude.{Contains}
 use Rattle.std.proofs.lemmas.List.Elements.{Contains-append_left, Contains-append_right}
-use Rattle.vms_base.specs.declared.headers.Header.{Header}
-use Rattle.vms_base.specs.declared.ids.PlaceId.{PlaceId}
-use Rattle.vms_base.specs.declared.kinds.WaterMark.TheVariants.{High}
-use Rattle.vms_calls.specs.Turns.{Balance, Balances, IsOrderTest, OrderVerdict}
-use Rattle.vms_calls.specs.Turns.Balance.{Yes, No}
-use Rattle.vms_calls.specs.Turns.Balances.{no_zone, fails, passes}
-use Rattle.vms_core.specs.declared.steps.Facts.{Facts}
-use Rattle.vms_core.specs.declared.steps.Step.{Step}
-use Rattle.vms_core.specs.Pages.{pages}
-use Rattle.vms_plain_pages.proofs.ZonesUpTo.{is_one, zones_below, zones_below-next}
-use Rattle.vms_seats.specs.Passes.{Pass, Shared, IsLive, IsOf}
-use Rattle.vms_seats.specs.Steps.{Made}
-use Rattle.vms_seats.proofs.MadeCalls.{calls-none, calls-both}
+use Rattle.vms_calls.specs.Common.{Header, PlaceId, High, Balances, IsOrderTest, no_zone, fails, passes, Facts, Step}
+use Rattle.vms_calls.specs.Common.{pages}
+use Rattle.vms_calls.specs.declared.answers.Balance.{Balance}
+use Rattle.vms_calls.specs.declared.answers.OrderVerdict.{OrderVerdict}
+use Rattle.vms_calls.specs.declared.answers.Balance.TheVariants.{Yes, No}
+use Rattle.vms_calls.proofs.Common.{is_one, zones_below, zones_below-next}
+use Rattle.vms_seats.specs.Common.{Pass, Shared, IsLive, IsFrom, Made}
+use Rattle.vms_seats.proofs.Common.{calls-none, calls-both}
 
 module _ (header : Header) (most order : ℕ) where
   -- none of the first zones passes, so the others decide
@@ -91,7 +86,7 @@ module _ (header : Header) (most order : ℕ) where
     failed-none pass live = record { before = []; made = calls-none pages pass live; failed = no_zone }
 
     module _ (now old : Pass Facts Step) (n : ℕ) (so_far : FailedSoFar node now old n) where
-      pub failed-of : (words : Shared Facts) → IsOf old words → IsOf now words
+      pub failed-of : (words : Shared Facts) → IsFrom old words → IsFrom now words
       failed-of words is = record {
         table = so_far.made.table ∙ is.table;
         facts = so_far.made.facts ∙ is.facts;

@@ -1,22 +1,9 @@
 -- Which thresholds stand after a turn of kswapd.
 use Rattle.std.specs.Prelude.{◌≢◌, ℕ, List, Contains, length}
-use Rattle.vms_base.specs.declared.headers.Header.{Header}
-use Rattle.vms_base.specs.declared.ids.CpuId.{CpuId}
-use Rattle.vms_base.specs.declared.ids.PlaceId.{PlaceId}
-use Rattle.vms_base.specs.declared.kinds.CpuState.{CpuState}
-use Rattle.vms_base.specs.declared.kinds.ZoneSize.{ZoneSize}
-use Rattle.vms_base.specs.Cpus.{online_from}
-use Rattle.vms_base.specs.Places.{IsCpu, IsZone}
-use Rattle.vms_base.specs.Sizes.{size_at}
-use Rattle.vms_calls.specs.HeaderFacts.{facts_of}
-use Rattle.vms_calls.specs.TurnLaws.{last_mark}
-use Rattle.vms_calls.specs.Turns.{Balance, IsTurn}
-use Rattle.vms_calls.specs.Turns.Balance.{Yes, No}
-use Rattle.vms_core.specs.declared.states.State.{State}
-use Rattle.vms_core.specs.declared.steps.Facts.{Facts}
-use Rattle.vms_core.specs.declared.steps.Step.{Step}
-use Rattle.vms_core.specs.Cells.{threshold_at}
-use Rattle.vms_core.specs.Pages.{History, state_after}
+use Rattle.vms_calls.specs.Common.{Header, CpuId, PlaceId, CpuState, ZoneSize, online_from, IsCpu, IsZone, size_at}
+use Rattle.vms_calls.specs.Common.{facts_of, last_mark, IsTurn, State, Facts, Step, threshold_at, History, state_after}
+use Rattle.vms_calls.specs.declared.answers.Balance.{Balance}
+use Rattle.vms_calls.specs.declared.answers.Balance.TheVariants.{Yes, No}
 
 -- in each zone whose mark a call on thresholds found not 0, a threshold of the rule stands on each CPU that it found
 -- online

@@ -1,3 +1,4 @@
 pub mod Seeking
 pub mod Passing
 pub mod LeftThresholds
+pub mod Common

@@ -1,23 +1,12 @@
 -- What a yes of a test for an order and of a balance test says.
 use Rattle.std.specs.Prelude.{◌≡◌, ◌≢◌, ℕ, ◌≤◌, true, List, ◌++◌, Contains, Option, Some}
-use Rattle.vms_base.specs.declared.headers.Header.{Header}
-use Rattle.vms_base.specs.declared.ids.PlaceId.{PlaceId}
-use Rattle.vms_base.specs.declared.kinds.WaterMark.TheVariants.{High}
-use Rattle.vms_base.specs.Areas.{Area, areas_of}
-use Rattle.vms_base.specs.Watermarks.{limit_of}
-use Rattle.vms_calls.specs.Looks.{IsSnapshot}
-use Rattle.vms_calls.specs.Ratings.{node_number}
-use Rattle.vms_calls.specs.Turns.{IsOrderTest, blocks_at, zones_up_to}
-use Rattle.vms_core.specs.declared.steps.Facts.{Facts}
-use Rattle.vms_core.specs.declared.steps.Step.{Step}
-use Rattle.vms_core.specs.Pages.{pages}
-use Rattle.vms_look.specs.Truth.{SaysTruly}
-use Rattle.vms_plain_pages.specs.declared.balances.Balance.{Balance}
-use Rattle.vms_plain_pages.specs.declared.balances.Balance.TheVariants.{Yes, No}
-use Rattle.vms_plain_pages.specs.declared.orders.OrderVerdict.{OrderVerdict}
-use Rattle.vms_plain_pages.specs.Orders.{order_verdict_told}
-use Rattle.vms_seats.specs.Passes.{Pass}
-use Rattle.vms_seats.specs.Steps.{Made}
+use Rattle.vms_calls.specs.Common.{Header, PlaceId, High, Area, areas_of, limit_of, IsSnapshot, node_number}
+use Rattle.vms_calls.specs.Common.{IsOrderTest, blocks_at, zones_up_to, Facts, Step, pages}
+use Rattle.vms_look.specs.Common.{SaysTruly}
+use Rattle.vms_calls.specs.declared.answers.Balance.{Balance}
+use Rattle.vms_calls.specs.declared.answers.Balance.TheVariants.{Yes, No}
+use Rattle.vms_calls.specs.declared.answers.OrderVerdict.{OrderVerdict}
+use Rattle.vms_seats.specs.Common.{Pass, Made}
 
 -- the steps end with a snapshot of the free blocks of zone g of an order or larger, and it isn't 0
 pub record FoundBlock (header : Header) (g : PlaceId) (order : ℕ) (steps : List Step) (found : Option ℕ) : Type 0 where
@@ -42,7 +31,7 @@ pub record HasPassed (header : Header) (new old : Pass Facts Step) (n : PlaceId)
   pub test : List Step
   pub later : List Step
   pub made : Made pages new old (earlier ++ (test ++ later))
-  pub tests : IsOrderTest header g High most order test (order_verdict_told verdict)
+  pub tests : IsOrderTest header g High most order test verdict
   pub truly : verdict.fast ≡ true → SaysTruly new old g (limit_of header g.number High most)
   pub block : order ≢ 0 → FoundBlock header g order test verdict.area
 

@@ -1,15 +1,7 @@
 -- The parts of a test for an order while others act.
 use Rattle.std.specs.Prelude.{◌≡◌, ℕ, Bool, true, false, List, [], Option, None}
-use Rattle.vms_base.specs.declared.headers.Header.{Header}
-use Rattle.vms_base.specs.declared.ids.PlaceId.{PlaceId}
-use Rattle.vms_base.specs.Areas.{Area, areas_from, areas_of}
-use Rattle.vms_base.specs.Places.{Shape}
-use Rattle.vms_calls.specs.Turns.{FindsBlock}
-use Rattle.vms_core.specs.declared.steps.Facts.{Facts}
-use Rattle.vms_core.specs.declared.steps.Step.{Step}
-use Rattle.vms_core.specs.Pages.{pages}
-use Rattle.vms_seats.specs.Passes.{Pass}
-use Rattle.vms_seats.specs.Steps.{Made}
+use Rattle.vms_calls.specs.Common.{Header, PlaceId, Area, areas_from, areas_of, Shape, FindsBlock, Facts, Step, pages}
+use Rattle.vms_seats.specs.Common.{Pass, Made}
 
 -- the pass looked for a free block of zone g in these areas
 abbrev pub HasSought : Shape → (new old : Pass Facts Step) → PlaceId → List Area → Option ℕ → Type 0

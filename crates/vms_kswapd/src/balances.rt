@@ -1,17 +1,12 @@
 ghost use Rattle.std.specs.Prelude.{◌≡◌, ◌≤◌, List};
-ghost use Rattle.vms_base.specs.Headers.{IsHeader};
-ghost use Rattle.vms_base.specs.Places.{IsNode};
-ghost use Rattle.vms_calls.specs.Turns.{IsBalanceTest};
-ghost use Rattle.vms_core.specs.declared.steps.Step.{Step};
-ghost use Rattle.vms_core.specs.Pages.{pages};
+ghost use Rattle.vms_calls.specs.Common.{IsHeader, IsNode, IsBalanceTest, Step, pages};
 ghost use Rattle.vms_kswapd.specs.Passing.{NamesPassed};
-ghost use Rattle.vms_plain_pages.specs.Balances.{balance_told};
-ghost use Rattle.vms_seats.specs.Passes.{IsOf};
-ghost use Rattle.vms_seats.specs.Steps.{Made};
+ghost use Rattle.vms_seats.specs.Common.{IsFrom, Made};
 
 use crate::orders::zone_ok;
 use vms_base::{Header, PlaceId, WaterMark};
-use vms_plain_pages::{Balance, is_up_to};
+use vms_calc::is_up_to;
+use vms_calls::Balance;
 use vms_words::{Caller, PageTable};
 
 /// Tests whether a node is balanced for an order (`pgdat_balanced` of mm/vmscan.c): its zones up to the zone index
@@ -25,14 +20,14 @@ pub fn balanced<P: Caller>(
     order: u32,
     most: u32,
 ) -> Balance
-    requires table { IsOf (P.pass pass.old) table.now }
+    requires table { IsFrom (P.pass pass.old) table.now }
     requires header { IsHeader header.now }
     requires layout { header.now.layout ≡ table.now.facts.layout }
     requires sizes { header.now.sizes ≡ table.now.facts.sizes }
     requires node { IsNode header.now.layout node.number }
     requires order { order ≤ 10 }
     requires most { most ≤ 3 }
-    ensures made { (steps : List Step) × IsBalanceTest header.now node order most steps (balance_told result)
+    ensures made { (steps : List Step) × IsBalanceTest header.now node order most steps result
         × Made pages (P.pass pass.new) (P.pass pass.old) steps }
     ensures passed { NamesPassed header.now (P.pass pass.new) (P.pass pass.old) node order most result }
     ensures volume { P.volume pass.new ≡ P.volume pass.old }

@@ -1,21 +1,15 @@
 ghost use Rattle.std.specs.Prelude.{◌≡◌, ◌≢◌, ◌≤◌, ◌^◌, true, List, Some, None, if◌then◌else◌};
-ghost use Rattle.vms_base.specs.Areas.{area_at, areas_from, areas_of};
-ghost use Rattle.vms_base.specs.Headers.{IsHeader};
-ghost use Rattle.vms_base.specs.Places.{IsZone};
-ghost use Rattle.vms_base.specs.Watermarks.{limit_of};
-ghost use Rattle.vms_calls.specs.Turns.{IsOrderTest, has_room};
-ghost use Rattle.vms_core.specs.declared.steps.Step.{Step};
-ghost use Rattle.vms_core.specs.Pages.{pages};
+ghost use Rattle.vms_calls.specs.Common.{area_at, areas_from, areas_of, IsHeader, IsZone, limit_of, IsOrderTest};
+ghost use Rattle.vms_calls.specs.Common.{has_room, Step, pages, area_index};
 ghost use Rattle.vms_kswapd.specs.Passing.{FoundBlock};
 ghost use Rattle.vms_kswapd.specs.Seeking.{HasSought, Seeks};
-ghost use Rattle.vms_look.specs.Truth.{SaysTruly};
-ghost use Rattle.vms_plain_pages.specs.Orders.{area_index, order_verdict_told};
-ghost use Rattle.vms_seats.specs.Passes.{IsOf};
-ghost use Rattle.vms_seats.specs.Steps.{Made};
+ghost use Rattle.vms_look.specs.Common.{SaysTruly};
+ghost use Rattle.vms_seats.specs.Common.{IsFrom, Made};
 
 use vms_base::{Header, PlaceId, WaterMark};
+use vms_calc::{item_index, limit};
+use vms_calls::OrderVerdict;
 use vms_look::{snapshot, watermark_ok};
-use vms_plain_pages::{OrderVerdict, item_index, limit};
 use vms_words::{Caller, PageTable};
 
 /// Tests whether a zone has more free pages than a watermark asks for and, above order 0, a free block of `2^order`
@@ -34,14 +28,14 @@ pub fn zone_ok<P: Caller>(
     order: u32,
     most: u32,
 ) -> OrderVerdict
-    requires table { IsOf (P.pass pass.old) table.now }
+    requires table { IsFrom (P.pass pass.old) table.now }
     requires header { IsHeader header.now }
     requires layout { header.now.layout ≡ table.now.facts.layout }
     requires sizes { header.now.sizes ≡ table.now.facts.sizes }
     requires zone { IsZone header.now.layout zone.number }
     requires order { order ≤ 10 }
     requires most { most ≤ 3 }
-    ensures made { (steps : List Step) × IsOrderTest header.now zone mark most order steps (order_verdict_told result)
+    ensures made { (steps : List Step) × IsOrderTest header.now zone mark most order steps result
         × Made pages (P.pass pass.new) (P.pass pass.old) steps }
     ensures truly { result.yes ≡ true → result.fast ≡ true →
         SaysTruly (P.pass pass.new) (P.pass pass.old) zone (limit_of header.now zone.number mark most) }
@@ -79,7 +73,7 @@ fn block_within<P: Caller>(
     limit: u64,
     free: u64,
 ) -> Option<u32>
-    requires table { IsOf (P.pass pass.old) table.now }
+    requires table { IsFrom (P.pass pass.old) table.now }
     requires header { IsHeader header.now }
     requires layout { header.now.layout ≡ table.now.facts.layout }
     requires zone { IsZone header.now.layout zone.number }
@@ -107,7 +101,7 @@ fn first_block<P: Caller>(
     zone: PlaceId,
     order: u32,
 ) -> Option<u32>
-    requires table { IsOf (P.pass pass.old) table.now }
+    requires table { IsFrom (P.pass pass.old) table.now }
     requires header { IsHeader header.now }
     requires layout { header.now.layout ≡ table.now.facts.layout }
     requires zone { IsZone header.now.layout zone.number }
@@ -135,7 +129,7 @@ fn has_block<P: Caller>(
     zone: PlaceId,
     order: u32,
 ) -> bool
-    requires table { IsOf (P.pass pass.old) table.now }
+    requires table { IsFrom (P.pass pass.old) table.now }
     requires header { IsHeader header.now }
     requires layout { header.now.layout ≡ table.now.facts.layout }
     requires zone { IsZone header.now.layout zone.number }

@@ -1,25 +1,16 @@
 ghost use Rattle.std.specs.Prelude.{◌≡◌, ◌<◌, ◌≤◌, suc, List};
-ghost use Rattle.vms_base.specs.Headers.{IsHeader};
-ghost use Rattle.vms_base.specs.Places.{IsNode};
-ghost use Rattle.vms_calls.specs.Turns.{IsTurn, Settles};
-ghost use Rattle.vms_core.specs.declared.steps.Step.{Step};
-ghost use Rattle.vms_core.specs.Own.{CarriesNothing};
-ghost use Rattle.vms_core.specs.Pages.{pages, state_after};
-ghost use Rattle.vms_core.specs.Plain.{most_sets};
-ghost use Rattle.vms_history.specs.Events.{own};
+ghost use Rattle.vms_calls.specs.Common.{IsHeader, IsNode, IsTurn, SetsAfterYes, Step, CarriesNothing, pages};
+ghost use Rattle.vms_calls.specs.Common.{state_after, most_sets, own};
 ghost use Rattle.vms_kswapd.specs.LeftThresholds.{LeavesRule};
 ghost use Rattle.vms_kswapd.specs.Passing.{NamesPassed};
-ghost use Rattle.vms_plain_pages.specs.Balances.{balance_told};
-ghost use Rattle.vms_seats.specs.Passes.{IsOf};
-ghost use Rattle.vms_seats.specs.Steps.{Made};
-ghost use Rattle.vms_words.specs.KeptSettings.{largest_sets};
+ghost use Rattle.vms_seats.specs.Common.{IsFrom, Made};
+ghost use Rattle.vms_words.specs.Common.{largest_sets};
 
 use crate::balances::balanced;
 use vms_base::{Header, PlaceId};
 use vms_calc::{Rule, Rules};
-use vms_calls::control_passes_know_by_own_steps;
+use vms_calls::{Balance, control_passes_know_by_own_steps};
 use vms_control::{set_normal, set_pressure};
-use vms_plain_pages::Balance;
 use vms_words::{Caller, ControlPass, PageTable};
 
 /// Takes a turn of kswapd on a node: it sets pressure thresholds, tests whether the node is balanced for an order and
@@ -37,7 +28,7 @@ pub fn kswapd_turn<N: Rule, P: Rule>(
     order: u32,
     most: u32,
 ) -> Balance
-    requires table { IsOf pass.old table.now }
+    requires table { IsFrom pass.old table.now }
     requires header { IsHeader header.now }
     requires layout { header.now.layout ≡ table.now.facts.layout }
     requires sizes { header.now.sizes ≡ table.now.facts.sizes }
@@ -47,10 +38,10 @@ pub fn kswapd_turn<N: Rule, P: Rule>(
     requires room { suc (largest_sets table.now.facts.layout (state_after table.now.facts pass.old.seen)) < most_sets }
     ensures made { (steps : List Step)
         × (turn : IsTurn header.now table.now.facts.base (P.answers rules.now.pressure) (N.answers rules.now.normal) node
-        order most pass.old.number pass.old.seen steps (balance_told result))
+        order most pass.old.number pass.old.seen steps result)
         × Made pages pass.new pass.old steps
         × LeavesRule header.now table.now.facts.base (P.answers rules.now.pressure) (N.answers rules.now.normal) node
-        order most pass.old.number pass.old.seen steps (balance_told result) turn pass.new.seen }
+        order most pass.old.number pass.old.seen steps result turn pass.new.seen }
     ensures passed { NamesPassed header.now pass.new pass.old node order most result }
     ensures carries { CarriesNothing table.now.facts.layout (own pass.old.seen pass.old.number) →
         CarriesNothing table.now.facts.layout (own pass.new.seen pass.new.number) }
@@ -74,12 +65,13 @@ fn settle<N: Rule, P: Rule>(
     node: PlaceId,
     balance: Balance,
 )
-    requires table { IsOf pass.old table.now }
+    requires table { IsFrom pass.old table.now }
     requires sizes { header.now.sizes ≡ table.now.facts.sizes }
     requires node { IsNode table.now.facts.layout node.number }
     requires room { largest_sets table.now.facts.layout (state_after table.now.facts pass.old.seen) < most_sets }
-    ensures made { (steps : List Step) × Settles table.now.facts (N.answers rules.now.normal) node pass.old.number
-        (balance_told balance) pass.old.seen steps × Made pages pass.new pass.old steps }
+    ensures made { (steps : List Step)
+        × SetsAfterYes table.now.facts (N.answers rules.now.normal) node pass.old.number
+        balance pass.old.seen steps × Made pages pass.new pass.old steps }
     ensures carries { CarriesNothing table.now.facts.layout (own pass.old.seen pass.old.number) →
         CarriesNothing table.now.facts.layout (own pass.new.seen pass.new.number) }
     ensures sets { largest_sets table.now.facts.layout (state_after table.now.facts pass.new.seen)

@@ -2,38 +2,19 @@
 -- meanwhile.
 use Rattle.std.proofs.Common.{◌≡◌, ℕ, ◌+◌, ◌*◌, ◌≤◌, nat_eq, false, List, [], ◌∷◌, ◌++◌, length, refl, sym, ap, ◌∙◌}
 use Rattle.std.proofs.Common.{arith, if◌then◌else◌, subst}
-use Rattle.vms_base.specs.declared.headers.Header.{Header}
-use Rattle.vms_base.specs.declared.ids.CpuId.{CpuId}
-use Rattle.vms_base.specs.declared.kinds.CpuState.{CpuState}
-use Rattle.vms_base.specs.declared.kinds.CpuState.TheVariants.{Absent}
-use Rattle.vms_base.specs.declared.kinds.ZoneSize.{ZoneSize}
-use Rattle.vms_history.specs.Events.{after}
-use Rattle.vms_history.proofs.MadeSteps.{earlier-legal}
-use Rattle.vms_history.proofs.Own.{after-steps}
-use Rattle.vms_calls.specs.HeaderFacts.{facts_of}
-use Rattle.vms_calls.specs.MayCall.{KnowsByOwnSteps}
-use Rattle.vms_calls.specs.MayMake.{HasMade}
-use Rattle.vms_calls.specs.Ratings.{ByNormal, ByPressure}
-use Rattle.vms_calls.proofs.CallSteps.{Each, OfFolds, OfLooks, OfRatings, fold-each, node-each, refresh-each}
-use Rattle.vms_calls.proofs.CallSteps.{snapshot-each, test-each, turn-each}
-use Rattle.vms_core.specs.declared.states.State.{State}
-use Rattle.vms_core.specs.declared.steps.Facts.{Facts}
-use Rattle.vms_core.specs.declared.steps.Step.{Step}
-use Rattle.vms_core.specs.declared.steps.Step.TheVariants.{SetO}
-use Rattle.vms_core.specs.Cells.{cpu_at}
-use Rattle.vms_core.specs.Conditions.{IsControl}
-use Rattle.vms_core.specs.Pages.{History, IsLegal, pages, state_after}
-use Rattle.vms_core.specs.Peaks.{cpu_after, cpu_in}
-use Rattle.vms_core.specs.Plain.{most_sets}
-use Rattle.vms_core.proofs.Settings.{cpu_at-newest}
-use Rattle.vms_script.specs.Cpus.{state_past}
-use Rattle.vms_text.specs.declared.acts.Act.{Act}
-use Rattle.vms_text.specs.declared.acts.Act.TheVariants.{Fold, Water, Val, Snap, Sys, Pressure, Normal, Dead, Kswapd}
-use Rattle.vms_text.specs.declared.acts.Lane.TheVariants.{Control}
+use Rattle.vms_world.specs.Common.{Header, CpuId, CpuState, Absent, ZoneSize, after, facts_of, KnowsByOwnSteps, HasMade}
+use Rattle.vms_world.specs.Common.{ByNormal, ByPressure, State, Facts, Step, SetO, cpu_at, IsControl, pages, cpu_after}
+use Rattle.vms_world.specs.Common.{cpu_in, most_sets, state_past, Act, Fold, Water, Val, Snap, Sys, Pressure, Normal}
+use Rattle.vms_world.specs.Common.{Kswapd, Control, PageSteps, lane_owns}
+use Rattle.vms_history.proofs.Common.{earlier-legal, after-steps}
+use Rattle.vms_calls.proofs.Common.{Each, OfFolds, OfLooks, OfRatings, fold-each, node-each, refresh-each}
+use Rattle.vms_calls.proofs.Common.{snapshot-each, test-each, turn-each}
+use Rattle.vms_core.specs.Pages.{History, IsLegal, state_after}
+use Rattle.vms_core.proofs.Common.{cpu_at-newest}
+use Rattle.vms_text.specs.declared.acts.Act.TheVariants.{Dead}
 use Rattle.vms_text.specs.declared.acts.Line.TheVariants.{Lane}
-use Rattle.vms_world.specs.Acts.{PageSteps, owns}
-use Rattle.vms_words.specs.KeptSettings.{largest_sets}
-use Rattle.vms_lane.specs.Controlling.{BuriesTheDead, BuryTheDead, HasControlled, MayControl}
+use Rattle.vms_words.specs.Common.{largest_sets}
+use Rattle.vms_lane.specs.Common.{BuriesTheDead, BuryTheDead, HasControlled, MayControl}
 
 -- a step that leaves the state of CPU c
 abbrev Leaves : ℕ → Step → Type 0
@@ -91,7 +72,7 @@ module _ (facts : Facts) (c p : ℕ) where
         → PageSteps header base pressure normal Control p a h steps
         → cpu_in facts c (after p steps h) ≡ state_past c (Lane Control a) (cpu_in facts c h)
     act-in_row (Fold d) steps h makes =
-        in-row steps h (fold-each (Leaves c) (leaves-folds c) header.layout (owns Control d) d steps makes)
+        in-row steps h (fold-each (Leaves c) (leaves-folds c) header.layout (lane_owns Control d) d steps makes)
     act-in_row (Water g mark most) steps h (answer, makes) =
         in-row steps h (test-each (Leaves c) (leaves-looks c) header g mark most steps answer makes)
     act-in_row (Val k) steps h (answer, makes) =

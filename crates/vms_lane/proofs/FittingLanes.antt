@@ -3,30 +3,15 @@
 use Rattle.std.proofs.Common.{◌≡◌, ℕ, cond, List, [], ◌∷◌, map, filter, refl, ap, ◌∙◌, sym, Ok}
 use Rattle.std.specs.Prelude.{All}
 use Rattle.std.proofs.lemmas.List.Elements.{All-head, All-tail}
-use Rattle.vms_base.specs.declared.headers.Header.{Header}
-use Rattle.vms_base.specs.declared.ids.CpuId.{CpuId}
-use Rattle.vms_base.specs.declared.kinds.CpuState.{CpuState}
-use Rattle.vms_base.specs.declared.kinds.CpuState.TheVariants.{Online, Dead as IsDead, Absent}
-use Rattle.vms_base.specs.Places.{IsCpu}
-use Rattle.vms_core.specs.Cells.{cpu_at}
-use Rattle.vms_file_order.specs.Burials.{HasStates}
-use Rattle.vms_line.specs.Laws.{IsActOf, IsLineOf}
-use Rattle.vms_script.specs.Cpus.{state_past}
-use Rattle.vms_script.specs.FittingScripts.{AreAllowed, Fits}
-use Rattle.vms_script.specs.Judging.{allowed_burial, allowed_from, allowed_of_control}
-use Rattle.vms_script.specs.PhaseScripts.{is_lane}
-use Rattle.vms_script.specs.Starts.{Start, start_past}
-use Rattle.vms_script.specs.Totals.{line_of}
-use Rattle.vms_text.specs.declared.acts.Act.{Act}
+use Rattle.vms_world.specs.Common.{Header, CpuId, CpuState, Absent, IsCpu, cpu_at, IsActOf, IsLineOf, state_past}
+use Rattle.vms_world.specs.Common.{AreAllowed, Fits, allowed_burial, allowed_from, allowed_of_control, is_lane, Start}
+use Rattle.vms_world.specs.Common.{start_past, line_of, Act, Item, Lane as LaneOf, Cpu, Control, Line, acts_of}
+use Rattle.vms_base.specs.declared.kinds.CpuState.TheVariants.{Online, Dead as IsDead}
+use Rattle.vms_file_order.specs.Common.{HasStates}
 use Rattle.vms_text.specs.declared.acts.Act.TheVariants.{Dead}
-use Rattle.vms_text.specs.declared.acts.Item.{Item}
-use Rattle.vms_text.specs.declared.acts.Lane.{Lane as LaneOf}
-use Rattle.vms_text.specs.declared.acts.Lane.TheVariants.{Cpu, Control}
-use Rattle.vms_text.specs.declared.acts.Line.{Line}
 use Rattle.vms_text.specs.declared.acts.Line.TheVariants.{Lane}
 use Rattle.vms_world.specs.declared.worlds.World.{World}
-use Rattle.vms_world.specs.Lanes.{acts_of}
-use Rattle.vms_lane.specs.Controlling.{BuriesTheDead, BuryTheDead}
+use Rattle.vms_lane.specs.Common.{BuriesTheDead, BuryTheDead}
 use Rattle.vms_lane.proofs.ControlledCpus.{buries-same}
 
 -- a line that buries a CPU counts where the CPU is dead

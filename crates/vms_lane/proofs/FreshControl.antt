@@ -1,29 +1,17 @@
 -- For other crates too: where no pass without a CPU has made a step, no threshold and no mark was set since the base,
 -- and each CPU is in the state that the base has.
-use Rattle.std.proofs.Common.{◌≡◌, ℕ, ◌≤◌, List, [], ◌∷◌, ◌++◌, length, None, inl, inr, ◌⊎◌, refl}
-use Rattle.std.proofs.Common.{sym, ap, ◌∙◌, subst, arith, append_assoc, length-append}
-use Rattle.vms_base.specs.declared.kinds.CpuState.{CpuState}
-use Rattle.vms_base.specs.Places.{IsPlace, place_count}
-use Rattle.vms_history.specs.Events.{own}
-use Rattle.vms_history.specs.Passes.{begun_in, owner_in}
-use Rattle.vms_history.specs.Sums.{largest_below}
-use Rattle.vms_history.proofs.CountLemmas.{largest_below-most}
-use Rattle.vms_history.proofs.Own.{own-append, own-mine}
-use Rattle.vms_history.proofs.PassLaws.{begun_in-append, live_is_given, owner_in-append}
-use Rattle.vms_history.proofs.Prefixes.{base_can_begin, prefix_is_legal}
-use Rattle.vms_core.specs.declared.steps.Facts.{Facts}
-use Rattle.vms_core.specs.declared.steps.Step.{Step}
-use Rattle.vms_core.specs.declared.steps.Step.TheVariants.{SetM, SetO, SetT}
-use Rattle.vms_core.specs.Cells.{cpu_at, mark_sets_at, threshold_sets_at}
-use Rattle.vms_core.specs.Conditions.{IsControl}
-use Rattle.vms_core.specs.Effects.{mark_sets_after}
-use Rattle.vms_core.specs.Pages.{History, IsLegal, pages, state_after}
-use Rattle.vms_core.specs.Peaks.{cpu_after, cpu_in, sets_after}
+use Rattle.std.proofs.Common.{◌≡◌, ℕ, ◌≤◌, List, [], ◌∷◌, ◌++◌, length, None, inl, inr, ◌⊎◌, refl, sym, ap, ◌∙◌, subst}
+use Rattle.std.proofs.Common.{arith, append_assoc, length-append}
+use Rattle.vms_world.specs.Common.{CpuState, IsPlace, place_count, own, begun_in, owner_in, largest_below, Facts, Step}
+use Rattle.vms_world.specs.Common.{SetM, SetO, SetT, cpu_at, mark_sets_at, threshold_sets_at, IsControl}
+use Rattle.vms_world.specs.Common.{mark_sets_after, pages, cpu_after, cpu_in, sets_after, Act}
+use Rattle.vms_history.proofs.Common.{largest_below-most, own-append, own-mine, begun_in-append, live_is_given}
+use Rattle.vms_history.proofs.Common.{owner_in-append, base_can_begin, prefix_is_legal}
+use Rattle.vms_core.specs.Pages.{History, IsLegal, state_after}
 use Rattle.vms_core.specs.Steps.{role}
-use Rattle.vms_core.proofs.Settings.{mark_sets_at-newest, sets-newest}
-use Rattle.vms_text.specs.declared.acts.Act.{Act}
-use Rattle.vms_words.specs.KeptSettings.{largest_sets}
-use Rattle.vms_lane.specs.Controlling.{BuryTheDead, MayControl}
+use Rattle.vms_core.proofs.Common.{mark_sets_at-newest, sets-newest}
+use Rattle.vms_words.specs.Common.{largest_sets}
+use Rattle.vms_lane.specs.Common.{BuryTheDead, MayControl}
 use Rattle.vms_lane.proofs.ControlledCpus.{buries-same, cpu_at-told}
 
 -- a step that any pass may make

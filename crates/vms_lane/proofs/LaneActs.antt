@@ -2,27 +2,15 @@
 -- of the lane's lines in the phase, and are made in the world that the tables were made from.
 use Rattle.std.proofs.Common.{◌≡◌, ℕ, Bool, true, false, cond, List, [], ◌∷◌, ◌++◌, map, filter, refl, sym, ap, ◌∙◌}
 use Rattle.std.proofs.Common.{subst, append_assoc}
-use Rattle.vms_base.specs.declared.headers.Header.{Header}
-use Rattle.vms_base.specs.declared.kinds.ZoneSize.{ZoneSize}
-use Rattle.vms_history.specs.declared.events.Event.{Event}
-use Rattle.vms_history.specs.Events.{Extends, own}
-use Rattle.vms_core.specs.declared.states.State.{State}
-use Rattle.vms_event_core.specs.declared.states.EventState.{EventState}
-use Rattle.vms_pcpu_core.specs.declared.states.PcpuState.{PcpuState}
-use Rattle.vms_file_order.proofs.LaneLists.{is_lane-sym}
-use Rattle.vms_script.specs.declared.lane_scripts.LaneItem.{LaneItem}
-use Rattle.vms_script.specs.PhaseScripts.{is_lane, lane_item, lane_items}
+use Rattle.vms_world.specs.Common.{Header, ZoneSize, Event, Extends, own, State, EventState, PcpuState, LaneItem}
+use Rattle.vms_world.specs.Common.{is_lane, lane_item, lane_items, Act, Item, Lane, MakesActs, acts_of, act as one_act}
+use Rattle.vms_file_order.proofs.Common.{is_lane-sym}
 use Rattle.vms_tables.specs.declared.tables.Tables.{Tables}
-use Rattle.vms_tables.specs.Passes.{TablePasses}
-use Rattle.vms_tables.specs.Tables.{world_of}
-use Rattle.vms_text.specs.declared.acts.Act.{Act}
-use Rattle.vms_text.specs.declared.acts.Item.{Item}
-use Rattle.vms_text.specs.declared.acts.Lane.{Lane}
+use Rattle.vms_tables.specs.Common.{TablePasses, world_of}
 use Rattle.vms_world.specs.declared.worlds.World.{World}
-use Rattle.vms_world.specs.Lanes.{MakesActs, acts_of}
-use Rattle.vms_world.specs.Lanes.MakesActs.{none as no_act, act as one_act}
-use Rattle.vms_answers.specs.PhaseAnswers.{NumberedAnswer}
-use Rattle.vms_lane.specs.Scripts.{GoesOnWith, MakeLines, acts_in}
+use Rattle.vms_world.specs.Lanes.MakesActs.{none as no_act}
+use Rattle.vms_answers.specs.Common.{NumberedAnswer}
+use Rattle.vms_lane.specs.Common.{GoesOnWith, MakeLines, acts_in}
 
 module _ {K : Type 0} (makes : Act → List (Event K) → List K → Type 0) (p : ℕ) where
   -- a pass that had made nothing has made these acts and nothing else

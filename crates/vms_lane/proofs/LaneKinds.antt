@@ -1,13 +1,11 @@
 -- Which lane it is that passes may make a line of.
 use Rattle.std.proofs.Common.{◌≡◌, Some, refl, sym, ap, ◌∙◌}
-use Rattle.vms_base.specs.declared.ids.CpuId.{CpuId}
+use Rattle.vms_world.specs.Common.{CpuId, Lane, Cpu, Control}
 use Rattle.vms_burial.specs.declared.passes.ControlPasses.{ControlPasses}
 use Rattle.vms_tables.specs.declared.passes.CpuPasses.{CpuPasses}
 use Rattle.vms_tables.specs.declared.tables.Tables.{Tables}
-use Rattle.vms_text.specs.declared.acts.Lane.{Lane}
-use Rattle.vms_text.specs.declared.acts.Lane.TheVariants.{Cpu, Control}
 use Rattle.vms_lane.specs.declared.passes.LanePasses.TheVariants.{Cpu as OfCpu, Control as OfControl}
-use Rattle.vms_lane.specs.LanePasses.{AreReadyFor}
+use Rattle.vms_lane.specs.Common.{AreReadyFor}
 
 -- that of the CPU that they own
 pub lane-of_cpu : (tables : Tables) (lane : Lane) (passes : CpuPasses) (c : CpuId)

@@ -15,3 +15,4 @@ pub mod LaneActs
 pub mod FittingLanes
 pub mod FreshControl
 pub mod RoomForLanes
+pub mod Common

@@ -1,45 +1,26 @@
 -- A line of the control lane, by the table that its act concerns.
-use Rattle.std.proofs.Common.{◌≡◌, ◌≢◌, ℕ, List, Option, Some, None, refl, sym, ap, subst}
-use Rattle.vms_base.specs.declared.headers.Header.{Header}
-use Rattle.vms_base.specs.declared.ids.CpuId.{CpuId}
-use Rattle.vms_base.specs.declared.ids.EventId.{EventId}
-use Rattle.vms_base.specs.declared.kinds.ZoneSize.{ZoneSize}
-use Rattle.vms_base.specs.Places.{Shape}
+use Rattle.std.proofs.Common.{◌≡◌, ◌≢◌, ℕ, List, Option, Some, None, sym, ap, subst}
+use Rattle.vms_world.specs.Common.{Header, CpuId, ZoneSize, Shape, own, HasMade, Buries, Facts, Step, pages, EventCall}
+use Rattle.vms_world.specs.Common.{EventFacts, EventStep, events, PcpuFacts, percpu, Act, Control, EventSteps}
+use Rattle.vms_world.specs.Common.{PcpuSteps, event_call, event_facts, page_facts, pcpu_facts}
 use Rattle.vms_burial.specs.declared.passes.ControlPasses.{ControlPasses}
-use Rattle.vms_burial.specs.Burials.{MovesEvents, MovesLocals}
-use Rattle.vms_burial.specs.Passes.{passes_of}
-use Rattle.vms_history.specs.Events.{own}
-use Rattle.vms_calls.specs.MayMake.{HasMade}
-use Rattle.vms_calls.specs.Ratings.{Buries}
-use Rattle.vms_control.proofs.PassCalls.{has-made}
-use Rattle.vms_core.specs.declared.steps.Facts.{Facts}
-use Rattle.vms_core.specs.declared.steps.Step.{Step}
+use Rattle.vms_burial.specs.Common.{FoldsDeadEvents, FoldsDeadLocals, passes_of}
+use Rattle.vms_control.proofs.Common.{has-made}
 use Rattle.vms_core.specs.Own.{CarriesNothing}
-use Rattle.vms_core.specs.Pages.{pages}
-use Rattle.vms_event_core.specs.declared.steps.EventFacts.{EventFacts}
-use Rattle.vms_event_core.specs.declared.steps.EventStep.{EventStep}
-use Rattle.vms_event_core.specs.Calls.{IsAllEvents, online_cpus}
-use Rattle.vms_event_core.specs.Events.{events}
-use Rattle.vms_pcpu_core.specs.declared.steps.PcpuFacts.{PcpuFacts}
-use Rattle.vms_pcpu_core.specs.Histories.{percpu}
-use Rattle.vms_plain_lines.proofs.ControlAnswers.{TellsFoldEvents, Tell-burial}
-use Rattle.vms_seats.specs.Passes.{Pass}
-use Rattle.vms_seats.specs.Steps.{Made}
-use Rattle.vms_seats.proofs.MadeCalls.{calls-none}
+use Rattle.vms_event_core.specs.declared.call_values.EventAnswer.TheVariants.{Done}
+use Rattle.vms_pcpu_core.specs.declared.answers.PcpuAnswer.TheVariants.{Done as PcpuDone}
+use Rattle.vms_answers.proofs.Common.{TellsEventCall, Tell-burial}
+use Rattle.vms_seats.specs.Common.{Pass, Made}
+use Rattle.vms_seats.proofs.Common.{calls-none}
 use Rattle.vms_tables.specs.declared.tables.Tables.{Tables}
-use Rattle.vms_tables.specs.Passes.{AreLive, AreOf, TablePasses}
-use Rattle.vms_tables.specs.Tables.{AreTables, world_of}
-use Rattle.vms_text.specs.declared.acts.Act.{Act}
-use Rattle.vms_text.specs.declared.acts.Act.TheVariants.{Dead, EvSum}
-use Rattle.vms_text.specs.declared.acts.Lane.TheVariants.{Control}
-use Rattle.vms_world.specs.Acts.{EventSteps, PcpuSteps}
-use Rattle.vms_world.specs.Worlds.{event_facts, page_facts, pcpu_facts}
-use Rattle.vms_answers.specs.Answers.{Answer, Tell, on_events, on_pages}
-use Rattle.vms_answers.specs.Answers.Answer.{Events}
-use Rattle.vms_lane.specs.Lines.{MakeAct}
-use Rattle.vms_lane.specs.Ready.{AreReadyToControl}
-use Rattle.vms_lane.specs.TableActs.{MakesOnPages}
-use Rattle.vms_lane.proofs.ControlKinds.{control-no_counters, control-no_events}
+use Rattle.vms_tables.specs.Common.{AreLive, AreFrom, TablePasses, AreTables, world_of}
+use Rattle.vms_text.specs.declared.acts.Act.TheVariants.{Dead}
+use Rattle.vms_world.proofs.Common.{events-no_counters, events-no_pages}
+use Rattle.vms_answers.specs.declared.answers.Answer.{Answer}
+use Rattle.vms_answers.specs.Common.{on_events, on_pages}
+use Rattle.vms_lane.specs.Common.{MakeAct, AreReadyToControl, MakesOnEvents, MakesOnPages}
+use Rattle.vms_lane.proofs.ActKinds.{no_events-steps}
+use Rattle.vms_lane.proofs.ControlKinds.{control-no_counters}
 use Rattle.vms_lane.proofs.MadeLines.{of-made}
 
 module _ (header : Header) (pressure normal : ZoneSize → ℕ → ℕ → Type 0) (tables : Tables)
@@ -62,41 +43,32 @@ module _ (header : Header) (pressure normal : ZoneSize → ℕ → ℕ → Type 
   }
 
   module _ (live : AreLive (passes_of old)) where
-    -- a sum of an event
-    pub sum-by_control : (k : EventId) (answer : ℕ) (pass : Pass EventFacts EventStep)
-        → (found : List ℕ) × (steps : List EventStep)
-        × IsAllEvents (online_cpus tables.events.facts) k found steps answer × Made events pass old.event steps
-        → ((found : List ℕ) (steps : List EventStep)
-        → IsAllEvents (online_cpus (event_facts header (world_of tables))) k found steps answer
-        → Tell header (world_of tables) Control (EvSum k) (on_events steps) (Some (Events answer)))
-        → (b : Act) → b ≡ EvSum k
-        → Makes b (record { pages = old.page; events = pass; counters = old.pcpu }) (Some (Events answer))
-    sum-by_control k answer pass (found, steps, call, made) tells b is =
-        let sum : IsAllEvents (online_cpus (event_facts header (world_of tables))) k found steps answer =
-        subst (λ (f : EventFacts). IsAllEvents (online_cpus f) k found steps answer) are.events call in
-        subst (λ (a : Act). Makes a (record { pages = old.page; events = pass; counters = old.pcpu })
-        (Some (Events answer))) (sym is)
-        (record {
-          steps = on_events steps;
-          page_act = refl;
-          event_act = (found, answer, sum);
-          pcpu_act = refl;
-          pages = calls-none pages old.page live.pages;
-          events = made;
-          counters = calls-none percpu old.pcpu live.counters;
-          tells = tells found steps sum;
-        })
+    -- the sum of an event
+    pub sum-by_control : (a : Act) (call : EventCall) (answer : Option Answer) (pass : Pass EventFacts EventStep)
+        → event_call Control a ≡ Some call → ((c : CpuId) → a ≢ Dead c)
+        → MakesOnEvents header tables.events.facts Control a pass old.event answer
+        → Makes a (record { pages = old.page; events = pass; counters = old.pcpu }) answer
+    sum-by_control a call answer pass on alone act = record {
+      steps = on_events act.steps;
+      page_act = events-no_pages Control a call on alone header (world_of tables).pages pressure normal
+          old.page.number old.page.seen;
+      event_act = subst (λ (f : EventFacts). EventSteps f Control a act.steps) are.events act.is_act;
+      pcpu_act = events-no_counters Control a call on alone (pcpu_facts header (world_of tables));
+      pages = calls-none pages old.page live.pages;
+      events = act.made;
+      counters = calls-none percpu old.pcpu live.counters;
+      tells = act.tells (world_of tables) are.events;
+    }
 
     -- an act on the page counters
     pub pages-by_control : (a : Act) (answer : Option Answer) (pass : Pass Facts Step)
         → MakesOnPages header pressure normal tables.pages.facts.base Control a pass old.page answer
-        → ((k : EventId) → a ≢ EvSum k) → ((c : CpuId) → a ≢ Dead c)
-        → Makes a (record { pages = pass; events = old.event; counters = old.pcpu }) answer
-    pages-by_control a answer pass act no_sum no_burial = record {
+        → event_call Control a ≡ None → Makes a (record { pages = pass; events = old.event; counters = old.pcpu }) answer
+    pages-by_control a answer pass act none = record {
       steps = on_pages act.steps;
       page_act = act.is_act;
-      event_act = control-no_events a no_burial (event_facts header (world_of tables)) no_sum;
-      pcpu_act = control-no_counters a no_burial (pcpu_facts header (world_of tables));
+      event_act = no_events-steps (event_facts header (world_of tables)) Control a none;
+      pcpu_act = control-no_counters (pcpu_facts header (world_of tables)) a none;
       pages = act.made;
       events = calls-none events old.event live.events;
       counters = calls-none percpu old.pcpu live.counters;
@@ -110,11 +82,11 @@ module _ (header : Header) (pressure normal : ZoneSize → ℕ → ℕ → Type 
       (sym (ap (λ (f : Facts). f.layout) are.pages)) act.nothing
 
   -- a burial
-  pub burial-by_control : TellsFoldEvents → AreOf tables (passes_of old) → (c : CpuId) (new : ControlPasses)
+  pub burial-by_control : TellsEventCall → AreFrom tables (passes_of old) → (c : CpuId) (new : ControlPasses)
       → (steps : List Step) × Buries tables.pages.facts normal c old.page.number old.page.seen steps
-      × Made pages new.page old.page steps → MovesEvents tables.events.facts new.event old.event c
-      → MovesLocals tables.counters.facts new.pcpu old.pcpu c → Makes (Dead c) (passes_of new) None
-  burial-by_control folds_told of c new (steps, buries, made) event pcpu =
+      × Made pages new.page old.page steps → FoldsDeadEvents tables.events.facts new.event old.event c
+      → FoldsDeadLocals tables.counters.facts new.pcpu old.pcpu c → Makes (Dead c) (passes_of new) None
+  burial-by_control reads of c new (steps, buries, made) event pcpu =
       let p = old.page.number in
       let h = old.page.seen in
       let burial : Buries (page_facts header (world_of tables)) normal c p h steps =
@@ -122,16 +94,18 @@ module _ (header : Header) (pressure normal : ZoneSize → ℕ → ℕ → Type 
       let has : HasMade (page_facts header (world_of tables)) new.page.seen h p steps =
       subst (λ (f : Facts). HasMade f new.page.seen h p steps) are.pages
       (has-made tables.pages new.page old.page steps of.pages made) in
+      let folds : EventSteps (event_facts header (world_of tables)) Control (Dead c) event.steps =
+      subst (λ (f : EventFacts). EventSteps f Control (Dead c) event.steps) are.events
+      (Done, (event.into, event.found, event.is_lowest, event.folds)) in
       record {
         steps = record { pages = steps; events = event.steps; counters = pcpu.steps };
         page_act = burial;
-        event_act = subst (λ (f : EventFacts). EventSteps f Control (Dead c) event.steps) are.events
-            (event.into, event.found, event.is_lowest, event.folds);
-        pcpu_act = subst (λ (f : PcpuFacts). PcpuSteps f Control (Dead c) pcpu.steps) are.counters pcpu.folds;
+        event_act = folds;
+        pcpu_act = subst (λ (f : PcpuFacts). PcpuSteps f Control (Dead c) pcpu.steps) are.counters
+            (PcpuDone, pcpu.folds);
         pages = made;
         events = event.made;
         counters = pcpu.made;
         tells = Tell-burial header (world_of tables) pressure normal p new.page.seen h
-            (record { pages = steps; events = event.steps; counters = pcpu.steps }) has folds_told are.declared c
-            event.into event.found burial event.folds pcpu.folds;
+            (record { pages = steps; events = event.steps; counters = pcpu.steps }) has reads c burial folds pcpu.folds;
       }

@@ -1,46 +1,29 @@
 -- A line of a CPU's lane, by the table that its act concerns.
-use Rattle.std.proofs.Common.{◌≡◌, ℕ, true, false, List, Option, refl, sym, ap, ◌∙◌, subst}
-use Rattle.vms_base.specs.declared.headers.Header.{Header}
-use Rattle.vms_base.specs.declared.ids.CpuId.{CpuId}
-use Rattle.vms_base.specs.declared.kinds.ZoneSize.{ZoneSize}
-use Rattle.vms_base.specs.Places.{Shape}
-use Rattle.vms_history.specs.Events.{own}
-use Rattle.vms_history.specs.Legal.{Machine}
-use Rattle.vms_core.specs.declared.steps.Facts.{Facts}
+use Rattle.std.proofs.Common.{◌≡◌, ℕ, List, Option, Some, None, refl, sym, ap, ◌∙◌, subst}
+use Rattle.vms_world.specs.Common.{Header, CpuId, ZoneSize, Shape, own, Machine, Facts, pages, EventCall, EventFacts}
+use Rattle.vms_world.specs.Common.{events, PcpuCall, percpu, spent_on_counter, spent_on_event, spent_on_pcpu, Act, Cpu}
+use Rattle.vms_world.specs.Common.{EventSteps, PcpuSteps, event_call, pcpu_call, event_facts, pcpu_facts}
 use Rattle.vms_core.specs.Own.{CarriesNothing}
-use Rattle.vms_core.specs.Pages.{pages}
 use Rattle.vms_event.specs.CpuPasses as event_passes
-use Rattle.vms_event_core.specs.declared.steps.EventFacts.{EventFacts}
-use Rattle.vms_event_core.specs.Events.{events}
 use Rattle.vms_pcpu.specs.IdlePasses as pcpu_passes
-use Rattle.vms_pcpu_core.specs.Histories.{percpu}
-use Rattle.vms_script.specs.Volumes.{spent_on_counter, spent_on_event, spent_on_pcpu}
-use Rattle.vms_seats.specs.Passes.{IsOf, Pass, Shared}
-use Rattle.vms_seats.specs.Steps.{Made}
-use Rattle.vms_seats.proofs.MadeCalls.{calls-none}
+use Rattle.vms_seats.specs.Common.{IsFrom, Pass, Shared, Made}
+use Rattle.vms_seats.proofs.Common.{calls-none}
 use Rattle.vms_tables.specs.declared.passes.CpuPasses.{CpuPasses}
 use Rattle.vms_tables.specs.declared.tables.Tables.{Tables}
-use Rattle.vms_tables.specs.Passes.{AreLive, passes_of}
-use Rattle.vms_tables.specs.Tables.{AreTables, world_of}
-use Rattle.vms_text.specs.declared.acts.Act.{Act}
-use Rattle.vms_text.specs.declared.acts.Lane.TheVariants.{Cpu}
-use Rattle.vms_words.specs.PagePasses.{OwningPass}
-use Rattle.vms_world.specs.Acts.{EventSteps, PcpuSteps}
-use Rattle.vms_world.specs.Worlds.{event_facts, pcpu_facts}
-use Rattle.vms_answers.specs.Answers.{Answer, on_counters, on_events, on_pages}
-use Rattle.vms_lane.specs.Acts.{is_on_counters, is_on_events}
-use Rattle.vms_lane.specs.Lines.{MakeAct}
-use Rattle.vms_lane.specs.Ready.{AreReady}
-use Rattle.vms_lane.specs.Spending.{HasGrown, HaveSpent, spent_by}
-use Rattle.vms_lane.specs.TableActs.{MakesOnCounters, MakesOnEvents, MakesOnPages}
-use Rattle.vms_lane.proofs.ActKinds.{counters-no_pages, counters-unspent, events-no_counters, events-no_pages}
-use Rattle.vms_lane.proofs.ActKinds.{events-unspent, no_counters-steps, no_counters-unspent, no_events-steps}
-use Rattle.vms_lane.proofs.ActKinds.{no_events-unspent}
+use Rattle.vms_tables.specs.Common.{AreLive, passes_of, AreTables, world_of}
+use Rattle.vms_words.specs.Common.{OwningPass}
+use Rattle.vms_world.proofs.Common.{call-no_events, call-no_pages, events-no_burial, events-no_pages}
+use Rattle.vms_answers.specs.declared.answers.Answer.{Answer}
+use Rattle.vms_answers.specs.Common.{on_counters, on_events, on_pages}
+use Rattle.vms_lane.specs.Common.{MakeAct, AreReady, HasGrown, HaveSpent, spending_of, MakesOnCounters, MakesOnEvents}
+use Rattle.vms_lane.specs.Common.{MakesOnPages}
+use Rattle.vms_lane.proofs.ActKinds.{call-unspent, events-no_call, events-unspent, no_call-steps, no_call-unspent}
+use Rattle.vms_lane.proofs.ActKinds.{no_events-steps, no_events-unspent}
 use Rattle.vms_lane.proofs.GrownVolumes.{grown-none}
 
 -- a pass that made steps is still one of its table
 pub of-made : {F K S : Type 0} (machine : Machine F K S) (words : Shared F) (new old : Pass F K) (steps : List K)
-    → Made machine new old steps → IsOf old words → IsOf new words
+    → Made machine new old steps → IsFrom old words → IsFrom new words
 of-made machine words new old steps made of =
     record { table = made.table ∙ of.table; facts = made.facts ∙ of.facts }
 
@@ -51,7 +34,7 @@ module _ (header : Header) (pressure normal : ZoneSize → ℕ → ℕ → Type 
   Makes new = MakeAct header pressure normal (world_of tables) (Cpu c) a (passes_of new) (passes_of old) answer
 
   -- the passes may go on after a line
-  pub ready-after : AreReady tables c old → (new : CpuPasses) → Makes new → HaveSpent (spent_by a) new old
+  pub ready-after : AreReady tables c old → (new : CpuPasses) → Makes new → HaveSpent (spending_of a) new old
       → CarriesNothing tables.pages.facts.layout (own new.page.pass.seen new.page.pass.number)
       → AreReady tables c new
   ready-after ready new makes spends nothing = record {
@@ -77,16 +60,16 @@ module _ (header : Header) (pressure normal : ZoneSize → ℕ → ℕ → Type 
   }
 
   module _ (live : AreLive (passes_of old)) where
-    -- an act on the event counters
-    module _ (on : is_on_events a ≡ true) (pass : event_passes.CpuPass) where
+    -- an act that makes a call on the event counters
+    module _ (call : EventCall) (on : event_call (Cpu c) a ≡ Some call) (pass : event_passes.CpuPass) where
       pub event-made : MakesOnEvents header tables.events.facts (Cpu c) a pass.pass old.event.pass answer
           → Makes (record old { event = pass })
       event-made act = record {
         steps = on_events act.steps;
-        page_act = events-no_pages header (world_of tables).pages pressure normal c old.page.pass.number
-            old.page.pass.seen a on;
+        page_act = events-no_pages (Cpu c) a call on (events-no_burial c a call on) header (world_of tables).pages
+            pressure normal old.page.pass.number old.page.pass.seen;
         event_act = subst (λ (facts : EventFacts). EventSteps facts (Cpu c) a act.steps) are.events act.is_act;
-        pcpu_act = no_counters-steps (pcpu_facts header (world_of tables)) c a (events-no_counters a on);
+        pcpu_act = no_call-steps (pcpu_facts header (world_of tables)) c a (events-no_call c a call on);
         pages = calls-none pages old.page.pass live.pages;
         events = act.made;
         counters = calls-none percpu old.pcpu.pass live.counters;
@@ -94,23 +77,24 @@ module _ (header : Header) (pressure normal : ZoneSize → ℕ → ℕ → Type 
       }
 
       pub event-spent : HasGrown (λ e. spent_on_event e a) pass.volume old.event.volume
-          → HaveSpent (spent_by a) (record old { event = pass }) old
+          → HaveSpent (spending_of a) (record old { event = pass }) old
       event-spent grown = record {
-        page = grown-none (λ k. spent_on_counter k a) (events-unspent a on) old.page.volume old.page.volume refl;
+        page = grown-none (λ k. spent_on_counter k a) (events-unspent c a call on) old.page.volume old.page.volume refl;
         event = grown;
-        pcpu = grown-none (λ j. spent_on_pcpu j a) (no_counters-unspent a (events-no_counters a on))
+        pcpu = grown-none (λ j. spent_on_pcpu j a) (no_call-unspent c a (events-no_call c a call on))
             old.pcpu.volume old.pcpu.volume refl;
       }
 
     -- an act on the percpu counters
-    module _ (no_events : is_on_events a ≡ false) (on : is_on_counters a ≡ true) (pass : pcpu_passes.CpuPass) where
+    module _ (no_events : event_call (Cpu c) a ≡ None) (call : PcpuCall) (is : pcpu_call (Cpu c) a ≡ Some call)
+        (pass : pcpu_passes.CpuPass) where
       pub pcpu-made : MakesOnCounters header tables.counters.facts (Cpu c) a pass.pass old.pcpu.pass answer
           → Makes (record old { pcpu = pass })
       pcpu-made act = record {
         steps = on_counters act.steps;
-        page_act = counters-no_pages header (world_of tables).pages pressure normal c old.page.pass.number
-            old.page.pass.seen a on;
-        event_act = no_events-steps (event_facts header (world_of tables)) c a no_events;
+        page_act = call-no_pages header (world_of tables).pages pressure normal c old.page.pass.number
+            old.page.pass.seen call a is;
+        event_act = call-no_events (event_facts header (world_of tables)) c call a is;
         pcpu_act = subst (λ facts. PcpuSteps facts (Cpu c) a act.steps) are.counters act.is_act;
         pages = calls-none pages old.page.pass live.pages;
         events = calls-none events old.event.pass live.events;
@@ -119,23 +103,23 @@ module _ (header : Header) (pressure normal : ZoneSize → ℕ → ℕ → Type 
       }
 
       pub pcpu-spent : HasGrown (λ j. spent_on_pcpu j a) pass.volume old.pcpu.volume
-          → HaveSpent (spent_by a) (record old { pcpu = pass }) old
+          → HaveSpent (spending_of a) (record old { pcpu = pass }) old
       pcpu-spent grown = record {
-        page = grown-none (λ k. spent_on_counter k a) (counters-unspent a on) old.page.volume old.page.volume refl;
-        event = grown-none (λ e. spent_on_event e a) (no_events-unspent a no_events) old.event.volume
+        page = grown-none (λ k. spent_on_counter k a) (call-unspent c call a is) old.page.volume old.page.volume refl;
+        event = grown-none (λ e. spent_on_event e a) (no_events-unspent c a no_events) old.event.volume
             old.event.volume refl;
         pcpu = grown;
       }
 
     -- an act on the page counters
-    module _ (no_events : is_on_events a ≡ false) (no_counters : is_on_counters a ≡ false) (pass : OwningPass) where
+    module _ (no_events : event_call (Cpu c) a ≡ None) (no_call : pcpu_call (Cpu c) a ≡ None) (pass : OwningPass) where
       pub page-made : MakesOnPages header pressure normal (world_of tables).pages (Cpu c) a pass.pass old.page.pass
           answer → Makes (record old { page = pass })
       page-made act = record {
         steps = on_pages act.steps;
         page_act = act.is_act;
-        event_act = no_events-steps (event_facts header (world_of tables)) c a no_events;
-        pcpu_act = no_counters-steps (pcpu_facts header (world_of tables)) c a no_counters;
+        event_act = no_events-steps (event_facts header (world_of tables)) (Cpu c) a no_events;
+        pcpu_act = no_call-steps (pcpu_facts header (world_of tables)) c a no_call;
         pages = act.made;
         events = calls-none events old.event.pass live.events;
         counters = calls-none percpu old.pcpu.pass live.counters;
@@ -143,12 +127,12 @@ module _ (header : Header) (pressure normal : ZoneSize → ℕ → ℕ → Type 
       }
 
       pub page-spent : HasGrown (λ k. spent_on_counter k a) pass.volume old.page.volume
-          → HaveSpent (spent_by a) (record old { page = pass }) old
+          → HaveSpent (spending_of a) (record old { page = pass }) old
       page-spent grown = record {
         page = grown;
-        event = grown-none (λ e. spent_on_event e a) (no_events-unspent a no_events) old.event.volume
+        event = grown-none (λ e. spent_on_event e a) (no_events-unspent c a no_events) old.event.volume
             old.event.volume refl;
-        pcpu = grown-none (λ j. spent_on_pcpu j a) (no_counters-unspent a no_counters) old.pcpu.volume
+        pcpu = grown-none (λ j. spent_on_pcpu j a) (no_call-unspent c a no_call) old.pcpu.volume
             old.pcpu.volume refl;
       }
 

@@ -1,48 +1,29 @@
--- The acts that a pass makes on the event counters, by the calls that make them.
-use Rattle.std.proofs.Common.{◌≡◌, ℕ, List, [], ◌∷◌, Some, None, refl, sym, subst}
-use Rattle.vms_base.specs.declared.headers.Header.{Header}
-use Rattle.vms_base.specs.declared.ids.CpuId.{CpuId}
-use Rattle.vms_base.specs.declared.ids.EventId.{EventId}
-use Rattle.vms_event_core.specs.declared.steps.EventFacts.{EventFacts}
-use Rattle.vms_event_core.specs.declared.steps.EventStep.{EventStep}
-use Rattle.vms_event_core.specs.declared.steps.EventStep.TheVariants.{AddE}
-use Rattle.vms_event_core.specs.Calls.{IsAllEvents, IsCount, online_cpus}
-use Rattle.vms_event_core.specs.Events.{events}
-use Rattle.vms_seats.specs.Passes.{Pass}
-use Rattle.vms_seats.specs.Steps.{Made}
-use Rattle.vms_text.specs.declared.acts.Act.{Act}
-use Rattle.vms_text.specs.declared.acts.Act.TheVariants.{Ev, EvSum}
-use Rattle.vms_text.specs.declared.acts.Lane.TheVariants.{Cpu}
+-- An act that makes a call on the event counters, by the steps of its call.
+use Rattle.std.proofs.Common.{◌≡◌, ◌≢◌, List, Option, Some, sym, subst}
+use Rattle.vms_world.specs.Common.{Header, CpuId, EventAnswer, EventCall, EventFacts, EventStep, IsEventCall, events}
+use Rattle.vms_world.specs.Common.{Act, Lane, CallSteps, event_call, event_facts}
+use Rattle.vms_seats.specs.Common.{Pass, Made}
+use Rattle.vms_text.specs.declared.acts.Act.TheVariants.{Dead}
 use Rattle.vms_world.specs.declared.worlds.World.{World}
-use Rattle.vms_world.specs.Worlds.{event_facts}
-use Rattle.vms_answers.specs.Answers.{Tell, on_events}
-use Rattle.vms_answers.specs.Answers.Answer.{Events}
-use Rattle.vms_lane.specs.TableActs.{MakesOnEvents}
+use Rattle.vms_answers.specs.Common.{Tell, event_told, on_events}
+use Rattle.vms_lane.specs.Common.{MakesOnEvents}
 
-module _ (header : Header) (facts : EventFacts) (c : CpuId) (new old : Pass EventFacts EventStep) where
-  -- a count is one step
-  pub count-made : (k : EventId) (n : ℕ) → Made events new old (AddE k n ∷ [])
-      → ((w : World) (steps : List EventStep) → IsCount k n steps
-      → Tell header w (Cpu c) (Ev k n) (on_events steps) None) → (b : Act) → b ≡ Ev k n
-      → MakesOnEvents header facts (Cpu c) b new old None
-  count-made k n made tells b is =
-      let steps : List EventStep = AddE k n ∷ [] in
-      let call : IsCount k n steps = record { in_order = refl } in
-      subst (λ (x : Act). MakesOnEvents header facts (Cpu c) x new old None) (sym is)
-      (record { steps = steps; is_act = call; made = made; tells = λ w same. tells w steps call })
+-- the steps of such a call tell what the act answers
+abbrev pub EventCallsTell : Type 0
+EventCallsTell = (header : Header) (w : World) (lane : Lane) (act : Act) (call : EventCall) (steps : List EventStep)
+    (answer : EventAnswer) → event_call lane act ≡ Some call → ((c : CpuId) → act ≢ Dead c)
+    → IsEventCall (event_facts header w) call steps answer
+    → Tell header w lane act (on_events steps) (event_told answer)
 
-  -- a sum loads the words of the online CPUs
-  pub sum-made : (k : EventId) (found : List ℕ) (steps : List EventStep) (answer : ℕ)
-      → IsAllEvents (online_cpus facts) k found steps answer → Made events new old steps
-      → ((w : World) → IsAllEvents (online_cpus (event_facts header w)) k found steps answer
-      → Tell header w (Cpu c) (EvSum k) (on_events steps) (Some (Events answer))) → (b : Act) → b ≡ EvSum k
-      → MakesOnEvents header facts (Cpu c) b new old (Some (Events answer))
-  sum-made k found steps answer call made tells b is =
-      subst (λ (x : Act). MakesOnEvents header facts (Cpu c) x new old (Some (Events answer))) (sym is)
-      (record {
-        steps = steps;
-        is_act = (found, answer, call);
-        made = made;
-        tells = λ w same. tells w
-            (subst (λ (f : EventFacts). IsAllEvents (online_cpus f) k found steps answer) same call);
-      })
+pub call-made : EventCallsTell → (header : Header) (facts : EventFacts) (lane : Lane) (act : Act) (call : EventCall)
+    (answer : EventAnswer) (new old : Pass EventFacts EventStep) → event_call lane act ≡ Some call
+    → ((c : CpuId) → act ≢ Dead c)
+    → (steps : List EventStep) × IsEventCall facts call steps answer × Made events new old steps
+    → MakesOnEvents header facts lane act new old (event_told answer)
+call-made tell header facts lane act call answer new old is no_burial (steps, call_is, made) = record {
+  steps = steps;
+  is_act = subst (λ (makes : Option EventCall). CallSteps (IsEventCall facts) makes steps) (sym is) (answer, call_is);
+  made = made;
+  tells = λ w same. tell header w lane act call steps answer is no_burial
+      (subst (λ (f : EventFacts). IsEventCall f call steps answer) same call_is);
+}

@@ -1,44 +1,22 @@
 -- The acts that a pass makes on the page counters, by the calls that make them.
-use Rattle.std.proofs.Common.{◌≡◌, ℕ, ◌-◌, ◌*◌, ◌<◌, ◌≤◌, Bool, true, false, nat_lt, MatchBool, ℤ, List, length}
-use Rattle.std.proofs.Common.{⊎_elim, Option, Some, None, refl, sym, ap, ◌∙◌, subst, arith, length-append}
+use Rattle.std.proofs.Common.{◌≡◌, ℕ, ◌-◌, ◌*◌, ◌<◌, ◌≤◌, Bool, true, false, nat_lt, MatchBool, ℤ, List, length, ⊎_elim}
+use Rattle.std.proofs.Common.{Option, Some, None, refl, sym, ap, ◌∙◌, subst, arith, length-append}
 use Rattle.std.proofs.lemmas.Bool.Decides.{nat_tests}
-use Rattle.vms_base.specs.declared.headers.Header.{Header}
-use Rattle.vms_base.specs.declared.ids.CounterId.{CounterId}
-use Rattle.vms_base.specs.declared.ids.CpuId.{CpuId}
-use Rattle.vms_base.specs.declared.ids.ItemId.{ItemId}
-use Rattle.vms_base.specs.declared.ids.PlaceId.{PlaceId}
-use Rattle.vms_base.specs.declared.kinds.Mode.{Mode}
-use Rattle.vms_base.specs.declared.kinds.WaterMark.{WaterMark}
-use Rattle.vms_base.specs.declared.kinds.ZoneSize.{ZoneSize}
-use Rattle.vms_base.specs.Headers.{IsHeader, class_names, declared_names}
-use Rattle.vms_base.specs.Names.{node_items}
-use Rattle.vms_base.specs.Places.{IsCounter, IsItem, Shape, counter_count}
-use Rattle.vms_history.specs.Events.{own}
-use Rattle.vms_calls.specs.CallerLaws.{LeavesCaller}
-use Rattle.vms_calls.specs.Changes.{IsChange}
-use Rattle.vms_calls.specs.Folds.{IsFold}
-use Rattle.vms_calls.specs.HeaderFacts.{facts_of}
-use Rattle.vms_calls.specs.Looks.{IsPlaceValue, IsSnapshot, IsSystemValue, IsWatermarkTest, Verdict}
-use Rattle.vms_core.specs.declared.states.State.{State}
-use Rattle.vms_core.specs.declared.steps.Facts.{Facts}
-use Rattle.vms_core.specs.declared.steps.Step.{Step}
-use Rattle.vms_core.specs.Own.{CarriesNothing, carried, carried_of_item}
-use Rattle.vms_core.specs.Pages.{pages, History}
-use Rattle.vms_count.specs.Changing.{HasChanged}
-use Rattle.vms_count.specs.Folding.{HasFolded}
+use Rattle.vms_world.specs.Common.{Header, CounterId, CpuId, ItemId, PlaceId, Mode, WaterMark, ZoneSize, IsHeader}
+use Rattle.vms_world.specs.Common.{class_names, declared_names, node_items, IsCounter, IsItem, Shape, counter_count}
+use Rattle.vms_world.specs.Common.{own, LeavesCaller, IsChange, IsFold, facts_of, Verdict, IsPlaceValue, IsSnapshot}
+use Rattle.vms_world.specs.Common.{IsSystemValue, IsWatermarkTest, State, Facts, Step, carried_of_item, pages}
+use Rattle.vms_world.specs.Common.{IsKnownValue, Act, Fold, Water, Val, Snap, Sys, Lane, Cpu, Control, PageSteps}
+use Rattle.vms_world.specs.Common.{lane_owns, owner_of}
+use Rattle.vms_core.specs.Own.{CarriesNothing, carried}
+use Rattle.vms_core.specs.Pages.{History}
+use Rattle.vms_count.specs.Common.{HasChanged, HasFolded}
 use Rattle.vms_count.specs.Folding as folding
-use Rattle.vms_line.specs.Laws.{IsKnownValue}
-use Rattle.vms_seats.specs.Passes.{Pass}
-use Rattle.vms_seats.specs.Steps.{Made}
-use Rattle.vms_text.specs.declared.acts.Act.{Act}
-use Rattle.vms_text.specs.declared.acts.Act.TheVariants.{Fold, Water, Val, Snap, Sys}
-use Rattle.vms_text.specs.declared.acts.Lane.{Lane}
-use Rattle.vms_text.specs.declared.acts.Lane.TheVariants.{Cpu, Control}
+use Rattle.vms_seats.specs.Common.{Pass, Made}
 use Rattle.vms_world.specs.declared.worlds.World.{World}
-use Rattle.vms_world.specs.Acts.{PageSteps, owns}
-use Rattle.vms_world.specs.Lanes.{owner_of}
-use Rattle.vms_answers.specs.Answers.{Answer, Tell, on_pages}
-use Rattle.vms_lane.specs.TableActs.{MakesOnPages}
+use Rattle.vms_answers.specs.declared.answers.Answer.{Answer}
+use Rattle.vms_answers.specs.Common.{Tell, on_pages}
+use Rattle.vms_lane.specs.Common.{MakesOnPages}
 
 -- a value that has a name is one of the layout
 pub known-item : (header : Header) (i : ℕ) → IsHeader header → IsKnownValue header i → IsItem header.layout i
@@ -64,7 +42,7 @@ known-item header i is known = by (nat_lt i header.layout.positions) refl known
 -- an act that every lane may make has the steps of its call, whoever's the lane is
 module _ (header : Header) (base : State) (pressure normal : ZoneSize → ℕ → ℕ → Type 0) (p : ℕ) (h : History)
     (steps : List Step) where
-  pub fold-steps : (lane : Lane) (c : CpuId) → IsFold header.layout (owns lane c) c steps
+  pub fold-steps : (lane : Lane) (c : CpuId) → IsFold header.layout (lane_owns lane c) c steps
       → PageSteps header base pressure normal lane p (Fold c) h steps
   fold-steps (Cpu d) c call = call
   fold-steps Control c call = call
@@ -91,7 +69,7 @@ module _ (header : Header) (base : State) (pressure normal : ZoneSize → ℕ �
   system-steps Control i answer call = (answer, call)
 
 -- whether the owner of a CPU folds it
-owner-owns : (lane : Lane) (c : CpuId) → folding.owns (owner_of lane) c ≡ owns lane c
+owner-owns : (lane : Lane) (c : CpuId) → folding.owns_cpu (owner_of lane) c ≡ lane_owns lane c
 owner-owns (Cpu d) c = refl
 owner-owns Control c = refl
 
@@ -157,14 +135,14 @@ module _ (header : Header) (pressure normal : ZoneSize → ℕ → ℕ → Type 
   -- a fold, by the pass of any lane
   pub fold-made : (lane : Lane) (new old : Pass Facts Step) → old.cpu ≡ owner_of lane → (c : CpuId)
       → HasFolded facts.layout new old c → CarriesNothing facts.layout (own new.seen new.number)
-      → ((w : World) (steps : List Step) → IsFold header.layout (owns lane c) c steps
+      → ((w : World) (steps : List Step) → IsFold header.layout (lane_owns lane c) c steps
       → Tell header w lane (Fold c) (on_pages steps) None) → (b : Act) → b ≡ Fold c
       → MakesOnPages header pressure normal facts.base lane b new old None
   fold-made lane new old owner c folded nothing tells b is =
-      let fold : IsFold header.layout (owns lane c) c folded.steps =
+      let fold : IsFold header.layout (lane_owns lane c) c folded.steps =
       subst (λ (own_cpu : Bool). IsFold header.layout own_cpu c folded.steps)
-      (ap (λ (who : Option CpuId). folding.owns who c) owner ∙ owner-owns lane c)
-      (subst (λ (shape : Shape). IsFold shape (folding.owns old.cpu c) c folded.steps) layout-same folded.fold) in
+      (ap (λ (who : Option CpuId). folding.owns_cpu who c) owner ∙ owner-owns lane c)
+      (subst (λ (shape : Shape). IsFold shape (folding.owns_cpu old.cpu c) c folded.steps) layout-same folded.fold) in
       act-made lane new old None (Fold c) folded.steps folded.made
       (fold-steps header facts.base pressure normal old.number old.seen folded.steps lane c fold)
       (λ w. tells w folded.steps fold)

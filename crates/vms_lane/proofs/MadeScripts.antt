@@ -1,35 +1,19 @@
 -- The lines of a lane, one after another.
-use Rattle.std.proofs.Common.{◌≡◌, ℕ, ◌<◌, List, [], ◌∷◌, ◌++◌, length, Option, Some, None, refl, sym, ap}
-use Rattle.std.proofs.Common.{◌∙◌, subst, arith, append_assoc, append-nil}
-use Rattle.vms_base.specs.declared.headers.Header.{Header}
-use Rattle.vms_base.specs.declared.kinds.ZoneSize.{ZoneSize}
-use Rattle.vms_history.specs.declared.events.Event.{Event}
-use Rattle.vms_history.specs.Events.{own}
-use Rattle.vms_history.specs.Legal.{Machine}
-use Rattle.vms_core.specs.Pages.{pages}
-use Rattle.vms_event_core.specs.Events.{events}
-use Rattle.vms_pcpu_core.specs.Histories.{percpu}
-use Rattle.vms_script.specs.declared.lane_scripts.LaneItem.{LaneItem}
-use Rattle.vms_script.specs.Volumes.{spent_on_counter, spent_on_event, spent_on_pcpu}
-use Rattle.vms_seats.specs.Passes.{Pass}
-use Rattle.vms_seats.specs.Steps.{Made}
-use Rattle.vms_seats.proofs.MadeCalls.{calls-both, calls-none}
+use Rattle.std.proofs.Common.{◌≡◌, ℕ, ◌<◌, List, [], ◌∷◌, ◌++◌, length, Option, Some, None, refl, sym, ap, ◌∙◌, subst}
+use Rattle.std.proofs.Common.{arith, append_assoc, append-nil}
+use Rattle.vms_world.specs.Common.{Header, ZoneSize, Event, own, Machine, pages, events, percpu, LaneItem}
+use Rattle.vms_world.specs.Common.{spent_on_counter, spent_on_event, spent_on_pcpu, Act, Lane, EventSteps, PageSteps}
+use Rattle.vms_world.specs.Common.{PcpuSteps, MakesActs, act as one_act, event_facts, pcpu_facts}
+use Rattle.vms_seats.specs.Common.{Pass, Made}
+use Rattle.vms_seats.proofs.Common.{calls-both, calls-none}
 use Rattle.vms_tables.specs.declared.passes.CpuPasses.{CpuPasses}
-use Rattle.vms_tables.specs.Passes.{AreLive, TablePasses}
-use Rattle.vms_text.specs.declared.acts.Act.{Act}
-use Rattle.vms_text.specs.declared.acts.Lane.{Lane}
+use Rattle.vms_tables.specs.Common.{AreLive, TablePasses}
 use Rattle.vms_world.specs.declared.worlds.World.{World}
-use Rattle.vms_world.specs.Acts.{EventSteps, PageSteps, PcpuSteps}
-use Rattle.vms_world.specs.Lanes.{MakesActs}
-use Rattle.vms_world.specs.Lanes.MakesActs.{act as one_act}
-use Rattle.vms_world.specs.Worlds.{event_facts, pcpu_facts}
-use Rattle.vms_answers.specs.Answers.{Answer, LaneSteps, no_steps, then_steps}
-use Rattle.vms_answers.specs.PhaseAnswers.{NumberedAnswer, with_answer}
-use Rattle.vms_answers.proofs.OpenAnswers.{LaneSteps-same}
-use Rattle.vms_lane.specs.Lines.{MakeAct}
-use Rattle.vms_lane.specs.Scripts.{GoesOnWith, MakeLines, acts_in}
-use Rattle.vms_merge.specs.Merging.{read_lane}
-use Rattle.vms_lane.specs.Spending.{HasGrown, HasRoom, HaveRoom, HaveSpent, spent_by, spent_by_all, sum_of}
+use Rattle.vms_answers.specs.declared.answers.Answer.{Answer}
+use Rattle.vms_answers.specs.Common.{LaneSteps, no_steps, then_steps, NumberedAnswer, with_answer, read_lane}
+use Rattle.vms_answers.proofs.Common.{LaneSteps-same}
+use Rattle.vms_lane.specs.Common.{MakeAct, GoesOnWith, MakeLines, acts_in, HasGrown, HasRoom, HaveRoom, HaveSpent}
+use Rattle.vms_lane.specs.Common.{spending_of, spent_by_all, sum_of}
 use Rattle.vms_lane.proofs.GrownVolumes.{grown-none}
 
 -- the acts of a pass, by its steps
@@ -155,14 +139,14 @@ module _ (measure : ℕ → Act → ℕ) (act : Act) (acts : List Act) where
 
 module _ (act : Act) (acts : List Act) where
   pub rooms-first : (passes : CpuPasses) → HaveRoom (spent_by_all (act ∷ acts)) passes
-      → HaveRoom (spent_by act) passes
+      → HaveRoom (spending_of act) passes
   rooms-first passes room = record {
     page = room-first spent_on_counter act acts passes.page.volume room.page;
     event = room-first spent_on_event act acts passes.event.volume room.event;
     pcpu = room-first spent_on_pcpu act acts passes.pcpu.volume room.pcpu;
   }
 
-  pub rooms-rest : (new old : CpuPasses) → HaveSpent (spent_by act) new old
+  pub rooms-rest : (new old : CpuPasses) → HaveSpent (spending_of act) new old
       → HaveRoom (spent_by_all (act ∷ acts)) old → HaveRoom (spent_by_all acts) new
   rooms-rest new old spent room = record {
     page = room-rest spent_on_counter act acts new.page.volume old.page.volume spent.page room.page;
@@ -171,7 +155,7 @@ module _ (act : Act) (acts : List Act) where
   }
 
   pub spent-next : (last mid first : CpuPasses) → HaveSpent (spent_by_all acts) last mid
-      → HaveSpent (spent_by act) mid first → HaveSpent (spent_by_all (act ∷ acts)) last first
+      → HaveSpent (spending_of act) mid first → HaveSpent (spent_by_all (act ∷ acts)) last first
   spent-next last mid first rest one = record {
     page = grown-next spent_on_counter act acts last.page.volume mid.page.volume first.page.volume rest.page one.page;
     event = grown-next spent_on_event act acts last.event.volume mid.event.volume first.event.volume rest.event

@@ -1,46 +1,27 @@
 -- The acts by which the control lane sets thresholds, by the calls that make them; and how often each threshold and
 -- mark was set.
-use Rattle.std.proofs.Common.{◌≡◌, ℕ, true, List, Option, Some, None, refl, sym, ◌∙◌}
-use Rattle.std.proofs.Common.{subst, arith}
-use Rattle.vms_base.specs.declared.headers.Header.{Header}
-use Rattle.vms_base.specs.declared.ids.PlaceId.{PlaceId}
-use Rattle.vms_base.specs.declared.kinds.ZoneSize.{ZoneSize}
-use Rattle.vms_base.specs.Places.{IsNode, Shape}
-use Rattle.vms_history.specs.Events.{own}
-use Rattle.vms_calls.specs.HeaderFacts.{facts_of}
-use Rattle.vms_calls.specs.MayMake.{HasMade}
-use Rattle.vms_calls.specs.Ratings.{SetsNormal, SetsPressure}
-use Rattle.vms_calls.specs.Turns.{Balance, IsTurn}
-use Rattle.vms_calls.proofs.CallSteps.{Each, fold-each, snapshot-each, test-each}
-use Rattle.vms_control.specs.SetCounts.{never}
-use Rattle.vms_control.specs.Unladen.{StaysUnladen}
-use Rattle.vms_control.proofs.LargestSets.{largest-grows}
-use Rattle.vms_control.proofs.PassCalls.{has-made}
-use Rattle.vms_control.proofs.QuietSteps.{SetsNothing, folds-set_nothing, looks-set_nothing, quiet-sets}
-use Rattle.vms_core.specs.declared.states.State.{State}
-use Rattle.vms_core.specs.declared.steps.Facts.{Facts}
-use Rattle.vms_core.specs.declared.steps.Step.{Step}
-use Rattle.vms_core.specs.Conditions.{IsControl}
+use Rattle.std.proofs.Common.{◌≡◌, ℕ, true, List, Option, Some, None, refl, sym, ◌∙◌, subst, arith}
+use Rattle.vms_world.specs.Common.{Header, PlaceId, ZoneSize, IsNode, Shape, own, facts_of, HasMade, SetsNormal}
+use Rattle.vms_world.specs.Common.{SetsPressure, Balance, IsTurn, State, Facts, Step, IsControl, pages, Act, Fold}
+use Rattle.vms_world.specs.Common.{Water, Val, Snap, Sys, Pressure, Normal, Kswapd, Control, PageSteps, lane_owns}
+use Rattle.vms_calls.proofs.Common.{Each, fold-each, snapshot-each, test-each}
+use Rattle.vms_control.specs.Common.{never, StaysUnladen}
+use Rattle.vms_control.proofs.Common.{largest-grows, has-made, SetsNothing, folds-set_nothing, looks-set_nothing}
+use Rattle.vms_control.proofs.Common.{quiet-sets}
 use Rattle.vms_core.specs.Own.{CarriesNothing}
-use Rattle.vms_core.specs.Pages.{History, pages}
-use Rattle.vms_plain_lines.proofs.ControlAnswers.{Tell-normal, Tell-pressure, Tell-turn}
-use Rattle.vms_seats.specs.Passes.{IsLive, IsOf, Pass, Shared}
-use Rattle.vms_seats.specs.Steps.{Made}
-use Rattle.vms_text.specs.declared.acts.Act.{Act}
-use Rattle.vms_text.specs.declared.acts.Act.TheVariants.{Fold, Water, Val, Snap, Sys, Pressure, Normal, Kswapd}
-use Rattle.vms_text.specs.declared.acts.Lane.TheVariants.{Control}
+use Rattle.vms_core.specs.Pages.{History}
+use Rattle.vms_answers.proofs.Common.{Tell-normal, Tell-pressure, Tell-turn}
+use Rattle.vms_seats.specs.Common.{IsLive, IsFrom, Pass, Shared, Made}
 use Rattle.vms_world.specs.declared.worlds.World.{World}
-use Rattle.vms_world.specs.Acts.{PageSteps, owns}
-use Rattle.vms_answers.specs.Answers.{Answer, on_pages}
-use Rattle.vms_answers.specs.Answers.Answer.{Balanced}
-use Rattle.vms_lane.specs.Acts.{is_fold_or_look}
-use Rattle.vms_lane.specs.Controlling.{SetsTwice}
-use Rattle.vms_lane.specs.TableActs.{MakesOnPages}
+use Rattle.vms_answers.specs.declared.answers.Answer.{Answer}
+use Rattle.vms_answers.specs.Common.{on_pages}
+use Rattle.vms_answers.specs.declared.answers.Answer.TheVariants.{Balanced}
+use Rattle.vms_lane.specs.Common.{is_fold_or_look, SetsTwice, MakesOnPages}
 use Rattle.vms_lane.proofs.MadeOnPages.{act-made, layout-same}
 
 -- a call that sets thresholds, by the control pass of the page counters of a header
 module _ (header : Header) (pressure normal : ZoneSize → ℕ → ℕ → Type 0) (words : Shared Facts)
-    (same : words.facts ≡ facts_of header words.facts.base) (new old : Pass Facts Step) (of : IsOf old words)
+    (same : words.facts ≡ facts_of header words.facts.base) (new old : Pass Facts Step) (of : IsFrom old words)
     (nothing : CarriesNothing words.facts.layout (own old.seen old.number)) where
   abbrev base : State
   base = words.facts.base
@@ -99,7 +80,7 @@ looks-quiet : (header : Header) (base : State) (pressure normal : ZoneSize → �
     (a : Act) (steps : List Step) → is_fold_or_look a ≡ true
     → PageSteps header base pressure normal Control p a h steps → Each SetsNothing steps
 looks-quiet header base pressure normal p h (Fold c) steps on makes =
-    fold-each SetsNothing folds-set_nothing header.layout (owns Control c) c steps makes
+    fold-each SetsNothing folds-set_nothing header.layout (lane_owns Control c) c steps makes
 looks-quiet header base pressure normal p h (Water g mark most) steps on (answer, makes) =
     test-each SetsNothing looks-set_nothing header g mark most steps answer makes
 looks-quiet header base pressure normal p h (Val k) steps on (answer, makes) =
@@ -112,7 +93,7 @@ looks-quiet header base pressure normal p h _ steps on makes = absurd cc
 
 -- so no threshold and no mark was set by the control pass, or by another
 pub looks-sets : (header : Header) (pressure normal : ZoneSize → ℕ → ℕ → Type 0) (words : Shared Facts)
-    (new old : Pass Facts Step) → IsOf old words → IsLive pages old → old.cpu ≡ None → (a : Act)
+    (new old : Pass Facts Step) → IsFrom old words → IsLive pages old → old.cpu ≡ None → (a : Act)
     → is_fold_or_look a ≡ true → (answer : Option Answer)
     → MakesOnPages header pressure normal words.facts.base Control a new old answer
     → SetsTwice words.facts new.seen old.seen

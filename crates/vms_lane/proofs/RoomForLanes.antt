@@ -1,24 +1,14 @@
 -- For other crates too: the lines of a CPU's lane, among those of a phase that fits, keep within the CPU's volumes.
 use Rattle.std.proofs.Common.{◌≡◌, ℕ, ◌+◌, ◌<◌, ◌≤◌, nat_eq, Bool, true, false, cond, List, [], ◌∷◌, map, filter}
 use Rattle.std.proofs.Common.{length, slice_index_or, refl, arith, if◌then◌else◌}
-use Rattle.vms_base.specs.declared.headers.Header.{Header}
-use Rattle.vms_base.specs.declared.ids.CpuId.{CpuId}
-use Rattle.vms_base.specs.Volumes.{most_volume}
-use Rattle.vms_script.specs.FittingScripts.{Fits}
-use Rattle.vms_script.specs.PhaseScripts.{is_lane}
-use Rattle.vms_script.specs.Starts.{IsWithin, Start, start_at_end, start_past}
-use Rattle.vms_script.specs.Totals.{line_of}
-use Rattle.vms_script.specs.Volumes.{by_cpu, spent_on_counter, spent_on_event, spent_on_pcpu}
-use Rattle.vms_script.proofs.Fitting.{FittingScriptsStayWithin-holds}
+use Rattle.vms_world.specs.Common.{Header, CpuId, most_volume, Fits, is_lane, Start, start_at_end, start_past, line_of}
+use Rattle.vms_world.specs.Common.{by_cpu, spent_on_counter, spent_on_event, spent_on_pcpu, Act, Item, Lane as LaneOf}
+use Rattle.vms_world.specs.Common.{Cpu, Control, Line, acts_of}
+use Rattle.vms_script.specs.Starts.{IsWithin}
+use Rattle.vms_script.proofs.Common.{FittingScriptsStayWithin-holds}
 use Rattle.vms_tables.specs.declared.passes.CpuPasses.{CpuPasses}
-use Rattle.vms_text.specs.declared.acts.Act.{Act}
-use Rattle.vms_text.specs.declared.acts.Item.{Item}
-use Rattle.vms_text.specs.declared.acts.Lane.{Lane as LaneOf}
-use Rattle.vms_text.specs.declared.acts.Lane.TheVariants.{Cpu, Control}
-use Rattle.vms_text.specs.declared.acts.Line.{Line}
 use Rattle.vms_text.specs.declared.acts.Line.TheVariants.{Lane}
-use Rattle.vms_world.specs.Lanes.{acts_of}
-use Rattle.vms_lane.specs.Spending.{HasRoom, HaveRoom, spent_by_all, sum_of}
+use Rattle.vms_lane.specs.Common.{HasRoom, HaveRoom, spent_by_all, sum_of}
 
 module _ (c : CpuId) (measure : Act → ℕ) where
   -- what a line of the phase adds to a measure of the lane's acts

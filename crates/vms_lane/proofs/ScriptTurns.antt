@@ -4,24 +4,15 @@ use Rattle.std.proofs.Common.{append_assoc, append-nil, arith, cond, drop, filte
 use Rattle.std.specs.Prelude.{All}
 use Rattle.std.proofs.lemmas.List.{drop_all, drop_more}
 use Rattle.std.proofs.lemmas.List.Elements.{All-head, All-tail}
-use Rattle.vms_base.specs.declared.headers.Header.{Header}
-use Rattle.vms_base.specs.declared.kinds.ZoneSize.{ZoneSize}
-use Rattle.vms_line.specs.Laws.{IsActOf}
-use Rattle.vms_script.specs.declared.lane_scripts.LaneItem.{LaneItem}
+use Rattle.vms_world.specs.Common.{Header, ZoneSize, IsActOf, LaneItem, is_lane, lane_item, lane_items, Item, Act, Lane}
 use Rattle.vms_tables.specs.declared.tables.Tables.{Tables}
-use Rattle.vms_script.specs.PhaseScripts.{is_lane, lane_item, lane_items}
-use Rattle.vms_tables.specs.Passes.{AreLive, TablePasses}
-use Rattle.vms_tables.specs.Tables.{world_of}
-use Rattle.vms_text.specs.declared.acts.Item.{Item}
-use Rattle.vms_text.specs.declared.acts.Act.{Act}
-use Rattle.vms_text.specs.declared.acts.Lane.{Lane}
-use Rattle.vms_answers.specs.Answers.{Answer}
-use Rattle.vms_answers.specs.PhaseAnswers.{NumberedAnswer, with_answer}
+use Rattle.vms_tables.specs.Common.{AreLive, TablePasses, world_of}
+use Rattle.vms_answers.specs.declared.answers.Answer.{Answer}
+use Rattle.vms_answers.specs.Common.{NumberedAnswer, with_answer}
 use Rattle.vms_lane.specs.declared.passes.LanePasses.{LanePasses}
 use Rattle.vms_lane.specs.declared.passes.LanePasses.TheVariants.{Cpu as OfCpu, Control as OfControl}
-use Rattle.vms_lane.specs.LanePasses.{AreReadyFor, HaveSpentAll, AreLeftBy, MayMakeActs, MayMakeAct, passes_in}
-use Rattle.vms_lane.specs.Lines.{MakeAct}
-use Rattle.vms_lane.specs.Scripts.{MakeLines, acts_in}
+use Rattle.vms_lane.specs.Common.{AreReadyFor, HaveSpentAll, AreLeftBy, MayMakeActs, MayMakeAct, passes_in, MakeAct}
+use Rattle.vms_lane.specs.Common.{MakeLines, acts_in}
 use Rattle.vms_lane.proofs.ControlledCpus.{control-first, control-rest}
 use Rattle.vms_lane.proofs.MadeScripts.{lines-next, lines-none, rooms-first, rooms-rest, spent-next, spent-none}
 use Rattle.vms_lane.proofs.MadeScripts.{with_answer-first}

@@ -1,17 +1,11 @@
 -- What the acts of the control lane ask of what its passes have seen, and what they leave of it.
 use Rattle.std.specs.Prelude.{◌≡◌, ℕ, ◌+◌, ◌*◌, ◌≤◌, List, [], ◌∷◌, length}
-use Rattle.vms_base.specs.declared.kinds.CpuState.{CpuState}
+use Rattle.vms_world.specs.Common.{CpuState, Facts, cpu_at, most_sets, state_past, Act, Control}
 use Rattle.vms_base.specs.declared.kinds.CpuState.TheVariants.{Dead as IsDead}
-use Rattle.vms_core.specs.declared.steps.Facts.{Facts}
-use Rattle.vms_core.specs.Cells.{cpu_at}
 use Rattle.vms_core.specs.Pages.{History, state_after}
-use Rattle.vms_core.specs.Plain.{most_sets}
-use Rattle.vms_script.specs.Cpus.{state_past}
-use Rattle.vms_text.specs.declared.acts.Act.{Act}
 use Rattle.vms_text.specs.declared.acts.Act.TheVariants.{Dead}
-use Rattle.vms_text.specs.declared.acts.Lane.TheVariants.{Control}
 use Rattle.vms_text.specs.declared.acts.Line.TheVariants.{Lane}
-use Rattle.vms_words.specs.KeptSettings.{largest_sets}
+use Rattle.vms_words.specs.Common.{largest_sets}
 
 -- a CPU that an act buries is dead, where the CPUs are in these states
 abbrev pub BuriesTheDead : (ℕ → CpuState) → Act → Type 0

@@ -2,15 +2,13 @@
 use Rattle.std.specs.Prelude.{List, [], ◌∷◌}
 use Rattle.vms_burial.specs.Passes as burial
 use Rattle.vms_tables.specs.declared.tables.Tables.{Tables}
-use Rattle.vms_tables.specs.Passes.{TablePasses, passes_of}
-use Rattle.vms_text.specs.declared.acts.Act.{Act}
-use Rattle.vms_text.specs.declared.acts.Lane.{Lane}
-use Rattle.vms_text.specs.declared.acts.Lane.TheVariants.{Cpu, Control}
+use Rattle.vms_tables.specs.Common.{TablePasses, passes_of}
+use Rattle.vms_world.specs.Common.{Act, Lane, Cpu, Control}
 use Rattle.vms_lane.specs.declared.passes.LanePasses.{LanePasses}
 use Rattle.vms_lane.specs.declared.passes.LanePasses.TheVariants.{Cpu as OfCpu, Control as OfControl}
 use Rattle.vms_lane.specs.Controlling.{HasControlled, MayControl}
 use Rattle.vms_lane.specs.Ready.{AreReady, AreReadyToControl}
-use Rattle.vms_lane.specs.Spending.{HaveRoom, HaveSpent, spent_by, spent_by_all}
+use Rattle.vms_lane.specs.Spending.{HaveRoom, HaveSpent, spending_of, spent_by_all}
 
 -- a pass in each table
 abbrev pub passes_in : LanePasses → TablePasses
@@ -30,12 +28,12 @@ MayMakeActs tables acts (OfControl passes) = MayControl tables.pages.facts acts 
 
 -- one act
 abbrev pub MayMakeAct : Tables → Act → LanePasses → Type 0
-MayMakeAct tables act (OfCpu passes) = HaveRoom (spent_by act) passes
+MayMakeAct tables act (OfCpu passes) = HaveRoom (spending_of act) passes
 MayMakeAct tables act (OfControl passes) = MayControl tables.pages.facts (act ∷ []) passes.page.seen
 
 -- what an act leaves: the CPU's volumes grew by what it says, or the control lane made it
 abbrev pub AreLeftBy : Tables → Act → (new old : LanePasses) → Type 0
-AreLeftBy tables act (OfCpu new) (OfCpu old) = HaveSpent (spent_by act) new old
+AreLeftBy tables act (OfCpu new) (OfCpu old) = HaveSpent (spending_of act) new old
 AreLeftBy tables act (OfControl new) (OfControl old) =
     HasControlled tables.pages.facts act new.page.seen old.page.seen
 AreLeftBy tables act _ _ = ⊥

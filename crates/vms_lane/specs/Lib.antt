@@ -6,3 +6,4 @@ pub mod Acts
 pub mod Lines
 pub mod TableActs
 pub mod Scripts
+pub mod Common

@@ -1,18 +1,14 @@
 -- What the passes of a lane make of the act of a line.
 use Rattle.std.specs.Prelude.{ℕ, Option}
-use Rattle.vms_base.specs.declared.headers.Header.{Header}
-use Rattle.vms_base.specs.declared.kinds.ZoneSize.{ZoneSize}
+use Rattle.vms_world.specs.Common.{Header, ZoneSize, percpu, Act, Lane, EventSteps, PageSteps, PcpuSteps, event_facts}
+use Rattle.vms_world.specs.Common.{pcpu_facts}
 use Rattle.vms_core.specs.Pages as page_histories
 use Rattle.vms_event_core.specs.Events as event_histories
-use Rattle.vms_pcpu_core.specs.Histories.{percpu}
-use Rattle.vms_seats.specs.Steps.{Made}
-use Rattle.vms_text.specs.declared.acts.Act.{Act}
-use Rattle.vms_text.specs.declared.acts.Lane.{Lane}
+use Rattle.vms_seats.specs.Common.{Made}
 use Rattle.vms_world.specs.declared.worlds.World.{World}
-use Rattle.vms_world.specs.Acts.{EventSteps, PageSteps, PcpuSteps}
-use Rattle.vms_world.specs.Worlds.{event_facts, pcpu_facts}
-use Rattle.vms_answers.specs.Answers.{Answer, LaneSteps, Tell}
-use Rattle.vms_tables.specs.Passes.{TablePasses}
+use Rattle.vms_answers.specs.declared.answers.Answer.{Answer}
+use Rattle.vms_answers.specs.Common.{LaneSteps, Tell}
+use Rattle.vms_tables.specs.Common.{TablePasses}
 
 -- the passes of a lane made the act of a line in a phase from this world, whatever others did in between: in each table
 -- they made the steps of the act and no others, and these tell its answer, or none

@@ -1,23 +1,13 @@
 -- What the passes of a lane make of its lines.
 use Rattle.std.specs.Prelude.{◌≡◌, ℕ, List, ◌++◌, map}
-use Rattle.vms_base.specs.declared.headers.Header.{Header}
-use Rattle.vms_base.specs.declared.kinds.ZoneSize.{ZoneSize}
-use Rattle.vms_history.specs.declared.events.Event.{Event}
+use Rattle.vms_world.specs.Common.{Header, ZoneSize, Event, percpu, LaneItem, Act, Lane, EventSteps, PageSteps}
+use Rattle.vms_world.specs.Common.{PcpuSteps, MakesActs, event_facts, pcpu_facts}
 use Rattle.vms_core.specs.Pages as page_histories
 use Rattle.vms_event_core.specs.Events as event_histories
-use Rattle.vms_pcpu_core.specs.Histories.{percpu}
-use Rattle.vms_seats.specs.Steps.{Made}
-use Rattle.vms_script.specs.declared.lane_scripts.LaneItem.{LaneItem}
-use Rattle.vms_text.specs.declared.acts.Act.{Act}
-use Rattle.vms_text.specs.declared.acts.Lane.{Lane}
+use Rattle.vms_seats.specs.Common.{Made}
 use Rattle.vms_world.specs.declared.worlds.World.{World}
-use Rattle.vms_world.specs.Acts.{EventSteps, PageSteps, PcpuSteps}
-use Rattle.vms_world.specs.Lanes.{MakesActs}
-use Rattle.vms_world.specs.Worlds.{event_facts, pcpu_facts}
-use Rattle.vms_answers.specs.Answers.{LaneSteps, then_steps}
-use Rattle.vms_answers.specs.PhaseAnswers.{NumberedAnswer}
-use Rattle.vms_merge.specs.Merging.{read_lane}
-use Rattle.vms_tables.specs.Passes.{TablePasses}
+use Rattle.vms_answers.specs.Common.{LaneSteps, then_steps, NumberedAnswer, read_lane}
+use Rattle.vms_tables.specs.Common.{TablePasses}
 
 -- the acts of lines
 abbrev pub acts_in : List LaneItem → List Act

@@ -1,8 +1,6 @@
 -- What the acts of a CPU's lane spend of the CPU's volumes.
 use Rattle.std.specs.Prelude.{◌≡◌, ℕ, ◌+◌, ◌<◌, ◌≤◌, List, [], ◌∷◌, length, slice_index_or}
-use Rattle.vms_base.specs.Volumes.{most_volume}
-use Rattle.vms_script.specs.Volumes.{spent_on_counter, spent_on_event, spent_on_pcpu}
-use Rattle.vms_text.specs.declared.acts.Act.{Act}
+use Rattle.vms_world.specs.Common.{most_volume, spent_on_counter, spent_on_event, spent_on_pcpu, Act}
 use Rattle.vms_tables.specs.declared.passes.CpuPasses.{CpuPasses}
 
 -- how much of each page counter, event and percpu counter
@@ -12,8 +10,8 @@ pub record Spending : Type 0 where
   pub pcpu : ℕ → ℕ
 
 -- an act spends the absolute size of what it changes, a limited addition also where it adds nothing
-abbrev pub spent_by : Act → Spending
-spent_by act = record {
+abbrev pub spending_of : Act → Spending
+spending_of act = record {
   counters = λ k. spent_on_counter k act;
   events = λ e. spent_on_event e act;
   pcpu = λ j. spent_on_pcpu j act;

@@ -1,27 +1,15 @@
 -- What a pass makes of an act that concerns its table alone.
 use Rattle.std.specs.Prelude.{◌≡◌, ℕ, List, Option}
-use Rattle.vms_base.specs.declared.headers.Header.{Header}
-use Rattle.vms_base.specs.declared.kinds.ZoneSize.{ZoneSize}
-use Rattle.vms_history.specs.Events.{own}
-use Rattle.vms_core.specs.declared.states.State.{State}
-use Rattle.vms_core.specs.declared.steps.Facts.{Facts}
-use Rattle.vms_core.specs.declared.steps.Step.{Step}
+use Rattle.vms_world.specs.Common.{Header, ZoneSize, own, State, Facts, Step, EventFacts, EventStep, PcpuFacts}
+use Rattle.vms_world.specs.Common.{PcpuStep, percpu, Act, Lane, EventSteps, PageSteps, PcpuSteps, event_facts}
+use Rattle.vms_world.specs.Common.{pcpu_facts}
 use Rattle.vms_core.specs.Own.{CarriesNothing}
 use Rattle.vms_core.specs.Pages as page_histories
-use Rattle.vms_event_core.specs.declared.steps.EventFacts.{EventFacts}
-use Rattle.vms_event_core.specs.declared.steps.EventStep.{EventStep}
 use Rattle.vms_event_core.specs.Events as event_histories
-use Rattle.vms_pcpu_core.specs.declared.steps.PcpuFacts.{PcpuFacts}
-use Rattle.vms_pcpu_core.specs.declared.steps.PcpuStep.{PcpuStep}
-use Rattle.vms_pcpu_core.specs.Histories.{percpu}
-use Rattle.vms_seats.specs.Passes.{Pass}
-use Rattle.vms_seats.specs.Steps.{Made}
-use Rattle.vms_text.specs.declared.acts.Act.{Act}
-use Rattle.vms_text.specs.declared.acts.Lane.{Lane}
+use Rattle.vms_seats.specs.Common.{Pass, Made}
 use Rattle.vms_world.specs.declared.worlds.World.{World}
-use Rattle.vms_world.specs.Acts.{EventSteps, PageSteps, PcpuSteps}
-use Rattle.vms_world.specs.Worlds.{event_facts, pcpu_facts}
-use Rattle.vms_answers.specs.Answers.{Answer, Tell, on_counters, on_events, on_pages}
+use Rattle.vms_answers.specs.declared.answers.Answer.{Answer}
+use Rattle.vms_answers.specs.Common.{Tell, on_counters, on_events, on_pages}
 
 -- the pass on the page counters made the steps of an act and no others, which tell its answer, and carries nothing
 -- after them

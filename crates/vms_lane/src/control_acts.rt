@@ -1,18 +1,9 @@
-ghost use Rattle.std.specs.Prelude.{◌≡◌, ◌≢◌, ◌+◌, ◌≤◌, None, option_map};
-ghost use Rattle.vms_answers.specs.ToldAnswers.{answer_told};
-ghost use Rattle.vms_base.specs.declared.ids.CpuId.{CpuId};
-ghost use Rattle.vms_base.specs.declared.ids.EventId.{EventId};
-ghost use Rattle.vms_base.specs.Headers.{IsHeader};
-ghost use Rattle.vms_calls.specs.HeaderFacts.{facts_of};
+ghost use Rattle.std.specs.Prelude.{◌≡◌, ◌+◌, ◌≤◌, None};
+ghost use Rattle.vms_world.specs.Common.{IsHeader, facts_of, most_sets, own, IsActOf, Control, event_call};
 ghost use Rattle.vms_core.specs.Own.{CarriesNothing};
 ghost use Rattle.vms_core.specs.Pages.{state_after};
-ghost use Rattle.vms_core.specs.Plain.{most_sets};
-ghost use Rattle.vms_history.specs.Events.{own};
-ghost use Rattle.vms_line.specs.Laws.{IsActOf};
-ghost use Rattle.vms_seats.specs.Passes.{IsOf};
-ghost use Rattle.vms_text.specs.declared.acts.Act.TheVariants.{Dead, EvSum};
-ghost use Rattle.vms_text.specs.declared.acts.Lane.TheVariants.{Control};
-ghost use Rattle.vms_words.specs.KeptSettings.{largest_sets};
+ghost use Rattle.vms_seats.specs.Common.{IsFrom};
+ghost use Rattle.vms_words.specs.Common.{largest_sets};
 ghost use Rattle.vms_lane.specs.Controlling.{SetsTwice};
 ghost use Rattle.vms_lane.specs.TableActs.{MakesOnPages};
 
@@ -34,16 +25,15 @@ pub(crate) fn rate_or_look<N: Rule, P: Rule>(
     act: Act,
 ) -> Option<Answer>
     requires header { IsHeader header.now }
-    requires table { IsOf pass.old table.now }
+    requires table { IsFrom pass.old table.now }
     requires facts { table.now.facts ≡ facts_of header.now table.now.facts.base }
     requires owner { pass.old.cpu ≡ None }
     requires nothing { CarriesNothing table.now.facts.layout (own pass.old.seen pass.old.number) }
     requires act { IsActOf header.now Control act }
-    requires no_sum { (k : EventId) → act ≢ EvSum k }
-    requires no_burial { (c : CpuId) → act ≢ Dead c }
+    requires no_events { event_call Control act ≡ None }
     requires room { 2 + largest_sets table.now.facts.layout (state_after table.now.facts pass.old.seen) ≤ most_sets }
     ensures made { MakesOnPages header.now (P.answers rules.now.pressure) (N.answers rules.now.normal)
-        table.now.facts.base Control act pass.new pass.old (option_map answer_told result) }
+        table.now.facts.base Control act pass.new pass.old result }
     ensures sets { SetsTwice table.now.facts pass.new.seen pass.old.seen }
 {
     // The pass is known to live once it is asked for its CPU.

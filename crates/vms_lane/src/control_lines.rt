@@ -1,14 +1,9 @@
-ghost use Rattle.std.specs.Prelude.{◌≡◌, [], ◌∷◌, None, option_map};
-ghost use Rattle.vms_answers.specs.ToldAnswers.{answer_told};
-ghost use Rattle.vms_base.specs.Headers.{IsHeader};
-ghost use Rattle.vms_base.specs.Places.{IsCpu};
-ghost use Rattle.vms_burial.specs.Passes.{passes_of};
+ghost use Rattle.std.specs.Prelude.{◌≡◌, [], ◌∷◌, Some, None};
+ghost use Rattle.vms_world.specs.Common.{IsHeader, IsCpu, own, IsActOf, Control, event_call};
+ghost use Rattle.vms_burial.specs.Common.{passes_of};
 ghost use Rattle.vms_core.specs.Own.{CarriesNothing};
-ghost use Rattle.vms_history.specs.Events.{own};
-ghost use Rattle.vms_line.specs.Laws.{IsActOf};
-ghost use Rattle.vms_tables.specs.Tables.{AreTables, world_of};
+ghost use Rattle.vms_tables.specs.Common.{AreTables, world_of};
 ghost use Rattle.vms_text.specs.declared.acts.Act.TheVariants.{Dead};
-ghost use Rattle.vms_text.specs.declared.acts.Lane.TheVariants.{Control};
 ghost use Rattle.vms_lane.specs.Controlling.{HasControlled, MayControl, SetsTwice};
 ghost use Rattle.vms_lane.specs.Lines.{MakeAct};
 ghost use Rattle.vms_lane.specs.Ready.{AreReadyToControl};
@@ -21,10 +16,11 @@ use vms_base::{CpuId, Header};
 use vms_burial::{ControlPasses, bury};
 use vms_calc::{Rule, Rules};
 use vms_calls::control_passes_know_by_own_steps;
-use vms_event_core::answers_are_read;
+use vms_event_core::{EventCall, answers_are_read};
 use vms_tables::Tables;
-use vms_text::Act;
+use vms_text::{Act, Lane};
 use vms_words::Caller;
+use vms_world::event_call;
 
 /// Makes the act of a line of the control lane, whatever other lanes make meanwhile, and returns what the line answers
 /// if it asks something. It may wait for the locks of percpu counters. The passes may make the next line then.
@@ -42,8 +38,7 @@ pub(crate) fn run_control_line<R: Wait, N: Rule, P: Rule>(
     requires act { IsActOf header.now Control act }
     requires may { MayControl tables.now.pages.facts (act ∷ []) passes.old.page.seen }
     ensures makes { MakeAct header.now (P.answers rules.now.pressure) (N.answers rules.now.normal)
-        (world_of tables.now) Control act (passes_of passes.new) (passes_of passes.old)
-        (option_map answer_told result) }
+        (world_of tables.now) Control act (passes_of passes.new) (passes_of passes.old) result }
     ensures controls { HasControlled tables.now.pages.facts act passes.new.page.seen passes.old.page.seen }
     ensures ready { AreReadyToControl tables.now passes.new }
 {
@@ -68,23 +63,51 @@ fn make_act<R: Wait, N: Rule, P: Rule>(
     requires act { IsActOf header.now Control act }
     requires may { MayControl tables.now.pages.facts (act ∷ []) passes.old.page.seen }
     ensures makes { MakeAct header.now (P.answers rules.now.pressure) (N.answers rules.now.normal)
-        (world_of tables.now) Control act (passes_of passes.new) (passes_of passes.old)
-        (option_map answer_told result) }
+        (world_of tables.now) Control act (passes_of passes.new) (passes_of passes.old) result }
+    ensures nothing { CarriesNothing tables.now.pages.facts.layout
+        (own passes.new.page.seen passes.new.page.number) }
+    ensures sets { SetsTwice tables.now.pages.facts passes.new.page.seen passes.old.page.seen }
+{
+    control_passes_are_live(passes);
+    match event_call(Lane::Control, act) {
+        Some(call) => make_event_call(rt, tables, header, rules, passes, act, call),
+        None => rate_or_look(&tables.pages, &mut passes.page, header, rules, act),
+    }
+}
+
+/// Makes an act of the control lane that makes this call on the event counters: the sum of an event, or a burial.
+fn make_event_call<R: Wait, N: Rule, P: Rule>(
+    rt: &R,
+    tables: &Tables,
+    header: &Header,
+    rules: &Rules<N, P>,
+    passes: &mut ControlPasses,
+    act: Act,
+    call: EventCall,
+) -> Option<Answer>
+    requires header { IsHeader header.now }
+    requires tables { AreTables header.now tables.now }
+    requires passes { AreReadyToControl tables.now passes.old }
+    requires act { IsActOf header.now Control act }
+    requires call { event_call Control act ≡ Some call }
+    requires may { MayControl tables.now.pages.facts (act ∷ []) passes.old.page.seen }
+    ensures makes { MakeAct header.now (P.answers rules.now.pressure) (N.answers rules.now.normal)
+        (world_of tables.now) Control act (passes_of passes.new) (passes_of passes.old) result }
     ensures nothing { CarriesNothing tables.now.pages.facts.layout
         (own passes.new.page.seen passes.new.page.number) }
     ensures sets { SetsTwice tables.now.pages.facts passes.new.page.seen passes.old.page.seen }
 {
     control_passes_are_live(passes);
     event_acts_tell_answers();
-    match act {
-        Act::EvSum(event) => {
+    match call {
+        EventCall::Sum(event) => {
             Some(Answer::Events(tables.events.all_events(&mut passes.event, event)))
         }
-        Act::Dead(cpu) => {
+        EventCall::FoldDead(cpu) => {
             bury_dead(rt, tables, header, rules, passes, cpu);
             None
         }
-        _ => rate_or_look(&tables.pages, &mut passes.page, header, rules, act),
+        EventCall::Count(_, _) => None,
     }
 }
 

@@ -1,6 +1,6 @@
 ghost use Rattle.std.specs.Prelude.{◌≡◌};
 ghost use Rattle.std.specs.List.{list_any};
-ghost use Rattle.vms_script.specs.PhaseScripts.{is_lane};
+ghost use Rattle.vms_world.specs.Common.{is_lane};
 
 use std::marker::Model;
 use vms_script::{PhaseScript, is_of};
@@ -16,8 +16,7 @@ pub struct LaneLines<'a> {
 
 impl<'a> Model for LaneLines<'a> {
     ghost use Rattle.std.specs.Prelude.{List};
-    ghost use Rattle.vms_script.specs.declared.lane_scripts.LaneItem.{LaneItem};
-    ghost use Rattle.vms_script.specs.PhaseScripts.{lane_items};
+    ghost use Rattle.vms_world.specs.Common.{LaneItem, lane_items};
 
     ghost Value = { List LaneItem };
 
@@ -26,7 +25,7 @@ impl<'a> Model for LaneLines<'a> {
 
 impl<'a> LaneLines<'a> {
     ghost use Rattle.std.specs.Prelude.{◌≡◌, [], length, ◌↔◌, IsTrue};
-    ghost use Rattle.vms_script.specs.PhaseScripts.{lane_items};
+    ghost use Rattle.vms_world.specs.Common.{lane_items};
 
     /// The lines of a lane in the script of a phase.
     #[inline]

@@ -1,13 +1,12 @@
-ghost use Rattle.std.specs.Prelude.{◌≡◌, ◌+◌, ◌<◌, ◌≤◌, ◌++◌, [], map, All, IfOk, IfSome, OnOk, OnErr};
-ghost use Rattle.std.specs.Prelude.{option_map, vec_capacity, vec_len};
-ghost use Rattle.vms_answers.specs.PhaseAnswers.{with_answer};
-ghost use Rattle.vms_answers.specs.ToldAnswers.{IsKeepable, answer_told, numbered_told};
-ghost use Rattle.vms_base.specs.Headers.{IsHeader};
-ghost use Rattle.vms_line.specs.Laws.{IsActOf};
-ghost use Rattle.vms_tables.specs.Tables.{AreTables, world_of};
+ghost use Rattle.std.specs.Prelude.{◌≡◌, ◌+◌, ◌<◌, ◌≤◌, ◌++◌, [], map, All, IfOk, IfSome, OnOk, OnErr, vec_capacity};
+ghost use Rattle.std.specs.Prelude.{vec_len};
+ghost use Rattle.vms_answers.specs.Common.{with_answer, IsKeepableAnswer, answer_of_kept};
+ghost use Rattle.vms_world.specs.Common.{IsHeader, IsActOf};
+ghost use Rattle.vms_tables.specs.Common.{AreTables, world_of};
 ghost use Rattle.vms_lane.specs.LanePasses.{AreReadyFor, HaveSpentAll, MayMakeActs, passes_in};
 ghost use Rattle.vms_lane.specs.Scripts.{MakeLines, acts_in};
 
+use crate::Gate;
 use crate::lane_lines::LaneLines;
 use crate::line_runs::run_line;
 use crate::passes::LanePasses;
@@ -16,7 +15,6 @@ use std::sync::Wait;
 use vms_answers::{Answer, NumberedAnswer};
 use vms_base::{Header, Memory};
 use vms_calc::{Rule, Rules};
-use vms_gate::Gate;
 use vms_script::is_of;
 use vms_tables::Tables;
 use vms_text::Lane;
@@ -43,7 +41,7 @@ pub fn run_lane<G: Gate, R: Wait, N: Rule, P: Rule>(
     requires may { MayMakeActs tables.now (acts_in lines.now) passes.old }
     ensures makes { IfOk result (λ answers. MakeLines header.now (P.answers rules.now.pressure)
         (N.answers rules.now.normal) (world_of tables.now) lane lines.now (passes_in passes.new)
-        (passes_in passes.old) (map numbered_told answers.items)) }
+        (passes_in passes.old) (map answer_of_kept answers.items)) }
     ensures spends { OnOk result (HaveSpentAll (acts_in lines.now) passes.new passes.old) }
     ensures ready { AreReadyFor tables.now lane passes.new }
     ensures err { OnErr result (passes.new ≡ passes.old) }
@@ -75,9 +73,9 @@ fn lane_number(header: &Header, lane: Lane) -> u32 {
 #[inline]
 fn note(answers: &mut Vec<NumberedAnswer>, number: u32, answer: Option<Answer>)
     requires room { vec_len answers.old < vec_capacity answers.old }
-    requires keepable { IfSome (option_map answer_told answer) IsKeepable }
-    ensures answers { map numbered_told answers.new.items
-        ≡ map numbered_told answers.old.items ++ with_answer number (option_map answer_told answer) [] }
+    requires keepable { IfSome answer IsKeepableAnswer }
+    ensures answers { map answer_of_kept answers.new.items
+        ≡ map answer_of_kept answers.old.items ++ with_answer number answer [] }
     ensures len { vec_len answers.new ≤ vec_len answers.old + 1 }
     ensures capacity { vec_capacity answers.new ≡ vec_capacity answers.old }
 {

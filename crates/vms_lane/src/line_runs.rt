@@ -1,8 +1,6 @@
-ghost use Rattle.std.specs.Prelude.{◌≡◌, option_map};
-ghost use Rattle.vms_answers.specs.ToldAnswers.{answer_told};
-ghost use Rattle.vms_base.specs.Headers.{IsHeader};
-ghost use Rattle.vms_line.specs.Laws.{IsActOf};
-ghost use Rattle.vms_tables.specs.Tables.{AreTables, world_of};
+ghost use Rattle.std.specs.Prelude.{◌≡◌};
+ghost use Rattle.vms_world.specs.Common.{IsHeader, IsActOf};
+ghost use Rattle.vms_tables.specs.Common.{AreTables, world_of};
 ghost use Rattle.vms_lane.specs.LanePasses.{AreLeftBy, AreReadyFor, MayMakeAct, passes_in};
 ghost use Rattle.vms_lane.specs.Lines.{MakeAct};
 
@@ -33,7 +31,7 @@ pub fn run_line<R: Wait, N: Rule, P: Rule>(
     requires act { IsActOf header.now lane act }
     requires may { MayMakeAct tables.now act passes.old }
     ensures makes { MakeAct header.now (P.answers rules.now.pressure) (N.answers rules.now.normal)
-        (world_of tables.now) lane act (passes_in passes.new) (passes_in passes.old) (option_map answer_told result) }
+        (world_of tables.now) lane act (passes_in passes.new) (passes_in passes.old) result }
     ensures leaves { AreLeftBy tables.now act passes.new passes.old }
     ensures ready { AreReadyFor tables.now lane passes.new }
 {

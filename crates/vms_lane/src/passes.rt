@@ -1,5 +1,5 @@
-ghost use Rattle.vms_burial.specs.Passes.{passes_of};
-ghost use Rattle.vms_tables.specs.Passes.{AreLive};
+ghost use Rattle.vms_burial.specs.Common.{passes_of};
+ghost use Rattle.vms_tables.specs.Common.{AreLive};
 
 use vms_burial::ControlPasses;
 use vms_tables::CpuPasses;
@@ -16,7 +16,7 @@ pub enum LanePasses {
 
 impl LanePasses {
     ghost use Rattle.vms_lane.specs.LanePasses.{passes_in};
-    ghost use Rattle.vms_tables.specs.Passes.{AreLive};
+    ghost use Rattle.vms_tables.specs.Common.{AreLive};
 
     /// What holds of the passes at any time: they live in the legal histories that they have seen.
     #[inline]

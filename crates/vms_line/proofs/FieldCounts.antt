@@ -1,10 +1,11 @@
 -- What fields say of so many words.
-use Rattle.std.proofs.Common.{ℕ, ◌≡◌, ◌<◌, List, [], ◌∷◌, Result, Ok, Err, refl, ap, arith, length, map, get_or}
+use Rattle.std.proofs.Common.{ℕ, ◌≡◌, ◌<◌, List, [], ◌∷◌, Result, Ok, Err, refl, sym, ap, ◌∙◌, arith, length, map}
+use Rattle.std.proofs.Common.{get_or}
 use denote.Ref.{Bor}
-use Rattle.vms_base.specs.declared.headers.Header.{Header}
+use Rattle.vms_line.specs.declared.causes.LineCause.{LineCause}
 use Rattle.vms_line.specs.declared.causes.LineCause.TheVariants.{Malformed}
-use Rattle.vms_text.specs.Reading.{and_then}
-use Rattle.vms_line.specs.Forms.{change_fields, paged_fields, counter_fields, count_fields, marked_fields, turn_fields}
+use Rattle.vms_text.specs.Common.{and_then}
+use Rattle.vms_line.specs.Common.{count_fields}
 
 pub one_word : (fields : List (Bor (List ℕ))) (d : Bor (List ℕ)) → length fields ≡ 1
     → map (λ word. word.now) fields ≡ (get_or fields 0 d).now ∷ []
@@ -45,44 +46,48 @@ pub and_then-ok : {A B E : Type 0} (found : Result A E) (next : A → Result B E
     → and_then found next ≡ next value
 and_then-ok found next value is = ap (λ one. and_then one next) is
 
-pub change_fields-short : (header : Header) (words : List (List ℕ)) → length words < 4
-    → change_fields header words ≡ Err Malformed
-change_fields-short header [] short = refl
-change_fields-short header (a ∷ []) short = refl
-change_fields-short header (a ∷ b ∷ []) short = refl
-change_fields-short header (a ∷ b ∷ c ∷ []) short = refl
-change_fields-short header (a ∷ b ∷ c ∷ d ∷ more) short = absurd (omega arith)
-
-pub paged_fields-short : (header : Header) (words : List (List ℕ)) → length words < 3
-    → paged_fields header words ≡ Err Malformed
-paged_fields-short header [] short = refl
-paged_fields-short header (a ∷ []) short = refl
-paged_fields-short header (a ∷ b ∷ []) short = refl
-paged_fields-short header (a ∷ b ∷ c ∷ more) short = absurd (omega arith)
-
 pub count_fields-short : (words : List (List ℕ)) → length words < 2 → count_fields words ≡ Err Malformed
 count_fields-short [] short = refl
 count_fields-short (a ∷ []) short = refl
 count_fields-short (a ∷ b ∷ more) short = absurd (omega arith)
 
-pub counter_fields-short : (header : Header) (words : List (List ℕ)) → length words < 3
-    → counter_fields header words ≡ Err Malformed
-counter_fields-short header [] short = refl
-counter_fields-short header (a ∷ []) short = refl
-counter_fields-short header (a ∷ b ∷ []) short = refl
-counter_fields-short header (a ∷ b ∷ c ∷ more) short = absurd (omega arith)
+-- what is read of too few words, where that is malformed for each number of them
+module _ {A : Type 0} (read : List (List ℕ) → Result A LineCause) (none : read [] ≡ Err Malformed)
+    (one : (a : List ℕ) → read (a ∷ []) ≡ Err Malformed)
+    (two : (a b : List ℕ) → read (a ∷ b ∷ []) ≡ Err Malformed) where
+  pub below_three : (fields : List (Bor (List ℕ))) → length fields < 3
+      → read (map (λ word. word.now) fields) ≡ Err Malformed
+  below_three [] short = none
+  below_three (a ∷ []) short = one a.now
+  below_three (a ∷ b ∷ []) short = two a.now b.now
+  below_three (a ∷ b ∷ c ∷ more) short = absurd (omega arith)
 
-pub marked_fields-short : (header : Header) (words : List (List ℕ)) → length words < 4
-    → marked_fields header words ≡ Err Malformed
-marked_fields-short header [] short = refl
-marked_fields-short header (a ∷ []) short = refl
-marked_fields-short header (a ∷ b ∷ []) short = refl
-marked_fields-short header (a ∷ b ∷ c ∷ []) short = refl
-marked_fields-short header (a ∷ b ∷ c ∷ d ∷ more) short = absurd (omega arith)
+  pub below_four : ((a b c : List ℕ) → read (a ∷ b ∷ c ∷ []) ≡ Err Malformed) → (fields : List (Bor (List ℕ)))
+      → length fields < 4 → read (map (λ word. word.now) fields) ≡ Err Malformed
+  below_four three (a ∷ b ∷ c ∷ []) short = three a.now b.now c.now
+  below_four three (a ∷ b ∷ c ∷ d ∷ more) short = absurd (omega arith)
+  below_four three [] short = none
+  below_four three (a ∷ []) short = one a.now
+  below_four three (a ∷ b ∷ []) short = two a.now b.now
 
-pub turn_fields-short : (header : Header) (words : List (List ℕ)) → length words < 3
-    → turn_fields header words ≡ Err Malformed
-turn_fields-short header [] short = refl
-turn_fields-short header (a ∷ []) short = refl
-turn_fields-short header (a ∷ b ∷ []) short = refl
-turn_fields-short header (a ∷ b ∷ c ∷ more) short = absurd (omega arith)
+-- what is read of three words, of which the first or the second fails
+module _ {A B C : Type 0} (read : List (List ℕ) → Result C LineCause) (first : List ℕ → Result A LineCause)
+    (second : List ℕ → Result B LineCause) (next : List ℕ → A → B → Result C LineCause)
+    (by_parts : (a b c : List ℕ) → read (a ∷ b ∷ c ∷ [])
+    ≡ and_then (first a) (λ x. and_then (second b) (next c x)))
+    (fields : List (Bor (List ℕ))) (three : length fields ≡ 3) (cause : LineCause) where
+  abbrev field : ℕ → List ℕ
+  field n = (get_or fields n (record { ref_ptr = (0, 0); now = [] })).now
+
+  in_parts : read (map (λ word. word.now) fields)
+      ≡ and_then (first (field 0)) (λ x. and_then (second (field 1)) (next (field 2) x))
+  in_parts = ap read (three_words fields (record { ref_ptr = (0, 0); now = [] }) three)
+      ∙ by_parts (field 0) (field 1) (field 2)
+
+  pub first-fails : first (field 0) ≡ Err cause → Err cause ≡ read (map (λ word. word.now) fields)
+  first-fails failed = sym (in_parts ∙ and_then-err (first (field 0)) _ cause failed)
+
+  pub second-fails : (x : A) → first (field 0) ≡ Ok x → second (field 1) ≡ Err cause
+      → Err cause ≡ read (map (λ word. word.now) fields)
+  second-fails x found failed = sym (in_parts ∙ and_then-ok (first (field 0)) _ x found
+      ∙ and_then-err (second (field 1)) (next (field 2) x) cause failed)

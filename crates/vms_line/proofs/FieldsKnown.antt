@@ -1,8 +1,8 @@
 -- What is true of what each field gives.
 use Rattle.std.proofs.Common.{ℕ, ◌≡◌, ◌<◌, ◌≤◌, ◌^◌, ◌+◌, ◌-◌, ◌%◌, ◌==◌, ◌⊎◌, inl, inr, Bool, true, false, cond, not}
-use Rattle.std.proofs.Common.{ℤ, pos, ◌*ℤ◌, unsigned_abs, int_div, w64, List, [], ◌∷◌, length, map, position}
-use Rattle.std.proofs.Common.{bytes_eq, nat_le, nat_lt, Option, Some, None, option_map, option_and_then, IfSome}
-use Rattle.std.proofs.Common.{Result, Ok, Err, IfOk, ok_or, IsTrue, MatchBool, refl, sym, subst, ◌∙◌, ap, arith}
+use Rattle.std.proofs.Common.{ℤ, pos, ◌*ℤ◌, unsigned_abs, int_div, w64, List, [], ◌∷◌, length, map, position, bytes_eq}
+use Rattle.std.proofs.Common.{nat_le, nat_lt, Option, Some, None, option_map, option_and_then, IfSome, Result, Ok, Err}
+use Rattle.std.proofs.Common.{IfOk, ok_or, IsTrue, MatchBool, refl, sym, subst, ◌∙◌, ap, arith}
 use Rattle.std.proofs.lemmas.Bool.Decides.{nat_tests}
 use Rattle.std.proofs.lemmas.List.{length-append, length-map}
 use Rattle.std.proofs.lemmas.Nat.{mul-add-lt}
@@ -13,25 +13,20 @@ use Rattle.vms_base.specs.declared.ids.EventId.{EventId}
 use Rattle.vms_base.specs.declared.ids.PcpuId.{PcpuId}
 use Rattle.vms_base.specs.declared.ids.PlaceId.{PlaceId}
 use Rattle.vms_base.specs.declared.kinds.ZoneKind.{ZoneKind}
-use Rattle.vms_base.specs.Headers.{IsHeader, class_names, declared_names}
-use Rattle.vms_base.specs.Names.{event_names, node_items, zone_items}
-use Rattle.vms_base.specs.Places.{IsCpu, IsNode, IsPlace, IsZone, Shape, counter_at, node_place, place_count}
-use Rattle.vms_base.specs.Places.{position_of, rank_of, zone_place}
-use Rattle.vms_base.proofs.Counts.{counter_at-place, counter_at-position}
+use Rattle.vms_base.specs.Common.{IsHeader, class_names, declared_names, event_names, node_items, zone_items, IsCpu}
+use Rattle.vms_base.specs.Common.{IsNode, IsPlace, IsZone, Shape, counter_at, node_place, place_count, position_of}
+use Rattle.vms_base.specs.Common.{rank_of, zone_place}
+use Rattle.vms_base.proofs.Common.{counter_at-place, counter_at-position}
 use Rattle.vms_line.specs.declared.causes.LineCause.TheVariants.{BadNumber, NotPages, UnknownCounter, UnknownItem}
 use Rattle.vms_line.specs.declared.causes.LineCause.TheVariants.{UnknownLane, UnknownPlace}
-use Rattle.vms_line.specs.Fields.{amount_field, counter_field, cpu_field, event_field, in_pages, item_field}
-use Rattle.vms_line.specs.Fields.{known_cpu, known_place, limit_field, node_field, node_value, number_field}
-use Rattle.vms_line.specs.Fields.{number_up_to, page_counter, pcpu_field, place_field, system_field, system_value}
-use Rattle.vms_line.specs.Fields.{within_limit, zone_field}
-use Rattle.vms_line.specs.Laws.{IsDeclared, IsKnownValue}
-use Rattle.vms_text.specs.PlaceNames.{IsKnown}
-use Rattle.vms_text.specs.PlaceNames.{is_in_bytes, is_node_place, item_named, kind_named, place_named, zone_named}
-use Rattle.vms_text.specs.Reading.{and_then}
-use Rattle.vms_line.specs.Forms.{has_zone_up_to, index_under}
-use Rattle.vms_line.specs.Spelling.{spelled_amount}
+use Rattle.vms_line.specs.Common.{amount_field, counter_field, cpu_field, event_field, in_pages, item_field, known_cpu}
+use Rattle.vms_line.specs.Common.{known_place, limit_field, node_field, node_value, number_field, number_up_to}
+use Rattle.vms_line.specs.Common.{page_counter, pcpu_field, place_field, system_field, system_value, within_limit}
+use Rattle.vms_line.specs.Common.{zone_field, IsDeclared, IsKnownValue, has_zone_up_to, index_under, spelled_amount}
+use Rattle.vms_text.specs.Common.{IsKnown, is_in_bytes, is_node_place, item_named, kind_named, place_named, zone_named}
+use Rattle.vms_text.specs.Common.{and_then}
 use Rattle.vms_line.proofs.Known.{amount_field-fits, number_up_to-le, pages-bytes, pages-fit}
-use Rattle.vms_text.proofs.Positions.{position-lt}
+use Rattle.vms_text.proofs.Common.{position-lt}
 
 -- what is true of the value, if there is one
 pub if_ok : {A E : Type 0} (found : Result A E) (P : A → Type 0) → ((value : A) → found ≡ Ok value → P value)

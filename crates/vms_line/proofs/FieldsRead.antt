@@ -1,6 +1,6 @@
 -- The words of a field are read back as what they spell.
-use Rattle.std.proofs.Common.{ℕ, ◌≡◌, ◌≢◌, ◌+◌, ◌-◌, ◌%◌, ◌<◌, ◌≤◌, ◌^◌, true, false, nat_lt, nat_le, List, []}
-use Rattle.std.proofs.Common.{◌∷◌, refl, ◌∙◌, ap, arith, eq-eqb, length, get_or, map, ℤ, pos, w64}
+use Rattle.std.proofs.Common.{ℕ, ◌≡◌, ◌≢◌, ◌+◌, ◌-◌, ◌%◌, ◌<◌, ◌≤◌, ◌^◌, true, false, nat_lt, nat_le, List, [], ◌∷◌}
+use Rattle.std.proofs.Common.{refl, ◌∙◌, ap, arith, eq-eqb, length, get_or, map, ℤ, pos, w64}
 use Rattle.std.proofs.lemmas.Bool.Decides.{nat_tests}
 use Rattle.std.proofs.lemmas.Int.{ints, quot-rem, rem_below, unsigned_abs-mul}
 use Rattle.std.proofs.lemmas.List.{length-map}
@@ -8,38 +8,27 @@ use Rattle.std.proofs.lemmas.List.Sums.{AllPass-from_list_all}
 use Rattle.std.proofs.lemmas.List.Elements.{All-map, All-weaker}
 use Rattle.std.specs.Fmt.{decimal, signed_decimal}
 use Rattle.std.specs.Int.RustNames.{FitsSigned}
-use Rattle.std.specs.Prelude.{◌==◌, ◌*ℤ◌, MatchBool, Ok, Result, bytes_eq, if◌then◌else◌, int_div, ok_or}
-use Rattle.std.specs.Prelude.{unsigned_abs}
+use Rattle.std.specs.Prelude.{◌==◌, ◌*ℤ◌, MatchBool, Ok, Result, bytes_eq, if◌then◌else◌, int_div, ok_or, unsigned_abs}
 use Rattle.vms_base.specs.declared.headers.Decl.{Decl}
 use Rattle.vms_base.specs.declared.headers.Header.{Header}
 use Rattle.vms_base.specs.declared.ids.CounterId.{CounterId}
 use Rattle.vms_base.specs.declared.ids.EventId.{EventId}
 use Rattle.vms_base.specs.declared.ids.ItemId.{ItemId}
 use Rattle.vms_base.specs.declared.ids.PcpuId.{PcpuId}
-use Rattle.vms_base.specs.Headers.{IsHeader, IsValidDecl, class_names, is_of_node}
-use Rattle.vms_base.specs.Names.{event_names}
-use Rattle.vms_base.specs.Places.{IsCpu, place_of, position_of}
-use Rattle.vms_base.proofs.Counts.{counter_at-whole, place_of-lt}
+use Rattle.vms_base.specs.Common.{IsHeader, IsValidDecl, class_names, is_of_node, event_names, IsCpu, place_of}
+use Rattle.vms_base.specs.Common.{position_of}
+use Rattle.vms_base.proofs.Common.{counter_at-whole, place_of-lt}
 use Rattle.vms_line.specs.declared.causes.LineCause.{LineCause}
 use Rattle.vms_line.specs.declared.causes.LineCause.TheVariants.{BadNumber}
-use Rattle.vms_line.specs.Fields.{amount_field, counter_field, cpu_field, event_field, in_pages, limit_field}
-use Rattle.vms_line.specs.Fields.{number_up_to, pcpu_field, system_field, within_limit}
-use Rattle.vms_line.specs.Laws.{IsDeclared, IsKnownValue}
-use Rattle.vms_text.specs.PlaceNames.{IsKnown}
-use Rattle.vms_text.specs.PlaceNames.{is_in_bytes}
-use Rattle.vms_text.specs.Reading.{and_then}
-use Rattle.vms_text.specs.Spelling.{counter_words, entry}
-use Rattle.vms_line.specs.Spelling.{event_word, pcpu_word, spelled_amount, system_word}
-use Rattle.vms_text.proofs.CounterWords.{counter_words-at, item_word-found, item_word-short}
-use Rattle.vms_text.proofs.Apart.{all_differ-pairs}
-use Rattle.vms_text.proofs.Entries.{entry-within}
-use Rattle.vms_text.proofs.ItemNames.{class_names-apart, name-short}
-use Rattle.vms_text.proofs.NameLookups.{bytes_eq-other, position-name, position-nowhere}
-use Rattle.vms_text.proofs.PlacesRead.{place-spelled}
+use Rattle.vms_line.specs.Common.{amount_field, counter_field, cpu_field, event_field, in_pages, limit_field}
+use Rattle.vms_line.specs.Common.{number_up_to, pcpu_field, system_field, within_limit, IsDeclared, IsKnownValue}
+use Rattle.vms_line.specs.Common.{event_word, pcpu_word, spelled_amount, system_word}
+use Rattle.vms_text.specs.Common.{IsKnown, is_in_bytes, and_then, counter_words, entry_if_any}
+use Rattle.vms_text.proofs.Common.{counter_words-at, item_word-found, item_word-short, all_differ-pairs}
+use Rattle.vms_text.proofs.Common.{entry_if_any-within, class_names-apart, name-short, bytes_eq-other, position-name}
+use Rattle.vms_text.proofs.Common.{position-nowhere, place-spelled, is_short, number_within-decimal, decimal-short}
+use Rattle.vms_text.proofs.Common.{signed_of-spelled, unsigned_of-decimal}
 use Rattle.vms_line.proofs.PlaceFields.{place_field-spelled}
-use Rattle.vms_text.proofs.Sentences.{is_short}
-use Rattle.vms_text.proofs.NumberLaws.{number_within-decimal}
-use Rattle.vms_text.proofs.SpelledNumbers.{decimal-short, signed_of-spelled, unsigned_of-decimal}
 
 -- one word that is read as a value
 pub record SpellsOne (A : Type 0) (field : List ℕ → Result A LineCause) (words : List (List ℕ))
@@ -83,7 +72,7 @@ event-spelled event within =
     let found = position-name event_names event (all_differ-pairs event_names refl) within in
     record {
       word = get_or event_names event [];
-      words_are = entry-within event_names event [] within;
+      words_are = entry_if_any-within event_names event [] within;
       short = AllPass-from_list_all is_short event_names refl event [] within;
       read = rw found refl;
     }
@@ -114,7 +103,7 @@ module _ (header : Header) (is : IsHeader header) where
       (λ decl valid. name-short decl.name valid.form) header.counters is.counters_valid) in
       record {
         word = get_or names counter [];
-        words_are = entry-within names counter [] within;
+        words_are = entry_if_any-within names counter [] within;
         short = shorts counter [] within;
         read = rw found refl;
       }
@@ -146,17 +135,19 @@ module _ (header : Header) (is : IsHeader header) where
 
   -- system-wide values
   zone_value : (item : ℕ) → nat_lt item header.layout.positions ≡ true → item < length (class_names false header.items)
-      → SpellsOne ItemId (system_field header) (entry (class_names false header.items) item) (record { number = item })
+      → SpellsOne ItemId (system_field header) (entry_if_any (class_names false header.items) item)
+      (record { number = item })
   zone_value item test within = record {
     word = get_or (class_names false header.items) item [];
-    words_are = entry-within (class_names false header.items) item [] within;
+    words_are = entry_if_any-within (class_names false header.items) item [] within;
     short = item_word-short header is false item within;
     read = rw (item_word-found header is false item within) refl;
   }
 
   node_value-spelled : (item : ℕ) → nat_lt item header.layout.positions ≡ false
       → item - header.layout.positions < length (class_names true header.items)
-      → SpellsOne ItemId (system_field header) (entry (class_names true header.items) (item - header.layout.positions))
+      → SpellsOne ItemId (system_field header)
+      (entry_if_any (class_names true header.items) (item - header.layout.positions))
       (record { number = item })
   node_value-spelled item test within =
       let names = class_names true header.items in
@@ -170,7 +161,7 @@ module _ (header : Header) (is : IsHeader header) where
       let whole : header.layout.positions + n ≡ item = omega arith in
       record {
         word = word;
-        words_are = entry-within names n [] within;
+        words_are = entry_if_any-within names n [] within;
         short = item_word-short header is true n within;
         read = rw (nowhere, item_word-found header is true n within, whole) refl;
       }
@@ -185,7 +176,8 @@ module _ (header : Header) (is : IsHeader header) where
       (λ b. nat_lt item positions ≡ b
       → MatchBool b (item < length zone_names) (item - positions < length node_names)
       → SpellsOne ItemId (system_field header)
-      (if b then entry zone_names item else entry node_names (item - positions)) (record { number = item })) [
+      (if b then entry_if_any zone_names item else entry_if_any node_names (item - positions))
+      (record { number = item })) [
         | true ↦ λ test within. zone_value item test within
         | false ↦ λ test within. node_value-spelled item test within
       ] refl known

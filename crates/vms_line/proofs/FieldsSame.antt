@@ -1,8 +1,8 @@
 -- What a field reads is spelled as the words that it was read from.
-use Rattle.std.proofs.Common.{ℕ, ◌≡◌, ◌<◌, ◌^◌, ◌%◌, ◌+◌, ◌-◌, ◌==◌, Bool, true, false, cond, nat_le, nat_lt}
-use Rattle.std.proofs.Common.{ℤ, pos, ◌*ℤ◌, unsigned_abs, int_div, List, [], ◌∷◌, ◌++◌, length, get_or, map, position}
-use Rattle.std.proofs.Common.{bytes_eq, Option, Some, None, option_map, option_and_then, Result, Ok, Err, ok_or}
-use Rattle.std.proofs.Common.{refl, sym, subst, ◌∙◌, ap, arith}
+use Rattle.std.proofs.Common.{ℕ, ◌≡◌, ◌<◌, ◌^◌, ◌%◌, ◌+◌, ◌-◌, ◌==◌, Bool, true, false, cond, nat_le, nat_lt, ℤ, pos}
+use Rattle.std.proofs.Common.{◌*ℤ◌, unsigned_abs, int_div, List, [], ◌∷◌, ◌++◌, length, get_or, map, position, bytes_eq}
+use Rattle.std.proofs.Common.{Option, Some, None, option_map, option_and_then, Result, Ok, Err, ok_or, refl, sym, subst}
+use Rattle.std.proofs.Common.{◌∙◌, ap, arith}
 use Rattle.std.proofs.lemmas.Bool.{eqb-true}
 use Rattle.std.proofs.lemmas.Bool.Decides.{nat_tests}
 use Rattle.std.proofs.lemmas.List.Quantifiers.{position-Some}
@@ -22,38 +22,32 @@ use Rattle.vms_base.specs.declared.kinds.WaterMark.TheVariants.{Min, Low, High}
 use Rattle.vms_base.specs.declared.kinds.ZoneKind.{ZoneKind}
 use Rattle.vms_base.specs.declared.kinds.ZoneKind.TheVariants.{Dma, Dma32, Normal, Movable}
 use Rattle.vms_base.specs.declared.kinds.ZoneName.{ZoneName}
-use Rattle.vms_base.specs.Headers.{IsHeader, class_names}
-use Rattle.vms_base.specs.Names.{event_names}
-use Rattle.vms_base.specs.Places.{IsNode, Shape, counter_at, node_place, rank_of, zone_place}
-use Rattle.vms_base.proofs.Counts.{counter_at-place, counter_at-position}
-use Rattle.vms_base.proofs.Zones.{rank_of-injective}
+use Rattle.vms_base.specs.Common.{IsHeader, class_names, event_names, IsNode, Shape, counter_at, node_place, rank_of}
+use Rattle.vms_base.specs.Common.{zone_place}
+use Rattle.vms_base.proofs.Common.{counter_at-place, counter_at-position, rank_of-injective}
 use Rattle.vms_text.specs.declared.acts.Boundary.TheVariants.{Sync, Offline, Online, Flush, Report}
 use Rattle.vms_text.specs.declared.acts.Line.{Line}
 use Rattle.vms_text.specs.declared.acts.Line.TheVariants.{Boundary}
 use Rattle.vms_text.specs.declared.acts.ReportKind.{ReportKind}
 use Rattle.vms_text.specs.declared.acts.ReportKind.TheVariants.{Vmstat, Zoneinfo, Totals, Counters}
-use Rattle.vms_text.specs.Numbers.{is_numeral, number_within, signed_of, unsigned_of}
-use Rattle.vms_text.specs.PlaceNames.{is_in_bytes, is_node_place, item_named, kind_named, place_named, zone_named}
-use Rattle.vms_text.specs.Reading.{and_then}
-use Rattle.vms_text.specs.Spelling.{counter_words, entry, place_words}
-use Rattle.vms_text.proofs.Entries.{entry-within}
-use Rattle.vms_text.proofs.NumberLaws.{signed_of-reads, unsigned_of-reads}
-use Rattle.vms_text.proofs.PlacesRead.{kind_word, place_words-node, some_zone, place_words-zone}
-use Rattle.vms_text.proofs.Positions.{position-lt}
-use Rattle.vms_text.proofs.Values.{and_left, and_right, number_within-is, signed_of-fits}
+use Rattle.vms_text.specs.Common.{is_numeral, number_within, signed_of, unsigned_of, is_in_bytes, is_node_place}
+use Rattle.vms_text.specs.Common.{item_named, kind_named, place_named, zone_named, and_then, counter_words}
+use Rattle.vms_text.specs.Common.{entry_if_any, place_words}
+use Rattle.vms_text.proofs.Common.{entry_if_any-within, signed_of-reads, unsigned_of-reads, kind_word, place_words-node}
+use Rattle.vms_text.proofs.Common.{some_zone, place_words-zone, position-lt, and_left, and_right, number_within-is}
+use Rattle.vms_text.proofs.Common.{signed_of-fits}
 use Rattle.vms_line.specs.declared.causes.LineCause.{LineCause}
 use Rattle.vms_line.specs.declared.causes.LineCause.TheVariants.{BadNumber, NotPages, UnknownCounter, UnknownItem}
 use Rattle.vms_line.specs.declared.causes.LineCause.TheVariants.{UnknownLane, UnknownPlace}
-use Rattle.vms_line.specs.Body.{bare_boundary, boundary_line, boundary_of, is_cpu_word, lane_number, report_named}
-use Rattle.vms_line.specs.Fields.{amount_field, counter_field, cpu_field, event_field, in_pages, item_field, known_cpu}
-use Rattle.vms_line.specs.Fields.{known_place, limit_field, mark_named, node_field, node_value, number_field}
-use Rattle.vms_line.specs.Fields.{number_up_to, pcpu_field, place_field, system_field, system_value, within_limit}
-use Rattle.vms_line.specs.Fields.{zone_field}
-use Rattle.vms_line.specs.Spelling.{event_word, line_words, mark_word, node_number, pcpu_word, report_word}
-use Rattle.vms_line.specs.Spelling.{spelled_amount, system_word}
+use Rattle.vms_line.specs.Common.{bare_boundary, boundary_line, boundary_of, is_cpu_word, lane_number, report_named}
+use Rattle.vms_line.specs.Common.{amount_field, counter_field, cpu_field, event_field, in_pages, item_field, known_cpu}
+use Rattle.vms_line.specs.Common.{known_place, limit_field, mark_named, node_field, node_value, number_field}
+use Rattle.vms_line.specs.Common.{number_up_to, pcpu_field, place_field, system_field, system_value, within_limit}
+use Rattle.vms_line.specs.Common.{zone_field, event_word, line_words, mark_word, node_number_words, pcpu_word}
+use Rattle.vms_line.specs.Common.{report_word, spelled_amount, system_word}
 use Rattle.vms_line.proofs.FieldsKnown.{class_names-most}
 use Rattle.vms_line.proofs.Known.{ok_or-some, pages-bytes}
-use Rattle.vms_line.proofs.PlaceFields.{node_number-own}
+use Rattle.vms_line.proofs.PlaceFields.{node_number_words-own}
 
 -- what two steps read, the second of what the first read
 pub record Steps {A B E : Type 0} (found : Result A E) (next : A → Result B E) (value : B) : Type 0 where
@@ -167,10 +161,10 @@ same_bytes : (word other : List ℕ) → bytes_eq word other ≡ true → other 
 same_bytes word other is = sym ((bytes_eq-Decides word other).0 is)
 
 pub name-same : (word : List ℕ) (names : List (List ℕ)) (i : ℕ)
-    → position (bytes_eq word) names ≡ Some i → entry names i ≡ word ∷ []
+    → position (bytes_eq word) names ≡ Some i → entry_if_any names i ≡ word ∷ []
 name-same word names i is =
     let at = position-Some (bytes_eq word) names i [] is in
-    entry-within names i [] at.0 ∙ ap (λ one. one ∷ []) (same_bytes word (get_or names i []) at.1)
+    entry_if_any-within names i [] at.0 ∙ ap (λ one. one ∷ []) (same_bytes word (get_or names i []) at.1)
 
 pub event_field-same : (word : List ℕ) (event : EventId)
     → event_field word ≡ Ok event → event_word event.number ≡ word ∷ []
@@ -414,18 +408,18 @@ module _ (header : Header) (valid : IsHeader header) where
       ∙ ap (λ w. w ∷ kind ∷ []) (number_field-same node steps.first steps.first_is)
 
   pub node_field-same : (node : List ℕ) (place : PlaceId)
-      → node_field header node ≡ Ok place → node_number header place.number ≡ node ∷ []
+      → node_field header node ≡ Ok place → node_number_words header place.number ≡ node ∷ []
   node_field-same node place is =
       let steps = steps_of (number_field node) (λ n. known_place (node_place header.layout n)) place is in
       let found = known_place-same (node_place header.layout steps.first) place steps.then_is in
       let stands = node_place-same header.layout steps.first place.number found in
-      node_number-own header valid.is_layout place.number stands.0 ∙ ap (λ n. decimal n ∷ []) stands.1
+      node_number_words-own header valid.is_layout place.number stands.0 ∙ ap (λ n. decimal n ∷ []) stands.1
       ∙ ap (λ w. w ∷ []) (number_field-same node steps.first steps.first_is)
 
   -- the words of the counter at a position of a place
   counter_at-words : (place at : ℕ) → at < length (class_names (is_node_place header.layout place) header.items)
       → counter_words header (counter_at header.layout place at)
-      ≡ place_words header place ++ entry (class_names (is_node_place header.layout place) header.items) at
+      ≡ place_words header place ++ entry_if_any (class_names (is_node_place header.layout place) header.items) at
   counter_at-words place at within =
       let most = class_names-most header (is_node_place header.layout place) valid in
       let below : at < header.layout.positions = omega (arith, most, within) in
@@ -447,5 +441,5 @@ module _ (header : Header) (valid : IsHeader header) where
       let place_is = place_field-same node kind steps.first steps.first_is in
       sym (ap (λ (one : CounterId). counter_words header one.number) made.value_is)
       ∙ counter_at-words place made.first within
-      ∙ ap (λ words. words ++ entry names made.first) place_is
+      ∙ ap (λ words. words ++ entry_if_any names made.first) place_is
       ∙ ap (λ words. node ∷ kind ∷ words) (name-same item names made.first made.first_is)

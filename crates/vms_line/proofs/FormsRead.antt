@@ -1,6 +1,6 @@
 -- The fields of each form are read back as the act that they spell.
-use Rattle.std.proofs.Common.{ℕ, ◌≡◌, ◌-◌, ◌≤◌, ◌^◌, ◌&&◌, true, List, [], ◌∷◌, ◌++◌, refl, subst, ◌∙◌, ap}
-use Rattle.std.proofs.Common.{arith, length, get_or}
+use Rattle.std.proofs.Common.{ℕ, ◌≡◌, ◌-◌, ◌≤◌, ◌^◌, ◌&&◌, true, List, [], ◌∷◌, ◌++◌, refl, subst, ◌∙◌, ap, arith}
+use Rattle.std.proofs.Common.{length, get_or}
 use Rattle.std.specs.Fmt.{decimal, signed_decimal}
 use Rattle.std.specs.List.{list_all}
 use Rattle.std.specs.Prelude.{Bool, false, IfSome, IsTrue, Ok, Result, Some, not}
@@ -11,33 +11,25 @@ use Rattle.vms_base.specs.declared.ids.PcpuId.{PcpuId}
 use Rattle.vms_base.specs.declared.ids.PlaceId.{PlaceId}
 use Rattle.vms_base.specs.declared.kinds.WaterMark.{WaterMark}
 use Rattle.vms_base.specs.declared.kinds.WaterMark.TheVariants.{Min, Low, High}
-use Rattle.vms_base.specs.Headers.{IsHeader}
-use Rattle.vms_base.specs.Places.{IsCpu, IsNode}
+use Rattle.vms_base.specs.Common.{IsHeader, IsCpu, IsNode}
 use Rattle.vms_text.specs.declared.acts.Act.{Act}
 use Rattle.vms_text.specs.declared.acts.Act.TheVariants as acts
 use Rattle.vms_text.specs.declared.acts.Lane.{Lane as LaneOf}
 use Rattle.vms_text.specs.declared.acts.Lane.TheVariants.{Cpu, Control}
-use Rattle.vms_text.specs.PlaceNames.{IsKnown, is_in_bytes}
-use Rattle.vms_text.specs.Spelling.{counter_words}
-use Rattle.vms_text.proofs.PlacesRead.{kind_word, kind_word-short, node_most-holds, node_at-own, some_zone}
-use Rattle.vms_text.proofs.PlacesRead.{place_words-zone}
-use Rattle.vms_text.proofs.PlacesRead.{zone_node-most}
-use Rattle.vms_text.proofs.Sentences.{is_short}
-use Rattle.vms_text.proofs.SpelledNumbers.{decimal-short, signed-short}
+use Rattle.vms_text.specs.Common.{IsKnown, is_in_bytes, counter_words}
+use Rattle.vms_text.proofs.Common.{kind_word, kind_word-short, node_most-holds, node_at-own, some_zone}
+use Rattle.vms_text.proofs.Common.{place_words-zone, zone_node-most, is_short, decimal-short, signed-short}
 use Rattle.vms_line.specs.declared.causes.LineCause.{LineCause}
 use Rattle.vms_line.specs.declared.forms.Verb.{Verb}
 use Rattle.vms_line.specs.declared.forms.Verb.TheVariants.{Mod, Inc, Dec, Ev, Cnt, Lim, Cmp, Sum, Rough, Csync, EvSum}
-use Rattle.vms_line.specs.declared.forms.Verb.TheVariants.{Fold, Water, Val, Snap, Sys, Pressure, Normal, Dead}
-use Rattle.vms_line.specs.declared.forms.Verb.TheVariants.{Kswapd}
-use Rattle.vms_line.specs.Fields.{mark_named, node_field}
-use Rattle.vms_line.specs.Forms.{Counter, Name, Node, OneCpu, Paged, form_of, has_zone_up_to, has_lane}
-use Rattle.vms_line.specs.Forms.{read_fields}
-use Rattle.vms_line.specs.Laws.{IsActOf, IsDeclared, IsOfControl, IsOfCpu}
-use Rattle.vms_line.specs.Spelling.{act_words, mark_word, node_number, pcpu_word, spelled_amount}
+use Rattle.vms_line.specs.declared.forms.Verb.TheVariants.{Fold, Water, Val, Snap, Sys, Pressure, Normal, Dead, Kswapd}
+use Rattle.vms_line.specs.Common.{mark_named, node_field, Counter, Name, Node, OneCpu, Paged, form_of, has_zone_up_to}
+use Rattle.vms_line.specs.Common.{has_lane, read_fields, IsActOf, IsDeclared, IsOfControl, IsOfCpu, act_words}
+use Rattle.vms_line.specs.Common.{mark_word, node_number_words, pcpu_word, spelled_amount}
 use Rattle.vms_line.proofs.FieldsRead.{SpellsCounter, SpellsOne, amount_field-spelled, counter-spelled, cpu-fits}
 use Rattle.vms_line.proofs.FieldsRead.{cpu_field-spelled, event-spelled, in_pages-spelled, limit-fits}
 use Rattle.vms_line.proofs.FieldsRead.{limit_field-spelled, number_up_to-spelled, pcpu-spelled, value-spelled}
-use Rattle.vms_line.proofs.PlaceFields.{node_field-spelled, node_number-own, zone_field-spelled}
+use Rattle.vms_line.proofs.PlaceFields.{node_field-spelled, node_number_words-own, zone_field-spelled}
 
 pub short-cons : (word : List ℕ) (words : List (List ℕ)) → is_short word ≡ true → list_all is_short words ≡ true
     → list_all is_short (word ∷ words) ≡ true
@@ -168,19 +160,19 @@ module _ (header : Header) (is : IsHeader header) where
   }
 
   node_spelled : (node : PlaceId) → IsNode header.layout node.number
-      → SpellsOne PlaceId (node_field header) (node_number header node.number) node
+      → SpellsOne PlaceId (node_field header) (node_number_words header node.number) node
   node_spelled node within =
       let index = node.number - length header.layout.zones in
       let most = node_most-holds header.layout is.is_layout index (omega arith) in
       record {
         word = decimal (get_or header.layout.nodes index 0);
-        words_are = node_number-own header is.is_layout node.number within;
+        words_are = node_number_words-own header is.is_layout node.number within;
         short = decimal-short (get_or header.layout.nodes index 0) (omega (arith, most));
         read = node_field-spelled header is.is_layout node.number within;
       }
 
   node_says : (verb : Verb) (make : PlaceId → Act) (node : PlaceId) → (form_of verb).fields ≡ Node make
-      → act_words header (make node) ≡ (form_of verb).word ∷ node_number header node.number
+      → act_words header (make node) ≡ (form_of verb).word ∷ node_number_words header node.number
       → IsNode header.layout node.number
       → Says header verb (make node)
   node_says verb make node fields words within =

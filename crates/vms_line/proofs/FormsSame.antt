@@ -1,7 +1,7 @@
 -- The fields of each form are spelled as the words that they were read from.
-use Rattle.std.proofs.Common.{ℕ, ◌≡◌, ◌<◌, ◌^◌, ◌-◌, Bool, true, false, cond, nat_lt, bytes_eq, codes, ok_or}
-use Rattle.std.proofs.Common.{ℤ, List, [], ◌∷◌, ◌++◌, Option, Some, None, Result, Ok, Err, length}
-use Rattle.std.proofs.Common.{refl, sym, subst, ◌∙◌, ap, arith}
+use Rattle.std.proofs.Common.{ℕ, ◌≡◌, ◌<◌, ◌^◌, ◌-◌, Bool, true, false, cond, nat_lt, bytes_eq, codes, ok_or, ℤ, List}
+use Rattle.std.proofs.Common.{[], ◌∷◌, ◌++◌, Option, Some, None, Result, Ok, Err, length, refl, sym, subst, ◌∙◌, ap}
+use Rattle.std.proofs.Common.{arith}
 use Rattle.std.proofs.lemmas.Bool.{false≢true}
 use Rattle.std.proofs.lemmas.Bool.Decides.{nat_tests}
 use Rattle.std.proofs.lemmas.Slice.Eq.{bytes_eq-Decides}
@@ -15,35 +15,29 @@ use Rattle.vms_base.specs.declared.ids.ItemId.{ItemId}
 use Rattle.vms_base.specs.declared.ids.PcpuId.{PcpuId}
 use Rattle.vms_base.specs.declared.ids.PlaceId.{PlaceId}
 use Rattle.vms_base.specs.declared.kinds.WaterMark.{WaterMark}
-use Rattle.vms_base.specs.Headers.{IsHeader}
-use Rattle.vms_base.specs.Places.{node_at}
+use Rattle.vms_base.specs.Common.{IsHeader, node_at}
 use Rattle.vms_text.specs.declared.acts.Act.{Act}
 use Rattle.vms_text.specs.declared.acts.Act.TheVariants as acts
 use Rattle.vms_text.specs.declared.acts.Lane.{Lane as LaneOf}
 use Rattle.vms_text.specs.declared.acts.Lane.TheVariants.{Cpu, Control}
 use Rattle.vms_text.specs.declared.acts.Line.{Line}
 use Rattle.vms_text.specs.declared.acts.Line.TheVariants.{Blank, Lane}
-use Rattle.vms_text.specs.PlaceNames.{is_in_bytes}
-use Rattle.vms_text.specs.Reading.{and_then, is_clean, is_ignored}
-use Rattle.vms_text.specs.Spelling.{counter_words, place_words}
-use Rattle.vms_text.specs.Words.{words_of}
+use Rattle.vms_text.specs.Common.{is_in_bytes, and_then, is_clean, is_ignored, counter_words, place_words, words_of}
 use Rattle.vms_line.specs.declared.causes.LineCause.{LineCause}
-use Rattle.vms_line.specs.declared.causes.LineCause.TheVariants.{LineTooLong, Malformed, NotPages}
-use Rattle.vms_line.specs.declared.causes.LineCause.TheVariants.{UnknownLane, UnknownPlace}
+use Rattle.vms_line.specs.declared.causes.LineCause.TheVariants.{LineTooLong, Malformed, NotPages, UnknownLane}
+use Rattle.vms_line.specs.declared.causes.LineCause.TheVariants.{UnknownPlace}
 use Rattle.vms_line.specs.declared.forms.Verb.{Verb}
 use Rattle.vms_line.specs.declared.forms.Verb.TheVariants.{Mod, Inc, Dec, Ev, Cnt, Lim, Cmp, Sum, Rough, Csync, EvSum}
 use Rattle.vms_line.specs.declared.forms.Verb.TheVariants.{Fold, Water, Val, Snap, Sys, Pressure, Normal, Dead, Kswapd}
-use Rattle.vms_line.specs.Body.{boundary_line, control_line, cpu_line, is_cpu_word, lane_number, of_cpu, of_lane}
-use Rattle.vms_line.specs.Body.{read_words}
-use Rattle.vms_line.specs.Fields.{amount_field, counter_field, event_field, in_pages, limit_field, mark_named}
-use Rattle.vms_line.specs.Fields.{node_field, number_up_to, page_counter, pcpu_field, zone_field}
-use Rattle.vms_line.specs.Forms.{amount_fields, change_fields, count_fields, counter_fields, event_fields, form_of}
-use Rattle.vms_line.specs.Forms.{has_zone_up_to, index_under, has_lane, limited_fields, marked_fields, name_fields}
-use Rattle.vms_line.specs.Forms.{node_fields, number_fields, one_cpu_fields, paged_fields, read_act, read_fields}
-use Rattle.vms_line.specs.Forms.{read_verb, turn_fields, value_fields, verb_named, verbs}
-use Rattle.vms_line.specs.Laws.{LinesHaveOneSpelling}
-use Rattle.vms_line.specs.Spelling.{act_words, event_word, lane_word, line_words, mark_word, node_number, pcpu_word}
-use Rattle.vms_line.specs.Spelling.{spelled_amount, system_word}
+use Rattle.vms_line.specs.Common.{boundary_line, control_line, cpu_line, is_cpu_word, lane_number, of_cpu, of_lane}
+use Rattle.vms_line.specs.Common.{read_words, amount_field, counter_field, event_field, in_pages, limit_field}
+use Rattle.vms_line.specs.Common.{mark_named, node_field, number_up_to, page_counter, pcpu_field, zone_field}
+use Rattle.vms_line.specs.Common.{amount_fields, change_fields, count_fields, counter_fields, event_fields, form_of}
+use Rattle.vms_line.specs.Common.{has_zone_up_to, index_under, has_lane, limited_fields, marked_fields, name_fields}
+use Rattle.vms_line.specs.Common.{node_fields, number_fields, one_cpu_fields, paged_fields, act_in_words, read_fields}
+use Rattle.vms_line.specs.Common.{read_verb, turn_fields, value_fields, verb_named, verbs, LinesHaveOneSpelling}
+use Rattle.vms_line.specs.Common.{act_words, event_word, lane_word, line_words, mark_word, node_number_words, pcpu_word}
+use Rattle.vms_line.specs.Common.{spelled_amount, system_word}
 use Rattle.vms_line.proofs.FieldsSame.{amount_field-same, boundary_line-same, counter_field-same, cpu_field-same}
 use Rattle.vms_line.proofs.FieldsSame.{cpu_word-same, event_field-same, in_pages-same, limit_field-same}
 use Rattle.vms_line.proofs.FieldsSame.{mark_named-same, node_field-same, number_up_to-same, parted, passed}
@@ -191,7 +185,7 @@ module _ (header : Header) (valid : IsHeader header) where
   one_cpu_fields-same _ found is = absurd cc
 
   node_fields-same : (words : List (List ℕ)) (found : PlaceId)
-      → node_fields header words ≡ Ok found → node_number header found.number ≡ words
+      → node_fields header words ≡ Ok found → node_number_words header found.number ≡ words
   node_fields-same (node ∷ []) found is = node_field-same header valid node found is
   node_fields-same _ found is = absurd cc
 
@@ -221,7 +215,7 @@ module _ (header : Header) (valid : IsHeader header) where
   marked_fields-same _ found is = absurd cc
 
   abbrev turn_words : PlaceId × ℕ × ℕ → List (List ℕ)
-  turn_words found = node_number header found.0.number ++ decimal found.1 ∷ decimal found.2 ∷ []
+  turn_words found = node_number_words header found.0.number ++ decimal found.1 ∷ decimal found.2 ∷ []
 
   turn_fields-same : (words : List (List ℕ)) (found : PlaceId × ℕ × ℕ)
       → turn_fields header words ≡ Ok found → turn_words found ≡ words
@@ -304,10 +298,11 @@ module _ (header : Header) (valid : IsHeader header) where
       act-same (value_fields header words) acts.Sys (λ found. system_word header found.number) (codes "sys")
       words act (λ _. refl) (value_fields-same words)
   verb-same Pressure words act =
-      act-same (node_fields header words) acts.Pressure (λ found. node_number header found.number) (codes "pressure")
+      act-same (node_fields header words) acts.Pressure (λ found. node_number_words header found.number)
+      (codes "pressure")
       words act (λ _. refl) (node_fields-same words)
   verb-same Normal words act =
-      act-same (node_fields header words) acts.Normal (λ found. node_number header found.number) (codes "normal")
+      act-same (node_fields header words) acts.Normal (λ found. node_number_words header found.number) (codes "normal")
       words act (λ _. refl) (node_fields-same words)
   verb-same Dead words act =
       act-same (one_cpu_fields header words) acts.Dead (λ found. decimal found.number ∷ []) (codes "dead")
@@ -316,9 +311,9 @@ module _ (header : Header) (valid : IsHeader header) where
       act-same (turn_fields header words) (λ found. acts.Kswapd found.0 found.1 found.2) turn_words (codes "kswapd")
       words act (λ _. refl) (turn_fields-same words)
 
-  pub read_act-same : (control : Bool) (word : List ℕ) (words : List (List ℕ)) (act : Act)
-      → read_act header control word words ≡ Ok act → act_words header act ≡ word ∷ words
-  read_act-same control word words act is = by (verb_named word) refl is
+  pub act_in_words-same : (control : Bool) (word : List ℕ) (words : List (List ℕ)) (act : Act)
+      → act_in_words header control word words ≡ Ok act → act_words header act ≡ word ∷ words
+  act_in_words-same control word words act is = by (verb_named word) refl is
     where
       by : (named : Option Verb) → verb_named word ≡ named → read_verb header control words named ≡ Ok act
           → act_words header act ≡ word ∷ words
@@ -343,7 +338,7 @@ module _ (header : Header) (valid : IsHeader header) where
       → control_line header words ≡ Ok line → line_words header line ≡ codes "k" ∷ words
   control_line-same [] line is = absurd cc
   control_line-same (verb ∷ words) line is =
-      lane-same Control (read_act header true verb words) verb words line (read_act-same true verb words) is
+      lane-same Control (act_in_words header true verb words) verb words line (act_in_words-same true verb words) is
 
   -- a line of a CPU's lane counts only where the machine has the CPU
   of_cpu-ok : (n : ℕ) (found : Result Act LineCause) (line : Line) → of_cpu header n found ≡ Ok line
@@ -363,13 +358,13 @@ module _ (header : Header) (valid : IsHeader header) where
   cpu_line-same first [] line word is = absurd cc
   cpu_line-same first (verb ∷ words) line word is =
       let n = lane_number first in
-      let both = of_cpu-ok n (read_act header false verb words) line is in
+      let both = of_cpu-ok n (act_in_words header false verb words) line is in
       let test = both.0 in
       let most = valid.is_layout.cpus_most in
       let below : n < header.layout.cpus = grind (arith, nat_tests) in
       let small : n < 2 ^ 64 = omega (arith, below, most) in
-      lane-same (Cpu (record { number = n })) (read_act header false verb words) verb words line
-      (read_act-same false verb words) both.1
+      lane-same (Cpu (record { number = n })) (act_in_words header false verb words) verb words line
+      (act_in_words-same false verb words) both.1
       ∙ ap (λ one. one ∷ verb ∷ words) (cpu_word-same first word small)
 
 -- what is spelled of a line is the words that it was read from

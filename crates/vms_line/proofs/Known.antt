@@ -7,11 +7,10 @@ use Rattle.std.proofs.lemmas.Int.{ints, quot-rem, quot_fits}
 use Rattle.std.specs.Int.RustNames.{FitsSigned}
 use Rattle.vms_base.specs.declared.headers.Header.{Header}
 use Rattle.vms_base.specs.declared.ids.CounterId.{CounterId}
-use Rattle.vms_text.specs.Numbers.{number_within, signed_of}
-use Rattle.vms_text.proofs.Values.{number_within-le, signed_of-fits}
+use Rattle.vms_text.specs.Common.{number_within, signed_of, is_in_bytes}
+use Rattle.vms_text.proofs.Common.{number_within-le, signed_of-fits}
 use Rattle.vms_line.specs.declared.causes.LineCause.TheVariants.{BadNumber, NotPages}
-use Rattle.vms_line.specs.Fields.{amount_field, in_pages, number_up_to}
-use Rattle.vms_text.specs.PlaceNames.{is_in_bytes}
+use Rattle.vms_line.specs.Common.{amount_field, in_pages, number_up_to}
 
 -- what was found is `Some` where it counts
 pub ok_or-some : {A E : Type 0} (found : Option A) (cause : E) (value : A) → ok_or found cause ≡ Ok value

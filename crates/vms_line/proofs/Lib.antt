@@ -12,3 +12,4 @@ pub mod FieldsSame
 pub mod FormsSame
 pub mod WordsShort
 pub mod SpelledRead
+pub mod Common

@@ -1,7 +1,7 @@
 -- What a line says by its first words.
-use Rattle.std.proofs.Common.{ℕ, ◌≡◌, ◌≢◌, ◌<◌, ◌≤◌, ◌^◌, ◌-◌, ◌&&◌, ◌||◌, Bool, true, false, cond, not, List, []}
-use Rattle.std.proofs.Common.{◌∷◌, Some, None, Ok, Err, refl, sym, ◌∙◌, ap, arith, drop, get_or, length, map, take}
-use Rattle.std.proofs.Common.{nat_le, nat_lt}
+use Rattle.std.proofs.Common.{ℕ, ◌≡◌, ◌≢◌, ◌<◌, ◌≤◌, ◌^◌, ◌-◌, ◌&&◌, ◌||◌, Bool, true, false, cond, not, List, [], ◌∷◌}
+use Rattle.std.proofs.Common.{Some, None, Ok, Err, refl, sym, ◌∙◌, ap, arith, drop, get_or, length, map, take, nat_le}
+use Rattle.std.proofs.Common.{nat_lt, Option, bytes_eq, codes}
 use Rattle.std.proofs.lemmas.Bool.{false≢true}
 use Rattle.std.proofs.lemmas.Bool.Decides.{nat_tests}
 use Rattle.std.proofs.lemmas.List.Splits.{slice_split-cons_no}
@@ -9,22 +9,18 @@ use Rattle.std.specs.List.{filter, list_all, onto_first, slice_split}
 use Rattle.std.specs.Str.Parse.{digits_value}
 use denote.Ref.{Bor}
 use Rattle.vms_base.specs.declared.headers.Header.{Header}
-use Rattle.vms_text.specs.Numbers.{is_numeral, unsigned_of}
-use Rattle.vms_text.specs.Words.{is_blank_byte, is_empty, is_word_byte, is_wrong_byte, words_of}
-use Rattle.vms_text.proofs.Values.{and_left, and_right}
-use Rattle.vms_text.proofs.Words.{words_of-other}
+use Rattle.vms_text.specs.Common.{is_numeral, unsigned_of, is_blank_byte, is_empty, is_word_byte, is_wrong_byte}
+use Rattle.vms_text.specs.Common.{words_of, is_clean, is_comment, is_ignored}
+use Rattle.vms_text.proofs.Common.{and_left, and_right, words_of-other, clean-other, is_ignored-none}
+use Rattle.vms_text.proofs.Common.{word_byte-not_blank}
 use Rattle.vms_line.specs.declared.causes.LineCause.TheVariants.{LineTooLong, Malformed, UnknownLane}
 use Rattle.vms_text.specs.declared.acts.Line.TheVariants.{Blank}
-use Rattle.std.proofs.Common.{Option, bytes_eq, codes}
 use Rattle.vms_text.specs.declared.acts.Lane.TheVariants.{Control}
 use Rattle.vms_line.specs.declared.forms.Verb.{Verb}
-use Rattle.vms_line.specs.Body.{is_cpu_word, lane_number, of_cpu, of_lane}
-use Rattle.vms_line.specs.Forms.{Amount, Change, Count, Counter, Event, Fields, Limited, Marked, Name, Node, Number}
-use Rattle.vms_line.specs.Forms.{OneCpu, Paged, Turn, Value, form_of, has_lane, read_fields, read_verb, verb_named}
-use Rattle.vms_line.specs.Body.{boundary_line, read_line, read_words}
-use Rattle.vms_line.specs.Fields.{known_cpu}
-use Rattle.vms_text.specs.Reading.{is_clean, is_comment, is_ignored}
-use Rattle.vms_text.proofs.Pieces.{clean-other, is_ignored-none, word_byte-not_blank}
+use Rattle.vms_line.specs.Common.{is_cpu_word, lane_number, of_cpu, of_lane, Amount, Change, Count, Counter, Event}
+use Rattle.vms_line.specs.Common.{Fields, Limited, Marked, Name, Node, Number, OneCpu, Paged, Turn, Value, form_of}
+use Rattle.vms_line.specs.Common.{has_lane, read_fields, read_verb, verb_named, boundary_line, read_line, read_words}
+use Rattle.vms_line.specs.Common.{known_cpu}
 
 pub boundary_line-long : (header : Header) (words : List (List ℕ)) → 3 ≤ length words
     → boundary_line header words ≡ Err Malformed

@@ -1,7 +1,7 @@
 -- For other crates too: every line that is read is one of its header.
-use Rattle.std.proofs.Common.{ℕ, ◌≡◌, ◌<◌, ◌≤◌, ◌^◌, ◌-◌, ◌==◌, ◌&&◌, true, false, cond, not, List, [], ◌∷◌}
-use Rattle.std.proofs.Common.{Option, Some, None, Result, Ok, Err, IfOk, bytes_eq, codes, length, nat_lt, ok_or, sym}
-use Rattle.std.proofs.Common.{subst, arith, w64, unsigned_abs, ℤ}
+use Rattle.std.proofs.Common.{ℕ, ◌≡◌, ◌<◌, ◌≤◌, ◌^◌, ◌-◌, ◌==◌, ◌&&◌, true, false, cond, not, List, [], ◌∷◌, Option}
+use Rattle.std.proofs.Common.{Some, None, Result, Ok, Err, IfOk, bytes_eq, codes, length, nat_lt, ok_or, sym, subst}
+use Rattle.std.proofs.Common.{arith, w64, unsigned_abs, ℤ}
 use Rattle.std.proofs.lemmas.Bool.Decides.{nat_tests}
 use Rattle.std.specs.Int.RustNames.{FitsSigned}
 use Rattle.std.specs.Prelude.{IfSome, IsTrue}
@@ -11,38 +11,31 @@ use Rattle.vms_base.specs.declared.ids.EventId.{EventId}
 use Rattle.vms_base.specs.declared.ids.PcpuId.{PcpuId}
 use Rattle.vms_base.specs.declared.ids.PlaceId.{PlaceId}
 use Rattle.vms_base.specs.declared.kinds.WaterMark.{WaterMark}
-use Rattle.vms_base.specs.Headers.{IsHeader}
-use Rattle.vms_base.specs.Places.{IsCpu, IsNode, IsZone, node_at}
+use Rattle.vms_base.specs.Common.{IsHeader, IsCpu, IsNode, IsZone, node_at}
 use Rattle.vms_text.specs.declared.acts.Act.{Act}
 use Rattle.vms_text.specs.declared.acts.Boundary.TheVariants.{Sync, Flush, Report}
 use Rattle.vms_text.specs.declared.acts.Lane.{Lane as LaneOf}
 use Rattle.vms_text.specs.declared.acts.Lane.TheVariants.{Cpu, Control}
 use Rattle.vms_text.specs.declared.acts.Line.TheVariants.{Blank, Lane, Boundary}
 use Rattle.vms_text.specs.declared.acts.ReportKind.TheVariants.{Vmstat, Zoneinfo, Totals, Counters}
-use Rattle.vms_text.specs.PlaceNames.{IsKnown, is_in_bytes}
-use Rattle.vms_text.specs.Reading.{is_clean, is_ignored}
-use Rattle.vms_text.specs.Words.{words_of}
+use Rattle.vms_text.specs.Common.{IsKnown, is_in_bytes, is_clean, is_ignored, words_of}
 use Rattle.vms_line.specs.declared.causes.LineCause.{LineCause}
 use Rattle.vms_line.specs.declared.causes.LineCause.TheVariants.{LineTooLong, Malformed, UnknownLane}
 use Rattle.vms_line.specs.declared.forms.Verb.{Verb}
 use Rattle.vms_line.specs.declared.forms.Verb.TheVariants.{Mod, Inc, Dec, Ev, Cnt, Lim, Cmp, Sum, Rough, Csync, EvSum}
-use Rattle.vms_line.specs.declared.forms.Verb.TheVariants.{Fold, Water, Val, Snap, Sys, Pressure, Normal, Dead}
-use Rattle.vms_line.specs.declared.forms.Verb.TheVariants.{Kswapd}
-use Rattle.vms_line.specs.Body.{boundary_line, control_line, cpu_line, is_cpu_word, lane_number, of_cpu, of_lane}
-use Rattle.vms_line.specs.Body.{read_line, read_words, report_named}
-use Rattle.vms_line.specs.Fields.{amount_field, counter_field, cpu_field, event_field, in_pages, limit_field}
-use Rattle.vms_line.specs.Fields.{mark_named, node_field, number_up_to, pcpu_field}
-use Rattle.vms_line.specs.Fields.{zone_field}
-use Rattle.vms_line.specs.Forms.{amount_fields, change_fields, count_fields, counter_fields, event_fields, form_of}
-use Rattle.vms_line.specs.Forms.{has_zone_up_to, index_under, has_lane, limited_fields, marked_fields, name_fields}
-use Rattle.vms_line.specs.Forms.{node_fields, number_fields, one_cpu_fields, paged_fields, read_act, read_fields}
-use Rattle.vms_line.specs.Forms.{read_verb, turn_fields, value_fields, verb_named}
-use Rattle.vms_line.specs.Laws.{IsActOf, IsDeclared, IsKnownValue, IsLineOf, IsOfControl, IsOfCpu}
-use Rattle.vms_line.specs.Spelling.{spelled_amount}
+use Rattle.vms_line.specs.declared.forms.Verb.TheVariants.{Fold, Water, Val, Snap, Sys, Pressure, Normal, Dead, Kswapd}
+use Rattle.vms_line.specs.Common.{boundary_line, control_line, cpu_line, is_cpu_word, lane_number, of_cpu, of_lane}
+use Rattle.vms_line.specs.Common.{read_line, read_words, report_named, amount_field, counter_field, cpu_field}
+use Rattle.vms_line.specs.Common.{event_field, in_pages, limit_field, mark_named, node_field, number_up_to, pcpu_field}
+use Rattle.vms_line.specs.Common.{zone_field, amount_fields, change_fields, count_fields, counter_fields, event_fields}
+use Rattle.vms_line.specs.Common.{form_of, has_zone_up_to, index_under, has_lane, limited_fields, marked_fields}
+use Rattle.vms_line.specs.Common.{name_fields, node_fields, number_fields, one_cpu_fields, paged_fields, act_in_words}
+use Rattle.vms_line.specs.Common.{read_fields, read_verb, turn_fields, value_fields, verb_named, IsActOf, IsDeclared}
+use Rattle.vms_line.specs.Common.{IsKnownValue, IsLineOf, IsOfControl, IsOfCpu, spelled_amount}
 use Rattle.vms_line.proofs.FieldsKnown.{amount_field-known, counter_field-known, cpu_field-known, event_field-known}
-use Rattle.vms_line.proofs.FieldsKnown.{if_any, if_cond, if_then, in_pages-known, index_under-known}
-use Rattle.vms_line.proofs.FieldsKnown.{limit_field-known, node_field-known, number_up_to-known, page_counter-known}
-use Rattle.vms_line.proofs.FieldsKnown.{pcpu_field-known, system_field-known, zone_field-known}
+use Rattle.vms_line.proofs.FieldsKnown.{if_any, if_cond, if_then, in_pages-known, index_under-known, limit_field-known}
+use Rattle.vms_line.proofs.FieldsKnown.{node_field-known, number_up_to-known, page_counter-known, pcpu_field-known}
+use Rattle.vms_line.proofs.FieldsKnown.{system_field-known, zone_field-known}
 use Rattle.vms_line.proofs.FormsRead.{is_control_lane}
 
 of_cpus : (lane : LaneOf) → not (is_control_lane lane) ≡ true → IsOfCpu lane
@@ -254,9 +247,9 @@ module _ (header : Header) (is : IsHeader header) where
         (verb-known verb words) (λ _. tt)
 
   -- a lane's words
-  read_act-known : (lane : LaneOf) (verb : List ℕ) (words : List (List ℕ))
-      → IfOk (read_act header (is_control_lane lane) verb words) (IsActOf header lane)
-  read_act-known lane verb words = read_verb-known lane words (verb_named verb)
+  act_in_words-known : (lane : LaneOf) (verb : List ℕ) (words : List (List ℕ))
+      → IfOk (act_in_words header (is_control_lane lane) verb words) (IsActOf header lane)
+  act_in_words-known lane verb words = read_verb-known lane words (verb_named verb)
 
   module _ (n : ℕ) where
     abbrev IsOfN : Act → Type 0
@@ -278,13 +271,14 @@ module _ (header : Header) (is : IsHeader header) where
     cpu_line-known : (words : List (List ℕ)) → IfOk (cpu_line header n words) (IsLineOf header)
     cpu_line-known [] = tt
     cpu_line-known (verb ∷ words) =
-        of_cpu-known (read_act header false verb words) (read_act-known (Cpu (record { number = n })) verb words)
+        of_cpu-known (act_in_words header false verb words)
+        (act_in_words-known (Cpu (record { number = n })) verb words)
 
   control_line-known : (words : List (List ℕ)) → IfOk (control_line header words) (IsLineOf header)
   control_line-known [] = tt
   control_line-known (verb ∷ words) =
-      if_then (read_act header true verb words) _ (IsActOf header Control) (IsLineOf header)
-      (read_act-known Control verb words) (λ act known. (tt, known))
+      if_then (act_in_words header true verb words) _ (IsActOf header Control) (IsLineOf header)
+      (act_in_words-known Control verb words) (λ act known. (tt, known))
 
   report : (word : List ℕ) → IfOk (report_named word) (IsLineOf header)
   report word =

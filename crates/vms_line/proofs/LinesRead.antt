@@ -1,12 +1,12 @@
 -- For other crates too: what is spelled of a line is read back as that line.
-use Rattle.std.proofs.Common.{ℕ, ◌≡◌, true, nat_lt, List, [], ◌∷◌, refl, ap, arith}
+use Rattle.std.proofs.Common.{ℕ, ◌≡◌, true, nat_lt, List, [], ◌∷◌, refl, ap, arith, Bool, false, Some, Err}
+use Rattle.std.proofs.Common.{if◌then◌else◌, ◌∙◌}
 use Rattle.std.proofs.lemmas.Bool.Decides.{nat_tests}
 use Rattle.std.specs.Fmt.{decimal}
 use Rattle.std.specs.Prelude.{Ok, codes}
 use Rattle.vms_base.specs.declared.headers.Header.{Header}
 use Rattle.vms_base.specs.declared.ids.CpuId.{CpuId}
-use Rattle.vms_base.specs.Headers.{IsHeader}
-use Rattle.vms_base.specs.Places.{IsCpu}
+use Rattle.vms_base.specs.Common.{IsHeader, IsCpu}
 use Rattle.vms_text.specs.declared.acts.Act.{Act}
 use Rattle.vms_text.specs.declared.acts.Boundary.{Boundary as BoundaryOf}
 use Rattle.vms_text.specs.declared.acts.Boundary.TheVariants.{Sync, Offline, Online, Flush, Report}
@@ -16,30 +16,18 @@ use Rattle.vms_text.specs.declared.acts.Line.{Line}
 use Rattle.vms_text.specs.declared.acts.Line.TheVariants.{Blank, Lane, Boundary}
 use Rattle.vms_text.specs.declared.acts.ReportKind.{ReportKind}
 use Rattle.vms_text.specs.declared.acts.ReportKind.TheVariants.{Vmstat, Zoneinfo, Totals, Counters}
-use Rattle.std.proofs.Common.{Bool, false, true, Some, Err, if◌then◌else◌}
 use Rattle.vms_line.specs.declared.causes.LineCause.TheVariants.{Malformed}
 use Rattle.vms_line.specs.declared.forms.Verb.{Verb}
 use Rattle.vms_line.specs.declared.forms.Verb.TheVariants as verbs
-use Rattle.vms_line.specs.Body.{of_cpu, of_lane}
-use Rattle.vms_line.specs.Forms.{form_of, has_lane, read_act, read_fields, read_verb, verb_named}
-use Rattle.vms_line.specs.Laws.{IsActOf}
+use Rattle.vms_line.specs.Common.{of_cpu, of_lane, form_of, has_lane, act_in_words, read_fields, read_verb, verb_named}
+use Rattle.vms_line.specs.Common.{IsActOf, read_words, IsBoundaryOf, IsLineOf, LinesReadBack, ReadsBack, boundary_words}
+use Rattle.vms_line.specs.Common.{lane_word, line_words}
 use Rattle.vms_line.proofs.FormsRead.{has_lane-own, says, short-cons, verb_of}
 use Rattle.vms_line.proofs.LinesShort.{act_words-short, boundary_words-short, lane_word-short}
-use Rattle.vms_line.specs.Body.{read_words}
-use Rattle.vms_line.specs.Laws.{IsBoundaryOf, IsLineOf, LinesReadBack, ReadsBack}
-use Rattle.vms_line.specs.Spelling.{boundary_words, lane_word}
 use Rattle.vms_line.proofs.FieldsRead.{cpu-fits, cpu_field-spelled}
-use Rattle.vms_text.proofs.Sentences.{IsFew}
-use Rattle.vms_text.proofs.SpelledNumbers.{decimal-is}
-use Rattle.std.proofs.Common.{refl, ◌∙◌, ap}
-use Rattle.vms_text.specs.Lines.{lines_of}
-use Rattle.vms_text.specs.Words.{joined}
-use Rattle.vms_text.specs.Spelling.{sentence}
-use Rattle.vms_text.proofs.TextLaws.{lines_of-first}
-use Rattle.vms_text.proofs.Sentences.{IsFew, few-clean, few-ignored, few-length, few-one_line, few-words_of}
-use Rattle.vms_line.specs.Body.{read_words}
-use Rattle.vms_line.specs.Laws.{ReadsBack}
-use Rattle.vms_line.specs.Spelling.{line_words}
+use Rattle.vms_text.proofs.Common.{IsFew, decimal-is, lines_of-first, few-clean, few-ignored, few-length, few-one_line}
+use Rattle.vms_text.proofs.Common.{few-words_of}
+use Rattle.vms_text.specs.Common.{lines_of, joined, sentence}
 
 -- the line of these words is read back
 pub words-read_back : (header : Header) (line : Line) (words : List (List ℕ)) → line_words header line ≡ words
@@ -76,10 +64,10 @@ verb_named-word verbs.Normal = refl
 verb_named-word verbs.Dead = refl
 verb_named-word verbs.Kswapd = refl
 
-read_act-due : (header : Header) (control : Bool) (verb : Verb) (fields : List (List ℕ))
+act_in_words-due : (header : Header) (control : Bool) (verb : Verb) (fields : List (List ℕ))
     → has_lane header control (form_of verb).lanes ≡ true
-    → read_act header control (form_of verb).word fields ≡ read_fields header (form_of verb).fields fields
-read_act-due header control verb fields of_lane =
+    → act_in_words header control (form_of verb).word fields ≡ read_fields header (form_of verb).fields fields
+act_in_words-due header control verb fields of_lane =
     ap (read_verb header control fields) (verb_named-word verb)
     ∙ ap (λ b. if b then read_fields header (form_of verb).fields fields else Err Malformed) of_lane
 
@@ -90,7 +78,7 @@ module _ (header : Header) (is : IsHeader header) where
   cpu_line-read cpu act within known =
       let verb = verb_of act in
       let read = says header is (Cpu cpu) act known in
-      let due = read_act-due header false verb read.fields (has_lane-own header (Cpu cpu) act known) in
+      let due = act_in_words-due header false verb read.fields (has_lane-own header (Cpu cpu) act known) in
       let fits = cpu-fits header is cpu.number within in
       let number = decimal-is cpu.number fits in
       let test : nat_lt cpu.number header.layout.cpus ≡ true = grind (arith, nat_tests) in
@@ -112,7 +100,7 @@ module _ (header : Header) (is : IsHeader header) where
   control_line-read act known =
       let verb = verb_of act in
       let read = says header is Control act known in
-      let due = read_act-due header true verb read.fields (has_lane-own header Control act known) in
+      let due = act_in_words-due header true verb read.fields (has_lane-own header Control act known) in
       words-read_back header (Lane Control act) (codes "k" ∷ (form_of verb).word ∷ read.fields)
       (ap (λ words. codes "k" ∷ words) read.words_are)
       (record {

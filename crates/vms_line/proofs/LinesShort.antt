@@ -5,8 +5,7 @@ use Rattle.std.specs.List.{list_all}
 use Rattle.std.specs.Prelude.{codes}
 use Rattle.vms_base.specs.declared.headers.Header.{Header}
 use Rattle.vms_base.specs.declared.ids.CpuId.{CpuId}
-use Rattle.vms_base.specs.Headers.{IsHeader}
-use Rattle.vms_base.specs.Places.{IsCpu}
+use Rattle.vms_base.specs.Common.{IsHeader, IsCpu}
 use Rattle.vms_text.specs.declared.acts.Act.{Act}
 use Rattle.vms_text.specs.declared.acts.Boundary.{Boundary as BoundaryOf}
 use Rattle.vms_text.specs.declared.acts.Boundary.TheVariants.{Sync, Offline, Online, Flush, Report}
@@ -16,13 +15,11 @@ use Rattle.vms_text.specs.declared.acts.Line.{Line}
 use Rattle.vms_text.specs.declared.acts.Line.TheVariants.{Blank, Lane, Boundary}
 use Rattle.vms_text.specs.declared.acts.ReportKind.{ReportKind}
 use Rattle.vms_text.specs.declared.acts.ReportKind.TheVariants.{Vmstat, Zoneinfo, Totals, Counters}
-use Rattle.vms_text.proofs.Sentences.{is_short}
-use Rattle.vms_text.proofs.SpelledNumbers.{decimal-after, decimal-short}
+use Rattle.vms_text.proofs.Common.{is_short, decimal-after, decimal-short}
 use Rattle.vms_line.specs.declared.forms.Verb.{Verb}
 use Rattle.vms_line.specs.declared.forms.Verb.TheVariants as verbs
-use Rattle.vms_line.specs.Forms.{form_of}
-use Rattle.vms_line.specs.Laws.{IsActOf, IsBoundaryOf, IsLaneOf, IsLineOf}
-use Rattle.vms_line.specs.Spelling.{boundary_words, lane_word, line_words, report_word}
+use Rattle.vms_line.specs.Common.{form_of, IsActOf, IsBoundaryOf, IsLaneOf, IsLineOf, boundary_words, lane_word}
+use Rattle.vms_line.specs.Common.{line_words, report_word}
 use Rattle.vms_line.proofs.FieldsRead.{cpu-fits}
 use Rattle.vms_line.proofs.FormsRead.{says, short-cons, verb_of}
 

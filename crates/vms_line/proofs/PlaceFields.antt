@@ -4,14 +4,11 @@ use Rattle.std.specs.Fmt.{decimal}
 use Rattle.std.specs.Prelude.{Ok, option_to_list}
 use Rattle.vms_base.specs.declared.headers.Header.{Header}
 use Rattle.vms_base.specs.declared.kinds.ZoneName.{ZoneName}
-use Rattle.vms_base.specs.Places.{IsLayout, IsNode}
-use Rattle.vms_text.specs.Spelling.{place_words}
-use Rattle.vms_text.proofs.PlacesRead.{SpellsPlace, kind_word, node_most-holds, node_at-own, node_place-own}
-use Rattle.vms_text.proofs.PlacesRead.{zone_named-own}
-use Rattle.vms_text.proofs.PlacesRead.{zone_node-most}
-use Rattle.vms_text.proofs.SpelledNumbers.{unsigned_of-decimal}
-use Rattle.vms_line.specs.Fields.{node_field, place_field, zone_field}
-use Rattle.vms_line.specs.Spelling.{node_number}
+use Rattle.vms_base.specs.Common.{IsLayout, IsNode}
+use Rattle.vms_text.specs.Common.{place_words}
+use Rattle.vms_text.proofs.Common.{SpellsPlace, kind_word, node_most-holds, node_at-own, node_place-own, zone_named-own}
+use Rattle.vms_text.proofs.Common.{zone_node-most, unsigned_of-decimal}
+use Rattle.vms_line.specs.Common.{node_field, place_field, zone_field, node_number_words}
 
 module _ (header : Header) (layout : IsLayout header.layout) where
   pub place_field-spelled : (place : ℕ) (spells : SpellsPlace header.layout (place_words header place) place)
@@ -31,9 +28,11 @@ module _ (header : Header) (layout : IsLayout header.layout) where
         zone_named-own header layout place d within,
       ) refl
 
-  pub node_number-own : (place : ℕ) → IsNode header.layout place
-      → node_number header place ≡ decimal (get_or header.layout.nodes (place - length header.layout.zones) 0) ∷ []
-  node_number-own place is = ap (λ node. map decimal (option_to_list node)) (node_at-own header.layout layout place is)
+  pub node_number_words-own : (place : ℕ) → IsNode header.layout place
+      → node_number_words header place
+      ≡ decimal (get_or header.layout.nodes (place - length header.layout.zones) 0) ∷ []
+  node_number_words-own place is =
+      ap (λ node. map decimal (option_to_list node)) (node_at-own header.layout layout place is)
 
   pub node_field-spelled : (place : ℕ) → IsNode header.layout place
       → node_field header (decimal (get_or header.layout.nodes (place - length header.layout.zones) 0))

@@ -2,12 +2,11 @@
 use Rattle.std.proofs.Common.{ℕ, ◌≡◌, true, List, Result, Ok, IfOk, subst}
 use Rattle.std.specs.List.{list_all}
 use Rattle.vms_base.specs.declared.headers.Header.{Header}
-use Rattle.vms_base.specs.Headers.{IsHeader}
+use Rattle.vms_base.specs.Common.{IsHeader}
 use Rattle.vms_text.specs.declared.acts.Line.{Line}
-use Rattle.vms_text.proofs.Sentences.{is_short}
+use Rattle.vms_text.proofs.Common.{is_short}
 use Rattle.vms_line.specs.declared.causes.LineCause.{LineCause}
-use Rattle.vms_line.specs.Body.{read_words}
-use Rattle.vms_line.specs.Laws.{IsLineOf}
+use Rattle.vms_line.specs.Common.{read_words, IsLineOf}
 use Rattle.vms_line.proofs.FormsSame.{read_words-same}
 use Rattle.vms_line.proofs.LinesKnown.{read_words-known}
 use Rattle.vms_line.proofs.LinesShort.{line_words-short}

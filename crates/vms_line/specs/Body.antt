@@ -10,13 +10,11 @@ use Rattle.vms_text.specs.declared.acts.Lane.TheVariants.{Cpu, Control}
 use Rattle.vms_text.specs.declared.acts.Line.{Line}
 use Rattle.vms_text.specs.declared.acts.Line.TheVariants.{Blank, Lane, Boundary}
 use Rattle.vms_text.specs.declared.acts.ReportKind.TheVariants.{Vmstat, Zoneinfo, Totals, Counters}
-use Rattle.vms_text.specs.Numbers.{is_numeral}
-use Rattle.vms_text.specs.Words.{words_of}
+use Rattle.vms_text.specs.Common.{is_numeral, words_of, and_then, most_line, is_ignored, is_clean}
 use Rattle.vms_line.specs.declared.causes.LineCause.{LineCause}
 use Rattle.vms_line.specs.declared.causes.LineCause.TheVariants.{Malformed, UnknownLane, LineTooLong}
-use Rattle.vms_text.specs.Reading.{and_then, most_line, is_ignored, is_clean}
 use Rattle.vms_line.specs.Fields.{cpu_field}
-use Rattle.vms_line.specs.Forms.{read_act}
+use Rattle.vms_line.specs.Forms.{act_in_words}
 
 -- a line of a lane, of what its words say
 abbrev pub of_lane : LaneOf → Result Act LineCause → Result Line LineCause
@@ -29,12 +27,12 @@ of_cpu header n act = if nat_lt n header.layout.cpus then of_lane (Cpu (record {
 
 -- the words after `c` and a number
 abbrev pub cpu_line : Header → ℕ → List (List ℕ) → Result Line LineCause
-cpu_line header n (verb ∷ fields) = of_cpu header n (read_act header false verb fields)
+cpu_line header n (verb ∷ fields) = of_cpu header n (act_in_words header false verb fields)
 cpu_line header n [] = Err Malformed
 
 -- the words after `k`
 abbrev pub control_line : Header → List (List ℕ) → Result Line LineCause
-control_line header (verb ∷ fields) = of_lane Control (read_act header true verb fields)
+control_line header (verb ∷ fields) = of_lane Control (act_in_words header true verb fields)
 control_line header [] = Err Malformed
 
 -- the report that a word names

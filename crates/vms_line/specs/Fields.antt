@@ -11,15 +11,12 @@ use Rattle.vms_base.specs.declared.ids.PcpuId.{PcpuId}
 use Rattle.vms_base.specs.declared.ids.PlaceId.{PlaceId}
 use Rattle.vms_base.specs.declared.kinds.WaterMark.{WaterMark}
 use Rattle.vms_base.specs.declared.kinds.WaterMark.TheVariants.{Min, Low, High}
-use Rattle.vms_base.specs.Headers.{class_names}
-use Rattle.vms_base.specs.Names.{event_names}
-use Rattle.vms_base.specs.Places.{counter_at, node_place}
-use Rattle.vms_text.specs.Numbers.{number_within, unsigned_of, signed_of}
+use Rattle.vms_base.specs.Common.{class_names, event_names, counter_at, node_place}
+use Rattle.vms_text.specs.Common.{number_within, unsigned_of, signed_of, and_then, zone_named, place_named, item_named}
+use Rattle.vms_text.specs.Common.{is_in_bytes}
 use Rattle.vms_line.specs.declared.causes.LineCause.{LineCause}
 use Rattle.vms_line.specs.declared.causes.LineCause.TheVariants.{BadNumber, UnknownLane, UnknownPlace, UnknownItem}
 use Rattle.vms_line.specs.declared.causes.LineCause.TheVariants.{UnknownCounter, NotPages}
-use Rattle.vms_text.specs.Reading.{and_then}
-use Rattle.vms_text.specs.PlaceNames.{zone_named, place_named, item_named, is_in_bytes}
 
 -- a number of 64 bits
 abbrev pub number_field : List ℕ → Result ℕ LineCause

@@ -1,6 +1,6 @@
 -- The forms of a lane's lines: the word that begins each, whose lanes have it, and the fields after it.
-use Rattle.std.specs.Prelude.{ℕ, ◌^◌, ◌-◌, nat_le, ◌==◌, ◌&&◌, Bool, true, not, if◌then◌else◌, ℤ, List, [], ◌∷◌}
-use Rattle.std.specs.Prelude.{codes, bytes_eq, find, ok_or, Option, Some, None, Result, Ok, Err}
+use Rattle.std.specs.Prelude.{ℕ, ◌^◌, ◌-◌, nat_le, ◌==◌, ◌&&◌, Bool, true, not, if◌then◌else◌, ℤ, List, [], ◌∷◌, codes}
+use Rattle.std.specs.Prelude.{bytes_eq, find, ok_or, Option, Some, None, Result, Ok, Err}
 use Rattle.std.specs.List.{list_any}
 use Rattle.vms_base.specs.declared.headers.Header.{Header}
 use Rattle.vms_base.specs.declared.ids.CounterId.{CounterId}
@@ -10,16 +10,15 @@ use Rattle.vms_base.specs.declared.ids.ItemId.{ItemId}
 use Rattle.vms_base.specs.declared.ids.PcpuId.{PcpuId}
 use Rattle.vms_base.specs.declared.ids.PlaceId.{PlaceId}
 use Rattle.vms_base.specs.declared.kinds.WaterMark.{WaterMark}
-use Rattle.vms_base.specs.Places.{zone_index, node_at}
+use Rattle.vms_base.specs.Common.{zone_index, node_at}
 use Rattle.vms_text.specs.declared.acts.Act.{Act}
 use Rattle.vms_text.specs.declared.acts.Act.TheVariants as acts
-use Rattle.vms_text.specs.Reading.{and_then}
+use Rattle.vms_text.specs.Common.{and_then}
 use Rattle.vms_line.specs.declared.causes.LineCause.{LineCause}
 use Rattle.vms_line.specs.declared.causes.LineCause.TheVariants.{Malformed, UnknownPlace}
 use Rattle.vms_line.specs.declared.forms.Verb.{Verb}
 use Rattle.vms_line.specs.declared.forms.Verb.TheVariants.{Mod, Inc, Dec, Ev, Cnt, Lim, Cmp, Sum, Rough, Csync, EvSum}
-use Rattle.vms_line.specs.declared.forms.Verb.TheVariants.{Fold, Water, Val, Snap, Sys, Pressure, Normal, Dead}
-use Rattle.vms_line.specs.declared.forms.Verb.TheVariants.{Kswapd}
+use Rattle.vms_line.specs.declared.forms.Verb.TheVariants.{Fold, Water, Val, Snap, Sys, Pressure, Normal, Dead, Kswapd}
 use Rattle.vms_line.specs.Fields.{number_up_to, amount_field, limit_field, cpu_field, zone_field, node_field}
 use Rattle.vms_line.specs.Fields.{counter_field, event_field, pcpu_field, system_field, mark_named, in_pages}
 use Rattle.vms_line.specs.Fields.{page_counter}
@@ -224,5 +223,5 @@ read_verb header control words (Some verb) =
     if has_lane header control (form_of verb).lanes then read_fields header
     (form_of verb).fields words else Err Malformed
 
-abbrev pub read_act : Header → Bool → List ℕ → List (List ℕ) → Result Act LineCause
-read_act header control verb words = read_verb header control words (verb_named verb)
+abbrev pub act_in_words : Header → Bool → List ℕ → List (List ℕ) → Result Act LineCause
+act_in_words header control verb words = read_verb header control words (verb_named verb)

@@ -1,11 +1,10 @@
 -- Laws of lines, each for every text, header and line.
-use Rattle.std.specs.Prelude.{◌≡◌, ℕ, ◌^◌, ◌<◌, ◌≤◌, ◌-◌, IsTrue, true, false, nat_lt, MatchBool, unsigned_abs}
-use Rattle.std.specs.Prelude.{List, [], ◌∷◌, ◌++◌, length, IfSome, Ok}
+use Rattle.std.specs.Prelude.{◌≡◌, ℕ, ◌^◌, ◌<◌, ◌≤◌, ◌-◌, IsTrue, true, false, nat_lt, MatchBool, unsigned_abs, List}
+use Rattle.std.specs.Prelude.{[], ◌∷◌, ◌++◌, length, IfSome, Ok}
 use Rattle.std.specs.Int.{w64}
 use Rattle.std.specs.Int.RustNames.{FitsSigned}
 use Rattle.vms_base.specs.declared.headers.Header.{Header}
-use Rattle.vms_base.specs.Headers.{IsHeader, class_names}
-use Rattle.vms_base.specs.Places.{IsCpu, IsZone, IsNode, node_at}
+use Rattle.vms_base.specs.Common.{IsHeader, class_names, IsCpu, IsZone, IsNode, node_at}
 use Rattle.vms_text.specs.declared.acts.Act.{Act}
 use Rattle.vms_text.specs.declared.acts.Act.TheVariants.{Mod, Inc, Dec, Ev, Cnt, Lim, Cmp, Sum, Rough, Csync, EvSum}
 use Rattle.vms_text.specs.declared.acts.Act.TheVariants.{Fold, Water, Val, Snap, Sys, Pressure, Normal, Dead, Kswapd}
@@ -15,11 +14,8 @@ use Rattle.vms_text.specs.declared.acts.Lane.{Lane as LaneOf}
 use Rattle.vms_text.specs.declared.acts.Lane.TheVariants.{Cpu, Control}
 use Rattle.vms_text.specs.declared.acts.Line.{Line}
 use Rattle.vms_text.specs.declared.acts.Line.TheVariants.{Blank, Lane, Boundary}
-use Rattle.vms_text.specs.Lines.{lines_of}
-use Rattle.vms_text.specs.Reading.{is_ignored}
-use Rattle.vms_text.specs.Words.{words_of}
+use Rattle.vms_text.specs.Common.{lines_of, is_ignored, words_of, IsKnown, is_in_bytes}
 use Rattle.vms_line.specs.Body.{read_line}
-use Rattle.vms_text.specs.PlaceNames.{IsKnown, is_in_bytes}
 use Rattle.vms_line.specs.Forms.{has_zone_up_to}
 use Rattle.vms_line.specs.Spelling.{line_words, spelled_amount, spelled_line}
 

@@ -3,3 +3,4 @@ pub mod Forms
 pub mod Body
 pub mod Spelling
 pub mod Laws
+pub mod Common

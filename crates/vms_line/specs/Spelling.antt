@@ -5,9 +5,7 @@ use Rattle.std.specs.Fmt.{signed_decimal}
 use Rattle.vms_base.specs.declared.headers.Header.{Header}
 use Rattle.vms_base.specs.declared.kinds.WaterMark.{WaterMark}
 use Rattle.vms_base.specs.declared.kinds.WaterMark.TheVariants.{Min, Low, High}
-use Rattle.vms_base.specs.Headers.{class_names}
-use Rattle.vms_base.specs.Names.{event_names}
-use Rattle.vms_base.specs.Places.{node_at}
+use Rattle.vms_base.specs.Common.{class_names, event_names, node_at}
 use Rattle.vms_text.specs.declared.acts.Act.{Act}
 use Rattle.vms_text.specs.declared.acts.Act.TheVariants.{Mod, Inc, Dec, Ev, Cnt, Lim, Cmp, Sum, Rough, Csync, EvSum}
 use Rattle.vms_text.specs.declared.acts.Act.TheVariants.{Fold, Water, Val, Snap, Sys, Pressure, Normal, Dead, Kswapd}
@@ -19,25 +17,24 @@ use Rattle.vms_text.specs.declared.acts.Line.{Line}
 use Rattle.vms_text.specs.declared.acts.Line.TheVariants.{Blank, Lane, Boundary}
 use Rattle.vms_text.specs.declared.acts.ReportKind.{ReportKind}
 use Rattle.vms_text.specs.declared.acts.ReportKind.TheVariants.{Vmstat, Zoneinfo, Totals, Counters}
-use Rattle.vms_text.specs.PlaceNames.{is_in_bytes}
-use Rattle.vms_text.specs.Spelling.{entry, place_words, counter_words, sentence}
+use Rattle.vms_text.specs.Common.{is_in_bytes, entry_if_any, place_words, counter_words, sentence}
 
 -- the number of a node
-abbrev pub node_number : Header → ℕ → List (List ℕ)
-node_number header place = map decimal (option_to_list (node_at header.layout place))
+abbrev pub node_number_words : Header → ℕ → List (List ℕ)
+node_number_words header place = map decimal (option_to_list (node_at header.layout place))
 
 -- the name of an event, of a percpu counter, of a system-wide value
 abbrev pub event_word : ℕ → List (List ℕ)
-event_word event = entry event_names event
+event_word event = entry_if_any event_names event
 
 abbrev pub pcpu_word : Header → ℕ → List (List ℕ)
-pcpu_word header counter = entry (map (λ decl. decl.name) header.counters) counter
+pcpu_word header counter = entry_if_any (map (λ decl. decl.name) header.counters) counter
 
 abbrev pub system_word : Header → ℕ → List (List ℕ)
 system_word header item =
     if nat_lt item header.layout.positions
-    then entry (class_names false header.items) item
-    else entry (class_names true header.items) (item - header.layout.positions)
+    then entry_if_any (class_names false header.items) item
+    else entry_if_any (class_names true header.items) (item - header.layout.positions)
 
 abbrev pub mark_word : WaterMark → List ℕ
 mark_word Min = codes "min"
@@ -70,11 +67,11 @@ act_words header (Water zone mark index) =
 act_words header (Val counter) = codes "val" ∷ counter_words header counter.number
 act_words header (Snap counter) = codes "snap" ∷ counter_words header counter.number
 act_words header (Sys item) = codes "sys" ∷ system_word header item.number
-act_words header (Pressure node) = codes "pressure" ∷ node_number header node.number
-act_words header (Normal node) = codes "normal" ∷ node_number header node.number
+act_words header (Pressure node) = codes "pressure" ∷ node_number_words header node.number
+act_words header (Normal node) = codes "normal" ∷ node_number_words header node.number
 act_words header (Dead cpu) = codes "dead" ∷ decimal cpu.number ∷ []
 act_words header (Kswapd node order index) =
-    codes "kswapd" ∷ node_number header node.number ++ decimal order ∷ decimal index ∷ []
+    codes "kswapd" ∷ node_number_words header node.number ++ decimal order ∷ decimal index ∷ []
 
 abbrev pub lane_word : LaneOf → List ℕ
 lane_word (Cpu cpu) = codes "c" ++ decimal cpu.number

@@ -1,7 +1,5 @@
 ghost use Rattle.std.specs.Prelude.{◌≡◌, ◌<◌, bytes_eq, length, map, position, IfSome};
-ghost use Rattle.vms_base.specs.Headers.{IsHeader};
-ghost use Rattle.vms_base.specs.Names.{event_names};
-ghost use Rattle.vms_base.specs.Places.{IsPlace, node_at};
+ghost use Rattle.vms_base.specs.Common.{IsHeader, event_names, IsPlace, node_at};
 ghost use Rattle.vms_line.specs.Fields.{amount_field, counter_field, cpu_field, event_field, in_pages, item_field};
 ghost use Rattle.vms_line.specs.Fields.{known_cpu, limit_field, mark_named, node_field, number_field, number_up_to};
 ghost use Rattle.vms_line.specs.Fields.{page_counter, pcpu_field, place_field, system_field, zone_field};

@@ -1,5 +1,5 @@
 ghost use Rattle.std.specs.Prelude.{◌≡◌, map};
-ghost use Rattle.vms_base.specs.Headers.{IsHeader};
+ghost use Rattle.vms_base.specs.Common.{IsHeader};
 ghost use Rattle.vms_line.specs.Forms.{amount_fields, change_fields, count_fields, counter_fields, event_fields};
 ghost use Rattle.vms_line.specs.Forms.{limited_fields, marked_fields, name_fields, node_fields, number_fields};
 ghost use Rattle.vms_line.specs.Forms.{one_cpu_fields, paged_fields, turn_fields, value_fields};

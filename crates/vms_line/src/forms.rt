@@ -1,6 +1,6 @@
 ghost use Rattle.std.specs.Prelude.{◌≡◌, map};
-ghost use Rattle.vms_base.specs.Headers.{IsHeader};
-ghost use Rattle.vms_line.specs.Forms.{form_of, has_lane, read_act, read_fields, verb_named};
+ghost use Rattle.vms_base.specs.Common.{IsHeader};
+ghost use Rattle.vms_line.specs.Forms.{form_of, has_lane, act_in_words, read_fields, verb_named};
 
 use crate::form_fields::{
     amount_fields, change_fields, count_fields, counter_fields, event_fields, limited_fields,
@@ -44,7 +44,8 @@ pub(crate) fn read_act(
     fields: &[&[u8]],
 ) -> Result<Act, LineCause>
     requires { IsHeader header.now }
-    ensures { result ≡ read_act header.now control verb.now (map (λ word. word.now) fields.now) }
+    ensures { result
+        ≡ act_in_words header.now control verb.now (map (λ word. word.now) fields.now) }
 {
     match verb_named(verb) {
         Some(verb) if has_lane(header, control, verb) => read_fields(header, verb, fields),

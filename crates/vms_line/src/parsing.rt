@@ -2,14 +2,12 @@ ghost use Rattle.std.specs.Prelude.{◌≡◌, ℕ, List, [], ◌∷◌, IfSome,
 ghost use Rattle.std.specs.Prelude.{true};
 ghost use Rattle.std.specs.Result.{result_ok};
 ghost use Rattle.std.specs.Str.Parse.{digits_value};
-ghost use Rattle.vms_base.specs.Headers.{IsHeader};
-ghost use Rattle.vms_text.specs.Numbers.{is_numeral};
-ghost use Rattle.vms_text.specs.Words.{parts_of, words_of};
+ghost use Rattle.vms_base.specs.Common.{IsHeader};
+ghost use Rattle.vms_text.specs.Common.{is_numeral, space_parts, words_of, is_clean, is_comment, is_ignored};
 ghost use Rattle.vms_line.specs.Body.{bare_boundary, boundary_line, boundary_of, control_line, cpu_line, is_cpu_word};
 ghost use Rattle.vms_line.specs.Body.{read_line, read_words, report_named};
 ghost use Rattle.vms_line.specs.Fields.{known_cpu};
 ghost use Rattle.vms_line.specs.Laws.{IsSpelled, LinesAreKnown};
-ghost use Rattle.vms_text.specs.Reading.{is_clean, is_comment, is_ignored};
 
 use crate::fields::{cpu_field, known_cpu};
 use crate::forms::read_act;
@@ -46,7 +44,7 @@ pub fn parse_line(header: &Header, line: &[u8]) -> Result<Line, LineCause>
 #[inline(always)]
 pub fn parse_spelled(header: &Header, line: &[u8]) -> Option<Line>
     requires { IsHeader header.now }
-    ensures value { result ≡ result_ok (read_words header.now (parts_of line.now)) }
+    ensures value { result ≡ result_ok (read_words header.now (space_parts line.now)) }
     ensures spelled { IfSome result (IsSpelled header.now line.now) }
 {
     let mut parts = ArrayVec::new();

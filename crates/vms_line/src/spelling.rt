@@ -1,14 +1,13 @@
 ghost use Rattle.std.specs.Prelude.{◌≡◌, ◌++◌, ◌∷◌, [], ◌<◌, length, map, option_map, slice_get, OnOk, OnErr};
 ghost use Rattle.std.specs.Int.{w64};
 ghost use Rattle.std.specs.Int.RustNames.{FitsSigned};
-ghost use Rattle.vms_base.specs.Headers.{IsHeader, class_names};
-ghost use Rattle.vms_base.specs.Places.{IsNode, IsPlace};
+ghost use Rattle.vms_base.specs.Common.{IsHeader, class_names, IsNode, IsPlace};
 ghost use Rattle.vms_line.specs.Laws.{IsActOf, IsDeclared, IsKnownValue, IsLineOf};
-ghost use Rattle.vms_text.specs.PlaceNames.{IsKnown};
-ghost use Rattle.vms_line.specs.Spelling.{act_words, boundary_words, event_word, lane_word, mark_word, node_number};
-ghost use Rattle.vms_line.specs.Spelling.{pcpu_word, report_word, spelled_amount, spelled_line, system_word};
-ghost use Rattle.vms_text.specs.Spelling.{counter_words, entry, place_words, sentence};
-ghost use Rattle.vms_text.specs.Writing.{Begins, spaced, text_of};
+ghost use Rattle.vms_text.specs.Common.{IsKnown, counter_words, entry_if_any, place_words, sentence, Begins, spaced};
+ghost use Rattle.vms_text.specs.Common.{text_of};
+ghost use Rattle.vms_line.specs.Spelling.{act_words, boundary_words, event_word, lane_word, mark_word};
+ghost use Rattle.vms_line.specs.Spelling.{node_number_words, pcpu_word, report_word, spelled_amount, spelled_line};
+ghost use Rattle.vms_line.specs.Spelling.{system_word};
 
 use vms_base::{
     CounterId, EventId, Header, ItemDecl, ItemId, Memory, PcpuId, PlaceId, WaterMark, event_names,
@@ -236,7 +235,7 @@ fn name_of_value(header: &Header, item: ItemId) -> Word<'_>
 #[inline]
 fn number_of_node(header: &Header, node: PlaceId) -> Word<'_>
     requires { IsNode header.now.layout node.number }
-    ensures { text_of result ∷ [] ≡ node_number header.now node.number }
+    ensures { text_of result ∷ [] ≡ node_number_words header.now node.number }
 {
     let zones = header.layout.zones().len();
     Word::Unsigned(u64::from(header.layout.nodes()[node.number as usize - zones]))

@@ -4,3 +4,4 @@ pub mod LookSteps
 pub mod TestMoments
 pub mod TestSteps
 pub mod TruePages
+pub mod Common

@@ -1,40 +1,23 @@
 -- For other crates too: what the looks at CPUs made of a snapshot stand so far.
-use Rattle.std.proofs.Common.{◌≡◌, ℕ, suc, ◌+◌, ◌*◌, ◌%◌, ◌^◌, ◌<◌, ◌≤◌, true, false, true≢false, ℤ, pos}
-use Rattle.std.proofs.Common.{◌+ℤ◌, List, [], ◌∷◌, ◌++◌, length, FitsSigned, w64, refl, sym, ap, ◌∙◌, subst, arith}
-use Rattle.std.proofs.Common.{unsigned_abs, append_assoc, append-nil, length-append, add-one, Bool, if◌then◌else◌}
+use Rattle.std.proofs.Common.{◌≡◌, ℕ, suc, ◌+◌, ◌*◌, ◌%◌, ◌^◌, ◌<◌, ◌≤◌, true, false, true≢false, ℤ, pos, ◌+ℤ◌, List}
+use Rattle.std.proofs.Common.{[], ◌∷◌, ◌++◌, length, FitsSigned, w64, refl, sym, ap, ◌∙◌, subst, arith, unsigned_abs}
+use Rattle.std.proofs.Common.{append_assoc, append-nil, length-append, add-one, Bool, if◌then◌else◌}
 use Rattle.std.proofs.lemmas.Int.{ints}
 use Rattle.std.proofs.lemmas.List.Elements.{All-append, All-cons, All-nil, All-tail}
-use Rattle.vms_base.specs.declared.groups.Diffs.{Diffs}
-use Rattle.vms_base.specs.declared.ids.CounterId.{CounterId}
-use Rattle.vms_base.specs.declared.ids.CpuId.{CpuId}
-use Rattle.vms_base.specs.declared.ids.GroupId.{GroupId}
-use Rattle.vms_base.specs.declared.kinds.CpuState.{CpuState}
-use Rattle.vms_base.specs.declared.kinds.CpuState.TheVariants.{Online, Dead, Absent}
-use Rattle.vms_base.specs.Cpus.{is_online}
-use Rattle.vms_base.specs.Places.{Shape, IsCounter, group_of}
-use Rattle.vms_calls.specs.Lists.{in_turn}
-use Rattle.vms_calls.specs.Looks.{IsSnapshot, Look, at_least_zero, hidden, look_steps}
-use Rattle.vms_calls.specs.Looks.Look.{online, other}
-use Rattle.vms_core.specs.declared.steps.Facts.{Facts}
-use Rattle.vms_core.specs.declared.steps.Step.{Step}
-use Rattle.vms_core.specs.declared.steps.Step.TheVariants.{LoadD, LoadG, LoadO}
-use Rattle.vms_core.specs.declared.states.State.{State}
-use Rattle.vms_core.specs.Cells.{TellsGroup, cpu_at, diff_at, entry, value_at}
-use Rattle.vms_core.specs.Pages.{pages, History, IsLegal, state_after}
-use Rattle.vms_core.proofs.KeptLaws.{laws-kept}
-use Rattle.vms_history.specs.declared.events.Event.{Event}
-use Rattle.vms_history.specs.Events.{Extends, own, after}
-use Rattle.vms_history.specs.PassSteps.{GoesOnWithout}
-use Rattle.vms_history.specs.Sums.{sum_below}
-use Rattle.vms_history.proofs.Own.{Extends-both, own-mine, own-on_top}
-use Rattle.vms_look.specs.Looking.{HasLooked, found_at}
-use Rattle.vms_look.specs.SnapshotTotals.{AllLeaveDiffs, EndsWithStep, LeavesDiffs, SumsTruly, online_diff}
+use Rattle.vms_calls.specs.Common.{Diffs, CounterId, CpuId, GroupId, CpuState, Online, Dead, Absent, is_online, Shape}
+use Rattle.vms_calls.specs.Common.{IsCounter, group_of, in_turn, IsSnapshot, Look, at_least_zero, hidden, look_steps}
+use Rattle.vms_calls.specs.Common.{online, other, Facts, Step, LoadD, LoadG, LoadO, State, TellsGroup, cpu_at, diff_at}
+use Rattle.vms_calls.specs.Common.{entry, value_at, pages, History, state_after, Event, Extends, own, after}
+use Rattle.vms_calls.specs.Common.{GoesOnWithout, sum_below}
+use Rattle.vms_core.specs.Pages.{IsLegal}
+use Rattle.vms_core.proofs.Common.{laws-kept}
+use Rattle.vms_history.proofs.Common.{Extends-both, own-mine, own-on_top}
+use Rattle.vms_look.specs.Common.{HasLooked, found_at, AllLeaveDiffs, EndsWithStep, LeavesDiffs, SumsTruly, online_diff}
 use Rattle.vms_look.proofs.PassSteps.{step-at_first}
 use Rattle.vms_look.proofs.StandingDiffs.{all-first, all-later, diffs-stand, online-with_dead, online_diffs-stand}
 use Rattle.vms_look.proofs.StandingDiffs.{onlines-stand}
-use Rattle.vms_seats.specs.Passes.{Pass, Shared, IsOf}
-use Rattle.vms_seats.specs.Steps.{Made, MadeOne}
-use Rattle.vms_seats.proofs.MadeCalls.{calls-both}
+use Rattle.vms_seats.specs.Common.{Pass, Shared, IsFrom, Made, MadeOne}
+use Rattle.vms_seats.proofs.Common.{calls-both}
 
 online-true : (x : CpuState) → is_online x ≡ true → x ≡ Online
 online-true Online on = refl
@@ -180,7 +163,7 @@ so_far-none facts k k_in now old same value one =
     }
 
 module _ (k : CounterId) (now old : Pass Facts Step) (n : ℕ) (sum : ℤ) (so_far : SoFar k now old n sum) where
-  pub so_far-of : (words : Shared Facts) → IsOf old words → IsOf now words
+  pub so_far-of : (words : Shared Facts) → IsFrom old words → IsFrom now words
   so_far-of words is = record {
     table = so_far.made.table ∙ is.table;
     facts = so_far.made.facts ∙ is.facts;

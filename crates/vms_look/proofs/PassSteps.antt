@@ -1,14 +1,10 @@
 -- For other crates too: a step of a call, over the facts and the number that its pass had at first, and what a load told.
 use Rattle.std.proofs.Common.{◌≡◌, ℕ, ℤ, FitsSigned, w64, to_z, of_z, unsigned_abs, ap, subst, arith}
 use Rattle.std.proofs.lemmas.Int.{ints, to_z-of_z}
-use Rattle.vms_base.specs.declared.ids.CounterId.{CounterId}
-use Rattle.vms_core.specs.declared.steps.Facts.{Facts}
-use Rattle.vms_core.specs.declared.steps.Step.{Step}
-use Rattle.vms_core.specs.declared.steps.Step.TheVariants.{LoadG}
-use Rattle.vms_core.specs.Pages.{pages, IsLegal}
-use Rattle.vms_core.proofs.KeptLaws.{laws-kept}
-use Rattle.vms_seats.specs.Passes.{Pass}
-use Rattle.vms_seats.specs.Steps.{MadeOne, MakesStep}
+use Rattle.vms_calls.specs.Common.{CounterId, Facts, Step, LoadG, pages}
+use Rattle.vms_core.specs.Pages.{IsLegal}
+use Rattle.vms_core.proofs.Common.{laws-kept}
+use Rattle.vms_seats.specs.Common.{Pass, MadeOne, MakesStep}
 
 pub step-at_first : (new mid old : Pass Facts Step) (step : Step) → mid.facts ≡ old.facts → mid.number ≡ old.number
     → MadeOne pages new mid step → MakesStep pages old.facts new.seen mid.seen old.number step

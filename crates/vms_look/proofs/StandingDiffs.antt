@@ -1,35 +1,18 @@
 -- For other crates too: while no caller puts to a counter or takes its group, its differentials stay as they are, and
 -- what online CPUs hide of it with what dead ones hide is all that is hidden.
-use Rattle.std.proofs.Common.{◌≡◌, ℕ, ◌&&◌, Bool, true, false, List, [], ◌∷◌, ◌++◌, All, Option, Some, None}
-use Rattle.std.proofs.Common.{ℤ, pos, ◌+ℤ◌, refl, sym, ap, ◌∙◌, arith, if◌then◌else◌, nat_eq, eqb-true}
+use Rattle.std.proofs.Common.{◌≡◌, ℕ, ◌&&◌, Bool, true, false, List, [], ◌∷◌, ◌++◌, All, Option, Some, None, ℤ, pos}
+use Rattle.std.proofs.Common.{◌+ℤ◌, refl, sym, ap, ◌∙◌, arith, if◌then◌else◌, nat_eq, eqb-true}
 use Rattle.std.proofs.lemmas.Bool.{and_parts}
 use Rattle.std.proofs.lemmas.Int.{ints}
 use Rattle.std.proofs.lemmas.List.Elements.{All-cons, All-head, All-nil, All-tail}
-use Rattle.vms_base.specs.declared.ids.CpuId.{CpuId}
-use Rattle.vms_base.specs.declared.kinds.CpuState.{CpuState}
-use Rattle.vms_base.specs.declared.kinds.CpuState.TheVariants.{Online, Dead, Absent}
-use Rattle.vms_base.specs.Cpus.{is_online}
-use Rattle.vms_base.specs.Places.{IsCounter, IsCpu, group_of}
-use Rattle.vms_core.specs.declared.states.State.{State}
-use Rattle.vms_core.specs.declared.steps.Facts.{Facts}
-use Rattle.vms_core.specs.declared.steps.Step.{Step}
-use Rattle.vms_core.specs.declared.steps.Step.TheVariants.{Put, Take, SetO}
-use Rattle.vms_core.specs.Cells.{cpu_at, diff_at, entry}
-use Rattle.vms_core.specs.Changes.{differential_after}
-use Rattle.vms_core.specs.Conditions.{Meets}
-use Rattle.vms_core.specs.Effects.{diff_after}
-use Rattle.vms_core.specs.Pages.{History, IsLegal, state_after}
-use Rattle.vms_core.specs.Peaks.{cpu_after}
-use Rattle.vms_core.specs.Steps.{role}
-use Rattle.vms_core.specs.Totals.{differentials}
-use Rattle.vms_core.proofs.KeptLaws.{laws-kept}
-use Rattle.vms_core.proofs.NumberChanges.{numbers-change}
-use Rattle.vms_history.specs.declared.events.Event.{Event}
-use Rattle.vms_history.specs.Passes.{owner_in}
-use Rattle.vms_history.specs.Sums.{sum_below}
-use Rattle.vms_history.proofs.Choices.{if-never}
-use Rattle.vms_history.proofs.SumLaws.{sum_below-same, sum_below-sum}
-use Rattle.vms_look.specs.SnapshotTotals.{AllLeaveDiffs, LeavesDiffs, dead_diff, hidden_by_dead, is_dead, online_diff}
+use Rattle.vms_calls.specs.Common.{CpuId, CpuState, Online, Dead, Absent, is_online, IsCounter, IsCpu, group_of, State}
+use Rattle.vms_calls.specs.Common.{Facts, Step, Put, Take, SetO, cpu_at, diff_at, entry, differential_after, Meets}
+use Rattle.vms_calls.specs.Common.{diff_after, History, state_after, cpu_after, role, differentials, Event, owner_in}
+use Rattle.vms_calls.specs.Common.{sum_below}
+use Rattle.vms_core.specs.Pages.{IsLegal}
+use Rattle.vms_core.proofs.Common.{laws-kept, numbers-change}
+use Rattle.vms_history.proofs.Common.{if-never, sum_below-same, sum_below-sum}
+use Rattle.vms_look.specs.Common.{AllLeaveDiffs, LeavesDiffs, dead_diff, hidden_by_dead, is_dead, online_diff}
 
 -- parts of a list of which all elements have a property
 module _ {X : Type 0} (P : X → Type 0) where

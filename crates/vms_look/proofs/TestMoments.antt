@@ -1,26 +1,16 @@
 -- For other crates too: what a test without a snapshot says of the moment of its load of the free pages.
-use Rattle.std.proofs.Common.{◌≡◌, ℕ, ◌<◌, ◌≤◌, Bool, false, not, ◌&&◌, ◌||◌, nat_eq, nat_lt, ℤ, to_z, of_z, w64, [], ◌∷◌}
-use Rattle.std.proofs.Common.{refl, sym, ap, ◌∙◌, subst, arith}
+use Rattle.std.proofs.Common.{◌≡◌, ℕ, ◌<◌, ◌≤◌, Bool, false, not, ◌&&◌, ◌||◌, nat_eq, nat_lt, ℤ, to_z, of_z, w64, []}
+use Rattle.std.proofs.Common.{◌∷◌, refl, sym, ap, ◌∙◌, subst, arith}
 use Rattle.std.proofs.lemmas.Bool.Decides.{nat_tests}
-use Rattle.vms_base.specs.declared.ids.CounterId.{CounterId}
-use Rattle.vms_base.specs.declared.ids.PlaceId.{PlaceId}
-use Rattle.vms_base.specs.Places.{IsZone, counter_at}
-use Rattle.vms_calls.specs.Looks.{at_least_zero, free_pages}
-use Rattle.vms_core.specs.declared.states.MarkRead.{MarkRead}
-use Rattle.vms_core.specs.declared.steps.Facts.{Facts}
-use Rattle.vms_core.specs.declared.steps.Step.{Step}
-use Rattle.vms_core.specs.declared.steps.Step.TheVariants.{LoadG, LoadM}
-use Rattle.vms_core.specs.Cells.{mark_at, value_at}
-use Rattle.vms_core.specs.MarkNumbers.{MarkStands}
-use Rattle.vms_core.specs.Pages.{pages, IsLegal, state_after}
-use Rattle.vms_core.proofs.MarkNumbers.{marks-stand_between}
-use Rattle.vms_history.specs.Events.{Extends}
-use Rattle.vms_history.proofs.Own.{Extends-both}
-use Rattle.vms_look.specs.Truth.{LoadsBetween, SaysTruly}
+use Rattle.vms_calls.specs.Common.{CounterId, PlaceId, IsZone, counter_at, at_least_zero, free_pages, MarkRead, Facts}
+use Rattle.vms_calls.specs.Common.{Step, LoadG, LoadM, mark_at, value_at, MarkStands, pages, state_after, Extends}
+use Rattle.vms_core.specs.Pages.{IsLegal}
+use Rattle.vms_core.proofs.Common.{marks-stand_between}
+use Rattle.vms_history.proofs.Common.{Extends-both}
+use Rattle.vms_look.specs.Common.{LoadsBetween, SaysTruly}
 use Rattle.vms_look.proofs.PassSteps.{step-at_first, value-told}
 use Rattle.vms_look.proofs.TruePages.{marks-keep_high, no_marks-keep_limit}
-use Rattle.vms_seats.specs.Passes.{Pass}
-use Rattle.vms_seats.specs.Steps.{MadeOne, MakesStep}
+use Rattle.vms_seats.specs.Common.{Pass, MadeOne, MakesStep}
 
 -- where there is no doubt the two loads told the same, and the value isn't below a mark
 no_doubt : (first second : MarkRead) (free : ℕ)

@@ -1,24 +1,13 @@
 -- For other crates too: the loads of a test of a watermark, and what it rests on then.
-use Rattle.std.proofs.Common.{◌≡◌, ℕ, Bool, true, false, not, ◌&&◌, ◌||◌, nat_eq, nat_lt, ℤ, to_z, of_z, w64, List, [], ◌∷◌, ◌++◌}
-use Rattle.std.proofs.Common.{refl, sym, ap, ◌∙◌, subst}
-use Rattle.vms_base.specs.declared.headers.Header.{Header}
-use Rattle.vms_base.specs.declared.ids.CounterId.{CounterId}
-use Rattle.vms_base.specs.declared.ids.PlaceId.{PlaceId}
-use Rattle.vms_base.specs.declared.kinds.WaterMark.{WaterMark}
-use Rattle.vms_base.specs.Places.{Shape, counter_at}
-use Rattle.vms_base.specs.Watermarks.{limit_of}
-use Rattle.vms_calls.specs.Looks.{Frees, IsSnapshot, IsWatermarkTest, at_least_zero, free_pages}
-use Rattle.vms_calls.specs.Looks.{is_doubtful}
-use Rattle.vms_core.specs.declared.states.MarkRead.{MarkRead}
-use Rattle.vms_core.specs.declared.steps.Facts.{Facts}
-use Rattle.vms_core.specs.declared.steps.Step.{Step}
-use Rattle.vms_core.specs.declared.steps.Step.TheVariants.{LoadG, LoadM}
-use Rattle.vms_core.specs.Pages.{pages}
-use Rattle.vms_look.specs.Looking.{HasFree}
+use Rattle.std.proofs.Common.{◌≡◌, ℕ, Bool, true, false, not, ◌&&◌, ◌||◌, nat_eq, nat_lt, ℤ, to_z, of_z, w64, List, []}
+use Rattle.std.proofs.Common.{◌∷◌, ◌++◌, refl, sym, ap, ◌∙◌, subst}
+use Rattle.vms_calls.specs.Common.{Header, CounterId, PlaceId, WaterMark, Shape, counter_at, limit_of, Frees}
+use Rattle.vms_calls.specs.Common.{IsSnapshot, IsWatermarkTest, at_least_zero, free_pages, is_doubtful, MarkRead, Facts}
+use Rattle.vms_calls.specs.Common.{Step, LoadG, LoadM, pages}
+use Rattle.vms_look.specs.Common.{HasFree}
 use Rattle.vms_look.proofs.PassSteps.{value-told}
-use Rattle.vms_seats.specs.Passes.{Pass}
-use Rattle.vms_seats.specs.Steps.{Made, MadeOne}
-use Rattle.vms_seats.proofs.MadeCalls.{calls-both}
+use Rattle.vms_seats.specs.Common.{Pass, Made, MadeOne}
+use Rattle.vms_seats.proofs.Common.{calls-both}
 
 -- the loads of a test, and whether there is doubt after them
 module _ (shape : Shape) (g : PlaceId) (k : CounterId) (is_free : k.number ≡ counter_at shape g.number 0)

@@ -1,22 +1,13 @@
 -- For other crates too: what is true of a zone's free pages where their value stands above the zone's mark.
-use Rattle.std.proofs.Common.{ℕ, suc, ◌<◌, ◌≤◌, ℤ, pos, negsuc, ◌+ℤ◌, ◌≤ℤ◌, unsigned_abs, subst}
-use Rattle.std.proofs.Common.{arith}
+use Rattle.std.proofs.Common.{ℕ, suc, ◌<◌, ◌≤◌, ℤ, pos, negsuc, ◌+ℤ◌, ◌≤ℤ◌, unsigned_abs, subst, arith}
 use Rattle.std.proofs.lemmas.Int.{ints}
-use Rattle.vms_base.specs.Places.{IsZone, counter_at}
-use Rattle.vms_base.specs.Sizes.{gap_of, size_at}
-use Rattle.vms_calls.specs.Looks.{at_least_zero}
-use Rattle.vms_core.specs.declared.steps.Facts.{Facts}
-use Rattle.vms_core.specs.Cells.{diff_at, mark_at, value_at}
-use Rattle.vms_core.specs.Drift.{negative_carried}
-use Rattle.vms_core.specs.Pages.{pages, History, IsLegal, state_after}
-use Rattle.vms_core.specs.Peaks.{peak_sum}
-use Rattle.vms_core.specs.Totals.{differentials, true_total}
-use Rattle.vms_core.proofs.CounterRanges.{counter_at-first, first-known}
-use Rattle.vms_core.proofs.KeptLaws.{laws-kept}
-use Rattle.vms_history.specs.Sums.{count_below}
-use Rattle.vms_history.proofs.CountLemmas.{sum_below-sizes}
-use Rattle.vms_history.proofs.Prefixes.{base_can_begin}
-use Rattle.vms_look.specs.Truth.{MarksKeepHigh, NoMarksKeepLimit, free_value}
+use Rattle.vms_calls.specs.Common.{IsZone, counter_at, gap_of, size_at, at_least_zero, Facts, diff_at, mark_at}
+use Rattle.vms_calls.specs.Common.{value_at, negative_carried, pages, History, state_after, peak_sum, differentials}
+use Rattle.vms_calls.specs.Common.{true_total, count_below}
+use Rattle.vms_core.specs.Pages.{IsLegal}
+use Rattle.vms_core.proofs.Common.{counter_at-first, first-known, laws-kept}
+use Rattle.vms_history.proofs.Common.{sum_below-sizes, base_can_begin}
+use Rattle.vms_look.specs.Common.{MarksKeepHigh, NoMarksKeepLimit, free_value}
 
 -- a value that isn't below a number above 0 is not negative
 value-least : (z : ℤ) (n : ℕ) → 0 < n → n ≤ at_least_zero z → pos n ≤ℤ z

@@ -1,3 +1,4 @@
 pub mod SnapshotTotals
 pub mod Looking
 pub mod Truth
+pub mod Common

@@ -1,26 +1,10 @@
 -- What the parts of a look found while others act.
 use Rattle.std.specs.Prelude.{◌≡◌, ℕ, Bool, not, ℤ, pos, List, ◌∷◌, ◌++◌}
-use Rattle.vms_base.specs.declared.ids.CounterId.{CounterId}
-use Rattle.vms_base.specs.declared.ids.CpuId.{CpuId}
-use Rattle.vms_base.specs.declared.ids.PlaceId.{PlaceId}
-use Rattle.vms_base.specs.Places.{Shape, group_of}
-use Rattle.vms_calls.specs.Looks as looks
-use Rattle.vms_calls.specs.Looks.{Frees, Look, free_pages, is_doubtful, look_steps}
-use Rattle.vms_calls.specs.Looks.Look.{online, other}
-use Rattle.vms_core.specs.declared.states.MarkRead.{MarkRead}
-use Rattle.vms_core.specs.declared.steps.Facts.{Facts}
-use Rattle.vms_core.specs.declared.steps.Step.{Step}
-use Rattle.vms_core.specs.declared.steps.Step.TheVariants.{LoadG, LoadM}
-use Rattle.vms_core.specs.Cells.{entry}
-use Rattle.vms_core.specs.Pages.{pages, History, state_after}
+use Rattle.vms_calls.specs.Common.{CounterId, CpuId, PlaceId, Shape, group_of, Frees, Look, free_pages, is_doubtful}
+use Rattle.vms_calls.specs.Common.{look_steps, online, other, MarkRead, Facts, Step, LoadG, LoadM, entry, pages}
+use Rattle.vms_calls.specs.Common.{History, state_after}
 use Rattle.vms_look.specs.SnapshotTotals.{AllLeaveDiffs, EndsWithStep, online_diff}
-use Rattle.vms_look.specs.declared.watermarks.Verdict.{Verdict}
-use Rattle.vms_seats.specs.Passes.{Pass}
-use Rattle.vms_seats.specs.Steps.{Made}
-
--- a verdict as the relation of the call has it
-abbrev pub verdict_told : Verdict → looks.Verdict
-verdict_told verdict = record { yes = verdict.yes; free = verdict.free; fast = verdict.fast }
+use Rattle.vms_seats.specs.Common.{Pass, Made}
 
 -- the differential for counter k that a look found: 0 where the CPU is not online
 abbrev pub found_at : ℕ → Look → ℤ

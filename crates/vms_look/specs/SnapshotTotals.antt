@@ -1,24 +1,10 @@
 -- What a snapshot of a counter comes to where the differentials stay as they are.
 use Rattle.std.specs.Prelude.{◌≡◌, ◌≢◌, ℕ, Bool, true, false, ℤ, pos, ◌+ℤ◌, List, [], ◌∷◌, ◌++◌, All, length}
 use Rattle.std.specs.Prelude.{if◌then◌else◌}
-use Rattle.vms_base.specs.declared.ids.CounterId.{CounterId}
-use Rattle.vms_base.specs.declared.kinds.CpuState.{CpuState}
-use Rattle.vms_base.specs.declared.kinds.CpuState.TheVariants.{Dead}
-use Rattle.vms_base.specs.Cpus.{is_online}
-use Rattle.vms_base.specs.Places.{Shape, group_of}
-use Rattle.vms_calls.specs.Lists.{in_turn}
-use Rattle.vms_calls.specs.Looks.{Look, at_least_zero, hidden, look_steps}
-use Rattle.vms_core.specs.declared.states.State.{State}
-use Rattle.vms_core.specs.declared.steps.Facts.{Facts}
-use Rattle.vms_core.specs.declared.steps.Step.{Step}
-use Rattle.vms_core.specs.declared.steps.Step.TheVariants.{LoadG, Put, Take}
-use Rattle.vms_core.specs.Cells.{cpu_at, diff_at}
-use Rattle.vms_core.specs.Pages.{History, carried_by_all, state_after}
-use Rattle.vms_core.specs.Totals.{true_total}
-use Rattle.vms_history.specs.declared.events.Event.{Event}
-use Rattle.vms_history.specs.Events.{Extends, own, after}
-use Rattle.vms_history.specs.Sums.{sum_below}
-use Rattle.vms_seats.specs.Passes.{Pass}
+use Rattle.vms_calls.specs.Common.{CounterId, CpuState, Dead, is_online, Shape, group_of, in_turn, Look, at_least_zero}
+use Rattle.vms_calls.specs.Common.{hidden, look_steps, State, Facts, Step, LoadG, Put, Take, cpu_at, diff_at, History}
+use Rattle.vms_calls.specs.Common.{carried_by_all, state_after, true_total, Event, Extends, own, after, sum_below}
+use Rattle.vms_seats.specs.Common.{Pass}
 
 -- a step that puts nothing to counter k and doesn't take its group
 abbrev pub LeavesDiffs : ℕ → Step → Type 0

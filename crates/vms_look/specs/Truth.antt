@@ -1,20 +1,10 @@
 -- What is true of a counter where its value stands above a mark.
 use Rattle.std.specs.Prelude.{◌≡◌, ℕ, suc, ◌+◌, ◌<◌, ◌≤◌, ℤ, pos, ◌+ℤ◌, ◌≤ℤ◌, ◌∷◌, ◌++◌}
-use Rattle.vms_base.specs.declared.ids.PlaceId.{PlaceId}
-use Rattle.vms_base.specs.Places.{IsZone, counter_at}
-use Rattle.vms_base.specs.Sizes.{gap_of, size_at}
-use Rattle.vms_calls.specs.Looks.{at_least_zero, free_pages}
-use Rattle.vms_core.specs.declared.states.MarkRead.{MarkRead}
-use Rattle.vms_core.specs.declared.steps.Facts.{Facts}
-use Rattle.vms_core.specs.declared.steps.Step.{Step}
-use Rattle.vms_core.specs.declared.steps.Step.TheVariants.{LoadG, LoadM}
-use Rattle.vms_core.specs.Cells.{mark_at, value_at}
-use Rattle.vms_core.specs.Drift.{negative_carried}
-use Rattle.vms_core.specs.MarkNumbers.{MarkStands}
-use Rattle.vms_core.specs.Pages.{History, IsLegal, state_after}
-use Rattle.vms_core.specs.Totals.{true_total}
-use Rattle.vms_history.specs.Events.{Extends}
-use Rattle.vms_seats.specs.Passes.{Pass}
+use Rattle.vms_calls.specs.Common.{PlaceId, IsZone, counter_at, gap_of, size_at, at_least_zero, free_pages, MarkRead}
+use Rattle.vms_calls.specs.Common.{Facts, Step, LoadG, LoadM, mark_at, value_at, negative_carried, MarkStands, History}
+use Rattle.vms_calls.specs.Common.{state_after, true_total, Extends}
+use Rattle.vms_core.specs.Pages.{IsLegal}
+use Rattle.vms_seats.specs.Common.{Pass}
 
 -- the true total of counter k is at least so many pages, less `hidden` and less the negative amounts that callers carry
 abbrev pub HasTruly : Facts → History → ℕ → ℕ → ℕ → Type 0

@@ -1,10 +1,8 @@
-ghost use Rattle.vms_core.specs.declared.steps.Facts.{Facts};
-ghost use Rattle.vms_core.specs.declared.steps.Step.{Step};
-ghost use Rattle.vms_core.specs.Drift.{BoundsDrift, BoundsSystemDrift};
-ghost use Rattle.vms_core.specs.Pages.{BoundsDifferentials, IsLegal, KeepsSystemTotals, KeepsTotals};
-ghost use Rattle.vms_core.specs.PeakLaws.{BoundsByPeaks, KeepsPeaksInRange};
+ghost use Rattle.vms_calls.specs.Common.{Facts, Step, BoundsDrift, BoundsSystemDrift, BoundsDifferentials};
+ghost use Rattle.vms_calls.specs.Common.{KeepsSystemTotals, KeepsTotals, BoundsByPeaks, KeepsPeaksInRange};
+ghost use Rattle.vms_core.specs.Pages.{IsLegal};
 ghost use Rattle.vms_look.specs.Truth.{AtEachMoment, MarksKeepHigh, NoMarksKeepLimit};
-ghost use Rattle.vms_seats.specs.Passes.{Pass};
+ghost use Rattle.vms_seats.specs.Common.{Pass};
 
 use vms_words::{Caller, ControlPass, CpuPass, MainPass};
 

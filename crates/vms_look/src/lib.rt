@@ -8,4 +8,4 @@ mod watermarks;
 
 pub use laws::{AnyPagePass, totals_are_kept, values_tell_true_pages};
 pub use values::{place_value, snapshot, system_value};
-pub use watermarks::{Verdict, watermark_ok};
+pub use watermarks::watermark_ok;

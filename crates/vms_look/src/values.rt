@@ -1,13 +1,9 @@
 ghost use Rattle.std.specs.Prelude.{◌≡◌, ◌≤◌, ◌∷◌, [], List, unsigned_abs};
-ghost use Rattle.vms_base.specs.Cpus.{is_online as tells_online};
-ghost use Rattle.vms_base.specs.Places.{IsCounter, IsCpu, IsItem};
-ghost use Rattle.vms_calls.specs.Looks.{IsPlaceValue, IsSnapshot, IsSystemValue, at_least_zero};
-ghost use Rattle.vms_core.specs.declared.steps.Step.{Step};
-ghost use Rattle.vms_core.specs.Pages.{pages};
+ghost use Rattle.vms_calls.specs.Common.{is_online as tells_online, IsCounter, IsCpu, IsItem, IsPlaceValue, IsSnapshot};
+ghost use Rattle.vms_calls.specs.Common.{IsSystemValue, at_least_zero, Step, pages};
 ghost use Rattle.vms_look.specs.Looking.{HasLooked};
 ghost use Rattle.vms_look.specs.SnapshotTotals.{SumsTruly};
-ghost use Rattle.vms_seats.specs.Passes.{IsOf};
-ghost use Rattle.vms_seats.specs.Steps.{Made};
+ghost use Rattle.vms_seats.specs.Common.{IsFrom, Made};
 
 use vms_base::{CounterId, CpuId, CpuState, ItemId};
 use vms_words::{Caller, PageTable};
@@ -16,7 +12,7 @@ use vms_words::{Caller, PageTable};
 /// `node_page_state_pages` of mm/vmstat.c).
 #[inline]
 pub fn place_value<P: Caller>(table: &PageTable, pass: &mut P, counter: CounterId) -> u64
-    requires table { IsOf (P.pass pass.old) table.now }
+    requires table { IsFrom (P.pass pass.old) table.now }
     requires counter { IsCounter table.now.facts.layout counter.number }
     ensures made { (steps : List Step) × IsPlaceValue counter steps result
         × Made pages (P.pass pass.new) (P.pass pass.old) steps }
@@ -29,7 +25,7 @@ pub fn place_value<P: Caller>(table: &PageTable, pass: &mut P, counter: CounterI
 /// `global_node_page_state_pages` of include/linux/vmstat.h).
 #[inline]
 pub fn system_value<P: Caller>(table: &PageTable, pass: &mut P, item: ItemId) -> u64
-    requires table { IsOf (P.pass pass.old) table.now }
+    requires table { IsFrom (P.pass pass.old) table.now }
     requires item { IsItem table.now.facts.layout item.number }
     ensures made { (steps : List Step) × IsSystemValue item steps result
         × Made pages (P.pass pass.new) (P.pass pass.old) steps }
@@ -44,7 +40,7 @@ pub fn system_value<P: Caller>(table: &PageTable, pass: &mut P, item: ItemId) ->
 /// to the counter or takes its group meanwhile, the sum is the counter's true total at the load of the global
 /// value, less what callers carry then and less what dead CPUs hide.
 pub fn snapshot<P: Caller>(table: &PageTable, pass: &mut P, counter: CounterId) -> u64
-    requires table { IsOf (P.pass pass.old) table.now }
+    requires table { IsFrom (P.pass pass.old) table.now }
     requires counter { IsCounter table.now.facts.layout counter.number }
     ensures made { (steps : List Step) × IsSnapshot table.now.facts.layout counter steps result
         × Made pages (P.pass pass.new) (P.pass pass.old) steps }
@@ -63,7 +59,7 @@ pub fn snapshot<P: Caller>(table: &PageTable, pass: &mut P, counter: CounterId) 
 /// The differential of a CPU that is found online, in pages, and 0 of any other CPU.
 #[inline]
 fn hidden<P: Caller>(table: &PageTable, pass: &mut P, cpu: CpuId, counter: CounterId) -> i64
-    requires table { IsOf (P.pass pass.old) table.now }
+    requires table { IsFrom (P.pass pass.old) table.now }
     requires cpu { IsCpu table.now.facts.layout cpu.number }
     requires counter { IsCounter table.now.facts.layout counter.number }
     ensures made { HasLooked (P.pass pass.new) (P.pass pass.old) counter cpu result }

@@ -1,32 +1,16 @@
-ghost use Rattle.std.specs.Prelude.{◌≡◌, ◌+◌, ◌<◌, ◌≤◌, ◌^◌, ◌&&◌, ◌||◌, ℕ, true, false, List, All, length, nat_eq, nat_lt, not};
-ghost use Rattle.vms_base.specs.Places.{IsZone};
-ghost use Rattle.vms_base.specs.Sizes.{IsValidSize, watermark_of};
-ghost use Rattle.vms_base.specs.Watermarks.{limit_of};
-ghost use Rattle.vms_calls.specs.Looks.{IsWatermarkTest, free_pages as free_counter};
-ghost use Rattle.vms_core.specs.declared.steps.Step.{Step};
-ghost use Rattle.vms_core.specs.Pages.{pages};
-ghost use Rattle.vms_look.specs.Looking.{HasFree, verdict_told};
+ghost use Rattle.std.specs.Prelude.{◌≡◌, ◌<◌, ◌≤◌, ◌&&◌, ◌||◌, ℕ, true, false, List, nat_eq, nat_lt, not};
+ghost use Rattle.vms_calls.specs.Common.{IsZone, limit_of, IsWatermarkTest, free_pages as free_counter, Step, pages};
+ghost use Rattle.vms_look.specs.Looking.{HasFree};
 ghost use Rattle.vms_look.specs.SnapshotTotals.{SumsTruly};
 ghost use Rattle.vms_look.specs.Truth.{SaysTruly};
-ghost use Rattle.vms_seats.specs.Passes.{IsOf};
-ghost use Rattle.vms_seats.specs.Steps.{Made};
+ghost use Rattle.vms_seats.specs.Common.{IsFrom, Made};
 
 use crate::values::{clamped, snapshot};
-use vms_base::{Header, PlaceId, WaterMark, ZoneSize};
-use vms_calc::reserve;
+use vms_base::{Header, PlaceId, WaterMark};
+use vms_calc::limit;
+use vms_calls::Verdict;
 use vms_core::MarkRead;
 use vms_words::{Caller, PageTable};
-
-/// What a test of a watermark answers.
-#[derive(Clone, Copy, Debug, PartialEq, Eq)]
-pub struct Verdict {
-    /// The free pages that this rests on.
-    pub free: u64,
-    /// Whether the zone has more free pages than the watermark and the zone's reserve ask for.
-    pub yes: bool,
-    /// Whether no snapshot was made.
-    pub fast: bool,
-}
 
 /// Tests whether a zone has more free pages than a watermark asks for, for a request that may use the zones of its node
 /// up to the zone index `most` (`zone_watermark_ok_safe` of mm/page_alloc.c at order 0). The zone's drift mark is loaded
@@ -43,12 +27,12 @@ pub fn watermark_ok<P: Caller>(
     mark: WaterMark,
     most: u32,
 ) -> Verdict
-    requires table { IsOf (P.pass pass.old) table.now }
+    requires table { IsFrom (P.pass pass.old) table.now }
     requires layout { header.now.layout ≡ table.now.facts.layout }
     requires sizes { header.now.sizes ≡ table.now.facts.sizes }
     requires zone { IsZone table.now.facts.layout zone.number }
     requires most { most ≤ 3 }
-    ensures made { (steps : List Step) × IsWatermarkTest header.now zone mark most steps (verdict_told result)
+    ensures made { (steps : List Step) × IsWatermarkTest header.now zone mark most steps result
         × Made pages (P.pass pass.new) (P.pass pass.old) steps }
     ensures truly { result.yes ≡ true → result.fast ≡ true →
         SaysTruly (P.pass pass.new) (P.pass pass.old) zone (limit_of header.now zone.number mark most) }
@@ -67,35 +51,10 @@ pub fn watermark_ok<P: Caller>(
     }
 }
 
-/// What the free pages of a zone have to exceed, in pages: the watermark and the zone's reserve.
-fn limit(header: &Header, zone: PlaceId, mark: WaterMark, most: u32) -> u64
-    requires one_each { length header.now.sizes ≡ length header.now.layout.zones }
-    requires sizes { All IsValidSize header.now.sizes }
-    requires zone { IsZone header.now.layout zone.number }
-    requires most { most ≤ 3 }
-    ensures { result ≡ limit_of header.now zone.number mark most }
-{
-    let size = header.sizes.get(zone.number as usize);
-    watermark(&size, mark) + reserve(header, zone, most)
-}
-
-/// A watermark of a zone of this size, in pages.
-fn watermark(size: &ZoneSize, mark: WaterMark) -> u64
-    requires { IsValidSize size.now }
-    ensures value { result ≡ watermark_of size.now mark }
-    ensures bound { result ≤ 2 ^ 42 }
-{
-    match mark {
-        WaterMark::Min => size.min,
-        WaterMark::Low => size.low,
-        WaterMark::High => size.high,
-    }
-}
-
 /// The free pages of a zone that a test rests on, and whether they are no snapshot.
 #[inline]
 fn free_pages<P: Caller>(table: &PageTable, pass: &mut P, zone: PlaceId) -> (u64, bool)
-    requires table { IsOf (P.pass pass.old) table.now }
+    requires table { IsFrom (P.pass pass.old) table.now }
     requires zone { IsZone table.now.facts.layout zone.number }
     ensures made { HasFree table.now.facts.layout (P.pass pass.new) (P.pass pass.old) zone result.0 result.1 }
     ensures truly { result.1 ≡ true → (limit : ℕ) → limit < result.0 →

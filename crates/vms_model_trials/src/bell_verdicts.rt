@@ -1,5 +1,5 @@
 ghost use Rattle.std.specs.Prelude.{◌<◌, ℕ, None, Some, refl};
-ghost use Rattle.vms_history.specs.Passes.Role.{Works, Begins, Ends};
+ghost use Rattle.vms_calls.specs.Common.{Works, Begins, Ends};
 ghost use Rattle.vms_model_trials.specs.declared.bell_verdicts.Ring.TheVariants.{Open, Shut, Strike};
 
 use Verdict::{Complete, Illegal, NoBase};

@@ -1,11 +1,9 @@
-//! Trials of the models and of their judges: laws of histories on small tables, calls on plain data against numbers
-//! worked out by hand, calls of kswapd on a machine of one CPU, and small histories of each table with their verdicts.
+//! Trials of the models and of their judges: small histories of each table with their verdicts, and what the model says
+//! of peaks and of kswapd on a machine of one CPU.
 #![tactic(auto)]
 
 #[cfg(test)]
 mod bell_verdicts;
-#[cfg(test)]
-mod bells;
 #[cfg(test)]
 mod event_histories;
 #[cfg(test)]
@@ -14,7 +12,5 @@ mod page_histories;
 mod peaks;
 #[cfg(test)]
 mod percpu_histories;
-#[cfg(test)]
-mod plain_data;
 #[cfg(test)]
 mod turns;

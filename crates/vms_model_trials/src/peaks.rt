@@ -1,10 +1,7 @@
 ghost use Rattle.std.specs.Prelude.{◌≡◌};
-ghost use Rattle.vms_base.specs.declared.groups.Diffs.{Diffs};
-ghost use Rattle.vms_core.specs.Cells.{eight_zeros};
+ghost use Rattle.vms_calls.specs.Common.{Diffs, eight_zeros, peak, one_zone, found_none, found_newest, found_older};
+ghost use Rattle.vms_calls.specs.Common.{uncovered_threshold, uncovered_mark, acknowledged_early, acknowledged_other};
 ghost use Rattle.vms_core.specs.Pages.{IsLegal};
-ghost use Rattle.vms_core.specs.Peaks.{peak};
-ghost use Rattle.vms_core.specs.LoweredThreshold.{one_zone, found_none, found_newest, found_older, uncovered_threshold};
-ghost use Rattle.vms_core.specs.LoweredThreshold.{uncovered_mark, acknowledged_early, acknowledged_other};
 
 /// A CPU's threshold is lowered from 20 to 5, and later to 3. Where the control pass finds 5 acknowledged while it is
 /// the newest, the peak falls to 5. Where it finds nothing acknowledged, or 5 once 3 was set, the peak stays.
@@ -25,9 +22,3 @@ fn uncovered_and_unearned_are_illegal()
     ensures early { IsLegal one_zone acknowledged_early → ⊥ }
     ensures other { (zeros : Diffs) → IsLegal one_zone (acknowledged_other zeros) → ⊥ }
 {}
-
-#[test]
-fn peaks_settle() {
-    newest_acknowledgement_settles();
-    uncovered_and_unearned_are_illegal();
-}

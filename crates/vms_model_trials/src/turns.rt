@@ -1,32 +1,14 @@
-ghost use Rattle.std.specs.Prelude.{◌≡◌, ℕ, ◌≤◌, true, pos, [], ◌∷◌, ◌++◌, codes, Some, None};
-ghost use Rattle.vms_base.specs.Areas.{areas_of, areas_from};
-ghost use Rattle.vms_base.specs.Thresholds.{most_threshold};
-ghost use Rattle.vms_core.specs.declared.steps.Step.TheVariants.{SetT};
-ghost use Rattle.vms_core.specs.LoweredThreshold.{one_zone, begun, cpu, zone};
-ghost use Rattle.vms_calls.specs.MayMake.{MayMake};
-ghost use Rattle.vms_calls.specs.TurnExamples.{header_with, with_area, zone_item, node, one_visit, one_look, one_block};
-ghost use Rattle.vms_calls.specs.TurnReadings.{read_turn};
-ghost use Rattle.vms_calls.specs.Turns.Balance.{Yes, No};
-
-use vms_calls::{
-    ThresholdRules, ratings_are_told, ratings_find_a_cpu, ratings_leave_their_caller,
-    thresholds_may_be_set, turns_leave_rules,
-};
-
-/// Rules that may give every threshold of 1 to 125.
-struct AnyThreshold;
-
-impl ThresholdRules for AnyThreshold {
-    ghost pressure = { λ size online t. (1 ≤ t) × (t ≤ most_threshold) };
-
-    ghost normal = { λ size online t. (1 ≤ t) × (t ≤ most_threshold) };
-}
+ghost use Rattle.std.specs.Prelude.{◌≡◌, true, pos, [], ◌∷◌, ◌++◌, codes, Some, None};
+ghost use Rattle.vms_calls.specs.Common.{areas_of, areas_from, SetT, one_zone, both_begun, cpu, zone, MayMake};
+ghost use Rattle.vms_calls.specs.Common.{header_with, with_area, zone_item, node, one_visit, one_look, one_block};
+ghost use Rattle.vms_calls.specs.Common.{read_turn};
+ghost use Rattle.vms_calls.specs.declared.answers.Balance.TheVariants.{Yes, No};
 
 /// Of a zone without a mark, with 30 pages between `min` and `low`, the control pass may set the threshold of 20 to 5
 /// and not to 31.
 fn covered_threshold_may_be_set()
-    ensures covered { MayMake one_zone 2 begun (SetT cpu zone 5 ∷ []) }
-    ensures uncovered { MayMake one_zone 2 begun (SetT cpu zone 31 ∷ []) → ⊥ }
+    ensures covered { MayMake one_zone 2 both_begun (SetT cpu zone 5 ∷ []) }
+    ensures uncovered { MayMake one_zone 2 both_begun (SetT cpu zone 31 ∷ []) → ⊥ }
 {}
 
 /// A zone with 190 free pages and a high watermark of 160 is balanced for single pages. For blocks of 8 it is so where
@@ -45,15 +27,3 @@ fn smaller_area_comes_first()
     ensures { areas_from 3 (areas_of (zone_item (codes "area5") ∷ zone_item (codes "area3") ∷ [])) ≡
         record { order = 3; position = 9 } ∷ record { order = 5; position = 8 } ∷ [] }
 {}
-
-#[test]
-fn rules_and_turns() {
-    covered_threshold_may_be_set();
-    turns_are_read();
-    smaller_area_comes_first();
-    thresholds_may_be_set::<AnyThreshold>();
-    ratings_are_told::<AnyThreshold>();
-    ratings_find_a_cpu::<AnyThreshold>();
-    ratings_leave_their_caller::<AnyThreshold>();
-    turns_leave_rules::<AnyThreshold>();
-}

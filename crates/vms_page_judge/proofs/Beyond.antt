@@ -1,19 +1,17 @@
 -- In a legal history no caller carries anything for a counter or an item past those of the layout.
-use Rattle.std.proofs.Common.{◌≡◌, ℕ, ◌+◌, ◌*◌, ◌%◌, ◌<◌, ◌≤◌, Bool, true, false, []}
-use Rattle.std.proofs.Common.{◌∷◌, length, get_or, ℤ, pos, refl, arith, if◌then◌else◌, nat_eq, nat_lt, ⊎_elim}
+use Rattle.std.proofs.Common.{◌≡◌, ℕ, ◌+◌, ◌*◌, ◌%◌, ◌<◌, ◌≤◌, Bool, true, false, [], ◌∷◌, length, get_or, ℤ, pos, refl}
+use Rattle.std.proofs.Common.{arith, if◌then◌else◌, nat_eq, nat_lt, ⊎_elim}
 use Rattle.std.proofs.lemmas.Int.{ints}
 use Rattle.std.proofs.lemmas.Bool.{ne_eqb}
-use Rattle.vms_base.specs.Places.{Shape, IsLayout, counter_count, item_count, item_of, group_of, first_of, place_of}
+use Rattle.vms_history.specs.Common.{Shape, IsLayout, counter_count, item_count, item_of, group_of, first_of_group}
+use Rattle.vms_history.specs.Common.{place_of, own, total}
 use Rattle.vms_history.specs.declared.events.Event.{Event}
-use Rattle.vms_history.specs.Events.{own, total}
-use Rattle.vms_history.proofs.SumLaws.{sum_below-zeros}
+use Rattle.vms_history.proofs.Common.{sum_below-zeros}
 use Rattle.vms_core.specs.declared.states.State.{State}
 use Rattle.vms_core.specs.declared.steps.Facts.{Facts}
 use Rattle.vms_core.specs.declared.steps.Step.{Step}
 use Rattle.vms_core.specs.declared.steps.Step.TheVariants.{Put, Take, AddG, AddS}
-use Rattle.vms_core.specs.Conditions.{Meets}
-use Rattle.vms_core.specs.Own.{moved, moved_of_item, carried, carried_of_item}
-use Rattle.vms_core.specs.Pages.{History, IsLegal, state_after}
+use Rattle.vms_core.specs.Common.{Meets, moved, moved_of_item, carried, carried_of_item, History, IsLegal, state_after}
 
 item_of-within : (shape : Shape) → IsLayout shape → (k : ℕ) → item_of shape k < item_count shape
 item_of-within shape layout k =
@@ -50,10 +48,11 @@ module _ (facts : Facts) (h : History) (s : State) (p : ℕ) where
       rw other
   moved_of_item-beyond layout (Take c j w) i meets beyond =
       sum_below-zeros
-      (λ n. if nat_eq (item_of facts.layout (first_of j.number + n)) i then get_or w.values n (pos 0) else pos 0) 8
-      (λ n n_in. let other : nat_eq (item_of facts.layout (first_of j.number + n)) i ≡ false =
-      ne_eqb (item_of facts.layout (first_of j.number + n)) i
-      (λ same. let within = item_of-within facts.layout layout (first_of j.number + n) in absurd (omega arith)) in
+      (λ n. if nat_eq (item_of facts.layout (first_of_group j.number + n)) i then get_or w.values n
+      (pos 0) else pos 0) 8
+      (λ n n_in. let other : nat_eq (item_of facts.layout (first_of_group j.number + n)) i ≡ false =
+      ne_eqb (item_of facts.layout (first_of_group j.number + n)) i
+      (λ same. let within = item_of-within facts.layout layout (first_of_group j.number + n) in absurd (omega arith)) in
       rw other)
   moved_of_item-beyond layout (AddS l a) i meets beyond =
       let other : nat_eq l.number i ≡ false =

@@ -1,19 +1,15 @@
 -- What one more event of a legal history makes of the numbers of its state.
 use Rattle.std.proofs.Common.{◌≡◌, ℕ, ◌+◌, ◌<◌, List, ◌∷◌, length, get_or, take, sym, ap, ◌∙◌, subst}
 use Rattle.std.specs.Prelude.{reverse}
-use Rattle.vms_base.specs.Places.{IsCounter, IsZone}
+use Rattle.vms_history.specs.Common.{IsCounter, IsZone, owner_in}
 use Rattle.vms_history.specs.declared.events.Event.{Event}
-use Rattle.vms_history.specs.Passes.{owner_in}
-use Rattle.vms_judge.proofs.Prefixes.{reverse_more, legal_first}
+use Rattle.vms_judge.proofs.Common.{reverse_more, legal_first}
 use Rattle.vms_core.specs.declared.steps.Facts.{Facts}
 use Rattle.vms_core.specs.declared.steps.Step.{Step}
-use Rattle.vms_core.specs.Cells.{value_at, system_at, diff_at, mark_at, mark_sets_at, acknowledged_at}
-use Rattle.vms_core.specs.Effects.{value_after, system_after, diff_after}
-use Rattle.vms_core.specs.Effects.{mark_after, mark_sets_after, acknowledged_after}
-use Rattle.vms_core.specs.NumberChanges.{ChangesNumbers}
-use Rattle.vms_core.specs.Pages.{IsLegal, pages, state_after}
-use Rattle.vms_core.specs.Steps.{role}
-use Rattle.vms_core.proofs.NumberChanges.{numbers-change}
+use Rattle.vms_core.specs.Common.{value_at, system_at, diff_at, mark_at, mark_sets_at, acknowledged_at, value_after}
+use Rattle.vms_core.specs.Common.{system_after, diff_after, mark_after, mark_sets_after, acknowledged_after}
+use Rattle.vms_core.specs.Common.{ChangesNumbers, IsLegal, pages, state_after, role}
+use Rattle.vms_core.proofs.Common.{numbers-change}
 
 -- event i of a legal history, which is given oldest first
 module _ (facts : Facts) (xs : List (Event Step)) (legal : IsLegal facts (reverse xs)) (i : ℕ) (e : Event Step)

@@ -1,10 +1,8 @@
 -- One CPU of a state between two phases.
 use Rattle.std.specs.Prelude.{◌≡◌, ℕ, ◌≤◌, pos, None, unsigned_abs}
-use Rattle.vms_base.specs.declared.kinds.CpuState.TheVariants.{Online, Absent}
-use Rattle.vms_base.specs.Places.{Shape, IsPlace, IsZone, IsCounter}
-use Rattle.vms_base.specs.Thresholds.{most_threshold}
+use Rattle.vms_history.specs.Common.{Online, Absent, Shape, IsPlace, IsZone, IsCounter, most_threshold}
 use Rattle.vms_core.specs.declared.states.State.{State}
-use Rattle.vms_core.specs.Cells.{diff_at, threshold_at, threshold_sets_at, cpu_at, acknowledged_at}
+use Rattle.vms_core.specs.Common.{diff_at, threshold_at, threshold_sets_at, cpu_at, acknowledged_at}
 
 -- the numbers of CPU c are in their ranges, it hides nothing where it is absent, and nothing of it was set or
 -- acknowledged yet

@@ -1,10 +1,7 @@
 ghost use Rattle.std.specs.Prelude.{◌≡◌, ◌<◌, ◌≤◌, ◌^◌, ◌↔◌, ℕ, [], All, IsTrue, length, unsigned_abs};
-ghost use Rattle.vms_base.specs.Marks.{Covers};
-ghost use Rattle.vms_base.specs.Places.{IsCpu, IsZone, IsCounter, IsItem};
-ghost use Rattle.vms_base.specs.Sizes.{IsValidSize, size_at};
-ghost use Rattle.vms_base.specs.declared.kinds.CpuState.TheVariants.{Online};
-ghost use Rattle.vms_core.specs.Bases.{IsBase, IsOpening};
-ghost use Rattle.vms_core.specs.Cells.{HasShape, value_at, system_at, mark_at, mark_sets_at, cpu_at};
+ghost use Rattle.vms_history.specs.Common.{Covers, IsCpu, IsZone, IsCounter, IsItem, IsValidSize, size_at, Online};
+ghost use Rattle.vms_core.specs.Common.{IsBase, IsOpening, HasShape, value_at, system_at, mark_at, mark_sets_at};
+ghost use Rattle.vms_core.specs.Common.{cpu_at};
 ghost use Rattle.vms_core.specs.Peaks as peaks;
 ghost use Rattle.vms_page_judge.specs.Openings.{OpensCpu};
 

@@ -1,6 +1,6 @@
 ghost use Rattle.std.specs.Prelude.{◌≡◌, ◌≤◌, ◌+◌, ◌*◌, ◌^◌, reverse, unsigned_abs};
 ghost use Rattle.vms_base.specs.Places as places;
-ghost use Rattle.vms_history.specs.Events.{own};
+ghost use Rattle.vms_history.specs.Common.{own};
 ghost use Rattle.vms_core.specs.Own as known;
 
 use crate::changes::carried_by;

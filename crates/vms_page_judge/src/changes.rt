@@ -1,5 +1,5 @@
 ghost use Rattle.std.specs.Prelude.{◌≡◌, ◌≤◌, ◌+◌, ◌^◌, unsigned_abs};
-ghost use Rattle.vms_base.specs.Groups.{IsByte};
+ghost use Rattle.vms_history.specs.Common.{IsByte};
 ghost use Rattle.vms_core.specs.Changes as rules;
 
 use vms_base::Mode;

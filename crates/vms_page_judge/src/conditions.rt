@@ -1,7 +1,6 @@
 ghost use Rattle.std.specs.Prelude.{◌≡◌, ◌↔◌, ◌∷◌, IsTrue, reverse};
-ghost use Rattle.vms_core.specs.Bases.{IsBase};
+ghost use Rattle.vms_core.specs.Common.{IsBase, IsLegal, state_after};
 ghost use Rattle.vms_core.specs.Conditions as conditions;
-ghost use Rattle.vms_core.specs.Pages.{IsLegal, state_after};
 
 use crate::control::{loads_acknowledged, sets_absent, sets_mark, sets_threshold};
 use crate::loads::{

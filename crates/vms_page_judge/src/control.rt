@@ -1,9 +1,7 @@
 ghost use Rattle.std.specs.Prelude.{◌≡◌, ◌<◌, ◌↔◌, ◌∷◌, ℕ, pos, Option, IsTrue, reverse};
-ghost use Rattle.vms_base.specs.Places.{IsCpu, IsCounter};
-ghost use Rattle.vms_core.specs.Bases.{IsBase};
-ghost use Rattle.vms_core.specs.Cells.{diff_at};
+ghost use Rattle.vms_history.specs.Common.{IsCpu, IsCounter};
+ghost use Rattle.vms_core.specs.Common.{IsBase, diff_at, IsLegal, state_after};
 ghost use Rattle.vms_core.specs.Conditions as conditions;
-ghost use Rattle.vms_core.specs.Pages.{IsLegal, state_after};
 
 use crate::covering::{covers, size_of_zone};
 use crate::owners::is_control;

@@ -1,7 +1,5 @@
 ghost use Rattle.std.specs.Prelude.{◌≡◌, ◌≤◌, ◌<◌, ◌^◌, ◌↔◌, IsTrue, length};
-ghost use Rattle.vms_base.specs.Sizes.{size_at};
-ghost use Rattle.vms_base.specs.Marks.{Covers};
-ghost use Rattle.vms_base.specs.Places.{IsZone};
+ghost use Rattle.vms_history.specs.Common.{size_at, Covers, IsZone};
 
 use vms_base::{PlaceId, ZoneSize};
 use vms_core::Facts;

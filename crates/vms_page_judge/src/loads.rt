@@ -1,9 +1,7 @@
 ghost use Rattle.std.specs.Prelude.{◌≡◌, ◌<◌, ◌↔◌, IsTrue, reverse};
-ghost use Rattle.vms_base.specs.Places.{IsCpu, IsGroup, IsCounter, IsItem};
-ghost use Rattle.vms_core.specs.Bases.{IsBase};
-ghost use Rattle.vms_core.specs.Cells.{TellsGroup, value_at, system_at, cpu_at};
+ghost use Rattle.vms_history.specs.Common.{IsCpu, IsGroup, IsCounter, IsItem};
+ghost use Rattle.vms_core.specs.Common.{IsBase, TellsGroup, value_at, system_at, cpu_at, IsLegal, state_after};
 ghost use Rattle.vms_core.specs.Conditions as conditions;
-ghost use Rattle.vms_core.specs.Pages.{IsLegal, state_after};
 
 use crate::owners::owned;
 use crate::states::{cpu_now, diff_now, mark_now, system_now, threshold_now, value_now};

@@ -1,10 +1,7 @@
 ghost use Rattle.std.specs.Prelude.{◌≡◌, ◌↔◌, ℕ, pos, IsTrue, reverse};
-ghost use Rattle.vms_base.specs.Places.{IsCounter, IsItem};
-ghost use Rattle.vms_history.specs.Events.{own};
-ghost use Rattle.vms_core.specs.Bases.{IsBase};
-ghost use Rattle.vms_core.specs.Own.{CarriesNothing};
+ghost use Rattle.vms_history.specs.Common.{IsCounter, IsItem, own};
+ghost use Rattle.vms_core.specs.Common.{IsBase, CarriesNothing, IsLegal};
 ghost use Rattle.vms_core.specs.Own as known;
-ghost use Rattle.vms_core.specs.Pages.{IsLegal};
 
 use crate::carried::{carried, carried_of_item};
 use vms_base::{CounterId, ItemId, Layout};

@@ -1,8 +1,7 @@
 ghost use Rattle.std.specs.Prelude.{◌≡◌, ◌<◌, ◌≤◌, ◌↔◌, ℕ, pos, None, IsTrue, unsigned_abs};
-ghost use Rattle.vms_base.specs.Places.{IsCpu, IsPlace, IsZone, IsCounter};
-ghost use Rattle.vms_base.specs.Thresholds.{most_threshold};
+ghost use Rattle.vms_history.specs.Common.{IsCpu, IsPlace, IsZone, IsCounter, most_threshold};
 ghost use Rattle.vms_core.specs.Cells as cells;
-ghost use Rattle.vms_core.specs.Cells.{HasShape};
+ghost use Rattle.vms_core.specs.Common.{HasShape};
 ghost use Rattle.vms_page_judge.specs.Openings.{OpensCpu};
 
 use vms_base::{CounterId, CpuId, CpuState, Layout, PlaceId};

@@ -1,5 +1,5 @@
 ghost use Rattle.std.specs.Prelude.{◌≡◌, reverse};
-ghost use Rattle.vms_history.specs.Events.{own};
+ghost use Rattle.vms_history.specs.Common.{own};
 ghost use Rattle.vms_core.specs.Own as known;
 
 use crate::changes::differential_after;

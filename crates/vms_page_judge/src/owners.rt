@@ -1,8 +1,7 @@
 ghost use Rattle.std.specs.Prelude.{◌↔◌, IsTrue, reverse, MatchOption};
-ghost use Rattle.vms_base.specs.declared.ids.CpuId.{CpuId};
-ghost use Rattle.vms_core.specs.Bases.{IsBase};
+ghost use Rattle.vms_history.specs.Common.{CpuId};
+ghost use Rattle.vms_core.specs.Common.{IsBase, MayOwn};
 ghost use Rattle.vms_core.specs.Conditions as conditions;
-ghost use Rattle.vms_core.specs.Pages.{MayOwn};
 
 use crate::JudgedPages;
 use vms_base::{CpuId, CpuState};

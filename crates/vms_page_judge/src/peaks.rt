@@ -1,6 +1,6 @@
 ghost use Rattle.std.specs.Prelude.{◌≡◌, ◌≤◌, ◌<◌, ◌+◌, ◌^◌, reverse};
-ghost use Rattle.vms_base.specs.Places.{IsCpu, IsPlace, IsZone};
-ghost use Rattle.vms_core.specs.Cells.{HasShape};
+ghost use Rattle.vms_history.specs.Common.{IsCpu, IsPlace, IsZone};
+ghost use Rattle.vms_core.specs.Common.{HasShape};
 ghost use Rattle.vms_core.specs.Peaks as peaks;
 
 use vms_base::{CpuId, CpuState, PlaceId};

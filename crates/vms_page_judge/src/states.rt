@@ -1,12 +1,8 @@
 ghost use Rattle.std.specs.Prelude.{◌≡◌, ◌≤◌, ◌<◌, ◌+◌, ◌^◌, ℤ, ◌+ℤ◌, reverse};
-ghost use Rattle.vms_base.specs.Places.{IsCpu, IsPlace, IsZone, IsCounter, IsItem};
-ghost use Rattle.vms_history.specs.Passes.{owner_in};
-ghost use Rattle.vms_core.specs.Bases.{IsBase};
+ghost use Rattle.vms_history.specs.Common.{IsCpu, IsPlace, IsZone, IsCounter, IsItem, owner_in};
+ghost use Rattle.vms_core.specs.Common.{IsBase, value_after, system_after, diff_after, mark_after, mark_sets_after};
+ghost use Rattle.vms_core.specs.Common.{acknowledged_after, IsLegal, state_after, role};
 ghost use Rattle.vms_core.specs.Cells as cells;
-ghost use Rattle.vms_core.specs.Effects.{value_after, system_after, diff_after};
-ghost use Rattle.vms_core.specs.Effects.{mark_after, mark_sets_after, acknowledged_after};
-ghost use Rattle.vms_core.specs.Pages.{IsLegal, state_after};
-ghost use Rattle.vms_core.specs.Steps.{role};
 
 use crate::JudgedPages;
 use crate::changes::differential_after;

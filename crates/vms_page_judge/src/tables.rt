@@ -1,6 +1,5 @@
 ghost use Rattle.vms_core.specs.declared.states.State.{State};
-ghost use Rattle.vms_core.specs.Pages.{pages};
-ghost use Rattle.vms_core.specs.Quiet.{quiet_pages};
+ghost use Rattle.vms_core.specs.Common.{pages, quiet_pages};
 
 use crate::bases::is_base;
 use crate::conditions::meets;

@@ -1,6 +1,6 @@
 ghost use Rattle.std.specs.Prelude.{◌≡◌, ◌≤◌, ◌+◌, ◌^◌, reverse};
-ghost use Rattle.vms_history.specs.Passes.{owner_in};
-ghost use Rattle.vms_core.specs.Steps.{role};
+ghost use Rattle.vms_history.specs.Common.{owner_in};
+ghost use Rattle.vms_core.specs.Common.{role};
 ghost use Rattle.vms_core.specs.Totals as totals;
 
 use crate::JudgedPages;

@@ -1,11 +1,8 @@
 ghost use Rattle.std.specs.Prelude.{◌≡◌, ◌<◌, ◌≤◌, ◌+◌, ◌↔◌, ℕ, true, IsTrue, Some, reverse, unsigned_abs};
-ghost use Rattle.vms_base.specs.Places.{IsGroup, place_of, first_of};
-ghost use Rattle.vms_base.specs.Volumes.{most_volume};
-ghost use Rattle.vms_history.specs.Events.{own};
-ghost use Rattle.vms_core.specs.Bases.{IsBase};
+ghost use Rattle.vms_history.specs.Common.{IsGroup, place_of, first_of_group, most_volume, own};
+ghost use Rattle.vms_core.specs.Common.{IsBase, IsLegal, state_after};
 ghost use Rattle.vms_core.specs.Conditions as conditions;
 ghost use Rattle.vms_core.specs.Own as known;
-ghost use Rattle.vms_core.specs.Pages.{IsLegal, state_after};
 ghost use Rattle.vms_core.specs.Totals as totals;
 
 use crate::carried::{carried, carried_of_item};
@@ -155,7 +152,8 @@ fn has_loaded_number(past: &[Event], caller: u32, place: PlaceId, number: u32) -
 
 /// Whether each group of a zone was taken from a CPU since the last load of its threshold.
 fn took_each(layout: &Layout, past: &[Event], caller: u32, cpu: CpuId, zone: PlaceId) -> bool
-    ensures { IsTrue result ↔ ((j : ℕ) → IsGroup layout.now j → place_of layout.now (first_of j) ≡ zone.number →
+    ensures { IsTrue result ↔
+        ((j : ℕ) → IsGroup layout.now j → place_of layout.now (first_of_group j) ≡ zone.number →
         known.took cpu zone.number j (own (reverse past.now) caller) ≡ true) }
 {
     for number in 0..layout.groups() {

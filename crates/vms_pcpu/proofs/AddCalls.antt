@@ -1,29 +1,19 @@
 -- The steps of an addition and of a sync may be made one after another.
 use Rattle.std.proofs.Common.{◌≡◌, ℕ, ◌≤◌, ◌<◌, ◌+ℤ◌, ℤ, pos, unsigned_abs, List, [], ◌∷◌, ◌++◌, sym, subst, arith}
 use Rattle.std.proofs.lemmas.Int.{ints}
-use Rattle.vms_base.specs.declared.ids.CpuId.{CpuId}
-use Rattle.vms_base.specs.declared.ids.PcpuId.{PcpuId}
-use Rattle.vms_base.specs.Places.{IsCpu}
-use Rattle.vms_history.specs.Passes.{owner_in}
+use Rattle.vms_history.specs.Common.{CpuId, PcpuId, IsCpu, owner_in}
 use Rattle.vms_pcpu_core.specs.declared.steps.PcpuFacts.{PcpuFacts}
 use Rattle.vms_pcpu_core.specs.declared.steps.PcpuStep.{PcpuStep}
 use Rattle.vms_pcpu_core.specs.declared.steps.PcpuStep.TheVariants.{AddL, LoadL, TakeL, AddC, Unlock}
-use Rattle.vms_pcpu_core.specs.Calls.{Locks, IsAdd, IsSync}
-use Rattle.vms_pcpu_core.specs.Calls.IsAdd.{below, reached}
-use Rattle.vms_pcpu_core.specs.Calls.IsSync.{moved}
-use Rattle.vms_pcpu_core.specs.Conditions.{MayTake}
-use Rattle.vms_pcpu_core.specs.Histories.{percpu}
-use Rattle.vms_pcpu_core.specs.MayCall.{MayMake, MayCall, MayChange}
-use Rattle.vms_pcpu_core.specs.States.{IsPcpu, batch_at}
-use Rattle.vms_pcpu_core.specs.Steps.{role}
-use Rattle.vms_pcpu_core.proofs.CallsAllowed.{MakesAdd-holds, MakesSync-holds}
+use Rattle.vms_pcpu_core.specs.Common.{Locks, IsAdd, IsSync, below, reached, moved, MayTake, percpu, MayMake, MayCall}
+use Rattle.vms_pcpu_core.specs.Common.{MayChangePcpu, IsPcpu, batch_at, role}
+use Rattle.vms_pcpu_core.proofs.Common.{MakesAdd-holds, MakesSync-holds}
 use Rattle.vms_pcpu.proofs.CallSteps.{may-rest}
-use Rattle.vms_seats.specs.Passes.{Pass}
-use Rattle.vms_seats.specs.Steps.{Made, MadeOne}
-use Rattle.vms_seats.proofs.MadeCalls.{calls-both, calls-next}
+use Rattle.vms_seats.specs.Common.{Pass, Made, MadeOne}
+use Rattle.vms_seats.proofs.Common.{calls-both, calls-next}
 
 module _ (old : Pass PcpuFacts PcpuStep) (cpu : CpuId) (j : PcpuId) (amount : ℤ)
-    (may : MayChange old.facts old.seen old.number cpu j amount)
+    (may : MayChangePcpu old.facts old.seen old.number cpu j amount)
     (facts : PcpuFacts) (same : old.facts ≡ facts)
     (loaded : Pass PcpuFacts PcpuStep) (l : ℤ) (load : MadeOne percpu loaded old (LoadL j cpu l)) where
   abbrev batch : ℕ

@@ -1,29 +1,18 @@
 -- What the answers of calls mean follows from the steps that the calls made.
 use Rattle.std.proofs.Common.{◌≡◌, ◌≢◌, Bool, true, false, ℤ, pos, List, Some, MatchBool, refl, sym, ◌∙◌, subst}
-use Rattle.vms_base.specs.declared.ids.PcpuId.{PcpuId}
-use Rattle.vms_history.specs.Events.{own}
-use Rattle.vms_history.specs.Passes.{owner_in}
-use Rattle.vms_history.proofs.MadeSteps.{made-owner}
+use Rattle.vms_history.specs.Common.{PcpuId, own, owner_in}
+use Rattle.vms_history.proofs.Common.{made-owner}
 use Rattle.vms_pcpu_core.specs.declared.answers.Compare.{Compare}
 use Rattle.vms_pcpu_core.specs.declared.steps.PcpuFacts.{PcpuFacts}
 use Rattle.vms_pcpu_core.specs.declared.steps.PcpuStep.{PcpuStep}
-use Rattle.vms_pcpu_core.specs.Calls.{IsSum, IsCompare, IsLimitedAdd, present_cpus, unknown}
-use Rattle.vms_pcpu_core.specs.Histories.{percpu}
-use Rattle.vms_pcpu_core.specs.MadeBetween.{MadeSteps}
-use Rattle.vms_pcpu_core.specs.Own.{carried}
-use Rattle.vms_pcpu_core.specs.States.{batch_at}
-use Rattle.vms_pcpu_core.specs.Steps.{role}
-use Rattle.vms_pcpu_core.specs.Summing.{TellsRoughly, TellsBySum}
-use Rattle.vms_pcpu_core.proofs.Alone.{limited-exact}
-use Rattle.vms_pcpu_core.proofs.CallsWithin.{made-by_living}
-use Rattle.vms_pcpu_core.proofs.LimitedAdds.{limited-yes, limited-no}
-use Rattle.vms_pcpu_core.proofs.SumCalls.{sum-call, compare-rough, compare-by_sum}
-use Rattle.vms_pcpu.specs.Answers.{SumMeans, CompareMeans, LimitedAddMeans}
-use Rattle.vms_pcpu.specs.IdlePasses.{IsReady, MakesCall}
-use Rattle.vms_seats.specs.Passes.{Pass, Shared, IsOf}
-use Rattle.vms_seats.specs.Steps.{Made}
+use Rattle.vms_pcpu_core.specs.Common.{IsSum, IsCompare, IsLimitedAdd, present_cpus, unknown, percpu, MadeSteps}
+use Rattle.vms_pcpu_core.specs.Common.{carried, batch_at, role, TellsRoughly, TellsBySum}
+use Rattle.vms_pcpu_core.proofs.Common.{limited-exact, made-by_living, limited-yes, limited-no, sum-call, compare-rough}
+use Rattle.vms_pcpu_core.proofs.Common.{compare-by_sum}
+use Rattle.vms_pcpu.specs.Common.{SumMeans, CompareMeans, LimitedAddMeans, IsReady, MakesCall}
+use Rattle.vms_seats.specs.Common.{Pass, Shared, IsFrom, Made}
 
-module _ (new old : Pass PcpuFacts PcpuStep) (words : Shared PcpuFacts) (of : IsOf old words) (j : PcpuId) where
+module _ (new old : Pass PcpuFacts PcpuStep) (words : Shared PcpuFacts) (of : IsFrom old words) (j : PcpuId) where
   then-made : (steps : List PcpuStep) → Made percpu new old steps
       → MadeSteps old.facts old.seen new.seen old.number steps
   then-made steps made = made-by_living old.facts old.seen new.seen old.number steps made.made

@@ -1,14 +1,11 @@
 -- What a pass may still make of the steps of a call, once it has made some of them.
 use Rattle.std.proofs.Common.{ℕ, List, [], ◌∷◌, ◌++◌, refl, sym, ap, ◌∙◌, subst, append_assoc}
-use Rattle.vms_history.specs.PassSteps.{GoesOnWithout, HasMade}
-use Rattle.vms_history.proofs.MadeSteps.{made-both}
+use Rattle.vms_history.specs.Common.{GoesOnWithout, HasMade}
+use Rattle.vms_history.proofs.Common.{made-both}
 use Rattle.vms_pcpu_core.specs.declared.steps.PcpuFacts.{PcpuFacts}
 use Rattle.vms_pcpu_core.specs.declared.steps.PcpuStep.{PcpuStep}
-use Rattle.vms_pcpu_core.specs.Histories.{percpu, History, IsLegal}
-use Rattle.vms_pcpu_core.specs.MadeBetween.{event}
-use Rattle.vms_pcpu_core.specs.MayCall.{MayMake, Tells}
-use Rattle.vms_seats.specs.Passes.{Pass}
-use Rattle.vms_seats.specs.Steps.{Made}
+use Rattle.vms_pcpu_core.specs.Common.{percpu, History, IsLegal, event, MayMake, Tells}
+use Rattle.vms_seats.specs.Common.{Pass, Made}
 
 -- the first of the steps
 pub may-front : (facts : PcpuFacts) (p : ℕ) (h : History) (front back : List PcpuStep) → MayMake facts p h (front ++ back)

@@ -3,16 +3,14 @@ use Rattle.std.proofs.Common.{◌≡◌, ℕ, zero, suc, ◌+◌, ◌*◌, ◌/�
 use Rattle.std.proofs.Common.{unsigned_abs, ◌≤◌, sym, ap, ◌∙◌, subst, arith}
 use Rattle.std.proofs.lemmas.List.{ext_get_or}
 use Rattle.std.proofs.lemmas.Nat.{div-add-mod', div_below, mod_below}
-use Rattle.vms_base.specs.Numbers.{number_of}
-use Rattle.vms_base.specs.Places.{cell}
-use Rattle.vms_history.proofs.Prefixes.{base_can_begin}
+use Rattle.vms_history.specs.Common.{signed_of_word, cell}
+use Rattle.vms_history.proofs.Common.{base_can_begin}
 use Rattle.vms_pcpu_core.specs.declared.steps.PcpuFacts.{PcpuFacts}
-use Rattle.vms_pcpu_core.specs.Bases.{IsBase}
-use Rattle.vms_pcpu_core.specs.Histories.{percpu, History, IsLegal, state_after}
-use Rattle.vms_pcpu_core.specs.Laws.{KeepsLaws, most_number}
-use Rattle.vms_pcpu_core.specs.States.{LockedState, counters_of, count_at}
-use Rattle.vms_pcpu_core.proofs.AllLaws.{laws-kept}
-use Rattle.vms_pcpu.specs.SharedWords.{shown, word_count}
+use Rattle.vms_pcpu_core.specs.Common.{IsBase, percpu, History, IsLegal, state_after, KeepsLaws, most_number}
+use Rattle.vms_pcpu_core.specs.Common.{LockedState, counters_of, count_at}
+use Rattle.vms_pcpu_core.proofs.Common.{laws-kept}
+use Rattle.vms_pcpu.specs.SharedWords.{shown}
+use Rattle.vms_pcpu.specs.Common.{word_count}
 use Rattle.vms_pcpu.proofs.ShownNumbers.{length-shown, shown-count, shown-local_at}
 use Rattle.vms_pcpu.proofs.StepWords.{number-told}
 
@@ -45,14 +43,14 @@ module _ (facts : PcpuFacts) (h : History) (legal : IsLegal facts h) where
 
   pub counts-read : (count : List ℤ) → length count ≡ length facts.base.count
       → ((n : ℕ) → n < length facts.base.count
-      → get_or count n (pos 0) ≡ number_of (slice_index (shown facts s) (0 + n)))
+      → get_or count n (pos 0) ≡ signed_of_word (slice_index (shown facts s) (0 + n)))
       → count ≡ s.numbers.count
   counts-read count long each =
       ext_get_or (pos 0) count s.numbers.count (long ∙ base.lengths.one_count_each ∙ sym laws.shape.count)
       (λ n within. let inside : n < length facts.base.count = omega (arith, within, long) in
       let known : n < width = omega (arith, inside, base.lengths.one_count_each) in
-      each n inside ∙ ap (λ i. number_of (slice_index (shown facts s) i)) (omega arith)
-      ∙ ap number_of (shown-count facts s laws.shape n known)
+      each n inside ∙ ap (λ i. signed_of_word (slice_index (shown facts s) i)) (omega arith)
+      ∙ ap signed_of_word (shown-count facts s laws.shape n known)
       ∙ number-told (count_at s.numbers n) (laws.numbers n known).count)
 
   local-small : (k : ℕ) → k < facts.layout.cpus * width
@@ -68,13 +66,13 @@ module _ (facts : PcpuFacts) (h : History) (legal : IsLegal facts h) where
 
   pub locals-read : (local : List ℤ) → length local ≡ length facts.base.local
       → ((n : ℕ) → n < length facts.base.local
-      → get_or local n (pos 0) ≡ number_of (slice_index (shown facts s) (2 * width + n)))
+      → get_or local n (pos 0) ≡ signed_of_word (slice_index (shown facts s) (2 * width + n)))
       → local ≡ s.numbers.local
   locals-read local long each =
       ext_get_or (pos 0) local s.numbers.local (long ∙ base.lengths.one_local_each ∙ sym laws.shape.local)
       (λ n within. let inside : n < length facts.base.local = omega (arith, within, long) in
       let known : n < facts.layout.cpus * width = omega (arith, inside, base.lengths.one_local_each) in
-      each n inside ∙ ap number_of (shown-local_at facts s laws.shape n known)
+      each n inside ∙ ap signed_of_word (shown-local_at facts s laws.shape n known)
       ∙ number-told (get_or s.numbers.local n (pos 0)) (local-small n known))
 
   -- so these are all its numbers

@@ -1,33 +1,18 @@
 -- The local parts of a dead CPU are moved counter after counter.
-use Rattle.std.proofs.Common.{◌≡◌, ℕ, ◌+◌, List, [], ◌++◌, length, None, pos, ap, sym, ◌∙◌}
-use Rattle.std.proofs.Common.{subst, arith, ⊎_elim}
+use Rattle.std.proofs.Common.{◌≡◌, ℕ, ◌+◌, List, [], ◌++◌, length, None, pos, ap, sym, ◌∙◌, subst, arith, ⊎_elim}
 use Rattle.std.proofs.lemmas.Bool.{cases_lt}
 use Rattle.std.proofs.lemmas.List.{get_or_past}
-use Rattle.vms_base.specs.declared.ids.CpuId.{CpuId}
-use Rattle.vms_base.specs.declared.kinds.CpuState.TheVariants.{Dead, Absent}
-use Rattle.vms_base.specs.Places.{IsCpu}
-use Rattle.vms_history.specs.Passes.{owner_in}
-use Rattle.vms_history.proofs.Prefixes.{base_can_begin}
+use Rattle.vms_history.specs.Common.{CpuId, Dead, Absent, IsCpu, owner_in}
+use Rattle.vms_history.proofs.Common.{base_can_begin}
 use Rattle.vms_pcpu_core.specs.declared.steps.PcpuFacts.{PcpuFacts}
 use Rattle.vms_pcpu_core.specs.declared.steps.PcpuStep.{PcpuStep}
-use Rattle.vms_pcpu_core.specs.Calls.{IsSync, IsFoldDead}
-use Rattle.vms_pcpu_core.specs.Calls.IsFoldDead.{no_counter, one_counter}
-use Rattle.vms_pcpu_core.specs.Conditions.{MayTake}
-use Rattle.vms_pcpu_core.specs.Histories.{percpu}
-use Rattle.vms_pcpu_core.specs.Laws.{MovesOnce, numbers_after}
-use Rattle.vms_pcpu_core.specs.MayCall.{MayCall}
-use Rattle.vms_pcpu_core.specs.States.{IsPcpu, counters_of, cpu_at, local_at}
-use Rattle.vms_pcpu_core.specs.Steps.{role}
-use Rattle.vms_pcpu_core.proofs.CallsWithin.{made-by_living}
-use Rattle.vms_pcpu_core.proofs.DeadLocals.{dead-moves_once}
-use Rattle.vms_pcpu_core.proofs.FoldedCpus.{folded-none}
-use Rattle.vms_pcpu_core.proofs.OwnSteps.{fold_dead-adds}
-use Rattle.vms_pcpu.specs.Answers.{HasFolded}
-use Rattle.vms_pcpu.specs.IdlePasses.{IsReady}
+use Rattle.vms_pcpu_core.specs.Common.{IsSync, IsFoldDead, no_counter, one_counter, MayTake, percpu, MovesOnce}
+use Rattle.vms_pcpu_core.specs.Common.{numbers_after, MayCall, IsPcpu, counters_of, cpu_at, local_at, role}
+use Rattle.vms_pcpu_core.proofs.Common.{made-by_living, dead-moves_once, folded-none, fold_dead-adds}
+use Rattle.vms_pcpu.specs.Common.{HasFoldedDead, IsReady}
 use Rattle.vms_pcpu.proofs.ReadyPasses.{calls-after, owner-after, ready-after, ready-calls}
-use Rattle.vms_seats.specs.Passes.{Pass, Shared, IsOf}
-use Rattle.vms_seats.specs.Steps.{Made}
-use Rattle.vms_seats.proofs.MadeCalls.{calls-none, calls-both}
+use Rattle.vms_seats.specs.Common.{Pass, Shared, IsFrom, Made}
+use Rattle.vms_seats.proofs.Common.{calls-none, calls-both}
 
 -- a dead CPU is one of the layout
 pub dead-known : (facts : PcpuFacts) → length facts.cpus ≡ facts.layout.cpus → (c : ℕ) → cpu_at facts c ≡ Dead
@@ -77,9 +62,10 @@ module _ (dead : CpuId) (old : Pass PcpuFacts PcpuStep) (ready : IsReady old) (c
     )
 
 -- once a dead CPU was folded, each of its local parts has moved once, and none is left
-pub has-folded : (new old : Pass PcpuFacts PcpuStep) (words : Shared PcpuFacts) (dead : CpuId) (n : ℕ) → IsOf old words
+pub has-folded : (new old : Pass PcpuFacts PcpuStep) (words : Shared PcpuFacts) (dead : CpuId) (n : ℕ) →
+    IsFrom old words
     → cpu_at words.facts dead.number ≡ Dead → n ≡ counters_of words.facts.base → FoldsBelow dead new old n
-    → HasFolded new dead
+    → HasFoldedDead new dead
 has-folded new old words dead n of is_dead all folded =
     record {
       none_left =

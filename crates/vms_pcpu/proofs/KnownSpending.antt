@@ -1,22 +1,14 @@
 -- For other crates too: what a pass that owns a CPU knows of what the CPU has spent.
-use Rattle.std.proofs.Common.{◌≡◌, ◌≢◌, ℕ, Bool, true, false, nat_eq, List, [], ◌++◌, Option, Some, None, ℤ}
-use Rattle.std.proofs.Common.{refl, ap, sym, ◌∙◌, subst, arith, eqb-true}
-use Rattle.vms_base.specs.declared.ids.CpuId.{CpuId}
-use Rattle.vms_history.specs.Events.{own}
-use Rattle.vms_history.specs.Passes.{owner_in, IsFree}
-use Rattle.vms_history.proofs.FreeOwners.{holds_while_free}
-use Rattle.vms_history.proofs.Own.{own-on_top}
+use Rattle.std.proofs.Common.{◌≡◌, ◌≢◌, ℕ, Bool, true, false, nat_eq, List, [], ◌++◌, Option, Some, None, ℤ, refl, ap}
+use Rattle.std.proofs.Common.{sym, ◌∙◌, subst, arith, eqb-true}
+use Rattle.vms_history.specs.Common.{CpuId, own, owner_in, IsFree}
+use Rattle.vms_history.proofs.Common.{holds_while_free, own-on_top}
 use Rattle.vms_pcpu_core.specs.declared.steps.PcpuFacts.{PcpuFacts}
 use Rattle.vms_pcpu_core.specs.declared.steps.PcpuStep.{PcpuStep}
 use Rattle.vms_pcpu_core.specs.declared.steps.PcpuStep.TheVariants.{Split}
-use Rattle.vms_pcpu_core.specs.Histories.{percpu, History, IsLegal}
-use Rattle.vms_pcpu_core.specs.Own.{carried}
-use Rattle.vms_pcpu_core.specs.OwnSteps.{IsIdle}
-use Rattle.vms_pcpu_core.specs.Steps.{role}
-use Rattle.vms_pcpu_core.specs.Totals.{is_owned, spent, spent_by}
-use Rattle.vms_pcpu.specs.IdlePasses.{HoldsSpending, IsReady, IsCpuPass}
-use Rattle.vms_seats.specs.MainSteps.{HasBegun, next_number}
-use Rattle.vms_seats.specs.Passes.{Pass}
+use Rattle.vms_pcpu_core.specs.Common.{percpu, History, IsLegal, carried, IsIdle, role, is_owned, spent, spent_by}
+use Rattle.vms_pcpu.specs.Common.{HoldsSpending, IsReady, IsCpuPass}
+use Rattle.vms_seats.specs.Common.{HasBegun, next_number, Pass}
 
 -- a pass that owns another CPU, or none, spends nothing of this one
 spent-elsewhere : (who : Option CpuId) (cpu : CpuId) → who ≢ Some cpu → (j : ℕ) (carrying : ℤ) (step : PcpuStep)

@@ -14,3 +14,4 @@ pub mod SumSteps
 pub mod FoldedCounters
 pub mod LimitCalls
 pub mod AnswersMean
+pub mod Common

@@ -1,26 +1,19 @@
 -- The steps of a limited addition may be made one after another.
-use Rattle.std.proofs.Common.{◌≡◌, ◌≢◌, ℕ, ◌≤◌, ◌<◌, ◌^◌, ◌+ℤ◌, ◌≤ℤ◌, ◌<ℤ◌, ℤ, pos, negsuc, unsigned_abs, Bool}
-use Rattle.std.proofs.Common.{true, List, [], ◌∷◌, ◌++◌, w64, to_z, of_z, refl, sym, ap, subst, ◌∙◌, append_assoc}
-use Rattle.std.proofs.Common.{arith}
-use Rattle.vms_base.specs.declared.ids.CpuId.{CpuId}
-use Rattle.vms_base.specs.declared.ids.PcpuId.{PcpuId}
-use Rattle.vms_base.specs.Volumes.{most_volume}
-use Rattle.vms_history.proofs.MadeSteps.{made-none}
+use Rattle.std.proofs.Common.{◌≡◌, ◌≢◌, ℕ, ◌≤◌, ◌<◌, ◌^◌, ◌+ℤ◌, ◌≤ℤ◌, ◌<ℤ◌, ℤ, pos, negsuc, unsigned_abs, Bool, true}
+use Rattle.std.proofs.Common.{List, [], ◌∷◌, ◌++◌, w64, to_z, of_z, refl, sym, ap, subst, ◌∙◌, append_assoc, arith}
+use Rattle.vms_history.specs.Common.{CpuId, PcpuId, most_volume}
+use Rattle.vms_history.proofs.Common.{made-none}
 use Rattle.vms_pcpu_core.specs.declared.steps.PcpuFacts.{PcpuFacts}
 use Rattle.vms_pcpu_core.specs.declared.steps.PcpuStep.{PcpuStep}
 use Rattle.vms_pcpu_core.specs.declared.steps.PcpuStep.TheVariants.{AddL, LoadL, LoadC}
-use Rattle.vms_pcpu_core.specs.Calls.{Locks, Probes, Judges, Settles, IsLimitedAdd, present_cpus, room, unknown}
-use Rattle.vms_pcpu_core.specs.Calls.Probes.{large, narrow}
-use Rattle.vms_pcpu_core.specs.Calls.IsLimitedAdd.{nothing, unlocked, locked}
-use Rattle.vms_pcpu_core.specs.Histories.{percpu}
-use Rattle.vms_pcpu_core.specs.MayCall.{MayMake, MayChange}
-use Rattle.vms_pcpu_core.specs.States.{batch_at}
-use Rattle.vms_pcpu_core.proofs.CallsAllowed.{MakesLimitedAdd-holds}
+use Rattle.vms_pcpu_core.specs.Common.{Locks, Probes, Judges, EndsLimitedAdd, IsLimitedAdd, present_cpus, room, unknown}
+use Rattle.vms_pcpu_core.specs.Common.{large, narrow, nothing, unlocked, locked, percpu, MayMake, MayChangePcpu}
+use Rattle.vms_pcpu_core.specs.Common.{batch_at}
+use Rattle.vms_pcpu_core.proofs.Common.{MakesLimitedAdd-holds}
 use Rattle.vms_pcpu.proofs.CallSteps.{may-rest}
 use Rattle.vms_pcpu.proofs.SmallNumbers.{same_word}
-use Rattle.vms_seats.specs.Passes.{Pass}
-use Rattle.vms_seats.specs.Steps.{Made, MadeOne}
-use Rattle.vms_seats.proofs.MadeCalls.{calls-both, calls-next}
+use Rattle.vms_seats.specs.Common.{Pass, Made, MadeOne}
+use Rattle.vms_seats.proofs.Common.{calls-both, calls-next}
 
 -- the room of numbers that were passed on
 pub room-words : (limit amount x value : ℤ) → unsigned_abs limit ≤ 2 ^ 60 → unsigned_abs amount ≤ most_volume
@@ -56,7 +49,8 @@ judges-as hidden limit other_limit cpus j amount other_amount value other_value 
     (subst (λ (l : ℤ). Judges hidden l cpus j amount value steps answer) first is))
 
 module _ (old : Pass PcpuFacts PcpuStep) (cpu : CpuId) (j : PcpuId) (limit amount : ℤ)
-    (may : MayChange old.facts old.seen old.number cpu j amount) (facts : PcpuFacts) (same : old.facts ≡ facts) where
+    (may : MayChangePcpu old.facts old.seen old.number cpu j amount) (facts : PcpuFacts)
+    (same : old.facts ≡ facts) where
   abbrev batch : ℕ
   batch = batch_at facts.base j.number
 
@@ -128,7 +122,7 @@ module _ (old : Pass PcpuFacts PcpuStep) (cpu : CpuId) (j : PcpuId) (limit amoun
 
       module _ (answer : Bool) (ending : List PcpuStep)
           (judges : Judges hidden limit (present_cpus facts) j amount (v +ℤ amount) loads answer)
-          (settles : Settles cpu j amount answer ending) where
+          (settles : EndsLimitedAdd cpu j amount answer ending) where
         whole : Is ((probing ++ locking) ++ LoadC j v ∷ (loads ++ ending)) answer
         whole = locked v answer probing locking loads ending some probes locks judges settles
 

@@ -4,21 +4,13 @@ use Rattle.std.proofs.Common.{get_or, ℤ, pos, ◌+ℤ◌, unsigned_abs, refl, 
 use Rattle.std.proofs.Common.{append-nil}
 use Rattle.std.proofs.lemmas.Int.{ints}
 use Rattle.std.proofs.lemmas.List.{drop_more, drop_all}
-use Rattle.vms_base.specs.declared.ids.CpuId.{CpuId}
-use Rattle.vms_base.specs.declared.ids.PcpuId.{PcpuId}
-use Rattle.vms_base.specs.declared.kinds.CpuState.{CpuState}
-use Rattle.vms_base.specs.declared.kinds.CpuState.TheVariants.{Online, Dead, Absent}
-use Rattle.vms_base.specs.Cpus.{is_present, present_from}
+use Rattle.vms_history.specs.Common.{CpuId, PcpuId, CpuState, Online, Dead, Absent, is_present, present_from}
 use Rattle.vms_pcpu_core.specs.declared.steps.PcpuFacts.{PcpuFacts}
 use Rattle.vms_pcpu_core.specs.declared.steps.PcpuStep.{PcpuStep}
 use Rattle.vms_pcpu_core.specs.declared.steps.PcpuStep.TheVariants.{LoadL}
-use Rattle.vms_pcpu_core.specs.Bases.{most_batch}
-use Rattle.vms_pcpu_core.specs.Calls.{LoadsEach, present_cpus}
-use Rattle.vms_pcpu_core.specs.Calls.LoadsEach.{no_cpu, one_cpu}
-use Rattle.vms_pcpu_core.specs.Histories.{percpu}
-use Rattle.vms_seats.specs.Passes.{Pass, IsLive}
-use Rattle.vms_seats.specs.Steps.{Made, MadeOne}
-use Rattle.vms_seats.proofs.MadeCalls.{calls-none, calls-next}
+use Rattle.vms_pcpu_core.specs.Common.{most_batch, LoadsEach, present_cpus, no_cpu, one_cpu, percpu}
+use Rattle.vms_seats.specs.Common.{Pass, IsLive, Made, MadeOne}
+use Rattle.vms_seats.proofs.Common.{calls-none, calls-next}
 
 module _ (j : PcpuId) (c : CpuId) (d : ℤ) where
   loads-more : (cpus : List CpuId) (steps : List PcpuStep) (sum : ℤ) → LoadsEach j cpus steps sum

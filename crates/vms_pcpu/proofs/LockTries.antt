@@ -1,15 +1,12 @@
 -- The lock of a counter is missed any number of times before it is won.
 use Rattle.std.proofs.Common.{List, [], ◌∷◌, ◌++◌, sym, subst, append_assoc}
-use Rattle.vms_base.specs.declared.ids.PcpuId.{PcpuId}
+use Rattle.vms_history.specs.Common.{PcpuId}
 use Rattle.vms_pcpu_core.specs.declared.steps.PcpuFacts.{PcpuFacts}
 use Rattle.vms_pcpu_core.specs.declared.steps.PcpuStep.{PcpuStep}
 use Rattle.vms_pcpu_core.specs.declared.steps.PcpuStep.TheVariants.{Won, Missed}
-use Rattle.vms_pcpu_core.specs.Calls.{Locks}
-use Rattle.vms_pcpu_core.specs.Calls.Locks.{won, missed}
-use Rattle.vms_pcpu_core.specs.Histories.{percpu}
-use Rattle.vms_seats.specs.Passes.{Pass, IsLive}
-use Rattle.vms_seats.specs.Steps.{Made, MadeOne}
-use Rattle.vms_seats.proofs.MadeCalls.{calls-none, calls-next}
+use Rattle.vms_pcpu_core.specs.Common.{Locks, won, missed, percpu}
+use Rattle.vms_seats.specs.Common.{Pass, IsLive, Made, MadeOne}
+use Rattle.vms_seats.proofs.Common.{calls-none, calls-next}
 
 -- the tries so far, each of which found the lock held
 pub record Tried (j : PcpuId) (now old : Pass PcpuFacts PcpuStep) : Type 0 where

@@ -1,16 +1,13 @@
 -- A local part is taken and put into the shared part together with an amount, and the lock is given back.
 use Rattle.std.proofs.Common.{◌≡◌, ◌+ℤ◌, ℤ, [], ◌∷◌, sym, subst}
-use Rattle.vms_base.specs.declared.ids.CpuId.{CpuId}
-use Rattle.vms_base.specs.declared.ids.PcpuId.{PcpuId}
+use Rattle.vms_history.specs.Common.{CpuId, PcpuId}
 use Rattle.vms_pcpu_core.specs.declared.steps.PcpuFacts.{PcpuFacts}
 use Rattle.vms_pcpu_core.specs.declared.steps.PcpuStep.{PcpuStep}
 use Rattle.vms_pcpu_core.specs.declared.steps.PcpuStep.TheVariants.{TakeL, AddC, Unlock}
-use Rattle.vms_pcpu_core.specs.Histories.{percpu}
-use Rattle.vms_pcpu_core.specs.MayCall.{MayMake}
+use Rattle.vms_pcpu_core.specs.Common.{percpu, MayMake}
 use Rattle.vms_pcpu.proofs.CallSteps.{may-front, may-rest}
-use Rattle.vms_seats.specs.Passes.{Pass}
-use Rattle.vms_seats.specs.Steps.{Made, MadeOne}
-use Rattle.vms_seats.proofs.MadeCalls.{calls-next}
+use Rattle.vms_seats.specs.Common.{Pass, Made, MadeOne}
+use Rattle.vms_seats.proofs.Common.{calls-next}
 
 module _ (j : PcpuId) (cpu : CpuId) (amount : ℤ) (old : Pass PcpuFacts PcpuStep)
     (may : (v : ℤ) → MayMake old.facts old.number old.seen (TakeL j cpu v ∷ AddC j (v +ℤ amount) ∷ Unlock j ∷ []))

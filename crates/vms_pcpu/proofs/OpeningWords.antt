@@ -1,13 +1,14 @@
 -- The words that show the numbers of a base under free locks.
-use Rattle.std.proofs.Common.{◌≡◌, ℕ, zero, suc, ◌-◌, ◌*◌, false, List, [], ◌∷◌, ◌++◌, length, map, take}
-use Rattle.std.proofs.Common.{replicate, refl, sym, ap, ◌∙◌, arith, append_assoc}
+use Rattle.std.proofs.Common.{◌≡◌, ℕ, zero, suc, ◌-◌, ◌*◌, false, List, [], ◌∷◌, ◌++◌, length, map, take, replicate}
+use Rattle.std.proofs.Common.{refl, sym, ap, ◌∙◌, arith, append_assoc}
 use Rattle.std.proofs.lemmas.List.{length-map, take_all}
-use Rattle.vms_base.specs.Numbers.{word_of}
+use Rattle.vms_history.specs.Common.{word_of}
 use Rattle.vms_pcpu_core.specs.declared.steps.PcpuFacts.{PcpuFacts}
-use Rattle.vms_pcpu_core.specs.Bases.{IsBase}
-use Rattle.vms_pcpu_core.specs.States.{counters_of, unlocked}
-use Rattle.vms_pcpu_core.proofs.Shapes.{HasShape-state_after}
-use Rattle.vms_pcpu.specs.SharedWords.{shown, lock_word, word_count}
+use Rattle.vms_pcpu_core.specs.Common.{IsBase, counters_of}
+use Rattle.vms_pcpu_core.specs.States.{unlocked}
+use Rattle.vms_pcpu_core.proofs.Common.{HasShape-state_after}
+use Rattle.vms_pcpu.specs.SharedWords.{shown}
+use Rattle.vms_pcpu.specs.Common.{lock_word, word_count}
 use Rattle.vms_pcpu.proofs.ShownNumbers.{length-shown}
 
 free-words : (n : ℕ) → map lock_word (replicate n false) ≡ replicate n 0

@@ -1,34 +1,20 @@
 -- A pass is ready again after each call, and its volumes hold what its CPU has spent.
-use Rattle.std.proofs.Common.{◌≡◌, ℕ, ◌+◌, ◌≤◌, Bool, true, false, nat_eq, List, length, slice_index, slice_set}
-use Rattle.std.proofs.Common.{Option, Some, ℤ, pos, unsigned_abs, if◌then◌else◌, refl, ap, sym, ◌∙◌, subst, arith}
-use Rattle.std.proofs.Common.{length-set, eqb-true}
-use Rattle.vms_history.proofs.Cells.{get_or-set}
-use Rattle.vms_base.specs.declared.ids.CpuId.{CpuId}
-use Rattle.vms_base.specs.declared.ids.PcpuId.{PcpuId}
-use Rattle.vms_base.specs.Places.{IsCpu}
-use Rattle.vms_base.specs.Volumes.{most_volume}
-use Rattle.vms_history.specs.Events.{own}
-use Rattle.vms_history.specs.Passes.{lives_in, owner_in}
-use Rattle.vms_history.proofs.MadeSteps.{made-owner}
+use Rattle.std.proofs.Common.{◌≡◌, ℕ, ◌+◌, ◌≤◌, Bool, true, false, nat_eq, List, length, slice_index, slice_set, Option}
+use Rattle.std.proofs.Common.{Some, ℤ, pos, unsigned_abs, if◌then◌else◌, refl, ap, sym, ◌∙◌, subst, arith, length-set}
+use Rattle.std.proofs.Common.{eqb-true}
+use Rattle.vms_history.proofs.Common.{get_or-set, made-owner}
+use Rattle.vms_history.specs.Common.{CpuId, PcpuId, IsCpu, most_volume, own, lives_in, owner_in}
 use Rattle.vms_pcpu_core.specs.declared.steps.PcpuFacts.{PcpuFacts}
 use Rattle.vms_pcpu_core.specs.declared.steps.PcpuStep.{PcpuStep}
-use Rattle.vms_pcpu_core.specs.Histories.{percpu, IsLegal}
-use Rattle.vms_pcpu_core.specs.MayCall.{MayCall, MayChange}
-use Rattle.vms_pcpu_core.specs.OwnSteps.{IsIdle, AddsAmount}
-use Rattle.vms_pcpu_core.specs.States.{IsPcpu}
-use Rattle.vms_pcpu_core.specs.Steps.{role}
-use Rattle.vms_pcpu_core.proofs.CallsWithin.{made-by_living}
-use Rattle.vms_pcpu_core.proofs.OwnSteps.{LeavesIdle-holds}
-use Rattle.vms_pcpu_core.proofs.StepConditions.{spends-amount}
-use Rattle.vms_pcpu_core.proofs.Totals.{owned}
-use Rattle.vms_pcpu.specs.IdlePasses.{HoldsSpending, IsReady, IsCpuPass}
-use Rattle.vms_seats.specs.Passes.{Pass, Shared, IsOf}
-use Rattle.vms_seats.specs.Steps.{Made}
-use Rattle.vms_seats.proofs.MadeCalls.{calls-live}
+use Rattle.vms_pcpu_core.specs.Common.{percpu, IsLegal, MayCall, MayChangePcpu, IsIdle, AddsAmount, IsPcpu, role}
+use Rattle.vms_pcpu_core.proofs.Common.{made-by_living, LeavesIdle-holds, spends-amount, owned}
+use Rattle.vms_pcpu.specs.Common.{HoldsSpending, IsReady, IsCpuPass}
+use Rattle.vms_seats.specs.Common.{Pass, Shared, IsFrom, Made}
+use Rattle.vms_seats.proofs.Common.{calls-live}
 
 -- a pass after some steps is of the same words
 pub of-after : (new old : Pass PcpuFacts PcpuStep) (steps : List PcpuStep) (words : Shared PcpuFacts)
-    → Made percpu new old steps → IsOf old words → IsOf new words
+    → Made percpu new old steps → IsFrom old words → IsFrom new words
 of-after new old steps words made of = record { table = made.table ∙ of.table; facts = made.facts ∙ of.facts }
 
 -- a ready pass may make calls
@@ -115,7 +101,7 @@ owns-amount new old j amount size steps made adds most j_in cpu volume mine =
 pub owner-changes : (pass : Pass PcpuFacts PcpuStep) (cpu : CpuId) (volume : List ℕ) → IsCpuPass pass cpu volume
     → (j : PcpuId) (amount : ℤ) → IsPcpu pass.facts j.number
     → slice_index volume j.number + unsigned_abs amount ≤ most_volume
-    → MayChange pass.facts pass.seen pass.number cpu j amount
+    → MayChangePcpu pass.facts pass.seen pass.number cpu j amount
 owner-changes pass cpu volume mine j amount j_in room = record {
   calls = ready-calls pass mine.ready;
   owner = mine.ready.live.owner ∙ mine.owns;

@@ -1,16 +1,15 @@
 -- Which words show which numbers of a state, and that one number alone changes one word.
-use Rattle.std.proofs.Common.{◌≡◌, ℕ, ◌+◌, ◌-◌, ◌*◌, ◌<◌, Bool, false, List, [], ◌∷◌, ◌++◌, length, map}
-use Rattle.std.proofs.Common.{get_or, set, slice_index, slice_set, ℤ, pos, sym, ap, ◌∙◌, arith}
-use Rattle.std.proofs.Common.{length-append}
+use Rattle.std.proofs.Common.{◌≡◌, ℕ, ◌+◌, ◌-◌, ◌*◌, ◌<◌, Bool, false, List, [], ◌∷◌, ◌++◌, length, map, get_or, set}
+use Rattle.std.proofs.Common.{slice_index, slice_set, ℤ, pos, sym, ap, ◌∙◌, arith, length-append}
 use Rattle.std.proofs.Math.ListN.{get_or-append, get_or-map}
 use Rattle.std.proofs.lemmas.List.{set-append_left, set-append_right, get_or-append_right, map-set, length-map}
-use Rattle.vms_base.specs.Numbers.{word_of}
-use Rattle.vms_base.specs.Places.{IsCpu, cell}
-use Rattle.vms_base.proofs.Cells.{cell-lt}
+use Rattle.vms_history.specs.Common.{word_of, IsCpu, cell}
+use Rattle.vms_base.proofs.Common.{cell-lt}
 use Rattle.vms_pcpu_core.specs.declared.steps.PcpuFacts.{PcpuFacts}
-use Rattle.vms_pcpu_core.specs.States.{LockedState, HasShape, counters_of, count_at, local_at, held_at, IsPcpu}
-use Rattle.vms_pcpu_core.specs.States.{with_count, with_local, with_held}
-use Rattle.vms_pcpu.specs.SharedWords.{shown, lock_word, lock_place, local_place, word_count}
+use Rattle.vms_pcpu_core.specs.Common.{LockedState, HasShape, counters_of, count_at, local_at, held_at, IsPcpu}
+use Rattle.vms_pcpu_core.specs.Common.{with_count, with_local, with_held}
+use Rattle.vms_pcpu.specs.SharedWords.{shown}
+use Rattle.vms_pcpu.specs.Common.{lock_word, lock_place, local_place, word_count}
 
 module _ (facts : PcpuFacts) (s : LockedState) (shaped : HasShape facts s) where
   abbrev n : ℕ

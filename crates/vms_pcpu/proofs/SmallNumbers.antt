@@ -1,21 +1,15 @@
 -- The numbers that single steps tell are small, and small numbers stay as they are when they are passed on.
-use Rattle.std.proofs.Common.{◌≡◌, ℕ, ◌≤◌, ◌<◌, ◌^◌, ◌∷◌, ℤ, ◌+ℤ◌, ◌-ℤ◌, unsigned_abs}
-use Rattle.std.proofs.Common.{FitsSigned, w64, to_z, of_z, ap, sym, ◌∙◌, subst, arith}
+use Rattle.std.proofs.Common.{◌≡◌, ℕ, ◌≤◌, ◌<◌, ◌^◌, ◌∷◌, ℤ, ◌+ℤ◌, ◌-ℤ◌, unsigned_abs, FitsSigned, w64, to_z, of_z, ap}
+use Rattle.std.proofs.Common.{sym, ◌∙◌, subst, arith}
 use Rattle.std.proofs.lemmas.Int.{ints, to_z-of_z}
-use Rattle.vms_base.specs.declared.ids.CpuId.{CpuId}
-use Rattle.vms_base.specs.declared.ids.PcpuId.{PcpuId}
-use Rattle.vms_history.proofs.Prefixes.{base_can_begin}
+use Rattle.vms_history.specs.Common.{CpuId, PcpuId}
+use Rattle.vms_history.proofs.Common.{base_can_begin}
 use Rattle.vms_pcpu_core.specs.declared.steps.PcpuFacts.{PcpuFacts}
 use Rattle.vms_pcpu_core.specs.declared.steps.PcpuStep.{PcpuStep}
 use Rattle.vms_pcpu_core.specs.declared.steps.PcpuStep.TheVariants.{LoadL, LoadC, TakeL}
-use Rattle.vms_pcpu_core.specs.Bases.{most_batch}
-use Rattle.vms_pcpu_core.specs.Histories.{percpu, History, IsLegal}
-use Rattle.vms_pcpu_core.specs.Laws.{most_number}
-use Rattle.vms_pcpu_core.specs.MadeBetween.{event}
-use Rattle.vms_pcpu_core.proofs.Bounds.{locals-bounded}
-use Rattle.vms_pcpu_core.proofs.Sizes.{number_of-small}
-use Rattle.vms_seats.specs.Passes.{Pass}
-use Rattle.vms_seats.specs.Steps.{MadeOne}
+use Rattle.vms_pcpu_core.specs.Common.{most_batch, percpu, History, IsLegal, most_number, event}
+use Rattle.vms_pcpu_core.proofs.Common.{locals-bounded, step_number-small}
+use Rattle.vms_seats.specs.Common.{Pass, MadeOne}
 
 pub same_word : (x : ℤ) → unsigned_abs x < 2 ^ 63 → to_z w64 (of_z w64 x) ≡ x
 same_word x small = let fits : FitsSigned w64 x = omega (arith, ints) in to_z-of_z w64 x fits
@@ -48,7 +42,7 @@ module _ (new old : Pass PcpuFacts PcpuStep) (step : PcpuStep) (one : MadeOne pe
 module _ (new old : Pass PcpuFacts PcpuStep) (j : PcpuId) (v : ℤ) where
   pub count-small : MadeOne percpu new old (LoadC j v) → unsigned_abs v ≤ most_number
   count-small one =
-      number_of-small old.facts (event old.number (LoadC j v)) one.at.before (legal-then new old (LoadC j v) one)
+      step_number-small old.facts (event old.number (LoadC j v)) one.at.before (legal-then new old (LoadC j v) one)
 
   pub load-small : (c : CpuId) → MadeOne percpu new old (LoadL j c v) → unsigned_abs v ≤ most_batch
   load-small c one =

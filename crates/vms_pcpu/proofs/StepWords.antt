@@ -1,45 +1,33 @@
 -- Each step that a pass may make changes one word as its effect says.
-use Rattle.std.proofs.Common.{◌≡◌, ℕ, ◌+◌, ◌%◌, ◌≤◌, ◌^◌, ◌==◌, Bool, true, false, [], ◌∷◌, Some}
-use Rattle.std.proofs.Common.{if◌then◌else◌, ℤ, pos, negsuc, ◌+ℤ◌, unsigned_abs, set, refl, sym, ap, ◌∙◌, subst, arith}
+use Rattle.std.proofs.Common.{◌≡◌, ℕ, ◌+◌, ◌%◌, ◌≤◌, ◌^◌, ◌==◌, Bool, true, false, [], ◌∷◌, Some, if◌then◌else◌, ℤ, pos}
+use Rattle.std.proofs.Common.{negsuc, ◌+ℤ◌, unsigned_abs, set, refl, sym, ap, ◌∙◌, subst, arith}
 use Rattle.std.proofs.lemmas.Int.{ints, to_z-of_z}
 use Rattle.std.proofs.lemmas.List.{set-get_or}
 use Rattle.std.specs.Int.{w64}
 use mir.Val.{SFits}
-use Rattle.vms_base.specs.declared.ids.CpuId.{CpuId}
-use Rattle.vms_base.specs.declared.ids.PcpuId.{PcpuId}
-use Rattle.vms_base.specs.Numbers.{word_of, number_of}
-use Rattle.vms_base.specs.Places.{IsCpu}
-use Rattle.vms_history.specs.Legal.{Acts}
-use Rattle.vms_history.specs.PassSteps.{GoesOnWithout}
-use Rattle.vms_history.specs.Passes.{owner_in}
-use Rattle.vms_history.specs.Passes.Role.{Works}
-use Rattle.vms_history.proofs.MadeSteps.{made-owner}
-use Rattle.vms_history.proofs.PassLaws.{live_is_given}
+use Rattle.vms_history.specs.Common.{CpuId, PcpuId, word_of, signed_of_word, IsCpu, Acts, GoesOnWithout, owner_in}
+use Rattle.vms_history.specs.Common.{Works}
+use Rattle.vms_history.proofs.Common.{made-owner, live_is_given}
 use Rattle.vms_pcpu_core.specs.declared.steps.PcpuFacts.{PcpuFacts}
 use Rattle.vms_pcpu_core.specs.declared.steps.PcpuStep.{PcpuStep}
-use Rattle.vms_pcpu_core.specs.declared.steps.PcpuStep.TheVariants.{AddL, LoadL, LoadC, Won}
-use Rattle.vms_pcpu_core.specs.declared.steps.PcpuStep.TheVariants.{Missed, TakeL, AddC, Unlock}
-use Rattle.vms_pcpu_core.specs.Histories.{percpu, History, IsLegal, state_after}
-use Rattle.vms_pcpu_core.specs.Laws.{KeepsLaws, most_number}
-use Rattle.vms_pcpu_core.specs.MadeBetween.{event}
-use Rattle.vms_pcpu_core.specs.MayCall.{MayMake}
-use Rattle.vms_pcpu_core.specs.States.{LockedState, IsPcpu, counters_of, count_at, local_at, held_at}
-use Rattle.vms_pcpu_core.specs.Steps.{role, effect}
-use Rattle.vms_pcpu_core.proofs.AllLaws.{laws-kept}
-use Rattle.vms_pcpu_core.proofs.Sizes.{number_of-small}
-use Rattle.vms_pcpu.specs.SharedWords.{shown, told, lock_word, lock_place, local_place}
+use Rattle.vms_pcpu_core.specs.declared.steps.PcpuStep.TheVariants.{AddL, LoadL, LoadC, Won, Missed, TakeL, AddC}
+use Rattle.vms_pcpu_core.specs.declared.steps.PcpuStep.TheVariants.{Unlock}
+use Rattle.vms_pcpu_core.specs.Common.{percpu, History, IsLegal, state_after, KeepsLaws, most_number, event, MayMake}
+use Rattle.vms_pcpu_core.specs.Common.{LockedState, IsPcpu, counters_of, count_at, local_at, held_at, role, effect}
+use Rattle.vms_pcpu_core.proofs.Common.{laws-kept, step_number-small}
+use Rattle.vms_pcpu.specs.SharedWords.{shown}
+use Rattle.vms_pcpu.specs.Common.{told, lock_word, lock_place, local_place}
 use Rattle.vms_pcpu.proofs.CallSteps.{may-now}
-use Rattle.vms_pcpu.proofs.ShownNumbers.{shown-count, shown-lock, shown-local}
-use Rattle.vms_pcpu.proofs.ShownNumbers.{shown-with_count, shown-with_held, shown-with_local}
-use Rattle.vms_seats.specs.Passes.{Pass}
-use Rattle.vms_seats.specs.Steps.{MayStep, NextStep}
+use Rattle.vms_pcpu.proofs.ShownNumbers.{shown-count, shown-lock, shown-local, shown-with_count, shown-with_held}
+use Rattle.vms_pcpu.proofs.ShownNumbers.{shown-with_local}
+use Rattle.vms_seats.specs.Common.{Pass, MayStep, NextStep}
 
 pub fits-64 : (z : ℤ) → unsigned_abs z ≤ most_number → SFits w64 z
 fits-64 (pos n) small = record { sfits = omega (arith, ints) }
 fits-64 (negsuc n) small = record { sfits = omega (arith, ints) }
 
 -- a small number is told by its word
-pub number-told : (z : ℤ) → unsigned_abs z ≤ most_number → number_of (word_of z) ≡ z
+pub number-told : (z : ℤ) → unsigned_abs z ≤ most_number → signed_of_word (word_of z) ≡ z
 number-told z small = to_z-of_z w64 z (fits-64 z small)
 
 -- the word of a sum is the sum of the words
@@ -91,11 +79,11 @@ module _ (pass : Pass PcpuFacts PcpuStep) where
         record {
           legal = (
             goes.legal,
-            acts h goes (LoadC j (number_of found)) refl,
+            acts h goes (LoadC j (signed_of_word found)) refl,
             record {
               counter = j_in;
               value = sym (number-told (count_at s.numbers j.number) (kept.numbers j.number j_in).count)
-                  ∙ ap number_of (sym is);
+                  ∙ ap signed_of_word (sym is);
             },
           );
           shows = sym (ap (set (shown facts s) j.number) (sym stands) ∙ set-get_or (shown facts s) j.number 0);
@@ -112,13 +100,13 @@ module _ (pass : Pass PcpuFacts PcpuStep) where
         record {
           legal = (
             goes.legal,
-            acts h goes (LoadL j c (number_of found)) refl,
+            acts h goes (LoadL j c (signed_of_word found)) refl,
             record {
               counter = j_in;
               cpu = c_in;
               value = sym (number-told (local_at s.numbers c.number j.number)
                   ((kept.numbers j.number j_in).local c.number c_in))
-                  ∙ ap number_of (sym is);
+                  ∙ ap signed_of_word (sym is);
             },
           );
           shows = sym (ap (set (shown facts s) place) (sym stands) ∙ set-get_or (shown facts s) place 0);
@@ -168,11 +156,12 @@ module _ (pass : Pass PcpuFacts PcpuStep) where
         let kept : KeepsLaws facts h = laws h goes in
         let is : found ≡ word_of (local_at s.numbers c.number j.number) =
         sym stands ∙ shown-local facts s kept.shape c.number j.number c_in j_in in
-        let tells : local_at s.numbers c.number j.number ≡ number_of found =
+        let tells : local_at s.numbers c.number j.number ≡ signed_of_word found =
         sym (number-told (local_at s.numbers c.number j.number) ((kept.numbers j.number j_in).local c.number c_in))
-        ∙ ap number_of (sym is) in
+        ∙ ap signed_of_word (sym is) in
         record {
-          legal = may-now facts p pass.seen h (TakeL j c (number_of found)) (may (number_of found)) goes tells;
+          legal = may-now facts p pass.seen h (TakeL j c (signed_of_word found))
+              (may (signed_of_word found)) goes tells;
           shows = shown-with_local facts s kept.shape c.number j.number c_in j_in (pos 0);
         }
 
@@ -190,7 +179,7 @@ module _ (pass : Pass PcpuFacts PcpuStep) where
           shows = shown-with_count facts s kept.shape j.number j_in (count_at s.numbers j.number +ℤ amount)
               ∙ ap (set (shown facts s) j.number)
               (sym (word-sum (count_at s.numbers j.number) amount (kept.numbers j.number j_in).count
-              (number_of-small facts (event p (AddC j amount)) h legal))
+              (step_number-small facts (event p (AddC j amount)) h legal))
               ∙ ap (λ n. (n + word_of amount) % 2 ^ 64) (sym is));
         }
 
@@ -213,6 +202,6 @@ module _ (pass : Pass PcpuFacts PcpuStep) where
               ∙ ap (set (shown facts s) (local_place width c.number j.number))
               (sym (word-sum (local_at s.numbers c.number j.number) amount
               ((kept.numbers j.number j_in).local c.number c_in)
-              (number_of-small facts (event p (AddL j amount)) h legal))
+              (step_number-small facts (event p (AddL j amount)) h legal))
               ∙ ap (λ n. (n + word_of amount) % 2 ^ 64) (sym is));
         }

@@ -1,23 +1,17 @@
 -- The steps of a sum and of a comparison may be made one after another.
 use Rattle.std.proofs.Common.{◌≡◌, ◌≤◌, ◌<◌, ◌+ℤ◌, ◌-ℤ◌, ℤ, pos, negsuc, zero, suc, unsigned_abs, List, [], ◌∷◌, ◌++◌}
 use Rattle.std.proofs.Common.{true, false, refl, sym, ap, subst, ◌∙◌, append_assoc, w8, to_z, of_z}
-use Rattle.vms_base.specs.declared.ids.PcpuId.{PcpuId}
+use Rattle.vms_history.specs.Common.{PcpuId}
 use Rattle.vms_pcpu_core.specs.declared.steps.PcpuFacts.{PcpuFacts}
 use Rattle.vms_pcpu_core.specs.declared.steps.PcpuStep.{PcpuStep}
 use Rattle.vms_pcpu_core.specs.declared.steps.PcpuStep.TheVariants.{LoadC, Unlock}
-use Rattle.vms_pcpu_core.specs.Calls.{Locks, LoadsEach, IsSum, IsCompare, present_cpus, sign_of, unknown}
-use Rattle.vms_pcpu_core.specs.Calls.IsSum.{summed}
-use Rattle.vms_pcpu_core.specs.Calls.IsCompare.{far, near}
-use Rattle.vms_pcpu_core.specs.Histories.{percpu}
-use Rattle.vms_pcpu_core.specs.MayCall.{MayMake, MayCall}
-use Rattle.vms_pcpu_core.specs.States.{IsPcpu}
-use Rattle.vms_pcpu_core.proofs.CallsAllowed.{MakesSum-holds}
-use Rattle.vms_pcpu_core.proofs.OwnSteps.{read-adds}
+use Rattle.vms_pcpu_core.specs.Common.{Locks, LoadsEach, IsSum, IsCompare, present_cpus, sign_of, unknown, summed, far}
+use Rattle.vms_pcpu_core.specs.Common.{near, percpu, MayMake, MayCall, IsPcpu}
+use Rattle.vms_pcpu_core.proofs.Common.{MakesSum-holds, read-adds}
 use Rattle.vms_pcpu.proofs.CallSteps.{may-rest}
 use Rattle.vms_pcpu.proofs.ReadyPasses.{calls-after}
-use Rattle.vms_seats.specs.Passes.{Pass}
-use Rattle.vms_seats.specs.Steps.{Made, MadeOne}
-use Rattle.vms_seats.proofs.MadeCalls.{calls-both, calls-next}
+use Rattle.vms_seats.specs.Common.{Pass, Made, MadeOne}
+use Rattle.vms_seats.proofs.Common.{calls-both, calls-next}
 
 -- under the lock the shared part and the local parts are loaded, and then the lock is given back
 module _ (old : Pass PcpuFacts PcpuStep) (j : PcpuId) (may : MayCall old.facts old.seen old.number)

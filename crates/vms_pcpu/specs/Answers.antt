@@ -1,16 +1,13 @@
 -- What the answers of a pass's calls mean, whatever others do meanwhile. Each speaks of what the pass had seen before the
 -- call, and of what it has seen after it.
 use Rattle.std.specs.Prelude.{◌≡◌, ℕ, Bool, true, false, ℤ, pos, MatchBool}
-use Rattle.vms_base.specs.declared.ids.CpuId.{CpuId}
-use Rattle.vms_base.specs.declared.ids.PcpuId.{PcpuId}
+use Rattle.vms_history.specs.Common.{CpuId, PcpuId}
 use Rattle.vms_pcpu_core.specs.declared.answers.Compare.{Compare}
 use Rattle.vms_pcpu_core.specs.declared.steps.PcpuFacts.{PcpuFacts}
 use Rattle.vms_pcpu_core.specs.declared.steps.PcpuStep.{PcpuStep}
-use Rattle.vms_pcpu_core.specs.Laws.{MovesOnce, numbers_after}
-use Rattle.vms_pcpu_core.specs.Limits.{KeepsLimit, PassesLimit, IsAlone, IsExact}
-use Rattle.vms_pcpu_core.specs.States.{IsPcpu, local_at}
-use Rattle.vms_pcpu_core.specs.Summing.{SumsUp, TellsRoughly, TellsBySum}
-use Rattle.vms_seats.specs.Passes.{Pass}
+use Rattle.vms_pcpu_core.specs.Common.{MovesOnce, numbers_after, KeepsLimit, PassesLimit, IsAlone, IsExact, IsPcpu}
+use Rattle.vms_pcpu_core.specs.Common.{local_at, SumsUp, TellsRoughly, TellsBySum}
+use Rattle.vms_seats.specs.Common.{Pass}
 
 -- a sum is the true total when the call won the lock, and what each CPU added to its local part from there to the
 -- call's load of that part
@@ -38,6 +35,6 @@ pub record LimitedAddMeans (new old : Pass PcpuFacts PcpuStep) (j : PcpuId) (lim
       IsExact old.facts old.seen new.seen j.number limit amount answer
 
 -- the local parts of a dead CPU have moved, each of them once, and none stands any more
-pub record HasFolded (pass : Pass PcpuFacts PcpuStep) (dead : CpuId) : Type 0 where
+pub record HasFoldedDead (pass : Pass PcpuFacts PcpuStep) (dead : CpuId) : Type 0 where
   pub none_left : (j : ℕ) → IsPcpu pass.facts j → local_at (numbers_after pass.facts pass.seen) dead.number j ≡ pos 0
   pub moved_once : (j : ℕ) → IsPcpu pass.facts j → MovesOnce pass.facts pass.seen dead.number j

@@ -1,15 +1,10 @@
 -- What contracts see of passes between two calls, and which steps a call has made.
 use Rattle.std.specs.Prelude.{◌≡◌, ℕ, ◌≤◌, List, length, slice_index, Some}
-use Rattle.vms_base.specs.declared.ids.CpuId.{CpuId}
-use Rattle.vms_history.specs.Events.{own}
+use Rattle.vms_history.specs.Common.{CpuId, own}
 use Rattle.vms_pcpu_core.specs.declared.steps.PcpuFacts.{PcpuFacts}
 use Rattle.vms_pcpu_core.specs.declared.steps.PcpuStep.{PcpuStep}
-use Rattle.vms_pcpu_core.specs.Histories.{percpu, History}
-use Rattle.vms_pcpu_core.specs.OwnSteps.{IsIdle}
-use Rattle.vms_pcpu_core.specs.States.{IsPcpu, counters_of}
-use Rattle.vms_pcpu_core.specs.Totals.{spent}
-use Rattle.vms_seats.specs.Passes.{Pass, IsLive}
-use Rattle.vms_seats.specs.Steps.{Made}
+use Rattle.vms_pcpu_core.specs.Common.{percpu, History, IsIdle, IsPcpu, counters_of, spent}
+use Rattle.vms_seats.specs.Common.{Pass, IsLive, Made}
 
 -- a pass that owns a CPU, and what its CPU has changed each counter by since the run began, in absolute sum
 pub record CpuPass : Type 0 where

@@ -1,3 +1,5 @@
 pub mod SharedWords
 pub mod IdlePasses
 pub mod Answers
+pub mod CallVolumes
+pub mod Common

@@ -1,18 +1,12 @@
 -- How shared words show the percpu counters.
 use Rattle.std.specs.Prelude.{◌≡◌, ℕ, ◌+◌, ◌*◌, ◌<◌, ◌^◌, nat_eq, Bool, true, false, List, [], ◌∷◌, ◌++◌, map}
 use Rattle.std.specs.Prelude.{if◌then◌else◌, Option, refl}
-use Rattle.vms_base.specs.declared.ids.CpuId.{CpuId}
-use Rattle.vms_base.specs.Numbers.{word_of, number_of}
-use Rattle.vms_base.specs.Places.{cell}
-use Rattle.vms_history.specs.Passes.Role.{Begins, Ends}
+use Rattle.vms_history.specs.Common.{CpuId, word_of, signed_of_word, cell, Begins, Ends}
 use Rattle.vms_pcpu_core.specs.declared.steps.PcpuFacts.{PcpuFacts}
 use Rattle.vms_pcpu_core.specs.declared.steps.PcpuStep.{PcpuStep}
 use Rattle.vms_pcpu_core.specs.declared.steps.PcpuStep.TheVariants.{LoadL, LoadC, Won, Missed, TakeL, Split, Join}
-use Rattle.vms_pcpu_core.specs.Bases.{IsBase}
-use Rattle.vms_pcpu_core.specs.States.{LockedState, counters_of}
-use Rattle.vms_pcpu_core.specs.Steps.{role}
-use Rattle.vms_pcpu_core.specs.Totals.{present}
-use Rattle.vms_seats.specs.Passes.{Shared}
+use Rattle.vms_pcpu_core.specs.Common.{IsBase, LockedState, counters_of, role, present}
+use Rattle.vms_seats.specs.Common.{Shared}
 
 -- a lock is 0 where it is free, and 1 where it is held
 abbrev pub lock_word : Bool → ℕ
@@ -38,9 +32,9 @@ word_count facts = 2 * counters_of facts.base + facts.layout.cpus * counters_of 
 
 -- a load and a take tell the number found, and who meant to win a lock misses it where it is held
 abbrev pub told : PcpuStep → ℕ → PcpuStep
-told (LoadL j c v) found = LoadL j c (number_of found)
-told (LoadC j v) found = LoadC j (number_of found)
-told (TakeL j c v) found = TakeL j c (number_of found)
+told (LoadL j c v) found = LoadL j c (signed_of_word found)
+told (LoadC j v) found = LoadC j (signed_of_word found)
+told (TakeL j c v) found = TakeL j c (signed_of_word found)
 told (Won j) found = if nat_eq found 0 then Won j else Missed j
 told step found = step
 
@@ -59,7 +53,7 @@ no_facts = record {
 }
 
 -- the words were made for these facts, in which so many CPUs are online or dead
-pub record AreFor (facts : PcpuFacts) (present_cpus : ℕ) (words : Shared PcpuFacts) : Type 0 where
+pub record AreMadeFor (facts : PcpuFacts) (present_cpus : ℕ) (words : Shared PcpuFacts) : Type 0 where
   pub base : IsBase facts
   pub same : words.facts ≡ facts
   pub count : words.table.words ≡ word_count facts

@@ -1,18 +1,11 @@
-ghost use Rattle.std.specs.Prelude.{◌≡◌, ◌+◌, ◌<◌, ◌≤◌, ◌↔◌, List, Some, IsErr, IfErr, IfOk, OnOk, OnErr, pos, unsigned_abs};
-ghost use Rattle.std.specs.Prelude.{slice_index, slice_set};
-ghost use Rattle.vms_base.specs.Places.{IsCpu};
-ghost use Rattle.vms_base.specs.Volumes.{most_volume};
+ghost use Rattle.std.specs.Prelude.{◌≡◌, ◌+◌, ◌<◌, ◌≤◌, ◌↔◌, List, Some, IsErr, IfErr, IfOk, OnOk, OnErr, pos};
+ghost use Rattle.std.specs.Prelude.{unsigned_abs, slice_index, slice_set};
+ghost use Rattle.vms_history.specs.Common.{IsCpu, most_volume, owner_in};
 ghost use Rattle.vms_pcpu_core.specs.declared.steps.PcpuStep.{PcpuStep};
-ghost use Rattle.vms_pcpu_core.specs.Calls.{IsAdd, IsSync};
-ghost use Rattle.vms_pcpu_core.specs.Histories.{percpu};
-ghost use Rattle.vms_history.specs.Passes.{owner_in};
-ghost use Rattle.vms_pcpu_core.specs.Conditions.{MayTake};
-ghost use Rattle.vms_pcpu_core.specs.MayCall.{MayChange, MayCall};
-ghost use Rattle.vms_pcpu_core.specs.Steps.{role};
-ghost use Rattle.vms_pcpu_core.specs.States.{IsPcpu, batch_at};
+ghost use Rattle.vms_pcpu_core.specs.Common.{IsAdd, IsSync, percpu, MayTake, MayChangePcpu, MayCall, role, IsPcpu};
+ghost use Rattle.vms_pcpu_core.specs.Common.{batch_at};
 ghost use Rattle.vms_pcpu.specs.IdlePasses.{MakesCall};
-ghost use Rattle.vms_seats.specs.Passes.{IsOf};
-ghost use Rattle.vms_seats.specs.Steps.{Made};
+ghost use Rattle.vms_seats.specs.Common.{IsFrom, Made};
 
 use crate::ledgers::SharedPcpu;
 use crate::passes::PcpuPass;
@@ -34,7 +27,7 @@ impl PcpuTable {
         counter: PcpuId,
         amount: i64,
     ) -> Result<(), Overflow>
-        requires table { IsOf pass.old.pass self.now }
+        requires table { IsFrom pass.old.pass self.now }
         requires counter { IsPcpu self.now.facts counter.number }
         ensures made { OnOk result (MakesCall pass.new.pass pass.old.pass
             (λ own steps. IsAdd (batch_at self.now.facts.base counter.number) own counter amount steps)) }
@@ -60,8 +53,9 @@ impl PcpuTable {
         counter: PcpuId,
         amount: i64,
     )
-        requires table { IsOf worker.old self.now }
-        requires may { MayChange worker.old.facts worker.old.seen worker.old.number own counter amount }
+        requires table { IsFrom worker.old self.now }
+        requires may { MayChangePcpu worker.old.facts worker.old.seen worker.old.number own
+            counter amount }
         ensures { (steps : List PcpuStep)
             × IsAdd (batch_at self.now.facts.base counter.number) own counter amount steps
             × Made percpu worker.new worker.old steps }
@@ -78,7 +72,7 @@ impl PcpuTable {
     /// Moves the local part of the pass's CPU to the shared part (`percpu_counter_sync` of lib/percpu_counter.c), under
     /// the counter's lock, for which it waits.
     pub fn sync<R: Wait>(&self, rt: &R, pass: &mut PcpuPass, counter: PcpuId)
-        requires table { IsOf pass.old.pass self.now }
+        requires table { IsFrom pass.old.pass self.now }
         requires counter { IsPcpu self.now.facts counter.number }
         ensures made { MakesCall pass.new.pass pass.old.pass (λ own steps. IsSync own counter steps) }
         ensures volume { pass.new.volume ≡ pass.old.volume }
@@ -94,7 +88,7 @@ impl PcpuTable {
         cpu: CpuId,
         counter: PcpuId,
     )
-        requires table { IsOf worker.old self.now }
+        requires table { IsFrom worker.old self.now }
         requires counter { IsPcpu self.now.facts counter.number }
         requires cpu { IsCpu self.now.facts.layout cpu.number }
         requires calls { MayCall worker.old.facts worker.old.seen worker.old.number }

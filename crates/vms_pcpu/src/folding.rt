@@ -1,12 +1,9 @@
 ghost use Rattle.std.specs.Prelude.{◌≡◌, ◌<◌, ◌^◌, List};
-ghost use Rattle.vms_base.specs.declared.kinds.CpuState.TheVariants.{Dead};
+ghost use Rattle.vms_history.specs.Common.{Dead};
 ghost use Rattle.vms_pcpu_core.specs.declared.steps.PcpuStep.{PcpuStep};
-ghost use Rattle.vms_pcpu_core.specs.Calls.{IsFoldDead};
-ghost use Rattle.vms_pcpu_core.specs.Histories.{percpu};
-ghost use Rattle.vms_pcpu_core.specs.States.{counters_of, cpu_at};
-ghost use Rattle.vms_pcpu.specs.Answers.{HasFolded};
-ghost use Rattle.vms_seats.specs.Passes.{IsOf};
-ghost use Rattle.vms_seats.specs.Steps.{Made};
+ghost use Rattle.vms_pcpu_core.specs.Common.{IsFoldDead, percpu, counters_of, cpu_at};
+ghost use Rattle.vms_pcpu.specs.Answers.{HasFoldedDead};
+ghost use Rattle.vms_seats.specs.Common.{IsFrom, Made};
 
 use crate::passes::PcpuControl;
 use crate::tables::PcpuTable;
@@ -18,12 +15,12 @@ impl PcpuTable {
     /// lib/percpu_counter.c), each under its counter's lock, for which it waits. When it returns, each local part has
     /// moved once, whoever else folded the CPU, and none is left.
     pub fn fold_dead<R: Wait>(&self, rt: &R, pass: &mut PcpuControl, dead: CpuId)
-        requires table { IsOf pass.old self.now }
+        requires table { IsFrom pass.old self.now }
         requires dead { cpu_at self.now.facts dead.number ≡ Dead }
         requires few { counters_of self.now.facts.base < 2 ^ 32 }
         ensures made { (steps : List PcpuStep) × IsFoldDead dead (counters_of self.now.facts.base) steps
             × Made percpu pass.new pass.old steps }
-        ensures folded { HasFolded pass.new dead }
+        ensures folded { HasFoldedDead pass.new dead }
     {
         for number in 0..self.facts.base.batch.len() as u32 {
             self.sync_by(rt, &mut pass.worker, dead, PcpuId { number });

@@ -1,9 +1,8 @@
-ghost use Rattle.vms_history.specs.Events.{Extends};
+ghost use Rattle.vms_history.specs.Common.{Extends};
 ghost use Rattle.vms_pcpu_core.specs.declared.steps.PcpuFacts.{PcpuFacts};
 ghost use Rattle.vms_pcpu_core.specs.declared.steps.PcpuStep.{PcpuStep};
-ghost use Rattle.vms_pcpu_core.specs.Histories.{History, IsLegal};
-ghost use Rattle.vms_pcpu_core.specs.Laws.{KeepsLaws};
-ghost use Rattle.vms_seats.specs.Passes.{Pass};
+ghost use Rattle.vms_pcpu_core.specs.Common.{History, IsLegal, KeepsLaws};
+ghost use Rattle.vms_seats.specs.Common.{Pass};
 
 use crate::passes::{PcpuControl, PcpuPass};
 use crate::tables::PcpuMain;

@@ -1,7 +1,5 @@
 ghost use Rattle.vms_pcpu_core.specs.declared.steps.PcpuStep.TheVariants.{Split, Join};
-ghost use Rattle.vms_pcpu_core.specs.Histories.{percpu};
-ghost use Rattle.vms_pcpu_core.specs.Quiet.{quiet_percpu};
-ghost use Rattle.vms_pcpu_core.specs.States.{LockedState};
+ghost use Rattle.vms_pcpu_core.specs.Common.{percpu, quiet_percpu, LockedState};
 ghost use Rattle.vms_pcpu.specs.SharedWords.{shown, told, begins_it, ends_it, no_facts};
 
 use vms_pcpu_core::{PcpuFacts, PcpuStep};

@@ -3,6 +3,7 @@
 #![tactic(auto)]
 
 mod adding;
+mod calls;
 mod folding;
 mod laws;
 mod ledgers;

@@ -1,16 +1,12 @@
 ghost use Rattle.std.specs.Prelude.{◌≡◌, ◌≢◌, ◌+◌, ◌<◌, ◌≤◌, ◌^◌, ◌↔◌, List, IsErr, IfErr, IfOk, OnOk, MatchBool};
 ghost use Rattle.std.specs.Prelude.{OnErr, pos, unsigned_abs, slice_index, slice_set, true};
-ghost use Rattle.vms_base.specs.Volumes.{most_volume};
+ghost use Rattle.vms_history.specs.Common.{most_volume};
 ghost use Rattle.vms_pcpu_core.specs.declared.steps.PcpuStep.{PcpuStep};
-ghost use Rattle.vms_pcpu_core.specs.Calls.{IsLimitedAdd, Probes, Judges, present_cpus};
-ghost use Rattle.vms_pcpu_core.specs.Calls.{unknown as unknown_in, room as room_of};
-ghost use Rattle.vms_pcpu_core.specs.Histories.{percpu};
-ghost use Rattle.vms_pcpu_core.specs.MayCall.{MayChange};
-ghost use Rattle.vms_pcpu_core.specs.States.{IsPcpu, batch_at};
+ghost use Rattle.vms_pcpu_core.specs.Common.{IsLimitedAdd, Probes, Judges, present_cpus, unknown as unknown_in};
+ghost use Rattle.vms_pcpu_core.specs.Common.{room as room_of, percpu, MayChangePcpu, IsPcpu, batch_at};
 ghost use Rattle.vms_pcpu.specs.Answers.{LimitedAddMeans};
 ghost use Rattle.vms_pcpu.specs.IdlePasses.{MakesCall};
-ghost use Rattle.vms_seats.specs.Passes.{IsOf};
-ghost use Rattle.vms_seats.specs.Steps.{Made};
+ghost use Rattle.vms_seats.specs.Common.{IsFrom, Made};
 
 use crate::ledgers::SharedPcpu;
 use crate::passes::PcpuPass;
@@ -37,7 +33,7 @@ impl PcpuTable {
         limit: i64,
         amount: i64,
     ) -> Result<bool, Overflow>
-        requires table { IsOf pass.old.pass self.now }
+        requires table { IsFrom pass.old.pass self.now }
         requires counter { IsPcpu self.now.facts counter.number }
         requires limit { unsigned_abs limit ≤ 2 ^ 60 }
         ensures made { IfOk result (λ answer. MakesCall pass.new.pass pass.old.pass (λ own steps.
@@ -68,9 +64,10 @@ impl PcpuTable {
         limit: i64,
         amount: i64,
     ) -> bool
-        requires table { IsOf worker.old self.now }
+        requires table { IsFrom worker.old self.now }
         requires limit { unsigned_abs limit ≤ 2 ^ 60 }
-        requires may { MayChange worker.old.facts worker.old.seen worker.old.number own counter amount }
+        requires may { MayChangePcpu worker.old.facts worker.old.seen worker.old.number own
+            counter amount }
         ensures { (steps : List PcpuStep)
             × IsLimitedAdd (batch_at self.now.facts.base counter.number) (unknown_in self.now.facts counter.number)
             (present_cpus self.now.facts) own counter limit amount steps result
@@ -103,10 +100,11 @@ impl PcpuTable {
         limit: i64,
         amount: i64,
     ) -> bool
-        requires table { IsOf worker.old self.now }
+        requires table { IsFrom worker.old self.now }
         requires limit { unsigned_abs limit ≤ 2 ^ 60 }
         requires some { amount ≢ pos 0 }
-        requires may { MayChange worker.old.facts worker.old.seen worker.old.number own counter amount }
+        requires may { MayChangePcpu worker.old.facts worker.old.seen worker.old.number own
+            counter amount }
         ensures { MatchBool result
             ((steps : List PcpuStep)
             × IsLimitedAdd (batch_at self.now.facts.base counter.number) (unknown_in self.now.facts counter.number)
@@ -139,7 +137,7 @@ impl PcpuTable {
         amount: i64,
         value: i64,
     ) -> bool
-        requires table { IsOf worker.old self.now }
+        requires table { IsFrom worker.old self.now }
         requires counter { IsPcpu self.now.facts counter.number }
         requires limit { unsigned_abs limit ≤ 2 ^ 60 }
         requires amount { unsigned_abs amount ≤ most_volume }

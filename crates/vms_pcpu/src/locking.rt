@@ -1,14 +1,9 @@
 ghost use Rattle.std.specs.Prelude.{◌≡◌, ℤ, ◌≤◌, ◌+ℤ◌, List, [], ◌∷◌, unsigned_abs};
-ghost use Rattle.vms_base.specs.Places.{IsCpu};
-ghost use Rattle.vms_base.specs.Volumes.{most_volume};
+ghost use Rattle.vms_history.specs.Common.{IsCpu, most_volume};
 ghost use Rattle.vms_pcpu_core.specs.declared.steps.PcpuStep.{PcpuStep};
 ghost use Rattle.vms_pcpu_core.specs.declared.steps.PcpuStep.TheVariants.{TakeL, AddC, Unlock};
-ghost use Rattle.vms_pcpu_core.specs.Calls.{Locks};
-ghost use Rattle.vms_pcpu_core.specs.Histories.{percpu};
-ghost use Rattle.vms_pcpu_core.specs.MayCall.{MayMake};
-ghost use Rattle.vms_pcpu_core.specs.States.{IsPcpu};
-ghost use Rattle.vms_seats.specs.Passes.{IsOf};
-ghost use Rattle.vms_seats.specs.Steps.{Made};
+ghost use Rattle.vms_pcpu_core.specs.Common.{Locks, percpu, MayMake, IsPcpu};
+ghost use Rattle.vms_seats.specs.Common.{IsFrom, Made};
 
 use crate::ledgers::SharedPcpu;
 use crate::tables::PcpuTable;
@@ -20,7 +15,7 @@ use vms_seats::Worker;
 impl PcpuTable {
     /// Takes the lock of a counter. While others hold it, the call waits and tries again; each try is a step.
     pub(crate) fn lock<R: Wait>(&self, rt: &R, worker: &mut Worker<SharedPcpu>, counter: PcpuId)
-        requires table { IsOf worker.old self.now }
+        requires table { IsFrom worker.old self.now }
         requires counter { IsPcpu self.now.facts counter.number }
         ensures { (steps : List PcpuStep) × Locks counter steps × Made percpu worker.new worker.old steps }
     {
@@ -43,7 +38,7 @@ impl PcpuTable {
         counter: PcpuId,
         amount: i64,
     )
-        requires table { IsOf worker.old self.now }
+        requires table { IsFrom worker.old self.now }
         requires counter { IsPcpu self.now.facts counter.number }
         requires cpu { IsCpu self.now.facts.layout cpu.number }
         requires amount { unsigned_abs amount ≤ most_volume }

@@ -1,11 +1,9 @@
 ghost use Rattle.std.specs.Prelude.{◌≡◌, Some, None};
-ghost use Rattle.vms_history.specs.Passes.{IsFree};
+ghost use Rattle.vms_history.specs.Common.{IsFree};
 ghost use Rattle.vms_pcpu_core.specs.declared.steps.PcpuStep.TheVariants.{Split, Join};
-ghost use Rattle.vms_pcpu_core.specs.Histories.{percpu, MayOwn};
-ghost use Rattle.vms_pcpu_core.specs.Steps.{role};
+ghost use Rattle.vms_pcpu_core.specs.Common.{percpu, MayOwn, role};
 ghost use Rattle.vms_pcpu.specs.IdlePasses.{HoldsSpending, IsReady};
-ghost use Rattle.vms_seats.specs.MainSteps.{HasBegun, HasEnded};
-ghost use Rattle.vms_seats.specs.Passes.{IsOf};
+ghost use Rattle.vms_seats.specs.Common.{HasBegun, HasEnded, IsFrom};
 
 use crate::ledgers::SharedPcpu;
 use crate::tables::{PcpuMain, PcpuTable};
@@ -43,7 +41,7 @@ impl Model for PcpuControl {
     ghost use Rattle.vms_pcpu_core.specs.declared.steps.PcpuFacts.{PcpuFacts};
     ghost use Rattle.vms_pcpu_core.specs.declared.steps.PcpuStep.{PcpuStep};
     ghost use Rattle.vms_pcpu.specs.IdlePasses.{IsReady};
-    ghost use Rattle.vms_seats.specs.Passes.{Pass};
+    ghost use Rattle.vms_seats.specs.Common.{Pass};
 
     ghost Value = { Pass PcpuFacts PcpuStep };
 
@@ -55,7 +53,7 @@ impl Model for PcpuControl {
 impl PcpuTable {
     /// Begins a pass that owns a CPU, with the volumes that the CPU has by then.
     pub fn cpu_pass(&self, main: &mut PcpuMain, cpu: CpuId, volume: Volume) -> PcpuPass
-        requires table { IsOf main.old self.now }
+        requires table { IsFrom main.old self.now }
         requires online { MayOwn main.old.facts (Some cpu) }
         requires free { IsFree role main.old.seen (Some cpu) }
         requires volume { HoldsSpending main.old.facts main.old.seen cpu.number volume }
@@ -72,7 +70,7 @@ impl PcpuTable {
 
     /// Begins the control pass.
     pub fn control_pass(&self, main: &mut PcpuMain) -> PcpuControl
-        requires table { IsOf main.old self.now }
+        requires table { IsFrom main.old self.now }
         requires free { IsFree role main.old.seen None }
         ensures begun { HasBegun percpu Split main.new main.old result None }
     {
@@ -82,7 +80,7 @@ impl PcpuTable {
 
     /// Ends a pass that owns a CPU, and gives the CPU's volumes back.
     pub fn join_cpu(&self, main: &mut PcpuMain, pass: PcpuPass) -> Volume
-        requires table { IsOf main.old self.now × IsOf pass.pass self.now }
+        requires table { IsFrom main.old self.now × IsFrom pass.pass self.now }
         ensures ended { HasEnded percpu Join main.new main.old pass.pass }
         ensures volume { result ≡ pass.volume }
     {
@@ -97,7 +95,7 @@ impl PcpuTable {
 
     /// Ends the control pass.
     pub fn join_control(&self, main: &mut PcpuMain, pass: PcpuControl)
-        requires table { IsOf main.old self.now × IsOf pass self.now }
+        requires table { IsFrom main.old self.now × IsFrom pass self.now }
         ensures ended { HasEnded percpu Join main.new main.old pass }
     {
         let PcpuControl { worker } = pass;

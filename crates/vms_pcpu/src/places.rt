@@ -1,6 +1,6 @@
 ghost use Rattle.std.specs.Prelude.{◌≡◌, ◌<◌};
-ghost use Rattle.vms_base.specs.Places.{IsCpu};
-ghost use Rattle.vms_pcpu_core.specs.States.{IsPcpu, counters_of};
+ghost use Rattle.vms_history.specs.Common.{IsCpu};
+ghost use Rattle.vms_pcpu_core.specs.Common.{IsPcpu, counters_of};
 ghost use Rattle.vms_pcpu.specs.SharedWords as words;
 
 use crate::tables::PcpuTable;

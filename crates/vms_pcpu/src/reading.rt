@@ -1,16 +1,11 @@
 ghost use Rattle.std.specs.Prelude.{◌≡◌, ◌+◌, ◌*◌, ◌≤◌, ◌^◌, List, unsigned_abs};
 ghost use Rattle.vms_pcpu_core.specs.declared.steps.PcpuStep.{PcpuStep};
-ghost use Rattle.vms_pcpu_core.specs.Bases.{most_batch};
-ghost use Rattle.vms_pcpu_core.specs.Calls.{IsRead, IsSum, IsCompare, LoadsEach, present_cpus};
-ghost use Rattle.vms_pcpu_core.specs.Calls.{sign_of as sign_in, unknown as unknown_in};
-ghost use Rattle.vms_pcpu_core.specs.Histories.{percpu};
-ghost use Rattle.vms_pcpu_core.specs.Laws.{most_number};
-ghost use Rattle.vms_pcpu_core.specs.MayCall.{MayCall};
-ghost use Rattle.vms_pcpu_core.specs.States.{IsPcpu};
+ghost use Rattle.vms_pcpu_core.specs.Common.{most_batch, IsRead, IsSum, IsCompare, LoadsEach, present_cpus};
+ghost use Rattle.vms_pcpu_core.specs.Common.{sign_of as sign_in, unknown as unknown_in, percpu, most_number, MayCall};
+ghost use Rattle.vms_pcpu_core.specs.Common.{IsPcpu};
 ghost use Rattle.vms_pcpu.specs.Answers.{SumMeans, CompareMeans};
 ghost use Rattle.vms_pcpu.specs.IdlePasses.{MakesCall};
-ghost use Rattle.vms_seats.specs.Passes.{IsOf};
-ghost use Rattle.vms_seats.specs.Steps.{Made};
+ghost use Rattle.vms_seats.specs.Common.{IsFrom, Made};
 
 use crate::ledgers::SharedPcpu;
 use crate::passes::PcpuPass;
@@ -24,7 +19,7 @@ impl PcpuTable {
     /// The shared part of a counter, without what the CPUs hold (`percpu_counter_read` of
     /// include/linux/percpu_counter.h).
     pub fn read(&self, pass: &mut PcpuPass, counter: PcpuId) -> i64
-        requires table { IsOf pass.old.pass self.now }
+        requires table { IsFrom pass.old.pass self.now }
         requires counter { IsPcpu self.now.facts counter.number }
         ensures made { MakesCall pass.new.pass pass.old.pass (λ own steps. IsRead counter steps result) }
         ensures volume { pass.new.volume ≡ pass.old.volume }
@@ -36,7 +31,7 @@ impl PcpuTable {
     /// lib/percpu_counter.c), under the counter's lock, for which it waits. The answer is the true total when the lock
     /// was won, and what each CPU added to its local part from there until the call loaded that part.
     pub fn sum<R: Wait>(&self, rt: &R, pass: &mut PcpuPass, counter: PcpuId) -> i64
-        requires table { IsOf pass.old.pass self.now }
+        requires table { IsFrom pass.old.pass self.now }
         requires counter { IsPcpu self.now.facts counter.number }
         ensures made { MakesCall pass.new.pass pass.old.pass
             (λ own steps. IsSum (present_cpus self.now.facts) counter steps result) }
@@ -57,7 +52,7 @@ impl PcpuTable {
         counter: PcpuId,
         rhs: i64,
     ) -> Compare
-        requires table { IsOf pass.old.pass self.now }
+        requires table { IsFrom pass.old.pass self.now }
         requires counter { IsPcpu self.now.facts counter.number }
         requires rhs { unsigned_abs rhs ≤ 2 ^ 60 }
         ensures made { MakesCall pass.new.pass pass.old.pass
@@ -76,7 +71,7 @@ impl PcpuTable {
         counter: PcpuId,
         rhs: i64,
     ) -> Compare
-        requires table { IsOf worker.old self.now }
+        requires table { IsFrom worker.old self.now }
         requires counter { IsPcpu self.now.facts counter.number }
         requires calls { MayCall worker.old.facts worker.old.seen worker.old.number }
         requires rhs { unsigned_abs rhs ≤ 2 ^ 60 }
@@ -99,7 +94,7 @@ impl PcpuTable {
     }
 
     fn sum_by<R: Wait>(&self, rt: &R, worker: &mut Worker<SharedPcpu>, counter: PcpuId) -> i64
-        requires table { IsOf worker.old self.now }
+        requires table { IsFrom worker.old self.now }
         requires counter { IsPcpu self.now.facts counter.number }
         requires calls { MayCall worker.old.facts worker.old.seen worker.old.number }
         ensures made { (steps : List PcpuStep) × IsSum (present_cpus self.now.facts) counter steps result
@@ -115,7 +110,7 @@ impl PcpuTable {
 
     /// Loads the local parts of the CPUs that are online or dead, and adds them up.
     pub(crate) fn load_locals(&self, worker: &mut Worker<SharedPcpu>, counter: PcpuId) -> i64
-        requires table { IsOf worker.old self.now }
+        requires table { IsFrom worker.old self.now }
         requires counter { IsPcpu self.now.facts counter.number }
         ensures made { (steps : List PcpuStep) × LoadsEach counter (present_cpus self.now.facts) steps result
             × Made percpu worker.new worker.old steps }

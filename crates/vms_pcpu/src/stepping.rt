@@ -1,16 +1,9 @@
 ghost use Rattle.std.specs.Prelude.{◌≡◌, ◌≤◌, ℤ, [], ◌∷◌, Some, if◌then◌else◌, unsigned_abs};
-ghost use Rattle.vms_base.specs.Places.{IsCpu};
-ghost use Rattle.vms_history.specs.Passes.{owner_in};
-ghost use Rattle.vms_pcpu_core.specs.declared.steps.PcpuStep.TheVariants.{AddL, LoadL, LoadC, Won};
-ghost use Rattle.vms_pcpu_core.specs.declared.steps.PcpuStep.TheVariants.{Missed, TakeL, AddC, Unlock};
-ghost use Rattle.vms_pcpu_core.specs.Bases.{most_batch};
-ghost use Rattle.vms_pcpu_core.specs.Histories.{percpu};
-ghost use Rattle.vms_pcpu_core.specs.Laws.{most_number};
-ghost use Rattle.vms_pcpu_core.specs.MayCall.{MayMake};
-ghost use Rattle.vms_pcpu_core.specs.States.{IsPcpu};
-ghost use Rattle.vms_pcpu_core.specs.Steps.{role};
-ghost use Rattle.vms_seats.specs.Passes.{IsOf};
-ghost use Rattle.vms_seats.specs.Steps.{MadeOne};
+ghost use Rattle.vms_history.specs.Common.{IsCpu, owner_in};
+ghost use Rattle.vms_pcpu_core.specs.declared.steps.PcpuStep.TheVariants.{AddL, LoadL, LoadC, Won, Missed, TakeL, AddC};
+ghost use Rattle.vms_pcpu_core.specs.declared.steps.PcpuStep.TheVariants.{Unlock};
+ghost use Rattle.vms_pcpu_core.specs.Common.{most_batch, percpu, most_number, MayMake, IsPcpu, role};
+ghost use Rattle.vms_seats.specs.Common.{IsFrom, MadeOne};
 
 use crate::ledgers::SharedPcpu;
 use crate::tables::PcpuTable;
@@ -23,7 +16,7 @@ impl PcpuTable {
     /// Loads the shared part of a counter.
     #[inline]
     pub(crate) fn load_count(&self, worker: &mut Worker<SharedPcpu>, counter: PcpuId) -> i64
-        requires table { IsOf worker.old self.now }
+        requires table { IsFrom worker.old self.now }
         requires counter { IsPcpu self.now.facts counter.number }
         ensures made { MadeOne percpu worker.new worker.old (LoadC counter result) }
         ensures bound { unsigned_abs result ≤ most_number }
@@ -40,7 +33,7 @@ impl PcpuTable {
         cpu: CpuId,
         counter: PcpuId,
     ) -> i64
-        requires table { IsOf worker.old self.now }
+        requires table { IsFrom worker.old self.now }
         requires counter { IsPcpu self.now.facts counter.number }
         requires cpu { IsCpu self.now.facts.layout cpu.number }
         ensures made { MadeOne percpu worker.new worker.old (LoadL counter cpu result) }
@@ -53,7 +46,7 @@ impl PcpuTable {
     /// Takes the lock of a counter where it is free, and says whether it was.
     #[inline]
     pub(crate) fn try_lock(&self, worker: &mut Worker<SharedPcpu>, counter: PcpuId) -> bool
-        requires table { IsOf worker.old self.now }
+        requires table { IsFrom worker.old self.now }
         requires counter { IsPcpu self.now.facts counter.number }
         ensures { MadeOne percpu worker.new worker.old (if result then Won counter else Missed counter) }
     {
@@ -64,7 +57,7 @@ impl PcpuTable {
     /// Gives the lock of a counter back.
     #[inline]
     pub(crate) fn unlock(&self, worker: &mut Worker<SharedPcpu>, counter: PcpuId)
-        requires table { IsOf worker.old self.now }
+        requires table { IsFrom worker.old self.now }
         requires counter { IsPcpu self.now.facts counter.number }
         requires may { MayMake worker.old.facts worker.old.number worker.old.seen (Unlock counter ∷ []) }
         ensures { MadeOne percpu worker.new worker.old (Unlock counter) }
@@ -81,7 +74,7 @@ impl PcpuTable {
         cpu: CpuId,
         counter: PcpuId,
     ) -> i64
-        requires table { IsOf worker.old self.now }
+        requires table { IsFrom worker.old self.now }
         requires counter { IsPcpu self.now.facts counter.number }
         requires cpu { IsCpu self.now.facts.layout cpu.number }
         requires may { (v : ℤ) → MayMake worker.old.facts worker.old.number worker.old.seen
@@ -96,7 +89,7 @@ impl PcpuTable {
     /// Adds to the shared part of a counter.
     #[inline]
     pub(crate) fn add_count(&self, worker: &mut Worker<SharedPcpu>, counter: PcpuId, amount: i64)
-        requires table { IsOf worker.old self.now }
+        requires table { IsFrom worker.old self.now }
         requires counter { IsPcpu self.now.facts counter.number }
         requires may { MayMake worker.old.facts worker.old.number worker.old.seen (AddC counter amount ∷ []) }
         ensures { MadeOne percpu worker.new worker.old (AddC counter amount) }
@@ -119,7 +112,7 @@ impl PcpuTable {
         counter: PcpuId,
         amount: i64,
     )
-        requires table { IsOf worker.old self.now }
+        requires table { IsFrom worker.old self.now }
         requires counter { IsPcpu self.now.facts counter.number }
         requires own { IsCpu self.now.facts.layout own.number }
         requires owns { owner_in role worker.old.seen worker.old.number ≡ Some own }

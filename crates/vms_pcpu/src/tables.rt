@@ -1,15 +1,10 @@
 ghost use Rattle.std.specs.Prelude.{◌≡◌, ℕ, ◌+◌, ◌≤◌, ◌<◌, ◌++◌, ◌^◌, pos, false, [], length, map, IfOk, OnOk};
 ghost use Rattle.std.specs.Prelude.{slice_index, slice_index_or, count_by};
-ghost use Rattle.vms_base.specs.Cpus.{is_present as tells_present};
-ghost use Rattle.vms_base.specs.Numbers.{word_of, number_of};
-ghost use Rattle.vms_history.specs.Passes.{lives_in};
-ghost use Rattle.vms_pcpu_core.specs.Bases.{IsBase};
-ghost use Rattle.vms_pcpu_core.specs.Histories.{state_after};
-ghost use Rattle.vms_pcpu_core.specs.Laws.{numbers_after};
+ghost use Rattle.vms_history.specs.Common.{is_present as tells_present, word_of, signed_of_word, lives_in};
+ghost use Rattle.vms_pcpu_core.specs.Common.{IsBase, state_after, numbers_after, role};
 ghost use Rattle.vms_pcpu_core.specs.States.{unlocked};
-ghost use Rattle.vms_pcpu_core.specs.Steps.{role};
 ghost use Rattle.vms_pcpu.specs.SharedWords.{shown};
-ghost use Rattle.vms_seats.specs.Passes.{IsOf};
+ghost use Rattle.vms_seats.specs.Common.{IsFrom};
 
 use crate::ledgers::SharedPcpu;
 use std::alloc::Global;
@@ -36,14 +31,14 @@ pub struct PcpuTable {
 
 impl Model for PcpuTable {
     ghost use Rattle.vms_pcpu_core.specs.declared.steps.PcpuFacts.{PcpuFacts};
-    ghost use Rattle.vms_seats.specs.Passes.{Shared};
-    ghost use Rattle.vms_pcpu.specs.SharedWords.{AreFor};
+    ghost use Rattle.vms_seats.specs.Common.{Shared};
+    ghost use Rattle.vms_pcpu.specs.SharedWords.{AreMadeFor};
 
     ghost Value = { Shared PcpuFacts };
 
     ghost view = { λ t. t.words };
 
-    ghost invariant = { λ t. AreFor t.facts t.present t.words };
+    ghost invariant = { λ t. AreMadeFor t.facts t.present t.words };
 }
 
 impl PcpuTable {
@@ -58,7 +53,7 @@ impl PcpuTable {
         requires { IsBase (record { layout = layout.now; cpus = cpus.now; base = base.now }) }
         ensures table { IfOk result (λ made. made.0.facts
             ≡ record { layout = layout.now; cpus = cpus.now; base = base.now }) }
-        ensures main { IfOk result (λ made. IsOf made.1 made.0 × (made.1.seen ≡ [])) }
+        ensures main { IfOk result (λ made. IsFrom made.1 made.0 × (made.1.seen ≡ [])) }
     {
         let facts = PcpuFacts {
             layout: layout.copied(),
@@ -93,7 +88,7 @@ impl PcpuTable {
     /// Closes the words, once every other pass has ended, and writes the numbers as they are then. The history is what
     /// the main pass has seen.
     pub fn close(self, main: PcpuMain, into: &mut PcpuState) -> PcpuHistory
-        requires table { IsOf main self }
+        requires table { IsFrom main self }
         requires ended { (q : ℕ) → lives_in role main.seen q ≡ false }
         ensures history { result ≡ record { facts = self.facts; events = main.seen } }
         ensures state { into.new ≡ numbers_after self.facts main.seen }
@@ -172,7 +167,7 @@ fn fill(closing: &Closing<SharedPcpu>, start: usize, row: &mut Row<i64>)
         < length (shown closing.now.facts (state_after closing.now.facts closing.now.events)) }
     requires fits { start + length row.old < 2 ^ 64 }
     ensures len { length row.new ≡ length row.old }
-    ensures each { (n : ℕ) → n < length row.old → slice_index_or row.new n (pos 0) ≡ number_of
+    ensures each { (n : ℕ) → n < length row.old → slice_index_or row.new n (pos 0) ≡ signed_of_word
         (slice_index (shown closing.now.facts (state_after closing.now.facts closing.now.events)) (start + n)) }
 {
     for n in 0..row.len() {

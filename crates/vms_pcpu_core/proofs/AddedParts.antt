@@ -1,25 +1,16 @@
 -- What is added to local parts, CPU by CPU, is no more than what others add in all.
-use Rattle.std.proofs.Common.{◌≡◌, ℕ, ◌<◌, ◌&&◌, Bool, true, false, [], ◌∷◌, ◌++◌, Option, Some, None, ℤ}
-use Rattle.std.proofs.Common.{pos, ◌+ℤ◌, ◌-ℤ◌, ◌≤ℤ◌, refl, sym, ap, subst, ◌∙◌, if◌then◌else◌, nat_eq, eq-eqb, arith}
+use Rattle.std.proofs.Common.{◌≡◌, ℕ, ◌<◌, ◌&&◌, Bool, true, false, [], ◌∷◌, ◌++◌, Option, Some, None, ℤ, pos, ◌+ℤ◌}
+use Rattle.std.proofs.Common.{◌-ℤ◌, ◌≤ℤ◌, refl, sym, ap, subst, ◌∙◌, if◌then◌else◌, nat_eq, eq-eqb, arith}
 use Rattle.std.proofs.lemmas.Int.{ints}
 use Rattle.std.proofs.lemmas.Bool.{ne_eqb}
-use Rattle.vms_base.specs.declared.ids.CpuId.{CpuId}
-use Rattle.vms_base.specs.Places.{IsCpu}
-use Rattle.vms_history.specs.Events.{Extends, own}
-use Rattle.vms_history.specs.Passes.{owner_in}
-use Rattle.vms_history.specs.Sums.{sum_below}
-use Rattle.vms_history.proofs.SumLaws.{sum_below-sum, sum_below-zeros, sum_below-changed}
+use Rattle.vms_history.specs.Common.{CpuId, IsCpu, Extends, own, owner_in, sum_below}
+use Rattle.vms_history.proofs.Common.{sum_below-sum, sum_below-zeros, sum_below-changed, sum_below-le}
 use Rattle.vms_pcpu_core.specs.declared.steps.PcpuFacts.{PcpuFacts}
 use Rattle.vms_pcpu_core.specs.declared.steps.PcpuStep.{PcpuStep}
 use Rattle.vms_pcpu_core.specs.declared.steps.PcpuStep.TheVariants.{AddL}
-use Rattle.vms_pcpu_core.specs.Histories.{History, IsLegal}
-use Rattle.vms_pcpu_core.specs.Limits.{rise, fall, by_others_between}
-use Rattle.vms_pcpu_core.specs.Own.{carried}
-use Rattle.vms_pcpu_core.specs.Steps.{role}
-use Rattle.vms_pcpu_core.specs.Totals.{amount_of}
-use Rattle.vms_pcpu_core.specs.Knowledge.{IsLoad, AreLoads, added_by, added, added_since}
+use Rattle.vms_pcpu_core.specs.Common.{History, IsLegal, rise, fall, by_others_between, carried, role, amount_of}
+use Rattle.vms_pcpu_core.specs.Common.{IsLoad, AreLoads, added_by, added, added_since}
 use Rattle.vms_pcpu_core.proofs.OtherChanges.{rise-fall, rise-least, fall-least}
-use Rattle.vms_history.proofs.SumBounds.{sum_below-le}
 use Rattle.vms_pcpu_core.proofs.Totals.{owned}
 use Rattle.vms_pcpu_core.proofs.KnowledgeKept.{loads-before}
 

@@ -1,9 +1,8 @@
 -- For other crates too: all laws of a legal history together.
 use Rattle.std.proofs.Common.{◌++◌}
-use Rattle.vms_history.proofs.Prefixes.{prefix_is_legal}
+use Rattle.vms_history.proofs.Common.{prefix_is_legal}
 use Rattle.vms_pcpu_core.specs.declared.steps.PcpuFacts.{PcpuFacts}
-use Rattle.vms_pcpu_core.specs.Histories.{percpu, History, IsLegal}
-use Rattle.vms_pcpu_core.specs.Laws.{KeepsLaws}
+use Rattle.vms_pcpu_core.specs.Common.{percpu, History, IsLegal, KeepsLaws}
 use Rattle.vms_pcpu_core.proofs.Bounds.{locals-bounded}
 use Rattle.vms_pcpu_core.proofs.ByCaller.{AddsByCaller-holds, volumes-kept}
 use Rattle.vms_pcpu_core.proofs.DeadLocals.{dead-moves_once}

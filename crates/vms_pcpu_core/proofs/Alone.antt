@@ -1,26 +1,18 @@
 -- For other crates too: a limited addition of a caller that is alone with the counter is exact.
-use Rattle.std.proofs.Common.{◌≡◌, ◌≢◌, ℕ, Bool, true, false, true≢false, List, [], ◌∷◌}
-use Rattle.std.proofs.Common.{◌++◌, length, length-append, ◌+◌, Some, ℤ, pos, ◌+ℤ◌, ◌-ℤ◌, ◌≤ℤ◌}
-use Rattle.std.proofs.Common.{◌<ℤ◌, refl, sym, ap, subst, ◌∙◌, if◌then◌else◌, nat_eq, arith}
+use Rattle.std.proofs.Common.{◌≡◌, ◌≢◌, ℕ, Bool, true, false, true≢false, List, [], ◌∷◌, ◌++◌, length, length-append}
+use Rattle.std.proofs.Common.{◌+◌, Some, ℤ, pos, ◌+ℤ◌, ◌-ℤ◌, ◌≤ℤ◌, ◌<ℤ◌, refl, sym, ap, subst, ◌∙◌, if◌then◌else◌}
+use Rattle.std.proofs.Common.{nat_eq, arith}
 use Rattle.std.proofs.lemmas.Int.{ints}
 use Rattle.std.proofs.lemmas.Bool.{eqb-false}
-use Rattle.vms_base.specs.declared.ids.CpuId.{CpuId}
-use Rattle.vms_base.specs.declared.ids.PcpuId.{PcpuId}
+use Rattle.vms_history.specs.Common.{CpuId, PcpuId, Extends, own, owner_in}
 use Rattle.vms_history.specs.declared.events.Event.{Event}
-use Rattle.vms_history.specs.Events.{Extends, own}
-use Rattle.vms_history.specs.Passes.{owner_in}
-use Rattle.vms_history.proofs.Own.{Extends-same, Extends-both, own-append, own-mine}
+use Rattle.vms_history.proofs.Common.{Extends-same, Extends-both, own-append, own-mine}
 use Rattle.vms_pcpu_core.specs.declared.steps.PcpuFacts.{PcpuFacts}
 use Rattle.vms_pcpu_core.specs.declared.steps.PcpuStep.{PcpuStep}
 use Rattle.vms_pcpu_core.specs.declared.steps.PcpuStep.TheVariants.{LoadC}
-use Rattle.vms_pcpu_core.specs.States.{batch_at}
-use Rattle.vms_pcpu_core.specs.Calls.{IsLimitedAdd, unknown, present_cpus}
-use Rattle.vms_pcpu_core.specs.Histories.{History}
-use Rattle.vms_pcpu_core.specs.Limits.{rise, fall, by_others, by_others_between, carried_by_others, IsAlone, IsExact}
-use Rattle.vms_pcpu_core.specs.MadeBetween.{event, MadeSteps}
-use Rattle.vms_pcpu_core.specs.Own.{carried}
-use Rattle.vms_pcpu_core.specs.Steps.{role}
-use Rattle.vms_pcpu_core.specs.Totals.{amount_of, true_total}
+use Rattle.vms_pcpu_core.specs.Common.{batch_at, IsLimitedAdd, unknown, present_cpus, History, rise, fall, by_others}
+use Rattle.vms_pcpu_core.specs.Common.{by_others_between, carried_by_others, IsAlone, IsExact, event, MadeSteps}
+use Rattle.vms_pcpu_core.specs.Common.{carried, role, amount_of, true_total}
 use Rattle.vms_pcpu_core.proofs.LimitedAdds.{limited-says}
 use Rattle.vms_pcpu_core.proofs.LimitAnswers.{SaysYes, SaysNo, Says}
 use Rattle.vms_pcpu_core.proofs.OtherChanges.{by_self, by_self-others, others-carry_nothing, true_total-between}

@@ -1,25 +1,16 @@
 -- For other crates too: how a complete history ends, and that it leaves a base.
-use Rattle.std.proofs.Common.{◌≡◌, ℕ, zero, suc, ◌*◌, ◌<◌, Bool, false, true≢false, List}
-use Rattle.std.proofs.Common.{[], ◌∷◌, length, get_or, replicate, Option, Some, None, is_some, ℤ}
-use Rattle.std.proofs.Common.{pos, ◌+ℤ◌, ◌≤ℤ◌, unsigned_abs, refl, sym, ap, subst, ◌∙◌, arith}
+use Rattle.std.proofs.Common.{◌≡◌, ℕ, zero, suc, ◌*◌, ◌<◌, Bool, false, true≢false, List, [], ◌∷◌, length, get_or}
+use Rattle.std.proofs.Common.{replicate, Option, Some, None, is_some, ℤ, pos, ◌+ℤ◌, ◌≤ℤ◌, unsigned_abs, refl, sym, ap}
+use Rattle.std.proofs.Common.{subst, ◌∙◌, arith}
 use Rattle.std.proofs.lemmas.Int.{ints}
-use Rattle.vms_base.specs.Volumes.{most_volume}
-use Rattle.vms_history.specs.Events.{own}
-use Rattle.vms_history.specs.Passes.{begun_in}
-use Rattle.vms_history.specs.Sums.{sum_below}
-use Rattle.vms_history.proofs.Prefixes.{base_can_begin}
-use Rattle.vms_history.proofs.SumBounds.{sum_below-size, sum_below-most}
-use Rattle.vms_history.proofs.SumLaws.{sum_below-same, sum_below-sum, sum_below-zeros}
+use Rattle.vms_history.specs.Common.{most_volume, own, begun_in, sum_below}
+use Rattle.vms_history.proofs.Common.{base_can_begin, sum_below-size, sum_below-most, sum_below-same, sum_below-sum}
+use Rattle.vms_history.proofs.Common.{sum_below-zeros}
 use Rattle.vms_pcpu_core.specs.declared.steps.PcpuFacts.{PcpuFacts}
-use Rattle.vms_pcpu_core.specs.Bases.{most_batch}
-use Rattle.vms_pcpu_core.specs.Endings.{IsComplete, HoldsTotals, ending, LeavesRoom, BeginsAgain}
-use Rattle.vms_pcpu_core.specs.Endings.{most_start, IsPaid, StaysWithinVolumes, spent_by_now}
-use Rattle.vms_pcpu_core.specs.Histories.{percpu, History, IsLegal, state_after}
-use Rattle.vms_pcpu_core.specs.Laws.{numbers_after, carried_by_all}
-use Rattle.vms_pcpu_core.specs.Own.{carried}
-use Rattle.vms_pcpu_core.specs.States.{IsPcpu, counters_of, batch_at, local_at, held_at}
-use Rattle.vms_pcpu_core.specs.Steps.{role}
-use Rattle.vms_pcpu_core.specs.Totals.{holder, locals, spent, true_total}
+use Rattle.vms_pcpu_core.specs.Common.{most_batch, IsComplete, HoldsTotals, ending, LeavesRoom, BeginsAgain, most_start}
+use Rattle.vms_pcpu_core.specs.Common.{IsPaid, StaysWithinVolumes, spent_by_now, percpu, History, IsLegal, state_after}
+use Rattle.vms_pcpu_core.specs.Common.{numbers_after, carried_by_all, carried, IsPcpu, counters_of, batch_at, local_at}
+use Rattle.vms_pcpu_core.specs.Common.{held_at, role, holder, locals, spent, true_total}
 use Rattle.vms_pcpu_core.proofs.Bounds.{locals-bounded}
 use Rattle.vms_pcpu_core.proofs.Locks.{holder-one}
 use Rattle.vms_pcpu_core.proofs.Shapes.{HasShape-state_after, batch_at-state_after}

@@ -1,16 +1,12 @@
 -- For other crates too: a local part stays within its batch, and one of an absent CPU stays 0.
-use Rattle.std.proofs.Common.{◌≡◌, ℕ, ◌≤◌, [], ◌∷◌, Option, Some, ℤ, pos}
-use Rattle.std.proofs.Common.{unsigned_abs, sym, ap, ◌∙◌, arith, ◌⊎◌, inl, inr, ⊎_elim}
+use Rattle.std.proofs.Common.{◌≡◌, ℕ, ◌≤◌, [], ◌∷◌, Option, Some, ℤ, pos, unsigned_abs, sym, ap, ◌∙◌, arith, ◌⊎◌, inl}
+use Rattle.std.proofs.Common.{inr, ⊎_elim}
 use Rattle.std.proofs.lemmas.Bool.{cases_eq}
-use Rattle.vms_base.specs.declared.ids.CpuId.{CpuId}
-use Rattle.vms_base.specs.declared.kinds.CpuState.{CpuState}
-use Rattle.vms_base.specs.declared.kinds.CpuState.TheVariants.{Online, Absent}
-use Rattle.vms_base.specs.Places.{IsCpu}
-use Rattle.vms_history.proofs.Owners.{owner_may_own}
+use Rattle.vms_history.specs.Common.{CpuId, CpuState, Online, Absent, IsCpu}
+use Rattle.vms_history.proofs.Common.{owner_may_own}
 use Rattle.vms_pcpu_core.specs.declared.steps.PcpuFacts.{PcpuFacts}
-use Rattle.vms_pcpu_core.specs.States.{batch_at, local_at, cpu_at, IsPcpu}
-use Rattle.vms_pcpu_core.specs.Histories.{percpu, History, IsLegal}
-use Rattle.vms_pcpu_core.specs.Laws.{numbers_after, BoundsLocals}
+use Rattle.vms_pcpu_core.specs.Common.{batch_at, local_at, cpu_at, IsPcpu, percpu, History, IsLegal, numbers_after}
+use Rattle.vms_pcpu_core.specs.Common.{BoundsLocals}
 use Rattle.vms_pcpu_core.proofs.Changes.{Change}
 use Rattle.vms_pcpu_core.proofs.Changes.Change.{rests, grows, takes, adds}
 use Rattle.vms_pcpu_core.proofs.Shapes.{batch_at-state_after}

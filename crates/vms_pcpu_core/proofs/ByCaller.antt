@@ -1,26 +1,17 @@
 -- For other crates too: what a history adds to a counter is the sum over its callers, and what a CPU spends is the sum
 -- over the passes that own it.
-use Rattle.std.proofs.Common.{◌≡◌, ◌≢◌, ℕ, suc, ◌<◌, Bool, true, false, [], ◌∷◌, Option, ℤ}
-use Rattle.std.proofs.Common.{pos, ◌+ℤ◌, unsigned_abs, refl, sym, ap, ◌∙◌, inl, inr, if◌then◌else◌, arith}
+use Rattle.std.proofs.Common.{◌≡◌, ◌≢◌, ℕ, suc, ◌<◌, Bool, true, false, [], ◌∷◌, Option, ℤ, pos, ◌+ℤ◌, unsigned_abs}
+use Rattle.std.proofs.Common.{refl, sym, ap, ◌∙◌, inl, inr, if◌then◌else◌, arith}
 use Rattle.std.proofs.lemmas.Int.{ints}
 use Rattle.std.proofs.lemmas.Bool.{cases_lt}
-use Rattle.vms_base.specs.declared.ids.CpuId.{CpuId}
+use Rattle.vms_history.specs.Common.{CpuId, own, begun_in, owner_in, sum_below}
 use Rattle.vms_history.specs.declared.events.Event.{Event}
-use Rattle.vms_history.specs.Events.{own}
-use Rattle.vms_history.specs.Passes.{begun_in, owner_in}
-use Rattle.vms_history.specs.Sums.{sum_below}
-use Rattle.vms_history.proofs.CallerSums.{sum_below-callers}
-use Rattle.vms_history.proofs.Own.{own-mine, own-others}
-use Rattle.vms_history.proofs.PassLaws.{own-not_given, caller_is_below, caller_is_given, owner_in-append}
-use Rattle.vms_history.proofs.SumLaws.{sum_below-changed, sum_below-zeros}
+use Rattle.vms_history.proofs.Common.{sum_below-callers, own-mine, own-others, own-not_given, caller_is_below}
+use Rattle.vms_history.proofs.Common.{caller_is_given, owner_in-append, sum_below-changed, sum_below-zeros}
 use Rattle.vms_pcpu_core.specs.declared.steps.PcpuFacts.{PcpuFacts}
 use Rattle.vms_pcpu_core.specs.declared.steps.PcpuStep.{PcpuStep}
-use Rattle.vms_pcpu_core.specs.Histories.{percpu, History, IsLegal}
-use Rattle.vms_pcpu_core.specs.Laws.{AddsByCaller, spent_by_pass, KeepsVolumes}
-use Rattle.vms_pcpu_core.specs.Own.{carried}
-use Rattle.vms_pcpu_core.specs.OwnSteps.{as_is, size_of, own_added}
-use Rattle.vms_pcpu_core.specs.Steps.{role}
-use Rattle.vms_pcpu_core.specs.Totals.{amount_of, amounts, is_owned, spent}
+use Rattle.vms_pcpu_core.specs.Common.{percpu, History, IsLegal, AddsByCaller, spent_by_pass, KeepsVolumesByPass}
+use Rattle.vms_pcpu_core.specs.Common.{carried, as_is, size_of, own_added, role, amount_of, amounts, is_owned, spent}
 use Rattle.vms_pcpu_core.proofs.Sizes.{spent_most}
 
 amounts-below : (facts : PcpuFacts) (h : History) (j n : ℕ) → IsLegal facts h → begun_in role h < n
@@ -88,7 +79,7 @@ spent-below facts (e ∷ h) c j n legal above =
     let mine = caller-spent facts e h c j legal (is_owned (owner_in role h e.caller) c) refl in
     omega (arith, ints, changed, mine, spent-below facts h c j n legal.0 below.1)
 
-pub volumes-kept : (facts : PcpuFacts) (h : History) → IsLegal facts h → KeepsVolumes h
+pub volumes-kept : (facts : PcpuFacts) (h : History) → IsLegal facts h → KeepsVolumesByPass h
 volumes-kept facts h legal = record {
   most = λ c j. spent_most facts h c j legal;
   by_pass = λ c j. spent-below facts h c j (suc (begun_in role h)) legal (omega arith);

@@ -1,43 +1,22 @@
 -- For other crates too: the steps of each call may be made, whatever other callers do between them.
-use Rattle.std.proofs.Common.{◌≡◌, ℕ, suc, ◌+◌, ◌≤◌, ◌<◌, Bool, true, false, List, []}
-use Rattle.std.proofs.Common.{◌∷◌, ◌++◌, length, Option, Some, None, ℤ, pos, ◌+ℤ◌, ◌-ℤ◌, unsigned_abs}
-use Rattle.std.proofs.Common.{refl, sym, ap, subst, ◌∙◌, if◌then◌else◌, nat_eq, eq-eqb, arith}
+use Rattle.std.proofs.Common.{◌≡◌, ℕ, suc, ◌+◌, ◌≤◌, ◌<◌, Bool, true, false, List, [], ◌∷◌, ◌++◌, length, Option, Some}
+use Rattle.std.proofs.Common.{None, ℤ, pos, ◌+ℤ◌, ◌-ℤ◌, unsigned_abs, refl, sym, ap, subst, ◌∙◌, if◌then◌else◌, nat_eq}
+use Rattle.std.proofs.Common.{eq-eqb, arith}
 use Rattle.std.proofs.lemmas.Int.{ints}
-use Rattle.vms_base.specs.declared.ids.CpuId.{CpuId}
-use Rattle.vms_base.specs.declared.ids.PcpuId.{PcpuId}
-use Rattle.vms_base.specs.declared.kinds.CpuState.{CpuState}
-use Rattle.vms_base.specs.Cpus.{is_present, present_from}
-use Rattle.vms_base.specs.Places.{IsCpu}
-use Rattle.vms_history.specs.Events.{after}
-use Rattle.vms_history.specs.Passes.{owner_in}
-use Rattle.vms_history.proofs.Owners.{owner_may_own}
-use Rattle.vms_history.proofs.Prefixes.{base_can_begin}
+use Rattle.vms_history.specs.Common.{CpuId, PcpuId, CpuState, is_present, present_from, IsCpu, after, owner_in}
+use Rattle.vms_history.proofs.Common.{owner_may_own, base_can_begin}
 use Rattle.vms_pcpu_core.specs.declared.answers.Compare.{Compare}
 use Rattle.vms_pcpu_core.specs.declared.steps.PcpuFacts.{PcpuFacts}
 use Rattle.vms_pcpu_core.specs.declared.steps.PcpuStep.{PcpuStep}
 use Rattle.vms_pcpu_core.specs.declared.steps.PcpuStep.TheVariants.{AddL, LoadL, LoadC, Missed, TakeL, AddC, Unlock}
-use Rattle.vms_pcpu_core.specs.Calls.{Locks, IsAdd, IsSync, IsFoldDead, LoadsEach, IsSum, IsCompare}
-use Rattle.vms_pcpu_core.specs.Calls.{Probes, Judges, Settles, IsLimitedAdd, present_cpus, unknown}
-use Rattle.vms_pcpu_core.specs.Calls.Locks.{won, missed}
-use Rattle.vms_pcpu_core.specs.Calls.IsAdd.{below, reached}
-use Rattle.vms_pcpu_core.specs.Calls.IsSync.{moved}
-use Rattle.vms_pcpu_core.specs.Calls.IsFoldDead.{no_counter, one_counter}
-use Rattle.vms_pcpu_core.specs.Calls.LoadsEach.{no_cpu, one_cpu}
-use Rattle.vms_pcpu_core.specs.Calls.IsSum.{summed}
-use Rattle.vms_pcpu_core.specs.Calls.IsCompare.{far, near}
-use Rattle.vms_pcpu_core.specs.Calls.Probes.{large, narrow}
-use Rattle.vms_pcpu_core.specs.Calls.Judges.{beyond, inside, close}
-use Rattle.vms_pcpu_core.specs.Calls.Settles.{yes_ends, no_ends}
-use Rattle.vms_pcpu_core.specs.Calls.IsLimitedAdd.{nothing, unlocked, locked}
-use Rattle.vms_pcpu_core.specs.Conditions.{MayTake, MayAdd}
-use Rattle.vms_pcpu_core.specs.Histories.{percpu, History, IsLegal}
-use Rattle.vms_pcpu_core.specs.MadeBetween.{event}
-use Rattle.vms_pcpu_core.specs.MayCall.{MakesRead, MakesSum, MakesCompare, MakesAdd}
-use Rattle.vms_pcpu_core.specs.MayCall.{MakesLimitedAdd, MakesSync, MakesFoldDead}
-use Rattle.vms_pcpu_core.specs.Own.{holds_lock, carried}
-use Rattle.vms_pcpu_core.specs.OwnSteps.{holds_through, carried_through, size_of, added_through, own_added}
-use Rattle.vms_pcpu_core.specs.States.{IsPcpu, batch_at, counters_of}
-use Rattle.vms_pcpu_core.specs.Steps.{role}
+use Rattle.vms_pcpu_core.specs.Common.{Locks, IsAdd, IsSync, IsFoldDead, LoadsEach, IsSum, IsCompare, Probes, Judges}
+use Rattle.vms_pcpu_core.specs.Common.{EndsLimitedAdd, IsLimitedAdd, present_cpus, unknown, won, missed, below, reached}
+use Rattle.vms_pcpu_core.specs.Common.{moved, no_counter, one_counter, no_cpu, one_cpu, summed, far, near, large}
+use Rattle.vms_pcpu_core.specs.Common.{narrow, beyond, inside, close, yes_ends, no_ends, nothing, unlocked, locked}
+use Rattle.vms_pcpu_core.specs.Common.{MayTake, MayAdd, percpu, History, IsLegal, event, MakesRead, MakesSum}
+use Rattle.vms_pcpu_core.specs.Common.{MakesCompare, MakesAdd, MakesLimitedAdd, MakesSync, MakesFoldDead, holds_lock}
+use Rattle.vms_pcpu_core.specs.Common.{carried, holds_through, carried_through, size_of, added_through, own_added}
+use Rattle.vms_pcpu_core.specs.Common.{IsPcpu, batch_at, counters_of, role}
 use Rattle.vms_pcpu_core.proofs.StepConditions.{found_own, FitsAmount, AllFit, all-fit-append, fit-may}
 use Rattle.vms_pcpu_core.proofs.OwnSteps.{Does, goes_by_own_steps, does-then, does-lock, does-loads, does-judges}
 use Rattle.vms_pcpu_core.proofs.OwnSteps.{does-probes, does-load_l, does-load_c, does-nothing, does-fold}
@@ -150,7 +129,7 @@ module _ (facts : PcpuFacts) (earlier : History) (who : Option CpuId) (p : ℕ) 
 
     fit-settles : (cpu : CpuId) (amount : ℤ) (answer : Bool) (ks : List PcpuStep) (o : History)
         → StandsIdle j.number o true → IsCpu facts.layout cpu.number → MayTake facts who cpu
-        → MayAdd earlier who j.number amount → Settles cpu j amount answer ks → fit_all o ks
+        → MayAdd earlier who j.number amount → EndsLimitedAdd cpu j amount answer ks → fit_all o ks
     fit-settles cpu amount answer ks o standing c_in whose may (yes_ends u) =
         fit-move cpu u (u +ℤ amount) amount o standing c_in whose may refl
     fit-settles cpu amount answer ks o standing c_in whose may no_ends = fit-unlock o standing

@@ -1,16 +1,11 @@
 -- For other crates too: the steps of a call, where they stand in a history.
 use Rattle.std.proofs.Common.{◌≡◌, ℕ, List, [], ◌∷◌, ◌++◌, refl, sym, ap, ◌∙◌, append-nil}
-use Rattle.vms_base.specs.declared.ids.PcpuId.{PcpuId}
-use Rattle.vms_history.specs.Events.{Extends, own, after}
-use Rattle.vms_history.specs.PassSteps.{HasMade}
-use Rattle.vms_history.proofs.Own.{Extends-both, own-on_top}
+use Rattle.vms_history.specs.Common.{PcpuId, Extends, own, after, HasMade}
+use Rattle.vms_history.proofs.Common.{Extends-both, own-on_top}
 use Rattle.vms_pcpu_core.specs.declared.steps.PcpuFacts.{PcpuFacts}
 use Rattle.vms_pcpu_core.specs.declared.steps.PcpuStep.{PcpuStep}
 use Rattle.vms_pcpu_core.specs.declared.steps.PcpuStep.TheVariants.{Won, Missed}
-use Rattle.vms_pcpu_core.specs.Calls.{Locks}
-use Rattle.vms_pcpu_core.specs.Calls.Locks.{won, missed}
-use Rattle.vms_pcpu_core.specs.Histories.{percpu, History, IsLegal}
-use Rattle.vms_pcpu_core.specs.MadeBetween.{MadeWithin, event, MadeSteps}
+use Rattle.vms_pcpu_core.specs.Common.{Locks, won, missed, percpu, History, IsLegal, MadeWithin, event, MadeSteps}
 use Rattle.vms_pcpu_core.proofs.SumMoments.{legal-earlier}
 use Rattle.vms_pcpu_core.proofs.StepsInRow.{run-made, run-append, run-own, run-extends, RunsBetween}
 

@@ -1,23 +1,16 @@
 -- What one step does to one counter: nothing, or it adds to a local part, takes one, or adds to the shared part.
-use Rattle.std.proofs.Common.{◌≡◌, ◌≢◌, ℕ, ◌<◌, ◌≤◌, ◌&&◌, Bool, true, false, List}
-use Rattle.std.proofs.Common.{Option, Some, None, ℤ, pos, ◌+ℤ◌, ◌-ℤ◌, unsigned_abs, refl, sym}
-use Rattle.std.proofs.Common.{ap, subst, ◌∙◌, arith, if◌then◌else◌, nat_eq, eq-eqb, eqb-true}
+use Rattle.std.proofs.Common.{◌≡◌, ◌≢◌, ℕ, ◌<◌, ◌≤◌, ◌&&◌, Bool, true, false, List, Option, Some, None, ℤ, pos, ◌+ℤ◌}
+use Rattle.std.proofs.Common.{◌-ℤ◌, unsigned_abs, refl, sym, ap, subst, ◌∙◌, arith, if◌then◌else◌, nat_eq, eq-eqb}
+use Rattle.std.proofs.Common.{eqb-true}
 use Rattle.std.proofs.lemmas.Bool.{ne_eqb}
 use Rattle.std.proofs.lemmas.Int.{ints}
-use Rattle.vms_base.specs.declared.ids.CpuId.{CpuId}
-use Rattle.vms_base.specs.declared.ids.PcpuId.{PcpuId}
-use Rattle.vms_base.specs.Places.{IsCpu}
+use Rattle.vms_history.specs.Common.{CpuId, PcpuId, IsCpu, own, owner_in}
 use Rattle.vms_history.specs.declared.events.Event.{Event}
-use Rattle.vms_history.specs.Events.{own}
-use Rattle.vms_history.specs.Passes.{owner_in}
 use Rattle.vms_pcpu_core.specs.declared.steps.PcpuFacts.{PcpuFacts}
 use Rattle.vms_pcpu_core.specs.declared.steps.PcpuStep.{PcpuStep}
 use Rattle.vms_pcpu_core.specs.declared.steps.PcpuStep.TheVariants.{AddL, TakeL, AddC}
-use Rattle.vms_pcpu_core.specs.States.{LockedState, HasShape, batch_at, count_at, local_at, IsPcpu}
-use Rattle.vms_pcpu_core.specs.Conditions.{Meets, AddsToLocal, TakesLocal, AddsToCount, MayAdd}
-use Rattle.vms_pcpu_core.specs.Own.{carried, carried_after}
-use Rattle.vms_pcpu_core.specs.Steps.{role, effect}
-use Rattle.vms_pcpu_core.specs.Totals.{amount_of}
+use Rattle.vms_pcpu_core.specs.Common.{LockedState, HasShape, batch_at, count_at, local_at, IsPcpu, Meets, AddsToLocal}
+use Rattle.vms_pcpu_core.specs.Common.{TakesLocal, AddsToCount, MayAdd, carried, carried_after, role, effect, amount_of}
 use Rattle.vms_pcpu_core.proofs.Effects.{count_at-effect, local_at-effect}
 
 -- the shared part, the local parts and what the acting caller carries, before and after, and the amount: who is the CPU

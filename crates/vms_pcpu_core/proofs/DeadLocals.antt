@@ -3,24 +3,14 @@ use Rattle.std.proofs.Common.{◌≡◌, ◌≢◌, ℕ, suc, ◌&&◌, Bool, tr
 use Rattle.std.proofs.Common.{unsigned_abs, refl, sym, ap, ◌∙◌, arith, ◌⊎◌, inl, inr, if◌then◌else◌, nat_eq, eqb-true}
 use Rattle.std.proofs.lemmas.Int.{ints}
 use Rattle.std.proofs.lemmas.Bool.{and_parts, eqb-false}
-use Rattle.vms_base.specs.declared.ids.CpuId.{CpuId}
-use Rattle.vms_base.specs.declared.kinds.CpuState.{CpuState}
-use Rattle.vms_base.specs.declared.kinds.CpuState.TheVariants.{Online, Dead}
-use Rattle.vms_base.specs.Places.{IsCpu}
-use Rattle.vms_history.specs.Events.{total}
-use Rattle.vms_history.specs.Passes.{owner_in}
-use Rattle.vms_history.proofs.Owners.{owner_may_own}
-use Rattle.vms_history.proofs.TakenOnce.{TakenOnce, TakenOnce-none, TakenOnce-left, TakenOnce-taken}
+use Rattle.vms_history.specs.Common.{CpuId, CpuState, Online, Dead, IsCpu, total, owner_in}
+use Rattle.vms_history.proofs.Common.{owner_may_own, TakenOnce, TakenOnce-none, TakenOnce-left, TakenOnce-taken}
 use Rattle.vms_pcpu_core.specs.declared.steps.PcpuFacts.{PcpuFacts}
 use Rattle.vms_pcpu_core.specs.declared.steps.PcpuStep.{PcpuStep}
 use Rattle.vms_pcpu_core.specs.declared.steps.PcpuStep.TheVariants.{AddL, TakeL}
-use Rattle.vms_pcpu_core.specs.States.{LockedState, local_at, cpu_at, IsPcpu}
-use Rattle.vms_pcpu_core.specs.Conditions.{Meets}
-use Rattle.vms_pcpu_core.specs.Steps.{role}
-use Rattle.vms_pcpu_core.specs.Totals.{is_owned}
-use Rattle.vms_pcpu_core.specs.Histories.{percpu, History, IsLegal, state_after}
-use Rattle.vms_pcpu_core.specs.Laws.{numbers_after, taken_by, takings_after, takings, MovesOnce}
-use Rattle.vms_pcpu_core.specs.Effects.{local_after}
+use Rattle.vms_pcpu_core.specs.Common.{LockedState, local_at, cpu_at, IsPcpu, Meets, role, is_owned, percpu, History}
+use Rattle.vms_pcpu_core.specs.Common.{IsLegal, state_after, numbers_after, taken_by, takings_after, takings, MovesOnce}
+use Rattle.vms_pcpu_core.specs.Common.{local_after}
 use Rattle.vms_pcpu_core.proofs.Effects.{local_at-effect}
 use Rattle.vms_pcpu_core.proofs.Shapes.{HasShape-state_after}
 use Rattle.vms_pcpu_core.proofs.Totals.{owned}

@@ -1,26 +1,15 @@
 -- For other crates too: the shared part alone is off from the true total by little.
-use Rattle.std.proofs.Common.{◌≡◌, ℕ, zero, suc, ◌+◌, ◌*◌, ◌<◌, ◌≤◌, true, List}
-use Rattle.std.proofs.Common.{length, take, get_or, ℤ, pos, ◌≤ℤ◌, unsigned_abs, refl, ap, arith}
+use Rattle.std.proofs.Common.{◌≡◌, ℕ, zero, suc, ◌+◌, ◌*◌, ◌<◌, ◌≤◌, true, List, length, take, get_or, ℤ, pos, ◌≤ℤ◌}
+use Rattle.std.proofs.Common.{unsigned_abs, refl, ap, arith}
 use Rattle.std.specs.List.{count_by}
 use Rattle.std.proofs.lemmas.Int.{ints}
 use Rattle.std.proofs.lemmas.List.{take_all}
 use Rattle.std.proofs.lemmas.List.Sums.{count_by_more_yes, count_by_more_no}
-use Rattle.vms_base.specs.declared.kinds.CpuState.{CpuState}
-use Rattle.vms_base.specs.declared.kinds.CpuState.TheVariants.{Online, Dead, Absent}
-use Rattle.vms_history.specs.Events.{own}
-use Rattle.vms_history.specs.Passes.{begun_in}
-use Rattle.vms_history.specs.Sums.{sum_below}
-use Rattle.vms_history.proofs.Prefixes.{base_can_begin}
-use Rattle.vms_history.proofs.SumBounds.{sum_below-size}
+use Rattle.vms_history.specs.Common.{CpuState, Online, Dead, Absent, own, begun_in, sum_below, is_present}
+use Rattle.vms_history.proofs.Common.{base_can_begin, sum_below-size}
 use Rattle.vms_pcpu_core.specs.declared.steps.PcpuFacts.{PcpuFacts}
-use Rattle.vms_pcpu_core.specs.States.{batch_at, local_at, IsPcpu}
-use Rattle.vms_pcpu_core.specs.Calls.{unknown}
-use Rattle.vms_pcpu_core.specs.Own.{carried}
-use Rattle.vms_pcpu_core.specs.Steps.{role}
-use Rattle.vms_pcpu_core.specs.Totals.{locals, present}
-use Rattle.vms_base.specs.Cpus.{is_present}
-use Rattle.vms_pcpu_core.specs.Histories.{percpu, History, IsLegal}
-use Rattle.vms_pcpu_core.specs.Laws.{numbers_after, DriftsLittle}
+use Rattle.vms_pcpu_core.specs.Common.{batch_at, local_at, IsPcpu, unknown, carried, role, locals, present, percpu}
+use Rattle.vms_pcpu_core.specs.Common.{History, IsLegal, numbers_after, DriftsLittle}
 use Rattle.vms_pcpu_core.proofs.Bounds.{locals-bounded}
 use Rattle.vms_pcpu_core.proofs.Sizes.{sizes}
 use Rattle.vms_pcpu_core.proofs.Totals.{totals-kept}

@@ -1,18 +1,14 @@
 -- For other crates too: what a step that meets its condition makes of the numbers and locks of a state.
-use Rattle.std.proofs.Common.{◌≡◌, ℕ, ◌*◌, true, false, List, length, Option, Some}
-use Rattle.std.proofs.Common.{None, ℤ, pos, ◌+ℤ◌, refl, ap, ◌∙◌, length-set}
-use Rattle.vms_base.specs.declared.ids.CpuId.{CpuId}
-use Rattle.vms_base.specs.declared.ids.PcpuId.{PcpuId}
-use Rattle.vms_base.specs.Places.{IsCpu, cell}
+use Rattle.std.proofs.Common.{◌≡◌, ℕ, ◌*◌, true, false, List, length, Option, Some, None, ℤ, pos, ◌+ℤ◌, refl, ap, ◌∙◌}
+use Rattle.std.proofs.Common.{length-set}
+use Rattle.vms_history.specs.Common.{CpuId, PcpuId, IsCpu, cell}
 use Rattle.vms_history.specs.declared.events.Event.{Event}
-use Rattle.vms_history.proofs.Cells.{get_or-set, get_or-changed, get_or-set_cell, get_or-changed_cell}
+use Rattle.vms_history.proofs.Common.{get_or-set, get_or-changed, get_or-set_cell, get_or-changed_cell}
 use Rattle.vms_pcpu_core.specs.declared.steps.PcpuFacts.{PcpuFacts}
 use Rattle.vms_pcpu_core.specs.declared.steps.PcpuStep.{PcpuStep}
 use Rattle.vms_pcpu_core.specs.declared.steps.PcpuStep.TheVariants.{AddL, Won, TakeL, AddC, Unlock}
-use Rattle.vms_pcpu_core.specs.States.{LockedState, HasShape, counters_of, count_at, local_at, held_at, IsPcpu}
-use Rattle.vms_pcpu_core.specs.Conditions.{Meets}
-use Rattle.vms_pcpu_core.specs.Effects.{count_after, local_after, held_after}
-use Rattle.vms_pcpu_core.specs.Steps.{effect, with_own_added}
+use Rattle.vms_pcpu_core.specs.Common.{LockedState, HasShape, counters_of, count_at, local_at, held_at, IsPcpu, Meets}
+use Rattle.vms_pcpu_core.specs.Common.{count_after, local_after, held_after, effect, with_own_added}
 
 HasShape-with_own_added : (facts : PcpuFacts) (who : Option CpuId) (j : PcpuId) (a : ℤ) (s : LockedState)
     → HasShape facts s

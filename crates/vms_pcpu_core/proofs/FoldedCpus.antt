@@ -1,28 +1,16 @@
 -- For other crates too: the local parts of a dead CPU are 0 once they were folded.
-use Rattle.std.proofs.Common.{◌≡◌, ℕ, ◌<◌, true, false, List, [], ◌∷◌, ◌++◌, Option}
-use Rattle.std.proofs.Common.{pos, refl, ap, subst, ◌∙◌, inl, inr, nat_eq, eq-eqb, arith}
+use Rattle.std.proofs.Common.{◌≡◌, ℕ, ◌<◌, true, false, List, [], ◌∷◌, ◌++◌, Option, pos, refl, ap, subst, ◌∙◌, inl}
+use Rattle.std.proofs.Common.{inr, nat_eq, eq-eqb, arith}
 use Rattle.std.proofs.lemmas.Bool.{cases_lt}
-use Rattle.vms_base.specs.declared.ids.CpuId.{CpuId}
-use Rattle.vms_base.specs.declared.ids.PcpuId.{PcpuId}
-use Rattle.vms_base.specs.declared.kinds.CpuState.TheVariants.{Dead}
+use Rattle.vms_history.specs.Common.{CpuId, PcpuId, Dead, Extends, owner_in}
 use Rattle.vms_history.specs.declared.events.Event.{Event}
-use Rattle.vms_history.specs.Events.{Extends}
-use Rattle.vms_history.specs.Passes.{owner_in}
-use Rattle.vms_history.proofs.Choices.{if-either}
-use Rattle.vms_history.proofs.Own.{Extends-both}
+use Rattle.vms_history.proofs.Common.{if-either, Extends-both}
 use Rattle.vms_pcpu_core.specs.declared.steps.PcpuFacts.{PcpuFacts}
 use Rattle.vms_pcpu_core.specs.declared.steps.PcpuStep.{PcpuStep}
 use Rattle.vms_pcpu_core.specs.declared.steps.PcpuStep.TheVariants.{AddL, TakeL, AddC, Unlock}
-use Rattle.vms_pcpu_core.specs.Calls.{IsSync, IsFoldDead}
-use Rattle.vms_pcpu_core.specs.Calls.IsSync.{moved}
-use Rattle.vms_pcpu_core.specs.Calls.IsFoldDead.{no_counter, one_counter}
-use Rattle.vms_pcpu_core.specs.Effects.{local_after}
-use Rattle.vms_pcpu_core.specs.Histories.{History, IsLegal, state_after}
-use Rattle.vms_pcpu_core.specs.Laws.{numbers_after}
-use Rattle.vms_pcpu_core.specs.MadeBetween.{event, MadeSteps}
-use Rattle.vms_pcpu_core.specs.States.{cpu_at, local_at, IsPcpu}
-use Rattle.vms_pcpu_core.specs.Steps.{role}
-use Rattle.vms_pcpu_core.specs.Totals.{is_owned}
+use Rattle.vms_pcpu_core.specs.Common.{IsSync, IsFoldDead, moved, no_counter, one_counter, local_after, History}
+use Rattle.vms_pcpu_core.specs.Common.{IsLegal, state_after, numbers_after, event, MadeSteps, cpu_at, local_at, IsPcpu}
+use Rattle.vms_pcpu_core.specs.Common.{role, is_owned}
 use Rattle.vms_pcpu_core.proofs.CallsWithin.{call-ran}
 use Rattle.vms_pcpu_core.proofs.DeadLocals.{dead-owned}
 use Rattle.vms_pcpu_core.proofs.Effects.{local_at-effect}

@@ -1,39 +1,25 @@
 -- For other crates too: what others cannot change while a pass makes only loads.
-use Rattle.std.proofs.Common.{◌≡◌, ℕ, zero, suc, ◌<◌, ◌≤◌, ◌&&◌, Bool, true, false, []}
-use Rattle.std.proofs.Common.{◌∷◌, ◌++◌, Option, Some, None, ℤ, pos, negsuc, ◌+ℤ◌, ◌-ℤ◌, unsigned_abs}
-use Rattle.std.proofs.Common.{refl, sym, ap, subst, ◌∙◌, arith, if◌then◌else◌, nat_eq, eq-eqb, eqb-true}
+use Rattle.std.proofs.Common.{◌≡◌, ℕ, zero, suc, ◌<◌, ◌≤◌, ◌&&◌, Bool, true, false, [], ◌∷◌, ◌++◌, Option, Some, None}
+use Rattle.std.proofs.Common.{ℤ, pos, negsuc, ◌+ℤ◌, ◌-ℤ◌, unsigned_abs, refl, sym, ap, subst, ◌∙◌, arith, if◌then◌else◌}
+use Rattle.std.proofs.Common.{nat_eq, eq-eqb, eqb-true}
 use Rattle.std.proofs.Math.Bool.{and-false}
 use Rattle.std.proofs.lemmas.Int.{ints}
 use Rattle.std.proofs.lemmas.Bool.{eqb-false}
-use Rattle.vms_base.specs.declared.ids.CpuId.{CpuId}
-use Rattle.vms_base.specs.declared.ids.PcpuId.{PcpuId}
-use Rattle.vms_base.specs.declared.kinds.CpuState.{CpuState}
-use Rattle.vms_base.specs.declared.kinds.CpuState.TheVariants.{Online, Dead}
-use Rattle.vms_base.specs.Places.{IsCpu}
+use Rattle.vms_history.specs.Common.{CpuId, PcpuId, CpuState, Online, Dead, IsCpu, own, lives_in, owner_in, begun_in}
+use Rattle.vms_history.specs.Common.{sum_below}
 use Rattle.vms_history.specs.declared.events.Event.{Event}
-use Rattle.vms_history.specs.Events.{own}
-use Rattle.vms_history.specs.Passes.{lives_in, owner_in, begun_in}
-use Rattle.vms_history.specs.Sums.{sum_below}
-use Rattle.vms_history.proofs.GoesOn.{holds_while_live}
-use Rattle.vms_history.proofs.Own.{own-mine}
-use Rattle.vms_history.proofs.Owners.{same_cpu, owner_may_own, owner_is_caller, owner_is_given}
-use Rattle.vms_history.proofs.Prefixes.{prefix_is_legal}
-use Rattle.vms_history.proofs.SumBounds.{sum_below-size}
-use Rattle.vms_history.proofs.SumLaws.{sum_below-same, sum_below-sum, sum_below-zeros}
+use Rattle.vms_history.proofs.Common.{holds_while_live, own-mine, same_cpu, owner_may_own, owner_is_caller}
+use Rattle.vms_history.proofs.Common.{owner_is_given, prefix_is_legal, sum_below-size, sum_below-same, sum_below-sum}
+use Rattle.vms_history.proofs.Common.{sum_below-zeros}
 use Rattle.vms_pcpu_core.specs.declared.steps.PcpuFacts.{PcpuFacts}
 use Rattle.vms_pcpu_core.specs.declared.steps.PcpuStep.{PcpuStep}
 use Rattle.vms_pcpu_core.specs.declared.steps.PcpuStep.TheVariants.{AddL, LoadL, LoadC, Won, TakeL, AddC}
-use Rattle.vms_pcpu_core.specs.States.{LockedState, count_at, local_at, cpu_at, IsPcpu}
-use Rattle.vms_pcpu_core.specs.Calls.{sign_of, unknown}
-use Rattle.vms_pcpu_core.specs.Conditions.{Meets, MayTake}
-use Rattle.vms_pcpu_core.specs.Histories.{percpu, History, IsLegal, state_after}
-use Rattle.vms_pcpu_core.specs.Laws.{numbers_after, carried_by_all}
-use Rattle.vms_pcpu_core.specs.Own.{holds_lock, holds_lock_after, carried}
-use Rattle.vms_pcpu_core.specs.Steps.{role}
-use Rattle.vms_pcpu_core.specs.Totals.{amount_of, is_owned, spent, spent_by, true_total}
-use Rattle.vms_pcpu_core.specs.Knowledge.{IsLoad, AreLoads, Watches, added_by, added_since}
+use Rattle.vms_pcpu_core.specs.Common.{LockedState, count_at, local_at, cpu_at, IsPcpu, sign_of, unknown, Meets}
+use Rattle.vms_pcpu_core.specs.Common.{MayTake, percpu, History, IsLegal, state_after, numbers_after, carried_by_all}
+use Rattle.vms_pcpu_core.specs.Common.{holds_lock, holds_lock_after, carried, role, amount_of, is_owned, spent}
+use Rattle.vms_pcpu_core.specs.Common.{spent_by, true_total, IsLoad, AreLoads, Watches, added_by, added_since}
+use Rattle.vms_pcpu_core.specs.Common.{count_after, local_after}
 use Rattle.vms_pcpu_core.proofs.Drift.{locals-hide}
-use Rattle.vms_pcpu_core.specs.Effects.{count_after, local_after}
 use Rattle.vms_pcpu_core.proofs.Effects.{count_at-effect, local_at-effect}
 use Rattle.vms_pcpu_core.proofs.Locks.{holder-one, holds-own_event}
 use Rattle.vms_pcpu_core.proofs.Shapes.{HasShape-state_after}

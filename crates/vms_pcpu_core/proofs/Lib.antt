@@ -30,3 +30,5 @@ pub mod FoldedCpus
 pub mod SumSizes
 pub mod StepConditions
 pub mod CallsAllowed
+pub mod PcpuCalls
+pub mod Common

@@ -1,10 +1,8 @@
 -- What a limited addition says, with what its caller added.
 use Rattle.std.proofs.Common.{◌≡◌, ◌≢◌, ℕ, Bool, true, false, [], ℤ, pos, ◌+ℤ◌}
-use Rattle.vms_base.specs.declared.ids.PcpuId.{PcpuId}
-use Rattle.vms_history.specs.Events.{Extends, own}
+use Rattle.vms_history.specs.Common.{PcpuId, Extends, own}
 use Rattle.vms_pcpu_core.specs.declared.steps.PcpuFacts.{PcpuFacts}
-use Rattle.vms_pcpu_core.specs.Histories.{History}
-use Rattle.vms_pcpu_core.specs.Limits.{KeepsLimit, PassesLimit}
+use Rattle.vms_pcpu_core.specs.Common.{History, KeepsLimit, PassesLimit}
 use Rattle.vms_pcpu_core.proofs.OtherChanges.{by_self}
 
 -- a yes and a no, with what the call itself added

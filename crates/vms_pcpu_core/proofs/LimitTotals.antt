@@ -3,38 +3,27 @@ use Rattle.std.proofs.Common.{◌≡◌, ℕ, ◌≤◌, Bool, true, false, true
 use Rattle.std.proofs.Common.{◌<ℤ◌, unsigned_abs, refl, sym, ap, subst, ◌∙◌, if◌then◌else◌, eq-eqb, arith}
 use Rattle.std.specs.Prelude.{int_le, int_lt}
 use Rattle.std.proofs.lemmas.Int.{ints}
-use Rattle.vms_base.specs.declared.ids.CpuId.{CpuId}
-use Rattle.vms_base.specs.declared.ids.PcpuId.{PcpuId}
-use Rattle.vms_base.specs.Places.{IsCpu}
+use Rattle.vms_history.specs.Common.{CpuId, PcpuId, IsCpu, Extends, own, after, is_present}
 use Rattle.vms_history.specs.declared.events.Event.{Event}
-use Rattle.vms_history.specs.Events.{Extends, own, after}
-use Rattle.vms_history.proofs.Own.{own-mine, own-on_top}
+use Rattle.vms_history.proofs.Common.{own-mine, own-on_top}
 use Rattle.vms_pcpu_core.specs.declared.steps.PcpuFacts.{PcpuFacts}
 use Rattle.vms_pcpu_core.specs.declared.steps.PcpuStep.{PcpuStep}
 use Rattle.vms_pcpu_core.specs.declared.steps.PcpuStep.TheVariants.{LoadL, LoadC, Won}
-use Rattle.vms_pcpu_core.specs.States.{cpu_at}
-use Rattle.vms_pcpu_core.specs.Calls.{LoadsEach, Judges, room, unknown, present_cpus}
-use Rattle.vms_pcpu_core.specs.Calls.LoadsEach.{no_cpu, one_cpu}
-use Rattle.vms_pcpu_core.specs.Calls.Judges.{beyond, inside, close}
-use Rattle.vms_pcpu_core.specs.Histories.{History, IsLegal}
-use Rattle.vms_pcpu_core.specs.Laws.{numbers_after}
-use Rattle.vms_pcpu_core.specs.Limits.{rise, fall, by_others, by_others_between, carried_by_others}
-use Rattle.vms_pcpu_core.specs.Own.{holds_lock, carried}
-use Rattle.vms_pcpu_core.specs.Totals.{locals, true_total}
-use Rattle.vms_base.specs.Cpus.{is_present}
-use Rattle.vms_pcpu_core.specs.Knowledge.{IsLoad, AreLoads}
+use Rattle.vms_pcpu_core.specs.Common.{cpu_at, LoadsEach, Judges, room, unknown, present_cpus, no_cpu, one_cpu, beyond}
+use Rattle.vms_pcpu_core.specs.Common.{inside, close, History, IsLegal, numbers_after, rise, fall, by_others}
+use Rattle.vms_pcpu_core.specs.Common.{by_others_between, carried_by_others, holds_lock, carried, locals, true_total}
+use Rattle.vms_pcpu_core.specs.Common.{IsLoad, AreLoads, event}
 use Rattle.vms_pcpu_core.proofs.AddedParts.{added-most, added-least}
 use Rattle.vms_pcpu_core.proofs.Drift.{locals-size}
 use Rattle.vms_pcpu_core.proofs.SumMoments.{legal-earlier}
 use Rattle.vms_pcpu_core.proofs.Locks.{holder-one}
-use Rattle.vms_pcpu_core.proofs.OtherChanges.{rise-least, fall-least, LoadSteps}
-use Rattle.vms_pcpu_core.proofs.OtherChanges.{by_self-others, by_others-grows, carried_by_all-others}
-use Rattle.vms_pcpu_core.proofs.OtherChanges.{carried_by_others-locked, after-loads, true_total-between}
+use Rattle.vms_pcpu_core.proofs.OtherChanges.{rise-least, fall-least, LoadSteps, by_self-others, by_others-grows}
+use Rattle.vms_pcpu_core.proofs.OtherChanges.{carried_by_all-others, carried_by_others-locked, after-loads}
+use Rattle.vms_pcpu_core.proofs.OtherChanges.{true_total-between}
 use Rattle.vms_pcpu_core.proofs.StepsInRow.{RunsBetween, run-own, run-last, own-others_on, Extends-below}
 use Rattle.vms_pcpu_core.proofs.SumCalls.{Summed, summed-total}
 use Rattle.vms_pcpu_core.proofs.Totals.{totals-kept}
 use Rattle.vms_pcpu_core.proofs.KnowledgeKept.{loads-before}
-use Rattle.vms_pcpu_core.specs.MadeBetween.{event}
 
 pub room-up : (limit amount value : ℤ) → pos 0 <ℤ amount → room limit amount value ≡ limit -ℤ value
 room-up limit amount value up = by (int_lt (pos 0) amount) refl

@@ -1,22 +1,13 @@
 -- For other crates too: a limited addition keeps its limit, but for what others change and carry.
-use Rattle.std.proofs.Common.{◌≡◌, ◌≢◌, ℕ, Bool, true, false, true≢false, List, []}
-use Rattle.std.proofs.Common.{◌∷◌, ◌++◌, Some, ℤ, pos, ◌+ℤ◌, refl, sym, ◌∙◌}
-use Rattle.vms_base.specs.declared.ids.CpuId.{CpuId}
-use Rattle.vms_base.specs.declared.ids.PcpuId.{PcpuId}
-use Rattle.vms_history.specs.Events.{own, after}
-use Rattle.vms_history.specs.Passes.{owner_in}
+use Rattle.std.proofs.Common.{◌≡◌, ◌≢◌, ℕ, Bool, true, false, true≢false, List, [], ◌∷◌, ◌++◌, Some, ℤ, pos, ◌+ℤ◌, refl}
+use Rattle.std.proofs.Common.{sym, ◌∙◌}
+use Rattle.vms_history.specs.Common.{CpuId, PcpuId, own, after, owner_in}
 use Rattle.vms_pcpu_core.specs.declared.steps.PcpuFacts.{PcpuFacts}
 use Rattle.vms_pcpu_core.specs.declared.steps.PcpuStep.{PcpuStep}
 use Rattle.vms_pcpu_core.specs.declared.steps.PcpuStep.TheVariants.{AddL, LoadL, LoadC, Unlock}
-use Rattle.vms_pcpu_core.specs.States.{batch_at}
-use Rattle.vms_pcpu_core.specs.Calls.{Judges, Settles, IsLimitedAdd, unknown, present_cpus}
-use Rattle.vms_pcpu_core.specs.Calls.Settles.{yes_ends, no_ends}
-use Rattle.vms_pcpu_core.specs.Calls.IsLimitedAdd.{nothing, unlocked, locked}
-use Rattle.vms_pcpu_core.specs.Histories.{History}
-use Rattle.vms_pcpu_core.specs.Limits.{KeepsLimit, PassesLimit}
-use Rattle.vms_pcpu_core.specs.MadeBetween.{MadeSteps}
-use Rattle.vms_pcpu_core.specs.Own.{carried}
-use Rattle.vms_pcpu_core.specs.Steps.{role}
+use Rattle.vms_pcpu_core.specs.Common.{batch_at, Judges, EndsLimitedAdd, IsLimitedAdd, unknown, present_cpus, yes_ends}
+use Rattle.vms_pcpu_core.specs.Common.{no_ends, nothing, unlocked, locked, History, KeepsLimit, PassesLimit, MadeSteps}
+use Rattle.vms_pcpu_core.specs.Common.{carried, role}
 use Rattle.vms_pcpu_core.proofs.StepsInRow.{run-own}
 use Rattle.vms_pcpu_core.proofs.CallsWithin.{Ran, call-ran}
 use Rattle.vms_pcpu_core.proofs.LimitAnswers.{Says}
@@ -58,7 +49,7 @@ limited-says facts earlier later p cpu j limit amount steps answer calls owner n
   where
     by : (verdict : Bool) (ending : List PcpuStep)
         → Judges (unknown facts j.number) limit (present_cpus facts) j amount (v +ℤ amount) loads verdict
-        → Settles cpu j amount verdict ending
+        → EndsLimitedAdd cpu j amount verdict ending
         → own later p ≡ after p (probing ++ locking ++ LoadC j v ∷ (loads ++ ending)) (own earlier p)
         → Ran facts earlier later p (probing ++ locking ++ LoadC j v ∷ (loads ++ ending))
         → Says facts earlier later p j limit amount verdict

@@ -4,30 +4,16 @@ use Rattle.std.proofs.Common.{unsigned_abs, refl, sym, ap, subst, ◌∙◌, if�
 use Rattle.std.proofs.lemmas.Int.{ints}
 use Rattle.std.proofs.lemmas.Bool.{ne_eqb}
 use Rattle.std.proofs.lemmas.List.{take_all}
-use Rattle.vms_base.specs.declared.ids.CpuId.{CpuId}
-use Rattle.vms_base.specs.declared.kinds.CpuState.TheVariants.{Online, Absent}
-use Rattle.vms_base.specs.Places.{IsCpu}
-use Rattle.vms_history.specs.Events.{Extends}
-use Rattle.vms_history.specs.Passes.{owner_in}
-use Rattle.vms_history.specs.Sums.{sum_below}
-use Rattle.vms_history.proofs.Own.{Extends-both}
-use Rattle.vms_history.proofs.PassLaws.{owner_in-append, caller_is_given}
-use Rattle.vms_history.proofs.Prefixes.{base_can_begin}
-use Rattle.vms_history.proofs.SumLaws.{sum_below-changed}
-use Rattle.vms_pcpu_core.proofs.Bounds.{apart}
+use Rattle.vms_history.specs.Common.{CpuId, Online, Absent, IsCpu, Extends, owner_in, sum_below}
+use Rattle.vms_history.proofs.Common.{Extends-both, owner_in-append, caller_is_given, base_can_begin, sum_below-changed}
+use Rattle.vms_history.proofs.Common.{sum_below-size}
+use Rattle.vms_pcpu_core.proofs.Bounds.{apart, locals-bounded}
 use Rattle.vms_pcpu_core.specs.declared.steps.PcpuFacts.{PcpuFacts}
 use Rattle.vms_pcpu_core.specs.declared.steps.PcpuStep.{PcpuStep}
-use Rattle.vms_pcpu_core.specs.States.{batch_at, local_at, cpu_at, IsPcpu}
-use Rattle.vms_pcpu_core.specs.Calls.{unknown}
-use Rattle.vms_pcpu_core.specs.Histories.{percpu, History, IsLegal}
-use Rattle.vms_pcpu_core.specs.Laws.{numbers_after}
-use Rattle.vms_pcpu_core.specs.MadeBetween.{event}
-use Rattle.vms_pcpu_core.specs.Steps.{role}
-use Rattle.vms_pcpu_core.specs.Totals.{locals}
-use Rattle.vms_pcpu_core.proofs.Bounds.{locals-bounded}
+use Rattle.vms_pcpu_core.specs.Common.{batch_at, local_at, cpu_at, IsPcpu, unknown, percpu, History, IsLegal}
+use Rattle.vms_pcpu_core.specs.Common.{numbers_after, event, role, locals}
 use Rattle.vms_pcpu_core.proofs.Drift.{present-bound}
 use Rattle.vms_pcpu_core.proofs.SumMoments.{legal-earlier}
-use Rattle.vms_history.proofs.SumBounds.{sum_below-size}
 
 -- with one local part moved by an amount, within its batch, the local parts still hide no more than `unknown`
 pub locals-moved : (facts : PcpuFacts) (h : History) (c j : ℕ) (a : ℤ) → IsLegal facts h → IsPcpu facts j

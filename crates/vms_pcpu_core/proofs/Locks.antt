@@ -1,25 +1,16 @@
 -- For other crates too: a lock has one holder at most, who alone carries something for its counter.
-use Rattle.std.proofs.Common.{◌≡◌, ℕ, Bool, true, false, true≢false, [], ◌∷◌, Option, Some, None, is_some}
-use Rattle.std.proofs.Common.{ℤ, pos, ◌+ℤ◌, refl, sym, ap, subst, ◌∙◌, if◌then◌else◌, nat_eq, eq-eqb, eqb-true}
+use Rattle.std.proofs.Common.{◌≡◌, ℕ, Bool, true, false, true≢false, [], ◌∷◌, Option, Some, None, is_some, ℤ, pos, ◌+ℤ◌}
+use Rattle.std.proofs.Common.{refl, sym, ap, subst, ◌∙◌, if◌then◌else◌, nat_eq, eq-eqb, eqb-true}
 use Rattle.std.proofs.lemmas.List.{get_or-replicate}
 use Rattle.vms_history.specs.declared.events.Event.{Event}
-use Rattle.vms_history.specs.Events.{own}
-use Rattle.vms_history.specs.Legal.{Acts}
-use Rattle.vms_history.specs.Passes.{lives_in, lives_after, owner_in}
-use Rattle.vms_history.proofs.Choices.{if-either}
-use Rattle.vms_history.proofs.Own.{own-fact}
-use Rattle.vms_history.proofs.PassLaws.{lives_in-role}
+use Rattle.vms_history.specs.Common.{own, Acts, lives_in, lives_after, owner_in}
+use Rattle.vms_history.proofs.Common.{if-either, own-fact, lives_in-role}
 use Rattle.vms_pcpu_core.specs.declared.steps.PcpuFacts.{PcpuFacts}
 use Rattle.vms_pcpu_core.specs.declared.steps.PcpuStep.{PcpuStep}
 use Rattle.vms_pcpu_core.specs.declared.steps.PcpuStep.TheVariants.{Won, TakeL, AddC, Unlock, Split, Join}
-use Rattle.vms_pcpu_core.specs.States.{LockedState, counters_of, held_at, IsPcpu}
-use Rattle.vms_pcpu_core.specs.Conditions.{Meets}
-use Rattle.vms_pcpu_core.specs.Own.{holds_lock, holds_lock_after, carried, carried_after}
-use Rattle.vms_pcpu_core.specs.Steps.{role}
-use Rattle.vms_pcpu_core.specs.Totals.{holder, holder_after}
-use Rattle.vms_pcpu_core.specs.Histories.{percpu, History, IsLegal, state_after}
-use Rattle.vms_pcpu_core.specs.Laws.{HasOneHolder}
-use Rattle.vms_pcpu_core.specs.Effects.{held_after}
+use Rattle.vms_pcpu_core.specs.Common.{LockedState, counters_of, held_at, IsPcpu, Meets, holds_lock, holds_lock_after}
+use Rattle.vms_pcpu_core.specs.Common.{carried, carried_after, role, holder, holder_after, percpu, History, IsLegal}
+use Rattle.vms_pcpu_core.specs.Common.{state_after, HasOneHolder, held_after}
 use Rattle.vms_pcpu_core.proofs.Effects.{held_at-effect}
 use Rattle.vms_pcpu_core.proofs.Shapes.{HasShape-state_after}
 

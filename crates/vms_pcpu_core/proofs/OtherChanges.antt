@@ -1,28 +1,18 @@
 -- What one caller and the others add to a counter, and what they carry for it.
-use Rattle.std.proofs.Common.{◌≡◌, ℕ, suc, zero, Bool, true, false, List, [], ◌∷◌}
-use Rattle.std.proofs.Common.{◌++◌, ℤ, pos, negsuc, ◌+ℤ◌, ◌-ℤ◌, ◌≤ℤ◌, refl, sym, ap}
-use Rattle.std.proofs.Common.{subst, ◌∙◌, if◌then◌else◌, nat_eq, eq-eqb, eqb-true, true≢false, arith}
+use Rattle.std.proofs.Common.{◌≡◌, ℕ, suc, zero, Bool, true, false, List, [], ◌∷◌, ◌++◌, ℤ, pos, negsuc, ◌+ℤ◌, ◌-ℤ◌}
+use Rattle.std.proofs.Common.{◌≤ℤ◌, refl, sym, ap, subst, ◌∙◌, if◌then◌else◌, nat_eq, eq-eqb, eqb-true, true≢false}
+use Rattle.std.proofs.Common.{arith}
 use Rattle.std.proofs.lemmas.Int.{ints}
-use Rattle.vms_history.specs.Events.{Extends, own, after}
-use Rattle.vms_history.specs.Passes.{begun_in}
-use Rattle.vms_history.specs.Sums.{sum_below}
-use Rattle.vms_history.proofs.Own.{own-mine}
-use Rattle.vms_history.proofs.SumLaws.{sum_below-zeros}
+use Rattle.vms_history.specs.Common.{Extends, own, after, begun_in, sum_below}
+use Rattle.vms_history.proofs.Common.{own-mine, sum_below-zeros}
 use Rattle.vms_pcpu_core.specs.declared.steps.PcpuFacts.{PcpuFacts}
 use Rattle.vms_pcpu_core.specs.declared.steps.PcpuStep.{PcpuStep}
 use Rattle.vms_pcpu_core.specs.declared.steps.PcpuStep.TheVariants.{LoadL, LoadC}
-use Rattle.vms_pcpu_core.specs.States.{IsPcpu}
-use Rattle.vms_pcpu_core.specs.Histories.{History, IsLegal}
-use Rattle.vms_pcpu_core.specs.Laws.{carried_by_all}
-use Rattle.vms_pcpu_core.specs.Limits.{rise, fall, by_others, by_others_between, carried_by_others}
-use Rattle.vms_pcpu_core.specs.Own.{holds_lock, carried}
-use Rattle.vms_pcpu_core.specs.OwnSteps.{as_is, own_added}
-use Rattle.vms_pcpu_core.specs.Steps.{role}
-use Rattle.vms_pcpu_core.specs.Totals.{amount_of, amounts, true_total}
-use Rattle.vms_pcpu_core.specs.Knowledge.{IsLoad, AreLoads}
+use Rattle.vms_pcpu_core.specs.Common.{IsPcpu, History, IsLegal, carried_by_all, rise, fall, by_others}
+use Rattle.vms_pcpu_core.specs.Common.{by_others_between, carried_by_others, holds_lock, carried, as_is, own_added}
+use Rattle.vms_pcpu_core.specs.Common.{role, amount_of, amounts, true_total, IsLoad, AreLoads, event}
 use Rattle.vms_pcpu_core.proofs.Locks.{holder-one}
 use Rattle.vms_pcpu_core.proofs.StepsInRow.{RunsBetween, own-others_on}
-use Rattle.vms_pcpu_core.specs.MadeBetween.{event}
 
 pub rise-fall : (x : ℤ) → x ≡ rise x -ℤ fall x
 rise-fall (pos n) = omega (arith, ints)

@@ -1,34 +1,21 @@
 -- For other crates too: what a caller holds, carries and has added goes by its own steps, and the steps of each call
 -- leave it idle and add their amount.
-use Rattle.std.proofs.Common.{◌≡◌, ℕ, nat_eq, Bool, true, false, List, [], ◌∷◌, ◌++◌, ℤ}
-use Rattle.std.proofs.Common.{pos, ◌+ℤ◌, ◌-ℤ◌, refl, sym, ap, subst, ◌∙◌, append_assoc, if◌then◌else◌, arith}
+use Rattle.std.proofs.Common.{◌≡◌, ℕ, nat_eq, Bool, true, false, List, [], ◌∷◌, ◌++◌, ℤ, pos, ◌+ℤ◌, ◌-ℤ◌, refl, sym, ap}
+use Rattle.std.proofs.Common.{subst, ◌∙◌, append_assoc, if◌then◌else◌, arith}
 use Rattle.std.proofs.lemmas.Int.{ints}
-use Rattle.vms_base.specs.declared.ids.CpuId.{CpuId}
-use Rattle.vms_base.specs.declared.ids.PcpuId.{PcpuId}
-use Rattle.vms_history.specs.Events.{own, after}
-use Rattle.vms_history.proofs.Choices.{if-map, if-either}
+use Rattle.vms_history.specs.Common.{CpuId, PcpuId, own, after}
+use Rattle.vms_history.proofs.Common.{if-map, if-either}
 use Rattle.vms_pcpu_core.specs.declared.answers.Compare.{Compare}
 use Rattle.vms_pcpu_core.specs.declared.steps.PcpuFacts.{PcpuFacts}
 use Rattle.vms_pcpu_core.specs.declared.steps.PcpuStep.{PcpuStep}
 use Rattle.vms_pcpu_core.specs.declared.steps.PcpuStep.TheVariants.{AddL, LoadL, LoadC, Missed, TakeL, AddC, Unlock}
-use Rattle.vms_pcpu_core.specs.Calls.{Locks, IsRead, IsAdd, IsSync, IsFoldDead, LoadsEach}
-use Rattle.vms_pcpu_core.specs.Calls.{IsSum, IsCompare, Probes, Judges, Settles, IsLimitedAdd}
-use Rattle.vms_pcpu_core.specs.Calls.Locks.{won, missed}
-use Rattle.vms_pcpu_core.specs.Calls.IsAdd.{below, reached}
-use Rattle.vms_pcpu_core.specs.Calls.IsSync.{moved}
-use Rattle.vms_pcpu_core.specs.Calls.IsFoldDead.{no_counter, one_counter}
-use Rattle.vms_pcpu_core.specs.Calls.LoadsEach.{no_cpu, one_cpu}
-use Rattle.vms_pcpu_core.specs.Calls.IsSum.{summed}
-use Rattle.vms_pcpu_core.specs.Calls.IsCompare.{far, near}
-use Rattle.vms_pcpu_core.specs.Calls.Probes.{large, narrow}
-use Rattle.vms_pcpu_core.specs.Calls.Judges.{beyond, inside, close}
-use Rattle.vms_pcpu_core.specs.Calls.Settles.{yes_ends, no_ends}
-use Rattle.vms_pcpu_core.specs.Calls.IsLimitedAdd.{nothing, unlocked, locked}
-use Rattle.vms_pcpu_core.specs.Histories.{History}
-use Rattle.vms_pcpu_core.specs.MadeBetween.{event, MadeSteps}
-use Rattle.vms_pcpu_core.specs.Own.{holds_lock, carried, carried_after}
-use Rattle.vms_pcpu_core.specs.OwnSteps.{holds_through, carried_through, as_is, size_of, added_through}
-use Rattle.vms_pcpu_core.specs.OwnSteps.{own_added, IsIdle, GoesByOwnSteps, AddsAmount, LeavesIdle}
+use Rattle.vms_pcpu_core.specs.Common.{Locks, IsRead, IsAdd, IsSync, IsFoldDead, LoadsEach, IsSum, IsCompare, Probes}
+use Rattle.vms_pcpu_core.specs.Common.{Judges, EndsLimitedAdd, IsLimitedAdd, won, missed, below, reached, moved}
+use Rattle.vms_pcpu_core.specs.Common.{no_counter, one_counter, no_cpu, one_cpu, summed, far, near, large, narrow}
+use Rattle.vms_pcpu_core.specs.Common.{beyond, inside, close, yes_ends, no_ends, nothing, unlocked, locked, History}
+use Rattle.vms_pcpu_core.specs.Common.{event, MadeSteps, holds_lock, carried, carried_after, holds_through}
+use Rattle.vms_pcpu_core.specs.Common.{carried_through, as_is, size_of, added_through, own_added, IsIdle}
+use Rattle.vms_pcpu_core.specs.Common.{GoesByOwnSteps, AddsAmount, LeavesIdle}
 
 -- by a caller's own steps
 module _ (p : ℕ) where
@@ -206,7 +193,7 @@ module _ (i : ℕ) where
       (does-load_c j v [] b b x x (pos 0) (does-nothing b x))
 
   does-settles : (own : CpuId) (j : PcpuId) (amount : ℤ) (answer : Bool) (ks : List PcpuStep)
-      → Settles own j amount answer ks
+      → EndsLimitedAdd own j amount answer ks
       → Does i ks (nat_eq j.number i) false (pos 0) (pos 0)
       (if nat_eq j.number i then (if answer then amount else pos 0) else pos 0)
   does-settles own j amount answer ks (yes_ends u) = does-move j own u (u +ℤ amount) amount refl

@@ -1,29 +1,18 @@
 -- For other crates too: the steps of a call are read back as its answer and the steps after it.
-use Rattle.std.proofs.Common.{◌≡◌, ◌≢◌, ℕ, suc, zero, nat_lt, nat_eq, Bool, true, false, List, []}
-use Rattle.std.proofs.Common.{◌∷◌, ◌++◌, ℤ, pos, ◌+ℤ◌, ◌-ℤ◌, unsigned_abs, refl, ap, ◌∙◌, append_assoc, arith}
+use Rattle.std.proofs.Common.{◌≡◌, ◌≢◌, ℕ, suc, zero, nat_lt, nat_eq, Bool, true, false, List, [], ◌∷◌, ◌++◌, ℤ, pos}
+use Rattle.std.proofs.Common.{◌+ℤ◌, ◌-ℤ◌, unsigned_abs, refl, ap, ◌∙◌, append_assoc, arith}
 use Rattle.std.proofs.lemmas.Int.{ints}
 use Rattle.std.proofs.lemmas.Bool.Decides.{nat_tests}
-use Rattle.vms_base.specs.declared.ids.CpuId.{CpuId}
-use Rattle.vms_base.specs.declared.ids.PcpuId.{PcpuId}
+use Rattle.vms_history.specs.Common.{CpuId, PcpuId}
 use Rattle.vms_pcpu_core.specs.declared.answers.Compare.{Compare}
 use Rattle.vms_pcpu_core.specs.declared.steps.PcpuStep.{PcpuStep}
 use Rattle.vms_pcpu_core.specs.declared.steps.PcpuStep.TheVariants.{LoadC, TakeL, AddC, Unlock}
-use Rattle.vms_pcpu_core.specs.Calls.{Locks, IsRead, IsAdd, IsSync, IsFoldDead, LoadsEach}
-use Rattle.vms_pcpu_core.specs.Calls.{IsSum, IsCompare, Probes, Judges, Settles, IsLimitedAdd}
-use Rattle.vms_pcpu_core.specs.Calls.Locks.{won, missed}
-use Rattle.vms_pcpu_core.specs.Calls.IsAdd.{below, reached}
-use Rattle.vms_pcpu_core.specs.Calls.IsSync.{moved}
-use Rattle.vms_pcpu_core.specs.Calls.IsFoldDead.{no_counter, one_counter}
-use Rattle.vms_pcpu_core.specs.Calls.LoadsEach.{no_cpu, one_cpu}
-use Rattle.vms_pcpu_core.specs.Calls.IsSum.{summed}
-use Rattle.vms_pcpu_core.specs.Calls.IsCompare.{far, near}
-use Rattle.vms_pcpu_core.specs.Calls.Probes.{large, narrow}
-use Rattle.vms_pcpu_core.specs.Calls.Judges.{beyond, inside, close}
-use Rattle.vms_pcpu_core.specs.Calls.Settles.{yes_ends, no_ends}
-use Rattle.vms_pcpu_core.specs.Calls.IsLimitedAdd.{nothing, unlocked, locked}
-use Rattle.vms_pcpu_core.specs.Readings.{read_count, past_add, read_add, past_unlock, read_sync}
-use Rattle.vms_pcpu_core.specs.Readings.{past_unlocks, read_fold_dead, with_load, read_sum, compared}
-use Rattle.vms_pcpu_core.specs.Readings.{read_compare, read_limited, read_limited_add}
+use Rattle.vms_pcpu_core.specs.Common.{Locks, IsRead, IsAdd, IsSync, IsFoldDead, LoadsEach, IsSum, IsCompare, Probes}
+use Rattle.vms_pcpu_core.specs.Common.{Judges, EndsLimitedAdd, IsLimitedAdd, won, missed, below, reached, moved}
+use Rattle.vms_pcpu_core.specs.Common.{no_counter, one_counter, no_cpu, one_cpu, summed, far, near, large, narrow}
+use Rattle.vms_pcpu_core.specs.Common.{beyond, inside, close, yes_ends, no_ends, nothing, unlocked, locked, read_count}
+use Rattle.vms_pcpu_core.specs.Common.{past_add, read_add, past_unlock, read_sync, past_unlocks, read_fold_dead}
+use Rattle.vms_pcpu_core.specs.Common.{with_load, read_sum, compared, read_compare, read_limited, read_limited_add}
 
 -- the steps of a lock are passed over
 past_unlock-locks : (j : PcpuId) (locking more : List PcpuStep) → Locks j locking
@@ -138,7 +127,7 @@ read_limited-judges unknown limit cpus j amount value loading more answer (close
     read_limited-loads j cpus steps more sum each
 
 read_limited-settles : (own : CpuId) (j : PcpuId) (amount : ℤ) (answer : Bool) (ending more : List PcpuStep)
-    → Settles own j amount answer ending
+    → EndsLimitedAdd own j amount answer ending
     → read_limited (ending ++ more) ≡ (answer, more)
 read_limited-settles own j amount answer ending more (yes_ends u) = refl
 read_limited-settles own j amount answer ending more no_ends = refl

@@ -1,10 +1,9 @@
 -- For other crates too: the lists of a state in every legal history, and the batches.
 use Rattle.std.proofs.Common.{◌≡◌, ℕ, false, get_or, refl, ap}
 use Rattle.std.proofs.lemmas.List.{length-replicate}
-use Rattle.vms_history.proofs.Prefixes.{base_can_begin, state_after-keeps}
+use Rattle.vms_history.proofs.Common.{base_can_begin, state_after-keeps}
 use Rattle.vms_pcpu_core.specs.declared.steps.PcpuFacts.{PcpuFacts}
-use Rattle.vms_pcpu_core.specs.States.{HasShape, counters_of, batch_at}
-use Rattle.vms_pcpu_core.specs.Histories.{percpu, History, IsLegal, state_after}
+use Rattle.vms_pcpu_core.specs.Common.{HasShape, counters_of, batch_at, percpu, History, IsLegal, state_after}
 use Rattle.vms_pcpu_core.proofs.Effects.{HasShape-effect}
 
 pub HasShape-state_after : (facts : PcpuFacts) (h : History) → IsLegal facts h → HasShape facts (state_after facts h)

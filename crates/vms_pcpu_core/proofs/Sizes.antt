@@ -1,31 +1,21 @@
 -- For other crates too: the numbers of a counter stay small, since their sizes are paid by the base and by what was
 -- spent.
-use Rattle.std.proofs.Common.{◌≡◌, ◌≢◌, ℕ, suc, ◌+◌, ◌^◌, ◌<◌, ◌≤◌, Bool, true, false, []}
-use Rattle.std.proofs.Common.{◌∷◌, Option, Some, None, ℤ, pos, ◌+ℤ◌, ◌-ℤ◌, ◌≤ℤ◌, unsigned_abs, refl, sym}
-use Rattle.std.proofs.Common.{subst, ap, ◌∙◌, arith, inl, inr, if◌then◌else◌, nat_eq, eq-eqb, eqb-true}
+use Rattle.std.proofs.Common.{◌≡◌, ◌≢◌, ℕ, suc, ◌+◌, ◌^◌, ◌<◌, ◌≤◌, Bool, true, false, [], ◌∷◌, Option, Some, None, ℤ}
+use Rattle.std.proofs.Common.{pos, ◌+ℤ◌, ◌-ℤ◌, ◌≤ℤ◌, unsigned_abs, refl, sym, subst, ap, ◌∙◌, arith, inl, inr}
+use Rattle.std.proofs.Common.{if◌then◌else◌, nat_eq, eq-eqb, eqb-true}
 use Rattle.std.proofs.lemmas.Int.{ints}
 use Rattle.std.proofs.lemmas.Bool.{ne_eqb, cases_lt}
-use Rattle.vms_base.specs.declared.ids.CpuId.{CpuId}
+use Rattle.vms_history.specs.Common.{CpuId, own, owner_in, begun_in, sum_below, most_volume}
 use Rattle.vms_history.specs.declared.events.Event.{Event}
-use Rattle.vms_history.specs.Events.{own}
-use Rattle.vms_history.specs.Passes.{owner_in, begun_in}
-use Rattle.vms_history.specs.Sums.{sum_below}
-use Rattle.vms_history.proofs.CallerSums.{sum_below-callers}
-use Rattle.vms_history.proofs.PassLaws.{own-not_given, caller_is_below}
-use Rattle.vms_history.proofs.Prefixes.{base_can_begin}
-use Rattle.vms_history.proofs.SumBounds.{sum_below-size, sum_below-not_negative, sum_below-each, sum_below-most}
-use Rattle.vms_history.proofs.SumLaws.{sum_below-same, sum_below-changed, sum_below-zeros}
+use Rattle.vms_history.proofs.Common.{sum_below-callers, own-not_given, caller_is_below, base_can_begin, sum_below-size}
+use Rattle.vms_history.proofs.Common.{sum_below-not_negative, sum_below-each, sum_below-most, sum_below-same}
+use Rattle.vms_history.proofs.Common.{sum_below-changed, sum_below-zeros}
 use Rattle.vms_pcpu_core.specs.declared.steps.PcpuFacts.{PcpuFacts}
 use Rattle.vms_pcpu_core.specs.declared.steps.PcpuStep.{PcpuStep}
 use Rattle.vms_pcpu_core.specs.declared.steps.PcpuStep.TheVariants.{AddL, LoadL, LoadC, TakeL, AddC}
-use Rattle.vms_pcpu_core.specs.Conditions.{Meets, MayAdd}
-use Rattle.vms_base.specs.Volumes.{most_volume}
-use Rattle.vms_pcpu_core.specs.States.{LockedState, count_at, local_at, IsPcpu}
-use Rattle.vms_pcpu_core.specs.Own.{carried}
-use Rattle.vms_pcpu_core.specs.Steps.{role}
-use Rattle.vms_pcpu_core.specs.Totals.{amount_of, amounts, spent, spent_by, is_owned}
-use Rattle.vms_pcpu_core.specs.Histories.{percpu, History, IsLegal, state_after}
-use Rattle.vms_pcpu_core.specs.Laws.{numbers_after, most_number, number_of, IsSmall}
+use Rattle.vms_pcpu_core.specs.Common.{Meets, MayAdd, LockedState, count_at, local_at, IsPcpu, carried, role, amount_of}
+use Rattle.vms_pcpu_core.specs.Common.{amounts, spent, spent_by, is_owned, percpu, History, IsLegal, state_after}
+use Rattle.vms_pcpu_core.specs.Common.{numbers_after, most_number, step_number, IsSmall}
 use Rattle.vms_pcpu_core.proofs.Changes.{Change}
 use Rattle.vms_pcpu_core.proofs.Changes.Change.{rests, grows, takes, adds}
 use Rattle.vms_pcpu_core.proofs.Totals.{owned, newest-change, totals-kept}
@@ -261,9 +251,9 @@ in_hand-small facts e h j legal j_in =
           (e ∷ h) j legal j_in,
     )
 
-pub number_of-small : (facts : PcpuFacts) (e : Event PcpuStep) (h : History) → IsLegal facts (e ∷ h)
-    → unsigned_abs (number_of e.step) ≤ most_number
-number_of-small facts e h legal = by e.step refl legal.2
+pub step_number-small : (facts : PcpuFacts) (e : Event PcpuStep) (h : History) → IsLegal facts (e ∷ h)
+    → unsigned_abs (step_number e.step) ≤ most_number
+step_number-small facts e h legal = by e.step refl legal.2
   where
     s : LockedState
     s = state_after facts h
@@ -271,7 +261,8 @@ number_of-small facts e h legal = by e.step refl legal.2
     small : (j : ℕ) → IsPcpu facts j → IsSmall facts h j
     small = numbers-small facts h legal.0
 
-    by : (step : PcpuStep) → e.step ≡ step → Meets facts h s e.caller step → unsigned_abs (number_of step) ≤ most_number
+    by : (step : PcpuStep) → e.step ≡ step → Meets facts h s e.caller step →
+        unsigned_abs (step_number step) ≤ most_number
     by (AddL j a) is meets = let afford = meets.affordable in omega arith
     by (LoadL j c v) is meets = rw meets.value at ((small j.number meets.counter).local c.number meets.cpu)
     by (LoadC j v) is meets = rw meets.value at ((small j.number meets.counter).count)

@@ -1,37 +1,23 @@
 -- For other crates too: what the CPU of a pass spends, the condition of each step by what a pass has done and known
 -- since an earlier history, and that steps which meet these conditions may be made while others act.
-use Rattle.std.proofs.Common.{◌≡◌, ◌≢◌, ℕ, ◌+◌, ◌<◌, ◌≤◌, ◌&&◌, Bool, true, false, true≢false, List}
-use Rattle.std.proofs.Common.{[], ◌∷◌, ◌++◌, Option, Some, None, ℤ, pos, ◌+ℤ◌, ◌-ℤ◌, ◌≤ℤ◌, unsigned_abs}
-use Rattle.std.proofs.Common.{refl, sym, ap, subst, ◌∙◌, if◌then◌else◌, nat_eq, eqb-true, eq-eqb, arith}
+use Rattle.std.proofs.Common.{◌≡◌, ◌≢◌, ℕ, ◌+◌, ◌<◌, ◌≤◌, ◌&&◌, Bool, true, false, true≢false, List, [], ◌∷◌, ◌++◌}
+use Rattle.std.proofs.Common.{Option, Some, None, ℤ, pos, ◌+ℤ◌, ◌-ℤ◌, ◌≤ℤ◌, unsigned_abs, refl, sym, ap, subst, ◌∙◌}
+use Rattle.std.proofs.Common.{if◌then◌else◌, nat_eq, eqb-true, eq-eqb, arith}
 use Rattle.std.proofs.lemmas.Int.{ints}
 use Rattle.std.proofs.lemmas.Bool.{and_parts}
-use Rattle.vms_base.specs.declared.ids.CpuId.{CpuId}
-use Rattle.vms_base.specs.declared.ids.PcpuId.{PcpuId}
-use Rattle.vms_base.specs.Places.{IsCpu}
-use Rattle.vms_base.specs.Volumes.{most_volume}
+use Rattle.vms_history.specs.Common.{CpuId, PcpuId, IsCpu, most_volume, own, after, Acts, HasMade, begun_in, lives_in}
+use Rattle.vms_history.specs.Common.{owner_in}
 use Rattle.vms_history.specs.declared.events.Event.{Event}
-use Rattle.vms_history.specs.Events.{own, after}
-use Rattle.vms_history.specs.Legal.{Acts}
-use Rattle.vms_history.specs.PassSteps.{HasMade}
-use Rattle.vms_history.specs.Passes.{begun_in, lives_in, owner_in}
-use Rattle.vms_history.proofs.Own.{own-append, own-on_top}
-use Rattle.vms_history.proofs.PassLaws.{begun_in-append, lives_in-before, live_is_given, owner_in-append}
-use Rattle.vms_history.proofs.Prefixes.{prefix_is_legal}
+use Rattle.vms_history.proofs.Common.{own-append, own-on_top, begun_in-append, lives_in-before, live_is_given}
+use Rattle.vms_history.proofs.Common.{owner_in-append, prefix_is_legal}
 use Rattle.vms_pcpu_core.specs.declared.steps.PcpuFacts.{PcpuFacts}
 use Rattle.vms_pcpu_core.specs.declared.steps.PcpuStep.{PcpuStep}
-use Rattle.vms_pcpu_core.specs.declared.steps.PcpuStep.TheVariants.{AddL, LoadL, LoadC, Won, Missed}
-use Rattle.vms_pcpu_core.specs.declared.steps.PcpuStep.TheVariants.{TakeL, AddC, Unlock, Split, Join}
-use Rattle.vms_pcpu_core.specs.Conditions.{Meets, MayTake, MayAdd}
-use Rattle.vms_pcpu_core.specs.Effects.{local_after}
-use Rattle.vms_pcpu_core.specs.Histories.{percpu, History, IsLegal, state_after}
-use Rattle.vms_pcpu_core.specs.Laws.{numbers_after}
-use Rattle.vms_pcpu_core.specs.MadeBetween.{event}
-use Rattle.vms_pcpu_core.specs.MayCall.{Tells, MayMake, MayCall}
-use Rattle.vms_pcpu_core.specs.Own.{holds_lock, holds_lock_after, carried, carried_after}
-use Rattle.vms_pcpu_core.specs.OwnSteps.{size_of, added_through, own_added, IsIdle, AddsAmount}
-use Rattle.vms_pcpu_core.specs.States.{IsPcpu, batch_at, local_at}
-use Rattle.vms_pcpu_core.specs.Steps.{role}
-use Rattle.vms_pcpu_core.specs.Totals.{amount_of, spent, spent_by}
+use Rattle.vms_pcpu_core.specs.declared.steps.PcpuStep.TheVariants.{AddL, LoadL, LoadC, Won, Missed, TakeL, AddC}
+use Rattle.vms_pcpu_core.specs.declared.steps.PcpuStep.TheVariants.{Unlock, Split, Join}
+use Rattle.vms_pcpu_core.specs.Common.{Meets, MayTake, MayAdd, local_after, percpu, History, IsLegal, state_after}
+use Rattle.vms_pcpu_core.specs.Common.{numbers_after, event, Tells, MayMake, MayCall, holds_lock, holds_lock_after}
+use Rattle.vms_pcpu_core.specs.Common.{carried, carried_after, size_of, added_through, own_added, IsIdle, AddsAmount}
+use Rattle.vms_pcpu_core.specs.Common.{IsPcpu, batch_at, local_at, role, amount_of, spent, spent_by}
 use Rattle.vms_pcpu_core.proofs.FoldedCpus.{local-after_event}
 use Rattle.vms_pcpu_core.proofs.OwnSteps.{goes_by_own_steps}
 use Rattle.vms_pcpu_core.proofs.Shapes.{batch_at-state_after}

@@ -1,12 +1,11 @@
 -- The steps that one caller made in a row, with what others did between them.
-use Rattle.std.proofs.Common.{◌≡◌, ℕ, Bool, true, false, List, [], ◌∷◌, ◌++◌}
-use Rattle.std.proofs.Common.{refl, sym, ap, ◌∙◌, append_assoc, if◌then◌else◌, nat_eq, eqb-true}
+use Rattle.std.proofs.Common.{◌≡◌, ℕ, Bool, true, false, List, [], ◌∷◌, ◌++◌, refl, sym, ap, ◌∙◌, append_assoc}
+use Rattle.std.proofs.Common.{if◌then◌else◌, nat_eq, eqb-true}
 use Rattle.vms_history.specs.declared.events.Event.{Event}
-use Rattle.vms_history.specs.Events.{Extends, own, after}
-use Rattle.vms_history.proofs.Own.{Extends-both, own-append, own-mine, after-append}
+use Rattle.vms_history.specs.Common.{Extends, own, after}
+use Rattle.vms_history.proofs.Common.{Extends-both, own-append, own-mine, after-append}
 use Rattle.vms_pcpu_core.specs.declared.steps.PcpuStep.{PcpuStep}
-use Rattle.vms_pcpu_core.specs.Histories.{History}
-use Rattle.vms_pcpu_core.specs.MadeBetween.{event}
+use Rattle.vms_pcpu_core.specs.Common.{History, event}
 
 -- from h on p made these steps, the oldest first, and g stood right after the last of them
 abbrev pub RunsBetween : ℕ → List PcpuStep → History → History → Type 0

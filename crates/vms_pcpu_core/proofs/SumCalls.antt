@@ -1,30 +1,18 @@
 -- For other crates too: what a call that sums a counter found.
-use Rattle.std.proofs.Common.{◌≡◌, ℕ, ◌<◌, true, false, true≢false, List, [], ◌∷◌, ◌++◌, get_or}
-use Rattle.std.proofs.Common.{ℤ, ◌+ℤ◌, ◌-ℤ◌, unsigned_abs, refl, sym, ap, subst, ◌∙◌, arith}
+use Rattle.std.proofs.Common.{◌≡◌, ℕ, ◌<◌, true, false, true≢false, List, [], ◌∷◌, ◌++◌, get_or, ℤ, ◌+ℤ◌, ◌-ℤ◌}
+use Rattle.std.proofs.Common.{unsigned_abs, refl, sym, ap, subst, ◌∙◌, arith}
 use Rattle.std.proofs.lemmas.Int.{ints}
-use Rattle.vms_base.specs.declared.ids.PcpuId.{PcpuId}
-use Rattle.vms_base.specs.declared.kinds.CpuState.TheVariants.{Absent}
-use Rattle.vms_base.specs.Places.{IsCpu}
+use Rattle.vms_history.specs.Common.{PcpuId, Absent, IsCpu, Extends, own, after, sum_below, is_present}
 use Rattle.vms_history.specs.declared.events.Event.{Event}
-use Rattle.vms_history.specs.Events.{Extends, own, after}
-use Rattle.vms_history.specs.Sums.{sum_below}
-use Rattle.vms_history.proofs.Own.{Extends-both, own-mine}
-use Rattle.vms_history.proofs.Prefixes.{base_can_begin}
+use Rattle.vms_history.proofs.Common.{Extends-both, own-mine, base_can_begin}
 use Rattle.vms_pcpu_core.specs.declared.steps.PcpuFacts.{PcpuFacts}
 use Rattle.vms_pcpu_core.specs.declared.steps.PcpuStep.{PcpuStep}
 use Rattle.vms_pcpu_core.specs.declared.steps.PcpuStep.TheVariants.{LoadL, LoadC, Won, Unlock}
-use Rattle.vms_pcpu_core.specs.States.{count_at, local_at, cpu_at, IsPcpu}
+use Rattle.vms_pcpu_core.specs.Common.{count_at, local_at, cpu_at, IsPcpu, LoadsEach, IsSum, IsCompare, sign_of}
+use Rattle.vms_pcpu_core.specs.Common.{unknown, present_cpus, summed, far, near, percpu, History, IsLegal}
+use Rattle.vms_pcpu_core.specs.Common.{numbers_after, event, MadeSteps, SumsUp, TellsRoughly, TellsBySum, true_total}
+use Rattle.vms_pcpu_core.specs.Common.{AreLoads, added_since}
 use Rattle.vms_pcpu_core.specs.declared.answers.Compare.{Compare}
-use Rattle.vms_pcpu_core.specs.Calls.{LoadsEach, IsSum, IsCompare, sign_of, unknown, present_cpus}
-use Rattle.vms_pcpu_core.specs.Calls.IsSum.{summed}
-use Rattle.vms_pcpu_core.specs.Calls.IsCompare.{far, near}
-use Rattle.vms_pcpu_core.specs.Histories.{percpu, History, IsLegal}
-use Rattle.vms_pcpu_core.specs.Laws.{numbers_after}
-use Rattle.vms_pcpu_core.specs.MadeBetween.{event, MadeSteps}
-use Rattle.vms_pcpu_core.specs.Summing.{SumsUp, TellsRoughly, TellsBySum}
-use Rattle.vms_pcpu_core.specs.Totals.{true_total}
-use Rattle.vms_base.specs.Cpus.{is_present}
-use Rattle.vms_pcpu_core.specs.Knowledge.{AreLoads, added_since}
 use Rattle.vms_pcpu_core.proofs.Bounds.{locals-bounded}
 use Rattle.vms_pcpu_core.proofs.CallsWithin.{call-ran, run-locks}
 use Rattle.vms_pcpu_core.proofs.SumMoments.{legal-earlier, sum_below-listed, found-loads}

@@ -1,29 +1,19 @@
 -- The moments at which the parts of a sum are found.
-use Rattle.std.proofs.Common.{◌≡◌, ℕ, suc, zero, ◌+◌, ◌<◌, ◌≤◌, Bool, true, false, true≢false}
-use Rattle.std.proofs.Common.{List, [], ◌∷◌, ◌++◌, length, get_or, ℤ, pos, ◌+ℤ◌, refl, sym}
-use Rattle.std.proofs.Common.{ap, subst, ◌∙◌, append_assoc, if◌then◌else◌, nat_eq, eq-eqb, eqb-true, arith}
+use Rattle.std.proofs.Common.{◌≡◌, ℕ, suc, zero, ◌+◌, ◌<◌, ◌≤◌, Bool, true, false, true≢false, List, [], ◌∷◌, ◌++◌}
+use Rattle.std.proofs.Common.{length, get_or, ℤ, pos, ◌+ℤ◌, refl, sym, ap, subst, ◌∙◌, append_assoc, if◌then◌else◌}
+use Rattle.std.proofs.Common.{nat_eq, eq-eqb, eqb-true, arith}
 use Rattle.std.proofs.lemmas.Int.{ints}
 use Rattle.std.proofs.lemmas.Bool.{ne_eqb}
-use Rattle.vms_base.specs.declared.ids.PcpuId.{PcpuId}
-use Rattle.vms_base.specs.declared.kinds.CpuState.{CpuState}
-use Rattle.vms_base.specs.declared.kinds.CpuState.TheVariants.{Online, Dead, Absent}
+use Rattle.vms_history.specs.Common.{PcpuId, CpuState, Online, Dead, Absent, Extends, own, sum_below, present_from}
+use Rattle.vms_history.specs.Common.{is_present}
 use Rattle.vms_history.specs.declared.events.Event.{Event}
-use Rattle.vms_history.specs.Events.{Extends, own}
-use Rattle.vms_history.specs.Sums.{sum_below}
-use Rattle.vms_history.proofs.Own.{Extends-both, own-mine}
-use Rattle.vms_history.proofs.Prefixes.{prefix_is_legal}
+use Rattle.vms_history.proofs.Common.{Extends-both, own-mine, prefix_is_legal}
 use Rattle.vms_pcpu_core.specs.declared.steps.PcpuFacts.{PcpuFacts}
 use Rattle.vms_pcpu_core.specs.declared.steps.PcpuStep.{PcpuStep}
 use Rattle.vms_pcpu_core.specs.declared.steps.PcpuStep.TheVariants.{LoadL}
-use Rattle.vms_pcpu_core.specs.States.{local_at}
-use Rattle.vms_pcpu_core.specs.Calls.{LoadsEach}
-use Rattle.vms_base.specs.Cpus.{present_from, is_present}
-use Rattle.vms_pcpu_core.specs.Calls.LoadsEach.{no_cpu, one_cpu}
-use Rattle.vms_pcpu_core.specs.Histories.{percpu, History, IsLegal}
-use Rattle.vms_pcpu_core.specs.Laws.{numbers_after}
-use Rattle.vms_pcpu_core.specs.Knowledge.{AreLoads}
+use Rattle.vms_pcpu_core.specs.Common.{local_at, LoadsEach, no_cpu, one_cpu, percpu, History, IsLegal, numbers_after}
+use Rattle.vms_pcpu_core.specs.Common.{AreLoads, event}
 use Rattle.vms_pcpu_core.proofs.StepsInRow.{RunsBetween, own-others_on, run-extends}
-use Rattle.vms_pcpu_core.specs.MadeBetween.{event}
 
 -- a history that a legal one goes on from is legal
 pub legal-earlier : (facts : PcpuFacts) (g h : History) → IsLegal facts g → Extends g h → IsLegal facts h

@@ -1,30 +1,20 @@
 -- For other crates too: the answer of a sum is small.
-use Rattle.std.proofs.Common.{◌≡◌, ℕ, suc, ◌+◌, ◌*◌, ◌≤◌, Bool, true, false, List, []}
-use Rattle.std.proofs.Common.{◌∷◌, ◌++◌, length, ℤ, pos, ◌≤ℤ◌, unsigned_abs, subst, if◌then◌else◌, arith}
+use Rattle.std.proofs.Common.{◌≡◌, ℕ, suc, ◌+◌, ◌*◌, ◌≤◌, Bool, true, false, List, [], ◌∷◌, ◌++◌, length, ℤ, pos, ◌≤ℤ◌}
+use Rattle.std.proofs.Common.{unsigned_abs, subst, if◌then◌else◌, arith}
 use Rattle.std.proofs.lemmas.Int.{ints}
-use Rattle.vms_base.specs.declared.ids.CpuId.{CpuId}
-use Rattle.vms_base.specs.declared.ids.PcpuId.{PcpuId}
-use Rattle.vms_base.specs.declared.kinds.CpuState.{CpuState}
-use Rattle.vms_base.specs.Cpus.{is_present, present_from}
+use Rattle.vms_history.specs.Common.{CpuId, PcpuId, CpuState, is_present, present_from}
 use Rattle.vms_history.specs.declared.events.Event.{Event}
-use Rattle.vms_history.proofs.Prefixes.{base_can_begin}
+use Rattle.vms_history.proofs.Common.{base_can_begin}
 use Rattle.vms_pcpu_core.specs.declared.steps.PcpuFacts.{PcpuFacts}
 use Rattle.vms_pcpu_core.specs.declared.steps.PcpuStep.{PcpuStep}
 use Rattle.vms_pcpu_core.specs.declared.steps.PcpuStep.TheVariants.{LoadL, LoadC, Unlock}
-use Rattle.vms_pcpu_core.specs.Bases.{most_batch}
-use Rattle.vms_pcpu_core.specs.Calls.{LoadsEach, IsSum, present_cpus}
-use Rattle.vms_pcpu_core.specs.Calls.LoadsEach.{no_cpu, one_cpu}
-use Rattle.vms_pcpu_core.specs.Calls.IsSum.{summed}
-use Rattle.vms_pcpu_core.specs.Histories.{percpu, History, IsLegal}
-use Rattle.vms_pcpu_core.specs.Laws.{most_number}
-use Rattle.vms_pcpu_core.specs.MadeBetween.{event, MadeSteps}
-use Rattle.vms_pcpu_core.specs.States.{batch_at}
-use Rattle.vms_pcpu_core.specs.Summing.{most_sum}
+use Rattle.vms_pcpu_core.specs.Common.{most_batch, LoadsEach, IsSum, present_cpus, no_cpu, one_cpu, summed, percpu}
+use Rattle.vms_pcpu_core.specs.Common.{History, IsLegal, most_number, event, MadeSteps, batch_at, most_sum}
 use Rattle.vms_pcpu_core.proofs.Bounds.{locals-bounded}
 use Rattle.vms_pcpu_core.proofs.CallsWithin.{call-ran}
 use Rattle.vms_pcpu_core.proofs.SumMoments.{legal-earlier}
 use Rattle.vms_pcpu_core.proofs.StepsInRow.{RunsBetween, run-append, run-extends}
-use Rattle.vms_pcpu_core.proofs.Sizes.{number_of-small}
+use Rattle.vms_pcpu_core.proofs.Sizes.{step_number-small}
 
 -- there are at most as many present CPUs as CPUs
 present-few : (n : ℕ) (xs : List CpuState) → length (present_from n xs) ≤ length xs
@@ -67,7 +57,7 @@ sum-ran facts p j h g steps answer (summed v sum locking loads locks each) legal
     legal-earlier facts g two.0 legal (run-extends p (Unlock j ∷ []) two.0 g two.2) in
     let made_at : IsLegal facts (e ∷ before) =
     legal-earlier facts two.0 (e ∷ before) at_end (run-extends p loads (e ∷ before) two.0 two.1) in
-    let count : unsigned_abs v ≤ most_number = number_of-small facts e before made_at in
+    let count : unsigned_abs v ≤ most_number = step_number-small facts e before made_at in
     let few = present-few 0 facts.cpus in
     let full = base.lengths.one_state_each in
     let cpus = base.layout.cpus_most in

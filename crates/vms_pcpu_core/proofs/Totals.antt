@@ -2,24 +2,14 @@
 -- total.
 use Rattle.std.proofs.Common.{◌≡◌, ℕ, suc, ◌<◌, [], ◌∷◌, Option, Some, ℤ, pos, ◌+ℤ◌, refl, arith}
 use Rattle.std.proofs.lemmas.Int.{ints}
-use Rattle.vms_base.specs.declared.ids.CpuId.{CpuId}
-use Rattle.vms_base.specs.Places.{IsCpu}
+use Rattle.vms_history.specs.Common.{CpuId, IsCpu, own, owner_in, begun_in, sum_below}
 use Rattle.vms_history.specs.declared.events.Event.{Event}
-use Rattle.vms_history.specs.Events.{own}
-use Rattle.vms_history.specs.Passes.{owner_in, begun_in}
-use Rattle.vms_history.specs.Sums.{sum_below}
-use Rattle.vms_history.proofs.CallerSums.{sum_below-callers}
-use Rattle.vms_history.proofs.Owners.{owner_may_own}
-use Rattle.vms_history.proofs.PassLaws.{caller_is_below}
-use Rattle.vms_history.proofs.SumLaws.{sum_below-same, sum_below-changed, sum_below-zeros}
+use Rattle.vms_history.proofs.Common.{sum_below-callers, owner_may_own, caller_is_below, sum_below-same}
+use Rattle.vms_history.proofs.Common.{sum_below-changed, sum_below-zeros}
 use Rattle.vms_pcpu_core.specs.declared.steps.PcpuFacts.{PcpuFacts}
 use Rattle.vms_pcpu_core.specs.declared.steps.PcpuStep.{PcpuStep}
-use Rattle.vms_pcpu_core.specs.States.{count_at, local_at, IsPcpu}
-use Rattle.vms_pcpu_core.specs.Own.{carried}
-use Rattle.vms_pcpu_core.specs.Steps.{role}
-use Rattle.vms_pcpu_core.specs.Totals.{locals, true_total}
-use Rattle.vms_pcpu_core.specs.Histories.{percpu, History, IsLegal, state_after}
-use Rattle.vms_pcpu_core.specs.Laws.{numbers_after, KeepsTotals}
+use Rattle.vms_pcpu_core.specs.Common.{count_at, local_at, IsPcpu, carried, role, locals, true_total, percpu, History}
+use Rattle.vms_pcpu_core.specs.Common.{IsLegal, state_after, numbers_after, KeepsTotals}
 use Rattle.vms_pcpu_core.proofs.Changes.{Change, IsChange, change-step}
 use Rattle.vms_pcpu_core.proofs.Changes.Change.{rests, grows, takes, adds}
 use Rattle.vms_pcpu_core.proofs.Shapes.{HasShape-state_after}

@@ -1,31 +1,21 @@
 -- A limited addition by the lock.
-use Rattle.std.proofs.Common.{◌≡◌, ℕ, Bool, true, false, List, [], ◌∷◌, ◌++◌, Some, ℤ, pos}
-use Rattle.std.proofs.Common.{◌+ℤ◌, ◌-ℤ◌, refl, sym, ap, subst, ◌∙◌, if◌then◌else◌, nat_eq, eq-eqb, arith}
+use Rattle.std.proofs.Common.{◌≡◌, ℕ, Bool, true, false, List, [], ◌∷◌, ◌++◌, Some, ℤ, pos, ◌+ℤ◌, ◌-ℤ◌, refl, sym, ap}
+use Rattle.std.proofs.Common.{subst, ◌∙◌, if◌then◌else◌, nat_eq, eq-eqb, arith}
 use Rattle.std.proofs.lemmas.Int.{ints}
-use Rattle.vms_base.specs.declared.ids.CpuId.{CpuId}
-use Rattle.vms_base.specs.declared.ids.PcpuId.{PcpuId}
+use Rattle.vms_history.specs.Common.{CpuId, PcpuId, Extends, own, after, owner_in}
 use Rattle.vms_history.specs.declared.events.Event.{Event}
-use Rattle.vms_history.specs.Events.{Extends, own, after}
-use Rattle.vms_history.specs.Passes.{owner_in}
-use Rattle.vms_history.proofs.Own.{Extends-both, own-mine}
+use Rattle.vms_history.proofs.Common.{Extends-both, own-mine}
 use Rattle.vms_pcpu_core.specs.declared.steps.PcpuFacts.{PcpuFacts}
 use Rattle.vms_pcpu_core.specs.declared.steps.PcpuStep.{PcpuStep}
 use Rattle.vms_pcpu_core.specs.declared.steps.PcpuStep.TheVariants.{LoadL, LoadC, Won, TakeL, AddC, Unlock}
-use Rattle.vms_pcpu_core.specs.States.{batch_at}
-use Rattle.vms_pcpu_core.specs.Calls.{Locks, Probes, Judges, unknown, present_cpus}
-use Rattle.vms_pcpu_core.specs.Calls.Locks.{won, missed}
-use Rattle.vms_pcpu_core.specs.Calls.Probes.{large, narrow}
-use Rattle.vms_pcpu_core.specs.Histories.{History, IsLegal}
-use Rattle.vms_pcpu_core.specs.Limits.{rise, fall, KeepsLimit, PassesLimit}
-use Rattle.vms_pcpu_core.specs.MadeBetween.{event}
-use Rattle.vms_pcpu_core.specs.Own.{carried}
-use Rattle.vms_pcpu_core.specs.Steps.{role}
-use Rattle.vms_pcpu_core.specs.Totals.{amount_of}
+use Rattle.vms_pcpu_core.specs.Common.{batch_at, Locks, Probes, Judges, unknown, present_cpus, won, missed, large}
+use Rattle.vms_pcpu_core.specs.Common.{narrow, History, IsLegal, rise, fall, KeepsLimit, PassesLimit, event, carried}
+use Rattle.vms_pcpu_core.specs.Common.{role, amount_of}
 use Rattle.vms_pcpu_core.proofs.SumMoments.{legal-earlier}
 use Rattle.vms_pcpu_core.proofs.LimitTotals.{winning-carries, counted, last-read, judged, judges-loads}
-use Rattle.vms_pcpu_core.proofs.OtherChanges.{rise-least, fall-least, by_self, by_self-others}
-use Rattle.vms_pcpu_core.proofs.OtherChanges.{by_self-step, AddNothing, by_self-nothing_added, nothing_added-loads}
-use Rattle.vms_pcpu_core.proofs.OtherChanges.{by_others-grows, carried-loads, true_total-between}
+use Rattle.vms_pcpu_core.proofs.OtherChanges.{rise-least, fall-least, by_self, by_self-others, by_self-step, AddNothing}
+use Rattle.vms_pcpu_core.proofs.OtherChanges.{by_self-nothing_added, nothing_added-loads, by_others-grows}
+use Rattle.vms_pcpu_core.proofs.OtherChanges.{carried-loads, true_total-between}
 use Rattle.vms_pcpu_core.proofs.StepsInRow.{RunsBetween, run-append, run-own, run-extends, own-others_on}
 use Rattle.vms_pcpu_core.proofs.CallsWithin.{run-locks}
 use Rattle.vms_pcpu_core.proofs.LimitAnswers.{SaysYes, SaysNo}

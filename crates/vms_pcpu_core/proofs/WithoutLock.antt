@@ -2,31 +2,20 @@
 use Rattle.std.proofs.Common.{◌≡◌, ℕ, ◌≤◌, Bool, true, [], ◌∷◌, ◌++◌, Some, ℤ, pos, ◌+ℤ◌, ◌-ℤ◌, ◌≤ℤ◌, unsigned_abs}
 use Rattle.std.proofs.Common.{refl, sym, ap, subst, ◌∙◌, append_assoc, if◌then◌else◌, nat_eq, eq-eqb, arith}
 use Rattle.std.proofs.lemmas.Int.{ints}
-use Rattle.vms_base.specs.declared.ids.CpuId.{CpuId}
-use Rattle.vms_base.specs.declared.ids.PcpuId.{PcpuId}
+use Rattle.vms_history.specs.Common.{CpuId, PcpuId, Extends, own, lives_in, owner_in}
 use Rattle.vms_history.specs.declared.events.Event.{Event}
-use Rattle.vms_history.specs.Events.{Extends, own}
-use Rattle.vms_history.specs.Passes.{lives_in, owner_in}
-use Rattle.vms_history.proofs.Own.{Extends-both, own-mine}
+use Rattle.vms_history.proofs.Common.{Extends-both, own-mine, owner_may_own}
 use Rattle.vms_pcpu_core.specs.declared.steps.PcpuFacts.{PcpuFacts}
 use Rattle.vms_pcpu_core.specs.declared.steps.PcpuStep.{PcpuStep}
 use Rattle.vms_pcpu_core.specs.declared.steps.PcpuStep.TheVariants.{AddL, LoadL, LoadC}
-use Rattle.vms_pcpu_core.specs.States.{batch_at, local_at, IsPcpu}
-use Rattle.vms_pcpu_core.specs.Calls.{room, unknown}
-use Rattle.vms_pcpu_core.specs.Histories.{percpu, History, IsLegal}
-use Rattle.vms_pcpu_core.specs.Laws.{numbers_after}
-use Rattle.vms_pcpu_core.specs.Limits.{rise, fall, carried_by_others, KeepsLimit}
-use Rattle.vms_pcpu_core.specs.MadeBetween.{event}
-use Rattle.vms_pcpu_core.specs.Own.{holds_lock, carried}
-use Rattle.vms_pcpu_core.specs.Steps.{role}
-use Rattle.vms_pcpu_core.specs.Totals.{amount_of, locals, true_total}
-use Rattle.vms_pcpu_core.specs.Knowledge.{AreLoads}
+use Rattle.vms_pcpu_core.specs.Common.{batch_at, local_at, IsPcpu, room, unknown, percpu, History, IsLegal}
+use Rattle.vms_pcpu_core.specs.Common.{numbers_after, rise, fall, carried_by_others, KeepsLimit, event, holds_lock}
+use Rattle.vms_pcpu_core.specs.Common.{carried, role, amount_of, locals, true_total, AreLoads}
 use Rattle.vms_pcpu_core.proofs.SumMoments.{legal-earlier}
 use Rattle.vms_pcpu_core.proofs.LimitTotals.{room-up, room-down}
 use Rattle.vms_pcpu_core.proofs.OtherChanges.{rise-least, fall-least, by_self, by_self-others, by_self-step}
 use Rattle.vms_pcpu_core.proofs.OtherChanges.{by_others-grows, carried_by_others-least, carried_by_others-locked}
 use Rattle.vms_pcpu_core.proofs.OtherChanges.{carried_by_all-others, true_total-between}
-use Rattle.vms_history.proofs.Owners.{owner_may_own}
 use Rattle.vms_pcpu_core.proofs.StepsInRow.{RunsBetween, own-others_on}
 use Rattle.vms_pcpu_core.proofs.Totals.{totals-kept}
 use Rattle.vms_pcpu_core.proofs.KnowledgeKept.{local-stays}

@@ -1,8 +1,6 @@
 -- The facts that a history may begin with.
 use Rattle.std.specs.Prelude.{◌≡◌, ℕ, ◌*◌, ◌^◌, ◌≤◌, pos, length, unsigned_abs}
-use Rattle.vms_base.specs.declared.kinds.CpuState.TheVariants.{Absent}
-use Rattle.vms_base.specs.Cpus.{HasOnline}
-use Rattle.vms_base.specs.Places.{IsLayout, IsCpu}
+use Rattle.vms_history.specs.Common.{Absent, HasOnline, IsLayout, IsCpu}
 use Rattle.vms_pcpu_core.specs.declared.steps.PcpuFacts.{PcpuFacts}
 use Rattle.vms_pcpu_core.specs.States.{counters_of, batch_at, count_at, local_at, cpu_at, IsPcpu}
 

@@ -1,16 +1,14 @@
 -- The steps of each call on the percpu counters, the oldest first, and its answer.
 use Rattle.std.specs.Prelude.{◌≡◌, ◌≢◌, ℕ, suc, zero, ◌*◌, ◌<◌, ◌≤◌, Bool, true, false, ℤ, pos, negsuc, ◌+ℤ◌, ◌-ℤ◌}
 use Rattle.std.specs.Prelude.{◌≤ℤ◌, ◌<ℤ◌, int_le, int_lt, List, [], ◌∷◌, ◌++◌, if◌then◌else◌, unsigned_abs}
-use Rattle.vms_base.specs.declared.ids.CpuId.{CpuId}
-use Rattle.vms_base.specs.declared.ids.PcpuId.{PcpuId}
+use Rattle.vms_history.specs.Common.{CpuId, PcpuId, present_from}
 use Rattle.vms_pcpu_core.specs.declared.answers.Compare.{Compare}
 use Rattle.vms_pcpu_core.specs.declared.steps.PcpuFacts.{PcpuFacts}
 use Rattle.vms_pcpu_core.specs.declared.steps.PcpuStep.{PcpuStep}
-use Rattle.vms_pcpu_core.specs.declared.steps.PcpuStep.TheVariants.{AddL, LoadL, LoadC, Won}
-use Rattle.vms_pcpu_core.specs.declared.steps.PcpuStep.TheVariants.{Missed, TakeL, AddC, Unlock}
+use Rattle.vms_pcpu_core.specs.declared.steps.PcpuStep.TheVariants.{AddL, LoadL, LoadC, Won, Missed, TakeL, AddC}
+use Rattle.vms_pcpu_core.specs.declared.steps.PcpuStep.TheVariants.{Unlock}
 use Rattle.vms_pcpu_core.specs.States.{batch_at}
 use Rattle.vms_pcpu_core.specs.Totals.{present}
-use Rattle.vms_base.specs.Cpus.{present_from}
 
 abbrev pub present_cpus : PcpuFacts → List CpuId
 present_cpus facts = present_from 0 facts.cpus
@@ -98,9 +96,9 @@ pub data Judges (unknown : ℕ) (limit : ℤ) (cpus : List CpuId) (j : PcpuId) (
 
 -- how a limited addition ends under the lock: on yes the own local part moves to the shared part together with the
 -- amount, on no nothing changes
-pub data Settles (own : CpuId) (j : PcpuId) (amount : ℤ) : Bool → List PcpuStep → Type 0 where
-  yes_ends : (u : ℤ) → Settles own j amount true (TakeL j own u ∷ AddC j (u +ℤ amount) ∷ Unlock j ∷ [])
-  no_ends : Settles own j amount false (Unlock j ∷ [])
+pub data EndsLimitedAdd (own : CpuId) (j : PcpuId) (amount : ℤ) : Bool → List PcpuStep → Type 0 where
+  yes_ends : (u : ℤ) → EndsLimitedAdd own j amount true (TakeL j own u ∷ AddC j (u +ℤ amount) ∷ Unlock j ∷ [])
+  no_ends : EndsLimitedAdd own j amount false (Unlock j ∷ [])
 
 -- an addition that keeps a limit, so far as it sees; no counterpart in Linux 6.1
 pub data IsLimitedAdd (batch unknown : ℕ) (cpus : List CpuId) (own : CpuId) (j : PcpuId) (limit amount : ℤ)
@@ -110,5 +108,5 @@ pub data IsLimitedAdd (batch unknown : ℕ) (cpus : List CpuId) (own : CpuId) (j
       → IsLimitedAdd batch unknown cpus own j limit amount (LoadL j own l ∷ LoadC j v ∷ AddL j amount ∷ []) true
   locked : (v : ℤ) (answer : Bool) (probing locking loads ending : List PcpuStep) → amount ≢ pos 0
       → Probes batch unknown limit own j amount probing → Locks j locking
-      → Judges unknown limit cpus j amount (v +ℤ amount) loads answer → Settles own j amount answer ending
+      → Judges unknown limit cpus j amount (v +ℤ amount) loads answer → EndsLimitedAdd own j amount answer ending
       → IsLimitedAdd batch unknown cpus own j limit amount (probing ++ locking ++ LoadC j v ∷ (loads ++ ending)) answer

@@ -1,17 +1,11 @@
 -- What each kind of step asks, in the state before it and of the history before it.
 use Rattle.std.specs.Prelude.{◌≡◌, ℕ, ◌+◌, ◌≤◌, true, false, ℤ, pos, ◌+ℤ◌, ◌-ℤ◌, List, Option, Some, None, unsigned_abs}
-use Rattle.vms_base.specs.declared.ids.CpuId.{CpuId}
-use Rattle.vms_base.specs.declared.ids.PcpuId.{PcpuId}
-use Rattle.vms_base.specs.declared.kinds.CpuState.TheVariants.{Dead}
-use Rattle.vms_base.specs.Volumes.{most_volume}
-use Rattle.vms_base.specs.Places.{IsCpu}
+use Rattle.vms_history.specs.Common.{CpuId, PcpuId, Dead, most_volume, IsCpu, own, owner_in}
 use Rattle.vms_history.specs.declared.events.Event.{Event}
-use Rattle.vms_history.specs.Events.{own}
-use Rattle.vms_history.specs.Passes.{owner_in}
 use Rattle.vms_pcpu_core.specs.declared.steps.PcpuFacts.{PcpuFacts}
 use Rattle.vms_pcpu_core.specs.declared.steps.PcpuStep.{PcpuStep}
-use Rattle.vms_pcpu_core.specs.declared.steps.PcpuStep.TheVariants.{AddL, LoadL, LoadC, Won, Missed}
-use Rattle.vms_pcpu_core.specs.declared.steps.PcpuStep.TheVariants.{TakeL, AddC, Unlock, Split, Join}
+use Rattle.vms_pcpu_core.specs.declared.steps.PcpuStep.TheVariants.{AddL, LoadL, LoadC, Won, Missed, TakeL, AddC}
+use Rattle.vms_pcpu_core.specs.declared.steps.PcpuStep.TheVariants.{Unlock, Split, Join}
 use Rattle.vms_pcpu_core.specs.States.{LockedState, batch_at, count_at, local_at, held_at, cpu_at, IsPcpu}
 use Rattle.vms_pcpu_core.specs.Own.{holds_lock, carried}
 use Rattle.vms_pcpu_core.specs.Steps.{role}

@@ -1,6 +1,6 @@
 -- What a step makes of single numbers and locks of a state.
 use Rattle.std.specs.Prelude.{ℕ, nat_eq, ◌&&◌, Bool, true, false, ℤ, pos, ◌+ℤ◌, if◌then◌else◌, Option}
-use Rattle.vms_base.specs.declared.ids.CpuId.{CpuId}
+use Rattle.vms_history.specs.Common.{CpuId}
 use Rattle.vms_pcpu_core.specs.declared.steps.PcpuStep.{PcpuStep}
 use Rattle.vms_pcpu_core.specs.declared.steps.PcpuStep.TheVariants.{AddL, Won, TakeL, AddC, Unlock}
 use Rattle.vms_pcpu_core.specs.Totals.{is_owned}

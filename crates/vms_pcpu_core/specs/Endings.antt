@@ -1,10 +1,7 @@
 -- How a complete history of percpu counters ends, and that the next one may begin with its numbers.
 use Rattle.std.specs.Prelude.{◌≡◌, ℕ, ◌+◌, ◌*◌, ◌^◌, ◌≤◌, false, pos, ◌+ℤ◌, ◌≤ℤ◌, [], unsigned_abs}
-use Rattle.vms_base.specs.Places.{IsCpu}
-use Rattle.vms_base.specs.Volumes.{most_volume}
-use Rattle.vms_history.specs.Events.{own}
+use Rattle.vms_history.specs.Common.{IsCpu, most_volume, own, sum_below}
 use Rattle.vms_history.specs.Legal as legal
-use Rattle.vms_history.specs.Sums.{sum_below}
 use Rattle.vms_pcpu_core.specs.declared.steps.PcpuFacts.{PcpuFacts}
 use Rattle.vms_pcpu_core.specs.Bases.{IsBase, most_batch, most_count}
 use Rattle.vms_pcpu_core.specs.Histories.{percpu, History, state_after}

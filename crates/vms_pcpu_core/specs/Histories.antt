@@ -1,9 +1,7 @@
 -- The machine of the percpu counters, and its legal histories.
 use Rattle.std.specs.Prelude.{List, Option}
-use Rattle.vms_base.specs.declared.ids.CpuId.{CpuId}
-use Rattle.vms_base.specs.Cpus.{MayOwnCpu}
+use Rattle.vms_history.specs.Common.{CpuId, MayOwnCpu, Machine}
 use Rattle.vms_history.specs.declared.events.Event.{Event}
-use Rattle.vms_history.specs.Legal.{Machine}
 use Rattle.vms_history.specs.Legal as legal
 use Rattle.vms_pcpu_core.specs.declared.steps.PcpuFacts.{PcpuFacts}
 use Rattle.vms_pcpu_core.specs.declared.steps.PcpuStep.{PcpuStep}

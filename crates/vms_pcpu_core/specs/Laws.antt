@@ -1,12 +1,8 @@
 -- What holds of every legal history of percpu counters.
-use Rattle.std.specs.Prelude.{◌≡◌, ℕ, suc, ◌+◌, ◌*◌, ◌^◌, ◌<◌, ◌≤◌, nat_eq, ◌&&◌, true, false}
-use Rattle.std.specs.Prelude.{ℤ, pos, ◌+ℤ◌, ◌-ℤ◌, ◌≤ℤ◌, [], ◌∷◌, ◌↔◌, if◌then◌else◌, Some, is_some, unsigned_abs}
-use Rattle.vms_base.specs.declared.kinds.CpuState.TheVariants.{Dead, Absent}
-use Rattle.vms_base.specs.Places.{IsCpu}
-use Rattle.vms_base.specs.Volumes.{most_volume}
-use Rattle.vms_history.specs.Events.{own, total}
-use Rattle.vms_history.specs.Passes.{begun_in, lives_in, owner_in}
-use Rattle.vms_history.specs.Sums.{sum_below}
+use Rattle.std.specs.Prelude.{◌≡◌, ℕ, suc, ◌+◌, ◌*◌, ◌^◌, ◌<◌, ◌≤◌, nat_eq, ◌&&◌, true, false, ℤ, pos, ◌+ℤ◌, ◌-ℤ◌, ◌≤ℤ◌}
+use Rattle.std.specs.Prelude.{[], ◌∷◌, ◌↔◌, if◌then◌else◌, Some, is_some, unsigned_abs}
+use Rattle.vms_history.specs.Common.{Dead, Absent, IsCpu, most_volume, own, total, begun_in, lives_in, owner_in}
+use Rattle.vms_history.specs.Common.{sum_below}
 use Rattle.vms_pcpu_core.specs.declared.states.PcpuState.{PcpuState}
 use Rattle.vms_pcpu_core.specs.declared.steps.PcpuFacts.{PcpuFacts}
 use Rattle.vms_pcpu_core.specs.declared.steps.PcpuStep.{PcpuStep}
@@ -72,13 +68,13 @@ pub record IsSmall (facts : PcpuFacts) (h : History) (j : ℕ) : Type 0 where
   pub truth : unsigned_abs (true_total facts h j) ≤ most_number
 
 -- the number that a step names
-abbrev pub number_of : PcpuStep → ℤ
-number_of (AddL j a) = a
-number_of (LoadL j c v) = v
-number_of (LoadC j v) = v
-number_of (TakeL j c v) = v
-number_of (AddC j a) = a
-number_of _ = pos 0
+abbrev pub step_number : PcpuStep → ℤ
+step_number (AddL j a) = a
+step_number (LoadL j c v) = v
+step_number (LoadC j v) = v
+step_number (TakeL j c v) = v
+step_number (AddC j a) = a
+step_number _ = pos 0
 
 -- what a step takes of the local part of CPU c for counter j
 abbrev pub taken_by : ℕ → ℕ → PcpuStep → ℤ
@@ -108,7 +104,7 @@ abbrev pub spent_by_pass : History → ℕ → ℕ → ℕ → ℤ
 spent_by_pass h c j p = if is_owned (owner_in role h p) c then own_added size_of j (own h p) else pos 0
 
 -- no CPU spends more than its volume, and it spends what the passes that own it add
-pub record KeepsVolumes (h : History) : Type 0 where
+pub record KeepsVolumesByPass (h : History) : Type 0 where
   pub most : (c j : ℕ) → spent h c j ≤ most_volume
   pub by_pass : (c j : ℕ) → pos (spent h c j) ≡ sum_below (spent_by_pass h c j) (suc (begun_in role h))
 
@@ -131,4 +127,4 @@ pub record KeepsLaws (facts : PcpuFacts) (h : History) : Type 0 where
   -- the amounts of a history are those of its callers
   pub callers : AddsByCaller h
   -- no CPU spends more than its volume
-  pub volumes : KeepsVolumes h
+  pub volumes : KeepsVolumesByPass h

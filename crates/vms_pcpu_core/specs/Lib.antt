@@ -17,3 +17,5 @@ pub mod MadeBetween
 pub mod Summing
 pub mod Limits
 pub mod MayCall
+pub mod PcpuCalls
+pub mod Common

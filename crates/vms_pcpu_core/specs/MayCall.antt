@@ -1,17 +1,13 @@
 -- The steps of each call may be made, whatever other callers do between them.
 use Rattle.std.specs.Prelude.{◌≡◌, ℕ, ◌≤◌, Bool, true, false, ℤ, List, Some}
-use Rattle.vms_base.specs.declared.ids.CpuId.{CpuId}
-use Rattle.vms_base.specs.declared.ids.PcpuId.{PcpuId}
-use Rattle.vms_base.specs.Places.{IsCpu}
-use Rattle.vms_history.specs.Events.{own}
+use Rattle.vms_history.specs.Common.{CpuId, PcpuId, IsCpu, own, lives_in, owner_in}
 use Rattle.vms_history.specs.PassSteps as making
-use Rattle.vms_history.specs.Passes.{lives_in, owner_in}
 use Rattle.vms_pcpu_core.specs.declared.answers.Compare.{Compare}
 use Rattle.vms_pcpu_core.specs.declared.steps.PcpuFacts.{PcpuFacts}
 use Rattle.vms_pcpu_core.specs.declared.steps.PcpuStep.{PcpuStep}
 use Rattle.vms_pcpu_core.specs.declared.steps.PcpuStep.TheVariants.{LoadL, LoadC, Won, Missed, TakeL}
-use Rattle.vms_pcpu_core.specs.Calls.{IsRead, IsAdd, IsSync, IsFoldDead, IsSum}
-use Rattle.vms_pcpu_core.specs.Calls.{IsCompare, IsLimitedAdd, present_cpus, unknown}
+use Rattle.vms_pcpu_core.specs.Calls.{IsRead, IsAdd, IsSync, IsFoldDead, IsSum, IsCompare, IsLimitedAdd, present_cpus}
+use Rattle.vms_pcpu_core.specs.Calls.{unknown}
 use Rattle.vms_pcpu_core.specs.Conditions.{MayTake, MayAdd}
 use Rattle.vms_pcpu_core.specs.Histories.{percpu, History, IsLegal, state_after}
 use Rattle.vms_pcpu_core.specs.Laws.{numbers_after}
@@ -39,7 +35,8 @@ pub record MayCall (facts : PcpuFacts) (h : History) (p : ℕ) : Type 0 where
   pub idle : IsIdle (own h p)
 
 -- a pass that owns a CPU which may still change a counter by this amount
-pub record MayChange (facts : PcpuFacts) (h : History) (p : ℕ) (cpu : CpuId) (j : PcpuId) (amount : ℤ) : Type 0 where
+pub record MayChangePcpu (facts : PcpuFacts) (h : History) (p : ℕ) (cpu : CpuId) (j : PcpuId)
+    (amount : ℤ) : Type 0 where
   pub calls : MayCall facts h p
   pub owner : owner_in role h p ≡ Some cpu
   pub counter : IsPcpu facts j.number
@@ -62,11 +59,12 @@ MakesCompare = (facts : PcpuFacts) (h : History) (p : ℕ) (j : PcpuId) (rhs : �
 -- a pass that owns a CPU may add an amount that its volume allows, and add it under a limit
 abbrev pub MakesAdd : Type 0
 MakesAdd = (facts : PcpuFacts) (h : History) (p : ℕ) (cpu : CpuId) (j : PcpuId) (amount : ℤ) (steps : List PcpuStep) →
-    MayChange facts h p cpu j amount → IsAdd (batch_at facts.base j.number) cpu j amount steps → MayMake facts p h steps
+    MayChangePcpu facts h p cpu j amount → IsAdd (batch_at facts.base j.number) cpu j amount steps →
+    MayMake facts p h steps
 
 abbrev pub MakesLimitedAdd : Type 0
 MakesLimitedAdd = (facts : PcpuFacts) (h : History) (p : ℕ) (cpu : CpuId) (j : PcpuId) (limit amount : ℤ)
-    (steps : List PcpuStep) (answer : Bool) → MayChange facts h p cpu j amount →
+    (steps : List PcpuStep) (answer : Bool) → MayChangePcpu facts h p cpu j amount →
     IsLimitedAdd (batch_at facts.base j.number) (unknown facts j.number) (present_cpus facts) cpu j limit amount steps
     answer → MayMake facts p h steps
 

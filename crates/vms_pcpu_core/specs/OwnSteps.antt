@@ -1,8 +1,7 @@
 -- What a caller's own steps come to, by themselves: what it holds and carries after them, and what they add.
 use Rattle.std.specs.Prelude.{◌≡◌, ℕ, nat_eq, Bool, false, ℤ, pos, ◌+ℤ◌, List, [], ◌∷◌, if◌then◌else◌, unsigned_abs}
-use Rattle.vms_base.specs.declared.ids.PcpuId.{PcpuId}
+use Rattle.vms_history.specs.Common.{PcpuId, own, after}
 use Rattle.vms_history.specs.declared.events.Event.{Event}
-use Rattle.vms_history.specs.Events.{own, after}
 use Rattle.vms_pcpu_core.specs.declared.steps.PcpuStep.{PcpuStep}
 use Rattle.vms_pcpu_core.specs.Own.{holds_lock, holds_lock_after, carried, carried_after}
 use Rattle.vms_pcpu_core.specs.Totals.{amount_of}

@@ -1,8 +1,6 @@
 -- A Split and a Join leave the percpu counters as they are, and ask nothing beyond the rules of the passes.
 use Rattle.std.specs.Prelude.{◌≡◌, ◌≢◌, Option, refl, ℕ}
-use Rattle.vms_base.specs.declared.ids.CpuId.{CpuId}
-use Rattle.vms_history.specs.Legal.{IsQuiet}
-use Rattle.vms_history.specs.Passes.Role.{Works}
+use Rattle.vms_history.specs.Common.{CpuId, IsQuiet, Works}
 use Rattle.vms_pcpu_core.specs.States.{LockedState}
 use Rattle.vms_pcpu_core.specs.declared.steps.PcpuFacts.{PcpuFacts}
 use Rattle.vms_pcpu_core.specs.declared.steps.PcpuStep.{PcpuStep}

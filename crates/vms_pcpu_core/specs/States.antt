@@ -1,8 +1,6 @@
 -- Where the numbers of a state stand, and what a write makes of the state.
 use Rattle.std.specs.Prelude.{◌≡◌, ℕ, ◌*◌, ◌<◌, Bool, false, ℤ, pos, List, length, slice_index_or, slice_set, replicate}
-use Rattle.vms_base.specs.Places.{cell}
-use Rattle.vms_base.specs.declared.kinds.CpuState.{CpuState}
-use Rattle.vms_base.specs.Cpus.{state_at}
+use Rattle.vms_history.specs.Common.{cell, CpuState, state_at}
 use Rattle.vms_pcpu_core.specs.declared.states.PcpuState.{PcpuState}
 use Rattle.vms_pcpu_core.specs.declared.steps.PcpuFacts.{PcpuFacts}
 

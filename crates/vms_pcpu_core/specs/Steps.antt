@@ -1,9 +1,6 @@
 -- What each kind of step does to the passes and to the state.
 use Rattle.std.specs.Prelude.{true, false, ℤ, pos, ◌+ℤ◌, Option, Some, None}
-use Rattle.vms_base.specs.declared.ids.CpuId.{CpuId}
-use Rattle.vms_base.specs.declared.ids.PcpuId.{PcpuId}
-use Rattle.vms_history.specs.Passes.{Role}
-use Rattle.vms_history.specs.Passes.Role.{Works, Begins, Ends}
+use Rattle.vms_history.specs.Common.{CpuId, PcpuId, Role, Works, Begins, Ends}
 use Rattle.vms_pcpu_core.specs.declared.steps.PcpuFacts.{PcpuFacts}
 use Rattle.vms_pcpu_core.specs.declared.steps.PcpuStep.{PcpuStep}
 use Rattle.vms_pcpu_core.specs.declared.steps.PcpuStep.TheVariants.{AddL, Won, TakeL, AddC, Unlock, Split, Join}

@@ -1,8 +1,6 @@
 -- What the sum of a counter is, while others act.
 use Rattle.std.specs.Prelude.{◌≡◌, ℕ, ◌+◌, ◌*◌, ◌<◌, true, false, ℤ, pos, ◌+ℤ◌, ◌-ℤ◌, ◌≤ℤ◌, [], ◌∷◌, ◌++◌, unsigned_abs}
-use Rattle.vms_base.specs.declared.ids.PcpuId.{PcpuId}
-use Rattle.vms_base.specs.Places.{IsCpu}
-use Rattle.vms_history.specs.Sums.{sum_below}
+use Rattle.vms_history.specs.Common.{PcpuId, IsCpu, sum_below, is_present}
 use Rattle.vms_pcpu_core.specs.declared.answers.Compare.{Compare}
 use Rattle.vms_pcpu_core.specs.declared.steps.PcpuFacts.{PcpuFacts}
 use Rattle.vms_pcpu_core.specs.declared.steps.PcpuStep.TheVariants.{LoadL, LoadC, Won}
@@ -13,7 +11,6 @@ use Rattle.vms_pcpu_core.specs.Laws.{carried_by_all, most_number}
 use Rattle.vms_pcpu_core.specs.MadeBetween.{event, MadeBetween}
 use Rattle.vms_pcpu_core.specs.States.{cpu_at}
 use Rattle.vms_pcpu_core.specs.Totals.{true_total}
-use Rattle.vms_base.specs.Cpus.{is_present}
 use Rattle.vms_pcpu_core.specs.Knowledge.{added_since}
 
 -- a sum is the true total when the lock was won, and what each CPU added to its local part from there to the load of

@@ -1,13 +1,8 @@
 -- What a whole history changed, and who holds the locks.
-use Rattle.std.specs.Prelude.{ℕ, ◌+◌, nat_eq, Bool, false, ℤ, pos, ◌+ℤ◌, ◌-ℤ◌}
-use Rattle.std.specs.Prelude.{List, [], ◌∷◌, if◌then◌else◌, Option, Some, None, unsigned_abs, count_by}
-use Rattle.vms_base.specs.declared.ids.CpuId.{CpuId}
-use Rattle.vms_base.specs.Cpus.{is_present}
-use Rattle.vms_base.specs.Places.{Shape}
+use Rattle.std.specs.Prelude.{ℕ, ◌+◌, nat_eq, Bool, false, ℤ, pos, ◌+ℤ◌, ◌-ℤ◌, List, [], ◌∷◌, if◌then◌else◌, Option}
+use Rattle.std.specs.Prelude.{Some, None, unsigned_abs, count_by}
+use Rattle.vms_history.specs.Common.{CpuId, is_present, Shape, own, owner_in, sum_below}
 use Rattle.vms_history.specs.declared.events.Event.{Event}
-use Rattle.vms_history.specs.Events.{own}
-use Rattle.vms_history.specs.Passes.{owner_in}
-use Rattle.vms_history.specs.Sums.{sum_below}
 use Rattle.vms_pcpu_core.specs.declared.states.PcpuState.{PcpuState}
 use Rattle.vms_pcpu_core.specs.declared.steps.PcpuFacts.{PcpuFacts}
 use Rattle.vms_pcpu_core.specs.declared.steps.PcpuStep.{PcpuStep}

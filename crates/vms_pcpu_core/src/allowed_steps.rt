@@ -1,12 +1,11 @@
 ghost use Rattle.std.specs.Prelude.{◌≡◌, ℕ, List, [], ◌++◌};
-ghost use Rattle.vms_history.specs.Events.{own, after};
-ghost use Rattle.vms_history.specs.PassSteps.{HasMade};
+ghost use Rattle.vms_history.specs.Common.{own, after, HasMade};
 ghost use Rattle.vms_pcpu_core.specs.declared.steps.PcpuFacts.{PcpuFacts};
 ghost use Rattle.vms_pcpu_core.specs.declared.steps.PcpuStep.{PcpuStep};
 ghost use Rattle.vms_pcpu_core.specs.Histories.{percpu, History, IsLegal};
 ghost use Rattle.vms_pcpu_core.specs.MadeBetween.{MadeSteps, MadeWithin};
-ghost use Rattle.vms_pcpu_core.specs.MayCall.{MakesRead, MakesAdd, MakesSync, MakesFoldDead};
-ghost use Rattle.vms_pcpu_core.specs.MayCall.{MakesSum, MakesCompare, MakesLimitedAdd};
+ghost use Rattle.vms_pcpu_core.specs.MayCall.{MakesRead, MakesAdd, MakesSync, MakesFoldDead, MakesSum, MakesCompare};
+ghost use Rattle.vms_pcpu_core.specs.MayCall.{MakesLimitedAdd};
 
 /// Steps that stand in a row among a caller's own events of a legal history were made between two moments of it, each
 /// of which is a legal history too. So what is promised of a call holds of each call in any legal history. It holds of

@@ -6,3 +6,17 @@ pub struct Compare {
     /// Whether the shared part alone decided.
     pub rough: bool,
 }
+
+/// What a call answers.
+#[derive(Clone, Copy, Debug, PartialEq, Eq)]
+pub enum PcpuAnswer {
+    /// Nothing.
+    Done,
+    /// Whether a limited addition was made.
+    Limited(bool),
+    Compared(Compare),
+    /// The sum over all CPUs.
+    Total(i64),
+    /// The shared part.
+    Count(i64),
+}

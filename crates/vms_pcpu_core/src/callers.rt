@@ -1,9 +1,5 @@
 ghost use Rattle.std.specs.Prelude.{◌≡◌, ℕ, nat_eq, ◌+◌, ℤ, pos, ◌+ℤ◌, Bool, Some, List, if◌then◌else◌, unsigned_abs};
-ghost use Rattle.vms_base.specs.declared.ids.CpuId.{CpuId};
-ghost use Rattle.vms_base.specs.declared.ids.PcpuId.{PcpuId};
-ghost use Rattle.vms_history.specs.Events.{own};
-ghost use Rattle.vms_history.specs.PassSteps.{HasMade};
-ghost use Rattle.vms_history.specs.Passes.{owner_in};
+ghost use Rattle.vms_history.specs.Common.{CpuId, PcpuId, own, HasMade, owner_in};
 ghost use Rattle.vms_pcpu_core.specs.declared.answers.Compare.{Compare};
 ghost use Rattle.vms_pcpu_core.specs.declared.steps.PcpuFacts.{PcpuFacts};
 ghost use Rattle.vms_pcpu_core.specs.declared.steps.PcpuStep.{PcpuStep};

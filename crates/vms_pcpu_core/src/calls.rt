@@ -1,11 +1,10 @@
 ghost use Rattle.std.specs.Prelude.{◌≡◌, ℕ, ℤ, Bool, List, ◌++◌};
-ghost use Rattle.vms_base.specs.declared.ids.CpuId.{CpuId};
-ghost use Rattle.vms_base.specs.declared.ids.PcpuId.{PcpuId};
+ghost use Rattle.vms_history.specs.Common.{CpuId, PcpuId};
 ghost use Rattle.vms_pcpu_core.specs.declared.answers.Compare.{Compare};
 ghost use Rattle.vms_pcpu_core.specs.declared.steps.PcpuStep.{PcpuStep};
 ghost use Rattle.vms_pcpu_core.specs.Calls.{IsRead, IsAdd, IsSync, IsFoldDead, IsSum, IsCompare, IsLimitedAdd};
-ghost use Rattle.vms_pcpu_core.specs.Readings.{read_count, read_add, read_sync, read_fold_dead};
-ghost use Rattle.vms_pcpu_core.specs.Readings.{read_sum, read_compare, read_limited_add};
+ghost use Rattle.vms_pcpu_core.specs.Readings.{read_count, read_add, read_sync, read_fold_dead, read_sum, read_compare};
+ghost use Rattle.vms_pcpu_core.specs.Readings.{read_limited_add};
 
 /// The steps of a read tell its answer, and where they end among further steps.
 pub fn read_is_told()

@@ -1,7 +1,7 @@
 ghost use Rattle.std.specs.Prelude.{ℕ};
 ghost use Rattle.vms_pcpu_core.specs.declared.steps.PcpuFacts.{PcpuFacts};
-ghost use Rattle.vms_pcpu_core.specs.Endings.{IsComplete, HoldsTotals, ending, LeavesRoom};
-ghost use Rattle.vms_pcpu_core.specs.Endings.{BeginsAgain, IsPaid, StaysWithinVolumes, spent_by_now};
+ghost use Rattle.vms_pcpu_core.specs.Endings.{IsComplete, HoldsTotals, ending, LeavesRoom, BeginsAgain, IsPaid};
+ghost use Rattle.vms_pcpu_core.specs.Endings.{StaysWithinVolumes, spent_by_now};
 ghost use Rattle.vms_pcpu_core.specs.Histories.{History};
 ghost use Rattle.vms_pcpu_core.specs.States.{IsPcpu};
 

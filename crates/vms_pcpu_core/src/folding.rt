@@ -1,6 +1,5 @@
 ghost use Rattle.std.specs.Prelude.{◌≡◌, ℕ, ◌<◌, pos, List, ◌++◌};
-ghost use Rattle.vms_base.specs.declared.ids.CpuId.{CpuId};
-ghost use Rattle.vms_base.specs.declared.kinds.CpuState.TheVariants.{Dead};
+ghost use Rattle.vms_history.specs.Common.{CpuId, Dead};
 ghost use Rattle.vms_pcpu_core.specs.declared.steps.PcpuFacts.{PcpuFacts};
 ghost use Rattle.vms_pcpu_core.specs.declared.steps.PcpuStep.{PcpuStep};
 ghost use Rattle.vms_pcpu_core.specs.Calls.{IsFoldDead};

@@ -1,11 +1,6 @@
 ghost use Rattle.std.specs.Prelude.{◌≡◌, ℕ, ◌<◌, true, ℤ, pos, ◌+ℤ◌, ◌-ℤ◌, ◌∷◌, ◌++◌, Some, unsigned_abs};
-ghost use Rattle.vms_base.specs.declared.ids.CpuId.{CpuId};
-ghost use Rattle.vms_base.specs.declared.ids.PcpuId.{PcpuId};
-ghost use Rattle.vms_base.specs.Places.{IsCpu};
+ghost use Rattle.vms_history.specs.Common.{CpuId, PcpuId, IsCpu, own, lives_in, owner_in, sum_below};
 ghost use Rattle.vms_history.specs.declared.events.Event.{Event};
-ghost use Rattle.vms_history.specs.Events.{own};
-ghost use Rattle.vms_history.specs.Passes.{lives_in, owner_in};
-ghost use Rattle.vms_history.specs.Sums.{sum_below};
 ghost use Rattle.vms_pcpu_core.specs.declared.steps.PcpuFacts.{PcpuFacts};
 ghost use Rattle.vms_pcpu_core.specs.declared.steps.PcpuStep.{PcpuStep};
 ghost use Rattle.vms_pcpu_core.specs.declared.steps.PcpuStep.TheVariants.{Won};

@@ -3,7 +3,7 @@ ghost use Rattle.vms_history.specs.declared.events.Event.{Event};
 ghost use Rattle.vms_pcpu_core.specs.declared.steps.PcpuFacts.{PcpuFacts};
 ghost use Rattle.vms_pcpu_core.specs.declared.steps.PcpuStep.{PcpuStep};
 ghost use Rattle.vms_pcpu_core.specs.Histories.{History, IsLegal};
-ghost use Rattle.vms_pcpu_core.specs.Laws.{KeepsLaws, number_of, most_number};
+ghost use Rattle.vms_pcpu_core.specs.Laws.{KeepsLaws, step_number, most_number};
 
 /// At every moment of a legal history, all laws of the percpu counters hold.
 pub fn laws_are_kept()
@@ -13,5 +13,5 @@ pub fn laws_are_kept()
 /// Each number that a step names is at most 2^60 + 128 * (2^16 + 2^48) in absolute size, which is below 2^61.
 pub fn steps_name_small_numbers()
     ensures { (facts : PcpuFacts) (e : Event PcpuStep) (h : History) → IsLegal facts (e ∷ h) →
-        unsigned_abs (number_of e.step) ≤ most_number }
+        unsigned_abs (step_number e.step) ≤ most_number }
 {}

@@ -10,13 +10,14 @@ mod folding;
 mod knowledge;
 mod laws;
 mod limits;
+mod pcpu_calls;
 mod states;
 mod steps;
 mod summing;
 mod tables;
 
 pub use allowed_steps::{calls_may_be_made, calls_stand_in_histories};
-pub use answers::Compare;
+pub use answers::{Compare, PcpuAnswer};
 pub use callers::{
     callers_go_by_own_steps, calls_add_their_amounts, calls_leave_callers_idle,
     calls_spend_their_amounts, owners_spend_by_own_steps,
@@ -30,6 +31,7 @@ pub use folding::fold_dead_empties_local_parts;
 pub use knowledge::{holder_acts_alone, own_part_stays, rough_sign_is_true, sum_is_true_total};
 pub use laws::{laws_are_kept, steps_name_small_numbers};
 pub use limits::{limited_add_alone_is_exact, limited_add_keeps_limit};
+pub use pcpu_calls::{PcpuCall, calls_keep_their_laws};
 pub use states::PcpuState;
 pub use steps::{Event, PcpuFacts, PcpuStep};
 pub use summing::{compare_tells_sign, sum_reads_true_total, sums_are_small};

@@ -1,8 +1,5 @@
 ghost use Rattle.std.specs.Prelude.{◌≡◌, ◌≢◌, ℕ, Bool, true, false, ℤ, pos, List, Some};
-ghost use Rattle.vms_base.specs.declared.ids.CpuId.{CpuId};
-ghost use Rattle.vms_base.specs.declared.ids.PcpuId.{PcpuId};
-ghost use Rattle.vms_history.specs.Events.{own};
-ghost use Rattle.vms_history.specs.Passes.{owner_in};
+ghost use Rattle.vms_history.specs.Common.{CpuId, PcpuId, own, owner_in};
 ghost use Rattle.vms_pcpu_core.specs.declared.steps.PcpuFacts.{PcpuFacts};
 ghost use Rattle.vms_pcpu_core.specs.declared.steps.PcpuStep.{PcpuStep};
 ghost use Rattle.vms_pcpu_core.specs.Calls.{IsLimitedAdd, present_cpus, unknown};

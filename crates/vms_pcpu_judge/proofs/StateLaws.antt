@@ -2,18 +2,13 @@
 use Rattle.std.proofs.Common.{◌≡◌, ℕ, ◌+◌, ◌<◌, List, ◌∷◌, length, get_or, take, Bool, ℤ, ◌+ℤ◌, ap, ◌∙◌, sym}
 use Rattle.std.specs.Prelude.{reverse}
 use Rattle.vms_history.specs.declared.events.Event.{Event}
-use Rattle.vms_history.specs.Passes.{owner_in}
-use Rattle.vms_judge.proofs.Prefixes.{reverse_more, legal_more}
+use Rattle.vms_history.specs.Common.{owner_in}
+use Rattle.vms_judge.proofs.Common.{reverse_more, legal_more}
 use Rattle.vms_pcpu_core.specs.declared.steps.PcpuFacts.{PcpuFacts}
 use Rattle.vms_pcpu_core.specs.declared.steps.PcpuStep.{PcpuStep}
-use Rattle.vms_pcpu_core.specs.Effects.{count_after, held_after, local_after}
-use Rattle.vms_pcpu_core.specs.Histories.{percpu, IsLegal, state_after}
-use Rattle.vms_pcpu_core.specs.Laws.{numbers_after}
-use Rattle.vms_pcpu_core.specs.States.{IsPcpu, count_at, held_at, local_at}
-use Rattle.vms_pcpu_core.specs.Steps.{role}
-use Rattle.vms_pcpu_core.proofs.Effects.{count_at-effect, held_at-effect, local_at-effect}
-use Rattle.vms_pcpu_core.proofs.Shapes.{HasShape-state_after}
-use Rattle.vms_pcpu_core.proofs.Totals.{owned}
+use Rattle.vms_pcpu_core.specs.Common.{count_after, held_after, local_after, percpu, IsLegal, state_after}
+use Rattle.vms_pcpu_core.specs.Common.{numbers_after, IsPcpu, count_at, held_at, local_at, role}
+use Rattle.vms_pcpu_core.proofs.Common.{count_at-effect, held_at-effect, local_at-effect, HasShape-state_after, owned}
 
 -- event i of a legal history, which is given oldest first
 module _ (facts : PcpuFacts) (xs : List (Event PcpuStep)) (legal : IsLegal facts (reverse xs)) (i : ℕ)

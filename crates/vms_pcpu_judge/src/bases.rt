@@ -1,8 +1,6 @@
 ghost use Rattle.std.specs.Prelude.{◌≡◌, ◌≤◌, ◌<◌, ◌*◌, ◌↔◌, ℕ, pos, IsTrue, length, unsigned_abs};
-ghost use Rattle.vms_base.specs.Cpus.{HasOnline};
-ghost use Rattle.vms_base.specs.Places.{IsCpu, IsLayout};
-ghost use Rattle.vms_pcpu_core.specs.Bases.{IsBase, HasLengths, IsCounterBase, IsLocalBase};
-ghost use Rattle.vms_pcpu_core.specs.States.{IsPcpu, counters_of};
+ghost use Rattle.vms_history.specs.Common.{HasOnline, IsCpu, IsLayout};
+ghost use Rattle.vms_pcpu_core.specs.Common.{IsBase, HasLengths, IsCounterBase, IsLocalBase, IsPcpu, counters_of};
 
 use crate::facts::state_of;
 use crate::states::base_local;

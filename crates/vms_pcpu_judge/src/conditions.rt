@@ -1,17 +1,8 @@
 ghost use Rattle.std.specs.Prelude.{◌≡◌, ◌≤◌, ◌+◌, ◌^◌, ◌-ℤ◌, ◌+ℤ◌, ◌↔◌, IsTrue, reverse, unsigned_abs};
-ghost use Rattle.vms_base.specs.Places.{IsCpu};
-ghost use Rattle.vms_history.specs.Events.{own};
-ghost use Rattle.vms_history.specs.Passes.{owner_in};
-ghost use Rattle.vms_pcpu_core.specs.Bases.{IsBase};
-ghost use Rattle.vms_pcpu_core.specs.Conditions.{Meets, AddsToLocal, LoadsLocal, LoadsCount, WinsLock, MissesLock};
-ghost use Rattle.vms_pcpu_core.specs.Conditions.{TakesLocal, MayTake, MayAdd, AddsToCount, GivesBack};
-ghost use Rattle.vms_base.specs.Volumes.{most_volume};
-ghost use Rattle.vms_pcpu_core.specs.Histories.{IsLegal, state_after};
-ghost use Rattle.vms_pcpu_core.specs.Laws.{numbers_after};
-ghost use Rattle.vms_pcpu_core.specs.Own.{carried};
-ghost use Rattle.vms_pcpu_core.specs.States.{IsPcpu, cpu_at, local_at, batch_at};
-ghost use Rattle.vms_pcpu_core.specs.Steps.{role};
-ghost use Rattle.vms_pcpu_core.specs.Totals.{spent};
+ghost use Rattle.vms_history.specs.Common.{IsCpu, own, owner_in, most_volume};
+ghost use Rattle.vms_pcpu_core.specs.Common.{IsBase, Meets, AddsToLocal, LoadsLocal, LoadsCount, WinsLock, MissesLock};
+ghost use Rattle.vms_pcpu_core.specs.Common.{TakesLocal, MayTake, MayAdd, AddsToCount, GivesBack, IsLegal, state_after};
+ghost use Rattle.vms_pcpu_core.specs.Common.{numbers_after, carried, IsPcpu, cpu_at, local_at, batch_at, role, spent};
 
 use crate::JudgedPercpu;
 use crate::facts::{has_counter, has_cpu, state_of};

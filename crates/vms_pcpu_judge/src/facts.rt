@@ -1,6 +1,6 @@
 ghost use Rattle.std.specs.Prelude.{◌≡◌, ◌↔◌, IsTrue};
-ghost use Rattle.vms_base.specs.Places.{IsCpu};
-ghost use Rattle.vms_pcpu_core.specs.States.{IsPcpu, cpu_at};
+ghost use Rattle.vms_history.specs.Common.{IsCpu};
+ghost use Rattle.vms_pcpu_core.specs.Common.{IsPcpu, cpu_at};
 
 use vms_base::{CpuId, CpuState, PcpuId};
 use vms_pcpu_core::PcpuFacts;

@@ -1,6 +1,6 @@
 ghost use Rattle.std.specs.Prelude.{◌≡◌, ◌≤◌, ◌+◌, ◌^◌, ◌↔◌, IsTrue, reverse, unsigned_abs};
-ghost use Rattle.vms_history.specs.Events.{own};
-ghost use Rattle.vms_pcpu_core.specs.Own.{HoldsNoLock, holds_lock, holds_lock_after, carried, carried_after};
+ghost use Rattle.vms_history.specs.Common.{own};
+ghost use Rattle.vms_pcpu_core.specs.Common.{HoldsNoLock, holds_lock, holds_lock_after, carried, carried_after};
 
 use vms_base::PcpuId;
 use vms_pcpu_core::{Event, PcpuFacts, PcpuStep};

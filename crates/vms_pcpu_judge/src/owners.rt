@@ -1,6 +1,5 @@
 ghost use Rattle.std.specs.Prelude.{◌≡◌, ◌↔◌, IsTrue};
-ghost use Rattle.vms_pcpu_core.specs.Histories.{MayOwn};
-ghost use Rattle.vms_pcpu_core.specs.Totals.{is_owned};
+ghost use Rattle.vms_pcpu_core.specs.Common.{MayOwn, is_owned};
 
 use crate::facts::{has_cpu, state_of};
 use vms_base::{CpuId, CpuState};

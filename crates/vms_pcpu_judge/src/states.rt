@@ -1,12 +1,7 @@
 ghost use Rattle.std.specs.Prelude.{◌≡◌, ◌≤◌, ◌+◌, ◌*◌, ◌^◌, ℤ, ◌+ℤ◌, length, reverse, unsigned_abs};
-ghost use Rattle.vms_base.specs.Places.{IsCpu};
-ghost use Rattle.vms_history.specs.Passes.{owner_in};
-ghost use Rattle.vms_pcpu_core.specs.Bases.{IsBase};
-ghost use Rattle.vms_pcpu_core.specs.Effects.{count_after, held_after, local_after};
-ghost use Rattle.vms_pcpu_core.specs.Histories.{IsLegal, state_after};
-ghost use Rattle.vms_pcpu_core.specs.Laws.{numbers_after};
-ghost use Rattle.vms_pcpu_core.specs.States.{IsPcpu, count_at, local_at, held_at, counters_of};
-ghost use Rattle.vms_pcpu_core.specs.Steps.{role};
+ghost use Rattle.vms_history.specs.Common.{IsCpu, owner_in};
+ghost use Rattle.vms_pcpu_core.specs.Common.{IsBase, count_after, held_after, local_after, IsLegal, state_after};
+ghost use Rattle.vms_pcpu_core.specs.Common.{numbers_after, IsPcpu, count_at, local_at, held_at, counters_of, role};
 
 use crate::JudgedPercpu;
 use crate::owners::owns;

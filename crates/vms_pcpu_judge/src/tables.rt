@@ -1,6 +1,4 @@
-ghost use Rattle.vms_pcpu_core.specs.States.{LockedState};
-ghost use Rattle.vms_pcpu_core.specs.Histories.{percpu};
-ghost use Rattle.vms_pcpu_core.specs.Quiet.{quiet_percpu};
+ghost use Rattle.vms_pcpu_core.specs.Common.{LockedState, percpu, quiet_percpu};
 
 use crate::bases::is_base;
 use crate::conditions::meets;

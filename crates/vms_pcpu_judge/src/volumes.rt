@@ -1,11 +1,6 @@
 ghost use Rattle.std.specs.Prelude.{◌≡◌, ◌≤◌, ◌+◌, ◌^◌, ◌↔◌, IsTrue, reverse, unsigned_abs};
-ghost use Rattle.vms_history.specs.Events.{own};
-ghost use Rattle.vms_history.specs.Passes.{owner_in};
-ghost use Rattle.vms_base.specs.Volumes.{most_volume};
-ghost use Rattle.vms_pcpu_core.specs.Histories.{IsLegal};
-ghost use Rattle.vms_pcpu_core.specs.Own.{carried};
-ghost use Rattle.vms_pcpu_core.specs.Steps.{role};
-ghost use Rattle.vms_pcpu_core.specs.Totals.{amount_of, spent, spent_by};
+ghost use Rattle.vms_history.specs.Common.{own, owner_in, most_volume};
+ghost use Rattle.vms_pcpu_core.specs.Common.{IsLegal, carried, role, amount_of, spent, spent_by};
 
 use crate::JudgedPercpu;
 use crate::holdings::carrying;

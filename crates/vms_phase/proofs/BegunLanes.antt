@@ -1,24 +1,14 @@
 -- The passes of lanes begin one after another: each is fresh, and what the next one owns is free.
-use Rattle.std.proofs.Common.{◌≡◌, ◌≢◌, ℕ, zero, suc, ◌+◌, ◌<◌, ◌≤◌, true, false, List, [], ◌∷◌, ◌++◌, length}
-use Rattle.std.proofs.Common.{Option, Some, refl, sym, ap, subst, ◌∙◌, arith, ⊎_elim, append_assoc, length-append}
-use Rattle.vms_base.specs.declared.ids.CpuId.{CpuId}
-use Rattle.vms_history.specs.declared.events.Event.{Event}
-use Rattle.vms_history.specs.Events.{after, own}
-use Rattle.vms_history.specs.Legal.{Machine, IsLegal}
-use Rattle.vms_history.specs.Passes.{IsFree, Role, begun, begun_in, lives, owner, owner_in}
-use Rattle.vms_history.proofs.Own.{own-mine}
-use Rattle.vms_history.proofs.Owners.{owner_is_given}
-use Rattle.vms_history.proofs.PassLaws.{caller_is_given, owner_in-append}
-use Rattle.vms_history.proofs.Prefixes.{prefix_is_legal}
-use Rattle.vms_seats.specs.MainSteps.{HasBegun, next_number}
-use Rattle.vms_seats.specs.Passes.{Pass}
-use Rattle.vms_text.specs.declared.acts.Lane.{Lane}
-use Rattle.vms_text.specs.declared.acts.Lane.TheVariants.{Cpu}
-use Rattle.vms_world.specs.Lanes.{is_among, lane_at, owner_of}
-use Rattle.vms_file_order.specs.LanePasses.{PassSteps, StandOnce, begins_from, opening_of, pass_of}
-use Rattle.vms_file_order.proofs.LaneLists.{owner_of-injective, pass_of-lane_at}
-use Rattle.vms_file_order.proofs.Openings.{begun-begins, lives-only, owner-lane}
-use Rattle.vms_phase.specs.BegunLanes.{HasBegunLanes, IsFresh}
+use Rattle.std.proofs.Common.{◌≡◌, ◌≢◌, ℕ, zero, suc, ◌+◌, ◌<◌, ◌≤◌, true, false, List, [], ◌∷◌, ◌++◌, length, Option}
+use Rattle.std.proofs.Common.{Some, refl, sym, ap, subst, ◌∙◌, arith, ⊎_elim, append_assoc, length-append}
+use Rattle.vms_world.specs.Common.{CpuId, Event, after, own, Machine, IsFree, Role, begun, begun_in, lives, owner}
+use Rattle.vms_world.specs.Common.{owner_in, Lane, Cpu, is_among, lane_at, owner_of}
+use Rattle.vms_history.specs.Legal.{IsLegal}
+use Rattle.vms_history.proofs.Common.{own-mine, owner_is_given, caller_is_given, owner_in-append, prefix_is_legal}
+use Rattle.vms_seats.specs.Common.{HasBegun, next_number, Pass}
+use Rattle.vms_file_order.specs.Common.{PassSteps, StandOnce, begins_from, opening_of, pass_of}
+use Rattle.vms_file_order.proofs.Common.{owner_of-injective, pass_of-lane_at, begun-begins, lives-only, owner-lane}
+use Rattle.vms_phase.specs.Common.{HasBegunLanes, IsFresh}
 
 module _ {K : Type 0} {role : K → Role} (passes : PassSteps K role) where
   -- one lane more

@@ -1,45 +1,24 @@
 -- Once the passes of the control lane have begun, they may make the lane's lines.
-use Rattle.std.proofs.Common.{◌≡◌, ℕ, suc, ◌≤◌, List, [], ◌∷◌, ◌++◌, length, None, refl, sym, ap, subst, ◌∙◌}
-use Rattle.std.proofs.Common.{arith, length-append}
+use Rattle.std.proofs.Common.{◌≡◌, ℕ, suc, ◌≤◌, List, [], ◌∷◌, ◌++◌, length, None, refl, sym, ap, subst, ◌∙◌, arith}
+use Rattle.std.proofs.Common.{length-append}
 use Rattle.std.specs.Prelude.{All}
 use Rattle.std.proofs.lemmas.List.{length-map}
 use Rattle.std.proofs.lemmas.List.Elements.{All-map}
-use Rattle.vms_base.specs.declared.headers.Header.{Header}
+use Rattle.vms_world.specs.Common.{Header, State, Facts, cpu_at, own, begun_in, owner_in, IsActOf, LaneItem, Fits}
+use Rattle.vms_world.specs.Common.{lane_items, Start, Item, Lane, Control, acts_of}
 use Rattle.vms_burial.specs.declared.passes.ControlPasses.{ControlPasses}
 use Rattle.vms_burial.specs.Passes as burial
-use Rattle.vms_core.specs.declared.states.State.{State}
-use Rattle.vms_core.specs.declared.steps.Facts.{Facts}
-use Rattle.vms_core.specs.Cells.{cpu_at}
 use Rattle.vms_core.specs.Pages.{History, IsLegal}
 use Rattle.vms_core.specs.Steps.{role}
-use Rattle.vms_history.specs.Events.{own}
-use Rattle.vms_history.specs.Passes.{begun_in, owner_in}
-use Rattle.vms_line.specs.Laws.{IsActOf}
-use Rattle.vms_script.specs.declared.lane_scripts.LaneItem.{LaneItem}
-use Rattle.vms_script.specs.FittingScripts.{Fits}
-use Rattle.vms_script.specs.PhaseScripts.{lane_items}
-use Rattle.vms_script.specs.Starts.{Start}
 use Rattle.vms_tables.specs.declared.tables.Tables.{Tables}
-use Rattle.vms_tables.specs.Passes.{TablePasses}
-use Rattle.vms_tables.specs.Tables.{AreMadeFrom}
-use Rattle.vms_text.specs.declared.acts.Item.{Item}
-use Rattle.vms_text.specs.declared.acts.Lane.{Lane}
-use Rattle.vms_text.specs.declared.acts.Lane.TheVariants.{Control}
+use Rattle.vms_tables.specs.Common.{TablePasses, AreMadeFrom}
 use Rattle.vms_world.specs.declared.worlds.World.{World}
-use Rattle.vms_world.specs.Lanes.{acts_of}
-use Rattle.vms_file_order.specs.LanePasses.{StandOnce, opening_of}
-use Rattle.vms_file_order.specs.Tables.{page_passes}
-use Rattle.vms_file_order.specs.WorldStarts.{IsStartOf}
+use Rattle.vms_file_order.specs.Common.{StandOnce, opening_of, page_passes, IsStartOf}
 use Rattle.vms_lane.specs.declared.passes.LanePasses.TheVariants.{Control as OfControl}
-use Rattle.vms_lane.specs.Controlling.{BuryTheDead, MayControl}
-use Rattle.vms_lane.specs.Ready.{AreReadyToControl}
-use Rattle.vms_lane.specs.Scripts.{acts_in}
-use Rattle.vms_lane.proofs.FittingLanes.{BuryTheDead-world}
-use Rattle.vms_lane.proofs.FreshControl.{MayControl-fresh}
-use Rattle.vms_lane.proofs.LaneActs.{acts_in-lane_items}
+use Rattle.vms_lane.specs.Common.{BuryTheDead, MayControl, AreReadyToControl, acts_in}
+use Rattle.vms_lane.proofs.Common.{BuryTheDead-world, MayControl-fresh, acts_in-lane_items}
 use Rattle.vms_phase.specs.declared.jobs.LaneJob.{LaneJob}
-use Rattle.vms_phase.specs.Jobs.{HaveBegunJobs}
-use Rattle.vms_phase.specs.LanePasses.{AreFresh, BeginPasses, HaveBegun}
+use Rattle.vms_phase.specs.Common.{HaveBegunJobs, AreFresh, BeginPasses, HaveBegun}
 use Rattle.vms_phase.proofs.BegunLanes.{begun-lanes, number-last}
 use Rattle.vms_phase.proofs.JobLists.{AreFresh-next, HaveBegun-next, HaveBegunJobs-next}
 use Rattle.vms_phase.proofs.ReadyJobs.{lane-acts}

@@ -1,21 +1,16 @@
 -- The passes of lanes end one after another: what an ended pass had made stays whole.
-use Rattle.std.proofs.Common.{◌≡◌, ℕ, suc, ◌+◌, ◌<◌, ◌≤◌, nat_eq, Bool, true, false, List, [], ◌∷◌, ◌++◌}
-use Rattle.std.proofs.Common.{length, take, refl, sym, ap, subst, ◌∙◌, arith, if◌then◌else◌, append_assoc}
+use Rattle.std.proofs.Common.{◌≡◌, ℕ, suc, ◌+◌, ◌<◌, ◌≤◌, nat_eq, Bool, true, false, List, [], ◌∷◌, ◌++◌, length, take}
+use Rattle.std.proofs.Common.{refl, sym, ap, subst, ◌∙◌, arith, if◌then◌else◌, append_assoc}
 use Rattle.std.proofs.lemmas.Bool.Decides.{nat_tests}
 use Rattle.std.proofs.lemmas.List.{length-take-le}
-use Rattle.vms_history.specs.declared.events.Event.{Event}
-use Rattle.vms_history.specs.Events.{after, own}
-use Rattle.vms_history.specs.Legal.{Machine, IsLegal}
-use Rattle.vms_history.specs.Passes.{Role, begun, begun_in, lives, lives_after, lives_in}
-use Rattle.vms_history.proofs.Own.{own-after}
-use Rattle.vms_history.proofs.PassLaws.{own-ended}
-use Rattle.vms_seats.specs.MainSteps.{HasEnded, MainMakes}
-use Rattle.vms_seats.specs.Passes.{Pass}
-use Rattle.vms_text.specs.declared.acts.Lane.{Lane}
-use Rattle.vms_file_order.specs.LanePasses.{PassSteps, ends_from, opening_of}
-use Rattle.vms_file_order.proofs.Closings.{begun-ends}
-use Rattle.vms_file_order.proofs.Openings.{begun-begins, own-opening}
-use Rattle.vms_phase.specs.BegunLanes.{HasBegunLanes, HasEndedLanes, IsFresh, IsWhole}
+use Rattle.vms_world.specs.Common.{Event, after, own, Machine, Role, begun, begun_in, lives, lives_after, lives_in}
+use Rattle.vms_world.specs.Common.{Lane}
+use Rattle.vms_history.specs.Legal.{IsLegal}
+use Rattle.vms_history.proofs.Common.{own-after, own-ended}
+use Rattle.vms_seats.specs.Common.{HasEnded, MainMakes, Pass}
+use Rattle.vms_file_order.specs.Common.{PassSteps, ends_from, opening_of}
+use Rattle.vms_file_order.proofs.Common.{begun-ends, begun-begins, own-opening}
+use Rattle.vms_phase.specs.Common.{HasBegunLanes, HasEndedLanes, IsFresh, HasAllSteps}
 
 module _ {K : Type 0} {role : K → Role} (passes : PassSteps K role) where
   abbrev ended_by : ℕ → Event K
@@ -93,7 +88,7 @@ module _ {F K S : Type 0} (machine : Machine F K S) (passes : PassSteps K machin
     }
 
     -- what it had made is whole
-    pub whole-now : (first : Pass F K) → IsFresh (suc n) first → IsWhole (suc n) first pass new.seen
+    pub whole-now : (first : Pass F K) → IsFresh (suc n) first → HasAllSteps (suc n) first pass new.seen
     whole-now first fresh = record {
       fresh = fresh;
       extends = (
@@ -104,8 +99,8 @@ module _ {F K S : Type 0} (machine : Machine F K S) (passes : PassSteps K machin
     }
 
     -- and so it is still with those that ended before
-    pub whole-still : (i : ℕ) → i < n → (first last : Pass F K) → IsWhole (suc i) first last old.seen
-        → IsWhole (suc i) first last new.seen
+    pub whole-still : (i : ℕ) → i < n → (first last : Pass F K) → HasAllSteps (suc i) first last old.seen
+        → HasAllSteps (suc i) first last new.seen
     whole-still i before first last whole =
         let more = ended.main.extends.0 in
         let parts = ended.main.extends.1 in

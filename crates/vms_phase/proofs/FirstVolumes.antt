@@ -1,23 +1,16 @@
 -- The volumes of a CPU with which its passes may begin.
 use Rattle.std.proofs.Common.{◌≡◌, ℕ, suc, ◌+◌, ◌*◌, ◌<◌, ◌≤◌, List, length, get_or, sym, ap, subst, ◌∙◌, arith}
 use Rattle.std.proofs.Math.Nat.{mul-le-mul_right}
-use Rattle.vms_base.specs.declared.headers.Header.{Header}
-use Rattle.vms_base.specs.declared.ids.CpuId.{CpuId}
-use Rattle.vms_base.specs.Places.{Shape, counter_count}
-use Rattle.vms_core.specs.declared.steps.Facts.{Facts}
-use Rattle.vms_event.specs.CpuPasses.{Covers}
-use Rattle.vms_event_core.specs.Words.{event_count}
+use Rattle.vms_world.specs.Common.{Header, CpuId, Shape, counter_count, Facts, event_count, Lane, Cpu, IsWorldOf}
+use Rattle.vms_world.specs.Common.{volume_in}
+use Rattle.vms_event.specs.Common.{HoldsSpending}
 use Rattle.vms_pcpu.specs.IdlePasses as pcpu_passes
 use Rattle.vms_words.specs.PagePasses as page_passes
 use Rattle.vms_tables.specs.declared.passes.CpuPasses.{CpuPasses}
 use Rattle.vms_tables.specs.declared.tables.Tables.{Tables}
-use Rattle.vms_tables.specs.Passes.{TablePasses}
-use Rattle.vms_tables.specs.Tables.{AreTables}
-use Rattle.vms_text.specs.declared.acts.Lane.{Lane}
-use Rattle.vms_text.specs.declared.acts.Lane.TheVariants.{Cpu}
+use Rattle.vms_tables.specs.Common.{TablePasses, AreTables}
 use Rattle.vms_world.specs.declared.worlds.World.{World}
-use Rattle.vms_world.specs.Worlds.{IsWorldOf, volume_in}
-use Rattle.vms_phase.specs.LanePasses.{HaveVolumesOf, MayBeginLane}
+use Rattle.vms_phase.specs.Common.{HaveVolumesOf, MayBeginLane}
 use Rattle.vms_phase.proofs.FreshCpus.{counters-fresh, events-fresh, pages-fresh}
 
 -- a CPU's volumes stand in the row of all
@@ -43,7 +36,7 @@ module _ (header : Header) (tables : Tables) (w : World) (world : IsWorldOf head
             omega (arith, same k k_in, world.page_volumes.most c.number k may.online.0 k_in);
       })
 
-  pub event-volume : length volume ≡ event_count → Covers mains.events.seen c.number volume
+  pub event-volume : length volume ≡ event_count → HoldsSpending mains.events.seen c.number volume
   event-volume each = record {
     one_each = each;
     spent_within = λ k k_in. omega (arith, events-fresh lanes c may.once may.apart mains.events may.begun.events k);

@@ -1,30 +1,15 @@
 -- A CPU whose lane has no pass yet has spent nothing in any of the tables.
-use Rattle.std.proofs.Common.{◌≡◌, ◌≢◌, ℕ, nat_eq, ◌&&◌, Bool, true, false, List, Option, Some, None}
-use Rattle.std.proofs.Common.{unsigned_abs, ℤ, refl, ap, if◌then◌else◌, eqb-true}
-use Rattle.vms_base.specs.declared.ids.CpuId.{CpuId}
-use Rattle.vms_history.specs.Events.{own}
-use Rattle.vms_core.specs.declared.steps.Facts.{Facts}
-use Rattle.vms_core.specs.declared.steps.Step.{Step}
-use Rattle.vms_core.specs.declared.steps.Step.TheVariants.{Put}
-use Rattle.vms_core.specs.Pages.{pages}
+use Rattle.std.proofs.Common.{◌≡◌, ◌≢◌, ℕ, nat_eq, ◌&&◌, Bool, true, false, List, Option, Some, None, unsigned_abs, ℤ}
+use Rattle.std.proofs.Common.{refl, ap, if◌then◌else◌, eqb-true}
+use Rattle.vms_world.specs.Common.{CpuId, own, Facts, Step, Put, pages, EventFacts, EventStep, AddE, events, PcpuFacts}
+use Rattle.vms_world.specs.Common.{PcpuStep, percpu, Lane, Cpu, is_among}
 use Rattle.vms_core.specs.Totals as page_totals
-use Rattle.vms_event_core.specs.declared.steps.EventFacts.{EventFacts}
-use Rattle.vms_event_core.specs.declared.steps.EventStep.{EventStep}
-use Rattle.vms_event_core.specs.declared.steps.EventStep.TheVariants.{AddE}
-use Rattle.vms_event_core.specs.Events.{events}
 use Rattle.vms_event_core.specs.Totals as event_totals
-use Rattle.vms_pcpu_core.specs.declared.steps.PcpuFacts.{PcpuFacts}
-use Rattle.vms_pcpu_core.specs.declared.steps.PcpuStep.{PcpuStep}
-use Rattle.vms_pcpu_core.specs.Histories.{percpu}
 use Rattle.vms_pcpu_core.specs.Own.{carried}
 use Rattle.vms_pcpu_core.specs.Totals as pcpu_totals
-use Rattle.vms_seats.specs.Passes.{Pass}
-use Rattle.vms_text.specs.declared.acts.Lane.{Lane}
-use Rattle.vms_text.specs.declared.acts.Lane.TheVariants.{Cpu}
-use Rattle.vms_world.specs.Lanes.{is_among}
-use Rattle.vms_file_order.specs.LanePasses.{StandOnce}
-use Rattle.vms_file_order.specs.Tables.{event_passes, page_passes, pcpu_passes}
-use Rattle.vms_phase.specs.BegunLanes.{HasBegunLanes}
+use Rattle.vms_seats.specs.Common.{Pass}
+use Rattle.vms_file_order.specs.Common.{StandOnce, event_passes, page_passes, pcpu_passes}
+use Rattle.vms_phase.specs.Common.{HasBegunLanes}
 use Rattle.vms_phase.proofs.BegunLanes.{spent-nothing}
 
 -- another CPU's number is another

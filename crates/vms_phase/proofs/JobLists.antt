@@ -1,49 +1,26 @@
 -- The passes of lanes begin one after another, with their jobs.
-use Rattle.std.proofs.Common.{◌≡◌, ℕ, suc, ◌+◌, ◌<◌, ◌≤◌, ◌||◌, Bool, true, false, cond, List, [], ◌∷◌, ◌++◌}
-use Rattle.std.proofs.Common.{length, map, filter, Some, refl, sym, ap, subst, ◌∙◌, arith, append-nil}
-use Rattle.std.proofs.Common.{if◌then◌else◌, IsTrue, ◌↔◌}
+use Rattle.std.proofs.Common.{◌≡◌, ℕ, suc, ◌+◌, ◌<◌, ◌≤◌, ◌||◌, Bool, true, false, cond, List, [], ◌∷◌, ◌++◌, length}
+use Rattle.std.proofs.Common.{map, filter, Some, refl, sym, ap, subst, ◌∙◌, arith, append-nil, if◌then◌else◌, IsTrue}
+use Rattle.std.proofs.Common.{◌↔◌}
 use Rattle.std.proofs.lemmas.List.Elements.{All-append, All-cons, All-get_or, All-nil}
-use Rattle.vms_base.specs.declared.headers.Header.{Header}
-use Rattle.vms_base.specs.declared.ids.CpuId.{CpuId}
-use Rattle.vms_base.specs.Cpus.{MayOwnCpu}
-use Rattle.vms_base.specs.Places.{IsCpu, Shape}
-use Rattle.vms_history.specs.Events.{own}
-use Rattle.vms_history.specs.Legal.{Machine, IsLegal}
-use Rattle.vms_core.specs.declared.states.State.{State}
-use Rattle.vms_core.specs.Pages.{pages}
-use Rattle.vms_event_core.specs.declared.states.EventState.{EventState}
-use Rattle.vms_event_core.specs.declared.steps.EventFacts.{EventFacts}
-use Rattle.vms_event_core.specs.Events.{events}
-use Rattle.vms_pcpu_core.specs.declared.states.PcpuState.{PcpuState}
-use Rattle.vms_pcpu_core.specs.declared.steps.PcpuFacts.{PcpuFacts}
-use Rattle.vms_pcpu_core.specs.Histories.{percpu}
-use Rattle.vms_calls.specs.HeaderFacts.{facts_of}
-use Rattle.vms_seats.specs.Passes.{Pass}
-use Rattle.vms_script.specs.declared.lane_scripts.LaneItem.{LaneItem}
-use Rattle.vms_script.specs.FittingScripts.{Fits}
-use Rattle.vms_script.specs.PhaseScripts.{is_lane, lane_item, lane_items}
-use Rattle.vms_script.specs.Starts.{Start}
+use Rattle.vms_world.specs.Common.{Header, CpuId, MayOwnCpu, IsCpu, Shape, own, Machine, State, pages, EventState}
+use Rattle.vms_world.specs.Common.{EventFacts, events, PcpuState, PcpuFacts, percpu, facts_of, LaneItem, Fits, is_lane}
+use Rattle.vms_world.specs.Common.{lane_item, lane_items, Start, Item, Lane, Cpu, Control, has_line, is_among}
+use Rattle.vms_world.specs.Common.{lanes_below, lanes_of, owner_of, IsWorldOf, event_facts, page_facts, pcpu_facts}
+use Rattle.vms_history.specs.Legal.{IsLegal}
+use Rattle.vms_seats.specs.Common.{Pass}
 use Rattle.vms_tables.specs.declared.tables.Tables.{Tables}
-use Rattle.vms_tables.specs.Passes.{AreOf, HaveSeenNothing, TablePasses}
-use Rattle.vms_tables.specs.Tables.{AreMadeFrom, AreTables}
-use Rattle.vms_text.specs.declared.acts.Item.{Item}
-use Rattle.vms_text.specs.declared.acts.Lane.{Lane}
-use Rattle.vms_text.specs.declared.acts.Lane.TheVariants.{Cpu, Control}
+use Rattle.vms_tables.specs.Common.{AreFrom, HaveSeenNothing, TablePasses, AreMadeFrom, AreTables}
 use Rattle.vms_world.specs.declared.worlds.World.{World}
-use Rattle.vms_world.specs.Lanes.{has_line, is_among, lanes_below, lanes_of, owner_of}
-use Rattle.vms_world.specs.Worlds.{IsWorldOf, event_facts, page_facts, pcpu_facts}
-use Rattle.vms_file_order.specs.LanePasses.{PassSteps, StandOnce}
-use Rattle.vms_file_order.specs.Tables.{event_passes, page_passes, pcpu_passes}
-use Rattle.vms_file_order.specs.WorldStarts.{IsStartOf}
-use Rattle.vms_file_order.proofs.FittingOpenings.{owners-online}
-use Rattle.vms_file_order.proofs.LaneLists.{HasPlace-among, StandOnce-lanes, among-lanes, is_among-append, is_lane-sym}
+use Rattle.vms_file_order.specs.Common.{PassSteps, StandOnce, event_passes, page_passes, pcpu_passes, IsStartOf}
+use Rattle.vms_file_order.proofs.Common.{owners-online, HasPlace-among, StandOnce-lanes, among-lanes, is_among-append}
+use Rattle.vms_file_order.proofs.Common.{is_lane-sym}
 use Rattle.vms_phase.specs.declared.jobs.LaneJob.{LaneJob}
-use Rattle.vms_lane.specs.LanePasses.{passes_in}
-use Rattle.vms_phase.specs.BegunLanes.{HasBegunLanes}
-use Rattle.vms_phase.specs.Jobs.{AreJobs, HaveBegunJobs, IsJob, MayRunJob}
-use Rattle.vms_phase.specs.LanePasses.{AreFresh, BeginPasses, HaveBegun, MayBeginLane}
+use Rattle.vms_lane.specs.Common.{passes_in}
+use Rattle.vms_phase.specs.Common.{HasBegunLanes, AreJobs, HaveBegunJobs, IsJob, MayRunJob, AreFresh, BeginPasses}
+use Rattle.vms_phase.specs.Common.{HaveBegun, MayBeginLane}
 use Rattle.vms_phase.proofs.BegunLanes.{lane-fresh, lanes-begun}
-use Rattle.vms_phase.proofs.GrownVolumes.{lane_items-none}
+use Rattle.vms_phase.proofs.LaneLines.{lane_items-none}
 
 -- a lane that comes last of lanes that stand once each is apart from the others
 once-last : (lanes : List Lane) (lane : Lane) → StandOnce (lanes ++ lane ∷ [])
@@ -155,7 +132,7 @@ none-begun machine passes main nothing can = record {
 
 module _ (header : Header) (tables : Tables) (w : World) (items : List Item) where
   pub HaveBegunJobs-none : AreTables header tables → AreMadeFrom w tables → IsWorldOf header w → (mains : TablePasses)
-      → AreOf tables mains → HaveSeenNothing mains → HaveBegunJobs header tables w items [] mains []
+      → AreFrom tables mains → HaveSeenNothing mains → HaveBegunJobs header tables w items [] mains []
   HaveBegunJobs-none are made world mains of nothing = record {
     of = of;
     begun = record {

@@ -2,45 +2,31 @@
 use Rattle.std.proofs.Common.{◌≡◌, ℕ, zero, suc, ◌+◌, ◌<◌, ◌≤◌, List, [], ◌∷◌, ◌++◌, length, map, refl, sym, ap, subst}
 use Rattle.std.proofs.Common.{◌∙◌, arith, append_assoc, length-append, Ok, Err}
 use Rattle.std.specs.Prelude.{Result, IfOk}
-use Rattle.vms_base.specs.declared.failures.Memory.{Memory}
-use Rattle.vms_base.specs.declared.headers.Header.{Header}
-use Rattle.vms_base.specs.declared.kinds.ZoneSize.{ZoneSize}
+use Rattle.vms_world.specs.Common.{Memory, Header, ZoneSize, pages, events, own, percpu, LaneItem, lane_items, Item}
+use Rattle.vms_world.specs.Common.{Lane, Cpu, Control}
 use Rattle.vms_core.specs.Own.{CarriesNothing}
-use Rattle.vms_core.specs.Pages.{pages}
-use Rattle.vms_event_core.specs.Events.{events}
-use Rattle.vms_history.specs.Events.{own}
-use Rattle.vms_pcpu_core.specs.Histories.{percpu}
-use Rattle.vms_script.specs.declared.lane_scripts.LaneItem.{LaneItem}
-use Rattle.vms_script.specs.PhaseScripts.{lane_items}
 use Rattle.vms_burial.specs.declared.passes.ControlPasses.{ControlPasses}
 use Rattle.vms_burial.specs.Passes as burial
 use Rattle.vms_tables.specs.declared.passes.CpuPasses.{CpuPasses}
 use Rattle.vms_tables.specs.declared.tables.Tables.{Tables}
-use Rattle.vms_tables.specs.Passes.{AreOf, TablePasses, passes_of}
-use Rattle.vms_tables.specs.Tables.{AreMadeFrom, world_of}
-use Rattle.vms_text.specs.declared.acts.Item.{Item}
-use Rattle.vms_text.specs.declared.acts.Lane.{Lane}
-use Rattle.vms_text.specs.declared.acts.Lane.TheVariants.{Cpu, Control}
+use Rattle.vms_tables.specs.Common.{AreFrom, TablePasses, passes_of, AreMadeFrom, world_of}
 use Rattle.vms_world.specs.declared.worlds.World.{World}
-use Rattle.vms_answers.specs.PhaseAnswers.{NumberedAnswer}
-use Rattle.vms_answers.specs.ToldAnswers.{numbered_told}
-use Rattle.vms_file_order.specs.Tables.{event_passes, page_passes, pcpu_passes}
+use Rattle.vms_answers.specs.Common.{NumberedAnswer, answer_of_kept}
+use Rattle.vms_file_order.specs.Common.{event_passes, page_passes, pcpu_passes}
 use Rattle.vms_lane.specs.declared.passes.LanePasses.TheVariants.{Cpu as OfCpu, Control as OfControl}
-use Rattle.vms_lane.specs.LanePasses.{AreReadyFor, HaveSpentAll, passes_in}
-use Rattle.vms_lane.specs.Scripts.{MakeLines, acts_in}
-use Rattle.vms_lane.proofs.LaneActs.{MakeLines-world}
+use Rattle.vms_lane.specs.Common.{AreReadyFor, HaveSpentAll, passes_in, MakeLines, acts_in}
+use Rattle.vms_lane.proofs.Common.{MakeLines-world}
 use Rattle.vms_phase.specs.declared.jobs.LaneDone.{LaneDone}
 use Rattle.vms_phase.specs.declared.jobs.LaneJob.{LaneJob}
 use Rattle.vms_phase.specs.declared.lane_joins.JoinedLane.{JoinedLane}
-use Rattle.vms_phase.specs.Jobs.{AreJobs, HasRunJob, HaveRunJobs, IsJob}
-use Rattle.vms_phase.specs.JoinedLanes.{AreJoinedLanes, HasRunLane, HasVolumesOf, HaveJoinedLanes, HaveRunLanes}
-use Rattle.vms_phase.specs.JoinedLanes.{IsJoinedLane}
-use Rattle.vms_phase.specs.LanePasses.{AreWhole, EndPasses, HaveEnded, HaveNumber}
+use Rattle.vms_phase.specs.Common.{AreJobs, HasRunJob, HaveRunJobs, IsJob, AreJoinedLanes, HasRunLane, HasVolumesOf}
+use Rattle.vms_phase.specs.Common.{HaveJoinedLanes, HaveRunLanes, IsJoinedLane, AreWhole, EndPasses, HaveEnded}
+use Rattle.vms_phase.specs.Common.{HaveNumber}
 use Rattle.vms_phase.proofs.EndedLanes.{whole-now, whole-still}
 
 -- what passes that are ready for a lane may do at its end
 pub record MayEnd (tables : Tables) (passes : TablePasses) : Type 0 where
-  pub of : AreOf tables passes
+  pub of : AreFrom tables passes
   pub nothing : CarriesNothing tables.pages.facts.layout (own passes.pages.seen passes.pages.number)
 
 pub MayEnd-cpu : (tables : Tables) (lane : Lane) (passes : CpuPasses) → AreReadyFor tables lane (OfCpu passes)
@@ -61,7 +47,7 @@ module _ (header : Header) (pressure normal : ZoneSize → ℕ → ℕ → Type 
         → IsJob header tables w items number lane job → HasRunJob header pressure normal tables job done
         → HasRunLane header pressure normal tables w items number lane done
     run-lane number lane job done is run =
-        let answers : List NumberedAnswer = map numbered_told done.answers.items in
+        let answers : List NumberedAnswer = map answer_of_kept done.answers.items in
         let there : MakeLines header pressure normal (world_of tables) lane (lane_items lane items)
         (passes_in done.passes) (passes_in job.passes) answers =
         subst (λ (script : List LaneItem). MakeLines header pressure normal (world_of tables) lane script
@@ -106,7 +92,7 @@ module _ (header : Header) (pressure normal : ZoneSize → ℕ → ℕ → Type 
 
   -- before the first lane ends
   pub HaveJoinedLanes-none : (lanes : List Lane) (mains : TablePasses) (results : List (Result LaneDone Memory))
-      → AreOf tables mains → HaveEnded lanes 0 mains
+      → AreFrom tables mains → HaveEnded lanes 0 mains
       → HaveRunLanes header pressure normal tables w items 1 lanes results
       → HaveJoinedLanes header pressure normal tables w items lanes mains [] results
   HaveJoinedLanes-none lanes mains results of ended run = record {
@@ -263,7 +249,7 @@ module _ (header : Header) (pressure normal : ZoneSize → ℕ → ℕ → Type 
             whole = now;
             lines = subst (λ (told : List NumberedAnswer). MakeLines header pressure normal w next.lane
                 (lane_items next.lane items) (passes_in done.passes) (passes_in run.first) told)
-                (sym (ap (map numbered_told) answers)) run.lines;
+                (sym (ap (map answer_of_kept) answers)) run.lines;
             volumes = run.volumes;
             spent = run.spent;
             left = volumes;

@@ -3,35 +3,20 @@ use Rattle.std.proofs.Common.{◌≡◌, ℕ, zero, suc, ◌+◌, ◌<◌, List,
 use Rattle.std.proofs.Common.{append-nil, refl, Bool, true, false, ◌||◌, if◌then◌else◌}
 use Rattle.std.proofs.Math.Seq.{take-length}
 use Rattle.std.proofs.lemmas.List.Elements.{All-cons, All-head, All-nil, All-tail}
-use Rattle.vms_base.specs.declared.headers.Header.{Header}
-use Rattle.vms_base.specs.declared.kinds.ZoneSize.{ZoneSize}
-use Rattle.vms_core.specs.Pages.{pages}
-use Rattle.vms_event_core.specs.Events.{events}
-use Rattle.vms_history.specs.Events.{after, own}
-use Rattle.vms_history.specs.Legal.{Machine}
-use Rattle.vms_pcpu_core.specs.Histories.{percpu}
-use Rattle.vms_script.specs.PhaseScripts.{is_lane, lane_items}
-use Rattle.vms_seats.specs.Passes.{Pass}
+use Rattle.vms_world.specs.Common.{Header, ZoneSize, pages, events, after, own, Machine, percpu, is_lane, lane_items}
+use Rattle.vms_world.specs.Common.{Item, Lane, is_among, lane_at, lanes_of, AreComplete}
+use Rattle.vms_seats.specs.Common.{Pass}
 use Rattle.vms_tables.specs.declared.tables.Tables.{Tables}
-use Rattle.vms_tables.specs.Passes.{TablePasses}
-use Rattle.vms_text.specs.declared.acts.Item.{Item}
-use Rattle.vms_text.specs.declared.acts.Lane.{Lane}
+use Rattle.vms_tables.specs.Common.{TablePasses}
 use Rattle.vms_world.specs.declared.worlds.World.{World}
-use Rattle.vms_world.specs.Lanes.{is_among, lane_at, lanes_of}
-use Rattle.vms_world.specs.Phases.{AreComplete}
-use Rattle.vms_answers.specs.PhaseAnswers.{NumberedAnswer}
-use Rattle.vms_answers.specs.ToldAnswers.{numbered_told}
-use Rattle.vms_file_order.specs.LanePasses.{PassSteps, StandOnce, closing_of, ends_from, opening_of}
-use Rattle.vms_file_order.specs.Tables.{event_passes, page_passes, pcpu_passes}
-use Rattle.vms_file_order.proofs.LaneLists.{is_lane-self, is_lane-sym}
-use Rattle.vms_lane.specs.LanePasses.{passes_in}
-use Rattle.vms_lane.specs.Scripts.{MakeLines}
+use Rattle.vms_answers.specs.Common.{NumberedAnswer, answer_of_kept}
+use Rattle.vms_file_order.specs.Common.{PassSteps, StandOnce, closing_of, ends_from, opening_of, event_passes}
+use Rattle.vms_file_order.specs.Common.{page_passes, pcpu_passes}
+use Rattle.vms_file_order.proofs.Common.{is_lane-self, is_lane-sym}
+use Rattle.vms_lane.specs.Common.{passes_in, MakeLines}
 use Rattle.vms_phase.specs.declared.lane_joins.JoinedLane.{JoinedLane}
-use Rattle.vms_phase.specs.BegunLanes.{HasEndedLanes}
-use Rattle.vms_phase.specs.JoinedLanes.{AreJoinedLanes, AreTold, HaveJoinedLanes, HaveRunLanes, IsJoinedLane, seen_by}
-use Rattle.vms_phase.specs.JoinedLanes.{told_of}
-use Rattle.vms_phase.specs.LanePasses.{HaveEnded}
-use Rattle.vms_phase.specs.LanesMade.{AreMadeByLanes, HasMadeLane}
+use Rattle.vms_phase.specs.Common.{HasEndedLanes, AreJoinedLanes, AreTold, HaveJoinedLanes, HaveRunLanes, IsJoinedLane}
+use Rattle.vms_phase.specs.Common.{seen_by, told_of, HaveEnded, AreMadeByLanes, HasMadeLane}
 
 own-ended : {F K S : Type 0} (machine : Machine F K S) (passes : PassSteps K machine.role) (lanes : List Lane)
     (main : Pass F K) → HasEndedLanes machine passes lanes (length lanes) main
@@ -80,13 +65,13 @@ module _ (header : Header) (pressure normal : ZoneSize → ℕ → ℕ → Type 
       → AreTold told joined → AreTold (λ (l : Lane). if is_lane lane l then first else told l) joined
   told-apart number lane first told [] [] are apart tells =
       All-nil (λ (one : JoinedLane). (if is_lane lane one.lane then first else told one.lane)
-      ≡ map numbered_told one.answers.items)
+      ≡ map answer_of_kept one.answers.items)
   told-apart number lane first told [] (one ∷ joined) are apart tells = absurd are
   told-apart number lane first told (l ∷ lanes) [] are apart tells = absurd are
   told-apart number lane first told (l ∷ lanes) (one ∷ joined) are apart tells =
       by (is_lane l lane) refl apart
       (λ later. told-apart (suc number) lane first told lanes joined are.1 later
-      (All-tail (λ (j : JoinedLane). told j.lane ≡ map numbered_told j.answers.items) one joined tells))
+      (All-tail (λ (j : JoinedLane). told j.lane ≡ map answer_of_kept j.answers.items) one joined tells))
     where
       by : (b : Bool) → is_lane l lane ≡ b → (b || is_among lane lanes) ≡ false
           → (is_among lane lanes ≡ false → AreTold (λ (m : Lane). if is_lane lane m then first else told m) joined)
@@ -95,9 +80,9 @@ module _ (header : Header) (pressure normal : ZoneSize → ℕ → ℕ → Type 
       by false same either rest =
           let here : is_lane lane one.lane ≡ false = ap (is_lane lane) are.0.is ∙ is_lane-sym lane l ∙ same in
           All-cons (λ (j : JoinedLane). (if is_lane lane j.lane then first else told j.lane)
-          ≡ map numbered_told j.answers.items) one joined
+          ≡ map answer_of_kept j.answers.items) one joined
           (ap (λ (b : Bool). if b then first else told one.lane) here
-          ∙ All-head (λ (j : JoinedLane). told j.lane ≡ map numbered_told j.answers.items) one joined tells)
+          ∙ All-head (λ (j : JoinedLane). told j.lane ≡ map answer_of_kept j.answers.items) one joined tells)
           (rest either)
 
   -- so each lane was told what its own lines answered
@@ -105,21 +90,21 @@ module _ (header : Header) (pressure normal : ZoneSize → ℕ → ℕ → Type 
       → AreJoinedLanes header pressure normal w items mains number lanes joined → StandOnce lanes
       → AreTold (told_of joined) joined
   AreTold-own number [] [] are once =
-      All-nil (λ (j : JoinedLane). told_of [] j.lane ≡ map numbered_told j.answers.items)
+      All-nil (λ (j : JoinedLane). told_of [] j.lane ≡ map answer_of_kept j.answers.items)
   AreTold-own number [] (one ∷ joined) are once = absurd are
   AreTold-own number (l ∷ lanes) [] are once = absurd are
   AreTold-own number (l ∷ lanes) (one ∷ joined) are once =
-      let first : List NumberedAnswer = map numbered_told one.answers.items in
+      let first : List NumberedAnswer = map answer_of_kept one.answers.items in
       let apart : is_among one.lane lanes ≡ false =
       subst (λ (x : Lane). is_among x lanes ≡ false) (sym are.0.is) once.0 in
-      All-cons (λ (j : JoinedLane). told_of (one ∷ joined) j.lane ≡ map numbered_told j.answers.items) one joined
+      All-cons (λ (j : JoinedLane). told_of (one ∷ joined) j.lane ≡ map answer_of_kept j.answers.items) one joined
       (ap (λ (b : Bool). if b then first else told_of joined one.lane) (is_lane-self one.lane))
       (told-apart (suc number) one.lane first (told_of joined) lanes joined are.1 apart
       (AreTold-own (suc number) lanes joined are.1 once.1))
 
   module _ (told : Lane → List NumberedAnswer) where
     abbrev Tells : JoinedLane → Type 0
-    Tells one = told one.lane ≡ map numbered_told one.answers.items
+    Tells one = told one.lane ≡ map answer_of_kept one.answers.items
 
     made-lane : (number : ℕ) (lane : Lane) (one : JoinedLane)
         → IsJoinedLane header pressure normal w items mains number lane one → Tells one

@@ -1,49 +1,51 @@
 -- Histories in which the passes of the lanes have made their lines are a phase of these lines, which answer what the
 -- lanes were told.
-use Rattle.std.proofs.Common.{◌≡◌, ℕ, suc, Bool, true, false, List, [], ◌∷◌, ◌++◌, map, refl, sym, ap}
-use Rattle.std.proofs.Common.{subst, ◌∙◌, if◌then◌else◌, append-nil}
+use Rattle.std.proofs.Common.{◌≡◌, ℕ, suc, Bool, true, false, List, [], ◌∷◌, ◌++◌, map, refl, sym, ap, subst, ◌∙◌}
+use Rattle.std.proofs.Common.{if◌then◌else◌, append-nil, append_assoc, reverse}
+use Rattle.std.proofs.lemmas.List.{map-append, reverse-append}
 use Rattle.std.specs.Prelude.{All}
 use Rattle.std.specs.List.Sorted.{IsStrictlyIncreasing}
 use Rattle.std.proofs.lemmas.List.Elements.{All-head, All-tail}
-use Rattle.vms_base.specs.declared.headers.Header.{Header}
-use Rattle.vms_base.specs.declared.ids.CpuId.{CpuId}
-use Rattle.vms_base.specs.declared.kinds.ZoneSize.{ZoneSize}
-use Rattle.vms_base.specs.Places.{IsCpu}
-use Rattle.vms_history.specs.declared.events.Event.{Event}
-use Rattle.vms_history.specs.Events.{after, own}
-use Rattle.vms_core.specs.declared.steps.Step.{Step}
+use Rattle.vms_world.specs.Common.{Header, CpuId, ZoneSize, IsCpu, Event, after, own, Step, EventStep, PcpuStep}
+use Rattle.vms_world.specs.Common.{LaneItem, is_lane, lane_items, Act, Item, Lane, Cpu, EventSteps, PageSteps}
+use Rattle.vms_world.specs.Common.{PcpuSteps, HasLanes, MakesActs, acts_of, is_among, lane_at, lanes_of, TableHistories}
+use Rattle.vms_world.specs.Common.{event_facts, pcpu_facts}
 use Rattle.vms_core.specs.Steps as page_steps
-use Rattle.vms_event_core.specs.declared.steps.EventStep.{EventStep}
 use Rattle.vms_event_core.specs.Steps as event_steps
-use Rattle.vms_pcpu_core.specs.declared.steps.PcpuStep.{PcpuStep}
 use Rattle.vms_pcpu_core.specs.Steps as pcpu_steps
-use Rattle.vms_seats.specs.Passes.{Pass}
-use Rattle.vms_script.specs.declared.lane_scripts.LaneItem.{LaneItem}
-use Rattle.vms_script.specs.PhaseScripts.{is_lane, lane_items}
-use Rattle.vms_text.specs.declared.acts.Act.{Act}
-use Rattle.vms_text.specs.declared.acts.Item.{Item}
-use Rattle.vms_text.specs.declared.acts.Lane.{Lane}
-use Rattle.vms_text.specs.declared.acts.Lane.TheVariants.{Cpu}
+use Rattle.vms_seats.specs.Common.{Pass}
 use Rattle.vms_world.specs.declared.worlds.World.{World}
-use Rattle.vms_world.specs.Acts.{EventSteps, PageSteps, PcpuSteps}
-use Rattle.vms_world.specs.Lanes.{HasLanes, MakesActs, acts_of, is_among, lane_at, lanes_of}
-use Rattle.vms_world.specs.Phases.{Histories}
-use Rattle.vms_world.specs.Worlds.{event_facts, pcpu_facts}
-use Rattle.vms_file_order.specs.LanePasses.{pass_of}
-use Rattle.vms_file_order.specs.MadePhases.{MakePhase}
-use Rattle.vms_file_order.proofs.LaneLists.{HasPlace-among, StandOnce-lanes, pass_of-lane_at}
-use Rattle.vms_answers.specs.Answers.{LaneSteps, no_steps, then_steps}
-use Rattle.vms_answers.specs.PhaseAnswers.{NumberedAnswer, answers_of, steps_by, steps_of}
-use Rattle.vms_answers.proofs.OpenAnswers.{LaneSteps-same}
-use Rattle.vms_lane.specs.Scripts.{GoesOnWith, acts_in}
-use Rattle.vms_lane.proofs.LaneActs.{acts-fresh, acts-later, acts_in-lane_items}
-use Rattle.vms_merge.specs.Merging.{LanesAnswer, merged, read_lane, taken, with_told}
-use Rattle.vms_phase.specs.AddedAmounts.{added_by}
-use Rattle.vms_phase.specs.GrownVolumes.{SpendAsTold, lane_answers}
-use Rattle.vms_phase.specs.BegunLanes.{IsWhole}
-use Rattle.vms_phase.specs.LanesMade.{AreMadeByLanes, HasMadeLane}
-use Rattle.vms_phase.proofs.AddedAmounts.{steps_by-own}
-use Rattle.vms_phase.proofs.GrownVolumes.{lane_items-apart}
+use Rattle.vms_file_order.specs.Common.{pass_of, MakeInAnyOrder}
+use Rattle.vms_file_order.proofs.Common.{HasPlace-among, StandOnce-lanes, pass_of-lane_at}
+use Rattle.vms_answers.specs.Common.{LaneSteps, no_steps, then_steps, NumberedAnswer, answers_of, steps_by, steps_of}
+use Rattle.vms_answers.specs.Common.{LanesAnswer, merged, read_lane, taken_answer, with_told}
+use Rattle.vms_answers.proofs.Common.{LaneSteps-same}
+use Rattle.vms_lane.specs.Common.{GoesOnWith, acts_in}
+use Rattle.vms_lane.proofs.Common.{acts-fresh, acts-later, acts_in-lane_items}
+use Rattle.vms_phase.specs.Common.{HasAllSteps, AreMadeByLanes, HasMadeLane}
+
+-- the steps that a history has of a pass
+module _ {K : Type 0} where
+  abbrev step_of : Event K → K
+  step_of e = e.step
+
+  steps-after : (p : ℕ) (ks : List K) (g : List (Event K))
+      → map step_of (reverse (after p ks g)) ≡ map step_of (reverse g) ++ ks
+  steps-after p [] g = sym (append-nil (map step_of (reverse g)))
+  steps-after p (k ∷ ks) g =
+      let e : Event K = record { caller = p; step = k } in
+      steps-after p ks (e ∷ g)
+      ∙ ap (λ es. map step_of es ++ ks) (reverse-append (e ∷ []) g)
+      ∙ ap (λ js. js ++ ks) (map-append step_of (reverse g) (e ∷ []))
+      ∙ append_assoc (map step_of (reverse g)) (k ∷ []) ks
+
+  steps_by-own : (h : List (Event K)) (p : ℕ) (steps : List K) → own h p ≡ after p steps [] → steps_by h p ≡ steps
+  steps_by-own h p steps are = ap (λ es. map step_of (reverse es)) are ∙ steps-after p steps []
+
+-- what the lines of a lane answer, as the steps of its passes tell it in the histories of their phase
+abbrev lane_answers : Header → World → List Item → TableHistories → Lane → List NumberedAnswer
+lane_answers header w items hs lane =
+    (read_lane header w lane (lane_items lane items) (steps_of (lanes_of header.layout items) hs lane)).0
 
 -- lanes that are told the same are merged to the same, where lines have these lanes
 merged-among : (items : List Item) (t u : Lane → List NumberedAnswer) (P : Lane → Type 0)
@@ -52,9 +54,9 @@ merged-among : (items : List Item) (t u : Lane → List NumberedAnswer) (P : Lan
 merged-among [] t u P same each = refl
 merged-among (item ∷ items) t u P same each =
     let l = item.lane in let n = item.number in
-    let first : List NumberedAnswer × List NumberedAnswer = taken n (u l) in
+    let first : List NumberedAnswer × List NumberedAnswer = taken_answer n (u l) in
     ap (λ (answers : List NumberedAnswer).
-    (taken n answers).0 ++ merged items (with_told l (taken n answers).1 t))
+    (taken_answer n answers).0 ++ merged items (with_told l (taken_answer n answers).1 t))
     (same l (All-head (λ (i : Item). P i.lane) item items each))
     ∙ ap (λ (more : List NumberedAnswer). first.0 ++ more)
     (merged-among items (with_told l first.1 t) (with_told l first.1 u) P
@@ -68,7 +70,7 @@ merged-among (item ∷ items) t u P same each =
 
 -- what a whole pass has made of acts stands in the history
 module _ {F K : Type 0} (makes : Act → List (Event K) → List K → Type 0) (number : ℕ) (first last : Pass F K)
-    (h : List (Event K)) (whole : IsWhole number first last h) where
+    (h : List (Event K)) (whole : HasAllSteps number first last h) where
   whole-acts : (acts : List Act) → GoesOnWith makes number acts last.seen first.seen → MakesActs makes number acts h
   whole-acts acts goes = acts-later makes number acts h last.seen whole.extends whole.all_steps
       (acts-fresh makes number acts last.seen first.seen whole.fresh.none goes)
@@ -80,7 +82,7 @@ module _ {F K : Type 0} (makes : Act → List (Event K) → List K → Type 0) (
       steps_by-own h number steps (whole.all_steps ∙ made ∙ ap (after number steps) whole.fresh.none)
 
 module _ (header : Header) (pressure normal : ZoneSize → ℕ → ℕ → Type 0) (w : World) (items : List Item)
-    (hs : Histories) where
+    (hs : TableHistories) where
   abbrev lanes : List Lane
   lanes = lanes_of header.layout items
 
@@ -147,9 +149,9 @@ module _ (header : Header) (pressure normal : ZoneSize → ℕ → ℕ → Type 
         ∙ ap (λ (read : List NumberedAnswer × LaneSteps). read.0) (lines.tells no_steps)
 
   module _ (told : Lane → List NumberedAnswer) (made : AreMadeByLanes header pressure normal w items hs told) where
-    pub MakePhase-lanes : HasLanes page_steps.role lanes hs.pages → HasLanes event_steps.role lanes hs.events
-        → HasLanes pcpu_steps.role lanes hs.counters → MakePhase header pressure normal w items hs
-    MakePhase-lanes pages events counters = record {
+    pub MakeInAnyOrder-lanes : HasLanes page_steps.role lanes hs.pages → HasLanes event_steps.role lanes hs.events
+        → HasLanes pcpu_steps.role lanes hs.counters → MakeInAnyOrder header pressure normal w items hs
+    MakeInAnyOrder-lanes pages events counters = record {
       complete = made.complete;
       page_lanes = pages;
       event_lanes = events;
@@ -174,25 +176,3 @@ module _ (header : Header) (pressure normal : ZoneSize → ℕ → ℕ → Type 
     answers-merged law up among =
         law header w items (steps_of lanes hs) up
         ∙ merged-among items (lane_answers header w items hs) told (λ lane. is_among lane lanes ≡ true) told-same among
-
-    pub SpendAsTold-lanes : SpendAsTold header items (lane_answers header w items hs) hs
-        → SpendAsTold header items told hs
-    SpendAsTold-lanes spend = record {
-      pages = spend.pages;
-      events = spend.events;
-      counters = λ c j known. spend.counters c j known ∙ same (record { number = c }) j known;
-    }
-      where
-        same : (c : CpuId) (j : ℕ) → IsCpu header.layout c.number
-            → added_by j (lane_items (Cpu c) items) (lane_answers header w items hs (Cpu c))
-            ≡ added_by j (lane_items (Cpu c) items) (told (Cpu c))
-        same c j known = by (is_among (Cpu c) lanes) refl
-          where
-            by : (b : Bool) → is_among (Cpu c) lanes ≡ b
-                → added_by j (lane_items (Cpu c) items) (lane_answers header w items hs (Cpu c))
-                ≡ added_by j (lane_items (Cpu c) items) (told (Cpu c))
-            by true among = ap (added_by j (lane_items (Cpu c) items)) (told-same (Cpu c) among)
-            by false apart =
-                let none = lane_items-apart header items c known apart in
-                ap (λ (is : List LaneItem). added_by j is (lane_answers header w items hs (Cpu c))) none
-                ∙ sym (ap (λ (is : List LaneItem). added_by j is (told (Cpu c))) none)

@@ -1,7 +1,5 @@
-pub mod AddedAmounts
-mod GrownLines
 mod PlacedAnswers
-pub mod GrownVolumes
+mod LaneLines
 pub mod LanesMade
 pub mod BegunLanes
 pub mod EndedLanes
@@ -14,3 +12,5 @@ pub mod JoinedLanes
 pub mod JoinedPhases
 pub mod SideBySide
 pub mod FirstVolumes
+mod KeptVolumes
+pub mod MainLanes

@@ -4,48 +4,39 @@ use Rattle.std.proofs.Common.{get_or, set, refl, sym, ap, subst, ◌∙◌, arit
 use Rattle.std.proofs.Common.{if◌then◌else◌, Some}
 use Rattle.std.proofs.lemmas.Bool.Decides.{nat_tests}
 use Rattle.std.proofs.lemmas.List.{length-map, length-set, map-append, map-set}
-use Rattle.std.proofs.lemmas.List.Elements.{All-append, All-cons, All-head, All-nil, All-pop, All-tail}
-use Rattle.std.proofs.lemmas.List.Elements.{All-weaker}
+use Rattle.std.proofs.lemmas.List.Elements.{All-append, All-cons, All-head, All-nil, All-pop, All-tail, All-weaker}
 use Rattle.std.specs.Prelude.{All}
-use Rattle.vms_base.specs.declared.headers.Header.{Header}
-use Rattle.vms_history.proofs.Cells.{get_or-set}
-use Rattle.vms_text.specs.declared.acts.Item.{Item}
-use Rattle.vms_text.specs.declared.acts.Lane.{Lane}
-use Rattle.vms_text.specs.declared.acts.Lane.TheVariants.{Cpu, Control}
-use Rattle.vms_line.specs.Laws.{IsLaneOf}
-use Rattle.vms_script.specs.PhaseScripts.{is_lane}
-use Rattle.vms_world.specs.Lanes.{has_line, lanes_below, lanes_of}
-use Rattle.vms_answers.specs.PhaseAnswers.{NumberedAnswer}
-use Rattle.vms_answers.specs.ToldAnswers.{numbered_told}
-use Rattle.vms_merge.specs.declared.lane_answers.LaneAnswers.{LaneAnswers}
-use Rattle.vms_merge.specs.Told.{HasPlace, place_of, told_by, told_in}
+use Rattle.vms_world.specs.Common.{Header, Item, Lane, Cpu, Control, IsLaneOf, is_lane, has_line, lanes_below, lanes_of}
+use Rattle.vms_history.proofs.Common.{get_or-set}
+use Rattle.vms_answers.specs.Common.{NumberedAnswer, answer_of_kept, HasPlace, lane_place, told_by, told_in}
+use Rattle.vms_answers.specs.declared.lane_answers.LaneAnswers.{LaneAnswers}
 use Rattle.vms_phase.specs.declared.lane_joins.JoinedLane.{JoinedLane}
-use Rattle.vms_phase.specs.JoinedLanes.{AreTold, told_of}
+use Rattle.vms_phase.specs.Common.{told_of}
 
 -- lanes are one exactly if their places are
-place_of-same : (l m : Lane) → nat_eq (place_of l) (place_of m) ≡ is_lane l m
-place_of-same (Cpu c) (Cpu d) = grind (arith, nat_tests)
-place_of-same (Cpu c) Control = grind (arith, nat_tests)
-place_of-same Control (Cpu d) = grind (arith, nat_tests)
-place_of-same Control Control = refl
+lane_place-same : (l m : Lane) → nat_eq (lane_place l) (lane_place m) ≡ is_lane l m
+lane_place-same (Cpu c) (Cpu d) = grind (arith, nat_tests)
+lane_place-same (Cpu c) Control = grind (arith, nat_tests)
+lane_place-same Control (Cpu d) = grind (arith, nat_tests)
+lane_place-same Control Control = refl
 
 -- each lane of a header has its place
 pub place-below : (header : Header) (lane : Lane) (count : ℕ) → count ≡ suc header.layout.cpus → IsLaneOf header lane
-    → place_of lane < count
+    → lane_place lane < count
 place-below header (Cpu c) count is known = omega (arith, is, known)
 place-below header Control count is known = omega (arith, is)
 
 -- a lane that has its place among so many
-pub told_by-set : (lanes : List LaneAnswers) (l lane : Lane) (answers : LaneAnswers) → place_of l < length lanes
-    → told_by (set lanes (place_of l) answers) lane
+pub told_by-set : (lanes : List LaneAnswers) (l lane : Lane) (answers : LaneAnswers) → lane_place l < length lanes
+    → told_by (set lanes (lane_place l) answers) lane
     ≡ (if is_lane l lane then told_in answers else told_by lanes lane)
 told_by-set lanes l lane answers below =
     let all : List (List NumberedAnswer) = map told_in lanes in
-    let within : place_of l < length all = omega (arith, below, length-map lanes told_in) in
-    ap (λ (lists : List (List NumberedAnswer)). get_or lists (place_of lane) [])
-    (map-set told_in lanes (place_of l) answers)
-    ∙ get_or-set all (place_of l) (place_of lane) (told_in answers) [] within
-    ∙ ap (λ (b : Bool). if b then told_in answers else get_or all (place_of lane) []) (place_of-same l lane)
+    let within : lane_place l < length all = omega (arith, below, length-map lanes told_in) in
+    ap (λ (lists : List (List NumberedAnswer)). get_or lists (lane_place lane) [])
+    (map-set told_in lanes (lane_place l) answers)
+    ∙ get_or-set all (lane_place l) (lane_place lane) (told_in answers) [] within
+    ∙ ap (λ (b : Bool). if b then told_in answers else get_or all (lane_place lane) []) (lane_place-same l lane)
 
 -- the answers of the lanes after some of these stand in their places
 pub record ArePlaced (header : Header) (lanes rest : List JoinedLane) (placed : List LaneAnswers) : Type 0 where
@@ -70,13 +61,13 @@ ArePlaced-none header lanes placed one_each known none = record {
 -- with a further one
 pub ArePlaced-next : (header : Header) (lanes before rest : List JoinedLane) (one : JoinedLane)
     (answers : LaneAnswers) (placed : List LaneAnswers) (place : ℕ) → ArePlaced header lanes before placed
-    → before ≡ rest ++ one ∷ [] → answers.items.items ≡ one.answers.items → place ≡ place_of one.lane
+    → before ≡ rest ++ one ∷ [] → answers.items.items ≡ one.answers.items → place ≡ lane_place one.lane
     → ArePlaced header lanes rest (set placed place answers)
 ArePlaced-next header lanes before rest one answers placed place are last same is =
     let popped = All-pop (λ (other : JoinedLane). IsLaneOf header other.lane) before rest (Some one) last are.known in
     let below = place-below header one.lane (length placed) are.one_each popped.1 in
     subst (λ (p : ℕ). ArePlaced header lanes rest (set placed p answers)) (sym is) (record {
-      one_each = length-set placed (place_of one.lane) answers ∙ are.one_each;
+      one_each = length-set placed (lane_place one.lane) answers ∙ are.one_each;
       known = popped.0;
       after = one ∷ are.after;
       parts = are.parts ∙ ap (λ (list : List JoinedLane). list ++ are.after) last
@@ -85,8 +76,8 @@ ArePlaced-next header lanes before rest one answers placed place are last same i
     })
   where
     by : (lane : Lane) (b : Bool) → (if b then told_in answers else told_by placed lane)
-        ≡ (if b then map numbered_told one.answers.items else told_of are.after lane)
-    by lane true = ap (map numbered_told) same
+        ≡ (if b then map answer_of_kept one.answers.items else told_of are.after lane)
+    by lane true = ap (map answer_of_kept) same
     by lane false = are.told lane
 
 -- after the last one
@@ -100,23 +91,15 @@ told-placed header lanes rest placed are none lane =
 pub told_by-push : (placed : List LaneAnswers) (empty : LaneAnswers) (lane : Lane) → told_in empty ≡ []
     → told_by placed lane ≡ [] → told_by (placed ++ empty ∷ []) lane ≡ []
 told_by-push placed empty lane none before =
-    ap (λ (lists : List (List NumberedAnswer)). get_or lists (place_of lane) [])
+    ap (λ (lists : List (List NumberedAnswer)). get_or lists (lane_place lane) [])
     (map-append told_in placed (empty ∷ []) ∙ ap (λ answers. map told_in placed ++ answers ∷ []) none)
-    ∙ at (map told_in placed) (place_of lane) before
+    ∙ at (map told_in placed) (lane_place lane) before
   where
     at : (xs : List (List NumberedAnswer)) (i : ℕ) → get_or xs i [] ≡ [] → get_or (xs ++ [] ∷ []) i [] ≡ []
     at [] zero is = refl
     at [] (suc i) is = refl
     at (x ∷ xs) zero is = is
     at (x ∷ xs) (suc i) is = at xs i is
-
--- lanes that tell the same were told the same
-pub AreTold-same : (told other : Lane → List NumberedAnswer) (joined : List JoinedLane)
-    → ((lane : Lane) → other lane ≡ told lane) → AreTold told joined → AreTold other joined
-AreTold-same told other joined same are =
-    All-weaker (λ (one : JoinedLane). told one.lane ≡ map numbered_told one.answers.items)
-    (λ (one : JoinedLane). other one.lane ≡ map numbered_told one.answers.items)
-    (λ one is. same one.lane ∙ is) joined are
 
 -- each lane of a line has its place
 pub places-known : (header : Header) (placed : List LaneAnswers) (items : List Item)
@@ -139,7 +122,7 @@ below-known header items (suc n) most =
     by true = All-cons (IsLaneOf header) (Cpu (record { number = n })) [] most (All-nil (IsLaneOf header))
     by false = All-nil (IsLaneOf header)
 
-of-known : (header : Header) (items : List Item) → All (IsLaneOf header) (lanes_of header.layout items)
+pub of-known : (header : Header) (items : List Item) → All (IsLaneOf header) (lanes_of header.layout items)
 of-known header items =
     All-append (IsLaneOf header) (lanes_below header.layout.cpus items)
     (if has_line Control items then Control ∷ [] else [])

@@ -1,34 +1,20 @@
 -- The jobs of lanes whose lines fit may be run.
-use Rattle.std.proofs.Common.{◌≡◌, ℕ, ◌<◌, length, Bool, true, false, cond, List, [], ◌∷◌, map, filter, refl, sym, subst, arith}
+use Rattle.std.proofs.Common.{◌≡◌, ℕ, ◌<◌, length, Bool, true, false, cond, List, [], ◌∷◌, map, filter, refl, sym}
+use Rattle.std.proofs.Common.{subst, arith}
 use Rattle.std.specs.Prelude.{All}
 use Rattle.std.proofs.lemmas.List.Elements.{All-cons, All-head, All-nil, All-tail}
-use Rattle.vms_base.specs.declared.headers.Header.{Header}
-use Rattle.vms_base.specs.declared.ids.CpuId.{CpuId}
-use Rattle.vms_base.specs.Places.{IsCpu, counter_count}
-use Rattle.vms_event_core.specs.Words.{event_count}
-use Rattle.vms_line.specs.Laws.{IsActOf, IsLineOf}
-use Rattle.vms_script.specs.declared.lane_scripts.LaneItem.{LaneItem}
-use Rattle.vms_script.specs.FittingScripts.{Fits}
-use Rattle.vms_script.specs.PhaseScripts.{is_lane, lane_item, lane_items}
-use Rattle.vms_script.specs.Starts.{Start}
-use Rattle.vms_script.specs.Totals.{line_of}
+use Rattle.vms_world.specs.Common.{Header, CpuId, IsCpu, counter_count, event_count, IsActOf, IsLineOf, LaneItem, Fits}
+use Rattle.vms_world.specs.Common.{is_lane, lane_item, lane_items, Start, line_of, Item, Lane, Cpu}
 use Rattle.vms_tables.specs.declared.passes.CpuPasses.{CpuPasses}
 use Rattle.vms_tables.specs.declared.tables.Tables.{Tables}
-use Rattle.vms_text.specs.declared.acts.Item.{Item}
-use Rattle.vms_text.specs.declared.acts.Lane.{Lane}
-use Rattle.vms_text.specs.declared.acts.Lane.TheVariants.{Cpu}
 use Rattle.vms_world.specs.declared.worlds.World.{World}
-use Rattle.vms_file_order.specs.WorldStarts.{IsStartOf}
-use Rattle.vms_file_order.proofs.LaneLists.{is_lane-same}
+use Rattle.vms_file_order.specs.Common.{IsStartOf}
+use Rattle.vms_file_order.proofs.Common.{is_lane-same}
 use Rattle.vms_lane.specs.declared.passes.LanePasses.{LanePasses}
 use Rattle.vms_lane.specs.declared.passes.LanePasses.TheVariants.{Cpu as OfCpu, Control as OfControl}
-use Rattle.vms_lane.specs.LanePasses.{AreReadyFor, MayMakeActs}
-use Rattle.vms_lane.specs.Scripts.{acts_in}
-use Rattle.vms_lane.specs.Spending.{HaveRoom, spent_by_all}
+use Rattle.vms_lane.specs.Common.{AreReadyFor, MayMakeActs, acts_in, HaveRoom, spent_by_all}
 use Rattle.vms_phase.specs.declared.jobs.LaneJob.{LaneJob}
-use Rattle.vms_phase.specs.Jobs.{HaveVolumesFor, IsJob, MayRunJob}
-use Rattle.vms_phase.specs.LanePasses.{HaveVolumesOf}
-use Rattle.vms_phase.specs.Rooms.{LeaveRoom}
+use Rattle.vms_phase.specs.Common.{HaveVolumesFor, IsJob, MayRunJob, HaveVolumesOf, LeaveRoom}
 use Rattle.vms_phase.proofs.LaneRooms.{LeaveRoom-fitting}
 
 module _ (header : Header) where

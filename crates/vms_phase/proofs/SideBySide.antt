@@ -1,31 +1,18 @@
 -- What the main passes have seen when the tables are closed is what the closed histories and the world have.
 use Rattle.std.proofs.Common.{◌≡◌, length, sym, ap, subst, ◌∙◌}
-use Rattle.vms_base.specs.declared.headers.Header.{Header}
-use Rattle.vms_core.specs.declared.steps.Facts.{Facts}
-use Rattle.vms_core.specs.declared.steps.Step.{Step}
-use Rattle.vms_core.specs.Bases.{settled}
+use Rattle.vms_world.specs.Common.{Header, Facts, Step, settled, EventState, EventFacts, EventStep, PcpuFacts, PcpuStep}
+use Rattle.vms_world.specs.Common.{numbers_after, Event, AreComplete, TableHistories, IsWorldOf}
 use Rattle.vms_core.specs.Cells.{HasShape}
 use Rattle.vms_core.specs.Pages as page_histories
-use Rattle.vms_event_core.specs.declared.states.EventState.{EventState}
-use Rattle.vms_event_core.specs.declared.steps.EventFacts.{EventFacts}
-use Rattle.vms_event_core.specs.declared.steps.EventStep.{EventStep}
 use Rattle.vms_event_core.specs.Events as event_histories
-use Rattle.vms_pcpu_core.specs.declared.steps.PcpuFacts.{PcpuFacts}
-use Rattle.vms_pcpu_core.specs.declared.steps.PcpuStep.{PcpuStep}
 use Rattle.vms_pcpu_core.specs.Endings as pcpu_endings
-use Rattle.vms_pcpu_core.specs.Laws.{numbers_after}
-use Rattle.vms_history.specs.declared.events.Event.{Event}
 use Rattle.std.specs.Prelude.{List}
-use Rattle.vms_seats.specs.Passes.{Phase}
+use Rattle.vms_seats.specs.Common.{Phase}
 use Rattle.vms_tables.specs.declared.tables.Tables.{Tables}
-use Rattle.vms_tables.specs.Passes.{TablePasses}
-use Rattle.vms_tables.specs.Tables.{AreMadeFrom, AreTables}
+use Rattle.vms_tables.specs.Common.{TablePasses, AreMadeFrom, AreTables}
 use Rattle.vms_world.specs.declared.worlds.World.{World}
-use Rattle.vms_world.specs.Phases.{AreComplete, Histories}
-use Rattle.vms_world.specs.Worlds.{IsWorldOf}
 use Rattle.vms_phase.specs.declared.closings.ClosedHistories.{ClosedHistories}
-use Rattle.vms_phase.specs.JoinedLanes.{seen_by}
-use Rattle.vms_phase.specs.SideBySide.{HasClosedTables, histories_of}
+use Rattle.vms_phase.specs.Common.{seen_by, HasClosedTables, histories_of}
 use Rattle.vms_phase.proofs.JobLists.{counters-told, events-told, pages-told}
 
 module _ (header : Header) (tables : Tables) (w : World) (are : AreTables header tables) (made : AreMadeFrom w tables)
@@ -42,7 +29,7 @@ module _ (header : Header) (tables : Tables) (w : World) (are : AreTables header
         (page_history : closed.pages ≡ record { facts = tables.pages.facts; events = mains.pages.seen })
         (event_history : closed.events ≡ record { facts = tables.events.facts; events = mains.events.seen })
         (pcpu_history : closed.counters ≡ record { facts = tables.counters.facts; events = mains.counters.seen }) where
-      abbrev hist : List (Event Step) → List (Event EventStep) → List (Event PcpuStep) → Histories
+      abbrev hist : List (Event Step) → List (Event EventStep) → List (Event PcpuStep) → TableHistories
       hist pages events counters = record { pages = pages; events = events; counters = counters }
 
       pub closed-seen : histories_of closed ≡ seen_by mains
@@ -73,7 +60,7 @@ module _ (header : Header) (tables : Tables) (w : World) (are : AreTables header
           → next.counters ≡ numbers_after tables.counters.facts mains.counters.seen
           → HasClosedTables header w (histories_of closed) next
       closed-tables next pages events counters =
-          subst (λ (hs : Histories). HasClosedTables header w hs next) (sym closed-seen) (record {
+          subst (λ (hs : TableHistories). HasClosedTables header w hs next) (sym closed-seen) (record {
             pages = pages ∙ ap (λ (f : Facts). settled (page_histories.state_after f mains.pages.seen))
                 (pages-told header tables w are made);
             events = events ∙ ap (λ (f : EventFacts). event_histories.state_after f mains.events.seen)

@@ -1,11 +1,9 @@
 -- How far the main pass of a table has come: whose passes it has begun, and whose it has ended.
 use Rattle.std.specs.Prelude.{◌≡◌, ℕ, List, [], take}
-use Rattle.vms_history.specs.declared.events.Event.{Event}
-use Rattle.vms_history.specs.Events.{Extends, after, own}
-use Rattle.vms_history.specs.Legal.{Machine, IsLegal}
-use Rattle.vms_seats.specs.Passes.{Pass}
-use Rattle.vms_text.specs.declared.acts.Lane.{Lane}
-use Rattle.vms_file_order.specs.LanePasses.{PassSteps, ends_from, opening_of}
+use Rattle.vms_world.specs.Common.{Event, Extends, after, own, Machine, Lane}
+use Rattle.vms_history.specs.Legal.{IsLegal}
+use Rattle.vms_seats.specs.Common.{Pass}
+use Rattle.vms_file_order.specs.Common.{PassSteps, ends_from, opening_of}
 
 -- a pass of this number has made no step
 pub record IsFresh {F K : Type 0} (number : ℕ) (pass : Pass F K) : Type 0 where
@@ -14,7 +12,7 @@ pub record IsFresh {F K : Type 0} (number : ℕ) (pass : Pass F K) : Type 0 wher
 
 -- a pass of this number had made no step as `first`, and a history has the steps that it had made as `last`, and no
 -- others
-pub record IsWhole {F K : Type 0} (number : ℕ) (first last : Pass F K) (h : List (Event K)) : Type 0 where
+pub record HasAllSteps {F K : Type 0} (number : ℕ) (first last : Pass F K) (h : List (Event K)) : Type 0 where
   pub fresh : IsFresh number first
   pub extends : Extends h last.seen
   pub all_steps : own h number ≡ own last.seen number

@@ -3,8 +3,8 @@ use Rattle.std.specs.Prelude.{◌≡◌, ℕ, false}
 use Rattle.vms_core.specs.Steps as page_steps
 use Rattle.vms_event_core.specs.Steps as event_steps
 use Rattle.vms_pcpu_core.specs.Steps as pcpu_steps
-use Rattle.vms_history.specs.Passes.{lives_in}
-use Rattle.vms_tables.specs.Passes.{TablePasses}
+use Rattle.vms_world.specs.Common.{lives_in}
+use Rattle.vms_tables.specs.Common.{TablePasses}
 
 -- in what the main passes have seen no pass lives
 pub record HaveAllEnded (mains : TablePasses) : Type 0 where

@@ -1,22 +1,13 @@
 -- The lanes that a phase runs, each with its passes and its lines.
 use Rattle.std.specs.Prelude.{◌≡◌, ℕ, suc, ◌<◌, List, [], ◌∷◌, All, map, length, slice_index_or, Result, IfOk}
-use Rattle.vms_base.specs.declared.failures.Memory.{Memory}
-use Rattle.vms_base.specs.declared.headers.Header.{Header}
-use Rattle.vms_base.specs.declared.kinds.ZoneSize.{ZoneSize}
-use Rattle.vms_line.specs.Laws.{IsActOf}
-use Rattle.vms_script.specs.PhaseScripts.{lane_items}
+use Rattle.vms_world.specs.Common.{Memory, Header, ZoneSize, IsActOf, lane_items, Item, Lane, Cpu, Control}
 use Rattle.vms_tables.specs.declared.tables.Tables.{Tables}
-use Rattle.vms_tables.specs.Passes.{AreOf, TablePasses}
-use Rattle.vms_tables.specs.Tables.{world_of}
-use Rattle.vms_text.specs.declared.acts.Item.{Item}
-use Rattle.vms_text.specs.declared.acts.Lane.{Lane}
-use Rattle.vms_text.specs.declared.acts.Lane.TheVariants.{Cpu}
+use Rattle.vms_tables.specs.Common.{AreFrom, TablePasses, world_of}
 use Rattle.vms_world.specs.declared.worlds.World.{World}
-use Rattle.vms_answers.specs.ToldAnswers.{numbered_told}
+use Rattle.vms_answers.specs.Common.{answer_of_kept}
 use Rattle.vms_lane.specs.declared.passes.LanePasses.{LanePasses}
-use Rattle.vms_lane.specs.declared.passes.LanePasses.TheVariants.{Cpu as OfCpu}
-use Rattle.vms_lane.specs.LanePasses.{AreReadyFor, HaveSpentAll, MayMakeActs, passes_in}
-use Rattle.vms_lane.specs.Scripts.{MakeLines, acts_in}
+use Rattle.vms_lane.specs.declared.passes.LanePasses.TheVariants.{Cpu as OfCpu, Control as OfControl}
+use Rattle.vms_lane.specs.Common.{AreReadyFor, HaveSpentAll, MayMakeActs, passes_in, MakeLines, acts_in}
 use Rattle.vms_phase.specs.declared.jobs.LaneDone.{LaneDone}
 use Rattle.vms_phase.specs.declared.jobs.LaneJob.{LaneJob}
 use Rattle.vms_phase.specs.LanePasses.{AreFresh, HaveBegun, HaveVolumesOf}
@@ -24,7 +15,8 @@ use Rattle.vms_phase.specs.LanePasses.{AreFresh, HaveBegun, HaveVolumesOf}
 -- the volumes that the passes of a lane have, if it is of a CPU, are those that the CPU has in a world
 abbrev pub HaveVolumesFor : Header → World → Lane → LanePasses → Type 0
 HaveVolumesFor header w (Cpu c) (OfCpu passes) = HaveVolumesOf header w c.number passes
-HaveVolumesFor header w _ _ = Unit {0}
+HaveVolumesFor header w Control (OfControl passes) = Unit {0}
+HaveVolumesFor header w _ _ = ⊥
 
 -- the job of a lane in a phase of these lines: its passes, under this number in each table, have made no step, may make
 -- a line of the lane, and have the volumes of the lane's CPU in the world of the tables
@@ -52,7 +44,7 @@ pub record MayRunJob (header : Header) (tables : Tables) (job : LaneJob) : Type 
 -- the main passes of these tables have begun these lanes, and these are their jobs, of which each may be run
 pub record HaveBegunJobs (header : Header) (tables : Tables) (w : World) (items : List Item) (lanes : List Lane)
     (mains : TablePasses) (jobs : List LaneJob) : Type 0 where
-  pub of : AreOf tables mains
+  pub of : AreFrom tables mains
   pub begun : HaveBegun lanes mains
   pub each : AreJobs header tables w items 1 lanes jobs
   pub may : All (MayRunJob header tables) jobs
@@ -62,7 +54,7 @@ pub record HasRunJob (header : Header) (pressure normal : ZoneSize → ℕ → �
     (job : LaneJob) (done : LaneDone) : Type 0 where
   pub lane : done.lane ≡ job.lane
   pub lines : MakeLines header pressure normal (world_of tables) job.lane job.lines (passes_in done.passes)
-      (passes_in job.passes) (map numbered_told done.answers.items)
+      (passes_in job.passes) (map answer_of_kept done.answers.items)
   pub spent : HaveSpentAll (acts_in job.lines) done.passes job.passes
   pub ready : AreReadyFor tables job.lane done.passes
 

@@ -1,22 +1,15 @@
 -- The lanes of a phase that have run, and how far the main passes have ended them.
-use Rattle.std.specs.Prelude.{◌≡◌, ℕ, suc, List, [], ◌∷◌, ◌++◌, map, length, Option, Some, None, Result, IfOk, All, if◌then◌else◌}
-use Rattle.vms_base.specs.declared.failures.Memory.{Memory}
-use Rattle.vms_base.specs.declared.headers.Header.{Header}
-use Rattle.vms_base.specs.declared.kinds.ZoneSize.{ZoneSize}
-use Rattle.vms_base.specs.declared.spending.CpuVolumes.{CpuVolumes}
-use Rattle.vms_script.specs.PhaseScripts.{is_lane, lane_items}
+use Rattle.std.specs.Prelude.{◌≡◌, ℕ, suc, List, [], ◌∷◌, ◌++◌, map, length, Option, Some, None, Result, IfOk, All}
+use Rattle.std.specs.Prelude.{if◌then◌else◌}
+use Rattle.vms_world.specs.Common.{Memory, Header, ZoneSize, CpuVolumes, is_lane, lane_items, Item, Lane}
+use Rattle.vms_world.specs.Common.{TableHistories}
 use Rattle.vms_tables.specs.declared.tables.Tables.{Tables}
-use Rattle.vms_tables.specs.Passes.{AreOf, TablePasses}
-use Rattle.vms_text.specs.declared.acts.Item.{Item}
-use Rattle.vms_text.specs.declared.acts.Lane.{Lane}
+use Rattle.vms_tables.specs.Common.{AreFrom, TablePasses}
 use Rattle.vms_world.specs.declared.worlds.World.{World}
-use Rattle.vms_world.specs.Phases.{Histories}
-use Rattle.vms_answers.specs.PhaseAnswers.{NumberedAnswer}
-use Rattle.vms_answers.specs.ToldAnswers.{numbered_told}
+use Rattle.vms_answers.specs.Common.{NumberedAnswer, answer_of_kept}
 use Rattle.vms_lane.specs.declared.passes.LanePasses.{LanePasses}
 use Rattle.vms_lane.specs.declared.passes.LanePasses.TheVariants.{Cpu as OfCpu, Control as OfControl}
-use Rattle.vms_lane.specs.LanePasses.{AreReadyFor, HaveSpentAll, passes_in}
-use Rattle.vms_lane.specs.Scripts.{MakeLines, acts_in}
+use Rattle.vms_lane.specs.Common.{AreReadyFor, HaveSpentAll, passes_in, MakeLines, acts_in}
 use Rattle.vms_phase.specs.declared.jobs.LaneDone.{LaneDone}
 use Rattle.vms_phase.specs.declared.lane_joins.JoinedLane.{JoinedLane}
 use Rattle.vms_phase.specs.Jobs.{HaveVolumesFor}
@@ -30,7 +23,7 @@ pub record HasRunLane (header : Header) (pressure normal : ZoneSize → ℕ → 
   pub is : done.lane ≡ lane
   pub fresh : AreFresh number (passes_in first)
   pub lines : MakeLines header pressure normal w lane (lane_items lane items) (passes_in done.passes) (passes_in first)
-      (map numbered_told done.answers.items)
+      (map answer_of_kept done.answers.items)
   pub volumes : HaveVolumesFor header w lane first
   pub spent : HaveSpentAll (acts_in (lane_items lane items)) done.passes first
   pub ready : AreReadyFor tables lane done.passes
@@ -61,7 +54,7 @@ pub record IsJoinedLane (header : Header) (pressure normal : ZoneSize → ℕ �
   pub is : joined.lane ≡ lane
   pub whole : AreWhole number (passes_in first) (passes_in last) mains
   pub lines : MakeLines header pressure normal w lane (lane_items lane items) (passes_in last) (passes_in first)
-      (map numbered_told joined.answers.items)
+      (map answer_of_kept joined.answers.items)
   pub volumes : HaveVolumesFor header w lane first
   pub spent : HaveSpentAll (acts_in (lane_items lane items)) last first
   pub left : HasVolumesOf last joined.volumes
@@ -82,21 +75,21 @@ pub record HaveJoinedLanes (header : Header) (pressure normal : ZoneSize → ℕ
   pub over : List Lane
   pub left : List Lane
   pub parts : lanes ≡ over ++ left
-  pub of : AreOf tables mains
+  pub of : AreFrom tables mains
   pub ended : HaveEnded lanes (length over) mains
   pub each : AreJoinedLanes header pressure normal w items mains 1 over joined
   pub results : HaveRunLanes header pressure normal tables w items (suc (length over)) left rest
 
 -- what each of these lanes was told is what its lines answered
 abbrev pub AreTold : (Lane → List NumberedAnswer) → List JoinedLane → Type 0
-AreTold told joined = All (λ one. told one.lane ≡ map numbered_told one.answers.items) joined
+AreTold told joined = All (λ one. told one.lane ≡ map answer_of_kept one.answers.items) joined
 
 -- what the lines of a lane answered, if it is among these
 abbrev pub told_of : List JoinedLane → Lane → List NumberedAnswer
 told_of [] lane = []
 told_of (one ∷ more) lane =
-    if is_lane one.lane lane then map numbered_told one.answers.items else told_of more lane
+    if is_lane one.lane lane then map answer_of_kept one.answers.items else told_of more lane
 
 -- the histories that the main passes have seen
-abbrev pub seen_by : TablePasses → Histories
+abbrev pub seen_by : TablePasses → TableHistories
 seen_by mains = record { pages = mains.pages.seen; events = mains.events.seen; counters = mains.counters.seen }

@@ -1,27 +1,19 @@
 -- The passes of one lane in the three tables, as the main passes begin and end them.
 use Rattle.std.specs.Prelude.{◌≡◌, ℕ, ◌<◌, false, List, length, slice_index_or, Option}
-use Rattle.vms_base.specs.declared.headers.Header.{Header}
-use Rattle.vms_base.specs.declared.ids.CpuId.{CpuId}
-use Rattle.vms_base.specs.Cpus.{MayOwnCpu}
-use Rattle.vms_base.specs.Places.{IsCounter, counter_count}
+use Rattle.vms_world.specs.Common.{Header, CpuId, MayOwnCpu, IsCounter, counter_count, IsEvent, event_count, percpu}
+use Rattle.vms_world.specs.Common.{Lane, is_among, owner_of, event_volume, page_volume, pcpu_volume}
 use Rattle.vms_core.specs.declared.steps.Step.TheVariants as page_steps
 use Rattle.vms_core.specs.Pages as page_histories
 use Rattle.vms_event_core.specs.declared.steps.EventStep.TheVariants as event_steps
 use Rattle.vms_event_core.specs.Events as event_histories
-use Rattle.vms_event_core.specs.Words.{IsEvent, event_count}
 use Rattle.vms_pcpu_core.specs.declared.steps.PcpuStep.TheVariants as pcpu_steps
-use Rattle.vms_pcpu_core.specs.Histories.{percpu}
-use Rattle.vms_seats.specs.MainSteps.{HasBegun, HasEnded}
-use Rattle.vms_text.specs.declared.acts.Lane.{Lane}
+use Rattle.vms_seats.specs.Common.{HasBegun, HasEnded}
 use Rattle.vms_world.specs.declared.worlds.World.{World}
-use Rattle.vms_world.specs.Lanes.{is_among, owner_of}
-use Rattle.vms_world.specs.Worlds.{event_volume, page_volume, pcpu_volume}
-use Rattle.vms_file_order.specs.LanePasses.{StandOnce}
-use Rattle.vms_file_order.specs.Tables.{event_passes, page_passes, pcpu_passes}
+use Rattle.vms_file_order.specs.Common.{StandOnce, event_passes, page_passes, pcpu_passes}
 use Rattle.vms_tables.specs.declared.passes.CpuPasses.{CpuPasses}
 use Rattle.vms_tables.specs.declared.tables.Tables.{Tables}
-use Rattle.vms_tables.specs.Passes.{AreOf, TablePasses}
-use Rattle.vms_phase.specs.BegunLanes.{HasBegunLanes, HasEndedLanes, IsFresh, IsWhole}
+use Rattle.vms_tables.specs.Common.{AreFrom, TablePasses}
+use Rattle.vms_phase.specs.BegunLanes.{HasBegunLanes, HasEndedLanes, IsFresh, HasAllSteps}
 
 -- the main passes have begun the passes of these lanes in each table, in this order, and have made no other step
 pub record HaveBegun (lanes : List Lane) (mains : TablePasses) : Type 0 where
@@ -38,7 +30,7 @@ pub record HaveEnded (lanes : List Lane) (n : ℕ) (mains : TablePasses) : Type 
 -- the main passes of these tables have begun these lanes, each once, and may begin this one
 pub record MayBeginLane (header : Header) (tables : Tables) (lanes : List Lane) (lane : Lane) (mains : TablePasses)
     : Type 0 where
-  pub of : AreOf tables mains
+  pub of : AreFrom tables mains
   pub begun : HaveBegun lanes mains
   pub once : StandOnce lanes
   pub apart : is_among lane lanes ≡ false
@@ -71,9 +63,9 @@ pub record HaveNumber (number : ℕ) (passes : TablePasses) : Type 0 where
 -- under this number they had made no step as `first`, and what the main passes have seen has the steps that they had
 -- made as `last`, and no others
 pub record AreWhole (number : ℕ) (first last mains : TablePasses) : Type 0 where
-  pub pages : IsWhole number first.pages last.pages mains.pages.seen
-  pub events : IsWhole number first.events last.events mains.events.seen
-  pub counters : IsWhole number first.counters last.counters mains.counters.seen
+  pub pages : HasAllSteps number first.pages last.pages mains.pages.seen
+  pub events : HasAllSteps number first.events last.events mains.events.seen
+  pub counters : HasAllSteps number first.counters last.counters mains.counters.seen
 
 -- the volumes of the passes are those of CPU c in a world
 pub record HaveVolumesOf (header : Header) (w : World) (c : ℕ) (passes : CpuPasses) : Type 0 where

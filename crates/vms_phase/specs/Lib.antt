@@ -1,10 +1,10 @@
-pub mod AddedAmounts
-pub mod GrownVolumes
 pub mod BegunLanes
 pub mod LanesMade
 pub mod LanePasses
 pub mod Rooms
 pub mod Jobs
 pub mod JoinedLanes
+pub mod KeptVolumes
 pub mod SideBySide
 pub mod EndedTables
+pub mod Common

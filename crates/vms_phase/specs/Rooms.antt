@@ -1,13 +1,8 @@
 -- The volumes with which the passes of a CPU's lane begin, and the room that they leave for the lane's lines.
 use Rattle.std.specs.Prelude.{ℕ, ◌+◌, ◌<◌, ◌≤◌, List, length}
-use Rattle.vms_base.specs.declared.headers.Header.{Header}
-use Rattle.vms_base.specs.Places.{IsCounter}
-use Rattle.vms_base.specs.Volumes.{most_volume}
-use Rattle.vms_event_core.specs.Words.{IsEvent}
-use Rattle.vms_text.specs.declared.acts.Act.{Act}
+use Rattle.vms_world.specs.Common.{Header, IsCounter, most_volume, IsEvent, Act, event_volume, page_volume, pcpu_volume}
 use Rattle.vms_world.specs.declared.worlds.World.{World}
-use Rattle.vms_world.specs.Worlds.{event_volume, page_volume, pcpu_volume}
-use Rattle.vms_lane.specs.Spending.{spent_by_all}
+use Rattle.vms_lane.specs.Common.{spent_by_all}
 
 -- the volumes of CPU c in a world leave room for what these acts spend
 pub record LeaveRoom (header : Header) (w : World) (c : ℕ) (acts : List Act) : Type 0 where

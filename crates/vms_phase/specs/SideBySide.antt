@@ -1,22 +1,18 @@
 -- What the lanes of a phase leave that ran side by side.
 use Rattle.std.specs.Prelude.{◌≡◌}
-use Rattle.vms_base.specs.declared.headers.Header.{Header}
-use Rattle.vms_core.specs.Bases.{settled}
+use Rattle.vms_world.specs.Common.{Header, settled, numbers_after, TableHistories, event_facts, page_facts, pcpu_facts}
 use Rattle.vms_core.specs.Pages as page_histories
 use Rattle.vms_event_core.specs.Events as event_histories
-use Rattle.vms_pcpu_core.specs.Laws.{numbers_after}
 use Rattle.vms_world.specs.declared.worlds.World.{World}
-use Rattle.vms_world.specs.Phases.{Histories}
-use Rattle.vms_world.specs.Worlds.{event_facts, page_facts, pcpu_facts}
 use Rattle.vms_phase.specs.declared.closings.ClosedHistories.{ClosedHistories}
 
 -- the events of closed histories
-abbrev pub histories_of : ClosedHistories → Histories
+abbrev pub histories_of : ClosedHistories → TableHistories
 histories_of closed =
     record { pages = closed.pages.events; events = closed.events.events; counters = closed.counters.events }
 
 -- the tables of a world stand as these histories of a phase leave them, with nothing acknowledged and nothing set
-pub record HasClosedTables (header : Header) (w : World) (hs : Histories) (next : World) : Type 0 where
+pub record HasClosedTables (header : Header) (w : World) (hs : TableHistories) (next : World) : Type 0 where
   pub pages : next.pages ≡ settled (page_histories.state_after (page_facts header w) hs.pages)
   pub events : next.events ≡ event_histories.state_after (event_facts header w) hs.events
   pub counters : next.counters ≡ numbers_after (pcpu_facts header w) hs.counters

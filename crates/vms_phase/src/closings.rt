@@ -1,17 +1,13 @@
 ghost use Rattle.std.specs.Prelude.{◌≡◌, length};
-ghost use Rattle.vms_core.specs.Bases.{settled};
+ghost use Rattle.vms_world.specs.Common.{settled, numbers_after, Header, event_facts, page_facts, pcpu_facts};
 ghost use Rattle.vms_core.specs.Cells.{HasShape};
 ghost use Rattle.vms_core.specs.Pages as page_histories;
 ghost use Rattle.vms_event_core.specs.Events as event_histories;
 ghost use Rattle.vms_pcpu_core.specs.Endings as pcpu_endings;
-ghost use Rattle.vms_pcpu_core.specs.Laws.{numbers_after};
 ghost use Rattle.vms_phase.specs.EndedTables.{HaveAllEnded};
-ghost use Rattle.vms_base.specs.declared.headers.Header.{Header};
 ghost use Rattle.vms_tables.specs.declared.tables.Tables.{Tables as TablesOf};
-ghost use Rattle.vms_tables.specs.Passes.{AreOf, mains_of};
-ghost use Rattle.vms_tables.specs.Tables.{AreMadeFrom, AreTables};
+ghost use Rattle.vms_tables.specs.Common.{AreFrom, mains_of, AreMadeFrom, AreTables};
 ghost use Rattle.vms_world.specs.declared.worlds.World.{World as WorldOf};
-ghost use Rattle.vms_world.specs.Worlds.{event_facts, page_facts, pcpu_facts};
 
 use vms_event::EventHistory;
 use vms_pcpu::PcpuHistory;
@@ -30,7 +26,7 @@ pub struct ClosedHistories {
 /// Closes the tables, once every other pass has ended, and writes into a world how they stand then: with nothing
 /// acknowledged and nothing set. The volumes of the world stay. The histories are what the main passes have seen.
 pub fn close(tables: Tables, mains: MainPasses, world: &mut World) -> ClosedHistories
-    requires mains { AreOf tables (mains_of mains) }
+    requires mains { AreFrom tables (mains_of mains) }
     requires ended { HaveAllEnded (mains_of mains) }
     requires shaped { HasShape tables.pages.facts.layout world.old.pages }
     requires words { length world.old.events.words ≡ length tables.events.facts.base.words }

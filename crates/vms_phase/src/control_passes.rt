@@ -1,24 +1,21 @@
 ghost use Rattle.std.specs.Prelude.{◌≡◌, false, List, None};
-ghost use Rattle.vms_burial.specs.Passes.{passes_of};
+ghost use Rattle.vms_burial.specs.Common.{passes_of};
 ghost use Rattle.vms_core.specs.Own.{CarriesNothing};
-ghost use Rattle.vms_file_order.specs.LanePasses.{StandOnce};
-ghost use Rattle.vms_history.specs.Events.{own};
+ghost use Rattle.vms_file_order.specs.Common.{StandOnce};
+ghost use Rattle.vms_world.specs.Common.{own, Lane, Control, is_among};
 ghost use Rattle.vms_phase.specs.LanePasses.{BeginPasses, EndPasses, HaveBegun};
-ghost use Rattle.vms_tables.specs.Passes.{AreOf, mains_of};
-ghost use Rattle.vms_text.specs.declared.acts.Lane.{Lane};
-ghost use Rattle.vms_text.specs.declared.acts.Lane.TheVariants.{Control};
-ghost use Rattle.vms_world.specs.Lanes.{is_among};
+ghost use Rattle.vms_tables.specs.Common.{AreFrom, mains_of};
 
 use vms_burial::ControlPasses;
 use vms_tables::{MainPasses, Tables};
 
 /// Begins the passes of the control lane, where it has none yet.
 pub fn begin_control(tables: &Tables, mains: &mut MainPasses) -> ControlPasses
-    requires mains { AreOf tables.now (mains_of mains.old) }
+    requires mains { AreFrom tables.now (mains_of mains.old) }
     requires apart { (lanes : List Lane) × HaveBegun lanes (mains_of mains.old) × StandOnce lanes
         × (is_among Control lanes ≡ false) }
     ensures begun { BeginPasses None (mains_of mains.new) (mains_of mains.old) (passes_of result) }
-    ensures of { AreOf tables.now (passes_of result) }
+    ensures of { AreFrom tables.now (passes_of result) }
     ensures nothing { CarriesNothing tables.now.pages.facts.layout (own result.page.seen result.page.number) }
 {
     ControlPasses {
@@ -30,8 +27,8 @@ pub fn begin_control(tables: &Tables, mains: &mut MainPasses) -> ControlPasses
 
 /// Ends the passes of the control lane.
 pub fn join_control(tables: &Tables, mains: &mut MainPasses, passes: ControlPasses)
-    requires mains { AreOf tables.now (mains_of mains.old) }
-    requires passes { AreOf tables.now (passes_of passes) }
+    requires mains { AreFrom tables.now (mains_of mains.old) }
+    requires passes { AreFrom tables.now (passes_of passes) }
     requires nothing { CarriesNothing tables.now.pages.facts.layout (own passes.page.seen passes.page.number) }
     ensures { EndPasses (mains_of mains.new) (mains_of mains.old) (passes_of passes) }
 {

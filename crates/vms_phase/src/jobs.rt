@@ -1,12 +1,8 @@
 ghost use Rattle.std.specs.Prelude.{◌≡◌, ◌+◌, ◌<◌, suc, IfOk, OnOk};
-ghost use Rattle.vms_file_order.specs.WorldStarts.{IsStartOf};
-ghost use Rattle.vms_base.specs.Headers.{IsHeader};
+ghost use Rattle.vms_file_order.specs.Common.{IsStartOf};
+ghost use Rattle.vms_world.specs.Common.{IsHeader, Fits, Start, lanes_below, lanes_of};
 ghost use Rattle.vms_phase.specs.Jobs.{HasRunJob, HaveBegunJobs, MayRunJob};
-ghost use Rattle.vms_script.specs.FittingScripts.{Fits};
-ghost use Rattle.vms_script.specs.Starts.{Start};
-ghost use Rattle.vms_tables.specs.Passes.{AreOf, HaveSeenNothing, mains_of};
-ghost use Rattle.vms_world.specs.Lanes.{lanes_below, lanes_of};
-ghost use Rattle.vms_tables.specs.Tables.{AreMadeFrom, AreTables};
+ghost use Rattle.vms_tables.specs.Common.{AreFrom, HaveSeenNothing, mains_of, AreMadeFrom, AreTables};
 
 use crate::control_passes::begin_control;
 use crate::passes::begin_cpu;
@@ -15,8 +11,7 @@ use std::sync::Wait;
 use vms_answers::NumberedAnswer;
 use vms_base::{CpuId, Header, Memory};
 use vms_calc::{Rule, Rules};
-use vms_gate::Gate;
-use vms_lane::{LaneLines, LanePasses, run_lane};
+use vms_lane::{Gate, LaneLines, LanePasses, run_lane};
 use vms_script::PhaseScript;
 use vms_tables::{MainPasses, Tables};
 use vms_text::Lane;
@@ -89,7 +84,7 @@ pub fn begin_lanes<'a>(
 ) -> Result<Vec<LaneJob<'a>>, Memory>
     requires tables { AreTables header.now tables.now }
     requires made { AreMadeFrom world.now tables.now }
-    requires of { AreOf tables.now (mains_of mains.old) }
+    requires of { AreFrom tables.now (mains_of mains.old) }
     requires nothing { HaveSeenNothing (mains_of mains.old) }
     requires start { (start : Start) × IsStartOf header.now start world.now × Fits header.now start script.now }
     ensures { IfOk result (λ jobs. HaveBegunJobs header.now tables.now world.now script.now
@@ -112,7 +107,7 @@ pub fn begin_cpu_lanes<'a>(
 ) -> Result<Vec<LaneJob<'a>>, Memory>
     requires tables { AreTables header.now tables.now }
     requires made { AreMadeFrom world.now tables.now }
-    requires of { AreOf tables.now (mains_of mains.old) }
+    requires of { AreFrom tables.now (mains_of mains.old) }
     requires nothing { HaveSeenNothing (mains_of mains.old) }
     requires start { (start : Start) × IsStartOf header.now start world.now × Fits header.now start script.now }
     ensures { IfOk result (λ jobs. HaveBegunJobs header.now tables.now world.now script.now

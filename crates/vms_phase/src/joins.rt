@@ -1,18 +1,12 @@
 ghost use Rattle.std.specs.Prelude.{ℕ, suc, ◌<◌, List, [], ◌∷◌, ◌++◌, length};
 ghost use Rattle.vms_phase.specs.LanePasses.{AreFresh, AreWhole, BeginPasses, EndPasses, HaveBegun, HaveEnded};
 ghost use Rattle.vms_phase.specs.LanePasses.{HaveNumber};
-ghost use Rattle.vms_base.specs.declared.headers.Header.{Header};
-ghost use Rattle.vms_file_order.specs.WorldStarts.{IsStartOf};
+ghost use Rattle.vms_world.specs.Common.{Header, Fits, Start, Item, Lane, lanes_of, owner_of};
+ghost use Rattle.vms_file_order.specs.Common.{IsStartOf};
 ghost use Rattle.vms_phase.specs.EndedTables.{HaveAllEnded};
-ghost use Rattle.vms_script.specs.FittingScripts.{Fits};
-ghost use Rattle.vms_script.specs.Starts.{Start};
 ghost use Rattle.vms_tables.specs.declared.tables.Tables.{Tables};
-ghost use Rattle.vms_tables.specs.Passes.{AreOf, TablePasses};
-ghost use Rattle.vms_tables.specs.Tables.{AreMadeFrom, AreTables};
-ghost use Rattle.vms_text.specs.declared.acts.Item.{Item};
+ghost use Rattle.vms_tables.specs.Common.{AreFrom, TablePasses, AreMadeFrom, AreTables};
 ghost use Rattle.vms_world.specs.declared.worlds.World.{World};
-ghost use Rattle.vms_text.specs.declared.acts.Lane.{Lane};
-ghost use Rattle.vms_world.specs.Lanes.{lanes_of, owner_of};
 
 use crate::turns::{lanes_begin_in_turn, lanes_end_in_turn};
 use vms_calls::ThresholdRules;
@@ -48,7 +42,8 @@ pub fn lanes_go_in_turn<R: ThresholdRules>()
 /// have ended the lanes of all.
 pub fn fitting_lanes_have_ended<R: ThresholdRules>()
     ensures { (header : Header) (tables : Tables) (w : World) (start : Start) (items : List Item)
-        (mains : TablePasses) → AreTables header tables → AreMadeFrom w tables → AreOf tables mains →
+        (mains : TablePasses) → AreTables header tables → AreMadeFrom w tables →
+        AreFrom tables mains →
         IsStartOf header start w → Fits header start items →
         HaveEnded (lanes_of header.layout items) (length (lanes_of header.layout items)) mains →
         HaveAllEnded mains }

@@ -1,10 +1,9 @@
 ghost use Rattle.std.specs.Prelude.{◌≡◌, [], IfOk, OnOk, length};
-ghost use Rattle.vms_lane.specs.LanePasses.{AreReadyFor, passes_in};
+ghost use Rattle.vms_lane.specs.Common.{AreReadyFor, passes_in};
 ghost use Rattle.vms_phase.specs.JoinedLanes.{HasVolumesOf, HaveJoinedLanes};
 ghost use Rattle.vms_phase.specs.LanePasses.{EndPasses};
-ghost use Rattle.vms_tables.specs.Passes.{AreOf, mains_of};
-ghost use Rattle.vms_text.specs.declared.acts.Lane.{Lane as LaneOf};
-ghost use Rattle.vms_world.specs.Lanes.{lanes_of};
+ghost use Rattle.vms_tables.specs.Common.{AreFrom, mains_of};
+ghost use Rattle.vms_world.specs.Common.{Lane as LaneOf, lanes_of};
 
 use crate::control_passes::join_control;
 use crate::jobs::LaneDone;
@@ -60,7 +59,7 @@ pub fn join_lanes<N: Rule, P: Rule>(
 
 /// Ends the passes of a lane that has run.
 fn join_lane(tables: &Tables, mains: &mut MainPasses, done: LaneDone) -> JoinedLane
-    requires mains { AreOf tables.now (mains_of mains.old) }
+    requires mains { AreFrom tables.now (mains_of mains.old) }
     requires ready { (lane : LaneOf) × AreReadyFor tables.now lane done.passes }
     ensures ended { EndPasses (mains_of mains.new) (mains_of mains.old) (passes_in done.passes) }
     ensures lane { result.lane ≡ done.lane }
@@ -82,7 +81,7 @@ fn join_lane(tables: &Tables, mains: &mut MainPasses, done: LaneDone) -> JoinedL
 
 /// Ends the passes of a lane, and gives the volumes of its CPU back, if it is of one.
 fn join_passes(tables: &Tables, mains: &mut MainPasses, passes: LanePasses) -> Option<CpuVolumes>
-    requires mains { AreOf tables.now (mains_of mains.old) }
+    requires mains { AreFrom tables.now (mains_of mains.old) }
     requires ready { (lane : LaneOf) × AreReadyFor tables.now lane passes }
     ensures ended { EndPasses (mains_of mains.new) (mains_of mains.old) (passes_in passes) }
     ensures volumes { HasVolumesOf passes result }

@@ -8,6 +8,7 @@ mod jobs;
 mod joins;
 mod lane_joins;
 mod laws;
+mod main_laws;
 mod passes;
 mod phases;
 mod placing;
@@ -25,9 +26,8 @@ pub use control_passes::{begin_control, join_control};
 pub use jobs::{LaneDone, LaneJob, begin_cpu_lanes, begin_lanes, run_job};
 pub use joins::{fitting_lanes_have_ended, lanes_go_in_turn};
 pub use lane_joins::{JoinedLane, join_lanes};
-pub use laws::{
-    fitting_lanes_make_phases, grown_volumes_are_left, lanes_make_phases, phases_spend_as_told,
-};
+pub use laws::{fitting_lanes_make_phases, lanes_make_phases};
+pub use main_laws::{acts_stay_made, lanes_begin_and_end, whole_lanes};
 pub use passes::{begin_cpu, join_cpu};
 pub use phases::{PhaseDone, run_phase};
 pub use placing::place_answers;
@@ -37,4 +37,5 @@ pub use runs::{joined_lanes_are_made, run_lanes};
 pub use side_by_side::{MadePhase, make_side_by_side};
 pub use threads::run_jobs;
 pub use turns::{fresh_cpus_have_spent_nothing, lanes_begin_in_turn, lanes_end_in_turn};
-pub use volumes::grow_volumes;
+pub use vms_lane::{Gate, OpenGate};
+pub use volumes::keep_volumes;

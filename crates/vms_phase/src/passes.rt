@@ -1,13 +1,9 @@
 ghost use Rattle.std.specs.Prelude.{◌≡◌, ℕ, ◌+◌, ◌*◌, ◌<◌, ◌≤◌, List, length, slice_index_or, IfOk, Some};
 ghost use Rattle.vms_core.specs.Own.{CarriesNothing};
-ghost use Rattle.vms_history.specs.Events.{own};
-ghost use Rattle.vms_lane.specs.Ready.{AreReady};
+ghost use Rattle.vms_world.specs.Common.{own, Lane, Cpu, IsWorldOf, volume_in};
+ghost use Rattle.vms_lane.specs.Common.{AreReady};
 ghost use Rattle.vms_phase.specs.LanePasses.{BeginPasses, EndPasses, HaveVolumesOf, MayBeginLane};
-ghost use Rattle.vms_tables.specs.Passes.{AreOf, mains_of, passes_of};
-ghost use Rattle.vms_tables.specs.Tables.{AreMadeFrom, AreTables};
-ghost use Rattle.vms_text.specs.declared.acts.Lane.{Lane};
-ghost use Rattle.vms_text.specs.declared.acts.Lane.TheVariants.{Cpu};
-ghost use Rattle.vms_world.specs.Worlds.{IsWorldOf, volume_in};
+ghost use Rattle.vms_tables.specs.Common.{AreFrom, mains_of, passes_of, AreMadeFrom, AreTables};
 
 use std::alloc::Global;
 use vms_base::{CpuId, CpuVolumes, Header, Memory, Row, Volume};
@@ -53,8 +49,8 @@ pub fn begin_cpu(
 
 /// Ends the passes of a CPU's lane, and gives the CPU's volumes back.
 pub fn join_cpu(tables: &Tables, mains: &mut MainPasses, passes: CpuPasses) -> CpuVolumes
-    requires mains { AreOf tables.now (mains_of mains.old) }
-    requires passes { AreOf tables.now (passes_of passes) }
+    requires mains { AreFrom tables.now (mains_of mains.old) }
+    requires passes { AreFrom tables.now (passes_of passes) }
     requires nothing { CarriesNothing tables.now.pages.facts.layout
         (own passes.page.pass.seen passes.page.pass.number) }
     ensures ended { EndPasses (mains_of mains.new) (mains_of mains.old) (passes_of passes) }

@@ -1,14 +1,8 @@
 ghost use Rattle.std.specs.Prelude.{◌≡◌, All, IfOk};
-ghost use Rattle.vms_answers.specs.PhaseAnswers.{answers_of};
-ghost use Rattle.vms_base.specs.Headers.{IsHeader};
-ghost use Rattle.vms_file_order.specs.MadePhases.{MakePhase};
-ghost use Rattle.vms_file_order.specs.WorldStarts.{IsStartOf};
-ghost use Rattle.vms_merge.specs.Merging.{merged};
-ghost use Rattle.vms_merge.specs.Told.{HasPlace, told_by};
+ghost use Rattle.vms_answers.specs.Common.{answers_of, merged, HasPlace, told_by};
+ghost use Rattle.vms_world.specs.Common.{IsHeader, Fits, Start, left_by};
+ghost use Rattle.vms_file_order.specs.Common.{MakeInAnyOrder, IsStartOf};
 ghost use Rattle.vms_phase.specs.SideBySide.{histories_of};
-ghost use Rattle.vms_script.specs.FittingScripts.{Fits};
-ghost use Rattle.vms_script.specs.Starts.{Start};
-ghost use Rattle.vms_world.specs.Phases.{left_by};
 
 use crate::closings::ClosedHistories;
 use crate::laws::fitting_lanes_make_phases;
@@ -16,14 +10,13 @@ use crate::placing::place_answers;
 use crate::rule_laws::lanes_make_phases_by;
 use crate::rules::Least;
 use crate::side_by_side::{MadePhase, make_side_by_side};
-use crate::volumes::grow_volumes;
 use std::alloc::Global;
 use std::sync::Wait;
 use std::thread::Threads;
+use vms_answers::LaneAnswers;
 use vms_base::{Header, Memory};
 use vms_calc::{Rule, Rules};
-use vms_gate::Gate;
-use vms_merge::LaneAnswers;
+use vms_lane::Gate;
 use vms_script::PhaseScript;
 use vms_world::World;
 
@@ -51,9 +44,9 @@ pub fn run_phase<G: Gate, R: Threads + Wait + Sync, N: Rule + Sync, P: Rule + Sy
 ) -> Result<PhaseDone, Memory>
     requires header { IsHeader header.now }
     requires start { (start : Start) × IsStartOf header.now start world × Fits header.now start script.now }
-    ensures phase { IfOk result (λ done. MakePhase header.now (P.answers rules.now.pressure)
+    ensures phase { IfOk result (λ done. MakeInAnyOrder header.now (P.answers rules.now.pressure)
         (N.answers rules.now.normal) world script.now (histories_of done.histories)) }
-    ensures world { IfOk result (λ done. done.world ≡ left_by header.now world (histories_of done.histories)) }
+    ensures world { IfOk result (λ done. done.world ≡ left_by header.now world script.now (histories_of done.histories)) }
     ensures answers { IfOk result (λ done. answers_of header.now world script.now (histories_of done.histories)
         ≡ merged script.now (told_by done.lanes.items)) }
     ensures places { IfOk result (λ done. All (λ item. HasPlace done.lanes.items item.lane) script.now) }
@@ -65,13 +58,6 @@ pub fn run_phase<G: Gate, R: Threads + Wait + Sync, N: Rule + Sync, P: Rule + Sy
         rt, alloc, gate, header, rules, &mut world, script,
     )?;
     let lanes = place_answers(alloc, header, lanes)?;
-    grow_volumes(
-        alloc,
-        &mut world.volumes,
-        header,
-        script.as_slice(),
-        lanes.as_slice(),
-    )?;
     Ok(PhaseDone {
         world,
         lanes,

@@ -1,13 +1,12 @@
 ghost use Rattle.std.specs.Prelude.{◌≡◌, suc, [], All, IfOk, length};
-ghost use Rattle.vms_line.specs.Laws.{IsLaneOf};
-ghost use Rattle.vms_merge.specs.Told.{told_by};
+ghost use Rattle.vms_world.specs.Common.{IsLaneOf, Lane as LaneOf};
+ghost use Rattle.vms_answers.specs.Common.{told_by};
 ghost use Rattle.vms_phase.specs.JoinedLanes.{told_of};
-ghost use Rattle.vms_text.specs.declared.acts.Lane.{Lane as LaneOf};
 
 use crate::lane_joins::JoinedLane;
 use std::alloc::Global;
+use vms_answers::{LaneAnswers, place_of};
 use vms_base::{Header, Memory};
-use vms_merge::{LaneAnswers, place_of};
 
 /// Puts what the lines of each lane answered into the lane's place. A lane that has no lines answered nothing.
 pub fn place_answers(

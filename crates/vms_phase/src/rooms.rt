@@ -1,18 +1,11 @@
 ghost use Rattle.std.specs.Prelude.{ℕ, List};
-ghost use Rattle.vms_base.specs.declared.headers.Header.{Header};
-ghost use Rattle.vms_base.specs.declared.ids.CpuId.{CpuId};
-ghost use Rattle.vms_base.specs.Places.{IsCpu};
-ghost use Rattle.vms_file_order.specs.WorldStarts.{IsStartOf};
-ghost use Rattle.vms_lane.specs.Scripts.{acts_in};
+ghost use Rattle.vms_world.specs.Common.{Header, CpuId, IsCpu, Fits, lane_items, Start, Item, Cpu};
+ghost use Rattle.vms_file_order.specs.Common.{IsStartOf};
+ghost use Rattle.vms_lane.specs.Common.{acts_in};
 ghost use Rattle.vms_phase.specs.declared.jobs.LaneJob.{LaneJob};
 ghost use Rattle.vms_phase.specs.Jobs.{IsJob, MayRunJob};
 ghost use Rattle.vms_phase.specs.Rooms.{LeaveRoom};
-ghost use Rattle.vms_script.specs.FittingScripts.{Fits};
-ghost use Rattle.vms_script.specs.PhaseScripts.{lane_items};
-ghost use Rattle.vms_script.specs.Starts.{Start};
 ghost use Rattle.vms_tables.specs.declared.tables.Tables.{Tables};
-ghost use Rattle.vms_text.specs.declared.acts.Item.{Item};
-ghost use Rattle.vms_text.specs.declared.acts.Lane.TheVariants.{Cpu};
 ghost use Rattle.vms_world.specs.declared.worlds.World.{World};
 
 /// Where a script fits a start of a world, the volumes of each CPU leave room for the lines of its lane.

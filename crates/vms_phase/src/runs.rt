@@ -1,22 +1,14 @@
 ghost use Rattle.std.specs.Prelude.{◌≡◌, [], List, IfOk, length, map};
-ghost use Rattle.vms_answers.specs.PhaseAnswers.{NumberedAnswer};
-ghost use Rattle.vms_base.specs.declared.headers.Header.{Header as HeaderOf};
-ghost use Rattle.vms_base.specs.Headers.{IsHeader};
-ghost use Rattle.vms_file_order.specs.WorldStarts.{IsStartOf};
+ghost use Rattle.vms_answers.specs.Common.{NumberedAnswer};
+ghost use Rattle.vms_world.specs.Common.{Header as HeaderOf, IsHeader, Fits, Start, Item, Lane, lanes_of, AreComplete};
+ghost use Rattle.vms_file_order.specs.Common.{IsStartOf};
 ghost use Rattle.vms_phase.specs.declared.lane_joins.JoinedLane.{JoinedLane as JoinedLaneOf};
 ghost use Rattle.vms_phase.specs.JoinedLanes.{AreTold, HaveJoinedLanes, seen_by, told_of};
 ghost use Rattle.vms_phase.specs.LanePasses.{HaveEnded};
 ghost use Rattle.vms_phase.specs.LanesMade.{AreMadeByLanes};
-ghost use Rattle.vms_script.specs.FittingScripts.{Fits};
-ghost use Rattle.vms_script.specs.Starts.{Start};
 ghost use Rattle.vms_tables.specs.declared.tables.Tables.{Tables as TablesOf};
-ghost use Rattle.vms_tables.specs.Passes.{AreOf, HaveSeenNothing, TablePasses, mains_of};
-ghost use Rattle.vms_tables.specs.Tables.{AreMadeFrom, AreTables};
-ghost use Rattle.vms_text.specs.declared.acts.Item.{Item};
-ghost use Rattle.vms_text.specs.declared.acts.Lane.{Lane};
+ghost use Rattle.vms_tables.specs.Common.{AreFrom, HaveSeenNothing, TablePasses, mains_of, AreMadeFrom, AreTables};
 ghost use Rattle.vms_world.specs.declared.worlds.World.{World as WorldOf};
-ghost use Rattle.vms_world.specs.Lanes.{lanes_of};
-ghost use Rattle.vms_world.specs.Phases.{AreComplete};
 
 use crate::jobs::begin_lanes;
 use crate::joins::lanes_go_in_turn;
@@ -28,7 +20,7 @@ use std::sync::Wait;
 use std::thread::Threads;
 use vms_base::{Header, Memory};
 use vms_calc::{Rule, Rules};
-use vms_gate::Gate;
+use vms_lane::Gate;
 use vms_script::PhaseScript;
 use vms_tables::{MainPasses, Tables};
 use vms_world::World;
@@ -49,7 +41,7 @@ pub fn run_lanes<G: Gate, R: Threads + Wait + Sync, N: Rule + Sync, P: Rule + Sy
     requires header { IsHeader header.now }
     requires tables { AreTables header.now tables.now }
     requires made { AreMadeFrom world.now tables.now }
-    requires of { AreOf tables.now (mains_of mains.old) }
+    requires of { AreFrom tables.now (mains_of mains.old) }
     requires nothing { HaveSeenNothing (mains_of mains.old) }
     requires start { (start : Start) × IsStartOf header.now start world.now × Fits header.now start script.now }
     ensures { IfOk result (λ joined. HaveJoinedLanes header.now (P.answers rules.now.pressure)

@@ -1,18 +1,11 @@
 ghost use Rattle.std.specs.Prelude.{◌≡◌, List, IfOk, OnErr, map};
-ghost use Rattle.vms_answers.specs.PhaseAnswers.{NumberedAnswer, answers_of};
-ghost use Rattle.vms_base.specs.Headers.{IsHeader};
-ghost use Rattle.vms_file_order.specs.WorldStarts.{IsStartOf};
-ghost use Rattle.vms_file_order.specs.MadePhases.{MakePhase};
-ghost use Rattle.vms_merge.specs.Merging.{merged};
+ghost use Rattle.vms_answers.specs.Common.{NumberedAnswer, answers_of, merged};
+ghost use Rattle.vms_world.specs.Common.{IsHeader, Fits, Start, Lane, lanes_of, volumes_after};
+ghost use Rattle.vms_file_order.specs.Common.{IsStartOf, MakeInAnyOrder};
 ghost use Rattle.vms_phase.specs.JoinedLanes.{AreTold, told_of};
 ghost use Rattle.vms_phase.specs.LanesMade.{AreMadeByLanes};
 ghost use Rattle.vms_phase.specs.SideBySide.{HasClosedTables, histories_of};
-ghost use Rattle.vms_script.specs.FittingScripts.{Fits};
-ghost use Rattle.vms_script.specs.Starts.{Start};
-ghost use Rattle.vms_tables.specs.Passes.{AreOf, HaveSeenNothing, mains_of};
-ghost use Rattle.vms_tables.specs.Tables.{AreMadeFrom, AreTables};
-ghost use Rattle.vms_text.specs.declared.acts.Lane.{Lane};
-ghost use Rattle.vms_world.specs.Lanes.{lanes_of};
+ghost use Rattle.vms_tables.specs.Common.{AreFrom, HaveSeenNothing, mains_of, AreMadeFrom, AreTables};
 
 use crate::closings::{ClosedHistories, close};
 use crate::joins::fitting_lanes_have_ended;
@@ -20,12 +13,13 @@ use crate::lane_joins::JoinedLane;
 use crate::rule_laws::lanes_make_phases_by;
 use crate::rules::Least;
 use crate::runs::{joined_lanes_are_made, run_lanes};
+use crate::volumes::keep_volumes;
 use std::alloc::Global;
 use std::sync::Wait;
 use std::thread::Threads;
 use vms_base::{Header, Memory};
 use vms_calc::{Rule, Rules};
-use vms_gate::Gate;
+use vms_lane::Gate;
 use vms_script::PhaseScript;
 use vms_tables::{MainPasses, Tables};
 use vms_world::World;
@@ -39,7 +33,7 @@ pub struct MadePhase {
 }
 
 /// Makes the lines of a phase from a world, each lane on a thread of its own, and writes into the world how the tables
-/// stand then. The volumes of the world stay. Where no memory is found the world stays.
+/// and the volumes stand then. Where no memory is found the world stays.
 pub fn make_side_by_side<G: Gate, R: Threads + Wait + Sync, N: Rule + Sync, P: Rule + Sync>(
     rt: &R,
     alloc: Global,
@@ -51,7 +45,7 @@ pub fn make_side_by_side<G: Gate, R: Threads + Wait + Sync, N: Rule + Sync, P: R
 ) -> Result<MadePhase, Memory>
     requires header { IsHeader header.now }
     requires start { (start : Start) × IsStartOf header.now start world.old × Fits header.now start script.now }
-    ensures phase { IfOk result (λ made. MakePhase header.now (P.answers rules.now.pressure)
+    ensures phase { IfOk result (λ made. MakeInAnyOrder header.now (P.answers rules.now.pressure)
         (N.answers rules.now.normal) world.old script.now (histories_of made.histories)) }
     ensures answers { IfOk result (λ made. answers_of header.now world.old script.now (histories_of made.histories)
         ≡ merged script.now (told_of made.lanes.items)) }
@@ -63,7 +57,7 @@ pub fn make_side_by_side<G: Gate, R: Threads + Wait + Sync, N: Rule + Sync, P: R
         (histories_of made.histories) told) }
     ensures tables { IfOk result (λ made. HasClosedTables header.now world.old (histories_of made.histories)
         world.new) }
-    ensures volumes { world.new.volumes ≡ world.old.volumes }
+    ensures volumes { IfOk result (λ made. world.new.volumes ≡ volumes_after header.now world.old script.now) }
     ensures err { OnErr result (world.new ≡ world.old) }
 {
     lanes_make_phases_by(rules);
@@ -87,7 +81,7 @@ fn run_and_close<G: Gate, R: Threads + Wait + Sync, N: Rule + Sync, P: Rule + Sy
     requires header { IsHeader header.now }
     requires tables { AreTables header.now tables }
     requires from { AreMadeFrom world.old tables }
-    requires of { AreOf tables (mains_of mains) }
+    requires of { AreFrom tables (mains_of mains) }
     requires nothing { HaveSeenNothing (mains_of mains) }
     requires start { (start : Start) × IsStartOf header.now start world.old × Fits header.now start script.now }
     ensures lanes { IfOk result (λ made. map (λ one. one.lane) made.lanes.items
@@ -98,7 +92,7 @@ fn run_and_close<G: Gate, R: Threads + Wait + Sync, N: Rule + Sync, P: Rule + Sy
         (histories_of made.histories) told) }
     ensures tables { IfOk result (λ made. HasClosedTables header.now world.old (histories_of made.histories)
         world.new) }
-    ensures volumes { world.new.volumes ≡ world.old.volumes }
+    ensures volumes { IfOk result (λ made. world.new.volumes ≡ volumes_after header.now world.old script.now) }
     ensures err { OnErr result (world.new ≡ world.old) }
 {
     joined_lanes_are_made(rules);
@@ -108,5 +102,6 @@ fn run_and_close<G: Gate, R: Threads + Wait + Sync, N: Rule + Sync, P: Rule + Sy
     )?;
     let histories = close(tables, mains, world);
     histories.are_complete();
+    keep_volumes(header, &mut world.volumes, lanes.as_slice());
     Ok(MadePhase { lanes, histories })
 }

@@ -1,7 +1,7 @@
 ghost use Rattle.std.specs.Prelude.{All, IfOk};
-ghost use Rattle.vms_base.specs.Headers.{IsHeader};
+ghost use Rattle.vms_world.specs.Common.{IsHeader};
 ghost use Rattle.vms_phase.specs.Jobs.{HasRunJob, HaveRunJobs, MayRunJob};
-ghost use Rattle.vms_tables.specs.Tables.{AreTables};
+ghost use Rattle.vms_tables.specs.Common.{AreTables};
 
 use crate::jobs::{LaneDone, LaneJob, run_job};
 use std::alloc::Global;
@@ -10,7 +10,7 @@ use std::thread;
 use std::thread::Threads;
 use vms_base::{Header, Memory};
 use vms_calc::{Rule, Rules};
-use vms_gate::Gate;
+use vms_lane::Gate;
 use vms_tables::Tables;
 
 /// Lets a thread for each job make its lines. Returns once all have, with the results in the order of the jobs.

@@ -1,27 +1,13 @@
 ghost use Rattle.std.specs.Prelude.{◌≡◌, ℕ, suc, ◌<◌, List, [], ◌∷◌, ◌++◌, false, length};
-ghost use Rattle.vms_base.specs.declared.ids.CpuId.{CpuId};
-ghost use Rattle.vms_core.specs.declared.steps.Facts.{Facts};
-ghost use Rattle.vms_core.specs.declared.steps.Step.{Step};
-ghost use Rattle.vms_core.specs.Pages.{pages};
+ghost use Rattle.vms_world.specs.Common.{CpuId, Facts, Step, pages, EventFacts, EventStep, events, own, IsFree};
+ghost use Rattle.vms_world.specs.Common.{lives_in, PcpuFacts, PcpuStep, percpu, Lane, Cpu, is_among, owner_of};
 ghost use Rattle.vms_core.specs.Totals as page_totals;
-ghost use Rattle.vms_event_core.specs.declared.steps.EventFacts.{EventFacts};
-ghost use Rattle.vms_event_core.specs.declared.steps.EventStep.{EventStep};
-ghost use Rattle.vms_event_core.specs.Events.{events};
 ghost use Rattle.vms_event_core.specs.Totals as event_totals;
-ghost use Rattle.vms_file_order.specs.LanePasses.{MayOwnEach, StandOnce, closing_of, opening_of};
-ghost use Rattle.vms_file_order.specs.Tables.{event_passes, page_passes, pcpu_passes};
-ghost use Rattle.vms_history.specs.Events.{own};
-ghost use Rattle.vms_history.specs.Passes.{IsFree, lives_in};
-ghost use Rattle.vms_pcpu_core.specs.declared.steps.PcpuFacts.{PcpuFacts};
-ghost use Rattle.vms_pcpu_core.specs.declared.steps.PcpuStep.{PcpuStep};
-ghost use Rattle.vms_pcpu_core.specs.Histories.{percpu};
+ghost use Rattle.vms_file_order.specs.Common.{MayOwnEach, StandOnce, closing_of, opening_of, event_passes, page_passes};
+ghost use Rattle.vms_file_order.specs.Common.{pcpu_passes};
 ghost use Rattle.vms_pcpu_core.specs.Totals as pcpu_totals;
-ghost use Rattle.vms_phase.specs.BegunLanes.{HasBegunLanes, HasEndedLanes, IsFresh, IsWhole};
-ghost use Rattle.vms_seats.specs.MainSteps.{HasBegun, HasEnded};
-ghost use Rattle.vms_seats.specs.Passes.{Pass};
-ghost use Rattle.vms_text.specs.declared.acts.Lane.{Lane};
-ghost use Rattle.vms_text.specs.declared.acts.Lane.TheVariants.{Cpu};
-ghost use Rattle.vms_world.specs.Lanes.{is_among, owner_of};
+ghost use Rattle.vms_phase.specs.BegunLanes.{HasBegunLanes, HasEndedLanes, IsFresh, HasAllSteps};
+ghost use Rattle.vms_seats.specs.Common.{HasBegun, HasEnded, Pass};
 
 use vms_file_order::LineTable;
 
@@ -50,11 +36,12 @@ pub fn lanes_end_in_turn<T: LineTable>()
         HasEnded T.machine T.passes.end new old pass → HasEndedLanes T.machine T.passes lanes (suc n) new }
     ensures whole { (lanes : List Lane) (n : ℕ) (new old first last : Pass T.Facts T.Step) → n < length lanes →
         HasEndedLanes T.machine T.passes lanes n old → IsFresh (suc n) first → last.number ≡ suc n →
-        HasEnded T.machine T.passes.end new old last → IsWhole (suc n) first last new.seen }
+        HasEnded T.machine T.passes.end new old last → HasAllSteps (suc n) first last new.seen }
     ensures still { (lanes : List Lane) (n i : ℕ) (new old pass first last : Pass T.Facts T.Step) →
         n < length lanes → HasEndedLanes T.machine T.passes lanes n old → pass.number ≡ suc n →
-        HasEnded T.machine T.passes.end new old pass → i < n → IsWhole (suc i) first last old.seen →
-        IsWhole (suc i) first last new.seen }
+        HasEnded T.machine T.passes.end new old pass → i < n →
+        HasAllSteps (suc i) first last old.seen →
+        HasAllSteps (suc i) first last new.seen }
     ensures all { (lanes : List Lane) (main : Pass T.Facts T.Step) →
         HasEndedLanes T.machine T.passes lanes (length lanes) main →
         own main.seen 0 ≡ closing_of T.passes lanes (opening_of T.passes lanes) }
@@ -63,8 +50,8 @@ pub fn lanes_end_in_turn<T: LineTable>()
         HasEndedLanes T.machine T.passes lanes (length lanes) main →
         (q : ℕ) → lives_in T.machine.role main.seen q ≡ false }
 {
-    vms_passes::lanes_begin_and_end::<T>();
-    vms_passes::whole_lanes::<T>();
+    crate::lanes_begin_and_end::<T>();
+    crate::whole_lanes::<T>();
 }
 
 /// While a CPU's lane has no pass, the CPU spends nothing.

@@ -4,16 +4,12 @@ use Rattle.std.proofs.Common.{subst, ◌∙◌, arith, append_assoc, length-set}
 use Rattle.std.proofs.lemmas.List.{append-nil, length_push, set-get_or}
 use Rattle.std.proofs.Math.ListN.{set}
 use borrow.Author.Count.{below_more}
-use Rattle.vms_base.specs.declared.ids.CpuId.{CpuId}
-use Rattle.vms_base.specs.Places.{cell}
-use Rattle.vms_alone.specs.InRow.{LeadsOn}
-use Rattle.vms_alone.proofs.InRow.{LeadsOn-append}
+use Rattle.vms_history.specs.Common.{CpuId, cell, LeadsOn}
+use Rattle.vms_history.proofs.Common.{LeadsOn-append}
 use Rattle.vms_event_core.specs.declared.states.EventState.{EventState}
 use Rattle.vms_event_core.specs.declared.steps.EventStep.{EventStep}
-use Rattle.vms_event_core.specs.Calls.{IsFoldEvents, folds, moves}
-use Rattle.vms_event_core.specs.Words.{IsEvent, event_count, with_word, word_at}
-use Rattle.vms_plain_events.specs.PlainWords.{HasWords, MovesWords, with_moved}
-use Rattle.vms_plain_events.specs.StateSteps.{events_by_state}
+use Rattle.vms_event_core.specs.Common.{IsFoldEvents, folds, moves, IsEvent, event_count, with_word, word_at}
+use Rattle.vms_plain_events.specs.Common.{HasWords, MovesWords, with_moved, events_by_state}
 use Rattle.vms_plain_events.proofs.WrittenWords.{HasWords-with_word, word_at-kept, word_at-written}
 
 -- the steps of one event more

@@ -4,17 +4,11 @@ use Rattle.std.proofs.Common.{refl, sym, ap, ◌∙◌, arith, zero-add, if◌th
 use Rattle.std.specs.Prelude.{sum}
 use Rattle.std.proofs.lemmas.List.{drop_more, drop_all, length-map}
 use Rattle.std.proofs.lemmas.List.Sums.{sum_by-cons}
-use Rattle.vms_base.specs.declared.ids.CpuId.{CpuId}
-use Rattle.vms_base.specs.declared.ids.EventId.{EventId}
-use Rattle.vms_base.specs.declared.kinds.CpuState.{CpuState}
-use Rattle.vms_base.specs.declared.kinds.CpuState.TheVariants.{Online, Dead, Absent}
-use Rattle.vms_base.specs.Cpus.{is_online, online_from}
-use Rattle.vms_alone.specs.InRow.{LeadsOn}
+use Rattle.vms_history.specs.Common.{CpuId, EventId, CpuState, Online, Dead, Absent, is_online, online_from, LeadsOn}
 use Rattle.vms_event_core.specs.declared.states.EventState.{EventState}
 use Rattle.vms_event_core.specs.declared.steps.EventStep.{EventStep}
-use Rattle.vms_event_core.specs.Calls.{IsAllEvents, loads, sum_over}
-use Rattle.vms_event_core.specs.Words.{word_at}
-use Rattle.vms_plain_events.specs.StateSteps.{events_by_state}
+use Rattle.vms_event_core.specs.Common.{IsAllEvents, loads, sum_over, word_at}
+use Rattle.vms_plain_events.specs.Common.{events_by_state}
 
 module _ (s : EventState) (k : ℕ) where
   -- the sum over the CPUs from c on is the word of CPU c, if it is online, and the sum over those after it

@@ -1,22 +1,12 @@
 -- The words of a legal history leave room for the calls.
 use Rattle.std.proofs.Common.{◌≡◌, ℕ, suc, ◌+◌, ◌<◌, ◌^◌, ℤ, pos, ◌+ℤ◌, ◌≤ℤ◌, List, [], ◌∷◌, length, ap, arith}
 use Rattle.std.proofs.lemmas.Int.{ints}
-use Rattle.vms_base.specs.declared.kinds.CpuState.{CpuState}
-use Rattle.vms_base.specs.declared.kinds.CpuState.TheVariants.{Online, Dead, Absent}
-use Rattle.vms_base.specs.Cpus.{online_from}
-use Rattle.vms_history.specs.Events.{own}
-use Rattle.vms_history.specs.Passes.{begun_in}
-use Rattle.vms_history.specs.Sums.{sum_below}
-use Rattle.vms_history.proofs.Prefixes.{base_can_begin}
-use Rattle.vms_history.proofs.SumBounds.{sum_below-not_negative}
+use Rattle.vms_history.specs.Common.{CpuState, Online, Dead, Absent, online_from, own, begun_in, sum_below}
+use Rattle.vms_history.proofs.Common.{base_can_begin, sum_below-not_negative}
 use Rattle.vms_event_core.specs.declared.states.EventState.{EventState}
 use Rattle.vms_event_core.specs.declared.steps.EventFacts.{EventFacts}
-use Rattle.vms_event_core.specs.Calls.{online_cpus, sum_over}
-use Rattle.vms_event_core.specs.Events.{events, History, IsLegal, state_after}
-use Rattle.vms_event_core.specs.Laws.{KeepsLaws}
-use Rattle.vms_event_core.specs.Own.{carried}
-use Rattle.vms_event_core.specs.Steps.{role}
-use Rattle.vms_event_core.specs.Words.{IsEvent, word_at}
+use Rattle.vms_event_core.specs.Common.{online_cpus, sum_over, events, History, IsLegal, state_after, KeepsLaws}
+use Rattle.vms_event_core.specs.Common.{carried, role, IsEvent, word_at}
 
 -- the words of the CPUs that are online, from CPU c on, are some of all words
 module _ (s : EventState) (k : ℕ) where

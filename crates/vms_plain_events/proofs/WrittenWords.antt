@@ -1,10 +1,10 @@
 -- What stands in the words after one of them was written.
 use Rattle.std.proofs.Common.{◌≡◌, ℕ, ◌+◌, ◌<◌, length, arith, get_or-set_same, get_or-set_other, length-set}
-use Rattle.vms_base.specs.Places.{cell}
-use Rattle.vms_base.proofs.Cells.{cell-injective}
+use Rattle.vms_history.specs.Common.{cell}
+use Rattle.vms_base.proofs.Common.{cell-injective}
 use Rattle.vms_event_core.specs.declared.states.EventState.{EventState}
-use Rattle.vms_event_core.specs.Words.{IsEvent, event_count, with_word, word_at}
-use Rattle.vms_plain_events.specs.PlainWords.{HasWords}
+use Rattle.vms_event_core.specs.Common.{IsEvent, event_count, with_word, word_at}
+use Rattle.vms_plain_events.specs.Common.{HasWords}
 
 -- the word of a CPU stands in the list
 pub cell-in : (s : EventState) (c k : ℕ) → HasWords s (c + 1) → IsEvent k → cell event_count c k < length s.words

@@ -1,2 +1,4 @@
 pub mod StateSteps
 pub mod PlainWords
+pub mod PlainCalls
+pub mod Common

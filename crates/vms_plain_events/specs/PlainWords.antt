@@ -1,7 +1,7 @@
 -- Which words plain data has, and what a fold makes of them.
 use Rattle.std.specs.Prelude.{◌≡◌, ◌≢◌, ℕ, ◌+◌, ◌*◌, ◌≤◌, length}
 use Rattle.vms_event_core.specs.declared.states.EventState.{EventState}
-use Rattle.vms_event_core.specs.Words.{IsEvent, event_count, with_word, word_at}
+use Rattle.vms_event_core.specs.Common.{IsEvent, event_count, with_word, word_at}
 
 -- there is a word for each of n CPUs and each event
 abbrev pub HasWords : EventState → ℕ → Type 0

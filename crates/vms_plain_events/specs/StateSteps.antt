@@ -1,16 +1,12 @@
 -- What the steps on the event counters tell and do, by the words alone.
 use Rattle.std.specs.Prelude.{◌≡◌, ℕ, Option, Some, None, refl}
-use Rattle.vms_base.specs.declared.ids.CpuId.{CpuId}
-use Rattle.vms_history.specs.Passes.{owner_in}
-use Rattle.vms_alone.specs.InRow.{ByState, IsByState}
+use Rattle.vms_history.specs.Common.{CpuId, owner_in, ByState, IsByState}
 use Rattle.vms_event_core.specs.declared.states.EventState.{EventState}
 use Rattle.vms_event_core.specs.declared.steps.EventFacts.{EventFacts}
 use Rattle.vms_event_core.specs.declared.steps.EventStep.{EventStep}
 use Rattle.vms_event_core.specs.declared.steps.EventStep.TheVariants.{LoadE, TakeE}
-use Rattle.vms_event_core.specs.CallLaws.{Tells}
-use Rattle.vms_event_core.specs.Events.{events, History, state_after}
-use Rattle.vms_event_core.specs.Steps.{role, effect, effect_of, own_effect}
-use Rattle.vms_event_core.specs.Words.{word_at}
+use Rattle.vms_event_core.specs.Common.{Tells, events, History, state_after, role, effect, effect_of, own_effect}
+use Rattle.vms_event_core.specs.Common.{word_at}
 
 -- a load or a take tells the word that stands
 abbrev pub TellsWord : Option CpuId → EventState → EventStep → Type 0

@@ -1,8 +1,7 @@
 ghost use Rattle.std.specs.Prelude.{◌≡◌, ◌+◌, ◌<◌, ◌^◌, List, Some};
-ghost use Rattle.vms_alone.specs.InRow.{LeadsOn};
+ghost use Rattle.vms_history.specs.Common.{LeadsOn};
 ghost use Rattle.vms_event_core.specs.declared.steps.EventStep.{EventStep};
-ghost use Rattle.vms_event_core.specs.Calls.{IsCount};
-ghost use Rattle.vms_event_core.specs.Words.{IsEvent, with_word, word_at};
+ghost use Rattle.vms_event_core.specs.Common.{IsCount, IsEvent, with_word, word_at};
 ghost use Rattle.vms_plain_events.specs.PlainWords.{HasWords};
 ghost use Rattle.vms_plain_events.specs.StateSteps.{events_by_state};
 

@@ -1,9 +1,7 @@
 ghost use Rattle.std.specs.Prelude.{ℕ, ◌<◌, ◌≤◌, ◌^◌};
-ghost use Rattle.vms_base.specs.Places.{IsCpu};
+ghost use Rattle.vms_history.specs.Common.{IsCpu};
 ghost use Rattle.vms_event_core.specs.declared.steps.EventFacts.{EventFacts};
-ghost use Rattle.vms_event_core.specs.Calls.{online_cpus, sum_over};
-ghost use Rattle.vms_event_core.specs.Events.{History, IsLegal, state_after};
-ghost use Rattle.vms_event_core.specs.Words.{IsEvent, word_at};
+ghost use Rattle.vms_event_core.specs.Common.{online_cpus, sum_over, History, IsLegal, state_after, IsEvent, word_at};
 ghost use Rattle.vms_plain_events.specs.PlainWords.{HasWords};
 
 use vms_event_core::laws_are_kept;

@@ -2,6 +2,7 @@
 //! that are online, and the fold of a dead CPU.
 #![tactic(auto)]
 
+mod calls;
 mod counting;
 mod folding;
 mod laws;
@@ -9,6 +10,7 @@ mod summing;
 mod tables;
 mod words;
 
+pub use calls::call;
 pub use counting::count;
 pub use folding::fold_events;
 pub use laws::histories_leave_room;

@@ -1,10 +1,7 @@
 ghost use Rattle.std.specs.Prelude.{◌≡◌, ℕ, ◌<◌, ◌≤◌, ◌^◌, List, length, Option};
-ghost use Rattle.vms_alone.specs.InRow.{LeadsOn};
-ghost use Rattle.vms_base.specs.declared.ids.CpuId.{CpuId};
-ghost use Rattle.vms_base.specs.Cpus.{online_from, is_online as tells_online};
+ghost use Rattle.vms_history.specs.Common.{LeadsOn, CpuId, online_from, is_online as tells_online};
 ghost use Rattle.vms_event_core.specs.declared.steps.EventStep.{EventStep};
-ghost use Rattle.vms_event_core.specs.Calls.{IsAllEvents, sum_over};
-ghost use Rattle.vms_event_core.specs.Words.{IsEvent};
+ghost use Rattle.vms_event_core.specs.Common.{IsAllEvents, sum_over, IsEvent};
 ghost use Rattle.vms_plain_events.specs.PlainWords.{HasWords};
 ghost use Rattle.vms_plain_events.specs.StateSteps.{events_by_state};
 
@@ -37,7 +34,7 @@ pub fn all_events(events: &EventState, states: &[CpuState], event: EventId) -> u
 }
 
 #[inline]
-fn is_online(state: CpuState) -> bool
+pub(crate) fn is_online(state: CpuState) -> bool
     ensures { result ≡ tells_online state }
 {
     match state {

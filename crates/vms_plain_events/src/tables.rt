@@ -1,10 +1,9 @@
 ghost use Rattle.vms_event_core.specs.declared.states.EventState.{EventState};
-ghost use Rattle.vms_event_core.specs.CallLaws.{Tells};
-ghost use Rattle.vms_event_core.specs.Events.{events};
+ghost use Rattle.vms_event_core.specs.Common.{Tells, events};
 ghost use Rattle.vms_plain_events.specs.StateSteps.{events_by_state, IsByState-events};
 
-use vms_alone::StateTable;
 use vms_event_core::{EventFacts, EventStep};
+use vms_history::StateTable;
 
 /// The table of event counters, whose steps go by the words alone.
 #[derive(Debug, Drop)]

@@ -1,6 +1,6 @@
 ghost use Rattle.std.specs.Prelude.{◌≡◌, ◌+◌, ◌<◌, ◌^◌};
-ghost use Rattle.vms_base.specs.Places.{cell};
-ghost use Rattle.vms_event_core.specs.Words.{IsEvent, event_count, with_word, word_at};
+ghost use Rattle.vms_history.specs.Common.{cell};
+ghost use Rattle.vms_event_core.specs.Common.{IsEvent, event_count, with_word, word_at};
 ghost use Rattle.vms_plain_events.specs.PlainWords.{HasWords};
 
 use vms_base::{CpuId, EventId};

@@ -1,20 +1,14 @@
 -- The calls of the control lane on plain tables, as its lines make them.
 use Rattle.std.proofs.Common.{◌≡◌, ℕ, true, List, Option, ◌∙◌}
-use Rattle.vms_base.specs.declared.headers.Header.{Header}
-use Rattle.vms_base.specs.declared.kinds.ZoneSize.{ZoneSize}
-use Rattle.vms_text.specs.declared.acts.Item.{Item}
-use Rattle.vms_text.specs.declared.acts.Lane.{Lane}
+use Rattle.vms_world.specs.Common.{Header, ZoneSize, Item, Lane, is_among, TableHistories}
 use Rattle.vms_world.specs.declared.worlds.World.{World}
-use Rattle.vms_world.specs.Lanes.{is_among}
-use Rattle.vms_world.specs.Phases.{Histories}
-use Rattle.vms_answers.specs.Answers.{Answer}
-use Rattle.vms_plain_lines.specs.ControlLines.{GoesOnKnowing}
-use Rattle.vms_plain_lines.specs.NextLines.{StandsNext}
-use Rattle.vms_plain_lines.specs.PlainStates.{GoesOnTelling, PlainStates, Stands, in_tables}
+use Rattle.vms_answers.specs.declared.answers.Answer.{Answer}
+use Rattle.vms_plain_lines.specs.Common.{GoesOnKnowing, StandsNext, GoesOnTelling, PlainStates, StandsInPhase}
+use Rattle.vms_plain_lines.specs.Common.{in_tables}
 
 module _ (pressure normal : ZoneSize → ℕ → ℕ → Type 0) (header : Header) (w : World) (lanes : List Lane)
-    (items : List Item) (hs : Histories) (now : PlainStates) (item : Item)
-    (stands : Stands header pressure normal w lanes items hs now) (among : is_among item.lane lanes ≡ true) where
+    (items : List Item) (hs : TableHistories) (now : PlainStates) (item : Item)
+    (stands : StandsInPhase header pressure normal w lanes items hs now) (among : is_among item.lane lanes ≡ true) where
   -- the line stands next
   pub StandsNext-among : StandsNext header pressure normal w lanes items hs (in_tables now) item
   StandsNext-among = record { opened = stands.opened; once = stands.once; among = among }

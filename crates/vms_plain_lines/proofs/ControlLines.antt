@@ -1,54 +1,28 @@
 -- For other crates too: a line of the control lane's own goes on from an open phase, and tells its answer.
-use Rattle.std.proofs.Common.{◌≡◌, ℕ, false, List, [], ◌∷◌, ◌++◌, length, Option, Some, None, refl, sym, ap, subst}
-use Rattle.std.proofs.Common.{◌∙◌}
+use Rattle.std.proofs.Common.{◌≡◌, ℕ, false, List, [], ◌∷◌, ◌++◌, length, Option, Some, None, refl, sym, ap, subst, ◌∙◌}
 use Rattle.std.proofs.lemmas.List.{length-map}
-use Rattle.vms_base.specs.declared.headers.Header.{Header}
-use Rattle.vms_base.specs.declared.ids.CpuId.{CpuId}
-use Rattle.vms_base.specs.declared.ids.PlaceId.{PlaceId}
-use Rattle.vms_base.specs.declared.kinds.ZoneSize.{ZoneSize}
-use Rattle.vms_base.specs.Places.{IsLayout}
-use Rattle.vms_history.specs.Events.{after, own}
-use Rattle.vms_history.proofs.Own.{own-after}
-use Rattle.vms_history.proofs.Prefixes.{base_can_begin}
-use Rattle.vms_core.specs.declared.states.State.{State}
-use Rattle.vms_core.specs.declared.steps.Facts.{Facts}
-use Rattle.vms_core.specs.declared.steps.Step.{Step}
-use Rattle.vms_core.specs.declared.steps.Step.TheVariants.{SetO}
+use Rattle.vms_world.specs.Common.{Header, CpuId, PlaceId, ZoneSize, IsLayout, after, own, State, Facts, Step, SetO}
+use Rattle.vms_world.specs.Common.{pages, EventState, events, percpu, LockedState, CarriesAsBefore, HasWon, facts_of}
+use Rattle.vms_world.specs.Common.{HasMade, Buries, ByNormal, ByPressure, Choice, RatesNode, SetsNormal, SetsPressure}
+use Rattle.vms_world.specs.Common.{Balance, IsTurn, Act, Kswapd, Normal, Pressure, Item, Lane, Control, EventSteps}
+use Rattle.vms_world.specs.Common.{PageSteps, PcpuSteps, TableHistories, IsWorldOf, event_facts, page_facts, pcpu_facts}
+use Rattle.vms_history.proofs.Common.{own-after, base_can_begin}
 use Rattle.vms_core.specs.Own.{CarriesNothing}
-use Rattle.vms_core.specs.Pages.{History, pages}
-use Rattle.vms_event_core.specs.declared.states.EventState.{EventState}
-use Rattle.vms_event_core.specs.Events.{events}
-use Rattle.vms_pcpu_core.specs.Histories.{percpu}
-use Rattle.vms_pcpu_core.specs.States.{LockedState, counters_of}
-use Rattle.vms_calls.specs.CallerLaws.{CarriesAsBefore}
-use Rattle.vms_calls.specs.Changes.{HasWon}
-use Rattle.vms_calls.specs.HeaderFacts.{facts_of}
-use Rattle.vms_calls.specs.MayMake.{HasMade}
-use Rattle.vms_calls.specs.Ratings.{Buries, ByNormal, ByPressure, Choice, RatesNode, SetsNormal, SetsPressure}
-use Rattle.vms_calls.specs.Turns.{Balance, IsTurn}
-use Rattle.vms_calls.proofs.CallSteps.{Each, OfFolds, OfLooks, OfRatings, each-append, fold-each, node-each}
-use Rattle.vms_calls.proofs.CallSteps.{refresh-each, turn-each}
-use Rattle.vms_calls.proofs.CallerLaws.{IsStill, burial-leaves, ratings-still, still-leaves}
-use Rattle.vms_text.specs.declared.acts.Act.{Act}
-use Rattle.vms_text.specs.declared.acts.Act.TheVariants.{Dead, Kswapd, Normal, Pressure}
-use Rattle.vms_text.specs.declared.acts.Item.{Item}
-use Rattle.vms_text.specs.declared.acts.Lane.{Lane}
-use Rattle.vms_text.specs.declared.acts.Lane.TheVariants.{Control}
+use Rattle.vms_core.specs.Pages.{History}
+use Rattle.vms_pcpu_core.specs.States.{counters_of}
+use Rattle.vms_calls.proofs.Common.{Each, OfFolds, OfLooks, OfRatings, each-append, fold-each, node-each, refresh-each}
+use Rattle.vms_calls.proofs.Common.{turn-each, IsStill, burial-leaves, ratings-still, still-leaves}
+use Rattle.vms_pcpu_core.proofs.Common.{fold-call}
+use Rattle.vms_text.specs.declared.acts.Act.TheVariants.{Dead}
 use Rattle.vms_world.specs.declared.worlds.World.{World}
-use Rattle.vms_world.specs.Acts.{EventSteps, PageSteps, PcpuSteps}
-use Rattle.vms_world.specs.Phases.{Histories}
-use Rattle.vms_world.specs.Worlds.{IsWorldOf, event_facts, page_facts, pcpu_facts}
-use Rattle.vms_file_order.specs.FileOrder.{GoesOnWithLine}
-use Rattle.vms_file_order.specs.LanePasses.{pass_of}
-use Rattle.vms_file_order.specs.OpenPhases.{TableStates}
-use Rattle.vms_file_order.specs.Tables.{FindsLockFree, MeetsNobody, event_makes, pcpu_makes}
-use Rattle.vms_answers.specs.Answers.{Answer, LaneSteps, Tell}
-use Rattle.vms_answers.specs.Answers.Answer.{Balanced}
-use Rattle.vms_plain_ratings.specs.Control.{ControlCall, MakesCall, MakesUnladenCall}
-use Rattle.vms_plain_ratings.specs.KnownPeaks.{KnowsPeaks}
-use Rattle.vms_plain_lines.specs.ControlLines.{GoesOnKnowing}
-use Rattle.vms_plain_lines.specs.NextLines.{StandsNext}
-use Rattle.vms_plain_lines.proofs.ControlAnswers.{TellsFoldEvents, Tell-burial, Tell-normal, Tell-pressure, Tell-turn}
+use Rattle.vms_file_order.specs.Common.{GoesOnWithLine, pass_of, TableStates, FindsLockFree, MeetsNobody, event_makes}
+use Rattle.vms_file_order.specs.Common.{pcpu_makes}
+use Rattle.vms_answers.specs.declared.answers.Answer.{Answer}
+use Rattle.vms_answers.specs.Common.{LaneSteps, Tell}
+use Rattle.vms_answers.specs.declared.answers.Answer.TheVariants.{Balanced}
+use Rattle.vms_plain_control.specs.Common.{ControlCall, ControlMakes, MakesUnladenCall, KnowsPeaks}
+use Rattle.vms_plain_lines.specs.Common.{GoesOnKnowing, StandsNext}
+use Rattle.vms_answers.proofs.Common.{TellsEventCall, Tell-burial, Tell-normal, Tell-pressure, Tell-turn}
 use Rattle.vms_plain_lines.proofs.ControlPass.{CarriesNothing-open, Controls-open, HasMade-row}
 use Rattle.vms_plain_lines.proofs.LineSteps.{All-each}
 use Rattle.vms_plain_lines.proofs.TableParts.{none_of_counters, none_of_events}
@@ -104,7 +78,7 @@ counters_of-world header w of =
     ap (λ (batches : List ℕ). length batches) of.batches ∙ length-map header.counters (λ decl. decl.batch)
 
 module _ (pressure normal : ZoneSize → ℕ → ℕ → Type 0) (header : Header) (w : World) (lanes : List Lane)
-    (items : List Item) (hs : Histories) (now : TableStates) where
+    (items : List Item) (hs : TableHistories) (now : TableStates) where
   abbrev facts : Facts
   facts = page_facts header w
 
@@ -188,7 +162,7 @@ module _ (pressure normal : ZoneSize → ℕ → ℕ → Type 0) (header : Heade
       (stands : StandsNext header pressure normal w lanes items hs now item) (peaks : List ℕ)
       (knows : KnowsPeaks facts hs.pages peaks) (next : State) (known : List ℕ) where
     pub GoesOnKnowing-pressure : (n : PlaceId) → item.act ≡ Pressure n
-        → MakesCall header (λ base q h steps. SetsPressure (facts_of header base) pressure normal n q h steps)
+        → ControlMakes header (λ base q h steps. SetsPressure (facts_of header base) pressure normal n q h steps)
         now.pages peaks next known
         → GoesOnKnowing header pressure normal w lanes item hs (record now { pages = next }) known None
     GoesOnKnowing-pressure n act makes = by-item
@@ -205,7 +179,7 @@ module _ (pressure normal : ZoneSize → ℕ → ℕ → Type 0) (header : Heade
         stands
 
     pub GoesOnKnowing-normal : (n : PlaceId) → item.act ≡ Normal n
-        → MakesCall header (λ base q h steps. SetsNormal (facts_of header base) normal n q h steps) now.pages peaks
+        → ControlMakes header (λ base q h steps. SetsNormal (facts_of header base) normal n q h steps) now.pages peaks
         next known
         → GoesOnKnowing header pressure normal w lanes item hs (record now { pages = next }) known None
     GoesOnKnowing-normal n act makes = by-item
@@ -222,7 +196,7 @@ module _ (pressure normal : ZoneSize → ℕ → ℕ → Type 0) (header : Heade
         stands
 
     pub GoesOnKnowing-turn : (n : PlaceId) (order most : ℕ) → item.act ≡ Kswapd n order most → (answer : Balance)
-        → MakesCall header
+        → ControlMakes header
         (λ base q h steps. IsTurn header base pressure normal n order most q h steps answer) now.pages peaks next known
         → GoesOnKnowing header pressure normal w lanes item hs (record now { pages = next }) known
         (Some (Balanced answer))
@@ -245,7 +219,7 @@ module _ (pressure normal : ZoneSize → ℕ → ℕ → Type 0) (header : Heade
         stands
 
     -- a burial, from its parts on the event counters and on the percpu counters
-    pub GoesOnKnowing-burial : TellsFoldEvents → counters_of w.counters ≡ length header.counters → (c : CpuId)
+    pub GoesOnKnowing-burial : TellsEventCall → (c : CpuId)
         → item.act ≡ Dead c
         → MakesUnladenCall header (λ base q h steps. Buries (facts_of header base) normal c q h steps) now.pages peaks
         next known → (next_events : EventState) (next_counters : LockedState)
@@ -255,7 +229,7 @@ module _ (pressure normal : ZoneSize → ℕ → ℕ → Type 0) (header : Heade
         hs.counters next_counters
         → GoesOnKnowing header pressure normal w lanes item hs
         (record { pages = next; events = next_events; counters = next_counters }) known None
-    GoesOnKnowing-burial folds_told one_each c act makes next_events next_counters on_events on_counters = by-item
+    GoesOnKnowing-burial reads c act makes next_events next_counters on_events on_counters = by-item
         (λ (i : Item). StandsNext header pressure normal w lanes items hs now i
         → GoesOnWithLine events (event_makes (event_facts header w)) MeetsNobody (event_facts header w) lanes i
         hs.events next_events
@@ -288,6 +262,6 @@ module _ (pressure normal : ZoneSize → ℕ → ℕ → Type 0) (header : Heade
                 pages = on_pages.part.steps;
                 events = in_events.steps;
                 counters = in_counters.steps;
-              }) on_pages.made folds_told one_each c in_events.making.0 in_events.making.1 on_pages.call
-                  in_events.making.3 in_counters.making;
+              }) on_pages.made reads c on_pages.call in_events.making
+                  (fold-call (pcpu_facts header w) c in_counters.steps in_counters.making);
             }

@@ -1,38 +1,19 @@
 -- For other crates too: in an open phase with a control lane the control pass may act, and carries nothing; some CPU is
 -- online.
 use Rattle.std.proofs.Common.{◌≡◌, ℕ, true, List, subst}
-use Rattle.vms_base.specs.declared.headers.Header.{Header}
+use Rattle.vms_world.specs.Common.{Header, ZoneSize, HasOnline, after, own, GoesOnTo, State, Facts, Step, cpu_at, pages}
+use Rattle.vms_world.specs.Common.{ControlsIn, HasMade, Item, Lane, Control, is_among, TableHistories, page_facts}
 use Rattle.vms_base.specs.declared.kinds.CpuState.TheVariants.{Online}
-use Rattle.vms_base.specs.declared.kinds.ZoneSize.{ZoneSize}
-use Rattle.vms_base.specs.Cpus.{HasOnline}
-use Rattle.vms_history.specs.Events.{after, own}
-use Rattle.vms_history.proofs.Own.{Extends-after, own-after}
-use Rattle.vms_history.proofs.Prefixes.{base_can_begin}
-use Rattle.vms_alone.specs.InRow.{GoesOnTo}
-use Rattle.vms_core.specs.declared.states.State.{State}
-use Rattle.vms_core.specs.declared.steps.Facts.{Facts}
-use Rattle.vms_core.specs.declared.steps.Step.{Step}
-use Rattle.vms_core.specs.Cells.{cpu_at}
+use Rattle.vms_history.proofs.Common.{Extends-after, own-after, base_can_begin}
 use Rattle.vms_core.specs.Own.{CarriesNothing}
-use Rattle.vms_core.specs.Pages.{History, pages}
+use Rattle.vms_core.specs.Pages.{History}
 use Rattle.vms_core.specs.Steps.{role}
-use Rattle.vms_core.proofs.LiveOwners.{online-stays}
-use Rattle.vms_calls.specs.MayMake.{ControlsIn, HasMade}
-use Rattle.vms_text.specs.declared.acts.Item.{Item}
-use Rattle.vms_text.specs.declared.acts.Lane.{Lane}
-use Rattle.vms_text.specs.declared.acts.Lane.TheVariants.{Control}
+use Rattle.vms_core.proofs.Common.{online-stays}
 use Rattle.vms_world.specs.declared.worlds.World.{World}
-use Rattle.vms_world.specs.Lanes.{is_among}
-use Rattle.vms_world.specs.Phases.{Histories}
-use Rattle.vms_world.specs.Worlds.{page_facts}
-use Rattle.vms_file_order.specs.FileOrder.{HasPass}
-use Rattle.vms_file_order.specs.LanePasses.{pass_of}
-use Rattle.vms_file_order.specs.OpenPhases.{IsOpenPhase, TableStates}
-use Rattle.vms_file_order.specs.Tables.{page_passes}
-use Rattle.vms_file_order.proofs.Openings.{HasPass-opening}
-use Rattle.vms_plain_ratings.specs.Control.{Controls}
-use Rattle.vms_plain_ratings.specs.KnownPeaks.{KnowsPeaks}
-use Rattle.vms_plain_ratings.proofs.ControlledHistories.{ControlsIn-after}
+use Rattle.vms_file_order.specs.Common.{HasPass, pass_of, IsOpenPhase, TableStates, page_passes}
+use Rattle.vms_file_order.proofs.Common.{HasPass-opening}
+use Rattle.vms_plain_control.specs.Common.{Controls, KnowsPeaks}
+use Rattle.vms_plain_control.proofs.Common.{ControlsIn-after}
 
 -- the steps that the control pass made in a row are those that it has made since
 pub HasMade-row : (facts : Facts) (h : History) (p : ℕ) → ControlsIn facts h p → (steps : List Step) (next : State)
@@ -46,7 +27,7 @@ HasMade-row facts h p control steps next goes = record {
 }
 
 module _ (pressure normal : ZoneSize → ℕ → ℕ → Type 0) (header : Header) (w : World) (lanes : List Lane)
-    (items : List Item) (hs : Histories) (now : TableStates)
+    (items : List Item) (hs : TableHistories) (now : TableStates)
     (opened : IsOpenPhase header pressure normal w lanes items hs now) where
   -- a CPU that was online when the phase began is online
   pub HasOnline-open : HasOnline header.layout now.pages.cpu

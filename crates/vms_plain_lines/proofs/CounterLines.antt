@@ -1,60 +1,28 @@
 -- A line on the percpu counters goes on from an open phase, and tells its answer.
-use Rattle.std.proofs.Common.{◌≡◌, ℕ, ◌+◌, ◌*◌, ◌<◌, ◌≤◌, true, Bool, ℤ, pos, List, [], ◌∷◌, map, length, Option}
-use Rattle.std.proofs.Common.{Some, None, unsigned_abs, refl, sym, ap, subst, ◌∙◌, arith, if◌then◌else◌}
-use Rattle.std.specs.Prelude.{All, slice_index_or, count_by}
+use Rattle.std.proofs.Common.{◌≡◌, ℕ, ◌<◌, true, ℤ, List, [], ◌∷◌, map, length, Option, Some, sym, ap, subst, ◌∙◌}
+use Rattle.std.specs.Prelude.{All}
 use Rattle.std.proofs.lemmas.List.Elements.{All-cons, All-head, All-nil, All-tail}
-use Rattle.vms_base.specs.declared.headers.Header.{Header}
-use Rattle.vms_base.specs.declared.ids.CpuId.{CpuId}
-use Rattle.vms_base.specs.declared.ids.PcpuId.{PcpuId}
-use Rattle.vms_base.specs.declared.kinds.CpuState.{CpuState}
-use Rattle.vms_base.specs.declared.kinds.ZoneSize.{ZoneSize}
-use Rattle.vms_base.specs.Cpus.{is_present, present_from}
-use Rattle.vms_base.specs.Volumes.{most_volume}
-use Rattle.vms_history.specs.Events.{own}
-use Rattle.vms_history.proofs.Own.{own-after}
-use Rattle.vms_history.proofs.Owners.{owner_may_own}
-use Rattle.vms_alone.specs.InRow.{LeadsOn}
-use Rattle.vms_alone.proofs.InRow.{steps-go_on}
-use Rattle.vms_pcpu_core.specs.declared.answers.Compare.{Compare}
-use Rattle.vms_pcpu_core.specs.declared.states.PcpuState.{PcpuState}
-use Rattle.vms_pcpu_core.specs.declared.steps.PcpuFacts.{PcpuFacts}
-use Rattle.vms_pcpu_core.specs.declared.steps.PcpuStep.{PcpuStep}
-use Rattle.vms_pcpu_core.specs.declared.steps.PcpuStep.TheVariants.{Missed}
-use Rattle.vms_pcpu_core.specs.Calls.{IsAdd, IsCompare, IsLimitedAdd, IsRead, IsSum, IsSync, present_cpus, unknown}
-use Rattle.vms_pcpu_core.specs.Conditions.{MayTake}
-use Rattle.vms_pcpu_core.specs.Histories.{percpu}
-use Rattle.vms_pcpu_core.specs.MayCall.{MayCall, MayChange, MayMake, Tells}
-use Rattle.vms_pcpu_core.specs.Own.{HoldsNoLock}
-use Rattle.vms_pcpu_core.specs.OwnSteps.{AddsAmount, holds_through}
-use Rattle.vms_pcpu_core.specs.States.{IsPcpu, LockedState, batch_at, counters_of}
+use Rattle.vms_world.specs.Common.{Header, CpuId, ZoneSize, own, LeadsOn, PcpuAnswer, PcpuCall, Add, LimitedAdd}
+use Rattle.vms_world.specs.Common.{Compare, Read, PcpuState, PcpuFacts, PcpuStep, Missed, percpu, HoldsNoLock}
+use Rattle.vms_world.specs.Common.{AddsAmounts, IsPcpuCall, LeavesVolume, MakesPcpuCall, NamesKnown, pcpu_added, IsPcpu}
+use Rattle.vms_world.specs.Common.{LockedState, line_of, spent_on_pcpu, volume, Act, Item, Lane, Cpu, PcpuSteps}
+use Rattle.vms_world.specs.Common.{pcpu_call, is_among, owner_of, TableHistories, event_facts, pcpu_facts}
+use Rattle.vms_history.proofs.Common.{own-after, steps-go_on}
+use Rattle.vms_pcpu_core.specs.declared.pcpu_calls.PcpuCall.TheVariants.{Sum, Sync, FoldDead}
+use Rattle.vms_pcpu_core.specs.MayCall.{MayCall, MayMake, Tells}
+use Rattle.vms_pcpu_core.specs.States.{counters_of}
 use Rattle.vms_pcpu_core.specs.Steps.{role}
-use Rattle.vms_pcpu_core.proofs.CallsAllowed.{MakesAdd-holds, MakesCompare-holds, MakesLimitedAdd-holds}
-use Rattle.vms_pcpu_core.proofs.CallsAllowed.{MakesRead-holds, MakesSum-holds, MakesSync-holds}
-use Rattle.vms_pcpu_core.proofs.OwnSteps.{add-adds, compare-adds, goes_by_own_steps, limited_add-adds, read-adds}
-use Rattle.vms_pcpu_core.proofs.OwnSteps.{sum-adds, sync-adds}
-use Rattle.vms_pcpu_core.proofs.Shapes.{HasShape-state_after}
-use Rattle.vms_plain_pcpu.specs.FreeLocks.{LeadsAlone, MissesNone, under_free_locks}
-use Rattle.vms_plain_pcpu.specs.Numbers.{unknown_in}
-use Rattle.vms_plain_pcpu.specs.StateSteps.{IsByState-percpu, percpu_by_state}
-use Rattle.vms_script.specs.Totals.{line_of}
-use Rattle.vms_script.specs.Volumes.{spent_on_pcpu, volume}
-use Rattle.vms_text.specs.declared.acts.Act.{Act}
-use Rattle.vms_text.specs.declared.acts.Act.TheVariants.{Cmp, Cnt, Csync, Lim, Rough, Sum}
-use Rattle.vms_text.specs.declared.acts.Item.{Item}
-use Rattle.vms_text.specs.declared.acts.Lane.{Lane}
-use Rattle.vms_text.specs.declared.acts.Lane.TheVariants.{Cpu}
+use Rattle.vms_pcpu_core.specs.Totals.{spent}
+use Rattle.vms_pcpu_core.proofs.Common.{LeavesVolume-less, MakesCalls-hold, adds-call, idle-after, HasShape-state_after}
+use Rattle.vms_plain_pcpu.specs.Common.{LeadsAlone, MissesNone, under_free_locks, HasRoomForCall, IsByState-percpu}
+use Rattle.vms_plain_pcpu.specs.Common.{percpu_by_state}
 use Rattle.vms_world.specs.declared.worlds.World.{World}
-use Rattle.vms_world.specs.Acts.{PcpuSteps}
-use Rattle.vms_world.specs.Lanes.{is_among, owner_of}
-use Rattle.vms_world.specs.Phases.{Histories}
-use Rattle.vms_world.specs.Worlds.{pcpu_facts}
-use Rattle.vms_file_order.specs.FileOrder.{GoesOnWithLine, HasPass}
-use Rattle.vms_file_order.specs.LanePasses.{pass_of}
-use Rattle.vms_file_order.specs.Tables.{FindsLockFree, pcpu_makes, pcpu_passes}
-use Rattle.vms_file_order.proofs.Openings.{HasPass-opening}
-use Rattle.vms_answers.specs.Answers.Answer.{Compared, Count, Limited, Total}
-use Rattle.vms_answers.proofs.ActAnswers.{Tell-add, Tell-compare, Tell-limited_add, Tell-rough, Tell-sum, Tell-sync}
-use Rattle.vms_plain_lines.specs.PlainStates.{GoesOn, GoesOnAlways, PlainStates, Stands, in_tables}
+use Rattle.vms_world.proofs.Common.{call-no_events, call-no_pages}
+use Rattle.vms_file_order.specs.Common.{GoesOnWithLine, HasPass, pass_of, FindsLockFree, pcpu_makes, pcpu_passes}
+use Rattle.vms_file_order.proofs.Common.{HasPass-opening}
+use Rattle.vms_answers.specs.Common.{pcpu_told}
+use Rattle.vms_answers.proofs.Common.{Tell-call}
+use Rattle.vms_plain_lines.specs.Common.{GoesOnIf, PlainStates, StandsInPhase, in_tables}
 use Rattle.vms_plain_lines.proofs.IdleCallers.{IsIdle-legal}
 use Rattle.vms_plain_lines.proofs.PlainParts.{GoesOnTelling-counters}
 use Rattle.vms_plain_lines.proofs.SpentVolumes.{spent-counters}
@@ -69,13 +37,9 @@ all-free [] all = All-nil FindsLockFree
 all-free (step ∷ steps) all = All-cons FindsLockFree step steps
     (free-step step (All-head MissesNone step steps all)) (all-free steps (All-tail MissesNone step steps all))
 
--- what adds nothing adds nothing of any counter, also not of this one
-abbrev pub no_counter : PcpuId
-no_counter = record { number = 0 }
-
 module _ (pressure normal : ZoneSize → ℕ → ℕ → Type 0) (header : Header) (w : World) (lanes : List Lane)
-    (items : List Item) (hs : Histories) (now : PlainStates)
-    (stands : Stands header pressure normal w lanes items hs now) where
+    (items : List Item) (hs : TableHistories) (now : PlainStates)
+    (stands : StandsInPhase header pressure normal w lanes items hs now) where
   abbrev facts : PcpuFacts
   facts = pcpu_facts header w
 
@@ -105,10 +69,10 @@ module _ (pressure normal : ZoneSize → ℕ → ℕ → Type 0) (header : Heade
 
     -- steps of a call go on, and leave their caller idle
     abbrev pub counter-part : (steps : List PcpuStep) (next : PcpuState) → PcpuSteps facts item.lane item.act steps
-        → MayMake facts p hs.counters steps → (i : PcpuId) (amount : ℤ) → AddsAmount i amount steps
+        → MayMake facts p hs.counters steps → (added : ℕ → ℤ) → AddsAmounts added steps
         → LeadsAlone (owner_of item.lane) steps (under_free_locks now.counters) (under_free_locks next)
         → GoesOnWithLine percpu (pcpu_makes facts) FindsLockFree facts lanes item hs.counters (under_free_locks next)
-    counter-part steps next makes may i amount adds leads = record {
+    counter-part steps next makes may added adds leads = record {
       steps = steps;
       making = makes;
       alone = all-free steps leads.unmissed;
@@ -116,150 +80,73 @@ module _ (pressure normal : ZoneSize → ℕ → ℕ → Type 0) (header : Heade
           (under_free_locks next) stands.opened.counters.legal pass.lives pass.owner may
           (subst (λ (s : LockedState). LeadsOn percpu_by_state (owner_of item.lane) steps s (under_free_locks next))
           (sym stands.opened.counters.state) leads.leads);
-      may_end = subst (HoldsNoLock facts) (sym (own-after p steps hs.counters)) (λ j within.
-          (goes_by_own_steps p steps (own hs.counters p)).held j
-          ∙ ap (holds_through j steps) (calls.idle.no_lock j) ∙ adds.no_lock j);
+      may_end = subst (HoldsNoLock facts) (sym (own-after p steps hs.counters))
+          (λ j within. (idle-after added p steps adds (own hs.counters p) calls.idle).no_lock j);
     }
 
-module _ (pressure normal : ZoneSize → ℕ → ℕ → Type 0) (header : Header) (n : ℕ) (c : CpuId) (j : PcpuId)
-    (now : PlainStates) (known : j.number < counters_of now.counters) where
-  -- a line of the CPU's lane with this act
-  abbrev with_act : Act → Item
-  with_act a = record { number = n; lane = Cpu c; act = a }
-
-  -- a call leads from the counters that stand to others, whose locks are free again
-  abbrev Made : (List PcpuStep → Type 0) → PcpuState → Type 0
-  Made IsCall next = (steps : List PcpuStep) × IsCall steps
+-- a call on a CPU that leads from the counters that stand to others, whose locks are free again
+module _ (pressure normal : ZoneSize → ℕ → ℕ → Type 0) (header : Header) (c : CpuId) (now : PlainStates)
+    (call : PcpuCall) (room : HasRoomForCall now.counters call) where
+  abbrev Made : PcpuState → PcpuAnswer → Type 0
+  Made next answer = (facts : PcpuFacts) → facts.cpus ≡ now.opening → facts.base.batch ≡ now.counters.batch
+      → (steps : List PcpuStep) × IsPcpuCall facts (Some c) call steps answer
       × LeadsAlone (Some c) steps (under_free_locks now.counters) (under_free_locks next)
 
-  pub GoesOn-read : (answer : ℤ) → Made (λ steps. IsRead j steps answer) now.counters
-      → GoesOnAlways header pressure normal (with_act (Rough j)) now now (Some (Count answer))
-  GoesOn-read answer made w lanes items hs stands among room =
-      let item = with_act (Rough j) in
-      let facts : PcpuFacts = pcpu_facts header w in
-      let may = MakesRead-holds facts hs.counters (pass_of lanes (Cpu c)) j made.0 answer
-      (calls pressure normal header w lanes items hs now stands item among)
-      (known-counter pressure normal header w lanes items hs now stands j.number known) made.1 in
-      GoesOnTelling-counters pressure normal header w lanes items hs now item stands among now.counters
-      (Some (Count answer)) refl refl
-      (counter-part pressure normal header w lanes items hs now stands item among made.0 now.counters (answer, made.1)
-      may no_counter (pos 0) (read-adds no_counter j made.0 answer made.1) made.2)
-      (Tell-rough header w c j made.0 answer made.1)
+  -- lines that leave room in the CPU's volume for it
+  abbrev pub LeaveVolume : List Item → Type 0
+  LeaveVolume items = LeavesVolume (λ j. volume (spent_on_pcpu j) c.number (map line_of items)) call
 
-  pub GoesOn-sum : (answer : ℤ) → Made (λ steps. IsSum (present_from 0 now.opening) j steps answer) now.counters
-      → GoesOnAlways header pressure normal (with_act (Sum j)) now now (Some (Total answer))
-  GoesOn-sum answer made w lanes items hs stands among room =
-      let item = with_act (Sum j) in
-      let facts : PcpuFacts = pcpu_facts header w in
-      let call = subst (λ (cs : List CpuState). IsSum (present_from 0 cs) j made.0 answer) stands.opening made.1 in
-      let may = MakesSum-holds facts hs.counters (pass_of lanes (Cpu c)) j made.0 answer
-      (calls pressure normal header w lanes items hs now stands item among)
-      (known-counter pressure normal header w lanes items hs now stands j.number known) call in
-      GoesOnTelling-counters pressure normal header w lanes items hs now item stands among now.counters
-      (Some (Total answer)) refl refl
-      (counter-part pressure normal header w lanes items hs now stands item among made.0 now.counters (answer, call)
-      may no_counter (pos 0) (sum-adds no_counter (present_cpus facts) j made.0 answer call) made.2)
-      (Tell-sum header w c j (present_cpus facts) made.0 answer call)
+  -- the counter that a call names has numbers in the tables
+  names-known : (facts : PcpuFacts) → facts.base.batch ≡ now.counters.batch → NamesKnown facts call
+  names-known facts same = by call room
+    where
+      inside : (j : ℕ) → j < counters_of now.counters → IsPcpu facts j
+      inside j within = subst (λ (bs : List ℕ). j < length bs) (sym same) within
 
-  pub GoesOn-compare : (rhs : ℤ) (answer : Compare)
-      → Made (λ steps. IsCompare (unknown_in now.counters now.opening j.number) (present_from 0 now.opening) j rhs steps
-      answer) now.counters
-      → GoesOnAlways header pressure normal (with_act (Cmp j rhs)) now now (Some (Compared answer))
-  GoesOn-compare rhs answer made w lanes items hs stands among room =
-      let item = with_act (Cmp j rhs) in
-      let facts : PcpuFacts = pcpu_facts header w in
-      let same = batches pressure normal header w lanes items hs now stands in
-      let call : IsCompare (unknown facts j.number) (present_cpus facts) j rhs made.0 answer =
-      subst (λ (bs : List ℕ). IsCompare (slice_index_or bs j.number 0 * count_by is_present w.pages.cpu)
-      (present_from 0 w.pages.cpu) j rhs made.0 answer) same
-      (subst (λ (cs : List CpuState). IsCompare (unknown_in now.counters cs j.number) (present_from 0 cs) j rhs made.0
-      answer) stands.opening made.1) in
-      let may = MakesCompare-holds facts hs.counters (pass_of lanes (Cpu c)) j rhs made.0 answer
-      (calls pressure normal header w lanes items hs now stands item among)
-      (known-counter pressure normal header w lanes items hs now stands j.number known) call in
-      GoesOnTelling-counters pressure normal header w lanes items hs now item stands among now.counters
-      (Some (Compared answer)) refl refl
-      (counter-part pressure normal header w lanes items hs now stands item among made.0 now.counters (answer, call)
-      may no_counter (pos 0)
-      (compare-adds no_counter (unknown facts j.number) (present_cpus facts) j rhs made.0 answer call) made.2)
-      (Tell-compare header w c j (present_cpus facts) rhs made.0 answer call)
+      by : (call : PcpuCall) → HasRoomForCall now.counters call → NamesKnown facts call
+      by (Add j amount) room = inside j.number room.0.counter
+      by (LimitedAdd j limit amount) room = inside j.number room.0.counter
+      by (Compare j rhs) room = inside j.number room.0.counter
+      by (Sum j) room = inside j.number room.counter
+      by (Read j) room = inside j.number room.counter
+      by (Sync j) room = inside j.number room.counter
+      by (FoldDead dead) room = absurd room
 
-  pub GoesOn-sync : (next : PcpuState) → Made (λ steps. IsSync c j steps) next
-      → GoesOnAlways header pressure normal (with_act (Csync j)) now (record now { counters = next }) None
-  GoesOn-sync next made w lanes items hs stands among room =
-      let item = with_act (Csync j) in
+  -- it goes on as a line of the CPU's lane, and tells what the call answers
+  GoesOnIf-act : (n : ℕ) (a : Act) → pcpu_call (Cpu c) a ≡ Some call → (answer : PcpuAnswer) (next : PcpuState)
+      → Made next answer → GoesOnIf header pressure normal (record { number = n; lane = Cpu c; act = a })
+      LeaveVolume now
+      (record now { counters = next }) (pcpu_told answer)
+  GoesOnIf-act n a is answer next made w lanes items hs stands among leaves =
+      let item : Item = record { number = n; lane = Cpu c; act = a } in
       let facts : PcpuFacts = pcpu_facts header w in
+      let same = sym (batches pressure normal header w lanes items hs now stands) in
+      let (steps, called, leads) = made facts (sym stands.opening) same in
       let able = calls pressure normal header w lanes items hs now stands item among in
-      let owner = (pass pressure normal header w lanes items hs now stands item among).owner in
-      let may = MakesSync-holds facts hs.counters (pass_of lanes (Cpu c)) c j made.0 able
-      (known-counter pressure normal header w lanes items hs now stands j.number known)
-      (owner_may_own percpu facts hs.counters (pass_of lanes (Cpu c)) c able.legal owner).0
-      (subst (λ (who : Option CpuId). MayTake facts who c) (sym owner) refl) made.1 in
-      GoesOnTelling-counters pressure normal header w lanes items hs now item stands among next None refl refl
-      (counter-part pressure normal header w lanes items hs now stands item among made.0 next made.1
-      may no_counter (pos 0) (sync-adds no_counter c j made.0 made.1) made.2)
-      (Tell-sync header w c c j made.0 made.1)
+      let may = MakesCalls-hold facts hs.counters (pass_of lanes (Cpu c)) (Some c) call steps answer (record {
+        calls = able;
+        owner = (pass pressure normal header w lanes items hs now stands item among).owner;
+        known = names-known facts same;
+        affordable = λ own owns.
+            let mine : c ≡ own = cc in
+            subst (λ (d : CpuId). LeavesVolume (spent hs.counters d.number) call) mine
+            (LeavesVolume-less (spent hs.counters c.number)
+            (λ j. volume (spent_on_pcpu j) c.number (map line_of items))
+            (spent-counters pressure normal header w lanes items hs (in_tables now) stands.once stands.opened c)
+            call leaves);
+      }) called in
+      GoesOnTelling-counters pressure normal header w lanes items hs now item stands among next (pcpu_told answer)
+      (call-no_pages header w.pages pressure normal c (pass_of lanes (Cpu c)) hs.pages call a is)
+      (call-no_events (event_facts header w) c call a is)
+      (counter-part pressure normal header w lanes items hs now stands item among steps next
+      (subst (λ (what : Option PcpuCall). MakesPcpuCall facts (Some c) what steps) (sym is) (answer, called))
+      may (pcpu_added call answer) (adds-call facts (Some c) call steps answer called) leads)
+      (Tell-call header w c call a is steps answer called)
 
-  -- lines that leave room in the CPU's volume for an amount
-  abbrev LeaveVolume : ℤ → List Item → Type 0
-  LeaveVolume amount items =
-      volume (spent_on_pcpu j.number) c.number (map line_of items) + unsigned_abs amount ≤ most_volume
-
-  may-change : (w : World) (lanes : List Lane) (items : List Item) (hs : Histories) (a : Act) (amount : ℤ)
-      → Stands header pressure normal w lanes items hs now → is_among (Cpu c) lanes ≡ true → LeaveVolume amount items
-      → MayChange (pcpu_facts header w) hs.counters (pass_of lanes (Cpu c)) c j amount
-  may-change w lanes items hs a amount stands among room = record {
-    calls = calls pressure normal header w lanes items hs now stands (with_act a) among;
-    owner = (pass pressure normal header w lanes items hs now stands (with_act a) among).owner;
-    counter = known-counter pressure normal header w lanes items hs now stands j.number known;
-    affordable = omega (
-      arith,
-      room,
-      spent-counters pressure normal header w lanes items hs (in_tables now) stands.once stands.opened c j.number,
-    );
-  }
-
-  pub GoesOn-add : (amount : ℤ) (next : PcpuState)
-      → Made (λ steps. IsAdd (batch_at now.counters j.number) c j amount steps) next
-      → GoesOn header pressure normal (with_act (Cnt j amount)) (LeaveVolume amount) now
-      (record now { counters = next }) None
-  GoesOn-add amount next made w lanes items hs stands among room =
-      let item = with_act (Cnt j amount) in
-      let facts : PcpuFacts = pcpu_facts header w in
-      let same = batches pressure normal header w lanes items hs now stands in
-      let batch = batch_at facts.base j.number in
-      let call : IsAdd batch c j amount made.0 =
-      subst (λ (bs : List ℕ). IsAdd (slice_index_or bs j.number 0) c j amount made.0) same made.1 in
-      let may = MakesAdd-holds facts hs.counters (pass_of lanes (Cpu c)) c j amount made.0
-      (may-change w lanes items hs (Cnt j amount) amount stands among room) call in
-      GoesOnTelling-counters pressure normal header w lanes items hs now item stands among next None refl refl
-      (counter-part pressure normal header w lanes items hs now stands item among made.0 next call
-      may j amount (add-adds batch c j amount made.0 call) made.2)
-      (Tell-add header w c j batch amount made.0 call)
-
-  pub GoesOn-limited_add : (limit amount : ℤ) (answer : Bool) (next : PcpuState)
-      → Made (λ steps. IsLimitedAdd (batch_at now.counters j.number) (unknown_in now.counters now.opening j.number)
-      (present_from 0 now.opening) c j limit amount steps answer) next
-      → GoesOn header pressure normal (with_act (Lim j limit amount)) (LeaveVolume amount) now
-      (record now { counters = next }) (Some (Limited answer))
-  GoesOn-limited_add limit amount answer next made w lanes items hs stands among room =
-      let item = with_act (Lim j limit amount) in
-      let facts : PcpuFacts = pcpu_facts header w in
-      let same = batches pressure normal header w lanes items hs now stands in
-      let batch = batch_at facts.base j.number in
-      let hidden = unknown facts j.number in
-      let call : IsLimitedAdd batch hidden (present_cpus facts) c j limit amount made.0 answer =
-      subst (λ (bs : List ℕ). IsLimitedAdd (slice_index_or bs j.number 0)
-      (slice_index_or bs j.number 0 * count_by is_present w.pages.cpu) (present_from 0 w.pages.cpu) c j limit amount
-      made.0 answer) same
-      (subst (λ (cs : List CpuState). IsLimitedAdd (batch_at now.counters j.number)
-      (unknown_in now.counters cs j.number) (present_from 0 cs) c j limit amount made.0 answer) stands.opening
-      made.1) in
-      let may = MakesLimitedAdd-holds facts hs.counters (pass_of lanes (Cpu c)) c j limit amount made.0 answer
-      (may-change w lanes items hs (Lim j limit amount) amount stands among room) call in
-      GoesOnTelling-counters pressure normal header w lanes items hs now item stands among next
-      (Some (Limited answer)) refl refl
-      (counter-part pressure normal header w lanes items hs now stands item among made.0 next (answer, call)
-      may j (if answer then amount else pos 0)
-      (limited_add-adds batch hidden (present_cpus facts) c j limit amount made.0 answer call) made.2)
-      (Tell-limited_add header w c j batch hidden (present_cpus facts) limit amount made.0 answer call)
+  pub GoesOnIf-call : (item : Item) → item.lane ≡ Cpu c → pcpu_call (Cpu c) item.act ≡ Some call → (answer : PcpuAnswer)
+      (next : PcpuState) → Made next answer
+      → GoesOnIf header pressure normal item LeaveVolume now (record now { counters = next }) (pcpu_told answer)
+  GoesOnIf-call item lane is answer next made =
+      subst (λ (l : Lane). GoesOnIf header pressure normal (record item { lane = l }) LeaveVolume now
+      (record now { counters = next }) (pcpu_told answer)) (sym lane)
+      (GoesOnIf-act item.number item.act is answer next made)

@@ -1,10 +1,6 @@
 -- What holds of a line of a CPU's lane and of one of the control lane holds of every line.
 use Rattle.std.proofs.Common.{◌≡◌, sym, subst}
-use Rattle.vms_base.specs.declared.ids.CpuId.{CpuId}
-use Rattle.vms_text.specs.declared.acts.Act.{Act}
-use Rattle.vms_text.specs.declared.acts.Item.{Item}
-use Rattle.vms_text.specs.declared.acts.Lane.{Lane}
-use Rattle.vms_text.specs.declared.acts.Lane.TheVariants.{Control, Cpu}
+use Rattle.vms_world.specs.Common.{CpuId, Act, Item, Lane, Control, Cpu}
 
 pub of-lane : (P : Lane → Type 0) → ((d : CpuId) → P (Cpu d)) → P Control → (lane : Lane) → P lane
 of-lane P of_cpu of_control (Cpu d) = of_cpu d

@@ -1,51 +1,31 @@
 -- A line on the event counters goes on from an open phase, and tells its answer.
-use Rattle.std.proofs.Common.{◌≡◌, ℕ, ◌+◌, ◌≤◌, true, List, [], ◌∷◌, map, Some, None, refl, sym, ap, subst}
-use Rattle.std.proofs.Common.{◌∙◌, arith}
+use Rattle.std.proofs.Common.{◌≡◌, ◌≢◌, ℕ, ◌+◌, ◌≤◌, nat_eq, true, List, [], ◌∷◌, map, Option, Some, refl, sym, ap}
+use Rattle.std.proofs.Common.{subst, ◌∙◌, arith, if◌then◌else◌, eq-eqb}
 use Rattle.std.specs.Prelude.{All}
 use Rattle.std.proofs.lemmas.List.Elements.{All-cons, All-nil}
-use Rattle.vms_base.specs.declared.headers.Header.{Header}
-use Rattle.vms_base.specs.declared.ids.CpuId.{CpuId}
-use Rattle.vms_base.specs.declared.ids.EventId.{EventId}
-use Rattle.vms_base.specs.declared.kinds.ZoneSize.{ZoneSize}
-use Rattle.vms_base.specs.Cpus.{online_from}
-use Rattle.vms_base.specs.Volumes.{most_volume}
-use Rattle.vms_history.specs.Events.{own}
-use Rattle.vms_history.proofs.Own.{own-after}
-use Rattle.vms_alone.specs.InRow.{LeadsOn}
-use Rattle.vms_alone.proofs.InRow.{steps-go_on}
-use Rattle.vms_event_core.specs.declared.states.EventState.{EventState}
-use Rattle.vms_event_core.specs.declared.steps.EventFacts.{EventFacts}
-use Rattle.vms_event_core.specs.declared.steps.EventStep.{EventStep}
-use Rattle.vms_event_core.specs.CallLaws.{CarryAsBefore, MayMake, Tells}
-use Rattle.vms_event_core.specs.Calls.{IsAllEvents, IsCount, online_cpus}
-use Rattle.vms_event_core.specs.Events.{events}
+use Rattle.vms_world.specs.Common.{Header, CpuId, CpuState, ZoneSize, state_at, most_volume, own, LeadsOn, EventAnswer}
+use Rattle.vms_world.specs.Common.{EventCall, Count, EventState, EventFacts, EventStep, CarryAsBefore, IsEventCall}
+use Rattle.vms_world.specs.Common.{event_spent, events, line_of, spent_on_event, volume, Item, Lane, Cpu, Control}
+use Rattle.vms_world.specs.Common.{CallSteps, EventSteps, event_call, is_among, owner_of, TableHistories, event_facts}
+use Rattle.vms_world.specs.Common.{pcpu_facts}
+use Rattle.vms_history.proofs.Common.{own-after, steps-go_on}
+use Rattle.vms_event_core.specs.declared.call_values.EventCall.TheVariants.{Sum, FoldDead}
+use Rattle.vms_event_core.specs.CallLaws.{MayCall, MayMake, Tells}
 use Rattle.vms_event_core.specs.Own.{CarriesNothing}
 use Rattle.vms_event_core.specs.Steps.{role}
-use Rattle.vms_event_core.specs.Words.{IsEvent}
-use Rattle.vms_plain_events.specs.StateSteps.{IsByState-events, events_by_state}
-use Rattle.vms_script.specs.Totals.{line_of}
-use Rattle.vms_script.specs.Volumes.{spent_on_event, volume}
-use Rattle.vms_text.specs.declared.acts.Act.TheVariants.{Ev, EvSum}
-use Rattle.vms_text.specs.declared.acts.Item.{Item}
-use Rattle.vms_text.specs.declared.acts.Lane.{Lane}
-use Rattle.vms_text.specs.declared.acts.Lane.TheVariants.{Cpu}
+use Rattle.vms_plain_events.specs.Common.{FitsCall, IsByState-events, events_by_state}
+use Rattle.vms_text.specs.declared.acts.Act.TheVariants.{Dead}
 use Rattle.vms_world.specs.declared.worlds.World.{World}
-use Rattle.vms_world.specs.Acts.{EventSteps, PageSteps, PcpuSteps}
-use Rattle.vms_world.specs.Lanes.{is_among, owner_of}
-use Rattle.vms_world.specs.Phases.{Histories}
-use Rattle.vms_world.specs.Worlds.{event_facts, page_facts, pcpu_facts}
-use Rattle.vms_file_order.specs.FileOrder.{GoesOnWithLine, HasPass}
-use Rattle.vms_file_order.specs.LanePasses.{pass_of}
-use Rattle.vms_file_order.specs.Tables.{MeetsNobody, event_makes, event_passes}
-use Rattle.vms_file_order.proofs.Openings.{HasPass-opening}
-use Rattle.vms_answers.specs.Answers.Answer.{Events}
-use Rattle.vms_answers.proofs.ActAnswers.{Tell-count, Tell-events}
-use Rattle.vms_plain_lines.specs.CallLaws.{EventLaws}
-use Rattle.vms_plain_lines.specs.PlainStates.{GoesOn, GoesOnAlways, PlainStates, Stands, in_tables}
-use Rattle.vms_plain_lines.proofs.OnlineCpus.{online_from-history}
+use Rattle.vms_world.specs.Acts.{spent_by_call}
+use Rattle.vms_world.proofs.Common.{events-no_counters, events-no_pages, spent_on_event-call}
+use Rattle.vms_file_order.specs.Common.{GoesOnWithLine, HasPass, pass_of, MeetsNobody, event_makes, event_passes}
+use Rattle.vms_file_order.proofs.Common.{HasPass-opening}
+use Rattle.vms_answers.specs.Common.{event_told}
+use Rattle.vms_answers.proofs.Common.{Tell-events}
+use Rattle.vms_plain_lines.specs.Common.{EventLaws, HaveRoomForEvents, GoesOnTelling, PlainStates, StandsInPhase}
+use Rattle.vms_plain_lines.specs.Common.{in_tables}
 use Rattle.vms_plain_lines.proofs.PlainParts.{GoesOnTelling-events}
 use Rattle.vms_plain_lines.proofs.SpentVolumes.{spent-events}
-use Rattle.vms_plain_lines.proofs.EitherLane.{of-lane}
 
 -- no step on the event counters meets anybody
 pub all-meet_nobody : (steps : List EventStep) → All MeetsNobody steps
@@ -53,8 +33,8 @@ all-meet_nobody [] = All-nil MeetsNobody
 all-meet_nobody (step ∷ steps) = All-cons MeetsNobody step steps tt (all-meet_nobody steps)
 
 module _ (pressure normal : ZoneSize → ℕ → ℕ → Type 0) (header : Header) (w : World) (lanes : List Lane)
-    (items : List Item) (hs : Histories) (now : PlainStates)
-    (stands : Stands header pressure normal w lanes items hs now) (item : Item)
+    (items : List Item) (hs : TableHistories) (now : PlainStates)
+    (stands : StandsInPhase header pressure normal w lanes items hs now) (item : Item)
     (among : is_among item.lane lanes ≡ true) where
   abbrev facts : EventFacts
   facts = event_facts header w
@@ -82,50 +62,75 @@ module _ (pressure normal : ZoneSize → ℕ → ℕ → Type 0) (header : Heade
         (λ k known. carries p k (own hs.events p) ∙ stands.opened.events.may_end p pass.other_than_main k known);
   }
 
-module _ (laws : EventLaws) (pressure normal : ZoneSize → ℕ → ℕ → Type 0) (header : Header) (n : ℕ) (k : EventId)
-    (now : PlainStates) (known : IsEvent k.number) where
-  -- a count by a line of a CPU's lane
-  pub GoesOn-count : (c : CpuId) (times : ℕ) (next : EventState)
-      → (steps : List EventStep) × IsCount k times steps × LeadsOn events_by_state (Some c) steps now.events next
-      → GoesOn header pressure normal (record { number = n; lane = Cpu c; act = Ev k times })
-      (λ items. volume (spent_on_event k.number) c.number (map line_of items) + times ≤ most_volume) now
-      (record now { events = next }) None
-  GoesOn-count c times next made w lanes items hs stands among room =
-      let item : Item = record { number = n; lane = Cpu c; act = Ev k times } in
-      let facts : EventFacts = event_facts header w in
-      let owner = (pass pressure normal header w lanes items hs now stands item among).owner in
-      let may = laws.may_count facts hs.events (pass_of lanes (Cpu c)) c k times made.0 owner known (omega (
-        arith,
-        room,
-        spent-events pressure normal header w lanes items hs (in_tables now) stands.once stands.opened c k.number,
-      )) made.1 in
-      GoesOnTelling-events pressure normal header w lanes items hs now item stands among next None refl refl
-      (event-part pressure normal header w lanes items hs now stands item among made.0 next made.1 may
-      (laws.count_carries k times made.0 made.1) made.2)
-      (Tell-count header w laws.count_told c k times made.0 made.1)
+  -- the act of the line makes a call, for which the lines before it leave room
+  module _ (laws : EventLaws) (call : EventCall) (on : event_call item.lane item.act ≡ Some call)
+      (fits : FitsCall now.opening (owner_of item.lane) call now.events)
+      (room : HaveRoomForEvents item.lane item.act items) where
+    -- the CPU of the lane has room for what the call spends
+    room-call : (c : CpuId) → item.lane ≡ Cpu c → (e : ℕ)
+        → volume (spent_on_event e) c.number (map line_of items) + event_spent call e ≤ most_volume
+    room-call c of e =
+        let says = spent_on_event-call c e item.act in
+        let makes : event_call (Cpu c) item.act ≡ Some call =
+        subst (λ (l : Lane). event_call l item.act ≡ Some call) of on in
+        let spends = ap (λ (x : Option EventCall). spent_by_call event_spent x e) makes in
+        let before = room c of e in
+        omega arith
 
-  -- a sum by a line of any lane, over the CPUs that are online
-  pub GoesOn-all_events : (lane : Lane) (answer : ℕ)
-      → (found : List ℕ) × (steps : List EventStep) × IsAllEvents (online_from 0 now.pages.cpu) k found steps answer
-      × LeadsOn events_by_state (owner_of lane) steps now.events now.events
-      → GoesOnAlways header pressure normal (record { number = n; lane = lane; act = EvSum k }) now now
-      (Some (Events answer))
-  GoesOn-all_events lane answer made w lanes items hs stands among room =
-      let item : Item = record { number = n; lane = lane; act = EvSum k } in
-      let facts : EventFacts = event_facts header w in
-      let p = pass_of lanes lane in
-      let same : online_from 0 now.pages.cpu ≡ online_cpus facts =
-      ap (λ s. online_from 0 s.cpu) (sym stands.opened.pages.state)
-      ∙ online_from-history (page_facts header w) hs.pages stands.opened.pages.legal in
-      let call : IsAllEvents (online_cpus facts) k made.0 made.1 answer =
-      subst (λ (cs : List CpuId). IsAllEvents cs k made.0 made.1 answer) same made.2 in
-      let makes = of-lane (λ l. EventSteps facts l (EvSum k) made.1) (λ d. (made.0, answer, call))
-      (made.0, answer, call) lane in
-      GoesOnTelling-events pressure normal header w lanes items hs now item stands among now.events
-      (Some (Events answer))
-      (of-lane (λ l. PageSteps header w.pages pressure normal l p (EvSum k) hs.pages []) (λ d. refl) refl lane)
-      (of-lane (λ l. PcpuSteps (pcpu_facts header w) l (EvSum k) []) (λ d. refl) refl lane)
-      (event-part pressure normal header w lanes items hs now stands item among made.1 now.events makes
-      (laws.may_sum facts hs.events p k made.0 made.1 answer known call)
-      (laws.sum_carries (online_cpus facts) k made.0 made.1 answer call) made.3)
-      (Tell-events header w laws.sum_told lane k made.0 made.1 answer call)
+    pub may-call : MayCall facts hs.events p call
+    may-call = by call fits room-call
+      where
+        owned : (c : CpuId) → owner_of item.lane ≡ Some c → item.lane ≡ Cpu c
+        owned c = of item.lane
+          where
+            of : (l : Lane) → owner_of l ≡ Some c → l ≡ Cpu c
+            of (Cpu d) is = cc
+            of Control is = absurd cc
+
+        by : (x : EventCall) → FitsCall now.opening (owner_of item.lane) x now.events
+            → ((c : CpuId) → item.lane ≡ Cpu c → (e : ℕ)
+            → volume (spent_on_event e) c.number (map line_of items) + event_spent x e ≤ most_volume)
+            → MayCall facts hs.events p x
+        by (Count k n) fit more =
+            let here : (if nat_eq k.number k.number then n else 0) ≡ n =
+            (let same = eq-eqb k.number k.number refl in rw same refl) in
+            record {
+              cpu = fit.cpu;
+              owns = pass.owner ∙ fit.owns;
+              event = fit.event;
+              affordable = omega (
+                arith,
+                here,
+                more fit.cpu (owned fit.cpu fit.owns) k.number,
+                spent-events pressure normal header w lanes items hs (in_tables now) stands.once stands.opened fit.cpu
+                    k.number,
+              );
+            }
+        by (Sum k) fit more = fit.event
+        by (FoldDead c) fit more = record {
+          control = pass.owner ∙ fit.control;
+          nothing = stands.opened.events.may_end p pass.other_than_main;
+          dead = ap (λ (cs : List CpuState). state_at cs c.number) (sym stands.opening) ∙ fit.is_dead;
+        }
+
+    -- the steps of the call go on
+    abbrev pub call-part : (answer : EventAnswer) (steps : List EventStep) (next : EventState)
+        → IsEventCall facts call steps answer
+        → LeadsOn events_by_state (owner_of item.lane) steps now.events next
+        → GoesOnWithLine events (event_makes facts) MeetsNobody facts lanes item hs.events next
+    call-part answer steps next is leads = event-part steps next
+        (subst (λ (makes : Option EventCall). CallSteps (IsEventCall facts) makes steps) (sym on) (answer, is))
+        (laws.may facts hs.events p call steps answer may-call is) (laws.carry facts call steps answer is) leads
+
+    -- and tell the answer, where the act makes no call on the other tables
+    pub GoesOnTelling-call : ((c : CpuId) → item.act ≢ Dead c) → (answer : EventAnswer) (next : EventState)
+        → ((f : EventFacts) → f.cpus ≡ now.opening → (steps : List EventStep) × IsEventCall f call steps answer
+        × LeadsOn events_by_state (owner_of item.lane) steps now.events next)
+        → GoesOnTelling header pressure normal w lanes item hs (record now { events = next }) (event_told answer)
+    GoesOnTelling-call no_burial answer next makes =
+        let made = makes facts (sym stands.opening) in
+        GoesOnTelling-events pressure normal header w lanes items hs now item stands among next (event_told answer)
+        (events-no_pages item.lane item.act call on no_burial header w.pages pressure normal p hs.pages)
+        (events-no_counters item.lane item.act call on no_burial (pcpu_facts header w))
+        (call-part answer made.0 next made.1 made.2)
+        (Tell-events header w laws.tell item.lane item.act call made.0 answer on no_burial made.1)

@@ -3,17 +3,13 @@ use Rattle.std.proofs.Common.{◌≡◌, ℕ, ◌≤◌, nat_eq, Bool, true, fal
 use Rattle.std.proofs.Common.{if◌then◌else◌, ⊎_elim}
 use Rattle.std.proofs.lemmas.Bool.{cases_lt}
 use Rattle.std.proofs.lemmas.Bool.Decides.{nat_tests}
-use Rattle.vms_history.specs.Events.{own}
-use Rattle.vms_history.proofs.Own.{own-fact}
-use Rattle.vms_pcpu_core.specs.declared.steps.PcpuFacts.{PcpuFacts}
-use Rattle.vms_pcpu_core.specs.declared.steps.PcpuStep.{PcpuStep}
-use Rattle.vms_pcpu_core.specs.declared.steps.PcpuStep.TheVariants.{AddC, TakeL, Unlock, Won}
-use Rattle.vms_pcpu_core.specs.Conditions.{Meets}
+use Rattle.vms_world.specs.Common.{own, PcpuFacts, PcpuStep, AddC, TakeL, Unlock, Won, Meets, HoldsNoLock}
+use Rattle.vms_world.specs.Common.{carried_after, holds_lock, holds_lock_after, IsIdle, LockedState}
+use Rattle.vms_history.proofs.Common.{own-fact}
 use Rattle.vms_pcpu_core.specs.Histories.{History, IsLegal, state_after}
-use Rattle.vms_pcpu_core.specs.Own.{HoldsNoLock, carried, carried_after, holds_lock, holds_lock_after}
-use Rattle.vms_pcpu_core.specs.OwnSteps.{IsIdle}
-use Rattle.vms_pcpu_core.specs.States.{LockedState, counters_of}
-use Rattle.vms_pcpu_core.proofs.Locks.{holder-one}
+use Rattle.vms_pcpu_core.specs.Own.{carried}
+use Rattle.vms_pcpu_core.specs.States.{counters_of}
+use Rattle.vms_pcpu_core.proofs.Common.{holder-one}
 
 -- no step concerns a counter that the base hasn't
 module _ (facts : PcpuFacts) (j : ℕ) (past : counters_of facts.base ≤ j) where

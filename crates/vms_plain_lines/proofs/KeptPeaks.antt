@@ -1,18 +1,10 @@
 -- For other crates too: a line that sets no thresholds leaves the peaks, and what is known of them.
 use Rattle.std.proofs.Common.{ℕ, List}
-use Rattle.vms_base.specs.declared.headers.Header.{Header}
-use Rattle.vms_base.specs.declared.kinds.ZoneSize.{ZoneSize}
-use Rattle.vms_history.specs.Events.{after}
-use Rattle.vms_core.specs.declared.states.State.{State}
-use Rattle.vms_core.specs.declared.steps.Step.{Step}
+use Rattle.vms_world.specs.Common.{Header, ZoneSize, after, State, Step, facts_of, Act, Lane, PageSteps}
 use Rattle.vms_core.specs.Pages.{History}
-use Rattle.vms_calls.specs.HeaderFacts.{facts_of}
-use Rattle.vms_text.specs.declared.acts.Act.{Act}
-use Rattle.vms_text.specs.declared.acts.Lane.{Lane}
-use Rattle.vms_world.specs.Acts.{PageSteps}
-use Rattle.vms_plain_ratings.specs.KnownPeaks.{KnowsPeaks}
-use Rattle.vms_plain_ratings.proofs.UntouchedPeaks.{KnowsPeaks-left, LeavesPeaks, folds-leave, looks-leave}
-use Rattle.vms_plain_lines.specs.SparedPeaks.{SparesPeaks}
+use Rattle.vms_plain_control.specs.Common.{KnowsPeaks}
+use Rattle.vms_plain_control.proofs.Common.{KnowsPeaks-left, LeavesPeaks, folds-leave, looks-leave}
+use Rattle.vms_plain_lines.specs.Common.{SparesPeaks}
 use Rattle.vms_plain_lines.proofs.LineSteps.{OfChanges, act-each}
 
 -- changes neither set a threshold nor look what was acknowledged

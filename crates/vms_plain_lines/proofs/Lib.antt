@@ -3,16 +3,13 @@ pub mod WonSteps
 pub mod LineSteps
 pub mod KeptPeaks
 pub mod EitherLane
-pub mod OnlineCpus
 pub mod SpentVolumes
 pub mod PlainParts
 pub mod PageLines
 pub mod EventLines
 pub mod IdleCallers
 pub mod CounterLines
-pub mod SpentCounters
 pub mod ControlPass
-pub mod ControlAnswers
 pub mod ControlLines
 pub mod SetLines
 pub mod ControlCalls
@@ -20,3 +17,4 @@ pub mod FoldedCpus
 pub mod StandingLines
 pub mod PlainCalls
 pub mod PageRoom
+pub mod Common

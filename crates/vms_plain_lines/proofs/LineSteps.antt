@@ -3,32 +3,15 @@
 use Rattle.std.proofs.Common.{ℕ, ℤ, pos, negsuc, List, [], ◌∷◌, sym, subst}
 use Rattle.std.specs.Prelude.{All}
 use Rattle.std.proofs.lemmas.List.Elements.{All-cons, All-nil}
-use Rattle.vms_base.specs.declared.groups.Diffs.{Diffs}
-use Rattle.vms_base.specs.declared.headers.Header.{Header}
-use Rattle.vms_base.specs.declared.ids.CounterId.{CounterId}
-use Rattle.vms_base.specs.declared.ids.CpuId.{CpuId}
-use Rattle.vms_base.specs.declared.ids.GroupId.{GroupId}
-use Rattle.vms_base.specs.declared.ids.ItemId.{ItemId}
-use Rattle.vms_base.specs.declared.ids.PlaceId.{PlaceId}
-use Rattle.vms_base.specs.declared.kinds.Mode.{Mode}
+use Rattle.vms_world.specs.Common.{Diffs, Header, CounterId, CpuId, GroupId, ItemId, PlaceId, Mode, ZoneSize, Shape}
+use Rattle.vms_world.specs.Common.{State, Step, AddG, AddS, LoadD, LoadT, Miss, Put, Carries, Exchanges, IsChange}
+use Rattle.vms_world.specs.Common.{amount, nothing, missed, won, Act, Fold, Kswapd, Normal, Pressure, Snap, Sys, Val}
+use Rattle.vms_world.specs.Common.{Water, Lane, Control, Cpu, PageSteps, lane_owns}
 use Rattle.vms_base.specs.declared.kinds.Mode.TheVariants.{Mod as Modify, Inc as Raise, Dec as Lower}
-use Rattle.vms_base.specs.declared.kinds.ZoneSize.{ZoneSize}
-use Rattle.vms_base.specs.Places.{Shape}
-use Rattle.vms_core.specs.declared.states.State.{State}
-use Rattle.vms_core.specs.declared.steps.Step.{Step}
-use Rattle.vms_core.specs.declared.steps.Step.TheVariants.{AddG, AddS, LoadD, LoadT, Miss, Put}
 use Rattle.vms_core.specs.Pages.{History}
-use Rattle.vms_calls.specs.Changes.{Carries, Exchanges, IsChange}
-use Rattle.vms_calls.specs.Changes.Carries.{amount, nothing}
-use Rattle.vms_calls.specs.Changes.Exchanges.{missed, won}
-use Rattle.vms_calls.proofs.CallSteps.{Each, OfFolds, OfLooks, each-append, fold-each, snapshot-each, test-each}
-use Rattle.vms_text.specs.declared.acts.Act.{Act}
-use Rattle.vms_text.specs.declared.acts.Act.TheVariants.{Dead, Dec, Fold, Inc, Kswapd, Mod, Normal, Pressure, Snap, Sys}
-use Rattle.vms_text.specs.declared.acts.Act.TheVariants.{Val, Water}
-use Rattle.vms_text.specs.declared.acts.Lane.{Lane}
-use Rattle.vms_text.specs.declared.acts.Lane.TheVariants.{Control, Cpu}
-use Rattle.vms_world.specs.Acts.{PageSteps, owns}
-use Rattle.vms_plain_lines.specs.SparedPeaks.{SparesPeaks}
+use Rattle.vms_calls.proofs.Common.{Each, OfFolds, OfLooks, each-append, fold-each, snapshot-each, test-each}
+use Rattle.vms_text.specs.declared.acts.Act.TheVariants.{Dead, Dec, Inc, Mod}
+use Rattle.vms_plain_lines.specs.Common.{SparesPeaks}
 
 -- the steps of changes are of the kind
 pub record OfChanges (Kind : Step → Type 0) : Type 0 where
@@ -76,7 +59,7 @@ module _ (Kind : Step → Type 0) where
     act-each (Cpu d) (Inc k) q steps spares makes = change-each changes header.layout d k (pos 1) Raise steps makes
     act-each (Cpu d) (Dec k) q steps spares makes = change-each changes header.layout d k (negsuc 0) Lower steps makes
     act-each (Cpu d) (Fold c) q steps spares makes =
-        fold-each Kind folds header.layout (owns (Cpu d) c) c steps makes
+        fold-each Kind folds header.layout (lane_owns (Cpu d) c) c steps makes
     act-each (Cpu d) (Water g mark most) q steps spares (answer, makes) =
         test-each Kind looks header g mark most steps answer makes
     act-each (Cpu d) (Val k) q steps spares (answer, makes) =
@@ -86,7 +69,7 @@ module _ (Kind : Step → Type 0) where
     act-each (Cpu d) (Sys i) q steps spares (answer, makes) =
         subst (Each Kind) (sym makes.in_order) (looks.system _ _, tt)
     act-each Control (Fold c) q steps spares makes =
-        fold-each Kind folds header.layout (owns Control c) c steps makes
+        fold-each Kind folds header.layout (lane_owns Control c) c steps makes
     act-each Control (Water g mark most) q steps spares (answer, makes) =
         test-each Kind looks header g mark most steps answer makes
     act-each Control (Val k) q steps spares (answer, makes) =

@@ -1,66 +1,33 @@
 -- A line on the page counters goes on from an open phase, and tells its answer.
-use Rattle.std.proofs.Common.{◌≡◌, ℕ, ◌+◌, ◌≤◌, true, false, ℤ, List, [], map, Option, Some, None}
-use Rattle.std.proofs.Common.{unsigned_abs, refl, sym, ap, subst, ◌∙◌, arith}
+use Rattle.std.proofs.Common.{◌≡◌, ℕ, ◌+◌, ◌≤◌, true, false, ℤ, List, [], map, Option, Some, None, unsigned_abs, refl}
+use Rattle.std.proofs.Common.{sym, ap, subst, ◌∙◌, arith}
 use Rattle.std.specs.Prelude.{All}
 use Rattle.std.proofs.lemmas.Bool.Decides.{nat_tests}
-use Rattle.vms_base.specs.declared.headers.Header.{Header}
-use Rattle.vms_base.specs.declared.ids.CounterId.{CounterId}
-use Rattle.vms_base.specs.declared.ids.CpuId.{CpuId}
-use Rattle.vms_base.specs.declared.ids.ItemId.{ItemId}
-use Rattle.vms_base.specs.declared.ids.PlaceId.{PlaceId}
-use Rattle.vms_base.specs.declared.kinds.Mode.{Mode}
-use Rattle.vms_base.specs.declared.kinds.WaterMark.{WaterMark}
-use Rattle.vms_base.specs.declared.kinds.ZoneSize.{ZoneSize}
-use Rattle.vms_base.specs.Places.{Shape, IsCounter, IsCpu, IsItem, IsLayout, IsZone}
-use Rattle.vms_base.specs.Volumes.{most_volume}
-use Rattle.vms_history.specs.Events.{own}
-use Rattle.vms_history.specs.Passes.{owner_in}
-use Rattle.vms_history.proofs.Own.{own-after}
-use Rattle.vms_history.proofs.Prefixes.{base_can_begin}
-use Rattle.vms_alone.specs.InRow.{LeadsOn}
-use Rattle.vms_alone.proofs.InRow.{call-goes_on}
-use Rattle.vms_core.specs.declared.states.State.{State}
-use Rattle.vms_core.specs.declared.steps.Step.{Step}
-use Rattle.vms_core.specs.ChangedStates.{with_change}
+use Rattle.vms_world.specs.Common.{Header, CounterId, CpuId, ItemId, PlaceId, Mode, WaterMark, ZoneSize, Shape}
+use Rattle.vms_world.specs.Common.{IsCounter, IsCpu, IsItem, IsLayout, IsZone, most_volume, own, owner_in, LeadsOn}
+use Rattle.vms_world.specs.Common.{State, Step, with_change, pages, LeavesCaller, HasWon, IsChange, IsFold, Verdict}
+use Rattle.vms_world.specs.Common.{IsPlaceValue, IsSnapshot, IsSystemValue, IsWatermarkTest, facts_of, IsLivePass}
+use Rattle.vms_world.specs.Common.{MayBegin, EventFacts, PcpuFacts, line_of, spent_on_counter, volume, Act, Fold, Water}
+use Rattle.vms_world.specs.Common.{Val, Snap, Sys, Item, Lane, Cpu, Control, EventSteps, PageSteps, PcpuSteps}
+use Rattle.vms_world.specs.Common.{lane_owns, is_among, owner_of, TableHistories, event_facts, page_facts, pcpu_facts}
+use Rattle.vms_history.proofs.Common.{own-after, base_can_begin, call-goes_on}
 use Rattle.vms_core.specs.Own.{CarriesNothing}
-use Rattle.vms_core.specs.Pages.{History, pages}
+use Rattle.vms_core.specs.Pages.{History}
 use Rattle.vms_core.specs.Steps.{role}
-use Rattle.vms_core.proofs.LiveOwners.{owned-online}
-use Rattle.vms_calls.specs.CallerLaws.{LeavesCaller}
-use Rattle.vms_calls.specs.Changes.{HasWon, IsChange}
-use Rattle.vms_calls.specs.Folds.{IsFold}
-use Rattle.vms_calls.specs.Looks.{IsPlaceValue, IsSnapshot, IsSystemValue, IsWatermarkTest, Verdict}
-use Rattle.vms_calls.specs.HeaderFacts.{facts_of}
-use Rattle.vms_calls.specs.MayMake.{IsLivePass, MayBegin, Tells}
-use Rattle.vms_event_core.specs.declared.steps.EventFacts.{EventFacts}
-use Rattle.vms_pcpu_core.specs.declared.steps.PcpuFacts.{PcpuFacts}
-use Rattle.vms_script.specs.Totals.{line_of}
-use Rattle.vms_script.specs.Volumes.{spent_on_counter, volume}
-use Rattle.vms_text.specs.declared.acts.Act.{Act}
-use Rattle.vms_text.specs.declared.acts.Act.TheVariants.{Fold, Water, Val, Snap, Sys}
-use Rattle.vms_text.specs.declared.acts.Item.{Item}
-use Rattle.vms_text.specs.declared.acts.Lane.{Lane}
-use Rattle.vms_text.specs.declared.acts.Lane.TheVariants.{Cpu, Control}
+use Rattle.vms_core.proofs.Common.{owned-online}
+use Rattle.vms_calls.specs.MayMake.{Tells}
 use Rattle.vms_world.specs.declared.worlds.World.{World}
-use Rattle.vms_world.specs.Acts.{EventSteps, PageSteps, PcpuSteps, owns}
-use Rattle.vms_world.specs.Lanes.{is_among, owner_of}
-use Rattle.vms_world.specs.Phases.{Histories}
-use Rattle.vms_world.specs.Worlds.{event_facts, page_facts, pcpu_facts}
-use Rattle.vms_file_order.specs.FileOrder.{HasPass}
-use Rattle.vms_file_order.specs.LanePasses.{pass_of}
-use Rattle.vms_file_order.specs.Tables.{page_passes}
-use Rattle.vms_file_order.proofs.Openings.{HasPass-opening}
-use Rattle.vms_answers.specs.Answers.{Answer, Tell, on_pages}
-use Rattle.vms_answers.specs.Answers.Answer.{Snapshot, System, Tested, Value}
-use Rattle.vms_answers.proofs.ActAnswers.{Tell-fold, Tell-lower, Tell-modify, Tell-raise, Tell-snapshot, Tell-system}
-use Rattle.vms_answers.proofs.ActAnswers.{Tell-test, Tell-value}
-use Rattle.vms_plain_pages.specs.Alone.{MakesAlone}
-use Rattle.vms_plain_pages.specs.StateSteps.{pages_are_by_state, pages_by_state}
-use Rattle.vms_plain_lines.specs.CallLaws.{PageCallers, PageCalls, PageLaws}
-use Rattle.vms_plain_lines.specs.PageActs.{FoldsOrLooks, IsChangeAct}
-use Rattle.vms_plain_lines.specs.PageActs.IsChangeAct.{lowers, modifies, raises}
-use Rattle.vms_plain_lines.specs.PlainStates.{GoesOnAlways, GoesOnTelling, PlainStates, Stands, in_tables}
-use Rattle.vms_plain_lines.specs.SparedPeaks.{SparesPeaks}
+use Rattle.vms_file_order.specs.Common.{HasPass, pass_of, page_passes}
+use Rattle.vms_file_order.proofs.Common.{HasPass-opening}
+use Rattle.vms_answers.specs.declared.answers.Answer.{Answer}
+use Rattle.vms_answers.specs.Common.{Tell, on_pages}
+use Rattle.vms_answers.specs.declared.answers.Answer.TheVariants.{Snapshot, System, Tested, Value}
+use Rattle.vms_answers.proofs.Common.{Tell-fold, Tell-lower, Tell-modify, Tell-raise, Tell-snapshot, Tell-system}
+use Rattle.vms_answers.proofs.Common.{Tell-test, Tell-value}
+use Rattle.vms_plain_pages.specs.Common.{CallLeadsAlone, pages_are_by_state, pages_by_state}
+use Rattle.vms_plain_lines.specs.Common.{PageCallers, PageCalls, PageLaws, FoldsOrLooks, IsChangeAct, lowers, modifies}
+use Rattle.vms_plain_lines.specs.Common.{raises, GoesOnAlways, GoesOnTelling, PlainStates, StandsInPhase, in_tables}
+use Rattle.vms_plain_lines.specs.Common.{SparesPeaks}
 use Rattle.vms_plain_lines.proofs.KeptPeaks.{KnowsPeaks-line}
 use Rattle.vms_plain_lines.proofs.PlainParts.{GoesOnTelling-pages}
 use Rattle.vms_plain_lines.proofs.SpentVolumes.{spent-pages}
@@ -68,7 +35,7 @@ use Rattle.vms_plain_lines.proofs.EitherLane.{of-lane}
 use Rattle.vms_plain_lines.proofs.WonSteps.{won-fold, won-place_value, won-snapshot, won-system_value, won-test}
 
 -- a lane that owns a CPU is the CPU's
-pub owned-lane : (d c : CpuId) → owns (Cpu d) c ≡ true → d ≡ c
+pub owned-lane : (d c : CpuId) → lane_owns (Cpu d) c ≡ true → d ≡ c
 owned-lane d c same = let numbers : d.number ≡ c.number = grind (arith, nat_tests) in
     ap (λ n. let cpu : CpuId = record { number = n } in cpu) numbers
 
@@ -77,7 +44,7 @@ won-act : (header : Header) (base : State) (pressure normal : ZoneSize → ℕ �
     (a : Act) (p : ℕ) (steps : List Step) → FoldsOrLooks header.layout a
     → PageSteps header base pressure normal lane p a h steps → All HasWon steps
 won-act header base pressure normal h (Cpu d) (Fold c) p steps known makes =
-    won-fold header.layout (owns (Cpu d) c) c steps makes
+    won-fold header.layout (lane_owns (Cpu d) c) c steps makes
 won-act header base pressure normal h (Cpu d) (Water g mark most) p steps known (answer, makes) =
     won-test header g mark most steps answer makes
 won-act header base pressure normal h (Cpu d) (Val k) p steps known (answer, makes) =
@@ -87,7 +54,7 @@ won-act header base pressure normal h (Cpu d) (Snap k) p steps known (answer, ma
 won-act header base pressure normal h (Cpu d) (Sys i) p steps known (answer, makes) =
     won-system_value i steps answer makes
 won-act header base pressure normal h Control (Fold c) p steps known makes =
-    won-fold header.layout (owns Control c) c steps makes
+    won-fold header.layout (lane_owns Control c) c steps makes
 won-act header base pressure normal h Control (Water g mark most) p steps known (answer, makes) =
     won-test header g mark most steps answer makes
 won-act header base pressure normal h Control (Val k) p steps known (answer, makes) =
@@ -105,7 +72,7 @@ module _ (may : PageCalls) (header : Header) (base : State) (pressure normal : Z
       → owner_in role h p ≡ owner_of lane → CarriesNothing header.layout (own h p)
       → MayBegin (facts_of header base) p h (PageSteps header base pressure normal lane p a h)
   may-act (Cpu d) (Fold c) p known live owner nothing =
-      may.fold (facts_of header base) h p (owns (Cpu d) c) c live known
+      may.fold (facts_of header base) h p (lane_owns (Cpu d) c) c live known
       (λ is_own. owner ∙ ap (λ (x : CpuId). let who : Option CpuId = Some x in who) (owned-lane d c is_own)) nothing
   may-act (Cpu d) (Water g mark most) p known live owner nothing =
       may.test header base h p g mark most live known
@@ -127,13 +94,13 @@ module _ (leave : PageCallers) (header : Header) (is_layout : IsLayout header.la
   act-leaves : (lane : Lane) (a : Act) (p : ℕ) (steps : List Step) (g : History) → FoldsOrLooks header.layout a
       → PageSteps header base pressure normal lane p a h steps → LeavesCaller header.layout p steps g
   act-leaves (Cpu d) (Fold c) p steps g known makes =
-      leave.fold header.layout (owns (Cpu d) c) c is_layout p h steps makes g
+      leave.fold header.layout (lane_owns (Cpu d) c) c is_layout p h steps makes g
   act-leaves (Cpu d) (Water zone mark most) p steps g known makes = leave.test header zone mark most p h steps makes g
   act-leaves (Cpu d) (Val k) p steps g known makes = leave.place_value header.layout k p h steps makes g
   act-leaves (Cpu d) (Snap k) p steps g known makes = leave.snapshot header.layout k p h steps makes g
   act-leaves (Cpu d) (Sys i) p steps g known makes = leave.system_value header.layout i p h steps makes g
   act-leaves Control (Fold c) p steps g known makes =
-      leave.fold header.layout (owns Control c) c is_layout p h steps makes g
+      leave.fold header.layout (lane_owns Control c) c is_layout p h steps makes g
   act-leaves Control (Water zone mark most) p steps g known makes = leave.test header zone mark most p h steps makes g
   act-leaves Control (Val k) p steps g known makes = leave.place_value header.layout k p h steps makes g
   act-leaves Control (Snap k) p steps g known makes = leave.snapshot header.layout k p h steps makes g
@@ -170,8 +137,8 @@ no_counters-act facts shape Control (Sys i) known = refl
 no_counters-act facts shape lane _ known = absurd known
 
 module _ (laws : PageLaws) (pressure normal : ZoneSize → ℕ → ℕ → Type 0) (header : Header) (w : World)
-    (lanes : List Lane) (items : List Item) (hs : Histories) (now : PlainStates) (item : Item)
-    (stands : Stands header pressure normal w lanes items hs now) (among : is_among item.lane lanes ≡ true) where
+    (lanes : List Lane) (items : List Item) (hs : TableHistories) (now : PlainStates) (item : Item)
+    (stands : StandsInPhase header pressure normal w lanes items hs now) (among : is_among item.lane lanes ≡ true) where
   abbrev p : ℕ
   p = pass_of lanes item.lane
 
@@ -312,14 +279,14 @@ module _ (laws : PageLaws) (pressure normal : ZoneSize → ℕ → ℕ → Type 
       → (IsCall : List Step → Type 0) → ((w : World) (q : ℕ) (h : History) (steps : List Step) → IsCall steps
       → PageSteps header w.pages pressure normal lane q a h steps)
       → ((w : World) (steps : List Step) → IsCall steps → Tell header w lane a (on_pages steps) answer)
-      → (next : State) → MakesAlone (owner_of lane) IsCall now.pages next
+      → (next : State) → CallLeadsAlone (owner_of lane) IsCall now.pages next
       → GoesOnAlways header pressure normal (with_act a) now (record now { pages = next }) answer
   GoesOn-act a answer known spares IsCall makes tells next made w lanes items hs stands among room =
       GoesOnTelling-look laws pressure normal header w lanes items hs now (with_act a) stands among known spares next
       made.0 (makes w (pass_of lanes lane) hs.pages made.0 made.1) made.2 answer (tells w made.0 made.1)
 
   pub GoesOn-place_value : (k : CounterId) → IsCounter header.layout k.number → (answer : ℕ)
-      → MakesAlone (owner_of lane) (λ steps. IsPlaceValue k steps answer) now.pages now.pages
+      → CallLeadsAlone (owner_of lane) (λ steps. IsPlaceValue k steps answer) now.pages now.pages
       → GoesOnAlways header pressure normal (with_act (Val k)) now now (Some (Value answer))
   GoesOn-place_value k known answer made =
       GoesOn-act (Val k) (Some (Value answer)) known tt (λ steps. IsPlaceValue k steps answer)
@@ -329,7 +296,7 @@ module _ (laws : PageLaws) (pressure normal : ZoneSize → ℕ → ℕ → Type 
       (λ w steps call. Tell-value header w laws.tell.place_value lane k steps answer call) now.pages made
 
   pub GoesOn-system_value : (i : ItemId) → IsItem header.layout i.number → (answer : ℕ)
-      → MakesAlone (owner_of lane) (λ steps. IsSystemValue i steps answer) now.pages now.pages
+      → CallLeadsAlone (owner_of lane) (λ steps. IsSystemValue i steps answer) now.pages now.pages
       → GoesOnAlways header pressure normal (with_act (Sys i)) now now (Some (System answer))
   GoesOn-system_value i known answer made =
       GoesOn-act (Sys i) (Some (System answer)) known tt (λ steps. IsSystemValue i steps answer)
@@ -339,7 +306,7 @@ module _ (laws : PageLaws) (pressure normal : ZoneSize → ℕ → ℕ → Type 
       (λ w steps call. Tell-system header w laws.tell.system_value lane i steps answer call) now.pages made
 
   pub GoesOn-snapshot : (k : CounterId) → IsCounter header.layout k.number → (answer : ℕ)
-      → MakesAlone (owner_of lane) (λ steps. IsSnapshot header.layout k steps answer) now.pages now.pages
+      → CallLeadsAlone (owner_of lane) (λ steps. IsSnapshot header.layout k steps answer) now.pages now.pages
       → GoesOnAlways header pressure normal (with_act (Snap k)) now now (Some (Snapshot answer))
   GoesOn-snapshot k known answer made =
       GoesOn-act (Snap k) (Some (Snapshot answer)) known tt (λ steps. IsSnapshot header.layout k steps answer)
@@ -350,7 +317,7 @@ module _ (laws : PageLaws) (pressure normal : ZoneSize → ℕ → ℕ → Type 
 
   pub GoesOn-watermark_test : (g : PlaceId) (mark : WaterMark) (most : ℕ) → IsZone header.layout g.number
       → (answer : Verdict)
-      → MakesAlone (owner_of lane) (λ steps. IsWatermarkTest header g mark most steps answer) now.pages now.pages
+      → CallLeadsAlone (owner_of lane) (λ steps. IsWatermarkTest header g mark most steps answer) now.pages now.pages
       → GoesOnAlways header pressure normal (with_act (Water g mark most)) now now (Some (Tested answer))
   GoesOn-watermark_test g mark most known answer made =
       GoesOn-act (Water g mark most) (Some (Tested answer)) known tt
@@ -362,11 +329,12 @@ module _ (laws : PageLaws) (pressure normal : ZoneSize → ℕ → ℕ → Type 
       (λ w steps call. Tell-test header w laws.tell.test lane g mark most steps answer call) now.pages made
 
   pub GoesOn-fold : (c : CpuId) → IsCpu header.layout c.number → (next : State)
-      → MakesAlone (owner_of lane) (IsFold header.layout (owns lane c) c) now.pages next
+      → CallLeadsAlone (owner_of lane) (IsFold header.layout (lane_owns lane c) c) now.pages next
       → GoesOnAlways header pressure normal (with_act (Fold c)) now (record now { pages = next }) None
   GoesOn-fold c known next made =
-      GoesOn-act (Fold c) None known tt (IsFold header.layout (owns lane c) c)
-      (of-lane (λ l. (w : World) (q : ℕ) (h : History) (steps : List Step) → IsFold header.layout (owns l c) c steps
+      GoesOn-act (Fold c) None known tt (IsFold header.layout (lane_owns lane c) c)
+      (of-lane (λ l. (w : World) (q : ℕ) (h : History) (steps : List Step) →
+      IsFold header.layout (lane_owns l c) c steps
       → PageSteps header w.pages pressure normal l q (Fold c) h steps) (λ d w q h steps call. call)
       (λ w q h steps call. call) lane)
       (λ w steps call. Tell-fold header w laws.tell.fold lane c steps call) next made

@@ -1,35 +1,18 @@
 -- A line on plain tables goes on by its part in one table, where it makes no step in the others.
 use Rattle.std.proofs.Common.{ℕ, true, ◌≡◌, List, [], Option}
 use Rattle.std.proofs.lemmas.List.Elements.{All-nil}
-use Rattle.vms_base.specs.declared.headers.Header.{Header}
-use Rattle.vms_base.specs.declared.kinds.ZoneSize.{ZoneSize}
-use Rattle.vms_history.specs.declared.events.Event.{Event}
-use Rattle.vms_history.specs.Events.{after}
-use Rattle.vms_history.specs.Legal.{Machine}
-use Rattle.vms_core.specs.declared.states.State.{State}
-use Rattle.vms_core.specs.Pages.{pages}
-use Rattle.vms_event_core.specs.declared.states.EventState.{EventState}
-use Rattle.vms_event_core.specs.Events.{events}
-use Rattle.vms_pcpu_core.specs.declared.states.PcpuState.{PcpuState}
-use Rattle.vms_pcpu_core.specs.Histories.{percpu}
-use Rattle.vms_calls.specs.Changes.{HasWon}
-use Rattle.vms_text.specs.declared.acts.Act.{Act}
-use Rattle.vms_text.specs.declared.acts.Item.{Item}
-use Rattle.vms_text.specs.declared.acts.Lane.{Lane}
+use Rattle.vms_world.specs.Common.{Header, ZoneSize, Event, after, Machine, State, pages, EventState, events, PcpuState}
+use Rattle.vms_world.specs.Common.{percpu, HasWon, Act, Item, Lane, EventSteps, PageSteps, PcpuSteps, is_among}
+use Rattle.vms_world.specs.Common.{TableHistories, event_facts, page_facts, pcpu_facts}
 use Rattle.vms_world.specs.declared.worlds.World.{World}
-use Rattle.vms_world.specs.Acts.{EventSteps, PageSteps, PcpuSteps}
-use Rattle.vms_world.specs.Lanes.{is_among}
-use Rattle.vms_world.specs.Phases.{Histories}
-use Rattle.vms_world.specs.Worlds.{event_facts, page_facts, pcpu_facts}
-use Rattle.vms_file_order.specs.FileOrder.{GoesOnWithLine, StandsOpen}
-use Rattle.vms_file_order.specs.LanePasses.{PassSteps, pass_of}
-use Rattle.vms_file_order.specs.Tables.{FindsLockFree, MeetsNobody, event_makes, event_passes, page_passes, pcpu_makes}
-use Rattle.vms_file_order.specs.Tables.{pcpu_passes}
-use Rattle.vms_file_order.proofs.Openings.{HasPass-opening}
-use Rattle.vms_answers.specs.Answers.{Answer, Tell, on_counters, on_events, on_pages}
-use Rattle.vms_plain_pcpu.specs.FreeLocks.{under_free_locks}
-use Rattle.vms_plain_ratings.specs.KnownPeaks.{KnowsPeaks}
-use Rattle.vms_plain_lines.specs.PlainStates.{GoesOnTelling, PlainStates, Stands}
+use Rattle.vms_file_order.specs.Common.{GoesOnWithLine, StandsOpen, PassSteps, pass_of, FindsLockFree, MeetsNobody}
+use Rattle.vms_file_order.specs.Common.{event_makes, event_passes, page_passes, pcpu_makes, pcpu_passes}
+use Rattle.vms_file_order.proofs.Common.{HasPass-opening}
+use Rattle.vms_answers.specs.declared.answers.Answer.{Answer}
+use Rattle.vms_answers.specs.Common.{Tell, on_counters, on_events, on_pages}
+use Rattle.vms_plain_pcpu.specs.Common.{under_free_locks}
+use Rattle.vms_plain_control.specs.Common.{KnowsPeaks}
+use Rattle.vms_plain_lines.specs.Common.{GoesOnTelling, PlainStates, StandsInPhase}
 
 -- the part of a line that makes no step in a table: unlike a lemma's, its steps are known
 abbrev no_steps : {F K S : Type 0} (machine : Machine F K S) (passes : PassSteps K machine.role)
@@ -47,8 +30,8 @@ no_steps machine passes makes IsAlone facts lanes item h now among stands making
 }
 
 module _ (pressure normal : ZoneSize → ℕ → ℕ → Type 0) (header : Header) (w : World) (lanes : List Lane)
-    (items : List Item) (hs : Histories) (now : PlainStates) (item : Item)
-    (stands : Stands header pressure normal w lanes items hs now) (among : is_among item.lane lanes ≡ true) where
+    (items : List Item) (hs : TableHistories) (now : PlainStates) (item : Item)
+    (stands : StandsInPhase header pressure normal w lanes items hs now) (among : is_among item.lane lanes ≡ true) where
   abbrev of_pages : PageSteps header w.pages pressure normal item.lane (pass_of lanes item.lane) item.act hs.pages []
       → GoesOnWithLine pages (PageSteps header w.pages pressure normal) HasWon (page_facts header w) lanes item hs.pages
       now.pages

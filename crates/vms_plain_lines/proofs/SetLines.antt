@@ -1,37 +1,17 @@
 -- For other crates too: how often the lines of an open phase have set thresholds and marks.
 use Rattle.std.proofs.Common.{◌≡◌, ℕ, ◌+◌, ◌*◌, ◌<◌, ◌≤◌, ◌-◌, List, [], ◌∷◌, ◌++◌, length, refl, sym, ap, subst, ◌∙◌}
 use Rattle.std.proofs.Common.{arith, length-append}
-use Rattle.vms_base.specs.declared.headers.Header.{Header}
-use Rattle.vms_base.specs.declared.kinds.ZoneSize.{ZoneSize}
-use Rattle.vms_base.specs.Places.{Shape, IsPlace}
-use Rattle.vms_history.specs.declared.events.Event.{Event}
-use Rattle.vms_history.specs.Events.{after}
-use Rattle.vms_history.proofs.Own.{after-append}
-use Rattle.vms_history.proofs.Prefixes.{prefix_is_legal}
-use Rattle.vms_core.specs.declared.states.State.{State}
-use Rattle.vms_core.specs.declared.steps.Facts.{Facts}
-use Rattle.vms_core.specs.declared.steps.Step.{Step}
-use Rattle.vms_core.specs.declared.steps.Step.TheVariants.{SetM, SetT}
-use Rattle.vms_core.specs.Bases.{IsOpening}
-use Rattle.vms_core.specs.Cells.{mark_sets_at, threshold_sets_at}
-use Rattle.vms_core.specs.Effects.{mark_sets_after}
-use Rattle.vms_core.specs.Pages.{History, IsLegal, pages, state_after}
-use Rattle.vms_core.specs.Peaks.{sets_after}
-use Rattle.vms_core.specs.Plain.{most_sets}
-use Rattle.vms_core.proofs.Settings.{mark_sets_at-newest, sets-newest}
-use Rattle.vms_calls.specs.Changes.{HasWon}
-use Rattle.vms_calls.proofs.CallSteps.{Each, OfFolds, OfLooks}
-use Rattle.vms_text.specs.declared.acts.Item.{Item}
-use Rattle.vms_text.specs.declared.acts.Lane.{Lane}
+use Rattle.vms_world.specs.Common.{Header, ZoneSize, Shape, IsPlace, Event, after, State, Facts, Step, SetM, SetT}
+use Rattle.vms_world.specs.Common.{IsOpening, mark_sets_at, threshold_sets_at, mark_sets_after, pages, sets_after}
+use Rattle.vms_world.specs.Common.{most_sets, HasWon, Item, Lane, PageSteps, page_facts}
+use Rattle.vms_history.proofs.Common.{after-append, prefix_is_legal}
+use Rattle.vms_core.specs.Pages.{History, IsLegal, state_after}
+use Rattle.vms_core.proofs.Common.{mark_sets_at-newest, sets-newest}
+use Rattle.vms_calls.proofs.Common.{Each, OfFolds, OfLooks}
 use Rattle.vms_world.specs.declared.worlds.World.{World}
-use Rattle.vms_world.specs.Acts.{PageSteps}
-use Rattle.vms_world.specs.Worlds.{page_facts}
-use Rattle.vms_file_order.specs.FileOrder.{GoesOnWithLine, StandsOpen}
-use Rattle.vms_file_order.specs.LanePasses.{pass_of}
-use Rattle.vms_file_order.specs.Tables.{page_passes}
-use Rattle.vms_plain_ratings.specs.SetCounts.{SetAtMost, SetsAtMost}
-use Rattle.vms_plain_lines.specs.SetLines.{SetByLines}
-use Rattle.vms_plain_lines.specs.SparedPeaks.{SparesPeaks}
+use Rattle.vms_file_order.specs.Common.{GoesOnWithLine, StandsOpen, pass_of, page_passes}
+use Rattle.vms_plain_control.specs.Common.{SetAtMost, SetsEachAtMost}
+use Rattle.vms_plain_lines.specs.Common.{SetByLines, SparesPeaks}
 use Rattle.vms_plain_lines.proofs.LineSteps.{OfChanges, act-each}
 
 -- a step that sets no threshold and no mark
@@ -148,7 +128,7 @@ module _ (shape : Shape) where
     one-more = length-append items (item ∷ [])
 
     -- a line of a call that sets each at most twice
-    pub SetByLines-call : (times : ℕ) → times ≤ 2 → (now next : State) → SetsAtMost shape times now next
+    pub SetByLines-call : (times : ℕ) → times ≤ 2 → (now next : State) → SetsEachAtMost shape times now next
         → SetByLines shape items now → SetByLines shape (items ++ item ∷ []) next
     SetByLines-call times twice now next sets few =
         let more : times + 2 * length items ≤ 2 * length (items ++ item ∷ []) = omega (arith, one-more, twice) in

@@ -1,35 +1,21 @@
 -- In an open phase each CPU has spent what its lines so far say.
 use Rattle.std.proofs.Common.{◌≡◌, ℕ, ◌≤◌, List, map}
-use Rattle.vms_base.specs.declared.headers.Header.{Header}
-use Rattle.vms_base.specs.declared.ids.CpuId.{CpuId}
-use Rattle.vms_base.specs.declared.kinds.ZoneSize.{ZoneSize}
-use Rattle.vms_history.proofs.Prefixes.{base_can_begin}
-use Rattle.vms_core.specs.Pages.{pages}
+use Rattle.vms_world.specs.Common.{Header, CpuId, ZoneSize, pages, HasWon, line_of, spent_on_counter, spent_on_event}
+use Rattle.vms_world.specs.Common.{spent_on_pcpu, volume, Item, Lane, Cpu, PageSteps, TableHistories, page_facts}
+use Rattle.vms_world.specs.Common.{event_facts, pcpu_facts}
+use Rattle.vms_history.proofs.Common.{base_can_begin}
 use Rattle.vms_core.specs.Totals as page_totals
 use Rattle.vms_event_core.specs.Totals as event_totals
 use Rattle.vms_pcpu_core.specs.Totals as pcpu_totals
-use Rattle.vms_calls.specs.Changes.{HasWon}
-use Rattle.vms_script.specs.Totals.{line_of}
-use Rattle.vms_script.specs.Volumes.{spent_on_counter, spent_on_event, spent_on_pcpu, volume}
-use Rattle.vms_text.specs.declared.acts.Item.{Item}
-use Rattle.vms_text.specs.declared.acts.Lane.{Lane}
-use Rattle.vms_text.specs.declared.acts.Lane.TheVariants.{Cpu}
 use Rattle.vms_world.specs.declared.worlds.World.{World}
-use Rattle.vms_world.specs.Acts.{PageSteps}
-use Rattle.vms_world.specs.Phases.{Histories}
-use Rattle.vms_world.specs.Worlds.{page_facts, event_facts, pcpu_facts}
-use Rattle.vms_file_order.specs.LanePasses.{StandOnce}
-use Rattle.vms_file_order.specs.OpenPhases.{IsOpenPhase, TableStates}
-use Rattle.vms_file_order.specs.Tables.{FindsLockFree, MeetsNobody, event_makes, event_passes, page_passes, pcpu_makes}
-use Rattle.vms_file_order.specs.Tables.{pcpu_passes}
-use Rattle.vms_file_order.proofs.EventVolumes.{events-spend_lines}
-use Rattle.vms_file_order.proofs.FollowedLines.{HasLanes-followed, MakesActs-followed, acts_of-followed}
-use Rattle.vms_file_order.proofs.PageVolumes.{pages-spend_lines}
-use Rattle.vms_file_order.proofs.PcpuVolumes.{pcpu-spend_lines}
-use Rattle.vms_plain_lines.specs.CallLaws.{PageCallers}
+use Rattle.vms_file_order.specs.Common.{StandOnce, IsOpenPhase, TableStates, FindsLockFree, MeetsNobody, event_makes}
+use Rattle.vms_file_order.specs.Common.{event_passes, page_passes, pcpu_makes, pcpu_passes}
+use Rattle.vms_file_order.proofs.Common.{events-spend_lines, HasLanes-followed, MakesActs-followed, acts_of-followed}
+use Rattle.vms_file_order.proofs.Common.{pages-spend_lines, pcpu-spend_lines}
+use Rattle.vms_plain_lines.specs.Common.{PageCallers}
 
 module _ (pressure normal : ZoneSize → ℕ → ℕ → Type 0) (header : Header) (w : World) (lanes : List Lane)
-    (items : List Item) (hs : Histories) (now : TableStates) (once : StandOnce lanes)
+    (items : List Item) (hs : TableHistories) (now : TableStates) (once : StandOnce lanes)
     (opened : IsOpenPhase header pressure normal w lanes items hs now) where
   pub spent-pages : PageCallers → (c : CpuId) (k : ℕ)
       → page_totals.spent hs.pages c.number k ≡ volume (spent_on_counter k) c.number (map line_of items)

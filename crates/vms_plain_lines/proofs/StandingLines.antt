@@ -1,26 +1,15 @@
 -- For other crates too: plain tables stand where a phase opens, and with one line more.
 use Rattle.std.proofs.Common.{◌≡◌, ℕ, suc, true, List, [], ◌∷◌, ◌++◌, Option, refl, sym, ◌∙◌}
 use Rattle.std.specs.Prelude.{All}
-use Rattle.vms_base.specs.declared.headers.Header.{Header}
-use Rattle.vms_base.specs.declared.kinds.ZoneSize.{ZoneSize}
-use Rattle.vms_base.specs.Cpus.{MayOwnCpu}
-use Rattle.vms_history.specs.Events.{after}
-use Rattle.vms_core.specs.declared.steps.Facts.{Facts}
+use Rattle.vms_world.specs.Common.{Header, ZoneSize, MayOwnCpu, after, Facts, peak, Item, Lane, is_among, owner_of}
+use Rattle.vms_world.specs.Common.{TableHistories, IsWorldOf, page_facts}
 use Rattle.vms_core.specs.Pages.{History}
-use Rattle.vms_core.specs.Peaks.{peak}
-use Rattle.vms_text.specs.declared.acts.Item.{Item}
-use Rattle.vms_text.specs.declared.acts.Lane.{Lane}
 use Rattle.vms_world.specs.declared.worlds.World.{World}
-use Rattle.vms_world.specs.Lanes.{is_among, owner_of}
-use Rattle.vms_world.specs.Phases.{Histories}
-use Rattle.vms_world.specs.Worlds.{IsWorldOf, page_facts}
-use Rattle.vms_file_order.specs.LanePasses.{StandOnce, begins_from}
-use Rattle.vms_file_order.specs.OpenPhases.{openings_of, with_line}
-use Rattle.vms_file_order.specs.Tables.{page_passes}
-use Rattle.vms_file_order.proofs.OpenPhases.{IsOpenPhase-line, IsOpenPhase-opening}
-use Rattle.vms_answers.specs.Answers.{Answer}
-use Rattle.vms_plain_ratings.specs.KnownPeaks.{KnowsPeaks}
-use Rattle.vms_plain_lines.specs.PlainStates.{GoesOnTelling, PlainStates, Stands, in_tables}
+use Rattle.vms_file_order.specs.Common.{StandOnce, begins_from, openings_of, histories_with_line, page_passes}
+use Rattle.vms_file_order.proofs.Common.{IsOpenPhase-line, IsOpenPhase-opening}
+use Rattle.vms_answers.specs.declared.answers.Answer.{Answer}
+use Rattle.vms_plain_control.specs.Common.{KnowsPeaks}
+use Rattle.vms_plain_lines.specs.Common.{GoesOnTelling, PlainStates, StandsInPhase, in_tables}
 
 -- the beginning of a pass moves no peak
 peak-begins : (facts : Facts) (c g m : ℕ) (ls : List Lane) (h : History)
@@ -30,17 +19,17 @@ peak-begins facts c g m (l ∷ ls) h =
     peak-begins facts c g (suc m) ls (record { caller = 0; step = page_passes.begin m (owner_of l) } ∷ h)
 
 module _ (pressure normal : ZoneSize → ℕ → ℕ → Type 0) (header : Header) (w : World) (lanes : List Lane) where
-  pub Stands-opening : IsWorldOf header w → StandOnce lanes
+  pub StandsInPhase-opening : IsWorldOf header w → StandOnce lanes
       → All (λ lane. MayOwnCpu header.layout w.pages.cpu (owner_of lane)) lanes → (peaks : List ℕ)
       → KnowsPeaks (page_facts header w) [] peaks
-      → Stands header pressure normal w lanes [] (openings_of lanes) (record {
+      → StandsInPhase header pressure normal w lanes [] (openings_of lanes) (record {
         pages = w.pages;
         events = w.events;
         counters = w.counters;
         peaks = peaks;
         opening = w.pages.cpu;
       })
-  Stands-opening of once may peaks knows = record {
+  StandsInPhase-opening of once may peaks knows = record {
     opened = IsOpenPhase-opening pressure normal header w lanes of once may;
     once = once;
     peaks = record {
@@ -50,13 +39,13 @@ module _ (pressure normal : ZoneSize → ℕ → ℕ → Type 0) (header : Heade
     opening = refl;
   }
 
-  pub Stands-line : (items : List Item) (hs : Histories) (now : PlainStates)
-      → Stands header pressure normal w lanes items hs now → (item : Item) → is_among item.lane lanes ≡ true
+  pub StandsInPhase-line : (items : List Item) (hs : TableHistories) (now : PlainStates)
+      → StandsInPhase header pressure normal w lanes items hs now → (item : Item) → is_among item.lane lanes ≡ true
       → (next : PlainStates) (answer : Option Answer)
       → (told : GoesOnTelling header pressure normal w lanes item hs next answer)
-      → Stands header pressure normal w lanes (items ++ item ∷ [])
-      (with_line header pressure normal w lanes item hs (in_tables next) told.line) next
-  Stands-line items hs now stands item among next answer told = record {
+      → StandsInPhase header pressure normal w lanes (items ++ item ∷ [])
+      (histories_with_line header pressure normal w lanes item hs (in_tables next) told.line) next
+  StandsInPhase-line items hs now stands item among next answer told = record {
     opened = IsOpenPhase-line pressure normal header w lanes items hs (in_tables now) stands.opened item
         (in_tables next) among told.line;
     once = stands.once;

@@ -2,25 +2,13 @@
 use Rattle.std.proofs.Common.{ℕ, zero, suc, Bool, true, false, ℤ, pos, negsuc, List, [], ◌∷◌, ◌++◌, sym, subst}
 use Rattle.std.specs.Prelude.{All}
 use Rattle.std.proofs.lemmas.List.Elements.{All-append, All-cons, All-nil}
-use Rattle.vms_base.specs.declared.groups.Diffs.{Diffs}
-use Rattle.vms_base.specs.declared.headers.Header.{Header}
-use Rattle.vms_base.specs.declared.ids.CounterId.{CounterId}
-use Rattle.vms_base.specs.declared.ids.CpuId.{CpuId}
-use Rattle.vms_base.specs.declared.ids.ItemId.{ItemId}
-use Rattle.vms_base.specs.declared.ids.PlaceId.{PlaceId}
+use Rattle.vms_world.specs.Common.{Diffs, Header, CounterId, CpuId, ItemId, PlaceId, WaterMark, Shape, counter_at}
+use Rattle.vms_world.specs.Common.{first_of_group, group_of, item_count, Step, AddG, AddS, LoadD, LoadG, LoadM, LoadO}
+use Rattle.vms_world.specs.Common.{LoadS, LoadT, SetA, Take, HasWon, FoundPlace, IsFold, acknowledges, group_steps}
+use Rattle.vms_world.specs.Common.{lists_of, place_steps, system_steps, taken_of_item, to_place, to_system, in_turn}
+use Rattle.vms_world.specs.Common.{Verdict, Frees, IsPlaceValue, IsSnapshot, IsSystemValue, IsWatermarkTest, Look}
+use Rattle.vms_world.specs.Common.{free_pages, is_doubtful, look_steps, online, other}
 use Rattle.vms_base.specs.declared.kinds.CpuState.TheVariants.{Online}
-use Rattle.vms_base.specs.declared.kinds.WaterMark.{WaterMark}
-use Rattle.vms_base.specs.Places.{Shape, counter_at, first_of, group_of, item_count}
-use Rattle.vms_core.specs.declared.steps.Step.{Step}
-use Rattle.vms_core.specs.declared.steps.Step.TheVariants.{AddG, AddS, LoadD, LoadG, LoadM, LoadO, LoadS, LoadT, SetA}
-use Rattle.vms_core.specs.declared.steps.Step.TheVariants.{Take}
-use Rattle.vms_calls.specs.Changes.{HasWon}
-use Rattle.vms_calls.specs.Folds.{FoundPlace, IsFold, acknowledges, group_steps, lists_of, place_steps, system_steps}
-use Rattle.vms_calls.specs.Folds.{taken_of_item, to_place, to_system}
-use Rattle.vms_calls.specs.Lists.{in_turn}
-use Rattle.vms_calls.specs.Looks.{Frees, IsPlaceValue, IsSnapshot, IsSystemValue, IsWatermarkTest, Look, Verdict}
-use Rattle.vms_calls.specs.Looks.{free_pages, is_doubtful, look_steps}
-use Rattle.vms_calls.specs.Looks.Look.{online, other}
 
 abbrev AllWon : List Step → Type 0
 AllWon steps = All HasWon steps
@@ -85,8 +73,8 @@ won-to_system i (pos (suc n)) = won-first (AddS (record { number = i }) (pos (su
 won-to_system i (negsuc n) = won-first (AddS (record { number = i }) (negsuc n)) [] tt (All-nil HasWon)
 
 won-group : (c : CpuId) (j : ℕ) (w : Diffs) → AllWon (group_steps c j w)
-won-group c j w = won-first (Take c (record { number = j }) w) (in_turn to_place (first_of j) w.values) tt
-    (won-in_turn to_place won-to_place (first_of j) w.values)
+won-group c j w = won-first (Take c (record { number = j }) w) (in_turn to_place (first_of_group j) w.values) tt
+    (won-in_turn to_place won-to_place (first_of_group j) w.values)
 
 won-place : (shape : Shape) (acknowledged : Bool) (c : CpuId) (g : ℕ) (found : FoundPlace)
     → AllWon (place_steps shape acknowledged c g found)

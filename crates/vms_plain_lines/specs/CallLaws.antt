@@ -1,26 +1,13 @@
 -- The laws of calls by which lines go on.
-use Rattle.std.specs.Prelude.{◌≡◌, ℕ, Bool, List, ◌++◌, length}
-use Rattle.vms_base.specs.declared.headers.Header.{Header}
-use Rattle.vms_base.specs.declared.ids.CounterId.{CounterId}
-use Rattle.vms_base.specs.declared.ids.CpuId.{CpuId}
-use Rattle.vms_base.specs.declared.ids.EventId.{EventId}
-use Rattle.vms_base.specs.declared.ids.ItemId.{ItemId}
-use Rattle.vms_base.specs.declared.ids.PlaceId.{PlaceId}
-use Rattle.vms_base.specs.declared.kinds.WaterMark.{WaterMark}
-use Rattle.vms_base.specs.Places.{Shape, IsLayout}
-use Rattle.vms_calls.specs.CallerLaws.{ChangesLeave, Leaves}
-use Rattle.vms_calls.specs.ChangeReadings.{TellsChange}
-use Rattle.vms_calls.specs.FoldReadings.{TellsFold}
-use Rattle.vms_calls.specs.Folds.{IsFold}
-use Rattle.vms_calls.specs.LoneChanges.{GoesOnWithChange}
-use Rattle.vms_calls.specs.LookReadings.{TellsPlaceValue, TellsSnapshot, TellsSystemValue, TellsTest}
-use Rattle.vms_calls.specs.Looks.{IsPlaceValue, IsSnapshot, IsSystemValue, IsWatermarkTest, Verdict}
-use Rattle.vms_calls.specs.MayCall.{MakesFold, MakesPlaceValue, MakesSnapshot, MakesSystemValue, MakesTest}
-use Rattle.vms_event_core.specs.declared.steps.EventStep.{EventStep}
-use Rattle.vms_event_core.specs.CallLaws.{CarryAsBefore, MakesAllEvents, MakesCount, MakesFoldEvents}
-use Rattle.vms_event_core.specs.Calls.{IsAllEvents, IsCount, IsFoldEvents, read_all_events, read_count}
-use Rattle.vms_event_core.specs.Calls.{read_fold_events}
-use Rattle.vms_event_core.specs.Words.{event_count}
+use Rattle.std.specs.Prelude.{◌≡◌, ℕ, Bool, List, ◌++◌}
+use Rattle.vms_world.specs.Common.{Header, CounterId, CpuId, ItemId, PlaceId, WaterMark, Shape, IsLayout, ChangesLeave}
+use Rattle.vms_world.specs.Common.{Leaves, TellsChange, TellsFold, IsFold, GoesOnWithChange, TellsPlaceValue}
+use Rattle.vms_world.specs.Common.{TellsSnapshot, TellsSystemValue, TellsTest, Verdict, IsPlaceValue, IsSnapshot}
+use Rattle.vms_world.specs.Common.{IsSystemValue, IsWatermarkTest, MakesFold, MakesPlaceValue, MakesSnapshot}
+use Rattle.vms_world.specs.Common.{MakesSystemValue, MakesTest, EventAnswer, EventCall, EventFacts, EventStep}
+use Rattle.vms_world.specs.Common.{CarryAsBefore, IsEventCall, read_event_call}
+use Rattle.vms_event_core.specs.CallLaws.{MayCall, MayMake}
+use Rattle.vms_event_core.specs.Events.{History}
 
 -- the calls that look at page counters and those that fold may be made, and leave what their caller carries
 pub record PageCalls : Type 0 where
@@ -59,19 +46,11 @@ pub record PageLaws : Type 0 where
   pub leave : PageCallers
   pub tell : PageReadings
 
--- the same of a count of an event, of a sum and of a fold
+-- the same of the calls on event counters
 pub record EventLaws : Type 0 where
-  pub may_count : MakesCount
-  pub may_sum : MakesAllEvents
-  pub count_carries : (k : EventId) (n : ℕ) (steps : List EventStep) → IsCount k n steps → CarryAsBefore steps
-  pub sum_carries : (cpus : List CpuId) (k : EventId) (found : List ℕ) (steps : List EventStep) (answer : ℕ)
-      → IsAllEvents cpus k found steps answer → CarryAsBefore steps
-  pub may_fold : MakesFoldEvents
-  pub fold_carries : (from into : CpuId) (found : List ℕ) (steps : List EventStep) → IsFoldEvents from into found steps
-      → CarryAsBefore steps
-  pub count_told : (k : EventId) (n : ℕ) (steps rest : List EventStep) → IsCount k n steps
-      → read_count (steps ++ rest) ≡ (tt, rest)
-  pub sum_told : (cpus : List CpuId) (k : EventId) (found : List ℕ) (steps rest : List EventStep) (answer : ℕ)
-      → IsAllEvents cpus k found steps answer → read_all_events (length cpus) (steps ++ rest) ≡ (answer, rest)
-  pub fold_told : (from into : CpuId) (found : List ℕ) (steps rest : List EventStep)
-      → IsFoldEvents from into found steps → read_fold_events event_count (steps ++ rest) ≡ (found, rest)
+  pub may : (facts : EventFacts) (h : History) (p : ℕ) (call : EventCall) (steps : List EventStep)
+      (answer : EventAnswer) → MayCall facts h p call → IsEventCall facts call steps answer → MayMake facts p h steps
+  pub carry : (facts : EventFacts) (call : EventCall) (steps : List EventStep) (answer : EventAnswer)
+      → IsEventCall facts call steps answer → CarryAsBefore steps
+  pub tell : (facts : EventFacts) (call : EventCall) (steps rest : List EventStep) (answer : EventAnswer)
+      → IsEventCall facts call steps answer → read_event_call facts call (steps ++ rest) ≡ (answer, rest)

@@ -2,8 +2,9 @@ pub mod PageActs
 pub mod NextLines
 pub mod SparedPeaks
 pub mod PlainStates
+pub mod EventRooms
 pub mod CallLaws
-pub mod SpentAmounts
 pub mod Rooms
 pub mod ControlLines
 pub mod SetLines
+pub mod Common

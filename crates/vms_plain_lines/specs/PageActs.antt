@@ -1,11 +1,9 @@
 -- The acts that concern the page counters, by group.
 use Rattle.std.specs.Prelude.{ℤ, pos, negsuc}
-use Rattle.vms_base.specs.declared.ids.CounterId.{CounterId}
-use Rattle.vms_base.specs.declared.kinds.Mode.{Mode}
+use Rattle.vms_world.specs.Common.{CounterId, Mode, Shape, IsCounter, IsCpu, IsItem, IsZone, Act, Fold, Water, Val}
+use Rattle.vms_world.specs.Common.{Snap, Sys}
 use Rattle.vms_base.specs.declared.kinds.Mode.TheVariants.{Mod as Modify, Inc as Raise, Dec as Lower}
-use Rattle.vms_base.specs.Places.{Shape, IsCounter, IsCpu, IsItem, IsZone}
-use Rattle.vms_text.specs.declared.acts.Act.{Act}
-use Rattle.vms_text.specs.declared.acts.Act.TheVariants.{Mod, Inc, Dec, Fold, Water, Val, Snap, Sys}
+use Rattle.vms_text.specs.declared.acts.Act.TheVariants.{Mod, Inc, Dec}
 
 -- an act changes a counter by so many pages, in a mode
 pub data IsChangeAct : Act → CounterId → ℤ → Mode → Type 0 where

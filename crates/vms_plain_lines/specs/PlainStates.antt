@@ -1,23 +1,13 @@
 -- The plain tables, where they stand in an open phase, and how a line that is made on them goes on there.
 use Rattle.std.specs.Prelude.{◌≡◌, ℕ, true, List, Option}
-use Rattle.vms_base.specs.declared.headers.Header.{Header}
-use Rattle.vms_base.specs.declared.kinds.CpuState.{CpuState}
-use Rattle.vms_base.specs.declared.kinds.ZoneSize.{ZoneSize}
-use Rattle.vms_core.specs.declared.states.State.{State}
-use Rattle.vms_event_core.specs.declared.states.EventState.{EventState}
-use Rattle.vms_pcpu_core.specs.declared.states.PcpuState.{PcpuState}
-use Rattle.vms_text.specs.declared.acts.Item.{Item}
-use Rattle.vms_text.specs.declared.acts.Lane.{Lane}
+use Rattle.vms_world.specs.Common.{Header, CpuState, ZoneSize, State, EventState, PcpuState, Item, Lane, is_among}
+use Rattle.vms_world.specs.Common.{TableHistories, page_facts}
 use Rattle.vms_world.specs.declared.worlds.World.{World}
-use Rattle.vms_world.specs.Lanes.{is_among}
-use Rattle.vms_world.specs.Phases.{Histories}
-use Rattle.vms_world.specs.Worlds.{page_facts}
-use Rattle.vms_file_order.specs.LanePasses.{StandOnce}
-use Rattle.vms_file_order.specs.OpenPhases.{GoesOnInTables, IsOpenPhase, TableStates, with_line}
-use Rattle.vms_answers.specs.Answers.{Answer, Tell}
-use Rattle.vms_answers.specs.OpenAnswers.{steps_of_line}
-use Rattle.vms_plain_pcpu.specs.FreeLocks.{under_free_locks}
-use Rattle.vms_plain_ratings.specs.KnownPeaks.{KnowsPeaks}
+use Rattle.vms_file_order.specs.Common.{StandOnce, GoesOnInTables, IsOpenPhase, TableStates, histories_with_line}
+use Rattle.vms_answers.specs.declared.answers.Answer.{Answer}
+use Rattle.vms_answers.specs.Common.{Tell, steps_of_line}
+use Rattle.vms_plain_pcpu.specs.Common.{under_free_locks}
+use Rattle.vms_plain_control.specs.Common.{KnowsPeaks}
 
 -- the counters of the three tables, the largest thresholds that CPUs may still be using, and the states of the CPUs
 -- with which the phase began
@@ -38,8 +28,8 @@ in_tables states = record {
 
 -- lines have come to these plain tables in an open phase, of whose lanes each stands once: the peaks are those of the
 -- history, and the phase began with CPUs in these states
-pub record Stands (header : Header) (pressure normal : ZoneSize → ℕ → ℕ → Type 0) (w : World) (lanes : List Lane)
-    (items : List Item) (hs : Histories) (now : PlainStates) : Type 0 where
+pub record StandsInPhase (header : Header) (pressure normal : ZoneSize → ℕ → ℕ → Type 0) (w : World) (lanes : List Lane)
+    (items : List Item) (hs : TableHistories) (now : PlainStates) : Type 0 where
   pub opened : IsOpenPhase header pressure normal w lanes items hs (in_tables now)
   pub once : StandOnce lanes
   pub peaks : KnowsPeaks (page_facts header w) hs.pages now.peaks
@@ -48,24 +38,25 @@ pub record Stands (header : Header) (pressure normal : ZoneSize → ℕ → ℕ 
 -- a line goes on from these histories to these plain tables, which know the peaks after it, and its steps tell this
 -- answer, or none
 pub record GoesOnTelling (header : Header) (pressure normal : ZoneSize → ℕ → ℕ → Type 0) (w : World)
-    (lanes : List Lane) (item : Item) (hs : Histories) (next : PlainStates) (answer : Option Answer) : Type 0 where
+    (lanes : List Lane) (item : Item) (hs : TableHistories) (next : PlainStates) (answer : Option Answer) : Type 0 where
   pub line : GoesOnInTables header pressure normal w lanes item hs (in_tables next)
   pub peaks : KnowsPeaks (page_facts header w)
-      (with_line header pressure normal w lanes item hs (in_tables next) line).pages next.peaks
+      (histories_with_line header pressure normal w lanes item hs (in_tables next) line).pages next.peaks
   pub opening : next.opening ≡ w.pages.cpu
   pub tells : Tell header w item.lane item.act
       (steps_of_line header pressure normal w lanes item hs (in_tables next) line) answer
 
 -- wherever this line stands next in an open phase with these plain tables, after lines that leave room for it, it goes
 -- on to those and tells this answer
-abbrev pub GoesOn : Header → (pressure normal : ZoneSize → ℕ → ℕ → Type 0) → Item → (List Item → Type 0) → PlainStates
+abbrev pub GoesOnIf : Header → (pressure normal : ZoneSize → ℕ → ℕ → Type 0) → Item → (List Item → Type 0) → PlainStates
     → PlainStates → Option Answer → Type 0
-GoesOn header pressure normal item LeaveRoom now next answer = (w : World) (lanes : List Lane) (items : List Item)
-    (hs : Histories) → Stands header pressure normal w lanes items hs now → is_among item.lane lanes ≡ true →
+GoesOnIf header pressure normal item LeaveRoom now next answer = (w : World) (lanes : List Lane) (items : List Item)
+    (hs : TableHistories) → StandsInPhase header pressure normal w lanes items hs now →
+    is_among item.lane lanes ≡ true →
     LeaveRoom items → GoesOnTelling header pressure normal w lanes item hs next answer
 
 -- the same of a line that needs no room
 abbrev pub GoesOnAlways : Header → (pressure normal : ZoneSize → ℕ → ℕ → Type 0) → Item → PlainStates → PlainStates
     → Option Answer → Type 0
 GoesOnAlways header pressure normal item now next answer =
-    GoesOn header pressure normal item (λ items. Unit {0}) now next answer
+    GoesOnIf header pressure normal item (λ items. Unit {0}) now next answer

@@ -1,31 +1,23 @@
 -- What leaves room for the calls on plain tables.
 use Rattle.std.specs.Prelude.{◌≡◌, ℕ, ◌^◌, ◌<◌, ◌≤◌, true, List, length}
-use Rattle.vms_base.specs.declared.headers.Header.{Header}
-use Rattle.vms_base.specs.declared.ids.CpuId.{CpuId}
+use Rattle.vms_world.specs.Common.{Header, CpuId, HasOnline, is_present, online_from, state_at, IsCpu, cpu_at, sum_over}
+use Rattle.vms_world.specs.Common.{IsEvent, word_at, Lane, Cpu, is_among}
 use Rattle.vms_base.specs.declared.kinds.CpuState.TheVariants.{Dead, Online}
-use Rattle.vms_base.specs.Cpus.{HasOnline, is_present, online_from, state_at}
-use Rattle.vms_base.specs.Places.{IsCpu}
-use Rattle.vms_core.specs.Cells.{cpu_at}
-use Rattle.vms_event_core.specs.Calls.{sum_over}
-use Rattle.vms_event_core.specs.Words.{IsEvent, word_at}
 use Rattle.vms_pcpu_core.specs.States.{counters_of}
-use Rattle.vms_text.specs.declared.acts.Lane.{Lane}
-use Rattle.vms_text.specs.declared.acts.Lane.TheVariants.{Cpu}
-use Rattle.vms_world.specs.Lanes.{is_among}
-use Rattle.vms_plain_events.specs.PlainWords.{HasWords}
+use Rattle.vms_plain_events.specs.Common.{HasWords}
 use Rattle.vms_plain_lines.specs.PlainStates.{PlainStates}
-use Rattle.vms_plain_pages.specs.Alone.{HasRoom}
-use Rattle.vms_plain_pcpu.specs.Numbers.{HasLocals, HasRoomFor}
+use Rattle.vms_plain_pages.specs.Common.{IsSmallState}
+use Rattle.vms_plain_pcpu.specs.Common.{HasLocals, HasRoomFor}
 
 -- the lists are those of the header and their numbers are small, and the CPUs of these lanes are online, as they were
 -- when the phase began
-pub record LeavesRoom (header : Header) (lanes : List Lane) (now : PlainStates) : Type 0 where
-  pub pages : HasRoom header.layout (2 ^ 61) now.pages
+pub record LeavesRoomForLanes (header : Header) (lanes : List Lane) (now : PlainStates) : Type 0 where
+  pub pages : IsSmallState header.layout (2 ^ 61) now.pages
   pub owners : (cpu : CpuId) → is_among (Cpu cpu) lanes ≡ true →
       IsCpu header.layout cpu.number × (cpu_at now.pages cpu.number ≡ Online)
   pub events : (n : ℕ) → n ≤ header.layout.cpus → HasWords now.events n
   pub words : (c k : ℕ) → IsCpu header.layout c → IsEvent k → word_at now.events c k < 2 ^ 62
-  pub sums : (k : ℕ) → IsEvent k → sum_over now.events k (online_from 0 now.pages.cpu) < 2 ^ 62
+  pub sums : (k : ℕ) → IsEvent k → sum_over now.events k (online_from 0 now.opening) < 2 ^ 62
   pub counters : (j : ℕ) → j < length header.counters → HasRoomFor now.counters j
   pub one_batch_each : counters_of now.counters ≡ length header.counters
   pub locals : (n : ℕ) → n ≤ header.layout.cpus → HasLocals now.counters n

@@ -1,33 +1,25 @@
 use crate::PlainTables;
 use crate::laws::event_laws;
-use vms_base::{CpuId, CpuState, Header, PlaceId};
+use vms_base::{CpuId, Header, PlaceId};
 use vms_calc::{Rule, Rules};
-use vms_plain_pages::Balance;
+use vms_calls::Balance;
+use vms_event_core::EventCall;
 
 impl PlainTables {
-    ghost use Rattle.std.specs.Prelude.{◌≡◌, ◌≢◌, ℕ, ◌+◌, ◌-◌, ◌<◌, ◌≤◌, ◌^◌, List, length, false, Some, None};
-    ghost use Rattle.vms_base.specs.declared.ids.CpuId.{CpuId};
-    ghost use Rattle.vms_base.specs.declared.kinds.CpuState.TheVariants.{Absent, Dead as DeadCpu, Online};
-    ghost use Rattle.vms_base.specs.Cpus.{HasOnline, state_at};
-    ghost use Rattle.vms_base.specs.Headers.{IsHeader};
-    ghost use Rattle.vms_base.specs.Places.{IsCpu, IsNode};
-    ghost use Rattle.vms_core.specs.declared.states.State.{State};
-    ghost use Rattle.vms_core.specs.Cells.{HasShape, cpu_at, with_cpu};
-    ghost use Rattle.vms_core.specs.Plain.{most_sets};
-    ghost use Rattle.vms_event_core.specs.Words.{IsEvent, word_at};
+    ghost use Rattle.std.specs.Prelude.{◌≡◌, ◌≢◌, ℕ, ◌+◌, ◌-◌, ◌<◌, ◌≤◌, ◌^◌, length, false, Some, None};
+    ghost use Rattle.vms_world.specs.Common.{CpuId, Absent, HasOnline, state_at, IsHeader, IsCpu, IsNode, State};
+    ghost use Rattle.vms_world.specs.Common.{cpu_at, with_cpu, most_sets, IsEvent, word_at, Kswapd, Normal, Pressure};
+    ghost use Rattle.vms_world.specs.Common.{Item, Control};
+    ghost use Rattle.vms_base.specs.declared.kinds.CpuState.TheVariants.{Dead as DeadCpu, Online};
+    ghost use Rattle.vms_core.specs.Cells.{HasShape};
     ghost use Rattle.vms_pcpu_core.specs.States.{counters_of};
-    ghost use Rattle.vms_answers.specs.Answers.Answer.{Balanced};
-    ghost use Rattle.vms_plain_events.specs.PlainWords.{HasWords, MovesWords};
+    ghost use Rattle.vms_answers.specs.declared.answers.Answer.TheVariants.{Balanced};
+    ghost use Rattle.vms_plain_events.specs.Common.{HasWords, MovesWords};
     ghost use Rattle.vms_plain_lines.specs.PlainStates.{GoesOnAlways};
-    ghost use Rattle.vms_plain_pages.specs.Alone.{HasRoom};
-    ghost use Rattle.vms_plain_pages.specs.Balances.{balance_at, balance_told};
-    ghost use Rattle.vms_plain_pages.specs.Folding.{FoldsCpu};
-    ghost use Rattle.vms_plain_pcpu.specs.Numbers.{HasLocals, HasRoomFor, MovesLocals};
-    ghost use Rattle.vms_plain_ratings.specs.KnownPeaks.{IsFull};
-    ghost use Rattle.vms_plain_ratings.specs.SetCounts.{SetAtMost, SetsAtMost, SetsOnly};
-    ghost use Rattle.vms_text.specs.declared.acts.Act.TheVariants.{Dead, Kswapd, Normal, Pressure};
-    ghost use Rattle.vms_text.specs.declared.acts.Item.{Item};
-    ghost use Rattle.vms_text.specs.declared.acts.Lane.TheVariants.{Control};
+    ghost use Rattle.vms_plain_pages.specs.Common.{IsSmallState, balance_at, FoldsCpu};
+    ghost use Rattle.vms_plain_pcpu.specs.Common.{HasLocals, HasRoomFor, MovesLocals};
+    ghost use Rattle.vms_plain_control.specs.Common.{HasAllPeaks, SetAtMost, SetsEachAtMost, SetsOnly};
+    ghost use Rattle.vms_text.specs.declared.acts.Act.TheVariants.{Dead};
 
     /// Sets the pressure thresholds of a node's zones, with marks that cover them (`set_pgdat_percpu_threshold` of
     /// mm/vmstat.c with `calculate_pressure_threshold`).
@@ -39,19 +31,19 @@ impl PlainTables {
     )
         requires header { IsHeader header.now }
         requires shaped { HasShape header.now.layout self.old.pages }
-        requires full { IsFull header.now.layout self.old.peaks }
+        requires full { HasAllPeaks header.now.layout self.old.peaks }
         requires some_online { HasOnline header.now.layout self.old.pages.cpu }
         requires room { SetAtMost header.now.layout (most_sets - 1) self.old.pages }
         requires node { IsNode header.now.layout node.number }
         ensures rest { SetsOnly self.old.pages self.new.pages }
         ensures after { self.new ≡ record self.old { pages = self.new.pages; peaks = self.new.peaks } }
-        ensures sets { SetsAtMost header.now.layout 1 self.old.pages self.new.pages }
-        ensures full { IsFull header.now.layout self.new.peaks }
+        ensures sets { SetsEachAtMost header.now.layout 1 self.old.pages self.new.pages }
+        ensures full { HasAllPeaks header.now.layout self.new.peaks }
         ensures goes_on { (item : Item) → item.lane ≡ Control → item.act ≡ Pressure node →
             GoesOnAlways header.now (P.answers rules.now.pressure) (N.answers rules.now.normal) item self.old self.new
             None }
     {
-        vms_plain_ratings::set_pressure(&mut self.pages, &mut self.peaks, header, rules, node);
+        vms_plain_control::set_pressure(&mut self.pages, &mut self.peaks, header, rules, node);
     }
 
     /// Sets the normal thresholds of a node's zones again (`set_pgdat_percpu_threshold` of mm/vmstat.c with
@@ -64,19 +56,19 @@ impl PlainTables {
     )
         requires header { IsHeader header.now }
         requires shaped { HasShape header.now.layout self.old.pages }
-        requires full { IsFull header.now.layout self.old.peaks }
+        requires full { HasAllPeaks header.now.layout self.old.peaks }
         requires some_online { HasOnline header.now.layout self.old.pages.cpu }
         requires room { SetAtMost header.now.layout (most_sets - 1) self.old.pages }
         requires node { IsNode header.now.layout node.number }
         ensures rest { SetsOnly self.old.pages self.new.pages }
         ensures after { self.new ≡ record self.old { pages = self.new.pages; peaks = self.new.peaks } }
-        ensures sets { SetsAtMost header.now.layout 1 self.old.pages self.new.pages }
-        ensures full { IsFull header.now.layout self.new.peaks }
+        ensures sets { SetsEachAtMost header.now.layout 1 self.old.pages self.new.pages }
+        ensures full { HasAllPeaks header.now.layout self.new.peaks }
         ensures goes_on { (item : Item) → item.lane ≡ Control → item.act ≡ Normal node →
             GoesOnAlways header.now (P.answers rules.now.pressure) (N.answers rules.now.normal) item self.old self.new
             None }
     {
-        vms_plain_ratings::set_normal(&mut self.pages, &mut self.peaks, header, rules, node);
+        vms_plain_control::set_normal(&mut self.pages, &mut self.peaks, header, rules, node);
     }
 
     /// Takes a turn of kswapd on a node, for an order and a highest zone index (`kswapd_try_to_sleep` of mm/vmscan.c).
@@ -89,24 +81,24 @@ impl PlainTables {
         most: u32,
     ) -> Balance
         requires header { IsHeader header.now }
-        requires numbers { HasRoom header.now.layout (2 ^ 61) self.old.pages }
-        requires full { IsFull header.now.layout self.old.peaks }
+        requires numbers { IsSmallState header.now.layout (2 ^ 61) self.old.pages }
+        requires full { HasAllPeaks header.now.layout self.old.peaks }
         requires some_online { HasOnline header.now.layout self.old.pages.cpu }
         requires room { SetAtMost header.now.layout (most_sets - 2) self.old.pages }
         requires node { IsNode header.now.layout node.number }
         requires order { order ≤ 10 }
         requires most { most ≤ 3 }
         ensures answer { (pressed : State) × SetsOnly self.old.pages pressed
-            × (balance_told result ≡ balance_at header.now node order most pressed) }
+            × (result ≡ balance_at header.now node order most pressed) }
         ensures rest { SetsOnly self.old.pages self.new.pages }
         ensures after { self.new ≡ record self.old { pages = self.new.pages; peaks = self.new.peaks } }
-        ensures sets { SetsAtMost header.now.layout 2 self.old.pages self.new.pages }
-        ensures full { IsFull header.now.layout self.new.peaks }
+        ensures sets { SetsEachAtMost header.now.layout 2 self.old.pages self.new.pages }
+        ensures full { HasAllPeaks header.now.layout self.new.peaks }
         ensures goes_on { (item : Item) → item.lane ≡ Control → item.act ≡ Kswapd node order most →
             GoesOnAlways header.now (P.answers rules.now.pressure) (N.answers rules.now.normal) item self.old self.new
-            (Some (Balanced (balance_told result))) }
+            (Some (Balanced result)) }
     {
-        vms_plain_ratings::turn(
+        vms_plain_control::turn(
             &mut self.pages,
             &mut self.peaks,
             header,
@@ -122,8 +114,8 @@ impl PlainTables {
     /// mm/vmstat.c, `percpu_counter_cpu_dead` of lib/percpu_counter.c).
     pub fn bury<N: Rule, P: Rule>(&mut self, rules: &Rules<N, P>, header: &Header, cpu: CpuId)
         requires header { IsHeader header.now }
-        requires numbers { HasRoom header.now.layout (2 ^ 61) self.old.pages }
-        requires full { IsFull header.now.layout self.old.peaks }
+        requires numbers { IsSmallState header.now.layout (2 ^ 61) self.old.pages }
+        requires full { HasAllPeaks header.now.layout self.old.peaks }
         requires some_online { HasOnline header.now.layout self.old.pages.cpu }
         requires room { SetAtMost header.now.layout (most_sets - 1) self.old.pages }
         requires cpu { IsCpu header.now.layout cpu.number }
@@ -145,46 +137,20 @@ impl PlainTables {
             × MovesWords cpu.number into.number self.old.events self.new.events }
         ensures counters { MovesLocals cpu.number self.old.counters self.new.counters }
         ensures opening { self.new.opening ≡ self.old.opening }
-        ensures sets { SetsAtMost header.now.layout 1 self.old.pages self.new.pages }
-        ensures full { IsFull header.now.layout self.new.peaks }
+        ensures sets { SetsEachAtMost header.now.layout 1 self.old.pages self.new.pages }
+        ensures full { HasAllPeaks header.now.layout self.new.peaks }
         ensures goes_on { (item : Item) → item.lane ≡ Control → item.act ≡ Dead cpu →
             GoesOnAlways header.now (P.answers rules.now.pressure) (N.answers rules.now.normal) item self.old self.new
             None }
     {
         event_laws();
-        let into = lowest_online(self.opening.as_slice());
-        vms_plain_events::fold_events(&mut self.events, cpu, into);
+        vms_plain_events::call(
+            &mut self.events,
+            self.opening.as_slice(),
+            None,
+            EventCall::FoldDead(cpu),
+        );
         vms_plain_pcpu::fold_dead(&mut self.counters, cpu);
-        vms_plain_ratings::bury(&mut self.pages, &mut self.peaks, header, rules, cpu);
-    }
-}
-
-ghost use Rattle.std.specs.Prelude.{◌≡◌, ◌≢◌, ℕ, ◌<◌, ◌≤◌, length};
-ghost use Rattle.vms_base.specs.declared.kinds.CpuState.TheVariants.{Online};
-ghost use Rattle.vms_base.specs.Cpus.{is_online as tells_online, state_at};
-
-/// The lowest-numbered CPU that is online by these states.
-fn lowest_online(states: &[CpuState]) -> CpuId
-    requires some { (c : ℕ) × (c < length states.now) × (state_at states.now c ≡ Online) }
-    requires few { length states.now ≤ 128 }
-    ensures within { result.number < length states.now }
-    ensures online { state_at states.now result.number ≡ Online }
-    ensures lowest { (b : ℕ) → b < result.number → state_at states.now b ≢ Online }
-{
-    for number in 0..states.len() as u32 {
-        if is_online(states[number as usize]) {
-            return CpuId { number };
-        }
-    }
-    CpuId { number: 0 }
-}
-
-#[inline]
-fn is_online(state: CpuState) -> bool
-    ensures { result ≡ tells_online state }
-{
-    match state {
-        CpuState::Online => true,
-        CpuState::Dead | CpuState::Absent => false,
+        vms_plain_control::bury(&mut self.pages, &mut self.peaks, header, rules, cpu);
     }
 }

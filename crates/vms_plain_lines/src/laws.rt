@@ -14,7 +14,7 @@ pub(crate) fn page_laws()
     vms_calls::changes_and_folds_are_told();
 }
 
-/// The laws of a count of an event, of a sum and of a fold.
+/// The laws of the calls on event counters.
 pub(crate) fn event_laws()
     ensures { EventLaws }
 {

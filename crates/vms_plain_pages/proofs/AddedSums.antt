@@ -4,16 +4,9 @@ use Rattle.std.proofs.Common.{refl, sym, ap, subst, ◌∙◌, arith, inl, inr, 
 use Rattle.std.proofs.lemmas.Bool.{cases_eq}
 use Rattle.std.proofs.lemmas.Int.{ints}
 use Rattle.std.proofs.lemmas.List.{set-get_or}
-use Rattle.vms_base.specs.declared.groups.Diffs.{Diffs}
-use Rattle.vms_base.specs.declared.ids.CpuId.{CpuId}
-use Rattle.vms_base.specs.Places.{Shape, IsItem, item_count}
-use Rattle.vms_alone.specs.InRow.{LeadsOn}
-use Rattle.vms_core.specs.declared.states.State.{State}
-use Rattle.vms_core.specs.declared.steps.Step.{Step}
-use Rattle.vms_core.specs.Cells.{system_at, with_system}
-use Rattle.vms_calls.specs.Folds.{system_steps, taken_of_item, to_system}
-use Rattle.vms_plain_pages.specs.FoldParts.{AddsSums, sum_at}
-use Rattle.vms_plain_pages.specs.StateSteps.{pages_by_state}
+use Rattle.vms_calls.specs.Common.{Diffs, CpuId, Shape, IsItem, item_count, LeadsOn, State, Step, system_at}
+use Rattle.vms_calls.specs.Common.{with_system, system_steps, taken_of_item, to_system}
+use Rattle.vms_plain_pages.specs.Common.{AddsSums, sum_at, pages_by_state}
 
 with_system-nothing : (s : State) (i : ℕ) (z : ℤ) → z ≡ pos 0 → with_system s i (system_at s i +ℤ z) ≡ s
 with_system-nothing s i z none =

@@ -3,26 +3,15 @@ use Rattle.std.proofs.Common.{◌≡◌, ℕ, suc, ◌^◌, ◌<◌, Bool, true,
 use Rattle.std.proofs.Common.{if◌then◌else◌, arith}
 use Rattle.std.specs.List.{find}
 use Rattle.std.specs.Prelude.{All}
-use Rattle.vms_base.specs.declared.headers.Header.{Header}
-use Rattle.vms_base.specs.declared.ids.CpuId.{CpuId}
-use Rattle.vms_base.specs.declared.ids.PlaceId.{PlaceId}
-use Rattle.vms_base.specs.declared.kinds.WaterMark.TheVariants.{High}
-use Rattle.vms_base.specs.Headers.{IsHeader}
-use Rattle.vms_alone.specs.InRow.{LeadsOn}
-use Rattle.vms_alone.proofs.InRow.{LeadsOn-append}
-use Rattle.vms_core.specs.declared.states.State.{State}
-use Rattle.vms_core.specs.declared.steps.Step.{Step}
-use Rattle.vms_calls.specs.Ratings.{node_number}
-use Rattle.vms_calls.specs.Turns.{Balances, IsBalanceTest}
-use Rattle.vms_calls.specs.Turns.Balances.{no_zone, fails, passes}
-use Rattle.vms_plain_pages.specs.Alone.{HasRoom, MakesAlone}
-use Rattle.vms_plain_pages.specs.Balances.{balance_at, balance_of}
-use Rattle.vms_plain_pages.specs.Orders.{order_verdict_at, zone_passes}
-use Rattle.vms_plain_pages.specs.StateSteps.{pages_by_state}
+use Rattle.vms_calls.specs.Common.{Header, CpuId, PlaceId, High, IsHeader, LeadsOn, State, Step, node_number, Balances}
+use Rattle.vms_calls.specs.Common.{IsBalanceTest, no_zone, fails, passes}
+use Rattle.vms_history.proofs.Common.{LeadsOn-append}
+use Rattle.vms_plain_pages.specs.Common.{IsSmallState, CallLeadsAlone, balance_at, balance_of, order_verdict_at}
+use Rattle.vms_plain_pages.specs.Common.{zone_passes, pages_by_state}
 use Rattle.vms_plain_pages.proofs.OrderSteps.{order-made}
-use Rattle.vms_plain_pages.proofs.ZonesUpTo.{zones_below-known}
+use Rattle.vms_calls.proofs.Common.{zones_below-known}
 
-module _ (header : Header) (valid : IsHeader header) (s : State) (room : HasRoom header.layout (2 ^ 61) s)
+module _ (header : Header) (valid : IsHeader header) (s : State) (room : IsSmallState header.layout (2 ^ 61) s)
     (who : Option CpuId) (most order : ℕ) where
   abbrev test : ℕ → Bool
   test g = zone_passes header g High most order s
@@ -55,6 +44,6 @@ module _ (header : Header) (valid : IsHeader header) (s : State) (room : HasRoom
 
   -- a test is made, and answers what the state tells
   pub balance-made : (n : PlaceId)
-      → MakesAlone who (λ steps. IsBalanceTest header n order most steps (balance_at header n order most s)) s s
+      → CallLeadsAlone who (λ steps. IsBalanceTest header n order most steps (balance_at header n order most s)) s s
   balance-made n = zones-tested _
       (zones_below-known header.layout most (node_number header.layout n) (length header.layout.zones))

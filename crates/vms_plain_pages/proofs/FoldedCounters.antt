@@ -1,16 +1,12 @@
 -- Counters that were folded one after another.
-use Rattle.std.proofs.Common.{◌≡◌, ◌≢◌, ℕ, zero, suc, ◌+◌, ◌<◌, ◌≤◌, ◌⊎◌, inl, inr, nat_eq}
-use Rattle.std.proofs.Common.{ℤ, pos, ◌+ℤ◌, unsigned_abs, List, if◌then◌else◌, refl, sym, ap, subst, ◌∙◌, arith}
+use Rattle.std.proofs.Common.{◌≡◌, ◌≢◌, ℕ, zero, suc, ◌+◌, ◌<◌, ◌≤◌, ◌⊎◌, inl, inr, nat_eq, ℤ, pos, ◌+ℤ◌, unsigned_abs}
+use Rattle.std.proofs.Common.{List, if◌then◌else◌, refl, sym, ap, subst, ◌∙◌, arith}
 use Rattle.std.proofs.lemmas.Bool.{cases_eq, cases_lt}
 use Rattle.std.proofs.lemmas.Int.{ints}
-use Rattle.vms_base.specs.Places.{Shape, IsCounter, IsCpu, counter_count, item_of}
-use Rattle.vms_base.specs.Thresholds.{most_threshold}
-use Rattle.vms_history.specs.Sums.{sum_below}
-use Rattle.vms_history.proofs.SumLaws.{sum_below-same}
-use Rattle.vms_core.specs.declared.states.State.{State}
-use Rattle.vms_core.specs.Cells.{HasShape, diff_at, system_at, value_at}
-use Rattle.vms_plain_pages.specs.Alone.{HasRoom}
-use Rattle.vms_plain_pages.specs.FoldParts.{FoldsCounters, IsOutside, part_of_item}
+use Rattle.vms_calls.specs.Common.{Shape, IsCounter, IsCpu, counter_count, item_of, most_threshold, sum_below, State}
+use Rattle.vms_calls.specs.Common.{HasShape, diff_at, system_at, value_at}
+use Rattle.vms_history.proofs.Common.{sum_below-same}
+use Rattle.vms_plain_pages.specs.Common.{IsSmallState, FoldsCounters, IsOutside, part_of_item}
 
 -- a counter is one of those from k on, or none of them
 pub inside_or_out : (k n l : ℕ) → ((k ≤ l) × (l < k + n)) ⊎ IsOutside k n l
@@ -106,9 +102,9 @@ module _ (shape : Shape) (c : ℕ) where
     }
 
   -- there is room for more
-  pub HasRoom-folded : IsCpu shape c → (most k n : ℕ) (s next : State) (before after : List ℤ)
-      → HasRoom shape most s → FoldsCounters shape c k n s next before after → HasRoom shape (most + 125) next
-  HasRoom-folded c_in most k n s next before after room folds = record {
+  pub IsSmallState-folded : IsCpu shape c → (most k n : ℕ) (s next : State) (before after : List ℤ)
+      → IsSmallState shape most s → FoldsCounters shape c k n s next before after → IsSmallState shape (most + 125) next
+  IsSmallState-folded c_in most k n s next before after room folds = record {
     shaped = folds.shaped;
     values = λ l l_in. elim (inside_or_out k n l) [
       | inl within ↦ let small = room.values l l_in in

@@ -1,20 +1,12 @@
 -- Groups that a fold takes one after another.
-use Rattle.std.proofs.Common.{◌≡◌, ℕ, suc, ◌+◌, ◌*◌, ◌≤◌, ℤ, ◌+ℤ◌, List, [], ◌∷◌, ◌++◌, length, refl}
-use Rattle.std.proofs.Common.{sym, ap, subst, ◌∙◌, arith, append_assoc, length-append}
+use Rattle.std.proofs.Common.{◌≡◌, ℕ, suc, ◌+◌, ◌*◌, ◌≤◌, ℤ, ◌+ℤ◌, List, [], ◌∷◌, ◌++◌, length, refl, sym, ap, subst}
+use Rattle.std.proofs.Common.{◌∙◌, arith, append_assoc, length-append}
 use Rattle.std.proofs.lemmas.Int.{ints}
 use Rattle.std.proofs.lemmas.List.Elements.{All-append, All-nil}
-use Rattle.vms_base.specs.declared.groups.Diffs.{Diffs}
-use Rattle.vms_base.specs.declared.ids.CpuId.{CpuId}
-use Rattle.vms_base.specs.Places.{Shape, IsCpu, counter_count}
-use Rattle.vms_alone.specs.InRow.{LeadsOn}
-use Rattle.vms_alone.proofs.InRow.{LeadsOn-append}
-use Rattle.vms_core.specs.declared.states.State.{State}
-use Rattle.vms_core.specs.declared.steps.Step.{Step}
-use Rattle.vms_core.specs.Cells.{HasShape}
-use Rattle.vms_calls.specs.Folds.{group_steps, taken_of_item}
-use Rattle.vms_calls.specs.Lists.{in_turn}
-use Rattle.vms_plain_pages.specs.FoldParts.{FoldsCounters, FoldsGroups}
-use Rattle.vms_plain_pages.specs.StateSteps.{pages_by_state}
+use Rattle.vms_calls.specs.Common.{Diffs, CpuId, Shape, IsCpu, counter_count, LeadsOn, State, Step, HasShape}
+use Rattle.vms_calls.specs.Common.{group_steps, taken_of_item, in_turn}
+use Rattle.vms_history.proofs.Common.{LeadsOn-append}
+use Rattle.vms_plain_pages.specs.Common.{FoldsCounters, FoldsGroups, pages_by_state}
 use Rattle.vms_plain_pages.proofs.FoldedCounters.{FoldsCounters-append, FoldsCounters-none}
 
 pub in_turn-append : {X : Type 0} (steps : ℕ → X → List Step) (n : ℕ) (xs ys : List X)

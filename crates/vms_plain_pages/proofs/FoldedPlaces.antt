@@ -1,6 +1,6 @@
 -- Places that a fold visits one after another, and the whole fold.
-use Rattle.std.proofs.Common.{◌≡◌, ◌≢◌, ℕ, suc, ◌+◌, ◌*◌, ◌/◌, ◌<◌, ◌≤◌, ⊎_elim, inl, ◌&&◌, nat_eq, nat_lt}
-use Rattle.std.proofs.Common.{Bool, true, false, ℤ, pos, ◌+ℤ◌, List, [], ◌∷◌, ◌++◌, length, get_or, Option, Some, None}
+use Rattle.std.proofs.Common.{◌≡◌, ◌≢◌, ℕ, suc, ◌+◌, ◌*◌, ◌/◌, ◌<◌, ◌≤◌, ⊎_elim, inl, ◌&&◌, nat_eq, nat_lt, Bool, true}
+use Rattle.std.proofs.Common.{false, ℤ, pos, ◌+ℤ◌, List, [], ◌∷◌, ◌++◌, length, get_or, Option, Some, None}
 use Rattle.std.proofs.Common.{if◌then◌else◌, refl, sym, ap, subst, ◌∙◌, arith, append_assoc, length-append, length-set}
 use Rattle.std.specs.Prelude.{All}
 use Rattle.std.proofs.Math.Nat.{mul-le-mul_left, mul-suc}
@@ -8,27 +8,16 @@ use Rattle.std.proofs.lemmas.Bool.Decides.{nat_tests}
 use Rattle.std.proofs.lemmas.Int.{ints}
 use Rattle.std.proofs.lemmas.List.{append-nil}
 use Rattle.std.proofs.lemmas.List.Elements.{All-append, All-cons, All-nil}
-use Rattle.vms_base.specs.declared.ids.CpuId.{CpuId}
-use Rattle.vms_base.specs.Places.{Shape, IsLayout, IsCounter, IsCpu, IsGroup, IsPlace, IsZone, cell, counter_at}
-use Rattle.vms_base.specs.Places.{counter_count, group_of, item_count, item_of, place_count}
-use Rattle.vms_history.specs.Sums.{sum_below}
-use Rattle.vms_history.proofs.Cells.{get_or-set_cell}
-use Rattle.vms_history.proofs.SumLaws.{sum_below-same}
-use Rattle.vms_alone.specs.InRow.{LeadsOn}
-use Rattle.vms_alone.proofs.InRow.{LeadsOn-append}
-use Rattle.vms_core.specs.declared.states.State.{State}
-use Rattle.vms_core.specs.declared.steps.Step.{Step}
-use Rattle.vms_core.specs.declared.steps.Step.TheVariants.{SetA}
-use Rattle.vms_core.specs.Cells.{HasShape, acknowledged_at, diff_at, system_at, threshold_at, threshold_sets_at}
-use Rattle.vms_core.specs.Cells.{value_at, with_acknowledged, zones_of}
-use Rattle.vms_calls.specs.Folds.{FoundPlace, HasGroups, IsFold, acknowledges, group_steps, lists_of, place_steps}
-use Rattle.vms_calls.specs.Folds.{system_steps, taken_of_item}
-use Rattle.vms_calls.specs.Lists.{in_turn}
-use Rattle.vms_plain_pages.specs.Alone.{MakesAlone}
-use Rattle.vms_plain_pages.specs.FoldParts.{AddsSums, FoldsCounters, FoldsGroups, FoldsPlace, acknowledged_of_place}
-use Rattle.vms_plain_pages.specs.FoldParts.{part_of_item, sum_at}
-use Rattle.vms_plain_pages.specs.Folding.{FoldsCpu}
-use Rattle.vms_plain_pages.specs.StateSteps.{effect, pages_by_state}
+use Rattle.vms_calls.specs.Common.{CpuId, Shape, IsLayout, IsCounter, IsCpu, IsGroup, IsPlace, IsZone, cell, counter_at}
+use Rattle.vms_calls.specs.Common.{counter_count, group_of, item_count, item_of, place_count, sum_below, LeadsOn, State}
+use Rattle.vms_calls.specs.Common.{Step, SetA, HasShape, acknowledged_at, diff_at, system_at, threshold_at}
+use Rattle.vms_calls.specs.Common.{threshold_sets_at, value_at, with_acknowledged, zones_of, FoundPlace, HasGroups}
+use Rattle.vms_calls.specs.Common.{IsFold, acknowledges, group_steps, lists_of, place_steps, system_steps}
+use Rattle.vms_calls.specs.Common.{taken_of_item, in_turn}
+use Rattle.vms_history.proofs.Common.{get_or-set_cell, sum_below-same, LeadsOn-append}
+use Rattle.vms_plain_pages.specs.Common.{CallLeadsAlone, AddsSums, FoldsCounters, FoldsGroups, FoldsPlace}
+use Rattle.vms_plain_pages.specs.Common.{acknowledged_of_place, part_of_item, sum_at, FoldsCpu, effect_by}
+use Rattle.vms_plain_pages.specs.Common.{pages_by_state}
 use Rattle.vms_plain_pages.proofs.FoldedCounters.{FoldsCounters-append, FoldsCounters-none}
 use Rattle.vms_plain_pages.proofs.FoldedGroups.{in_turn-append, taken_of_item-append}
 
@@ -105,7 +94,7 @@ module _ (shape : Shape) (layout : IsLayout shape) (is_own : Bool) (c : CpuId) (
       LeadsOn-append pages_by_state who
           (in_turn (group_steps c) (group_of (counter_at shape g 0)) folds.groups)
           (SetA (record { number = g }) number ∷ []) s mid next (folds.leads who)
-          (tt, ap (λ (o : Option CpuId). effect o (SetA (record { number = g }) number) mid) is),
+          (tt, ap (λ (o : Option CpuId). effect_by o (SetA (record { number = g }) number) mid) is),
     )
 
     acknowledged-next : (d h : ℕ) → IsCpu shape d → IsZone shape h
@@ -337,7 +326,7 @@ module _ (shape : Shape) (is_own : Bool) (c : CpuId) where
   module _ (s mid next : State) (zeros sums : List ℤ) (none : (i : ℕ) → sum_at zeros i ≡ pos 0)
       (visits : FoldsPlaces (place_count shape) s mid zeros sums) (adds : AddsSums shape sums mid next) where
     pub fold-made : (who : Option CpuId) → (is_own ≡ true → who ≡ Some c)
-        → MakesAlone who (IsFold shape is_own c) s next
+        → CallLeadsAlone who (IsFold shape is_own c) s next
     fold-made who owns = (
       in_turn steps_at 0 visits.places ++ system_steps shape (lists_of visits.places) 0 (item_count shape),
       record { places = visits.places; one_each = visits.one_each; groups = visits.groups; in_order = refl },

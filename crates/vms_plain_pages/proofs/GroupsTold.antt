@@ -1,14 +1,10 @@
 -- For other crates too: the differentials of a group as the list that a step names, where they are small.
-use Rattle.std.proofs.Common.{◌≡◌, ℕ, zero, suc, ◌+◌, ◌*◌, ◌<◌, ◌≤◌, ℤ, pos, unsigned_abs, List, [], ◌∷◌, get_or}
-use Rattle.std.proofs.Common.{refl, arith, ⊎_elim}
+use Rattle.std.proofs.Common.{◌≡◌, ℕ, zero, suc, ◌+◌, ◌*◌, ◌<◌, ◌≤◌, ℤ, pos, unsigned_abs, List, [], ◌∷◌, get_or, refl}
+use Rattle.std.proofs.Common.{arith, ⊎_elim}
 use Rattle.std.proofs.lemmas.Bool.{cases_lt}
 use Rattle.std.proofs.lemmas.List.{get_or_past}
-use Rattle.vms_base.specs.declared.groups.Diffs.{Diffs}
-use Rattle.vms_base.specs.Groups.{AreBytes}
-use Rattle.vms_base.specs.Thresholds.{most_threshold}
-use Rattle.vms_core.specs.declared.states.State.{State}
-use Rattle.vms_core.specs.Cells.{TellsGroup, diff_at}
-use Rattle.vms_core.proofs.PlainData.{byte}
+use Rattle.vms_calls.specs.Common.{Diffs, AreBytes, most_threshold, State, TellsGroup, diff_at}
+use Rattle.vms_core.proofs.Common.{byte}
 
 module _ (s : State) (c j : ℕ)
     (small : (i : ℕ) → i < 8 → unsigned_abs (diff_at s c (8 * j + i)) ≤ most_threshold) where

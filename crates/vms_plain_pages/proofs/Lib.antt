@@ -8,7 +8,6 @@ pub mod AddedSums
 pub mod SmallSums
 pub mod FoldedPlaces
 pub mod TestSteps
-pub mod AreaLists
+pub mod FoundBlocks
 pub mod OrderSteps
-pub mod ZonesUpTo
 pub mod BalanceSteps

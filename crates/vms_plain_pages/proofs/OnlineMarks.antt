@@ -3,9 +3,7 @@ use Rattle.std.proofs.Common.{◌≡◌, ℕ, ◌+◌, ◌<◌, List, bit_or, in
 use Rattle.std.specs.Prelude.{◌↔◌}
 use Rattle.std.proofs.lemmas.Bool.{cases_lt}
 use Rattle.std.proofs.lemmas.Nat.{le_or_l, le_or_r}
-use Rattle.vms_base.specs.declared.kinds.CpuState.{CpuState}
-use Rattle.vms_base.specs.declared.kinds.CpuState.TheVariants.{Online}
-use Rattle.vms_base.specs.Cpus.{state_at}
+use Rattle.vms_calls.specs.Common.{CpuState, Online, state_at}
 
 pub marks-more : (states : List CpuState) (n marks mark : ℕ)
     → (marks ≡ 0) ↔ ((c : ℕ) → c < n → state_at states c ≡ Online) → (mark ≡ 0) ↔ (state_at states n ≡ Online)

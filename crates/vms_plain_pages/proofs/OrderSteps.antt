@@ -1,36 +1,23 @@
 -- The steps of a test of a zone for an order.
 use Rattle.std.proofs.Common.{◌≡◌, ℕ, zero, suc, ◌+◌, ◌^◌, ◌<◌, nat_eq, not, Bool, true, false, List, [], ◌∷◌, ◌++◌}
-use Rattle.std.proofs.Common.{◌-◌, drop, Option, Some, None, if◌then◌else◌, refl, sym, ap, subst, arith}
+use Rattle.std.proofs.Common.{◌-◌, drop, Option, Some, None, if◌then◌else◌, refl, sym, ap, subst, arith, eqb-true}
 use Rattle.std.specs.List.{find}
 use Rattle.std.specs.Prelude.{is_some, option_map}
 use Rattle.std.proofs.lemmas.Bool.{eqb-false}
-use Rattle.std.proofs.Common.{eqb-true}
-use Rattle.vms_base.specs.declared.headers.Header.{Header}
-use Rattle.vms_base.specs.declared.ids.CpuId.{CpuId}
-use Rattle.vms_base.specs.declared.ids.PlaceId.{PlaceId}
-use Rattle.vms_base.specs.declared.kinds.WaterMark.{WaterMark}
-use Rattle.vms_base.specs.Areas.{Area, area_at, area_names, areas_from, areas_named, areas_of}
-use Rattle.vms_base.specs.Headers.{IsHeader}
-use Rattle.vms_base.specs.Places.{IsPlace, IsZone, counter_at}
-use Rattle.vms_base.specs.Watermarks.{limit_of}
-use Rattle.vms_alone.specs.InRow.{LeadsOn}
-use Rattle.vms_alone.proofs.InRow.{LeadsOn-append}
-use Rattle.vms_core.specs.declared.states.State.{State}
-use Rattle.vms_core.specs.declared.steps.Step.{Step}
-use Rattle.vms_core.proofs.CounterRanges.{counter_at-known}
-use Rattle.vms_calls.specs.Looks.{IsSnapshot}
-use Rattle.vms_calls.specs.Turns.{Blocks, FindsBlock, IsOrderTest, blocks_at, has_room}
-use Rattle.vms_calls.specs.Turns.FindsBlock.{nowhere, empty, some}
-use Rattle.vms_plain_pages.specs.Alone.{HasRoom, MakesAlone}
-use Rattle.vms_plain_pages.specs.Orders.{area_found, block_found, has_block, order_verdict_at}
-use Rattle.vms_plain_pages.specs.StateSteps.{pages_by_state}
-use Rattle.vms_plain_pages.specs.Values.{snapshot_of}
-use Rattle.vms_plain_pages.specs.Verdicts.{free_of, verdict_at}
-use Rattle.vms_plain_pages.proofs.AreaLists.{areas_from-later, index_of, position-within}
+use Rattle.vms_calls.specs.Common.{Header, CpuId, PlaceId, WaterMark, Area, area_at, area_names, areas_from}
+use Rattle.vms_calls.specs.Common.{areas_named, areas_of, IsHeader, IsPlace, IsZone, counter_at, limit_of, LeadsOn}
+use Rattle.vms_calls.specs.Common.{State, Step, IsSnapshot, LooksForBlock, FindsBlock, IsOrderTest, blocks_at, has_room}
+use Rattle.vms_calls.specs.Common.{nowhere, empty, some}
+use Rattle.vms_history.proofs.Common.{LeadsOn-append}
+use Rattle.vms_core.proofs.Common.{counter_at-known}
+use Rattle.vms_plain_pages.specs.Common.{IsSmallState, CallLeadsAlone, area_found, block_found, has_block}
+use Rattle.vms_plain_pages.specs.Common.{order_verdict_at, pages_by_state, snapshot_of, free_of, verdict_at}
+use Rattle.vms_calc.proofs.Common.{areas_from-later, index_of, position-within}
 use Rattle.vms_plain_pages.proofs.SnapshotSteps.{snapshot-made}
 use Rattle.vms_plain_pages.proofs.TestSteps.{test-made}
 
-module _ (header : Header) (valid : IsHeader header) (s : State) (room : HasRoom header.layout (2 ^ 61) s) (g : PlaceId)
+module _ (header : Header) (valid : IsHeader header) (s : State)
+    (room : IsSmallState header.layout (2 ^ 61) s) (g : PlaceId)
     (g_in : IsZone header.layout g.number) (who : Option CpuId) where
   -- a block is looked for in these areas
   abbrev Looked : List Area → Option ℕ → Type 0
@@ -97,7 +84,8 @@ module _ (header : Header) (valid : IsHeader header) (s : State) (room : HasRoom
   module _ (mark : WaterMark) (most : ℕ) where
     further-made : (n : ℕ) (b : Bool)
         → has_room (limit_of header g.number mark most) (suc n) (free_of header.layout s g.number) ≡ b
-        → (steps : List Step) × Blocks header g (suc n) b steps (order_verdict_at header g.number mark most (suc n) s)
+        → (steps : List Step) × LooksForBlock header g (suc n) b steps
+        (order_verdict_at header g.number mark most (suc n) s)
         × LeadsOn pages_by_state who steps s s
     further-made n true is =
         let found = areas-looked n in
@@ -118,7 +106,7 @@ module _ (header : Header) (valid : IsHeader header) (s : State) (room : HasRoom
         is in
         ([], (refl, ap is_some none, none), refl)
 
-    pub order-made : (order : ℕ) → MakesAlone who (λ steps. IsOrderTest header g mark most order steps
+    pub order-made : (order : ℕ) → CallLeadsAlone who (λ steps. IsOrderTest header g mark most order steps
         (order_verdict_at header g.number mark most order s)) s s
     order-made zero =
         let test = test-made header valid.is_layout s room g g_in mark most who in (

@@ -1,8 +1,8 @@
 -- Sums of the items that stay small.
 use Rattle.std.proofs.Common.{◌≡◌, ℕ, ◌≤◌, ℤ, pos, List, unsigned_abs, subst, sym, arith}
 use Rattle.std.specs.Prelude.{replicate}
-use Rattle.vms_plain_pages.specs.FoldParts.{AreSums, sum_at}
-use Rattle.vms_core.proofs.LevelStates.{get_or-copies}
+use Rattle.vms_plain_pages.specs.Common.{AreSums, sum_at}
+use Rattle.vms_core.proofs.Common.{get_or-copies}
 
 pub AreSums-more : (most more : ℕ) (sums : List ℤ) → most ≤ more → AreSums most sums → AreSums more sums
 AreSums-more most more sums up small = record { each = λ i. let few = small.each i in omega arith }

@@ -1,29 +1,17 @@
 -- The steps of a snapshot: each CPU is looked at.
-use Rattle.std.proofs.Common.{◌≡◌, ◌≢◌, ℕ, zero, suc, ◌+◌, ◌*◌, ◌/◌, ◌%◌, ◌^◌, ◌≤◌, ℤ, pos, ◌+ℤ◌}
-use Rattle.std.proofs.Common.{false, List, [], ◌∷◌, length, Option, if◌then◌else◌, refl, ap, sym, ◌<◌, ◌∙◌, arith}
+use Rattle.std.proofs.Common.{◌≡◌, ◌≢◌, ℕ, zero, suc, ◌+◌, ◌*◌, ◌/◌, ◌%◌, ◌^◌, ◌≤◌, ℤ, pos, ◌+ℤ◌, false, List, [], ◌∷◌}
+use Rattle.std.proofs.Common.{length, Option, if◌then◌else◌, refl, ap, sym, ◌<◌, ◌∙◌, arith}
 use Rattle.std.proofs.lemmas.Int.{ints}
-use Rattle.vms_base.specs.declared.ids.CounterId.{CounterId}
-use Rattle.vms_base.specs.declared.ids.CpuId.{CpuId}
-use Rattle.vms_base.specs.declared.kinds.CpuState.{CpuState}
-use Rattle.vms_base.specs.declared.kinds.CpuState.TheVariants.{Online, Dead, Absent}
-use Rattle.vms_base.specs.Cpus.{is_online, state_at}
-use Rattle.vms_base.specs.Places.{Shape, IsLayout, IsCounter, IsCpu, first_of, group_of}
-use Rattle.vms_base.proofs.Counts.{IsCounter-member, group_of-lt}
-use Rattle.vms_history.specs.Sums.{sum_below}
-use Rattle.vms_history.proofs.SumLaws.{sum_below-same}
-use Rattle.vms_alone.specs.InRow.{LeadsOn}
-use Rattle.vms_core.specs.declared.states.State.{State}
-use Rattle.vms_core.specs.declared.steps.Step.TheVariants.{LoadG}
-use Rattle.vms_core.specs.Cells.{cpu_at, diff_at, entry, value_at}
-use Rattle.vms_calls.specs.Lists.{in_turn}
-use Rattle.vms_calls.specs.Looks.{IsSnapshot, Look, at_least_zero, hidden, look_steps}
-use Rattle.vms_calls.specs.Looks.Look.{online, other}
-use Rattle.vms_plain_pages.specs.Alone.{HasRoom, MakesAlone}
-use Rattle.vms_plain_pages.specs.StateSteps.{pages_by_state}
-use Rattle.vms_plain_pages.specs.Values.{online_diff, snapshot_of}
+use Rattle.vms_calls.specs.Common.{CounterId, CpuId, CpuState, Online, Dead, Absent, is_online, state_at, Shape}
+use Rattle.vms_calls.specs.Common.{IsLayout, IsCounter, IsCpu, first_of_group, group_of, sum_below, LeadsOn, State}
+use Rattle.vms_calls.specs.Common.{LoadG, cpu_at, diff_at, entry, value_at, in_turn, IsSnapshot, Look, at_least_zero}
+use Rattle.vms_calls.specs.Common.{hidden, look_steps, online, other}
+use Rattle.vms_base.proofs.Common.{IsCounter-member, group_of-lt}
+use Rattle.vms_history.proofs.Common.{sum_below-same}
+use Rattle.vms_plain_pages.specs.Common.{IsSmallState, CallLeadsAlone, pages_by_state, online_diff, snapshot_of}
 use Rattle.vms_plain_pages.proofs.GroupsTold.{group_told}
 
-module _ (shape : Shape) (layout : IsLayout shape) (s : State) (room : HasRoom shape (2 ^ 61) s) (k : ℕ)
+module _ (shape : Shape) (layout : IsLayout shape) (s : State) (room : IsSmallState shape (2 ^ 61) s) (k : ℕ)
     (k_in : IsCounter shape k) where
   abbrev diff_of : ℕ → ℤ
   diff_of c = online_diff s c k
@@ -42,7 +30,7 @@ module _ (shape : Shape) (layout : IsLayout shape) (s : State) (room : HasRoom s
     online-look : cpu_at s c ≡ Online → Looks c (suc m)
     online-look is =
         let told = group_told s c (group_of k)
-        (λ i below. room.diffs c (first_of (group_of k) + i) c_in
+        (λ i below. room.diffs c (first_of_group (group_of k) + i) c_in
         (IsCounter-member shape layout (group_of k) i (group_of-lt shape layout k k_in) below)) in
         let whole : 8 * (k / 8) + k % 8 ≡ k = omega arith in
         let entry_is : entry told.0.values k ≡ diff_at s c k =
@@ -90,9 +78,9 @@ online_diffs-all shape s one_each k all =
     (λ c below. sym (ap (λ x. if is_online x then diff_at s c k else pos 0) (all c (omega (arith, one_each)))))
 
 -- a snapshot is made, and answers what the state tells
-pub snapshot-made : (shape : Shape) → IsLayout shape → (s : State) → HasRoom shape (2 ^ 61) s
+pub snapshot-made : (shape : Shape) → IsLayout shape → (s : State) → IsSmallState shape (2 ^ 61) s
     → (counter : CounterId) → IsCounter shape counter.number → (who : Option CpuId)
-    → MakesAlone who (λ steps. IsSnapshot shape counter steps (snapshot_of shape s counter.number)) s s
+    → CallLeadsAlone who (λ steps. IsSnapshot shape counter steps (snapshot_of shape s counter.number)) s s
 snapshot-made shape layout s room counter k_in who =
     let k = counter.number in
     let all = looks-from shape layout s room k k_in 0 shape.cpus (omega arith) in

@@ -1,8 +1,8 @@
 -- A group that a fold takes: each of its differentials is added to a global value and to a sum.
-use Rattle.std.proofs.Common.{◌≡◌, ◌≢◌, ℕ, zero, suc, ◌+◌, ◌-◌, ◌*◌, ◌<◌, ◌≤◌, ◌⊎◌, inl, inr}
-use Rattle.std.proofs.Common.{nat_eq, ◌&&◌, Bool, true, false, ℤ, pos, negsuc, ◌+ℤ◌, ◌≤ℤ◌, unsigned_abs, List, [], ◌∷◌}
-use Rattle.std.proofs.Common.{◌++◌, length, get_or, drop, Option, None, if◌then◌else◌, refl, sym, ap, subst, ◌∙◌, arith}
-use Rattle.std.proofs.Common.{length-set, get_or-set_same, get_or-set_other}
+use Rattle.std.proofs.Common.{◌≡◌, ◌≢◌, ℕ, zero, suc, ◌+◌, ◌-◌, ◌*◌, ◌<◌, ◌≤◌, ◌⊎◌, inl, inr, nat_eq, ◌&&◌, Bool, true}
+use Rattle.std.proofs.Common.{false, ℤ, pos, negsuc, ◌+ℤ◌, ◌≤ℤ◌, unsigned_abs, List, [], ◌∷◌, ◌++◌, length, get_or}
+use Rattle.std.proofs.Common.{drop, Option, None, if◌then◌else◌, refl, sym, ap, subst, ◌∙◌, arith, length-set}
+use Rattle.std.proofs.Common.{get_or-set_same, get_or-set_other}
 use Rattle.std.proofs.Math.ListN.{set}
 use Rattle.std.proofs.Math.Seq.{drop-cons}
 use Rattle.std.proofs.lemmas.Bool.{cases_eq}
@@ -10,27 +10,14 @@ use Rattle.std.proofs.lemmas.Bool.Decides.{nat_tests}
 use Rattle.std.proofs.lemmas.Int.{ints}
 use Rattle.std.proofs.lemmas.List.{drop_all, set-get_or}
 use Rattle.std.proofs.lemmas.List.Elements.{All-cons, All-nil}
-use Rattle.vms_base.specs.declared.groups.Diffs.{Diffs}
-use Rattle.vms_base.specs.declared.ids.CpuId.{CpuId}
-use Rattle.vms_base.specs.Groups.{AreBytes}
-use Rattle.vms_base.specs.Places.{Shape, IsLayout, IsCounter, IsCpu, IsGroup, cell, first_of, group_of, item_of}
-use Rattle.vms_base.proofs.Counts.{group_count-whole}
-use Rattle.vms_history.specs.Sums.{sum_below}
-use Rattle.vms_history.proofs.Cells.{get_or-set}
-use Rattle.vms_history.proofs.SumBounds.{sum_below-most, sum_below-size}
-use Rattle.vms_history.proofs.SumLaws.{sum_below-same}
-use Rattle.vms_alone.specs.InRow.{LeadsOn}
-use Rattle.vms_alone.proofs.InRow.{LeadsOn-append}
-use Rattle.vms_core.specs.declared.states.State.{State}
-use Rattle.vms_core.specs.declared.steps.Facts.{Facts}
-use Rattle.vms_core.specs.declared.steps.Step.{Step}
-use Rattle.vms_core.specs.declared.steps.Step.TheVariants.{Take}
-use Rattle.vms_core.specs.Cells.{HasShape, TellsGroup, diff_at, value_at, with_group_zeroed, with_value}
-use Rattle.vms_core.proofs.Effects.{HasShape-effect, diff_at-effect}
-use Rattle.vms_calls.specs.Folds.{group_steps, to_place}
-use Rattle.vms_calls.specs.Lists.{in_turn}
-use Rattle.vms_plain_pages.specs.FoldParts.{AreSums, FoldsGroups, IsOutside, part_of_item, sum_at}
-use Rattle.vms_plain_pages.specs.StateSteps.{pages_by_state}
+use Rattle.vms_calls.specs.Common.{Diffs, CpuId, AreBytes, Shape, IsLayout, IsCounter, IsCpu, IsGroup, cell}
+use Rattle.vms_calls.specs.Common.{first_of_group, group_of, item_of, sum_below, LeadsOn, State, Facts, Step, Take}
+use Rattle.vms_calls.specs.Common.{HasShape, TellsGroup, diff_at, value_at, with_group_zeroed, with_value, group_steps}
+use Rattle.vms_calls.specs.Common.{to_place, in_turn}
+use Rattle.vms_base.proofs.Common.{group_count-whole}
+use Rattle.vms_history.proofs.Common.{get_or-set, sum_below-most, sum_below-size, sum_below-same, LeadsOn-append}
+use Rattle.vms_core.proofs.Common.{HasShape-effect, diff_at-effect}
+use Rattle.vms_plain_pages.specs.Common.{AreSums, FoldsGroups, IsOutside, part_of_item, sum_at, pages_by_state}
 
 -- an addition of 0 leaves a global value
 pub with_value-nothing : (s : State) (k : ℕ) (z : ℤ) → z ≡ pos 0 → with_value s k (value_at s k +ℤ z) ≡ s
@@ -56,7 +43,7 @@ to_place-leads who k (negsuc n) rest s next leads = (tt, leads)
 module _ (shape : Shape) (j : ℕ) (values : List ℤ) (t : State) (before : List ℤ) where
   -- what entry m adds to item i
   abbrev entry_for : ℕ → ℕ → ℤ
-  entry_for i m = if nat_eq (item_of shape (first_of j + m)) i then get_or values m (pos 0) else pos 0
+  entry_for i m = if nat_eq (item_of shape (first_of_group j + m)) i then get_or values m (pos 0) else pos 0
 
   -- the first n entries of the list are added
   pub record AddsEntries (n : ℕ) (now : State) (sums : List ℤ) : Type 0 where
@@ -85,7 +72,7 @@ module _ (shape : Shape) (j : ℕ) (values : List ℤ) (t : State) (before : Lis
       → AreSums most before → AreSums (most + n * 128) sums
   AreSums-entries bytes n most now sums adds small = record {
     each = λ i. let few = sum_below-most (λ m. pos (unsigned_abs (entry_for i m))) n 128
-        (λ m less. by (nat_eq (item_of shape (first_of j + m)) i) (get_or values m (pos 0)) (byte m)) in
+        (λ m less. by (nat_eq (item_of shape (first_of_group j + m)) i) (get_or values m (pos 0)) (byte m)) in
         let was = small.each i in
         omega (arith, ints, adds.summed i, sum_below-size (entry_for i) n, few);
   }

@@ -1,26 +1,15 @@
 -- The steps of a test of a watermark.
 use Rattle.std.proofs.Common.{◌≡◌, ℕ, ◌^◌, ◌&&◌, ◌||◌, nat_eq, not, Bool, true, false, List, [], ◌∷◌, Option}
 use Rattle.std.proofs.Common.{if◌then◌else◌, refl, sym, ap, subst, eq-eqb, arith}
-use Rattle.vms_base.specs.declared.headers.Header.{Header}
-use Rattle.vms_base.specs.declared.ids.CpuId.{CpuId}
-use Rattle.vms_base.specs.declared.ids.PlaceId.{PlaceId}
-use Rattle.vms_base.specs.declared.kinds.WaterMark.{WaterMark}
-use Rattle.vms_base.specs.Places.{Shape, IsLayout, IsZone, counter_at}
-use Rattle.vms_alone.specs.InRow.{LeadsOn}
-use Rattle.vms_core.specs.declared.states.MarkRead.{MarkRead}
-use Rattle.vms_core.specs.declared.states.State.{State}
-use Rattle.vms_core.specs.declared.steps.Step.{Step}
-use Rattle.vms_core.specs.declared.steps.Step.TheVariants.{LoadG, LoadM}
-use Rattle.vms_core.specs.Cells.{mark_at, mark_sets_at, value_at}
-use Rattle.vms_core.proofs.CounterRanges.{first-known}
-use Rattle.vms_calls.specs.Looks.{Frees, IsWatermarkTest, free_pages, is_doubtful}
-use Rattle.vms_plain_pages.specs.Alone.{HasRoom, MakesAlone}
-use Rattle.vms_plain_pages.specs.StateSteps.{pages_by_state}
-use Rattle.vms_plain_pages.specs.Values.{snapshot_of}
-use Rattle.vms_plain_pages.specs.Verdicts.{free_of, free_value, takes_snapshot, verdict_at}
+use Rattle.vms_calls.specs.Common.{Header, CpuId, PlaceId, WaterMark, Shape, IsLayout, IsZone, counter_at, LeadsOn}
+use Rattle.vms_calls.specs.Common.{MarkRead, State, Step, LoadG, LoadM, mark_at, mark_sets_at, value_at, Frees}
+use Rattle.vms_calls.specs.Common.{IsWatermarkTest, free_pages, is_doubtful}
+use Rattle.vms_core.proofs.Common.{first-known}
+use Rattle.vms_plain_pages.specs.Common.{IsSmallState, CallLeadsAlone, pages_by_state, snapshot_of, free_of, free_value}
+use Rattle.vms_plain_pages.specs.Common.{takes_snapshot, verdict_at}
 use Rattle.vms_plain_pages.proofs.SnapshotSteps.{snapshot-made}
 
-module _ (shape : Shape) (layout : IsLayout shape) (s : State) (room : HasRoom shape (2 ^ 61) s) (g : PlaceId)
+module _ (shape : Shape) (layout : IsLayout shape) (s : State) (room : IsSmallState shape (2 ^ 61) s) (g : PlaceId)
     (g_in : IsZone shape g.number) where
   abbrev mark_read : MarkRead
   mark_read = record { mark = mark_at s g.number; number = mark_sets_at s g.number }
@@ -50,9 +39,10 @@ module _ (shape : Shape) (layout : IsLayout shape) (s : State) (room : HasRoom s
   further-made who false = ([], (refl, refl), refl)
 
 -- a test is made, and answers what the state tells
-pub test-made : (header : Header) → IsLayout header.layout → (s : State) → HasRoom header.layout (2 ^ 61) s
+pub test-made : (header : Header) → IsLayout header.layout → (s : State) → IsSmallState header.layout (2 ^ 61) s
     → (g : PlaceId) → IsZone header.layout g.number → (mark : WaterMark) (most : ℕ) (who : Option CpuId)
-    → MakesAlone who (λ steps. IsWatermarkTest header g mark most steps (verdict_at header g.number mark most s)) s s
+    → CallLeadsAlone who (λ steps.
+    IsWatermarkTest header g mark most steps (verdict_at header g.number mark most s)) s s
 test-made header layout s room g g_in mark most who =
     let shape = header.layout in
     let value = value_at s (counter_at shape g.number 0) in

@@ -1,16 +1,10 @@
 -- What the parts of a fold make of a state, and of the sums that are taken for the items.
 use Rattle.std.specs.Prelude.{◌≡◌, ◌≢◌, ℕ, ◌+◌, ◌*◌, ◌<◌, ◌≤◌, ◌⊎◌, nat_eq, ◌&&◌, Bool, true, ℤ, pos, ◌+ℤ◌, List}
 use Rattle.std.specs.Prelude.{length, slice_index_or, if◌then◌else◌, Option, Some, unsigned_abs, All}
-use Rattle.vms_base.specs.declared.groups.Diffs.{Diffs}
-use Rattle.vms_base.specs.declared.ids.CpuId.{CpuId}
-use Rattle.vms_base.specs.Places.{Shape, IsCounter, IsCpu, IsItem, IsZone, counter_at, group_of, item_count, item_of}
-use Rattle.vms_history.specs.Sums.{sum_below}
-use Rattle.vms_alone.specs.InRow.{LeadsOn}
-use Rattle.vms_core.specs.declared.states.State.{State}
-use Rattle.vms_core.specs.Cells.{HasShape, acknowledged_at, diff_at, system_at, threshold_sets_at, value_at}
-use Rattle.vms_calls.specs.Folds.{FoundPlace, HasGroups, acknowledges, group_steps, place_steps, system_steps}
-use Rattle.vms_calls.specs.Folds.{taken_of_item}
-use Rattle.vms_calls.specs.Lists.{in_turn}
+use Rattle.vms_calls.specs.Common.{Diffs, CpuId, Shape, IsCounter, IsCpu, IsItem, IsZone, counter_at, group_of}
+use Rattle.vms_calls.specs.Common.{item_count, item_of, sum_below, LeadsOn, State, HasShape, acknowledged_at, diff_at}
+use Rattle.vms_calls.specs.Common.{system_at, threshold_sets_at, value_at, FoundPlace, HasGroups, acknowledges}
+use Rattle.vms_calls.specs.Common.{group_steps, place_steps, system_steps, taken_of_item, in_turn}
 use Rattle.vms_plain_pages.specs.StateSteps.{pages_by_state}
 
 -- the sum of item i

@@ -1,9 +1,7 @@
 -- What a fold of a CPU makes of a state.
 use Rattle.std.specs.Prelude.{◌≡◌, ℕ, nat_eq, ◌&&◌, Bool, ◌+ℤ◌, pos, Some, if◌then◌else◌}
-use Rattle.vms_base.specs.Places.{Shape, IsCounter, IsCpu, IsItem, IsZone, counter_count, item_of}
-use Rattle.vms_history.specs.Sums.{sum_below}
-use Rattle.vms_core.specs.declared.states.State.{State}
-use Rattle.vms_core.specs.Cells.{HasShape, acknowledged_at, diff_at, system_at, threshold_sets_at, value_at}
+use Rattle.vms_calls.specs.Common.{Shape, IsCounter, IsCpu, IsItem, IsZone, counter_count, item_of, sum_below, State}
+use Rattle.vms_calls.specs.Common.{HasShape, acknowledged_at, diff_at, system_at, threshold_sets_at, value_at}
 
 -- the differentials of CPU c are added to the global values and to the system-wide ones, and are 0; where its owner
 -- folds, the CPU acknowledges the thresholds of all zones as they were set last; all else stays

@@ -6,3 +6,4 @@ pub mod Orders
 pub mod Balances
 pub mod Folding
 pub mod FoldParts
+pub mod Common

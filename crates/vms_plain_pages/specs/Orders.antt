@@ -1,31 +1,11 @@
 -- What a test of a zone for blocks of an order answers, by the state.
-use Rattle.std.specs.Prelude.{ℕ, suc, zero, ◌-◌, nat_eq, ◌&&◌, not, Bool, List, [], filter, position, slice_index_or}
-use Rattle.std.specs.Prelude.{if◌then◌else◌, Option, None, is_some, option_map}
+use Rattle.std.specs.Prelude.{ℕ, suc, zero, nat_eq, not, Bool, List, if◌then◌else◌, Option, None, is_some, option_map}
 use Rattle.std.specs.List.{find}
-use Rattle.std.specs.Str.{bytes_eq}
-use Rattle.vms_base.specs.declared.headers.Header.{Header}
-use Rattle.vms_base.specs.declared.headers.ItemDecl.{ItemDecl}
-use Rattle.vms_base.specs.declared.kinds.WaterMark.{WaterMark}
-use Rattle.vms_base.specs.Areas.{Area, area_names, areas_from, areas_of}
-use Rattle.vms_base.specs.Places.{Shape, counter_at}
-use Rattle.vms_base.specs.Watermarks.{limit_of}
-use Rattle.vms_core.specs.declared.states.State.{State}
-use Rattle.vms_calls.specs.Turns as turns
-use Rattle.vms_calls.specs.Turns.{has_room}
-use Rattle.vms_plain_pages.specs.declared.orders.OrderVerdict.{OrderVerdict}
+use Rattle.vms_calls.specs.Common.{Header, WaterMark, Area, areas_from, areas_of, Shape, counter_at, limit_of, State}
+use Rattle.vms_calls.specs.Common.{has_room}
+use Rattle.vms_calls.specs.declared.answers.OrderVerdict.{OrderVerdict}
 use Rattle.vms_plain_pages.specs.Values.{snapshot_of}
 use Rattle.vms_plain_pages.specs.Verdicts.{free_of, takes_snapshot, verdict_at}
-
--- a verdict as the relation of the call has it
-abbrev pub order_verdict_told : OrderVerdict → turns.OrderVerdict
-order_verdict_told verdict =
-    record { yes = verdict.yes; free = verdict.free; fast = verdict.fast; area = verdict.area }
-
--- which of the zones' declared items counts the free blocks of an order
-abbrev pub area_index : List ItemDecl → ℕ → Option ℕ
-area_index items order = position
-    (λ item. bytes_eq item.name (slice_index_or area_names (order - 1) []) && not item.bytes)
-    (filter (λ item. not item.node) items)
 
 -- whether an area of zone g has a free block
 abbrev pub has_block : Shape → State → ℕ → Area → Bool
@@ -50,7 +30,7 @@ zone_passes header g mark most (suc n) s = is_some (area_found header g mark mos
 
 -- the answer of a test whether zone g has more free pages than a watermark asks for, and a free block of an order or
 -- larger
-abbrev pub order_verdict_at : Header → ℕ → WaterMark → (most order : ℕ) → State → turns.OrderVerdict
+abbrev pub order_verdict_at : Header → ℕ → WaterMark → (most order : ℕ) → State → OrderVerdict
 order_verdict_at header g mark most order s = record {
   yes = zone_passes header g mark most order s;
   free = free_of header.layout s g;

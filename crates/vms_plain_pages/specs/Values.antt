@@ -1,11 +1,6 @@
 -- What the calls that look at one counter answer, by the state.
 use Rattle.std.specs.Prelude.{ℕ, ℤ, pos, ◌+ℤ◌, if◌then◌else◌}
-use Rattle.vms_base.specs.Cpus.{is_online}
-use Rattle.vms_base.specs.Places.{Shape}
-use Rattle.vms_history.specs.Sums.{sum_below}
-use Rattle.vms_core.specs.declared.states.State.{State}
-use Rattle.vms_core.specs.Cells.{cpu_at, diff_at, value_at}
-use Rattle.vms_calls.specs.Looks.{at_least_zero}
+use Rattle.vms_calls.specs.Common.{is_online, Shape, sum_below, State, cpu_at, diff_at, value_at, at_least_zero}
 
 -- the differential of a CPU for counter k, where the CPU is online
 abbrev pub online_diff : State → ℕ → ℕ → ℤ

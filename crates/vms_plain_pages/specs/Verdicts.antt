@@ -1,19 +1,9 @@
 -- What a test of a watermark answers, by the state.
 use Rattle.std.specs.Prelude.{ℕ, nat_eq, nat_lt, not, ◌&&◌, Bool, if◌then◌else◌}
-use Rattle.vms_base.specs.declared.headers.Header.{Header}
-use Rattle.vms_base.specs.declared.kinds.WaterMark.{WaterMark}
-use Rattle.vms_base.specs.Places.{Shape, counter_at}
-use Rattle.vms_base.specs.Watermarks.{limit_of}
-use Rattle.vms_core.specs.declared.states.State.{State}
-use Rattle.vms_core.specs.Cells.{mark_at, value_at}
-use Rattle.vms_calls.specs.Looks as looks
-use Rattle.vms_calls.specs.Looks.{at_least_zero}
-use Rattle.vms_plain_pages.specs.declared.watermarks.Verdict.{Verdict}
+use Rattle.vms_calls.specs.Common.{Header, WaterMark, Shape, counter_at, limit_of, State, mark_at, value_at}
+use Rattle.vms_calls.specs.Common.{at_least_zero}
+use Rattle.vms_calls.specs.declared.answers.Verdict.{Verdict}
 use Rattle.vms_plain_pages.specs.Values.{snapshot_of}
-
--- a verdict as the relation of the call has it
-abbrev pub verdict_told : Verdict → looks.Verdict
-verdict_told verdict = record { yes = verdict.yes; free = verdict.free; fast = verdict.fast }
 
 -- the value of the free pages of zone g
 abbrev pub free_value : Shape → State → ℕ → ℕ
@@ -29,7 +19,7 @@ free_of shape s g =
     if takes_snapshot shape s g then snapshot_of shape s (counter_at shape g 0) else free_value shape s g
 
 -- the answer of a test whether zone g has more free pages than a watermark asks for
-abbrev pub verdict_at : Header → ℕ → WaterMark → ℕ → State → looks.Verdict
+abbrev pub verdict_at : Header → ℕ → WaterMark → ℕ → State → Verdict
 verdict_at header g mark most s = record {
   yes = nat_lt (limit_of header g mark most) (free_of header.layout s g);
   free = free_of header.layout s g;

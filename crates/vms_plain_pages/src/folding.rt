@@ -1,10 +1,7 @@
 ghost use Rattle.std.specs.Prelude.{◌≡◌, ℕ, ◌+◌, ◌/◌, ◌≤◌, ◌^◌, ◌+ℤ◌, true, length, Option, slice_set, unsigned_abs};
-ghost use Rattle.vms_base.specs.declared.ids.CpuId.{CpuId};
-ghost use Rattle.vms_base.specs.Places.{IsCounter, IsCpu, IsGroup, IsItem, IsPlace, counter_at, counter_count};
-ghost use Rattle.vms_base.specs.Places.{group_of, item_count, item_of};
-ghost use Rattle.vms_core.specs.Cells.{system_at, value_at, with_value};
-ghost use Rattle.vms_calls.specs.Folds.{IsFold};
-ghost use Rattle.vms_plain_pages.specs.Alone.{HasRoom, MakesAlone};
+ghost use Rattle.vms_calls.specs.Common.{CpuId, IsCounter, IsCpu, IsGroup, IsItem, IsPlace, counter_at, counter_count};
+ghost use Rattle.vms_calls.specs.Common.{group_of, item_count, item_of, system_at, value_at, with_value, IsFold};
+ghost use Rattle.vms_plain_pages.specs.Alone.{IsSmallState, CallLeadsAlone};
 ghost use Rattle.vms_plain_pages.specs.Folding.{FoldsCpu};
 ghost use Rattle.vms_plain_pages.specs.FoldParts.{AddsSums, AreSums, FoldsGroups, FoldsPlace, sum_at};
 
@@ -19,10 +16,10 @@ const MOST_ITEMS: usize = 32;
 /// `own`, and acknowledges the threshold of each zone once the zone's differentials are taken, which is not the
 /// kernel's.
 pub fn fold(pages: &mut Plain, layout: &Layout, cpu: CpuId, own: bool)
-    requires room { HasRoom layout.now (2 ^ 61) pages.old }
+    requires room { IsSmallState layout.now (2 ^ 61) pages.old }
     requires cpu { IsCpu layout.now cpu.number }
     ensures made { (who : Option CpuId) → (own ≡ true → who ≡ Some cpu) →
-        MakesAlone who (IsFold layout.now own cpu) pages.old pages.new }
+        CallLeadsAlone who (IsFold layout.now own cpu) pages.old pages.new }
     ensures folds { FoldsCpu layout.now own cpu.number pages.old pages.new }
 {
     let mut sums = [0; MOST_ITEMS];
@@ -42,7 +39,7 @@ fn fold_place(
     place: PlaceId,
     sums: &mut [i64; MOST_ITEMS],
 )
-    requires room { HasRoom layout.now (2 ^ 61 + 125) pages.old }
+    requires room { IsSmallState layout.now (2 ^ 61 + 125) pages.old }
     requires cpu { IsCpu layout.now cpu.number }
     requires place { IsPlace layout.now place.number }
     requires sums { AreSums (2 ^ 20) sums.old }
@@ -67,7 +64,7 @@ fn fold_groups(
     place: PlaceId,
     sums: &mut [i64; MOST_ITEMS],
 )
-    requires room { HasRoom layout.now (2 ^ 61 + 125) pages.old }
+    requires room { IsSmallState layout.now (2 ^ 61 + 125) pages.old }
     requires cpu { IsCpu layout.now cpu.number }
     requires place { IsPlace layout.now place.number }
     requires sums { AreSums (2 ^ 20) sums.old }
@@ -90,7 +87,7 @@ fn fold_group(
     group: GroupId,
     sums: &mut [i64; MOST_ITEMS],
 )
-    requires room { HasRoom layout.now (2 ^ 61 + 250) pages.old }
+    requires room { IsSmallState layout.now (2 ^ 61 + 250) pages.old }
     requires cpu { IsCpu layout.now cpu.number }
     requires group { IsGroup layout.now group.number }
     requires sums { AreSums (2 ^ 21) sums.old }

@@ -9,9 +9,9 @@ mod tables;
 mod values;
 mod watermarks;
 
-pub use balances::{Balance, balance_test, is_up_to};
+pub use balances::balance_test;
 pub use folding::fold;
-pub use orders::{OrderVerdict, item_index, order_test};
+pub use orders::order_test;
 pub use tables::PlainPages;
 pub use values::{place_value, snapshot, system_value};
-pub use watermarks::{Verdict, limit, watermark_test};
+pub use watermarks::watermark_test;

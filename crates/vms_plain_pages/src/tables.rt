@@ -1,10 +1,8 @@
-ghost use Rattle.vms_core.specs.declared.states.State.{State};
-ghost use Rattle.vms_core.specs.Pages.{pages};
-ghost use Rattle.vms_calls.specs.MayMake.{Tells};
+ghost use Rattle.vms_calls.specs.Common.{State, pages, Tells};
 ghost use Rattle.vms_plain_pages.specs.StateSteps.{pages_by_state, pages_are_by_state};
 
-use vms_alone::StateTable;
 use vms_core::{Facts, Step};
+use vms_history::StateTable;
 
 /// The page counters as a table whose steps tell and do what the state decides.
 #[derive(Debug, Drop)]

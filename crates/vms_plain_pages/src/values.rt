@@ -1,13 +1,8 @@
 ghost use Rattle.std.specs.Prelude.{◌≡◌, ℕ, ◌*◌, ◌<◌, ◌≤◌, ◌^◌, ◌↔◌, length, IsTrue, Option, unsigned_abs};
-ghost use Rattle.vms_base.specs.declared.ids.CpuId.{CpuId};
-ghost use Rattle.vms_base.specs.declared.kinds.CpuState.TheVariants.{Online};
-ghost use Rattle.vms_base.specs.Cpus.{is_online as tells_online, state_at};
-ghost use Rattle.vms_base.specs.Places.{IsCounter, IsCpu};
-ghost use Rattle.vms_base.specs.Thresholds.{most_threshold};
-ghost use Rattle.vms_core.specs.Cells.{counters_of, diff_at, system_at, value_at};
-ghost use Rattle.vms_history.specs.Sums.{sum_below};
-ghost use Rattle.vms_calls.specs.Looks.{IsPlaceValue, IsSnapshot, IsSystemValue, at_least_zero};
-ghost use Rattle.vms_plain_pages.specs.Alone.{HasRoom, MakesAlone};
+ghost use Rattle.vms_calls.specs.Common.{CpuId, Online, is_online as tells_online, state_at, IsCounter, IsCpu};
+ghost use Rattle.vms_calls.specs.Common.{most_threshold, counters_of, diff_at, system_at, value_at, sum_below};
+ghost use Rattle.vms_calls.specs.Common.{IsPlaceValue, IsSnapshot, IsSystemValue, at_least_zero};
+ghost use Rattle.vms_plain_pages.specs.Alone.{IsSmallState, CallLeadsAlone};
 ghost use Rattle.vms_plain_pages.specs.Values.{online_diff, snapshot_of};
 
 use vms_base::{CounterId, CpuId, CpuState, ItemId, Layout};
@@ -19,7 +14,7 @@ use vms_core::Plain;
 pub fn place_value(pages: &Plain, counter: CounterId) -> u64
     requires { counter.number < counters_of pages.now }
     ensures made { (who : Option CpuId) →
-        MakesAlone who (λ steps. IsPlaceValue counter steps result) pages.now pages.now }
+        CallLeadsAlone who (λ steps. IsPlaceValue counter steps result) pages.now pages.now }
     ensures answer { result ≡ at_least_zero (value_at pages.now counter.number) }
 {
     clamped(pages.load_place(counter))
@@ -31,7 +26,7 @@ pub fn place_value(pages: &Plain, counter: CounterId) -> u64
 pub fn system_value(pages: &Plain, item: ItemId) -> u64
     requires { item.number < length pages.now.system }
     ensures made { (who : Option CpuId) →
-        MakesAlone who (λ steps. IsSystemValue item steps result) pages.now pages.now }
+        CallLeadsAlone who (λ steps. IsSystemValue item steps result) pages.now pages.now }
     ensures answer { result ≡ at_least_zero (system_at pages.now item.number) }
 {
     clamped(pages.load_system(item))
@@ -40,10 +35,11 @@ pub fn system_value(pages: &Plain, item: ItemId) -> u64
 /// The global value of a counter with what the online CPUs have not folded yet, in pages, and 0 where that is negative
 /// (`zone_page_state_snapshot` of include/linux/vmstat.h; the same of a node's counter).
 pub fn snapshot(pages: &Plain, layout: &Layout, counter: CounterId) -> u64
-    requires room { HasRoom layout.now (2 ^ 61) pages.now }
+    requires room { IsSmallState layout.now (2 ^ 61) pages.now }
     requires counter { IsCounter layout.now counter.number }
     ensures made { (who : Option CpuId) →
-        MakesAlone who (λ steps. IsSnapshot layout.now counter steps result) pages.now pages.now }
+        CallLeadsAlone who (λ steps. IsSnapshot layout.now counter steps result)
+        pages.now pages.now }
     ensures answer { result ≡ snapshot_of layout.now pages.now counter.number }
 {
     // The layout's bounds are known once it is read.
@@ -54,7 +50,7 @@ pub fn snapshot(pages: &Plain, layout: &Layout, counter: CounterId) -> u64
 
 /// What the online CPUs have not folded yet of a counter, in pages.
 fn hidden(pages: &Plain, layout: &Layout, counter: CounterId) -> i64
-    requires room { HasRoom layout.now (2 ^ 61) pages.now }
+    requires room { IsSmallState layout.now (2 ^ 61) pages.now }
     requires counter { IsCounter layout.now counter.number }
     ensures value { result ≡ sum_below (λ c. online_diff pages.now c counter.number) layout.now.cpus }
     ensures bound { unsigned_abs result ≤ 128 * most_threshold }
@@ -100,7 +96,7 @@ fn is_online(state: CpuState) -> bool
 
 /// The differentials of all CPUs together, in pages.
 fn hidden_by_all(pages: &Plain, layout: &Layout, counter: CounterId) -> i64
-    requires room { HasRoom layout.now (2 ^ 61) pages.now }
+    requires room { IsSmallState layout.now (2 ^ 61) pages.now }
     requires counter { IsCounter layout.now counter.number }
     ensures value { result ≡ sum_below (λ c. diff_at pages.now c counter.number) layout.now.cpus }
     ensures bound { unsigned_abs result ≤ 128 * most_threshold }
@@ -114,7 +110,7 @@ fn hidden_by_all(pages: &Plain, layout: &Layout, counter: CounterId) -> i64
 
 /// The differentials of the online CPUs together, in pages.
 fn hidden_by_online(pages: &Plain, layout: &Layout, counter: CounterId) -> i64
-    requires room { HasRoom layout.now (2 ^ 61) pages.now }
+    requires room { IsSmallState layout.now (2 ^ 61) pages.now }
     requires counter { IsCounter layout.now counter.number }
     ensures value { result ≡ sum_below (λ c. online_diff pages.now c counter.number) layout.now.cpus }
     ensures bound { unsigned_abs result ≤ 128 * most_threshold }
@@ -129,7 +125,7 @@ fn hidden_by_online(pages: &Plain, layout: &Layout, counter: CounterId) -> i64
 /// The differential of a CPU that is online, in pages, and 0 of any other CPU.
 #[inline]
 fn online_differential(pages: &Plain, layout: &Layout, cpu: CpuId, counter: CounterId) -> i64
-    requires room { HasRoom layout.now (2 ^ 61) pages.now }
+    requires room { IsSmallState layout.now (2 ^ 61) pages.now }
     requires cpu { IsCpu layout.now cpu.number }
     requires counter { IsCounter layout.now counter.number }
     ensures value { result ≡ online_diff pages.now cpu.number counter.number }

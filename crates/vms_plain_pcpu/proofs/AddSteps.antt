@@ -3,20 +3,15 @@ use Rattle.std.proofs.Common.{◌≡◌, ◌<◌, ◌≤◌, Bool, true, false, 
 use Rattle.std.proofs.Common.{arith, length, ◌+◌, get_or-set_same, ℤ, pos, ◌+ℤ◌, unsigned_abs, if◌then◌else◌, nat_lt}
 use Rattle.std.proofs.lemmas.Bool.Decides.{nat_tests}
 use Rattle.std.proofs.lemmas.Int.{ints}
-use Rattle.vms_base.specs.declared.ids.CpuId.{CpuId}
-use Rattle.vms_base.specs.declared.ids.PcpuId.{PcpuId}
-use Rattle.vms_base.specs.Places.{cell}
-use Rattle.vms_base.proofs.Cells.{cell-lt}
+use Rattle.vms_history.specs.Common.{CpuId, PcpuId, cell}
+use Rattle.vms_base.proofs.Common.{cell-lt}
 use Rattle.vms_pcpu_core.specs.declared.states.PcpuState.{PcpuState}
 use Rattle.vms_pcpu_core.specs.declared.steps.PcpuStep.{PcpuStep}
 use Rattle.vms_pcpu_core.specs.declared.steps.PcpuStep.TheVariants.{AddL, Won, LoadL, TakeL, AddC, Unlock}
-use Rattle.vms_pcpu_core.specs.Calls.{IsAdd, IsSync}
-use Rattle.vms_pcpu_core.specs.Calls.IsAdd.{below, reached}
-use Rattle.vms_pcpu_core.specs.Calls.IsSync.{moved}
-use Rattle.vms_pcpu_core.specs.Calls.Locks.{won}
-use Rattle.vms_pcpu_core.specs.States.{LockedState, batch_at, count_at, counters_of, local_at}
-use Rattle.vms_plain_pcpu.specs.FreeLocks.{LeadsAlone, under_free_locks}
-use Rattle.vms_plain_pcpu.specs.Numbers.{HasLocals, HasRoomFor, with_added, with_local_added, with_local_moved}
+use Rattle.vms_pcpu_core.specs.Common.{IsAdd, IsSync, below, reached, moved, won, LockedState, batch_at, count_at}
+use Rattle.vms_pcpu_core.specs.Common.{counters_of, local_at}
+use Rattle.vms_plain_pcpu.specs.Common.{LeadsAlone, under_free_locks, HasLocals, HasRoomFor, with_added}
+use Rattle.vms_plain_pcpu.specs.Common.{with_local_added, with_local_moved}
 use Rattle.vms_plain_pcpu.proofs.StepsAlone.{LeadsAlone-cons, LeadsAlone-none, LeadsAlone-unlock, LeadsAlone-won}
 use Rattle.vms_plain_pcpu.proofs.StepsAlone.{under_lock}
 

@@ -2,12 +2,10 @@
 use Rattle.std.proofs.Common.{◌≡◌, ◌<◌, ◌≤◌, ℕ, zero, suc, true, false, List, ℤ, pos, negsuc, ◌-ℤ◌, unsigned_abs, refl}
 use Rattle.std.proofs.Common.{arith, w8, to_z, of_z}
 use Rattle.std.proofs.lemmas.Int.{ints}
-use Rattle.vms_base.specs.declared.kinds.CpuState.{CpuState}
+use Rattle.vms_history.specs.Common.{CpuState}
 use Rattle.vms_pcpu_core.specs.declared.states.PcpuState.{PcpuState}
-use Rattle.vms_pcpu_core.specs.Calls.{sign_of}
-use Rattle.vms_pcpu_core.specs.States.{count_at}
-use Rattle.vms_plain_pcpu.specs.Answers.{ComparesTotal}
-use Rattle.vms_plain_pcpu.specs.Numbers.{HasRoomFor, total_in, unknown_in}
+use Rattle.vms_pcpu_core.specs.Common.{sign_of, count_at}
+use Rattle.vms_plain_pcpu.specs.Common.{ComparesTotal, HasRoomFor, total_in, unknown_in}
 use Rattle.vms_plain_pcpu.proofs.LocalSums.{locals_over-unknown}
 use Rattle.vms_plain_pcpu.proofs.SumSteps.{sign_of-same}
 

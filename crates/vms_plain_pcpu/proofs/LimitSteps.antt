@@ -4,25 +4,15 @@ use Rattle.std.proofs.Common.{sym, ap, subst, ◌∙◌, arith, ℤ, pos, ◌+�
 use Rattle.std.proofs.Common.{int_le, int_lt, nat_le, ◌^◌, w64, to_z, of_z}
 use Rattle.std.proofs.lemmas.Bool.Decides.{nat_tests}
 use Rattle.std.proofs.lemmas.Int.{by_lt_z, ints}
-use Rattle.vms_base.specs.declared.ids.CpuId.{CpuId}
-use Rattle.vms_base.specs.declared.ids.PcpuId.{PcpuId}
-use Rattle.vms_base.specs.declared.kinds.CpuState.{CpuState}
-use Rattle.vms_base.specs.Cpus.{is_present, present_from, state_at}
-use Rattle.vms_base.specs.Volumes.{most_volume}
+use Rattle.vms_history.specs.Common.{CpuId, PcpuId, CpuState, is_present, present_from, state_at, most_volume}
 use Rattle.vms_pcpu_core.specs.declared.states.PcpuState.{PcpuState}
 use Rattle.vms_pcpu_core.specs.declared.steps.PcpuStep.{PcpuStep}
 use Rattle.vms_pcpu_core.specs.declared.steps.PcpuStep.TheVariants.{AddL, Won, LoadL, LoadC, TakeL, AddC, Unlock}
-use Rattle.vms_pcpu_core.specs.Calls.{IsLimitedAdd, Judges, Probes, Settles, room}
-use Rattle.vms_pcpu_core.specs.Calls.IsLimitedAdd.{nothing, unlocked, locked}
-use Rattle.vms_pcpu_core.specs.Calls.Judges.{beyond, inside, close}
-use Rattle.vms_pcpu_core.specs.Calls.Locks.{won}
-use Rattle.vms_pcpu_core.specs.Calls.Probes.{large, narrow}
-use Rattle.vms_pcpu_core.specs.Calls.Settles.{yes_ends, no_ends}
-use Rattle.vms_pcpu_core.specs.States.{LockedState, batch_at, count_at, local_at}
-use Rattle.vms_plain_pcpu.specs.Answers.{AnswersByLimit}
-use Rattle.vms_plain_pcpu.specs.FreeLocks.{LeadsAlone, under_free_locks}
-use Rattle.vms_plain_pcpu.specs.Numbers.{HasRoomFor, goes_unlocked, locals_over, total_in, unknown_in}
-use Rattle.vms_plain_pcpu.specs.Numbers.{with_local_added, with_local_moved}
+use Rattle.vms_pcpu_core.specs.Common.{IsLimitedAdd, Judges, Probes, EndsLimitedAdd, room, nothing, unlocked, locked}
+use Rattle.vms_pcpu_core.specs.Common.{beyond, inside, close, won, large, narrow, yes_ends, no_ends, LockedState}
+use Rattle.vms_pcpu_core.specs.Common.{batch_at, count_at, local_at}
+use Rattle.vms_plain_pcpu.specs.Common.{AnswersByLimit, LeadsAlone, under_free_locks, HasRoomFor, goes_unlocked}
+use Rattle.vms_plain_pcpu.specs.Common.{locals_over, total_in, unknown_in, with_local_added, with_local_moved}
 use Rattle.vms_plain_pcpu.proofs.AddSteps.{LeadsAlone-add_local, LeadsAlone-move}
 use Rattle.vms_plain_pcpu.proofs.LocalSums.{locals_over-unknown, others-unknown}
 use Rattle.vms_plain_pcpu.proofs.SignedWords.{same_word}
@@ -262,7 +252,7 @@ module _ (s : PcpuState) (states : List CpuState) (cpu : CpuId) (j : PcpuId) (li
         regroup = omega (arith, ints)
 
     -- how it ends
-    settles-alone : (b : Bool) → (ending : List PcpuStep) × Settles cpu j amount b ending
+    settles-alone : (b : Bool) → (ending : List PcpuStep) × EndsLimitedAdd cpu j amount b ending
         × LeadsAlone who ending held
         (under_free_locks (if b then with_local_moved cpu.number j.number amount s else s))
     settles-alone true = (

@@ -5,12 +5,10 @@ use Rattle.std.specs.List.{count_by}
 use Rattle.std.proofs.lemmas.Int.{ints}
 use Rattle.std.proofs.lemmas.List.{drop_more, drop_all}
 use Rattle.std.proofs.lemmas.List.Sums.{sum_by-cons}
-use Rattle.vms_base.specs.declared.kinds.CpuState.{CpuState}
-use Rattle.vms_base.specs.declared.kinds.CpuState.TheVariants.{Online, Dead, Absent}
-use Rattle.vms_base.specs.Cpus.{is_present, present_from, state_at}
+use Rattle.vms_history.specs.Common.{CpuState, Online, Dead, Absent, is_present, present_from, state_at}
 use Rattle.vms_pcpu_core.specs.declared.states.PcpuState.{PcpuState}
-use Rattle.vms_pcpu_core.specs.States.{batch_at, local_at}
-use Rattle.vms_plain_pcpu.specs.Numbers.{HasRoomFor, locals_over, unknown_in}
+use Rattle.vms_pcpu_core.specs.Common.{batch_at, local_at}
+use Rattle.vms_plain_pcpu.specs.Common.{HasRoomFor, locals_over, unknown_in}
 
 module _ (b : ℕ) where
   -- what CPUs may hide where each that is present may hide b

@@ -6,17 +6,14 @@ use Rattle.std.proofs.Math.Numerals.{add-one}
 use borrow.Author.Count.{below_more}
 use Rattle.std.proofs.lemmas.Bool.{cases_eq}
 use Rattle.std.proofs.lemmas.Int.{ints}
-use Rattle.vms_base.specs.declared.ids.CpuId.{CpuId}
-use Rattle.vms_base.specs.Places.{cell}
-use Rattle.vms_base.proofs.Cells.{cell-injective, cell-lt}
+use Rattle.vms_history.specs.Common.{CpuId, cell}
+use Rattle.vms_base.proofs.Common.{cell-injective, cell-lt}
 use Rattle.vms_pcpu_core.specs.declared.states.PcpuState.{PcpuState}
 use Rattle.vms_pcpu_core.specs.declared.steps.PcpuStep.{PcpuStep}
-use Rattle.vms_pcpu_core.specs.Calls.{IsFoldDead, IsSync}
-use Rattle.vms_pcpu_core.specs.Calls.IsFoldDead.{no_counter, one_counter}
-use Rattle.vms_pcpu_core.specs.Laws.{most_number}
-use Rattle.vms_pcpu_core.specs.States.{batch_at, count_at, counters_of, local_at}
-use Rattle.vms_plain_pcpu.specs.FreeLocks.{LeadsAlone, under_free_locks}
-use Rattle.vms_plain_pcpu.specs.Numbers.{MovesLocals, HasLocals, HasRoomFor, with_local_moved}
+use Rattle.vms_pcpu_core.specs.Common.{IsFoldDead, IsSync, no_counter, one_counter, most_number, batch_at, count_at}
+use Rattle.vms_pcpu_core.specs.Common.{counters_of, local_at}
+use Rattle.vms_plain_pcpu.specs.Common.{LeadsAlone, under_free_locks, MovesLocals, HasLocals, HasRoomFor}
+use Rattle.vms_plain_pcpu.specs.Common.{with_local_moved}
 use Rattle.vms_plain_pcpu.proofs.AddSteps.{IsSync-alone}
 use Rattle.vms_plain_pcpu.proofs.StepsAlone.{LeadsAlone-append, LeadsAlone-none}
 

@@ -5,20 +5,13 @@ use Rattle.std.proofs.Math.Nat.{mul-le-mul_right}
 use Rattle.std.proofs.lemmas.Bool.{cases_lt}
 use Rattle.std.proofs.lemmas.Int.{ints}
 use Rattle.std.proofs.lemmas.List.{get_or_past}
-use Rattle.vms_base.specs.declared.kinds.CpuState.{CpuState}
-use Rattle.vms_base.specs.declared.kinds.CpuState.TheVariants.{Online, Dead, Absent}
-use Rattle.vms_base.specs.Cpus.{present_from, state_at}
-use Rattle.vms_base.specs.Places.{cell}
-use Rattle.vms_history.specs.Sums.{sum_below}
-use Rattle.vms_history.proofs.Prefixes.{base_can_begin}
+use Rattle.vms_history.specs.Common.{CpuState, Online, Dead, Absent, present_from, state_at, cell, sum_below}
+use Rattle.vms_history.proofs.Common.{base_can_begin}
 use Rattle.vms_pcpu_core.specs.declared.states.PcpuState.{PcpuState}
 use Rattle.vms_pcpu_core.specs.declared.steps.PcpuFacts.{PcpuFacts}
-use Rattle.vms_pcpu_core.specs.Calls.{unknown}
-use Rattle.vms_pcpu_core.specs.Histories.{percpu, History, IsLegal}
-use Rattle.vms_pcpu_core.specs.Laws.{KeepsLaws, numbers_after}
-use Rattle.vms_pcpu_core.specs.States.{IsPcpu, batch_at, count_at, counters_of, local_at}
-use Rattle.vms_pcpu_core.specs.Totals.{locals, present}
-use Rattle.vms_plain_pcpu.specs.Numbers.{HasLocals, HasRoomFor, locals_over, total_in, unknown_in}
+use Rattle.vms_pcpu_core.specs.Common.{unknown, percpu, History, IsLegal, KeepsLaws, numbers_after, IsPcpu, batch_at}
+use Rattle.vms_pcpu_core.specs.Common.{count_at, counters_of, local_at, locals, present}
+use Rattle.vms_plain_pcpu.specs.Common.{HasLocals, HasRoomFor, locals_over, total_in, unknown_in}
 
 -- the local parts of the CPUs that are present, from CPU c on, are those of all CPUs, where an absent one has none
 module _ (s : PcpuState) (j : ℕ) where

@@ -5,15 +5,14 @@ use Rattle.std.proofs.Math.ListN.{set}
 use Rattle.std.proofs.lemmas.Bool.{cases_lt}
 use Rattle.std.proofs.lemmas.List.{get_or-replicate, get_or_past, length-replicate, set-get_or, set-set}
 use Rattle.std.proofs.lemmas.List.Elements.{All-append, All-cons, All-nil}
-use Rattle.vms_base.specs.declared.ids.CpuId.{CpuId}
-use Rattle.vms_base.specs.declared.ids.PcpuId.{PcpuId}
-use Rattle.vms_alone.proofs.InRow.{LeadsOn-append}
+use Rattle.vms_history.specs.Common.{CpuId, PcpuId}
+use Rattle.vms_history.proofs.Common.{LeadsOn-append}
 use Rattle.vms_pcpu_core.specs.declared.states.PcpuState.{PcpuState}
 use Rattle.vms_pcpu_core.specs.declared.steps.PcpuStep.{PcpuStep}
 use Rattle.vms_pcpu_core.specs.declared.steps.PcpuStep.TheVariants.{Won, Unlock}
-use Rattle.vms_pcpu_core.specs.States.{LockedState, counters_of, with_held}
-use Rattle.vms_plain_pcpu.specs.FreeLocks.{LeadsAlone, MissesNone, under_free_locks}
-use Rattle.vms_plain_pcpu.specs.StateSteps.{TellsNumber, effect_by, percpu_by_state}
+use Rattle.vms_pcpu_core.specs.Common.{LockedState, counters_of, with_held}
+use Rattle.vms_plain_pcpu.specs.Common.{LeadsAlone, MissesNone, under_free_locks, TellsNumber, effect_by}
+use Rattle.vms_plain_pcpu.specs.Common.{percpu_by_state}
 
 lock-free : (n j : ℕ) → get_or (replicate n false) j false ≡ false
 lock-free n j = ⊎_elim (λ inside. get_or-replicate n j false false inside)

@@ -2,21 +2,13 @@
 use Rattle.std.proofs.Common.{◌≡◌, ℕ, zero, suc, ◌<◌, ◌≤◌, true, false, List, [], ◌∷◌, ◌++◌, Option, refl, sym, subst}
 use Rattle.std.proofs.Common.{arith, ℤ, pos, negsuc, ◌+ℤ◌, ◌-ℤ◌, unsigned_abs}
 use Rattle.std.proofs.lemmas.Int.{ints}
-use Rattle.vms_base.specs.declared.ids.CpuId.{CpuId}
-use Rattle.vms_base.specs.declared.ids.PcpuId.{PcpuId}
-use Rattle.vms_base.specs.declared.kinds.CpuState.{CpuState}
-use Rattle.vms_base.specs.Cpus.{present_from}
+use Rattle.vms_history.specs.Common.{CpuId, PcpuId, CpuState, present_from}
 use Rattle.vms_pcpu_core.specs.declared.states.PcpuState.{PcpuState}
 use Rattle.vms_pcpu_core.specs.declared.steps.PcpuStep.{PcpuStep}
 use Rattle.vms_pcpu_core.specs.declared.steps.PcpuStep.TheVariants.{Won, LoadL, LoadC, Unlock}
-use Rattle.vms_pcpu_core.specs.Calls.{IsCompare, IsRead, IsSum, LoadsEach, sign_of}
-use Rattle.vms_pcpu_core.specs.Calls.IsCompare.{far, near}
-use Rattle.vms_pcpu_core.specs.Calls.IsSum.{summed}
-use Rattle.vms_pcpu_core.specs.Calls.LoadsEach.{no_cpu, one_cpu}
-use Rattle.vms_pcpu_core.specs.Calls.Locks.{won}
-use Rattle.vms_pcpu_core.specs.States.{LockedState, count_at, local_at}
-use Rattle.vms_plain_pcpu.specs.FreeLocks.{LeadsAlone, under_free_locks}
-use Rattle.vms_plain_pcpu.specs.Numbers.{locals_over, total_in}
+use Rattle.vms_pcpu_core.specs.Common.{IsCompare, IsRead, IsSum, LoadsEach, sign_of, far, near, summed, no_cpu, one_cpu}
+use Rattle.vms_pcpu_core.specs.Common.{won, LockedState, count_at, local_at}
+use Rattle.vms_plain_pcpu.specs.Common.{LeadsAlone, under_free_locks, locals_over, total_in}
 use Rattle.vms_plain_pcpu.proofs.StepsAlone.{LeadsAlone-append, LeadsAlone-cons, LeadsAlone-none, LeadsAlone-unlock}
 use Rattle.vms_plain_pcpu.proofs.StepsAlone.{LeadsAlone-won, under_lock}
 

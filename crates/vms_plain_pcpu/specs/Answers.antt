@@ -1,10 +1,9 @@
 -- What the calls answer, by the numbers that stand.
 use Rattle.std.specs.Prelude.{◌≡◌, ℕ, ◌<◌, Bool, true, ℤ, pos, ◌+ℤ◌, ◌-ℤ◌, ◌≤ℤ◌, ◌<ℤ◌, List, ◌↔◌, unsigned_abs, IsTrue}
-use Rattle.vms_base.specs.declared.kinds.CpuState.{CpuState}
+use Rattle.vms_history.specs.Common.{CpuState}
 use Rattle.vms_pcpu_core.specs.declared.answers.Compare.{Compare}
 use Rattle.vms_pcpu_core.specs.declared.states.PcpuState.{PcpuState}
-use Rattle.vms_pcpu_core.specs.Calls.{sign_of}
-use Rattle.vms_pcpu_core.specs.States.{count_at}
+use Rattle.vms_pcpu_core.specs.Common.{sign_of, count_at}
 use Rattle.vms_plain_pcpu.specs.Numbers.{total_in, unknown_in}
 
 -- a comparison tells on which side of a number the total is; it is rough where the shared part is further off than the

@@ -1,11 +1,10 @@
 -- Numbers of one thread, whose locks are free before and after each call.
 use Rattle.std.specs.Prelude.{false, List, replicate, Option, All}
-use Rattle.vms_base.specs.declared.ids.CpuId.{CpuId}
-use Rattle.vms_alone.specs.InRow.{LeadsOn}
+use Rattle.vms_history.specs.Common.{CpuId, LeadsOn}
 use Rattle.vms_pcpu_core.specs.declared.states.PcpuState.{PcpuState}
 use Rattle.vms_pcpu_core.specs.declared.steps.PcpuStep.{PcpuStep}
 use Rattle.vms_pcpu_core.specs.declared.steps.PcpuStep.TheVariants.{Missed}
-use Rattle.vms_pcpu_core.specs.States.{LockedState, counters_of}
+use Rattle.vms_pcpu_core.specs.Common.{LockedState, counters_of}
 use Rattle.vms_plain_pcpu.specs.StateSteps.{percpu_by_state}
 
 -- the numbers under free locks

@@ -1,15 +1,9 @@
 -- The numbers of plain data: how large they are, and what calls make of them.
 use Rattle.std.specs.Prelude.{◌≡◌, ◌≢◌, ℕ, ◌*◌, ◌<◌, ◌≤◌, nat_eq, nat_le, nat_lt, ◌&&◌, ◌||◌, not, Bool, ℤ, pos, ◌+ℤ◌}
 use Rattle.std.specs.Prelude.{int_le, List, [], ◌∷◌, length, slice_set, if◌then◌else◌, unsigned_abs, count_by}
-use Rattle.vms_base.specs.declared.ids.CpuId.{CpuId}
-use Rattle.vms_base.specs.declared.kinds.CpuState.{CpuState}
-use Rattle.vms_base.specs.Cpus.{is_present, present_from}
-use Rattle.vms_base.specs.Places.{cell}
+use Rattle.vms_history.specs.Common.{CpuId, CpuState, is_present, present_from, cell}
 use Rattle.vms_pcpu_core.specs.declared.states.PcpuState.{PcpuState}
-use Rattle.vms_pcpu_core.specs.Bases.{most_batch}
-use Rattle.vms_pcpu_core.specs.Calls.{room}
-use Rattle.vms_pcpu_core.specs.Laws.{most_number}
-use Rattle.vms_pcpu_core.specs.States.{batch_at, count_at, counters_of, local_at}
+use Rattle.vms_pcpu_core.specs.Common.{most_batch, room, most_number, batch_at, count_at, counters_of, local_at}
 
 -- counter j stands in the lists, and its numbers are as small as in every history
 pub record HasRoomFor (s : PcpuState) (j : ℕ) : Type 0 where

@@ -1,16 +1,12 @@
 -- What the steps on the percpu counters tell and do, by the numbers and the locks alone.
 use Rattle.std.specs.Prelude.{◌≡◌, ℕ, true, false, pos, ◌+ℤ◌, Option, refl}
-use Rattle.vms_base.specs.declared.ids.CpuId.{CpuId}
-use Rattle.vms_history.specs.Passes.{owner_in}
-use Rattle.vms_alone.specs.InRow.{ByState, IsByState}
+use Rattle.vms_history.specs.Common.{CpuId, owner_in, ByState, IsByState}
 use Rattle.vms_pcpu_core.specs.declared.steps.PcpuFacts.{PcpuFacts}
 use Rattle.vms_pcpu_core.specs.declared.steps.PcpuStep.{PcpuStep}
 use Rattle.vms_pcpu_core.specs.declared.steps.PcpuStep.TheVariants.{AddL, LoadL, LoadC, Won, Missed, TakeL, AddC}
 use Rattle.vms_pcpu_core.specs.declared.steps.PcpuStep.TheVariants.{Unlock}
-use Rattle.vms_pcpu_core.specs.Histories.{percpu, History, state_after}
-use Rattle.vms_pcpu_core.specs.MayCall.{Tells}
-use Rattle.vms_pcpu_core.specs.States.{LockedState, count_at, held_at, local_at, with_count, with_held, with_local}
-use Rattle.vms_pcpu_core.specs.Steps.{role, effect, with_own_added}
+use Rattle.vms_pcpu_core.specs.Common.{percpu, History, state_after, Tells, LockedState, count_at, held_at, local_at}
+use Rattle.vms_pcpu_core.specs.Common.{with_count, with_held, with_local, role, effect, with_own_added}
 
 -- a load and a take tell the number that stands; a lock is won where it is free, and missed where it is held
 abbrev pub TellsNumber : Option CpuId → LockedState → PcpuStep → Type 0

@@ -1,9 +1,7 @@
 ghost use Rattle.std.specs.Prelude.{◌≡◌, ◌+◌, ◌<◌, ◌≤◌, ◌+ℤ◌, List, Option, Some, pos, unsigned_abs};
-ghost use Rattle.vms_base.specs.declared.ids.CpuId.{CpuId};
-ghost use Rattle.vms_base.specs.Volumes.{most_volume};
+ghost use Rattle.vms_history.specs.Common.{CpuId, most_volume};
 ghost use Rattle.vms_pcpu_core.specs.declared.steps.PcpuStep.{PcpuStep};
-ghost use Rattle.vms_pcpu_core.specs.Calls.{IsAdd, IsSync};
-ghost use Rattle.vms_pcpu_core.specs.States.{batch_at, count_at, local_at};
+ghost use Rattle.vms_pcpu_core.specs.Common.{IsAdd, IsSync, batch_at, count_at, local_at};
 ghost use Rattle.vms_plain_pcpu.specs.FreeLocks.{LeadsAlone, under_free_locks};
 ghost use Rattle.vms_plain_pcpu.specs.Numbers.{HasLocals, HasRoomFor, with_added, with_local_added, with_local_moved};
 

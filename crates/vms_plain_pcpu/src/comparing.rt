@@ -1,9 +1,7 @@
 ghost use Rattle.std.specs.Prelude.{◌≡◌, ◌≤◌, ◌^◌, length, List, Option, unsigned_abs};
-ghost use Rattle.vms_base.specs.declared.ids.CpuId.{CpuId};
-ghost use Rattle.vms_base.specs.Cpus.{present_from};
+ghost use Rattle.vms_history.specs.Common.{CpuId, present_from};
 ghost use Rattle.vms_pcpu_core.specs.declared.steps.PcpuStep.{PcpuStep};
-ghost use Rattle.vms_pcpu_core.specs.Calls.{IsCompare};
-ghost use Rattle.vms_pcpu_core.specs.Calls.{sign_of as sign_in};
+ghost use Rattle.vms_pcpu_core.specs.Common.{IsCompare, sign_of as sign_in};
 ghost use Rattle.vms_plain_pcpu.specs.Answers.{ComparesTotal};
 ghost use Rattle.vms_plain_pcpu.specs.FreeLocks.{LeadsAlone, under_free_locks};
 ghost use Rattle.vms_plain_pcpu.specs.Numbers.{HasLocals, HasRoomFor, unknown_in};

@@ -1,7 +1,6 @@
 ghost use Rattle.std.specs.Prelude.{◌≡◌, ℕ, ◌+◌, ◌<◌, ◌^◌, List, None};
 ghost use Rattle.vms_pcpu_core.specs.declared.steps.PcpuStep.{PcpuStep};
-ghost use Rattle.vms_pcpu_core.specs.Calls.{IsFoldDead};
-ghost use Rattle.vms_pcpu_core.specs.States.{counters_of};
+ghost use Rattle.vms_pcpu_core.specs.Common.{IsFoldDead, counters_of};
 ghost use Rattle.vms_plain_pcpu.specs.FreeLocks.{LeadsAlone, under_free_locks};
 ghost use Rattle.vms_plain_pcpu.specs.Numbers.{MovesLocals, HasLocals, HasRoomFor};
 

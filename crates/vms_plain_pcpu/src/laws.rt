@@ -1,10 +1,6 @@
 ghost use Rattle.std.specs.Prelude.{◌≡◌, ℕ, ◌≤◌, ◌+ℤ◌};
 ghost use Rattle.vms_pcpu_core.specs.declared.steps.PcpuFacts.{PcpuFacts};
-ghost use Rattle.vms_pcpu_core.specs.Calls.{unknown};
-ghost use Rattle.vms_pcpu_core.specs.Histories.{History, IsLegal};
-ghost use Rattle.vms_pcpu_core.specs.Laws.{numbers_after};
-ghost use Rattle.vms_pcpu_core.specs.States.{IsPcpu, count_at};
-ghost use Rattle.vms_pcpu_core.specs.Totals.{locals};
+ghost use Rattle.vms_pcpu_core.specs.Common.{unknown, History, IsLegal, numbers_after, IsPcpu, count_at, locals};
 ghost use Rattle.vms_plain_pcpu.specs.Numbers.{HasLocals, HasRoomFor, total_in, unknown_in};
 
 use vms_pcpu_core::laws_are_kept;

@@ -2,6 +2,7 @@
 #![tactic(auto)]
 
 mod adding;
+mod calls;
 mod comparing;
 mod folding;
 mod laws;
@@ -12,6 +13,7 @@ mod summing;
 mod tables;
 
 pub use adding::{add, sync};
+pub use calls::call;
 pub use comparing::compare;
 pub use folding::fold_dead;
 pub use laws::{histories_leave_room, present_cpus_hold_all};

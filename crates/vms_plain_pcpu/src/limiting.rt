@@ -1,10 +1,7 @@
 ghost use Rattle.std.specs.Prelude.{◌≡◌, ◌≢◌, ◌≤◌, ◌+◌, ◌^◌, ◌+ℤ◌, length, List, Some, pos, int_le, unsigned_abs, true};
-ghost use Rattle.vms_base.specs.Cpus.{is_present, present_from, state_at};
-ghost use Rattle.vms_base.specs.Volumes.{most_volume};
+ghost use Rattle.vms_history.specs.Common.{is_present, present_from, state_at, most_volume};
 ghost use Rattle.vms_pcpu_core.specs.declared.steps.PcpuStep.{PcpuStep};
-ghost use Rattle.vms_pcpu_core.specs.Calls.{IsLimitedAdd};
-ghost use Rattle.vms_pcpu_core.specs.Calls.{room as room_of};
-ghost use Rattle.vms_pcpu_core.specs.States.{batch_at};
+ghost use Rattle.vms_pcpu_core.specs.Common.{IsLimitedAdd, room as room_of, batch_at};
 ghost use Rattle.vms_plain_pcpu.specs.Answers.{AnswersByLimit};
 ghost use Rattle.vms_plain_pcpu.specs.FreeLocks.{LeadsAlone, under_free_locks};
 ghost use Rattle.vms_plain_pcpu.specs.Numbers.{HasLocals, HasRoomFor, total_in, unknown_in, with_limited};

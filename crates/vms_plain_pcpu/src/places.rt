@@ -1,6 +1,6 @@
 ghost use Rattle.std.specs.Prelude.{◌≡◌, ◌+◌, ◌<◌, length};
-ghost use Rattle.vms_base.specs.Places.{cell};
-ghost use Rattle.vms_pcpu_core.specs.States.{batch_at, counters_of, count_at, local_at};
+ghost use Rattle.vms_history.specs.Common.{cell};
+ghost use Rattle.vms_pcpu_core.specs.Common.{batch_at, counters_of, count_at, local_at};
 ghost use Rattle.vms_plain_pcpu.specs.Numbers.{HasLocals};
 
 use vms_base::{CpuId, PcpuId};

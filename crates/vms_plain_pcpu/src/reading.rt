@@ -1,8 +1,7 @@
 ghost use Rattle.std.specs.Prelude.{◌≡◌, ◌<◌, length, List, Option};
-ghost use Rattle.vms_base.specs.declared.ids.CpuId.{CpuId};
+ghost use Rattle.vms_history.specs.Common.{CpuId};
 ghost use Rattle.vms_pcpu_core.specs.declared.steps.PcpuStep.{PcpuStep};
-ghost use Rattle.vms_pcpu_core.specs.Calls.{IsRead};
-ghost use Rattle.vms_pcpu_core.specs.States.{count_at};
+ghost use Rattle.vms_pcpu_core.specs.Common.{IsRead, count_at};
 ghost use Rattle.vms_plain_pcpu.specs.FreeLocks.{LeadsAlone, under_free_locks};
 
 use crate::places::count;

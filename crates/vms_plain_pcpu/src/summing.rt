@@ -1,10 +1,7 @@
 ghost use Rattle.std.specs.Prelude.{◌≡◌, ◌+◌, ◌*◌, ◌<◌, ◌≤◌, length, List, Option, unsigned_abs, count_by};
-ghost use Rattle.vms_base.specs.declared.ids.CpuId.{CpuId};
-ghost use Rattle.vms_base.specs.Cpus.{is_present as tells_present, present_from};
+ghost use Rattle.vms_history.specs.Common.{CpuId, is_present as tells_present, present_from};
 ghost use Rattle.vms_pcpu_core.specs.declared.steps.PcpuStep.{PcpuStep};
-ghost use Rattle.vms_pcpu_core.specs.Bases.{most_batch};
-ghost use Rattle.vms_pcpu_core.specs.Calls.{IsSum};
-ghost use Rattle.vms_pcpu_core.specs.Summing.{most_sum};
+ghost use Rattle.vms_pcpu_core.specs.Common.{most_batch, IsSum, most_sum};
 ghost use Rattle.vms_plain_pcpu.specs.FreeLocks.{LeadsAlone, under_free_locks};
 ghost use Rattle.vms_plain_pcpu.specs.Numbers.{HasLocals, HasRoomFor, locals_over, total_in, unknown_in};
 

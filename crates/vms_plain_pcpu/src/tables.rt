@@ -1,9 +1,7 @@
-ghost use Rattle.vms_pcpu_core.specs.Histories.{percpu};
-ghost use Rattle.vms_pcpu_core.specs.MayCall.{Tells};
-ghost use Rattle.vms_pcpu_core.specs.States.{LockedState};
+ghost use Rattle.vms_pcpu_core.specs.Common.{percpu, Tells, LockedState};
 ghost use Rattle.vms_plain_pcpu.specs.StateSteps.{percpu_by_state, IsByState-percpu};
 
-use vms_alone::StateTable;
+use vms_history::StateTable;
 use vms_pcpu_core::{PcpuFacts, PcpuStep};
 
 /// The table of percpu counters, whose steps go by the numbers and the locks alone.

@@ -1,35 +1,22 @@
 -- How a replay ends the phase that is open.
-use Rattle.std.proofs.Common.{◌≡◌, ◌≢◌, ℕ, suc, ◌≤◌, true, List, [], ◌∷◌, ◌++◌, map}
-use Rattle.std.proofs.Common.{Option, Some}
-use Rattle.std.proofs.Common.{None, Ok, Err, refl, sym, ap, subst, ◌∙◌, arith, append-nil}
+use Rattle.std.proofs.Common.{◌≡◌, ◌≢◌, ℕ, suc, ◌≤◌, true, List, [], ◌∷◌, ◌++◌, map, Option, Some, None, Ok, Err, refl}
+use Rattle.std.proofs.Common.{sym, ap, subst, ◌∙◌, arith, append-nil}
 use Rattle.std.specs.Prelude.{reverse}
-use Rattle.vms_base.specs.declared.failures.Memory.{Memory}
-use Rattle.vms_base.specs.declared.headers.Header.{Header}
-use Rattle.vms_answers.specs.PhaseAnswers.{NumberedAnswer, answers_of}
-use Rattle.vms_command.specs.Limits.{most_lines}
-use Rattle.vms_command.specs.Lines.{LinesAbove}
-use Rattle.vms_file_order.specs.WorldStarts.{IsStartOf}
-use Rattle.vms_file_order.proofs.JudgedLines.{start_at_end-lines}
-use Rattle.vms_stream.specs.Jobs.{Grows, MayGive}
-use Rattle.vms_stream.specs.Waiting.{Text}
-use Rattle.vms_stream.proofs.TakenTexts.{Grows-nil}
-use Rattle.vms_script.specs.FittingScripts.{Fits}
-use Rattle.vms_script.specs.PhaseScripts.{IsPhaseScript}
-use Rattle.vms_script.specs.Starts.{Start, first_start, start_after, start_at_end}
-use Rattle.vms_script.specs.Totals.{line_of}
-use Rattle.vms_text.specs.declared.acts.Item.{Item}
-use Rattle.vms_text.specs.declared.acts.Line.{Line}
+use Rattle.vms_world.specs.Common.{Memory, Header, Fits, IsPhaseScript, Start, first_start, start_after, start_at_end}
+use Rattle.vms_world.specs.Common.{line_of, Item, Line, TableHistories, left_by}
+use Rattle.vms_answers.specs.Common.{NumberedAnswer, answers_of}
+use Rattle.vms_command.specs.Common.{most_lines, LinesAbove}
+use Rattle.vms_file_order.specs.Common.{IsStartOf}
+use Rattle.vms_file_order.proofs.Common.{start_at_end-lines}
+use Rattle.vms_stream.specs.Common.{Grows, MayGive, Text}
+use Rattle.vms_stream.proofs.Common.{Grows-nil}
 use Rattle.vms_world.specs.declared.worlds.World.{World}
-use Rattle.vms_world.specs.Phases.{Histories, left_by}
 use Rattle.vms_replay.specs.declared.bodies.Replay.{Replay}
 use Rattle.vms_replay.specs.declared.waits.Wait.{Wait}
-use Rattle.vms_replay.specs.Engines.{MakesPhase}
-use Rattle.vms_replay.specs.MadePhases.{MadePhase}
-use Rattle.vms_replay.specs.PlainReports.{HasPlainTotals}
-use Rattle.vms_replay.specs.Replaying.{Kept, MayBe, has_some}
-use Rattle.vms_replay.specs.ReplayStates.{Ended, EndsPhase, Runs, StandsBefore}
-use Rattle.vms_replay.specs.Waits.{AreOf, Ascend, asked_numbers, asking_numbers, written}
-use Rattle.vms_replay.proofs.AskedAnswers.{AreOf-answers}
+use Rattle.vms_replay.specs.Common.{EngineMakesPhase, PastPhase, HasPlainTotals, Kept, MayBe, has_some, Ended}
+use Rattle.vms_replay.specs.Common.{EndsPhase, Runs, StandsBefore, AreAnswersOf, Ascend, asked_numbers, asking_numbers}
+use Rattle.vms_replay.specs.Common.{written}
+use Rattle.vms_replay.proofs.AskedAnswers.{AreAnswersOf-answers}
 use Rattle.vms_replay.proofs.WrittenWaits.{Ascend-asking, Ascend-increasing, written-is}
 
 some-list : {X : Type 0} (xs : List X) → xs ≢ [] → has_some xs ≡ true
@@ -39,7 +26,7 @@ some-list (x ∷ xs) others = refl
 Some-same : {X : Type 0} (x y : X) → Some x ≡ Some y → x ≡ y
 Some-same x y same = cc
 
-module _ (header : Header) (n : ℕ) (above : LinesAbove) (kept : Kept) (texts : List (Text MadePhase))
+module _ (header : Header) (n : ℕ) (above : LinesAbove) (kept : Kept) (texts : List (Text PastPhase))
     (held : Option World) (items : List Item) (waiting : List Wait)
     (runs : Runs header n above kept texts held items waiting) where
   -- the lines that a replay holds make a script
@@ -73,10 +60,10 @@ module _ (header : Header) (n : ℕ) (above : LinesAbove) (kept : Kept) (texts :
       }
 
   -- histories that an engine made of the lines
-  module _ (Makes : Header → World → List Item → Histories → Type 0) (w : World) (is : held ≡ Some w)
-      (made made' : Option (List MadePhase)) (Told : List NumberedAnswer → Type 0) (left : World)
-      (makes : MakesPhase Makes header w items made made' Told left) where
-    abbrev given : MadePhase
+  module _ (Makes : Header → World → List Item → TableHistories → Type 0) (w : World) (is : held ≡ Some w)
+      (made made' : Option (List PastPhase)) (Told : List NumberedAnswer → Type 0) (left : World)
+      (makes : EngineMakesPhase Makes header w items made made' Told left) where
+    abbrev given : PastPhase
     given = record { world = w; items = items; histories = makes.histories }
 
     same_world : w ≡ kept.world
@@ -97,15 +84,15 @@ module _ (header : Header) (n : ℕ) (above : LinesAbove) (kept : Kept) (texts :
     ascend-held : Ascend (asked_numbers waiting)
     ascend-held = subst Ascend (sym runs.asks) (Ascend-asking kept.items (Ascend-increasing _ runs.fits.ascend))
 
-    of-held : AreOf told (asked_numbers waiting)
-    of-held = subst (AreOf told) (sym (runs.asks ∙ ap asking_numbers (sym runs.keeps)))
-        (AreOf-answers header w items makes.histories)
+    of-held : AreAnswersOf told (asked_numbers waiting)
+    of-held = subst (AreAnswersOf told) (sym (runs.asks ∙ ap asking_numbers (sym runs.keeps)))
+        (AreAnswersOf-answers header w items makes.histories)
 
     pub Ended-made : items ≢ []
         → ((start : Start) → IsStartOf header start w → Fits header start items
-        → IsStartOf header (start_at_end start (map line_of items)) (left_by header w makes.histories))
-        → ((start : Start) → IsStartOf header start w → Fits header start items → (before : List MadePhase)
-        → HasPlainTotals header before w → HasPlainTotals header (given ∷ before) (left_by header w makes.histories))
+        → IsStartOf header (start_at_end start (map line_of items)) (left_by header w items makes.histories))
+        → ((start : Start) → IsStartOf header start w → Fits header start items → (before : List PastPhase)
+        → HasPlainTotals header before w → HasPlainTotals header (given ∷ before) (left_by header w items makes.histories))
         → (held' : Option World) (items' : List Item) (waiting' : List Wait) (out out' : List ℕ)
         → held' ≡ Some left → items' ≡ [] → waiting' ≡ [] → out' ≡ out ++ written header waiting told
         → Ended header above kept texts (Some given) held' items' waiting' out out'
@@ -120,7 +107,7 @@ module _ (header : Header) (n : ℕ) (above : LinesAbove) (kept : Kept) (texts :
           in_world = in_world ∙ ap Some makes.world;
           no_items = no_items;
           no_waits = no_waits;
-          begins = subst (λ (s : Start). IsStartOf header s (left_by header w makes.histories))
+          begins = subst (λ (s : Start). IsStartOf header s (left_by header w items makes.histories))
               (ap (λ (xs : List Item). start_at_end start (map line_of xs)) runs.keeps
               ∙ start_at_end-lines kept.above kept.items
               ∙ ap (start_after first_start) (sym runs.lines))
@@ -130,14 +117,14 @@ module _ (header : Header) (n : ℕ) (above : LinesAbove) (kept : Kept) (texts :
         }
 
 -- the end of a phase, of a replay of any engine
-module _ {E : Type 0} (Makes : Header → World → List Item → Histories → Type 0) (header : Header)
-    (replay replay' : Replay E) (made made' : Option (List MadePhase)) (out out' : List ℕ) where
+module _ {E : Type 0} (Makes : Header → World → List Item → TableHistories → Type 0) (header : Header)
+    (replay replay' : Replay E) (made made' : Option (List PastPhase)) (out out' : List ℕ) where
   -- nothing was made: a failed phase, or no open one
   pub EndsPhase-failed : (error : Memory) → made' ≡ made
       → EndsPhase Makes header replay replay' made made' (Err error) out out'
   EndsPhase-failed error same = record {
     given = None;
-    grows = subst (λ (m : Option (List MadePhase)). Grows made m []) (sym same) (Grows-nil made);
+    grows = subst (λ (m : Option (List PastPhase)). Grows made m []) (sym same) (Grows-nil made);
     may_give = λ n above kept texts holds. tt;
     goes = tt;
   }
@@ -146,7 +133,7 @@ module _ {E : Type 0} (Makes : Header → World → List Item → Histories → 
       → EndsPhase Makes header replay replay' made made' (Ok tt) out out'
   EndsPhase-none same same_made none same_out = record {
     given = None;
-    grows = subst (λ (m : Option (List MadePhase)). Grows made m []) (sym same_made) (Grows-nil made);
+    grows = subst (λ (m : Option (List PastPhase)). Grows made m []) (sym same_made) (Grows-nil made);
     may_give = λ n above kept texts holds. tt;
     goes = λ n above kept texts holds.
         subst (λ (r : Replay E). Ended header above kept texts None r.world r.items.items r.waits.items out out')
@@ -157,11 +144,12 @@ module _ {E : Type 0} (Makes : Header → World → List Item → Histories → 
   }
 
   module _ (w : World) (is : replay.world ≡ Some w) (Told : List NumberedAnswer → Type 0) (left : World)
-      (makes : MakesPhase Makes header w replay.items.items made made' Told left) (some : replay.items.items ≢ []) where
-    abbrev outcome : MadePhase
+      (makes : EngineMakesPhase Makes header w replay.items.items made made' Told left)
+      (some : replay.items.items ≢ []) where
+    abbrev outcome : PastPhase
     outcome = record { world = w; items = replay.items.items; histories = makes.histories }
 
-    gives : (n : ℕ) (above : LinesAbove) (kept : Kept) (texts : List (Text MadePhase))
+    gives : (n : ℕ) (above : LinesAbove) (kept : Kept) (texts : List (Text PastPhase))
         → StandsBefore replay header n above kept texts
         → MayGive (has_some kept.items) (MayBe Makes header kept.world kept.items) (Some outcome)
     gives n above kept texts holds = (
@@ -181,13 +169,13 @@ module _ {E : Type 0} (Makes : Header → World → List Item → Histories → 
     }
 
     -- the phase was made, and nothing waits any more
-    pub EndsPhase-made : ((hs : Histories) → Makes header w replay.items.items hs → (start : Start)
+    pub EndsPhase-made : ((hs : TableHistories) → Makes header w replay.items.items hs → (start : Start)
         → IsStartOf header start w → Fits header start replay.items.items
-        → IsStartOf header (start_at_end start (map line_of replay.items.items)) (left_by header w hs))
-        → ((hs : Histories) → Makes header w replay.items.items hs → (start : Start) → IsStartOf header start w
-        → Fits header start replay.items.items → (before : List MadePhase) → HasPlainTotals header before w
+        → IsStartOf header (start_at_end start (map line_of replay.items.items)) (left_by header w replay.items.items hs))
+        → ((hs : TableHistories) → Makes header w replay.items.items hs → (start : Start) → IsStartOf header start w
+        → Fits header start replay.items.items → (before : List PastPhase) → HasPlainTotals header before w
         → HasPlainTotals header (record { world = w; items = replay.items.items; histories = hs } ∷ before)
-        (left_by header w hs))
+        (left_by header w replay.items.items hs))
         → replay'.world ≡ Some left → replay'.items.items ≡ [] → replay'.waits.items ≡ []
         → ((told : List NumberedAnswer) → Told told → out' ≡ out ++ written header replay.waits.items told)
         → EndsPhase Makes header replay replay' made made' (Ok tt) out out'
@@ -203,9 +191,9 @@ module _ {E : Type 0} (Makes : Header → World → List Item → Histories → 
     }
 
 -- what an engine makes of a script is what it makes of the lines
-pub MakesPhase-of : (Makes : Header → World → List Item → Histories → Type 0) (header : Header) (w : World)
-    (script items : List Item) (made made' : Option (List MadePhase)) (Told : List NumberedAnswer → Type 0)
-    (left : World) → script ≡ items → MakesPhase Makes header w script made made' Told left
-    → MakesPhase Makes header w items made made' Told left
-MakesPhase-of Makes header w script items made made' Told left same makes =
-    subst (λ (xs : List Item). MakesPhase Makes header w xs made made' Told left) same makes
+pub EngineMakesPhase-of : (Makes : Header → World → List Item → TableHistories → Type 0) (header : Header) (w : World)
+    (script items : List Item) (made made' : Option (List PastPhase)) (Told : List NumberedAnswer → Type 0)
+    (left : World) → script ≡ items → EngineMakesPhase Makes header w script made made' Told left
+    → EngineMakesPhase Makes header w items made made' Told left
+EngineMakesPhase-of Makes header w script items made made' Told left same makes =
+    subst (λ (xs : List Item). EngineMakesPhase Makes header w xs made made' Told left) same makes

@@ -1,17 +1,12 @@
 -- A replay before the first line of a body.
 use Rattle.std.proofs.Common.{◌≡◌, ℕ, ◌<◌, ◌≤◌, List, [], refl, sym, ap, subst, arith, Some}
 use Rattle.std.proofs.lemmas.List.Elements.{All-nil}
-use Rattle.vms_base.specs.declared.headers.Header.{Header}
-use Rattle.vms_base.specs.Headers.{IsHeader}
-use Rattle.vms_command.specs.Lines.{nothing_above}
-use Rattle.vms_script.specs.Starts.{first_start}
-use Rattle.vms_script.proofs.Fitting.{Fits-none}
-use Rattle.vms_text.specs.declared.acts.Item.{Item}
+use Rattle.vms_world.specs.Common.{Header, IsHeader, first_start, Item}
+use Rattle.vms_command.specs.Common.{nothing_above}
+use Rattle.vms_script.proofs.Common.{Fits-none}
 use Rattle.vms_replay.specs.declared.bodies.Replay.{Replay}
 use Rattle.vms_replay.specs.declared.waits.Wait.{Wait}
-use Rattle.vms_replay.specs.Replaying.{first_kept}
-use Rattle.vms_replay.specs.ReplayStates.{StandsBefore}
-use Rattle.vms_replay.specs.Waits.{TellsWaits, asked_numbers}
+use Rattle.vms_replay.specs.Common.{first_kept, StandsBefore, TellsWaits, asked_numbers}
 use Rattle.vms_replay.proofs.KernelThresholds.{IsStartOf-started}
 use Rattle.vms_replay.proofs.PlainTotals.{HasPlainTotals-first}
 use Rattle.vms_replay.proofs.TextWaits.{TellsWaits-none}

@@ -1,40 +1,24 @@
 -- The kernel's normal rule gives thresholds, and what stands at a boundary by it.
-use Rattle.std.proofs.Common.{◌≡◌, ℕ, zero, suc, ◌+◌, ◌*◌, ◌/◌, ◌^◌, ◌≤◌, nat_le, Bool, true, false, List}
-use Rattle.std.proofs.Common.{length}
-use Rattle.std.proofs.Common.{refl, sym, ap, subst, ◌∙◌, arith, if◌then◌else◌}
-use Rattle.std.specs.Prelude.{min}
+use Rattle.std.proofs.Common.{◌≡◌, ℕ, zero, suc, ◌+◌, ◌*◌, ◌/◌, ◌^◌, ◌≤◌, nat_le, Bool, true, false, List, length, refl}
+use Rattle.std.proofs.Common.{sym, ap, subst, ◌∙◌, arith, if◌then◌else◌}
+use Rattle.std.specs.Prelude.{min, Result, Ok, Err, IfOk, slice_index_or}
 use Rattle.std.proofs.lemmas.Bool.Decides.{nat_tests}
 use Rattle.std.proofs.lemmas.List.{ext_get_or, get_or-map, length-map}
 use Rattle.std.proofs.Math.Nat.{mul-le-mul_right}
-use Rattle.vms_base.specs.declared.failures.Memory.{Memory}
-use Rattle.vms_base.specs.declared.headers.Header.{Header}
-use Rattle.vms_base.specs.declared.ids.CpuId.{CpuId}
+use Rattle.vms_world.specs.Common.{Memory, Header, CpuId, ZoneSize, IsHeader, bits_of, IsCpu, IsZone, size_at}
+use Rattle.vms_world.specs.Common.{GivesThresholds, most_threshold, normal_threshold_of, with_cpu, IsLineOf}
+use Rattle.vms_world.specs.Common.{allowed_from, Start, first_start, start_past, Offline, Flush, Report, Crosses}
+use Rattle.vms_world.specs.Common.{brought_up, started, AreAnswers, count_online, IsWorldOf}
 use Rattle.vms_base.specs.declared.kinds.CpuState.TheVariants.{Online as IsOnline}
-use Rattle.vms_base.specs.declared.kinds.ZoneSize.{ZoneSize}
-use Rattle.vms_base.specs.Headers.{IsHeader}
-use Rattle.vms_base.specs.Numbers.{bits_of, highest_bit}
-use Rattle.vms_base.specs.Places.{IsCpu, IsZone}
-use Rattle.vms_base.specs.Sizes.{size_at}
-use Rattle.vms_base.specs.Thresholds.{GivesThresholds, most_threshold, normal_threshold_of}
-use Rattle.vms_core.specs.Cells.{with_cpu}
-use Rattle.vms_file_order.specs.WorldStarts.{IsStartOf}
-use Rattle.vms_file_order.proofs.BoundaryStarts.{IsStartOf-crossed}
-use Rattle.vms_file_order.proofs.WorldStarts.{IsStartOf-first}
-use Rattle.vms_line.specs.Laws.{IsLineOf}
-use Rattle.vms_script.specs.Judging.{allowed_from}
-use Rattle.vms_script.specs.Starts.{Start, first_start, start_past}
+use Rattle.vms_base.specs.Numbers.{highest_bit}
+use Rattle.vms_file_order.specs.Common.{IsStartOf}
+use Rattle.vms_file_order.proofs.Common.{IsStartOf-crossed, IsStartOf-first}
 use Rattle.vms_text.specs.declared.acts.Boundary.{Boundary as BoundaryOf}
-use Rattle.vms_text.specs.declared.acts.Boundary.TheVariants.{Sync, Offline, Online, Flush, Report}
+use Rattle.vms_text.specs.declared.acts.Boundary.TheVariants.{Sync, Online}
 use Rattle.vms_text.specs.declared.acts.Line.TheVariants.{Boundary}
 use Rattle.vms_world.specs.declared.worlds.World.{World}
-use Rattle.vms_world.specs.Boundaries.{Crosses, brought_up}
-use Rattle.vms_world.specs.FirstWorlds.{started}
-use Rattle.vms_world.specs.Refreshes.{AreAnswers, count_online}
-use Rattle.vms_world.specs.Worlds.{IsWorldOf}
-use Rattle.vms_world.proofs.BroughtUp.{online-least, online-most}
-use Rattle.std.specs.Prelude.{Result, Ok, Err, IfOk, slice_index_or}
-use Rattle.vms_replay.specs.KernelRules.{GoesBy, normal_rule, normal_zones}
-use Rattle.vms_replay.specs.MadePhases.{crossed}
+use Rattle.vms_world.proofs.Common.{online-least, online-most}
+use Rattle.vms_replay.specs.Common.{GoesBy, normal_rule, normal_zones, crossed}
 
 -- a number above 0 has a bit
 bits-least : (k x : ℕ) → 1 ≤ x → 1 ≤ highest_bit (suc k) x

@@ -1,34 +1,21 @@
 -- A phase and the boundary line that ends it lead from world to world, and what is known of a phase that is made.
-use Rattle.std.proofs.Common.{◌≡◌, ℕ, true, false, List, [], ◌∷◌, ◌++◌, map, refl, sym, ap, ap₂, subst, ◌∙◌}
-use Rattle.std.proofs.Common.{Option, Some, None, Ok}
+use Rattle.std.proofs.Common.{◌≡◌, ℕ, true, false, List, [], ◌∷◌, ◌++◌, map, refl, sym, ap, ap₂, subst, ◌∙◌, Option}
+use Rattle.std.proofs.Common.{Some, None, Ok}
 use Rattle.std.proofs.lemmas.List.Elements.{All-cons, All-nil}
 use Rattle.std.specs.Prelude.{All, is_some, reverse}
-use Rattle.vms_base.specs.declared.headers.Header.{Header}
-use Rattle.vms_base.specs.Headers.{IsHeader}
-use Rattle.vms_command.specs.Bodies.{IsJudged}
-use Rattle.vms_command.specs.Lines.{LinesAbove, nothing_above, with_judged}
-use Rattle.vms_file_order.specs.FileOrderPhases.{KeepAllLaws}
-use Rattle.vms_file_order.specs.WorldStarts.{IsStartOf}
-use Rattle.vms_file_order.proofs.BoundaryStarts.{MayCross-allowed}
-use Rattle.vms_file_order.proofs.JudgedLines.{start_at_end-lines}
-use Rattle.vms_stream.specs.Jobs.{MayGive, at_most_one}
-use Rattle.vms_script.specs.FittingScripts.{Fits}
-use Rattle.vms_script.specs.Segments.{Between, Phase, Segment, phase_if_any}
-use Rattle.vms_script.specs.Starts.{Start, first_start, start_after, start_at_end}
-use Rattle.vms_script.specs.Totals.{line_of}
-use Rattle.vms_script.proofs.Fitting.{Fits-none}
+use Rattle.vms_world.specs.Common.{Header, IsHeader, Fits, Between, Phase, Segment, phase_if_any, Start, first_start}
+use Rattle.vms_world.specs.Common.{start_after, start_at_end, line_of, Item, Line, MayCross, IsWorldPhase, SegmentsLead}
+use Rattle.vms_world.specs.Common.{TableHistories, left_by}
+use Rattle.vms_command.specs.Common.{IsJudgedAfter, LinesAbove, nothing_above, with_judged}
+use Rattle.vms_file_order.specs.Common.{KeepAllLaws, IsStartOf}
+use Rattle.vms_file_order.proofs.Common.{MayCross-allowed, start_at_end-lines}
+use Rattle.vms_stream.specs.Common.{MayGive, at_most_one}
+use Rattle.vms_script.proofs.Common.{Fits-none}
 use Rattle.vms_text.specs.declared.acts.Boundary.{Boundary as BoundaryOf}
-use Rattle.vms_text.specs.declared.acts.Item.{Item}
-use Rattle.vms_text.specs.declared.acts.Line.{Line}
 use Rattle.vms_text.specs.declared.acts.Line.TheVariants.{Boundary}
 use Rattle.vms_world.specs.declared.worlds.World.{World}
-use Rattle.vms_world.specs.Boundaries.{MayCross}
-use Rattle.vms_world.specs.PhaseLines.{IsWorldPhase, LeadsThrough}
-use Rattle.vms_world.specs.Phases.{Histories, left_by}
-use Rattle.vms_replay.specs.KernelRules.{normal_rule, pressure_rule}
-use Rattle.vms_replay.specs.MadePhases.{MadePhase, crossed, world_after}
-use Rattle.vms_replay.specs.ReplayedTexts.{IsLawful, histories_in, phases_on}
-use Rattle.vms_replay.specs.Replaying.{Kept, MayBe, first_kept, has_some, next_kept}
+use Rattle.vms_replay.specs.Common.{normal_rule, pressure_rule, PastPhase, crossed, world_after, IsLawful, histories_in}
+use Rattle.vms_replay.specs.Common.{phases_on, Kept, MayBe, first_kept, has_some, next_kept}
 use Rattle.vms_replay.proofs.KernelThresholds.{Crosses-crossed, IsStartOf-past, IsStartOf-started}
 use Rattle.vms_replay.proofs.PassedBoundaries.{allowed-boundary, known-boundary}
 
@@ -46,59 +33,59 @@ IsLed-first header valid = record {
 }
 
 -- what is known of a phase that an engine makes of lines that fit
-pub record Knows (Makes : Header → World → List Item → Histories → Type 0) : Type 0 where
-  pub phase : (header : Header) (start : Start) (w : World) (items : List Item) (hs : Histories)
+pub record Knows (Makes : Header → World → List Item → TableHistories → Type 0) : Type 0 where
+  pub phase : (header : Header) (start : Start) (w : World) (items : List Item) (hs : TableHistories)
       → IsStartOf header start w → Fits header start items → Makes header w items hs
-      → IsWorldPhase header pressure_rule normal_rule w items hs (left_by header w hs)
-  pub start : (header : Header) (start : Start) (w : World) (items : List Item) (hs : Histories)
+      → IsWorldPhase header pressure_rule normal_rule w items hs (left_by header w items hs)
+  pub start : (header : Header) (start : Start) (w : World) (items : List Item) (hs : TableHistories)
       → IsStartOf header start w → Fits header start items → Makes header w items hs
-      → IsStartOf header (start_at_end start (map line_of items)) (left_by header w hs)
-  pub laws : (header : Header) (w : World) (items : List Item) (hs : Histories) (next : World)
+      → IsStartOf header (start_at_end start (map line_of items)) (left_by header w items hs)
+  pub laws : (header : Header) (w : World) (items : List Item) (hs : TableHistories) (next : World)
       → IsWorldPhase header pressure_rule normal_rule w items hs next → KeepAllLaws header w hs
 
-module _ (Makes : Header → World → List Item → Histories → Type 0) (header : Header) where
+module _ (Makes : Header → World → List Item → TableHistories → Type 0) (header : Header) where
   -- a phase that was made of these lines from this world
-  pub record IsPhaseFrom (w : World) (items : List Item) (phase : MadePhase) : Type 0 where
+  pub record IsPhaseFrom (w : World) (items : List Item) (phase : PastPhase) : Type 0 where
     pub be : MayBe Makes header w items phase
     pub is : IsWorldPhase header pressure_rule normal_rule w items phase.histories
-        (left_by header phase.world phase.histories)
+        (left_by header phase.world phase.items phase.histories)
     pub laws : KeepAllLaws header phase.world phase.histories
 
   -- these phases lead through segments from one world to another
-  abbrev pub LeadOn : List Segment → List MadePhase → World → World → Type 0
+  abbrev pub LeadOn : List Segment → List PastPhase → World → World → Type 0
   LeadOn [] [] w last = w ≡ last
   LeadOn (Phase items ∷ segments) (phase ∷ more) w last =
-      IsPhaseFrom w items phase × LeadOn segments more (left_by header phase.world phase.histories) last
+      IsPhaseFrom w items phase × LeadOn segments more (left_by header phase.world phase.items phase.histories) last
   LeadOn (Between n b ∷ segments) made w last =
       MayCross header.layout w.pages b × LeadOn segments made (crossed header b w) last
   LeadOn _ _ w last = ⊥
 
   -- a way on from another
-  pub LeadOn-append : (segments more : List Segment) (made others : List MadePhase) (w mid last : World)
+  pub LeadOn-append : (segments more : List Segment) (made others : List PastPhase) (w mid last : World)
       → LeadOn segments made w mid → LeadOn more others mid last
       → LeadOn (segments ++ more) (made ++ others) w last
   LeadOn-append [] more [] others w mid last same leads =
       subst (λ (v : World). LeadOn more others v last) (sym same) leads
   LeadOn-append [] more (phase ∷ made) others w mid last none leads = absurd none
   LeadOn-append (Phase items ∷ segments) more (phase ∷ made) others w mid last (is, on) leads =
-      (is, LeadOn-append segments more made others (left_by header phase.world phase.histories) mid last on leads)
+      (is, LeadOn-append segments more made others (left_by header phase.world phase.items phase.histories) mid last on leads)
   LeadOn-append (Phase items ∷ segments) more [] others w mid last none leads = absurd none
   LeadOn-append (Between n b ∷ segments) more made others w mid last (may, on) leads =
       (may, LeadOn-append segments more made others (crossed header b w) mid last on leads)
 
   -- it is a way of the model, and the phases are those on it
-  pub record IsWay (segments : List Segment) (made : List MadePhase) (w last : World) : Type 0 where
-    pub way : LeadsThrough header pressure_rule normal_rule segments (histories_in made) w last
+  pub record IsWay (segments : List Segment) (made : List PastPhase) (w last : World) : Type 0 where
+    pub way : SegmentsLead header pressure_rule normal_rule segments (histories_in made) w last
     pub phases : phases_on header segments (histories_in made) w last way ≡ made
     pub lawful : All (IsLawful Makes header) made
 
-  made-same : (w : World) (items : List Item) (phase : MadePhase) → MayBe Makes header w items phase
+  made-same : (w : World) (items : List Item) (phase : PastPhase) → MayBe Makes header w items phase
       → record { world = w; items = items; histories = phase.histories } ≡ phase
   made-same w items phase be =
       ap₂ (λ (v : World) (xs : List Item). record { world = v; items = xs; histories = phase.histories })
       (sym be.from) (sym be.of)
 
-  lawful-from : (w : World) (items : List Item) (phase : MadePhase) → IsPhaseFrom w items phase
+  lawful-from : (w : World) (items : List Item) (phase : PastPhase) → IsPhaseFrom w items phase
       → IsLawful Makes header phase
   lawful-from w items phase is = record {
     makes = subst (λ (xs : List Item). Makes header phase.world xs phase.histories) (sym is.be.of)
@@ -107,18 +94,18 @@ module _ (Makes : Header → World → List Item → Histories → Type 0) (head
   }
 
   module _ (valid : IsHeader header) where
-    pub IsWay-led : (segments : List Segment) (made : List MadePhase) (w last : World) → LeadOn segments made w last
+    pub IsWay-led : (segments : List Segment) (made : List PastPhase) (w last : World) → LeadOn segments made w last
         → IsWay segments made w last
     IsWay-led [] [] w last same =
         record { way = same; phases = refl; lawful = All-nil (IsLawful Makes header) }
     IsWay-led [] (phase ∷ made) w last none = absurd none
     IsWay-led (Phase items ∷ segments) [] w last none = absurd none
     IsWay-led (Phase items ∷ segments) (phase ∷ made) w last (is, on) =
-        let left : World = left_by header phase.world phase.histories in
+        let left : World = left_by header phase.world phase.items phase.histories in
         let later : IsWay segments made left last = IsWay-led segments made left last on in
         record {
           way = (left, is.is, later.way);
-          phases = ap₂ (λ (x : MadePhase) (xs : List MadePhase). x ∷ xs) (made-same w items phase is.be) later.phases;
+          phases = ap₂ (λ (x : PastPhase) (xs : List PastPhase). x ∷ xs) (made-same w items phase is.be) later.phases;
           lawful = All-cons (IsLawful Makes header) phase made (lawful-from w items phase is) later.lawful;
         }
     IsWay-led (Between n b ∷ segments) made w last (may, on) =
@@ -130,15 +117,15 @@ module _ (Makes : Header → World → List Item → Histories → Type 0) (head
           lawful = later.lawful;
         }
 
-module _ (Makes : Header → World → List Item → Histories → Type 0) (knows : Knows Makes) (header : Header) where
+module _ (Makes : Header → World → List Item → TableHistories → Type 0) (knows : Knows Makes) (header : Header) where
   -- the phase that is open is made
-  module _ (above : LinesAbove) (kept : Kept) (led : IsLed header above kept) (phase : MadePhase)
+  module _ (above : LinesAbove) (kept : Kept) (led : IsLed header above kept) (phase : PastPhase)
       (be : MayBe Makes header kept.world kept.items phase) where
     abbrev start : Start
     start = start_after first_start kept.above
 
     abbrev left : World
-    left = left_by header phase.world phase.histories
+    left = left_by header phase.world phase.items phase.histories
 
     begins : IsStartOf header start phase.world
     begins = subst (IsStartOf header start) (sym be.from) led.begins
@@ -147,7 +134,9 @@ module _ (Makes : Header → World → List Item → Histories → Type 0) (know
     makes = subst (λ (v : World). Makes header v kept.items phase.histories) (sym be.from) be.makes
 
     phase-is : IsWorldPhase header pressure_rule normal_rule phase.world kept.items phase.histories left
-    phase-is = knows.phase header start phase.world kept.items phase.histories begins led.fits makes
+    phase-is = subst (λ (xs : List Item). IsWorldPhase header pressure_rule normal_rule phase.world kept.items
+        phase.histories (left_by header phase.world xs phase.histories)) (sym be.of)
+        (knows.phase header start phase.world kept.items phase.histories begins led.fits makes)
 
     pub IsPhaseFrom-led : IsPhaseFrom Makes header kept.world kept.items phase
     IsPhaseFrom-led = record {
@@ -160,11 +149,13 @@ module _ (Makes : Header → World → List Item → Histories → Type 0) (know
     pub IsStartOf-left : IsStartOf header (start_after first_start above.lines) left
     IsStartOf-left = subst (λ (s : Start). IsStartOf header s left)
         (start_at_end-lines kept.above kept.items ∙ ap (start_after first_start) (sym led.lines))
-        (knows.start header start phase.world kept.items phase.histories begins led.fits makes)
+        (subst (λ (xs : List Item). IsStartOf header (start_at_end start (map line_of kept.items))
+        (left_by header phase.world xs phase.histories)) (sym be.of)
+        (knows.start header start phase.world kept.items phase.histories begins led.fits makes))
 
   -- past boundary line n, where the open phase has this outcome if one is open: the phase and the line lead from the
   -- world that was kept to the one that is kept, and the lines fit it
-  pub record LeadsPast (n : ℕ) (above : LinesAbove) (kept : Kept) (b : BoundaryOf) (given : Option MadePhase) : Type 0
+  pub record LeadsPast (n : ℕ) (above : LinesAbove) (kept : Kept) (b : BoundaryOf) (given : Option PastPhase) : Type 0
     where
       pub leads : LeadOn Makes header (phase_if_any kept.items ++ Between n b ∷ []) (at_most_one given) kept.world
           (next_kept header n above (Ok (Boundary b)) given kept).world
@@ -172,8 +163,8 @@ module _ (Makes : Header → World → List Item → Histories → Type 0) (know
           kept)
 
   module _ (n : ℕ) (above : LinesAbove) (b : BoundaryOf) (valid : IsHeader header)
-      (judged_is : IsJudged header above (Ok (Boundary b))) where
-    past : (kept : Kept) (given : Option MadePhase)
+      (judged_is : IsJudgedAfter header above (Ok (Boundary b))) where
+    past : (kept : Kept) (given : Option PastPhase)
         → IsStartOf header (start_after first_start above.lines) (world_after header kept.world given)
         → (MayCross header.layout (world_after header kept.world given).pages b
         → LeadOn Makes header (phase_if_any kept.items ++ Between n b ∷ []) (at_most_one given) kept.world
@@ -192,7 +183,7 @@ module _ (Makes : Header → World → List Item → Histories → Type 0) (know
       };
     }
 
-    pub LeadsPast-led : (kept : Kept) (given : Option MadePhase) → IsLed header above kept
+    pub LeadsPast-led : (kept : Kept) (given : Option PastPhase) → IsLed header above kept
         → has_some kept.items ≡ is_some given
         → MayGive (has_some kept.items) (MayBe Makes header kept.world kept.items) given
         → LeadsPast n above kept b given
@@ -214,7 +205,7 @@ module _ (Makes : Header → World → List Item → Histories → Type 0) (know
         by (item ∷ items) is same =
             past kept (Some phase) (IsStartOf-left above kept led phase may.1)
             (λ crosses. subst (λ (xs : List Item). LeadOn Makes header (phase_if_any xs ++ Between n b ∷ [])
-            (phase ∷ []) kept.world (crossed header b (left_by header phase.world phase.histories))) (sym is) (
+            (phase ∷ []) kept.world (crossed header b (left_by header phase.world phase.items phase.histories))) (sym is) (
               subst (λ (xs : List Item). IsPhaseFrom Makes header kept.world xs phase) is
                   (IsPhaseFrom-led above kept led phase may.1),
               (crosses, refl),

@@ -1,38 +1,22 @@
 -- How a replay takes a line at which no phase ends.
-use Rattle.std.proofs.Common.{◌≡◌, ◌≢◌, ℕ, suc, ◌<◌, Bool, true, false, List, [], ◌∷◌, ◌++◌}
-use Rattle.std.proofs.Common.{Option, None, Ok, Err, refl, sym, ap, ap₂, subst, ◌∙◌, arith, append-nil}
-use Rattle.std.proofs.Common.{length-append}
-use Rattle.std.proofs.Common.{if◌then◌else◌}
+use Rattle.std.proofs.Common.{◌≡◌, ◌≢◌, ℕ, suc, ◌<◌, Bool, true, false, List, [], ◌∷◌, ◌++◌, Option, None, Ok, Err}
+use Rattle.std.proofs.Common.{refl, sym, ap, ap₂, subst, ◌∙◌, arith, append-nil, length-append, if◌then◌else◌}
 use Rattle.std.proofs.lemmas.List.Elements.{All-push, All-weaker}
 use Rattle.std.specs.Prelude.{OnOk, Result}
-use Rattle.vms_base.specs.declared.failures.Memory.{Memory}
-use Rattle.vms_base.specs.declared.headers.Header.{Header}
-use Rattle.vms_base.specs.Headers.{IsHeader}
-use Rattle.vms_command.specs.Bodies.{IsJudged, TakesLine}
-use Rattle.vms_command.specs.Commands.{ends_at_judged}
-use Rattle.vms_command.specs.Lines.{LinesAbove, with_judged}
-use Rattle.vms_command.specs.Printing.{refused_line}
-use Rattle.vms_file_order.proofs.JudgedLines.{Fits-judged}
-use Rattle.vms_line.specs.declared.causes.LineCause.{LineCause}
-use Rattle.vms_stream.specs.Waiting.{Text, printed_now, waits_with}
-use Rattle.vms_stream.specs.Waiting.Text.{Plain}
-use Rattle.vms_stream.proofs.TakenTexts.{Grows-nil}
-use Rattle.vms_script.specs.Judging.{judged}
-use Rattle.vms_script.proofs.Feeding.{IsOpen-lane}
-use Rattle.vms_text.specs.declared.acts.Act.{Act}
-use Rattle.vms_text.specs.declared.acts.Item.{Item}
-use Rattle.vms_text.specs.declared.acts.Lane.{Lane as LaneOf}
-use Rattle.vms_text.specs.declared.acts.Line.{Line}
-use Rattle.vms_text.specs.declared.acts.Line.TheVariants.{Blank, Lane}
+use Rattle.vms_world.specs.Common.{Memory, Header, IsHeader, LineCause, judged, Act, Item, Lane as LaneOf, Line, Blank}
+use Rattle.vms_world.specs.Common.{TableHistories}
+use Rattle.vms_command.specs.Common.{IsJudgedAfter, BodyTakes, ends_at_judged, LinesAbove, with_judged, refused_line}
+use Rattle.vms_file_order.proofs.Common.{Fits-judged}
+use Rattle.vms_stream.specs.Common.{Text, printed_now, waits_with, Plain}
+use Rattle.vms_stream.proofs.Common.{Grows-nil}
+use Rattle.vms_script.proofs.Common.{IsOpenScript-lane}
+use Rattle.vms_text.specs.declared.acts.Line.TheVariants.{Lane}
 use Rattle.vms_world.specs.declared.worlds.World.{World}
-use Rattle.vms_world.specs.Phases.{Histories}
 use Rattle.vms_replay.specs.declared.bodies.Replay.{Replay}
 use Rattle.vms_replay.specs.declared.waits.Wait.{Wait}
 use Rattle.vms_replay.specs.declared.waits.Wait.TheVariants as waits
-use Rattle.vms_replay.specs.MadePhases.{MadePhase}
-use Rattle.vms_replay.specs.Replaying.{Kept, act_text, has_some, is_asking, judged_text, next_kept, replaying}
-use Rattle.vms_replay.specs.ReplayStates.{Runs, StandsBefore}
-use Rattle.vms_replay.specs.Waits.{TellsWaits, asked_numbers, asking_numbers}
+use Rattle.vms_replay.specs.Common.{PastPhase, Kept, act_text, has_some, is_asking, judged_text, next_kept, replaying}
+use Rattle.vms_replay.specs.Common.{Runs, StandsBefore, TellsWaits, asked_numbers, asking_numbers}
 use Rattle.vms_replay.proofs.TextWaits.{TellsWaits-act, TellsWaits-nothing, TellsWaits-some, no-texts, printed_now-act}
 use Rattle.vms_replay.proofs.TextWaits.{printed_now-nothing, printed_now-some}
 
@@ -70,12 +54,12 @@ asked-act n lane act = by (is_asking act)
     by true = refl
     by false = refl
 
-module _ (header : Header) (n : ℕ) (above : LinesAbove) (kept : Kept) (texts : List (Text MadePhase))
+module _ (header : Header) (n : ℕ) (above : LinesAbove) (kept : Kept) (texts : List (Text PastPhase))
     (held : Option World) (items : List Item) (waiting : List Wait)
     (runs : Runs header n above kept texts held items waiting) where
   -- past a line of a lane
   module _ (valid : IsHeader header) (lane : LaneOf) (act : Act)
-      (judged_is : IsJudged header above (Ok (Lane lane act))) where
+      (judged_is : IsJudgedAfter header above (Ok (Lane lane act))) where
     abbrev item : Item
     item = record { number = n; lane = lane; act = act }
 
@@ -98,7 +82,7 @@ module _ (header : Header) (n : ℕ) (above : LinesAbove) (kept : Kept) (texts :
       fits = Fits-judged kept.above kept.items header valid judged_is.0 n lane act
           (ap (λ (lines : List Line). judged header lines judged_is.0) (sym runs.lines) ∙ sym judged_is.1) runs.fits
           runs.below;
-      lines = IsOpen-lane
+      lines = IsOpenScript-lane
           (record { header = header; lines = above.lines; above = kept.above; taken = []; items = kept.items })
           item runs.lines;
       below = All-push (λ (i : Item). i.number < suc n) kept.items item
@@ -109,7 +93,7 @@ module _ (header : Header) (n : ℕ) (above : LinesAbove) (kept : Kept) (texts :
     }
 
   -- past a line that counts nothing
-  Runs-later : (above' : LinesAbove) (texts' : List (Text MadePhase)) (waiting' : List Wait)
+  Runs-later : (above' : LinesAbove) (texts' : List (Text PastPhase)) (waiting' : List Wait)
       → above'.lines ≡ above.lines → TellsWaits header waiting' texts'
       → asked_numbers waiting' ≡ asked_numbers waiting → (kept.items ≡ [] → waiting' ≡ [])
       → Runs header (suc n) above' kept texts' held items waiting'
@@ -139,9 +123,9 @@ module _ (header : Header) (n : ℕ) (above : LinesAbove) (kept : Kept) (texts :
     Runs-refused_now none =
         let no = no-texts header waiting texts runs.tells none in
         Runs-later (with_judged (Err cause) above) (waits_with texts (Plain (refused_line n cause))) waiting refl
-        (subst (λ (ts : List (Text MadePhase)). TellsWaits header waiting
+        (subst (λ (ts : List (Text PastPhase)). TellsWaits header waiting
         (waits_with ts (Plain (refused_line n cause)))) (sym no)
-        (subst (λ (ts : List (Text MadePhase)). TellsWaits header waiting ts) no runs.tells)) refl runs.only_open
+        (subst (λ (ts : List (Text PastPhase)). TellsWaits header waiting ts) no runs.tells)) refl runs.only_open
 
     -- and one that waits
     pub Runs-refused_later : has_some waiting ≡ true → Runs header (suc n) (with_judged (Err cause) above) kept
@@ -156,7 +140,7 @@ module _ (header : Header) (n : ℕ) (above : LinesAbove) (kept : Kept) (texts :
         let both : true ≡ false = sym some ∙ no in absurd cc)
 
 -- the same of what is equal
-Runs-same : (header : Header) (n : ℕ) (above : LinesAbove) (kept : Kept) (texts texts' : List (Text MadePhase))
+Runs-same : (header : Header) (n : ℕ) (above : LinesAbove) (kept : Kept) (texts texts' : List (Text PastPhase))
     (held held' : Option World) (items items' : List Item) (waiting waiting' : List Wait)
     → texts' ≡ texts → held' ≡ held → items' ≡ items → waiting' ≡ waiting
     → Runs header n above kept texts held items waiting
@@ -166,7 +150,7 @@ Runs-same header n above kept texts texts' held held' items items' waiting waiti
     subst (λ (ws : List Wait). Runs header n above kept texts' held' items' ws) (sym same_waits)
     (subst (λ (is : List Item). Runs header n above kept texts' held' is waiting) (sym same_items)
     (subst (λ (w : Option World). Runs header n above kept texts' w items waiting) (sym same_held)
-    (subst (λ (ts : List (Text MadePhase)). Runs header n above kept ts held items waiting) (sym same_texts) runs)))
+    (subst (λ (ts : List (Text PastPhase)). Runs header n above kept ts held items waiting) (sym same_texts) runs)))
 
 -- what holds of what was done
 pub then_ok : {P Q : Type 0} (result : Result (Unit {0}) Memory) → OnOk result P → (P → Q) → OnOk result Q
@@ -178,22 +162,22 @@ pub prints-nothing : (out text : List ℕ) → text ≡ [] → out ≡ out ++ te
 prints-nothing out text none = sym (append-nil out) ∙ ap (λ (more : List ℕ). out ++ more) (sym none)
 
 -- a line at which no phase ends, of a replay of any engine
-module _ {E : Type 0} (Makes : Header → World → List Item → Histories → Type 0) (replay replay' : Replay E)
-    (made : Option (List MadePhase)) (header : Header) (n : ℕ) where
+module _ {E : Type 0} (Makes : Header → World → List Item → TableHistories → Type 0) (replay replay' : Replay E)
+    (made : Option (List PastPhase)) (header : Header) (n : ℕ) where
   -- the line prints this, and the replay stands after it
-  pub record GoesOn (said : Result Line LineCause) (above : LinesAbove) (kept : Kept) (texts : List (Text MadePhase))
+  pub record GoesOn (said : Result Line LineCause) (above : LinesAbove) (kept : Kept) (texts : List (Text PastPhase))
       (out out' : List ℕ) : Type 0 where
     pub prints : out' ≡ out ++ printed_now texts (judged_text header n said kept)
     pub stands_after : StandsBefore replay' header (suc n) (with_judged said above)
         (next_kept header n above said None kept) (waits_with texts (judged_text header n said kept))
 
   -- the line failed, and no phase was made
-  pub TakesLine-failed : (said : Result Line LineCause) (result : Result (Unit {0}) Memory) (error : Memory) (out
+  pub BodyTakes-failed : (said : Result Line LineCause) (result : Result (Unit {0}) Memory) (error : Memory) (out
       out' : List ℕ)
       → result ≡ Err error
-      → TakesLine (replaying Makes) (StandsBefore replay) (StandsBefore replay') made made header n said result out out'
-  TakesLine-failed said result error out out' is =
-      subst (λ (r : Result (Unit {0}) Memory). TakesLine (replaying Makes) (StandsBefore replay) (StandsBefore
+      → BodyTakes (replaying Makes) (StandsBefore replay) (StandsBefore replay') made made header n said result out out'
+  BodyTakes-failed said result error out out' is =
+      subst (λ (r : Result (Unit {0}) Memory). BodyTakes (replaying Makes) (StandsBefore replay) (StandsBefore
       replay') made
       made header n said r out out') (sym is)
       (record {
@@ -203,21 +187,21 @@ module _ {E : Type 0} (Makes : Header → World → List Item → Histories → 
         goes = tt;
       })
 
-  pub TakesLine-going_on : (said : Result Line LineCause) (result : Result (Unit {0}) Memory) (out out' : List ℕ)
-      → ((above : LinesAbove) (kept : Kept) (texts : List (Text MadePhase))
+  pub BodyTakes-going_on : (said : Result Line LineCause) (result : Result (Unit {0}) Memory) (out out' : List ℕ)
+      → ((above : LinesAbove) (kept : Kept) (texts : List (Text PastPhase))
       → StandsBefore replay header n above kept texts
       → ends_at_judged (has_some kept.items) said ≡ false)
-      → OnOk result ((above : LinesAbove) (kept : Kept) (texts : List (Text MadePhase))
-      → StandsBefore replay header n above kept texts → IsJudged header above said
+      → OnOk result ((above : LinesAbove) (kept : Kept) (texts : List (Text PastPhase))
+      → StandsBefore replay header n above kept texts → IsJudgedAfter header above said
       → GoesOn said above kept texts out out')
-      → TakesLine (replaying Makes) (StandsBefore replay) (StandsBefore replay') made made header n said result out out'
-  TakesLine-going_on said (Err error) out out' ends goes = record {
+      → BodyTakes (replaying Makes) (StandsBefore replay) (StandsBefore replay') made made header n said result out out'
+  BodyTakes-going_on said (Err error) out out' ends goes = record {
     given = None;
     grows = Grows-nil made;
     may_give = λ above kept texts stands judged_is. tt;
     goes = tt;
   }
-  TakesLine-going_on said (Ok done) out out' ends goes = record {
+  BodyTakes-going_on said (Ok done) out out' ends goes = record {
     given = None;
     grows = Grows-nil made;
     may_give = λ above kept texts stands judged_is. tt;
@@ -230,17 +214,17 @@ module _ {E : Type 0} (Makes : Header → World → List Item → Histories → 
         };
   }
 
-  module _ (above : LinesAbove) (kept : Kept) (texts : List (Text MadePhase))
+  module _ (above : LinesAbove) (kept : Kept) (texts : List (Text PastPhase))
       (stands : StandsBefore replay header n above kept texts) where
     -- past a line of a lane
     pub goes-lane : IsHeader header → (lane : LaneOf) (act : Act) → replay'.world ≡ replay.world
         → replay'.items.items ≡ replay.items.items ++ record { number = n; lane = lane; act = act } ∷ []
         → replay'.waits.items ≡ replay.waits.items ++ (if is_asking act then waits.Answer n ∷ [] else [])
-        → IsJudged header above (Ok (Lane lane act)) → (out : List ℕ)
+        → IsJudgedAfter header above (Ok (Lane lane act)) → (out : List ℕ)
         → GoesOn (Ok (Lane lane act)) above kept texts out out
     goes-lane valid lane act same_world grown waits_grown judged_is out =
         let item : Item = record { number = n; lane = lane; act = act } in
-        let waits' : List (Text MadePhase) = waits_with texts (act_text header n act) in
+        let waits' : List (Text PastPhase) = waits_with texts (act_text header n act) in
         record {
           prints = prints-nothing out _ (printed_now-act header texts n act);
           stands_after = record {
@@ -267,7 +251,7 @@ module _ {E : Type 0} (Makes : Header → World → List Item → Histories → 
 
     -- past a line that doesn't count, which is printed at once, or waits
     module _ (cause : LineCause) where
-      abbrev refused : Text MadePhase
+      abbrev refused : Text PastPhase
       refused = Plain (refused_line n cause)
 
       pub goes-refused_now : replay' ≡ replay → replay.waits.items ≡ [] → (out out' : List ℕ)
@@ -276,7 +260,7 @@ module _ {E : Type 0} (Makes : Header → World → List Item → Histories → 
           let no = no-texts header replay.waits.items texts stands.runs.tells none in
           record {
             prints = printed ∙ sym (ap (λ (more : List ℕ). out ++ more)
-                (ap (λ (ts : List (Text MadePhase)). printed_now ts refused) no));
+                (ap (λ (ts : List (Text PastPhase)). printed_now ts refused) no));
             stands_after = subst (λ (r : Replay E). StandsBefore r header (suc n) (with_judged (Err cause) above) kept
                 (waits_with texts refused)) (sym same)
                 (record {

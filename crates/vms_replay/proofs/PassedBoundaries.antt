@@ -1,40 +1,25 @@
 -- How a replay goes past a boundary line, and how it ends.
-use Rattle.std.proofs.Common.{◌≡◌, ℕ, suc, ◌<◌, List, [], ◌++◌, length}
-use Rattle.std.proofs.Common.{Option, Some}
-use Rattle.std.proofs.Common.{None, Ok, Err, refl, sym, ap, ap₂, subst, ◌∙◌, arith, append_assoc}
+use Rattle.std.proofs.Common.{◌≡◌, ℕ, suc, ◌<◌, List, [], ◌++◌, length, Option, Some, None, Ok, Err, refl, sym, ap, ap₂}
+use Rattle.std.proofs.Common.{subst, ◌∙◌, arith, append_assoc}
 use Rattle.std.proofs.lemmas.List.Elements.{All-nil}
 use Rattle.std.specs.Prelude.{OnOk, Result, is_some}
-use Rattle.vms_base.specs.declared.failures.Memory.{Memory}
-use Rattle.vms_base.specs.declared.headers.Header.{Header}
-use Rattle.vms_base.specs.Headers.{IsHeader}
-use Rattle.vms_command.specs.Bodies.{ClosesBody, GoesPast, IsJudged, SomeLine, TakesLine}
-use Rattle.vms_command.specs.Commands.{status_at_end}
-use Rattle.vms_command.specs.Lines.{LinesAbove, with_judged}
-use Rattle.vms_command.specs.Printing.{done_line}
-use Rattle.vms_file_order.specs.WorldStarts.{IsStartOf}
-use Rattle.vms_file_order.proofs.BoundaryStarts.{MayCross-allowed}
-use Rattle.vms_line.specs.Laws.{IsLineOf}
-use Rattle.vms_stream.specs.Waiting.{Text}
+use Rattle.vms_world.specs.Common.{Memory, Header, IsHeader, IsLineOf, allowed_from, first_start, start_after}
+use Rattle.vms_world.specs.Common.{start_past, Item, MayCross, TableHistories, IsWorldOf}
+use Rattle.vms_command.specs.Common.{ClosesBody, GoesPast, IsJudgedAfter, SomeLine, BodyTakes, status_at_end}
+use Rattle.vms_command.specs.Common.{LinesAbove, with_judged, done_line}
+use Rattle.vms_file_order.specs.Common.{IsStartOf}
+use Rattle.vms_file_order.proofs.Common.{MayCross-allowed}
+use Rattle.vms_stream.specs.Common.{Text}
 use Rattle.vms_stream.specs.declared.statuses.Status.{Status}
-use Rattle.vms_script.specs.Judging.{allowed_from}
-use Rattle.vms_script.specs.Starts.{first_start, start_after, start_past}
-use Rattle.vms_script.proofs.Fitting.{Fits-none}
-use Rattle.vms_script.proofs.Known.{judged-known, judged_from-allowed}
+use Rattle.vms_script.proofs.Common.{Fits-none, judged-known, judged_from-allowed}
 use Rattle.vms_text.specs.declared.acts.Boundary.{Boundary as BoundaryOf}
-use Rattle.vms_text.specs.declared.acts.Item.{Item}
 use Rattle.vms_text.specs.declared.acts.Line.TheVariants.{Boundary}
 use Rattle.vms_world.specs.declared.worlds.World.{World}
-use Rattle.vms_world.specs.Boundaries.{MayCross}
-use Rattle.vms_world.specs.Phases.{Histories}
-use Rattle.vms_world.specs.Worlds.{IsWorldOf}
 use Rattle.vms_replay.specs.declared.bodies.Replay.{Replay}
 use Rattle.vms_replay.specs.declared.waits.Wait.{Wait}
-use Rattle.vms_replay.specs.MadePhases.{MadePhase, crossed, with_given, world_after}
-use Rattle.vms_replay.specs.PlainReports.{HasPlainTotals}
-use Rattle.vms_replay.specs.Replaying.{Kept, boundary_report, has_some, next_kept, nothing_shown, replaying}
-use Rattle.vms_replay.specs.ReplayStates.{CrossesTo, Ended, EndsPhase, Runs, StandsBefore, printed_given}
-use Rattle.vms_replay.specs.ReplayStates.{world_report}
-use Rattle.vms_replay.specs.Waits.{TellsWaits, asked_numbers}
+use Rattle.vms_replay.specs.Common.{PastPhase, crossed, with_given, world_after, HasPlainTotals, Kept, boundary_report}
+use Rattle.vms_replay.specs.Common.{has_some, next_kept, shown_by_replay, replaying, CrossesTo, Ended, EndsPhase, Runs}
+use Rattle.vms_replay.specs.Common.{StandsBefore, printed_given, world_report, TellsWaits, asked_numbers}
 use Rattle.vms_replay.proofs.KernelThresholds.{IsStartOf-past}
 use Rattle.vms_replay.proofs.LineStands.{then_ok}
 use Rattle.vms_replay.proofs.PlainTotals.{HasPlainTotals-crossed, report-plain}
@@ -42,7 +27,7 @@ use Rattle.vms_replay.proofs.TextWaits.{TellsWaits-none, no-texts, none-some, no
 
 -- a boundary line that counts is one of the header, and is allowed there
 module _ (header : Header) (valid : IsHeader header) (above : LinesAbove) (b : BoundaryOf)
-    (judged_is : IsJudged header above (Ok (Boundary b))) where
+    (judged_is : IsJudgedAfter header above (Ok (Boundary b))) where
   pub known-boundary : IsLineOf header (Boundary b)
   known-boundary = judged-known header above.lines judged_is.0 (Boundary b) valid (sym judged_is.1)
 
@@ -51,8 +36,8 @@ module _ (header : Header) (valid : IsHeader header) (above : LinesAbove) (b : B
       judged_from-allowed header (start_after first_start above.lines) judged_is.0 (Boundary b) (sym judged_is.1)
 
 -- the replay after a boundary line
-module _ (header : Header) (n : ℕ) (above : LinesAbove) (kept : Kept) (texts : List (Text MadePhase))
-    (given : Option MadePhase) (b : BoundaryOf) where
+module _ (header : Header) (n : ℕ) (above : LinesAbove) (kept : Kept) (texts : List (Text PastPhase))
+    (given : Option PastPhase) (b : BoundaryOf) where
   abbrev above' : LinesAbove
   above' = with_judged (Ok (Boundary b)) above
 
@@ -78,9 +63,9 @@ module _ (header : Header) (n : ℕ) (above : LinesAbove) (kept : Kept) (texts :
   }
 
 -- a replay ended the open phase, and went past the boundary line
-module _ {E : Type 0} (Makes : Header → World → List Item → Histories → Type 0) (replay mid replay' : Replay E)
-    (header : Header) (n : ℕ) (above : LinesAbove) (kept : Kept) (texts : List (Text MadePhase))
-    (stands : StandsBefore replay header n above kept texts) (given : Option MadePhase) (out between : List ℕ)
+module _ {E : Type 0} (Makes : Header → World → List Item → TableHistories → Type 0) (replay mid replay' : Replay E)
+    (header : Header) (n : ℕ) (above : LinesAbove) (kept : Kept) (texts : List (Text PastPhase))
+    (stands : StandsBefore replay header n above kept texts) (given : Option PastPhase) (out between : List ℕ)
     (ended : Ended header above kept texts given mid.world mid.items.items mid.waits.items out between) where
   pub only-given : given ≡ None → texts ≡ []
   only-given none =
@@ -93,7 +78,7 @@ module _ {E : Type 0} (Makes : Header → World → List Item → Histories → 
       (crossed header b (world_after header kept.world given)))
       (totals : HasPlainTotals header (with_given given kept.made)
       (crossed header b (world_after header kept.world given))) where
-    abbrev reported : Option MadePhase → List ℕ
+    abbrev reported : Option PastPhase → List ℕ
     reported g = boundary_report header n b (with_given g kept.made) (world_after header kept.world g)
 
     told : world_report header n b (world_after header kept.world given) ≡ reported given
@@ -107,7 +92,7 @@ module _ {E : Type 0} (Makes : Header → World → List Item → Histories → 
           ∙ append_assoc out (printed_given texts given) (reported given)
           ∙ sym (ap (λ (more : List ℕ). out ++ more)
           (printed-after texts given only-given (has_some kept.items) reported ended.ended));
-      stands_after = subst (λ (ts : List (Text MadePhase)). StandsBefore replay' header (suc n)
+      stands_after = subst (λ (ts : List (Text PastPhase)). StandsBefore replay' header (suc n)
           (with_judged (Ok (Boundary b)) above) (next_kept header n above (Ok (Boundary b)) given kept) ts)
           (sym (none-waits texts given only-given (has_some kept.items) reported ended.ended))
           (record {
@@ -118,14 +103,14 @@ module _ {E : Type 0} (Makes : Header → World → List Item → Histories → 
     }
 
 -- a line at which a phase ends
-module _ {E : Type 0} (Makes : Header → World → List Item → Histories → Type 0) (replay mid replay' : Replay E)
-    (made made' : Option (List MadePhase)) (header : Header) (n : ℕ) (b : BoundaryOf) (out between out' : List ℕ) where
+module _ {E : Type 0} (Makes : Header → World → List Item → TableHistories → Type 0) (replay mid replay' : Replay E)
+    (made made' : Option (List PastPhase)) (header : Header) (n : ℕ) (b : BoundaryOf) (out between out' : List ℕ) where
   -- the phase wasn't made, or what waits for it couldn't be written
-  pub TakesLine-unended : (error failure : Memory)
+  pub BodyTakes-unended : (error failure : Memory)
       → EndsPhase Makes header replay mid made made' (Err error) out between
-      → TakesLine (replaying Makes) (StandsBefore replay) (StandsBefore replay') made made' header n (Ok (Boundary b))
+      → BodyTakes (replaying Makes) (StandsBefore replay) (StandsBefore replay') made made' header n (Ok (Boundary b))
       (Err failure) out out'
-  TakesLine-unended error failure ends = record {
+  BodyTakes-unended error failure ends = record {
     given = ends.given;
     grows = ends.grows;
     may_give = λ above kept texts stands judged_is. ends.may_give n above kept texts stands;
@@ -147,11 +132,11 @@ module _ {E : Type 0} (Makes : Header → World → List Item → Histories → 
               (allowed-boundary header valid line.above b line.judged),
         )
 
-    pub TakesLine-passed : IsHeader header → (done : Result (Unit {0}) Memory)
+    pub BodyTakes-passed : IsHeader header → (done : Result (Unit {0}) Memory)
         → OnOk done ((w : World) → mid.world ≡ Some w → CrossesTo header n b w mid replay' between out')
-        → TakesLine (replaying Makes) (StandsBefore replay) (StandsBefore replay') made made' header n (Ok (Boundary b))
+        → BodyTakes (replaying Makes) (StandsBefore replay) (StandsBefore replay') made made' header n (Ok (Boundary b))
         done out out'
-    TakesLine-passed valid done crosses = record {
+    BodyTakes-passed valid done crosses = record {
       given = ends.given;
       grows = ends.grows;
       may_give = λ above kept texts stands judged_is. ends.may_give n above kept texts stands;
@@ -167,12 +152,12 @@ module _ {E : Type 0} (Makes : Header → World → List Item → Histories → 
     }
 
 -- a replay at the end of its trace
-module _ {E : Type 0} (Makes : Header → World → List Item → Histories → Type 0) (replay mid : Replay E)
-    (made made' : Option (List MadePhase)) (header : Header) (accepted refused : ℕ) (out between out' : List ℕ) where
+module _ {E : Type 0} (Makes : Header → World → List Item → TableHistories → Type 0) (replay mid : Replay E)
+    (made made' : Option (List PastPhase)) (header : Header) (accepted refused : ℕ) (out between out' : List ℕ) where
   -- where the phase wasn't made, or something couldn't be written
   pub ClosesBody-failed : (done : Result (Unit {0}) Memory) (failure : Memory)
       → EndsPhase Makes header replay mid made made' done out between
-      → ClosesBody (replaying Makes) (StandsBefore replay) nothing_shown made made' header accepted refused
+      → ClosesBody (replaying Makes) (StandsBefore replay) shown_by_replay made made' header accepted refused
       (Err failure) out out'
   ClosesBody-failed done failure ends = record {
     given = ends.given;
@@ -183,7 +168,8 @@ module _ {E : Type 0} (Makes : Header → World → List Item → Histories → 
 
   pub ClosesBody-ended : EndsPhase Makes header replay mid made made' (Ok tt) out between
       → (ending : Status) → ending ≡ status_at_end refused → out' ≡ between ++ done_line accepted refused
-      → ClosesBody {E = Memory} (replaying Makes) (StandsBefore replay) nothing_shown made made' header accepted refused
+      → ClosesBody {E = Memory} (replaying Makes) (StandsBefore replay) shown_by_replay made made' header
+      accepted refused
       (Ok ending) out out'
   ClosesBody-ended ends ending is printed = record {
     given = ends.given;

@@ -1,30 +1,21 @@
 -- What a world adds up to are the plain sums of the phases before it, from the first world on.
 use Rattle.std.proofs.Common.{◌≡◌, ℕ, List, [], ◌∷◌, ◌++◌, refl, ap, ◌∙◌, arith}
 use Rattle.std.proofs.lemmas.Int.{ints}
-use Rattle.vms_base.specs.declared.headers.Header.{Header}
-use Rattle.vms_base.specs.Headers.{IsHeader}
-use Rattle.vms_answers.specs.PhaseAnswers.{answers_of}
-use Rattle.vms_command.specs.Printing.{line_prefix}
-use Rattle.vms_line.specs.Spelling.{spelled_line}
-use Rattle.vms_report.specs.Totals.{event_total, pcpu_total}
-use Rattle.vms_report.proofs.SameReports.{totals_report-same}
+use Rattle.vms_world.specs.Common.{Header, IsHeader, spelled_line, Offline, Flush, Report, Item, Totals, Vmstat}
+use Rattle.vms_world.specs.Common.{Zoneinfo, Counters, TableHistories, left_by, IsWorldOf}
+use Rattle.vms_answers.specs.Common.{answers_of}
+use Rattle.vms_command.specs.Common.{line_prefix}
+use Rattle.vms_report.specs.Common.{event_total, pcpu_total}
+use Rattle.vms_report.proofs.Common.{totals_report-same}
 use Rattle.vms_text.specs.declared.acts.Boundary.{Boundary}
-use Rattle.vms_text.specs.declared.acts.Boundary.TheVariants.{Sync, Offline, Online, Flush, Report}
-use Rattle.vms_text.specs.declared.acts.Item.{Item}
+use Rattle.vms_text.specs.declared.acts.Boundary.TheVariants.{Sync, Online}
 use Rattle.vms_text.specs.declared.acts.Line.TheVariants as lines
-use Rattle.vms_text.specs.declared.acts.ReportKind.TheVariants.{Totals, Vmstat, Zoneinfo, Counters}
-use Rattle.vms_totals.specs.Moves.{CountersMoveBy, EventsMoveBy, PagesMoveBy}
-use Rattle.vms_totals.proofs.PcpuWays.{pcpu-started}
-use Rattle.vms_totals.proofs.StartTotals.{event-started, page-started}
+use Rattle.vms_total_laws.specs.Common.{CountersMoveBy, EventsMoveBy, PagesMoveBy}
+use Rattle.vms_total_laws.proofs.Common.{pcpu-started, event-started, page-started}
 use Rattle.vms_world.specs.declared.worlds.World.{World}
-use Rattle.vms_world.specs.Phases.{Histories, left_by}
-use Rattle.vms_world.specs.Worlds.{IsWorldOf}
-use Rattle.vms_world.proofs.Crossings.{total-crossed}
-use Rattle.vms_replay.specs.KernelRules.{normal_rule, normal_zones}
-use Rattle.vms_replay.specs.MadePhases.{MadePhase, crossed}
-use Rattle.vms_replay.specs.PlainReports.{HasPlainTotals}
-use Rattle.vms_replay.specs.Replaying.{boundary_report, first_kept}
-use Rattle.vms_replay.specs.ReplayStates.{world_report}
+use Rattle.vms_world.proofs.Common.{total-crossed}
+use Rattle.vms_replay.specs.Common.{normal_rule, normal_zones, PastPhase, crossed, HasPlainTotals, boundary_report}
+use Rattle.vms_replay.specs.Common.{first_kept, world_report}
 use Rattle.vms_replay.proofs.KernelThresholds.{Crosses-crossed}
 
 module _ (header : Header) (valid : IsHeader header) where
@@ -54,7 +45,7 @@ module _ (header : Header) (valid : IsHeader header) where
   counters-crossed Flush w j = refl
   counters-crossed (Report kind) w j = refl
 
-  pub HasPlainTotals-crossed : (made : List MadePhase) (w : World) (b : Boundary) → IsWorldOf header w
+  pub HasPlainTotals-crossed : (made : List PastPhase) (w : World) (b : Boundary) → IsWorldOf header w
       → HasPlainTotals header made w → HasPlainTotals header made (crossed header b w)
   HasPlainTotals-crossed made w b of has = record {
     pages = λ k k_in. total-crossed header normal_rule w (crossed header b w) of b
@@ -64,11 +55,12 @@ module _ (header : Header) (valid : IsHeader header) where
   }
 
 -- a phase moves each by what its lines say
-pub HasPlainTotals-phase : (header : Header) (made : List MadePhase) (w : World) (items : List Item) (hs : Histories)
-    → PagesMoveBy header items w (left_by header w hs) → EventsMoveBy header items w (left_by header w hs)
-    → CountersMoveBy header (answers_of header w items hs) items w (left_by header w hs)
+pub HasPlainTotals-phase : (header : Header) (made : List PastPhase) (w : World) (items : List Item)
+    (hs : TableHistories)
+    → PagesMoveBy header items w (left_by header w items hs) → EventsMoveBy header items w (left_by header w items hs)
+    → CountersMoveBy header (answers_of header w items hs) items w (left_by header w items hs)
     → HasPlainTotals header made w
-    → HasPlainTotals header (record { world = w; items = items; histories = hs } ∷ made) (left_by header w hs)
+    → HasPlainTotals header (record { world = w; items = items; histories = hs } ∷ made) (left_by header w items hs)
 HasPlainTotals-phase header made w items hs pages events counters has = record {
   pages = λ k k_in. omega (arith, ints, pages k k_in, has.pages k k_in);
   events = λ k k_in. omega (arith, ints, events k k_in, has.events k k_in);
@@ -76,7 +68,7 @@ HasPlainTotals-phase header made w items hs pages events counters has = record {
 }
 
 -- so what a boundary line reports of the world is what it prints after the phases
-pub report-plain : (header : Header) (n : ℕ) (b : Boundary) (made : List MadePhase) (w : World)
+pub report-plain : (header : Header) (n : ℕ) (b : Boundary) (made : List PastPhase) (w : World)
     → HasPlainTotals header made w → world_report header n b w ≡ boundary_report header n b made w
 report-plain header n (Report Totals) made w has =
     ap (λ (report : List ℕ). line_prefix n ++ spelled_line header (lines.Boundary (Report Totals)) ++ report)

@@ -1,9 +1,9 @@
 -- The lines that wait are printed as their answers come.
 use Rattle.std.proofs.Common.{◌≡◌, List, [], ap, ◌∙◌, append-nil}
-use Rattle.vms_base.specs.declared.headers.Header.{Header}
-use Rattle.vms_answers.specs.PhaseAnswers.{NumberedAnswer}
+use Rattle.vms_world.specs.Common.{Header}
+use Rattle.vms_answers.specs.Common.{NumberedAnswer}
 use Rattle.vms_replay.specs.declared.printers.WaitPrinter.{WaitPrinter}
-use Rattle.vms_replay.specs.Printing.{Prints, printed_by}
+use Rattle.vms_replay.specs.Common.{Prints, printed_by}
 
 -- what is printed where all answers are taken
 pub printed-all : (header : Header) (first last : WaitPrinter) (answers : List NumberedAnswer)

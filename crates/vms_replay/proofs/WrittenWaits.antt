@@ -1,19 +1,16 @@
 -- What lines print that wait: each that answers finds its answer next, since numbers ascend.
-use Rattle.std.proofs.Common.{◌≡◌, ℕ, ◌+◌, suc, ◌<◌, nat_eq, Bool, true, false, List, [], ◌∷◌, ◌++◌, map, refl}
-use Rattle.std.proofs.Common.{sym, ap}
+use Rattle.std.proofs.Common.{◌≡◌, ℕ, ◌+◌, suc, ◌<◌, nat_eq, Bool, true, false, List, [], ◌∷◌, ◌++◌, map, refl, sym, ap}
 use Rattle.std.proofs.Common.{subst, ◌∙◌, arith, add-one, if◌then◌else◌, inl, inr, get_or}
 use Rattle.std.proofs.lemmas.Bool.Decides.{nat_tests}
 use Rattle.std.specs.List.{flat_map}
 use Rattle.std.specs.List.Sorted.{IsStrictlyIncreasing}
-use Rattle.vms_base.specs.declared.headers.Header.{Header}
-use Rattle.vms_answers.specs.AnswerLines.{answer_line}
-use Rattle.vms_answers.specs.PhaseAnswers.{NumberedAnswer}
-use Rattle.vms_command.specs.Printing.{refused_line}
-use Rattle.vms_text.specs.declared.acts.Item.{Item}
+use Rattle.vms_world.specs.Common.{Header, Item}
+use Rattle.vms_answers.specs.Common.{answer_line, NumberedAnswer}
+use Rattle.vms_command.specs.Common.{refused_line}
 use Rattle.vms_replay.specs.declared.waits.Wait.{Wait}
 use Rattle.vms_replay.specs.declared.waits.Wait.TheVariants as waits
-use Rattle.vms_replay.specs.Replaying.{answer_text, is_asking}
-use Rattle.vms_replay.specs.Waits.{AreOf, Ascend, IsBelow, asked_numbers, asking_numbers, wait_text, written}
+use Rattle.vms_replay.specs.Common.{answer_text, is_asking, AreAnswersOf, Ascend, IsBelow, asked_numbers}
+use Rattle.vms_replay.specs.Common.{asking_numbers, wait_text, written}
 
 -- numbers that rise, each after the one before it
 IsStrictlyIncreasing-rest : (x : ℕ) (xs : List ℕ) → IsStrictlyIncreasing (x ∷ xs) → IsStrictlyIncreasing xs
@@ -71,7 +68,8 @@ abbrev AreBeyond : ℕ → List NumberedAnswer → Type 0
 AreBeyond n [] = Unit {0}
 AreBeyond n (answer ∷ answers) = (n < answer.number) × AreBeyond n answers
 
-AreBeyond-of : (n : ℕ) (answers : List NumberedAnswer) (numbers : List ℕ) → IsBelow n numbers → AreOf answers numbers
+AreBeyond-of : (n : ℕ) (answers : List NumberedAnswer) (numbers : List ℕ) → IsBelow n numbers →
+    AreAnswersOf answers numbers
     → AreBeyond n answers
 AreBeyond-of n [] numbers below of = tt
 AreBeyond-of n (answer ∷ answers) [] below of = absurd of
@@ -104,7 +102,7 @@ module _ (header : Header) where
       ++ flat_map (wait_text header (first ∷ answers)) waiting) (sym other)
 
   pub written-is : (waiting : List Wait) (answers : List NumberedAnswer) → Ascend (asked_numbers waiting)
-      → AreOf answers (asked_numbers waiting)
+      → AreAnswersOf answers (asked_numbers waiting)
       → written header waiting answers ≡ flat_map (wait_text header answers) waiting
   written-is [] answers ascend of = refl
   written-is (waits.Refused cause n ∷ waiting) answers ascend of =

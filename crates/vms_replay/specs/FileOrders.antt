@@ -1,20 +1,18 @@
 -- What `replay` says, whose phases are made in file order.
 use Rattle.std.specs.Prelude.{ℕ, List}
-use Rattle.vms_base.specs.declared.headers.Header.{Header}
-use Rattle.vms_file_order.specs.FileOrderPhases.{IsFileOrderPhase}
+use Rattle.vms_world.specs.Common.{Header, Item, TableHistories}
+use Rattle.vms_file_order.specs.Common.{IsFileOrderPhase}
 use Rattle.vms_stream.specs.declared.statuses.Status.{Status}
-use Rattle.vms_text.specs.declared.acts.Item.{Item}
 use Rattle.vms_world.specs.declared.worlds.World.{World}
-use Rattle.vms_world.specs.Phases.{Histories}
 use Rattle.vms_replay.specs.KernelRules.{normal_rule, pressure_rule}
-use Rattle.vms_replay.specs.MadePhases.{MadePhase}
+use Rattle.vms_replay.specs.MadePhases.{PastPhase}
 use Rattle.vms_replay.specs.ReplayAnswers.{SaysReplayed}
 
 -- the histories of a phase are those in file order, by the kernel's rules of thresholds
-abbrev pub makes_in_order : Header → World → List Item → Histories → Type 0
+abbrev pub makes_in_order : Header → World → List Item → TableHistories → Type 0
 makes_in_order header w items hs = IsFileOrderPhase header pressure_rule normal_rule w items hs
 
 -- what each status of `replay` says of the bytes taken and written: phases in file order were made
 pub record SaysReplay (status : Status) (taken written : List ℕ) (at_end : Type 0) : Type 0 where
-  pub made : List MadePhase
+  pub made : List PastPhase
   pub says : SaysReplayed makes_in_order made status taken written at_end

@@ -1,9 +1,6 @@
 -- The kernel's rules of thresholds, by which a replay goes.
 use Rattle.std.specs.Prelude.{◌≡◌, ℕ, ◌≤◌, List, map}
-use Rattle.vms_base.specs.declared.headers.Header.{Header}
-use Rattle.vms_base.specs.declared.kinds.ZoneSize.{ZoneSize}
-use Rattle.vms_base.specs.Sizes.{IsValidSize}
-use Rattle.vms_base.specs.Thresholds.{normal_threshold_of, pressure_threshold_of}
+use Rattle.vms_world.specs.Common.{Header, ZoneSize, IsValidSize, normal_threshold_of, pressure_threshold_of}
 
 -- what a rule answers for a size and a number of CPUs, if it goes by a formula. Past valid sizes and 128 CPUs it may
 -- answer anything

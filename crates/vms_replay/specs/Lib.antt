@@ -9,3 +9,4 @@ pub mod ReplayStates
 pub mod ReplayedTexts
 pub mod ReplayAnswers
 pub mod FileOrders
+pub mod Common

@@ -1,17 +1,12 @@
 -- A phase of a trace that was made, and what stands after it.
 use Rattle.std.specs.Prelude.{List, ◌∷◌, Option, Some, None}
-use Rattle.vms_base.specs.declared.headers.Header.{Header}
+use Rattle.vms_world.specs.Common.{Header, with_cpu, Offline, Flush, Item, brought_up, flushed, taken_down, started}
+use Rattle.vms_world.specs.Common.{TableHistories, left_by, count_online}
 use Rattle.vms_base.specs.declared.kinds.CpuState.TheVariants.{Online as IsOnline}
-use Rattle.vms_answers.specs.PhaseAnswers.{NumberedAnswer, answers_of}
-use Rattle.vms_core.specs.Cells.{with_cpu}
+use Rattle.vms_answers.specs.Common.{NumberedAnswer, answers_of}
 use Rattle.vms_text.specs.declared.acts.Boundary.{Boundary}
-use Rattle.vms_text.specs.declared.acts.Boundary.TheVariants.{Offline, Online, Flush}
-use Rattle.vms_text.specs.declared.acts.Item.{Item}
+use Rattle.vms_text.specs.declared.acts.Boundary.TheVariants.{Online}
 use Rattle.vms_world.specs.declared.worlds.World.{World}
-use Rattle.vms_world.specs.Boundaries.{brought_up, flushed, taken_down}
-use Rattle.vms_world.specs.FirstWorlds.{started}
-use Rattle.vms_world.specs.Phases.{Histories, left_by}
-use Rattle.vms_world.specs.Refreshes.{count_online}
 use Rattle.vms_replay.specs.KernelRules.{normal_zones}
 
 -- the world that a run begins with, where the thresholds are the kernel's
@@ -19,22 +14,22 @@ abbrev pub first_world : Header → World
 first_world header = started header (normal_zones header header.layout.cpus)
 
 -- a phase that was made: the world that it began with, its lines, and its histories
-pub record MadePhase : Type 0 where
+pub record PastPhase : Type 0 where
   pub world : World
   pub items : List Item
-  pub histories : Histories
+  pub histories : TableHistories
 
 -- what its lines answered
-abbrev pub answers_in : Header → MadePhase → List NumberedAnswer
+abbrev pub answers_in : Header → PastPhase → List NumberedAnswer
 answers_in header made = answers_of header made.world made.items made.histories
 
 -- the world after it, or the one that stands where no phase was made
-abbrev pub world_after : Header → World → Option MadePhase → World
+abbrev pub world_after : Header → World → Option PastPhase → World
 world_after header w None = w
-world_after header w (Some made) = left_by header made.world made.histories
+world_after header w (Some made) = left_by header made.world made.items made.histories
 
 -- the phases that were made, the newest first, with the one that ends
-abbrev pub with_given : Option MadePhase → List MadePhase → List MadePhase
+abbrev pub with_given : Option PastPhase → List PastPhase → List PastPhase
 with_given None made = made
 with_given (Some phase) made = phase ∷ made
 

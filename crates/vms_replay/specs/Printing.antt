@@ -1,7 +1,7 @@
 -- What prints the lines of a phase that wait, as their answers come.
 use Rattle.std.specs.Prelude.{◌≡◌, ℕ, List, ◌++◌, drop}
-use Rattle.vms_base.specs.declared.headers.Header.{Header}
-use Rattle.vms_answers.specs.PhaseAnswers.{NumberedAnswer}
+use Rattle.vms_world.specs.Common.{Header}
+use Rattle.vms_answers.specs.Common.{NumberedAnswer}
 use Rattle.vms_replay.specs.declared.printers.WaitPrinter.{WaitPrinter}
 use Rattle.vms_replay.specs.Waits.{written}
 

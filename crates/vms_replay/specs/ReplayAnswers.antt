@@ -1,43 +1,36 @@
 -- What a replay says with each status, by the phases that were made.
 use Rattle.std.specs.Prelude.{ℕ, List, Option}
-use Rattle.vms_base.specs.declared.headers.Header.{Header}
-use Rattle.vms_command.specs.Bodies.{shown_given}
-use Rattle.vms_command.specs.Commands.{following}
-use Rattle.vms_stream.specs.Jobs.{Grows}
-use Rattle.vms_stream.specs.PhasedAnswers.{SaysPhased}
-use Rattle.vms_stream.specs.Waiting.{waiting}
-use Rattle.vms_stream.specs.Answers.{Answers}
+use Rattle.vms_world.specs.Common.{Header, lines_of, Item, TableHistories}
+use Rattle.vms_command.specs.Common.{shown_given, following}
+use Rattle.vms_stream.specs.Common.{Grows, SaysPhased, waiting, TakesAndWrites}
 use Rattle.vms_stream.specs.declared.statuses.Status.{Status}
 use Rattle.vms_stream.specs.declared.statuses.Status.TheVariants.{Done, Refused}
-use Rattle.vms_text.specs.Lines.{lines_of}
-use Rattle.vms_text.specs.declared.acts.Item.{Item}
 use Rattle.vms_world.specs.declared.worlds.World.{World}
-use Rattle.vms_world.specs.Phases.{Histories}
-use Rattle.vms_replay.specs.MadePhases.{MadePhase}
+use Rattle.vms_replay.specs.MadePhases.{PastPhase}
 use Rattle.vms_replay.specs.ReplayedTexts.{AreAllOf, AreFirstTaken}
-use Rattle.vms_replay.specs.Replaying.{nothing_shown, replaying}
+use Rattle.vms_replay.specs.Replaying.{shown_by_replay, replaying}
 
 -- which phases were made: with status 0 and 3 all of the input, and with every other status the first ones of the lines
 -- that were taken
-abbrev pub AreMadeWith : (Header → World → List Item → Histories → Type 0) → Status → List ℕ → Type 0
-    → List MadePhase → Type 0
+abbrev pub AreMadeWith : (Header → World → List Item → TableHistories → Type 0) → Status → List ℕ → Type 0
+    → List PastPhase → Type 0
 AreMadeWith Makes Done taken at_end made = AreAllOf Makes (lines_of taken) made
 AreMadeWith Makes Refused taken at_end made = AreAllOf Makes (lines_of taken) made
 AreMadeWith Makes _ taken at_end made = AreFirstTaken Makes taken at_end made
 
 -- what a status says: what was taken and written, which is the output of a replay with these phases, and that the
 -- phases lead through the segments of the text, each by the kernel's rules and with all laws at each of its moments
-pub record SaysReplayed (Makes : Header → World → List Item → Histories → Type 0) (made : List MadePhase)
+pub record SaysReplayed (Makes : Header → World → List Item → TableHistories → Type 0) (made : List PastPhase)
     (status : Status) (taken written : List ℕ) (at_end : Type 0) : Type 0 where
-  pub says : SaysPhased (waiting (following (replaying Makes))) (shown_given nothing_shown) made status taken written
+  pub says : SaysPhased (waiting (following (replaying Makes))) (shown_given shown_by_replay) made status taken written
       at_end
   pub phases : AreMadeWith Makes status taken at_end made
 
 -- a replay took bytes from its source, wrote bytes to its sink, and made phases, of which `Makes` says which histories
 -- they may have. What its engine keeps grew by them
-pub record AnswersReplayed {S K : Type 0} (Makes : Header → World → List Item → Histories → Type 0)
-    (kept kept' : Option (List MadePhase)) (left : S → Option (List ℕ)) (read_faults : S → ℕ)
+pub record AnswersReplayed {S K : Type 0} (Makes : Header → World → List Item → TableHistories → Type 0)
+    (kept kept' : Option (List PastPhase)) (left : S → Option (List ℕ)) (read_faults : S → ℕ)
     (held : K → Option (List ℕ)) (write_faults : K → ℕ) (src src' : S) (out out' : K) (status : Status) : Type 0 where
-  pub made : List MadePhase
+  pub made : List PastPhase
   pub grows : Grows kept kept' made
-  pub answers : Answers left read_faults held write_faults src src' out out' status (SaysReplayed Makes made)
+  pub answers : TakesAndWrites left read_faults held write_faults src src' out out' status (SaysReplayed Makes made)

@@ -1,34 +1,25 @@
 -- What a replay holds after the lines of a body that it took.
-use Rattle.std.specs.Prelude.{◌≡◌, ℕ, ◌<◌, List, [], ◌++◌, length, map, reverse, All, flat_map}
-use Rattle.std.specs.Prelude.{Option, Some, None, is_some, Result, OnOk}
-use Rattle.vms_base.specs.declared.failures.Memory.{Memory}
-use Rattle.vms_base.specs.declared.headers.Header.{Header}
-use Rattle.vms_command.specs.Lines.{LinesAbove}
-use Rattle.vms_command.specs.Printing.{line_prefix}
-use Rattle.vms_file_order.specs.WorldStarts.{IsStartOf}
-use Rattle.vms_line.specs.Spelling.{spelled_line}
-use Rattle.vms_stream.specs.Jobs.{Grows, MayGive, at_most_one}
-use Rattle.vms_stream.specs.Waiting.{Text, spelled}
-use Rattle.vms_report.specs.Reports.{report_of}
-use Rattle.vms_script.specs.FittingScripts.{Fits}
-use Rattle.vms_script.specs.Starts.{first_start, start_after}
-use Rattle.vms_script.specs.Totals.{line_of}
+use Rattle.std.specs.Prelude.{◌≡◌, ℕ, ◌<◌, List, [], ◌++◌, length, map, reverse, All, flat_map, Option, Some, None}
+use Rattle.std.specs.Prelude.{is_some, Result, OnOk}
+use Rattle.vms_world.specs.Common.{Memory, Header, spelled_line, Fits, first_start, start_after, line_of, Report, Item}
+use Rattle.vms_world.specs.Common.{TableHistories}
+use Rattle.vms_command.specs.Common.{LinesAbove, line_prefix}
+use Rattle.vms_file_order.specs.Common.{IsStartOf}
+use Rattle.vms_stream.specs.Common.{Grows, MayGive, at_most_one, Text, spelled}
+use Rattle.vms_report.specs.Common.{report_of}
 use Rattle.vms_text.specs.declared.acts.Boundary.{Boundary as BoundaryOf}
-use Rattle.vms_text.specs.declared.acts.Boundary.TheVariants.{Report}
-use Rattle.vms_text.specs.declared.acts.Item.{Item}
 use Rattle.vms_text.specs.declared.acts.Line.TheVariants.{Boundary}
 use Rattle.vms_world.specs.declared.worlds.World.{World}
-use Rattle.vms_world.specs.Phases.{Histories}
 use Rattle.vms_replay.specs.declared.bodies.Replay.{Replay}
 use Rattle.vms_replay.specs.declared.waits.Wait.{Wait}
-use Rattle.vms_replay.specs.MadePhases.{MadePhase, crossed, with_given, world_after}
+use Rattle.vms_replay.specs.MadePhases.{PastPhase, crossed, with_given, world_after}
 use Rattle.vms_replay.specs.PlainReports.{HasPlainTotals}
 use Rattle.vms_replay.specs.Replaying.{Kept, MayBe, has_some}
 use Rattle.vms_replay.specs.Waits.{TellsWaits, asked_numbers, asking_numbers}
 
 -- a world and the lines of the open phase that a replay holds before line n, and those that wait: the lines fit the
 -- world, which adds up to the plain sums of the phases before it, and all that count are above the phase or of it
-pub record Runs (header : Header) (n : ℕ) (above : LinesAbove) (kept : Kept) (texts : List (Text MadePhase))
+pub record Runs (header : Header) (n : ℕ) (above : LinesAbove) (kept : Kept) (texts : List (Text PastPhase))
     (held : Option World) (items : List Item) (waiting : List Wait) : Type 0 where
   pub in_world : held ≡ Some kept.world
   pub keeps : items ≡ kept.items
@@ -45,18 +36,18 @@ pub record Runs (header : Header) (n : ℕ) (above : LinesAbove) (kept : Kept) (
 module _ {E : Type 0} where
   -- a replay before line n, after lines that came to this
   pub record StandsBefore (replay : Replay E) (header : Header) (n : ℕ) (above : LinesAbove) (kept : Kept)
-      (texts : List (Text MadePhase)) : Type 0 where
+      (texts : List (Text PastPhase)) : Type 0 where
     pub runs : Runs header n above kept texts replay.world replay.items.items replay.waits.items
 
 -- what waits is printed where the phase ends
-abbrev pub printed_given : List (Text MadePhase) → Option MadePhase → List ℕ
+abbrev pub printed_given : List (Text PastPhase) → Option PastPhase → List ℕ
 printed_given texts None = []
 printed_given texts (Some made) = flat_map (spelled made) texts
 
 -- a replay after the end of a phase, before the line that ends it: nothing waits, and the world is where the lines so
 -- far lead
-pub record Ended (header : Header) (above : LinesAbove) (kept : Kept) (texts : List (Text MadePhase))
-    (given : Option MadePhase) (held : Option World) (items : List Item) (waiting : List Wait) (out out' : List ℕ)
+pub record Ended (header : Header) (above : LinesAbove) (kept : Kept) (texts : List (Text PastPhase))
+    (given : Option PastPhase) (held : Option World) (items : List Item) (waiting : List Wait) (out out' : List ℕ)
     : Type 0 where
   pub ended : has_some kept.items ≡ is_some given
   pub prints : out' ≡ out ++ printed_given texts given
@@ -69,15 +60,15 @@ pub record Ended (header : Header) (above : LinesAbove) (kept : Kept) (texts : L
 module _ {E : Type 0} where
   -- a replay ended the phase that is open, if one is, whatever lines it stands after. Whether it fails or not, what was
   -- made before grows by the phase that is given
-  pub record EndsPhase (Makes : Header → World → List Item → Histories → Type 0) (header : Header)
-      (replay replay' : Replay E) (made made' : Option (List MadePhase)) (result : Result (Unit {0}) Memory)
+  pub record EndsPhase (Makes : Header → World → List Item → TableHistories → Type 0) (header : Header)
+      (replay replay' : Replay E) (made made' : Option (List PastPhase)) (result : Result (Unit {0}) Memory)
       (out out' : List ℕ) : Type 0 where
-    pub given : Option MadePhase
+    pub given : Option PastPhase
     pub grows : Grows made made' (at_most_one given)
-    pub may_give : (n : ℕ) (above : LinesAbove) (kept : Kept) (texts : List (Text MadePhase))
+    pub may_give : (n : ℕ) (above : LinesAbove) (kept : Kept) (texts : List (Text PastPhase))
         → StandsBefore replay header n above kept texts
         → MayGive (has_some kept.items) (MayBe Makes header kept.world kept.items) given
-    pub goes : OnOk result ((n : ℕ) (above : LinesAbove) (kept : Kept) (texts : List (Text MadePhase))
+    pub goes : OnOk result ((n : ℕ) (above : LinesAbove) (kept : Kept) (texts : List (Text PastPhase))
         → StandsBefore replay header n above kept texts
         → Ended header above kept texts given replay'.world replay'.items.items replay'.waits.items out out')
 

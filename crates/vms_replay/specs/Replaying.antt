@@ -1,30 +1,19 @@
 -- What `replay` and `run` print of a trace, by the histories of its phases: refusals, answers and reports in the order
 -- of lines.
-use Rattle.std.specs.Prelude.{◌≡◌, ℕ, nat_eq, Bool, true, false, if◌then◌else◌, List, [], ◌∷◌, ◌++◌}
-use Rattle.std.specs.Prelude.{length, Option, Some, None, Result, Ok, Err}
-use Rattle.vms_base.specs.declared.headers.Header.{Header}
-use Rattle.vms_answers.specs.AnswerLines.{answer_line}
-use Rattle.vms_answers.specs.PhaseAnswers.{NumberedAnswer}
-use Rattle.vms_command.specs.Commands.{Command, MayEnd-status_at_end, status_at_end}
-use Rattle.vms_command.specs.Lines.{LinesAbove}
-use Rattle.vms_command.specs.Printing.{done_line, line_prefix, refused_line}
-use Rattle.vms_line.specs.declared.causes.LineCause.{LineCause}
-use Rattle.vms_line.specs.Spelling.{spelled_line}
-use Rattle.vms_stream.specs.Waiting.{Text}
-use Rattle.vms_stream.specs.Waiting.Text.{Plain, Asks}
-use Rattle.vms_report.specs.Reports.{report_of}
-use Rattle.vms_text.specs.declared.acts.Act.{Act}
-use Rattle.vms_text.specs.declared.acts.Act.TheVariants.{Lim, Cmp, Sum, Rough, EvSum, Water, Val, Snap, Sys, Kswapd}
+use Rattle.std.specs.Prelude.{◌≡◌, ℕ, nat_eq, Bool, true, false, if◌then◌else◌, List, [], ◌∷◌, ◌++◌, length, Option}
+use Rattle.std.specs.Prelude.{Some, None, Result, Ok, Err}
+use Rattle.vms_world.specs.Common.{Header, LineCause, spelled_line, Act, Lim, Cmp, Rough, EvSum, Water, Val, Snap, Sys}
+use Rattle.vms_world.specs.Common.{Kswapd, Report, Item, Line, Blank, ReportKind, Totals, TableHistories}
+use Rattle.vms_answers.specs.Common.{answer_line, NumberedAnswer}
+use Rattle.vms_command.specs.Common.{TraceCommand, MayEnd-status_at_end, status_at_end, LinesAbove, done_line}
+use Rattle.vms_command.specs.Common.{line_prefix, refused_line}
+use Rattle.vms_stream.specs.Common.{Text, Plain, Asks}
+use Rattle.vms_report.specs.Common.{report_of}
+use Rattle.vms_text.specs.declared.acts.Act.TheVariants.{Sum}
 use Rattle.vms_text.specs.declared.acts.Boundary.{Boundary as BoundaryOf}
-use Rattle.vms_text.specs.declared.acts.Boundary.TheVariants.{Report}
-use Rattle.vms_text.specs.declared.acts.Item.{Item}
-use Rattle.vms_text.specs.declared.acts.Line.{Line}
-use Rattle.vms_text.specs.declared.acts.Line.TheVariants.{Blank, Lane, Boundary}
-use Rattle.vms_text.specs.declared.acts.ReportKind.{ReportKind}
-use Rattle.vms_text.specs.declared.acts.ReportKind.TheVariants.{Totals}
+use Rattle.vms_text.specs.declared.acts.Line.TheVariants.{Lane, Boundary}
 use Rattle.vms_world.specs.declared.worlds.World.{World}
-use Rattle.vms_world.specs.Phases.{Histories}
-use Rattle.vms_replay.specs.MadePhases.{MadePhase, answers_in, crossed, first_world, with_given, world_after}
+use Rattle.vms_replay.specs.MadePhases.{PastPhase, answers_in, crossed, first_world, with_given, world_after}
 use Rattle.vms_replay.specs.PlainReports.{plain_report}
 
 -- what is kept of the lines of a body: the world that the open phase begins with, the lines that count above that and
@@ -32,7 +21,7 @@ use Rattle.vms_replay.specs.PlainReports.{plain_report}
 pub record Kept : Type 0 where
   pub world : World
   pub above : List Line
-  pub made : List MadePhase
+  pub made : List PastPhase
   pub items : List Item
 
 abbrev pub first_kept : Header → Kept
@@ -49,8 +38,8 @@ has_some [] = false
 has_some (x ∷ xs) = true
 
 -- a phase that was made of the open one, where `Makes` says which histories it may have
-pub record MayBe (Makes : Header → World → List Item → Histories → Type 0) (header : Header) (w : World)
-    (items : List Item) (made : MadePhase) : Type 0 where
+pub record MayBe (Makes : Header → World → List Item → TableHistories → Type 0) (header : Header) (w : World)
+    (items : List Item) (made : PastPhase) : Type 0 where
   pub from : made.world ≡ w
   pub of : made.items ≡ items
   pub makes : Makes header w items made.histories
@@ -76,57 +65,57 @@ answer_text header n (next ∷ rest) =
     if nat_eq next.number n then answer_line header n next.answer else answer_text header n rest
 
 -- the text of line n, whose act answers, among the answers of its phase
-abbrev pub asking_text : Header → ℕ → Text MadePhase
+abbrev pub asking_text : Header → ℕ → Text PastPhase
 asking_text header n = Asks (λ made. answer_text header n (answers_in header made))
 
-abbrev pub act_text : Header → ℕ → Act → Text MadePhase
+abbrev pub act_text : Header → ℕ → Act → Text PastPhase
 act_text header n act = if is_asking act then asking_text header n else Plain []
 
 -- a text that tells of what stands after the phase that ends, where one is open
-abbrev pub text_after : Bool → (Option MadePhase → List ℕ) → Text MadePhase
+abbrev pub text_after : Bool → (Option PastPhase → List ℕ) → Text PastPhase
 text_after phase_open text = if phase_open then Asks (λ made. text (Some made)) else Plain (text None)
 
 -- the report of this kind, after these phases: that of the totals are plain sums of their lines, and every other one
 -- tells of the world that stands there
-abbrev pub report_after : Header → ReportKind → List MadePhase → World → List ℕ
+abbrev pub report_after : Header → ReportKind → List PastPhase → World → List ℕ
 report_after header Totals made w = plain_report header made
 report_after header kind made w = report_of header w kind
 
 -- what boundary line n prints: a report, below its line
-abbrev pub boundary_report : Header → ℕ → BoundaryOf → List MadePhase → World → List ℕ
+abbrev pub boundary_report : Header → ℕ → BoundaryOf → List PastPhase → World → List ℕ
 boundary_report header n (Report kind) made w =
     line_prefix n ++ spelled_line header (Boundary (Report kind)) ++ report_after header kind made w
 boundary_report header n _ made w = []
 
-abbrev pub boundary_text : Header → ℕ → BoundaryOf → Kept → Text MadePhase
+abbrev pub boundary_text : Header → ℕ → BoundaryOf → Kept → Text PastPhase
 boundary_text header n b kept = text_after (has_some kept.items)
     (λ given. boundary_report header n b (with_given given kept.made) (world_after header kept.world given))
 
 -- the text of line n, by what was judged of it
-abbrev pub judged_text : Header → ℕ → Result Line LineCause → Kept → Text MadePhase
+abbrev pub judged_text : Header → ℕ → Result Line LineCause → Kept → Text PastPhase
 judged_text header n (Ok Blank) kept = Plain []
 judged_text header n (Ok (Lane lane act)) kept = act_text header n act
 judged_text header n (Ok (Boundary b)) kept = boundary_text header n b kept
 judged_text header n (Err cause) kept = Plain (refused_line n cause)
 
 -- kept after line n, which counts, with the phase that ends there
-abbrev pub with_line : Header → ℕ → LinesAbove → Line → Option MadePhase → Kept → Kept
-with_line header n above Blank given kept = kept
-with_line header n above (Lane lane act) given kept =
+abbrev pub kept_with_line : Header → ℕ → LinesAbove → Line → Option PastPhase → Kept → Kept
+kept_with_line header n above Blank given kept = kept
+kept_with_line header n above (Lane lane act) given kept =
     record kept { items = kept.items ++ record { number = n; lane = lane; act = act } ∷ [] }
-with_line header n above (Boundary b) given kept = record {
+kept_with_line header n above (Boundary b) given kept = record {
   world = crossed header b (world_after header kept.world given);
   above = Boundary b ∷ above.lines;
   made = with_given given kept.made;
   items = [];
 }
 
-abbrev pub next_kept : Header → ℕ → LinesAbove → Result Line LineCause → Option MadePhase → Kept → Kept
-next_kept header n above (Ok line) given kept = with_line header n above line given kept
+abbrev pub next_kept : Header → ℕ → LinesAbove → Result Line LineCause → Option PastPhase → Kept → Kept
+next_kept header n above (Ok line) given kept = kept_with_line header n above line given kept
 next_kept header n above (Err cause) given kept = kept
 
 -- a replay, line by line, whose phases may have these histories: `Makes` says which, from a world and its lines
-abbrev pub replaying : (Header → World → List Item → Histories → Type 0) → Command Kept MadePhase
+abbrev pub replaying : (Header → World → List Item → TableHistories → Type 0) → TraceCommand Kept PastPhase
 replaying Makes = record {
   begins = first_kept;
   opens = λ header. [];
@@ -140,5 +129,5 @@ replaying Makes = record {
 }
 
 -- it shows nothing at the end but what is printed there
-abbrev pub nothing_shown : Header → LinesAbove → Kept → Option MadePhase → Type 0
-nothing_shown header above kept given = Unit {0}
+abbrev pub shown_by_replay : Header → LinesAbove → Kept → Option PastPhase → Type 0
+shown_by_replay header above kept given = Unit {0}

@@ -1,14 +1,12 @@
 -- The lines of an open phase that wait for its outcome, and how they are printed.
 use Rattle.std.specs.Prelude.{◌≡◌, ℕ, ◌<◌, nat_eq, ◌⊎◌, List, [], ◌∷◌, ◌++◌, flat_map, if◌then◌else◌}
-use Rattle.vms_base.specs.declared.headers.Header.{Header}
-use Rattle.vms_answers.specs.AnswerLines.{answer_line}
-use Rattle.vms_answers.specs.PhaseAnswers.{NumberedAnswer}
-use Rattle.vms_command.specs.Printing.{refused_line}
-use Rattle.vms_stream.specs.Waiting.{Text, spelled}
-use Rattle.vms_text.specs.declared.acts.Item.{Item}
+use Rattle.vms_world.specs.Common.{Header, Item}
+use Rattle.vms_answers.specs.Common.{answer_line, NumberedAnswer}
+use Rattle.vms_command.specs.Common.{refused_line}
+use Rattle.vms_stream.specs.Common.{Text, spelled}
 use Rattle.vms_replay.specs.declared.waits.Wait.{Wait}
 use Rattle.vms_replay.specs.declared.waits.Wait.TheVariants as waits
-use Rattle.vms_replay.specs.MadePhases.{MadePhase, answers_in}
+use Rattle.vms_replay.specs.MadePhases.{PastPhase, answers_in}
 use Rattle.vms_replay.specs.Replaying.{answer_text, has_some, is_asking}
 
 -- what a line that waits prints, by the answers of its phase
@@ -29,21 +27,21 @@ asking_numbers (item ∷ items) =
     if is_asking item.act then item.number ∷ asking_numbers items else asking_numbers items
 
 -- these answers are of lines of these numbers, in this order, of which some may have none
-abbrev pub AreOf : List NumberedAnswer → List ℕ → Type 0
-AreOf [] numbers = Unit {0}
-AreOf (answer ∷ answers) [] = ⊥
-AreOf (answer ∷ answers) (n ∷ numbers) =
-    ((answer.number ≡ n) × AreOf answers numbers) ⊎ AreOf (answer ∷ answers) numbers
+abbrev pub AreAnswersOf : List NumberedAnswer → List ℕ → Type 0
+AreAnswersOf [] numbers = Unit {0}
+AreAnswersOf (answer ∷ answers) [] = ⊥
+AreAnswersOf (answer ∷ answers) (n ∷ numbers) =
+    ((answer.number ≡ n) × AreAnswersOf answers numbers) ⊎ AreAnswersOf (answer ∷ answers) numbers
 
 -- what the lines print that wait, where each that answers takes the next answer, if that is its own
-abbrev pub taken : Header → ℕ → List NumberedAnswer → (List NumberedAnswer → List ℕ) → List ℕ
-taken header n [] later = later []
-taken header n (next ∷ rest) later =
+abbrev pub written_if_own : Header → ℕ → List NumberedAnswer → (List NumberedAnswer → List ℕ) → List ℕ
+written_if_own header n [] later = later []
+written_if_own header n (next ∷ rest) later =
     if nat_eq next.number n then answer_line header n next.answer ++ later rest else later (next ∷ rest)
 
 abbrev pub written : Header → List Wait → List NumberedAnswer → List ℕ
 written header [] answers = []
-written header (waits.Answer n ∷ waiting) answers = taken header n answers (written header waiting)
+written header (waits.Answer n ∷ waiting) answers = written_if_own header n answers (written header waiting)
 written header (waits.Refused cause n ∷ waiting) answers = refused_line n cause ++ written header waiting answers
 
 -- a number below all of these
@@ -57,7 +55,7 @@ Ascend [] = Unit {0}
 Ascend (n ∷ ns) = IsBelow n ns × Ascend ns
 
 -- lines that wait are those whose texts wait, but for the lines that print nothing
-pub record TellsWaits (header : Header) (waiting : List Wait) (texts : List (Text MadePhase)) : Type 0 where
-  pub same_text : (made : MadePhase) →
+pub record TellsWaits (header : Header) (waiting : List Wait) (texts : List (Text PastPhase)) : Type 0 where
+  pub same_text : (made : PastPhase) →
       flat_map (spelled made) texts ≡ flat_map (wait_text header (answers_in header made)) waiting
   pub some : has_some texts ≡ has_some waiting

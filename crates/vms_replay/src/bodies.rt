@@ -12,7 +12,7 @@ use vms_line::{Act, Boundary, Item, Lane, Line, LineCause};
 use vms_script::{JudgedLine, PhaseScript};
 use vms_stream::Status;
 use vms_text::KeptLane;
-use vms_totals::phases_add_their_lines;
+use vms_total_laws::phases_add_their_lines;
 use vms_world::World;
 
 const _: () = prove!(size_of::<Item>() == 32);
@@ -31,19 +31,12 @@ pub struct Replay<E> {
 }
 
 impl<E: Engine> Replay<E> {
-    ghost use Rattle.std.specs.Prelude.{◌≡◌, ◌≢◌, ◌≤◌, ℕ, suc, List, [], Option, Some, Ok, Err, IfOk};
-    ghost use Rattle.std.specs.Prelude.{OnOk};
-    ghost use Rattle.vms_base.specs.declared.headers.Header.{Header};
-    ghost use Rattle.vms_base.specs.Headers.{IsHeader};
-    ghost use Rattle.vms_command.specs.Bodies.{SomeLine, TakesLine};
-    ghost use Rattle.vms_command.specs.Limits.{most_lines};
-    ghost use Rattle.vms_command.specs.Lines.{LinesAbove, nothing_above};
-    ghost use Rattle.vms_stream.specs.Waiting.{Text};
-    ghost use Rattle.vms_text.specs.KeptLanes.{IsKeepable};
+    ghost use Rattle.std.specs.Prelude.{◌≡◌, ◌≢◌, ◌≤◌, ℕ, suc, List, [], Option, Some, Ok, Err, IfOk, OnOk};
+    ghost use Rattle.vms_world.specs.Common.{Header, IsHeader, IsKeepableLane, MayCross, IsWorldOf};
+    ghost use Rattle.vms_command.specs.Common.{SomeLine, BodyTakes, most_lines, LinesAbove, nothing_above};
+    ghost use Rattle.vms_stream.specs.Common.{Text};
     ghost use Rattle.vms_world.specs.declared.worlds.World.{World};
-    ghost use Rattle.vms_world.specs.Boundaries.{MayCross};
-    ghost use Rattle.vms_world.specs.Worlds.{IsWorldOf};
-    ghost use Rattle.vms_replay.specs.MadePhases.{MadePhase};
+    ghost use Rattle.vms_replay.specs.MadePhases.{PastPhase};
     ghost use Rattle.vms_replay.specs.Replaying.{Kept, first_kept, replaying};
     ghost use Rattle.vms_replay.specs.ReplayStates.{CrossesTo, EndsPhase, StandsBefore};
 
@@ -75,7 +68,8 @@ impl<E: Engine> Replay<E> {
         requires header { IsHeader header.now }
         requires line { SomeLine (StandsBefore self.old) header.now number (Ok line.now) }
         requires most { number ≤ most_lines }
-        ensures { TakesLine (replaying E.Makes) (StandsBefore self.old) (StandsBefore self.new) (E.made engine.old)
+        ensures { BodyTakes (replaying E.Makes) (StandsBefore self.old) (StandsBefore self.new)
+            (E.made engine.old)
             (E.made engine.new) header.now number (Ok line.now) result out.old.items out.new.items }
     {
         match *line {
@@ -88,9 +82,11 @@ impl<E: Engine> Replay<E> {
     /// Keeps a line of a lane for the phase.
     #[inline(always)]
     fn keep(&mut self, number: u32, lane: Lane, act: Act) -> Result<(), Memory>
-        requires { IsKeepable lane }
-        ensures { (header : Header) (made : Option (List MadePhase)) (out : List ℕ) → IsHeader header →
-            TakesLine (replaying E.Makes) (StandsBefore self.old) (StandsBefore self.new) made made header number
+        requires { IsKeepableLane lane }
+        ensures { (header : Header) (made : Option (List PastPhase)) (out : List ℕ) →
+            IsHeader header →
+            BodyTakes (replaying E.Makes) (StandsBefore self.old) (StandsBefore self.new) made
+            made header number
             (Ok (Line.Lane lane act)) result out out }
     {
         ask(&mut self.waits, number, act)?;
@@ -104,8 +100,9 @@ impl<E: Engine> Replay<E> {
 
     /// Prints that a line doesn't count, at once or after those that wait.
     fn refuse(&mut self, number: u32, cause: LineCause, out: &mut Vec<u8>) -> Result<(), Memory>
-        ensures { (header : Header) (made : Option (List MadePhase)) →
-            TakesLine (replaying E.Makes) (StandsBefore self.old) (StandsBefore self.new) made made header number
+        ensures { (header : Header) (made : Option (List PastPhase)) →
+            BodyTakes (replaying E.Makes) (StandsBefore self.old) (StandsBefore self.new) made
+            made header number
             (Err cause) result out.old.items out.new.items }
     {
         if self.waits.is_empty() {
@@ -128,7 +125,8 @@ impl<E: Engine> Replay<E> {
         requires header { IsHeader header.now }
         requires line { SomeLine (StandsBefore self.old) header.now number (Ok (Line.Boundary boundary)) }
         requires most { number ≤ most_lines }
-        ensures { TakesLine (replaying E.Makes) (StandsBefore self.old) (StandsBefore self.new) (E.made engine.old)
+        ensures { BodyTakes (replaying E.Makes) (StandsBefore self.old) (StandsBefore self.new)
+            (E.made engine.old)
             (E.made engine.new) header.now number (Ok (Line.Boundary boundary)) result out.old.items out.new.items }
     {
         self.end_phase(engine, header, out)?;
@@ -144,7 +142,8 @@ impl<E: Engine> Replay<E> {
     ) -> Result<(), Memory>
         requires header { IsHeader header.now }
         requires holds { (n : ℕ) × (n ≤ suc most_lines) × (above : LinesAbove) × (kept : Kept)
-            × (texts : List (Text MadePhase)) × StandsBefore self.old header.now n above kept texts }
+            × (texts : List (Text PastPhase))
+            × StandsBefore self.old header.now n above kept texts }
         ensures { EndsPhase E.Makes header.now self.old self.new (E.made engine.old) (E.made engine.new) result
             out.old.items out.new.items }
     {
@@ -164,7 +163,8 @@ impl<E: Engine> Replay<E> {
         requires header { IsHeader header.now }
         requires some { self.old.items.items ≢ [] }
         requires holds { (n : ℕ) × (n ≤ suc most_lines) × (above : LinesAbove) × (kept : Kept)
-            × (texts : List (Text MadePhase)) × StandsBefore self.old header.now n above kept texts }
+            × (texts : List (Text PastPhase))
+            × StandsBefore self.old header.now n above kept texts }
         ensures { EndsPhase E.Makes header.now self.old self.new (E.made engine.old) (E.made engine.new) result
             out.old.items out.new.items }
     {
@@ -230,15 +230,15 @@ fn emptied(alloc: Global, items: Vec<Item>) -> Vec<Item>
 }
 
 impl<E: Engine> Body for Replay<E> {
-    ghost use Rattle.vms_replay.specs.MadePhases.{MadePhase};
-    ghost use Rattle.vms_replay.specs.Replaying.{Kept, nothing_shown, replaying};
+    ghost use Rattle.vms_replay.specs.MadePhases.{PastPhase};
+    ghost use Rattle.vms_replay.specs.Replaying.{Kept, shown_by_replay, replaying};
     ghost use Rattle.vms_replay.specs.ReplayStates.{StandsBefore};
 
     type Engine = E;
 
     ghost Kept = { Kept };
 
-    ghost Outcome = { MadePhase };
+    ghost Outcome = { PastPhase };
 
     ghost command = { replaying E.Makes };
 
@@ -246,7 +246,7 @@ impl<E: Engine> Body for Replay<E> {
 
     ghost Stands = { StandsBefore };
 
-    ghost Shows = { nothing_shown };
+    ghost Shows = { shown_by_replay };
 
     fn begin(alloc: Global, header: &Header, _out: &mut Vec<u8>) -> Result<Replay<E>, Memory> {
         Replay::make(alloc, header)

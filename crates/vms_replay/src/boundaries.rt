@@ -1,8 +1,5 @@
 ghost use Rattle.std.specs.Prelude.{◌≡◌, ◌++◌, OnOk};
-ghost use Rattle.vms_base.specs.Headers.{IsHeader};
-ghost use Rattle.vms_text.specs.declared.acts.Boundary.TheVariants.{Report};
-ghost use Rattle.vms_world.specs.Boundaries.{MayCross};
-ghost use Rattle.vms_world.specs.Worlds.{IsWorldOf};
+ghost use Rattle.vms_world.specs.Common.{IsHeader, Report, MayCross, IsWorldOf};
 ghost use Rattle.vms_replay.specs.MadePhases.{crossed as crossed_world};
 ghost use Rattle.vms_replay.specs.ReplayStates.{world_report};
 

@@ -1,16 +1,10 @@
 ghost use Rattle.std.specs.Prelude.{◌≡◌, List, [], Option, None, MatchResult};
-ghost use Rattle.vms_base.specs.declared.headers.Header.{Header};
-ghost use Rattle.vms_base.specs.Headers.{IsHeader};
-ghost use Rattle.vms_file_order.specs.MadePhases.{MakePhase};
-ghost use Rattle.vms_file_order.specs.WorldStarts.{IsStartOf};
-ghost use Rattle.vms_script.specs.FittingScripts.{Fits};
-ghost use Rattle.vms_script.specs.Starts.{Start};
-ghost use Rattle.vms_text.specs.declared.acts.Item.{Item};
+ghost use Rattle.vms_world.specs.Common.{Header, IsHeader, Fits, Start, Item, TableHistories};
+ghost use Rattle.vms_file_order.specs.Common.{MakeInAnyOrder, IsStartOf};
 ghost use Rattle.vms_world.specs.declared.worlds.World.{World};
-ghost use Rattle.vms_world.specs.Phases.{Histories};
-ghost use Rattle.vms_replay.specs.Engines.{MakesPhase};
+ghost use Rattle.vms_replay.specs.Engines.{EngineMakesPhase};
 ghost use Rattle.vms_replay.specs.KernelRules.{normal_rule, pressure_rule};
-ghost use Rattle.vms_replay.specs.MadePhases.{MadePhase};
+ghost use Rattle.vms_replay.specs.MadePhases.{PastPhase};
 ghost use Rattle.vms_replay.specs.Printing.{Prints};
 
 use crate::WaitPrinter;
@@ -23,15 +17,16 @@ use vms_world::World;
 /// What makes the phases of a trace.
 pub trait Engine {
     // Which histories a phase of these lines from a world may have.
-    ghost Makes: { Header → World → List Item → Histories → Type 0 };
+    ghost Makes: { Header → World → List Item → TableHistories → Type 0 };
 
     // The phases that were made so far, or none where the engine keeps none.
-    ghost made: { Self → Option (List MadePhase) };
+    ghost made: { Self → Option (List PastPhase) };
 
     /// Histories that a phase may have make its lines, by the kernel's rules of thresholds.
     fn makes_lines()
-        ensures { (header : Header) (w : World) (items : List Item) (hs : Histories) → Makes header w items hs →
-            MakePhase header pressure_rule normal_rule w items hs };
+        ensures { (header : Header) (w : World) (items : List Item) (hs : TableHistories) →
+            Makes header w items hs →
+            MakeInAnyOrder header pressure_rule normal_rule w items hs };
 
     /// Makes the lines of a phase from a world, and hands what they answer, in their order, to what prints it. Returns
     /// the world that the phase leaves.
@@ -46,7 +41,7 @@ pub trait Engine {
         requires header { IsHeader header.now }
         requires start { (start : Start) × IsStartOf header.now start world × Fits header.now start script.now }
         ensures { MatchResult result
-            (MakesPhase Makes header.now world script.now (made self.old) (made self.new)
+            (EngineMakesPhase Makes header.now world script.now (made self.old) (made self.new)
             (λ told. Prints header.now printer.old told printer.new))
             (λ _. made self.new ≡ made self.old) };
 }

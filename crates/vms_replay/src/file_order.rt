@@ -1,11 +1,8 @@
 ghost use Rattle.std.specs.Prelude.{IfOk};
-ghost use Rattle.vms_base.specs.Headers.{IsHeader};
-ghost use Rattle.vms_base.specs.Thresholds.{normal_threshold_of, pressure_threshold_of};
-ghost use Rattle.vms_calc.specs.Rules.{IsThresholdRule};
-ghost use Rattle.vms_file_order.specs.WorldStarts.{IsStartOf};
-ghost use Rattle.vms_replay_phase.specs.ReplayedPhases.{IsReplayed};
-ghost use Rattle.vms_script.specs.FittingScripts.{Fits};
-ghost use Rattle.vms_script.specs.Starts.{Start};
+ghost use Rattle.vms_world.specs.Common.{IsHeader, normal_threshold_of, pressure_threshold_of, IsThresholdRule, Fits};
+ghost use Rattle.vms_world.specs.Common.{Start};
+ghost use Rattle.vms_file_order.specs.Common.{IsStartOf};
+ghost use Rattle.vms_replay_phase.specs.Common.{IsReplayed};
 ghost use Rattle.vms_replay.specs.KernelRules.{GoesBy, normal_rule, pressure_rule};
 ghost use Rattle.vms_replay.specs.Printing.{Prints};
 

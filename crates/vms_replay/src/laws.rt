@@ -1,5 +1,5 @@
-ghost use Rattle.vms_command.specs.Commands.{following};
-ghost use Rattle.vms_stream.specs.Laws.{WritesInOrder};
+ghost use Rattle.vms_command.specs.Common.{following};
+ghost use Rattle.vms_stream.specs.Common.{WritesInOrder};
 ghost use Rattle.vms_replay.specs.ReplayedTexts.{TextsLeadOn};
 ghost use Rattle.vms_replay.specs.Replaying.{replaying};
 

@@ -17,7 +17,7 @@ pub struct WaitPrinter {
 
 impl WaitPrinter {
     ghost use Rattle.std.specs.Prelude.{◌≡◌, [], IfOk};
-    ghost use Rattle.vms_base.specs.declared.headers.Header.{Header};
+    ghost use Rattle.vms_world.specs.Common.{Header};
     ghost use Rattle.vms_replay.specs.Printing.{printed_by};
 
     /// Prints the lines that wait still, of which none has an answer any more. Hands back what is printed, and a list
@@ -53,9 +53,8 @@ impl AnswerTaker for WaitPrinter {
 }
 
 ghost use Rattle.std.specs.Prelude.{◌≡◌, ◌++◌, ◌∷◌, [], List, drop, if◌then◌else◌, IfOk, OnOk};
-ghost use Rattle.vms_answers.specs.PhaseAnswers.{NumberedAnswer};
-ghost use Rattle.vms_answers.specs.ToldAnswers.{answer_told};
-ghost use Rattle.vms_base.specs.declared.headers.Header.{Header};
+ghost use Rattle.vms_answers.specs.Common.{NumberedAnswer};
+ghost use Rattle.vms_world.specs.Common.{Header};
 ghost use Rattle.vms_replay.specs.Waits.{written};
 
 /// Appends the line of one that waited, where the next answer is of the line of this number. Says whether it was that
@@ -70,9 +69,9 @@ fn write_wait(
 ) -> Result<bool, Memory>
     ensures { IfOk result (λ found. (waiting : List Wait) (later : List NumberedAnswer) → out.new.items
         ++ written header.now waiting (if found then later
-        else record { number = number; answer = answer_told answer.now } ∷ later)
+        else record { number = number; answer = answer.now } ∷ later)
         ≡ out.old.items ++ written header.now (wait ∷ waiting)
-        (record { number = number; answer = answer_told answer.now } ∷ later)) }
+        (record { number = number; answer = answer.now } ∷ later)) }
 {
     match wait {
         Wait::Answer(line) => {

@@ -1,13 +1,7 @@
 ghost use Rattle.std.specs.Prelude.{◌≡◌, IfOk};
-ghost use Rattle.vms_base.specs.declared.kinds.CpuState.TheVariants.{Absent};
-ghost use Rattle.vms_base.specs.Headers.{IsHeader};
-ghost use Rattle.vms_base.specs.Places.{IsCpu};
-ghost use Rattle.vms_base.specs.Thresholds.{normal_threshold_of};
-ghost use Rattle.vms_calc.specs.Rules.{IsThresholdRule};
-ghost use Rattle.vms_core.specs.Cells.{cpu_at};
+ghost use Rattle.vms_world.specs.Common.{Absent, IsHeader, IsCpu, normal_threshold_of, IsThresholdRule, cpu_at};
+ghost use Rattle.vms_world.specs.Common.{started, IsWorldOf};
 ghost use Rattle.vms_text.specs.declared.acts.Boundary.TheVariants.{Online};
-ghost use Rattle.vms_world.specs.FirstWorlds.{started};
-ghost use Rattle.vms_world.specs.Worlds.{IsWorldOf};
 ghost use Rattle.vms_replay.specs.KernelRules.{GoesBy, normal_zones};
 ghost use Rattle.vms_replay.specs.MadePhases.{crossed};
 

@@ -1,4 +1,4 @@
-ghost use Rattle.vms_stream.specs.Answers.{Answers};
+ghost use Rattle.vms_stream.specs.Common.{TakesAndWrites};
 ghost use Rattle.vms_replay.specs.FileOrders.{SaysReplay};
 ghost use Rattle.vms_replay.specs.ReplayAnswers.{AnswersReplayed};
 
@@ -26,7 +26,8 @@ pub fn replay_trace<E: Engine, S: Source, K: Sink>(
 /// The command `replay`: makes each phase of a trace in file order, and writes refusals, answers and reports in the
 /// order of its lines.
 pub fn tool_replay<S: Source, K: Sink>(alloc: Global, src: &mut S, out: &mut K) -> Status
-    ensures { Answers S.remaining S.faults K.written K.faults src.old src.new out.old out.new result SaysReplay }
+    ensures { TakesAndWrites S.remaining S.faults K.written K.faults src.old src.new out.old out.new
+        result SaysReplay }
 {
     replay_trace(alloc, FileOrder, src, out).0
 }

@@ -3,3 +3,4 @@ pub mod CountedVolumes
 pub mod Lines
 pub mod OpenReplays
 pub mod ReplayedPhases
+pub mod Common

@@ -9,7 +9,5 @@ mod takers;
 mod volumes;
 
 pub use laws::volumes_count_phases;
-pub use open_replays::adds;
 pub use phases::replay_phase;
 pub use takers::AnswerTaker;
-pub use volumes::spend;

@@ -1,14 +1,14 @@
-ghost use Rattle.std.specs.Prelude.{option_map};
-ghost use Rattle.vms_answers.specs.ToldAnswers.{answer_told};
-ghost use Rattle.vms_base.specs.Headers.{IsHeader};
-ghost use Rattle.vms_replay_phase.specs.Lines.{IsOfEveryLane, IsOnCounterOrOfEveryLane, MakesLine, MayMake};
-ghost use Rattle.vms_text.specs.declared.acts.Lane.TheVariants.{Control, Cpu};
+ghost use Rattle.std.specs.Prelude.{◌≡◌, Some, None};
+ghost use Rattle.vms_world.specs.Common.{IsHeader, Control, Cpu, event_call};
+ghost use Rattle.vms_replay_phase.specs.Lines.{IsOfEveryLane, MakesLine, MayMakeLine};
 
-use vms_answers::Answer;
+use vms_answers::{Answer, event_told, pcpu_told};
 use vms_base::{CpuId, Header, Mode};
 use vms_calc::{Rule, Rules};
+use vms_event_core::EventCall;
 use vms_plain_lines::PlainTables;
 use vms_text::{Act, Lane};
+use vms_world::{event_call, pcpu_call};
 
 /// Makes the act of a line. Returns what the line answers, if it asks something.
 pub(crate) fn make_line<N: Rule, P: Rule>(
@@ -19,17 +19,44 @@ pub(crate) fn make_line<N: Rule, P: Rule>(
     act: Act,
 ) -> Option<Answer>
     requires header { IsHeader header.now }
-    requires may { MayMake header.now lane act tables.old }
+    requires may { MayMakeLine header.now lane act tables.old }
     ensures { MakesLine header.now (P.answers rules.now.pressure) (N.answers rules.now.normal) lane act tables.old
-        tables.new (option_map answer_told result) }
+        tables.new result }
 {
-    match lane {
-        Lane::Cpu(cpu) => make_of_cpu(tables, rules, header, cpu, act),
-        Lane::Control => make_of_control(tables, rules, header, act),
+    match event_call(lane, act) {
+        Some(call) => make_event_call(tables, rules, header, lane, act, call),
+        None => match lane {
+            Lane::Cpu(cpu) => make_of_cpu(tables, rules, header, cpu, act),
+            Lane::Control => make_of_control(tables, rules, header, act),
+        },
     }
 }
 
-/// Makes an act of a CPU's lane.
+/// Makes an act that makes this call on the event counters: one on them alone, or a burial.
+fn make_event_call<N: Rule, P: Rule>(
+    tables: &mut PlainTables,
+    rules: &Rules<N, P>,
+    header: &Header,
+    lane: Lane,
+    act: Act,
+    call: EventCall,
+) -> Option<Answer>
+    requires header { IsHeader header.now }
+    requires may { MayMakeLine header.now lane act tables.old }
+    requires makes { event_call lane act ≡ Some call }
+    ensures { MakesLine header.now (P.answers rules.now.pressure) (N.answers rules.now.normal) lane act tables.old
+        tables.new result }
+{
+    match call {
+        EventCall::FoldDead(cpu) => {
+            tables.bury(rules, header, cpu);
+            None
+        }
+        _ => event_told(tables.call_events(rules, lane, call)),
+    }
+}
+
+/// Makes an act of a CPU's lane that makes no call on the event counters.
 fn make_of_cpu<N: Rule, P: Rule>(
     tables: &mut PlainTables,
     rules: &Rules<N, P>,
@@ -38,9 +65,10 @@ fn make_of_cpu<N: Rule, P: Rule>(
     act: Act,
 ) -> Option<Answer>
     requires header { IsHeader header.now }
-    requires may { MayMake header.now (Cpu cpu) act tables.old }
+    requires no_events { event_call (Cpu cpu) act ≡ None }
+    requires may { MayMakeLine header.now (Cpu cpu) act tables.old }
     ensures { MakesLine header.now (P.answers rules.now.pressure) (N.answers rules.now.normal) (Cpu cpu) act tables.old
-        tables.new (option_map answer_told result) }
+        tables.new result }
 {
     match act {
         Act::Mod(counter, pages) => {
@@ -55,49 +83,14 @@ fn make_of_cpu<N: Rule, P: Rule>(
             tables.change(rules, header, cpu, counter, -1, Mode::Dec);
             None
         }
-        Act::Ev(event, n) => {
-            tables.count(rules, cpu, event, n);
-            None
-        }
-        _ => make_on_counter(tables, rules, header, cpu, act),
+        _ => match pcpu_call(Lane::Cpu(cpu), act) {
+            Some(call) => pcpu_told(tables.make_pcpu_call(rules, cpu, call)),
+            None => make_of_every_lane(tables, rules, header, Lane::Cpu(cpu), act),
+        },
     }
 }
 
-/// Makes an act of a CPU's lane on a percpu counter, or one that every lane may make.
-fn make_on_counter<N: Rule, P: Rule>(
-    tables: &mut PlainTables,
-    rules: &Rules<N, P>,
-    header: &Header,
-    cpu: CpuId,
-    act: Act,
-) -> Option<Answer>
-    requires header { IsHeader header.now }
-    requires may { MayMake header.now (Cpu cpu) act tables.old }
-    requires act { IsOnCounterOrOfEveryLane act }
-    ensures { MakesLine header.now (P.answers rules.now.pressure) (N.answers rules.now.normal) (Cpu cpu) act tables.old
-        tables.new (option_map answer_told result) }
-{
-    match act {
-        Act::Cnt(counter, amount) => {
-            tables.add_amount(rules, cpu, counter, amount);
-            None
-        }
-        Act::Lim(counter, limit, amount) => {
-            let made = tables.limited_add(rules, cpu, counter, limit, amount);
-            Some(Answer::Limited(made))
-        }
-        Act::Cmp(counter, rhs) => Some(Answer::Compared(tables.compare(rules, counter, rhs))),
-        Act::Sum(counter) => Some(Answer::Total(tables.sum(rules, counter))),
-        Act::Rough(counter) => Some(Answer::Count(tables.read(rules, counter))),
-        Act::Csync(counter) => {
-            tables.sync(rules, cpu, counter);
-            None
-        }
-        _ => make_of_every_lane(tables, rules, header, Lane::Cpu(cpu), act),
-    }
-}
-
-/// Makes an act that every lane may make.
+/// Makes an act on the page counters that every lane may make.
 fn make_of_every_lane<N: Rule, P: Rule>(
     tables: &mut PlainTables,
     rules: &Rules<N, P>,
@@ -106,10 +99,10 @@ fn make_of_every_lane<N: Rule, P: Rule>(
     act: Act,
 ) -> Option<Answer>
     requires header { IsHeader header.now }
-    requires may { MayMake header.now lane act tables.old }
+    requires may { MayMakeLine header.now lane act tables.old }
     requires act { IsOfEveryLane act }
     ensures { MakesLine header.now (P.answers rules.now.pressure) (N.answers rules.now.normal) lane act tables.old
-        tables.new (option_map answer_told result) }
+        tables.new result }
 {
     match act {
         Act::Fold(cpu) => {
@@ -123,12 +116,11 @@ fn make_of_every_lane<N: Rule, P: Rule>(
         Act::Val(counter) => Some(Answer::Value(tables.place_value(rules, counter))),
         Act::Snap(counter) => Some(Answer::Snapshot(tables.snapshot(rules, header, counter))),
         Act::Sys(item) => Some(Answer::System(tables.system_value(rules, item))),
-        Act::EvSum(event) => Some(Answer::Events(tables.all_events(rules, event))),
         _ => None,
     }
 }
 
-/// Makes an act of the control lane.
+/// Makes an act of the control lane that makes no call on the event counters.
 fn make_of_control<N: Rule, P: Rule>(
     tables: &mut PlainTables,
     rules: &Rules<N, P>,
@@ -136,9 +128,10 @@ fn make_of_control<N: Rule, P: Rule>(
     act: Act,
 ) -> Option<Answer>
     requires header { IsHeader header.now }
-    requires may { MayMake header.now Control act tables.old }
+    requires no_events { event_call Control act ≡ None }
+    requires may { MayMakeLine header.now Control act tables.old }
     ensures { MakesLine header.now (P.answers rules.now.pressure) (N.answers rules.now.normal) Control act tables.old
-        tables.new (option_map answer_told result) }
+        tables.new result }
 {
     match act {
         Act::Pressure(node) => {
@@ -147,10 +140,6 @@ fn make_of_control<N: Rule, P: Rule>(
         }
         Act::Normal(node) => {
             tables.set_normal(rules, header, node);
-            None
-        }
-        Act::Dead(cpu) => {
-            tables.bury(rules, header, cpu);
             None
         }
         Act::Kswapd(node, order, most) => {

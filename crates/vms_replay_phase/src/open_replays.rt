@@ -1,7 +1,3 @@
-ghost use Rattle.std.specs.Prelude.{◌≡◌, option_map};
-ghost use Rattle.vms_answers.specs.ToldAnswers.{answer_told};
-ghost use Rattle.vms_plain_lines.specs.SpentAmounts.{adds as adds_by};
-
 use crate::lines::make_line;
 use crate::volumes::spend;
 use std::alloc::Global;
@@ -9,8 +5,8 @@ use std::marker::Model;
 use vms_answers::Answer;
 use vms_base::{Header, Memory, Row};
 use vms_calc::{Rule, Rules};
+use vms_plain_control::Peaks;
 use vms_plain_lines::PlainTables;
-use vms_plain_ratings::Peaks;
 use vms_text::Item;
 use vms_world::{Volumes, World};
 
@@ -30,14 +26,11 @@ impl Model for OpenReplay {
 }
 
 impl OpenReplay {
-    ghost use Rattle.std.specs.Prelude.{◌≡◌, IfOk, option_map};
-    ghost use Rattle.vms_answers.specs.ToldAnswers.{answer_told};
-    ghost use Rattle.vms_base.specs.Headers.{IsHeader};
-    ghost use Rattle.vms_core.specs.Bases.{settled};
-    ghost use Rattle.vms_replay_phase.specs.Lines.{MayMake};
-    ghost use Rattle.vms_replay_phase.specs.OpenReplays.{BeginsReplay, TakesLine};
+    ghost use Rattle.std.specs.Prelude.{◌≡◌, IfOk};
+    ghost use Rattle.vms_world.specs.Common.{IsHeader, settled, IsWorldOf};
+    ghost use Rattle.vms_replay_phase.specs.Lines.{MayMakeLine};
+    ghost use Rattle.vms_replay_phase.specs.OpenReplays.{BeginsReplay, ReplaysLine};
     ghost use Rattle.vms_replay_phase.specs.Spending.{AreVolumesOf};
-    ghost use Rattle.vms_world.specs.Worlds.{IsWorldOf};
 
     /// The replay of a phase from this world, before its first line.
     pub(crate) fn open(alloc: Global, world: World, header: &Header) -> Result<OpenReplay, Memory>
@@ -67,15 +60,15 @@ impl OpenReplay {
         item: &Item,
     ) -> Option<Answer>
         requires header { IsHeader header.now }
-        requires may { MayMake header.now item.now.lane item.now.act self.old.tables }
+        requires may { MayMakeLine header.now item.now.lane item.now.act self.old.tables }
         requires volumes { AreVolumesOf header.now self.old.volumes }
-        ensures { TakesLine header.now (P.answers rules.now.pressure) (N.answers rules.now.normal) item.now
-            (option_map answer_told result) self.old self.new }
+        ensures { ReplaysLine header.now (P.answers rules.now.pressure)
+            (N.answers rules.now.normal) item.now
+            result self.old self.new }
     {
         let lane = item.lane.lane();
         let answer = make_line(&mut self.tables, rules, header, lane, item.act);
-        let added = adds(&answer);
-        spend(&mut self.volumes, header, lane, item.act, added);
+        spend(&mut self.volumes, header, lane, item.act);
         answer
     }
 
@@ -94,16 +87,5 @@ impl OpenReplay {
             counters,
             volumes,
         }
-    }
-}
-
-/// Whether an act was made that answered this, or nothing: a limited addition that answered no was not.
-#[inline]
-pub fn adds(answer: &Option<Answer>) -> bool
-    ensures { result ≡ adds_by (option_map answer_told answer.now) }
-{
-    match answer {
-        Some(Answer::Limited(made)) => *made,
-        _ => true,
     }
 }

@@ -1,12 +1,10 @@
 ghost use Rattle.std.specs.Prelude.{[], IfOk, OnOk};
-ghost use Rattle.vms_base.specs.Headers.{IsHeader};
-ghost use Rattle.vms_file_order.specs.WorldStarts.{IsStartOf};
-ghost use Rattle.vms_replay_phase.specs.Lines.{MayMake};
+ghost use Rattle.vms_world.specs.Common.{IsHeader, Fits, Start};
+ghost use Rattle.vms_file_order.specs.Common.{IsStartOf};
+ghost use Rattle.vms_replay_phase.specs.Lines.{MayMakeLine};
 ghost use Rattle.vms_replay_phase.specs.OpenReplays.{AnswersLine};
 ghost use Rattle.vms_replay_phase.specs.ReplayedPhases.{IsReplayed};
 ghost use Rattle.vms_replay_phase.specs.Spending.{AreVolumesOf};
-ghost use Rattle.vms_script.specs.FittingScripts.{Fits};
-ghost use Rattle.vms_script.specs.Starts.{Start};
 
 use crate::AnswerTaker;
 use crate::laws::open_phases_spend_their_lines;
@@ -55,7 +53,7 @@ fn make_next<N: Rule, P: Rule, A: AnswerTaker>(
     taker: &mut A,
 ) -> Result<(), Memory>
     requires header { IsHeader header.now }
-    requires may { MayMake header.now item.now.lane item.now.act replay.old.tables }
+    requires may { MayMakeLine header.now item.now.lane item.now.act replay.old.tables }
     requires volumes { AreVolumesOf header.now replay.old.volumes }
     ensures { OnOk result (AnswersLine header.now (P.answers rules.now.pressure) (N.answers rules.now.normal) item.now
         replay.old replay.new (A.Takes header.now) taker.old taker.new) }

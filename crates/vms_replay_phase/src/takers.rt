@@ -1,7 +1,6 @@
 ghost use Rattle.std.specs.Prelude.{◌++◌, ◌∷◌, [], List, OnOk};
-ghost use Rattle.vms_answers.specs.PhaseAnswers.{NumberedAnswer};
-ghost use Rattle.vms_answers.specs.ToldAnswers.{answer_told};
-ghost use Rattle.vms_base.specs.declared.headers.Header.{Header};
+ghost use Rattle.vms_answers.specs.Common.{NumberedAnswer};
+ghost use Rattle.vms_world.specs.Common.{Header};
 
 use vms_answers::Answer;
 use vms_base::{Header, Memory};
@@ -15,6 +14,6 @@ pub trait AnswerTaker {
     fn take(&mut self, header: &Header, number: u32, answer: &Answer) -> Result<(), Memory>
         ensures { OnOk result ((first : Self) (before : List NumberedAnswer) →
             Takes header.now first before self.old →
-            Takes header.now first (before ++ record { number = number; answer = answer_told answer.now } ∷ [])
+            Takes header.now first (before ++ record { number = number; answer = answer.now } ∷ [])
             self.new) };
 }

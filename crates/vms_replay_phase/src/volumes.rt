@@ -1,11 +1,8 @@
-ghost use Rattle.std.specs.Prelude.{◌≡◌, ◌+◌, ◌<◌, ◌≤◌, ◌^◌, if◌then◌else◌, length};
-ghost use Rattle.vms_base.specs.Places.{IsCounter, IsCpu, cell, counter_count};
-ghost use Rattle.vms_event_core.specs.Words.{IsEvent, event_count};
-ghost use Rattle.vms_line.specs.Laws.{IsLineOf};
-ghost use Rattle.vms_replay_phase.specs.Spending.{AreVolumesOf, raised, spent_by_act, spent_by_line};
-ghost use Rattle.vms_text.specs.declared.acts.Lane.TheVariants.{Cpu};
+ghost use Rattle.std.specs.Prelude.{◌≡◌, ◌+◌, ◌<◌, ◌≤◌, ◌^◌, length};
+ghost use Rattle.vms_world.specs.Common.{IsCounter, IsCpu, cell, counter_count, IsEvent, event_count, IsLineOf, Cpu};
+ghost use Rattle.vms_world.specs.Common.{volume_in};
+ghost use Rattle.vms_replay_phase.specs.Spending.{AreVolumesOf, volumes_raised, spent_by_act, spent_by_line};
 ghost use Rattle.vms_text.specs.declared.acts.Line.TheVariants.{Lane as LaneLine};
-ghost use Rattle.vms_world.specs.Worlds.{volume_in};
 
 use vms_base::{CounterId, CpuId, EventId, Header, PcpuId, Row};
 use vms_text::{Act, Lane};
@@ -14,25 +11,25 @@ use vms_world::Volumes;
 /// How many events are counted.
 const EVENTS: usize = 8;
 
-/// Adds what a line changes to the volumes of its CPU. A limited addition adds its amount only where it was made.
+/// Adds what a line spends to the volumes of its CPU: a limited addition its amount, whatever it answers.
 #[inline]
-pub fn spend(volumes: &mut Volumes, header: &Header, lane: Lane, act: Act, made: bool)
+pub(crate) fn spend(volumes: &mut Volumes, header: &Header, lane: Lane, act: Act)
     requires volumes { AreVolumesOf header.now volumes.old }
     requires line { IsLineOf header.now (LaneLine lane act) }
-    ensures { volumes.new ≡ spent_by_line header.now made lane act volumes.old }
+    ensures { volumes.new ≡ spent_by_line header.now lane act volumes.old }
 {
     match lane {
-        Lane::Cpu(cpu) => spend_act(volumes, header, cpu, act, made),
+        Lane::Cpu(cpu) => spend_act(volumes, header, cpu, act),
         Lane::Control => {}
     }
 }
 
-/// Adds what an act of a CPU changes to the CPU's volumes.
+/// Adds what an act of a CPU spends to the CPU's volumes.
 #[inline]
-fn spend_act(volumes: &mut Volumes, header: &Header, cpu: CpuId, act: Act, made: bool)
+fn spend_act(volumes: &mut Volumes, header: &Header, cpu: CpuId, act: Act)
     requires volumes { AreVolumesOf header.now volumes.old }
     requires line { IsLineOf header.now (LaneLine (Cpu cpu) act) }
-    ensures { volumes.new ≡ spent_by_act header.now made cpu.number act volumes.old }
+    ensures { volumes.new ≡ spent_by_act header.now cpu.number act volumes.old }
 {
     match act {
         Act::Mod(counter, pages) => {
@@ -45,7 +42,7 @@ fn spend_act(volumes: &mut Volumes, header: &Header, cpu: CpuId, act: Act, made:
             spend_counters(volumes, header, cpu, counter, amount.unsigned_abs())
         }
         Act::Lim(counter, _, amount) => {
-            spend_limited(volumes, header, cpu, counter, amount.unsigned_abs(), made)
+            spend_counters(volumes, header, cpu, counter, amount.unsigned_abs())
         }
         _ => {}
     }
@@ -58,7 +55,8 @@ fn spend_pages(volumes: &mut Volumes, header: &Header, cpu: CpuId, counter: Coun
     requires counter { IsCounter header.now.layout counter.number }
     requires size { size ≤ 2 ^ 63 }
     ensures { volumes.new ≡ record volumes.old {
-      pages = raised (counter_count header.now.layout) cpu.number counter.number size volumes.old.pages;
+      pages = volumes_raised (counter_count header.now.layout) cpu.number counter.number size
+          volumes.old.pages;
     } }
 {
     let width = header.layout.counters() as usize;
@@ -72,7 +70,7 @@ fn spend_events(volumes: &mut Volumes, header: &Header, cpu: CpuId, event: Event
     requires event { IsEvent event.number }
     requires size { n ≤ 2 ^ 63 }
     ensures { volumes.new ≡ record volumes.old {
-      events = raised event_count cpu.number event.number n volumes.old.events;
+      events = volumes_raised event_count cpu.number event.number n volumes.old.events;
     } }
 {
     raise(&mut volumes.events, EVENTS, cpu, event.number, n);
@@ -85,33 +83,12 @@ fn spend_counters(volumes: &mut Volumes, header: &Header, cpu: CpuId, counter: P
     requires counter { counter.number < length header.now.counters }
     requires size { size ≤ 2 ^ 63 }
     ensures { volumes.new ≡ record volumes.old {
-      counters = raised (length header.now.counters) cpu.number counter.number size volumes.old.counters;
+      counters = volumes_raised (length header.now.counters) cpu.number counter.number size
+          volumes.old.counters;
     } }
 {
     let width = header.counters.len();
     raise(&mut volumes.counters, width, cpu, counter.number, size);
-}
-
-#[inline]
-fn spend_limited(
-    volumes: &mut Volumes,
-    header: &Header,
-    cpu: CpuId,
-    counter: PcpuId,
-    size: u64,
-    made: bool,
-)
-    requires volumes { AreVolumesOf header.now volumes.old }
-    requires cpu { IsCpu header.now.layout cpu.number }
-    requires counter { counter.number < length header.now.counters }
-    requires size { size ≤ 2 ^ 63 }
-    ensures { volumes.new ≡ if made then record volumes.old {
-      counters = raised (length header.now.counters) cpu.number counter.number size volumes.old.counters;
-    } else volumes.old }
-{
-    if made {
-        spend_counters(volumes, header, cpu, counter, size);
-    }
 }
 
 /// Adds a size to the volume of a CPU on one of so many things.
@@ -119,7 +96,7 @@ fn spend_limited(
 fn raise(volumes: &mut Row<u64>, width: usize, cpu: CpuId, thing: u32, size: u64)
     requires within { cell width cpu.number thing < length volumes.old }
     requires room { volume_in volumes.old width cpu.number thing + size < 2 ^ 64 }
-    ensures { volumes.new ≡ raised width cpu.number thing size volumes.old }
+    ensures { volumes.new ≡ volumes_raised width cpu.number thing size volumes.old }
 {
     let _ = volumes.len();
     let at = cpu.number as usize * width + thing as usize;

@@ -3,3 +3,4 @@ pub mod Entries
 pub mod PresentCpus
 pub mod Pieces
 pub mod SameReports
+pub mod Common

@@ -3,14 +3,9 @@ use Rattle.std.proofs.Common.{◌≡◌, ℕ, List, [], ◌∷◌, ◌++◌, ref
 use Rattle.std.proofs.Common.{flat_map}
 use Rattle.std.specs.Prelude.{Option, Some, decimal, option_to_list, slice_get}
 use Rattle.std.proofs.lemmas.Grind.{flat_map-append}
-use Rattle.vms_base.specs.declared.kinds.ZoneName.{ZoneName}
-use Rattle.vms_base.specs.Names.{kind_names}
-use Rattle.vms_base.specs.Places.{zone_index}
-use Rattle.vms_text.specs.Spelling.{sentence}
-use Rattle.vms_text.specs.Writing.{spaced}
-use Rattle.vms_text.proofs.Appends.{sentence-cons}
-use Rattle.vms_report.specs.Items.{indented}
-use Rattle.vms_report.specs.Zoneinfo.{zone_heading}
+use Rattle.vms_world.specs.Common.{ZoneName, kind_names, zone_index, sentence, spaced}
+use Rattle.vms_text.proofs.Common.{sentence-cons}
+use Rattle.vms_report.specs.Common.{indented, zone_heading}
 
 -- a line of which the first word and the words after it, in three pieces, were appended in turn
 pub line-of_pieces : (first : List ℕ) (some more last : List (List ℕ)) (before one two after : List ℕ)

@@ -1,12 +1,10 @@
 -- What is written of each CPU that is present: one CPU more.
-use Rattle.std.proofs.Common.{◌≡◌, ℕ, suc, ◌+◌, ◌<◌, Bool, true, false, List, [], ◌∷◌, ◌++◌, ap, ◌∙◌, arith}
-use Rattle.std.proofs.Common.{append-nil, flat_map, get_or, length, map, take, if◌then◌else◌}
+use Rattle.std.proofs.Common.{◌≡◌, ℕ, suc, ◌+◌, ◌<◌, Bool, true, false, List, [], ◌∷◌, ◌++◌, ap, ◌∙◌, arith, append-nil}
+use Rattle.std.proofs.Common.{flat_map, get_or, length, map, take, if◌then◌else◌}
 use Rattle.std.proofs.lemmas.Grind.{flat_map-append}
 use Rattle.std.proofs.lemmas.List.{length-take-le, map-append, take_more}
-use Rattle.vms_base.specs.declared.ids.CpuId.{CpuId}
-use Rattle.vms_base.specs.declared.kinds.CpuState.{CpuState}
-use Rattle.vms_base.specs.declared.kinds.CpuState.TheVariants.{Online, Dead, Absent}
-use Rattle.vms_base.specs.Cpus.{is_present, present_from}
+use Rattle.vms_world.specs.Common.{CpuId, CpuState, Absent, is_present, present_from}
+use Rattle.vms_base.specs.declared.kinds.CpuState.TheVariants.{Online, Dead}
 
 -- a CPU more, among those that are present
 present-push : (n : ℕ) (states : List CpuState) (x : CpuState)

@@ -5,16 +5,10 @@ use Rattle.std.specs.Fmt.{signed_decimal}
 use Rattle.std.specs.List.{enumerate_from, range_with_len}
 use Rattle.std.proofs.Math.Nat.{mul_comm}
 use Rattle.std.proofs.lemmas.List.{length-take}
-use Rattle.vms_base.specs.declared.headers.Header.{Header}
-use Rattle.vms_base.specs.Headers.{class_names}
-use Rattle.vms_base.specs.Names.{event_names}
-use Rattle.vms_base.specs.Places.{IsCounter, Shape, counter_at, place_count}
-use Rattle.vms_base.proofs.Cells.{cell-lt}
-use Rattle.vms_event_core.specs.Words.{IsEvent}
-use Rattle.vms_text.specs.PlaceNames.{is_node_place}
-use Rattle.vms_text.specs.Spelling.{place_words, sentence}
-use Rattle.vms_report.specs.Reports.{totals_report}
-use Rattle.vms_report.specs.Totals.{place_totals}
+use Rattle.vms_world.specs.Common.{Header, class_names, event_names, IsCounter, Shape, counter_at, place_count, IsEvent}
+use Rattle.vms_world.specs.Common.{is_node_place, place_words, sentence}
+use Rattle.vms_base.proofs.Common.{cell-lt}
+use Rattle.vms_report.specs.Common.{totals_report, place_totals}
 
 entries-same : {X Y : Type 0} (f other : ℕ × X → Y) (n : ℕ) (xs : List X)
     → ((i : ℕ) (x : X) → n ≤ i → i < n + length xs → f (i, x) ≡ other (i, x))

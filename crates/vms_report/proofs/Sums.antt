@@ -1,9 +1,9 @@
 -- Sums over CPUs: one CPU more, and no overflow on the way.
-use Rattle.std.proofs.Common.{◌≡◌, ℕ, zero, suc, ◌+◌, ◌*◌, ◌^◌, ◌<◌, ◌≤◌, ℤ, pos, ◌+ℤ◌, ◌≤ℤ◌, unsigned_abs}
-use Rattle.std.proofs.Common.{FitsSigned, w64, to_z, of_z, inl, inr, ap, subst, sym, ◌∙◌, arith}
+use Rattle.std.proofs.Common.{◌≡◌, ℕ, zero, suc, ◌+◌, ◌*◌, ◌^◌, ◌<◌, ◌≤◌, ℤ, pos, ◌+ℤ◌, ◌≤ℤ◌, unsigned_abs, FitsSigned}
+use Rattle.std.proofs.Common.{w64, to_z, of_z, inl, inr, ap, subst, sym, ◌∙◌, arith}
 use Rattle.std.proofs.lemmas.Bool.{cases_lt}
 use Rattle.std.proofs.lemmas.Int.{ints, to_z-of_z}
-use Rattle.vms_history.specs.Sums.{sum_below}
+use Rattle.vms_world.specs.Common.{sum_below}
 
 -- the number d of CPU n is added to the sum t of those of the CPUs before it and of v
 module _ (t d v : ℤ) (f : ℕ → ℤ) (n : ℕ) (so_far : t ≡ v +ℤ sum_below f n) (more : d ≡ f n)

@@ -1,10 +1,7 @@
 -- The items of a class, and lines that stand under a heading.
 use Rattle.std.specs.Prelude.{ℕ, Bool, List, ◌++◌, codes, take}
 use Rattle.std.specs.List.{enumerate_from}
-use Rattle.vms_base.specs.declared.headers.Header.{Header}
-use Rattle.vms_base.specs.Headers.{class_names}
-use Rattle.vms_text.specs.PlaceNames.{is_node_place}
-use Rattle.vms_text.specs.Spelling.{sentence}
+use Rattle.vms_world.specs.Common.{Header, class_names, is_node_place, sentence}
 
 -- the items of the nodes, or else of the zones, as pairs of position and name: first the fixed ones, then the declared
 -- ones, as far as a place has positions

@@ -5,3 +5,4 @@ pub mod Zoneinfo
 pub mod Counters
 pub mod Reports
 pub mod Rooms
+pub mod Common

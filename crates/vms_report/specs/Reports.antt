@@ -1,9 +1,6 @@
 -- What a report prints.
 use Rattle.std.specs.Prelude.{ℕ, ℤ, List, flat_map}
-use Rattle.vms_base.specs.declared.headers.Header.{Header}
-use Rattle.vms_text.specs.declared.acts.ReportKind.{ReportKind}
-use Rattle.vms_text.specs.declared.acts.ReportKind.TheVariants.{Vmstat, Zoneinfo, Totals, Counters}
-use Rattle.vms_text.specs.Spelling.{sentence}
+use Rattle.vms_world.specs.Common.{Header, ReportKind, Vmstat, Zoneinfo, Totals, Counters, sentence}
 use Rattle.vms_world.specs.declared.worlds.World.{World}
 use Rattle.vms_report.specs.Counters.{counter_lines}
 use Rattle.vms_report.specs.Totals.{event_total, page_total, pcpu_total, totals_lines}

@@ -2,15 +2,8 @@
 use Rattle.std.specs.Prelude.{ℕ, ℤ, ◌+ℤ◌, List, [], ◌∷◌, ◌++◌, codes, flat_map, map}
 use Rattle.std.specs.Fmt.{signed_decimal}
 use Rattle.std.specs.List.{enumerate_from, range_with_len}
-use Rattle.vms_base.specs.declared.headers.Header.{Header}
-use Rattle.vms_base.specs.Names.{event_names}
-use Rattle.vms_base.specs.Places.{counter_at, place_count}
-use Rattle.vms_core.specs.Cells.{value_at}
-use Rattle.vms_core.specs.Totals.{differentials}
-use Rattle.vms_event_core.specs.Words.{words_of}
-use Rattle.vms_pcpu_core.specs.States.{count_at}
-use Rattle.vms_pcpu_core.specs.Totals.{locals}
-use Rattle.vms_text.specs.Spelling.{place_words}
+use Rattle.vms_world.specs.Common.{Header, event_names, counter_at, place_count, value_at, differentials, sum_of_words}
+use Rattle.vms_world.specs.Common.{count_at, locals, place_words}
 use Rattle.vms_world.specs.declared.worlds.World.{World}
 use Rattle.vms_report.specs.Items.{items_at}
 
@@ -20,7 +13,7 @@ page_total header w k = value_at w.pages k +ℤ differentials header.layout w.pa
 
 -- an event: the words of all CPUs
 abbrev pub event_total : Header → World → ℕ → ℤ
-event_total header w k = words_of header.layout w.events k
+event_total header w k = sum_of_words header.layout w.events k
 
 -- a percpu counter: its shared part and the local parts of all CPUs
 abbrev pub pcpu_total : Header → World → ℕ → ℤ

@@ -1,13 +1,8 @@
 -- What `/proc/vmstat` tells of a world: the system-wide values, and the events of the CPUs that are online.
-use Rattle.std.specs.Prelude.{ℕ, ◌+◌, ◌/◌, ◌||◌, true, false, if◌then◌else◌, List, [], ◌∷◌, ◌++◌, codes, decimal}
-use Rattle.std.specs.Prelude.{map, bytes_eq}
+use Rattle.std.specs.Prelude.{ℕ, ◌+◌, ◌/◌, ◌||◌, true, false, if◌then◌else◌, List, [], ◌∷◌, ◌++◌, codes, decimal, map}
+use Rattle.std.specs.Prelude.{bytes_eq}
 use Rattle.std.specs.List.{enumerate_from}
-use Rattle.vms_base.specs.declared.headers.Header.{Header}
-use Rattle.vms_base.specs.Cpus.{online_from}
-use Rattle.vms_base.specs.Names.{event_names}
-use Rattle.vms_calls.specs.Looks.{at_least_zero}
-use Rattle.vms_core.specs.Cells.{system_at}
-use Rattle.vms_event_core.specs.Calls.{sum_over}
+use Rattle.vms_world.specs.Common.{Header, online_from, event_names, at_least_zero, system_at, sum_over}
 use Rattle.vms_world.specs.declared.worlds.World.{World}
 use Rattle.vms_report.specs.Items.{items_of}
 

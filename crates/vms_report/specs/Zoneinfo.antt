@@ -2,19 +2,10 @@
 use Rattle.std.specs.Prelude.{ℕ, ◌+◌, List, [], ◌∷◌, ◌++◌, codes, decimal, flat_map, length, map}
 use Rattle.std.specs.Fmt.{signed_decimal}
 use Rattle.std.specs.List.{enumerate_from}
-use Rattle.vms_base.specs.declared.headers.Header.{Header}
-use Rattle.vms_base.specs.declared.kinds.CpuState.{CpuState}
+use Rattle.vms_world.specs.Common.{Header, CpuState, ZoneName, ZoneSize, present_from, kind_names, counter_at}
+use Rattle.vms_world.specs.Common.{zone_index, size_at, reserve_of, at_least_zero, cpu_at, diff_at, mark_at}
+use Rattle.vms_world.specs.Common.{threshold_at, value_at, entry_if_any, sentence}
 use Rattle.vms_base.specs.declared.kinds.CpuState.TheVariants.{Dead}
-use Rattle.vms_base.specs.declared.kinds.ZoneName.{ZoneName}
-use Rattle.vms_base.specs.declared.kinds.ZoneSize.{ZoneSize}
-use Rattle.vms_base.specs.Cpus.{present_from}
-use Rattle.vms_base.specs.Names.{kind_names}
-use Rattle.vms_base.specs.Places.{counter_at, zone_index}
-use Rattle.vms_base.specs.Sizes.{size_at}
-use Rattle.vms_base.specs.Watermarks.{reserve_of}
-use Rattle.vms_calls.specs.Looks.{at_least_zero}
-use Rattle.vms_core.specs.Cells.{cpu_at, diff_at, mark_at, threshold_at, value_at}
-use Rattle.vms_text.specs.Spelling.{entry, sentence}
 use Rattle.vms_world.specs.declared.worlds.World.{World}
 use Rattle.vms_report.specs.Items.{indented, items_at}
 
@@ -63,7 +54,7 @@ cpu_lines header w g = map (λ cpu. cpu_words header w g cpu.number) (present_fr
 -- the first line of a zone, and of a node
 abbrev pub zone_heading : ZoneName → List (List ℕ)
 zone_heading zone =
-    codes "Node" ∷ (decimal zone.node ++ codes ",") ∷ codes "zone" ∷ entry kind_names (zone_index zone.kind)
+    codes "Node" ∷ (decimal zone.node ++ codes ",") ∷ codes "zone" ∷ entry_if_any kind_names (zone_index zone.kind)
 
 abbrev pub node_heading : ℕ → List (List ℕ)
 node_heading node = codes "Node" ∷ (decimal node ++ codes ",") ∷ codes "all" ∷ codes "zones" ∷ []

@@ -1,15 +1,9 @@
 ghost use Rattle.std.specs.Prelude.{◌≡◌, ◌≤◌, ◌≤ℤ◌, ◌+ℤ◌, pos, unsigned_abs};
-ghost use Rattle.vms_base.specs.Places.{IsCounter, IsCpu};
-ghost use Rattle.vms_base.specs.Thresholds.{most_threshold};
-ghost use Rattle.vms_core.specs.Bases.{IsOpening};
-ghost use Rattle.vms_core.specs.Cells.{diff_at, value_at};
-ghost use Rattle.vms_core.specs.Totals.{differentials};
-ghost use Rattle.vms_event_core.specs.Bases.{most_in_base};
-ghost use Rattle.vms_event_core.specs.Words.{HasShape, IsEvent, word_at, words_of};
-ghost use Rattle.vms_pcpu_core.specs.Bases.{most_batch};
-ghost use Rattle.vms_pcpu_core.specs.States.{count_at, local_at};
-ghost use Rattle.vms_pcpu_core.specs.Totals.{locals};
-ghost use Rattle.vms_report.specs.Rooms.{HasRoom};
+ghost use Rattle.vms_world.specs.Common.{IsCounter, IsCpu, most_threshold, IsOpening, diff_at, value_at, differentials};
+ghost use Rattle.vms_world.specs.Common.{most_in_base, IsEvent, word_at, sum_of_words, most_batch, count_at, local_at};
+ghost use Rattle.vms_world.specs.Common.{locals};
+ghost use Rattle.vms_event_core.specs.Words.{HasShape};
+ghost use Rattle.vms_report.specs.Rooms.{IsSmallCounter};
 
 use vms_base::{CounterId, CpuId, EventId, Layout};
 use vms_core::State;
@@ -47,8 +41,8 @@ fn differential(pages: &State, layout: &Layout, cpu: CpuId, counter: CounterId) 
 pub(crate) fn event_total(events: &EventState, layout: &Layout, event: EventId) -> i64
     requires shaped { HasShape layout.now events.now }
     requires event { IsEvent event.number }
-    requires most { words_of layout.now events.now event.number ≤ℤ pos most_in_base }
-    ensures { result ≡ words_of layout.now events.now event.number }
+    requires most { sum_of_words layout.now events.now event.number ≤ℤ pos most_in_base }
+    ensures { result ≡ sum_of_words layout.now events.now event.number }
 {
     let mut total = 0;
     for number in 0..layout.cpus() {
@@ -69,7 +63,7 @@ fn word(events: &EventState, layout: &Layout, cpu: CpuId, event: EventId) -> u64
 
 /// The shared part of a counter and the local parts of all CPUs.
 pub(crate) fn counter_total(counters: &PcpuState, layout: &Layout, counter: usize) -> i64
-    requires { HasRoom layout.now counters.now counter }
+    requires { IsSmallCounter layout.now counters.now counter }
     ensures { result ≡ count_at counters.now counter +ℤ locals layout.now counters.now counter }
 {
     let mut total = counters.count.get(counter);
@@ -81,7 +75,7 @@ pub(crate) fn counter_total(counters: &PcpuState, layout: &Layout, counter: usiz
 
 #[inline]
 pub(crate) fn local(counters: &PcpuState, layout: &Layout, cpu: CpuId, counter: usize) -> i64
-    requires room { HasRoom layout.now counters.now counter }
+    requires room { IsSmallCounter layout.now counters.now counter }
     requires cpu { IsCpu layout.now cpu.number }
     ensures value { result ≡ local_at counters.now cpu.number counter }
     ensures bound { unsigned_abs result ≤ most_batch }

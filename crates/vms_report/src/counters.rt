@@ -1,14 +1,9 @@
 ghost use Rattle.std.specs.Prelude.{◌≡◌, ◌∷◌, [], ◌++◌, ◌<◌, codes, decimal, flat_map, length, map, OnOk};
 ghost use Rattle.std.specs.Fmt.{signed_decimal};
-ghost use Rattle.vms_base.specs.Cpus.{present_from};
-ghost use Rattle.vms_pcpu_core.specs.States.{count_at, local_at};
-ghost use Rattle.vms_plain_pcpu.specs.Numbers.{total_in};
-ghost use Rattle.vms_report.specs.Counters.{counter_words};
+ghost use Rattle.vms_world.specs.Common.{present_from, count_at, local_at, Counters, sentence, spaced, IsWorldOf};
+ghost use Rattle.vms_plain_pcpu.specs.Common.{total_in};
+ghost use Rattle.vms_report.specs.Counters.{percpu_counter_words};
 ghost use Rattle.vms_report.specs.Reports.{report_of};
-ghost use Rattle.vms_text.specs.declared.acts.ReportKind.TheVariants.{Counters};
-ghost use Rattle.vms_text.specs.Spelling.{sentence};
-ghost use Rattle.vms_text.specs.Writing.{spaced};
-ghost use Rattle.vms_world.specs.Worlds.{IsWorldOf};
 
 use crate::all_cpus::{counter_total, local};
 use crate::lines::{is_present, push_next_number};
@@ -41,7 +36,9 @@ fn write_counter(
 ) -> Result<(), Memory>
     requires world { IsWorldOf header.now world.now }
     requires counter { counter < length header.now.counters }
-    ensures { OnOk result (out.new.items ≡ out.old.items ++ sentence (counter_words world.now (counter, decl.now))) }
+    ensures { OnOk result
+        (out.new.items ≡ out.old.items
+        ++ sentence (percpu_counter_words world.now (counter, decl.now))) }
 {
     push_shared(out, decl, world.counters.count.get(counter))?;
     push_locals(out, header, world, counter)?;

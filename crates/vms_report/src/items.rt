@@ -1,5 +1,5 @@
 ghost use Rattle.std.specs.Prelude.{◌≡◌, ◌≤◌, length, map, take};
-ghost use Rattle.vms_base.specs.Headers.{class_names};
+ghost use Rattle.vms_world.specs.Common.{class_names};
 
 use arrayvec::ArrayVec;
 use vms_base::{Header, item_names};

@@ -1,9 +1,7 @@
 ghost use Rattle.std.specs.Prelude.{◌≡◌, ◌∷◌, ◌++◌, codes, decimal, map, OnOk};
 ghost use Rattle.std.specs.Fmt.{signed_decimal};
-ghost use Rattle.vms_base.specs.Cpus.{is_present as tells_present};
-ghost use Rattle.vms_calls.specs.Looks.{at_least_zero};
+ghost use Rattle.vms_world.specs.Common.{is_present as tells_present, at_least_zero, text_of};
 ghost use Rattle.vms_report.specs.Items.{indented};
-ghost use Rattle.vms_text.specs.Writing.{text_of};
 
 use vms_base::{CpuState, Memory, push_number};
 use vms_text::{Word, write_words};

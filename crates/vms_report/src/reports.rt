@@ -1,6 +1,6 @@
 ghost use Rattle.std.specs.Prelude.{◌≡◌, ◌++◌, OnOk};
 ghost use Rattle.vms_report.specs.Reports.{report_of};
-ghost use Rattle.vms_world.specs.Worlds.{IsWorldOf};
+ghost use Rattle.vms_world.specs.Common.{IsWorldOf};
 
 use crate::{write_counters, write_totals, write_vmstat, write_zoneinfo};
 use vms_base::{Header, Memory};

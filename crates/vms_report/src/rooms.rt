@@ -1,11 +1,7 @@
 ghost use Rattle.std.specs.Prelude.{ℕ, ◌<◌, ◌^◌, length};
-ghost use Rattle.vms_base.specs.declared.headers.Header.{Header};
-ghost use Rattle.vms_base.specs.Cpus.{online_from};
-ghost use Rattle.vms_event_core.specs.Calls.{sum_over};
-ghost use Rattle.vms_event_core.specs.Words.{IsEvent};
-ghost use Rattle.vms_plain_events.specs.PlainWords.{HasWords};
+ghost use Rattle.vms_world.specs.Common.{Header, online_from, sum_over, IsEvent, IsWorldOf};
+ghost use Rattle.vms_plain_events.specs.Common.{HasWords};
 ghost use Rattle.vms_world.specs.declared.worlds.World.{World};
-ghost use Rattle.vms_world.specs.Worlds.{IsWorldOf};
 
 /// The law that the events of a world leave room for the sum over the CPUs that are online.
 pub(crate) fn worlds_leave_room()

@@ -1,14 +1,11 @@
 ghost use Rattle.std.specs.Prelude.{◌≡◌, ◌∷◌, [], ◌++◌, ◌≤◌, flat_map, length, map, OnOk};
 ghost use Rattle.std.specs.Fmt.{signed_decimal};
 ghost use Rattle.std.specs.List.{enumerate_from, range_with_len};
-ghost use Rattle.vms_base.specs.Places.{IsPlace, place_count};
+ghost use Rattle.vms_world.specs.Common.{IsPlace, place_count, Totals, sentence, IsWorldOf};
 ghost use Rattle.vms_report.specs.Items.{items_at};
 ghost use Rattle.vms_report.specs.Reports.{report_of};
 ghost use Rattle.vms_report.specs.Totals.{event_total as event_total_of, event_totals, page_total as page_total_of};
 ghost use Rattle.vms_report.specs.Totals.{pcpu_total, pcpu_totals, place_totals};
-ghost use Rattle.vms_text.specs.declared.acts.ReportKind.TheVariants.{Totals};
-ghost use Rattle.vms_text.specs.Spelling.{sentence};
-ghost use Rattle.vms_world.specs.Worlds.{IsWorldOf};
 
 use crate::all_cpus::{counter_total, event_total, page_total};
 use crate::items::names_of;

@@ -1,13 +1,8 @@
 ghost use Rattle.std.specs.Prelude.{◌≡◌, ◌++◌, ◌+◌, ◌≤◌, flat_map, length, map, OnOk};
 ghost use Rattle.std.specs.List.{enumerate_from};
-ghost use Rattle.vms_base.specs.Cpus.{online_from};
-ghost use Rattle.vms_event_core.specs.Calls.{sum_over};
-ghost use Rattle.vms_event_core.specs.Words.{IsEvent};
+ghost use Rattle.vms_world.specs.Common.{online_from, sum_over, IsEvent, Vmstat, sentence, IsWorldOf};
 ghost use Rattle.vms_report.specs.Reports.{report_of};
 ghost use Rattle.vms_report.specs.Vmstat.{event_lines, system_lines, told_events};
-ghost use Rattle.vms_text.specs.declared.acts.ReportKind.TheVariants.{Vmstat};
-ghost use Rattle.vms_text.specs.Spelling.{sentence};
-ghost use Rattle.vms_world.specs.Worlds.{IsWorldOf};
 
 use crate::items::names_of;
 use crate::lines::clamped;

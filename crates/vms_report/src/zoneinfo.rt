@@ -1,18 +1,12 @@
-ghost use Rattle.std.specs.Prelude.{◌≡◌, ◌∷◌, [], ◌++◌, ◌≤◌, ◌-◌, codes, decimal, flat_map, length, map, All};
-ghost use Rattle.std.specs.Prelude.{OnOk};
+ghost use Rattle.std.specs.Prelude.{◌≡◌, ◌∷◌, [], ◌++◌, ◌≤◌, ◌-◌, codes, decimal, flat_map, length, map, All, OnOk};
 ghost use Rattle.std.specs.Fmt.{signed_decimal};
 ghost use Rattle.std.specs.List.{enumerate_from, range_with_len};
-ghost use Rattle.vms_base.specs.Places.{IsCpu, IsNode, IsPlace, IsZone, counter_at};
-ghost use Rattle.vms_base.specs.Sizes.{IsValidSize};
-ghost use Rattle.vms_core.specs.Cells.{diff_at};
+ghost use Rattle.vms_world.specs.Common.{IsCpu, IsNode, IsPlace, IsZone, counter_at, IsValidSize, diff_at, Zoneinfo};
+ghost use Rattle.vms_world.specs.Common.{sentence, spaced, IsWorldOf};
 ghost use Rattle.vms_report.specs.Items.{indented, items_at};
 ghost use Rattle.vms_report.specs.Reports.{report_of};
 ghost use Rattle.vms_report.specs.Zoneinfo.{cpu_lines, cpu_words, dead_words, item_lines, mark_lines, node_text};
 ghost use Rattle.vms_report.specs.Zoneinfo.{protection_words, size_lines, zone_heading, zone_text};
-ghost use Rattle.vms_text.specs.declared.acts.ReportKind.TheVariants.{Zoneinfo};
-ghost use Rattle.vms_text.specs.Spelling.{sentence};
-ghost use Rattle.vms_text.specs.Writing.{spaced};
-ghost use Rattle.vms_world.specs.Worlds.{IsWorldOf};
 
 use crate::items::names_of;
 use crate::lines::{clamped, is_present, push_next_number, write_indented};

@@ -1,17 +1,15 @@
 -- Answers that are handed on line by line are merged in the order of the lines.
-use Rattle.std.proofs.Common.{◌≡◌, ℕ, suc, ◌+◌, ◌<◌, ◌∙◌, List, ◌∷◌, ◌++◌, ap, append_assoc, arith, drop, drop-cons, get_or}
-use Rattle.std.proofs.Common.{length, sym}
-use Rattle.vms_answers.specs.PhaseAnswers.{NumberedAnswer}
-use Rattle.vms_text.specs.declared.acts.Item.{Item}
-use Rattle.vms_text.specs.declared.acts.Lane.{Lane}
-use Rattle.vms_merge.specs.Merging.{merged, taken, with_told}
-use Rattle.vms_merge.proofs.MergedLines.{merged-everywhere}
+use Rattle.std.proofs.Common.{◌≡◌, ℕ, suc, ◌+◌, ◌<◌, ◌∙◌, List, ◌∷◌, ◌++◌, ap, append_assoc, arith, drop, drop-cons}
+use Rattle.std.proofs.Common.{get_or, length, sym}
+use Rattle.vms_answers.specs.Common.{NumberedAnswer, merged, taken_answer, with_told}
+use Rattle.vms_world.specs.Common.{Item, Lane}
+use Rattle.vms_answers.proofs.Common.{merged-everywhere}
 
 module _ (items : List Item) (n : ℕ) (item : Item) (at : item ≡ get_or items n item)
     (all before : List NumberedAnswer)
     (left later : Lane → List NumberedAnswer) where
   abbrev first : List NumberedAnswer × List NumberedAnswer
-  first = taken item.number (left item.lane)
+  first = taken_answer item.number (left item.lane)
 
   -- the answers that were handed on before a line and with it, and those that are left then
   pub merged-next : n < length items → before ++ merged (drop n items) left ≡ all

@@ -1,20 +1,14 @@
 -- A phase that was run and is kept is one that the engine makes.
 use Rattle.std.proofs.Common.{◌≡◌, true, false, List, [], ◌∷◌, ◌++◌, Some, ap, subst, sym, refl, ◌∙◌}
 use Rattle.std.specs.Prelude.{Result, Ok, Err, IfOk, MatchResult, OnErr, IsOk}
-use Rattle.vms_base.specs.declared.failures.Memory.{Memory}
-use Rattle.vms_answers.specs.PhaseAnswers.{NumberedAnswer}
-use Rattle.vms_base.specs.declared.headers.Header.{Header}
-use Rattle.vms_text.specs.declared.acts.Item.{Item}
+use Rattle.vms_world.specs.Common.{Memory, Header, Item}
+use Rattle.vms_answers.specs.Common.{NumberedAnswer, merged, told_by}
 use Rattle.vms_world.specs.declared.worlds.World.{World}
-use Rattle.vms_replay.specs.Engines.{MakesPhase}
-use Rattle.vms_replay.specs.MadePhases.{MadePhase}
-use Rattle.vms_merge.specs.declared.lane_answers.LaneAnswers.{LaneAnswers}
-use Rattle.vms_merge.specs.Merging.{merged}
-use Rattle.vms_merge.specs.Told.{told_by}
+use Rattle.vms_replay.specs.Common.{EngineMakesPhase, PastPhase}
+use Rattle.vms_answers.specs.declared.lane_answers.LaneAnswers.{LaneAnswers}
 use Rattle.vms_phase.specs.declared.phases.PhaseDone.{PhaseDone}
-use Rattle.vms_phase.specs.SideBySide.{histories_of}
-use Rattle.vms_run.specs.Runners.{IsOneRun, IsRun}
-use Rattle.vms_run.specs.Threads.{makes_on_threads}
+use Rattle.vms_phase.specs.Common.{histories_of}
+use Rattle.vms_run.specs.Common.{IsOneRun, IsRun, makes_on_threads}
 
 -- a phase whose answers were handed on, merged
 pub IsOneRun-handed : (header : Header) (w : World) (items : List Item) (done : PhaseDone) (before : World)
@@ -38,33 +32,33 @@ pub IsRun-ok : (header : Header) (w : World) (items : List Item) (result : Resul
 IsRun-ok header w items result done run is =
     subst (λ (r : Result PhaseDone Memory). IfOk r (IsRun header w items)) is run
 
-module _ (header : Header) (w : World) (items : List Item) (kept kept' : List MadePhase)
+module _ (header : Header) (w : World) (items : List Item) (kept kept' : List PastPhase)
     (Told : List NumberedAnswer → Type 0) where
-  MakesPhase-one : (left : World) (phase : MadePhase) → IsOneRun header w items Told left phase
-      → kept' ≡ kept ++ phase ∷ [] → MakesPhase makes_on_threads header w items (Some kept) (Some kept') Told left
-  MakesPhase-one left phase run appended =
+  EngineMakesPhase-one : (left : World) (phase : PastPhase) → IsOneRun header w items Told left phase
+      → kept' ≡ kept ++ phase ∷ [] → EngineMakesPhase makes_on_threads header w items (Some kept) (Some kept') Told left
+  EngineMakesPhase-one left phase run appended =
       let whole : phase ≡ record { world = w; items = items; histories = phase.histories } =
-      ap (λ (v : World). let made : MadePhase =
+      ap (λ (v : World). let made : PastPhase =
       record { world = v; items = phase.items; histories = phase.histories } in made) run.from
-      ∙ ap (λ (is : List Item). let made : MadePhase =
+      ∙ ap (λ (is : List Item). let made : PastPhase =
       record { world = w; items = is; histories = phase.histories } in made) run.of in
       record {
         histories = phase.histories;
         makes = run.makes;
         world = run.world;
         answers = run.answers;
-        grows = ap Some (appended ∙ ap (λ (one : MadePhase). kept ++ one ∷ []) whole);
+        grows = ap Some (appended ∙ ap (λ (one : PastPhase). kept ++ one ∷ []) whole);
       }
 
   -- what was made is kept, if no memory was wanted
-  pub MakesPhase-kept : (made : Result (World × MadePhase) Memory) (result : Result World Memory)
+  pub EngineMakesPhase-kept : (made : Result (World × PastPhase) Memory) (result : Result World Memory)
       → IfOk made (λ one. IsOneRun header w items Told one.0 one.1)
       → IfOk result (λ left. IfOk made (λ one. (left ≡ one.0) × (kept' ≡ kept ++ one.1 ∷ [])))
       → (IsOk result → IsOk made) → OnErr result (kept' ≡ kept)
-      → MatchResult result (MakesPhase makes_on_threads header w items (Some kept) (Some kept') Told)
+      → MatchResult result (EngineMakesPhase makes_on_threads header w items (Some kept) (Some kept') Told)
       (λ (error : Memory). Some kept' ≡ Some kept)
-  MakesPhase-kept (Ok one) (Ok left) run appended is stays =
-      subst (MakesPhase makes_on_threads header w items (Some kept) (Some kept') Told) (sym appended.0)
-      (MakesPhase-one one.0 one.1 run appended.1)
-  MakesPhase-kept (Err error) (Ok left) run appended is stays = let no : false ≡ true = is refl in absurd cc
-  MakesPhase-kept made (Err error) run appended is stays = ap Some stays
+  EngineMakesPhase-kept (Ok one) (Ok left) run appended is stays =
+      subst (EngineMakesPhase makes_on_threads header w items (Some kept) (Some kept') Told) (sym appended.0)
+      (EngineMakesPhase-one one.0 one.1 run appended.1)
+  EngineMakesPhase-kept (Err error) (Ok left) run appended is stays = let no : false ≡ true = is refl in absurd cc
+  EngineMakesPhase-kept made (Err error) run appended is stays = ap Some stays

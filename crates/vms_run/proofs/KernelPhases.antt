@@ -1,30 +1,19 @@
 -- A phase by rules which go by the kernel's formulas is one by the kernel's rules.
 use Rattle.std.proofs.Common.{ℕ, suc, List}
 use Rattle.std.specs.Prelude.{Result, Ok, Err, IfOk}
-use Rattle.vms_base.specs.declared.failures.Memory.{Memory}
-use Rattle.vms_base.specs.declared.headers.Header.{Header}
-use Rattle.vms_base.specs.declared.kinds.ZoneSize.{ZoneSize}
-use Rattle.vms_base.specs.Thresholds.{normal_threshold_of, pressure_threshold_of}
-use Rattle.vms_history.specs.declared.events.Event.{Event}
-use Rattle.vms_core.specs.declared.steps.Step.{Step}
+use Rattle.vms_world.specs.Common.{Memory, Header, ZoneSize, normal_threshold_of, pressure_threshold_of, Event, Step}
+use Rattle.vms_world.specs.Common.{facts_of, Act, Pressure, Normal, Kswapd, Item, Lane, Cpu, Control, PageSteps}
+use Rattle.vms_world.specs.Common.{MakesActs, acts_of, lane_at, lanes_of, act as one_act, TableHistories}
 use Rattle.vms_core.specs.Pages.{History}
-use Rattle.vms_calls.specs.HeaderFacts.{facts_of}
-use Rattle.vms_text.specs.declared.acts.Act.{Act}
-use Rattle.vms_text.specs.declared.acts.Act.TheVariants.{Mod, Pressure, Normal, Dead, Kswapd}
-use Rattle.vms_text.specs.declared.acts.Item.{Item}
-use Rattle.vms_text.specs.declared.acts.Lane.{Lane}
-use Rattle.vms_text.specs.declared.acts.Lane.TheVariants.{Cpu, Control}
+use Rattle.vms_text.specs.declared.acts.Act.TheVariants.{Mod, Dead}
 use Rattle.vms_world.specs.declared.worlds.World.{World}
-use Rattle.vms_world.specs.Acts.{PageSteps}
-use Rattle.vms_world.specs.Lanes.{MakesActs, acts_of, lane_at, lanes_of}
-use Rattle.vms_world.specs.Lanes.MakesActs.{none as no_act, act as one_act}
-use Rattle.vms_world.specs.Phases.{Histories}
-use Rattle.vms_file_order.specs.MadePhases.{MakePhase}
-use Rattle.vms_file_order.proofs.MoreAnswers.{Buries-more, Includes, IsTurn-more, SetsNormal-more, SetsPressure-more}
+use Rattle.vms_world.specs.Lanes.MakesActs.{none as no_act}
+use Rattle.vms_file_order.specs.Common.{MakeInAnyOrder}
+use Rattle.vms_file_order.proofs.Common.{Buries-more, Includes, IsTurn-more, SetsNormal-more, SetsPressure-more}
 use Rattle.vms_phase.specs.declared.phases.PhaseDone.{PhaseDone}
-use Rattle.vms_phase.specs.SideBySide.{histories_of}
-use Rattle.vms_replay.specs.KernelRules.{GoesBy, normal_rule, pressure_rule}
-use Rattle.vms_run.specs.Threads.{makes_on_threads}
+use Rattle.vms_phase.specs.Common.{histories_of}
+use Rattle.vms_replay.specs.Common.{GoesBy, normal_rule, pressure_rule}
+use Rattle.vms_run.specs.Common.{makes_on_threads}
 
 -- acts by some steps are acts by more
 module _ {K : Type 0} (makes more : Act → List (Event K) → List K → Type 0) (p : ℕ)
@@ -60,9 +49,9 @@ module _ (pressure normal : ZoneSize → ℕ → ℕ → Type 0) (by_pressure : 
   PageSteps-kernel (Cpu d) p (Mod k delta) h steps makes = makes
   PageSteps-kernel lane p act h steps makes = makes
 
-  MakePhase-kernel : (items : List Item) (hs : Histories) → MakePhase header pressure normal w items hs
+  MakeInAnyOrder-kernel : (items : List Item) (hs : TableHistories) → MakeInAnyOrder header pressure normal w items hs
       → makes_on_threads header w items hs
-  MakePhase-kernel items hs phase =
+  MakeInAnyOrder-kernel items hs phase =
       let lanes = lanes_of header.layout items in
       record {
         complete = phase.complete;
@@ -80,7 +69,7 @@ module _ (pressure normal : ZoneSize → ℕ → ℕ → Type 0) (by_pressure : 
 
   -- the same of a phase that was run
   pub makes_on_threads-kernel : (items : List Item) (result : Result PhaseDone Memory)
-      → IfOk result (λ done. MakePhase header pressure normal w items (histories_of done.histories))
+      → IfOk result (λ done. MakeInAnyOrder header pressure normal w items (histories_of done.histories))
       → IfOk result (λ done. makes_on_threads header w items (histories_of done.histories))
-  makes_on_threads-kernel items (Ok done) phase = MakePhase-kernel items (histories_of done.histories) phase
+  makes_on_threads-kernel items (Ok done) phase = MakeInAnyOrder-kernel items (histories_of done.histories) phase
   makes_on_threads-kernel items (Err error) phase = tt

@@ -1,15 +1,13 @@
 -- What a run says of a text that is made: the text is left whole or in part, and no read fails.
 use Rattle.std.proofs.Common.{◌≡◌, ◌≢◌, ℕ, List, Option, Some, arith, subst, sym, ◌∙◌}
-use Rattle.vms_gen.specs.Texts.{made_text}
+use Rattle.vms_gen.specs.Common.{made_text}
 use Rattle.vms_gen.specs.declared.numbers.Numbers.{Numbers}
-use Rattle.vms_io.specs.Faults.{LastFails}
-use Rattle.vms_replay.specs.MadePhases.{MadePhase}
-use Rattle.vms_replay.specs.ReplayAnswers.{AnswersReplayed}
-use Rattle.vms_stream.specs.Answers.{FaultsOfSource}
+use Rattle.vms_io.specs.Common.{LastFails}
+use Rattle.vms_replay.specs.Common.{PastPhase, AnswersReplayed}
+use Rattle.vms_stream.specs.Common.{FaultsOfSource}
 use Rattle.vms_stream.specs.declared.statuses.Status.{Status}
 use Rattle.vms_stream.specs.declared.statuses.Status.TheVariants.{ReadFault}
-use Rattle.vms_run.specs.MadeTexts.{AnswersMade}
-use Rattle.vms_run.specs.Threads.{makes_on_threads}
+use Rattle.vms_run.specs.Common.{AnswersMade, makes_on_threads}
 
 -- a source tells what is left, and counts no fault
 module _ (src src' : List ℕ) where
@@ -22,7 +20,7 @@ module _ (src src' : List ℕ) where
       none-fails
       (subst (λ (s : Status). FaultsOfSource {S = List ℕ} (λ left. Some left) (λ left. 0) s src src') is reads)
 
-pub AnswersMade-replayed : {K : Type 0} (numbers : Numbers) (kept kept' : List MadePhase)
+pub AnswersMade-replayed : {K : Type 0} (numbers : Numbers) (kept kept' : List PastPhase)
     (held : K → Option (List ℕ)) (write_faults : K → ℕ) (src src' : List ℕ) (out out' : K) (status : Status)
     → src ≡ made_text numbers.seed numbers.cpus numbers.lines
     → AnswersReplayed {S = List ℕ} makes_on_threads (Some kept) (Some kept') (λ left. Some left) (λ left. 0) held

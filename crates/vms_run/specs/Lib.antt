@@ -1,3 +1,4 @@
 pub mod Threads
 pub mod Runners
 pub mod MadeTexts
+pub mod Common

@@ -1,21 +1,19 @@
 -- What `gen` says, whose trace is made from three numbers.
 use Rattle.std.specs.Prelude.{◌≡◌, ◌≢◌, ℕ, List, [], ◌++◌, Option, Some}
 use Rattle.std.specs.Io.KnownBytes.{Appends}
-use Rattle.vms_gen.specs.Texts.{made_text}
+use Rattle.vms_gen.specs.Common.{made_text}
 use Rattle.vms_gen.specs.declared.numbers.Numbers.{Numbers}
-use Rattle.vms_replay.specs.MadePhases.{MadePhase}
-use Rattle.vms_replay.specs.ReplayAnswers.{SaysReplayed}
-use Rattle.vms_stream.specs.Answers.{FaultsOfSink}
-use Rattle.vms_stream.specs.Jobs.{Grows}
+use Rattle.vms_replay.specs.Common.{PastPhase, SaysReplayed}
+use Rattle.vms_stream.specs.Common.{FaultsOfSink, Grows}
 use Rattle.vms_stream.specs.declared.statuses.Status.{Status}
 use Rattle.vms_stream.specs.declared.statuses.Status.TheVariants.{ReadFault}
 use Rattle.vms_run.specs.Threads.{makes_on_threads}
 
 -- a run took the front of the text that these numbers make, wrote bytes to its sink, and made phases, by which what was
 -- kept before grew. The input ends where the whole text was taken, and no read fails
-pub record AnswersMade {K : Type 0} (numbers : Numbers) (kept kept' : List MadePhase) (held : K → Option (List ℕ))
+pub record AnswersMade {K : Type 0} (numbers : Numbers) (kept kept' : List PastPhase) (held : K → Option (List ℕ))
     (write_faults : K → ℕ) (out out' : K) (status : Status) : Type 0 where
-  pub made : List MadePhase
+  pub made : List PastPhase
   pub grows : Grows (Some kept) (Some kept') made
   pub taken : List ℕ
   pub left : List ℕ

@@ -2,36 +2,28 @@
 use Rattle.std.specs.Prelude.{◌≡◌, List, All, Result, IfOk}
 use Rattle.std.specs.Fn.{Shared}
 use denote.Ref.{Bor}
-use Rattle.vms_base.specs.declared.failures.Memory.{Memory}
-use Rattle.vms_base.specs.declared.headers.Header.{Header}
-use Rattle.vms_base.specs.Headers.{IsHeader}
-use Rattle.vms_answers.specs.PhaseAnswers.{NumberedAnswer, answers_of}
-use Rattle.vms_file_order.specs.WorldStarts.{IsStartOf}
-use Rattle.vms_merge.specs.Merging.{merged}
-use Rattle.vms_merge.specs.Told.{HasPlace, told_by}
+use Rattle.vms_world.specs.Common.{Memory, Header, IsHeader, Fits, Start, Item, left_by}
+use Rattle.vms_answers.specs.Common.{NumberedAnswer, answers_of, merged, HasPlace, told_by}
+use Rattle.vms_file_order.specs.Common.{IsStartOf}
 use Rattle.vms_phase.specs.declared.phases.PhaseDone.{PhaseDone}
-use Rattle.vms_phase.specs.SideBySide.{histories_of}
-use Rattle.vms_replay.specs.MadePhases.{MadePhase}
-use Rattle.vms_script.specs.FittingScripts.{Fits}
-use Rattle.vms_script.specs.Starts.{Start}
-use Rattle.vms_text.specs.declared.acts.Item.{Item}
+use Rattle.vms_phase.specs.Common.{histories_of}
+use Rattle.vms_replay.specs.Common.{PastPhase}
 use Rattle.vms_world.specs.declared.worlds.World.{World}
-use Rattle.vms_world.specs.Phases.{left_by}
 use Rattle.vms_run.specs.Threads.{makes_on_threads}
 
 -- the predicates of closures that are called at a header, a world and a script, and return a phase unless no memory is
 -- found
-abbrev pub Predicates : Type 0 → Type 1
-Predicates F = Shared F (Bor Header × (World × (Bor (List Item) × Unit {0}))) (Result PhaseDone Memory)
+abbrev pub RunnerPredicates : Type 0 → Type 1
+RunnerPredicates F = Shared F (Bor Header × (World × (Bor (List Item) × Unit {0}))) (Result PhaseDone Memory)
 
 -- a closure may be called with these lines of a phase from this world
-pub record Accepts {F : Type 0} (g : Predicates F) (f : F) (header : Header) (w : World) (items : List Item)
+pub record AcceptsPhase {F : Type 0} (g : RunnerPredicates F) (f : F) (header : Header) (w : World) (items : List Item)
     : Type 0 where
   pub callable : (shown : Bor Header) (script : Bor (List Item)) → shown.now ≡ header → script.now ≡ items
       → g.pre f (shown, (w, (script, tt)))
 
 -- what a closure may return then
-pub record Returns {F : Type 0} (g : Predicates F) (f : F) (header : Header) (w : World) (items : List Item)
+pub record ReturnsPhase {F : Type 0} (g : RunnerPredicates F) (f : F) (header : Header) (w : World) (items : List Item)
     (result : Result PhaseDone Memory) : Type 0 where
   pub shown : Bor Header
   pub script : Bor (List Item)
@@ -47,7 +39,7 @@ MayRun header w items = (start : Start) × IsStartOf header start w × Fits head
 -- what the lines answered. Each line's lane has its place among the answers
 pub record IsRun (header : Header) (w : World) (items : List Item) (done : PhaseDone) : Type 0 where
   pub makes : makes_on_threads header w items (histories_of done.histories)
-  pub world : done.world ≡ left_by header w (histories_of done.histories)
+  pub world : done.world ≡ left_by header w items (histories_of done.histories)
   pub answers : answers_of header w items (histories_of done.histories) ≡ merged items (told_by done.lanes.items)
   pub places : All (λ item. HasPlace done.lanes.items item.lane) items
 
@@ -62,13 +54,13 @@ pub record RunsPhases (accepts : Header → World → List Item → Type 0)
 -- an engine has a runner and the phases that were made
 pub record Running (F : Type 0) : Type 0 where
   pub runner : F
-  pub made : List MadePhase
+  pub made : List PastPhase
 
 -- a phase of these lines was run from a world and leaves another, and what its lines answered was told
 pub record IsOneRun (header : Header) (w : World) (items : List Item) (Told : List NumberedAnswer → Type 0)
-    (left : World) (phase : MadePhase) : Type 0 where
+    (left : World) (phase : PastPhase) : Type 0 where
   pub from : phase.world ≡ w
   pub of : phase.items ≡ items
   pub makes : makes_on_threads header w items phase.histories
-  pub world : left ≡ left_by header w phase.histories
+  pub world : left ≡ left_by header w items phase.histories
   pub answers : Told (answers_of header w items phase.histories)

@@ -1,12 +1,10 @@
 ghost use Rattle.std.specs.Prelude.{◌≡◌, ◌++◌, [], List, All, OnOk, length};
-ghost use Rattle.vms_answers.specs.PhaseAnswers.{NumberedAnswer};
-ghost use Rattle.vms_merge.specs.Merging.{merged, taken, with_told};
-ghost use Rattle.vms_merge.specs.Told.{HasPlace, left_of, told_by};
-ghost use Rattle.vms_text.specs.declared.acts.Lane.{Lane};
+ghost use Rattle.vms_answers.specs.Common.{NumberedAnswer, merged, taken_answer, with_told, HasPlace, left_of, told_by};
+ghost use Rattle.vms_world.specs.Common.{Lane};
 
 use std::alloc::Global;
+use vms_answers::{LaneAnswers, take_answer};
 use vms_base::{Header, Memory, Row};
-use vms_merge::{LaneAnswers, take_answer};
 use vms_replay_phase::AnswerTaker;
 use vms_text::Item;
 
@@ -44,9 +42,11 @@ fn hand_line<A: AnswerTaker>(
     ensures one_each { length counts.new ≡ length lanes.now }
     ensures takes { OnOk result ((first : A) (before : List NumberedAnswer) →
         A.Takes header.now first before taker.old → A.Takes header.now first
-        (before ++ (taken item.now.number (left_of lanes.now counts.old item.now.lane)).0) taker.new) }
+        (before ++ (taken_answer item.now.number (left_of lanes.now counts.old item.now.lane)).0)
+        taker.new) }
     ensures left { (lane : Lane) → left_of lanes.now counts.new lane
-        ≡ with_told item.now.lane (taken item.now.number (left_of lanes.now counts.old item.now.lane)).1
+        ≡ with_told item.now.lane
+        (taken_answer item.now.number (left_of lanes.now counts.old item.now.lane)).1
         (left_of lanes.now counts.old) lane }
 {
     match take_answer(lanes, counts, item) {

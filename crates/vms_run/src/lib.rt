@@ -3,6 +3,7 @@
 #![tactic(auto)]
 
 mod handing;
+mod memos;
 mod run_phases;
 mod runners;
 mod running;
@@ -10,7 +11,9 @@ mod threads;
 mod tool;
 
 pub use handing::hand_on;
+pub use memos::Memo;
 pub use run_phases::{Histories, RunPhase};
 pub use runners::PhaseRunner;
 pub use threads::OnThreads;
 pub use tool::{tool_gen, tool_run};
+pub use vms_phase::{Gate, OpenGate};

@@ -1,7 +1,7 @@
+use crate::Memo;
 use std::alloc::Global;
 use std::marker::Model;
 use vms_base::Memory;
-use vms_memo::Memo;
 use vms_phase::ClosedHistories;
 use vms_script::PhaseScript;
 use vms_world::World;
@@ -16,11 +16,11 @@ pub struct RunPhase {
 }
 
 impl Model for RunPhase {
-    ghost use Rattle.vms_replay.specs.MadePhases.{MadePhase};
+    ghost use Rattle.vms_replay.specs.Common.{PastPhase};
 
-    ghost Value = { MadePhase };
+    ghost Value = { PastPhase };
 
-    ghost use Rattle.vms_phase.specs.SideBySide.{histories_of};
+    ghost use Rattle.vms_phase.specs.Common.{histories_of};
 
     ghost view = { λ phase. record {
       world = phase.world;
@@ -37,9 +37,9 @@ pub struct Histories {
 
 impl Model for Histories {
     ghost use Rattle.std.specs.Prelude.{List, vec_items};
-    ghost use Rattle.vms_replay.specs.MadePhases.{MadePhase};
+    ghost use Rattle.vms_replay.specs.Common.{PastPhase};
 
-    ghost Value = { List MadePhase };
+    ghost Value = { List PastPhase };
 
     ghost view = { λ made. vec_items made.phases };
 }

@@ -6,10 +6,8 @@ use vms_world::World;
 /// What runs the lines of a phase from a world. Every closure over them is one.
 pub trait PhaseRunner: Drop {
     ghost use Rattle.std.specs.Prelude.{List, Result};
-    ghost use Rattle.vms_base.specs.declared.failures.Memory.{Memory};
-    ghost use Rattle.vms_base.specs.declared.headers.Header.{Header};
+    ghost use Rattle.vms_world.specs.Common.{Memory, Header, Item};
     ghost use Rattle.vms_phase.specs.declared.phases.PhaseDone.{PhaseDone};
-    ghost use Rattle.vms_text.specs.declared.acts.Item.{Item};
     ghost use Rattle.vms_world.specs.declared.worlds.World.{World};
 
     // The runner may be called with these lines of a phase from this world.
@@ -24,11 +22,11 @@ pub trait PhaseRunner: Drop {
 }
 
 impl<F: Fn(&Header, World, &PhaseScript) -> Result<PhaseDone, Memory>> PhaseRunner for F {
-    ghost use Rattle.vms_run.specs.Runners.{Accepts, Returns};
+    ghost use Rattle.vms_run.specs.Runners.{AcceptsPhase, ReturnsPhase};
 
-    ghost accepts = { Accepts F.Fn };
+    ghost accepts = { AcceptsPhase F.Fn };
 
-    ghost returns = { Returns F.Fn };
+    ghost returns = { ReturnsPhase F.Fn };
 
     fn run(
         &self,

@@ -1,16 +1,10 @@
 ghost use Rattle.std.specs.Prelude.{◌≡◌, All, IfOk};
-ghost use Rattle.vms_answers.specs.PhaseAnswers.{answers_of};
-ghost use Rattle.vms_base.specs.Headers.{IsHeader};
-ghost use Rattle.vms_base.specs.Thresholds.{normal_threshold_of, pressure_threshold_of};
-ghost use Rattle.vms_calc.specs.Rules.{IsThresholdRule};
-ghost use Rattle.vms_file_order.specs.WorldStarts.{IsStartOf};
-ghost use Rattle.vms_merge.specs.Merging.{merged};
-ghost use Rattle.vms_merge.specs.Told.{HasPlace, told_by};
-ghost use Rattle.vms_phase.specs.SideBySide.{histories_of};
-ghost use Rattle.vms_replay.specs.KernelRules.{GoesBy};
-ghost use Rattle.vms_script.specs.FittingScripts.{Fits};
-ghost use Rattle.vms_script.specs.Starts.{Start};
-ghost use Rattle.vms_world.specs.Phases.{left_by};
+ghost use Rattle.vms_answers.specs.Common.{answers_of, merged, HasPlace, told_by};
+ghost use Rattle.vms_world.specs.Common.{IsHeader, normal_threshold_of, pressure_threshold_of, IsThresholdRule, Fits};
+ghost use Rattle.vms_world.specs.Common.{Start, left_by};
+ghost use Rattle.vms_file_order.specs.Common.{IsStartOf};
+ghost use Rattle.vms_phase.specs.Common.{histories_of};
+ghost use Rattle.vms_replay.specs.Common.{GoesBy};
 ghost use Rattle.vms_run.specs.Runners.{IsRun, MayRun};
 ghost use Rattle.vms_run.specs.Threads.{makes_on_threads};
 
@@ -19,8 +13,7 @@ use std::sync::Wait;
 use std::thread::Threads;
 use vms_base::{Header, Memory, ZoneSize};
 use vms_calc::{Rule, Rules, normal_threshold, pressure_threshold};
-use vms_gate::Gate;
-use vms_phase::{PhaseDone, run_phase};
+use vms_phase::{Gate, PhaseDone, run_phase};
 use vms_script::PhaseScript;
 use vms_world::World;
 
@@ -67,7 +60,7 @@ fn run_by<R: Threads + Wait + Sync, G: Gate, N: Rule + Sync, P: Rule + Sync>(
     requires exact_normal { GoesBy normal_threshold_of (N.answers normal) }
     requires exact_pressure { GoesBy pressure_threshold_of (P.answers pressure) }
     ensures makes { IfOk result (λ done. makes_on_threads header.now world script.now (histories_of done.histories)) }
-    ensures world { IfOk result (λ done. done.world ≡ left_by header.now world (histories_of done.histories)) }
+    ensures world { IfOk result (λ done. done.world ≡ left_by header.now world script.now (histories_of done.histories)) }
     ensures answers { IfOk result (λ done. answers_of header.now world script.now (histories_of done.histories)
         ≡ merged script.now (told_by done.lanes.items)) }
     ensures places { IfOk result (λ done. All (λ item. HasPlace done.lanes.items item.lane) script.now) }

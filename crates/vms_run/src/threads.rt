@@ -1,10 +1,9 @@
-use crate::PhaseRunner;
 use crate::handing::hand_on;
 use crate::run_phases::{Histories, RunPhase};
+use crate::{Memo, PhaseRunner};
 use std::alloc::Global;
 use std::marker::Model;
 use vms_base::{Header, Memory};
-use vms_memo::Memo;
 use vms_phase::PhaseDone;
 use vms_replay::{Engine, WaitPrinter};
 use vms_script::PhaseScript;
@@ -75,8 +74,8 @@ impl<F: PhaseRunner> Engine for OnThreads<F> {
 }
 
 ghost use Rattle.std.specs.Prelude.{IfOk};
-ghost use Rattle.vms_base.specs.Headers.{IsHeader};
-ghost use Rattle.vms_replay.specs.Printing.{Prints};
+ghost use Rattle.vms_world.specs.Common.{IsHeader};
+ghost use Rattle.vms_replay.specs.Common.{Prints};
 ghost use Rattle.vms_run.specs.Runners.{IsOneRun, MayRun, RunsPhases};
 
 /// Has a phase run, and hands on what its lines answered. Returns the world that it leaves, and the phase.

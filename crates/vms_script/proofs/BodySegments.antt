@@ -4,22 +4,19 @@ use Rattle.std.proofs.Common.{append-nil, length, Result, ◌≢◌}
 use Rattle.std.specs.Prelude.{reverse}
 use Rattle.std.proofs.lemmas.List.Elements.{All-cons, All-nil}
 use Rattle.vms_base.specs.declared.headers.Header.{Header}
-use Rattle.vms_base.specs.Headers.{IsHeader}
+use Rattle.vms_base.specs.Common.{IsHeader}
 use Rattle.vms_text.specs.declared.acts.Boundary.{Boundary as BoundaryOf}
 use Rattle.vms_text.specs.declared.acts.Item.{Item}
 use Rattle.vms_text.specs.declared.acts.Line.{Line}
 use Rattle.vms_text.specs.declared.acts.Line.TheVariants.{Blank, Lane, Boundary}
 use Rattle.vms_line.specs.declared.causes.LineCause.{LineCause}
-use Rattle.vms_line.specs.Laws.{IsLineOf}
-use Rattle.vms_script.specs.Judging.{allowed_from, counted, counted_of, judged}
-use Rattle.vms_script.specs.Segments.{AreSegments, BoundariesCut, LinesMakeOnePhase, SegmentsHaveAllLines}
-use Rattle.vms_script.specs.Segments.{SegmentsMayStand}
-use Rattle.vms_script.specs.Segments.{NumberedLine, numbered_lines, kept_of, phase_if_any, with_kept}
-use Rattle.vms_script.specs.Segments.{lines_of_segments, segments_of, with_item, segments_with, Segment}
+use Rattle.vms_line.specs.Common.{IsLineOf}
+use Rattle.vms_script.specs.Common.{allowed_from, with_counted, counted_of, judged, AreSegments, BoundariesCut}
+use Rattle.vms_script.specs.Common.{LinesMakeOnePhase, SegmentsHaveAllLines, SegmentsMayStand, NumberedLine}
+use Rattle.vms_script.specs.Common.{numbered_lines, kept_items, phase_if_any, with_kept, lines_of_segments, segments_of}
+use Rattle.vms_script.specs.Common.{segments_with_item, segments_with, Segment, Script, script_with_line, Start}
+use Rattle.vms_script.specs.Common.{first_start, start_after, start_past, line_of}
 use Rattle.vms_script.specs.Segments.Segment.{Phase, Between}
-use Rattle.vms_script.specs.Scripts.{Script, with_line}
-use Rattle.vms_script.specs.Starts.{Start, first_start, start_after, start_past}
-use Rattle.vms_script.specs.Totals.{line_of}
 use Rattle.vms_script.proofs.Fitting.{Fits-first, Fits-none, reverse-onto}
 use Rattle.vms_script.proofs.Known.{judged_from-allowed, judged-known}
 
@@ -30,7 +27,7 @@ AreAbove m (Phase items ∷ segments) = All (λ (i : Item). m < i.number) items
 AreAbove m (Between number boundary ∷ segments) = Unit {0}
 
 AreAbove-item : (m : ℕ) (item : Item) (segments : List Segment) → m < item.number → AreAbove m segments
-    → AreAbove m (with_item item segments)
+    → AreAbove m (segments_with_item item segments)
 AreAbove-item m item [] above are =
     All-cons (λ (i : Item). m < i.number) item [] above (All-nil (λ (i : Item). m < i.number))
 AreAbove-item m item (Phase items ∷ segments) above are = All-cons (λ (i : Item). m < i.number) item items above are
@@ -50,14 +47,14 @@ segments_of-above : (header : Header) (above : List Line) (m n : ℕ) (texts : L
 segments_of-above header above m n [] later = tt
 segments_of-above header above m n (text ∷ texts) later =
     AreAbove-line m n (judged header above text) _ later
-    (segments_of-above header (counted (judged header above text) above) m (suc n) texts (omega (arith, later)))
+    (segments_of-above header (with_counted (judged header above text) above) m (suc n) texts (omega (arith, later)))
 
 module _ (header : Header) where
   -- segments with a lane line before them
   AreSegments-item : (start : Start) (item : Item) (segments : List Segment) → IsLineOf header (line_of item)
       → allowed_from header start (line_of item) ≡ Ok (line_of item) → AreAbove item.number segments
       → AreSegments header (start_past (line_of item) start) segments
-      → AreSegments header start (with_item item segments)
+      → AreSegments header start (segments_with_item item segments)
   AreSegments-item start item [] known is above are = (
     (
       (λ e. absurd cc),
@@ -90,7 +87,7 @@ module _ (header : Header) where
           → ((more : List Line)
           → AreSegments header (start_after first_start more) (segments_of (numbered_lines header more (suc n) texts)))
           → AreSegments header (start_after first_start above)
-          (segments_with n result (segments_of (numbered_lines header (counted result above) (suc n) texts)))
+          (segments_with n result (segments_of (numbered_lines header (with_counted result above) (suc n) texts)))
       by (Ok Blank) is rest = rest above
       by (Ok (Lane lane act)) is rest =
           AreSegments-item (start_after first_start above) (record { number = n; lane = lane; act = act }) _
@@ -115,22 +112,22 @@ module _ (header : Header) where
   lines_of_segments-lines above n (text ∷ texts) =
       by (judged header above text) (λ more. lines_of_segments-lines more (suc n) texts)
     where
-      with_item-lines : (item : Item) (segments : List Segment)
-          → lines_of_segments (with_item item segments) ≡ line_of item ∷ lines_of_segments segments
-      with_item-lines item [] = refl
-      with_item-lines item (Phase items ∷ segments) = refl
-      with_item-lines item (Between number boundary ∷ segments) = refl
+      segments_with_item-lines : (item : Item) (segments : List Segment)
+          → lines_of_segments (segments_with_item item segments) ≡ line_of item ∷ lines_of_segments segments
+      segments_with_item-lines item [] = refl
+      segments_with_item-lines item (Phase items ∷ segments) = refl
+      segments_with_item-lines item (Between number boundary ∷ segments) = refl
 
       by : (result : Result Line LineCause)
           → ((more : List Line)
           → reverse (lines_of_segments (segments_of (numbered_lines header more (suc n) texts))) ++ more
           ≡ counted_of header more texts)
           → reverse (lines_of_segments (segments_with n result
-          (segments_of (numbered_lines header (counted result above) (suc n) texts)))) ++ above
-          ≡ counted_of header (counted result above) texts
+          (segments_of (numbered_lines header (with_counted result above) (suc n) texts)))) ++ above
+          ≡ counted_of header (with_counted result above) texts
       by (Ok Blank) rest = rest above
       by (Ok (Lane lane act)) rest =
-          ap (λ (lines : List Line). reverse lines ++ above) (with_item-lines
+          ap (λ (lines : List Line). reverse lines ++ above) (segments_with_item-lines
           (record { number = n; lane = lane; act = act })
           (segments_of (numbered_lines header (Lane lane act ∷ above) (suc n) texts)))
           ∙ sym (reverse-onto (Lane lane act)
@@ -151,11 +148,12 @@ SegmentsHaveAllLines-holds header n texts =
     ∙ lines_of_segments-lines header [] n texts
 
 -- segments with more after a boundary line
-with_item-cut : (item : Item) (segments : List Segment) (n : ℕ) (boundary : BoundaryOf) (after : List Segment)
-    → with_item item (segments ++ Between n boundary ∷ after) ≡ with_item item segments ++ Between n boundary ∷ after
-with_item-cut item [] n boundary after = refl
-with_item-cut item (Phase items ∷ segments) n boundary after = refl
-with_item-cut item (Between number other ∷ segments) n boundary after = refl
+segments_with_item-cut : (item : Item) (segments : List Segment) (n : ℕ) (boundary : BoundaryOf) (after : List Segment)
+    → segments_with_item item (segments ++ Between n boundary ∷ after) ≡ segments_with_item item segments
+    ++ Between n boundary ∷ after
+segments_with_item-cut item [] n boundary after = refl
+segments_with_item-cut item (Phase items ∷ segments) n boundary after = refl
+segments_with_item-cut item (Between number other ∷ segments) n boundary after = refl
 
 segments_with-cut : (m : ℕ) (result : Result Line LineCause) (segments : List Segment) (n : ℕ) (boundary : BoundaryOf)
     (after : List Segment)
@@ -163,7 +161,7 @@ segments_with-cut : (m : ℕ) (result : Result Line LineCause) (segments : List 
     ≡ segments_with m result segments ++ Between n boundary ∷ after
 segments_with-cut m (Ok Blank) segments n boundary after = refl
 segments_with-cut m (Ok (Lane lane act)) segments n boundary after =
-    with_item-cut (record { number = m; lane = lane; act = act }) segments n boundary after
+    segments_with_item-cut (record { number = m; lane = lane; act = act }) segments n boundary after
 segments_with-cut m (Ok (Boundary other)) segments n boundary after = refl
 segments_with-cut m (Err cause) segments n boundary after = refl
 
@@ -188,7 +186,7 @@ LinesMakeOnePhase-holds [] none = refl
 LinesMakeOnePhase-holds (line ∷ lines) none =
     ap (segments_with line.number line.result)
     (LinesMakeOnePhase-holds lines (λ k d within. none (suc k) d (omega arith)))
-    ∙ segments_with-one line.number line.result (kept_of lines) (none 0 line (omega arith))
+    ∙ segments_with-one line.number line.result (kept_items lines) (none 0 line (omega arith))
 
 -- lines that stand after others are numbered on
 pub numbered_lines-append : (header : Header) (above : List Line) (n : ℕ) (texts more : List (List ℕ))
@@ -199,9 +197,9 @@ numbered_lines-append header above n [] more =
     ap (λ (m : ℕ). numbered_lines header above m more) (omega arith)
 numbered_lines-append header above n (text ∷ texts) more =
     ap (λ (lines : List NumberedLine). record { number = n; result = judged header above text } ∷ lines)
-    (numbered_lines-append header (counted (judged header above text) above) (suc n) texts more
-    ∙ ap (λ (m : ℕ). numbered_lines header (counted (judged header above text) above) (suc n) texts
-    ++ numbered_lines header (counted_of header (counted (judged header above text) above) texts) m more)
+    (numbered_lines-append header (with_counted (judged header above text) above) (suc n) texts more
+    ∙ ap (λ (m : ℕ). numbered_lines header (with_counted (judged header above text) above) (suc n) texts
+    ++ numbered_lines header (counted_of header (with_counted (judged header above text) above) texts) m more)
     (omega arith))
 
 -- the lane lines that count of lines that stand after others
@@ -212,20 +210,22 @@ with_kept-append n (Ok (Lane lane act)) items more = refl
 with_kept-append n (Ok (Boundary boundary)) items more = refl
 with_kept-append n (Err cause) items more = refl
 
-pub kept_of-append : (lines more : List NumberedLine) → kept_of (lines ++ more) ≡ kept_of lines ++ kept_of more
-kept_of-append [] more = refl
-kept_of-append (line ∷ lines) more =
-    ap (with_kept line.number line.result) (kept_of-append lines more)
-    ∙ with_kept-append line.number line.result (kept_of lines) (kept_of more)
+pub kept_items-append : (lines more : List NumberedLine) →
+    kept_items (lines ++ more) ≡ kept_items lines ++ kept_items more
+kept_items-append [] more = refl
+kept_items-append (line ∷ lines) more =
+    ap (with_kept line.number line.result) (kept_items-append lines more)
+    ∙ with_kept-append line.number line.result (kept_items lines) (kept_items more)
 
 -- a scripter that holds the lane lines of some lines holds those with line n too, if that was fed to it
-pub kept_of-fed : (n : ℕ) (line : Line) (script : Script) (lines : List NumberedLine) → kept_of lines ≡ script.items
-    → kept_of (lines ++ record { number = n; result = Ok line } ∷ []) ≡ (with_line n line script).items
-kept_of-fed n Blank script lines holds =
-    kept_of-append lines (record { number = n; result = Ok Blank } ∷ []) ∙ append-nil (kept_of lines) ∙ holds
-kept_of-fed n (Lane lane act) script lines holds =
-    kept_of-append lines (record { number = n; result = Ok (Lane lane act) } ∷ [])
+pub kept_items-fed : (n : ℕ) (line : Line) (script : Script) (lines : List NumberedLine) →
+    kept_items lines ≡ script.items
+    → kept_items (lines ++ record { number = n; result = Ok line } ∷ []) ≡ (script_with_line n line script).items
+kept_items-fed n Blank script lines holds =
+    kept_items-append lines (record { number = n; result = Ok Blank } ∷ []) ∙ append-nil (kept_items lines) ∙ holds
+kept_items-fed n (Lane lane act) script lines holds =
+    kept_items-append lines (record { number = n; result = Ok (Lane lane act) } ∷ [])
     ∙ ap (λ (items : List Item). items ++ record { number = n; lane = lane; act = act } ∷ []) holds
-kept_of-fed n (Boundary boundary) script lines holds =
-    kept_of-append lines (record { number = n; result = Ok (Boundary boundary) } ∷ [])
-    ∙ append-nil (kept_of lines) ∙ holds
+kept_items-fed n (Boundary boundary) script lines holds =
+    kept_items-append lines (record { number = n; result = Ok (Boundary boundary) } ∷ [])
+    ∙ append-nil (kept_items lines) ∙ holds

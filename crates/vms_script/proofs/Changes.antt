@@ -1,8 +1,7 @@
 -- For other crates too: what an act changes the totals by.
-use Rattle.std.proofs.Common.{◌≡◌, ℕ, ℤ, pos, negsuc, ◌+ℤ◌, ◌+◌, ◌<◌, ◌≤◌, ◌^◌, List, [], ◌∷◌, length, drop}
-use Rattle.std.proofs.Common.{get_or, set, length-set, get_or-set_same, get_or-set_other, nat_eq, if◌then◌else◌}
-use Rattle.std.proofs.Common.{unsigned_abs, refl, sym, ap, subst, ◌∙◌, arith, inl, inr, Some, None, All, IfSome, w64}
-use Rattle.std.proofs.Common.{FitsSigned}
+use Rattle.std.proofs.Common.{◌≡◌, ℕ, ℤ, pos, negsuc, ◌+ℤ◌, ◌+◌, ◌<◌, ◌≤◌, ◌^◌, List, [], ◌∷◌, length, drop, get_or}
+use Rattle.std.proofs.Common.{set, length-set, get_or-set_same, get_or-set_other, nat_eq, if◌then◌else◌, unsigned_abs}
+use Rattle.std.proofs.Common.{refl, sym, ap, subst, ◌∙◌, arith, inl, inr, Some, None, All, IfSome, w64, FitsSigned}
 use Rattle.std.proofs.lemmas.Bool.{cases_eq}
 use Rattle.std.proofs.lemmas.Bool.Decides.{nat_tests}
 use Rattle.std.proofs.lemmas.Int.{ints, fits_signed_from_abs}
@@ -10,27 +9,25 @@ use Rattle.std.proofs.lemmas.List.{at_drop_more}
 use Rattle.std.proofs.lemmas.List.Elements.{All-get_or}
 use Rattle.vms_base.specs.declared.ids.CounterId.{CounterId}
 use Rattle.vms_base.specs.declared.headers.Header.{Header}
-use Rattle.vms_base.specs.Headers.{IsHeader}
-use Rattle.vms_base.specs.Places.{counter_count}
+use Rattle.vms_base.specs.Common.{IsHeader, counter_count}
 use Rattle.vms_text.specs.declared.acts.Act.{Act}
 use Rattle.vms_text.specs.declared.acts.Act.TheVariants.{Mod, Inc, Dec, Ev}
 use Rattle.vms_text.specs.declared.acts.Item.{Item}
 use Rattle.vms_text.specs.declared.acts.Lane.{Lane}
-use Rattle.vms_line.specs.Laws.{IsActOf, IsLineOf}
-use Rattle.vms_script.specs.Totals.{ArePhases, HasTotal, line_of, plain_total, change_by, change_of, changes_by}
-use Rattle.vms_script.specs.Totals.{sizes_by, changes_by_all, sizes_by_all}
-use Rattle.vms_script.specs.Volumes.{spent_on_counter}
+use Rattle.vms_line.specs.Common.{IsActOf, IsLineOf}
+use Rattle.vms_script.specs.Common.{ArePhases, HasTotal, line_of, plain_total, change_by, act_change, changes_by}
+use Rattle.vms_script.specs.Common.{sizes_by, changes_by_all, sizes_by_all, spent_on_counter}
 use Rattle.vms_script.proofs.Sizes.{sizes_by_all-most}
 
 -- what changes the totals, of an act that changes none and of one that changes one
-pub change_by-none : (k : ℕ) (act : Act) → change_of act ≡ None → change_by k act ≡ pos 0
+pub change_by-none : (k : ℕ) (act : Act) → act_change act ≡ None → change_by k act ≡ pos 0
 change_by-none k (Mod counter pages) none = cc
 change_by-none k (Inc counter) none = cc
 change_by-none k (Dec counter) none = cc
 change_by-none k (Ev event n) none = refl
 change_by-none k _ none = refl
 
-pub change_by-some : (k : ℕ) (act : Act) (change : CounterId × ℤ) → change_of act ≡ Some change
+pub change_by-some : (k : ℕ) (act : Act) (change : CounterId × ℤ) → act_change act ≡ Some change
     → change_by k act ≡ (if nat_eq change.0.number k then change.1 else pos 0)
 change_by-some k (Mod counter pages) change some = cc
 change_by-some k (Inc counter) change some = cc
@@ -57,7 +54,7 @@ unsigned_abs-changes_by k (item ∷ items) =
     omega (arith, ints, unsigned_abs-change_by k item.act, unsigned_abs-changes_by k items)
 
 -- the totals with a change of one
-pub change_by-set : (totals : List ℤ) (act : Act) (change : CounterId × ℤ) (k : ℕ) → change_of act ≡ Some change
+pub change_by-set : (totals : List ℤ) (act : Act) (change : CounterId × ℤ) (k : ℕ) → act_change act ≡ Some change
     → change.0.number < length totals
     → get_or (set totals change.0.number (get_or totals change.0.number (pos 0) +ℤ change.1)) k (pos 0)
     ≡ get_or totals k (pos 0) +ℤ change_by k act
@@ -75,7 +72,7 @@ change_by-set totals act change k some within = elim (cases_eq change.0.number k
 ]
 
 -- the size of the change of the counter that it is of
-pub spent_on_counter-some : (act : Act) (change : CounterId × ℤ) → change_of act ≡ Some change
+pub spent_on_counter-some : (act : Act) (change : CounterId × ℤ) → act_change act ≡ Some change
     → spent_on_counter change.0.number act ≡ unsigned_abs change.1
 spent_on_counter-some act change some =
     let by : change_by change.0.number act ≡ change.1 =
@@ -92,10 +89,10 @@ HasTotal-of header lane (Ev event n) totals each known = tt
 HasTotal-of header lane _ totals each known = tt
 
 -- the total that an item of a phase changes
-pub change_of-within : (totals first : List ℤ) (items : List Item) (i : ℕ) (d : Item) (change : CounterId × ℤ)
-    → i < length items → change_of (get_or items i d).act ≡ Some change → length totals ≡ length first
+pub act_change-within : (totals first : List ℤ) (items : List Item) (i : ℕ) (d : Item) (change : CounterId × ℤ)
+    → i < length items → act_change (get_or items i d).act ≡ Some change → length totals ≡ length first
     → All (λ item. HasTotal first item.act) items → change.0.number < length totals
-change_of-within totals first items i d change here some each known =
+act_change-within totals first items i d change here some each known =
     let has : HasTotal first (get_or items i d).act =
     All-get_or (λ item. HasTotal first item.act) items i d here known in
     let within : change.0.number < length first =
@@ -136,7 +133,7 @@ Leads-item count wanted items i d totals totals' here each changed leads =
 
 -- past an item that changes none, and one that changes one
 pub Leads-unchanged : (count : ℕ) (wanted : ℕ → ℤ) (items : List Item) (i : ℕ) (d : Item) (totals : List ℤ)
-    → i < length items → change_of (get_or items i d).act ≡ None
+    → i < length items → act_change (get_or items i d).act ≡ None
     → Leads count wanted (λ k. changes_by k (drop i items)) (λ k. sizes_by k (drop i items)) totals
     → Leads count wanted (λ k. changes_by k (drop (i + 1) items)) (λ k. sizes_by k (drop (i + 1) items)) totals
 Leads-unchanged count wanted items i d totals here none leads =
@@ -144,7 +141,7 @@ Leads-unchanged count wanted items i d totals here none leads =
     (λ k within. omega (arith, ints, change_by-none k (get_or items i d).act none)) leads
 
 pub Leads-some : (count : ℕ) (wanted : ℕ → ℤ) (items : List Item) (i : ℕ) (d : Item) (totals : List ℤ)
-    → (change : CounterId × ℤ) (value : ℤ) → i < length items → change_of (get_or items i d).act ≡ Some change
+    → (change : CounterId × ℤ) (value : ℤ) → i < length items → act_change (get_or items i d).act ≡ Some change
     → change.0.number < length totals → value ≡ get_or totals change.0.number (pos 0) +ℤ change.1
     → Leads count wanted (λ k. changes_by k (drop i items)) (λ k. sizes_by k (drop i items)) totals
     → Leads count wanted (λ k. changes_by k (drop (i + 1) items)) (λ k. sizes_by k (drop (i + 1) items))
@@ -157,7 +154,7 @@ Leads-some count wanted items i d totals change value here some within is leads 
 
 -- the total that an item changes has room for that
 pub change-fits : (count : ℕ) (wanted : ℕ → ℤ) (items : List Item) (i : ℕ) (d : Item) (totals : List ℤ)
-    → (change : CounterId × ℤ) → i < length items → change_of (get_or items i d).act ≡ Some change
+    → (change : CounterId × ℤ) → i < length items → act_change (get_or items i d).act ≡ Some change
     → change.0.number < length totals
     → Leads count wanted (λ k. changes_by k (drop i items)) (λ k. sizes_by k (drop i items)) totals
     → FitsSigned w64 (get_or totals change.0.number (pos 0) +ℤ change.1)

@@ -7,9 +7,8 @@ use Rattle.vms_base.specs.declared.kinds.CpuState.{CpuState}
 use Rattle.vms_base.specs.declared.kinds.CpuState.TheVariants.{Online as IsOnline, Dead as IsDead, Absent}
 use Rattle.vms_text.specs.declared.acts.Line.{Line}
 use Rattle.vms_script.specs.declared.cpus.CpuStates.{CpuStates}
-use Rattle.vms_script.specs.Cpus.{cpu_state, state_past, online_count, online_below}
-use Rattle.vms_base.specs.Cpus.{is_online}
-use Rattle.vms_script.specs.JudgeStates.{TellsCpus}
+use Rattle.vms_script.specs.Common.{cpu_state, state_past, online_count, online_below, TellsCpuStates}
+use Rattle.vms_base.specs.Common.{is_online}
 
 -- how many are online, with one CPU more
 online_count-onto : (s : CpuState) (m : ℕ) → (if is_online s then suc m else m) ≡ m + online_count s
@@ -84,21 +83,21 @@ module _ (lines : List Line) (line : Line) where
   ]
 
   -- the states after a line that changes none
-  pub TellsCpus-still : (cpus : ℕ) (states : CpuStates) → ((k : ℕ) (s : CpuState) → state_past k line s ≡ s)
-      → TellsCpus cpus lines states → TellsCpus cpus (line ∷ lines) states
-  TellsCpus-still cpus states same tells = record {
+  pub TellsCpuStates-still : (cpus : ℕ) (states : CpuStates) → ((k : ℕ) (s : CpuState) → state_past k line s ≡ s)
+      → TellsCpuStates cpus lines states → TellsCpuStates cpus (line ∷ lines) states
+  TellsCpuStates-still cpus states same tells = record {
     each = tells.each;
     state = λ k within. tells.state k within ∙ sym (same k (cpu_state k lines));
     online = tells.online ∙ sym (online_below-same cpus (λ k s below. same k s));
   }
 
   -- the states after a line that changes that of CPU c
-  pub TellsCpus-set : (cpus c : ℕ) (state : CpuState) (old new : CpuStates) → ((k : ℕ) (s : CpuState) → k ≢ c
+  pub TellsCpuStates-set : (cpus c : ℕ) (state : CpuState) (old new : CpuStates) → ((k : ℕ) (s : CpuState) → k ≢ c
       → state_past k line s ≡ s)
       → state_past c line (cpu_state c lines) ≡ state → c < cpus → new.states ≡ set old.states c state
       → new.online + online_count (get_or old.states c IsOnline) ≡ old.online + online_count state
-      → TellsCpus cpus lines old → TellsCpus cpus (line ∷ lines) new
-  TellsCpus-set cpus c state old new same becomes within states online tells = record {
+      → TellsCpuStates cpus lines old → TellsCpuStates cpus (line ∷ lines) new
+  TellsCpuStates-set cpus c state old new same becomes within states online tells = record {
     each = ap length states ∙ length-set old.states c state ∙ tells.each;
     state = λ k below. elim (cases_eq k c) [
       | inl is ↦ subst (λ j. get_or new.states j IsOnline ≡ cpu_state j (line ∷ lines)) (sym is)

@@ -15,15 +15,14 @@ use Rattle.vms_text.specs.declared.acts.Line.{Line}
 use Rattle.vms_text.specs.declared.acts.Line.TheVariants.{Blank, Lane, Boundary}
 use Rattle.vms_line.specs.declared.causes.LineCause.{LineCause}
 use Rattle.vms_line.specs.declared.causes.LineCause.TheVariants.{NotOnline, NotDead, NotFolded, LastCpu}
-use Rattle.vms_line.specs.Laws.{IsLineOf}
+use Rattle.vms_line.specs.Common.{IsLineOf}
 use Rattle.vms_script.specs.declared.cpus.CpuStates.{CpuStates}
 use Rattle.vms_script.specs.declared.judges.LineJudge.{LineJudge}
-use Rattle.vms_script.specs.Cpus.{cpu_state, state_past, online_below, online_count}
-use Rattle.vms_base.specs.Cpus.{is_online}
-use Rattle.vms_script.specs.Judging.{allowed, counted}
-use Rattle.vms_script.specs.JudgeStates.{Decides, Stands}
-use Rattle.vms_script.proofs.CpuCounts.{TellsCpus-set}
-use Rattle.vms_script.proofs.JudgeStateLaws.{KeepsSums, Stands-moved, Stands-still}
+use Rattle.vms_script.specs.Common.{cpu_state, state_past, online_below, online_count, allowed, with_counted, Decides}
+use Rattle.vms_script.specs.Common.{JudgeStands}
+use Rattle.vms_base.specs.Common.{is_online}
+use Rattle.vms_script.proofs.CpuCounts.{TellsCpuStates-set}
+use Rattle.vms_script.proofs.JudgeStateLaws.{KeepsSums, JudgeStands-moved, JudgeStands-still}
 
 -- a blank line is no line that counts
 pub Decides-blank : (judge : LineJudge) → Decides Blank judge judge (Ok tt)
@@ -31,7 +30,7 @@ Decides-blank judge = record { by = λ header lines is line stands. (refl, stand
 
 -- a line that is refused leaves the judge
 pub Decides-refused : (line : Line) (judge : LineJudge) (cause : LineCause)
-    → ((header : Header) (lines : List Line) → IsLineOf header line → Stands header lines judge
+    → ((header : Header) (lines : List Line) → IsLineOf header line → JudgeStands header lines judge
     → allowed header lines line ≡ Err cause)
     → Decides line judge judge (Err cause)
 Decides-refused line judge cause why =
@@ -39,14 +38,14 @@ Decides-refused line judge cause why =
 
 -- a line that counts
 pub Decides-kept : (line : Line) (judge judge' : LineJudge) → ((lines : List Line)
-    → counted (Ok line) lines ≡ line ∷ lines)
-    → ((header : Header) (lines : List Line) → IsLineOf header line → Stands header lines judge
-    → (allowed header lines line ≡ Ok line) × Stands header (line ∷ lines) judge')
+    → with_counted (Ok line) lines ≡ line ∷ lines)
+    → ((header : Header) (lines : List Line) → IsLineOf header line → JudgeStands header lines judge
+    → (allowed header lines line ≡ Ok line) × JudgeStands header (line ∷ lines) judge')
     → Decides line judge judge' (Ok tt)
 Decides-kept line judge judge' counts why = record {
   by = λ header lines is is_line stands.
       let found = why header lines is_line stands in
-      (sym found.0, subst (λ (above : List Line). Stands header above judge') (sym (counts lines)) found.1);
+      (sym found.0, subst (λ (above : List Line). JudgeStands header above judge') (sym (counts lines)) found.1);
 }
 
 -- two numbers that differ, by their test
@@ -69,7 +68,7 @@ adds_nothing-control act = record { counters = λ c k. refl; events = λ c e. re
 
 module _ (cpu : CpuId) (judge : LineJudge) where
   -- what the judge has of the CPU is its state
-  state_is : (header : Header) (lines : List Line) (s : CpuState) → Stands header lines judge
+  state_is : (header : Header) (lines : List Line) (s : CpuState) → JudgeStands header lines judge
       → cpu.number < header.layout.cpus
       → get_or judge.cpus.states cpu.number IsOnline ≡ s → cpu_state cpu.number lines ≡ s
   state_is header lines s stands below read = sym (stands.cpus.state cpu.number below) ∙ read
@@ -115,10 +114,10 @@ module _ (cpu : CpuId) (judge : LineJudge) where
         → cpu.number < header.layout.cpus → states.states ≡ set judge.cpus.states cpu.number state
         → states.online + online_count (get_or judge.cpus.states cpu.number IsOnline) ≡ judge.cpus.online +
         online_count state
-        → Stands header lines judge → Stands header (line ∷ lines) (record judge { cpus = states })
+        → JudgeStands header lines judge → JudgeStands header (line ∷ lines) (record judge { cpus = states })
     moves header lines line state others becomes adds below same online stands =
-        Stands-moved header lines line judge states adds
-        (TellsCpus-set lines line header.layout.cpus cpu.number state judge.cpus states others becomes below same
+        JudgeStands-moved header lines line judge states adds
+        (TellsCpuStates-set lines line header.layout.cpus cpu.number state judge.cpus states others becomes below same
         online stands.cpus) stands
 
     pub Decides-buried : get_or judge.cpus.states cpu.number IsOnline ≡ IsDead
@@ -174,7 +173,7 @@ Decides-control (Dead cpu) judge no_burial = absurd (no_burial cpu refl)
 Decides-control act judge no_burial = Decides-kept (Lane Control act) judge judge (λ lines. refl)
     (λ header lines is_line stands. (
       refl,
-      Stands-still header lines (Lane Control act) judge (λ c s. refl) (adds_nothing-control act) stands,
+      JudgeStands-still header lines (Lane Control act) judge (λ c s. refl) (adds_nothing-control act) stands,
     ))
 
 -- another boundary line counts, and changes nothing here
@@ -186,5 +185,5 @@ Decides-boundary (Online cpu) judge no_offline no_online = absurd (no_online cpu
 Decides-boundary boundary judge no_offline no_online = Decides-kept (Boundary boundary) judge judge (λ lines. refl)
     (λ header lines is_line stands. (
       refl,
-      Stands-still header lines (Boundary boundary) judge (λ c s. refl) (adds_nothing-boundary boundary) stands,
+      JudgeStands-still header lines (Boundary boundary) judge (λ c s. refl) (adds_nothing-boundary boundary) stands,
     ))

@@ -14,45 +14,41 @@ use Rattle.vms_script.specs.declared.scripters.Fed.TheVariants.{Boundary as FedB
 use Rattle.vms_script.specs.declared.scripters.FeedError.{FeedError}
 use Rattle.vms_script.specs.declared.scripters.FeedError.TheVariants.{Refused, Memory}
 use Rattle.vms_script.specs.declared.scripters.Scripter.{Scripter}
-use Rattle.vms_script.specs.Judging.{allowed, allowed_from, counted}
-use Rattle.vms_script.specs.Scripts.{Gave, HoldsScript, IsOpen, Script, phase_start, phases_of, with_line, with_taken}
-use Rattle.vms_script.specs.Scripts.{Feeds, SomeScripter, Takes, fed_of}
-use Rattle.vms_script.specs.JudgeStates.{Stands}
-use Rattle.vms_script.specs.PhaseScripts.{IsPhaseScript}
-use Rattle.vms_script.specs.Starts.{Start, first_start, start_after, start_at_end}
-use Rattle.vms_script.specs.Totals.{ArePhases, line_of}
-use Rattle.vms_script.specs.Volumes.{spent_on_counter, volume}
+use Rattle.vms_script.specs.Common.{allowed, allowed_from, with_counted, Gave, HoldsScript, IsOpenScript, Script}
+use Rattle.vms_script.specs.Common.{phase_start, phases_of, script_with_line, with_taken, Feeds, SomeScripter, Takes}
+use Rattle.vms_script.specs.Common.{fed_of, JudgeStands, IsPhaseScript, Start, first_start, start_after, start_at_end}
+use Rattle.vms_script.specs.Common.{ArePhases, line_of, spent_on_counter, volume}
 use Rattle.vms_script.proofs.Fitting.{Fits-none, Fits-push, start_at_end-after}
 use Rattle.vms_script.proofs.LineVolumes.{IsWithin-allowed}
 use Rattle.vms_script.proofs.PhaseLines.{lines_of_phases-open, volume-item}
 use Rattle.vms_script.proofs.Phases.{ArePhases-front, ArePhases-item, ArePhases-phase}
-use Rattle.vms_line.specs.Laws.{IsLineOf}
+use Rattle.vms_line.specs.Common.{IsLineOf}
 
 -- where a phase that is open has come to
-start_at_end-open : (script : Script) → IsOpen script
+start_at_end-open : (script : Script) → IsOpenScript script
     → start_at_end (phase_start script) (map line_of script.items) ≡ start_after first_start script.lines
 start_at_end-open script is_open =
     start_at_end-after first_start script.above (map line_of script.items) ∙ ap (start_after first_start) (sym is_open)
 
 -- a phase stays open with a lane line more, and the next one is when it was taken
-pub IsOpen-lane : (script : Script) (item : Item) → IsOpen script
-    → IsOpen (with_line item.number (line_of item) script)
-IsOpen-lane script item is_open =
+pub IsOpenScript-lane : (script : Script) (item : Item) → IsOpenScript script
+    → IsOpenScript (script_with_line item.number (line_of item) script)
+IsOpenScript-lane script item is_open =
     ap (λ (lines : List Line). line_of item ∷ lines) is_open
     ∙ ap (λ (back : List Line). back ++ script.above)
     (sym (ap reverse (map-append line_of script.items (item ∷ []))
     ∙ reverse-append (map line_of script.items) (line_of item ∷ [])))
 
-pub IsOpen-taken : (script : Script) → IsOpen (with_taken script)
-IsOpen-taken script = refl
+pub IsOpenScript-taken : (script : Script) → IsOpenScript (with_taken script)
+IsOpenScript-taken script = refl
 
 -- a scripter past a line of the body that counts, or a blank one
 pub HoldsScript-after : (n : ℕ) (line : Line) (script : Script) (old new : Scripter) → HoldsScript script old
-    → Stands script.header (counted (Ok line) script.lines) new.judge
-    → new.items.items ≡ (with_line n line script).items → IsLineOf script.header line
-    → allowed script.header script.lines line ≡ Ok line → IsOpen script
+    → JudgeStands script.header (with_counted (Ok line) script.lines) new.judge
+    → new.items.items ≡ (script_with_line n line script).items → IsLineOf script.header line
+    → allowed script.header script.lines line ≡ Ok line → IsOpenScript script
     → All (λ item. item.number < n) script.items → length script.items < 1000000
-    → HoldsScript (with_line n line script) new
+    → HoldsScript (script_with_line n line script) new
 HoldsScript-after n Blank script old new holds stands items known counts is_open below few = record {
   stands = stands;
   items = items;
@@ -96,7 +92,7 @@ HoldsScript-after n (Lane lane act) script old new holds stands items known coun
 pub HoldsScript-taken : (script : Script) (old new : Scripter) → HoldsScript script old → new.judge ≡ old.judge
     → new.items.items ≡ [] → HoldsScript (with_taken script) new
 HoldsScript-taken script old new holds same items = record {
-  stands = subst (Stands script.header script.lines) (sym same) holds.stands;
+  stands = subst (JudgeStands script.header script.lines) (sym same) holds.stands;
   items = items;
   few = omega arith;
   fits = Fits-none script.header (phase_start (with_taken script));
@@ -106,27 +102,27 @@ HoldsScript-taken script old new holds same items = record {
 }
 
 -- a line leaves the header and the phases that were taken
-pub header-with_line : (n : ℕ) (line : Line) (script : Script) → (with_line n line script).header ≡ script.header
+pub header-with_line : (n : ℕ) (line : Line) (script : Script) → (script_with_line n line script).header ≡ script.header
 header-with_line n Blank script = refl
 header-with_line n (Lane lane act) script = refl
 header-with_line n (Boundary boundary) script = refl
 
-pub taken-with_line : (n : ℕ) (line : Line) (script : Script) → (with_line n line script).taken ≡ script.taken
+pub taken-with_line : (n : ℕ) (line : Line) (script : Script) → (script_with_line n line script).taken ≡ script.taken
 taken-with_line n Blank script = refl
 taken-with_line n (Lane lane act) script = refl
 taken-with_line n (Boundary boundary) script = refl
 
 -- a scripter takes lines after one that ends no phase, and after its lane lines were taken
 pub SomeScripter-line : (header : Header) (n : ℕ) (line : Line) (script : Script) (scripter : Scripter)
-    → script.header ≡ header → IsOpen script → HoldsScript (with_line n line script) scripter
+    → script.header ≡ header → IsOpenScript script → HoldsScript (script_with_line n line script) scripter
     → ((boundary : BoundaryOf) → line ≡ Boundary boundary → ⊥) → SomeScripter header scripter
 SomeScripter-line header n Blank script scripter of is_open holds no_boundary =
     record { script = script; of = of; is_open = is_open; holds = holds }
 SomeScripter-line header n (Lane lane act) script scripter of is_open holds no_boundary =
     record {
-      script = with_line n (Lane lane act) script;
+      script = script_with_line n (Lane lane act) script;
       of = of;
-      is_open = IsOpen-lane script (record { number = n; lane = lane; act = act }) is_open;
+      is_open = IsOpenScript-lane script (record { number = n; lane = lane; act = act }) is_open;
       holds = holds;
     }
 SomeScripter-line header n (Boundary boundary) script scripter of is_open holds no_boundary =
@@ -135,12 +131,12 @@ SomeScripter-line header n (Boundary boundary) script scripter of is_open holds 
 pub SomeScripter-taken : (header : Header) (script : Script) (phase : List Item) (scripter : Scripter)
     → script.header ≡ header → Takes script phase scripter → SomeScripter header scripter
 SomeScripter-taken header script phase scripter of takes =
-    record { script = with_taken script; of = of; is_open = IsOpen-taken script; holds = takes.holds }
+    record { script = with_taken script; of = of; is_open = IsOpenScript-taken script; holds = takes.holds }
 
 -- a scripter takes lines after whatever was fed to it but a boundary line
 pub SomeScripter-fed : (header : Header) (n : ℕ) (text : List ℕ) (script : Script) (scripter : Scripter)
     (result : Result Fed FeedError)
-    → script.header ≡ header → IsOpen script → Feeds n text script scripter result
+    → script.header ≡ header → IsOpenScript script → Feeds n text script scripter result
     → ((boundary : BoundaryOf) → result ≡ Ok (FedBoundary boundary) → ⊥) → SomeScripter header scripter
 SomeScripter-fed header n text script scripter (Ok fed) of is_open feeds no_boundary =
     SomeScripter-line header n feeds.0 script scripter of is_open feeds.3
@@ -152,7 +148,7 @@ SomeScripter-fed header n text script scripter (Err Memory) of is_open feeds no_
 
 -- the numbers that it holds then are at most that of the line
 below-line : (n : ℕ) (line : Line) (script : Script) → All (λ (item : Item). item.number < n) script.items
-    → All (λ (item : Item). item.number < n + 1) (with_line n line script).items
+    → All (λ (item : Item). item.number < n + 1) (script_with_line n line script).items
 below-line n Blank script below = λ k d within. omega (arith, below k d within)
 below-line n (Lane lane act) script below =
     All-push (λ (item : Item). item.number < n + 1) script.items (record { number = n; lane = lane; act = act })

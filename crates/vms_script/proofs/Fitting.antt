@@ -1,6 +1,6 @@
 -- For other crates too: scripts that fit a start, line by line, and where they end.
-use Rattle.std.proofs.Common.{◌≡◌, ℕ, zero, suc, ◌+◌, ◌<◌, List, [], ◌∷◌, ◌++◌, length, get_or, map, refl, sym}
-use Rattle.std.proofs.Common.{add-one, ap, length-append, subst, ◌∙◌, arith, append_assoc, inl, inr, All, Ok}
+use Rattle.std.proofs.Common.{◌≡◌, ℕ, zero, suc, ◌+◌, ◌<◌, List, [], ◌∷◌, ◌++◌, length, get_or, map, refl, sym, add-one}
+use Rattle.std.proofs.Common.{ap, length-append, subst, ◌∙◌, arith, append_assoc, inl, inr, All, Ok}
 use Rattle.std.proofs.Math.Seq.{get_or-append_seam}
 use Rattle.std.proofs.lemmas.Bool.{cases_eq}
 use Rattle.std.proofs.lemmas.List.{get_or_append_left, map-append, reverse-append}
@@ -10,11 +10,9 @@ use Rattle.std.specs.Prelude.{reverse}
 use Rattle.vms_base.specs.declared.headers.Header.{Header}
 use Rattle.vms_text.specs.declared.acts.Item.{Item}
 use Rattle.vms_text.specs.declared.acts.Line.{Line}
-use Rattle.vms_line.specs.Laws.{IsLineOf}
-use Rattle.vms_script.specs.FittingScripts.{AreAllowed, Fits, FittingScriptsStayWithin}
-use Rattle.vms_script.specs.Judging.{allowed_from}
-use Rattle.vms_script.specs.Starts.{IsWithin, Start, start_after, start_at_end, start_past}
-use Rattle.vms_script.specs.Totals.{line_of}
+use Rattle.vms_line.specs.Common.{IsLineOf}
+use Rattle.vms_script.specs.Common.{AreAllowed, Fits, FittingScriptsStayWithin, allowed_from, IsWithin, Start}
+use Rattle.vms_script.specs.Common.{start_after, start_at_end, start_past, line_of}
 use Rattle.vms_script.proofs.LineVolumes.{IsWithin-allowed}
 
 -- numbers that rise, with one more above them all

@@ -6,19 +6,16 @@ use Rattle.std.proofs.Math.Nat.{mul-le-mul}
 use Rattle.vms_base.specs.declared.headers.Header.{Header}
 use Rattle.vms_base.specs.declared.kinds.CpuState.{CpuState}
 use Rattle.vms_base.specs.declared.kinds.CpuState.TheVariants.{Online as IsOnline}
-use Rattle.vms_base.specs.Headers.{IsHeader}
-use Rattle.vms_base.specs.Places.{cell, counter_count}
-use Rattle.vms_base.proofs.Cells.{cell-lt}
-use Rattle.vms_base.proofs.Counts.{counter_count-most}
+use Rattle.vms_base.specs.Common.{IsHeader, cell, counter_count}
+use Rattle.vms_base.proofs.Common.{cell-lt, counter_count-most}
 use Rattle.vms_text.specs.declared.acts.Act.{Act}
 use Rattle.vms_text.specs.declared.acts.Line.{Line}
 use Rattle.vms_script.specs.declared.cpus.CpuStates.{CpuStates}
 use Rattle.vms_script.specs.declared.judges.LineJudge.{LineJudge}
 use Rattle.vms_script.specs.declared.volumes.VolumeTable.{VolumeTable}
-use Rattle.vms_script.specs.Cpus.{state_past, online_below}
-use Rattle.vms_script.specs.Volumes.{by_cpu, spent_on_counter, spent_on_event, spent_on_pcpu, volume}
-use Rattle.vms_script.specs.JudgeStates.{Stands, TellsCpus, TellsVolumes}
-use Rattle.vms_script.proofs.CpuCounts.{TellsCpus-still}
+use Rattle.vms_script.specs.Common.{state_past, online_below, by_cpu, spent_on_counter, spent_on_event, spent_on_pcpu}
+use Rattle.vms_script.specs.Common.{volume, JudgeStands, TellsCpuStates, TellsVolumes}
+use Rattle.vms_script.proofs.CpuCounts.{TellsCpuStates-still}
 use Rattle.vms_script.proofs.VolumeSums.{TellsVolumes-still}
 
 -- a table of volumes is small
@@ -39,9 +36,9 @@ online_below-first : (n : ℕ) → online_below n [] ≡ n
 online_below-first zero = refl
 online_below-first (suc n) = ap suc (online_below-first n)
 
-pub TellsCpus-first : (cpus : ℕ) (states : CpuStates)
-    → states ≡ record { states = replicate cpus IsOnline; online = cpus } → TellsCpus cpus [] states
-TellsCpus-first cpus states is = record {
+pub TellsCpuStates-first : (cpus : ℕ) (states : CpuStates)
+    → states ≡ record { states = replicate cpus IsOnline; online = cpus } → TellsCpuStates cpus [] states
+TellsCpuStates-first cpus states is = record {
   each = ap (λ (s : CpuStates). length s.states) is ∙ length-replicate cpus IsOnline;
   state = λ c below. ap (λ (s : CpuStates). get_or s.states c IsOnline) is ∙ get_or-replicate cpus c IsOnline
       IsOnline below;
@@ -67,9 +64,10 @@ pub record KeepsSums (line : Line) : Type 0 where
 
 module _ (header : Header) (lines : List Line) (line : Line) (judge : LineJudge) where
   -- a judge after a line that adds to no volume, with the states after it
-  pub Stands-moved : (states : CpuStates) → KeepsSums line → TellsCpus header.layout.cpus (line ∷ lines) states
-      → Stands header lines judge → Stands header (line ∷ lines) (record judge { cpus = states })
-  Stands-moved states adds tells stands = record {
+  pub JudgeStands-moved : (states : CpuStates) → KeepsSums line →
+      TellsCpuStates header.layout.cpus (line ∷ lines) states
+      → JudgeStands header lines judge → JudgeStands header (line ∷ lines) (record judge { cpus = states })
+  JudgeStands-moved states adds tells stands = record {
     cpus = tells;
     counters = TellsVolumes-still _ _ spent_on_counter lines line judge.counters adds.counters stands.counters;
     events = TellsVolumes-still _ _ spent_on_event lines line judge.events adds.events stands.events;
@@ -77,7 +75,8 @@ module _ (header : Header) (lines : List Line) (line : Line) (judge : LineJudge)
   }
 
   -- a judge after a line that changes nothing
-  pub Stands-still : ((c : ℕ) (s : CpuState) → state_past c line s ≡ s) → KeepsSums line
-      → Stands header lines judge → Stands header (line ∷ lines) judge
-  Stands-still same adds stands =
-      Stands-moved judge.cpus adds (TellsCpus-still lines line header.layout.cpus judge.cpus same stands.cpus) stands
+  pub JudgeStands-still : ((c : ℕ) (s : CpuState) → state_past c line s ≡ s) → KeepsSums line
+      → JudgeStands header lines judge → JudgeStands header (line ∷ lines) judge
+  JudgeStands-still same adds stands =
+      JudgeStands-moved judge.cpus adds
+      (TellsCpuStates-still lines line header.layout.cpus judge.cpus same stands.cpus) stands

@@ -5,7 +5,7 @@ use Rattle.std.proofs.lemmas.Result.{IfOk-at_ok}
 use Rattle.vms_base.specs.declared.headers.Header.{Header}
 use Rattle.vms_base.specs.declared.kinds.CpuState.{CpuState}
 use Rattle.vms_base.specs.declared.kinds.CpuState.TheVariants as states
-use Rattle.vms_base.specs.Headers.{IsHeader}
+use Rattle.vms_base.specs.Common.{IsHeader, is_online}
 use Rattle.vms_text.specs.declared.acts.Act.{Act}
 use Rattle.vms_text.specs.declared.acts.Act.TheVariants.{Dead}
 use Rattle.vms_text.specs.declared.acts.Boundary.{Boundary as BoundaryOf}
@@ -15,15 +15,12 @@ use Rattle.vms_text.specs.declared.acts.Line.{Line}
 use Rattle.vms_text.specs.declared.acts.Line.TheVariants.{Blank, Lane, Boundary}
 use Rattle.vms_line.specs.declared.causes.LineCause.{LineCause}
 use Rattle.vms_line.specs.declared.causes.LineCause.TheVariants.{NotOnline, Overflow, LastCpu}
-use Rattle.vms_line.specs.Body.{read_line}
-use Rattle.vms_line.specs.Laws.{IsLineOf}
-use Rattle.vms_text.specs.Reading.{and_then}
-use Rattle.vms_line.proofs.LinesKnown.{read_line-known}
-use Rattle.vms_base.specs.Cpus.{is_online}
-use Rattle.vms_script.specs.Cpus.{online_among}
-use Rattle.vms_script.specs.Judging.{allowed_boundary, allowed_burial, allowed_from, allowed_of_control, allowed_online}
-use Rattle.vms_script.specs.Judging.{judged, judged_from, overflows_from}
-use Rattle.vms_script.specs.Starts.{Start, first_start, start_after}
+use Rattle.vms_line.specs.Common.{read_line, IsLineOf}
+use Rattle.vms_text.specs.Common.{and_then}
+use Rattle.vms_line.proofs.Common.{read_line-known}
+use Rattle.vms_script.specs.Common.{online_among, allowed_boundary, allowed_burial, allowed_from, allowed_of_control}
+use Rattle.vms_script.specs.Common.{allowed_online, judged, judged_from, overflows_from, Start, first_start}
+use Rattle.vms_script.specs.Common.{start_after}
 
 -- the line itself, if any
 abbrev Keeps : Line → Result Line LineCause → Type 0

@@ -5,12 +5,12 @@ use Rattle.std.proofs.lemmas.List.Sums.{length-filter}
 use Rattle.std.specs.List.{count_by, filter}
 use Rattle.std.specs.List.Sorted.{IsStrictlyIncreasing}
 use Rattle.std.proofs.lemmas.List.Kept.{AllPairs-filter}
-use Rattle.vms_base.proofs.Ranks.{increasing-from_steps, rises}
-use Rattle.vms_text.proofs.Positions.{length-filter-le}
+use Rattle.vms_base.proofs.Common.{increasing-from_steps, rises}
+use Rattle.vms_text.proofs.Common.{length-filter-le}
 use Rattle.vms_text.specs.declared.acts.Item.{Item}
 use Rattle.vms_text.specs.declared.acts.Lane.{Lane}
 use Rattle.vms_script.specs.declared.lane_scripts.LaneItem.{LaneItem}
-use Rattle.vms_script.specs.PhaseScripts.{IsLaneScript, IsPhaseScript, is_lane, lane_item, lane_items}
+use Rattle.vms_script.specs.Common.{IsLaneScript, IsPhaseScript, is_lane, lane_item, lane_items}
 
 -- a line has the same number where its lane is known
 numbers-lane_item : (items : List Item)

@@ -15,3 +15,4 @@ pub mod Sizes
 pub mod Changes
 pub mod LaneItems
 pub mod KeptLines
+pub mod Common

@@ -1,15 +1,13 @@
 -- For other crates too: the volumes after a line that counts.
-use Rattle.std.proofs.Common.{◌≡◌, ℕ, ◌+◌, ◌≤◌, nat_eq, nat_lt, Bool, true, false, unsigned_abs, List, Ok, Err}
-use Rattle.std.proofs.Common.{refl, ap, ◌∙◌, arith, inl, inr, if◌then◌else◌}
+use Rattle.std.proofs.Common.{◌≡◌, ℕ, ◌+◌, ◌≤◌, nat_eq, nat_lt, Bool, true, false, unsigned_abs, List, Ok, Err, refl}
+use Rattle.std.proofs.Common.{ap, ◌∙◌, arith, inl, inr, if◌then◌else◌}
 use Rattle.std.proofs.lemmas.Bool.Decides.{nat_tests}
 use Rattle.std.proofs.lemmas.Bool.{cases_eq}
 use Rattle.vms_base.specs.declared.headers.Header.{Header}
 use Rattle.vms_base.specs.declared.ids.CpuId.{CpuId}
-use Rattle.vms_base.specs.Cpus.{is_online}
-use Rattle.vms_base.specs.Volumes.{most_volume}
-use Rattle.vms_script.specs.Judging.{allowed_from, judged, overflows_from}
-use Rattle.vms_script.specs.Starts.{IsWithin, Start, first_start, start_after, start_past}
-use Rattle.vms_script.specs.Volumes.{by_cpu, spent_on_counter, spent_on_event, spent_on_pcpu, volume}
+use Rattle.vms_base.specs.Common.{is_online, most_volume}
+use Rattle.vms_script.specs.Common.{allowed_from, judged, overflows_from, IsWithin, Start, first_start, start_after}
+use Rattle.vms_script.specs.Common.{start_past, by_cpu, spent_on_counter, spent_on_event, spent_on_pcpu, volume}
 use Rattle.vms_script.proofs.Known.{judged_from-allowed}
 use Rattle.vms_script.proofs.VolumeSums.{by_cpu-nothing}
 use Rattle.vms_text.specs.declared.acts.Act.{Act}

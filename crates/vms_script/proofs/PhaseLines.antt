@@ -2,8 +2,7 @@
 use Rattle.std.proofs.Common.{◌≡◌, ℕ, ◌+◌, List, [], ◌∷◌, ◌++◌, map, refl, sym, ap, ◌∙◌, arith, append_assoc}
 use Rattle.std.proofs.Common.{append-nil}
 use Rattle.std.proofs.lemmas.List.{map-append}
-use Rattle.vms_script.specs.Totals.{line_of, lines_of_phases}
-use Rattle.vms_script.specs.Volumes.{by_cpu, volume}
+use Rattle.vms_script.specs.Common.{line_of, lines_of_phases, by_cpu, volume}
 use Rattle.vms_text.specs.declared.acts.Act.{Act}
 use Rattle.vms_text.specs.declared.acts.Item.{Item}
 use Rattle.vms_text.specs.declared.acts.Line.{Line}

@@ -3,15 +3,13 @@ use Rattle.std.proofs.Common.{ℕ, ◌+◌, ◌≤◌, List, [], ◌∷◌, ◌+
 use Rattle.std.specs.Prelude.{All}
 use Rattle.std.proofs.lemmas.List.Elements.{All-cons, All-nil, All-push}
 use Rattle.vms_base.specs.declared.headers.Header.{Header}
-use Rattle.vms_base.specs.Places.{IsCpu, IsCounter}
-use Rattle.vms_script.specs.Totals.{ArePhases, line_of, lines_of_phases}
-use Rattle.vms_script.specs.Volumes.{by_cpu, spent_on_counter, volume}
-use Rattle.vms_base.specs.Volumes.{most_volume}
+use Rattle.vms_base.specs.Common.{IsCpu, IsCounter, most_volume}
+use Rattle.vms_script.specs.Common.{ArePhases, line_of, lines_of_phases, by_cpu, spent_on_counter, volume}
 use Rattle.vms_script.proofs.Elements.{All-front, All-last}
 use Rattle.vms_script.proofs.PhaseLines.{lines_of_phases-append, lines_of_phases-open, volume-append, volume-item}
 use Rattle.vms_text.specs.declared.acts.Item.{Item}
 use Rattle.vms_text.specs.declared.acts.Line.{Line}
-use Rattle.vms_line.specs.Laws.{IsLineOf}
+use Rattle.vms_line.specs.Common.{IsLineOf}
 
 module _ (header : Header) where
   -- the items of a phase each keep a line of the body

@@ -3,8 +3,7 @@ use Rattle.std.proofs.Common.{◌≡◌, ℕ, zero, suc, ◌+◌, ◌*◌, ◌<�
 use Rattle.std.proofs.Common.{if◌then◌else◌, refl, sym, arith}
 use Rattle.std.proofs.lemmas.Bool.Decides.{nat_tests}
 use Rattle.vms_base.specs.declared.headers.Header.{Header}
-use Rattle.vms_base.specs.Headers.{IsHeader}
-use Rattle.vms_base.specs.Places.{IsCounter}
+use Rattle.vms_base.specs.Common.{IsHeader, IsCounter, most_volume}
 use Rattle.vms_text.specs.declared.acts.Act.{Act}
 use Rattle.vms_text.specs.declared.acts.Act.TheVariants.{Mod, Inc, Dec, Ev}
 use Rattle.vms_text.specs.declared.acts.Item.{Item}
@@ -12,10 +11,9 @@ use Rattle.vms_text.specs.declared.acts.Lane.{Lane as LaneOf}
 use Rattle.vms_text.specs.declared.acts.Lane.TheVariants.{Cpu, Control}
 use Rattle.vms_text.specs.declared.acts.Line.{Line}
 use Rattle.vms_text.specs.declared.acts.Line.TheVariants.{Blank, Lane, Boundary}
-use Rattle.vms_line.specs.Laws.{IsActOf, IsLineOf}
-use Rattle.vms_script.specs.Totals.{ArePhases, line_of, lines_of_phases, sizes_by, sizes_by_all}
-use Rattle.vms_script.specs.Volumes.{by_cpu, spent_on_counter, volume}
-use Rattle.vms_base.specs.Volumes.{most_volume}
+use Rattle.vms_line.specs.Common.{IsActOf, IsLineOf}
+use Rattle.vms_script.specs.Common.{ArePhases, line_of, lines_of_phases, sizes_by, sizes_by_all, by_cpu}
+use Rattle.vms_script.specs.Common.{spent_on_counter, volume}
 
 -- a measure of the act of a line, if it is one of the lane of a CPU below n
 abbrev by_first : ℕ → (Act → ℕ) → Line → ℕ

@@ -9,7 +9,7 @@ use Rattle.vms_base.specs.declared.ids.EventId.{EventId}
 use Rattle.vms_base.specs.declared.ids.PcpuId.{PcpuId}
 use Rattle.vms_base.specs.declared.kinds.CpuState.{CpuState}
 use Rattle.vms_base.specs.declared.kinds.CpuState.TheVariants.{Online as IsOnline}
-use Rattle.vms_base.specs.Places.{counter_count}
+use Rattle.vms_base.specs.Common.{counter_count, is_online, most_volume}
 use Rattle.vms_text.specs.declared.acts.Act.{Act}
 use Rattle.vms_text.specs.declared.acts.Act.TheVariants.{Mod, Inc, Dec, Ev, Cnt, Lim, Dead}
 use Rattle.vms_text.specs.declared.acts.Lane.TheVariants.{Cpu}
@@ -17,18 +17,15 @@ use Rattle.vms_text.specs.declared.acts.Line.{Line}
 use Rattle.vms_text.specs.declared.acts.Line.TheVariants.{Lane}
 use Rattle.vms_line.specs.declared.causes.LineCause.{LineCause}
 use Rattle.vms_line.specs.declared.causes.LineCause.TheVariants.{NotOnline, Overflow}
-use Rattle.vms_line.specs.Laws.{IsActOf}
+use Rattle.vms_line.specs.Common.{IsActOf}
 use Rattle.vms_script.specs.declared.judges.LineJudge.{LineJudge}
 use Rattle.vms_script.specs.declared.volumes.VolumeTable.{VolumeTable}
-use Rattle.vms_script.specs.Cpus.{cpu_state, state_past}
-use Rattle.vms_base.specs.Cpus.{is_online}
-use Rattle.vms_script.specs.Judging.{allowed, counted, overflows}
-use Rattle.vms_script.specs.Volumes.{spent_on_counter, spent_on_event, spent_on_pcpu, volume}
-use Rattle.vms_base.specs.Volumes.{most_volume}
-use Rattle.vms_script.specs.JudgeStates.{Decides, Stands, TellsCpus, TellsVolumes, answered, volume_at, with_volume}
-use Rattle.vms_script.proofs.CpuCounts.{TellsCpus-still}
+use Rattle.vms_script.specs.Common.{cpu_state, state_past, allowed, with_counted, overflows, spent_on_counter}
+use Rattle.vms_script.specs.Common.{spent_on_event, spent_on_pcpu, volume, Decides, JudgeStands, TellsCpuStates}
+use Rattle.vms_script.specs.Common.{TellsVolumes, answered, volume_at, with_volume}
+use Rattle.vms_script.proofs.CpuCounts.{TellsCpuStates-still}
 use Rattle.vms_script.proofs.Decisions.{Decides-kept, Decides-refused}
-use Rattle.vms_script.proofs.JudgeStateLaws.{Stands-still}
+use Rattle.vms_script.proofs.JudgeStateLaws.{JudgeStands-still}
 use Rattle.vms_script.proofs.VolumeSums.{TellsVolumes-still, TellsVolumes-spent, by_cpu-nothing, volume_at-is}
 
 -- an act of a CPU that is online, by whether it exceeds the most volume
@@ -36,26 +33,41 @@ judged_by : (over : Bool) (header : Header) (lines : List Line) (cpu : CpuId) (a
     → LineJudge) (old spent new : VolumeTable) (result : Result (Unit {0}) LineCause)
     → overflows lines cpu.number act ≡ over → is_online (cpu_state cpu.number lines) ≡ true
     → result ≡ (if over then Err Overflow else Ok tt) → new ≡ (if over then old else spent)
-    → Stands header lines (put old)
-    → (over ≡ false → Stands header (Lane (Cpu cpu) act ∷ lines) (put spent))
+    → JudgeStands header lines (put old)
+    → (over ≡ false → JudgeStands header (Lane (Cpu cpu) act ∷ lines) (put spent))
     → (answered (Lane (Cpu cpu) act) result ≡ allowed header lines (Lane (Cpu cpu) act))
-    × Stands header (counted (answered (Lane (Cpu cpu) act) result) lines) (put new)
+    × JudgeStands header (with_counted (answered (Lane (Cpu cpu) act) result) lines) (put new)
 judged_by true header lines cpu act put old spent new result exceeds online r n stands past =
     let refused : allowed header lines (Lane (Cpu cpu) act) ≡ Err Overflow = rw (online, exceeds) refl in (
       ap (answered (Lane (Cpu cpu) act)) r ∙ sym refused,
-      subst (λ (t : VolumeTable). Stands header (counted (answered (Lane (Cpu cpu) act) result) lines) (put t)) (sym n)
-          (subst (λ (a : Result (Unit {0}) LineCause). Stands header (counted (answered (Lane
+      subst (λ (t : VolumeTable).
+          JudgeStands header (with_counted (answered (Lane (Cpu cpu) act) result) lines) (put t)) (sym n)
+          (subst (λ (a : Result (Unit {0}) LineCause). JudgeStands header (with_counted (answered (Lane
           (Cpu cpu) act) a) lines) (put old)) (sym r) stands),
     )
 judged_by false header lines cpu act put old spent new result exceeds online r n stands past =
     let counts : allowed header lines (Lane (Cpu cpu) act) ≡ Ok (Lane (Cpu cpu) act) = rw (online, exceeds) refl in (
       ap (answered (Lane (Cpu cpu) act)) r ∙ sym counts,
-      subst (λ (t : VolumeTable). Stands header (counted (answered (Lane (Cpu cpu) act) result) lines) (put t)) (sym n)
-          (subst (λ (a : Result (Unit {0}) LineCause). Stands header (counted (answered (Lane
+      subst (λ (t : VolumeTable).
+          JudgeStands header (with_counted (answered (Lane (Cpu cpu) act) result) lines) (put t)) (sym n)
+          (subst (λ (a : Result (Unit {0}) LineCause). JudgeStands header (with_counted (answered (Lane
           (Cpu cpu) act) a) lines) (put spent)) (sym r) (past refl)),
     )
 
--- an act that adds to a volume of one table: `put` makes the judge with that table, and `old` is the table that it has
+-- that an act is decided which adds to the volume of a thing: `put` makes the judge with a table, `old` is the table
+-- that it has, and `measure` is what an act adds to each thing, of which a header has so many
+abbrev DecidesBy : CpuId → Act → ℕ → ℕ → VolumeTable → Result (Unit {0}) LineCause → (VolumeTable → LineJudge)
+    → VolumeTable → (ℕ → Act → ℕ) → (Header → ℕ) → Type 0
+DecidesBy cpu act thing size new result put old measure width =
+    measure thing act ≡ size → ((k : ℕ) → (k ≡ thing → ⊥) → measure k act ≡ 0)
+    → ((header : Header) → IsActOf header (Cpu cpu) act → thing < width header)
+    → ((lines : List Line) → overflows lines cpu.number act ≡ nat_lt most_volume (volume
+    (measure thing) cpu.number lines + size))
+    → result ≡ (if nat_lt most_volume (volume_at old cpu.number thing + size) then Err Overflow else Ok tt)
+    → new ≡ (if nat_lt most_volume (volume_at old cpu.number thing + size) then old
+    else with_volume old cpu.number thing (volume_at old cpu.number thing + size))
+    → Decides (Lane (Cpu cpu) act) (put old) (put new) result
+
 module _ (cpu : CpuId) (act : Act) (thing size : ℕ) (old new : VolumeTable) (result : Result (Unit {0}) LineCause)
     (put : VolumeTable → LineJudge) (measure : ℕ → Act → ℕ) (width : Header → ℕ)
     (online : get_or (put old).cpus.states cpu.number IsOnline ≡ IsOnline) where
@@ -66,17 +78,13 @@ module _ (cpu : CpuId) (act : Act) (thing size : ℕ) (old new : VolumeTable) (r
   TableTells header lines table = TellsVolumes header.layout.cpus (width header) (λ c k. volume (measure k) c lines)
       table
 
-  Decides-spent : measure thing act ≡ size → ((k : ℕ) → (k ≡ thing → ⊥) → measure k act ≡ 0)
-      → ((header : Header) (lines : List Line) → Stands header lines (put old) → TableTells header lines old)
-      → ((header : Header) (lines : List Line) → Stands header lines (put old)
-      → TableTells header (Lane (Cpu cpu) act ∷ lines) spent → Stands header (Lane (Cpu cpu) act ∷ lines) (put spent))
-      → ((header : Header) → IsActOf header (Cpu cpu) act → thing < width header)
-      → ((lines : List Line) → overflows lines cpu.number act ≡ nat_lt most_volume (volume
-      (measure thing) cpu.number lines + size))
-      → result ≡ (if nat_lt most_volume (volume_at old cpu.number thing + size) then Err Overflow else Ok tt)
-      → new ≡ (if nat_lt most_volume (volume_at old cpu.number thing + size) then old else spent)
-      → Decides (Lane (Cpu cpu) act) (put old) (put new) result
-  Decides-spent adds others tells goes_on known exceeds answer table = record {
+  Decides-spent : ((header : Header) (lines : List Line) → JudgeStands header lines (put old) →
+      TableTells header lines old)
+      → ((header : Header) (lines : List Line) → JudgeStands header lines (put old)
+      → TableTells header (Lane (Cpu cpu) act ∷ lines) spent →
+      JudgeStands header (Lane (Cpu cpu) act ∷ lines) (put spent))
+      → DecidesBy cpu act thing size new result put old measure width
+  Decides-spent tells goes_on adds others known exceeds answer table = record {
     by = λ header lines is is_line stands.
         let before : TableTells header lines old = tells header lines stands in
         let within : thing < width header = known header is_line.1 in
@@ -95,10 +103,10 @@ module _ (judge : LineJudge) (cpu : CpuId) (act : Act) (thing size : ℕ) (new :
     (online : get_or judge.cpus.states cpu.number IsOnline ≡ IsOnline)
     (still : (c : ℕ) (s : CpuState) → state_past c (Lane (Cpu cpu) act) s ≡ s) where
   -- the states of the CPUs, and a table whose volumes the act leaves, say the same after the act
-  cpus_stand : (header : Header) (lines : List Line) → Stands header lines judge
-      → TellsCpus header.layout.cpus (Lane (Cpu cpu) act ∷ lines) judge.cpus
+  cpus_stand : (header : Header) (lines : List Line) → JudgeStands header lines judge
+      → TellsCpuStates header.layout.cpus (Lane (Cpu cpu) act ∷ lines) judge.cpus
   cpus_stand header lines stands =
-      TellsCpus-still lines (Lane (Cpu cpu) act) header.layout.cpus judge.cpus still stands.cpus
+      TellsCpuStates-still lines (Lane (Cpu cpu) act) header.layout.cpus judge.cpus still stands.cpus
 
   table_stands : (cpus width : ℕ) (measure : ℕ → Act → ℕ) (lines : List Line) (table : VolumeTable)
       → ((k : ℕ) → measure k act ≡ 0)
@@ -109,20 +117,12 @@ module _ (judge : LineJudge) (cpu : CpuId) (act : Act) (thing size : ℕ) (new :
       (λ c k. by_cpu-nothing (measure k) c cpu act (nothing k))
 
   -- an act that adds to the volume of a page counter
-  pub Decides-counters : spent_on_counter thing act ≡ size → ((k : ℕ) → (k ≡ thing → ⊥) → spent_on_counter k act ≡ 0)
-      → ((e : ℕ) → spent_on_event e act ≡ 0)
-      → ((j : ℕ) → spent_on_pcpu j act ≡ 0)
-      → ((header : Header) → IsActOf header (Cpu cpu) act → thing < counter_count header.layout)
-      → ((lines : List Line) → overflows lines cpu.number act ≡ nat_lt most_volume (volume
-      (spent_on_counter thing) cpu.number lines + size))
-      → result ≡ (if nat_lt most_volume (volume_at judge.counters cpu.number thing + size) then Err Overflow else Ok tt)
-      → new ≡ (if nat_lt most_volume (volume_at judge.counters cpu.number thing + size) then judge.counters
-      else with_volume judge.counters cpu.number thing (volume_at judge.counters cpu.number thing + size))
-      → Decides (Lane (Cpu cpu) act) judge (record judge { counters = new }) result
-  Decides-counters adds others nothing_events nothing_pcpu =
+  pub Decides-counters : ((e : ℕ) → spent_on_event e act ≡ 0) → ((j : ℕ) → spent_on_pcpu j act ≡ 0)
+      → DecidesBy cpu act thing size new result (λ (t : VolumeTable). record judge { counters = t }) judge.counters
+      spent_on_counter (λ header. counter_count header.layout)
+  Decides-counters nothing_events nothing_pcpu =
       Decides-spent cpu act thing size judge.counters new result (λ (t : VolumeTable). record judge { counters = t })
-      spent_on_counter (λ header. counter_count header.layout) online adds others
-      (λ header lines stands. stands.counters)
+      spent_on_counter (λ header. counter_count header.layout) online (λ header lines stands. stands.counters)
       (λ header lines stands tells. record {
         cpus = cpus_stand header lines stands;
         counters = tells;
@@ -131,19 +131,12 @@ module _ (judge : LineJudge) (cpu : CpuId) (act : Act) (thing size : ℕ) (new :
       })
 
   -- an act that adds to that of an event
-  pub Decides-events : spent_on_event thing act ≡ size → ((k : ℕ) → (k ≡ thing → ⊥) → spent_on_event k act ≡ 0)
-      → ((k : ℕ) → spent_on_counter k act ≡ 0)
-      → ((j : ℕ) → spent_on_pcpu j act ≡ 0)
-      → ((header : Header) → IsActOf header (Cpu cpu) act → thing < 8)
-      → ((lines : List Line) → overflows lines cpu.number act ≡ nat_lt most_volume (volume
-      (spent_on_event thing) cpu.number lines + size))
-      → result ≡ (if nat_lt most_volume (volume_at judge.events cpu.number thing + size) then Err Overflow else Ok tt)
-      → new ≡ (if nat_lt most_volume (volume_at judge.events cpu.number thing + size) then judge.events
-      else with_volume judge.events cpu.number thing (volume_at judge.events cpu.number thing + size))
-      → Decides (Lane (Cpu cpu) act) judge (record judge { events = new }) result
-  Decides-events adds others nothing_counters nothing_pcpu =
+  pub Decides-events : ((k : ℕ) → spent_on_counter k act ≡ 0) → ((j : ℕ) → spent_on_pcpu j act ≡ 0)
+      → DecidesBy cpu act thing size new result (λ (t : VolumeTable). record judge { events = t }) judge.events
+      spent_on_event (λ header. 8)
+  Decides-events nothing_counters nothing_pcpu =
       Decides-spent cpu act thing size judge.events new result (λ (t : VolumeTable). record judge { events = t })
-      spent_on_event (λ header. 8) online adds others (λ header lines stands. stands.events)
+      spent_on_event (λ header. 8) online (λ header lines stands. stands.events)
       (λ header lines stands tells. record {
         cpus = cpus_stand header lines stands;
         counters = table_stands _ _ spent_on_counter lines judge.counters nothing_counters stands.counters;
@@ -152,19 +145,12 @@ module _ (judge : LineJudge) (cpu : CpuId) (act : Act) (thing size : ℕ) (new :
       })
 
   -- an act that adds to that of a percpu counter
-  pub Decides-pcpu : spent_on_pcpu thing act ≡ size → ((k : ℕ) → (k ≡ thing → ⊥) → spent_on_pcpu k act ≡ 0)
-      → ((k : ℕ) → spent_on_counter k act ≡ 0)
-      → ((e : ℕ) → spent_on_event e act ≡ 0)
-      → ((header : Header) → IsActOf header (Cpu cpu) act → thing < length header.counters)
-      → ((lines : List Line) → overflows lines cpu.number act ≡ nat_lt most_volume (volume
-      (spent_on_pcpu thing) cpu.number lines + size))
-      → result ≡ (if nat_lt most_volume (volume_at judge.pcpu cpu.number thing + size) then Err Overflow else Ok tt)
-      → new ≡ (if nat_lt most_volume (volume_at judge.pcpu cpu.number thing + size) then judge.pcpu
-      else with_volume judge.pcpu cpu.number thing (volume_at judge.pcpu cpu.number thing + size))
-      → Decides (Lane (Cpu cpu) act) judge (record judge { pcpu = new }) result
-  Decides-pcpu adds others nothing_counters nothing_events =
+  pub Decides-pcpu : ((k : ℕ) → spent_on_counter k act ≡ 0) → ((e : ℕ) → spent_on_event e act ≡ 0)
+      → DecidesBy cpu act thing size new result (λ (t : VolumeTable). record judge { pcpu = t }) judge.pcpu
+      spent_on_pcpu (λ header. length header.counters)
+  Decides-pcpu nothing_counters nothing_events =
       Decides-spent cpu act thing size judge.pcpu new result (λ (t : VolumeTable). record judge { pcpu = t })
-      spent_on_pcpu (λ header. length header.counters) online adds others (λ header lines stands. stands.pcpu)
+      spent_on_pcpu (λ header. length header.counters) online (λ header lines stands. stands.pcpu)
       (λ header lines stands tells. record {
         cpus = cpus_stand header lines stands;
         counters = table_stands _ _ spent_on_counter lines judge.counters nothing_counters stands.counters;
@@ -215,7 +201,7 @@ module _ (judge : LineJudge) (cpu : CpuId) (online : get_or judge.cpus.states cp
       (stands.cpus.state cpu.number is_line.0) ∙ online) in
       let fits = nothing.affordable lines cpu.number in (
         rw (up, fits) refl,
-        Stands-still header lines (Lane (Cpu cpu) act) judge (nothing.still cpu) (record {
+        JudgeStands-still header lines (Lane (Cpu cpu) act) judge (nothing.still cpu) (record {
           counters = λ c k. by_cpu-nothing (spent_on_counter k) c cpu act (nothing.counters k);
           events = λ c e. by_cpu-nothing (spent_on_event e) c cpu act (nothing.events e);
           pcpu = λ c j. by_cpu-nothing (spent_on_pcpu j) c cpu act (nothing.pcpu j);

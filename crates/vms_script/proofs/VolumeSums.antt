@@ -5,16 +5,14 @@ use Rattle.std.proofs.Common.{arith, inl, inr}
 use Rattle.std.proofs.lemmas.Bool.{cases_eq}
 use Rattle.std.proofs.lemmas.Bool.Decides.{nat_tests}
 use Rattle.vms_base.specs.declared.ids.CpuId.{CpuId}
-use Rattle.vms_base.specs.Places.{cell}
-use Rattle.vms_base.proofs.Cells.{cell-injective, cell-lt}
+use Rattle.vms_base.specs.Common.{cell, most_volume}
+use Rattle.vms_base.proofs.Common.{cell-injective, cell-lt}
 use Rattle.vms_text.specs.declared.acts.Act.{Act}
 use Rattle.vms_text.specs.declared.acts.Lane.TheVariants.{Cpu}
 use Rattle.vms_text.specs.declared.acts.Line.{Line}
 use Rattle.vms_text.specs.declared.acts.Line.TheVariants.{Lane}
 use Rattle.vms_script.specs.declared.volumes.VolumeTable.{VolumeTable}
-use Rattle.vms_script.specs.Volumes.{by_cpu, volume}
-use Rattle.vms_base.specs.Volumes.{most_volume}
-use Rattle.vms_script.specs.JudgeStates.{HasCell, TellsVolumes, volume_at, with_volume}
+use Rattle.vms_script.specs.Common.{by_cpu, volume, HasCell, TellsVolumes, volume_at, with_volume}
 
 -- the test of a number by another
 at_equal : (a b x y : ℕ) → a ≡ b → (if nat_eq a b then x else y) ≡ x

@@ -4,7 +4,7 @@ use Rattle.std.specs.List.Sorted.{IsStrictlyIncreasing}
 use Rattle.vms_base.specs.declared.headers.Header.{Header}
 use Rattle.vms_text.specs.declared.acts.Item.{Item}
 use Rattle.vms_text.specs.declared.acts.Line.{Line}
-use Rattle.vms_line.specs.Laws.{IsLineOf}
+use Rattle.vms_line.specs.Common.{IsLineOf}
 use Rattle.vms_script.specs.Judging.{allowed_from}
 use Rattle.vms_script.specs.Starts.{IsWithin, Start, start_at_end, start_past}
 use Rattle.vms_script.specs.Totals.{line_of}

@@ -1,25 +1,22 @@
 -- What a judge of lines keeps of the lines above that count.
-use Rattle.std.specs.Prelude.{◌≡◌, ℕ, ◌*◌, ◌^◌, ◌<◌, ◌≤◌, List, length, slice_index_or, slice_set, Result, Ok, Err}
-use Rattle.std.specs.Prelude.{◌∷◌, ◌++◌, [], IfOk, IfSome}
+use Rattle.std.specs.Prelude.{◌≡◌, ℕ, ◌*◌, ◌^◌, ◌<◌, ◌≤◌, List, length, slice_index_or, slice_set, Result, Ok, Err, ◌∷◌}
+use Rattle.std.specs.Prelude.{◌++◌, [], IfOk, IfSome}
 use Rattle.vms_base.specs.declared.headers.Header.{Header}
 use Rattle.vms_base.specs.declared.kinds.CpuState.TheVariants.{Online}
-use Rattle.vms_base.specs.Headers.{IsHeader}
-use Rattle.vms_base.specs.Places.{cell, counter_count}
+use Rattle.vms_base.specs.Common.{IsHeader, cell, counter_count, most_volume}
 use Rattle.vms_text.specs.declared.acts.Line.{Line}
 use Rattle.vms_script.specs.declared.cpus.CpuStates.{CpuStates}
 use Rattle.vms_script.specs.declared.judges.JudgedLine.{JudgedLine}
 use Rattle.vms_script.specs.declared.judges.LineJudge.{LineJudge}
 use Rattle.vms_script.specs.declared.volumes.VolumeTable.{VolumeTable}
 use Rattle.vms_line.specs.declared.causes.LineCause.{LineCause}
-use Rattle.vms_line.specs.Laws.{IsLineOf}
-use Rattle.vms_line.specs.Spelling.{spelled_line}
+use Rattle.vms_line.specs.Common.{IsLineOf, spelled_line}
 use Rattle.vms_script.specs.Cpus.{cpu_state, online_below}
-use Rattle.vms_script.specs.Judging.{allowed, counted}
+use Rattle.vms_script.specs.Judging.{allowed, with_counted}
 use Rattle.vms_script.specs.Volumes.{spent_on_counter, spent_on_event, spent_on_pcpu, volume}
-use Rattle.vms_base.specs.Volumes.{most_volume}
 
 -- the states of this many CPUs after these lines, and how many are online
-pub record TellsCpus (cpus : ℕ) (lines : List Line) (states : CpuStates) : Type 0 where
+pub record TellsCpuStates (cpus : ℕ) (lines : List Line) (states : CpuStates) : Type 0 where
   pub each : length states.states ≡ cpus
   pub state : (c : ℕ) → c < cpus → slice_index_or states.states c Online ≡ cpu_state c lines
   pub online : states.online ≡ online_below cpus lines
@@ -46,8 +43,8 @@ pub record TellsVolumes (cpus width : ℕ) (spent : ℕ → ℕ → ℕ) (table 
   pub most : (c thing : ℕ) → c < cpus → thing < width → spent c thing ≤ most_volume
 
 -- a judge after these lines that count, the newest first, of a body with this header
-pub record Stands (header : Header) (lines : List Line) (judge : LineJudge) : Type 0 where
-  pub cpus : TellsCpus header.layout.cpus lines judge.cpus
+pub record JudgeStands (header : Header) (lines : List Line) (judge : LineJudge) : Type 0 where
+  pub cpus : TellsCpuStates header.layout.cpus lines judge.cpus
   pub counters : TellsVolumes header.layout.cpus (counter_count header.layout) (λ c k. volume
       (spent_on_counter k) c lines) judge.counters
   pub events : TellsVolumes header.layout.cpus 8 (λ c e. volume (spent_on_event e) c lines) judge.events
@@ -60,18 +57,20 @@ answered line (Ok _) = Ok line
 answered line (Err cause) = Err cause
 
 -- a judge after some lines of some body, and a line of that body
-pub record Knows (judge : LineJudge) (line : Line) : Type 0 where
+pub record MayJudge (judge : LineJudge) (line : Line) : Type 0 where
   pub header : Header
   pub lines : List Line
   pub is_header : IsHeader header
   pub is_line : IsLineOf header line
-  pub stands : Stands header lines judge
+  pub stands : JudgeStands header lines judge
 
 -- a judge decides a line that was read, whatever lines it stands after. If the line counts the judge then stands after
 -- it too
 pub record Decides (line : Line) (judge judge' : LineJudge) (result : Result (Unit {0}) LineCause) : Type 0 where
-  pub by : (header : Header) (lines : List Line) → IsHeader header → IsLineOf header line → Stands header lines judge →
-      (answered line result ≡ allowed header lines line) × Stands header (counted (answered line result) lines) judge'
+  pub by : (header : Header) (lines : List Line) → IsHeader header → IsLineOf header line →
+      JudgeStands header lines judge →
+      (answered line result ≡ allowed header lines line)
+      × JudgeStands header (with_counted (answered line result) lines) judge'
 
 -- where the bytes of a line are told, and it counts, they are its one spelling
 abbrev pub IsInOneSpelling : Header → JudgedLine → Type 0
@@ -79,11 +78,12 @@ IsInOneSpelling header judged =
     IfSome judged.spelled (λ text. IfOk judged.said (λ line. spelled_line header line ≡ text.now ++ 10 ∷ []))
 
 -- a judge decides a line that was read, and answers it where it counts
-pub record Answers (line : Line) (judge judge' : LineJudge) (result : Result Line LineCause) : Type 0 where
-  pub by : (header : Header) (lines : List Line) → IsHeader header → IsLineOf header line → Stands header lines judge →
-      (result ≡ allowed header lines line) × Stands header (counted result lines) judge'
+pub record JudgesLine (line : Line) (judge judge' : LineJudge) (result : Result Line LineCause) : Type 0 where
+  pub by : (header : Header) (lines : List Line) → IsHeader header → IsLineOf header line →
+      JudgeStands header lines judge →
+      (result ≡ allowed header lines line) × JudgeStands header (with_counted result lines) judge'
 
 -- a judge after some lines of a body with this header
 pub record SomeJudge (header : Header) (judge : LineJudge) : Type 0 where
   pub lines : List Line
-  pub stands : Stands header lines judge
+  pub stands : JudgeStands header lines judge

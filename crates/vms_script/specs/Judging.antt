@@ -1,7 +1,7 @@
 -- Which lines count, where lines begin with some states of the CPUs and volumes. In a body it is a function of the text
 -- alone: of the line and of the lines above that count, the newest first.
-use Rattle.std.specs.Prelude.{ℕ, ◌+◌, nat_eq, nat_lt, if◌then◌else◌, unsigned_abs, List, [], ◌∷◌, Bool, false}
-use Rattle.std.specs.Prelude.{Result, Ok, Err}
+use Rattle.std.specs.Prelude.{ℕ, ◌+◌, nat_eq, nat_lt, if◌then◌else◌, unsigned_abs, List, [], ◌∷◌, Bool, false, Result}
+use Rattle.std.specs.Prelude.{Ok, Err}
 use Rattle.vms_base.specs.declared.headers.Header.{Header}
 use Rattle.vms_base.specs.declared.kinds.CpuState.{CpuState}
 use Rattle.vms_base.specs.declared.kinds.CpuState.TheVariants.{Online as IsOnline, Dead as IsDead, Absent}
@@ -14,10 +14,9 @@ use Rattle.vms_text.specs.declared.acts.Line.{Line}
 use Rattle.vms_text.specs.declared.acts.Line.TheVariants.{Blank, Lane, Boundary}
 use Rattle.vms_line.specs.declared.causes.LineCause.{LineCause}
 use Rattle.vms_line.specs.declared.causes.LineCause.TheVariants.{NotOnline, Overflow, NotDead, NotFolded, LastCpu}
-use Rattle.vms_line.specs.Body.{read_line}
-use Rattle.vms_text.specs.Reading.{and_then}
-use Rattle.vms_base.specs.Cpus.{is_online}
-use Rattle.vms_base.specs.Volumes.{most_volume}
+use Rattle.vms_line.specs.Common.{read_line}
+use Rattle.vms_text.specs.Common.{and_then}
+use Rattle.vms_base.specs.Common.{is_online, most_volume}
 use Rattle.vms_script.specs.Cpus.{online_among}
 use Rattle.vms_script.specs.Starts.{Start, first_start, start_after}
 
@@ -88,12 +87,12 @@ abbrev pub judged : Header → List Line → List ℕ → Result Line LineCause
 judged header lines text = judged_from header (start_after first_start lines) text
 
 -- the lines that count with one line more, if it counts; a blank line doesn't
-abbrev pub counted : Result Line LineCause → List Line → List Line
-counted (Ok Blank) lines = lines
-counted (Ok line) lines = line ∷ lines
-counted (Err cause) lines = lines
+abbrev pub with_counted : Result Line LineCause → List Line → List Line
+with_counted (Ok Blank) lines = lines
+with_counted (Ok line) lines = line ∷ lines
+with_counted (Err cause) lines = lines
 
 -- the lines that count of these, after the lines above that count
 abbrev pub counted_of : Header → List Line → List (List ℕ) → List Line
 counted_of header lines [] = lines
-counted_of header lines (text ∷ texts) = counted_of header (counted (judged header lines text) lines) texts
+counted_of header lines (text ∷ texts) = counted_of header (with_counted (judged header lines text) lines) texts

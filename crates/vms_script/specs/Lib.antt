@@ -8,3 +8,4 @@ pub mod PhaseScripts
 pub mod FittingScripts
 pub mod Scripts
 pub mod Segments
+pub mod Common

@@ -4,14 +4,14 @@ use Rattle.vms_base.specs.declared.headers.Header.{Header}
 use Rattle.vms_text.specs.declared.acts.Item.{Item}
 use Rattle.vms_text.specs.declared.acts.Line.{Line}
 use Rattle.vms_text.specs.declared.acts.Line.TheVariants.{Blank, Lane, Boundary}
-use Rattle.vms_text.specs.KeptLanes.{IsKeepable}
+use Rattle.vms_text.specs.Common.{IsKeepableLane}
 use Rattle.vms_script.specs.declared.scripters.Fed.{Fed}
 use Rattle.vms_script.specs.declared.scripters.FeedError.{FeedError}
 use Rattle.vms_script.specs.declared.scripters.FeedError.TheVariants.{Refused, Memory}
 use Rattle.vms_script.specs.declared.scripters.Scripter.{Scripter}
 use Rattle.vms_script.specs.Judging.{judged}
 use Rattle.vms_script.specs.FittingScripts.{Fits}
-use Rattle.vms_script.specs.JudgeStates.{Stands}
+use Rattle.vms_script.specs.JudgeStates.{JudgeStands}
 use Rattle.vms_script.specs.PhaseScripts.{most_items}
 use Rattle.vms_script.specs.Starts.{IsWithin, Start, first_start, start_after}
 use Rattle.vms_script.specs.Totals.{ArePhases, line_of, lines_of_phases}
@@ -37,17 +37,17 @@ abbrev pub phase_start : Script → Start
 phase_start script = start_after first_start script.above
 
 -- the phase that is held may have further lines: since it began there were no lines that count but its own
-abbrev pub IsOpen : Script → Type 0
-IsOpen script = script.lines ≡ reverse (map line_of script.items) ++ script.above
+abbrev pub IsOpenScript : Script → Type 0
+IsOpenScript script = script.lines ≡ reverse (map line_of script.items) ++ script.above
 
 -- the script with line n, which counts
-abbrev pub with_line : ℕ → Line → Script → Script
-with_line n Blank script = script
-with_line n (Lane lane act) script = record script {
+abbrev pub script_with_line : ℕ → Line → Script → Script
+script_with_line n Blank script = script
+script_with_line n (Lane lane act) script = record script {
   lines = Lane lane act ∷ script.lines;
   items = script.items ++ record { number = n; lane = lane; act = act } ∷ [];
 }
-with_line n (Boundary boundary) script = record script { lines = Boundary boundary ∷ script.lines }
+script_with_line n (Boundary boundary) script = record script { lines = Boundary boundary ∷ script.lines }
 
 -- the script when its lane lines were taken: the next phase begins after all lines so far
 abbrev pub with_taken : Script → Script
@@ -59,7 +59,7 @@ phases_of script = script.taken ++ script.items ∷ []
 
 -- a line whose lane may be kept, if it is one of a lane
 abbrev pub MayKeep : Line → Type 0
-MayKeep (Lane lane act) = IsKeepable lane
+MayKeep (Lane lane act) = IsKeepableLane lane
 MayKeep _ = Unit {0}
 
 -- what is told of a line that counts, or is blank
@@ -71,7 +71,7 @@ fed_of (Boundary boundary) = FedBoundary boundary
 -- a scripter that has come to this: what it holds fits what the phase began with, no volume is past the most, and the
 -- phases are those of the body, with the volumes of the lines that count
 pub record HoldsScript (script : Script) (scripter : Scripter) : Type 0 where
-  pub stands : Stands script.header script.lines scripter.judge
+  pub stands : JudgeStands script.header script.lines scripter.judge
   pub items : scripter.items.items ≡ script.items
   pub few : length script.items ≤ most_items
   pub fits : Fits script.header (phase_start script) script.items
@@ -84,7 +84,7 @@ pub record HoldsScript (script : Script) (scripter : Scripter) : Type 0 where
 pub record SomeScripter (header : Header) (scripter : Scripter) : Type 0 where
   pub script : Script
   pub of : script.header ≡ header
-  pub is_open : IsOpen script
+  pub is_open : IsOpenScript script
   pub holds : HoldsScript script scripter
 
 -- so is this one, which gave these phases
@@ -92,14 +92,14 @@ pub record Gave (header : Header) (phases : List (List Item)) (scripter : Script
   pub script : Script
   pub of : script.header ≡ header
   pub taken : script.taken ≡ phases
-  pub is_open : IsOpen script
+  pub is_open : IsOpenScript script
   pub holds : HoldsScript script scripter
 
 -- what a scripter comes to with line n of this text. A line that doesn't count, and want of memory, leave it
 abbrev pub Feeds : ℕ → List ℕ → Script → Scripter → Result Fed FeedError → Type 0
 Feeds n text script scripter (Ok fed) =
     (line : Line) × (judged script.header script.lines text ≡ Ok line) × (fed ≡ fed_of line) × HoldsScript
-    (with_line n line script) scripter
+    (script_with_line n line script) scripter
 Feeds n text script scripter (Err (Refused cause)) =
     (judged script.header script.lines text ≡ Err cause) × HoldsScript script scripter
 Feeds n text script scripter (Err Memory) = HoldsScript script scripter

@@ -1,17 +1,16 @@
 -- What the text of a body alone decides: its phases, the boundary lines between them, and each refused line with its
 -- cause.
-use Rattle.std.specs.Prelude.{◌≡◌, ◌≢◌, ℕ, suc, List, [], ◌∷◌, ◌++◌, All, map, reverse, Result, Ok}
-use Rattle.std.specs.Prelude.{Err}
+use Rattle.std.specs.Prelude.{◌≡◌, ◌≢◌, ℕ, suc, List, [], ◌∷◌, ◌++◌, All, map, reverse, Result, Ok, Err}
 use Rattle.vms_base.specs.declared.headers.Header.{Header}
-use Rattle.vms_base.specs.Headers.{IsHeader}
+use Rattle.vms_base.specs.Common.{IsHeader}
 use Rattle.vms_text.specs.declared.acts.Boundary.{Boundary as BoundaryOf}
 use Rattle.vms_text.specs.declared.acts.Item.{Item}
 use Rattle.vms_text.specs.declared.acts.Line.{Line}
 use Rattle.vms_text.specs.declared.acts.Line.TheVariants.{Blank, Lane, Boundary}
 use Rattle.vms_line.specs.declared.causes.LineCause.{LineCause}
-use Rattle.vms_line.specs.Laws.{IsLineOf}
+use Rattle.vms_line.specs.Common.{IsLineOf}
 use Rattle.vms_script.specs.FittingScripts.{Fits}
-use Rattle.vms_script.specs.Judging.{allowed_from, counted, counted_of, judged}
+use Rattle.vms_script.specs.Judging.{allowed_from, with_counted, counted_of, judged}
 use Rattle.vms_script.specs.Starts.{Start, first_start, start_at_end}
 use Rattle.vms_script.specs.Totals.{line_of}
 
@@ -25,7 +24,7 @@ abbrev pub numbered_lines : Header → List Line → ℕ → List (List ℕ) →
 numbered_lines header above n [] = []
 numbered_lines header above n (text ∷ texts) =
     record { number = n; result = judged header above text }
-    ∷ numbered_lines header (counted (judged header above text) above) (suc n) texts
+    ∷ numbered_lines header (with_counted (judged header above text) above) (suc n) texts
 
 -- a phase, by its lane lines, or a boundary line, by its number and what it says
 pub data Segment : Type 0 where
@@ -33,15 +32,16 @@ pub data Segment : Type 0 where
   Between : ℕ → BoundaryOf → Segment
 
 -- the segments with a lane line before them: it is of the phase that they begin with, or it is a phase
-abbrev pub with_item : Item → List Segment → List Segment
-with_item item [] = Phase (item ∷ []) ∷ []
-with_item item (Phase items ∷ segments) = Phase (item ∷ items) ∷ segments
-with_item item (Between number boundary ∷ segments) = Phase (item ∷ []) ∷ Between number boundary ∷ segments
+abbrev pub segments_with_item : Item → List Segment → List Segment
+segments_with_item item [] = Phase (item ∷ []) ∷ []
+segments_with_item item (Phase items ∷ segments) = Phase (item ∷ items) ∷ segments
+segments_with_item item (Between number boundary ∷ segments) = Phase (item ∷ []) ∷ Between number boundary ∷ segments
 
 -- the segments with line n before them; one that is blank or refused is of none
 abbrev pub segments_with : ℕ → Result Line LineCause → List Segment → List Segment
 segments_with n (Ok Blank) segments = segments
-segments_with n (Ok (Lane lane act)) segments = with_item (record { number = n; lane = lane; act = act }) segments
+segments_with n (Ok (Lane lane act)) segments =
+    segments_with_item (record { number = n; lane = lane; act = act }) segments
 segments_with n (Ok (Boundary boundary)) segments = Between n boundary ∷ segments
 segments_with n (Err cause) segments = segments
 
@@ -132,9 +132,9 @@ with_kept n (Ok (Boundary boundary)) items = items
 with_kept n (Err cause) items = items
 
 -- those among these lines
-abbrev pub kept_of : List NumberedLine → List Item
-kept_of [] = []
-kept_of (line ∷ lines) = with_kept line.number line.result (kept_of lines)
+abbrev pub kept_items : List NumberedLine → List Item
+kept_items [] = []
+kept_items (line ∷ lines) = with_kept line.number line.result (kept_items lines)
 
 -- the phase with these lane lines, if there is one
 abbrev pub phase_if_any : List Item → List Segment
@@ -144,4 +144,4 @@ phase_if_any (item ∷ items) = Phase (item ∷ items) ∷ []
 -- between boundary lines there is one phase, of all lane lines that count, or none
 abbrev pub LinesMakeOnePhase : Type 0
 LinesMakeOnePhase = (lines : List NumberedLine) → HaveNoBoundary lines
-    → segments_of lines ≡ phase_if_any (kept_of lines)
+    → segments_of lines ≡ phase_if_any (kept_items lines)

@@ -2,7 +2,7 @@
 use Rattle.std.specs.Prelude.{ℕ, ◌+◌, ◌≤◌, List, [], ◌∷◌}
 use Rattle.vms_base.specs.declared.kinds.CpuState.{CpuState}
 use Rattle.vms_base.specs.declared.kinds.CpuState.TheVariants.{Online as IsOnline}
-use Rattle.vms_base.specs.Volumes.{most_volume}
+use Rattle.vms_base.specs.Common.{most_volume}
 use Rattle.vms_text.specs.declared.acts.Line.{Line}
 use Rattle.vms_script.specs.Cpus.{state_from, state_past}
 use Rattle.vms_script.specs.Volumes.{by_cpu, spent_on_counter, spent_on_event, spent_on_pcpu, volume_from}

@@ -3,15 +3,14 @@ use Rattle.std.specs.Prelude.{◌≡◌, ℕ, ◌+◌, ◌<◌, ◌≤◌, nat_e
 use Rattle.std.specs.Prelude.{map, All, slice_index_or, length, Option, Some, None, IfSome}
 use Rattle.vms_base.specs.declared.ids.CounterId.{CounterId}
 use Rattle.vms_base.specs.declared.headers.Header.{Header}
-use Rattle.vms_base.specs.Places.{IsCounter, IsCpu, counter_count}
+use Rattle.vms_base.specs.Common.{IsCounter, IsCpu, counter_count, most_volume}
 use Rattle.vms_text.specs.declared.acts.Act.{Act}
 use Rattle.vms_text.specs.declared.acts.Act.TheVariants.{Mod, Inc, Dec}
 use Rattle.vms_text.specs.declared.acts.Item.{Item}
 use Rattle.vms_text.specs.declared.acts.Line.{Line}
 use Rattle.vms_text.specs.declared.acts.Line.TheVariants.{Lane}
-use Rattle.vms_line.specs.Laws.{IsLineOf}
+use Rattle.vms_line.specs.Common.{IsLineOf}
 use Rattle.vms_script.specs.Volumes.{spent_on_counter, volume}
-use Rattle.vms_base.specs.Volumes.{most_volume}
 
 -- what an act changes counter k by, in pages
 abbrev pub change_by : ℕ → Act → ℤ
@@ -46,15 +45,15 @@ pub record ArePhases (header : Header) (phases : List (List Item)) : Type 0 wher
       volume (spent_on_counter k) c (lines_of_phases phases) ≤ most_volume
 
 -- the counter that an act changes, and by how many pages
-abbrev pub change_of : Act → Option (CounterId × ℤ)
-change_of (Mod counter pages) = Some (counter, pages)
-change_of (Inc counter) = Some (counter, pos 1)
-change_of (Dec counter) = Some (counter, negsuc 0)
-change_of _ = None
+abbrev pub act_change : Act → Option (CounterId × ℤ)
+act_change (Mod counter pages) = Some (counter, pages)
+act_change (Inc counter) = Some (counter, pos 1)
+act_change (Dec counter) = Some (counter, negsuc 0)
+act_change _ = None
 
 -- totals that have one of the counter that an act changes
 abbrev pub HasTotal : List ℤ → Act → Type 0
-HasTotal totals act = IfSome (change_of act) (λ change. change.0.number < length totals)
+HasTotal totals act = IfSome (act_change act) (λ change. change.0.number < length totals)
 
 -- the size of what these lines change counter k by, whatever their lanes
 abbrev pub sizes_by : ℕ → List Item → ℕ

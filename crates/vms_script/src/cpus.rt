@@ -1,6 +1,6 @@
 ghost use Rattle.std.specs.Prelude.{◌≡◌, ℕ, ◌+◌, ◌<◌, ◌≤◌, length, replicate, slice_index_or, slice_set, IfOk};
 ghost use Rattle.vms_script.specs.Cpus.{online_count};
-ghost use Rattle.vms_base.specs.Cpus.{is_online};
+ghost use Rattle.vms_base.specs.Common.{is_online};
 ghost use Rattle.vms_base.specs.declared.kinds.CpuState.TheVariants.{Online};
 
 use std::alloc::Global;

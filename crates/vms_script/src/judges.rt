@@ -24,15 +24,16 @@ pub struct LineJudge {
 
 impl LineJudge {
     ghost use Rattle.std.specs.Prelude.{◌≡◌, [], List, IfOk, slice_index_or};
-    ghost use Rattle.vms_base.specs.Headers.{IsHeader};
+    ghost use Rattle.vms_base.specs.Common.{IsHeader};
     ghost use Rattle.vms_text.specs.declared.acts.Line.{Line};
-    ghost use Rattle.vms_script.specs.Judging.{counted, judged};
-    ghost use Rattle.vms_script.specs.JudgeStates.{Answers, Decides, IsInOneSpelling, Knows, SomeJudge, Stands};
+    ghost use Rattle.vms_script.specs.Judging.{with_counted, judged};
+    ghost use Rattle.vms_script.specs.JudgeStates.{JudgesLine, Decides, IsInOneSpelling, MayJudge, SomeJudge};
+    ghost use Rattle.vms_script.specs.JudgeStates.{JudgeStands};
 
     /// A judge before the first line of a body with this header.
     pub fn make(alloc: Global, header: &Header) -> Result<LineJudge, Memory>
         requires { IsHeader header.now }
-        ensures { IfOk result (λ judge. Stands header.now [] judge) }
+        ensures { IfOk result (λ judge. JudgeStands header.now [] judge) }
     {
         let cpus = header.layout.cpus();
         let width = header.layout.counters() as usize;
@@ -49,9 +50,9 @@ impl LineJudge {
     pub fn judge<'a>(&mut self, header: &Header, line: &'a [u8]) -> JudgedLine<'a>
         requires header { IsHeader header.now }
         requires judge { SomeJudge header.now self.old }
-        ensures said { (lines : List Line) → Stands header.now lines self.old
+        ensures said { (lines : List Line) → JudgeStands header.now lines self.old
             → (result.said ≡ judged header.now lines line.now)
-            × Stands header.now (counted result.said lines) self.new }
+            × JudgeStands header.now (with_counted result.said lines) self.new }
         ensures spelled { IsInOneSpelling header.now result }
     {
         match parse_spelled(header, line) {
@@ -71,8 +72,9 @@ impl LineJudge {
     fn judge_any(&mut self, header: &Header, line: &[u8]) -> Result<Line, LineCause>
         requires header { IsHeader header.now }
         requires judge { SomeJudge header.now self.old }
-        ensures { (lines : List Line) → Stands header.now lines self.old → (result ≡ judged header.now lines line.now)
-            × Stands header.now (counted result lines) self.new }
+        ensures { (lines : List Line) → JudgeStands header.now lines self.old →
+            (result ≡ judged header.now lines line.now)
+            × JudgeStands header.now (with_counted result lines) self.new }
     {
         let said = parse_line(header, line)?;
         self.decide(said)
@@ -81,8 +83,8 @@ impl LineJudge {
     /// Decides a line that was read, and gives it back where it counts.
     #[inline(always)]
     fn decide(&mut self, line: Line) -> Result<Line, LineCause>
-        requires { Knows self.old line }
-        ensures answers { Answers line self.old self.new result }
+        requires { MayJudge self.old line }
+        ensures answers { JudgesLine line self.old self.new result }
         ensures same { IfOk result (λ said. said ≡ line) }
     {
         self.allow(line)?;
@@ -92,7 +94,7 @@ impl LineJudge {
     /// Decides a line that was read.
     #[inline(always)]
     fn allow(&mut self, line: Line) -> Result<(), LineCause>
-        requires { Knows self.old line }
+        requires { MayJudge self.old line }
         ensures { Decides line self.old self.new result }
     {
         match line {
@@ -105,7 +107,7 @@ impl LineJudge {
     /// Decides a line of a lane.
     #[inline(always)]
     fn allow_lane(&mut self, lane: Lane, act: Act) -> Result<(), LineCause>
-        requires { Knows self.old (Line.Lane lane act) }
+        requires { MayJudge self.old (Line.Lane lane act) }
         ensures { Decides (Line.Lane lane act) self.old self.new result }
     {
         match lane {
@@ -116,7 +118,7 @@ impl LineJudge {
 
     /// Decides an act of the control lane.
     fn allow_control(&mut self, act: Act) -> Result<(), LineCause>
-        requires { Knows self.old (Line.Lane Lane.Control act) }
+        requires { MayJudge self.old (Line.Lane Lane.Control act) }
         ensures { Decides (Line.Lane Lane.Control act) self.old self.new result }
     {
         match act {
@@ -127,7 +129,7 @@ impl LineJudge {
 
     /// Decides a boundary line.
     fn allow_boundary(&mut self, boundary: Boundary) -> Result<(), LineCause>
-        requires { Knows self.old (Line.Boundary boundary) }
+        requires { MayJudge self.old (Line.Boundary boundary) }
         ensures { Decides (Line.Boundary boundary) self.old self.new result }
     {
         match boundary {
@@ -140,7 +142,7 @@ impl LineJudge {
     /// Decides an act of a CPU's lane.
     #[inline(always)]
     fn allow_act(&mut self, cpu: CpuId, act: Act) -> Result<(), LineCause>
-        requires { Knows self.old (Line.Lane (Lane.Cpu cpu) act) }
+        requires { MayJudge self.old (Line.Lane (Lane.Cpu cpu) act) }
         ensures { Decides (Line.Lane (Lane.Cpu cpu) act) self.old self.new result }
     {
         if self.cpus.is_online(cpu) {
@@ -153,7 +155,7 @@ impl LineJudge {
     /// Adds what an act changes to the volumes of a CPU, which is online, unless one would exceed its most.
     #[inline(always)]
     fn spend(&mut self, cpu: CpuId, act: Act) -> Result<(), LineCause>
-        requires knows { Knows self.old (Line.Lane (Lane.Cpu cpu) act) }
+        requires knows { MayJudge self.old (Line.Lane (Lane.Cpu cpu) act) }
         requires online { slice_index_or self.old.cpus.states cpu.number CpuState.Online ≡ CpuState.Online }
         ensures { Decides (Line.Lane (Lane.Cpu cpu) act) self.old self.new result }
     {
@@ -177,7 +179,7 @@ impl LineJudge {
 
     /// A dead CPU becomes absent.
     fn bury(&mut self, cpu: CpuId) -> Result<(), LineCause>
-        requires { Knows self.old (Line.Lane Lane.Control (Act.Dead cpu)) }
+        requires { MayJudge self.old (Line.Lane Lane.Control (Act.Dead cpu)) }
         ensures { Decides (Line.Lane Lane.Control (Act.Dead cpu)) self.old self.new result }
     {
         match self.cpus.get(cpu) {
@@ -191,7 +193,7 @@ impl LineJudge {
 
     /// An online CPU becomes dead, unless it is the only one.
     fn take_down(&mut self, cpu: CpuId) -> Result<(), LineCause>
-        requires { Knows self.old (Line.Boundary (Boundary.Offline cpu)) }
+        requires { MayJudge self.old (Line.Boundary (Boundary.Offline cpu)) }
         ensures { Decides (Line.Boundary (Boundary.Offline cpu)) self.old self.new result }
     {
         if !self.cpus.is_online(cpu) {
@@ -206,7 +208,7 @@ impl LineJudge {
 
     /// An absent CPU becomes online.
     fn bring_up(&mut self, cpu: CpuId) -> Result<(), LineCause>
-        requires { Knows self.old (Line.Boundary (Boundary.Online cpu)) }
+        requires { MayJudge self.old (Line.Boundary (Boundary.Online cpu)) }
         ensures { Decides (Line.Boundary (Boundary.Online cpu)) self.old self.new result }
     {
         match self.cpus.get(cpu) {

@@ -46,9 +46,9 @@ pub struct Scripter {
 
 impl Scripter {
     ghost use Rattle.std.specs.Prelude.{◌≡◌, ◌<◌, All, IfOk, vec_capacity, vec_len};
-    ghost use Rattle.vms_base.specs.Headers.{IsHeader};
-    ghost use Rattle.vms_script.specs.Scripts.{Feeds, HoldsScript, IsOpen, Script, SomeScripter, Takes, fed_of};
-    ghost use Rattle.vms_script.specs.Scripts.{MayKeep, first_script, with_line};
+    ghost use Rattle.vms_base.specs.Common.{IsHeader};
+    ghost use Rattle.vms_script.specs.Scripts.{Feeds, HoldsScript, IsOpenScript, Script, SomeScripter, Takes, fed_of};
+    ghost use Rattle.vms_script.specs.Scripts.{MayKeep, first_script, script_with_line};
 
     /// A scripter before the first line of a body with this header.
     pub fn make(alloc: Global, header: &Header) -> Result<Scripter, Memory>
@@ -69,7 +69,8 @@ impl Scripter {
         requires scripter { SomeScripter header.now self.old }
         requires number { All (λ item. item.number < number) self.old.items.items }
         requires few { vec_len self.old.items < 1000000 }
-        ensures { (script : Script) → script.header ≡ header.now → IsOpen script → HoldsScript script self.old →
+        ensures { (script : Script) → script.header ≡ header.now → IsOpenScript script →
+            HoldsScript script self.old →
             Feeds number line.now script self.new result }
     {
         self.items.reserve(1)?;
@@ -94,7 +95,7 @@ impl Scripter {
         ensures fed { result ≡ fed_of said }
         ensures judge { self.new.judge ≡ self.old.judge }
         ensures items { (script : Script) → self.old.items.items ≡ script.items →
-            self.new.items.items ≡ (with_line number said script).items }
+            self.new.items.items ≡ (script_with_line number said script).items }
     {
         match said {
             Line::Blank => Fed::Blank,

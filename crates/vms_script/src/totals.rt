@@ -1,7 +1,6 @@
-ghost use Rattle.std.specs.Prelude.{◌≡◌, ℕ, ◌+◌, ◌<◌, ◌^◌, pos, ◌+ℤ◌, unsigned_abs, length, All, IfOk};
-ghost use Rattle.std.specs.Prelude.{slice_index_or};
-ghost use Rattle.vms_base.specs.Headers.{IsHeader};
-ghost use Rattle.vms_script.specs.Totals.{ArePhases, ArePlainTotals, HasTotal, change_by, change_of, changes_by};
+ghost use Rattle.std.specs.Prelude.{◌≡◌, ℕ, ◌+◌, ◌<◌, ◌^◌, pos, ◌+ℤ◌, unsigned_abs, length, All, IfOk, slice_index_or};
+ghost use Rattle.vms_base.specs.Common.{IsHeader};
+ghost use Rattle.vms_script.specs.Totals.{ArePhases, ArePlainTotals, HasTotal, change_by, act_change, changes_by};
 ghost use Rattle.vms_script.specs.Totals.{sizes_by};
 
 use crate::PhaseScript;
@@ -48,7 +47,7 @@ fn add_phase(totals: &mut PageTotals, items: &[Item])
 
 /// The counter that an act changes, and by how many pages.
 fn change_of(act: Act) -> Option<(CounterId, i64)>
-    ensures { result ≡ change_of act }
+    ensures { result ≡ act_change act }
 {
     match act {
         Act::Mod(counter, pages) => Some((counter, pages)),

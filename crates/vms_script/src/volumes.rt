@@ -1,7 +1,7 @@
 ghost use Rattle.std.specs.Prelude.{◌≡◌, ◌+◌, ◌*◌, ◌<◌, ◌^◌, nat_lt, if◌then◌else◌, length, replicate, IfOk, Ok, Err};
 ghost use Rattle.vms_line.specs.declared.causes.LineCause.TheVariants.{Overflow};
 ghost use Rattle.vms_script.specs.JudgeStates.{HasCell, volume_at, with_volume};
-ghost use Rattle.vms_base.specs.Volumes.{most_volume};
+ghost use Rattle.vms_base.specs.Common.{most_volume};
 
 use std::alloc::Global;
 use vms_base::{CpuId, Memory, Row};

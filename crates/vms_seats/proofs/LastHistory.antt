@@ -6,17 +6,12 @@ use Rattle.atomic_table.specs.declared.shared.Seat.{Seat}
 use Rattle.atomic_table.specs.Seated.{TableId}
 use Rattle.atomic_table.specs.Table.{State, Me, Splits, Final, Seen}
 use Rattle.atomic_table.proofs.Lists.{set_again}
-use Rattle.vms_history.specs.Events.{own}
-use Rattle.vms_history.specs.Legal.{Machine, IsLegal, IsComplete, state_after}
-use Rattle.vms_history.specs.Passes.{lives_in}
-use Rattle.vms_history.proofs.Own.{own-on_top}
-use Rattle.vms_history.proofs.PassLaws.{nothing_follows}
+use Rattle.vms_history.specs.Common.{own, Machine, IsLegal, IsComplete, state_after, lives_in}
+use Rattle.vms_history.proofs.Common.{own-on_top, nothing_follows}
 use Rattle.vms_seats.specs.declared.views.Held.{Held}
 use Rattle.vms_seats.specs.declared.views.View.{View}
-use Rattle.vms_seats.specs.Rule.{Keeps, Fits}
-use Rattle.vms_seats.specs.Passes.{Pass, Shared, IsOf}
-use Rattle.vms_seats.specs.Seats.{IsClosing, IsMainSeat, main_of}
-use Rattle.vms_seats.specs.Views.{first_of, witness_of, Holds}
+use Rattle.vms_seats.specs.Common.{Keeps, FitsHistory, Pass, Shared, IsFrom, IsClosing, IsMainSeat, main_of, first_pass}
+use Rattle.vms_seats.specs.Common.{witness_of, Holds}
 use Rattle.vms_seats.proofs.SeatFits.{all_fit-more}
 use Rattle.vms_seats.proofs.SeatLists.{one_seat-more}
 
@@ -42,16 +37,16 @@ module _ {F K S : Type 0} (machine : Machine F K S) (shown : F → S → List �
 
 module _ {F K S : Type 0} (machine : Machine F K S) (shown : F → S → List ℕ) (seat : Seat (Unit {0}) (View F K))
     (main : IsMainSeat machine seat)
-    (ended : (q : ℕ) → lives_in machine.role (first_of seat.me.0.held).seen q ≡ false) where
+    (ended : (q : ℕ) → lives_in machine.role (first_pass seat.me.0.held).seen q ≡ false) where
   abbrev v : View F K
   v = seat.me.0
 
   abbrev k : Held K
-  k = first_of v.held
+  k = first_pass v.held
 
   module _ (words : List ℕ) (views : List (View F K)) (kept : Keeps machine shown v.facts words views)
       (at : get_elem? views seat.id ≡ some v) where
-    fits : Fits machine.role kept.history k
+    fits : FitsHistory machine.role kept.history k
     fits = (kept.fits seat.id v at k (subst (λ ks. Holds ks k) (sym main.one) (inl refl))).1
 
     own_same : own kept.history 0 ≡ own k.seen 0
@@ -83,7 +78,7 @@ module _ {F K S : Type 0} (machine : Machine F K S) (shown : F → S → List �
 module _ {F K S : Type 0} (machine : Machine F K S) (shown : F → S → List ℕ) (seat : Seat (Unit {0}) (View F K))
     (main : IsMainSeat machine seat) (pass : Pass F K) (is : main_of seat ≡ pass)
     (table : TableId) (key : F) (shared : Shared F) (shared_is : record { table = table; facts = key } ≡ shared)
-    (of : IsOf pass shared) where
+    (of : IsFrom pass shared) where
   facts_are : seat.me.0.facts ≡ key
   facts_are = ap (λ (p : Pass F K). p.facts) is ∙ of.facts ∙ ap (λ (w : Shared F). w.facts) (sym shared_is)
 
@@ -102,7 +97,7 @@ module _ {F K S : Type 0} (machine : Machine F K S) (shown : F → S → List �
       → Final (Seen (λ s. Keeps machine shown key s.words s.views) last.id last.me.0) words slots
       → IsClosing machine shown words witness
   close_shows ended last witness same_id same_me witness_me words slots final =
-      let ended_here : (q : ℕ) → lives_in machine.role (first_of seat.me.0.held).seen q ≡ false =
+      let ended_here : (q : ℕ) → lives_in machine.role (first_pass seat.me.0.held).seen q ≡ false =
       subst (λ (p : Pass F K). (q : ℕ) → lives_in machine.role p.seen q ≡ false) (sym is) ended in
       let shows = seen_shows machine shown seat main ended_here words slots
       (subst (λ facts. Final (Seen (λ s. Keeps machine shown facts s.words s.views) seat.id seat.me.0) words slots)

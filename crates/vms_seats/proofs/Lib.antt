@@ -6,6 +6,10 @@ pub mod WorkerSteps
 pub mod WorkerCalls
 pub mod PassBegins
 pub mod PassEnds
+pub mod MainSeats
 pub mod MainBegins
 pub mod MainEnds
 pub mod LastHistory
+pub mod TwoPasses
+pub mod ThreePasses
+pub mod Common

@@ -1,11 +1,8 @@
 -- For other crates too: how the steps of calls add up, and what a pass is after them.
 use Rattle.std.proofs.Common.{◌≡◌, true, List, [], ◌∷◌, ◌++◌, refl, ap, sym, ◌∙◌, subst}
-use Rattle.vms_history.specs.Legal.{Machine, IsLegal}
-use Rattle.vms_history.specs.PassSteps.{HasMade}
-use Rattle.vms_history.specs.Passes.{owner_in, lives_in}
-use Rattle.vms_history.proofs.MadeSteps.{made-none, made-both, made-owner}
-use Rattle.vms_seats.specs.Passes.{Pass, IsLive}
-use Rattle.vms_seats.specs.Steps.{Made, MadeOne}
+use Rattle.vms_history.specs.Common.{Machine, IsLegal, HasMade, owner_in, lives_in}
+use Rattle.vms_history.proofs.Common.{made-none, made-both, made-owner}
+use Rattle.vms_seats.specs.Common.{Pass, IsLive, Made, MadeOne}
 
 module _ {F K S : Type 0} (machine : Machine F K S) where
   pub calls-none : (pass : Pass F K) → IsLive machine pass → Made machine pass pass []

@@ -1,42 +1,33 @@
 -- What the main pass asks of the words to begin a pass, and what that gives, by its seat.
-use Rattle.std.proofs.Common.{◌≡◌, ℕ, ◌<◌, true, cond, List, [], ◌∷◌, Option, None, refl, ap, sym, ◌∙◌}
-use Rattle.std.proofs.Common.{subst, arith, eq-eqb}
+use Rattle.std.proofs.Common.{◌≡◌, ℕ, ◌<◌, true, cond, List, [], ◌∷◌, Option, None, refl, ap, sym, ◌∙◌, subst, arith}
+use Rattle.std.proofs.Common.{eq-eqb}
 use Rattle.atomic_table.specs.declared.shared.Seat.{Seat}
 use Rattle.atomic_table.specs.Seated.{TableId}
 use Rattle.atomic_table.specs.Table.{Allows, Splits, Me}
-use Rattle.vms_base.specs.declared.ids.CpuId.{CpuId}
+use Rattle.vms_history.specs.Common.{CpuId, own, Machine, IsLegal, IsQuiet, begun, begun_in, lives_in, lives_after}
+use Rattle.vms_history.specs.Common.{owner_in, owner_after, Begins}
 use Rattle.vms_history.specs.declared.events.Event.{Event}
-use Rattle.vms_history.specs.Events.{own}
-use Rattle.vms_history.specs.Legal.{Machine, IsLegal, IsQuiet}
-use Rattle.vms_history.specs.Passes.{begun, begun_in, lives_in, lives_after, owner_in, owner_after}
-use Rattle.vms_history.specs.Passes.Role.{Begins}
-use Rattle.vms_history.proofs.Own.{own-others}
-use Rattle.vms_history.proofs.PassLaws.{lives_in-main, owner_in-main, own-not_given}
+use Rattle.vms_history.proofs.Common.{own-others, lives_in-main, owner_in-main, own-not_given}
 use Rattle.vms_seats.specs.declared.views.Held.{Held}
 use Rattle.vms_seats.specs.declared.views.View.{View}
-use Rattle.vms_seats.specs.MainSteps.{HasBegun, MayBeginPass, next_number}
-use Rattle.vms_seats.specs.Passes.{Pass, Shared, IsLive, IsMain, IsOf}
-use Rattle.vms_seats.specs.Plays.{Divides}
-use Rattle.vms_seats.specs.Rule.{Keeps}
-use Rattle.vms_seats.specs.Seats.{IsMainSeat, IsWorker, main_of, worker_of}
-use Rattle.vms_seats.specs.Views.{first_of, first_alone, second_alone, holding}
+use Rattle.vms_seats.specs.Common.{HasBegun, MayBeginPass, next_number, Pass, Shared, IsLive, IsMain, IsFrom, Divides}
+use Rattle.vms_seats.specs.Common.{Keeps, IsMainSeat, IsWorker, main_of, worker_of, first_pass, first_alone}
+use Rattle.vms_seats.specs.Common.{second_alone, holding}
+use Rattle.vms_seats.proofs.MainSeats.{seat-at}
 use Rattle.vms_seats.proofs.PassBegins.{main_may_begin, main_splits}
 
 module _ {F K S : Type 0} (machine : Machine F K S) (shown : F → S → List ℕ) (quiet : IsQuiet machine)
     (seat : Seat (Unit {0}) (View F K)) (main : IsMainSeat machine seat) (pass : Pass F K) (is : main_of seat ≡ pass)
     (table : TableId) (key : F) (words : Shared F) (words_are : record { table = table; facts = key } ≡ words)
-    (of : IsOf pass words) (some : 0 < table.words) where
+    (of : IsFrom pass words) (some : 0 < table.words) where
   abbrev v : View F K
   v = seat.me.0
 
   abbrev k : Held K
-  k = first_of v.held
+  k = first_pass v.held
 
-  pub table_is : seat.table_id ≡ table
-  table_is = ap (λ (p : Pass F K). p.table) is ∙ of.table ∙ ap (λ (w : Shared F). w.table) (sym words_are)
-
-  facts_are : v.facts ≡ key
-  facts_are = ap (λ (p : Pass F K). p.facts) is ∙ of.facts ∙ ap (λ (w : Shared F). w.facts) (sym words_are)
+  seated : (seat.table_id ≡ table) × (v.facts ≡ key)
+  seated = seat-at seat pass is table key words words_are of
 
   module _ (begins : ℕ → Option CpuId → K)
       (begins_it : (r : ℕ) (o : Option CpuId) → machine.role (begins r o) ≡ Begins r o) (who : Option CpuId)
@@ -45,12 +36,12 @@ module _ {F K S : Type 0} (machine : Machine F K S) (shown : F → S → List �
         × Allows {S = Unit {0}} (λ s. Keeps machine shown key s.words s.views) table.slots seat.id seat.me 0 (λ n. n)
         (λ found w. (w.1 ≡ seat.me.1) × Divides machine begins picked seat.me.0 w.0)
     begin_may = (
-      table_is,
+      seated.0,
       some,
       subst
           (λ facts. Allows {S = Unit {0}} (λ s. Keeps machine shown facts s.words s.views) table.slots seat.id seat.me 0
           (λ n. n) (λ found w. (w.1 ≡ seat.me.1) × Divides machine begins picked seat.me.0 w.0))
-          facts_are
+          seated.1
           (main_may_begin machine shown quiet seat main table.slots begins begins_it picked
           (subst (λ p. MayBeginPass machine p picked) (sym is)
           (subst (MayBeginPass machine pass) (sym picked_is) may))),
@@ -118,7 +109,7 @@ module _ {F K S : Type 0} (machine : Machine F K S) (shown : F → S → List �
       begun_now : HasBegun machine begins new_main (main_of seat) new_pass who
       begun_now = record {
         main = record {
-          table = sym table_is;
+          table = sym seated.0;
           facts = refl;
           number = sym main.is_main.main;
           cpu = refl;
@@ -128,7 +119,7 @@ module _ {F K S : Type 0} (machine : Machine F K S) (shown : F → S → List �
           );
         };
         made = divides.made;
-        table = sym table_is;
+        table = sym seated.0;
         facts = refl;
         number = refl;
         cpu = refl;
@@ -151,26 +142,26 @@ module _ {F K S : Type 0} (machine : Machine F K S) (shown : F → S → List �
 
         left_is : main_of left ≡ new_main
         left_is = λ i. record {
-          table = (left_table ∙ after_table ∙ table_is) i;
+          table = (left_table ∙ after_table ∙ seated.0) i;
           facts = (left_view i).facts;
-          number = (first_of (left_view i).held).number;
+          number = (first_pass (left_view i).held).number;
           cpu = None;
-          seen = (first_of (left_view i).held).seen;
+          seen = (first_pass (left_view i).held).seen;
         }
 
         right_is : worker_of right who ≡ new_pass
         right_is = λ i. record {
-          table = (right_table ∙ after_table ∙ table_is) i;
+          table = (right_table ∙ after_table ∙ seated.0) i;
           facts = (right_view i).facts;
-          number = (first_of (right_view i).held).number;
+          number = (first_pass (right_view i).held).number;
           cpu = who;
-          seen = (first_of (right_view i).held).seen;
+          seen = (first_pass (right_view i).held).seen;
         }
 
         pub begin_main : IsMainSeat machine left
         begin_main = record {
           empty = ap (λ (me : Me (Unit {0}) (View F K)). me.1) left_me ∙ after_empty ∙ main.empty;
-          one = subst (λ (u : View F K). u.held ≡ first_of u.held ∷ []) (sym left_view) refl;
+          one = subst (λ (u : View F K). u.held ≡ first_pass u.held ∷ []) (sym left_view) refl;
           is_main = subst (IsMain machine) (sym left_is)
               (record { legal = divides.made.legal; main = refl; none = refl });
         }
@@ -178,7 +169,7 @@ module _ {F K S : Type 0} (machine : Machine F K S) (shown : F → S → List �
         pub begin_worker : IsWorker machine right who
         begin_worker = record {
           empty = ap (λ (me : Me (Unit {0}) (View F K)). me.1) right_me;
-          one = subst (λ (u : View F K). u.held ≡ first_of u.held ∷ []) (sym right_view) refl;
+          one = subst (λ (u : View F K). u.held ≡ first_pass u.held ∷ []) (sym right_view) refl;
           live = subst (IsLive machine) (sym right_is) live_now;
         }
 

@@ -1,62 +1,51 @@
 -- What the main pass asks of the words to end a pass, and what that gives, by its seat.
-use Rattle.std.proofs.Common.{◌≡◌, ◌≢◌, ℕ, ◌<◌, List, [], ◌∷◌, Option, None, refl, ap, sym, ◌∙◌}
-use Rattle.std.proofs.Common.{subst, arith}
+use Rattle.std.proofs.Common.{◌≡◌, ◌≢◌, ℕ, ◌<◌, List, [], ◌∷◌, Option, None, refl, ap, sym, ◌∙◌, subst, arith}
 use Rattle.atomic_table.specs.declared.shared.Seat.{Seat}
 use Rattle.atomic_table.specs.Seated.{TableId}
 use Rattle.atomic_table.specs.Table.{Allows, Joins, Me}
-use Rattle.vms_base.specs.declared.ids.CpuId.{CpuId}
+use Rattle.vms_history.specs.Common.{CpuId, own, Machine, IsQuiet, Ends}
 use Rattle.vms_history.specs.declared.events.Event.{Event}
-use Rattle.vms_history.specs.Events.{own}
-use Rattle.vms_history.specs.Legal.{Machine, IsQuiet}
-use Rattle.vms_history.specs.Passes.Role.{Ends}
-use Rattle.vms_history.proofs.Own.{own-others}
-use Rattle.vms_history.proofs.PassLaws.{live_is_given}
+use Rattle.vms_history.proofs.Common.{own-others, live_is_given}
 use Rattle.vms_seats.specs.declared.views.Held.{Held}
 use Rattle.vms_seats.specs.declared.views.View.{View}
-use Rattle.vms_seats.specs.MainSteps.{HasEnded, MayEndPass}
-use Rattle.vms_seats.specs.Passes.{Pass, Shared, IsMain, IsOf}
-use Rattle.vms_seats.specs.Plays.{Unites}
-use Rattle.vms_seats.specs.Rule.{Keeps}
-use Rattle.vms_seats.specs.Seats.{IsMainSeat, IsWorker, main_of, worker_of}
-use Rattle.vms_seats.specs.Views.{first_of, both_held, holding, spent_view}
+use Rattle.vms_seats.specs.Common.{HasEnded, MayEndPass, Pass, Shared, IsMain, IsFrom, Unites, Keeps, IsMainSeat}
+use Rattle.vms_seats.specs.Common.{IsWorker, main_of, worker_of, first_pass, both_held, holding, spent_view}
+use Rattle.vms_seats.proofs.MainSeats.{seat-at}
 use Rattle.vms_seats.proofs.PassEnds.{main_may_end, seats_join}
 
 -- a view that acts for one pass
-alone_is : {F K : Type 0} (v : View F K) → v.held ≡ first_of v.held ∷ [] → v ≡ holding v (first_of v.held ∷ [])
+alone_is : {F K : Type 0} (v : View F K) → v.held ≡ first_pass v.held ∷ [] → v ≡ holding v (first_pass v.held ∷ [])
 alone_is v one = λ i. record { facts = v.facts; held = one i; past = v.past }
 
 module _ {F K S : Type 0} (machine : Machine F K S) (shown : F → S → List ℕ) (quiet : IsQuiet machine)
     (seat : Seat (Unit {0}) (View F K)) (main : IsMainSeat machine seat) (pass : Pass F K) (is : main_of seat ≡ pass)
     (table : TableId) (key : F) (words : Shared F) (words_are : record { table = table; facts = key } ≡ words)
-    (of : IsOf pass words) (some : 0 < table.words) where
+    (of : IsFrom pass words) (some : 0 < table.words) where
   abbrev v : View F K
   v = seat.me.0
 
   abbrev k : Held K
-  k = first_of v.held
+  k = first_pass v.held
 
-  pub table_is : seat.table_id ≡ table
-  table_is = ap (λ (p : Pass F K). p.table) is ∙ of.table ∙ ap (λ (w : Shared F). w.table) (sym words_are)
-
-  facts_are : v.facts ≡ key
-  facts_are = ap (λ (p : Pass F K). p.facts) is ∙ of.facts ∙ ap (λ (w : Shared F). w.facts) (sym words_are)
+  seated : (seat.table_id ≡ table) × (v.facts ≡ key)
+  seated = seat-at seat pass is table key words words_are of
 
   -- the main pass ends another
   module _ (other : Seat (Unit {0}) (View F K)) (cpu : Option CpuId) (worker : IsWorker machine other cpu)
-      (theirs : Pass F K) (theirs_is : worker_of other cpu ≡ theirs) (theirs_of : IsOf theirs words) (blank : F)
+      (theirs : Pass F K) (theirs_is : worker_of other cpu ≡ theirs) (theirs_of : IsFrom theirs words) (blank : F)
       (ends : ℕ → K) (ends_it : (q : ℕ) → machine.role (ends q) ≡ Ends q) (may : MayEndPass machine theirs) where
     abbrev u : View F K
     u = other.me.0
 
     abbrev m : Held K
-    m = first_of u.held
+    m = first_pass u.held
 
     their_table : other.table_id ≡ table
     their_table = ap (λ (p : Pass F K). p.table) theirs_is ∙ theirs_of.table
         ∙ ap (λ (w : Shared F). w.table) (sym words_are)
 
     their_facts : theirs.facts ≡ v.facts
-    their_facts = theirs_of.facts ∙ ap (λ (w : Shared F). w.facts) (sym words_are) ∙ sym facts_are
+    their_facts = theirs_of.facts ∙ ap (λ (w : Shared F). w.facts) (sym words_are) ∙ sym seated.1
 
     their_number : theirs.number ≡ m.number
     their_number = ap (λ (p : Pass F K). p.number) (sym theirs_is)
@@ -71,7 +60,7 @@ module _ {F K S : Type 0} (machine : Machine F K S) (shown : F → S → List �
         × Joins {S = Unit {0}} (λ s. Keeps machine shown key s.words s.views) seat.id v other.id u (both_held v u)
         (spent_view blank)
     end_joins = (
-      table_is,
+      seated.0,
       their_table,
       worker.empty,
       some,
@@ -106,7 +95,7 @@ module _ {F K S : Type 0} (machine : Machine F K S) (shown : F → S → List �
           (λ n. n)
           (λ found w. (w.1 ≡ after.me.1) × Unites machine ends after.me.0 w.0)
       end_may = (
-        after_table ∙ table_is,
+        after_table ∙ seated.0,
         some,
         subst
             (λ (me : Me (Unit {0}) (View F K)). Allows {S = Unit {0}} (λ s. Keeps machine shown key s.words s.views)
@@ -116,7 +105,7 @@ module _ {F K S : Type 0} (machine : Machine F K S) (shown : F → S → List �
             (λ facts. Allows {S = Unit {0}} (λ s. Keeps machine shown facts s.words s.views) table.slots after.id
             (holding v (k ∷ m ∷ []), []) 0 (λ n. n)
             (λ found w. (w.1 ≡ []) × Unites machine ends (holding v (k ∷ m ∷ [])) w.0))
-            facts_are
+            seated.1
             (main_may_end machine shown quiet v k m main.is_main.main given ends ends_it may_end after.id
             table.slots)),
       )
@@ -135,17 +124,17 @@ module _ {F K S : Type 0} (machine : Machine F K S) (shown : F → S → List �
 
         last_is : main_of last ≡ new_main
         last_is = λ i. record {
-          table = (last_table ∙ after_table ∙ table_is) i;
+          table = (last_table ∙ after_table ∙ seated.0) i;
           facts = (united.view i).facts;
-          number = (first_of (united.view i).held).number;
+          number = (first_pass (united.view i).held).number;
           cpu = None;
-          seen = (first_of (united.view i).held).seen;
+          seen = (first_pass (united.view i).held).seen;
         }
 
         pub end_main : IsMainSeat machine last
         end_main = record {
           empty = last_empty ∙ ap (λ (me : Me (Unit {0}) (View F K)). me.1) me_is;
-          one = subst (λ (x : View F K). x.held ≡ first_of x.held ∷ []) (sym united.view) refl;
+          one = subst (λ (x : View F K). x.held ≡ first_pass x.held ∷ []) (sym united.view) refl;
           is_main = subst (IsMain machine) (sym last_is)
               (record { legal = united.made.made.legal; main = refl; none = refl });
         }
@@ -157,7 +146,7 @@ module _ {F K S : Type 0} (machine : Machine F K S) (shown : F → S → List �
         ended_now : HasEnded machine ends new_main (main_of seat) (worker_of other cpu)
         ended_now = record {
           main = record {
-            table = sym table_is;
+            table = sym seated.0;
             facts = refl;
             number = sym main.is_main.main;
             cpu = refl;

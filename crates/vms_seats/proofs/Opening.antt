@@ -2,11 +2,10 @@
 use Rattle.std.proofs.Common.{◌≡◌, ℕ, zero, suc, List, [], ◌∷◌, inl, ⊎_elim, refl, sym, ◌∙◌, subst}
 use mathlib.Core.Option.{some, some-injective, some-ne-none}
 use lib.ListN.{get_elem?}
-use Rattle.vms_history.specs.Legal.{Machine}
-use Rattle.vms_history.proofs.Own.{Extends-same}
+use Rattle.vms_history.specs.Common.{Machine}
+use Rattle.vms_history.proofs.Common.{Extends-same}
 use Rattle.vms_seats.specs.declared.views.View.{View}
-use Rattle.vms_seats.specs.Rule.{Keeps, Fits, AllFit, OneSeatEach}
-use Rattle.vms_seats.specs.Views.{opening_view, Holds}
+use Rattle.vms_seats.specs.Common.{Keeps, FitsHistory, AllFit, OneSeatEach, opening_view, Holds}
 
 module _ {F K S : Type 0} (machine : Machine F K S) (shown : F → S → List ℕ) (facts : F) where
   -- the one seat is the first
@@ -17,11 +16,12 @@ module _ {F K S : Type 0} (machine : Machine F K S) (shown : F → S → List �
 
   opening_fits : AllFit machine.role facts [] (opening_view facts ∷ [])
   opening_fits seat v at k held =
-      subst (λ (u : View F K). Holds u.held k → (u.facts ≡ facts) × Fits machine.role [] k) (only_view seat v at).1
+      subst (λ (u : View F K). Holds u.held k → (u.facts ≡ facts) × FitsHistory machine.role [] k)
+      (only_view seat v at).1
       (λ mine. ⊎_elim
       (λ same. (
         refl,
-        subst (Fits machine.role []) same
+        subst (FitsHistory machine.role []) same
             (record { extends = Extends-same []; own_same = refl; lives = inl refl }),
       ))
       (λ none. absurd none) mine) held

@@ -1,27 +1,19 @@
 -- The step by which a pass begins, and the split of the seat after it, keep the rule.
 use Rattle.std.proofs.Common.{◌≡◌, ◌≢◌, ℕ, suc, ◌<◌, Bool, true, false, nat_eq, cond, List, [], ◌∷◌, ◌++◌, set}
-use Rattle.std.proofs.Common.{slice_index}
-use Rattle.std.proofs.Common.{Option, ◌⊎◌, inl, inr, ⊎_elim, refl, ap, sym, ◌∙◌, subst, arith, eq-eqb}
+use Rattle.std.proofs.Common.{slice_index, Option, ◌⊎◌, inl, inr, ⊎_elim, refl, ap, sym, ◌∙◌, subst, arith, eq-eqb}
 use mathlib.Core.Option.{some}
 use lib.ListN.{get_elem?}
 use Rattle.atomic_table.specs.declared.shared.Seat.{Seat}
 use Rattle.atomic_table.specs.Table.{Allows, Splits, keeps}
 use Rattle.atomic_table.proofs.Lists.{at_set}
-use Rattle.vms_base.specs.declared.ids.CpuId.{CpuId}
+use Rattle.vms_history.specs.Common.{CpuId, own, Machine, IsLegal, IsQuiet, Acts, state_after, Role, begun_in, lives_in}
+use Rattle.vms_history.specs.Common.{lives_after, owner_in, owner_after, Works, Begins, Ends}
 use Rattle.vms_history.specs.declared.events.Event.{Event}
-use Rattle.vms_history.specs.Events.{own}
-use Rattle.vms_history.specs.Legal.{Machine, IsLegal, IsQuiet, Acts, state_after}
-use Rattle.vms_history.specs.Passes.{Role, begun_in, lives_in, lives_after, owner_in, owner_after}
-use Rattle.vms_history.specs.Passes.Role.{Works, Begins, Ends}
-use Rattle.vms_history.proofs.Own.{Extends-same}
-use Rattle.vms_history.proofs.PassLaws.{Acts-same, live_is_given, lives_in-main}
+use Rattle.vms_history.proofs.Common.{Extends-same, Acts-same, live_is_given, lives_in-main}
 use Rattle.vms_seats.specs.declared.views.Held.{Held}
 use Rattle.vms_seats.specs.declared.views.View.{View}
-use Rattle.vms_seats.specs.MainSteps.{MayBeginPass, next_number}
-use Rattle.vms_seats.specs.Plays.{Divides}
-use Rattle.vms_seats.specs.Rule.{Keeps, Fits, OneSeatEach}
-use Rattle.vms_seats.specs.Seats.{IsMainSeat, main_of}
-use Rattle.vms_seats.specs.Views.{first_of, holding, Holds}
+use Rattle.vms_seats.specs.Common.{MayBeginPass, next_number, Divides, Keeps, FitsHistory, OneSeatEach, IsMainSeat}
+use Rattle.vms_seats.specs.Common.{main_of, first_pass, holding, Holds}
 use Rattle.vms_seats.proofs.SeatFits.{fits-others, all_fit-set, all_fit-more}
 use Rattle.vms_seats.proofs.SeatLists.{one_seat-set, one_seat-more, set_same, Unheld}
 
@@ -38,7 +30,7 @@ module _ {F K S : Type 0} (machine : Machine F K S) (shown : F → S → List �
   v = seat.me.0
 
   abbrev k : Held K
-  k = first_of v.held
+  k = first_pass v.held
 
   held : Holds v.held k
   held = subst (λ ks. Holds ks k) (sym main.one) (inl refl)
@@ -61,7 +53,7 @@ module _ {F K S : Type 0} (machine : Machine F K S) (shown : F → S → List �
     abbrev e : Event K
     e = record { caller = 0; step = step }
 
-    fits : Fits machine.role h k
+    fits : FitsHistory machine.role h k
     fits = (kept.fits seat.id v at k held).1
 
     own_same : own h 0 ≡ own k.seen 0
@@ -109,11 +101,11 @@ module _ {F K S : Type 0} (machine : Machine F K S) (shown : F → S → List �
         omega (arith, given, q_is_next))
         (kept.fits j u at_j m held_there).1.lives
 
-    here : (m : Held K) → Holds w.held m → (w.facts ≡ v.facts) × Fits machine.role (e ∷ h) m
+    here : (m : Held K) → Holds w.held m → (w.facts ≡ v.facts) × FitsHistory machine.role (e ∷ h) m
     here m held_now = ⊎_elim
         (λ same. (
           refl,
-          subst (Fits machine.role (e ∷ h)) same (record {
+          subst (FitsHistory machine.role (e ∷ h)) same (record {
             extends = Extends-same (e ∷ h);
             own_same = refl;
             lives = inl refl;
@@ -122,7 +114,7 @@ module _ {F K S : Type 0} (machine : Machine F K S) (shown : F → S → List �
         (λ rest. ⊎_elim
         (λ same. (
           refl,
-          subst (Fits machine.role (e ∷ h)) same (record {
+          subst (FitsHistory machine.role (e ∷ h)) same (record {
             extends = Extends-same (e ∷ h);
             own_same = refl;
             lives = inr begun;
@@ -131,7 +123,7 @@ module _ {F K S : Type 0} (machine : Machine F K S) (shown : F → S → List �
         (λ none. absurd none) rest) held_now
 
     others : (j : ℕ) (u : View F K) → j ≢ seat.id → get_elem? views j ≡ some u → (m : Held K) → Holds u.held m
-        → Fits machine.role h m → Fits machine.role (e ∷ h) m
+        → FitsHistory machine.role h m → FitsHistory machine.role (e ∷ h) m
     others j u other at_j m held_there fits_there =
         fits-others machine.role e h m fits_there
         (λ same. other (sym (kept.one_seat seat.id j v u at at_j k m held held_there (main.is_main.main ∙ same))))

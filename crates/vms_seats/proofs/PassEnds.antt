@@ -1,22 +1,17 @@
 -- The join of two seats, and the step by which the joined pass ends, keep the rule.
-use Rattle.std.proofs.Common.{◌≡◌, ◌≢◌, ℕ, true, false, cond, List, [], ◌∷◌, set, slice_index}
-use Rattle.std.proofs.Common.{◌⊎◌, inl, inr, ⊎_elim, refl, ap, sym, ◌∙◌, subst, ne_eqb}
+use Rattle.std.proofs.Common.{◌≡◌, ◌≢◌, ℕ, true, false, cond, List, [], ◌∷◌, set, slice_index, ◌⊎◌, inl, inr, ⊎_elim}
+use Rattle.std.proofs.Common.{refl, ap, sym, ◌∙◌, subst, ne_eqb}
 use mathlib.Core.Option.{some}
 use lib.ListN.{get_elem?}
 use Rattle.atomic_table.specs.Table.{Allows, Joins, keeps}
 use Rattle.atomic_table.proofs.Lists.{at_set, set_else}
 use Rattle.vms_history.specs.declared.events.Event.{Event}
-use Rattle.vms_history.specs.Events.{own}
-use Rattle.vms_history.specs.Legal.{Machine, IsLegal, IsQuiet, Acts, state_after}
-use Rattle.vms_history.specs.Passes.{lives_in, lives_after, owner_in}
-use Rattle.vms_history.specs.Passes.Role.{Works, Ends}
-use Rattle.vms_history.proofs.Own.{Extends-same}
-use Rattle.vms_history.proofs.PassLaws.{lives_in-main}
+use Rattle.vms_history.specs.Common.{own, Machine, IsLegal, IsQuiet, Acts, state_after, lives_in, lives_after, owner_in}
+use Rattle.vms_history.specs.Common.{Works, Ends}
+use Rattle.vms_history.proofs.Common.{Extends-same, lives_in-main}
 use Rattle.vms_seats.specs.declared.views.Held.{Held}
 use Rattle.vms_seats.specs.declared.views.View.{View}
-use Rattle.vms_seats.specs.Plays.{Unites}
-use Rattle.vms_seats.specs.Rule.{Keeps, Fits, AllFit, OneSeatEach}
-use Rattle.vms_seats.specs.Views.{holding, spent_view, Holds}
+use Rattle.vms_seats.specs.Common.{Unites, Keeps, FitsHistory, AllFit, OneSeatEach, holding, spent_view, Holds}
 use Rattle.vms_seats.proofs.SeatFits.{fits-others, all_fit-set}
 use Rattle.vms_seats.proofs.SeatLists.{one_seat-set, set_same, Unheld}
 
@@ -33,7 +28,7 @@ module _ {F K S : Type 0} (machine : Machine F K S) (shown : F → S → List �
     abbrev joined : List (View F K)
     joined = set (set views id both) other (spent_view blank)
 
-    first_fits : (m : Held K) → Holds (a ∷ b ∷ []) m → (v.facts ≡ facts) × Fits machine.role kept.history m
+    first_fits : (m : Held K) → Holds (a ∷ b ∷ []) m → (v.facts ≡ facts) × FitsHistory machine.role kept.history m
     first_fits m held = ⊎_elim (λ first. kept.fits id (holding v (a ∷ [])) at m (inl first))
         (λ rest. (
           (kept.fits id (holding v (a ∷ [])) at a (inl refl)).0,
@@ -113,10 +108,10 @@ module _ {F K S : Type 0} (machine : Machine F K S) (shown : F → S → List �
     abbrev e : Event K
     e = record { caller = 0; step = step }
 
-    main_fits : Fits machine.role h a
+    main_fits : FitsHistory machine.role h a
     main_fits = (kept.fits id two at a (inl refl)).1
 
-    ending_fits : Fits machine.role h b
+    ending_fits : FitsHistory machine.role h b
     ending_fits = (kept.fits id two at b (inr (inl refl))).1
 
     own_same : own h 0 ≡ own a.seen 0
@@ -147,11 +142,11 @@ module _ {F K S : Type 0} (machine : Machine F K S) (shown : F → S → List �
     abbrev w : View F K
     w = holding v (record { number = 0; seen = e ∷ h } ∷ [])
 
-    here : (m : Held K) → Holds w.held m → (w.facts ≡ v.facts) × Fits machine.role (e ∷ h) m
+    here : (m : Held K) → Holds w.held m → (w.facts ≡ v.facts) × FitsHistory machine.role (e ∷ h) m
     here m held_now = ⊎_elim
         (λ same. (
           refl,
-          subst (Fits machine.role (e ∷ h)) same (record {
+          subst (FitsHistory machine.role (e ∷ h)) same (record {
             extends = Extends-same (e ∷ h);
             own_same = refl;
             lives = inl refl;
@@ -160,7 +155,7 @@ module _ {F K S : Type 0} (machine : Machine F K S) (shown : F → S → List �
         (λ none. absurd none) held_now
 
     others : (j : ℕ) (u : View F K) → j ≢ id → get_elem? views j ≡ some u → (m : Held K) → Holds u.held m
-        → Fits machine.role h m → Fits machine.role (e ∷ h) m
+        → FitsHistory machine.role h m → FitsHistory machine.role (e ∷ h) m
     others j u other at_j m held_there fits_there =
         fits-others machine.role e h m fits_there
         (λ same. other (sym (kept.one_seat id j two u at at_j a m (inl refl) held_there (main ∙ same))))

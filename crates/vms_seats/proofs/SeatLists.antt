@@ -1,14 +1,12 @@
 -- Which seats act for which passes, as the view of one seat changes and as a seat is added.
 use Rattle.std.proofs.Common.{◌≡◌, ◌≢◌, ℕ, zero, suc, List, [], ◌∷◌, ◌++◌, length, slice_get, slice_index, Some, set}
-use Rattle.std.proofs.Common.{◌⊎◌, inl, inr, ⊎_elim}
-use Rattle.std.proofs.Common.{refl, ap, sym, ◌∙◌, subst}
+use Rattle.std.proofs.Common.{◌⊎◌, inl, inr, ⊎_elim, refl, ap, sym, ◌∙◌, subst}
 use mathlib.Core.Option.{some, some-injective, some-ne-none}
 use lib.ListN.{get_elem?}
 use Rattle.atomic_table.proofs.Lists.{at_set}
 use Rattle.vms_seats.specs.declared.views.Held.{Held}
 use Rattle.vms_seats.specs.declared.views.View.{View}
-use Rattle.vms_seats.specs.Rule.{OneSeatEach}
-use Rattle.vms_seats.specs.Views.{Holds}
+use Rattle.vms_seats.specs.Common.{OneSeatEach, Holds}
 
 pub set_same : (ns : List ℕ) (i : ℕ) → set ns i (slice_index ns i) ≡ ns
 set_same [] i = refl

@@ -3,20 +3,12 @@ use Rattle.std.proofs.Common.{◌≡◌, ℕ, ◌<◌, List, [], ◌∷◌, Opti
 use Rattle.atomic_table.specs.declared.shared.Seat.{Seat}
 use Rattle.atomic_table.specs.Seated.{TableId}
 use Rattle.atomic_table.specs.Table.{Allows}
-use Rattle.vms_base.specs.declared.ids.CpuId.{CpuId}
+use Rattle.vms_history.specs.Common.{CpuId, Machine, IsLegal, HasMade, after}
 use Rattle.vms_history.specs.declared.events.Event.{Event}
-use Rattle.vms_history.specs.Legal.{Machine, IsLegal}
-use Rattle.vms_history.specs.PassSteps.{HasMade}
-use Rattle.vms_history.specs.Events.{after}
-use Rattle.vms_history.proofs.MadeSteps.{made-one}
-use Rattle.vms_history.proofs.Own.{Extends-both}
+use Rattle.vms_history.proofs.Common.{made-one, Extends-both}
 use Rattle.vms_seats.specs.declared.views.View.{View}
-use Rattle.vms_seats.specs.Passes.{Pass, Shared, IsOf, IsLive}
-use Rattle.vms_seats.specs.Plays.{Advances}
-use Rattle.vms_seats.specs.Rule.{Keeps}
-use Rattle.vms_seats.specs.Seats.{IsWorker, worker_of}
-use Rattle.vms_seats.specs.Steps.{MayStep, MakesStep, MadeOne}
-use Rattle.vms_seats.specs.Views.{first_of}
+use Rattle.vms_seats.specs.Common.{Pass, Shared, IsFrom, IsLive, Advances, Keeps, IsWorker, worker_of, MayStep}
+use Rattle.vms_seats.specs.Common.{MakesStep, MadeOne, first_pass}
 use Rattle.vms_seats.proofs.MadeCalls.{calls-live}
 use Rattle.vms_seats.proofs.WorkerSteps.{worker_may}
 
@@ -47,7 +39,7 @@ module _ {F K S : Type 0} (machine : Machine F K S) where
     after_step = record {
       table = old.table_id;
       facts = old.me.0.facts;
-      number = (first_of old.me.0.held).number;
+      number = (first_pass old.me.0.held).number;
       cpu = cpu;
       seen = advances.seen;
     }
@@ -56,9 +48,9 @@ module _ {F K S : Type 0} (machine : Machine F K S) where
     is_after_step = λ i. record {
       table = table i;
       facts = (advances.view i).facts;
-      number = (first_of (advances.view i).held).number;
+      number = (first_pass (advances.view i).held).number;
       cpu = cpu;
-      seen = (first_of (advances.view i).held).seen;
+      seen = (first_pass (advances.view i).held).seen;
     }
 
     one_made : MadeOne machine after_step (worker_of old cpu) advances.step
@@ -68,7 +60,7 @@ module _ {F K S : Type 0} (machine : Machine F K S) where
         facts = refl;
         number = refl;
         cpu = refl;
-        made = makes-made old.me.0.facts advances.seen (first_of old.me.0.held).seen (first_of old.me.0.held).number
+        made = makes-made old.me.0.facts advances.seen (first_pass old.me.0.held).seen (first_pass old.me.0.held).number
             advances.step advances.made;
       };
       at = advances.made;
@@ -85,7 +77,7 @@ module _ {F K S : Type 0} (machine : Machine F K S) where
     pub still_worker : IsWorker machine new cpu
     still_worker = record {
       empty = empty ∙ worker.empty;
-      one = subst (λ (v : View F K). v.held ≡ first_of v.held ∷ []) (sym advances.view) refl;
+      one = subst (λ (v : View F K). v.held ≡ first_pass v.held ∷ []) (sym advances.view) refl;
       live = subst (IsLive machine) (sym is_after_step)
           (calls-live machine after_step (worker_of old cpu) (advances.step ∷ []) worker.live one_made.all);
     }
@@ -95,7 +87,7 @@ module _ {F K S : Type 0} (machine : Machine F K S) (shown : F → S → List �
   pub step_may : (seat : Seat (Unit {0}) (View F K)) (cpu : Option CpuId) → IsWorker machine seat cpu
       → (pass : Pass F K) → worker_of seat cpu ≡ pass
       → (table : TableId) (key : F) (words : Shared F) → record { table = table; facts = key } ≡ words
-      → IsOf pass words → (place : ℕ) → place < words.table.words → (change : ℕ → ℕ) (told : ℕ → K)
+      → IsFrom pass words → (place : ℕ) → place < words.table.words → (change : ℕ → ℕ) (told : ℕ → K)
       → MayStep machine shown pass place change told → (plan : ℕ → Option K) → plan ≡ (λ n. Some (told n))
       → (seat.table_id ≡ table) × (place < table.words)
       × Allows (λ s. Keeps machine shown key s.words s.views) table.slots seat.id seat.me place change

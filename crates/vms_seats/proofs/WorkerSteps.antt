@@ -1,25 +1,17 @@
 -- A step of a worker keeps the rule.
 use Rattle.std.proofs.Common.{◌≡◌, ◌≢◌, ℕ, ◌<◌, true, List, [], ◌∷◌, set, slice_index, Option, Some, ◌⊎◌, inl, inr}
-use Rattle.std.proofs.Common.{⊎_elim}
-use Rattle.std.proofs.Common.{refl, ap, sym, ◌∙◌, subst, arith}
+use Rattle.std.proofs.Common.{⊎_elim, refl, ap, sym, ◌∙◌, subst, arith}
 use mathlib.Core.Option.{some}
 use lib.ListN.{get_elem?}
 use Rattle.atomic_table.specs.declared.shared.Seat.{Seat}
 use Rattle.atomic_table.specs.Table.{Allows, keeps}
-use Rattle.vms_base.specs.declared.ids.CpuId.{CpuId}
+use Rattle.vms_history.specs.Common.{CpuId, Machine, GoesOnWithout, lives_in}
 use Rattle.vms_history.specs.declared.events.Event.{Event}
-use Rattle.vms_history.specs.Legal.{Machine}
-use Rattle.vms_history.specs.PassSteps.{GoesOnWithout}
-use Rattle.vms_history.specs.Passes.{lives_in}
-use Rattle.vms_history.proofs.PassLaws.{live_is_given, lives_in-others}
+use Rattle.vms_history.proofs.Common.{live_is_given, lives_in-others, Extends-same}
 use Rattle.vms_seats.specs.declared.views.Held.{Held}
 use Rattle.vms_seats.specs.declared.views.View.{View}
-use Rattle.vms_seats.specs.Plays.{Advances}
-use Rattle.vms_seats.specs.Rule.{Keeps, Fits}
-use Rattle.vms_seats.specs.Seats.{IsWorker, worker_of}
-use Rattle.vms_seats.specs.Steps.{MayStep, NextStep}
-use Rattle.vms_seats.specs.Views.{first_of, holding, Holds}
-use Rattle.vms_history.proofs.Own.{Extends-same}
+use Rattle.vms_seats.specs.Common.{Advances, Keeps, FitsHistory, IsWorker, worker_of, MayStep, NextStep, first_pass}
+use Rattle.vms_seats.specs.Common.{holding, Holds}
 use Rattle.vms_seats.proofs.SeatFits.{fits-others, all_fit-set}
 use Rattle.vms_seats.proofs.SeatLists.{one_seat-set, Unheld}
 
@@ -29,7 +21,7 @@ module _ {F K S : Type 0} (machine : Machine F K S) (shown : F → S → List �
   v = seat.me.0
 
   abbrev k : Held K
-  k = first_of v.held
+  k = first_pass v.held
 
   held : Holds v.held k
   held = subst (λ ks. Holds ks k) (sym worker.one) (inl refl)
@@ -42,7 +34,7 @@ module _ {F K S : Type 0} (machine : Machine F K S) (shown : F → S → List �
     abbrev h : List (Event K)
     h = kept.history
 
-    fits : Fits machine.role h k
+    fits : FitsHistory machine.role h k
     fits = (kept.fits seat.id v at k held).1
 
     goes : GoesOnWithout machine v.facts h k.seen k.number
@@ -72,11 +64,11 @@ module _ {F K S : Type 0} (machine : Machine F K S) (shown : F → S → List �
       still : (q : ℕ) → lives_in machine.role h q ≡ true → lives_in machine.role (e ∷ h) q ≡ true
       still q lives = lives_in-others machine.role e h q other_than_main ∙ lives
 
-      here : (m : Held K) → Holds w.held m → (w.facts ≡ v.facts) × Fits machine.role (e ∷ h) m
+      here : (m : Held K) → Holds w.held m → (w.facts ≡ v.facts) × FitsHistory machine.role (e ∷ h) m
       here m held_now = ⊎_elim
           (λ same. (
             refl,
-            subst (Fits machine.role (e ∷ h)) same (record {
+            subst (FitsHistory machine.role (e ∷ h)) same (record {
               extends = Extends-same (e ∷ h);
               own_same = refl;
               lives = inr (still k.number goes.lives);
@@ -85,7 +77,7 @@ module _ {F K S : Type 0} (machine : Machine F K S) (shown : F → S → List �
           (λ none. absurd none) held_now
 
       others : (j : ℕ) (u : View F K) → j ≢ seat.id → get_elem? views j ≡ some u → (m : Held K) → Holds u.held m
-          → Fits machine.role h m → Fits machine.role (e ∷ h) m
+          → FitsHistory machine.role h m → FitsHistory machine.role (e ∷ h) m
       others j u other at_j m held_there fits_there =
           fits-others machine.role e h m fits_there
           (λ same. other (sym (kept.one_seat seat.id j v u at at_j k m held held_there same)))

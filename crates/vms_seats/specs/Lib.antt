@@ -5,3 +5,4 @@ pub mod Views
 pub mod Plays
 pub mod Rule
 pub mod Seats
+pub mod Common

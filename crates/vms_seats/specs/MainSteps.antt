@@ -1,10 +1,7 @@
 -- What the main pass makes: the step by which a pass begins, and the step by which one ends.
 use Rattle.std.specs.Prelude.{◌≡◌, ℕ, suc, List, [], ◌∷◌, Option}
-use Rattle.vms_base.specs.declared.ids.CpuId.{CpuId}
+use Rattle.vms_history.specs.Common.{CpuId, Extends, own, Machine, IsLegal, begun_in, IsFree}
 use Rattle.vms_history.specs.declared.events.Event.{Event}
-use Rattle.vms_history.specs.Events.{Extends, own}
-use Rattle.vms_history.specs.Legal.{Machine, IsLegal}
-use Rattle.vms_history.specs.Passes.{begun_in, IsFree}
 use Rattle.vms_seats.specs.Passes.{Pass, IsLive}
 
 -- the number of the pass that begins next

@@ -1,10 +1,8 @@
 -- What contracts see of shared words, of a pass, and of a history that was closed.
 use Rattle.std.specs.Prelude.{◌≡◌, ℕ, true, List, Option, None}
 use Rattle.atomic_table.specs.Seated.{TableId}
-use Rattle.vms_base.specs.declared.ids.CpuId.{CpuId}
+use Rattle.vms_history.specs.Common.{CpuId, Machine, IsLegal, lives_in, owner_in}
 use Rattle.vms_history.specs.declared.events.Event.{Event}
-use Rattle.vms_history.specs.Legal.{Machine, IsLegal}
-use Rattle.vms_history.specs.Passes.{lives_in, owner_in}
 
 -- shared words: which ones, and the facts that their history begins with
 pub record Shared (F : Type 0) : Type 0 where
@@ -25,7 +23,7 @@ pub record Phase (F K : Type 0) : Type 0 where
   pub events : List (Event K)
 
 -- the pass was made from these words
-pub record IsOf {F K : Type 0} (pass : Pass F K) (words : Shared F) : Type 0 where
+pub record IsFrom {F K : Type 0} (pass : Pass F K) (words : Shared F) : Type 0 where
   pub table : pass.table ≡ words.table
   pub facts : pass.facts ≡ words.facts
 

@@ -3,16 +3,14 @@ use Rattle.std.specs.Prelude.{◌≡◌, ℕ, true, List, ◌⊎◌}
 use mathlib.Core.Option.{some}
 use lib.ListN.{get_elem?}
 use Rattle.vms_history.specs.declared.events.Event.{Event}
-use Rattle.vms_history.specs.Events.{Extends, own}
-use Rattle.vms_history.specs.Legal.{Machine, IsLegal, state_after}
-use Rattle.vms_history.specs.Passes.{Role, lives_in}
+use Rattle.vms_history.specs.Common.{Extends, own, Machine, IsLegal, state_after, Role, lives_in}
 use Rattle.vms_seats.specs.declared.views.Held.{Held}
 use Rattle.vms_seats.specs.declared.views.View.{View}
 use Rattle.vms_seats.specs.Views.{Holds}
 
 -- what a pass has seen begins the history, which has no event of the pass that it doesn't know. The pass lives, or is
 -- the main pass
-pub record Fits {K : Type 0} (role : K → Role) (h : List (Event K)) (k : Held K) : Type 0 where
+pub record FitsHistory {K : Type 0} (role : K → Role) (h : List (Event K)) (k : Held K) : Type 0 where
   pub extends : Extends h k.seen
   pub own_same : own h k.number ≡ own k.seen k.number
   pub lives : (k.number ≡ 0) ⊎ (lives_in role h k.number ≡ true)
@@ -20,7 +18,7 @@ pub record Fits {K : Type 0} (role : K → Role) (h : List (Event K)) (k : Held 
 -- every pass for which a seat acts fits
 abbrev pub AllFit : {F K : Type 0} → (K → Role) → F → List (Event K) → List (View F K) → Type 0
 AllFit {F} {K} role facts h views = (seat : ℕ) (v : View F K) → get_elem? views seat ≡ some v
-    → (k : Held K) → Holds v.held k → (v.facts ≡ facts) × Fits role h k
+    → (k : Held K) → Holds v.held k → (v.facts ≡ facts) × FitsHistory role h k
 
 -- two seats that act for one pass are one seat
 abbrev pub OneSeatEach : {F K : Type 0} → List (View F K) → Type 0

@@ -1,11 +1,10 @@
 -- The seats of workers, of the main pass and of histories.
 use Rattle.std.specs.Prelude.{◌≡◌, ℕ, List, [], ◌∷◌, Option, None}
 use Rattle.atomic_table.specs.declared.shared.Seat.{Seat}
-use Rattle.vms_base.specs.declared.ids.CpuId.{CpuId}
-use Rattle.vms_history.specs.Legal.{Machine, IsComplete, state_after}
+use Rattle.vms_history.specs.Common.{CpuId, Machine, IsComplete, state_after}
 use Rattle.vms_seats.specs.declared.views.View.{View}
 use Rattle.vms_seats.specs.Passes.{Pass, Phase, IsLive, IsMain}
-use Rattle.vms_seats.specs.Views.{first_of}
+use Rattle.vms_seats.specs.Views.{first_pass}
 
 module _ {F K : Type 0} where
   -- the pass for which a seat acts
@@ -13,9 +12,9 @@ module _ {F K : Type 0} where
   worker_of seat cpu = record {
     table = seat.table_id;
     facts = seat.me.0.facts;
-    number = (first_of seat.me.0.held).number;
+    number = (first_pass seat.me.0.held).number;
     cpu = cpu;
-    seen = (first_of seat.me.0.held).seen;
+    seen = (first_pass seat.me.0.held).seen;
   }
 
   -- the main pass, when its seat acts for no other
@@ -30,13 +29,13 @@ module _ {F K : Type 0} where
 pub record IsWorker {F K S : Type 0} (machine : Machine F K S) (seat : Seat (Unit {0}) (View F K))
     (cpu : Option CpuId) : Type 0 where
   pub empty : seat.me.1 ≡ []
-  pub one : seat.me.0.held ≡ first_of seat.me.0.held ∷ []
+  pub one : seat.me.0.held ≡ first_pass seat.me.0.held ∷ []
   pub live : IsLive machine (worker_of seat cpu)
 
 -- the seat of the main pass between two calls
 pub record IsMainSeat {F K S : Type 0} (machine : Machine F K S) (seat : Seat (Unit {0}) (View F K)) : Type 0 where
   pub empty : seat.me.1 ≡ []
-  pub one : seat.me.0.held ≡ first_of seat.me.0.held ∷ []
+  pub one : seat.me.0.held ≡ first_pass seat.me.0.held ∷ []
   pub is_main : IsMain machine (main_of seat)
 
 -- the seat of a history that was closed

@@ -1,8 +1,7 @@
 -- What a call of a pass on one word makes: when it may, and what it has made.
 use Rattle.std.specs.Prelude.{◌≡◌, ℕ, ◌<◌, ◌^◌, List, [], ◌∷◌, slice_index, slice_set}
 use Rattle.vms_history.specs.declared.events.Event.{Event}
-use Rattle.vms_history.specs.Legal.{Machine, IsLegal, state_after}
-use Rattle.vms_history.specs.PassSteps.{GoesOnWithout, HasMade}
+use Rattle.vms_history.specs.Common.{Machine, IsLegal, state_after, GoesOnWithout, HasMade}
 use Rattle.vms_seats.specs.Passes.{Pass}
 
 -- after this history pass p may make this step, and the word at this place, with the others as they are, then shows the

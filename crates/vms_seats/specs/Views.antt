@@ -4,13 +4,13 @@ use Rattle.vms_seats.specs.declared.views.Held.{Held}
 use Rattle.vms_seats.specs.declared.views.View.{View}
 
 -- the first and the second of the passes that a seat acts for
-abbrev pub first_of : {K : Type 0} → List (Held K) → Held K
-first_of [] = record { number = 0; seen = [] }
-first_of (k ∷ ks) = k
+abbrev pub first_pass : {K : Type 0} → List (Held K) → Held K
+first_pass [] = record { number = 0; seen = [] }
+first_pass (k ∷ ks) = k
 
-abbrev pub second_of : {K : Type 0} → List (Held K) → Held K
-second_of [] = record { number = 0; seen = [] }
-second_of (k ∷ ks) = first_of ks
+abbrev pub second_pass : {K : Type 0} → List (Held K) → Held K
+second_pass [] = record { number = 0; seen = [] }
+second_pass (k ∷ ks) = first_pass ks
 
 -- a seat acts for this pass
 abbrev pub Holds : {K : Type 0} → List (Held K) → Held K → Type 0
@@ -27,10 +27,10 @@ holding v held = record { facts = v.facts; held = held; past = v.past }
 
 -- a seat for the first pass alone, and one for the second alone
 abbrev pub first_alone : {F K : Type 0} → View F K → View F K
-first_alone v = holding v (first_of v.held ∷ [])
+first_alone v = holding v (first_pass v.held ∷ [])
 
 abbrev pub second_alone : {F K : Type 0} → View F K → View F K
-second_alone v = holding v (second_of v.held ∷ [])
+second_alone v = holding v (second_pass v.held ∷ [])
 
 -- a seat that acts for the passes of two
 abbrev pub both_held : {F K : Type 0} → View F K → View F K → View F K
@@ -42,4 +42,4 @@ spent_view blank = record { facts = blank; held = []; past = [] }
 
 -- a seat that acts for none, and remembers what the first pass had seen
 abbrev pub witness_of : {F K : Type 0} → View F K → View F K
-witness_of v = record { facts = v.facts; held = []; past = (first_of v.held).seen }
+witness_of v = record { facts = v.facts; held = []; past = (first_pass v.held).seen }

@@ -1,7 +1,6 @@
 ghost use Rattle.std.specs.Prelude.{◌≡◌, ℕ, ◌<◌, false, length, Some, slice_get};
-ghost use Rattle.vms_history.specs.Legal.{IsComplete, state_after};
-ghost use Rattle.vms_history.specs.Passes.{lives_in};
-ghost use Rattle.vms_seats.specs.Passes.{IsOf};
+ghost use Rattle.vms_history.specs.Common.{IsComplete, state_after, lives_in};
+ghost use Rattle.vms_seats.specs.Passes.{IsFrom};
 
 use crate::Ledger;
 use crate::main_pass::Main;
@@ -40,7 +39,7 @@ pub struct History<L: Ledger> {
 }
 
 impl<L: Ledger> Model for History<L> {
-    ghost use Rattle.vms_history.specs.Legal.{IsComplete};
+    ghost use Rattle.vms_history.specs.Common.{IsComplete};
     ghost use Rattle.vms_seats.specs.Passes.{Phase};
 
     ghost Value = { Phase L.Facts L.Step };
@@ -55,7 +54,7 @@ impl<L: Ledger> Model for History<L> {
 impl<L: Ledger> Words<L> {
     /// Closes the words, once every other pass has ended. The history is what the main pass has seen.
     pub fn close(self, mut main: Main<L>) -> Closing<L>
-        requires words { IsOf main self }
+        requires words { IsFrom main self }
         requires ended { (q : ℕ) → lives_in L.machine.role main.seen q ≡ false }
         ensures history { result ≡ record { facts = self.facts; events = main.seen } }
         ensures complete { IsComplete L.machine self.facts main.seen }

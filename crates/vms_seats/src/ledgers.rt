@@ -1,7 +1,5 @@
 ghost use Rattle.std.specs.Prelude.{◌≡◌, ℕ, List, Option, None};
-ghost use Rattle.vms_base.specs.declared.ids.CpuId.{CpuId};
-ghost use Rattle.vms_history.specs.Legal.{Machine, IsQuiet};
-ghost use Rattle.vms_history.specs.Passes.Role.{Begins, Ends};
+ghost use Rattle.vms_history.specs.Common.{CpuId, Machine, IsQuiet, Begins, Ends};
 
 use std::marker::Brand;
 

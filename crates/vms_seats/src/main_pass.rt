@@ -1,6 +1,6 @@
 ghost use Rattle.std.specs.Prelude.{◌≡◌};
 ghost use Rattle.vms_seats.specs.MainSteps.{HasBegun, HasEnded, MayBeginPass, MayEndPass};
-ghost use Rattle.vms_seats.specs.Passes.{IsMain, IsOf};
+ghost use Rattle.vms_seats.specs.Passes.{IsMain, IsFrom};
 
 use crate::Ledger;
 use crate::ledgers::Owner;
@@ -39,7 +39,7 @@ impl<L: Ledger> Main<L> {
 
     /// Begins a pass that owns a CPU, or a control pass.
     pub fn begin(&mut self, words: &Words<L>, cpu: Option<CpuId>) -> Worker<L>
-        requires words { IsOf self.old words.now }
+        requires words { IsFrom self.old words.now }
         requires begins { MayBeginPass L.machine self.old cpu }
         ensures { HasBegun L.machine L.begins self.new self.old result cpu }
     {
@@ -48,7 +48,7 @@ impl<L: Ledger> Main<L> {
 
     fn begin_as<O: Owner>(&mut self, words: &Words<L>, cpu: Option<CpuId>) -> Worker<L>
         requires owner { O.cpu ≡ cpu }
-        requires words { IsOf self.old words.now }
+        requires words { IsFrom self.old words.now }
         requires begins { MayBeginPass L.machine self.old cpu }
         ensures { HasBegun L.machine L.begins self.new self.old result cpu }
     {
@@ -60,7 +60,7 @@ impl<L: Ledger> Main<L> {
 
     /// Ends a pass. The main pass then knows all that it knew.
     pub fn end(&mut self, words: &Words<L>, worker: Worker<L>)
-        requires words { IsOf self.old words.now × IsOf worker words.now }
+        requires words { IsFrom self.old words.now × IsFrom worker words.now }
         requires ends { MayEndPass L.machine worker }
         ensures { HasEnded L.machine L.ends self.new self.old worker }
     {

@@ -1,5 +1,5 @@
 ghost use Rattle.std.specs.Prelude.{◌≡◌, ℕ, ◌<◌, [], length, IfOk, Option};
-ghost use Rattle.vms_seats.specs.Passes.{IsOf};
+ghost use Rattle.vms_seats.specs.Passes.{IsFrom};
 
 use crate::Ledger;
 use crate::main_pass::Main;
@@ -39,7 +39,7 @@ impl<L: Ledger> Words<L> {
         requires some { 0 < length words.now }
         ensures words { IfOk result (λ made. (made.0.facts ≡ facts.now)
             × (made.0.table.words ≡ length words.now)) }
-        ensures main { IfOk result (λ made. IsOf made.1 made.0 × (made.1.seen ≡ [])) }
+        ensures main { IfOk result (λ made. IsFrom made.1 made.0 × (made.1.seen ≡ [])) }
     {
         let (table, seat) = Table::of_words(alloc, words, facts)?;
         Ok((Words { table }, Main { seat }))

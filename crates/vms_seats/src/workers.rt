@@ -1,5 +1,5 @@
 ghost use Rattle.std.specs.Prelude.{◌≡◌, ℕ, ◌+◌, ◌%◌, ◌^◌, ◌<◌, ◌==◌, if◌then◌else◌, Some};
-ghost use Rattle.vms_seats.specs.Passes.{Pass, IsOf, IsLive};
+ghost use Rattle.vms_seats.specs.Passes.{Pass, IsFrom, IsLive};
 ghost use Rattle.vms_seats.specs.Steps.{MayStep, MadeOne};
 
 use crate::Ledger;
@@ -52,7 +52,7 @@ pub trait Works<L: Ledger> {
 
     /// Loads a word.
     fn load_at(&mut self, words: &Words<L>, place: usize, plan: &L::Step) -> u64
-        requires words { IsOf (pass self.old) words.now }
+        requires words { IsFrom (pass self.old) words.now }
         requires place { place < words.now.table.words }
         requires step { MayStep L.machine L.shown (pass self.old) place (λ n. n) (L.told plan.now) }
         requires leaves { (n : ℕ) → Leaves (L.told plan.now n) }
@@ -60,7 +60,7 @@ pub trait Works<L: Ledger> {
 
     /// Puts a number into a word, and tells the one that stood there.
     fn swap_at(&mut self, words: &Words<L>, place: usize, new: u64, plan: &L::Step) -> u64
-        requires words { IsOf (pass self.old) words.now }
+        requires words { IsFrom (pass self.old) words.now }
         requires place { place < words.now.table.words }
         requires step { MayStep L.machine L.shown (pass self.old) place (λ n. new) (L.told plan.now) }
         requires leaves { (n : ℕ) → Leaves (L.told plan.now n) }
@@ -68,7 +68,7 @@ pub trait Works<L: Ledger> {
 
     /// Adds to a word, modulo 2^64, and tells the number that stood there.
     fn add_at(&mut self, words: &Words<L>, place: usize, amount: u64, plan: &L::Step) -> u64
-        requires words { IsOf (pass self.old) words.now }
+        requires words { IsFrom (pass self.old) words.now }
         requires place { place < words.now.table.words }
         requires step { MayStep L.machine L.shown (pass self.old) place (λ n. (n + amount) % 2 ^ 64) (L.told plan.now) }
         requires leaves { (n : ℕ) → Leaves (L.told plan.now n) }
@@ -83,7 +83,7 @@ pub trait Works<L: Ledger> {
         new: u64,
         plan: &L::Step,
     ) -> u64
-        requires words { IsOf (pass self.old) words.now }
+        requires words { IsFrom (pass self.old) words.now }
         requires place { place < words.now.table.words }
         requires step { MayStep L.machine L.shown (pass self.old) place
             (λ n. if n == old then new else n) (L.told plan.now) }
@@ -129,12 +129,11 @@ impl<L: Ledger> Worker<L> {
     #[inline]
     fn load_as<P: Plan<L::Step>>(&mut self, words: &Words<L>, place: usize, plan: &L::Step) -> u64
         requires planned { P.step ≡ λ n. Some (L.told plan.now n) }
-        requires words { IsOf self.old words.now }
+        requires words { IsFrom self.old words.now }
         requires place { place < words.now.table.words }
         requires step { MayStep L.machine L.shown self.old place (λ n. n) (L.told plan.now) }
         ensures { MadeOne L.machine self.new self.old (L.told plan.now result) }
     {
-        let _ = plan;
         words
             .table
             .shared
@@ -150,12 +149,11 @@ impl<L: Ledger> Worker<L> {
         plan: &L::Step,
     ) -> u64
         requires planned { P.step ≡ λ n. Some (L.told plan.now n) }
-        requires words { IsOf self.old words.now }
+        requires words { IsFrom self.old words.now }
         requires place { place < words.now.table.words }
         requires step { MayStep L.machine L.shown self.old place (λ n. new) (L.told plan.now) }
         ensures { MadeOne L.machine self.new self.old (L.told plan.now result) }
     {
-        let _ = plan;
         words
             .table
             .shared
@@ -171,12 +169,11 @@ impl<L: Ledger> Worker<L> {
         plan: &L::Step,
     ) -> u64
         requires planned { P.step ≡ λ n. Some (L.told plan.now n) }
-        requires words { IsOf self.old words.now }
+        requires words { IsFrom self.old words.now }
         requires place { place < words.now.table.words }
         requires step { MayStep L.machine L.shown self.old place (λ n. (n + amount) % 2 ^ 64) (L.told plan.now) }
         ensures { MadeOne L.machine self.new self.old (L.told plan.now result) }
     {
-        let _ = plan;
         words
             .table
             .shared
@@ -193,12 +190,11 @@ impl<L: Ledger> Worker<L> {
         plan: &L::Step,
     ) -> u64
         requires planned { P.step ≡ λ n. Some (L.told plan.now n) }
-        requires words { IsOf self.old words.now }
+        requires words { IsFrom self.old words.now }
         requires place { place < words.now.table.words }
         requires step { MayStep L.machine L.shown self.old place (λ n. if n == old then new else n) (L.told plan.now) }
         ensures { MadeOne L.machine self.new self.old (L.told plan.now result) }
     {
-        let _ = plan;
         words
             .table
             .shared

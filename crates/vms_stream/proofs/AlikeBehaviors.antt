@@ -2,10 +2,9 @@
 use Rattle.std.proofs.Common.{◌≡◌, ℕ, List, [], ◌∷◌, ◌++◌, Option, inl, inr, refl, sym, ap, ap₂, ◌∙◌}
 use Rattle.vms_stream.specs.declared.statuses.Status.{Status}
 use Rattle.vms_stream.specs.declared.statuses.Status.TheVariants as statuses
-use Rattle.vms_stream.specs.Answers.{BeginsOutput, Ends, GoesOn, Halts, IsDue, IsLastPiece, Oversteps, Says}
-use Rattle.vms_stream.specs.Behaviors.{Behavior, first_halt, halted, last_words, output, printed, printed_from}
-use Rattle.vms_stream.specs.Behaviors.{state_after}
-use Rattle.vms_text.specs.Lines.{lines_of}
+use Rattle.vms_stream.specs.Common.{BeginsOutput, Ends, GoesOn, Halts, IsDue, IsLastPiece, Oversteps, Says, Behavior}
+use Rattle.vms_stream.specs.Common.{first_halt, halted, last_words, output, printed, printed_from, state_after}
+use Rattle.vms_text.specs.Common.{lines_of}
 
 -- from states that are alike two behaviors do the same at each line and at the end, and come to states that are alike
 pub record GoAlike {S T : Type 0} (behavior : Behavior S) (other : Behavior T) (alike : S → T → Type 0)

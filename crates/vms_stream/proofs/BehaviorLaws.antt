@@ -3,8 +3,8 @@ use Rattle.std.proofs.Common.{◌≡◌, ℕ, List, [], ◌∷◌, ◌++◌, Opt
 use Rattle.std.proofs.Common.{append-nil}
 use Rattle.vms_stream.specs.declared.statuses.Status.{Status}
 use Rattle.vms_stream.specs.declared.statuses.Status.TheVariants.{Header}
-use Rattle.vms_stream.specs.Behaviors.{Behavior, MayHalt, state_after, first_halt, halted, printed_from, printed}
-use Rattle.vms_stream.specs.Behaviors.{last_words, output}
+use Rattle.vms_stream.specs.Common.{Behavior, MayHalt, state_after, first_halt, halted, printed_from, printed}
+use Rattle.vms_stream.specs.Common.{last_words, output}
 
 module _ {S : Type 0} (behavior : Behavior S) where
   pub state_after-append : (s : S) (lines more : List (List ℕ))

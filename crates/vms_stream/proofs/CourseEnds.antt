@@ -5,17 +5,14 @@ use Rattle.std.specs.Io.KnownBytes.{Appends, IsAtEnd}
 use Rattle.std.proofs.KnownBytes.{Appends-nil}
 use Rattle.vms_stream.specs.declared.courses.Course.{Course}
 use Rattle.vms_stream.specs.declared.statuses.Status.{Status}
-use Rattle.vms_stream.specs.declared.statuses.Status.TheVariants.{Done, Header, Memory, ReadFault, Refused}
-use Rattle.vms_stream.specs.declared.statuses.Status.TheVariants.{WriteFault}
-use Rattle.vms_stream.specs.Answers.{Ends, FaultsOfSink, FaultsOfSource, IsLastPiece, Says}
-use Rattle.vms_stream.specs.Courses.{Finishes, IsCourse, lines_judged}
-use Rattle.vms_stream.specs.Jobs.{Closes}
-use Rattle.vms_stream.specs.Behaviors.{Behavior, MayEnd, state_after, halted, printed, output}
-use Rattle.vms_stream.specs.Pieces.{whole_lines, partial_line}
+use Rattle.vms_stream.specs.declared.statuses.Status.TheVariants.{Done, Header, Memory, ReadFault, Refused, WriteFault}
+use Rattle.vms_stream.specs.Common.{Ends, FaultsOfSink, FaultsOfSource, IsLastPiece, Says, Finishes, IsCourse}
+use Rattle.vms_stream.specs.Common.{lines_judged, Closes, Behavior, MayEnd, state_after, halted, printed, output}
+use Rattle.vms_stream.specs.Common.{whole_lines, partial_line}
 use Rattle.vms_stream.proofs.BehaviorLaws.{halted-first, output-open, printed-begins}
 use Rattle.vms_stream.proofs.TwoPieces.{lines_of-parts}
 use Rattle.vms_stream.proofs.StepOutcomes.{begins_at_end, no_piece}
-use Rattle.vms_text.specs.Lines.{lines_of}
+use Rattle.vms_text.specs.Common.{lines_of}
 
 -- after calls of which none failed
 pub reads_after : {R : Type 0} (left : R → Option (List ℕ)) (faults : R → ℕ) (src src' src'' : R) (status : Status)

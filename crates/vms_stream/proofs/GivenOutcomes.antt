@@ -4,17 +4,12 @@ use Rattle.std.proofs.Common.{Result, refl, sym, ap, subst, ◌∙◌}
 use Rattle.std.specs.Prelude.{IfOk}
 use Rattle.vms_stream.specs.declared.statuses.Status.{Status}
 use Rattle.vms_stream.specs.declared.statuses.Status.TheVariants.{Header, TooLong}
-use Rattle.vms_stream.specs.Behaviors.{state_after}
-use Rattle.vms_stream.specs.Jobs.{Closes, TakesLines}
+use Rattle.vms_stream.specs.Common.{state_after, Closes, TakesLines, PhasedBehavior, ending_at, halt_at, printed_at}
+use Rattle.vms_stream.specs.Common.{printed_last, supply, way_after, with_outcomes, Gives, On, OutcomesLead, UsedAtEnd}
+use Rattle.vms_stream.specs.Common.{leads_on, none_after, ClosesPhased, Grows, MayGive, StandsOn, TakesPhased}
+use Rattle.vms_stream.specs.Common.{at_most_one, shown_on, shown_with}
 use Rattle.vms_stream.proofs.TakenLines.{TakesLines-exceeding, TakesLines-one, TakesLines-refused}
-use Rattle.vms_stream.specs.PhasedBehaviors.{PhasedBehavior, ending_at, halt_at, printed_at, printed_last}
-use Rattle.vms_stream.specs.PhasedBehaviors.{supply, way_after, with_outcomes}
-use Rattle.vms_stream.specs.PhasedBehaviors.Supply.{Gives}
-use Rattle.vms_stream.specs.PhasedBehaviors.Way.{On}
-use Rattle.vms_stream.specs.Leading.{Leads, UsedAtEnd, leads_on, none_after}
-use Rattle.vms_stream.specs.Jobs.{ClosesPhased, Grows, MayGive, StandsOn, TakesPhased, at_most_one, shown_on}
-use Rattle.vms_stream.specs.Jobs.{shown_with}
-use Rattle.vms_stream.proofs.LeadingOutcomes.{Leads-none, none_after-used}
+use Rattle.vms_stream.proofs.LeadingOutcomes.{OutcomesLead-none, none_after-used}
 use Rattle.vms_stream.proofs.LongerWays.{StandsOn-also}
 
 -- a phase that ends gets the outcome that is given
@@ -26,17 +21,18 @@ supply-given false (Some outcome) is = absurd cc
 supply-given true (Some outcome) is = refl
 
 module _ {S O : Type 0} (phased : PhasedBehavior S O) where
-  Leads-given : (s : S) (line : List ℕ) (given : Option O)
+  OutcomesLead-given : (s : S) (line : List ℕ) (given : Option O)
       → MayGive (phased.ends_phase s line) (phased.Allows s line) given
-      → Leads phased s (at_most_one given) (line ∷ [])
-  Leads-given s line None may = Leads-none phased s (line ∷ [])
-  Leads-given s line (Some outcome) may =
+      → OutcomesLead phased s (at_most_one given) (line ∷ [])
+  OutcomesLead-given s line None may = OutcomesLead-none phased s (line ∷ [])
+  OutcomesLead-given s line (Some outcome) may =
       subst (λ (ends : Bool). leads_on ends (outcome ∷ []) (phased.Allows s line)
-      (λ given left. none_after (phased.halts s line given) left (Leads phased (phased.next s line given) left [])))
+      (λ given left. none_after (phased.halts s line given) left
+      (OutcomesLead phased (phased.next s line given) left [])))
       (sym may.0) (
         may.1,
         none_after-used phased (phased.halts s line (Some outcome))
-            (Leads phased (phased.next s line (Some outcome)) [] []) refl,
+            (OutcomesLead phased (phased.next s line (Some outcome)) [] []) refl,
       )
 
   UsedAtEnd-given : (s : S) (given : Option O) → MayGive (phased.ends_last s) (phased.AllowsLast s) given
@@ -92,7 +88,7 @@ module _ {S O : Type 0} (phased : PhasedBehavior S O) where
     TakesPhased-given stands stands' given grows may goes = record {
       outcomes = at_most_one given;
       grows = grows;
-      leads = λ s here. Leads-given s line given (may s here);
+      leads = λ s here. OutcomesLead-given s line given (may s here);
       goes = goes;
     }
 

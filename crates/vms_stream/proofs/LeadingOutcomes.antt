@@ -2,12 +2,10 @@
 use Rattle.std.proofs.Common.{◌≡◌, ℕ, Bool, true, false, List, [], ◌∷◌, ◌++◌, Option, Some, None, refl, sym, subst}
 use Rattle.std.proofs.Common.{append-nil}
 use Rattle.vms_stream.specs.declared.statuses.Status.{Status}
-use Rattle.vms_stream.specs.Behaviors.{first_halt, halted, state_after}
+use Rattle.vms_stream.specs.Common.{first_halt, halted, state_after, PhasedBehavior, Way, halt_at, supply, way_after}
+use Rattle.vms_stream.specs.Common.{with_outcomes, On, AllUsed, OutcomesLead, OutcomesLeadThrough, OutcomesLeadToEnd}
+use Rattle.vms_stream.specs.Common.{UsedAtEnd, leads_on, none_after, StandsOn}
 use Rattle.vms_stream.proofs.BehaviorLaws.{first_halt-none}
-use Rattle.vms_stream.specs.PhasedBehaviors.{PhasedBehavior, Way, halt_at, supply, way_after, with_outcomes}
-use Rattle.vms_stream.specs.PhasedBehaviors.Way.{On}
-use Rattle.vms_stream.specs.Leading.{AllUsed, Leads, LeadsThrough, LeadsToEnd, UsedAtEnd, leads_on, none_after}
-use Rattle.vms_stream.specs.Jobs.{StandsOn}
 use Rattle.vms_stream.proofs.MoreOutcomes.{state_after-short}
 
 none_after-open : {O : Type 0} (halt : Option Status) (left : List O) (later : Type 0) → halt ≡ None
@@ -26,57 +24,59 @@ module _ {S O : Type 0} (phased : PhasedBehavior S O) where
   none_after-used (Some halt) later led = refl
 
   -- where no outcome is left nothing is asked of any line
-  pub Leads-none : (s : S) (lines : List (List ℕ)) → Leads phased s [] lines
-  Leads-none s [] = refl
-  Leads-none s (line ∷ lines) = by (phased.ends_phase s line)
-      (none_after-used (phased.halts s line None) (Leads phased (phased.next s line None) [] lines)
-      (Leads-none (phased.next s line None) lines))
+  pub OutcomesLead-none : (s : S) (lines : List (List ℕ)) → OutcomesLead phased s [] lines
+  OutcomesLead-none s [] = refl
+  OutcomesLead-none s (line ∷ lines) = by (phased.ends_phase s line)
+      (none_after-used (phased.halts s line None) (OutcomesLead phased (phased.next s line None) [] lines)
+      (OutcomesLead-none (phased.next s line None) lines))
     where
       by : (ends : Bool)
-          → none_after {O = O} (phased.halts s line None) [] (Leads phased (phased.next s line None) [] lines)
+          → none_after {O = O} (phased.halts s line None) [] (OutcomesLead phased (phased.next s line None) [] lines)
           → leads_on {O = O} ends [] (phased.Allows s line)
           (λ given left. none_after (phased.halts s line given) left
-          (Leads phased (phased.next s line given) left lines))
+          (OutcomesLead phased (phased.next s line given) left lines))
       by true later = tt
       by false later = later
 
   -- outcomes that lead through some lines may lead on through more
   module _ (asked asked' : S → List O → Type 0) (more : List (List ℕ))
-      (goes : (s : S) (left : List O) → asked s left → LeadsThrough phased asked' s left more) where
+      (goes : (s : S) (left : List O) → asked s left → OutcomesLeadThrough phased asked' s left more) where
     none_after-more : (halt : Option Status) (left : List O) (later later' : Type 0) → (later → later')
         → none_after halt left later → none_after halt left later'
     none_after-more None left later later' to led = to led
     none_after-more (Some halt) left later later' to led = led
 
     leads_on-more : (s : S) (line : List ℕ) (lines : List (List ℕ))
-        → ((next : S) (left : List O) → LeadsThrough phased asked next left lines
-        → LeadsThrough phased asked' next left (lines ++ more))
+        → ((next : S) (left : List O) → OutcomesLeadThrough phased asked next left lines
+        → OutcomesLeadThrough phased asked' next left (lines ++ more))
         → (ends : Bool) (outcomes : List O)
         → leads_on ends outcomes (phased.Allows s line)
         (λ given left. none_after (phased.halts s line given) left
-        (LeadsThrough phased asked (phased.next s line given) left lines))
+        (OutcomesLeadThrough phased asked (phased.next s line given) left lines))
         → leads_on ends outcomes (phased.Allows s line)
         (λ given left. none_after (phased.halts s line given) left
-        (LeadsThrough phased asked' (phased.next s line given) left (lines ++ more)))
+        (OutcomesLeadThrough phased asked' (phased.next s line given) left (lines ++ more)))
     leads_on-more s line lines later false outcomes led =
         none_after-more (phased.halts s line None) outcomes
-        (LeadsThrough phased asked (phased.next s line None) outcomes lines)
-        (LeadsThrough phased asked' (phased.next s line None) outcomes (lines ++ more))
+        (OutcomesLeadThrough phased asked (phased.next s line None) outcomes lines)
+        (OutcomesLeadThrough phased asked' (phased.next s line None) outcomes (lines ++ more))
         (later (phased.next s line None) outcomes) led
     leads_on-more s line lines later true [] led = tt
     leads_on-more s line lines later true (outcome ∷ left) led = (
       led.0,
       none_after-more (phased.halts s line (Some outcome)) left
-          (LeadsThrough phased asked (phased.next s line (Some outcome)) left lines)
-          (LeadsThrough phased asked' (phased.next s line (Some outcome)) left (lines ++ more))
+          (OutcomesLeadThrough phased asked (phased.next s line (Some outcome)) left lines)
+          (OutcomesLeadThrough phased asked' (phased.next s line (Some outcome)) left (lines ++ more))
           (later (phased.next s line (Some outcome)) left) led.1,
     )
 
-    pub LeadsThrough-more : (s : S) (outcomes : List O) (lines : List (List ℕ))
-        → LeadsThrough phased asked s outcomes lines → LeadsThrough phased asked' s outcomes (lines ++ more)
-    LeadsThrough-more s outcomes [] led = goes s outcomes led
-    LeadsThrough-more s outcomes (line ∷ lines) led =
-        leads_on-more s line lines (λ next left led. LeadsThrough-more next left lines led) (phased.ends_phase s line)
+    pub OutcomesLeadThrough-more : (s : S) (outcomes : List O) (lines : List (List ℕ))
+        → OutcomesLeadThrough phased asked s outcomes lines →
+        OutcomesLeadThrough phased asked' s outcomes (lines ++ more)
+    OutcomesLeadThrough-more s outcomes [] led = goes s outcomes led
+    OutcomesLeadThrough-more s outcomes (line ∷ lines) led =
+        leads_on-more s line lines (λ next left led. OutcomesLeadThrough-more next left lines led)
+        (phased.ends_phase s line)
         outcomes led
 
   -- outcomes that are used up before the end are used at the end
@@ -88,48 +88,50 @@ module _ {S O : Type 0} (phased : PhasedBehavior S O) where
       by true = tt
   used_at_end s (outcome ∷ left) used = absurd cc
 
-  pub Leads-end : (s : S) (outcomes : List O) (lines : List (List ℕ)) → Leads phased s outcomes lines
-      → LeadsToEnd phased s outcomes lines
-  Leads-end s outcomes lines led =
-      subst (LeadsToEnd phased s outcomes) (append-nil lines)
-      (LeadsThrough-more AllUsed (UsedAtEnd phased) [] used_at_end s outcomes lines led)
+  pub OutcomesLead-end : (s : S) (outcomes : List O) (lines : List (List ℕ)) → OutcomesLead phased s outcomes lines
+      → OutcomesLeadToEnd phased s outcomes lines
+  OutcomesLead-end s outcomes lines led =
+      subst (OutcomesLeadToEnd phased s outcomes) (append-nil lines)
+      (OutcomesLeadThrough-more AllUsed (UsedAtEnd phased) [] used_at_end s outcomes lines led)
 
   -- nothing is asked of lines after those that use up the outcomes
-  pub Leads-more : (s : S) (outcomes : List O) (lines more : List (List ℕ)) → Leads phased s outcomes lines
-      → Leads phased s outcomes (lines ++ more)
-  Leads-more s outcomes lines more led =
-      LeadsThrough-more AllUsed AllUsed more
-      (λ s left used. subst (λ (left : List O). Leads phased s left more) (sym used) (Leads-none s more))
+  pub OutcomesLead-more : (s : S) (outcomes : List O) (lines more : List (List ℕ)) →
+      OutcomesLead phased s outcomes lines
+      → OutcomesLead phased s outcomes (lines ++ more)
+  OutcomesLead-more s outcomes lines more led =
+      OutcomesLeadThrough-more AllUsed AllUsed more
+      (λ s left used. subst (λ (left : List O). OutcomesLead phased s left more) (sym used) (OutcomesLead-none s more))
       s outcomes lines led
 
   leads_on-append : (asked : S → List O → Type 0) (start others : List O) (more : List (List ℕ)) (s : S)
       (line : List ℕ) (lines : List (List ℕ))
-      → ((next : S) (left : List O) → Leads phased next left lines
+      → ((next : S) (left : List O) → OutcomesLead phased next left lines
       → halted (with_outcomes phased start) (On next left) lines ≡ None
-      → StandsOn (λ s'. LeadsThrough phased asked s' others more)
+      → StandsOn (λ s'. OutcomesLeadThrough phased asked s' others more)
       (state_after (with_outcomes phased start) (On next left) lines)
-      → LeadsThrough phased asked next (left ++ others) (lines ++ more))
+      → OutcomesLeadThrough phased asked next (left ++ others) (lines ++ more))
       → (ends : Bool) (outcomes : List O)
       → leads_on ends outcomes (phased.Allows s line)
       (λ given left. none_after (phased.halts s line given) left
-      (Leads phased (phased.next s line given) left lines))
+      (OutcomesLead phased (phased.next s line given) left lines))
       → first_halt (halt_at phased s line (supply ends outcomes))
       (halted (with_outcomes phased start) (way_after phased s line (supply ends outcomes)) lines) ≡ None
-      → StandsOn (λ s'. LeadsThrough phased asked s' others more)
+      → StandsOn (λ s'. OutcomesLeadThrough phased asked s' others more)
       (state_after (with_outcomes phased start) (way_after phased s line (supply ends outcomes)) lines)
       → leads_on ends (outcomes ++ others) (phased.Allows s line)
       (λ given left. none_after (phased.halts s line given) left
-      (LeadsThrough phased asked (phased.next s line given) left (lines ++ more)))
+      (OutcomesLeadThrough phased asked (phased.next s line given) left (lines ++ more)))
   leads_on-append asked start others more s line lines later false outcomes led none after =
       let halts = phased.halts s line None in
       let next = phased.next s line None in
       let both = first_halt-none (with_outcomes phased start) halts
       (halted (with_outcomes phased start) (On next outcomes) lines) none in
       open-none_after halts (outcomes ++ others)
-      (LeadsThrough phased asked next (outcomes ++ others) (lines ++ more)) both.0
-      (later next outcomes (none_after-open halts outcomes (Leads phased next outcomes lines) both.0 led) both.1 after)
+      (OutcomesLeadThrough phased asked next (outcomes ++ others) (lines ++ more)) both.0
+      (later next outcomes (none_after-open halts outcomes (OutcomesLead phased next outcomes lines) both.0
+      led) both.1 after)
   leads_on-append asked start others more s line lines later true [] led none after =
-      absurd (subst (λ (way : Way S O). StandsOn (λ s'. LeadsThrough phased asked s' others more) way)
+      absurd (subst (λ (way : Way S O). StandsOn (λ s'. OutcomesLeadThrough phased asked s' others more) way)
       (state_after-short phased start lines) after)
   leads_on-append asked start others more s line lines later true (outcome ∷ left) led none after =
       let halts = phased.halts s line (Some outcome) in
@@ -138,20 +140,21 @@ module _ {S O : Type 0} (phased : PhasedBehavior S O) where
       (halted (with_outcomes phased start) (On next left) lines) none in (
         led.0,
         open-none_after halts (left ++ others)
-            (LeadsThrough phased asked next (left ++ others) (lines ++ more)) both.0
-            (later next left (none_after-open halts left (Leads phased next left lines) both.0 led.1) both.1 after),
+            (OutcomesLeadThrough phased asked next (left ++ others) (lines ++ more)) both.0
+            (later next left (none_after-open halts left (OutcomesLead phased next left lines) both.0 led.1)
+            both.1 after),
       )
 
   -- first some outcomes lead through some lines, and then others through others
-  pub LeadsThrough-append : (asked : S → List O → Type 0) (start others : List O) (more : List (List ℕ)) (s : S)
-      (outcomes : List O) (lines : List (List ℕ)) → Leads phased s outcomes lines
+  pub OutcomesLeadThrough-append : (asked : S → List O → Type 0) (start others : List O) (more : List (List ℕ)) (s : S)
+      (outcomes : List O) (lines : List (List ℕ)) → OutcomesLead phased s outcomes lines
       → halted (with_outcomes phased start) (On s outcomes) lines ≡ None
-      → StandsOn (λ s'. LeadsThrough phased asked s' others more)
+      → StandsOn (λ s'. OutcomesLeadThrough phased asked s' others more)
       (state_after (with_outcomes phased start) (On s outcomes) lines)
-      → LeadsThrough phased asked s (outcomes ++ others) (lines ++ more)
-  LeadsThrough-append asked start others more s outcomes [] led none after =
-      subst (λ (front : List O). LeadsThrough phased asked s (front ++ others) more) (sym after.1) after.0
-  LeadsThrough-append asked start others more s outcomes (line ∷ lines) led none after =
+      → OutcomesLeadThrough phased asked s (outcomes ++ others) (lines ++ more)
+  OutcomesLeadThrough-append asked start others more s outcomes [] led none after =
+      subst (λ (front : List O). OutcomesLeadThrough phased asked s (front ++ others) more) (sym after.1) after.0
+  OutcomesLeadThrough-append asked start others more s outcomes (line ∷ lines) led none after =
       leads_on-append asked start others more s line lines
-      (λ next left led none after. LeadsThrough-append asked start others more next left lines led none after)
+      (λ next left led none after. OutcomesLeadThrough-append asked start others more next left lines led none after)
       (phased.ends_phase s line) outcomes led none after

@@ -16,3 +16,4 @@ pub mod PlainAnswers
 pub mod TakenTexts
 pub mod PhasedSteps
 pub mod PhasedEnds
+pub mod Common

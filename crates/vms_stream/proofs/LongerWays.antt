@@ -1,13 +1,11 @@
 -- A way on which a job stands, with more outcomes.
 use Rattle.std.proofs.Common.{◌≡◌, ℕ, List, [], ◌∷◌, ◌++◌, Option, Some, None, refl, sym, ap, subst, ◌∙◌, append_assoc}
 use Rattle.vms_stream.specs.declared.statuses.Status.{Status}
-use Rattle.vms_stream.specs.Behaviors.{first_halt, halted, printed, state_after}
-use Rattle.vms_stream.specs.Jobs.{TakesLines, StandsOn}
-use Rattle.vms_stream.specs.PhasedBehaviors.{PhasedBehavior, Way, next_way, way_halts, with_outcomes}
-use Rattle.vms_stream.specs.PhasedBehaviors.Way.{On, Short}
-use Rattle.vms_stream.specs.Ways.{IsMore, IsOn, IsWhole, unless_halted}
-use Rattle.vms_stream.proofs.MoreOutcomes.{IsWhole-more, IsWhole-short, halted-start, printed-start, state_after-more}
-use Rattle.vms_stream.proofs.MoreOutcomes.{state_after-start}
+use Rattle.vms_stream.specs.Common.{first_halt, halted, printed, state_after, TakesLines, StandsOn, PhasedBehavior, Way}
+use Rattle.vms_stream.specs.Common.{next_way, way_halts, with_outcomes, On, Short, IsMore, IsOn, HasAllOutcomes}
+use Rattle.vms_stream.specs.Common.{unless_halted}
+use Rattle.vms_stream.proofs.MoreOutcomes.{HasAllOutcomes-more, HasAllOutcomes-short, halted-start, printed-start}
+use Rattle.vms_stream.proofs.MoreOutcomes.{state_after-more, state_after-start}
 
 module _ {S O : Type 0} where
   -- a job stands in the state of the way, with these outcomes left
@@ -41,31 +39,31 @@ unless_halted-of (Some halt) later goes = tt
 
 module _ {S O : Type 0} (phased : PhasedBehavior S O) where
   -- where a line stops the command, or it is on its way after all lines, no phase lacks its outcome
-  pub IsWhole-of : (start : List O) (way : Way S O) (lines : List (List ℕ))
+  pub HasAllOutcomes-of : (start : List O) (way : Way S O) (lines : List (List ℕ))
       → (halted (with_outcomes phased start) way lines ≡ None
       → IsOn (state_after (with_outcomes phased start) way lines))
-      → IsWhole phased way lines
-  IsWhole-of start way [] on = on refl
-  IsWhole-of start way (line ∷ lines) on =
+      → HasAllOutcomes phased way lines
+  HasAllOutcomes-of start way [] on = on refl
+  HasAllOutcomes-of start way (line ∷ lines) on =
       let next = next_way phased way line in
-      unless_halted-of (way_halts phased way line) (IsWhole phased next lines)
-      (λ open_line. IsWhole-of start next lines
+      unless_halted-of (way_halts phased way line) (HasAllOutcomes phased next lines)
+      (λ open_line. HasAllOutcomes-of start next lines
       (λ none. on (ap (λ (halt : Option Status). first_halt halt (halted
       (with_outcomes phased start) next lines)) open_line
       ∙ none)))
 
-  IsWhole-now : (way : Way S O) (lines : List (List ℕ)) → IsWhole phased way lines → IsOn way
-  IsWhole-now (On s left) lines whole = tt
-  IsWhole-now Short lines whole = IsWhole-short phased lines whole
+  HasAllOutcomes-now : (way : Way S O) (lines : List (List ℕ)) → HasAllOutcomes phased way lines → IsOn way
+  HasAllOutcomes-now (On s left) lines whole = tt
+  HasAllOutcomes-now Short lines whole = HasAllOutcomes-short phased lines whole
 
   -- nor above some of the lines
-  pub IsWhole-front : (way : Way S O) (lines more : List (List ℕ)) → IsWhole phased way (lines ++ more)
-      → IsWhole phased way lines
-  IsWhole-front way [] more whole = IsWhole-now way more whole
-  IsWhole-front way (line ∷ lines) more whole =
-      unless_halted-also (way_halts phased way line) (IsWhole phased (next_way phased way line) (lines ++ more))
-      (IsWhole phased (next_way phased way line) lines)
-      (λ later. IsWhole-front (next_way phased way line) lines more later) whole
+  pub HasAllOutcomes-front : (way : Way S O) (lines more : List (List ℕ)) → HasAllOutcomes phased way (lines ++ more)
+      → HasAllOutcomes phased way lines
+  HasAllOutcomes-front way [] more whole = HasAllOutcomes-now way more whole
+  HasAllOutcomes-front way (line ∷ lines) more whole =
+      unless_halted-also (way_halts phased way line) (HasAllOutcomes phased (next_way phased way line) (lines ++ more))
+      (HasAllOutcomes phased (next_way phased way line) lines)
+      (λ later. HasAllOutcomes-front (next_way phased way line) lines more later) whole
     where
       unless_halted-also : (halt : Option Status) (later later' : Type 0) → (later → later')
           → unless_halted halt later → unless_halted halt later'
@@ -85,8 +83,8 @@ module _ {S O : Type 0} (phased : PhasedBehavior S O) where
       let way = On s outcomes in
       let way' = On s (outcomes ++ more) in
       let after = state_after (with_outcomes phased outcomes) way lines in
-      let whole = IsWhole-of outcomes way lines (λ open_end. StandsOn-on stands after here) in
-      let same = IsWhole-more phased more outcomes way way' lines refl whole in (
+      let whole = HasAllOutcomes-of outcomes way lines (λ open_end. StandsOn-on stands after here) in
+      let same = HasAllOutcomes-more phased more outcomes way way' lines refl whole in (
         halted-start phased (outcomes ++ more) outcomes way' lines ∙ same.0 ∙ none,
         printed-start phased (outcomes ++ more) outcomes way' lines ∙ same.1,
         subst (StandsWith stands' more) (state_after-start phased outcomes (outcomes ++ more) way' lines)

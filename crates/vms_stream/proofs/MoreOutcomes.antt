@@ -3,13 +3,10 @@ use Rattle.std.proofs.Common.{◌≡◌, ℕ, Bool, true, false, List, [], ◌�
 use Rattle.std.proofs.Common.{subst, ◌∙◌, append_assoc, append-nil}
 use Rattle.vms_stream.specs.declared.statuses.Status.{Status}
 use Rattle.vms_stream.specs.declared.statuses.Status.TheVariants.{Header}
-use Rattle.vms_stream.specs.Behaviors.{Behavior, state_after, first_halt, halted, printed_from, printed, last_words}
-use Rattle.vms_stream.specs.PhasedBehaviors.{PhasedBehavior, Supply, Way, halt_at, last_of_way, next_way, printed_at}
-use Rattle.vms_stream.specs.PhasedBehaviors.{printed_last, supply, way_after, way_halts, way_prints, with_outcomes}
-use Rattle.vms_stream.specs.PhasedBehaviors.Supply.{Gives, Lacks}
-use Rattle.vms_stream.specs.PhasedBehaviors.Way.{On, Short}
-use Rattle.vms_stream.specs.Ways.{IsMore, IsOn, IsWhole, unless_halted}
-use Rattle.vms_stream.specs.Laws.{AgreesFrom, GoesWithMore}
+use Rattle.vms_stream.specs.Common.{Behavior, state_after, first_halt, halted, printed_from, printed, last_words}
+use Rattle.vms_stream.specs.Common.{PhasedBehavior, OutcomeSupply, Way, halt_at, last_of_way, next_way, printed_at}
+use Rattle.vms_stream.specs.Common.{printed_last, supply, way_after, way_halts, way_prints, with_outcomes, Gives, Lacks}
+use Rattle.vms_stream.specs.Common.{On, Short, IsMore, IsOn, HasAllOutcomes, unless_halted, AgreesFrom, GoesWithMore}
 
 -- one text begins another
 abbrev pub Begins : List ℕ → List ℕ → Type 0
@@ -128,24 +125,25 @@ module _ {S O : Type 0} (phased : PhasedBehavior S O) where
   printed_to-short outcomes after (line ∷ lines) none = printed_to-short outcomes after lines none
 
   -- what a line and the later ones print, by what the line gets
-  abbrev line_to : List O → (Way S O → List ℕ) → S → List ℕ → List (List ℕ) → Supply O → List ℕ
+  abbrev line_to : List O → (Way S O → List ℕ) → S → List ℕ → List (List ℕ) → OutcomeSupply O → List ℕ
   line_to outcomes after s line lines got = printed_from (halt_at phased s line got) (printed_at phased s line got)
       (printed_to (with_outcomes phased outcomes) after (way_after phased s line got) lines)
 
-  pub IsWhole-short : (lines : List (List ℕ)) → IsWhole phased Short lines → ⊥
-  IsWhole-short [] whole = whole
-  IsWhole-short (line ∷ lines) whole = IsWhole-short lines whole
+  pub HasAllOutcomes-short : (lines : List (List ℕ)) → HasAllOutcomes phased Short lines → ⊥
+  HasAllOutcomes-short [] whole = whole
+  HasAllOutcomes-short (line ∷ lines) whole = HasAllOutcomes-short lines whole
 
-  pub IsWhole-head : (way : Way S O) (line : List ℕ) (lines : List (List ℕ)) → IsWhole phased way (line ∷ lines)
+  pub HasAllOutcomes-head : (way : Way S O) (line : List ℕ) (lines : List (List ℕ)) →
+      HasAllOutcomes phased way (line ∷ lines)
       → IsOn (next_way phased way line)
-  IsWhole-head Short line lines whole = IsWhole-short lines whole
-  IsWhole-head (On s left) line lines whole = by (supply (phased.ends_phase s line) left) whole
+  HasAllOutcomes-head Short line lines whole = HasAllOutcomes-short lines whole
+  HasAllOutcomes-head (On s left) line lines whole = by (supply (phased.ends_phase s line) left) whole
     where
-      by : (got : Supply O)
-          → unless_halted (halt_at phased s line got) (IsWhole phased (way_after phased s line got) lines)
+      by : (got : OutcomeSupply O)
+          → unless_halted (halt_at phased s line got) (HasAllOutcomes phased (way_after phased s line got) lines)
           → IsOn (way_after phased s line got)
       by (Gives given rest) whole = tt
-      by Lacks whole = IsWhole-short lines whole
+      by Lacks whole = HasAllOutcomes-short lines whole
 
   module _ (more : List O) where
     way_after-more : (s : S) (line : List ℕ) (ends : Bool) (left : List O)
@@ -178,13 +176,13 @@ module _ {S O : Type 0} (phased : PhasedBehavior S O) where
     line-more s line true [] on = absurd on
     line-more s line true (outcome ∷ left) on = (refl, refl)
 
-    pub IsWhole-more : (outcomes : List O) (way way' : Way S O) (lines : List (List ℕ)) → IsMore more way way'
-        → IsWhole phased way lines
+    pub HasAllOutcomes-more : (outcomes : List O) (way way' : Way S O) (lines : List (List ℕ)) → IsMore more way way'
+        → HasAllOutcomes phased way lines
         → (halted (with_outcomes phased outcomes) way' lines ≡ halted (with_outcomes phased outcomes) way lines)
         × (printed (with_outcomes phased outcomes) way' lines ≡ printed (with_outcomes phased outcomes) way lines)
-    IsWhole-more outcomes way way' [] is whole = (refl, refl)
-    IsWhole-more outcomes Short way' (line ∷ lines) is whole = absurd (IsWhole-short lines whole)
-    IsWhole-more outcomes (On s left) way' (line ∷ lines) is whole =
+    HasAllOutcomes-more outcomes way way' [] is whole = (refl, refl)
+    HasAllOutcomes-more outcomes Short way' (line ∷ lines) is whole = absurd (HasAllOutcomes-short lines whole)
+    HasAllOutcomes-more outcomes (On s left) way' (line ∷ lines) is whole =
         subst (λ (w : Way S O). (halted (with_outcomes phased outcomes) w (line ∷ lines)
         ≡ halted (with_outcomes phased outcomes) (On s left) (line ∷ lines))
         × (printed (with_outcomes phased outcomes) w (line ∷ lines)
@@ -193,14 +191,14 @@ module _ {S O : Type 0} (phased : PhasedBehavior S O) where
         let longer = On s (left ++ more) in
         let next = next_way phased way line in
         let next' = next_way phased longer line in
-        let same = line-more s line (phased.ends_phase s line) left (IsWhole-head way line lines whole) in
+        let same = line-more s line (phased.ends_phase s line) left (HasAllOutcomes-head way line lines whole) in
         same_line (way_halts phased way line) (way_halts phased longer line)
         (halted (with_outcomes phased outcomes) next lines) (halted (with_outcomes phased outcomes) next' lines)
         (way_prints phased way line) (way_prints phased longer line)
         (printed (with_outcomes phased outcomes) next lines) (printed (with_outcomes phased outcomes) next' lines)
         same.0 same.1
-        (λ none. IsWhole-more outcomes next next' lines (next_way-more s left line)
-        (subst (λ (halt : Option Status). unless_halted halt (IsWhole phased next lines)) none whole))
+        (λ none. HasAllOutcomes-more outcomes next next' lines (next_way-more s left line)
+        (subst (λ (halt : Option Status). unless_halted halt (HasAllOutcomes phased next lines)) none whole))
         )
 
     line_to-more : (outcomes : List O) (after : Way S O → List ℕ) → after Short ≡ []
@@ -280,9 +278,9 @@ module _ {S O : Type 0} (phased : PhasedBehavior S O) where
         way = subst (λ (w : Way S O). IsMore more (state_after (with_outcomes phased outcomes) way lines) w)
             (state_after-start outcomes longer way' lines) (state_after-more more outcomes way way' lines refl);
         halt = λ whole. halted-start longer outcomes way' lines
-            ∙ (IsWhole-more more outcomes way way' lines refl whole).0;
+            ∙ (HasAllOutcomes-more more outcomes way way' lines refl whole).0;
         prints = λ whole. printed-start longer outcomes way' lines
-            ∙ (IsWhole-more more outcomes way way' lines refl whole).1;
+            ∙ (HasAllOutcomes-more more outcomes way way' lines refl whole).1;
         begins = (begins.0, printed-start longer outcomes way' lines ∙ begins.1);
         output_begins = (
           outputs.0,

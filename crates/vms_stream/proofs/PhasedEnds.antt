@@ -7,23 +7,18 @@ use Rattle.vms_stream.specs.declared.courses.Course.{Course}
 use Rattle.vms_stream.specs.declared.statuses.Status.{Status}
 use Rattle.vms_stream.specs.declared.statuses.Status.TheVariants.{Memory}
 use Rattle.vms_stream.specs.declared.statuses.Status.TheVariants as statuses
-use Rattle.vms_stream.specs.Answers.{FaultsOfSink, FaultsOfSource, lines_taken}
-use Rattle.vms_stream.specs.Behaviors.{halted, printed, state_after}
-use Rattle.vms_stream.specs.Courses.{Finishes, lines_judged, status_in, FinishesPhased, IsPhasedCourse, StepsPhased}
-use Rattle.vms_stream.specs.Jobs.{Closes, Grows, StandsOn, shown_on}
-use Rattle.vms_stream.specs.Pieces.{partial_line}
+use Rattle.vms_stream.specs.Common.{FaultsOfSink, FaultsOfSource, lines_taken, halted, printed, state_after, Finishes}
+use Rattle.vms_stream.specs.Common.{lines_judged, status_in, FinishesPhased, IsPhasedCourse, StepsPhased, Closes, Grows}
+use Rattle.vms_stream.specs.Common.{StandsOn, shown_on, partial_line, PhasedBehavior, Way, with_outcomes, On, Short}
+use Rattle.vms_stream.specs.Common.{HasAllOutcomes, OutcomesLead, OutcomesLeadToEnd, UsedAtEnd, AnswersPhased}
 use Rattle.vms_stream.proofs.CourseEnds.{none_read_fails, reads_after, writes_after}
 use Rattle.vms_stream.proofs.PieceLines.{lines_taken-within}
 use Rattle.vms_stream.proofs.StepOutcomes.{begins, no_piece}
 use Rattle.vms_stream.proofs.TwoPieces.{lines_of-parts}
-use Rattle.vms_text.specs.Lines.{lines_of}
-use Rattle.vms_stream.specs.PhasedBehaviors.{PhasedBehavior, Way, with_outcomes}
-use Rattle.vms_stream.specs.PhasedBehaviors.Way.{On, Short}
-use Rattle.vms_stream.specs.Ways.{IsWhole}
-use Rattle.vms_stream.specs.Leading.{Leads, LeadsToEnd, UsedAtEnd}
-use Rattle.vms_stream.specs.PhasedAnswers.{AnswersPhased}
-use Rattle.vms_stream.proofs.LeadingOutcomes.{Leads-none, LeadsThrough-append}
-use Rattle.vms_stream.proofs.LongerWays.{IsWhole-front, IsWhole-of, StandsOn-also, StandsWith, StandsWith-on}
+use Rattle.vms_text.specs.Common.{lines_of}
+use Rattle.vms_stream.proofs.LeadingOutcomes.{OutcomesLead-none, OutcomesLeadThrough-append}
+use Rattle.vms_stream.proofs.LongerWays.{HasAllOutcomes-front, HasAllOutcomes-of, StandsOn-also, StandsWith}
+use Rattle.vms_stream.proofs.LongerWays.{StandsWith-on}
 use Rattle.vms_stream.proofs.PhasedSteps.{asked_of-any, longer}
 use Rattle.vms_stream.proofs.TakenTexts.{Grows-nil, Grows-trans}
 
@@ -34,11 +29,11 @@ module _ {S O : Type 0} (phased : PhasedBehavior S O) (shows : S → Option O �
     lines_all = ap (λ (b : Bool). lines_judged b taken) at_end
 
     leads_end : (further : List O) → ((s : S) → stands s → UsedAtEnd phased s further)
-        → LeadsToEnd phased phased.start (outcomes ++ further) (lines_of taken)
+        → OutcomesLeadToEnd phased phased.start (outcomes ++ further) (lines_of taken)
     leads_end further used =
-        subst (LeadsToEnd phased phased.start (outcomes ++ further)) (append-nil (lines_of taken))
-        (LeadsThrough-append phased (UsedAtEnd phased) outcomes further [] phased.start outcomes (lines_of taken)
-        (subst (Leads phased phased.start outcomes) lines_all is.leads)
+        subst (OutcomesLeadToEnd phased phased.start (outcomes ++ further)) (append-nil (lines_of taken))
+        (OutcomesLeadThrough-append phased (UsedAtEnd phased) outcomes further [] phased.start outcomes (lines_of taken)
+        (subst (OutcomesLead phased phased.start outcomes) lines_all is.leads)
         (ap (halted (with_outcomes phased outcomes) (On phased.start outcomes)) (sym lines_all)
         ∙ is.is_course.none_halts)
         (StandsOn-also stands (λ s. UsedAtEnd phased s further)
@@ -47,17 +42,17 @@ module _ {S O : Type 0} (phased : PhasedBehavior S O) (shows : S → Option O �
         (state_after (with_outcomes phased outcomes) (On phased.start outcomes) lines)) lines_all
         is.is_course.stands_after)))
 
-    whole_end : (further : List O) → IsWhole phased (On phased.start (outcomes ++ further)) (lines_taken taken)
+    whole_end : (further : List O) → HasAllOutcomes phased (On phased.start (outcomes ++ further)) (lines_taken taken)
     whole_end further =
         let way = On phased.start (outcomes ++ further) in
         let behavior = with_outcomes phased (outcomes ++ further) in
         let course' = longer phased shows outcomes taken written course is further in
-        IsWhole-front phased way (lines_taken taken) (lines_of (partial_line taken ++ []))
-        (subst (IsWhole phased way)
+        HasAllOutcomes-front phased way (lines_taken taken) (lines_of (partial_line taken ++ []))
+        (subst (HasAllOutcomes phased way)
         (lines_all ∙ ap lines_of (sym (append-nil taken)) ∙ lines_of-parts taken []
         ∙ ap (λ (lines : List (List ℕ)). lines ++ lines_of (partial_line taken ++ []))
         (sym (lines_taken-within taken is.is_course.within)))
-        (IsWhole-of phased (outcomes ++ further) way (lines_judged course.at_end taken)
+        (HasAllOutcomes-of phased (outcomes ++ further) way (lines_judged course.at_end taken)
         (λ none. StandsWith-on stands further (state_after behavior way (lines_judged course.at_end taken))
         course'.stands_after)))
 
@@ -107,7 +102,7 @@ module _ {S O : Type 0} (phased : PhasedBehavior S O) (shows : S → Option O �
           nothing_waits = nothing_waits;
           held = λ _. nothing_held;
         };
-        leads = subst (Leads phased phased.start []) (sym none) refl;
+        leads = subst (OutcomesLead phased phased.start []) (sym none) refl;
       }
 
   -- there was no memory to begin
@@ -128,7 +123,7 @@ module _ {S O : Type 0} (phased : PhasedBehavior S O) (shows : S → Option O �
           answer = record {
             says = begins (with_outcomes phased []) [] (IsAtEnd (left src)) [] [] [] [] refl refl
                 (no_piece (with_outcomes phased []) [] (omega arith) refl) [] refl;
-            leads = inl (Leads-none phased phased.start []);
+            leads = inl (OutcomesLead-none phased phased.start []);
             whole = tt;
           };
           reads = refl;
@@ -182,7 +177,7 @@ module _ {S O : Type 0} (phased : PhasedBehavior S O) (shows : S → Option O �
           says = ends.finishes.outcome (left src') ended;
           leads = inr (ended, ends.within, ends.leads);
           whole = asked_of-any (status_in result)
-              (IsWhole phased (On phased.start (outcomes ++ ends.further)) (lines_taken taken)) ends.whole;
+              (HasAllOutcomes phased (On phased.start (outcomes ++ ends.further)) (lines_taken taken)) ends.whole;
         };
         reads = none_read_fails left read_faults src src' (status_in result) reads none_read;
         writes = writes_after held write_faults out out' out'' (status_in result) none_wrote writes;

@@ -4,30 +4,25 @@ use Rattle.std.proofs.Common.{take-append-drop, inl, inr, Option, Some, None, Ok
 use Rattle.std.proofs.Common.{◌∙◌, append_assoc, append-nil, arith, length-append}
 use Rattle.std.specs.Io.KnownBytes.{Appends, IsAtEnd, Keeps}
 use Rattle.std.proofs.KnownBytes.{Appends-nil, Consumes-nil, Consumes-kept}
-use Rattle.vms_io.specs.Reading.{Gets}
+use Rattle.vms_io.specs.Common.{Gets}
 use Rattle.vms_stream.specs.declared.courses.Course.{Course}
 use Rattle.vms_stream.specs.declared.statuses.Status.{Status}
 use Rattle.vms_stream.specs.declared.statuses.Status.TheVariants.{Memory, ReadFault, WriteFault}
 use Rattle.vms_stream.specs.declared.statuses.Status.TheVariants as statuses
-use Rattle.vms_stream.specs.Answers.{BeginsOutput, IsLastPiece, lines_taken, most_bytes}
-use Rattle.vms_stream.specs.Behaviors.{Behavior, printed, state_after}
-use Rattle.vms_stream.specs.Courses.{IsCourse, StopsAt, lines_held, lines_judged, IsPhasedCourse, StepsPhased}
-use Rattle.vms_stream.specs.Jobs.{TakesLines, Grows, StandsOn, shown_on}
-use Rattle.vms_stream.specs.Pieces.{whole_lines, partial_line}
+use Rattle.vms_stream.specs.Common.{BeginsOutput, IsLastPiece, lines_taken, most_bytes, Behavior, printed, state_after}
+use Rattle.vms_stream.specs.Common.{IsCourse, StopsAt, lines_held, lines_judged, IsPhasedCourse, StepsPhased}
+use Rattle.vms_stream.specs.Common.{TakesLines, Grows, StandsOn, shown_on, whole_lines, partial_line, PhasedBehavior}
+use Rattle.vms_stream.specs.Common.{Way, with_outcomes, On, Short, HasAllOutcomes, AllUsed, OutcomesLead}
+use Rattle.vms_stream.specs.Common.{OutcomesLeadTaken, SaysPhased, asked_of}
 use Rattle.vms_stream.proofs.BehaviorLaws.{printed-append}
 use Rattle.vms_stream.proofs.PieceLines.{lines_counted, lines_counted-within, lines_taken-within}
 use Rattle.vms_stream.proofs.StepOutcomes.{above_written, at_the_end, before_end, begins, begins_at_end, goes_on}
 use Rattle.vms_stream.proofs.StepOutcomes.{judged, last_piece, lines_all, no_piece, says_beyond, says_halt}
 use Rattle.vms_stream.proofs.TwoPieces.{lines_of-parts}
-use Rattle.vms_text.specs.Lines.{lines_of}
-use Rattle.vms_stream.specs.PhasedBehaviors.{PhasedBehavior, Way, with_outcomes}
-use Rattle.vms_stream.specs.PhasedBehaviors.Way.{On, Short}
-use Rattle.vms_stream.specs.Ways.{IsWhole}
-use Rattle.vms_stream.specs.Leading.{AllUsed, Leads}
-use Rattle.vms_stream.specs.PhasedAnswers.{LeadsTaken, SaysPhased, asked_of}
-use Rattle.vms_stream.proofs.LeadingOutcomes.{Leads-end, LeadsThrough-append}
-use Rattle.vms_stream.proofs.LongerWays.{IsWhole-front, IsWhole-of, StandsOn-also, StandsOn-more, StandsOn-on}
-use Rattle.vms_stream.proofs.LongerWays.{StandsWith, TakesLines-start}
+use Rattle.vms_text.specs.Common.{lines_of}
+use Rattle.vms_stream.proofs.LeadingOutcomes.{OutcomesLead-end, OutcomesLeadThrough-append}
+use Rattle.vms_stream.proofs.LongerWays.{HasAllOutcomes-front, HasAllOutcomes-of, StandsOn-also, StandsOn-more}
+use Rattle.vms_stream.proofs.LongerWays.{StandsOn-on, StandsWith, TakesLines-start}
 use Rattle.vms_stream.proofs.MoreOutcomes.{printed-start}
 use Rattle.vms_stream.proofs.TakenTexts.{Grows-nil}
 
@@ -61,17 +56,17 @@ module _ {S O : Type 0} (phased : PhasedBehavior S O) (shows : S → Option O �
       abbrev lines_same : lines_judged course.at_end taken ≡ whole_lines taken
       lines_same = ap (λ (b : Bool). lines_judged b taken) isnt
 
-      leads_now : Leads phased phased.start outcomes (whole_lines taken)
-      leads_now = subst (Leads phased phased.start outcomes) lines_same is.leads
+      leads_now : OutcomesLead phased phased.start outcomes (whole_lines taken)
+      leads_now = subst (OutcomesLead phased phased.start outcomes) lines_same is.leads
 
       abbrev same_taken : lines_taken taken ≡ whole_lines taken
       same_taken = lines_taken-within taken is.is_course.within
 
-      whole_now : IsWhole phased (On phased.start outcomes) (lines_taken taken)
+      whole_now : HasAllOutcomes phased (On phased.start outcomes) (lines_taken taken)
       whole_now =
           let now = before_end (with_outcomes phased outcomes) taken written course is.is_course isnt in
-          subst (IsWhole phased (On phased.start outcomes)) (sym same_taken)
-          (IsWhole-of phased outcomes (On phased.start outcomes) (whole_lines taken)
+          subst (HasAllOutcomes phased (On phased.start outcomes)) (sym same_taken)
+          (HasAllOutcomes-of phased outcomes (On phased.start outcomes) (whole_lines taken)
           (λ none. StandsOn-on stands
           (state_after (with_outcomes phased outcomes) (On phased.start outcomes) (whole_lines taken)) now.1))
 
@@ -80,7 +75,7 @@ module _ {S O : Type 0} (phased : PhasedBehavior S O) (shows : S → Option O �
       says_unread stop at_end (inl fault) =
           subst (λ (s : Status). SaysPhased phased shows outcomes s taken written at_end) (sym fault) (record {
             says = (before_end (with_outcomes phased outcomes) taken written course is.is_course isnt).0;
-            leads = inl (subst (Leads phased phased.start outcomes) (sym same_taken) leads_now);
+            leads = inl (subst (OutcomesLead phased phased.start outcomes) (sym same_taken) leads_now);
             whole = whole_now;
           })
       says_unread stop at_end (inr memory) =
@@ -92,7 +87,7 @@ module _ {S O : Type 0} (phased : PhasedBehavior S O) (shows : S → Option O �
                 (no_piece behavior taken is.is_course.within now.0.none_halts) []
                 (now.0.all_written ∙ sym (append-nil (printed behavior (On phased.start outcomes)
                 (whole_lines taken))));
-            leads = inl (subst (Leads phased phased.start outcomes) (sym same_taken) leads_now);
+            leads = inl (subst (OutcomesLead phased phased.start outcomes) (sym same_taken) leads_now);
             whole = tt;
           })
 
@@ -127,7 +122,7 @@ module _ {S O : Type 0} (phased : PhasedBehavior S O) (shows : S → Option O �
           (gets : Gets course.input read.input left left' (read.taken - course.taken))
           (counted : course.taken ≤ read.taken) (ended : read.at_end ≡ true → read.taken ≡ course.taken)
           (waits : read.waiting.items ≡ course.waiting.items)
-          (leads : (s : S) → stands s → Leads phased s further (lines_held read)) where
+          (leads : (s : S) → stands s → OutcomesLead phased s further (lines_held read)) where
         abbrev behavior : Behavior (Way S O)
         behavior = with_outcomes phased (outcomes ++ further)
 
@@ -147,24 +142,25 @@ module _ {S O : Type 0} (phased : PhasedBehavior S O) (shows : S → Option O �
         abbrev piece : IsLastPiece behavior text
         piece = last_piece behavior taken written course (longer further) isnt read left left' gets counted ended waits
 
-        leads_all : Leads phased phased.start (outcomes ++ further) (lines_counted read.at_end text)
+        leads_all : OutcomesLead phased phased.start (outcomes ++ further) (lines_counted read.at_end text)
         leads_all =
             let now = before_end (with_outcomes phased outcomes) taken written course is.is_course isnt in
-            subst (Leads phased phased.start (outcomes ++ further)) lines_same_all
-            (LeadsThrough-append phased AllUsed outcomes further (lines_held read) phased.start outcomes
+            subst (OutcomesLead phased phased.start (outcomes ++ further)) lines_same_all
+            (OutcomesLeadThrough-append phased AllUsed outcomes further (lines_held read) phased.start outcomes
             (whole_lines taken) leads_now now.0.none_halts
-            (StandsOn-also stands (λ s. Leads phased s further (lines_held read))
+            (StandsOn-also stands (λ s. OutcomesLead phased s further (lines_held read))
             (state_after (with_outcomes phased outcomes) (On phased.start outcomes) (whole_lines taken)) leads now.1))
 
-        leads_taken : LeadsTaken phased (outcomes ++ further) text (IsAtEnd left')
+        leads_taken : OutcomesLeadTaken phased (outcomes ++ further) text (IsAtEnd left')
         leads_taken = by read.at_end refl leads_all
           where
-            by : (b : Bool) → read.at_end ≡ b → Leads phased phased.start (outcomes ++ further) (lines_counted b text)
-                → LeadsTaken phased (outcomes ++ further) text (IsAtEnd left')
+            by : (b : Bool) → read.at_end ≡ b →
+                OutcomesLead phased phased.start (outcomes ++ further) (lines_counted b text)
+                → OutcomesLeadTaken phased (outcomes ++ further) text (IsAtEnd left')
             by false before led = inl led
             by true end led =
                 let at = there end in
-                inr (at.0, at.1, Leads-end phased phased.start (outcomes ++ further) (lines_of text) led)
+                inr (at.0, at.1, OutcomesLead-end phased phased.start (outcomes ++ further) (lines_of text) led)
 
         -- what was written is the front of what the lines print
         begun : (moved unwritten : List ℕ)
@@ -280,21 +276,21 @@ module _ {S O : Type 0} (phased : PhasedBehavior S O) (shows : S → Option O �
                 ∙ all_judged.prints);
           }
 
-          whole_all : IsWhole phased (On phased.start (outcomes ++ further)) (lines_taken text)
+          whole_all : HasAllOutcomes phased (On phased.start (outcomes ++ further)) (lines_taken text)
           whole_all = by read.at_end refl
-              (IsWhole-of phased (outcomes ++ further) (On phased.start (outcomes ++ further))
+              (HasAllOutcomes-of phased (outcomes ++ further) (On phased.start (outcomes ++ further))
               (lines_counted read.at_end text)
               (λ none. StandsOn-on stands' (state_after behavior (On phased.start (outcomes ++ further))
               (lines_counted read.at_end text)) (all_judged.stands_after (all_judged.halt_of ∙ none))))
             where
               by : (b : Bool) → read.at_end ≡ b
-                  → IsWhole phased (On phased.start (outcomes ++ further)) (lines_counted b text)
-                  → IsWhole phased (On phased.start (outcomes ++ further)) (lines_taken text)
+                  → HasAllOutcomes phased (On phased.start (outcomes ++ further)) (lines_counted b text)
+                  → HasAllOutcomes phased (On phased.start (outcomes ++ further)) (lines_taken text)
               by false before whole = whole
               by true end whole =
-                  IsWhole-front phased (On phased.start (outcomes ++ further)) (lines_taken text)
+                  HasAllOutcomes-front phased (On phased.start (outcomes ++ further)) (lines_taken text)
                   (lines_of (partial_line text ++ []))
-                  (subst (IsWhole phased (On phased.start (outcomes ++ further)))
+                  (subst (HasAllOutcomes phased (On phased.start (outcomes ++ further)))
                   (ap lines_of (sym (append-nil text)) ∙ lines_of-parts text []
                   ∙ ap (λ (lines : List (List ℕ)). lines ++ lines_of (partial_line text ++ []))
                   (sym (lines_taken-within text (there end).1))) whole)
@@ -330,7 +326,7 @@ module _ {S O : Type 0} (phased : PhasedBehavior S O) (shows : S → Option O �
                           ended waits (StandsOn stands') halt total judges shown h is_found;
                       leads = leads_taken;
                       whole = asked_of-any h
-                          (IsWhole phased (On phased.start (outcomes ++ further)) (lines_taken text)) whole_all;
+                          (HasAllOutcomes phased (On phased.start (outcomes ++ further)) (lines_taken text)) whole_all;
                     };
                   })
               by None is_found (Ok done) within = record {
@@ -345,7 +341,7 @@ module _ {S O : Type 0} (phased : PhasedBehavior S O) (shows : S → Option O �
                     is_course = goes_on behavior taken written course (longer further) isnt read left left' gets counted
                         ended waits (StandsOn stands') halt total judges last same_count same_end nothing_waits held
                         is_found within;
-                    leads = subst (Leads phased phased.start (outcomes ++ further))
+                    leads = subst (OutcomesLead phased phased.start (outcomes ++ further))
                         (lines_counted-within read.at_end text (subst (λ (n : ℕ). n ≤ most_bytes) text_count within)
                         ∙ ap (λ (b : Bool). lines_judged b text) (sym same_end)) leads_all;
                   },

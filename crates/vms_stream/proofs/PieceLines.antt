@@ -4,11 +4,9 @@ use Rattle.std.proofs.Common.{inl, inr, refl, sym, ap, ◌∙◌, arith}
 use Rattle.std.proofs.Math.Seq.{take-append-add}
 use Rattle.std.proofs.lemmas.Bool.{cases_lt}
 use Rattle.std.proofs.lemmas.List.{take_all}
-use Rattle.vms_stream.specs.Answers.{most_bytes, lines_taken}
-use Rattle.vms_stream.specs.Courses.{lines_judged}
-use Rattle.vms_stream.specs.Pieces.{whole_lines, partial_line}
+use Rattle.vms_stream.specs.Common.{most_bytes, lines_taken, lines_judged, whole_lines, partial_line}
 use Rattle.vms_stream.proofs.TwoPieces.{whole_lines-append, lines_of-parts}
-use Rattle.vms_text.specs.Lines.{lines_of}
+use Rattle.vms_text.specs.Common.{lines_of}
 
 -- the lines that count
 abbrev pub lines_counted : Bool → List ℕ → List (List ℕ)

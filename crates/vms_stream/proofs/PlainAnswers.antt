@@ -1,18 +1,12 @@
 -- For other crates too: a command that makes no phase has the clauses of its plain behavior.
 use Rattle.std.proofs.Common.{◌≡◌, ℕ, Bool, List, [], Option, Some, None, refl, ap, subst, ◌∙◌, false}
 use Rattle.vms_stream.specs.declared.statuses.Status.{Status}
-use Rattle.vms_stream.specs.Answers.{Answers, Says}
+use Rattle.vms_stream.specs.Common.{TakesAndWrites, Says, PhasedBehavior, Way, ending_at, halt_at, last_of_way}
+use Rattle.vms_stream.specs.Common.{next_way, printed_at, printed_last, supply, way_after, way_halts, way_prints}
+use Rattle.vms_stream.specs.Common.{way_ends, with_outcomes, On, shown_on, shown_with, AnswersPhased, AskNothing}
+use Rattle.vms_stream.specs.Common.{MakesNoPhase, plain, plain_bytes, plainly, IsAsking, LineTexts, Text, Waiting}
+use Rattle.vms_stream.specs.Common.{printed_now, unless_stopped, waiting, waits_with, Plain, Asks}
 use Rattle.vms_stream.proofs.AlikeBehaviors.{GoAlike, Says-alike}
-use Rattle.vms_stream.specs.PhasedBehaviors.{PhasedBehavior, Way, ending_at, halt_at, last_of_way, next_way, printed_at}
-use Rattle.vms_stream.specs.PhasedBehaviors.{printed_last, supply, way_after, way_halts, way_prints, way_ends}
-use Rattle.vms_stream.specs.PhasedBehaviors.{with_outcomes}
-use Rattle.vms_stream.specs.PhasedBehaviors.Way.{On}
-use Rattle.vms_stream.specs.Jobs.{shown_on, shown_with}
-use Rattle.vms_stream.specs.PhasedAnswers.{AnswersPhased}
-use Rattle.vms_stream.specs.Plain.{AskNothing, MakesNoPhase, plain, plain_bytes, plainly}
-use Rattle.vms_stream.specs.Waiting.{IsAsking, LineTexts, Text, Waiting, printed_now, unless_stopped, waiting}
-use Rattle.vms_stream.specs.Waiting.{waits_with}
-use Rattle.vms_stream.specs.Waiting.Text.{Plain, Asks}
 
 module _ {S O : Type 0} (phased : PhasedBehavior S O) (none : MakesNoPhase phased) (outcomes : List O) where
   plain-alike : GoAlike (with_outcomes phased outcomes) (plain phased) (λ way s. way ≡ On s outcomes)
@@ -98,14 +92,15 @@ module _ {S O : Type 0} (texts : LineTexts S O) (nothing : AskNothing texts) (ou
       status taken written at_end says
 
 -- what a command answers that asks for nothing
-pub Answers-plainly : {S O R K : Type 0} (texts : LineTexts S O) → AskNothing texts
+pub TakesAndWrites-plainly : {S O R K : Type 0} (texts : LineTexts S O) → AskNothing texts
     → (shows : Waiting S O → Option O → Type 0) (made made' : Option (List O)) (left : R → Option (List ℕ))
     (read_faults : R → ℕ) (held : K → Option (List ℕ)) (write_faults : K → ℕ) (src src' : R) (out out' : K)
     (status : Status)
     → AnswersPhased (waiting texts) shows made made' left read_faults held write_faults src src' out out' status
-    → Answers left read_faults held write_faults src src' out out' status
+    → TakesAndWrites left read_faults held write_faults src src' out out' status
     (Says (plainly texts) (λ s. shows (record { state = s; waits = [] }) None))
-Answers-plainly texts nothing shows made made' left read_faults held write_faults src src' out out' status phased =
+TakesAndWrites-plainly texts nothing shows made made' left read_faults held write_faults src src' out out'
+    status phased =
     let answers = phased.answers in
     record {
       taken = answers.taken;

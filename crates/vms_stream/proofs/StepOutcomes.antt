@@ -3,20 +3,18 @@ use Rattle.std.proofs.Common.{◌≡◌, ℕ, ◌+◌, ◌-◌, ◌≤◌, ◌<�
 use Rattle.std.proofs.Common.{length-append, inl, inr, Option, Some, None, refl, sym, ap, subst, ◌∙◌, append_assoc}
 use Rattle.std.proofs.Common.{append-nil, arith}
 use Rattle.std.specs.Io.KnownBytes.{IsAtEnd}
-use Rattle.vms_io.specs.Reading.{Gets}
+use Rattle.vms_io.specs.Common.{Gets}
 use Rattle.vms_stream.specs.declared.courses.Course.{Course}
 use Rattle.vms_stream.specs.declared.statuses.Status.{Status}
 use Rattle.vms_stream.specs.declared.statuses.Status.TheVariants.{Header, TooLong}
-use Rattle.vms_stream.specs.Answers.{most_bytes, lines_taken, BeginsOutput, GoesOn, Halts, IsJudged, IsLastPiece, Says}
-use Rattle.vms_stream.specs.Courses.{IsCourse, lines_held, lines_judged}
-use Rattle.vms_stream.specs.Jobs.{TakesLines}
-use Rattle.vms_stream.specs.Behaviors.{Behavior, MayHalt, state_after, halted, printed, output}
-use Rattle.vms_stream.specs.Pieces.{whole_lines, partial_line}
+use Rattle.vms_stream.specs.Common.{most_bytes, lines_taken, BeginsOutput, GoesOn, Halts, AreLinesTaken, IsLastPiece}
+use Rattle.vms_stream.specs.Common.{Says, IsCourse, lines_held, lines_judged, TakesLines, Behavior, MayHalt}
+use Rattle.vms_stream.specs.Common.{state_after, halted, printed, output, whole_lines, partial_line}
 use Rattle.vms_stream.proofs.PieceLines.{lines_counted, lines_counted-within, lines_both}
 use Rattle.vms_stream.proofs.BehaviorLaws.{MayHalt-halted, output-begins, printed-begins}
 use Rattle.vms_stream.proofs.TwoPieces.{partial_line-append}
 use Rattle.vms_stream.proofs.TakenLines.{TakesLines-after, TakesLines-both}
-use Rattle.vms_text.specs.Lines.{lines_of}
+use Rattle.vms_text.specs.Common.{lines_of}
 
 module _ {S : Type 0} (behavior : Behavior S) where
   -- what the first of the whole lines print, or a part of it, begins what all of them print
@@ -173,7 +171,7 @@ module _ {S : Type 0} (behavior : Behavior S) where
             last_piece = last_piece;
           }
             where
-              counts : (b : Bool) → read.at_end ≡ b → IsJudged text (lines_counted b text) (IsAtEnd left')
+              counts : (b : Bool) → read.at_end ≡ b → AreLinesTaken text (lines_counted b text) (IsAtEnd left')
               counts true end = let there = at_the_end end in inr (there.0, there.1, refl)
               counts false before = inl refl
 

@@ -2,10 +2,8 @@
 use Rattle.std.proofs.Common.{◌≡◌, ℕ, List, Option, Some, None, Ok, Err, Result, sym, subst}
 use Rattle.vms_stream.specs.declared.statuses.Status.{Status}
 use Rattle.vms_stream.specs.declared.statuses.Status.TheVariants.{Header, TooLong}
-use Rattle.vms_stream.specs.Answers.{FaultsOfSink, FaultsOfSource}
-use Rattle.vms_stream.specs.Behaviors.{Behavior, MayHalt}
-use Rattle.vms_stream.specs.Courses.{CountsReads, CountsWrites, StopsAt}
-use Rattle.vms_stream.specs.Jobs.{TakesLines}
+use Rattle.vms_stream.specs.Common.{FaultsOfSink, FaultsOfSource, Behavior, MayHalt, CountsReads, CountsWrites, StopsAt}
+use Rattle.vms_stream.specs.Common.{TakesLines}
 use Rattle.vms_stream.proofs.BehaviorLaws.{MayHalt-halted}
 
 pub MayHalt-taken : {S : Type 0} (behavior : Behavior S) (stands : S → Type 0) (s : S) (lines : List (List ℕ))

@@ -3,11 +3,10 @@ use Rattle.std.proofs.Common.{◌≡◌, ◌≢◌, ℕ, ◌==◌, Bool, false, 
 use Rattle.std.proofs.Common.{subst, ◌∙◌, append_assoc, append-nil, true≢false}
 use Rattle.vms_stream.specs.declared.statuses.Status.{Status}
 use Rattle.vms_stream.specs.declared.statuses.Status.TheVariants.{Header, TooLong}
-use Rattle.vms_stream.specs.Jobs.{TakesLines}
-use Rattle.vms_stream.specs.Behaviors.{Behavior, state_after, first_halt, halted, printed_from, printed}
+use Rattle.vms_stream.specs.Common.{TakesLines, Behavior, state_after, first_halt, halted, printed_from, printed}
 use Rattle.vms_stream.proofs.BehaviorLaws.{state_after-append, halted-append, printed-append, halted-stops}
-use Rattle.vms_text.proofs.TextLaws.{lines_of-begin}
-use Rattle.vms_text.specs.Lines.{lines_of, SplitsLine}
+use Rattle.vms_text.proofs.Common.{lines_of-begin}
+use Rattle.vms_text.specs.Common.{lines_of, SplitsLine}
 
 -- a list whose length isn't 0 isn't empty
 pub nonempty : (xs : List ℕ) (b : Bool) → b ≡ (length xs == 0) → b ≡ false → xs ≢ []

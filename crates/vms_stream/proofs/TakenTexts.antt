@@ -4,16 +4,12 @@ use Rattle.std.proofs.Common.{◌∙◌, append_assoc, append-nil}
 use Rattle.std.specs.Io.KnownBytes.{Appends}
 use Rattle.std.proofs.KnownBytes.{Appends-nil, Appends-trans}
 use Rattle.vms_stream.specs.declared.statuses.Status.{Status}
-use Rattle.vms_stream.specs.Behaviors.{MayHalt, halted, printed, state_after}
-use Rattle.vms_stream.specs.Jobs.{TakesLines, Grows, StandsOn, TakesPhased}
+use Rattle.vms_stream.specs.Common.{MayHalt, halted, printed, state_after, TakesLines, Grows, StandsOn, TakesPhased}
+use Rattle.vms_stream.specs.Common.{PhasedBehavior, Way, with_outcomes, On, Short, AllUsed, OutcomesLead, TakesText}
 use Rattle.vms_stream.proofs.BehaviorLaws.{printed-begins}
 use Rattle.vms_stream.proofs.Stopping.{MayHalt-taken}
 use Rattle.vms_stream.proofs.TakenLines.{TakesLines-both, TakesLines-stopped}
-use Rattle.vms_stream.specs.PhasedBehaviors.{PhasedBehavior, Way, with_outcomes}
-use Rattle.vms_stream.specs.PhasedBehaviors.Way.{On, Short}
-use Rattle.vms_stream.specs.Leading.{AllUsed, Leads}
-use Rattle.vms_stream.specs.Taking.{TakesText}
-use Rattle.vms_stream.proofs.LeadingOutcomes.{Leads-more, LeadsThrough-append}
+use Rattle.vms_stream.proofs.LeadingOutcomes.{OutcomesLead-more, OutcomesLeadThrough-append}
 use Rattle.vms_stream.proofs.LongerWays.{StandsOn-also, StandsOn-more, StandsWith, TakesLines-front, TakesLines-start}
 
 module _ {O : Type 0} where
@@ -52,13 +48,13 @@ module _ {S O E : Type 0} (phased : PhasedBehavior S O) where
       (held held' : Option (List ℕ))
       (took : TakesText {E = E} phased stands now made made' above (Ok None) out out' held held') where
     -- outcomes that lead on
-    leads_on_with : (more : List O) (others : List (List ℕ)) → ((s : S) → now s → Leads phased s more others)
-        → (s : S) → stands s → Leads phased s (took.outcomes ++ more) (above ++ others)
+    leads_on_with : (more : List O) (others : List (List ℕ)) → ((s : S) → now s → OutcomesLead phased s more others)
+        → (s : S) → stands s → OutcomesLead phased s (took.outcomes ++ more) (above ++ others)
     leads_on_with more others leads s here =
         let takes = took.goes s here in
-        LeadsThrough-append phased AllUsed took.outcomes more others s took.outcomes above (took.leads s here)
+        OutcomesLeadThrough-append phased AllUsed took.outcomes more others s took.outcomes above (took.leads s here)
         (sym takes.halt_of)
-        (StandsOn-also now (λ s'. Leads phased s' more others)
+        (StandsOn-also now (λ s'. OutcomesLead phased s' more others)
         (state_after (with_outcomes phased took.outcomes) (On s took.outcomes) above) leads (takes.stands_after refl))
 
     after_above : (more : List O) (s : S) → stands s
@@ -92,14 +88,14 @@ module _ {S O E : Type 0} (phased : PhasedBehavior S O) where
     -- the job failed at the next line, or what waited wasn't written
     pub TakesText-failed : (next : S → Type 0) (made'' : Option (List O)) (more : List O) (all others : List (List ℕ))
         (error : E) (held'' : Option (List ℕ)) (front back last : List ℕ) → all ≡ above ++ others
-        → Grows made' made'' more → ((s : S) → now s → Leads phased s more others) → out' ≡ front ++ back
+        → Grows made' made'' more → ((s : S) → now s → OutcomesLead phased s more others) → out' ≡ front ++ back
         → Appends held' held'' front → TakesText phased stands next made made'' all (Err error) out last held held''
     TakesText-failed next made'' more all others error held'' front back last lines grows leads parts appends = record {
       outcomes = took.outcomes ++ more;
       moved = took.moved ++ front;
       grows = Grows-trans made made' made'' took.outcomes more took.grows grows;
       appends = Appends-trans held held' held'' took.moved front took.appends appends;
-      leads = λ s here. subst (Leads phased s (took.outcomes ++ more)) (sym lines)
+      leads = λ s here. subst (OutcomesLead phased s (took.outcomes ++ more)) (sym lines)
           (leads_on_with more others leads s here);
       goes = tt;
       fails = λ s here.
@@ -173,8 +169,8 @@ module _ {S O E : Type 0} (phased : PhasedBehavior S O) where
     moved = took.moved;
     grows = took.grows;
     appends = took.appends;
-    leads = λ s here. subst (Leads phased s took.outcomes) (sym lines)
-        (Leads-more phased s took.outcomes above others (took.leads s here));
+    leads = λ s here. subst (OutcomesLead phased s took.outcomes) (sym lines)
+        (OutcomesLead-more phased s took.outcomes above others (took.leads s here));
     goes = λ s here. subst (λ (lines : List (List ℕ)). TakesLines (with_outcomes phased took.outcomes) (StandsOn next)
         (On s took.outcomes) lines (Some halt) out (took.moved ++ out')) (sym lines)
         (TakesLines-stopped (with_outcomes phased took.outcomes) (StandsOn next) (On s took.outcomes) above others halt

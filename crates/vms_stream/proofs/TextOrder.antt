@@ -4,18 +4,13 @@ use Rattle.std.proofs.Common.{ap, subst, ◌∙◌, append_assoc, append-nil, fl
 use Rattle.std.proofs.lemmas.Grind.{flat_map-append}
 use Rattle.vms_stream.specs.declared.statuses.Status.{Status}
 use Rattle.vms_stream.specs.declared.statuses.Status.TheVariants.{Header}
-use Rattle.vms_stream.specs.Behaviors.{output, printed, printed_from, state_after}
-use Rattle.vms_stream.specs.PhasedBehaviors.{PhasedBehavior, Supply, Way, halt_at, last_of_way, printed_at}
-use Rattle.vms_stream.specs.PhasedBehaviors.{printed_last, next_way, supply, way_after, with_outcomes}
-use Rattle.vms_stream.specs.PhasedBehaviors.Supply.{Gives, Lacks}
-use Rattle.vms_stream.specs.PhasedBehaviors.Way.{On, Short}
-use Rattle.vms_stream.specs.Leading.{AllUsed, Leads, LeadsThrough, LeadsToEnd, UsedAtEnd, leads_on, none_after}
-use Rattle.vms_stream.specs.Waiting.{LineTexts, Text, Waiting, ends_at, printed_now, printed_with, spelled}
-use Rattle.vms_stream.specs.Waiting.{unless_stopped, IsAsking, waiting, waits_after, waits_with}
-use Rattle.vms_stream.specs.Waiting.Text.{Plain, Asks}
-use Rattle.vms_stream.specs.Orders.{AsksInside, input_in_order, last_in_order, lines_in_order, text_then}
-use Rattle.vms_stream.specs.Orders.{texts_in_order}
-use Rattle.vms_stream.specs.Laws.{HoldsBackNothing}
+use Rattle.vms_stream.specs.Common.{output, printed, printed_from, state_after, PhasedBehavior, OutcomeSupply, Way}
+use Rattle.vms_stream.specs.Common.{halt_at, last_of_way, printed_at, printed_last, next_way, supply, way_after}
+use Rattle.vms_stream.specs.Common.{with_outcomes, Gives, Lacks, On, Short, AllUsed, OutcomesLead, OutcomesLeadThrough}
+use Rattle.vms_stream.specs.Common.{OutcomesLeadToEnd, UsedAtEnd, leads_on, none_after, LineTexts, Text, Waiting}
+use Rattle.vms_stream.specs.Common.{ends_at, printed_now, printed_with, spelled, unless_stopped, IsAsking, waiting}
+use Rattle.vms_stream.specs.Common.{waits_after, waits_with, Plain, Asks, AsksInside, input_in_order, last_in_order}
+use Rattle.vms_stream.specs.Common.{lines_in_order, text_then, texts_in_order, HoldsBackNothing}
 use Rattle.vms_stream.proofs.MoreOutcomes.{printed_to, printed_to-printed, printed_to-short, printed_to-words}
 
 module _ {O : Type 0} where
@@ -41,7 +36,8 @@ module _ {O : Type 0} where
   text_then-spelled (Asks text) outcome others given left later = refl
 
   -- what a line prints, and what comes after it, by what it gets
-  abbrev line_then : Option Status → List (Text O) → Text O → (Option O → List O → List ℕ) → List ℕ → Supply O → List ℕ
+  abbrev line_then : Option Status → List (Text O) → Text O → (Option O → List O → List ℕ) → List ℕ →
+      OutcomeSupply O → List ℕ
   line_then halt waits text later short (Gives given left) =
       printed_from halt (printed_with waits text given) (later given left)
   line_then halt waits text later short Lacks = printed_from None [] short
@@ -108,7 +104,7 @@ module _ {S O : Type 0} (texts : LineTexts S O) where
 
   -- what is printed at a line, and after it
   by_supply : (outcomes : List O) (after : Way (Waiting S O) O → List ℕ) (now : Waiting S O) (line : List ℕ)
-      (lines : List (List ℕ)) (got : Supply O)
+      (lines : List (List ℕ)) (got : OutcomeSupply O)
       → printed_from (halt_at phased now line got) (printed_at phased now line got)
       (printed_to (with_outcomes phased outcomes) after (way_after phased now line got) lines)
       ≡ line_then (texts.halts now.state line) now.waits (texts.text now.state line)
@@ -121,7 +117,7 @@ module _ {S O : Type 0} (texts : LineTexts S O) where
       (after : Way (Waiting S O) O → List ℕ) (order : S → List O → List ℕ) → after Short ≡ []
       → ((now : Waiting S O) (left : List O) → asked now left
       → after (On now left) ≡ after_waits now.waits left (order now.state left))
-      → (now : Waiting S O) (left : List O) (lines : List (List ℕ)) → LeadsThrough phased asked now left lines
+      → (now : Waiting S O) (left : List O) (lines : List (List ℕ)) → OutcomesLeadThrough phased asked now left lines
       → printed_to (with_outcomes phased outcomes) after (On now left) lines
       ≡ after_waits now.waits left (texts_in_order texts order now.state left lines)
   printed_to-in_order outcomes asked after order none same now left [] led = same now left led
@@ -132,7 +128,7 @@ module _ {S O : Type 0} (texts : LineTexts S O) where
       (λ given rest. printed_to (with_outcomes phased outcomes) after (On (phased.next now line given) rest) lines)
       (λ given rest. texts_in_order texts order (texts.next now.state line given) rest lines)
       (printed_to (with_outcomes phased outcomes) after Short lines) (texts.Allows now.state line)
-      (λ given rest. LeadsThrough phased asked (phased.next now line given) rest lines)
+      (λ given rest. OutcomesLeadThrough phased asked (phased.next now line given) rest lines)
       (printed_to-short phased outcomes after lines none)
       (λ given rest led. printed_to-in_order outcomes asked after order none same (phased.next now line given) rest
       lines led) led
@@ -142,11 +138,11 @@ module _ {S O : Type 0} (texts : LineTexts S O) where
   used now (outcome ∷ left) none = absurd cc
 
   -- the text at the end of the input
-  abbrev last_with : List (Text O) → Text O → Supply O → List ℕ
+  abbrev last_with : List (Text O) → Text O → OutcomeSupply O → List ℕ
   last_with waits text (Gives given left) = printed_with waits text given
   last_with waits text Lacks = []
 
-  last_of : (now : Waiting S O) (got : Supply O)
+  last_of : (now : Waiting S O) (got : OutcomeSupply O)
       → printed_last phased now got ≡ last_with now.waits (texts.last now.state) got
   last_of now (Gives given left) = refl
   last_of now Lacks = refl
@@ -173,13 +169,14 @@ module _ {S O : Type 0} (texts : LineTexts S O) where
       last_of now (supply (texts.ends_last now.state) left)
       ∙ last-in_order (texts.ends_last now.state) now.waits (texts.last now.state) left (texts.AllowsLast now.state) led
 
-  pub printed-in_order : (outcomes : List O) (lines : List (List ℕ)) → Leads phased phased.start outcomes lines
+  pub printed-in_order : (outcomes : List O) (lines : List (List ℕ)) → OutcomesLead phased phased.start outcomes lines
       → printed (with_outcomes phased outcomes) (On phased.start outcomes) lines ≡ lines_in_order texts outcomes lines
   printed-in_order outcomes lines led =
       printed_to-printed (with_outcomes phased outcomes) (On phased.start outcomes) lines
       ∙ printed_to-in_order outcomes AllUsed (λ way. []) (λ s left. []) refl used phased.start outcomes lines led
 
-  pub output-in_order : (outcomes : List O) (lines : List (List ℕ)) → LeadsToEnd phased phased.start outcomes lines
+  pub output-in_order : (outcomes : List O) (lines : List (List ℕ)) →
+      OutcomesLeadToEnd phased phased.start outcomes lines
       → output (with_outcomes phased outcomes) lines ≡ input_in_order texts outcomes lines
   output-in_order outcomes lines led =
       printed_to-words (with_outcomes phased outcomes) (On phased.start outcomes) lines

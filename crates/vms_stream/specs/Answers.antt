@@ -1,13 +1,13 @@
 -- What each status says of the bytes that were taken and of those that were written.
 use Rattle.std.specs.Prelude.{◌≡◌, ℕ, ◌^◌, ◌<◌, ◌≤◌, ◌⊎◌, max, List, ◌++◌, length, take, Option, Some, None}
 use Rattle.std.specs.Io.KnownBytes.{Appends, Consumes, IsAtEnd}
-use Rattle.vms_io.specs.Faults.{LastFails}
+use Rattle.vms_io.specs.Common.{LastFails}
 use Rattle.vms_stream.specs.declared.statuses.Status.{Status}
 use Rattle.vms_stream.specs.declared.statuses.Status.TheVariants.{Done, Words, Header, Refused, ReadFault, WriteFault}
 use Rattle.vms_stream.specs.declared.statuses.Status.TheVariants.{Memory, TooLong}
 use Rattle.vms_stream.specs.Behaviors.{Behavior, state_after, halted, printed, output}
 use Rattle.vms_stream.specs.Pieces.{whole_lines, partial_line}
-use Rattle.vms_text.specs.Lines.{lines_of}
+use Rattle.vms_text.specs.Common.{lines_of}
 
 -- the most bytes of an input
 abbrev pub most_bytes : ℕ
@@ -18,8 +18,8 @@ abbrev pub lines_taken : List ℕ → List (List ℕ)
 lines_taken taken = whole_lines (take most_bytes taken)
 
 -- the lines that count: the whole lines, or at the end of the input all
-abbrev pub IsJudged : List ℕ → List (List ℕ) → Type 0 → Type 0
-IsJudged taken lines at_end =
+abbrev pub AreLinesTaken : List ℕ → List (List ℕ) → Type 0 → Type 0
+AreLinesTaken taken lines at_end =
     (lines ≡ lines_taken taken) ⊎ (at_end × (length taken ≤ most_bytes) × (lines ≡ lines_of taken))
 
 -- nothing was read after the piece that decided: before it the command went on. A piece has 64 KiB at most, or as many
@@ -36,7 +36,7 @@ pub record IsLastPiece {S : Type 0} (behavior : Behavior S) (taken : List ℕ) :
 pub record Halts {S : Type 0} (behavior : Behavior S) (halt : Status) (taken written : List ℕ)
     (at_end : Type 0) : Type 0 where
   pub lines : List (List ℕ)
-  pub judged : IsJudged taken lines at_end
+  pub judged : AreLinesTaken taken lines at_end
   pub halt_is : halted behavior behavior.start lines ≡ Some halt
   pub whole_output : written ≡ printed behavior behavior.start lines
   pub last_piece : IsLastPiece behavior taken
@@ -105,7 +105,7 @@ FaultsOfSink held faults _ before now = faults now ≡ faults before
 
 -- a command took bytes from its source and wrote bytes to its sink, and its status says what they are and which calls
 -- failed. A source tells what is left and a sink what was written, and each how many of its calls failed
-pub record Answers {S K : Type 0} (left : S → Option (List ℕ)) (read_faults : S → ℕ) (held : K → Option (List ℕ))
+pub record TakesAndWrites {S K : Type 0} (left : S → Option (List ℕ)) (read_faults : S → ℕ) (held : K → Option (List ℕ))
     (write_faults : K → ℕ) (src src' : S) (out out' : K) (status : Status)
     (says : Status → List ℕ → List ℕ → Type 0 → Type 0) : Type 0 where
   pub taken : List ℕ

@@ -10,13 +10,13 @@ use Rattle.vms_stream.specs.declared.statuses.Status.TheVariants.{Memory, ReadFa
 use Rattle.vms_stream.specs.Answers.{most_bytes, lines_taken, FaultsOfSource, FaultsOfSink, Says}
 use Rattle.vms_stream.specs.Behaviors.{Behavior, state_after, halted, printed}
 use Rattle.vms_stream.specs.Jobs.{Grows, StandsOn, shown_on}
-use Rattle.vms_stream.specs.Leading.{Leads, LeadsToEnd}
+use Rattle.vms_stream.specs.Leading.{OutcomesLead, OutcomesLeadToEnd}
 use Rattle.vms_stream.specs.PhasedAnswers.{SaysPhased}
 use Rattle.vms_stream.specs.PhasedBehaviors.{PhasedBehavior, with_outcomes}
 use Rattle.vms_stream.specs.PhasedBehaviors.Way.{On}
 use Rattle.vms_stream.specs.Pieces.{whole_lines, partial_line}
-use Rattle.vms_stream.specs.Ways.{IsWhole}
-use Rattle.vms_text.specs.Lines.{lines_of}
+use Rattle.vms_stream.specs.Ways.{HasAllOutcomes}
+use Rattle.vms_text.specs.Common.{lines_of}
 
 -- the status of a command that a read stopped
 abbrev pub status_of_read : ReadError → Status
@@ -66,7 +66,7 @@ pub record IsCourse {S : Type 0} (behavior : Behavior S) (stands : S → Type 0)
 pub record IsPhasedCourse {S O : Type 0} (phased : PhasedBehavior S O) (stands : S → Type 0) (outcomes : List O)
     (taken written : List ℕ) (course : Course) : Type 0 where
   pub is_course : IsCourse (with_outcomes phased outcomes) (StandsOn stands) taken written course
-  pub leads : Leads phased phased.start outcomes (lines_judged course.at_end taken)
+  pub leads : OutcomesLead phased phased.start outcomes (lines_judged course.at_end taken)
 
 -- one piece further: bytes were taken, phases made and bytes written, and the course goes on or stops
 pub record StepsPhased {S O : Type 0} (phased : PhasedBehavior S O) (stands : S → Type 0)
@@ -100,8 +100,8 @@ pub record FinishesPhased {S O : Type 0} (phased : PhasedBehavior S O) (shows : 
   pub further : List O
   pub grows : Grows made made' further
   pub within : length taken ≤ most_bytes
-  pub leads : LeadsToEnd phased phased.start (outcomes ++ further) (lines_of taken)
-  pub whole : IsWhole phased (On phased.start (outcomes ++ further)) (lines_taken taken)
+  pub leads : OutcomesLeadToEnd phased phased.start (outcomes ++ further) (lines_of taken)
+  pub whole : HasAllOutcomes phased (On phased.start (outcomes ++ further)) (lines_taken taken)
   pub finishes : Finishes (with_outcomes phased (outcomes ++ further)) (shown_on phased shows) taken written held held'
       result
 

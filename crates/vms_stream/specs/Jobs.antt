@@ -3,10 +3,10 @@
 use Rattle.std.specs.Prelude.{◌≡◌, ℕ, Bool, true, List, [], ◌∷◌, ◌++◌, Option, Some, None, Result, IfOk}
 use Rattle.vms_stream.specs.declared.statuses.Status.{Status}
 use Rattle.vms_stream.specs.Behaviors.{Behavior, state_after, halted, printed}
-use Rattle.vms_stream.specs.PhasedBehaviors.{PhasedBehavior, Supply, Way, supply, with_outcomes}
-use Rattle.vms_stream.specs.PhasedBehaviors.Supply.{Gives, Lacks}
+use Rattle.vms_stream.specs.PhasedBehaviors.{PhasedBehavior, OutcomeSupply, Way, supply, with_outcomes}
+use Rattle.vms_stream.specs.PhasedBehaviors.OutcomeSupply.{Gives, Lacks}
 use Rattle.vms_stream.specs.PhasedBehaviors.Way.{On, Short}
-use Rattle.vms_stream.specs.Leading.{Leads, UsedAtEnd}
+use Rattle.vms_stream.specs.Leading.{OutcomesLead, UsedAtEnd}
 
 -- a job took lines: it says whether one of them stops the command, and prints what they print; if none does, it
 -- stands after them
@@ -34,7 +34,7 @@ StandsOn stands (On s left) = stands s × (left ≡ [])
 StandsOn stands Short = ⊥
 
 -- what is shown at the end of the input, where the phase that ends there has its outcome
-abbrev pub shown_with : {S O : Type 0} → (S → Option O → Type 0) → S → Supply O → Type 0
+abbrev pub shown_with : {S O : Type 0} → (S → Option O → Type 0) → S → OutcomeSupply O → Type 0
 shown_with shows s (Gives given left) = shows s given
 shown_with shows s Lacks = ⊥
 
@@ -49,7 +49,7 @@ pub record TakesPhased {S O E : Type 0} (phased : PhasedBehavior S O) (stands st
     : Type 0 where
   pub outcomes : List O
   pub grows : Grows made made' outcomes
-  pub leads : (s : S) → stands s → Leads phased s outcomes (line ∷ [])
+  pub leads : (s : S) → stands s → OutcomesLead phased s outcomes (line ∷ [])
   pub goes : IfOk result (λ halt. (s : S) → stands s →
       TakesLines (with_outcomes phased outcomes) (StandsOn stands') (On s outcomes) (line ∷ []) halt out out')
 

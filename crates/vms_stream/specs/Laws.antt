@@ -3,8 +3,8 @@ use Rattle.std.specs.Prelude.{◌≡◌, ◌⊎◌, ℕ, List, [], ◌++◌}
 use Rattle.vms_stream.specs.Behaviors.{state_after, halted, output, printed}
 use Rattle.vms_stream.specs.PhasedBehaviors.{PhasedBehavior, Way, with_outcomes}
 use Rattle.vms_stream.specs.PhasedBehaviors.Way.{On, Short}
-use Rattle.vms_stream.specs.Ways.{IsMore, IsWhole}
-use Rattle.vms_stream.specs.Leading.{Leads, LeadsToEnd}
+use Rattle.vms_stream.specs.Ways.{IsMore, HasAllOutcomes}
+use Rattle.vms_stream.specs.Leading.{OutcomesLead, OutcomesLeadToEnd}
 use Rattle.vms_stream.specs.Waiting.{LineTexts, Waiting, waiting}
 use Rattle.vms_stream.specs.Orders.{input_in_order, lines_in_order}
 
@@ -15,10 +15,10 @@ pub record GoesWithMore {S O : Type 0} (phased : PhasedBehavior S O) (outcomes m
     : Type 0 where
   pub way : IsMore more (state_after (with_outcomes phased outcomes) (On phased.start outcomes) lines)
       (state_after (with_outcomes phased (outcomes ++ more)) (On phased.start (outcomes ++ more)) lines)
-  pub halt : IsWhole phased (On phased.start outcomes) lines →
+  pub halt : HasAllOutcomes phased (On phased.start outcomes) lines →
       halted (with_outcomes phased (outcomes ++ more)) (On phased.start (outcomes ++ more)) lines
       ≡ halted (with_outcomes phased outcomes) (On phased.start outcomes) lines
-  pub prints : IsWhole phased (On phased.start outcomes) lines →
+  pub prints : HasAllOutcomes phased (On phased.start outcomes) lines →
       printed (with_outcomes phased (outcomes ++ more)) (On phased.start (outcomes ++ more)) lines
       ≡ printed (with_outcomes phased outcomes) (On phased.start outcomes) lines
   pub begins : (rest : List ℕ) ×
@@ -46,13 +46,13 @@ OutcomesStandInWay {S} {O} phased =
 -- what a command prints that holds back texts is the order of its lines, where the outcomes are those of its phases
 abbrev pub PrintsInOrder : {S O : Type 0} → LineTexts S O → Type 0
 PrintsInOrder {S} {O} texts = (outcomes : List O) (lines : List (List ℕ)) →
-    Leads (waiting texts) (waiting texts).start outcomes lines →
+    OutcomesLead (waiting texts) (waiting texts).start outcomes lines →
     printed (with_outcomes (waiting texts) outcomes) (On (waiting texts).start outcomes) lines
     ≡ lines_in_order texts outcomes lines
 
 abbrev pub WritesInOrder : {S O : Type 0} → LineTexts S O → Type 0
 WritesInOrder {S} {O} texts = (outcomes : List O) (lines : List (List ℕ)) →
-    LeadsToEnd (waiting texts) (waiting texts).start outcomes lines →
+    OutcomesLeadToEnd (waiting texts) (waiting texts).start outcomes lines →
     output (with_outcomes (waiting texts) outcomes) lines ≡ input_in_order texts outcomes lines
 
 -- outside a phase nothing waits

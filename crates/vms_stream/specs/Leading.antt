@@ -16,25 +16,26 @@ none_after None left later = later
 none_after (Some halt) left later = left ≡ []
 
 -- outcomes lead through these lines, and what is left of them after the last line is as asked
-abbrev pub LeadsThrough : {S O : Type 0} → PhasedBehavior S O → (S → List O → Type 0) → S → List O → List (List ℕ)
+abbrev pub OutcomesLeadThrough : {S O : Type 0} → PhasedBehavior S O → (S → List O → Type 0) → S →
+    List O → List (List ℕ)
     → Type 0
-LeadsThrough phased asked s outcomes [] = asked s outcomes
-LeadsThrough phased asked s outcomes (line ∷ lines) =
+OutcomesLeadThrough phased asked s outcomes [] = asked s outcomes
+OutcomesLeadThrough phased asked s outcomes (line ∷ lines) =
     leads_on (phased.ends_phase s line) outcomes (phased.Allows s line)
     (λ given left. none_after (phased.halts s line given) left
-    (LeadsThrough phased asked (phased.next s line given) left lines))
+    (OutcomesLeadThrough phased asked (phased.next s line given) left lines))
 
 -- the outcomes are those of the first phases that end at these lines, as many as there are outcomes
 abbrev pub AllUsed : {S O : Type 0} → S → List O → Type 0
 AllUsed s left = left ≡ []
 
-abbrev pub Leads : {S O : Type 0} → PhasedBehavior S O → S → List O → List (List ℕ) → Type 0
-Leads phased = LeadsThrough phased AllUsed
+abbrev pub OutcomesLead : {S O : Type 0} → PhasedBehavior S O → S → List O → List (List ℕ) → Type 0
+OutcomesLead phased = OutcomesLeadThrough phased AllUsed
 
 -- the same where these lines are all of an input, at whose end a phase may end too
 abbrev pub UsedAtEnd : {S O : Type 0} → PhasedBehavior S O → S → List O → Type 0
 UsedAtEnd phased s outcomes =
     leads_on (phased.ends_last s) outcomes (phased.AllowsLast s) (λ given left. left ≡ [])
 
-abbrev pub LeadsToEnd : {S O : Type 0} → PhasedBehavior S O → S → List O → List (List ℕ) → Type 0
-LeadsToEnd phased = LeadsThrough phased (UsedAtEnd phased)
+abbrev pub OutcomesLeadToEnd : {S O : Type 0} → PhasedBehavior S O → S → List O → List (List ℕ) → Type 0
+OutcomesLeadToEnd phased = OutcomesLeadThrough phased (UsedAtEnd phased)

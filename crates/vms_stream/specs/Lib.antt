@@ -12,3 +12,4 @@ pub mod Laws
 pub mod Plain
 pub mod Taking
 pub mod Courses
+pub mod Common

@@ -2,14 +2,14 @@
 use Rattle.std.specs.Prelude.{◌≡◌, ℕ, true, false, List, [], ◌∷◌, Option, None}
 use Rattle.vms_stream.specs.Behaviors.{printed_from}
 use Rattle.vms_stream.specs.declared.statuses.Status.{Status}
-use Rattle.vms_stream.specs.PhasedBehaviors.{Supply, supply}
-use Rattle.vms_stream.specs.PhasedBehaviors.Supply.{Gives, Lacks}
+use Rattle.vms_stream.specs.PhasedBehaviors.{OutcomeSupply, supply}
+use Rattle.vms_stream.specs.PhasedBehaviors.OutcomeSupply.{Gives, Lacks}
 use Rattle.vms_stream.specs.Waiting.{LineTexts, Text, IsAsking, ends_at}
 use Rattle.vms_stream.specs.Waiting.Text.{Plain, Asks}
 
 -- a text, and what comes after it. A text asks for the first outcome that is left. Where none is left nothing is
 -- printed any more, as where a phase lacks its outcome
-abbrev pub text_then : {O : Type 0} → Text O → List O → Supply O → Option Status
+abbrev pub text_then : {O : Type 0} → Text O → List O → OutcomeSupply O → Option Status
     → (Option O → List O → List ℕ) → List ℕ
 text_then text outcomes Lacks halt later = []
 text_then (Plain bytes) outcomes (Gives given left) halt later = printed_from halt bytes (later given left)

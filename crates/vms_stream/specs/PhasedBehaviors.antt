@@ -29,11 +29,11 @@ pub record PhasedBehavior (S O : Type 0) : Type 1 where
   pub may_end : (s : S) (given : Option O) → MayEnd (ends s given)
 
 -- what a place of the input gets of the outcomes that are left: the next one where a phase ends, if there is one
-pub data Supply (O : Type 0) : Type 0 where
-  Gives : Option O → List O → Supply O
-  Lacks : Supply O
+pub data OutcomeSupply (O : Type 0) : Type 0 where
+  Gives : Option O → List O → OutcomeSupply O
+  Lacks : OutcomeSupply O
 
-abbrev pub supply : {O : Type 0} → Bool → List O → Supply O
+abbrev pub supply : {O : Type 0} → Bool → List O → OutcomeSupply O
 supply false left = Gives None left
 supply true [] = Lacks
 supply true (outcome ∷ left) = Gives (Some outcome) left
@@ -44,25 +44,25 @@ pub data Way (S O : Type 0) : Type 0 where
   Short : Way S O
 
 -- the way after a line, what the line prints and where it stops the command, by what the line gets
-abbrev pub way_after : {S O : Type 0} → PhasedBehavior S O → S → List ℕ → Supply O → Way S O
+abbrev pub way_after : {S O : Type 0} → PhasedBehavior S O → S → List ℕ → OutcomeSupply O → Way S O
 way_after phased s line (Gives given left) = On (phased.next s line given) left
 way_after phased s line Lacks = Short
 
-abbrev pub printed_at : {S O : Type 0} → PhasedBehavior S O → S → List ℕ → Supply O → List ℕ
+abbrev pub printed_at : {S O : Type 0} → PhasedBehavior S O → S → List ℕ → OutcomeSupply O → List ℕ
 printed_at phased s line (Gives given left) = phased.prints s line given
 printed_at phased s line Lacks = []
 
-abbrev pub halt_at : {S O : Type 0} → PhasedBehavior S O → S → List ℕ → Supply O → Option Status
+abbrev pub halt_at : {S O : Type 0} → PhasedBehavior S O → S → List ℕ → OutcomeSupply O → Option Status
 halt_at phased s line (Gives given left) = phased.halts s line given
 halt_at phased s line Lacks = None
 
 -- what is printed at the end of the input, and how the command ends there: of a way that lacks an outcome no ending is
 -- told, and `Done` stands for that
-abbrev pub printed_last : {S O : Type 0} → PhasedBehavior S O → S → Supply O → List ℕ
+abbrev pub printed_last : {S O : Type 0} → PhasedBehavior S O → S → OutcomeSupply O → List ℕ
 printed_last phased s (Gives given left) = phased.last s given
 printed_last phased s Lacks = []
 
-abbrev pub ending_at : {S O : Type 0} → PhasedBehavior S O → S → Supply O → Status
+abbrev pub ending_at : {S O : Type 0} → PhasedBehavior S O → S → OutcomeSupply O → Status
 ending_at phased s (Gives given left) = phased.ends s given
 ending_at phased s Lacks = Done
 
@@ -92,7 +92,7 @@ pub MayHalt-way_halts : {S O : Type 0} (phased : PhasedBehavior S O) (way : Way 
     → MayHalt (way_halts phased way line)
 MayHalt-way_halts {O = O} phased (On s left) line = by (supply (phased.ends_phase s line) left)
   where
-    by : (got : Supply O) → MayHalt (halt_at phased s line got)
+    by : (got : OutcomeSupply O) → MayHalt (halt_at phased s line got)
     by (Gives given left) = phased.may_halt s line given
     by Lacks = tt
 MayHalt-way_halts phased Short line = tt
@@ -100,7 +100,7 @@ MayHalt-way_halts phased Short line = tt
 pub MayEnd-way_ends : {S O : Type 0} (phased : PhasedBehavior S O) (way : Way S O) → MayEnd (way_ends phased way)
 MayEnd-way_ends {O = O} phased (On s left) = by (supply (phased.ends_last s) left)
   where
-    by : (got : Supply O) → MayEnd (ending_at phased s got)
+    by : (got : OutcomeSupply O) → MayEnd (ending_at phased s got)
     by (Gives given left) = phased.may_end s given
     by Lacks = tt
 MayEnd-way_ends phased Short = tt

@@ -6,7 +6,7 @@ use Rattle.vms_stream.specs.Jobs.{TakesLines, Grows, StandsOn}
 use Rattle.vms_stream.specs.declared.statuses.Status.{Status}
 use Rattle.vms_stream.specs.PhasedBehaviors.{PhasedBehavior, with_outcomes}
 use Rattle.vms_stream.specs.PhasedBehaviors.Way.{On}
-use Rattle.vms_stream.specs.Leading.{Leads}
+use Rattle.vms_stream.specs.Leading.{OutcomesLead}
 
 -- a job took these lines, and made phases that end at them. What waited and what the lines print was written from its
 -- front on, and the rest waits; where the job failed, what was written is the front of it
@@ -17,7 +17,7 @@ pub record TakesText {S O E : Type 0} (phased : PhasedBehavior S O) (stands stan
   pub moved : List ℕ
   pub grows : Grows made made' outcomes
   pub appends : Appends held held' moved
-  pub leads : (s : S) → stands s → Leads phased s outcomes lines
+  pub leads : (s : S) → stands s → OutcomesLead phased s outcomes lines
   pub goes : IfOk result (λ halt. (s : S) → stands s →
       TakesLines (with_outcomes phased outcomes) (StandsOn stands') (On s outcomes) lines halt out (moved ++ out'))
   pub fails : OnErr result ((s : S) → stands s → (unwritten : List ℕ)

@@ -15,10 +15,10 @@ unless_halted None later = later
 unless_halted (Some halt) later = Unit {0}
 
 -- each phase that ends at one of these lines has its outcome, up to a line that stops the command
-abbrev pub IsWhole : {S O : Type 0} → PhasedBehavior S O → Way S O → List (List ℕ) → Type 0
-IsWhole phased way [] = IsOn way
-IsWhole phased way (line ∷ lines) =
-    unless_halted (way_halts phased way line) (IsWhole phased (next_way phased way line) lines)
+abbrev pub HasAllOutcomes : {S O : Type 0} → PhasedBehavior S O → Way S O → List (List ℕ) → Type 0
+HasAllOutcomes phased way [] = IsOn way
+HasAllOutcomes phased way (line ∷ lines) =
+    unless_halted (way_halts phased way line) (HasAllOutcomes phased (next_way phased way line) lines)
 
 -- the same way with more outcomes left, as long as it isn't short
 abbrev pub IsMore : {S O : Type 0} → List O → Way S O → Way S O → Type 0

@@ -1,9 +1,8 @@
 use crate::taking::take_lines;
 use crate::{Job, Status};
-use memchr::memrchr;
 use std::alloc::Global;
 use vms_base::Memory;
-use vms_io::{ReadBuffer, Sink, Source, write_all};
+use vms_io::{ReadBuffer, Sink, Source, last_line_end, write_all};
 
 /// The most bytes of an input.
 const MOST_BYTES: usize = 1 << 26;
@@ -24,13 +23,13 @@ impl Course {
     ghost use Rattle.std.specs.Prelude.{◌≡◌, ℕ, ◌+◌, ◌-◌, ◌<◌, ◌≤◌, ◌⊎◌, true, false, List, [], length, take, drop};
     ghost use Rattle.std.specs.Prelude.{◌≢◌, IfErr, IfOk, OnErr, OnOk};
     ghost use Rattle.std.specs.Io.KnownBytes.{Appends, Keeps};
-    ghost use Rattle.vms_io.specs.Reading.{Gets};
+    ghost use Rattle.vms_io.specs.Common.{Gets};
     ghost use Rattle.vms_stream.specs.Answers.{FaultsOfSink, most_bytes};
     ghost use Rattle.vms_stream.specs.Courses.{CountsReads, CountsWrites, FinishesPhased, IsPhasedCourse, StepsPhased};
     ghost use Rattle.vms_stream.specs.Courses.{lines_held, status_in};
     ghost use Rattle.vms_stream.specs.Pieces.{partial_line};
     ghost use Rattle.vms_stream.specs.Taking.{TakesText};
-    ghost use Rattle.vms_text.specs.Lines.{lines_of};
+    ghost use Rattle.vms_text.specs.Common.{lines_of};
 
     /// Before the first piece.
     pub(crate) fn begin(alloc: Global) -> Result<Course, Memory>
@@ -184,7 +183,7 @@ impl Course {
 
 ghost use Rattle.std.specs.Prelude.{◌≡◌, ◌⊎◌, IfErr, IfOk, OnErr};
 ghost use Rattle.std.specs.Io.KnownBytes.{Keeps};
-ghost use Rattle.vms_io.specs.Reading.{Gets, WholeLines};
+ghost use Rattle.vms_io.specs.Common.{Gets};
 ghost use Rattle.vms_stream.specs.Courses.{CountsReads, StopsAt};
 
 /// Reads once more, and says how many bytes.
@@ -196,16 +195,6 @@ fn read<S: Source>(input: &mut ReadBuffer, src: &mut S) -> Result<usize, Status>
 {
     let count = input.read_more(src)?;
     Ok(count)
-}
-
-/// How many of these bytes are whole lines.
-fn last_line_end(bytes: &[u8]) -> usize
-    ensures { WholeLines bytes.now result }
-{
-    match memrchr(b'\n', bytes) {
-        Some(newline) => newline + 1,
-        None => 0,
-    }
 }
 
 /// Stops where a line stops the command, and else where there are too many bytes.

@@ -1,7 +1,7 @@
 ghost use Rattle.std.specs.Prelude.{◌≡◌, ◌⊎◌, List, ℕ, OnOk, IfErr};
 ghost use Rattle.vms_stream.specs.Taking.{TakesText, WritesFront};
 ghost use Rattle.vms_stream.specs.Courses.{CountsWrites};
-ghost use Rattle.vms_text.specs.Lines.{lines_of};
+ghost use Rattle.vms_text.specs.Common.{lines_of};
 
 use crate::{Job, Status};
 use vms_io::{Sink, write_all};

@@ -1,19 +1,11 @@
 -- The passes of a lane on the three tables, as contracts see them.
 use Rattle.std.specs.Prelude.{◌≡◌, [], length, Option}
-use Rattle.vms_base.specs.declared.ids.CpuId.{CpuId}
-use Rattle.vms_base.specs.Places.{counter_count}
-use Rattle.vms_core.specs.declared.steps.Facts.{Facts}
-use Rattle.vms_core.specs.declared.steps.Step.{Step}
+use Rattle.vms_world.specs.Common.{CpuId, counter_count, Facts, Step, EventFacts, EventStep, event_count, PcpuFacts}
+use Rattle.vms_world.specs.Common.{PcpuStep, percpu}
 use Rattle.vms_core.specs.Pages as page_histories
-use Rattle.vms_event_core.specs.declared.steps.EventFacts.{EventFacts}
-use Rattle.vms_event_core.specs.declared.steps.EventStep.{EventStep}
 use Rattle.vms_event_core.specs.Events as event_histories
-use Rattle.vms_event_core.specs.Words.{event_count}
-use Rattle.vms_pcpu_core.specs.declared.steps.PcpuFacts.{PcpuFacts}
-use Rattle.vms_pcpu_core.specs.declared.steps.PcpuStep.{PcpuStep}
-use Rattle.vms_pcpu_core.specs.Histories.{percpu}
 use Rattle.vms_pcpu_core.specs.States.{counters_of}
-use Rattle.vms_seats.specs.Passes.{IsLive, IsOf, Pass}
+use Rattle.vms_seats.specs.Common.{IsLive, IsFrom, Pass}
 use Rattle.vms_tables.specs.declared.passes.CpuPasses.{CpuPasses}
 use Rattle.vms_tables.specs.declared.tables.MainPasses.{MainPasses}
 use Rattle.vms_tables.specs.declared.tables.Tables.{Tables}
@@ -33,10 +25,10 @@ abbrev pub mains_of : MainPasses → TablePasses
 mains_of mains = record { pages = mains.page; events = mains.event; counters = mains.pcpu }
 
 -- each was made from its table
-pub record AreOf (tables : Tables) (passes : TablePasses) : Type 0 where
-  pub pages : IsOf passes.pages tables.pages
-  pub events : IsOf passes.events tables.events
-  pub counters : IsOf passes.counters tables.counters
+pub record AreFrom (tables : Tables) (passes : TablePasses) : Type 0 where
+  pub pages : IsFrom passes.pages tables.pages
+  pub events : IsFrom passes.events tables.events
+  pub counters : IsFrom passes.counters tables.counters
 
 -- no step was made yet that they know of
 pub record HaveSeenNothing (passes : TablePasses) : Type 0 where

@@ -1,9 +1,8 @@
 -- The three tables of a phase, as contracts see them.
 use Rattle.std.specs.Prelude.{◌≡◌, [], length}
-use Rattle.vms_base.specs.declared.headers.Header.{Header}
+use Rattle.vms_world.specs.Common.{Header, event_facts, page_facts, pcpu_facts}
 use Rattle.vms_pcpu_core.specs.States.{counters_of}
 use Rattle.vms_world.specs.declared.worlds.World.{World}
-use Rattle.vms_world.specs.Worlds.{event_facts, page_facts, pcpu_facts}
 use Rattle.vms_tables.specs.declared.tables.Tables.{Tables}
 
 -- the world with which the tables began, but for its volumes: those are kept by passes

@@ -24,8 +24,8 @@ pub struct MainPasses {
 impl Tables {
     ghost use Rattle.std.specs.Prelude.{IfOk};
     ghost use Rattle.vms_tables.specs.Tables.{AreMadeFrom, AreTables};
-    ghost use Rattle.vms_tables.specs.Passes.{AreOf, HaveSeenNothing, mains_of};
-    ghost use Rattle.vms_world.specs.Worlds.{IsWorldOf};
+    ghost use Rattle.vms_tables.specs.Passes.{AreFrom, HaveSeenNothing, mains_of};
+    ghost use Rattle.vms_world.specs.Common.{IsWorldOf};
 
     /// The tables of a phase from this world, and their main passes. All memory of the phase's counters is taken here.
     pub fn make(
@@ -36,7 +36,8 @@ impl Tables {
         requires { IsWorldOf header.now world.now }
         ensures tables { IfOk result (λ made. AreTables header.now made.0) }
         ensures world { IfOk result (λ made. AreMadeFrom world.now made.0) }
-        ensures mains { IfOk result (λ made. AreOf made.0 (mains_of made.1) × HaveSeenNothing (mains_of made.1)) }
+        ensures mains { IfOk result
+            (λ made. AreFrom made.0 (mains_of made.1) × HaveSeenNothing (mains_of made.1)) }
     {
         let cpus = world.pages.cpu.as_slice();
         let (pages, page) = PageTable::make(alloc, header, &world.pages)?;

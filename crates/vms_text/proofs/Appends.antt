@@ -5,10 +5,8 @@ use Rattle.std.proofs.lemmas.Grind.{flat_map-append}
 use Rattle.std.proofs.lemmas.List.{map_more}
 use Rattle.std.specs.List.{join_with_byte}
 use Rattle.std.specs.Prelude.{OnErr, OnOk, Result, Ok, Err}
-use Rattle.vms_text.specs.Words.{joined}
+use Rattle.vms_text.specs.Common.{joined, sentence, Begins, spaced, text_of}
 use Rattle.vms_text.specs.declared.writing.Word.{Word}
-use Rattle.vms_text.specs.Spelling.{sentence}
-use Rattle.vms_text.specs.Writing.{Begins, spaced, text_of}
 
 -- nothing more
 pub Begins-same : (before after : List ℕ) → after ≡ before → Begins before after

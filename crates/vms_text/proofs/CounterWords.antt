@@ -4,10 +4,9 @@ use Rattle.std.proofs.lemmas.List.Sums.{AllPass-from_list_all}
 use Rattle.std.specs.Fmt.{decimal}
 use Rattle.std.specs.Prelude.{bytes_eq, position}
 use Rattle.vms_base.specs.declared.headers.Header.{Header}
-use Rattle.vms_base.specs.Headers.{IsHeader, IsNamed, class_names, is_of_node}
-use Rattle.vms_base.specs.Places.{place_of, position_of}
-use Rattle.vms_text.specs.Spelling.{counter_words, entry, place_words}
-use Rattle.vms_text.proofs.Entries.{entry-within}
+use Rattle.vms_base.specs.Common.{IsHeader, IsNamed, class_names, is_of_node, place_of, position_of}
+use Rattle.vms_text.specs.Common.{counter_words, entry_if_any, place_words}
+use Rattle.vms_text.proofs.Entries.{entry_if_any-within}
 use Rattle.vms_text.proofs.ItemNames.{class_names-differ, class_names-short}
 use Rattle.vms_text.proofs.NameLookups.{position-name}
 use Rattle.vms_text.proofs.PlacesRead.{SpellsPlace}
@@ -36,5 +35,5 @@ module _ (header : Header) (is : IsHeader header) where
   counter_words-at counter spells named =
       let names = class_names (is_of_node header.layout counter) header.items in
       let n = position_of header.layout counter in
-      ap (λ words. words ++ entry names n) spells.words_are
-      ∙ ap (λ words. decimal spells.node ∷ spells.kind ∷ words) (entry-within names n [] named)
+      ap (λ words. words ++ entry_if_any names n) spells.words_are
+      ∙ ap (λ words. decimal spells.node ∷ spells.kind ∷ words) (entry_if_any-within names n [] named)

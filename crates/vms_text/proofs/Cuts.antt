@@ -1,6 +1,6 @@
 -- For other crates too: a list cut at each element that passes a test.
-use Rattle.std.proofs.Common.{ℕ, ◌≡◌, ◌+◌, ◌<◌, ◌≤◌, Bool, true, false, List, [], ◌∷◌, Some, None, refl, subst, ◌∙◌}
-use Rattle.std.proofs.Common.{ap, arith, take, drop, length, get_or, position, not, ◌++◌, sym}
+use Rattle.std.proofs.Common.{ℕ, ◌≡◌, ◌+◌, ◌<◌, ◌≤◌, Bool, true, false, List, [], ◌∷◌, Some, None, refl, subst, ◌∙◌, ap}
+use Rattle.std.proofs.Common.{arith, take, drop, length, get_or, position, not, ◌++◌, sym}
 use Rattle.std.proofs.lemmas.Bool.Decides.{nat_tests}
 use Rattle.std.proofs.lemmas.List.Splits.{slice_split-cons_no, slice_split_first}
 use Rattle.std.proofs.lemmas.List.{drop_more, length-take-le, take-append-drop, get_or-take}

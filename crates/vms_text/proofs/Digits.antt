@@ -6,7 +6,7 @@ use Rattle.std.proofs.lemmas.List.{at_drop_more, at_drop_all}
 use Rattle.std.specs.List.{list_all}
 use Rattle.std.specs.Char.{digit_value}
 use Rattle.std.specs.Str.Parse.{digits_value_after}
-use Rattle.vms_text.specs.Numbers.{is_digit}
+use Rattle.vms_text.specs.Common.{is_digit}
 
 -- the number that digits spell after those of this value, if it is at most this one
 abbrev pub digits_from : ℕ → ℕ → List ℕ → Option ℕ

@@ -12,9 +12,9 @@ use Rattle.std.proofs.lemmas.List.Sums.{list_all-from_AllPass}
 use Rattle.std.specs.List.{All, filter, list_all}
 use Rattle.std.specs.Prelude.{AllPairs, Contains}
 use Rattle.vms_base.specs.declared.headers.ItemDecl.{ItemDecl}
-use Rattle.vms_base.specs.Headers.{IsValidItem, class_names, declared_names}
-use Rattle.vms_base.specs.Names.{is_letter, is_name, is_name_byte, node_items, zone_items}
-use Rattle.vms_text.specs.Words.{is_word_byte}
+use Rattle.vms_base.specs.Common.{IsValidItem, class_names, declared_names, is_letter, is_name, is_name_byte}
+use Rattle.vms_base.specs.Common.{node_items, zone_items}
+use Rattle.vms_text.specs.Common.{is_word_byte}
 use Rattle.vms_text.proofs.Values.{and_left, and_right}
 use Rattle.vms_text.proofs.Apart.{AllPairs-append, AllPairs-from_map, AllPairs-map, AreApart, AreApart-flipped}
 use Rattle.vms_text.proofs.Apart.{all_differ-pairs, are_apart-AreApart}

@@ -20,3 +20,4 @@ pub mod Pieces
 pub mod Positions
 pub mod Nodes
 pub mod CounterWords
+pub mod Common

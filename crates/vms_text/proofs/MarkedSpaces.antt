@@ -1,8 +1,7 @@
 -- The marks of a line's spaces: those of a vector, of two vectors that may overlap, and of what is left after a space.
 use Rattle.std.proofs.Common.{ℕ, ◌≡◌, ◌<◌, ◌≤◌, ◌+◌, ◌-◌, ◌*◌, ◌/◌, ◌%◌, ◌^◌, Bool, true, false, cond, eqb, List, []}
 use Rattle.std.proofs.Common.{◌∷◌, ◌++◌, map, take, drop, length, get_or, replicate, bit_or, max, inl, inr, refl, sym}
-use Rattle.std.proofs.Common.{subst}
-use Rattle.std.proofs.Common.{◌∙◌, ap, arith, append_assoc, w8, shr-shr, shl_exact, pow_mono, pow_pos, ◌⊎◌}
+use Rattle.std.proofs.Common.{subst, ◌∙◌, ap, arith, append_assoc, w8, shr-shr, shl_exact, pow_mono, pow_pos, ◌⊎◌}
 use Rattle.std.proofs.lemmas.Bool.{cases_lt}
 use Rattle.std.proofs.lemmas.List.{get_or-drop, get_or-take, get_or_default, get_or_past, length-drop, length-map}
 use Rattle.std.proofs.lemmas.List.{length-take-le, take_all, take_at, take_rest}
@@ -11,8 +10,7 @@ use Rattle.std.proofs.lemmas.Simd.{bit_mask_l, bitmask_splat, mask_l-lt}
 use Rattle.std.proofs.Math.ListN.{get_or-map}
 use Rattle.std.specs.Int.{bit_at}
 use Rattle.std.specs.Simd.Lanes.{mask_l, top, zip2}
-use Rattle.vms_text.specs.Marks.{MarksSpaces}
-use Rattle.vms_text.specs.Words.{parts_of}
+use Rattle.vms_text.specs.Common.{MarksSpaces, space_parts}
 use Rattle.vms_text.proofs.Parts.{is_space, slice_split-first, slice_split-whole, take-take-append}
 
 -- the bit that marks a byte
@@ -98,7 +96,7 @@ marks_false true none = absurd (omega arith)
 -- a line that is cut up to `rest`, whose spaces are marked: the parts before it, eight at most
 pub record IsMarked (line : List ℕ) (parts : List (List ℕ)) (rest : List ℕ) (left : ℕ) : Type 0 where
   pub marks : MarksSpaces rest left
-  pub parts_are : take 8 (parts ++ parts_of rest) ≡ take 8 (parts_of line)
+  pub parts_are : take 8 (parts ++ space_parts rest) ≡ take 8 (space_parts line)
 
 -- the lowest mark is that of a byte of the line
 pub first_mark-within : (line : List ℕ) (marks at : ℕ) → MarksSpaces line marks → bit_at marks at ≡ 1 → at < length line
@@ -123,14 +121,14 @@ IsMarked-more line parts parts' rest rest' left left' at within first none added
         ap is_space (get_or_default rest k d 0 (omega (arith, within)))
         ∙ marks_false (is_space (get_or rest k 0)) (sym (marked.marks k) ∙ none k below)
 
-    split : parts_of rest ≡ take at rest ∷ parts_of (drop (at + 1) rest)
+    split : space_parts rest ≡ take at rest ∷ space_parts (drop (at + 1) rest)
     split =
         slice_split-first is_space rest at within other
         (marks_true (is_space (get_or rest at 0)) (sym (marked.marks at) ∙ first))
 
     more : IsMarked line parts' (drop (at + 1) rest) (left / 2 ^ at / 2 ^ 1)
     more =
-        let after = parts_of (drop (at + 1) rest) in
+        let after = space_parts (drop (at + 1) rest) in
         record {
           marks = λ k.
               ap (λ n. n / 2 ^ k % 2) (shr-shr left at 1) ∙ ap (λ n. n % 2) (shr-shr left (at + 1) k)
@@ -142,9 +140,9 @@ IsMarked-more line parts parts' rest rest' left left' at within first none added
         }
 
 -- where no mark is left, what is left is the last part
-pub parts_of-marked : (line : List ℕ) (parts parts' : List (List ℕ)) (rest : List ℕ) (left : ℕ) → left ≡ 0
-    → parts' ≡ take 8 (parts ++ rest ∷ []) → IsMarked line parts rest left → parts' ≡ take 8 (parts_of line)
-parts_of-marked line parts parts' rest left done added marked =
+pub space_parts-marked : (line : List ℕ) (parts parts' : List (List ℕ)) (rest : List ℕ) (left : ℕ) → left ≡ 0
+    → parts' ≡ take 8 (parts ++ rest ∷ []) → IsMarked line parts rest left → parts' ≡ take 8 (space_parts line)
+space_parts-marked line parts parts' rest left done added marked =
     added ∙ ap (λ more. take 8 (parts ++ more)) (sym (slice_split-whole is_space rest other)) ∙ marked.parts_are
   where
     other : (k d : ℕ) → 0 ≤ k → k < length rest → is_space (get_or rest k d) ≡ false
@@ -154,6 +152,6 @@ parts_of-marked line parts parts' rest left done added marked =
         ∙ marks_false (is_space (get_or rest k 0)) (sym (marked.marks k) ∙ nothing)
 
 -- where eight parts are there, they are all that are told
-pub parts_of-full : (line : List ℕ) (parts : List (List ℕ)) (rest : List ℕ) (left : ℕ) → length parts ≡ 8
-    → IsMarked line parts rest left → parts ≡ take 8 (parts_of line)
-parts_of-full line parts rest left full marked = sym (take_at parts (parts_of rest) 8 full) ∙ marked.parts_are
+pub space_parts-full : (line : List ℕ) (parts : List (List ℕ)) (rest : List ℕ) (left : ℕ) → length parts ≡ 8
+    → IsMarked line parts rest left → parts ≡ take 8 (space_parts line)
+space_parts-full line parts rest left full marked = sym (take_at parts (space_parts rest) 8 full) ∙ marked.parts_are

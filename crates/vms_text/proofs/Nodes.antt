@@ -6,8 +6,8 @@ use Rattle.std.proofs.lemmas.List.Elements.{All-contains, Contains-get_or}
 use Rattle.std.specs.List.{All, Contains}
 use Rattle.vms_base.specs.declared.kinds.ZoneKind.{ZoneKind}
 use Rattle.vms_base.specs.declared.kinds.ZoneName.{ZoneName}
-use Rattle.vms_base.specs.Places.{IsLayout, Shape, node_place, rank_of, zone_place}
-use Rattle.vms_base.proofs.Zones.{rank_of-injective}
+use Rattle.vms_base.specs.Common.{IsLayout, Shape, node_place, rank_of, zone_place}
+use Rattle.vms_base.proofs.Common.{rank_of-injective}
 use Rattle.vms_text.proofs.NameLookups.{position-nowhere}
 
 pub node_place-absent : (shape : Shape) (node : ℕ) → All (λ number. number ≢ node) shape.nodes

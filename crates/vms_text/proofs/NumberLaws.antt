@@ -11,7 +11,7 @@ use Rattle.std.specs.Fmt.{decimal, signed_decimal}
 use Rattle.std.specs.Int.RustNames.{FitsSigned}
 use Rattle.std.specs.List.{list_all}
 use Rattle.std.specs.Str.Parse.{digits_value}
-use Rattle.vms_text.specs.Numbers.{is_digit, is_numeral, negative_of, number_within, signed_of, unsigned_of}
+use Rattle.vms_text.specs.Common.{is_digit, is_numeral, negative_of, number_within, signed_of, unsigned_of}
 use Rattle.vms_text.proofs.Values.{number_within-is, number_within-le, numeral-digits}
 
 digits_test : IsDigitsTest (λ word. list_all is_digit word ≡ true)

@@ -1,13 +1,12 @@
 -- For other crates too: a list of bytes, cut at each byte of a kind.
 use Rattle.std.proofs.Common.{ℕ, zero, suc, ◌≡◌, ◌<◌, ◌≤◌, ◌+◌, ◌-◌, ◌==◌, Bool, true, false, List, [], ◌∷◌, ◌++◌, inl}
-use Rattle.std.proofs.Common.{inr}
-use Rattle.std.proofs.Common.{refl, sym, subst, ◌∙◌, ap, arith, append_assoc, take, drop, length, get_or}
+use Rattle.std.proofs.Common.{inr, refl, sym, subst, ◌∙◌, ap, arith, append_assoc, take, drop, length, get_or}
 use Rattle.std.proofs.lemmas.Bool.{cases_lt}
 use Rattle.std.proofs.lemmas.List.{drop-drop, drop_more, get_or-drop, get_or-take, get_or_default, length-drop}
 use Rattle.std.proofs.lemmas.List.{length-take-le, take-append-drop, take_all, take_rest}
 use Rattle.std.proofs.lemmas.List.Splits.{slice_split_at, slice_split_none}
 use Rattle.std.specs.List.{All, slice_split}
-use Rattle.vms_text.specs.Words.{parts_of}
+use Rattle.vms_text.specs.Common.{space_parts}
 
 -- the first entries of a list that is cut short
 pub take-take-append : {A : Type 0} → (n : ℕ) (xs ys : List A) → take n (take n xs ++ ys) ≡ take n (xs ++ ys)
@@ -75,7 +74,7 @@ is_space byte = byte == 32
 pub record IsParted (line : List ℕ) (parts : List (List ℕ)) (begin at : ℕ) : Type 0 where
   pub after : begin ≤ at
   pub part : IsPart is_space line begin at
-  pub parts_are : take 8 (parts ++ parts_of (drop begin line)) ≡ take 8 (parts_of line)
+  pub parts_are : take 8 (parts ++ space_parts (drop begin line)) ≡ take 8 (space_parts line)
 
 pub IsParted-none : (line : List ℕ) → IsParted line [] 0 0
 IsParted-none line =
@@ -102,7 +101,7 @@ pub IsParted-space : (line : List ℕ) (parts parts' : List (List ℕ)) (begin a
     → IsParted line parts begin at → IsParted line parts' (at + 1) (at + 1)
 IsParted-space line parts parts' begin at within space added parted =
     let piece = take (at - begin) (drop begin line) in
-    let rest = parts_of (drop (at + 1) line) in
+    let rest = space_parts (drop (at + 1) line) in
     record {
       after = omega arith;
       part = λ k d low high. absurd (omega arith);
@@ -114,10 +113,10 @@ IsParted-space line parts parts' begin at within space added parted =
     }
 
 -- at the end of the line, where the last part is added
-pub parts_of-parted : (line : List ℕ) (parts parts' : List (List ℕ)) (begin at : ℕ) → at ≡ length line
+pub space_parts-parted : (line : List ℕ) (parts parts' : List (List ℕ)) (begin at : ℕ) → at ≡ length line
     → parts' ≡ take 8 (parts ++ take (length line - begin) (drop begin line) ∷ [])
-    → IsParted line parts begin at → parts' ≡ take 8 (parts_of line)
-parts_of-parted line parts parts' begin at done added parted =
+    → IsParted line parts begin at → parts' ≡ take 8 (space_parts line)
+space_parts-parted line parts parts' begin at done added parted =
     let part : IsPart is_space line begin (length line) = subst (IsPart is_space line begin) done parted.part in
     let within : begin ≤ length line = omega (arith, parted.after) in
     added ∙ ap (λ more. take 8 (parts ++ more)) (sym (slice_split-last is_space line begin within part))

@@ -1,16 +1,15 @@
 -- For other crates too: the words of a line, cut at each byte that isn't one of a word.
-use Rattle.std.proofs.Common.{ℕ, zero, suc, ◌≡◌, ◌<◌, ◌≤◌, ◌+◌, ◌-◌, ◌==◌, ◌&&◌, ◌||◌, Bool, true, false, not, List}
-use Rattle.std.proofs.Common.{[], ◌∷◌, ◌++◌, inl, inr, refl, sym, subst, ◌∙◌, ap, arith, append-nil, append_assoc}
-use Rattle.std.proofs.Common.{take, drop, length, get_or}
+use Rattle.std.proofs.Common.{ℕ, zero, suc, ◌≡◌, ◌<◌, ◌≤◌, ◌+◌, ◌-◌, ◌==◌, ◌&&◌, ◌||◌, Bool, true, false, not, List, []}
+use Rattle.std.proofs.Common.{◌∷◌, ◌++◌, inl, inr, refl, sym, subst, ◌∙◌, ap, arith, append-nil, append_assoc, take}
+use Rattle.std.proofs.Common.{drop, length, get_or}
 use Rattle.std.proofs.lemmas.Bool.Decides.{nat_tests}
 use Rattle.std.proofs.Math.Bool.{and-false, and-true, and_assoc, or-false}
 use Rattle.std.proofs.lemmas.Bool.{cases_lt}
-use Rattle.std.proofs.lemmas.List.{at_drop_all, at_drop_more, get_or-drop, get_or-take}
-use Rattle.std.proofs.lemmas.List.{get_or_default, length-drop, length-take-le, length_push}
-use Rattle.std.proofs.lemmas.List.{take_all, take_at}
+use Rattle.std.proofs.lemmas.List.{at_drop_all, at_drop_more, get_or-drop, get_or-take, get_or_default, length-drop}
+use Rattle.std.proofs.lemmas.List.{length-take-le, length_push, take_all, take_at}
 use Rattle.std.specs.List.{filter, list_all, slice_split}
-use Rattle.vms_text.specs.Words.{IsNextWord, is_blank_byte, is_empty, is_word_byte, is_wrong_byte, words_of}
-use Rattle.vms_text.specs.Reading.{is_clean, is_comment, is_ignored}
+use Rattle.vms_text.specs.Common.{IsNextWord, is_blank_byte, is_empty, is_word_byte, is_wrong_byte, words_of, is_clean}
+use Rattle.vms_text.specs.Common.{is_comment, is_ignored}
 use Rattle.vms_text.proofs.Parts.{slice_split-last, slice_split-part, take-take-append}
 
 abbrev is_other : ℕ → Bool

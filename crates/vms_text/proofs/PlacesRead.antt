@@ -13,12 +13,10 @@ use Rattle.vms_base.specs.declared.headers.Header.{Header}
 use Rattle.vms_base.specs.declared.kinds.ZoneKind.{ZoneKind}
 use Rattle.vms_base.specs.declared.kinds.ZoneKind.TheVariants.{Dma, Dma32, Normal, Movable}
 use Rattle.vms_base.specs.declared.kinds.ZoneName.{ZoneName}
-use Rattle.vms_base.specs.Names.{kind_names}
-use Rattle.vms_base.specs.Places.{IsLayout, IsNode, IsPlace, Shape, node_at, node_place, rank_of, zone_index}
-use Rattle.vms_base.specs.Places.{zone_place}
-use Rattle.vms_base.proofs.Ranks.{rises}
-use Rattle.vms_text.specs.PlaceNames.{kind_named, place_named, zone_named}
-use Rattle.vms_text.specs.Spelling.{entry, place_words}
+use Rattle.vms_base.specs.Common.{kind_names, IsLayout, IsNode, IsPlace, Shape, node_at, node_place, rank_of}
+use Rattle.vms_base.specs.Common.{zone_index, zone_place}
+use Rattle.vms_base.proofs.Common.{rises}
+use Rattle.vms_text.specs.Common.{kind_named, place_named, zone_named, entry_if_any, place_words}
 use Rattle.vms_text.proofs.NameLookups.{position-first}
 use Rattle.vms_text.proofs.Sentences.{is_short}
 
@@ -29,7 +27,7 @@ kind_word Dma32 = codes "DMA32"
 kind_word Normal = codes "Normal"
 kind_word Movable = codes "Movable"
 
-pub kind_word-entry : (kind : ZoneKind) → entry kind_names (zone_index kind) ≡ kind_word kind ∷ []
+pub kind_word-entry : (kind : ZoneKind) → entry_if_any kind_names (zone_index kind) ≡ kind_word kind ∷ []
 kind_word-entry Dma = refl
 kind_word-entry Dma32 = refl
 kind_word-entry Normal = refl

@@ -1,12 +1,12 @@
 -- For other crates too: where the first element that passes a test stands.
-use Rattle.std.proofs.Common.{ℕ, ◌≡◌, ◌<◌, ◌≤◌, ◌+◌, Bool, cond, not, List, [], ◌∷◌, Some, refl}
-use Rattle.std.proofs.Common.{ap, arith, bytes_eq, length, map, position}
+use Rattle.std.proofs.Common.{ℕ, ◌≡◌, ◌<◌, ◌≤◌, ◌+◌, Bool, cond, not, List, [], ◌∷◌, Some, refl, ap, arith, bytes_eq}
+use Rattle.std.proofs.Common.{length, map, position}
 use Rattle.std.proofs.lemmas.Bool.Decides.{nat_tests}
 use Rattle.std.proofs.lemmas.List.{length-map}
 use Rattle.std.specs.List.{filter, position_or_len}
 use Rattle.vms_base.specs.declared.headers.ItemDecl.{ItemDecl}
-use Rattle.vms_base.specs.Headers.{declared_names}
-use Rattle.vms_text.specs.PlaceNames.{declared_items}
+use Rattle.vms_base.specs.Common.{declared_names}
+use Rattle.vms_text.specs.Common.{declared_items}
 
 position_or_len-map : {X Y : Type 0} (p : Y → Bool) (f : X → Y) (xs : List X)
     → position_or_len p (map f xs) ≡ position_or_len (λ x. p (f x)) xs

@@ -7,7 +7,7 @@ use Rattle.std.proofs.lemmas.List.{at_drop_all, drop-drop, drop_more, get_or-dro
 use Rattle.std.proofs.lemmas.List.{length-take-le, take-append-drop, take_all}
 use Rattle.std.proofs.lemmas.List.Sums.{fails_before_first, passes_at_first, prefix_len-le-length}
 use Rattle.std.specs.List.{All, position_or_len}
-use Rattle.vms_text.specs.Words.{IsNextWord, is_word_byte, words_of}
+use Rattle.vms_text.specs.Common.{IsNextWord, is_word_byte, words_of}
 use Rattle.vms_text.proofs.Cuts.{not-false, position-before, position-none, position-parts, position_or_len-some}
 use Rattle.vms_text.proofs.Words.{is_other, words_of-blanks, words_of-last, words_of-other, words_of-word}
 

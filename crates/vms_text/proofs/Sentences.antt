@@ -1,16 +1,15 @@
 -- For other crates too: what is spelled of a few short words is one line, and is read as these words.
-use Rattle.std.proofs.Common.{ℕ, ◌≡◌, ◌≢◌, ◌*◌, ◌<◌, ◌≤◌, ◌&&◌, ◌||◌, Bool, true, false, not, nat_le, nat_lt, List}
-use Rattle.std.proofs.Common.{[], ◌∷◌, ◌++◌, refl, subst, ◌∙◌, ap, arith, length, get_or, length-append}
+use Rattle.std.proofs.Common.{ℕ, ◌≡◌, ◌≢◌, ◌*◌, ◌<◌, ◌≤◌, ◌&&◌, ◌||◌, Bool, true, false, not, nat_le, nat_lt, List, []}
+use Rattle.std.proofs.Common.{◌∷◌, ◌++◌, refl, subst, ◌∙◌, ap, arith, length, get_or, length-append}
 use Rattle.std.proofs.lemmas.Bool.{false≢true}
 use Rattle.std.proofs.lemmas.Bool.Decides.{nat_tests}
 use Rattle.std.proofs.lemmas.List.Folds.{list_all-append}
 use Rattle.std.proofs.lemmas.List.Sums.{AllPass-from_list_all}
 use Rattle.std.specs.List.{All, list_all}
-use Rattle.vms_text.specs.Words.{is_blank_byte, is_empty, is_word_byte, is_wrong_byte, joined, words_of}
+use Rattle.vms_text.specs.Common.{is_blank_byte, is_empty, is_word_byte, is_wrong_byte, joined, words_of, is_clean}
+use Rattle.vms_text.specs.Common.{is_comment, is_ignored, most_line, spaced}
 use Rattle.vms_text.proofs.Values.{and_left, and_right}
 use Rattle.vms_text.proofs.Words.{IsWord, words_of-joined}
-use Rattle.vms_text.specs.Reading.{is_clean, is_comment, is_ignored, most_line}
-use Rattle.vms_text.specs.Writing.{spaced}
 use Rattle.vms_text.proofs.Pieces.{clean-word}
 use Rattle.vms_text.proofs.Appends.{joined-cons}
 

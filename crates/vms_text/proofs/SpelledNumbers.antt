@@ -7,8 +7,7 @@ use Rattle.std.proofs.lemmas.Int.{ints}
 use Rattle.std.specs.Fmt.{decimal, signed_decimal}
 use Rattle.std.specs.Int.RustNames.{FitsSigned}
 use Rattle.std.specs.List.{list_all}
-use Rattle.vms_text.specs.Numbers.{is_digit, signed_of, unsigned_of}
-use Rattle.vms_text.specs.Words.{is_word_byte}
+use Rattle.vms_text.specs.Common.{is_digit, signed_of, unsigned_of, is_word_byte}
 use Rattle.vms_text.proofs.NumberLaws.{signed_of-reads, unsigned_of-reads}
 use Rattle.vms_text.proofs.Values.{IsWithin, and_left, and_right, number_within-is, numeral-digits}
 use Rattle.vms_text.proofs.Sentences.{is_short, is_short-from}

@@ -1,8 +1,8 @@
 -- For other crates too: where the lines of a text end.
-use Rattle.std.proofs.Common.{ℕ, ◌≡◌, ◌≢◌, ◌<◌, ◌==◌, Bool, true, false, List, [], ◌∷◌, ◌++◌, refl, sym, ◌∙◌, ap}
-use Rattle.std.proofs.Common.{arith, length, length-append, append-nil, Some, None, inl, inr, position, take, drop}
-use Rattle.std.proofs.Common.{get_or, ◌+◌, ◌-◌, ◌≤◌, append_assoc}
-use Rattle.std.proofs.Common.{Option, le-ltb, lt-ltb, le_refl, lt_irrefl, le_of_lt, zero-le}
+use Rattle.std.proofs.Common.{ℕ, ◌≡◌, ◌≢◌, ◌<◌, ◌==◌, Bool, true, false, List, [], ◌∷◌, ◌++◌, refl, sym, ◌∙◌, ap, arith}
+use Rattle.std.proofs.Common.{length, length-append, append-nil, Some, None, inl, inr, position, take, drop, get_or}
+use Rattle.std.proofs.Common.{◌+◌, ◌-◌, ◌≤◌, append_assoc, Option, le-ltb, lt-ltb, le_refl, lt_irrefl, le_of_lt}
+use Rattle.std.proofs.Common.{zero-le}
 use Rattle.std.proofs.lemmas.List.Sums.{position_or_len_is}
 use Rattle.memchr.specs.Find.{IsFirstByte, is_byte}
 use Rattle.std.proofs.lemmas.List.{drop_at, take_at}
@@ -10,7 +10,7 @@ use Rattle.std.proofs.lemmas.Bool.Decides.{nat_tests}
 use Rattle.std.proofs.lemmas.List.Splits.{slice_split-cons_yes, slice_split-cons_no, slice_split_none}
 use Rattle.std.proofs.lemmas.List.Splits.{length-slice_split}
 use Rattle.std.specs.List.{All, slice_split, onto_first}
-use Rattle.vms_text.specs.Lines.{lines_of, SplitsLine, without_last_empty}
+use Rattle.vms_text.specs.Common.{lines_of, SplitsLine, without_last_empty}
 use Rattle.vms_text.proofs.Cuts.{position-before, position-none, position-parts}
 
 abbrev is_end : ℕ → Bool

@@ -6,7 +6,7 @@ use Rattle.std.proofs.lemmas.Int.{ints}
 use Rattle.std.specs.Int.RustNames.{FitsSigned}
 use Rattle.std.specs.List.{list_all}
 use Rattle.std.specs.Str.Parse.{digits_value}
-use Rattle.vms_text.specs.Numbers.{is_digit, is_numeral, negative_of, number_within, signed_of}
+use Rattle.vms_text.specs.Common.{is_digit, is_numeral, negative_of, number_within, signed_of}
 
 pub if_some : {A : Type 0} (b : Bool) (x y : A) → cond b (Some x) None ≡ Some y → (b ≡ true) × (x ≡ y)
 if_some true x y some = (refl, cc)

@@ -3,7 +3,7 @@ use Rattle.std.proofs.Common.{ℕ, suc, ◌≡◌, ◌<◌, Bool, true, false, n
 use Rattle.std.proofs.Common.{length}
 use Rattle.std.proofs.lemmas.List.Splits.{slice_split-cons_yes, slice_split_at, slice_split_none}
 use Rattle.std.specs.List.{All, filter, slice_split}
-use Rattle.vms_text.specs.Words.{is_empty, is_word_byte, joined, words_of}
+use Rattle.vms_text.specs.Common.{is_empty, is_word_byte, joined, words_of}
 
 -- not a byte of a word
 abbrev pub is_other : ℕ → Bool

@@ -9,10 +9,10 @@ lane_numbered (Some number) = Cpu (record { number = number })
 lane_numbered None = Control
 
 -- the number of a lane's CPU
-abbrev pub number_of : Lane → Option ℕ
-number_of (Cpu cpu) = Some cpu.number
-number_of Control = None
+abbrev pub lane_cpu_number : Lane → Option ℕ
+lane_cpu_number (Cpu cpu) = Some cpu.number
+lane_cpu_number Control = None
 
 -- a lane whose CPU, if it is of one, has a number of at most 16 bits
-abbrev pub IsKeepable : Lane → Type 0
-IsKeepable lane = IfSome (number_of lane) (λ number. number < 2 ^ 16)
+abbrev pub IsKeepableLane : Lane → Type 0
+IsKeepableLane lane = IfSome (lane_cpu_number lane) (λ number. number < 2 ^ 16)

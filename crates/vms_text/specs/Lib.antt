@@ -7,3 +7,4 @@ pub mod PlaceNames
 pub mod Spelling
 pub mod Writing
 pub mod KeptLanes
+pub mod Common

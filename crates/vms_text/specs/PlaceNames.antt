@@ -5,8 +5,8 @@ use Rattle.vms_base.specs.declared.headers.Header.{Header}
 use Rattle.vms_base.specs.declared.headers.ItemDecl.{ItemDecl}
 use Rattle.vms_base.specs.declared.kinds.ZoneKind.{ZoneKind}
 use Rattle.vms_base.specs.declared.kinds.ZoneKind.TheVariants.{Dma, Dma32, Normal, Movable}
-use Rattle.vms_base.specs.Headers.{IsNamed, class_names, is_of_node}
-use Rattle.vms_base.specs.Places.{IsCounter, Shape, zone_place, node_place, position_of}
+use Rattle.vms_base.specs.Common.{IsNamed, class_names, is_of_node, IsCounter, Shape, zone_place, node_place}
+use Rattle.vms_base.specs.Common.{position_of}
 
 -- the kind of zones that a word names
 abbrev pub kind_named : List ℕ → Option ZoneKind

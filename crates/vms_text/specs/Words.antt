@@ -25,8 +25,8 @@ abbrev pub words_of : List ℕ → List (List ℕ)
 words_of line = filter (λ word. not (is_empty word)) (slice_split (λ byte. not (is_word_byte byte)) line)
 
 -- the parts of a line between its spaces
-abbrev pub parts_of : List ℕ → List (List ℕ)
-parts_of line = slice_split (λ byte. byte == 32) line
+abbrev pub space_parts : List ℕ → List (List ℕ)
+space_parts line = slice_split (λ byte. byte == 32) line
 
 -- words as they are written: one space between each two
 abbrev pub joined : List (List ℕ) → List ℕ

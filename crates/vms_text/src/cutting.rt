@@ -1,6 +1,5 @@
 ghost use Rattle.std.specs.Prelude.{◌≡◌, ◌==◌, position};
-ghost use Rattle.vms_text.specs.Lines.{FirstLine, LastLine, LinesAppend};
-ghost use Rattle.vms_text.specs.Lines.{SplitsLine};
+ghost use Rattle.vms_text.specs.Lines.{FirstLine, LastLine, LinesAppend, SplitsLine};
 
 use memchr::memchr;
 

@@ -11,23 +11,23 @@ pub struct KeptLane {
 
 impl Model for KeptLane {
     ghost use Rattle.vms_text.specs.declared.acts.Lane.{Lane};
-    ghost use Rattle.vms_text.specs.KeptLanes.{lane_numbered, number_of};
+    ghost use Rattle.vms_text.specs.KeptLanes.{lane_numbered, lane_cpu_number};
 
     ghost Value = { Lane };
 
     ghost view = { λ kept. lane_numbered kept.cpu };
 
-    ghost inverse = { λ lane. record { cpu = number_of lane } };
+    ghost inverse = { λ lane. record { cpu = lane_cpu_number lane } };
 }
 
 impl KeptLane {
     ghost use Rattle.std.specs.Prelude.{◌≡◌};
-    ghost use Rattle.vms_text.specs.KeptLanes.{IsKeepable};
+    ghost use Rattle.vms_text.specs.KeptLanes.{IsKeepableLane};
 
     /// Keeps a lane, whose CPU has a number of at most 16 bits.
     #[inline(always)]
     pub fn of(lane: Lane) -> KeptLane
-        requires { IsKeepable lane }
+        requires { IsKeepableLane lane }
         ensures { result ≡ lane }
     {
         KeptLane {

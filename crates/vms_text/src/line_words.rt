@@ -1,6 +1,6 @@
 ghost use Rattle.std.specs.Prelude.{◌≡◌, ◌∷◌, ◌++◌, [], map, take, not};
 ghost use Rattle.std.specs.List.{filter, list_all};
-ghost use Rattle.vms_text.specs.Words.{is_blank_byte, is_empty, is_wrong_byte, parts_of, words_of};
+ghost use Rattle.vms_text.specs.Words.{is_blank_byte, is_empty, is_wrong_byte, space_parts, words_of};
 ghost use Rattle.vms_text.specs.Reading.{is_clean, is_ignored};
 
 use crate::marks::{cut_at_marks, marks_of};
@@ -41,7 +41,7 @@ pub fn cut_line<'a>(words: &mut ArrayVec<&'a [u8], 8>, line: &'a [u8]) -> bool
 #[inline]
 pub fn cut_at_spaces<'a>(parts: &mut ArrayVec<&'a [u8], 8>, line: &'a [u8])
     requires { parts.old.items ≡ [] }
-    ensures { map (λ part. part.now) parts.new.items ≡ take 8 (parts_of line.now) }
+    ensures { map (λ part. part.now) parts.new.items ≡ take 8 (space_parts line.now) }
 {
     match marks_of(line) {
         Some(marks) => cut_at_marks(parts, line, marks),
@@ -52,7 +52,7 @@ pub fn cut_at_spaces<'a>(parts: &mut ArrayVec<&'a [u8], 8>, line: &'a [u8])
 /// Cuts a line of any length at its spaces alone.
 fn cut_byte_by_byte<'a>(parts: &mut ArrayVec<&'a [u8], 8>, line: &'a [u8])
     requires { parts.old.items ≡ [] }
-    ensures { map (λ part. part.now) parts.new.items ≡ take 8 (parts_of line.now) }
+    ensures { map (λ part. part.now) parts.new.items ≡ take 8 (space_parts line.now) }
 {
     let mut begin = 0;
     for (at, byte) in line.iter().enumerate() {

@@ -1,7 +1,7 @@
 ghost use Rattle.std.specs.Prelude.{◌≡◌, ◌≢◌, ◌≤◌, ◌<◌, ◌*◌, ◌^◌, ◌++◌, ◌∷◌, [], ℕ, length, map, take, IfSome};
 ghost use Rattle.std.specs.Int.{bit_at};
 ghost use Rattle.vms_text.specs.Marks.{MarksSpaces};
-ghost use Rattle.vms_text.specs.Words.{parts_of};
+ghost use Rattle.vms_text.specs.Words.{space_parts};
 
 use crate::line_words::add_part;
 use arrayvec::ArrayVec;
@@ -24,7 +24,7 @@ pub(crate) fn marks_of(line: &[u8]) -> Option<u64>
 pub(crate) fn cut_at_marks<'a>(parts: &mut ArrayVec<&'a [u8], 8>, line: &'a [u8], marks: u64)
     requires parts { parts.old.items ≡ [] }
     requires marks { MarksSpaces line.now marks }
-    ensures { map (λ part. part.now) parts.new.items ≡ take 8 (parts_of line.now) }
+    ensures { map (λ part. part.now) parts.new.items ≡ take 8 (space_parts line.now) }
 {
     let mut rest = line;
     let mut left = marks;

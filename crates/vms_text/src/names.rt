@@ -1,6 +1,6 @@
 ghost use Rattle.std.specs.Prelude.{◌≡◌};
 ghost use Rattle.std.specs.List.{list_all};
-ghost use Rattle.vms_base.specs.Names.{is_name as has_form, is_name_byte};
+ghost use Rattle.vms_base.specs.Common.{is_name as has_form, is_name_byte};
 
 /// Whether a word is of the form of a declared name: 1 to 16 bytes of `a` to `z`, `0` to `9` and `_`, the first a
 /// letter.

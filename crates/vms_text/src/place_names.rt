@@ -1,8 +1,7 @@
 ghost use Rattle.std.specs.Prelude.{◌≡◌, ◌≢◌, ◌<◌, All, IfNone, IfSome, bytes_eq, length, map, option_map, position};
 ghost use Rattle.std.specs.Prelude.{slice_get, if◌then◌else◌};
-ghost use Rattle.vms_base.specs.Headers.{class_names, declared_names};
-ghost use Rattle.vms_base.specs.Names.{node_items, zone_items};
-ghost use Rattle.vms_base.specs.Places.{IsLayout, node_at, node_place};
+ghost use Rattle.vms_base.specs.Common.{class_names, declared_names, node_items, zone_items, IsLayout, node_at};
+ghost use Rattle.vms_base.specs.Common.{node_place};
 ghost use Rattle.vms_text.specs.PlaceNames.{declared_items, is_in_bytes, is_item_in_bytes, is_node_place, kind_named};
 ghost use Rattle.vms_text.specs.PlaceNames.{place_named, zone_named};
 

@@ -1,8 +1,7 @@
 ghost use Rattle.std.specs.Prelude.{◌≡◌, ◌∷◌, [], ◌<◌, length, option_map, slice_get};
-ghost use Rattle.vms_base.specs.Headers.{class_names};
-ghost use Rattle.vms_base.specs.Places.{IsPlace};
+ghost use Rattle.vms_base.specs.Common.{class_names, IsPlace};
 ghost use Rattle.vms_text.specs.PlaceNames.{IsKnown, declared_items};
-ghost use Rattle.vms_text.specs.Spelling.{counter_words, entry, place_words};
+ghost use Rattle.vms_text.specs.Spelling.{counter_words, entry_if_any, place_words};
 ghost use Rattle.vms_text.specs.Writing.{text_of};
 
 use crate::writing::Word;
@@ -48,7 +47,7 @@ pub fn words_of_counter(header: &Header, counter: CounterId) -> (Word<'_>, Word<
 #[inline]
 pub fn name_of_item(header: &Header, node: bool, position: u32) -> Word<'_>
     requires { position < length (class_names node header.now.items) }
-    ensures { text_of result ∷ [] ≡ entry (class_names node header.now.items) position }
+    ensures { text_of result ∷ [] ≡ entry_if_any (class_names node header.now.items) position }
 {
     if position < 8 {
         Word::Text(item_names(node)[position as usize].as_bytes())

@@ -1,25 +1,15 @@
 -- The first two counters of a machine, and what a pass carries for the first one.
-use Rattle.std.proofs.Common.{◌≡◌, ◌≢◌, ℕ, ◌+◌, ◌/◌, ◌%◌, ◌<◌, ◌∷◌, nat_eq, if◌then◌else◌, ℤ, pos, ◌+ℤ◌, get_or}
-use Rattle.std.proofs.Common.{arith, ◌∙◌, ap}
+use Rattle.std.proofs.Common.{◌≡◌, ◌≢◌, ℕ, ◌+◌, ◌/◌, ◌%◌, ◌<◌, ◌∷◌, nat_eq, if◌then◌else◌, ℤ, pos, ◌+ℤ◌, get_or, arith}
+use Rattle.std.proofs.Common.{◌∙◌, ap}
 use Rattle.std.proofs.lemmas.Bool.Decides.{nat_tests}
 use Rattle.std.proofs.lemmas.Int.{ints}
-use Rattle.vms_base.specs.Places.{Shape, IsCounter, IsItem, first_of, item_of}
-use Rattle.vms_base.specs.declared.groups.Diffs.{Diffs}
-use Rattle.vms_base.specs.declared.ids.CpuId.{CpuId}
-use Rattle.vms_base.specs.declared.ids.ItemId.{ItemId}
-use Rattle.vms_history.specs.Events.{own}
-use Rattle.vms_history.proofs.SumLaws.{sum_below-same}
-use Rattle.vms_core.specs.declared.steps.Facts.{Facts}
-use Rattle.vms_core.specs.declared.steps.Step.{Step}
-use Rattle.vms_core.specs.declared.steps.Step.TheVariants.{AddG, Take}
-use Rattle.vms_core.specs.Cells.{entry}
-use Rattle.vms_core.specs.Conditions.{AddsToSystem}
-use Rattle.vms_core.specs.Own.{CarriesNothing, carried, carried_of_item, entries_of}
-use Rattle.vms_core.specs.Pages.{pages}
-use Rattle.vms_count.specs.Changing.{CarriesFor}
-use Rattle.vms_seats.specs.Passes.{Pass}
-use Rattle.vms_seats.specs.Steps.{MadeOne}
-use Rattle.vms_thread_trials.specs.Machines.{IsNarrow}
+use Rattle.vms_calls.specs.Common.{Shape, IsCounter, IsItem, first_of_group, item_of, Diffs, CpuId, ItemId, own, Facts}
+use Rattle.vms_calls.specs.Common.{Step, AddG, Take, entry, AddsToSystem, CarriesNothing, carried, carried_of_item}
+use Rattle.vms_calls.specs.Common.{entries_of, pages}
+use Rattle.vms_history.proofs.Common.{sum_below-same}
+use Rattle.vms_count.specs.Common.{CarriesFor}
+use Rattle.vms_seats.specs.Common.{Pass, MadeOne}
+use Rattle.vms_thread_trials.specs.Common.{IsNarrow}
 
 pub is_first : (shape : Shape) → IsNarrow shape → IsCounter shape 0
 is_first shape narrow = let some = narrow.layout.some_zone in rw narrow.positions (omega (arith, some))
@@ -38,11 +28,11 @@ item-first shape narrow n within =
 -- so a list of the first group has one entry for the first item
 entries-first : (shape : Shape) → IsNarrow shape → (w : Diffs) → entries_of shape 0 0 w ≡ entry w.values 0
 entries-first shape narrow w =
-    sum_below-same (λ n. if nat_eq (item_of shape (first_of 0 + n)) 0 then get_or w.values n (pos 0) else pos 0)
+    sum_below-same (λ n. if nat_eq (item_of shape (first_of_group 0 + n)) 0 then get_or w.values n (pos 0) else pos 0)
     (λ n. if nat_eq n 0 then get_or w.values n (pos 0) else pos 0) 8
     (λ n below.
-    let at : item_of shape (first_of 0 + n) ≡ n =
-    item-first shape narrow (first_of 0 + n) (omega arith) ∙ omega arith in
+    let at : item_of shape (first_of_group 0 + n) ≡ n =
+    item-first shape narrow (first_of_group 0 + n) (omega arith) ∙ omega arith in
     ap (λ i. if nat_eq i 0 then get_or w.values n (pos 0) else pos 0) at)
     ∙ omega (arith, ints)
 

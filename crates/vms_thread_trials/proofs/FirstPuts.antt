@@ -1,27 +1,15 @@
 -- The owner of a CPU exchanges the first group: what it has loaded, and what it may put after its load and
 -- after a miss.
-use Rattle.std.proofs.Common.{◌≡◌, ℕ, ◌+◌, ◌≤◌, pos, ◌+ℤ◌, List, ◌∷◌, Some, refl, sym, ap, ◌∙◌, subst, arith}
-use Rattle.std.proofs.Common.{eq-eqb, slice_index_or}
+use Rattle.std.proofs.Common.{◌≡◌, ℕ, ◌+◌, ◌≤◌, pos, ◌+ℤ◌, List, ◌∷◌, Some, refl, sym, ap, ◌∙◌, subst, arith, eq-eqb}
+use Rattle.std.proofs.Common.{slice_index_or}
 use Rattle.std.proofs.lemmas.Int.{ints}
-use Rattle.vms_base.specs.declared.groups.Diffs.{Diffs}
-use Rattle.vms_base.specs.declared.ids.CpuId.{CpuId}
-use Rattle.vms_base.specs.declared.ids.GroupId.{GroupId}
-use Rattle.vms_base.specs.declared.ids.PlaceId.{PlaceId}
-use Rattle.vms_base.specs.Places.{Shape, IsCpu, IsCounter, place_of}
-use Rattle.vms_base.specs.Volumes.{most_volume}
-use Rattle.vms_history.specs.Events.{own}
-use Rattle.vms_core.specs.declared.steps.Facts.{Facts}
-use Rattle.vms_core.specs.declared.steps.Step.{Step}
-use Rattle.vms_core.specs.declared.steps.Step.TheVariants.{LoadT, LoadD, Miss}
-use Rattle.vms_core.specs.Cells.{eight_zeros}
-use Rattle.vms_core.specs.Own.{CarriesNothing, carried, carried_of_item, found, loaded, moved, moved_of_item}
-use Rattle.vms_core.specs.Pages.{pages}
-use Rattle.vms_core.proofs.LiveOwners.{owned-online}
-use Rattle.vms_count.specs.Changing.{HasLoaded}
-use Rattle.vms_seats.specs.Passes.{Pass, IsLive}
-use Rattle.vms_seats.specs.Steps.{MadeOne}
-use Rattle.vms_words.specs.PagePasses.{OwningPass}
-use Rattle.vms_words.specs.Puts.{MayPut, HasMissed}
+use Rattle.vms_calls.specs.Common.{Diffs, CpuId, GroupId, PlaceId, Shape, IsCpu, IsCounter, place_of, most_volume, own}
+use Rattle.vms_calls.specs.Common.{Facts, Step, LoadT, LoadD, Miss, eight_zeros, CarriesNothing, carried}
+use Rattle.vms_calls.specs.Common.{carried_of_item, found, loaded, moved, moved_of_item, pages}
+use Rattle.vms_core.proofs.Common.{owned-online}
+use Rattle.vms_count.specs.Common.{HasLoaded}
+use Rattle.vms_seats.specs.Common.{Pass, IsLive, MadeOne}
+use Rattle.vms_words.specs.Common.{OwningPass, MayPut, HasMissed}
 use Rattle.vms_thread_trials.proofs.FirstCounters.{own-next}
 
 -- the CPU of a pass is one of the layout

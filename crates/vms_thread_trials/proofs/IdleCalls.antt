@@ -1,20 +1,13 @@
 -- A pass carries nothing between two calls.
 use Rattle.std.proofs.Common.{◌≡◌, List, refl, sym, ◌∙◌, subst}
 use Rattle.std.specs.Prelude.{ℤ, OnOk, OnErr, Result, Ok, Err}
-use Rattle.vms_base.specs.declared.ids.CounterId.{CounterId}
-use Rattle.vms_base.specs.declared.kinds.Mode.{Mode}
-use Rattle.vms_history.specs.Events.{own}
-use Rattle.vms_core.specs.declared.steps.Facts.{Facts}
-use Rattle.vms_core.specs.declared.steps.Step.{Step}
-use Rattle.vms_core.specs.Own.{CarriesNothing}
-use Rattle.vms_core.specs.Pages.{pages, History}
-use Rattle.vms_seats.specs.Passes.{Pass, Shared}
-use Rattle.vms_seats.specs.Steps.{Made}
-use Rattle.vms_words.specs.PagePasses.{OwningPass}
-use Rattle.vms_count.specs.Changing.{HasChanged}
-use Rattle.vms_call_trials.specs.Ready.{IsIdle, AreIdle, HaveBegun}
-use Rattle.vms_call_trials.proofs.IdlePasses.{idle-made, begun-later}
-use Rattle.vms_thread_trials.specs.IdleCalls.{StaysIdle}
+use Rattle.vms_calls.specs.Common.{CounterId, Mode, own, Facts, Step, CarriesNothing, pages, History}
+use Rattle.vms_seats.specs.Common.{Pass, Shared, Made}
+use Rattle.vms_words.specs.Common.{OwningPass}
+use Rattle.vms_count.specs.Common.{HasChanged}
+use Rattle.vms_call_trials.specs.Common.{IsIdle, AreIdle, HaveBegun}
+use Rattle.vms_call_trials.proofs.Common.{idle-made, begun-later}
+use Rattle.vms_thread_trials.specs.Common.{StaysIdle}
 
 -- a pass that made the steps of a call, and carries nothing again
 pub stays-made : (table : Shared Facts) (new old : Pass Facts Step) (steps : List Step) → IsIdle table old

@@ -1,2 +1,3 @@
 pub mod IdleCalls
 pub mod Machines
+pub mod Common

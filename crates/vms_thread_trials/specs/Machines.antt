@@ -1,6 +1,6 @@
 -- The machine of these trials.
 use Rattle.std.specs.Prelude.{◌≡◌}
-use Rattle.vms_base.specs.Places.{Shape, IsLayout}
+use Rattle.vms_calls.specs.Common.{Shape, IsLayout}
 
 -- a place has eight items
 pub record IsNarrow (shape : Shape) : Type 0 where

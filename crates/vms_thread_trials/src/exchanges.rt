@@ -1,11 +1,8 @@
 ghost use Rattle.std.specs.Prelude.{◌+◌, ◌≤◌, slice_index_or};
-ghost use Rattle.vms_base.specs.Places.{IsCpu};
-ghost use Rattle.vms_base.specs.Volumes.{most_volume};
-ghost use Rattle.vms_call_trials.specs.Ready.{IsIdle};
-ghost use Rattle.vms_core.specs.Own.{CarriesNothing};
-ghost use Rattle.vms_count.specs.Changing.{CarriesFor, HasLoaded};
-ghost use Rattle.vms_history.specs.Events.{own};
-ghost use Rattle.vms_seats.specs.Passes.{IsOf};
+ghost use Rattle.vms_calls.specs.Common.{IsCpu, most_volume, CarriesNothing, own};
+ghost use Rattle.vms_call_trials.specs.Common.{IsIdle};
+ghost use Rattle.vms_count.specs.Common.{CarriesFor, HasLoaded};
+ghost use Rattle.vms_seats.specs.Common.{IsFrom};
 ghost use Rattle.vms_thread_trials.specs.Machines.{IsNarrow};
 
 use crate::openings::{CPU_0, FREE, Passes, Running, start};
@@ -20,7 +17,7 @@ fn take_first(table: &PageTable, control: &mut ControlPass, cpu: CpuId) -> i64
     requires idle { IsIdle table.now control.old }
     requires narrow { IsNarrow table.now.facts.layout }
     requires cpu { IsCpu table.now.facts.layout cpu.number }
-    ensures table { IsOf control.new table.now }
+    ensures table { IsFrom control.new table.now }
     ensures carries { CarriesFor table.now.facts.layout 0 result (own control.new.seen control.new.number) }
 {
     let group = table.layout().group(FREE);
@@ -30,10 +27,10 @@ fn take_first(table: &PageTable, control: &mut ControlPass, cpu: CpuId) -> i64
 
 /// The control pass adds what it took to both global values.
 fn carry(table: &PageTable, control: &mut ControlPass, amount: i64)
-    requires table { IsOf control.old table.now }
+    requires table { IsFrom control.old table.now }
     requires narrow { IsNarrow table.now.facts.layout }
     requires carries { CarriesFor table.now.facts.layout 0 amount (own control.old.seen control.old.number) }
-    ensures { IsOf control.new table.now }
+    ensures { IsFrom control.new table.now }
 {
     if amount != 0 {
         let item = table.layout().item_of(FREE);
@@ -50,13 +47,13 @@ fn exchange(
     control: &mut ControlPass,
     threshold: u32,
 ) -> [PutDone; 2]
-    requires table { IsOf owner.old.pass table.now }
+    requires table { IsFrom owner.old.pass table.now }
     requires control { IsIdle table.now control.old }
     requires narrow { IsNarrow table.now.facts.layout }
     requires loaded { HasLoaded table.now.facts.layout owner.old.pass (record { number = 0 }) threshold }
     requires nothing { CarriesNothing table.now.facts.layout (own owner.old.pass.seen owner.old.pass.number) }
     requires room { slice_index_or owner.old.volume 0 0 + 2 ≤ most_volume }
-    ensures { IsOf control.new table.now }
+    ensures { IsFrom control.new table.now }
 {
     let cpu = owner.cpu();
     let group = table.layout().group(FREE);
@@ -85,7 +82,7 @@ fn put_after_a_take(
     requires control { IsIdle table.now control.old }
     requires narrow { IsNarrow table.now.facts.layout }
     requires room { slice_index_or owner.old.volume 0 0 + 2 ≤ most_volume }
-    ensures { IsOf control.new table.now }
+    ensures { IsFrom control.new table.now }
 {
     let _ = owner.cpu();
     let place = table.layout().place_of(FREE);
@@ -95,7 +92,7 @@ fn put_after_a_take(
 
 /// The free pages of the zone and system-wide, and those that a CPU hides.
 fn look(table: &PageTable, control: &mut ControlPass, cpu: CpuId) -> (i64, i64, i64)
-    requires table { IsOf control.old table.now }
+    requires table { IsFrom control.old table.now }
     requires narrow { IsNarrow table.now.facts.layout }
     requires cpu { IsCpu table.now.facts.layout cpu.number }
 {

@@ -1,8 +1,7 @@
 ghost use Rattle.std.specs.Prelude.{◌≡◌, [], IfOk};
-ghost use Rattle.vms_base.specs.Headers.{IsHeader};
-ghost use Rattle.vms_call_trials.specs.Ready.{AreIdle, HaveBegun, MayOwn};
-ghost use Rattle.vms_core.specs.Cells.{HasShape};
-ghost use Rattle.vms_seats.specs.Passes.{IsOf};
+ghost use Rattle.vms_calls.specs.Common.{IsHeader, HasShape};
+ghost use Rattle.vms_call_trials.specs.Common.{AreIdle, HaveBegun, MayOwn};
+ghost use Rattle.vms_seats.specs.Common.{IsFrom};
 ghost use Rattle.vms_thread_trials.specs.Machines.{IsNarrow};
 
 use std::alloc::Global;
@@ -102,7 +101,7 @@ fn opened(alloc: Global, header: &Header, base: State) -> Result<Opening, Fail>
     requires { IsHeader header.now }
     ensures narrow { IfOk result (λ made. IsNarrow made.table.facts.layout) }
     ensures shaped { IfOk result (λ made. HasShape made.table.facts.layout made.base) }
-    ensures main { IfOk result (λ made. IsOf made.main made.table × (made.main.seen ≡ [])) }
+    ensures main { IfOk result (λ made. IsFrom made.main made.table × (made.main.seen ≡ [])) }
     ensures owns { IfOk result (λ made. MayOwn made.table 0 × MayOwn made.table 1) }
 {
     let facts = Facts {
@@ -130,10 +129,10 @@ fn opened(alloc: Global, header: &Header, base: State) -> Result<Opening, Fail>
 
 /// The passes of a table that was made just now.
 fn begun(alloc: Global, table: &PageTable, main: &mut MainPass) -> Result<Passes, Memory>
-    requires table { IsOf main.old table.now }
+    requires table { IsFrom main.old table.now }
     requires begins { main.old.seen ≡ [] }
     requires owns { MayOwn table.now 0 × MayOwn table.now 1 }
-    ensures main { IsOf main.new table.now }
+    ensures main { IsFrom main.new table.now }
     ensures idle { IfOk result (λ passes. AreIdle table.now passes.first.pass passes.second.pass passes.control) }
     ensures begun { IfOk result (λ passes.
         HaveBegun main.new.seen passes.first.pass.number passes.second.pass.number passes.control.number) }
@@ -155,7 +154,7 @@ fn begun(alloc: Global, table: &PageTable, main: &mut MainPass) -> Result<Passes
 pub(crate) fn start(alloc: Global, hidden: i64) -> Result<Running, Fail>
     ensures narrow { IfOk result (λ made. IsNarrow made.table.facts.layout) }
     ensures shaped { IfOk result (λ made. HasShape made.table.facts.layout made.end) }
-    ensures main { IfOk result (λ made. IsOf made.main made.table) }
+    ensures main { IfOk result (λ made. IsFrom made.main made.table) }
     ensures owns { IfOk result (λ made. MayOwn made.table 0) }
     ensures idle { IfOk result (λ made.
         AreIdle made.table made.passes.first.pass made.passes.second.pass made.passes.control) }
@@ -187,7 +186,7 @@ pub(crate) fn close(
     control: ControlPass,
     mut end: State,
 ) -> State
-    requires main { IsOf main table }
+    requires main { IsFrom main table }
     requires idle { AreIdle table first.pass second.pass control }
     requires begun { HaveBegun main.seen first.pass.number second.pass.number control.number }
     requires shaped { HasShape table.facts.layout end }

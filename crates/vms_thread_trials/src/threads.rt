@@ -1,5 +1,5 @@
-ghost use Rattle.vms_base.specs.Places.{IsCounter};
-ghost use Rattle.vms_call_trials.specs.Ready.{IsIdle, MayOwn};
+ghost use Rattle.vms_calls.specs.Common.{IsCounter};
+ghost use Rattle.vms_call_trials.specs.Common.{IsIdle, MayOwn};
 ghost use Rattle.vms_thread_trials.specs.IdleCalls.{StaysIdle};
 ghost use Rattle.vms_thread_trials.specs.Machines.{IsNarrow};
 

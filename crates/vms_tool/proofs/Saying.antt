@@ -1,21 +1,17 @@
 -- What is said under words.
-use Rattle.std.proofs.Common.{◌≡◌, ◌≢◌, ◌∙◌, ℕ, List, [], ◌++◌, take, drop, take-append-drop, append-nil}
-use Rattle.std.proofs.Common.{Option, Some, None, refl, sym, subst}
+use Rattle.std.proofs.Common.{◌≡◌, ◌≢◌, ◌∙◌, ℕ, List, [], ◌++◌, take, drop, take-append-drop, append-nil, Option, Some}
+use Rattle.std.proofs.Common.{None, refl, sym, subst}
 use Rattle.std.proofs.lemmas.Option.{same_Some}
 use Rattle.std.specs.Io.KnownBytes.{Appends, Consumes, IsAtEnd}
 use Rattle.std.proofs.KnownBytes.{Consumes-nil}
-use Rattle.vms_check.specs.Checking.{check, nothing_shown}
+use Rattle.vms_check.specs.Common.{check, shown_by_check}
 use Rattle.vms_gen.specs.declared.numbers.Numbers.{Numbers}
-use Rattle.vms_replay.specs.FileOrders.{SaysReplay}
-use Rattle.vms_replay.specs.MadePhases.{MadePhase}
-use Rattle.vms_replay.specs.ReplayAnswers.{AnswersReplayed}
-use Rattle.vms_run.specs.MadeTexts.{AnswersMade}
-use Rattle.vms_run.specs.Threads.{makes_on_threads}
-use Rattle.vms_stream.specs.Answers.{Answers, FaultsOfSink, FaultsOfSource, Says}
+use Rattle.vms_replay.specs.Common.{SaysReplay, PastPhase, AnswersReplayed}
+use Rattle.vms_run.specs.Common.{AnswersMade, makes_on_threads}
+use Rattle.vms_stream.specs.Common.{TakesAndWrites, FaultsOfSink, FaultsOfSource, Says}
 use Rattle.vms_stream.specs.declared.statuses.Status.{Status}
 use Rattle.vms_stream.specs.declared.statuses.Status.TheVariants.{Words, ReadFault, WriteFault}
-use Rattle.vms_tool.specs.Answers.{AnswersUnder, SaysOf, ShownAs, ShowsUsage, usage_line}
-use Rattle.vms_tool.specs.Naming.{command_of}
+use Rattle.vms_tool.specs.Common.{AnswersUnder, SaysOf, ShownAs, ShowsUsage, usage_line, command_of}
 use Rattle.vms_tool.specs.declared.naming.Command.{Command}
 use Rattle.vms_tool.specs.declared.naming.Command.TheVariants.{Check, Replay, Run, Gen}
 
@@ -43,24 +39,24 @@ unfailed_reads left faults src _ none = refl
 
 module _ {S K : Type 0} (left : S → Option (List ℕ)) (read_faults : S → ℕ) (held : K → Option (List ℕ))
     (write_faults : K → ℕ) (src src' : S) (out out' : K) (words : List (List ℕ)) (status : Status)
-    (old new : List MadePhase) where
+    (old new : List PastPhase) where
   -- what a command answers is what its words say
-  under_named : (named : Option Command) (made : List MadePhase) → command_of words ≡ named → new ≡ old ++ made
-      → Answers left read_faults held write_faults src src' out out' status (SaysOf named made)
+  under_named : (named : Option Command) (made : List PastPhase) → command_of words ≡ named → new ≡ old ++ made
+      → TakesAndWrites left read_faults held write_faults src src' out out' status (SaysOf named made)
       → AnswersUnder words old new left read_faults held write_faults src src' out out' status
   under_named named made is grows answers = record {
     made = made;
     grows = grows;
     answers = subst (λ (n : Option Command).
-        Answers left read_faults held write_faults src src' out out' status (SaysOf n made)) (sym is) answers;
+        TakesAndWrites left read_faults held write_faults src src' out out' status (SaysOf n made)) (sym is) answers;
   }
 
   -- the same answers, of which more is said
   answers_saying : (says more : Status → List ℕ → List ℕ → Type 0 → Type 0)
       → ((taken written : List ℕ) (at_end : Type 0) → says status taken written at_end
       → more status taken written at_end)
-      → Answers left read_faults held write_faults src src' out out' status says
-      → Answers left read_faults held write_faults src src' out out' status more
+      → TakesAndWrites left read_faults held write_faults src src' out out' status says
+      → TakesAndWrites left read_faults held write_faults src src' out out' status more
   answers_saying says more follows answers = record {
     taken = answers.taken;
     written = answers.written;
@@ -73,14 +69,14 @@ module _ {S K : Type 0} (left : S → Option (List ℕ)) (read_faults : S → �
 
   -- the commands that make no phase on threads
   pub under_check : command_of words ≡ Some Check → new ≡ old
-      → Answers left read_faults held write_faults src src' out out' status (Says check nothing_shown)
+      → TakesAndWrites left read_faults held write_faults src src' out out' status (Says check shown_by_check)
       → AnswersUnder words old new left read_faults held write_faults src src' out out' status
   under_check is same answers = under_named (Some Check) [] is (same ∙ sym (append-nil old))
-      (answers_saying (Says check nothing_shown) (SaysOf (Some Check) []) (λ taken written at_end says. (refl, says))
+      (answers_saying (Says check shown_by_check) (SaysOf (Some Check) []) (λ taken written at_end says. (refl, says))
       answers)
 
   pub under_replay : command_of words ≡ Some Replay → new ≡ old
-      → Answers left read_faults held write_faults src src' out out' status SaysReplay
+      → TakesAndWrites left read_faults held write_faults src src' out out' status SaysReplay
       → AnswersUnder words old new left read_faults held write_faults src src' out out' status
   under_replay is same answers = under_named (Some Replay) [] is (same ∙ sym (append-nil old))
       (answers_saying SaysReplay (SaysOf (Some Replay) []) (λ taken written at_end says. (refl, says)) answers)

@@ -1,14 +1,12 @@
 -- What each status says, by the words.
 use Rattle.std.specs.Prelude.{◌≡◌, ◌≢◌, ℕ, List, [], ◌∷◌, ◌++◌, codes, Option, Some, None}
 use Rattle.std.specs.Io.KnownBytes.{Appends}
-use Rattle.vms_check.specs.Checking.{check, nothing_shown}
-use Rattle.vms_gen.specs.Texts.{made_text}
+use Rattle.vms_check.specs.Common.{check, shown_by_check}
+use Rattle.vms_gen.specs.Common.{made_text}
 use Rattle.vms_gen.specs.declared.numbers.Numbers.{Numbers}
-use Rattle.vms_replay.specs.FileOrders.{SaysReplay}
-use Rattle.vms_replay.specs.MadePhases.{MadePhase}
-use Rattle.vms_replay.specs.ReplayAnswers.{SaysReplayed}
-use Rattle.vms_run.specs.Threads.{makes_on_threads}
-use Rattle.vms_stream.specs.Answers.{Answers, Says}
+use Rattle.vms_replay.specs.Common.{SaysReplay, PastPhase, SaysReplayed}
+use Rattle.vms_run.specs.Common.{makes_on_threads}
+use Rattle.vms_stream.specs.Common.{TakesAndWrites, Says}
 use Rattle.vms_stream.specs.declared.statuses.Status.{Status}
 use Rattle.vms_stream.specs.declared.statuses.Status.TheVariants.{Words, ReadFault, WriteFault}
 use Rattle.vms_tool.specs.Naming.{command_of}
@@ -32,7 +30,7 @@ pub record ShowsUsage (held held' : Option (List ℕ)) (status : Status) : Type 
 
 -- what each status of `gen` says: nothing was taken of the source. Of the text that its numbers make a first part was
 -- read, and the phases that were made of it and what was written are those of a run that takes it. No read failed
-pub record SaysMade (numbers : Numbers) (made : List MadePhase) (status : Status) (taken written : List ℕ)
+pub record SaysMade (numbers : Numbers) (made : List PastPhase) (status : Status) (taken written : List ℕ)
     : Type 0 where
   pub untaken : taken ≡ []
   pub read : List ℕ
@@ -43,9 +41,9 @@ pub record SaysMade (numbers : Numbers) (made : List MadePhase) (status : Status
 
 -- what each status says of a command that made these phases on threads; with words that name none nothing is read, and
 -- the usage line is written
-abbrev pub SaysOf : Option Command → List MadePhase → Status → List ℕ → List ℕ → Type 0 → Type 0
+abbrev pub SaysOf : Option Command → List PastPhase → Status → List ℕ → List ℕ → Type 0 → Type 0
 SaysOf (Some Check) made status taken written at_end =
-    (made ≡ []) × Says check nothing_shown status taken written at_end
+    (made ≡ []) × Says check shown_by_check status taken written at_end
 SaysOf (Some Replay) made status taken written at_end = (made ≡ []) × SaysReplay status taken written at_end
 SaysOf (Some Run) made status taken written at_end = SaysReplayed makes_on_threads made status taken written at_end
 SaysOf (Some (Gen numbers)) made status taken written at_end = SaysMade numbers made status taken written
@@ -53,12 +51,12 @@ SaysOf None made status taken written at_end = (made ≡ []) × (taken ≡ []) �
 
 -- what the program did under these words: the phases that it made on threads are appended to the histories that stood,
 -- and its status says of them what was taken of the source, what was written to the sink, and which calls failed
-pub record AnswersUnder {S K : Type 0} (words : List (List ℕ)) (old new : List MadePhase)
+pub record AnswersUnder {S K : Type 0} (words : List (List ℕ)) (old new : List PastPhase)
     (left : S → Option (List ℕ)) (read_faults : S → ℕ) (held : K → Option (List ℕ)) (write_faults : K → ℕ)
     (src src' : S) (out out' : K) (status : Status) : Type 0 where
-  pub made : List MadePhase
+  pub made : List PastPhase
   pub grows : new ≡ old ++ made
-  pub answers : Answers left read_faults held write_faults src src' out out' status
+  pub answers : TakesAndWrites left read_faults held write_faults src src' out out' status
       (SaysOf (command_of words) made)
 
 -- words with which nothing is read: those of `gen`, and those that name no command

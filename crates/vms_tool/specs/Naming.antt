@@ -1,6 +1,6 @@
 -- Which command words name.
 use Rattle.std.specs.Prelude.{ℕ, List, [], ◌∷◌, codes, bytes_eq, if◌then◌else◌, Option, Some, None, option_map}
-use Rattle.vms_gen.specs.Numbers.{InRange, numbers_named}
+use Rattle.vms_gen.specs.Common.{InRange, numbers_named}
 use Rattle.vms_tool.specs.declared.naming.Command.{Command}
 use Rattle.vms_tool.specs.declared.naming.Command.TheVariants.{Check, Replay, Run, Gen}
 

@@ -1,5 +1,5 @@
 ghost use Rattle.std.specs.Prelude.{◌≡◌, ◌⊎◌, None, Some, map, string_bytes};
-ghost use Rattle.vms_stream.specs.Answers.{FaultsOfSink};
+ghost use Rattle.vms_stream.specs.Common.{FaultsOfSink};
 ghost use Rattle.vms_tool.specs.Answers.{AnswersUnder, ReadsNothing, ShowsUsage};
 ghost use Rattle.vms_tool.specs.Naming.{command_of};
 

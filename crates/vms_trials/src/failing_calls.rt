@@ -48,9 +48,6 @@ static TRIALS: [Piecewise<'static>; 2] = [
 /// The most bytes of a read and of a write.
 const PIECE: usize = 64;
 
-/// The bytes of the text up to the word `go`.
-const UP_TO_GO: usize = LANES.len() - 1;
-
 /// Whether these devices lead to this status, with at most so many bytes written, which begin the output.
 fn begins_output<R: Threads + Wait + Sync>(
     rt: &R,
@@ -141,75 +138,6 @@ fn each_write_fails_in_turn(rt: HostRuntime) -> Result<(), Fail> {
             fails_with_each_write(&rt, rt.alloc(), piecewise)?,
             "{}",
             piecewise.trial.name
-        );
-    }
-    Ok(())
-}
-
-#[test]
-fn a_write_of_eight_bytes_stays(rt: HostRuntime) -> Result<(), Fail> {
-    let devices = Devices {
-        write: 8,
-        failing_writes: &[2],
-        ..SOUND
-    };
-    for piecewise in &TRIALS {
-        assert!(rt;
-            begins_output(
-                &rt,
-                rt.alloc(),
-                &piecewise.trial,
-                devices,
-                Status::WriteFault,
-                8
-            )?,
-            "{}",
-            piecewise.trial.name
-        );
-    }
-    Ok(())
-}
-
-/// Whether a command refuses the header of a text that is cut before its word `go`, and else tells by its status
-/// whether lines were refused.
-fn tells_refusals<R: Threads + Wait + Sync>(
-    rt: &R,
-    alloc: Global,
-    command: &str,
-    text: &[u8],
-) -> Result<bool, Memory> {
-    let devices = Devices {
-        room: 2048,
-        ..SOUND
-    };
-    let (status, _src, out) = run(rt, alloc, &[command], text, devices)?;
-    if text.len() < UP_TO_GO {
-        return Ok(status == Status::Header);
-    }
-    let counts_all = out.bytes().ends_with(b" refused 0\n".as_slice());
-    Ok(match status {
-        Status::Done => counts_all,
-        Status::Refused => !counts_all,
-        _ => false,
-    })
-}
-
-#[test]
-fn a_text_is_cut_after_each_byte(rt: HostRuntime) -> Result<(), Fail> {
-    let text = [LANES, FIRST_PHASE, SECOND_PHASE].concat(rt.alloc())?;
-    let bytes = text.as_bytes();
-    for size in 0..=bytes.len() {
-        assert!(rt;
-            tells_refusals(&rt, rt.alloc(), "replay", &bytes[..size])?,
-            "replay, {size} bytes"
-        );
-        assert!(rt;
-            tells_refusals(&rt, rt.alloc(), "run", &bytes[..size])?,
-            "run, {size} bytes"
-        );
-        assert!(rt;
-            tells_refusals(&rt, rt.alloc(), "check", &bytes[..size])?,
-            "check, {size} bytes"
         );
     }
     Ok(())

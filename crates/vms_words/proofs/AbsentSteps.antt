@@ -1,27 +1,19 @@
 -- A dead CPU may be made absent that might be made so before others acted.
-use Rattle.std.proofs.Common.{◌≡◌, ◌≢◌, ◌∷◌, Option, Some, None, nat_eq, refl, sym, ap, ◌∙◌}
-use Rattle.std.proofs.Common.{if◌then◌else◌, eq-eqb, eqb-true}
-use Rattle.vms_base.specs.declared.ids.CpuId.{CpuId}
-use Rattle.vms_base.specs.declared.kinds.CpuState.TheVariants.{Online, Dead, Absent}
-use Rattle.vms_history.specs.PassSteps.{GoesOnWithout}
-use Rattle.vms_history.specs.Passes.{owner_in}
-use Rattle.vms_history.proofs.Choices.{if-never}
-use Rattle.vms_seats.specs.Passes.{Pass}
-use Rattle.vms_seats.specs.Steps.{MayStep}
-use Rattle.vms_core.specs.declared.states.State.{State}
-use Rattle.vms_core.specs.declared.steps.Facts.{Facts}
-use Rattle.vms_core.specs.declared.steps.Step.{Step}
-use Rattle.vms_core.specs.declared.steps.Step.TheVariants.{SetO}
-use Rattle.vms_core.specs.Cells.{threshold_at, threshold_sets_at, cpu_at, with_cpu}
-use Rattle.vms_core.specs.Conditions.{SetsAbsent}
-use Rattle.vms_core.specs.Pages.{pages, History, IsLegal, state_after}
-use Rattle.vms_core.specs.Steps.{role, effect}
-use Rattle.vms_core.proofs.KnowledgeKept.{owner_in-goes_on, control-knows_later}
-use Rattle.vms_core.proofs.Settings.{threshold_at-newest, sets-newest, cpu_at-newest}
+use Rattle.std.proofs.Common.{◌≡◌, ◌≢◌, ◌∷◌, Option, Some, None, nat_eq, refl, sym, ap, ◌∙◌, if◌then◌else◌, eq-eqb}
+use Rattle.std.proofs.Common.{eqb-true}
+use Rattle.vms_calls.specs.Common.{CpuId, Online, Dead, Absent, GoesOnWithout, owner_in, State, Facts, Step, SetO}
+use Rattle.vms_calls.specs.Common.{threshold_at, threshold_sets_at, cpu_at, with_cpu, SetsAbsent, pages, History}
+use Rattle.vms_calls.specs.Common.{state_after, role, effect}
+use Rattle.vms_history.proofs.Common.{if-never}
+use Rattle.vms_seats.specs.Common.{Pass, MayStep}
+use Rattle.vms_core.specs.Pages.{IsLegal}
+use Rattle.vms_core.proofs.Common.{owner_in-goes_on, control-knows_later, threshold_at-newest, sets-newest}
+use Rattle.vms_core.proofs.Common.{cpu_at-newest}
 use Rattle.vms_words.specs.declared.spots.Spot.{Spot}
 use Rattle.vms_words.specs.declared.spots.Spot.TheVariants.{Value, System, Group, Threshold, Mark, Cpu, Acknowledgement}
-use Rattle.vms_words.specs.Shown.{shown, word_at, threshold_word, cpu_word}
-use Rattle.vms_words.specs.Spots.{IsSpot, blocks_of, place_in}
+use Rattle.vms_words.specs.Shown.{shown}
+use Rattle.vms_words.specs.Common.{spot_word, threshold_word, cpu_word, IsSpot, place_in}
+use Rattle.vms_words.specs.Spots.{blocks_of}
 use Rattle.vms_words.proofs.DeadZeros.{zeros-stand}
 use Rattle.vms_words.proofs.SetSteps.{event, set-may}
 
@@ -49,14 +41,14 @@ module _ (pass : Pass Facts Step) (c : CpuId)
           goes.extends sets.zeros;
     }
 
-    left : (other : Spot) → word_at (with_cpu s c.number Absent) other ≡ word_at s other
-        → word_at (effect pass.facts (owner_in role h pass.number) (SetO c) s) other ≡ word_at s other
+    left : (other : Spot) → spot_word (with_cpu s c.number Absent) other ≡ spot_word s other
+        → spot_word (effect pass.facts (owner_in role h pass.number) (SetO c) s) other ≡ spot_word s other
     left other same =
-        ap (λ x. word_at x other) (absent-effect pass.facts (owner_in role h pass.number) s c) ∙ same
+        ap (λ x. spot_word x other) (absent-effect pass.facts (owner_in role h pass.number) s c) ∙ same
 
     absent-others : IsLegal pass.facts (event pass.number (SetO c) ∷ h) → (other : Spot)
         → IsSpot pass.facts.layout other → other ≢ Cpu c
-        → word_at (state_after pass.facts (event pass.number (SetO c) ∷ h)) other ≡ word_at s other
+        → spot_word (state_after pass.facts (event pass.number (SetO c) ∷ h)) other ≡ spot_word s other
     absent-others legal (Value k) known differs = left (Value k) refl
     absent-others legal (System i) known differs = left (System i) refl
     absent-others legal (Group d j) known differs = left (Group d j) refl

@@ -1,29 +1,17 @@
 -- An acknowledgement may be made, whatever others did since.
-use Rattle.std.proofs.Common.{◌≡◌, ◌≢◌, ℕ, suc, ◌∷◌, ◌&&◌, Some, nat_eq, refl, sym, ap, ◌∙◌}
-use Rattle.std.proofs.Common.{if◌then◌else◌}
-use Rattle.vms_base.specs.declared.ids.CpuId.{CpuId}
-use Rattle.vms_base.specs.declared.ids.PlaceId.{PlaceId}
-use Rattle.vms_base.specs.Places.{IsCpu, IsZone}
-use Rattle.vms_history.specs.PassSteps.{GoesOnWithout}
-use Rattle.vms_history.specs.Passes.{owner_in}
-use Rattle.vms_history.proofs.Choices.{if-never}
-use Rattle.vms_seats.specs.Passes.{Pass}
-use Rattle.vms_seats.specs.Steps.{MayStep}
-use Rattle.vms_core.specs.declared.states.State.{State}
-use Rattle.vms_core.specs.declared.steps.Facts.{Facts}
-use Rattle.vms_core.specs.declared.steps.Step.{Step}
-use Rattle.vms_core.specs.declared.steps.Step.TheVariants.{SetA}
-use Rattle.vms_core.specs.Cells.{acknowledged_at, with_acknowledged}
-use Rattle.vms_core.specs.Conditions.{Acknowledges}
-use Rattle.vms_core.specs.Own.{loaded, took, has_put}
-use Rattle.vms_core.specs.Pages.{pages, History, IsLegal, state_after}
-use Rattle.vms_core.specs.Steps.{role, effect}
-use Rattle.vms_core.proofs.KnowledgeKept.{owner_in-goes_on}
-use Rattle.vms_core.proofs.Settings.{acknowledged_after, acknowledged_at-newest}
+use Rattle.std.proofs.Common.{◌≡◌, ◌≢◌, ℕ, suc, ◌∷◌, ◌&&◌, Some, nat_eq, refl, sym, ap, ◌∙◌, if◌then◌else◌}
+use Rattle.vms_calls.specs.Common.{CpuId, PlaceId, IsCpu, IsZone, GoesOnWithout, owner_in, State, Facts, Step, SetA}
+use Rattle.vms_calls.specs.Common.{acknowledged_at, with_acknowledged, Acknowledges, loaded, took, has_put, pages}
+use Rattle.vms_calls.specs.Common.{History, state_after, role, effect}
+use Rattle.vms_history.proofs.Common.{if-never}
+use Rattle.vms_seats.specs.Common.{Pass, MayStep}
+use Rattle.vms_core.specs.Pages.{IsLegal}
+use Rattle.vms_core.proofs.Common.{owner_in-goes_on, acknowledged_after, acknowledged_at-newest}
 use Rattle.vms_words.specs.declared.spots.Spot.{Spot}
 use Rattle.vms_words.specs.declared.spots.Spot.TheVariants.{Value, System, Group, Threshold, Mark, Cpu, Acknowledgement}
-use Rattle.vms_words.specs.Shown.{shown, word_at, acknowledgement_word}
-use Rattle.vms_words.specs.Spots.{IsSpot, blocks_of, place_in}
+use Rattle.vms_words.specs.Shown.{shown}
+use Rattle.vms_words.specs.Common.{spot_word, acknowledgement_word, IsSpot, place_in}
+use Rattle.vms_words.specs.Spots.{blocks_of}
 use Rattle.vms_words.proofs.SetSteps.{event, set-may, other-cell, same-cell}
 
 module _ (pass : Pass Facts Step) (d : CpuId) (g : PlaceId) (a : ℕ)
@@ -51,9 +39,9 @@ module _ (pass : Pass Facts Step) (d : CpuId) (g : PlaceId) (a : ℕ)
     owner = owner_in-goes_on pass.facts h pass.seen pass.number goes ∙ owns
 
     -- what the step leaves of words other than acknowledgements
-    left : (other : Spot) → word_at (with_acknowledged s d.number g.number a) other ≡ word_at s other
-        → word_at (effect pass.facts (owner_in role h pass.number) (SetA g a) s) other ≡ word_at s other
-    left other same = ap (λ who. word_at (effect pass.facts who (SetA g a) s) other) owner ∙ same
+    left : (other : Spot) → spot_word (with_acknowledged s d.number g.number a) other ≡ spot_word s other
+        → spot_word (effect pass.facts (owner_in role h pass.number) (SetA g a) s) other ≡ spot_word s other
+    left other same = ap (λ who. spot_word (effect pass.facts who (SetA g a) s) other) owner ∙ same
 
     newest : IsLegal pass.facts (event pass.number (SetA g a) ∷ h) → (c f : ℕ) → IsZone pass.facts.layout f
         → acknowledged_at (state_after pass.facts (event pass.number (SetA g a) ∷ h)) c f
@@ -64,7 +52,7 @@ module _ (pass : Pass Facts Step) (d : CpuId) (g : PlaceId) (a : ℕ)
 
     acknowledge-others : IsLegal pass.facts (event pass.number (SetA g a) ∷ h) → (other : Spot)
         → IsSpot pass.facts.layout other → other ≢ Acknowledgement d g
-        → word_at (state_after pass.facts (event pass.number (SetA g a) ∷ h)) other ≡ word_at s other
+        → spot_word (state_after pass.facts (event pass.number (SetA g a) ∷ h)) other ≡ spot_word s other
     acknowledge-others legal (Value k) known differs = left (Value k) refl
     acknowledge-others legal (System i) known differs = left (System i) refl
     acknowledge-others legal (Group c j) known differs = left (Group c j) refl

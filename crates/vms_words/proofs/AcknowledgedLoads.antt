@@ -1,19 +1,11 @@
 -- A number that the control pass finds acknowledged is one of the sets that it keeps, and so fits.
 use Rattle.std.proofs.Common.{◌≡◌, ℕ, zero, suc, ◌^◌, ◌<◌, ◌≤◌, ◌∷◌, Some, length, ◌∙◌, subst, arith}
-use Rattle.vms_base.specs.declared.ids.CpuId.{CpuId}
-use Rattle.vms_base.specs.declared.ids.PlaceId.{PlaceId}
-use Rattle.vms_seats.specs.Passes.{Pass}
-use Rattle.vms_seats.specs.Steps.{MadeOne}
-use Rattle.vms_core.specs.declared.steps.Facts.{Facts}
-use Rattle.vms_core.specs.declared.steps.Step.{Step}
-use Rattle.vms_core.specs.declared.steps.Step.TheVariants.{LoadA}
-use Rattle.vms_core.specs.Cells.{acknowledged_at}
-use Rattle.vms_core.specs.Pages.{pages, IsLegal, state_after}
-use Rattle.vms_core.proofs.KeptLaws.{laws-kept}
-use Rattle.vms_core.proofs.KnowledgeKept.{control-knows_later}
+use Rattle.vms_calls.specs.Common.{CpuId, PlaceId, Facts, Step, LoadA, acknowledged_at, pages, state_after}
+use Rattle.vms_seats.specs.Common.{Pass, MadeOne}
+use Rattle.vms_core.specs.Pages.{IsLegal}
+use Rattle.vms_core.proofs.Common.{laws-kept, control-knows_later}
 use Rattle.vms_words.specs.declared.kept.Settings.{Settings}
-use Rattle.vms_words.specs.KeptSettings.{IsControlPass, kept_sets}
-use Rattle.vms_words.specs.Told.{acknowledgement_told}
+use Rattle.vms_words.specs.Common.{IsControlPass, kept_sets, acknowledgement_told}
 use Rattle.vms_words.proofs.KeptSettings.{zone-place}
 
 module _ (new old : Pass Facts Step) (kept : Settings) (c : CpuId) (g : PlaceId) (word : ℕ)

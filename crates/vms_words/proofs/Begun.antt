@@ -1,18 +1,10 @@
 -- A pass that begins has seen its CPU spend what the main pass had seen.
 use Rattle.std.proofs.Common.{◌≡◌, ℕ, List, ◌∷◌, Option, Some, None, refl, sym, ap, ◌∙◌, subst, arith}
-use Rattle.vms_base.specs.declared.ids.CpuId.{CpuId}
+use Rattle.vms_calls.specs.Common.{CpuId, owner_in, IsFree, Facts, Step, Split, pages, History, role, spent, spent_by}
 use Rattle.vms_history.specs.Legal.{IsLegal}
-use Rattle.vms_history.specs.Passes.{owner_in, IsFree}
-use Rattle.vms_seats.specs.MainSteps.{HasBegun, next_number}
-use Rattle.vms_seats.specs.Passes.{Pass}
-use Rattle.vms_core.specs.declared.steps.Facts.{Facts}
-use Rattle.vms_core.specs.declared.steps.Step.{Step}
-use Rattle.vms_core.specs.declared.steps.Step.TheVariants.{Split}
-use Rattle.vms_core.specs.Pages.{pages, History}
-use Rattle.vms_core.specs.Steps.{role}
-use Rattle.vms_core.specs.Totals.{spent, spent_by}
-use Rattle.vms_core.proofs.FreeCpus.{cpu-stands}
-use Rattle.vms_words.specs.PagePasses.{HoldsSpending, IsOwningPass}
+use Rattle.vms_seats.specs.Common.{HasBegun, next_number, Pass}
+use Rattle.vms_core.proofs.Common.{cpu-stands}
+use Rattle.vms_words.specs.Common.{HoldsSpending, IsOwningPass}
 
 module _ (new old pass : Pass Facts Step) (cpu : CpuId) (begun : HasBegun pages Split new old pass (Some cpu))
     (free : IsFree role old.seen (Some cpu)) where

@@ -1,8 +1,8 @@
 -- The blocks of a layout's words, and how large they are.
 use Rattle.std.proofs.Common.{◌≡◌, ◌+◌, ◌*◌, ◌<◌, ◌≤◌, ◌^◌, length, refl, sym, arith, subst, ⊎_elim}
 use Rattle.std.proofs.Math.Nat.{mul-le-mul}
-use Rattle.vms_base.specs.Places.{Shape, IsLayout, place_count, counter_count, group_count, item_count}
-use Rattle.vms_base.proofs.Counts.{counter_count-most, group_count-most, place_count-most}
+use Rattle.vms_calls.specs.Common.{Shape, IsLayout, place_count, counter_count, group_count, item_count}
+use Rattle.vms_base.proofs.Common.{counter_count-most, group_count-most, place_count-most}
 use Rattle.vms_words.specs.declared.spots.Blocks.{Blocks}
 use Rattle.vms_words.specs.Spots.{blocks_of}
 

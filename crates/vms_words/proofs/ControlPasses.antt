@@ -1,18 +1,13 @@
 -- What a control pass keeps after one of its steps.
 use Rattle.std.proofs.Common.{◌≡◌, [], ◌∷◌, refl, sym, ◌∙◌, subst}
-use Rattle.vms_base.specs.Places.{Shape}
-use Rattle.vms_seats.specs.Passes.{Pass, Shared, IsOf}
-use Rattle.vms_seats.specs.Steps.{MadeOne}
-use Rattle.vms_seats.proofs.MadeCalls.{calls-live}
-use Rattle.vms_core.specs.declared.steps.Facts.{Facts}
-use Rattle.vms_core.specs.declared.steps.Step.{Step}
-use Rattle.vms_core.specs.declared.steps.Step.TheVariants.{SetT, SetM, SetO, LoadA}
-use Rattle.vms_core.specs.Pages.{pages, History, IsLegal}
-use Rattle.vms_core.proofs.KnowledgeKept.{control-knows_later}
+use Rattle.vms_calls.specs.Common.{Shape, Facts, Step, SetT, SetM, SetO, LoadA, pages, History}
+use Rattle.vms_seats.specs.Common.{Pass, Shared, IsFrom, MadeOne}
+use Rattle.vms_seats.proofs.Common.{calls-live}
+use Rattle.vms_core.specs.Pages.{IsLegal}
+use Rattle.vms_core.proofs.Common.{control-knows_later}
 use Rattle.vms_words.specs.declared.kept.Settings.{Settings}
-use Rattle.vms_words.specs.KeptSettings.{Knows, IsControlPass, kept_after}
-use Rattle.vms_words.specs.PagePasses.{KeepsNumbers}
-use Rattle.vms_words.proofs.KeptSettings.{Knows-later, Knows-step}
+use Rattle.vms_words.specs.Common.{KeepsSettings, IsControlPass, kept_after, KeepsNumbers}
+use Rattle.vms_words.proofs.KeptSettings.{KeepsSettings-later, KeepsSettings-step}
 
 -- a step that leaves the settings leaves what is kept
 kept-same : (shape : Shape) (step : Step) (kept : Settings) → KeepsNumbers step → kept_after shape step kept ≡ kept
@@ -24,12 +19,12 @@ kept-same shape _ kept leaves = refl
 
 module _ (new old : Pass Facts Step) (kept : Settings) (step : Step) (control : IsControlPass old kept)
     (made : MadeOne pages new old step) where
-  knows-then : Knows old.facts new.seen (kept_after old.facts.layout step kept)
+  knows-then : KeepsSettings old.facts new.seen (kept_after old.facts.layout step kept)
   knows-then =
       let before = made.at.before in
-      subst (λ (h : History). Knows old.facts h (kept_after old.facts.layout step kept)) (sym made.at.newest)
-      (Knows-step old.facts before old.number step kept (subst (IsLegal old.facts) made.at.newest made.at.legal)
-      (Knows-later old.facts before old.seen kept
+      subst (λ (h : History). KeepsSettings old.facts h (kept_after old.facts.layout step kept)) (sym made.at.newest)
+      (KeepsSettings-step old.facts before old.number step kept (subst (IsLegal old.facts) made.at.newest made.at.legal)
+      (KeepsSettings-later old.facts before old.seen kept
       (control-knows_later old.facts before old.seen old.number made.at.others (control.live.owner ∙ control.none))
       control.knows))
 
@@ -37,7 +32,7 @@ module _ (new old : Pass Facts Step) (kept : Settings) (step : Step) (control : 
   IsControlPass-made = record {
     live = calls-live pages new old (step ∷ []) control.live made.all;
     none = made.all.cpu ∙ control.none;
-    knows = subst (λ (facts : Facts). Knows facts new.seen (kept_after old.facts.layout step kept))
+    knows = subst (λ (facts : Facts). KeepsSettings facts new.seen (kept_after old.facts.layout step kept))
         (sym made.all.facts) knows-then;
   }
 
@@ -46,9 +41,9 @@ module _ (new old : Pass Facts Step) (kept : Settings) (step : Step) (control : 
       subst (IsControlPass new) (kept-same old.facts.layout step kept leaves) IsControlPass-made
 
 -- what is known of a control pass is known of its worker
-module _ (worker pass : Pass Facts Step) (table : Shared Facts) (is : worker ≡ pass) (of : IsOf pass table) where
-  pub worker-of : IsOf worker table
-  worker-of = subst (λ (p : Pass Facts Step). IsOf p table) (sym is) of
+module _ (worker pass : Pass Facts Step) (table : Shared Facts) (is : worker ≡ pass) (of : IsFrom pass table) where
+  pub worker-of : IsFrom worker table
+  worker-of = subst (λ (p : Pass Facts Step). IsFrom p table) (sym is) of
 
   pub worker-knows : (Known : Facts → Pass Facts Step → Type 0) → Known table.facts pass → Known worker.facts worker
   worker-knows Known known =

@@ -1,26 +1,13 @@
 -- What a CPU that isn't online hides stays 0 once it is 0.
-use Rattle.std.proofs.Common.{◌≡◌, ◌≢◌, ℕ, ◌&&◌, Bool, true, false, [], ◌∷◌, ◌++◌, Option, Some, None, pos}
-use Rattle.std.proofs.Common.{refl, sym, ap}
-use Rattle.std.proofs.Common.{◌∙◌, subst, nat_eq, if◌then◌else◌, eqb-true}
+use Rattle.std.proofs.Common.{◌≡◌, ◌≢◌, ℕ, ◌&&◌, Bool, true, false, [], ◌∷◌, ◌++◌, Option, Some, None, pos, refl, sym}
+use Rattle.std.proofs.Common.{ap, ◌∙◌, subst, nat_eq, if◌then◌else◌, eqb-true}
 use Rattle.std.proofs.lemmas.Bool.{and_parts}
-use Rattle.vms_base.specs.declared.ids.CpuId.{CpuId}
-use Rattle.vms_base.specs.declared.kinds.CpuState.{CpuState}
-use Rattle.vms_base.specs.declared.kinds.CpuState.TheVariants.{Online, Absent}
-use Rattle.vms_base.specs.Places.{IsCounter, group_of}
-use Rattle.vms_history.specs.Events.{Extends}
-use Rattle.vms_history.specs.Passes.{owner_in}
-use Rattle.vms_history.proofs.Choices.{if-never, if-either}
-use Rattle.vms_core.specs.declared.steps.Facts.{Facts}
-use Rattle.vms_core.specs.declared.steps.Step.{Step}
-use Rattle.vms_core.specs.declared.steps.Step.TheVariants.{Put, Take, SetO}
-use Rattle.vms_core.specs.Cells.{diff_at, entry, cpu_at}
-use Rattle.vms_core.specs.Changes.{differential_after}
-use Rattle.vms_core.specs.Pages.{History, IsLegal, state_after}
-use Rattle.vms_core.specs.Peaks.{cpu_after}
-use Rattle.vms_core.specs.Steps.{role}
-use Rattle.vms_core.proofs.Effects.{diff_after, diff_at-effect}
-use Rattle.vms_core.proofs.KeptLaws.{laws-kept}
-use Rattle.vms_core.proofs.Settings.{cpu_at-newest}
+use Rattle.vms_calls.specs.Common.{CpuId, CpuState, Online, Absent, IsCounter, group_of, Extends, owner_in, Facts, Step}
+use Rattle.vms_calls.specs.Common.{Put, Take, SetO, diff_at, entry, cpu_at, differential_after, History, state_after}
+use Rattle.vms_calls.specs.Common.{cpu_after, role}
+use Rattle.vms_history.proofs.Common.{if-never, if-either}
+use Rattle.vms_core.specs.Pages.{IsLegal}
+use Rattle.vms_core.proofs.Common.{diff_after, diff_at-effect, laws-kept, cpu_at-newest}
 
 -- no step makes a CPU online
 offline-step : (c : ℕ) (step : Step) (x : CpuState) → cpu_after c step x ≡ Online → x ≡ Online

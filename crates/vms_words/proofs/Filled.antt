@@ -4,7 +4,7 @@ use Rattle.std.proofs.Common.{Some, nat_eq, if◌then◌else◌, refl, sym, ap, 
 use Rattle.std.proofs.lemmas.Bool.{eqb-false}
 use Rattle.std.proofs.lemmas.Option.{unwrap_or-slice_get}
 use Rattle.std.specs.Option.{unwrap_or}
-use Rattle.vms_history.proofs.Cells.{get_or-set}
+use Rattle.vms_history.proofs.Common.{get_or-set}
 
 -- what is got at a place stands there
 pub got : (words : List ℕ) (place word : ℕ) → slice_get words place ≡ Some word → word ≡ slice_index words place

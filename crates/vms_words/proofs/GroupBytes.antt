@@ -1,14 +1,14 @@
 -- The word of eight bytes gives them back, and eight bytes are one list.
-use Rattle.std.proofs.Common.{◌≡◌, ℕ, zero, suc, ◌<◌, ℤ, pos, negsuc, List, [], ◌∷◌, length, get_or, map}
-use Rattle.std.proofs.Common.{replicate, refl, arith, ◌∙◌, ap, subst}
+use Rattle.std.proofs.Common.{◌≡◌, ℕ, zero, suc, ◌<◌, ℤ, pos, negsuc, List, [], ◌∷◌, length, get_or, map, replicate}
+use Rattle.std.proofs.Common.{refl, arith, ◌∙◌, ap, subst}
 use Rattle.std.specs.Int.{w8, w64, cast_signed, cast_unsigned, from_le_bytes}
 use Rattle.std.proofs.Math.Dec.{T_prop}
 use Rattle.std.proofs.lemmas.Int.{ints, to_z-of_z}
 use Rattle.std.proofs.lemmas.List.{length-map}
 use Rattle.std.proofs.lemmas.Nat.{le_bytes_8}
 use mir.Val.{SFits}
-use Rattle.vms_base.specs.declared.groups.Diffs.{Diffs}
-use Rattle.vms_base.specs.Groups.{IsByte, AreBytes, word_of_bytes, bytes_of_word}
+use Rattle.vms_calls.specs.Common.{Diffs, IsByte, AreBytes}
+use Rattle.vms_base.specs.Groups.{word_of_bytes, bytes_of_word}
 
 pub byte-fits : (z : ℤ) → IsByte z → SFits w8 z
 byte-fits (pos n) is = record { sfits = omega (arith, ints) }

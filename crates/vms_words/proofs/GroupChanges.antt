@@ -1,19 +1,14 @@
 -- Which words a change of differentials leaves.
-use Rattle.std.proofs.Common.{◌≡◌, ◌≢◌, ℕ, ◌+◌, ◌*◌, ◌<◌, ◌&&◌, Bool, true, List, ℤ}
-use Rattle.std.proofs.Common.{refl, sym, ap, ◌∙◌, arith, if◌then◌else◌, nat_eq, eqb-true}
+use Rattle.std.proofs.Common.{◌≡◌, ◌≢◌, ℕ, ◌+◌, ◌*◌, ◌<◌, ◌&&◌, Bool, true, List, ℤ, refl, sym, ap, ◌∙◌, arith}
+use Rattle.std.proofs.Common.{if◌then◌else◌, nat_eq, eqb-true}
 use Rattle.std.proofs.lemmas.Bool.{and_parts}
-use Rattle.vms_base.specs.declared.ids.CpuId.{CpuId}
-use Rattle.vms_base.specs.declared.ids.GroupId.{GroupId}
+use Rattle.vms_calls.specs.Common.{CpuId, GroupId, Shape, IsCounter, IsGroup, group_of, counter_count, State, diff_at}
 use Rattle.vms_base.specs.Groups.{word_of_bytes}
-use Rattle.vms_base.specs.Places.{Shape, IsCounter, IsGroup, group_of, counter_count}
-use Rattle.vms_history.proofs.Choices.{if-never}
-use Rattle.vms_core.specs.declared.states.State.{State}
-use Rattle.vms_core.specs.Cells.{diff_at}
-use Rattle.vms_core.proofs.Effects.{group-within}
+use Rattle.vms_history.proofs.Common.{if-never}
+use Rattle.vms_core.proofs.Common.{group-within}
 use Rattle.vms_words.specs.declared.spots.Spot.{Spot}
 use Rattle.vms_words.specs.declared.spots.Spot.TheVariants.{Value, System, Group, Threshold, Mark, Cpu, Acknowledgement}
-use Rattle.vms_words.specs.Shown.{word_at, group_at}
-use Rattle.vms_words.specs.Spots.{IsSpot}
+use Rattle.vms_words.specs.Common.{spot_word, group_at, IsSpot}
 use Rattle.vms_words.proofs.GroupWords.{length-group_at, get_or-group_at, group-is}
 
 pub known-member : (shape : Shape) (j n : ℕ) → IsGroup shape j → n < 8 → IsCounter shape (8 * j + n)
@@ -35,7 +30,7 @@ module _ (shape : Shape) (s : State) (diffs : List ℤ) (c : CpuId) (j : GroupId
   abbrev later : State
   later = record s { diff = diffs }
 
-  pub diffs-others : (other : Spot) → IsSpot shape other → other ≢ Group c j → word_at later other ≡ word_at s other
+  pub diffs-others : (other : Spot) → IsSpot shape other → other ≢ Group c j → spot_word later other ≡ spot_word s other
   diffs-others (Value k) known differs = refl
   diffs-others (System i) known differs = refl
   diffs-others (Group d i) known differs =

@@ -2,30 +2,17 @@
 use Rattle.std.proofs.Common.{◌≡◌, ℕ, ◌+◌, ◌*◌, ◌<◌, ◌&&◌, true, Option, Some, None, pos, refl, sym, ap, ◌∙◌, subst}
 use Rattle.std.proofs.Common.{arith, if◌then◌else◌, nat_eq, eqb-true, eq-eqb}
 use Rattle.std.proofs.lemmas.List.{get_or-replicate, length-replicate}
-use Rattle.vms_base.specs.declared.groups.Diffs.{Diffs}
-use Rattle.vms_base.specs.declared.ids.CpuId.{CpuId}
-use Rattle.vms_base.specs.declared.ids.GroupId.{GroupId}
-use Rattle.vms_base.specs.Groups.{AreBytes, bytes_of_word, word_of_bytes}
-use Rattle.vms_base.specs.Places.{IsCpu, IsCounter, IsGroup, group_of}
-use Rattle.vms_history.specs.PassSteps.{GoesOnWithout}
-use Rattle.vms_history.specs.Passes.{owner_in}
-use Rattle.vms_seats.specs.Passes.{Pass}
-use Rattle.vms_seats.specs.Steps.{MayStep}
-use Rattle.vms_core.specs.declared.states.State.{State}
-use Rattle.vms_core.specs.declared.steps.Facts.{Facts}
-use Rattle.vms_core.specs.declared.steps.Step.{Step}
-use Rattle.vms_core.specs.declared.steps.Step.TheVariants.{LoadD, Take}
-use Rattle.vms_core.specs.Cells.{TellsGroup, diff_at, eight_zeros, with_group_zeroed}
-use Rattle.vms_core.specs.Conditions.{FindsGroup}
-use Rattle.vms_core.specs.Pages.{pages, History, IsLegal, state_after}
-use Rattle.vms_core.specs.Steps.{role, effect}
-use Rattle.vms_core.proofs.Effects.{diff_at-effect}
-use Rattle.vms_core.proofs.KeptLaws.{laws-kept}
+use Rattle.vms_calls.specs.Common.{Diffs, CpuId, GroupId, AreBytes, IsCpu, IsCounter, IsGroup, group_of, GoesOnWithout}
+use Rattle.vms_calls.specs.Common.{owner_in, State, Facts, Step, LoadD, Take, TellsGroup, diff_at, eight_zeros}
+use Rattle.vms_calls.specs.Common.{with_group_zeroed, FindsGroup, pages, History, state_after, role, effect}
+use Rattle.vms_base.specs.Groups.{bytes_of_word, word_of_bytes}
+use Rattle.vms_seats.specs.Common.{Pass, MayStep}
+use Rattle.vms_core.specs.Pages.{IsLegal}
+use Rattle.vms_core.proofs.Common.{diff_at-effect, laws-kept}
 use Rattle.vms_words.specs.declared.spots.Spot.TheVariants.{Group}
-use Rattle.vms_words.specs.Lists.{list_told}
-use Rattle.vms_words.specs.Shown.{shown, word_at, group_at}
-use Rattle.vms_words.specs.Spots.{blocks_of, place_in}
-use Rattle.vms_words.specs.Told.{told}
+use Rattle.vms_words.specs.Common.{list_told, spot_word, group_at, place_in, told}
+use Rattle.vms_words.specs.Shown.{shown}
+use Rattle.vms_words.specs.Spots.{blocks_of}
 use Rattle.vms_words.proofs.GroupBytes.{bytes-of_word, word-of_zeros}
 use Rattle.vms_words.proofs.GroupChanges.{known-member, diffs-others}
 use Rattle.vms_words.proofs.GroupWords.{length-group_at, group-is, group-tells}
@@ -43,12 +30,12 @@ module _ (facts : Facts) (h : History) (legal : IsLegal facts h) (c : CpuId) (j 
       let list = (laws-kept facts h legal).groups c.number j.number c_in j_in in
       subst AreBytes (group-is s c.number j.number list.0.values list.1) list.0.bytes
 
-  pub group-read : (found : ℕ) → word_at s (Group c j) ≡ found → bytes_of_word found ≡ group_at s c.number j.number
+  pub group-read : (found : ℕ) → spot_word s (Group c j) ≡ found → bytes_of_word found ≡ group_at s c.number j.number
   group-read found stands =
       ap bytes_of_word (sym stands)
       ∙ bytes-of_word (group_at s c.number j.number) (length-group_at s c.number j.number) group-bytes
 
-  pub group-found : (found : ℕ) → word_at s (Group c j) ≡ found → FindsGroup facts s c j (list_told found)
+  pub group-found : (found : ℕ) → spot_word s (Group c j) ≡ found → FindsGroup facts s c j (list_told found)
   group-found found stands = record {
     cpu = c_in;
     group = j_in;
@@ -78,7 +65,7 @@ module _ (pass : Pass Facts Step) (c : CpuId) (j : GroupId) (w : Diffs) (c_in : 
   taken v (Some d) s = refl
 
   module _ (h : History) (goes : GoesOnWithout pages pass.facts h pass.seen pass.number) (found : ℕ)
-      (stands : word_at (state_after pass.facts h) (Group c j) ≡ found) where
+      (stands : spot_word (state_after pass.facts h) (Group c j) ≡ found) where
     finds : FindsGroup pass.facts (state_after pass.facts h) c j (list_told found)
     finds = group-found pass.facts h goes.legal c j c_in j_in found stands
 
@@ -102,7 +89,7 @@ module _ (pass : Pass Facts Step) (c : CpuId) (j : GroupId) (w : Diffs) (c_in : 
         (known-member pass.facts.layout j.number n j_in less)
         ∙ rw (mine, it) refl
 
-    zeros-left : word_at (zeroed (state_after pass.facts h)) (Group c j) ≡ 0
+    zeros-left : spot_word (zeroed (state_after pass.facts h)) (Group c j) ≡ 0
     zeros-left =
         ap word_of_bytes (sym (group-is (zeroed (state_after pass.facts h)) c.number j.number eight_zeros (record {
           eight = length-replicate 8 (pos 0);
@@ -115,7 +102,7 @@ module _ (pass : Pass Facts Step) (c : CpuId) (j : GroupId) (w : Diffs) (c_in : 
   group-take h found goes fits stands =
       let facts = pass.facts in
       let s = state_after facts h in
-      let is : word_at s (Group c j) ≡ found = sym (shown-at facts s (Group c j) (c_in, j_in)) ∙ stands in
+      let is : spot_word s (Group c j) ≡ found = sym (shown-at facts s (Group c j) (c_in, j_in)) ∙ stands in
       record {
         legal = (
           goes.legal,

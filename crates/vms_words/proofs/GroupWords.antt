@@ -2,9 +2,8 @@
 use Rattle.std.proofs.Common.{◌≡◌, ℕ, ◌+◌, ◌*◌, ◌<◌, List, length, get_or, ℤ, pos, sym, ◌∙◌, arith}
 use Rattle.std.proofs.lemmas.List.{ext_get_or}
 use Rattle.std.proofs.lemmas.List.FromFn.{get_or-map-range_with_len, length-map-range_with_len}
-use Rattle.vms_core.specs.declared.states.State.{State}
-use Rattle.vms_core.specs.Cells.{TellsGroup, diff_at}
-use Rattle.vms_words.specs.Shown.{group_at}
+use Rattle.vms_calls.specs.Common.{State, TellsGroup, diff_at}
+use Rattle.vms_words.specs.Common.{group_at}
 
 module _ (s : State) (c j : ℕ) where
   pub length-group_at : length (group_at s c j) ≡ 8

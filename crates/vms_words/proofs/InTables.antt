@@ -1,19 +1,15 @@
 -- A pass of a table knows the table's layout, and so where its words stand.
 use Rattle.std.proofs.Common.{◌≡◌, ℕ, ap, sym, ◌∙◌, subst}
-use Rattle.vms_base.specs.Places.{Shape}
-use Rattle.vms_seats.specs.Passes.{Pass, Shared, IsOf}
-use Rattle.vms_seats.specs.Steps.{MayStep}
-use Rattle.vms_core.specs.declared.steps.Facts.{Facts}
-use Rattle.vms_core.specs.declared.steps.Step.{Step}
-use Rattle.vms_core.specs.Pages.{pages}
+use Rattle.vms_calls.specs.Common.{Shape, Facts, Step, pages}
+use Rattle.vms_seats.specs.Common.{Pass, Shared, IsFrom, MayStep}
 use Rattle.vms_words.specs.declared.spots.Blocks.{Blocks}
 use Rattle.vms_words.specs.declared.spots.Spot.{Spot}
-use Rattle.vms_words.specs.PageTables.{AreFor}
+use Rattle.vms_words.specs.Common.{AreMadeFor, place_in}
 use Rattle.vms_words.specs.Shown.{shown}
-use Rattle.vms_words.specs.Spots.{blocks_of, place_in}
+use Rattle.vms_words.specs.Spots.{blocks_of}
 
 module _ (facts : Facts) (blocks : Blocks) (words table : Shared Facts) (pass : Pass Facts Step)
-    (are : AreFor facts blocks words) (is : words ≡ table) (of : IsOf pass table) where
+    (are : AreMadeFor facts blocks words) (is : words ≡ table) (of : IsFrom pass table) where
   pub of-facts : facts ≡ pass.facts
   of-facts = sym are.same ∙ ap (λ (w : Shared Facts). w.facts) is ∙ sym of.facts
 

@@ -1,31 +1,20 @@
 -- What the control pass keeps is what stands: while others act, after each of its own steps, and as a phase begins.
-use Rattle.std.proofs.Common.{◌≡◌, ℕ, suc, ◌+◌, ◌*◌, ◌<◌, ◌≤◌, ◌&&◌, max, nat_eq, nat_lt, Bool, true, false}
-use Rattle.std.proofs.Common.{◌∷◌, length, get_or, set, refl, sym, ap, ◌∙◌, arith}
-use Rattle.std.proofs.Common.{if◌then◌else◌, length-set, add-one, eqb-true}
+use Rattle.std.proofs.Common.{◌≡◌, ℕ, suc, ◌+◌, ◌*◌, ◌<◌, ◌≤◌, ◌&&◌, max, nat_eq, nat_lt, Bool, true, false, ◌∷◌}
+use Rattle.std.proofs.Common.{length, get_or, set, refl, sym, ap, ◌∙◌, arith, if◌then◌else◌, length-set, add-one}
+use Rattle.std.proofs.Common.{eqb-true}
 use Rattle.std.proofs.lemmas.Bool.{and_parts, eq-eqb, ltb-true, ltb-false}
-use Rattle.vms_base.specs.declared.kinds.CpuState.TheVariants.{Absent}
-use Rattle.vms_base.specs.Cpus.{state_at}
-use Rattle.vms_base.specs.Places.{Shape, IsCpu, IsPlace, IsZone, cell, place_count}
-use Rattle.vms_history.specs.declared.events.Event.{Event}
-use Rattle.vms_history.specs.Sums.{largest_below}
-use Rattle.vms_history.proofs.Choices.{if-never, if-either}
-use Rattle.vms_history.proofs.Cells.{get_or-set, get_or-changed, get_or-set_cell, get_or-changed_cell}
-use Rattle.vms_history.proofs.CountLemmas.{largest_below-least, largest_below-most}
-use Rattle.vms_core.specs.declared.states.State.{State}
-use Rattle.vms_core.specs.declared.steps.Facts.{Facts}
-use Rattle.vms_core.specs.declared.steps.Step.{Step}
-use Rattle.vms_core.specs.declared.steps.Step.TheVariants.{SetT, SetM, SetO, LoadA}
-use Rattle.vms_core.specs.Cells.{threshold_sets_at, mark_sets_at}
-use Rattle.vms_core.specs.Conditions.{Meets}
-use Rattle.vms_core.specs.Effects.{mark_sets_after}
-use Rattle.vms_core.specs.Knowledge.{ControlKnows}
-use Rattle.vms_core.specs.Pages.{History, IsLegal, state_after}
-use Rattle.vms_core.specs.Peaks.{is_number, sets, sets_after, threshold_in, threshold_after, peak_after, cpu_after}
-use Rattle.vms_core.proofs.KeptLaws.{laws-kept}
-use Rattle.vms_core.proofs.Settings.{threshold_at-newest, sets-newest, cpu_at-newest, mark_sets_at-newest}
+use Rattle.vms_calls.specs.Common.{Absent, state_at, Shape, IsCpu, IsPlace, IsZone, cell, place_count, Event}
+use Rattle.vms_calls.specs.Common.{largest_below, State, Facts, Step, SetT, SetM, SetO, LoadA, threshold_sets_at}
+use Rattle.vms_calls.specs.Common.{mark_sets_at, Meets, mark_sets_after, ControlKnows, History, state_after, is_number}
+use Rattle.vms_calls.specs.Common.{sets, sets_after, threshold_in, threshold_after, peak_after, cpu_after}
+use Rattle.vms_history.proofs.Common.{if-never, if-either, get_or-set, get_or-changed, get_or-set_cell}
+use Rattle.vms_history.proofs.Common.{get_or-changed_cell, largest_below-least, largest_below-most}
+use Rattle.vms_core.specs.Pages.{IsLegal}
+use Rattle.vms_core.proofs.Common.{laws-kept, threshold_at-newest, sets-newest, cpu_at-newest, mark_sets_at-newest}
 use Rattle.vms_words.specs.declared.kept.Settings.{Settings}
 use Rattle.vms_words.proofs.SetSteps.{same-cell}
-use Rattle.vms_words.specs.KeptSettings.{IsKept, Knows, kept_peak, kept_threshold, kept_sets, kept_after, largest_sets}
+use Rattle.vms_words.specs.Common.{IsKept, KeepsSettings, kept_peak, kept_threshold, kept_sets, kept_after}
+use Rattle.vms_words.specs.Common.{largest_sets}
 
 -- a zone is a place
 pub zone-place : (zones nodes g : ℕ) → g < zones → g < zones + nodes
@@ -69,9 +58,9 @@ largest-same shape s later thresholds marks =
     omega (arith, up, down)
 
 -- what is kept while others act
-pub Knows-later : (facts : Facts) (later earlier : History) (kept : Settings) → ControlKnows facts later earlier
-    → Knows facts earlier kept → Knows facts later kept
-Knows-later facts later earlier kept stands knows = record {
+pub KeepsSettings-later : (facts : Facts) (later earlier : History) (kept : Settings) → ControlKnows facts later earlier
+    → KeepsSettings facts earlier kept → KeepsSettings facts later kept
+KeepsSettings-later facts later earlier kept stands knows = record {
   is_kept = knows.is_kept;
   peaks = λ c g c_in g_in. knows.peaks c g c_in g_in ∙ sym (stands.peaks c g);
   thresholds = λ c g c_in g_in. knows.thresholds c g c_in g_in ∙ sym (stands.thresholds c g);
@@ -293,10 +282,10 @@ module _ (facts : Facts) (h : History) (p : ℕ) (kept : Settings) (is : IsKept 
       most ∙ largest-same shape s after (λ c g c_in g_in. thresholds c g g_in) (λ g g_in. marks g)
 
 -- what is kept after a step
-pub Knows-step : (facts : Facts) (h : History) (p : ℕ) (step : Step) (kept : Settings)
-    → IsLegal facts (record { caller = p; step = step } ∷ h) → Knows facts h kept
-    → Knows facts (record { caller = p; step = step } ∷ h) (kept_after facts.layout step kept)
-Knows-step facts h p step kept legal knows =
+pub KeepsSettings-step : (facts : Facts) (h : History) (p : ℕ) (step : Step) (kept : Settings)
+    → IsLegal facts (record { caller = p; step = step } ∷ h) → KeepsSettings facts h kept
+    → KeepsSettings facts (record { caller = p; step = step } ∷ h) (kept_after facts.layout step kept)
+KeepsSettings-step facts h p step kept legal knows =
     let shape = facts.layout in
     let e : Event Step = record { caller = p; step = step } in
     let s = state_after facts h in

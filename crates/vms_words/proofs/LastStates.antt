@@ -1,30 +1,24 @@
 -- Rows that are read from the words which show a state are those of the state.
-use Rattle.std.proofs.Common.{◌≡◌, ℕ, ◌+◌, ◌-◌, ◌*◌, ◌/◌, ◌%◌, ◌<◌, ◌≤◌, ◌^◌, List, length, get_or, map, slice_index}
-use Rattle.std.proofs.Common.{ℤ, pos, refl, sym, ap, ◌∙◌, subst, arith}
+use Rattle.std.proofs.Common.{◌≡◌, ℕ, ◌+◌, ◌*◌, ◌/◌, ◌%◌, ◌<◌, ◌^◌, List, length, get_or, map, slice_index, ℤ, pos}
+use Rattle.std.proofs.Common.{refl, sym, ap, ◌∙◌, subst, arith}
 use Rattle.std.proofs.Math.Nat.{mul_assoc, mul_comm}
 use Rattle.std.proofs.lemmas.List.{ext_get_or, get_or-map, length-map}
 use Rattle.std.proofs.lemmas.Nat.{div-add-mod'}
-use Rattle.vms_base.specs.declared.kinds.CpuState.{CpuState}
-use Rattle.vms_base.specs.declared.kinds.CpuState.TheVariants.{Absent}
-use Rattle.vms_base.specs.Groups.{AreBytes, bytes_of_word, word_of_bytes}
-use Rattle.vms_base.specs.Numbers.{number_of}
-use Rattle.vms_base.specs.Places.{IsLayout, IsCpu, IsGroup, cell, place_count, counter_count, group_count}
-use Rattle.vms_base.specs.Places.{item_count}
-use Rattle.vms_base.proofs.Counts.{group_count-whole}
-use Rattle.vms_history.proofs.Prefixes.{base_can_begin}
-use Rattle.vms_core.specs.declared.states.State.{State}
-use Rattle.vms_core.specs.declared.steps.Facts.{Facts}
-use Rattle.vms_core.specs.Cells.{HasShape, diff_at, threshold_at, threshold_sets_at, mark_at, mark_sets_at}
-use Rattle.vms_core.specs.Laws.{KeepsLaws}
-use Rattle.vms_core.specs.Pages.{pages, History, IsLegal, state_after}
-use Rattle.vms_core.proofs.KeptLaws.{laws-kept}
-use Rattle.vms_core.proofs.PlainData.{places_of-shaped}
+use Rattle.vms_calls.specs.Common.{CpuState, Absent, AreBytes, signed_of_word, IsLayout, IsCpu, IsGroup, cell}
+use Rattle.vms_calls.specs.Common.{place_count, counter_count, group_count, item_count, State, Facts, HasShape, diff_at}
+use Rattle.vms_calls.specs.Common.{threshold_at, threshold_sets_at, mark_at, mark_sets_at, KeepsLaws, pages, History}
+use Rattle.vms_calls.specs.Common.{state_after}
+use Rattle.vms_base.specs.Groups.{bytes_of_word, word_of_bytes}
+use Rattle.vms_base.proofs.Common.{group_count-whole}
+use Rattle.vms_history.proofs.Common.{base_can_begin}
+use Rattle.vms_core.specs.Pages.{IsLegal}
+use Rattle.vms_core.proofs.Common.{laws-kept, places_of-shaped}
 use Rattle.vms_words.specs.declared.spots.Blocks.{Blocks}
 use Rattle.vms_words.specs.declared.spots.Spot.{Spot}
 use Rattle.vms_words.specs.declared.spots.Spot.TheVariants.{Value, System, Group, Threshold, Mark, Cpu}
-use Rattle.vms_words.specs.Shown.{shown, group_at, word_at}
-use Rattle.vms_words.specs.Spots.{IsSpot, blocks_of, place_in}
-use Rattle.vms_words.specs.Told.{cpu_told}
+use Rattle.vms_words.specs.Common.{AreThere, group_at, spot_word, IsSpot, place_in, cpu_told}
+use Rattle.vms_words.specs.Shown.{shown}
+use Rattle.vms_words.specs.Spots.{blocks_of}
 use Rattle.vms_words.proofs.Blocks.{AreBlocks, are_blocks, end-most}
 use Rattle.vms_words.proofs.GroupBytes.{bytes-of_word}
 use Rattle.vms_words.proofs.GroupWords.{group-is, get_or-group_at, length-group_at}
@@ -39,21 +33,6 @@ row-cleared x row list long each =
     ext_get_or x row (map (λ _. x) list) (long ∙ sym (length-map list (λ _. x)))
     (λ n within. each n within x
     ∙ sym (get_or-map (λ _. x) list n x x (omega (arith, within, long))))
-
--- the words of each row are there
-pub record AreThere (facts : Facts) (s : State) (b : Blocks) (into : State) : Type 0 where
-  pub values : 0 + length into.place ≤ length (shown facts s)
-  pub systems : b.systems + length into.system ≤ length (shown facts s)
-  pub ascends : b.groups ≤ b.thresholds
-  pub groups : b.groups + (b.thresholds - b.groups) ≤ length (shown facts s)
-  pub whole : length into.diff ≡ 8 * (b.thresholds - b.groups)
-  pub thresholds : b.thresholds + length into.threshold ≤ length (shown facts s)
-  pub marks : b.marks + length into.mark ≤ length (shown facts s)
-  pub cpus : b.cpus + length into.cpu ≤ length (shown facts s)
-  pub acknowledged : b.acknowledgements + length into.acknowledged ≤ length (shown facts s)
-  pub threshold_sets : b.thresholds + length into.threshold_sets ≤ length (shown facts s)
-  pub mark_sets : b.marks + length into.mark_sets ≤ length (shown facts s)
-  pub small : length (shown facts s) < 2 ^ 32
 
 pub are-there : (facts : Facts) (s : State) (b : Blocks) (into : State) → IsLayout facts.layout
     → b ≡ blocks_of facts.layout → HasShape facts.layout into → AreThere facts s b into
@@ -130,28 +109,28 @@ module _ (facts : Facts) (h : History) (legal : IsLegal facts h) (b : Blocks) (l
   layout = (base_can_begin pages facts h legal).layout
 
   word : (spot : Spot) → IsSpot facts.layout spot → (place : ℕ) → place ≡ place_in b spot
-      → slice_index (shown facts s) place ≡ word_at s spot
+      → slice_index (shown facts s) place ≡ spot_word s spot
   word spot known place at =
       ap (slice_index (shown facts s)) (at ∙ ap (λ (a : Blocks). place_in a spot) laid) ∙ shown-at facts s spot known
 
   pub place-is : (row : List ℤ) → length row ≡ counter_count facts.layout
       → ((n : ℕ) → n < counter_count facts.layout → (d : ℤ)
-      → get_or row n d ≡ number_of (slice_index (shown facts s) (0 + n)))
+      → get_or row n d ≡ signed_of_word (slice_index (shown facts s) (0 + n)))
       → row ≡ s.place
   place-is row long each =
       ext_get_or (pos 0) row s.place (long ∙ sym laws.shape.place) (λ n within.
       let known : n < counter_count facts.layout = omega (arith, within, long) in
-      each n known (pos 0) ∙ ap number_of (word (Value (record { number = n })) known (0 + n) (omega arith))
+      each n known (pos 0) ∙ ap signed_of_word (word (Value (record { number = n })) known (0 + n) (omega arith))
       ∙ number-told (get_or s.place n (pos 0)) (laws.small.values n known))
 
   pub system-is : (row : List ℤ) → length row ≡ item_count facts.layout
       → ((n : ℕ) → n < item_count facts.layout → (d : ℤ)
-      → get_or row n d ≡ number_of (slice_index (shown facts s) (b.systems + n)))
+      → get_or row n d ≡ signed_of_word (slice_index (shown facts s) (b.systems + n)))
       → row ≡ s.system
   system-is row long each =
       ext_get_or (pos 0) row s.system (long ∙ sym laws.shape.system) (λ n within.
       let known : n < item_count facts.layout = omega (arith, within, long) in
-      each n known (pos 0) ∙ ap number_of (word (System (record { number = n })) known (b.systems + n) refl)
+      each n known (pos 0) ∙ ap signed_of_word (word (System (record { number = n })) known (b.systems + n) refl)
       ∙ number-told (get_or s.system n (pos 0)) (laws.small.systems n known))
 
   pub mark-is : (row : List ℕ) → length row ≡ length facts.layout.zones

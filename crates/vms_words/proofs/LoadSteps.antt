@@ -1,37 +1,19 @@
 -- A load may be made where its word is told rightly.
-use Rattle.std.proofs.Common.{◌≡◌, ℕ, ◌/◌, ◌%◌, ◌<◌, ◌^◌, Option, Some, None, ℤ, set, refl, sym, ap, ◌∙◌}
-use Rattle.std.proofs.Common.{subst, arith}
+use Rattle.std.proofs.Common.{◌≡◌, ℕ, ◌/◌, ◌%◌, ◌<◌, ◌^◌, Option, Some, None, ℤ, set, refl, sym, ap, ◌∙◌, subst, arith}
 use Rattle.std.proofs.lemmas.List.{set-get_or}
-use Rattle.vms_base.specs.declared.ids.CounterId.{CounterId}
-use Rattle.vms_base.specs.declared.ids.CpuId.{CpuId}
-use Rattle.vms_base.specs.declared.ids.ItemId.{ItemId}
-use Rattle.vms_base.specs.declared.ids.PlaceId.{PlaceId}
-use Rattle.vms_base.specs.declared.kinds.CpuState.{CpuState}
-use Rattle.vms_base.specs.Numbers.{number_of}
-use Rattle.vms_base.specs.Places.{IsCpu, IsPlace, IsZone, IsCounter, IsItem}
-use Rattle.vms_history.specs.Legal.{Acts}
-use Rattle.vms_history.specs.PassSteps.{GoesOnWithout}
-use Rattle.vms_history.specs.Passes.{owner_in}
-use Rattle.vms_history.specs.Passes.Role.{Works}
-use Rattle.vms_history.proofs.PassLaws.{live_is_given}
-use Rattle.vms_seats.specs.Passes.{Pass, IsLive}
-use Rattle.vms_seats.specs.Steps.{MayStep}
-use Rattle.vms_core.specs.declared.states.State.{State}
-use Rattle.vms_core.specs.declared.steps.Facts.{Facts}
-use Rattle.vms_core.specs.declared.steps.Step.{Step}
-use Rattle.vms_core.specs.declared.steps.Step.TheVariants.{LoadT, LoadG, LoadS, LoadM, LoadO, LoadA}
-use Rattle.vms_core.specs.Cells.{value_at, system_at, threshold_at, threshold_sets_at, mark_at, mark_sets_at, cpu_at}
-use Rattle.vms_core.specs.Cells.{acknowledged_at}
-use Rattle.vms_core.specs.Conditions.{Meets}
-use Rattle.vms_core.specs.Pages.{pages, History, state_after}
-use Rattle.vms_core.specs.Steps.{role, effect}
-use Rattle.vms_core.proofs.KeptLaws.{laws-kept}
-use Rattle.vms_core.proofs.KnowledgeKept.{OwnerKnows-holds, owner_in-goes_on}
+use Rattle.vms_calls.specs.Common.{CounterId, CpuId, ItemId, PlaceId, CpuState, signed_of_word, IsCpu, IsPlace, IsZone}
+use Rattle.vms_calls.specs.Common.{IsCounter, IsItem, Acts, GoesOnWithout, owner_in, Works, State, Facts, Step, LoadT}
+use Rattle.vms_calls.specs.Common.{LoadG, LoadS, LoadM, LoadO, LoadA, value_at, system_at, threshold_at}
+use Rattle.vms_calls.specs.Common.{threshold_sets_at, mark_at, mark_sets_at, cpu_at, acknowledged_at, Meets, pages}
+use Rattle.vms_calls.specs.Common.{History, state_after, role, effect}
+use Rattle.vms_history.proofs.Common.{live_is_given}
+use Rattle.vms_seats.specs.Common.{Pass, IsLive, MayStep}
+use Rattle.vms_core.proofs.Common.{laws-kept, OwnerKnows-holds, owner_in-goes_on}
 use Rattle.vms_words.specs.declared.spots.Spot.{Spot}
 use Rattle.vms_words.specs.declared.spots.Spot.TheVariants.{Value, System, Threshold, Mark, Cpu, Acknowledgement}
-use Rattle.vms_words.specs.Shown.{shown, word_at}
-use Rattle.vms_words.specs.Spots.{IsSpot, blocks_of, place_in}
-use Rattle.vms_words.specs.Told.{told, cpu_told, acknowledgement_told}
+use Rattle.vms_words.specs.Shown.{shown}
+use Rattle.vms_words.specs.Common.{spot_word, IsSpot, place_in, told, cpu_told, acknowledgement_told}
+use Rattle.vms_words.specs.Spots.{blocks_of}
 use Rattle.vms_words.proofs.Numbers.{number-told, cpu-told, acknowledgement-told, threshold-told, mark-told}
 use Rattle.vms_words.proofs.ShownWords.{shown-at}
 
@@ -49,7 +31,7 @@ module _ (pass : Pass Facts Step) (spot : Spot) (known : IsSpot pass.facts.layou
     (works : (n : ℕ) → role (plan n) ≡ Works)
     (leaves : (n : ℕ) (who : Option CpuId) (s : State) → effect pass.facts who (plan n) s ≡ s)
     (meets : (h : History) (found : ℕ) → GoesOnWithout pages pass.facts h pass.seen pass.number → found < 2 ^ 64
-    → word_at (state_after pass.facts h) spot ≡ found
+    → spot_word (state_after pass.facts h) spot ≡ found
     → Meets pass.facts h (state_after pass.facts h) pass.number (plan found)) where
   pub load-may : MayStep pages shown pass (place_in (blocks_of pass.facts.layout) spot) (λ n. n) plan
   load-may h found goes fits stands = record {
@@ -71,7 +53,7 @@ module _ (pass : Pass Facts Step) where
   value-load k v known =
       load-may pass (Value k) known (told (LoadG k v)) (λ n. refl) leaves (λ h found goes fits stands.
       let below = (laws-kept pass.facts h goes.legal).small.values k.number known in
-      (known, sym (number-told (value_at (state_after pass.facts h) k.number) below) ∙ ap number_of stands))
+      (known, sym (number-told (value_at (state_after pass.facts h) k.number) below) ∙ ap signed_of_word stands))
     where
       leaves : (n : ℕ) (who : Option CpuId) (s : State) → effect pass.facts who (told (LoadG k v) n) s ≡ s
       leaves n None s = refl
@@ -82,7 +64,7 @@ module _ (pass : Pass Facts Step) where
   system-load i v known =
       load-may pass (System i) known (told (LoadS i v)) (λ n. refl) leaves (λ h found goes fits stands.
       let below = (laws-kept pass.facts h goes.legal).small.systems i.number known in
-      (known, sym (number-told (system_at (state_after pass.facts h) i.number) below) ∙ ap number_of stands))
+      (known, sym (number-told (system_at (state_after pass.facts h) i.number) below) ∙ ap signed_of_word stands))
     where
       leaves : (n : ℕ) (who : Option CpuId) (s : State) → effect pass.facts who (told (LoadS i v) n) s ≡ s
       leaves n None s = refl

@@ -1,38 +1,28 @@
 -- What the main pass keeps for the next control pass stands while none lives.
-use Rattle.std.proofs.Common.{◌≡◌, ℕ, suc, nat_eq, true, false, ◌∷◌, Option, Some, None, refl, sym, ap}
-use Rattle.std.proofs.Common.{◌∙◌, subst, arith, if◌then◌else◌, ne_eqb}
-use Rattle.vms_base.specs.declared.ids.CpuId.{CpuId}
-use Rattle.vms_history.specs.declared.events.Event.{Event}
-use Rattle.vms_history.specs.Events.{own}
-use Rattle.vms_history.specs.PassSteps.{GoesOnWithout}
-use Rattle.vms_history.specs.Passes.{begun_in, lives, lives_in, owner, owner_in, IsFree}
-use Rattle.vms_history.proofs.Own.{own-others}
-use Rattle.vms_history.proofs.PassLaws.{live_is_given, lives_in-main, owner_in-main, owner_in-append}
-use Rattle.vms_seats.specs.MainSteps.{HasBegun, HasEnded, MainMakes, next_number}
-use Rattle.vms_seats.specs.Passes.{Pass, IsLive}
-use Rattle.vms_core.specs.declared.steps.Facts.{Facts}
-use Rattle.vms_core.specs.declared.steps.Step.{Step}
-use Rattle.vms_core.specs.declared.steps.Step.TheVariants.{Split, Join}
-use Rattle.vms_core.specs.Pages.{pages, History, IsLegal}
-use Rattle.vms_core.specs.Steps.{role}
-use Rattle.vms_core.proofs.FreeCpus.{settings-stand}
-use Rattle.vms_core.proofs.KnowledgeKept.{control-knows_later}
+use Rattle.std.proofs.Common.{◌≡◌, ℕ, suc, nat_eq, true, false, ◌∷◌, Option, Some, None, refl, sym, ap, ◌∙◌, subst}
+use Rattle.std.proofs.Common.{arith, if◌then◌else◌, ne_eqb}
+use Rattle.vms_calls.specs.Common.{CpuId, Event, own, GoesOnWithout, begun_in, lives, lives_in, owner, owner_in, IsFree}
+use Rattle.vms_calls.specs.Common.{Facts, Step, Split, Join, pages, History, role}
+use Rattle.vms_history.proofs.Common.{own-others, live_is_given, lives_in-main, owner_in-main, owner_in-append}
+use Rattle.vms_seats.specs.Common.{HasBegun, HasEnded, MainMakes, next_number, Pass, IsLive}
+use Rattle.vms_core.specs.Pages.{IsLegal}
+use Rattle.vms_core.proofs.Common.{settings-stand, control-knows_later}
 use Rattle.vms_words.specs.declared.kept.Settings.{Settings}
-use Rattle.vms_words.specs.KeptSettings.{Knows, IsControlPass, IsMainPass, kept_after}
-use Rattle.vms_words.proofs.KeptSettings.{Knows-later, Knows-step}
+use Rattle.vms_words.specs.Common.{KeepsSettings, IsControlPass, IsMainPass, kept_after}
+use Rattle.vms_words.proofs.KeptSettings.{KeepsSettings-later, KeepsSettings-step}
 
 -- what the main pass makes leaves what is known, where it leaves the settings and no control pass lived
 module _ (facts : Facts) (later earlier : History) (step : Step) (made : MainMakes pages facts later earlier step) where
   legal : IsLegal facts (record { caller = 0; step = step } ∷ made.before)
   legal = subst (IsLegal facts) made.newest made.legal
 
-  Knows-made : (kept : Settings) → kept_after facts.layout step kept ≡ kept → IsFree role earlier None
-      → Knows facts earlier kept → Knows facts later kept
-  Knows-made kept leaves free knows =
-      subst (λ h. Knows facts h kept) (sym made.newest)
-      (subst (Knows facts (record { caller = 0; step = step } ∷ made.before)) leaves
-      (Knows-step facts made.before 0 step kept legal
-      (Knows-later facts made.before earlier kept
+  KeepsSettings-made : (kept : Settings) → kept_after facts.layout step kept ≡ kept → IsFree role earlier None
+      → KeepsSettings facts earlier kept → KeepsSettings facts later kept
+  KeepsSettings-made kept leaves free knows =
+      subst (λ h. KeepsSettings facts h kept) (sym made.newest)
+      (subst (KeepsSettings facts (record { caller = 0; step = step } ∷ made.before)) leaves
+      (KeepsSettings-step facts made.before 0 step kept legal
+      (KeepsSettings-later facts made.before earlier kept
       (settings-stand facts made.before earlier
       (record { legal = legal.0; extends = made.extends; own_same = made.own_same }) free) knows)))
 
@@ -69,8 +59,9 @@ module _ (new old pass : Pass Facts Step) (cpu : CpuId) (begun : HasBegun pages 
       let had = is free_before in (
         had.0,
         had.1,
-        subst (λ (f : Facts). Knows f new.seen had.0) (sym begun.main.facts)
-            (Knows-made old.facts new.seen old.seen (Split (next_number pages old.seen) (Some cpu)) begun.made had.0
+        subst (λ (f : Facts). KeepsSettings f new.seen had.0) (sym begun.main.facts)
+            (KeepsSettings-made old.facts new.seen old.seen (Split (next_number pages old.seen) (Some cpu))
+            begun.made had.0
             refl free_before had.2),
       )
 
@@ -108,8 +99,8 @@ module _ (new old pass : Pass Facts Step) (cpu : CpuId) (ended : HasEnded pages 
       let had = is free_before in (
         had.0,
         had.1,
-        subst (λ (f : Facts). Knows f new.seen had.0) (sym ended.main.facts)
-            (Knows-made old.facts new.seen old.seen (Join pass.number) ended.made had.0 refl free_before had.2),
+        subst (λ (f : Facts). KeepsSettings f new.seen had.0) (sym ended.main.facts)
+            (KeepsSettings-made old.facts new.seen old.seen (Join pass.number) ended.made had.0 refl free_before had.2),
       )
 
 -- a control pass takes over what is kept, and the main pass keeps nothing while that lives
@@ -119,15 +110,16 @@ module _ (new old pass : Pass Facts Step) (begun : HasBegun pages Split new old 
       absurd (free pass.number (ap (λ h. lives_in role h pass.number) (sym begun.seen) ∙ begun.live.lives)
       (ap (λ h. owner_in role h pass.number) (sym begun.seen) ∙ begun.live.owner ∙ begun.cpu))
 
-  pub IsControlPass-begun : (kept : Settings) → IsFree role old.seen None → Knows old.facts old.seen kept
+  pub IsControlPass-begun : (kept : Settings) → IsFree role old.seen None → KeepsSettings old.facts old.seen kept
       → IsControlPass pass kept
   IsControlPass-begun kept free knows = record {
     live = begun.live;
     none = begun.cpu;
     knows =
-        subst (λ (f : Facts). Knows f pass.seen kept) (sym begun.facts)
-        (subst (λ h. Knows old.facts h kept) (sym begun.seen)
-        (Knows-made old.facts new.seen old.seen (Split (next_number pages old.seen) None) begun.made kept refl free
+        subst (λ (f : Facts). KeepsSettings f pass.seen kept) (sym begun.facts)
+        (subst (λ h. KeepsSettings old.facts h kept) (sym begun.seen)
+        (KeepsSettings-made old.facts new.seen old.seen (Split (next_number pages old.seen) None) begun.made
+        kept refl free
         knows));
   }
 
@@ -150,12 +142,12 @@ module _ (new old pass : Pass Facts Step) (ended : HasEnded pages Join new old p
         own_same = sym (own-others e made.before pass.number (λ main. omega (arith, main, given.0)))
             ∙ ap (λ h. own h pass.number) (sym made.newest) ∙ ended.all_steps;
       } in
-      let knew = subst (λ (f : Facts). Knows f pass.seen kept) same_facts control.knows in
-      let knows_before = Knows-later old.facts made.before pass.seen kept
+      let knew = subst (λ (f : Facts). KeepsSettings f pass.seen kept) same_facts control.knows in
+      let knows_before = KeepsSettings-later old.facts made.before pass.seen kept
       (control-knows_later old.facts made.before pass.seen pass.number goes (live.owner ∙ control.none)) knew in
-      let knows_after = Knows-step old.facts made.before 0 (Join pass.number) kept legal_now knows_before in (
+      let knows_after = KeepsSettings-step old.facts made.before 0 (Join pass.number) kept legal_now knows_before in (
         kept,
         refl,
-        subst (λ (f : Facts). Knows f new.seen kept) (sym ended.main.facts)
-            (subst (λ h. Knows old.facts h kept) (sym made.newest) knows_after),
+        subst (λ (f : Facts). KeepsSettings f new.seen kept) (sym ended.main.facts)
+            (subst (λ h. KeepsSettings old.facts h kept) (sym made.newest) knows_after),
       )

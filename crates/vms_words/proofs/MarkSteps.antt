@@ -1,29 +1,19 @@
 -- A mark may be set that might be set before others acted. Its word tells one more set than stood.
-use Rattle.std.proofs.Common.{◌≡◌, ◌≢◌, ℕ, suc, ◌+◌, ◌∷◌, Bool, true, false, Option, Some, None, nat_eq, refl, sym}
-use Rattle.std.proofs.Common.{ap, ◌∙◌, arith, if◌then◌else◌, eq-eqb, eqb-true}
-use Rattle.vms_base.specs.declared.ids.CpuId.{CpuId}
-use Rattle.vms_base.specs.declared.ids.PlaceId.{PlaceId}
-use Rattle.vms_history.specs.PassSteps.{GoesOnWithout}
-use Rattle.vms_history.specs.Passes.{owner_in}
-use Rattle.vms_history.proofs.Choices.{if-never}
-use Rattle.vms_seats.specs.Passes.{Pass}
-use Rattle.vms_seats.specs.Steps.{MayStep}
-use Rattle.vms_core.specs.declared.states.State.{State}
-use Rattle.vms_core.specs.declared.steps.Facts.{Facts}
-use Rattle.vms_core.specs.declared.steps.Step.{Step}
-use Rattle.vms_core.specs.declared.steps.Step.TheVariants.{SetM}
-use Rattle.vms_core.specs.Cells.{mark_at, mark_sets_at, acknowledged_at, with_mark}
-use Rattle.vms_core.specs.Conditions.{SetsMark}
-use Rattle.vms_core.specs.Pages.{pages, History, IsLegal, state_after}
-use Rattle.vms_core.specs.Steps.{role, effect}
-use Rattle.vms_core.proofs.ControlSteps.{SetsMark-goes_on}
-use Rattle.vms_core.proofs.KnowledgeKept.{control-knows_later}
-use Rattle.vms_core.proofs.Settings.{mark_after, acknowledged_after, mark_at-newest, mark_sets_at-newest}
-use Rattle.vms_core.proofs.Settings.{acknowledged_at-newest}
+use Rattle.std.proofs.Common.{◌≡◌, ◌≢◌, ℕ, suc, ◌+◌, ◌∷◌, Bool, true, false, Option, Some, None, nat_eq, refl, sym, ap}
+use Rattle.std.proofs.Common.{◌∙◌, arith, if◌then◌else◌, eq-eqb, eqb-true}
+use Rattle.vms_calls.specs.Common.{CpuId, PlaceId, GoesOnWithout, owner_in, State, Facts, Step, SetM, mark_at}
+use Rattle.vms_calls.specs.Common.{mark_sets_at, acknowledged_at, with_mark, SetsMark, pages, History, state_after}
+use Rattle.vms_calls.specs.Common.{role, effect}
+use Rattle.vms_history.proofs.Common.{if-never}
+use Rattle.vms_seats.specs.Common.{Pass, MayStep}
+use Rattle.vms_core.specs.Pages.{IsLegal}
+use Rattle.vms_core.proofs.Common.{SetsMark-goes_on, control-knows_later, mark_after, acknowledged_after}
+use Rattle.vms_core.proofs.Common.{mark_at-newest, mark_sets_at-newest, acknowledged_at-newest}
 use Rattle.vms_words.specs.declared.spots.Spot.{Spot}
 use Rattle.vms_words.specs.declared.spots.Spot.TheVariants.{Value, System, Group, Threshold, Mark, Cpu, Acknowledgement}
-use Rattle.vms_words.specs.Shown.{shown, word_at, mark_word, acknowledgement_word}
-use Rattle.vms_words.specs.Spots.{IsSpot, blocks_of, place_in}
+use Rattle.vms_words.specs.Shown.{shown}
+use Rattle.vms_words.specs.Common.{spot_word, packed_mark, acknowledgement_word, IsSpot, place_in}
+use Rattle.vms_words.specs.Spots.{blocks_of}
 use Rattle.vms_words.proofs.SetSteps.{event, set-may}
 
 -- whoever sets it, the state is the same
@@ -40,45 +30,45 @@ module _ (pass : Pass Facts Step) (g : PlaceId) (m number : ℕ)
     abbrev s : State
     s = state_after pass.facts h
 
-    left : (other : Spot) → word_at (with_mark s g.number m) other ≡ word_at s other
-        → word_at (effect pass.facts (owner_in role h pass.number) (SetM g m) s) other ≡ word_at s other
+    left : (other : Spot) → spot_word (with_mark s g.number m) other ≡ spot_word s other
+        → spot_word (effect pass.facts (owner_in role h pass.number) (SetM g m) s) other ≡ spot_word s other
     left other same =
-        ap (λ x. word_at x other) (mark-effect pass.facts (owner_in role h pass.number) s g m) ∙ same
+        ap (λ x. spot_word x other) (mark-effect pass.facts (owner_in role h pass.number) s g m) ∙ same
 
     newest : (f : ℕ)
-        → word_at (state_after pass.facts (event pass.number (SetM g m) ∷ h)) (Mark (record { number = f }))
-        ≡ (if nat_eq g.number f then mark_word m (suc (mark_sets_at s f))
-        else mark_word (mark_at s f) (mark_sets_at s f))
+        → spot_word (state_after pass.facts (event pass.number (SetM g m) ∷ h)) (Mark (record { number = f }))
+        ≡ (if nat_eq g.number f then packed_mark m (suc (mark_sets_at s f))
+        else packed_mark (mark_at s f) (mark_sets_at s f))
     newest f =
-        ap (λ n. mark_word n (mark_sets_at (state_after pass.facts (event pass.number (SetM g m) ∷ h)) f))
+        ap (λ n. packed_mark n (mark_sets_at (state_after pass.facts (event pass.number (SetM g m) ∷ h)) f))
         (mark_at-newest pass.facts (event pass.number (SetM g m)) h legal f)
-        ∙ ap (mark_word (mark_after f (SetM g m) (mark_at s f)))
+        ∙ ap (packed_mark (mark_after f (SetM g m) (mark_at s f)))
         (mark_sets_at-newest pass.facts (event pass.number (SetM g m)) h legal f)
         ∙ by (nat_eq g.number f)
       where
         by : (b : Bool)
-            → mark_word (if b then m else mark_at s f) (if b then suc (mark_sets_at s f) else mark_sets_at s f)
-            ≡ (if b then mark_word m (suc (mark_sets_at s f)) else mark_word (mark_at s f) (mark_sets_at s f))
+            → packed_mark (if b then m else mark_at s f) (if b then suc (mark_sets_at s f) else mark_sets_at s f)
+            ≡ (if b then packed_mark m (suc (mark_sets_at s f)) else packed_mark (mark_at s f) (mark_sets_at s f))
         by true = refl
         by false = refl
 
-    mark-here : word_at (state_after pass.facts (event pass.number (SetM g m) ∷ h)) (Mark g) ≡ mark_word m number
+    mark-here : spot_word (state_after pass.facts (event pass.number (SetM g m) ∷ h)) (Mark g) ≡ packed_mark m number
     mark-here =
         let stood = (control-knows_later pass.facts h pass.seen pass.number goes sets.control).mark_sets g.number in
         newest g.number
-        ∙ ap (λ b. if b then mark_word m (suc (mark_sets_at s g.number))
-        else mark_word (mark_at s g.number) (mark_sets_at s g.number)) (eq-eqb g.number g.number refl)
-        ∙ ap (mark_word m) (omega (arith, stood, counts))
+        ∙ ap (λ b. if b then packed_mark m (suc (mark_sets_at s g.number))
+        else packed_mark (mark_at s g.number) (mark_sets_at s g.number)) (eq-eqb g.number g.number refl)
+        ∙ ap (packed_mark m) (omega (arith, stood, counts))
 
     mark-others : (other : Spot) → IsSpot pass.facts.layout other → other ≢ Mark g
-        → word_at (state_after pass.facts (event pass.number (SetM g m) ∷ h)) other ≡ word_at s other
+        → spot_word (state_after pass.facts (event pass.number (SetM g m) ∷ h)) other ≡ spot_word s other
     mark-others (Value k) known differs = left (Value k) refl
     mark-others (System i) known differs = left (System i) refl
     mark-others (Group d j) known differs = left (Group d j) refl
     mark-others (Threshold d f) known differs = left (Threshold d f) refl
     mark-others (Mark f) known differs =
         newest f.number
-        ∙ if-never (nat_eq g.number f.number) (mark_word m (suc (mark_sets_at s f.number))) (word_at s (Mark f))
+        ∙ if-never (nat_eq g.number f.number) (packed_mark m (suc (mark_sets_at s f.number))) (spot_word s (Mark f))
         (λ here. differs (λ i. Mark (record { number = sym (eqb-true g.number f.number here) i })))
     mark-others (Cpu d) known differs = left (Cpu d) refl
     mark-others (Acknowledgement d f) known differs =
@@ -92,8 +82,8 @@ module _ (pass : Pass Facts Step) (g : PlaceId) (m number : ℕ)
         acknowledged-kept (Some o) e f before = refl
 
   pub mark-may : MayStep pages shown pass (place_in (blocks_of pass.facts.layout) (Mark g))
-      (λ n. mark_word m number) (λ n. SetM g m)
+      (λ n. packed_mark m number) (λ n. SetM g m)
   mark-may =
-      set-may pass (Mark g) sets.zone (SetM g m) (mark_word m number) refl
+      set-may pass (Mark g) sets.zone (SetM g m) (packed_mark m number) refl
       (λ h goes. SetsMark-goes_on pass.facts h pass.seen pass.number g m goes sets)
       (λ h legal goes. mark-here h goes legal) (λ h legal goes. mark-others h goes legal)

@@ -1,15 +1,11 @@
 -- What the control pass keeps as a phase begins is what stands then.
 use Rattle.std.proofs.Common.{◌≡◌, ℕ, ◌*◌, ◌<◌, ◌/◌, ◌%◌, [], List, length, get_or, refl, ap, ◌∙◌, arith}
-use Rattle.vms_base.specs.Cpus.{state_at}
-use Rattle.vms_base.specs.Places.{IsLayout, cell}
-use Rattle.vms_base.proofs.Cells.{cell-cpu, cell-lt, cell-thing}
-use Rattle.vms_core.specs.declared.steps.Facts.{Facts}
-use Rattle.vms_core.specs.Bases.{IsOpening}
-use Rattle.vms_core.specs.Cells.{threshold_at, threshold_sets_at}
-use Rattle.vms_core.specs.Peaks.{opening_peak}
-use Rattle.vms_core.proofs.PlainData.{places_of-shaped}
+use Rattle.vms_calls.specs.Common.{state_at, IsLayout, cell, Facts, IsOpening, threshold_at, threshold_sets_at}
+use Rattle.vms_calls.specs.Common.{opening_peak}
+use Rattle.vms_base.proofs.Common.{cell-cpu, cell-lt, cell-thing}
+use Rattle.vms_core.proofs.Common.{places_of-shaped}
 use Rattle.vms_words.specs.declared.kept.Settings.{Settings}
-use Rattle.vms_words.specs.KeptSettings.{Knows, kept_threshold, kept_sets}
+use Rattle.vms_words.specs.Common.{KeepsSettings, kept_threshold, kept_sets}
 use Rattle.vms_words.proofs.KeptSettings.{largest-most}
 
 module _ (facts : Facts) (layout : IsLayout facts.layout) (opening : IsOpening facts.layout facts.base)
@@ -26,8 +22,8 @@ module _ (facts : Facts) (layout : IsLayout facts.layout) (opening : IsOpening f
   sets-same : (c g : ℕ) → kept_sets facts.layout kept c g ≡ threshold_sets_at facts.base c g
   sets-same c g = rw (threshold_sets, places_of-shaped facts.layout facts.base layout opening.shaped) refl
 
-  pub Knows-opening : Knows facts [] kept
-  Knows-opening = record {
+  pub KeepsSettings-opening : KeepsSettings facts [] kept
+  KeepsSettings-opening = record {
     is_kept = record {
       peaks = peaks_full;
       thresholds = ap length thresholds ∙ opening.shaped.threshold;

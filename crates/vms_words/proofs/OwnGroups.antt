@@ -1,14 +1,13 @@
 -- Where the words of a CPU's groups begin, and those of its other groups stand.
 use Rattle.std.proofs.Common.{◌≡◌, ℕ, ◌+◌, ◌*◌, ◌<◌, ◌≤◌, ◌^◌, refl, sym, ap, ◌∙◌, arith, subst}
 use Rattle.std.proofs.Math.Nat.{mul-le-mul_right}
-use Rattle.vms_base.specs.declared.ids.CpuId.{CpuId}
-use Rattle.vms_base.specs.declared.ids.GroupId.{GroupId}
-use Rattle.vms_base.specs.Places.{Shape, IsCpu, IsGroup, IsLayout, cell}
+use Rattle.vms_calls.specs.Common.{CpuId, GroupId, Shape, IsCpu, IsGroup, IsLayout, cell}
 use Rattle.vms_words.specs.declared.spots.Blocks.{Blocks}
 use Rattle.vms_words.specs.declared.spots.Spot.TheVariants.{Group}
-use Rattle.vms_words.specs.Spots.{IsSpot, blocks_of, groups_start, place_in}
-use Rattle.vms_words.proofs.Blocks.{AreBlocks, are_blocks, end-most}
-use Rattle.vms_words.proofs.Places.{place-lt, place-fits}
+use Rattle.vms_words.specs.Spots.{blocks_of}
+use Rattle.vms_words.specs.Common.{groups_start, place_in}
+use Rattle.vms_words.proofs.Blocks.{are_blocks, end-most}
+use Rattle.vms_words.proofs.Places.{place-lt}
 
 further : (g row j : ℕ) → g + (row + 0) + j ≡ g + (row + j)
 further g row j = omega arith

@@ -1,13 +1,14 @@
 -- One entry of a packed list is read, or changed, within its word.
-use Rattle.std.proofs.Common.{◌≡◌, ℕ, zero, suc, ◌+◌, ◌*◌, ◌-◌, ◌/◌, ◌%◌, ◌<◌, ◌≤◌, ◌^◌, ℤ, pos, List, [], ◌∷◌, get_or, map, replicate}
-use Rattle.std.proofs.Common.{refl, arith, ◌∙◌, ap, sym, subst, length-set}
+use Rattle.std.proofs.Common.{◌≡◌, ℕ, zero, suc, ◌+◌, ◌*◌, ◌-◌, ◌/◌, ◌%◌, ◌<◌, ◌≤◌, ◌^◌, ℤ, pos, List, [], ◌∷◌, get_or}
+use Rattle.std.proofs.Common.{map, replicate, refl, arith, ◌∙◌, ap, sym, subst, length-set}
 use Rattle.std.specs.Int.{w8, w64, cast_signed, cast_unsigned, from_le_bytes, to_le_bytes, byte_at, bytes_low_first}
 use Rattle.std.proofs.Math.ListN.{set}
 use Rattle.std.proofs.lemmas.Int.{to_z-of_z}
 use Rattle.std.proofs.lemmas.List.{map-set}
 use Rattle.std.proofs.lemmas.Nat.{le_bytes_8, from_le_bytes-to_le_bytes_8, shl_whole}
-use Rattle.vms_base.specs.Groups.{IsByte, bytes_of_word}
-use Rattle.vms_words.specs.Lists.{byte_at-lt, low_first-below}
+use Rattle.vms_calls.specs.Common.{IsByte}
+use Rattle.vms_base.specs.Groups.{bytes_of_word}
+use Rattle.vms_words.specs.Common.{byte_at-lt, low_first-below}
 use Rattle.vms_words.proofs.GroupBytes.{byte-fits}
 
 pub read-zeros : bytes_of_word 0 ≡ replicate 8 (pos 0)

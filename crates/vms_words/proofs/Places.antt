@@ -3,12 +3,13 @@ use Rattle.std.proofs.Common.{◌≡◌, ℕ, ◌+◌, ◌-◌, ◌*◌, ◌/◌
 use Rattle.std.proofs.Common.{refl, ap, ◌∙◌, arith, subst, if◌then◌else◌}
 use Rattle.std.proofs.lemmas.Bool.{ltb-true, ltb-false}
 use Rattle.std.proofs.lemmas.Nat.{div_below, mod_below, div-add-mod'}
-use Rattle.vms_base.specs.Places.{Shape, IsLayout, cell}
-use Rattle.vms_base.proofs.Cells.{cell-lt, cell-cpu, cell-thing}
+use Rattle.vms_calls.specs.Common.{Shape, IsLayout, cell}
+use Rattle.vms_base.proofs.Common.{cell-lt, cell-cpu, cell-thing}
 use Rattle.vms_words.specs.declared.spots.Blocks.{Blocks}
 use Rattle.vms_words.specs.declared.spots.Spot.{Spot}
 use Rattle.vms_words.specs.declared.spots.Spot.TheVariants.{Value, System, Group, Threshold, Mark, Cpu, Acknowledgement}
-use Rattle.vms_words.specs.Spots.{IsSpot, place_in, spot_in, blocks_of}
+use Rattle.vms_words.specs.Common.{IsSpot, place_in, spot_in}
+use Rattle.vms_words.specs.Spots.{blocks_of}
 use Rattle.vms_words.proofs.Blocks.{AreBlocks, are_blocks, end-most}
 
 by_test : {X : Type 0} (P : X → Type 0) (b : Bool) (x y : X) → (b ≡ true → P x) → (b ≡ false → P y)

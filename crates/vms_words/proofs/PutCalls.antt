@@ -1,47 +1,26 @@
 -- What a pass may put, and what it has made by then, from what it is asked.
 use Rattle.std.proofs.Common.{◌≡◌, ◌≢◌, ℕ, ◌+◌, ◌%◌, ◌<◌, ◌≤◌, ◌^◌, ◌==◌, Bool, true, false, List, length, get_or}
-use Rattle.std.proofs.Common.{Option, Some, None, ℤ, pos, negsuc, unsigned_abs, to_z, of_z, w64}
-use Rattle.std.proofs.Common.{refl, sym, ap, ◌∙◌, subst, arith, if◌then◌else◌, eq-eqb}
+use Rattle.std.proofs.Common.{Option, Some, None, ℤ, pos, negsuc, unsigned_abs, to_z, of_z, w64, refl, sym, ap, ◌∙◌}
+use Rattle.std.proofs.Common.{subst, arith, if◌then◌else◌, eq-eqb}
 use Rattle.std.proofs.Math.ListN.{set}
 use Rattle.std.proofs.lemmas.Bool.{ne_eqb}
 use Rattle.std.proofs.lemmas.Int.{ints, to_z-of_z}
 use Rattle.std.proofs.lemmas.Option.{same_Some}
 use mir.Val.{SFits}
-use Rattle.vms_base.specs.declared.groups.Diffs.{Diffs}
-use Rattle.vms_base.specs.declared.ids.CounterId.{CounterId}
-use Rattle.vms_base.specs.declared.ids.CpuId.{CpuId}
-use Rattle.vms_base.specs.declared.ids.GroupId.{GroupId}
-use Rattle.vms_base.specs.declared.kinds.Mode.{Mode}
-use Rattle.vms_base.specs.Groups.{IsByte, word_of_bytes}
-use Rattle.vms_base.specs.Places.{group_of, place_of}
-use Rattle.vms_base.specs.Thresholds.{most_threshold}
-use Rattle.vms_base.specs.Volumes.{most_volume}
-use Rattle.vms_base.proofs.Counts.{place_of-lt}
-use Rattle.vms_history.specs.Events.{own}
+use Rattle.vms_calls.specs.Common.{Diffs, CounterId, CpuId, GroupId, Mode, IsByte, group_of, place_of, most_threshold}
+use Rattle.vms_calls.specs.Common.{most_volume, own, owner_in, State, Facts, Step, Put, Miss, TellsGroup, entry}
+use Rattle.vms_calls.specs.Common.{eight_zeros, differential_after, carried_by, Misses, MayExchange, found, pages}
+use Rattle.vms_calls.specs.Common.{History, state_after, role, effect}
+use Rattle.vms_base.specs.Groups.{word_of_bytes}
+use Rattle.vms_base.proofs.Common.{place_of-lt}
 use Rattle.vms_history.specs.Legal.{IsLegal}
-use Rattle.vms_history.specs.Passes.{owner_in}
-use Rattle.vms_history.proofs.Prefixes.{base_can_begin}
-use Rattle.vms_seats.specs.Passes.{Pass, IsLive}
-use Rattle.vms_seats.specs.Steps.{MayStep, MadeOne}
-use Rattle.vms_core.specs.declared.states.State.{State}
-use Rattle.vms_core.specs.declared.steps.Facts.{Facts}
-use Rattle.vms_core.specs.declared.steps.Step.{Step}
-use Rattle.vms_core.specs.declared.steps.Step.TheVariants.{Put, Miss}
-use Rattle.vms_core.specs.Cells.{TellsGroup, entry, eight_zeros}
-use Rattle.vms_core.specs.Changes.{differential_after, carried_by}
-use Rattle.vms_core.specs.Conditions.{Misses}
-use Rattle.vms_core.specs.Knowledge.{MayExchange}
-use Rattle.vms_core.specs.Own.{found}
-use Rattle.vms_core.specs.Pages.{pages, History, state_after}
-use Rattle.vms_core.specs.Steps.{role, effect}
-use Rattle.vms_core.proofs.KeptLaws.{laws-kept}
-use Rattle.vms_core.proofs.KnowledgeKept.{owner_in-goes_on}
+use Rattle.vms_history.proofs.Common.{base_can_begin}
+use Rattle.vms_seats.specs.Common.{Pass, IsLive, MayStep, MadeOne}
+use Rattle.vms_core.proofs.Common.{laws-kept, owner_in-goes_on}
 use Rattle.vms_words.specs.declared.spots.Spot.TheVariants.{Group}
-use Rattle.vms_words.specs.PagePasses.{IsOwningPass}
-use Rattle.vms_words.specs.Puts.{MayPut}
+use Rattle.vms_words.specs.Common.{IsOwningPass, MayPut, place_in, told}
 use Rattle.vms_words.specs.Shown.{shown}
-use Rattle.vms_words.specs.Spots.{blocks_of, place_in}
-use Rattle.vms_words.specs.Told.{told}
+use Rattle.vms_words.specs.Spots.{blocks_of}
 use Rattle.vms_words.proofs.Numbers.{fits-64, byte-passed}
 use Rattle.vms_words.proofs.PutSteps.{group-put}
 

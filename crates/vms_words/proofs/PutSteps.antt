@@ -1,39 +1,22 @@
 -- An exchange of the list that was found puts the new one, or misses.
 use Rattle.std.proofs.Common.{◌≡◌, ◌≢◌, ℕ, ◌+◌, ◌*◌, ◌%◌, ◌<◌, ◌&&◌, ◌==◌, Bool, true, false, List, length, get_or}
-use Rattle.std.proofs.Common.{Some, ℤ, pos, refl, sym, ap, ◌∙◌, subst, arith, length-set}
-use Rattle.std.proofs.Common.{if◌then◌else◌, nat_eq, eqb-true, eq-eqb}
+use Rattle.std.proofs.Common.{Some, ℤ, pos, refl, sym, ap, ◌∙◌, subst, arith, length-set, if◌then◌else◌, nat_eq}
+use Rattle.std.proofs.Common.{eqb-true, eq-eqb}
 use Rattle.std.proofs.Math.ListN.{set}
 use Rattle.std.proofs.lemmas.Bool.{eqb-false, ne_eqb}
 use Rattle.std.proofs.lemmas.List.{set-get_or}
-use Rattle.vms_base.specs.declared.groups.Diffs.{Diffs}
-use Rattle.vms_base.specs.declared.ids.CounterId.{CounterId}
-use Rattle.vms_base.specs.declared.ids.CpuId.{CpuId}
-use Rattle.vms_base.specs.declared.ids.GroupId.{GroupId}
-use Rattle.vms_base.specs.declared.kinds.Mode.{Mode}
+use Rattle.vms_calls.specs.Common.{Diffs, CounterId, CpuId, GroupId, Mode, IsCpu, IsCounter, IsGroup, group_of}
+use Rattle.vms_calls.specs.Common.{GoesOnWithout, State, Facts, Step, Put, Miss, TellsGroup, diff_at, entry, with_diff}
+use Rattle.vms_calls.specs.Common.{differential_after, MayExchange, pages, History, state_after, effect}
 use Rattle.vms_base.specs.Groups.{bytes_of_word, word_of_bytes}
-use Rattle.vms_base.specs.Places.{IsCpu, IsCounter, IsGroup, group_of}
-use Rattle.vms_base.proofs.Counts.{group_of-lt}
-use Rattle.vms_history.specs.PassSteps.{GoesOnWithout}
-use Rattle.vms_history.proofs.Cells.{get_or-set}
-use Rattle.vms_history.proofs.Prefixes.{base_can_begin}
-use Rattle.vms_seats.specs.Passes.{Pass}
-use Rattle.vms_seats.specs.Steps.{MayStep, NextStep}
-use Rattle.vms_core.specs.declared.states.State.{State}
-use Rattle.vms_core.specs.declared.steps.Facts.{Facts}
-use Rattle.vms_core.specs.declared.steps.Step.{Step}
-use Rattle.vms_core.specs.declared.steps.Step.TheVariants.{Put, Miss}
-use Rattle.vms_core.specs.Cells.{TellsGroup, diff_at, entry, with_diff}
-use Rattle.vms_core.specs.Changes.{differential_after}
-use Rattle.vms_core.specs.Knowledge.{MayExchange}
-use Rattle.vms_core.specs.Pages.{pages, History, state_after}
-use Rattle.vms_core.specs.Steps.{effect}
-use Rattle.vms_core.proofs.Effects.{diff_at-effect}
-use Rattle.vms_core.proofs.Exchanges.{put-follows, miss-follows, MayExchange-goes_on}
-use Rattle.vms_core.proofs.KeptLaws.{laws-kept}
+use Rattle.vms_base.proofs.Common.{group_of-lt}
+use Rattle.vms_history.proofs.Common.{get_or-set, base_can_begin}
+use Rattle.vms_seats.specs.Common.{Pass, MayStep, NextStep}
+use Rattle.vms_core.proofs.Common.{diff_at-effect, put-follows, miss-follows, MayExchange-goes_on, laws-kept}
 use Rattle.vms_words.specs.declared.spots.Spot.TheVariants.{Group}
-use Rattle.vms_words.specs.Shown.{shown, word_at, group_at}
-use Rattle.vms_words.specs.Spots.{blocks_of, place_in}
-use Rattle.vms_words.specs.Told.{told}
+use Rattle.vms_words.specs.Shown.{shown}
+use Rattle.vms_words.specs.Common.{spot_word, group_at, place_in, told}
+use Rattle.vms_words.specs.Spots.{blocks_of}
 use Rattle.vms_words.proofs.GroupBytes.{bytes-of_word}
 use Rattle.vms_words.proofs.GroupChanges.{known-member, diffs-others}
 use Rattle.vms_words.proofs.GroupSteps.{group-read}
@@ -64,7 +47,7 @@ module _ (pass : Pass Facts Step) (c : CpuId) (k : CounterId) (w : Diffs) (t : �
   j_in = group_of-lt pass.facts.layout (base_can_begin pages pass.facts pass.seen may.legal).layout k.number may.counter
 
   module _ (h : History) (goes : GoesOnWithout pages pass.facts h pass.seen pass.number) (found : ℕ)
-      (stands : word_at (state_after pass.facts h) (Group c j) ≡ found) where
+      (stands : spot_word (state_after pass.facts h) (Group c j) ≡ found) where
     still : MayExchange pass.facts h pass.number c k w t delta
     still = MayExchange-goes_on pass.facts h pass.seen pass.number c k w t delta goes may
 
@@ -146,7 +129,7 @@ module _ (pass : Pass Facts Step) (c : CpuId) (k : CounterId) (w : Diffs) (t : �
       (λ n. if n == word_of_bytes w.values then word_of_bytes next_list else n) (told (Put k w t delta how))
   group-put h found goes fits stands = by (found == word_of_bytes w.values) refl
     where
-      is : word_at (state_after pass.facts h) (Group c j) ≡ found
+      is : spot_word (state_after pass.facts h) (Group c j) ≡ found
       is = sym (shown-at pass.facts (state_after pass.facts h) (Group c j) (c_in, j_in)) ∙ stands
 
       by : (b : Bool) → (found == word_of_bytes w.values) ≡ b

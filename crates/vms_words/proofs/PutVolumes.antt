@@ -1,25 +1,14 @@
 -- Volumes hold what a CPU has spent, after a put that grew one of them.
-use Rattle.std.proofs.Common.{◌≡◌, ℕ, ◌+◌, ◌<◌, ◌≤◌, ◌&&◌, Bool, true, false, List, [], ◌∷◌, get_or, ℤ}
-use Rattle.std.proofs.Common.{unsigned_abs, refl, sym, ap, ◌∙◌, subst, arith, length-set}
-use Rattle.std.proofs.Common.{if◌then◌else◌, nat_eq, eqb-true, eq-eqb}
+use Rattle.std.proofs.Common.{◌≡◌, ℕ, ◌+◌, ◌<◌, ◌≤◌, ◌&&◌, Bool, true, false, List, [], ◌∷◌, get_or, ℤ, unsigned_abs}
+use Rattle.std.proofs.Common.{refl, sym, ap, ◌∙◌, subst, arith, length-set, if◌then◌else◌, nat_eq, eqb-true, eq-eqb}
 use Rattle.std.proofs.Math.ListN.{set}
-use Rattle.vms_base.specs.declared.groups.Diffs.{Diffs}
-use Rattle.vms_base.specs.declared.ids.CounterId.{CounterId}
-use Rattle.vms_base.specs.declared.ids.CpuId.{CpuId}
-use Rattle.vms_base.specs.declared.kinds.Mode.{Mode}
-use Rattle.vms_base.specs.Places.{IsCounter}
-use Rattle.vms_base.specs.Volumes.{most_volume}
-use Rattle.vms_history.proofs.Cells.{get_or-set}
-use Rattle.vms_seats.specs.Passes.{Pass}
-use Rattle.vms_seats.specs.Steps.{MadeOne}
-use Rattle.vms_seats.proofs.MadeCalls.{calls-live}
-use Rattle.vms_core.specs.declared.steps.Facts.{Facts}
-use Rattle.vms_core.specs.declared.steps.Step.{Step}
-use Rattle.vms_core.specs.declared.steps.Step.TheVariants.{Put}
-use Rattle.vms_core.specs.Pages.{pages}
-use Rattle.vms_core.specs.Totals.{spent, spent_by}
-use Rattle.vms_core.proofs.KnowledgeKept.{OwnerKnows-holds}
-use Rattle.vms_words.specs.PagePasses.{HoldsSpending, IsOwningPass}
+use Rattle.vms_calls.specs.Common.{Diffs, CounterId, CpuId, Mode, IsCounter, most_volume, Facts, Step, Put, pages}
+use Rattle.vms_calls.specs.Common.{spent, spent_by}
+use Rattle.vms_history.proofs.Common.{get_or-set}
+use Rattle.vms_seats.specs.Common.{Pass, MadeOne}
+use Rattle.vms_seats.proofs.Common.{calls-live}
+use Rattle.vms_core.proofs.Common.{OwnerKnows-holds}
+use Rattle.vms_words.specs.Common.{HoldsSpending, IsOwningPass}
 
 module _ (new old : Pass Facts Step) (cpu : CpuId) (volume : List ℕ) (k : CounterId) (w : Diffs) (t : ℕ) (delta : ℤ)
     (how : Mode) (owning : IsOwningPass old cpu volume) (made : MadeOne pages new old (Put k w t delta how))

@@ -2,21 +2,14 @@
 -- what they showed.
 use Rattle.std.proofs.Common.{◌≡◌, ◌≢◌, ℕ, ◌∷◌, ◌&&◌, true, nat_eq, refl, eq-eqb, eqb-true}
 use Rattle.std.proofs.lemmas.Bool.{and_parts}
-use Rattle.vms_base.specs.declared.ids.CpuId.{CpuId}
-use Rattle.vms_base.specs.declared.ids.PlaceId.{PlaceId}
-use Rattle.vms_history.specs.declared.events.Event.{Event}
-use Rattle.vms_history.specs.Passes.Role.{Works}
-use Rattle.vms_history.specs.PassSteps.{GoesOnWithout}
-use Rattle.vms_seats.specs.Passes.{Pass}
-use Rattle.vms_seats.specs.Steps.{MayStep}
-use Rattle.vms_core.specs.declared.steps.Facts.{Facts}
-use Rattle.vms_core.specs.declared.steps.Step.{Step}
-use Rattle.vms_core.specs.Conditions.{Meets}
-use Rattle.vms_core.specs.Pages.{pages, History, IsLegal, state_after}
-use Rattle.vms_core.specs.Steps.{role}
+use Rattle.vms_calls.specs.Common.{CpuId, PlaceId, Event, Works, GoesOnWithout, Facts, Step, Meets, pages, History}
+use Rattle.vms_calls.specs.Common.{state_after, role}
+use Rattle.vms_seats.specs.Common.{Pass, MayStep}
+use Rattle.vms_core.specs.Pages.{IsLegal}
 use Rattle.vms_words.specs.declared.spots.Spot.{Spot}
-use Rattle.vms_words.specs.Shown.{shown, word_at}
-use Rattle.vms_words.specs.Spots.{IsSpot, blocks_of, place_in}
+use Rattle.vms_words.specs.Shown.{shown}
+use Rattle.vms_words.specs.Common.{spot_word, IsSpot, place_in}
+use Rattle.vms_words.specs.Spots.{blocks_of}
 use Rattle.vms_words.proofs.LoadSteps.{acts}
 use Rattle.vms_words.proofs.ShownWords.{shown-set}
 
@@ -30,11 +23,12 @@ module _ (pass : Pass Facts Step) (spot : Spot) (known : IsSpot pass.facts.layou
     → Meets pass.facts h (state_after pass.facts h) pass.number step)
     (here : (h : History) → IsLegal pass.facts (event pass.number step ∷ h)
     → GoesOnWithout pages pass.facts h pass.seen pass.number
-    → word_at (state_after pass.facts (event pass.number step ∷ h)) spot ≡ after)
+    → spot_word (state_after pass.facts (event pass.number step ∷ h)) spot ≡ after)
     (others : (h : History) → IsLegal pass.facts (event pass.number step ∷ h)
     → GoesOnWithout pages pass.facts h pass.seen pass.number
     → (other : Spot) → IsSpot pass.facts.layout other → other ≢ spot
-    → word_at (state_after pass.facts (event pass.number step ∷ h)) other ≡ word_at (state_after pass.facts h) other)
+    → spot_word (state_after pass.facts (event pass.number step ∷ h)) other
+    ≡ spot_word (state_after pass.facts h) other)
   where
     pub set-may : MayStep pages shown pass (place_in (blocks_of pass.facts.layout) spot) (λ n. after) (λ n. step)
     set-may h found goes fits stands =

@@ -1,30 +1,29 @@
 -- What the words that show a state are, one by one, and how a change of one number changes them.
-use Rattle.std.proofs.Common.{◌≡◌, ◌≢◌, ℕ, ◌<◌, Bool, true, false, List, length, map, get_or, set, slice_index}
-use Rattle.std.proofs.Common.{nat_eq, if◌then◌else◌, refl, sym, ap, ◌∙◌, arith, length-set, eqb-true}
+use Rattle.std.proofs.Common.{◌≡◌, ◌≢◌, ℕ, ◌<◌, Bool, true, false, List, length, map, get_or, set, slice_index, nat_eq}
+use Rattle.std.proofs.Common.{if◌then◌else◌, refl, sym, ap, ◌∙◌, arith, length-set, eqb-true}
 use Rattle.std.specs.List.{range_with_len}
 use Rattle.std.proofs.lemmas.Bool.{eqb-false}
 use Rattle.std.proofs.lemmas.List.{ext_get_or}
 use Rattle.std.proofs.lemmas.List.FromFn.{get_or-map-range_with_len, length-map-range_with_len}
-use Rattle.vms_history.proofs.Cells.{get_or-set}
-use Rattle.vms_base.specs.Places.{IsLayout}
-use Rattle.vms_core.specs.declared.states.State.{State}
-use Rattle.vms_core.specs.declared.steps.Facts.{Facts}
+use Rattle.vms_history.proofs.Common.{get_or-set}
+use Rattle.vms_calls.specs.Common.{IsLayout, State, Facts}
 use Rattle.vms_words.specs.declared.spots.Blocks.{Blocks}
 use Rattle.vms_words.specs.declared.spots.Spot.{Spot}
-use Rattle.vms_words.specs.Shown.{shown, word_at}
-use Rattle.vms_words.specs.Spots.{IsSpot, blocks_of, place_in, spot_in}
+use Rattle.vms_words.specs.Shown.{shown}
+use Rattle.vms_words.specs.Common.{spot_word, IsSpot, place_in, spot_in}
+use Rattle.vms_words.specs.Spots.{blocks_of}
 use Rattle.vms_words.proofs.Blocks.{AreBlocks, blocks-are}
 use Rattle.vms_words.proofs.Places.{place_in-lt, place_in-spot_in, spot_in-known, spot_in-place_in}
 
 pub words-shown : (facts : Facts) (s : State) (b : Blocks) (words : List ℕ) → b ≡ blocks_of facts.layout
-    → words ≡ map (λ n. word_at s (spot_in b n)) (range_with_len 0 b.end) → words ≡ shown facts s
+    → words ≡ map (λ n. spot_word s (spot_in b n)) (range_with_len 0 b.end) → words ≡ shown facts s
 unfolding shown
 words-shown facts s b words laid are =
-    are ∙ ap (λ (a : Blocks). map (λ n. word_at s (spot_in a n)) (range_with_len 0 a.end)) laid
+    are ∙ ap (λ (a : Blocks). map (λ n. spot_word s (spot_in a n)) (range_with_len 0 a.end)) laid
 
 pub length-words : (s : State) (b : Blocks) (words : List ℕ)
-    → words ≡ map (λ n. word_at s (spot_in b n)) (range_with_len 0 b.end) → length words ≡ b.end
-length-words s b words are = ap length are ∙ length-map-range_with_len (λ n. word_at s (spot_in b n)) 0 b.end
+    → words ≡ map (λ n. spot_word s (spot_in b n)) (range_with_len 0 b.end) → length words ≡ b.end
+length-words s b words are = ap length are ∙ length-map-range_with_len (λ n. spot_word s (spot_in b n)) 0 b.end
 
 pub some-words : (facts : Facts) → IsLayout facts.layout → 0 < (blocks_of facts.layout).end
 some-words facts layout =
@@ -40,24 +39,24 @@ module _ (facts : Facts) where
 
   pub length-shown : (s : State) → length (shown facts s) ≡ b.end
   unfolding shown
-  length-shown s = length-map-range_with_len (λ n. word_at s (spot_in b n)) 0 b.end
+  length-shown s = length-map-range_with_len (λ n. spot_word s (spot_in b n)) 0 b.end
 
-  get_or-shown : (s : State) (n : ℕ) → n < b.end → get_or (shown facts s) n 0 ≡ word_at s (spot_in b n)
+  get_or-shown : (s : State) (n : ℕ) → n < b.end → get_or (shown facts s) n 0 ≡ spot_word s (spot_in b n)
   unfolding shown
   get_or-shown s n within =
-      get_or-map-range_with_len (λ m. word_at s (spot_in b m)) 0 b.end n n 0 within (omega arith)
+      get_or-map-range_with_len (λ m. spot_word s (spot_in b m)) 0 b.end n n 0 within (omega arith)
 
   -- the word of a number shows it
   pub shown-at : (s : State) (spot : Spot) → IsSpot facts.layout spot
-      → slice_index (shown facts s) (place_in b spot) ≡ word_at s spot
+      → slice_index (shown facts s) (place_in b spot) ≡ spot_word s spot
   shown-at s spot known =
       get_or-shown s (place_in b spot) (place_in-lt facts.layout b are spot known)
-      ∙ ap (word_at s) (spot_in-place_in facts.layout b are spot known)
+      ∙ ap (spot_word s) (spot_in-place_in facts.layout b are spot known)
 
   -- where one number alone changed, one word alone differs
   pub shown-set : (s later : State) (spot : Spot) → IsSpot facts.layout spot → (after : ℕ)
-      → word_at later spot ≡ after
-      → ((other : Spot) → IsSpot facts.layout other → other ≢ spot → word_at later other ≡ word_at s other)
+      → spot_word later spot ≡ after
+      → ((other : Spot) → IsSpot facts.layout other → other ≢ spot → spot_word later other ≡ spot_word s other)
       → shown facts later ≡ set (shown facts s) (place_in b spot) after
   shown-set s later spot known after here others =
       ext_get_or 0 (shown facts later) (set (shown facts s) (place_in b spot) after)
@@ -68,10 +67,10 @@ module _ (facts : Facts) where
       (omega (arith, length-shown s, place_in-lt facts.layout b are spot known))))
     where
       each : (n : ℕ) → n < b.end → (same : Bool) → nat_eq (place_in b spot) n ≡ same
-          → word_at later (spot_in b n) ≡ (if same then after else get_or (shown facts s) n 0)
+          → spot_word later (spot_in b n) ≡ (if same then after else get_or (shown facts s) n 0)
       each n inside true at =
-          ap (λ m. word_at later (spot_in b m)) (sym (eqb-true (place_in b spot) n at))
-          ∙ ap (word_at later) (spot_in-place_in facts.layout b are spot known) ∙ here
+          ap (λ m. spot_word later (spot_in b m)) (sym (eqb-true (place_in b spot) n at))
+          ∙ ap (spot_word later) (spot_in-place_in facts.layout b are spot known) ∙ here
       each n inside false differ =
           others (spot_in b n) (spot_in-known facts.layout b are n inside)
           (λ same. eqb-false (place_in b spot) n differ

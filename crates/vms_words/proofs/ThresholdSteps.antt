@@ -1,31 +1,18 @@
 -- A threshold may be set that might be set before others acted. Its word tells one more set than stood.
 use Rattle.std.proofs.Common.{◌≡◌, ◌≢◌, ℕ, suc, ◌+◌, ◌∷◌, ◌&&◌, Bool, true, false, Option, Some, None, nat_eq, refl}
-use Rattle.std.proofs.Common.{sym}
-use Rattle.std.proofs.Common.{ap, ◌∙◌, arith, if◌then◌else◌}
-use Rattle.vms_base.specs.declared.ids.CpuId.{CpuId}
-use Rattle.vms_base.specs.declared.ids.PlaceId.{PlaceId}
-use Rattle.vms_base.specs.Places.{IsPlace}
-use Rattle.vms_history.specs.PassSteps.{GoesOnWithout}
-use Rattle.vms_history.specs.Passes.{owner_in}
-use Rattle.vms_history.proofs.Choices.{if-never}
-use Rattle.vms_seats.specs.Passes.{Pass}
-use Rattle.vms_seats.specs.Steps.{MayStep}
-use Rattle.vms_core.specs.declared.states.State.{State}
-use Rattle.vms_core.specs.declared.steps.Facts.{Facts}
-use Rattle.vms_core.specs.declared.steps.Step.{Step}
-use Rattle.vms_core.specs.declared.steps.Step.TheVariants.{SetT}
-use Rattle.vms_core.specs.Cells.{threshold_at, threshold_sets_at, with_threshold}
-use Rattle.vms_core.specs.Conditions.{SetsThreshold}
-use Rattle.vms_core.specs.Pages.{pages, History, IsLegal, state_after}
-use Rattle.vms_core.specs.Peaks.{threshold_after}
-use Rattle.vms_core.specs.Steps.{role, effect}
-use Rattle.vms_core.proofs.ControlSteps.{SetsThreshold-goes_on}
-use Rattle.vms_core.proofs.KnowledgeKept.{control-knows_later}
-use Rattle.vms_core.proofs.Settings.{threshold_at-newest, sets-newest}
+use Rattle.std.proofs.Common.{sym, ap, ◌∙◌, arith, if◌then◌else◌}
+use Rattle.vms_calls.specs.Common.{CpuId, PlaceId, IsPlace, GoesOnWithout, owner_in, State, Facts, Step, SetT}
+use Rattle.vms_calls.specs.Common.{threshold_at, threshold_sets_at, with_threshold, SetsThreshold, pages, History}
+use Rattle.vms_calls.specs.Common.{state_after, threshold_after, role, effect}
+use Rattle.vms_history.proofs.Common.{if-never}
+use Rattle.vms_seats.specs.Common.{Pass, MayStep}
+use Rattle.vms_core.specs.Pages.{IsLegal}
+use Rattle.vms_core.proofs.Common.{SetsThreshold-goes_on, control-knows_later, threshold_at-newest, sets-newest}
 use Rattle.vms_words.specs.declared.spots.Spot.{Spot}
 use Rattle.vms_words.specs.declared.spots.Spot.TheVariants.{Value, System, Group, Threshold, Mark, Cpu, Acknowledgement}
-use Rattle.vms_words.specs.Shown.{shown, word_at, threshold_word}
-use Rattle.vms_words.specs.Spots.{IsSpot, blocks_of, place_in}
+use Rattle.vms_words.specs.Shown.{shown}
+use Rattle.vms_words.specs.Common.{spot_word, threshold_word, IsSpot, place_in}
+use Rattle.vms_words.specs.Spots.{blocks_of}
 use Rattle.vms_words.proofs.SetSteps.{event, set-may, other-cell, same-cell}
 
 -- whoever sets it, the state is the same
@@ -42,13 +29,13 @@ module _ (pass : Pass Facts Step) (c : CpuId) (g : PlaceId) (t number : ℕ)
     abbrev s : State
     s = state_after pass.facts h
 
-    left : (other : Spot) → word_at (with_threshold s c.number g.number t) other ≡ word_at s other
-        → word_at (effect pass.facts (owner_in role h pass.number) (SetT c g t) s) other ≡ word_at s other
+    left : (other : Spot) → spot_word (with_threshold s c.number g.number t) other ≡ spot_word s other
+        → spot_word (effect pass.facts (owner_in role h pass.number) (SetT c g t) s) other ≡ spot_word s other
     left other same =
-        ap (λ x. word_at x other) (threshold-effect pass.facts (owner_in role h pass.number) s c g t) ∙ same
+        ap (λ x. spot_word x other) (threshold-effect pass.facts (owner_in role h pass.number) s c g t) ∙ same
 
     newest : (d f : ℕ) → IsPlace pass.facts.layout f
-        → word_at (state_after pass.facts (event pass.number (SetT c g t) ∷ h))
+        → spot_word (state_after pass.facts (event pass.number (SetT c g t) ∷ h))
         (Threshold (record { number = d }) (record { number = f }))
         ≡ (if nat_eq c.number d && nat_eq g.number f
         then threshold_word t (suc (threshold_sets_at s d f))
@@ -68,7 +55,7 @@ module _ (pass : Pass Facts Step) (c : CpuId) (g : PlaceId) (t number : ℕ)
         by true = refl
         by false = refl
 
-    threshold-here : word_at (state_after pass.facts (event pass.number (SetT c g t) ∷ h)) (Threshold c g)
+    threshold-here : spot_word (state_after pass.facts (event pass.number (SetT c g t) ∷ h)) (Threshold c g)
         ≡ threshold_word t number
     threshold-here =
         let stood = (control-knows_later pass.facts h pass.seen pass.number goes sets.control).threshold_sets
@@ -80,14 +67,14 @@ module _ (pass : Pass Facts Step) (c : CpuId) (g : PlaceId) (t number : ℕ)
         ∙ ap (threshold_word t) (omega (arith, stood, counts))
 
     threshold-others : (other : Spot) → IsSpot pass.facts.layout other → other ≢ Threshold c g
-        → word_at (state_after pass.facts (event pass.number (SetT c g t) ∷ h)) other ≡ word_at s other
+        → spot_word (state_after pass.facts (event pass.number (SetT c g t) ∷ h)) other ≡ spot_word s other
     threshold-others (Value k) known differs = left (Value k) refl
     threshold-others (System i) known differs = left (System i) refl
     threshold-others (Group d j) known differs = left (Group d j) refl
     threshold-others (Threshold d f) known differs =
         newest d.number f.number known.1
         ∙ if-never (nat_eq c.number d.number && nat_eq g.number f.number)
-        (threshold_word t (suc (threshold_sets_at s d.number f.number))) (word_at s (Threshold d f))
+        (threshold_word t (suc (threshold_sets_at s d.number f.number))) (spot_word s (Threshold d f))
         (other-cell c d g f (λ cpu place. differs (λ i. Threshold (sym cpu i) (sym place i))))
     threshold-others (Mark f) known differs = left (Mark f) refl
     threshold-others (Cpu d) known differs = left (Cpu d) refl

@@ -1,19 +1,11 @@
 -- Volumes hold what a CPU has spent, after a step that spends nothing.
 use Rattle.std.proofs.Common.{◌≡◌, ℕ, List, [], ◌∷◌, Option, Some, None, refl, sym, ap, ◌∙◌, subst, arith}
-use Rattle.vms_base.specs.declared.ids.CpuId.{CpuId}
-use Rattle.vms_history.specs.Passes.{owner_in}
-use Rattle.vms_seats.specs.Passes.{Pass}
-use Rattle.vms_seats.specs.Steps.{MadeOne}
-use Rattle.vms_seats.proofs.MadeCalls.{calls-live}
-use Rattle.vms_core.specs.declared.steps.Facts.{Facts}
-use Rattle.vms_core.specs.declared.steps.Step.{Step}
-use Rattle.vms_core.specs.declared.steps.Step.TheVariants.{Put, SetT, SetM, SetO, LoadA}
-use Rattle.vms_core.specs.Pages.{pages}
-use Rattle.vms_core.specs.Steps.{role}
-use Rattle.vms_core.specs.Totals.{spent, spent_by}
-use Rattle.vms_core.proofs.KnowledgeKept.{OwnerKnows-holds}
-use Rattle.vms_words.specs.PagePasses.{HoldsSpending, IsOwningPass, SpendsNothing, KeepsNumbers}
-use Rattle.vms_words.specs.Spots.{groups_start}
+use Rattle.vms_calls.specs.Common.{CpuId, owner_in, Facts, Step, Put, SetT, SetM, SetO, LoadA, pages, role, spent}
+use Rattle.vms_calls.specs.Common.{spent_by}
+use Rattle.vms_seats.specs.Common.{Pass, MadeOne}
+use Rattle.vms_seats.proofs.Common.{calls-live}
+use Rattle.vms_core.proofs.Common.{OwnerKnows-holds}
+use Rattle.vms_words.specs.Common.{HoldsSpending, IsOwningPass, SpendsNothing, KeepsNumbers, groups_start}
 
 pub keeps-spends : (step : Step) → KeepsNumbers step → SpendsNothing step
 keeps-spends (Put k w t delta how) keeps = keeps

@@ -1,20 +1,11 @@
 -- What the control pass keeps of thresholds, marks, the CPUs' states and the peaks, and what each step makes of it.
-use Rattle.std.specs.Prelude.{◌≡◌, ℕ, ◌+◌, ◌*◌, nat_lt, max, Bool, length, slice_index_or, slice_set}
-use Rattle.std.specs.Prelude.{Option, Some, None, if◌then◌else◌}
-use Rattle.vms_base.specs.Cpus.{state_at}
-use Rattle.vms_base.specs.declared.kinds.CpuState.TheVariants.{Absent}
-use Rattle.vms_base.specs.Places.{Shape, IsCpu, IsPlace, IsZone, cell, place_count}
-use Rattle.vms_history.specs.Passes.{IsFree}
-use Rattle.vms_history.specs.Sums.{count_below, largest_below}
-use Rattle.vms_core.specs.declared.steps.Facts.{Facts}
-use Rattle.vms_core.specs.declared.steps.Step.{Step}
-use Rattle.vms_core.specs.declared.steps.Step.TheVariants.{SetT, SetM, SetO, LoadA}
-use Rattle.vms_core.specs.declared.states.State.{State}
-use Rattle.vms_core.specs.Cells.{threshold_at, threshold_sets_at, mark_sets_at, cpu_at}
-use Rattle.vms_core.specs.Pages.{pages, History, state_after}
-use Rattle.vms_core.specs.Peaks.{if_present, is_number, peak}
-use Rattle.vms_core.specs.Steps.{role}
-use Rattle.vms_seats.specs.Passes.{Pass, IsLive}
+use Rattle.std.specs.Prelude.{◌≡◌, ℕ, ◌+◌, ◌*◌, nat_lt, max, Bool, length, slice_index_or, slice_set, Option, Some}
+use Rattle.std.specs.Prelude.{None, if◌then◌else◌}
+use Rattle.vms_calls.specs.Common.{state_at, Absent, Shape, IsCpu, IsPlace, IsZone, cell, place_count, IsFree}
+use Rattle.vms_calls.specs.Common.{count_below, largest_below, Facts, Step, SetT, SetM, SetO, LoadA, State}
+use Rattle.vms_calls.specs.Common.{threshold_at, threshold_sets_at, mark_sets_at, cpu_at, pages, History, state_after}
+use Rattle.vms_calls.specs.Common.{if_present, is_number, peak, role}
+use Rattle.vms_seats.specs.Common.{Pass, IsLive}
 use Rattle.vms_words.specs.declared.kept.Settings.{Settings}
 
 -- the largest number of times that one threshold or one mark was set
@@ -46,7 +37,7 @@ pub record IsKept (shape : Shape) (kept : Settings) : Type 0 where
   pub cpus : length kept.cpus ≡ shape.cpus
 
 -- what is kept is what stands after the history
-pub record Knows (facts : Facts) (h : History) (kept : Settings) : Type 0 where
+pub record KeepsSettings (facts : Facts) (h : History) (kept : Settings) : Type 0 where
   pub is_kept : IsKept facts.layout kept
   pub peaks : (c g : ℕ) → IsCpu facts.layout c → IsZone facts.layout g →
       kept_peak facts.layout kept c g ≡ peak facts c g h
@@ -102,9 +93,9 @@ kept_after shape _ kept = kept
 pub record IsControlPass (pass : Pass Facts Step) (kept : Settings) : Type 0 where
   pub live : IsLive pages pass
   pub none : pass.cpu ≡ None
-  pub knows : Knows pass.facts pass.seen kept
+  pub knows : KeepsSettings pass.facts pass.seen kept
 
 -- while no control pass lives, the main pass keeps what the next one begins with
 abbrev pub IsMainPass : Pass Facts Step → Option Settings → Type 0
 IsMainPass main kept =
-    IsFree role main.seen None → (now : Settings) × (kept ≡ Some now) × Knows main.facts main.seen now
+    IsFree role main.seen None → (now : Settings) × (kept ≡ Some now) × KeepsSettings main.facts main.seen now

@@ -1,8 +1,10 @@
 pub mod Spots
 pub mod Shown
+pub mod Rows
 pub mod Lists
 pub mod Told
 pub mod PagePasses
 pub mod Puts
 pub mod PageTables
 pub mod KeptSettings
+pub mod Common

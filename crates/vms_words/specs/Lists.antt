@@ -1,6 +1,6 @@
 -- The eight differentials that a word tells.
-use Rattle.std.proofs.Common.{◌≡◌, ℕ, zero, suc, ◌/◌, ◌^◌, ◌<◌, ℤ, pos, negsuc, List, [], ◌∷◌, get_or, map}
-use Rattle.std.proofs.Common.{refl, ap, ◌∙◌, subst, lit<}
+use Rattle.std.proofs.Common.{◌≡◌, ℕ, zero, suc, ◌/◌, ◌^◌, ◌<◌, ℤ, pos, negsuc, List, [], ◌∷◌, get_or, map, refl, ap}
+use Rattle.std.proofs.Common.{◌∙◌, subst, lit<}
 use Rattle.std.proofs.Math.Dec.{T, leb-suc-suc, lt→ltb}
 use Rattle.std.proofs.Math.Nat.{mod-lt}
 use Rattle.std.proofs.lemmas.Int.{of_z-to_z}
@@ -8,8 +8,8 @@ use Rattle.std.proofs.lemmas.Nat.{from_le_bytes-to_le_bytes_8}
 use Rattle.std.specs.Int.{w8, w64, cast_signed, cast_unsigned, byte_at, bytes_low_first, from_le_bytes, to_le_bytes}
 use Rattle.std.proofs.Math.Facts.{sfits_to_z}
 use mir.Val.{SFits}
-use Rattle.vms_base.specs.declared.groups.Diffs.{Diffs}
-use Rattle.vms_base.specs.Groups.{IsByte, AreBytes, bytes_of_word, word_of_bytes}
+use Rattle.vms_calls.specs.Common.{Diffs, IsByte, AreBytes}
+use Rattle.vms_base.specs.Groups.{bytes_of_word, word_of_bytes}
 
 -- what a signed byte may be is between -128 and 127
 in_byte : (z : ℤ) → SFits w8 z → IsByte z

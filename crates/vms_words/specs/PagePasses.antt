@@ -1,14 +1,8 @@
 -- What contracts see of a pass that owns a CPU, and which steps leave what a pass keeps beside its events.
 use Rattle.std.specs.Prelude.{◌≡◌, ℕ, ◌≤◌, List, length, slice_index_or, Some}
-use Rattle.vms_base.specs.declared.ids.CpuId.{CpuId}
-use Rattle.vms_base.specs.Places.{Shape, IsCounter, counter_count}
-use Rattle.vms_base.specs.Volumes.{most_volume}
-use Rattle.vms_core.specs.declared.steps.Facts.{Facts}
-use Rattle.vms_core.specs.declared.steps.Step.{Step}
-use Rattle.vms_core.specs.declared.steps.Step.TheVariants.{Put, SetT, SetM, SetO, LoadA}
-use Rattle.vms_core.specs.Pages.{pages, History}
-use Rattle.vms_core.specs.Totals.{spent}
-use Rattle.vms_seats.specs.Passes.{Pass, IsLive}
+use Rattle.vms_calls.specs.Common.{CpuId, Shape, IsCounter, counter_count, most_volume, Facts, Step, Put, SetT, SetM}
+use Rattle.vms_calls.specs.Common.{SetO, LoadA, pages, History, spent}
+use Rattle.vms_seats.specs.Common.{Pass, IsLive}
 
 -- the pass, and what its CPU has changed each counter by since the run began
 pub record OwningPass : Type 0 where

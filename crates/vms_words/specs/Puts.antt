@@ -1,18 +1,9 @@
 -- What a put asks of its pass, and what it has made: the put, or a miss.
 use Rattle.std.specs.Prelude.{◌≡◌, ◌≢◌, ℕ, ◌+◌, ◌≤◌, ℤ, Some, slice_index_or, slice_set, unsigned_abs}
-use Rattle.vms_base.specs.declared.groups.Diffs.{Diffs}
-use Rattle.vms_base.specs.declared.ids.CounterId.{CounterId}
-use Rattle.vms_base.specs.declared.ids.CpuId.{CpuId}
-use Rattle.vms_base.specs.declared.kinds.Mode.{Mode}
-use Rattle.vms_base.specs.Places.{IsCounter, group_of, place_of}
-use Rattle.vms_base.specs.Volumes.{most_volume}
-use Rattle.vms_history.specs.Events.{own}
-use Rattle.vms_core.specs.declared.steps.Step.TheVariants.{Put, Miss}
-use Rattle.vms_core.specs.Cells.{TellsGroup, entry, eight_zeros}
-use Rattle.vms_core.specs.Changes.{carried_by}
-use Rattle.vms_core.specs.Own.{found, loaded, CarriesNothing}
-use Rattle.vms_core.specs.Pages.{pages, state_after}
-use Rattle.vms_seats.specs.Steps.{MadeOne}
+use Rattle.vms_calls.specs.Common.{Diffs, CounterId, CpuId, Mode, IsCounter, group_of, place_of, most_volume, own, Put}
+use Rattle.vms_calls.specs.Common.{Miss, TellsGroup, entry, eight_zeros, carried_by, found, loaded, CarriesNothing}
+use Rattle.vms_calls.specs.Common.{pages, state_after}
+use Rattle.vms_seats.specs.Common.{MadeOne}
 use Rattle.vms_words.specs.declared.puts.PutDone.{PutDone}
 use Rattle.vms_words.specs.declared.puts.PutDone.TheVariants.{Done, Missed}
 use Rattle.vms_words.specs.PagePasses.{OwningPass}

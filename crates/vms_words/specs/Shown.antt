@@ -1,14 +1,9 @@
 -- How words show the state of the page counters.
 use Rattle.std.specs.Prelude.{ℕ, suc, ◌+◌, ◌*◌, ◌^◌, ℤ, List, [], map, Option, Some, None}
 use Rattle.std.specs.List.{range_with_len}
-use Rattle.vms_base.specs.declared.kinds.CpuState.{CpuState}
-use Rattle.vms_base.specs.declared.kinds.CpuState.TheVariants.{Online, Dead, Absent}
+use Rattle.vms_calls.specs.Common.{CpuState, Online, Dead, Absent, word_of, State, Facts, value_at, system_at, diff_at}
+use Rattle.vms_calls.specs.Common.{threshold_at, threshold_sets_at, mark_at, mark_sets_at, cpu_at, acknowledged_at}
 use Rattle.vms_base.specs.Groups.{word_of_bytes}
-use Rattle.vms_base.specs.Numbers.{word_of}
-use Rattle.vms_core.specs.declared.states.State.{State}
-use Rattle.vms_core.specs.declared.steps.Facts.{Facts}
-use Rattle.vms_core.specs.Cells.{value_at, system_at, diff_at, threshold_at, threshold_sets_at}
-use Rattle.vms_core.specs.Cells.{mark_at, mark_sets_at, cpu_at, acknowledged_at}
 use Rattle.vms_words.specs.declared.spots.Spot.{Spot}
 use Rattle.vms_words.specs.declared.spots.Spot.TheVariants.{Value, System, Group, Threshold, Mark, Cpu, Acknowledgement}
 use Rattle.vms_words.specs.Spots.{blocks_of, spot_in}
@@ -22,8 +17,8 @@ group_at s c j = map (λ n. diff_at s c (8 * j + n)) (range_with_len 0 8)
 abbrev pub threshold_word : ℕ → ℕ → ℕ
 threshold_word t number = t + 2 ^ 32 * number
 
-abbrev pub mark_word : ℕ → ℕ → ℕ
-mark_word m number = m + 2 ^ 43 * number
+abbrev pub packed_mark : ℕ → ℕ → ℕ
+packed_mark m number = m + 2 ^ 43 * number
 
 -- whether a CPU is online, dead or absent
 abbrev pub cpu_word : CpuState → ℕ
@@ -37,20 +32,20 @@ acknowledgement_word None = 0
 acknowledgement_word (Some number) = suc number
 
 -- the word that shows one number of a state
-abbrev pub word_at : State → Spot → ℕ
-word_at s (Value k) = word_of (value_at s k.number)
-word_at s (System i) = word_of (system_at s i.number)
-word_at s (Group c j) = word_of_bytes (group_at s c.number j.number)
-word_at s (Threshold c g) =
+abbrev pub spot_word : State → Spot → ℕ
+spot_word s (Value k) = word_of (value_at s k.number)
+spot_word s (System i) = word_of (system_at s i.number)
+spot_word s (Group c j) = word_of_bytes (group_at s c.number j.number)
+spot_word s (Threshold c g) =
     threshold_word (threshold_at s c.number g.number) (threshold_sets_at s c.number g.number)
-word_at s (Mark g) = mark_word (mark_at s g.number) (mark_sets_at s g.number)
-word_at s (Cpu c) = cpu_word (cpu_at s c.number)
-word_at s (Acknowledgement c g) = acknowledgement_word (acknowledged_at s c.number g.number)
+spot_word s (Mark g) = packed_mark (mark_at s g.number) (mark_sets_at s g.number)
+spot_word s (Cpu c) = cpu_word (cpu_at s c.number)
+spot_word s (Acknowledgement c g) = acknowledgement_word (acknowledged_at s c.number g.number)
 
 -- the words that show a state
 unfoldable pub shown : Facts → State → List ℕ
 shown facts s =
-    map (λ n. word_at s (spot_in (blocks_of facts.layout) n)) (range_with_len 0 (blocks_of facts.layout).end)
+    map (λ n. spot_word s (spot_in (blocks_of facts.layout) n)) (range_with_len 0 (blocks_of facts.layout).end)
 
 -- facts of no table
 abbrev pub no_facts : Facts

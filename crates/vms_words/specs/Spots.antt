@@ -1,7 +1,7 @@
 -- Where each number of the page counters' table stands among its words.
 use Rattle.std.specs.Prelude.{ℕ, ◌+◌, ◌-◌, ◌*◌, ◌/◌, ◌%◌, nat_lt, length, if◌then◌else◌}
-use Rattle.vms_base.specs.Places.{Shape, IsCpu, IsPlace, IsZone, IsCounter, IsGroup, IsItem, cell}
-use Rattle.vms_base.specs.Places.{place_count, counter_count, group_count, item_count}
+use Rattle.vms_calls.specs.Common.{Shape, IsCpu, IsPlace, IsZone, IsCounter, IsGroup, IsItem, cell, place_count}
+use Rattle.vms_calls.specs.Common.{counter_count, group_count, item_count}
 use Rattle.vms_words.specs.declared.spots.Blocks.{Blocks}
 use Rattle.vms_words.specs.declared.spots.Spot.{Spot}
 use Rattle.vms_words.specs.declared.spots.Spot.TheVariants.{Value, System, Group, Threshold, Mark, Cpu, Acknowledgement}

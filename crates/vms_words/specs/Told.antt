@@ -1,16 +1,8 @@
 -- What words tell of a state, and which step a call makes that finds a number.
 use Rattle.std.specs.Prelude.{◌≡◌, ℕ, suc, zero, ◌/◌, ◌%◌, ◌^◌, ◌==◌, if◌then◌else◌, Option, Some, None, refl}
-use Rattle.vms_base.specs.declared.ids.CpuId.{CpuId}
-use Rattle.vms_base.specs.declared.kinds.CpuState.{CpuState}
-use Rattle.vms_base.specs.declared.kinds.CpuState.TheVariants.{Online, Dead, Absent}
+use Rattle.vms_calls.specs.Common.{CpuId, CpuState, Online, Dead, Absent, signed_of_word, group_of, Begins, Ends, Step}
+use Rattle.vms_calls.specs.Common.{LoadT, LoadD, Put, Miss, Take, LoadG, LoadS, LoadM, LoadO, LoadA, Split, Join, role}
 use Rattle.vms_base.specs.Groups.{word_of_bytes}
-use Rattle.vms_base.specs.Numbers.{number_of}
-use Rattle.vms_base.specs.Places.{group_of}
-use Rattle.vms_history.specs.Passes.Role.{Begins, Ends}
-use Rattle.vms_core.specs.declared.steps.Step.{Step}
-use Rattle.vms_core.specs.declared.steps.Step.TheVariants.{LoadT, LoadD, Put, Miss, Take, LoadG, LoadS}
-use Rattle.vms_core.specs.declared.steps.Step.TheVariants.{LoadM, LoadO, LoadA, Split, Join}
-use Rattle.vms_core.specs.Steps.{role}
 use Rattle.vms_words.specs.Lists.{list_told}
 
 -- the state of a CPU
@@ -33,8 +25,8 @@ told (Put k w t delta how) found =
     then Put k w t delta how
     else Miss (record { number = group_of k.number }) w
 told (Take c j w) found = Take c j (list_told found)
-told (LoadG k v) found = LoadG k (number_of found)
-told (LoadS i v) found = LoadS i (number_of found)
+told (LoadG k v) found = LoadG k (signed_of_word found)
+told (LoadS i v) found = LoadS i (signed_of_word found)
 told (LoadM g m a) found = LoadM g (found % 2 ^ 43) (found / 2 ^ 43)
 told (LoadO c x) found = LoadO c (cpu_told found)
 told (LoadA c g x) found = LoadA c g (acknowledgement_told found)

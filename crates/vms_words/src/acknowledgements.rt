@@ -1,10 +1,6 @@
 ghost use Rattle.std.specs.Prelude.{◌≡◌};
-ghost use Rattle.vms_base.specs.Places.{IsCpu, IsZone};
-ghost use Rattle.vms_core.specs.Conditions.{Acknowledges};
-ghost use Rattle.vms_core.specs.declared.steps.Step.TheVariants.{SetA, LoadA};
-ghost use Rattle.vms_core.specs.Pages.{pages};
-ghost use Rattle.vms_seats.specs.Passes.{IsOf};
-ghost use Rattle.vms_seats.specs.Steps.{MadeOne};
+ghost use Rattle.vms_calls.specs.Common.{IsCpu, IsZone, Acknowledges, SetA, LoadA, pages};
+ghost use Rattle.vms_seats.specs.Common.{IsFrom, MadeOne};
 
 use crate::kept::is_number;
 use crate::packed::{acknowledged_of, acknowledgement_word};
@@ -20,7 +16,7 @@ impl PageTable {
     /// taken every own group of the zone since.
     #[inline]
     pub fn acknowledge<P: Caller>(&self, pass: &mut P, zone: PlaceId, number: u32)
-        requires table { IsOf (P.pass pass.old) self.now }
+        requires table { IsFrom (P.pass pass.old) self.now }
         requires acknowledges { Acknowledges self.now.facts (P.pass pass.old).seen
             (P.pass pass.old).number zone number }
         ensures made { MadeOne pages (P.pass pass.new) (P.pass pass.old) (SetA zone number) }
@@ -50,7 +46,7 @@ impl PageTable {
         cpu: CpuId,
         zone: PlaceId,
     ) -> Option<u32>
-        requires table { IsOf pass.old self.now }
+        requires table { IsFrom pass.old self.now }
         requires cpu { IsCpu self.now.facts.layout cpu.number }
         requires zone { IsZone self.now.facts.layout zone.number }
         ensures { MadeOne pages pass.new pass.old (LoadA cpu zone result) }

@@ -1,9 +1,6 @@
 ghost use Rattle.std.specs.Prelude.{◌≡◌};
-ghost use Rattle.vms_core.specs.Conditions.{AddsToPlace, AddsToSystem};
-ghost use Rattle.vms_core.specs.declared.steps.Step.TheVariants.{AddG, AddS};
-ghost use Rattle.vms_core.specs.Pages.{pages};
-ghost use Rattle.vms_seats.specs.Passes.{IsOf};
-ghost use Rattle.vms_seats.specs.Steps.{MadeOne};
+ghost use Rattle.vms_calls.specs.Common.{AddsToPlace, AddsToSystem, AddG, AddS, pages};
+ghost use Rattle.vms_seats.specs.Common.{IsFrom, MadeOne};
 
 use crate::passes::Caller;
 use crate::spots::Spot;
@@ -15,7 +12,7 @@ impl PageTable {
     /// Adds to a global value all that the pass carries there, in pages.
     #[inline]
     pub fn add_place<P: Caller>(&self, pass: &mut P, counter: CounterId, amount: i64)
-        requires table { IsOf (P.pass pass.old) self.now }
+        requires table { IsFrom (P.pass pass.old) self.now }
         requires adds { AddsToPlace self.now.facts (P.pass pass.old).seen (P.pass pass.old).number counter amount }
         ensures made { MadeOne pages (P.pass pass.new) (P.pass pass.old) (AddG counter amount) }
         ensures volume { P.volume pass.new ≡ P.volume pass.old }
@@ -30,7 +27,7 @@ impl PageTable {
     /// Adds to a system-wide value all that the pass carries there, in pages.
     #[inline]
     pub fn add_system<P: Caller>(&self, pass: &mut P, item: ItemId, amount: i64)
-        requires table { IsOf (P.pass pass.old) self.now }
+        requires table { IsFrom (P.pass pass.old) self.now }
         requires adds { AddsToSystem self.now.facts (P.pass pass.old).seen (P.pass pass.old).number item amount }
         ensures made { MadeOne pages (P.pass pass.new) (P.pass pass.old) (AddS item amount) }
         ensures volume { P.volume pass.new ≡ P.volume pass.old }

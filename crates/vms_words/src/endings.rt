@@ -1,7 +1,7 @@
-ghost use Rattle.std.specs.Prelude.{◌≡◌, ℕ, ◌+◌, ◌/◌, ◌%◌, ◌*◌, ◌^◌, ◌≤◌, ◌<◌, pos, length};
-ghost use Rattle.std.specs.Prelude.{slice_index, slice_index_or};
+ghost use Rattle.std.specs.Prelude.{◌≡◌, ℕ, ◌+◌, ◌/◌, ◌%◌, ◌*◌, ◌^◌, ◌≤◌, ◌<◌, pos, length, slice_index};
+ghost use Rattle.std.specs.Prelude.{slice_index_or};
 ghost use Rattle.vms_base.specs.Groups.{bytes_of_word};
-ghost use Rattle.vms_core.specs.Pages.{state_after};
+ghost use Rattle.vms_calls.specs.Common.{state_after};
 ghost use Rattle.vms_words.specs.Shown.{shown};
 
 use crate::SharedPages;
@@ -21,9 +21,9 @@ pub(crate) trait Reads<T> {
 pub(crate) struct Values;
 
 impl Reads<i64> for Values {
-    ghost use Rattle.vms_base.specs.Numbers.{number_of};
+    ghost use Rattle.vms_calls.specs.Common.{signed_of_word};
 
-    ghost read = { number_of };
+    ghost read = { signed_of_word };
 
     #[inline]
     fn of(word: u64) -> i64 {

@@ -1,9 +1,6 @@
 ghost use Rattle.std.specs.Prelude.{◌≡◌};
-ghost use Rattle.vms_base.specs.Places.{IsCpu, IsGroup};
-ghost use Rattle.vms_core.specs.declared.steps.Step.TheVariants.{LoadD, Take};
-ghost use Rattle.vms_core.specs.Pages.{pages};
-ghost use Rattle.vms_seats.specs.Passes.{IsOf};
-ghost use Rattle.vms_seats.specs.Steps.{MadeOne};
+ghost use Rattle.vms_calls.specs.Common.{IsCpu, IsGroup, LoadD, Take, pages};
+ghost use Rattle.vms_seats.specs.Common.{IsFrom, MadeOne};
 
 use crate::lists::PackedDiffs;
 use crate::passes::Caller;
@@ -16,7 +13,7 @@ impl PageTable {
     /// Loads a CPU's eight differentials of a group, in pages.
     #[inline]
     pub fn load_diffs<P: Caller>(&self, pass: &mut P, cpu: CpuId, group: GroupId) -> PackedDiffs
-        requires table { IsOf (P.pass pass.old) self.now }
+        requires table { IsFrom (P.pass pass.old) self.now }
         requires cpu { IsCpu self.now.facts.layout cpu.number }
         requires group { IsGroup self.now.facts.layout group.number }
         ensures made { MadeOne pages (P.pass pass.new) (P.pass pass.old) (LoadD cpu group result) }
@@ -32,7 +29,7 @@ impl PageTable {
     /// Takes a CPU's eight differentials of a group, in pages, which become 0.
     #[inline]
     pub fn take<P: Caller>(&self, pass: &mut P, cpu: CpuId, group: GroupId) -> PackedDiffs
-        requires table { IsOf (P.pass pass.old) self.now }
+        requires table { IsFrom (P.pass pass.old) self.now }
         requires cpu { IsCpu self.now.facts.layout cpu.number }
         requires group { IsGroup self.now.facts.layout group.number }
         ensures made { MadeOne pages (P.pass pass.new) (P.pass pass.old) (Take cpu group result) }

@@ -1,6 +1,5 @@
 ghost use Rattle.std.specs.Prelude.{◌≡◌, ◌<◌};
-ghost use Rattle.vms_core.specs.Bases.{IsOpening};
-ghost use Rattle.vms_base.specs.Places.{IsLayout};
+ghost use Rattle.vms_calls.specs.Common.{IsOpening, IsLayout};
 ghost use Rattle.vms_core.specs.Peaks as cores;
 
 use crate::spots::{cell_from, row_and_column};
@@ -27,13 +26,10 @@ pub(crate) struct Settings {
 }
 
 impl Settings {
-    ghost use Rattle.std.specs.Prelude.{[], IfOk, List, length};
-    ghost use Rattle.vms_base.specs.declared.kinds.ZoneSize.{ZoneSize};
-    ghost use Rattle.vms_base.specs.Cpus.{state_at};
-    ghost use Rattle.vms_base.specs.Places.{IsCpu, IsPlace, IsZone};
+    ghost use Rattle.std.specs.Prelude.{[], IfOk, List, length, slice_index_or};
+    ghost use Rattle.vms_calls.specs.Common.{ZoneSize, state_at, IsCpu, IsPlace, IsZone};
     ghost use Rattle.vms_core.specs.Plain as limits;
-    ghost use Rattle.std.specs.Prelude.{slice_index_or};
-    ghost use Rattle.vms_words.specs.KeptSettings.{IsKept, Knows, kept_peak, kept_sets, kept_sum};
+    ghost use Rattle.vms_words.specs.KeptSettings.{IsKept, KeepsSettings, kept_peak, kept_sets, kept_sum};
     ghost use Rattle.vms_words.specs.KeptSettings.{with_kept_threshold, with_kept_mark, with_kept_peak};
 
     /// The settings with which a phase begins.
@@ -41,7 +37,8 @@ impl Settings {
         requires layout { IsLayout layout.now }
         requires opening { IsOpening layout.now state.now }
         ensures { IfOk result (λ kept. (sizes : List ZoneSize) →
-            Knows (record { layout = layout.now; sizes = sizes; base = state.now }) [] kept) }
+            KeepsSettings
+            (record { layout = layout.now; sizes = sizes; base = state.now }) [] kept) }
     {
         Ok(Settings {
             peaks: opening_peaks(alloc, layout, state)?,
@@ -176,8 +173,7 @@ pub(crate) fn is_number(found: Option<u32>, number: u32) -> bool
 }
 
 ghost use Rattle.std.specs.Prelude.{ℕ, ◌/◌, ◌%◌, ◌*◌, ◌≤◌, length, slice_index_or, IfOk};
-ghost use Rattle.vms_base.specs.Places.{IsCpu, IsZone};
-ghost use Rattle.vms_base.specs.Thresholds.{most_threshold};
+ghost use Rattle.vms_calls.specs.Common.{IsCpu, IsZone, most_threshold};
 
 /// The peaks with which a phase begins.
 fn opening_peaks(alloc: Global, layout: &Layout, state: &State) -> Result<Row<u32>, Memory>

@@ -1,7 +1,4 @@
-ghost use Rattle.vms_core.specs.declared.states.State.{State};
-ghost use Rattle.vms_core.specs.declared.steps.Step.TheVariants.{Split, Join};
-ghost use Rattle.vms_core.specs.Pages.{pages};
-ghost use Rattle.vms_core.specs.Quiet.{quiet_pages};
+ghost use Rattle.vms_calls.specs.Common.{State, Split, Join, pages, quiet_pages};
 ghost use Rattle.vms_words.specs.Shown.{shown, no_facts};
 ghost use Rattle.vms_words.specs.Told.{told, begins_it, ends_it};
 

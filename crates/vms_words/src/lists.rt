@@ -1,6 +1,7 @@
 ghost use Rattle.std.specs.Prelude.{◌≡◌, ◌<◌, pos, replicate, slice_index_or, slice_set};
 ghost use Rattle.std.specs.Int.{w8, w64, byte_at, cast_unsigned, to_le_bytes};
-ghost use Rattle.vms_base.specs.Groups.{IsByte, word_of_bytes, bytes_of_word};
+ghost use Rattle.vms_calls.specs.Common.{IsByte};
+ghost use Rattle.vms_base.specs.Groups.{word_of_bytes, bytes_of_word};
 ghost use Rattle.vms_words.specs.Lists.{list_told};
 
 use std::marker::Model;
@@ -14,7 +15,7 @@ pub struct PackedDiffs {
 
 impl Model for PackedDiffs {
     ghost use Rattle.std.specs.Prelude.{◌^◌, ◌<◌};
-    ghost use Rattle.vms_base.specs.declared.groups.Diffs.{Diffs};
+    ghost use Rattle.vms_calls.specs.Common.{Diffs};
     ghost use Rattle.vms_base.specs.Groups.{word_of_bytes};
 
     ghost Value = { Diffs };

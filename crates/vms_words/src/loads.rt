@@ -1,9 +1,7 @@
 ghost use Rattle.std.specs.Prelude.{◌≡◌, IsSome};
-ghost use Rattle.vms_base.specs.Places.{IsCpu, IsPlace, IsZone, IsCounter, IsItem};
-ghost use Rattle.vms_core.specs.declared.steps.Step.TheVariants.{LoadT, LoadG, LoadS, LoadM, LoadO};
-ghost use Rattle.vms_core.specs.Pages.{pages};
-ghost use Rattle.vms_seats.specs.Passes.{IsOf};
-ghost use Rattle.vms_seats.specs.Steps.{MadeOne};
+ghost use Rattle.vms_calls.specs.Common.{IsCpu, IsPlace, IsZone, IsCounter, IsItem, LoadT, LoadG, LoadS, LoadM, LoadO};
+ghost use Rattle.vms_calls.specs.Common.{pages};
+ghost use Rattle.vms_seats.specs.Common.{IsFrom, MadeOne};
 
 use crate::packed::{cpu_of, mark_of, threshold_of};
 use crate::passes::Caller;
@@ -16,7 +14,7 @@ impl PageTable {
     /// Loads the global value of a counter, in pages.
     #[inline]
     pub fn load_place<P: Caller>(&self, pass: &mut P, counter: CounterId) -> i64
-        requires table { IsOf (P.pass pass.old) self.now }
+        requires table { IsFrom (P.pass pass.old) self.now }
         requires counter { IsCounter self.now.facts.layout counter.number }
         ensures made { MadeOne pages (P.pass pass.new) (P.pass pass.old) (LoadG counter result) }
         ensures volume { P.volume pass.new ≡ P.volume pass.old }
@@ -30,7 +28,7 @@ impl PageTable {
     /// Loads the system-wide value of an item, in pages.
     #[inline]
     pub fn load_system<P: Caller>(&self, pass: &mut P, item: ItemId) -> i64
-        requires table { IsOf (P.pass pass.old) self.now }
+        requires table { IsFrom (P.pass pass.old) self.now }
         requires item { IsItem self.now.facts.layout item.number }
         ensures made { MadeOne pages (P.pass pass.new) (P.pass pass.old) (LoadS item result) }
         ensures volume { P.volume pass.new ≡ P.volume pass.old }
@@ -42,7 +40,7 @@ impl PageTable {
     /// Loads the own threshold of a place, and how often it was set in this phase.
     #[inline]
     pub fn load_threshold<P: Caller>(&self, pass: &mut P, place: PlaceId) -> Threshold
-        requires table { IsOf (P.pass pass.old) self.now }
+        requires table { IsFrom (P.pass pass.old) self.now }
         requires place { IsPlace self.now.facts.layout place.number }
         requires owns { IsSome (P.pass pass.old).cpu }
         ensures made { MadeOne pages (P.pass pass.new) (P.pass pass.old) (LoadT place result.t result.number) }
@@ -60,7 +58,7 @@ impl PageTable {
     /// Loads the drift mark of a zone, and how often it was set in this phase.
     #[inline]
     pub fn load_mark<P: Caller>(&self, pass: &mut P, zone: PlaceId) -> MarkRead
-        requires table { IsOf (P.pass pass.old) self.now }
+        requires table { IsFrom (P.pass pass.old) self.now }
         requires zone { IsZone self.now.facts.layout zone.number }
         ensures made { MadeOne pages (P.pass pass.new) (P.pass pass.old) (LoadM zone result.mark result.number) }
         ensures volume { P.volume pass.new ≡ P.volume pass.old }
@@ -72,7 +70,7 @@ impl PageTable {
     /// Loads whether a CPU is online, dead or absent.
     #[inline]
     pub fn load_state<P: Caller>(&self, pass: &mut P, cpu: CpuId) -> CpuState
-        requires table { IsOf (P.pass pass.old) self.now }
+        requires table { IsFrom (P.pass pass.old) self.now }
         requires cpu { IsCpu self.now.facts.layout cpu.number }
         ensures made { MadeOne pages (P.pass pass.new) (P.pass pass.old) (LoadO cpu result) }
         ensures volume { P.volume pass.new ≡ P.volume pass.old }

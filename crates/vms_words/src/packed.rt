@@ -1,6 +1,5 @@
 ghost use Rattle.std.specs.Prelude.{◌≡◌, ◌/◌, ◌%◌, ◌^◌, ◌<◌, ◌≤◌};
-ghost use Rattle.vms_base.specs.Groups.{AreBytes};
-ghost use Rattle.vms_core.specs.Bases.{IsOpening};
+ghost use Rattle.vms_calls.specs.Common.{AreBytes, IsOpening};
 ghost use Rattle.vms_words.specs.Shown as words;
 ghost use Rattle.vms_words.specs.Told.{acknowledgement_told, cpu_told};
 ghost use Rattle.vms_words.specs.Spots.{IsSpot};
@@ -34,7 +33,7 @@ pub(crate) fn threshold_of(word: u64) -> Threshold
 pub(crate) fn mark_word(mark: MarkRead) -> u64
     requires mark { mark.mark < 2 ^ 43 }
     requires number { mark.number < 2 ^ 21 }
-    ensures { result ≡ words.mark_word mark.mark mark.number }
+    ensures { result ≡ words.packed_mark mark.mark mark.number }
 {
     mark.mark + (1 << 43) * u64::from(mark.number)
 }
@@ -103,7 +102,7 @@ pub(crate) fn word_of(layout: &Layout, state: &State, spot: Spot) -> u64
     requires opening { IsOpening layout.now state.now }
     requires bytes { AreBytes state.now.diff }
     requires spot { IsSpot layout.now spot }
-    ensures { result ≡ words.word_at state.now spot }
+    ensures { result ≡ words.spot_word state.now spot }
 {
     match spot {
         Spot::Value(counter) => encode(state.value_at(counter)),

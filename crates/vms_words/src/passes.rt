@@ -1,9 +1,6 @@
 ghost use Rattle.std.specs.Prelude.{◌≡◌, ℕ, ◌+◌, ◌%◌, ◌^◌, ◌<◌, List, []};
-ghost use Rattle.vms_core.specs.declared.steps.Facts.{Facts};
-ghost use Rattle.vms_core.specs.declared.steps.Step.{Step};
-ghost use Rattle.vms_core.specs.Pages.{pages};
-ghost use Rattle.vms_seats.specs.Passes.{Pass, IsOf, IsLive};
-ghost use Rattle.vms_seats.specs.Steps.{MayStep, MadeOne};
+ghost use Rattle.vms_calls.specs.Common.{Facts, Step, pages};
+ghost use Rattle.vms_seats.specs.Common.{Pass, IsFrom, IsLive, MayStep, MadeOne};
 ghost use Rattle.vms_words.specs.PagePasses.{KeepsNumbers};
 ghost use Rattle.vms_words.specs.Shown.{shown};
 ghost use Rattle.vms_words.specs.Told.{told};
@@ -47,9 +44,8 @@ pub struct ControlPass {
 }
 
 impl Model for ControlPass {
-    ghost use Rattle.vms_core.specs.declared.steps.Facts.{Facts};
-    ghost use Rattle.vms_core.specs.declared.steps.Step.{Step};
-    ghost use Rattle.vms_seats.specs.Passes.{Pass};
+    ghost use Rattle.vms_calls.specs.Common.{Facts, Step};
+    ghost use Rattle.vms_seats.specs.Common.{Pass};
 
     ghost Value = { Pass Facts Step };
 
@@ -69,9 +65,8 @@ pub struct MainPass {
 }
 
 impl Model for MainPass {
-    ghost use Rattle.vms_core.specs.declared.steps.Facts.{Facts};
-    ghost use Rattle.vms_core.specs.declared.steps.Step.{Step};
-    ghost use Rattle.vms_seats.specs.Passes.{Pass};
+    ghost use Rattle.vms_calls.specs.Common.{Facts, Step};
+    ghost use Rattle.vms_seats.specs.Common.{Pass};
 
     ghost Value = { Pass Facts Step };
 
@@ -99,7 +94,7 @@ pub trait Caller {
 
     /// Loads a word.
     fn load_at(&mut self, words: &Words<SharedPages>, place: usize, plan: &Step) -> u64
-        requires words { IsOf (pass self.old) words.now }
+        requires words { IsFrom (pass self.old) words.now }
         requires place { place < words.now.table.words }
         requires step { MayStep pages shown (pass self.old) place (λ n. n) (told plan.now) }
         requires leaves { (n : ℕ) → KeepsNumbers (told plan.now n) }
@@ -108,7 +103,7 @@ pub trait Caller {
 
     /// Puts a number into a word, and tells the one that stood there.
     fn swap_at(&mut self, words: &Words<SharedPages>, place: usize, new: u64, plan: &Step) -> u64
-        requires words { IsOf (pass self.old) words.now }
+        requires words { IsFrom (pass self.old) words.now }
         requires place { place < words.now.table.words }
         requires step { MayStep pages shown (pass self.old) place (λ n. new) (told plan.now) }
         requires leaves { (n : ℕ) → KeepsNumbers (told plan.now n) }
@@ -117,7 +112,7 @@ pub trait Caller {
 
     /// Adds to a word, modulo 2^64, and tells the number that stood there.
     fn add_at(&mut self, words: &Words<SharedPages>, place: usize, amount: u64, plan: &Step) -> u64
-        requires words { IsOf (pass self.old) words.now }
+        requires words { IsFrom (pass self.old) words.now }
         requires place { place < words.now.table.words }
         requires step { MayStep pages shown (pass self.old) place (λ n. (n + amount) % 2 ^ 64) (told plan.now) }
         requires leaves { (n : ℕ) → KeepsNumbers (told plan.now n) }
@@ -127,7 +122,7 @@ pub trait Caller {
 
 impl CpuPass {
     ghost use Rattle.std.specs.Prelude.{slice_index_or, Some};
-    ghost use Rattle.vms_base.specs.Places.{IsCounter};
+    ghost use Rattle.vms_calls.specs.Common.{IsCounter};
 
     /// The CPU that the pass owns.
     #[inline]
@@ -149,7 +144,7 @@ impl CpuPass {
 }
 
 impl MainPass {
-    ghost use Rattle.vms_seats.specs.Passes.{IsMain};
+    ghost use Rattle.vms_seats.specs.Common.{IsMain};
 
     /// What holds of the main pass at any time.
     pub fn is_main(&self)

@@ -15,7 +15,7 @@ pub enum PutDone {
 }
 
 impl PageTable {
-    ghost use Rattle.vms_seats.specs.Passes.{IsOf};
+    ghost use Rattle.vms_seats.specs.Common.{IsFrom};
     ghost use Rattle.vms_words.specs.Puts.{MayPut, PutsOrMisses};
 
     /// Changes an own differential where its group still is the list that was found (`mod_zone_state` of mm/vmstat.c).
@@ -29,7 +29,7 @@ impl PageTable {
         delta: i64,
         mode: Mode,
     ) -> PutDone
-        requires table { IsOf pass.old.pass self.now }
+        requires table { IsFrom pass.old.pass self.now }
         requires puts { MayPut pass.old counter found.now threshold delta }
         ensures { PutsOrMisses pass.new pass.old counter found.now threshold delta mode result }
     {
@@ -53,7 +53,7 @@ impl PageTable {
 }
 
 ghost use Rattle.std.specs.Prelude.{◌≡◌, ◌+◌, ◌≤◌, ◌^◌, unsigned_abs};
-ghost use Rattle.vms_core.specs.Changes.{differential_after, carried_by};
+ghost use Rattle.vms_calls.specs.Common.{differential_after, carried_by};
 
 /// What a change makes of a differential, in pages: the one that stays, and what goes to the global values.
 #[derive(Clone, Copy)]

@@ -1,11 +1,7 @@
 ghost use Rattle.std.specs.Prelude.{◌<◌};
-ghost use Rattle.vms_core.specs.Cells.{mark_sets_at, threshold_sets_at};
-ghost use Rattle.vms_core.specs.Conditions.{SetsAbsent, SetsMark, SetsThreshold};
-ghost use Rattle.vms_core.specs.declared.steps.Step.TheVariants.{SetT, SetM, SetO};
-ghost use Rattle.vms_core.specs.Pages.{pages, state_after};
-ghost use Rattle.vms_core.specs.Plain.{most_sets};
-ghost use Rattle.vms_seats.specs.Passes.{IsOf};
-ghost use Rattle.vms_seats.specs.Steps.{MadeOne};
+ghost use Rattle.vms_calls.specs.Common.{mark_sets_at, threshold_sets_at, SetsAbsent, SetsMark, SetsThreshold, SetT};
+ghost use Rattle.vms_calls.specs.Common.{SetM, SetO, pages, state_after, most_sets};
+ghost use Rattle.vms_seats.specs.Common.{IsFrom, MadeOne};
 
 use crate::packed::{cpu_word, mark_word, threshold_word};
 use crate::passes::ControlPass;
@@ -19,7 +15,7 @@ impl PageTable {
     /// Sets a threshold of an online CPU, in pages, and counts that it was set.
     #[inline]
     pub fn set_threshold(&self, pass: &mut ControlPass, cpu: CpuId, place: PlaceId, t: u32)
-        requires table { IsOf pass.old self.now }
+        requires table { IsFrom pass.old self.now }
         requires sets { SetsThreshold self.now.facts pass.old.seen
             (state_after self.now.facts pass.old.seen) pass.old.number cpu place t }
         requires number { threshold_sets_at (state_after self.now.facts pass.old.seen)
@@ -39,7 +35,7 @@ impl PageTable {
     /// Sets a zone's drift mark, in pages, and counts that it was set. A mark may fall.
     #[inline]
     pub fn set_mark(&self, pass: &mut ControlPass, zone: PlaceId, m: u64)
-        requires table { IsOf pass.old self.now }
+        requires table { IsFrom pass.old self.now }
         requires sets { SetsMark self.now.facts pass.old.seen pass.old.number zone m }
         requires number { mark_sets_at (state_after self.now.facts pass.old.seen) zone.number
             < most_sets }
@@ -56,7 +52,7 @@ impl PageTable {
     /// Makes a dead CPU absent, once all its differentials are 0.
     #[inline]
     pub fn set_absent(&self, pass: &mut ControlPass, cpu: CpuId)
-        requires table { IsOf pass.old self.now }
+        requires table { IsFrom pass.old self.now }
         requires sets { SetsAbsent self.now.facts pass.old.seen
             (state_after self.now.facts pass.old.seen) pass.old.number cpu }
         ensures { MadeOne pages pass.new pass.old (SetO cpu) }

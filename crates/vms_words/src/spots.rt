@@ -36,7 +36,7 @@ pub(crate) struct Blocks {
 
 impl Blocks {
     ghost use Rattle.std.specs.Prelude.{◌≡◌, ◌<◌};
-    ghost use Rattle.vms_base.specs.Places.{IsCpu, IsLayout};
+    ghost use Rattle.vms_calls.specs.Common.{IsCpu, IsLayout};
     ghost use Rattle.vms_words.specs.Spots.{blocks_of, groups_start, place_in, spot_in, IsSpot};
 
     /// The blocks of a layout's table.

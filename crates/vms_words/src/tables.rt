@@ -1,20 +1,12 @@
 ghost use Rattle.std.specs.Prelude.{◌≡◌, ℕ, ◌<◌, Some, None, false, [], length, map, IfOk};
 ghost use Rattle.std.specs.List.{range_with_len};
-ghost use Rattle.vms_base.specs.Cpus.{MayOwnCpu};
-ghost use Rattle.vms_core.specs.Bases.{IsBase, IsOpening, settled};
-ghost use Rattle.vms_core.specs.Cells.{HasShape};
-ghost use Rattle.vms_core.specs.declared.steps.Step.TheVariants.{Split, Join};
-ghost use Rattle.vms_core.specs.Own.{CarriesNothing};
-ghost use Rattle.vms_core.specs.Pages.{pages, IsLegal, state_after};
-ghost use Rattle.vms_core.specs.Steps.{role};
-ghost use Rattle.vms_calls.specs.HeaderFacts.{facts_of};
-ghost use Rattle.vms_history.specs.Events.{own};
-ghost use Rattle.vms_history.specs.Passes.{IsFree, lives_in};
-ghost use Rattle.vms_seats.specs.MainSteps.{HasBegun, HasEnded};
-ghost use Rattle.vms_seats.specs.Passes.{IsOf};
+ghost use Rattle.vms_calls.specs.Common.{MayOwnCpu, IsBase, IsOpening, settled, HasShape, Split, Join, CarriesNothing};
+ghost use Rattle.vms_calls.specs.Common.{pages, state_after, role, facts_of, own, IsFree, lives_in, IsLayout};
+ghost use Rattle.vms_core.specs.Pages.{IsLegal};
+ghost use Rattle.vms_seats.specs.Common.{HasBegun, HasEnded, IsFrom};
 ghost use Rattle.vms_words.specs.PagePasses.{HoldsSpending};
-ghost use Rattle.vms_base.specs.Places.{IsLayout};
-ghost use Rattle.vms_words.specs.Shown.{shown, word_at};
+ghost use Rattle.vms_words.specs.Rows.{AreThere};
+ghost use Rattle.vms_words.specs.Shown.{shown, spot_word};
 ghost use Rattle.vms_words.specs.Spots.{blocks_of, spot_in};
 
 use crate::SharedPages;
@@ -42,16 +34,16 @@ pub struct PageTable {
 }
 
 impl Model for PageTable {
-    ghost use Rattle.vms_core.specs.declared.steps.Facts.{Facts};
-    ghost use Rattle.vms_seats.specs.Passes.{Shared};
+    ghost use Rattle.vms_calls.specs.Common.{Facts};
+    ghost use Rattle.vms_seats.specs.Common.{Shared};
 
     ghost Value = { Shared Facts };
 
-    ghost use Rattle.vms_words.specs.PageTables.{AreFor};
+    ghost use Rattle.vms_words.specs.PageTables.{AreMadeFor};
 
     ghost view = { λ t. t.words };
 
-    ghost invariant = { λ t. AreFor t.facts t.blocks t.words };
+    ghost invariant = { λ t. AreMadeFor t.facts t.blocks t.words };
 }
 
 impl PageTable {
@@ -64,7 +56,7 @@ impl PageTable {
     ) -> Result<(PageTable, MainPass), Memory>
         requires { IsBase (facts_of header.now base.now) }
         ensures table { IfOk result (λ made. made.0.facts ≡ facts_of header.now base.now) }
-        ensures main { IfOk result (λ made. IsOf made.1 made.0 × (made.1.seen ≡ [])) }
+        ensures main { IfOk result (λ made. IsFrom made.1 made.0 × (made.1.seen ≡ [])) }
     {
         let facts = Facts {
             layout: header.layout.copied(),
@@ -98,7 +90,7 @@ impl PageTable {
 
     /// Begins a pass that owns a CPU, with the volumes that the CPU has by then.
     pub fn cpu_pass(&self, main: &mut MainPass, cpu: CpuId, volume: Volume) -> CpuPass
-        requires table { IsOf main.old self.now }
+        requires table { IsFrom main.old self.now }
         requires online { MayOwnCpu self.now.facts.layout self.now.facts.base.cpu (Some cpu) }
         requires free { IsFree role main.old.seen (Some cpu) }
         requires volume { HoldsSpending self.now.facts.layout main.old.seen cpu.number volume }
@@ -117,7 +109,7 @@ impl PageTable {
 
     /// Begins the control pass, which goes on from what an earlier one knew of the settings.
     pub fn control_pass(&self, main: &mut MainPass) -> ControlPass
-        requires table { IsOf main.old self.now }
+        requires table { IsFrom main.old self.now }
         requires free { IsFree role main.old.seen None }
         ensures begun { HasBegun pages Split main.new main.old result None }
     {
@@ -130,7 +122,7 @@ impl PageTable {
 
     /// Ends a pass that owns a CPU, and gives the CPU's volumes back.
     pub fn join_cpu(&self, main: &mut MainPass, pass: CpuPass) -> Volume
-        requires table { IsOf main.old self.now × IsOf pass.pass self.now }
+        requires table { IsFrom main.old self.now × IsFrom pass.pass self.now }
         requires carries { CarriesNothing self.now.facts.layout (own pass.pass.seen pass.pass.number) }
         ensures ended { HasEnded pages Join main.new main.old pass.pass }
         ensures volume { result ≡ pass.volume }
@@ -147,7 +139,7 @@ impl PageTable {
 
     /// Ends the control pass.
     pub fn join_control(&self, main: &mut MainPass, pass: ControlPass)
-        requires table { IsOf main.old self.now × IsOf pass self.now }
+        requires table { IsFrom main.old self.now × IsFrom pass self.now }
         requires carries { CarriesNothing self.now.facts.layout (own pass.seen pass.number) }
         ensures ended { HasEnded pages Join main.new main.old pass }
     {
@@ -161,7 +153,7 @@ impl PageTable {
     /// Closes the table, once every other pass has ended, and writes its last state as the next phase begins with it:
     /// nothing acknowledged, and nothing set. The history is what the main pass has seen.
     pub fn close(self, main: MainPass, into: &mut State) -> PhaseHistory
-        requires table { IsOf main self }
+        requires table { IsFrom main self }
         requires ended { (q : ℕ) → lives_in role main.seen q ≡ false }
         requires shaped { HasShape self.facts.layout into.old }
         ensures history { result ≡ record { facts = self.facts; events = main.seen } }
@@ -185,6 +177,7 @@ fn write_state(closing: &Closing<SharedPages>, blocks: Blocks, into: &mut State)
     requires legal { IsLegal closing.now.facts closing.now.events }
     requires laid { blocks ≡ blocks_of closing.now.facts.layout }
     requires shaped { HasShape closing.now.facts.layout into.old }
+    requires there { AreThere closing.now.facts (state_after closing.now.facts closing.now.events) blocks into.old }
     ensures { into.new ≡ settled (state_after closing.now.facts closing.now.events) }
 {
     fill::<i64, Values>(closing, 0, &mut into.place);
@@ -239,7 +232,7 @@ fn opening_words(
     requires layout { IsLayout layout.now }
     requires laid { blocks ≡ blocks_of layout.now }
     requires opening { IsOpening layout.now state.now }
-    ensures { IfOk result (λ words. words.items ≡ map (λ n. word_at state.now (spot_in blocks n))
+    ensures { IfOk result (λ words. words.items ≡ map (λ n. spot_word state.now (spot_in blocks n))
         (range_with_len 0 blocks.end)) }
 {
     let mut words = Vec::with_capacity(alloc, blocks.end)?;

@@ -2,15 +2,9 @@
 use Rattle.std.proofs.Common.{◌≡◌, ℕ, ◌+◌, ◌<◌, ◌≤◌, List, length, get_or, All, ap, arith, cond}
 use Rattle.std.proofs.lemmas.List.Elements.{All-get_or}
 use Rattle.std.proofs.lemmas.List.Sums.{count_by_more_yes, count_by-le-length, sum_by-take-le}
-use Rattle.vms_base.specs.declared.headers.Header.{Header}
-use Rattle.vms_base.specs.declared.kinds.CpuState.{CpuState}
-use Rattle.vms_base.specs.declared.kinds.CpuState.TheVariants.{Absent}
-use Rattle.vms_base.specs.declared.kinds.ZoneSize.{ZoneSize}
-use Rattle.vms_base.specs.Cpus.{HasOnline, is_online}
-use Rattle.vms_base.specs.Places.{Shape, IsLayout}
-use Rattle.vms_base.specs.Sizes.{IsValidSize, size_at}
-use Rattle.vms_base.specs.Thresholds.{GivesThresholds}
-use Rattle.vms_world.specs.Refreshes.{AreAnswers, count_online}
+use Rattle.vms_calls.specs.Common.{Header, CpuState, Absent, ZoneSize, HasOnline, is_online, Shape, IsLayout}
+use Rattle.vms_calls.specs.Common.{IsValidSize, size_at, GivesThresholds}
+use Rattle.vms_world.specs.Common.{AreAnswers, count_online}
 use Rattle.vms_world.proofs.PlaceThresholds.{AreThresholds}
 
 -- one of the CPUs is online, and there are at most 128

@@ -1,18 +1,10 @@
 -- For other crates too: a world in which a CPU has come online belongs to its header.
 use Rattle.std.proofs.Common.{◌≡◌, ℕ, ◌<◌, ◌≤◌, Bool, true, false, nat_eq, List, length, if◌then◌else◌, sym, subst, ◌∙◌}
 use Rattle.std.proofs.Common.{length-set, get_or-set_same}
-use Rattle.vms_base.specs.declared.headers.Header.{Header}
-use Rattle.vms_base.specs.declared.kinds.CpuState.TheVariants.{Online, Absent}
-use Rattle.vms_base.specs.declared.kinds.ZoneSize.{ZoneSize}
-use Rattle.vms_base.specs.Places.{IsCpu}
-use Rattle.vms_base.specs.Thresholds.{GivesThresholds}
-use Rattle.vms_history.proofs.Cells.{get_or-set}
-use Rattle.vms_core.specs.declared.states.State.{State}
-use Rattle.vms_core.specs.Cells.{cpu_at, with_cpu}
+use Rattle.vms_calls.specs.Common.{Header, Online, Absent, ZoneSize, IsCpu, GivesThresholds, State, cpu_at, with_cpu}
+use Rattle.vms_history.proofs.Common.{get_or-set}
 use Rattle.vms_world.specs.declared.worlds.World.{World}
-use Rattle.vms_world.specs.Boundaries.{brought_up}
-use Rattle.vms_world.specs.Refreshes.{AreAnswers, MayRefresh, count_online, refreshed}
-use Rattle.vms_world.specs.Worlds.{IsWorldOf}
+use Rattle.vms_world.specs.Common.{brought_up, AreAnswers, MayRefresh, count_online, refreshed, IsWorldOf}
 use Rattle.vms_world.proofs.Answers.{AreThresholds-answers, count_online-least, count_online-most}
 use Rattle.vms_world.proofs.PageParts.{IsWorldOf-pages}
 use Rattle.vms_world.proofs.PlaceThresholds.{AreThresholds}

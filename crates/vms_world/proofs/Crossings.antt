@@ -1,16 +1,10 @@
 -- For other crates too: a world belongs to its header after each boundary, and what a counter adds up to stays.
 use Rattle.std.proofs.Common.{◌≡◌, ℕ, ℤ, ◌+ℤ◌, sym, ap, subst, ◌∙◌}
-use Rattle.vms_base.specs.declared.headers.Header.{Header}
-use Rattle.vms_base.specs.declared.kinds.ZoneSize.{ZoneSize}
-use Rattle.vms_base.specs.Places.{IsCounter}
-use Rattle.vms_base.specs.Thresholds.{GivesThresholds}
-use Rattle.vms_core.specs.Cells.{value_at}
-use Rattle.vms_core.specs.Totals.{differentials}
+use Rattle.vms_calls.specs.Common.{Header, ZoneSize, IsCounter, GivesThresholds, value_at, differentials}
 use Rattle.vms_text.specs.declared.acts.Boundary.{Boundary}
 use Rattle.vms_text.specs.declared.acts.Boundary.TheVariants.{Sync, Offline, Online, Flush, Report}
 use Rattle.vms_world.specs.declared.worlds.World.{World}
-use Rattle.vms_world.specs.Boundaries.{Crosses, MayCross}
-use Rattle.vms_world.specs.Worlds.{IsWorldOf}
+use Rattle.vms_world.specs.Common.{Crosses, MayCross, IsWorldOf}
 use Rattle.vms_world.proofs.BroughtUp.{IsWorldOf-brought_up}
 use Rattle.vms_world.proofs.Flushes.{IsWorldOf-flushed, total-flushed}
 use Rattle.vms_world.proofs.TakenDown.{IsWorldOf-taken_down}

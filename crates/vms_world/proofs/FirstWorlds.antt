@@ -6,31 +6,19 @@ use Rattle.std.proofs.lemmas.Int.{ints}
 use Rattle.std.proofs.lemmas.List.{get_or-map, get_or-replicate, get_or_past, length-map, length-replicate}
 use Rattle.std.proofs.lemmas.List.Elements.{All-get_or}
 use Rattle.std.proofs.lemmas.List.Sums.{sum_by-append}
-use Rattle.vms_base.specs.declared.headers.Decl.{Decl}
-use Rattle.vms_base.specs.declared.headers.Header.{Header}
-use Rattle.vms_base.specs.declared.kinds.CpuState.TheVariants.{Online, Absent}
-use Rattle.vms_base.specs.declared.kinds.ZoneSize.{ZoneSize}
-use Rattle.vms_base.specs.Cpus.{is_online}
-use Rattle.vms_base.specs.Headers.{IsHeader, IsValidDecl}
-use Rattle.vms_base.specs.Places.{Shape, IsCpu, IsItem, cell, counter_count, item_count, place_count}
-use Rattle.vms_base.specs.Thresholds.{GivesThresholds}
-use Rattle.vms_history.proofs.SumLaws.{sum_below-zeros}
-use Rattle.vms_core.specs.declared.states.State.{State}
+use Rattle.vms_calls.specs.Common.{Decl, Header, Online, Absent, ZoneSize, is_online, IsHeader, IsValidDecl, Shape}
+use Rattle.vms_calls.specs.Common.{IsCpu, IsItem, cell, counter_count, item_count, place_count, GivesThresholds, State}
+use Rattle.vms_calls.specs.Common.{cpu_at, diff_at, system_at, IsWithinVolumes, differentials}
+use Rattle.vms_history.proofs.Common.{sum_below-zeros}
 use Rattle.vms_core.specs.Bases as pages
-use Rattle.vms_core.specs.Cells.{cpu_at, diff_at, system_at}
-use Rattle.vms_core.specs.Ends.{IsWithinVolumes}
-use Rattle.vms_core.specs.Totals.{differentials}
-use Rattle.vms_core.proofs.LevelStates.{get_or-copies}
-use Rattle.vms_core.proofs.SettledEnds.{values_of_item-most}
+use Rattle.vms_core.proofs.Common.{get_or-copies, values_of_item-most}
 use Rattle.vms_event_core.specs.Bases as events
-use Rattle.vms_event_core.specs.Words.{event_count, word_at, words_of}
+use Rattle.vms_event_core.specs.Common.{event_count, word_at, sum_of_words}
 use Rattle.vms_pcpu_core.specs.Bases as percpu
-use Rattle.vms_pcpu_core.specs.States.{count_at, local_at}
-use Rattle.vms_pcpu_core.specs.Totals.{locals}
+use Rattle.vms_pcpu_core.specs.Common.{count_at, local_at, locals}
 use Rattle.vms_world.specs.declared.worlds.World.{World}
-use Rattle.vms_world.specs.Refreshes.{AreAnswers, MayRefresh, count_online}
-use Rattle.vms_world.specs.FirstWorlds.{bare_pages, base_of, base_of_item, started}
-use Rattle.vms_world.specs.Worlds.{IsWorldOf, AreVolumes, page_facts, event_facts, pcpu_facts, page_volume}
+use Rattle.vms_world.specs.Common.{AreAnswers, MayRefresh, count_online, bare_pages, base_of, base_of_item, started}
+use Rattle.vms_world.specs.Common.{IsWorldOf, AreVolumes, page_facts, event_facts, pcpu_facts, page_volume}
 use Rattle.vms_world.proofs.Answers.{AreThresholds-answers}
 use Rattle.vms_world.proofs.ListedReads.{length-listed, get_or-listed}
 use Rattle.vms_world.proofs.PlaceThresholds.{AreThresholds}
@@ -131,7 +119,7 @@ module _ (header : Header) (valid : IsHeader header) where
     abbrev w : World
     w = started header zones
 
-    words-zero : (k : ℕ) → words_of layout w.events k ≡ pos 0
+    words-zero : (k : ℕ) → sum_of_words layout w.events k ≡ pos 0
     words-zero k = sum_below-zeros (λ c. pos (word_at w.events c k)) layout.cpus
         (λ c c_in. ap pos (get_or-copies {X = ℕ} (layout.cpus * event_count) (cell event_count c k) 0))
 

@@ -1,33 +1,17 @@
 -- For other crates too: a world that was flushed belongs to its header: nothing is lost, and no CPU hides more.
-use Rattle.std.proofs.Common.{◌≡◌, ℕ, ◌*◌, ◌^◌, ◌<◌, ◌≤◌, Bool, true, false, nat_eq, ℤ, pos, ◌+ℤ◌, unsigned_abs}
-use Rattle.std.proofs.Common.{[], if◌then◌else◌, sym, ap, subst, ◌∙◌, arith}
+use Rattle.std.proofs.Common.{◌≡◌, ℕ, ◌*◌, ◌^◌, ◌<◌, ◌≤◌, Bool, true, false, nat_eq, ℤ, pos, ◌+ℤ◌, unsigned_abs, []}
+use Rattle.std.proofs.Common.{if◌then◌else◌, sym, ap, subst, ◌∙◌, arith}
 use Rattle.std.proofs.lemmas.Int.{ints}
-use Rattle.vms_base.specs.declared.headers.Header.{Header}
-use Rattle.vms_base.specs.declared.kinds.CpuState.TheVariants.{Absent}
-use Rattle.vms_base.specs.Cpus.{is_online}
-use Rattle.vms_base.specs.Marks.{Covers}
-use Rattle.vms_base.specs.Places.{Shape, IsLayout, IsCpu, IsCounter, IsItem, IsZone, counter_at, counter_count}
-use Rattle.vms_base.specs.Places.{item_count}
-use Rattle.vms_base.specs.Places.{item_of}
-use Rattle.vms_base.specs.Sizes.{size_at}
-use Rattle.vms_base.specs.Thresholds.{most_threshold}
-use Rattle.vms_base.specs.Volumes.{most_volume}
-use Rattle.vms_history.proofs.CountLemmas.{count_below-least, count_below-most, largest_below-least, largest_below-most}
-use Rattle.vms_history.proofs.SumBounds.{sum_below-most, sum_below-size}
-use Rattle.vms_history.proofs.SumLaws.{sum_below-same, sum_below-sum}
-use Rattle.vms_core.specs.declared.states.State.{State}
-use Rattle.vms_core.specs.Bases.{IsBase}
-use Rattle.vms_core.specs.Cells.{HasShape, cpu_at, diff_at, mark_at, system_at, value_at}
-use Rattle.vms_core.specs.Ends.{IsWithinVolumes}
-use Rattle.vms_core.specs.Peaks.{if_present, opening_peak, peak_sum}
-use Rattle.vms_core.specs.Totals.{differentials, values_of_item}
-use Rattle.vms_core.proofs.CounterRanges.{counter_at-known}
-use Rattle.vms_core.proofs.MarkCovers.{Covers-less, if_present-least}
-use Rattle.vms_core.proofs.SettledEnds.{values_of_item-most}
-use Rattle.vms_calls.specs.HeaderFacts.{facts_of}
+use Rattle.vms_calls.specs.Common.{Header, Absent, is_online, Covers, Shape, IsLayout, IsCpu, IsCounter, IsItem, IsZone}
+use Rattle.vms_calls.specs.Common.{counter_at, counter_count, item_count, item_of, size_at, most_threshold, most_volume}
+use Rattle.vms_calls.specs.Common.{State, IsBase, HasShape, cpu_at, diff_at, mark_at, system_at, value_at}
+use Rattle.vms_calls.specs.Common.{IsWithinVolumes, if_present, opening_peak, peak_sum, differentials, values_of_item}
+use Rattle.vms_calls.specs.Common.{facts_of}
+use Rattle.vms_history.proofs.Common.{count_below-least, count_below-most, largest_below-least, largest_below-most}
+use Rattle.vms_history.proofs.Common.{sum_below-most, sum_below-size, sum_below-same, sum_below-sum}
+use Rattle.vms_core.proofs.Common.{counter_at-known, Covers-less, if_present-least, values_of_item-most}
 use Rattle.vms_world.specs.declared.worlds.World.{World}
-use Rattle.vms_world.specs.Boundaries.{folded_at, folded_of, folded_of_item, flushed_pages, flushed}
-use Rattle.vms_world.specs.Worlds.{IsWorldOf, page_volume}
+use Rattle.vms_world.specs.Common.{folded_at, folded_of, folded_of_item, flushed_pages, flushed, IsWorldOf, page_volume}
 use Rattle.vms_world.proofs.ListedReads.{length-listed, get_or-listed, length-listed_by_cpu, get_or-listed_by_cpu}
 use Rattle.vms_world.proofs.PageParts.{IsWorldOf-pages}
 

@@ -1,3 +1,4 @@
+pub mod EventActs
 pub mod ListedReads
 pub mod PageParts
 pub mod TakenDown
@@ -10,3 +11,5 @@ pub mod Crossings
 pub mod FirstWorlds
 pub mod PhaseEnds
 pub mod WayEnds
+pub mod ActCalls
+pub mod Common

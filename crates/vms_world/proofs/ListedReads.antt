@@ -1,14 +1,13 @@
 -- For other crates too: what stands in lists that are given place by place, and which lists are such.
-use Rattle.std.proofs.Common.{◌≡◌, ℕ, ◌*◌, ◌/◌, ◌%◌, ◌<◌, ◌≤◌, List, length, get_or, sym, ap, ◌∙◌, arith, ⊎_elim}
-use Rattle.std.proofs.Common.{subst}
+use Rattle.std.proofs.Common.{◌≡◌, ℕ, ◌*◌, ◌/◌, ◌%◌, ◌<◌, ◌≤◌, List, length, get_or, sym, ap, ◌∙◌, arith, ⊎_elim, subst}
 use Rattle.std.proofs.Math.Nat.{mul-zero}
 use Rattle.std.proofs.lemmas.Bool.{cases_lt}
 use Rattle.std.proofs.lemmas.List.{ext_get_or}
 use Rattle.std.proofs.lemmas.List.FromFn.{get_or-map-range_with_len, length-map-range_with_len}
 use Rattle.std.proofs.lemmas.Nat.{div_below, mod_below, div-add-mod'}
-use Rattle.vms_base.specs.Places.{cell}
-use Rattle.vms_base.proofs.Cells.{cell-lt, cell-cpu, cell-thing}
-use Rattle.vms_world.specs.Listed.{listed, listed_by_cpu}
+use Rattle.vms_calls.specs.Common.{cell}
+use Rattle.vms_base.proofs.Common.{cell-lt, cell-cpu, cell-thing}
+use Rattle.vms_world.specs.Common.{listed, listed_by_cpu}
 
 module _ {X : Type 0} (f : ℕ → X) (n : ℕ) where
   pub length-listed : length (listed f n) ≡ n

@@ -1,15 +1,8 @@
 -- A world with other page counters, in which no further CPU is absent, belongs to its header if they may.
 use Rattle.std.proofs.Common.{◌≡◌, ℕ}
-use Rattle.vms_base.specs.declared.headers.Header.{Header}
-use Rattle.vms_base.specs.declared.kinds.CpuState.TheVariants.{Absent}
-use Rattle.vms_base.specs.Places.{IsCpu}
-use Rattle.vms_core.specs.declared.states.State.{State}
-use Rattle.vms_core.specs.Bases.{IsBase}
-use Rattle.vms_core.specs.Cells.{cpu_at}
-use Rattle.vms_core.specs.Ends.{IsWithinVolumes}
-use Rattle.vms_calls.specs.HeaderFacts.{facts_of}
+use Rattle.vms_calls.specs.Common.{Header, Absent, IsCpu, State, IsBase, cpu_at, IsWithinVolumes, facts_of}
 use Rattle.vms_world.specs.declared.worlds.World.{World}
-use Rattle.vms_world.specs.Worlds.{IsWorldOf, page_volume}
+use Rattle.vms_world.specs.Common.{IsWorldOf, page_volume}
 
 module _ (header : Header) (w : World) (of : IsWorldOf header w) (s : State) (base : IsBase (facts_of header s))
     (absent : (c : ℕ) → IsCpu header.layout c → cpu_at s c ≡ Absent → cpu_at w.pages c ≡ Absent)

@@ -1,29 +1,25 @@
 -- For other crates too: complete histories lead from a world of a header to one of it.
-use Rattle.std.proofs.Common.{◌≡◌, ℕ, ◌^◌, ◌<◌, ◌≤◌, pos, ◌+ℤ◌, ◌≤ℤ◌, unsigned_abs, length, ap}
-use Rattle.std.proofs.Common.{◌∙◌, arith}
+use Rattle.std.proofs.Common.{◌≡◌, ℕ, ◌+◌, ◌^◌, ◌<◌, ◌≤◌, List, pos, ◌+ℤ◌, ◌≤ℤ◌, unsigned_abs, length, ap, ◌∙◌, arith}
 use Rattle.std.proofs.lemmas.Int.{ints}
 use Rattle.std.proofs.lemmas.List.{length-map}
-use Rattle.vms_base.specs.declared.headers.Header.{Header}
-use Rattle.vms_base.specs.Places.{Shape, counter_count}
-use Rattle.vms_history.proofs.CountLemmas.{count_below-same, count_below-sum, pos-count_below}
+use Rattle.vms_calls.specs.Common.{Header, Shape, counter_count, IsWithinVolumes, grown}
+use Rattle.vms_history.proofs.Common.{count_below-least, count_below-same, count_below-sum, pos-count_below}
 use Rattle.vms_core.specs.Bases as pages
-use Rattle.vms_core.specs.Ends.{IsWithinVolumes, grown}
-use Rattle.vms_core.proofs.SettledEnds.{IsBase-ended, within-volumes}
+use Rattle.vms_core.proofs.Common.{IsBase-ended, within-volumes}
 use Rattle.vms_event_core.specs.Bases as events
 use Rattle.vms_event_core.specs.Endings as event_ends
-use Rattle.vms_event_core.specs.Words.{IsEvent, event_count, words_of}
-use Rattle.vms_event_core.proofs.Endings.{begins-paid}
+use Rattle.vms_event_core.specs.Common.{IsEvent, event_count, sum_of_words}
+use Rattle.vms_event_core.proofs.Common.{begins-paid}
 use Rattle.vms_pcpu_core.specs.Bases as percpu
 use Rattle.vms_pcpu_core.specs.Endings as pcpu_ends
-use Rattle.vms_pcpu_core.specs.States.{IsPcpu, count_at}
-use Rattle.vms_pcpu_core.specs.Totals.{locals, spent}
-use Rattle.vms_pcpu_core.proofs.BaseAgain.{totals-hold, volumes-begin_again}
-use Rattle.vms_pcpu_core.proofs.Sizes.{amounts-most}
+use Rattle.vms_pcpu_core.specs.Common.{IsPcpu, count_at, locals, spent}
+use Rattle.vms_pcpu_core.proofs.Common.{totals-hold, volumes-begin_again, amounts-most}
 use Rattle.vms_world.specs.declared.worlds.World.{World}
-use Rattle.vms_world.specs.Listed.{listed_by_cpu}
-use Rattle.vms_world.specs.Phases.{AreComplete, Histories, LeavesNothing, StayWithinVolumes, left_by}
-use Rattle.vms_world.specs.Worlds.{AreVolumes, IsWorldOf, page_facts, event_facts, pcpu_facts, page_volume, volume_in}
-use Rattle.vms_world.specs.Worlds.{event_volume, pcpu_volume, volumes_on}
+use Rattle.vms_world.specs.Common.{listed_by_cpu, FitVolumes, event_volume_after, page_volume_after, pcpu_volume_after}
+use Rattle.vms_world.specs.Common.{AreComplete, TableHistories, LeavesNothing, SpendTheirLines, StayWithinVolumes}
+use Rattle.vms_world.specs.Common.{left_by, AreVolumes, IsWorldOf, page_facts, event_facts, pcpu_facts, page_volume}
+use Rattle.vms_world.specs.Common.{volume_in, event_volume, pcpu_volume, volumes_on}
+use Rattle.vms_text.specs.declared.acts.Item.{Item}
 use Rattle.vms_world.proofs.ListedReads.{get_or-listed_by_cpu, length-listed_by_cpu}
 
 -- volumes that are given CPU by CPU
@@ -42,13 +38,26 @@ volumes_on-listed_by_cpu shape width f k k_in =
     count_below-same (λ c. volume_in (listed_by_cpu f shape.cpus width) width c k) (λ c. f c k) shape.cpus
     (λ c c_in. get_or-listed_by_cpu f shape.cpus width c k 0 c_in k_in)
 
-module _ (header : Header) (w : World) (hs : Histories) (of : IsWorldOf header w) (complete : AreComplete header w hs)
-    (volumes : StayWithinVolumes header w hs) (nothing : LeavesNothing header (left_by header w hs)) where
+-- histories that spend what lines say, where the lines fit the volumes
+pub StayWithinVolumes-lines : (header : Header) (w : World) (items : List Item) (hs : TableHistories)
+    → SpendTheirLines header items hs → FitVolumes header w items → StayWithinVolumes header w hs
+StayWithinVolumes-lines header w items hs spend fit = record {
+  pages = λ c k c_in k_in. omega (arith, spend.pages c k c_in, fit.pages c k c_in k_in);
+  events = λ c k c_in k_in. omega (arith, spend.events c k c_in, fit.events c k c_in k_in);
+  counters = λ c c_in j j_in. omega (arith, spend.counters c j c_in, fit.counters c j c_in j_in);
+}
+
+module _ (header : Header) (w : World) (items : List Item) (hs : TableHistories) (of : IsWorldOf header w)
+    (complete : AreComplete header w hs) (spend : SpendTheirLines header items hs)
+    (fit : FitVolumes header w items) (nothing : LeavesNothing header (left_by header w items hs)) where
   abbrev layout : Shape
   layout = header.layout
 
   abbrev next : World
-  next = left_by header w hs
+  next = left_by header w items hs
+
+  volumes : StayWithinVolumes header w hs
+  volumes = StayWithinVolumes-lines header w items hs spend fit
 
   pages-begin : pages.IsBase (page_facts header next)
   pages-begin = IsBase-ended (page_facts header w) hs.pages complete.pages (page_volume header w) of.pages_within
@@ -59,9 +68,14 @@ module _ (header : Header) (w : World) (hs : Histories) (of : IsWorldOf header w
       let within = within-volumes (page_facts header w) hs.pages complete.pages (page_volume header w) of.pages_within
       volumes.pages in
       record {
-        totals = λ k k_in.
-            rw (volumes_on-listed_by_cpu layout (counter_count layout) (grown (page_volume header w) hs.pages) k k_in)
-            (within.totals k k_in);
+        totals = λ k k_in. omega (
+          arith,
+          within.totals k k_in,
+          volumes_on-listed_by_cpu layout (counter_count layout) (page_volume_after header w items) k k_in,
+          count_below-same (λ c. grown (page_volume header w) hs.pages c k)
+              (λ c. page_volume_after header w items c k) layout.cpus
+              (λ c c_in. omega (arith, spend.pages c k c_in)),
+        );
         systems = within.systems;
       }
 
@@ -92,13 +106,15 @@ module _ (header : Header) (w : World) (hs : Histories) (of : IsWorldOf header w
   }
 
   event-totals : (k : ℕ) → IsEvent k
-      → words_of layout next.events k ≤ℤ pos (volumes_on layout (event_volume next) k)
+      → sum_of_words layout next.events k ≤ℤ pos (volumes_on layout (event_volume next) k)
   event-totals k k_in = omega (
     arith,
     ints,
     event-ends.1.words k k_in,
     pos-count_below (λ c. event_ends.spent_by_now (event_volume w) hs.events c k) layout.cpus,
-    volumes_on-listed_by_cpu layout event_count (event_ends.spent_by_now (event_volume w) hs.events) k k_in,
+    count_below-same (λ c. event_ends.spent_by_now (event_volume w) hs.events c k)
+        (λ c. event_volume_after w items c k) layout.cpus (λ c c_in. omega (arith, spend.events c k c_in)),
+    volumes_on-listed_by_cpu layout event_count (event_volume_after w items) k k_in,
   )
 
   decls-long : length w.counters.batch ≡ length header.counters
@@ -146,8 +162,10 @@ module _ (header : Header) (w : World) (hs : Histories) (of : IsWorldOf header w
         amounts-most (pcpu_facts header w) hs.counters j complete.counters.legal known,
         pos-count_below (λ c. spent hs.counters c j) layout.cpus,
         count_below-sum (λ c. pcpu_volume header w c j) (λ c. spent hs.counters c j) layout.cpus,
-        volumes_on-listed_by_cpu layout (length header.counters)
-            (pcpu_ends.spent_by_now (pcpu_volume header w) hs.counters) j j_in,
+        count_below-least (λ c. pcpu_volume header w c j + spent hs.counters c j)
+            (λ c. pcpu_volume_after header w items c j) layout.cpus
+            (λ c c_in. omega (arith, spend.counters c j c_in)),
+        volumes_on-listed_by_cpu layout (length header.counters) (pcpu_volume_after header w items) j j_in,
       )
 
   pub IsWorldOf-left_by : IsWorldOf header next
@@ -156,13 +174,11 @@ module _ (header : Header) (w : World) (hs : Histories) (of : IsWorldOf header w
     event_base = events-begin;
     pcpu_base = counters-begin;
     batches = pcpu-ends.batches ∙ of.batches;
-    page_volumes = AreVolumes-listed_by_cpu layout (counter_count layout) (grown (page_volume header w) hs.pages)
-        volumes.pages;
-    event_volumes = AreVolumes-listed_by_cpu layout event_count (event_ends.spent_by_now (event_volume w) hs.events)
-        (λ c k c_in k_in. volumes.events c k c_in k_in);
-    pcpu_volumes = AreVolumes-listed_by_cpu layout (length header.counters)
-        (pcpu_ends.spent_by_now (pcpu_volume header w) hs.counters)
-        (λ c j c_in j_in. volumes.counters c c_in j (omega (arith, decls-long)));
+    page_volumes = AreVolumes-listed_by_cpu layout (counter_count layout) (page_volume_after header w items)
+        fit.pages;
+    event_volumes = AreVolumes-listed_by_cpu layout event_count (event_volume_after w items) fit.events;
+    pcpu_volumes = AreVolumes-listed_by_cpu layout (length header.counters) (pcpu_volume_after header w items)
+        (λ c j c_in j_in. fit.counters c j c_in (omega (arith, decls-long)));
     pages_within = pages-within_totals;
     events_within = event-totals;
     pcpu_within = pcpu-totals;

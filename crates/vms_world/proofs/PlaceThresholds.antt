@@ -1,15 +1,13 @@
 -- For other crates too: the thresholds of places are from 1 to 125, where those of the zones are.
-use Rattle.std.proofs.Common.{◌≡◌, ℕ, ◌-◌, ◌<◌, ◌≤◌, nat_eq, nat_lt, Bool, true, false, List, length, map, get_or}
-use Rattle.std.proofs.Common.{refl, ◌∙◌, arith, if◌then◌else◌}
+use Rattle.std.proofs.Common.{◌≡◌, ℕ, ◌-◌, ◌<◌, ◌≤◌, nat_eq, nat_lt, Bool, true, false, List, length, map, get_or, refl}
+use Rattle.std.proofs.Common.{◌∙◌, arith, if◌then◌else◌}
 use Rattle.std.specs.Prelude.{Contains}
 use Rattle.std.proofs.lemmas.Bool.Decides.{nat_tests}
 use Rattle.std.proofs.lemmas.List.{length-map, get_or_default}
 use Rattle.std.proofs.lemmas.List.Elements.{Contains-get_or}
-use Rattle.vms_base.specs.Places.{Shape, IsLayout, IsPlace, IsZone, node_of_zone}
-use Rattle.vms_base.specs.Thresholds.{most_threshold}
-use Rattle.vms_history.proofs.CountLemmas.{largest_below-least, largest_below-most}
-use Rattle.vms_calls.specs.Ratings.{largest_on}
-use Rattle.vms_world.specs.Refreshes.{place_threshold}
+use Rattle.vms_calls.specs.Common.{Shape, IsLayout, IsPlace, IsZone, node_of_zone, most_threshold, largest_on}
+use Rattle.vms_history.proofs.Common.{largest_below-least, largest_below-most}
+use Rattle.vms_world.specs.Common.{place_threshold}
 
 -- thresholds of the zones of a layout
 pub record AreThresholds (shape : Shape) (zones : List ℕ) : Type 0 where

@@ -1,31 +1,18 @@
 -- For other crates too: a refresh gives a state thresholds and marks with which a history may begin.
 use Rattle.std.proofs.Common.{◌≡◌, ℕ, ◌+◌, ◌*◌, ◌^◌, ◌<◌, ◌≤◌, ◌&&◌, nat_eq, nat_le, nat_lt, max, Bool, true, false}
-use Rattle.std.proofs.Common.{unsigned_abs, [], List, length, None, All, if◌then◌else◌, sym, ap, ◌∙◌}
-use Rattle.std.proofs.Common.{arith, get_or}
+use Rattle.std.proofs.Common.{unsigned_abs, [], List, length, None, All, if◌then◌else◌, sym, ap, ◌∙◌, arith, get_or}
 use Rattle.std.proofs.Math.Nat.{mul-le-mul_left}
 use Rattle.std.proofs.lemmas.List.Elements.{All-get_or}
 use Rattle.std.proofs.lemmas.List.Sums.{count_by-le-length}
-use Rattle.vms_base.specs.declared.headers.Header.{Header}
-use Rattle.vms_base.specs.declared.kinds.CpuState.{CpuState}
-use Rattle.vms_base.specs.declared.kinds.CpuState.TheVariants.{Online, Dead, Absent}
-use Rattle.vms_base.specs.declared.kinds.ZoneSize.{ZoneSize}
-use Rattle.vms_base.specs.Cpus.{is_online}
-use Rattle.vms_base.specs.Marks.{Covers, linux_mark_of, cover_mark_of}
-use Rattle.vms_base.specs.Places.{Shape, IsLayout, IsCpu, IsPlace, IsZone, counter_at, place_count, cell}
-use Rattle.vms_base.specs.Sizes.{IsValidSize, gap_of, size_at}
-use Rattle.vms_base.specs.Thresholds.{most_threshold}
-use Rattle.vms_history.proofs.CountLemmas.{count_below-most, largest_below-most}
-use Rattle.vms_core.specs.declared.states.State.{State}
-use Rattle.vms_core.specs.Bases.{IsBase}
-use Rattle.vms_core.specs.Cells.{HasShape, cpu_at, diff_at, mark_at}
-use Rattle.vms_core.specs.Cells.{threshold_at}
-use Rattle.vms_core.specs.Peaks.{if_present, opening_peak, peak_sum}
-use Rattle.vms_core.proofs.CounterRanges.{counter_at-known}
-use Rattle.vms_core.proofs.PlainData.{places_of-shaped}
-use Rattle.vms_calls.specs.HeaderFacts.{facts_of}
-use Rattle.vms_calls.proofs.RatingCovers.{cover_mark-covers}
-use Rattle.vms_world.specs.Refreshes.{MayRefresh, count_online, hidden_in, place_threshold, refreshed, with_thresholds}
-use Rattle.vms_world.specs.Refreshes.{zone_mark}
+use Rattle.vms_calls.specs.Common.{Header, CpuState, Online, Dead, Absent, ZoneSize, is_online, Covers, linux_mark_of}
+use Rattle.vms_calls.specs.Common.{cover_mark_of, Shape, IsLayout, IsCpu, IsPlace, IsZone, counter_at, place_count}
+use Rattle.vms_calls.specs.Common.{cell, IsValidSize, gap_of, size_at, most_threshold, State, IsBase, HasShape, cpu_at}
+use Rattle.vms_calls.specs.Common.{diff_at, mark_at, threshold_at, if_present, opening_peak, peak_sum, facts_of}
+use Rattle.vms_history.proofs.Common.{count_below-most, largest_below-most}
+use Rattle.vms_core.proofs.Common.{counter_at-known, places_of-shaped}
+use Rattle.vms_calls.proofs.Common.{cover_mark-covers}
+use Rattle.vms_world.specs.Common.{MayRefresh, count_online, hidden_in, place_threshold, refreshed, with_thresholds}
+use Rattle.vms_world.specs.Common.{zone_mark}
 use Rattle.vms_world.proofs.ListedReads.{length-listed, get_or-listed, length-listed_by_cpu, get_or-listed_by_cpu}
 use Rattle.vms_world.proofs.PlaceThresholds.{AreThresholds, place_threshold-most, place_threshold-least}
 

@@ -1,21 +1,11 @@
 -- For other crates too: a world in which a CPU has gone offline belongs to its header.
-use Rattle.std.proofs.Common.{◌≡◌, ◌≢◌, ℕ, ◌<◌, Bool, true, false, nat_eq, [], if◌then◌else◌, refl, sym, subst}
-use Rattle.std.proofs.Common.{ap, ◌∙◌, eqb-true, ne_eqb, length-set}
-use Rattle.vms_base.specs.declared.headers.Header.{Header}
-use Rattle.vms_base.specs.declared.kinds.CpuState.TheVariants.{Online, Dead, Absent}
-use Rattle.vms_base.specs.Marks.{Covers}
-use Rattle.vms_base.specs.Places.{IsCpu, IsZone}
-use Rattle.vms_base.specs.Sizes.{size_at}
-use Rattle.vms_history.proofs.Cells.{get_or-set}
-use Rattle.vms_history.proofs.CountLemmas.{count_below-same}
-use Rattle.vms_core.specs.declared.states.State.{State}
-use Rattle.vms_core.specs.Bases.{IsBase}
-use Rattle.vms_core.specs.Cells.{cpu_at, mark_at, with_cpu}
-use Rattle.vms_core.specs.Peaks.{if_present, opening_peak, peak_sum}
-use Rattle.vms_calls.specs.HeaderFacts.{facts_of}
+use Rattle.std.proofs.Common.{◌≡◌, ◌≢◌, ℕ, ◌<◌, Bool, true, false, nat_eq, [], if◌then◌else◌, refl, sym, subst, ap, ◌∙◌}
+use Rattle.std.proofs.Common.{eqb-true, ne_eqb, length-set}
+use Rattle.vms_calls.specs.Common.{Header, Online, Dead, Absent, Covers, IsCpu, IsZone, size_at, State, IsBase, cpu_at}
+use Rattle.vms_calls.specs.Common.{mark_at, with_cpu, if_present, opening_peak, peak_sum, facts_of}
+use Rattle.vms_history.proofs.Common.{get_or-set, count_below-same}
 use Rattle.vms_world.specs.declared.worlds.World.{World}
-use Rattle.vms_world.specs.Boundaries.{taken_down}
-use Rattle.vms_world.specs.Worlds.{IsWorldOf}
+use Rattle.vms_world.specs.Common.{taken_down, IsWorldOf}
 use Rattle.vms_world.proofs.PageParts.{IsWorldOf-pages}
 
 module _ (header : Header) (w : World) (c : ℕ) (of : IsWorldOf header w) (c_in : IsCpu header.layout c)

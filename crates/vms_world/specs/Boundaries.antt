@@ -1,13 +1,8 @@
 -- What the boundaries between phases make of a world.
 use Rattle.std.specs.Prelude.{◌≡◌, ◌≢◌, ℕ, if◌then◌else◌, nat_eq, ℤ, pos, ◌+ℤ◌, List}
-use Rattle.vms_base.specs.declared.headers.Header.{Header}
-use Rattle.vms_base.specs.declared.kinds.CpuState.TheVariants.{Online as IsOnline, Dead, Absent}
-use Rattle.vms_base.specs.declared.kinds.ZoneSize.{ZoneSize}
-use Rattle.vms_base.specs.Cpus.{is_online}
-use Rattle.vms_base.specs.Places.{Shape, IsCpu, counter_count, item_count, item_of}
-use Rattle.vms_history.specs.Sums.{sum_below}
-use Rattle.vms_core.specs.declared.states.State.{State}
-use Rattle.vms_core.specs.Cells.{cpu_at, diff_at, system_at, value_at, with_cpu}
+use Rattle.vms_calls.specs.Common.{Header, Online as IsOnline, Dead, Absent, ZoneSize, is_online, Shape, IsCpu}
+use Rattle.vms_calls.specs.Common.{counter_count, item_count, item_of, sum_below, State, cpu_at, diff_at, system_at}
+use Rattle.vms_calls.specs.Common.{value_at, with_cpu}
 use Rattle.vms_text.specs.declared.acts.Boundary.{Boundary}
 use Rattle.vms_text.specs.declared.acts.Boundary.TheVariants.{Offline, Online, Flush}
 use Rattle.vms_world.specs.declared.worlds.World.{World}

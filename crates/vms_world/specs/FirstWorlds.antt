@@ -1,11 +1,7 @@
 -- The world that a run begins with.
 use Rattle.std.specs.Prelude.{ℕ, ◌*◌, nat_eq, ℤ, pos, List, length, map, replicate, None, if◌then◌else◌, slice_index_or}
-use Rattle.vms_base.specs.declared.headers.Header.{Header}
-use Rattle.vms_base.specs.declared.kinds.CpuState.TheVariants.{Online}
-use Rattle.vms_base.specs.Places.{counter_count, item_count, item_of, place_count}
-use Rattle.vms_history.specs.Sums.{sum_below}
-use Rattle.vms_core.specs.declared.states.State.{State}
-use Rattle.vms_event_core.specs.Words.{event_count}
+use Rattle.vms_calls.specs.Common.{Header, Online, counter_count, item_count, item_of, place_count, sum_below, State}
+use Rattle.vms_event_core.specs.Common.{event_count}
 use Rattle.vms_world.specs.declared.worlds.World.{World}
 use Rattle.vms_world.specs.Listed.{listed}
 use Rattle.vms_world.specs.Refreshes.{refreshed}

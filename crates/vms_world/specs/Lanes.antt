@@ -1,16 +1,12 @@
 -- The lanes of a phase: which have lines, whose passes they are, and what their callers make of their lines.
-use Rattle.std.specs.Prelude.{◌≡◌, ℕ, zero, suc, ◌<◌, ◌||◌, Bool, false, List, [], ◌∷◌, ◌++◌, length, map}
-use Rattle.std.specs.Prelude.{filter, if◌then◌else◌, Option, Some, None, slice_index_or}
-use Rattle.vms_base.specs.declared.ids.CpuId.{CpuId}
-use Rattle.vms_base.specs.Places.{Shape}
-use Rattle.vms_history.specs.declared.events.Event.{Event}
-use Rattle.vms_history.specs.Events.{after, own}
-use Rattle.vms_history.specs.Passes.{Role, begun_in, owner_in}
+use Rattle.std.specs.Prelude.{◌≡◌, ℕ, zero, suc, ◌<◌, ◌||◌, Bool, false, List, [], ◌∷◌, ◌++◌, length, map, filter}
+use Rattle.std.specs.Prelude.{if◌then◌else◌, Option, Some, None, slice_index_or}
+use Rattle.vms_calls.specs.Common.{CpuId, Shape, Event, after, own, Role, begun_in, owner_in}
 use Rattle.vms_text.specs.declared.acts.Act.{Act}
 use Rattle.vms_text.specs.declared.acts.Item.{Item}
 use Rattle.vms_text.specs.declared.acts.Lane.{Lane}
 use Rattle.vms_text.specs.declared.acts.Lane.TheVariants.{Cpu, Control}
-use Rattle.vms_script.specs.PhaseScripts.{is_lane}
+use Rattle.vms_script.specs.Common.{is_lane}
 
 -- whether a lane is one of these
 abbrev pub is_among : Lane → List Lane → Bool

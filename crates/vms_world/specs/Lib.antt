@@ -3,7 +3,9 @@ pub mod Worlds
 pub mod Refreshes
 pub mod Boundaries
 pub mod FirstWorlds
+pub mod LineVolumes
 pub mod Phases
 pub mod Lanes
 pub mod Acts
 pub mod PhaseLines
+pub mod Common

@@ -1,21 +1,11 @@
 -- What a refresh makes of thresholds and marks (`refresh_zone_stat_thresholds` of mm/vmstat.c).
-use Rattle.std.specs.Prelude.{◌≡◌, ℕ, ◌-◌, ◌^◌, ◌≤◌, nat_lt, if◌then◌else◌, pos, unsigned_abs, List, length}
-use Rattle.std.specs.Prelude.{count_by, None, slice_index_or}
-use Rattle.vms_base.specs.declared.headers.Header.{Header}
-use Rattle.vms_base.specs.declared.kinds.CpuState.{CpuState}
-use Rattle.vms_base.specs.declared.kinds.ZoneSize.{ZoneSize}
-use Rattle.vms_base.specs.declared.kinds.CpuState.TheVariants.{Absent}
-use Rattle.vms_base.specs.Cpus.{HasOnline, is_online}
-use Rattle.vms_base.specs.Marks.{linux_mark_of, cover_mark_of}
-use Rattle.vms_base.specs.Places.{Shape, IsCounter, IsCpu, IsItem, IsPlace, IsZone, place_count}
-use Rattle.vms_base.specs.Sizes.{size_at}
-use Rattle.vms_base.specs.Thresholds.{most_threshold}
-use Rattle.vms_history.specs.Sums.{count_below}
-use Rattle.vms_core.specs.declared.states.State.{State}
-use Rattle.vms_core.specs.Cells.{HasShape, acknowledged_at, cpu_at, diff_at, mark_sets_at, system_at, threshold_at}
-use Rattle.vms_core.specs.Cells.{threshold_sets_at, value_at}
-use Rattle.vms_core.specs.Peaks.{if_present, opening_peak}
-use Rattle.vms_calls.specs.Ratings.{largest_on}
+use Rattle.std.specs.Prelude.{◌≡◌, ℕ, ◌-◌, ◌^◌, ◌≤◌, nat_lt, if◌then◌else◌, pos, unsigned_abs, List, length, count_by}
+use Rattle.std.specs.Prelude.{None, slice_index_or}
+use Rattle.vms_calls.specs.Common.{Header, CpuState, ZoneSize, Absent, HasOnline, is_online, linux_mark_of}
+use Rattle.vms_calls.specs.Common.{cover_mark_of, Shape, IsCounter, IsCpu, IsItem, IsPlace, IsZone, place_count}
+use Rattle.vms_calls.specs.Common.{size_at, most_threshold, count_below, State, HasShape, acknowledged_at, cpu_at}
+use Rattle.vms_calls.specs.Common.{diff_at, mark_sets_at, system_at, threshold_at, threshold_sets_at, value_at}
+use Rattle.vms_calls.specs.Common.{if_present, opening_peak, largest_on}
 use Rattle.vms_world.specs.Listed.{listed, listed_by_cpu}
 
 -- how many CPUs are online

@@ -1,20 +1,14 @@
 -- Which worlds belong to a header.
 use Rattle.std.specs.Prelude.{◌≡◌, ℕ, ◌*◌, ◌<◌, ◌≤◌, ◌≤ℤ◌, pos, ◌+ℤ◌, unsigned_abs, List, length, map, slice_index_or}
-use Rattle.vms_base.specs.declared.headers.Header.{Header}
-use Rattle.vms_base.specs.Places.{Shape, cell, counter_count}
-use Rattle.vms_base.specs.Volumes.{most_volume}
-use Rattle.vms_history.specs.Sums.{count_below}
-use Rattle.vms_core.specs.declared.steps.Facts.{Facts}
+use Rattle.vms_calls.specs.Common.{Header, Shape, cell, counter_count, most_volume, count_below, Facts, IsWithinVolumes}
+use Rattle.vms_calls.specs.Common.{facts_of}
 use Rattle.vms_core.specs.Bases as pages
-use Rattle.vms_core.specs.Ends.{IsWithinVolumes}
 use Rattle.vms_event_core.specs.declared.steps.EventFacts.{EventFacts}
 use Rattle.vms_event_core.specs.Bases as events
-use Rattle.vms_event_core.specs.Words.{IsEvent, event_count, words_of}
+use Rattle.vms_event_core.specs.Common.{IsEvent, event_count, sum_of_words}
 use Rattle.vms_pcpu_core.specs.declared.steps.PcpuFacts.{PcpuFacts}
 use Rattle.vms_pcpu_core.specs.Bases as percpu
-use Rattle.vms_pcpu_core.specs.States.{count_at}
-use Rattle.vms_pcpu_core.specs.Totals.{locals}
-use Rattle.vms_calls.specs.HeaderFacts.{facts_of}
+use Rattle.vms_pcpu_core.specs.Common.{count_at, locals}
 use Rattle.vms_world.specs.declared.worlds.World.{World}
 
 -- what the three tables are told of a phase from this world: the same CPUs are online, dead and absent in all
@@ -52,7 +46,7 @@ pub record AreVolumes (shape : Shape) (width : ℕ) (volumes : List ℕ) : Type 
 
 -- all words of an event are in sum at most what the CPUs counted of it
 abbrev pub AreCounted : Shape → World → Type 0
-AreCounted shape w = (k : ℕ) → IsEvent k → words_of shape w.events k ≤ℤ pos (volumes_on shape (event_volume w) k)
+AreCounted shape w = (k : ℕ) → IsEvent k → sum_of_words shape w.events k ≤ℤ pos (volumes_on shape (event_volume w) k)
 
 -- the shared part of a percpu counter with all local parts is in absolute size at most what the CPUs added to it
 abbrev pub AreAdded : Header → World → Type 0

@@ -1,10 +1,9 @@
 ghost use Rattle.std.specs.Prelude.{◌≡◌, ℕ, ◌≤◌, ◌-ℤ◌};
-ghost use Rattle.vms_base.specs.Places.{IsCpu, IsPlace, IsItem};
-ghost use Rattle.vms_history.specs.Events.{own};
+ghost use Rattle.vms_history.specs.Common.{IsCpu, IsPlace, IsItem, own};
 ghost use Rattle.vms_core.specs.declared.steps.Facts.{Facts};
 ghost use Rattle.vms_core.specs.Bases.{IsBase, settled, next_facts};
 ghost use Rattle.vms_core.specs.Cells.{system_at};
-ghost use Rattle.vms_core.specs.Ends.{grown, AreVolumes, IsWithinVolumes};
+ghost use Rattle.vms_core.specs.Ends.{grown, AreWithinVolumes, IsWithinVolumes};
 ghost use Rattle.vms_core.specs.Own.{CarriesNothing};
 ghost use Rattle.vms_core.specs.Pages.{History, IsLegal, IsComplete, state_after};
 ghost use Rattle.vms_core.specs.Peaks.{opening_peak, peak};
@@ -20,10 +19,12 @@ pub fn complete_histories_carry_nothing()
 /// within the volumes, its totals are within the volumes after the history.
 pub fn settled_ends_may_begin()
     ensures base { (facts : Facts) (h : History) → IsComplete facts h → (volume : ℕ → ℕ → ℕ) →
-        IsWithinVolumes facts.layout volume facts.base → AreVolumes facts.layout (grown volume h) →
+        IsWithinVolumes facts.layout volume facts.base →
+        AreWithinVolumes facts.layout (grown volume h) →
         IsBase (next_facts facts (state_after facts h)) }
     ensures totals { (facts : Facts) (h : History) → IsComplete facts h → (volume : ℕ → ℕ → ℕ) →
-        IsWithinVolumes facts.layout volume facts.base → AreVolumes facts.layout (grown volume h) →
+        IsWithinVolumes facts.layout volume facts.base →
+        AreWithinVolumes facts.layout (grown volume h) →
         IsWithinVolumes facts.layout (grown volume h) (settled (state_after facts h)) }
     ensures peaks { (facts : Facts) (h : History) → IsLegal facts h →
         (c g : ℕ) → IsCpu facts.layout c → IsPlace facts.layout g →

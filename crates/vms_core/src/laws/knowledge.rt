@@ -1,22 +1,13 @@
 ghost use Rattle.std.specs.Prelude.{◌≡◌, ℕ, ℤ, ◌∷◌, Some, None};
-ghost use Rattle.vms_base.specs.declared.groups.Diffs.{Diffs};
-ghost use Rattle.vms_base.specs.declared.ids.CounterId.{CounterId};
-ghost use Rattle.vms_base.specs.declared.ids.CpuId.{CpuId};
-ghost use Rattle.vms_base.specs.declared.ids.GroupId.{GroupId};
-ghost use Rattle.vms_base.specs.declared.kinds.Mode.{Mode};
-ghost use Rattle.vms_base.specs.declared.ids.ItemId.{ItemId};
-ghost use Rattle.vms_base.specs.declared.ids.PlaceId.{PlaceId};
-ghost use Rattle.vms_base.specs.declared.kinds.CpuState.TheVariants.{Dead};
-ghost use Rattle.vms_base.specs.Places.{IsCpu, group_of};
-ghost use Rattle.vms_history.specs.Events.{own};
-ghost use Rattle.vms_history.specs.Passes.{owner_in, IsFree};
+ghost use Rattle.vms_history.specs.Common.{Diffs, CounterId, CpuId, GroupId, Mode, ItemId, PlaceId, Dead, IsCpu};
+ghost use Rattle.vms_history.specs.Common.{group_of, own, owner_in, IsFree};
 ghost use Rattle.vms_core.specs.declared.steps.Facts.{Facts};
 ghost use Rattle.vms_core.specs.declared.steps.Step.TheVariants.{Put, Miss};
 ghost use Rattle.vms_core.specs.Cells.{TellsGroup, cpu_at, eight_zeros};
-ghost use Rattle.vms_core.specs.Knowledge.{GoesOnWithout, GoesOnWithoutMain, OwnerKnows, ControlKnows};
-ghost use Rattle.vms_core.specs.Knowledge.{StandsFree, MayExchange, HasTakenAll};
-ghost use Rattle.vms_core.specs.Conditions.{Owns, AddsToPlace, AddsToSystem, Acknowledges};
-ghost use Rattle.vms_core.specs.Conditions.{IsControl, SetsThreshold, SetsMark, SetsAbsent};
+ghost use Rattle.vms_core.specs.Knowledge.{GoesOnWithout, GoesOnWithoutMain, OwnerKnows, ControlKnows, StandsFree};
+ghost use Rattle.vms_core.specs.Knowledge.{MayExchange, HasTakenAll};
+ghost use Rattle.vms_core.specs.Conditions.{Owns, AddsToPlace, AddsToSystem, Acknowledges, IsControl, SetsThreshold};
+ghost use Rattle.vms_core.specs.Conditions.{SetsMark, SetsAbsent};
 ghost use Rattle.vms_core.specs.Pages.{History, IsLegal, state_after};
 ghost use Rattle.vms_core.specs.Steps.{role};
 

@@ -1,6 +1,5 @@
 ghost use Rattle.std.specs.Prelude.{◌≡◌, ℕ, ◌≤◌, ◌∷◌};
-ghost use Rattle.vms_base.specs.declared.ids.PlaceId.{PlaceId};
-ghost use Rattle.vms_history.specs.Events.{Extends};
+ghost use Rattle.vms_history.specs.Common.{PlaceId, Extends};
 ghost use Rattle.vms_core.specs.declared.steps.Facts.{Facts};
 ghost use Rattle.vms_core.specs.declared.steps.Step.TheVariants.{LoadM};
 ghost use Rattle.vms_core.specs.Cells.{mark_at, mark_sets_at};

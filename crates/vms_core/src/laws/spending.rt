@@ -1,8 +1,5 @@
 ghost use Rattle.std.specs.Prelude.{◌≡◌, ℕ, pos, ◌+ℤ◌, Some, List, []};
-ghost use Rattle.vms_base.specs.declared.ids.CpuId.{CpuId};
-ghost use Rattle.vms_history.specs.Events.{after, total};
-ghost use Rattle.vms_history.specs.PassSteps.{HasMade};
-ghost use Rattle.vms_history.specs.Passes.{owner_in};
+ghost use Rattle.vms_history.specs.Common.{CpuId, after, total, HasMade, owner_in};
 ghost use Rattle.vms_core.specs.declared.steps.Facts.{Facts};
 ghost use Rattle.vms_core.specs.declared.steps.Step.{Step};
 ghost use Rattle.vms_core.specs.Pages.{pages, History};

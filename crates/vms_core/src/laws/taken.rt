@@ -1,8 +1,5 @@
 ghost use Rattle.std.specs.Prelude.{◌≡◌, ◌≢◌, ℕ, ◌<◌, true, pos, ◌∷◌, slice_index_or};
-ghost use Rattle.vms_base.specs.declared.groups.Diffs.{Diffs};
-ghost use Rattle.vms_base.specs.declared.ids.CpuId.{CpuId};
-ghost use Rattle.vms_base.specs.declared.ids.GroupId.{GroupId};
-ghost use Rattle.vms_base.specs.declared.kinds.CpuState.TheVariants.{Online};
+ghost use Rattle.vms_history.specs.Common.{Diffs, CpuId, GroupId, Online};
 ghost use Rattle.vms_core.specs.declared.steps.Facts.{Facts};
 ghost use Rattle.vms_core.specs.declared.steps.Step.TheVariants.{Take};
 ghost use Rattle.vms_core.specs.Cells.{cpu_at};

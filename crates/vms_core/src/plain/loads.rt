@@ -4,10 +4,10 @@ use vms_base::{CounterId, CpuId, CpuState, Diffs, GroupId, ItemId, PlaceId};
 
 impl Plain {
     ghost use Rattle.std.specs.Prelude.{◌≡◌, ◌/◌, ◌^◌, ◌<◌, ◌≤◌, length};
-    ghost use Rattle.vms_base.specs.Thresholds.{most_threshold};
-    ghost use Rattle.vms_core.specs.Cells.{counters_of, places_of, zones_of, TellsGroup};
-    ghost use Rattle.vms_core.specs.Cells.{cpu_at, threshold_at, threshold_sets_at, mark_at};
-    ghost use Rattle.vms_core.specs.Cells.{mark_sets_at, acknowledged_at, value_at, system_at};
+    ghost use Rattle.vms_history.specs.Common.{most_threshold};
+    ghost use Rattle.vms_core.specs.Cells.{counters_of, places_of, zones_of, TellsGroup, cpu_at, threshold_at};
+    ghost use Rattle.vms_core.specs.Cells.{threshold_sets_at, mark_at, mark_sets_at, acknowledged_at, value_at};
+    ghost use Rattle.vms_core.specs.Cells.{system_at};
 
     /// The threshold of a CPU in a place, as `LoadT` tells it.
     #[inline]

@@ -5,12 +5,10 @@ use vms_base::{CounterId, CpuId, Diffs, GroupId, ItemId, Mode};
 
 impl Plain {
     ghost use Rattle.std.specs.Prelude.{◌≡◌, ◌≢◌, ◌+◌, ◌/◌, ◌^◌, ◌<◌, ◌≤◌, ◌+ℤ◌, length, unsigned_abs, slice_set};
-    ghost use Rattle.vms_base.specs.Places.{group_of};
-    ghost use Rattle.vms_base.specs.Thresholds.{most_threshold};
-    ghost use Rattle.vms_base.specs.declared.kinds.CpuState.TheVariants.{Online};
+    ghost use Rattle.vms_history.specs.Common.{group_of, most_threshold, Online};
     ghost use Rattle.vms_core.specs.Changes.{differential_after, carried_by};
-    ghost use Rattle.vms_core.specs.Cells.{counters_of, TellsGroup, entry, eight_zeros, cpu_at, value_at};
-    ghost use Rattle.vms_core.specs.Cells.{system_at, with_diff, with_group_zeroed, with_value, with_system};
+    ghost use Rattle.vms_core.specs.Cells.{counters_of, TellsGroup, entry, eight_zeros, cpu_at, value_at, system_at};
+    ghost use Rattle.vms_core.specs.Cells.{with_diff, with_group_zeroed, with_value, with_system};
 
     /// Changes a differential, as `Put` does. Returns what the change carries to the global values.
     #[inline]

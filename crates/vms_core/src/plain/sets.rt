@@ -4,8 +4,7 @@ use vms_base::{CpuId, CpuState, PlaceId};
 
 impl Plain {
     ghost use Rattle.std.specs.Prelude.{◌≡◌, ℕ, ◌^◌, ◌<◌, ◌≤◌, length, pos};
-    ghost use Rattle.vms_base.specs.Thresholds.{most_threshold};
-    ghost use Rattle.vms_base.specs.declared.kinds.CpuState.TheVariants.{Online, Dead, Absent};
+    ghost use Rattle.vms_history.specs.Common.{most_threshold, Online, Dead, Absent};
     ghost use Rattle.vms_core.specs.Plain.{most_sets};
     ghost use Rattle.vms_core.specs.Cells.{counters_of, places_of, zones_of, cpu_at, diff_at, threshold_sets_at};
     ghost use Rattle.vms_core.specs.Cells.{mark_sets_at, with_threshold, with_mark, with_cpu, with_acknowledged};

@@ -1,5 +1,5 @@
 -- The line's steps come after those of its lane so far.
-use Rattle.vms_answers.specs.OpenAnswers.{steps_of_line}
+use Rattle.vms_answers.specs.Common.{steps_of_line}
 use Rattle.vms_answers.proofs.OpenAnswers.{Answered-line}
 use Rattle.vms_answers.proofs.phases.lines_answer_in_turn.Goals as goal
 

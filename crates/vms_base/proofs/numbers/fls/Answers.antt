@@ -1,7 +1,7 @@
 -- The digits of x that are no leading zeros are exactly those that x needs.
 use Rattle.std.proofs.Common.{◌≡◌, ◌+◌, ◌<◌, ◌≤◌, ◌^◌, ◌*◌, ◌-◌, ℕ, arith}
 use Rattle.std.proofs.lemmas.Nat.{leading_length}
-use Rattle.vms_base.specs.Numbers.{bits_of}
+use Rattle.vms_base.specs.Common.{bits_of}
 use Rattle.vms_base.proofs.Bits.{half_power, highest_bit-unique}
 use Rattle.vms_base.proofs.numbers.fls.Goals as goal
 

@@ -1,6 +1,6 @@
 use Rattle.std.proofs.Common.{◌≡◌, length, map, take}
 use Rattle.std.specs.Int.{w8, cast_signed}
-use Rattle.vms_base.specs.Groups.{AreBytes}
+use Rattle.vms_base.specs.Common.{AreBytes}
 use Rattle.vms_base.proofs.packing.values_of.Given as goal
 
 abbrev pub invariant-loop-i : goal.invariant-loop-i

@@ -1,12 +1,9 @@
 -- The goals were that both additions may be made, and that nothing is carried after them.
 use Rattle.std.proofs.Common.{◌≡◌, ℤ, pos, w64, sym, ap, ◌∙◌, subst, arith}
 use Rattle.std.proofs.lemmas.Int.{ints, to_z-of_z}
-use Rattle.vms_core.specs.Conditions.{AddsToPlace, AddsToSystem}
-use Rattle.vms_core.specs.declared.steps.Step.TheVariants.{AddG, AddS}
-use Rattle.vms_core.specs.Own.{CarriesNothing}
-use Rattle.vms_core.specs.Pages.{pages}
-use Rattle.vms_seats.specs.Steps.{MadeOne}
-use Rattle.vms_bench.specs.Pages.{Carries, own_of}
+use Rattle.vms_calls.specs.Common.{AddsToPlace, AddsToSystem, AddG, AddS, CarriesNothing, pages}
+use Rattle.vms_seats.specs.Common.{MadeOne}
+use Rattle.vms_bench.specs.Common.{Carries, own_of}
 use Rattle.vms_bench.proofs.PageCalls.{adds-place, adds-system, carried-away, carried-none}
 use Rattle.vms_bench.proofs.changes.carry.Goals as goal
 

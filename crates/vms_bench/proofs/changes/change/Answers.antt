@@ -1,10 +1,7 @@
 -- The goal was what both loads tell, of the pass's own CPU and the counter's group.
 use Rattle.std.proofs.Common.{◌≡◌, ◌∙◌, ap, sym, subst}
-use Rattle.vms_base.specs.declared.ids.CpuId.{CpuId}
-use Rattle.vms_base.specs.declared.ids.GroupId.{GroupId}
-use Rattle.vms_core.specs.Pages.{pages}
-use Rattle.vms_core.specs.declared.steps.Step.TheVariants.{LoadD}
-use Rattle.vms_seats.specs.Steps.{MadeOne}
+use Rattle.vms_calls.specs.Common.{CpuId, GroupId, pages, LoadD}
+use Rattle.vms_seats.specs.Common.{MadeOne}
 use Rattle.vms_bench.proofs.PageCalls.{loads-looked, same-owner}
 use Rattle.vms_bench.proofs.changes.change.Goals as goal
 

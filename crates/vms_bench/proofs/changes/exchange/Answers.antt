@@ -1,8 +1,8 @@
 -- The goals were what a miss leaves, and what the put carries.
 use Rattle.std.proofs.Common.{◌≡◌, ℤ, FitsSigned, w64, sym, subst}
 use Rattle.std.proofs.lemmas.Int.{to_z-of_z}
-use Rattle.vms_base.specs.declared.kinds.Mode.TheVariants.{Mod}
-use Rattle.vms_bench.specs.Pages.{Carries, own_of}
+use Rattle.vms_calls.specs.Common.{Mod}
+use Rattle.vms_bench.specs.Common.{Carries, own_of}
 use Rattle.vms_bench.proofs.PageCalls.{put-carries, missed-looked}
 use Rattle.vms_bench.proofs.changes.exchange.Goals as goal
 

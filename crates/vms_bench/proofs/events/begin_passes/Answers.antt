@@ -2,9 +2,9 @@
 use Rattle.std.proofs.Common.{◌≡◌, ℕ, ◌+◌, ◌*◌, ◌<◌, ◌≤◌, [], ◌∷◌, ◌++◌, All, Some, ◌∙◌, sym, subst, arith}
 use Rattle.std.proofs.lemmas.List.Elements.{All-push, All-same}
 use Rattle.vms_event_core.specs.declared.steps.EventFacts.{EventFacts}
-use Rattle.vms_event_core.specs.Events.{MayOwn}
+use Rattle.vms_event_core.specs.Common.{MayOwn}
 use Rattle.vms_event.specs.declared.passes.EventPass.{EventPass}
-use Rattle.vms_seats.specs.Passes.{IsOf}
+use Rattle.vms_seats.specs.Common.{IsFrom}
 use Rattle.vms_bench.proofs.EventPasses.{begun-unused}
 use Rattle.vms_bench.proofs.events.begin_passes.Goals as goal
 
@@ -21,9 +21,9 @@ loop-thread-preserved c =
       begun-unused c.cpu_pass.new.main c.loop-thread.main c.cpu_pass.result.pass c.cpu_of_thread.result
           (16 * c.loop-thread.thread) (16 * (c.loop-thread.thread + 1)) begun c.loop-thread.invariant.1
           (omega arith) (omega arith),
-      All-same (λ (p : EventPass). IsOf p.pass c.args.table.now) c.push.new.self.items
+      All-same (λ (p : EventPass). IsFrom p.pass c.args.table.now) c.push.new.self.items
           (c.loop-thread.passes.items ++ c.cpu_pass.result ∷ []) c.in_ok-push.ensures.items
-          (All-push (λ (p : EventPass). IsOf p.pass c.args.table.now) c.loop-thread.passes.items c.cpu_pass.result
+          (All-push (λ (p : EventPass). IsFrom p.pass c.args.table.now) c.loop-thread.passes.items c.cpu_pass.result
           c.loop-thread.invariant.2
           (record { table = begun.table ∙ of.table; facts = begun.facts ∙ of.facts })),
     )

@@ -2,10 +2,9 @@
 use Rattle.std.proofs.Common.{◌≡◌, ℕ, ◌+◌, ◌*◌, ◌<◌, ◌≤◌, [], ◌∷◌, ◌++◌, All, Some, ◌∙◌, ap, sym, subst, arith}
 use Rattle.std.proofs.lemmas.List.Elements.{All-push, All-same}
 use Rattle.vms_pcpu_core.specs.declared.steps.PcpuFacts.{PcpuFacts}
-use Rattle.vms_pcpu_core.specs.Histories.{MayOwn}
-use Rattle.vms_pcpu_core.specs.States.{counters_of}
+use Rattle.vms_pcpu_core.specs.Common.{MayOwn, counters_of}
 use Rattle.vms_pcpu.specs.declared.passes.PcpuPass.{PcpuPass}
-use Rattle.vms_seats.specs.Passes.{IsOf}
+use Rattle.vms_seats.specs.Common.{IsFrom}
 use Rattle.vms_bench.proofs.LocalPasses.{begun-unused, unused-holds}
 use Rattle.vms_bench.proofs.locals.begin_passes.Goals as goal
 
@@ -29,9 +28,9 @@ loop-thread-preserved c =
       begun-unused c.cpu_pass.new.main c.loop-thread.main c.cpu_pass.result.pass c.cpu_of_thread.result
           (16 * c.loop-thread.thread) (16 * (c.loop-thread.thread + 1)) begun c.loop-thread.invariant.1
           (omega arith) (omega arith),
-      All-same (λ (p : PcpuPass). IsOf p.pass c.args.table.now) c.push.new.self.items
+      All-same (λ (p : PcpuPass). IsFrom p.pass c.args.table.now) c.push.new.self.items
           (c.loop-thread.passes.items ++ c.cpu_pass.result ∷ []) c.in_ok-push.ensures.items
-          (All-push (λ (p : PcpuPass). IsOf p.pass c.args.table.now) c.loop-thread.passes.items c.cpu_pass.result
+          (All-push (λ (p : PcpuPass). IsFrom p.pass c.args.table.now) c.loop-thread.passes.items c.cpu_pass.result
           c.loop-thread.invariant.2
           (record { table = begun.table ∙ of.table; facts = begun.facts ∙ of.facts })),
     )

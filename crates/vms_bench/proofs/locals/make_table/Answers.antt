@@ -1,6 +1,6 @@
 -- The goals were that zeros are a base, and that there are eight counters on CPUs that are online.
 use Rattle.std.proofs.Common.{sym, subst, ◌∙◌}
-use Rattle.vms_bench.specs.Locals.{AreOpen}
+use Rattle.vms_bench.specs.Common.{AreOpen}
 use Rattle.vms_bench.proofs.LocalBases.{IsBase-zeros, AreOpen-all}
 use Rattle.vms_bench.proofs.locals.make_table.Goals as goal
 

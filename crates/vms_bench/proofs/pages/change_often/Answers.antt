@@ -1,7 +1,6 @@
 -- The goal was that the pass's CPU is one of the layout.
 use Rattle.std.proofs.Common.{◌≡◌, Some, sym, subst}
-use Rattle.vms_base.specs.declared.ids.CpuId.{CpuId}
-use Rattle.vms_base.specs.Places.{Shape, IsCpu}
+use Rattle.vms_calls.specs.Common.{CpuId, Shape, IsCpu}
 use Rattle.vms_bench.proofs.pages.change_often.Goals as goal
 
 pub of-target-requires-clause-cpu : goal.of-target-requires-clause-cpu

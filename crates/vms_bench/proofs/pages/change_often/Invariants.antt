@@ -1,5 +1,5 @@
-use Rattle.vms_core.specs.Own.{CarriesNothing}
-use Rattle.vms_bench.specs.Pages.{IsOwn, IsTarget, own_of}
+use Rattle.vms_calls.specs.Common.{CarriesNothing}
+use Rattle.vms_bench.specs.Common.{IsOwn, IsTarget, own_of}
 use Rattle.vms_bench.proofs.pages.change_often.Given as goal
 
 abbrev pub invariant-loop : goal.invariant-loop

@@ -1,7 +1,7 @@
 -- The goal was that each list is made of copies.
 use Rattle.std.proofs.Common.{ℤ, replicate, refl, ap, w64}
 use Rattle.std.proofs.lemmas.Int.{to_z-of_z}
-use Rattle.vms_base.specs.Places.{counter_count, item_count}
+use Rattle.vms_calls.specs.Common.{counter_count, item_count}
 use Rattle.vms_bench_base.proofs.levels.level.Goals as goal
 
 pub returns : goal.returns

@@ -1,8 +1,8 @@
 -- The goals were that each pass is ready, and that the CPUs after it stay unused.
 use Rattle.std.proofs.Common.{◌+◌, ◌*◌, [], ◌∷◌, ◌++◌, sym, ◌∙◌, subst, arith}
 use Rattle.std.proofs.lemmas.List.Elements.{All-push, All-same}
-use Rattle.vms_core.specs.Own.{CarriesNothing}
-use Rattle.vms_bench_base.specs.ReadyPasses.{IsReady}
+use Rattle.vms_calls.specs.Common.{CarriesNothing}
+use Rattle.vms_bench_base.specs.Common.{IsReady}
 use Rattle.vms_bench_base.proofs.PagePasses.{begun-unused}
 use Rattle.vms_bench_base.proofs.ReadyPasses.{none-carried}
 use Rattle.vms_bench_base.proofs.tables.begin_passes.Goals as goal

@@ -1,8 +1,7 @@
 -- The goals were that level page counters are a base, and that their CPUs are online.
 use Rattle.std.proofs.Common.{ℤ, w64, sym, subst}
 use Rattle.std.proofs.lemmas.Int.{to_z-of_z}
-use Rattle.vms_bench_base.specs.Levels.{IsLevel}
-use Rattle.vms_bench_base.specs.Machines.{AreOnline}
+use Rattle.vms_bench_base.specs.Common.{IsLevel, AreOnline}
 use Rattle.vms_bench_base.proofs.LevelBases.{IsBase-level, AreOnline-level}
 use Rattle.vms_bench_base.proofs.tables.make_table.Goals as goal
 

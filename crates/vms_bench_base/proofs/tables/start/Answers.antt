@@ -1,6 +1,6 @@
 -- The goal was what is known where threads begin to work.
 use Rattle.std.proofs.Common.{sym, subst}
-use Rattle.vms_base.specs.Places.{IsLayout}
+use Rattle.vms_calls.specs.Common.{IsLayout}
 use Rattle.vms_bench_base.proofs.Counters.{first_counters}
 use Rattle.vms_bench_base.proofs.tables.start.Goals as goal
 

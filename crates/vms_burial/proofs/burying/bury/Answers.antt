@@ -1,6 +1,6 @@
 -- The goals were that the steps are those of a burial, and that the CPU stays absent.
 use Rattle.std.proofs.Common.{[], ◌∷◌, ◌++◌, ◌∙◌}
-use Rattle.vms_core.specs.declared.steps.Step.TheVariants.{SetO}
+use Rattle.vms_world.specs.Common.{SetO}
 use Rattle.vms_burial.proofs.TakenAway.{dead-base}
 use Rattle.vms_burial.proofs.WholeBurials.{has-buried, gone-still}
 use Rattle.vms_burial.proofs.burying.bury.Goals as goal

@@ -1,6 +1,6 @@
 -- The goals were that the CPU is dead in all tables, that it may become absent, and what stands at the end.
 use Rattle.std.proofs.Common.{ap, ◌∙◌}
-use Rattle.vms_base.specs.Cpus.{state_at}
+use Rattle.vms_world.specs.Common.{state_at}
 use Rattle.vms_burial.proofs.TakenAway.{absent-carries, dead-base, gone-now, is-fold, made-both, may-be_absent}
 use Rattle.vms_burial.proofs.TakenAway.{sets-still}
 use Rattle.vms_burial.proofs.AbsentCpus.{one-gives}

@@ -3,8 +3,7 @@ use Rattle.std.proofs.Common.{◌<◌, length, arith, ◌∙◌}
 use Rattle.vms_base.specs.declared.kinds.ZoneKind.TheVariants.{Dma}
 use Rattle.vms_base.specs.declared.kinds.ZoneName.{ZoneName}
 use Rattle.vms_base.specs.declared.kinds.ZoneSize.{ZoneSize}
-use Rattle.vms_base.specs.Places.{zone_index}
-use Rattle.vms_base.specs.Sizes.{IsValidSize}
+use Rattle.vms_base.specs.Common.{zone_index, IsValidSize}
 use Rattle.std.proofs.lemmas.List.Elements.{All-get_or}
 use Rattle.vms_calc.proofs.Counted.{counted}
 use Rattle.vms_calc.proofs.Sums.{sum_by-take-zip_more, sum_by-take-zip_all}

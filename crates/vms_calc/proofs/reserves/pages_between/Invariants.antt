@@ -1,6 +1,6 @@
 use Rattle.std.proofs.Common.{◌≡◌, ◌*◌, ◌≤◌, ◌^◌, take}
 use Rattle.std.specs.Prelude.{sum_by, zip}
-use Rattle.vms_base.specs.Places.{zone_index}
+use Rattle.vms_base.specs.Common.{zone_index}
 use Rattle.vms_calc.proofs.Counted.{counted}
 use Rattle.vms_calc.proofs.reserves.pages_between.Given as goal
 

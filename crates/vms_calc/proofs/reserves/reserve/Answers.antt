@@ -2,7 +2,7 @@
 use Rattle.std.proofs.Common.{◌≡◌, ◌≤◌, ◌/◌}
 use Rattle.vms_base.specs.declared.kinds.ZoneKind.TheVariants.{Dma}
 use Rattle.std.proofs.Math.Nat.{zero-div}
-use Rattle.vms_base.specs.Places.{zone_index}
+use Rattle.vms_base.specs.Common.{zone_index}
 use Rattle.vms_calc.proofs.FoundZones.{reserve_of-found, zone_at-found}
 use Rattle.vms_calc.proofs.reserves.reserve.Goals as goal
 

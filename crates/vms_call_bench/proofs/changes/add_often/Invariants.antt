@@ -1,4 +1,4 @@
-use Rattle.vms_bench_base.specs.ReadyPasses.{IsReady}
+use Rattle.vms_bench_base.specs.Common.{IsReady}
 use Rattle.vms_call_bench.proofs.changes.add_often.Given as goal
 
 abbrev pub invariant-loop : goal.invariant-loop

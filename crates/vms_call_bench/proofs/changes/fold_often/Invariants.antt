@@ -1,5 +1,5 @@
-use Rattle.vms_base.specs.Places.{IsCpu}
-use Rattle.vms_bench_base.specs.ReadyPasses.{IsReady}
+use Rattle.vms_calls.specs.Common.{IsCpu}
+use Rattle.vms_bench_base.specs.Common.{IsReady}
 use Rattle.vms_call_bench.proofs.changes.fold_often.Given as goal
 
 abbrev pub invariant-loop : goal.invariant-loop

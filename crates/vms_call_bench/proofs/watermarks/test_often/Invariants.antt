@@ -1,5 +1,5 @@
-use Rattle.vms_seats.specs.Passes.{IsOf}
+use Rattle.vms_seats.specs.Common.{IsFrom}
 use Rattle.vms_call_bench.proofs.watermarks.test_often.Given as goal
 
 abbrev pub invariant-loop : goal.invariant-loop
-invariant-loop l = IsOf l.pass.pass l.table
+invariant-loop l = IsFrom l.pass.pass l.table

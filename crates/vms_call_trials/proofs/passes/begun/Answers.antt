@@ -1,11 +1,9 @@
 -- The goals were the volumes with which the second pass begins, and what the main pass has done then.
 use Rattle.std.proofs.Common.{ℕ, replicate, Some, ap, ◌∙◌}
-use Rattle.vms_base.specs.Places.{counter_count}
-use Rattle.vms_core.specs.declared.steps.Step.TheVariants.{Split}
-use Rattle.vms_core.specs.Pages.{pages}
-use Rattle.vms_words.specs.Told.{begins_it}
+use Rattle.vms_calls.specs.Common.{counter_count, Split, pages}
+use Rattle.vms_words.specs.Common.{begins_it}
 use Rattle.vms_call_trials.proofs.Volumes.{holds-second}
-use Rattle.vms_trial_passes.proofs.TwoPasses.{first-seen}
+use Rattle.vms_seats.proofs.Common.{first-seen}
 use Rattle.vms_call_trials.proofs.passes.begun.Goals as goal
 
 pub cpu_pass-second-requires-clause-volume : goal.cpu_pass-second-requires-clause-volume

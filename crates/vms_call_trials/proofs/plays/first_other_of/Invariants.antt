@@ -1,4 +1,4 @@
-use Rattle.vms_call_trials.specs.Ready.{AreReady}
+use Rattle.vms_call_trials.specs.Common.{AreReady}
 use Rattle.vms_call_trials.proofs.plays.first_other_of.Given as goal
 
 abbrev pub invariant-loop-n : goal.invariant-loop-n

@@ -1,4 +1,4 @@
-use Rattle.vms_calls.specs.Ratings.{ByNormal, ByPressure}
+use Rattle.vms_calls.specs.Common.{ByNormal, ByPressure}
 use Rattle.vms_calls.proofs.BurialCalls.{burial-may}
 use Rattle.vms_calls.proofs.ChoiceRanges.{normal-gives, pressure-gives}
 use Rattle.vms_calls.proofs.ControlCalls.{rating-may, node-may, refresh-may}

@@ -1,9 +1,7 @@
-use Rattle.vms_calls.specs.Ratings.{node_number}
-use Rattle.vms_calls.specs.Turns.{zones_up_to}
+use Rattle.vms_calls.specs.Common.{node_number, zones_up_to}
 use Rattle.vms_calls.proofs.CallerLaws.{IsStill, looks-still, still-leaves}
-use Rattle.vms_calls.proofs.CallSteps.{snapshot-each, test-each, order-each, balance-each}
+use Rattle.vms_calls.proofs.CallSteps.{snapshot-each, test-each, order-each, balance-each, Each}
 use Rattle.std.proofs.Common.{sym, subst}
-use Rattle.vms_calls.proofs.CallSteps.{Each}
 use Rattle.vms_calls.proofs.callers.looks_leave_their_caller.Goals as goal
 
 pub returns : goal.returns

@@ -1,4 +1,4 @@
-use Rattle.vms_calls.specs.Ratings.{ByNormal, ByPressure}
+use Rattle.vms_calls.specs.Common.{ByNormal, ByPressure}
 use Rattle.vms_calls.proofs.CallerLaws.{IsStill, ratings-still, still-leaves, burial-leaves}
 use Rattle.vms_calls.proofs.CallSteps.{node-each, refresh-each, turn-each}
 use Rattle.vms_calls.proofs.callers.ratings_leave_their_caller.Goals as goal

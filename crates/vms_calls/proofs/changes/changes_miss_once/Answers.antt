@@ -1,12 +1,7 @@
 use Rattle.std.proofs.Common.{◌≡◌, ◌≤◌, ℕ, ℤ, List, ◌++◌, arith}
-use Rattle.vms_base.specs.declared.groups.Diffs.{Diffs}
-use Rattle.vms_base.specs.declared.ids.CounterId.{CounterId}
-use Rattle.vms_base.specs.declared.kinds.Mode.{Mode}
-use Rattle.vms_base.specs.Places.{Shape}
+use Rattle.vms_history.specs.Common.{Diffs, CounterId, Mode, Shape}
 use Rattle.vms_core.specs.declared.steps.Step.{Step}
-use Rattle.vms_calls.specs.Changes.{Exchanges, Carries, miss_count}
-use Rattle.vms_calls.specs.Changes.Exchanges.{won, missed}
-use Rattle.vms_calls.specs.Changes.Carries.{nothing, amount}
+use Rattle.vms_calls.specs.Common.{Exchanges, Carries, miss_count, won, missed, nothing, amount}
 use Rattle.vms_calls.proofs.changes.changes_miss_once.Goals as goal
 
 carrying : (shape : Shape) (k : CounterId) (z : ℤ) (additions : List Step) → Carries shape k z additions

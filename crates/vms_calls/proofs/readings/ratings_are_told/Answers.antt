@@ -1,4 +1,4 @@
-use Rattle.vms_calls.specs.Ratings.{ByNormal, ByPressure}
+use Rattle.vms_calls.specs.Common.{ByNormal, ByPressure}
 use Rattle.vms_calls.proofs.RatingReadings.{node-told, refresh-told, burial-told}
 use Rattle.vms_calls.proofs.TurnReadings.{turn-told}
 use Rattle.vms_calls.proofs.readings.ratings_are_told.Goals as goal

@@ -1,4 +1,4 @@
-use Rattle.vms_calls.specs.Ratings.{ByNormal, ByPressure}
+use Rattle.vms_calls.specs.Common.{ByNormal, ByPressure}
 use Rattle.vms_calls.proofs.OnlineFound.{node-online, refresh-online, burial-online, turn-online}
 use Rattle.vms_calls.proofs.readings.ratings_find_a_cpu.Goals as goal
 

@@ -1,5 +1,5 @@
-use Rattle.vms_check.specs.Checking.{checking}
-use Rattle.vms_command.proofs.WholeText.{WritesTexts-holds}
+use Rattle.vms_check.specs.Common.{checking}
+use Rattle.vms_command.proofs.Common.{WritesTexts-holds}
 use Rattle.vms_check.proofs.laws.writes_its_text.Goals as goal
 
 pub returns : goal.returns

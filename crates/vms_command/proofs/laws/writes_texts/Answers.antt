@@ -1,5 +1,5 @@
-use Rattle.vms_stream.proofs.TextOrder.{output-in_order}
-use Rattle.vms_command.specs.Commands.{following}
+use Rattle.vms_stream.proofs.Common.{output-in_order}
+use Rattle.vms_command.specs.Common.{following}
 use Rattle.vms_command.proofs.WholeText.{WritesTexts-holds}
 use Rattle.vms_command.proofs.laws.writes_texts.Goals as goal
 

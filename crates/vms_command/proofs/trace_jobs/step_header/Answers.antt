@@ -3,9 +3,8 @@ use Rattle.std.specs.Prelude.{Ok, Err}
 use Rattle.vms_header.specs.declared.causes.HeaderCause.{HeaderCause}
 use Rattle.vms_header.specs.declared.causes.ReadError.{ReadError}
 use Rattle.vms_header.specs.declared.reader.HeaderStep.{HeaderStep}
-use Rattle.vms_header.specs.Stages.{head_line}
-use Rattle.vms_header.specs.Steps.{StepsTo}
-use Rattle.vms_command.specs.Printing.{header_line}
+use Rattle.vms_header.specs.Common.{head_line, StepsTo}
+use Rattle.vms_command.specs.Common.{header_line}
 use Rattle.vms_command.proofs.HeadLines.{head-begins, head-goes, head-refused}
 use Rattle.vms_command.proofs.trace_jobs.step_header.Goals as goal
 

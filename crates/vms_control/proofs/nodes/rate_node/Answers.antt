@@ -1,11 +1,11 @@
 -- The loads and the visits make the call, and each word was set once at most.
 use Rattle.std.proofs.Common.{length, sym, ◌∙◌, subst, arith}
-use Rattle.vms_control.specs.Online.{FoundOnline}
-use Rattle.vms_control.specs.Rated.{choice_of}
-use Rattle.vms_control.specs.SetCounts.{never, once}
+use Rattle.vms_control.specs.Common.{FoundOnline, never, once}
+use Rattle.vms_calls.specs.Common.{choice_of}
 use Rattle.vms_control.proofs.LargestSets.{largest-grows}
 use Rattle.vms_control.proofs.StepCounts.{set-both}
-use Rattle.vms_control.proofs.WholeCalls.{first-control, loaded-room, loaded-still, node-call, node-nothing, once-little}
+use Rattle.vms_control.proofs.WholeCalls.{first-control, loaded-room, loaded-still, node-call, node-nothing}
+use Rattle.vms_control.proofs.WholeCalls.{once-little}
 use Rattle.vms_control.proofs.nodes.rate_node.Goals as goal
 
 pub visit_node-requires-clause-online : goal.visit_node-requires-clause-online

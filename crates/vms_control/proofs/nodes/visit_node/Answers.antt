@@ -1,20 +1,16 @@
 -- A zone more is visited, if it is on the node. The node has a zone, whose visit tells that the pass is the control
 -- pass.
-use Rattle.std.proofs.Common.{◌≡◌, ℕ, ◌+◌, ◌-◌, ◌≤◌, nat_eq, true, List, [], ◌∷◌, ◌++◌, length, sym, get_or}
-use Rattle.std.proofs.Common.{ap, subst, ◌∙◌, arith, ⊎_elim, true≢false}
+use Rattle.std.proofs.Common.{◌≡◌, ℕ, ◌+◌, ◌-◌, ◌≤◌, nat_eq, true, List, [], ◌∷◌, ◌++◌, length, sym, get_or, ap, subst}
+use Rattle.std.proofs.Common.{◌∙◌, arith, ⊎_elim, true≢false}
 use Rattle.std.proofs.lemmas.Bool.{cases_eq}
-use Rattle.vms_base.specs.declared.kinds.ZoneName.{ZoneName}
-use Rattle.vms_base.specs.Places.{IsPlace, Shape, node_of_zone}
-use Rattle.vms_core.specs.Bases.{IsBase}
-use Rattle.vms_core.specs.Conditions.{IsControl}
-use Rattle.vms_core.specs.Pages.{pages}
-use Rattle.vms_control.specs.SetCounts.{SetsAtMost, once}
-use Rattle.vms_control.proofs.VisitedZones.{Visited, on-false, on-true, visited-control, visited-more, visited-none}
-use Rattle.vms_control.proofs.VisitedZones.{node-tells, visited-past, visited-room, zones-more, zones-same}
-use Rattle.vms_control.proofs.VisitedZones.{zones_so_far}
+use Rattle.vms_calls.specs.Common.{ZoneName, IsPlace, Shape, node_of_zone, IsBase, IsControl, pages}
+use Rattle.vms_control.specs.Common.{SetsAtMost, once}
+use Rattle.vms_calls.proofs.Common.{on-false, on-true, zones-more, zones-same, zones_so_far}
+use Rattle.vms_control.proofs.VisitedZones.{Visited, node-tells, visited-control, visited-more, visited-none}
+use Rattle.vms_control.proofs.VisitedZones.{visited-past, visited-room}
 use Rattle.vms_control.proofs.nodes.visit_node.Goals as goal
 use Rattle.vms_control.proofs.nodes.visit_node.Goals.{then-zones-zone, else-zones-zone}
-use Rattle.vms_history.proofs.Prefixes.{base_can_begin}
+use Rattle.vms_history.proofs.Common.{base_can_begin}
 
 pub loop-zone-init : goal.loop-zone-init
 loop-zone-init g c = record {

@@ -1,7 +1,7 @@
 use Rattle.std.proofs.Common.{◌≡◌, ℕ, ◌<◌, nat_eq, true, List}
-use Rattle.vms_base.specs.Places.{node_of_zone}
-use Rattle.vms_core.specs.Conditions.{IsControl}
-use Rattle.vms_control.proofs.VisitedZones.{Visited, zones_so_far}
+use Rattle.vms_calls.specs.Common.{node_of_zone, IsControl}
+use Rattle.vms_calls.proofs.Common.{zones_so_far}
+use Rattle.vms_control.proofs.VisitedZones.{Visited}
 use Rattle.vms_control.proofs.nodes.visit_node.Given as goal
 
 -- the node's zones so far were visited, and the first visit told that the pass is the control pass

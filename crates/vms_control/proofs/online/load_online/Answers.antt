@@ -1,13 +1,11 @@
 -- A CPU more was looked at, and all of them at the end.
 use Rattle.std.proofs.Common.{◌≡◌, ◌+◌, sym, ap, ◌∙◌, subst, arith}
-use Rattle.vms_base.specs.Places.{IsCpu, Shape}
-use Rattle.vms_core.specs.Bases.{IsBase}
-use Rattle.vms_core.specs.Pages.{pages}
+use Rattle.vms_calls.specs.Common.{IsCpu, Shape, IsBase, pages}
 use Rattle.vms_control.proofs.FoundCpus.{FoundSoFar, found-all, found-none, found-online, found-other}
 use Rattle.vms_control.proofs.PassCalls.{of-new}
 use Rattle.vms_control.proofs.online.load_online.Goals as goal
 use Rattle.vms_control.proofs.online.load_online.Goals.{then-is_online, else-is_online}
-use Rattle.vms_history.proofs.Prefixes.{base_can_begin}
+use Rattle.vms_history.proofs.Common.{base_can_begin}
 
 pub loop-number-preserved : goal.loop-number-preserved
 loop-number-preserved c =

@@ -1,16 +1,13 @@
 -- One CPU more has the threshold, and what all hide stays small.
 use Rattle.std.proofs.Common.{◌≡◌, ℕ, ◌+◌, ◌-◌, take, sym, ap, ◌∙◌, subst, arith}
-use Rattle.vms_base.specs.Places.{IsPlace}
-use Rattle.vms_calls.specs.Ratings.{threshold_steps}
-use Rattle.vms_core.specs.Pages.{pages, IsLegal}
-use Rattle.vms_core.specs.Peaks.{peak, peak_sum}
-use Rattle.vms_core.proofs.PeakBounds.{peaks-in_range}
-use Rattle.vms_control.specs.Online.{number_in}
+use Rattle.vms_calls.specs.Common.{IsPlace, threshold_steps, pages, peak, peak_sum, after}
+use Rattle.vms_core.specs.Pages.{IsLegal}
+use Rattle.vms_core.proofs.Common.{peaks-in_range}
+use Rattle.vms_control.specs.Common.{cpu_number_in}
 use Rattle.vms_control.proofs.FoundCpus.{online-now}
 use Rattle.vms_control.proofs.PeakSums.{sum-more, sum-most}
 use Rattle.vms_control.proofs.rating.hidden_under.Goals as goal
-use Rattle.vms_history.specs.Events.{after}
-use Rattle.vms_history.proofs.Prefixes.{base_can_begin}
+use Rattle.vms_history.proofs.Common.{base_can_begin}
 
 pub loop-cpu-preserved : goal.loop-cpu-preserved
 loop-cpu-preserved c =
@@ -22,7 +19,7 @@ loop-cpu-preserved c =
     let i = c.loop-cpu.cpu-index in
     let online = c.args.online.now in
     let legal = subst (λ f. IsLegal f seen) c.requires.table.facts c.own.ensures.live.legal in
-    let more : c.saturating_sub-hidden.result ≡ t - peak facts (number_in online i) g seen =
+    let more : c.saturating_sub-hidden.result ≡ t - peak facts (cpu_number_in online i) g seen =
     c.saturating_sub-hidden.ensures
     ∙ ap (λ (n : ℕ). n - c.peak.result) c.from.ensures ∙ ap (λ (n : ℕ). t - n) c.peak.ensures in
     ap (λ (n : ℕ). n + c.saturating_sub-hidden.result) c.loop-cpu.invariant

@@ -1,8 +1,6 @@
 use Rattle.std.proofs.Common.{◌≡◌, take}
-use Rattle.vms_calls.specs.Ratings.{threshold_steps}
-use Rattle.vms_core.specs.Peaks.{peak_sum}
+use Rattle.vms_calls.specs.Common.{threshold_steps, peak_sum, after}
 use Rattle.vms_control.proofs.rating.hidden_under.Given as goal
-use Rattle.vms_history.specs.Events.{after}
 
 -- the sum once the CPUs so far have the threshold
 abbrev pub invariant-loop-cpu : goal.invariant-loop-cpu

@@ -1,7 +1,7 @@
 -- The mark was set once.
 use Rattle.vms_control.proofs.PassCalls.{step-at}
 use Rattle.vms_control.proofs.StepCounts.{set-mark}
-use Rattle.vms_core.specs.declared.steps.Step.TheVariants.{SetM}
+use Rattle.vms_calls.specs.Common.{SetM}
 use Rattle.vms_control.proofs.rating.mark_zone.Goals as goal
 
 pub returns-then-mark-found-clause-sets : goal.returns-then-mark-found-clause-sets

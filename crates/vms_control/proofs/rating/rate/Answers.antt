@@ -1,5 +1,5 @@
 -- The mark is the one that covers, and it and the thresholds may be set.
-use Rattle.vms_calls.specs.Ratings.{mark_steps}
+use Rattle.vms_calls.specs.Common.{mark_steps}
 use Rattle.vms_control.proofs.PassCalls.{control-new}
 use Rattle.vms_control.proofs.RatedZone.{mark-is, may-mark, may-thresholds, rated}
 use Rattle.vms_control.proofs.rating.rate.Goals as goal

@@ -1,6 +1,6 @@
 -- One CPU more has the threshold.
 use Rattle.std.proofs.Common.{take}
-use Rattle.vms_calls.specs.Ratings.{threshold_steps}
+use Rattle.vms_calls.specs.Common.{threshold_steps}
 use Rattle.vms_control.proofs.PassCalls.{control-new, of-new, step-at}
 use Rattle.vms_control.proofs.SetThresholds.{may-set, next_set, set-counts, set-made, set-unset}
 use Rattle.vms_control.proofs.rating.set_thresholds.Goals as goal

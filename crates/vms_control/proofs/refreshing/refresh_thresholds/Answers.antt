@@ -1,17 +1,14 @@
 -- The loads, the visits and the thresholds of nodes make the call, and each word was set once at most.
 use Rattle.std.proofs.Common.{ℕ, ◌+◌, List, length, sym, ◌∙◌, subst, arith}
-use Rattle.vms_base.specs.declared.ids.CpuId.{CpuId}
-use Rattle.vms_base.specs.Places.{place_count}
-use Rattle.vms_calls.specs.Lists.{in_turn}
-use Rattle.vms_core.specs.Pages.{pages}
-use Rattle.vms_control.specs.SetCounts.{never, once}
+use Rattle.vms_calls.specs.Common.{CpuId, place_count, in_turn, pages}
+use Rattle.vms_control.specs.Common.{never, once}
 use Rattle.vms_control.proofs.LargestSets.{largest-grows}
 use Rattle.vms_control.proofs.NodeThresholds.{node_steps}
 use Rattle.vms_control.proofs.PassCalls.{control-new}
 use Rattle.vms_control.proofs.StepCounts.{once-other, once-parts, set-both, still-may}
 use Rattle.vms_control.proofs.WholeCalls.{loaded-room, loaded-still, once-little, refresh-call, refresh-nothing}
 use Rattle.vms_control.proofs.refreshing.refresh_thresholds.Goals as goal
-use Rattle.vms_seats.specs.Steps.{Made}
+use Rattle.vms_seats.specs.Common.{Made}
 
 pub visit_all-thresholds-requires-clause-room : goal.visit_all-thresholds-requires-clause-room
 visit_all-thresholds-requires-clause-room g c =

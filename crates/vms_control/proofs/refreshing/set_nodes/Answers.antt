@@ -1,15 +1,12 @@
 -- A node more gets its threshold.
 use Rattle.std.proofs.Common.{◌≡◌, ℕ, suc, ◌+◌, ◌-◌, ◌<◌, ◌≤◌, List, length, get_or, take, ap, subst, ◌∙◌, arith}
-use Rattle.vms_base.specs.Places.{IsPlace, Shape}
-use Rattle.vms_calls.specs.Lists.{in_turn}
-use Rattle.vms_calls.specs.Ratings.{largest_on, threshold_steps}
-use Rattle.vms_core.specs.Pages.{pages}
-use Rattle.vms_control.specs.SetCounts.{never, once}
+use Rattle.vms_calls.specs.Common.{IsPlace, Shape, in_turn, largest_on, threshold_steps, pages}
+use Rattle.vms_control.specs.Common.{never, once}
 use Rattle.vms_control.proofs.NodeThresholds.{node-may, node_steps, nodes-more}
 use Rattle.vms_control.proofs.PassCalls.{control-new}
 use Rattle.vms_control.proofs.StepCounts.{once-from, once-other, set-both}
 use Rattle.vms_control.proofs.refreshing.set_nodes.Goals as goal
-use Rattle.vms_seats.specs.Steps.{Made}
+use Rattle.vms_seats.specs.Common.{Made}
 
 pub set_thresholds-requires-clause-control : goal.set_thresholds-requires-clause-control
 set_thresholds-requires-clause-control c =

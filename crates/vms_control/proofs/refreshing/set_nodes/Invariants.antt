@@ -1,10 +1,9 @@
 use Rattle.std.proofs.Common.{◌-◌, ◌≤◌, length, take}
-use Rattle.vms_calls.specs.Lists.{in_turn}
-use Rattle.vms_core.specs.Pages.{pages}
-use Rattle.vms_control.specs.SetCounts.{SetsAtMost, never, once}
+use Rattle.vms_calls.specs.Common.{in_turn, pages}
+use Rattle.vms_control.specs.Common.{SetsAtMost, never, once}
 use Rattle.vms_control.proofs.NodeThresholds.{node_steps}
 use Rattle.vms_control.proofs.refreshing.set_nodes.Given as goal
-use Rattle.vms_seats.specs.Steps.{Made}
+use Rattle.vms_seats.specs.Common.{Made}
 
 -- the nodes so far have their thresholds
 abbrev pub invariant-loop-number : goal.invariant-loop-number

@@ -1,11 +1,9 @@
 -- A zone more is visited.
-use Rattle.std.proofs.Common.{ℕ, ◌+◌, ◌<◌, ◌≤◌, List, [], ◌∷◌, ◌++◌, length, get_or, sym, ap, subst, ◌∙◌}
-use Rattle.std.proofs.Common.{arith, refl, add-one}
-use Rattle.vms_base.specs.Places.{IsPlace, Shape}
-use Rattle.vms_base.specs.Thresholds.{most_threshold}
-use Rattle.vms_calls.specs.Ratings.{numbers_below}
-use Rattle.vms_control.specs.declared.rating.Rating.TheVariants.{Refresh}
-use Rattle.vms_control.proofs.PushedLists.{each-pushed, length-pushed}
+use Rattle.std.proofs.Common.{ℕ, ◌+◌, ◌<◌, ◌≤◌, List, [], ◌∷◌, ◌++◌, length, get_or, sym, ap, subst, ◌∙◌, arith, refl}
+use Rattle.std.proofs.Common.{add-one}
+use Rattle.vms_calls.specs.Common.{IsPlace, Shape, most_threshold, numbers_below}
+use Rattle.vms_calls.specs.declared.choices.Rating.TheVariants.{Refresh}
+use Rattle.vms_calls.proofs.Common.{each-pushed, length-pushed}
 use Rattle.vms_control.proofs.VisitedZones.{Visited, visited-control, visited-more, visited-none, visited-room}
 use Rattle.vms_control.proofs.refreshing.visit_all.Goals as goal
 

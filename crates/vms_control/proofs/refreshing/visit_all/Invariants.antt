@@ -1,8 +1,6 @@
 use Rattle.std.proofs.Common.{◌≡◌, ℕ, ◌<◌, ◌≤◌, length, get_or}
-use Rattle.vms_base.specs.Thresholds.{most_threshold}
-use Rattle.vms_calls.specs.Ratings.{numbers_below}
-use Rattle.vms_core.specs.Conditions.{IsControl}
-use Rattle.vms_control.specs.declared.rating.Rating.TheVariants.{Refresh}
+use Rattle.vms_calls.specs.Common.{most_threshold, numbers_below, IsControl}
+use Rattle.vms_calls.specs.declared.choices.Rating.TheVariants.{Refresh}
 use Rattle.vms_control.proofs.VisitedZones.{Visited}
 use Rattle.vms_control.proofs.refreshing.visit_all.Given as goal
 

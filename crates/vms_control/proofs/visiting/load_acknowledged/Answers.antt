@@ -1,6 +1,6 @@
 -- What one CPU more acknowledged was loaded.
 use Rattle.std.proofs.Common.{take}
-use Rattle.vms_calls.specs.Ratings.{acknowledged_steps}
+use Rattle.vms_calls.specs.Common.{acknowledged_steps}
 use Rattle.vms_control.proofs.AcknowledgedLoads.{load-controls, loads-more}
 use Rattle.vms_control.proofs.PassCalls.{control-old, of-new}
 use Rattle.vms_control.proofs.visiting.load_acknowledged.Goals as goal

@@ -1,9 +1,7 @@
 use Rattle.std.proofs.Common.{◌≡◌, ℕ, ◌<◌, List, Option, length, take}
-use Rattle.vms_calls.specs.Ratings.{acknowledged_steps}
-use Rattle.vms_core.specs.Conditions.{IsControl}
-use Rattle.vms_core.specs.Pages.{pages}
+use Rattle.vms_calls.specs.Common.{acknowledged_steps, IsControl, pages}
 use Rattle.vms_control.proofs.visiting.load_acknowledged.Given as goal
-use Rattle.vms_seats.specs.Steps.{Made}
+use Rattle.vms_seats.specs.Common.{Made}
 
 -- what the CPUs so far acknowledged was loaded
 abbrev pub invariant-loop-cpu : goal.invariant-loop-cpu

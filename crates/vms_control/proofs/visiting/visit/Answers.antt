@@ -1,9 +1,7 @@
 -- The loads leave room, and with the rating they make the visit.
 use Rattle.std.proofs.Common.{suc, length, List, sym, ◌∙◌, subst, arith, get_or}
-use Rattle.vms_base.specs.declared.kinds.ZoneSize.{ZoneSize}
-use Rattle.vms_base.specs.Sizes.{IsValidSize, size_at}
-use Rattle.vms_control.specs.Rated.{choice_of}
-use Rattle.vms_control.specs.SetCounts.{never, once}
+use Rattle.vms_calls.specs.Common.{ZoneSize, IsValidSize, size_at, choice_of}
+use Rattle.vms_control.specs.Common.{never, once}
 use Rattle.vms_control.proofs.StepCounts.{set-both, set-none}
 use Rattle.vms_control.proofs.VisitedZone.{control-loaded, loads-may, loads-still, no_size, visit-rated, visit-spared}
 use Rattle.vms_control.proofs.VisitedZone.{zone-sized, zone-valid}

@@ -1,11 +1,8 @@
 -- The goals were that the item's addition may be made too, and what both additions are.
 use Rattle.std.proofs.Common.{w64, sym, ap, ◌∙◌, subst, arith}
 use Rattle.std.proofs.lemmas.Int.{ints, to_z-of_z}
-use Rattle.vms_base.specs.Places.{IsLayout, item_of}
-use Rattle.vms_core.specs.Conditions.{AddsToSystem}
-use Rattle.vms_core.specs.declared.steps.Step.TheVariants.{AddG, AddS}
-use Rattle.vms_core.specs.Pages.{pages}
-use Rattle.vms_seats.specs.Steps.{MadeOne}
+use Rattle.vms_calls.specs.Common.{IsLayout, item_of, AddsToSystem, AddG, AddS, pages}
+use Rattle.vms_seats.specs.Common.{MadeOne}
 use Rattle.vms_count.proofs.ChangeSteps.{adds-system, carried-both, carried-none}
 use Rattle.vms_count.proofs.changing.carry.Goals as goal
 

@@ -1,12 +1,9 @@
 -- The goals were what the threshold's load leaves, and what the steps are together.
 use Rattle.std.proofs.Common.{FitsSigned, w64, List, ap, ◌∙◌, subst}
 use Rattle.std.proofs.lemmas.Int.{to_z-of_z}
-use Rattle.vms_base.specs.Places.{place_of}
-use Rattle.vms_calls.specs.Changes.{Carries}
-use Rattle.vms_core.specs.declared.steps.Step.{Step}
-use Rattle.vms_core.specs.Pages.{pages}
-use Rattle.vms_seats.specs.Steps.{Made}
-use Rattle.vms_count.specs.Changing.{HasExchanged}
+use Rattle.vms_calls.specs.Common.{place_of, Carries, Step, pages}
+use Rattle.vms_seats.specs.Common.{Made}
+use Rattle.vms_count.specs.Common.{HasExchanged}
 use Rattle.vms_count.proofs.ChangeSteps.{changed-whole, changed-nothing, nothing-threshold, has-loaded}
 use Rattle.vms_count.proofs.changing.change.Goals as goal
 

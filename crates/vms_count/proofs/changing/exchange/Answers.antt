@@ -1,11 +1,11 @@
 -- The goals were that the pass may put, again after a miss, and what its steps are together.
 use Rattle.std.proofs.Common.{◌≡◌, FitsSigned, w64, to_z, of_z, sym, subst}
 use Rattle.std.proofs.lemmas.Int.{to_z-of_z}
-use Rattle.vms_history.specs.Events.{own}
-use Rattle.vms_words.specs.Puts.{MayPut, HasPut}
-use Rattle.vms_count.specs.Changing.{HasExchanged, CarriesFor}
-use Rattle.vms_count.proofs.ChangeSteps.{known-cpu, first-put, won-made, won-carries, second-put}
-use Rattle.vms_count.proofs.ChangeSteps.{missed-made, missed-carries}
+use Rattle.vms_calls.specs.Common.{own}
+use Rattle.vms_words.specs.Common.{MayPut, HasPut}
+use Rattle.vms_count.specs.Common.{HasExchanged, CarriesFor}
+use Rattle.vms_count.proofs.ChangeSteps.{known-cpu, first-put, won-made, won-carries, second-put, missed-made}
+use Rattle.vms_count.proofs.ChangeSteps.{missed-carries}
 use Rattle.vms_count.proofs.changing.exchange.Goals as goal
 
 pub load_diffs-found-requires-clause-cpu : goal.load_diffs-found-requires-clause-cpu

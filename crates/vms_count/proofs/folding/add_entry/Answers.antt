@@ -1,7 +1,7 @@
 -- An addition of 0 leaves the sum.
 use Rattle.std.proofs.Common.{sym, arith}
 use Rattle.std.proofs.lemmas.Int.{ints}
-use Rattle.vms_base.specs.Places.{item_of}
+use Rattle.vms_calls.specs.Common.{item_of}
 use Rattle.vms_count.proofs.TakenGroups.{set-nothing}
 use Rattle.vms_count.proofs.folding.add_entry.Goals as goal
 

@@ -1,12 +1,8 @@
 -- An item more, and all items at the end.
-use Rattle.std.proofs.Common.{◌≡◌, ℕ, ◌+◌, pos, get_or, to_z, of_z, w64, FitsSigned, refl, sym, ap, subst}
-use Rattle.std.proofs.Common.{◌∙◌, arith}
+use Rattle.std.proofs.Common.{◌≡◌, ℕ, ◌+◌, pos, get_or, to_z, of_z, w64, FitsSigned, refl, sym, ap, subst, ◌∙◌, arith}
 use Rattle.std.proofs.lemmas.Int.{ints, to_z-of_z}
-use Rattle.vms_base.specs.Places.{Shape, IsItem, item_count}
-use Rattle.vms_calls.specs.Folds.{system_steps}
-use Rattle.vms_core.specs.declared.steps.Step.TheVariants.{AddS}
-use Rattle.vms_core.specs.Pages.{pages}
-use Rattle.vms_seats.specs.Steps.{Made, MadeOne}
+use Rattle.vms_calls.specs.Common.{Shape, IsItem, item_count, system_steps, AddS, pages}
+use Rattle.vms_seats.specs.Common.{Made, MadeOne}
 use Rattle.vms_count.proofs.ItemAdditions.{AddsItems, AddsItems-skip, AddsItems-more}
 use Rattle.vms_count.proofs.folding.add_sums.Goals.{then-sum-ne0, else-sum-ne0}
 use Rattle.vms_count.proofs.folding.add_sums.Goals as goal

@@ -1,10 +1,9 @@
 -- A place more, and the whole fold at the end.
 use Rattle.std.proofs.Common.{◌≡◌, ℕ, ◌+◌, ◌*◌, ◌^◌, Bool, refl, ap, subst, ◌∙◌, arith}
 use Rattle.std.proofs.lemmas.Int.{ints}
-use Rattle.vms_base.specs.Places.{Shape, IsLayout, place_count}
-use Rattle.vms_base.proofs.Counts.{place_count-most}
-use Rattle.vms_calls.specs.Folds.{lists_of}
-use Rattle.vms_count.specs.Folding.{owns, FoldsPlaces}
+use Rattle.vms_calls.specs.Common.{Shape, IsLayout, place_count, lists_of}
+use Rattle.vms_base.proofs.Common.{place_count-most}
+use Rattle.vms_count.specs.Common.{owns_cpu, FoldsPlaces}
 use Rattle.vms_count.proofs.TakenGroups.{AreSums-more}
 use Rattle.vms_count.proofs.VisitedPlaces.{no_sums, sum_at-none, AreSums-none, FoldsPlaces-none, FoldsPlaces-more}
 use Rattle.vms_count.proofs.VisitedPlaces.{folded-whole, folded-nothing}
@@ -54,9 +53,9 @@ returns-clause-folds g c =
     c.places-number-end.ensures.value ∙ ap (λ (s : Shape). place_count s) c.layout.ensures in
     let all : c.loop-number.number ≡ place_count shape =
     omega (arith, c.loop-number-test.false, c.loop-number.auto.«number-end», count) in
-    let own : c.is_own-own.result ≡ owns old.cpu c.args.cpu =
-    c.is_own-own.ensures ∙ ap (λ who. owns who c.args.cpu) c.own.ensures.cpu in
-    let places : FoldsPlaces shape (owns old.cpu c.args.cpu) c.args.cpu (place_count shape) now old no_sums
+    let own : c.is_own-own.result ≡ owns_cpu old.cpu c.args.cpu =
+    c.is_own-own.ensures ∙ ap (λ who. owns_cpu who c.args.cpu) c.own.ensures.cpu in
+    let places : FoldsPlaces shape (owns_cpu old.cpu c.args.cpu) c.args.cpu (place_count shape) now old no_sums
     c.loop-number.sums =
     subst (λ (b : Bool). FoldsPlaces shape b c.args.cpu (place_count shape) now old no_sums c.loop-number.sums) own
     (subst (λ (n : ℕ). FoldsPlaces shape c.is_own-own.result c.args.cpu n now old no_sums c.loop-number.sums) all

@@ -1,5 +1,5 @@
 use Rattle.std.proofs.Common.{◌≡◌, ◌*◌}
-use Rattle.vms_count.specs.Folding.{AreSums, FoldsPlaces}
+use Rattle.vms_count.specs.Common.{AreSums, FoldsPlaces}
 use Rattle.vms_count.proofs.folding.fold.Given as goal
 
 -- the places so far are visited, and the sums are small

@@ -1,18 +1,16 @@
 -- An entry more, and the whole group at the end.
-use Rattle.std.proofs.Common.{◌≡◌, ℕ, ◌+◌, ◌*◌, ◌^◌, ◌+ℤ◌, pos, length, get_or, to_z, of_z, w64}
-use Rattle.std.proofs.Common.{FitsSigned, sym, ap, subst, ◌∙◌, arith, length-set}
+use Rattle.std.proofs.Common.{◌≡◌, ℕ, ◌+◌, ◌*◌, ◌^◌, ◌+ℤ◌, pos, length, get_or, to_z, of_z, w64, FitsSigned, sym, ap}
+use Rattle.std.proofs.Common.{subst, ◌∙◌, arith, length-set}
 use Rattle.std.proofs.Math.ListN.{set}
 use Rattle.std.proofs.lemmas.Int.{to_z-of_z}
-use Rattle.vms_base.specs.Places.{IsLayout, item_of}
-use Rattle.vms_base.proofs.Counts.{group_count-most, item_of-lt}
-use Rattle.vms_calls.specs.Folds.{to_place}
-use Rattle.vms_core.specs.Pages.{pages}
-use Rattle.vms_seats.specs.Steps.{Made}
-use Rattle.vms_seats.proofs.MadeCalls.{calls-live}
-use Rattle.vms_count.specs.Folding.{sum_at}
+use Rattle.vms_calls.specs.Common.{IsLayout, item_of, to_place, pages}
+use Rattle.vms_base.proofs.Common.{group_count-most, item_of-lt}
+use Rattle.vms_seats.specs.Common.{Made}
+use Rattle.vms_seats.proofs.Common.{calls-live}
+use Rattle.vms_count.specs.Common.{sum_at}
 use Rattle.vms_count.proofs.FoldEvents.{of-made, taken-eight}
-use Rattle.vms_count.proofs.TakenGroups.{AddsEntries, AddsEntries-none, AddsEntries-more, AreSums-entries}
-use Rattle.vms_count.proofs.TakenGroups.{AreSums-more, FoldsGroups-one, next-carried}
+use Rattle.vms_count.proofs.TakenGroups.{AddsEntries, AddsEntries-none, AddsEntries-more, AreSums-entries, AreSums-more}
+use Rattle.vms_count.proofs.TakenGroups.{FoldsGroups-one, next-carried}
 use Rattle.vms_count.proofs.VisitedPlaces.{item_count-most}
 use Rattle.vms_count.proofs.folding.fold_group.Goals as goal
 

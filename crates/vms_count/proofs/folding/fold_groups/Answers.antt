@@ -1,9 +1,8 @@
 -- A group more, and all groups of the place at the end.
-use Rattle.std.proofs.Common.{◌≡◌, ℕ, ◌+◌, ◌*◌, ◌/◌, [], ◌∷◌, ◌++◌, refl, sym, ap, ◌∙◌, subst}
-use Rattle.std.proofs.Common.{arith, length-append}
-use Rattle.vms_base.specs.Places.{Shape, IsLayout, IsGroup, counter_at, group_of}
-use Rattle.vms_base.proofs.Counts.{group_count-most}
-use Rattle.vms_count.specs.Folding.{FoldsGroups}
+use Rattle.std.proofs.Common.{◌≡◌, ℕ, ◌+◌, ◌*◌, ◌/◌, [], ◌∷◌, ◌++◌, refl, sym, ap, ◌∙◌, subst, arith, length-append}
+use Rattle.vms_calls.specs.Common.{Shape, IsLayout, IsGroup, counter_at, group_of}
+use Rattle.vms_base.proofs.Common.{group_count-most}
+use Rattle.vms_count.specs.Common.{FoldsGroups}
 use Rattle.vms_count.proofs.TakenGroups.{AreSums-more, FoldsGroups-none, FoldsGroups-both}
 use Rattle.vms_count.proofs.VisitedPlaces.{first_group, group-within, groups-few}
 use Rattle.vms_count.proofs.folding.fold_groups.Goals as goal

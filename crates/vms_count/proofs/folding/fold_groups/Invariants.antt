@@ -1,6 +1,6 @@
 use Rattle.std.proofs.Common.{◌≡◌, ℕ, ◌+◌, ◌*◌, List, length}
-use Rattle.vms_base.specs.declared.groups.Diffs.{Diffs}
-use Rattle.vms_count.specs.Folding.{AreSums, FoldsGroups}
+use Rattle.vms_calls.specs.Common.{Diffs}
+use Rattle.vms_count.specs.Common.{AreSums, FoldsGroups}
 use Rattle.vms_count.proofs.folding.fold_groups.Given as goal
 
 -- the groups so far are taken, and the sums grow by little

@@ -1,9 +1,8 @@
 -- What the groups and the acknowledgement of a place are together.
 use Rattle.std.proofs.Common.{◌≡◌, length, refl, ap, subst, ◌∙◌, arith}
-use Rattle.vms_base.specs.Places.{Shape, IsLayout, IsZone}
+use Rattle.vms_calls.specs.Common.{Shape, IsLayout, IsZone, acknowledges}
 use Rattle.vms_count.proofs.VisitedPlaces.{none-load, may-acknowledge, FoldsPlace-acknowledged, FoldsPlace-plain}
 use Rattle.vms_count.proofs.VisitedPlaces.{acknowledges-zone, acknowledges-node, acknowledges-none}
-use Rattle.vms_calls.specs.Folds.{acknowledges}
 use Rattle.vms_count.proofs.folding.fold_place.Goals.{else-own-via-then-own+else-place-zones, else-own-via-else-own}
 use Rattle.vms_count.proofs.folding.fold_place.Goals as goal
 

@@ -1,6 +1,5 @@
 use Rattle.std.proofs.Common.{◌≢◌, ℕ, ◌<◌}
-use Rattle.vms_base.specs.declared.kinds.CpuState.TheVariants.{Online}
-use Rattle.vms_base.specs.Cpus.{state_at}
+use Rattle.vms_history.specs.Common.{Online, state_at}
 use Rattle.vms_event.proofs.folding.first_online.Given as goal
 
 -- no CPU so far is online

@@ -1,6 +1,6 @@
 -- The goal was that the laws hold at each moment of a legal history.
 use Rattle.std.proofs.Common.{subst}
-use Rattle.vms_event_core.specs.Events.{IsLegal}
+use Rattle.vms_event_core.specs.Common.{IsLegal}
 use Rattle.vms_event.proofs.laws.totals_are_kept.Goals as goal
 
 pub returns : goal.returns

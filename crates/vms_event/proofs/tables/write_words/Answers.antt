@@ -1,6 +1,6 @@
 -- The goals were that the words so far are those of the state.
 use Rattle.std.proofs.Common.{◌+◌, sym, subst, arith}
-use Rattle.vms_event_core.specs.Events.{state_after}
+use Rattle.vms_event_core.specs.Common.{state_after}
 use Rattle.vms_event.proofs.CopiedWords.{CopiedTo, copied-next}
 use Rattle.vms_event.proofs.tables.write_words.Goals as goal
 

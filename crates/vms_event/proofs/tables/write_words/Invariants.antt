@@ -1,4 +1,4 @@
-use Rattle.vms_event_core.specs.Events.{state_after}
+use Rattle.vms_event_core.specs.Common.{state_after}
 use Rattle.vms_event.proofs.CopiedWords.{CopiedTo}
 use Rattle.vms_event.proofs.tables.write_words.Given as goal
 

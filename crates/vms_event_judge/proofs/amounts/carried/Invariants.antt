@@ -1,6 +1,6 @@
 use Rattle.std.proofs.Common.{◌≡◌, ◌≤◌, ◌*◌, ◌^◌, take, unsigned_abs}
 use Rattle.std.specs.Prelude.{reverse}
-use Rattle.vms_history.specs.Events.{own}
+use Rattle.vms_history.specs.Common.{own}
 use Rattle.vms_event_core.specs.Own as carrying
 use Rattle.vms_event_judge.proofs.amounts.carried.Given as goal
 

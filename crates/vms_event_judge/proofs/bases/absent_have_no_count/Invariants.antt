@@ -1,7 +1,6 @@
 use Rattle.std.proofs.Common.{◌≡◌, ℕ, ◌<◌}
-use Rattle.vms_base.specs.declared.kinds.CpuState.TheVariants.{Absent}
-use Rattle.vms_event_core.specs.Bases.{cpu_at}
-use Rattle.vms_event_core.specs.Words.{IsEvent, word_at}
+use Rattle.vms_history.specs.Common.{Absent}
+use Rattle.vms_event_core.specs.Common.{cpu_at, IsEvent, word_at}
 use Rattle.vms_event_judge.proofs.bases.absent_have_no_count.Given as goal
 
 abbrev pub invariant-loop-number : goal.invariant-loop-number

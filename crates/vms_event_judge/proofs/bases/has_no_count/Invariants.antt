@@ -1,5 +1,5 @@
 use Rattle.std.proofs.Common.{◌≡◌, ℕ, ◌<◌}
-use Rattle.vms_event_core.specs.Words.{word_at}
+use Rattle.vms_event_core.specs.Common.{word_at}
 use Rattle.vms_event_judge.proofs.bases.has_no_count.Given as goal
 
 abbrev pub invariant-loop-number : goal.invariant-loop-number

@@ -1,6 +1,6 @@
 use Rattle.std.proofs.Common.{◌≡◌, ℕ, ◌<◌}
-use Rattle.vms_base.specs.declared.kinds.CpuState.TheVariants.{Online}
-use Rattle.vms_event_core.specs.Bases.{cpu_at}
+use Rattle.vms_history.specs.Common.{Online}
+use Rattle.vms_event_core.specs.Common.{cpu_at}
 use Rattle.vms_event_judge.proofs.bases.is_lowest_online.Given as goal
 
 abbrev pub invariant-loop-number : goal.invariant-loop-number

@@ -1,7 +1,7 @@
 use Rattle.std.proofs.Common.{◌≡◌, ℕ, ◌<◌, pos}
 use Rattle.std.specs.Prelude.{reverse}
-use Rattle.vms_history.specs.Events.{own}
-use Rattle.vms_event_core.specs.Own.{carried}
+use Rattle.vms_history.specs.Common.{own}
+use Rattle.vms_event_core.specs.Common.{carried}
 use Rattle.vms_event_judge.proofs.conditions.carries_nothing.Given as goal
 
 abbrev pub invariant-loop-number : goal.invariant-loop-number

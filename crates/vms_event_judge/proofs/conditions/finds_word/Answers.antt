@@ -1,8 +1,8 @@
 use Rattle.std.proofs.Common.{sym, ◌∙◌, arith, eq-eqb, eqb-true}
 use Rattle.std.specs.Prelude.{reverse}
-use Rattle.vms_history.proofs.Prefixes.{base_can_begin}
-use Rattle.vms_event_core.specs.Events.{events}
-use Rattle.vms_event_core.proofs.StateWords.{word_at-state_after}
+use Rattle.vms_history.proofs.Common.{base_can_begin}
+use Rattle.vms_event_core.specs.Common.{events}
+use Rattle.vms_event_core.proofs.Common.{word_at-state_after}
 use Rattle.vms_event_judge.proofs.conditions.finds_word.Goals as goal
 
 pub word-requires-clause-shaped : goal.word-requires-clause-shaped

@@ -1,5 +1,5 @@
 -- The lanes that have lines, by how they are listed.
-use Rattle.vms_world.specs.Lanes.{has_line}
+use Rattle.vms_world.specs.Common.{has_line}
 use Rattle.std.proofs.Common.{◌≡◌, true}
 use Rattle.vms_file_order.proofs.LaneLists.{All-lanes, StandOnce-lanes, lines-among_lanes}
 use Rattle.vms_file_order.proofs.lanes.lanes_stand_once.Goals as goal

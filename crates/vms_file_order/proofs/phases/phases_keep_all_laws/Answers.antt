@@ -3,7 +3,7 @@ use Rattle.std.proofs.Common.{subst}
 use Rattle.vms_core.specs.Pages as pages
 use Rattle.vms_event_core.specs.Events as events
 use Rattle.vms_pcpu_core.specs.Histories as percpu
-use Rattle.vms_world.specs.Worlds.{page_facts, event_facts, pcpu_facts}
+use Rattle.vms_world.specs.Common.{page_facts, event_facts, pcpu_facts}
 use Rattle.vms_file_order.proofs.phases.phases_keep_all_laws.Goals as goal
 
 pub returns : goal.returns

@@ -1,6 +1,6 @@
 -- Volumes after lines, line by line.
-use Rattle.vms_file_order.proofs.PhaseVolumes.{CoversVolumes-left, StayWithinVolumes-fitting}
+use Rattle.vms_file_order.proofs.PhaseVolumes.{CoversVolumes-left, FitVolumes-fitting, StayWithinVolumes-fitting}
 use Rattle.vms_file_order.proofs.volumes.fitting_lines_stay_within_volumes.Goals as goal
 
 pub returns : goal.returns
-returns c = record { within = StayWithinVolumes-fitting; covers = CoversVolumes-left }
+returns c = record { fit = FitVolumes-fitting; within = StayWithinVolumes-fitting; covers = CoversVolumes-left }

@@ -1,7 +1,7 @@
 use Rattle.std.proofs.Common.{◌/◌, ◌%◌, ◌^◌, ◌∷◌, ◌++◌, arith, codes, decimal, length-append}
 use Rattle.std.proofs.lemmas.Bool.{ne_eqb}
-use Rattle.vms_text.specs.Writing.{text_of}
-use Rattle.vms_gen.specs.Texts.{line_at}
+use Rattle.vms_text.specs.Common.{text_of}
+use Rattle.vms_gen.specs.Common.{line_at}
 use Rattle.vms_gen.proofs.LineKinds.{cnt-words, dec-words, ev-words, inc-words, node-words, put-alone}
 use Rattle.vms_gen.proofs.Rooms.{amount-of_129, amount-of_65, decimal-room, line-room}
 use Rattle.vms_gen.proofs.made_lines.line_text.Goals as goal

@@ -1,7 +1,7 @@
 use Rattle.std.proofs.Common.{arith, refl, sym, ◌≡◌, ◌<◌, ◌⊎◌, inl, inr, List, [], ◌∷◌, ℕ, None, length, map}
 use Rattle.std.proofs.Common.{string_bytes}
 use Rattle.std.proofs.lemmas.List.{length-map}
-use Rattle.vms_gen.specs.Numbers.{numbers_named}
+use Rattle.vms_gen.specs.Common.{numbers_named}
 use Rattle.vms_gen.proofs.numbers.numbers_named.Goals as goal
 
 -- words that aren't four give no numbers

@@ -1,5 +1,5 @@
 use Rattle.std.proofs.Common.{sym, ◌∙◌}
-use Rattle.vms_text.proofs.Values.{number_within-is}
+use Rattle.vms_text.proofs.Common.{number_within-is}
 use Rattle.vms_gen.proofs.numbers.read_numbers.Goals as goal
 
 pub returns-clause-in_range : goal.returns-clause-in_range

@@ -1,8 +1,8 @@
 use Rattle.std.proofs.Common.{ℕ, ◌<◌, ◌∷◌, [], ◌++◌, arith, ap, sym, ◌∙◌, lit<, append_assoc, length-append, map}
 use Rattle.std.proofs.Common.{length}
 use Rattle.arrayvec.specs.ArrayVec.{array_vec_len}
-use Rattle.vms_text.specs.Writing.{spaced, text_of}
-use Rattle.vms_text.proofs.Appends.{joined-cons}
+use Rattle.vms_text.specs.Common.{spaced, text_of}
+use Rattle.vms_text.proofs.Common.{joined-cons}
 use Rattle.vms_gen.proofs.spelling.put_line.Goals as goal
 
 pub put_more-requires : goal.put_more-requires

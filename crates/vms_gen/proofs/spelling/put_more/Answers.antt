@@ -1,6 +1,6 @@
 use Rattle.std.proofs.Common.{◌<◌, arith, ap, lit<, length-append, map, take, length}
 use Rattle.arrayvec.specs.ArrayVec.{array_vec_len}
-use Rattle.vms_text.specs.Writing.{spaced, text_of}
+use Rattle.vms_text.specs.Common.{spaced, text_of}
 use Rattle.vms_gen.proofs.Rooms.{no_word, spaced-room}
 use Rattle.vms_gen.proofs.spelling.put_more.Goals as goal
 

@@ -1,9 +1,8 @@
 -- The counter of each base is one of the layout's.
 use Rattle.std.proofs.Common.{◌≡◌, ◌<◌, ◌∙◌, ap, refl, subst, sym, ℕ, List}
 use Rattle.std.specs.List.{All}
-use Rattle.vms_base.specs.Places.{counter_count}
-use Rattle.vms_header.specs.Drafts.{Base}
-use Rattle.vms_header.specs.Readers.{draft_of}
+use Rattle.vms_base.specs.Common.{counter_count}
+use Rattle.vms_header.specs.Common.{Base, draft_of}
 use Rattle.vms_header.proofs.DraftBases.{bases-known}
 use Rattle.vms_header.proofs.headers.make_header.Goals as goal
 

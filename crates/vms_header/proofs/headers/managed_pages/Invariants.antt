@@ -1,5 +1,5 @@
 use Rattle.std.proofs.Common.{◌≡◌, ◌≤◌, ◌*◌, ◌^◌, take}
-use Rattle.vms_header.specs.Drafts.{managed_pages}
+use Rattle.vms_header.specs.Common.{managed_pages}
 use Rattle.vms_header.proofs.headers.managed_pages.Given as goal
 
 abbrev pub invariant-loop-zone : goal.invariant-loop-zone

@@ -1,5 +1,5 @@
 use Rattle.std.proofs.Common.{◌≡◌, map, take}
-use Rattle.vms_header.specs.Drafts.{managed_pages, size_under}
+use Rattle.vms_header.specs.Common.{managed_pages, size_under}
 use Rattle.vms_header.proofs.headers.sizes_under.Given as goal
 
 abbrev pub invariant-loop-zone : goal.invariant-loop-zone

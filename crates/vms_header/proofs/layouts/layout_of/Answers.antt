@@ -2,9 +2,8 @@
 use Rattle.std.proofs.Common.{◌≤◌, ◌∙◌, ap, sym, subst}
 use Rattle.std.proofs.lemmas.List.Elements.{All-map}
 use Rattle.std.specs.List.{All}
-use Rattle.vms_base.specs.Places.{IsRefused, LaysOut}
-use Rattle.vms_header.specs.Drafts.{most_cpus, names_of, positions_of}
-use Rattle.vms_header.specs.Readers.{draft_of}
+use Rattle.vms_base.specs.Common.{IsRefused, LaysOut}
+use Rattle.vms_header.specs.Common.{most_cpus, names_of, positions_of, draft_of}
 use Rattle.vms_header.proofs.RankedLayouts.{LaysOut-ranked, names-rise, not-refused}
 use Rattle.vms_header.proofs.layouts.layout_of.Goals as goal
 

@@ -1,5 +1,5 @@
 use Rattle.std.proofs.Common.{◌≡◌, take}
-use Rattle.vms_header.specs.Drafts.{names_of}
+use Rattle.vms_header.specs.Common.{names_of}
 use Rattle.vms_header.proofs.layouts.names_of.Given as goal
 
 abbrev pub invariant-loop-zone : goal.invariant-loop-zone

@@ -1,7 +1,7 @@
 -- The next line is a step of ParsingSteps: it goes on, ends the header or is at fault.
 use Rattle.std.proofs.Common.{ℕ, ◌≡◌, ◌≢◌, ◌==◌, Bool, false, List, [], length, Err, ap, arith, sym, subst}
 use Rattle.std.proofs.lemmas.Bool.Decides.{nat_tests}
-use Rattle.vms_header.specs.Stages.{ReadsHeader}
+use Rattle.vms_header.specs.Common.{ReadsHeader}
 use Rattle.vms_header.proofs.ParsingSteps.{IsReadTo-ends, IsReadTo-goes, IsReadTo-refused}
 use Rattle.vms_header.proofs.parsing.parse_header.Goals as goal
 

@@ -2,8 +2,8 @@
 use Rattle.std.proofs.Common.{ℕ, ◌≡◌, ◌≤◌, ◌<◌, ◌∙◌, Bool, true, false, List, Some, length, arith, bytes_eq, sym}
 use Rattle.std.proofs.Common.{position}
 use Rattle.vms_base.specs.declared.headers.ItemDecl.{ItemDecl}
-use Rattle.vms_base.specs.Headers.{class_names}
-use Rattle.vms_text.proofs.Positions.{position-lt}
+use Rattle.vms_base.specs.Common.{class_names}
+use Rattle.vms_text.proofs.Common.{position-lt}
 use Rattle.vms_header.proofs.sections.base_counter.Goals as goal
 
 below_sixteen : (node : Bool) (items : List ItemDecl) (word : List ℕ) (positions k : ℕ)

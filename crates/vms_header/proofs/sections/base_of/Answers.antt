@@ -1,9 +1,8 @@
 -- After a zone line a base line is what its words say.
 use Rattle.std.proofs.Common.{◌∙◌, ap, subst, sym}
 use Rattle.std.proofs.lemmas.Result.{err_from_is_err_and}
-use Rattle.vms_header.specs.Sections.{with_base}
-use Rattle.vms_header.specs.Readers.{draft_of, Reads}
-use Rattle.vms_text.specs.Reading.{and_then}
+use Rattle.vms_header.specs.Common.{with_base, draft_of, IsSameRead}
+use Rattle.vms_text.specs.Common.{and_then}
 use Rattle.vms_header.proofs.RowsByValues.{base_row-read}
 use Rattle.vms_header.proofs.sections.base_of.Goals as goal
 
@@ -24,4 +23,4 @@ returns c =
     let read = base_row-read draft c.args.node.now c.args.kind.now c.args.item.now c.args.value.now none in
     let told = read ∙ ap (λ read. and_then read (λ base.
     with_base draft base.counter base.value)) (sym c.base_words.ensures ∙ c.in_ok-base.was) in
-    subst (λ answer. Reads draft_of answer c.with_base.result) (sym told) c.with_base.ensures
+    subst (λ answer. IsSameRead draft_of answer c.with_base.result) (sym told) c.with_base.ensures

@@ -1,8 +1,8 @@
 -- Where no zone has a higher rank, the index is the number of zones.
 use Rattle.std.proofs.Common.{◌∙◌, sym, arith, nat_lt, not}
 use Rattle.std.proofs.lemmas.List.Sums.{prefix_len-le-length}
-use Rattle.vms_base.specs.Places.{rank_of}
-use Rattle.vms_text.proofs.Cuts.{position_or_len-none, position_or_len-some}
+use Rattle.vms_base.specs.Common.{rank_of}
+use Rattle.vms_text.proofs.Common.{position_or_len-none, position_or_len-some}
 use Rattle.vms_header.proofs.sections.first_above.Goals as goal
 
 pub returns-in-Some : goal.returns-in-Some

@@ -2,7 +2,7 @@
 use Rattle.std.proofs.Common.{◌∙◌, ◌||◌, sym, ap, bytes_eq}
 use Rattle.std.proofs.lemmas.List.Folds.{list_any-append}
 use Rattle.std.specs.List.{list_any}
-use Rattle.vms_base.specs.Names.{node_items, zone_items}
+use Rattle.vms_base.specs.Common.{node_items, zone_items}
 use Rattle.vms_header.proofs.HeadNames.{list_any-texts}
 use Rattle.vms_header.proofs.sections.is_fixed_name.Goals as goal
 

@@ -1,9 +1,8 @@
 -- An error of the words is the error of the line.
 use Rattle.std.proofs.Common.{◌∙◌, ap, map, sym}
 use Rattle.std.proofs.lemmas.Result.{err_from_is_err_and}
-use Rattle.vms_header.specs.Sections.{with_new_zone}
-use Rattle.vms_header.specs.Readers.{draft_of}
-use Rattle.vms_text.specs.Reading.{and_then}
+use Rattle.vms_header.specs.Common.{with_new_zone, draft_of}
+use Rattle.vms_text.specs.Common.{and_then}
 use Rattle.vms_header.proofs.RowsByValues.{unmarked_zone_row-read}
 use Rattle.vms_header.proofs.sections.unmarked_zone_row.Goals as goal
 

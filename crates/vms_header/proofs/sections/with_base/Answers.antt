@@ -3,7 +3,7 @@ use Rattle.std.proofs.Common.{ℕ, ◌≡◌, ◌∙◌, ◌∷◌, [], Bool, tr
 use Rattle.std.proofs.lemmas.List.{reverse-append}
 use Rattle.std.proofs.lemmas.List.Sorted.{IsPermutation-reverse, list_any-IsPermutation}
 use Rattle.std.specs.List.{list_any}
-use Rattle.vms_header.specs.Drafts.{Base}
+use Rattle.vms_header.specs.Common.{Base}
 use Rattle.vms_header.proofs.sections.with_base.Goals as goal
 
 abbrev of_counter : ℕ → Base → Bool

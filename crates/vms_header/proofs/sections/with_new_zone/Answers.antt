@@ -4,7 +4,7 @@ use Rattle.std.proofs.Common.{refl}
 use Rattle.std.proofs.lemmas.Bool.Decides.{nat_tests}
 use Rattle.std.proofs.lemmas.List.Sums.{prefix_len-le-length}
 use Rattle.std.specs.List.{list_any}
-use Rattle.vms_base.specs.Places.{rank_of}
+use Rattle.vms_base.specs.Common.{rank_of}
 use Rattle.vms_header.proofs.RowsByValues.{with_zone-insert}
 use Rattle.vms_header.proofs.sections.with_new_zone.Goals as goal
 

@@ -1,9 +1,8 @@
 -- The line is what its words say, and then the judgement of the marks.
 use Rattle.std.proofs.Common.{◌∙◌, ap, map, sym}
 use Rattle.std.proofs.lemmas.Result.{err_from_is_err_and}
-use Rattle.vms_header.specs.Sections.{rising}
-use Rattle.vms_header.specs.Readers.{draft_of}
-use Rattle.vms_text.specs.Reading.{and_then}
+use Rattle.vms_header.specs.Common.{rising, draft_of}
+use Rattle.vms_text.specs.Common.{and_then}
 use Rattle.vms_header.proofs.RowsByValues.{zone_row-read}
 use Rattle.vms_header.proofs.sections.zone_row.Goals as goal
 

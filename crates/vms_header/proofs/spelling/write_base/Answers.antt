@@ -2,10 +2,10 @@
 use Rattle.std.proofs.Common.{◌++◌, ◌∷◌, [], ◌∙◌, ap, sym, arith, rules, pos, of_z, to_z-of_z, w64, SFits, flat_map}
 use Rattle.std.specs.Fmt.{signed_decimal}
 use Rattle.std.specs.Prelude.{codes}
-use Rattle.vms_base.proofs.Counts.{counter_count-most}
-use Rattle.vms_header.specs.Spelling.{base_line_words}
-use Rattle.vms_text.specs.Spelling.{counter_words, sentence}
-use Rattle.vms_text.proofs.Appends.{OnOk-from}
+use Rattle.vms_base.proofs.Common.{counter_count-most}
+use Rattle.vms_header.specs.Common.{base_line_words}
+use Rattle.vms_text.specs.Common.{counter_words, sentence}
+use Rattle.vms_text.proofs.Common.{OnOk-from}
 use Rattle.vms_header.proofs.BaseLines.{base_line-based}
 use Rattle.vms_header.proofs.spelling.write_base.Goals as goal
 

@@ -1,6 +1,6 @@
 -- The line of one base more is the next of the spelled lines.
 use Rattle.std.proofs.Common.{sym, pos, arith}
-use Rattle.vms_text.proofs.Appends.{Begins-after, OnErr-true, append_twice}
+use Rattle.vms_text.proofs.Common.{Begins-after, OnErr-true, append_twice}
 use Rattle.vms_header.proofs.BaseLines.{base_lines-take_more}
 use Rattle.vms_header.proofs.spelling.write_bases.Goals as goal
 

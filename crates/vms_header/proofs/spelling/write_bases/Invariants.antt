@@ -1,6 +1,6 @@
 use Rattle.std.proofs.Common.{◌≡◌, ◌++◌, flat_map, take}
-use Rattle.vms_header.specs.Spelling.{base_lines_from}
-use Rattle.vms_text.specs.Spelling.{sentence}
+use Rattle.vms_header.specs.Common.{base_lines_from}
+use Rattle.vms_text.specs.Common.{sentence}
 use Rattle.vms_header.proofs.spelling.write_bases.Given as goal
 
 abbrev pub invariant-loop-counter : goal.invariant-loop-counter

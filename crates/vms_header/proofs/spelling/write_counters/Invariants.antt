@@ -1,6 +1,6 @@
 use Rattle.std.proofs.Common.{◌≡◌, ◌++◌, flat_map, map, take}
-use Rattle.vms_header.specs.Spelling.{counter_line_words}
-use Rattle.vms_text.specs.Spelling.{sentence}
+use Rattle.vms_header.specs.Common.{counter_line_words}
+use Rattle.vms_text.specs.Common.{sentence}
 use Rattle.vms_header.proofs.spelling.write_counters.Given as goal
 
 abbrev pub invariant-loop-decl : goal.invariant-loop-decl

@@ -1,9 +1,9 @@
 -- The lines of each kind, one kind after another, are the spelled header.
 use Rattle.std.proofs.Common.{◌∙◌, ◌∷◌, [], ◌++◌, ap, flat_map, map}
 use Rattle.std.specs.Prelude.{codes, zip}
-use Rattle.vms_header.specs.Spelling.{counter_line_words, cpus_words, item_words, version_words, zone_line_words}
-use Rattle.vms_text.specs.Spelling.{sentence}
-use Rattle.vms_text.proofs.Appends.{Begins-after, OnErr-from, OnOk-from}
+use Rattle.vms_header.specs.Common.{counter_line_words, cpus_words, item_words, version_words, zone_line_words}
+use Rattle.vms_text.specs.Common.{sentence}
+use Rattle.vms_text.proofs.Common.{Begins-after, OnErr-from, OnOk-from}
 use Rattle.vms_header.proofs.SpelledLines.{appended_six, spelled_header-parts}
 use Rattle.vms_header.proofs.spelling.write_header.Goals as goal
 

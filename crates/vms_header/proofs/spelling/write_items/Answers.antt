@@ -1,5 +1,5 @@
 -- After a failure the text still begins with what stood there before the loop.
-use Rattle.vms_text.proofs.Appends.{Begins-after, OnErr-true}
+use Rattle.vms_text.proofs.Common.{Begins-after, OnErr-true}
 use Rattle.vms_header.proofs.spelling.write_items.Goals as goal
 
 pub returns-in_err-write_item-clause-err : goal.returns-in_err-write_item-clause-err

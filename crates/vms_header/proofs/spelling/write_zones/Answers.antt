@@ -1,6 +1,6 @@
 -- The line of one zone more is the next of the spelled lines.
 use Rattle.std.proofs.Common.{◌++◌, ◌∙◌, ap}
-use Rattle.vms_text.proofs.Appends.{Begins-after, OnErr-true, append_twice}
+use Rattle.vms_text.proofs.Common.{Begins-after, OnErr-true, append_twice}
 use Rattle.vms_header.proofs.SpelledLines.{zone_lines-all, zone_lines-take_more}
 use Rattle.vms_header.proofs.spelling.write_zones.Goals as goal
 

@@ -2,11 +2,9 @@
 use Rattle.std.proofs.Common.{◌≡◌, ℕ, ◌<◌, ◌≤◌, List, length, sym, subst, ◌∙◌, arith, ⊎_elim}
 use Rattle.std.proofs.lemmas.Bool.{cases_lt}
 use Rattle.std.proofs.lemmas.List.{get_or_past}
-use Rattle.vms_base.specs.declared.kinds.CpuState.{CpuState}
-use Rattle.vms_base.specs.declared.kinds.CpuState.TheVariants.{Absent, Online}
-use Rattle.vms_base.specs.Cpus.{state_at}
-use Rattle.vms_world.specs.Worlds.{IsWorldOf}
-use Rattle.vms_world.proofs.TakenDown.{IsWorldOf-taken_down}
+use Rattle.vms_world.specs.Common.{CpuState, Absent, state_at, IsWorldOf}
+use Rattle.vms_base.specs.declared.kinds.CpuState.TheVariants.{Online}
+use Rattle.vms_world.proofs.Common.{IsWorldOf-taken_down}
 use Rattle.vms_hotplug.proofs.cpus.take_down.Goals as goal
 
 -- who is online stands in the list

@@ -1,8 +1,7 @@
 -- A world stays one of its header.
 use Rattle.std.proofs.Common.{sym, subst}
-use Rattle.vms_core.specs.declared.states.State.{State}
-use Rattle.vms_world.specs.Worlds.{IsWorldOf}
-use Rattle.vms_world.proofs.Flushes.{IsWorldOf-flushed}
+use Rattle.vms_world.specs.Common.{State, IsWorldOf}
+use Rattle.vms_world.proofs.Common.{IsWorldOf-flushed}
 use Rattle.vms_hotplug.proofs.flushing.flush.Goals as goal
 
 pub returns-clause-stays : goal.returns-clause-stays

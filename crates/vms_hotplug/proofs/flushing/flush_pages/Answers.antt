@@ -1,12 +1,9 @@
 -- A CPU more, and all CPUs at the end.
 use Rattle.std.proofs.Common.{◌≡◌, ℕ, ◌+◌, ◌*◌, ◌^◌, ◌<◌, sym, ap, subst, ◌∙◌, arith}
-use Rattle.vms_base.specs.Cpus.{is_online}
-use Rattle.vms_base.specs.Places.{IsCpu}
-use Rattle.vms_core.specs.declared.states.State.{State}
-use Rattle.vms_core.specs.Cells.{cpu_at}
+use Rattle.vms_world.specs.Common.{is_online, IsCpu, State, cpu_at}
 use Rattle.vms_hotplug.proofs.FlushedCpus.{FlushesBelow, FlushesBelow-kept, FlushesBelow-more, FlushesBelow-none}
 use Rattle.vms_hotplug.proofs.FlushedCpus.{flushed-all}
-use Rattle.vms_hotplug.proofs.Rooms.{HasRoom-more}
+use Rattle.vms_hotplug.proofs.Rooms.{IsSmallState-more}
 use Rattle.vms_hotplug.proofs.flushing.flush_pages.Goals as goal
 use Rattle.vms_hotplug.proofs.flushing.flush_pages.Goals.{then-is_online, else-is_online}
 
@@ -18,7 +15,7 @@ fold-requires-clause-room c =
       c.cpus-number-end.ensures.value,
       c.cpus-number-end.ensures.is_layout.cpus_most,
     ) in
-    HasRoom-more c.args.layout.now (2 ^ 60 + c.loop-number.number * 64000) (2 ^ 60 + 2 ^ 59) c.loop-number.pages
+    IsSmallState-more c.args.layout.now (2 ^ 60 + c.loop-number.number * 64000) (2 ^ 60 + 2 ^ 59) c.loop-number.pages
     (omega arith) c.loop-number.invariant.room
 
 pub loop-number-init : goal.loop-number-init

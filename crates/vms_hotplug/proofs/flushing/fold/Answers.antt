@@ -1,8 +1,8 @@
 -- A counter more, and all counters at the end.
 use Rattle.std.proofs.Common.{◌≡◌, ℕ, ◌+◌, ◌^◌, sym, subst, arith}
-use Rattle.vms_base.specs.Places.{IsCounter, counter_count}
-use Rattle.vms_hotplug.proofs.Folds.{FoldsBelow, FoldsBelow-more, FoldsBelow-none, FoldsCpu-all, HasRoom-folded}
-use Rattle.vms_hotplug.proofs.Rooms.{HasRoom-more}
+use Rattle.vms_world.specs.Common.{IsCounter, counter_count}
+use Rattle.vms_hotplug.proofs.Folds.{FoldsBelow, FoldsBelow-more, FoldsBelow-none, FlushesCpu-all, IsSmallState-folded}
+use Rattle.vms_hotplug.proofs.Rooms.{IsSmallState-more}
 use Rattle.vms_hotplug.proofs.flushing.fold.Goals as goal
 
 pub fold_counter-requires-clause-room : goal.fold_counter-requires-clause-room
@@ -10,8 +10,8 @@ fold_counter-requires-clause-room c =
     let shape = c.args.layout.now in
     let m_in : IsCounter shape c.loop-number.number =
     omega (arith, c.loop-number-test.true, c.counters-number-end.ensures.value) in
-    HasRoom-more shape (2 ^ 60 + 2 ^ 59 + 64000) (2 ^ 61) c.loop-number.pages (omega arith)
-    (HasRoom-folded shape c.args.cpu.number c.args.pages.now c.counters-number-end.ensures.is_layout c.requires.cpu
+    IsSmallState-more shape (2 ^ 60 + 2 ^ 59 + 64000) (2 ^ 61) c.loop-number.pages (omega arith)
+    (IsSmallState-folded shape c.args.cpu.number c.args.pages.now c.counters-number-end.ensures.is_layout c.requires.cpu
     (2 ^ 60 + 2 ^ 59) c.requires.room c.loop-number.number m_in c.loop-number.pages c.loop-number.invariant)
 
 pub loop-number-init : goal.loop-number-init
@@ -36,7 +36,7 @@ returns c =
       c.loop-number.auto.«number-end»,
       c.counters-number-end.ensures.value,
     ) in
-    FoldsCpu-all shape c.args.cpu.number c.args.pages.now c.counters-number-end.ensures.is_layout c.requires.cpu
+    FlushesCpu-all shape c.args.cpu.number c.args.pages.now c.counters-number-end.ensures.is_layout c.requires.cpu
     c.loop-number.pages
     (subst (λ (n : ℕ). FoldsBelow shape c.args.cpu.number c.args.pages.now n c.loop-number.pages) all
     c.loop-number.invariant)

@@ -1,8 +1,7 @@
 -- The three numbers that are written are those of the moved differential.
 use Rattle.std.proofs.Common.{◌≡◌, ℕ, ◌<◌, pos, length, get_or, ap, sym, subst, ◌∙◌}
 use Rattle.std.proofs.Math.ListN.{set}
-use Rattle.vms_base.specs.Places.{cell, item_count, item_of}
-use Rattle.vms_core.specs.Cells.{diff_at, system_at, value_at}
+use Rattle.vms_world.specs.Common.{cell, item_count, item_of, diff_at, system_at, value_at}
 use Rattle.vms_hotplug.proofs.SignedSums.{moved, same_sum}
 use Rattle.vms_hotplug.proofs.flushing.fold_counter.Goals as goal
 

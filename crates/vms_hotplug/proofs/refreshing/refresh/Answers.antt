@@ -1,8 +1,6 @@
 -- What is set is what the rule answers, and what the definition of a refresh says.
 use Rattle.std.proofs.Common.{◌≡◌, ℕ, List, [], length, get_or, ap, subst, ◌∙◌, arith}
-use Rattle.vms_base.specs.declared.kinds.ZoneSize.{ZoneSize}
-use Rattle.vms_base.specs.Sizes.{size_at}
-use Rattle.vms_world.specs.Refreshes.{AreAnswers, count_online}
+use Rattle.vms_world.specs.Common.{ZoneSize, size_at, AreAnswers, count_online}
 use Rattle.vms_hotplug.proofs.RefreshedPages.{MayMark-set, least_online, most_online, refreshed-is, rows_of}
 use Rattle.vms_hotplug.proofs.refreshing.refresh.Goals as goal
 

@@ -1,7 +1,5 @@
 use Rattle.std.proofs.Common.{◌≡◌, ◌≤◌, ◌*◌}
-use Rattle.vms_history.specs.Sums.{count_below}
-use Rattle.vms_core.specs.Cells.{cpu_at}
-use Rattle.vms_core.specs.Peaks.{if_present, opening_peak}
+use Rattle.vms_world.specs.Common.{count_below, cpu_at, if_present, opening_peak}
 use Rattle.vms_hotplug.proofs.settings.hidden.Given as goal
 
 -- what the CPUs so far may hide

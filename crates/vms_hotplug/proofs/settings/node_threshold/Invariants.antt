@@ -1,6 +1,5 @@
 use Rattle.std.proofs.Common.{◌≡◌, nat_eq, get_or, if◌then◌else◌}
-use Rattle.vms_history.specs.Sums.{largest_below}
-use Rattle.vms_base.specs.Places.{node_of_zone}
+use Rattle.vms_world.specs.Common.{largest_below, node_of_zone}
 use Rattle.vms_hotplug.proofs.settings.node_threshold.Given as goal
 
 -- the largest of the zones so far

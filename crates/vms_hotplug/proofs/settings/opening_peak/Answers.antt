@@ -1,8 +1,6 @@
 -- After the last position all differentials are counted.
 use Rattle.std.proofs.Common.{◌≡◌, ℕ, max, unsigned_abs, subst, arith}
-use Rattle.vms_base.specs.Places.{counter_at}
-use Rattle.vms_history.specs.Sums.{largest_below}
-use Rattle.vms_core.specs.Cells.{diff_at, threshold_at}
+use Rattle.vms_world.specs.Common.{counter_at, largest_below, diff_at, threshold_at}
 use Rattle.vms_hotplug.proofs.settings.opening_peak.Goals as goal
 
 pub returns-clause-value : goal.returns-clause-value

@@ -1,8 +1,5 @@
 use Rattle.std.proofs.Common.{◌≡◌, ◌≤◌, max, unsigned_abs}
-use Rattle.vms_base.specs.Places.{counter_at}
-use Rattle.vms_base.specs.Thresholds.{most_threshold}
-use Rattle.vms_history.specs.Sums.{largest_below}
-use Rattle.vms_core.specs.Cells.{diff_at, threshold_at}
+use Rattle.vms_world.specs.Common.{counter_at, most_threshold, largest_below, diff_at, threshold_at}
 use Rattle.vms_hotplug.proofs.settings.opening_peak.Given as goal
 
 -- the largest of the threshold and of the differentials so far

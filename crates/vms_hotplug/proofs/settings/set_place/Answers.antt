@@ -1,7 +1,6 @@
 -- A CPU more, and all CPUs at the end.
 use Rattle.std.proofs.Common.{◌≡◌, ◌+◌, ◌<◌, length, refl, sym, ap, subst, ◌∙◌, arith}
-use Rattle.vms_base.specs.declared.kinds.CpuState.TheVariants.{Absent}
-use Rattle.vms_base.specs.Cpus.{is_online, state_at}
+use Rattle.vms_world.specs.Common.{Absent, is_online, state_at}
 use Rattle.vms_hotplug.proofs.SetPlaces.{SetsBelow, SetsBelow-kept, SetsBelow-set}
 use Rattle.vms_hotplug.proofs.settings.set_place.Goals as goal
 use Rattle.vms_hotplug.proofs.settings.set_place.Goals.{then-is_online, else-is_online}

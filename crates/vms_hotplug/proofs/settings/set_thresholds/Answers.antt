@@ -1,9 +1,7 @@
 -- All places have got their thresholds.
 use Rattle.std.proofs.Common.{arith, get_or, if◌then◌else◌, ◌∙◌}
-use Rattle.vms_base.specs.Cpus.{is_online, state_at}
-use Rattle.vms_base.specs.Places.{cell, place_count}
-use Rattle.vms_world.specs.Refreshes.{place_threshold}
-use Rattle.vms_world.proofs.ListedReads.{is_listed_by_cpu}
+use Rattle.vms_world.specs.Common.{is_online, state_at, cell, place_count, place_threshold}
+use Rattle.vms_world.proofs.Common.{is_listed_by_cpu}
 use Rattle.vms_hotplug.proofs.settings.set_thresholds.Goals as goal
 
 pub returns : goal.returns

@@ -1,7 +1,5 @@
 use Rattle.std.proofs.Common.{◌≡◌, ℕ, ◌<◌, ◌≤◌, length, get_or, if◌then◌else◌}
-use Rattle.vms_base.specs.Cpus.{is_online, state_at}
-use Rattle.vms_base.specs.Places.{cell, place_count}
-use Rattle.vms_world.specs.Refreshes.{place_threshold}
+use Rattle.vms_world.specs.Common.{is_online, state_at, cell, place_count, place_threshold}
 use Rattle.vms_hotplug.proofs.settings.set_thresholds.Given as goal
 
 -- the places so far have got their thresholds

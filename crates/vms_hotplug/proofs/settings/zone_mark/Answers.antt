@@ -1,8 +1,7 @@
 -- The size of a zone is valid.
 use Rattle.std.proofs.Common.{subst, arith}
 use Rattle.std.proofs.lemmas.List.Elements.{All-get_or}
-use Rattle.vms_base.specs.declared.kinds.ZoneSize.{ZoneSize}
-use Rattle.vms_base.specs.Sizes.{IsValidSize}
+use Rattle.vms_world.specs.Common.{ZoneSize, IsValidSize}
 use Rattle.vms_hotplug.proofs.settings.zone_mark.Goals as goal
 
 abbrev no_size : ZoneSize

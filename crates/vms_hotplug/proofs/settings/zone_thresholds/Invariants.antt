@@ -1,6 +1,5 @@
 use Rattle.std.proofs.Common.{◌≡◌, ℕ, ◌≤◌, ◌<◌, length, get_or}
-use Rattle.vms_base.specs.Thresholds.{most_threshold}
-use Rattle.vms_base.specs.Sizes.{size_at}
+use Rattle.vms_world.specs.Common.{most_threshold, size_at}
 use Rattle.vms_hotplug.proofs.settings.zone_thresholds.Given as goal
 
 -- each threshold so far is one that the rule answers

@@ -2,13 +2,10 @@
 use Rattle.std.proofs.Common.{◌≡◌, ◌≤◌, ◌^◌, w64, ℤ, pos, unsigned_abs, to_z, of_z, FitsSigned, sym, ap, ◌∙◌, arith}
 use Rattle.std.proofs.Common.{nat_eq, if◌then◌else◌}
 use Rattle.std.proofs.lemmas.Int.{ints, to_z-of_z}
-use Rattle.vms_base.proofs.Counts.{counter_count-most}
-use Rattle.vms_base.specs.Places.{counter_count, item_count, item_of}
-use Rattle.vms_history.specs.Sums.{sum_below}
-use Rattle.vms_world.specs.FirstWorlds.{base_of, base_of_item}
-use Rattle.vms_world.proofs.ListedReads.{is_listed}
+use Rattle.vms_base.proofs.Common.{counter_count-most}
+use Rattle.vms_world.specs.Common.{counter_count, item_count, item_of, sum_below, base_of, base_of_item}
+use Rattle.vms_world.proofs.Common.{is_listed, base_of-most}
 use Rattle.vms_hotplug.proofs.ItemSums.{HasBases-more, more_small}
-use Rattle.vms_world.proofs.FirstWorlds.{base_of-most}
 use Rattle.vms_hotplug.proofs.summing.systems.Goals as goal
 
 same_word : (z base : ℤ) → base ≡ z → unsigned_abs base ≤ 2 ^ 48 → to_z w64 (of_z w64 z) ≡ base

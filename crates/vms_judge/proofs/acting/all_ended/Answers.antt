@@ -1,7 +1,7 @@
 use Rattle.std.proofs.Common.{◌≡◌, ℕ, ◌+◌, ◌<◌, ◌≤◌, Bool, true, false, MatchBool, ⊎_elim, arith}
 use Rattle.std.specs.Prelude.{reverse}
 use Rattle.std.proofs.lemmas.Bool.{cases_lt}
-use Rattle.vms_history.specs.Passes.{lives_in}
+use Rattle.vms_history.specs.Common.{lives_in}
 use Rattle.vms_judge.proofs.Given.{lives_in-not_given}
 use Rattle.vms_judge.proofs.acting.all_ended.Goals as goal
 

@@ -1,6 +1,6 @@
 use Rattle.std.proofs.Common.{◌+◌, ◌<◌, arith}
 use Rattle.std.specs.Prelude.{reverse}
-use Rattle.vms_history.proofs.PassLaws.{live_is_given}
+use Rattle.vms_history.proofs.Common.{live_is_given}
 use Rattle.vms_judge.proofs.acting.is_free.Goals as goal
 
 pub returns : goal.returns

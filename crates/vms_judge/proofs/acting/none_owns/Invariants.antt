@@ -1,6 +1,6 @@
 use Rattle.std.proofs.Common.{◌≡◌, ◌<◌, ℕ, true}
 use Rattle.std.specs.Prelude.{reverse}
-use Rattle.vms_history.specs.Passes.{lives_in, owner_in}
+use Rattle.vms_history.specs.Common.{lives_in, owner_in}
 use Rattle.vms_judge.proofs.acting.none_owns.Given as goal
 
 abbrev pub invariant-loop-pass : goal.invariant-loop-pass

@@ -1,6 +1,6 @@
 use Rattle.std.proofs.Common.{take}
 use Rattle.std.specs.Prelude.{reverse}
-use Rattle.vms_history.specs.Legal.{IsLegal}
+use Rattle.vms_history.specs.Common.{IsLegal}
 use Rattle.vms_judge.proofs.judging.judge.Given as goal
 
 abbrev pub invariant-loop-i : goal.invariant-loop-i

@@ -1,6 +1,6 @@
 use Rattle.std.proofs.Common.{◌≡◌, ◌≤◌, take}
 use Rattle.std.specs.Prelude.{reverse}
-use Rattle.vms_history.specs.Passes.{begun_in}
+use Rattle.vms_history.specs.Common.{begun_in}
 use Rattle.vms_judge.proofs.passes.begun.Given as goal
 
 abbrev pub invariant-loop-event : goal.invariant-loop-event

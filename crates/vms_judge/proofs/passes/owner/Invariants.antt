@@ -1,6 +1,6 @@
 use Rattle.std.proofs.Common.{◌≡◌, take}
 use Rattle.std.specs.Prelude.{reverse}
-use Rattle.vms_history.specs.Passes.{owner_in}
+use Rattle.vms_history.specs.Common.{owner_in}
 use Rattle.vms_judge.proofs.passes.owner.Given as goal
 
 abbrev pub invariant-loop-event : goal.invariant-loop-event

@@ -1,24 +1,16 @@
 -- A zone that passes ends the test, and one that fails is passed over.
-use Rattle.std.proofs.Common.{◌≡◌, ℕ, ◌+◌, ◌-◌, ◌<◌, true, List, [], ◌++◌, length, get_or, refl, sym, ap, ◌∙◌, subst, arith}
-use Rattle.std.proofs.Common.{append-nil}
+use Rattle.std.proofs.Common.{◌≡◌, ℕ, ◌+◌, ◌-◌, ◌<◌, true, List, [], ◌++◌, length, get_or, refl, sym, ap, ◌∙◌, subst}
+use Rattle.std.proofs.Common.{arith, append-nil}
 use Rattle.std.specs.Prelude.{Contains}
-use Rattle.vms_base.specs.declared.kinds.WaterMark.TheVariants.{High}
-use Rattle.vms_base.specs.declared.kinds.ZoneKind.TheVariants.{Dma}
-use Rattle.vms_base.specs.declared.kinds.ZoneName.{ZoneName}
-use Rattle.vms_base.specs.Watermarks.{limit_of}
-use Rattle.vms_calls.specs.Ratings.{node_number}
-use Rattle.vms_calls.specs.Turns.{Balances, zones_up_to}
-use Rattle.vms_calls.specs.Turns.Balance.{Yes}
-use Rattle.vms_core.specs.declared.steps.Step.{Step}
-use Rattle.vms_core.specs.Pages.{pages}
-use Rattle.vms_history.proofs.Own.{Extends-same}
+use Rattle.vms_calls.specs.Common.{High, Dma, ZoneName, limit_of, node_number, Balances, zones_up_to, Step, pages}
+use Rattle.vms_calls.specs.declared.answers.Balance.TheVariants.{Yes}
+use Rattle.vms_history.proofs.Common.{Extends-same}
 use Rattle.vms_kswapd.proofs.OrderTests.{order-found}
 use Rattle.vms_kswapd.proofs.ZoneTests.{FailedSoFar, failed-next, failed-none, failed-other, passed-first, passed-made}
 use Rattle.vms_kswapd.proofs.ZoneTests.{passed-one_of}
-use Rattle.vms_look.proofs.TestMoments.{truly-whole_call}
-use Rattle.vms_plain_pages.specs.Orders.{order_verdict_told}
-use Rattle.vms_plain_pages.proofs.ZonesUpTo.{is_one, is_one-told}
-use Rattle.vms_seats.specs.Steps.{Made}
+use Rattle.vms_look.proofs.Common.{truly-whole_call}
+use Rattle.vms_calls.proofs.Common.{is_one, is_one-told}
+use Rattle.vms_seats.specs.Common.{Made}
 use Rattle.vms_kswapd.proofs.balances.balanced.Goals as goal
 use Rattle.vms_kswapd.proofs.balances.balanced.Goals.{then-is_up_to+else-verdict, else-is_up_to}
 
@@ -60,7 +52,7 @@ returns-then-verdict-clause-made g c =
     let new = g.P.Caller.pass c.zone_ok-verdict.new.pass in
     let now = g.P.Caller.pass c.loop-place.pass in
     let old = g.P.Caller.pass c.args.pass.now in
-    let verdict = order_verdict_told c.zone_ok-verdict.result in
+    let verdict = c.zone_ok-verdict.result in
     let so_far = c.loop-place.invariant.0 in
     let tested = c.zone_ok-verdict.ensures.made in
     let one = place_one g c in (
@@ -81,7 +73,7 @@ returns-then-verdict-clause-passed g c =
     let new = g.P.Caller.pass c.zone_ok-verdict.new.pass in
     let now = g.P.Caller.pass c.loop-place.pass in
     let old = g.P.Caller.pass c.args.pass.now in
-    let verdict = order_verdict_told c.zone_ok-verdict.result in
+    let verdict = c.zone_ok-verdict.result in
     let so_far = c.loop-place.invariant.0 in
     let tested = c.zone_ok-verdict.ensures.made in
     let one = place_one g c in
@@ -125,7 +117,7 @@ loop-place-preserved g c =
           subst (λ p. FailedSoFar header most order node (g.P.Caller.pass p) old (place + 1)
           × (g.P.Caller.volume p ≡ g.P.Caller.volume c.args.pass.now)) (sym w.pass-is) (
             failed-next header most order node now old place so_far (g.P.Caller.pass w.zone_ok-verdict.new.pass)
-                (order_verdict_told w.zone_ok-verdict.result) w.zone_ok-verdict.ensures.made
+                w.zone_ok-verdict.result w.zone_ok-verdict.ensures.made
                 (sym told ∙ sym c.is_up_to.ensures ∙ w.if-is_up_to.true) w.if-verdict.false,
             w.zone_ok-verdict.ensures.volume ∙ c.loop-place.invariant.1,
           )

@@ -1,9 +1,8 @@
 -- An area with a block ends the search, and one without is passed over.
 use Rattle.std.proofs.Common.{◌≡◌, ◌≤◌, Bool, Some, None, if◌then◌else◌, refl, ◌∙◌, subst, arith}
-use Rattle.vms_base.specs.Areas.{area_at}
-use Rattle.vms_kswapd.specs.Seeking.{HasSought}
+use Rattle.vms_calls.specs.Common.{area_at, area_index}
+use Rattle.vms_kswapd.specs.Common.{HasSought}
 use Rattle.vms_kswapd.proofs.BlockSearches.{sought-all, sought-found, sought-next, sought-none}
-use Rattle.vms_plain_pages.specs.Orders.{area_index}
 use Rattle.vms_kswapd.proofs.orders.first_block.Goals as goal
 
 pub loop-number-init : goal.loop-number-init

@@ -1,16 +1,10 @@
 -- The goals were what the look found, with an item for the order and without one.
 use Rattle.std.proofs.Common.{ℕ, not, nat_eq, List, [], Option, Some, None, if◌then◌else◌, sym, ◌∙◌, subst}
-use Rattle.vms_base.specs.Areas.{area_at}
-use Rattle.vms_base.specs.Places.{Shape}
-use Rattle.vms_calls.specs.Looks.{IsSnapshot}
-use Rattle.vms_calls.specs.Turns.{FindsBlock}
-use Rattle.vms_calls.specs.Turns.FindsBlock.{nowhere}
-use Rattle.vms_core.specs.declared.steps.Step.{Step}
-use Rattle.vms_core.specs.Pages.{pages}
-use Rattle.vms_kswapd.specs.Seeking.{HasSought}
+use Rattle.vms_calls.specs.Common.{area_at, Shape, IsSnapshot, FindsBlock, nowhere, Step, pages}
+use Rattle.vms_kswapd.specs.Common.{HasSought}
 use Rattle.vms_kswapd.proofs.BlockSearches.{area-sought}
-use Rattle.vms_seats.specs.Steps.{Made}
-use Rattle.vms_seats.proofs.MadeCalls.{calls-none}
+use Rattle.vms_seats.specs.Common.{Made}
+use Rattle.vms_seats.proofs.Common.{calls-none}
 use Rattle.vms_kswapd.proofs.orders.has_block.Goals as goal
 
 pub returns-in-Some-clause-made : goal.returns-in-Some-clause-made

@@ -1,20 +1,16 @@
 -- The goals were the steps of the test at order 0 and above it, and what a yes says.
 use Rattle.std.proofs.Common.{ℕ, Bool, List, refl, sym, ◌∙◌, subst}
-use Rattle.vms_base.specs.Watermarks.{limit_of}
-use Rattle.vms_calls.specs.Turns.{IsOrderTest, has_room}
-use Rattle.vms_core.specs.declared.steps.Step.{Step}
-use Rattle.vms_core.specs.Pages.{pages}
-use Rattle.vms_history.proofs.Own.{Extends-same}
-use Rattle.vms_kswapd.specs.Seeking.{Seeks}
+use Rattle.vms_calls.specs.Common.{limit_of, IsOrderTest, has_room, Step, pages}
+use Rattle.vms_history.proofs.Common.{Extends-same}
+use Rattle.vms_kswapd.specs.Common.{Seeks}
 use Rattle.vms_kswapd.proofs.OrderTests.{found-passed, order-above, order-found, order-zero, with_area}
-use Rattle.vms_look.specs.Looking.{verdict_told}
-use Rattle.vms_look.proofs.TestMoments.{truly-whole_call}
-use Rattle.vms_seats.specs.Steps.{Made}
+use Rattle.vms_look.proofs.Common.{truly-whole_call}
+use Rattle.vms_seats.specs.Common.{Made}
 use Rattle.vms_kswapd.proofs.orders.zone_ok.Goals as goal
 
 pub returns-then-order-eq0-clause-made : goal.returns-then-order-eq0-clause-made
 returns-then-order-eq0-clause-made g c =
-    order-zero c.args.header.now c.args.zone c.args.mark c.args.most (verdict_told c.watermark_ok-verdict.result)
+    order-zero c.args.header.now c.args.zone c.args.mark c.args.most c.watermark_ok-verdict.result
     (g.P.Caller.pass c.watermark_ok-verdict.new.pass) (g.P.Caller.pass c.args.pass.now)
     c.watermark_ok-verdict.ensures.made c.args.order c.if-order-eq0.true
 
@@ -32,7 +28,7 @@ sought g c =
 
 pub returns-clause-made : goal.returns-clause-made
 returns-clause-made g c =
-    let verdict = verdict_told c.watermark_ok-verdict.result in
+    let verdict = c.watermark_ok-verdict.result in
     let area = c.block_within-area.result in
     let new = g.P.Caller.pass c.block_within-area.new.pass in
     let old = g.P.Caller.pass c.args.pass.now in
@@ -44,7 +40,7 @@ returns-clause-made g c =
 
 pub returns-clause-truly : goal.returns-clause-truly
 returns-clause-truly g c passed fast =
-    let verdict = verdict_told c.watermark_ok-verdict.result in
+    let verdict = c.watermark_ok-verdict.result in
     let old = g.P.Caller.pass c.args.pass.now in
     let looked = sought g c in
     let passed_first = found-passed c.args.header.now c.args.zone c.args.mark c.args.most verdict c.args.order looked.0
@@ -58,7 +54,7 @@ returns-clause-block g c passed above =
     let made = returns-clause-made g c in (
       made.0,
       order-found c.args.header.now c.args.zone c.args.mark c.args.most c.args.order made.0
-          (with_area (verdict_told c.watermark_ok-verdict.result) c.is_some.result c.block_within-area.result) made.1
+          (with_area c.watermark_ok-verdict.result c.is_some.result c.block_within-area.result) made.1
           passed above,
       made.2,
     )

@@ -1,16 +1,14 @@
 -- The three calls are a turn, the thresholds of its rule stand after it, and each threshold and mark was set twice at most.
 use Rattle.std.proofs.Common.{arith, ◌∙◌, sym, subst}
-use Rattle.vms_calls.specs.MayMake.{HasMade}
-use Rattle.vms_core.specs.declared.steps.Facts.{Facts}
+use Rattle.vms_calls.specs.Common.{HasMade, Facts}
 use Rattle.vms_kswapd.proofs.TurnRules.{rules-stand}
 use Rattle.vms_kswapd.proofs.TurnSteps.{facts-are, names-whole, tested-carries, tested-sets, turn-made}
-use Rattle.vms_plain_pages.specs.Balances.{balance_told}
 use Rattle.vms_kswapd.proofs.turns.kswapd_turn.Goals as goal
 
 pub settle-requires-clause-room : goal.settle-requires-clause-room
 settle-requires-clause-room g c =
     let still = tested-sets c.args.table.now c.args.header.now c.args.node c.args.order c.args.most
-    (balance_told c.balanced-balance.result) c.balanced-balance.new.pass c.set_pressure.new.pass c.args.pass.now
+    c.balanced-balance.result c.balanced-balance.new.pass c.set_pressure.new.pass c.args.pass.now
     c.requires.table c.set_pressure.ensures.made.0 c.set_pressure.ensures.made.2 c.balanced-balance.ensures.made
     c.set_pressure.ensures.control in
     omega (arith, still, c.set_pressure.ensures.sets, c.requires.room)
@@ -23,7 +21,7 @@ returns-clause-made g c =
     let new = c.settle.new.pass in
     let pressure = g.P.Rule.answers c.args.rules.now.pressure in
     let normal = g.N.Rule.answers c.args.rules.now.normal in
-    let answer = balance_told c.balanced-balance.result in
+    let answer = c.balanced-balance.result in
     let know = c.control_passes_know_by_own_steps.ensures in
     let pressed = c.set_pressure.ensures.made in
     let control = c.set_pressure.ensures.control in
@@ -50,14 +48,14 @@ pub returns-clause-carries : goal.returns-clause-carries
 returns-clause-carries g c nothing =
     c.settle.ensures.carries
     (tested-carries c.args.table.now c.args.header.now c.args.node c.args.order c.args.most
-    (balance_told c.balanced-balance.result) c.balanced-balance.new.pass c.set_pressure.new.pass c.args.pass.now
+    c.balanced-balance.result c.balanced-balance.new.pass c.set_pressure.new.pass c.args.pass.now
     c.requires.table c.set_pressure.ensures.made.0 c.set_pressure.ensures.made.2 c.balanced-balance.ensures.made
     c.args.table.now.facts.layout (c.set_pressure.ensures.carries nothing))
 
 pub returns-clause-sets : goal.returns-clause-sets
 returns-clause-sets g c =
     let still = tested-sets c.args.table.now c.args.header.now c.args.node c.args.order c.args.most
-    (balance_told c.balanced-balance.result) c.balanced-balance.new.pass c.set_pressure.new.pass c.args.pass.now
+    c.balanced-balance.result c.balanced-balance.new.pass c.set_pressure.new.pass c.args.pass.now
     c.requires.table c.set_pressure.ensures.made.0 c.set_pressure.ensures.made.2 c.balanced-balance.ensures.made
     c.set_pressure.ensures.control in
     omega (arith, c.settle.ensures.sets, still, c.set_pressure.ensures.sets)

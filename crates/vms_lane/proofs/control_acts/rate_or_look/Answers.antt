@@ -1,10 +1,6 @@
 -- Each act of the control lane on the page counters, by its call.
 use Rattle.std.proofs.Common.{sym, ap, subst, arith}
-use Rattle.vms_core.specs.declared.steps.Facts.{Facts}
-use Rattle.vms_line.specs.Laws.{IsActOf}
-use Rattle.vms_plain_pages.specs.Balances.{balance_told}
-use Rattle.vms_text.specs.declared.acts.Act.{Act}
-use Rattle.vms_text.specs.declared.acts.Lane.TheVariants.{Control}
+use Rattle.vms_world.specs.Common.{Facts, IsActOf, Act, Control}
 use Rattle.vms_lane.proofs.ControlKinds.{control-looks}
 use Rattle.vms_lane.proofs.RatedByControl.{looks-sets, node-in, normal-made, pressure-made, turn-made}
 use Rattle.vms_lane.proofs.control_acts.rate_or_look.Goals as goal
@@ -72,14 +68,14 @@ returns-in-Kswapd g c =
       made = turn-made c.args.header.now (g.P.Rule.answers c.args.rules.now.pressure)
           (g.N.Rule.answers c.args.rules.now.normal) c.args.table.now c.requires.facts
           c.kswapd_turn-balance.new.pass c.args.pass.now c.requires.table c.requires.nothing c.in-Kswapd.node
-          c.in-Kswapd.order c.in-Kswapd.most (balance_told c.kswapd_turn-balance.result) call.0 call.1 call.2
+          c.in-Kswapd.order c.in-Kswapd.most c.kswapd_turn-balance.result call.0 call.1 call.2
           c.kswapd_turn-balance.ensures.carries c.args.act c.in-Kswapd.is;
       sets = omega (arith, c.kswapd_turn-balance.ensures.sets);
     }
 
 pub fold_or_look-requires-clause-looks : goal.fold_or_look-requires-clause-looks
 fold_or_look-requires-clause-looks g c =
-    control-looks c.args.header.now c.args.act c.requires.act c.requires.no_sum c.requires.no_burial
+    control-looks c.args.header.now c.args.act c.requires.act c.requires.no_events
     c.in_default.not-Pressure c.in_default.not-Normal c.in_default.not-Kswapd
 
 pub returns-in_default-clause-sets : goal.returns-in_default-clause-sets
@@ -87,5 +83,5 @@ returns-in_default-clause-sets g c =
     looks-sets c.args.header.now (g.P.Rule.answers c.args.rules.now.pressure)
     (g.N.Rule.answers c.args.rules.now.normal) c.args.table.now c.fold_or_look.new.pass c.args.pass.now
     c.requires.table c.own.ensures.live c.requires.owner c.args.act
-    (control-looks c.args.header.now c.args.act c.requires.act c.requires.no_sum c.requires.no_burial
+    (control-looks c.args.header.now c.args.act c.requires.act c.requires.no_events
     c.in_default.not-Pressure c.in_default.not-Normal c.in_default.not-Kswapd) _ c.fold_or_look.ensures.made

@@ -1,10 +1,8 @@
 -- The call makes the steps of a burial in the three tables.
 use Rattle.std.proofs.Common.{◌+◌, ◌≤◌, sym, ap, subst, arith}
-use Rattle.vms_base.specs.Places.{IsCpu, Shape}
-use Rattle.vms_core.specs.declared.steps.Facts.{Facts}
+use Rattle.vms_world.specs.Common.{IsCpu, Shape, Facts, most_sets}
 use Rattle.vms_core.specs.Pages.{state_after}
-use Rattle.vms_core.specs.Plain.{most_sets}
-use Rattle.vms_words.specs.KeptSettings.{largest_sets}
+use Rattle.vms_words.specs.Common.{largest_sets}
 use Rattle.vms_lane.proofs.MadeByControl.{burial-by_control}
 use Rattle.vms_lane.proofs.control_lines.bury_dead.Goals as goal
 
@@ -28,7 +26,7 @@ pub returns : goal.returns
 returns g c = record {
   makes = burial-by_control c.args.header.now (g.P.Rule.answers c.args.rules.now.pressure)
       (g.N.Rule.answers c.args.rules.now.normal) c.args.tables.now c.requires.tables c.args.passes.now
-      c.answers_are_read.ensures.fold_events c.requires.passes.of c.args.cpu c.bury.new.passes c.bury.ensures.page
+      c.answers_are_read.ensures.call c.requires.passes.of c.args.cpu c.bury.new.passes c.bury.ensures.page
       c.bury.ensures.event c.bury.ensures.pcpu;
   nothing = c.bury.ensures.carries;
   sets = omega (arith, c.bury.ensures.sets);

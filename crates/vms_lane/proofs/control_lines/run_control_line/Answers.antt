@@ -1,8 +1,6 @@
 -- An act makes absent whom it buries and no other, and the passes may go on.
-use Rattle.std.proofs.Common.{option_map}
-use Rattle.vms_answers.specs.ToldAnswers.{answer_told}
-use Rattle.vms_control.proofs.PassCalls.{has-made}
-use Rattle.vms_tables.specs.Tables.{world_of}
+use Rattle.vms_control.proofs.Common.{has-made}
+use Rattle.vms_tables.specs.Common.{world_of}
 use Rattle.vms_lane.proofs.ControlledCpus.{cpus-controlled}
 use Rattle.vms_lane.proofs.MadeByControl.{control-ready}
 use Rattle.vms_lane.proofs.RatedByControl.{control-of}
@@ -27,5 +25,5 @@ pub returns-clause-ready : goal.returns-clause-ready
 returns-clause-ready g c =
     control-ready c.args.header.now (g.P.Rule.answers c.args.rules.now.pressure)
     (g.N.Rule.answers c.args.rules.now.normal) c.args.tables.now c.requires.tables c.args.passes.now c.args.act
-    (option_map answer_told c.make_act.result) c.make_act.new.passes c.make_act.ensures.makes c.requires.passes
+    c.make_act.result c.make_act.new.passes c.make_act.ensures.makes c.requires.passes
     c.make_act.ensures.nothing

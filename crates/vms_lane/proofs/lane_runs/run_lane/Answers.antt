@@ -1,11 +1,10 @@
 -- A line of the lane is made next; the lines of others leave what was made so far.
-use Rattle.std.proofs.Common.{◌≡◌, true, false, ◌+◌, ◌≤◌, List, [], ◌∷◌, drop, length, map, option_map}
-use Rattle.std.proofs.Common.{sym, subst, vec_capacity, vec_len, arith}
-use Rattle.vms_answers.specs.ToldAnswers.{answer_told, numbered_told}
-use Rattle.vms_script.specs.declared.lane_scripts.LaneItem.{LaneItem}
-use Rattle.vms_script.specs.PhaseScripts.{lane_item, lane_items}
-use Rattle.vms_tables.specs.Tables.{world_of}
-use Rattle.vms_answers.proofs.KeptAnswers.{told-keepable}
+use Rattle.std.proofs.Common.{◌≡◌, true, false, ◌+◌, ◌≤◌, List, [], ◌∷◌, drop, length, map, sym, subst, vec_capacity}
+use Rattle.std.proofs.Common.{vec_len, arith}
+use Rattle.vms_answers.specs.Common.{answer_of_kept}
+use Rattle.vms_world.specs.Common.{LaneItem, lane_item, lane_items}
+use Rattle.vms_tables.specs.Common.{world_of}
+use Rattle.vms_answers.proofs.Common.{told-keepable}
 use Rattle.vms_lane.proofs.ScriptTurns.{MadeSoFar, lane_items-end, lane_items-other, lane_items-own, so_far-act}
 use Rattle.vms_lane.proofs.ScriptTurns.{so_far-lines, so_far-may, so_far-next, so_far-spent}
 use Rattle.vms_lane.proofs.lane_runs.run_lane.Goals as goal
@@ -24,7 +23,7 @@ run_line-answer-requires g c =
     let n = c.loop-item.item-index in
     let now = c.loop-item.passes in
     let first = c.args.passes.now in
-    let told = map numbered_told c.loop-item.answers.items in
+    let told = map answer_of_kept c.loop-item.answers.items in
     let count = vec_len c.loop-item.answers in
     let room = vec_capacity c.loop-item.answers in
     let here = c.item-item.result in
@@ -46,7 +45,7 @@ pub note-requires-clause-keepable : goal.note-requires-clause-keepable
 note-requires-clause-keepable g c =
     let made = c.run_line-answer.ensures.makes in
     told-keepable c.args.header.now c.requires.header (world_of c.args.tables.now) c.args.lane c.item-item.result.act
-    made.steps (option_map answer_told c.run_line-answer.result) made.tells
+    made.steps c.run_line-answer.result made.tells
 
 pub loop-item-preserved : goal.loop-item-preserved
 loop-item-preserved g c =
@@ -61,7 +60,7 @@ loop-item-preserved g c =
     let n = c.loop-item.item-index in
     let now = c.loop-item.passes in
     let first = c.args.passes.now in
-    let told = map numbered_told c.loop-item.answers.items in
+    let told = map answer_of_kept c.loop-item.answers.items in
     let count = vec_len c.loop-item.answers in
     let room = vec_capacity c.loop-item.answers in
     let here = c.item-item.result in
@@ -73,21 +72,21 @@ loop-item-preserved g c =
           count room) (lane_items-own own items n here c.item-item.is c.loop-item-test.true (subst (λ b. b ≡ true) c.is_of.ensures w.if-is_of.true))
           c.loop-item.invariant in
           subst (λ passes. MadeSoFar header pressure normal tables lane script rest passes first
-          (map numbered_told c.if-is_of.answers.items) (vec_len c.if-is_of.answers) (vec_capacity c.if-is_of.answers))
+          (map answer_of_kept c.if-is_of.answers.items) (vec_len c.if-is_of.answers) (vec_capacity c.if-is_of.answers))
           (sym w.passes-is)
           (subst (λ answers. MadeSoFar header pressure normal tables lane script rest w.run_line-answer.new.passes first
-          (map numbered_told answers.items) (vec_len answers) (vec_capacity answers)) (sym w.answers-is)
+          (map answer_of_kept answers.items) (vec_len answers) (vec_capacity answers)) (sym w.answers-is)
           (so_far-next header pressure normal tables lane script (lane_item here) rest now first told count room so_far
-          w.run_line-answer.new.passes (option_map answer_told w.run_line-answer.result)
-          (map numbered_told w.note.new.answers.items) (vec_len w.note.new.answers) (vec_capacity w.note.new.answers)
+          w.run_line-answer.new.passes w.run_line-answer.result
+          (map answer_of_kept w.note.new.answers.items) (vec_len w.note.new.answers) (vec_capacity w.note.new.answers)
           w.run_line-answer.ensures.ready w.run_line-answer.ensures.makes w.run_line-answer.ensures.leaves
           w.note.ensures.answers w.note.ensures.len w.note.ensures.capacity))
       | else-is_of w ↦
           subst (λ passes. MadeSoFar header pressure normal tables lane script rest passes first
-          (map numbered_told c.if-is_of.answers.items) (vec_len c.if-is_of.answers) (vec_capacity c.if-is_of.answers))
+          (map answer_of_kept c.if-is_of.answers.items) (vec_len c.if-is_of.answers) (vec_capacity c.if-is_of.answers))
           (sym w.passes-is)
           (subst (λ answers. MadeSoFar header pressure normal tables lane script rest now first
-          (map numbered_told answers.items) (vec_len answers) (vec_capacity answers)) (sym w.answers-is)
+          (map answer_of_kept answers.items) (vec_len answers) (vec_capacity answers)) (sym w.answers-is)
           (subst (λ (left : List LaneItem). MadeSoFar header pressure normal tables lane script left now first told count
           room) (lane_items-other own items n here c.item-item.is c.loop-item-test.true (subst (λ b. b ≡ false) c.is_of.ensures w.if-is_of.false))
           c.loop-item.invariant))
@@ -106,7 +105,7 @@ returns g c =
     let n = c.loop-item.item-index in
     let now = c.loop-item.passes in
     let first = c.args.passes.now in
-    let told = map numbered_told c.loop-item.answers.items in
+    let told = map answer_of_kept c.loop-item.answers.items in
     let count = vec_len c.loop-item.answers in
     let room = vec_capacity c.loop-item.answers in
     let past : length items ≤ n = omega (arith, c.loop-item-test.false) in

@@ -1,15 +1,11 @@
 -- A line is made by the passes of its lane.
-use Rattle.std.proofs.Common.{sym, subst, option_map}
-use Rattle.vms_answers.specs.ToldAnswers.{answer_told}
+use Rattle.std.proofs.Common.{sym, subst}
 use Rattle.vms_burial.specs.Passes as burial
-use Rattle.vms_line.specs.Laws.{IsActOf}
-use Rattle.vms_tables.specs.Passes.{passes_of}
-use Rattle.vms_tables.specs.Tables.{world_of}
-use Rattle.vms_text.specs.declared.acts.Lane.{Lane}
+use Rattle.vms_world.specs.Common.{IsActOf, Lane}
+use Rattle.vms_tables.specs.Common.{passes_of, world_of}
 use Rattle.vms_lane.specs.declared.passes.LanePasses.{LanePasses}
 use Rattle.vms_lane.specs.declared.passes.LanePasses.TheVariants.{Cpu as OfCpu, Control as OfControl}
-use Rattle.vms_lane.specs.LanePasses.{AreLeftBy, AreReadyFor, MayMakeAct, passes_in}
-use Rattle.vms_lane.specs.Lines.{MakeAct}
+use Rattle.vms_lane.specs.Common.{AreLeftBy, AreReadyFor, MayMakeAct, passes_in, MakeAct}
 use Rattle.vms_lane.proofs.LaneKinds.{lane-of_control, lane-of_cpu}
 use Rattle.vms_lane.proofs.line_runs.run_line.Goals as goal
 
@@ -35,7 +31,7 @@ returns-in-Cpu g c =
     let normal = g.N.Rule.answers c.args.rules.now.normal in
     let own = c.in-Cpu.passes in
     let new = c.run_cpu_line.new.passes in
-    let answer = option_map answer_told c.run_cpu_line.result in
+    let answer = c.run_cpu_line.result in
     let ready = subst (AreReadyFor tables c.args.lane) c.in-Cpu.is c.requires.passes in
     let is_lane = lane-of_cpu tables c.args.lane own c.cpu-cpu.result ready c.cpu-cpu.ensures.owns in
     record {
@@ -70,7 +66,7 @@ returns-in-Control g c =
     let normal = g.N.Rule.answers c.args.rules.now.normal in
     let own = c.in-Control.passes in
     let new = c.run_control_line.new.passes in
-    let answer = option_map answer_told c.run_control_line.result in
+    let answer = c.run_control_line.result in
     let ready = subst (AreReadyFor tables c.args.lane) c.in-Control.is c.requires.passes in
     let is_lane = lane-of_control tables c.args.lane own ready in
     record {

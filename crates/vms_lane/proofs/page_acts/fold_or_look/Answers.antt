@@ -1,18 +1,11 @@
 -- Each act on the page counters that every lane may make, by its call.
 use Rattle.std.proofs.Common.{Some, sym, ap, subst}
-use Rattle.vms_base.specs.Places.{IsCounter, IsCpu, IsItem, IsZone, Shape}
-use Rattle.vms_history.specs.Events.{own}
-use Rattle.vms_calls.specs.Looks.{IsSnapshot, Verdict}
-use Rattle.vms_core.specs.declared.steps.Facts.{Facts}
-use Rattle.vms_line.specs.Laws.{IsActOf}
-use Rattle.vms_look.specs.Looking.{verdict_told}
-use Rattle.vms_text.specs.declared.acts.Act.{Act}
-use Rattle.vms_text.specs.declared.acts.Act.TheVariants.{Water, Val, Snap, Sys}
-use Rattle.vms_answers.specs.Answers.Answer.{Snapshot, System, Tested, Value}
-use Rattle.vms_lane.specs.TableActs.{MakesOnPages}
+use Rattle.vms_world.specs.Common.{IsCounter, IsCpu, IsItem, IsZone, Shape, own, IsSnapshot, Facts, IsActOf, Act, Water}
+use Rattle.vms_world.specs.Common.{Val, Snap, Sys}
+use Rattle.vms_answers.specs.declared.answers.Answer.TheVariants.{Snapshot, System, Tested, Value}
 use Rattle.vms_lane.proofs.ActKinds.{looks-none}
-use Rattle.vms_lane.proofs.MadeOnPages.{fold-made, known-item, look-made, snapshot-steps, system-steps}
-use Rattle.vms_lane.proofs.MadeOnPages.{test-steps, value-steps}
+use Rattle.vms_lane.proofs.MadeOnPages.{fold-made, known-item, look-made, snapshot-steps, system-steps, test-steps}
+use Rattle.vms_lane.proofs.MadeOnPages.{value-steps}
 use Rattle.vms_lane.proofs.page_acts.fold_or_look.Goals as goal
 
 pub fold-requires : goal.fold-requires
@@ -33,8 +26,8 @@ returns-in-Fold-clause-made g c =
     (λ w steps call. c.changes_and_folds_answer_nothing.ensures.fold c.args.header.now w c.args.lane c.in-Fold.cpu
     steps call) c.args.act c.in-Fold.is
 
-pub watermark_ok-verdict-requires : goal.watermark_ok-verdict-requires
-watermark_ok-verdict-requires g c =
+pub watermark_ok-requires : goal.watermark_ok-requires
+watermark_ok-requires g c =
     let act = subst (λ (a : Act). IsActOf c.args.header.now c.args.lane a) c.in-Water.is c.requires.act in
     record {
       table = c.requires.table;
@@ -48,21 +41,18 @@ pub returns-in-Water-clause-made : goal.returns-in-Water-clause-made
 returns-in-Water-clause-made g c =
     let header = c.args.header.now in
     let old = g.C.Caller.pass c.args.pass.now in
-    let call = c.watermark_ok-verdict.ensures.made in
-    let told = verdict_told c.watermark_ok-verdict.result in
+    let call = c.watermark_ok.ensures.made in
+    let told = c.watermark_ok.result in
     let law = c.looks_tell_answers.ensures.test in
-    subst (λ (verdict : Verdict). MakesOnPages header (g.P.Rule.answers c.args.rules.now.pressure)
-    (g.N.Rule.answers c.args.rules.now.normal) c.args.table.now.facts.base c.args.lane c.args.act
-    (g.C.Caller.pass c.watermark_ok-verdict.new.pass) old (Some (Tested verdict))) (sym c.as_answered.ensures)
-    (look-made header (g.P.Rule.answers c.args.rules.now.pressure) (g.N.Rule.answers c.args.rules.now.normal)
-    c.args.table.now.facts c.requires.facts c.args.lane (g.C.Caller.pass c.watermark_ok-verdict.new.pass) old
+    look-made header (g.P.Rule.answers c.args.rules.now.pressure) (g.N.Rule.answers c.args.rules.now.normal)
+    c.args.table.now.facts c.requires.facts c.args.lane (g.C.Caller.pass c.watermark_ok.new.pass) old
     (Some (Tested told)) (Water c.in-Water.zone c.in-Water.mark c.in-Water.most) call.0 call.2
     (test-steps header c.args.table.now.facts.base (g.P.Rule.answers c.args.rules.now.pressure)
     (g.N.Rule.answers c.args.rules.now.normal) old.number old.seen call.0 c.args.lane c.in-Water.zone c.in-Water.mark
     c.in-Water.most told call.1)
     (λ w. law header w c.args.lane c.in-Water.zone c.in-Water.mark c.in-Water.most call.0 told call.1)
     (c.looks_leave_their_caller.ensures.test header c.in-Water.zone c.in-Water.mark c.in-Water.most old.number old.seen
-    call.0 (told, call.1) (own old.seen old.number)) c.requires.nothing c.args.act c.in-Water.is)
+    call.0 (told, call.1) (own old.seen old.number)) c.requires.nothing c.args.act c.in-Water.is
 
 pub place_value-requires : goal.place_value-requires
 place_value-requires g c =

@@ -1,17 +1,13 @@
 -- Each act of a CPU's lane on the page counters, by its call.
-use Rattle.std.proofs.Common.{◌≡◌, ◌+◌, ◌≤◌, FitsSigned, w64, ℤ, refl, rules, sym, subst, unsigned_abs}
-use Rattle.std.proofs.Common.{slice_index_or, slice_set}
+use Rattle.std.proofs.Common.{◌≡◌, ◌+◌, ◌≤◌, FitsSigned, w64, ℤ, refl, rules, sym, subst, unsigned_abs, slice_index_or}
+use Rattle.std.proofs.Common.{slice_set}
 use Rattle.std.proofs.lemmas.Int.{to_z-of_z}
 use Rattle.std.specs.Prelude.{pos, negsuc}
 use Rattle.vms_base.specs.declared.kinds.Mode.TheVariants.{Mod as Modify, Inc as Raise, Dec as Lower}
-use Rattle.vms_base.specs.Volumes.{most_volume}
-use Rattle.vms_count.specs.Changing.{HasChanged}
-use Rattle.vms_line.specs.Laws.{IsActOf}
-use Rattle.vms_script.specs.Volumes.{spent_on_counter}
-use Rattle.vms_text.specs.declared.acts.Act.{Act}
+use Rattle.vms_world.specs.Common.{most_volume, IsActOf, spent_on_counter, Act, Cpu}
+use Rattle.vms_count.specs.Common.{HasChanged}
 use Rattle.vms_text.specs.declared.acts.Act.TheVariants.{Mod, Inc, Dec}
-use Rattle.vms_text.specs.declared.acts.Lane.TheVariants.{Cpu}
-use Rattle.vms_lane.specs.Spending.{HasGrown, HasRoom}
+use Rattle.vms_lane.specs.Common.{HasGrown, HasRoom}
 use Rattle.vms_lane.proofs.ActKinds.{looks-unspent, rest-looks}
 use Rattle.vms_lane.proofs.GrownVolumes.{grown-at, grown-none, room-at}
 use Rattle.vms_lane.proofs.MadeOnPages.{change-made, counter-in, counter-inside}
@@ -147,12 +143,12 @@ returns-in-Dec g c =
 
 pub fold_or_look-requires-clause-looks : goal.fold_or_look-requires-clause-looks
 fold_or_look-requires-clause-looks g c =
-    rest-looks c.args.header.now c.args.cpu c.args.act c.requires.act c.requires.no_events c.requires.no_counters
+    rest-looks c.args.header.now c.args.cpu c.args.act c.requires.act c.requires.no_events c.requires.no_call
     c.in_default.not-Mod c.in_default.not-Inc c.in_default.not-Dec
 
 pub returns-in_default-clause-grown : goal.returns-in_default-clause-grown
 returns-in_default-clause-grown g c =
     grown-none (λ k. spent_on_counter k c.args.act)
     (looks-unspent c.args.act (rest-looks c.args.header.now c.args.cpu c.args.act c.requires.act c.requires.no_events
-    c.requires.no_counters c.in_default.not-Mod c.in_default.not-Inc c.in_default.not-Dec))
+    c.requires.no_call c.in_default.not-Mod c.in_default.not-Inc c.in_default.not-Dec))
     c.fold_or_look.new.pass.volume c.args.pass.now.volume c.fold_or_look.ensures.volume

@@ -1,7 +1,7 @@
 use Rattle.std.proofs.Common.{bytes_eq, rules, sym, tests, ◌∙◌}
 use Rattle.std.proofs.lemmas.Iterator.Search.{position_from_yields_List}
 use Rattle.std.proofs.lemmas.Iterator.{YieldsList-from_slice}
-use Rattle.vms_text.proofs.Positions.{position-map}
+use Rattle.vms_text.proofs.Common.{position-map}
 use Rattle.vms_line.proofs.fields.decl_index.Goals as goal
 
 pub returns-clause-value : goal.returns-clause-value

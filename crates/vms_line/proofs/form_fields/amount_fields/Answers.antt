@@ -1,7 +1,6 @@
 use Rattle.std.proofs.Common.{◌∙◌, sym, ap, arith, get_or, []}
 use Rattle.std.proofs.lemmas.Result.{err_from_is_err_and}
-use Rattle.vms_line.specs.Fields.{pcpu_field}
-use Rattle.vms_line.specs.Forms.{amount_fields}
+use Rattle.vms_line.specs.Common.{pcpu_field, amount_fields}
 use Rattle.vms_line.proofs.FieldCounts.{and_then-err, two_words}
 use Rattle.vms_line.proofs.form_fields.amount_fields.Goals as goal
 

@@ -1,17 +1,15 @@
-use Rattle.std.proofs.Common.{◌≡◌, ◌∙◌, sym, ap, arith, map, get_or, [], Ok, w64}
-use Rattle.std.proofs.lemmas.List.{length-map}
+use Rattle.std.proofs.Common.{◌≡◌, ◌∙◌, refl, sym, ap, arith, get_or, [], Ok, w64}
 use Rattle.std.proofs.lemmas.Int.{to_z-of_z}
 use Rattle.std.proofs.lemmas.Result.{err_from_is_err_and}
-use Rattle.vms_line.specs.Fields.{amount_field, counter_field, in_pages}
+use Rattle.vms_line.specs.Common.{amount_field, counter_field, in_pages, change_fields}
 use Rattle.vms_line.proofs.Known.{amount_field-fits, in_pages-fits}
-use Rattle.vms_line.specs.Forms.{change_fields}
-use Rattle.vms_line.proofs.FieldCounts.{and_then-err, and_then-ok, four_words, change_fields-short}
+use Rattle.vms_line.proofs.FieldCounts.{and_then-err, and_then-ok, four_words, below_four}
 use Rattle.vms_line.proofs.form_fields.change_fields.Goals as goal
 
 pub returns-in_default : goal.returns-in_default
 returns-in_default c =
-    sym (change_fields-short c.args.header.now (map (λ word. word.now) c.args.fields.now)
-    (omega (arith, length-map c.args.fields.now (λ word. word.now))))
+    sym (below_four (change_fields c.args.header.now) refl (λ a. refl) (λ a b. refl) (λ a b c. refl) c.args.fields.now
+    (omega arith))
 
 pub returns-in_err-counter : goal.returns-in_err-counter
 returns-in_err-counter c =

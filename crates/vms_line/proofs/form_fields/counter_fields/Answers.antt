@@ -1,9 +1,8 @@
-use Rattle.std.proofs.Common.{sym, arith, map}
-use Rattle.std.proofs.lemmas.List.{length-map}
-use Rattle.vms_line.proofs.FieldCounts.{counter_fields-short}
+use Rattle.std.proofs.Common.{refl, sym, arith}
+use Rattle.vms_line.specs.Common.{counter_fields}
+use Rattle.vms_line.proofs.FieldCounts.{below_three}
 use Rattle.vms_line.proofs.form_fields.counter_fields.Goals as goal
 
 pub returns-in_default : goal.returns-in_default
 returns-in_default c =
-    sym (counter_fields-short c.args.header.now (map (λ word. word.now) c.args.fields.now)
-    (omega (arith, length-map c.args.fields.now (λ word. word.now))))
+    sym (below_three (counter_fields c.args.header.now) refl (λ a. refl) (λ a b. refl) c.args.fields.now (omega arith))

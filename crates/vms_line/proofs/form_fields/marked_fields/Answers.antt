@@ -1,16 +1,14 @@
-use Rattle.std.proofs.Common.{ok_or, ◌∙◌, sym, ap, arith, map, get_or, []}
-use Rattle.std.proofs.lemmas.List.{length-map}
+use Rattle.std.proofs.Common.{ok_or, ◌∙◌, refl, sym, ap, arith, get_or, []}
 use Rattle.std.proofs.lemmas.Result.{err_from_is_err_and}
 use Rattle.vms_line.specs.declared.causes.LineCause.TheVariants.{Malformed}
-use Rattle.vms_line.specs.Fields.{mark_named, zone_field}
-use Rattle.vms_line.specs.Forms.{marked_fields}
-use Rattle.vms_line.proofs.FieldCounts.{and_then-err, and_then-ok, four_words, marked_fields-short}
+use Rattle.vms_line.specs.Common.{mark_named, zone_field, marked_fields}
+use Rattle.vms_line.proofs.FieldCounts.{and_then-err, and_then-ok, four_words, below_four}
 use Rattle.vms_line.proofs.form_fields.marked_fields.Goals as goal
 
 pub returns-in_default : goal.returns-in_default
 returns-in_default c =
-    sym (marked_fields-short c.args.header.now (map (λ word. word.now) c.args.fields.now)
-    (omega (arith, length-map c.args.fields.now (λ word. word.now))))
+    sym (below_four (marked_fields c.args.header.now) refl (λ a. refl) (λ a b. refl) (λ a b c. refl) c.args.fields.now
+    (omega arith))
 
 pub returns-in_err-zone : goal.returns-in_err-zone
 returns-in_err-zone c =

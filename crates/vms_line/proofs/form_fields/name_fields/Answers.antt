@@ -1,5 +1,5 @@
 use Rattle.std.proofs.Common.{◌∙◌, sym, ap, arith, []}
-use Rattle.vms_line.specs.Forms.{name_fields}
+use Rattle.vms_line.specs.Common.{name_fields}
 use Rattle.vms_line.proofs.FieldCounts.{one_word}
 use Rattle.vms_line.proofs.form_fields.name_fields.Goals as goal
 

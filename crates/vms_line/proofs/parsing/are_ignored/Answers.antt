@@ -1,5 +1,5 @@
 use Rattle.std.proofs.Common.{[], arith, drop, get_or, ◌∙◌}
-use Rattle.vms_text.specs.Words.{words_of}
+use Rattle.vms_text.specs.Common.{words_of}
 use Rattle.vms_line.proofs.LineWords.{first_word, is_ignored-first, is_ignored-no_word, no_word}
 use Rattle.vms_line.proofs.parsing.are_ignored.Goals as goal
 

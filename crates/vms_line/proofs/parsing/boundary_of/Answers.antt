@@ -1,8 +1,7 @@
 use Rattle.std.proofs.Common.{ap, arith, codes, sym, ◌∙◌}
 use Rattle.std.proofs.lemmas.Result.{err_from_is_err_and}
 use Rattle.std.proofs.lemmas.Slice.Eq.{text_from_reads}
-use Rattle.vms_line.specs.Body.{boundary_of}
-use Rattle.vms_line.specs.Fields.{cpu_field}
+use Rattle.vms_line.specs.Common.{boundary_of, cpu_field}
 use Rattle.vms_line.proofs.FieldCounts.{and_then-err, and_then-ok}
 use Rattle.vms_line.proofs.parsing.boundary_of.Goals as goal
 

@@ -1,5 +1,5 @@
 use Rattle.std.proofs.lemmas.Result.{IfOk-at_ok}
-use Rattle.vms_line.specs.Laws.{IsLineOf}
+use Rattle.vms_line.specs.Common.{IsLineOf}
 use Rattle.vms_line.proofs.LinesKnown.{read_line-known}
 use Rattle.vms_line.proofs.parsing.lines_are_known.Goals as goal
 

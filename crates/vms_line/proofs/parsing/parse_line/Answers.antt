@@ -1,6 +1,6 @@
 use Rattle.std.proofs.Common.{ap, arith, map, sym, true, false, ◌≡◌, ◌∙◌}
-use Rattle.vms_line.specs.Body.{read_words}
-use Rattle.vms_text.specs.Reading.{is_clean, is_ignored}
+use Rattle.vms_line.specs.Common.{read_words}
+use Rattle.vms_text.specs.Common.{is_clean, is_ignored}
 use Rattle.vms_line.proofs.LineWords.{read_line-words}
 use Rattle.vms_line.proofs.parsing.parse_line.Goals as goal
 

@@ -1,6 +1,6 @@
 use Rattle.std.proofs.Common.{ap, arith, codes, sym}
 use Rattle.std.proofs.lemmas.Slice.Eq.{text_from_reads}
-use Rattle.vms_line.specs.Body.{report_named}
+use Rattle.vms_line.specs.Common.{report_named}
 use Rattle.vms_line.proofs.parsing.report_named.Goals as goal
 
 pub returns-in-vmstat : goal.returns-in-vmstat

@@ -1,7 +1,8 @@
 -- The goals were the laws at each moment of what the pass has seen.
 use Rattle.std.proofs.Common.{◌≡◌, ◌++◌, subst}
-use Rattle.vms_core.specs.Pages.{History, IsLegal}
-use Rattle.vms_core.proofs.KeptLaws.{laws-kept_before}
+use Rattle.vms_calls.specs.Common.{History}
+use Rattle.vms_core.specs.Pages.{IsLegal}
+use Rattle.vms_core.proofs.Common.{laws-kept_before}
 use Rattle.vms_look.proofs.laws.totals_are_kept.Goals as goal
 
 pub returns : goal.returns

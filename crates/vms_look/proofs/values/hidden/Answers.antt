@@ -1,8 +1,7 @@
 -- The goals were what a look at a CPU made, and what it found.
 use Rattle.std.proofs.Common.{FitsSigned, sym, subst, w64, ◌∙◌}
 use Rattle.std.proofs.lemmas.Int.{to_z-of_z}
-use Rattle.vms_base.specs.Places.{IsCounter}
-use Rattle.vms_core.specs.declared.steps.Facts.{Facts}
+use Rattle.vms_calls.specs.Common.{IsCounter, Facts}
 use Rattle.vms_look.proofs.LookSteps.{looked-online, looked-other}
 use Rattle.vms_look.proofs.values.hidden.Goals as goal
 

@@ -1,8 +1,7 @@
 -- The goals were that the looks so far add up, what they are once all CPUs are past, and what they come to then.
 use Rattle.std.proofs.Common.{◌≡◌, ◌+◌, ◌≤◌, ℤ, ◌+ℤ◌, FitsSigned, w64, to_z, of_z, ap, sym, ◌∙◌, subst, arith}
 use Rattle.std.proofs.lemmas.Int.{ints, to_z-of_z}
-use Rattle.vms_base.specs.Places.{Shape, IsCounter}
-use Rattle.vms_core.specs.declared.steps.Facts.{Facts}
+use Rattle.vms_calls.specs.Common.{Shape, IsCounter, Facts}
 use Rattle.vms_look.proofs.LookSteps.{SoFar, so_far-none, so_far-fits, so_far-next, so_far-all, so_far-truly}
 use Rattle.vms_look.proofs.values.snapshot.Goals as goal
 

@@ -1,11 +1,8 @@
 -- The goals were what the free pages rest on, with a snapshot and without, and what is true of them then.
 use Rattle.std.proofs.Common.{◌≡◌, ℕ, ◌∙◌, ap, sym, subst}
-use Rattle.vms_base.specs.declared.ids.CounterId.{CounterId}
-use Rattle.vms_base.specs.Places.{Shape, IsZone, counter_at}
-use Rattle.vms_calls.specs.Looks.{free_pages}
-use Rattle.vms_core.specs.declared.steps.Facts.{Facts}
-use Rattle.vms_history.proofs.Own.{Extends-both}
-use Rattle.vms_look.specs.SnapshotTotals.{SumsTruly}
+use Rattle.vms_calls.specs.Common.{CounterId, Shape, IsZone, counter_at, free_pages, Facts}
+use Rattle.vms_history.proofs.Common.{Extends-both}
+use Rattle.vms_look.specs.Common.{SumsTruly}
 use Rattle.vms_look.proofs.LookSteps.{sums-whole_call}
 use Rattle.vms_look.proofs.TestMoments.{says_truly}
 use Rattle.vms_look.proofs.TestSteps.{free-loaded, free-snapshot}

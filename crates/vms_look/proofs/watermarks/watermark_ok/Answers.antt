@@ -1,10 +1,7 @@
 -- The goals were that the header's sizes are the table's, and what the test made.
 use Rattle.std.proofs.Common.{ℕ, All, length, nat_lt, ap, sym, ◌∙◌, subst}
-use Rattle.vms_base.specs.Places.{Shape}
-use Rattle.vms_base.specs.Sizes.{IsValidSize}
-use Rattle.vms_core.specs.Bases.{IsBase}
-use Rattle.vms_core.specs.Pages.{pages}
-use Rattle.vms_history.proofs.Prefixes.{base_can_begin}
+use Rattle.vms_calls.specs.Common.{Shape, IsValidSize, IsBase, pages}
+use Rattle.vms_history.proofs.Common.{base_can_begin}
 use Rattle.vms_look.proofs.TestSteps.{tested}
 use Rattle.vms_look.proofs.watermarks.watermark_ok.Goals as goal
 
@@ -25,4 +22,5 @@ returns-clause-made g c =
     let free = c.free_pages-free.result.0 in
     tested c.args.header.now c.args.table.now.facts.layout c.requires.layout (g.P.Caller.pass c.free_pages-free.new.pass)
     (g.P.Caller.pass c.args.pass.now) c.args.zone c.args.mark c.args.most free c.free_pages-free.result.1
-    (nat_lt c.limit-limit.result free) (ap (λ (l : ℕ). nat_lt l free) c.limit-limit.ensures) c.free_pages-free.ensures.made
+    (nat_lt c.limit-limit.result free) (ap (λ (l : ℕ). nat_lt l free) c.limit-limit.ensures.value)
+    c.free_pages-free.ensures.made

@@ -1,4 +1,4 @@
-use Rattle.vms_core.proofs.LoweredLegal.{found_none_legal, found_newest_legal, found_older_legal}
+use Rattle.vms_core.proofs.Common.{found_none_legal, found_newest_legal, found_older_legal}
 use Rattle.std.proofs.Common.{refl}
 use Rattle.vms_model_trials.proofs.peaks.newest_acknowledgement_settles.Goals as goal
 

@@ -1,5 +1,5 @@
-use Rattle.vms_core.proofs.LoweredLegal.{uncovered_threshold_illegal, uncovered_mark_illegal}
-use Rattle.vms_core.proofs.LoweredLegal.{acknowledged_early_illegal, acknowledged_other_illegal}
+use Rattle.vms_core.proofs.Common.{uncovered_threshold_illegal, uncovered_mark_illegal, acknowledged_early_illegal}
+use Rattle.vms_core.proofs.Common.{acknowledged_other_illegal}
 use Rattle.vms_model_trials.proofs.peaks.uncovered_and_unearned_are_illegal.Goals as goal
 
 pub returns : goal.returns

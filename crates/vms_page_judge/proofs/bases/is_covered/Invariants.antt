@@ -1,8 +1,7 @@
 use Rattle.std.proofs.Common.{◌<◌, ℕ, []}
 use Rattle.vms_core.specs.Cells as cells
-use Rattle.vms_base.specs.Marks.{Covers}
-use Rattle.vms_base.specs.Sizes.{size_at}
-use Rattle.vms_core.specs.Peaks.{peak_sum}
+use Rattle.vms_history.specs.Common.{Covers, size_at}
+use Rattle.vms_core.specs.Common.{peak_sum}
 use Rattle.vms_page_judge.proofs.bases.is_covered.Given as goal
 
 abbrev pub invariant-loop-number : goal.invariant-loop-number

@@ -1,5 +1,5 @@
 use Rattle.std.proofs.Common.{◌<◌, ℕ}
-use Rattle.vms_page_judge.specs.Openings.{OpensCpu}
+use Rattle.vms_page_judge.specs.Common.{OpensCpu}
 use Rattle.vms_page_judge.proofs.bases.opens_cpus.Given as goal
 
 abbrev pub invariant-loop-number : goal.invariant-loop-number

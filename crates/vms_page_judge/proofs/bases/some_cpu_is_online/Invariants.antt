@@ -1,6 +1,6 @@
 use Rattle.std.proofs.Common.{◌≡◌, ◌<◌, ℕ}
 use Rattle.vms_core.specs.Cells as cells
-use Rattle.vms_base.specs.declared.kinds.CpuState.TheVariants.{Online}
+use Rattle.vms_history.specs.Common.{Online}
 use Rattle.vms_page_judge.proofs.bases.some_cpu_is_online.Given as goal
 
 abbrev pub invariant-loop-number : goal.invariant-loop-number

@@ -1,7 +1,7 @@
 use Rattle.std.proofs.Common.{rules, ◌≡◌, ◌%◌, true, nat_eq, slice_index_or, pos, eq-eqb, w64, SFits, arith}
 use Rattle.std.proofs.lemmas.Int.{to_z-of_z}
 use mir.Syntax.{w128}
-use Rattle.vms_base.specs.Places.{item_of}
+use Rattle.vms_history.specs.Common.{item_of}
 use Rattle.vms_page_judge.proofs.carried.moved_of_item.Goals as goal
 
 pub returns-in-Put-clause-value : goal.returns-in-Put-clause-value

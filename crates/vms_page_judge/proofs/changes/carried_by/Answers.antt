@@ -1,6 +1,6 @@
 use Rattle.std.proofs.Common.{arith, ◌<◌, ◌+ℤ◌, unsigned_abs}
 use Rattle.std.proofs.lemmas.Int.{ints}
-use Rattle.vms_core.proofs.PastThreshold.{carried_by-past}
+use Rattle.vms_core.proofs.Common.{carried_by-past}
 use Rattle.vms_page_judge.proofs.changes.carried_by.Goals as goal
 
 pub returns-else-unsigned_abs-t-clause-value : goal.returns-else-unsigned_abs-t-clause-value

@@ -1,6 +1,6 @@
 use Rattle.std.proofs.Common.{arith, ◌<◌, ◌+ℤ◌, unsigned_abs}
 use Rattle.std.proofs.lemmas.Int.{ints}
-use Rattle.vms_core.proofs.PastThreshold.{differential_after-past}
+use Rattle.vms_core.proofs.Common.{differential_after-past}
 use Rattle.vms_page_judge.proofs.changes.differential_after.Goals as goal
 
 pub returns-else-unsigned_abs-t : goal.returns-else-unsigned_abs-t

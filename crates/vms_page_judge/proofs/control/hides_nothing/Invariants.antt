@@ -1,7 +1,6 @@
 use Rattle.std.proofs.Common.{◌≡◌, ◌<◌, ℕ, pos}
 use Rattle.std.specs.Prelude.{reverse}
-use Rattle.vms_core.specs.Cells.{diff_at}
-use Rattle.vms_core.specs.Pages.{state_after}
+use Rattle.vms_core.specs.Common.{diff_at, state_after}
 use Rattle.vms_page_judge.proofs.control.hides_nothing.Given as goal
 
 abbrev pub invariant-loop-number : goal.invariant-loop-number

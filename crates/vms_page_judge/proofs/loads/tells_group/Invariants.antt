@@ -1,8 +1,6 @@
-use Rattle.std.proofs.Common.{◌≡◌, ◌<◌, ℕ, pos}
+use Rattle.std.proofs.Common.{◌≡◌, ◌<◌, ℕ, pos, ◌*◌, ◌+◌, slice_index_or}
 use Rattle.std.specs.Prelude.{reverse}
-use Rattle.std.proofs.Common.{◌*◌, ◌+◌, slice_index_or}
-use Rattle.vms_core.specs.Cells.{diff_at}
-use Rattle.vms_core.specs.Pages.{state_after}
+use Rattle.vms_core.specs.Common.{diff_at, state_after}
 use Rattle.vms_page_judge.proofs.loads.tells_group.Given as goal
 
 abbrev pub invariant-loop-n : goal.invariant-loop-n

@@ -1,7 +1,7 @@
 use Rattle.std.proofs.Common.{◌<◌, ◌≤◌, ⊎_elim}
 use Rattle.std.specs.Prelude.{IsTrue, reverse}
 use Rattle.std.proofs.lemmas.Bool.{cases_lt}
-use Rattle.vms_base.specs.Places.{counter_count, item_count}
+use Rattle.vms_history.specs.Common.{counter_count, item_count}
 use Rattle.vms_page_judge.proofs.Beyond.{carried-beyond, carried_of_item-beyond}
 use Rattle.vms_page_judge.proofs.nothing_carried.carries_nothing.Goals as goal
 

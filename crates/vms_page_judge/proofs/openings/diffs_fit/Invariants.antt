@@ -1,5 +1,5 @@
 use Rattle.std.proofs.Common.{◌<◌, ◌≤◌, ℕ, unsigned_abs}
-use Rattle.vms_base.specs.Thresholds.{most_threshold}
+use Rattle.vms_history.specs.Common.{most_threshold}
 use Rattle.vms_core.specs.Cells as cells
 use Rattle.vms_page_judge.proofs.openings.diffs_fit.Given as goal
 

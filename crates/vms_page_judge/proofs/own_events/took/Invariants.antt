@@ -1,6 +1,6 @@
 use Rattle.std.proofs.Common.{◌≡◌, take}
 use Rattle.std.specs.Prelude.{reverse}
-use Rattle.vms_history.specs.Events.{own}
+use Rattle.vms_history.specs.Common.{own}
 use Rattle.vms_core.specs.Own as known
 use Rattle.vms_page_judge.proofs.own_events.took.Given as goal
 

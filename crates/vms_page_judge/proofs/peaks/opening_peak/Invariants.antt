@@ -1,8 +1,6 @@
-use Rattle.std.proofs.Common.{◌≡◌}
-use Rattle.vms_history.specs.Sums.{largest_below}
-use Rattle.std.proofs.Common.{unsigned_abs}
-use Rattle.vms_base.specs.Places.{counter_at}
-use Rattle.vms_core.specs.Cells.{diff_at}
+use Rattle.std.proofs.Common.{◌≡◌, unsigned_abs}
+use Rattle.vms_history.specs.Common.{largest_below, counter_at}
+use Rattle.vms_core.specs.Common.{diff_at}
 use Rattle.vms_page_judge.proofs.peaks.opening_peak.Given as goal
 
 abbrev pub invariant-loop-n : goal.invariant-loop-n

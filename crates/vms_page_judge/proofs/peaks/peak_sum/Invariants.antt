@@ -1,7 +1,7 @@
 use Rattle.std.proofs.Common.{◌≡◌, ◌≤◌, ◌*◌, ◌^◌}
 use Rattle.std.specs.Prelude.{reverse}
-use Rattle.vms_core.specs.Peaks.{if_present, cpu_in, peak}
-use Rattle.vms_history.specs.Sums.{count_below}
+use Rattle.vms_core.specs.Common.{if_present, cpu_in, peak}
+use Rattle.vms_history.specs.Common.{count_below}
 use Rattle.vms_page_judge.proofs.peaks.peak_sum.Given as goal
 
 abbrev pub invariant-loop-number : goal.invariant-loop-number

@@ -1,8 +1,7 @@
 use Rattle.std.proofs.Common.{◌∙◌, sym, ap, ℕ, Option, take}
 use Rattle.std.specs.Prelude.{reverse}
-use Rattle.vms_history.specs.Passes.{owner_in}
-use Rattle.vms_core.specs.Steps.{role}
-use Rattle.vms_core.specs.Effects.{acknowledged_after}
+use Rattle.vms_history.specs.Common.{owner_in}
+use Rattle.vms_core.specs.Common.{role, acknowledged_after}
 use Rattle.vms_page_judge.proofs.StateLaws.{acknowledged_at-more}
 use Rattle.vms_page_judge.proofs.states.acknowledged_now.Goals as goal
 

@@ -1,6 +1,6 @@
 use Rattle.std.proofs.Common.{◌∙◌, sym}
 use Rattle.std.specs.Prelude.{reverse}
-use Rattle.vms_core.proofs.Settings.{cpu_at-state_after}
+use Rattle.vms_core.proofs.Common.{cpu_at-state_after}
 use Rattle.vms_page_judge.proofs.states.cpu_now.Goals as goal
 
 pub returns : goal.returns

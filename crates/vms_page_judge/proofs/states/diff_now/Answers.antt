@@ -1,9 +1,8 @@
 use Rattle.std.proofs.Common.{rules, ◌∙◌, sym, ap, ℤ, take, w64, SFits}
 use Rattle.std.specs.Prelude.{reverse}
 use Rattle.std.proofs.lemmas.Int.{to_z-of_z}
-use Rattle.vms_history.specs.Passes.{owner_in}
-use Rattle.vms_core.specs.Steps.{role}
-use Rattle.vms_core.specs.Effects.{diff_after}
+use Rattle.vms_history.specs.Common.{owner_in}
+use Rattle.vms_core.specs.Common.{role, diff_after}
 use Rattle.vms_page_judge.proofs.StateLaws.{diff_at-more}
 use Rattle.vms_page_judge.proofs.states.diff_now.Goals as goal
 

@@ -1,7 +1,7 @@
 use Rattle.std.proofs.Common.{◌≡◌, ◌≤◌, take}
 use Rattle.std.specs.Prelude.{reverse}
 use Rattle.vms_core.specs.Cells as cells
-use Rattle.vms_core.specs.Pages.{state_after}
+use Rattle.vms_core.specs.Common.{state_after}
 use Rattle.vms_page_judge.proofs.states.mark_now.Given as goal
 
 abbrev pub invariant-loop-event : goal.invariant-loop-event

@@ -1,8 +1,7 @@
 use Rattle.std.proofs.Common.{take, arith}
 use Rattle.std.specs.Prelude.{reverse}
 use Rattle.std.proofs.lemmas.Int.{ints}
-use Rattle.vms_core.specs.Cells.{system_at}
-use Rattle.vms_core.specs.Pages.{state_after}
+use Rattle.vms_core.specs.Common.{system_at, state_after}
 use Rattle.vms_page_judge.proofs.StateLaws.{system_at-more}
 use Rattle.vms_page_judge.proofs.states.system_now.Goals as goal
 

@@ -1,6 +1,6 @@
 use Rattle.std.proofs.Common.{◌∙◌, sym}
 use Rattle.std.specs.Prelude.{reverse}
-use Rattle.vms_core.proofs.Settings.{threshold_at-state_after, sets-state_after}
+use Rattle.vms_core.proofs.Common.{threshold_at-state_after, sets-state_after}
 use Rattle.vms_page_judge.proofs.states.threshold_now.Goals as goal
 
 pub returns-clause-threshold : goal.returns-clause-threshold

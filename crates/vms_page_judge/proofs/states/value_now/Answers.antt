@@ -1,8 +1,7 @@
 use Rattle.std.proofs.Common.{take, arith}
 use Rattle.std.specs.Prelude.{reverse}
 use Rattle.std.proofs.lemmas.Int.{ints}
-use Rattle.vms_core.specs.Cells.{value_at}
-use Rattle.vms_core.specs.Pages.{state_after}
+use Rattle.vms_core.specs.Common.{value_at, state_after}
 use Rattle.vms_page_judge.proofs.StateLaws.{value_at-more}
 use Rattle.vms_page_judge.proofs.states.value_now.Goals as goal
 

@@ -1,6 +1,6 @@
 -- The goal was that the laws hold at each moment of a legal history.
 use Rattle.std.proofs.Common.{subst}
-use Rattle.vms_pcpu_core.specs.Histories.{IsLegal}
+use Rattle.vms_pcpu_core.specs.Common.{IsLegal}
 use Rattle.vms_pcpu.proofs.laws.totals_are_kept.Goals as goal
 
 pub returns : goal.returns

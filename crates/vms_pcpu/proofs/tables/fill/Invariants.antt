@@ -1,6 +1,6 @@
 use Rattle.std.proofs.Common.{◌≡◌, ℕ, ◌+◌, ◌<◌, pos, length, slice_index, slice_index_or}
-use Rattle.vms_base.specs.Numbers.{number_of}
-use Rattle.vms_pcpu_core.specs.Histories.{state_after}
+use Rattle.vms_history.specs.Common.{signed_of_word}
+use Rattle.vms_pcpu_core.specs.Common.{state_after}
 use Rattle.vms_pcpu.specs.SharedWords.{shown}
 use Rattle.vms_pcpu.proofs.tables.fill.Given as goal
 
@@ -8,5 +8,6 @@ abbrev pub invariant-loop-n : goal.invariant-loop-n
 invariant-loop-n l = record {
   len : length l.row ≡ length l.fn.row;
   each : (n : ℕ) → n < l.n → slice_index_or l.row n (pos 0)
-      ≡ number_of (slice_index (shown l.closing.facts (state_after l.closing.facts l.closing.events)) (l.start + n));
+      ≡ signed_of_word (slice_index (shown l.closing.facts (state_after l.closing.facts l.closing.events))
+      (l.start + n));
 }

@@ -1,6 +1,6 @@
 -- The goal was that what is appended are the words of the base.
 use Rattle.std.proofs.Common.{◌*◌, ◌++◌, ap, ◌∙◌, map}
-use Rattle.vms_base.specs.Numbers.{word_of}
+use Rattle.vms_history.specs.Common.{word_of}
 use Rattle.vms_pcpu.proofs.OpeningWords.{opening-shown}
 use Rattle.vms_pcpu.proofs.tables.opening_words.Goals as goal
 

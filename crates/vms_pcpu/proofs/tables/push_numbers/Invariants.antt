@@ -1,5 +1,5 @@
 use Rattle.std.proofs.Common.{◌≡◌, ◌++◌, map, take}
-use Rattle.vms_base.specs.Numbers.{word_of}
+use Rattle.vms_history.specs.Common.{word_of}
 use Rattle.vms_pcpu.proofs.tables.push_numbers.Given as goal
 
 abbrev pub invariant-loop-number : goal.invariant-loop-number

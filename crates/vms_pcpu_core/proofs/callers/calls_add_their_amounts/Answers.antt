@@ -1,5 +1,5 @@
-use Rattle.vms_pcpu_core.proofs.OwnSteps.{read-adds, add-adds, sync-adds, fold_dead-adds}
-use Rattle.vms_pcpu_core.proofs.OwnSteps.{sum-adds, compare-adds, limited_add-adds}
+use Rattle.vms_pcpu_core.proofs.OwnSteps.{read-adds, add-adds, sync-adds, fold_dead-adds, sum-adds, compare-adds}
+use Rattle.vms_pcpu_core.proofs.OwnSteps.{limited_add-adds}
 use Rattle.vms_pcpu_core.proofs.callers.calls_add_their_amounts.Goals as goal
 
 pub returns : goal.returns

@@ -1,5 +1,5 @@
 use Rattle.std.proofs.Common.{ℕ, ◌<◌}
-use Rattle.vms_pcpu_core.specs.Bases.{IsCounterBase}
+use Rattle.vms_pcpu_core.specs.Common.{IsCounterBase}
 use Rattle.vms_pcpu_judge.proofs.bases.counters_fit.Given as goal
 
 abbrev pub invariant-loop-j : goal.invariant-loop-j

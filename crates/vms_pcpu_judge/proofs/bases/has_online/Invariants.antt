@@ -1,6 +1,6 @@
 use Rattle.std.proofs.Common.{◌≡◌, ℕ, ◌<◌}
-use Rattle.vms_base.specs.declared.kinds.CpuState.TheVariants.{Online}
-use Rattle.vms_pcpu_core.specs.States.{cpu_at}
+use Rattle.vms_history.specs.Common.{Online}
+use Rattle.vms_pcpu_core.specs.Common.{cpu_at}
 use Rattle.vms_pcpu_judge.proofs.bases.has_online.Given as goal
 
 abbrev pub invariant-loop-c : goal.invariant-loop-c

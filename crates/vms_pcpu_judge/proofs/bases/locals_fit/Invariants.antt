@@ -1,6 +1,5 @@
 use Rattle.std.proofs.Common.{ℕ, ◌<◌}
-use Rattle.vms_pcpu_core.specs.Bases.{IsLocalBase}
-use Rattle.vms_pcpu_core.specs.States.{IsPcpu}
+use Rattle.vms_pcpu_core.specs.Common.{IsLocalBase, IsPcpu}
 use Rattle.vms_pcpu_judge.proofs.bases.locals_fit.Given as goal
 
 abbrev pub invariant-loop-c : goal.invariant-loop-c

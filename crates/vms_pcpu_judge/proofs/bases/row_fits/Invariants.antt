@@ -1,5 +1,5 @@
 use Rattle.std.proofs.Common.{ℕ, ◌<◌}
-use Rattle.vms_pcpu_core.specs.Bases.{IsLocalBase}
+use Rattle.vms_pcpu_core.specs.Common.{IsLocalBase}
 use Rattle.vms_pcpu_judge.proofs.bases.row_fits.Given as goal
 
 abbrev pub invariant-loop-j : goal.invariant-loop-j

@@ -2,19 +2,11 @@ use Rattle.std.proofs.Common.{rules, ◌≡◌, ℕ, ◌+◌, ◌≤◌, Some, �
 use Rattle.std.specs.Prelude.{reverse}
 use Rattle.std.proofs.lemmas.Int.{ints, to_z-of_z}
 use mir.Syntax.{w64}
-use Rattle.vms_base.specs.declared.ids.CpuId.{CpuId}
-use Rattle.vms_base.specs.declared.ids.PcpuId.{PcpuId}
-use Rattle.vms_history.specs.Passes.{owner_in}
+use Rattle.vms_history.specs.Common.{CpuId, PcpuId, owner_in, most_volume}
 use Rattle.vms_pcpu_core.specs.declared.steps.PcpuFacts.{PcpuFacts}
-use Rattle.vms_pcpu_core.specs.Conditions.{AddsToLocal}
-use Rattle.vms_base.specs.Volumes.{most_volume}
-use Rattle.vms_pcpu_core.specs.Histories.{History, IsLegal, state_after}
-use Rattle.vms_pcpu_core.specs.Laws.{numbers_after}
-use Rattle.vms_pcpu_core.specs.States.{IsPcpu, batch_at, local_at}
-use Rattle.vms_pcpu_core.specs.Steps.{role}
-use Rattle.vms_pcpu_core.specs.Totals.{spent}
-use Rattle.vms_pcpu_core.proofs.Shapes.{batch_at-state_after}
-use Rattle.vms_pcpu_core.proofs.Totals.{owned}
+use Rattle.vms_pcpu_core.specs.Common.{AddsToLocal, History, IsLegal, state_after, numbers_after, IsPcpu, batch_at}
+use Rattle.vms_pcpu_core.specs.Common.{local_at, role, spent}
+use Rattle.vms_pcpu_core.proofs.Common.{batch_at-state_after, owned}
 use Rattle.vms_pcpu_judge.proofs.conditions.adds_to_local.Goals as goal
 
 module _ (facts : PcpuFacts) (h : History) (p : ℕ) (j : PcpuId) (amount : ℤ) (cpu : CpuId) (legal : IsLegal facts h)

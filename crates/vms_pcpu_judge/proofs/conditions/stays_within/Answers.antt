@@ -2,8 +2,7 @@ use Rattle.std.proofs.Common.{◌≡◌, ℕ, ◌≤◌, IsTrue, nat_le, ◌+ℤ
 use Rattle.std.specs.Prelude.{reverse}
 use Rattle.std.proofs.lemmas.Bool.Decides.{nat_tests}
 use Rattle.std.proofs.lemmas.Int.{ints}
-use Rattle.vms_pcpu_core.specs.Laws.{numbers_after}
-use Rattle.vms_pcpu_core.specs.States.{local_at}
+use Rattle.vms_pcpu_core.specs.Common.{numbers_after, local_at}
 use Rattle.vms_pcpu_judge.proofs.conditions.stays_within.Goals as goal
 
 test-holds : (n m : ℕ) → (IsTrue (nat_le n m) → n ≤ m) × (n ≤ m → IsTrue (nat_le n m))

@@ -1,7 +1,7 @@
 use Rattle.std.proofs.Common.{◌≡◌, ◌≤◌, ◌*◌, ◌^◌, take, unsigned_abs}
 use Rattle.std.specs.Prelude.{reverse}
-use Rattle.vms_history.specs.Events.{own}
-use Rattle.vms_pcpu_core.specs.Own.{carried}
+use Rattle.vms_history.specs.Common.{own}
+use Rattle.vms_pcpu_core.specs.Common.{carried}
 use Rattle.vms_pcpu_judge.proofs.holdings.carrying.Given as goal
 
 abbrev pub invariant-loop-event : goal.invariant-loop-event

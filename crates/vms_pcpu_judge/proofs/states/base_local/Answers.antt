@@ -1,5 +1,5 @@
 use Rattle.std.proofs.Common.{◌≡◌, ℕ, ◌+◌, ◌*◌, ◌^◌, ◌<◌, ap, ◌∙◌, arith}
-use Rattle.vms_base.proofs.Cells.{cell-lt}
+use Rattle.vms_base.proofs.Common.{cell-lt}
 use Rattle.vms_pcpu_judge.proofs.states.base_local.Goals as goal
 
 small : (cpus cpu width full counters counter : ℕ) → cpu < cpus → counter < counters → width ≡ counters

@@ -1,7 +1,6 @@
 use Rattle.std.proofs.Common.{◌≡◌, ◌≤◌, ◌*◌, ◌+◌, ◌^◌, take, unsigned_abs}
 use Rattle.std.specs.Prelude.{reverse}
-use Rattle.vms_pcpu_core.specs.Laws.{numbers_after}
-use Rattle.vms_pcpu_core.specs.States.{local_at}
+use Rattle.vms_pcpu_core.specs.Common.{numbers_after, local_at}
 use Rattle.vms_pcpu_judge.proofs.states.local.Given as goal
 
 abbrev pub invariant-loop-i : goal.invariant-loop-i

@@ -1,6 +1,6 @@
 use Rattle.std.proofs.Common.{sym, false}
 use Rattle.std.proofs.lemmas.List.{get_or-replicate}
-use Rattle.vms_pcpu_core.specs.States.{counters_of}
+use Rattle.vms_pcpu_core.specs.Common.{counters_of}
 use Rattle.vms_pcpu_judge.proofs.StateLaws.{held_at-more}
 use Rattle.vms_pcpu_judge.proofs.states.locked.Goals as goal
 

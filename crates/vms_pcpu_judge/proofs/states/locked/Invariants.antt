@@ -1,7 +1,6 @@
 use Rattle.std.proofs.Common.{◌≡◌, take}
 use Rattle.std.specs.Prelude.{reverse}
-use Rattle.vms_pcpu_core.specs.Histories.{state_after}
-use Rattle.vms_pcpu_core.specs.States.{held_at}
+use Rattle.vms_pcpu_core.specs.Common.{state_after, held_at}
 use Rattle.vms_pcpu_judge.proofs.states.locked.Given as goal
 
 abbrev pub invariant-loop-event : goal.invariant-loop-event

@@ -1,13 +1,12 @@
 use Rattle.std.proofs.Common.{ℕ, ◌≤◌, ◌≡◌, take, List, arith}
 use Rattle.std.specs.Prelude.{reverse}
-use Rattle.vms_judge.proofs.Prefixes.{legal_first}
+use Rattle.vms_judge.proofs.Common.{legal_first}
 use Rattle.vms_history.specs.declared.events.Event.{Event}
 use Rattle.vms_pcpu_core.specs.declared.steps.PcpuFacts.{PcpuFacts}
 use Rattle.vms_pcpu_core.specs.declared.steps.PcpuStep.{PcpuStep}
-use Rattle.vms_base.specs.Volumes.{most_volume}
-use Rattle.vms_pcpu_core.specs.Histories.{percpu, IsLegal}
-use Rattle.vms_pcpu_core.specs.Totals.{spent}
-use Rattle.vms_pcpu_core.proofs.Sizes.{spent_most}
+use Rattle.vms_history.specs.Common.{most_volume}
+use Rattle.vms_pcpu_core.specs.Common.{percpu, IsLegal, spent}
+use Rattle.vms_pcpu_core.proofs.Common.{spent_most}
 use Rattle.vms_pcpu_judge.proofs.volumes.spending.Goals as goal
 
 -- what was spent in the first events of a legal history

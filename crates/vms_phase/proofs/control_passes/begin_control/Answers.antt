@@ -1,6 +1,6 @@
 -- No control pass lives where the control lane is apart from the lanes begun.
-use Rattle.vms_file_order.specs.Tables.{event_passes, page_passes, pcpu_passes}
-use Rattle.vms_text.specs.declared.acts.Lane.TheVariants.{Control}
+use Rattle.vms_file_order.specs.Common.{event_passes, page_passes, pcpu_passes}
+use Rattle.vms_world.specs.Common.{Control}
 use Rattle.vms_phase.proofs.BegunLanes.{free-lane}
 use Rattle.vms_phase.proofs.control_passes.begin_control.Goals as goal
 

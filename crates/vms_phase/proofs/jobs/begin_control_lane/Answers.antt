@@ -1,14 +1,11 @@
 -- The control lane's passes may begin, and its job stands next.
 use Rattle.std.proofs.Common.{◌<◌, ◌≤◌, List, length, ap, sym, subst, arith, ◌∷◌, [], ◌++◌}
-use Rattle.vms_script.specs.PhaseScripts.{IsLaneScript, lane_items}
-use Rattle.vms_script.proofs.LaneItems.{IsLaneScript-of}
-use Rattle.vms_tables.specs.Passes.{mains_of}
-use Rattle.vms_text.specs.declared.acts.Lane.{Lane}
-use Rattle.vms_text.specs.declared.acts.Lane.TheVariants.{Control}
-use Rattle.vms_world.specs.Lanes.{lanes_below, lanes_of}
+use Rattle.vms_world.specs.Common.{IsLaneScript, lane_items, Lane, Control, lanes_below, lanes_of}
+use Rattle.vms_script.proofs.Common.{IsLaneScript-of}
+use Rattle.vms_tables.specs.Common.{mains_of}
 use Rattle.vms_lane.specs.declared.passes.LanePasses.TheVariants.{Control as OfControl}
 use Rattle.vms_phase.specs.declared.jobs.LaneJob.{LaneJob}
-use Rattle.vms_phase.specs.Jobs.{HaveBegunJobs}
+use Rattle.vms_phase.specs.Common.{HaveBegunJobs}
 use Rattle.vms_phase.proofs.ControlJobs.{HaveBegunJobs-control}
 use Rattle.vms_phase.proofs.JobLists.{control-apart, control-more, control-once, control-skip, no-lines, some-lines}
 use Rattle.vms_phase.proofs.jobs.begin_control_lane.Goals as goal

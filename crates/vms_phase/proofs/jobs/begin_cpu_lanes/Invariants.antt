@@ -1,7 +1,7 @@
 -- The lanes of the CPUs so far have begun.
-use Rattle.vms_tables.specs.Passes.{mains_of}
-use Rattle.vms_world.specs.Lanes.{lanes_below}
-use Rattle.vms_phase.specs.Jobs.{HaveBegunJobs}
+use Rattle.vms_tables.specs.Common.{mains_of}
+use Rattle.vms_world.specs.Common.{lanes_below}
+use Rattle.vms_phase.specs.Common.{HaveBegunJobs}
 use Rattle.vms_phase.proofs.jobs.begin_cpu_lanes.Given as goal
 
 abbrev pub invariant-loop-number : goal.invariant-loop-number

@@ -1,13 +1,10 @@
 -- The lane's passes may begin, and its job stands next.
 use Rattle.std.proofs.Common.{suc, ◌<◌, ◌≤◌, List, length, refl, sym, subst, [], ◌∷◌, ◌++◌}
-use Rattle.vms_script.specs.PhaseScripts.{lane_items}
-use Rattle.vms_tables.specs.Passes.{mains_of}
-use Rattle.vms_text.specs.declared.acts.Lane.{Lane}
-use Rattle.vms_text.specs.declared.acts.Lane.TheVariants.{Cpu}
-use Rattle.vms_world.specs.Lanes.{lanes_below}
+use Rattle.vms_world.specs.Common.{lane_items, Lane, Cpu, lanes_below}
+use Rattle.vms_tables.specs.Common.{mains_of}
 use Rattle.vms_lane.specs.declared.passes.LanePasses.TheVariants.{Cpu as OfCpu}
 use Rattle.vms_phase.specs.declared.jobs.LaneJob.{LaneJob}
-use Rattle.vms_phase.specs.Jobs.{HaveBegunJobs, IsJob}
+use Rattle.vms_phase.specs.Common.{HaveBegunJobs, IsJob}
 use Rattle.vms_phase.proofs.JobLists.{AreFresh-next, HaveBegunBelow-skip, HaveBegunJobs-next, MayBeginLane-next}
 use Rattle.vms_phase.proofs.JobLists.{lanes-more, no-lines, some-lines}
 use Rattle.vms_phase.proofs.ReadyJobs.{MayRunJob-fitting}

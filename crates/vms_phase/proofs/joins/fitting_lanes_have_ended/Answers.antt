@@ -1,15 +1,8 @@
 -- In each table the main pass's own events are those of a whole phase, whose lanes may have their passes.
 use Rattle.std.proofs.Common.{sym, subst, ◌∙◌}
-use Rattle.vms_core.specs.declared.steps.Facts.{Facts}
-use Rattle.vms_core.specs.Pages.{pages}
-use Rattle.vms_event_core.specs.declared.steps.EventFacts.{EventFacts}
-use Rattle.vms_event_core.specs.Events.{events}
-use Rattle.vms_pcpu_core.specs.declared.steps.PcpuFacts.{PcpuFacts}
-use Rattle.vms_pcpu_core.specs.Histories.{percpu}
-use Rattle.vms_file_order.specs.LanePasses.{MayOwnEach}
-use Rattle.vms_file_order.proofs.FittingOpenings.{owners-online}
-use Rattle.vms_file_order.proofs.LaneLists.{StandOnce-lanes}
-use Rattle.vms_world.specs.Lanes.{lanes_of}
+use Rattle.vms_world.specs.Common.{Facts, pages, EventFacts, events, PcpuFacts, percpu, lanes_of}
+use Rattle.vms_file_order.specs.Common.{MayOwnEach}
+use Rattle.vms_file_order.proofs.Common.{owners-online, StandOnce-lanes}
 use Rattle.vms_phase.proofs.JobLists.{counters-told, events-told, pages-told}
 use Rattle.vms_phase.proofs.joins.fitting_lanes_have_ended.Goals as goal
 

@@ -1,12 +1,12 @@
 -- Each lane in turn ends next, and stands next among those that have ended.
 use Rattle.std.proofs.Common.{List, length, sym, ap, subst, arith}
 use Rattle.std.specs.Vec.Iter.{into_iter_items}
-use Rattle.vms_tables.specs.Passes.{mains_of}
-use Rattle.vms_world.specs.Lanes.{lanes_of}
-use Rattle.vms_lane.specs.LanePasses.{passes_in}
+use Rattle.vms_tables.specs.Common.{mains_of}
+use Rattle.vms_world.specs.Common.{lanes_of}
+use Rattle.vms_lane.specs.Common.{passes_in}
 use Rattle.vms_phase.specs.declared.jobs.LaneDone.{LaneDone}
 use Rattle.vms_phase.specs.declared.lane_joins.JoinedLane.{JoinedLane}
-use Rattle.vms_phase.specs.JoinedLanes.{HaveJoinedLanes}
+use Rattle.vms_phase.specs.Common.{HaveJoinedLanes}
 use Rattle.vms_phase.proofs.JoinedLanes.{HaveJoinedLanes-next, ends-next, have-next, next-below, next-number}
 use Rattle.vms_phase.proofs.lane_joins.join_lanes.Goals as goal
 

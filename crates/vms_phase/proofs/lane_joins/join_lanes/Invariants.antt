@@ -1,9 +1,9 @@
 -- The lanes so far have ended, and the results of the others are left.
 use Rattle.std.proofs.Common.{◌≡◌, length}
 use Rattle.std.specs.Vec.Iter.{into_iter_items, into_iter_len}
-use Rattle.vms_tables.specs.Passes.{mains_of}
-use Rattle.vms_world.specs.Lanes.{lanes_of}
-use Rattle.vms_phase.specs.JoinedLanes.{HaveJoinedLanes}
+use Rattle.vms_tables.specs.Common.{mains_of}
+use Rattle.vms_world.specs.Common.{lanes_of}
+use Rattle.vms_phase.specs.Common.{HaveJoinedLanes}
 use Rattle.vms_phase.proofs.lane_joins.join_lanes.Given as goal
 
 abbrev pub invariant-loop-result : goal.invariant-loop-result

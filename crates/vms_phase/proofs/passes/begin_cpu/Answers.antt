@@ -1,9 +1,8 @@
 -- A CPU whose lane is apart from those begun is free and has spent nothing, so its volumes cover what it spent.
 use Rattle.std.proofs.Common.{◌≡◌, ℕ, ◌*◌, ◌<◌, length, get_or, sym, ap, subst, ◌∙◌}
-use Rattle.vms_file_order.specs.Tables.{event_passes, page_passes, pcpu_passes}
-use Rattle.vms_tables.specs.Passes.{mains_of}
-use Rattle.vms_text.specs.declared.acts.Lane.TheVariants.{Cpu}
-use Rattle.vms_world.specs.Worlds.{volume_in}
+use Rattle.vms_file_order.specs.Common.{event_passes, page_passes, pcpu_passes}
+use Rattle.vms_tables.specs.Common.{mains_of}
+use Rattle.vms_world.specs.Common.{Cpu, volume_in}
 use Rattle.vms_phase.proofs.BegunLanes.{free-lane}
 use Rattle.vms_phase.proofs.FirstVolumes.{HaveVolumesOf-read, counter-volume, event-volume, page-volume, row-within}
 use Rattle.vms_phase.proofs.passes.begin_cpu.Goals as goal

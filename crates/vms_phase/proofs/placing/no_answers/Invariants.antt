@@ -1,7 +1,7 @@
 -- No place so far has an answer.
 use Rattle.std.proofs.Common.{◌≡◌, [], length}
-use Rattle.vms_merge.specs.Told.{told_by}
-use Rattle.vms_text.specs.declared.acts.Lane.{Lane}
+use Rattle.vms_answers.specs.Common.{told_by}
+use Rattle.vms_world.specs.Common.{Lane}
 use Rattle.vms_phase.proofs.placing.no_answers.Given as goal
 
 abbrev pub invariant-loop : goal.invariant-loop

@@ -1,6 +1,6 @@
 -- No lane is left, so all have ended.
-use Rattle.vms_file_order.proofs.LaneLists.{StandOnce-lanes}
-use Rattle.vms_world.specs.Lanes.{lanes_of}
+use Rattle.vms_file_order.proofs.Common.{StandOnce-lanes}
+use Rattle.vms_world.specs.Common.{lanes_of}
 use Rattle.vms_phase.proofs.JoinedPhases.{AreMadeByLanes-joined, AreTold-own, all-joined, lanes-joined}
 use Rattle.vms_phase.proofs.runs.joined_lanes_are_made.Goals as goal
 

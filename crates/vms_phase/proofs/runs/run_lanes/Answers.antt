@@ -1,6 +1,6 @@
 -- All lanes have begun, none has ended, and each result is of its lane.
-use Rattle.vms_tables.specs.Passes.{mains_of}
-use Rattle.vms_world.specs.Lanes.{lanes_of}
+use Rattle.vms_tables.specs.Common.{mains_of}
+use Rattle.vms_world.specs.Common.{lanes_of}
 use Rattle.vms_phase.proofs.JoinedLanes.{HaveJoinedLanes-none, HaveRunLanes-jobs}
 use Rattle.vms_phase.proofs.runs.run_lanes.Goals as goal
 

@@ -1,10 +1,7 @@
 -- What was made by the lanes is a phase of the lines, which answers what the lanes were told.
 use Rattle.std.proofs.lemmas.List.Elements.{All-weaker}
-use Rattle.vms_line.specs.Laws.{IsLaneOf, IsLineOf}
-use Rattle.vms_script.specs.Totals.{line_of}
-use Rattle.vms_text.specs.declared.acts.Item.{Item}
-use Rattle.vms_phase.specs.JoinedLanes.{told_of}
-use Rattle.vms_phase.specs.SideBySide.{histories_of}
+use Rattle.vms_world.specs.Common.{IsLaneOf, IsLineOf, line_of, Item}
+use Rattle.vms_phase.specs.Common.{told_of, histories_of}
 use Rattle.vms_phase.proofs.side_by_side.make_side_by_side.Goals as goal
 
 pub returns-clause-phase : goal.returns-clause-phase

@@ -1,8 +1,8 @@
 -- Lane by lane, and at the end by the laws of passes.
 use Rattle.std.proofs.Common.{ap, ◌∙◌}
 use Rattle.std.proofs.Math.Seq.{take-length}
-use Rattle.vms_history.specs.Events.{after}
-use Rattle.vms_file_order.specs.LanePasses.{ends_from, opening_of}
+use Rattle.vms_world.specs.Common.{after}
+use Rattle.vms_file_order.specs.Common.{ends_from, opening_of}
 use Rattle.vms_phase.proofs.EndedLanes.{ended-none, lanes-ended, whole-now, whole-still}
 use Rattle.vms_phase.proofs.turns.lanes_end_in_turn.Goals as goal
 

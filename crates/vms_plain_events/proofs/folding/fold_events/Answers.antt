@@ -1,6 +1,6 @@
 -- An event more.
 use Rattle.std.proofs.Common.{◌+◌, sym, subst, arith}
-use Rattle.vms_event_core.specs.Words.{IsEvent}
+use Rattle.vms_event_core.specs.Common.{IsEvent}
 use Rattle.vms_plain_events.proofs.MovedWords.{MovesBelow, MovesBelow-more}
 use Rattle.vms_plain_events.proofs.folding.fold_events.Goals as goal
 

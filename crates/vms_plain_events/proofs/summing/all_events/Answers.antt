@@ -1,7 +1,7 @@
 -- The loads that find what was summed.
 use Rattle.std.proofs.Common.{◌≡◌, arith}
-use Rattle.vms_base.specs.Cpus.{online_from}
-use Rattle.vms_event_core.specs.Calls.{sum_over}
+use Rattle.vms_history.specs.Common.{online_from}
+use Rattle.vms_event_core.specs.Common.{sum_over}
 use Rattle.vms_plain_events.proofs.OnlineWords.{IsAllEvents-alone, sum_over-end}
 use Rattle.vms_plain_events.proofs.summing.all_events.Goals as goal
 

@@ -1,6 +1,6 @@
 use Rattle.std.proofs.Common.{◌≡◌, ◌+◌, drop}
-use Rattle.vms_base.specs.Cpus.{online_from}
-use Rattle.vms_event_core.specs.Calls.{sum_over}
+use Rattle.vms_history.specs.Common.{online_from}
+use Rattle.vms_event_core.specs.Common.{sum_over}
 use Rattle.vms_plain_events.proofs.summing.all_events.Given as goal
 
 -- what is summed, and what is left to sum

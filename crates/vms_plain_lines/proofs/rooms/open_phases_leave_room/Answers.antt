@@ -1,33 +1,21 @@
 -- The laws of the three tables, at the states that stand.
 use Rattle.std.proofs.Common.{◌≡◌, ℕ, ◌^◌, ◌<◌, List, length, ap, sym, subst, ◌∙◌, arith}
 use Rattle.std.proofs.lemmas.List.{length-map}
-use Rattle.vms_base.specs.declared.ids.CpuId.{CpuId}
-use Rattle.vms_base.specs.declared.kinds.CpuState.{CpuState}
-use Rattle.vms_base.specs.Cpus.{HasOnline, is_present, online_from, state_at}
-use Rattle.vms_history.proofs.Owners.{owner_may_own}
-use Rattle.vms_core.specs.declared.states.State.{State}
-use Rattle.vms_core.specs.Cells.{cpu_at}
-use Rattle.vms_core.proofs.LiveOwners.{owned-online}
-use Rattle.vms_event_core.specs.declared.states.EventState.{EventState}
-use Rattle.vms_event_core.specs.Calls.{online_cpus, sum_over}
-use Rattle.vms_event_core.specs.Words.{word_at}
-use Rattle.vms_pcpu_core.specs.declared.states.PcpuState.{PcpuState}
-use Rattle.vms_pcpu_core.specs.Histories.{percpu}
-use Rattle.vms_pcpu_core.specs.States.{LockedState}
-use Rattle.vms_text.specs.declared.acts.Lane.TheVariants.{Cpu}
-use Rattle.vms_world.specs.Worlds.{event_facts, page_facts, page_volume, pcpu_facts}
-use Rattle.vms_file_order.specs.LanePasses.{pass_of}
-use Rattle.vms_file_order.specs.Tables.{page_passes, pcpu_passes}
-use Rattle.vms_file_order.proofs.Openings.{HasPass-opening}
-use Rattle.vms_plain_events.specs.PlainWords.{HasWords}
-use Rattle.vms_plain_pcpu.specs.Numbers.{HasLocals, HasRoomFor}
-use Rattle.vms_plain_lines.specs.PlainStates.{in_tables}
+use Rattle.vms_world.specs.Common.{CpuId, CpuState, HasOnline, is_present, online_from, state_at, State, cpu_at}
+use Rattle.vms_world.specs.Common.{EventState, online_cpus, sum_over, word_at, PcpuState, percpu, LockedState, Cpu}
+use Rattle.vms_world.specs.Common.{event_facts, page_facts, page_volume, pcpu_facts}
+use Rattle.vms_history.proofs.Common.{owner_may_own}
+use Rattle.vms_core.proofs.Common.{owned-online}
+use Rattle.vms_file_order.specs.Common.{pass_of, page_passes, pcpu_passes}
+use Rattle.vms_file_order.proofs.Common.{HasPass-opening}
+use Rattle.vms_plain_events.specs.Common.{HasWords}
+use Rattle.vms_plain_pcpu.specs.Common.{HasLocals, HasRoomFor}
+use Rattle.vms_plain_lines.specs.Common.{in_tables}
 use Rattle.vms_plain_lines.proofs.ControlLines.{counters_of-world}
 use Rattle.vms_plain_lines.proofs.ControlPass.{HasOnline-open}
 use Rattle.vms_plain_lines.proofs.CounterLines.{batches}
 use Rattle.vms_plain_lines.proofs.FoldedCpus.{dead-opening}
-use Rattle.vms_plain_lines.proofs.OnlineCpus.{online_from-history}
-use Rattle.vms_plain_lines.proofs.PageRoom.{HasRoom-open}
+use Rattle.vms_plain_lines.proofs.PageRoom.{IsSmallState-open}
 use Rattle.vms_plain_lines.proofs.rooms.open_phases_leave_room.Goals as goal
 
 pub returns : goal.returns
@@ -35,12 +23,11 @@ returns g c header w lanes items hs now of stands within =
     let facts = event_facts header w in
     let counters = pcpu_facts header w in
     let opened = stands.opened in
-    let online : online_from 0 now.pages.cpu ≡ online_cpus facts =
-    ap (λ (s : State). online_from 0 s.cpu) (sym opened.pages.state)
-    ∙ online_from-history (page_facts header w) hs.pages opened.pages.legal in
+    let online : online_from 0 now.opening ≡ online_cpus facts =
+    ap (λ (cs : List CpuState). online_from 0 cs) stands.opening in
     let numbers = ap (λ (s : LockedState). s.numbers) opened.counters.state in
     record {
-      pages = HasRoom-open c.settled_ends_may_begin.ensures.base (page_facts header w) lanes hs.pages now.pages
+      pages = IsSmallState-open c.settled_ends_may_begin.ensures.base (page_facts header w) lanes hs.pages now.pages
           opened.pages (page_volume header w) of.pages_within within.pages;
       owners = λ cpu among.
           let pass = HasPass-opening page_passes lanes hs.pages (Cpu cpu) opened.pages.main among in

@@ -1,19 +1,13 @@
 -- A zone that passes ends the test, and one that fails is passed over.
-use Rattle.std.proofs.Common.{◌≡◌, ℕ, ◌-◌, ◌<◌, Bool, List, length, get_or, Some, None}
-use Rattle.std.proofs.Common.{sym, ap, subst, ◌∙◌, arith}
+use Rattle.std.proofs.Common.{◌≡◌, ℕ, ◌-◌, ◌<◌, Bool, List, length, get_or, Some, None, sym, ap, subst, ◌∙◌, arith}
 use Rattle.std.specs.List.{find}
-use Rattle.vms_base.specs.declared.kinds.WaterMark.TheVariants.{High}
-use Rattle.vms_base.specs.declared.kinds.ZoneKind.TheVariants.{Dma}
-use Rattle.vms_base.specs.declared.kinds.ZoneName.{ZoneName}
-use Rattle.vms_calls.specs.Ratings.{node_number}
-use Rattle.vms_calls.specs.Turns as turns
-use Rattle.vms_calls.specs.Turns.{IsBalanceTest, zones_up_to}
-use Rattle.vms_calls.specs.Turns.Balance.{Yes}
-use Rattle.vms_plain_pages.specs.Alone.{MakesAlone}
-use Rattle.vms_plain_pages.specs.Balances.{balance_of}
-use Rattle.vms_plain_pages.specs.Orders.{zone_passes}
+use Rattle.vms_calls.specs.Common.{High, Dma, ZoneName, node_number, IsBalanceTest, zones_up_to}
+use Rattle.vms_calls.specs.declared.answers.OrderVerdict.{OrderVerdict}
+use Rattle.vms_calls.specs.declared.answers.Balance.{Balance}
+use Rattle.vms_calls.specs.declared.answers.Balance.TheVariants.{Yes}
+use Rattle.vms_plain_pages.specs.Common.{CallLeadsAlone, balance_of, zone_passes}
 use Rattle.vms_plain_pages.proofs.BalanceSteps.{balance-made}
-use Rattle.vms_plain_pages.proofs.ZonesUpTo.{find-fails, find-first, find-other, is_one-told, zones_below}
+use Rattle.vms_calls.proofs.Common.{find-fails, find-first, find-other, is_one-told, zones_below}
 use Rattle.vms_plain_pages.proofs.balances.balance_test.Goals as goal
 use Rattle.vms_plain_pages.proofs.balances.balance_test.Goals.{then-is_up_to+else-verdict, else-is_up_to}
 
@@ -33,7 +27,7 @@ loop-place-preserved c =
       | then-is_up_to+else-verdict w ↦
           find-fails shape most node test place c.loop-place.invariant
           (sym told ∙ sym c.is_up_to.ensures ∙ w.if-is_up_to.true)
-          (sym (ap (λ (verdict : turns.OrderVerdict). verdict.yes) w.order_test-verdict.ensures.answer)
+          (sym (ap (λ (verdict : OrderVerdict). verdict.yes) w.order_test-verdict.ensures.answer)
           ∙ w.if-verdict.false)
       | else-is_up_to w ↦
           find-other shape most node test place c.loop-place.invariant
@@ -60,14 +54,14 @@ returns-then-verdict-clause-answer c =
     subst (λ (m : ℕ). find test (zones_up_to shape most m) ≡ Some place) number
     (find-first shape most node test place (length shape.zones) within c.loop-place.invariant
     (sym told ∙ sym c.is_up_to.ensures ∙ c.if-is_up_to.true)
-    (sym (ap (λ (verdict : turns.OrderVerdict). verdict.yes) c.order_test-verdict.ensures.answer) ∙ c.if-verdict.true))
+    (sym (ap (λ (verdict : OrderVerdict). verdict.yes) c.order_test-verdict.ensures.answer) ∙ c.if-verdict.true))
     in
-    ap (λ (verdict : turns.OrderVerdict). Yes (record { number = place }) verdict) c.order_test-verdict.ensures.answer
+    ap (λ (verdict : OrderVerdict). Yes (record { number = place }) verdict) c.order_test-verdict.ensures.answer
     ∙ sym (ap (balance_of header most c.args.order s) found)
 
 pub returns-then-verdict-clause-made : goal.returns-then-verdict-clause-made
 returns-then-verdict-clause-made c = λ who.
-    subst (λ (answer : turns.Balance). MakesAlone who
+    subst (λ (answer : Balance). CallLeadsAlone who
     (λ steps. IsBalanceTest c.args.header.now c.args.node c.args.order c.args.most steps answer)
     c.args.pages.now c.args.pages.now)
     (sym (returns-then-verdict-clause-answer c))
@@ -98,7 +92,7 @@ returns-clause-answer c =
 
 pub returns-clause-made : goal.returns-clause-made
 returns-clause-made c = λ who.
-    subst (λ (answer : turns.Balance). MakesAlone who
+    subst (λ (answer : Balance). CallLeadsAlone who
     (λ steps. IsBalanceTest c.args.header.now c.args.node c.args.order c.args.most steps answer)
     c.args.pages.now c.args.pages.now)
     (sym (returns-clause-answer c))

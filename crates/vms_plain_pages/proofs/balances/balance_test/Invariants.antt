@@ -1,8 +1,8 @@
 use Rattle.std.proofs.Common.{◌≡◌, None}
 use Rattle.std.specs.List.{find}
-use Rattle.vms_base.specs.declared.kinds.WaterMark.TheVariants.{High}
-use Rattle.vms_plain_pages.specs.Orders.{zone_passes}
-use Rattle.vms_plain_pages.proofs.ZonesUpTo.{zones_below}
+use Rattle.vms_calls.specs.Common.{High}
+use Rattle.vms_plain_pages.specs.Common.{zone_passes}
+use Rattle.vms_calls.proofs.Common.{zones_below}
 use Rattle.vms_plain_pages.proofs.balances.balance_test.Given as goal
 
 -- no zone passed so far

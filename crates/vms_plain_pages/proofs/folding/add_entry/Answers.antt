@@ -1,7 +1,7 @@
 -- An addition of 0 changes nothing.
 use Rattle.std.proofs.Common.{sym, arith}
 use Rattle.std.proofs.lemmas.Int.{ints}
-use Rattle.vms_base.specs.Places.{item_of}
+use Rattle.vms_calls.specs.Common.{item_of}
 use Rattle.vms_plain_pages.proofs.TakenGroups.{set-nothing, with_value-nothing}
 use Rattle.vms_plain_pages.proofs.folding.add_entry.Goals as goal
 

@@ -1,8 +1,7 @@
 -- An item more, and all items at the end.
-use Rattle.std.proofs.Common.{◌≡◌, ℕ, ◌+◌, ◌<◌, pos, length, get_or, FitsSigned, w64, to_z, of_z, sym, subst}
-use Rattle.std.proofs.Common.{arith}
+use Rattle.std.proofs.Common.{◌≡◌, ℕ, ◌+◌, ◌<◌, pos, length, get_or, FitsSigned, w64, to_z, of_z, sym, subst, arith}
 use Rattle.std.proofs.lemmas.Int.{ints, to_z-of_z}
-use Rattle.vms_base.specs.Places.{IsItem, item_count}
+use Rattle.vms_calls.specs.Common.{IsItem, item_count}
 use Rattle.vms_plain_pages.proofs.AddedSums.{AddsBelow, AddsBelow-kept, AddsBelow-more, AddsSums-all}
 use Rattle.vms_plain_pages.proofs.folding.add_sums.Goals as goal
 use Rattle.vms_plain_pages.proofs.folding.add_sums.Goals.{then-sum-ne0, else-sum-ne0}

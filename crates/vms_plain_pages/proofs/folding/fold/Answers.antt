@@ -1,8 +1,8 @@
 -- A place more, and the whole fold at the end.
 use Rattle.std.proofs.Common.{◌≡◌, ℕ, ◌+◌, ◌*◌, ◌^◌, subst, arith}
-use Rattle.vms_base.specs.Places.{IsPlace, place_count}
-use Rattle.vms_base.proofs.Counts.{place_count-most}
-use Rattle.vms_plain_pages.proofs.FoldedCounters.{HasRoom-folded}
+use Rattle.vms_calls.specs.Common.{IsPlace, place_count}
+use Rattle.vms_base.proofs.Common.{place_count-most}
+use Rattle.vms_plain_pages.proofs.FoldedCounters.{IsSmallState-folded}
 use Rattle.vms_plain_pages.proofs.FoldedPlaces.{FoldsCpu-whole, FoldsPlaces, FoldsPlaces-more, FoldsPlaces-none}
 use Rattle.vms_plain_pages.proofs.FoldedPlaces.{fold-made}
 use Rattle.vms_plain_pages.proofs.SmallSums.{AreSums-more, AreSums-zeros, no_sums, sum_at-zeros}
@@ -16,7 +16,7 @@ loop-number-init c = (
 
 pub fold_place-requires-clause-room : goal.fold_place-requires-clause-room
 fold_place-requires-clause-room c =
-    HasRoom-folded c.args.layout.now c.args.cpu.number c.requires.cpu (2 ^ 61) 0
+    IsSmallState-folded c.args.layout.now c.args.cpu.number c.requires.cpu (2 ^ 61) 0
     (c.args.layout.now.positions * c.loop-number.number) c.args.pages.now c.loop-number.pages no_sums c.loop-number.sums
     c.requires.room c.loop-number.invariant.0.counters
 

@@ -1,5 +1,5 @@
 use Rattle.std.proofs.Common.{◌*◌}
-use Rattle.vms_plain_pages.specs.FoldParts.{AreSums}
+use Rattle.vms_plain_pages.specs.Common.{AreSums}
 use Rattle.vms_plain_pages.proofs.FoldedPlaces.{FoldsPlaces}
 use Rattle.vms_plain_pages.proofs.folding.fold.Given as goal
 

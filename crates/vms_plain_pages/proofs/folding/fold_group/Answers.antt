@@ -1,10 +1,9 @@
 -- An entry more, and the whole group at the end.
-use Rattle.std.proofs.Common.{◌≡◌, ℕ, ◌+◌, ◌*◌, ◌^◌, ◌<◌, pos, length, get_or, to_z, of_z, w64}
-use Rattle.std.proofs.Common.{FitsSigned, sym, ap, subst, ◌∙◌, arith, length-set}
+use Rattle.std.proofs.Common.{◌≡◌, ℕ, ◌+◌, ◌*◌, ◌^◌, ◌<◌, pos, length, get_or, to_z, of_z, w64, FitsSigned, sym, ap}
+use Rattle.std.proofs.Common.{subst, ◌∙◌, arith, length-set}
 use Rattle.std.proofs.lemmas.Int.{ints, to_z-of_z}
-use Rattle.vms_base.specs.Places.{IsCounter}
-use Rattle.vms_base.proofs.Counts.{IsCounter-member, group_count-most, item_of-lt}
-use Rattle.vms_core.specs.declared.states.State.{State}
+use Rattle.vms_calls.specs.Common.{IsCounter, State}
+use Rattle.vms_base.proofs.Common.{IsCounter-member, group_count-most, item_of-lt}
 use Rattle.vms_plain_pages.proofs.SmallSums.{AreSums-more}
 use Rattle.vms_plain_pages.proofs.FoldedPlaces.{item_count-most}
 use Rattle.vms_plain_pages.proofs.TakenGroups.{AddsEntries, AddsEntries-more, AreSums-entries, FoldsGroups-one}

@@ -1,8 +1,8 @@
 -- A group more, and all groups of the place at the end.
 use Rattle.std.proofs.Common.{ℕ, ◌+◌, ◌*◌, ◌/◌, ◌^◌, ◌≤◌, sym, subst, arith}
-use Rattle.vms_base.specs.Places.{IsGroup, counter_count}
-use Rattle.vms_base.proofs.Counts.{group_count-most, group_count-whole}
-use Rattle.vms_plain_pages.proofs.FoldedCounters.{HasRoom-folded}
+use Rattle.vms_calls.specs.Common.{IsGroup, counter_count}
+use Rattle.vms_base.proofs.Common.{group_count-most, group_count-whole}
+use Rattle.vms_plain_pages.proofs.FoldedCounters.{IsSmallState-folded}
 use Rattle.vms_plain_pages.proofs.FoldedGroups.{FoldsGroups-append, FoldsGroups-none}
 use Rattle.vms_plain_pages.proofs.FoldedPlaces.{group-within}
 use Rattle.vms_plain_pages.proofs.SmallSums.{AreSums-more}
@@ -26,7 +26,7 @@ overflow_add-first c =
 
 pub fold_group-requires-clause-room : goal.fold_group-requires-clause-room
 fold_group-requires-clause-room c =
-    HasRoom-folded c.args.layout.now c.args.cpu.number c.requires.cpu (2 ^ 61 + 125)
+    IsSmallState-folded c.args.layout.now c.args.cpu.number c.requires.cpu (2 ^ 61 + 125)
     (8 * (c.positions-each.result / 8 * c.args.place.number)) (8 * c.loop-n.n) c.args.pages.now c.loop-n.pages
     c.args.sums.now c.loop-n.sums c.requires.room c.loop-n.invariant.0.counters
 

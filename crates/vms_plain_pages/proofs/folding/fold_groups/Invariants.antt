@@ -1,5 +1,5 @@
 use Rattle.std.proofs.Common.{ℕ, ◌+◌, ◌*◌}
-use Rattle.vms_plain_pages.specs.FoldParts.{AreSums, FoldsGroups}
+use Rattle.vms_plain_pages.specs.Common.{AreSums, FoldsGroups}
 use Rattle.vms_plain_pages.proofs.folding.fold_groups.Given as goal
 
 -- the groups so far are taken, and the sums grow by little

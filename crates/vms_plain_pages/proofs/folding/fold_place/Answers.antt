@@ -2,8 +2,7 @@
 use Rattle.std.proofs.Common.{◌≡◌, ◌&&◌, Bool, false, nat_lt, length, sym, ap, ◌∙◌, arith}
 use Rattle.std.proofs.Math.Bool.{and-false}
 use Rattle.std.proofs.lemmas.Bool.Decides.{nat_tests}
-use Rattle.vms_base.specs.Places.{IsZone}
-use Rattle.vms_calls.specs.Folds.{acknowledges}
+use Rattle.vms_calls.specs.Common.{IsZone, acknowledges}
 use Rattle.vms_plain_pages.proofs.FoldedPlaces.{FoldsPlace-acknowledged, FoldsPlace-plain}
 use Rattle.vms_plain_pages.proofs.folding.fold_place.Goals as goal
 use Rattle.vms_plain_pages.proofs.folding.fold_place.Goals.{else-own-via-then-own+else-place-zones}

@@ -1,9 +1,10 @@
 -- An area with a block ends the search, and one without is passed over.
 use Rattle.std.proofs.Common.{◌≡◌, ℕ, ◌+◌, ◌-◌, Option, sym, ap, ◌∙◌, arith, drop}
 use Rattle.std.specs.Option.{option_or}
-use Rattle.vms_base.specs.Areas.{area_names, areas_named}
-use Rattle.vms_plain_pages.specs.Orders.{area_index, block_found}
-use Rattle.vms_plain_pages.proofs.AreaLists.{areas_from-later, block_found-next, block_found-none, block_found-some}
+use Rattle.vms_calls.specs.Common.{area_names, areas_named, area_index}
+use Rattle.vms_plain_pages.specs.Common.{block_found}
+use Rattle.vms_calc.proofs.Common.{areas_from-later}
+use Rattle.vms_plain_pages.proofs.FoundBlocks.{block_found-next, block_found-none, block_found-some}
 use Rattle.vms_plain_pages.proofs.orders.first_block.Goals as goal
 
 pub loop-number-init : goal.loop-number-init

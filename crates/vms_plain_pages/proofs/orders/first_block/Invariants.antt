@@ -1,6 +1,6 @@
 use Rattle.std.proofs.Common.{◌≡◌, ◌-◌, drop}
-use Rattle.vms_base.specs.Areas.{area_names, areas_from, areas_named, areas_of}
-use Rattle.vms_plain_pages.specs.Orders.{block_found}
+use Rattle.vms_calls.specs.Common.{area_names, areas_from, areas_named, areas_of}
+use Rattle.vms_plain_pages.specs.Common.{block_found}
 use Rattle.vms_plain_pages.proofs.orders.first_block.Given as goal
 
 -- the areas that are left have the first block

@@ -2,8 +2,7 @@
 use Rattle.std.proofs.Common.{◌≡◌, ◌<◌, length, subst, arith}
 use Rattle.std.specs.Prelude.{◌↔◌}
 use Rattle.std.proofs.lemmas.List.{get_or_default}
-use Rattle.vms_base.specs.declared.kinds.CpuState.{CpuState}
-use Rattle.vms_base.specs.declared.kinds.CpuState.TheVariants.{Online, Absent}
+use Rattle.vms_calls.specs.Common.{CpuState, Online, Absent}
 use Rattle.vms_plain_pages.proofs.OnlineMarks.{marks-more}
 use Rattle.vms_plain_pages.proofs.values.are_online.Goals as goal
 

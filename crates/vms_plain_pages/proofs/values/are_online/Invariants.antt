@@ -1,7 +1,6 @@
 use Rattle.std.proofs.Common.{◌≡◌, ◌<◌, ℕ}
 use Rattle.std.specs.Prelude.{◌↔◌}
-use Rattle.vms_base.specs.declared.kinds.CpuState.TheVariants.{Online}
-use Rattle.vms_base.specs.Cpus.{state_at}
+use Rattle.vms_calls.specs.Common.{Online, state_at}
 use Rattle.vms_plain_pages.proofs.values.are_online.Given as goal
 
 -- whether the CPUs so far are online

@@ -1,10 +1,7 @@
 -- Where all CPUs are online.
 use Rattle.std.proofs.Common.{◌≡◌, ℕ, ◌<◌, FitsSigned, w64, to_z-of_z, List, length, ap, subst, ◌∙◌, arith}
 use Rattle.std.proofs.lemmas.Int.{ints}
-use Rattle.vms_base.specs.declared.kinds.CpuState.{CpuState}
-use Rattle.vms_base.specs.declared.kinds.CpuState.TheVariants.{Online}
-use Rattle.vms_base.specs.Cpus.{state_at}
-use Rattle.vms_core.specs.declared.states.State.{State}
+use Rattle.vms_calls.specs.Common.{CpuState, Online, state_at, State}
 use Rattle.vms_plain_pages.proofs.SnapshotSteps.{online_diffs-all}
 use Rattle.vms_plain_pages.proofs.values.hidden.Goals as goal
 

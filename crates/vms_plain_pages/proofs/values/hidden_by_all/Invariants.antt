@@ -1,6 +1,5 @@
 use Rattle.std.proofs.Common.{◌≡◌, ◌*◌, ◌≤◌, unsigned_abs}
-use Rattle.vms_history.specs.Sums.{sum_below}
-use Rattle.vms_core.specs.Cells.{diff_at}
+use Rattle.vms_calls.specs.Common.{sum_below, diff_at}
 use Rattle.vms_plain_pages.proofs.values.hidden_by_all.Given as goal
 
 -- the differentials so far are added

@@ -1,6 +1,6 @@
 use Rattle.std.proofs.Common.{◌≡◌, ◌*◌, ◌≤◌, unsigned_abs}
-use Rattle.vms_history.specs.Sums.{sum_below}
-use Rattle.vms_plain_pages.specs.Values.{online_diff}
+use Rattle.vms_calls.specs.Common.{sum_below}
+use Rattle.vms_plain_pages.specs.Common.{online_diff}
 use Rattle.vms_plain_pages.proofs.values.hidden_by_online.Given as goal
 
 -- the differentials so far are added

@@ -1,7 +1,6 @@
 -- The load is the only step.
 use Rattle.std.proofs.Common.{[], ◌∷◌, refl, rules}
-use Rattle.vms_core.specs.declared.steps.Step.TheVariants.{LoadG}
-use Rattle.vms_core.specs.Cells.{value_at}
+use Rattle.vms_calls.specs.Common.{LoadG, value_at}
 use Rattle.vms_plain_pages.proofs.values.place_value.Goals as goal
 
 pub returns-clause-made : goal.returns-clause-made

@@ -1,11 +1,8 @@
 -- The steps of the snapshot, and what it answers.
 use Rattle.std.proofs.Common.{◌≡◌, ℕ, ◌+ℤ◌, FitsSigned, to_z, of_z, w64, sym, ap, subst, ◌∙◌, arith}
 use Rattle.std.proofs.lemmas.Int.{ints, to_z-of_z}
-use Rattle.vms_history.specs.Sums.{sum_below}
-use Rattle.vms_core.specs.Cells.{value_at}
-use Rattle.vms_calls.specs.Looks.{IsSnapshot, at_least_zero}
-use Rattle.vms_plain_pages.specs.Alone.{MakesAlone}
-use Rattle.vms_plain_pages.specs.Values.{online_diff}
+use Rattle.vms_calls.specs.Common.{sum_below, value_at, IsSnapshot, at_least_zero}
+use Rattle.vms_plain_pages.specs.Common.{CallLeadsAlone, online_diff}
 use Rattle.vms_plain_pages.proofs.SnapshotSteps.{snapshot-made}
 use Rattle.vms_plain_pages.proofs.values.snapshot.Goals as goal
 
@@ -29,7 +26,7 @@ returns-clause-answer c =
 
 pub returns-clause-made : goal.returns-clause-made
 returns-clause-made c = λ who.
-    subst (λ (answer : ℕ). MakesAlone who (λ steps. IsSnapshot c.args.layout.now c.args.counter steps answer)
+    subst (λ (answer : ℕ). CallLeadsAlone who (λ steps. IsSnapshot c.args.layout.now c.args.counter steps answer)
     c.args.pages.now c.args.pages.now)
     (sym (returns-clause-answer c))
     (snapshot-made c.args.layout.now c.positions.ensures.is_layout c.args.pages.now c.requires.room c.args.counter

@@ -1,7 +1,6 @@
 -- The load is the only step.
 use Rattle.std.proofs.Common.{[], ◌∷◌, refl, rules}
-use Rattle.vms_core.specs.declared.steps.Step.TheVariants.{LoadS}
-use Rattle.vms_core.specs.Cells.{system_at}
+use Rattle.vms_calls.specs.Common.{LoadS, system_at}
 use Rattle.vms_plain_pages.proofs.values.system_value.Goals as goal
 
 pub returns-clause-made : goal.returns-clause-made

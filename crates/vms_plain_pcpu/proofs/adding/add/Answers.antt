@@ -2,8 +2,8 @@
 use Rattle.std.proofs.Common.{◌≡◌, ◌<◌, ◌≤◌, ◌+ℤ◌, unsigned_abs, ℤ, ap, sym, subst, ◌∙◌, arith}
 use Rattle.std.proofs.lemmas.Int.{ints}
 use Rattle.vms_pcpu_core.specs.declared.states.PcpuState.{PcpuState}
-use Rattle.vms_pcpu_core.specs.States.{batch_at, count_at, local_at}
-use Rattle.vms_plain_pcpu.specs.Numbers.{with_local_added, with_local_moved}
+use Rattle.vms_pcpu_core.specs.Common.{batch_at, count_at, local_at}
+use Rattle.vms_plain_pcpu.specs.Common.{with_local_added, with_local_moved}
 use Rattle.vms_plain_pcpu.proofs.AddSteps.{IsAdd-leads, with_added-below, with_added-reached, with_added-total}
 use Rattle.vms_plain_pcpu.proofs.SignedWords.{same_word}
 use Rattle.vms_plain_pcpu.proofs.adding.add.Goals as goal

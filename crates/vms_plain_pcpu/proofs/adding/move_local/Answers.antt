@@ -2,10 +2,10 @@
 use Rattle.std.proofs.Common.{◌≡◌, ℕ, List, ℤ, pos, ◌+ℤ◌, ap, ◌∙◌, refl, arith}
 use Rattle.std.proofs.Math.ListN.{set}
 use Rattle.std.proofs.lemmas.Int.{ints}
-use Rattle.vms_base.specs.Places.{cell}
+use Rattle.vms_history.specs.Common.{cell}
 use Rattle.vms_pcpu_core.specs.declared.states.PcpuState.{PcpuState}
-use Rattle.vms_pcpu_core.specs.States.{count_at, counters_of, local_at}
-use Rattle.vms_plain_pcpu.specs.Numbers.{with_local_moved}
+use Rattle.vms_pcpu_core.specs.Common.{count_at, counters_of, local_at}
+use Rattle.vms_plain_pcpu.specs.Common.{with_local_moved}
 use Rattle.vms_plain_pcpu.proofs.adding.move_local.Goals as goal
 
 same_numbers : (s : PcpuState) (c j : ℕ) (amount : ℤ) (count local : List ℤ)

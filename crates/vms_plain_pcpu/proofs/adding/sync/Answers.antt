@@ -3,9 +3,8 @@ use Rattle.std.proofs.Common.{◌≡◌, List, pos, ◌+ℤ◌, sym, subst, arit
 use Rattle.std.proofs.lemmas.Int.{ints}
 use Rattle.vms_pcpu_core.specs.declared.states.PcpuState.{PcpuState}
 use Rattle.vms_pcpu_core.specs.declared.steps.PcpuStep.{PcpuStep}
-use Rattle.vms_pcpu_core.specs.Calls.{IsSync}
-use Rattle.vms_pcpu_core.specs.States.{count_at, local_at}
-use Rattle.vms_plain_pcpu.specs.FreeLocks.{LeadsAlone, under_free_locks}
+use Rattle.vms_pcpu_core.specs.Common.{IsSync, count_at, local_at}
+use Rattle.vms_plain_pcpu.specs.Common.{LeadsAlone, under_free_locks}
 use Rattle.vms_plain_pcpu.proofs.AddSteps.{IsSync-alone, with_local_moved-total}
 use Rattle.vms_plain_pcpu.proofs.adding.sync.Goals as goal
 

@@ -2,13 +2,10 @@
 use Rattle.std.proofs.Common.{◌≡◌, ◌<◌, ◌≤◌, true, false, ℤ, ◌-ℤ◌, unsigned_abs, w8, w64, to_z, of_z, List, sym, ap}
 use Rattle.std.proofs.Common.{subst, ◌∙◌, arith}
 use Rattle.std.proofs.lemmas.Int.{ints}
-use Rattle.vms_base.specs.Cpus.{present_from}
+use Rattle.vms_history.specs.Common.{present_from}
 use Rattle.vms_pcpu_core.specs.declared.steps.PcpuStep.{PcpuStep}
-use Rattle.vms_pcpu_core.specs.Calls.{IsCompare, sign_of}
-use Rattle.vms_pcpu_core.specs.States.{count_at}
-use Rattle.vms_plain_pcpu.specs.Answers.{ComparesTotal}
-use Rattle.vms_plain_pcpu.specs.FreeLocks.{LeadsAlone, under_free_locks}
-use Rattle.vms_plain_pcpu.specs.Numbers.{total_in, unknown_in}
+use Rattle.vms_pcpu_core.specs.Common.{IsCompare, sign_of, count_at}
+use Rattle.vms_plain_pcpu.specs.Common.{ComparesTotal, LeadsAlone, under_free_locks, total_in, unknown_in}
 use Rattle.vms_plain_pcpu.proofs.Comparisons.{ComparesTotal-far, ComparesTotal-near, same_sign}
 use Rattle.vms_plain_pcpu.proofs.SignedWords.{same_difference}
 use Rattle.vms_plain_pcpu.proofs.SumSteps.{IsCompare-far, IsCompare-near}

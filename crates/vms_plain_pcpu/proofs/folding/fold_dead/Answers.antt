@@ -1,6 +1,6 @@
 -- A counter more.
 use Rattle.std.proofs.Common.{◌+◌, ◌<◌, sym, subst, arith}
-use Rattle.vms_pcpu_core.specs.States.{counters_of}
+use Rattle.vms_pcpu_core.specs.Common.{counters_of}
 use Rattle.vms_plain_pcpu.proofs.MovedLocals.{MovesBelow, MovesBelow-more, MovesBelow-none, HasRoomFor-folded}
 use Rattle.vms_plain_pcpu.proofs.folding.fold_dead.Goals as goal
 

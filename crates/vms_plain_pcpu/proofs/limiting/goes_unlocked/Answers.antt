@@ -3,9 +3,8 @@ use Rattle.std.proofs.Common.{◌≡◌, ◌≤◌, ◌&&◌, Bool, true, ℤ, p
 use Rattle.std.proofs.Common.{sym, ap, ◌∙◌, arith}
 use Rattle.std.proofs.lemmas.Bool.Decides.{nat_tests}
 use Rattle.std.proofs.lemmas.Int.{ints}
-use Rattle.vms_pcpu_core.specs.Calls.{room}
-use Rattle.vms_pcpu_core.specs.States.{batch_at, count_at, local_at}
-use Rattle.vms_plain_pcpu.specs.Numbers.{unknown_in}
+use Rattle.vms_pcpu_core.specs.Common.{room, batch_at, count_at, local_at}
+use Rattle.vms_plain_pcpu.specs.Common.{unknown_in}
 use Rattle.vms_plain_pcpu.proofs.LimitSteps.{room-words}
 use Rattle.vms_plain_pcpu.proofs.SignedWords.{same_word}
 use Rattle.vms_plain_pcpu.proofs.limiting.goes_unlocked.Goals as goal

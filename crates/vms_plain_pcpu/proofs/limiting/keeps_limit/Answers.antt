@@ -1,9 +1,8 @@
 -- By the shared part alone, and by the sum.
 use Rattle.std.proofs.Common.{◌≡◌, ◌≤ℤ◌, ◌<ℤ◌, ℤ, pos, ◌+ℤ◌, int_le, sym, ap, ◌∙◌, arith}
 use Rattle.std.proofs.lemmas.Int.{ints}
-use Rattle.vms_pcpu_core.specs.Calls.{room}
-use Rattle.vms_pcpu_core.specs.States.{count_at}
-use Rattle.vms_plain_pcpu.specs.Numbers.{total_in, unknown_in}
+use Rattle.vms_pcpu_core.specs.Common.{room, count_at}
+use Rattle.vms_plain_pcpu.specs.Common.{total_in, unknown_in}
 use Rattle.vms_plain_pcpu.proofs.LimitSteps.{keeps-beyond, keeps-inside, room-words}
 use Rattle.vms_plain_pcpu.proofs.SignedWords.{same_sum, same_word}
 use Rattle.vms_plain_pcpu.proofs.limiting.keeps_limit.Goals as goal

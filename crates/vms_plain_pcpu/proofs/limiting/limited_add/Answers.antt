@@ -1,7 +1,7 @@
 -- Nothing to add, without the lock, and under it.
 use Rattle.std.proofs.Common.{◌≡◌, Bool, true, false, ℤ, sym, ap, subst, ◌∙◌, arith, if◌then◌else◌}
 use Rattle.vms_pcpu_core.specs.declared.states.PcpuState.{PcpuState}
-use Rattle.vms_plain_pcpu.specs.Numbers.{goes_unlocked, with_local_added, with_local_moved}
+use Rattle.vms_plain_pcpu.specs.Common.{goes_unlocked, with_local_added, with_local_moved}
 use Rattle.vms_plain_pcpu.proofs.LimitSteps.{AnswersByLimit-by_room, MakesLimited, MakesLimited-nothing}
 use Rattle.vms_plain_pcpu.proofs.LimitSteps.{MakesLimited-settled, MakesLimited-unlocked, goes_unlocked-words}
 use Rattle.vms_plain_pcpu.proofs.LimitSteps.{keeps-unlocked, keeps-words, unlocked-far, unlocked-stays}

@@ -1,8 +1,7 @@
 -- A CPU more.
 use Rattle.std.proofs.Common.{◌≡◌, true, false, get_or, arith, ◌∙◌, sym}
 use Rattle.std.proofs.lemmas.Int.{ints}
-use Rattle.vms_base.specs.declared.kinds.CpuState.TheVariants.{Online}
-use Rattle.vms_base.specs.Cpus.{is_present}
+use Rattle.vms_history.specs.Common.{Online, is_present}
 use Rattle.vms_plain_pcpu.proofs.LocalSums.{locals_over-absent, locals_over-present}
 use Rattle.vms_plain_pcpu.proofs.summing.locals.Goals as goal
 use Rattle.vms_plain_pcpu.proofs.summing.locals.Goals.{then-is_present, else-is_present}

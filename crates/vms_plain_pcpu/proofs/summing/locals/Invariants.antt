@@ -1,7 +1,7 @@
 use Rattle.std.proofs.Common.{◌≡◌, ◌+ℤ◌, ◌*◌, ◌≤◌, drop, unsigned_abs}
-use Rattle.vms_base.specs.Cpus.{present_from}
-use Rattle.vms_pcpu_core.specs.Bases.{most_batch}
-use Rattle.vms_plain_pcpu.specs.Numbers.{locals_over}
+use Rattle.vms_history.specs.Common.{present_from}
+use Rattle.vms_pcpu_core.specs.Common.{most_batch}
+use Rattle.vms_plain_pcpu.specs.Common.{locals_over}
 use Rattle.vms_plain_pcpu.proofs.summing.locals.Given as goal
 
 -- what is summed, and what is left to sum

@@ -1,9 +1,9 @@
 -- The steps that find what was summed.
 use Rattle.std.proofs.Common.{◌≡◌, ◌+ℤ◌, ◌∙◌, arith}
 use Rattle.std.proofs.lemmas.Int.{ints}
-use Rattle.vms_base.specs.Cpus.{present_from}
-use Rattle.vms_pcpu_core.specs.States.{count_at}
-use Rattle.vms_plain_pcpu.specs.Numbers.{locals_over, total_in}
+use Rattle.vms_history.specs.Common.{present_from}
+use Rattle.vms_pcpu_core.specs.Common.{count_at}
+use Rattle.vms_plain_pcpu.specs.Common.{locals_over, total_in}
 use Rattle.vms_plain_pcpu.proofs.SignedWords.{same_sum}
 use Rattle.vms_plain_pcpu.proofs.SumSteps.{IsSum-alone}
 use Rattle.vms_plain_pcpu.proofs.summing.sum.Goals as goal

@@ -1,9 +1,7 @@
 -- The phase is one by the kernel's rules.
 use Rattle.std.proofs.Common.{◌≡◌, ap, refl, subst, sym}
-use Rattle.vms_base.specs.Thresholds.{normal_threshold_of, pressure_threshold_of}
-use Rattle.vms_calc.specs.Rules.{RulePair}
-use Rattle.vms_replay.specs.KernelRules.{GoesBy}
-use Rattle.vms_replay.specs.Printing.{Prints}
+use Rattle.vms_world.specs.Common.{normal_threshold_of, pressure_threshold_of, RulePair}
+use Rattle.vms_replay.specs.Common.{GoesBy, Prints}
 use Rattle.vms_replay.proofs.OrderedPhases.{IsReplayed-kernel}
 use Rattle.vms_replay.proofs.file_order.replay_by.Goals as goal
 

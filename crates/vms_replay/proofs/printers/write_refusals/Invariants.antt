@@ -1,6 +1,6 @@
 use Rattle.std.proofs.Common.{◌≡◌, ◌++◌, [], drop}
-use Rattle.vms_base.specs.declared.headers.Header.{Header}
-use Rattle.vms_replay.specs.Waits.{written}
+use Rattle.vms_world.specs.Common.{Header}
+use Rattle.vms_replay.specs.Common.{written}
 use Rattle.vms_replay.proofs.printers.write_refusals.Given as goal
 
 abbrev pub invariant-loop-index : goal.invariant-loop-index

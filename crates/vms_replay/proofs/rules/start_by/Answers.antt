@@ -1,8 +1,7 @@
 -- The thresholds are the kernel's.
 use Rattle.std.proofs.Common.{◌≡◌, ap, subst, sym}
-use Rattle.vms_base.specs.Thresholds.{normal_threshold_of}
-use Rattle.vms_calc.specs.Rules.{RulePair}
-use Rattle.vms_replay.specs.KernelRules.{GoesBy}
+use Rattle.vms_world.specs.Common.{normal_threshold_of, RulePair}
+use Rattle.vms_replay.specs.Common.{GoesBy}
 use Rattle.vms_replay.proofs.KernelThresholds.{started-normal}
 use Rattle.vms_replay.proofs.rules.start_by.Goals as goal
 

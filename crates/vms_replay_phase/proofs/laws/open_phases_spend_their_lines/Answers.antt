@@ -1,5 +1,5 @@
 -- The spending of an open phase, by the laws of calls.
-use Rattle.vms_file_order.proofs.SpentLines.{SpendTheirLines-opened}
+use Rattle.vms_file_order.proofs.Common.{SpendTheirLines-opened}
 use Rattle.vms_replay_phase.proofs.laws.open_phases_spend_their_lines.Goals as goal
 
 pub returns : goal.returns

@@ -1,17 +1,14 @@
 -- Each act of the control lane, by its call.
-use Rattle.std.proofs.Common.{arith, ◌+◌, subst, None, Some}
-use Rattle.vms_answers.specs.Answers.Answer.{Balanced}
-use Rattle.vms_plain_pages.specs.Balances.{balance_told}
-use Rattle.vms_text.specs.declared.acts.Act.{Act}
-use Rattle.vms_text.specs.declared.acts.Act.TheVariants.{Dead, Kswapd, Normal, Pressure}
-use Rattle.vms_text.specs.declared.acts.Lane.TheVariants.{Control}
-use Rattle.vms_replay_phase.specs.Lines.{MayMake}
-use Rattle.vms_replay_phase.proofs.MadeLines.{MakesLine-set, SetAtMost-less, SetsAtMost-more, control-rest}
+use Rattle.std.proofs.Common.{◌+◌, subst, None, Some}
+use Rattle.vms_answers.specs.declared.answers.Answer.TheVariants.{Balanced}
+use Rattle.vms_world.specs.Common.{Act, Kswapd, Normal, Pressure, Control}
+use Rattle.vms_replay_phase.specs.Common.{MayMakeLine}
+use Rattle.vms_replay_phase.proofs.MadeLines.{MakesLine-set, SetAtMost-less, SetsEachAtMost-more, control-rest}
 use Rattle.vms_replay_phase.proofs.lines.make_of_control.Goals as goal
 
 pub set_pressure-requires : goal.set_pressure-requires
 set_pressure-requires g c =
-    let may = subst (λ (a : Act). MayMake c.args.header.now Control a c.args.tables.now) c.in-Pressure.is
+    let may = subst (λ (a : Act). MayMakeLine c.args.header.now Control a c.args.tables.now) c.in-Pressure.is
     c.requires.may in
     record {
       header = c.requires.header;
@@ -29,12 +26,12 @@ returns-in-Pressure g c =
     (Pressure c.in-Pressure.node)
     (λ item lane act w lanes items hs stands among may. c.set_pressure.ensures.goes_on item lane act w lanes items
     hs stands among tt)
-    (SetsAtMost-more c.args.header.now.layout c.args.tables.now.pages c.set_pressure.new.self.pages
+    (SetsEachAtMost-more c.args.header.now.layout c.args.tables.now.pages c.set_pressure.new.self.pages
     c.set_pressure.ensures.sets) c.args.act c.in-Pressure.is
 
 pub set_normal-requires : goal.set_normal-requires
 set_normal-requires g c =
-    let may = subst (λ (a : Act). MayMake c.args.header.now Control a c.args.tables.now) c.in-Normal.is
+    let may = subst (λ (a : Act). MayMakeLine c.args.header.now Control a c.args.tables.now) c.in-Normal.is
     c.requires.may in
     record {
       header = c.requires.header;
@@ -52,46 +49,12 @@ returns-in-Normal g c =
     (Normal c.in-Normal.node)
     (λ item lane act w lanes items hs stands among may. c.set_normal.ensures.goes_on item lane act w lanes items hs
     stands among tt)
-    (SetsAtMost-more c.args.header.now.layout c.args.tables.now.pages c.set_normal.new.self.pages
+    (SetsEachAtMost-more c.args.header.now.layout c.args.tables.now.pages c.set_normal.new.self.pages
     c.set_normal.ensures.sets) c.args.act c.in-Normal.is
-
-pub bury-requires : goal.bury-requires
-bury-requires g c =
-    let may = subst (λ (a : Act). MayMake c.args.header.now Control a c.args.tables.now) c.in-Dead.is
-    c.requires.may in
-    record {
-      header = c.requires.header;
-      numbers = may.room.pages;
-      full = may.full;
-      some_online = may.room.some_online;
-      room = SetAtMost-less c.args.header.now.layout c.args.tables.now.pages may.sets;
-      cpu = may.line.1.1;
-      dead = may.may;
-      was_dead = may.room.was_dead c.in-Dead.cpu.number may.may;
-      was_online = may.room.was_online;
-      opening = may.room.opening;
-      few = may.room.few;
-      events = may.room.events c.args.header.now.layout.cpus (omega arith);
-      words = may.room.words;
-      counters = λ j j_in. may.room.counters j (omega (arith, j_in, may.room.one_batch_each));
-      one_batch_each = may.room.one_batch_each;
-      few_counters = omega (arith, may.room.one_batch_each, c.requires.header.counters_most);
-      locals = may.room.locals (c.in-Dead.cpu.number + 1) (omega (arith, may.line.1.1));
-    }
-
-pub returns-in-Dead : goal.returns-in-Dead
-returns-in-Dead g c =
-    MakesLine-set c.args.header.now (g.P.Rule.answers c.args.rules.now.pressure)
-    (g.N.Rule.answers c.args.rules.now.normal) Control c.args.tables.now c.bury.new.self None
-    (Dead c.in-Dead.cpu)
-    (λ item lane act w lanes items hs stands among may. c.bury.ensures.goes_on item lane act w lanes items hs
-    stands among tt)
-    (SetsAtMost-more c.args.header.now.layout c.args.tables.now.pages c.bury.new.self.pages c.bury.ensures.sets)
-    c.args.act c.in-Dead.is
 
 pub turn-balance-requires : goal.turn-balance-requires
 turn-balance-requires g c =
-    let may = subst (λ (a : Act). MayMake c.args.header.now Control a c.args.tables.now) c.in-Kswapd.is
+    let may = subst (λ (a : Act). MayMakeLine c.args.header.now Control a c.args.tables.now) c.in-Kswapd.is
     c.requires.may in
     record {
       header = c.requires.header;
@@ -108,7 +71,7 @@ pub returns-in-Kswapd : goal.returns-in-Kswapd
 returns-in-Kswapd g c =
     MakesLine-set c.args.header.now (g.P.Rule.answers c.args.rules.now.pressure)
     (g.N.Rule.answers c.args.rules.now.normal) Control c.args.tables.now c.turn-balance.new.self (Some (Balanced
-    (balance_told c.turn-balance.result)))
+    c.turn-balance.result))
     (Kswapd c.in-Kswapd.node c.in-Kswapd.order c.in-Kswapd.most)
     (λ item lane act w lanes items hs stands among may. c.turn-balance.ensures.goes_on item lane act w lanes items
     hs stands among tt)
@@ -116,5 +79,5 @@ returns-in-Kswapd g c =
 
 pub make_of_every_lane-requires-clause-act : goal.make_of_every_lane-requires-clause-act
 make_of_every_lane-requires-clause-act g c =
-    control-rest c.args.header.now c.args.act c.requires.may.line.1 c.in_default.not-Pressure c.in_default.not-Normal
-    c.in_default.not-Dead c.in_default.not-Kswapd
+    control-rest c.args.header.now c.args.act c.requires.may.line.1 c.requires.no_events
+    c.in_default.not-Pressure c.in_default.not-Normal c.in_default.not-Kswapd

@@ -1,16 +1,14 @@
 -- Each act that every lane may make, by its call.
-use Rattle.std.proofs.Common.{length, subst, arith, None, Some}
-use Rattle.vms_answers.specs.Answers.Answer.{Events, Snapshot, System, Tested, Value}
-use Rattle.vms_plain_pages.specs.Verdicts.{verdict_told}
-use Rattle.vms_text.specs.declared.acts.Act.{Act}
-use Rattle.vms_text.specs.declared.acts.Act.TheVariants.{EvSum, Fold, Snap, Sys, Val, Water}
-use Rattle.vms_replay_phase.specs.Lines.{MayMake}
+use Rattle.std.proofs.Common.{subst, arith, None, Some}
+use Rattle.vms_answers.specs.declared.answers.Answer.TheVariants.{Snapshot, System, Tested, Value}
+use Rattle.vms_world.specs.Common.{Act, Fold, Snap, Sys, Val, Water}
+use Rattle.vms_replay_phase.specs.Common.{MayMakeLine}
 use Rattle.vms_replay_phase.proofs.MadeLines.{IsItem-known, MakesLine-spared, every_lane-none}
 use Rattle.vms_replay_phase.proofs.lines.make_of_every_lane.Goals as goal
 
 pub fold-requires : goal.fold-requires
 fold-requires g c =
-    let may = subst (λ (a : Act). MayMake c.args.header.now c.args.lane a c.args.tables.now) c.in-Fold.is
+    let may = subst (λ (a : Act). MayMakeLine c.args.header.now c.args.lane a c.args.tables.now) c.in-Fold.is
     c.requires.may in
     record { room = may.room.pages; cpu = may.line.1 }
 
@@ -25,7 +23,7 @@ returns-in-Fold g c =
 
 pub watermark_test-verdict-requires : goal.watermark_test-verdict-requires
 watermark_test-verdict-requires g c =
-    let may = subst (λ (a : Act). MayMake c.args.header.now c.args.lane a c.args.tables.now) c.in-Water.is
+    let may = subst (λ (a : Act). MayMakeLine c.args.header.now c.args.lane a c.args.tables.now) c.in-Water.is
     c.requires.may in
     record {
       header = c.requires.header;
@@ -38,7 +36,7 @@ pub returns-in-Water : goal.returns-in-Water
 returns-in-Water g c =
     MakesLine-spared c.args.header.now (g.P.Rule.answers c.args.rules.now.pressure)
     (g.N.Rule.answers c.args.rules.now.normal) c.args.lane c.args.tables.now c.args.tables.now (Some (Tested
-    (verdict_told c.watermark_test-verdict.result)))
+    c.watermark_test-verdict.result))
     (Water c.in-Water.zone c.in-Water.mark c.in-Water.most)
     (λ item lane act w lanes items hs stands among may. c.watermark_test-verdict.ensures.goes_on item act w lanes
     items hs stands among tt)
@@ -46,13 +44,13 @@ returns-in-Water g c =
 
 pub place_value-requires : goal.place_value-requires
 place_value-requires g c =
-    let may = subst (λ (a : Act). MayMake c.args.header.now c.args.lane a c.args.tables.now) c.in-Val.is
+    let may = subst (λ (a : Act). MayMakeLine c.args.header.now c.args.lane a c.args.tables.now) c.in-Val.is
     c.requires.may in
     omega (arith, may.room.pages.shaped.place, may.line.1.0)
 
 pub returns-in-Val : goal.returns-in-Val
 returns-in-Val g c =
-    let may = subst (λ (a : Act). MayMake c.args.header.now c.args.lane a c.args.tables.now) c.in-Val.is
+    let may = subst (λ (a : Act). MayMakeLine c.args.header.now c.args.lane a c.args.tables.now) c.in-Val.is
     c.requires.may in
     MakesLine-spared c.args.header.now (g.P.Rule.answers c.args.rules.now.pressure)
     (g.N.Rule.answers c.args.rules.now.normal) c.args.lane c.args.tables.now c.args.tables.now (Some (Value
@@ -64,7 +62,7 @@ returns-in-Val g c =
 
 pub snapshot-requires : goal.snapshot-requires
 snapshot-requires g c =
-    let may = subst (λ (a : Act). MayMake c.args.header.now c.args.lane a c.args.tables.now) c.in-Snap.is
+    let may = subst (λ (a : Act). MayMakeLine c.args.header.now c.args.lane a c.args.tables.now) c.in-Snap.is
     c.requires.may in
     record { room = may.room.pages; counter = may.line.1.0 }
 
@@ -80,7 +78,7 @@ returns-in-Snap g c =
 
 pub system_value-requires : goal.system_value-requires
 system_value-requires g c =
-    let may = subst (λ (a : Act). MayMake c.args.header.now c.args.lane a c.args.tables.now) c.in-Sys.is
+    let may = subst (λ (a : Act). MayMakeLine c.args.header.now c.args.lane a c.args.tables.now) c.in-Sys.is
     c.requires.may in
     omega (
       arith,
@@ -90,7 +88,7 @@ system_value-requires g c =
 
 pub returns-in-Sys : goal.returns-in-Sys
 returns-in-Sys g c =
-    let may = subst (λ (a : Act). MayMake c.args.header.now c.args.lane a c.args.tables.now) c.in-Sys.is
+    let may = subst (λ (a : Act). MayMakeLine c.args.header.now c.args.lane a c.args.tables.now) c.in-Sys.is
     c.requires.may in
     MakesLine-spared c.args.header.now (g.P.Rule.answers c.args.rules.now.pressure)
     (g.N.Rule.answers c.args.rules.now.normal) c.args.lane c.args.tables.now c.args.tables.now (Some (System
@@ -101,29 +99,8 @@ returns-in-Sys g c =
     among tt)
     tt c.args.act c.in-Sys.is
 
-pub all_events-requires : goal.all_events-requires
-all_events-requires g c =
-    let may = subst (λ (a : Act). MayMake c.args.header.now c.args.lane a c.args.tables.now) c.in-EvSum.is
-    c.requires.may in
-    record {
-      cpus = may.room.events (length c.args.tables.now.pages.cpu) (omega (arith, may.room.pages.shaped.cpu));
-      few = omega (arith, may.room.few, may.room.pages.shaped.cpu);
-      event = may.line.1;
-      room = omega (arith, may.room.sums c.in-EvSum.event.number may.line.1);
-    }
-
-pub returns-in-EvSum : goal.returns-in-EvSum
-returns-in-EvSum g c =
-    MakesLine-spared c.args.header.now (g.P.Rule.answers c.args.rules.now.pressure)
-    (g.N.Rule.answers c.args.rules.now.normal) c.args.lane c.args.tables.now c.args.tables.now (Some (Events
-    c.all_events.result))
-    (EvSum c.in-EvSum.event)
-    (λ item lane act w lanes items hs stands among may. c.all_events.ensures.goes_on c.args.header.now item act w
-    lanes items hs stands among tt)
-    tt c.args.act c.in-EvSum.is
-
 pub returns-in_default : goal.returns-in_default
 returns-in_default g c =
     absurd (every_lane-none c.args.act c.requires.act c.in_default.not-Fold c.in_default.not-Water
     c.in_default.not-Val
-    c.in_default.not-Snap c.in_default.not-Sys c.in_default.not-EvSum)
+    c.in_default.not-Snap c.in_default.not-Sys)

@@ -1,32 +1,24 @@
 -- A line that answers, and one that doesn't.
 use Rattle.std.proofs.Common.{◌≡◌, ℕ, List, [], ◌∷◌, ◌++◌, Option, Some, None, Ok, Err, append-nil, subst, sym}
-use Rattle.std.specs.Prelude.{option_map, Result, OnOk}
-use Rattle.vms_answers.specs.declared.answers.Answer as code
-use Rattle.vms_answers.specs.PhaseAnswers.{NumberedAnswer}
-use Rattle.vms_answers.specs.ToldAnswers.{answer_told}
-use Rattle.vms_base.specs.declared.failures.Memory.{Memory}
-use Rattle.vms_base.specs.declared.headers.Header.{Header}
-use Rattle.vms_base.specs.declared.kinds.ZoneSize.{ZoneSize}
-use Rattle.vms_text.specs.declared.acts.Item.{Item}
-use Rattle.vms_replay_phase.specs.OpenReplays.{AnswersLine, ReplayState, TakesLine}
+use Rattle.std.specs.Prelude.{Result, OnOk}
+use Rattle.vms_answers.specs.declared.answers.Answer.{Answer}
+use Rattle.vms_answers.specs.Common.{NumberedAnswer}
+use Rattle.vms_world.specs.Common.{Memory, Header, ZoneSize, Item}
+use Rattle.vms_replay_phase.specs.Common.{AnswersLine, ReplayState, ReplaysLine}
 use Rattle.vms_replay_phase.proofs.phases.make_next.Goals as goal
 
 module _ {A : Type 0} (header : Header) (pressure normal : ZoneSize → ℕ → ℕ → Type 0) (item : Item)
     (now next : ReplayState) (Takes : A → List NumberedAnswer → A → Type 0) (taker : A)
-    (found : Option code.Answer)
-    (line : TakesLine header pressure normal item (option_map answer_told found) now next) where
-  found-line : (o : Option code.Answer) → found ≡ o
-      → TakesLine header pressure normal item (option_map answer_told o) now next
-  found-line o is =
-      subst (λ (x : Option code.Answer). TakesLine header pressure normal item (option_map answer_told x) now next) is
-      line
+    (found : Option Answer) (line : ReplaysLine header pressure normal item found now next) where
+  found-line : (o : Option Answer) → found ≡ o → ReplaysLine header pressure normal item o now next
+  found-line o is = subst (λ (x : Option Answer). ReplaysLine header pressure normal item x now next) is line
 
-  answered : (answer : code.Answer) → found ≡ Some answer → (result : Result (Unit {0}) Memory) (taker' : A)
+  answered : (answer : Answer) → found ≡ Some answer → (result : Result (Unit {0}) Memory) (taker' : A)
       → OnOk result ((first : A) (before : List NumberedAnswer) → Takes first before taker
-      → Takes first (before ++ record { number = item.number; answer = answer_told answer } ∷ []) taker')
+      → Takes first (before ++ record { number = item.number; answer = answer } ∷ []) taker')
       → OnOk result (AnswersLine header pressure normal item now next Takes taker taker')
   answered answer is (Ok done) taker' takes =
-      record { answer = Some (answer_told answer); line = found-line (Some answer) is; takes = takes }
+      record { answer = Some answer; line = found-line (Some answer) is; takes = takes }
   answered answer is (Err error) taker' takes = tt
 
   silent : found ≡ None → AnswersLine header pressure normal item now next Takes taker taker

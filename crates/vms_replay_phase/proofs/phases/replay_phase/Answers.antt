@@ -1,15 +1,12 @@
 -- Line by line the phase is replayed, and at the end it closes.
 use Rattle.std.proofs.Common.{◌≡◌, ◌++◌, ◌<◌, ◌≤◌, List, [], get_or, length, take, sym, subst}
 use Rattle.std.proofs.lemmas.List.{take_all}
-use Rattle.vms_answers.specs.PhaseAnswers.{with_answer}
-use Rattle.vms_file_order.proofs.FittingOpenings.{owners-online}
-use Rattle.vms_file_order.proofs.LaneLists.{StandOnce-lanes}
-use Rattle.vms_text.specs.declared.acts.Item.{Item}
-use Rattle.vms_replay_phase.specs.Lines.{MayMake}
-use Rattle.vms_world.specs.Lanes.{lanes_of}
-use Rattle.vms_replay_phase.specs.OpenReplays.{AnswersLine, HasReplayed}
+use Rattle.vms_answers.specs.Common.{with_answer}
+use Rattle.vms_file_order.proofs.Common.{owners-online, StandOnce-lanes}
+use Rattle.vms_world.specs.Common.{Item, lanes_of}
+use Rattle.vms_replay_phase.specs.Common.{MayMakeLine, AnswersLine, HasReplayed}
 use Rattle.vms_replay_phase.proofs.OpenReplays.{AreVolumesOf-at, HasCome-more, HasReplayed-opening, IsReplayed-closing}
-use Rattle.vms_replay_phase.proofs.OpenReplays.{MayMake-at}
+use Rattle.vms_replay_phase.proofs.OpenReplays.{MayMakeLine-at}
 use Rattle.vms_replay_phase.proofs.phases.replay_phase.Goals as goal
 
 pub open-requires : goal.open-requires
@@ -30,10 +27,11 @@ make_next-requires-clause-may g c =
     let start = c.requires.start in
     let same = c.as_slice-item-items.ensures.items in
     let item = c.item-item.result in
-    subst (λ (line : Item). MayMake c.args.header.now line.lane line.act c.loop-item.replay.tables) (sym c.item-item.is)
-    (subst (λ (items : List Item). MayMake c.args.header.now (get_or items c.loop-item.item-index item).lane
+    subst (λ (line : Item). MayMakeLine c.args.header.now line.lane line.act c.loop-item.replay.tables)
+    (sym c.item-item.is)
+    (subst (λ (items : List Item). MayMakeLine c.args.header.now (get_or items c.loop-item.item-index item).lane
     (get_or items c.loop-item.item-index item).act c.loop-item.replay.tables) (sym same)
-    (MayMake-at (g.P.Rule.answers c.args.rules.now.pressure)
+    (MayMakeLine-at (g.P.Rule.answers c.args.rules.now.pressure)
     (g.N.Rule.answers c.args.rules.now.normal) c.args.header.now c.args.world start.0 start.1 c.args.script.now
     start.2
     c.as_slice-item-items.ensures.kept.few

@@ -1,7 +1,7 @@
 use Rattle.std.proofs.Common.{List, take}
-use Rattle.vms_answers.specs.PhaseAnswers.{NumberedAnswer}
-use Rattle.vms_world.specs.Lanes.{lanes_of}
-use Rattle.vms_replay_phase.specs.OpenReplays.{HasReplayed}
+use Rattle.vms_answers.specs.Common.{NumberedAnswer}
+use Rattle.vms_world.specs.Common.{lanes_of}
+use Rattle.vms_replay_phase.specs.Common.{HasReplayed}
 use Rattle.vms_replay_phase.proofs.phases.replay_phase.Given as goal
 
 -- the lines so far are replayed, and their answers are taken

@@ -1,7 +1,7 @@
 -- The volume stands in the list.
 use Rattle.std.proofs.Common.{arith}
-use Rattle.vms_base.specs.Places.{counter_count}
-use Rattle.vms_base.proofs.Cells.{cell-lt}
+use Rattle.vms_world.specs.Common.{counter_count}
+use Rattle.vms_base.proofs.Common.{cell-lt}
 use Rattle.vms_replay_phase.proofs.volumes.spend_pages.Goals as goal
 
 pub raise-requires-clause-within : goal.raise-requires-clause-within

@@ -1,7 +1,6 @@
 -- The sum over the CPUs so far.
 use Rattle.std.proofs.Common.{◌≡◌, ◌+◌, ◌*◌, ◌≤◌, ◌^◌, ◌+ℤ◌, unsigned_abs}
-use Rattle.vms_history.specs.Sums.{sum_below}
-use Rattle.vms_pcpu_core.specs.States.{count_at, local_at}
+use Rattle.vms_world.specs.Common.{sum_below, count_at, local_at}
 use Rattle.vms_report.proofs.all_cpus.counter_total.Given as goal
 
 -- the shared part and the local parts of the CPUs so far

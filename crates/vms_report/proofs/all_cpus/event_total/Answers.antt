@@ -1,8 +1,7 @@
 -- A CPU more adds its word, and all CPUs at the end.
 use Rattle.std.proofs.Common.{◌≡◌, suc, ◌+◌, pos, ◌+ℤ◌, ap, arith}
 use Rattle.std.proofs.lemmas.Int.{ints}
-use Rattle.vms_history.specs.Sums.{sum_below}
-use Rattle.vms_event_core.specs.Words.{word_at}
+use Rattle.vms_world.specs.Common.{sum_below, word_at}
 use Rattle.vms_report.proofs.Sums.{words-within}
 use Rattle.vms_report.proofs.all_cpus.event_total.Goals as goal
 

@@ -1,7 +1,6 @@
 -- The sum over the CPUs so far.
 use Rattle.std.proofs.Common.{◌≡◌, pos}
-use Rattle.vms_history.specs.Sums.{sum_below}
-use Rattle.vms_event_core.specs.Words.{word_at}
+use Rattle.vms_world.specs.Common.{sum_below, word_at}
 use Rattle.vms_report.proofs.all_cpus.event_total.Given as goal
 
 -- the words of the CPUs so far

@@ -1,6 +1,6 @@
 -- A local part stands within the list.
 use Rattle.std.proofs.Common.{◌≡◌, ℕ, ◌+◌, ◌*◌, ◌<◌, ap, ◌∙◌, arith}
-use Rattle.vms_base.proofs.Cells.{cell-lt}
+use Rattle.vms_base.proofs.Common.{cell-lt}
 use Rattle.vms_report.proofs.all_cpus.local.Goals as goal
 
 within : (cpus cpu width full counters counter : ℕ) → cpu < cpus → counter < counters → width ≡ counters

@@ -1,7 +1,6 @@
 -- A CPU more adds its differential, and all CPUs at the end.
 use Rattle.std.proofs.Common.{◌≡◌, ℕ, ◌<◌, ◌+ℤ◌, w64, to_z, subst, arith}
-use Rattle.vms_history.specs.Sums.{sum_below}
-use Rattle.vms_core.specs.Cells.{value_at, diff_at}
+use Rattle.vms_world.specs.Common.{sum_below, value_at, diff_at}
 use Rattle.vms_report.proofs.Sums.{added-bound, added-total}
 use Rattle.vms_report.proofs.all_cpus.page_total.Goals as goal
 

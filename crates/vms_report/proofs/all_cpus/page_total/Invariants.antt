@@ -1,7 +1,6 @@
 -- The sum over the CPUs so far.
 use Rattle.std.proofs.Common.{◌≡◌, ◌+◌, ◌*◌, ◌≤◌, ◌^◌, ◌+ℤ◌, unsigned_abs}
-use Rattle.vms_history.specs.Sums.{sum_below}
-use Rattle.vms_core.specs.Cells.{value_at, diff_at}
+use Rattle.vms_world.specs.Common.{sum_below, value_at, diff_at}
 use Rattle.vms_report.proofs.all_cpus.page_total.Given as goal
 
 -- the global value and the differentials of the CPUs so far

@@ -1,12 +1,10 @@
 -- The local part of a CPU more, if it is present.
-use Rattle.std.proofs.Common.{◌≡◌, ◌<◌, ◌∷◌, ◌++◌, ◌∙◌, List, ℕ, ℤ, ap, sym, arith, length, get_or, rules}
-use Rattle.std.proofs.Common.{w64, to_z, of_z}
+use Rattle.std.proofs.Common.{◌≡◌, ◌<◌, ◌∷◌, ◌++◌, ◌∙◌, List, ℕ, ℤ, ap, sym, arith, length, get_or, rules, w64, to_z}
+use Rattle.std.proofs.Common.{of_z}
 use Rattle.std.specs.Fmt.{signed_decimal}
-use Rattle.vms_base.specs.declared.kinds.CpuState.{CpuState}
+use Rattle.vms_world.specs.Common.{CpuState, is_present, local_at}
 use Rattle.vms_base.specs.declared.kinds.CpuState.TheVariants.{Online}
-use Rattle.vms_base.specs.Cpus.{is_present}
-use Rattle.vms_pcpu_core.specs.States.{local_at}
-use Rattle.vms_text.proofs.Appends.{append_twice}
+use Rattle.vms_text.proofs.Common.{append_twice}
 use Rattle.vms_report.proofs.PresentCpus.{absent-more, present-more}
 use Rattle.vms_report.proofs.counters.push_locals.Goals as goal
 use Rattle.vms_report.proofs.counters.push_locals.Goals.{then-is_present+in_ok-push_next_number, else-is_present}

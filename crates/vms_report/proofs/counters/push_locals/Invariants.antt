@@ -1,8 +1,6 @@
 use Rattle.std.proofs.Common.{◌≡◌, ◌++◌, map, take}
 use Rattle.std.specs.Fmt.{signed_decimal}
-use Rattle.vms_base.specs.Cpus.{present_from}
-use Rattle.vms_pcpu_core.specs.States.{local_at}
-use Rattle.vms_text.specs.Writing.{spaced}
+use Rattle.vms_world.specs.Common.{present_from, local_at, spaced}
 use Rattle.vms_report.proofs.counters.push_locals.Given as goal
 
 -- the local parts of the CPUs so far

@@ -1,7 +1,7 @@
 -- The CPUs that are present hold all local parts.
 use Rattle.std.proofs.Common.{[], ◌≡◌, ◌<◌, ◌∙◌, List, ℕ, sym, subst, length, arith, rules, w64, to_z, of_z}
 use Rattle.std.proofs.lemmas.List.{length-map}
-use Rattle.vms_world.specs.Worlds.{pcpu_facts}
+use Rattle.vms_world.specs.Common.{pcpu_facts}
 use Rattle.vms_report.proofs.counters.total.Goals as goal
 
 pub returns : goal.returns

@@ -1,12 +1,10 @@
 -- The pieces of the line.
-use Rattle.std.proofs.Common.{◌≡◌, ◌∷◌, [], ◌++◌, ◌∙◌, List, ℕ, ℤ, pos, ap, sym, codes, decimal, map, rules, w64}
-use Rattle.std.proofs.Common.{to_z, of_z}
+use Rattle.std.proofs.Common.{◌≡◌, ◌∷◌, [], ◌++◌, ◌∙◌, List, ℕ, ℤ, pos, ap, sym, codes, decimal, map, rules, w64, to_z}
+use Rattle.std.proofs.Common.{of_z}
 use Rattle.std.specs.Fmt.{signed_decimal}
-use Rattle.vms_base.specs.Cpus.{present_from}
-use Rattle.vms_pcpu_core.specs.States.{count_at, local_at}
-use Rattle.vms_plain_pcpu.specs.Numbers.{total_in}
-use Rattle.vms_text.specs.Writing.{spaced}
-use Rattle.vms_text.proofs.Appends.{OnOk-from}
+use Rattle.vms_world.specs.Common.{present_from, count_at, local_at, spaced}
+use Rattle.vms_plain_pcpu.specs.Common.{total_in}
+use Rattle.vms_text.proofs.Common.{OnOk-from}
 use Rattle.vms_report.proofs.Pieces.{line-of_pieces}
 use Rattle.vms_report.proofs.counters.write_counter.Goals as goal
 

@@ -1,10 +1,9 @@
 -- The line of a counter more.
 use Rattle.std.proofs.Common.{◌≡◌, ◌<◌, ◌++◌, ◌∙◌, flat_map, map, take, List, ap, sym, arith, length, get_or}
 use Rattle.std.specs.List.{enumerate_from}
-use Rattle.vms_base.specs.declared.headers.Decl.{Decl}
-use Rattle.vms_report.specs.Counters.{counter_words}
-use Rattle.vms_text.specs.Spelling.{sentence}
-use Rattle.vms_text.proofs.Appends.{append_twice}
+use Rattle.vms_world.specs.Common.{Decl, sentence}
+use Rattle.vms_report.specs.Common.{percpu_counter_words}
+use Rattle.vms_text.proofs.Common.{append_twice}
 use Rattle.vms_report.proofs.Entries.{lines-more}
 use Rattle.vms_report.proofs.counters.write_counters.Goals as goal
 
@@ -17,6 +16,7 @@ loop-counter-preserved c =
     let within : n < length counters = omega (arith, c.loop-counter-test.true, ap length listed) in
     let is : d ≡ get_or counters n d = c.decl-item.is ∙ ap (λ (xs : List Decl). get_or xs n d) listed in
     append_twice _ _ _ _ _ _ c.in_ok-write_counter.ensures c.loop-counter.invariant
-    (ap (λ (decl : Decl). flat_map sentence (map (counter_words c.args.world.now) (enumerate_from 0 (take n counters)))
-    ++ sentence (counter_words c.args.world.now (n, decl))) is
-    ∙ sym (lines-more sentence (counter_words c.args.world.now) counters n d within))
+    (ap (λ (decl : Decl). flat_map sentence
+    (map (percpu_counter_words c.args.world.now) (enumerate_from 0 (take n counters)))
+    ++ sentence (percpu_counter_words c.args.world.now (n, decl))) is
+    ∙ sym (lines-more sentence (percpu_counter_words c.args.world.now) counters n d within))

@@ -1,5 +1,5 @@
 use Rattle.std.proofs.Common.{◌≡◌, map, take}
-use Rattle.vms_base.specs.Headers.{class_names}
+use Rattle.vms_world.specs.Common.{class_names}
 use Rattle.vms_report.proofs.items.names_of.Given as goal
 
 -- the fixed names so far

@@ -1,5 +1,5 @@
 -- A world's words begin a history, after which the laws hold.
-use Rattle.vms_world.specs.Worlds.{event_facts}
+use Rattle.vms_world.specs.Common.{event_facts}
 use Rattle.std.proofs.Common.{[]}
 use Rattle.vms_report.proofs.rooms.worlds_leave_room.Goals as goal
 

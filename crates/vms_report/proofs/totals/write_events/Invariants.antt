@@ -1,9 +1,8 @@
 use Rattle.std.proofs.Common.{◌≡◌, ◌∷◌, [], ◌++◌, codes, flat_map, map, take}
 use Rattle.std.specs.Fmt.{signed_decimal}
 use Rattle.std.specs.List.{enumerate_from}
-use Rattle.vms_base.specs.Names.{event_names}
-use Rattle.vms_text.specs.Spelling.{sentence}
-use Rattle.vms_report.specs.Totals.{event_total}
+use Rattle.vms_world.specs.Common.{event_names, sentence}
+use Rattle.vms_report.specs.Common.{event_total}
 use Rattle.vms_report.proofs.totals.write_events.Given as goal
 
 -- the lines of the events so far

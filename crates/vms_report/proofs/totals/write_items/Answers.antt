@@ -4,11 +4,9 @@ use Rattle.std.proofs.Common.{flat_map, rules, w64, to_z, of_z}
 use Rattle.std.specs.Fmt.{signed_decimal}
 use Rattle.std.specs.List.{enumerate_from}
 use Rattle.std.proofs.lemmas.List.{get_or-map, length-map, take_all}
-use Rattle.vms_base.specs.Places.{counter_at}
-use Rattle.vms_text.specs.Spelling.{place_words, sentence}
-use Rattle.vms_text.specs.Writing.{text_of}
-use Rattle.vms_text.proofs.Appends.{append_twice}
-use Rattle.vms_report.specs.Totals.{page_total}
+use Rattle.vms_world.specs.Common.{counter_at, place_words, sentence, text_of}
+use Rattle.vms_text.proofs.Common.{append_twice}
+use Rattle.vms_report.specs.Common.{page_total}
 use Rattle.vms_report.proofs.Entries.{lines-more}
 use Rattle.vms_report.proofs.totals.write_items.Goals as goal
 

@@ -1,9 +1,8 @@
 use Rattle.std.proofs.Common.{◌≡◌, ◌∷◌, [], ◌++◌, flat_map, map, take}
 use Rattle.std.specs.Fmt.{signed_decimal}
 use Rattle.std.specs.List.{enumerate_from}
-use Rattle.vms_base.specs.Places.{counter_at}
-use Rattle.vms_text.specs.Spelling.{place_words, sentence}
-use Rattle.vms_report.specs.Totals.{page_total}
+use Rattle.vms_world.specs.Common.{counter_at, place_words, sentence}
+use Rattle.vms_report.specs.Common.{page_total}
 use Rattle.vms_report.proofs.totals.write_items.Given as goal
 
 -- the lines of the items so far

@@ -2,10 +2,9 @@
 use Rattle.std.proofs.Common.{◌≡◌, ◌<◌, ◌∷◌, [], ◌++◌, ◌∙◌, List, ℕ, ℤ, ap, ap₂, sym, arith, codes, length, get_or}
 use Rattle.std.proofs.Common.{rules, w64, to_z, of_z}
 use Rattle.std.specs.Fmt.{signed_decimal}
-use Rattle.vms_base.specs.declared.headers.Decl.{Decl}
-use Rattle.vms_text.specs.Spelling.{sentence}
-use Rattle.vms_text.proofs.Appends.{append_twice}
-use Rattle.vms_report.specs.Totals.{pcpu_total}
+use Rattle.vms_world.specs.Common.{Decl, sentence}
+use Rattle.vms_text.proofs.Common.{append_twice}
+use Rattle.vms_report.specs.Common.{pcpu_total}
 use Rattle.vms_report.proofs.Entries.{lines-more}
 use Rattle.vms_report.proofs.totals.write_percpu.Goals as goal
 

@@ -1,8 +1,8 @@
 use Rattle.std.proofs.Common.{◌≡◌, ◌∷◌, [], ◌++◌, codes, flat_map, map, take}
 use Rattle.std.specs.Fmt.{signed_decimal}
 use Rattle.std.specs.List.{enumerate_from}
-use Rattle.vms_text.specs.Spelling.{sentence}
-use Rattle.vms_report.specs.Totals.{pcpu_total}
+use Rattle.vms_world.specs.Common.{sentence}
+use Rattle.vms_report.specs.Common.{pcpu_total}
 use Rattle.vms_report.proofs.totals.write_percpu.Given as goal
 
 -- the lines of the percpu counters so far

@@ -1,8 +1,8 @@
 -- The lines of a place more.
 use Rattle.std.proofs.Common.{sym}
-use Rattle.vms_text.specs.Spelling.{sentence}
-use Rattle.vms_text.proofs.Appends.{append_twice}
-use Rattle.vms_report.specs.Totals.{page_total, place_totals}
+use Rattle.vms_world.specs.Common.{sentence}
+use Rattle.vms_text.proofs.Common.{append_twice}
+use Rattle.vms_report.specs.Common.{page_total, place_totals}
 use Rattle.vms_report.proofs.Entries.{pieces-more}
 use Rattle.vms_report.proofs.totals.write_places.Goals as goal
 

@@ -1,7 +1,7 @@
 use Rattle.std.proofs.Common.{◌≡◌, ◌++◌, flat_map}
 use Rattle.std.specs.List.{range_with_len}
-use Rattle.vms_text.specs.Spelling.{sentence}
-use Rattle.vms_report.specs.Totals.{page_total, place_totals}
+use Rattle.vms_world.specs.Common.{sentence}
+use Rattle.vms_report.specs.Common.{page_total, place_totals}
 use Rattle.vms_report.proofs.totals.write_places.Given as goal
 
 -- the lines of the places so far

@@ -2,12 +2,9 @@
 use Rattle.std.proofs.Common.{◌≡◌, ◌<◌, ◌∷◌, [], ◌++◌, ◌∙◌, Bor, List, ℕ, ap, ap₂, sym, arith, length, get_or}
 use Rattle.std.specs.Prelude.{decimal}
 use Rattle.std.proofs.lemmas.List.{get_or-map, length-map}
-use Rattle.vms_base.specs.Cpus.{online_from}
-use Rattle.vms_base.specs.Names.{event_names}
-use Rattle.vms_event_core.specs.Calls.{sum_over}
-use Rattle.vms_text.specs.Spelling.{sentence}
-use Rattle.vms_text.proofs.Appends.{append_twice}
-use Rattle.vms_report.specs.Vmstat.{told_events}
+use Rattle.vms_world.specs.Common.{online_from, event_names, sum_over, sentence}
+use Rattle.vms_text.proofs.Common.{append_twice}
+use Rattle.vms_report.specs.Common.{told_events}
 use Rattle.vms_report.proofs.Entries.{lines-more}
 use Rattle.vms_report.proofs.vmstat.write_events.Goals as goal
 

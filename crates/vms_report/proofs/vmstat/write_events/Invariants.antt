@@ -1,11 +1,8 @@
 use Rattle.std.proofs.Common.{◌≡◌, ◌∷◌, [], ◌++◌, flat_map, map, take}
 use Rattle.std.specs.Prelude.{decimal}
 use Rattle.std.specs.List.{enumerate_from}
-use Rattle.vms_base.specs.Cpus.{online_from}
-use Rattle.vms_base.specs.Names.{event_names}
-use Rattle.vms_event_core.specs.Calls.{sum_over}
-use Rattle.vms_text.specs.Spelling.{sentence}
-use Rattle.vms_report.specs.Vmstat.{told_events}
+use Rattle.vms_world.specs.Common.{online_from, event_names, sum_over, sentence}
+use Rattle.vms_report.specs.Common.{told_events}
 use Rattle.vms_report.proofs.vmstat.write_events.Given as goal
 
 -- the lines of the events so far

@@ -1,12 +1,10 @@
 -- The line of an item more.
-use Rattle.std.proofs.Common.{◌≡◌, ◌+◌, ◌<◌, ◌∷◌, [], ◌++◌, ◌∙◌, Bor, List, ℕ, ℤ, ap, ap₂, sym, arith, length}
-use Rattle.std.proofs.Common.{map, rules, w64, to_z, of_z}
+use Rattle.std.proofs.Common.{◌≡◌, ◌+◌, ◌<◌, ◌∷◌, [], ◌++◌, ◌∙◌, Bor, List, ℕ, ℤ, ap, ap₂, sym, arith, length, map}
+use Rattle.std.proofs.Common.{rules, w64, to_z, of_z}
 use Rattle.std.specs.Prelude.{decimal}
 use Rattle.std.proofs.lemmas.List.{get_or-map, length-map}
-use Rattle.vms_calls.specs.Looks.{at_least_zero}
-use Rattle.vms_core.specs.Cells.{system_at}
-use Rattle.vms_text.specs.Spelling.{sentence}
-use Rattle.vms_text.proofs.Appends.{append_twice}
+use Rattle.vms_world.specs.Common.{at_least_zero, system_at, sentence}
+use Rattle.vms_text.proofs.Common.{append_twice}
 use Rattle.vms_report.proofs.Entries.{lines-more}
 use Rattle.vms_report.proofs.vmstat.write_systems.Goals as goal
 

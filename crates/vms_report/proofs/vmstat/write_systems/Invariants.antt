@@ -1,7 +1,7 @@
 use Rattle.std.proofs.Common.{◌≡◌, ◌++◌, flat_map, map, take}
 use Rattle.std.specs.List.{enumerate_from}
-use Rattle.vms_text.specs.Spelling.{sentence}
-use Rattle.vms_report.specs.Vmstat.{system_lines}
+use Rattle.vms_world.specs.Common.{sentence}
+use Rattle.vms_report.specs.Common.{system_lines}
 use Rattle.vms_report.proofs.vmstat.write_systems.Given as goal
 
 -- the lines of the items so far

@@ -1,9 +1,8 @@
 -- A differential more.
 use Rattle.std.proofs.Common.{◌≡◌, ◌∷◌, ◌++◌, ◌∙◌, List, ℕ, ℤ, ap, sym, rules, w64, to_z, of_z}
 use Rattle.std.specs.Fmt.{signed_decimal}
-use Rattle.vms_base.specs.Places.{counter_at}
-use Rattle.vms_core.specs.Cells.{diff_at}
-use Rattle.vms_text.proofs.Appends.{append_twice}
+use Rattle.vms_world.specs.Common.{counter_at, diff_at}
+use Rattle.vms_text.proofs.Common.{append_twice}
 use Rattle.vms_report.proofs.Entries.{numbers-more}
 use Rattle.vms_report.proofs.zoneinfo.push_differentials.Goals as goal
 

@@ -1,9 +1,7 @@
 use Rattle.std.proofs.Common.{◌≡◌, ◌++◌, map}
 use Rattle.std.specs.Fmt.{signed_decimal}
 use Rattle.std.specs.List.{range_with_len}
-use Rattle.vms_base.specs.Places.{counter_at}
-use Rattle.vms_core.specs.Cells.{diff_at}
-use Rattle.vms_text.specs.Writing.{spaced}
+use Rattle.vms_world.specs.Common.{counter_at, diff_at, spaced}
 use Rattle.vms_report.proofs.zoneinfo.push_differentials.Given as goal
 
 -- the differentials of the items so far

@@ -2,12 +2,8 @@
 use Rattle.std.proofs.Common.{◌++◌, ◌∙◌, List, ℕ, ap, sym, codes, decimal, map}
 use Rattle.std.specs.Fmt.{signed_decimal}
 use Rattle.std.specs.List.{range_with_len}
-use Rattle.vms_base.specs.declared.kinds.CpuState.{CpuState}
-use Rattle.vms_base.specs.Places.{counter_at}
-use Rattle.vms_core.specs.Cells.{cpu_at, diff_at, threshold_at}
-use Rattle.vms_text.specs.Writing.{spaced}
-use Rattle.vms_report.specs.Items.{items_at}
-use Rattle.vms_report.specs.Zoneinfo.{dead_words}
+use Rattle.vms_world.specs.Common.{CpuState, counter_at, cpu_at, diff_at, threshold_at, spaced}
+use Rattle.vms_report.specs.Common.{items_at, dead_words}
 use Rattle.vms_report.proofs.Entries.{map-positions}
 use Rattle.vms_report.proofs.Pieces.{cpu-of_pieces}
 use Rattle.vms_report.proofs.zoneinfo.write_cpu.Goals as goal

@@ -1,11 +1,9 @@
 -- The line of a CPU more, if it is present.
 use Rattle.std.proofs.Common.{◌≡◌, ◌<◌, ◌++◌, ◌∙◌, List, ℕ, ap, sym, arith, length, get_or}
-use Rattle.vms_base.specs.declared.kinds.CpuState.{CpuState}
+use Rattle.vms_world.specs.Common.{CpuState, is_present}
 use Rattle.vms_base.specs.declared.kinds.CpuState.TheVariants.{Online}
-use Rattle.vms_base.specs.Cpus.{is_present}
-use Rattle.vms_text.proofs.Appends.{append_twice}
-use Rattle.vms_report.specs.Items.{indented}
-use Rattle.vms_report.specs.Zoneinfo.{cpu_words}
+use Rattle.vms_text.proofs.Common.{append_twice}
+use Rattle.vms_report.specs.Common.{indented, cpu_words}
 use Rattle.vms_report.proofs.PresentCpus.{absent-more, present-more}
 use Rattle.vms_report.proofs.zoneinfo.write_cpus.Goals as goal
 use Rattle.vms_report.proofs.zoneinfo.write_cpus.Goals.{then-is_present+in_ok-write_cpu, else-is_present}

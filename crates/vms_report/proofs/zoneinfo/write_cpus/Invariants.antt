@@ -1,7 +1,6 @@
 use Rattle.std.proofs.Common.{◌≡◌, ◌++◌, flat_map, map, take}
-use Rattle.vms_base.specs.Cpus.{present_from}
-use Rattle.vms_report.specs.Items.{indented}
-use Rattle.vms_report.specs.Zoneinfo.{cpu_words}
+use Rattle.vms_world.specs.Common.{present_from}
+use Rattle.vms_report.specs.Common.{indented, cpu_words}
 use Rattle.vms_report.proofs.zoneinfo.write_cpus.Given as goal
 
 -- the lines of the CPUs so far

@@ -1,14 +1,12 @@
 -- The line of an item more, and of all items at the end.
-use Rattle.std.proofs.Common.{◌≡◌, ◌<◌, ◌∷◌, [], ◌++◌, ◌∙◌, Bor, List, ℕ, ap, sym, arith, length, map}
-use Rattle.std.proofs.Common.{ap₂, flat_map, rules, ℤ, w64, to_z, of_z}
+use Rattle.std.proofs.Common.{◌≡◌, ◌<◌, ◌∷◌, [], ◌++◌, ◌∙◌, Bor, List, ℕ, ap, sym, arith, length, map, ap₂, flat_map}
+use Rattle.std.proofs.Common.{rules, ℤ, w64, to_z, of_z}
 use Rattle.std.specs.Prelude.{decimal}
 use Rattle.std.specs.List.{enumerate_from}
 use Rattle.std.proofs.lemmas.List.{get_or-map, length-map, take_all}
-use Rattle.vms_calls.specs.Looks.{at_least_zero}
-use Rattle.vms_core.specs.Cells.{value_at}
-use Rattle.vms_text.proofs.Appends.{append_twice}
-use Rattle.vms_report.specs.Items.{indented}
-use Rattle.vms_report.specs.Zoneinfo.{told_value}
+use Rattle.vms_world.specs.Common.{at_least_zero, value_at}
+use Rattle.vms_text.proofs.Common.{append_twice}
+use Rattle.vms_report.specs.Common.{indented, told_value}
 use Rattle.vms_report.proofs.Entries.{lines-more}
 use Rattle.vms_report.proofs.zoneinfo.write_items.Goals as goal
 

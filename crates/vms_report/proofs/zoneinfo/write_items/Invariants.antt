@@ -1,8 +1,7 @@
 use Rattle.std.proofs.Common.{◌≡◌, ◌∷◌, [], ◌++◌, flat_map, map, take}
 use Rattle.std.specs.Prelude.{decimal}
 use Rattle.std.specs.List.{enumerate_from}
-use Rattle.vms_report.specs.Items.{indented}
-use Rattle.vms_report.specs.Zoneinfo.{told_value}
+use Rattle.vms_report.specs.Common.{indented, told_value}
 use Rattle.vms_report.proofs.zoneinfo.write_items.Given as goal
 
 -- the lines of the items so far

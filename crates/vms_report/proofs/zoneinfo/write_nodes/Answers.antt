@@ -1,8 +1,8 @@
 -- What stands of a node more.
 use Rattle.std.proofs.Common.{◌≡◌, ◌+◌, ◌-◌, ◌<◌, ◌++◌, ◌∙◌, List, ℕ, ap, sym, arith, length, get_or}
-use Rattle.vms_base.proofs.Counts.{nodes_most-holds}
-use Rattle.vms_text.proofs.Appends.{append_twice}
-use Rattle.vms_report.specs.Zoneinfo.{node_text}
+use Rattle.vms_base.proofs.Common.{nodes_most-holds}
+use Rattle.vms_text.proofs.Common.{append_twice}
+use Rattle.vms_report.specs.Common.{node_text}
 use Rattle.vms_report.proofs.Entries.{texts-more}
 use Rattle.vms_report.proofs.zoneinfo.write_nodes.Goals as goal
 

@@ -1,6 +1,6 @@
 use Rattle.std.proofs.Common.{◌≡◌, ◌++◌, flat_map, take}
 use Rattle.std.specs.List.{enumerate_from}
-use Rattle.vms_report.specs.Zoneinfo.{node_text}
+use Rattle.vms_report.specs.Common.{node_text}
 use Rattle.vms_report.proofs.zoneinfo.write_nodes.Given as goal
 
 -- what stands of the nodes so far

@@ -3,7 +3,7 @@ use Rattle.std.proofs.Common.{Bool, Bor, List, ℕ, ◌∙◌, ap, arith, length
 use Rattle.std.specs.List.{enumerate_from}
 use Rattle.std.proofs.lemmas.List.{length-map}
 use Rattle.std.proofs.lemmas.List.FromFn.{length-enumerate_from}
-use Rattle.vms_base.specs.Headers.{class_names}
+use Rattle.vms_world.specs.Common.{class_names}
 use Rattle.vms_report.proofs.zoneinfo.write_place.Goals as goal
 
 pub write_cpus-requires-clause-items : goal.write_cpus-requires-clause-items

@@ -1,14 +1,9 @@
 -- The lines, one after another.
 use Rattle.std.proofs.Common.{◌≡◌, ◌∷◌, [], ◌++◌, ◌∙◌, List, ℕ, ℤ, ap, sym, codes, decimal, flat_map, rules, w64, to_z}
 use Rattle.std.proofs.Common.{of_z}
-use Rattle.vms_base.specs.declared.kinds.ZoneSize.{ZoneSize}
-use Rattle.vms_base.specs.Sizes.{size_at}
-use Rattle.vms_calls.specs.Looks.{at_least_zero}
-use Rattle.vms_core.specs.Cells.{mark_at, value_at}
-use Rattle.vms_text.specs.Writing.{text_of}
-use Rattle.vms_text.proofs.Appends.{OnOk-from}
-use Rattle.vms_report.specs.Items.{indented}
-use Rattle.vms_report.specs.Zoneinfo.{mark_lines, protection_words, told_value}
+use Rattle.vms_world.specs.Common.{ZoneSize, size_at, at_least_zero, mark_at, value_at, text_of}
+use Rattle.vms_text.proofs.Common.{OnOk-from}
+use Rattle.vms_report.specs.Common.{indented, mark_lines, protection_words, told_value}
 use Rattle.vms_report.proofs.Pieces.{lines-in_turn}
 use Rattle.vms_report.proofs.zoneinfo.write_sizes.Goals as goal
 

@@ -1,7 +1,7 @@
 -- The heading, and the lines under it.
-use Rattle.vms_text.proofs.Appends.{OnOk-from}
-use Rattle.vms_text.specs.Spelling.{sentence}
-use Rattle.vms_report.specs.Zoneinfo.{cpu_lines, item_lines, size_lines, zone_heading}
+use Rattle.vms_text.proofs.Common.{OnOk-from}
+use Rattle.vms_world.specs.Common.{sentence}
+use Rattle.vms_report.specs.Common.{cpu_lines, item_lines, size_lines, zone_heading}
 use Rattle.vms_report.proofs.Pieces.{text-in_turn}
 use Rattle.vms_report.proofs.zoneinfo.write_zone.Goals as goal
 

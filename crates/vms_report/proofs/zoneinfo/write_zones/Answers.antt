@@ -1,8 +1,8 @@
 -- What stands of a zone more.
 use Rattle.std.proofs.Common.{◌<◌, ◌++◌, ◌∙◌, List, ap, sym, arith, length, get_or}
-use Rattle.vms_base.specs.declared.kinds.ZoneName.{ZoneName}
-use Rattle.vms_text.proofs.Appends.{append_twice}
-use Rattle.vms_report.specs.Zoneinfo.{zone_text}
+use Rattle.vms_world.specs.Common.{ZoneName}
+use Rattle.vms_text.proofs.Common.{append_twice}
+use Rattle.vms_report.specs.Common.{zone_text}
 use Rattle.vms_report.proofs.Entries.{texts-more}
 use Rattle.vms_report.proofs.zoneinfo.write_zones.Goals as goal
 

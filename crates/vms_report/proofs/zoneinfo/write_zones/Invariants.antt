@@ -1,6 +1,6 @@
 use Rattle.std.proofs.Common.{◌≡◌, ◌++◌, flat_map, take}
 use Rattle.std.specs.List.{enumerate_from}
-use Rattle.vms_report.specs.Zoneinfo.{zone_text}
+use Rattle.vms_report.specs.Common.{zone_text}
 use Rattle.vms_report.proofs.zoneinfo.write_zones.Given as goal
 
 -- what stands of the zones so far

@@ -1,8 +1,7 @@
 -- A further line: its answer is handed on after those of the lines before it.
 use Rattle.std.proofs.Common.{◌++◌, subst, sym}
-use Rattle.vms_merge.specs.Merging.{merged, taken}
-use Rattle.vms_text.specs.declared.acts.Item.{Item}
-use Rattle.vms_merge.specs.Told.{HasPlace, left_of, told_by}
+use Rattle.vms_answers.specs.Common.{merged, taken_answer, HasPlace, left_of, told_by}
+use Rattle.vms_world.specs.Common.{Item}
 use Rattle.vms_run.proofs.HandedAnswers.{merged-next}
 use Rattle.vms_run.proofs.handing.hand_on.Goals as goal
 
@@ -19,7 +18,7 @@ loop-item-preserved g c =
     let item = c.item-item.result in
     let left = left_of lanes c.loop-item.counts in
     let before = c.loop-item.invariant.0 in (
-      before ++ (taken item.number (left item.lane)).0,
+      before ++ (taken_answer item.number (left item.lane)).0,
       c.in_ok-hand_line.ensures.takes c.args.taker.now before c.loop-item.invariant.1,
       c.in_ok-hand_line.ensures.one_each,
       merged-next items n item c.item-item.is (merged items (told_by lanes)) before left (left_of lanes c.hand_line.new.counts)

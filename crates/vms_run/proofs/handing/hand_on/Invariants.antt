@@ -1,7 +1,5 @@
 use Rattle.std.proofs.Common.{◌≡◌, List, ◌++◌, drop, length}
-use Rattle.vms_answers.specs.PhaseAnswers.{NumberedAnswer}
-use Rattle.vms_merge.specs.Merging.{merged}
-use Rattle.vms_merge.specs.Told.{left_of, told_by}
+use Rattle.vms_answers.specs.Common.{NumberedAnswer, merged, left_of, told_by}
 use Rattle.vms_run.proofs.handing.hand_on.Given as goal
 
 -- the answers of the lines so far are handed on, and those of the others are left

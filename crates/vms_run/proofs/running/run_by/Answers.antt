@@ -1,8 +1,7 @@
 -- The phase is one by the kernel's rules.
 use Rattle.std.proofs.Common.{◌≡◌, ap, subst, sym}
-use Rattle.vms_base.specs.Thresholds.{normal_threshold_of, pressure_threshold_of}
-use Rattle.vms_calc.specs.Rules.{RulePair}
-use Rattle.vms_replay.specs.KernelRules.{GoesBy}
+use Rattle.vms_world.specs.Common.{normal_threshold_of, pressure_threshold_of, RulePair}
+use Rattle.vms_replay.specs.Common.{GoesBy}
 use Rattle.vms_run.proofs.KernelPhases.{makes_on_threads-kernel}
 use Rattle.vms_run.proofs.running.run_by.Goals as goal
 

@@ -1,5 +1,5 @@
 -- What the runner returned was handed on.
-use Rattle.vms_replay.specs.Printing.{Prints}
+use Rattle.vms_replay.specs.Common.{Prints}
 use Rattle.vms_run.proofs.KeptPhases.{IsOneRun-handed, IsRun-ok}
 use Rattle.vms_run.proofs.threads.run_one.Goals as goal
 

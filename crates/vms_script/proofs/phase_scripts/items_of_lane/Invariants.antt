@@ -1,5 +1,5 @@
 use Rattle.std.proofs.Common.{◌≡◌, ◌++◌, drop}
-use Rattle.vms_script.specs.PhaseScripts.{lane_items}
+use Rattle.vms_script.specs.Common.{lane_items}
 use Rattle.vms_script.proofs.phase_scripts.items_of_lane.Given as goal
 
 abbrev pub invariant-loop-item : goal.invariant-loop-item

@@ -1,25 +1,26 @@
-use Rattle.std.proofs.Common.{rules, ◌≡◌, ℤ, Option, pos, ◌+ℤ◌, sym, ap, ◌∙◌, subst, w64, FitsSigned, to_z, of_z, to_z-of_z}
+use Rattle.std.proofs.Common.{rules, ◌≡◌, ℤ, Option, pos, ◌+ℤ◌, sym, ap, ◌∙◌, subst, w64, FitsSigned, to_z, of_z}
+use Rattle.std.proofs.Common.{to_z-of_z}
 use Rattle.vms_base.specs.declared.ids.CounterId.{CounterId}
 use Rattle.vms_text.specs.declared.acts.Item.{Item}
-use Rattle.vms_script.proofs.Changes.{Leads-unchanged, Leads-some, change-fits, change_of-within}
-use Rattle.vms_script.specs.Totals.{change_of}
+use Rattle.vms_script.proofs.Changes.{Leads-unchanged, Leads-some, change-fits, act_change-within}
+use Rattle.vms_script.specs.Common.{act_change}
 use Rattle.vms_script.proofs.totals.add_phase.Goals as goal
 use Rattle.vms_script.proofs.totals.add_phase.Goals.{in-Some, in_default}
 
 -- what an item changes, where it stands in a list
-here : {item at : Item} {change : Option (CounterId × ℤ)} → item ≡ at → change_of item.act ≡ change
-    → change_of at.act ≡ change
-here at is = sym (ap (λ (item : Item). change_of item.act) at) ∙ is
+here : {item at : Item} {change : Option (CounterId × ℤ)} → item ≡ at → act_change item.act ≡ change
+    → act_change at.act ≡ change
+here at is = sym (ap (λ (item : Item). act_change item.act) at) ∙ is
 
 pub get-requires : goal.get-requires
 get-requires c =
-    change_of-within c.loop-item.totals c.args.totals.now c.args.items.now c.loop-item.item-index _
+    act_change-within c.loop-item.totals c.args.totals.now c.args.items.now c.loop-item.item-index _
     (c.in-Some.counter, c.in-Some.pages) c.loop-item-test.true (here c.item-item.is (sym c.in-Some.ensures)) c.loop-item.invariant.each
     c.requires.known
 
 pub overflow_add-get : goal.overflow_add-get
 overflow_add-get c =
-    let within = change_of-within c.loop-item.totals c.args.totals.now c.args.items.now c.loop-item.item-index _
+    let within = act_change-within c.loop-item.totals c.args.totals.now c.args.items.now c.loop-item.item-index _
     (c.in-Some.counter, c.in-Some.pages) c.loop-item-test.true (here c.item-item.is (sym c.in-Some.ensures)) c.loop-item.invariant.each
     c.requires.known in
     let fits = change-fits _ _ c.args.items.now c.loop-item.item-index _ c.loop-item.totals
@@ -31,7 +32,7 @@ overflow_add-get c =
 pub loop-item-preserved : goal.loop-item-preserved
 loop-item-preserved c = elim c.match-change_of.branch [
   | in-Some w ↦
-      let within = change_of-within c.loop-item.totals c.args.totals.now c.args.items.now c.loop-item.item-index _
+      let within = act_change-within c.loop-item.totals c.args.totals.now c.args.items.now c.loop-item.item-index _
       (w.in-Some.counter, w.in-Some.pages) c.loop-item-test.true (here c.item-item.is (sym w.in-Some.ensures)) c.loop-item.invariant.each
       c.requires.known in
       let fits = change-fits _ _ c.args.items.now c.loop-item.item-index _ c.loop-item.totals

@@ -1,5 +1,5 @@
 use Rattle.std.proofs.Common.{pos, ◌+ℤ◌, length, get_or, drop}
-use Rattle.vms_script.specs.Totals.{changes_by, sizes_by}
+use Rattle.vms_script.specs.Common.{changes_by, sizes_by}
 use Rattle.vms_script.proofs.Changes.{Leads}
 use Rattle.vms_script.proofs.totals.add_phase.Given as goal
 

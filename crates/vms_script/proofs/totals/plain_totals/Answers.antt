@@ -1,5 +1,5 @@
 use Rattle.std.proofs.Common.{ap, ◌∙◌, get_or, pos, ◌+ℤ◌, arith}
-use Rattle.vms_script.specs.Totals.{changes_by}
+use Rattle.vms_script.specs.Common.{changes_by}
 use Rattle.vms_script.proofs.Changes.{HasTotal-each, Leads-first, Leads-phase}
 use Rattle.vms_script.proofs.totals.plain_totals.Goals as goal
 

@@ -1,6 +1,6 @@
 use Rattle.std.proofs.Common.{drop}
-use Rattle.vms_base.specs.Places.{counter_count}
-use Rattle.vms_script.specs.Totals.{changes_by_all, plain_total, sizes_by_all}
+use Rattle.vms_base.specs.Common.{counter_count}
+use Rattle.vms_script.specs.Common.{changes_by_all, plain_total, sizes_by_all}
 use Rattle.vms_script.proofs.Changes.{Leads}
 use Rattle.vms_script.proofs.totals.plain_totals.Given as goal
 

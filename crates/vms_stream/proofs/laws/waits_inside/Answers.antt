@@ -1,7 +1,6 @@
 -- Nothing waits at the start, and from there on only inside a phase.
 use Rattle.std.proofs.Common.{inl, refl}
-use Rattle.vms_stream.specs.PhasedBehaviors.Way.{On}
-use Rattle.vms_stream.specs.Waiting.{waiting}
+use Rattle.vms_stream.specs.Common.{On, waiting}
 use Rattle.vms_stream.proofs.TextOrder.{HoldsBackNothing-after}
 use Rattle.vms_stream.proofs.laws.waits_inside.Goals as goal
 

@@ -1,7 +1,6 @@
 use Rattle.std.proofs.Common.{◌≡◌, ℕ, List, ◌+◌, ◌-◌, ◌^◌, true, if◌then◌else◌}
 use Rattle.std.specs.Io.KnownBytes.{Appends, Consumes, IsAtEnd}
-use Rattle.vms_stream.specs.Jobs.{Grows}
-use Rattle.vms_stream.specs.Courses.{IsPhasedCourse}
+use Rattle.vms_stream.specs.Common.{Grows, IsPhasedCourse}
 use Rattle.vms_stream.proofs.streaming.run.Given as goal
 
 abbrev pub invariant-pieces : goal.invariant-pieces

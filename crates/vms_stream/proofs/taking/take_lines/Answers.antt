@@ -1,14 +1,13 @@
 -- The lines so far, one more line, and what is written meanwhile.
-use Rattle.std.proofs.Common.{◌≡◌, ℕ, List, [], ◌∷◌, ◌++◌, Some, None, refl, sym, ap, ◌∙◌}
-use Rattle.std.proofs.Common.{append_assoc}
+use Rattle.std.proofs.Common.{◌≡◌, ℕ, List, [], ◌∷◌, ◌++◌, Some, None, refl, sym, ap, ◌∙◌, append_assoc}
 use Rattle.std.proofs.KnownBytes.{Appends-nil}
 use Rattle.std.proofs.lemmas.Result.{err_from_is_err_and}
 use Rattle.vms_stream.proofs.CourseEnds.{writes_after}
 use Rattle.vms_stream.proofs.TakenLines.{nonempty, one_further}
-use Rattle.vms_stream.proofs.LeadingOutcomes.{Leads-more, Leads-none}
+use Rattle.vms_stream.proofs.LeadingOutcomes.{OutcomesLead-more, OutcomesLead-none}
 use Rattle.vms_stream.proofs.TakenTexts.{Grows-nil, TakesText-failed, TakesText-line, TakesText-moved, TakesText-none}
 use Rattle.vms_stream.proofs.TakenTexts.{TakesText-stopped}
-use Rattle.vms_text.specs.Lines.{lines_of}
+use Rattle.vms_text.specs.Common.{lines_of}
 use Rattle.vms_stream.proofs.taking.take_lines.Goals as goal
 
 pub lines-init : goal.lines-init
@@ -33,7 +32,7 @@ returns-in_err-halt-clause-takes g c =
     rw p.1 (TakesText-failed g.J.Job.behavior _ _ _ _ inv.above _ _ _ _ inv.took _ _ c.take_line.ensures.outcomes
     (lines_of c.args.text.now) (line ∷ lines_of after) p.0 _ [] c.lines.waiting.items c.take_line.new.out.items lines
     c.take_line.ensures.grows
-    (λ s here. Leads-more g.J.Job.behavior s c.take_line.ensures.outcomes (line ∷ []) (lines_of after)
+    (λ s here. OutcomesLead-more g.J.Job.behavior s c.take_line.ensures.outcomes (line ∷ []) (lines_of after)
     (c.take_line.ensures.leads s here)) refl (Appends-nil _))
 
 pub returns-in-Some-clause-takes : goal.returns-in-Some-clause-takes
@@ -62,7 +61,7 @@ returns-in_err-write_above-clause-takes g c =
     c.in_ok-halt.field-0 None _ c.in_ok-halt.was c.in_default.is c.take_line.ensures) _ _ []
     (lines_of c.args.text.now) (lines_of after) p.0 _ writes.moved writes.rest c.write_above.new.waiting.items
     (one_further _ inv.above c.lines.rest.now line after inv.parts some c.split_line.ensures)
-    (Grows-nil _) (λ s here. Leads-none g.J.Job.behavior s (lines_of after)) writes.parts writes.appends)
+    (Grows-nil _) (λ s here. OutcomesLead-none g.J.Job.behavior s (lines_of after)) writes.parts writes.appends)
 
 pub returns-in_err-write_above-clause-counts : goal.returns-in_err-write_above-clause-counts
 returns-in_err-write_above-clause-counts g c =

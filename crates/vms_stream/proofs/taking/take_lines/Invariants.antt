@@ -1,7 +1,7 @@
 use Rattle.std.proofs.Common.{◌≡◌, ℕ, List, ◌++◌, length, None, Ok}
-use Rattle.vms_stream.specs.Taking.{TakesText}
+use Rattle.vms_stream.specs.Common.{TakesText}
 use Rattle.vms_stream.specs.declared.statuses.Status.{Status}
-use Rattle.vms_text.specs.Lines.{lines_of}
+use Rattle.vms_text.specs.Common.{lines_of}
 use Rattle.vms_stream.proofs.taking.take_lines.Given as goal
 
 abbrev pub invariant-lines : goal.invariant-lines

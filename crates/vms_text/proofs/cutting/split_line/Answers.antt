@@ -1,7 +1,7 @@
 use Rattle.std.proofs.Common.{◌≡◌, ◌+◌, ◌-◌, ◌∙◌, sym, subst, length, drop, take, arith, []}
 use Rattle.std.proofs.lemmas.Grind.{common_steps}
 use Rattle.std.proofs.lemmas.List.{take_rest}
-use Rattle.vms_text.specs.Lines.{SplitsLine}
+use Rattle.vms_text.specs.Common.{SplitsLine}
 use Rattle.vms_text.proofs.TextLaws.{SplitsLine-cut, SplitsLine-whole}
 use Rattle.vms_text.proofs.cutting.split_line.Goals as goal
 

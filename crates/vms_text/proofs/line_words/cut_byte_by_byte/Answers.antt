@@ -1,6 +1,6 @@
 use Rattle.std.proofs.Common.{◌≡◌, ◌==◌, false, true, map, get_or, arith}
 use Rattle.std.proofs.lemmas.Bool.Decides.{nat_tests}
-use Rattle.vms_text.proofs.Parts.{IsParted-byte, IsParted-space, parts_of-parted}
+use Rattle.vms_text.proofs.Parts.{IsParted-byte, IsParted-space, space_parts-parted}
 use Rattle.vms_text.proofs.line_words.cut_byte_by_byte.Goals as goal
 use Rattle.vms_text.proofs.line_words.cut_byte_by_byte.Goals.{then-byte-eq32, else-byte-eq32}
 
@@ -23,6 +23,6 @@ loop-at-preserved c =
 
 pub returns : goal.returns
 returns c =
-    parts_of-parted c.args.line.now (map (λ part. part.now) c.loop-at.parts.items)
+    space_parts-parted c.args.line.now (map (λ part. part.now) c.loop-at.parts.items)
     (map (λ part. part.now) c.add_part-2.new.parts.items) c.loop-at.begin c.loop-at.at (omega arith)
     c.add_part-2.ensures c.loop-at.invariant

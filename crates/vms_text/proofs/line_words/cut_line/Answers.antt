@@ -1,6 +1,6 @@
 use Rattle.std.proofs.Common.{◌≡◌, true, false, arith, map, get_or}
 use Rattle.std.proofs.lemmas.Bool.Decides.{nat_tests}
-use Rattle.vms_text.specs.Words.{is_word_byte}
+use Rattle.vms_text.specs.Common.{is_word_byte}
 use Rattle.vms_text.proofs.Pieces.{IsCut-other, IsCut-word, words_of-cut}
 use Rattle.vms_text.proofs.line_words.cut_line.Goals as goal
 use Rattle.vms_text.proofs.line_words.cut_line.Goals.{then-not-is_ascii_graphic, else-not-is_ascii_graphic}

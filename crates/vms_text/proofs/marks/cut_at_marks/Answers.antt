@@ -1,7 +1,7 @@
 use Rattle.std.proofs.Common.{◌+◌, map, arith, refl}
 use Rattle.std.proofs.lemmas.Bool.Decides.{nat_tests}
 use Rattle.std.proofs.lemmas.List.{length-map, take_rest}
-use Rattle.vms_text.proofs.MarkedSpaces.{IsMarked-more, parts_of-full, parts_of-marked}
+use Rattle.vms_text.proofs.MarkedSpaces.{IsMarked-more, space_parts-full, space_parts-marked}
 use Rattle.vms_text.proofs.marks.cut_at_marks.Goals as goal
 
 pub loop-left-preserved : goal.loop-left-preserved
@@ -16,11 +16,12 @@ loop-left-preserved c =
 
 pub returns-then-is_full : goal.returns-then-is_full
 returns-then-is_full c =
-    parts_of-full c.args.line.now (map (λ part. part.now) c.loop-left.parts.items) c.loop-left.rest.now c.loop-left.left
+    space_parts-full c.args.line.now (map (λ part. part.now) c.loop-left.parts.items) c.loop-left.rest.now
+    c.loop-left.left
     (grind (arith, nat_tests, length-map)) c.loop-left.invariant
 
 pub returns : goal.returns
 returns c =
-    parts_of-marked c.args.line.now (map (λ part. part.now) c.loop-left.parts.items)
+    space_parts-marked c.args.line.now (map (λ part. part.now) c.loop-left.parts.items)
     (map (λ part. part.now) c.add_part.new.parts.items) c.loop-left.rest.now c.loop-left.left (omega arith)
     c.add_part.ensures c.loop-left.invariant

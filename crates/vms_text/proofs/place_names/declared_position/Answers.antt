@@ -2,7 +2,7 @@ use Rattle.std.proofs.Common.{bytes_eq, cond, not, rules, sym, tests, ◌∙◌}
 use Rattle.std.proofs.lemmas.Iterator.Consumers.{YieldsList-from_filter}
 use Rattle.std.proofs.lemmas.Iterator.Search.{position_from_yields_List}
 use Rattle.std.proofs.lemmas.Iterator.{YieldsList-from_slice}
-use Rattle.vms_text.specs.PlaceNames.{declared_items}
+use Rattle.vms_text.specs.Common.{declared_items}
 use Rattle.vms_text.proofs.Positions.{position-map}
 use Rattle.vms_text.proofs.place_names.declared_position.Goals as goal
 

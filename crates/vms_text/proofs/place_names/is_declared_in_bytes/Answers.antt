@@ -1,7 +1,7 @@
 use Rattle.std.proofs.Common.{ap, cond, not, option_map, rules, sym, tests, ◌∙◌}
 use Rattle.std.proofs.lemmas.Iterator.Consumers.{YieldsList-from_filter, nth_from_yields_List}
 use Rattle.std.proofs.lemmas.Iterator.{YieldsList-from_slice}
-use Rattle.vms_text.specs.PlaceNames.{is_item_in_bytes}
+use Rattle.vms_text.specs.Common.{is_item_in_bytes}
 use Rattle.vms_text.proofs.place_names.is_declared_in_bytes.Goals as goal
 
 pub returns-in-Some : goal.returns-in-Some

@@ -1,6 +1,6 @@
 use Rattle.std.proofs.Common.{ap, arith, codes, sym}
 use Rattle.std.proofs.lemmas.Slice.Eq.{text_from_reads}
-use Rattle.vms_text.specs.PlaceNames.{kind_named}
+use Rattle.vms_text.specs.Common.{kind_named}
 use Rattle.vms_text.proofs.place_names.kind_named.Goals as goal
 
 pub returns-in-DMA : goal.returns-in-DMA

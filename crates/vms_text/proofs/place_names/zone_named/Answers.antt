@@ -1,5 +1,5 @@
 use Rattle.std.proofs.Common.{ap, option_and_then, option_map, sym, ◌∙◌}
-use Rattle.vms_base.specs.Places.{zone_place}
+use Rattle.vms_base.specs.Common.{zone_place}
 use Rattle.vms_text.proofs.Nodes.{zone_place-absent}
 use Rattle.vms_text.proofs.place_names.zone_named.Goals as goal
 

@@ -1,6 +1,6 @@
 use Rattle.std.proofs.Common.{◌≡◌, ◌≤◌, drop}
 use Rattle.std.specs.Prelude.{slice_get}
-use Rattle.vms_text.specs.PlaceNames.{declared_items}
+use Rattle.vms_text.specs.Common.{declared_items}
 use Rattle.vms_text.proofs.place_words.declared_item.Given as goal
 
 abbrev pub invariant-loop-item : goal.invariant-loop-item

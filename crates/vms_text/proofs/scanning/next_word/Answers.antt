@@ -1,9 +1,9 @@
-use Rattle.std.proofs.Common.{ℕ, List, Option, ◌≤◌, ◌-◌, take, refl, ◌≡◌, ◌+◌, ◌∙◌, Some, ap, sym, arith, drop}
-use Rattle.std.proofs.Common.{length, not, position}
+use Rattle.std.proofs.Common.{ℕ, List, Option, ◌≤◌, ◌-◌, take, refl, ◌≡◌, ◌+◌, ◌∙◌, Some, ap, sym, arith, drop, length}
+use Rattle.std.proofs.Common.{not, position}
 use Rattle.std.proofs.lemmas.Grind.{common_steps}
 use Rattle.std.proofs.lemmas.List.{take_rest}
 use Rattle.std.specs.List.{position_or_len}
-use Rattle.vms_text.specs.Words.{IsNextWord, is_word_byte}
+use Rattle.vms_text.specs.Common.{IsNextWord, is_word_byte}
 use Rattle.vms_text.proofs.Scans.{IsNextWord-found, words_of-none}
 use Rattle.vms_text.proofs.scanning.next_word.Goals as goal
 

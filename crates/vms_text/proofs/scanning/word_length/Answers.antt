@@ -1,6 +1,6 @@
 use Rattle.std.proofs.Common.{◌∙◌, sym, arith, not}
 use Rattle.std.proofs.lemmas.List.Sums.{prefix_len-le-length}
-use Rattle.vms_text.specs.Words.{is_word_byte}
+use Rattle.vms_text.specs.Common.{is_word_byte}
 use Rattle.vms_text.proofs.Cuts.{position_or_len-none}
 use Rattle.vms_text.proofs.scanning.word_length.Goals as goal
 

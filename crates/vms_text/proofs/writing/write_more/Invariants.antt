@@ -1,5 +1,5 @@
 use Rattle.std.proofs.Common.{◌≡◌, ◌++◌, map, take}
-use Rattle.vms_text.specs.Writing.{spaced, text_of}
+use Rattle.vms_text.specs.Common.{spaced, text_of}
 use Rattle.vms_text.proofs.writing.write_more.Given as goal
 
 abbrev pub invariant-loop-word : goal.invariant-loop-word

@@ -1,12 +1,9 @@
 -- The goals were that both additions may be made, and whose the pass is after them.
 use Rattle.std.proofs.Common.{ℤ, w64, sym, ap, ◌∙◌, subst, arith}
 use Rattle.std.proofs.lemmas.Int.{ints, to_z-of_z}
-use Rattle.vms_base.specs.Places.{Shape, IsItem, item_of}
-use Rattle.vms_core.specs.Conditions.{AddsToPlace, AddsToSystem}
-use Rattle.vms_core.specs.declared.steps.Step.TheVariants.{AddG}
-use Rattle.vms_core.specs.Pages.{pages}
-use Rattle.vms_seats.specs.Steps.{MadeOne}
-use Rattle.vms_call_trials.proofs.IdlePasses.{is_of-made}
+use Rattle.vms_calls.specs.Common.{Shape, IsItem, item_of, AddsToPlace, AddsToSystem, AddG, pages}
+use Rattle.vms_seats.specs.Common.{MadeOne}
+use Rattle.vms_call_trials.proofs.Common.{is_of-made}
 use Rattle.vms_thread_trials.proofs.FirstCounters.{is_first, adds-first}
 use Rattle.vms_thread_trials.proofs.exchanges.carry.Goals as goal
 

@@ -1,7 +1,7 @@
 -- The goals were that the owner may load and put, and again after a miss.
 use Rattle.std.proofs.Common.{sym, subst}
-use Rattle.vms_base.specs.Places.{Shape, IsCounter}
-use Rattle.vms_call_trials.proofs.IdlePasses.{is_of-made}
+use Rattle.vms_calls.specs.Common.{Shape, IsCounter}
+use Rattle.vms_call_trials.proofs.Common.{is_of-made}
 use Rattle.vms_thread_trials.proofs.FirstCounters.{is_first}
 use Rattle.vms_thread_trials.proofs.FirstPuts.{known-cpu, found-put, missed-put}
 use Rattle.vms_thread_trials.proofs.exchanges.exchange.Goals as goal

@@ -1,7 +1,6 @@
 -- The goal was that the first counter is one of the layout.
 use Rattle.std.proofs.Common.{sym, subst}
-use Rattle.vms_base.specs.Places.{IsCounter}
-use Rattle.vms_core.specs.declared.steps.Facts.{Facts}
+use Rattle.vms_calls.specs.Common.{IsCounter, Facts}
 use Rattle.vms_thread_trials.proofs.FirstCounters.{is_first}
 use Rattle.vms_thread_trials.proofs.exchanges.exchanged.Goals as goal
 

@@ -1,6 +1,6 @@
 -- The goals were that the first counter, its item and its group are of the layout.
 use Rattle.std.proofs.Common.{sym, subst}
-use Rattle.vms_base.specs.Places.{Shape, IsCounter}
+use Rattle.vms_calls.specs.Common.{Shape, IsCounter}
 use Rattle.vms_thread_trials.proofs.FirstCounters.{is_first}
 use Rattle.vms_thread_trials.proofs.exchanges.look.Goals as goal
 

@@ -1,8 +1,7 @@
 -- The goals were what the load of the threshold asks and leaves.
 use Rattle.std.proofs.Common.{ℕ, List, ◌≤◌, ◌+◌, slice_index_or, ap, sym, ◌∙◌, subst}
-use Rattle.vms_base.specs.Places.{Shape, IsCounter, IsPlace, place_of}
-use Rattle.vms_base.specs.Volumes.{most_volume}
-use Rattle.vms_call_trials.proofs.IdlePasses.{idle-loaded, is_of-made}
+use Rattle.vms_calls.specs.Common.{Shape, IsCounter, IsPlace, place_of, most_volume}
+use Rattle.vms_call_trials.proofs.Common.{idle-loaded, is_of-made}
 use Rattle.vms_thread_trials.proofs.FirstCounters.{is_first}
 use Rattle.vms_thread_trials.proofs.FirstPuts.{loaded-first}
 use Rattle.vms_thread_trials.proofs.exchanges.put_after_a_take.Goals as goal

@@ -1,14 +1,10 @@
 -- The goals were what the take asks, and what is carried after it.
 use Rattle.std.proofs.Common.{◌≡◌, ℤ, w64, FitsSigned, ap, sym, ◌∙◌, subst, arith}
 use Rattle.std.proofs.lemmas.Int.{ints, to_z-of_z}
-use Rattle.vms_base.specs.declared.ids.GroupId.{GroupId}
-use Rattle.vms_base.specs.Places.{Shape, IsCounter}
-use Rattle.vms_history.specs.Events.{own}
-use Rattle.vms_core.specs.declared.steps.Step.TheVariants.{Take}
-use Rattle.vms_core.specs.Pages.{pages}
-use Rattle.vms_count.specs.Changing.{CarriesFor}
-use Rattle.vms_seats.specs.Steps.{MadeOne}
-use Rattle.vms_call_trials.proofs.IdlePasses.{is_of-made}
+use Rattle.vms_calls.specs.Common.{GroupId, Shape, IsCounter, own, Take, pages}
+use Rattle.vms_count.specs.Common.{CarriesFor}
+use Rattle.vms_seats.specs.Common.{MadeOne}
+use Rattle.vms_call_trials.proofs.Common.{is_of-made}
 use Rattle.vms_thread_trials.proofs.FirstCounters.{is_first, taken-first}
 use Rattle.vms_thread_trials.proofs.exchanges.take_first.Goals as goal
 

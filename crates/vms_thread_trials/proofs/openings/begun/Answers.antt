@@ -1,15 +1,10 @@
 -- The goals were what the passes ask as they begin, that they carry nothing, and what the main pass has done then.
 use Rattle.std.proofs.Common.{◌≢◌, ℕ, ◌∷◌, replicate, Option, Some, None, ap, arith, ◌∙◌}
-use Rattle.vms_base.specs.declared.ids.CpuId.{CpuId}
-use Rattle.vms_base.specs.Places.{counter_count}
-use Rattle.vms_core.specs.declared.steps.Step.TheVariants.{Split, Join}
-use Rattle.vms_history.specs.Events.{own}
-use Rattle.vms_core.specs.Pages.{pages}
-use Rattle.vms_words.specs.Told.{begins_it, ends_it}
-use Rattle.vms_call_trials.proofs.IdlePasses.{idle-begun}
-use Rattle.vms_trial_passes.proofs.ThreePasses.{free-control, three-begun}
-use Rattle.vms_trial_passes.proofs.TwoPasses.{first-seen, free-first, free-second, is_of-later, own-begun}
-use Rattle.vms_call_trials.proofs.Volumes.{holds-first, holds-second}
+use Rattle.vms_calls.specs.Common.{CpuId, counter_count, Split, Join, own, pages}
+use Rattle.vms_words.specs.Common.{begins_it, ends_it}
+use Rattle.vms_call_trials.proofs.Common.{idle-begun, holds-first, holds-second}
+use Rattle.vms_seats.proofs.Common.{free-control, three-begun, first-seen, free-first, free-second, is_of-later}
+use Rattle.vms_seats.proofs.Common.{own-begun}
 use Rattle.vms_thread_trials.proofs.openings.begun.Goals as goal
 
 abbrev number_of : Option CpuId → ℕ

@@ -1,10 +1,8 @@
 -- The goals were what the ends of the passes ask, and that none lives then.
 use Rattle.std.proofs.Common.{Some, None}
-use Rattle.vms_core.specs.declared.steps.Step.TheVariants.{Split, Join}
-use Rattle.vms_core.specs.Pages.{pages}
-use Rattle.vms_words.specs.Told.{begins_it, ends_it}
-use Rattle.vms_trial_passes.proofs.ThreePasses.{three-ended}
-use Rattle.vms_trial_passes.proofs.TwoPasses.{is_of-later}
+use Rattle.vms_calls.specs.Common.{Split, Join, pages}
+use Rattle.vms_words.specs.Common.{begins_it, ends_it}
+use Rattle.vms_seats.proofs.Common.{three-ended, is_of-later}
 use Rattle.vms_thread_trials.proofs.openings.close.Goals as goal
 
 pub join_cpu-requires-2-clause-table : goal.join_cpu-requires-2-clause-table

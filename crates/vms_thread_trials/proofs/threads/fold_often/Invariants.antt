@@ -1,4 +1,4 @@
-use Rattle.vms_thread_trials.specs.IdleCalls.{StaysIdle}
+use Rattle.vms_thread_trials.specs.Common.{StaysIdle}
 use Rattle.vms_thread_trials.proofs.threads.fold_often.Given as goal
 
 abbrev pub invariant-loop : goal.invariant-loop

@@ -1,5 +1,5 @@
 use Rattle.std.proofs.Common.{◌≤◌}
-use Rattle.vms_thread_trials.specs.IdleCalls.{StaysIdle}
+use Rattle.vms_thread_trials.specs.Common.{StaysIdle}
 use Rattle.vms_thread_trials.proofs.threads.inc_often.Given as goal
 
 abbrev pub invariant-loop : goal.invariant-loop

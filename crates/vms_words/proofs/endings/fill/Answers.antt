@@ -1,6 +1,6 @@
 -- The goals were that a place fits, and that one more entry is read.
 use Rattle.std.proofs.Common.{◌+◌, slice_index, ap, ◌∙◌, arith, length, length-set}
-use Rattle.vms_core.specs.Pages.{state_after}
+use Rattle.vms_calls.specs.Common.{state_after}
 use Rattle.vms_words.specs.Shown.{shown}
 use Rattle.vms_words.proofs.Filled.{got, filled-more}
 use Rattle.vms_words.proofs.endings.fill.Goals as goal

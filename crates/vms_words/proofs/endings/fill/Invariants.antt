@@ -1,5 +1,5 @@
 use Rattle.std.proofs.Common.{◌≡◌, ℕ, ◌+◌, ◌<◌, length, slice_index, slice_index_or}
-use Rattle.vms_core.specs.Pages.{state_after}
+use Rattle.vms_calls.specs.Common.{state_after}
 use Rattle.vms_words.specs.Shown.{shown}
 use Rattle.vms_words.proofs.endings.fill.Given as goal
 

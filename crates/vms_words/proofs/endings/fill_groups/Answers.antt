@@ -1,8 +1,8 @@
 -- The goals were that a place fits, and that one more entry is read.
-use Rattle.std.proofs.Common.{◌+◌, ◌/◌, ◌%◌, ℤ, pos, List, slice_index, get_or, ap, ◌∙◌, arith, length, length-set}
-use Rattle.std.proofs.Common.{w64, to_z, of_z}
+use Rattle.std.proofs.Common.{◌+◌, ◌/◌, ◌%◌, ℤ, pos, List, slice_index, get_or, ap, ◌∙◌, arith, length, length-set, w64}
+use Rattle.std.proofs.Common.{to_z, of_z}
 use Rattle.vms_base.specs.Groups.{bytes_of_word}
-use Rattle.vms_core.specs.Pages.{state_after}
+use Rattle.vms_calls.specs.Common.{state_after}
 use Rattle.vms_words.specs.Shown.{shown}
 use Rattle.vms_words.proofs.Filled.{got, filled-more}
 use Rattle.vms_words.proofs.Numbers.{byte-passed}

@@ -1,6 +1,6 @@
 use Rattle.std.proofs.Common.{◌≡◌, ℕ, ◌+◌, ◌/◌, ◌%◌, ◌<◌, pos, length, slice_index, slice_index_or}
 use Rattle.vms_base.specs.Groups.{bytes_of_word}
-use Rattle.vms_core.specs.Pages.{state_after}
+use Rattle.vms_calls.specs.Common.{state_after}
 use Rattle.vms_words.specs.Shown.{shown}
 use Rattle.vms_words.proofs.endings.fill_groups.Given as goal
 

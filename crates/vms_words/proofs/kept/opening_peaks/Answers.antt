@@ -1,6 +1,6 @@
 -- The goal was that one more entry is the peak of its CPU and zone.
 use Rattle.std.proofs.Common.{◌/◌, ◌%◌, ap, ◌∙◌, arith, length, length-set}
-use Rattle.vms_core.specs.Peaks.{opening_peak}
+use Rattle.vms_calls.specs.Common.{opening_peak}
 use Rattle.vms_words.proofs.Filled.{filled-more}
 use Rattle.vms_words.proofs.kept.opening_peaks.Goals as goal
 

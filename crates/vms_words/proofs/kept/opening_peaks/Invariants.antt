@@ -1,5 +1,5 @@
 use Rattle.std.proofs.Common.{◌≡◌, ℕ, ◌<◌, ◌/◌, ◌%◌, length, slice_index_or}
-use Rattle.vms_core.specs.Peaks.{opening_peak}
+use Rattle.vms_calls.specs.Common.{opening_peak}
 use Rattle.vms_words.proofs.kept.opening_peaks.Given as goal
 
 -- the row keeps its length, and its first entries are the peaks of their CPUs and zones

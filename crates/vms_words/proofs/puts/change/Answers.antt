@@ -1,7 +1,7 @@
 -- The goals were what a change past the threshold leaves and carries.
 use Rattle.std.proofs.Common.{arith, ◌<◌, ◌+ℤ◌, unsigned_abs}
 use Rattle.std.proofs.lemmas.Int.{ints}
-use Rattle.vms_core.proofs.PastThreshold.{differential_after-past, carried_by-past}
+use Rattle.vms_core.proofs.Common.{differential_after-past, carried_by-past}
 use Rattle.vms_words.proofs.puts.change.Goals as goal
 
 pub returns-clause-differential : goal.returns-clause-differential

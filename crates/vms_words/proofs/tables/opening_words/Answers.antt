@@ -1,9 +1,8 @@
 -- The goals were that each spot is of the layout, and that the list grows by its word.
 use Rattle.std.proofs.Common.{◌≡◌, ◌∙◌, ◌++◌, ◌∷◌, [], sym, ap, arith}
 use Rattle.std.proofs.lemmas.List.FromFn.{map-range_with_len_more}
-use Rattle.vms_core.proofs.PlainData.{AreBytes-opening}
-use Rattle.vms_words.specs.Shown.{word_at}
-use Rattle.vms_words.specs.Spots.{spot_in}
+use Rattle.vms_core.proofs.Common.{AreBytes-opening}
+use Rattle.vms_words.specs.Common.{spot_word, spot_in}
 use Rattle.vms_words.proofs.Blocks.{are_blocks}
 use Rattle.vms_words.proofs.Places.{spot_in-known}
 use Rattle.vms_words.proofs.tables.opening_words.Goals as goal
@@ -18,8 +17,8 @@ word_of-requires-clause-spot c = rw c.spot_at-spot.ensures
 
 pub loop-place-preserved : goal.loop-place-preserved
 loop-place-preserved c =
-    let word : c.word_of.result ≡ word_at c.args.state.now (spot_in c.args.blocks c.loop-place.place) =
-    c.word_of.ensures ∙ ap (word_at c.args.state.now) c.spot_at-spot.ensures in
+    let word : c.word_of.result ≡ spot_word c.args.state.now (spot_in c.args.blocks c.loop-place.place) =
+    c.word_of.ensures ∙ ap (spot_word c.args.state.now) c.spot_at-spot.ensures in
     c.in_ok-push.ensures.items ∙ (λ i. c.loop-place.invariant i ++ (word i ∷ []))
-    ∙ sym (map-range_with_len_more (λ n. word_at c.args.state.now (spot_in c.args.blocks n)) 0 c.loop-place.place
+    ∙ sym (map-range_with_len_more (λ n. spot_word c.args.state.now (spot_in c.args.blocks n)) 0 c.loop-place.place
     c.loop-place.place (omega arith))

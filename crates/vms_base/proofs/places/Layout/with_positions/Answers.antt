@@ -1,6 +1,6 @@
 -- The zones stand in order, so they differ, and each fact of a layout is a fact of its parts.
 use Rattle.std.proofs.Common.{arith, inl, inr, length, refl}
-use Rattle.vms_base.specs.Places.{IsLayout}
+use Rattle.vms_base.specs.Common.{IsLayout}
 use Rattle.vms_base.proofs.Doubled.{not-HasDoubled}
 use Rattle.vms_base.proofs.Made.{not_empty, IsLayout-made}
 use Rattle.vms_base.proofs.places.Layout.with_positions.Goals as goal

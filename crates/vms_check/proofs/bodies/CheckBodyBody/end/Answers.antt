@@ -1,11 +1,10 @@
 -- The last line, where memory is left for it.
 use Rattle.std.proofs.Common.{ap, ap₂, ◌∙◌, ◌++◌, ℕ, List, None, codes, append_assoc, Ok, Err}
 use Rattle.std.proofs.lemmas.Result.{err_from_is_err_and}
-use Rattle.vms_command.specs.Commands.{status_at_end}
-use Rattle.vms_command.specs.Printing.{done_line}
-use Rattle.vms_check.specs.Checking.{checking}
+use Rattle.vms_command.specs.Common.{status_at_end, done_line}
+use Rattle.vms_check.specs.Common.{checking}
 use Rattle.vms_check.proofs.CheckedLines.{IsPlain-checking}
-use Rattle.vms_command.proofs.PlainBodies.{ClosesBody-plain}
+use Rattle.vms_command.proofs.Common.{ClosesBody-plain}
 use Rattle.vms_check.proofs.bodies.CheckBodyBody.end.Goals as goal
 
 pub returns-in_err-extend_from_slice : goal.returns-in_err-extend_from_slice

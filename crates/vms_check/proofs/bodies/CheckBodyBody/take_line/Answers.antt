@@ -2,10 +2,10 @@
 use Rattle.std.proofs.Common.{sym, ap, ◌∙◌, ◌++◌, None, Result}
 use Rattle.vms_line.specs.declared.causes.LineCause.{LineCause}
 use Rattle.vms_text.specs.declared.acts.Line.{Line}
-use Rattle.vms_script.proofs.Known.{judged-known}
-use Rattle.vms_check.specs.Checking.{checked_line, checking}
+use Rattle.vms_script.proofs.Common.{judged-known}
+use Rattle.vms_check.specs.Common.{checked_line, checking}
 use Rattle.vms_check.proofs.CheckedLines.{IsPlain-checking}
-use Rattle.vms_command.proofs.PlainBodies.{TakesLine-plain}
+use Rattle.vms_command.proofs.Common.{BodyTakes-plain}
 use Rattle.vms_check.proofs.bodies.CheckBodyBody.take_line.Goals as goal
 
 pub write_accepted-requires-clause-line : goal.write_accepted-requires-clause-line
@@ -16,7 +16,7 @@ write_accepted-requires-clause-line c =
 
 pub returns-in-Ok : goal.returns-in-Ok
 returns-in-Ok c =
-    TakesLine-plain checking IsPlain-checking (λ header above kept. Unit {0}) (λ header above kept. Unit {0}) None
+    BodyTakes-plain checking IsPlain-checking (λ header above kept. Unit {0}) (λ header above kept. Unit {0}) None
     c.args.header.now c.args.number c.args.judged.now.said c.write_accepted.result c.args.out.now.items
     c.write_accepted.new.out.items c.write_accepted.ensures
     (λ prints above kept here judged_is. (
@@ -28,7 +28,7 @@ returns-in-Ok c =
 
 pub returns-in-Err : goal.returns-in-Err
 returns-in-Err c =
-    TakesLine-plain checking IsPlain-checking (λ header above kept. Unit {0}) (λ header above kept. Unit {0}) None
+    BodyTakes-plain checking IsPlain-checking (λ header above kept. Unit {0}) (λ header above kept. Unit {0}) None
     c.args.header.now c.args.number c.args.judged.now.said c.write_refused.result c.args.out.now.items
     c.write_refused.new.out.items c.write_refused.ensures
     (λ prints above kept here judged_is. (

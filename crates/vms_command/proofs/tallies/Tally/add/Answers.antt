@@ -1,7 +1,7 @@
 use Rattle.std.proofs.Common.{sym, subst}
 use Rattle.std.specs.Prelude.{Ok}
 use Rattle.vms_text.specs.declared.acts.Line.{Line}
-use Rattle.vms_command.specs.Tallies.{Adds}
+use Rattle.vms_command.specs.Common.{Adds}
 use Rattle.vms_command.proofs.tallies.Tally.add.Goals as goal
 
 pub returns-in-Lane : goal.returns-in-Lane

@@ -2,7 +2,7 @@
 use Rattle.std.proofs.Common.{ap, ◌∙◌, ◌++◌}
 use Rattle.std.proofs.lemmas.Result.{err_from_is_err_and}
 use Rattle.vms_header.specs.declared.causes.HeaderCause.{HeaderCause}
-use Rattle.vms_command.specs.Printing.{header_line}
+use Rattle.vms_command.specs.Common.{header_line}
 use Rattle.vms_command.proofs.CommandLines.{InSomeBody-at_work, body-ends, end-failed, header-ends, stopped-ends}
 use Rattle.vms_command.proofs.trace_jobs.TraceJobJob.end.Goals as goal
 

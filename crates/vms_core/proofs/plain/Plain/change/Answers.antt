@@ -1,11 +1,11 @@
 use Rattle.std.proofs.Common.{◌≡◌, sym, rules, SFits, w64, arith}
 use Rattle.std.proofs.lemmas.Int.{ints, to_z-of_z}
-use Rattle.vms_base.specs.Places.{place_of}
-use Rattle.vms_core.specs.Cells.{threshold_at}
-use Rattle.vms_base.proofs.Counts.{place_of-lt, item_of-lt}
+use Rattle.vms_history.specs.Common.{place_of}
+use Rattle.vms_core.specs.Common.{threshold_at}
+use Rattle.vms_base.proofs.Common.{place_of-lt, item_of-lt}
 use Rattle.vms_core.proofs.PlainData.{places_of-shaped}
-use Rattle.vms_core.proofs.WithChange.{value-with_carried, system-with_carried, with_change-steps}
-use Rattle.vms_core.proofs.WithChange.{total-with_change, total_of_item-with_change}
+use Rattle.vms_core.proofs.WithChange.{value-with_carried, system-with_carried, with_change-steps, total-with_change}
+use Rattle.vms_core.proofs.WithChange.{total_of_item-with_change}
 use Rattle.vms_core.proofs.plain.Plain.change.Goals as goal
 
 pub load_threshold-threshold-requires-clause-place :

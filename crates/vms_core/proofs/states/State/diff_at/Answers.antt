@@ -1,7 +1,7 @@
 -- a cell stands within the list
 use Rattle.std.proofs.Common.{◌∙◌, ap}
-use Rattle.vms_base.specs.Places.{cell, counter_count}
-use Rattle.vms_base.proofs.Cells.{cell-lt}
+use Rattle.vms_history.specs.Common.{cell, counter_count}
+use Rattle.vms_base.proofs.Common.{cell-lt}
 use Rattle.vms_core.proofs.states.State.diff_at.Goals as goal
 
 pub get-requires : goal.get-requires

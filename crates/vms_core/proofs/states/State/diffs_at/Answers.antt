@@ -1,6 +1,6 @@
 -- the cells of a group stand within the list
 use Rattle.std.proofs.Common.{◌*◌, ◌∙◌, ap, sym}
-use Rattle.vms_base.specs.Places.{cell}
+use Rattle.vms_history.specs.Common.{cell}
 use Rattle.vms_core.proofs.CellLemmas.{AreBytes-cells, TellsGroup-cells}
 use Rattle.vms_core.proofs.Effects.{group-cells}
 use Rattle.vms_core.proofs.states.State.diffs_at.Goals as goal

@@ -1,8 +1,8 @@
 -- a cell stands within the list
 use Rattle.std.proofs.Common.{◌≡◌, ◌∙◌, ap, sym, slice_index_or}
-use Rattle.vms_base.specs.Places.{cell, place_count}
-use Rattle.vms_base.proofs.Cells.{cell-lt}
-use Rattle.vms_core.specs.Cells.{places_of}
+use Rattle.vms_history.specs.Common.{cell, place_count}
+use Rattle.vms_base.proofs.Common.{cell-lt}
+use Rattle.vms_core.specs.Common.{places_of}
 use Rattle.vms_core.proofs.PlainData.{places_of-shaped}
 use Rattle.vms_core.proofs.states.State.threshold_at.Goals as goal
 

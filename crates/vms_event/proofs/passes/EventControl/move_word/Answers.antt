@@ -1,18 +1,15 @@
 -- The goals were that the word may be taken and what was found in it added, what this makes, and that the control pass
 -- carries nothing afterwards.
 use Rattle.std.proofs.Common.{◌≡◌, ◌+◌, ◌%◌, ◌^◌, ap, sym, ◌∙◌, subst}
-use Rattle.vms_base.specs.declared.kinds.CpuState.TheVariants.{Dead}
+use Rattle.vms_history.specs.Common.{Dead}
 use Rattle.vms_event_core.specs.declared.steps.EventFacts.{EventFacts}
 use Rattle.vms_event_core.specs.declared.steps.EventStep.{EventStep}
 use Rattle.vms_event_core.specs.declared.steps.EventStep.TheVariants.{TakeE, AddF}
-use Rattle.vms_event_core.specs.Bases.{cpu_at, IsLowestOnline}
-use Rattle.vms_event_core.specs.Calls.{moves}
-use Rattle.vms_event_core.specs.Events.{events}
+use Rattle.vms_event_core.specs.Common.{cpu_at, IsLowestOnline, moves, events}
 use Rattle.vms_event.specs.SharedWords.{shown}
 use Rattle.vms_event.proofs.KeptControl.{control-moved}
 use Rattle.vms_event.proofs.MovedWords.{take-may, taken-carries, add-may, moved-nothing, moved-some}
-use Rattle.vms_seats.specs.Passes.{Pass}
-use Rattle.vms_seats.specs.Steps.{Made, MayStep}
+use Rattle.vms_seats.specs.Common.{Pass, Made, MayStep}
 use Rattle.vms_event.proofs.passes.EventControl.move_word.Goals as goal
 
 pub swap_at-found-requires-clause-step : goal.swap_at-found-requires-clause-step

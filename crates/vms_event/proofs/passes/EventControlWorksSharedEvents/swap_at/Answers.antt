@@ -2,10 +2,10 @@
 use Rattle.std.proofs.Common.{sym, subst}
 use Rattle.vms_event_core.specs.declared.steps.EventFacts.{EventFacts}
 use Rattle.vms_event_core.specs.declared.steps.EventStep.{EventStep}
-use Rattle.vms_event_core.specs.Events.{events}
-use Rattle.vms_event.specs.SharedWords.{shown, told}
-use Rattle.vms_seats.specs.Passes.{Pass}
-use Rattle.vms_seats.specs.Steps.{MayStep}
+use Rattle.vms_event_core.specs.Common.{events}
+use Rattle.vms_event.specs.SharedWords.{shown}
+use Rattle.vms_event.specs.Common.{told}
+use Rattle.vms_seats.specs.Common.{Pass, MayStep}
 use Rattle.vms_event.proofs.KeptControl.{control-left}
 use Rattle.vms_event.proofs.passes.EventControlWorksSharedEvents.swap_at.Goals as goal
 

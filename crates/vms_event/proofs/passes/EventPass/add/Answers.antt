@@ -1,19 +1,18 @@
 -- The goals were that the word is one of the table's, that the count may be made, and that the volumes cover it.
 use Rattle.std.proofs.Common.{◌+◌, ◌≤◌, ◌%◌, ◌^◌, ◌<◌, slice_index, slice_set, ap, sym, ◌∙◌, subst}
-use Rattle.vms_base.specs.Volumes.{most_volume}
+use Rattle.vms_history.specs.Common.{most_volume}
 use Rattle.vms_event_core.specs.declared.steps.EventStep.TheVariants.{AddE}
-use Rattle.vms_event_core.specs.Events.{events}
-use Rattle.vms_event.specs.CpuPasses.{CpuPass, IsCpuPass}
+use Rattle.vms_event_core.specs.Common.{events}
+use Rattle.vms_event.specs.Common.{CpuPass, IsCpuPass}
 use Rattle.vms_event.specs.SharedWords.{shown}
 use Rattle.vms_event.proofs.OwnCounts.{count-may, own-place, counted-covers}
-use Rattle.vms_seats.specs.Passes.{IsOf}
-use Rattle.vms_seats.specs.Steps.{MayStep}
+use Rattle.vms_seats.specs.Common.{IsFrom, MayStep}
 use Rattle.vms_event.proofs.passes.EventPass.add.Goals as goal
 
 pub add_at-requires-clause-place : goal.add_at-requires-clause-place
 add_at-requires-clause-place c =
-    let of = subst (λ (p : CpuPass). IsOf p.pass c.table.inside.words) (sym c.self.view_is)
-    (subst (IsOf c.args.self.now.pass) (sym c.table.view_is) c.requires.table) in
+    let of = subst (λ (p : CpuPass). IsFrom p.pass c.table.inside.words) (sym c.self.view_is)
+    (subst (IsFrom c.args.self.now.pass) (sym c.table.view_is) c.requires.table) in
     subst (λ at. at < c.table.inside.words.table.words) (sym c.place.ensures)
     (own-place c.self.inside.worker c.self.inside.cpu c.self.inside.volume c.self.invariant c.args.event c.args.n
     c.requires.event c.table.inside.facts c.table.inside.words c.table.invariant of)

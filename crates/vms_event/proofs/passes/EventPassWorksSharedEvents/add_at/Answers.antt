@@ -1,10 +1,10 @@
 -- The goals were that the step may be made, and that the volumes still cover what the CPU has counted.
 use Rattle.std.proofs.Common.{◌+◌, ◌%◌, ◌^◌, sym, subst}
-use Rattle.vms_event_core.specs.Events.{events}
-use Rattle.vms_event.specs.CpuPasses.{CpuPass}
-use Rattle.vms_event.specs.SharedWords.{shown, told}
+use Rattle.vms_event_core.specs.Common.{events}
+use Rattle.vms_event.specs.Common.{CpuPass, told}
+use Rattle.vms_event.specs.SharedWords.{shown}
 use Rattle.vms_event.proofs.KnownSpending.{covers-left}
-use Rattle.vms_seats.specs.Steps.{MayStep}
+use Rattle.vms_seats.specs.Common.{MayStep}
 use Rattle.vms_event.proofs.passes.EventPassWorksSharedEvents.add_at.Goals as goal
 
 pub add_at-requires-clause-step : goal.add_at-requires-clause-step

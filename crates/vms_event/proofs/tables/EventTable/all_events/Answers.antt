@@ -1,8 +1,8 @@
 -- The goals were that what is loaded so far adds up, and that the sum fits.
 use Rattle.std.proofs.Common.{◌+◌, refl, ap, sym, ◌∙◌, subst, arith}
-use Rattle.vms_base.specs.declared.kinds.CpuState.TheVariants.{Online}
+use Rattle.vms_history.specs.Common.{Online}
 use Rattle.vms_event_core.specs.declared.steps.EventFacts.{EventFacts}
-use Rattle.vms_seats.specs.Passes.{Shared}
+use Rattle.vms_seats.specs.Common.{Shared}
 use Rattle.vms_event.proofs.LoadedWords.{SoFar, so_far-none, so_far-then, so_far-else, so_far-fits}
 use Rattle.vms_event.proofs.tables.EventTable.all_events.Goals.{then-is_online, else-is_online}
 use Rattle.vms_event.proofs.tables.EventTable.all_events.Goals as goal

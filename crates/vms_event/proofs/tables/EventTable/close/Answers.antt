@@ -2,10 +2,10 @@
 use Rattle.std.proofs.Common.{◌≡◌, ◌∙◌, length, sym, subst}
 use Rattle.vms_event_core.specs.declared.steps.EventFacts.{EventFacts}
 use Rattle.vms_event_core.specs.declared.steps.EventStep.{EventStep}
-use Rattle.vms_event_core.specs.Events.{events, state_after}
-use Rattle.vms_event_core.proofs.StateWords.{HasShape-state_after}
-use Rattle.vms_history.proofs.Prefixes.{base_can_begin}
-use Rattle.vms_seats.specs.Passes.{Phase, Shared}
+use Rattle.vms_event_core.specs.Common.{events, state_after}
+use Rattle.vms_event_core.proofs.Common.{HasShape-state_after}
+use Rattle.vms_history.proofs.Common.{base_can_begin}
+use Rattle.vms_seats.specs.Common.{Phase, Shared}
 use Rattle.vms_event.proofs.tables.EventTable.close.Goals as goal
 
 pub write_words-requires : goal.write_words-requires

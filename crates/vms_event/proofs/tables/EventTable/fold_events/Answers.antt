@@ -1,12 +1,8 @@
 -- The goals were that what is moved so far grows by the moves of the next event, and that nothing is left at the end.
 use Rattle.std.proofs.Common.{◌≡◌, ℕ, [], refl, sym, subst, arith}
-use Rattle.vms_base.specs.declared.kinds.CpuState.TheVariants.{Dead}
+use Rattle.vms_history.specs.Common.{Dead}
 use Rattle.vms_event_core.specs.declared.steps.EventFacts.{EventFacts}
-use Rattle.vms_event_core.specs.Bases.{cpu_at}
-use Rattle.vms_event_core.specs.Calls.{folds}
-use Rattle.vms_event_core.specs.Events.{state_after}
-use Rattle.vms_event_core.specs.Laws.{MovesOnce}
-use Rattle.vms_event_core.specs.Words.{IsEvent, word_at}
+use Rattle.vms_event_core.specs.Common.{cpu_at, folds, state_after, MovesOnce, IsEvent, word_at}
 use Rattle.vms_event.proofs.MovedWords.{folded-more}
 use Rattle.vms_event.proofs.tables.EventTable.fold_events.Goals as goal
 

@@ -1,10 +1,10 @@
 -- The goal was that the load may be made.
 use Rattle.std.proofs.Common.{sym, subst}
 use Rattle.vms_event_core.specs.declared.steps.EventStep.TheVariants.{LoadE}
-use Rattle.vms_event_core.specs.Events.{events}
+use Rattle.vms_event_core.specs.Common.{events}
 use Rattle.vms_event.specs.SharedWords.{shown}
 use Rattle.vms_event.proofs.LoadedWords.{load-may}
-use Rattle.vms_seats.specs.Steps.{MayStep}
+use Rattle.vms_seats.specs.Common.{MayStep}
 use Rattle.vms_event.proofs.tables.EventTable.load_word.Goals as goal
 
 pub load-requires-clause-step : goal.load-requires-clause-step

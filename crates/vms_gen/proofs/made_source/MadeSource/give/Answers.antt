@@ -1,7 +1,6 @@
 use Rattle.std.proofs.Common.{take, drop, ◌≡◌, ◌≤◌, ◌+◌, ◌-◌, ◌∙◌, ap, sym, arith, flat_map, length}
-use Rattle.vms_text.specs.Spelling.{sentence}
-use Rattle.vms_gen.specs.Left.{lines_left}
-use Rattle.vms_gen.specs.contracts.made_source.MadeSource.{the_view}
+use Rattle.vms_text.specs.Common.{sentence}
+use Rattle.vms_gen.specs.Common.{lines_left, the_view}
 use Rattle.vms_gen.proofs.Lefts.{line-spent, piece-given}
 use Rattle.vms_gen.proofs.made_source.MadeSource.give.Goals as goal
 use Rattle.vms_gen.proofs.made_source.MadeSource.give.Goals.{then-self-len+in-Some, else-self-len}

@@ -6,14 +6,9 @@ use Rattle.vms_header.specs.declared.causes.HeaderCause.{HeaderCause}
 use Rattle.vms_header.specs.declared.causes.ReadError.{ReadError}
 use Rattle.vms_header.specs.declared.causes.ReadError.TheVariants.{Refused, Memory}
 use Rattle.vms_header.specs.declared.drafts.HeadStep.{HeadStep as KeptStep}
-use Rattle.vms_header.specs.DraftFacts.{IsStage, IsHeadStep}
-use Rattle.vms_header.specs.Stages.{Stage, HeadStep, head_line, stage_line}
-use Rattle.vms_header.specs.Stages.HeadStep.{Goes, Ends}
-use Rattle.vms_text.specs.Words.{words_of}
-use Rattle.vms_header.specs.Steps.{StepsTo}
-use Rattle.vms_text.specs.Reading.{is_clean, is_ignored}
-use Rattle.vms_header.specs.Laws.{IsWritable}
-use Rattle.vms_header.specs.Readers.{Reads, draft_of, stage_of, step_of}
+use Rattle.vms_header.specs.Common.{IsStage, IsHeadStep, Stage, HeadStep, head_line, stage_line, Goes, Ends, StepsTo}
+use Rattle.vms_header.specs.Common.{IsWritable, IsSameRead, draft_of, stage_of, step_of}
+use Rattle.vms_text.specs.Common.{words_of, is_clean, is_ignored}
 use Rattle.vms_header.proofs.DraftLines.{head_line-keeps}
 use Rattle.vms_header.proofs.EightWords.{head_line-words}
 use Rattle.vms_header.proofs.Written.{header_of-writable}
@@ -30,7 +25,7 @@ read_as self inside line clean ignored items seen is short read other clean_is s
     (ap (map (λ word. word.now)) same ∙ words)
     ∙ ap (λ stage. stage_line stage clean (map (λ word. word.now) seen)) (sym is)
 
-StepsTo-refused : (answer : Result HeadStep HeaderCause) (error : ReadError) → Reads step_of answer (Err error)
+StepsTo-refused : (answer : Result HeadStep HeaderCause) (error : ReadError) → IsSameRead step_of answer (Err error)
     → StepsTo answer (Err error)
 StepsTo-refused answer (Refused cause) refused = refused
 StepsTo-refused answer Memory refused = tt
@@ -43,7 +38,7 @@ returns-in_err-stage-clause-step c =
     c.cut_words-words.ensures in
     let p = err_from_is_err_and c.from_residual.result c.from_residual.ensures.1 in
     let error = c.in_err-stage.field-0.0 in
-    let refused = subst (λ answer. Reads step_of answer (Err error)) (sym read) c.in_err-stage.ensures in
+    let refused = subst (λ answer. IsSameRead step_of answer (Err error)) (sym read) c.in_err-stage.ensures in
     rw (p.1, p.2) (StepsTo-refused (head_line c.args.self c.args.line.now) error refused)
 
 -- what a line makes is as it should be

@@ -1,5 +1,5 @@
 use Rattle.std.proofs.Common.{◌+◌, ◌-◌, ℕ, List, arith, subst, take, drop, rules}
-use Rattle.vms_io.specs.Reading.{WholeLines}
+use Rattle.vms_io.specs.Common.{WholeLines}
 use Rattle.vms_io.proofs.Searches.{found_after, none_after, Searched-all}
 use Rattle.vms_io.proofs.buffers.ReadBuffer.whole_lines.Goals as goal
 

@@ -1,7 +1,6 @@
 use Rattle.std.proofs.Common.{◌≡◌, Contains, inl, inr, ap, sym, subst, arith}
 use Rattle.std.proofs.lemmas.List.{length-take}
-use Rattle.vms_io.specs.Faults.{FailsNext}
-use Rattle.vms_io.specs.InMemory.{IsFull}
+use Rattle.vms_io.specs.Common.{FailsNext, IsFull}
 use Rattle.vms_io.proofs.mem_sink.MemSinkSink.write.Goals as goal
 
 pub returns-clause-fails : goal.returns-clause-fails

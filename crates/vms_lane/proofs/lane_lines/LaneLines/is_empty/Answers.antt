@@ -1,9 +1,8 @@
 -- A lane has no line exactly where no line is of it.
-use Rattle.std.proofs.Common.{◌≡◌, Bool, true, false, not, IsTrue, ◌||◌, List, [], ◌∷◌, cond, map, filter, refl, sym, ap, ◌∙◌, subst}
+use Rattle.std.proofs.Common.{◌≡◌, Bool, true, false, not, IsTrue, ◌||◌, List, [], ◌∷◌, cond, map, filter, refl, sym}
+use Rattle.std.proofs.Common.{ap, ◌∙◌, subst}
 use Rattle.std.specs.List.{list_any}
-use Rattle.vms_script.specs.PhaseScripts.{is_lane, lane_item, lane_items}
-use Rattle.vms_text.specs.declared.acts.Item.{Item}
-use Rattle.vms_text.specs.declared.acts.Lane.{Lane}
+use Rattle.vms_world.specs.Common.{is_lane, lane_item, lane_items, Item, Lane}
 use Rattle.vms_lane.proofs.lane_lines.LaneLines.is_empty.Goals as goal
 
 none-any : (lane : Lane) (items : List Item) → list_any (λ (item : Item). is_lane lane item.lane) items ≡ false

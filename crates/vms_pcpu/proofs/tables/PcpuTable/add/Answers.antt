@@ -1,12 +1,11 @@
 -- The goal was that the pass is ready again, and that its volumes hold what its CPU has spent.
-use Rattle.std.proofs.Common.{◌≡◌, ◌+◌, ℤ, unsigned_abs, slice_index, slice_set, w64, to_z, of_z, ap, sym, ◌∙◌}
-use Rattle.std.proofs.Common.{subst, arith}
+use Rattle.std.proofs.Common.{◌≡◌, ◌+◌, ℤ, unsigned_abs, slice_index, slice_set, w64, to_z, of_z, ap, sym, ◌∙◌, subst}
+use Rattle.std.proofs.Common.{arith}
 use Rattle.std.proofs.lemmas.Int.{ints, to_z-of_z}
 use Rattle.vms_pcpu_core.specs.declared.steps.PcpuFacts.{PcpuFacts}
-use Rattle.vms_pcpu_core.specs.Calls.{IsAdd}
-use Rattle.vms_pcpu_core.specs.States.{IsPcpu, batch_at}
-use Rattle.vms_pcpu_core.proofs.OwnSteps.{add-adds}
-use Rattle.vms_pcpu.specs.IdlePasses.{CpuPass, IsCpuPass}
+use Rattle.vms_pcpu_core.specs.Common.{IsAdd, IsPcpu, batch_at}
+use Rattle.vms_pcpu_core.proofs.Common.{add-adds}
+use Rattle.vms_pcpu.specs.Common.{CpuPass, IsCpuPass}
 use Rattle.vms_pcpu.proofs.ReadyPasses.{owns-amount}
 use Rattle.vms_pcpu.proofs.tables.PcpuTable.add.Goals as goal
 

@@ -1,18 +1,16 @@
 -- The goals were that each step may be made, and that the steps are those of an addition.
 use Rattle.std.proofs.Common.{◌≡◌, ◌<◌, ◌≤◌, ◌+ℤ◌, ℤ, unsigned_abs, w64, to_z, of_z, Some, [], ◌∷◌, sym, subst, arith}
 use Rattle.std.proofs.lemmas.Int.{ints}
-use Rattle.vms_base.specs.Places.{IsCpu}
+use Rattle.vms_history.specs.Common.{IsCpu}
 use Rattle.vms_pcpu_core.specs.declared.steps.PcpuFacts.{PcpuFacts}
 use Rattle.vms_pcpu_core.specs.declared.steps.PcpuStep.TheVariants.{AddL, LoadL, TakeL, AddC, Unlock}
-use Rattle.vms_pcpu_core.specs.Histories.{percpu}
-use Rattle.vms_pcpu_core.specs.MayCall.{MayMake}
-use Rattle.vms_pcpu_core.specs.States.{batch_at}
-use Rattle.vms_pcpu_core.proofs.Totals.{owned}
+use Rattle.vms_pcpu_core.specs.Common.{percpu, MayMake, batch_at}
+use Rattle.vms_pcpu_core.proofs.Common.{owned}
 use Rattle.vms_pcpu.proofs.AddCalls.{add_below-may, added_below, add_reached-may, added_reached}
 use Rattle.vms_pcpu.proofs.ReadyPasses.{owner-after}
 use Rattle.vms_pcpu.proofs.SmallNumbers.{same_word}
 use Rattle.vms_pcpu.proofs.tables.PcpuTable.add_by.Goals as goal
-use Rattle.vms_seats.specs.Steps.{Made, MadeOne}
+use Rattle.vms_seats.specs.Common.{Made, MadeOne}
 
 pub load_local-local-requires-clause-cpu : goal.load_local-local-requires-clause-cpu
 load_local-local-requires-clause-cpu g c =

@@ -1,15 +1,15 @@
 -- The goal was that the addition may be made.
 use Rattle.std.proofs.Common.{◌≡◌, ℤ, ◌+◌, ◌%◌, ◌^◌, w64, to_z, of_z, ap, sym, ◌∙◌, subst}
 use Rattle.std.proofs.lemmas.Int.{to_z-of_z}
-use Rattle.vms_base.specs.Numbers.{word_of}
+use Rattle.vms_history.specs.Common.{word_of}
 use Rattle.vms_pcpu_core.specs.declared.steps.PcpuFacts.{PcpuFacts}
 use Rattle.vms_pcpu_core.specs.declared.steps.PcpuStep.TheVariants.{AddC}
-use Rattle.vms_pcpu_core.specs.Histories.{percpu}
-use Rattle.vms_pcpu_core.specs.States.{IsPcpu}
-use Rattle.vms_pcpu.specs.SharedWords.{shown, told}
+use Rattle.vms_pcpu_core.specs.Common.{percpu, IsPcpu}
+use Rattle.vms_pcpu.specs.SharedWords.{shown}
+use Rattle.vms_pcpu.specs.Common.{told}
 use Rattle.vms_pcpu.proofs.StepWords.{count-add}
 use Rattle.vms_pcpu.proofs.tables.PcpuTable.add_count.Goals as goal
-use Rattle.vms_seats.specs.Steps.{MayStep}
+use Rattle.vms_seats.specs.Common.{MayStep}
 
 pub add_at-requires-clause-step : goal.add_at-requires-clause-step
 add_at-requires-clause-step c =

@@ -1,21 +1,17 @@
 -- The goals were that each step may be made, and that the steps are those of an addition or of a probe.
-use Rattle.std.proofs.Common.{◌≡◌, ◌<◌, ◌≤◌, ◌+ℤ◌, ◌≤ℤ◌, ◌<ℤ◌, ℤ, pos, unsigned_abs, Some, [], ◌∷◌}
-use Rattle.std.proofs.Common.{sym, subst, ◌∙◌, arith}
+use Rattle.std.proofs.Common.{◌≡◌, ◌<◌, ◌≤◌, ◌+ℤ◌, ◌≤ℤ◌, ◌<ℤ◌, ℤ, pos, unsigned_abs, Some, [], ◌∷◌, sym, subst, ◌∙◌}
+use Rattle.std.proofs.Common.{arith}
 use Rattle.std.proofs.lemmas.Int.{ints}
-use Rattle.vms_base.specs.Places.{IsCpu}
-use Rattle.vms_base.specs.Volumes.{most_volume}
+use Rattle.vms_history.specs.Common.{IsCpu, most_volume}
 use Rattle.vms_pcpu_core.specs.declared.steps.PcpuFacts.{PcpuFacts}
 use Rattle.vms_pcpu_core.specs.declared.steps.PcpuStep.TheVariants.{AddL, LoadL, LoadC}
-use Rattle.vms_pcpu_core.specs.Calls.{room, unknown}
-use Rattle.vms_pcpu_core.specs.Histories.{percpu}
-use Rattle.vms_pcpu_core.specs.MayCall.{MayMake}
-use Rattle.vms_pcpu_core.specs.States.{batch_at}
-use Rattle.vms_pcpu_core.proofs.Totals.{owned}
+use Rattle.vms_pcpu_core.specs.Common.{room, unknown, percpu, MayMake, batch_at}
+use Rattle.vms_pcpu_core.proofs.Common.{owned}
 use Rattle.vms_pcpu.proofs.LimitCalls.{room-words, probed_large, probed_narrow, both, unlocked-may, unlocked-made}
 use Rattle.vms_pcpu.proofs.ReadyPasses.{owner-after}
 use Rattle.vms_pcpu.proofs.SmallNumbers.{same_word}
 use Rattle.vms_pcpu.proofs.tables.PcpuTable.add_unlocked.Goals as goal
-use Rattle.vms_seats.specs.Steps.{MadeOne}
+use Rattle.vms_seats.specs.Common.{MadeOne}
 
 pub load_local-requires-clause-cpu : goal.load_local-requires-clause-cpu
 load_local-requires-clause-cpu c =

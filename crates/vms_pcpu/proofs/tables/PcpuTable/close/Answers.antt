@@ -1,14 +1,14 @@
 -- The goals were that the words are there, and that what is read are the numbers of the last state.
-use Rattle.std.proofs.Common.{◌≡◌, ℕ, ◌+◌, ◌*◌, ◌<◌, length, get_or, slice_index, ℤ, pos, refl, ap, sym, ◌∙◌, subst, List}
-use Rattle.vms_base.specs.Numbers.{number_of}
+use Rattle.std.proofs.Common.{◌≡◌, ℕ, ◌+◌, ◌*◌, ◌<◌, length, get_or, slice_index, ℤ, pos, refl, ap, sym, ◌∙◌, subst}
+use Rattle.std.proofs.Common.{List}
+use Rattle.vms_history.specs.Common.{signed_of_word}
 use Rattle.vms_pcpu_core.specs.declared.steps.PcpuFacts.{PcpuFacts}
 use Rattle.vms_pcpu_core.specs.declared.steps.PcpuStep.{PcpuStep}
-use Rattle.vms_pcpu_core.specs.Histories.{History, IsLegal, state_after}
-use Rattle.vms_pcpu_core.specs.Laws.{numbers_after}
+use Rattle.vms_pcpu_core.specs.Common.{History, IsLegal, state_after, numbers_after}
 use Rattle.vms_pcpu.specs.SharedWords.{shown}
 use Rattle.vms_pcpu.proofs.ClosedNumbers.{counts-within, locals-within, counts-read, locals-read, numbers-read}
 use Rattle.vms_pcpu.proofs.tables.PcpuTable.close.Goals as goal
-use Rattle.vms_seats.specs.Passes.{Phase, Shared}
+use Rattle.vms_seats.specs.Common.{Phase, Shared}
 
 -- the closed history by the facts that the table keeps
 closed : (facts given : PcpuFacts) (h : History) (phase : Phase PcpuFacts PcpuStep)
@@ -20,13 +20,14 @@ closed facts given h phase is same =
 filled : (facts : PcpuFacts) (h : History) (phase : Phase PcpuFacts PcpuStep) (row : List ℤ) (start from len : ℕ)
     → phase ≡ record { facts = facts; events = h } → start ≡ from
     → ((n : ℕ) → n < len → get_or row n (pos 0)
-    ≡ number_of (slice_index (shown phase.facts (state_after phase.facts phase.events)) (start + n)))
-    → (n : ℕ) → n < len → get_or row n (pos 0) ≡ number_of (slice_index (shown facts (state_after facts h)) (from + n))
+    ≡ signed_of_word (slice_index (shown phase.facts (state_after phase.facts phase.events)) (start + n)))
+    → (n : ℕ) → n < len → get_or row n (pos 0)
+    ≡ signed_of_word (slice_index (shown facts (state_after facts h)) (from + n))
 filled facts h phase row start from len is same each n within =
     each n within
     ∙ ap (λ (p : Phase PcpuFacts PcpuStep).
-    number_of (slice_index (shown p.facts (state_after p.facts p.events)) (start + n))) is
-    ∙ ap (λ at. number_of (slice_index (shown facts (state_after facts h)) (at + n))) same
+    signed_of_word (slice_index (shown p.facts (state_after p.facts p.events)) (start + n))) is
+    ∙ ap (λ at. signed_of_word (slice_index (shown facts (state_after facts h)) (at + n))) same
 
 pub fill-requires-clause-within : goal.fill-requires-clause-within
 fill-requires-clause-within c =

@@ -1,9 +1,9 @@
 -- The goals were that the pass is ready again, and that the steps are those of the call.
 use Rattle.std.proofs.Common.{◌≡◌, ℤ, w64, to_z, of_z, subst}
 use Rattle.std.proofs.lemmas.Int.{to_z-of_z}
-use Rattle.vms_pcpu_core.specs.Calls.{IsCompare, present_cpus, unknown}
-use Rattle.vms_pcpu_core.proofs.OwnSteps.{compare-adds}
-use Rattle.vms_pcpu.specs.IdlePasses.{CpuPass, MakesCall}
+use Rattle.vms_pcpu_core.specs.Common.{IsCompare, present_cpus, unknown}
+use Rattle.vms_pcpu_core.proofs.Common.{compare-adds}
+use Rattle.vms_pcpu.specs.Common.{CpuPass, MakesCall}
 use Rattle.vms_pcpu.proofs.AnswersMean.{compare-means}
 use Rattle.vms_pcpu.proofs.ReadyPasses.{owns-nothing}
 use Rattle.vms_pcpu.proofs.tables.PcpuTable.compare.Goals as goal

@@ -1,7 +1,7 @@
 -- The goals were that the sum may be made, and that the steps are those of a comparison, by the count or by the sum.
 use Rattle.std.proofs.Common.{◌<◌, ◌≤◌, ◌-ℤ◌, ℤ, unsigned_abs, w8, to_z, of_z, arith}
 use Rattle.std.proofs.lemmas.Int.{ints}
-use Rattle.vms_pcpu_core.specs.Calls.{unknown}
+use Rattle.vms_pcpu_core.specs.Common.{unknown}
 use Rattle.vms_pcpu.proofs.SmallNumbers.{same_difference}
 use Rattle.vms_pcpu.proofs.SumSteps.{passed-sign, compare_sum-may, compared_far, compared_near}
 use Rattle.vms_pcpu.proofs.tables.PcpuTable.compare_by.Goals as goal

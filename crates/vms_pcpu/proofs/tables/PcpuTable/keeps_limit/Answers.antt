@@ -1,13 +1,11 @@
 -- The goals were that the value is judged by what the CPUs may hold, or by what they hold.
 use Rattle.std.proofs.Common.{◌≡◌, ◌+ℤ◌, ◌≤ℤ◌, ◌<ℤ◌, int_le, Bool, ℤ, pos, [], ap, sym, subst, ◌∙◌, arith}
 use Rattle.std.proofs.lemmas.Int.{ints}
-use Rattle.vms_pcpu_core.specs.Calls.{Judges, present_cpus, room, unknown}
-use Rattle.vms_pcpu_core.specs.Calls.Judges.{beyond, inside, close}
-use Rattle.vms_pcpu_core.specs.Histories.{percpu}
+use Rattle.vms_pcpu_core.specs.Common.{Judges, present_cpus, room, unknown, beyond, inside, close, percpu}
 use Rattle.vms_pcpu.proofs.LimitCalls.{room-words}
 use Rattle.vms_pcpu.proofs.SmallNumbers.{same_sum, same_word}
 use Rattle.vms_pcpu.proofs.tables.PcpuTable.keeps_limit.Goals as goal
-use Rattle.vms_seats.proofs.MadeCalls.{calls-none}
+use Rattle.vms_seats.proofs.Common.{calls-none}
 
 pub returns-then-left-unknown-lt0 : goal.returns-then-left-unknown-lt0
 returns-then-left-unknown-lt0 c =

@@ -3,15 +3,13 @@ use Rattle.std.proofs.Common.{◌≡◌, ◌+◌, ◌≤◌, Bool, true, false, 
 use Rattle.std.proofs.Common.{of_z, if◌then◌else◌, ap, sym, ◌∙◌, subst, arith}
 use Rattle.std.proofs.lemmas.Int.{ints, to_z-of_z}
 use Rattle.vms_pcpu_core.specs.declared.steps.PcpuFacts.{PcpuFacts}
-use Rattle.vms_pcpu_core.specs.Calls.{IsLimitedAdd, present_cpus, unknown}
-use Rattle.vms_pcpu_core.specs.States.{IsPcpu, batch_at}
-use Rattle.vms_pcpu_core.proofs.OwnSteps.{limited_add-adds}
-use Rattle.vms_pcpu.specs.Answers.{LimitedAddMeans}
-use Rattle.vms_pcpu.specs.IdlePasses.{CpuPass, IsCpuPass}
+use Rattle.vms_pcpu_core.specs.Common.{IsLimitedAdd, present_cpus, unknown, IsPcpu, batch_at}
+use Rattle.vms_pcpu_core.proofs.Common.{limited_add-adds}
+use Rattle.vms_pcpu.specs.Common.{LimitedAddMeans, CpuPass, IsCpuPass}
 use Rattle.vms_pcpu.proofs.AnswersMean.{limited_add-means}
 use Rattle.vms_pcpu.proofs.ReadyPasses.{owns-amount}
 use Rattle.vms_pcpu.proofs.tables.PcpuTable.limited_add.Goals as goal
-use Rattle.vms_seats.specs.Passes.{IsOf}
+use Rattle.vms_seats.specs.Common.{IsFrom}
 
 -- what is added is no larger than the amount
 at_most : (answer : Bool) (passed amount : ℤ) → passed ≡ amount
@@ -58,7 +56,7 @@ returns-clause-means g c some =
     subst (λ (p : CpuPass). LimitedAddMeans c.limited_add_by-answer.new.worker p.pass j limit amount answer)
     c.pass.view_is
     (limited_add-means c.limited_add_by-answer.new.worker c.pass.inside.worker words
-    (subst (λ (p : CpuPass). IsOf p.pass words) (sym c.pass.view_is) c.requires.table) j limit amount answer
+    (subst (λ (p : CpuPass). IsFrom p.pass words) (sym c.pass.view_is) c.requires.table) j limit amount answer
     c.pass.invariant.ready
     (record {
       cpu = cpu;

@@ -1,22 +1,18 @@
 -- The goals were that each step may be made, and that the steps are those of a limited addition.
-use Rattle.std.proofs.Common.{◌≡◌, ◌≤◌, ◌+ℤ◌, Bool, true, false, ℤ, unsigned_abs, w64, to_z, of_z, List, [], ◌∷◌, sym, subst}
-use Rattle.std.proofs.Common.{arith}
-use Rattle.vms_base.specs.Places.{IsCpu}
-use Rattle.vms_base.specs.Volumes.{most_volume}
+use Rattle.std.proofs.Common.{◌≡◌, ◌≤◌, ◌+ℤ◌, Bool, true, false, ℤ, unsigned_abs, w64, to_z, of_z, List, [], ◌∷◌, sym}
+use Rattle.std.proofs.Common.{subst, arith}
+use Rattle.vms_history.specs.Common.{IsCpu, most_volume}
 use Rattle.vms_pcpu_core.specs.declared.steps.PcpuFacts.{PcpuFacts}
 use Rattle.vms_pcpu_core.specs.declared.steps.PcpuStep.{PcpuStep}
 use Rattle.vms_pcpu_core.specs.declared.steps.PcpuStep.TheVariants.{TakeL, AddC, Unlock}
-use Rattle.vms_pcpu_core.specs.Calls.{IsLimitedAdd, Judges, present_cpus, unknown}
-use Rattle.vms_pcpu_core.specs.Calls.Settles.{yes_ends, no_ends}
-use Rattle.vms_pcpu_core.specs.Histories.{percpu}
-use Rattle.vms_pcpu_core.specs.MayCall.{MayMake}
-use Rattle.vms_pcpu_core.specs.States.{batch_at}
-use Rattle.vms_pcpu_core.proofs.Totals.{owned}
-use Rattle.vms_pcpu.proofs.LimitCalls.{limited_nothing, zero_word, other_word, probes-as, judges-as}
-use Rattle.vms_pcpu.proofs.LimitCalls.{ending-may, ending-made}
+use Rattle.vms_pcpu_core.specs.Common.{IsLimitedAdd, Judges, present_cpus, unknown, yes_ends, no_ends, percpu, MayMake}
+use Rattle.vms_pcpu_core.specs.Common.{batch_at}
+use Rattle.vms_pcpu_core.proofs.Common.{owned}
+use Rattle.vms_pcpu.proofs.LimitCalls.{limited_nothing, zero_word, other_word, probes-as, judges-as, ending-may}
+use Rattle.vms_pcpu.proofs.LimitCalls.{ending-made}
 use Rattle.vms_pcpu.proofs.SmallNumbers.{same_sum, same_word}
 use Rattle.vms_pcpu.proofs.tables.PcpuTable.limited_add_by.Goals as goal
-use Rattle.vms_seats.specs.Steps.{Made}
+use Rattle.vms_seats.specs.Common.{Made}
 
 pub returns-then-amount-eq0 : goal.returns-then-amount-eq0
 returns-then-amount-eq0 g c =

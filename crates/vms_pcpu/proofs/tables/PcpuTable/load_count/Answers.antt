@@ -1,16 +1,14 @@
 -- The goal was that the load may be made.
-use Rattle.std.proofs.Common.{pos, sym, subst}
+use Rattle.std.proofs.Common.{pos, sym, subst, arith}
 use Rattle.vms_pcpu_core.specs.declared.steps.PcpuFacts.{PcpuFacts}
 use Rattle.vms_pcpu_core.specs.declared.steps.PcpuStep.TheVariants.{LoadC}
-use Rattle.vms_pcpu_core.specs.Histories.{percpu}
-use Rattle.vms_pcpu_core.specs.States.{IsPcpu}
-use Rattle.vms_pcpu.specs.SharedWords.{shown, told}
+use Rattle.vms_pcpu_core.specs.Common.{percpu, IsPcpu, most_number}
+use Rattle.vms_pcpu.specs.SharedWords.{shown}
+use Rattle.vms_pcpu.specs.Common.{told}
 use Rattle.vms_pcpu.proofs.StepWords.{count-load}
 use Rattle.vms_pcpu.proofs.tables.PcpuTable.load_count.Goals as goal
-use Rattle.vms_seats.specs.Steps.{MayStep}
-use Rattle.std.proofs.Common.{arith}
-use Rattle.vms_base.specs.Numbers.{number_of}
-use Rattle.vms_pcpu_core.specs.Laws.{most_number}
+use Rattle.vms_seats.specs.Common.{MayStep}
+use Rattle.vms_history.specs.Common.{signed_of_word}
 use Rattle.vms_pcpu.proofs.SmallNumbers.{count-small, passed-small}
 
 pub load_at-requires-clause-step : goal.load_at-requires-clause-step
@@ -23,6 +21,6 @@ load_at-requires-clause-step c =
 
 pub returns-clause-bound : goal.returns-clause-bound
 returns-clause-bound c =
-    let v = number_of c.load_at.result in
+    let v = signed_of_word c.load_at.result in
     let small = count-small c.load_at.new.self c.args.worker.now c.args.counter v c.load_at.ensures in
     passed-small c.decode.result v most_number c.decode.ensures.value small (omega arith)

@@ -1,13 +1,12 @@
 -- The goals were that the loads so far add up.
 use Rattle.std.proofs.Common.{ℤ, ◌+◌, ◌≤◌, List, length, w64, to_z, ap, sym, ◌∙◌, subst, arith}
 use Rattle.std.proofs.lemmas.Int.{ints}
-use Rattle.vms_base.specs.declared.kinds.CpuState.{CpuState}
-use Rattle.vms_base.specs.declared.kinds.CpuState.TheVariants.{Online}
+use Rattle.vms_history.specs.Common.{CpuState, Online}
 use Rattle.vms_pcpu_core.specs.declared.steps.PcpuFacts.{PcpuFacts}
 use Rattle.vms_pcpu.proofs.LoadedLocals.{SoFar, so_far-none, so_far-then, so_far-else, so_far-all}
 use Rattle.vms_pcpu.proofs.tables.PcpuTable.load_locals.Goals.{then-is_present, else-is_present}
 use Rattle.vms_pcpu.proofs.tables.PcpuTable.load_locals.Goals as goal
-use Rattle.vms_seats.specs.Passes.{Shared}
+use Rattle.vms_seats.specs.Common.{Shared}
 
 pub loop-number-init : goal.loop-number-init
 loop-number-init c = so_far-none c.args.self.now.facts c.args.counter c.args.worker.now c.cpu.ensures.live

@@ -1,10 +1,10 @@
 -- The goals were that a try that misses the lock leaves missed tries alone, and that one that wins it ends them.
 use Rattle.std.proofs.Common.{if◌then◌else◌, subst}
 use Rattle.vms_pcpu_core.specs.declared.steps.PcpuStep.TheVariants.{Won, Missed}
-use Rattle.vms_pcpu_core.specs.Histories.{percpu}
+use Rattle.vms_pcpu_core.specs.Common.{percpu}
 use Rattle.vms_pcpu.proofs.LockTries.{tried-missed, tried-won}
 use Rattle.vms_pcpu.proofs.tables.PcpuTable.lock.Goals as goal
-use Rattle.vms_seats.specs.Steps.{MadeOne}
+use Rattle.vms_seats.specs.Common.{MadeOne}
 
 pub returns-then-try_lock : goal.returns-then-try_lock
 returns-then-try_lock g c =

@@ -1,9 +1,9 @@
 -- The goals were that there is a word, and that the table is for its facts.
 use Rattle.std.proofs.Common.{◌≡◌, length, ap, ◌∙◌, arith, rules, count_by}
-use Rattle.vms_base.specs.Cpus.{is_present}
+use Rattle.vms_history.specs.Common.{is_present}
 use Rattle.vms_pcpu_core.specs.declared.steps.PcpuFacts.{PcpuFacts}
-use Rattle.vms_pcpu_core.specs.Bases.{IsBase}
-use Rattle.vms_pcpu.specs.SharedWords.{word_count}
+use Rattle.vms_pcpu_core.specs.Common.{IsBase}
+use Rattle.vms_pcpu.specs.Common.{word_count}
 use Rattle.vms_pcpu.proofs.OpeningWords.{opening-length}
 use Rattle.vms_pcpu.proofs.tables.PcpuTable.make.Goals as goal
 

@@ -1,9 +1,9 @@
 -- The goals were that the pass is ready again, and that the load is the call's one step.
 use Rattle.std.proofs.Common.{[], ◌∷◌, refl, ap, sym, subst, arith, ℤ, w64, to_z, of_z}
 use Rattle.vms_pcpu_core.specs.declared.steps.PcpuStep.TheVariants.{LoadC}
-use Rattle.vms_pcpu_core.specs.Calls.{IsRead}
-use Rattle.vms_pcpu_core.proofs.OwnSteps.{read-adds}
-use Rattle.vms_pcpu.specs.IdlePasses.{CpuPass, MakesCall}
+use Rattle.vms_pcpu_core.specs.Common.{IsRead}
+use Rattle.vms_pcpu_core.proofs.Common.{read-adds}
+use Rattle.vms_pcpu.specs.Common.{CpuPass, MakesCall}
 use Rattle.vms_pcpu.proofs.ReadyPasses.{owns-nothing}
 use Rattle.vms_pcpu.proofs.SmallNumbers.{same_word}
 use Rattle.vms_pcpu.proofs.tables.PcpuTable.read.Goals as goal

@@ -1,8 +1,8 @@
 -- The goals were that the pass is ready again, and that the steps are those of the call.
 use Rattle.std.proofs.Common.{◌≡◌, ℤ, w64, to_z, of_z, sym, subst, arith}
-use Rattle.vms_pcpu_core.specs.Calls.{IsSum, present_cpus}
-use Rattle.vms_pcpu_core.proofs.OwnSteps.{sum-adds}
-use Rattle.vms_pcpu.specs.IdlePasses.{CpuPass, MakesCall}
+use Rattle.vms_pcpu_core.specs.Common.{IsSum, present_cpus}
+use Rattle.vms_pcpu_core.proofs.Common.{sum-adds}
+use Rattle.vms_pcpu.specs.Common.{CpuPass, MakesCall}
 use Rattle.vms_pcpu.proofs.AnswersMean.{sum-means}
 use Rattle.vms_pcpu.proofs.ReadyPasses.{owns-nothing}
 use Rattle.vms_pcpu.proofs.SmallNumbers.{same_word}

@@ -1,9 +1,9 @@
 -- The goals were that the CPU is one of the layout, and that the pass is ready again.
 use Rattle.std.proofs.Common.{subst, ap, ◌∙◌}
-use Rattle.vms_base.specs.Places.{IsCpu}
+use Rattle.vms_history.specs.Common.{IsCpu}
 use Rattle.vms_pcpu_core.specs.declared.steps.PcpuFacts.{PcpuFacts}
-use Rattle.vms_pcpu_core.proofs.OwnSteps.{sync-adds}
-use Rattle.vms_pcpu.specs.IdlePasses.{CpuPass}
+use Rattle.vms_pcpu_core.proofs.Common.{sync-adds}
+use Rattle.vms_pcpu.specs.Common.{CpuPass}
 use Rattle.vms_pcpu.proofs.ReadyPasses.{owned-known, owns-nothing}
 use Rattle.vms_pcpu.proofs.tables.PcpuTable.sync.Goals as goal
 

@@ -1,8 +1,8 @@
 -- The goals were that the local part may be moved, and that the steps are those of a sync.
 use Rattle.std.proofs.Common.{sym, subst}
-use Rattle.vms_base.specs.Places.{IsCpu}
+use Rattle.vms_history.specs.Common.{IsCpu}
 use Rattle.vms_pcpu_core.specs.declared.steps.PcpuFacts.{PcpuFacts}
-use Rattle.vms_pcpu_core.specs.States.{IsPcpu}
+use Rattle.vms_pcpu_core.specs.Common.{IsPcpu}
 use Rattle.vms_pcpu.proofs.AddCalls.{sync-may, synced}
 use Rattle.vms_pcpu.proofs.tables.PcpuTable.sync_by.Goals as goal
 

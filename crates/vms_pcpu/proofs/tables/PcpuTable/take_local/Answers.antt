@@ -1,17 +1,14 @@
 -- The goal was that the local part may be taken.
-use Rattle.std.proofs.Common.{pos, ap, sym, ◌∙◌, subst}
-use Rattle.vms_base.specs.Places.{IsCpu}
+use Rattle.std.proofs.Common.{pos, ap, sym, ◌∙◌, subst, arith}
+use Rattle.vms_history.specs.Common.{IsCpu, signed_of_word}
 use Rattle.vms_pcpu_core.specs.declared.steps.PcpuFacts.{PcpuFacts}
 use Rattle.vms_pcpu_core.specs.declared.steps.PcpuStep.TheVariants.{TakeL}
-use Rattle.vms_pcpu_core.specs.Histories.{percpu}
-use Rattle.vms_pcpu_core.specs.States.{IsPcpu, counters_of}
-use Rattle.vms_pcpu.specs.SharedWords.{shown, told, local_place}
+use Rattle.vms_pcpu_core.specs.Common.{percpu, IsPcpu, counters_of, most_batch}
+use Rattle.vms_pcpu.specs.SharedWords.{shown}
+use Rattle.vms_pcpu.specs.Common.{told, local_place}
 use Rattle.vms_pcpu.proofs.StepWords.{local-take}
 use Rattle.vms_pcpu.proofs.tables.PcpuTable.take_local.Goals as goal
-use Rattle.vms_seats.specs.Steps.{MayStep}
-use Rattle.std.proofs.Common.{arith}
-use Rattle.vms_base.specs.Numbers.{number_of}
-use Rattle.vms_pcpu_core.specs.Bases.{most_batch}
+use Rattle.vms_seats.specs.Common.{MayStep}
 use Rattle.vms_pcpu.proofs.SmallNumbers.{take-small, passed-small}
 
 pub swap_at-requires-clause-step : goal.swap_at-requires-clause-step
@@ -28,6 +25,6 @@ swap_at-requires-clause-step c =
 
 pub returns-clause-bound : goal.returns-clause-bound
 returns-clause-bound c =
-    let v = number_of c.swap_at.result in
+    let v = signed_of_word c.swap_at.result in
     let small = take-small c.swap_at.new.self c.args.worker.now c.args.counter v c.args.cpu c.swap_at.ensures in
     passed-small c.decode.result v most_batch c.decode.ensures.value small (omega arith)

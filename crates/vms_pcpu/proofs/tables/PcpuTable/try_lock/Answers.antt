@@ -2,12 +2,12 @@
 use Rattle.std.proofs.Common.{◌==◌, if◌then◌else◌, ap, sym, ◌∙◌, subst}
 use Rattle.vms_pcpu_core.specs.declared.steps.PcpuFacts.{PcpuFacts}
 use Rattle.vms_pcpu_core.specs.declared.steps.PcpuStep.TheVariants.{Won}
-use Rattle.vms_pcpu_core.specs.Histories.{percpu}
-use Rattle.vms_pcpu_core.specs.States.{IsPcpu, counters_of}
-use Rattle.vms_pcpu.specs.SharedWords.{shown, told, lock_place}
+use Rattle.vms_pcpu_core.specs.Common.{percpu, IsPcpu, counters_of}
+use Rattle.vms_pcpu.specs.SharedWords.{shown}
+use Rattle.vms_pcpu.specs.Common.{told, lock_place}
 use Rattle.vms_pcpu.proofs.StepWords.{lock-try}
 use Rattle.vms_pcpu.proofs.tables.PcpuTable.try_lock.Goals as goal
-use Rattle.vms_seats.specs.Steps.{MayStep}
+use Rattle.vms_seats.specs.Common.{MayStep}
 
 pub exchange_at-requires-clause-step : goal.exchange_at-requires-clause-step
 exchange_at-requires-clause-step c =

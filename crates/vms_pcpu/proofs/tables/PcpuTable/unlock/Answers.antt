@@ -2,12 +2,12 @@
 use Rattle.std.proofs.Common.{ap, sym, ◌∙◌, subst}
 use Rattle.vms_pcpu_core.specs.declared.steps.PcpuFacts.{PcpuFacts}
 use Rattle.vms_pcpu_core.specs.declared.steps.PcpuStep.TheVariants.{Unlock}
-use Rattle.vms_pcpu_core.specs.Histories.{percpu}
-use Rattle.vms_pcpu_core.specs.States.{IsPcpu, counters_of}
-use Rattle.vms_pcpu.specs.SharedWords.{shown, told, lock_place}
+use Rattle.vms_pcpu_core.specs.Common.{percpu, IsPcpu, counters_of}
+use Rattle.vms_pcpu.specs.SharedWords.{shown}
+use Rattle.vms_pcpu.specs.Common.{told, lock_place}
 use Rattle.vms_pcpu.proofs.StepWords.{lock-release}
 use Rattle.vms_pcpu.proofs.tables.PcpuTable.unlock.Goals as goal
-use Rattle.vms_seats.specs.Steps.{MayStep}
+use Rattle.vms_seats.specs.Common.{MayStep}
 
 pub swap_at-requires-clause-step : goal.swap_at-requires-clause-step
 swap_at-requires-clause-step c =

@@ -1,9 +1,9 @@
 -- The call is that of the line, from the tables that stand.
 use Rattle.std.proofs.Common.{None, refl}
-use Rattle.vms_plain_lines.specs.PlainStates.{PlainStates, in_tables}
+use Rattle.vms_plain_lines.specs.Common.{PlainStates, in_tables}
 use Rattle.vms_plain_lines.proofs.ControlCalls.{GoesOnTelling-knowing, StandsNext-among}
 use Rattle.vms_plain_lines.proofs.ControlLines.{GoesOnKnowing-pressure}
-use Rattle.vms_plain_lines.proofs.PlainCalls.{GoesOn-inside}
+use Rattle.vms_plain_lines.proofs.PlainCalls.{GoesOnIf-inside}
 use Rattle.vms_plain_lines.proofs.tables.PlainTables.set_pressure.Goals as goal
 
 pub returns-clause-goes_on : goal.returns-clause-goes_on
@@ -21,7 +21,7 @@ returns-clause-goes_on g c item lane act =
     let normal = g.N.Rule.answers c.args.rules.now.normal in
     let answer = None in
     let next : PlainStates = record inside { pages = c.set_pressure.new.pages; peaks = c.set_pressure.new.peaks } in
-    GoesOn-inside header pressure normal item (λ items. Unit {0}) inside now c.self.view_is answer next
+    GoesOnIf-inside header pressure normal item (λ items. Unit {0}) inside now c.self.view_is answer next
     (λ w lanes items hs stands among room.
     GoesOnTelling-knowing pressure normal header w lanes items hs inside item stands among next answer refl
     (GoesOnKnowing-pressure pressure normal header w lanes items hs (in_tables inside) item lane

@@ -1,13 +1,11 @@
 -- The look is that of the line, from the tables that stand.
 use Rattle.std.proofs.Common.{Some}
-use Rattle.vms_text.specs.declared.acts.Item.{Item}
-use Rattle.vms_plain_lines.specs.PlainStates.{GoesOn, PlainStates}
-use Rattle.vms_text.specs.declared.acts.Act.TheVariants.{Sys}
-use Rattle.vms_world.specs.Lanes.{owner_of}
-use Rattle.vms_answers.specs.Answers.Answer.{System}
+use Rattle.vms_world.specs.Common.{Item, Sys, owner_of}
+use Rattle.vms_plain_lines.specs.Common.{GoesOnIf, PlainStates}
+use Rattle.vms_answers.specs.declared.answers.Answer.TheVariants.{System}
 use Rattle.vms_plain_lines.proofs.EitherLane.{of-act}
 use Rattle.vms_plain_lines.proofs.PageLines.{GoesOn-system_value}
-use Rattle.vms_plain_lines.proofs.PlainCalls.{GoesOn-staying}
+use Rattle.vms_plain_lines.proofs.PlainCalls.{GoesOnIf-staying}
 use Rattle.vms_plain_lines.proofs.tables.PlainTables.system_value.Goals as goal
 
 pub returns-clause-goes_on : goal.returns-clause-goes_on
@@ -23,8 +21,8 @@ returns-clause-goes_on g c header item known act =
     let pressure = g.P.Rule.answers c.args.rules.now.pressure in
     let normal = g.N.Rule.answers c.args.rules.now.normal in
     let answer = Some (System c.system_value.result) in
-    GoesOn-staying header pressure normal item (λ items. Unit {0}) inside now c.self.view_is answer
-    (of-act (λ (i : Item). GoesOn header pressure normal i (λ items. Unit {0}) inside inside answer) item
+    GoesOnIf-staying header pressure normal item (λ items. Unit {0}) inside now c.self.view_is answer
+    (of-act (λ (i : Item). GoesOnIf header pressure normal i (λ items. Unit {0}) inside inside answer) item
     (Sys c.args.item) act
     (GoesOn-system_value c.page_laws.ensures pressure normal header item.number item.lane inside c.args.item known
     c.system_value.result (c.system_value.ensures.made (owner_of item.lane))))

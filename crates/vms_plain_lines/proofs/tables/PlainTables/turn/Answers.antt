@@ -1,11 +1,10 @@
 -- The call is that of the line, from the tables that stand.
 use Rattle.std.proofs.Common.{Some, refl}
-use Rattle.vms_answers.specs.Answers.Answer.{Balanced}
-use Rattle.vms_plain_pages.specs.Balances.{balance_told}
-use Rattle.vms_plain_lines.specs.PlainStates.{PlainStates, in_tables}
+use Rattle.vms_answers.specs.declared.answers.Answer.TheVariants.{Balanced}
+use Rattle.vms_plain_lines.specs.Common.{PlainStates, in_tables}
 use Rattle.vms_plain_lines.proofs.ControlCalls.{GoesOnTelling-knowing, StandsNext-among}
 use Rattle.vms_plain_lines.proofs.ControlLines.{GoesOnKnowing-turn}
-use Rattle.vms_plain_lines.proofs.PlainCalls.{GoesOn-inside}
+use Rattle.vms_plain_lines.proofs.PlainCalls.{GoesOnIf-inside}
 use Rattle.vms_plain_lines.proofs.tables.PlainTables.turn.Goals as goal
 
 pub returns-clause-goes_on : goal.returns-clause-goes_on
@@ -21,11 +20,11 @@ returns-clause-goes_on g c item lane act =
     let now = c.args.self.now in
     let pressure = g.P.Rule.answers c.args.rules.now.pressure in
     let normal = g.N.Rule.answers c.args.rules.now.normal in
-    let answer = Some (Balanced (balance_told c.turn.result)) in
+    let answer = Some (Balanced c.turn.result) in
     let next : PlainStates = record inside { pages = c.turn.new.pages; peaks = c.turn.new.peaks } in
-    GoesOn-inside header pressure normal item (λ items. Unit {0}) inside now c.self.view_is answer next
+    GoesOnIf-inside header pressure normal item (λ items. Unit {0}) inside now c.self.view_is answer next
     (λ w lanes items hs stands among room.
     GoesOnTelling-knowing pressure normal header w lanes items hs inside item stands among next answer refl
     (GoesOnKnowing-turn pressure normal header w lanes items hs (in_tables inside) item lane
     (StandsNext-among pressure normal header w lanes items hs inside item stands among) inside.peaks stands.peaks
-    next.pages next.peaks c.args.node c.args.order c.args.most act (balance_told c.turn.result) c.turn.ensures.makes))
+    next.pages next.peaks c.args.node c.args.order c.args.most act c.turn.result c.turn.ensures.makes))

@@ -1,14 +1,11 @@
 -- The test is that of the line, from the tables that stand.
 use Rattle.std.proofs.Common.{Some}
-use Rattle.vms_text.specs.declared.acts.Item.{Item}
-use Rattle.vms_plain_lines.specs.PlainStates.{GoesOn, PlainStates}
-use Rattle.vms_text.specs.declared.acts.Act.TheVariants.{Water}
-use Rattle.vms_world.specs.Lanes.{owner_of}
-use Rattle.vms_answers.specs.Answers.Answer.{Tested}
-use Rattle.vms_plain_pages.specs.Verdicts.{verdict_told}
+use Rattle.vms_world.specs.Common.{Item, Water, owner_of}
+use Rattle.vms_plain_lines.specs.Common.{GoesOnIf, PlainStates}
+use Rattle.vms_answers.specs.declared.answers.Answer.TheVariants.{Tested}
 use Rattle.vms_plain_lines.proofs.EitherLane.{of-act}
 use Rattle.vms_plain_lines.proofs.PageLines.{GoesOn-watermark_test}
-use Rattle.vms_plain_lines.proofs.PlainCalls.{GoesOn-staying}
+use Rattle.vms_plain_lines.proofs.PlainCalls.{GoesOnIf-staying}
 use Rattle.vms_plain_lines.proofs.tables.PlainTables.watermark_test.Goals as goal
 
 pub returns-clause-goes_on : goal.returns-clause-goes_on
@@ -24,9 +21,9 @@ returns-clause-goes_on g c item act =
     let now = c.args.self.now in
     let pressure = g.P.Rule.answers c.args.rules.now.pressure in
     let normal = g.N.Rule.answers c.args.rules.now.normal in
-    let verdict = verdict_told c.watermark_test.result in
-    GoesOn-staying header pressure normal item (λ items. Unit {0}) inside now c.self.view_is (Some (Tested verdict))
-    (of-act (λ (i : Item). GoesOn header pressure normal i (λ items. Unit {0}) inside inside (Some (Tested verdict)))
+    let verdict = c.watermark_test.result in
+    GoesOnIf-staying header pressure normal item (λ items. Unit {0}) inside now c.self.view_is (Some (Tested verdict))
+    (of-act (λ (i : Item). GoesOnIf header pressure normal i (λ items. Unit {0}) inside inside (Some (Tested verdict)))
     item (Water c.args.zone c.args.mark c.args.most) act
     (GoesOn-watermark_test c.page_laws.ensures pressure normal header item.number item.lane inside c.args.zone
     c.args.mark c.args.most c.requires.zone verdict (c.watermark_test.ensures.made (owner_of item.lane))))

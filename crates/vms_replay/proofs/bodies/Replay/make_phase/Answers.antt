@@ -2,8 +2,8 @@
 use Rattle.std.proofs.Common.{rules, ◌≡◌, ◌∙◌, ◌++◌, ℕ, List, Some, ap₂, refl}
 use Rattle.std.proofs.lemmas.Result.{err_from_is_err_and}
 use Rattle.vms_replay.specs.declared.waits.Wait.{Wait}
-use Rattle.vms_replay.specs.Waits.{written}
-use Rattle.vms_replay.proofs.EndedPhases.{EndsPhase-failed, EndsPhase-made, EndsPhase-unwritten, MakesPhase-of}
+use Rattle.vms_replay.specs.Common.{written}
+use Rattle.vms_replay.proofs.EndedPhases.{EndsPhase-failed, EndsPhase-made, EndsPhase-unwritten, EngineMakesPhase-of}
 use Rattle.vms_replay.proofs.PlainTotals.{HasPlainTotals-phase}
 use Rattle.vms_replay.proofs.PrintedWaits.{printed-all}
 use Rattle.vms_replay.proofs.bodies.Replay.make_phase.Goals as goal
@@ -22,7 +22,7 @@ returns-in_err-text g c =
     let script : c.make-script.result ≡ self.items.items = search rules in
     rw p.1 (EndsPhase-unwritten g.E.Engine.Makes c.args.header.now self _ _ _ c.args.out.now.items
     _ c.in-Some.world in_world _ c.in_ok-left.left
-    (MakesPhase-of g.E.Engine.Makes c.args.header.now c.in-Some.world c.make-script.result self.items.items _ _ _
+    (EngineMakesPhase-of g.E.Engine.Makes c.args.header.now c.in-Some.world c.make-script.result self.items.items _ _ _
     c.in_ok-left.left script c.in_ok-left.ensures) c.requires.some p.0)
 
 pub returns : goal.returns
@@ -35,7 +35,7 @@ returns g c =
     let waiting : c.replace-3.result.items ≡ self.waits.items = search rules in
     EndsPhase-made g.E.Engine.Makes header self _ _ _ c.args.out.now.items _ c.in-Some.world
     in_world _ c.in_ok-left.left
-    (MakesPhase-of g.E.Engine.Makes header c.in-Some.world c.make-script.result self.items.items _ _ _
+    (EngineMakesPhase-of g.E.Engine.Makes header c.in-Some.world c.make-script.result self.items.items _ _ _
     c.in_ok-left.left script c.in_ok-left.ensures) c.requires.some
     (λ hs makes start is fits. c.fitting_phases_are_phases.ensures.start header c.in-Some.world self.items.items hs
     start

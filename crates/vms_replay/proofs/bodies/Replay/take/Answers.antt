@@ -1,14 +1,10 @@
 -- A line that is ignored, and one that is kept.
 use Rattle.std.proofs.Common.{Ok, refl, sym, subst}
-use Rattle.vms_command.specs.Bodies.{TakesLine}
-use Rattle.vms_text.specs.declared.acts.Line.{Line}
-use Rattle.vms_text.specs.declared.acts.Line.TheVariants.{Blank}
-use Rattle.vms_script.specs.Scripts.{MayKeep}
-use Rattle.vms_script.proofs.KeptLines.{may_keep}
-use Rattle.vms_script.proofs.Known.{judged-known}
-use Rattle.vms_replay.specs.Replaying.{replaying}
-use Rattle.vms_replay.specs.ReplayStates.{StandsBefore}
-use Rattle.vms_replay.proofs.LineStands.{TakesLine-going_on, goes-blank}
+use Rattle.vms_command.specs.Common.{BodyTakes}
+use Rattle.vms_world.specs.Common.{Line, Blank, MayKeep}
+use Rattle.vms_script.proofs.Common.{may_keep, judged-known}
+use Rattle.vms_replay.specs.Common.{replaying, StandsBefore}
+use Rattle.vms_replay.proofs.LineStands.{BodyTakes-going_on, goes-blank}
 use Rattle.vms_replay.proofs.bodies.Replay.take.Goals as goal
 
 pub returns-in-Blank : goal.returns-in-Blank
@@ -17,9 +13,9 @@ returns-in-Blank g c =
     let header = c.args.header.now in
     let made = g.E.Engine.made c.args.engine.now in
     let out = c.args.out.now.items in
-    subst (λ (line : Line). TakesLine (replaying g.E.Engine.Makes) (StandsBefore self) (StandsBefore self) made made
+    subst (λ (line : Line). BodyTakes (replaying g.E.Engine.Makes) (StandsBefore self) (StandsBefore self) made made
     header c.args.number (Ok line) (Ok tt) out out) (sym c.in-Blank.is)
-    (TakesLine-going_on g.E.Engine.Makes self self made header c.args.number (Ok Blank) (Ok tt) out out
+    (BodyTakes-going_on g.E.Engine.Makes self self made header c.args.number (Ok Blank) (Ok tt) out out
     (λ above kept texts stands. refl)
     (λ above kept texts stands judged_is. goes-blank g.E.Engine.Makes self self made header c.args.number above kept
     texts stands refl out))

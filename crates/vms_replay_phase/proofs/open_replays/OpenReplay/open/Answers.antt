@@ -1,10 +1,9 @@
 -- A replay begins with what stands in the world.
 use Rattle.std.proofs.Common.{ℕ, List, [], refl, sym, ap, subst, ◌∙◌}
-use Rattle.vms_base.specs.declared.kinds.CpuState.{CpuState}
-use Rattle.vms_plain_lines.specs.PlainStates.{PlainStates}
-use Rattle.vms_plain_ratings.specs.KnownPeaks.{KnowsPeaks}
+use Rattle.vms_world.specs.Common.{CpuState, page_facts}
+use Rattle.vms_plain_lines.specs.Common.{PlainStates}
+use Rattle.vms_plain_control.specs.Common.{KnowsPeaks}
 use Rattle.vms_world.specs.declared.worlds.World.{World}
-use Rattle.vms_world.specs.Worlds.{page_facts}
 use Rattle.vms_replay_phase.proofs.open_replays.OpenReplay.open.Goals as goal
 
 -- the tables of a world, with these peaks and opening

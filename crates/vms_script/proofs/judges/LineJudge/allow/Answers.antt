@@ -1,6 +1,6 @@
 use Rattle.std.proofs.Common.{sym, subst, Ok}
 use Rattle.vms_text.specs.declared.acts.Line.{Line}
-use Rattle.vms_script.specs.JudgeStates.{Decides}
+use Rattle.vms_script.specs.Common.{Decides}
 use Rattle.vms_script.proofs.Decisions.{Decides-blank}
 use Rattle.vms_script.proofs.judges.LineJudge.allow.Goals as goal
 

@@ -1,12 +1,11 @@
 use Rattle.std.proofs.Common.{◌≡◌, ◌∷◌, ◌++◌, [], Err, IfOk, Ok, Result, ap, sym, ◌∙◌}
 use Rattle.std.proofs.lemmas.Result.{IfOk-at_ok}
 use Rattle.vms_text.specs.declared.acts.Line.{Line}
-use Rattle.vms_text.specs.Reading.{and_then}
+use Rattle.vms_text.specs.Common.{and_then}
 use Rattle.vms_line.specs.declared.causes.LineCause.{LineCause}
-use Rattle.vms_line.specs.Laws.{IsLineOf}
-use Rattle.vms_line.specs.Spelling.{spelled_line}
-use Rattle.vms_line.proofs.LinesKnown.{read_line-known}
-use Rattle.vms_script.specs.Judging.{allowed}
+use Rattle.vms_line.specs.Common.{IsLineOf, spelled_line}
+use Rattle.vms_line.proofs.Common.{read_line-known}
+use Rattle.vms_script.specs.Common.{allowed}
 use Rattle.vms_script.proofs.judges.LineJudge.judge.Goals as goal
 
 pub decide-requires : goal.decide-requires

@@ -2,11 +2,10 @@ use Rattle.std.proofs.Common.{◌≡◌, sym, ap, ◌∙◌, Ok, Result}
 use Rattle.std.proofs.lemmas.Result.{IfOk-at_ok}
 use Rattle.vms_text.specs.declared.acts.Line.{Line}
 use Rattle.vms_line.specs.declared.causes.LineCause.{LineCause}
-use Rattle.vms_line.specs.Body.{read_line}
-use Rattle.vms_line.specs.Laws.{IsLineOf}
-use Rattle.vms_text.specs.Reading.{and_then}
-use Rattle.vms_line.proofs.LinesKnown.{read_line-known}
-use Rattle.vms_script.specs.Judging.{allowed}
+use Rattle.vms_line.specs.Common.{read_line, IsLineOf}
+use Rattle.vms_text.specs.Common.{and_then}
+use Rattle.vms_line.proofs.Common.{read_line-known}
+use Rattle.vms_script.specs.Common.{allowed}
 use Rattle.vms_script.proofs.judges.LineJudge.judge_any.Goals as goal
 
 pub decide-requires : goal.decide-requires

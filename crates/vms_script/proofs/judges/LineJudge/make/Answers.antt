@@ -1,8 +1,8 @@
 use Rattle.std.proofs.Common.{◌*◌, [], ap₂, subst, arith, length}
-use Rattle.vms_base.specs.Places.{counter_count}
-use Rattle.vms_script.proofs.JudgeStateLaws.{TellsCpus-first, TellsVolumes-first, counters_few}
-use Rattle.vms_script.specs.JudgeStates.{TellsCpus, TellsVolumes}
-use Rattle.vms_script.specs.Volumes.{spent_on_counter, spent_on_event, spent_on_pcpu, volume}
+use Rattle.vms_base.specs.Common.{counter_count}
+use Rattle.vms_script.proofs.JudgeStateLaws.{TellsCpuStates-first, TellsVolumes-first, counters_few}
+use Rattle.vms_script.specs.Common.{TellsCpuStates, TellsVolumes, spent_on_counter, spent_on_event, spent_on_pcpu}
+use Rattle.vms_script.specs.Common.{volume}
 use Rattle.vms_script.proofs.judges.LineJudge.make.Goals as goal
 
 pub make-requires-2 : goal.make-requires-2
@@ -13,8 +13,8 @@ make-requires-2 c =
 
 pub returns : goal.returns
 returns c = record {
-  cpus = subst (λ n. TellsCpus n [] c.in_ok-make.field-0) c.cpus-cpus.ensures.value
-      (TellsCpus-first c.cpus-cpus.result c.in_ok-make.field-0 c.in_ok-make.ensures);
+  cpus = subst (λ n. TellsCpuStates n [] c.in_ok-make.field-0) c.cpus-cpus.ensures.value
+      (TellsCpuStates-first c.cpus-cpus.result c.in_ok-make.field-0 c.in_ok-make.ensures);
   counters = subst (λ n. TellsVolumes n (counter_count c.args.header.now.layout) (λ d k. volume
       (spent_on_counter k) d []) c.in_ok-make-2.field-0)
       c.cpus-cpus.ensures.value

@@ -3,10 +3,9 @@ use Rattle.vms_text.specs.declared.acts.Act.{Act}
 use Rattle.vms_text.specs.declared.acts.Act.TheVariants.{Mod, Inc, Dec, Ev, Cnt, Lim}
 use Rattle.vms_text.specs.declared.acts.Lane.TheVariants.{Cpu}
 use Rattle.vms_text.specs.declared.acts.Line.TheVariants.{Lane}
-use Rattle.vms_line.specs.Laws.{IsActOf}
-use Rattle.vms_script.specs.JudgeStates.{Decides}
-use Rattle.vms_script.specs.Volumes.{spent_on_counter, spent_on_pcpu, volume}
-use Rattle.vms_base.specs.Volumes.{most_volume}
+use Rattle.vms_line.specs.Common.{IsActOf}
+use Rattle.vms_script.specs.Common.{Decides, spent_on_counter, spent_on_pcpu, volume}
+use Rattle.vms_base.specs.Common.{most_volume}
 use Rattle.vms_script.proofs.Spendings.{Decides-counters, Decides-events, Decides-pcpu, Decides-quiet}
 use Rattle.vms_script.proofs.JudgeStateLaws.{counters_few, events_few, pcpu_few}
 use Rattle.vms_script.proofs.VolumeSums.{HasCell-of, measure-here, measure-other}
@@ -31,9 +30,9 @@ returns-in-Mod c =
     (Decides-counters c.args.self.now c.args.cpu
     (Mod c.in-Mod.counter c.in-Mod.pages) c.in-Mod.counter.number c.unsigned_abs.result c.spend.new.self
     c.spend.result
-    c.requires.online (λ d s. refl) (measure-here c.in-Mod.counter.number (unsigned_abs c.in-Mod.pages) ∙ size)
-    (λ k other. measure-other c.in-Mod.counter.number k (unsigned_abs c.in-Mod.pages) other) (λ e. refl)
-    (λ j. refl)
+    c.requires.online (λ d s. refl) (λ e. refl) (λ j. refl)
+    (measure-here c.in-Mod.counter.number (unsigned_abs c.in-Mod.pages) ∙ size)
+    (λ k other. measure-other c.in-Mod.counter.number k (unsigned_abs c.in-Mod.pages) other)
     (λ header is. is.1.0) (λ lines. ap (λ n. nat_lt most_volume (volume
     (spent_on_counter c.in-Mod.counter.number) c.args.cpu.number lines + n)) size) c.spend.ensures.result
     c.spend.ensures.table)
@@ -53,8 +52,8 @@ returns-in-Inc c =
     (sym c.in-Inc.is)
     (Decides-counters c.args.self.now c.args.cpu
     (Inc c.in-Inc.counter) c.in-Inc.counter.number 1 c.spend-in-Inc.new.self c.spend-in-Inc.result
-    c.requires.online (λ d s. refl) (measure-here c.in-Inc.counter.number 1)
-    (λ k other. measure-other c.in-Inc.counter.number k (1) other) (λ e. refl) (λ j. refl)
+    c.requires.online (λ d s. refl) (λ e. refl) (λ j. refl) (measure-here c.in-Inc.counter.number 1)
+    (λ k other. measure-other c.in-Inc.counter.number k (1) other)
     (λ header is. is.1.0) (λ lines. refl) c.spend-in-Inc.ensures.result c.spend-in-Inc.ensures.table)
 
 pub spend-requires-in-Dec : goal.spend-requires-in-Dec
@@ -72,8 +71,8 @@ returns-in-Dec c =
     (sym c.in-Dec.is)
     (Decides-counters c.args.self.now c.args.cpu
     (Dec c.in-Dec.counter) c.in-Dec.counter.number 1 c.spend-in-Dec.new.self c.spend-in-Dec.result
-    c.requires.online (λ d s. refl) (measure-here c.in-Dec.counter.number 1)
-    (λ k other. measure-other c.in-Dec.counter.number k (1) other) (λ e. refl) (λ j. refl)
+    c.requires.online (λ d s. refl) (λ e. refl) (λ j. refl) (measure-here c.in-Dec.counter.number 1)
+    (λ k other. measure-other c.in-Dec.counter.number k (1) other)
     (λ header is. is.1.0) (λ lines. refl) c.spend-in-Dec.ensures.result c.spend-in-Dec.ensures.table)
 
 pub spend-requires-in-Ev : goal.spend-requires-in-Ev
@@ -91,8 +90,8 @@ returns-in-Ev c =
     (sym c.in-Ev.is)
     (Decides-events c.args.self.now c.args.cpu
     (Ev c.in-Ev.event c.in-Ev.n) c.in-Ev.event.number c.in-Ev.n c.spend-in-Ev.new.self c.spend-in-Ev.result
-    c.requires.online (λ d s. refl) (measure-here c.in-Ev.event.number c.in-Ev.n)
-    (λ k other. measure-other c.in-Ev.event.number k (c.in-Ev.n) other) (λ k. refl) (λ j. refl)
+    c.requires.online (λ d s. refl) (λ k. refl) (λ j. refl) (measure-here c.in-Ev.event.number c.in-Ev.n)
+    (λ k other. measure-other c.in-Ev.event.number k (c.in-Ev.n) other)
     (λ header is. is.1) (λ lines. refl) c.spend-in-Ev.ensures.result c.spend-in-Ev.ensures.table)
 
 pub spend-requires-in-Cnt : goal.spend-requires-in-Cnt
@@ -114,9 +113,9 @@ returns-in-Cnt c =
     (Decides-pcpu c.args.self.now c.args.cpu
     (Cnt c.in-Cnt.counter c.in-Cnt.amount) c.in-Cnt.counter.number c.unsigned_abs-in-Cnt.result
     c.spend-in-Cnt.new.self c.spend-in-Cnt.result
-    c.requires.online (λ d s. refl) (measure-here c.in-Cnt.counter.number (unsigned_abs c.in-Cnt.amount) ∙ size)
-    (λ k other. measure-other c.in-Cnt.counter.number k (unsigned_abs c.in-Cnt.amount) other) (λ k. refl)
-    (λ e. refl)
+    c.requires.online (λ d s. refl) (λ k. refl) (λ e. refl)
+    (measure-here c.in-Cnt.counter.number (unsigned_abs c.in-Cnt.amount) ∙ size)
+    (λ k other. measure-other c.in-Cnt.counter.number k (unsigned_abs c.in-Cnt.amount) other)
     (λ header is. is.1) (λ lines. ap (λ n. nat_lt most_volume (volume
     (spent_on_pcpu c.in-Cnt.counter.number) c.args.cpu.number lines + n)) size) c.spend-in-Cnt.ensures.result
     c.spend-in-Cnt.ensures.table)
@@ -140,9 +139,9 @@ returns-in-Lim c =
     (Decides-pcpu c.args.self.now c.args.cpu
     (Lim c.in-Lim.counter c.in-Lim.field-1 c.in-Lim.amount) c.in-Lim.counter.number
     c.unsigned_abs-in-Lim.result c.spend-in-Lim.new.self c.spend-in-Lim.result
-    c.requires.online (λ d s. refl) (measure-here c.in-Lim.counter.number (unsigned_abs c.in-Lim.amount) ∙ size)
-    (λ k other. measure-other c.in-Lim.counter.number k (unsigned_abs c.in-Lim.amount) other) (λ k. refl)
-    (λ e. refl)
+    c.requires.online (λ d s. refl) (λ k. refl) (λ e. refl)
+    (measure-here c.in-Lim.counter.number (unsigned_abs c.in-Lim.amount) ∙ size)
+    (λ k other. measure-other c.in-Lim.counter.number k (unsigned_abs c.in-Lim.amount) other)
     (λ header is. is.1) (λ lines. ap (λ n. nat_lt most_volume (volume
     (spent_on_pcpu c.in-Lim.counter.number) c.args.cpu.number lines + n)) size) c.spend-in-Lim.ensures.result
     c.spend-in-Lim.ensures.table)

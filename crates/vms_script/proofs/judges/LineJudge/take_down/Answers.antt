@@ -1,7 +1,7 @@
 use Rattle.std.proofs.Common.{ap, sym, ◌∙◌, arith}
 use Rattle.vms_script.proofs.CpuCounts.{online_below-has, online_below-most}
 use Rattle.vms_script.proofs.Decisions.{Decides-down, Decides-down_refused, Decides-last_refused}
-use Rattle.vms_script.specs.Cpus.{online_count}
+use Rattle.vms_script.specs.Common.{online_count}
 use Rattle.vms_script.proofs.judges.LineJudge.take_down.Goals as goal
 
 pub returns-then-not-is_online : goal.returns-then-not-is_online

@@ -1,7 +1,7 @@
 -- how many lines of a lane were counted is how many its script has
 use Rattle.std.proofs.Common.{List, length, sym, ap, ◌∙◌}
 use Rattle.vms_text.specs.declared.acts.Item.{Item}
-use Rattle.vms_script.specs.PhaseScripts.{lane_items}
+use Rattle.vms_script.specs.Common.{lane_items}
 use Rattle.vms_script.proofs.LaneItems.{length-lane_items}
 use Rattle.vms_script.proofs.phase_scripts.PhaseScript.count_of.Goals as goal
 

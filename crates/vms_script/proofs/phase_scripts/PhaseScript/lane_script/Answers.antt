@@ -1,6 +1,6 @@
 -- the lines of a lane make a script
 use Rattle.std.proofs.Common.{sym, subst}
-use Rattle.vms_script.specs.PhaseScripts.{IsLaneScript, IsPhaseScript}
+use Rattle.vms_script.specs.Common.{IsLaneScript, IsPhaseScript}
 use Rattle.vms_script.proofs.LaneItems.{IsLaneScript-of}
 use Rattle.vms_script.proofs.phase_scripts.PhaseScript.lane_script.Goals as goal
 

@@ -3,10 +3,8 @@ use Rattle.vms_base.specs.declared.headers.Header.{Header}
 use Rattle.vms_text.specs.declared.acts.Item.{Item}
 use Rattle.vms_text.specs.declared.acts.Line.{Line}
 use Rattle.vms_line.specs.declared.causes.LineCause.{LineCause}
-use Rattle.vms_line.specs.Laws.{IsLineOf}
-use Rattle.vms_script.specs.Judging.{allowed, counted, judged}
-use Rattle.vms_script.specs.JudgeStates.{Stands}
-use Rattle.vms_script.specs.Starts.{first_start, start_after}
+use Rattle.vms_line.specs.Common.{IsLineOf}
+use Rattle.vms_script.specs.Common.{allowed, with_counted, judged, JudgeStands, first_start, start_after}
 use Rattle.vms_script.proofs.Feeding.{HoldsScript-after}
 use Rattle.vms_script.proofs.KeptLines.{may_keep}
 use Rattle.vms_script.proofs.Known.{judged-known, judged_from-allowed}
@@ -14,9 +12,9 @@ use Rattle.vms_script.proofs.scripters.Scripter.feed.Goals as goal
 
 pub returns-in-Ok : goal.returns-in-Ok
 returns-in-Ok c = λ script of is_open holds.
-    let here = subst (λ (header : Header). Stands header script.lines c.args.self.now.judge) of holds.stands in
+    let here = subst (λ (header : Header). JudgeStands header script.lines c.args.self.now.judge) of holds.stands in
     let judged_here = subst (λ (r : Result Line LineCause). (r ≡ judged c.args.header.now script.lines c.args.line.now)
-    × Stands c.args.header.now (counted r script.lines) c.judge.new.self) c.in-Ok.is
+    × JudgeStands c.args.header.now (with_counted r script.lines) c.judge.new.self) c.in-Ok.is
     (c.judge.ensures.said script.lines here) in
     let kept = c.reserve.ensures.items ∙ holds.items in (
       c.in-Ok.said,
@@ -24,7 +22,7 @@ returns-in-Ok c = λ script of is_open holds.
           (sym judged_here.0),
       c.keep.ensures.fed,
       HoldsScript-after c.args.number c.in-Ok.said script c.args.self.now c.keep.new.self holds
-          (subst (λ (header : Header). Stands header (counted
+          (subst (λ (header : Header). JudgeStands header (with_counted
           (Ok c.in-Ok.said) script.lines) c.keep.new.self.judge) (sym of)
           (rw c.keep.ensures.judge judged_here.1))
           (c.keep.ensures.items script kept)
@@ -41,14 +39,14 @@ returns-in-Ok c = λ script of is_open holds.
 
 pub returns-in-Err : goal.returns-in-Err
 returns-in-Err c = λ script of is_open holds.
-    let here = subst (λ (header : Header). Stands header script.lines c.args.self.now.judge) of holds.stands in
+    let here = subst (λ (header : Header). JudgeStands header script.lines c.args.self.now.judge) of holds.stands in
     let judged_here = subst (λ (r : Result Line LineCause). (r ≡ judged c.args.header.now script.lines c.args.line.now)
-    × Stands c.args.header.now (counted r script.lines) c.judge.new.self) c.in-Err.is
+    × JudgeStands c.args.header.now (with_counted r script.lines) c.judge.new.self) c.in-Err.is
     (c.judge.ensures.said script.lines here) in (
       subst (λ (header : Header). judged header script.lines c.args.line.now ≡ Err c.in-Err.cause) (sym of)
           (sym judged_here.0),
       record {
-        stands = subst (λ (header : Header). Stands header script.lines c.judge.new.self) (sym of) judged_here.1;
+        stands = subst (λ (header : Header). JudgeStands header script.lines c.judge.new.self) (sym of) judged_here.1;
         items = c.reserve.ensures.items ∙ holds.items;
         few = holds.few;
         fits = holds.fits;
@@ -62,7 +60,7 @@ returns-in-Err c = λ script of is_open holds.
 pub keep-requires-clause-may : goal.keep-requires-clause-may
 keep-requires-clause-may c =
     let some = c.requires.scripter in
-    let here = subst (λ (header : Header). Stands header some.script.lines c.args.self.now.judge) some.of
+    let here = subst (λ (header : Header). JudgeStands header some.script.lines c.args.self.now.judge) some.of
     some.holds.stands in
     let judged_here = c.judge.ensures.said some.script.lines here in
     may_keep c.args.header.now c.in-Ok.said c.requires.header

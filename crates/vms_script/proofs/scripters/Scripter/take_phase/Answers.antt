@@ -1,8 +1,6 @@
 use Rattle.std.proofs.Common.{Vec, Global, ◌∙◌, ap, refl, subst, sym}
 use Rattle.vms_text.specs.declared.acts.Item.{Item}
-use Rattle.vms_script.specs.FittingScripts.{Fits}
-use Rattle.vms_script.specs.PhaseScripts.{IsPhaseScript}
-use Rattle.vms_script.specs.Scripts.{phase_start}
+use Rattle.vms_script.specs.Common.{Fits, IsPhaseScript, phase_start}
 use Rattle.vms_script.proofs.Feeding.{HoldsScript-taken, IsPhaseScript-held}
 use Rattle.vms_script.proofs.scripters.Scripter.take_phase.Goals as goal
 

@@ -1,8 +1,8 @@
 -- The goal was that the word is the one that shows the state.
 use Rattle.std.proofs.Common.{◌≡◌, ◌∙◌, ap, sym, subst, Some, slice_get}
 use Rattle.std.specs.Slots.{slots_items}
-use Rattle.vms_history.specs.Legal.{state_after}
-use Rattle.vms_seats.specs.Passes.{Phase}
+use Rattle.vms_history.specs.Common.{state_after}
+use Rattle.vms_seats.specs.Common.{Phase}
 use Rattle.vms_seats.proofs.SeatLists.{got_at}
 use Rattle.vms_seats.proofs.closing.Closing.word.Goals as goal
 

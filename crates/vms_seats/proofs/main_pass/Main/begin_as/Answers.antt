@@ -1,7 +1,8 @@
 -- The goals were what the load and the split ask of the words, that the two seats are a main pass's and a worker's, and
 -- what the main pass made.
 use Rattle.std.proofs.Common.{◌∙◌}
-use Rattle.vms_seats.proofs.MainBegins.{table_is, begin_may, begin_splits, begin_made}
+use Rattle.vms_seats.proofs.MainBegins.{begin_may, begin_splits, begin_made}
+use Rattle.vms_seats.proofs.MainSeats.{seat-at}
 use Rattle.vms_seats.proofs.main_pass.Main.begin_as.Goals as goal
 
 pub load-requires : goal.load-requires
@@ -12,9 +13,8 @@ load-requires g c = begin_may g.L.Ledger.machine g.L.Ledger.shown g.L.Ledger.qui
 
 pub split_seat-seat-requires : goal.split_seat-seat-requires
 split_seat-seat-requires g c = (
-  c.load.ensures.0 ∙ table_is g.L.Ledger.machine g.L.Ledger.shown g.L.Ledger.quiet c.self.inside.seat c.self.invariant
-      c.args.self.now c.self.view_is c.words.inside.table.shared.table_id c.words.inside.table.shared.key
-      c.args.words.now c.words.view_is c.requires.words c.words.invariant.0,
+  c.load.ensures.0 ∙ (seat-at c.self.inside.seat c.args.self.now c.self.view_is c.words.inside.table.shared.table_id
+      c.words.inside.table.shared.key c.args.words.now c.words.view_is c.requires.words).0,
   c.words.invariant.0,
   begin_splits g.L.Ledger.machine g.L.Ledger.shown g.L.Ledger.quiet c.self.inside.seat c.self.invariant c.args.self.now
       c.self.view_is c.words.inside.table.shared.table_id c.words.inside.table.shared.key c.args.words.now

@@ -1,8 +1,8 @@
 -- The goals were what the split of the witness asks of the words, that the words show the state at the end, and that
 -- the history is complete.
 use Rattle.std.proofs.Common.{◌∙◌, subst}
-use Rattle.vms_history.specs.Legal.{IsLegal}
-use Rattle.vms_seats.specs.Passes.{Pass}
+use Rattle.vms_history.specs.Common.{IsLegal}
+use Rattle.vms_seats.specs.Common.{Pass}
 use Rattle.std.specs.Slots.{slots_items}
 use Rattle.vms_seats.proofs.LastHistory.{close_splits, close_shows}
 use Rattle.vms_seats.proofs.words.Words.close.Goals as goal

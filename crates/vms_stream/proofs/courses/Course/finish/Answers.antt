@@ -1,8 +1,7 @@
 -- The end that isn't come to, whose output isn't written, or that is.
 use Rattle.std.proofs.lemmas.Result.{err_from_is_err_and}
 use Rattle.vms_stream.proofs.CourseEnds.{Finishes-ended, Finishes-unended, Finishes-unwritten}
-use Rattle.vms_stream.specs.Jobs.{shown_on}
-use Rattle.vms_stream.specs.PhasedBehaviors.{with_outcomes}
+use Rattle.vms_stream.specs.Common.{shown_on, with_outcomes}
 use Rattle.std.proofs.Common.{◌++◌}
 use Rattle.vms_stream.proofs.PhasedEnds.{Closes-with, FinishesPhased-of}
 use Rattle.vms_stream.proofs.PhasedSteps.{longer}

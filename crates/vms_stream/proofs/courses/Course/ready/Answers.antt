@@ -1,10 +1,9 @@
 use Rattle.std.proofs.Common.{◌≡◌, ◌-◌, ◌≤◌, ℕ, List, Bool, length, take, sym, ap, ap₂, subst, ◌∙◌, arith}
 use Rattle.std.proofs.lemmas.List.{length-take, take_all, take-take}
-use Rattle.vms_io.specs.Reading.{WholeLines}
-use Rattle.vms_stream.specs.Courses.{lines_judged, counted_bytes}
-use Rattle.vms_stream.specs.Pieces.{whole_lines}
+use Rattle.vms_io.specs.Common.{WholeLines}
+use Rattle.vms_stream.specs.Common.{lines_judged, counted_bytes, whole_lines}
 use Rattle.vms_stream.proofs.LastNewline.{whole_lines-end, partial_line-end}
-use Rattle.vms_text.specs.Lines.{lines_of}
+use Rattle.vms_text.specs.Common.{lines_of}
 use Rattle.vms_stream.proofs.courses.Course.ready.Goals as goal
 
 pub returns-then-beyond-gt0-clause-lines : goal.returns-then-beyond-gt0-clause-lines

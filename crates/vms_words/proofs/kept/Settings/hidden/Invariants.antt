@@ -1,8 +1,6 @@
 use Rattle.std.proofs.Common.{◌≡◌, ◌≤◌, ◌*◌, ◌^◌}
-use Rattle.vms_base.specs.Cpus.{state_at}
-use Rattle.vms_history.specs.Sums.{count_below}
-use Rattle.vms_core.specs.Peaks.{if_present}
-use Rattle.vms_words.specs.KeptSettings.{kept_peak}
+use Rattle.vms_calls.specs.Common.{state_at, count_below, if_present}
+use Rattle.vms_words.specs.Common.{kept_peak}
 use Rattle.vms_words.proofs.kept.Settings.hidden.Given as goal
 
 -- what the CPUs so far may hide

@@ -1,11 +1,12 @@
 -- The goal was that the settings are those of the state at the start.
 use Rattle.std.proofs.Common.{refl, ◌∙◌}
-use Rattle.vms_words.proofs.OpeningSettings.{Knows-opening}
+use Rattle.vms_words.proofs.OpeningSettings.{KeepsSettings-opening}
 use Rattle.vms_words.proofs.kept.Settings.opening.Goals as goal
 
 pub returns : goal.returns
 returns c sizes =
-    Knows-opening (record { layout = c.args.layout.now; sizes = sizes; base = c.args.state.now }) c.requires.layout
+    KeepsSettings-opening (record { layout = c.args.layout.now; sizes = sizes; base = c.args.state.now })
+    c.requires.layout
     c.requires.opening
     (record {
       peaks = c.in_ok-opening_peaks.field-0;

@@ -1,7 +1,7 @@
 -- The goal was that the cell stands in the row.
 use Rattle.std.proofs.Common.{◌+◌, ap, ◌∙◌, arith}
-use Rattle.vms_base.specs.Places.{cell, place_count}
-use Rattle.vms_base.proofs.Cells.{cell-lt}
+use Rattle.vms_calls.specs.Common.{cell, place_count}
+use Rattle.vms_base.proofs.Common.{cell-lt}
 use Rattle.vms_words.proofs.kept.Settings.sets_at.Goals as goal
 
 pub get-requires : goal.get-requires

@@ -2,7 +2,7 @@
 use Rattle.std.proofs.Common.{FitsSigned, pos, w8, w64, get_or, ap, sym, ◌∙◌}
 use Rattle.std.specs.Int.{cast_signed}
 use Rattle.std.proofs.lemmas.Int.{to_z-of_z}
-use Rattle.vms_base.specs.declared.groups.Diffs.{Diffs}
+use Rattle.vms_calls.specs.Common.{Diffs}
 use Rattle.vms_words.proofs.PackedEntries.{entry-read}
 use Rattle.vms_words.proofs.lists.PackedDiffs.entry.Goals as goal
 

@@ -3,7 +3,7 @@ use Rattle.std.proofs.Common.{w8, w64, ap, ◌∙◌}
 use Rattle.std.specs.Int.{cast_unsigned, to_le_bytes}
 use Rattle.std.proofs.Math.ListN.{set}
 use Rattle.std.proofs.lemmas.Int.{to_z-of_z}
-use Rattle.vms_base.specs.declared.groups.Diffs.{Diffs}
+use Rattle.vms_calls.specs.Common.{Diffs}
 use Rattle.vms_words.proofs.PackedEntries.{changed-list}
 use Rattle.vms_words.proofs.lists.PackedDiffs.with_entry.Goals as goal
 

@@ -1,8 +1,8 @@
 -- The goal was that the word is the one of the list that it tells.
 use Rattle.std.proofs.Common.{ap, sym, ◌∙◌}
-use Rattle.vms_base.specs.declared.groups.Diffs.{Diffs}
+use Rattle.vms_calls.specs.Common.{Diffs}
 use Rattle.vms_base.specs.Groups.{word_of_bytes}
-use Rattle.vms_words.specs.Lists.{word-told}
+use Rattle.vms_words.specs.Common.{word-told}
 use Rattle.vms_words.proofs.lists.PackedDiffs.word.Goals as goal
 
 pub returns-clause-value : goal.returns-clause-value

@@ -1,12 +1,9 @@
 -- The goals were that the pass may make the step, and that it still keeps what stands.
 use Rattle.std.proofs.Common.{sym, subst}
-use Rattle.vms_core.specs.declared.steps.Facts.{Facts}
-use Rattle.vms_core.specs.declared.steps.Step.{Step}
-use Rattle.vms_core.specs.Pages.{pages}
-use Rattle.vms_seats.specs.Passes.{Pass}
-use Rattle.vms_seats.specs.Steps.{MayStep}
+use Rattle.vms_calls.specs.Common.{Facts, Step, pages}
+use Rattle.vms_seats.specs.Common.{Pass, MayStep}
 use Rattle.vms_words.specs.Shown.{shown}
-use Rattle.vms_words.specs.Told.{told}
+use Rattle.vms_words.specs.Common.{told}
 use Rattle.vms_words.proofs.ControlPasses.{IsControlPass-kept}
 use Rattle.vms_words.proofs.passes.ControlPassCaller.swap_at.Goals as goal
 

@@ -1,10 +1,9 @@
 -- The goals were that the pass may make the step, and that the volumes still hold what its CPU spent.
 use Rattle.std.proofs.Common.{sym, subst}
-use Rattle.vms_core.specs.Pages.{pages}
-use Rattle.vms_seats.specs.Steps.{MayStep}
-use Rattle.vms_words.specs.PagePasses.{OwningPass}
+use Rattle.vms_calls.specs.Common.{pages}
+use Rattle.vms_seats.specs.Common.{MayStep}
+use Rattle.vms_words.specs.Common.{OwningPass, told}
 use Rattle.vms_words.specs.Shown.{shown}
-use Rattle.vms_words.specs.Told.{told}
 use Rattle.vms_words.proofs.Volumes.{keeping-step, keeps-spends}
 use Rattle.vms_words.proofs.passes.CpuPassCaller.load_at.Goals as goal
 

@@ -1,15 +1,11 @@
 -- The goals were that the pass owns a CPU of the layout, and that it may acknowledge.
 use Rattle.std.proofs.Common.{sym, ◌∙◌, subst}
-use Rattle.vms_base.specs.Places.{IsCpu, IsZone}
-use Rattle.vms_core.specs.declared.steps.Facts.{Facts}
-use Rattle.vms_core.specs.declared.steps.Step.TheVariants.{SetA}
-use Rattle.vms_core.specs.Conditions.{Acknowledges}
-use Rattle.vms_core.specs.Pages.{pages}
-use Rattle.vms_seats.specs.Steps.{MayStep}
+use Rattle.vms_calls.specs.Common.{IsCpu, IsZone, Facts, SetA, Acknowledges, pages}
+use Rattle.vms_seats.specs.Common.{MayStep}
 use Rattle.vms_words.specs.declared.spots.Spot.TheVariants.{Acknowledgement}
 use Rattle.vms_words.specs.Shown.{shown}
-use Rattle.vms_words.specs.Spots.{blocks_of, place_in}
-use Rattle.vms_words.specs.Told.{told}
+use Rattle.vms_words.specs.Spots.{blocks_of}
+use Rattle.vms_words.specs.Common.{place_in, told}
 use Rattle.vms_words.proofs.InTables.{may-at, known-in}
 use Rattle.vms_words.proofs.LoadSteps.{owned-known}
 use Rattle.vms_words.proofs.AcknowledgeSteps.{acknowledge-may}

@@ -1,12 +1,9 @@
 -- The goals were that the main pass keeps settings while no control pass lives, and that those stand as one begins.
 use Rattle.std.proofs.Common.{◌≡◌, None, sym, subst}
-use Rattle.vms_history.specs.Passes.{IsFree}
-use Rattle.vms_seats.specs.Passes.{Pass}
-use Rattle.vms_core.specs.declared.steps.Facts.{Facts}
-use Rattle.vms_core.specs.declared.steps.Step.{Step}
-use Rattle.vms_core.specs.Steps.{role}
+use Rattle.vms_calls.specs.Common.{IsFree, Facts, Step, role}
+use Rattle.vms_seats.specs.Common.{Pass}
 use Rattle.vms_words.specs.declared.kept.Settings.{Settings}
-use Rattle.vms_words.specs.KeptSettings.{Knows}
+use Rattle.vms_words.specs.Common.{KeepsSettings}
 use Rattle.vms_words.proofs.MainSettings.{IsControlPass-begun}
 use Rattle.vms_words.proofs.tables.PageTable.control_pass.Goals as goal
 
@@ -29,4 +26,4 @@ invariant_of-result c =
     let same : had.0 ≡ c.in-Some.kept = cc in
     IsControlPass-begun c.begin-worker.new.self c.main.inside.main c.begin-worker.result c.begin-worker.ensures
     c.in-Some.kept free
-    (subst (λ (kept : Settings). Knows c.main.inside.main.facts c.main.inside.main.seen kept) same had.2)
+    (subst (λ (kept : Settings). KeepsSettings c.main.inside.main.facts c.main.inside.main.seen kept) same had.2)

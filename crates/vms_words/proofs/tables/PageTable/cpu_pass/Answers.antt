@@ -1,13 +1,9 @@
 -- The goals were that the volumes hold what the CPU has spent in what the pass has seen, that its groups begin where the
 -- pass keeps, and that what the main pass keeps of the settings stands.
 use Rattle.std.proofs.Common.{◌≡◌, ◌∙◌, Some, ap, sym, subst}
-use Rattle.vms_history.specs.Passes.{IsFree}
-use Rattle.vms_seats.specs.Passes.{Pass, Shared}
-use Rattle.vms_core.specs.declared.steps.Facts.{Facts}
-use Rattle.vms_core.specs.declared.steps.Step.{Step}
-use Rattle.vms_core.specs.Steps.{role}
-use Rattle.vms_words.specs.PagePasses.{HoldsSpending}
-use Rattle.vms_words.specs.Spots.{groups_start}
+use Rattle.vms_calls.specs.Common.{IsFree, Facts, Step, role}
+use Rattle.vms_seats.specs.Common.{Pass, Shared}
+use Rattle.vms_words.specs.Common.{HoldsSpending, groups_start}
 use Rattle.vms_words.proofs.Begun.{owning-begun}
 use Rattle.vms_words.proofs.MainSettings.{IsMainPass-begun}
 use Rattle.vms_words.proofs.tables.PageTable.cpu_pass.Goals as goal

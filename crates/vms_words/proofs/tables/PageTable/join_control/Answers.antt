@@ -1,8 +1,7 @@
 -- The goal was that what the control pass kept stands after it ended.
 use Rattle.std.proofs.Common.{sym, ap, ◌∙◌}
-use Rattle.vms_seats.specs.Passes.{Pass}
-use Rattle.vms_core.specs.declared.steps.Facts.{Facts}
-use Rattle.vms_core.specs.declared.steps.Step.{Step}
+use Rattle.vms_seats.specs.Common.{Pass}
+use Rattle.vms_calls.specs.Common.{Facts, Step}
 use Rattle.vms_words.proofs.MainSettings.{IsMainPass-back}
 use Rattle.vms_words.proofs.tables.PageTable.join_control.Goals as goal
 

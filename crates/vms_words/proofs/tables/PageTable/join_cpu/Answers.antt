@@ -1,9 +1,8 @@
 -- The goal was that what the main pass keeps of the settings stands after the pass ended.
 use Rattle.std.proofs.Common.{sym, ap, ◌∙◌}
-use Rattle.vms_seats.specs.Passes.{Pass}
-use Rattle.vms_core.specs.declared.steps.Facts.{Facts}
-use Rattle.vms_core.specs.declared.steps.Step.{Step}
-use Rattle.vms_words.specs.PagePasses.{OwningPass}
+use Rattle.vms_seats.specs.Common.{Pass}
+use Rattle.vms_calls.specs.Common.{Facts, Step}
+use Rattle.vms_words.specs.Common.{OwningPass}
 use Rattle.vms_words.proofs.MainSettings.{IsMainPass-ended}
 use Rattle.vms_words.proofs.tables.PageTable.join_cpu.Goals as goal
 

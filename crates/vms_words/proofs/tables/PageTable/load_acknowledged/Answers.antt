@@ -1,12 +1,8 @@
 -- The goals were that the pass may make the load, that the number found fits, and that the pass keeps what it found.
 use Rattle.std.proofs.Common.{◌≡◌, ◌^◌, ◌<◌, None, Option, ℕ, Bool, sym, ap, ◌∙◌, subst}
-use Rattle.vms_base.specs.Places.{IsCpu, IsZone}
-use Rattle.vms_core.specs.declared.steps.Facts.{Facts}
-use Rattle.vms_core.specs.declared.steps.Step.TheVariants.{LoadA}
-use Rattle.vms_core.specs.Peaks.{is_number}
+use Rattle.vms_calls.specs.Common.{IsCpu, IsZone, Facts, LoadA, is_number}
 use Rattle.vms_words.specs.declared.spots.Spot.TheVariants.{Acknowledgement}
-use Rattle.vms_words.specs.KeptSettings.{IsControlPass, kept_sets, with_kept_peak}
-use Rattle.vms_words.specs.Told.{acknowledgement_told}
+use Rattle.vms_words.specs.Common.{IsControlPass, kept_sets, with_kept_peak, acknowledgement_told}
 use Rattle.vms_words.specs.Told as words
 use Rattle.vms_words.proofs.AcknowledgedLoads.{acknowledged-fits}
 use Rattle.vms_words.proofs.ControlPasses.{IsControlPass-made, worker-of}

@@ -1,8 +1,7 @@
 -- The goal was that the pass may make the load.
-use Rattle.vms_base.specs.Places.{IsCpu, IsGroup}
-use Rattle.vms_core.specs.declared.steps.Step.TheVariants.{LoadD}
+use Rattle.vms_calls.specs.Common.{IsCpu, IsGroup, LoadD}
 use Rattle.vms_words.specs.declared.spots.Spot.TheVariants.{Group}
-use Rattle.vms_words.specs.Told.{told}
+use Rattle.vms_words.specs.Common.{told}
 use Rattle.vms_words.proofs.GroupSteps.{group-load}
 use Rattle.vms_words.proofs.InTables.{may-at, known-of}
 use Rattle.vms_words.proofs.tables.PageTable.load_diffs.Goals as goal

@@ -1,8 +1,7 @@
 -- The goal was that the pass may make the load.
-use Rattle.vms_base.specs.Places.{IsZone}
-use Rattle.vms_core.specs.declared.steps.Step.TheVariants.{LoadM}
+use Rattle.vms_calls.specs.Common.{IsZone, LoadM}
 use Rattle.vms_words.specs.declared.spots.Spot.TheVariants.{Mark}
-use Rattle.vms_words.specs.Told.{told}
+use Rattle.vms_words.specs.Common.{told}
 use Rattle.vms_words.proofs.InTables.{may-at, known-of}
 use Rattle.vms_words.proofs.LoadSteps.{mark-load}
 use Rattle.vms_words.proofs.tables.PageTable.load_mark.Goals as goal

@@ -1,9 +1,7 @@
 -- The goal was that the pass may make the load.
-use Rattle.vms_base.specs.declared.kinds.CpuState.TheVariants.{Online}
-use Rattle.vms_base.specs.Places.{IsCpu}
-use Rattle.vms_core.specs.declared.steps.Step.TheVariants.{LoadO}
+use Rattle.vms_calls.specs.Common.{Online, IsCpu, LoadO}
 use Rattle.vms_words.specs.declared.spots.Spot.TheVariants.{Cpu}
-use Rattle.vms_words.specs.Told.{told}
+use Rattle.vms_words.specs.Common.{told}
 use Rattle.vms_words.proofs.InTables.{may-at, known-of}
 use Rattle.vms_words.proofs.LoadSteps.{cpu-load}
 use Rattle.vms_words.proofs.tables.PageTable.load_state.Goals as goal

@@ -1,9 +1,8 @@
 -- The goal was that the pass may make the load.
 use Rattle.std.proofs.Common.{pos}
-use Rattle.vms_base.specs.Places.{IsItem}
-use Rattle.vms_core.specs.declared.steps.Step.TheVariants.{LoadS}
+use Rattle.vms_calls.specs.Common.{IsItem, LoadS}
 use Rattle.vms_words.specs.declared.spots.Spot.TheVariants.{System}
-use Rattle.vms_words.specs.Told.{told}
+use Rattle.vms_words.specs.Common.{told}
 use Rattle.vms_words.proofs.InTables.{may-at, known-of}
 use Rattle.vms_words.proofs.LoadSteps.{system-load}
 use Rattle.vms_words.proofs.tables.PageTable.load_system.Goals as goal

@@ -1,9 +1,8 @@
 -- The goals were that the pass owns a CPU of the layout, and that it may make the load.
 use Rattle.std.proofs.Common.{sym, ◌∙◌}
-use Rattle.vms_base.specs.Places.{IsCpu, IsPlace}
-use Rattle.vms_core.specs.declared.steps.Step.TheVariants.{LoadT}
+use Rattle.vms_calls.specs.Common.{IsCpu, IsPlace, LoadT}
 use Rattle.vms_words.specs.declared.spots.Spot.TheVariants.{Threshold}
-use Rattle.vms_words.specs.Told.{told}
+use Rattle.vms_words.specs.Common.{told}
 use Rattle.vms_words.proofs.InTables.{may-at, known-of, known-in}
 use Rattle.vms_words.proofs.LoadSteps.{threshold-load, owned-known}
 use Rattle.vms_words.proofs.tables.PageTable.load_threshold.Goals as goal

@@ -1,13 +1,9 @@
 -- The goals were that the words show the state at the start, that there are some, that they stand in their blocks,
 -- and that the main pass keeps the settings at the start.
 use Rattle.std.proofs.Common.{◌≡◌, ◌<◌, ◌∙◌, refl, sym, ap, subst}
-use Rattle.vms_base.specs.Places.{IsLayout}
-use Rattle.vms_core.specs.declared.steps.Facts.{Facts}
-use Rattle.vms_core.specs.Bases.{IsBase}
-use Rattle.vms_core.specs.Pages.{History}
-use Rattle.vms_calls.specs.HeaderFacts.{facts_of}
+use Rattle.vms_calls.specs.Common.{IsLayout, Facts, IsBase, History, facts_of}
 use Rattle.vms_words.specs.declared.spots.Blocks.{Blocks}
-use Rattle.vms_words.specs.KeptSettings.{Knows}
+use Rattle.vms_words.specs.Common.{KeepsSettings}
 use Rattle.vms_words.proofs.ShownWords.{words-shown, length-words, some-words}
 use Rattle.vms_words.proofs.tables.PageTable.make.Goals as goal
 
@@ -52,7 +48,8 @@ invariant_of-result-2 c free =
     let made = c.in_ok-words.ensures in (
       c.in_ok-kept.kept,
       refl,
-      subst (λ (f : Facts). Knows f c.in_ok-words.main.seen c.in_ok-kept.kept) (sym (made.main.0.facts ∙ made.words.0))
-          (subst (λ (h : History). Knows facts h c.in_ok-kept.kept) (sym made.main.1)
+      subst (λ (f : Facts). KeepsSettings f c.in_ok-words.main.seen c.in_ok-kept.kept)
+          (sym (made.main.0.facts ∙ made.words.0))
+          (subst (λ (h : History). KeepsSettings facts h c.in_ok-kept.kept) (sym made.main.1)
           (c.in_ok-kept.ensures c.in_ok-from_slice.field-0)),
     )

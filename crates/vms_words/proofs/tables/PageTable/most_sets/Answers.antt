@@ -1,11 +1,7 @@
 -- The goals were that no threshold and no mark was set more often.
 use Rattle.std.proofs.Common.{ℕ, ◌≤◌, sym, subst}
-use Rattle.vms_base.specs.Places.{IsCpu, IsPlace, IsZone}
-use Rattle.vms_seats.specs.Passes.{Pass}
-use Rattle.vms_core.specs.declared.steps.Facts.{Facts}
-use Rattle.vms_core.specs.declared.steps.Step.{Step}
-use Rattle.vms_core.specs.Cells.{mark_sets_at, threshold_sets_at}
-use Rattle.vms_core.specs.Pages.{state_after}
+use Rattle.vms_calls.specs.Common.{IsCpu, IsPlace, IsZone, Facts, Step, mark_sets_at, threshold_sets_at, state_after}
+use Rattle.vms_seats.specs.Common.{Pass}
 use Rattle.vms_words.proofs.ControlPasses.{pass-knows}
 use Rattle.vms_words.proofs.KeptSettings.{mark-within, threshold-within}
 use Rattle.vms_words.proofs.tables.PageTable.most_sets.Goals as goal

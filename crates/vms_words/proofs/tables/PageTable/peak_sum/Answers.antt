@@ -1,11 +1,8 @@
 -- The goal was that the sum by what is kept is the one by the history.
 use Rattle.std.proofs.Common.{◌≡◌, ap, ◌∙◌}
-use Rattle.vms_base.specs.Places.{IsZone}
-use Rattle.vms_seats.specs.Passes.{Pass}
-use Rattle.vms_core.specs.declared.steps.Facts.{Facts}
-use Rattle.vms_core.specs.declared.steps.Step.{Step}
-use Rattle.vms_core.specs.Peaks.{peak_sum}
-use Rattle.vms_words.specs.KeptSettings.{kept_sum}
+use Rattle.vms_calls.specs.Common.{IsZone, Facts, Step, peak_sum}
+use Rattle.vms_seats.specs.Common.{Pass}
+use Rattle.vms_words.specs.Common.{kept_sum}
 use Rattle.vms_words.proofs.ControlPasses.{pass-knows, worker-of}
 use Rattle.vms_words.proofs.InTables.{known-of, of-facts}
 use Rattle.vms_words.proofs.KnownSettings.{kept_sum-knows}

@@ -1,21 +1,13 @@
 -- The goals were that the pass may make the put, and that the put or the miss is what it made.
-use Rattle.std.proofs.Common.{◌≡◌, ℕ, ◌+◌, ◌==◌, List, length, get_or, unsigned_abs, to_z, of_z, w64}
-use Rattle.std.proofs.Common.{refl, sym, ap, ◌∙◌, subst, arith, if◌then◌else◌}
+use Rattle.std.proofs.Common.{◌≡◌, ℕ, ◌+◌, ◌==◌, List, length, get_or, unsigned_abs, to_z, of_z, w64, refl, sym, ap}
+use Rattle.std.proofs.Common.{◌∙◌, subst, arith, if◌then◌else◌}
 use Rattle.std.proofs.lemmas.Int.{to_z-of_z}
-use Rattle.vms_base.specs.declared.groups.Diffs.{Diffs}
+use Rattle.vms_calls.specs.Common.{Diffs, IsCpu, Shape, group_of, Facts, Put, Miss, pages}
 use Rattle.vms_base.specs.Groups.{word_of_bytes}
-use Rattle.vms_base.specs.Places.{IsCpu, Shape, group_of}
-use Rattle.vms_seats.specs.Passes.{IsOf}
-use Rattle.vms_seats.specs.Steps.{MayStep}
-use Rattle.vms_core.specs.declared.steps.Facts.{Facts}
-use Rattle.vms_core.specs.declared.steps.Step.TheVariants.{Put, Miss}
-use Rattle.vms_core.specs.Pages.{pages}
+use Rattle.vms_seats.specs.Common.{IsFrom, MayStep}
 use Rattle.vms_words.specs.declared.spots.Spot.TheVariants.{Group}
-use Rattle.vms_words.specs.PagePasses.{OwningPass, IsOwningPass}
-use Rattle.vms_words.specs.Puts.{MayPut, HasPut, HasMissed}
+use Rattle.vms_words.specs.Common.{OwningPass, IsOwningPass, MayPut, HasPut, HasMissed, groups_start, told}
 use Rattle.vms_words.specs.Shown.{shown}
-use Rattle.vms_words.specs.Spots.{groups_start}
-use Rattle.vms_words.specs.Told.{told}
 use Rattle.vms_words.proofs.GroupBytes.{length-read}
 use Rattle.vms_words.proofs.InTables.{may-at, known-in}
 use Rattle.vms_words.proofs.LoadSteps.{owned-known}
@@ -36,7 +28,7 @@ with_entry-requires-clause-byte c =
 
 pub overflow_add-place : goal.overflow_add-place
 overflow_add-place c =
-    let of = subst (λ (p : OwningPass). IsOf p.pass c.args.self.now) (sym c.pass.view_is) c.requires.table in
+    let of = subst (λ (p : OwningPass). IsFrom p.pass c.args.self.now) (sym c.pass.view_is) c.requires.table in
     let known = λ (Known : Shape → Type 0).
     known-in c.self.inside.facts c.self.inside.blocks c.self.inside.words c.args.self.now c.pass.inside.worker
     c.self.invariant c.self.view_is of Known in
@@ -52,7 +44,7 @@ overflow_add-place c =
 
 pub exchange_at-stood-requires-clause-place : goal.exchange_at-stood-requires-clause-place
 exchange_at-stood-requires-clause-place c =
-    let of = subst (λ (p : OwningPass). IsOf p.pass c.args.self.now) (sym c.pass.view_is) c.requires.table in
+    let of = subst (λ (p : OwningPass). IsFrom p.pass c.args.self.now) (sym c.pass.view_is) c.requires.table in
     let known = λ (Known : Shape → Type 0).
     known-in c.self.inside.facts c.self.inside.blocks c.self.inside.words c.args.self.now c.pass.inside.worker
     c.self.invariant c.self.view_is of Known in
@@ -70,7 +62,7 @@ exchange_at-stood-requires-clause-step c =
     let k = c.args.counter in
     let w = c.args.found.now in
     let t = c.args.threshold in
-    let of = subst (λ (p : OwningPass). IsOf p.pass c.args.self.now) (sym c.pass.view_is) c.requires.table in
+    let of = subst (λ (p : OwningPass). IsFrom p.pass c.args.self.now) (sym c.pass.view_is) c.requires.table in
     let puts = subst (λ (p : OwningPass). MayPut p k w t c.args.delta) (sym c.pass.view_is) c.requires.puts in
     let at = group-at c.self.inside.facts.layout c.self.inside.blocks c.self.invariant.laid c.pass.inside.cpu
     c.group-group.result c.pass.inside.first_group

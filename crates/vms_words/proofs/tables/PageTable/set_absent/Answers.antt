@@ -1,18 +1,11 @@
 -- The goals were that the pass may make the CPU absent, and that it keeps that it did.
 use Rattle.std.proofs.Common.{List, sym, subst}
-use Rattle.vms_base.specs.declared.kinds.CpuState.{CpuState}
-use Rattle.vms_seats.specs.Passes.{Pass}
-use Rattle.vms_seats.specs.Steps.{MayStep}
-use Rattle.vms_core.specs.declared.steps.Facts.{Facts}
-use Rattle.vms_core.specs.declared.steps.Step.{Step}
-use Rattle.vms_core.specs.declared.steps.Step.TheVariants.{SetO}
-use Rattle.vms_core.specs.Conditions.{SetsAbsent}
-use Rattle.vms_core.specs.Pages.{pages, state_after}
+use Rattle.vms_calls.specs.Common.{CpuState, Facts, Step, SetO, SetsAbsent, pages, state_after}
+use Rattle.vms_seats.specs.Common.{Pass, MayStep}
 use Rattle.vms_words.specs.declared.spots.Spot.TheVariants.{Cpu}
-use Rattle.vms_words.specs.KeptSettings.{IsControlPass}
+use Rattle.vms_words.specs.Common.{IsControlPass, place_in, told}
 use Rattle.vms_words.specs.Shown.{shown}
-use Rattle.vms_words.specs.Spots.{blocks_of, place_in}
-use Rattle.vms_words.specs.Told.{told}
+use Rattle.vms_words.specs.Spots.{blocks_of}
 use Rattle.vms_words.proofs.AbsentSteps.{absent-may}
 use Rattle.vms_words.proofs.ControlPasses.{IsControlPass-made, worker-of, worker-knows}
 use Rattle.vms_words.proofs.InTables.{may-at}

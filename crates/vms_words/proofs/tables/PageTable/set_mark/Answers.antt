@@ -1,18 +1,11 @@
 -- The goals were that the pass may set the mark, and that it keeps that it did.
 use Rattle.std.proofs.Common.{◌≡◌, ◌+◌, sym, ap, ◌∙◌, subst}
-use Rattle.vms_seats.specs.Passes.{Pass}
-use Rattle.vms_seats.specs.Steps.{MayStep}
-use Rattle.vms_core.specs.declared.steps.Facts.{Facts}
-use Rattle.vms_core.specs.declared.steps.Step.{Step}
-use Rattle.vms_core.specs.declared.steps.Step.TheVariants.{SetM}
-use Rattle.vms_core.specs.Cells.{mark_sets_at}
-use Rattle.vms_core.specs.Conditions.{SetsMark}
-use Rattle.vms_core.specs.Pages.{pages, state_after}
+use Rattle.vms_seats.specs.Common.{Pass, MayStep}
+use Rattle.vms_calls.specs.Common.{Facts, Step, SetM, mark_sets_at, SetsMark, pages, state_after}
 use Rattle.vms_words.specs.declared.spots.Spot.TheVariants.{Mark}
-use Rattle.vms_words.specs.KeptSettings.{IsControlPass}
+use Rattle.vms_words.specs.Common.{IsControlPass, place_in, told}
 use Rattle.vms_words.specs.Shown.{shown}
-use Rattle.vms_words.specs.Spots.{blocks_of, place_in}
-use Rattle.vms_words.specs.Told.{told}
+use Rattle.vms_words.specs.Spots.{blocks_of}
 use Rattle.vms_words.proofs.ControlPasses.{IsControlPass-made, worker-of, worker-knows}
 use Rattle.vms_words.proofs.InTables.{may-at}
 use Rattle.vms_words.proofs.MarkSteps.{mark-may}

@@ -1,18 +1,11 @@
 -- The goals were that the pass may set the threshold, and that it keeps that it did.
 use Rattle.std.proofs.Common.{◌≡◌, ◌+◌, sym, ap, ◌∙◌, subst}
-use Rattle.vms_seats.specs.Passes.{Pass}
-use Rattle.vms_seats.specs.Steps.{MayStep}
-use Rattle.vms_core.specs.declared.steps.Facts.{Facts}
-use Rattle.vms_core.specs.declared.steps.Step.{Step}
-use Rattle.vms_core.specs.declared.steps.Step.TheVariants.{SetT}
-use Rattle.vms_core.specs.Cells.{threshold_sets_at}
-use Rattle.vms_core.specs.Conditions.{SetsThreshold}
-use Rattle.vms_core.specs.Pages.{pages, state_after}
+use Rattle.vms_seats.specs.Common.{Pass, MayStep}
+use Rattle.vms_calls.specs.Common.{Facts, Step, SetT, threshold_sets_at, SetsThreshold, pages, state_after}
 use Rattle.vms_words.specs.declared.spots.Spot.TheVariants.{Threshold}
-use Rattle.vms_words.specs.KeptSettings.{IsControlPass, kept_sets, with_kept_threshold}
+use Rattle.vms_words.specs.Common.{IsControlPass, kept_sets, with_kept_threshold, place_in, told}
 use Rattle.vms_words.specs.Shown.{shown}
-use Rattle.vms_words.specs.Spots.{blocks_of, place_in}
-use Rattle.vms_words.specs.Told.{told}
+use Rattle.vms_words.specs.Spots.{blocks_of}
 use Rattle.vms_words.proofs.ControlPasses.{IsControlPass-made, worker-of, worker-knows}
 use Rattle.vms_words.proofs.InTables.{may-at, of-facts}
 use Rattle.vms_words.proofs.ThresholdSteps.{threshold-may}

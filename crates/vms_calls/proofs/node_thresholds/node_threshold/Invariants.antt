@@ -1,0 +1,11 @@
+use Rattle.std.proofs.Common.{◌≡◌, ◌≤◌, nat_eq, get_or, if◌then◌else◌}
+use Rattle.vms_history.specs.Common.{node_of_zone, most_threshold, largest_below}
+use Rattle.vms_calls.proofs.node_thresholds.node_threshold.Given as goal
+
+-- the largest of the zones so far
+abbrev pub invariant-loop-g : goal.invariant-loop-g
+invariant-loop-g l = record {
+  value : l.largest
+      ≡ largest_below (λ n. if nat_eq (node_of_zone l.layout n) l.node then get_or l.thresholds n 0 else 0) l.g;
+  most : l.largest ≤ most_threshold;
+}

@@ -1,0 +1,2 @@
+pub mod BurialPasses
+pub mod Common

@@ -1,5 +1,0 @@
-use Rattle.vms_script.proofs.Feeding.{ArePhases-gave}
-use Rattle.vms_layer_trials.proofs.scripts.totals_of.Goals as goal
-
-pub plain_totals-requires-clause-phases : goal.plain_totals-requires-clause-phases
-plain_totals-requires-clause-phases c = ArePhases-gave c.args.header.now _ c.args.scripter.now c.requires.gave

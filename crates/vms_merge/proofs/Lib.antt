@@ -1,2 +1,0 @@
-pub mod MergedLines
-mod TakenAnswers

@@ -1,2 +1,0 @@
-pub mod BothPasses
-pub mod Opened

@@ -1,0 +1,14 @@
+pub mod OnlineLeft
+pub mod ThresholdWrites
+pub mod KnownSteps
+pub mod ZoneSizes
+pub mod SetTimes
+pub mod RatedZones
+pub mod NodeThresholds
+pub mod Calls
+pub mod RefreshCalls
+pub mod UntouchedPeaks
+pub mod ControlledHistories
+pub mod BurialCalls
+pub mod TurnCalls
+pub mod Common

@@ -1,0 +1,5 @@
+pub mod KnownPeaks
+pub mod OnlineCpus
+pub mod SetCounts
+pub mod Control
+pub mod Common

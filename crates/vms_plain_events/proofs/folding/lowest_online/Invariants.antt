@@ -1,0 +1,7 @@
+use Rattle.std.proofs.Common.{◌≢◌, ℕ, ◌<◌}
+use Rattle.vms_history.specs.Common.{Online, state_at}
+use Rattle.vms_plain_events.proofs.folding.lowest_online.Given as goal
+
+-- no CPU so far is online
+abbrev pub invariant-loop-number : goal.invariant-loop-number
+invariant-loop-number l = (b : ℕ) → b < l.number → state_at l.states b ≢ Online

@@ -1,8 +1,0 @@
-use Rattle.std.proofs.Common.{◌≢◌, ℕ, ◌<◌}
-use Rattle.vms_base.specs.declared.kinds.CpuState.TheVariants.{Online}
-use Rattle.vms_base.specs.Cpus.{state_at}
-use Rattle.vms_plain_lines.proofs.control.lowest_online.Given as goal
-
--- no CPU so far is online
-abbrev pub invariant-loop-number : goal.invariant-loop-number
-invariant-loop-number l = (b : ℕ) → b < l.number → state_at l.states b ≢ Online

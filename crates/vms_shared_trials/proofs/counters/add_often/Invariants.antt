@@ -1,6 +1,0 @@
-use Rattle.std.proofs.Common.{◌≤◌}
-use Rattle.vms_seats.specs.MainSteps.{SeesMore}
-use Rattle.vms_shared_trials.proofs.counters.add_often.Given as goal
-
-abbrev pub invariant-loop : goal.invariant-loop
-invariant-loop g l = SeesMore l.pass.pass l.fn.pass.pass × (l.refused ≤ l.counter)

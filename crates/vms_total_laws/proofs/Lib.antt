@@ -1,0 +1,12 @@
+pub mod LaneSums
+pub mod KnownLines
+pub mod PassSums
+pub mod PageTotals
+pub mod EventTotals
+pub mod Ways
+pub mod StartTotals
+pub mod PcpuReadings
+pub mod PcpuTotals
+pub mod PcpuWays
+pub mod SegmentLines
+pub mod Common

@@ -1,0 +1,4 @@
+pub mod PlainSums
+pub mod Moves
+pub mod WayAnswers
+pub mod Common

@@ -1,6 +1,0 @@
--- Segment by segment.
-use Rattle.vms_totals.proofs.SegmentLines.{known-segments, numbered-segments}
-use Rattle.vms_totals.proofs.runs.phases_keep_known_lines.Goals as goal
-
-pub returns : goal.returns
-returns c = record { known = known-segments; numbered = numbered-segments }

@@ -1,3 +1,0 @@
-pub mod PlainSums
-pub mod Moves
-pub mod WayAnswers

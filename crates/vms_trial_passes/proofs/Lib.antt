@@ -1,2 +1,0 @@
-pub mod TwoPasses
-pub mod ThreePasses
