@@ -9,7 +9,8 @@ use Rattle.vms_event_core.specs.declared.call_values.EventCall.{EventCall}
 use Rattle.vms_event_core.specs.declared.call_values.EventCall.TheVariants.{Count, Sum, FoldDead}
 use Rattle.vms_event_core.specs.declared.steps.EventFacts.{EventFacts}
 use Rattle.vms_event_core.specs.declared.steps.EventStep.{EventStep}
-use Rattle.vms_event_core.specs.Common.{IsEventCall, folds, loads, online_cpus, CarryAsBefore, carried}
+use Rattle.vms_event_core.specs.Common.{IsAllEvents, IsEventCall, IsFoldEvents, folds, loads, online_cpus}
+use Rattle.vms_event_core.specs.Common.{CarryAsBefore, carried}
 
 -- what a take that found 0 moves, and what a take and its addition move together, is nothing
 pub empty_take-moves : (b : Bool) (before : ℤ) → (if b then pos 0 else pos 0) +ℤ before ≡ before
@@ -35,11 +36,19 @@ folds-carry from into k (zero ∷ found) p l h =
 folds-carry from into k (suc v ∷ found) p l h =
     folds-carry from into (suc k) found p l _ ∙ take_and_add-move (nat_eq k l) (suc v) (carried l h)
 
+pub all_events-carry : (cpus : List CpuId) (k : EventId) (found : List ℕ) (steps : List EventStep) (answer : ℕ)
+    → IsAllEvents cpus k found steps answer → CarryAsBefore steps
+all_events-carry cpus k found steps answer is p l h = rw is.in_order (loads-carry k cpus found p l h)
+
+pub fold_events-carry : (from into : CpuId) (found : List ℕ) (steps : List EventStep)
+    → IsFoldEvents from into found steps → CarryAsBefore steps
+fold_events-carry from into found steps is p l h = rw is.in_order (folds-carry from into 0 found p l h)
+
 pub call-carries : (facts : EventFacts) (call : EventCall) (steps : List EventStep) (answer : EventAnswer)
     → IsEventCall facts call steps answer → CarryAsBefore steps
 call-carries facts (Count k n) steps Done is p l h = rw is.in_order (empty_take-moves false (carried l h))
 call-carries facts (Sum k) steps (Total answer) (found, is) p l h =
-    rw is.in_order (loads-carry k (online_cpus facts) found p l h)
+    all_events-carry (online_cpus facts) k found steps answer is p l h
 call-carries facts (FoldDead c) steps Done (into, found, lowest, is) p l h =
-    rw is.in_order (folds-carry c into 0 found p l h)
+    fold_events-carry c into found steps is p l h
 call-carries facts _ steps _ is p l h = absurd is

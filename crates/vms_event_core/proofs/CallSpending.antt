@@ -95,13 +95,13 @@ folds-spend from into k (suc v ∷ found) who c l =
     (All-cons (λ step. spent_by who c l step ≡ 0) _ (folds from into (suc k) found)
     (added-spends who c l into (record { number = k }) (suc v)) (folds-spend from into (suc k) found who c l))
 
-loads-spent : (cpus : List CpuId) (k : EventId) (found : List ℕ) (steps : List EventStep) (answer : ℕ)
+pub all_events-spend : (cpus : List CpuId) (k : EventId) (found : List ℕ) (steps : List EventStep) (answer : ℕ)
     → IsAllEvents cpus k found steps answer → SpendNothing steps
-loads-spent cpus k found steps answer is = subst SpendNothing (sym is.in_order) (loads-spend k cpus found)
+all_events-spend cpus k found steps answer is = subst SpendNothing (sym is.in_order) (loads-spend k cpus found)
 
-folds-spent : (from into : CpuId) (found : List ℕ) (steps : List EventStep) → IsFoldEvents from into found steps
-    → SpendNothing steps
-folds-spent from into found steps is = subst SpendNothing (sym is.in_order) (folds-spend from into 0 found)
+pub fold_events-spend : (from into : CpuId) (found : List ℕ) (steps : List EventStep)
+    → IsFoldEvents from into found steps → SpendNothing steps
+fold_events-spend from into found steps is = subst SpendNothing (sym is.in_order) (folds-spend from into 0 found)
 
 -- a count of no times
 count-spend_nothing : (k : EventId) (n : ℕ) → n ≡ 0 → SpendNothing (AddE k n ∷ [])
@@ -123,8 +123,9 @@ calls-spend_nothing facts (Count k n) steps Done is none =
     let here : (if nat_eq k.number k.number then n else 0) ≡ n = rw same refl in
     subst SpendNothing (sym is.in_order) (count-spend_nothing k n (sym here ∙ none k.number))
 calls-spend_nothing facts (Sum k) steps (Total answer) (found, is) none =
-    loads-spent (online_cpus facts) k found steps answer is
-calls-spend_nothing facts (FoldDead c) steps Done (into, found, lowest, is) none = folds-spent c into found steps is
+    all_events-spend (online_cpus facts) k found steps answer is
+calls-spend_nothing facts (FoldDead c) steps Done (into, found, lowest, is) none =
+    fold_events-spend c into found steps is
 calls-spend_nothing facts _ steps _ is none = absurd is
 
 -- what the steps of a call count is what the call spends
@@ -139,10 +140,10 @@ call-counts facts k p (Count l n) steps Done is h =
     by true = refl
     by false = refl
 call-counts facts k p (Sum l) steps (Total answer) (found, is) h =
-    let none = loads-spent (online_cpus facts) l found steps answer is in
+    let none = all_events-spend (online_cpus facts) l found steps answer is in
     omega (arith, ints, nothing-counted (record { number = 0 }) k p steps (none (Some (record { number = 0 })) 0 k) h)
 call-counts facts k p (FoldDead d) steps Done (into, found, lowest, is) h =
-    let none = folds-spent d into found steps is in
+    let none = fold_events-spend d into found steps is in
     omega (arith, ints, nothing-counted d k p steps (none (Some d) d.number k) h)
 call-counts facts k p _ steps _ is h = absurd is
 
