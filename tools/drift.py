@@ -17,10 +17,12 @@ import sys
 from dataclasses import dataclass
 
 import vmtrace
+from vmtrace import called, within
 
 ANSWER = re.compile(r"line (\d+): (value|snapshot) (\d+)$")
 REFUSED = re.compile(r"line (\d+): refused: ")
 READINGS = {"val": "value", "snap": "snapshot"}
+MOST = 2**63
 WIDTH, MARGIN = 860, 70
 
 
@@ -65,12 +67,12 @@ class Bound:
         return sum(self.last)
 
     def normal_threshold(self):
-        """calculate_normal_threshold; of a node the largest of its zones."""
-        return min(125, 2 * len(self.online).bit_length() * (1 + (max(self.managed) >> 15).bit_length()))
+        """That of the zone; of a node the largest of its zones."""
+        return vmtrace.normal_threshold(max(self.managed), len(self.online))
 
     def pressure_threshold(self):
         """calculate_pressure_threshold"""
-        return min(125, max(1, (self.size.low - self.size.min) // len(self.online)))
+        return min(vmtrace.MAX_THRESHOLD, max(1, (self.size.low - self.size.min) // len(self.online)))
 
     def refresh(self):
         """refresh_zone_stat_thresholds"""
@@ -117,30 +119,38 @@ class Bound:
         if words[0] == "flush":
             self.flush()
         elif words[0] in ("offline", "online"):
-            self.plug(words[0], int(words[1]))
+            self.plug(words[0], number_of(words[1]))
         elif words[1:2] == ["fold"]:
-            self.fold(int(words[2]))
+            self.fold(number_of(words[2]))
         elif words[1:2] == ["dead"]:
-            self.plug("dead", int(words[2]))
-        elif words[1:2] == ["pressure"] and int(words[2]) == self.node:
+            self.plug("dead", number_of(words[2]))
+        elif words[1:2] == ["pressure"] and number_of(words[2]) == self.node:
             self.pressure()
-        elif words[1:2] == ["normal"] and int(words[2]) == self.node:
+        elif words[1:2] == ["normal"] and number_of(words[2]) == self.node:
             self.normal()
-        elif words[1:2] == ["kswapd"] and int(words[2]) == self.node:
+        elif words[1:2] == ["kswapd"] and number_of(words[2]) == self.node:
             before = self.thresholds[:]
             self.pressure()
             self.normal()
             self.thresholds = list(map(max, before, self.thresholds))
 
 
+def number_of(word):
+    """A number of a line of a trace, or of what the program prints of it."""
+    return within(word, 0, MOST)
+
+
 def read_answers(name):
     """The numbers that the program printed, by line of the trace, and the lines that it refused."""
     answers, refused = {}, set()
     for line in vmtrace.lines_of(name):
-        if found := ANSWER.match(line):
-            answers[int(found[1])] = int(found[3])
-        elif found := REFUSED.match(line):
-            refused.add(int(found[1]))
+        try:
+            if found := ANSWER.match(line):
+                answers[number_of(found[1])] = number_of(found[3])
+            elif found := REFUSED.match(line):
+                refused.add(number_of(found[1]))
+        except ValueError:
+            raise vmtrace.BadInput(f"{called(name)}: the program prints no line '{vmtrace.shown(line)}'") from None
     return answers, refused
 
 
@@ -159,7 +169,7 @@ def change_of(words, counter, header):
     if words[1:2] not in (["mod"], ["inc"], ["dec"]) or " ".join(words[2:5]) != str(counter):
         return None
     if words[1] == "mod":
-        return int(words[5]) // (vmtrace.PAGE_BYTES if counter.item in header.in_bytes else 1)
+        return within(words[5], -MOST, MOST) // (vmtrace.PAGE_BYTES if counter.item in header.in_bytes else 1)
     return 1 if words[1] == "inc" else -1
 
 
@@ -192,7 +202,7 @@ def follow(words, header, counter, bound, where):
         if delta is None:
             bound.follow(words)
             return 0
-        bound.changed(int(words[0][1:]))
+        bound.changed(number_of(words[0][1:]))
         return delta
     except (ValueError, IndexError, ZeroDivisionError):
         raise vmtrace.BadInput(f"{where}: the program refuses this line, and its answers don't say so") from None
@@ -311,25 +321,26 @@ def parse(arguments):
 def chosen_counter(lines, header, options):
     readings = readings_of(lines, header)
     if not readings:
-        raise vmtrace.BadInput(f"{options.trace}: no 'val' or 'snap' line; probe.py puts them in")
+        raise vmtrace.BadInput(f"{called(options.trace)}: no 'val' or 'snap' line; probe.py puts them in")
     if options.counter is None and len(readings) > 1:
         several = ", ".join(readings)
-        raise vmtrace.BadInput(f"{options.trace}: reads several counters, name one with --counter: {several}")
+        raise vmtrace.BadInput(f"{called(options.trace)}: reads several counters, name one with --counter: {several}")
     counter = vmtrace.counter_of(options.counter or readings[0])
     if str(counter) not in readings or not header.has(counter):
-        raise vmtrace.BadInput(f"{options.trace}: doesn't read the counter '{counter}'")
+        raise vmtrace.BadInput(f"{called(options.trace)}: doesn't read the counter '{counter}'")
     return counter
 
 
 def main(arguments):
     options = parse(arguments)
+    trace, output = called(options.trace), called(options.output)
     lines = vmtrace.lines_of(options.trace)
-    header = vmtrace.read_header(lines, options.trace)
+    header = vmtrace.read_header(lines, trace)
     counter = chosen_counter(lines, header, options)
-    points = points_of(lines, header, counter, *read_answers(options.output), options.trace)
+    points = points_of(lines, header, counter, *read_answers(options.output), trace)
     if not points:
-        raise vmtrace.BadInput(f"{options.output}: has no answer to a reading of '{counter}' in {options.trace}")
-    check(points, options.output)
+        raise vmtrace.BadInput(f"{output}: has no answer to a reading of '{counter}' in {trace}")
+    check(points, output)
     sys.stdout.writelines(line + "\n" for line in (data if options.data else drawing)(points, counter))
     return 0
 

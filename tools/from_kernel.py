@@ -15,6 +15,7 @@ in one change. No event tells of a page that goes straight to its zone because i
 
 Notes on what was used and left out go to standard error."""
 import argparse
+import io
 import itertools
 import math
 import os
@@ -25,41 +26,23 @@ import sys
 import tempfile
 import time
 from collections import Counter as Tally
-from contextlib import contextmanager
+from contextlib import contextmanager, suppress
 from dataclasses import dataclass, field
 from pathlib import Path
 
 import vmtrace
-from vmtrace import BadInput
+from procinfo import FIELDS, Zone, check_fields, number_of, read_vmstat, read_zoneinfo
+from vmtrace import BadInput, seconds
 
-ZONE = re.compile(r"Node (\d+), zone +(\w+)$")
-FIELDS = ("min", "low", "high", "spanned", "managed")
 EVENT = re.compile(r".*\[(\d+)\]\s+(?:\S+\s+)?(\d+(?:\.\d+)?):\s+(?:\w+:)?(\w+):(.*)")
 ARGUMENT = re.compile(r"\b(pfn|order)=(0x[0-9a-f]+|\d+)\b")
-LOST = re.compile(r"CPU:?\s*\d+ \[(?:LOST )?(\d+ )?EVENTS(?: DROPPED)?\]")
+LOST = re.compile(r"CPU:?\s*\d+ \[(?:LOST )?(?:(\d+) )?EVENTS(?: DROPPED)?\]")
 WRITTEN = re.compile(r"# entries-in-buffer/entries-written: (\d+)/(\d+)")
 TAKES, GIVES, FREES = "mm_page_alloc_zone_locked", "mm_page_pcpu_drain", "mm_page_free"
 COSTLY_ORDER, HUGE_ORDER, LAST_ORDER = 3, 9, 20
 TRACEFS = (Path("/sys/kernel/tracing"), Path("/sys/kernel/debug/tracing"))
 BUFFER_KB = "8192"
 REPORTS = ("vmstat", "zoneinfo", "totals", "counters")
-
-
-@dataclass
-class Zone:
-    """A zone as /proc/zoneinfo has it. `pages` has its numbers of pages and its first page frame, by their names."""
-
-    node: int
-    kind: str
-    line: int
-    pages: dict[str, int] = field(default_factory=dict)
-    items: dict[str, int] = field(default_factory=dict)
-
-    def __str__(self):
-        return f"{self.node} {self.kind}"
-
-    def spans(self, pfn):
-        return self.pages["start_pfn"] <= pfn < self.pages["start_pfn"] + self.pages["spanned"]
 
 
 @dataclass
@@ -95,47 +78,20 @@ class Account:
     cut: str = ""
 
 
-def read_zoneinfo(lines, name):
+def read_machine(lines, name):
     """The machine that the lines of /proc/zoneinfo describe."""
-    zones, nodes, cpus = [], {}, set()
-    counters = None
-    for number, line in enumerate(lines, 1):
-        words = line.split()
-        if found := ZONE.match(line.strip()):
-            zones.append(Zone(int(found[1]), found[2], number))
-            counters = zones[-1].items
-        elif not zones or len(words) < 2:
-            continue
-        elif words == ["per-node", "stats"]:
-            counters = nodes.setdefault(zones[-1].node, {})
-        elif words[:2] == ["pages", "free"]:
-            counters = zones[-1].items
-        elif words[0] == "cpu:":
-            cpus.add(number_of(words[1], name, number))
-        elif words[0] in FIELDS or words[0] == "start_pfn:":
-            zones[-1].pages[words[0].rstrip(":")] = number_of(words[1], name, number)
-        elif words[0] in vmtrace.ZONE_ITEMS + vmtrace.NODE_ITEMS:
-            counters[words[0]] = number_of(words[1], name, number)
-    kept = [zone for zone in zones if zone.pages.get("managed") and zone.kind in vmtrace.KINDS]
-    machine = Machine(kept, nodes, cpus, [zone for zone in zones if zone not in kept])
+    info = read_zoneinfo(lines, name)
+    kept = [zone for zone in info.zones if zone.pages.get("managed") and zone.kind in vmtrace.KINDS]
+    machine = Machine(kept, info.nodes, info.cpus, [zone for zone in info.zones if zone not in kept])
     check_machine(machine, name)
     return machine
-
-
-def number_of(word, name, line):
-    if not word.isdecimal():
-        raise BadInput(f"{name}:{line}: '{word}' is no number")
-    return int(word)
 
 
 def check_machine(machine, name):
     """The machine is one that a trace can have, and tells all of its zones that is needed."""
     if not machine.zones or not machine.cpus:
         raise BadInput(f"{name}: not the text of /proc/zoneinfo: no zone with managed pages, or no CPU")
-    for zone in machine.zones:
-        missing = [word for word in FIELDS + ("start_pfn",) if word not in zone.pages]
-        if missing:
-            raise BadInput(f"{name}:{zone.line}: zone {zone} has no '{missing[0]}'")
+    check_fields(machine.zones, FIELDS + ("start_pfn",), name)
     most = vmtrace.MAX_CPUS[2]
     if max(machine.cpus) >= most:
         raise BadInput(f"{name}: CPU {max(machine.cpus)} is online, and a trace has at most {most} CPUs")
@@ -176,17 +132,24 @@ def events_of(lines, name, account):
     other = False
     for number, line in enumerate(lines, 1):
         if event := EVENT.match(line):
-            seconds = float(event[2])
-            first = seconds if first is None else first
-            yield Event(number, int(event[1]), seconds - first, event[3], event[4])
+            since_boot = time_of(event[2], name, number)
+            first = since_boot if first is None else first
+            yield Event(number, number_of(event[1], name, number), since_boot - first, event[3], event[4])
         elif lost := LOST.match(line):
-            account.lost += int(lost[1] or 1)
+            account.lost += number_of(lost[1] or "1", name, number)
         elif written := WRITTEN.match(line):
-            account.lost += int(written[2]) - int(written[1])
+            account.lost += number_of(written[2], name, number) - number_of(written[1], name, number)
         elif line.strip() and not line.startswith("#"):
             other = True
     if other and first is None:
         raise BadInput(f"{name}: no line of it is an event of the kernel's tracing buffer")
+
+
+def time_of(word, name, line):
+    number = float(word)
+    if math.isinf(number):
+        raise BadInput(f"{name}:{line}: '{vmtrace.shown(word)}' is no time")
+    return number
 
 
 def pages_of(event, name):
@@ -195,7 +158,7 @@ def pages_of(event, name):
     for word in ("pfn", "order"):
         if word not in arguments:
             raise BadInput(f"{name}:{event.line}: {event.name} has no number '{word}='")
-    pfn, order = (int(arguments[word], 16 if arguments[word].startswith("0x") else 10) for word in ("pfn", "order"))
+    pfn, order = (number_of(arguments[word], name, event.line) for word in ("pfn", "order"))
     if order > LAST_ORDER:
         raise BadInput(f"{name}:{event.line}: the order {order} is too large")
     if event.name == FREES and (order <= COSTLY_ORDER or order == HUGE_ORDER):
@@ -219,10 +182,13 @@ def judged(event, machine, name):
 
 
 class Paper:
-    """What a trace is written on: it takes lines as long as the program would read them and the last lines too."""
+    """What a trace is written on: it takes lines as long as the program would read them and the last lines too.
 
-    def __init__(self, out, limits, last):
-        self.out = out
+    Nothing is put out before the end, so that what is put out is a whole trace.
+    """
+
+    def __init__(self, limits, last):
+        self.text = io.StringIO()
         self.last = last
         self.lines = limits.lines - len(last)
         self.bytes = limits.bytes - sum(len(line) + 1 for line in last)
@@ -233,11 +199,13 @@ class Paper:
             return False
         self.lines -= 1
         self.bytes -= len(line) + 1
-        self.out.write(line + "\n")
+        self.text.write(line + "\n")
         return True
 
-    def end(self):
-        self.out.writelines(line + "\n" for line in self.last)
+    def end(self, out):
+        self.text.writelines(line + "\n" for line in self.last)
+        self.text.seek(0)
+        shutil.copyfileobj(self.text, out)
 
 
 def after_early(events, machine, name, skip, account):
@@ -275,15 +243,11 @@ def write_trace(paper, events, machine, name, options, account):
     for line in header_lines(machine, options.watermarks, account.early):
         paper.write(line)
     write_changes(paper, events, machine, name, options.skip + options.seconds, account)
-    paper.end()
 
 
-def free_pages(text, name):
-    """The value of nr_free_pages in the text of /proc/vmstat."""
-    found = re.search(r"^nr_free_pages (\d+)$", text, re.M)
-    if not found:
-        raise BadInput(f"{name}: not the text of /proc/vmstat: no line 'nr_free_pages N'")
-    return int(found[1])
+def free_pages(lines, name):
+    """The value of nr_free_pages in the lines of /proc/vmstat."""
+    return read_vmstat(lines, name)["nr_free_pages"]
 
 
 def notes(machine, account, options, counted):
@@ -340,8 +304,18 @@ def tracing_instance():
         (instance / "buffer_size_kb").write_text(BUFFER_KB)
         yield instance
     finally:
+        remove(instance)
+
+
+def remove(instance):
+    """Takes an instance away, also where its events can't be switched off; where that fails it is named."""
+    with suppress(OSError):
         (instance / "events" / "enable").write_text("0")
+    try:
         instance.rmdir()
+    except OSError as error:
+        print(f"from_kernel: {instance}: {error.strerror}: it is left behind; as root: rmdir {instance}",
+              file=sys.stderr)
 
 
 def record(seconds, recording):
@@ -361,13 +335,6 @@ def record(seconds, recording):
             shutil.copyfileobj(trace, recording)
     recording.seek(0)
     return zoneinfo, before, after
-
-
-def seconds(text):
-    number = float(text)
-    if not 0 <= number < float("inf"):
-        raise ValueError
-    return number
 
 
 def parse(arguments):
@@ -400,8 +367,9 @@ def parse(arguments):
 def make(machine, events, name, counted, options, limits):
     """Writes the trace of a machine and the lines of that name, and the notes."""
     account = Account()
-    paper = Paper(sys.stdout, limits, [f"report {kind}" for kind in options.report])
+    paper = Paper(limits, [f"report {kind}" for kind in options.report])
     write_trace(paper, events_of(events, name, account), machine, name, options, account)
+    paper.end(sys.stdout)
     for note in notes(machine, account, options, counted):
         print(f"from_kernel: {note}", file=sys.stderr)
 
@@ -409,19 +377,20 @@ def make(machine, events, name, counted, options, limits):
 def make_live(options, limits):
     with tempfile.TemporaryFile("w+", **vmtrace.ANY_BYTES) as recording:
         zoneinfo, before, after = record(options.live, recording)
-        machine = read_zoneinfo(zoneinfo.splitlines(), "/proc/zoneinfo")
-        counted = free_pages(after, "/proc/vmstat") - free_pages(before, "/proc/vmstat")
+        machine = read_machine(zoneinfo.splitlines(), "/proc/zoneinfo")
+        counted = free_pages(after.splitlines(), "/proc/vmstat") - free_pages(before.splitlines(), "/proc/vmstat")
         make(machine, recording, "the recording", counted, options, limits)
 
 
 def make_from_files(options, limits):
-    machine = read_zoneinfo(vmtrace.lines_of(options.zoneinfo), options.zoneinfo)
+    machine = read_machine(vmtrace.lines_of(options.zoneinfo), vmtrace.called(options.zoneinfo))
     counted = None
     if options.vmstat:
-        before, after = (free_pages("\n".join(vmtrace.lines_of(name)), name) for name in options.vmstat)
+        before, after = (free_pages(vmtrace.lines_of(name), vmtrace.called(name)) for name in options.vmstat)
         counted = after - before
-    with vmtrace.open_text(options.events or os.devnull) as events:
-        make(machine, events, options.events, counted, options, limits)
+    name = options.events or os.devnull
+    with vmtrace.open_text(name) as events:
+        make(machine, events, vmtrace.called(name), counted, options, limits)
 
 
 def main(arguments, limits=vmtrace.Limits()):

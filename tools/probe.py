@@ -8,6 +8,8 @@ import sys
 
 import vmtrace
 
+BOUNDARIES = ("sync", "offline", "online", "flush", "report")
+
 
 def is_lane_line(line):
     words = vmtrace.words_of(line)
@@ -30,11 +32,34 @@ def probed(lines, header, counter, every):
                 yield from reading
 
 
+def most_phases(lines, header):
+    """How many phases the trace may have: a boundary line that is refused counts here like one that isn't."""
+    phases = 0
+    is_open = False
+    for line in lines[header.lines:]:
+        if any(word in BOUNDARIES for word in vmtrace.words_of(line)[:1]):
+            is_open = False
+        elif not is_open and is_lane_line(line):
+            is_open = True
+            phases += 1
+    return phases
+
+
+def check_limits(lines, header, limits, name):
+    """The program takes a trace of these lines."""
+    size = sum(len(line) + 1 for line in lines)
+    if len(lines) > limits.lines or size > limits.bytes:
+        raise vmtrace.BadInput(
+            f"{name}: with its readings it has {len(lines):,} lines and {size:,} bytes, and the program reads "
+            f"{limits.lines:,} and {limits.bytes:,}: take a greater EVERY or a shorter trace")
+    phases = most_phases(lines, header)
+    if phases > limits.phases:
+        raise vmtrace.BadInput(f"{name}: with its readings it may have {phases:,} phases, and the program takes "
+                               f"{limits.phases:,}: take a trace with fewer boundary lines")
+
+
 def positive(text):
-    number = int(text)
-    if number < 1:
-        raise ValueError
-    return number
+    return vmtrace.within(text, 1, vmtrace.Limits.lines)
 
 
 def parse(arguments):
@@ -48,16 +73,13 @@ def parse(arguments):
 def main(arguments, limits=vmtrace.Limits()):
     options = parse(arguments)
     counter = vmtrace.counter_of(options.counter)
+    name = vmtrace.called(options.trace)
     lines = vmtrace.lines_of(options.trace)
-    header = vmtrace.read_header(lines, options.trace)
+    header = vmtrace.read_header(lines, name)
     if not header.has(counter):
-        raise vmtrace.BadInput(f"{options.trace}: the header has no counter '{counter}'")
+        raise vmtrace.BadInput(f"{name}: the header has no counter '{counter}'")
     result = list(probed(lines, header, counter, options.every))
-    size = sum(len(line) + 1 for line in result)
-    if len(result) > limits.lines or size > limits.bytes:
-        raise vmtrace.BadInput(
-            f"{options.trace}: with its readings it has {len(result):,} lines and {size:,} bytes, and the program "
-            f"reads {limits.lines:,} and {limits.bytes:,}: take a greater EVERY or a shorter trace")
+    check_limits(result, header, limits, name)
     sys.stdout.reconfigure(**vmtrace.ANY_BYTES)
     sys.stdout.writelines(line + "\n" for line in result)
     return 0

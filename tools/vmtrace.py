@@ -7,6 +7,7 @@ import lzma
 import os
 import re
 import sys
+import zlib
 from dataclasses import dataclass, field
 
 KINDS = ("DMA", "DMA32", "Normal", "Movable")
@@ -19,8 +20,12 @@ MAX_CPUS = {1: 64, 2: 128}
 MAX_ZONES = 16
 MAX_NODE = 15
 MAX_MANAGED = 2**40
+MAX_MARK = 2**40
 MAX_KBYTES = 2**40
 MAX_SCALE = 3000
+MAX_BASE = 2**48
+MAX_THRESHOLD = 125
+NUMBER = re.compile(r"0|-?[1-9][0-9]{,19}")
 WORD = re.compile(r"[!-~]+")
 ANY_BYTES = {"encoding": "ascii", "errors": "surrogateescape", "newline": "\n"}
 
@@ -31,10 +36,11 @@ class BadInput(Exception):
 
 @dataclass(frozen=True)
 class Limits:
-    """How many lines and bytes the program reads at most."""
+    """How many lines, bytes and phases the program takes at most."""
 
     lines: int = 1_000_000
     bytes: int = 2**26
+    phases: int = 10_000
 
 
 @dataclass(frozen=True)
@@ -85,10 +91,12 @@ def words_of(line):
 
 def counter_of(text):
     """The counter of three words, as in `0 Normal nr_free_pages`."""
-    words = text.split()
-    if len(words) != 3 or not words[0].isdecimal():
-        raise BadInput(f"'{text}' is no counter: it has the form '0 Normal nr_free_pages' or '0 node nr_dirty'")
-    return Counter(int(words[0]), words[1], words[2])
+    try:
+        node, kind, item = text.split()
+        return Counter(within(node, 0, MAX_NODE), kind, item)
+    except ValueError:
+        raise BadInput(f"'{shown(text)}' is no counter: it has the form '0 Normal nr_free_pages' or "
+                       "'0 node nr_dirty'") from None
 
 
 def computed_watermarks(kbytes, scale, managed):
@@ -103,9 +111,26 @@ def computed_watermarks(kbytes, scale, managed):
         yield lowest, lowest + step, lowest + 2 * step
 
 
+def normal_threshold(managed, online):
+    """calculate_normal_threshold, of a zone with so many managed pages where so many CPUs are online."""
+    return min(MAX_THRESHOLD, 2 * online.bit_length() * (1 + (managed >> 15).bit_length()))
+
+
+def shown(text):
+    """A text as messages show it, not much of a long one."""
+    return text if len(text) <= 80 else text[:80] + ".."
+
+
+def called(name):
+    """What messages call the file of that name."""
+    return "standard input" if name == "-" else name
+
+
 def open_text(name):
     """The file of that name, or standard input for `-`, whatever bytes it holds; .xz and .gz are unpacked."""
     if name == "-":
+        if sys.stdin.closed:
+            raise BadInput("standard input can be read only once")
         sys.stdin.reconfigure(**ANY_BYTES)
         return sys.stdin
     opener = {".xz": lzma.open, ".gz": gzip.open}.get(os.path.splitext(name)[1], open)
@@ -119,8 +144,21 @@ def lines_of(name):
 
 
 def within(word, least, most):
-    number = int(word)
-    if not least <= number <= most:
+    """The number that a word spells as a trace does, or a ValueError where it spells none of this range."""
+    if not NUMBER.fullmatch(word) or not least <= int(word) <= most:
+        raise ValueError
+    return int(word)
+
+
+def one_of(word, words):
+    if word not in words:
+        raise ValueError
+    return word
+
+
+def seconds(text):
+    number = float(text)
+    if not 0 <= number < float("inf"):
         raise ValueError
     return number
 
@@ -130,16 +168,19 @@ def add_line(header, words):
     if words[0] == "cpus":
         header.cpus = within(words[1], 1, MAX_CPUS[2])
     elif words[0] == "watermarks":
-        header.watermarks = int(words[1]), int(words[2]) if len(words) > 2 else 10
+        scale = within(words[2], 1, MAX_SCALE) if len(words) > 2 else 10
+        header.watermarks = within(words[1], 0, MAX_KBYTES), scale
     elif words[0] == "item":
         header.items[words[1]].append(words[2])
         if words[3:] == ["bytes"]:
             header.in_bytes.add(words[2])
     elif words[0] == "zone":
-        marks = (0, 0, 0) if header.watermarks else map(int, words[4:7])
-        header.zones[int(words[1]), words[2]] = Size(within(words[3], 1, MAX_MANAGED), *marks)
+        marks = (0, 0, 0) if header.watermarks else [within(word, 0, MAX_MARK) for word in words[4:7]]
+        zone = within(words[1], 0, MAX_NODE), one_of(words[2], KINDS)
+        header.zones[zone] = Size(within(words[3], 1, MAX_MANAGED), *marks)
     elif words[0] == "base":
-        header.bases[Counter(int(words[1]), words[2], words[3])] = int(words[4])
+        counter = Counter(within(words[1], 0, MAX_NODE), one_of(words[2], (*KINDS, "node")), words[3])
+        header.bases[counter] = within(words[4], -MAX_BASE, MAX_BASE)
     elif words[0] not in ("vmtrace", "counter"):
         raise ValueError
 
@@ -156,7 +197,7 @@ def read_header(lines, name):
             if words:
                 add_line(header, words)
         except (ValueError, IndexError, KeyError, TypeError):
-            raise BadInput(f"{name}:{number}: '{line.strip()}' is no header line of a trace") from None
+            raise BadInput(f"{name}:{number}: '{shown(line.strip())}' is no header line of a trace") from None
     if not header.lines or not header.cpus:
         raise BadInput(f"{name}: no header of a trace that ends with 'go'")
     if header.watermarks:
@@ -167,7 +208,7 @@ def read_header(lines, name):
 
 
 def run(main):
-    """Calls a tool's main and ends with its status: 1 with a message where what it was given is bad."""
+    """Calls a tool's main and ends with its status: 1 with a message where what it was given is bad, 130 at Ctrl-C."""
     tool = os.path.splitext(os.path.basename(sys.argv[0]))[0]
     try:
         status = main(sys.argv[1:])
@@ -178,7 +219,9 @@ def run(main):
     except BadInput as bad:
         print(f"{tool}: {bad}", file=sys.stderr)
         status = 1
-    except (lzma.LZMAError, EOFError) as error:
+    except KeyboardInterrupt:
+        status = 130
+    except (lzma.LZMAError, gzip.BadGzipFile, zlib.error, EOFError) as error:
         print(f"{tool}: a packed file is damaged: {error}", file=sys.stderr)
         status = 1
     except OSError as error:

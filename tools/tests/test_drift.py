@@ -2,7 +2,9 @@
 
 On 2 CPUs a zone of 262,144 pages has the threshold 20, on one 10; under memory pressure it has (125 - 100) / 2 = 12.
 """
+import gzip
 import unittest
+from pathlib import Path
 from xml.etree import ElementTree
 
 from calls import ToolTest
@@ -16,6 +18,7 @@ base 0 Normal nr_free_pages 1000
 go
 """
 FREE = "0 Normal nr_free_pages"
+DIGITS = "9" * 5000
 VAL, SNAP = f"k val {FREE}", f"c1 snap {FREE}"
 TRACE = [
     VAL, SNAP, f"c0 mod {FREE} -20",  # lines 8 to 10
@@ -150,10 +153,26 @@ class DriftTest(ToolTest):
             ("plain: has no answer to a reading", trace, plain),
             ("trace:17: the program refuses this line", trace, other),
             ("wrong: line 14: the value 1000 is outside of 919 to 999", trace, wrong),
+            ("long: the program prints no line 'line 8: value 9",
+             trace, self.file("long", f"line 8: value {DIGITS}\n")),
+            ("far: the program prints no line 'line 9", trace, self.file("far", f"line {DIGITS}: refused: x\n")),
+            ("large:8: the program refuses this line",
+             self.file("large", f"{HEADER}c0 mod {FREE} {DIGITS}\n{VAL}\n"), self.file("answer", "line 9: value 1\n")),
         ]
         for message, *words in rows:
             with self.subTest(message):
                 self.fails(message, *words)
+
+    def test_standard_input(self):
+        trace, _ = self.files(TRACE, "")
+        self.fails("drift: standard input: line 8: the value 7 is outside", trace, "-", stdin="line 8: value 7\n")
+        self.fails("drift: standard input: has no answer to a reading", trace, "-", stdin="")
+        self.fails("drift: standard input:1: 'cpus 0' is no header line", "-", trace, stdin="cpus 0\n")
+        self.fails("drift: standard input: no 'val' or 'snap' line", "-", trace, stdin=HEADER)
+
+    def test_damaged_files(self):
+        Path("trace.gz").write_bytes(gzip.compress(HEADER.encode())[:-12])
+        self.fails("drift: a packed file is damaged", "trace.gz", "-")
 
 
 if __name__ == "__main__":

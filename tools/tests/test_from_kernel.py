@@ -1,7 +1,12 @@
 """from_kernel.py: texts of the kernel on one side, lines of a trace, worked out by hand, on the other."""
+import gzip
 import lzma
+import os
+import shutil
 import unittest
+from contextlib import contextmanager
 from pathlib import Path
+from unittest import mock
 
 from calls import SAMPLES, ToolTest, vmtrace
 
@@ -62,6 +67,9 @@ base 0 node nr_inactive_anon 11
 base 0 node nr_dirty 13
 go
 """
+
+
+DIGITS = "9" * 5000
 
 
 def event(name="mm_page_alloc_zone_locked", pfn="0x1000", order=0, cpu=0, seconds=1.5):
@@ -225,6 +233,14 @@ class FromKernelTest(ToolTest):
     def test_standard_input(self):
         status, output, _ = self.call("--zoneinfo", self.file("zoneinfo", ZONEINFO), "--events", "-", stdin=event())
         self.assertEqual((status, output.splitlines()[-1]), (0, "c0 mod 0 Normal nr_free_pages -1"))
+        rows = [
+            ("standard input:1: the order 64", ["--zoneinfo", "zoneinfo", "--events", "-"], event(order=64)),
+            ("standard input: not the text of /proc/zoneinfo", ["--zoneinfo", "-"], ""),
+            ("standard input can be read only once", ["--zoneinfo", "-", "--events", "-"], ZONEINFO),
+        ]
+        for message, words, text in rows:
+            with self.subTest(message):
+                self.fails("from_kernel: " + message, *words, stdin=text)
 
     def test_bad_zoneinfo(self):
         rows = [
@@ -233,6 +249,8 @@ class FromKernelTest(ToolTest):
             ("zoneinfo:24: zone 0 Normal has no 'spanned'", ZONEINFO.replace("        spanned  1000\n", "")),
             ("zoneinfo:24: zone 0 Normal has no 'start_pfn'", ZONEINFO.replace("  start_pfn:           4096\n", "")),
             ("zoneinfo:8: 'x' is no number", ZONEINFO.replace("min      1\n", "min      x\n")),
+            ("zoneinfo:8: '999", ZONEINFO.replace("min      1\n", f"min      {DIGITS}\n")),
+            ("zoneinfo:24: zone 0 Normal has no 'start_pfn'", ZONEINFO[:ZONEINFO.rindex("      nr_free_pages")]),
             ("zoneinfo: CPU 128 is online", ZONEINFO.replace("cpu: 1", "cpu: 128")),
             ("zoneinfo: a trace has at most 16 zones, of nodes 0 to 15", ZONEINFO.replace("Node 0", "Node 16")),
         ]
@@ -247,22 +265,79 @@ class FromKernelTest(ToolTest):
             ("events:2: mm_page_free has no number 'order='", event() + event("mm_page_free", order="x")),
             ("events:1: mm_page_pcpu_drain has no number 'pfn='", event("mm_page_pcpu_drain", pfn="")),
             ("events:1: the order 64 is too large", event(order=64)),
+            ("events:2: the order 64 is too large", event() + event(order=64) + event()),
+            ("events:1: '999", event(pfn=DIGITS)),
+            ("events:1: '0xfff", event(pfn="0x" + "f" * 5000)),
+            ("events:1: '999", event(order=DIGITS)),
+            ("events:1: '999", event(cpu=int(DIGITS[:4000]))),
+            ("events:1: '999", event().replace("1.500000", DIGITS)),
+            ("events:1: '999", f"CPU:1 [LOST {DIGITS} EVENTS]\n"),
+            ("events:1: '999", f"# entries-in-buffer/entries-written: 5/{DIGITS}   #P:2\n"),
         ]
         for message, text in rows:
             with self.subTest(message):
-                status, _, errors = self.call("--zoneinfo", "zoneinfo", "--events", self.file("events", text))
-                self.assertEqual(status, 1)
-                self.assertIn("from_kernel: " + message, errors)
+                self.fails("from_kernel: " + message, "--zoneinfo", "zoneinfo", "--events", self.file("events", text))
 
     def test_bad_files(self):
         self.file("zoneinfo", ZONEINFO)
         self.fails("from_kernel: nowhere: No such file", "--zoneinfo", "nowhere")
         self.fails("from_kernel: nowhere: No such file", "--zoneinfo", "zoneinfo", "--events", "nowhere")
         self.fails("zoneinfo: not the text of /proc/vmstat", "--zoneinfo", "zoneinfo", "--vmstat", "zoneinfo", "x")
-        Path("events.xz").write_bytes(lzma.compress(event().encode())[:-20])
-        status, _, errors = self.call("--zoneinfo", "zoneinfo", "--events", "events.xz")
-        self.assertEqual(status, 1)
-        self.assertIn("a packed file is damaged", errors)
+        vmstat = self.file("vmstat", f"nr_zspages 0\nnr_free_pages {DIGITS}\n")
+        self.fails("from_kernel: vmstat:2: '999", "--zoneinfo", "zoneinfo", "--vmstat", vmstat, vmstat)
+
+    def test_damaged_files(self):
+        self.file("zoneinfo", ZONEINFO)
+        text = event().encode()
+        packed = gzip.compress(text)
+        rows = [
+            ("events.xz", lzma.compress(text)[:-20]),
+            ("events.gz", packed[:-20]),
+            ("events.gz", packed[:-8] + b"\0" * 8),
+            ("events.gz", packed[:12] + b"\xff" * 20 + packed[32:]),
+            ("events.gz", text),
+        ]
+        for name, data in rows:
+            with self.subTest(data):
+                Path(name).write_bytes(data)
+                self.fails("from_kernel: a packed file is damaged", "--zoneinfo", "zoneinfo", "--events", name)
+
+    @contextmanager
+    def tracefs(self, *files, remove=shutil.rmtree):
+        """A directory in the place of tracefs, whose instances have these files, and what removes an instance."""
+        root = Path("tracing").absolute()
+        (root / "instances").mkdir(parents=True, exist_ok=True)
+
+        def make(instance):
+            for file in files:
+                os.makedirs((instance / file).parent, exist_ok=True)
+                (instance / file).write_text("")
+
+        with (mock.patch("from_kernel.TRACEFS", (root,)), mock.patch("os.geteuid", return_value=0),
+              mock.patch("signal.signal"), mock.patch.object(Path, "mkdir", make),
+              mock.patch.object(Path, "rmdir", remove)):
+            yield root / "instances"
+
+    def test_an_instance_is_removed(self):
+        kmem = [f"events/kmem/{event}/{file}" for file in ("filter", "enable")
+                for event in ("mm_page_alloc_zone_locked", "mm_page_pcpu_drain", "mm_page_free")]
+        rows = [
+            ("events that can't be switched off", ["tracing_on"], None, 1, "No such file"),
+            ("Ctrl-C", ["tracing_on", "events/enable", "trace", *kmem], KeyboardInterrupt, 130, ""),
+        ]
+        for what, files, sleep, status, message in rows:
+            with self.subTest(what), self.tracefs(*files) as instances, mock.patch("time.sleep", side_effect=sleep):
+                self.fails(message, "--live", "1", status=status)
+                self.assertEqual(list(instances.iterdir()), [])
+
+    def test_an_instance_that_stays_is_named(self):
+        busy = mock.Mock(side_effect=OSError(16, "Device or resource busy"))
+        with self.tracefs("tracing_on", remove=busy) as instances:
+            _, output, errors = self.call("--live", "1")
+            name, = instances.iterdir()
+        self.assertEqual(output, "")
+        self.assertIn(f"from_kernel: {name}: Device or resource busy: it is left behind", errors)
+        self.assertIn("No such file", errors)
 
     def test_bad_words(self):
         for words in ([], ["--zoneinfo", "z", "--live", "1"], ["--live", "1", "--events", "e"], ["--live", "x"],

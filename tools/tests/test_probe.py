@@ -51,6 +51,29 @@ class ProbeTest(ToolTest):
     def test_standard_input(self):
         status, output, _ = self.call("-", FREE, 1, stdin=HEADER)
         self.assertEqual((status, output), (0, HEADER + READING))
+        self.fails("probe: standard input:1: 'cpus 0' is no header line", "-", FREE, 1, stdin="cpus 0\n")
+        self.fails("probe: standard input: the header has no counter", "-", "0 DMA nr_mlock", 1, stdin=HEADER)
+
+    def test_phases(self):
+        a = f"c0 inc {FREE}\n"
+        rows = [
+            ("no line", "", 1),
+            ("one phase", a + a, 1),
+            ("the readings after `go` are a phase", "sync\n" + a, 2),
+            ("boundary lines in a row", a + "sync\nflush\nreport totals\noffline 1\nonline 1\n" + a, 2),
+            ("remarks", a + "# sync\n\n" + a, 1),
+            ("a phase for each change", (a + "sync\n") * 20, 20),
+        ]
+        for what, body, phases in rows:
+            with self.subTest(what):
+                trace = self.file("trace", HEADER + body)
+                self.fails(f"trace: with its readings it may have {phases} phases, and the program takes {phases - 1}",
+                           trace, FREE, 1, limits=vmtrace.Limits(phases=phases - 1))
+                self.assertEqual(self.call(trace, FREE, 1, limits=vmtrace.Limits(phases=phases))[0], 0)
+
+    def test_ten_thousand_phases(self):
+        trace = self.file("trace", HEADER + f"sync\nc0 inc {FREE}\n" * 10_000)
+        self.fails("trace: with its readings it may have 10,001 phases, and the program takes 10,000", trace, FREE, 1)
 
     def test_limits(self):
         trace = self.file("trace", HEADER)
@@ -71,13 +94,25 @@ class ProbeTest(ToolTest):
             ("none:1: 'cpus 0' is no header line", self.file("none", "cpus 0\n"), FREE, 1),
             ("zero:2: 'zone 0 DMA 0' is no header line", self.file("zero", "watermarks 4\nzone 0 DMA 0\n"), FREE, 1),
             ("few:1: 'base 0 DMA nr_mlock' is no header line", self.file("few", "base 0 DMA nr_mlock\n"), FREE, 1),
+            ("long:1: 'cpus 999", self.file("long", "cpus " + "9" * 5000), FREE, 1),
+            ("is no counter", "trace", "9" * 5000 + " Normal nr_free_pages", 1),
         ]
         for message, *words in rows:
             with self.subTest(message):
                 self.fails(message, *words)
 
+    def test_spellings(self):
+        """A header line that the program refuses isn't read as another."""
+        rows = ["cpus 1_0", "cpus +2", "cpus 02", "cpus 129", "zone 0 Foo 1 0 0 0", "zone 16 DMA 1 0 0 0",
+                "zone 0 DMA 1_0 0 0 0", "zone 0 DMA 1 0 0 1_0", "zone 0 DMA 1 0 0 -1", "base 0 Foo nr_mlock 1",
+                "base 0 DMA nr_mlock 1_0", "base 0 DMA nr_mlock -0", "base 0 node nr_dirty 281474976710657",
+                "watermarks 1_0", "watermarks 4 0"]
+        for line in rows:
+            with self.subTest(line):
+                self.fails(f"trace:1: '{line}' is no header line", self.file("trace", line + "\n"), FREE, 1)
+
     def test_bad_words(self):
-        for every in ("0", "x"):
+        for every in ("0", "x", "1_0"):
             self.fails("argument EVERY", "trace", FREE, every, status=2)
 
 
