@@ -9,6 +9,7 @@ pub mod PassEnds
 pub mod MainSeats
 pub mod MainBegins
 pub mod MainEnds
+pub mod BegunPasses
 pub mod LastHistory
 pub mod TwoPasses
 pub mod ThreePasses

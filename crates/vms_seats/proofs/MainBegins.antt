@@ -8,7 +8,6 @@ use Rattle.vms_history.specs.Common.{CpuId, own, Machine, IsLegal, IsQuiet, begu
 use Rattle.vms_history.specs.Common.{owner_in, owner_after, Begins}
 use Rattle.vms_history.specs.declared.events.Event.{Event}
 use Rattle.vms_history.proofs.Common.{own-others, lives_in-main, owner_in-main, own-not_given}
-use Rattle.vms_seats.specs.declared.views.Held.{Held}
 use Rattle.vms_seats.specs.declared.views.View.{View}
 use Rattle.vms_seats.specs.Common.{HasBegun, MayBeginPass, next_number, Pass, Shared, IsLive, IsMain, IsFrom, Divides}
 use Rattle.vms_seats.specs.Common.{Keeps, IsMainSeat, IsWorker, main_of, worker_of, first_pass, first_alone}
@@ -22,9 +21,6 @@ module _ {F K S : Type 0} (machine : Machine F K S) (shown : F → S → List �
     (of : IsFrom pass words) (some : 0 < table.words) where
   abbrev v : View F K
   v = seat.me.0
-
-  abbrev k : Held K
-  k = first_pass v.held
 
   seated : (seat.table_id ≡ table) × (v.facts ≡ key)
   seated = seat-at seat pass is table key words words_are of
@@ -50,7 +46,7 @@ module _ {F K S : Type 0} (machine : Machine F K S) (shown : F → S → List �
     -- once the seat acts for both
     module _ (after : Seat (Unit {0}) (View F K)) (divided : Divides machine begins picked v after.me.0) where
       abbrev q : ℕ
-      q = next_number machine k.seen
+      q = next_number machine (first_pass v.held).seen
 
       pub divides : Divides machine begins who v after.me.0
       divides = subst (λ o. Divides machine begins o v after.me.0) picked_is divided
@@ -95,7 +91,7 @@ module _ {F K S : Type 0} (machine : Machine F K S) (shown : F → S → List �
           ∙ ap (λ t. owner_after t q (owner_in machine.role h q)) role_is
           ∙ ap (λ b. cond b who (owner_in machine.role h q)) (eq-eqb q q refl)
 
-      begun_before : begun_in machine.role h ≡ begun_in machine.role k.seen
+      begun_before : begun_in machine.role h ≡ begun_in machine.role (first_pass v.held).seen
       begun_before = ap (begun machine.role) divides.made.own_same
 
       no_steps : own divides.seen q ≡ []

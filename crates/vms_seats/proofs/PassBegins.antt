@@ -6,8 +6,8 @@ use lib.ListN.{get_elem?}
 use Rattle.atomic_table.specs.declared.shared.Seat.{Seat}
 use Rattle.atomic_table.specs.Table.{Allows, Splits, keeps}
 use Rattle.atomic_table.proofs.Lists.{at_set}
-use Rattle.vms_history.specs.Common.{CpuId, own, Machine, IsLegal, IsQuiet, Acts, state_after, Role, begun_in, lives_in}
-use Rattle.vms_history.specs.Common.{lives_after, owner_in, owner_after, Works, Begins, Ends}
+use Rattle.vms_history.specs.Common.{CpuId, own, Machine, IsLegal, IsQuiet, Acts, state_after, begun_in, lives_in}
+use Rattle.vms_history.specs.Common.{lives_after, owner_in, Works, Begins, Ends}
 use Rattle.vms_history.specs.declared.events.Event.{Event}
 use Rattle.vms_history.proofs.Common.{Extends-same, Acts-same, live_is_given, lives_in-main}
 use Rattle.vms_seats.specs.declared.views.Held.{Held}

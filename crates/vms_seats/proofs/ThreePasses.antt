@@ -1,8 +1,8 @@
 -- For other crates too: three passes begin, work while the others act, and end. What the main pass knows at each of its
 -- steps.
-use Rattle.std.proofs.Common.{◌≡◌, ◌≢◌, ℕ, nat_eq, if◌then◌else◌, Bool, true, false, true≢false, List, [], ◌∷◌, Option}
+use Rattle.std.proofs.Common.{◌≡◌, ℕ, nat_eq, if◌then◌else◌, Bool, true, false, true≢false, List, [], ◌∷◌, Option}
 use Rattle.std.proofs.Common.{Some, None, refl, ap, sym, ◌∙◌}
-use Rattle.vms_history.specs.Common.{CpuId, own, Machine, Role, lives, lives_after, lives_in, owner, owner_after}
+use Rattle.vms_history.specs.Common.{CpuId, own, Machine, lives, lives_after, lives_in, owner, owner_after}
 use Rattle.vms_history.specs.Common.{IsFree, Begins, Ends}
 use Rattle.vms_history.specs.declared.events.Event.{Event}
 use Rattle.vms_seats.specs.Common.{HasBegun, HasEnded, Pass}

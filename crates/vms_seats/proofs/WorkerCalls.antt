@@ -32,8 +32,12 @@ module _ {F K S : Type 0} (machine : Machine F K S) where
       })
 
   module _ (old new : Seat (Unit {0}) (View F K)) (cpu : Option CpuId) (worker : IsWorker machine old cpu)
-      (table : new.table_id ≡ old.table_id) (empty : new.me.1 ≡ old.me.1) (plan : ℕ → Option K) (found : ℕ)
-      (advances : Advances machine plan old.me.0 found new.me.0) where
+      (plan : ℕ → Option K) (found : ℕ)
+      (goes : (new.table_id ≡ old.table_id) × (new.id ≡ old.id)
+      × ((new.me.1 ≡ old.me.1) × Advances machine plan old.me.0 found new.me.0)) where
+    advances : Advances machine plan old.me.0 found new.me.0
+    advances = goes.2.1
+
     -- the pass after the step
     abbrev after_step : Pass F K
     after_step = record {
@@ -46,7 +50,7 @@ module _ {F K S : Type 0} (machine : Machine F K S) where
 
     is_after_step : worker_of new cpu ≡ after_step
     is_after_step = λ i. record {
-      table = table i;
+      table = goes.0 i;
       facts = (advances.view i).facts;
       number = (first_pass (advances.view i).held).number;
       cpu = cpu;
@@ -76,7 +80,7 @@ module _ {F K S : Type 0} (machine : Machine F K S) where
 
     pub still_worker : IsWorker machine new cpu
     still_worker = record {
-      empty = empty ∙ worker.empty;
+      empty = goes.2.0 ∙ worker.empty;
       one = subst (λ (v : View F K). v.held ≡ first_pass v.held ∷ []) (sym advances.view) refl;
       live = subst (IsLive machine) (sym is_after_step)
           (calls-live machine after_step (worker_of old cpu) (advances.step ∷ []) worker.live one_made.all);

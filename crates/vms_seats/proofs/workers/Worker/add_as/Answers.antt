@@ -11,12 +11,9 @@ fetch_add-requires g c = step_may
     (g.L.Ledger.told c.args.plan.now) c.requires.step g.P.Plan.step c.requires.planned
 
 pub invariant_of-self : goal.invariant_of-self
-invariant_of-self g c = still_worker
-    g.L.Ledger.machine c.self.inside.seat c.fetch_add.new.seat c.self.inside.cpu
-    c.self.invariant c.fetch_add.ensures.0 c.fetch_add.ensures.2.0 g.P.Plan.step c.fetch_add.result
-    c.fetch_add.ensures.2.1
+invariant_of-self g c = still_worker _ _ _ _ c.self.invariant g.P.Plan.step c.fetch_add.result c.fetch_add.ensures
 
 pub returns : goal.returns
-returns g c = step_made g.L.Ledger.machine c.self.inside.seat c.fetch_add.new.seat c.self.inside.cpu c.self.invariant
-    c.fetch_add.ensures.0 c.fetch_add.ensures.2.0 g.P.Plan.step c.fetch_add.result c.fetch_add.ensures.2.1
+returns g c =
+    step_made _ _ _ _ c.self.invariant g.P.Plan.step c.fetch_add.result c.fetch_add.ensures
     (g.L.Ledger.told c.args.plan.now) c.requires.planned c.args.self.now c.self.view_is

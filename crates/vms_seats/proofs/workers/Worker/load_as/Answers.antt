@@ -10,12 +10,9 @@ load-requires g c = step_may
     (g.L.Ledger.told c.args.plan.now) c.requires.step g.P.Plan.step c.requires.planned
 
 pub invariant_of-self : goal.invariant_of-self
-invariant_of-self g c = still_worker
-    g.L.Ledger.machine c.self.inside.seat c.load.new.seat c.self.inside.cpu
-    c.self.invariant c.load.ensures.0 c.load.ensures.2.0 g.P.Plan.step c.load.result
-    c.load.ensures.2.1
+invariant_of-self g c = still_worker _ _ _ _ c.self.invariant g.P.Plan.step c.load.result c.load.ensures
 
 pub returns : goal.returns
-returns g c = step_made g.L.Ledger.machine c.self.inside.seat c.load.new.seat c.self.inside.cpu c.self.invariant
-    c.load.ensures.0 c.load.ensures.2.0 g.P.Plan.step c.load.result c.load.ensures.2.1
+returns g c =
+    step_made _ _ _ _ c.self.invariant g.P.Plan.step c.load.result c.load.ensures
     (g.L.Ledger.told c.args.plan.now) c.requires.planned c.args.self.now c.self.view_is
