@@ -1,6 +1,7 @@
 ghost use Rattle.std.specs.Prelude.{◌≡◌, ℕ, ◌<◌, false, length, Some, slice_get};
 ghost use Rattle.vms_history.specs.Common.{IsComplete, state_after, lives_in};
 ghost use Rattle.vms_seats.specs.Passes.{IsFrom};
+ghost use Rattle.vms_seats.specs.Seats.{IsPhase, phase_of};
 
 use crate::Ledger;
 use crate::main_pass::Main;
@@ -92,6 +93,12 @@ impl<L: Ledger> History<L> {
     pub fn is_complete(&self)
         ensures { IsComplete L.machine self.now.facts self.now.events }
     {
-        let _ = &self.witness;
+        phases_are_complete::<L>(&self.witness);
     }
 }
+
+/// What the seat of a closed history remembers is complete.
+fn phases_are_complete<L: Ledger>(witness: &Seat<(), View<L::Facts, L::Step>>)
+    requires { IsPhase L.machine witness.now }
+    ensures { IsComplete L.machine (phase_of witness.now).facts (phase_of witness.now).events }
+{}

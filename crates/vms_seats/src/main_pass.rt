@@ -1,6 +1,7 @@
 ghost use Rattle.std.specs.Prelude.{◌≡◌};
 ghost use Rattle.vms_seats.specs.MainSteps.{HasBegun, HasEnded, MayBeginPass, MayEndPass};
 ghost use Rattle.vms_seats.specs.Passes.{IsMain, IsFrom};
+ghost use Rattle.vms_seats.specs.Seats.{IsMainSeat, main_of};
 
 use crate::Ledger;
 use crate::ledgers::Owner;
@@ -34,7 +35,7 @@ impl<L: Ledger> Main<L> {
     pub fn is_main(&self)
         ensures { IsMain L.machine self.now }
     {
-        let _ = &self.seat;
+        seats_are_main::<L>(&self.seat);
     }
 
     /// Begins a pass that owns a CPU, or a control pass.
@@ -70,3 +71,9 @@ impl<L: Ledger> Main<L> {
         shared.load::<Ending<L>>(&mut self.seat, 0);
     }
 }
+
+/// The pass that the seat of a main pass acts for is the main one.
+fn seats_are_main<L: Ledger>(seat: &Seat<(), View<L::Facts, L::Step>>)
+    requires { IsMainSeat L.machine seat.now }
+    ensures { IsMain L.machine (main_of seat.now) }
+{}

@@ -1,5 +1,6 @@
 ghost use Rattle.std.specs.Prelude.{◌≡◌, ℕ, ◌+◌, ◌%◌, ◌^◌, ◌<◌, ◌==◌, if◌then◌else◌, Some};
 ghost use Rattle.vms_seats.specs.Passes.{Pass, IsFrom, IsLive};
+ghost use Rattle.vms_seats.specs.Seats.{IsWorker, worker_of};
 ghost use Rattle.vms_seats.specs.Steps.{MayStep, MadeOne};
 
 use crate::Ledger;
@@ -39,7 +40,20 @@ impl<L: Ledger> Worker<L> {
     {
         self.cpu
     }
+
+    /// What holds of a worker at any time: it lives in the legal history that it has seen.
+    pub fn is_live(&self)
+        ensures { IsLive L.machine self.now }
+    {
+        workers_live::<L>(&self.seat, self.cpu);
+    }
 }
+
+/// The pass that a worker's seat acts for lives.
+fn workers_live<L: Ledger>(seat: &Seat<(), View<L::Facts, L::Step>>, cpu: Option<CpuId>)
+    requires { IsWorker L.machine seat.now cpu }
+    ensures { IsLive L.machine (worker_of seat.now cpu) }
+{}
 
 /// A pass that makes single steps on the words of one kind of table. A call names the step that it plans; the step that
 /// it makes is this one with the number that was found.
