@@ -1,0 +1,221 @@
+#!/usr/bin/env python3
+"""Makes one HTML file that shows a replay: a row for each lane with its lines, and for each zone a chart.
+
+A chart has the plain value of a zone item (free pages, unless --item names another), its snapshot, its true total,
+the watermarks, the drift mark, and the band in which the plain value can be. Pointing at a line, or the arrow keys,
+show what the line says, what it answered and where each zone stood then. The file asks nothing of any other machine.
+
+The numbers are those that the program prints: it replays the trace, and for each line that is read the trace up to it
+with two reports. The page goes to standard output:
+
+  page.py examples/drift.vmtrace > page.html"""
+import argparse
+import json
+import os
+import re
+import subprocess
+import sys
+from dataclasses import dataclass, field
+
+import drift
+import vmtrace
+
+HERE = os.path.dirname(os.path.abspath(__file__))
+PROGRAM = os.path.join(os.path.dirname(HERE), "crates", "vozhkell", "out", "vozhkell")
+TEMPLATE = os.path.join(HERE, "page.html")
+MOST_LINES = 5_000
+MOST_READINGS = 500
+REPORTS = ("report zoneinfo", "report totals")
+PRINTED = re.compile(r"line (\d+): (.*)$")
+ZONE = re.compile(r"Node (\d+), zone (\w+)$")
+CPU = re.compile(r"  cpu (\d+) (dead )?threshold (\d+) differentials ([-\d ]+)$")
+NUMBER = re.compile(r"  (drift mark|\w+) (\d+)$")
+BETWEEN = "between phases"
+CONTROL = "control lane"
+
+
+@dataclass
+class Standing:
+    """What a report says of one zone, in pages: its numbers by name, and of each CPU that has not folded all."""
+
+    numbers: dict[str, int] = field(default_factory=dict)
+    differentials: dict[int, list[int]] = field(default_factory=dict)
+    dead: set[int] = field(default_factory=set)
+
+    def unfolded(self, item, with_dead):
+        """What CPUs have counted of an item, by its position, and not folded."""
+        return sum(counted[item] for cpu, counted in self.differentials.items() if with_dead or cpu not in self.dead)
+
+
+@dataclass
+class Reading:
+    """What was read below one line of the trace: each zone by its name, and the totals by counter."""
+
+    zones: dict[str, Standing] = field(default_factory=dict)
+    totals: dict[str, int] = field(default_factory=dict)
+
+
+def is_refused(answer):
+    return answer.startswith("refused: ")
+
+
+def lane_of(words):
+    """The row in which a line below `go` is shown."""
+    if words[0] == "k":
+        return CONTROL
+    if words[0][0] == "c" and words[0][1:].isdecimal():
+        return f"CPU {int(words[0][1:])}"
+    return BETWEEN
+
+
+def places_of(lines, header):
+    """The numbers of the lines below which zones are read: `go`, and as many others as may be, the last among them."""
+    told = [number for number, line in enumerate(lines[header.lines:], header.lines + 1) if vmtrace.words_of(line)]
+    step = -(-len(told) // MOST_READINGS) or 1
+    return [header.lines, *told[step - 1::step], *told[len(told) - len(told) % step:][-1:]]
+
+
+def output_of(program, lines):
+    """What the program prints of a replay of these lines."""
+    text = "".join(line + "\n" for line in lines).encode("ascii", "surrogateescape")
+    try:
+        ended = subprocess.run([program, "replay"], input=text, capture_output=True, check=False)
+    except OSError as error:
+        raise vmtrace.BadInput(f"{program}: {error.strerror or error}; ./vozhkell builds the program") from None
+    if ended.returncode not in (0, 3):
+        said = (ended.stdout or ended.stderr).decode("ascii", "replace").strip().split("\n")[-1]
+        raise vmtrace.BadInput(f"{program} replay ended with status {ended.returncode}: {said}")
+    return ended.stdout.decode("ascii").splitlines()
+
+
+def read_zone_line(reading, zone, line):
+    """Takes a line of a report on zones into the reading; gives back the name of the zone that it is about, if one."""
+    if found := ZONE.match(line):
+        zone = f"{found[1]} {found[2]}"
+        reading.zones[zone] = Standing()
+    elif line.startswith("Node "):
+        return None
+    elif zone and (found := NUMBER.match(line)):
+        reading.zones[zone].numbers[found[1]] = int(found[2])
+    elif zone and (found := CPU.match(line)):
+        reading.zones[zone].differentials[int(found[1])] = [int(word) for word in found[4].split()]
+        if found[2]:
+            reading.zones[zone].dead.add(int(found[1]))
+    return zone
+
+
+def answers_of(output):
+    """The answers and refusals that the program printed, by line, and what it printed last."""
+    answers = {int(found[1]): found[2] for line in output if (found := PRINTED.match(line))}
+    return {number: text for number, text in answers.items() if not text.startswith("report ")}, output[-1]
+
+
+def reading_below(place, lines, program):
+    """What two reports say at the end of a replay of the lines up to this one: so no line stands in another phase."""
+    output = output_of(program, [*lines[:place], *REPORTS])
+    begins = [output.index(f"line {place + n}: {report}") for n, report in enumerate(REPORTS, 1)]
+    reading, zone = Reading(), None
+    for line in output[begins[0] + 1:begins[1]]:
+        zone = read_zone_line(reading, zone, line)
+    for line in output[begins[1] + 1:-1]:
+        counter, _, value = line.rpartition(" ")
+        reading.totals[counter] = int(value)
+    return reading
+
+
+def bounds_of(lines, header, counter, answers, places, name):
+    """How far the counter's plain value can be off below each of these lines, in pages."""
+    bound = drift.Bound(header, counter)
+    bounds, places = {header.lines: 0}, set(places)
+    for number, line in enumerate(lines[header.lines:], header.lines + 1):
+        words = vmtrace.words_of(line)
+        if words and not is_refused(answers.get(number, "")):
+            drift.follow(words, header, counter, bound, f"{name}:{number}")
+        if number in places:
+            bounds[number] = bound.pages()
+    return bounds
+
+
+def chart_of(counter, header, readings, bounds, name):
+    """What the page shows of a zone: its watermarks, and of each line that was read six numbers of pages.
+
+    They are the line, the plain value and the snapshot, as the kernel shows them, the true total, how far the plain
+    value can be off it, and the drift mark.
+    """
+    zone, size = f"{counter.node} {counter.kind}", header.zones[counter.node, counter.kind]
+    at, is_free = header.items["zone"].index(counter.item), counter.item == vmtrace.ZONE_ITEMS[0]
+    rows = []
+    for place, reading in readings.items():
+        standing, total = reading.zones[zone], reading.totals[str(counter)]
+        plain = total - standing.unfolded(at, with_dead=True)
+        snapshot = plain + standing.unfolded(at, with_dead=False)
+        if max(0, plain) != standing.numbers[counter.item] or abs(total - plain) > bounds[place]:
+            raise vmtrace.BadInput(f"{name}:{place}: what the program printed of {counter} is wrong: the plain value "
+                                   f"{standing.numbers[counter.item]}, unfolded {total - plain}, total {total}")
+        mark = standing.numbers["drift mark"] if is_free else 0
+        rows.append([place, max(0, plain), max(0, snapshot), total, bounds[place], mark])
+    marks = [["min", size.min], ["low", size.low], ["high", size.high]] if is_free else []
+    return {"name": f"Node {counter.node}, zone {counter.kind}", "marks": marks, "rows": rows}
+
+
+def shown_lines(lines, header, answers):
+    """Of each line below `go` that says something: its number, its row, its words and what was printed of it."""
+    for number, line in enumerate(lines[header.lines:], header.lines + 1):
+        words = vmtrace.words_of(line)
+        if words:
+            text = " ".join(words).encode("ascii", "replace").decode("ascii")
+            yield [number, lane_of(words), text, answers.get(number, "")]
+
+
+def rows_of(shown):
+    """The rows of lanes in their order: what stands between phases, the control lane, and the CPUs that have lines."""
+    used = {line[1] for line in shown}
+    cpus = sorted((row for row in used if row.startswith("CPU ")), key=lambda row: int(row[4:]))
+    return [row for row in (BETWEEN, CONTROL) if row in used] + cpus
+
+
+def page_of(lines, header, options):
+    answers, done = answers_of(output_of(options.program, lines))
+    readings = {place: reading_below(place, lines, options.program) for place in places_of(lines, header)}
+    shown = list(shown_lines(lines, header, answers))
+    zones = []
+    for node, kind in header.zones:
+        counter = vmtrace.Counter(node, kind, options.item)
+        bounds = bounds_of(lines, header, counter, answers, readings, options.trace)
+        zones.append(chart_of(counter, header, readings, bounds, options.trace))
+    return {
+        "title": os.path.basename(options.trace) if options.trace != "-" else "a trace",
+        "item": options.item,
+        "done": done,
+        "rows": rows_of(shown),
+        "lines": shown,
+        "zones": zones,
+    }
+
+
+def parse(arguments):
+    parser = argparse.ArgumentParser(description=__doc__, formatter_class=argparse.RawDescriptionHelpFormatter)
+    parser.add_argument("trace", metavar="TRACE", help="the trace, - for standard input")
+    parser.add_argument("--item", default=vmtrace.ZONE_ITEMS[0], help="the zone item to show")
+    parser.add_argument("--program", default=PROGRAM,
+                        help="the program that replays, if not the one that ./vozhkell builds")
+    return parser.parse_args(arguments)
+
+
+def main(arguments):
+    options = parse(arguments)
+    lines = vmtrace.lines_of(options.trace)
+    header = vmtrace.read_header(lines, options.trace)
+    if options.item not in header.items["zone"]:
+        raise vmtrace.BadInput(f"{options.trace}: zones have no item '{options.item}'")
+    if len(lines) - header.lines > MOST_LINES:
+        raise vmtrace.BadInput(f"{options.trace}: has {len(lines) - header.lines:,} lines below 'go', and a page shows "
+                               f"at most {MOST_LINES:,}")
+    data = json.dumps(page_of(lines, header, options), separators=(",", ":")).replace("<", "\\u003c")
+    with open(TEMPLATE, encoding="ascii") as template:
+        sys.stdout.write(template.read().replace("DATA_OF_THE_REPLAY", data))
+    return 0
+
+
+if __name__ == "__main__":
+    vmtrace.run(main)
