@@ -1,2 +1,3 @@
 pub mod StateLaws
 pub mod Beyond
+pub mod AllZero

@@ -1,13 +1,11 @@
 use Rattle.std.proofs.Common.{refl, arith, below_more}
 use Rattle.std.proofs.lemmas.Int.{ints}
+use Rattle.vms_page_judge.proofs.AllZero.{some-left}
 use Rattle.vms_page_judge.proofs.openings.hides_nothing.Goals as goal
 
 pub returns-then-diff_at-ne0 : goal.returns-then-diff_at-ne0
-returns-then-diff_at-ne0 c = (
-  λ yes. (cc),
-  λ nothing. let none = nothing c.loop-number.number (omega arith) in
-      absurd (omega (arith, ints, none, c.diff_at.ensures)),
-)
+returns-then-diff_at-ne0 c =
+    some-left _ _ c.loop-number.number (omega arith) (λ none. omega (arith, ints, none, c.diff_at.ensures))
 
 pub loop-number-preserved : goal.loop-number-preserved
 loop-number-preserved c = below_more _ _ c.loop-number.invariant (omega (arith, ints, c.diff_at.ensures))
