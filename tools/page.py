@@ -174,15 +174,15 @@ def rows_of(shown):
     return [row for row in (BETWEEN, CONTROL) if row in used] + cpus
 
 
-def page_of(lines, header, options):
+def page_of(lines, header, name, options):
     answers, done = answers_of(output_of(options.program, lines))
     readings = {place: reading_below(place, lines, options.program) for place in places_of(lines, header)}
     shown = list(shown_lines(lines, header, answers))
     zones = []
     for node, kind in header.zones:
         counter = vmtrace.Counter(node, kind, options.item)
-        bounds = bounds_of(lines, header, counter, answers, readings, options.trace)
-        zones.append(chart_of(counter, header, readings, bounds, options.trace))
+        bounds = bounds_of(lines, header, counter, answers, readings, name)
+        zones.append(chart_of(counter, header, readings, bounds, name))
     return {
         "title": os.path.basename(options.trace) if options.trace != "-" else "a trace",
         "item": options.item,
@@ -204,14 +204,15 @@ def parse(arguments):
 
 def main(arguments):
     options = parse(arguments)
+    name = vmtrace.called(options.trace)
     lines = vmtrace.lines_of(options.trace)
-    header = vmtrace.read_header(lines, options.trace)
+    header = vmtrace.read_header(lines, name)
     if options.item not in header.items["zone"]:
-        raise vmtrace.BadInput(f"{options.trace}: zones have no item '{options.item}'")
+        raise vmtrace.BadInput(f"{name}: zones have no item '{options.item}'")
     if len(lines) - header.lines > MOST_LINES:
-        raise vmtrace.BadInput(f"{options.trace}: has {len(lines) - header.lines:,} lines below 'go', and a page shows "
-                               f"at most {MOST_LINES:,}")
-    data = json.dumps(page_of(lines, header, options), separators=(",", ":")).replace("<", "\\u003c")
+        raise vmtrace.BadInput(f"{name}: has {len(lines) - header.lines:,} lines below 'go', and a page shows at most "
+                               f"{MOST_LINES:,}")
+    data = json.dumps(page_of(lines, header, name, options), separators=(",", ":")).replace("<", "\\u003c")
     with open(TEMPLATE, encoding="ascii") as template:
         sys.stdout.write(template.read().replace("DATA_OF_THE_REPLAY", data))
     return 0

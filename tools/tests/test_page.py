@@ -121,5 +121,6 @@ class PageTest(ToolTest):
                    self.program("#!/bin/sh\necho line 1: NotVersion\nexit 2\n"))
         self.fails("no header of a trace", self.file("none", "vmtrace 1\n"), "--program", self.program())
         self.fails("and a page shows at most 5,000", self.file("long", HEADER + "sync\n" * 5_001))
+        self.fails("page: standard input:1: 'cpus 0' is no header line", "-", stdin="cpus 0\n")
         self.fails("what the program printed of 0 Normal nr_free_pages is wrong", trace, "--program",
                    self.program(PROGRAM.replace("1000 + sum(held)", "1050")))
