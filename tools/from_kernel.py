@@ -337,6 +337,10 @@ def record(seconds, recording):
     return zoneinfo, before, after
 
 
+def number(text):
+    return vmtrace.within(text, 0, vmtrace.MAX_KBYTES)
+
+
 def parse(arguments):
     parser = argparse.ArgumentParser(description=__doc__, formatter_class=argparse.RawDescriptionHelpFormatter)
     source = parser.add_mutually_exclusive_group(required=True)
@@ -347,7 +351,7 @@ def parse(arguments):
                         help="the text of the tracing buffer, also as .xz or .gz; - for standard input")
     parser.add_argument("--vmstat", metavar=("BEFORE", "AFTER"), nargs=2,
                         help="/proc/vmstat before and after the events, to compare with")
-    parser.add_argument("--watermarks", metavar=("MIN_FREE_KBYTES", "SCALE"), nargs=2, type=int,
+    parser.add_argument("--watermarks", metavar=("MIN_FREE_KBYTES", "SCALE"), nargs=2, type=number,
                         help="a line from which the program computes the watermarks, in place of those of zoneinfo")
     parser.add_argument("--skip", metavar="SECONDS", type=seconds, default=0.0,
                         help="leave the first seconds of the events out, and add their changes to the base values")
@@ -358,8 +362,7 @@ def parse(arguments):
     options = parser.parse_args(arguments)
     if options.live is not None and (options.events or options.vmstat):
         parser.error("--live records the events and vmstat by itself")
-    if options.watermarks and not (0 <= options.watermarks[0] <= vmtrace.MAX_KBYTES
-                                   and 1 <= options.watermarks[1] <= vmtrace.MAX_SCALE):
+    if options.watermarks and not 1 <= options.watermarks[1] <= vmtrace.MAX_SCALE:
         parser.error(f"--watermarks: from 0 to {vmtrace.MAX_KBYTES}, and from 1 to {vmtrace.MAX_SCALE}")
     return options
 

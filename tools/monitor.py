@@ -160,8 +160,8 @@ def system_of(items, places):
 def assumptions(zones, cpus, strict):
     """What has to hold of the machine for the figures to be true."""
     yield "The kernel counts as docs/MODEL.md says. Its section 13 has where Linux differs."
-    yield ("Amounts in transit aren't counted: for each CPU inside a fold at most 125 pages of a counter, for each "
-           "change under way at most its size and 187 pages.")
+    yield ("Amounts in transit aren't counted: for each fold under way at most 125 pages of a counter in each zone or "
+           "node, for each change under way at most its size and 187 pages.")
     yield f"Only these {cpus} CPUs keep something to themselves: any other was folded when it went away."
     if not strict and any(zone.thresholds for zone in zones):
         yield ("No CPU used a threshold last that is larger than all that its zone shows and than the zone's normal "

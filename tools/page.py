@@ -26,6 +26,7 @@ TEMPLATE = os.path.join(HERE, "page.html")
 MOST_LINES = 5_000
 MOST_READINGS = 500
 REPORTS = ("report zoneinfo", "report totals")
+LANE = re.compile(r"c[0-9]{1,20}")
 PRINTED = re.compile(r"line (\d+): (.*)$")
 ZONE = re.compile(r"Node (\d+), zone (\w+)$")
 CPU = re.compile(r"  cpu (\d+) (dead )?threshold (\d+) differentials ([-\d ]+)$")
@@ -63,7 +64,7 @@ def lane_of(words):
     """The row in which a line below `go` is shown."""
     if words[0] == "k":
         return CONTROL
-    if words[0][0] == "c" and words[0][1:].isdecimal():
+    if LANE.fullmatch(words[0]):
         return f"CPU {int(words[0][1:])}"
     return BETWEEN
 

@@ -5,7 +5,7 @@ from dataclasses import dataclass, field
 import vmtrace
 from vmtrace import BadInput
 
-ZONE = re.compile(r"Node (\d{1,9}), zone +(\w+)$")
+ZONE = re.compile(r"Node (\d+), zone +(\w+)$")
 FIELDS = ("min", "low", "high", "spanned", "managed")
 ITEM = re.compile(r"nr_[a-z0-9_]+")
 NUMBER = re.compile(r"[0-9]{1,20}|0x[0-9a-f]{1,16}")
@@ -58,7 +58,7 @@ def read_zoneinfo(lines, name):
     for number, line in enumerate(lines, 1):
         words = line.split()
         if found := ZONE.match(line.strip()):
-            info.zones.append(Zone(int(found[1]), found[2], number))
+            info.zones.append(Zone(number_of(found[1], name, number), found[2], number))
             counters, cpu = info.zones[-1].items, None
         elif not info.zones or len(words) < 2:
             continue

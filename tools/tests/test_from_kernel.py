@@ -250,6 +250,7 @@ class FromKernelTest(ToolTest):
             ("zoneinfo:24: zone 0 Normal has no 'start_pfn'", ZONEINFO.replace("  start_pfn:           4096\n", "")),
             ("zoneinfo:8: 'x' is no number", ZONEINFO.replace("min      1\n", "min      x\n")),
             ("zoneinfo:8: '999", ZONEINFO.replace("min      1\n", f"min      {DIGITS}\n")),
+            ("zoneinfo:24: '999", ZONEINFO.replace("Node 0, zone   Normal", f"Node {DIGITS}, zone   Normal")),
             ("zoneinfo:24: zone 0 Normal has no 'start_pfn'", ZONEINFO[:ZONEINFO.rindex("      nr_free_pages")]),
             ("zoneinfo: CPU 128 is online", ZONEINFO.replace("cpu: 1", "cpu: 128")),
             ("zoneinfo: a trace has at most 16 zones, of nodes 0 to 15", ZONEINFO.replace("Node 0", "Node 16")),
@@ -342,6 +343,7 @@ class FromKernelTest(ToolTest):
     def test_bad_words(self):
         for words in ([], ["--zoneinfo", "z", "--live", "1"], ["--live", "1", "--events", "e"], ["--live", "x"],
                       ["--zoneinfo", "z", "--skip", "-1"], ["--zoneinfo", "z", "--watermarks", "1", "0"],
+                      ["--zoneinfo", "z", "--watermarks", "1_0", "1"],
                       ["--zoneinfo", "z", "--report", "nothing"]):
             with self.subTest(words):
                 self.fails("usage: from_kernel.py", *words, status=2)

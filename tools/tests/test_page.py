@@ -113,6 +113,11 @@ class PageTest(ToolTest):
         self.assertEqual(status, 0)
         self.assertNotIn("</script><b>", output)
 
+    def test_rows_of_lines(self):
+        rows = {"k": "control lane", "c0": "CPU 0", "c128": "CPU 128", "sync": "between phases", "c": "between phases",
+                "c" + "9" * 5000: "between phases"}
+        self.assertEqual({word: page.lane_of([word]) for word in rows}, rows)
+
     def test_refusals(self):
         trace = self.file("trace", HEADER + BODY)
         self.fails("zones have no item 'nr_dirty'", trace, "--item", "nr_dirty")
