@@ -32,7 +32,6 @@ fn is_free<T: RoleTable>(facts: &T::Facts, past: &[Event<T::Step>], who: Option<
     requires { IsLegal T.machine facts.now (reverse past.now) }
     ensures { IsTrue result ↔ IsFree T.machine.role (reverse past.now) who }
 {
-    let _ = past.len();
     none_owns::<T>(past, begun::<T>(past) + 1, who)
 }
 
@@ -55,7 +54,6 @@ pub fn all_ended<T: RoleTable>(facts: &T::Facts, past: &[Event<T::Step>]) -> boo
     ensures { MatchBool result ((q : ℕ) → lives_in T.machine.role (reverse past.now) q ≡ false)
         ((q : ℕ) × (lives_in T.machine.role (reverse past.now) q ≡ true)) }
 {
-    let _ = past.len();
     none_lives::<T>(past, begun::<T>(past) + 1)
 }
 

@@ -11,7 +11,6 @@ use vms_core::{Event, Step};
 pub fn carried(past: &[Event], caller: u32, counter: CounterId) -> i128
     ensures { result ≡ known.carried counter.number (own (reverse past.now) caller) }
 {
-    let _ = past.len();
     let mut sum: i128 = 0;
     for event in past {
         if event.caller == caller {
@@ -42,7 +41,6 @@ fn moved(counter: CounterId, step: Step) -> i128
 pub fn carried_of_item(layout: &Layout, past: &[Event], caller: u32, item: ItemId) -> i128
     ensures { result ≡ known.carried_of_item layout.now item.number (own (reverse past.now) caller) }
 {
-    let _ = past.len();
     let mut sum: i128 = 0;
     for event in past {
         if event.caller == caller {

@@ -46,8 +46,6 @@ pub fn tells_group(
     requires group { IsGroup facts.now.layout group.number }
     ensures { IsTrue result ↔ TellsGroup (state_after facts.now (reverse past.now)) cpu.number group.number values.now }
 {
-    // The number of counters is known to fit once it is read.
-    let _ = facts.layout.counters();
     for n in 0..8u32 {
         let counter = CounterId {
             number: 8 * group.number + n,

@@ -18,7 +18,6 @@ pub fn value_now(facts: &Facts, past: &[Event], counter: CounterId) -> i128
     requires counter { IsCounter facts.now.layout counter.number }
     ensures { result ≡ cells.value_at (state_after facts.now (reverse past.now)) counter.number }
 {
-    let _ = past.len();
     let mut value = facts.base.place.get(counter.number as usize) as i128;
     for event in past {
         value += added_to_place(counter, event.step) as i128;
@@ -42,7 +41,6 @@ pub fn system_now(facts: &Facts, past: &[Event], item: ItemId) -> i128
     requires item { IsItem facts.now.layout item.number }
     ensures { result ≡ cells.system_at (state_after facts.now (reverse past.now)) item.number }
 {
-    let _ = past.len();
     let mut value = facts.base.system.get(item.number as usize) as i128;
     for event in past {
         value += added_to_system(item, event.step) as i128;

@@ -45,7 +45,6 @@ pub fn carrying(past: &[Event], caller: u32, counter: PcpuId) -> i128
     ensures value { result ≡ carried counter.number (own (reverse past.now) caller) }
     ensures bound { unsigned_abs result ≤ 2 ^ 126 }
 {
-    let _ = past.len();
     let mut amount = 0;
     for event in past {
         if event.caller == caller {

@@ -16,7 +16,6 @@ pub fn count(facts: &PcpuFacts, past: &[Event], counter: PcpuId) -> i128
     requires counter { IsPcpu facts.now counter.number }
     ensures { result ≡ count_at (numbers_after facts.now (reverse past.now)) counter.number }
 {
-    let _ = past.len();
     let mut sum = facts.base.count.get(counter.number as usize) as i128;
     for event in past {
         sum += added_to_count(event.step, counter) as i128;
