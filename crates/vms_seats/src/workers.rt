@@ -42,6 +42,7 @@ impl<L: Ledger> Worker<L> {
     }
 
     /// What holds of a worker at any time: it lives in the legal history that it has seen.
+    #[inline]
     pub fn is_live(&self)
         ensures { IsLive L.machine self.now }
     {
@@ -50,6 +51,7 @@ impl<L: Ledger> Worker<L> {
 }
 
 /// The pass that a worker's seat acts for lives.
+#[inline]
 fn workers_live<L: Ledger>(seat: &Seat<(), View<L::Facts, L::Step>>, cpu: Option<CpuId>)
     requires { IsWorker L.machine seat.now cpu }
     ensures { IsLive L.machine (worker_of seat.now cpu) }
