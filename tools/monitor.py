@@ -167,9 +167,10 @@ def assumptions(zones, cpus, strict):
         yield ("No CPU used a threshold last that is larger than all that its zone shows and than the zone's normal "
                "one, and on a node none larger than those of its zones. With --strict this isn't assumed.")
     if (cpus > vmtrace.MAX_CPUS[2] or len(zones) > vmtrace.MAX_ZONES
-            or max(zone.node for zone in zones) > vmtrace.MAX_NODE):
-        yield (f"The laws hold of a machine of this size. They are proved for {vmtrace.MAX_CPUS[2]} CPUs, "
-               f"{vmtrace.MAX_ZONES} zones and the nodes 0 to {vmtrace.MAX_NODE} at most.")
+            or any(zone.node > vmtrace.MAX_NODE or zone.kind not in vmtrace.KINDS for zone in zones)):
+        yield (f"The laws hold of a machine such as this. They are proved for at most {vmtrace.MAX_CPUS[2]} CPUs and "
+               f"{vmtrace.MAX_ZONES} zones, of nodes 0 to {vmtrace.MAX_NODE} and of the kinds "
+               f"{', '.join(vmtrace.KINDS)}.")
 
 
 def check_machine(zones, nodes, cpus, chosen, name):

@@ -160,10 +160,10 @@ class MonitorTest(ToolTest):
         self.assertEqual(list(found["all_nodes"]), ["nr_mlock"])
 
     def test_assumptions(self):
-        def assumed(*options, thresholds=(20, 20)):
-            return " ".join(self.look(zone(thresholds=thresholds), *options)["assumed"])
+        def assumed(*options, **settings):
+            return " ".join(self.look(zone(**settings), *options)["assumed"])
 
-        larger, size = "No CPU used a threshold last that is larger", "a machine of this size"
+        larger, size = "No CPU used a threshold last that is larger", "a machine such as this"
         self.assertIn("Only these 2 CPUs", assumed())
         self.assertIn("in transit aren't counted", assumed())
         self.assertIn(larger, assumed())
@@ -171,6 +171,9 @@ class MonitorTest(ToolTest):
         self.assertNotIn(larger, assumed(thresholds=(None, None)))
         self.assertNotIn(size, assumed("--cpus", "128"))
         self.assertIn(size, assumed("--cpus", "129"))
+        self.assertNotIn(size, assumed(node=15))
+        self.assertIn(size, assumed(node=16))
+        self.assertIn(size, assumed(kind="HighMem"))
 
     def test_laws_are_those_of_the_documents(self):
         model = (TOP / "docs" / "MODEL.md").read_text(encoding="utf-8")
