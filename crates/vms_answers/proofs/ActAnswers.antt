@@ -1,23 +1,27 @@
 -- For other crates too: the steps of an act tell its answer, by the laws of the calls.
-use Rattle.std.proofs.Common.{◌≡◌, ◌≢◌, ℕ, ℤ, List, [], ◌++◌, Option, Some, None, refl, ap, ◌∙◌}
-use Rattle.vms_world.specs.Common.{Header, CounterId, CpuId, ItemId, PlaceId, Mode, WaterMark, Step, TellsChange}
-use Rattle.vms_world.specs.Common.{read_change, IsChange, TellsFold, read_fold, IsFold, TellsPlaceValue, TellsSnapshot}
-use Rattle.vms_world.specs.Common.{TellsSystemValue, TellsTest, read_snapshot, read_test, read_value, Verdict}
-use Rattle.vms_world.specs.Common.{IsPlaceValue, IsSnapshot, IsSystemValue, IsWatermarkTest, EventAnswer}
+use Rattle.std.proofs.Common.{◌≡◌, ◌≢◌, ℕ, true, List, [], ◌++◌, Option, Some, None, refl, ap, ◌∙◌}
+use Rattle.vms_calls.specs.PageCalls.{IsPageCall, asks_rules}
+use Rattle.vms_calls.specs.declared.page_calls.PageAnswer.{PageAnswer}
+use Rattle.vms_calls.specs.declared.page_calls.PageCall.{PageCall}
+use Rattle.vms_calls.specs.declared.page_calls.PageCall.TheVariants.{Bury}
+use Rattle.vms_calls.proofs.PageCalls.{page-tells}
+use Rattle.vms_core.specs.Pages as pages
+use Rattle.vms_world.specs.Common.{Header, CpuId, ZoneSize, State, Step, HasMade, facts_of, EventAnswer}
 use Rattle.vms_world.specs.Common.{Total as EventTotal, EventCall, EventFacts, EventStep, IsEventCall, read_event_call}
-use Rattle.vms_world.specs.Common.{PcpuAnswer, PcpuCall, PcpuFacts, PcpuStep, IsPcpuCall, Act, Ev, EvSum, Fold, Water}
-use Rattle.vms_world.specs.Common.{Val, Snap, Sys, Lane, Cpu, Control, event_call, lane_owns, pcpu_call, event_facts}
-use Rattle.vms_world.specs.Common.{pcpu_facts}
+use Rattle.vms_world.specs.Common.{PcpuAnswer, PcpuCall, PcpuFacts, PcpuStep, IsPcpuCall, Act, Ev, EvSum}
+use Rattle.vms_world.specs.Common.{Cnt, Lim, Cmp, Rough}
+use Rattle.vms_world.specs.Common.{Lane, Cpu, Control, event_call, page_call, pcpu_call, event_facts, pcpu_facts, owner_of}
+use Rattle.vms_world.proofs.ActCalls.{call-no_page_call}
+use Rattle.vms_world.proofs.EventActs.{events-no_page_call}
 use Rattle.vms_event_core.specs.declared.call_values.EventAnswer.TheVariants.{Done}
 use Rattle.vms_pcpu_core.proofs.Common.{tells-call}
-use Rattle.vms_text.specs.declared.acts.Act.TheVariants.{Mod, Inc, Dec, Dead}
+use Rattle.vms_text.specs.declared.acts.Act.TheVariants.{Csync, Dead, Sum}
 use Rattle.vms_world.specs.declared.worlds.World.{World}
 use Rattle.vms_answers.specs.declared.answers.Answer.{Answer}
-use Rattle.vms_answers.specs.Common.{LaneSteps, Tell, by_pages, event_told, first_answer, joined, nothing, on_counters}
-use Rattle.vms_answers.specs.Common.{on_events, on_pages, read_event_act, read_page_act, pcpu_told, read_act}
+use Rattle.vms_answers.specs.Common.{LaneSteps, Tell, event_told, first_answer, joined, on_counters}
+use Rattle.vms_answers.specs.Common.{on_events, on_pages, page_told, read_event_act, read_page_act, pcpu_told, read_act}
 use Rattle.vms_answers.specs.Common.{read_pcpu_act, then_steps, told}
 use Rattle.vms_answers.proofs.OpenAnswers.{LaneSteps-same}
-use Rattle.vms_answers.specs.declared.answers.Answer.TheVariants.{Tested, Value, Snapshot, System}
 
 -- the law of the calls on event counters: their steps tell the answer and where they end, whatever follows them
 abbrev pub TellsEventCall : Type 0
@@ -32,81 +36,56 @@ pub on_counters-alone : (steps : LaneSteps) → steps.pages ≡ [] → steps.eve
     → steps ≡ on_counters steps.counters
 on_counters-alone steps no_pages no_events = LaneSteps-same steps (on_counters steps.counters) no_pages no_events refl
 
--- what a table's steps tell is the answer of the act, where the act makes none in the others
-module _ {A : Type 0} (tell : A → Option Answer) (answer : A) where
-  pub by_pages-told : (read : List Step → A × List Step) (steps : List Step)
-      → ((rest : List Step) → read (steps ++ rest) ≡ (answer, rest)) → (rest : LaneSteps)
-      → by_pages tell (then_steps (on_pages steps) rest) (read (steps ++ rest.pages)) ≡ (tell answer, rest)
-  by_pages-told read steps told rest = ap (by_pages tell (then_steps (on_pages steps) rest)) (told rest.pages)
-
 module _ (header : Header) (w : World) where
-  -- a change and a fold answer nothing
-  pub Tell-modify : TellsChange → (c : CpuId) (k : CounterId) (delta : ℤ) (how : Mode) (steps : List Step)
-      → IsChange header.layout c k delta how steps → Tell header w (Cpu c) (Mod k delta) (on_pages steps) None
-  Tell-modify told c k delta how steps change =
-      by_pages-told nothing tt read_change steps (told header.layout c k delta how steps change)
+  -- the calls of an act that makes one on the page counters and buries no CPU
+  pub pages-no_events : (lane : Lane) (a : Act) (call : PageCall) → page_call lane a ≡ Some call
+      → ((c : CpuId) → call ≢ Bury c) → event_call lane a ≡ None
+  pages-no_events (Cpu d) (Ev k n) call is no_burial = absurd cc
+  pages-no_events (Cpu d) (EvSum k) call is no_burial = absurd cc
+  pages-no_events Control (EvSum k) call is no_burial = absurd cc
+  pages-no_events Control (Dead c) call is no_burial = absurd (no_burial c cc)
+  pages-no_events _ _ call is no_burial = refl
 
-  pub Tell-raise : TellsChange → (c : CpuId) (k : CounterId) (delta : ℤ) (how : Mode) (steps : List Step)
-      → IsChange header.layout c k delta how steps → Tell header w (Cpu c) (Inc k) (on_pages steps) None
-  Tell-raise told c k delta how steps change =
-      by_pages-told nothing tt read_change steps (told header.layout c k delta how steps change)
+  pub pages-no_counters : (lane : Lane) (a : Act) (call : PageCall) → page_call lane a ≡ Some call
+      → ((c : CpuId) → call ≢ Bury c) → pcpu_call lane a ≡ None
+  pages-no_counters (Cpu d) (Cnt j amount) call is no_burial = absurd cc
+  pages-no_counters (Cpu d) (Lim j limit amount) call is no_burial = absurd cc
+  pages-no_counters (Cpu d) (Cmp j rhs) call is no_burial = absurd cc
+  pages-no_counters (Cpu d) (Sum j) call is no_burial = absurd cc
+  pages-no_counters (Cpu d) (Rough j) call is no_burial = absurd cc
+  pages-no_counters (Cpu d) (Csync j) call is no_burial = absurd cc
+  pages-no_counters Control (Dead c) call is no_burial = absurd (no_burial c cc)
+  pages-no_counters _ _ call is no_burial = refl
 
-  pub Tell-lower : TellsChange → (c : CpuId) (k : CounterId) (delta : ℤ) (how : Mode) (steps : List Step)
-      → IsChange header.layout c k delta how steps → Tell header w (Cpu c) (Dec k) (on_pages steps) None
-  Tell-lower told c k delta how steps change =
-      by_pages-told nothing tt read_change steps (told header.layout c k delta how steps change)
-
-  pub Tell-fold : TellsFold → (lane : Lane) (c : CpuId) (steps : List Step)
-      → IsFold header.layout (lane_owns lane c) c steps → Tell header w lane (Fold c) (on_pages steps) None
-  Tell-fold told (Cpu d) c steps fold =
-      by_pages-told nothing tt (read_fold header.layout (lane_owns (Cpu d) c)) steps
-      (told header.layout (lane_owns (Cpu d) c) c steps fold)
-  Tell-fold told Control c steps fold =
-      by_pages-told nothing tt (read_fold header.layout (lane_owns Control c)) steps
-      (told header.layout (lane_owns Control c) c steps fold)
-
-  -- a look at a value tells it, and a test its verdict
-  pub Tell-test : TellsTest → (lane : Lane) (g : PlaceId) (mark : WaterMark) (most : ℕ) (steps : List Step)
-      (answer : Verdict) → IsWatermarkTest header g mark most steps answer
-      → Tell header w lane (Water g mark most) (on_pages steps) (Some (Tested answer))
-  Tell-test told (Cpu d) g mark most steps answer call =
-      by_pages-told (λ (verdict : Verdict). Some (Tested verdict)) answer (read_test header g mark most) steps
-      (told header g mark most steps answer call)
-  Tell-test told Control g mark most steps answer call =
-      by_pages-told (λ (verdict : Verdict). Some (Tested verdict)) answer (read_test header g mark most) steps
-      (told header g mark most steps answer call)
-
-  pub Tell-value : TellsPlaceValue → (lane : Lane) (k : CounterId) (steps : List Step) (answer : ℕ)
-      → IsPlaceValue k steps answer → Tell header w lane (Val k) (on_pages steps) (Some (Value answer))
-  Tell-value told (Cpu d) k steps answer call =
-      by_pages-told (λ (value : ℕ). Some (Value value)) answer read_value steps (told k steps answer call)
-  Tell-value told Control k steps answer call =
-      by_pages-told (λ (value : ℕ). Some (Value value)) answer read_value steps (told k steps answer call)
-
-  pub Tell-snapshot : TellsSnapshot → (lane : Lane) (k : CounterId) (steps : List Step) (answer : ℕ)
-      → IsSnapshot header.layout k steps answer
-      → Tell header w lane (Snap k) (on_pages steps) (Some (Snapshot answer))
-  Tell-snapshot told (Cpu d) k steps answer call =
-      by_pages-told (λ (value : ℕ). Some (Snapshot value)) answer (read_snapshot header.layout k) steps
-      (told header.layout k steps answer call)
-  Tell-snapshot told Control k steps answer call =
-      by_pages-told (λ (value : ℕ). Some (Snapshot value)) answer (read_snapshot header.layout k) steps
-      (told header.layout k steps answer call)
-
-  pub Tell-system : TellsSystemValue → (lane : Lane) (i : ItemId) (steps : List Step) (answer : ℕ)
-      → IsSystemValue i steps answer → Tell header w lane (Sys i) (on_pages steps) (Some (System answer))
-  Tell-system told (Cpu d) i steps answer call =
-      by_pages-told (λ (value : ℕ). Some (System value)) answer read_value steps (told i steps answer call)
-  Tell-system told Control i steps answer call =
-      by_pages-told (λ (value : ℕ). Some (System value)) answer read_value steps (told i steps answer call)
+  -- the steps of the call of an act tell what the call answers, unless the act buries a CPU and so makes calls on the
+  -- other tables too
+  pub Tell-pages : (pressure normal : ZoneSize → ℕ → ℕ → Type 0) (base : State) (p : ℕ) (later h : pages.History)
+      (lane : Lane) (a : Act) (call : PageCall) (steps : List Step) (answer : PageAnswer) → page_call lane a ≡ Some call
+      → ((c : CpuId) → call ≢ Bury c)
+      → IsPageCall header base pressure normal call (owner_of lane) p h steps answer
+      → (asks_rules call ≡ true → HasMade (facts_of header base) later h p steps)
+      → Tell header w lane a (on_pages steps) (page_told answer)
+  Tell-pages pressure normal base p later h lane a call steps answer is no_burial call_is made rest =
+      let owner = owner_of lane in
+      ap (λ (makes : Option PageCall). joined (read_page_act header owner makes (steps ++ rest.pages))
+      (read_event_act (event_facts header w) (event_call lane a) rest.events)
+      (read_pcpu_act (pcpu_facts header w) (pcpu_call lane a) rest.counters)) is
+      ∙ ap (λ (read : PageAnswer × List Step). joined (told page_told read)
+      (read_event_act (event_facts header w) (event_call lane a) rest.events)
+      (read_pcpu_act (pcpu_facts header w) (pcpu_call lane a) rest.counters))
+      (page-tells pressure normal header base call owner p later h steps answer call_is made rest.pages)
+      ∙ ap (λ (makes : Option EventCall). joined (page_told answer, rest.pages)
+      (read_event_act (event_facts header w) makes rest.events)
+      (read_pcpu_act (pcpu_facts header w) (pcpu_call lane a) rest.counters)) (pages-no_events lane a call is no_burial)
+      ∙ ap (λ (makes : Option PcpuCall). joined (page_told answer, rest.pages) (None, rest.events)
+      (read_pcpu_act (pcpu_facts header w) makes rest.counters)) (pages-no_counters lane a call is no_burial)
+      ∙ ap (λ (first : Option Answer). (first, rest)) (first_answer-none (page_told answer))
+    where
+      first_answer-none : (x : Option Answer) → first_answer x None ≡ x
+      first_answer-none (Some x) = refl
+      first_answer-none None = refl
 
   -- an act that makes a call on event counters makes none on the others, unless it buries a CPU
-  events-no_pages : (lane : Lane) (a : Act) (call : EventCall) → event_call lane a ≡ Some call
-      → ((c : CpuId) → a ≢ Dead c) → (steps : List Step) → read_page_act header lane a steps ≡ (None, steps)
-  events-no_pages (Cpu d) (Dead c) call is no_burial steps = absurd (no_burial c refl)
-  events-no_pages Control (Dead c) call is no_burial steps = absurd (no_burial c refl)
-  events-no_pages _ _ call is no_burial steps = cc
-
   events-no_counters : (lane : Lane) (a : Act) (call : EventCall) → event_call lane a ≡ Some call
       → ((c : CpuId) → a ≢ Dead c) → pcpu_call lane a ≡ None
   events-no_counters (Cpu d) (Dead c) call is no_burial = absurd (no_burial c refl)
@@ -124,10 +103,10 @@ module _ (header : Header) (w : World) where
       ap (λ (makes : Option EventCall). read_event_act facts makes (steps ++ rest.events)) is
       ∙ ap (λ (read : EventAnswer × List EventStep). told event_told read)
       (reads facts call steps rest.events answer made) in
-      ap (λ (read : Option Answer × List Step). joined read
+      ap (λ (makes : Option PageCall). joined (read_page_act header (owner_of lane) makes rest.pages)
       (read_event_act facts (event_call lane a) (steps ++ rest.events))
       (read_pcpu_act (pcpu_facts header w) (pcpu_call lane a) rest.counters))
-      (events-no_pages lane a call is no_burial rest.pages)
+      (events-no_page_call lane a call is no_burial)
       ∙ ap (λ (read : Option Answer × List EventStep). joined (None, rest.pages) read
       (read_pcpu_act (pcpu_facts header w) (pcpu_call lane a) rest.counters)) in_events
       ∙ ap (λ (makes : Option PcpuCall). joined (None, rest.pages) (event_told answer, rest.events)
@@ -139,18 +118,6 @@ module _ (header : Header) (w : World) where
       by (EventTotal sum) = refl
 
   -- an act of a CPU's lane that makes a call on percpu counters makes none on the others
-  counters-no_pages : (c : CpuId) (a : Act) (call : PcpuCall) → pcpu_call (Cpu c) a ≡ Some call → (steps : List Step)
-      → read_page_act header (Cpu c) a steps ≡ (None, steps)
-  counters-no_pages c (Mod k delta) call is steps = absurd cc
-  counters-no_pages c (Inc k) call is steps = absurd cc
-  counters-no_pages c (Dec k) call is steps = absurd cc
-  counters-no_pages c (Fold d) call is steps = absurd cc
-  counters-no_pages c (Water g mark most) call is steps = absurd cc
-  counters-no_pages c (Val k) call is steps = absurd cc
-  counters-no_pages c (Snap k) call is steps = absurd cc
-  counters-no_pages c (Sys i) call is steps = absurd cc
-  counters-no_pages c _ call is steps = refl
-
   counters-no_events : (c : CpuId) (a : Act) (call : PcpuCall) → pcpu_call (Cpu c) a ≡ Some call
       → event_call (Cpu c) a ≡ None
   counters-no_events c (Ev k n) call is = absurd cc
@@ -163,9 +130,9 @@ module _ (header : Header) (w : World) where
       ≡ joined (None, steps.pages) (None, steps.events) (read_pcpu_act (pcpu_facts header w) (Some call) steps.counters)
   read-by_call c call a is steps =
       let facts : PcpuFacts = pcpu_facts header w in
-      ap (λ (read : Option Answer × List Step). joined read
+      ap (λ (makes : Option PageCall). joined (read_page_act header (Some c) makes steps.pages)
       (read_event_act (event_facts header w) (event_call (Cpu c) a) steps.events)
-      (read_pcpu_act facts (pcpu_call (Cpu c) a) steps.counters)) (counters-no_pages c a call is steps.pages)
+      (read_pcpu_act facts (pcpu_call (Cpu c) a) steps.counters)) (call-no_page_call c call a is)
       ∙ ap (λ (makes : Option EventCall). joined (None, steps.pages)
       (read_event_act (event_facts header w) makes steps.events)
       (read_pcpu_act facts (pcpu_call (Cpu c) a) steps.counters)) (counters-no_events c a call is)

@@ -12,6 +12,9 @@ use Rattle.vms_world.specs.Common.{settled_read, with_blocks, Balance, OrderVerd
 use Rattle.vms_world.specs.Common.{Yes, No, EventAnswer, Total as EventTotal, EventCall, EventStep, read_event_call}
 use Rattle.vms_world.specs.Common.{PcpuAnswer, PcpuCall, PcpuStep, read_pcpu_call, Act, Kswapd, Lane, Cpu, Control}
 use Rattle.vms_world.specs.Common.{event_call, pcpu_call, event_facts, pcpu_facts}
+use Rattle.vms_world.specs.Common.{CpuId, owner_of, page_call}
+use Rattle.vms_calls.specs.declared.page_calls.PageCall.{PageCall}
+use Rattle.vms_calls.specs.declared.page_calls.PageCall.TheVariants.{Turn}
 use Rattle.vms_event_core.specs.declared.call_values.EventAnswer.TheVariants.{Done}
 use Rattle.vms_pcpu_core.specs.declared.answers.PcpuAnswer.TheVariants as kinds
 use Rattle.vms_world.specs.declared.worlds.World.{World}
@@ -157,11 +160,11 @@ module _ (header : Header) where
       (zones-below (length header.layout.zones) (omega (arith, valid.is_layout.zones_most))))))
 
 module _ (header : Header) (valid : IsHeader header) (w : World) where
-  page-kept : (lane : Lane) (act : Act) (steps : List Step)
-      → IfSome (read_page_act header lane act steps).0 IsKeepableAnswer
-  page-kept (Cpu c) (Kswapd n order most) steps = tt
-  page-kept Control (Kswapd n order most) steps = kept-turn header valid n order most steps
-  page-kept _ _ steps = tt
+  page-kept : (owner : Option CpuId) (call : Option PageCall) (steps : List Step)
+      → IfSome (read_page_act header owner call steps).0 IsKeepableAnswer
+  page-kept owner None steps = tt
+  page-kept owner (Some (Turn n order most)) steps = kept-turn header valid n order most steps
+  page-kept owner (Some call) steps = tt
 
   event-kept : (call : Option EventCall) (steps : List EventStep)
       → IfSome (read_event_act (event_facts header w) call steps).0 IsKeepableAnswer
@@ -194,8 +197,8 @@ module _ (header : Header) (valid : IsHeader header) (w : World) where
   read-kept lane act steps =
       let events = read_event_act (event_facts header w) (event_call lane act) steps.events in
       let counters = read_pcpu_act (pcpu_facts header w) (pcpu_call lane act) steps.counters in
-      first-kept (read_page_act header lane act steps.pages).0 (first_answer events.0 counters.0)
-      (page-kept lane act steps.pages) (first-kept events.0 counters.0
+      first-kept (read_page_act header (owner_of lane) (page_call lane act) steps.pages).0
+      (first_answer events.0 counters.0) (page-kept (owner_of lane) (page_call lane act) steps.pages) (first-kept events.0 counters.0
       (event-kept (event_call lane act) steps.events) (pcpu-kept (pcpu_call lane act) steps.counters))
 
   -- what the steps of an act tell can be kept

@@ -1,13 +1,15 @@
 -- What lines answer, and what the steps of an act tell of it.
 use Rattle.std.specs.Prelude.{◌≡◌, List, [], ◌++◌, Option, Some, None}
-use Rattle.vms_world.specs.Common.{Header, Step, read_change, read_fold, read_snapshot, read_test, read_value}
-use Rattle.vms_world.specs.Common.{read_burial, read_node_rating, read_turn, EventAnswer, Total as EventTotal}
+use Rattle.vms_calls.specs.PageCalls.{read_page_call}
+use Rattle.vms_calls.specs.declared.page_calls.PageAnswer.{PageAnswer}
+use Rattle.vms_calls.specs.declared.page_calls.PageAnswer.TheVariants as pages
+use Rattle.vms_calls.specs.declared.page_calls.PageCall.{PageCall}
+use Rattle.vms_world.specs.Common.{Header, CpuId, Step, EventAnswer, Total as EventTotal}
 use Rattle.vms_world.specs.Common.{EventCall, EventFacts, EventStep, read_event_call, PcpuAnswer, PcpuCall, PcpuFacts}
-use Rattle.vms_world.specs.Common.{PcpuStep, read_pcpu_call, Act, Fold, Water, Val, Snap, Sys, Pressure, Normal, Kswapd}
-use Rattle.vms_world.specs.Common.{Lane, Cpu, Control, event_call, lane_owns, pcpu_call, event_facts, pcpu_facts}
+use Rattle.vms_world.specs.Common.{PcpuStep, read_pcpu_call, Act, Lane, event_call, pcpu_call, event_facts, pcpu_facts}
+use Rattle.vms_world.specs.Common.{owner_of, page_call}
 use Rattle.vms_event_core.specs.declared.call_values.EventAnswer.TheVariants.{Done}
 use Rattle.vms_pcpu_core.specs.declared.answers.PcpuAnswer.TheVariants as kinds
-use Rattle.vms_text.specs.declared.acts.Act.TheVariants.{Mod, Inc, Dec, Dead}
 use Rattle.vms_world.specs.declared.worlds.World.{World}
 use Rattle.vms_answers.specs.declared.answers.Answer.{Answer}
 use Rattle.vms_answers.specs.declared.answers.Answer.TheVariants.{Tested, Value, Snapshot, System, Events, Count, Total}
@@ -40,35 +42,24 @@ then_steps first rest = record {
   counters = first.counters ++ rest.counters;
 }
 
--- what was read of one table, with the steps of the others: an answer, or nothing
-abbrev pub by_pages : {A : Type 0} → (A → Option Answer) → LaneSteps → A × List Step → Option Answer × LaneSteps
-by_pages tell steps (answer, rest) = (tell answer, record steps { pages = rest })
-
 -- what was read of a table, as an answer or nothing, with the steps after it
 abbrev pub told : {A K : Type 0} → (A → Option Answer) → A × List K → Option Answer × List K
 told tell (answer, rest) = (tell answer, rest)
 
-abbrev pub nothing : {A : Type 0} → A → Option Answer
-nothing done = None
+-- the answer of a line by that of its call on the page counters
+abbrev pub page_told : PageAnswer → Option Answer
+page_told pages.Done = None
+page_told (pages.Tested verdict) = Some (Tested verdict)
+page_told (pages.Value value) = Some (Value value)
+page_told (pages.Snapshot value) = Some (Snapshot value)
+page_told (pages.System value) = Some (System value)
+page_told (pages.Balanced balance) = Some (Balanced balance)
 
--- what the steps of a pass on the page counters answer that begin with those of an act, and the steps after them
-abbrev pub read_page_act : Header → Lane → Act → List Step → Option Answer × List Step
-read_page_act header (Cpu c) (Mod k delta) steps = told nothing (read_change steps)
-read_page_act header (Cpu c) (Inc k) steps = told nothing (read_change steps)
-read_page_act header (Cpu c) (Dec k) steps = told nothing (read_change steps)
-read_page_act header lane (Fold c) steps = told nothing (read_fold header.layout (lane_owns lane c) steps)
-read_page_act header lane (Water g mark most) steps =
-    told (λ verdict. Some (Tested verdict)) (read_test header g mark most steps)
-read_page_act header lane (Val k) steps = told (λ value. Some (Value value)) (read_value steps)
-read_page_act header lane (Snap k) steps =
-    told (λ value. Some (Snapshot value)) (read_snapshot header.layout k steps)
-read_page_act header lane (Sys i) steps = told (λ value. Some (System value)) (read_value steps)
-read_page_act header Control (Pressure n) steps = told nothing (read_node_rating header.layout n steps)
-read_page_act header Control (Normal n) steps = told nothing (read_node_rating header.layout n steps)
-read_page_act header Control (Dead c) steps = told nothing (read_burial header.layout steps)
-read_page_act header Control (Kswapd n order most) steps =
-    told (λ balance. Some (Balanced balance)) (read_turn header n order most steps)
-read_page_act header _ _ steps = (None, steps)
+-- what the steps of a pass on the page counters answer that begin with those of the call of an act, if it makes one, and
+-- the steps after them; the pass owns a CPU or none
+abbrev pub read_page_act : Header → Option CpuId → Option PageCall → List Step → Option Answer × List Step
+read_page_act header owner None steps = (None, steps)
+read_page_act header owner (Some call) steps = told page_told (read_page_call header call owner steps)
 
 -- the answer of a line by that of its call on the event counters
 abbrev pub event_told : EventAnswer → Option Answer
@@ -108,7 +99,7 @@ joined pages events counters = (
 
 -- what the steps of a lane answer that begin with those of an act in a phase from this world, and the steps after them
 abbrev pub read_act : Header → World → Lane → Act → LaneSteps → Option Answer × LaneSteps
-read_act header w lane act steps = joined (read_page_act header lane act steps.pages)
+read_act header w lane act steps = joined (read_page_act header (owner_of lane) (page_call lane act) steps.pages)
     (read_event_act (event_facts header w) (event_call lane act) steps.events)
     (read_pcpu_act (pcpu_facts header w) (pcpu_call lane act) steps.counters)
 

@@ -1,6 +1,6 @@
 -- The definitions that other crates and this one's proofs cite, passed on from one place. Declares nothing.
-pub use Rattle.vms_answers.specs.Answers.{LaneSteps, Tell, by_pages, event_told, first_answer, joined, no_steps}
-pub use Rattle.vms_answers.specs.Answers.{nothing, on_counters, on_events, on_pages, pcpu_told, read_act}
+pub use Rattle.vms_answers.specs.Answers.{LaneSteps, Tell, event_told, first_answer, joined, no_steps}
+pub use Rattle.vms_answers.specs.Answers.{on_counters, on_events, on_pages, page_told, pcpu_told, read_act}
 pub use Rattle.vms_answers.specs.Answers.{read_event_act, read_page_act, read_pcpu_act, then_steps, told}
 pub use Rattle.vms_answers.specs.PhaseAnswers.{NumberedAnswer, answers_of, read_lines, steps_by, steps_of, with_answer}
 pub use Rattle.vms_answers.specs.PhaseAnswers.{with_left}

@@ -1,11 +1,12 @@
 ghost use Rattle.std.specs.Prelude.{◌≡◌};
-ghost use Rattle.vms_answers.specs.Answers.{event_told as told_by_events, pcpu_told as told_by_pcpu};
+ghost use Rattle.vms_answers.specs.Answers.{event_told as told_by_events, page_told as told_by_pages};
+ghost use Rattle.vms_answers.specs.Answers.{pcpu_told as told_by_pcpu};
 ghost use Rattle.vms_answers.specs.declared.answers.Answer.TheVariants.{Balanced};
 ghost use Rattle.vms_answers.specs.ToldAnswers.{IsKeepableAnswer, balanced_by, answer_of_kept};
 ghost use Rattle.vms_world.specs.Common.{Yes};
 
 use vms_base::PlaceId;
-use vms_calls::{Balance, OrderVerdict, Verdict};
+use vms_calls::{Balance, OrderVerdict, PageAnswer, Verdict};
 use vms_event_core::EventAnswer;
 use vms_pcpu_core::{Compare, PcpuAnswer};
 
@@ -32,6 +33,21 @@ pub enum Answer {
     Limited(bool),
     /// Whether a node is balanced.
     Balanced(Balance),
+}
+
+/// What a call on page counters answers to the line that makes it, if that asks something.
+#[inline]
+pub fn page_told(answer: PageAnswer) -> Option<Answer>
+    ensures { result ≡ told_by_pages answer }
+{
+    match answer {
+        PageAnswer::Done => None,
+        PageAnswer::Tested(verdict) => Some(Answer::Tested(verdict)),
+        PageAnswer::Value(pages) => Some(Answer::Value(pages)),
+        PageAnswer::Snapshot(pages) => Some(Answer::Snapshot(pages)),
+        PageAnswer::System(pages) => Some(Answer::System(pages)),
+        PageAnswer::Balanced(balance) => Some(Answer::Balanced(balance)),
+    }
 }
 
 /// What a call on event counters answers to the line that makes it, if that asks something.

@@ -10,11 +10,8 @@ mod phases;
 mod printing;
 mod test_lines;
 
-pub use acts::{
-    changes_and_folds_answer_nothing, event_acts_tell_answers, looks_tell_answers,
-    pcpu_acts_tell_answers,
-};
-pub use answers::{Answer, NumberedAnswer, event_told, pcpu_told};
+pub use acts::{event_acts_tell_answers, page_acts_tell_answers, pcpu_acts_tell_answers};
+pub use answers::{Answer, NumberedAnswer, event_told, page_told, pcpu_told};
 pub use lane_answers::{LaneAnswers, place_of, take_answer};
 pub use laws::lanes_answer_their_lines;
 pub use phases::{lines_answer_in_turn, phases_end_with_all_answers, phases_open_with_no_answer};

@@ -33,4 +33,5 @@ pub mod OnlineFound
 pub mod PassedZones
 pub mod ControlKnowledge
 pub mod ZonesUpTo
+pub mod PageCalls
 pub mod Common

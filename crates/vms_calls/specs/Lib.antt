@@ -17,4 +17,5 @@ pub mod TurnExamples
 pub mod CallerLaws
 pub mod MayMake
 pub mod MayCall
+pub mod PageCalls
 pub mod Common

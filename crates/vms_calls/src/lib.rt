@@ -8,6 +8,7 @@ mod callers;
 mod changes;
 mod choices;
 mod node_thresholds;
+mod page_calls;
 mod ratings;
 mod readings;
 mod rules;
@@ -24,6 +25,7 @@ pub use callers::{
 pub use changes::{changes_follow, changes_miss_once, changes_spend_their_size};
 pub use choices::{Chosen, Rating, choose, spares};
 pub use node_thresholds::node_threshold;
+pub use page_calls::{PageAnswer, PageCall, page_calls_keep_their_laws};
 pub use ratings::ratings_cover;
 pub use readings::{
     answers_are_told, changes_and_folds_are_told, ratings_are_told, ratings_find_a_cpu,

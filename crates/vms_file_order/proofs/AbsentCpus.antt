@@ -1,21 +1,27 @@
 -- For other crates too: a CPU goes absent in a phase by a line that buries it, and by no other.
-use Rattle.std.proofs.Common.{◌≡◌, ℕ, zero, suc, ◌<◌, ◌≤◌, nat_eq, Bool, true, false, List, [], ◌∷◌, ◌++◌, length, None}
+use Rattle.std.proofs.Common.{◌≡◌, ℕ, zero, suc, ◌<◌, ◌≤◌, nat_eq, Bool, true, false, List, [], ◌∷◌, ◌++◌, length, Some, None}
 use Rattle.std.proofs.Common.{inl, inr, ◌⊎◌, refl, sym, ap, subst, ◌∙◌, arith, eq-eqb, eqb-true, append_assoc}
 use Rattle.std.proofs.Common.{if◌then◌else◌}
 use Rattle.std.specs.List.{Contains}
 use Rattle.std.proofs.lemmas.List.Elements.{Contains-append_left, Contains-push}
 use Rattle.vms_world.specs.Common.{Header, CpuId, CpuState, Absent, ZoneSize, Event, after, own, begun_in, owner_in}
 use Rattle.vms_world.specs.Common.{State, Facts, Step, SetO, cpu_at, pages, cpu_after, cpu_in, facts_of, Buries}
-use Rattle.vms_world.specs.Common.{ByNormal, ByPressure, Act, Fold, Water, Val, Snap, Sys, Pressure, Normal, Kswapd}
-use Rattle.vms_world.specs.Common.{Item, Lane, Control, PageSteps, lane_owns, HasLanes, MakesActs, MakesLines, acts_of}
+use Rattle.vms_world.specs.Common.{Act}
+use Rattle.vms_world.specs.Common.{Item, Lane, Control, PageSteps, HasLanes, MakesActs, MakesLines, acts_of}
 use Rattle.vms_world.specs.Common.{is_among, lane_at, lanes_of, act as one_act, TableHistories, left_by, page_facts}
 use Rattle.vms_history.proofs.Common.{own-append, own-mine, live_is_given, owner_in-append, begun_in-append}
 use Rattle.vms_history.proofs.Common.{prefix_is_legal}
 use Rattle.vms_core.specs.Pages.{History, IsLegal}
 use Rattle.vms_core.specs.Steps.{role}
 use Rattle.vms_core.proofs.Common.{laws-kept}
-use Rattle.vms_calls.proofs.Common.{Each, OfFolds, OfLooks, OfRatings, each-append, fold-each, node-each, refresh-each}
-use Rattle.vms_calls.proofs.Common.{snapshot-each, test-each, turn-each}
+use Rattle.vms_calls.specs.PageCalls.{IsPageCall}
+use Rattle.vms_calls.specs.declared.page_calls.PageAnswer.{PageAnswer}
+use Rattle.vms_calls.specs.declared.page_calls.PageCall.{PageCall}
+use Rattle.vms_calls.specs.declared.page_calls.PageCall.TheVariants.{Bury}
+use Rattle.vms_calls.proofs.Common.{Each, OfFolds, OfLooks, OfRatings}
+use Rattle.vms_calls.proofs.PageCalls.{page-each}
+use Rattle.vms_world.specs.Acts.{page_call}
+use Rattle.vms_world.proofs.PageActs.{act-by_call, buries-burial, burial-steps, control-no_change}
 use Rattle.vms_text.specs.declared.acts.Act.TheVariants.{Dead}
 use Rattle.vms_world.specs.declared.worlds.World.{World}
 use Rattle.vms_world.specs.Lanes.MakesActs.{none as no_act}
@@ -54,40 +60,36 @@ stays-folds c = record {
   acknowledge = λ g a. tt;
 }
 
+-- whether a call buries CPU c
+abbrev buries_cpu : PageCall → ℕ → Bool
+buries_cpu (Bury d) c = nat_eq d.number c
+buries_cpu _ c = false
+
+buries-which : (call : PageCall) (c : CpuId) → buries_cpu call c.number ≡ true → call ≡ Bury c
+buries-which (Bury d) c same =
+    ap (λ n. let cpu : CpuId = record { number = n } in Bury cpu) (eqb-true d.number c.number same)
+buries-which _ c same = absurd cc
+
 -- of the acts of the control lane, the burial of a CPU alone makes it absent
 module _ (header : Header) (base : State) (pressure normal : ZoneSize → ℕ → ℕ → Type 0) (c : CpuId) where
   act-stays : (p : ℕ) (a : Act) (h : History) (steps : List Step)
       → PageSteps header base pressure normal Control p a h steps → (a ≡ Dead c) ⊎ Each (Stays c.number) steps
-  act-stays p (Fold d) h steps makes =
-      inr (fold-each (Stays c.number) (stays-folds c.number) header.layout (lane_owns Control d) d steps makes)
-  act-stays p (Water g mark most) h steps (answer, makes) =
-      inr (test-each (Stays c.number) (stays-looks c.number) header g mark most steps answer makes)
-  act-stays p (Val k) h steps (answer, makes) = inr (subst (Each (Stays c.number)) (sym makes.in_order) (tt, tt))
-  act-stays p (Snap k) h steps (answer, makes) =
-      inr (snapshot-each (Stays c.number) (stays-looks c.number) header.layout k steps answer makes)
-  act-stays p (Sys i) h steps (answer, makes) = inr (subst (Each (Stays c.number)) (sym makes.in_order) (tt, tt))
-  act-stays p (Pressure n) h steps makes =
-      inr (node-each (Stays c.number) (stays-ratings c.number) (facts_of header base) (ByPressure pressure normal) n p h
-      steps makes)
-  act-stays p (Normal n) h steps makes =
-      inr (node-each (Stays c.number) (stays-ratings c.number) (facts_of header base) (ByNormal normal) n p h steps
-      makes)
-  act-stays p (Dead d) h steps makes = by (nat_eq d.number c.number) refl
+  act-stays p a h steps makes =
+      act-by_call header base pressure normal Control p a h steps (λ made ks. (a ≡ Dead c) ⊎ Each (Stays c.number) ks)
+      (inr tt) of_call makes
     where
-      by : (b : Bool) → nat_eq d.number c.number ≡ b → (Dead d ≡ Dead c) ⊎ Each (Stays c.number) steps
-      by true same = inl (ap (λ n. let act : Act = Dead (record { number = n }) in act)
-          (eqb-true d.number c.number same))
-      by false other = inr (subst (Each (Stays c.number)) (sym makes.in_order)
-          (each-append (Stays c.number) makes.fold (SetO d ∷ makes.refresh)
-          (fold-each (Stays c.number) (stays-folds c.number) header.layout false d makes.fold makes.folds) (
-            other,
-            refresh-each (Stays c.number) (stays-ratings c.number) (facts_of header base) normal p
-                (after p (makes.fold ++ (SetO d ∷ [])) h) makes.refresh makes.refreshes,
-          )))
-  act-stays p (Kswapd n order most) h steps (answer, makes) =
-      inr (turn-each (Stays c.number) (stays-ratings c.number) header base pressure normal n order most p h steps answer
-      makes)
-  act-stays p _ h steps makes = inr (subst (Each (Stays c.number)) (sym makes) tt)
+      of_call : (call : PageCall) (told : PageAnswer) → page_call Control a ≡ Some call
+          → IsPageCall header base pressure normal call None p h steps told
+          → (a ≡ Dead c) ⊎ Each (Stays c.number) steps
+      of_call call told on is = by (buries_cpu call c.number) refl
+        where
+          by : (b : Bool) → buries_cpu call c.number ≡ b → (a ≡ Dead c) ⊎ Each (Stays c.number) steps
+          by true same =
+              inl (buries-burial Control a c (on ∙ ap (λ (made : PageCall). Some made) (buries-which call c same))).1
+          by false other = inr (page-each (Stays c.number) (stays-ratings c.number) (stays-folds c.number) header base
+              pressure normal call None p h steps told
+              (λ k delta how same. control-no_change a k delta how (on ∙ ap (λ (made : PageCall). Some made) same))
+              (λ d same. subst (λ (made : PageCall). buries_cpu made c.number ≡ false) same other) is)
 
 -- so is each of these events
 abbrev EachEvent : (Step → Type 0) → History → Type 0
@@ -263,7 +265,8 @@ module _ (pressure normal : ZoneSize → ℕ → ℕ → Type 0) (header : Heade
   -- a line of the control lane that buries a CPU has made it absent
   pub line-makes_absent : is_among Control lanes ≡ true → (c : CpuId) → Contains (acts_of Control items) (Dead c)
       → GoesAbsent c.number h
-  line-makes_absent among c buries = at p act act.making
+  line-makes_absent among c buries =
+      at p act (burial-steps header w.pages pressure normal p c act.before act.steps act.making)
     where
       makes : Lane → ℕ → Act → History → List Step → Type 0
       makes = PageSteps header w.pages pressure normal

@@ -22,5 +22,5 @@ pub use Rattle.vms_file_order.proofs.FittingOpenings.{owners-online}
 pub use Rattle.vms_file_order.proofs.JudgedLines.{Fits-judged, start_at_end-lines}
 pub use Rattle.vms_file_order.proofs.MoreAnswers.{Buries-more, Includes, IsTurn-more, SetsNormal-more}
 pub use Rattle.vms_file_order.proofs.MoreAnswers.{SetsPressure-more}
-pub use Rattle.vms_file_order.proofs.MorePhases.{IsFileOrderPhase-more}
+pub use Rattle.vms_file_order.proofs.MorePhases.{IsFileOrderPhase-more, PageSteps-more}
 pub use Rattle.vms_file_order.proofs.FittingCalls.{fits-call}

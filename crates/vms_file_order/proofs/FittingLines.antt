@@ -1,5 +1,5 @@
 -- For other crates too: in an open phase of lines that fit no CPU passes its volumes, and the next line may follow.
-use Rattle.std.proofs.Common.{◌≡◌, ◌≢◌, ℕ, ◌+◌, nat_eq, Bool, true, false, List, ◌∷◌, ◌++◌, map, refl, sym, ◌∙◌, arith}
+use Rattle.std.proofs.Common.{◌≡◌, ◌≢◌, ℕ, nat_eq, Bool, true, false, List, ◌∷◌, ◌++◌, map, refl, sym, ◌∙◌, arith}
 use Rattle.std.proofs.Common.{eq-eqb, if◌then◌else◌, Ok, Err}
 use Rattle.vms_world.specs.Common.{Header, CpuId, CpuState, Absent, ZoneSize, is_online, IsCpu, State, cpu_at}
 use Rattle.vms_world.specs.Common.{NotOnline, Overflow, IsLineOf, Fits, allowed_burial, allowed_from, overflows_from}

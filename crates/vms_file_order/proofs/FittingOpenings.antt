@@ -1,5 +1,5 @@
 -- For other crates too: a phase of lines that fit opens for the lanes that have lines.
-use Rattle.std.proofs.Common.{◌≡◌, ℕ, ◌+◌, Bool, true, false, ◌||◌, List, [], ◌∷◌, ◌++◌, map, refl, ap, subst}
+use Rattle.std.proofs.Common.{◌≡◌, ℕ, Bool, true, false, ◌||◌, List, [], ◌∷◌, ◌++◌, map, refl, ap, subst}
 use Rattle.std.specs.Prelude.{All}
 use Rattle.vms_world.specs.Common.{Header, ZoneSize, MayOwnCpu, IsLineOf, Fits, is_lane, Start, line_of, Item}
 use Rattle.vms_world.specs.Common.{Lane as LaneOf, Cpu, Control, has_line, lanes_of, owner_of}

@@ -1,5 +1,5 @@
 -- For other crates too: a call that goes by rules goes by any rules that may answer all that these answer.
-use Rattle.std.proofs.Common.{◌≡◌, ℕ, List, [], ◌∷◌, ◌++◌, length}
+use Rattle.std.proofs.Common.{ℕ, List, [], ◌∷◌, ◌++◌, length}
 use Rattle.vms_world.specs.Common.{Header, CpuId, PlaceId, ZoneSize, online_from, size_at, after, State, Facts, Step}
 use Rattle.vms_world.specs.Common.{SetO, facts_of, in_turn, Buries, ByNormal, ByPressure, Choice, Rates, RatesMarked}
 use Rattle.vms_world.specs.Common.{RatesNode, Refreshes, SetsNormal, SetsPressure, Visits, VisitsEach, node_number}

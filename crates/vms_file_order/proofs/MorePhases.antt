@@ -1,10 +1,16 @@
 -- For other crates too: a phase in file order by rules is one by any rules that may answer all that these answer.
-use Rattle.std.proofs.Common.{ℕ, List}
-use Rattle.vms_world.specs.Common.{Header, ZoneSize, Shape, Event, Role, State, Step, HasWon, facts_of, Act, Pressure}
-use Rattle.vms_world.specs.Common.{Normal, Kswapd, Item, Lane, Control, PageSteps, lanes_of, TableHistories}
+use Rattle.std.proofs.Common.{ℕ, List, Option, None, refl}
+use Rattle.vms_calls.specs.PageCalls.{IsPageCall}
+use Rattle.vms_calls.specs.declared.page_calls.PageAnswer.{PageAnswer}
+use Rattle.vms_calls.specs.declared.page_calls.PageAnswer.TheVariants as answer
+use Rattle.vms_calls.specs.declared.page_calls.PageCall.{PageCall}
+use Rattle.vms_calls.specs.declared.page_calls.PageCall.TheVariants.{Bury, SetNormal, SetPressure, Turn}
+use Rattle.vms_world.specs.Common.{Header, ZoneSize, Shape, Event, Role, State, Step, HasWon, facts_of, Act}
+use Rattle.vms_world.specs.Common.{Item, Lane, PageSteps, lanes_of, TableHistories}
 use Rattle.vms_core.specs.Pages.{History}
-use Rattle.vms_text.specs.declared.acts.Act.TheVariants.{Dead}
 use Rattle.vms_world.specs.declared.worlds.World.{World}
+use Rattle.vms_world.specs.Common.{CallSteps, CpuId, owner_of}
+use Rattle.vms_world.proofs.PageActs.{act-by_call}
 use Rattle.vms_file_order.specs.Common.{Follow, IsFileOrder, none, line, IsFileOrderPhase, PassSteps, pass_of}
 use Rattle.vms_file_order.specs.Common.{page_passes}
 use Rattle.vms_file_order.proofs.MoreAnswers.{Buries-more, Includes, IsTurn-more, SetsNormal-more, SetsPressure-more}
@@ -31,22 +37,29 @@ module _ {K : Type 0} {role : K → Role} (passes : PassSteps K role)
 
 module _ (pressure more_pressure : ZoneSize → ℕ → ℕ → Type 0) (includes_pressure : Includes pressure more_pressure)
     (normal more : ZoneSize → ℕ → ℕ → Type 0) (includes : Includes normal more) (header : Header) where
-  PageSteps-more : (base : State) (lane : Lane) (p : ℕ) (act : Act) (h : History) (steps : List Step)
+  page-more : (base : State) (call : PageCall) (owner : Option CpuId) (p : ℕ) (h : History) (steps : List Step)
+      (told : PageAnswer) → IsPageCall header base pressure normal call owner p h steps told
+      → IsPageCall header base more_pressure more call owner p h steps told
+  page-more base (SetPressure n) None p h steps answer.Done is =
+      SetsPressure-more normal more includes pressure more_pressure includes_pressure (facts_of header base) n p h steps
+      is
+  page-more base (SetNormal n) None p h steps answer.Done is =
+      SetsNormal-more normal more includes (facts_of header base) n p h steps is
+  page-more base (Bury c) None p h steps answer.Done is =
+      Buries-more normal more includes (facts_of header base) c p h steps is
+  page-more base (Turn n order most) None p h steps (answer.Balanced balance) is =
+      IsTurn-more normal more includes pressure more_pressure includes_pressure header base n order most p h steps
+      balance is
+  page-more base _ _ p h steps _ is = is
+
+  pub PageSteps-more : (base : State) (lane : Lane) (p : ℕ) (act : Act) (h : History) (steps : List Step)
       → PageSteps header base pressure normal lane p act h steps
       → PageSteps header base more_pressure more lane p act h steps
-  PageSteps-more base Control p (Pressure n) h steps makes =
-      SetsPressure-more normal more includes pressure more_pressure includes_pressure (facts_of header base) n p h steps
-      makes
-  PageSteps-more base Control p (Normal n) h steps makes =
-      SetsNormal-more normal more includes (facts_of header base) n p h steps makes
-  PageSteps-more base Control p (Dead c) h steps makes =
-      Buries-more normal more includes (facts_of header base) c p h steps makes
-  PageSteps-more base Control p (Kswapd n order most) h steps (answer, turn) = (
-    answer,
-    IsTurn-more normal more includes pressure more_pressure includes_pressure header base n order most p h steps answer
-        turn,
-  )
-  PageSteps-more base _ p _ h steps makes = makes
+  PageSteps-more base lane p act h steps makes =
+      act-by_call header base pressure normal lane p act h steps
+      (λ call ks. CallSteps (λ made ks told. IsPageCall header base more_pressure more made (owner_of lane) p h ks told)
+      call ks) refl
+      (λ call told on is. (told, page-more base call (owner_of lane) p h steps told is)) makes
 
   pub IsFileOrderPhase-more : (w : World) (items : List Item) (hs : TableHistories)
       → IsFileOrderPhase header pressure normal w items hs

@@ -1,8 +1,8 @@
 -- For other crates too: by the laws of calls, what the histories of a phase spend is what its lines say.
-use Rattle.std.proofs.Common.{ℕ, Bool, List}
-use Rattle.vms_world.specs.Common.{Header, CounterId, CpuId, ItemId, PlaceId, WaterMark, ZoneSize, Shape, IsLayout}
-use Rattle.vms_world.specs.Common.{pages, ChangesLeave, Leaves, HasWon, IsFold, Verdict, IsPlaceValue, IsSnapshot}
-use Rattle.vms_world.specs.Common.{IsSystemValue, IsWatermarkTest, Item, Lane, Cpu, PageSteps, lanes_of, TableHistories}
+use Rattle.std.proofs.Common.{ℕ, List}
+use Rattle.vms_world.specs.Common.{Header, CpuId, ZoneSize}
+use Rattle.vms_world.specs.Common.{pages, HasWon}
+use Rattle.vms_world.specs.Common.{Item, Lane, Cpu, PageSteps, lanes_of, TableHistories}
 use Rattle.vms_world.specs.Common.{SpendTheirLines, page_facts, event_facts, pcpu_facts}
 use Rattle.vms_history.proofs.Common.{base_can_begin}
 use Rattle.vms_world.specs.declared.worlds.World.{World}
@@ -18,18 +18,7 @@ use Rattle.vms_file_order.proofs.PcpuVolumes.{pcpu-spend_lines}
 abbrev cpu : ℕ → CpuId
 cpu n = record { number = n }
 
-module _ (changes : ChangesLeave)
-    (place_value : (shape : Shape) (k : CounterId) → Leaves shape
-    (λ p h steps. (answer : ℕ) × IsPlaceValue k steps answer))
-    (system_value : (shape : Shape) (i : ItemId) → Leaves shape
-    (λ p h steps. (answer : ℕ) × IsSystemValue i steps answer))
-    (snapshot : (shape : Shape) (k : CounterId) → Leaves shape
-    (λ p h steps. (answer : ℕ) × IsSnapshot shape k steps answer))
-    (test : (header : Header) (g : PlaceId) (mark : WaterMark) (most : ℕ) → Leaves header.layout
-    (λ p h steps. (answer : Verdict) × IsWatermarkTest header g mark most steps answer))
-    (fold : (shape : Shape) (is_own : Bool) (c : CpuId) → IsLayout shape → Leaves shape
-    (λ p h steps. IsFold shape is_own c steps))
-    (pressure normal : ZoneSize → ℕ → ℕ → Type 0) (header : Header) (w : World) where
+module _ (pressure normal : ZoneSize → ℕ → ℕ → Type 0) (header : Header) (w : World) where
   pub SpendTheirLines-made : (items : List Item) (hs : TableHistories) →
       MakeInAnyOrder header pressure normal w items hs
       → SpendTheirLines header items hs
@@ -37,7 +26,7 @@ module _ (changes : ChangesLeave)
       let ls = lanes_of header.layout items in
       let once = StandOnce-lanes header.layout items in
       record {
-        pages = λ n k known. pages-spend_lines changes place_value system_value snapshot test fold header
+        pages = λ n k known. pages-spend_lines header
             (base_can_begin pages (page_facts header w) hs.pages makes.complete.pages.legal).layout w.pages pressure
             normal (cpu n) k ls once items (acts_of-apart header items (cpu n) known) hs.pages
             makes.complete.pages.legal makes.page_lanes makes.page_lines;
@@ -56,7 +45,7 @@ module _ (changes : ChangesLeave)
       let event = event_makes (event_facts header w) in
       let counter = pcpu_makes (pcpu_facts header w) in
       record {
-        pages = λ n k known. pages-spend_lines changes place_value system_value snapshot test fold header
+        pages = λ n k known. pages-spend_lines header
             (base_can_begin pages (page_facts header w) hs.pages opened.pages.legal).layout w.pages pressure normal
             (cpu n) k ls once items
             (acts_of-followed page_passes page HasWon ls items hs.pages opened.page_lines (Cpu (cpu n))) hs.pages

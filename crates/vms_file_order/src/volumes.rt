@@ -20,11 +20,7 @@ pub fn phases_spend_their_lines<R: ThresholdRules>()
         (hs : TableHistories)
         (now : TableStates) → StandOnce lanes → IsOpenPhase header R.pressure R.normal w lanes items hs now →
         SpendTheirLines header items hs }
-{
-    vms_calls::changes_spend_their_size();
-    vms_calls::looks_leave_their_caller();
-    vms_calls::folds_leave_their_caller();
-}
+{}
 
 /// Lines that fit a start fit the volumes of a world, if the start covers these, and so no CPU passes its volumes in a
 /// phase of them. What the start is after the lines covers the volumes of the world after the phase.

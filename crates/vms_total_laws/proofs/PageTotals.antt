@@ -1,5 +1,5 @@
 -- For other crates too: a phase moves the total of each page counter by the deltas of its lines.
-use Rattle.std.proofs.Common.{◌≡◌, ◌≢◌, ℕ, suc, nat_eq, Bool, ℤ, pos, negsuc, ◌+ℤ◌, List, [], ◌∷◌, ◌++◌, refl, ap, ◌∙◌}
+use Rattle.std.proofs.Common.{◌≡◌, ◌≢◌, ℕ, suc, nat_eq, Bool, ℤ, pos, negsuc, ◌+ℤ◌, List, [], ◌∷◌, ◌++◌, Option, Some, None, refl, ap, ◌∙◌}
 use Rattle.std.proofs.Common.{arith, if◌then◌else◌}
 use Rattle.std.proofs.lemmas.Int.{ints}
 use Rattle.std.proofs.lemmas.List.Elements.{All-head, All-tail}
@@ -17,32 +17,19 @@ use Rattle.vms_core.specs.Pages.{History, IsComplete, IsLegal, state_after}
 use Rattle.vms_core.specs.Steps.{role}
 use Rattle.vms_core.proofs.Common.{carried_by_all-none, laws-kept, changes-within_sizes}
 use Rattle.vms_text.specs.declared.acts.Act.TheVariants.{Mod, Inc, Dec, Dead}
+use Rattle.vms_calls.specs.PageCalls.{IsPageCall}
+use Rattle.vms_calls.specs.declared.page_calls.PageAnswer.{PageAnswer}
+use Rattle.vms_calls.specs.declared.page_calls.PageAnswer.TheVariants.{Done}
+use Rattle.vms_calls.specs.declared.page_calls.PageCall.{PageCall}
+use Rattle.vms_calls.specs.declared.page_calls.PageCall.TheVariants.{Change}
+use Rattle.vms_calls.proofs.PageCalls.{page-spends}
+use Rattle.vms_world.specs.Common.{owner_of, page_call}
+use Rattle.vms_world.proofs.PageActs.{act-by_call}
 use Rattle.vms_file_order.proofs.Common.{StandOnce-lanes}
 use Rattle.vms_total_laws.specs.Common.{AreLinesOf}
 use Rattle.vms_total_laws.proofs.KnownLines.{among-known, of_cpu-known}
 use Rattle.vms_total_laws.proofs.LaneSums.{of_cpu, worth_of_lines}
 use Rattle.vms_total_laws.proofs.PassSums.{all-lines}
-
--- no call but a change changes what its caller's own steps changed
-pub record CallsLeave (pressure normal : ZoneSize → ℕ → ℕ → Type 0) : Type 0 where
-  pub place_value : (shape : Shape) (k : CounterId) → Leaves shape
-      (λ p h steps. (answer : ℕ) × IsPlaceValue k steps answer)
-  pub system_value : (shape : Shape) (i : ItemId) → Leaves shape
-      (λ p h steps. (answer : ℕ) × IsSystemValue i steps answer)
-  pub snapshot : (shape : Shape) (k : CounterId) → Leaves shape
-      (λ p h steps. (answer : ℕ) × IsSnapshot shape k steps answer)
-  pub test : (header : Header) (g : PlaceId) (mark : WaterMark) (most : ℕ) → Leaves header.layout
-      (λ p h steps. (answer : Verdict) × IsWatermarkTest header g mark most steps answer)
-  pub fold : (shape : Shape) (is_own : Bool) (c : CpuId) → IsLayout shape → Leaves shape
-      (λ p h steps. IsFold shape is_own c steps)
-  pub under_pressure : (facts : Facts) (n : PlaceId) → Leaves facts.layout
-      (λ p h steps. SetsPressure facts pressure normal n p h steps)
-  pub as_normal : (facts : Facts) (n : PlaceId) → Leaves facts.layout
-      (λ p h steps. SetsNormal facts normal n p h steps)
-  pub burial : (facts : Facts) (c : CpuId) → IsLayout facts.layout → Leaves facts.layout
-      (λ p h steps. Buries facts normal c p h steps)
-  pub turn : (header : Header) (base : State) (n : PlaceId) (order most : ℕ) → Leaves header.layout
-      (λ p h steps. (answer : Balance) × IsTurn header base pressure normal n order most p h steps answer)
 
 module _ (k : ℕ) where
   -- a step that begins or ends a pass changes nothing
@@ -90,56 +77,42 @@ module _ (k : ℕ) where
         (after p loads g) in
         omega (arith, ints, in_parts, last, middle)
 
-module _ (pressure normal : ZoneSize → ℕ → ℕ → Type 0) (leave : CallsLeave pressure normal) (header : Header)
+-- what a call changes a counter by
+abbrev call_change : PageCall → ℕ → ℤ
+call_change (Change l delta how) k = if nat_eq l.number k then delta else pos 0
+call_change _ k = pos 0
+
+abbrev changed_by : Option PageCall → ℕ → ℤ
+changed_by (Some call) k = call_change call k
+changed_by None k = pos 0
+
+-- that is what the line says
+call-says : (k : ℕ) (lane : Lane) (a : Act) → changed_by (page_call lane a) k ≡ of_cpu (change_by k) lane a
+call-says k (Cpu c) (Mod l delta) = refl
+call-says k (Cpu c) (Inc l) = refl
+call-says k (Cpu c) (Dec l) = refl
+call-says k Control (Dead c) = refl
+call-says k _ _ = refl
+
+module _ (pressure normal : ZoneSize → ℕ → ℕ → Type 0) (header : Header)
     (is_layout : IsLayout header.layout) (base : State) (k : ℕ) where
-  -- what an act of a CPU's lane changes
-  cpu-act : (c : CpuId) (p : ℕ) (a : Act) (h : History) (steps : List Step)
-      → PageSteps header base pressure normal (Cpu c) p a h steps → (g : History)
-      → total (change_of k) (after p steps g) ≡ change_by k a +ℤ total (change_of k) g
-  cpu-act c p (Mod counter delta) h steps makes g = changed k header.layout counter p c delta Modify steps makes g
-  cpu-act c p (Inc counter) h steps makes g = changed k header.layout counter p c (pos 1) Raise steps makes g
-  cpu-act c p (Dec counter) h steps makes g = changed k header.layout counter p c (negsuc 0) Lower steps makes g
-  cpu-act c p (Fold d) h steps makes g =
-      still k p steps ((leave.fold header.layout (lane_owns (Cpu c) d) d is_layout p h steps makes []).changes k) g
-  cpu-act c p (Water zone mark most) h steps makes g =
-      still k p steps ((leave.test header zone mark most p h steps makes []).changes k) g
-  cpu-act c p (Val counter) h steps makes g =
-      still k p steps ((leave.place_value header.layout counter p h steps makes []).changes k) g
-  cpu-act c p (Snap counter) h steps makes g =
-      still k p steps ((leave.snapshot header.layout counter p h steps makes []).changes k) g
-  cpu-act c p (Sys item) h steps makes g =
-      still k p steps ((leave.system_value header.layout item p h steps makes []).changes k) g
-  cpu-act c p _ h steps makes g = still k p steps (ap (λ ks. total (change_size k) (after p ks [])) makes) g
+  call-worth : (call : PageCall) (owner : Option CpuId) (p : ℕ) (h : History) (steps : List Step) (told : PageAnswer)
+      → IsPageCall header base pressure normal call owner p h steps told → (g : History)
+      → total (change_of k) (after p steps g) ≡ call_change call k +ℤ total (change_of k) g
+  call-worth (Change l delta how) (Some own) p h steps Done is g = changed k header.layout l p own delta how steps is g
+  call-worth (Change l delta how) _ p h steps _ is g = absurd is
+  call-worth call owner p h steps told is g = still k p steps
+      ((page-spends pressure normal header base call owner p h steps told is_layout is []).changes k) g
 
-  -- no act of the control lane changes anything
-  control-act : (p : ℕ) (a : Act) (h : History) (steps : List Step)
-      → PageSteps header base pressure normal Control p a h steps → (g : History)
-      → total (change_of k) (after p steps g) ≡ pos 0 +ℤ total (change_of k) g
-  control-act p (Fold d) h steps makes g =
-      still k p steps ((leave.fold header.layout (lane_owns Control d) d is_layout p h steps makes []).changes k) g
-  control-act p (Water zone mark most) h steps makes g =
-      still k p steps ((leave.test header zone mark most p h steps makes []).changes k) g
-  control-act p (Val counter) h steps makes g =
-      still k p steps ((leave.place_value header.layout counter p h steps makes []).changes k) g
-  control-act p (Snap counter) h steps makes g =
-      still k p steps ((leave.snapshot header.layout counter p h steps makes []).changes k) g
-  control-act p (Sys item) h steps makes g =
-      still k p steps ((leave.system_value header.layout item p h steps makes []).changes k) g
-  control-act p (Pressure n) h steps makes g =
-      still k p steps ((leave.under_pressure (facts_of header base) n p h steps makes []).changes k) g
-  control-act p (Normal n) h steps makes g =
-      still k p steps ((leave.as_normal (facts_of header base) n p h steps makes []).changes k) g
-  control-act p (Dead c) h steps makes g =
-      still k p steps ((leave.burial (facts_of header base) c is_layout p h steps makes []).changes k) g
-  control-act p (Kswapd n order most) h steps makes g =
-      still k p steps ((leave.turn header base n order most p h steps makes []).changes k) g
-  control-act p _ h steps makes g = still k p steps (ap (λ ks. total (change_size k) (after p ks [])) makes) g
-
+  -- what an act changes
   act-worth : (lane : Lane) (p : ℕ) (a : Act) (h : History) (steps : List Step)
       → PageSteps header base pressure normal lane p a h steps → (g : History)
       → total (change_of k) (after p steps g) ≡ of_cpu (change_by k) lane a +ℤ total (change_of k) g
-  act-worth (Cpu c) p a h steps makes g = cpu-act c p a h steps makes g
-  act-worth Control p a h steps makes g = control-act p a h steps makes g
+  act-worth lane p a h steps makes g =
+      act-by_call header base pressure normal lane p a h steps (λ call ks. total (change_of k) (after p ks g)
+      ≡ changed_by call k +ℤ total (change_of k) g) (omega (arith, ints))
+      (λ call told on is. call-worth call (owner_of lane) p h steps told is g) makes
+      ∙ ap (λ z. z +ℤ total (change_of k) g) (call-says k lane a)
 
   -- on the control lane no line says a change
   none-of_control : (a : Act) → IsActOf header Control a → change_by k a ≡ pos 0

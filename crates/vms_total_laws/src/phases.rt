@@ -24,8 +24,5 @@ pub fn phases_add_their_lines<R: ThresholdRules>()
         AreNumbered items →
         CountersMoveBy header (answers_of header w items hs) items w (left_by header w items hs) }
 {
-    vms_calls::looks_leave_their_caller();
-    vms_calls::folds_leave_their_caller();
-    vms_calls::ratings_leave_their_caller::<R>();
     vms_event_core::complete_histories_hold_totals();
 }

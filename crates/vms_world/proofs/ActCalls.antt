@@ -1,5 +1,5 @@
 -- For other crates too: the call on the percpu counters that an act makes.
-use Rattle.std.proofs.Common.{◌≡◌, ◌≢◌, ℕ, ◌<◌, ◌^◌, ℤ, length, [], Option, Some, None, refl, sym, ap, subst, ◌∙◌}
+use Rattle.std.proofs.Common.{◌≡◌, ℕ, ◌<◌, ◌^◌, length, [], Option, Some, None, refl, sym, ap, subst, ◌∙◌}
 use Rattle.vms_calls.specs.Common.{Header, CpuId, PcpuId, ZoneSize, State, History}
 use Rattle.vms_event_core.specs.declared.steps.EventFacts.{EventFacts}
 use Rattle.vms_line.specs.Common.{IsActOf}
@@ -9,33 +9,13 @@ use Rattle.vms_pcpu_core.specs.Common.{IsOwnersCall, IsWithin, NamesKnown, pcpu_
 use Rattle.vms_script.specs.Common.{spent_on_pcpu}
 use Rattle.vms_text.specs.declared.acts.Act.{Act}
 use Rattle.vms_text.specs.declared.acts.Act.TheVariants.{Mod, Inc, Dec, Ev, Cnt, Lim, Cmp, Sum, Rough, Csync, EvSum}
-use Rattle.vms_text.specs.declared.acts.Act.TheVariants.{Fold, Water, Val, Snap, Sys, Dead}
-use Rattle.vms_text.specs.declared.acts.Lane.TheVariants.{Cpu, Control}
+use Rattle.vms_text.specs.declared.acts.Act.TheVariants.{Fold, Water, Val, Snap, Sys}
+use Rattle.vms_text.specs.declared.acts.Lane.TheVariants.{Cpu}
+use Rattle.vms_world.specs.Acts.{page_call}
 use Rattle.vms_world.specs.Common.{EventSteps, PageSteps, pcpu_call}
+use Rattle.vms_world.proofs.EventActs.{no_call-no_pages}
 
--- an act is none of those that make one
-pub record MakesNoPcpuCall (a : Act) : Type 0 where
-  pub no_cnt : (j : PcpuId) (amount : ℤ) → a ≢ Cnt j amount
-  pub no_lim : (j : PcpuId) (limit amount : ℤ) → a ≢ Lim j limit amount
-  pub no_cmp : (j : PcpuId) (rhs : ℤ) → a ≢ Cmp j rhs
-  pub no_sum : (j : PcpuId) → a ≢ Sum j
-  pub no_rough : (j : PcpuId) → a ≢ Rough j
-  pub no_csync : (j : PcpuId) → a ≢ Csync j
-
-pub no-call : (c : CpuId) (a : Act) → MakesNoPcpuCall a → pcpu_call (Cpu c) a ≡ None
-no-call c (Cnt j amount) none = absurd (none.no_cnt j amount refl)
-no-call c (Lim j limit amount) none = absurd (none.no_lim j limit amount refl)
-no-call c (Cmp j rhs) none = absurd (none.no_cmp j rhs refl)
-no-call c (Sum j) none = absurd (none.no_sum j refl)
-no-call c (Rough j) none = absurd (none.no_rough j refl)
-no-call c (Csync j) none = absurd (none.no_csync j refl)
-no-call c _ none = refl
-
-pub no_burial-no_call : (a : Act) → ((c : CpuId) → a ≢ Dead c) → pcpu_call Control a ≡ None
-no_burial-no_call (Dead c) none = absurd (none c refl)
-no_burial-no_call _ none = refl
-
--- it spends what the call may add
+-- an act spends what its call may add
 pub spent-call : (c : CpuId) (a : Act) (j : ℕ) → spent_on_pcpu j a ≡ spent_by_call (pcpu_call (Cpu c) a) j
 spent-call c (Cnt i amount) j = refl
 spent-call c (Lim i limit amount) j = refl
@@ -46,18 +26,23 @@ pub spent-by_call : (c : CpuId) (call : PcpuCall) (a : Act) → pcpu_call (Cpu c
 spent-by_call c call a is j = spent-call c a j ∙ ap (λ (made : Option PcpuCall). spent_by_call made j) is
 
 -- an act that makes one makes no step in the other tables
+pub call-no_page_call : (c : CpuId) (call : PcpuCall) (a : Act) → pcpu_call (Cpu c) a ≡ Some call
+    → page_call (Cpu c) a ≡ None
+call-no_page_call c call (Mod k delta) is = absurd cc
+call-no_page_call c call (Inc k) is = absurd cc
+call-no_page_call c call (Dec k) is = absurd cc
+call-no_page_call c call (Fold d) is = absurd cc
+call-no_page_call c call (Water g mark most) is = absurd cc
+call-no_page_call c call (Val k) is = absurd cc
+call-no_page_call c call (Snap k) is = absurd cc
+call-no_page_call c call (Sys i) is = absurd cc
+call-no_page_call c call _ is = refl
+
 pub call-no_pages : (header : Header) (base : State) (pressure normal : ZoneSize → ℕ → ℕ → Type 0) (c : CpuId) (p : ℕ)
     (h : History) (call : PcpuCall) (a : Act) → pcpu_call (Cpu c) a ≡ Some call
     → PageSteps header base pressure normal (Cpu c) p a h []
-call-no_pages header base pressure normal c p h call (Mod k delta) is = absurd cc
-call-no_pages header base pressure normal c p h call (Inc k) is = absurd cc
-call-no_pages header base pressure normal c p h call (Dec k) is = absurd cc
-call-no_pages header base pressure normal c p h call (Fold d) is = absurd cc
-call-no_pages header base pressure normal c p h call (Water g mark most) is = absurd cc
-call-no_pages header base pressure normal c p h call (Val k) is = absurd cc
-call-no_pages header base pressure normal c p h call (Snap k) is = absurd cc
-call-no_pages header base pressure normal c p h call (Sys i) is = absurd cc
-call-no_pages header base pressure normal c p h call _ is = refl
+call-no_pages header base pressure normal c p h call a is =
+    no_call-no_pages header base pressure normal (Cpu c) p a h (call-no_page_call c call a is)
 
 pub call-no_events : (facts : EventFacts) (c : CpuId) (call : PcpuCall) (a : Act) → pcpu_call (Cpu c) a ≡ Some call
     → EventSteps facts (Cpu c) a []

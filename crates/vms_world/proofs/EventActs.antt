@@ -1,5 +1,5 @@
 -- For other crates too: which acts make a call on the event counters, and what they spend there.
-use Rattle.std.proofs.Common.{◌≡◌, ◌≢◌, ℕ, pos, ◌+ℤ◌, List, [], Option, Some, None, refl, ap, subst, arith}
+use Rattle.std.proofs.Common.{◌≡◌, ◌≢◌, ℕ, pos, ◌+ℤ◌, List, [], Option, Some, None, refl, sym, ap, subst, arith}
 use Rattle.std.proofs.lemmas.Int.{ints}
 use Rattle.vms_calls.specs.Common.{Header, CpuId, ZoneSize, State, after}
 use Rattle.vms_base.specs.declared.ids.EventId.{EventId}
@@ -19,21 +19,11 @@ use Rattle.vms_text.specs.declared.acts.Act.{Act}
 use Rattle.vms_text.specs.declared.acts.Act.TheVariants.{Dead, Ev, EvSum}
 use Rattle.vms_text.specs.declared.acts.Lane.{Lane}
 use Rattle.vms_text.specs.declared.acts.Lane.TheVariants.{Control, Cpu}
-use Rattle.vms_world.specs.Common.{CallSteps, EventSteps, PageSteps, PcpuSteps, event_call}
+use Rattle.vms_world.specs.Common.{CallSteps, EventSteps, PageSteps, PcpuSteps, event_call, owner_of}
+use Rattle.vms_world.specs.Acts.{page_call}
+use Rattle.vms_calls.specs.PageCalls.{IsPageCall}
+use Rattle.vms_calls.specs.declared.page_calls.PageCall.{PageCall}
 use Rattle.vms_world.specs.Acts.{spent_by_call}
-
--- no other act makes one
-pub of_cpu-none : (c : CpuId) (a : Act) → ((k : EventId) (n : ℕ) → a ≢ Ev k n) → ((k : EventId) → a ≢ EvSum k)
-    → event_call (Cpu c) a ≡ None
-of_cpu-none c (Ev k n) no_count no_sum = absurd (no_count k n refl)
-of_cpu-none c (EvSum k) no_count no_sum = absurd (no_sum k refl)
-of_cpu-none c _ no_count no_sum = refl
-
-pub of_control-none : (a : Act) → ((k : EventId) → a ≢ EvSum k) → ((c : CpuId) → a ≢ Dead c)
-    → event_call Control a ≡ None
-of_control-none (EvSum k) no_sum no_burial = absurd (no_sum k refl)
-of_control-none (Dead c) no_sum no_burial = absurd (no_burial c refl)
-of_control-none _ no_sum no_burial = refl
 
 -- what a line says of an event is what the call of its act spends on it, and no act of the control lane says anything
 pub spent_on_event-call : (c : CpuId) (k : ℕ) (a : Act)
@@ -99,18 +89,30 @@ alone-no_burial (Cpu d) (Dead e) call is alone c same = absurd cc
 alone-no_burial Control (Dead e) call is alone c same = alone e cc
 alone-no_burial _ _ call is alone c same = cc
 
+-- an act that makes no call on the page counters makes no step there
+pub no_call-no_pages : (header : Header) (base : State) (pressure normal : ZoneSize → ℕ → ℕ → Type 0) (lane : Lane)
+    (p : ℕ) (a : Act) (h : pages.History) → page_call lane a ≡ None
+    → PageSteps header base pressure normal lane p a h []
+no_call-no_pages header base pressure normal lane p a h none =
+    subst (λ (call : Option PageCall).
+    CallSteps (λ made ks told. IsPageCall header base pressure normal made (owner_of lane) p h ks told) call [])
+    (sym none) refl
+
 -- and makes no step in the other tables
 module _ (lane : Lane) (a : Act) (call : EventCall) (on : event_call lane a ≡ Some call)
     (no_burial : (c : CpuId) → a ≢ Dead c) where
-  pub events-no_pages : (header : Header) (base : State) (pressure normal : ZoneSize → ℕ → ℕ → Type 0) (p : ℕ)
-      (h : pages.History) → PageSteps header base pressure normal lane p a h []
-  events-no_pages header base pressure normal p h = by lane a on no_burial
+  pub events-no_page_call : page_call lane a ≡ None
+  events-no_page_call = by lane a on no_burial
     where
-      by : (l : Lane) (b : Act) → event_call l b ≡ Some call → ((c : CpuId) → b ≢ Dead c)
-          → PageSteps header base pressure normal l p b h []
+      by : (l : Lane) (b : Act) → event_call l b ≡ Some call → ((c : CpuId) → b ≢ Dead c) → page_call l b ≡ None
       by (Cpu d) (Dead c) makes alone = absurd (alone c refl)
       by Control (Dead c) makes alone = absurd (alone c refl)
       by _ _ makes alone = cc
+
+  pub events-no_pages : (header : Header) (base : State) (pressure normal : ZoneSize → ℕ → ℕ → Type 0) (p : ℕ)
+      (h : pages.History) → PageSteps header base pressure normal lane p a h []
+  events-no_pages header base pressure normal p h =
+      no_call-no_pages header base pressure normal lane p a h events-no_page_call
 
   pub events-no_counters : (facts : PcpuFacts) → PcpuSteps facts lane a []
   events-no_counters facts = by lane a on no_burial

@@ -12,4 +12,5 @@ pub mod FirstWorlds
 pub mod PhaseEnds
 pub mod WayEnds
 pub mod ActCalls
+pub mod PageActs
 pub mod Common

@@ -1,11 +1,10 @@
 -- Which steps the act of a line makes in each table.
-use Rattle.std.specs.Prelude.{◌≡◌, ℕ, nat_eq, Bool, false, pos, negsuc, List, [], Option, Some, None}
+use Rattle.std.specs.Prelude.{◌≡◌, ℕ, Bool, pos, negsuc, List, [], Option, Some, None}
 use Rattle.vms_calls.specs.Common.{Header, CpuId, Mod as Modify, Inc as Raise, Dec as Lower, ZoneSize, State, Step}
-use Rattle.vms_calls.specs.Common.{IsChange, IsFold, facts_of, IsPlaceValue, IsSnapshot, IsSystemValue, IsWatermarkTest}
-use Rattle.vms_calls.specs.Common.{Buries, SetsNormal, SetsPressure, IsTurn}
+use Rattle.vms_calls.specs.PageCalls.{IsPageCall, owns_cpu}
+use Rattle.vms_calls.specs.declared.page_calls.PageCall.{PageCall}
+use Rattle.vms_calls.specs.declared.page_calls.PageCall.TheVariants as on_pages
 use Rattle.vms_core.specs.Pages as pages
-use Rattle.vms_calls.specs.declared.answers.Balance.{Balance}
-use Rattle.vms_calls.specs.declared.answers.Verdict.{Verdict}
 use Rattle.vms_event_core.specs.declared.call_values.EventCall.{EventCall}
 use Rattle.vms_event_core.specs.declared.call_values.EventCall.TheVariants.{Count, Sum as SumEvent}
 use Rattle.vms_event_core.specs.declared.call_values.EventCall.TheVariants.{FoldDead as FoldEvents}
@@ -24,32 +23,37 @@ use Rattle.vms_text.specs.declared.acts.Lane.{Lane}
 use Rattle.vms_text.specs.declared.acts.Lane.TheVariants.{Cpu, Control}
 use Rattle.vms_world.specs.Lanes.{owner_of}
 
+-- steps of the call that an act makes on a table, whatever it answers; an act that makes none there makes no step
+abbrev pub CallSteps : {C A K : Type 0} → (C → List K → A → Type 0) → Option C → List K → Type 0
+CallSteps IsCall None steps = steps ≡ []
+CallSteps {A = A} IsCall (Some call) steps = (answer : A) × IsCall call steps answer
+
 -- whether a lane's pass owns a CPU
 abbrev pub lane_owns : Lane → CpuId → Bool
-lane_owns (Cpu d) c = nat_eq d.number c.number
-lane_owns Control c = false
+lane_owns lane c = owns_cpu (owner_of lane) c
 
--- on the page counters of a phase from this state, by caller p, where the act begins in history h; what counts nothing
--- there makes no step
+-- the call that an act makes on the page counters, if it makes one
+abbrev pub page_call : Lane → Act → Option PageCall
+page_call lane (Fold c) = Some (on_pages.Fold c)
+page_call lane (Water g mark most) = Some (on_pages.Test g mark most)
+page_call lane (Val k) = Some (on_pages.Value k)
+page_call lane (Snap k) = Some (on_pages.Snapshot k)
+page_call lane (Sys i) = Some (on_pages.System i)
+page_call (Cpu c) (Mod k delta) = Some (on_pages.Change k delta Modify)
+page_call (Cpu c) (Inc k) = Some (on_pages.Change k (pos 1) Raise)
+page_call (Cpu c) (Dec k) = Some (on_pages.Change k (negsuc 0) Lower)
+page_call Control (Pressure n) = Some (on_pages.SetPressure n)
+page_call Control (Normal n) = Some (on_pages.SetNormal n)
+page_call Control (Dead c) = Some (on_pages.Bury c)
+page_call Control (Kswapd n order most) = Some (on_pages.Turn n order most)
+page_call _ _ = None
+
+-- on the page counters of a phase from this state, by caller p, where the act begins in history h
 abbrev pub PageSteps : Header → State → (pressure normal : ZoneSize → ℕ → ℕ → Type 0) → Lane → ℕ → Act → pages.History
     → List Step → Type 0
-PageSteps header base pressure normal (Cpu c) p (Mod k delta) h steps = IsChange header.layout c k delta Modify steps
-PageSteps header base pressure normal (Cpu c) p (Inc k) h steps = IsChange header.layout c k (pos 1) Raise steps
-PageSteps header base pressure normal (Cpu c) p (Dec k) h steps = IsChange header.layout c k (negsuc 0) Lower steps
-PageSteps header base pressure normal lane p (Fold c) h steps = IsFold header.layout (lane_owns lane c) c steps
-PageSteps header base pressure normal lane p (Water g mark most) h steps =
-    (answer : Verdict) × IsWatermarkTest header g mark most steps answer
-PageSteps header base pressure normal lane p (Val k) h steps = (answer : ℕ) × IsPlaceValue k steps answer
-PageSteps header base pressure normal lane p (Snap k) h steps = (answer : ℕ) × IsSnapshot header.layout k steps answer
-PageSteps header base pressure normal lane p (Sys i) h steps = (answer : ℕ) × IsSystemValue i steps answer
-PageSteps header base pressure normal Control p (Pressure n) h steps =
-    SetsPressure (facts_of header base) pressure normal n p h steps
-PageSteps header base pressure normal Control p (Normal n) h steps =
-    SetsNormal (facts_of header base) normal n p h steps
-PageSteps header base pressure normal Control p (Dead c) h steps = Buries (facts_of header base) normal c p h steps
-PageSteps header base pressure normal Control p (Kswapd n order most) h steps =
-    (answer : Balance) × IsTurn header base pressure normal n order most p h steps answer
-PageSteps header base pressure normal _ p _ h steps = steps ≡ []
+PageSteps header base pressure normal lane p act h steps =
+    CallSteps (λ call ks told. IsPageCall header base pressure normal call (owner_of lane) p h ks told)
+    (page_call lane act) steps
 
 -- the call that an act makes on the event counters, if it makes one
 abbrev pub event_call : Lane → Act → Option EventCall
@@ -57,11 +61,6 @@ event_call (Cpu c) (Ev k n) = Some (Count k n)
 event_call lane (EvSum k) = Some (SumEvent k)
 event_call Control (Dead c) = Some (FoldEvents c)
 event_call _ _ = None
-
--- steps of the call that an act makes on a table, whatever it answers; an act that makes none there makes no step
-abbrev pub CallSteps : {C A K : Type 0} → (C → List K → A → Type 0) → Option C → List K → Type 0
-CallSteps IsCall None steps = steps ≡ []
-CallSteps {A = A} IsCall (Some call) steps = (answer : A) × IsCall call steps answer
 
 -- what the call of an act spends on a thing of a table
 abbrev pub spent_by_call : {C : Type 0} → (C → ℕ → ℕ) → Option C → ℕ → ℕ

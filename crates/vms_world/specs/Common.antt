@@ -183,4 +183,5 @@ pub use Rattle.vms_world.specs.Lanes.{HasLanes, MakesActs, MakesLines, acts_of, 
 pub use Rattle.vms_world.specs.Lanes.{lanes_below, lanes_of, owner_of}
 pub use Rattle.vms_world.specs.Lanes.MakesActs.{act}
 pub use Rattle.vms_world.specs.Acts.{CallSteps, EventSteps, PageSteps, PcpuSteps, event_call, lane_owns, pcpu_call}
+pub use Rattle.vms_world.specs.Acts.{page_call}
 pub use Rattle.vms_world.specs.PhaseLines.{IsWorldPhase, IsWorldRun, SegmentsLead}

@@ -2,13 +2,11 @@
 //! boundaries make of them.
 #![tactic(auto)]
 
-mod act_calls;
 mod acts;
 mod laws;
 mod worlds;
 
-pub use act_calls::pcpu_call;
-pub use acts::event_call;
+pub use acts::{event_call, page_call, pcpu_call};
 pub use laws::{
     boundaries_keep_totals, boundaries_keep_worlds, phases_keep_worlds, runs_keep_worlds,
     starts_make_worlds,

@@ -13,21 +13,8 @@ pub returns : goal.returns
 returns g c =
     let pressure = g.R.ThresholdRules.pressure in
     let normal = g.R.ThresholdRules.normal in
-    let looks = c.looks_leave_their_caller.ensures in
-    let ratings = c.ratings_leave_their_caller.ensures in
     record {
       pages = λ header w items hs makes known k k_in. pages-add_lines pressure normal
-          (record {
-            place_value = looks.place_value;
-            system_value = looks.system_value;
-            snapshot = looks.snapshot;
-            test = looks.test;
-            fold = c.folds_leave_their_caller.ensures;
-            under_pressure = ratings.pressure;
-            as_normal = ratings.normal;
-            burial = ratings.burial;
-            turn = ratings.turn;
-          })
           header (base_can_begin pages (page_facts header w) hs.pages makes.complete.pages.legal).layout w.pages k items
           known hs.pages makes.complete.pages makes.page_lanes makes.page_lines k_in;
       events = λ header w items hs makes known k k_in.
