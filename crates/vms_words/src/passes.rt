@@ -92,6 +92,10 @@ pub trait Caller {
         ensures cpu { result ≡ (pass self.now).cpu }
         ensures live { IsLive pages (pass self.now) };
 
+    /// What holds of a pass at any time: it lives in the legal history that it has seen.
+    fn is_live(&self)
+        ensures { IsLive pages (pass self.now) };
+
     /// Loads a word.
     fn load_at(&mut self, words: &Words<SharedPages>, place: usize, plan: &Step) -> u64
         requires words { IsFrom (pass self.old) words.now }
@@ -161,9 +165,12 @@ impl Caller for CpuPass {
 
     #[inline]
     fn own(&self) -> Option<CpuId> {
-        // The pass is known to live once its worker is asked for the CPU.
-        let _ = self.worker.cpu();
-        Some(self.cpu)
+        Some(self.cpu())
+    }
+
+    #[inline]
+    fn is_live(&self) {
+        self.worker.is_live();
     }
 
     #[inline]
@@ -196,6 +203,11 @@ impl Caller for ControlPass {
     #[inline]
     fn own(&self) -> Option<CpuId> {
         self.worker.cpu()
+    }
+
+    #[inline]
+    fn is_live(&self) {
+        self.worker.is_live();
     }
 
     #[inline]

@@ -100,7 +100,6 @@ impl Blocks {
         requires cpu { IsCpu layout.now cpu.number }
         ensures { result ≡ groups_start layout.now cpu.number }
     {
-        let _ = layout;
         cell_from(self.groups, self.groups_each, cpu, 0)
     }
 
