@@ -22,7 +22,7 @@ impl AnyEventPass for EventPass {
     ghost pass = { λ p. p.pass };
 
     fn has_seen_legal(&self) {
-        let _ = self.own();
+        self.is_live();
     }
 }
 

@@ -55,7 +55,7 @@ impl EventControl {
     pub fn is_control(&self)
         ensures { IsIdleControl self.now }
     {
-        let _ = &self.worker;
+        self.worker.is_live();
     }
 }
 
@@ -122,6 +122,10 @@ pub trait EventCaller: Works<SharedEvents> {
         ensures cpu { result ≡ (Self.pass self.now).cpu }
         ensures live { IsLive events (Self.pass self.now) };
 
+    /// What holds of a pass at any time: it lives in the legal history that it has seen.
+    fn is_live(&self)
+        ensures { IsLive events (Self.pass self.now) };
+
     /// Loads a word, and leaves the volumes.
     fn load(&mut self, words: &Words<SharedEvents>, place: usize, plan: &EventStep) -> u64
         requires words { IsFrom (Self.pass self.old) words.now }
@@ -148,6 +152,11 @@ impl EventCaller for EventPass {
     }
 
     #[inline]
+    fn is_live(&self) {
+        self.worker.is_live();
+    }
+
+    #[inline]
     fn load(&mut self, words: &Words<SharedEvents>, place: usize, plan: &EventStep) -> u64 {
         self.worker.load_at(words, place, plan)
     }
@@ -160,8 +169,12 @@ impl EventCaller for EventControl {
 
     #[inline]
     fn own(&self) -> Option<CpuId> {
-        let _ = &self.worker;
-        None
+        self.worker.cpu()
+    }
+
+    #[inline]
+    fn is_live(&self) {
+        self.worker.is_live();
     }
 
     #[inline]

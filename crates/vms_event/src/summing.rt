@@ -22,7 +22,7 @@ impl EventTable {
             × Made events (P.pass pass.new) (P.pass pass.old) steps }
         ensures volume { P.volume pass.new ≡ P.volume pass.old }
     {
-        let _ = pass.own();
+        pass.is_live();
         let mut sum = 0;
         for (number, state) in self.facts.cpus.as_slice().iter().enumerate() {
             let cpu = CpuId {

@@ -9,7 +9,7 @@ use Rattle.vms_event.proofs.tables.EventTable.all_events.Goals as goal
 
 pub loop-number-init : goal.loop-number-init
 loop-number-init g c =
-    (so_far-none c.args.self.now.facts c.args.event (g.P.Works.pass c.args.pass.now) c.own.ensures.live, refl)
+    (so_far-none c.args.self.now.facts c.args.event (g.P.Works.pass c.args.pass.now) c.is_live.ensures, refl)
 
 pub overflow_add-sum : goal.overflow_add-sum
 overflow_add-sum g c =
