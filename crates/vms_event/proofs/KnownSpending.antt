@@ -1,4 +1,4 @@
--- What a pass that owns a CPU knows of its counts, whatever others do.
+-- For other crates too: what a pass that owns a CPU knows of its counts, whatever others do.
 use Rattle.std.proofs.Common.{◌≡◌, ℕ, ◌<◌, ◌≤◌, true, List, [], ◌∷◌, ◌++◌, Option, Some, None, refl, ap, sym, ◌∙◌}
 use Rattle.std.proofs.Common.{subst, arith}
 use Rattle.vms_history.specs.Common.{CpuId, own, GoesOnWithout, HasMade, begun_in, lives_in, owner_in, IsFree}
@@ -10,7 +10,7 @@ use Rattle.vms_event_core.specs.Common.{events, History, IsLegal, role, spent, s
 use Rattle.vms_event_core.proofs.Common.{spending-known, spent_by-others}
 use Rattle.vms_event.specs.Common.{HoldsSpending, IsCpuPass, SpendsNothing}
 use Rattle.vms_seats.specs.Common.{HasBegun, next_number, Pass, MadeOne}
-use Rattle.vms_seats.proofs.Common.{calls-live}
+use Rattle.vms_seats.proofs.Common.{begun-keeps, calls-live}
 
 module _ (pass : Pass EventFacts EventStep) (h : History)
     (goes : GoesOnWithout events pass.facts h pass.seen pass.number) where
@@ -40,7 +40,7 @@ module _ (pass : Pass EventFacts EventStep) (h : History)
       cpu k owns
 
 -- while nobody owns a CPU, nobody counts for it
-spent-free : (facts : EventFacts) (h : History) (cpu : CpuId) → IsFree role h (Some cpu) → (m : History)
+pub spent-free : (facts : EventFacts) (h : History) (cpu : CpuId) → IsFree role h (Some cpu) → (m : History)
     → IsLegal facts (m ++ h) → own m 0 ≡ [] → (k : ℕ) → spent (m ++ h) cpu.number k ≡ spent h cpu.number k
 spent-free facts h cpu free =
     holds_while_free events facts h (Some cpu) free
@@ -50,7 +50,7 @@ spent-free facts h cpu free =
     omega (arith, none, same k))
     (λ k. refl)
 
-split-spends_nothing : (o who : Option CpuId) (q c k : ℕ) → spent_by o c k (Split q who) ≡ 0
+pub split-spends_nothing : (o who : Option CpuId) (q c k : ℕ) → spent_by o c k (Split q who) ≡ 0
 split-spends_nothing (Some d) who q c k = refl
 split-spends_nothing None who q c k = refl
 
@@ -67,22 +67,14 @@ begun-covers new old pass cpu volume begun free covers = record {
   };
 }
   where
-    h : History
-    h = begun.made.before
-
-    m : History
-    m = begun.made.extends.0
-
-    legal_before : IsLegal old.facts h
-    legal_before = (subst (IsLegal old.facts) begun.made.newest begun.made.legal).0
-
     spent_is : (k : ℕ) → spent pass.seen cpu.number k ≡ spent old.seen cpu.number k
-    spent_is k = ap (λ g. spent g cpu.number k) (begun.seen ∙ begun.made.newest)
-        ∙ (let split = split-spends_nothing (owner_in role h 0) (Some cpu) (next_number events old.seen) cpu.number k in
+    spent_is k =
+        ap (λ g. spent g cpu.number k) begun.seen
+        ∙ begun-keeps events Split new old pass (Some cpu) begun (λ g. spent g cpu.number k)
+        (λ h. let split = split-spends_nothing (owner_in role h 0) (Some cpu) (next_number events old.seen) cpu.number
+        k in
         omega (arith, split))
-        ∙ ap (λ g. spent g cpu.number k) begun.made.extends.1
-        ∙ spent-free old.facts old.seen cpu free m (subst (IsLegal old.facts) begun.made.extends.1 legal_before)
-        (own-on_top m old.seen 0 [] (ap (λ g. own g 0) (sym begun.made.extends.1) ∙ begun.made.own_same)) k
+        (λ m legal none. spent-free old.facts old.seen cpu free m legal none k)
 
 -- a pass that owns a CPU, after a step that spends nothing
 pub covers-left : (pass : Pass EventFacts EventStep) (cpu : CpuId) (volume : List ℕ) → IsCpuPass pass cpu volume

@@ -4,3 +4,4 @@ pub mod OwnCounts
 pub mod LoadedWords
 pub mod KeptControl
 pub mod MovedWords
+pub mod Common

@@ -2,13 +2,14 @@
 use Rattle.std.proofs.Common.{◌≡◌, ◌≢◌, ℕ, Bool, true, false, nat_eq, List, [], ◌++◌, Option, Some, None, ℤ, refl, ap}
 use Rattle.std.proofs.Common.{sym, ◌∙◌, subst, arith, eqb-true}
 use Rattle.vms_history.specs.Common.{CpuId, own, owner_in, IsFree}
-use Rattle.vms_history.proofs.Common.{holds_while_free, own-on_top}
+use Rattle.vms_history.proofs.Common.{holds_while_free}
 use Rattle.vms_pcpu_core.specs.declared.steps.PcpuFacts.{PcpuFacts}
 use Rattle.vms_pcpu_core.specs.declared.steps.PcpuStep.{PcpuStep}
 use Rattle.vms_pcpu_core.specs.declared.steps.PcpuStep.TheVariants.{Split}
 use Rattle.vms_pcpu_core.specs.Common.{percpu, History, IsLegal, carried, IsIdle, role, is_owned, spent, spent_by}
 use Rattle.vms_pcpu.specs.Common.{HoldsSpending, IsReady, IsCpuPass}
 use Rattle.vms_seats.specs.Common.{HasBegun, next_number, Pass}
+use Rattle.vms_seats.proofs.Common.{begun-keeps}
 
 -- a pass that owns another CPU, or none, spends nothing of this one
 spent-elsewhere : (who : Option CpuId) (cpu : CpuId) → who ≢ Some cpu → (j : ℕ) (carrying : ℤ) (step : PcpuStep)
@@ -65,20 +66,11 @@ begun-owns new old pass cpu volume begun free holds = record {
   });
 }
   where
-    h : History
-    h = begun.made.before
-
-    m : History
-    m = begun.made.extends.0
-
-    legal_before : IsLegal old.facts h
-    legal_before = (subst (IsLegal old.facts) begun.made.newest begun.made.legal).0
-
     spent_is : (j : ℕ) → spent pass.seen cpu.number j ≡ spent old.seen cpu.number j
-    spent_is j = ap (λ g. spent g cpu.number j) (begun.seen ∙ begun.made.newest)
-        ∙ (let nothing = split-spends_nothing (Some cpu) (owner_in role h 0) (next_number percpu old.seen) cpu.number j
-        (carried j (own h 0)) in
+    spent_is j =
+        ap (λ g. spent g cpu.number j) begun.seen
+        ∙ begun-keeps percpu Split new old pass (Some cpu) begun (λ g. spent g cpu.number j)
+        (λ h. let nothing = split-spends_nothing (Some cpu) (owner_in role h 0) (next_number percpu old.seen) cpu.number
+        j (carried j (own h 0)) in
         omega (arith, nothing))
-        ∙ ap (λ g. spent g cpu.number j) begun.made.extends.1
-        ∙ spent-free old.facts old.seen cpu free m (subst (IsLegal old.facts) begun.made.extends.1 legal_before)
-        (own-on_top m old.seen 0 [] (ap (λ g. own g 0) (sym begun.made.extends.1) ∙ begun.made.own_same)) j
+        (λ m legal none. spent-free old.facts old.seen cpu free m legal none j)
