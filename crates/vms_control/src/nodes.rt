@@ -116,8 +116,7 @@ fn visit_node<N: Rule, P: Rule>(
     ensures sets { SetsAtMost table.now.facts (once 0 (length table.now.facts.layout.zones))
         (once 0 (length table.now.facts.layout.zones)) pass.new.seen pass.old.seen }
 {
-    // The pass is known to live once it is asked for its CPU.
-    let _ = pass.own();
+    pass.is_live();
     control_passes_know_by_own_steps();
     let layout = table.layout();
     let number = layout.nodes()[node.number as usize - layout.zones().len()];

@@ -62,8 +62,7 @@ pub(crate) fn load_online(table: &PageTable, pass: &mut ControlPass) -> OnlineCp
         × (result ≡ online_from 0 states) × Made pages pass.new pass.old (in_turn state_steps 0 states) }
     ensures found { FoundOnline table.now.facts result }
 {
-    // The pass is known to live once it is asked for its CPU.
-    let _ = pass.own();
+    pass.is_live();
     let mut online = OnlineCpus::none();
     for number in 0..table.layout().cpus() {
         let cpu = CpuId { number };

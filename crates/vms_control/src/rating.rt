@@ -40,8 +40,7 @@ pub(crate) fn rate(
     ensures sets { SetsAtMost table.now.facts (once zone.number (suc zone.number))
         (once zone.number (suc zone.number)) pass.new.seen pass.old.seen }
 {
-    // The pass is known to live once it is asked for its CPU.
-    let _ = pass.own();
+    pass.is_live();
     let hidden = hidden_under(table, pass, zone, online, chosen.threshold);
     let linux = linux_mark(size, online.len() as u32, chosen.usual);
     mark_zone(table, pass, zone, found, cover_mark(size, linux, hidden));
@@ -64,8 +63,7 @@ fn hidden_under(
         (after pass.now.number (threshold_steps zone.number threshold online.now) pass.now.seen) }
     ensures most { result ≤ 128 * 125 }
 {
-    // The pass is known to live once it is asked for its CPU.
-    let _ = pass.own();
+    pass.is_live();
     let mut hidden = table.peak_sum(pass, zone);
     for cpu in online {
         hidden += u64::from(threshold).saturating_sub(table.peak(pass, *cpu, zone));
@@ -83,8 +81,7 @@ fn mark_zone(table: &PageTable, pass: &mut ControlPass, zone: PlaceId, found: u6
     ensures made { Made pages pass.new pass.old (mark_steps zone.number found mark) }
     ensures sets { SetsAtMost table.now.facts never (once zone.number (suc zone.number)) pass.new.seen pass.old.seen }
 {
-    // The pass is known to live once it is asked for its CPU.
-    let _ = pass.own();
+    pass.is_live();
     if mark != found {
         table.set_mark(pass, zone, mark);
     }
@@ -110,8 +107,7 @@ pub(crate) fn set_thresholds(
     ensures sets { SetsAtMost table.now.facts (once place.number (suc place.number)) never
         pass.new.seen pass.old.seen }
 {
-    // The pass is known to live once it is asked for its CPU.
-    let _ = pass.own();
+    pass.is_live();
     for cpu in online {
         table.set_threshold(pass, *cpu, place, threshold);
     }

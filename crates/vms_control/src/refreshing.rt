@@ -71,8 +71,7 @@ fn visit_all<N: Rule, P: Rule>(
     ensures most { (g : ℕ) → g < length table.now.facts.layout.zones →
         slice_index_or result.items g 0 ≤ most_threshold }
 {
-    // The pass is known to live once it is asked for its CPU.
-    let _ = pass.own();
+    pass.is_live();
     control_passes_know_by_own_steps();
     let mut thresholds = ArrayVec::new();
     for zone in 0..table.layout().zones().len() {
@@ -102,8 +101,7 @@ fn set_nodes(table: &PageTable, pass: &mut ControlPass, online: &[CpuId], thresh
         (once (length table.now.facts.layout.zones) (place_count table.now.facts.layout)) never
         pass.new.seen pass.old.seen }
 {
-    // The pass is known to live once it is asked for its CPU.
-    let _ = pass.own();
+    pass.is_live();
     let layout = table.layout();
     let zones = layout.zones().len();
     for number in zones as u32..layout.places() {

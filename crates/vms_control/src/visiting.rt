@@ -60,8 +60,7 @@ fn load_acknowledged(table: &PageTable, pass: &mut ControlPass, zone: PlaceId, o
         × Made pages pass.new pass.old (acknowledged_steps zone.number online.now numbers) }
     ensures control { IsControl pass.old.seen pass.old.number }
 {
-    // The pass is known to live once it is asked for its CPU.
-    let _ = pass.own();
+    pass.is_live();
     for cpu in online {
         table.load_acknowledged(pass, *cpu, zone);
     }

@@ -17,7 +17,7 @@ loop-zone-init g c = record {
   visited = (
     [],
     visited-none c.args.table.now c.args.pass.now (g.P.Rule.answers c.args.rules.now.pressure)
-        (g.N.Rule.answers c.args.rules.now.normal) c.args.rating c.args.online.now c.own.ensures.live,
+        (g.N.Rule.answers c.args.rules.now.normal) c.args.rating c.args.online.now c.is_live.ensures,
   );
   control = λ z below on. absurd (omega arith);
 }
@@ -95,7 +95,7 @@ returns-clause-control g c =
     let shape = c.args.table.now.facts.layout in
     let old = c.args.pass.now in
     let laid = c.layout-layout.ensures in
-    let base = subst IsBase c.requires.table.facts (base_can_begin pages old.facts old.seen c.own.ensures.live.legal) in
+    let base = subst IsBase c.requires.table.facts (base_can_begin pages old.facts old.seen c.is_live.ensures.legal) in
     let same = ap length c.zones-zone-end.ensures.value ∙ ap (λ (s : Shape). length s.zones) laid in
     let past : length shape.zones ≤ c.loop-zone.zone = omega (arith, c.loop-zone-test.false, same) in
     node-tells shape base.layout c.args.node c.requires.node (IsControl old.seen old.number)

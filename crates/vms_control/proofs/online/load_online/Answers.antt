@@ -47,9 +47,9 @@ returns-clause-found c =
     ) in
     found-all words.facts c.loop-number.pass c.args.pass.now c.loop-number.number c.loop-number.online
     (subst IsBase c.requires.table.facts (base_can_begin pages c.args.pass.now.facts c.args.pass.now.seen
-    c.own.ensures.live.legal)) c.loop-number.invariant all
+    c.is_live.ensures.legal)) c.loop-number.invariant all
 
 pub loop-number-init : goal.loop-number-init
 loop-number-init c =
     subst (FoundSoFar c.args.table.now.facts c.args.pass.now c.args.pass.now 0) (sym c.none-online.ensures)
-    (found-none c.args.table.now.facts c.args.pass.now c.own.ensures.live)
+    (found-none c.args.table.now.facts c.args.pass.now c.is_live.ensures)

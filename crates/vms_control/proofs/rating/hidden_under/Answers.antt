@@ -18,7 +18,7 @@ loop-cpu-preserved c =
     let t = c.args.threshold in
     let i = c.loop-cpu.cpu-index in
     let online = c.args.online.now in
-    let legal = subst (λ f. IsLegal f seen) c.requires.table.facts c.own.ensures.live.legal in
+    let legal = subst (λ f. IsLegal f seen) c.requires.table.facts c.is_live.ensures.legal in
     let more : c.saturating_sub-hidden.result ≡ t - peak facts (cpu_number_in online i) g seen =
     c.saturating_sub-hidden.ensures
     ∙ ap (λ (n : ℕ). n - c.peak.result) c.from.ensures ∙ ap (λ (n : ℕ). t - n) c.peak.ensures in
@@ -30,7 +30,7 @@ pub overflow_add-hidden : goal.overflow_add-hidden
 overflow_add-hidden c =
     let facts = c.args.table.now.facts in
     let seen = c.args.pass.now.seen in
-    let legal = subst (λ f. IsLegal f seen) c.requires.table.facts c.own.ensures.live.legal in
+    let legal = subst (λ f. IsLegal f seen) c.requires.table.facts c.is_live.ensures.legal in
     let base = base_can_begin pages facts seen legal in
     let place : IsPlace facts.layout c.args.zone.number = omega (arith, c.requires.zone) in
     let most = sum-most facts c.args.pass.now.number c.args.zone.number c.args.threshold c.requires.most
@@ -49,7 +49,7 @@ pub returns-clause-most : goal.returns-clause-most
 returns-clause-most c =
     let facts = c.args.table.now.facts in
     let seen = c.args.pass.now.seen in
-    let legal = subst (λ f. IsLegal f seen) c.requires.table.facts c.own.ensures.live.legal in
+    let legal = subst (λ f. IsLegal f seen) c.requires.table.facts c.is_live.ensures.legal in
     let base = base_can_begin pages facts seen legal in
     let place : IsPlace facts.layout c.args.zone.number = omega (arith, c.requires.zone) in
     let most = sum-most facts c.args.pass.now.number c.args.zone.number c.args.threshold c.requires.most

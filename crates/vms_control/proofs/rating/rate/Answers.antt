@@ -6,7 +6,7 @@ use Rattle.vms_control.proofs.rating.rate.Goals as goal
 
 pub mark_zone-requires-clause-sets : goal.mark_zone-requires-clause-sets
 mark_zone-requires-clause-sets c =
-    may-mark c.args.table.now c.args.pass.now c.requires.table c.own.ensures.live c.requires.control
+    may-mark c.args.table.now c.args.pass.now c.requires.table c.is_live.ensures c.requires.control
     c.args.online.now c.requires.online c.args.zone.number c.args.chosen.threshold c.args.chosen.usual c.args.found
     c.requires.zone c.requires.found c.requires.least c.requires.most c.requires.least_usual c.requires.usual
     c.cover_mark.result
@@ -23,7 +23,7 @@ set_thresholds-requires-clause-control c =
 
 pub set_thresholds-requires-clause-may : goal.set_thresholds-requires-clause-may
 set_thresholds-requires-clause-may c =
-    may-thresholds c.args.table.now c.args.pass.now c.requires.table c.own.ensures.live c.requires.control
+    may-thresholds c.args.table.now c.args.pass.now c.requires.table c.is_live.ensures c.requires.control
     c.args.online.now c.requires.online c.args.zone.number c.args.chosen.threshold c.args.chosen.usual c.args.found
     c.requires.zone c.requires.found c.requires.least c.requires.most c.requires.least_usual c.requires.usual
     c.cover_mark.result
@@ -35,7 +35,7 @@ set_thresholds-requires-clause-may c =
 
 pub returns-clause-made : goal.returns-clause-made
 returns-clause-made c =
-    rated c.args.table.now c.args.pass.now c.requires.table c.own.ensures.live c.requires.control
+    rated c.args.table.now c.args.pass.now c.requires.table c.is_live.ensures c.requires.control
     c.args.online.now c.requires.online c.args.zone.number c.args.chosen.threshold c.args.chosen.usual c.args.found
     c.requires.zone c.requires.found c.requires.least c.requires.most c.requires.least_usual c.requires.usual
     c.cover_mark.result

@@ -13,7 +13,7 @@ loop-zone-init g c = record {
       (g.P.Rule.answers c.args.rules.now.pressure) (g.N.Rule.answers c.args.rules.now.normal) Refresh c.args.online.now
       [] ts 0 c.args.pass.now) (sym c.new-thresholds.ensures)
       (visited-none c.args.table.now c.args.pass.now (g.P.Rule.answers c.args.rules.now.pressure)
-      (g.N.Rule.answers c.args.rules.now.normal) Refresh c.args.online.now c.own.ensures.live);
+      (g.N.Rule.answers c.args.rules.now.normal) Refresh c.args.online.now c.is_live.ensures);
   control = λ none. absurd (omega arith);
   length = ap length c.new-thresholds.ensures;
   least = λ n below. absurd (omega arith);
