@@ -1,12 +1,13 @@
 ghost use Rattle.std.specs.Prelude.{◌≡◌, ◌+◌, ◌<◌, ◌≤◌, ◌↔◌, List, slice_index_or, slice_set, unsigned_abs, IsErr};
-ghost use Rattle.std.specs.Prelude.{OnOk, OnErr, IfErr, pos, negsuc};
-ghost use Rattle.vms_calls.specs.Common.{Inc, Dec, IsCounter, most_volume, own, Carries, Step, CarriesNothing, pages};
+ghost use Rattle.std.specs.Prelude.{OnOk, OnErr, IfErr, Some, pos, negsuc};
+ghost use Rattle.vms_calls.specs.Common.{Inc, Dec, IsCounter, IsCpu, most_volume, own, Carries, Step, CarriesNothing};
+ghost use Rattle.vms_calls.specs.Common.{pages};
 ghost use Rattle.vms_seats.specs.Common.{IsFrom, Made};
 ghost use Rattle.vms_count.specs.Changing.{GoesWith, HasChanged, CarriesFor, HasLoaded, HasExchanged};
 
 use crate::counters::{item_of, place_of};
-use vms_base::{CounterId, Mode, Overflow};
-use vms_words::{CpuPass, PackedDiffs, PageTable, PutDone};
+use vms_base::{CounterId, CpuId, Mode, Overflow};
+use vms_words::{Caller, CpuPass, PackedDiffs, PageTable, PutDone};
 
 /// What one CPU may change a counter by over a run, in absolute sum.
 const MOST_VOLUME: u64 = 1 << 48;
@@ -57,10 +58,10 @@ fn change(table: &PageTable, pass: &mut CpuPass, counter: CounterId, delta: i64,
         (slice_index_or pass.old.volume counter.number 0 + unsigned_abs delta) }
     ensures carries { CarriesNothing table.now.facts.layout (own pass.new.pass.seen pass.new.pass.number) }
 {
-    let _ = pass.cpu();
+    let cpu = pass.cpu();
     let place = place_of(table.layout(), counter);
     let threshold = table.load_threshold(pass, place).t;
-    let amount = exchange(table, pass, counter, threshold, delta, mode);
+    let amount = exchange(table, pass, cpu, counter, threshold, delta, mode);
     carry(table, pass, counter, amount);
 }
 
@@ -69,12 +70,15 @@ fn change(table: &PageTable, pass: &mut CpuPass, counter: CounterId, delta: i64,
 fn exchange(
     table: &PageTable,
     pass: &mut CpuPass,
+    cpu: CpuId,
     counter: CounterId,
     threshold: u32,
     delta: i64,
     mode: Mode,
 ) -> i64
     requires table { IsFrom pass.old.pass table.now }
+    requires owns { pass.old.pass.cpu ≡ Some cpu }
+    requires cpu { IsCpu table.now.facts.layout cpu.number }
     requires counter { IsCounter table.now.facts.layout counter.number }
     requires loaded { HasLoaded table.now.facts.layout pass.old.pass counter threshold }
     requires nothing { CarriesNothing table.now.facts.layout (own pass.old.pass.seen pass.old.pass.number) }
@@ -85,7 +89,6 @@ fn exchange(
     ensures volume { pass.new.volume ≡ slice_set pass.old.volume counter.number
         (slice_index_or pass.old.volume counter.number 0 + unsigned_abs delta) }
 {
-    let cpu = pass.cpu();
     let group = table.layout().group(counter);
     let found = table.load_diffs(pass, cpu, group);
     match table.put(pass, counter, &found, threshold, delta, mode) {
@@ -111,7 +114,7 @@ fn carry(table: &PageTable, pass: &mut CpuPass, counter: CounterId, amount: i64)
         × Made pages pass.new.pass pass.old.pass additions }
     ensures volume { pass.new.volume ≡ pass.old.volume }
 {
-    let _ = pass.cpu();
+    pass.is_live();
     if amount != 0 {
         table.add_place(pass, counter, amount);
         table.add_system(pass, item_of(table.layout(), counter), amount);

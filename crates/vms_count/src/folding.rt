@@ -66,7 +66,7 @@ fn fold_place<P: Caller>(
     ensures sums { (most : ℕ) → AreSums most sums.old → AreSums (most + 2048) sums.new }
     ensures volume { P.volume pass.new ≡ P.volume pass.old }
 {
-    let _ = pass.own();
+    pass.is_live();
     let zones = table.layout().zones().len() as u32;
     if own && place.number < zones {
         let number = table.load_threshold(pass, place).number;
@@ -97,7 +97,7 @@ fn fold_groups<P: Caller>(
     ensures sums { (most : ℕ) → AreSums most sums.old → AreSums (most + 2048) sums.new }
     ensures volume { P.volume pass.new ≡ P.volume pass.old }
 {
-    let _ = pass.own();
+    pass.is_live();
     let each = table.layout().positions() / 8;
     let first = each * place.number;
     for n in 0..each {
@@ -124,9 +124,7 @@ fn fold_group<P: Caller>(
     ensures sums { (most : ℕ) → AreSums most sums.old → AreSums (most + 1024) sums.new }
     ensures volume { P.volume pass.new ≡ P.volume pass.old }
 {
-    // The layout's bounds are known once it is read.
-    let _ = table.layout().positions();
-    let _ = pass.own();
+    pass.is_live();
     let found = table.take(pass, cpu, group);
     for n in 0..8 {
         let counter = CounterId {
@@ -156,7 +154,7 @@ fn add_entry<P: Caller>(
         (sum_at sums.old (item_of table.now.facts.layout counter.number) +ℤ amount) }
     ensures volume { P.volume pass.new ≡ P.volume pass.old }
 {
-    let _ = pass.own();
+    pass.is_live();
     if amount != 0 {
         table.add_place(pass, counter, amount);
         sums[item_of(table.layout(), counter).number as usize] += amount;
@@ -176,7 +174,7 @@ fn add_sums<P: Caller>(table: &PageTable, pass: &mut P, sums: &[i64; MOST_ITEMS]
         (system_steps table.now.facts.layout groups 0 (item_count table.now.facts.layout)) }
     ensures volume { P.volume pass.new ≡ P.volume pass.old }
 {
-    let _ = pass.own();
+    pass.is_live();
     for number in 0..table.layout().items() {
         let sum = sums[number as usize];
         if sum != 0 {

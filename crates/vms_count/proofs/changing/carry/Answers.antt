@@ -31,5 +31,5 @@ returns-then-amount-ne0-clause-made c =
 
 pub returns-else-amount-ne0-clause-made : goal.returns-else-amount-ne0-clause-made
 returns-else-amount-ne0-clause-made c =
-    carried-none c.args.table.now.facts.layout c.args.pass.now.pass c.cpu.ensures.live c.args.counter c.args.amount
+    carried-none c.args.table.now.facts.layout c.args.pass.now.pass c.is_live.ensures c.args.counter c.args.amount
     (omega (arith, ints))

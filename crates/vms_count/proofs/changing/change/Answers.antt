@@ -4,8 +4,13 @@ use Rattle.std.proofs.lemmas.Int.{to_z-of_z}
 use Rattle.vms_calls.specs.Common.{place_of, Carries, Step, pages}
 use Rattle.vms_seats.specs.Common.{Made}
 use Rattle.vms_count.specs.Common.{HasExchanged}
-use Rattle.vms_count.proofs.ChangeSteps.{changed-whole, changed-nothing, nothing-threshold, has-loaded}
+use Rattle.vms_count.proofs.ChangeSteps.{changed-whole, changed-nothing, known-cpu, nothing-threshold, has-loaded}
 use Rattle.vms_count.proofs.changing.change.Goals as goal
+
+pub exchange-amount-requires-clause-cpu : goal.exchange-amount-requires-clause-cpu
+exchange-amount-requires-clause-cpu c =
+    known-cpu c.args.pass.now.pass c.args.table.now.facts c.requires.table.facts c.cpu-cpu.ensures.live c.cpu-cpu.result
+    c.cpu-cpu.ensures.owns
 
 pub exchange-amount-requires-clause-loaded : goal.exchange-amount-requires-clause-loaded
 exchange-amount-requires-clause-loaded c =

@@ -3,8 +3,9 @@ use Rattle.std.proofs.Common.{◌≡◌, ℕ, ◌+◌, ◌*◌, ◌^◌, ◌+ℤ
 use Rattle.std.proofs.Common.{subst, ◌∙◌, arith, length-set}
 use Rattle.std.proofs.Math.ListN.{set}
 use Rattle.std.proofs.lemmas.Int.{to_z-of_z}
-use Rattle.vms_calls.specs.Common.{IsLayout, item_of, to_place, pages}
+use Rattle.vms_calls.specs.Common.{IsBase, IsLayout, item_of, to_place, pages}
 use Rattle.vms_base.proofs.Common.{group_count-most, item_of-lt}
+use Rattle.vms_history.proofs.Common.{base_can_begin}
 use Rattle.vms_seats.specs.Common.{Made}
 use Rattle.vms_seats.proofs.Common.{calls-live}
 use Rattle.vms_count.specs.Common.{sum_at}
@@ -21,20 +22,22 @@ loop-n-init g c =
     let w = c.take-found.result in (
       AddsEntries-none c.args.table.now.facts.layout c.args.cpu c.args.group.number w
           (taken-eight taken old c.args.cpu c.args.group w c.take-found.ensures.made) old c.requires.none taken
-          c.take-found.ensures.made c.args.sums.now (calls-live pages taken old _ c.own.ensures.live
+          c.take-found.ensures.made c.args.sums.now (calls-live pages taken old _ c.is_live.ensures
           c.take-found.ensures.made.all),
       c.take-found.ensures.volume,
     )
 
 pub overflow_mul-counter : goal.overflow_mul-counter
 overflow_mul-counter g c =
-    let few = group_count-most c.args.table.now.facts.layout
-    (subst IsLayout c.layout.ensures c.positions.ensures.is_layout) in omega (arith, few, c.requires.group)
+    let pass = g.P.Caller.pass c.args.pass.now in
+    let base = subst IsBase c.requires.table.facts (base_can_begin pages pass.facts pass.seen c.is_live.ensures.legal) in
+    let few = group_count-most c.args.table.now.facts.layout base.layout in omega (arith, few, c.requires.group)
 
 pub overflow_add-counter : goal.overflow_add-counter
 overflow_add-counter g c =
-    let few = group_count-most c.args.table.now.facts.layout
-    (subst IsLayout c.layout.ensures c.positions.ensures.is_layout) in omega (arith, few, c.requires.group)
+    let pass = g.P.Caller.pass c.args.pass.now in
+    let base = subst IsBase c.requires.table.facts (base_can_begin pages pass.facts pass.seen c.is_live.ensures.legal) in
+    let few = group_count-most c.args.table.now.facts.layout base.layout in omega (arith, few, c.requires.group)
 
 pub add_entry-requires-clause-table : goal.add_entry-requires-clause-table
 add_entry-requires-clause-table g c =
@@ -63,7 +66,9 @@ add_entry-requires-clause-sums g c =
 pub loop-n-preserved : goal.loop-n-preserved
 loop-n-preserved g c =
     let shape = c.args.table.now.facts.layout in
-    let layout : IsLayout shape = subst IsLayout c.layout.ensures c.positions.ensures.is_layout in
+    let pass = g.P.Caller.pass c.args.pass.now in
+    let base = subst IsBase c.requires.table.facts (base_can_begin pages pass.facts pass.seen c.is_live.ensures.legal) in
+    let layout : IsLayout shape = base.layout in
     let j = c.args.group.number in
     let n = c.loop-n.n in
     let w = c.take-found.result in

@@ -13,7 +13,7 @@ loop-n-init g c = (
     [],
     refl,
     FoldsGroups-none c.args.table.now.facts.layout c.args.cpu (c.positions-each.result / 8 * c.args.place.number)
-        (g.P.Caller.pass c.args.pass.now) c.args.sums.now c.own.ensures.live c.requires.none,
+        (g.P.Caller.pass c.args.pass.now) c.args.sums.now c.is_live.ensures c.requires.none,
   ),
   λ most small. AreSums-more most (most + 0) c.args.sums.now (omega arith) small,
   refl,

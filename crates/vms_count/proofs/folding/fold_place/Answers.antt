@@ -24,7 +24,7 @@ acknowledge-requires-clause-acknowledges g c =
     may-acknowledge shape c.args.cpu c.args.place.number folds.0 folds.1 c.args.sums.now c.fold_groups.new.sums
     c.load_threshold-number.result.t c.load_threshold-number.result.number (g.P.Caller.pass c.fold_groups.new.pass)
     (g.P.Caller.pass c.load_threshold-number.new.pass) (g.P.Caller.pass c.args.pass.now)
-    c.load_threshold-number.ensures.made folds.2 c.args.table.now.facts refl layout c.own.ensures.live
+    c.load_threshold-number.ensures.made folds.2 c.args.table.now.facts refl layout c.is_live.ensures
     (c.requires.own c.if-own.true) c.requires.cpu zone
 
 pub returns-then-place-zones-clause-folds : goal.returns-then-place-zones-clause-folds
