@@ -28,7 +28,7 @@ impl AnyPagePass for CpuPass {
     ghost pass = { λ p. p.pass };
 
     fn has_seen_legal(&self) {
-        let _ = self.own();
+        self.is_live();
     }
 }
 
@@ -36,7 +36,7 @@ impl AnyPagePass for ControlPass {
     ghost pass = { λ p. p };
 
     fn has_seen_legal(&self) {
-        let _ = self.own();
+        self.is_live();
     }
 }
 

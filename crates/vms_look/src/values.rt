@@ -47,8 +47,7 @@ pub fn snapshot<P: Caller>(table: &PageTable, pass: &mut P, counter: CounterId) 
     ensures truly { SumsTruly (P.pass pass.new) (P.pass pass.old) counter result }
     ensures volume { P.volume pass.new ≡ P.volume pass.old }
 {
-    // The pass is known to live once it is asked for its CPU.
-    let _ = pass.own();
+    pass.is_live();
     let mut sum = table.load_place(pass, counter);
     for number in 0..table.layout().cpus() {
         sum += hidden(table, pass, CpuId { number }, counter);
@@ -66,8 +65,7 @@ fn hidden<P: Caller>(table: &PageTable, pass: &mut P, cpu: CpuId, counter: Count
     ensures volume { P.volume pass.new ≡ P.volume pass.old }
     ensures bound { unsigned_abs result ≤ 128 }
 {
-    // The pass is known to live once it is asked for its CPU.
-    let _ = pass.own();
+    pass.is_live();
     if is_online(table.load_state(pass, cpu)) {
         let group = table.layout().group(counter);
         let found = table.load_diffs(pass, cpu, group);

@@ -40,8 +40,7 @@ pub fn watermark_ok<P: Caller>(
         SumsTruly (P.pass pass.new) (P.pass pass.old) (free_counter table.now.facts.layout zone) result.free }
     ensures volume { P.volume pass.new ≡ P.volume pass.old }
 {
-    // The pass is known to live once it is asked for its CPU.
-    let _ = pass.own();
+    pass.is_live();
     let limit = limit(header, zone, mark, most);
     let (free, fast) = free_pages(table, pass, zone);
     Verdict {
@@ -63,8 +62,7 @@ fn free_pages<P: Caller>(table: &PageTable, pass: &mut P, zone: PlaceId) -> (u64
         SumsTruly (P.pass pass.new) (P.pass pass.old) (free_counter table.now.facts.layout zone) result.0 }
     ensures volume { P.volume pass.new ≡ P.volume pass.old }
 {
-    // The layout's bounds are known once it is read.
-    let _ = table.layout().positions();
+    pass.is_live();
     let counter = table.layout().counter(zone, 0);
     let first = table.load_mark(pass, zone);
     let value = clamped(table.load_place(pass, counter));

@@ -1,17 +1,27 @@
 -- The goals were what the free pages rest on, with a snapshot and without, and what is true of them then.
-use Rattle.std.proofs.Common.{◌≡◌, ℕ, ◌∙◌, ap, sym, subst}
-use Rattle.vms_calls.specs.Common.{CounterId, Shape, IsZone, counter_at, free_pages, Facts}
-use Rattle.vms_history.proofs.Common.{Extends-both}
+use Rattle.std.proofs.Common.{◌≡◌, ℕ, inl, inr, ◌∙◌, ap, sym, subst, arith}
+use Rattle.vms_calls.specs.Common.{CounterId, Shape, IsZone, IsBase, counter_at, free_pages, Facts, pages}
+use Rattle.vms_history.proofs.Common.{Extends-both, base_can_begin}
 use Rattle.vms_look.specs.Common.{SumsTruly}
 use Rattle.vms_look.proofs.LookSteps.{sums-whole_call}
 use Rattle.vms_look.proofs.TestMoments.{says_truly}
 use Rattle.vms_look.proofs.TestSteps.{free-loaded, free-snapshot}
 use Rattle.vms_look.proofs.watermarks.free_pages.Goals as goal
 
+pub counter-counter-requires-clause-position : goal.counter-counter-requires-clause-position
+counter-counter-requires-clause-position g c =
+    let pass = g.P.Caller.pass c.args.pass.now in
+    let base = subst IsBase c.requires.table.facts (base_can_begin pages pass.facts pass.seen c.is_live.ensures.legal) in
+    let same = ap (λ (shape : Shape). shape.positions) c.layout.ensures in
+    elim base.layout.positions [
+      | inl narrow ↦ omega (arith, same, narrow)
+      | inr wide ↦ omega (arith, same, wide)
+    ]
+
 pub returns-then-is_doubtful-clause-made : goal.returns-then-is_doubtful-clause-made
 returns-then-is_doubtful-clause-made g c =
     free-snapshot c.args.table.now.facts.layout c.args.zone c.counter-counter.result
-    (c.counter-counter.ensures.value ∙ ap (λ (shape : Shape). counter_at shape c.args.zone.number 0) c.layout-2.ensures)
+    (c.counter-counter.ensures.value ∙ ap (λ (shape : Shape). counter_at shape c.args.zone.number 0) c.layout.ensures)
     (g.P.Caller.pass c.load_mark-second.new.pass) (g.P.Caller.pass c.load_place.new.pass)
     (g.P.Caller.pass c.load_mark-first.new.pass) (g.P.Caller.pass c.args.pass.now)
     c.load_mark-first.result c.load_mark-second.result c.load_mark-first.ensures.made c.load_place.result
@@ -23,7 +33,7 @@ returns-then-is_doubtful-clause-made g c =
 pub returns-else-is_doubtful-clause-made : goal.returns-else-is_doubtful-clause-made
 returns-else-is_doubtful-clause-made g c =
     free-loaded c.args.table.now.facts.layout c.args.zone c.counter-counter.result
-    (c.counter-counter.ensures.value ∙ ap (λ (shape : Shape). counter_at shape c.args.zone.number 0) c.layout-2.ensures)
+    (c.counter-counter.ensures.value ∙ ap (λ (shape : Shape). counter_at shape c.args.zone.number 0) c.layout.ensures)
     (g.P.Caller.pass c.load_mark-second.new.pass) (g.P.Caller.pass c.load_place.new.pass)
     (g.P.Caller.pass c.load_mark-first.new.pass) (g.P.Caller.pass c.args.pass.now)
     c.load_mark-first.result c.load_mark-second.result c.load_mark-first.ensures.made c.load_place.result
@@ -42,7 +52,7 @@ returns-else-is_doubtful-clause-truly g c fast limit more =
     (subst (λ (f : Facts). IsZone f.layout c.args.zone.number) (sym facts) c.requires.zone)
     (c.counter-counter.ensures.value
     ∙ ap (λ (shape : Shape). counter_at shape c.args.zone.number 0)
-    (c.layout-2.ensures ∙ sym (ap (λ (f : Facts). f.layout) facts)))
+    (c.layout.ensures ∙ sym (ap (λ (f : Facts). f.layout) facts)))
     c.clamped-value.result c.clamped-value.ensures c.is_doubtful.result c.is_doubtful.ensures c.if-is_doubtful.false limit
     more
 
@@ -58,7 +68,7 @@ returns-then-is_doubtful-clause-summed g c none =
     let last = c.load_mark-second.ensures.made.all in
     let is_free : c.counter-counter.result ≡ free_pages c.args.table.now.facts.layout c.args.zone =
     ap (λ (n : ℕ). record { number = n })
-    (c.counter-counter.ensures.value ∙ ap (λ (shape : Shape). counter_at shape c.args.zone.number 0) c.layout-2.ensures) in
+    (c.counter-counter.ensures.value ∙ ap (λ (shape : Shape). counter_at shape c.args.zone.number 0) c.layout.ensures) in
     sums-whole_call new third old (free_pages c.args.table.now.facts.layout c.args.zone) c.snapshot.result
     (last.facts ∙ second.facts ∙ first.facts) (last.number ∙ second.number ∙ first.number)
     (Extends-both third.seen two.seen old.seen last.made.extends

@@ -8,13 +8,13 @@ use Rattle.vms_look.proofs.watermarks.watermark_ok.Goals as goal
 pub limit-limit-requires-clause-one_each : goal.limit-limit-requires-clause-one_each
 limit-limit-requires-clause-one_each g c =
     let pass = g.P.Caller.pass c.args.pass.now in
-    let base = subst IsBase c.requires.table.facts (base_can_begin pages pass.facts pass.seen c.own.ensures.live.legal) in
+    let base = subst IsBase c.requires.table.facts (base_can_begin pages pass.facts pass.seen c.is_live.ensures.legal) in
     ap length c.requires.sizes ∙ base.one_size_each ∙ sym (ap (λ (s : Shape). length s.zones) c.requires.layout)
 
 pub limit-limit-requires-clause-sizes : goal.limit-limit-requires-clause-sizes
 limit-limit-requires-clause-sizes g c =
     let pass = g.P.Caller.pass c.args.pass.now in
-    let base = subst IsBase c.requires.table.facts (base_can_begin pages pass.facts pass.seen c.own.ensures.live.legal) in
+    let base = subst IsBase c.requires.table.facts (base_can_begin pages pass.facts pass.seen c.is_live.ensures.legal) in
     subst (All IsValidSize) (sym c.requires.sizes) base.sizes
 
 pub returns-clause-made : goal.returns-clause-made
