@@ -14,6 +14,7 @@ use Rattle.vms_world.specs.Common.{Lane, Cpu, Control, event_call, page_call, pc
 use Rattle.vms_world.proofs.ActCalls.{call-no_page_call}
 use Rattle.vms_world.proofs.EventActs.{events-no_page_call}
 use Rattle.vms_event_core.specs.declared.call_values.EventAnswer.TheVariants.{Done}
+use Rattle.vms_pcpu_core.specs.PcpuCalls.{read_pcpu_call}
 use Rattle.vms_pcpu_core.proofs.Common.{tells-call}
 use Rattle.vms_text.specs.declared.acts.Act.TheVariants.{Csync, Dead, Sum}
 use Rattle.vms_world.specs.declared.worlds.World.{World}
@@ -139,10 +140,19 @@ module _ (header : Header) (w : World) where
       ∙ ap (λ (makes : Option PcpuCall). joined (None, steps.pages) (None, steps.events)
       (read_pcpu_act facts makes steps.counters)) is
 
+  -- steps off which the call's answer is read, whatever follows them, tell that of the act
+  pub Tell-read : (c : CpuId) (call : PcpuCall) (a : Act) → pcpu_call (Cpu c) a ≡ Some call → (steps : List PcpuStep)
+      (answer : PcpuAnswer)
+      → ((more : List PcpuStep) → read_pcpu_call (pcpu_facts header w) call (steps ++ more) ≡ (answer, more))
+      → Tell header w (Cpu c) a (on_counters steps) (pcpu_told answer)
+  Tell-read c call a is steps answer reads rest =
+      read-by_call c call a is (then_steps (on_counters steps) rest)
+      ∙ ap (λ (read : PcpuAnswer × List PcpuStep). joined (None, rest.pages) (None, rest.events)
+      (told pcpu_told read)) (reads rest.counters)
+
   pub Tell-call : (c : CpuId) (call : PcpuCall) (a : Act) → pcpu_call (Cpu c) a ≡ Some call → (steps : List PcpuStep)
       (answer : PcpuAnswer) → IsPcpuCall (pcpu_facts header w) (Some c) call steps answer
       → Tell header w (Cpu c) a (on_counters steps) (pcpu_told answer)
-  Tell-call c call a is steps answer made rest =
-      read-by_call c call a is (then_steps (on_counters steps) rest)
-      ∙ ap (λ (read : PcpuAnswer × List PcpuStep). joined (None, rest.pages) (None, rest.events)
-      (told pcpu_told read)) (tells-call (pcpu_facts header w) (Some c) call steps rest.counters answer made)
+  Tell-call c call a is steps answer made =
+      Tell-read c call a is steps answer
+      (λ more. tells-call (pcpu_facts header w) (Some c) call steps more answer made)

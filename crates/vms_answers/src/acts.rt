@@ -1,4 +1,5 @@
-ghost use Rattle.std.specs.Prelude.{◌≡◌, ◌≢◌, ℕ, true, List, Some};
+ghost use Rattle.std.specs.Prelude.{◌≡◌, ◌≢◌, ℕ, Bool, true, ℤ, List, Some, None};
+ghost use Rattle.vms_base.specs.declared.ids.PcpuId.{PcpuId};
 ghost use Rattle.vms_calls.specs.PageCalls.{IsPageCall, asks_rules};
 ghost use Rattle.vms_calls.specs.declared.page_calls.PageAnswer.{PageAnswer};
 ghost use Rattle.vms_calls.specs.declared.page_calls.PageCall.{PageCall};
@@ -8,8 +9,11 @@ ghost use Rattle.vms_world.specs.Common.{Header, CpuId, State, Step, HasMade, fa
 ghost use Rattle.vms_world.specs.Common.{EventStep, IsEventCall, PcpuAnswer, PcpuCall, PcpuStep, IsPcpuCall, Act};
 ghost use Rattle.vms_world.specs.Common.{Lane, Cpu, event_call, page_call, pcpu_call, event_facts, pcpu_facts};
 ghost use Rattle.vms_world.specs.Common.{owner_of};
-ghost use Rattle.vms_text.specs.declared.acts.Act.TheVariants.{Dead};
+ghost use Rattle.vms_pcpu_core.specs.declared.answers.Compare.{Compare};
+ghost use Rattle.vms_pcpu_core.specs.Calls.{IsAdd, IsCompare, IsLimitedAdd, IsSum, IsSync, unknown};
+ghost use Rattle.vms_text.specs.declared.acts.Act.TheVariants.{Cnt, Lim, Cmp, Sum, Csync, Dead};
 ghost use Rattle.vms_world.specs.declared.worlds.World.{World};
+ghost use Rattle.vms_answers.specs.declared.answers.Answer.TheVariants.{Total, Compared, Limited};
 ghost use Rattle.vms_answers.specs.Answers.{Tell, event_told, on_counters, on_events, on_pages, page_told, pcpu_told};
 
 use vms_calls::ThresholdRules;
@@ -36,10 +40,27 @@ pub fn event_acts_tell_answers()
     vms_event_core::answers_are_read();
 }
 
-/// The steps of a line that makes a call on a percpu counter tell what the call answers.
+/// The steps of a line that makes a call on a percpu counter tell what the call answers. They do so whatever the batch
+/// was by which it went, whichever CPUs it looked at, and whichever CPU's local part it moved.
 pub fn pcpu_acts_tell_answers()
-    ensures { (header : Header) (w : World) (c : CpuId) (call : PcpuCall) (act : Act) →
+    ensures call { (header : Header) (w : World) (c : CpuId) (call : PcpuCall) (act : Act) →
         pcpu_call (Cpu c) act ≡ Some call → (steps : List PcpuStep) (answer : PcpuAnswer) →
         IsPcpuCall (pcpu_facts header w) (Some c) call steps answer →
         Tell header w (Cpu c) act (on_counters steps) (pcpu_told answer) }
+    ensures add { (header : Header) (w : World) (c : CpuId) (j : PcpuId) (batch : ℕ) (amount : ℤ)
+        (steps : List PcpuStep) → IsAdd batch c j amount steps →
+        Tell header w (Cpu c) (Cnt j amount) (on_counters steps) None }
+    ensures limited_add { (header : Header) (w : World) (c : CpuId) (j : PcpuId) (batch most : ℕ)
+        (cpus : List CpuId) (limit amount : ℤ) (steps : List PcpuStep) (answer : Bool) →
+        IsLimitedAdd batch most cpus c j limit amount steps answer →
+        Tell header w (Cpu c) (Lim j limit amount) (on_counters steps) (Some (Limited answer)) }
+    ensures compare { (header : Header) (w : World) (c : CpuId) (j : PcpuId) (cpus : List CpuId) (rhs : ℤ)
+        (steps : List PcpuStep) (answer : Compare) →
+        IsCompare (unknown (pcpu_facts header w) j.number) cpus j rhs steps answer →
+        Tell header w (Cpu c) (Cmp j rhs) (on_counters steps) (Some (Compared answer)) }
+    ensures sum { (header : Header) (w : World) (c : CpuId) (j : PcpuId) (cpus : List CpuId)
+        (steps : List PcpuStep) (answer : ℤ) → IsSum cpus j steps answer →
+        Tell header w (Cpu c) (Sum j) (on_counters steps) (Some (Total answer)) }
+    ensures sync { (header : Header) (w : World) (c cpu : CpuId) (j : PcpuId) (steps : List PcpuStep) →
+        IsSync cpu j steps → Tell header w (Cpu c) (Csync j) (on_counters steps) None }
 {}
