@@ -32,8 +32,7 @@ pub fn balanced<P: Caller>(
     ensures passed { NamesPassed header.now (P.pass pass.new) (P.pass pass.old) node order most result }
     ensures volume { P.volume pass.new ≡ P.volume pass.old }
 {
-    // The pass is known to live once it is asked for its CPU.
-    let _ = pass.own();
+    pass.is_live();
     let zones = header.layout.zones();
     let number = header.layout.nodes()[node.number as usize - zones.len()];
     for place in 0..zones.len() {

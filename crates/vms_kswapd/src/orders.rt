@@ -84,8 +84,7 @@ fn block_within<P: Caller>(
         × Made pages (P.pass pass.new) (P.pass pass.old) steps }
     ensures volume { P.volume pass.new ≡ P.volume pass.old }
 {
-    // The pass is known to live once it is asked for its CPU.
-    let _ = pass.own();
+    pass.is_live();
     if limit + ((1 << order) - 1) < free {
         first_block(table, pass, header, zone, order)
     } else {
@@ -111,8 +110,7 @@ fn first_block<P: Caller>(
         (areas_from order (areas_of header.now.items)) result }
     ensures volume { P.volume pass.new ≡ P.volume pass.old }
 {
-    // The pass is known to live once it is asked for its CPU.
-    let _ = pass.own();
+    pass.is_live();
     for number in order..11 {
         if has_block(table, pass, header, zone, number) {
             return Some(number);
@@ -139,8 +137,7 @@ fn has_block<P: Caller>(
         (area_at order (area_index header.now.items order)) (if result then Some order else None) }
     ensures volume { P.volume pass.new ≡ P.volume pass.old }
 {
-    // The pass is known to live once it is asked for its CPU.
-    let _ = pass.own();
+    pass.is_live();
     match item_index(header, order) {
         Some(index) => {
             let counter = header.layout.counter(zone, 8 + index as u32);

@@ -77,8 +77,7 @@ fn settle<N: Rule, P: Rule>(
     ensures sets { largest_sets table.now.facts.layout (state_after table.now.facts pass.new.seen)
         ≤ suc (largest_sets table.now.facts.layout (state_after table.now.facts pass.old.seen)) }
 {
-    // The pass is known to live once it is asked for its CPU.
-    let _ = pass.own();
+    pass.is_live();
     match balance {
         Balance::Yes(_, _) => set_normal(table, pass, header, rules, node),
         Balance::No => {}

@@ -18,7 +18,7 @@ pub loop-place-init : goal.loop-place-init
 loop-place-init g c = (
   failed-none c.args.header.now c.args.most c.args.order
       (get_or c.nodes.result.now (c.args.node.number - length c.zones-zones.result.now) 0)
-      (g.P.Caller.pass c.args.pass.now) c.own.ensures.live,
+      (g.P.Caller.pass c.args.pass.now) c.is_live.ensures,
   refl,
 )
 

@@ -8,7 +8,7 @@ use Rattle.vms_kswapd.proofs.orders.first_block.Goals as goal
 pub loop-number-init : goal.loop-number-init
 loop-number-init g c = (
   sought-none c.args.header.now c.args.zone c.args.order c.requires.least (g.P.Caller.pass c.args.pass.now)
-      c.own.ensures.live,
+      c.is_live.ensures,
   refl,
 )
 

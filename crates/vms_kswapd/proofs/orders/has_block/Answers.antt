@@ -25,5 +25,5 @@ returns-in-None-clause-made g c = (
   [],
   subst (λ (found : Option ℕ). FindsBlock c.args.header.now.layout c.args.zone (area_at c.args.order found) [] None)
       (sym c.in-None.is ∙ c.item_index.ensures.value) nowhere,
-  calls-none pages (g.P.Caller.pass c.args.pass.now) c.own.ensures.live,
+  calls-none pages (g.P.Caller.pass c.args.pass.now) c.is_live.ensures,
 )
