@@ -3,17 +3,16 @@
 use Rattle.std.proofs.Common.{◌≡◌, ℕ, ◌+◌, ◌*◌, ◌≤◌, nat_eq, false, List, [], ◌∷◌, ◌++◌, length, refl, sym, ap, ◌∙◌}
 use Rattle.std.proofs.Common.{arith, if◌then◌else◌, subst}
 use Rattle.vms_world.specs.Common.{Header, CpuId, CpuState, Absent, ZoneSize, after, facts_of, KnowsByOwnSteps, HasMade}
-use Rattle.vms_world.specs.Common.{ByNormal, ByPressure, State, Facts, Step, SetO, cpu_at, IsControl, pages, cpu_after}
-use Rattle.vms_world.specs.Common.{cpu_in, most_sets, state_past, Act, Fold, Water, Val, Snap, Sys, Pressure, Normal}
-use Rattle.vms_world.specs.Common.{Kswapd, Control, PageSteps, lane_owns}
+use Rattle.vms_world.specs.Common.{State, Facts, Step, SetO, cpu_at, IsControl, pages, cpu_after}
+use Rattle.vms_world.specs.Common.{cpu_in, most_sets, state_past, Act, Control, PageSteps}
 use Rattle.vms_history.proofs.Common.{earlier-legal, after-steps}
-use Rattle.vms_calls.proofs.Common.{Each, OfFolds, OfLooks, OfRatings, fold-each, node-each, refresh-each}
-use Rattle.vms_calls.proofs.Common.{snapshot-each, test-each, turn-each}
+use Rattle.vms_calls.proofs.Common.{Each, OfFolds, OfLooks, OfRatings, fold-each, refresh-each}
 use Rattle.vms_core.specs.Pages.{History, IsLegal, state_after}
 use Rattle.vms_core.proofs.Common.{cpu_at-newest}
 use Rattle.vms_text.specs.declared.acts.Act.TheVariants.{Dead}
 use Rattle.vms_text.specs.declared.acts.Line.TheVariants.{Lane}
 use Rattle.vms_words.specs.Common.{largest_sets}
+use Rattle.vms_world.proofs.PageActs.{act-each, burial-steps, control-no_change}
 use Rattle.vms_lane.specs.Common.{BuriesTheDead, BuryTheDead, HasControlled, MayControl}
 
 -- a step that leaves the state of CPU c
@@ -53,9 +52,6 @@ module _ (facts : Facts) (c p : ℕ) where
   in-row [] h each = refl
   in-row (k ∷ ks) h each = in-row ks (record { caller = p; step = k } ∷ h) each.1 ∙ each.0 (cpu_in facts c h)
 
-  none-in_row : (steps : List Step) (h : History) → steps ≡ [] → cpu_in facts c (after p steps h) ≡ cpu_in facts c h
-  none-in_row steps h none = ap (λ (ks : List Step). cpu_in facts c (after p ks h)) none
-
   -- a burial makes absent whom it buries
   burial-in_row : (d : CpuId) (fold refresh : List Step) (h : History) → Each (Leaves c) fold
       → Each (Leaves c) refresh
@@ -71,32 +67,16 @@ module _ (facts : Facts) (c p : ℕ) where
     act-in_row : (a : Act) (steps : List Step) (h : History)
         → PageSteps header base pressure normal Control p a h steps
         → cpu_in facts c (after p steps h) ≡ state_past c (Lane Control a) (cpu_in facts c h)
-    act-in_row (Fold d) steps h makes =
-        in-row steps h (fold-each (Leaves c) (leaves-folds c) header.layout (lane_owns Control d) d steps makes)
-    act-in_row (Water g mark most) steps h (answer, makes) =
-        in-row steps h (test-each (Leaves c) (leaves-looks c) header g mark most steps answer makes)
-    act-in_row (Val k) steps h (answer, makes) =
-        in-row steps h (subst (Each (Leaves c)) (sym makes.in_order) (λ x. refl, tt))
-    act-in_row (Snap k) steps h (answer, makes) =
-        in-row steps h (snapshot-each (Leaves c) (leaves-looks c) header.layout k steps answer makes)
-    act-in_row (Sys i) steps h (answer, makes) =
-        in-row steps h (subst (Each (Leaves c)) (sym makes.in_order) (λ x. refl, tt))
-    act-in_row (Pressure n) steps h makes =
-        in-row steps h (node-each (Leaves c) (leaves-ratings c) (facts_of header base) (ByPressure pressure normal) n p
-        h steps makes)
-    act-in_row (Normal n) steps h makes =
-        in-row steps h (node-each (Leaves c) (leaves-ratings c) (facts_of header base) (ByNormal normal) n p h steps
-        makes)
     act-in_row (Dead d) steps h makes =
-        ap (λ (ks : List Step). cpu_in facts c (after p ks h)) makes.in_order
-        ∙ burial-in_row d makes.fold makes.refresh h
-        (fold-each (Leaves c) (leaves-folds c) header.layout false d makes.fold makes.folds)
+        let buries = burial-steps header base pressure normal p d h steps makes in
+        ap (λ (ks : List Step). cpu_in facts c (after p ks h)) buries.in_order
+        ∙ burial-in_row d buries.fold buries.refresh h
+        (fold-each (Leaves c) (leaves-folds c) header.layout false d buries.fold buries.folds)
         (refresh-each (Leaves c) (leaves-ratings c) (facts_of header base) normal p
-        (after p (makes.fold ++ (SetO d ∷ [])) h) makes.refresh makes.refreshes)
-    act-in_row (Kswapd n order most) steps h (answer, makes) =
-        in-row steps h (turn-each (Leaves c) (leaves-ratings c) header base pressure normal n order most p h steps
-        answer makes)
-    act-in_row _ steps h makes = none-in_row steps h makes
+        (after p (buries.fold ++ (SetO d ∷ [])) h) buries.refresh buries.refreshes)
+    act-in_row a steps h makes =
+        in-row steps h (act-each header base pressure normal (Leaves c) (leaves-ratings c) (leaves-folds c) Control p a
+        h steps (control-no_change a) (λ d is. absurd cc) makes)
 
 -- the state that stands is the one that the history tells, of any number
 pub cpu_at-told : (facts : Facts) (c : ℕ) (h : History) → IsLegal facts h

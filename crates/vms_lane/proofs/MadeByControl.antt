@@ -7,6 +7,7 @@ use Rattle.vms_burial.specs.declared.passes.ControlPasses.{ControlPasses}
 use Rattle.vms_burial.specs.Common.{FoldsDeadEvents, FoldsDeadLocals, passes_of}
 use Rattle.vms_control.proofs.Common.{has-made}
 use Rattle.vms_core.specs.Own.{CarriesNothing}
+use Rattle.vms_calls.specs.declared.page_calls.PageAnswer.TheVariants.{Done as PageDone}
 use Rattle.vms_event_core.specs.declared.call_values.EventAnswer.TheVariants.{Done}
 use Rattle.vms_pcpu_core.specs.declared.answers.PcpuAnswer.TheVariants.{Done as PcpuDone}
 use Rattle.vms_answers.proofs.Common.{TellsEventCall, Tell-burial}
@@ -99,7 +100,7 @@ module _ (header : Header) (pressure normal : ZoneSize → ℕ → ℕ → Type 
       (Done, (event.into, event.found, event.is_lowest, event.folds)) in
       record {
         steps = record { pages = steps; events = event.steps; counters = pcpu.steps };
-        page_act = burial;
+        page_act = (PageDone, burial);
         event_act = folds;
         pcpu_act = subst (λ (f : PcpuFacts). PcpuSteps f Control (Dead c) pcpu.steps) are.counters
             (PcpuDone, pcpu.folds);

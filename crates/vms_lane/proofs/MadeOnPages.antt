@@ -1,21 +1,24 @@
 -- The acts that a pass makes on the page counters, by the calls that make them.
-use Rattle.std.proofs.Common.{◌≡◌, ℕ, ◌-◌, ◌*◌, ◌<◌, ◌≤◌, Bool, true, false, nat_lt, MatchBool, ℤ, List, length, ⊎_elim}
-use Rattle.std.proofs.Common.{Option, Some, None, refl, sym, ap, ◌∙◌, subst, arith, length-append}
+use Rattle.std.proofs.Common.{◌≡◌, ◌≢◌, ℕ, ◌-◌, ◌*◌, ◌<◌, ◌≤◌, Bool, true, false, nat_lt, MatchBool, ℤ, List, length}
+use Rattle.std.proofs.Common.{⊎_elim, Option, Some, None, refl, sym, ap, ◌∙◌, subst, arith, length-append}
 use Rattle.std.proofs.lemmas.Bool.Decides.{nat_tests}
-use Rattle.vms_world.specs.Common.{Header, CounterId, CpuId, ItemId, PlaceId, Mode, WaterMark, ZoneSize, IsHeader}
+use Rattle.vms_calls.specs.PageCalls.{IsPageCall, asks_rules}
+use Rattle.vms_calls.specs.declared.page_calls.PageAnswer.{PageAnswer}
+use Rattle.vms_calls.specs.declared.page_calls.PageAnswer.TheVariants.{Done}
+use Rattle.vms_calls.specs.declared.page_calls.PageCall.{PageCall}
+use Rattle.vms_calls.specs.declared.page_calls.PageCall.TheVariants.{Bury, Change, Fold as FoldCall}
+use Rattle.vms_world.specs.Common.{Header, CounterId, CpuId, Mode, ZoneSize, IsHeader}
 use Rattle.vms_world.specs.Common.{class_names, declared_names, node_items, IsCounter, IsItem, Shape, counter_count}
-use Rattle.vms_world.specs.Common.{own, LeavesCaller, IsChange, IsFold, facts_of, Verdict, IsPlaceValue, IsSnapshot}
-use Rattle.vms_world.specs.Common.{IsSystemValue, IsWatermarkTest, State, Facts, Step, carried_of_item, pages}
-use Rattle.vms_world.specs.Common.{IsKnownValue, Act, Fold, Water, Val, Snap, Sys, Lane, Cpu, Control, PageSteps}
-use Rattle.vms_world.specs.Common.{lane_owns, owner_of}
+use Rattle.vms_world.specs.Common.{own, LeavesCaller, IsChange, IsFold, facts_of, HasMade}
+use Rattle.vms_world.specs.Common.{Facts, Step, carried_of_item, pages}
+use Rattle.vms_world.specs.Common.{IsKnownValue, Act, Fold, Lane, Cpu, Control, CallSteps}
+use Rattle.vms_world.specs.Common.{lane_owns, owner_of, page_call}
 use Rattle.vms_core.specs.Own.{CarriesNothing, carried}
-use Rattle.vms_core.specs.Pages.{History}
 use Rattle.vms_count.specs.Common.{HasChanged, HasFolded}
 use Rattle.vms_count.specs.Folding as folding
 use Rattle.vms_seats.specs.Common.{Pass, Made}
-use Rattle.vms_world.specs.declared.worlds.World.{World}
-use Rattle.vms_answers.specs.declared.answers.Answer.{Answer}
-use Rattle.vms_answers.specs.Common.{Tell, on_pages}
+use Rattle.vms_answers.specs.Common.{page_told}
+use Rattle.vms_answers.proofs.Common.{Tell-pages}
 use Rattle.vms_lane.specs.Common.{MakesOnPages}
 
 -- a value that has a name is one of the layout
@@ -38,35 +41,6 @@ known-item header i is known = by (nat_lt i header.layout.positions) refl known
         → i < 2 * header.layout.positions
     by true below holds = grind (arith, nat_tests)
     by false past holds = omega (arith, holds, most)
-
--- an act that every lane may make has the steps of its call, whoever's the lane is
-module _ (header : Header) (base : State) (pressure normal : ZoneSize → ℕ → ℕ → Type 0) (p : ℕ) (h : History)
-    (steps : List Step) where
-  pub fold-steps : (lane : Lane) (c : CpuId) → IsFold header.layout (lane_owns lane c) c steps
-      → PageSteps header base pressure normal lane p (Fold c) h steps
-  fold-steps (Cpu d) c call = call
-  fold-steps Control c call = call
-
-  pub test-steps : (lane : Lane) (g : PlaceId) (mark : WaterMark) (most : ℕ) (answer : Verdict)
-      → IsWatermarkTest header g mark most steps answer
-      → PageSteps header base pressure normal lane p (Water g mark most) h steps
-  test-steps (Cpu d) g mark most answer call = (answer, call)
-  test-steps Control g mark most answer call = (answer, call)
-
-  pub value-steps : (lane : Lane) (k : CounterId) (answer : ℕ) → IsPlaceValue k steps answer
-      → PageSteps header base pressure normal lane p (Val k) h steps
-  value-steps (Cpu d) k answer call = (answer, call)
-  value-steps Control k answer call = (answer, call)
-
-  pub snapshot-steps : (lane : Lane) (k : CounterId) (answer : ℕ) → IsSnapshot header.layout k steps answer
-      → PageSteps header base pressure normal lane p (Snap k) h steps
-  snapshot-steps (Cpu d) k answer call = (answer, call)
-  snapshot-steps Control k answer call = (answer, call)
-
-  pub system-steps : (lane : Lane) (i : ItemId) (answer : ℕ) → IsSystemValue i steps answer
-      → PageSteps header base pressure normal lane p (Sys i) h steps
-  system-steps (Cpu d) i answer call = (answer, call)
-  system-steps Control i answer call = (answer, call)
 
 -- whether the owner of a CPU folds it
 owner-owns : (lane : Lane) (c : CpuId) → folding.owns_cpu (owner_of lane) c ≡ lane_owns lane c
@@ -93,59 +67,69 @@ module _ (header : Header) (pressure normal : ZoneSize → ℕ → ℕ → Type 
         ∙ nothing.items i;
   }
 
-  -- an act by its steps
-  module _ (lane : Lane) (new old : Pass Facts Step) (answer : Option Answer) (a : Act) where
-    pub act-made : (steps : List Step) → Made pages new old steps
-        → PageSteps header facts.base pressure normal lane old.number a old.seen steps
-        → ((w : World) → Tell header w lane a (on_pages steps) answer)
+  -- the act of a call that a pass made, if it buries no CPU
+  module _ (lane : Lane) (new old : Pass Facts Step) (a : Act) (call : PageCall) (answer : PageAnswer)
+      (on : page_call lane a ≡ Some call) (no_burial : (c : CpuId) → call ≢ Bury c) where
+    pub call-made : (steps : List Step)
+        → IsPageCall header facts.base pressure normal call (owner_of lane) old.number old.seen steps answer
+        → Made pages new old steps
+        → (asks_rules call ≡ true → HasMade (facts_of header facts.base) new.seen old.seen old.number steps)
         → CarriesNothing header.layout (own new.seen new.number) → (b : Act) → b ≡ a
-        → MakesOnPages header pressure normal facts.base lane b new old answer
-    act-made steps made is_act tells nothing b is =
-        subst (λ (x : Act). MakesOnPages header pressure normal facts.base lane x new old answer) (sym is)
-        (record { steps = steps; is_act = is_act; made = made; tells = tells; nothing = nothing })
+        → MakesOnPages header pressure normal facts.base lane b new old (page_told answer)
+    call-made steps call_is made known nothing b is =
+        subst (λ (x : Act). MakesOnPages header pressure normal facts.base lane x new old (page_told answer)) (sym is)
+        (record {
+          steps = steps;
+          is_act = subst (λ (makes : Option PageCall). CallSteps (λ made ks told. IsPageCall header facts.base pressure
+              normal made (owner_of lane) old.number old.seen ks told) makes steps) (sym on) (answer, call_is);
+          made = made;
+          tells = λ w. Tell-pages header w pressure normal facts.base old.number new.seen old.seen lane a call steps
+              answer on no_burial call_is known;
+          nothing = nothing;
+        })
+
+    -- a call that asks no rule for thresholds
+    pub plain-made : asks_rules call ≡ false → (steps : List Step)
+        → IsPageCall header facts.base pressure normal call (owner_of lane) old.number old.seen steps answer
+        → Made pages new old steps → CarriesNothing header.layout (own new.seen new.number) → (b : Act) → b ≡ a
+        → MakesOnPages header pressure normal facts.base lane b new old (page_told answer)
+    plain-made asks_none steps call_is made nothing b is =
+        call-made steps call_is made (λ asks. let both : true ≡ false = sym asks ∙ asks_none in absurd cc) nothing b is
 
     -- a look
-    pub look-made : (steps : List Step) → Made pages new old steps
-        → PageSteps header facts.base pressure normal lane old.number a old.seen steps
-        → ((w : World) → Tell header w lane a (on_pages steps) answer)
+    pub look-made : asks_rules call ≡ false → (steps : List Step)
+        → IsPageCall header facts.base pressure normal call (owner_of lane) old.number old.seen steps answer
+        → Made pages new old steps
         → LeavesCaller header.layout old.number steps (own old.seen old.number)
         → CarriesNothing facts.layout (own old.seen old.number) → (b : Act) → b ≡ a
-        → MakesOnPages header pressure normal facts.base lane b new old answer
-    look-made steps made is_act tells leaves nothing b is =
-        act-made steps made is_act tells (looked-nothing new old steps made leaves nothing) b is
+        → MakesOnPages header pressure normal facts.base lane b new old (page_told answer)
+    look-made asks_none steps call_is made leaves nothing b is =
+        plain-made asks_none steps call_is made (looked-nothing new old steps made leaves nothing) b is
 
   -- a change, by the pass of its CPU
   pub change-made : (c : CpuId) (new old : Pass Facts Step) → old.cpu ≡ Some c → (k : CounterId) (delta : ℤ)
       (how : Mode) → HasChanged facts.layout new old k delta how
       → CarriesNothing facts.layout (own new.seen new.number) → (a : Act)
-      → ((steps : List Step) → IsChange header.layout c k delta how steps
-      → PageSteps header facts.base pressure normal (Cpu c) old.number a old.seen steps)
-      → ((w : World) (steps : List Step) → IsChange header.layout c k delta how steps
-      → Tell header w (Cpu c) a (on_pages steps) None) → (b : Act) → b ≡ a
+      → page_call (Cpu c) a ≡ Some (Change k delta how) → (b : Act) → b ≡ a
       → MakesOnPages header pressure normal facts.base (Cpu c) b new old None
-  change-made c new old owner k delta how changed nothing a is_act tells b is =
+  change-made c new old owner k delta how changed nothing a on b is =
       let known : changed.cpu ≡ c = cc in
       let change : IsChange header.layout c k delta how changed.steps =
       subst (λ (shape : Shape). IsChange shape c k delta how changed.steps) layout-same
       (subst (λ (d : CpuId). IsChange facts.layout d k delta how changed.steps) known changed.change) in
-      act-made (Cpu c) new old None a changed.steps changed.made (is_act changed.steps change)
-      (λ w. tells w changed.steps change)
-      (subst (λ (shape : Shape). CarriesNothing shape (own new.seen new.number)) layout-same nothing) b is
+      plain-made (Cpu c) new old a (Change k delta how) Done on (λ d same_call. cc) refl changed.steps change
+      changed.made (subst (λ (shape : Shape). CarriesNothing shape (own new.seen new.number)) layout-same nothing) b is
 
   -- a fold, by the pass of any lane
   pub fold-made : (lane : Lane) (new old : Pass Facts Step) → old.cpu ≡ owner_of lane → (c : CpuId)
-      → HasFolded facts.layout new old c → CarriesNothing facts.layout (own new.seen new.number)
-      → ((w : World) (steps : List Step) → IsFold header.layout (lane_owns lane c) c steps
-      → Tell header w lane (Fold c) (on_pages steps) None) → (b : Act) → b ≡ Fold c
-      → MakesOnPages header pressure normal facts.base lane b new old None
-  fold-made lane new old owner c folded nothing tells b is =
+      → HasFolded facts.layout new old c → CarriesNothing facts.layout (own new.seen new.number) → (b : Act)
+      → b ≡ Fold c → MakesOnPages header pressure normal facts.base lane b new old None
+  fold-made lane new old owner c folded nothing b is =
       let fold : IsFold header.layout (lane_owns lane c) c folded.steps =
       subst (λ (own_cpu : Bool). IsFold header.layout own_cpu c folded.steps)
       (ap (λ (who : Option CpuId). folding.owns_cpu who c) owner ∙ owner-owns lane c)
       (subst (λ (shape : Shape). IsFold shape (folding.owns_cpu old.cpu c) c folded.steps) layout-same folded.fold) in
-      act-made lane new old None (Fold c) folded.steps folded.made
-      (fold-steps header facts.base pressure normal old.number old.seen folded.steps lane c fold)
-      (λ w. tells w folded.steps fold)
+      plain-made lane new old (Fold c) (FoldCall c) Done refl (λ d same_call. cc) refl folded.steps fold folded.made
       (subst (λ (shape : Shape). CarriesNothing shape (own new.seen new.number)) layout-same nothing) b is
 
 -- what a change asks, where its act is one of the CPU's lane

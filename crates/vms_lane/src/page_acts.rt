@@ -39,7 +39,6 @@ pub(crate) fn run_page_act<N: Rule, P: Rule>(
         table.now.facts.base (Cpu cpu) act pass.new.pass pass.old.pass result }
     ensures grown { HasGrown (λ k. spent_on_counter k act) pass.new.volume pass.old.volume }
 {
-    vms_answers::changes_and_folds_answer_nothing();
     match act {
         Act::Mod(counter, pages) => {
             change(table, pass, counter, pages, Mode::Mod);
@@ -79,8 +78,6 @@ pub(crate) fn fold_or_look<C: Caller, N: Rule, P: Rule>(
 {
     let _ = rules;
     vms_calls::looks_leave_their_caller();
-    vms_answers::changes_and_folds_answer_nothing();
-    vms_answers::looks_tell_answers();
     match act {
         Act::Fold(cpu) => {
             fold(table, pass, cpu);

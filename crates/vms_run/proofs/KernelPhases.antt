@@ -1,15 +1,13 @@
 -- A phase by rules which go by the kernel's formulas is one by the kernel's rules.
 use Rattle.std.proofs.Common.{ℕ, suc, List}
 use Rattle.std.specs.Prelude.{Result, Ok, Err, IfOk}
-use Rattle.vms_world.specs.Common.{Memory, Header, ZoneSize, normal_threshold_of, pressure_threshold_of, Event, Step}
-use Rattle.vms_world.specs.Common.{facts_of, Act, Pressure, Normal, Kswapd, Item, Lane, Cpu, Control, PageSteps}
+use Rattle.vms_world.specs.Common.{Memory, Header, ZoneSize, normal_threshold_of, pressure_threshold_of, Event}
+use Rattle.vms_world.specs.Common.{Act, Item, PageSteps}
 use Rattle.vms_world.specs.Common.{MakesActs, acts_of, lane_at, lanes_of, act as one_act, TableHistories}
-use Rattle.vms_core.specs.Pages.{History}
-use Rattle.vms_text.specs.declared.acts.Act.TheVariants.{Mod, Dead}
 use Rattle.vms_world.specs.declared.worlds.World.{World}
 use Rattle.vms_world.specs.Lanes.MakesActs.{none as no_act}
 use Rattle.vms_file_order.specs.Common.{MakeInAnyOrder}
-use Rattle.vms_file_order.proofs.Common.{Buries-more, Includes, IsTurn-more, SetsNormal-more, SetsPressure-more}
+use Rattle.vms_file_order.proofs.Common.{Includes, PageSteps-more}
 use Rattle.vms_phase.specs.declared.phases.PhaseDone.{PhaseDone}
 use Rattle.vms_phase.specs.Common.{histories_of}
 use Rattle.vms_replay.specs.Common.{GoesBy, normal_rule, pressure_rule}
@@ -31,24 +29,6 @@ module _ (pressure normal : ZoneSize → ℕ → ℕ → Type 0) (by_pressure : 
   in_normal : Includes normal normal_rule
   in_normal = λ size online t answer valid least most. by_normal size online t valid least most answer
 
-  PageSteps-kernel : (lane : Lane) (p : ℕ) (act : Act) (h : History) (steps : List Step)
-      → PageSteps header w.pages pressure normal lane p act h steps
-      → PageSteps header w.pages pressure_rule normal_rule lane p act h steps
-  PageSteps-kernel Control p (Pressure n) h steps makes =
-      SetsPressure-more normal normal_rule in_normal pressure pressure_rule in_pressure (facts_of header w.pages) n p h
-      steps makes
-  PageSteps-kernel Control p (Normal n) h steps makes =
-      SetsNormal-more normal normal_rule in_normal (facts_of header w.pages) n p h steps makes
-  PageSteps-kernel Control p (Dead c) h steps makes =
-      Buries-more normal normal_rule in_normal (facts_of header w.pages) c p h steps makes
-  PageSteps-kernel Control p (Kswapd n order most) h steps (answer, turn) = (
-    answer,
-    IsTurn-more normal normal_rule in_normal pressure pressure_rule in_pressure header w.pages n order most p h steps
-        answer turn,
-  )
-  PageSteps-kernel (Cpu d) p (Mod k delta) h steps makes = makes
-  PageSteps-kernel lane p act h steps makes = makes
-
   MakeInAnyOrder-kernel : (items : List Item) (hs : TableHistories) → MakeInAnyOrder header pressure normal w items hs
       → makes_on_threads header w items hs
   MakeInAnyOrder-kernel items hs phase =
@@ -61,7 +41,8 @@ module _ (pressure normal : ZoneSize → ℕ → ℕ → Type 0) (by_pressure : 
         page_lines = λ n below.
             MakesActs-more (PageSteps header w.pages pressure normal (lane_at lanes n) (suc n))
             (PageSteps header w.pages pressure_rule normal_rule (lane_at lanes n) (suc n)) (suc n)
-            (PageSteps-kernel (lane_at lanes n) (suc n)) (acts_of (lane_at lanes n) items) hs.pages
+            (PageSteps-more pressure pressure_rule in_pressure normal normal_rule in_normal header w.pages
+            (lane_at lanes n) (suc n)) (acts_of (lane_at lanes n) items) hs.pages
             (phase.page_lines n below);
         event_lines = phase.event_lines;
         pcpu_lines = phase.pcpu_lines;

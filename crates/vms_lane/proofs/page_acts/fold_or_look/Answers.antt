@@ -1,11 +1,12 @@
 -- Each act on the page counters that every lane may make, by its call.
-use Rattle.std.proofs.Common.{Some, sym, ap, subst}
+use Rattle.std.proofs.Common.{refl, sym, ap, subst}
+use Rattle.vms_calls.specs.declared.page_calls.PageAnswer.TheVariants.{Snapshot, System, Tested, Value}
+use Rattle.vms_calls.specs.declared.page_calls.PageCall.TheVariants.{Test, Value as ValueOf, Snapshot as SnapshotOf}
+use Rattle.vms_calls.specs.declared.page_calls.PageCall.TheVariants.{System as SystemOf}
 use Rattle.vms_world.specs.Common.{IsCounter, IsCpu, IsItem, IsZone, Shape, own, IsSnapshot, Facts, IsActOf, Act, Water}
 use Rattle.vms_world.specs.Common.{Val, Snap, Sys}
-use Rattle.vms_answers.specs.declared.answers.Answer.TheVariants.{Snapshot, System, Tested, Value}
 use Rattle.vms_lane.proofs.ActKinds.{looks-none}
-use Rattle.vms_lane.proofs.MadeOnPages.{fold-made, known-item, look-made, snapshot-steps, system-steps, test-steps}
-use Rattle.vms_lane.proofs.MadeOnPages.{value-steps}
+use Rattle.vms_lane.proofs.MadeOnPages.{fold-made, known-item, look-made}
 use Rattle.vms_lane.proofs.page_acts.fold_or_look.Goals as goal
 
 pub fold-requires : goal.fold-requires
@@ -22,9 +23,7 @@ returns-in-Fold-clause-made g c =
     fold-made c.args.header.now (g.P.Rule.answers c.args.rules.now.pressure)
     (g.N.Rule.answers c.args.rules.now.normal) c.args.table.now.facts c.requires.facts c.args.lane
     (g.C.Caller.pass c.fold.new.pass) (g.C.Caller.pass c.args.pass.now) c.requires.owner c.in-Fold.cpu
-    c.fold.ensures.folds c.fold.ensures.carries
-    (λ w steps call. c.changes_and_folds_answer_nothing.ensures.fold c.args.header.now w c.args.lane c.in-Fold.cpu
-    steps call) c.args.act c.in-Fold.is
+    c.fold.ensures.folds c.fold.ensures.carries c.args.act c.in-Fold.is
 
 pub watermark_ok-requires : goal.watermark_ok-requires
 watermark_ok-requires g c =
@@ -42,17 +41,15 @@ returns-in-Water-clause-made g c =
     let header = c.args.header.now in
     let old = g.C.Caller.pass c.args.pass.now in
     let call = c.watermark_ok.ensures.made in
-    let told = c.watermark_ok.result in
-    let law = c.looks_tell_answers.ensures.test in
-    look-made header (g.P.Rule.answers c.args.rules.now.pressure) (g.N.Rule.answers c.args.rules.now.normal)
+    look-made header (g.P.Rule.answers c.args.rules.now.pressure)
+    (g.N.Rule.answers c.args.rules.now.normal)
     c.args.table.now.facts c.requires.facts c.args.lane (g.C.Caller.pass c.watermark_ok.new.pass) old
-    (Some (Tested told)) (Water c.in-Water.zone c.in-Water.mark c.in-Water.most) call.0 call.2
-    (test-steps header c.args.table.now.facts.base (g.P.Rule.answers c.args.rules.now.pressure)
-    (g.N.Rule.answers c.args.rules.now.normal) old.number old.seen call.0 c.args.lane c.in-Water.zone c.in-Water.mark
-    c.in-Water.most told call.1)
-    (λ w. law header w c.args.lane c.in-Water.zone c.in-Water.mark c.in-Water.most call.0 told call.1)
+    (Water c.in-Water.zone c.in-Water.mark c.in-Water.most)
+    (Test c.in-Water.zone c.in-Water.mark c.in-Water.most) (Tested c.watermark_ok.result)
+    refl (λ d same. cc) refl call.0 call.1 call.2
     (c.looks_leave_their_caller.ensures.test header c.in-Water.zone c.in-Water.mark c.in-Water.most old.number old.seen
-    call.0 (told, call.1) (own old.seen old.number)) c.requires.nothing c.args.act c.in-Water.is
+    call.0 (c.watermark_ok.result, call.1) (own old.seen old.number)) c.requires.nothing
+    c.args.act c.in-Water.is
 
 pub place_value-requires : goal.place_value-requires
 place_value-requires g c =
@@ -67,15 +64,14 @@ returns-in-Val-clause-made g c =
     let header = c.args.header.now in
     let old = g.C.Caller.pass c.args.pass.now in
     let call = c.place_value.ensures.made in
-    look-made header (g.P.Rule.answers c.args.rules.now.pressure) (g.N.Rule.answers c.args.rules.now.normal)
+    look-made header (g.P.Rule.answers c.args.rules.now.pressure)
+    (g.N.Rule.answers c.args.rules.now.normal)
     c.args.table.now.facts c.requires.facts c.args.lane (g.C.Caller.pass c.place_value.new.pass) old
-    (Some (Value c.place_value.result)) (Val c.in-Val.counter) call.0 call.2
-    (value-steps header c.args.table.now.facts.base (g.P.Rule.answers c.args.rules.now.pressure)
-    (g.N.Rule.answers c.args.rules.now.normal) old.number old.seen call.0 c.args.lane c.in-Val.counter
-    c.place_value.result call.1)
-    (λ w. c.looks_tell_answers.ensures.value header w c.args.lane c.in-Val.counter call.0 c.place_value.result call.1)
+    (Val c.in-Val.counter) (ValueOf c.in-Val.counter) (Value c.place_value.result)
+    refl (λ d same. cc) refl call.0 call.1 call.2
     (c.looks_leave_their_caller.ensures.place_value header.layout c.in-Val.counter old.number old.seen call.0
-    (c.place_value.result, call.1) (own old.seen old.number)) c.requires.nothing c.args.act c.in-Val.is
+    (c.place_value.result, call.1) (own old.seen old.number)) c.requires.nothing
+    c.args.act c.in-Val.is
 
 pub snapshot-requires : goal.snapshot-requires
 snapshot-requires g c =
@@ -92,16 +88,14 @@ returns-in-Snap-clause-made g c =
     let call = c.snapshot.ensures.made in
     let snapshot = subst (λ (shape : Shape). IsSnapshot shape c.in-Snap.counter call.0 c.snapshot.result)
     (ap (λ (f : Facts). f.layout) c.requires.facts) call.1 in
-    look-made header (g.P.Rule.answers c.args.rules.now.pressure) (g.N.Rule.answers c.args.rules.now.normal)
+    look-made header (g.P.Rule.answers c.args.rules.now.pressure)
+    (g.N.Rule.answers c.args.rules.now.normal)
     c.args.table.now.facts c.requires.facts c.args.lane (g.C.Caller.pass c.snapshot.new.pass) old
-    (Some (Snapshot c.snapshot.result)) (Snap c.in-Snap.counter) call.0 call.2
-    (snapshot-steps header c.args.table.now.facts.base (g.P.Rule.answers c.args.rules.now.pressure)
-    (g.N.Rule.answers c.args.rules.now.normal) old.number old.seen call.0 c.args.lane c.in-Snap.counter
-    c.snapshot.result snapshot)
-    (λ w. c.looks_tell_answers.ensures.snapshot header w c.args.lane c.in-Snap.counter call.0 c.snapshot.result
-    snapshot)
+    (Snap c.in-Snap.counter) (SnapshotOf c.in-Snap.counter) (Snapshot c.snapshot.result)
+    refl (λ d same. cc) refl call.0 snapshot call.2
     (c.looks_leave_their_caller.ensures.snapshot header.layout c.in-Snap.counter old.number old.seen call.0
-    (c.snapshot.result, snapshot) (own old.seen old.number)) c.requires.nothing c.args.act c.in-Snap.is
+    (c.snapshot.result, snapshot) (own old.seen old.number)) c.requires.nothing
+    c.args.act c.in-Snap.is
 
 pub system_value-requires : goal.system_value-requires
 system_value-requires g c =
@@ -117,15 +111,14 @@ returns-in-Sys-clause-made g c =
     let header = c.args.header.now in
     let old = g.C.Caller.pass c.args.pass.now in
     let call = c.system_value.ensures.made in
-    look-made header (g.P.Rule.answers c.args.rules.now.pressure) (g.N.Rule.answers c.args.rules.now.normal)
+    look-made header (g.P.Rule.answers c.args.rules.now.pressure)
+    (g.N.Rule.answers c.args.rules.now.normal)
     c.args.table.now.facts c.requires.facts c.args.lane (g.C.Caller.pass c.system_value.new.pass) old
-    (Some (System c.system_value.result)) (Sys c.in-Sys.item) call.0 call.2
-    (system-steps header c.args.table.now.facts.base (g.P.Rule.answers c.args.rules.now.pressure)
-    (g.N.Rule.answers c.args.rules.now.normal) old.number old.seen call.0 c.args.lane c.in-Sys.item
-    c.system_value.result call.1)
-    (λ w. c.looks_tell_answers.ensures.system header w c.args.lane c.in-Sys.item call.0 c.system_value.result call.1)
+    (Sys c.in-Sys.item) (SystemOf c.in-Sys.item) (System c.system_value.result)
+    refl (λ d same. cc) refl call.0 call.1 call.2
     (c.looks_leave_their_caller.ensures.system_value header.layout c.in-Sys.item old.number old.seen call.0
-    (c.system_value.result, call.1) (own old.seen old.number)) c.requires.nothing c.args.act c.in-Sys.is
+    (c.system_value.result, call.1) (own old.seen old.number)) c.requires.nothing
+    c.args.act c.in-Sys.is
 
 pub returns-in_default : goal.returns-in_default
 returns-in_default g c =

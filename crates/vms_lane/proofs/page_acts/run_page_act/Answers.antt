@@ -52,9 +52,7 @@ returns-in-Mod g c =
           (g.N.Rule.answers c.args.rules.now.normal) facts c.requires.facts c.args.cpu new.pass old.pass
           c.requires.owner counter pages Modify
           (subst (λ (z : ℤ). HasChanged facts.layout new.pass old.pass counter z Modify) same c.change.ensures.made)
-          c.change.ensures.carries (Mod counter pages) (λ steps change. change)
-          (λ w steps change. c.changes_and_folds_answer_nothing.ensures.modify c.args.header.now w c.args.cpu counter
-          pages Modify steps change) c.args.act c.in-Mod.is;
+          c.change.ensures.carries (Mod counter pages) refl c.args.act c.in-Mod.is;
       grown = subst (λ (a : Act). HasGrown (λ k. spent_on_counter k a) new.volume old.volume) (sym c.in-Mod.is)
           (grown-at old.volume counter.number (unsigned_abs pages) inside new.volume
           (subst (λ (z : ℤ). new.volume ≡ slice_set old.volume counter.number
@@ -93,9 +91,7 @@ returns-in-Inc g c =
           (g.N.Rule.answers c.args.rules.now.normal) facts c.requires.facts c.args.cpu new.pass old.pass
           c.requires.owner counter (pos 1) Raise
           c.change-in-Inc.ensures.made
-          c.change-in-Inc.ensures.carries (Inc counter) (λ steps change. change)
-          (λ w steps change. c.changes_and_folds_answer_nothing.ensures.raise c.args.header.now w c.args.cpu counter
-          (pos 1) Raise steps change) c.args.act c.in-Inc.is;
+          c.change-in-Inc.ensures.carries (Inc counter) refl c.args.act c.in-Inc.is;
       grown = subst (λ (a : Act). HasGrown (λ k. spent_on_counter k a) new.volume old.volume) (sym c.in-Inc.is)
           (grown-at old.volume counter.number 1 inside new.volume
           c.change-in-Inc.ensures.volume);
@@ -133,9 +129,7 @@ returns-in-Dec g c =
           (g.N.Rule.answers c.args.rules.now.normal) facts c.requires.facts c.args.cpu new.pass old.pass
           c.requires.owner counter (negsuc 0) Lower
           c.change-in-Dec.ensures.made
-          c.change-in-Dec.ensures.carries (Dec counter) (λ steps change. change)
-          (λ w steps change. c.changes_and_folds_answer_nothing.ensures.lower c.args.header.now w c.args.cpu counter
-          (negsuc 0) Lower steps change) c.args.act c.in-Dec.is;
+          c.change-in-Dec.ensures.carries (Dec counter) refl c.args.act c.in-Dec.is;
       grown = subst (λ (a : Act). HasGrown (λ k. spent_on_counter k a) new.volume old.volume) (sym c.in-Dec.is)
           (grown-at old.volume counter.number 1 inside new.volume
           c.change-in-Dec.ensures.volume);
