@@ -63,7 +63,8 @@ module _ (new old : Pass PcpuFacts PcpuStep) (words : Shared PcpuFacts) (of : Is
             (is false no_room);
         exact =
             λ alone.
-            limited-exact old.facts old.seen new.seen old.number call.cpu j limit amount call.steps answer made owns idle
+            limited-exact old.facts old.seen new.seen old.number call.cpu j limit amount call.steps answer
+                made owns idle
             alone some (is answer refl);
       }
     where

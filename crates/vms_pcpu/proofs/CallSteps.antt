@@ -8,7 +8,8 @@ use Rattle.vms_pcpu_core.specs.Common.{percpu, History, IsLegal, event, MayMake,
 use Rattle.vms_seats.specs.Common.{Pass, Made}
 
 -- the first of the steps
-pub may-front : (facts : PcpuFacts) (p : ℕ) (h : History) (front back : List PcpuStep) → MayMake facts p h (front ++ back)
+pub may-front : (facts : PcpuFacts) (p : ℕ) (h : History) (front back : List PcpuStep) → MayMake facts p h
+    (front ++ back)
     → MayMake facts p h front
 may-front facts p h front back may later done step rest is made tells =
     may later done step (rest ++ back) (ap (λ ks. ks ++ back) is ∙ append_assoc done (step ∷ rest) back) made tells

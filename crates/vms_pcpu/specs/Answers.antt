@@ -1,5 +1,5 @@
--- What the answers of a pass's calls mean, whatever others do meanwhile. Each speaks of what the pass had seen before the
--- call, and of what it has seen after it.
+-- What the answers of a pass's calls mean, whatever others do meanwhile. Each speaks of what the pass had seen before
+-- the call, and of what it has seen after it.
 use Rattle.std.specs.Prelude.{◌≡◌, ℕ, Bool, true, false, ℤ, pos, MatchBool}
 use Rattle.vms_history.specs.Common.{CpuId, PcpuId}
 use Rattle.vms_pcpu_core.specs.declared.answers.Compare.{Compare}

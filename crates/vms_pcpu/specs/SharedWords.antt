@@ -13,8 +13,8 @@ abbrev pub lock_word : Bool → ℕ
 lock_word false = 0
 lock_word true = 1
 
--- the shared parts by counter, the locks by counter, and the local parts by CPU and then counter. The last word stays 0:
--- a table of no counter has a word too
+-- the shared parts by counter, the locks by counter, and the local parts by CPU and then counter. The last word stays
+-- 0: a table of no counter has a word too
 unfoldable pub shown : PcpuFacts → LockedState → List ℕ
 shown facts s = map word_of s.numbers.count ++ (map lock_word s.held ++ (map word_of s.numbers.local ++ 0 ∷ []))
 

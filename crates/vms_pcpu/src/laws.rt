@@ -42,10 +42,10 @@ impl AnyPcpuPass for PcpuMain {
     }
 }
 
-/// While others act too, at every moment of what a pass has seen, no amount is lost or counted twice: the shared part of
-/// a counter, its local parts and what callers carry for it add up to its true total, which is the base and all amounts
-/// since. A local part is at most its batch, a lock has at most one holder, and nothing is carried for a counter whose
-/// lock is free. So it is with the other laws of the percpu counters.
+/// While others act too, at every moment of what a pass has seen, no amount is lost or counted twice: the shared part
+/// of a counter, its local parts and what callers carry for it add up to its true total, which is the base and all
+/// amounts since. A local part is at most its batch, a lock has at most one holder, and nothing is carried for a
+/// counter whose lock is free. So it is with the other laws of the percpu counters.
 pub fn totals_are_kept<P: AnyPcpuPass>(pass: &P)
     ensures { (moment : History) → Extends (P.pass pass.now).seen moment →
         KeepsLaws (P.pass pass.now).facts moment }

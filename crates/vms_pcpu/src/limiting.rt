@@ -17,14 +17,15 @@ use vms_seats::Worker;
 
 impl PcpuTable {
     /// Adds an amount to a counter on the pass's CPU where the counter then keeps a limit, so far as the call sees, and
-    /// says whether it does. The limit is the most for a positive amount, and the least for a negative one. It waits for
-    /// the counter's lock where the shared part alone can't decide. The volume grows by the amount's size whatever the
-    /// answer is. No counterpart in Linux 6.1.
+    /// says whether it does. The limit is the most for a positive amount, and the least for a negative one. It waits
+    /// for the counter's lock where the shared part alone can't decide. The volume grows by the amount's size whatever
+    /// the answer is. No counterpart in Linux 6.1.
     ///
-    /// A `yes` keeps the limit if nobody else adds meanwhile. Others can push the true total past it by at most what they
-    /// added since the call's first step, plus what they still carried when it loaded the shared part without the lock.
-    /// A `no` comes only where the true total when the lock was won and the amount are past the limit, together with
-    /// what others added from there to the call's last reading. For a caller alone with the counter both are exact.
+    /// A `yes` keeps the limit if nobody else adds meanwhile. Others can push the true total past it by at most what
+    /// they added since the call's first step, plus what they still carried when it loaded the shared part without the
+    /// lock. A `no` comes only where the true total when the lock was won and the amount are past the limit, together
+    /// with what others added from there to the call's last reading. For a caller alone with the counter both are
+    /// exact.
     pub fn limited_add<R: Wait>(
         &self,
         rt: &R,
@@ -147,7 +148,7 @@ impl PcpuTable {
             steps result
             × Made percpu worker.new worker.old steps }
     {
-        let _ = worker.cpu();
+        worker.is_live();
         let unknown = self.unknown(counter) as i64;
         let left = room(limit, amount, value);
         if left + unknown < 0 {

@@ -19,7 +19,7 @@ impl PcpuTable {
         requires counter { IsPcpu self.now.facts counter.number }
         ensures { (steps : List PcpuStep) × Locks counter steps × Made percpu worker.new worker.old steps }
     {
-        let _ = worker.cpu();
+        worker.is_live();
         let backoff = Backoff::new();
         for _ in rt.forever() {
             if self.try_lock(worker, counter) {

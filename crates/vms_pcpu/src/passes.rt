@@ -113,6 +113,14 @@ impl PcpuPass {
     {
         self.cpu
     }
+
+    /// What holds of the pass between two calls.
+    #[inline]
+    pub fn is_ready(&self)
+        ensures { IsReady self.now.pass }
+    {
+        self.worker.is_live();
+    }
 }
 
 impl PcpuControl {
@@ -121,6 +129,6 @@ impl PcpuControl {
         ensures ready { IsReady self.now }
         ensures none { self.now.cpu ≡ None }
     {
-        let _ = &self.worker;
+        self.worker.is_live();
     }
 }

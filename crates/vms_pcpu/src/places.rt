@@ -6,18 +6,15 @@ ghost use Rattle.vms_pcpu.specs.SharedWords as words;
 use crate::tables::PcpuTable;
 use vms_base::{CpuId, PcpuId};
 
-impl PcpuTable {
-    /// Where the word of a counter's shared part stands.
-    #[inline]
-    pub(crate) fn count_place(&self, counter: PcpuId) -> usize
-        requires { IsPcpu self.now.facts counter.number }
-        ensures place { result ≡ counter.number }
-        ensures within { result < self.now.table.words }
-    {
-        let _ = &self.words;
-        counter.number as usize
-    }
+/// Where the word of a counter's shared part stands.
+#[inline]
+pub(crate) fn count_place(counter: PcpuId) -> usize
+    ensures { result ≡ counter.number }
+{
+    counter.number as usize
+}
 
+impl PcpuTable {
     /// Where the word of a counter's lock stands.
     #[inline]
     pub(crate) fn lock_place(&self, counter: PcpuId) -> usize

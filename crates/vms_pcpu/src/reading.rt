@@ -76,7 +76,8 @@ impl PcpuTable {
         requires calls { MayCall worker.old.facts worker.old.seen worker.old.number }
         requires rhs { unsigned_abs rhs ≤ 2 ^ 60 }
         ensures { (steps : List PcpuStep)
-            × IsCompare (unknown_in self.now.facts counter.number) (present_cpus self.now.facts) counter rhs steps result
+            × IsCompare (unknown_in self.now.facts counter.number) (present_cpus self.now.facts)
+            counter rhs steps result
             × Made percpu worker.new worker.old steps }
     {
         let off = self.load_count(worker, counter) - rhs;
@@ -116,7 +117,7 @@ impl PcpuTable {
             × Made percpu worker.new worker.old steps }
         ensures bound { unsigned_abs result ≤ 128 * most_batch }
     {
-        let _ = worker.cpu();
+        worker.is_live();
         let mut sum = 0;
         for (number, state) in self.facts.cpus.as_slice().iter().enumerate() {
             let cpu = CpuId {

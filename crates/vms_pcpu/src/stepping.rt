@@ -6,6 +6,7 @@ ghost use Rattle.vms_pcpu_core.specs.Common.{most_batch, percpu, most_number, Ma
 ghost use Rattle.vms_seats.specs.Common.{IsFrom, MadeOne};
 
 use crate::ledgers::SharedPcpu;
+use crate::places::count_place;
 use crate::tables::PcpuTable;
 use vms_base::{CpuId, PcpuId, decode, encode};
 use vms_pcpu_core::PcpuStep;
@@ -22,7 +23,7 @@ impl PcpuTable {
         ensures bound { unsigned_abs result ≤ most_number }
     {
         let plan = PcpuStep::LoadC(counter, 0);
-        decode(worker.load_at(&self.words, self.count_place(counter), &plan))
+        decode(worker.load_at(&self.words, count_place(counter), &plan))
     }
 
     /// Loads a CPU's local part.
@@ -97,7 +98,7 @@ impl PcpuTable {
         let plan = PcpuStep::AddC(counter, amount);
         worker.add_at(
             &self.words,
-            self.count_place(counter),
+            count_place(counter),
             encode(amount),
             &plan,
         );

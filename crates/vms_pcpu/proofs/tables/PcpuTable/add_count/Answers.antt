@@ -21,7 +21,7 @@ add_at-requires-clause-step c =
     (λ a. MayStep percpu shown pass c.count_place.result (λ n. (n + c.encode.result) % 2 ^ 64) (told (AddC j a)))
     (sym same)
     (subst (λ at. MayStep percpu shown pass at (λ n. (n + c.encode.result) % 2 ^ 64) (told (AddC j amount)))
-    (sym c.count_place.ensures.place)
+    (sym c.count_place.ensures)
     (subst (λ word. MayStep percpu shown pass j.number (λ n. (n + word) % 2 ^ 64) (told (AddC j amount)))
     (sym (c.encode.ensures ∙ ap word_of same))
     (count-add pass j (subst (λ (f : PcpuFacts). IsPcpu f j.number) (sym c.requires.table.facts) c.requires.counter)

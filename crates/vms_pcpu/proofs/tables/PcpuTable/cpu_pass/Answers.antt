@@ -3,5 +3,6 @@ use Rattle.vms_pcpu.proofs.KnownSpending.{begun-owns}
 use Rattle.vms_pcpu.proofs.tables.PcpuTable.cpu_pass.Goals as goal
 
 pub invariant_of-result : goal.invariant_of-result
-invariant_of-result c = begun-owns c.begin-worker.new.self c.args.main.now c.begin-worker.result c.args.cpu c.args.volume
+invariant_of-result c = begun-owns c.begin-worker.new.self c.args.main.now c.begin-worker.result c.args.cpu
+    c.args.volume
     c.begin-worker.ensures c.requires.free c.requires.volume

@@ -28,7 +28,7 @@ returns-then-left-unknown-lt0 c =
       c.unknown-unknown.ensures.bound,
       c.if-left-unknown-lt0.true,
     ) in
-    ([], beyond out, calls-none percpu c.args.worker.now c.cpu.ensures.live)
+    ([], beyond out, calls-none percpu c.args.worker.now c.is_live.ensures)
 
 pub returns-then-left-unknown : goal.returns-then-left-unknown
 returns-then-left-unknown c =
@@ -51,7 +51,7 @@ returns-then-left-unknown c =
       c.unknown-unknown.ensures.bound,
       c.if-left-unknown.true,
     ) in
-    ([], inside far, calls-none percpu c.args.worker.now c.cpu.ensures.live)
+    ([], inside far, calls-none percpu c.args.worker.now c.is_live.ensures)
 
 pub returns : goal.returns
 returns c =

@@ -65,7 +65,8 @@ move_local-requires-clause-may g c =
     (λ u. ending-may old own j limit amount c.requires.may facts c.requires.table.facts
     (other_word amount c.if-amount-eq0.false) c.add_unlocked.new.worker probing probes c.if-add_unlocked.ensures.2
     c.lock.new.worker c.lock.ensures.0 c.lock.ensures.1 c.lock.ensures.2 c.load_count.new.worker v
-    c.load_count.ensures.made judged loads c.keeps_limit-keeps.ensures.2 true (TakeL j own u ∷ AddC j (u +ℤ amount) ∷ Unlock j ∷ []) judges (yes_ends u))
+    c.load_count.ensures.made judged loads c.keeps_limit-keeps.ensures.2 true
+        (TakeL j own u ∷ AddC j (u +ℤ amount) ∷ Unlock j ∷ []) judges (yes_ends u))
 
 pub unlock-requires-clause-may : goal.unlock-requires-clause-may
 unlock-requires-clause-may g c =
@@ -127,12 +128,14 @@ returns-then-keeps g c =
     let u = c.move_local.ensures.0 in
     subst
     (λ (b : Bool). (steps : List PcpuStep)
-    × IsLimitedAdd (batch_at facts.base j.number) (unknown facts j.number) (present_cpus facts) own j limit amount steps b
+    × IsLimitedAdd (batch_at facts.base j.number) (unknown facts j.number) (present_cpus facts) own j limit
+        amount steps b
     × Made percpu c.move_local.new.worker old steps) (sym c.if-keeps.true)
     (ending-made old own j limit amount c.requires.may facts c.requires.table.facts
     (other_word amount c.if-amount-eq0.false) c.add_unlocked.new.worker probing probes c.if-add_unlocked.ensures.2
     c.lock.new.worker c.lock.ensures.0 c.lock.ensures.1 c.lock.ensures.2 c.load_count.new.worker v
-    c.load_count.ensures.made judged loads c.keeps_limit-keeps.ensures.2 true (TakeL j own u ∷ AddC j (u +ℤ amount) ∷ Unlock j ∷ []) judges (yes_ends u) c.move_local.new.worker
+    c.load_count.ensures.made judged loads c.keeps_limit-keeps.ensures.2 true
+        (TakeL j own u ∷ AddC j (u +ℤ amount) ∷ Unlock j ∷ []) judges (yes_ends u) c.move_local.new.worker
     (subst (λ (a : ℤ). Made percpu c.move_local.new.worker judged (TakeL j own u ∷ AddC j (u +ℤ a) ∷ Unlock j ∷ []))
     amounts c.move_local.ensures.1))
 
@@ -164,9 +167,11 @@ returns-else-keeps g c =
     c.keeps_limit-keeps.result limits amounts value c.keeps_limit-keeps.ensures.1) in
     subst
     (λ (b : Bool). (steps : List PcpuStep)
-    × IsLimitedAdd (batch_at facts.base j.number) (unknown facts j.number) (present_cpus facts) own j limit amount steps b
+    × IsLimitedAdd (batch_at facts.base j.number) (unknown facts j.number) (present_cpus facts) own j limit
+        amount steps b
     × Made percpu c.unlock.new.worker old steps) (sym c.if-keeps.false)
     (ending-made old own j limit amount c.requires.may facts c.requires.table.facts
     (other_word amount c.if-amount-eq0.false) c.add_unlocked.new.worker probing probes c.if-add_unlocked.ensures.2
     c.lock.new.worker c.lock.ensures.0 c.lock.ensures.1 c.lock.ensures.2 c.load_count.new.worker v
-    c.load_count.ensures.made judged loads c.keeps_limit-keeps.ensures.2 false (Unlock j ∷ []) judges no_ends c.unlock.new.worker c.unlock.ensures.all)
+    c.load_count.ensures.made judged loads c.keeps_limit-keeps.ensures.2 false (Unlock j ∷ []) judges no_ends
+        c.unlock.new.worker c.unlock.ensures.all)

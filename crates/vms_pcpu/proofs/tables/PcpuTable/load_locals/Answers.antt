@@ -9,7 +9,7 @@ use Rattle.vms_pcpu.proofs.tables.PcpuTable.load_locals.Goals as goal
 use Rattle.vms_seats.specs.Common.{Shared}
 
 pub loop-number-init : goal.loop-number-init
-loop-number-init c = so_far-none c.args.self.now.facts c.args.counter c.args.worker.now c.cpu.ensures.live
+loop-number-init c = so_far-none c.args.self.now.facts c.args.counter c.args.worker.now c.is_live.ensures
 
 pub loop-number-preserved : goal.loop-number-preserved
 loop-number-preserved c =
@@ -34,7 +34,8 @@ loop-number-preserved c =
           let small = w.load_local-sum.ensures.bound in
           subst (λ p. SoFar facts j p old (n + 1) later_sum) (sym w.worker-is)
           (so_far-then facts j now old n sum so_far states states_are Online inside
-          (sym c.is_present.ensures ∙ w.if-is_present.true) w.load_local-sum.new.worker w.load_local-sum.result later_sum
+          (sym c.is_present.ensures ∙ w.if-is_present.true) w.load_local-sum.new.worker
+              w.load_local-sum.result later_sum
           w.load_local-sum.ensures.made small (omega (arith, ints, w.sum-is, before, small, inside, long, each, most)))
       | else-is_present w ↦
           subst (λ p. SoFar facts j p old (n + 1) later_sum) (sym w.worker-is)
