@@ -64,7 +64,7 @@ module _ (new old : Pass PcpuFacts PcpuStep) (words : Shared PcpuFacts) (of : Is
         exact =
             λ alone.
             limited-exact old.facts old.seen new.seen old.number call.cpu j limit amount call.steps answer
-                made owns idle
+            made owns idle
             alone some (is answer refl);
       }
     where

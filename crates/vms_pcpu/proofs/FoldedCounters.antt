@@ -71,7 +71,7 @@ has-folded new old words dead n of is_dead all folded =
       none_left =
           subst
           (λ (facts : PcpuFacts). (j : ℕ) → IsPcpu facts j → local_at (numbers_after facts new.seen)
-              dead.number j ≡ pos 0)
+          dead.number j ≡ pos 0)
           (sym made.facts)
           (λ j j_in.
           folded-none old.facts old.seen new.seen [] old.number dead n folded.steps

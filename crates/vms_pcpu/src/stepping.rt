@@ -96,12 +96,7 @@ impl PcpuTable {
         ensures { MadeOne percpu worker.new worker.old (AddC counter amount) }
     {
         let plan = PcpuStep::AddC(counter, amount);
-        worker.add_at(
-            &self.words,
-            count_place(counter),
-            encode(amount),
-            &plan,
-        );
+        worker.add_at(&self.words, count_place(counter), encode(amount), &plan);
     }
 
     /// Adds to the local part of the CPU that the pass owns.

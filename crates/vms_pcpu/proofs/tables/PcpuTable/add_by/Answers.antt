@@ -22,7 +22,7 @@ pub add_local-requires-clause-owns : goal.add_local-requires-clause-owns
 add_local-requires-clause-owns g c =
     owner-after c.load_local-local.new.worker c.args.worker.now
     (LoadL c.args.counter c.args.own c.load_local-local.result ∷ []) (Some c.args.own)
-        c.load_local-local.ensures.made.all
+    c.load_local-local.ensures.made.all
     c.requires.may.owner
 
 pub add_local-requires-clause-may : goal.add_local-requires-clause-may

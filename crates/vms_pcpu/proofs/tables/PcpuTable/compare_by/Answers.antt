@@ -16,8 +16,14 @@ returns-then-unsigned_abs-unknown g c =
     let most = c.requires.rhs in
     let fits = same_difference v rhs (omega (arith, small)) (omega (arith, most)) in
     let off : unknown facts j.number < unsigned_abs (v -ℤ rhs) =
-    omega (arith, ints, c.unknown.ensures.unknown, c.unsigned_abs.ensures.value, fits,
-        c.if-unsigned_abs-unknown.true) in
+    omega (
+      arith,
+      ints,
+      c.unknown.ensures.unknown,
+      c.unsigned_abs.ensures.value,
+      fits,
+      c.if-unsigned_abs-unknown.true,
+    ) in
     compared_far c.args.worker.now c.load_count.new.worker j v c.load_count.ensures.made facts rhs off
     (to_z w8 (of_z w8 c.sign.result)) (passed-sign c.sign.result _ (v -ℤ rhs) c.sign.ensures fits)
 
@@ -39,8 +45,14 @@ returns g c =
     let fits = same_difference v rhs (omega (arith, small)) (omega (arith, most)) in
     let fits_sum = same_difference sum rhs (omega (arith, few)) (omega (arith, most)) in
     let close : unsigned_abs (v -ℤ rhs) ≤ unknown facts j.number =
-    omega (arith, ints, c.unknown.ensures.unknown, c.unsigned_abs.ensures.value, fits,
-        c.if-unsigned_abs-unknown.false) in
+    omega (
+      arith,
+      ints,
+      c.unknown.ensures.unknown,
+      c.unsigned_abs.ensures.value,
+      fits,
+      c.if-unsigned_abs-unknown.false,
+    ) in
     compared_near c.args.worker.now c.load_count.new.worker j v c.load_count.ensures.made facts rhs close
     c.sum_by-sum.new.worker c.sum_by-sum.ensures.made.0 sum c.sum_by-sum.ensures.made.1 c.sum_by-sum.ensures.made.2
     (to_z w8 (of_z w8 c.sign-2.result)) (passed-sign c.sign-2.result _ (sum -ℤ rhs) c.sign-2.ensures fits_sum)

@@ -66,7 +66,7 @@ move_local-requires-clause-may g c =
     (other_word amount c.if-amount-eq0.false) c.add_unlocked.new.worker probing probes c.if-add_unlocked.ensures.2
     c.lock.new.worker c.lock.ensures.0 c.lock.ensures.1 c.lock.ensures.2 c.load_count.new.worker v
     c.load_count.ensures.made judged loads c.keeps_limit-keeps.ensures.2 true
-        (TakeL j own u ∷ AddC j (u +ℤ amount) ∷ Unlock j ∷ []) judges (yes_ends u))
+    (TakeL j own u ∷ AddC j (u +ℤ amount) ∷ Unlock j ∷ []) judges (yes_ends u))
 
 pub unlock-requires-clause-may : goal.unlock-requires-clause-may
 unlock-requires-clause-may g c =
@@ -129,13 +129,13 @@ returns-then-keeps g c =
     subst
     (λ (b : Bool). (steps : List PcpuStep)
     × IsLimitedAdd (batch_at facts.base j.number) (unknown facts j.number) (present_cpus facts) own j limit
-        amount steps b
+    amount steps b
     × Made percpu c.move_local.new.worker old steps) (sym c.if-keeps.true)
     (ending-made old own j limit amount c.requires.may facts c.requires.table.facts
     (other_word amount c.if-amount-eq0.false) c.add_unlocked.new.worker probing probes c.if-add_unlocked.ensures.2
     c.lock.new.worker c.lock.ensures.0 c.lock.ensures.1 c.lock.ensures.2 c.load_count.new.worker v
     c.load_count.ensures.made judged loads c.keeps_limit-keeps.ensures.2 true
-        (TakeL j own u ∷ AddC j (u +ℤ amount) ∷ Unlock j ∷ []) judges (yes_ends u) c.move_local.new.worker
+    (TakeL j own u ∷ AddC j (u +ℤ amount) ∷ Unlock j ∷ []) judges (yes_ends u) c.move_local.new.worker
     (subst (λ (a : ℤ). Made percpu c.move_local.new.worker judged (TakeL j own u ∷ AddC j (u +ℤ a) ∷ Unlock j ∷ []))
     amounts c.move_local.ensures.1))
 
@@ -168,10 +168,10 @@ returns-else-keeps g c =
     subst
     (λ (b : Bool). (steps : List PcpuStep)
     × IsLimitedAdd (batch_at facts.base j.number) (unknown facts j.number) (present_cpus facts) own j limit
-        amount steps b
+    amount steps b
     × Made percpu c.unlock.new.worker old steps) (sym c.if-keeps.false)
     (ending-made old own j limit amount c.requires.may facts c.requires.table.facts
     (other_word amount c.if-amount-eq0.false) c.add_unlocked.new.worker probing probes c.if-add_unlocked.ensures.2
     c.lock.new.worker c.lock.ensures.0 c.lock.ensures.1 c.lock.ensures.2 c.load_count.new.worker v
     c.load_count.ensures.made judged loads c.keeps_limit-keeps.ensures.2 false (Unlock j ∷ []) judges no_ends
-        c.unlock.new.worker c.unlock.ensures.all)
+    c.unlock.new.worker c.unlock.ensures.all)

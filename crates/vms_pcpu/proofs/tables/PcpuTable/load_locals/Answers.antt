@@ -35,7 +35,7 @@ loop-number-preserved c =
           subst (λ p. SoFar facts j p old (n + 1) later_sum) (sym w.worker-is)
           (so_far-then facts j now old n sum so_far states states_are Online inside
           (sym c.is_present.ensures ∙ w.if-is_present.true) w.load_local-sum.new.worker
-              w.load_local-sum.result later_sum
+          w.load_local-sum.result later_sum
           w.load_local-sum.ensures.made small (omega (arith, ints, w.sum-is, before, small, inside, long, each, most)))
       | else-is_present w ↦
           subst (λ p. SoFar facts j p old (n + 1) later_sum) (sym w.worker-is)

@@ -21,7 +21,7 @@ returns-clause-made c =
     let v = c.load_count.result in
     let small = c.load_count.ensures.bound in
     subst (λ (p : CpuPass). MakesCall c.load_count.new.worker p.pass
-        (λ own steps. IsRead j steps (to_z w64 (of_z w64 v))))
+    (λ own steps. IsRead j steps (to_z w64 (of_z w64 v))))
     c.pass.view_is
     (record {
       cpu = c.pass.inside.cpu;
