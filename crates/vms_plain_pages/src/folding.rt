@@ -1,6 +1,7 @@
 ghost use Rattle.std.specs.Prelude.{◌≡◌, ℕ, ◌+◌, ◌/◌, ◌≤◌, ◌^◌, ◌+ℤ◌, true, length, Option, slice_set, unsigned_abs};
-ghost use Rattle.vms_calls.specs.Common.{CpuId, IsCounter, IsCpu, IsGroup, IsItem, IsPlace, counter_at, counter_count};
-ghost use Rattle.vms_calls.specs.Common.{group_of, item_count, item_of, system_at, value_at, with_value, IsFold};
+ghost use Rattle.vms_calls.specs.Common.{CpuId, IsCounter, IsCpu, IsGroup, IsItem, IsLayout, IsPlace, counter_at};
+ghost use Rattle.vms_calls.specs.Common.{counter_count, group_of, item_count, item_of, system_at, value_at};
+ghost use Rattle.vms_calls.specs.Common.{with_value, IsFold};
 ghost use Rattle.vms_plain_pages.specs.Alone.{IsSmallState, CallLeadsAlone};
 ghost use Rattle.vms_plain_pages.specs.Folding.{FoldsCpu};
 ghost use Rattle.vms_plain_pages.specs.FoldParts.{AddsSums, AreSums, FoldsGroups, FoldsPlace, sum_at};
@@ -87,6 +88,7 @@ fn fold_group(
     group: GroupId,
     sums: &mut [i64; MOST_ITEMS],
 )
+    requires layout { IsLayout layout.now }
     requires room { IsSmallState layout.now (2 ^ 61 + 250) pages.old }
     requires cpu { IsCpu layout.now cpu.number }
     requires group { IsGroup layout.now group.number }
@@ -94,8 +96,6 @@ fn fold_group(
     ensures folds { FoldsGroups layout.now cpu group.number 1 pages.old pages.new sums.old sums.new }
     ensures sums { (most : ℕ) → AreSums most sums.old → AreSums (most + 1024) sums.new }
 {
-    // The layout's bounds are known once it is read.
-    let _ = layout.positions();
     let found = pages.take(cpu, group);
     for n in 0..8 {
         let counter = CounterId {

@@ -1,7 +1,7 @@
 ghost use Rattle.std.specs.Prelude.{◌≡◌, ℕ, ◌*◌, ◌<◌, ◌≤◌, ◌^◌, ◌↔◌, length, IsTrue, Option, unsigned_abs};
 ghost use Rattle.vms_calls.specs.Common.{CpuId, Online, is_online as tells_online, state_at, IsCounter, IsCpu};
-ghost use Rattle.vms_calls.specs.Common.{most_threshold, counters_of, diff_at, system_at, value_at, sum_below};
-ghost use Rattle.vms_calls.specs.Common.{IsPlaceValue, IsSnapshot, IsSystemValue, at_least_zero};
+ghost use Rattle.vms_calls.specs.Common.{IsLayout, most_threshold, counters_of, diff_at, system_at, value_at};
+ghost use Rattle.vms_calls.specs.Common.{sum_below, IsPlaceValue, IsSnapshot, IsSystemValue, at_least_zero};
 ghost use Rattle.vms_plain_pages.specs.Alone.{IsSmallState, CallLeadsAlone};
 ghost use Rattle.vms_plain_pages.specs.Values.{online_diff, snapshot_of};
 
@@ -42,8 +42,6 @@ pub fn snapshot(pages: &Plain, layout: &Layout, counter: CounterId) -> u64
         pages.now pages.now }
     ensures answer { result ≡ snapshot_of layout.now pages.now counter.number }
 {
-    // The layout's bounds are known once it is read.
-    let _ = layout.positions();
     let hidden = hidden(pages, layout, counter);
     clamped(pages.load_place(counter) + hidden)
 }
@@ -54,6 +52,7 @@ fn hidden(pages: &Plain, layout: &Layout, counter: CounterId) -> i64
     requires counter { IsCounter layout.now counter.number }
     ensures value { result ≡ sum_below (λ c. online_diff pages.now c counter.number) layout.now.cpus }
     ensures bound { unsigned_abs result ≤ 128 * most_threshold }
+    ensures is_layout { IsLayout layout.now }
 {
     // Where all CPUs are online, which is most often so, no CPU's state is looked at for its differential.
     if are_online(pages.state().cpu.as_slice()) {
@@ -100,6 +99,7 @@ fn hidden_by_all(pages: &Plain, layout: &Layout, counter: CounterId) -> i64
     requires counter { IsCounter layout.now counter.number }
     ensures value { result ≡ sum_below (λ c. diff_at pages.now c counter.number) layout.now.cpus }
     ensures bound { unsigned_abs result ≤ 128 * most_threshold }
+    ensures is_layout { IsLayout layout.now }
 {
     let mut sum = 0;
     for number in 0..layout.cpus() {
@@ -114,6 +114,7 @@ fn hidden_by_online(pages: &Plain, layout: &Layout, counter: CounterId) -> i64
     requires counter { IsCounter layout.now counter.number }
     ensures value { result ≡ sum_below (λ c. online_diff pages.now c counter.number) layout.now.cpus }
     ensures bound { unsigned_abs result ≤ 128 * most_threshold }
+    ensures is_layout { IsLayout layout.now }
 {
     let mut sum = 0;
     for number in 0..layout.cpus() {

@@ -1,5 +1,5 @@
 ghost use Rattle.std.specs.Prelude.{◌≡◌, ◌≤◌, ◌^◌, not, Option};
-ghost use Rattle.vms_calls.specs.Common.{CpuId, IsHeader, IsZone, IsWatermarkTest};
+ghost use Rattle.vms_calls.specs.Common.{CpuId, IsHeader, IsLayout, IsZone, IsWatermarkTest};
 ghost use Rattle.vms_plain_pages.specs.Alone.{IsSmallState, CallLeadsAlone};
 ghost use Rattle.vms_plain_pages.specs.Verdicts.{free_of, takes_snapshot, verdict_at};
 
@@ -39,13 +39,12 @@ pub fn watermark_test(
 
 /// The free pages of a zone that a test rests on, and whether they are no snapshot.
 fn free_pages(pages: &Plain, layout: &Layout, zone: PlaceId) -> (u64, bool)
+    requires layout { IsLayout layout.now }
     requires room { IsSmallState layout.now (2 ^ 61) pages.now }
     requires zone { IsZone layout.now zone.number }
     ensures free { result.0 ≡ free_of layout.now pages.now zone.number }
     ensures fast { result.1 ≡ not (takes_snapshot layout.now pages.now zone.number) }
 {
-    // The layout's bounds are known once it is read.
-    let _ = layout.positions();
     let counter = layout.counter(zone, 0);
     let mark = pages.load_mark(zone).mark;
     let value = place_value(pages, counter);

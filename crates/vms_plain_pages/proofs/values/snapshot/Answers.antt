@@ -29,5 +29,5 @@ returns-clause-made c = λ who.
     subst (λ (answer : ℕ). CallLeadsAlone who (λ steps. IsSnapshot c.args.layout.now c.args.counter steps answer)
     c.args.pages.now c.args.pages.now)
     (sym (returns-clause-answer c))
-    (snapshot-made c.args.layout.now c.positions.ensures.is_layout c.args.pages.now c.requires.room c.args.counter
+    (snapshot-made c.args.layout.now c.hidden-hidden.ensures.is_layout c.args.pages.now c.requires.room c.args.counter
     c.requires.counter who)
