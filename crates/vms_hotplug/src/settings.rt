@@ -158,12 +158,12 @@ fn opening_peak(pages: &State, layout: &Layout, cpu: CpuId, zone: usize) -> u64
     ensures value { result ≡ opening_peak_of layout.now pages.now cpu.number zone }
     ensures most { result ≤ most_threshold }
 {
-    let _ = layout.zones();
+    let positions = layout.positions();
     let place = PlaceId {
         number: zone as u32,
     };
     let mut peak = u64::from(pages.threshold_at(layout, cpu, place).t);
-    for position in 0..layout.positions() {
+    for position in 0..positions {
         let counter = layout.counter(place, position);
         peak = peak.max(pages.diff_at(layout, cpu, counter).unsigned_abs());
     }

@@ -11,7 +11,7 @@ returns-clause-value c =
       arith,
       c.loop-position-test.false,
       c.loop-position.auto.«position-end»,
-      c.positions-position-end.ensures.value,
+      c.positions-positions.ensures.value,
     ) in
     subst (λ (m : ℕ). c.loop-position.peak ≡ max (threshold_at s cpu c.args.zone)
     (largest_below (λ n. unsigned_abs (diff_at s cpu (counter_at c.args.layout.now c.args.zone n))) m)) all
