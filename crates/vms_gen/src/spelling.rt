@@ -51,5 +51,5 @@ pub(crate) fn put_bytes(text: &mut LineText, bytes: &[u8])
     requires { array_vec_len text.old + length bytes.now ≤ 208 }
     ensures { text.new.items ≡ text.old.items ++ bytes.now }
 {
-    let _ = text.try_extend_from_slice(bytes);
+    text.try_extend_from_slice(bytes).unwrap();
 }
