@@ -72,7 +72,6 @@ fn online_events(header: &Header, world: &World, event: EventId) -> u64
     ensures { result ≡ sum_over world.now.events event.number (online_from 0 world.now.pages.cpu) }
 {
     worlds_leave_room();
-    let _ = header;
     all_events(&world.events, world.pages.cpu.as_slice(), event)
 }
 
