@@ -36,8 +36,7 @@ pub(crate) fn rate_or_look<N: Rule, P: Rule>(
         table.now.facts.base Control act pass.new pass.old result }
     ensures sets { SetsTwice table.now.facts pass.new.seen pass.old.seen }
 {
-    // The pass is known to live once it is asked for its CPU.
-    let _ = pass.own();
+    pass.is_live();
     match act {
         Act::Pressure(node) => {
             set_pressure(table, pass, header, rules, node);

@@ -44,7 +44,7 @@ pub(crate) fn run_control_line<R: Wait, N: Rule, P: Rule>(
 {
     // What the pass knows of the CPUs stands, whatever others did meanwhile.
     control_passes_know_by_own_steps();
-    let _ = passes.page.own();
+    passes.page.is_live();
     make_act(rt, tables, header, rules, passes, act)
 }
 

@@ -35,7 +35,7 @@ impl LanePasses {
 pub(crate) fn control_passes_are_live(passes: &ControlPasses)
     ensures { AreLive (passes_of passes.now) }
 {
-    let _ = passes.page.own();
+    passes.page.is_live();
     passes.event.is_control();
     passes.pcpu.is_ready();
 }

@@ -82,6 +82,6 @@ pub returns-in_default-clause-sets : goal.returns-in_default-clause-sets
 returns-in_default-clause-sets g c =
     looks-sets c.args.header.now (g.P.Rule.answers c.args.rules.now.pressure)
     (g.N.Rule.answers c.args.rules.now.normal) c.args.table.now c.fold_or_look.new.pass c.args.pass.now
-    c.requires.table c.own.ensures.live c.requires.owner c.args.act
+    c.requires.table c.is_live.ensures c.requires.owner c.args.act
     (control-looks c.args.header.now c.args.act c.requires.act c.requires.no_events
     c.in_default.not-Pressure c.in_default.not-Normal c.in_default.not-Kswapd) _ c.fold_or_look.ensures.made

@@ -18,7 +18,7 @@ returns-clause-controls g c =
           (world_of tables).pages (g.P.Rule.answers c.args.rules.now.pressure)
           (g.N.Rule.answers c.args.rules.now.normal) tables.pages.facts new.seen old.seen old.number c.args.act
           makes.steps.pages (has-made tables.pages new old makes.steps.pages c.requires.passes.of.pages makes.pages)
-          (control-of old c.own.ensures.live c.args.passes.now.owns_none) makes.page_act;
+          (control-of old c.is_live.ensures c.args.passes.now.owns_none) makes.page_act;
     }
 
 pub returns-clause-ready : goal.returns-clause-ready
