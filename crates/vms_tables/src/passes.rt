@@ -19,8 +19,8 @@ impl CpuPasses {
     pub fn are_live(&self)
         ensures { AreLive (passes_of self.now) }
     {
-        let _ = self.page.own();
-        let _ = self.event.own();
-        let _ = self.pcpu.cpu();
+        self.page.is_live();
+        self.event.is_live();
+        self.pcpu.is_ready();
     }
 }
