@@ -1,11 +1,14 @@
-//! The commands of the program, over any source and sink.
+//! The program and its commands, over any source and sink.
 #![tactic(auto)]
 
 mod commands;
+mod exits;
 mod naming;
+mod program;
 
 pub use commands::tool;
 pub use naming::Command;
+pub use program::run_program;
 pub use vms_check::tool_check;
 pub use vms_gen::Numbers;
 pub use vms_replay::tool_replay;
