@@ -45,8 +45,7 @@ fn take_away<R: Wait>(rt: &R, tables: &Tables, passes: &mut ControlPasses, cpu: 
 {
     thresholds_may_be_set::<Least>();
     laws_are_kept();
-    // The pass is known to live once it is asked for its CPU.
-    let _ = passes.page.own();
+    passes.page.is_live();
     fold(&tables.pages, &mut passes.page, cpu);
     tables.events.fold_events(&mut passes.event, cpu);
     tables.counters.fold_dead(rt, &mut passes.pcpu, cpu);
@@ -88,8 +87,7 @@ pub fn bury<R: Wait, N: Rule, P: Rule>(
 {
     control_passes_know_by_own_steps();
     laws_are_kept();
-    // The pass is known to live once it is asked for its CPU.
-    let _ = passes.page.own();
+    passes.page.is_live();
     take_away(rt, tables, passes, cpu);
     refresh_thresholds(&tables.pages, &mut passes.page, header, rules);
 }

@@ -10,28 +10,28 @@ pub fold_events-requires-clause-dead : goal.fold_events-requires-clause-dead
 fold_events-requires-clause-dead g c =
     ap (λ states. state_at states c.args.cpu.number) c.requires.alike.events
     ∙ dead-base c.laws_are_kept.ensures c.args.tables.now.pages c.args.passes.now.page c.args.cpu
-    c.requires.passes.pages c.args.passes.now.owns_none c.own.ensures.live c.requires.cpu c.requires.dead
+    c.requires.passes.pages c.args.passes.now.owns_none c.is_live.ensures c.requires.cpu c.requires.dead
 
 pub fold_dead-requires-clause-dead : goal.fold_dead-requires-clause-dead
 fold_dead-requires-clause-dead g c =
     ap (λ states. state_at states c.args.cpu.number) c.requires.alike.counters
     ∙ dead-base c.laws_are_kept.ensures c.args.tables.now.pages c.args.passes.now.page c.args.cpu
-    c.requires.passes.pages c.args.passes.now.owns_none c.own.ensures.live c.requires.cpu c.requires.dead
+    c.requires.passes.pages c.args.passes.now.owns_none c.is_live.ensures c.requires.cpu c.requires.dead
 
 pub set_absent-requires-clause-sets : goal.set_absent-requires-clause-sets
 set_absent-requires-clause-sets g c =
     may-be_absent c.laws_are_kept.ensures c.args.tables.now.pages c.args.passes.now.page c.args.cpu
-    c.requires.passes.pages c.args.passes.now.owns_none c.own.ensures.live c.requires.cpu c.requires.dead
+    c.requires.passes.pages c.args.passes.now.owns_none c.is_live.ensures c.requires.cpu c.requires.dead
     c.fold.new.pass c.fold.ensures.folds (c.thresholds_may_be_set.ensures.burial one-gives) c.requires.nothing
 
 pub returns-clause-page : goal.returns-clause-page
 returns-clause-page g c = (
   c.fold.ensures.folds.steps,
   is-fold c.laws_are_kept.ensures c.args.tables.now.pages c.args.passes.now.page c.args.cpu
-      c.requires.passes.pages c.args.passes.now.owns_none c.own.ensures.live c.requires.cpu c.requires.dead
+      c.requires.passes.pages c.args.passes.now.owns_none c.is_live.ensures c.requires.cpu c.requires.dead
       c.fold.new.pass c.fold.ensures.folds,
   made-both c.laws_are_kept.ensures c.args.tables.now.pages c.args.passes.now.page c.args.cpu
-      c.requires.passes.pages c.args.passes.now.owns_none c.own.ensures.live c.requires.cpu c.requires.dead
+      c.requires.passes.pages c.args.passes.now.owns_none c.is_live.ensures c.requires.cpu c.requires.dead
       c.fold.new.pass c.fold.ensures.folds c.set_absent.new.pass c.set_absent.ensures,
 )
 
@@ -53,7 +53,7 @@ returns-clause-pcpu g c =
 pub returns-clause-buried : goal.returns-clause-buried
 returns-clause-buried g c =
     let gone = gone-now c.laws_are_kept.ensures c.args.tables.now.pages c.args.passes.now.page c.args.cpu
-    c.requires.passes.pages c.args.passes.now.owns_none c.own.ensures.live c.requires.cpu c.requires.dead
+    c.requires.passes.pages c.args.passes.now.owns_none c.is_live.ensures c.requires.cpu c.requires.dead
     c.fold.new.pass c.fold.ensures.folds c.set_absent.new.pass c.set_absent.ensures in
     record {
       absent = gone.absent;
@@ -71,5 +71,5 @@ returns-clause-carries g c =
 pub returns-clause-sets : goal.returns-clause-sets
 returns-clause-sets g c =
     sets-still c.laws_are_kept.ensures c.args.tables.now.pages c.args.passes.now.page c.args.cpu
-    c.requires.passes.pages c.args.passes.now.owns_none c.own.ensures.live c.requires.cpu c.requires.dead
+    c.requires.passes.pages c.args.passes.now.owns_none c.is_live.ensures c.requires.cpu c.requires.dead
     c.fold.new.pass c.fold.ensures.folds c.set_absent.new.pass c.set_absent.ensures
