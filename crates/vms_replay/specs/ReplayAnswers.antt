@@ -2,29 +2,32 @@
 use Rattle.std.specs.Prelude.{ℕ, List, Option}
 use Rattle.vms_world.specs.Common.{Header, lines_of, Item, TableHistories}
 use Rattle.vms_command.specs.Common.{shown_given, following}
-use Rattle.vms_stream.specs.Common.{Grows, SaysPhased, waiting, TakesAndWrites}
+use Rattle.vms_stream.specs.Common.{Grows, SaysPhased, waiting, TakesAndWrites, WritesTextsOf, lines_taken}
 use Rattle.vms_stream.specs.declared.statuses.Status.{Status}
-use Rattle.vms_stream.specs.declared.statuses.Status.TheVariants.{Done, Refused}
+use Rattle.vms_stream.specs.declared.statuses.Status.TheVariants.{Done, Refused, ReadFault}
 use Rattle.vms_world.specs.declared.worlds.World.{World}
 use Rattle.vms_replay.specs.MadePhases.{PastPhase}
-use Rattle.vms_replay.specs.ReplayedTexts.{AreAllOf, AreFirstTaken}
+use Rattle.vms_replay.specs.ReplayedTexts.{AreAllOf, AreFirstOf, AreFirstTaken}
 use Rattle.vms_replay.specs.Replaying.{shown_by_replay, replaying}
 
--- which phases were made: with status 0 and 3 all of the input, and with every other status the first ones of the lines
--- that were taken
+-- which phases were made: with status 0 and 3 all of the input, with status 4 the first ones of the whole lines that
+-- were taken, and with every other status the first ones of the lines that were taken
 abbrev pub AreMadeWith : (Header → World → List Item → TableHistories → Type 0) → Status → List ℕ → Type 0
     → List PastPhase → Type 0
 AreMadeWith Makes Done taken at_end made = AreAllOf Makes (lines_of taken) made
 AreMadeWith Makes Refused taken at_end made = AreAllOf Makes (lines_of taken) made
+AreMadeWith Makes ReadFault taken at_end made = AreFirstOf Makes (lines_taken taken) made
 AreMadeWith Makes _ taken at_end made = AreFirstTaken Makes taken at_end made
 
--- what a status says: what was taken and written, which is the output of a replay with these phases, and that the
--- phases lead through the segments of the text, each by the kernel's rules and with all laws at each of its moments
+-- what a status says: what was taken and written, which is the output of a replay with these phases, that the phases
+-- lead through the segments of the text, each by the kernel's rules and with all laws at each of its moments, and that
+-- the texts of the lines were written in the order of the lines
 pub record SaysReplayed (Makes : Header → World → List Item → TableHistories → Type 0) (made : List PastPhase)
     (status : Status) (taken written : List ℕ) (at_end : Type 0) : Type 0 where
   pub says : SaysPhased (waiting (following (replaying Makes))) (shown_given shown_by_replay) made status taken written
       at_end
   pub phases : AreMadeWith Makes status taken at_end made
+  pub texts : WritesTextsOf (following (replaying Makes)) made status taken written at_end
 
 -- a replay took bytes from its source, wrote bytes to its sink, and made phases, of which `Makes` says which histories
 -- they may have. What its engine keeps grew by them

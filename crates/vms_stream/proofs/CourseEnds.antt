@@ -1,12 +1,10 @@
 -- The end of a course.
 use Rattle.std.proofs.Common.{◌≡◌, ◌≢◌, ℕ, Bool, true, List, [], ◌++◌, take, drop, take-append-drop, inr, Option, None}
-use Rattle.std.proofs.Common.{Ok, Err, refl, sym, ap, subst, ◌∙◌, append_assoc, append-nil}
-use Rattle.std.specs.Io.KnownBytes.{Appends, IsAtEnd}
-use Rattle.std.proofs.KnownBytes.{Appends-nil}
+use Rattle.std.proofs.Common.{refl, sym, ap, subst, ◌∙◌, append_assoc, append-nil}
 use Rattle.vms_stream.specs.declared.courses.Course.{Course}
 use Rattle.vms_stream.specs.declared.statuses.Status.{Status}
-use Rattle.vms_stream.specs.declared.statuses.Status.TheVariants.{Done, Header, Memory, ReadFault, Refused, WriteFault}
-use Rattle.vms_stream.specs.Common.{Ends, FaultsOfSink, FaultsOfSource, IsLastPiece, Says, Finishes, IsCourse}
+use Rattle.vms_stream.specs.declared.statuses.Status.TheVariants.{ReadFault, WriteFault}
+use Rattle.vms_stream.specs.Common.{BeginsOutput, Ends, FaultsOfSink, FaultsOfSource, IsLastPiece, IsCourse}
 use Rattle.vms_stream.specs.Common.{lines_judged, Closes, Behavior, MayEnd, state_after, halted, printed, output}
 use Rattle.vms_stream.specs.Common.{whole_lines, partial_line}
 use Rattle.vms_stream.proofs.BehaviorLaws.{halted-first, output-open, printed-begins}
@@ -47,10 +45,10 @@ module _ {S : Type 0} (behavior : Behavior S) (shows : S → Type 0) where
   module _ {stands : S → Type 0} (taken written : List ℕ) (course : Course)
       (is : IsCourse behavior stands taken written course)
       (at_end : course.at_end ≡ true) where
-    none_halts : halted behavior behavior.start (lines_of taken) ≡ None
+    pub none_halts : halted behavior behavior.start (lines_of taken) ≡ None
     none_halts = subst (λ (b : Bool). halted behavior behavior.start (lines_judged b taken) ≡ None) at_end is.none_halts
 
-    all_written : written ≡ printed behavior behavior.start (lines_of taken)
+    pub all_written : written ≡ printed behavior behavior.start (lines_of taken)
     all_written = subst (λ (b : Bool). written ≡ printed behavior behavior.start (lines_judged b taken))
         at_end is.all_written
 
@@ -61,7 +59,7 @@ module _ {S : Type 0} (behavior : Behavior S) (shows : S → Type 0) where
         ∙ none_halts))
 
     -- all was written that the whole lines print
-    above : (rest : List ℕ) × (written ≡ printed behavior behavior.start (whole_lines taken) ++ rest)
+    pub above : (rest : List ℕ) × (written ≡ printed behavior behavior.start (whole_lines taken) ++ rest)
     above =
         let parts : lines_of taken ≡ whole_lines taken ++ lines_of (partial_line taken ++ [])
         = ap lines_of (sym (append-nil taken)) ∙ lines_of-parts taken [] in
@@ -69,17 +67,11 @@ module _ {S : Type 0} (behavior : Behavior S) (shows : S → Type 0) where
         (more.0, all_written ∙ ap (printed behavior behavior.start) parts ∙ more.1)
 
     -- there was no memory for the last words
-    pub Finishes-unended : (sunk : Option (List ℕ)) (stop : Status) → stop ≡ Memory
-        → Finishes behavior shows taken written sunk sunk (Err stop)
-    Finishes-unended sunk stop memory = record {
-      moved = [];
-      appends = Appends-nil sunk;
-      outcome = λ left ended. subst (λ (s : Status). Says behavior shows s taken (written ++ [])
-          (IsAtEnd left)) (sym memory)
-          (begins_at_end behavior taken (IsAtEnd left) (written ++ []) [] ended is.within
-          (append-nil (written ++ []) ∙ append-nil written ∙ all_written) last_piece above.0
-          (append-nil written ∙ above.1));
-    }
+    abbrev pub unended : {E : Type 0} → E → BeginsOutput behavior taken (written ++ []) E
+    unended {E} ended =
+        begins_at_end behavior taken E (written ++ []) [] ended is.within
+        (append-nil (written ++ []) ∙ append-nil written ∙ all_written) last_piece above.0
+        (append-nil written ∙ above.1)
 
     module _ (ending : Status) (waiting : List ℕ)
         (closes : (s : S) → stands s → Closes behavior shows s ending course.waiting.items waiting) where
@@ -90,35 +82,30 @@ module _ {S : Type 0} (behavior : Behavior S) (shows : S → Type 0) where
           (subst (λ (b : Bool). stands (state_after behavior behavior.start (lines_judged b taken)))
           at_end is.stands_after))
 
-      whole : written ++ waiting ≡ output behavior (lines_of taken)
+      pub whole : written ++ waiting ≡ output behavior (lines_of taken)
       whole = ap (λ (front : List ℕ). front ++ waiting) all_written
           ∙ ap (λ (rest : List ℕ). printed behavior behavior.start (lines_of taken) ++ rest) closed.prints
           ∙ sym (output-open behavior (lines_of taken) none_halts)
 
       -- the last write failed
-      pub Finishes-unwritten : (sunk sunk' : Option (List ℕ)) (n : ℕ) (stop : Status)
-          → Appends sunk sunk' (take n waiting) → stop ≡ WriteFault
-          → Finishes behavior shows taken written sunk sunk' (Err stop)
-      Finishes-unwritten sunk sunk' n stop appends cause = record {
-        moved = take n waiting;
-        appends = appends;
-        outcome = λ left ended. subst (λ (s : Status). Says behavior shows s taken (written ++ take n waiting)
-            (IsAtEnd left)) (sym cause) (record {
-              unwritten = drop n waiting;
-              due = inr (
-                ended,
-                is.within,
-                append_assoc written (take n waiting) (drop n waiting)
-                    ∙ ap (λ (rest : List ℕ). written ++ rest) (take-append-drop n waiting) ∙ whole,
-              );
-              last_piece = last_piece;
-              after_above = above.0 ++ take n waiting;
-              above_written = ap (λ (front : List ℕ). front ++ take n waiting) above.1
-                  ∙ append_assoc (printed behavior behavior.start (whole_lines taken)) above.0 (take n waiting);
-            });
+      abbrev pub unwritten_end : {E : Type 0} → (n : ℕ) → E
+          → BeginsOutput behavior taken (written ++ take n waiting) E
+      unwritten_end n ended = record {
+        unwritten = drop n waiting;
+        due = inr (
+          ended,
+          is.within,
+          append_assoc written (take n waiting) (drop n waiting)
+              ∙ ap (λ (rest : List ℕ). written ++ rest) (take-append-drop n waiting) ∙ whole,
+        );
+        last_piece = last_piece;
+        after_above = above.0 ++ take n waiting;
+        above_written = ap (λ (front : List ℕ). front ++ take n waiting) above.1
+            ∙ append_assoc (printed behavior behavior.start (whole_lines taken)) above.0 (take n waiting);
       }
 
-      ends : {E : Type 0} → E → Ends behavior shows ending taken (written ++ waiting) E
+      -- all was written
+      pub ends : {E : Type 0} → E → Ends behavior shows ending taken (written ++ waiting) E
       ends ended = record {
         ended = ended;
         within = is.within;
@@ -129,19 +116,5 @@ module _ {S : Type 0} (behavior : Behavior S) (shows : S → Type 0) where
         shown = closed.shown;
       }
 
-      -- all was written
-      pub Finishes-ended : (sunk sunk' : Option (List ℕ)) → Appends sunk sunk' waiting
-          → Finishes behavior shows taken written sunk sunk' (Ok ending)
-      Finishes-ended sunk sunk' appends = record {
-        moved = waiting;
-        appends = appends;
-        outcome = λ left ended. by ending (subst MayEnd (sym closed.ends)
-            (behavior.may_end (state_after behavior behavior.start (lines_of taken)))) (ends ended);
-      }
-        where
-          by : {E : Type 0} (e : Status) → MayEnd e → Ends behavior shows e taken (written ++ waiting) E
-              → Says behavior shows e taken (written ++ waiting) E
-          by Done may done = done
-          by Refused may done = done
-          by Header may done = inr done
-          by _ may done = absurd may
+      pub ends_how : MayEnd ending
+      ends_how = subst MayEnd (sym closed.ends) (behavior.may_end (state_after behavior behavior.start (lines_of taken)))

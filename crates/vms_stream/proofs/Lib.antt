@@ -12,6 +12,7 @@ pub mod LeadingOutcomes
 pub mod LongerWays
 pub mod GivenOutcomes
 pub mod TextOrder
+pub mod WrittenOrder
 pub mod PlainAnswers
 pub mod TakenTexts
 pub mod PhasedSteps

@@ -1,25 +1,26 @@
 -- The end of a course of a command whose phases have outcomes.
-use Rattle.std.proofs.Common.{◌≡◌, ◌≢◌, ℕ, Bool, true, false, List, [], ◌++◌, inl, inr, Option, Err, Result, refl, sym}
-use Rattle.std.proofs.Common.{ap, subst, ◌∙◌, append-nil, arith}
+use Rattle.std.proofs.Common.{◌≡◌, ◌≢◌, ℕ, Bool, true, false, List, [], ◌++◌, take, inl, inr, Option, Ok, Err, Result}
+use Rattle.std.proofs.Common.{refl, sym, ap, subst, ◌∙◌, append-nil, arith}
 use Rattle.std.specs.Io.KnownBytes.{Appends, Consumes, IsAtEnd}
 use Rattle.std.proofs.KnownBytes.{Appends-nil, Appends-trans, Consumes-nil, Consumes-trans}
 use Rattle.vms_stream.specs.declared.courses.Course.{Course}
 use Rattle.vms_stream.specs.declared.statuses.Status.{Status}
-use Rattle.vms_stream.specs.declared.statuses.Status.TheVariants.{Memory}
+use Rattle.vms_stream.specs.declared.statuses.Status.TheVariants.{Done, Header, Memory, Refused, WriteFault}
 use Rattle.vms_stream.specs.declared.statuses.Status.TheVariants as statuses
-use Rattle.vms_stream.specs.Common.{FaultsOfSink, FaultsOfSource, lines_taken, halted, printed, state_after, Finishes}
-use Rattle.vms_stream.specs.Common.{lines_judged, status_in, FinishesPhased, IsPhasedCourse, StepsPhased, Closes, Grows}
-use Rattle.vms_stream.specs.Common.{StandsOn, shown_on, partial_line, PhasedBehavior, Way, with_outcomes, On, Short}
-use Rattle.vms_stream.specs.Common.{HasAllOutcomes, OutcomesLead, OutcomesLeadToEnd, UsedAtEnd, AnswersPhased}
-use Rattle.vms_stream.proofs.CourseEnds.{none_read_fails, reads_after, writes_after}
-use Rattle.vms_stream.proofs.PieceLines.{lines_taken-within}
+use Rattle.vms_stream.specs.Common.{Behavior, Ends, FaultsOfSink, FaultsOfSource, MayEnd, halted, printed, state_after}
+use Rattle.vms_stream.specs.Common.{lines_judged, status_in, FinishesPhased, IsCourse, IsPhasedCourse, StepsPhased}
+use Rattle.vms_stream.specs.Common.{Closes, Grows, StandsOn, shown_on, partial_line, whole_lines, PhasedBehavior, Way}
+use Rattle.vms_stream.specs.Common.{with_outcomes, On, Short, HasAllOutcomes, OutcomesLead, OutcomesLeadToEnd}
+use Rattle.vms_stream.specs.Common.{OutcomesLeadTaken, SaysPhased, UsedAtEnd, AnswersPhased}
+use Rattle.vms_stream.proofs.CourseEnds.{ends, ends_how, none_read_fails, reads_after, unended, unwritten_end}
+use Rattle.vms_stream.proofs.CourseEnds.{writes_after}
 use Rattle.vms_stream.proofs.StepOutcomes.{begins, no_piece}
 use Rattle.vms_stream.proofs.TwoPieces.{lines_of-parts}
 use Rattle.vms_text.specs.Common.{lines_of}
 use Rattle.vms_stream.proofs.LeadingOutcomes.{OutcomesLead-none, OutcomesLeadThrough-append}
 use Rattle.vms_stream.proofs.LongerWays.{HasAllOutcomes-front, HasAllOutcomes-of, StandsOn-also, StandsWith}
 use Rattle.vms_stream.proofs.LongerWays.{StandsWith-on}
-use Rattle.vms_stream.proofs.PhasedSteps.{asked_of-any, longer}
+use Rattle.vms_stream.proofs.PhasedSteps.{longer}
 use Rattle.vms_stream.proofs.TakenTexts.{Grows-nil, Grows-trans}
 
 module _ {S O : Type 0} (phased : PhasedBehavior S O) (shows : S → Option O → Type 0) where
@@ -42,34 +43,87 @@ module _ {S O : Type 0} (phased : PhasedBehavior S O) (shows : S → Option O �
         (state_after (with_outcomes phased outcomes) (On phased.start outcomes) lines)) lines_all
         is.is_course.stands_after)))
 
-    whole_end : (further : List O) → HasAllOutcomes phased (On phased.start (outcomes ++ further)) (lines_taken taken)
+    -- each phase that ended at a whole line has its outcome
+    whole_end : (further : List O) → HasAllOutcomes phased (On phased.start (outcomes ++ further)) (whole_lines taken)
     whole_end further =
         let way = On phased.start (outcomes ++ further) in
         let behavior = with_outcomes phased (outcomes ++ further) in
         let course' = longer phased shows outcomes taken written course is further in
-        HasAllOutcomes-front phased way (lines_taken taken) (lines_of (partial_line taken ++ []))
+        HasAllOutcomes-front phased way (whole_lines taken) (lines_of (partial_line taken ++ []))
         (subst (HasAllOutcomes phased way)
-        (lines_all ∙ ap lines_of (sym (append-nil taken)) ∙ lines_of-parts taken []
-        ∙ ap (λ (lines : List (List ℕ)). lines ++ lines_of (partial_line taken ++ []))
-        (sym (lines_taken-within taken is.is_course.within)))
+        (lines_all ∙ ap lines_of (sym (append-nil taken)) ∙ lines_of-parts taken [])
         (HasAllOutcomes-of phased (outcomes ++ further) way (lines_judged course.at_end taken)
         (λ none. StandsWith-on stands further (state_after behavior way (lines_judged course.at_end taken))
         course'.stands_after)))
 
-    -- the course ends, with the outcomes of the phase that ends there
-    pub FinishesPhased-of : (further : List O) (made made' : Option (List O)) (held held' : Option (List ℕ))
-        (result : Result Status Status) → Grows made made' further
-        → ((s : S) → stands s → UsedAtEnd phased s further)
-        → Finishes (with_outcomes phased (outcomes ++ further)) (shown_on phased shows) taken written held held' result
-        → FinishesPhased phased shows outcomes taken written made made' held held' result
-    FinishesPhased-of further made made' held held' result grows used finishes = record {
-      further = further;
-      grows = grows;
-      within = is.is_course.within;
-      leads = leads_end further used;
-      whole = whole_end further;
-      finishes = finishes;
-    }
+    module _ (further : List O) (made made' : Option (List O)) (held : Option (List ℕ))
+        (grows : Grows made made' further) (used : (s : S) → stands s → UsedAtEnd phased s further) where
+      abbrev behavior : Behavior (Way S O)
+      behavior = with_outcomes phased (outcomes ++ further)
+
+      abbrev now : IsCourse behavior (StandsWith stands further) taken written course
+      now = longer phased shows outcomes taken written course is further
+
+      leads_taken : {E : Type 0} → E → OutcomesLeadTaken phased (outcomes ++ further) taken E
+      leads_taken ended = inr (ended, is.is_course.within, leads_end further used)
+
+      -- there was no memory for the last words
+      pub FinishesPhased-unended : (stop : Status) → stop ≡ Memory
+          → FinishesPhased phased shows outcomes taken written made made' held held (Err stop)
+      FinishesPhased-unended stop memory = record {
+        further = further;
+        moved = [];
+        grows = grows;
+        appends = Appends-nil held;
+        outcome = λ left ended.
+            subst (λ (s : Status). SaysPhased phased shows (outcomes ++ further) s taken (written ++ [])
+            (IsAtEnd left)) (sym memory) (record {
+              says = unended behavior (shown_on phased shows) taken written course now at_end ended;
+              made = record { leads = leads_taken ended; above = whole_end further };
+            });
+      }
+
+      module _ (held' : Option (List ℕ)) (ending : Status) (waiting : List ℕ)
+          (closes : (way : Way S O) → StandsWith stands further way
+          → Closes behavior (shown_on phased shows) way ending course.waiting.items waiting) where
+        -- the last write failed
+        pub FinishesPhased-unwritten : (n : ℕ) (stop : Status) → Appends held held' (take n waiting)
+            → stop ≡ WriteFault
+            → FinishesPhased phased shows outcomes taken written made made' held held' (Err stop)
+        FinishesPhased-unwritten n stop appends cause = record {
+          further = further;
+          moved = take n waiting;
+          grows = grows;
+          appends = appends;
+          outcome = λ left ended.
+              subst (λ (s : Status). SaysPhased phased shows (outcomes ++ further) s taken (written ++ take n waiting)
+              (IsAtEnd left)) (sym cause) (record {
+                says = unwritten_end behavior (shown_on phased shows) taken written course now at_end ending waiting
+                    closes n ended;
+                made = record { leads = leads_taken ended; above = whole_end further };
+              });
+        }
+
+        says_ended : {E : Type 0} (e : Status) → MayEnd e
+            → Ends behavior (shown_on phased shows) e taken (written ++ waiting) E
+            → SaysPhased phased shows (outcomes ++ further) e taken (written ++ waiting) E
+        says_ended Done may done = record { says = done; made = leads_end further used }
+        says_ended Refused may done = record { says = done; made = leads_end further used }
+        says_ended Header may done = record { says = inr done; made = leads_end further used }
+        says_ended _ may done = absurd may
+
+        -- all was written
+        pub FinishesPhased-ended : Appends held held' waiting
+            → FinishesPhased phased shows outcomes taken written made made' held held' (Ok ending)
+        FinishesPhased-ended appends = record {
+          further = further;
+          moved = waiting;
+          grows = grows;
+          appends = appends;
+          outcome = λ left ended. says_ended ending
+              (ends_how behavior (shown_on phased shows) taken written course now at_end ending waiting closes)
+              (ends behavior (shown_on phased shows) taken written course now at_end ending waiting closes ended);
+        }
 
   -- a job that stands with these outcomes left closes as it does with them alone
   pub Closes-with : (stands : S → Type 0) (all further : List O) (ending : Status) (out out' : List ℕ)
@@ -123,8 +177,7 @@ module _ {S O : Type 0} (phased : PhasedBehavior S O) (shows : S → Option O �
           answer = record {
             says = begins (with_outcomes phased []) [] (IsAtEnd (left src)) [] [] [] [] refl refl
                 (no_piece (with_outcomes phased []) [] (omega arith) refl) [] refl;
-            leads = inl (OutcomesLead-none phased phased.start []);
-            whole = tt;
+            made = record { leads = inl (OutcomesLead-none phased phased.start []); above = tt };
           };
           reads = refl;
           writes = refl;
@@ -169,16 +222,10 @@ module _ {S O : Type 0} (phased : PhasedBehavior S O) (shows : S → Option O �
       grows = Grows-trans made made' made'' outcomes ends.further grows ends.grows;
       answers = record {
         taken = taken;
-        written = written ++ ends.finishes.moved;
+        written = written ++ ends.moved;
         consumes = consumes;
-        appends = Appends-trans (held out) (held out') (held out'') written ends.finishes.moved appends
-            ends.finishes.appends;
-        answer = record {
-          says = ends.finishes.outcome (left src') ended;
-          leads = inr (ended, ends.within, ends.leads);
-          whole = asked_of-any (status_in result)
-              (HasAllOutcomes phased (On phased.start (outcomes ++ ends.further)) (lines_taken taken)) ends.whole;
-        };
+        appends = Appends-trans (held out) (held out') (held out'') written ends.moved appends ends.appends;
+        answer = ends.outcome (left src') ended;
         reads = none_read_fails left read_faults src src' (status_in result) reads none_read;
         writes = writes_after held write_faults out out' out'' (status_in result) none_wrote writes;
       };

@@ -7,29 +7,22 @@ use Rattle.std.proofs.KnownBytes.{Appends-nil, Consumes-nil, Consumes-kept}
 use Rattle.vms_io.specs.Common.{Gets}
 use Rattle.vms_stream.specs.declared.courses.Course.{Course}
 use Rattle.vms_stream.specs.declared.statuses.Status.{Status}
-use Rattle.vms_stream.specs.declared.statuses.Status.TheVariants.{Memory, ReadFault, WriteFault}
-use Rattle.vms_stream.specs.declared.statuses.Status.TheVariants as statuses
+use Rattle.vms_stream.specs.declared.statuses.Status.TheVariants.{Header, Memory, ReadFault, TooLong, WriteFault}
 use Rattle.vms_stream.specs.Common.{BeginsOutput, IsLastPiece, lines_taken, most_bytes, Behavior, printed, state_after}
 use Rattle.vms_stream.specs.Common.{IsCourse, StopsAt, lines_held, lines_judged, IsPhasedCourse, StepsPhased}
-use Rattle.vms_stream.specs.Common.{TakesLines, Grows, StandsOn, shown_on, whole_lines, partial_line, PhasedBehavior}
+use Rattle.vms_stream.specs.Common.{TakesLines, Grows, StandsOn, whole_lines, partial_line, PhasedBehavior}
 use Rattle.vms_stream.specs.Common.{Way, with_outcomes, On, Short, HasAllOutcomes, AllUsed, OutcomesLead}
-use Rattle.vms_stream.specs.Common.{OutcomesLeadTaken, SaysPhased, asked_of}
-use Rattle.vms_stream.proofs.BehaviorLaws.{printed-append}
+use Rattle.vms_stream.specs.Common.{OutcomesLeadTaken, SaysPhased, Halts, MayHalt, AreOutcomesOf, LeadAbove}
+use Rattle.vms_stream.proofs.BehaviorLaws.{MayHalt-halted, printed-append}
 use Rattle.vms_stream.proofs.PieceLines.{lines_counted, lines_counted-within, lines_taken-within}
 use Rattle.vms_stream.proofs.StepOutcomes.{above_written, at_the_end, before_end, begins, begins_at_end, goes_on}
-use Rattle.vms_stream.proofs.StepOutcomes.{judged, last_piece, lines_all, no_piece, says_beyond, says_halt}
-use Rattle.vms_stream.proofs.TwoPieces.{lines_of-parts}
+use Rattle.vms_stream.proofs.StepOutcomes.{halts, judged, last_piece, lines_all, no_piece, oversteps}
 use Rattle.vms_text.specs.Common.{lines_of}
 use Rattle.vms_stream.proofs.LeadingOutcomes.{OutcomesLead-end, OutcomesLeadThrough-append}
-use Rattle.vms_stream.proofs.LongerWays.{HasAllOutcomes-front, HasAllOutcomes-of, StandsOn-also, StandsOn-more}
-use Rattle.vms_stream.proofs.LongerWays.{StandsOn-on, StandsWith, TakesLines-start}
+use Rattle.vms_stream.proofs.LongerWays.{HasAllOutcomes-of, StandsOn-also, StandsOn-more}
+use Rattle.vms_stream.proofs.LongerWays.{StandsOn-on, StandsWith, StandsWith-on, TakesLines-start}
 use Rattle.vms_stream.proofs.MoreOutcomes.{printed-start}
 use Rattle.vms_stream.proofs.TakenTexts.{Grows-nil}
-
-pub asked_of-any : (status : Status) (whole : Type 0) → whole → asked_of status whole
-asked_of-any statuses.ReadFault whole here = here
-asked_of-any statuses.TooLong whole here = here
-asked_of-any _ whole here = tt
 
 module _ {S O : Type 0} (phased : PhasedBehavior S O) (shows : S → Option O → Type 0) where
   module _ {stands : S → Type 0} (outcomes : List O) (taken written : List ℕ) (course : Course)
@@ -62,21 +55,22 @@ module _ {S O : Type 0} (phased : PhasedBehavior S O) (shows : S → Option O �
       abbrev same_taken : lines_taken taken ≡ whole_lines taken
       same_taken = lines_taken-within taken is.is_course.within
 
-      whole_now : HasAllOutcomes phased (On phased.start outcomes) (lines_taken taken)
+      whole_now : HasAllOutcomes phased (On phased.start outcomes) (whole_lines taken)
       whole_now =
           let now = before_end (with_outcomes phased outcomes) taken written course is.is_course isnt in
-          subst (HasAllOutcomes phased (On phased.start outcomes)) (sym same_taken)
-          (HasAllOutcomes-of phased outcomes (On phased.start outcomes) (whole_lines taken)
+          HasAllOutcomes-of phased outcomes (On phased.start outcomes) (whole_lines taken)
           (λ none. StandsOn-on stands
-          (state_after (with_outcomes phased outcomes) (On phased.start outcomes) (whole_lines taken)) now.1))
+          (state_after (with_outcomes phased outcomes) (On phased.start outcomes) (whole_lines taken)) now.1)
+
+      leads_now_taken : OutcomesLead phased phased.start outcomes (lines_taken taken)
+      leads_now_taken = subst (OutcomesLead phased phased.start outcomes) (sym same_taken) leads_now
 
       says_unread : (stop : Status) (at_end : Type 0) → (stop ≡ ReadFault) ⊎ (stop ≡ Memory)
           → SaysPhased phased shows outcomes stop taken written at_end
       says_unread stop at_end (inl fault) =
           subst (λ (s : Status). SaysPhased phased shows outcomes s taken written at_end) (sym fault) (record {
             says = (before_end (with_outcomes phased outcomes) taken written course is.is_course isnt).0;
-            leads = inl (subst (OutcomesLead phased phased.start outcomes) (sym same_taken) leads_now);
-            whole = whole_now;
+            made = (leads_now_taken, subst (HasAllOutcomes phased (On phased.start outcomes)) (sym same_taken) whole_now);
           })
       says_unread stop at_end (inr memory) =
           let behavior = with_outcomes phased outcomes in
@@ -87,8 +81,7 @@ module _ {S O : Type 0} (phased : PhasedBehavior S O) (shows : S → Option O �
                 (no_piece behavior taken is.is_course.within now.0.none_halts) []
                 (now.0.all_written ∙ sym (append-nil (printed behavior (On phased.start outcomes)
                 (whole_lines taken))));
-            leads = inl (subst (OutcomesLead phased phased.start outcomes) (sym same_taken) leads_now);
-            whole = tt;
+            made = record { leads = inl leads_now_taken; above = whole_now };
           })
 
       -- nothing is made, taken and written
@@ -126,9 +119,6 @@ module _ {S O : Type 0} (phased : PhasedBehavior S O) (shows : S → Option O �
         abbrev behavior : Behavior (Way S O)
         behavior = with_outcomes phased (outcomes ++ further)
 
-        abbrev shown : Way S O → Type 0
-        shown = shown_on phased shows
-
         abbrev text : List ℕ
         text = taken ++ gets.taken
 
@@ -162,28 +152,43 @@ module _ {S O : Type 0} (phased : PhasedBehavior S O) (shows : S → Option O �
                 let at = there end in
                 inr (at.0, at.1, OutcomesLead-end phased phased.start (outcomes ++ further) (lines_of text) led)
 
+        -- each phase that ended above the piece has its outcome
+        whole_above : HasAllOutcomes phased (On phased.start (outcomes ++ further)) (whole_lines taken)
+        whole_above =
+            let now = before_end behavior taken written course (longer further) isnt in
+            let way = On phased.start (outcomes ++ further) in
+            HasAllOutcomes-of phased (outcomes ++ further) way (whole_lines taken)
+            (λ none. StandsWith-on stands further (state_after behavior way (whole_lines taken)) now.1)
+
         -- what was written is the front of what the lines print
         begun : (moved unwritten : List ℕ)
             → (written ++ moved) ++ unwritten
             ≡ printed behavior (On phased.start (outcomes ++ further)) (lines_counted read.at_end text)
-            → BeginsOutput behavior text (written ++ moved) (IsAtEnd left')
+            → (begins : BeginsOutput behavior text (written ++ moved) (IsAtEnd left'))
+            × LeadAbove phased (outcomes ++ further) text (written ++ moved) (IsAtEnd left') begins
         begun moved unwritten prints = by read.at_end refl
           where
-            by : (b : Bool) → read.at_end ≡ b → BeginsOutput behavior text (written ++ moved) (IsAtEnd left')
+            by : (b : Bool) → read.at_end ≡ b
+                → (begins : BeginsOutput behavior text (written ++ moved) (IsAtEnd left'))
+                × LeadAbove phased (outcomes ++ further) text (written ++ moved) (IsAtEnd left') begins
             by true end =
-                let at = there end in
-                begins_at_end behavior text (IsAtEnd left') (written ++ moved) unwritten at.0 at.1
-                (prints ∙ ap (λ (b : Bool). printed behavior (On phased.start (outcomes ++ further))
-                (lines_counted b text)) end) piece moved
-                (above_written behavior taken written course (longer further) isnt read left left' gets counted ended
-                waits moved)
-            by false before =
-                begins behavior text (IsAtEnd left') (lines_taken text) [] (written ++ moved) unwritten
-                (sym (append-nil (lines_taken text)))
-                (prints ∙ ap (λ (b : Bool). printed behavior (On phased.start (outcomes ++ further))
-                (lines_counted b text)) before) piece moved
-                (above_written behavior taken written course (longer further) isnt read left left' gets counted ended
-                waits moved)
+                let at = there end in (
+                  begins_at_end behavior text (IsAtEnd left') (written ++ moved) unwritten at.0 at.1
+                      (prints ∙ ap (λ (b : Bool). printed behavior (On phased.start (outcomes ++ further))
+                      (lines_counted b text)) end) piece moved
+                      (above_written behavior taken written course (longer further) isnt read left left' gets counted
+                      ended waits moved),
+                  record { leads = leads_taken; above = whole_above },
+                )
+            by false before = (
+              begins behavior text (IsAtEnd left') (lines_taken text) [] (written ++ moved) unwritten
+                  (sym (append-nil (lines_taken text)))
+                  (prints ∙ ap (λ (b : Bool). printed behavior (On phased.start (outcomes ++ further))
+                  (lines_counted b text)) before) piece moved
+                  (above_written behavior taken written course (longer further) isnt read left left' gets counted ended
+                  waits moved),
+              record { leads = leads_taken; above = whole_above },
+            )
 
         says_begun : (stop : Status) (moved unwritten : List ℕ) → (stop ≡ Memory) ⊎ (stop ≡ WriteFault)
             → (written ++ moved) ++ unwritten
@@ -192,11 +197,11 @@ module _ {S O : Type 0} (phased : PhasedBehavior S O) (shows : S → Option O �
         says_begun stop moved unwritten (inl memory) prints =
             subst (λ (s : Status). SaysPhased phased shows (outcomes ++ further) s text (written ++ moved)
             (IsAtEnd left')) (sym memory)
-            (record { says = begun moved unwritten prints; leads = leads_taken; whole = tt })
+            (let front = begun moved unwritten prints in record { says = front.0; made = front.1 })
         says_begun stop moved unwritten (inr fault) prints =
             subst (λ (s : Status). SaysPhased phased shows (outcomes ++ further) s text (written ++ moved)
             (IsAtEnd left')) (sym fault)
-            (record { says = begun moved unwritten prints; leads = leads_taken; whole = tt })
+            (let front = begun moved unwritten prints in record { says = front.0; made = front.1 })
 
         -- a line or a write in its midst failed
         pub StepsPhased-failed : (last : Course) (made made' : Option (List O)) (held held' : Option (List ℕ))
@@ -276,24 +281,46 @@ module _ {S O : Type 0} (phased : PhasedBehavior S O) (shows : S → Option O �
                 ∙ all_judged.prints);
           }
 
-          whole_all : HasAllOutcomes phased (On phased.start (outcomes ++ further)) (lines_taken text)
-          whole_all = by read.at_end refl
-              (HasAllOutcomes-of phased (outcomes ++ further) (On phased.start (outcomes ++ further))
-              (lines_counted read.at_end text)
-              (λ none. StandsOn-on stands' (state_after behavior (On phased.start (outcomes ++ further))
-              (lines_counted read.at_end text)) (all_judged.stands_after (all_judged.halt_of ∙ none))))
+          -- these are the outcomes of the lines that were judged
+          outcomes_of_all : AreOutcomesOf phased (outcomes ++ further) (lines_counted read.at_end text)
+          outcomes_of_all = (
+            leads_all,
+            HasAllOutcomes-of phased (outcomes ++ further) (On phased.start (outcomes ++ further))
+                (lines_counted read.at_end text)
+                (λ none. StandsOn-on stands' (state_after behavior (On phased.start (outcomes ++ further))
+                (lines_counted read.at_end text)) (all_judged.stands_after (all_judged.halt_of ∙ none))),
+          )
+
+          -- a line stops the command
+          says_halted : (h : Status) → MayHalt (Some h)
+              → (stops : Halts behavior h text (written ++ total) (IsAtEnd left'))
+              → AreOutcomesOf phased (outcomes ++ further) stops.lines
+              → SaysPhased phased shows (outcomes ++ further) h text (written ++ total) (IsAtEnd left')
+          says_halted Header may stops made = record { says = inl stops; made = made }
+          says_halted TooLong may stops made = record { says = inl stops; made = made }
+          says_halted _ may stops made = absurd may
+
+          says_stopped : (h : Status) → halt ≡ Some h
+              → SaysPhased phased shows (outcomes ++ further) h text (written ++ total) (IsAtEnd left')
+          says_stopped h is_found =
+              let stops = halts behavior taken written course (longer further) isnt read left left' gets counted ended
+              waits (StandsOn stands') halt total judges h is_found in
+              says_halted h (subst MayHalt stops.halt_is
+              (MayHalt-halted behavior (On phased.start (outcomes ++ further)) stops.lines)) stops outcomes_of_all
+
+          -- there are too many bytes
+          says_beyond : halt ≡ None → most_bytes < length text
+              → SaysPhased phased shows (outcomes ++ further) TooLong text (written ++ total) (IsAtEnd left')
+          says_beyond none beyond = by read.at_end refl outcomes_of_all
             where
-              by : (b : Bool) → read.at_end ≡ b
-                  → HasAllOutcomes phased (On phased.start (outcomes ++ further)) (lines_counted b text)
-                  → HasAllOutcomes phased (On phased.start (outcomes ++ further)) (lines_taken text)
-              by false before whole = whole
-              by true end whole =
-                  HasAllOutcomes-front phased (On phased.start (outcomes ++ further)) (lines_taken text)
-                  (lines_of (partial_line text ++ []))
-                  (subst (HasAllOutcomes phased (On phased.start (outcomes ++ further)))
-                  (ap lines_of (sym (append-nil text)) ∙ lines_of-parts text []
-                  ∙ ap (λ (lines : List (List ℕ)). lines ++ lines_of (partial_line text ++ []))
-                  (sym (lines_taken-within text (there end).1))) whole)
+              by : (b : Bool) → read.at_end ≡ b → AreOutcomesOf phased (outcomes ++ further) (lines_counted b text)
+                  → SaysPhased phased shows (outcomes ++ further) TooLong text (written ++ total) (IsAtEnd left')
+              by true end made = absurd (omega (arith, beyond, (there end).1))
+              by false before made = record {
+                says = inr (oversteps behavior taken written course (longer further) isnt read left left' gets counted
+                    ended waits (StandsOn stands') halt total judges false before none beyond);
+                made = made;
+              }
 
           -- all was written
           pub StepsPhased-judged : (last : Course) → last.taken ≡ read.taken → last.at_end ≡ read.at_end
@@ -321,13 +348,7 @@ module _ {S O : Type 0} (phased : PhasedBehavior S O) (shows : S → Option O �
                     grows = grows;
                     consumes = gets.consumes;
                     appends = appends;
-                    outcome = record {
-                      says = says_halt behavior taken written course (longer further) isnt read left left' gets counted
-                          ended waits (StandsOn stands') halt total judges shown h is_found;
-                      leads = leads_taken;
-                      whole = asked_of-any h
-                          (HasAllOutcomes phased (On phased.start (outcomes ++ further)) (lines_taken text)) whole_all;
-                    };
+                    outcome = says_stopped h is_found;
                   })
               by None is_found (Ok done) within = record {
                 further = further;
@@ -356,11 +377,6 @@ module _ {S O : Type 0} (phased : PhasedBehavior S O) (shows : S → Option O �
                 consumes = gets.consumes;
                 appends = appends;
                 outcome = subst (λ (s : Status). SaysPhased phased shows (outcomes ++ further) s text
-                    (written ++ total) (IsAtEnd left')) (sym beyond.0) (record {
-                      says = says_beyond behavior taken written course (longer further) isnt read left left' gets counted
-                          ended waits (StandsOn stands') halt total judges shown read.at_end refl is_found
-                          (subst (λ (n : ℕ). most_bytes < n) text_count beyond.1);
-                      leads = leads_taken;
-                      whole = whole_all;
-                    });
+                    (written ++ total) (IsAtEnd left')) (sym beyond.0)
+                    (says_beyond is_found (subst (λ (n : ℕ). most_bytes < n) text_count beyond.1));
               }

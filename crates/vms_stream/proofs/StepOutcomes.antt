@@ -6,19 +6,19 @@ use Rattle.std.specs.Io.KnownBytes.{IsAtEnd}
 use Rattle.vms_io.specs.Common.{Gets}
 use Rattle.vms_stream.specs.declared.courses.Course.{Course}
 use Rattle.vms_stream.specs.declared.statuses.Status.{Status}
-use Rattle.vms_stream.specs.declared.statuses.Status.TheVariants.{Header, TooLong}
 use Rattle.vms_stream.specs.Common.{most_bytes, lines_taken, BeginsOutput, GoesOn, Halts, AreLinesTaken, IsLastPiece}
-use Rattle.vms_stream.specs.Common.{Says, IsCourse, lines_held, lines_judged, TakesLines, Behavior, MayHalt}
+use Rattle.vms_stream.specs.Common.{Oversteps}
+use Rattle.vms_stream.specs.Common.{IsCourse, lines_held, lines_judged, TakesLines, Behavior}
 use Rattle.vms_stream.specs.Common.{state_after, halted, printed, output, whole_lines, partial_line}
 use Rattle.vms_stream.proofs.PieceLines.{lines_counted, lines_counted-within, lines_both}
-use Rattle.vms_stream.proofs.BehaviorLaws.{MayHalt-halted, output-begins, printed-begins}
+use Rattle.vms_stream.proofs.BehaviorLaws.{output-begins, printed-begins}
 use Rattle.vms_stream.proofs.TwoPieces.{partial_line-append}
 use Rattle.vms_stream.proofs.TakenLines.{TakesLines-after, TakesLines-both}
 use Rattle.vms_text.specs.Common.{lines_of}
 
 module _ {S : Type 0} (behavior : Behavior S) where
   -- what the first of the whole lines print, or a part of it, begins what all of them print
-  pub begins : (text : List ℕ) (at_end : Type 0) (lines others : List (List ℕ)) (written unwritten : List ℕ)
+  abbrev pub begins : (text : List ℕ) (at_end : Type 0) (lines others : List (List ℕ)) (written unwritten : List ℕ)
       → lines_taken text ≡ lines ++ others
       → written ++ unwritten ≡ printed behavior behavior.start lines
       → (last_piece : IsLastPiece behavior text) (after_above : List ℕ)
@@ -36,7 +36,7 @@ module _ {S : Type 0} (behavior : Behavior S) where
       }
 
   -- at the end of the input what all lines print, or a part of it, begins the whole output
-  pub begins_at_end : (text : List ℕ) (at_end : Type 0) (written unwritten : List ℕ) → at_end
+  abbrev pub begins_at_end : (text : List ℕ) (at_end : Type 0) (written unwritten : List ℕ) → at_end
       → length text ≤ most_bytes
       → written ++ unwritten ≡ printed behavior behavior.start (lines_of text)
       → (last_piece : IsLastPiece behavior text) (after_above : List ℕ)
@@ -162,7 +162,7 @@ module _ {S : Type 0} (behavior : Behavior S) where
               (waits ∙ is.nothing_waits) (judges (state_after behavior behavior.start (whole_lines taken)) before.1))
 
           -- a line stops the command
-          halts : (h : Status) → halt ≡ Some h → Halts behavior h text (written ++ waiting) (IsAtEnd left')
+          abbrev pub halts : (h : Status) → halt ≡ Some h → Halts behavior h text (written ++ waiting) (IsAtEnd left')
           halts h stopped = record {
             lines = lines_counted read.at_end text;
             judged = counts read.at_end refl;
@@ -175,30 +175,19 @@ module _ {S : Type 0} (behavior : Behavior S) where
               counts true end = let there = at_the_end end in inr (there.0, there.1, refl)
               counts false before = inl refl
 
-          pub says_halt : (shows : S → Type 0) (h : Status) → halt ≡ Some h
-              → Says behavior shows h text (written ++ waiting) (IsAtEnd left')
-          says_halt shows h stopped = by h (subst MayHalt (halts h stopped).halt_is
-              (MayHalt-halted behavior behavior.start (halts h stopped).lines)) (halts h stopped)
-            where
-              by : (h : Status) → MayHalt (Some h) → Halts behavior h text (written ++ waiting) (IsAtEnd left')
-                  → Says behavior shows h text (written ++ waiting) (IsAtEnd left')
-              by Header may stops = inl stops
-              by TooLong may stops = inl stops
-              by _ may stops = absurd may
-
           -- there are too many bytes
-          pub says_beyond : (shows : S → Type 0) (b : Bool) → read.at_end ≡ b → halt ≡ None → most_bytes < length text
-              → Says behavior shows TooLong text (written ++ waiting) (IsAtEnd left')
-          says_beyond shows true end none beyond = absurd (omega (arith, beyond, (at_the_end end).1))
-          says_beyond shows false before none beyond =
+          pub oversteps : (b : Bool) → read.at_end ≡ b → halt ≡ None → most_bytes < length text
+              → Oversteps behavior text (written ++ waiting)
+          oversteps true end none beyond = absurd (omega (arith, beyond, (at_the_end end).1))
+          oversteps false before none beyond =
               let same : lines_counted read.at_end text ≡ lines_taken text =
               ap (λ (b : Bool). lines_counted b text) before in
-              inr (record {
+              record {
                 beyond = beyond;
                 none_halts = ap (halted behavior behavior.start) (sym same) ∙ sym judged.halt_of ∙ none;
                 whole_output = judged.prints ∙ ap (printed behavior behavior.start) same;
                 last_piece = last_piece;
-              })
+              }
 
           module _ (last : Course) (same_count : last.taken ≡ read.taken) (same_end : last.at_end ≡ read.at_end)
               (nothing_waits : last.waiting.items ≡ [])

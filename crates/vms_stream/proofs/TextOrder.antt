@@ -1,16 +1,16 @@
 -- For other crates too: what is printed where texts wait, against the order of the lines.
-use Rattle.std.proofs.Common.{◌≡◌, ℕ, Bool, true, false, List, [], ◌∷◌, ◌++◌, Option, Some, None, inl, inr, refl, sym}
-use Rattle.std.proofs.Common.{ap, subst, ◌∙◌, append_assoc, append-nil, flat_map, ◌⊎◌}
+use Rattle.std.proofs.Common.{◌≡◌, ℕ, Bool, true, false, List, [], ◌∷◌, ◌++◌, Option, Some, None, refl, sym}
+use Rattle.std.proofs.Common.{ap, ◌∙◌, append_assoc, append-nil, flat_map}
 use Rattle.std.proofs.lemmas.Grind.{flat_map-append}
 use Rattle.vms_stream.specs.declared.statuses.Status.{Status}
 use Rattle.vms_stream.specs.declared.statuses.Status.TheVariants.{Header}
-use Rattle.vms_stream.specs.Common.{output, printed, printed_from, state_after, PhasedBehavior, OutcomeSupply, Way}
-use Rattle.vms_stream.specs.Common.{halt_at, last_of_way, printed_at, printed_last, next_way, supply, way_after}
+use Rattle.vms_stream.specs.Common.{output, printed, printed_from, PhasedBehavior, OutcomeSupply, Way}
+use Rattle.vms_stream.specs.Common.{halt_at, last_of_way, printed_at, printed_last, supply, way_after}
 use Rattle.vms_stream.specs.Common.{with_outcomes, Gives, Lacks, On, Short, AllUsed, OutcomesLead, OutcomesLeadThrough}
 use Rattle.vms_stream.specs.Common.{OutcomesLeadToEnd, UsedAtEnd, leads_on, none_after, LineTexts, Text, Waiting}
-use Rattle.vms_stream.specs.Common.{ends_at, printed_now, printed_with, spelled, unless_stopped, IsAsking, waiting}
-use Rattle.vms_stream.specs.Common.{waits_after, waits_with, Plain, Asks, AsksInside, input_in_order, last_in_order}
-use Rattle.vms_stream.specs.Common.{lines_in_order, text_then, texts_in_order, HoldsBackNothing}
+use Rattle.vms_stream.specs.Common.{ends_at, printed_now, printed_with, spelled, unless_stopped, waiting, waits_after}
+use Rattle.vms_stream.specs.Common.{waits_with, Plain, Asks, input_in_order, last_in_order, lines_in_order, text_then}
+use Rattle.vms_stream.specs.Common.{texts_in_order}
 use Rattle.vms_stream.proofs.MoreOutcomes.{printed_to, printed_to-printed, printed_to-short, printed_to-words}
 
 module _ {O : Type 0} where
@@ -24,23 +24,28 @@ module _ {O : Type 0} where
   after_waits-none [] = refl
   after_waits-none (first ∷ waits) = refl
 
-  after_waits-some : (waits : List (Text O)) (outcome : O) (left : List O) (later : List ℕ)
+  pub after_waits-some : (waits : List (Text O)) (outcome : O) (left : List O) (later : List ℕ)
       → after_waits waits (outcome ∷ left) later ≡ flat_map (spelled outcome) waits ++ later
   after_waits-some [] outcome left later = refl
   after_waits-some (first ∷ waits) outcome left later = refl
 
-  text_then-spelled : (text : Text O) (outcome : O) (others : List O) (given : Option O) (left : List O)
+  pub text_then-spelled : (text : Text O) (outcome : O) (others : List O) (given : Option O) (left : List O)
       (later : Option O → List O → List ℕ)
       → text_then text (outcome ∷ others) (Gives given left) None later ≡ spelled outcome text ++ later given left
   text_then-spelled (Plain bytes) outcome others given left later = refl
   text_then-spelled (Asks text) outcome others given left later = refl
 
   -- what a line prints, and what comes after it, by what it gets
-  abbrev line_then : Option Status → List (Text O) → Text O → (Option O → List O → List ℕ) → List ℕ →
+  abbrev pub line_then : Option Status → List (Text O) → Text O → (Option O → List O → List ℕ) → List ℕ →
       OutcomeSupply O → List ℕ
   line_then halt waits text later short (Gives given left) =
       printed_from halt (printed_with waits text given) (later given left)
   line_then halt waits text later short Lacks = printed_from None [] short
+
+  -- the text at the end of the input
+  abbrev pub last_with : List (Text O) → Text O → OutcomeSupply O → List ℕ
+  last_with waits text (Gives given left) = printed_with waits text given
+  last_with waits text Lacks = []
 
   -- a line that stops the command
   stopped-in_order : (halt : Status) (waits : List (Text O)) (text : Text O) (later order : Option O → List O → List ℕ)
@@ -54,7 +59,7 @@ module _ {O : Type 0} where
   stopped-in_order _ (first ∷ waits) text later order = refl
 
   -- a line at which no phase ends
-  inside-in_order : (waits : List (Text O)) (text : Text O) (left : List O) (later order : Option O → List O → List ℕ)
+  pub inside-in_order : (waits : List (Text O)) (text : Text O) (left : List O) (later order : Option O → List O → List ℕ)
       → later None left ≡ after_waits (waits_with waits text) left (order None left)
       → printed_now waits text ++ later None left
       ≡ after_waits waits left (text_then text left (Gives None left) None order)
@@ -103,7 +108,7 @@ module _ {S O : Type 0} (texts : LineTexts S O) where
   phased = waiting texts
 
   -- what is printed at a line, and after it
-  by_supply : (outcomes : List O) (after : Way (Waiting S O) O → List ℕ) (now : Waiting S O) (line : List ℕ)
+  pub by_supply : (outcomes : List O) (after : Way (Waiting S O) O → List ℕ) (now : Waiting S O) (line : List ℕ)
       (lines : List (List ℕ)) (got : OutcomeSupply O)
       → printed_from (halt_at phased now line got) (printed_at phased now line got)
       (printed_to (with_outcomes phased outcomes) after (way_after phased now line got) lines)
@@ -137,12 +142,7 @@ module _ {S O : Type 0} (texts : LineTexts S O) where
   used now [] none = sym (after_waits-none now.waits)
   used now (outcome ∷ left) none = absurd cc
 
-  -- the text at the end of the input
-  abbrev last_with : List (Text O) → Text O → OutcomeSupply O → List ℕ
-  last_with waits text (Gives given left) = printed_with waits text given
-  last_with waits text Lacks = []
-
-  last_of : (now : Waiting S O) (got : OutcomeSupply O)
+  pub last_of : (now : Waiting S O) (got : OutcomeSupply O)
       → printed_last phased now got ≡ last_with now.waits (texts.last now.state) got
   last_of now (Gives given left) = refl
   last_of now Lacks = refl
@@ -182,30 +182,3 @@ module _ {S O : Type 0} (texts : LineTexts S O) where
       printed_to-words (with_outcomes phased outcomes) (On phased.start outcomes) lines
       ∙ printed_to-in_order outcomes (UsedAtEnd phased) (last_of_way phased) (last_in_order texts) refl last_used
       phased.start outcomes lines led
-
-  -- outside a phase nothing waits
-  module _ (inside : S → Type 0) (asks : AsksInside texts inside) where
-    waits-inside : (s : S) (line : List ℕ) (text : Text O) (waits : List (Text O)) → texts.text s line ≡ text
-        → ends_at texts s line ≡ false → (waits ≡ []) ⊎ inside s
-        → (waits_with waits text ≡ []) ⊎ inside (texts.next s line None)
-    waits-inside s line text waits is open_phase (inr here) = inr (asks.stays s line here open_phase)
-    waits-inside s line (Plain bytes) waits is open_phase (inl none) =
-        inl (ap (λ (waits : List (Text O)). waits_with waits (Plain bytes)) none)
-    waits-inside s line (Asks text) waits is open_phase (inl none) =
-        inr (asks.opens s line (subst (λ (text : Text O). IsAsking text) (sym is) tt) open_phase)
-
-    pub HoldsBackNothing-after : (outcomes : List O) (way : Way (Waiting S O) O) (lines : List (List ℕ))
-        → HoldsBackNothing inside way
-        → HoldsBackNothing inside (state_after (with_outcomes phased outcomes) way lines)
-    HoldsBackNothing-after outcomes way [] holds = holds
-    HoldsBackNothing-after outcomes Short (line ∷ lines) holds = HoldsBackNothing-after outcomes Short lines tt
-    HoldsBackNothing-after outcomes (On now left) (line ∷ lines) holds =
-        HoldsBackNothing-after outcomes (next_way phased (On now left) line) lines
-        (by (ends_at texts now.state line) refl left)
-      where
-        by : (ends : Bool) → ends_at texts now.state line ≡ ends → (left : List O)
-            → HoldsBackNothing inside (way_after phased now line (supply ends left))
-        by false open_phase left =
-            waits-inside now.state line (texts.text now.state line) now.waits refl open_phase holds
-        by true ended [] = tt
-        by true ended (outcome ∷ left) = inl refl

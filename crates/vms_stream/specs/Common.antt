@@ -14,14 +14,16 @@ pub use Rattle.vms_stream.specs.Leading.{AllUsed, OutcomesLead, OutcomesLeadThro
 pub use Rattle.vms_stream.specs.Leading.{leads_on, none_after}
 pub use Rattle.vms_stream.specs.Jobs.{Closes, ClosesPhased, Grows, MayGive, StandsOn, TakesLines, TakesPhased}
 pub use Rattle.vms_stream.specs.Jobs.{at_most_one, shown_on, shown_with}
-pub use Rattle.vms_stream.specs.PhasedAnswers.{AnswersPhased, OutcomesLeadTaken, SaysPhased, asked_of}
+pub use Rattle.vms_stream.specs.PhasedAnswers.{AnswersPhased, AreMade, AreOutcomesOf, LeadAbove, OutcomesLeadTaken}
+pub use Rattle.vms_stream.specs.PhasedAnswers.{SaysPhased}
 pub use Rattle.vms_stream.specs.Waiting.{IsAsking, LineTexts, Text, Waiting, ends_at, printed_now, printed_with}
 pub use Rattle.vms_stream.specs.Waiting.{spelled, unless_stopped, waiting, waits_after, waits_with}
 pub use Rattle.vms_stream.specs.Waiting.Text.{Asks, Plain}
-pub use Rattle.vms_stream.specs.Orders.{AsksInside, input_in_order, last_in_order, lines_in_order, text_then}
+pub use Rattle.vms_stream.specs.Orders.{input_in_order, last_in_order, lines_in_order, text_then}
 pub use Rattle.vms_stream.specs.Orders.{texts_in_order}
-pub use Rattle.vms_stream.specs.Laws.{AgreesFrom, GoesWithMore, HoldsBackNothing, WritesInOrder}
+pub use Rattle.vms_stream.specs.Written.{BeginsInOrder, StopsInOrder, WritesTextsOf}
+pub use Rattle.vms_stream.specs.Laws.{AgreesFrom, GoesWithMore, WritesInOrder}
 pub use Rattle.vms_stream.specs.Plain.{AskNothing, MakesNoPhase, plain, plain_bytes, plainly}
 pub use Rattle.vms_stream.specs.Taking.{TakesText}
-pub use Rattle.vms_stream.specs.Courses.{CountsReads, CountsWrites, Finishes, FinishesPhased, IsCourse, IsPhasedCourse}
+pub use Rattle.vms_stream.specs.Courses.{CountsReads, CountsWrites, FinishesPhased, IsCourse, IsPhasedCourse}
 pub use Rattle.vms_stream.specs.Courses.{StepsPhased, StopsAt, counted_bytes, lines_held, lines_judged, status_in}

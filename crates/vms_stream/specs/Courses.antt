@@ -7,15 +7,13 @@ use Rattle.vms_io.specs.declared.failures.ReadError.TheVariants as failures
 use Rattle.vms_stream.specs.declared.courses.Course.{Course}
 use Rattle.vms_stream.specs.declared.statuses.Status.{Status}
 use Rattle.vms_stream.specs.declared.statuses.Status.TheVariants.{Memory, ReadFault, TooLong}
-use Rattle.vms_stream.specs.Answers.{most_bytes, lines_taken, FaultsOfSource, FaultsOfSink, Says}
+use Rattle.vms_stream.specs.Answers.{most_bytes, FaultsOfSource, FaultsOfSink}
 use Rattle.vms_stream.specs.Behaviors.{Behavior, state_after, halted, printed}
-use Rattle.vms_stream.specs.Jobs.{Grows, StandsOn, shown_on}
-use Rattle.vms_stream.specs.Leading.{OutcomesLead, OutcomesLeadToEnd}
+use Rattle.vms_stream.specs.Jobs.{Grows, StandsOn}
+use Rattle.vms_stream.specs.Leading.{OutcomesLead}
 use Rattle.vms_stream.specs.PhasedAnswers.{SaysPhased}
 use Rattle.vms_stream.specs.PhasedBehaviors.{PhasedBehavior, with_outcomes}
-use Rattle.vms_stream.specs.PhasedBehaviors.Way.{On}
 use Rattle.vms_stream.specs.Pieces.{whole_lines, partial_line}
-use Rattle.vms_stream.specs.Ways.{HasAllOutcomes}
 use Rattle.vms_text.specs.Common.{lines_of}
 
 -- the status of a command that a read stopped
@@ -85,25 +83,17 @@ pub record StepsPhased {S O : Type 0} (phased : PhasedBehavior S O) (stands : S 
       (λ stop. SaysPhased phased shows (outcomes ++ further) stop (taken ++ more) (written ++ moved)
       (IsAtEnd left'))
 
--- the end of a course, where the last words are written or the command stops before
-pub record Finishes {S : Type 0} (behavior : Behavior S) (shows : S → Type 0) (taken written : List ℕ)
-    (held held' : Option (List ℕ)) (result : Result Status Status) : Type 0 where
-  pub moved : List ℕ
-  pub appends : Appends held held' moved
-  pub outcome : (left : Option (List ℕ)) → IsAtEnd left
-      → Says behavior shows (status_in result) taken (written ++ moved) (IsAtEnd left)
-
--- the same with the outcome of the phase that ends there, if one does
+-- the end of a course, with the outcome of the phase that ends there, if one does: the last words are written, or the
+-- command stops before
 pub record FinishesPhased {S O : Type 0} (phased : PhasedBehavior S O) (shows : S → Option O → Type 0)
     (outcomes : List O) (taken written : List ℕ) (made made' : Option (List O)) (held held' : Option (List ℕ))
     (result : Result Status Status) : Type 0 where
   pub further : List O
+  pub moved : List ℕ
   pub grows : Grows made made' further
-  pub within : length taken ≤ most_bytes
-  pub leads : OutcomesLeadToEnd phased phased.start (outcomes ++ further) (lines_of taken)
-  pub whole : HasAllOutcomes phased (On phased.start (outcomes ++ further)) (lines_taken taken)
-  pub finishes : Finishes (with_outcomes phased (outcomes ++ further)) (shown_on phased shows) taken written held held'
-      result
+  pub appends : Appends held held' moved
+  pub outcome : (left : Option (List ℕ)) → IsAtEnd left
+      → SaysPhased phased shows (outcomes ++ further) (status_in result) taken (written ++ moved) (IsAtEnd left)
 
 -- a command stops where a line stops it, and else where there are too many bytes
 abbrev pub StopsAt : Option Status → ℕ → Result (Unit {0}) Status → Type 0

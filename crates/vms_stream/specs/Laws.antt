@@ -1,12 +1,12 @@
 -- Laws of outcomes and of waiting.
-use Rattle.std.specs.Prelude.{◌≡◌, ◌⊎◌, ℕ, List, [], ◌++◌}
+use Rattle.std.specs.Prelude.{◌≡◌, ℕ, List, ◌++◌}
 use Rattle.vms_stream.specs.Behaviors.{state_after, halted, output, printed}
 use Rattle.vms_stream.specs.PhasedBehaviors.{PhasedBehavior, Way, with_outcomes}
-use Rattle.vms_stream.specs.PhasedBehaviors.Way.{On, Short}
+use Rattle.vms_stream.specs.PhasedBehaviors.Way.{On}
 use Rattle.vms_stream.specs.Ways.{IsMore, HasAllOutcomes}
-use Rattle.vms_stream.specs.Leading.{OutcomesLead, OutcomesLeadToEnd}
-use Rattle.vms_stream.specs.Waiting.{LineTexts, Waiting, waiting}
-use Rattle.vms_stream.specs.Orders.{input_in_order, lines_in_order}
+use Rattle.vms_stream.specs.Leading.{OutcomesLeadToEnd}
+use Rattle.vms_stream.specs.Waiting.{LineTexts, waiting}
+use Rattle.vms_stream.specs.Orders.{input_in_order}
 
 -- with more outcomes the way stays what it is, but for the outcomes that are left, and so do halts and what is printed,
 -- as long as no phase lacks its outcome. In any case what is printed with fewer outcomes begins what is printed with
@@ -43,24 +43,8 @@ abbrev pub OutcomesStandInWay : {S O : Type 0} → PhasedBehavior S O → Type 0
 OutcomesStandInWay {S} {O} phased =
     (outcomes others : List O) (way : Way S O) (lines : List (List ℕ)) → AgreesFrom phased outcomes others way lines
 
--- what a command prints that holds back texts is the order of its lines, where the outcomes are those of its phases
-abbrev pub PrintsInOrder : {S O : Type 0} → LineTexts S O → Type 0
-PrintsInOrder {S} {O} texts = (outcomes : List O) (lines : List (List ℕ)) →
-    OutcomesLead (waiting texts) (waiting texts).start outcomes lines →
-    printed (with_outcomes (waiting texts) outcomes) (On (waiting texts).start outcomes) lines
-    ≡ lines_in_order texts outcomes lines
-
+-- what a command writes that holds back texts is the order of its lines, where the outcomes are those of its phases
 abbrev pub WritesInOrder : {S O : Type 0} → LineTexts S O → Type 0
 WritesInOrder {S} {O} texts = (outcomes : List O) (lines : List (List ℕ)) →
     OutcomesLeadToEnd (waiting texts) (waiting texts).start outcomes lines →
     output (with_outcomes (waiting texts) outcomes) lines ≡ input_in_order texts outcomes lines
-
--- outside a phase nothing waits
-abbrev pub HoldsBackNothing : {S O : Type 0} → (S → Type 0) → Way (Waiting S O) O → Type 0
-HoldsBackNothing inside (On now left) = (now.waits ≡ []) ⊎ inside now.state
-HoldsBackNothing inside Short = Unit {0}
-
-abbrev pub WaitsInside : {S O : Type 0} → LineTexts S O → (S → Type 0) → Type 0
-WaitsInside {S} {O} texts inside = (outcomes : List O) (lines : List (List ℕ)) →
-    HoldsBackNothing inside
-    (state_after (with_outcomes (waiting texts) outcomes) (On (waiting texts).start outcomes) lines)

@@ -8,6 +8,7 @@ pub mod Jobs
 pub mod PhasedAnswers
 pub mod Waiting
 pub mod Orders
+pub mod Written
 pub mod Laws
 pub mod Plain
 pub mod Taking

@@ -1,10 +1,10 @@
 -- The texts of lines in the order of the lines.
-use Rattle.std.specs.Prelude.{◌≡◌, ℕ, true, false, List, [], ◌∷◌, Option, None}
+use Rattle.std.specs.Prelude.{ℕ, List, [], ◌∷◌, Option, None}
 use Rattle.vms_stream.specs.Behaviors.{printed_from}
 use Rattle.vms_stream.specs.declared.statuses.Status.{Status}
 use Rattle.vms_stream.specs.PhasedBehaviors.{OutcomeSupply, supply}
 use Rattle.vms_stream.specs.PhasedBehaviors.OutcomeSupply.{Gives, Lacks}
-use Rattle.vms_stream.specs.Waiting.{LineTexts, Text, IsAsking, ends_at}
+use Rattle.vms_stream.specs.Waiting.{LineTexts, Text, ends_at}
 use Rattle.vms_stream.specs.Waiting.Text.{Plain, Asks}
 
 -- a text, and what comes after it. A text asks for the first outcome that is left. Where none is left nothing is
@@ -36,10 +36,3 @@ last_in_order texts s outcomes =
 
 abbrev pub input_in_order : {S O : Type 0} → LineTexts S O → List O → List (List ℕ) → List ℕ
 input_in_order texts = texts_in_order texts (last_in_order texts) texts.start
-
--- lines ask only inside a phase: this holds after a line that asks, and goes on to hold up to the end of the phase
-pub record AsksInside {S O : Type 0} (texts : LineTexts S O) (inside : S → Type 0) : Type 0 where
-  pub opens : (s : S) (line : List ℕ) → IsAsking (texts.text s line) → ends_at texts s line ≡ false →
-      inside (texts.next s line None)
-  pub stays : (s : S) (line : List ℕ) → inside s → ends_at texts s line ≡ false → inside (texts.next s line None)
-  pub closes : (s : S) → inside s → texts.ends_last s ≡ true

@@ -8,13 +8,8 @@ mod laws;
 mod statuses;
 mod streaming;
 mod taking;
-mod texts;
 
 pub use jobs::Job;
-pub use laws::{
-    lines_print_in_order, longer_outcomes, outcomes_stand_in_way, plain_commands_say_plainly,
-    waits_inside,
-};
+pub use laws::{longer_outcomes, outcomes_stand_in_way, plain_commands_say_plainly};
 pub use statuses::Status;
 pub use streaming::stream;
-pub use texts::OrderedTexts;
