@@ -11,4 +11,6 @@ pub mod UntouchedPeaks
 pub mod ControlledHistories
 pub mod BurialCalls
 pub mod TurnCalls
+pub mod CallKinds
+pub mod MadeCalls
 pub mod Common

@@ -2,4 +2,5 @@ pub mod KnownPeaks
 pub mod OnlineCpus
 pub mod SetCounts
 pub mod Control
+pub mod PageCalls
 pub mod Common

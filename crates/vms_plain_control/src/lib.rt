@@ -5,6 +5,7 @@
 mod burials;
 mod nodes;
 mod online;
+mod page_calls;
 mod peaks;
 mod rating;
 mod refreshing;
@@ -13,6 +14,7 @@ mod visiting;
 
 pub use burials::bury;
 pub use nodes::{set_normal, set_pressure};
+pub use page_calls::call;
 pub use peaks::Peaks;
 pub use refreshing::refresh;
 pub use turns::turn;

@@ -19,40 +19,12 @@ use Rattle.vms_file_order.specs.Common.{GoesOnWithLine, pass_of, TableStates, Fi
 use Rattle.vms_file_order.specs.Common.{pcpu_makes}
 use Rattle.vms_answers.specs.declared.answers.Answer.{Answer}
 use Rattle.vms_answers.specs.Common.{LaneSteps, Tell}
-use Rattle.vms_answers.specs.declared.answers.Answer.TheVariants.{Balanced}
 use Rattle.vms_plain_control.specs.Common.{ControlCall, ControlMakes, MakesUnladenCall, KnowsPeaks}
 use Rattle.vms_plain_lines.specs.Common.{GoesOnKnowing, StandsNext}
-use Rattle.vms_answers.proofs.Common.{TellsEventCall, Tell-burial, Tell-normal, Tell-pressure, Tell-turn}
+use Rattle.vms_answers.proofs.Common.{TellsEventCall, Tell-burial}
+use Rattle.vms_calls.specs.declared.page_calls.PageAnswer.TheVariants.{Done}
 use Rattle.vms_plain_lines.proofs.ControlPass.{CarriesNothing-open, Controls-open, HasMade-row}
-use Rattle.vms_plain_lines.proofs.LineSteps.{All-each}
-use Rattle.vms_plain_lines.proofs.TableParts.{none_of_counters, none_of_events}
-
--- no step of the control pass is a lost exchange
-looks-won : OfLooks HasWon
-looks-won = record {
-  value = λ k v. tt;
-  system = λ i v. tt;
-  group = λ c j w. tt;
-  mark = λ g m a. tt;
-  cpu = λ c x. tt;
-}
-
-ratings-won : OfRatings HasWon
-ratings-won = record {
-  looks = looks-won;
-  acknowledged = λ c g x. tt;
-  threshold = λ c g t. tt;
-  set_mark = λ g m. tt;
-}
-
-folds-won : OfFolds HasWon
-folds-won = record {
-  threshold = λ g t a. tt;
-  take = λ c j w. tt;
-  place = λ k z. tt;
-  system = λ i z. tt;
-  acknowledge = λ g a. tt;
-}
+use Rattle.vms_plain_control.proofs.CallKinds.{All-each, folds-won, ratings-won}
 
 burial-won : (facts : Facts) (normal : ZoneSize → ℕ → ℕ → Type 0) (c : CpuId) (p : ℕ) (h : History) (steps : List Step)
     → Buries facts normal c p h steps → Each HasWon steps
@@ -130,94 +102,9 @@ module _ (pressure normal : ZoneSize → ℕ → ℕ → Type 0) (header : Heade
             made = HasMade-row facts hs.pages p controls.control made.0 next made.3;
           }
 
-      -- an act on the page counters alone
-      GoesOnKnowing-control : (answer : Option Answer)
-          → EventSteps (event_facts header w) Control a [] → PcpuSteps (pcpu_facts header w) Control a []
-          → ((steps : LaneSteps) → IsCall w.pages p hs.pages steps.pages
-          → HasMade facts (after p steps.pages hs.pages) hs.pages p steps.pages
-          → EventSteps (event_facts header w) Control a steps.events
-          → PcpuSteps (pcpu_facts header w) Control a steps.counters → Tell header w Control a steps answer)
-          → GoesOnKnowing header pressure normal w lanes item hs (record now { pages = next }) known answer
-      GoesOnKnowing-control answer no_events no_counters tell =
-          let on_pages = control-part in
-          let on_events = none_of_events pressure normal header w lanes items hs now item stands no_events in
-          let on_counters = none_of_counters pressure normal header w lanes items hs now item stands no_counters in
-          record {
-            line = record { pages = on_pages.part; events = on_events; counters = on_counters };
-            known = on_pages.knows;
-            tells = tell (record {
-              pages = on_pages.part.steps;
-              events = on_events.steps;
-              counters = on_counters.steps;
-            }) on_pages.call on_pages.made on_events.making on_counters.making;
-          }
-
-  rating-leaves : (Chooses : Choice) (n : PlaceId) (steps : List Step)
-      → RatesNode facts Chooses n p hs.pages steps → CarriesAsBefore header.layout p steps (own hs.pages p)
-  rating-leaves Chooses n steps call =
-      (still-leaves header.layout p steps (own hs.pages p)
-      (node-each IsStill ratings-still facts Chooses n p hs.pages steps call)).carries
-
   module _ (item : Item) (lane : item.lane ≡ Control)
       (stands : StandsNext header pressure normal w lanes items hs now item) (peaks : List ℕ)
       (knows : KnowsPeaks facts hs.pages peaks) (next : State) (known : List ℕ) where
-    pub GoesOnKnowing-pressure : (n : PlaceId) → item.act ≡ Pressure n
-        → ControlMakes header (λ base q h steps. SetsPressure (facts_of header base) pressure normal n q h steps)
-        now.pages peaks next known
-        → GoesOnKnowing header pressure normal w lanes item hs (record now { pages = next }) known None
-    GoesOnKnowing-pressure n act makes = by-item
-        (λ (i : Item). StandsNext header pressure normal w lanes items hs now i
-        → GoesOnKnowing header pressure normal w lanes i hs (record now { pages = next }) known None)
-        item (Pressure n) lane act
-        (λ here. GoesOnKnowing-control item.number (Pressure n)
-        (λ base q h steps. SetsPressure (facts_of header base) pressure normal n q h steps) here (λ steps call. call)
-        (λ steps call. node-each HasWon ratings-won facts (ByPressure pressure normal) n p hs.pages steps call)
-        (rating-leaves (ByPressure pressure normal) n) peaks knows next known
-        (λ base h q controls unladen. makes base h q controls) None refl refl
-        (λ steps call made. Tell-pressure header w pressure normal p (after p steps.pages hs.pages) hs.pages steps
-        made n call))
-        stands
-
-    pub GoesOnKnowing-normal : (n : PlaceId) → item.act ≡ Normal n
-        → ControlMakes header (λ base q h steps. SetsNormal (facts_of header base) normal n q h steps) now.pages peaks
-        next known
-        → GoesOnKnowing header pressure normal w lanes item hs (record now { pages = next }) known None
-    GoesOnKnowing-normal n act makes = by-item
-        (λ (i : Item). StandsNext header pressure normal w lanes items hs now i
-        → GoesOnKnowing header pressure normal w lanes i hs (record now { pages = next }) known None)
-        item (Normal n) lane act
-        (λ here. GoesOnKnowing-control item.number (Normal n)
-        (λ base q h steps. SetsNormal (facts_of header base) normal n q h steps) here (λ steps call. call)
-        (λ steps call. node-each HasWon ratings-won facts (ByNormal normal) n p hs.pages steps call)
-        (rating-leaves (ByNormal normal) n) peaks knows next known
-        (λ base h q controls unladen. makes base h q controls) None refl refl
-        (λ steps call made. Tell-normal header w pressure normal p (after p steps.pages hs.pages) hs.pages steps
-        made n call))
-        stands
-
-    pub GoesOnKnowing-turn : (n : PlaceId) (order most : ℕ) → item.act ≡ Kswapd n order most → (answer : Balance)
-        → ControlMakes header
-        (λ base q h steps. IsTurn header base pressure normal n order most q h steps answer) now.pages peaks next known
-        → GoesOnKnowing header pressure normal w lanes item hs (record now { pages = next }) known
-        (Some (Balanced answer))
-    GoesOnKnowing-turn n order most act answer makes = by-item
-        (λ (i : Item). StandsNext header pressure normal w lanes items hs now i
-        → GoesOnKnowing header pressure normal w lanes i hs (record now { pages = next }) known
-        (Some (Balanced answer)))
-        item (Kswapd n order most) lane act
-        (λ here. GoesOnKnowing-control item.number (Kswapd n order most)
-        (λ base q h steps. IsTurn header base pressure normal n order most q h steps answer) here
-        (λ steps call. (answer, call))
-        (λ steps call. turn-each HasWon ratings-won header w.pages pressure normal n order most p hs.pages steps answer
-        call)
-        (λ steps call. (still-leaves header.layout p steps (own hs.pages p)
-        (turn-each IsStill ratings-still header w.pages pressure normal n order most p hs.pages steps answer
-        call)).carries) peaks knows next known
-        (λ base h q controls unladen. makes base h q controls) (Some (Balanced answer)) refl refl
-        (λ steps call made. Tell-turn header w pressure normal p (after p steps.pages hs.pages) hs.pages steps made n
-        order most answer call))
-        stands
-
     -- a burial, from its parts on the event counters and on the percpu counters
     pub GoesOnKnowing-burial : TellsEventCall → (c : CpuId)
         → item.act ≡ Dead c
@@ -251,7 +138,7 @@ module _ (pressure normal : ZoneSize → ℕ → ℕ → Type 0) (header : Heade
             (record { pages = next; events = next_events; counters = next_counters }) known None
         by here in_events in_counters =
             let on_pages = control-part item.number (Dead c)
-            (λ base q h steps. Buries (facts_of header base) normal c q h steps) here (λ steps call. call)
+            (λ base q h steps. Buries (facts_of header base) normal c q h steps) here (λ steps call. (Done, call))
             (λ steps call. burial-won facts normal c p hs.pages steps call)
             (λ steps call. (burial-leaves facts normal layout c p hs.pages steps call (own hs.pages p)).carries)
             peaks knows next known makes in

@@ -1,8 +1,6 @@
-pub mod TableParts
-pub mod WonSteps
-pub mod LineSteps
-pub mod KeptPeaks
 pub mod EitherLane
+pub mod TableParts
+pub mod LineSteps
 pub mod SpentVolumes
 pub mod PlainParts
 pub mod PageLines

@@ -3,12 +3,6 @@ use Rattle.std.proofs.Common.{◌≡◌, ℕ, true, List, Option, Some, ap, subs
 use Rattle.vms_world.specs.Common.{Header, CpuId, ZoneSize, Item, Lane, Control, Cpu, lane_owns, owner_of}
 use Rattle.vms_answers.specs.declared.answers.Answer.{Answer}
 use Rattle.vms_plain_lines.specs.Common.{GoesOnIf, PlainStates}
-use Rattle.vms_plain_lines.proofs.PageLines.{owned-lane}
-
--- the pass of a lane that owns a CPU owns that CPU
-pub owner-owned : (lane : Lane) (c : CpuId) → lane_owns lane c ≡ true → owner_of lane ≡ Some c
-owner-owned (Cpu d) c is = ap (λ (x : CpuId). let who : Option CpuId = Some x in who) (owned-lane d c is)
-owner-owned Control c is = absurd cc
 
 -- what goes on from the parts of the tables goes on from the tables
 module _ (header : Header) (pressure normal : ZoneSize → ℕ → ℕ → Type 0) (item : Item) (Room : List Item → Type 0)
@@ -17,8 +11,3 @@ module _ (header : Header) (pressure normal : ZoneSize → ℕ → ℕ → Type 
       → GoesOnIf header pressure normal item Room now next answer
   GoesOnIf-inside next goes =
       subst (λ (s : PlainStates). GoesOnIf header pressure normal item Room s next answer) same goes
-
-  -- the same where the tables stay
-  pub GoesOnIf-staying : GoesOnIf header pressure normal item Room inside inside answer
-      → GoesOnIf header pressure normal item Room now now answer
-  GoesOnIf-staying goes = subst (λ (s : PlainStates). GoesOnIf header pressure normal item Room s s answer) same goes

@@ -51,16 +51,16 @@ module _ (pressure normal : ZoneSize → ℕ → ℕ → Type 0) (header : Heade
       (pcpu_facts header w) lanes item hs.counters (under_free_locks now.counters) among stands.opened.counters none
 
   -- a line on the page counters alone
-  pub GoesOnTelling-pages : (next : State) (answer : Option Answer)
+  pub GoesOnTelling-pages : (next : State) (known : List ℕ) (answer : Option Answer)
       → EventSteps (event_facts header w) item.lane item.act []
       → PcpuSteps (pcpu_facts header w) item.lane item.act []
       → (part : GoesOnWithLine pages (PageSteps header w.pages pressure normal) HasWon (page_facts header w) lanes item
-      hs.pages next) → KnowsPeaks (page_facts header w) (after (pass_of lanes item.lane) part.steps hs.pages) now.peaks
+      hs.pages next) → KnowsPeaks (page_facts header w) (after (pass_of lanes item.lane) part.steps hs.pages) known
       → Tell header w item.lane item.act (on_pages part.steps) answer
-      → GoesOnTelling header pressure normal w lanes item hs (record now { pages = next }) answer
-  GoesOnTelling-pages next answer no_events no_counters part known told = record {
+      → GoesOnTelling header pressure normal w lanes item hs (record now { pages = next; peaks = known }) answer
+  GoesOnTelling-pages next known answer no_events no_counters part knows told = record {
     line = record { pages = part; events = of_events no_events; counters = of_counters no_counters };
-    peaks = known;
+    peaks = knows;
     opening = stands.opening;
     tells = told;
   }

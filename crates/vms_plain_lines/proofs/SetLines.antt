@@ -12,7 +12,8 @@ use Rattle.vms_world.specs.declared.worlds.World.{World}
 use Rattle.vms_file_order.specs.Common.{GoesOnWithLine, StandsOpen, pass_of, page_passes}
 use Rattle.vms_plain_control.specs.Common.{SetAtMost, SetsEachAtMost}
 use Rattle.vms_plain_lines.specs.Common.{SetByLines, SparesPeaks}
-use Rattle.vms_plain_lines.proofs.LineSteps.{OfChanges, act-each}
+use Rattle.vms_plain_control.proofs.CallKinds.{OfChanges}
+use Rattle.vms_plain_lines.proofs.LineSteps.{act-each}
 
 -- a step that sets no threshold and no mark
 abbrev SetsNothing : Step → Type 0

@@ -12,16 +12,15 @@ use Rattle.vms_file_order.specs.Common.{StandOnce, IsOpenPhase, TableStates, Fin
 use Rattle.vms_file_order.specs.Common.{event_passes, page_passes, pcpu_makes, pcpu_passes}
 use Rattle.vms_file_order.proofs.Common.{events-spend_lines, HasLanes-followed, MakesActs-followed, acts_of-followed}
 use Rattle.vms_file_order.proofs.Common.{pages-spend_lines, pcpu-spend_lines}
-use Rattle.vms_plain_lines.specs.Common.{PageCallers}
 
 module _ (pressure normal : ZoneSize → ℕ → ℕ → Type 0) (header : Header) (w : World) (lanes : List Lane)
     (items : List Item) (hs : TableHistories) (now : TableStates) (once : StandOnce lanes)
     (opened : IsOpenPhase header pressure normal w lanes items hs now) where
-  pub spent-pages : PageCallers → (c : CpuId) (k : ℕ)
+  pub spent-pages : (c : CpuId) (k : ℕ)
       → page_totals.spent hs.pages c.number k ≡ volume (spent_on_counter k) c.number (map line_of items)
-  spent-pages laws c k =
+  spent-pages c k =
       let makes = PageSteps header w.pages pressure normal in
-      pages-spend_lines laws.change laws.place_value laws.system_value laws.snapshot laws.test laws.fold header
+      pages-spend_lines header
       (base_can_begin pages (page_facts header w) hs.pages opened.pages.legal).layout w.pages pressure normal c k lanes
       once items (acts_of-followed page_passes makes HasWon lanes items hs.pages opened.page_lines (Cpu c)) hs.pages
       opened.pages.legal (HasLanes-followed page_passes makes HasWon lanes once items hs.pages opened.page_lines)

@@ -1,8 +1,8 @@
-pub mod PageActs
 pub mod NextLines
 pub mod SparedPeaks
 pub mod PlainStates
 pub mod EventRooms
+pub mod PageRooms
 pub mod CallLaws
 pub mod Rooms
 pub mod ControlLines

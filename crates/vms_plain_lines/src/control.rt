@@ -1,113 +1,21 @@
 use crate::PlainTables;
 use crate::laws::event_laws;
-use vms_base::{CpuId, Header, PlaceId};
+use vms_base::{CpuId, Header};
 use vms_calc::{Rule, Rules};
-use vms_calls::Balance;
 use vms_event_core::EventCall;
 
 impl PlainTables {
-    ghost use Rattle.std.specs.Prelude.{◌≡◌, ◌≢◌, ℕ, ◌+◌, ◌-◌, ◌<◌, ◌≤◌, ◌^◌, length, false, Some, None};
-    ghost use Rattle.vms_world.specs.Common.{CpuId, Absent, HasOnline, state_at, IsHeader, IsCpu, IsNode, State};
-    ghost use Rattle.vms_world.specs.Common.{cpu_at, with_cpu, most_sets, IsEvent, word_at, Kswapd, Normal, Pressure};
-    ghost use Rattle.vms_world.specs.Common.{Item, Control};
+    ghost use Rattle.std.specs.Prelude.{◌≡◌, ◌≢◌, ℕ, ◌+◌, ◌-◌, ◌<◌, ◌≤◌, ◌^◌, length, false, None};
+    ghost use Rattle.vms_world.specs.Common.{CpuId, Absent, HasOnline, state_at, IsHeader, IsCpu, State};
+    ghost use Rattle.vms_world.specs.Common.{cpu_at, with_cpu, most_sets, IsEvent, word_at, Item, Control};
     ghost use Rattle.vms_base.specs.declared.kinds.CpuState.TheVariants.{Dead as DeadCpu, Online};
-    ghost use Rattle.vms_core.specs.Cells.{HasShape};
     ghost use Rattle.vms_pcpu_core.specs.States.{counters_of};
-    ghost use Rattle.vms_answers.specs.declared.answers.Answer.TheVariants.{Balanced};
     ghost use Rattle.vms_plain_events.specs.Common.{HasWords, MovesWords};
     ghost use Rattle.vms_plain_lines.specs.PlainStates.{GoesOnAlways};
-    ghost use Rattle.vms_plain_pages.specs.Common.{IsSmallState, balance_at, FoldsCpu};
+    ghost use Rattle.vms_plain_pages.specs.Common.{IsSmallState, FoldsCpu};
     ghost use Rattle.vms_plain_pcpu.specs.Common.{HasLocals, HasRoomFor, MovesLocals};
     ghost use Rattle.vms_plain_control.specs.Common.{HasAllPeaks, SetAtMost, SetsEachAtMost, SetsOnly};
     ghost use Rattle.vms_text.specs.declared.acts.Act.TheVariants.{Dead};
-
-    /// Sets the pressure thresholds of a node's zones, with marks that cover them (`set_pgdat_percpu_threshold` of
-    /// mm/vmstat.c with `calculate_pressure_threshold`).
-    pub fn set_pressure<N: Rule, P: Rule>(
-        &mut self,
-        rules: &Rules<N, P>,
-        header: &Header,
-        node: PlaceId,
-    )
-        requires header { IsHeader header.now }
-        requires shaped { HasShape header.now.layout self.old.pages }
-        requires full { HasAllPeaks header.now.layout self.old.peaks }
-        requires some_online { HasOnline header.now.layout self.old.pages.cpu }
-        requires room { SetAtMost header.now.layout (most_sets - 1) self.old.pages }
-        requires node { IsNode header.now.layout node.number }
-        ensures rest { SetsOnly self.old.pages self.new.pages }
-        ensures after { self.new ≡ record self.old { pages = self.new.pages; peaks = self.new.peaks } }
-        ensures sets { SetsEachAtMost header.now.layout 1 self.old.pages self.new.pages }
-        ensures full { HasAllPeaks header.now.layout self.new.peaks }
-        ensures goes_on { (item : Item) → item.lane ≡ Control → item.act ≡ Pressure node →
-            GoesOnAlways header.now (P.answers rules.now.pressure) (N.answers rules.now.normal) item self.old self.new
-            None }
-    {
-        vms_plain_control::set_pressure(&mut self.pages, &mut self.peaks, header, rules, node);
-    }
-
-    /// Sets the normal thresholds of a node's zones again (`set_pgdat_percpu_threshold` of mm/vmstat.c with
-    /// `calculate_normal_threshold`).
-    pub fn set_normal<N: Rule, P: Rule>(
-        &mut self,
-        rules: &Rules<N, P>,
-        header: &Header,
-        node: PlaceId,
-    )
-        requires header { IsHeader header.now }
-        requires shaped { HasShape header.now.layout self.old.pages }
-        requires full { HasAllPeaks header.now.layout self.old.peaks }
-        requires some_online { HasOnline header.now.layout self.old.pages.cpu }
-        requires room { SetAtMost header.now.layout (most_sets - 1) self.old.pages }
-        requires node { IsNode header.now.layout node.number }
-        ensures rest { SetsOnly self.old.pages self.new.pages }
-        ensures after { self.new ≡ record self.old { pages = self.new.pages; peaks = self.new.peaks } }
-        ensures sets { SetsEachAtMost header.now.layout 1 self.old.pages self.new.pages }
-        ensures full { HasAllPeaks header.now.layout self.new.peaks }
-        ensures goes_on { (item : Item) → item.lane ≡ Control → item.act ≡ Normal node →
-            GoesOnAlways header.now (P.answers rules.now.pressure) (N.answers rules.now.normal) item self.old self.new
-            None }
-    {
-        vms_plain_control::set_normal(&mut self.pages, &mut self.peaks, header, rules, node);
-    }
-
-    /// Takes a turn of kswapd on a node, for an order and a highest zone index (`kswapd_try_to_sleep` of mm/vmscan.c).
-    pub fn turn<N: Rule, P: Rule>(
-        &mut self,
-        rules: &Rules<N, P>,
-        header: &Header,
-        node: PlaceId,
-        order: u32,
-        most: u32,
-    ) -> Balance
-        requires header { IsHeader header.now }
-        requires numbers { IsSmallState header.now.layout (2 ^ 61) self.old.pages }
-        requires full { HasAllPeaks header.now.layout self.old.peaks }
-        requires some_online { HasOnline header.now.layout self.old.pages.cpu }
-        requires room { SetAtMost header.now.layout (most_sets - 2) self.old.pages }
-        requires node { IsNode header.now.layout node.number }
-        requires order { order ≤ 10 }
-        requires most { most ≤ 3 }
-        ensures answer { (pressed : State) × SetsOnly self.old.pages pressed
-            × (result ≡ balance_at header.now node order most pressed) }
-        ensures rest { SetsOnly self.old.pages self.new.pages }
-        ensures after { self.new ≡ record self.old { pages = self.new.pages; peaks = self.new.peaks } }
-        ensures sets { SetsEachAtMost header.now.layout 2 self.old.pages self.new.pages }
-        ensures full { HasAllPeaks header.now.layout self.new.peaks }
-        ensures goes_on { (item : Item) → item.lane ≡ Control → item.act ≡ Kswapd node order most →
-            GoesOnAlways header.now (P.answers rules.now.pressure) (N.answers rules.now.normal) item self.old self.new
-            (Some (Balanced result)) }
-    {
-        vms_plain_control::turn(
-            &mut self.pages,
-            &mut self.peaks,
-            header,
-            rules,
-            node,
-            order,
-            most,
-        )
-    }
 
     /// Buries a dead CPU: what it has counted goes to the lowest-numbered CPU that is online, what it holds of percpu
     /// counters to the shared parts, and it is folded and becomes absent (`vm_events_fold_cpu` and `vmstat_cpu_dead` of

@@ -1,13 +1,19 @@
 -- Lines that are made, by the calls that make them.
-use Rattle.std.proofs.Common.{◌≡◌, ◌≢◌, ℕ, ◌+◌, ◌-◌, ◌*◌, ◌<◌, ◌≤◌, inl, inr, Bool, true, false, nat_lt, MatchBool, ℤ}
+use Rattle.std.proofs.Common.{◌≡◌, ◌≢◌, ℕ, ◌+◌, ◌-◌, ◌*◌, ◌<◌, ◌≤◌, inl, inr, ◌⊎◌, Bool, true, false, nat_lt, MatchBool}
 use Rattle.std.proofs.Common.{[], ◌∷◌, ◌||◌, length, map, ⊎_elim, Option, Some, None, refl, sym, ap, subst, arith}
-use Rattle.std.proofs.Common.{length-append, eq-eqb, rules}
+use Rattle.std.proofs.Common.{length-append, eq-eqb, unsigned_abs}
 use Rattle.std.proofs.lemmas.Bool.Decides.{nat_tests}
-use Rattle.vms_world.specs.Common.{Header, CounterId, CpuId, ItemId, PlaceId, WaterMark, ZoneSize, IsHeader}
+use Rattle.vms_calls.specs.PageCalls.{asks_rules}
+use Rattle.vms_calls.specs.declared.page_calls.PageAnswer.{PageAnswer}
+use Rattle.vms_calls.specs.declared.page_calls.PageAnswer.TheVariants as pages
+use Rattle.vms_calls.specs.declared.page_calls.PageCall.{PageCall}
+use Rattle.vms_calls.specs.declared.page_calls.PageCall.TheVariants.{SetPressure, SetNormal, Bury, Turn}
+use Rattle.vms_world.specs.Common.{Header, CpuId, ZoneSize, IsHeader}
 use Rattle.vms_world.specs.Common.{class_names, declared_names, node_items, IsItem, Shape, State, most_sets, EventCall}
-use Rattle.vms_world.specs.Common.{Count, event_spent, IsEvent, IsActOf, IsKnownValue, line_of, Act, Fold, Water, Val}
+use Rattle.vms_world.specs.Common.{Count, event_spent, IsEvent, IsActOf, IsLaneOf, IsKnownValue, line_of, Act, Ev, Cnt}
+use Rattle.vms_world.specs.Common.{Lim, Cmp, Rough, Fold, Water, Val}
 use Rattle.vms_world.specs.Common.{Snap, Sys, Pressure, Normal, Kswapd, Item, Lane, Control, Cpu, event_call, pcpu_call}
-use Rattle.vms_world.specs.Common.{is_among, owner_of}
+use Rattle.vms_world.specs.Common.{is_among, owner_of, page_call}
 use Rattle.vms_event_core.specs.declared.call_values.EventCall.TheVariants.{Sum as SumEvents, FoldDead as FoldEvents}
 use Rattle.vms_answers.specs.declared.answers.Answer.{Answer}
 use Rattle.vms_file_order.specs.Common.{MayFollow}
@@ -15,10 +21,11 @@ use Rattle.vms_file_order.proofs.Common.{own-size}
 use Rattle.vms_plain_events.specs.Common.{FitsCall}
 use Rattle.vms_plain_lines.specs.Common.{GoesOnIf, PlainStates, SparesPeaks}
 use Rattle.vms_plain_control.specs.Common.{SetAtMost, SetsEachAtMost}
-use Rattle.vms_text.specs.declared.acts.Act.TheVariants.{Mod, Inc, Dec, Dead}
+use Rattle.vms_plain_control.specs.PageCalls.{AnswersPageCall, FitsPageCall}
+use Rattle.vms_text.specs.declared.acts.Act.TheVariants.{Csync, Mod, Inc, Dec, Dead, Sum}
 use Rattle.vms_world.specs.Acts.{spent_by_call}
 use Rattle.vms_world.proofs.Common.{call-known, control-counts_none, spent_on_event-call, sum-known}
-use Rattle.vms_replay_phase.specs.Common.{IsOfEveryLane, MakesLine, MayMakeLine}
+use Rattle.vms_replay_phase.specs.Common.{MakesLine, MayMakeLine}
 
 module _ (header : Header) (pressure normal : ZoneSize → ℕ → ℕ → Type 0) (lane : Lane) (now next : PlainStates)
     (answer : Option Answer) (a : Act)
@@ -54,50 +61,129 @@ module _ (shape : Shape) (s : State) where
         marks = λ g zone. omega (arith, after.marks g zone);
       }
 
--- what a CPU's lane may make besides changes and calls on event and percpu counters
-pub every_lane-rest : (header : Header) (cpu : CpuId) (a : Act) → IsActOf header (Cpu cpu) a
-    → event_call (Cpu cpu) a ≡ None → pcpu_call (Cpu cpu) a ≡ None
-    → ((k : CounterId) (pages : ℤ) → a ≡ Mod k pages → ⊥) → ((k : CounterId) → a ≡ Inc k → ⊥)
-    → ((k : CounterId) → a ≡ Dec k → ⊥) → IsOfEveryLane a
-every_lane-rest header cpu (Mod k pages) is no_events no_call no_mod no_inc no_dec = absurd (no_mod k pages refl)
-every_lane-rest header cpu (Inc k) is no_events no_call no_mod no_inc no_dec = absurd (no_inc k refl)
-every_lane-rest header cpu (Dec k) is no_events no_call no_mod no_inc no_dec = absurd (no_dec k refl)
-every_lane-rest header cpu (Fold c) is no_events no_call no_mod no_inc no_dec = tt
-every_lane-rest header cpu (Water g mark most) is no_events no_call no_mod no_inc no_dec = tt
-every_lane-rest header cpu (Val k) is no_events no_call no_mod no_inc no_dec = tt
-every_lane-rest header cpu (Snap k) is no_events no_call no_mod no_inc no_dec = tt
-every_lane-rest header cpu (Sys i) is no_events no_call no_mod no_inc no_dec = tt
-every_lane-rest header cpu (Pressure n) is no_events no_call no_mod no_inc no_dec = absurd is.0
-every_lane-rest header cpu (Normal n) is no_events no_call no_mod no_inc no_dec = absurd is.0
-every_lane-rest header cpu (Dead c) is no_events no_call no_mod no_inc no_dec = absurd is.0
-every_lane-rest header cpu (Kswapd n order most) is no_events no_call no_mod no_inc no_dec = absurd is.0
-every_lane-rest header cpu _ is no_events no_call no_mod no_inc no_dec = absurd cc
+-- every act of a header makes a call
+pub makes-some : (header : Header) (lane : Lane) (a : Act) → IsActOf header lane a → page_call lane a ≡ None
+    → event_call lane a ≡ None → pcpu_call lane a ≡ None → ⊥
+makes-some header (Cpu c) (Pressure n) is no_pages no_events no_counters = is.0
+makes-some header (Cpu c) (Normal n) is no_pages no_events no_counters = is.0
+makes-some header (Cpu c) (Dead d) is no_pages no_events no_counters = is.0
+makes-some header (Cpu c) (Kswapd n order most) is no_pages no_events no_counters = is.0
+makes-some header (Cpu c) _ is no_pages no_events no_counters = cc
+makes-some header Control (Mod k pages) is no_pages no_events no_counters = is.0
+makes-some header Control (Inc k) is no_pages no_events no_counters = is.0
+makes-some header Control (Dec k) is no_pages no_events no_counters = is.0
+makes-some header Control (Ev k n) is no_pages no_events no_counters = is.0
+makes-some header Control (Cnt j amount) is no_pages no_events no_counters = is.0
+makes-some header Control (Lim j limit amount) is no_pages no_events no_counters = is.0
+makes-some header Control (Cmp j rhs) is no_pages no_events no_counters = is.0
+makes-some header Control (Sum j) is no_pages no_events no_counters = is.0
+makes-some header Control (Rough j) is no_pages no_events no_counters = is.0
+makes-some header Control (Csync j) is no_pages no_events no_counters = is.0
+makes-some header Control _ is no_pages no_events no_counters = cc
 
--- what the control lane may make besides its own acts and calls on event counters
-pub control-rest : (header : Header) (a : Act) → IsActOf header Control a → event_call Control a ≡ None
-    → ((n : PlaceId) → a ≡ Pressure n → ⊥) → ((n : PlaceId) → a ≡ Normal n → ⊥)
-    → ((n : PlaceId) (order most : ℕ) → a ≡ Kswapd n order most → ⊥) → IsOfEveryLane a
-control-rest header (Pressure n) is no_events no_pressure no_normal no_kswapd = absurd (no_pressure n refl)
-control-rest header (Normal n) is no_events no_pressure no_normal no_kswapd = absurd (no_normal n refl)
-control-rest header (Kswapd n order most) is no_events no_pressure no_normal no_kswapd =
-    absurd (no_kswapd n order most refl)
-control-rest header (Fold c) is no_events no_pressure no_normal no_kswapd = tt
-control-rest header (Water g mark most) is no_events no_pressure no_normal no_kswapd = tt
-control-rest header (Val k) is no_events no_pressure no_normal no_kswapd = tt
-control-rest header (Snap k) is no_events no_pressure no_normal no_kswapd = tt
-control-rest header (Sys i) is no_events no_pressure no_normal no_kswapd = tt
-control-rest header _ is no_events no_pressure no_normal no_kswapd = first_of (cc, assumption)
+-- one of the control lane makes one on other counters than the percpu ones
+pub control-some : (header : Header) (a : Act) → IsActOf header Control a → page_call Control a ≡ None
+    → event_call Control a ≡ None → ⊥
+control-some header (Dead c) is no_pages no_events = cc
+control-some header (Mod k pages) is no_pages no_events = is.0
+control-some header (Inc k) is no_pages no_events = is.0
+control-some header (Dec k) is no_pages no_events = is.0
+control-some header (Ev k n) is no_pages no_events = is.0
+control-some header (Cnt j amount) is no_pages no_events = is.0
+control-some header (Lim j limit amount) is no_pages no_events = is.0
+control-some header (Cmp j rhs) is no_pages no_events = is.0
+control-some header (Sum j) is no_pages no_events = is.0
+control-some header (Rough j) is no_pages no_events = is.0
+control-some header (Csync j) is no_pages no_events = is.0
+control-some header _ is no_pages no_events = cc
 
--- no act of every lane is left
-pub every_lane-none : (a : Act) → IsOfEveryLane a → ((c : CpuId) → a ≡ Fold c → ⊥)
-    → ((g : PlaceId) (mark : WaterMark) (most : ℕ) → a ≡ Water g mark most → ⊥) → ((k : CounterId) → a ≡ Val k → ⊥)
-    → ((k : CounterId) → a ≡ Snap k → ⊥) → ((i : ItemId) → a ≡ Sys i → ⊥) → ⊥
-every_lane-none (Fold c) is no_fold no_water no_val no_snap no_sys = no_fold c refl
-every_lane-none (Water g mark most) is no_fold no_water no_val no_snap no_sys = no_water g mark most refl
-every_lane-none (Val k) is no_fold no_water no_val no_snap no_sys = no_val k refl
-every_lane-none (Snap k) is no_fold no_water no_val no_snap no_sys = no_snap k refl
-every_lane-none (Sys i) is no_fold no_water no_val no_snap no_sys = no_sys i refl
-every_lane-none _ is no_fold no_water no_val no_snap no_sys = is
+-- an act that makes no call on the page counters sets no thresholds, and buries no CPU
+pub no_pages-spares : (header : Header) (lane : Lane) (a : Act) → IsActOf header lane a → page_call lane a ≡ None
+    → SparesPeaks a
+no_pages-spares header (Cpu c) (Pressure n) is none = absurd is.0
+no_pages-spares header (Cpu c) (Normal n) is none = absurd is.0
+no_pages-spares header (Cpu c) (Dead d) is none = absurd is.0
+no_pages-spares header (Cpu c) (Kswapd n order most) is none = absurd is.0
+no_pages-spares header Control (Pressure n) is none = absurd cc
+no_pages-spares header Control (Normal n) is none = absurd cc
+no_pages-spares header Control (Dead d) is none = absurd cc
+no_pages-spares header Control (Kswapd n order most) is none = absurd cc
+no_pages-spares header _ _ is none = tt
+
+pub no_pages-no_burial : (header : Header) (lane : Lane) (a : Act) → IsActOf header lane a → page_call lane a ≡ None
+    → (c : CpuId) → a ≢ Dead c
+no_pages-no_burial header (Cpu d) a is none c same =
+    (let known : IsActOf header (Cpu d) (Dead c) = subst (λ (b : Act). IsActOf header (Cpu d) b) same is in known.0)
+no_pages-no_burial header Control a is none c same =
+    (let made : page_call Control (Dead c) ≡ None = subst (λ (b : Act). page_call Control b ≡ None) same none in cc)
+
+-- a value that has a name is one of the layout
+pub IsItem-known : (header : Header) (i : ℕ) → IsHeader header → IsKnownValue header i → IsItem header.layout i
+IsItem-known header i is known = by (nat_lt i header.layout.positions) refl known
+  where
+    most : length (class_names true header.items) ≤ header.layout.positions
+    most = ⊎_elim
+        (λ narrow. omega (arith, ap (λ items. length (class_names true items)) (is.items_wide narrow), narrow))
+        (λ wide. omega (
+          arith,
+          length-append node_items (declared_names true header.items),
+          is.node_items_most,
+          wide,
+        )) is.is_layout.positions
+
+    by : (b : Bool) → nat_lt i header.layout.positions ≡ b
+        → MatchBool b (i < length (class_names false header.items))
+        (i - header.layout.positions < length (class_names true header.items))
+        → i < 2 * header.layout.positions
+    by true below holds = grind (arith, nat_tests)
+    by false past holds = omega (arith, holds, most)
+
+-- a call fits these tables, if there is one
+abbrev FitsIfSome : Header → PlainStates → Option PageCall → Option CpuId → Type 0
+FitsIfSome header now (Some call) owner = FitsPageCall header call owner now.pages
+FitsIfSome header now None owner = Unit {0}
+
+-- the page counters leave room for the call of a line
+pub FitsPageCall-line : (header : Header) → IsHeader header → (lane : Lane) (act : Act) (now : PlainStates)
+    → MayMakeLine header lane act now → (call : PageCall) → page_call lane act ≡ Some call
+    → FitsPageCall header call (owner_of lane) now.pages
+FitsPageCall-line header valid lane act now may call on =
+    subst (λ (x : Option PageCall). FitsIfSome header now x (owner_of lane)) on (by lane act may.line.0 may.line.1 may.may)
+  where
+    by : (l : Lane) (a : Act) → IsLaneOf header l → IsActOf header l a → MayFollow now.pages [] l a
+        → FitsIfSome header now (page_call l a) (owner_of l)
+    by l (Fold d) lane_is is follows = is
+    by l (Water g mark most) lane_is is follows = (is.0, is.1)
+    by l (Val k) lane_is is follows = is.0
+    by l (Snap k) lane_is is follows = is.0
+    by l (Sys i) lane_is is follows = IsItem-known header i.number valid is
+    by (Cpu c) (Mod k pages) lane_is is follows = (c, refl, lane_is, follows.0, is.1.0, omega (
+      arith,
+      own-size k.number (unsigned_abs pages),
+      follows.1.counters k.number,
+    ))
+    by (Cpu c) (Inc k) lane_is is follows = (c, refl, lane_is, follows.0, is.1.0, omega arith)
+    by (Cpu c) (Dec k) lane_is is follows = (c, refl, lane_is, follows.0, is.1.0, omega arith)
+    by Control (Pressure n) lane_is is follows = (refl, is.1)
+    by Control (Normal n) lane_is is follows = (refl, is.1)
+    by Control (Dead d) lane_is is follows = (refl, is.1, follows)
+    by Control (Kswapd n order most) lane_is is follows = (refl, is.2, is.3, is.4)
+    by _ _ lane_is is follows = tt
+
+-- a call on page counters sets each threshold and each mark at most twice, or asks no rule
+pub sets-answered : (header : Header) (call : PageCall) (owner : Option CpuId) (s next : State) (told : PageAnswer)
+    → AnswersPageCall header call owner s next told
+    → (asks_rules call ≡ false) ⊎ SetsEachAtMost header.layout 2 s next
+sets-answered header (SetPressure n) owner s next pages.Done is =
+    inr (SetsEachAtMost-more header.layout s next is.1)
+sets-answered header (SetNormal n) owner s next pages.Done is = inr (SetsEachAtMost-more header.layout s next is.1)
+sets-answered header (Bury c) owner s next pages.Done is = inr (SetsEachAtMost-more header.layout s next is.1)
+sets-answered header (Turn n order most) owner s next (pages.Balanced balance) is = inr is.2
+sets-answered header (SetPressure n) owner s next _ is = absurd is
+sets-answered header (SetNormal n) owner s next _ is = absurd is
+sets-answered header (Bury c) owner s next _ is = absurd is
+sets-answered header (Turn n order most) owner s next _ is = absurd is
+sets-answered header _ owner s next told is = inl refl
 
 -- the words leave room for the call of a line that buries no CPU
 pub FitsCall-line : (header : Header) (lane : Lane) (act : Act) (now : PlainStates) → MayMakeLine header lane act now
@@ -131,31 +217,3 @@ FitsCall-line header lane act now may (SumEvents k) is alone =
       room = omega (arith, may.room.sums k.number k_in);
     }
 FitsCall-line header lane act now may (FoldEvents d) is alone = absurd (alone d refl)
-
--- an act that makes a call on event counters and buries no CPU sets no thresholds
-pub SparesPeaks-call : (lane : Lane) (act : Act) (call : EventCall) → event_call lane act ≡ Some call
-    → ((c : CpuId) → act ≢ Dead c) → SparesPeaks act
-SparesPeaks-call (Cpu d) (Dead c) call is no_burial = absurd (no_burial c refl)
-SparesPeaks-call Control (Dead c) call is no_burial = absurd (no_burial c refl)
-SparesPeaks-call _ _ call is no_burial = first_of (cc, search rules)
-
--- a value that has a name is one of the layout
-pub IsItem-known : (header : Header) (i : ℕ) → IsHeader header → IsKnownValue header i → IsItem header.layout i
-IsItem-known header i is known = by (nat_lt i header.layout.positions) refl known
-  where
-    most : length (class_names true header.items) ≤ header.layout.positions
-    most = ⊎_elim
-        (λ narrow. omega (arith, ap (λ items. length (class_names true items)) (is.items_wide narrow), narrow))
-        (λ wide. omega (
-          arith,
-          length-append node_items (declared_names true header.items),
-          is.node_items_most,
-          wide,
-        )) is.is_layout.positions
-
-    by : (b : Bool) → nat_lt i header.layout.positions ≡ b
-        → MatchBool b (i < length (class_names false header.items))
-        (i - header.layout.positions < length (class_names true header.items))
-        → i < 2 * header.layout.positions
-    by true below holds = grind (arith, nat_tests)
-    by false past holds = omega (arith, holds, most)

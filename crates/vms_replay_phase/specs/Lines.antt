@@ -1,7 +1,6 @@
 -- A line that is made on plain tables: when it may be, and what is known of it then.
 use Rattle.std.specs.Prelude.{◌≡◌, ℕ, ◌-◌, ◌⊎◌, [], ◌∷◌, map, Option}
-use Rattle.vms_world.specs.Common.{Header, ZoneSize, most_sets, IsLineOf, line_of, Act, Fold, Water, Val, Snap, Sys}
-use Rattle.vms_world.specs.Common.{Item, Lane}
+use Rattle.vms_world.specs.Common.{Header, ZoneSize, most_sets, IsLineOf, line_of, Act, Item, Lane}
 use Rattle.vms_answers.specs.declared.answers.Answer.{Answer}
 use Rattle.vms_file_order.specs.Common.{MayFollow}
 use Rattle.vms_plain_lines.specs.Common.{GoesOnIf, PlainStates, LeavesRoomForLanes, SparesPeaks}
@@ -24,12 +23,3 @@ pub record MakesLine (header : Header) (pressure normal : ZoneSize → ℕ → �
   pub goes_on : (item : Item) → item.lane ≡ lane → item.act ≡ act → GoesOnIf header pressure normal item
       (λ items. MayFollow now.pages (map line_of items) lane act) now next answer
   pub sets : SparesPeaks act ⊎ SetsEachAtMost header.layout 2 now.pages next.pages
-
--- every lane may make it on the page counters
-abbrev pub IsOfEveryLane : Act → Type 0
-IsOfEveryLane (Fold c) = Unit {0}
-IsOfEveryLane (Water g mark most) = Unit {0}
-IsOfEveryLane (Val k) = Unit {0}
-IsOfEveryLane (Snap k) = Unit {0}
-IsOfEveryLane (Sys i) = Unit {0}
-IsOfEveryLane _ = ⊥
