@@ -8,19 +8,18 @@ use Rattle.vms_calls.proofs.PageCalls.{page-tells}
 use Rattle.vms_core.specs.Pages as pages
 use Rattle.vms_world.specs.Common.{Header, CpuId, ZoneSize, State, Step, HasMade, facts_of, EventAnswer}
 use Rattle.vms_world.specs.Common.{Total as EventTotal, EventCall, EventFacts, EventStep, IsEventCall, read_event_call}
-use Rattle.vms_world.specs.Common.{PcpuAnswer, PcpuCall, PcpuFacts, PcpuStep, IsPcpuCall, Act, Ev, EvSum}
-use Rattle.vms_world.specs.Common.{Cnt, Lim, Cmp, Rough}
-use Rattle.vms_world.specs.Common.{Lane, Cpu, Control, event_call, page_call, pcpu_call, event_facts, pcpu_facts, owner_of}
+use Rattle.vms_world.specs.Common.{PcpuAnswer, PcpuCall, PcpuFacts, PcpuStep, IsPcpuCall, Act, Ev, EvSum, Cnt, Lim, Cmp}
+use Rattle.vms_world.specs.Common.{Rough, Lane, Cpu, Control, event_call, page_call, pcpu_call, event_facts, pcpu_facts}
+use Rattle.vms_world.specs.Common.{owner_of, read_pcpu_call}
 use Rattle.vms_world.proofs.ActCalls.{call-no_page_call}
 use Rattle.vms_world.proofs.EventActs.{events-no_page_call}
 use Rattle.vms_event_core.specs.declared.call_values.EventAnswer.TheVariants.{Done}
-use Rattle.vms_pcpu_core.specs.PcpuCalls.{read_pcpu_call}
 use Rattle.vms_pcpu_core.proofs.Common.{tells-call}
 use Rattle.vms_text.specs.declared.acts.Act.TheVariants.{Csync, Dead, Sum}
 use Rattle.vms_world.specs.declared.worlds.World.{World}
 use Rattle.vms_answers.specs.declared.answers.Answer.{Answer}
-use Rattle.vms_answers.specs.Common.{LaneSteps, Tell, event_told, first_answer, joined, on_counters}
-use Rattle.vms_answers.specs.Common.{on_events, on_pages, page_told, read_event_act, read_page_act, pcpu_told, read_act}
+use Rattle.vms_answers.specs.Common.{LaneSteps, Tell, event_told, first_answer, joined, on_counters, on_events}
+use Rattle.vms_answers.specs.Common.{on_pages, page_told, read_event_act, read_page_act, pcpu_told, read_act}
 use Rattle.vms_answers.specs.Common.{read_pcpu_act, then_steps, told}
 use Rattle.vms_answers.proofs.OpenAnswers.{LaneSteps-same}
 

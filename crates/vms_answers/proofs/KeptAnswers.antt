@@ -11,8 +11,7 @@ use Rattle.vms_world.specs.Common.{read_areas, read_balance, read_blocks, read_o
 use Rattle.vms_world.specs.Common.{settled_read, with_blocks, Balance, OrderVerdict, blocks_at, has_room, zones_up_to}
 use Rattle.vms_world.specs.Common.{Yes, No, EventAnswer, Total as EventTotal, EventCall, EventStep, read_event_call}
 use Rattle.vms_world.specs.Common.{PcpuAnswer, PcpuCall, PcpuStep, read_pcpu_call, Act, Kswapd, Lane, Cpu, Control}
-use Rattle.vms_world.specs.Common.{event_call, pcpu_call, event_facts, pcpu_facts}
-use Rattle.vms_world.specs.Common.{CpuId, owner_of, page_call}
+use Rattle.vms_world.specs.Common.{event_call, pcpu_call, event_facts, pcpu_facts, CpuId, owner_of, page_call}
 use Rattle.vms_calls.specs.declared.page_calls.PageCall.{PageCall}
 use Rattle.vms_calls.specs.declared.page_calls.PageCall.TheVariants.{Turn}
 use Rattle.vms_event_core.specs.declared.call_values.EventAnswer.TheVariants.{Done}

@@ -4,10 +4,10 @@ use Rattle.vms_calls.specs.PageCalls.{read_page_call}
 use Rattle.vms_calls.specs.declared.page_calls.PageAnswer.{PageAnswer}
 use Rattle.vms_calls.specs.declared.page_calls.PageAnswer.TheVariants as pages
 use Rattle.vms_calls.specs.declared.page_calls.PageCall.{PageCall}
-use Rattle.vms_world.specs.Common.{Header, CpuId, Step, EventAnswer, Total as EventTotal}
-use Rattle.vms_world.specs.Common.{EventCall, EventFacts, EventStep, read_event_call, PcpuAnswer, PcpuCall, PcpuFacts}
-use Rattle.vms_world.specs.Common.{PcpuStep, read_pcpu_call, Act, Lane, event_call, pcpu_call, event_facts, pcpu_facts}
-use Rattle.vms_world.specs.Common.{owner_of, page_call}
+use Rattle.vms_world.specs.Common.{Header, CpuId, Step, EventAnswer, Total as EventTotal, EventCall, EventFacts}
+use Rattle.vms_world.specs.Common.{EventStep, read_event_call, PcpuAnswer, PcpuCall, PcpuFacts, PcpuStep}
+use Rattle.vms_world.specs.Common.{read_pcpu_call, Act, Lane, event_call, pcpu_call, event_facts, pcpu_facts, owner_of}
+use Rattle.vms_world.specs.Common.{page_call}
 use Rattle.vms_event_core.specs.declared.call_values.EventAnswer.TheVariants.{Done}
 use Rattle.vms_pcpu_core.specs.declared.answers.PcpuAnswer.TheVariants as kinds
 use Rattle.vms_world.specs.declared.worlds.World.{World}

@@ -1,14 +1,13 @@
 -- For other crates too: the laws of calls on the page counters, once for every call.
-use Rattle.std.proofs.Common.{◌≡◌, ◌≢◌, ℕ, Bool, true, false, nat_eq, ℤ, pos, ◌+ℤ◌, List, [], ◌∷◌, ◌++◌, Option, Some, None}
-use Rattle.std.proofs.Common.{unsigned_abs, refl, sym, ap, subst, ◌∙◌, if◌then◌else◌, arith}
+use Rattle.std.proofs.Common.{◌≡◌, ◌≢◌, ℕ, Bool, true, false, nat_eq, ℤ, pos, ◌+ℤ◌, List, [], ◌∷◌, ◌++◌, Option, Some}
+use Rattle.std.proofs.Common.{None, unsigned_abs, refl, sym, ap, subst, ◌∙◌, if◌then◌else◌, arith}
 use Rattle.std.proofs.lemmas.Bool.Decides.{nat_tests}
 use Rattle.std.proofs.lemmas.Int.{ints}
-use Rattle.vms_history.specs.Common.{Header, CounterId, CpuId, Mode, ZoneSize, GivesThresholds, Shape, after}
+use Rattle.vms_history.specs.Common.{Header, CounterId, CpuId, Mode, ZoneSize, GivesThresholds, Shape, after, total}
 use Rattle.vms_core.specs.declared.states.State.{State}
 use Rattle.vms_core.specs.declared.steps.Step.{Step}
 use Rattle.vms_core.specs.declared.steps.Step.TheVariants.{SetO}
 use Rattle.vms_core.specs.Common.{History, change_size}
-use Rattle.vms_history.specs.Common.{total}
 use Rattle.vms_calls.specs.Common.{ByNormal, ByPressure, LeavesCaller, facts_of}
 use Rattle.vms_calls.specs.declared.answers.Balance.{Balance}
 use Rattle.vms_calls.specs.declared.answers.Verdict.{Verdict}

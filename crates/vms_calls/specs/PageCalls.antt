@@ -1,9 +1,9 @@
 -- What is to be said of each call on the page counters: the steps that it makes with its answer, what it spends, where it
 -- may be made, and how its steps tell the answer.
-use Rattle.std.specs.Prelude.{◌≡◌, ℕ, nat_eq, Bool, true, false, pos, ◌+ℤ◌, List, ◌++◌, if◌then◌else◌, Option, Some, None}
-use Rattle.std.specs.Prelude.{unsigned_abs}
-use Rattle.vms_history.specs.Common.{Header, CpuId, Dead, ZoneSize, IsHeader, Shape, IsCounter}
-use Rattle.vms_history.specs.Common.{IsCpu, IsItem, IsLayout, IsZone, own, after, total, owner_in}
+use Rattle.std.specs.Prelude.{◌≡◌, ℕ, nat_eq, Bool, true, false, pos, ◌+ℤ◌, List, ◌++◌, if◌then◌else◌, Option, Some}
+use Rattle.std.specs.Prelude.{None, unsigned_abs}
+use Rattle.vms_history.specs.Common.{Header, CpuId, Dead, ZoneSize, IsHeader, Shape, IsCounter, IsCpu, IsItem, IsLayout}
+use Rattle.vms_history.specs.Common.{IsZone, own, after, total, owner_in}
 use Rattle.vms_core.specs.declared.states.State.{State}
 use Rattle.vms_core.specs.declared.steps.Step.{Step}
 use Rattle.vms_core.specs.Common.{cpu_at, CarriesNothing, History, state_after, role, change_size}

@@ -1,14 +1,13 @@
 -- For other crates too: a CPU goes absent in a phase by a line that buries it, and by no other.
-use Rattle.std.proofs.Common.{◌≡◌, ℕ, zero, suc, ◌<◌, ◌≤◌, nat_eq, Bool, true, false, List, [], ◌∷◌, ◌++◌, length, Some, None}
-use Rattle.std.proofs.Common.{inl, inr, ◌⊎◌, refl, sym, ap, subst, ◌∙◌, arith, eq-eqb, eqb-true, append_assoc}
+use Rattle.std.proofs.Common.{◌≡◌, ℕ, zero, suc, ◌<◌, ◌≤◌, nat_eq, Bool, true, false, List, [], ◌∷◌, ◌++◌, length, Some}
+use Rattle.std.proofs.Common.{None, inl, inr, ◌⊎◌, refl, sym, ap, subst, ◌∙◌, arith, eq-eqb, eqb-true, append_assoc}
 use Rattle.std.proofs.Common.{if◌then◌else◌}
 use Rattle.std.specs.List.{Contains}
 use Rattle.std.proofs.lemmas.List.Elements.{Contains-append_left, Contains-push}
 use Rattle.vms_world.specs.Common.{Header, CpuId, CpuState, Absent, ZoneSize, Event, after, own, begun_in, owner_in}
-use Rattle.vms_world.specs.Common.{State, Facts, Step, SetO, cpu_at, pages, cpu_after, cpu_in, facts_of, Buries}
-use Rattle.vms_world.specs.Common.{Act}
-use Rattle.vms_world.specs.Common.{Item, Lane, Control, PageSteps, HasLanes, MakesActs, MakesLines, acts_of}
-use Rattle.vms_world.specs.Common.{is_among, lane_at, lanes_of, act as one_act, TableHistories, left_by, page_facts}
+use Rattle.vms_world.specs.Common.{State, Facts, Step, SetO, cpu_at, pages, cpu_after, cpu_in, facts_of, Buries, Act}
+use Rattle.vms_world.specs.Common.{Item, Lane, Control, PageSteps, HasLanes, MakesActs, MakesLines, acts_of, is_among}
+use Rattle.vms_world.specs.Common.{lane_at, lanes_of, act as one_act, TableHistories, left_by, page_facts, page_call}
 use Rattle.vms_history.proofs.Common.{own-append, own-mine, live_is_given, owner_in-append, begun_in-append}
 use Rattle.vms_history.proofs.Common.{prefix_is_legal}
 use Rattle.vms_core.specs.Pages.{History, IsLegal}
@@ -20,7 +19,6 @@ use Rattle.vms_calls.specs.declared.page_calls.PageCall.{PageCall}
 use Rattle.vms_calls.specs.declared.page_calls.PageCall.TheVariants.{Bury}
 use Rattle.vms_calls.proofs.Common.{Each, OfFolds, OfLooks, OfRatings}
 use Rattle.vms_calls.proofs.PageCalls.{page-each}
-use Rattle.vms_world.specs.Acts.{page_call}
 use Rattle.vms_world.proofs.PageActs.{act-by_call, buries-burial, burial-steps, control-no_change}
 use Rattle.vms_text.specs.declared.acts.Act.TheVariants.{Dead}
 use Rattle.vms_world.specs.declared.worlds.World.{World}

@@ -1,6 +1,6 @@
 -- For other crates too: what each CPU spends on events in a phase is the volume of its lines.
-use Rattle.std.proofs.Common.{◌≡◌, ℕ, false, nat_eq, pos, ◌+ℤ◌, List, [], map, Option, Some, None, refl, sym, ap}
-use Rattle.std.proofs.Common.{◌∙◌, arith, if◌then◌else◌}
+use Rattle.std.proofs.Common.{◌≡◌, ℕ, false, nat_eq, pos, ◌+ℤ◌, List, [], map, Option, Some, None, refl, sym, ap, ◌∙◌}
+use Rattle.std.proofs.Common.{arith, if◌then◌else◌}
 use Rattle.std.proofs.lemmas.Int.{ints}
 use Rattle.vms_world.specs.Common.{CpuId, after, total, owner_in, is_owner, EventFacts, EventStep, AddE, events}
 use Rattle.vms_world.specs.Common.{counted, line_of, spent_on_event, volume, Act, Item, Lane, Cpu, EventSteps, HasLanes}

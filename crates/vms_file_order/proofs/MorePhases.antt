@@ -5,11 +5,10 @@ use Rattle.vms_calls.specs.declared.page_calls.PageAnswer.{PageAnswer}
 use Rattle.vms_calls.specs.declared.page_calls.PageAnswer.TheVariants as answer
 use Rattle.vms_calls.specs.declared.page_calls.PageCall.{PageCall}
 use Rattle.vms_calls.specs.declared.page_calls.PageCall.TheVariants.{Bury, SetNormal, SetPressure, Turn}
-use Rattle.vms_world.specs.Common.{Header, ZoneSize, Shape, Event, Role, State, Step, HasWon, facts_of, Act}
-use Rattle.vms_world.specs.Common.{Item, Lane, PageSteps, lanes_of, TableHistories}
+use Rattle.vms_world.specs.Common.{Header, ZoneSize, Shape, Event, Role, State, Step, HasWon, facts_of, Act, Item, Lane}
+use Rattle.vms_world.specs.Common.{PageSteps, lanes_of, TableHistories, CallSteps, CpuId, owner_of}
 use Rattle.vms_core.specs.Pages.{History}
 use Rattle.vms_world.specs.declared.worlds.World.{World}
-use Rattle.vms_world.specs.Common.{CallSteps, CpuId, owner_of}
 use Rattle.vms_world.proofs.PageActs.{act-by_call}
 use Rattle.vms_file_order.specs.Common.{Follow, IsFileOrder, none, line, IsFileOrderPhase, PassSteps, pass_of}
 use Rattle.vms_file_order.specs.Common.{page_passes}

@@ -1,13 +1,10 @@
 -- For other crates too: what each CPU spends on page counters in a phase is the volume of its lines.
-use Rattle.std.proofs.Common.{◌≡◌, ℕ, false, List, [], nat_eq, pos, ◌+ℤ◌, map, unsigned_abs, Option}
-use Rattle.std.proofs.Common.{Some, None, refl, sym, ap, ◌∙◌, arith, if◌then◌else◌}
+use Rattle.std.proofs.Common.{◌≡◌, ℕ, false, List, [], nat_eq, pos, ◌+ℤ◌, map, unsigned_abs, Option, Some, None, refl}
+use Rattle.std.proofs.Common.{sym, ap, ◌∙◌, arith, if◌then◌else◌}
 use Rattle.std.proofs.lemmas.Int.{ints}
-use Rattle.vms_world.specs.Common.{Header, CpuId, ZoneSize}
-use Rattle.vms_world.specs.Common.{IsLayout, after, total, owner_in, State, Step, Put, pages, is_owner, change_size}
-use Rattle.vms_world.specs.Common.{facts_of}
-use Rattle.vms_world.specs.Common.{line_of, spent_on_counter, volume, Act}
-use Rattle.vms_world.specs.Common.{Item, Lane, Cpu, PageSteps, HasLanes, MakesLines, acts_of}
-use Rattle.vms_world.specs.Common.{is_among}
+use Rattle.vms_world.specs.Common.{Header, CpuId, ZoneSize, IsLayout, after, total, owner_in, State, Step, Put, pages}
+use Rattle.vms_world.specs.Common.{is_owner, change_size, facts_of, line_of, spent_on_counter, volume, Act, Item, Lane}
+use Rattle.vms_world.specs.Common.{Cpu, PageSteps, HasLanes, MakesLines, acts_of, is_among}
 use Rattle.vms_history.proofs.Common.{if-either}
 use Rattle.vms_core.specs.Pages.{History, IsLegal}
 use Rattle.vms_core.specs.Steps.{role}

@@ -1,9 +1,7 @@
 -- For other crates too: by the laws of calls, what the histories of a phase spend is what its lines say.
 use Rattle.std.proofs.Common.{ℕ, List}
-use Rattle.vms_world.specs.Common.{Header, CpuId, ZoneSize}
-use Rattle.vms_world.specs.Common.{pages, HasWon}
-use Rattle.vms_world.specs.Common.{Item, Lane, Cpu, PageSteps, lanes_of, TableHistories}
-use Rattle.vms_world.specs.Common.{SpendTheirLines, page_facts, event_facts, pcpu_facts}
+use Rattle.vms_world.specs.Common.{Header, CpuId, ZoneSize, pages, HasWon, Item, Lane, Cpu, PageSteps, lanes_of}
+use Rattle.vms_world.specs.Common.{TableHistories, SpendTheirLines, page_facts, event_facts, pcpu_facts}
 use Rattle.vms_history.proofs.Common.{base_can_begin}
 use Rattle.vms_world.specs.declared.worlds.World.{World}
 use Rattle.vms_file_order.specs.Common.{StandOnce, MakeInAnyOrder, IsOpenPhase, TableStates, FindsLockFree, MeetsNobody}

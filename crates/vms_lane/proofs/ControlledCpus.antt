@@ -3,8 +3,8 @@
 use Rattle.std.proofs.Common.{◌≡◌, ℕ, ◌+◌, ◌*◌, ◌≤◌, nat_eq, false, List, [], ◌∷◌, ◌++◌, length, refl, sym, ap, ◌∙◌}
 use Rattle.std.proofs.Common.{arith, if◌then◌else◌, subst}
 use Rattle.vms_world.specs.Common.{Header, CpuId, CpuState, Absent, ZoneSize, after, facts_of, KnowsByOwnSteps, HasMade}
-use Rattle.vms_world.specs.Common.{State, Facts, Step, SetO, cpu_at, IsControl, pages, cpu_after}
-use Rattle.vms_world.specs.Common.{cpu_in, most_sets, state_past, Act, Control, PageSteps}
+use Rattle.vms_world.specs.Common.{State, Facts, Step, SetO, cpu_at, IsControl, pages, cpu_after, cpu_in, most_sets}
+use Rattle.vms_world.specs.Common.{state_past, Act, Control, PageSteps}
 use Rattle.vms_history.proofs.Common.{earlier-legal, after-steps}
 use Rattle.vms_calls.proofs.Common.{Each, OfFolds, OfLooks, OfRatings, fold-each, refresh-each}
 use Rattle.vms_core.specs.Pages.{History, IsLegal, state_after}

@@ -7,12 +7,10 @@ use Rattle.vms_calls.specs.declared.page_calls.PageAnswer.{PageAnswer}
 use Rattle.vms_calls.specs.declared.page_calls.PageAnswer.TheVariants.{Done}
 use Rattle.vms_calls.specs.declared.page_calls.PageCall.{PageCall}
 use Rattle.vms_calls.specs.declared.page_calls.PageCall.TheVariants.{Bury, Change, Fold as FoldCall}
-use Rattle.vms_world.specs.Common.{Header, CounterId, CpuId, Mode, ZoneSize, IsHeader}
-use Rattle.vms_world.specs.Common.{class_names, declared_names, node_items, IsCounter, IsItem, Shape, counter_count}
-use Rattle.vms_world.specs.Common.{own, LeavesCaller, IsChange, IsFold, facts_of, HasMade}
-use Rattle.vms_world.specs.Common.{Facts, Step, carried_of_item, pages}
-use Rattle.vms_world.specs.Common.{IsKnownValue, Act, Fold, Lane, Cpu, Control, CallSteps}
-use Rattle.vms_world.specs.Common.{lane_owns, owner_of, page_call}
+use Rattle.vms_world.specs.Common.{Header, CounterId, CpuId, Mode, ZoneSize, IsHeader, class_names, declared_names}
+use Rattle.vms_world.specs.Common.{node_items, IsCounter, IsItem, Shape, counter_count, own, LeavesCaller, IsChange}
+use Rattle.vms_world.specs.Common.{IsFold, facts_of, HasMade, Facts, Step, carried_of_item, pages, IsKnownValue, Act}
+use Rattle.vms_world.specs.Common.{Fold, Lane, Cpu, Control, CallSteps, lane_owns, owner_of, page_call}
 use Rattle.vms_core.specs.Own.{CarriesNothing, carried}
 use Rattle.vms_count.specs.Common.{HasChanged, HasFolded}
 use Rattle.vms_count.specs.Folding as folding

@@ -2,11 +2,9 @@
 use Rattle.std.proofs.Common.{◌≡◌, ℕ, false, ℤ, List, [], ◌∷◌, Option, Some, None, sym, subst}
 use Rattle.std.specs.Prelude.{All}
 use Rattle.std.proofs.lemmas.List.Elements.{All-cons, All-nil}
-use Rattle.vms_base.specs.declared.groups.Diffs.{Diffs}
-use Rattle.vms_base.specs.declared.ids.GroupId.{GroupId}
-use Rattle.vms_calls.specs.Common.{Header, CounterId, CpuId, ItemId, PlaceId, Mode, ZoneSize, Shape, State, Step}
-use Rattle.vms_calls.specs.Common.{AddG, AddS, LoadD, LoadT, Miss, Put, Carries, Exchanges, IsChange, History, HasWon}
-use Rattle.vms_calls.specs.Common.{amount, nothing, missed, won}
+use Rattle.vms_calls.specs.Common.{Diffs, GroupId, Header, CounterId, CpuId, ItemId, PlaceId, Mode, ZoneSize, Shape}
+use Rattle.vms_calls.specs.Common.{State, Step, AddG, AddS, LoadD, LoadT, Miss, Put, Carries, Exchanges, IsChange}
+use Rattle.vms_calls.specs.Common.{History, HasWon, amount, nothing, missed, won}
 use Rattle.vms_calls.specs.PageCalls.{IsPageCall, asks_rules, owns_cpu}
 use Rattle.vms_calls.specs.declared.page_calls.PageAnswer.{PageAnswer}
 use Rattle.vms_calls.specs.declared.page_calls.PageAnswer.TheVariants as answer

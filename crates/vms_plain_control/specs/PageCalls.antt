@@ -1,9 +1,9 @@
 -- What plain page counters ask of a call by a caller that owns a CPU or none, what the call answers and makes of them, and
 -- which steps it makes.
 use Rattle.std.specs.Prelude.{◌≡◌, ℕ, ◌^◌, ◌≤◌, false, List, Option, Some, None, All, unsigned_abs}
-use Rattle.vms_calls.specs.Common.{Header, CpuId, ZoneSize, Absent, Dead, Online, IsCounter, IsCpu, IsItem, IsNode, IsZone}
-use Rattle.vms_calls.specs.Common.{after, GoesOnTo, State, Step, at_least_zero, cpu_at, system_at, value_at, with_cpu}
-use Rattle.vms_calls.specs.Common.{facts_of, pages, History, state_after, HasWon}
+use Rattle.vms_calls.specs.Common.{Header, CpuId, ZoneSize, Absent, Dead, Online, IsCounter, IsCpu, IsItem, IsNode}
+use Rattle.vms_calls.specs.Common.{IsZone, after, GoesOnTo, State, Step, at_least_zero, cpu_at, system_at, value_at}
+use Rattle.vms_calls.specs.Common.{with_cpu, facts_of, pages, History, state_after, HasWon}
 use Rattle.vms_calls.specs.PageCalls.{IsPageCall, MayMakePageCall, owns_cpu}
 use Rattle.vms_calls.specs.declared.page_calls.PageAnswer.{PageAnswer}
 use Rattle.vms_calls.specs.declared.page_calls.PageAnswer.TheVariants as answer

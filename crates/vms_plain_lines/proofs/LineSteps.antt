@@ -7,8 +7,8 @@ use Rattle.vms_calls.proofs.Common.{Each, OfFolds, OfLooks}
 use Rattle.vms_core.specs.Pages.{History}
 use Rattle.vms_plain_control.proofs.CallKinds.{OfChanges, unruled-each}
 use Rattle.vms_text.specs.declared.acts.Act.TheVariants.{Dead}
-use Rattle.vms_world.specs.Common.{Header, CpuId, ZoneSize, State, Step, Act, Kswapd, Normal, Pressure, Lane, Control, Cpu}
-use Rattle.vms_world.specs.Common.{PageSteps, owner_of, page_call}
+use Rattle.vms_world.specs.Common.{Header, CpuId, ZoneSize, State, Step, Act, Kswapd, Normal, Pressure, Lane, Control}
+use Rattle.vms_world.specs.Common.{Cpu, PageSteps, owner_of, page_call}
 use Rattle.vms_world.proofs.PageActs.{act-by_call}
 use Rattle.vms_plain_lines.specs.Common.{SparesPeaks}
 

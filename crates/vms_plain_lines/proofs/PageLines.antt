@@ -1,6 +1,6 @@
 -- A line that makes a call on the page counters alone goes on from an open phase, and tells what the call answers.
-use Rattle.std.proofs.Common.{◌≡◌, ◌≢◌, ℕ, nat_eq, ◌+◌, ◌≤◌, Bool, true, List, [], map, Option, Some, None, unsigned_abs}
-use Rattle.std.proofs.Common.{refl, sym, ap, subst, ◌∙◌, arith, eq-eqb, if◌then◌else◌}
+use Rattle.std.proofs.Common.{◌≡◌, ◌≢◌, ℕ, nat_eq, ◌+◌, ◌≤◌, Bool, true, List, [], map, Option, Some, None}
+use Rattle.std.proofs.Common.{unsigned_abs, refl, sym, ap, subst, ◌∙◌, arith, eq-eqb, if◌then◌else◌}
 use Rattle.vms_calls.specs.PageCalls.{AllowsPageCall, IsPageCall, MayMakePageCall, asks_rules, page_spent}
 use Rattle.vms_calls.specs.declared.page_calls.PageAnswer.{PageAnswer}
 use Rattle.vms_calls.specs.declared.page_calls.PageCall.{PageCall}
@@ -9,9 +9,9 @@ use Rattle.vms_calls.specs.declared.page_calls.PageCall.TheVariants.{SetPressure
 use Rattle.vms_calls.proofs.PageCalls.{page-spends}
 use Rattle.vms_world.specs.Common.{Header, CpuId, ZoneSize, IsHeader, IsLayout, most_volume, own, owner_in, after}
 use Rattle.vms_world.specs.Common.{CallSteps, State, Step, cpu_at, pages, EventFacts, PcpuFacts, IsEventCall, Lane, Cpu}
-use Rattle.vms_world.specs.Common.{MakesPcpuCall, EventCall, PcpuCall, EventSteps, PcpuSteps, Act, Item, is_among, owner_of}
-use Rattle.vms_world.specs.Common.{TableHistories, event_call, page_call, pcpu_call, event_facts, page_facts, pcpu_facts}
-use Rattle.vms_world.specs.Common.{line_of, spent_on_counter, volume, Control}
+use Rattle.vms_world.specs.Common.{MakesPcpuCall, EventCall, PcpuCall, EventSteps, PcpuSteps, Act, Item, is_among}
+use Rattle.vms_world.specs.Common.{owner_of, TableHistories, event_call, page_call, pcpu_call, event_facts, page_facts}
+use Rattle.vms_world.specs.Common.{pcpu_facts, line_of, spent_on_counter, volume, Control}
 use Rattle.vms_world.specs.Acts.{spent_by_call}
 use Rattle.vms_world.proofs.PageActs.{spent_on_counter-call}
 use Rattle.vms_history.proofs.Common.{own-after, base_can_begin}
@@ -23,10 +23,11 @@ use Rattle.vms_world.specs.declared.worlds.World.{World}
 use Rattle.vms_file_order.specs.Common.{HasPass, pass_of, page_passes}
 use Rattle.vms_file_order.proofs.Common.{HasPass-opening}
 use Rattle.vms_answers.specs.Common.{page_told}
-use Rattle.vms_answers.proofs.ActAnswers.{Tell-pages, pages-no_counters, pages-no_events}
+use Rattle.vms_answers.proofs.Common.{Tell-pages}
+use Rattle.vms_answers.proofs.ActAnswers.{pages-no_counters, pages-no_events}
 use Rattle.vms_plain_control.specs.PageCalls.{FitsPageCall, MakesPageCall}
 use Rattle.vms_plain_lines.specs.Common.{GoesOnIf, GoesOnTelling, PlainStates, StandsInPhase, in_tables}
-use Rattle.vms_plain_lines.specs.PageRooms.{HaveRoomForPages}
+use Rattle.vms_plain_lines.specs.Common.{HaveRoomForPages}
 use Rattle.vms_plain_lines.proofs.ControlPass.{HasMade-row}
 use Rattle.vms_plain_lines.proofs.PlainParts.{GoesOnTelling-pages}
 use Rattle.vms_plain_lines.proofs.SpentVolumes.{spent-pages}

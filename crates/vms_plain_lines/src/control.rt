@@ -6,8 +6,8 @@ use vms_event_core::EventCall;
 
 impl PlainTables {
     ghost use Rattle.std.specs.Prelude.{◌≡◌, ◌≢◌, ℕ, ◌+◌, ◌-◌, ◌<◌, ◌≤◌, ◌^◌, length, false, None};
-    ghost use Rattle.vms_world.specs.Common.{CpuId, Absent, HasOnline, state_at, IsHeader, IsCpu, State};
-    ghost use Rattle.vms_world.specs.Common.{cpu_at, with_cpu, most_sets, IsEvent, word_at, Item, Control};
+    ghost use Rattle.vms_world.specs.Common.{CpuId, Absent, HasOnline, state_at, IsHeader, IsCpu, State, cpu_at};
+    ghost use Rattle.vms_world.specs.Common.{with_cpu, most_sets, IsEvent, word_at, Item, Control};
     ghost use Rattle.vms_base.specs.declared.kinds.CpuState.TheVariants.{Dead as DeadCpu, Online};
     ghost use Rattle.vms_pcpu_core.specs.States.{counters_of};
     ghost use Rattle.vms_plain_events.specs.Common.{HasWords, MovesWords};

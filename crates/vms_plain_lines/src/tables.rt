@@ -41,9 +41,9 @@ impl Model for PlainTables {
 impl PlainTables {
     ghost use Rattle.std.specs.Prelude.{◌≡◌, ◌≢◌, ◌+◌, ◌-◌, ◌≤◌, ◌^◌, length, map, true, Some};
     ghost use Rattle.vms_calls.specs.declared.page_calls.PageCall.TheVariants.{Bury};
-    ghost use Rattle.vms_world.specs.Common.{Header, HasOnline, is_present, state_at, IsHeader, IsPlainBase, LeavesVolume};
-    ghost use Rattle.vms_world.specs.Common.{most_sets, line_of, spent_on_pcpu, volume, Item, Cpu, event_call, page_call};
-    ghost use Rattle.vms_world.specs.Common.{pcpu_call, owner_of};
+    ghost use Rattle.vms_world.specs.Common.{Header, HasOnline, is_present, state_at, IsHeader, IsPlainBase};
+    ghost use Rattle.vms_world.specs.Common.{LeavesVolume, most_sets, line_of, spent_on_pcpu, volume, Item, Cpu};
+    ghost use Rattle.vms_world.specs.Common.{event_call, page_call, pcpu_call, owner_of};
     ghost use Rattle.vms_answers.specs.Common.{event_told, page_told, pcpu_told};
     ghost use Rattle.vms_plain_control.specs.Common.{HasAllPeaks, SetAtMost};
     ghost use Rattle.vms_plain_control.specs.PageCalls.{AnswersPageCall, FitsPageCall};

@@ -1,7 +1,7 @@
 ghost use Rattle.std.specs.Prelude.{◌≡◌, ℕ, ◌+◌, ◌/◌, ◌≤◌, ◌^◌, ◌+ℤ◌, true, length, Option, slice_set, unsigned_abs};
 ghost use Rattle.vms_calls.specs.Common.{CpuId, IsCounter, IsCpu, IsGroup, IsItem, IsLayout, IsPlace, counter_at};
-ghost use Rattle.vms_calls.specs.Common.{counter_count, group_of, item_count, item_of, system_at, value_at};
-ghost use Rattle.vms_calls.specs.Common.{with_value, IsFold};
+ghost use Rattle.vms_calls.specs.Common.{counter_count, group_of, item_count, item_of, system_at, value_at, with_value};
+ghost use Rattle.vms_calls.specs.Common.{IsFold};
 ghost use Rattle.vms_plain_pages.specs.Alone.{IsSmallState, CallLeadsAlone};
 ghost use Rattle.vms_plain_pages.specs.Folding.{FoldsCpu};
 ghost use Rattle.vms_plain_pages.specs.FoldParts.{AddsSums, AreSums, FoldsGroups, FoldsPlace, sum_at};

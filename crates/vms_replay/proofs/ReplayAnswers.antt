@@ -9,8 +9,8 @@ use Rattle.vms_stream.specs.declared.statuses.Status.{Status}
 use Rattle.vms_stream.specs.declared.statuses.Status.TheVariants as statuses
 use Rattle.vms_stream.proofs.WrittenOrder.{SaysPhased-in_order}
 use Rattle.vms_world.specs.declared.worlds.World.{World}
-use Rattle.vms_replay.specs.Common.{PastPhase, AnswersReplayed, AreMadeWith, SaysReplayed, AreFirstTaken}
-use Rattle.vms_replay.specs.Common.{TextsLeadOn, Kept, shown_by_replay, replaying}
+use Rattle.vms_replay.specs.Common.{PastPhase, AnswersReplayed, AreMadeWith, SaysReplayed, AreFirstTaken, TextsLeadOn}
+use Rattle.vms_replay.specs.Common.{Kept, shown_by_replay, replaying}
 
 module _ (Makes : Header → World → List Item → TableHistories → Type 0) (lead : TextsLeadOn Makes)
     (made : List PastPhase)

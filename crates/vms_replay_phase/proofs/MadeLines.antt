@@ -8,12 +8,11 @@ use Rattle.vms_calls.specs.declared.page_calls.PageAnswer.{PageAnswer}
 use Rattle.vms_calls.specs.declared.page_calls.PageAnswer.TheVariants as pages
 use Rattle.vms_calls.specs.declared.page_calls.PageCall.{PageCall}
 use Rattle.vms_calls.specs.declared.page_calls.PageCall.TheVariants.{SetPressure, SetNormal, Bury, Turn}
-use Rattle.vms_world.specs.Common.{Header, CpuId, ZoneSize, IsHeader}
-use Rattle.vms_world.specs.Common.{class_names, declared_names, node_items, IsItem, Shape, State, most_sets, EventCall}
-use Rattle.vms_world.specs.Common.{Count, event_spent, IsEvent, IsActOf, IsLaneOf, IsKnownValue, line_of, Act, Ev, Cnt}
-use Rattle.vms_world.specs.Common.{Lim, Cmp, Rough, Fold, Water, Val}
-use Rattle.vms_world.specs.Common.{Snap, Sys, Pressure, Normal, Kswapd, Item, Lane, Control, Cpu, event_call, pcpu_call}
-use Rattle.vms_world.specs.Common.{is_among, owner_of, page_call}
+use Rattle.vms_world.specs.Common.{Header, CpuId, ZoneSize, IsHeader, class_names, declared_names, node_items, IsItem}
+use Rattle.vms_world.specs.Common.{Shape, State, most_sets, EventCall, Count, event_spent, IsEvent, IsActOf, IsLaneOf}
+use Rattle.vms_world.specs.Common.{IsKnownValue, line_of, Act, Ev, Cnt, Lim, Cmp, Rough, Fold, Water, Val, Snap, Sys}
+use Rattle.vms_world.specs.Common.{Pressure, Normal, Kswapd, Item, Lane, Control, Cpu, event_call, pcpu_call, is_among}
+use Rattle.vms_world.specs.Common.{owner_of, page_call}
 use Rattle.vms_event_core.specs.declared.call_values.EventCall.TheVariants.{Sum as SumEvents, FoldDead as FoldEvents}
 use Rattle.vms_answers.specs.declared.answers.Answer.{Answer}
 use Rattle.vms_file_order.specs.Common.{MayFollow}

@@ -1,9 +1,9 @@
 -- A phase by rules which go by the kernel's formulas is one by the kernel's rules.
 use Rattle.std.proofs.Common.{ℕ, suc, List}
 use Rattle.std.specs.Prelude.{Result, Ok, Err, IfOk}
-use Rattle.vms_world.specs.Common.{Memory, Header, ZoneSize, normal_threshold_of, pressure_threshold_of, Event}
-use Rattle.vms_world.specs.Common.{Act, Item, PageSteps}
-use Rattle.vms_world.specs.Common.{MakesActs, acts_of, lane_at, lanes_of, act as one_act, TableHistories}
+use Rattle.vms_world.specs.Common.{Memory, Header, ZoneSize, normal_threshold_of, pressure_threshold_of, Event, Act}
+use Rattle.vms_world.specs.Common.{Item, PageSteps, MakesActs, acts_of, lane_at, lanes_of, act as one_act}
+use Rattle.vms_world.specs.Common.{TableHistories}
 use Rattle.vms_world.specs.declared.worlds.World.{World}
 use Rattle.vms_world.specs.Lanes.MakesActs.{none as no_act}
 use Rattle.vms_file_order.specs.Common.{MakeInAnyOrder}

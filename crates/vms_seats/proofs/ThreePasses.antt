@@ -1,9 +1,9 @@
 -- For other crates too: three passes begin, work while the others act, and end. What the main pass knows at each of its
 -- steps.
-use Rattle.std.proofs.Common.{◌≡◌, ℕ, nat_eq, if◌then◌else◌, Bool, true, false, true≢false, List, [], ◌∷◌, Option}
-use Rattle.std.proofs.Common.{Some, None, refl, ap, sym, ◌∙◌}
-use Rattle.vms_history.specs.Common.{CpuId, own, Machine, lives, lives_after, lives_in, owner, owner_after}
-use Rattle.vms_history.specs.Common.{IsFree, Begins, Ends}
+use Rattle.std.proofs.Common.{◌≡◌, ℕ, nat_eq, if◌then◌else◌, Bool, true, false, true≢false, List, [], ◌∷◌, Option, Some}
+use Rattle.std.proofs.Common.{None, refl, ap, sym, ◌∙◌}
+use Rattle.vms_history.specs.Common.{CpuId, own, Machine, lives, lives_after, lives_in, owner, owner_after, IsFree}
+use Rattle.vms_history.specs.Common.{Begins, Ends}
 use Rattle.vms_history.specs.declared.events.Event.{Event}
 use Rattle.vms_seats.specs.Common.{HasBegun, HasEnded, Pass}
 use Rattle.vms_seats.proofs.TwoPasses.{own-begun, own-ended}

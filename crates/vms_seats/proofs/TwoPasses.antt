@@ -1,9 +1,9 @@
 -- For other crates too: two passes begin, work while the other acts, and end. What the main pass knows at each of its
 -- steps.
-use Rattle.std.proofs.Common.{◌≡◌, ◌≢◌, ℕ, nat_eq, if◌then◌else◌, Bool, true, false, true≢false, List, [], ◌∷◌}
-use Rattle.std.proofs.Common.{◌++◌, Option, None, refl, ap, sym, ◌∙◌, subst, append-nil}
-use Rattle.vms_history.specs.Common.{CpuId, own, Machine, IsLegal, begun, lives}
-use Rattle.vms_history.specs.Common.{lives_after, lives_in, owner_after, IsFree, Begins, Ends}
+use Rattle.std.proofs.Common.{◌≡◌, ◌≢◌, ℕ, nat_eq, if◌then◌else◌, Bool, true, false, true≢false, List, [], ◌∷◌, ◌++◌}
+use Rattle.std.proofs.Common.{Option, None, refl, ap, sym, ◌∙◌, subst, append-nil}
+use Rattle.vms_history.specs.Common.{CpuId, own, Machine, IsLegal, begun, lives, lives_after, lives_in, owner_after}
+use Rattle.vms_history.specs.Common.{IsFree, Begins, Ends}
 use Rattle.vms_history.specs.declared.events.Event.{Event}
 use Rattle.vms_history.proofs.Common.{Extends-same, Extends-both, nothing_follows}
 use Rattle.vms_seats.specs.Common.{HasBegun, HasEnded, SeesMore, next_number, Pass, Shared, IsFrom, Made}

@@ -10,17 +10,17 @@ use Rattle.vms_stream.specs.declared.statuses.Status.{Status}
 use Rattle.vms_stream.specs.declared.statuses.Status.TheVariants.{Header, Memory, ReadFault, TooLong, WriteFault}
 use Rattle.vms_stream.specs.Common.{BeginsOutput, IsLastPiece, lines_taken, most_bytes, Behavior, printed, state_after}
 use Rattle.vms_stream.specs.Common.{IsCourse, StopsAt, lines_held, lines_judged, IsPhasedCourse, StepsPhased}
-use Rattle.vms_stream.specs.Common.{TakesLines, Grows, StandsOn, whole_lines, partial_line, PhasedBehavior}
-use Rattle.vms_stream.specs.Common.{Way, with_outcomes, On, Short, HasAllOutcomes, AllUsed, OutcomesLead}
-use Rattle.vms_stream.specs.Common.{OutcomesLeadTaken, SaysPhased, Halts, MayHalt, AreOutcomesOf, LeadAbove}
+use Rattle.vms_stream.specs.Common.{TakesLines, Grows, StandsOn, whole_lines, partial_line, PhasedBehavior, Way}
+use Rattle.vms_stream.specs.Common.{with_outcomes, On, Short, HasAllOutcomes, AllUsed, OutcomesLead, OutcomesLeadTaken}
+use Rattle.vms_stream.specs.Common.{SaysPhased, Halts, MayHalt, AreOutcomesOf, LeadAbove}
 use Rattle.vms_stream.proofs.BehaviorLaws.{MayHalt-halted, printed-append}
 use Rattle.vms_stream.proofs.PieceLines.{lines_counted, lines_counted-within, lines_taken-within}
-use Rattle.vms_stream.proofs.StepOutcomes.{above_written, at_the_end, before_end, begins, begins_at_end, goes_on}
-use Rattle.vms_stream.proofs.StepOutcomes.{halts, judged, last_piece, lines_all, no_piece, oversteps}
+use Rattle.vms_stream.proofs.StepOutcomes.{above_written, at_the_end, before_end, begins, begins_at_end, goes_on, halts}
+use Rattle.vms_stream.proofs.StepOutcomes.{judged, last_piece, lines_all, no_piece, oversteps}
 use Rattle.vms_text.specs.Common.{lines_of}
 use Rattle.vms_stream.proofs.LeadingOutcomes.{OutcomesLead-end, OutcomesLeadThrough-append}
-use Rattle.vms_stream.proofs.LongerWays.{HasAllOutcomes-of, StandsOn-also, StandsOn-more}
-use Rattle.vms_stream.proofs.LongerWays.{StandsOn-on, StandsWith, StandsWith-on, TakesLines-start}
+use Rattle.vms_stream.proofs.LongerWays.{HasAllOutcomes-of, StandsOn-also, StandsOn-more, StandsOn-on, StandsWith}
+use Rattle.vms_stream.proofs.LongerWays.{StandsWith-on, TakesLines-start}
 use Rattle.vms_stream.proofs.MoreOutcomes.{printed-start}
 use Rattle.vms_stream.proofs.TakenTexts.{Grows-nil}
 

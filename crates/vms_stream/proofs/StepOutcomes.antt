@@ -7,9 +7,8 @@ use Rattle.vms_io.specs.Common.{Gets}
 use Rattle.vms_stream.specs.declared.courses.Course.{Course}
 use Rattle.vms_stream.specs.declared.statuses.Status.{Status}
 use Rattle.vms_stream.specs.Common.{most_bytes, lines_taken, BeginsOutput, GoesOn, Halts, AreLinesTaken, IsLastPiece}
-use Rattle.vms_stream.specs.Common.{Oversteps}
-use Rattle.vms_stream.specs.Common.{IsCourse, lines_held, lines_judged, TakesLines, Behavior}
-use Rattle.vms_stream.specs.Common.{state_after, halted, printed, output, whole_lines, partial_line}
+use Rattle.vms_stream.specs.Common.{Oversteps, IsCourse, lines_held, lines_judged, TakesLines, Behavior, state_after}
+use Rattle.vms_stream.specs.Common.{halted, printed, output, whole_lines, partial_line}
 use Rattle.vms_stream.proofs.PieceLines.{lines_counted, lines_counted-within, lines_both}
 use Rattle.vms_stream.proofs.BehaviorLaws.{output-begins, printed-begins}
 use Rattle.vms_stream.proofs.TwoPieces.{partial_line-append}

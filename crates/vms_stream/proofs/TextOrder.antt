@@ -1,16 +1,15 @@
 -- For other crates too: what is printed where texts wait, against the order of the lines.
-use Rattle.std.proofs.Common.{◌≡◌, ℕ, Bool, true, false, List, [], ◌∷◌, ◌++◌, Option, Some, None, refl, sym}
-use Rattle.std.proofs.Common.{ap, ◌∙◌, append_assoc, append-nil, flat_map}
+use Rattle.std.proofs.Common.{◌≡◌, ℕ, Bool, true, false, List, [], ◌∷◌, ◌++◌, Option, Some, None, refl, sym, ap, ◌∙◌}
+use Rattle.std.proofs.Common.{append_assoc, append-nil, flat_map}
 use Rattle.std.proofs.lemmas.Grind.{flat_map-append}
 use Rattle.vms_stream.specs.declared.statuses.Status.{Status}
 use Rattle.vms_stream.specs.declared.statuses.Status.TheVariants.{Header}
-use Rattle.vms_stream.specs.Common.{output, printed, printed_from, PhasedBehavior, OutcomeSupply, Way}
-use Rattle.vms_stream.specs.Common.{halt_at, last_of_way, printed_at, printed_last, supply, way_after}
-use Rattle.vms_stream.specs.Common.{with_outcomes, Gives, Lacks, On, Short, AllUsed, OutcomesLead, OutcomesLeadThrough}
-use Rattle.vms_stream.specs.Common.{OutcomesLeadToEnd, UsedAtEnd, leads_on, none_after, LineTexts, Text, Waiting}
-use Rattle.vms_stream.specs.Common.{ends_at, printed_now, printed_with, spelled, unless_stopped, waiting, waits_after}
-use Rattle.vms_stream.specs.Common.{waits_with, Plain, Asks, input_in_order, last_in_order, lines_in_order, text_then}
-use Rattle.vms_stream.specs.Common.{texts_in_order}
+use Rattle.vms_stream.specs.Common.{output, printed, printed_from, PhasedBehavior, OutcomeSupply, Way, halt_at}
+use Rattle.vms_stream.specs.Common.{last_of_way, printed_at, printed_last, supply, way_after, with_outcomes, Gives}
+use Rattle.vms_stream.specs.Common.{Lacks, On, Short, AllUsed, OutcomesLead, OutcomesLeadThrough, OutcomesLeadToEnd}
+use Rattle.vms_stream.specs.Common.{UsedAtEnd, leads_on, none_after, LineTexts, Text, Waiting, ends_at, printed_now}
+use Rattle.vms_stream.specs.Common.{printed_with, spelled, unless_stopped, waiting, waits_after, waits_with, Plain}
+use Rattle.vms_stream.specs.Common.{Asks, input_in_order, last_in_order, lines_in_order, text_then, texts_in_order}
 use Rattle.vms_stream.proofs.MoreOutcomes.{printed_to, printed_to-printed, printed_to-short, printed_to-words}
 
 module _ {O : Type 0} where

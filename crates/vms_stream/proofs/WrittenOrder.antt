@@ -5,11 +5,10 @@ use Rattle.vms_stream.specs.declared.statuses.Status.{Status}
 use Rattle.vms_stream.specs.declared.statuses.Status.TheVariants.{Done, Words, Header, Refused, ReadFault, WriteFault}
 use Rattle.vms_stream.specs.declared.statuses.Status.TheVariants.{Memory, TooLong}
 use Rattle.vms_stream.specs.Common.{BeginsOutput, Says, lines_taken, output, printed, printed_from, PhasedBehavior, Way}
-use Rattle.vms_stream.specs.Common.{last_of_way, supply, with_outcomes, Gives, Lacks, On, Short, LineTexts}
-use Rattle.vms_stream.specs.Common.{Text, Waiting, ends_at, printed_now, spelled, unless_stopped, waiting, waits_after}
+use Rattle.vms_stream.specs.Common.{last_of_way, supply, with_outcomes, Gives, Lacks, On, Short, LineTexts, Text}
+use Rattle.vms_stream.specs.Common.{Waiting, ends_at, printed_now, spelled, unless_stopped, waiting, waits_after}
 use Rattle.vms_stream.specs.Common.{waits_with, Plain, Asks, input_in_order, last_in_order, lines_in_order, text_then}
-use Rattle.vms_stream.specs.Common.{texts_in_order, SaysPhased, AreMade, shown_on}
-use Rattle.vms_stream.specs.Common.{BeginsInOrder, WritesTextsOf, IsDue}
+use Rattle.vms_stream.specs.Common.{texts_in_order, SaysPhased, AreMade, shown_on, BeginsInOrder, WritesTextsOf, IsDue}
 use Rattle.vms_stream.proofs.MoreOutcomes.{printed_to, printed_to-printed, printed_to-short, printed_to-words}
 use Rattle.vms_stream.proofs.PieceLines.{lines_taken-within}
 use Rattle.vms_stream.proofs.TextOrder.{after_waits, after_waits-some, by_supply, inside-in_order, last_of, last_with}

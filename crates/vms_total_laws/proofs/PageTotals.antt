@@ -1,6 +1,6 @@
 -- For other crates too: a phase moves the total of each page counter by the deltas of its lines.
-use Rattle.std.proofs.Common.{◌≡◌, ◌≢◌, ℕ, suc, nat_eq, Bool, ℤ, pos, negsuc, ◌+ℤ◌, List, [], ◌∷◌, ◌++◌, Option, Some, None, refl, ap, ◌∙◌}
-use Rattle.std.proofs.Common.{arith, if◌then◌else◌}
+use Rattle.std.proofs.Common.{◌≡◌, ◌≢◌, ℕ, suc, nat_eq, Bool, ℤ, pos, negsuc, ◌+ℤ◌, List, [], ◌∷◌, ◌++◌, Option, Some}
+use Rattle.std.proofs.Common.{None, refl, ap, ◌∙◌, arith, if◌then◌else◌}
 use Rattle.std.proofs.lemmas.Int.{ints}
 use Rattle.std.proofs.lemmas.List.Elements.{All-head, All-tail}
 use Rattle.vms_world.specs.Common.{Diffs, Header, CounterId, CpuId, ItemId, PlaceId, Mode, WaterMark, ZoneSize, Shape}
@@ -11,6 +11,7 @@ use Rattle.vms_world.specs.Common.{IsFold, facts_of, Verdict, IsPlaceValue, IsSn
 use Rattle.vms_world.specs.Common.{Buries, SetsNormal, SetsPressure, Balance, IsTurn, IsActOf, IsLineOf, change_by}
 use Rattle.vms_world.specs.Common.{changes_by, line_of, Act, Fold, Water, Val, Snap, Sys, Pressure, Normal, Kswapd}
 use Rattle.vms_world.specs.Common.{Item, Lane, Cpu, Control, PageSteps, lane_owns, HasLanes, MakesLines, lanes_of}
+use Rattle.vms_world.specs.Common.{owner_of, page_call}
 use Rattle.vms_base.specs.declared.kinds.Mode.TheVariants.{Mod as Modify, Inc as Raise, Dec as Lower}
 use Rattle.vms_history.proofs.Common.{total-of_callers, after-append, after-steps, total-append}
 use Rattle.vms_core.specs.Pages.{History, IsComplete, IsLegal, state_after}
@@ -23,7 +24,6 @@ use Rattle.vms_calls.specs.declared.page_calls.PageAnswer.TheVariants.{Done}
 use Rattle.vms_calls.specs.declared.page_calls.PageCall.{PageCall}
 use Rattle.vms_calls.specs.declared.page_calls.PageCall.TheVariants.{Change}
 use Rattle.vms_calls.proofs.PageCalls.{page-spends}
-use Rattle.vms_world.specs.Common.{owner_of, page_call}
 use Rattle.vms_world.proofs.PageActs.{act-by_call}
 use Rattle.vms_file_order.proofs.Common.{StandOnce-lanes}
 use Rattle.vms_total_laws.specs.Common.{AreLinesOf}

@@ -11,8 +11,7 @@ use Rattle.vms_text.specs.declared.acts.Act.{Act}
 use Rattle.vms_text.specs.declared.acts.Act.TheVariants.{Mod, Inc, Dec, Ev, Cnt, Lim, Cmp, Sum, Rough, Csync, EvSum}
 use Rattle.vms_text.specs.declared.acts.Act.TheVariants.{Fold, Water, Val, Snap, Sys}
 use Rattle.vms_text.specs.declared.acts.Lane.TheVariants.{Cpu}
-use Rattle.vms_world.specs.Acts.{page_call}
-use Rattle.vms_world.specs.Common.{EventSteps, PageSteps, pcpu_call}
+use Rattle.vms_world.specs.Common.{page_call, EventSteps, PageSteps, pcpu_call}
 use Rattle.vms_world.proofs.EventActs.{no_call-no_pages}
 
 -- an act spends what its call may add

@@ -19,8 +19,7 @@ use Rattle.vms_text.specs.declared.acts.Act.{Act}
 use Rattle.vms_text.specs.declared.acts.Act.TheVariants.{Dead, Ev, EvSum}
 use Rattle.vms_text.specs.declared.acts.Lane.{Lane}
 use Rattle.vms_text.specs.declared.acts.Lane.TheVariants.{Control, Cpu}
-use Rattle.vms_world.specs.Common.{CallSteps, EventSteps, PageSteps, PcpuSteps, event_call, owner_of}
-use Rattle.vms_world.specs.Acts.{page_call}
+use Rattle.vms_world.specs.Common.{CallSteps, EventSteps, PageSteps, PcpuSteps, event_call, owner_of, page_call}
 use Rattle.vms_calls.specs.PageCalls.{IsPageCall}
 use Rattle.vms_calls.specs.declared.page_calls.PageCall.{PageCall}
 use Rattle.vms_world.specs.Acts.{spent_by_call}

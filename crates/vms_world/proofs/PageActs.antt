@@ -2,27 +2,25 @@
 -- are.
 use Rattle.std.proofs.Common.{◌≡◌, ℕ, ℤ, pos, ◌+ℤ◌, List, [], Option, Some, None, refl, sym, ap, subst, ◌∙◌, arith}
 use Rattle.std.proofs.lemmas.Int.{ints}
-use Rattle.vms_base.specs.declared.kinds.Mode.{Mode}
-use Rattle.vms_calls.specs.Common.{Header, CounterId, CpuId, ZoneSize, IsLayout, State, Step, Buries, after, facts_of}
-use Rattle.vms_calls.specs.Common.{CarriesAsBefore}
+use Rattle.vms_calls.specs.Common.{Mode, Header, CounterId, CpuId, ZoneSize, IsLayout, State, Step, Buries, after}
+use Rattle.vms_calls.specs.Common.{facts_of, CarriesAsBefore, SetO}
 use Rattle.vms_calls.specs.PageCalls.{IsPageCall, page_spent}
 use Rattle.vms_calls.specs.declared.page_calls.PageAnswer.{PageAnswer}
 use Rattle.vms_calls.specs.declared.page_calls.PageAnswer.TheVariants.{Done}
 use Rattle.vms_calls.specs.declared.page_calls.PageCall.{PageCall}
 use Rattle.vms_calls.specs.declared.page_calls.PageCall.TheVariants.{Bury, Change}
-use Rattle.vms_calls.proofs.CallSteps.{Each, OfFolds, OfRatings}
+use Rattle.vms_calls.proofs.Common.{Each, OfFolds, OfRatings}
 use Rattle.vms_calls.proofs.PageCalls.{page-each, page-spends}
-use Rattle.vms_core.specs.Common.{change_size}
+use Rattle.vms_core.specs.Totals.{change_size}
 use Rattle.vms_core.specs.Pages as pages
-use Rattle.vms_core.specs.declared.steps.Step.TheVariants.{SetO}
 use Rattle.vms_history.specs.Events.{total}
 use Rattle.vms_script.specs.Common.{spent_on_counter}
 use Rattle.vms_text.specs.declared.acts.Act.{Act}
 use Rattle.vms_text.specs.declared.acts.Act.TheVariants.{Mod, Inc, Dec, Dead}
 use Rattle.vms_text.specs.declared.acts.Lane.{Lane}
 use Rattle.vms_text.specs.declared.acts.Lane.TheVariants.{Control, Cpu}
-use Rattle.vms_world.specs.Acts.{page_call, spent_by_call}
-use Rattle.vms_world.specs.Common.{CallSteps, PageSteps, owner_of}
+use Rattle.vms_world.specs.Common.{page_call, CallSteps, PageSteps, owner_of}
+use Rattle.vms_world.specs.Acts.{spent_by_call}
 
 -- what a line says of a counter is what the call of its act spends on it, and no act of the control lane spends anything
 pub spent_on_counter-call : (c : CpuId) (k : ℕ) (a : Act)

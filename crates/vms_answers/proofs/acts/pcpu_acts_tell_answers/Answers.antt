@@ -1,14 +1,14 @@
 -- The law of every call on percpu counters; and their steps are read by whatever batch and over whichever CPUs they go.
 use Rattle.std.proofs.Common.{Bool, ℤ, refl, ap}
 use Rattle.vms_pcpu_core.specs.declared.answers.Compare.{Compare}
-use Rattle.vms_pcpu_core.specs.declared.answers.PcpuAnswer.TheVariants.{Done, Limited, Compared, Total}
+use Rattle.vms_pcpu_core.specs.declared.answers.PcpuAnswer.TheVariants.{Done, Compared, Total}
+use Rattle.vms_world.specs.Common.{Limited, Cnt, Lim, Cmp, pcpu_facts}
 use Rattle.vms_pcpu_core.specs.declared.pcpu_calls.PcpuCall.TheVariants as call
 use Rattle.vms_pcpu_core.specs.Calls.{unknown}
 use Rattle.vms_pcpu_core.specs.PcpuCalls.{answered}
 use Rattle.vms_pcpu_core.proofs.Readings.{read_add-call, read_compare-call, read_limited_add-call, read_sum-call}
 use Rattle.vms_pcpu_core.proofs.Readings.{read_sync-call}
-use Rattle.vms_text.specs.declared.acts.Act.TheVariants.{Cnt, Lim, Cmp, Sum, Csync}
-use Rattle.vms_world.specs.Common.{pcpu_facts}
+use Rattle.vms_text.specs.declared.acts.Act.TheVariants.{Sum, Csync}
 use Rattle.vms_answers.proofs.ActAnswers.{Tell-call, Tell-read}
 use Rattle.vms_answers.proofs.acts.pcpu_acts_tell_answers.Goals as goal
 

@@ -4,8 +4,7 @@ use Rattle.std.proofs.lemmas.Int.{to_z-of_z}
 use Rattle.vms_calls.specs.Common.{own}
 use Rattle.vms_words.specs.Common.{MayPut, HasPut}
 use Rattle.vms_count.specs.Common.{HasExchanged, CarriesFor}
-use Rattle.vms_count.proofs.ChangeSteps.{first-put, won-made, won-carries, second-put, missed-made}
-use Rattle.vms_count.proofs.ChangeSteps.{missed-carries}
+use Rattle.vms_count.proofs.ChangeSteps.{first-put, won-made, won-carries, second-put, missed-made, missed-carries}
 use Rattle.vms_count.proofs.changing.exchange.Goals as goal
 
 pub put-requires-clause-puts : goal.put-requires-clause-puts

@@ -1,13 +1,11 @@
 -- The call is that of the line, from the tables that stand.
 use Rattle.std.proofs.Common.{Option, ℕ, List, sym, subst}
-use Rattle.vms_world.specs.Common.{CpuId, State}
+use Rattle.vms_world.specs.Common.{CpuId, State, owner_of}
 use Rattle.vms_answers.specs.Common.{page_told}
 use Rattle.vms_plain_control.specs.PageCalls.{FitsPageCall, MakesPageCall}
-use Rattle.vms_plain_lines.specs.Common.{PlainStates}
-use Rattle.vms_plain_lines.specs.PageRooms.{HaveRoomForPages}
+use Rattle.vms_plain_lines.specs.Common.{PlainStates, HaveRoomForPages}
 use Rattle.vms_plain_lines.proofs.PageLines.{GoesOnIf-pages}
 use Rattle.vms_plain_lines.proofs.PlainCalls.{GoesOnIf-inside}
-use Rattle.vms_world.specs.Common.{owner_of}
 use Rattle.vms_plain_lines.proofs.tables.PlainTables.call_pages.Goals as goal
 
 pub returns-clause-goes_on : goal.returns-clause-goes_on
