@@ -31,8 +31,5 @@ pub(crate) fn open_phases_spend_their_lines<N: Rule, P: Rule>(rules: &Rules<N, P
         IsOpenPhase header (P.answers rules.now.pressure) (N.answers rules.now.normal) w lanes items hs now →
         SpendTheirLines header items hs }
 {
-    vms_calls::changes_spend_their_size();
-    vms_calls::looks_leave_their_caller();
-    vms_calls::folds_leave_their_caller();
     let _ = rules;
 }
