@@ -1,16 +1,17 @@
 -- For other crates too: the steps of an act tell its answer, by the laws of the calls.
-use Rattle.std.proofs.Common.{◌≡◌, ◌≢◌, ℕ, true, List, [], ◌++◌, Option, Some, None, refl, ap, ◌∙◌}
-use Rattle.vms_calls.specs.PageCalls.{IsPageCall, asks_rules}
+use Rattle.std.proofs.Common.{◌≡◌, ◌≢◌, ℕ, ℤ, true, List, [], ◌++◌, Option, Some, None, refl, ap, ◌∙◌}
+use Rattle.vms_world.specs.Common.{IsChange, TellsChange, Header, CounterId, CpuId, Mode, ZoneSize, State, Step}
+use Rattle.vms_world.specs.Common.{HasMade, facts_of, EventAnswer, Total as EventTotal, EventCall, EventFacts}
+use Rattle.vms_world.specs.Common.{EventStep, IsEventCall, read_event_call, PcpuAnswer, PcpuCall, PcpuFacts, PcpuStep}
+use Rattle.vms_world.specs.Common.{IsPcpuCall, Act, Ev, EvSum, Cnt, Lim, Cmp, Rough, Lane, Cpu, Control, event_call}
+use Rattle.vms_world.specs.Common.{page_call, pcpu_call, event_facts, pcpu_facts, owner_of, read_pcpu_call}
+use Rattle.vms_calls.specs.PageCalls.{IsPageCall, asks_rules, page_answered, read_page_call}
+use Rattle.vms_calls.specs.declared.page_calls.PageAnswer.TheVariants as answer
 use Rattle.vms_calls.specs.declared.page_calls.PageAnswer.{PageAnswer}
 use Rattle.vms_calls.specs.declared.page_calls.PageCall.{PageCall}
-use Rattle.vms_calls.specs.declared.page_calls.PageCall.TheVariants.{Bury}
+use Rattle.vms_calls.specs.declared.page_calls.PageCall.TheVariants.{Bury, Change}
 use Rattle.vms_calls.proofs.PageCalls.{page-tells}
 use Rattle.vms_core.specs.Pages as pages
-use Rattle.vms_world.specs.Common.{Header, CpuId, ZoneSize, State, Step, HasMade, facts_of, EventAnswer}
-use Rattle.vms_world.specs.Common.{Total as EventTotal, EventCall, EventFacts, EventStep, IsEventCall, read_event_call}
-use Rattle.vms_world.specs.Common.{PcpuAnswer, PcpuCall, PcpuFacts, PcpuStep, IsPcpuCall, Act, Ev, EvSum, Cnt, Lim, Cmp}
-use Rattle.vms_world.specs.Common.{Rough, Lane, Cpu, Control, event_call, page_call, pcpu_call, event_facts, pcpu_facts}
-use Rattle.vms_world.specs.Common.{owner_of, read_pcpu_call}
 use Rattle.vms_world.proofs.ActCalls.{call-no_page_call}
 use Rattle.vms_world.proofs.EventActs.{events-no_page_call}
 use Rattle.vms_event_core.specs.declared.call_values.EventAnswer.TheVariants.{Done}
@@ -57,23 +58,20 @@ module _ (header : Header) (w : World) where
   pages-no_counters Control (Dead c) call is no_burial = absurd (no_burial c cc)
   pages-no_counters _ _ call is no_burial = refl
 
-  -- the steps of the call of an act tell what the call answers, unless the act buries a CPU and so makes calls on the
-  -- other tables too
-  pub Tell-pages : (pressure normal : ZoneSize → ℕ → ℕ → Type 0) (base : State) (p : ℕ) (later h : pages.History)
-      (lane : Lane) (a : Act) (call : PageCall) (steps : List Step) (answer : PageAnswer) → page_call lane a ≡ Some call
-      → ((c : CpuId) → call ≢ Bury c)
-      → IsPageCall header base pressure normal call (owner_of lane) p h steps answer
-      → (asks_rules call ≡ true → HasMade (facts_of header base) later h p steps)
+  -- steps off which the answer of an act's call is read, whatever follows them, tell that of the act, unless the act
+  -- buries a CPU and so makes calls on the other tables too
+  pub Tell-page_read : (lane : Lane) (a : Act) (call : PageCall) (steps : List Step) (answer : PageAnswer)
+      → page_call lane a ≡ Some call → ((c : CpuId) → call ≢ Bury c)
+      → ((more : List Step) → read_page_call header call (owner_of lane) (steps ++ more) ≡ (answer, more))
       → Tell header w lane a (on_pages steps) (page_told answer)
-  Tell-pages pressure normal base p later h lane a call steps answer is no_burial call_is made rest =
+  Tell-page_read lane a call steps answer is no_burial reads rest =
       let owner = owner_of lane in
       ap (λ (makes : Option PageCall). joined (read_page_act header owner makes (steps ++ rest.pages))
       (read_event_act (event_facts header w) (event_call lane a) rest.events)
       (read_pcpu_act (pcpu_facts header w) (pcpu_call lane a) rest.counters)) is
       ∙ ap (λ (read : PageAnswer × List Step). joined (told page_told read)
       (read_event_act (event_facts header w) (event_call lane a) rest.events)
-      (read_pcpu_act (pcpu_facts header w) (pcpu_call lane a) rest.counters))
-      (page-tells pressure normal header base call owner p later h steps answer call_is made rest.pages)
+      (read_pcpu_act (pcpu_facts header w) (pcpu_call lane a) rest.counters)) (reads rest.pages)
       ∙ ap (λ (makes : Option EventCall). joined (page_told answer, rest.pages)
       (read_event_act (event_facts header w) makes rest.events)
       (read_pcpu_act (pcpu_facts header w) (pcpu_call lane a) rest.counters)) (pages-no_events lane a call is no_burial)
@@ -84,6 +82,26 @@ module _ (header : Header) (w : World) where
       first_answer-none : (x : Option Answer) → first_answer x None ≡ x
       first_answer-none (Some x) = refl
       first_answer-none None = refl
+
+  -- the steps of the call of an act tell what the call answers
+  pub Tell-pages : (pressure normal : ZoneSize → ℕ → ℕ → Type 0) (base : State) (p : ℕ) (later h : pages.History)
+      (lane : Lane) (a : Act) (call : PageCall) (steps : List Step) (answer : PageAnswer) → page_call lane a ≡ Some call
+      → ((c : CpuId) → call ≢ Bury c)
+      → IsPageCall header base pressure normal call (owner_of lane) p h steps answer
+      → (asks_rules call ≡ true → HasMade (facts_of header base) later h p steps)
+      → Tell header w lane a (on_pages steps) (page_told answer)
+  Tell-pages pressure normal base p later h lane a call steps answer is no_burial call_is made =
+      Tell-page_read lane a call steps answer is no_burial
+      (page-tells pressure normal header base call (owner_of lane) p later h steps answer call_is made)
+
+  -- those of any change tell that an act that makes a change answers nothing
+  pub Tell-changes : TellsChange → (c : CpuId) (a : Act) (k other : CounterId) (delta amount : ℤ) (how mode : Mode)
+      (steps : List Step) → page_call (Cpu c) a ≡ Some (Change k delta how)
+      → IsChange header.layout c other amount mode steps → Tell header w (Cpu c) a (on_pages steps) None
+  Tell-changes tells c a k other delta amount how mode steps is change =
+      Tell-page_read (Cpu c) a (Change k delta how) steps answer.Done is (λ d same. absurd cc)
+      (λ more. ap (page_answered (λ (end : Unit {0}). answer.Done))
+      (tells header.layout c other amount mode steps change more))
 
   -- an act that makes a call on event counters makes none on the others, unless it buries a CPU
   events-no_counters : (lane : Lane) (a : Act) (call : EventCall) → event_call lane a ≡ Some call

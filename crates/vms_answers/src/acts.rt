@@ -3,12 +3,12 @@ ghost use Rattle.vms_base.specs.declared.ids.PcpuId.{PcpuId};
 ghost use Rattle.vms_calls.specs.PageCalls.{IsPageCall, asks_rules};
 ghost use Rattle.vms_calls.specs.declared.page_calls.PageAnswer.{PageAnswer};
 ghost use Rattle.vms_calls.specs.declared.page_calls.PageCall.{PageCall};
-ghost use Rattle.vms_calls.specs.declared.page_calls.PageCall.TheVariants.{Bury};
+ghost use Rattle.vms_calls.specs.declared.page_calls.PageCall.TheVariants.{Bury, Change};
 ghost use Rattle.vms_core.specs.Pages as pages;
-ghost use Rattle.vms_world.specs.Common.{Header, CpuId, State, Step, HasMade, facts_of, EventAnswer, EventCall};
-ghost use Rattle.vms_world.specs.Common.{EventStep, IsEventCall, PcpuAnswer, PcpuCall, PcpuStep, IsPcpuCall, Act, Lane};
-ghost use Rattle.vms_world.specs.Common.{Cpu, event_call, page_call, pcpu_call, event_facts, pcpu_facts, owner_of, Cnt};
-ghost use Rattle.vms_world.specs.Common.{Lim, Cmp};
+ghost use Rattle.vms_world.specs.Common.{Header, CounterId, CpuId, Mode, State, Step, IsChange, HasMade, facts_of};
+ghost use Rattle.vms_world.specs.Common.{EventAnswer, EventCall, EventStep, IsEventCall, PcpuAnswer, PcpuCall};
+ghost use Rattle.vms_world.specs.Common.{PcpuStep, IsPcpuCall, Act, Lane, Cpu, event_call, page_call, pcpu_call};
+ghost use Rattle.vms_world.specs.Common.{event_facts, pcpu_facts, owner_of, Cnt, Lim, Cmp};
 ghost use Rattle.vms_pcpu_core.specs.declared.answers.Compare.{Compare};
 ghost use Rattle.vms_pcpu_core.specs.Calls.{IsAdd, IsCompare, IsLimitedAdd, IsSum, IsSync, unknown};
 ghost use Rattle.vms_text.specs.declared.acts.Act.TheVariants.{Sum, Csync, Dead};
@@ -28,6 +28,16 @@ pub fn page_acts_tell_answers<R: ThresholdRules>()
         (asks_rules call ≡ true → HasMade (facts_of header base) later h p steps) →
         Tell header w lane act (on_pages steps) (page_told answer) }
 {}
+
+/// A line that changes a page counter answers nothing, and the steps of any change tell where they end: whichever counter
+/// they change, by whatever amount and in whatever mode.
+pub fn changes_answer_nothing()
+    ensures { (header : Header) (w : World) (c : CpuId) (act : Act) (k other : CounterId) (delta amount : ℤ)
+        (how mode : Mode) (steps : List Step) → page_call (Cpu c) act ≡ Some (Change k delta how) →
+        IsChange header.layout c other amount mode steps → Tell header w (Cpu c) act (on_pages steps) None }
+{
+    vms_calls::changes_and_folds_are_told();
+}
 
 /// The steps of the call that a line makes on the event counters tell what it answers, unless it buries a CPU and so
 /// makes calls on the other tables too.

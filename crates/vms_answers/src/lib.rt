@@ -10,7 +10,9 @@ mod phases;
 mod printing;
 mod test_lines;
 
-pub use acts::{event_acts_tell_answers, page_acts_tell_answers, pcpu_acts_tell_answers};
+pub use acts::{
+    changes_answer_nothing, event_acts_tell_answers, page_acts_tell_answers, pcpu_acts_tell_answers,
+};
 pub use answers::{Answer, NumberedAnswer, event_told, page_told, pcpu_told};
 pub use lane_answers::{LaneAnswers, place_of, take_answer};
 pub use laws::lanes_answer_their_lines;
