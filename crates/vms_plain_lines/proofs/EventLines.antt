@@ -1,13 +1,11 @@
 -- A line on the event counters goes on from an open phase, and tells its answer.
-use Rattle.std.proofs.Common.{◌≡◌, ◌≢◌, ℕ, ◌+◌, ◌≤◌, nat_eq, true, List, [], ◌∷◌, map, Option, Some, refl, sym, ap}
-use Rattle.std.proofs.Common.{subst, ◌∙◌, arith, if◌then◌else◌, eq-eqb}
+use Rattle.std.proofs.Common.{◌≡◌, ◌≢◌, ℕ, true, List, [], ◌∷◌, Option, Some, refl, sym, ap, subst, ◌∙◌, arith}
 use Rattle.std.specs.Prelude.{All}
 use Rattle.std.proofs.lemmas.List.Elements.{All-cons, All-nil}
-use Rattle.vms_world.specs.Common.{Header, CpuId, CpuState, ZoneSize, state_at, most_volume, own, LeadsOn, EventAnswer}
-use Rattle.vms_world.specs.Common.{EventCall, Count, EventState, EventFacts, EventStep, CarryAsBefore, IsEventCall}
-use Rattle.vms_world.specs.Common.{event_spent, events, line_of, spent_on_event, volume, Item, Lane, Cpu, Control}
-use Rattle.vms_world.specs.Common.{CallSteps, EventSteps, event_call, is_among, owner_of, TableHistories, event_facts}
-use Rattle.vms_world.specs.Common.{pcpu_facts}
+use Rattle.vms_world.specs.Common.{Header, CpuId, CpuState, ZoneSize, state_at, own, LeadsOn, EventAnswer, EventCall}
+use Rattle.vms_world.specs.Common.{Count, EventState, EventFacts, EventStep, CarryAsBefore, IsEventCall, events, Item}
+use Rattle.vms_world.specs.Common.{Lane, Cpu, Control, CallSteps, EventSteps, event_call, is_among, owner_of}
+use Rattle.vms_world.specs.Common.{TableHistories, event_facts, pcpu_facts}
 use Rattle.vms_history.proofs.Common.{own-after, steps-go_on}
 use Rattle.vms_event_core.specs.declared.call_values.EventCall.TheVariants.{Sum, FoldDead}
 use Rattle.vms_event_core.specs.CallLaws.{MayCall, MayMake, Tells}
@@ -16,8 +14,7 @@ use Rattle.vms_event_core.specs.Steps.{role}
 use Rattle.vms_plain_events.specs.Common.{FitsCall, IsByState-events, events_by_state}
 use Rattle.vms_text.specs.declared.acts.Act.TheVariants.{Dead}
 use Rattle.vms_world.specs.declared.worlds.World.{World}
-use Rattle.vms_world.specs.Acts.{spent_by_call}
-use Rattle.vms_world.proofs.Common.{events-no_counters, events-no_pages, spent_on_event-call}
+use Rattle.vms_world.proofs.Common.{events-no_counters, events-no_pages}
 use Rattle.vms_file_order.specs.Common.{GoesOnWithLine, HasPass, pass_of, MeetsNobody, event_makes, event_passes}
 use Rattle.vms_file_order.proofs.Common.{HasPass-opening}
 use Rattle.vms_answers.specs.Common.{event_told}
@@ -65,50 +62,26 @@ module _ (pressure normal : ZoneSize → ℕ → ℕ → Type 0) (header : Heade
   -- the act of the line makes a call, for which the lines before it leave room
   module _ (laws : EventLaws) (call : EventCall) (on : event_call item.lane item.act ≡ Some call)
       (fits : FitsCall now.opening (owner_of item.lane) call now.events)
-      (room : HaveRoomForEvents item.lane item.act items) where
-    -- the CPU of the lane has room for what the call spends
-    room-call : (c : CpuId) → item.lane ≡ Cpu c → (e : ℕ)
-        → volume (spent_on_event e) c.number (map line_of items) + event_spent call e ≤ most_volume
-    room-call c of e =
-        let says = spent_on_event-call c e item.act in
-        let makes : event_call (Cpu c) item.act ≡ Some call =
-        subst (λ (l : Lane). event_call l item.act ≡ Some call) of on in
-        let spends = ap (λ (x : Option EventCall). spent_by_call event_spent x e) makes in
-        let before = room c of e in
-        omega arith
-
+      (room : HaveRoomForEvents item.lane call items) where
     pub may-call : MayCall facts hs.events p call
-    may-call = by call fits room-call
+    may-call = by item.lane refl call fits room
       where
-        owned : (c : CpuId) → owner_of item.lane ≡ Some c → item.lane ≡ Cpu c
-        owned c = of item.lane
-          where
-            of : (l : Lane) → owner_of l ≡ Some c → l ≡ Cpu c
-            of (Cpu d) is = cc
-            of Control is = absurd cc
-
-        by : (x : EventCall) → FitsCall now.opening (owner_of item.lane) x now.events
-            → ((c : CpuId) → item.lane ≡ Cpu c → (e : ℕ)
-            → volume (spent_on_event e) c.number (map line_of items) + event_spent x e ≤ most_volume)
-            → MayCall facts hs.events p x
-        by (Count k n) fit more =
-            let here : (if nat_eq k.number k.number then n else 0) ≡ n =
-            (let same = eq-eqb k.number k.number refl in rw same refl) in
-            record {
-              cpu = fit.cpu;
-              owns = pass.owner ∙ fit.owns;
-              event = fit.event;
-              affordable = omega (
-                arith,
-                here,
-                more fit.cpu (owned fit.cpu fit.owns) k.number,
-                spent-events pressure normal header w lanes items hs (in_tables now) stands.once stands.opened fit.cpu
-                    k.number,
-              );
-            }
-        by (Sum k) fit more = fit.event
-        by (FoldDead c) fit more = record {
-          control = pass.owner ∙ fit.control;
+        by : (l : Lane) → item.lane ≡ l → (x : EventCall) → FitsCall now.opening (owner_of l) x now.events
+            → HaveRoomForEvents l x items → MayCall facts hs.events p x
+        by (Cpu c) of (Count k n) fit more = record {
+          cpu = c;
+          owns = pass.owner ∙ ap owner_of of;
+          event = fit.event;
+          affordable = omega (
+            arith,
+            more,
+            spent-events pressure normal header w lanes items hs (in_tables now) stands.once stands.opened c k.number,
+          );
+        }
+        by Control of (Count k n) fit more = let owns = fit.owns in absurd cc
+        by l of (Sum k) fit more = fit.event
+        by l of (FoldDead c) fit more = record {
+          control = pass.owner ∙ ap owner_of of ∙ fit.control;
           nothing = stands.opened.events.may_end p pass.other_than_main;
           dead = ap (λ (cs : List CpuState). state_at cs c.number) (sym stands.opening) ∙ fit.is_dead;
         }

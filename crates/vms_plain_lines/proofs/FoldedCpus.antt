@@ -1,10 +1,10 @@
 -- For other crates too: the events and the percpu counters of a line that buries a CPU go on with the folds of the CPU.
-use Rattle.std.proofs.Common.{◌≡◌, ◌≢◌, ℕ, ◌<◌, ◌≤◌, ◌^◌, nat_eq, Bool, true, false, List, [], ◌∷◌, length, Option}
-use Rattle.std.proofs.Common.{Some, None, refl, sym, ap, subst, ◌∙◌, arith, if◌then◌else◌}
+use Rattle.std.proofs.Common.{◌≡◌, ℕ, ◌<◌, ◌≤◌, ◌^◌, nat_eq, Bool, true, false, List, [], ◌∷◌, length, Option, Some}
+use Rattle.std.proofs.Common.{None, refl, sym, ap, subst, ◌∙◌, arith, if◌then◌else◌}
 use Rattle.vms_world.specs.Common.{Header, CpuId, CpuState, Absent, ZoneSize, HasOnline, state_at, IsCpu, LeadsOn}
 use Rattle.vms_world.specs.Common.{Facts, Step, cpu_at, cpu_after, SetO, EventAnswer, EventState, EventFacts, EventStep}
 use Rattle.vms_world.specs.Common.{IsEventCall, events, IsEvent, word_at, PcpuState, PcpuFacts, PcpuStep, IsFoldDead}
-use Rattle.vms_world.specs.Common.{MayTake, percpu, pcpu_added, Act, Item, Lane, Control, Cpu, event_call, is_among}
+use Rattle.vms_world.specs.Common.{MayTake, percpu, pcpu_added, Act, Item, Lane, Control, event_call, is_among}
 use Rattle.vms_world.specs.Common.{owner_of, TableHistories, event_facts, pcpu_facts}
 use Rattle.vms_base.specs.declared.kinds.CpuState.TheVariants.{Dead}
 use Rattle.vms_core.specs.Pages.{History, IsLegal, state_after}
@@ -19,7 +19,7 @@ use Rattle.vms_plain_pcpu.specs.Common.{LeadsAlone, under_free_locks}
 use Rattle.vms_text.specs.declared.acts.Act.TheVariants.{Dead as Bury}
 use Rattle.vms_world.specs.declared.worlds.World.{World}
 use Rattle.vms_file_order.specs.Common.{GoesOnWithLine, pass_of, FindsLockFree, MeetsNobody, event_makes, pcpu_makes}
-use Rattle.vms_plain_lines.specs.Common.{EventLaws, PlainStates, StandsInPhase}
+use Rattle.vms_plain_lines.specs.Common.{EventLaws, HaveRoomForEvents, PlainStates, StandsInPhase}
 use Rattle.vms_plain_lines.proofs.CounterLines.{batches, calls, counter-part, pass as counter_pass}
 use Rattle.vms_plain_lines.proofs.EitherLane.{of-line}
 use Rattle.vms_plain_lines.proofs.EventLines.{call-part}
@@ -78,7 +78,7 @@ module _ (pressure normal : ZoneSize → ℕ → ℕ → Type 0) (header : Heade
       (subst (λ (a : Act). event_call Control a ≡ Some (FoldEvents dead)) (sym act) refl) in
       call-part pressure normal header w lanes items hs now stands item among laws (FoldEvents dead) on
       (subst (λ (l : Lane). FitsCall now.opening (owner_of l) (FoldEvents dead) now.events) (sym lane) fits)
-      (λ c of e. let none : Control ≡ Cpu c = sym lane ∙ of in absurd cc) answer made.0 next made.1
+      (subst (λ (l : Lane). HaveRoomForEvents l (FoldEvents dead) items) (sym lane) tt) answer made.0 next made.1
       (subst (λ (l : Lane). LeadsOn events_by_state (owner_of l) made.0 now.events next) (sym lane) made.2)
 
   -- the counters part: its local parts move to the shared parts

@@ -39,11 +39,11 @@ impl Model for PlainTables {
 }
 
 impl PlainTables {
-    ghost use Rattle.std.specs.Prelude.{◌≡◌, ◌≢◌, ◌+◌, ◌-◌, ◌≤◌, ◌^◌, length, map, true, Some};
+    ghost use Rattle.std.specs.Prelude.{◌≡◌, ◌≢◌, ◌-◌, ◌^◌, map, Some};
     ghost use Rattle.vms_calls.specs.declared.page_calls.PageCall.TheVariants.{Bury};
-    ghost use Rattle.vms_world.specs.Common.{Header, HasOnline, is_present, state_at, IsHeader, IsPlainBase};
-    ghost use Rattle.vms_world.specs.Common.{LeavesVolume, most_sets, line_of, spent_on_pcpu, volume, Item, Cpu};
-    ghost use Rattle.vms_world.specs.Common.{event_call, page_call, pcpu_call, owner_of};
+    ghost use Rattle.vms_world.specs.Common.{Header, HasOnline, IsHeader, IsPlainBase, LeavesVolume, most_sets};
+    ghost use Rattle.vms_world.specs.Common.{line_of, spent_on_pcpu, volume, Item, Cpu, event_call, page_call};
+    ghost use Rattle.vms_world.specs.Common.{pcpu_call, owner_of};
     ghost use Rattle.vms_answers.specs.Common.{event_told, page_told, pcpu_told};
     ghost use Rattle.vms_plain_control.specs.Common.{HasAllPeaks, SetAtMost};
     ghost use Rattle.vms_plain_control.specs.PageCalls.{AnswersPageCall, FitsPageCall};
@@ -52,7 +52,7 @@ impl PlainTables {
     ghost use Rattle.vms_plain_lines.specs.PageRooms.{HaveRoomForPages};
     ghost use Rattle.vms_plain_lines.specs.PlainStates.{GoesOnIf};
     ghost use Rattle.vms_plain_pages.specs.Common.{IsSmallState};
-    ghost use Rattle.vms_plain_pcpu.specs.Common.{HasLocals, AnswersCall, HasRoomForCall, with_call};
+    ghost use Rattle.vms_plain_pcpu.specs.Common.{AnswersCall, HasLocalsForCall, HasRoomForCall, with_call};
     ghost use Rattle.vms_text.specs.declared.acts.Act.TheVariants.{Dead};
 
     /// The tables with these counters and peaks, in a phase that begins with CPUs in these states.
@@ -101,7 +101,7 @@ impl PlainTables {
         ensures full { HasAllPeaks header.now.layout self.new.peaks }
         ensures goes_on { (item : Item) → item.lane ≡ lane → page_call lane item.act ≡ Some call →
             ((c : CpuId) → call ≢ Bury c) → GoesOnIf header.now (P.answers rules.now.pressure)
-            (N.answers rules.now.normal) item (HaveRoomForPages lane item.act) self.old self.new (page_told result) }
+            (N.answers rules.now.normal) item (HaveRoomForPages lane call) self.old self.new (page_told result) }
     {
         let owner = owner_of(lane);
         vms_plain_control::call(&mut self.pages, &mut self.peaks, header, rules, owner, call)
@@ -120,8 +120,7 @@ impl PlainTables {
         ensures after { self.new ≡ record self.old { events = self.new.events } }
         ensures goes_on { (header : Header) (item : Item) → item.lane ≡ lane → event_call lane item.act ≡ Some call →
             ((c : CpuId) → item.act ≢ Dead c) → GoesOnIf header (P.answers rules.now.pressure)
-            (N.answers rules.now.normal) item (HaveRoomForEvents lane item.act) self.old self.new
-            (event_told result) }
+            (N.answers rules.now.normal) item (HaveRoomForEvents lane call) self.old self.new (event_told result) }
     {
         event_laws();
         let _ = rules;
@@ -133,8 +132,8 @@ impl PlainTables {
         )
     }
 
-    /// Makes a call on the percpu counters on a CPU, and answers it. The CPUs that were present when the phase began hold
-    /// the local parts.
+    /// Makes a call on the percpu counters on a CPU, and answers it. The CPUs that were present when the phase began
+    /// hold the local parts.
     pub fn make_pcpu_call<N: Rule, P: Rule>(
         &mut self,
         rules: &Rules<N, P>,
@@ -142,10 +141,7 @@ impl PlainTables {
         call: PcpuCall,
     ) -> PcpuAnswer
         requires room { HasRoomForCall self.old.counters call }
-        requires cpus { HasLocals self.old.counters (length self.old.opening) }
-        requires few { length self.old.opening ≤ 128 }
-        requires cpu { HasLocals self.old.counters (cpu.number + 1) }
-        requires present { is_present (state_at self.old.opening cpu.number) ≡ true }
+        requires locals { HasLocalsForCall self.old.counters self.old.opening cpu call }
         ensures after { self.new ≡ record self.old {
           counters = with_call self.old.opening cpu call result self.old.counters;
         } }

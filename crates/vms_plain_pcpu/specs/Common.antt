@@ -4,4 +4,4 @@ pub use Rattle.vms_plain_pcpu.specs.FreeLocks.{LeadsAlone, MissesNone, under_fre
 pub use Rattle.vms_plain_pcpu.specs.Numbers.{HasLocals, HasRoomFor, MovesLocals, goes_unlocked, locals_over, total_in}
 pub use Rattle.vms_plain_pcpu.specs.Numbers.{unknown_in, with_added, with_local_added, with_local_moved}
 pub use Rattle.vms_plain_pcpu.specs.Answers.{AnswersByLimit, ComparesTotal}
-pub use Rattle.vms_plain_pcpu.specs.PlainCalls.{AnswersCall, HasRoomForCall, with_call}
+pub use Rattle.vms_plain_pcpu.specs.PlainCalls.{AnswersCall, HasEachLocal, HasLocalsForCall, HasRoomForCall, with_call}

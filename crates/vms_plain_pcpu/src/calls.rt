@@ -1,11 +1,9 @@
-ghost use Rattle.std.specs.Prelude.{◌≡◌, ◌+◌, ◌≤◌, List, length, Some, true};
-ghost use Rattle.vms_history.specs.Common.{is_present, state_at};
+ghost use Rattle.std.specs.Prelude.{◌≡◌, List, Some};
 ghost use Rattle.vms_pcpu_core.specs.declared.steps.PcpuFacts.{PcpuFacts};
 ghost use Rattle.vms_pcpu_core.specs.declared.steps.PcpuStep.{PcpuStep};
 ghost use Rattle.vms_pcpu_core.specs.Common.{IsPcpuCall};
 ghost use Rattle.vms_plain_pcpu.specs.FreeLocks.{LeadsAlone, under_free_locks};
-ghost use Rattle.vms_plain_pcpu.specs.Numbers.{HasLocals};
-ghost use Rattle.vms_plain_pcpu.specs.PlainCalls.{AnswersCall, HasRoomForCall, with_call};
+ghost use Rattle.vms_plain_pcpu.specs.PlainCalls.{AnswersCall, HasLocalsForCall, HasRoomForCall, with_call};
 
 use crate::{add, compare, limited_add, read, sum, sync};
 use vms_base::{CpuId, CpuState};
@@ -14,10 +12,7 @@ use vms_pcpu_core::{PcpuAnswer, PcpuCall, PcpuState};
 /// Makes a call on a CPU, and answers it. `states` has the state of each CPU.
 pub fn call(counters: &mut PcpuState, states: &[CpuState], cpu: CpuId, call: PcpuCall) -> PcpuAnswer
     requires room { HasRoomForCall counters.old call }
-    requires cpus { HasLocals counters.old (length states.now) }
-    requires few { length states.now ≤ 128 }
-    requires cpu { HasLocals counters.old (cpu.number + 1) }
-    requires present { is_present (state_at states.now cpu.number) ≡ true }
+    requires locals { HasLocalsForCall counters.old states.now cpu call }
     ensures after { counters.new ≡ with_call states.now cpu call result counters.old }
     ensures answers { AnswersCall counters.old states.now call result }
     ensures made { (facts : PcpuFacts) → facts.cpus ≡ states.now → facts.base.batch ≡ counters.old.batch →

@@ -1,15 +1,15 @@
 -- A call on percpu counters of a line of a CPU's lane: what leaves room for it, and how the line goes on by it.
-use Rattle.std.proofs.Common.{◌≡◌, ℕ, ◌+◌, ◌<◌, ◌≤◌, ◌^◌, true, [], length, map, inl, Option, Some, arith, sym, subst}
-use Rattle.vms_world.specs.Common.{Header, CpuId, ZoneSize, is_present, state_at, PcpuAnswer, PcpuCall, Add, LimitedAdd}
-use Rattle.vms_world.specs.Common.{Compare, Read, PcpuFacts, IsOwnersCall, LeavesVolume, NamesKnown, line_of}
-use Rattle.vms_world.specs.Common.{spent_on_pcpu, volume, Act, Pressure, Normal, Kswapd, Item, Cpu, pcpu_call}
+use Rattle.std.proofs.Common.{◌≡◌, ℕ, ◌+◌, ◌<◌, ◌^◌, [], length, map, inl, Option, Some, arith, sym, subst}
+use Rattle.vms_world.specs.Common.{Header, CpuId, ZoneSize, PcpuAnswer, PcpuCall, Add, LimitedAdd, Compare, Read}
+use Rattle.vms_world.specs.Common.{PcpuFacts, IsOwnersCall, LeavesVolume, NamesKnown, line_of, spent_on_pcpu, volume}
+use Rattle.vms_world.specs.Common.{Act, Pressure, Normal, Kswapd, Item, Cpu, pcpu_call}
 use Rattle.vms_pcpu_core.specs.declared.pcpu_calls.PcpuCall.TheVariants.{Sum, Sync, FoldDead}
 use Rattle.vms_pcpu_core.specs.PcpuCalls.{IsWithin}
 use Rattle.vms_answers.specs.declared.answers.Answer.{Answer}
 use Rattle.vms_answers.specs.Common.{pcpu_told}
 use Rattle.vms_file_order.proofs.Common.{fits-call}
 use Rattle.vms_plain_lines.specs.Common.{GoesOnIf, PlainStates, SparesPeaks}
-use Rattle.vms_plain_pcpu.specs.Common.{HasLocals, HasRoomFor, HasRoomForCall}
+use Rattle.vms_plain_pcpu.specs.Common.{HasEachLocal, HasLocals, HasLocalsForCall, HasRoomFor, HasRoomForCall}
 use Rattle.vms_text.specs.declared.acts.Act.TheVariants.{Dead}
 use Rattle.vms_world.proofs.Common.{IsKnownCall, known-call}
 use Rattle.vms_replay_phase.specs.Common.{MakesLine, MayMakeLine}
@@ -26,22 +26,33 @@ spares-call c call _ is = tt
 -- what plain tables ask of a call
 pub record LeaveRoomFor (now : PlainStates) (c : CpuId) (call : PcpuCall) : Type 0 where
   pub room : HasRoomForCall now.counters call
-  pub cpus : HasLocals now.counters (length now.opening)
-  pub few : length now.opening ≤ 128
-  pub cpu : HasLocals now.counters (c.number + 1)
-  pub present : is_present (state_at now.opening c.number) ≡ true
+  pub locals : HasLocalsForCall now.counters now.opening c call
 
 module _ (header : Header) (c : CpuId) (a : Act) (call : PcpuCall) (is : pcpu_call (Cpu c) a ≡ Some call)
     (now : PlainStates) where
   pub room-for : MayMakeLine header (Cpu c) a now → LeaveRoomFor now c call
   room-for may = record {
     room = by call known.known known.within known.owners (fits-call [] c a call is may.may.1);
-    cpus = may.room.locals (length now.opening) (omega (arith, may.room.opening));
-    few = omega (arith, may.room.opening, may.room.few);
-    cpu = may.room.locals (c.number + 1) (omega (arith, may.line.0));
-    present = may.room.present c (one-lane c);
+    locals = locals_by call;
   }
     where
+      each : HasEachLocal now.counters now.opening
+      each = record {
+        cpus = may.room.locals (length now.opening) (omega (arith, may.room.opening));
+        few = omega (arith, may.room.opening, may.room.few);
+      }
+
+      own : HasLocals now.counters (c.number + 1)
+      own = may.room.locals (c.number + 1) (omega (arith, may.line.0))
+
+      locals_by : (call : PcpuCall) → HasLocalsForCall now.counters now.opening c call
+      locals_by (Add j amount) = own
+      locals_by (LimitedAdd j limit amount) = (each, may.room.present c (one-lane c))
+      locals_by (Compare j rhs) = each
+      locals_by (Sum j) = each
+      locals_by (Sync j) = own
+      locals_by _ = tt
+
       facts : PcpuFacts
       facts = record { layout = header.layout; cpus = now.opening; base = now.counters }
 

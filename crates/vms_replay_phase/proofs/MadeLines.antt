@@ -1,29 +1,30 @@
 -- Lines that are made, by the calls that make them.
 use Rattle.std.proofs.Common.{◌≡◌, ◌≢◌, ℕ, ◌+◌, ◌-◌, ◌*◌, ◌<◌, ◌≤◌, inl, inr, ◌⊎◌, Bool, true, false, nat_lt, MatchBool}
-use Rattle.std.proofs.Common.{[], ◌∷◌, ◌||◌, length, map, ⊎_elim, Option, Some, None, refl, sym, ap, subst, arith}
+use Rattle.std.proofs.Common.{List, [], ◌∷◌, ◌||◌, length, map, ⊎_elim, Option, Some, None, refl, sym, ap, subst, arith}
 use Rattle.std.proofs.Common.{length-append, eq-eqb, unsigned_abs}
 use Rattle.std.proofs.lemmas.Bool.Decides.{nat_tests}
-use Rattle.vms_calls.specs.PageCalls.{asks_rules}
+use Rattle.vms_calls.specs.PageCalls.{asks_rules, page_spent}
 use Rattle.vms_calls.specs.declared.page_calls.PageAnswer.{PageAnswer}
 use Rattle.vms_calls.specs.declared.page_calls.PageAnswer.TheVariants as pages
 use Rattle.vms_calls.specs.declared.page_calls.PageCall.{PageCall}
-use Rattle.vms_calls.specs.declared.page_calls.PageCall.TheVariants.{SetPressure, SetNormal, Bury, Turn}
+use Rattle.vms_calls.specs.declared.page_calls.PageCall.TheVariants.{Change, SetPressure, SetNormal, Bury, Turn}
 use Rattle.vms_world.specs.Common.{Header, CpuId, ZoneSize, IsHeader, class_names, declared_names, node_items, IsItem}
-use Rattle.vms_world.specs.Common.{Shape, State, most_sets, EventCall, Count, event_spent, IsEvent, IsActOf, IsLaneOf}
-use Rattle.vms_world.specs.Common.{IsKnownValue, line_of, Act, Ev, Cnt, Lim, Cmp, Rough, Fold, Water, Val, Snap, Sys}
-use Rattle.vms_world.specs.Common.{Pressure, Normal, Kswapd, Item, Lane, Control, Cpu, event_call, pcpu_call, is_among}
-use Rattle.vms_world.specs.Common.{owner_of, page_call}
+use Rattle.vms_world.specs.Common.{Shape, State, most_sets, most_volume, EventCall, Count, event_spent, IsEvent}
+use Rattle.vms_world.specs.Common.{IsActOf, IsLaneOf, IsKnownValue, line_of, Act, Ev, Cnt, Lim, Cmp, Rough, Fold, Water}
+use Rattle.vms_world.specs.Common.{Val, Snap, Sys, Pressure, Normal, Kswapd, Item, Lane, Control, Cpu, event_call}
+use Rattle.vms_world.specs.Common.{pcpu_call, is_among, owner_of, page_call, spent_on_counter, spent_on_event, volume}
 use Rattle.vms_event_core.specs.declared.call_values.EventCall.TheVariants.{Sum as SumEvents, FoldDead as FoldEvents}
 use Rattle.vms_answers.specs.declared.answers.Answer.{Answer}
 use Rattle.vms_file_order.specs.Common.{MayFollow}
 use Rattle.vms_file_order.proofs.Common.{own-size}
 use Rattle.vms_plain_events.specs.Common.{FitsCall}
-use Rattle.vms_plain_lines.specs.Common.{GoesOnIf, PlainStates, SparesPeaks}
+use Rattle.vms_plain_lines.specs.Common.{GoesOnIf, HaveRoomForEvents, HaveRoomForPages, PlainStates, SparesPeaks}
 use Rattle.vms_plain_control.specs.Common.{SetAtMost, SetsEachAtMost}
 use Rattle.vms_plain_control.specs.PageCalls.{AnswersPageCall, FitsPageCall}
 use Rattle.vms_text.specs.declared.acts.Act.TheVariants.{Csync, Mod, Inc, Dec, Dead, Sum}
 use Rattle.vms_world.specs.Acts.{spent_by_call}
 use Rattle.vms_world.proofs.Common.{call-known, control-counts_none, spent_on_event-call, sum-known}
+use Rattle.vms_world.proofs.PageActs.{spent_on_counter-call}
 use Rattle.vms_replay_phase.specs.Common.{MakesLine, MayMakeLine}
 
 module _ (header : Header) (pressure normal : ZoneSize → ℕ → ℕ → Type 0) (lane : Lane) (now next : PlainStates)
@@ -147,7 +148,8 @@ pub FitsPageCall-line : (header : Header) → IsHeader header → (lane : Lane) 
     → MayMakeLine header lane act now → (call : PageCall) → page_call lane act ≡ Some call
     → FitsPageCall header call (owner_of lane) now.pages
 FitsPageCall-line header valid lane act now may call on =
-    subst (λ (x : Option PageCall). FitsIfSome header now x (owner_of lane)) on (by lane act may.line.0 may.line.1 may.may)
+    subst (λ (x : Option PageCall). FitsIfSome header now x (owner_of lane)) on
+    (by lane act may.line.0 may.line.1 may.may)
   where
     by : (l : Lane) (a : Act) → IsLaneOf header l → IsActOf header l a → MayFollow now.pages [] l a
         → FitsIfSome header now (page_call l a) (owner_of l)
@@ -216,3 +218,25 @@ FitsCall-line header lane act now may (SumEvents k) is alone =
       room = omega (arith, may.room.sums k.number k_in);
     }
 FitsCall-line header lane act now may (FoldEvents d) is alone = absurd (alone d refl)
+
+-- lines that leave room for what a line says of each event leave room for its call
+pub HaveRoomForEvents-line : (lane : Lane) (act : Act) (call : EventCall) → event_call lane act ≡ Some call
+    → (items : List Item) → ((c : CpuId) → lane ≡ Cpu c → (e : ℕ)
+    → volume (spent_on_event e) c.number (map line_of items) + spent_on_event e act ≤ most_volume)
+    → HaveRoomForEvents lane call items
+HaveRoomForEvents-line (Cpu c) act (Count k n) is items room =
+    let says = spent_on_event-call c k.number act in
+    let spends = ap (λ (x : Option EventCall). spent_by_call event_spent x k.number) is in
+    omega (arith, own-size k.number n, room c refl k.number, says, spends)
+HaveRoomForEvents-line _ _ _ is items room = tt
+
+-- lines that leave room for what a line says of each page counter leave room for its call
+pub HaveRoomForPages-line : (lane : Lane) (act : Act) (call : PageCall) → page_call lane act ≡ Some call
+    → (items : List Item) → ((c : CpuId) → lane ≡ Cpu c → (k : ℕ)
+    → volume (spent_on_counter k) c.number (map line_of items) + spent_on_counter k act ≤ most_volume)
+    → HaveRoomForPages lane call items
+HaveRoomForPages-line (Cpu c) act (Change k delta how) is items room =
+    let says = spent_on_counter-call c k.number act in
+    let spends = ap (λ (x : Option PageCall). spent_by_call page_spent x k.number) is in
+    omega (arith, own-size k.number (unsigned_abs delta), room c refl k.number, says, spends)
+HaveRoomForPages-line _ _ _ is items room = tt

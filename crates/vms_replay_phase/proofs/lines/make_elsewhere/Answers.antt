@@ -1,15 +1,14 @@
 -- A call on the event counters, or one on the percpu counters.
-use Rattle.std.proofs.Common.{◌≡◌, ◌≢◌, map, Option, Some, None, sym, ap, subst, ◌∙◌, refl}
-use Rattle.vms_event_core.specs.declared.call_values.EventCall.TheVariants.{FoldDead}
-use Rattle.vms_world.specs.Common.{CpuId, EventCall, line_of, Act, Lane, Control, Cpu, event_call, page_call}
+use Rattle.std.proofs.Common.{◌≡◌, map, Option, Some, sym, ap, subst, ◌∙◌, refl}
+use Rattle.vms_world.specs.Common.{EventCall, line_of, Act, Lane, event_call}
 use Rattle.vms_world.proofs.Common.{folds-burial}
 use Rattle.vms_answers.specs.declared.answers.Answer.{Answer}
 use Rattle.vms_answers.specs.Common.{event_told}
 use Rattle.vms_file_order.specs.Common.{MayFollow}
 use Rattle.vms_plain_lines.specs.Common.{HaveRoomForEvents}
-use Rattle.vms_replay_phase.specs.Common.{MakesLine, MayMakeLine}
-use Rattle.vms_replay_phase.proofs.MadeLines.{FitsCall-line, MakesLine-spared, control-some, no_pages-no_burial}
-use Rattle.vms_replay_phase.proofs.MadeLines.{no_pages-spares}
+use Rattle.vms_replay_phase.specs.Common.{MakesLine}
+use Rattle.vms_replay_phase.proofs.MadeLines.{FitsCall-line, HaveRoomForEvents-line, MakesLine-spared}
+use Rattle.vms_replay_phase.proofs.MadeLines.{no_pages-no_burial, no_pages-spares}
 use Rattle.vms_replay_phase.proofs.lines.make_elsewhere.Goals as goal
 
 pub call_events-requires : goal.call_events-requires
@@ -42,8 +41,8 @@ returns-in-Some g c =
     (λ item of is w lanes items hs stands among may.
     let on : event_call lane item.act ≡ Some call =
     subst (λ (a : Act). event_call lane a ≡ Some call) (sym is) made in
-    let room : HaveRoomForEvents lane item.act items =
-    subst (λ (a : Act). HaveRoomForEvents lane a items) (sym is)
+    let room : HaveRoomForEvents lane call items =
+    HaveRoomForEvents-line lane act call made items
     (λ d same e. (subst (λ (l : Lane). MayFollow now.pages (map line_of items) l act) same may).1.events e) in
     c.call_events.ensures.goes_on header item of on (λ d same. no_burial d (sym is ∙ same)) w lanes items hs stands
     among room)

@@ -1,17 +1,16 @@
 -- A burial, and a call on the page counters alone.
-use Rattle.std.proofs.Common.{◌≡◌, ◌+◌, map, Option, Some, None, sym, ap, subst, ◌∙◌, arith, refl, ⊎_elim, inl, inr}
+use Rattle.std.proofs.Common.{◌≡◌, ◌+◌, map, Option, Some, None, sym, ap, subst, ◌∙◌, arith, ⊎_elim, inl, inr}
 use Rattle.vms_calls.specs.declared.page_calls.PageCall.{PageCall}
 use Rattle.vms_world.specs.Common.{line_of, Act, Lane, Control, owner_of, page_call}
 use Rattle.vms_text.specs.declared.acts.Act.TheVariants.{Dead}
 use Rattle.vms_world.proofs.PageActs.{buries-burial}
 use Rattle.vms_answers.specs.declared.answers.Answer.{Answer}
-use Rattle.vms_answers.specs.Common.{page_told}
 use Rattle.vms_file_order.specs.Common.{MayFollow}
 use Rattle.vms_plain_lines.specs.Common.{HaveRoomForPages}
 use Rattle.vms_plain_lines.proofs.LineSteps.{spares-call}
 use Rattle.vms_replay_phase.specs.Common.{MakesLine, MayMakeLine}
-use Rattle.vms_replay_phase.proofs.MadeLines.{FitsPageCall-line, MakesLine-set, SetAtMost-less, SetsEachAtMost-more}
-use Rattle.vms_replay_phase.proofs.MadeLines.{sets-answered}
+use Rattle.vms_replay_phase.proofs.MadeLines.{FitsPageCall-line, HaveRoomForPages-line, MakesLine-set, SetAtMost-less}
+use Rattle.vms_replay_phase.proofs.MadeLines.{SetsEachAtMost-more, sets-answered}
 use Rattle.vms_replay_phase.proofs.lines.make_page_call.Goals as goal
 
 pub bury-requires : goal.bury-requires
@@ -83,8 +82,8 @@ returns-in_default g c =
       goes_on = λ item of is w lanes items hs stands among may.
           let on : page_call lane item.act ≡ Some call =
           subst (λ (a : Act). page_call lane a ≡ Some call) (sym is) c.requires.makes in
-          let room : HaveRoomForPages lane item.act items =
-          subst (λ (a : Act). HaveRoomForPages lane a items) (sym is)
+          let room : HaveRoomForPages lane call items =
+          HaveRoomForPages-line lane act call c.requires.makes items
           (λ d same k. (subst (λ (l : Lane). MayFollow now.pages (map line_of items) l act) same may).1.counters k) in
           c.call_pages.ensures.goes_on item of on c.in_default.not-Bury w lanes items hs stands among room;
       sets = ⊎_elim (λ asks. inl (spares-call lane act call c.requires.makes asks)) (λ sets. inr sets)

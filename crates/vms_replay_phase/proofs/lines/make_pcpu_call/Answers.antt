@@ -9,7 +9,7 @@ pub make_pcpu_call-requires : goal.make_pcpu_call-requires
 make_pcpu_call-requires g c =
     let is : pcpu_call (Cpu c.args.cpu) c.args.act ≡ Some c.in-Some.call = sym c.in-Some.ensures in
     let may = room-for c.args.header.now c.args.cpu c.args.act c.in-Some.call is c.args.tables.now c.requires.may in
-    record { room = may.room; cpus = may.cpus; few = may.few; cpu = may.cpu; present = may.present }
+    record { room = may.room; locals = may.locals }
 
 pub returns-in-Some : goal.returns-in-Some
 returns-in-Some g c =

@@ -23,7 +23,7 @@ returns-clause-goes_on g c header item lane on no_burial =
     let call = c.args.call in
     let next : PlainStates = record inside { events = c.call.new.events } in
     let opening = c.as_slice.ensures in
-    GoesOnIf-inside header pressure normal item (HaveRoomForEvents c.args.lane item.act) inside now c.self.view_is
+    GoesOnIf-inside header pressure normal item (HaveRoomForEvents c.args.lane call) inside now c.self.view_is
     (event_told c.call.result) next
     (λ w lanes items hs stands among room.
     let makes : event_call item.lane item.act ≡ Some call =
@@ -32,8 +32,8 @@ returns-clause-goes_on g c header item lane on no_burial =
     subst (λ (l : Lane). FitsCall inside.opening (owner_of l) call inside.events) (sym lane)
     (subst (λ (s : PlainStates). FitsCall s.opening (owner_of c.args.lane) call s.events) (sym c.self.view_is)
     c.requires.fits) in
-    let room_of : HaveRoomForEvents item.lane item.act items =
-    subst (λ (l : Lane). HaveRoomForEvents l item.act items) (sym lane) room in
+    let room_of : HaveRoomForEvents item.lane call items =
+    subst (λ (l : Lane). HaveRoomForEvents l call items) (sym lane) room in
     GoesOnTelling-call pressure normal header w lanes items hs inside stands item among c.event_laws.ensures call makes
     fits room_of no_burial c.call.result next.events
     (λ f same. subst (λ (l : Lane). (steps : List EventStep) × IsEventCall f call steps c.call.result

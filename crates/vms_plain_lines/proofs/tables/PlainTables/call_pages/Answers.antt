@@ -1,6 +1,6 @@
 -- The call is that of the line, from the tables that stand.
-use Rattle.std.proofs.Common.{Option, ℕ, List, sym, subst}
-use Rattle.vms_world.specs.Common.{CpuId, State, owner_of}
+use Rattle.std.proofs.Common.{Option, sym, subst}
+use Rattle.vms_world.specs.Common.{CpuId, owner_of}
 use Rattle.vms_answers.specs.Common.{page_told}
 use Rattle.vms_plain_control.specs.PageCalls.{FitsPageCall, MakesPageCall}
 use Rattle.vms_plain_lines.specs.Common.{PlainStates, HaveRoomForPages}
@@ -26,7 +26,7 @@ returns-clause-goes_on g c item lane on no_burial =
     c.requires.fits in
     let makes = subst (λ (who : Option CpuId). MakesPageCall header pressure normal call who told inside.pages
     inside.peaks c.call.new.pages c.call.new.peaks) c.owner_of-owner.ensures c.call.ensures.makes in
-    GoesOnIf-inside header pressure normal item (HaveRoomForPages c.args.lane item.act) inside c.args.self.now
+    GoesOnIf-inside header pressure normal item (HaveRoomForPages c.args.lane call) inside c.args.self.now
     c.self.view_is (page_told told) (record inside { pages = c.call.new.pages; peaks = c.call.new.peaks })
     (GoesOnIf-pages pressure normal header c.requires.header c.args.lane call no_burial inside fits item lane on told
     c.call.new.pages c.call.new.peaks makes)
