@@ -1,7 +1,7 @@
 -- What the control lane knows of the CPUs' states: an act makes absent whom it buries and no other, whatever others do
 -- meanwhile.
 use Rattle.std.proofs.Common.{◌≡◌, ℕ, ◌+◌, ◌*◌, ◌≤◌, nat_eq, false, List, [], ◌∷◌, ◌++◌, length, refl, sym, ap, ◌∙◌}
-use Rattle.std.proofs.Common.{arith, if◌then◌else◌, subst}
+use Rattle.std.proofs.Common.{arith, if◌then◌else◌}
 use Rattle.vms_world.specs.Common.{Header, CpuId, CpuState, Absent, ZoneSize, after, facts_of, KnowsByOwnSteps, HasMade}
 use Rattle.vms_world.specs.Common.{State, Facts, Step, SetO, cpu_at, IsControl, pages, cpu_after, cpu_in, most_sets}
 use Rattle.vms_world.specs.Common.{state_past, Act, Control, PageSteps}

@@ -11,6 +11,7 @@ pub mod ControlledCpus
 pub mod LaneKinds
 pub mod MadeScripts
 pub mod ScriptTurns
+pub mod CountedLanes
 pub mod LaneActs
 pub mod FittingLanes
 pub mod FreshControl

@@ -1,57 +1,57 @@
-ghost use Rattle.std.specs.Prelude.{◌≡◌};
-ghost use Rattle.std.specs.List.{list_any};
-ghost use Rattle.vms_world.specs.Common.{is_lane};
-
+use crate::counted_lines::CountedLines;
 use std::marker::Model;
-use vms_script::{PhaseScript, is_of};
-use vms_text::{Item, Lane};
+use vms_script::PhaseScript;
+use vms_text::Lane;
 
-/// The lines of one lane among those of a phase, in the order of the text. They stay where they stand: a lane passes over
-/// the lines of others.
-#[derive(Debug, Drop)]
+/// The lines of one lane among those of a phase, in the order of the text. They stay where they stand: a lane passes
+/// over the lines of others.
+#[derive(Drop)]
 pub struct LaneLines<'a> {
     pub(crate) lane: Lane,
     pub(crate) script: &'a PhaseScript,
+    count: usize,
 }
 
 impl<'a> Model for LaneLines<'a> {
-    ghost use Rattle.std.specs.Prelude.{List};
+    ghost use Rattle.std.specs.Prelude.{◌≡◌, List, length};
     ghost use Rattle.vms_world.specs.Common.{LaneItem, lane_items};
 
     ghost Value = { List LaneItem };
 
     ghost view = { λ lines. lane_items lines.lane lines.script.now };
+
+    ghost invariant = { λ lines. lines.count ≡ length (lane_items lines.lane lines.script.now) };
 }
 
 impl<'a> LaneLines<'a> {
     ghost use Rattle.std.specs.Prelude.{◌≡◌, [], length, ◌↔◌, IsTrue};
-    ghost use Rattle.vms_world.specs.Common.{lane_items};
+    ghost use Rattle.vms_world.specs.Common.{IsPhaseScript, lane_items};
 
-    /// The lines of a lane in the script of a phase.
+    /// The lines of a lane among those of a phase, which were counted.
     #[inline]
-    pub fn of(script: &'a PhaseScript, lane: Lane) -> LaneLines<'a>
-        ensures { result ≡ lane_items lane script.now }
+    pub fn of(counted: &CountedLines<'a>, lane: Lane) -> LaneLines<'a>
+        ensures lines { result ≡ lane_items lane counted.now }
+        ensures kept { IsPhaseScript counted.now }
     {
-        LaneLines { lane, script }
+        LaneLines {
+            lane,
+            script: counted.script,
+            count: counted.count_of(lane),
+        }
     }
 
     /// How many lines the lane has.
+    #[inline]
     pub fn len(&self) -> usize
         ensures { result ≡ length self.now }
     {
-        self.script.count_of(self.lane)
+        self.count
     }
 
+    #[inline]
     pub fn is_empty(&self) -> bool
         ensures { IsTrue result ↔ (self.now ≡ []) }
     {
-        !has_line(self.script.as_slice(), self.lane)
+        self.count == 0
     }
-}
-
-/// Whether one of these lines is of this lane.
-fn has_line(items: &[Item], lane: Lane) -> bool
-    ensures { result ≡ list_any (λ item. is_lane lane item.lane) items.now }
-{
-    items.iter().any(|item| is_of(lane, item))
 }

@@ -6,11 +6,10 @@ ghost use Rattle.vms_tables.specs.Common.{AreTables, world_of};
 ghost use Rattle.vms_lane.specs.LanePasses.{AreReadyFor, HaveSpentAll, MayMakeActs, passes_in};
 ghost use Rattle.vms_lane.specs.Scripts.{MakeLines, acts_in};
 
-use crate::Gate;
 use crate::lane_lines::LaneLines;
 use crate::line_runs::run_line;
 use crate::passes::LanePasses;
-use std::alloc::Global;
+use crate::{Gate, Host};
 use std::sync::Wait;
 use vms_answers::{Answer, NumberedAnswer};
 use vms_base::{Header, Memory};
@@ -23,10 +22,8 @@ use vms_text::Lane;
 /// for all answers is reserved first: where no memory is found no step was made. It may wait for the locks of percpu
 /// counters. Before the steps of each line it calls the gate with the number of the lane's CPU, or that of the CPUs for
 /// the control lane, and the number of the line.
-pub fn run_lane<G: Gate, R: Wait, N: Rule, P: Rule>(
-    rt: &R,
-    alloc: Global,
-    gate: &G,
+pub fn run_lane<R: Wait, G: Gate, N: Rule, P: Rule>(
+    host: &Host<'_, R, G>,
     tables: &Tables,
     header: &Header,
     rules: &Rules<N, P>,
@@ -48,11 +45,11 @@ pub fn run_lane<G: Gate, R: Wait, N: Rule, P: Rule>(
 {
     let own = lines.lane;
     let number = lane_number(header, lane);
-    let mut answers = Vec::with_capacity(alloc, lines.len())?;
+    let mut answers = Vec::with_capacity(host.alloc, lines.len())?;
     for item in lines.script.as_slice() {
         if is_of(own, item) {
-            gate.at(number, item.number);
-            let answer = run_line(rt, tables, header, rules, passes, lane, item.act);
+            host.gate.at(number, item.number);
+            let answer = run_line(host.rt, tables, header, rules, passes, lane, item.act);
             note(&mut answers, item.number, answer);
         }
     }

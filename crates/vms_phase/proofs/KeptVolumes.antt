@@ -1,5 +1,5 @@
 -- Volumes that take over those of lanes, lane by lane, are in the end those that the lines of all lanes leave.
-use Rattle.std.proofs.Common.{◌≡◌, ℕ, suc, ◌+◌, ◌*◌, ◌<◌, ◌≤◌, ◌||◌, nat_eq, Bool, true, false, if◌then◌else◌, eqb-true}
+use Rattle.std.proofs.Common.{◌≡◌, ℕ, suc, ◌+◌, ◌<◌, ◌≤◌, ◌||◌, nat_eq, Bool, true, false, if◌then◌else◌, eqb-true}
 use Rattle.std.proofs.Common.{List, [], ◌∷◌, ◌++◌, length, get_or, set, map, Option, Some, None, refl, sym, ap, ◌∙◌}
 use Rattle.std.proofs.Common.{inl, inr, arith, length-set, get_or-set_same, get_or-set_other, subst}
 use Rattle.std.specs.Prelude.{All}
@@ -11,7 +11,7 @@ use Rattle.vms_world.specs.Common.{event_count, IsLaneOf, is_lane, lane_items, L
 use Rattle.vms_world.specs.Common.{spent_on_event, spent_on_pcpu, volume, Act, Item, Lane, Cpu, Control, is_among}
 use Rattle.vms_world.specs.Common.{lanes_of, event_volume_after, page_volume_after, pcpu_volume_after, volumes_after}
 use Rattle.vms_world.specs.Common.{event_volume, page_volume, pcpu_volume, volume_in}
-use Rattle.vms_base.proofs.Common.{cell-injective, cell-lt}
+use Rattle.vms_base.proofs.Common.{cell-injective}
 use Rattle.vms_tables.specs.Common.{TablePasses}
 use Rattle.vms_world.specs.declared.worlds.Volumes.{Volumes}
 use Rattle.vms_world.specs.declared.worlds.World.{World}

@@ -1,6 +1,6 @@
 -- A script that fits a start of a world leaves room in the volumes of each CPU for the lines of its lane.
-use Rattle.std.proofs.Common.{◌≡◌, ℕ, ◌+◌, ◌<◌, ◌≤◌, nat_eq, Bool, true, false, cond, List, [], ◌∷◌, length, map}
-use Rattle.std.proofs.Common.{filter, refl, ap, ◌∙◌, arith, if◌then◌else◌}
+use Rattle.std.proofs.Common.{◌≡◌, ℕ, ◌+◌, nat_eq, Bool, true, false, cond, List, [], ◌∷◌, length, map, filter, refl}
+use Rattle.std.proofs.Common.{ap, ◌∙◌, arith, if◌then◌else◌}
 use Rattle.std.proofs.lemmas.List.{length-map}
 use Rattle.vms_world.specs.Common.{Decl, Header, CpuId, IsCpu, Fits, is_lane, lane_item, lane_items, Start, line_of}
 use Rattle.vms_world.specs.Common.{by_cpu, spent_on_counter, spent_on_event, spent_on_pcpu, volume, Act, Item, Lane}

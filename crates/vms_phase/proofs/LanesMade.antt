@@ -6,10 +6,9 @@ use Rattle.std.proofs.lemmas.List.{map-append, reverse-append}
 use Rattle.std.specs.Prelude.{All}
 use Rattle.std.specs.List.Sorted.{IsStrictlyIncreasing}
 use Rattle.std.proofs.lemmas.List.Elements.{All-head, All-tail}
-use Rattle.vms_world.specs.Common.{Header, CpuId, ZoneSize, IsCpu, Event, after, own, Step, EventStep, PcpuStep}
-use Rattle.vms_world.specs.Common.{LaneItem, is_lane, lane_items, Act, Item, Lane, Cpu, EventSteps, PageSteps}
-use Rattle.vms_world.specs.Common.{PcpuSteps, HasLanes, MakesActs, acts_of, is_among, lane_at, lanes_of, TableHistories}
-use Rattle.vms_world.specs.Common.{event_facts, pcpu_facts}
+use Rattle.vms_world.specs.Common.{Header, ZoneSize, Event, after, own, Step, EventStep, PcpuStep, is_lane, lane_items}
+use Rattle.vms_world.specs.Common.{Act, Item, Lane, EventSteps, PageSteps, PcpuSteps, HasLanes, MakesActs, acts_of}
+use Rattle.vms_world.specs.Common.{is_among, lane_at, lanes_of, TableHistories, event_facts, pcpu_facts}
 use Rattle.vms_core.specs.Steps as page_steps
 use Rattle.vms_event_core.specs.Steps as event_steps
 use Rattle.vms_pcpu_core.specs.Steps as pcpu_steps
@@ -135,7 +134,8 @@ module _ (header : Header) (pressure normal : ZoneSize → ℕ → ℕ → Type 
         ≡ after p lines.steps.events (own has.first.events.seen p)) has.events.fresh.is lines.events.made.made) in
         let counters = whole-steps (λ act h steps. Unit {0}) number has.first.counters has.last.counters hs.counters
         has.counters lines.steps.counters (subst (λ (p : ℕ). own has.last.counters.seen p
-        ≡ after p lines.steps.counters (own has.first.counters.seen p)) has.counters.fresh.is lines.counters.made.made) in
+        ≡ after p lines.steps.counters (own has.first.counters.seen p)) has.counters.fresh.is
+        lines.counters.made.made) in
         let same : here ≡ then_steps lines.steps no_steps =
         LaneSteps-same here (then_steps lines.steps no_steps) (pages ∙ sym (append-nil lines.steps.pages))
         (events ∙ sym (append-nil lines.steps.events)) (counters ∙ sym (append-nil lines.steps.counters)) in

@@ -1,8 +1,6 @@
 -- What the lines of each lane answered, put into the lane's place.
-use Rattle.std.proofs.Common.{◌≡◌, ℕ, zero, suc, ◌<◌, nat_eq, Bool, true, false, List, [], ◌∷◌, ◌++◌, map, length}
-use Rattle.std.proofs.Common.{get_or, set, refl, sym, ap, subst, ◌∙◌, arith, ◌≤◌, append_assoc, append-nil}
-use Rattle.std.proofs.Common.{if◌then◌else◌, Some}
-use Rattle.std.proofs.lemmas.Bool.Decides.{nat_tests}
+use Rattle.std.proofs.Common.{◌≡◌, ℕ, zero, suc, ◌<◌, Bool, true, false, List, [], ◌∷◌, ◌++◌, map, length, get_or, set}
+use Rattle.std.proofs.Common.{refl, sym, ap, subst, ◌∙◌, arith, ◌≤◌, append_assoc, append-nil, if◌then◌else◌, Some}
 use Rattle.std.proofs.lemmas.List.{length-map, length-set, map-append, map-set}
 use Rattle.std.proofs.lemmas.List.Elements.{All-append, All-cons, All-head, All-nil, All-pop, All-tail, All-weaker}
 use Rattle.std.specs.Prelude.{All}
@@ -10,21 +8,9 @@ use Rattle.vms_world.specs.Common.{Header, Item, Lane, Cpu, Control, IsLaneOf, i
 use Rattle.vms_history.proofs.Common.{get_or-set}
 use Rattle.vms_answers.specs.Common.{NumberedAnswer, answer_of_kept, HasPlace, lane_place, told_by, told_in}
 use Rattle.vms_answers.specs.declared.lane_answers.LaneAnswers.{LaneAnswers}
+use Rattle.vms_lane.proofs.Common.{lane_place-same, place-below}
 use Rattle.vms_phase.specs.declared.lane_joins.JoinedLane.{JoinedLane}
 use Rattle.vms_phase.specs.Common.{told_of}
-
--- lanes are one exactly if their places are
-lane_place-same : (l m : Lane) → nat_eq (lane_place l) (lane_place m) ≡ is_lane l m
-lane_place-same (Cpu c) (Cpu d) = grind (arith, nat_tests)
-lane_place-same (Cpu c) Control = grind (arith, nat_tests)
-lane_place-same Control (Cpu d) = grind (arith, nat_tests)
-lane_place-same Control Control = refl
-
--- each lane of a header has its place
-pub place-below : (header : Header) (lane : Lane) (count : ℕ) → count ≡ suc header.layout.cpus → IsLaneOf header lane
-    → lane_place lane < count
-place-below header (Cpu c) count is known = omega (arith, is, known)
-place-below header Control count is known = omega (arith, is)
 
 -- a lane that has its place among so many
 pub told_by-set : (lanes : List LaneAnswers) (l lane : Lane) (answers : LaneAnswers) → lane_place l < length lanes

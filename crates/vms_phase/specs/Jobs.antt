@@ -1,6 +1,7 @@
 -- The lanes that a phase runs, each with its passes and its lines.
 use Rattle.std.specs.Prelude.{◌≡◌, ℕ, suc, ◌<◌, List, [], ◌∷◌, All, map, length, slice_index_or, Result, IfOk}
-use Rattle.vms_world.specs.Common.{Memory, Header, ZoneSize, IsActOf, lane_items, Item, Lane, Cpu, Control}
+use Rattle.vms_world.specs.Common.{Memory, Header, ZoneSize, IsActOf, Fits, lane_items, Start, Item, Lane, Cpu, Control}
+use Rattle.vms_file_order.specs.Common.{IsStartOf}
 use Rattle.vms_tables.specs.declared.tables.Tables.{Tables}
 use Rattle.vms_tables.specs.Common.{AreFrom, TablePasses, world_of}
 use Rattle.vms_world.specs.declared.worlds.World.{World}
@@ -10,6 +11,7 @@ use Rattle.vms_lane.specs.declared.passes.LanePasses.TheVariants.{Cpu as OfCpu, 
 use Rattle.vms_lane.specs.Common.{AreReadyFor, HaveSpentAll, MayMakeActs, passes_in, MakeLines, acts_in}
 use Rattle.vms_phase.specs.declared.jobs.LaneDone.{LaneDone}
 use Rattle.vms_phase.specs.declared.jobs.LaneJob.{LaneJob}
+use Rattle.vms_phase.specs.declared.plans.Plan.{Plan}
 use Rattle.vms_phase.specs.LanePasses.{AreFresh, HaveBegun, HaveVolumesOf}
 
 -- the volumes that the passes of a lane have, if it is of a CPU, are those that the CPU has in a world
@@ -64,3 +66,12 @@ pub record HaveRunJobs (header : Header) (pressure normal : ZoneSize → ℕ →
   pub one_each : length results ≡ length jobs
   pub each : (i : ℕ) (job : LaneJob) (result : Result LaneDone Memory) → i < length jobs →
       IfOk (slice_index_or results i result) (HasRunJob header pressure normal tables (slice_index_or jobs i job))
+
+-- the lines of a plan fit a start of its world
+abbrev pub MayStart : Plan → Type 0
+MayStart plan = (start : Start) × IsStartOf plan.header.now start plan.world.now × Fits plan.header.now start
+    plan.lines.now
+
+-- the main passes have begun these lanes of a plan, and these are their jobs
+abbrev pub HaveBegunOf : Plan → List Lane → TablePasses → List LaneJob → Type 0
+HaveBegunOf plan = HaveBegunJobs plan.header.now plan.tables.now plan.world.now plan.lines.now

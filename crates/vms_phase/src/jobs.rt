@@ -1,21 +1,19 @@
 ghost use Rattle.std.specs.Prelude.{◌≡◌, ◌+◌, ◌<◌, suc, IfOk, OnOk};
-ghost use Rattle.vms_file_order.specs.Common.{IsStartOf};
-ghost use Rattle.vms_world.specs.Common.{IsHeader, Fits, Start, lanes_below, lanes_of};
-ghost use Rattle.vms_phase.specs.Jobs.{HasRunJob, HaveBegunJobs, MayRunJob};
+ghost use Rattle.vms_world.specs.Common.{IsHeader, lanes_below, lanes_of};
+ghost use Rattle.vms_phase.specs.Jobs.{HasRunJob, HaveBegunOf, MayRunJob, MayStart};
 ghost use Rattle.vms_tables.specs.Common.{AreFrom, HaveSeenNothing, mains_of, AreMadeFrom, AreTables};
 
 use crate::control_passes::begin_control;
 use crate::passes::begin_cpu;
+use crate::plans::Plan;
 use std::alloc::Global;
 use std::sync::Wait;
 use vms_answers::NumberedAnswer;
 use vms_base::{CpuId, Header, Memory};
 use vms_calc::{Rule, Rules};
-use vms_lane::{Gate, LaneLines, LanePasses, run_lane};
-use vms_script::PhaseScript;
+use vms_lane::{Gate, Host, LaneLines, LanePasses, run_lane};
 use vms_tables::{MainPasses, Tables};
 use vms_text::Lane;
-use vms_world::World;
 
 /// A lane that is to run: its passes and its lines.
 #[derive(Drop)]
@@ -34,10 +32,8 @@ pub struct LaneDone {
 }
 
 /// Makes the lines of a lane, whatever the other lanes make meanwhile. It may wait for the locks of percpu counters.
-pub fn run_job<G: Gate, R: Wait, N: Rule, P: Rule>(
-    rt: &R,
-    alloc: Global,
-    gate: &G,
+pub fn run_job<R: Wait, G: Gate, N: Rule, P: Rule>(
+    host: &Host<'_, R, G>,
     tables: &Tables,
     header: &Header,
     rules: &Rules<N, P>,
@@ -54,17 +50,7 @@ pub fn run_job<G: Gate, R: Wait, N: Rule, P: Rule>(
         mut passes,
         lines,
     } = job;
-    let answers = run_lane(
-        rt,
-        alloc,
-        gate,
-        tables,
-        header,
-        rules,
-        &mut passes,
-        lane,
-        &lines,
-    )?;
+    let answers = run_lane(host, tables, header, rules, &mut passes, lane, &lines)?;
     Ok(LaneDone {
         lane,
         passes,
@@ -76,22 +62,19 @@ pub fn run_job<G: Gate, R: Wait, N: Rule, P: Rule>(
 /// ascending order, and then of the control lane. Returns the lanes with their passes and lines.
 pub fn begin_lanes<'a>(
     alloc: Global,
-    header: &Header,
-    tables: &Tables,
+    plan: &Plan<'a>,
     mains: &mut MainPasses,
-    world: &World,
-    script: &'a PhaseScript,
 ) -> Result<Vec<LaneJob<'a>>, Memory>
-    requires tables { AreTables header.now tables.now }
-    requires made { AreMadeFrom world.now tables.now }
-    requires of { AreFrom tables.now (mains_of mains.old) }
+    requires tables { AreTables plan.now.header.now plan.now.tables.now }
+    requires made { AreMadeFrom plan.now.world.now plan.now.tables.now }
+    requires of { AreFrom plan.now.tables.now (mains_of mains.old) }
     requires nothing { HaveSeenNothing (mains_of mains.old) }
-    requires start { (start : Start) × IsStartOf header.now start world.now × Fits header.now start script.now }
-    ensures { IfOk result (λ jobs. HaveBegunJobs header.now tables.now world.now script.now
-        (lanes_of header.now.layout script.now) (mains_of mains.new) jobs.items) }
+    requires start { MayStart plan.now }
+    ensures { IfOk result (λ jobs. HaveBegunOf plan.now (lanes_of plan.now.header.now.layout plan.now.lines.now)
+        (mains_of mains.new) jobs.items) }
 {
-    let mut jobs = begin_cpu_lanes(alloc, header, tables, mains, world, script)?;
-    begin_control_lane(header, tables, mains, world, script, &mut jobs)?;
+    let mut jobs = begin_cpu_lanes(alloc, plan, mains)?;
+    begin_control_lane(plan, mains, &mut jobs)?;
     Ok(jobs)
 }
 
@@ -99,24 +82,21 @@ pub fn begin_lanes<'a>(
 /// Returns the lanes with their passes and lines.
 pub fn begin_cpu_lanes<'a>(
     alloc: Global,
-    header: &Header,
-    tables: &Tables,
+    plan: &Plan<'a>,
     mains: &mut MainPasses,
-    world: &World,
-    script: &'a PhaseScript,
 ) -> Result<Vec<LaneJob<'a>>, Memory>
-    requires tables { AreTables header.now tables.now }
-    requires made { AreMadeFrom world.now tables.now }
-    requires of { AreFrom tables.now (mains_of mains.old) }
+    requires tables { AreTables plan.now.header.now plan.now.tables.now }
+    requires made { AreMadeFrom plan.now.world.now plan.now.tables.now }
+    requires of { AreFrom plan.now.tables.now (mains_of mains.old) }
     requires nothing { HaveSeenNothing (mains_of mains.old) }
-    requires start { (start : Start) × IsStartOf header.now start world.now × Fits header.now start script.now }
-    ensures { IfOk result (λ jobs. HaveBegunJobs header.now tables.now world.now script.now
-        (lanes_below header.now.layout.cpus script.now) (mains_of mains.new) jobs.items) }
+    requires start { MayStart plan.now }
+    ensures { IfOk result (λ jobs. HaveBegunOf plan.now (lanes_below plan.now.header.now.layout.cpus plan.now.lines.now)
+        (mains_of mains.new) jobs.items) }
 {
     let mut jobs = Vec::new(alloc);
-    for number in 0..header.layout.cpus() {
+    for number in 0..plan.header.layout.cpus() {
         let cpu = CpuId { number };
-        begin_next(alloc, header, tables, mains, world, script, cpu, &mut jobs)?;
+        begin_next(alloc, plan, mains, cpu, &mut jobs)?;
     }
     Ok(jobs)
 }
@@ -124,27 +104,24 @@ pub fn begin_cpu_lanes<'a>(
 /// Begins the passes of a CPU's lane, if it has lines.
 fn begin_next<'a>(
     alloc: Global,
-    header: &Header,
-    tables: &Tables,
+    plan: &Plan<'a>,
     mains: &mut MainPasses,
-    world: &World,
-    script: &'a PhaseScript,
     cpu: CpuId,
     jobs: &mut Vec<LaneJob<'a>>,
 ) -> Result<(), Memory>
-    requires tables { AreTables header.now tables.now }
-    requires made { AreMadeFrom world.now tables.now }
-    requires start { (start : Start) × IsStartOf header.now start world.now × Fits header.now start script.now }
-    requires cpu { cpu.number < header.now.layout.cpus }
-    requires below { HaveBegunJobs header.now tables.now world.now script.now (lanes_below cpu.number script.now)
-        (mains_of mains.old) jobs.old.items }
-    ensures { OnOk result (HaveBegunJobs header.now tables.now world.now script.now
-        (lanes_below (suc cpu.number) script.now) (mains_of mains.new) jobs.new.items) }
+    requires tables { AreTables plan.now.header.now plan.now.tables.now }
+    requires made { AreMadeFrom plan.now.world.now plan.now.tables.now }
+    requires start { MayStart plan.now }
+    requires cpu { cpu.number < plan.now.header.now.layout.cpus }
+    requires below { HaveBegunOf plan.now (lanes_below cpu.number plan.now.lines.now) (mains_of mains.old)
+        jobs.old.items }
+    ensures { OnOk result (HaveBegunOf plan.now (lanes_below (suc cpu.number) plan.now.lines.now)
+        (mains_of mains.new) jobs.new.items) }
 {
     let lane = Lane::Cpu(cpu);
-    let lines = LaneLines::of(script, lane);
+    let lines = LaneLines::of(plan.lines, lane);
     if !lines.is_empty() {
-        let passes = begin_cpu(alloc, header, tables, mains, world, cpu)?;
+        let passes = begin_cpu(alloc, plan.header, plan.tables, mains, plan.world, cpu)?;
         jobs.push(LaneJob {
             lane,
             passes: LanePasses::Cpu(passes),
@@ -156,24 +133,20 @@ fn begin_next<'a>(
 
 /// Begins the passes of the control lane, if it has lines.
 fn begin_control_lane<'a>(
-    header: &Header,
-    tables: &Tables,
+    plan: &Plan<'a>,
     mains: &mut MainPasses,
-    world: &World,
-    script: &'a PhaseScript,
     jobs: &mut Vec<LaneJob<'a>>,
 ) -> Result<(), Memory>
-    requires made { AreMadeFrom world.now tables.now }
-    requires start { (start : Start) × IsStartOf header.now start world.now × Fits header.now start script.now }
-    requires below { HaveBegunJobs header.now tables.now world.now script.now
-        (lanes_below header.now.layout.cpus script.now) (mains_of mains.old) jobs.old.items }
-    ensures { OnOk result (HaveBegunJobs header.now tables.now world.now script.now
-        (lanes_of header.now.layout script.now) (mains_of mains.new) jobs.new.items) }
+    requires made { AreMadeFrom plan.now.world.now plan.now.tables.now }
+    requires start { MayStart plan.now }
+    requires below { HaveBegunOf plan.now (lanes_below plan.now.header.now.layout.cpus plan.now.lines.now)
+        (mains_of mains.old) jobs.old.items }
+    ensures { OnOk result (HaveBegunOf plan.now (lanes_of plan.now.header.now.layout plan.now.lines.now)
+        (mains_of mains.new) jobs.new.items) }
 {
-    let lines = LaneLines::of(script, Lane::Control);
+    let lines = LaneLines::of(plan.lines, Lane::Control);
     if !lines.is_empty() {
-        let _ = script.as_slice();
-        let passes = begin_control(tables, mains);
+        let passes = begin_control(plan.tables, mains);
         jobs.push(LaneJob {
             lane: Lane::Control,
             passes: LanePasses::Control(passes),

@@ -9,16 +9,15 @@ use crate::control_passes::join_control;
 use crate::jobs::LaneDone;
 use crate::joins::lanes_go_in_turn;
 use crate::passes::join_cpu;
+use crate::plans::Plan;
 use crate::rules::Least;
 use std::alloc::Global;
 use vms_answers::NumberedAnswer;
-use vms_base::{CpuVolumes, Header, Memory};
+use vms_base::{CpuVolumes, Memory};
 use vms_calc::{Rule, Rules};
 use vms_lane::LanePasses;
-use vms_script::PhaseScript;
 use vms_tables::{MainPasses, Tables};
 use vms_text::Lane;
-use vms_world::World;
 
 /// A lane whose passes have ended.
 #[derive(Drop)]
@@ -34,24 +33,22 @@ pub struct JoinedLane {
 /// it is here.
 pub fn join_lanes<N: Rule, P: Rule>(
     alloc: Global,
-    header: &Header,
-    tables: &Tables,
+    plan: &Plan<'_>,
     rules: &Rules<N, P>,
     mains: &mut MainPasses,
-    world: &World,
-    script: &PhaseScript,
     results: Vec<Result<LaneDone, Memory>>,
 ) -> Result<Vec<JoinedLane>, Memory>
-    requires { HaveJoinedLanes header.now (P.answers rules.now.pressure) (N.answers rules.now.normal) tables.now
-        world.now script.now (lanes_of header.now.layout script.now) (mains_of mains.old) [] results.items }
-    ensures { IfOk result (λ joined. HaveJoinedLanes header.now (P.answers rules.now.pressure)
-        (N.answers rules.now.normal) tables.now world.now script.now (lanes_of header.now.layout script.now)
-        (mains_of mains.new) joined.items []) }
+    requires { HaveJoinedLanes plan.now.header.now (P.answers rules.now.pressure) (N.answers rules.now.normal)
+        plan.now.tables.now plan.now.world.now plan.now.lines.now
+        (lanes_of plan.now.header.now.layout plan.now.lines.now) (mains_of mains.old) [] results.items }
+    ensures { IfOk result (λ joined. HaveJoinedLanes plan.now.header.now (P.answers rules.now.pressure)
+        (N.answers rules.now.normal) plan.now.tables.now plan.now.world.now plan.now.lines.now
+        (lanes_of plan.now.header.now.layout plan.now.lines.now) (mains_of mains.new) joined.items []) }
 {
     lanes_go_in_turn::<Least>();
     let mut lanes = Vec::new(alloc);
     for result in results {
-        let joined = join_lane(tables, mains, result?);
+        let joined = join_lane(plan.tables, mains, result?);
         lanes.push(joined)?;
     }
     Ok(lanes)

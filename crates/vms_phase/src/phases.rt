@@ -16,7 +16,7 @@ use std::thread::Threads;
 use vms_answers::LaneAnswers;
 use vms_base::{Header, Memory};
 use vms_calc::{Rule, Rules};
-use vms_lane::Gate;
+use vms_lane::{Gate, Host};
 use vms_script::PhaseScript;
 use vms_world::World;
 
@@ -46,7 +46,8 @@ pub fn run_phase<G: Gate, R: Threads + Wait + Sync, N: Rule + Sync, P: Rule + Sy
     requires start { (start : Start) × IsStartOf header.now start world × Fits header.now start script.now }
     ensures phase { IfOk result (λ done. MakeInAnyOrder header.now (P.answers rules.now.pressure)
         (N.answers rules.now.normal) world script.now (histories_of done.histories)) }
-    ensures world { IfOk result (λ done. done.world ≡ left_by header.now world script.now (histories_of done.histories)) }
+    ensures world { IfOk result (λ done. done.world
+        ≡ left_by header.now world script.now (histories_of done.histories)) }
     ensures answers { IfOk result (λ done. answers_of header.now world script.now (histories_of done.histories)
         ≡ merged script.now (told_by done.lanes.items)) }
     ensures places { IfOk result (λ done. All (λ item. HasPlace done.lanes.items item.lane) script.now) }
@@ -54,8 +55,9 @@ pub fn run_phase<G: Gate, R: Threads + Wait + Sync, N: Rule + Sync, P: Rule + Sy
     lanes_make_phases_by(rules);
     fitting_lanes_make_phases::<Least>();
     let mut world = world;
+    let host = Host { rt, alloc, gate };
     let MadePhase { lanes, histories } = make_side_by_side(
-        rt, alloc, gate, header, rules, &mut world, script,
+        &host, header, rules, &mut world, script,
     )?;
     let lanes = place_answers(alloc, header, lanes)?;
     Ok(PhaseDone {

@@ -13,24 +13,22 @@ ghost use Rattle.vms_world.specs.declared.worlds.World.{World as WorldOf};
 use crate::jobs::begin_lanes;
 use crate::joins::lanes_go_in_turn;
 use crate::lane_joins::{JoinedLane, join_lanes};
+use crate::plans::Plan;
 use crate::rules::Least;
 use crate::threads::run_jobs;
-use std::alloc::Global;
 use std::sync::Wait;
 use std::thread::Threads;
 use vms_base::{Header, Memory};
 use vms_calc::{Rule, Rules};
-use vms_lane::Gate;
+use vms_lane::{CountedLines, Gate, Host};
 use vms_script::PhaseScript;
 use vms_tables::{MainPasses, Tables};
 use vms_world::World;
 
 /// Makes the lines of a phase, each lane on a thread of its own, from tables in which nothing was made yet. Returns the
 /// lanes that have lines, once their passes have ended: those of CPUs in ascending order, and then the control lane.
-pub fn run_lanes<G: Gate, R: Threads + Wait + Sync, N: Rule + Sync, P: Rule + Sync>(
-    rt: &R,
-    alloc: Global,
-    gate: &G,
+pub fn run_lanes<R: Threads + Wait + Sync, G: Gate, N: Rule + Sync, P: Rule + Sync>(
+    host: &Host<'_, R, G>,
     header: &Header,
     tables: &Tables,
     rules: &Rules<N, P>,
@@ -49,9 +47,16 @@ pub fn run_lanes<G: Gate, R: Threads + Wait + Sync, N: Rule + Sync, P: Rule + Sy
         (mains_of mains.new) joined.items []) }
 {
     lanes_go_in_turn::<Least>();
-    let jobs = begin_lanes(alloc, header, tables, mains, world, script)?;
-    let results = run_jobs(rt, alloc, gate, tables, header, rules, jobs)?;
-    join_lanes(alloc, header, tables, rules, mains, world, script, results)
+    let lines = CountedLines::of(host.alloc, header, script)?;
+    let plan = Plan {
+        header,
+        tables,
+        world,
+        lines: &lines,
+    };
+    let jobs = begin_lanes(host.alloc, &plan, mains)?;
+    let results = run_jobs(host, tables, header, rules, jobs)?;
+    join_lanes(host.alloc, &plan, rules, mains, results)
 }
 
 /// Where the main passes have ended all lanes that have lines, what they have seen was made by these lanes, which were

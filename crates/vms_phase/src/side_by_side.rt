@@ -14,12 +14,11 @@ use crate::rule_laws::lanes_make_phases_by;
 use crate::rules::Least;
 use crate::runs::{joined_lanes_are_made, run_lanes};
 use crate::volumes::keep_volumes;
-use std::alloc::Global;
 use std::sync::Wait;
 use std::thread::Threads;
 use vms_base::{Header, Memory};
 use vms_calc::{Rule, Rules};
-use vms_lane::Gate;
+use vms_lane::{Gate, Host};
 use vms_script::PhaseScript;
 use vms_tables::{MainPasses, Tables};
 use vms_world::World;
@@ -27,17 +26,16 @@ use vms_world::World;
 /// What the lanes of a phase have made.
 #[derive(Drop)]
 pub struct MadePhase {
-    /// The lanes that have lines, with what these answered: those of CPUs in ascending order, and then the control lane.
+    /// The lanes that have lines, with what these answered: those of CPUs in ascending order, and then the control
+    /// lane.
     pub lanes: Vec<JoinedLane>,
     pub histories: ClosedHistories,
 }
 
 /// Makes the lines of a phase from a world, each lane on a thread of its own, and writes into the world how the tables
 /// and the volumes stand then. Where no memory is found the world stays.
-pub fn make_side_by_side<G: Gate, R: Threads + Wait + Sync, N: Rule + Sync, P: Rule + Sync>(
-    rt: &R,
-    alloc: Global,
-    gate: &G,
+pub fn make_side_by_side<R: Threads + Wait + Sync, G: Gate, N: Rule + Sync, P: Rule + Sync>(
+    host: &Host<'_, R, G>,
     header: &Header,
     rules: &Rules<N, P>,
     world: &mut World,
@@ -61,16 +59,14 @@ pub fn make_side_by_side<G: Gate, R: Threads + Wait + Sync, N: Rule + Sync, P: R
     ensures err { OnErr result (world.new ≡ world.old) }
 {
     lanes_make_phases_by(rules);
-    let (tables, mains) = Tables::make(alloc, header, world)?;
-    let made = run_and_close(rt, alloc, gate, header, rules, tables, mains, world, script)?;
+    let (tables, mains) = Tables::make(host.alloc, header, world)?;
+    let made = run_and_close(host, header, rules, tables, mains, world, script)?;
     Ok(made)
 }
 
 /// The same from the tables of the world, in which nothing was made yet.
-fn run_and_close<G: Gate, R: Threads + Wait + Sync, N: Rule + Sync, P: Rule + Sync>(
-    rt: &R,
-    alloc: Global,
-    gate: &G,
+fn run_and_close<R: Threads + Wait + Sync, G: Gate, N: Rule + Sync, P: Rule + Sync>(
+    host: &Host<'_, R, G>,
     header: &Header,
     rules: &Rules<N, P>,
     tables: Tables,
@@ -97,9 +93,7 @@ fn run_and_close<G: Gate, R: Threads + Wait + Sync, N: Rule + Sync, P: Rule + Sy
 {
     joined_lanes_are_made(rules);
     fitting_lanes_have_ended::<Least>();
-    let lanes = run_lanes(
-        rt, alloc, gate, header, &tables, rules, &mut mains, world, script,
-    )?;
+    let lanes = run_lanes(host, header, &tables, rules, &mut mains, world, script)?;
     let histories = close(tables, mains, world);
     histories.are_complete();
     keep_volumes(header, &mut world.volumes, lanes.as_slice());

@@ -4,20 +4,17 @@ ghost use Rattle.vms_phase.specs.Jobs.{HasRunJob, HaveRunJobs, MayRunJob};
 ghost use Rattle.vms_tables.specs.Common.{AreTables};
 
 use crate::jobs::{LaneDone, LaneJob, run_job};
-use std::alloc::Global;
 use std::sync::Wait;
 use std::thread;
 use std::thread::Threads;
 use vms_base::{Header, Memory};
 use vms_calc::{Rule, Rules};
-use vms_lane::Gate;
+use vms_lane::{Gate, Host};
 use vms_tables::Tables;
 
 /// Lets a thread for each job make its lines. Returns once all have, with the results in the order of the jobs.
-pub fn run_jobs<G: Gate, R: Threads + Wait + Sync, N: Rule + Sync, P: Rule + Sync>(
-    rt: &R,
-    alloc: Global,
-    gate: &G,
+pub fn run_jobs<R: Threads + Wait + Sync, G: Gate, N: Rule + Sync, P: Rule + Sync>(
+    host: &Host<'_, R, G>,
     tables: &Tables,
     header: &Header,
     rules: &Rules<N, P>,
@@ -30,13 +27,13 @@ pub fn run_jobs<G: Gate, R: Threads + Wait + Sync, N: Rule + Sync, P: Rule + Syn
         (N.answers rules.now.normal) tables.now jobs.entry.items results.items) }
 {
     let results = thread::map_vec(
-        rt,
+        host.rt,
         jobs,
         &|job: LaneJob<'_>| -> Result<LaneDone, Memory>
             requires { IsHeader header.now × AreTables header.now tables.now × MayRunJob header.now tables.now job }
             ensures { IfOk result (HasRunJob header.entry.now (P.answers rules.entry.now.pressure)
                 (N.answers rules.entry.now.normal) tables.entry.now job.entry) }
-        { run_job(rt, alloc, gate, tables, header, rules, job) },
+        { run_job(host, tables, header, rules, job) },
     )?;
     Ok(results)
 }

@@ -12,25 +12,27 @@ use Rattle.vms_phase.proofs.jobs.begin_control_lane.Goals as goal
 
 pub begin_control-passes-requires-clause-apart : goal.begin_control-passes-requires-clause-apart
 begin_control-passes-requires-clause-apart c =
-    let header = c.args.header.now in
-    let items = c.args.script.now in
+    let plan = c.args.plan.now in
+    let header = plan.header.now in
+    let items = plan.lines.now in
     let some : 0 < length (lane_items Control items) = some-lines (lane_items Control items) c.of-lines.result
-    c.is_empty.result c.of-lines.ensures c.is_empty.ensures c.if-not-is_empty.true in
-    let apart = control-apart header c.args.tables.now c.args.world.now items some in
+    c.is_empty.result c.of-lines.ensures.lines c.is_empty.ensures c.if-not-is_empty.true in
+    let apart = control-apart header plan.tables.now plan.world.now items some in
     (lanes_below header.layout.cpus items, c.requires.below.begun, apart.0, apart.1)
 
 pub returns-in_ok-push : goal.returns-in_ok-push
 returns-in_ok-push c =
-    let header = c.args.header.now in
-    let tables = c.args.tables.now in
-    let w = c.args.world.now in
-    let items = c.args.script.now in
+    let plan = c.args.plan.now in
+    let header = plan.header.now in
+    let tables = plan.tables.now in
+    let w = plan.world.now in
+    let items = plan.lines.now in
     let some : 0 < length (lane_items Control items) = some-lines (lane_items Control items) c.of-lines.result
-    c.is_empty.result c.of-lines.ensures c.is_empty.ensures c.if-not-is_empty.true in
+    c.is_empty.result c.of-lines.ensures.lines c.is_empty.ensures c.if-not-is_empty.true in
     let lanes = lanes_below header.layout.cpus items in
     let new = mains_of c.begin_control-passes.new.mains in
-    let kept : IsLaneScript (lane_items Control items) = IsLaneScript-of Control items c.as_slice.ensures.kept in
-    let few : length c.of-lines.result ≤ 1000000 = omega (arith, kept.few, ap length c.of-lines.ensures) in
+    let kept : IsLaneScript (lane_items Control items) = IsLaneScript-of Control items c.of-lines.ensures.kept in
+    let few : length c.of-lines.result ≤ 1000000 = omega (arith, kept.few, ap length c.of-lines.ensures.lines) in
     let start = c.requires.start in
     let job : LaneJob =
     record { lane = Control; passes = OfControl c.begin_control-passes.result; lines = c.of-lines.result } in
@@ -40,14 +42,15 @@ returns-in_ok-push c =
     (control-more header tables w items some)
     (HaveBegunJobs-control header tables w items c.requires.made start.0 start.1 start.2 lanes
     (mains_of c.args.mains.now) c.args.jobs.now.items c.requires.below new c.begin_control-passes.result
-    c.begin_control-passes.ensures.begun c.of-lines.result c.of-lines.ensures (control-once header tables w items some)
-    few
+    c.begin_control-passes.ensures.begun c.of-lines.result c.of-lines.ensures.lines
+    (control-once header tables w items some) few
     (record { of = c.begin_control-passes.ensures.of; nothing = c.begin_control-passes.ensures.nothing })))
 
 pub returns-else-not-is_empty : goal.returns-else-not-is_empty
 returns-else-not-is_empty c =
-    let none : length (lane_items Control c.args.script.now) ≤ 0 =
-    no-lines (lane_items Control c.args.script.now) c.of-lines.result c.is_empty.result c.of-lines.ensures
+    let plan = c.args.plan.now in
+    let none : length (lane_items Control plan.lines.now) ≤ 0 =
+    no-lines (lane_items Control plan.lines.now) c.of-lines.result c.is_empty.result c.of-lines.ensures.lines
     c.is_empty.ensures c.if-not-is_empty.false in
-    control-skip c.args.header.now c.args.tables.now c.args.world.now c.args.script.now (mains_of c.args.mains.now)
+    control-skip plan.header.now plan.tables.now plan.world.now plan.lines.now (mains_of c.args.mains.now)
     c.args.jobs.now.items c.requires.below none

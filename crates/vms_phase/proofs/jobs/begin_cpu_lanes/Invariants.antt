@@ -6,4 +6,5 @@ use Rattle.vms_phase.proofs.jobs.begin_cpu_lanes.Given as goal
 
 abbrev pub invariant-loop-number : goal.invariant-loop-number
 invariant-loop-number l =
-    HaveBegunJobs l.header l.tables l.world l.script (lanes_below l.number l.script) (mains_of l.mains) l.jobs.items
+    HaveBegunJobs l.plan.header.now l.plan.tables.now l.plan.world.now l.plan.lines.now
+    (lanes_below l.number l.plan.lines.now) (mains_of l.mains) l.jobs.items

@@ -12,24 +12,26 @@ use Rattle.vms_phase.proofs.jobs.begin_next.Goals as goal
 
 pub begin_cpu-requires-clause-may : goal.begin_cpu-requires-clause-may
 begin_cpu-requires-clause-may c =
-    let some : 0 < length (lane_items (Cpu c.args.cpu) c.args.script.now) =
-    some-lines (lane_items (Cpu c.args.cpu) c.args.script.now) c.of-lines.result c.is_empty.result c.of-lines.ensures
+    let plan = c.args.plan.now in
+    let some : 0 < length (lane_items (Cpu c.args.cpu) plan.lines.now) =
+    some-lines (lane_items (Cpu c.args.cpu) plan.lines.now) c.of-lines.result c.is_empty.result c.of-lines.ensures.lines
     c.is_empty.ensures c.if-not-is_empty.true in
     let start = c.requires.start in (
-      lanes_below c.args.cpu.number c.args.script.now,
-      MayBeginLane-next c.args.header.now c.args.tables.now c.args.world.now c.args.script.now c.args.cpu
+      lanes_below c.args.cpu.number plan.lines.now,
+      MayBeginLane-next plan.header.now plan.tables.now plan.world.now plan.lines.now c.args.cpu
           (mains_of c.args.mains.now) c.args.jobs.now.items c.requires.below some c.requires.made start.0 start.1
           start.2 c.requires.cpu,
     )
 
 pub returns-in_ok-push : goal.returns-in_ok-push
 returns-in_ok-push c =
-    let header = c.args.header.now in
-    let tables = c.args.tables.now in
-    let w = c.args.world.now in
-    let items = c.args.script.now in
+    let plan = c.args.plan.now in
+    let header = plan.header.now in
+    let tables = plan.tables.now in
+    let w = plan.world.now in
+    let items = plan.lines.now in
     let some : 0 < length (lane_items (Cpu c.args.cpu) items) =
-    some-lines (lane_items (Cpu c.args.cpu) items) c.of-lines.result c.is_empty.result c.of-lines.ensures
+    some-lines (lane_items (Cpu c.args.cpu) items) c.of-lines.result c.is_empty.result c.of-lines.ensures.lines
     c.is_empty.ensures c.if-not-is_empty.true in
     let lanes = lanes_below c.args.cpu.number items in
     let mains = mains_of c.args.mains.now in
@@ -39,7 +41,7 @@ returns-in_ok-push c =
     let start = c.requires.start in
     let is : IsJob header tables w items (suc (length lanes)) (Cpu c.args.cpu) job = record {
       is = refl;
-      lines = c.of-lines.ensures;
+      lines = c.of-lines.ensures.lines;
       fresh = AreFresh-next header tables w items lanes mains c.args.jobs.now.items c.requires.below (Cpu c.args.cpu)
           new job c.in_ok-passes.ensures.begun;
       ready = c.in_ok-passes.ensures.ready;
@@ -56,8 +58,9 @@ returns-in_ok-push c =
 
 pub returns-else-not-is_empty : goal.returns-else-not-is_empty
 returns-else-not-is_empty c =
-    let none : length (lane_items (Cpu c.args.cpu) c.args.script.now) ≤ 0 =
-    no-lines (lane_items (Cpu c.args.cpu) c.args.script.now) c.of-lines.result c.is_empty.result c.of-lines.ensures
+    let plan = c.args.plan.now in
+    let none : length (lane_items (Cpu c.args.cpu) plan.lines.now) ≤ 0 =
+    no-lines (lane_items (Cpu c.args.cpu) plan.lines.now) c.of-lines.result c.is_empty.result c.of-lines.ensures.lines
     c.is_empty.ensures c.if-not-is_empty.false in
-    HaveBegunBelow-skip c.args.header.now c.args.tables.now c.args.world.now c.args.script.now c.args.cpu
+    HaveBegunBelow-skip plan.header.now plan.tables.now plan.world.now plan.lines.now c.args.cpu
     (mains_of c.args.mains.now) c.args.jobs.now.items c.requires.below none

@@ -12,12 +12,12 @@ use Rattle.vms_phase.proofs.lane_joins.join_lanes.Goals as goal
 
 pub join_lane-joined-requires-clause-ready : goal.join_lane-joined-requires-clause-ready
 join_lane-joined-requires-clause-ready g c =
-    let header = c.args.header.now in
+    let header = c.args.plan.now.header.now in
     let pressure = g.P.Rule.answers c.args.rules.now.pressure in
     let normal = g.N.Rule.answers c.args.rules.now.normal in
-    let tables = c.args.tables.now in
-    let w = c.args.world.now in
-    let items = c.args.script.now in
+    let tables = c.args.plan.now.tables.now in
+    let w = c.args.plan.now.world.now in
+    let items = c.args.plan.now.lines.now in
     let lanes = lanes_of header.layout items in
     let old = mains_of c.loop-result.mains in
     let joined = c.loop-result.lanes.items in
@@ -31,12 +31,12 @@ join_lane-joined-requires-clause-ready g c =
 
 pub loop-result-preserved : goal.loop-result-preserved
 loop-result-preserved g c =
-    let header = c.args.header.now in
+    let header = c.args.plan.now.header.now in
     let pressure = g.P.Rule.answers c.args.rules.now.pressure in
     let normal = g.N.Rule.answers c.args.rules.now.normal in
-    let tables = c.args.tables.now in
-    let w = c.args.world.now in
-    let items = c.args.script.now in
+    let tables = c.args.plan.now.tables.now in
+    let w = c.args.plan.now.world.now in
+    let items = c.args.plan.now.lines.now in
     let lanes = lanes_of header.layout items in
     let old = mains_of c.loop-result.mains in
     let new = mains_of c.join_lane-joined.new.mains in

@@ -1,15 +1,35 @@
 -- All lanes have begun, none has ended, and each result is of its lane.
+use Rattle.std.proofs.Common.{List, [], subst, sym}
+use Rattle.std.specs.Prelude.{IfOk}
+use Rattle.std.proofs.lemmas.List.Elements.{All-weaker}
 use Rattle.vms_tables.specs.Common.{mains_of}
-use Rattle.vms_world.specs.Common.{lanes_of}
+use Rattle.vms_world.specs.Common.{Fits, IsLaneOf, IsLineOf, Item, Start, lanes_of, line_of}
+use Rattle.vms_file_order.specs.Common.{IsStartOf}
+use Rattle.vms_phase.specs.Common.{HaveJoinedLanes}
 use Rattle.vms_phase.proofs.JoinedLanes.{HaveJoinedLanes-none, HaveRunLanes-jobs}
 use Rattle.vms_phase.proofs.runs.run_lanes.Goals as goal
+
+pub of-requires : goal.of-requires
+of-requires g c =
+    let header = c.args.header.now in
+    record {
+      lanes = All-weaker (λ (item : Item). IsLineOf header (line_of item)) (λ (item : Item). IsLaneOf header item.lane)
+          (λ item is. is.0) c.args.script.now c.requires.start.2.known;
+    }
+
+pub begin_lanes-requires-clause-start : goal.begin_lanes-requires-clause-start
+begin_lanes-requires-clause-start g c =
+    let header = c.args.header.now in
+    let w = c.args.world.now in
+    subst (λ (items : List Item). (start : Start) × IsStartOf header start w × Fits header start items)
+    (sym c.in_ok-lines.ensures) c.requires.start
 
 pub join_lanes-requires : goal.join_lanes-requires
 join_lanes-requires g c =
     let header = c.args.header.now in
     let tables = c.args.tables.now in
     let w = c.args.world.now in
-    let items = c.args.script.now in
+    let items = c.in_ok-lines.lines in
     let pressure = g.P.Rule.answers c.args.rules.now.pressure in
     let normal = g.N.Rule.answers c.args.rules.now.normal in
     let lanes = lanes_of header.layout items in
@@ -19,3 +39,12 @@ join_lanes-requires g c =
     (c.lanes_go_in_turn.ensures.none lanes mains begun.begun)
     (HaveRunLanes-jobs header pressure normal tables w items c.requires.made 1 lanes c.in_ok-jobs.jobs.items
     c.in_ok-results.results.items begun.each c.in_ok-results.ensures)
+
+pub returns : goal.returns
+returns g c =
+    let header = c.args.header.now in
+    let pressure = g.P.Rule.answers c.args.rules.now.pressure in
+    let normal = g.N.Rule.answers c.args.rules.now.normal in
+    subst (λ (items : List Item). IfOk c.join_lanes.result (λ joined. HaveJoinedLanes header pressure normal
+    c.args.tables.now c.args.world.now items (lanes_of header.layout items) (mains_of c.join_lanes.new.mains)
+    joined.items [])) c.in_ok-lines.ensures c.join_lanes.ensures

@@ -1,5 +1,5 @@
 -- A CPU's volumes stand in the row of all.
-use Rattle.std.proofs.Common.{◌*◌, length, ap, subst, sym, ◌∙◌, Some}
+use Rattle.std.proofs.Common.{◌*◌, length, ap, subst, sym, ◌∙◌}
 use Rattle.vms_world.specs.Common.{Cpu}
 use Rattle.vms_phase.specs.Common.{HasOwn}
 use Rattle.vms_phase.proofs.FirstVolumes.{row-within}

@@ -1,5 +1,5 @@
 -- Each volume in turn is set.
-use Rattle.std.proofs.Common.{◌+◌, ◌*◌, List, arith, set, subst, sym}
+use Rattle.std.proofs.Common.{◌+◌, ◌*◌, arith, subst, sym}
 use Rattle.vms_phase.proofs.KeptVolumes.{HasRow, HasRow-more, HasRow-none}
 use Rattle.vms_phase.proofs.volumes.keep_row.Goals as goal
 
