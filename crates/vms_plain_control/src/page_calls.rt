@@ -49,7 +49,11 @@ pub fn call<N: Rule, P: Rule>(
             PageAnswer::Tested(watermark_test(pages, header, zone, mark, most))
         }
         PageCall::Value(counter) => PageAnswer::Value(place_value(pages, counter)),
-        PageCall::Snapshot(counter) => PageAnswer::Snapshot(snapshot(pages, &header.layout, counter)),
+        PageCall::Snapshot(counter) => PageAnswer::Snapshot(snapshot(
+            pages,
+            &header.layout,
+            counter,
+        )),
         PageCall::System(item) => PageAnswer::System(system_value(pages, item)),
         PageCall::SetPressure(node) => {
             set_pressure(pages, peaks, header, rules, node);

@@ -158,11 +158,18 @@ FitsPageCall-line header valid lane act now may call on =
     by l (Val k) lane_is is follows = is.0
     by l (Snap k) lane_is is follows = is.0
     by l (Sys i) lane_is is follows = IsItem-known header i.number valid is
-    by (Cpu c) (Mod k pages) lane_is is follows = (c, refl, lane_is, follows.0, is.1.0, omega (
-      arith,
-      own-size k.number (unsigned_abs pages),
-      follows.1.counters k.number,
-    ))
+    by (Cpu c) (Mod k pages) lane_is is follows = (
+      c,
+      refl,
+      lane_is,
+      follows.0,
+      is.1.0,
+      omega (
+        arith,
+        own-size k.number (unsigned_abs pages),
+        follows.1.counters k.number,
+      ),
+    )
     by (Cpu c) (Inc k) lane_is is follows = (c, refl, lane_is, follows.0, is.1.0, omega arith)
     by (Cpu c) (Dec k) lane_is is follows = (c, refl, lane_is, follows.0, is.1.0, omega arith)
     by Control (Pressure n) lane_is is follows = (refl, is.1)
