@@ -31,7 +31,8 @@ abbrev pub own_of : OwningPass → List (Event Step)
 own_of pass = own pass.pass.seen pass.pass.number
 
 -- what the pass found last in the counter's group, and loaded last of its place; it carries nothing
-pub record HasLooked (shape : Shape) (target : Target) (values : List ℤ) (t : ℕ) (mine : List (Event Step)) : Type 0 where
+pub record HasLooked (shape : Shape) (target : Target) (values : List ℤ) (t : ℕ) (mine : List (Event Step))
+    : Type 0 where
   pub as_found : found target.cpu (group_of target.counter.number) mine ≡ Some values
   pub number : ℕ
   pub as_loaded : loaded (place_of shape target.counter.number) mine ≡ Some (record { t = t; number = number })

@@ -28,7 +28,8 @@ begun-unused new old pass cpu least next begun unused later within = record {
         let d : CpuId = record { number = c } in
         let free = owns_below-free role least old.seen d unused.owners (omega (arith, later, past)) in
         let stands = (cpu-stands old.facts begun.made.before old.seen
-        (record { legal = legal_before; extends = begun.made.extends; own_same = begun.made.own_same }) d free).volumes k in
+        (record { legal = legal_before; extends = begun.made.extends; own_same = begun.made.own_same })
+        d free).volumes k in
         let split =
         split-spends_nothing (owner_in role begun.made.before 0) (Some cpu) (next_number pages old.seen) c k in
         ap (λ g. spent g c k) begun.made.newest

@@ -22,7 +22,8 @@ dead-first facts c (e ∷ h) dead = dead-first facts c h (was e.step dead)
 pub absent-later : (facts : Facts) (c : ℕ) (more h : History) → cpu_in facts c h ≡ Absent
     → cpu_in facts c (more ++ h) ≡ Absent
 absent-later facts c [] h absent = absent
-absent-later facts c (e ∷ more) h absent = still e.step (cpu_in facts c (more ++ h)) (absent-later facts c more h absent)
+absent-later facts c (e ∷ more) h absent = still e.step (cpu_in facts c (more ++ h))
+    (absent-later facts c more h absent)
   where
     at : (b : Bool) (before : CpuState) → before ≡ Absent → (if b then Absent else before) ≡ Absent
     at true before is = refl

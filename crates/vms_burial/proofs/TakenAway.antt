@@ -19,9 +19,11 @@ use Rattle.vms_burial.proofs.StillSettings.{SetsNothing, StandStill, folds-set_n
 largest_below-same : (f g : ℕ → ℕ) (n : ℕ) → ((i : ℕ) → i < n → f i ≡ g i) → largest_below f n ≡ largest_below g n
 largest_below-same f g n same =
     let most =
-    largest_below-most f n (largest_below g n) (λ i below. omega (arith, same i below, largest_below-least g n i below)) in
+    largest_below-most f n (largest_below g n)
+    (λ i below. omega (arith, same i below, largest_below-least g n i below)) in
     let least =
-    largest_below-most g n (largest_below f n) (λ i below. omega (arith, same i below, largest_below-least f n i below)) in
+    largest_below-most g n (largest_below f n)
+    (λ i below. omega (arith, same i below, largest_below-least f n i below)) in
     omega (arith, most, least)
 
 -- the largest number of sets is what it was

@@ -25,8 +25,8 @@ pub record FoldsDeadLocals (facts : PcpuFacts) (new old : Pass PcpuFacts PcpuSte
   pub folds : IsFoldDead cpu (counters_of facts.base) steps
   pub made : Made percpu new old steps
 
--- the CPU is absent, and all that it had moved once, whoever else folded it: its differentials, its events and its local
--- parts, of which none is left
+-- the CPU is absent, and all that it had moved once, whoever else folded it: its differentials, its events and its
+-- local parts, of which none is left
 pub record IsBuried (passes : ControlPasses) (cpu : CpuId) : Type 0 where
   pub absent : cpu_at (state_after passes.page.facts passes.page.seen) cpu.number ≡ Absent
   pub none_left : (k : ℕ) → IsCounter passes.page.facts.layout k →

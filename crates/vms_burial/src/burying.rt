@@ -53,9 +53,9 @@ fn take_away<R: Wait>(rt: &R, tables: &Tables, passes: &mut ControlPasses, cpu: 
 }
 
 /// Buries a dead CPU (`page_alloc_cpu_dead` of mm/page_alloc.c and `percpu_counter_cpu_dead` of lib/percpu_counter.c):
-/// its differentials, its events and its local parts move, it becomes absent, and then the thresholds are refreshed. The
-/// call waits for the locks of the percpu counters alone. When it returns all that the CPU had has moved once, whoever
-/// else folded it. Linux folds the events first.
+/// its differentials, its events and its local parts move, it becomes absent, and then the thresholds are refreshed.
+/// The call waits for the locks of the percpu counters alone. When it returns all that the CPU had has moved once,
+/// whoever else folded it. Linux folds the events first.
 pub fn bury<R: Wait, N: Rule, P: Rule>(
     rt: &R,
     tables: &Tables,

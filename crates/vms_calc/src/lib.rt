@@ -1,6 +1,6 @@
-//! The kernel's formulas for thresholds, drift marks, watermarks and reserves, in pages of 4096 bytes, and what tests of
-//! zones take from a header, each proved to equal its definition; and rules that are stored with the fact that they tell
-//! thresholds.
+//! The kernel's formulas for thresholds, drift marks, watermarks and reserves, in pages of 4096 bytes, and what tests
+//! of zones take from a header, each proved to equal its definition; and rules that are stored with the fact that they
+//! tell thresholds.
 #![tactic(auto)]
 
 mod areas;

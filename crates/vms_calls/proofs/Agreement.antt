@@ -1,5 +1,5 @@
--- What a pass made while others acted agrees with the same steps in a row: in what it may go by, the two histories are
--- the same.
+-- For other crates too: what a pass made while others acted agrees with the same steps in a row. In what it may go by,
+-- the two histories are the same.
 use Rattle.std.proofs.Common.{◌≡◌, ◌≢◌, ℕ, ◌+◌, ◌≤◌, true, List, [], ◌∷◌, ◌++◌, Some, None, refl, sym, ap, ◌∙◌, subst}
 use Rattle.std.proofs.Common.{arith, append_assoc}
 use Rattle.std.proofs.lemmas.List.{append-nil}

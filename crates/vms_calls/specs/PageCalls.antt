@@ -1,5 +1,5 @@
--- What is to be said of each call on the page counters: the steps that it makes with its answer, what it spends, where it
--- may be made, and how its steps tell the answer.
+-- What is to be said of each call on the page counters: the steps that it makes with its answer, what it spends, where
+-- it may be made, and how its steps tell the answer.
 use Rattle.std.specs.Prelude.{◌≡◌, ℕ, nat_eq, Bool, true, false, pos, ◌+ℤ◌, List, ◌++◌, if◌then◌else◌, Option, Some}
 use Rattle.std.specs.Prelude.{None, unsigned_abs}
 use Rattle.vms_history.specs.Common.{Header, CpuId, Dead, ZoneSize, IsHeader, Shape, IsCounter, IsCpu, IsItem, IsLayout}
@@ -32,8 +32,8 @@ abbrev pub owns_cpu : Option CpuId → CpuId → Bool
 owns_cpu (Some d) c = nat_eq d.number c.number
 owns_cpu None c = false
 
--- the steps of a call by pass p, which owns a CPU or none, where the call begins in history h of a phase from this state,
--- and what the call answers
+-- the steps of a call by pass p, which owns a CPU or none, where the call begins in history h of a phase from this
+-- state, and what the call answers
 abbrev pub IsPageCall : Header → State → (pressure normal : ZoneSize → ℕ → ℕ → Type 0) → PageCall → Option CpuId → ℕ
     → History → List Step → PageAnswer → Type 0
 IsPageCall header base pressure normal (Change k delta how) (Some own) p h steps answer.Done =
@@ -136,8 +136,8 @@ asks_rules (Bury c) = true
 asks_rules (Turn n order most) = true
 asks_rules _ = false
 
--- the steps of a call tell its answer, and where they end among further steps; those of one that asks a rule do so where a
--- pass has made them
+-- the steps of a call tell its answer, and where they end among further steps; those of one that asks a rule do so
+-- where a pass has made them
 abbrev pub TellsPageCall : (pressure normal : ZoneSize → ℕ → ℕ → Type 0) → Type 0
 TellsPageCall pressure normal = (header : Header) (base : State) (call : PageCall) (owner : Option CpuId) (p : ℕ)
     (later h : History) (steps : List Step) (answer : PageAnswer) →

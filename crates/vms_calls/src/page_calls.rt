@@ -4,8 +4,8 @@ ghost use Rattle.vms_calls.specs.PageCalls.{MakesPageCalls, PageCallsSpend, Tell
 use crate::{Balance, ThresholdRules, Verdict};
 use vms_base::{CounterId, CpuId, ItemId, Mode, PlaceId, WaterMark};
 
-/// A call on the page counters. A change is made by a pass that owns a CPU. The calls that set thresholds, a burial and a
-/// turn of kswapd are made by the control pass, and the others by every pass.
+/// A call on the page counters. A change is made by a pass that owns a CPU. The calls that set thresholds, a burial and
+/// a turn of kswapd are made by the control pass, and the others by every pass.
 #[derive(Clone, Copy, Debug, PartialEq, Eq)]
 pub enum PageCall {
     /// Changes a counter of the own CPU by so many pages (`mod_zone_state`, `inc_zone_state` and `dec_zone_state` of

@@ -163,7 +163,8 @@ module _ (facts : Facts) (old : OwningPass) (same : old.pass.facts ≡ facts) (c
     won-carries = subst (λ z. CarriesFor facts.layout k.number z (own new.pass.seen new.pass.number)) (sym put.carries)
         (carries-put facts.layout new.pass looked.pass k w t delta how put.made nothing_then)
 
-    pub won-grown : new.volume ≡ slice_set old.volume k.number (slice_index_or old.volume k.number 0 + unsigned_abs delta)
+    pub won-grown : new.volume ≡ slice_set old.volume k.number
+        (slice_index_or old.volume k.number 0 + unsigned_abs delta)
     won-grown = put.grown
         ∙ ap (λ (v : List ℕ). slice_set v k.number (slice_index_or v k.number 0 + unsigned_abs delta)) volume
 
@@ -194,7 +195,8 @@ module _ (facts : Facts) (old : OwningPass) (same : old.pass.facts ≡ facts) (c
         exchanges = missed zeros are;
         made = calls-next pages new.pass lost.pass old.pass (load ∷ Miss (record { number = group_of k.number }) w ∷ [])
             (Put k zeros t delta how) put.made
-            (calls-next pages lost.pass looked.pass old.pass (load ∷ []) (Miss (record { number = group_of k.number }) w)
+            (calls-next pages lost.pass looked.pass old.pass (load ∷ [])
+            (Miss (record { number = group_of k.number }) w)
             miss.made loads.all);
         carries = put.carries;
       }

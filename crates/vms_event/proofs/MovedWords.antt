@@ -68,7 +68,8 @@ taken-carries new old from k v control k_in one = record {
   amount =
       let same : nat_eq k.number k.number ≡ true = eq-eqb k.number k.number refl in
       let none = control.carries k.number k_in in
-      let taken : (if nat_eq k.number k.number then pos v else pos 0) ≡ pos v = ap (λ b. if b then pos v else pos 0) same in
+      let taken : (if nat_eq k.number k.number then pos v else pos 0) ≡ pos v =
+      ap (λ b. if b then pos v else pos 0) same in
       ap (carried k.number) (ap (own new.seen) one.all.number ∙ one.all.made.made) ∙ omega (arith, ints, taken, none);
 }
 

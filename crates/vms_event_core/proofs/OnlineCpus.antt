@@ -1,4 +1,5 @@
--- For other crates too: the words of CPUs that are online only grow, so what loads of them find is at most what stands later.
+-- For other crates too: the words of CPUs that are online only grow, so what loads of them find is at most what stands
+-- later.
 use Rattle.std.proofs.Common.{◌≡◌, ℕ, suc, ◌+◌, ◌≤◌, ◌&&◌, Bool, true, false, List, [], ◌∷◌, ◌++◌, length, Option, Some}
 use Rattle.std.proofs.Common.{None, ℤ, pos, ◌+ℤ◌, ◌≤ℤ◌, refl, sym, ap, ◌∙◌, arith, if◌then◌else◌, nat_eq, eqb-true}
 use Rattle.std.specs.Prelude.{sum}

@@ -64,8 +64,8 @@ read_fold_events (suc n) (TakeE c k (suc v) ∷ AddF d l a ∷ steps) =
     (suc v ∷ (read_fold_events n steps).0, (read_fold_events n steps).1)
 read_fold_events n steps = ([], steps)
 
--- the steps of each call with what it answers: a sum is over the CPUs that are online, and a dead CPU is folded into the
--- lowest-numbered of them
+-- the steps of each call with what it answers: a sum is over the CPUs that are online, and a dead CPU is folded into
+-- the lowest-numbered of them
 abbrev pub IsEventCall : EventFacts → EventCall → List EventStep → EventAnswer → Type 0
 IsEventCall facts (Count k n) steps Done = IsCount k n steps
 IsEventCall facts (Sum k) steps (Total answer) =

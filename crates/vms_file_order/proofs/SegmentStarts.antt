@@ -53,7 +53,8 @@ module _ (header : Header) (pressure normal : ZoneSize → ℕ → ℕ → Type 
       pub IsStartOf-run : (segments : List Segment) (hss : List TableHistories) (last : World)
           → AreSegments header first_start segments → IsWorldRun header pressure normal segments hss last
           → IsStartOf header (start_at_end first_start (lines_of_segments segments)) last
-      IsStartOf-run segments hss last are run = IsStartOf-led_through segments hss first_start (started header run.zones)
+      IsStartOf-run segments hss last are run = IsStartOf-led_through segments hss first_start
+          (started header run.zones)
           last (IsStartOf-first header valid normal gives run.zones run.answers) are run.leads
 
       -- so that of a body ends with what the lines make of it that count

@@ -18,5 +18,5 @@ pub fn open_phases_leave_room<N: Rule, P: Rule>(rules: &Rules<N, P>)
     vms_core::settled_ends_may_begin();
     vms_plain_events::histories_leave_room();
     vms_plain_pcpu::histories_leave_room();
-    let _ = rules;
+    rules.tells();
 }

@@ -123,7 +123,7 @@ impl PlainTables {
             (N.answers rules.now.normal) item (HaveRoomForEvents lane call) self.old self.new (event_told result) }
     {
         event_laws();
-        let _ = rules;
+        rules.tells();
         vms_plain_events::call(
             &mut self.events,
             self.opening.as_slice(),
@@ -152,7 +152,7 @@ impl PlainTables {
             (λ items. LeavesVolume (λ j. volume (spent_on_pcpu j) cpu.number (map line_of items)) call) self.old
             self.new (pcpu_told result) }
     {
-        let _ = rules;
+        rules.tells();
         let states = self.opening.as_slice();
         vms_plain_pcpu::call(&mut self.counters, states, cpu, call)
     }

@@ -13,7 +13,8 @@ module _ {F K S : Type 0} (machine : Machine F K S) (begins : ℕ → Option Cpu
     (ends : ℕ → K) (ends_it : (q : ℕ) → machine.role (ends q) ≡ Ends q) where
   -- while two passes that own CPUs have begun, no control pass lives
   pub free-control : (seen : List (Event K)) (p q : ℕ) (a b : CpuId)
-      → own seen 0 ≡ record { caller = 0; step = begins q (Some b) } ∷ record { caller = 0; step = begins p (Some a) } ∷ []
+      → own seen 0 ≡ record { caller = 0; step = begins q (Some b) }
+      ∷ record { caller = 0; step = begins p (Some a) } ∷ []
       → IsFree machine.role seen None
   free-control seen p q a b is r lives_then owns =
       by (nat_eq q r) (nat_eq p r)
@@ -31,7 +32,8 @@ module _ {F K S : Type 0} (machine : Machine F K S) (begins : ℕ → Option Cpu
   -- what the main pass has done once three passes have begun
   pub three-begun : (m0 m1 m2 m3 a b c : Pass F K) (x y z : Option CpuId) → m0.seen ≡ []
       → HasBegun machine begins m1 m0 a x → HasBegun machine begins m2 m1 b y → HasBegun machine begins m3 m2 c z
-      → own m3.seen 0 ≡ record { caller = 0; step = begins c.number z } ∷ record { caller = 0; step = begins b.number y }
+      → own m3.seen 0 ≡ record { caller = 0; step = begins c.number z }
+      ∷ record { caller = 0; step = begins b.number y }
       ∷ record { caller = 0; step = begins a.number x } ∷ []
   three-begun m0 m1 m2 m3 a b c x y z none a_begun b_begun c_begun =
       own-begun machine begins begins_it ends ends_it m3 m2 c z c_begun
@@ -43,7 +45,8 @@ module _ {F K S : Type 0} (machine : Machine F K S) (begins : ℕ → Option Cpu
 
   -- once they have ended, none lives
   pub three-ended : (m0 m1 m2 m3 a b c : Pass F K) (x y z : Option CpuId)
-      → own m0.seen 0 ≡ record { caller = 0; step = begins c.number z } ∷ record { caller = 0; step = begins b.number y }
+      → own m0.seen 0 ≡ record { caller = 0; step = begins c.number z }
+      ∷ record { caller = 0; step = begins b.number y }
       ∷ record { caller = 0; step = begins a.number x } ∷ []
       → HasEnded machine ends m1 m0 a → HasEnded machine ends m2 m1 b → HasEnded machine ends m3 m2 c
       → (q : ℕ) → lives_in machine.role m3.seen q ≡ false

@@ -107,7 +107,8 @@ module _ {F K S : Type 0} (machine : Machine F K S) where
           (lives_after (begins_it b.number y i) q (lives_after (begins_it a.number x i) q false))))
           ∙ by (nat_eq b.number q) (nat_eq a.number q)
         where
-          all : own m4.seen 0 ≡ record { caller = 0; step = ends b.number } ∷ record { caller = 0; step = ends a.number }
+          all : own m4.seen 0 ≡ record { caller = 0; step = ends b.number }
+              ∷ record { caller = 0; step = ends a.number }
               ∷ record { caller = 0; step = begins b.number y } ∷ record { caller = 0; step = begins a.number x } ∷ []
           all = own-ended m4 m3 b_last b_ended
               ∙ (λ i. record { caller = 0; step = ends (same_b i) } ∷ own-ended m3 m2 a_last a_ended i)

@@ -36,7 +36,8 @@ module _ (header : Header) (pressure normal : ZoneSize → ℕ → ℕ → Type 
     → MayCross header.layout w.pages boundary → Crosses header normal boundary w next → IsWorldOf header next)
     (keeps_phase : (w : World) (items : List Item) (hs : TableHistories) → IsWorldOf header w → AreComplete header w hs
     → SpendTheirLines header items hs → FitVolumes header w items
-    → LeavesNothing header (left_by header w items hs) → IsWorldOf header (left_by header w items hs)) (j : ℕ) (j_in : IsDeclared header j) where
+    → LeavesNothing header (left_by header w items hs) → IsWorldOf header (left_by header w items hs)) (j : ℕ)
+    (j_in : IsDeclared header j) where
   -- a boundary line adds nothing
   counters-crossed : (boundary : Boundary) (w next : World) → Crosses header normal boundary w next
       → pcpu_total header next j ≡ pcpu_total header w j
@@ -56,7 +57,8 @@ module _ (header : Header) (pressure normal : ZoneSize → ℕ → ℕ → Type 
   counters-led_through [] (hs ∷ more) w last of known ascend through = absurd through
   counters-led_through (Phase items ∷ segments) [] w last of known ascend through = absurd through
   counters-led_through (Phase items ∷ segments) (hs ∷ more) w last of known ascend (next, is, through) =
-      let of_left = keeps_phase w items hs of is.complete is.spent is.volumes (subst (LeavesNothing header) is.left is.buried) in
+      let of_left = keeps_phase w items hs of is.complete is.spent is.volumes
+      (subst (LeavesNothing header) is.left is.buried) in
       let moved = phase w items hs of (MakeInAnyOrder-led header pressure normal w items hs next is)
       (All-head (AreLinesOf header) items (phases_among segments) known)
       (All-head AreNumbered items (phases_among segments) ascend) j j_in in

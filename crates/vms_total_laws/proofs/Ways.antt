@@ -57,7 +57,8 @@ module _ (header : Header) (pressure normal : ZoneSize → ℕ → ℕ → Type 
     Moves-led_through (Phase items ∷ segments) [] w last of known through = absurd through
     Moves-led_through (Phase items ∷ segments) (hs ∷ more) w last of known (next, is, through) =
         let left = left_by header w items hs in
-        let of_left = keeps_phase w items hs of is.complete is.spent is.volumes (subst (LeavesNothing header) is.left is.buried) in
+        let of_left = keeps_phase w items hs of is.complete is.spent is.volumes
+        (subst (LeavesNothing header) is.left is.buried) in
         phase w items hs (phases_among segments) last of (MakeInAnyOrder-led w items hs next is)
         (All-head (AreLinesOf header) items (phases_among segments) known)
         (Moves-led_through segments more left last of_left

@@ -28,7 +28,8 @@ byte-shifted word (suc (suc (suc (suc (suc (suc (suc zero))))))) less = omega ar
 byte-shifted word (suc (suc (suc (suc (suc (suc (suc (suc i)))))))) less = omega (arith, less)
 
 entry-low_first : (first count word i : ℕ) → i < count
-    → get_or (map (cast_signed w8) (bytes_low_first first count word)) i (pos 0) ≡ cast_signed w8 (byte_at (first + i) word)
+    → get_or (map (cast_signed w8) (bytes_low_first first count word)) i (pos 0) ≡ cast_signed w8
+    (byte_at (first + i) word)
 entry-low_first first zero word i less = absurd (omega (arith, less))
 entry-low_first first (suc count) word zero less =
     let same : first ≡ first + 0 = omega arith in

@@ -1,5 +1,5 @@
--- For other crates too: which acts make a call on the page counters, what they spend there, and of which kinds their steps
--- are.
+-- For other crates too: which acts make a call on the page counters, what they spend there, and of which kinds their
+-- steps are.
 use Rattle.std.proofs.Common.{◌≡◌, ℕ, ℤ, pos, ◌+ℤ◌, List, [], Option, Some, None, refl, sym, ap, subst, ◌∙◌, arith}
 use Rattle.std.proofs.lemmas.Int.{ints}
 use Rattle.vms_calls.specs.Common.{Mode, Header, CounterId, CpuId, ZoneSize, IsLayout, State, Step, Buries, after}
@@ -22,7 +22,8 @@ use Rattle.vms_text.specs.declared.acts.Lane.TheVariants.{Control, Cpu}
 use Rattle.vms_world.specs.Common.{page_call, CallSteps, PageSteps, owner_of}
 use Rattle.vms_world.specs.Acts.{spent_by_call}
 
--- what a line says of a counter is what the call of its act spends on it, and no act of the control lane spends anything
+-- what a line says of a counter is what the call of its act spends on it, and no act of the control lane spends
+-- anything
 pub spent_on_counter-call : (c : CpuId) (k : ℕ) (a : Act)
     → spent_on_counter k a ≡ spent_by_call page_spent (page_call (Cpu c) a) k
 spent_on_counter-call c k (Mod l delta) = refl
@@ -63,7 +64,8 @@ module _ (header : Header) (base : State) (pressure normal : ZoneSize → ℕ �
       by None on none = subst (Holds None) (sym none) of_none
       by (Some call) on (told, is) = of_call call told on is
 
-  -- the steps of an act change each counter by what its call spends, and leave its caller carrying what it carried before
+  -- the steps of an act change each counter by what its call spends, and leave its caller carrying what it carried
+  -- before
   pub act-spends : IsLayout header.layout → (k : ℕ) (lane : Lane) (p : ℕ) (a : Act) (h : pages.History)
       (steps : List Step) → PageSteps header base pressure normal lane p a h steps → (g : pages.History)
       → total (change_size k) (after p steps g)

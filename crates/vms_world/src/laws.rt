@@ -36,9 +36,9 @@ pub fn boundaries_keep_totals<R: ThresholdRules>()
         ≡ value_at w.pages k +ℤ differentials header.layout w.pages k }
 {}
 
-/// A phase leads from a world of a header to one of it: complete histories of the three tables that spend what lines say
-/// do, if the lines fit the volumes and whoever is absent in the end has nothing left in the tables of events and of
-/// percpu counters. No CPU passes its volumes then.
+/// A phase leads from a world of a header to one of it: complete histories of the three tables that spend what lines
+/// say do, if the lines fit the volumes and whoever is absent in the end has nothing left in the tables of events and
+/// of percpu counters. No CPU passes its volumes then.
 pub fn phases_keep_worlds()
     ensures world { (header : Header) (w : World) (items : List Item) (hs : TableHistories) →
         IsWorldOf header w →

@@ -19,7 +19,8 @@ add_system-requires-clause-adds c =
     let same = to_z-of_z w64 c.args.amount c.ranges.amount in
     subst (λ (a : ℤ). AddsToSystem c.args.table.now.facts c.add_place.new.pass.pass.seen
     c.add_place.new.pass.pass.number c.args.target.now.item a) (sym same)
-    (adds-system c.args.table.now.facts c.add_place.new.pass c.args.pass.now c.args.target.now c.requires.target c.args.amount
+    (adds-system c.args.table.now.facts c.add_place.new.pass c.args.pass.now c.args.target.now c.requires.target
+    c.args.amount
     (subst (λ (a : ℤ). MadeOne pages c.add_place.new.pass.pass c.args.pass.now.pass (AddG c.args.target.now.counter a))
     same c.add_place.ensures.made)
     c.requires.carries (omega (arith, ints)))
@@ -31,7 +32,8 @@ returns-then-amount-ne0-clause-idle c =
     c.requires.target c.args.amount
     (subst (λ (a : ℤ). MadeOne pages c.add_place.new.pass.pass c.args.pass.now.pass (AddG c.args.target.now.counter a))
     same c.add_place.ensures.made)
-    (subst (λ (a : ℤ). MadeOne pages c.add_system.new.pass.pass c.add_place.new.pass.pass (AddS c.args.target.now.item a))
+    (subst (λ (a : ℤ). MadeOne pages c.add_system.new.pass.pass c.add_place.new.pass.pass
+    (AddS c.args.target.now.item a))
     same c.add_system.ensures.made)
     c.requires.carries
 

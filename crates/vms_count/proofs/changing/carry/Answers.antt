@@ -12,7 +12,8 @@ add_system-requires-clause-adds c =
     let same = to_z-of_z w64 c.args.amount c.ranges.amount in
     let added = c.add_place.new.pass.pass in
     subst (λ a. AddsToSystem facts added.seen added.number c.item_of.result a) (sym same)
-    (adds-system facts (subst IsLayout c.layout.ensures c.item_of.ensures.is_layout) added c.args.pass.now.pass c.args.counter c.item_of.result
+    (adds-system facts (subst IsLayout c.layout.ensures c.item_of.ensures.is_layout) added c.args.pass.now.pass
+    c.args.counter c.item_of.result
     c.args.amount (c.item_of.ensures.value ∙ ap (λ shape. item_of shape c.args.counter.number) c.layout.ensures)
     (subst (λ a. MadeOne pages added c.args.pass.now.pass (AddG c.args.counter a)) same c.add_place.ensures.made)
     c.requires.carries (omega (arith, ints)))

@@ -33,13 +33,15 @@ returns-in-Done-clause-made c =
     let amount = c.in-Done.amount in
     let fits : FitsSigned w64 amount = search in
     let same : to_z w64 (of_z w64 amount) ≡ amount = to_z-of_z w64 amount fits in
-    subst (λ z. HasExchanged c.put.new.pass.pass c.args.pass.now.pass c.args.counter c.args.threshold c.args.delta c.args.mode z) (sym same)
+    subst (λ z. HasExchanged c.put.new.pass.pass c.args.pass.now.pass c.args.counter c.args.threshold c.args.delta
+    c.args.mode z) (sym same)
     (won-made c.args.table.now.facts c.args.pass.now c.requires.table.facts c.args.cpu c.requires.owns
     c.args.counter c.requires.counter c.args.threshold c.requires.loaded c.requires.nothing c.args.delta c.requires.room
     looked.new.pass c.group-group.result looked.result c.group-group.ensures.value looked.ensures.made
     looked.ensures.volume c.args.mode
     c.put.new.pass amount
-    (subst (λ d. HasPut c.put.new.pass looked.new.pass c.args.counter looked.result c.args.threshold d c.args.mode amount)
+    (subst (λ d. HasPut c.put.new.pass looked.new.pass c.args.counter looked.result c.args.threshold d
+    c.args.mode amount)
     (to_z-of_z w64 c.args.delta c.ranges.delta) c.in-Done.ensures))
 
 pub returns-in-Done-clause-carries : goal.returns-in-Done-clause-carries
@@ -55,7 +57,8 @@ returns-in-Done-clause-carries c =
     looked.new.pass c.group-group.result looked.result c.group-group.ensures.value looked.ensures.made
     looked.ensures.volume c.args.mode
     c.put.new.pass amount
-    (subst (λ d. HasPut c.put.new.pass looked.new.pass c.args.counter looked.result c.args.threshold d c.args.mode amount)
+    (subst (λ d. HasPut c.put.new.pass looked.new.pass c.args.counter looked.result c.args.threshold d
+    c.args.mode amount)
     (to_z-of_z w64 c.args.delta c.ranges.delta) c.in-Done.ensures))
 
 pub returns-in-Done-put-clause-made : goal.returns-in-Done-put-clause-made
@@ -64,13 +67,15 @@ returns-in-Done-put-clause-made c =
     let amount = c.in-Done-put.amount in
     let fits : FitsSigned w64 amount = search in
     let same : to_z w64 (of_z w64 amount) ≡ amount = to_z-of_z w64 amount fits in
-    subst (λ z. HasExchanged c.put-in-Missed.new.pass.pass c.args.pass.now.pass c.args.counter c.args.threshold c.args.delta c.args.mode z) (sym same)
+    subst (λ z. HasExchanged c.put-in-Missed.new.pass.pass c.args.pass.now.pass c.args.counter c.args.threshold
+    c.args.delta c.args.mode z) (sym same)
     (missed-made c.args.table.now.facts c.args.pass.now c.requires.table.facts c.args.cpu c.requires.owns
     c.args.counter c.requires.counter c.args.threshold c.requires.loaded c.requires.nothing c.args.delta c.requires.room
     looked.new.pass c.group-group.result looked.result c.group-group.ensures.value looked.ensures.made
     looked.ensures.volume c.put.new.pass c.in-Missed.ensures c.zeros-zeros.result c.zeros-zeros.ensures c.args.mode
     c.put-in-Missed.new.pass amount
-    (subst (λ d. HasPut c.put-in-Missed.new.pass c.put.new.pass c.args.counter c.zeros-zeros.result c.args.threshold d c.args.mode amount)
+    (subst (λ d. HasPut c.put-in-Missed.new.pass c.put.new.pass c.args.counter c.zeros-zeros.result c.args.threshold d
+    c.args.mode amount)
     (to_z-of_z w64 c.args.delta c.ranges.delta) c.in-Done-put.ensures))
 
 pub returns-in-Done-put-clause-carries : goal.returns-in-Done-put-clause-carries
@@ -86,5 +91,6 @@ returns-in-Done-put-clause-carries c =
     looked.new.pass c.group-group.result looked.result c.group-group.ensures.value looked.ensures.made
     looked.ensures.volume c.put.new.pass c.in-Missed.ensures c.zeros-zeros.result c.zeros-zeros.ensures c.args.mode
     c.put-in-Missed.new.pass amount
-    (subst (λ d. HasPut c.put-in-Missed.new.pass c.put.new.pass c.args.counter c.zeros-zeros.result c.args.threshold d c.args.mode amount)
+    (subst (λ d. HasPut c.put-in-Missed.new.pass c.put.new.pass c.args.counter c.zeros-zeros.result c.args.threshold d
+    c.args.mode amount)
     (to_z-of_z w64 c.args.delta c.ranges.delta) c.in-Done-put.ensures))

@@ -30,13 +30,15 @@ loop-n-init g c =
 pub overflow_mul-counter : goal.overflow_mul-counter
 overflow_mul-counter g c =
     let pass = g.P.Caller.pass c.args.pass.now in
-    let base = subst IsBase c.requires.table.facts (base_can_begin pages pass.facts pass.seen c.is_live.ensures.legal) in
+    let base = subst IsBase c.requires.table.facts
+    (base_can_begin pages pass.facts pass.seen c.is_live.ensures.legal) in
     let few = group_count-most c.args.table.now.facts.layout base.layout in omega (arith, few, c.requires.group)
 
 pub overflow_add-counter : goal.overflow_add-counter
 overflow_add-counter g c =
     let pass = g.P.Caller.pass c.args.pass.now in
-    let base = subst IsBase c.requires.table.facts (base_can_begin pages pass.facts pass.seen c.is_live.ensures.legal) in
+    let base = subst IsBase c.requires.table.facts
+    (base_can_begin pages pass.facts pass.seen c.is_live.ensures.legal) in
     let few = group_count-most c.args.table.now.facts.layout base.layout in omega (arith, few, c.requires.group)
 
 pub add_entry-requires-clause-table : goal.add_entry-requires-clause-table
@@ -67,7 +69,8 @@ pub loop-n-preserved : goal.loop-n-preserved
 loop-n-preserved g c =
     let shape = c.args.table.now.facts.layout in
     let pass = g.P.Caller.pass c.args.pass.now in
-    let base = subst IsBase c.requires.table.facts (base_can_begin pages pass.facts pass.seen c.is_live.ensures.legal) in
+    let base = subst IsBase c.requires.table.facts
+    (base_can_begin pages pass.facts pass.seen c.is_live.ensures.legal) in
     let layout : IsLayout shape = base.layout in
     let j = c.args.group.number in
     let n = c.loop-n.n in

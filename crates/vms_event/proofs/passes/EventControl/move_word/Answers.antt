@@ -50,7 +50,8 @@ invariant_of-self-else-found-ne0 c = control-moved c.swap_at-found.new.self c.se
 
 pub returns-then-found-ne0 : goal.returns-then-found-ne0
 returns-then-found-ne0 c = subst
-    (λ old. Made events c.add_at.new.self old (moves c.args.from c.args.into c.args.event.number c.swap_at-found.result))
+    (λ old. Made events c.add_at.new.self old
+    (moves c.args.from c.args.into c.args.event.number c.swap_at-found.result))
     c.self.view_is
     (moved-some c.add_at.new.self c.swap_at-found.new.self c.self.inside.worker c.args.from c.args.into c.args.event
     c.swap_at-found.result c.if-found-ne0.true c.swap_at-found.ensures c.add_at.ensures)

@@ -16,5 +16,6 @@ exchange_at-requires-clause-step c = subst
     (sym c.self.view_is) c.requires.step
 
 pub invariant_of-self : goal.invariant_of-self
-invariant_of-self c = control-left c.exchange_at.new.self c.self.inside.worker (told c.args.plan.now c.exchange_at.result)
+invariant_of-self c = control-left c.exchange_at.new.self c.self.inside.worker
+    (told c.args.plan.now c.exchange_at.result)
     c.self.invariant (c.requires.leaves c.exchange_at.result) c.exchange_at.ensures

@@ -27,7 +27,8 @@ returns-clause-folded c =
           (λ (facts : EventFacts). (k : ℕ) → IsEvent k → word_at (state_after facts new.seen) dead.number k ≡ 0)
           (sym folded.made.facts)
           (λ k k_in.
-          c.folded_words_are_zero.ensures.folded old.facts [] new.seen old.seen old.number dead into folded.found steps k
+          c.folded_words_are_zero.ensures.folded old.facts [] new.seen old.seen old.number dead into
+          folded.found steps k
           made (record { one_each = omega arith; in_order = refl {a = steps} }) made.legal k_in);
       moved_once =
           subst (λ (facts : EventFacts). (k : ℕ) → IsEvent k → MovesOnce facts new.seen dead.number k)

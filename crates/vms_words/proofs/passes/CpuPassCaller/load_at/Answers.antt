@@ -14,6 +14,7 @@ load_at-requires-clause-step c = subst
 
 pub invariant_of-self : goal.invariant_of-self
 invariant_of-self c =
-    keeping-step c.load_at.new.self c.self.inside.worker c.self.inside.cpu c.self.inside.first_group c.self.inside.volume
+    keeping-step c.load_at.new.self c.self.inside.worker c.self.inside.cpu c.self.inside.first_group
+    c.self.inside.volume
     (told c.args.plan.now c.load_at.result) c.self.invariant c.load_at.ensures
     (keeps-spends (told c.args.plan.now c.load_at.result) (c.requires.leaves c.load_at.result))

@@ -14,6 +14,7 @@ swap_at-requires-clause-step c = subst
 
 pub invariant_of-self : goal.invariant_of-self
 invariant_of-self c =
-    keeping-step c.swap_at.new.self c.self.inside.worker c.self.inside.cpu c.self.inside.first_group c.self.inside.volume
+    keeping-step c.swap_at.new.self c.self.inside.worker c.self.inside.cpu c.self.inside.first_group
+    c.self.inside.volume
     (told c.args.plan.now c.swap_at.result) c.self.invariant c.swap_at.ensures
     (keeps-spends (told c.args.plan.now c.swap_at.result) (c.requires.leaves c.swap_at.result))

@@ -1,5 +1,5 @@
--- The goals were that the volumes hold what the CPU has spent in what the pass has seen, that its groups begin where the
--- pass keeps, and that what the main pass keeps of the settings stands.
+-- The goals were that the volumes hold what the CPU has spent in what the pass has seen, that its groups begin where
+-- the pass keeps, and that what the main pass keeps of the settings stands.
 use Rattle.std.proofs.Common.{◌≡◌, ◌∙◌, Some, ap, sym, subst}
 use Rattle.vms_calls.specs.Common.{IsFree, Facts, Step, role}
 use Rattle.vms_seats.specs.Common.{Pass, Shared}

@@ -71,12 +71,14 @@ exchange_at-stood-requires-clause-step c =
     (λ shape. c.pass.inside.first_group ≡ groups_start shape c.pass.inside.cpu.number) c.pass.invariant.1) in
     let most = threshold-most c.pass.inside.worker c.pass.inside.cpu c.pass.inside.volume k w t c.args.delta
     c.pass.invariant.0 puts in
-    subst (λ (v : Diffs). MayStep pages shown c.pass.inside.worker (c.pass.inside.first_group + c.group-group.result.number)
+    subst (λ (v : Diffs). MayStep pages shown c.pass.inside.worker
+    (c.pass.inside.first_group + c.group-group.result.number)
     (λ n. if n == c.word-old.result then c.word-new.result else n)
     (told (Put k v t (to_z w64 (of_z w64 c.args.delta)) c.args.mode))) (sym c.list.ensures)
     (may-at c.self.inside.facts c.self.inside.blocks c.self.inside.words c.args.self.now c.pass.inside.worker
     c.self.invariant c.self.view_is of (Group c.pass.inside.cpu c.group-group.result)
-    (c.pass.inside.first_group + c.group-group.result.number) at (λ n. if n == c.word-old.result then c.word-new.result else n)
+    (c.pass.inside.first_group + c.group-group.result.number) at
+    (λ n. if n == c.word-old.result then c.word-new.result else n)
     (told (Put k w t (to_z w64 (of_z w64 c.args.delta)) c.args.mode))
     (put-may c.pass.inside.worker c.pass.inside.cpu c.pass.inside.volume k w t c.args.delta c.pass.invariant.0 puts
     c.args.mode c.group-group.result c.word-old.result c.word-new.result
@@ -92,7 +94,8 @@ pub invariant_of-pass : goal.invariant_of-pass
 invariant_of-pass c =
     let made = made-miss c.exchange_at-stood.new.self c.pass.inside.worker c.args.counter c.list.result
     c.args.found.now c.args.threshold (to_z w64 (of_z w64 c.args.delta)) c.args.delta c.args.mode
-    c.exchange_at-stood.result c.word-old.result c.list.ensures c.word-old.ensures.value (to_z-of_z w64 c.args.delta c.ranges.delta) c.exchange_at-stood.ensures
+    c.exchange_at-stood.result c.word-old.result c.list.ensures c.word-old.ensures.value
+    (to_z-of_z w64 c.args.delta c.ranges.delta) c.exchange_at-stood.ensures
     c.if-stood-old.true in
     keeping-step c.exchange_at-stood.new.self c.pass.inside.worker c.pass.inside.cpu c.pass.inside.first_group
     c.pass.inside.volume (Miss (record { number = group_of c.args.counter.number }) c.args.found.now) c.pass.invariant
@@ -102,7 +105,8 @@ pub returns-then-stood-old : goal.returns-then-stood-old
 returns-then-stood-old c =
     let made = made-miss c.exchange_at-stood.new.self c.pass.inside.worker c.args.counter c.list.result
     c.args.found.now c.args.threshold (to_z w64 (of_z w64 c.args.delta)) c.args.delta c.args.mode
-    c.exchange_at-stood.result c.word-old.result c.list.ensures c.word-old.ensures.value (to_z-of_z w64 c.args.delta c.ranges.delta) c.exchange_at-stood.ensures
+    c.exchange_at-stood.result c.word-old.result c.list.ensures c.word-old.ensures.value
+    (to_z-of_z w64 c.args.delta c.ranges.delta) c.exchange_at-stood.ensures
     c.if-stood-old.true in
     subst
     (λ (p : OwningPass). HasMissed (record { pass = c.exchange_at-stood.new.self; volume = c.pass.inside.volume }) p
@@ -133,7 +137,8 @@ invariant_of-pass-2 c =
     (sym c.pass.view_is) c.requires.puts in
     let made = made-put c.exchange_at-stood.new.self c.pass.inside.worker c.args.counter c.list.result
     c.args.found.now c.args.threshold (to_z w64 (of_z w64 c.args.delta)) c.args.delta c.args.mode
-    c.exchange_at-stood.result c.word-old.result c.list.ensures c.word-old.ensures.value passed c.exchange_at-stood.ensures c.if-stood-old.false in
+    c.exchange_at-stood.result c.word-old.result c.list.ensures c.word-old.ensures.value passed
+    c.exchange_at-stood.ensures c.if-stood-old.false in
     let grown = grown-is c.pass.inside.volume c.set.new.self c.args.counter.number c.get.result c.unsigned_abs.result
     (to_z w64 (of_z w64 c.args.delta)) c.args.delta (c.get.ensures 0) c.unsigned_abs.ensures.value passed
     c.set.ensures in (
@@ -158,9 +163,11 @@ returns c =
     (record {
       made = made-put c.exchange_at-stood.new.self c.pass.inside.worker c.args.counter c.list.result
           c.args.found.now c.args.threshold (to_z w64 (of_z w64 c.args.delta)) c.args.delta c.args.mode
-          c.exchange_at-stood.result c.word-old.result c.list.ensures c.word-old.ensures.value passed c.exchange_at-stood.ensures c.if-stood-old.false;
+          c.exchange_at-stood.result c.word-old.result c.list.ensures c.word-old.ensures.value passed
+          c.exchange_at-stood.ensures c.if-stood-old.false;
       carries = passed-carried c.args.counter.number c.args.found.now c.args.threshold c.args.delta c.ranges.delta
-          c.args.mode c.entry.result c.entry.ensures.value c.change-changed.result.carried c.change-changed.ensures.bound
+          c.args.mode c.entry.result c.entry.ensures.value c.change-changed.result.carried
+          c.change-changed.ensures.bound
           (threshold-most c.pass.inside.worker c.pass.inside.cpu c.pass.inside.volume c.args.counter c.args.found.now
           c.args.threshold c.args.delta c.pass.invariant.0 puts)
           (omega (arith, puts.affordable)) c.change-changed.ensures.carried;
