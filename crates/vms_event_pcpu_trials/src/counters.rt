@@ -86,11 +86,40 @@ fn add_often<R: Wait>(
     refused
 }
 
-/// The same on a thread of its own.
+/// Adds an amount so many times without waiting, and tells how often that was given up or refused.
+fn try_often(table: &PcpuTable, pass: &mut PcpuPass, amount: i64, times: u32) -> u32
+    requires table { IsFrom pass.old.pass table.now }
+    requires counter { IsPcpu table.now.facts 0 }
+    ensures { SeesMore pass.new.pass pass.old.pass }
+{
+    let mut missing = 0;
+    for _ in 0..times {
+        if !try_add(table, pass, amount) {
+            missing += 1;
+        }
+    }
+    missing
+}
+
+/// Adds an amount without waiting, and tells whether it was added.
+fn try_add(table: &PcpuTable, pass: &mut PcpuPass, amount: i64) -> bool
+    requires table { IsFrom pass.old.pass table.now }
+    requires counter { IsPcpu table.now.facts 0 }
+    ensures { SeesMore pass.new.pass pass.old.pass }
+{
+    match table.try_add(pass, FILES, amount) {
+        Ok(Ok(())) => true,
+        Ok(Err(_)) => false,
+        Err(_) => false,
+    }
+}
+
+/// Adds an amount so many times on a thread of its own, and waits for the lock or not.
 fn added_often<R: Wait>(
     rt: &R,
     table: &PcpuTable,
     mut pass: PcpuPass,
+    waits: bool,
     amount: i64,
     times: u32,
 ) -> (PcpuPass, u32)
@@ -98,8 +127,12 @@ fn added_often<R: Wait>(
     requires counter { IsPcpu table.now.facts 0 }
     ensures { SeesMore result.0.pass pass.pass }
 {
-    let refused = add_often(rt, table, &mut pass, amount, times);
-    (pass, refused)
+    if waits {
+        let refused = add_often(rt, table, &mut pass, amount, times);
+        return (pass, refused);
+    }
+    let missing = try_often(table, &mut pass, amount, times);
+    (pass, missing)
 }
 
 fn sum<R: Wait>(rt: &R, table: &PcpuTable, pass: &mut PcpuPass) -> i64
@@ -110,11 +143,12 @@ fn sum<R: Wait>(rt: &R, table: &PcpuTable, pass: &mut PcpuPass) -> i64
     table.sum(rt, pass, FILES)
 }
 
-/// Two threads add an amount on the CPUs 0 and 1, each so many times. Tells how often that was refused, the sum before
-/// the passes end, and the numbers at the end.
+/// Two threads add an amount on the CPUs 0 and 1, each so many times; the second waits for the lock or not. Tells how
+/// often that was refused or given up, the sum before the passes end, and the numbers at the end.
 fn two_that_add<R: Threads + Wait + Sync>(
     rt: &R,
     alloc: Global,
+    waits: bool,
     amount: i64,
     times: u32,
 ) -> Result<((u32, u32), i64, PcpuState), Fail> {
@@ -130,11 +164,11 @@ fn two_that_add<R: Threads + Wait + Sync>(
         move ||
             requires { IsFrom first.pass shared.now × IsPcpu shared.now.facts 0 }
             ensures { SeesMore result.0.pass first.pass }
-        { added_often(rt, shared, first, amount, times) },
+        { added_often(rt, shared, first, true, amount, times) },
         move ||
             requires { IsFrom second.pass shared.now × IsPcpu shared.now.facts 0 }
             ensures { SeesMore result.0.pass second.pass }
-        { added_often(rt, shared, second, amount, times) },
+        { added_often(rt, shared, second, waits, amount, times) },
     );
     let sum = sum(rt, &table, &mut first);
     table.join_cpu(&mut main, first);
@@ -166,12 +200,28 @@ fn adds_in_turn<R: Wait>(
 
 #[test]
 fn threads_that_add_lose_nothing(rt: HostRuntime) -> Result<(), Fail> {
-    let (refused, sum, end) = two_that_add(&rt, rt.alloc(), 3, 10_000)?;
+    let (refused, sum, end) = two_that_add(&rt, rt.alloc(), true, 3, 10_000)?;
     assert_eq!(rt; refused, (0, 0));
     assert_eq!(rt; sum, 60_000);
     // Of 11 additions of 3 the eleventh reaches the batch and moves 33; 10,000 are 909 times 11 and one more.
     assert_eq!(rt; end.count.as_slice(), [59_994].as_slice());
     assert_eq!(rt; end.local.as_slice(), [3, 3].as_slice());
+    Ok(())
+}
+
+#[test]
+fn additions_that_give_up_change_nothing(rt: HostRuntime) -> Result<(), Fail> {
+    let (missing, sum, end) = two_that_add(&rt, rt.alloc(), false, 30, 10_000)?;
+    assert_eq!(rt; missing.0, 0);
+    assert_eq!(rt; sum, 600_000 - 30 * i64::from(missing.1));
+    let mut left = sum;
+    for part in end.count.as_slice() {
+        left = left.wrapping_sub(*part);
+    }
+    for part in end.local.as_slice() {
+        left = left.wrapping_sub(*part);
+    }
+    assert_eq!(rt; left, 0);
     Ok(())
 }
 

@@ -141,8 +141,9 @@ fn two_that_count<R: Threads + Sync>(
     Ok(((by_first, by_second), sum, end))
 }
 
-/// CPU 0 is online and has 2 page faults, CPU 1 is dead and has 5. A thread counts page faults on CPU 0, so many times by
-/// 1, while the control pass folds CPU 1, so many times. Tells how often a count was refused, and the words at the end.
+/// CPU 0 is online and has 2 page faults, CPU 1 is dead and has 5. A thread counts page faults on CPU 0, so many times
+/// by 1, while the control pass folds CPU 1, so many times. Tells how often a count was refused, and the words at the
+/// end.
 fn counting_beside_folds<R: Threads + Sync>(
     rt: &R,
     alloc: Global,

@@ -7,6 +7,7 @@ pub mod ClosedNumbers
 pub mod SmallNumbers
 pub mod ReadyPasses
 pub mod LockTries
+pub mod HeldTries
 pub mod MovedLocals
 pub mod AddCalls
 pub mod LoadedLocals

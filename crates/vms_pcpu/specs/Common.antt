@@ -3,3 +3,4 @@ pub use Rattle.vms_pcpu.specs.SharedWords.{begins_it, ends_it, local_place, lock
 pub use Rattle.vms_pcpu.specs.IdlePasses.{CpuPass, HoldsSpending, IsCpuPass, IsReady, MakesCall}
 pub use Rattle.vms_pcpu.specs.Answers.{CompareMeans, HasFoldedDead, LimitedAddMeans, SumMeans}
 pub use Rattle.vms_pcpu.specs.CallVolumes.{with_spent}
+pub use Rattle.vms_pcpu.specs.HeldLocks.{GivesUp, GivesUpAdd, GivesUpLimitedAdd}

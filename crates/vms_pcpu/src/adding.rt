@@ -2,12 +2,15 @@ ghost use Rattle.std.specs.Prelude.{◌≡◌, ◌+◌, ◌<◌, ◌≤◌, ◌�
 ghost use Rattle.std.specs.Prelude.{unsigned_abs, slice_index, slice_set};
 ghost use Rattle.vms_history.specs.Common.{IsCpu, most_volume, owner_in};
 ghost use Rattle.vms_pcpu_core.specs.declared.steps.PcpuStep.{PcpuStep};
+ghost use Rattle.vms_pcpu_core.specs.declared.steps.PcpuStep.TheVariants.{Missed};
 ghost use Rattle.vms_pcpu_core.specs.Common.{IsAdd, IsSync, percpu, MayTake, MayChangePcpu, MayCall, role, IsPcpu};
 ghost use Rattle.vms_pcpu_core.specs.Common.{batch_at};
 ghost use Rattle.vms_pcpu.specs.IdlePasses.{MakesCall};
-ghost use Rattle.vms_seats.specs.Common.{IsFrom, Made};
+ghost use Rattle.vms_pcpu.specs.HeldLocks.{GivesUp, GivesUpAdd};
+ghost use Rattle.vms_seats.specs.Common.{IsFrom, Made, MadeOne};
 
 use crate::ledgers::SharedPcpu;
+use crate::locking::{Held, Locking, Trying, Waiting};
 use crate::passes::PcpuPass;
 use crate::tables::PcpuTable;
 use std::sync::Wait;
@@ -39,34 +42,99 @@ impl PcpuTable {
             record { volume = slice_index pass.old.volume counter.number; size = unsigned_abs amount }) }
         ensures err { OnErr result (pass.new ≡ pass.old) }
     {
-        let volume = pass.volume_with(counter, amount)?;
-        self.add_by(rt, &mut pass.worker, pass.cpu, counter, amount);
-        pass.volume.set(counter.number as usize, volume);
-        Ok(())
+        match self.add_through(&Waiting(rt), pass, counter, amount) {
+            Ok(Ok(())) => Ok(()),
+            Ok(Err(_)) => unreachable!(),
+            Err(error) => Err(error),
+        }
     }
 
-    fn add_by<R: Wait>(
+    /// Adds like `add`, and doesn't wait: where it needs the lock and others hold it, it gives up after one try. The
+    /// counter and the volume then are as they were.
+    pub fn try_add(
         &self,
-        rt: &R,
+        pass: &mut PcpuPass,
+        counter: PcpuId,
+        amount: i64,
+    ) -> Result<Result<(), Held>, Overflow>
+        requires table { IsFrom pass.old.pass self.now }
+        requires counter { IsPcpu self.now.facts counter.number }
+        ensures made { IfOk result (λ tried. OnOk tried (MakesCall pass.new.pass pass.old.pass
+            (λ own steps. IsAdd (batch_at self.now.facts.base counter.number) own counter amount steps))) }
+        ensures volume { IfOk result (λ tried. OnOk tried (pass.new.volume ≡ slice_set pass.old.volume counter.number
+            (slice_index pass.old.volume counter.number + unsigned_abs amount))) }
+        ensures held { IfOk result (λ tried. OnErr tried (MakesCall pass.new.pass pass.old.pass
+            (λ own steps. GivesUpAdd (batch_at self.now.facts.base counter.number) own counter amount steps))) }
+        ensures kept { IfOk result (λ tried. OnErr tried (pass.new.volume ≡ pass.old.volume)) }
+        ensures overflow { IsErr result ↔
+            (most_volume < slice_index pass.old.volume counter.number + unsigned_abs amount) }
+        ensures told { IfErr result (λ e. e ≡
+            record { volume = slice_index pass.old.volume counter.number; size = unsigned_abs amount }) }
+        ensures err { OnErr result (pass.new ≡ pass.old) }
+    {
+        self.add_through(&Trying, pass, counter, amount)
+    }
+
+    /// Adds by one of the ways to take the lock.
+    fn add_through<L: Locking>(
+        &self,
+        locking: &L,
+        pass: &mut PcpuPass,
+        counter: PcpuId,
+        amount: i64,
+    ) -> Result<Result<(), Held>, Overflow>
+        requires table { IsFrom pass.old.pass self.now }
+        requires counter { IsPcpu self.now.facts counter.number }
+        ensures made { IfOk result (λ tried. OnOk tried (MakesCall pass.new.pass pass.old.pass
+            (λ own steps. IsAdd (batch_at self.now.facts.base counter.number) own counter amount steps))) }
+        ensures volume { IfOk result (λ tried. OnOk tried (pass.new.volume ≡ slice_set pass.old.volume counter.number
+            (slice_index pass.old.volume counter.number + unsigned_abs amount))) }
+        ensures held { IfOk result (λ tried. OnErr tried (MakesCall pass.new.pass pass.old.pass
+            (λ own steps. GivesUpAdd (batch_at self.now.facts.base counter.number) own counter amount steps))) }
+        ensures gives_up { IfOk result (λ tried. OnErr tried L.may_give_up) }
+        ensures kept { IfOk result (λ tried. OnErr tried (pass.new.volume ≡ pass.old.volume)) }
+        ensures overflow { IsErr result ↔
+            (most_volume < slice_index pass.old.volume counter.number + unsigned_abs amount) }
+        ensures told { IfErr result (λ e. e ≡
+            record { volume = slice_index pass.old.volume counter.number; size = unsigned_abs amount }) }
+        ensures err { OnErr result (pass.new ≡ pass.old) }
+    {
+        let volume = pass.volume_with(counter, amount)?;
+        match self.add_by(locking, &mut pass.worker, pass.cpu, counter, amount) {
+            Ok(()) => {
+                pass.volume.set(counter.number as usize, volume);
+                Ok(Ok(()))
+            }
+            Err(held) => Ok(Err(held)),
+        }
+    }
+
+    fn add_by<L: Locking>(
+        &self,
+        locking: &L,
         worker: &mut Worker<SharedPcpu>,
         own: CpuId,
         counter: PcpuId,
         amount: i64,
-    )
+    ) -> Result<(), Held>
         requires table { IsFrom worker.old self.now }
         requires may { MayChangePcpu worker.old.facts worker.old.seen worker.old.number own
             counter amount }
-        ensures { (steps : List PcpuStep)
+        ensures made { OnOk result ((steps : List PcpuStep)
             × IsAdd (batch_at self.now.facts.base counter.number) own counter amount steps
-            × Made percpu worker.new worker.old steps }
+            × Made percpu worker.new worker.old steps) }
+        ensures held { OnErr result (L.may_give_up × ((steps : List PcpuStep)
+            × GivesUpAdd (batch_at self.now.facts.base counter.number) own counter amount steps
+            × Made percpu worker.new worker.old steps)) }
     {
         let local = self.load_local(worker, own, counter);
         if (local + amount).unsigned_abs() < u64::from(self.batch(counter)) {
             self.add_local(worker, own, counter, amount);
-        } else {
-            self.lock(rt, worker, counter);
-            self.move_local(worker, own, counter, amount);
+            return Ok(());
         }
+        locking.lock(self, worker, counter)?;
+        self.move_local(worker, own, counter, amount);
+        Ok(())
     }
 
     /// Moves the local part of the pass's CPU to the shared part (`percpu_counter_sync` of lib/percpu_counter.c), under
@@ -77,26 +145,62 @@ impl PcpuTable {
         ensures made { MakesCall pass.new.pass pass.old.pass (λ own steps. IsSync own counter steps) }
         ensures volume { pass.new.volume ≡ pass.old.volume }
     {
-        self.sync_by(rt, &mut pass.worker, pass.cpu, counter);
+        match self.sync_through(&Waiting(rt), pass, counter) {
+            Ok(()) => (),
+            Err(_) => unreachable!(),
+        }
+    }
+
+    /// Moves the local part like `sync`, and doesn't wait: where others hold the lock, it gives up after one try, and
+    /// the counter is as it was.
+    pub fn try_sync(&self, pass: &mut PcpuPass, counter: PcpuId) -> Result<(), Held>
+        requires table { IsFrom pass.old.pass self.now }
+        requires counter { IsPcpu self.now.facts counter.number }
+        ensures made { OnOk result (MakesCall pass.new.pass pass.old.pass (λ own steps. IsSync own counter steps)) }
+        ensures held { OnErr result (MakesCall pass.new.pass pass.old.pass (λ own steps. GivesUp counter steps)) }
+        ensures volume { pass.new.volume ≡ pass.old.volume }
+    {
+        self.sync_through(&Trying, pass, counter)
+    }
+
+    /// Moves the local part by one of the ways to take the lock.
+    fn sync_through<L: Locking>(
+        &self,
+        locking: &L,
+        pass: &mut PcpuPass,
+        counter: PcpuId,
+    ) -> Result<(), Held>
+        requires table { IsFrom pass.old.pass self.now }
+        requires counter { IsPcpu self.now.facts counter.number }
+        ensures made { OnOk result (MakesCall pass.new.pass pass.old.pass (λ own steps. IsSync own counter steps)) }
+        ensures held { OnErr result (MakesCall pass.new.pass pass.old.pass (λ own steps. GivesUp counter steps)) }
+        ensures gives_up { OnErr result L.may_give_up }
+        ensures volume { pass.new.volume ≡ pass.old.volume }
+    {
+        self.sync_by(locking, &mut pass.worker, pass.cpu, counter)?;
+        Ok(())
     }
 
     /// Moves the local part of a CPU to the shared part under the counter's lock.
-    pub(crate) fn sync_by<R: Wait>(
+    pub(crate) fn sync_by<L: Locking>(
         &self,
-        rt: &R,
+        locking: &L,
         worker: &mut Worker<SharedPcpu>,
         cpu: CpuId,
         counter: PcpuId,
-    )
+    ) -> Result<(), Held>
         requires table { IsFrom worker.old self.now }
         requires counter { IsPcpu self.now.facts counter.number }
         requires cpu { IsCpu self.now.facts.layout cpu.number }
         requires calls { MayCall worker.old.facts worker.old.seen worker.old.number }
         requires whose { MayTake worker.old.facts (owner_in role worker.old.seen worker.old.number) cpu }
-        ensures { (steps : List PcpuStep) × IsSync cpu counter steps × Made percpu worker.new worker.old steps }
+        ensures made { OnOk result ((steps : List PcpuStep) × IsSync cpu counter steps
+            × Made percpu worker.new worker.old steps) }
+        ensures held { OnErr result (L.may_give_up × MadeOne percpu worker.new worker.old (Missed counter)) }
     {
-        self.lock(rt, worker, counter);
+        locking.lock(self, worker, counter)?;
         self.move_local(worker, cpu, counter, 0);
+        Ok(())
     }
 
     /// What a local part of a counter may reach.

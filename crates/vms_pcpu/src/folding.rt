@@ -5,6 +5,7 @@ ghost use Rattle.vms_pcpu_core.specs.Common.{IsFoldDead, percpu, counters_of, cp
 ghost use Rattle.vms_pcpu.specs.Answers.{HasFoldedDead};
 ghost use Rattle.vms_seats.specs.Common.{IsFrom, Made};
 
+use crate::locking::Waiting;
 use crate::passes::PcpuControl;
 use crate::tables::PcpuTable;
 use std::sync::Wait;
@@ -23,7 +24,10 @@ impl PcpuTable {
         ensures folded { HasFoldedDead pass.new dead }
     {
         for number in 0..self.facts.base.batch.len() as u32 {
-            self.sync_by(rt, &mut pass.worker, dead, PcpuId { number });
+            match self.sync_by(&Waiting(rt), &mut pass.worker, dead, PcpuId { number }) {
+                Ok(()) => (),
+                Err(_) => unreachable!(),
+            }
         }
     }
 }

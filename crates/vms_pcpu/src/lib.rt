@@ -17,5 +17,6 @@ mod tables;
 
 pub use laws::{AnyPcpuPass, totals_are_kept};
 pub use ledgers::SharedPcpu;
+pub use locking::Held;
 pub use passes::{PcpuControl, PcpuPass};
 pub use tables::{PcpuHistory, PcpuMain, PcpuTable};

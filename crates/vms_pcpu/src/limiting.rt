@@ -6,9 +6,11 @@ ghost use Rattle.vms_pcpu_core.specs.Common.{IsLimitedAdd, Probes, Judges, prese
 ghost use Rattle.vms_pcpu_core.specs.Common.{room as room_of, percpu, MayChangePcpu, IsPcpu, batch_at};
 ghost use Rattle.vms_pcpu.specs.Answers.{LimitedAddMeans};
 ghost use Rattle.vms_pcpu.specs.IdlePasses.{MakesCall};
+ghost use Rattle.vms_pcpu.specs.HeldLocks.{GivesUpLimitedAdd};
 ghost use Rattle.vms_seats.specs.Common.{IsFrom, Made};
 
 use crate::ledgers::SharedPcpu;
+use crate::locking::{Held, Locking, Trying, Waiting};
 use crate::passes::PcpuPass;
 use crate::tables::PcpuTable;
 use std::sync::Wait;
@@ -50,37 +52,115 @@ impl PcpuTable {
             record { volume = slice_index pass.old.volume counter.number; size = unsigned_abs amount }) }
         ensures err { OnErr result (pass.new ≡ pass.old) }
     {
-        let volume = pass.volume_with(counter, amount)?;
-        let answer = self.limited_add_by(rt, &mut pass.worker, pass.cpu, counter, limit, amount);
-        pass.volume.set(counter.number as usize, volume);
-        Ok(answer)
+        match self.limited_add_through(&Waiting(rt), pass, counter, limit, amount) {
+            Ok(Ok(answer)) => Ok(answer),
+            Ok(Err(_)) => unreachable!(),
+            Err(error) => Err(error),
+        }
     }
 
-    fn limited_add_by<R: Wait>(
+    /// Adds like `limited_add`, and doesn't wait: where it needs the lock and others hold it, it gives up after one
+    /// try. The counter and the volume then are as they were.
+    pub fn try_limited_add(
         &self,
-        rt: &R,
+        pass: &mut PcpuPass,
+        counter: PcpuId,
+        limit: i64,
+        amount: i64,
+    ) -> Result<Result<bool, Held>, Overflow>
+        requires table { IsFrom pass.old.pass self.now }
+        requires counter { IsPcpu self.now.facts counter.number }
+        requires limit { unsigned_abs limit ≤ 2 ^ 60 }
+        ensures made { IfOk result (λ tried. IfOk tried (λ answer. MakesCall pass.new.pass pass.old.pass (λ own steps.
+            IsLimitedAdd (batch_at self.now.facts.base counter.number) (unknown_in self.now.facts counter.number)
+            (present_cpus self.now.facts) own counter limit amount steps answer))) }
+        ensures means { amount ≢ pos 0 → IfOk result (λ tried. IfOk tried (λ answer.
+            LimitedAddMeans pass.new.pass pass.old.pass counter limit amount answer)) }
+        ensures volume { IfOk result (λ tried. OnOk tried (pass.new.volume ≡ slice_set pass.old.volume counter.number
+            (slice_index pass.old.volume counter.number + unsigned_abs amount))) }
+        ensures held { IfOk result (λ tried. OnErr tried (MakesCall pass.new.pass pass.old.pass (λ own steps.
+            GivesUpLimitedAdd (batch_at self.now.facts.base counter.number) (unknown_in self.now.facts counter.number)
+            own counter limit amount steps))) }
+        ensures kept { IfOk result (λ tried. OnErr tried (pass.new.volume ≡ pass.old.volume)) }
+        ensures overflow { IsErr result ↔
+            (most_volume < slice_index pass.old.volume counter.number + unsigned_abs amount) }
+        ensures told { IfErr result (λ e. e ≡
+            record { volume = slice_index pass.old.volume counter.number; size = unsigned_abs amount }) }
+        ensures err { OnErr result (pass.new ≡ pass.old) }
+    {
+        self.limited_add_through(&Trying, pass, counter, limit, amount)
+    }
+
+    /// Adds by one of the ways to take the lock.
+    fn limited_add_through<L: Locking>(
+        &self,
+        locking: &L,
+        pass: &mut PcpuPass,
+        counter: PcpuId,
+        limit: i64,
+        amount: i64,
+    ) -> Result<Result<bool, Held>, Overflow>
+        requires table { IsFrom pass.old.pass self.now }
+        requires counter { IsPcpu self.now.facts counter.number }
+        requires limit { unsigned_abs limit ≤ 2 ^ 60 }
+        ensures made { IfOk result (λ tried. IfOk tried (λ answer. MakesCall pass.new.pass pass.old.pass (λ own steps.
+            IsLimitedAdd (batch_at self.now.facts.base counter.number) (unknown_in self.now.facts counter.number)
+            (present_cpus self.now.facts) own counter limit amount steps answer))) }
+        ensures means { amount ≢ pos 0 → IfOk result (λ tried. IfOk tried (λ answer.
+            LimitedAddMeans pass.new.pass pass.old.pass counter limit amount answer)) }
+        ensures volume { IfOk result (λ tried. OnOk tried (pass.new.volume ≡ slice_set pass.old.volume counter.number
+            (slice_index pass.old.volume counter.number + unsigned_abs amount))) }
+        ensures held { IfOk result (λ tried. OnErr tried (MakesCall pass.new.pass pass.old.pass (λ own steps.
+            GivesUpLimitedAdd (batch_at self.now.facts.base counter.number) (unknown_in self.now.facts counter.number)
+            own counter limit amount steps))) }
+        ensures gives_up { IfOk result (λ tried. OnErr tried L.may_give_up) }
+        ensures kept { IfOk result (λ tried. OnErr tried (pass.new.volume ≡ pass.old.volume)) }
+        ensures overflow { IsErr result ↔
+            (most_volume < slice_index pass.old.volume counter.number + unsigned_abs amount) }
+        ensures told { IfErr result (λ e. e ≡
+            record { volume = slice_index pass.old.volume counter.number; size = unsigned_abs amount }) }
+        ensures err { OnErr result (pass.new ≡ pass.old) }
+    {
+        let volume = pass.volume_with(counter, amount)?;
+        let worker = &mut pass.worker;
+        match self.limited_add_by(locking, worker, pass.cpu, counter, limit, amount) {
+            Ok(answer) => {
+                pass.volume.set(counter.number as usize, volume);
+                Ok(Ok(answer))
+            }
+            Err(held) => Ok(Err(held)),
+        }
+    }
+
+    fn limited_add_by<L: Locking>(
+        &self,
+        locking: &L,
         worker: &mut Worker<SharedPcpu>,
         own: CpuId,
         counter: PcpuId,
         limit: i64,
         amount: i64,
-    ) -> bool
+    ) -> Result<bool, Held>
         requires table { IsFrom worker.old self.now }
         requires limit { unsigned_abs limit ≤ 2 ^ 60 }
         requires may { MayChangePcpu worker.old.facts worker.old.seen worker.old.number own
             counter amount }
-        ensures { (steps : List PcpuStep)
+        ensures made { IfOk result (λ answer. (steps : List PcpuStep)
             × IsLimitedAdd (batch_at self.now.facts.base counter.number) (unknown_in self.now.facts counter.number)
-            (present_cpus self.now.facts) own counter limit amount steps result
-            × Made percpu worker.new worker.old steps }
+            (present_cpus self.now.facts) own counter limit amount steps answer
+            × Made percpu worker.new worker.old steps) }
+        ensures held { OnErr result (L.may_give_up × ((steps : List PcpuStep)
+            × GivesUpLimitedAdd (batch_at self.now.facts.base counter.number)
+            (unknown_in self.now.facts counter.number) own counter limit amount steps
+            × Made percpu worker.new worker.old steps)) }
     {
         if amount == 0 {
-            return true;
+            return Ok(true);
         }
         if self.add_unlocked(worker, own, counter, limit, amount) {
-            return true;
+            return Ok(true);
         }
-        self.lock(rt, worker, counter);
+        locking.lock(self, worker, counter)?;
         let value = self.load_count(worker, counter) + amount;
         let keeps = self.keeps_limit(worker, counter, limit, amount, value);
         if keeps {
@@ -88,7 +168,7 @@ impl PcpuTable {
         } else {
             self.unlock(worker, counter);
         }
-        keeps
+        Ok(keeps)
     }
 
     /// Adds an amount without the lock, where the local part stays within the batch and the limit is further off than

@@ -1,13 +1,16 @@
-ghost use Rattle.std.specs.Prelude.{◌≡◌, ◌+◌, ◌*◌, ◌≤◌, ◌^◌, List, unsigned_abs};
+ghost use Rattle.std.specs.Prelude.{◌≡◌, ◌+◌, ◌*◌, ◌≤◌, ◌^◌, List, IfOk, OnErr, unsigned_abs};
 ghost use Rattle.vms_pcpu_core.specs.declared.steps.PcpuStep.{PcpuStep};
+ghost use Rattle.vms_pcpu_core.specs.declared.steps.PcpuStep.TheVariants.{Missed};
 ghost use Rattle.vms_pcpu_core.specs.Common.{most_batch, IsRead, IsSum, IsCompare, LoadsEach, present_cpus};
 ghost use Rattle.vms_pcpu_core.specs.Common.{sign_of as sign_in, unknown as unknown_in, percpu, most_number, MayCall};
 ghost use Rattle.vms_pcpu_core.specs.Common.{IsPcpu};
 ghost use Rattle.vms_pcpu.specs.Answers.{SumMeans, CompareMeans};
 ghost use Rattle.vms_pcpu.specs.IdlePasses.{MakesCall};
-ghost use Rattle.vms_seats.specs.Common.{IsFrom, Made};
+ghost use Rattle.vms_pcpu.specs.HeldLocks.{GivesUp};
+ghost use Rattle.vms_seats.specs.Common.{IsFrom, Made, MadeOne};
 
 use crate::ledgers::SharedPcpu;
+use crate::locking::{Held, Locking, Trying, Waiting};
 use crate::passes::PcpuPass;
 use crate::tables::{PcpuTable, is_present};
 use std::sync::Wait;
@@ -38,7 +41,43 @@ impl PcpuTable {
         ensures means { SumMeans pass.new.pass pass.old.pass counter result }
         ensures volume { pass.new.volume ≡ pass.old.volume }
     {
-        self.sum_by(rt, &mut pass.worker, counter)
+        match self.sum_through(&Waiting(rt), pass, counter) {
+            Ok(sum) => sum,
+            Err(_) => unreachable!(),
+        }
+    }
+
+    /// Sums up like `sum`, and doesn't wait: where others hold the lock, it gives up after one try.
+    pub fn try_sum(&self, pass: &mut PcpuPass, counter: PcpuId) -> Result<i64, Held>
+        requires table { IsFrom pass.old.pass self.now }
+        requires counter { IsPcpu self.now.facts counter.number }
+        ensures made { IfOk result (λ sum. MakesCall pass.new.pass pass.old.pass
+            (λ own steps. IsSum (present_cpus self.now.facts) counter steps sum)) }
+        ensures means { IfOk result (λ sum. SumMeans pass.new.pass pass.old.pass counter sum) }
+        ensures held { OnErr result (MakesCall pass.new.pass pass.old.pass (λ own steps. GivesUp counter steps)) }
+        ensures volume { pass.new.volume ≡ pass.old.volume }
+    {
+        self.sum_through(&Trying, pass, counter)
+    }
+
+    /// Sums up by one of the ways to take the lock.
+    fn sum_through<L: Locking>(
+        &self,
+        locking: &L,
+        pass: &mut PcpuPass,
+        counter: PcpuId,
+    ) -> Result<i64, Held>
+        requires table { IsFrom pass.old.pass self.now }
+        requires counter { IsPcpu self.now.facts counter.number }
+        ensures made { IfOk result (λ sum. MakesCall pass.new.pass pass.old.pass
+            (λ own steps. IsSum (present_cpus self.now.facts) counter steps sum)) }
+        ensures means { IfOk result (λ sum. SumMeans pass.new.pass pass.old.pass counter sum) }
+        ensures held { OnErr result (MakesCall pass.new.pass pass.old.pass (λ own steps. GivesUp counter steps)) }
+        ensures gives_up { OnErr result L.may_give_up }
+        ensures volume { pass.new.volume ≡ pass.old.volume }
+    {
+        let sum = self.sum_by(locking, &mut pass.worker, counter)?;
+        Ok(sum)
     }
 
     /// Compares a counter with a number (`__percpu_counter_compare` of lib/percpu_counter.c): by the shared part alone
@@ -87,26 +126,34 @@ impl PcpuTable {
                 rough: true,
             };
         }
-        let sum = self.sum_by(rt, worker, counter);
-        Compare {
-            sign: sign(sum - rhs),
-            rough: false,
+        match self.sum_by(&Waiting(rt), worker, counter) {
+            Ok(sum) => Compare {
+                sign: sign(sum - rhs),
+                rough: false,
+            },
+            Err(_) => unreachable!(),
         }
     }
 
-    fn sum_by<R: Wait>(&self, rt: &R, worker: &mut Worker<SharedPcpu>, counter: PcpuId) -> i64
+    fn sum_by<L: Locking>(
+        &self,
+        locking: &L,
+        worker: &mut Worker<SharedPcpu>,
+        counter: PcpuId,
+    ) -> Result<i64, Held>
         requires table { IsFrom worker.old self.now }
         requires counter { IsPcpu self.now.facts counter.number }
         requires calls { MayCall worker.old.facts worker.old.seen worker.old.number }
-        ensures made { (steps : List PcpuStep) × IsSum (present_cpus self.now.facts) counter steps result
-            × Made percpu worker.new worker.old steps }
-        ensures bound { unsigned_abs result ≤ most_number + 128 * most_batch }
+        ensures made { IfOk result (λ sum. (steps : List PcpuStep)
+            × IsSum (present_cpus self.now.facts) counter steps sum × Made percpu worker.new worker.old steps) }
+        ensures bound { IfOk result (λ sum. unsigned_abs sum ≤ most_number + 128 * most_batch) }
+        ensures held { OnErr result (L.may_give_up × MadeOne percpu worker.new worker.old (Missed counter)) }
     {
-        self.lock(rt, worker, counter);
+        locking.lock(self, worker, counter)?;
         let count = self.load_count(worker, counter);
         let sum = count + self.load_locals(worker, counter);
         self.unlock(worker, counter);
-        sum
+        Ok(sum)
     }
 
     /// Loads the local parts of the CPUs that are online or dead, and adds them up.

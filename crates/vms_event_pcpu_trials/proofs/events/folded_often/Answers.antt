@@ -7,7 +7,8 @@ pub loop-init : goal.loop-init
 loop-init c = sees_more-same c.args.pass
 
 pub fold_events-requires-clause-table : goal.fold_events-requires-clause-table
-fold_events-requires-clause-table c = is_of-later c.args.table.now c.loop.pass c.args.pass c.loop.invariant c.requires.table
+fold_events-requires-clause-table c = is_of-later c.args.table.now c.loop.pass c.args.pass c.loop.invariant
+    c.requires.table
 
 pub loop-preserved : goal.loop-preserved
 loop-preserved c = sees_more-both c.fold_events.new.pass c.loop.pass c.args.pass

@@ -27,8 +27,8 @@ returns-then-unsigned_abs-unknown g c =
     compared_far c.args.worker.now c.load_count.new.worker j v c.load_count.ensures.made facts rhs off
     (to_z w8 (of_z w8 c.sign.result)) (passed-sign c.sign.result _ (v -ℤ rhs) c.sign.ensures fits)
 
-pub sum_by-sum-requires-clause-calls : goal.sum_by-sum-requires-clause-calls
-sum_by-sum-requires-clause-calls g c =
+pub sum_by-requires-clause-calls : goal.sum_by-requires-clause-calls
+sum_by-requires-clause-calls g c =
     compare_sum-may c.args.worker.now c.load_count.new.worker c.args.counter c.load_count.result
     c.load_count.ensures.made c.args.self.now.facts c.args.rhs c.requires.calls
 
@@ -37,10 +37,10 @@ returns g c =
     let j = c.args.counter in
     let facts = c.args.self.now.facts in
     let v = c.load_count.result in
-    let sum = c.sum_by-sum.result in
+    let sum = c.in-Ok.sum in
     let rhs : ℤ = c.args.rhs in
     let small = c.load_count.ensures.bound in
-    let few = c.sum_by-sum.ensures.bound in
+    let few = c.in-Ok.ensures.bound in
     let most = c.requires.rhs in
     let fits = same_difference v rhs (omega (arith, small)) (omega (arith, most)) in
     let fits_sum = same_difference sum rhs (omega (arith, few)) (omega (arith, most)) in
@@ -54,5 +54,6 @@ returns g c =
       c.if-unsigned_abs-unknown.false,
     ) in
     compared_near c.args.worker.now c.load_count.new.worker j v c.load_count.ensures.made facts rhs close
-    c.sum_by-sum.new.worker c.sum_by-sum.ensures.made.0 sum c.sum_by-sum.ensures.made.1 c.sum_by-sum.ensures.made.2
-    (to_z w8 (of_z w8 c.sign-2.result)) (passed-sign c.sign-2.result _ (sum -ℤ rhs) c.sign-2.ensures fits_sum)
+    c.sum_by.new.worker c.in-Ok.ensures.made.0 sum c.in-Ok.ensures.made.1 c.in-Ok.ensures.made.2
+    (to_z w8 (of_z w8 c.sign-in-Ok.result))
+    (passed-sign c.sign-in-Ok.result _ (sum -ℤ rhs) c.sign-in-Ok.ensures fits_sum)

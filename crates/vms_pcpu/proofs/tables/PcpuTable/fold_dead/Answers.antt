@@ -33,8 +33,8 @@ sync_by-requires-clause-whose g c =
 pub loop-number-preserved : goal.loop-number-preserved
 loop-number-preserved g c =
     folds-more c.args.dead c.pass.inside.worker c.pass.invariant.0 c.pass.invariant.1 c.loop-number.pass-inside.worker
-    c.loop-number.number c.loop-number.invariant c.sync_by.new.worker c.sync_by.ensures.0 c.sync_by.ensures.1
-    c.sync_by.ensures.2
+    c.loop-number.number c.loop-number.invariant c.sync_by.new.worker c.in-Ok.ensures.made.0 c.in-Ok.ensures.made.1
+    c.in-Ok.ensures.made.2
 
 pub invariant_of-pass : goal.invariant_of-pass
 invariant_of-pass g c =

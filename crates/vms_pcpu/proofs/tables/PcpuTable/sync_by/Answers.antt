@@ -14,15 +14,16 @@ move_local-requires-clause-may g c =
     sync-may c.args.worker.now cpu j c.requires.calls
     (subst (λ (f : PcpuFacts). IsPcpu f j.number) facts c.requires.counter)
     (subst (λ (f : PcpuFacts). IsCpu f.layout cpu.number) facts c.requires.cpu) c.requires.whose
-    c.lock.new.worker c.lock.ensures.0 c.lock.ensures.1 c.lock.ensures.2
+    c.lock.new.worker c.in_ok-lock.ensures.won.0 c.in_ok-lock.ensures.won.1 c.in_ok-lock.ensures.won.2
 
-pub returns : goal.returns
-returns g c =
+pub returns-clause-made : goal.returns-clause-made
+returns-clause-made g c =
     let j = c.args.counter in
     let cpu = c.args.cpu in
     let facts = sym c.requires.table.facts in
     synced c.args.worker.now cpu j c.requires.calls
     (subst (λ (f : PcpuFacts). IsPcpu f j.number) facts c.requires.counter)
     (subst (λ (f : PcpuFacts). IsCpu f.layout cpu.number) facts c.requires.cpu) c.requires.whose
-    c.lock.new.worker c.lock.ensures.0 c.lock.ensures.1 c.lock.ensures.2 c.move_local.new.worker c.move_local.ensures.0
+    c.lock.new.worker c.in_ok-lock.ensures.won.0 c.in_ok-lock.ensures.won.1 c.in_ok-lock.ensures.won.2
+    c.move_local.new.worker c.move_local.ensures.0
     c.move_local.ensures.1

@@ -1,5 +1,5 @@
 use Rattle.vms_pcpu.proofs.LockTries.{Tried}
-use Rattle.vms_pcpu.proofs.tables.PcpuTable.lock.Given as goal
+use Rattle.vms_pcpu.proofs.tables.PcpuTable.wait_for_lock.Given as goal
 
 abbrev pub invariant-loop : goal.invariant-loop
 invariant-loop g l =

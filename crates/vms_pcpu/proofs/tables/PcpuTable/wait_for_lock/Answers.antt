@@ -3,7 +3,7 @@ use Rattle.std.proofs.Common.{if◌then◌else◌, subst}
 use Rattle.vms_pcpu_core.specs.declared.steps.PcpuStep.TheVariants.{Won, Missed}
 use Rattle.vms_pcpu_core.specs.Common.{percpu}
 use Rattle.vms_pcpu.proofs.LockTries.{tried-missed, tried-won}
-use Rattle.vms_pcpu.proofs.tables.PcpuTable.lock.Goals as goal
+use Rattle.vms_pcpu.proofs.tables.PcpuTable.wait_for_lock.Goals as goal
 use Rattle.vms_seats.specs.Common.{MadeOne}
 
 pub returns-then-try_lock : goal.returns-then-try_lock
