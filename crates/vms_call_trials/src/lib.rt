@@ -1,4 +1,5 @@
-//! Trials of the calls on page counters that threads share: calls in turn on tables, against numbers worked out by hand.
+//! Trials of the calls on page counters that threads share: calls in turn on tables, against numbers worked out by
+//! hand.
 #![tactic(auto)]
 
 #[cfg(test)]

@@ -1,4 +1,5 @@
 pub mod Online
 pub mod SetCounts
 pub mod Unladen
+pub mod SettledMarks
 pub mod Common

@@ -1,9 +1,10 @@
 ghost use Rattle.std.specs.Prelude.{◌≡◌, ◌≢◌, ℕ, suc, ◌<◌, ◌≤◌, List, length};
 ghost use Rattle.vms_calls.specs.Common.{IsNode, IsPlace, RatesNode, SetsNormal, SetsPressure, VisitsEach, node_number};
-ghost use Rattle.vms_calls.specs.Common.{zones_on, Step, IsControl, pages, choice_of, rated_by};
+ghost use Rattle.vms_calls.specs.Common.{zones_on, ByNormal, ByPressure, Step, IsControl, pages, choice_of, rated_by};
 ghost use Rattle.vms_calls.specs.declared.choices.Rating.TheVariants.{Refresh};
 ghost use Rattle.vms_control.specs.Online.{FoundOnline};
 ghost use Rattle.vms_control.specs.SetCounts.{HasSetsLeft, MayStillSet, SetsAtMost, SetsOnceMore, once};
+ghost use Rattle.vms_control.specs.SettledMarks.{SettlesNode};
 ghost use Rattle.vms_control.specs.Unladen.{StaysUnladen};
 ghost use Rattle.vms_seats.specs.Common.{IsFrom, Made};
 
@@ -19,7 +20,12 @@ use vms_words::{Caller, ControlPass, PageTable};
 ///
 /// At every moment each mark covers what the CPUs may hide of its zone by the thresholds that they may still be using:
 /// this holds of every legal history, and so in the middle of this call too. A mark comes down, also to 0, where CPUs
-/// acknowledged smaller thresholds or became absent. Where it came down to 0, `set_normal` then leaves the zone as it is.
+/// acknowledged smaller thresholds or became absent. Where it came down to 0, `set_normal` then leaves the zone as it
+/// is.
+///
+/// Where no CPU is dead and each CPU that is online was found to have acknowledged the newest threshold of a zone, the
+/// call leaves Linux's mark for the normal threshold, raised to cover the larger of the old and the new threshold of
+/// each of these CPUs, in sum.
 ///
 /// `PageTable::most_sets` has to be below 2,000,000, and grows by at most 1.
 pub fn set_pressure<N: Rule, P: Rule>(
@@ -35,6 +41,8 @@ pub fn set_pressure<N: Rule, P: Rule>(
     requires room { HasSetsLeft table.now.facts pass.old.seen }
     ensures made { (steps : List Step) × SetsPressure table.now.facts (P.answers rules.now.pressure)
         (N.answers rules.now.normal) node pass.old.number pass.old.seen steps × Made pages pass.new pass.old steps }
+    ensures marks { SettlesNode table.now.facts (ByPressure (P.answers rules.now.pressure)
+        (N.answers rules.now.normal)) node pass.new pass.old }
     ensures control { IsControl pass.old.seen pass.old.number }
     ensures carries { StaysUnladen table.now.facts pass.new pass.old }
     ensures sets { SetsOnceMore table.now.facts pass.new.seen pass.old.seen }
@@ -43,8 +51,8 @@ pub fn set_pressure<N: Rule, P: Rule>(
 }
 
 /// Sets the normal thresholds of a node's zones again, under marks that cover them (`set_pgdat_percpu_threshold` of
-/// mm/vmstat.c with `calculate_normal_threshold`). A zone whose mark is 0 keeps its thresholds. What `set_pressure` says
-/// of marks and of `PageTable::most_sets` holds of this call too.
+/// mm/vmstat.c with `calculate_normal_threshold`). A zone whose mark is 0 keeps its thresholds. What `set_pressure`
+/// says of marks and of `PageTable::most_sets` holds of this call too.
 pub fn set_normal<N: Rule, P: Rule>(
     table: &PageTable,
     pass: &mut ControlPass,
@@ -58,6 +66,7 @@ pub fn set_normal<N: Rule, P: Rule>(
     requires room { HasSetsLeft table.now.facts pass.old.seen }
     ensures made { (steps : List Step) × SetsNormal table.now.facts (N.answers rules.now.normal) node pass.old.number
         pass.old.seen steps × Made pages pass.new pass.old steps }
+    ensures marks { SettlesNode table.now.facts (ByNormal (N.answers rules.now.normal)) node pass.new pass.old }
     ensures control { IsControl pass.old.seen pass.old.number }
     ensures carries { StaysUnladen table.now.facts pass.new pass.old }
     ensures sets { SetsOnceMore table.now.facts pass.new.seen pass.old.seen }
@@ -82,6 +91,8 @@ fn rate_node<N: Rule, P: Rule>(
     ensures made { (steps : List Step) × RatesNode table.now.facts
         (choice_of rating (P.answers rules.now.pressure) (N.answers rules.now.normal)) node pass.old.number
         pass.old.seen steps × Made pages pass.new pass.old steps }
+    ensures marks { SettlesNode table.now.facts (choice_of rating (P.answers rules.now.pressure)
+        (N.answers rules.now.normal)) node pass.new pass.old }
     ensures control { IsControl pass.old.seen pass.old.number }
     ensures carries { StaysUnladen table.now.facts pass.new pass.old }
     ensures sets { SetsOnceMore table.now.facts pass.new.seen pass.old.seen }

@@ -4,6 +4,7 @@ ghost use Rattle.vms_calls.specs.Common.{VisitsEach, largest_on, numbers_below, 
 ghost use Rattle.vms_calls.specs.Common.{pages};
 ghost use Rattle.vms_control.specs.Online.{FoundOnline};
 ghost use Rattle.vms_control.specs.SetCounts.{HasSetsLeft, MayStillSet, SetsAtMost, SetsOnceMore, never, once};
+ghost use Rattle.vms_control.specs.SettledMarks.{SettlesAll};
 ghost use Rattle.vms_control.specs.Unladen.{StaysUnladen};
 ghost use Rattle.vms_seats.specs.Common.{IsFrom, Made};
 
@@ -24,6 +25,10 @@ use vms_words::{Caller, ControlPass, PageTable};
 /// each mark covers what the CPUs may hide of its zone by the thresholds that they may still be using: this holds of
 /// every legal history, and so in the middle of this call too.
 ///
+/// Where no CPU is dead and each CPU that is online was found to have acknowledged the newest threshold of a zone, the
+/// refresh leaves Linux's mark, raised to cover the larger of the old and the new threshold of each of these CPUs, in
+/// sum.
+///
 /// `PageTable::most_sets` has to be below 2,000,000, and grows by at most 1.
 pub fn refresh_thresholds<N: Rule, P: Rule>(
     table: &PageTable,
@@ -36,6 +41,7 @@ pub fn refresh_thresholds<N: Rule, P: Rule>(
     requires room { HasSetsLeft table.now.facts pass.old.seen }
     ensures made { (steps : List Step) × Refreshes table.now.facts (N.answers rules.now.normal) pass.old.number
         pass.old.seen steps × Made pages pass.new pass.old steps }
+    ensures marks { SettlesAll table.now.facts (N.answers rules.now.normal) pass.new pass.old }
     ensures carries { StaysUnladen table.now.facts pass.new pass.old }
     ensures sets { SetsOnceMore table.now.facts pass.new.seen pass.old.seen }
 {

@@ -58,7 +58,7 @@ module _ (shape : Shape) (g : PlaceId) where
       by false other = (took.0, some area [] took.0 blocks told (eqb-false blocks 0 other), took.2)
 
 -- the areas of the names from an order on are that of the order and the later ones
-areas-next : (items : List ItemDecl) (n : ℕ) → 1 ≤ n → n ≤ 10
+pub areas-next : (items : List ItemDecl) (n : ℕ) → 1 ≤ n → n ≤ 10
     → areas_named items n (drop (n - 1) area_names)
     ≡ area_at n (area_index items n) ++ areas_named items (n + 1) (drop n area_names)
 areas-next items n least most =

@@ -3,3 +3,4 @@ pub mod OrderTests
 pub mod ZoneTests
 pub mod TurnSteps
 pub mod TurnRules
+pub mod BlockCounts

@@ -88,7 +88,7 @@ module _ (header : Header) (g : PlaceId) (mark : WaterMark) (most : ℕ) (verdic
       by false room seeks = absurd (true≢false (sym found ∙ ap is_some seeks.1))
 
 -- what a filter keeps stood in the list
-filter-contains : {X : Type 0} (p : X → Bool) (xs : List X) (x : X) → Contains (filter p xs) x → Contains xs x
+pub filter-contains : {X : Type 0} (p : X → Bool) (xs : List X) (x : X) → Contains (filter p xs) x → Contains xs x
 filter-contains p xs x there =
     All-contains (λ a. Contains xs a) (filter p xs) x
     (All-filter p (λ a. Contains xs a) xs (λ i d less. Contains-get_or xs i d less)) there

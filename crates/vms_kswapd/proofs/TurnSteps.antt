@@ -1,7 +1,7 @@
 -- For other crates too: a turn from its three calls, and what the calls leave.
 use Rattle.std.proofs.Common.{◌≡◌, ℕ, ◌≤◌, List, ◌++◌, refl, sym, ap, subst, ◌∙◌, arith, append_assoc}
-use Rattle.vms_calls.specs.Common.{Header, PlaceId, ZoneSize, High, Shape, limit_of, facts_of, KnowsByOwnSteps, HasMade}
-use Rattle.vms_calls.specs.Common.{ByNormal, SetsPressure, IsBalanceTest, IsTurn, SetsAfterYes, Facts, Step, IsControl}
+use Rattle.vms_calls.specs.Common.{Header, PlaceId, ZoneSize, Shape, facts_of, KnowsByOwnSteps, HasMade, ByNormal}
+use Rattle.vms_calls.specs.Common.{SetsPressure, IsBalanceTest, IsTurn, SetsAfterYes, Facts, Step, IsControl}
 use Rattle.vms_calls.specs.Common.{CarriesNothing, carried, carried_of_item, pages, History, state_after, after, own}
 use Rattle.vms_calls.specs.declared.answers.Balance.{Balance}
 use Rattle.vms_calls.specs.declared.answers.Balance.TheVariants.{Yes, No}
@@ -10,7 +10,6 @@ use Rattle.vms_control.specs.Common.{never}
 use Rattle.vms_control.proofs.Common.{largest-grows, control-new, of-new, sums-made, SetsNothing, looks-set_nothing}
 use Rattle.vms_control.proofs.Common.{quiet-sets, SameSums, node-same}
 use Rattle.vms_kswapd.specs.Common.{NamesPassed}
-use Rattle.vms_look.proofs.Common.{truly-whole_call}
 use Rattle.vms_seats.specs.Common.{Pass, Shared, IsFrom, Made}
 use Rattle.vms_seats.proofs.Common.{calls-both}
 use Rattle.vms_words.specs.Common.{largest_sets}
@@ -98,26 +97,22 @@ module _ (words : Shared Facts) (header : Header) (pressure normal : ZoneSize �
 pub names-whole : (header : Header) (new two one old : Pass Facts Step) (n : PlaceId) (order most : ℕ)
     (answer : Balance) (pressed further : List Step) → Made pages one old pressed → Made pages new two further
     → NamesPassed header two one n order most answer → NamesPassed header new old n order most answer
-names-whole header new two one old n order most (Yes g verdict) pressed further first last named =
-    let mid = calls-both pages two one old pressed (named.earlier ++ (named.test ++ named.later)) named.made first in
-    let in_order : (pressed ++ (named.earlier ++ (named.test ++ named.later))) ++ further
-    ≡ (pressed ++ named.earlier) ++ (named.test ++ (named.later ++ further)) =
-    append_assoc pressed (named.earlier ++ (named.test ++ named.later)) further
-    ∙ ap (λ (ks : List Step). pressed ++ ks) (append_assoc named.earlier (named.test ++ named.later) further
-    ∙ ap (λ (ks : List Step). named.earlier ++ ks) (append_assoc named.test named.later further))
-    ∙ sym (append_assoc pressed named.earlier (named.test ++ (named.later ++ further))) in
-    record {
-      one_of = named.one_of;
-      passed = named.passed;
-      earlier = pressed ++ named.earlier;
-      test = named.test;
-      later = named.later ++ further;
-      made = subst (Made pages new old) in_order (calls-both pages new two old
-          (pressed ++ (named.earlier ++ (named.test ++ named.later))) further last mid);
-      tests = named.tests;
-      truly = λ fast.
-          truly-whole_call new two one old g (limit_of header g.number High most) first.facts first.number
-          first.made.extends last.made.extends (named.truly fast);
-      block = named.block;
-    }
+names-whole header new two one old n order most (Yes g verdict) pressed further first last named = record {
+  one_of = named.one_of;
+  passed = named.passed;
+  earlier = pressed ++ named.earlier;
+  test = named.test;
+  later = named.later ++ further;
+  before = named.before;
+  after = named.after;
+  came = calls-both pages named.before one old pressed named.earlier named.came first;
+  tested = named.tested;
+  went_on = calls-both pages new two named.after named.later further last named.went_on;
+  tests = named.tests;
+  near = named.near;
+  truly = named.truly;
+  summed = named.summed;
+  block = named.block;
+  counts = named.counts;
+}
 names-whole header new two one old n order most No pressed further first last named = tt

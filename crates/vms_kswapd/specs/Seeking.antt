@@ -10,5 +10,6 @@ HasSought shape new old g areas found =
 
 -- the steps that look for a free block of an order or larger where there is room for one, and none where there isn't
 abbrev pub Seeks : Header → PlaceId → ℕ → Bool → List Step → Option ℕ → Type 0
-Seeks header g order true steps found = FindsBlock header.layout g (areas_from order (areas_of header.items)) steps found
+Seeks header g order true steps found = FindsBlock header.layout g
+    (areas_from order (areas_of header.items)) steps found
 Seeks header g order false steps found = (steps ≡ []) × (found ≡ None)

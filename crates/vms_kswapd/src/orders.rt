@@ -1,9 +1,9 @@
-ghost use Rattle.std.specs.Prelude.{◌≡◌, ◌≢◌, ◌≤◌, ◌^◌, true, List, Some, None, if◌then◌else◌};
+ghost use Rattle.std.specs.Prelude.{◌≡◌, ◌≢◌, ◌≤◌, ◌^◌, ℕ, true, false, List, Some, None, if◌then◌else◌};
 ghost use Rattle.vms_calls.specs.Common.{area_at, areas_from, areas_of, IsHeader, IsZone, limit_of, IsOrderTest};
-ghost use Rattle.vms_calls.specs.Common.{has_room, Step, pages, area_index};
-ghost use Rattle.vms_kswapd.specs.Passing.{FoundBlock};
+ghost use Rattle.vms_calls.specs.Common.{has_room, Step, free_pages as free_counter, pages, area_index};
+ghost use Rattle.vms_kswapd.specs.Passing.{CountsBlocks, FoundBlock};
 ghost use Rattle.vms_kswapd.specs.Seeking.{HasSought, Seeks};
-ghost use Rattle.vms_look.specs.Common.{SaysTruly};
+ghost use Rattle.vms_look.specs.Common.{HasSummed, SaysTruly, TellsTruly};
 ghost use Rattle.vms_seats.specs.Common.{IsFrom, Made};
 
 use vms_base::{Header, PlaceId, WaterMark};
@@ -18,7 +18,8 @@ use vms_words::{Caller, PageTable};
 /// `area10` that the header declares, by ascending order up to the first snapshot that isn't 0, and only where more
 /// pages than the watermark asks for are left once all pages of a block but one are taken off.
 ///
-/// A yes whose free pages are no snapshot says of them what a yes of `watermark_ok` does.
+/// Of its free pages an answer, yes or no, says what that of `watermark_ok` does, and of a block that was found what a
+/// snapshot does.
 pub fn zone_ok<P: Caller>(
     table: &PageTable,
     pass: &mut P,
@@ -37,11 +38,17 @@ pub fn zone_ok<P: Caller>(
     requires most { most ≤ 3 }
     ensures made { (steps : List Step) × IsOrderTest header.now zone mark most order steps result
         × Made pages (P.pass pass.new) (P.pass pass.old) steps }
+    ensures near { result.fast ≡ true →
+        TellsTruly (P.pass pass.new) (P.pass pass.old) zone result.free }
     ensures truly { result.yes ≡ true → result.fast ≡ true →
         SaysTruly (P.pass pass.new) (P.pass pass.old) zone (limit_of header.now zone.number mark most) }
+    ensures summed { result.fast ≡ false →
+        HasSummed (P.pass pass.new) (P.pass pass.old) (free_counter header.now.layout zone) result.free }
     ensures block { result.yes ≡ true → order ≢ 0 → (steps : List Step)
         × FoundBlock header.now zone order steps result.area
         × Made pages (P.pass pass.new) (P.pass pass.old) steps }
+    ensures counts { result.yes ≡ true → order ≢ 0 →
+        CountsBlocks header.now (P.pass pass.new) (P.pass pass.old) zone order result.area }
     ensures volume { P.volume pass.new ≡ P.volume pass.old }
 {
     let verdict = watermark_ok(table, pass, header, zone, mark, most);
@@ -82,6 +89,8 @@ fn block_within<P: Caller>(
     requires limit { limit ≤ 2 ^ 43 }
     ensures made { (steps : List Step) × Seeks header.now zone order (has_room limit order free) steps result
         × Made pages (P.pass pass.new) (P.pass pass.old) steps }
+    ensures counts { (found : ℕ) → result ≡ Some found →
+        CountsBlocks header.now (P.pass pass.new) (P.pass pass.old) zone order result }
     ensures volume { P.volume pass.new ≡ P.volume pass.old }
 {
     pass.is_live();
@@ -108,6 +117,8 @@ fn first_block<P: Caller>(
     requires most { order ≤ 10 }
     ensures made { HasSought header.now.layout (P.pass pass.new) (P.pass pass.old) zone
         (areas_from order (areas_of header.now.items)) result }
+    ensures counts { (found : ℕ) → result ≡ Some found →
+        CountsBlocks header.now (P.pass pass.new) (P.pass pass.old) zone order result }
     ensures volume { P.volume pass.new ≡ P.volume pass.old }
 {
     pass.is_live();
@@ -135,6 +146,8 @@ fn has_block<P: Caller>(
     requires most { order ≤ 10 }
     ensures made { HasSought header.now.layout (P.pass pass.new) (P.pass pass.old) zone
         (area_at order (area_index header.now.items order)) (if result then Some order else None) }
+    ensures counts { result ≡ true →
+        CountsBlocks header.now (P.pass pass.new) (P.pass pass.old) zone order (Some order) }
     ensures volume { P.volume pass.new ≡ P.volume pass.old }
 {
     pass.is_live();

@@ -17,8 +17,8 @@ use vms_words::{Caller, ControlPass, PageTable};
 /// a highest zone index, and sets normal thresholds if it is (`kswapd_try_to_sleep` of mm/vmscan.c).
 ///
 /// After a yes the thresholds of the CPUs that were found online are those of the normal rule, after a no those of the
-/// pressure rule, in each zone of the node whose mark the last call on thresholds found not 0. A pressure call may bring
-/// a mark down to 0; the normal call leaves the zone then, and pressure thresholds stay in it after a yes.
+/// pressure rule, in each zone of the node whose mark the last call on thresholds found not 0. A pressure call may
+/// bring a mark down to 0; the normal call leaves the zone then, and pressure thresholds stay in it after a yes.
 pub fn kswapd_turn<N: Rule, P: Rule>(
     table: &PageTable,
     pass: &mut ControlPass,
@@ -37,8 +37,8 @@ pub fn kswapd_turn<N: Rule, P: Rule>(
     requires most { most ≤ 3 }
     requires room { suc (largest_sets table.now.facts.layout (state_after table.now.facts pass.old.seen)) < most_sets }
     ensures made { (steps : List Step)
-        × (turn : IsTurn header.now table.now.facts.base (P.answers rules.now.pressure) (N.answers rules.now.normal) node
-        order most pass.old.number pass.old.seen steps result)
+        × (turn : IsTurn header.now table.now.facts.base (P.answers rules.now.pressure) (N.answers rules.now.normal)
+        node order most pass.old.number pass.old.seen steps result)
         × Made pages pass.new pass.old steps
         × LeavesRule header.now table.now.facts.base (P.answers rules.now.pressure) (N.answers rules.now.normal) node
         order most pass.old.number pass.old.seen steps result turn pass.new.seen }

@@ -1,18 +1,20 @@
 -- For other crates too: what the looks at CPUs made of a snapshot stand so far.
-use Rattle.std.proofs.Common.{◌≡◌, ℕ, suc, ◌+◌, ◌*◌, ◌%◌, ◌^◌, ◌<◌, ◌≤◌, true, false, true≢false, ℤ, pos, ◌+ℤ◌, List}
-use Rattle.std.proofs.Common.{[], ◌∷◌, ◌++◌, length, FitsSigned, w64, refl, sym, ap, ◌∙◌, subst, arith, unsigned_abs}
-use Rattle.std.proofs.Common.{append_assoc, append-nil, length-append, add-one, Bool, if◌then◌else◌}
+use Rattle.std.proofs.Common.{◌≡◌, ℕ, suc, ◌+◌, ◌*◌, ◌%◌, ◌^◌, ◌<◌, ◌≤◌, true, false, true≢false, ℤ, pos, ◌+ℤ◌, ◌-ℤ◌}
+use Rattle.std.proofs.Common.{List, [], ◌∷◌, ◌++◌, length, FitsSigned, w64, refl, sym, ap, ◌∙◌, subst, arith}
+use Rattle.std.proofs.Common.{unsigned_abs, append_assoc, append-nil, length-append, add-one, Bool, if◌then◌else◌}
 use Rattle.std.proofs.lemmas.Int.{ints}
 use Rattle.std.proofs.lemmas.List.Elements.{All-append, All-cons, All-nil, All-tail}
 use Rattle.vms_calls.specs.Common.{Diffs, CounterId, CpuId, GroupId, CpuState, Online, Dead, Absent, is_online, Shape}
-use Rattle.vms_calls.specs.Common.{IsCounter, group_of, in_turn, IsSnapshot, Look, at_least_zero, hidden, look_steps}
-use Rattle.vms_calls.specs.Common.{online, other, Facts, Step, LoadD, LoadG, LoadO, State, TellsGroup, cpu_at, diff_at}
-use Rattle.vms_calls.specs.Common.{entry, value_at, pages, History, state_after, Event, Extends, own, after}
-use Rattle.vms_calls.specs.Common.{GoesOnWithout, sum_below}
+use Rattle.vms_calls.specs.Common.{IsCounter, IsCpu, place_of, group_of, in_turn, IsSnapshot, Look, at_least_zero}
+use Rattle.vms_calls.specs.Common.{hidden, look_steps, online, other, Facts, Step, LoadD, LoadG, LoadO, State}
+use Rattle.vms_calls.specs.Common.{TellsGroup, cpu_at, diff_at, entry, value_at, pages, History, state_after, Event}
+use Rattle.vms_calls.specs.Common.{Extends, own, after, GoesOnWithout, sum_below}
 use Rattle.vms_core.specs.Pages.{IsLegal}
 use Rattle.vms_core.proofs.Common.{laws-kept}
-use Rattle.vms_history.proofs.Common.{Extends-both, own-mine, own-on_top}
+use Rattle.vms_base.proofs.Common.{place_of-lt}
+use Rattle.vms_history.proofs.Common.{Extends-both, base_can_begin, own-mine, own-on_top, prefix_is_legal}
 use Rattle.vms_look.specs.Common.{HasLooked, found_at, AllLeaveDiffs, EndsWithStep, LeavesDiffs, SumsTruly, online_diff}
+use Rattle.vms_look.specs.Common.{online_looks}
 use Rattle.vms_look.proofs.PassSteps.{step-at_first}
 use Rattle.vms_look.proofs.StandingDiffs.{all-first, all-later, diffs-stand, online-with_dead, online_diffs-stand}
 use Rattle.vms_look.proofs.StandingDiffs.{onlines-stand}
@@ -44,6 +46,46 @@ module _ (mid old : Pass Facts Step) (c : CpuId) (x : CpuState) (one : MadeOne p
   state_stood : cpu_at (state_after old.facts one.at.before) c.number ≡ x
   state_stood = (subst (IsLegal old.facts) one.at.newest one.at.legal).2.1
 
+  c_in : IsCpu old.facts.layout c.number
+  c_in = (subst (IsLegal old.facts) one.at.newest one.at.legal).2.0
+
+  -- what a differential came to at any moment
+  diff_within : (h : History) → IsLegal old.facts h
+      → unsigned_abs (diff_at (state_after old.facts h) c.number k.number) ≤ 125
+  diff_within h legal =
+      let laws = laws-kept old.facts h legal in
+      let layout = (base_can_begin pages old.facts h legal).layout in
+      let within = laws.by_peaks c.number k.number c_in k_in in
+      let most = laws.peaks c.number (place_of old.facts.layout k.number) c_in
+      (place_of-lt old.facts.layout layout k.number k_in) in
+      omega (arith, within.differential, within.last, most)
+
+  online_diff_within : (h : History) → IsLegal old.facts h
+      → unsigned_abs (online_diff (state_after old.facts h) k.number c.number) ≤ 125
+  online_diff_within h legal = by (is_online (cpu_at (state_after old.facts h) c.number))
+    where
+      by : (b : Bool)
+          → unsigned_abs (if b then diff_at (state_after old.facts h) c.number k.number else pos 0) ≤ 125
+      by true = diff_within h legal
+      by false = omega arith
+
+  -- what was seen at any earlier moment is legal, and the CPU was online then if it is online before the look
+  earlier_legal : (earlier : History) → Extends old.seen earlier → IsLegal old.facts earlier
+  earlier_legal earlier from =
+      let more = one.at.others.extends in
+      prefix_is_legal pages old.facts from.0 earlier (subst (IsLegal old.facts) from.1
+      (prefix_is_legal pages old.facts more.0 old.seen (subst (IsLegal old.facts) more.1 one.at.others.legal)))
+
+  earlier_online : (earlier : History) → Extends old.seen earlier
+      → is_online (cpu_at (state_after old.facts earlier) c.number)
+      ≡ is_online (cpu_at (state_after old.facts old.seen) c.number)
+  earlier_online earlier from =
+      let more = one.at.others.extends in
+      let legal = prefix_is_legal pages old.facts more.0 old.seen
+      (subst (IsLegal old.facts) more.1 one.at.others.legal) in
+      sym (onlines-stand old.facts earlier from.0 (subst (IsLegal old.facts) from.1 legal) c.number)
+      ∙ ap (λ (h : History). is_online (cpu_at (state_after old.facts h) c.number)) (sym from.1)
+
   -- the CPU was online before the look where it is found online
   online_before : is_online (cpu_at (state_after old.facts old.seen) c.number) ≡ is_online x
   online_before =
@@ -69,6 +111,10 @@ module _ (mid old : Pass Facts Step) (c : CpuId) (x : CpuState) (one : MadeOne p
       second.1 ∙ ap (λ (h : History). second.0 ++ h) (one.at.newest ∙ ap (λ (h : History). load_state ∷ h) first.1)
       ∙ sym (append_assoc second.0 (load_state ∷ first.0) old.seen) in
       let leaves = λ (e : Event Step). LeavesDiffs k.number e.step in
+      let told : found ≡ diff_at (state_after old.facts load.before) c.number k.number =
+      tells ∙ entry-told (state_after old.facts load.before) c.number k.number w
+      (subst (λ (n : ℕ). TellsGroup (state_after old.facts load.before) c.number n w.values) is
+      (subst (IsLegal old.facts) load.newest load.legal).2.values) in
       record {
         look = online w;
         tells = tells;
@@ -79,10 +125,12 @@ module _ (mid old : Pass Facts Step) (c : CpuId) (x : CpuState) (one : MadeOne p
         since = load_diffs ∷ between;
         grew = load.newest ∙ ap (λ (h : History). load_diffs ∷ h) parts;
         ends = (LoadD c j w, load.before, load.newest);
+        apart = λ earlier from.
+            let was = online_diff_within earlier (earlier_legal earlier from) in
+            let now = diff_within load.before load.others.legal in
+            omega (arith, ints, told, was, now);
         stood = λ leave.
-            tells ∙ entry-told (state_after old.facts load.before) c.number k.number w
-            (subst (λ (n : ℕ). TellsGroup (state_after old.facts load.before) c.number n w.values) is
-            (subst (IsLegal old.facts) load.newest load.legal).2.values)
+            told
             ∙ ap (λ (h : History). diff_at (state_after old.facts h) c.number k.number) parts
             ∙ diffs-stand old.facts old.seen k.number k_in between
             (subst (IsLegal old.facts) parts load.others.legal) (All-tail leaves load_diffs between leave) c.number
@@ -99,6 +147,11 @@ module _ (mid old : Pass Facts Step) (c : CpuId) (x : CpuState) (one : MadeOne p
         since = load_state ∷ first.0;
         grew = one.at.newest ∙ ap (λ (h : History). load_state ∷ h) first.1;
         ends = (LoadO c x, one.at.before, one.at.newest);
+        apart = λ earlier from.
+            let none : online_diff (state_after old.facts earlier) k.number c.number ≡ pos 0 =
+            ap (λ (b : Bool). if b then diff_at (state_after old.facts earlier) c.number k.number else pos 0)
+            (earlier_online earlier from ∙ online_before ∙ off) in
+            omega (arith, ints, none);
         stood = λ leave. sym (ap (λ (b : Bool). if b then diff_before else pos 0) (online_before ∙ off));
       }
 
@@ -121,6 +174,12 @@ hidden-more k [] (other x differs) = refl
 hidden-more k (online w ∷ looks) look = omega (arith, ints, hidden-more k looks look)
 hidden-more k (other x differs ∷ looks) look = hidden-more k looks look
 
+online_looks-more : (looks : List Look) (look : Look)
+    → online_looks (looks ++ look ∷ []) ≡ online_looks looks + online_looks (look ∷ [])
+online_looks-more [] look = omega arith
+online_looks-more (online w ∷ looks) look = omega (arith, online_looks-more looks look)
+online_looks-more (other x differs ∷ looks) look = online_looks-more looks look
+
 -- the value is loaded, the CPUs below n are looked at, and what they had is added
 pub record SoFar (k : CounterId) (now old : Pass Facts Step) (n : ℕ) (sum : ℤ) : Type 0 where
   pub value : ℤ
@@ -136,6 +195,8 @@ pub record SoFar (k : CounterId) (now old : Pass Facts Step) (n : ℕ) (sum : �
   pub load : now.seen ≡ since ++ (record { caller = old.number; step = LoadG k value } ∷ moment)
   pub ends : EndsWithStep old.number now.seen
   pub value_stood : value_at (state_after old.facts moment) k.number ≡ value
+  pub near : unsigned_abs (hidden k.number looks -ℤ sum_below (online_diff (state_after old.facts moment) k.number) n)
+      ≤ 250 * online_looks looks
   pub stood : AllLeaveDiffs k.number since → hidden k.number looks
       ≡ sum_below (online_diff (state_after old.facts moment) k.number) n
 
@@ -159,6 +220,7 @@ so_far-none facts k k_in now old same value one =
       load = one.at.newest;
       ends = (LoadG k value, one.at.before, one.at.newest);
       value_stood = legal.2.1;
+      near = omega (arith, ints);
       stood = λ leave. refl;
     }
 
@@ -220,6 +282,21 @@ module _ (k : CounterId) (now old : Pass Facts Step) (n : ℕ) (sum : ℤ) (so_f
             ∙ sym (append_assoc looked.since so_far.since (load_value ∷ so_far.moment));
         ends = subst (λ (p : ℕ). EndsWithStep p new.seen) so_far.made.number looked.ends;
         value_stood = so_far.value_stood;
+        near =
+            let apart : unsigned_abs (found -ℤ online_diff (state_after old.facts so_far.moment) k.number n)
+            ≤ 250 * online_looks (looked.look ∷ []) =
+            subst (λ (f : Facts). unsigned_abs (found -ℤ online_diff (state_after f so_far.moment) k.number n)
+            ≤ 250 * online_looks (looked.look ∷ [])) so_far.made.facts
+            (looked.apart so_far.moment (
+              so_far.since ++ (load_value ∷ []),
+              so_far.load ∙ sym (append_assoc so_far.since (load_value ∷ []) so_far.moment),
+            )) in
+            let had = so_far.near in
+            let found_more = online_looks-more so_far.looks looked.look in
+            let sums : sum_below (online_diff (state_after old.facts so_far.moment) k.number) (n + 1)
+            ≡ sum_below (online_diff (state_after old.facts so_far.moment) k.number) (suc n) =
+            ap (sum_below (online_diff (state_after old.facts so_far.moment) k.number)) (add-one n) in
+            omega (arith, ints, more, tells, had, apart, sums, found_more);
         stood = λ leave.
             let leaves = λ (e : Event Step). LeavesDiffs k.number e.step in
             let later = all-later leaves looked.since so_far.since leave in
@@ -270,6 +347,15 @@ module _ (k : CounterId) (now old : Pass Facts Step) (n : ℕ) (sum : ℤ) (so_f
             ∙ ap (λ (h : History). after old.number steps (load_value ∷ h)) (sym so_far.begins.own_same)
             ∙ ap (after old.number steps) (sym (own-mine load_value so_far.moment old.number refl)));
         answers = is ∙ ap at_least_zero so_far.adds;
+        near =
+            let apart : unsigned_abs (hidden k.number so_far.looks
+            -ℤ sum_below (online_diff s k.number) facts.layout.cpus) ≤ 250 * online_looks so_far.looks =
+            subst (λ (c : ℕ). unsigned_abs (hidden k.number so_far.looks -ℤ sum_below (online_diff s k.number) c)
+            ≤ 250 * online_looks so_far.looks) all so_far.near in
+            let parts = online-with_dead facts so_far.moment k.number k_in legal in
+            let total = (laws-kept facts so_far.moment legal).totals k.number k_in in
+            let stood = so_far.value_stood in
+            omega (arith, ints, apart, parts, total, stood);
         truly = λ leave.
             let found = so_far.stood leave
             ∙ ap (sum_below (online_diff s k.number)) all in
@@ -297,5 +383,6 @@ sums-whole_call new mid old k answer facts number since sums =
       one_each = at_first.one_each;
       made = at_first.made;
       answers = at_first.answers;
+      near = at_first.near;
       truly = at_first.truly;
     }

@@ -1,4 +1,5 @@
--- For other crates too: a step of a call, over the facts and the number that its pass had at first, and what a load told.
+-- For other crates too: a step of a call, over the facts and the number that its pass had at first, and what a load
+-- told.
 use Rattle.std.proofs.Common.{◌≡◌, ℕ, ℤ, FitsSigned, w64, to_z, of_z, unsigned_abs, ap, subst, arith}
 use Rattle.std.proofs.lemmas.Int.{ints, to_z-of_z}
 use Rattle.vms_calls.specs.Common.{CounterId, Facts, Step, LoadG, pages}

@@ -2,13 +2,15 @@
 use Rattle.std.proofs.Common.{◌≡◌, ℕ, ◌<◌, ◌≤◌, Bool, false, not, ◌&&◌, ◌||◌, nat_eq, nat_lt, ℤ, to_z, of_z, w64, []}
 use Rattle.std.proofs.Common.{◌∷◌, refl, sym, ap, ◌∙◌, subst, arith}
 use Rattle.std.proofs.lemmas.Bool.Decides.{nat_tests}
-use Rattle.vms_calls.specs.Common.{CounterId, PlaceId, IsZone, counter_at, at_least_zero, free_pages, MarkRead, Facts}
-use Rattle.vms_calls.specs.Common.{Step, LoadG, LoadM, mark_at, value_at, MarkStands, pages, state_after, Extends}
+use Rattle.vms_calls.specs.Common.{CounterId, PlaceId, IsZone, counter_at, place_of, size_at, at_least_zero, free_pages}
+use Rattle.vms_calls.specs.Common.{MarkRead, Facts, Step, LoadG, LoadM, mark_at, value_at, MarkStands, History, pages}
+use Rattle.vms_calls.specs.Common.{state_after, Extends}
 use Rattle.vms_core.specs.Pages.{IsLegal}
-use Rattle.vms_core.proofs.Common.{marks-stand_between}
-use Rattle.vms_history.proofs.Common.{Extends-both}
-use Rattle.vms_look.specs.Common.{LoadsBetween, SaysTruly}
+use Rattle.vms_core.proofs.Common.{counter_at-first, first-known, marks-stand_between}
+use Rattle.vms_history.proofs.Common.{Extends-both, base_can_begin}
+use Rattle.vms_look.specs.Common.{IsNear, LoadsBetween, SaysTruly, TellsTruly, slack_at, slack_of}
 use Rattle.vms_look.proofs.PassSteps.{step-at_first, value-told}
+use Rattle.vms_look.proofs.SlackBounds.{values-near}
 use Rattle.vms_look.proofs.TruePages.{marks-keep_high, no_marks-keep_limit}
 use Rattle.vms_seats.specs.Common.{Pass, MadeOne, MakesStep}
 
@@ -41,7 +43,8 @@ module _ (g : PlaceId) (k : CounterId) (third two one old : Pass Facts Step) (fi
   abbrev loaded_first : MakesStep pages old.facts one.seen old.seen old.number (LoadM g first.mark first.number)
   loaded_first = made_first.at
 
-  abbrev loaded_value : MakesStep pages old.facts two.seen one.seen old.number (LoadG (free_pages old.facts.layout g) value)
+  abbrev loaded_value : MakesStep pages old.facts two.seen one.seen old.number
+      (LoadG (free_pages old.facts.layout g) value)
   loaded_value = subst (λ (j : CounterId). MakesStep pages old.facts two.seen one.seen old.number (LoadG j value))
       (let is : k ≡ free_pages old.facts.layout g = ap (λ (n : ℕ). record { number = n }) is_free in is)
       (step-at_first two one old (LoadG k value) made_first.all.facts made_first.all.number made_value)
@@ -81,7 +84,7 @@ module _ (g : PlaceId) (k : CounterId) (third two one old : Pass Facts Step) (fi
   abbrev mark_stood : ℕ
   mark_stood = mark_at (state_after old.facts loaded_value.before) g.number
 
-  pub says_truly : (limit : ℕ) → limit < free → SaysTruly third old g limit
+  says_truly : (limit : ℕ) → limit < free → SaysTruly third old g limit
   says_truly limit more = record {
     mark = first;
     moment = loaded_value.before;
@@ -100,7 +103,77 @@ module _ (g : PlaceId) (k : CounterId) (third two one old : Pass Facts Step) (fi
         (subst (λ (n : ℕ). limit < n) answers more));
   }
 
--- a test that other steps of the call come before and after
+  free_near : IsNear old.facts loaded_value.before (counter_at old.facts.layout g.number 0) free
+      (slack_of (size_at old.facts.sizes g.number) first.mark)
+  free_near =
+      let counter = counter_at old.facts.layout g.number 0 in
+      let layout = (base_can_begin pages old.facts loaded_value.before loaded_value.others.legal).layout in
+      let place : place_of old.facts.layout counter ≡ g.number = counter_at-first old.facts.layout layout g.number in
+      let near = values-near old.facts loaded_value.before counter loaded_value.others.legal
+      (first-known old.facts.layout layout g.number (omega (arith, zone)))
+      (subst (IsZone old.facts.layout) (sym place) zone) in
+      let told : IsNear old.facts loaded_value.before counter free
+      (slack_at old.facts loaded_value.before (place_of old.facts.layout counter)) =
+      subst (λ (n : ℕ). IsNear old.facts loaded_value.before counter n
+      (slack_at old.facts loaded_value.before (place_of old.facts.layout counter)))
+      (ap at_least_zero value_stood ∙ sym answers) near in
+      subst (λ (m : ℕ). IsNear old.facts loaded_value.before counter free
+      (slack_of (size_at old.facts.sizes g.number) m)) stands.mark
+      (subst (λ (n : ℕ). IsNear old.facts loaded_value.before counter free (slack_at old.facts loaded_value.before n))
+      place told)
+
+  tells_truly : TellsTruly third old g free
+  tells_truly = record {
+    mark = first;
+    moment = loaded_value.before;
+    between = between;
+    told = answers;
+    legal = loaded_value.others.legal;
+    stands = stands;
+    above = loads-told.2;
+    near = free_near;
+  }
+
+  pub tells_and_says : TellsTruly third old g free × ((limit : ℕ) → limit < free → SaysTruly third old g limit)
+  tells_and_says = (tells_truly, says_truly)
+
+-- loads that other steps of the call come before and after
+abbrev between-whole_call : (new last first old : Pass Facts Step) (g : PlaceId) (mark : MarkRead) (moment : History)
+    → Extends first.seen old.seen → Extends new.seen last.seen
+    → LoadsBetween last (record first { facts = old.facts; number = old.number }) g mark moment
+    → LoadsBetween new old g mark moment
+between-whole_call new last first old g mark moment since until loads = record {
+  first = loads.first;
+  last = loads.last;
+  value = loads.value;
+  begins = Extends-both loads.first first.seen old.seen loads.begins since;
+  marks = loads.marks;
+  loads = loads.loads;
+  marks_again = Extends-both new.seen last.seen
+      (record { caller = old.number; step = LoadM g mark.mark mark.number } ∷ loads.last)
+      until loads.marks_again;
+}
+
+-- what a test tells that other steps of the call come before and after
+pub tells-whole_call : (new last first old : Pass Facts Step) (g : PlaceId) (free : ℕ) → first.facts ≡ old.facts
+    → first.number ≡ old.number → Extends first.seen old.seen → Extends new.seen last.seen
+    → TellsTruly last first g free → TellsTruly new old g free
+tells-whole_call new last first old g free facts number since until tells =
+    let at_first : TellsTruly last (record first { facts = old.facts; number = old.number }) g free =
+    subst (λ (p : ℕ). TellsTruly last (record first { facts = old.facts; number = p }) g free) number
+    (subst (λ (f : Facts). TellsTruly last (record first { facts = f }) g free) facts tells) in
+    record {
+      mark = at_first.mark;
+      moment = at_first.moment;
+      between = between-whole_call new last first old g at_first.mark at_first.moment since until at_first.between;
+      told = at_first.told;
+      legal = at_first.legal;
+      stands = at_first.stands;
+      above = at_first.above;
+      near = at_first.near;
+    }
+
+-- what a test says that other steps of the call come before and after
 pub truly-whole_call : (new last first old : Pass Facts Step) (g : PlaceId) (limit : ℕ) → first.facts ≡ old.facts
     → first.number ≡ old.number → Extends first.seen old.seen → Extends new.seen last.seen
     → SaysTruly last first g limit → SaysTruly new old g limit
@@ -108,21 +181,10 @@ truly-whole_call new last first old g limit facts number since until says =
     let at_first : SaysTruly last (record first { facts = old.facts; number = old.number }) g limit =
     subst (λ (p : ℕ). SaysTruly last (record first { facts = old.facts; number = p }) g limit) number
     (subst (λ (f : Facts). SaysTruly last (record first { facts = f }) g limit) facts says) in
-    let loads = at_first.between in
     record {
       mark = at_first.mark;
       moment = at_first.moment;
-      between = record {
-        first = loads.first;
-        last = loads.last;
-        value = loads.value;
-        begins = Extends-both loads.first first.seen old.seen loads.begins since;
-        marks = loads.marks;
-        loads = loads.loads;
-        marks_again = Extends-both new.seen last.seen
-            (record { caller = old.number; step = LoadM g at_first.mark.mark at_first.mark.number } ∷ loads.last)
-            until loads.marks_again;
-      };
+      between = between-whole_call new last first old g at_first.mark at_first.moment since until at_first.between;
       legal = at_first.legal;
       stands = at_first.stands;
       marked = at_first.marked;

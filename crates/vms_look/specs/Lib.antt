@@ -1,4 +1,5 @@
 pub mod SnapshotTotals
 pub mod Looking
+pub mod Slack
 pub mod Truth
 pub mod Common

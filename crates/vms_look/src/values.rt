@@ -36,9 +36,11 @@ pub fn system_value<P: Caller>(table: &PageTable, pass: &mut P, item: ItemId) ->
 
 /// The global value of a counter with what the CPUs have not folded yet that are found online, in pages, and 0 where
 /// that is negative (`zone_page_state_snapshot` of include/linux/vmstat.h; the same of a node's counter). The global
-/// value is loaded first, and then CPU after CPU, so it need not be the value at any one moment. Where no caller puts
-/// to the counter or takes its group meanwhile, the sum is the counter's true total at the load of the global
-/// value, less what callers carry then and less what dead CPUs hide.
+/// value is loaded first, and then CPU after CPU, so it need not be the value at any one moment.
+///
+/// Whatever others do meanwhile, the sum with what callers carry and what dead CPUs hide at the load of the global
+/// value is within 250 pages for each CPU found online of the counter's true total then. Where no caller puts to the
+/// counter or takes its group meanwhile, it is that total.
 pub fn snapshot<P: Caller>(table: &PageTable, pass: &mut P, counter: CounterId) -> u64
     requires table { IsFrom (P.pass pass.old) table.now }
     requires counter { IsCounter table.now.facts.layout counter.number }

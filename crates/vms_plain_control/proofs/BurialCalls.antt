@@ -47,7 +47,8 @@ module _ (header : Header) (c : CpuId) (s folded : State) (folds : FoldsCpu head
         (may_fold facts h p false c controls.control.living c_in (λ is. absurd cc) unladen) made.1
         (subst (λ (x : State). LeadsOn pages_by_state None fold x folded) (sym controls.stands) made.2) in
         let one = Controls-after header base h p s peaks controls fold folded peaks first
-        (KnowsPeaks-left facts p fold (fold-each LeavesPeaks folds-leave shape false c fold made.1) h peaks controls.known) in
+        (KnowsPeaks-left facts p fold (fold-each LeavesPeaks folds-leave shape false c fold made.1)
+        h peaks controls.known) in
         let second = absent-goes_on header base begun p folded peaks one c c_in
         (ap (λ (xs : List CpuState). state_at xs c.number) folded-cpus ∙ dead) (folded-zeros c_in) in
         let two = Controls-after header base begun p folded peaks one set buried peaks second

@@ -1,5 +1,5 @@
 -- For other crates too: of which kinds the steps of a call are that asks no rule.
-use Rattle.std.proofs.Common.{◌≡◌, ℕ, false, ℤ, List, [], ◌∷◌, Option, Some, None, sym, subst}
+use Rattle.std.proofs.Common.{◌≡◌, ℕ, false, ℤ, List, [], ◌∷◌, Option, Some, sym, subst}
 use Rattle.std.specs.Prelude.{All}
 use Rattle.std.proofs.lemmas.List.Elements.{All-cons, All-nil}
 use Rattle.vms_calls.specs.Common.{Diffs, GroupId, Header, CounterId, CpuId, ItemId, PlaceId, Mode, ZoneSize, Shape}

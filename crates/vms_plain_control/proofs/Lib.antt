@@ -1,8 +1,11 @@
 pub mod OnlineLeft
+pub mod OnlineWrites
 pub mod ThresholdWrites
 pub mod KnownSteps
 pub mod ZoneSizes
 pub mod SetTimes
+pub mod PlaceReads
+pub mod PlaceSteps
 pub mod RatedZones
 pub mod NodeThresholds
 pub mod Calls

@@ -1,7 +1,7 @@
 -- How a history goes on by a call that is made on plain page counters.
-use Rattle.std.proofs.Common.{◌≡◌, ◌≢◌, ℕ, false, ℤ, List, [], ◌∷◌, ◌++◌, Option, Some, None, refl, sym, ap, subst, ◌∙◌}
-use Rattle.vms_calls.specs.Common.{Header, CounterId, CpuId, Mode, ZoneSize, GivesThresholds, Step, State, after}
-use Rattle.vms_calls.specs.Common.{facts_of, pages, History, HasWon, LeadsOn}
+use Rattle.std.proofs.Common.{◌≡◌, ◌≢◌, ℕ, false, ℤ, List, Option, Some, None, refl, sym, ap, subst, ◌∙◌}
+use Rattle.vms_calls.specs.Common.{Header, CounterId, CpuId, Mode, ZoneSize, GivesThresholds, State, facts_of, pages}
+use Rattle.vms_calls.specs.Common.{History, HasWon, LeadsOn}
 use Rattle.vms_calls.specs.MayMake as making
 use Rattle.vms_calls.specs.PageCalls.{IsPageCall, asks_rules}
 use Rattle.vms_calls.specs.declared.page_calls.PageAnswer.{PageAnswer}

@@ -1,5 +1,5 @@
--- What plain page counters ask of a call by a caller that owns a CPU or none, what the call answers and makes of them, and
--- which steps it makes.
+-- What plain page counters ask of a call by a caller that owns a CPU or none, what the call answers and makes of them,
+-- and which steps it makes.
 use Rattle.std.specs.Prelude.{◌≡◌, ℕ, ◌^◌, ◌≤◌, false, List, Option, Some, None, All, unsigned_abs}
 use Rattle.vms_calls.specs.Common.{Header, CpuId, ZoneSize, Absent, Dead, Online, IsCounter, IsCpu, IsItem, IsNode}
 use Rattle.vms_calls.specs.Common.{IsZone, after, GoesOnTo, State, Step, at_least_zero, cpu_at, system_at, value_at}
@@ -51,15 +51,16 @@ AnswersPageCall header (SetPressure n) owner s next answer.Done =
 AnswersPageCall header (SetNormal n) owner s next answer.Done =
     SetsOnly s next × SetsEachAtMost header.layout 1 s next
 AnswersPageCall header (Bury c) owner s next answer.Done =
-    ((folded : State) × FoldsCpu header.layout false c.number s folded × SetsOnly (with_cpu folded c.number Absent) next)
+    ((folded : State) × FoldsCpu header.layout false c.number s folded × SetsOnly (with_cpu folded c.number Absent)
+    next)
     × SetsEachAtMost header.layout 1 s next
 AnswersPageCall header (Turn n order most) owner s next (answer.Balanced balance) =
     ((pressed : State) × SetsOnly s pressed × (balance ≡ balance_at header n order most pressed))
     × SetsOnly s next × SetsEachAtMost header.layout 2 s next
 AnswersPageCall header _ owner s next _ = ⊥
 
--- the steps of a call by pass p in a row, none of which is a lost exchange: the history goes on with them to a state, and
--- these are the peaks then
+-- the steps of a call by pass p in a row, none of which is a lost exchange: the history goes on with them to a state,
+-- and these are the peaks then
 pub record GoesOnByCall (header : Header) (base : State) (pressure normal : ZoneSize → ℕ → ℕ → Type 0) (call : PageCall)
     (owner : Option CpuId) (p : ℕ) (h : History) (told : PageAnswer) (next : State) (known : List ℕ) : Type 0 where
   pub steps : List Step

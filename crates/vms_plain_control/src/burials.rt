@@ -4,6 +4,7 @@ ghost use Rattle.vms_calls.specs.Common.{most_sets, IsFold, facts_of, Buries};
 ghost use Rattle.vms_plain_pages.specs.Common.{IsSmallState, CallLeadsAlone, FoldsCpu};
 ghost use Rattle.vms_plain_control.specs.Control.{MakesUnladenCall};
 ghost use Rattle.vms_plain_control.specs.KnownPeaks.{HasAllPeaks};
+ghost use Rattle.vms_plain_control.specs.RatedPlaces.{RefreshesPlaces};
 ghost use Rattle.vms_plain_control.specs.SetCounts.{SetAtMost, SetsEachAtMost, SetsOnly};
 
 use crate::{Peaks, refresh};
@@ -34,6 +35,9 @@ pub fn bury<N: Rule, P: Rule>(
         pages.old peaks.old pages.new peaks.new }
     ensures folds { (folded : State) × FoldsCpu header.now.layout false cpu.number pages.old folded
         × SetsOnly (with_cpu folded cpu.number Absent) pages.new }
+    ensures places { (folded : State) × FoldsCpu header.now.layout false cpu.number pages.old folded
+        × RefreshesPlaces header.now (N.answers rules.now.normal) (with_cpu folded cpu.number Absent) peaks.old
+        pages.new peaks.new }
     ensures sets { SetsEachAtMost header.now.layout 1 pages.old pages.new }
     ensures shaped { HasShape header.now.layout pages.new }
     ensures full { HasAllPeaks header.now.layout peaks.new }

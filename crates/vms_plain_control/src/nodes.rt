@@ -1,9 +1,10 @@
 ghost use Rattle.std.specs.Prelude.{◌≢◌, ◌-◌};
 ghost use Rattle.vms_calls.specs.Common.{HasOnline, IsHeader, IsNode, HasShape, most_sets, facts_of, RatesNode};
-ghost use Rattle.vms_calls.specs.Common.{SetsNormal, SetsPressure, choice_of};
+ghost use Rattle.vms_calls.specs.Common.{SetsNormal, SetsPressure, choice_of, ByNormal, ByPressure};
 ghost use Rattle.vms_calls.specs.declared.choices.Rating.TheVariants.{Refresh};
 ghost use Rattle.vms_plain_control.specs.Control.{ControlMakes};
 ghost use Rattle.vms_plain_control.specs.KnownPeaks.{HasAllPeaks};
+ghost use Rattle.vms_plain_control.specs.RatedPlaces.{RatesPlaces};
 ghost use Rattle.vms_plain_control.specs.SetCounts.{SetAtMost, SetsEachAtMost, SetsOnly};
 
 use crate::Peaks;
@@ -33,6 +34,9 @@ pub fn set_pressure<N: Rule, P: Rule>(
         (λ base p h steps. SetsPressure (facts_of header.now base)
         (P.answers rules.now.pressure) (N.answers rules.now.normal) node p h steps)
         pages.old peaks.old pages.new peaks.new }
+    ensures places { RatesPlaces header.now
+        (ByPressure (P.answers rules.now.pressure) (N.answers rules.now.normal)) node
+        pages.old peaks.old pages.new peaks.new }
     ensures rest { SetsOnly pages.old pages.new }
     ensures sets { SetsEachAtMost header.now.layout 1 pages.old pages.new }
     ensures shaped { HasShape header.now.layout pages.new }
@@ -58,6 +62,8 @@ pub fn set_normal<N: Rule, P: Rule>(
     requires node { IsNode header.now.layout node.number }
     ensures makes { ControlMakes header.now (λ base p h steps. SetsNormal (facts_of header.now base)
         (N.answers rules.now.normal) node p h steps)
+        pages.old peaks.old pages.new peaks.new }
+    ensures places { RatesPlaces header.now (ByNormal (N.answers rules.now.normal)) node
         pages.old peaks.old pages.new peaks.new }
     ensures rest { SetsOnly pages.old pages.new }
     ensures sets { SetsEachAtMost header.now.layout 1 pages.old pages.new }
@@ -85,6 +91,9 @@ fn rate_node<N: Rule, P: Rule>(
     requires node_alone { rating ≢ Refresh }
     ensures makes { ControlMakes header.now (λ base p h steps. RatesNode (facts_of header.now base)
         (choice_of rating (P.answers rules.now.pressure) (N.answers rules.now.normal)) node p h steps)
+        pages.old peaks.old pages.new peaks.new }
+    ensures places { RatesPlaces header.now
+        (choice_of rating (P.answers rules.now.pressure) (N.answers rules.now.normal)) node
         pages.old peaks.old pages.new peaks.new }
     ensures rest { SetsOnly pages.old pages.new }
     ensures sets { SetsEachAtMost header.now.layout 1 pages.old pages.new }

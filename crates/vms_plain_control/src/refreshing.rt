@@ -1,10 +1,13 @@
 ghost use Rattle.std.specs.Prelude.{◌≡◌, ◌+◌, ◌-◌, ℕ, ◌<◌, ◌≤◌, List, length, slice_index_or};
 ghost use Rattle.vms_calls.specs.Common.{HasOnline, IsHeader, IsCpu, IsPlace, place_count, most_threshold, HasShape};
-ghost use Rattle.vms_calls.specs.Common.{threshold_sets_at, most_sets, facts_of, ByNormal, Rates, Refreshes};
-ghost use Rattle.vms_calls.specs.Common.{VisitsEach, largest_on, numbers_below, threshold_steps, in_turn};
+ghost use Rattle.vms_calls.specs.Common.{threshold_sets_at, most_sets, facts_of, ByNormal, Rates, Refreshes, IsNode};
+ghost use Rattle.vms_calls.specs.Common.{IsZone, node_number, VisitsEach, largest_on, numbers_below, threshold_steps};
+ghost use Rattle.vms_calls.specs.Common.{in_turn};
 ghost use Rattle.vms_plain_control.specs.Control.{ControlMakes, MakesPart};
 ghost use Rattle.vms_plain_control.specs.KnownPeaks.{HasAllPeaks};
 ghost use Rattle.vms_plain_control.specs.OnlineCpus.{online_in};
+ghost use Rattle.vms_plain_control.specs.RatedPlaces.{GetsThreshold, KeepsMark, KeepsThresholds, RatesZone};
+ghost use Rattle.vms_plain_control.specs.RatedPlaces.{RefreshesPlaces};
 ghost use Rattle.vms_plain_control.specs.SetCounts.{SetAtMost, SetsEachAtMost, SetsOnce, SetsOnly};
 
 use crate::Peaks;
@@ -32,6 +35,7 @@ pub fn refresh<N: Rule, P: Rule>(
     ensures makes { ControlMakes header.now (λ base p h steps. Refreshes (facts_of header.now base)
         (N.answers rules.now.normal) p h steps)
         pages.old peaks.old pages.new peaks.new }
+    ensures places { RefreshesPlaces header.now (N.answers rules.now.normal) pages.old peaks.old pages.new peaks.new }
     ensures rest { SetsOnly pages.old pages.new }
     ensures sets { SetsEachAtMost header.now.layout 1 pages.old pages.new }
     ensures shaped { HasShape header.now.layout pages.new }
@@ -62,6 +66,10 @@ fn visit_all<N: Rule, P: Rule>(
     ensures length { length result.items ≡ length header.now.layout.zones }
     ensures least { (g : ℕ) → g < length header.now.layout.zones → 1 ≤ slice_index_or result.items g 0 }
     ensures most { (g : ℕ) → g < length header.now.layout.zones → slice_index_or result.items g 0 ≤ most_threshold }
+    ensures zones { (g : ℕ) → IsZone header.now.layout g →
+        RatesZone header.now (ByNormal (N.answers rules.now.normal)) g (slice_index_or result.items g 0)
+        pages.old peaks.old pages.new peaks.new }
+    ensures nodes { (f : ℕ) → IsNode header.now.layout f → KeepsThresholds header.now.layout f pages.old pages.new }
     ensures rest { SetsOnly pages.old pages.new }
     ensures once { SetsOnce header.now.layout 0 (length header.now.layout.zones) pages.old pages.new }
     ensures shaped { HasShape header.now.layout pages.new }
@@ -92,6 +100,11 @@ fn set_nodes(pages: &mut Plain, header: &Header, thresholds: &[u32])
         (λ i node. threshold_steps (length header.now.layout.zones + i)
         (largest_on header.now.layout thresholds.now node) (online_in pages.old)) 0 header.now.layout.nodes)
         pages.old peaks pages.new peaks }
+    ensures zones { (g : ℕ) → IsZone header.now.layout g → KeepsThresholds header.now.layout g pages.old pages.new }
+    ensures marks { (g : ℕ) → KeepsMark g pages.old pages.new }
+    ensures nodes { (f : ℕ) → IsNode header.now.layout f → GetsThreshold header.now.layout f
+        (largest_on header.now.layout thresholds.now (node_number header.now.layout (record { number = f })))
+        pages.old pages.new }
     ensures rest { SetsOnly pages.old pages.new }
     ensures once { SetsOnce header.now.layout (length header.now.layout.zones) (place_count header.now.layout)
         pages.old pages.new }

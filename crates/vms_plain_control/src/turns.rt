@@ -1,9 +1,10 @@
-ghost use Rattle.std.specs.Prelude.{◌≡◌, ◌-◌, ◌^◌, ◌≤◌};
+ghost use Rattle.std.specs.Prelude.{◌≡◌, ℕ, ◌-◌, ◌^◌, ◌≤◌, List};
 ghost use Rattle.vms_calls.specs.Common.{HasOnline, IsHeader, IsNode, State, HasShape, most_sets, facts_of, IsTurn};
-ghost use Rattle.vms_calls.specs.Common.{SetsAfterYes};
+ghost use Rattle.vms_calls.specs.Common.{SetsAfterYes, ByPressure};
 ghost use Rattle.vms_plain_pages.specs.Common.{IsSmallState, balance_at};
 ghost use Rattle.vms_plain_control.specs.Control.{ControlMakes};
 ghost use Rattle.vms_plain_control.specs.KnownPeaks.{HasAllPeaks};
+ghost use Rattle.vms_plain_control.specs.RatedPlaces.{RatesPlaces, SettlesPlaces};
 ghost use Rattle.vms_plain_control.specs.SetCounts.{SetAtMost, SetsEachAtMost, SetsOnly};
 
 use crate::{Peaks, set_normal, set_pressure};
@@ -38,6 +39,11 @@ pub fn turn<N: Rule, P: Rule>(
         pages.old peaks.old pages.new peaks.new }
     ensures answer { (pressed : State) × SetsOnly pages.old pressed
         × (result ≡ balance_at header.now node order most pressed) }
+    ensures places { (pressed : State) × (known : List ℕ) × SetsOnly pages.old pressed
+        × RatesPlaces header.now (ByPressure (P.answers rules.now.pressure) (N.answers rules.now.normal)) node
+        pages.old peaks.old pressed known
+        × (result ≡ balance_at header.now node order most pressed)
+        × SettlesPlaces header.now (N.answers rules.now.normal) node result pressed known pages.new peaks.new }
     ensures rest { SetsOnly pages.old pages.new }
     ensures sets { SetsEachAtMost header.now.layout 2 pages.old pages.new }
     ensures shaped { HasShape header.now.layout pages.new }
@@ -68,6 +74,8 @@ fn settle<N: Rule, P: Rule>(
     ensures makes { ControlMakes header.now
         (λ base p h steps. SetsAfterYes (facts_of header.now base)
         (N.answers rules.now.normal) node p balance h steps)
+        pages.old peaks.old pages.new peaks.new }
+    ensures places { SettlesPlaces header.now (N.answers rules.now.normal) node balance
         pages.old peaks.old pages.new peaks.new }
     ensures rest { SetsOnly pages.old pages.new }
     ensures sets { SetsEachAtMost header.now.layout 1 pages.old pages.new }

@@ -1,10 +1,12 @@
 ghost use Rattle.std.specs.Prelude.{◌≡◌, ℕ, suc, ◌<◌, ◌≤◌, length};
 ghost use Rattle.vms_calls.specs.Common.{IsHeader, IsCpu, IsZone, most_threshold, HasShape, mark_sets_at};
-ghost use Rattle.vms_calls.specs.Common.{threshold_sets_at, most_sets, facts_of, Visits, rated_by};
+ghost use Rattle.vms_calls.specs.Common.{threshold_sets_at, most_sets, facts_of, Visits, rated_by, choice_of};
+ghost use Rattle.vms_calls.specs.Common.{is_spared, mark_at};
 ghost use Rattle.vms_calls.specs.declared.choices.Rating.TheVariants.{Refresh};
 ghost use Rattle.vms_plain_control.specs.Control.{MakesPart};
 ghost use Rattle.vms_plain_control.specs.KnownPeaks.{HasAllPeaks};
 ghost use Rattle.vms_plain_control.specs.OnlineCpus.{online_in};
+ghost use Rattle.vms_plain_control.specs.RatedPlaces.{VisitsZone};
 ghost use Rattle.vms_plain_control.specs.SetCounts.{SetsOnce, SetsOnly};
 
 use crate::Peaks;
@@ -37,6 +39,9 @@ pub(crate) fn visit<N: Rule, P: Rule>(
     ensures makes { MakesPart header.now (λ base p h steps. Visits (facts_of header.now base) p (online_in pages.old)
         (rated_by rating (P.answers rules.now.pressure) (N.answers rules.now.normal) (facts_of header.now base) p
         (online_in pages.old)) zone.number result h steps)
+        pages.old peaks.old pages.new peaks.new }
+    ensures places { VisitsZone header.now (choice_of rating (P.answers rules.now.pressure)
+        (N.answers rules.now.normal)) (is_spared rating (mark_at pages.old zone.number)) zone.number result
         pages.old peaks.old pages.new peaks.new }
     ensures rest { SetsOnly pages.old pages.new }
     ensures once { SetsOnce header.now.layout zone.number (suc zone.number) pages.old pages.new }

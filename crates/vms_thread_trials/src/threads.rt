@@ -13,7 +13,7 @@ use vms_words::{ControlPass, CpuPass, PageTable};
 
 /// Adds a page to the free pages on the pass's CPU.
 #[tactic(none)]
-fn inc(table: &PageTable, pass: &mut CpuPass) -> Result<(), Overflow>
+pub(crate) fn inc(table: &PageTable, pass: &mut CpuPass) -> Result<(), Overflow>
     requires idle { IsIdle table.now pass.old.pass }
     requires narrow { IsNarrow table.now.facts.layout }
     ensures { StaysIdle table.now pass.new.pass pass.old.pass }

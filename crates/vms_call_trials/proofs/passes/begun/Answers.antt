@@ -12,4 +12,5 @@ cpu_pass-second-requires-clause-volume c =
     c.in_ok-second_volume.second_volume
     (first-seen pages Split begins_it c.cpu_pass-first.new.main c.args.main.now c.cpu_pass-first.result.pass
     (Some (record { number = 0 })) c.requires.begins c.cpu_pass-first.ensures.begun)
-    (c.in_ok-second_volume.ensures ∙ ap (λ n. replicate n 0) (c.counters-counters.ensures.value ∙ ap counter_count c.layout.ensures))
+    (c.in_ok-second_volume.ensures ∙ ap (λ n. replicate n 0)
+    (c.counters-counters.ensures.value ∙ ap counter_count c.layout.ensures))

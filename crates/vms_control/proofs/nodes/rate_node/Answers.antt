@@ -3,10 +3,12 @@ use Rattle.std.proofs.Common.{length, sym, ◌∙◌, subst, arith}
 use Rattle.vms_control.specs.Common.{FoundOnline, never, once}
 use Rattle.vms_calls.specs.Common.{choice_of}
 use Rattle.vms_control.proofs.LargestSets.{largest-grows}
+use Rattle.vms_control.proofs.PassCalls.{has-made}
 use Rattle.vms_control.proofs.StepCounts.{set-both}
 use Rattle.vms_control.proofs.WholeCalls.{first-control, loaded-room, loaded-still, node-call, node-nothing}
 use Rattle.vms_control.proofs.WholeCalls.{once-little}
 use Rattle.vms_control.proofs.nodes.rate_node.Goals as goal
+use Rattle.vms_drift.proofs.LeftMarks.{node-settles}
 
 pub visit_node-requires-clause-online : goal.visit_node-requires-clause-online
 visit_node-requires-clause-online g c =
@@ -31,6 +33,20 @@ returns-clause-control g c =
     let made = c.load_online-online.ensures.made in
     first-control c.args.table.now c.load_online-online.new.pass c.args.pass.now c.requires.table made.0 made.3
     c.visit_node.ensures.control
+
+pub returns-clause-marks : goal.returns-clause-marks
+returns-clause-marks g c =
+    let words = c.args.table.now in
+    let new = c.visit_node.new.pass in
+    let old = c.args.pass.now in
+    let call = returns-clause-made g c in (
+      call.0,
+      call.2,
+      node-settles c.control_passes_know_by_own_steps.ensures
+          (choice_of c.args.rating (g.P.Rule.answers c.args.rules.now.pressure)
+          (g.N.Rule.answers c.args.rules.now.normal)) words.facts c.args.node old.number new.seen old.seen call.0 call.1
+          (has-made words new old call.0 c.requires.table call.2) (returns-clause-control g c),
+    )
 
 pub returns-clause-carries : goal.returns-clause-carries
 returns-clause-carries g c =

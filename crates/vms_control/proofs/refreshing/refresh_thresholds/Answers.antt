@@ -4,10 +4,12 @@ use Rattle.vms_calls.specs.Common.{CpuId, place_count, in_turn, pages}
 use Rattle.vms_control.specs.Common.{never, once}
 use Rattle.vms_control.proofs.LargestSets.{largest-grows}
 use Rattle.vms_control.proofs.NodeThresholds.{node_steps}
-use Rattle.vms_control.proofs.PassCalls.{control-new}
+use Rattle.vms_control.proofs.PassCalls.{control-new, has-made}
 use Rattle.vms_control.proofs.StepCounts.{once-other, once-parts, set-both, still-may}
-use Rattle.vms_control.proofs.WholeCalls.{loaded-room, loaded-still, once-little, refresh-call, refresh-nothing}
+use Rattle.vms_control.proofs.WholeCalls.{first-control, loaded-room, loaded-still, once-little, refresh-call}
+use Rattle.vms_control.proofs.WholeCalls.{refresh-nothing}
 use Rattle.vms_control.proofs.refreshing.refresh_thresholds.Goals as goal
+use Rattle.vms_drift.proofs.LeftMarks.{refresh-settles}
 use Rattle.vms_seats.specs.Common.{Made}
 
 pub visit_all-thresholds-requires-clause-room : goal.visit_all-thresholds-requires-clause-room
@@ -56,6 +58,22 @@ returns-clause-made g c =
     c.set_nodes.new.pass (g.N.Rule.answers c.args.rules.now.normal) ts
     c.visit_all-thresholds.new.pass c.visit_all-thresholds.ensures.made nodes
 
+pub returns-clause-marks : goal.returns-clause-marks
+returns-clause-marks g c =
+    let words = c.args.table.now in
+    let new = c.set_nodes.new.pass in
+    let old = c.args.pass.now in
+    let made = c.load_online-online.ensures.made in
+    let call = returns-clause-made g c in (
+      call.0,
+      call.2,
+      refresh-settles c.control_passes_know_by_own_steps.ensures
+          (g.N.Rule.answers c.args.rules.now.normal) words.facts old.number new.seen old.seen call.0 call.1
+          (has-made words new old call.0 c.requires.table call.2)
+          (first-control words c.load_online-online.new.pass old c.requires.table made.0 made.3
+          c.visit_all-thresholds.ensures.control),
+    )
+
 pub returns-clause-carries : goal.returns-clause-carries
 returns-clause-carries g c =
     let call = returns-clause-made g c in
@@ -73,7 +91,8 @@ returns-clause-sets g c =
     let visited = set-both facts never never zones zones zones zones c.visit_all-thresholds.new.pass.seen
     c.load_online-online.new.pass.seen c.args.pass.now.seen c.visit_all-thresholds.ensures.sets
     still (λ n. omega arith) (λ n. omega arith) in
-    let grown = largest-grows facts (λ n. nodes n + zones n) (λ n. never n + zones n) 1 c.set_nodes.new.pass.seen c.args.pass.now.seen
+    let grown = largest-grows facts (λ n. nodes n + zones n) (λ n. never n + zones n) 1 c.set_nodes.new.pass.seen
+    c.args.pass.now.seen
     (set-both facts zones zones nodes never (λ n. nodes n + zones n) (λ n. never n + zones n)
     c.set_nodes.new.pass.seen c.visit_all-thresholds.new.pass.seen c.args.pass.now.seen c.set_nodes.ensures.sets visited
     (λ n. omega arith) (λ n. omega arith))

@@ -1,16 +1,14 @@
 -- A zone that passes ends the test, and one that fails is passed over.
 use Rattle.std.proofs.Common.{◌≡◌, ℕ, ◌+◌, ◌-◌, ◌<◌, true, List, [], ◌++◌, length, get_or, refl, sym, ap, ◌∙◌, subst}
-use Rattle.std.proofs.Common.{arith, append-nil}
+use Rattle.std.proofs.Common.{arith}
 use Rattle.std.specs.Prelude.{Contains}
-use Rattle.vms_calls.specs.Common.{High, Dma, ZoneName, limit_of, node_number, Balances, zones_up_to, Step, pages}
+use Rattle.vms_calls.specs.Common.{High, Dma, ZoneName, node_number, Balances, zones_up_to, pages}
 use Rattle.vms_calls.specs.declared.answers.Balance.TheVariants.{Yes}
-use Rattle.vms_history.proofs.Common.{Extends-same}
 use Rattle.vms_kswapd.proofs.OrderTests.{order-found}
 use Rattle.vms_kswapd.proofs.ZoneTests.{FailedSoFar, failed-next, failed-none, failed-other, passed-first, passed-made}
 use Rattle.vms_kswapd.proofs.ZoneTests.{passed-one_of}
-use Rattle.vms_look.proofs.Common.{truly-whole_call}
 use Rattle.vms_calls.proofs.Common.{is_one, is_one-told}
-use Rattle.vms_seats.specs.Common.{Made}
+use Rattle.vms_seats.proofs.Common.{calls-live, calls-none}
 use Rattle.vms_kswapd.proofs.balances.balanced.Goals as goal
 use Rattle.vms_kswapd.proofs.balances.balanced.Goals.{then-is_up_to+else-verdict, else-is_up_to}
 
@@ -85,16 +83,20 @@ returns-then-verdict-clause-passed g c =
       earlier = so_far.before;
       test = tested.0;
       later = [];
-      made = subst (λ (ks : List Step). Made pages new old (so_far.before ++ ks)) (sym (append-nil tested.0))
-          (passed-made header c.args.most c.args.order node now old place so_far new verdict tested one);
+      before = now;
+      after = new;
+      came = so_far.made;
+      tested = tested.2;
+      went_on = calls-none pages new (calls-live pages new now tested.0
+          (calls-live pages now old so_far.before c.is_live.ensures so_far.made) tested.2);
       tests = tested.1;
-      truly = λ fast.
-          truly-whole_call new new now old (record { number = place }) (limit_of header place High c.args.most)
-          so_far.made.facts so_far.made.number so_far.made.made.extends (Extends-same new.seen)
-          (c.zone_ok-verdict.ensures.truly c.if-verdict.true fast);
+      near = c.zone_ok-verdict.ensures.near;
+      truly = c.zone_ok-verdict.ensures.truly c.if-verdict.true;
+      summed = c.zone_ok-verdict.ensures.summed;
       block = λ above.
           order-found header (record { number = place }) High c.args.most c.args.order tested.0 verdict tested.1
           c.if-verdict.true above;
+      counts = c.zone_ok-verdict.ensures.counts c.if-verdict.true;
     }
 
 pub loop-place-preserved : goal.loop-place-preserved

@@ -2,6 +2,7 @@
 use Rattle.std.proofs.Common.{◌≡◌, ◌≤◌, Bool, Some, None, if◌then◌else◌, refl, ◌∙◌, subst, arith}
 use Rattle.vms_calls.specs.Common.{area_at, area_index}
 use Rattle.vms_kswapd.specs.Common.{HasSought}
+use Rattle.vms_kswapd.proofs.BlockCounts.{counts-whole_call}
 use Rattle.vms_kswapd.proofs.BlockSearches.{sought-all, sought-found, sought-next, sought-none}
 use Rattle.vms_kswapd.proofs.orders.first_block.Goals as goal
 
@@ -24,6 +25,15 @@ returns-then-has_block-clause-made g c =
     least most new
     (subst (λ (b : Bool). HasSought header.layout new now c.args.zone (area_at n (area_index header.items n))
     (if b then Some n else None)) c.if-has_block.true c.has_block.ensures.made)
+
+pub returns-then-has_block-clause-counts : goal.returns-then-has_block-clause-counts
+returns-then-has_block-clause-counts g c found is =
+    let n = c.loop-number.number in
+    let made = c.loop-number.invariant.0.made in
+    counts-whole_call c.args.header.now c.args.zone (g.P.Caller.pass c.has_block.new.pass)
+    (g.P.Caller.pass c.loop-number.pass) (g.P.Caller.pass c.args.pass.now) c.args.order n (Some n) made.facts
+    made.number made.made.extends (omega (arith, c.loop-number.auto.number))
+    (c.has_block.ensures.counts c.if-has_block.true)
 
 pub loop-number-preserved : goal.loop-number-preserved
 loop-number-preserved g c =

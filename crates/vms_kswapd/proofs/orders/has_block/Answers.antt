@@ -2,6 +2,7 @@
 use Rattle.std.proofs.Common.{ℕ, not, nat_eq, List, [], Option, Some, None, if◌then◌else◌, sym, ◌∙◌, subst}
 use Rattle.vms_calls.specs.Common.{area_at, Shape, IsSnapshot, FindsBlock, nowhere, Step, pages}
 use Rattle.vms_kswapd.specs.Common.{HasSought}
+use Rattle.vms_kswapd.proofs.BlockCounts.{counted-block}
 use Rattle.vms_kswapd.proofs.BlockSearches.{area-sought}
 use Rattle.vms_seats.specs.Common.{Made}
 use Rattle.vms_seats.proofs.Common.{calls-none}
@@ -27,3 +28,9 @@ returns-in-None-clause-made g c = (
       (sym c.in-None.is ∙ c.item_index.ensures.value) nowhere,
   calls-none pages (g.P.Caller.pass c.args.pass.now) c.is_live.ensures,
 )
+
+pub returns-in-Some-clause-counts : goal.returns-in-Some-clause-counts
+returns-in-Some-clause-counts g c some =
+    counted-block c.args.header.now c.args.zone (g.P.Caller.pass c.snapshot.new.pass) (g.P.Caller.pass c.args.pass.now)
+    c.counter-counter.result c.args.order c.in-Some.index c.snapshot.result c.requires.least c.requires.most
+    (sym c.item_index.ensures.value ∙ c.in-Some.is) c.counter-counter.ensures.value c.snapshot.ensures.truly some

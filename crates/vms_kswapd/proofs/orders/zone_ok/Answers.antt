@@ -1,10 +1,12 @@
 -- The goals were the steps of the test at order 0 and above it, and what a yes says.
-use Rattle.std.proofs.Common.{ℕ, Bool, List, refl, sym, ◌∙◌, subst}
-use Rattle.vms_calls.specs.Common.{limit_of, IsOrderTest, has_room, Step, pages}
+use Rattle.std.proofs.Common.{ℕ, Bool, List, refl, sym, ◌∙◌, subst, arith}
+use Rattle.vms_calls.specs.Common.{limit_of, Shape, IsOrderTest, has_room, Step, free_pages, pages}
 use Rattle.vms_history.proofs.Common.{Extends-same}
 use Rattle.vms_kswapd.specs.Common.{Seeks}
+use Rattle.vms_kswapd.proofs.BlockCounts.{counts-whole_call, some-found}
 use Rattle.vms_kswapd.proofs.OrderTests.{found-passed, order-above, order-found, order-zero, with_area}
-use Rattle.vms_look.proofs.Common.{truly-whole_call}
+use Rattle.vms_look.specs.Common.{SumsTruly}
+use Rattle.vms_look.proofs.Common.{tells-whole_call, truly-whole_call}
 use Rattle.vms_seats.specs.Common.{Made}
 use Rattle.vms_kswapd.proofs.orders.zone_ok.Goals as goal
 
@@ -37,6 +39,40 @@ returns-clause-made g c =
     (order-above c.args.header.now c.args.zone c.args.mark c.args.most verdict
     (g.P.Caller.pass c.watermark_ok-verdict.new.pass) old c.watermark_ok-verdict.ensures.made c.args.order
     c.if-order-eq0.false new area (sought g c))
+
+pub returns-then-order-eq0-clause-summed : goal.returns-then-order-eq0-clause-summed
+returns-then-order-eq0-clause-summed g c slow = record {
+  last = g.P.Caller.pass c.watermark_ok-verdict.new.pass;
+  sums = subst (λ (shape : Shape). SumsTruly (g.P.Caller.pass c.watermark_ok-verdict.new.pass)
+      (g.P.Caller.pass c.args.pass.now) (free_pages shape c.args.zone) c.watermark_ok-verdict.result.free)
+      (sym c.requires.layout) (c.watermark_ok-verdict.ensures.summed slow);
+  until = Extends-same (g.P.Caller.pass c.watermark_ok-verdict.new.pass).seen;
+}
+
+pub returns-clause-summed : goal.returns-clause-summed
+returns-clause-summed g c slow = record {
+  last = g.P.Caller.pass c.watermark_ok-verdict.new.pass;
+  sums = subst (λ (shape : Shape). SumsTruly (g.P.Caller.pass c.watermark_ok-verdict.new.pass)
+      (g.P.Caller.pass c.args.pass.now) (free_pages shape c.args.zone) c.watermark_ok-verdict.result.free)
+      (sym c.requires.layout) (c.watermark_ok-verdict.ensures.summed slow);
+  until = (sought g c).2.made.extends;
+}
+
+pub returns-clause-near : goal.returns-clause-near
+returns-clause-near g c fast =
+    let old = g.P.Caller.pass c.args.pass.now in
+    tells-whole_call (g.P.Caller.pass c.block_within-area.new.pass) (g.P.Caller.pass c.watermark_ok-verdict.new.pass)
+    old old c.args.zone c.watermark_ok-verdict.result.free refl refl (Extends-same old.seen) (sought g c).2.made.extends
+    (c.watermark_ok-verdict.ensures.near fast)
+
+pub returns-clause-counts : goal.returns-clause-counts
+returns-clause-counts g c passed above =
+    let found = some-found c.block_within-area.result (sym c.is_some.ensures ∙ passed) in
+    let made = c.watermark_ok-verdict.ensures.made.2 in
+    counts-whole_call c.args.header.now c.args.zone (g.P.Caller.pass c.block_within-area.new.pass)
+    (g.P.Caller.pass c.watermark_ok-verdict.new.pass) (g.P.Caller.pass c.args.pass.now) c.args.order c.args.order
+    c.block_within-area.result made.facts made.number made.made.extends (omega arith)
+    (c.block_within-area.ensures.counts found.0 found.1)
 
 pub returns-clause-truly : goal.returns-clause-truly
 returns-clause-truly g c passed fast =

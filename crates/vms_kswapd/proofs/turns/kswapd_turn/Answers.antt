@@ -1,4 +1,5 @@
--- The three calls are a turn, the thresholds of its rule stand after it, and each threshold and mark was set twice at most.
+-- The three calls are a turn, the thresholds of its rule stand after it, and each threshold and mark was set twice at
+-- most.
 use Rattle.std.proofs.Common.{arith, ◌∙◌, sym, subst}
 use Rattle.vms_calls.specs.Common.{HasMade, Facts}
 use Rattle.vms_kswapd.proofs.TurnRules.{rules-stand}

@@ -1,8 +1,10 @@
 -- The goals were the laws at each moment of what the pass has seen.
 use Rattle.std.proofs.Common.{◌≡◌, ◌++◌, subst}
-use Rattle.vms_calls.specs.Common.{History}
+use Rattle.vms_calls.specs.Common.{History, pages}
 use Rattle.vms_core.specs.Pages.{IsLegal}
 use Rattle.vms_core.proofs.Common.{laws-kept_before}
+use Rattle.vms_history.proofs.Common.{prefix_is_legal}
+use Rattle.vms_look.proofs.SlackBounds.{marks-bound}
 use Rattle.vms_look.proofs.laws.totals_are_kept.Goals as goal
 
 pub returns : goal.returns
@@ -18,4 +20,8 @@ returns g c =
       peaks = λ since h is. (laws since h is).peaks;
       drift = λ since h is. (laws since h is).drift;
       system_drift = λ since h is. (laws since h is).system_drift;
+      by_marks = λ since h is.
+          marks-bound pass.facts h
+          (prefix_is_legal pages pass.facts since h (subst (IsLegal pass.facts) is c.has_seen_legal.ensures));
+      laws = laws;
     }

@@ -1,7 +1,7 @@
 -- The fold, the CPU that becomes absent and the refresh make the call.
 use Rattle.std.proofs.Common.{subst}
 use Rattle.vms_calls.specs.Common.{State, facts_of, Refreshes}
-use Rattle.vms_plain_control.specs.Common.{ControlMakes}
+use Rattle.vms_plain_control.specs.Common.{ControlMakes, RefreshesPlaces}
 use Rattle.vms_plain_control.proofs.BurialCalls.{burial-makes}
 use Rattle.vms_plain_control.proofs.burials.bury.Goals as goal
 
@@ -14,3 +14,12 @@ returns-clause-makes g c =
     c.refresh.new.pages normal c.requires.cpu c.requires.dead c.folds_may_be_made.ensures taken.2
     (subst (λ (x : State). ControlMakes header (λ base p h steps. Refreshes (facts_of header base) normal p h steps) x
     c.args.peaks.now c.refresh.new.pages c.refresh.new.peaks) taken.3 c.refresh.ensures.makes)
+
+pub returns-clause-places : goal.returns-clause-places
+returns-clause-places g c =
+    let taken = c.take_away.ensures in (
+      taken.0,
+      taken.1,
+      subst (λ (x : State). RefreshesPlaces c.args.header.now (g.N.Rule.answers c.args.rules.now.normal) x
+          c.args.peaks.now c.refresh.new.pages c.refresh.new.peaks) taken.3 c.refresh.ensures.places,
+    )

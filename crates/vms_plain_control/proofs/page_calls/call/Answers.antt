@@ -1,5 +1,5 @@
 -- How a history goes on by each call.
-use Rattle.std.proofs.Common.{◌≡◌, Bool, Option, None, SFits, refl, rules, sym, ap, subst, to_z-of_z, w64, ◌∙◌}
+use Rattle.std.proofs.Common.{Bool, Option, SFits, refl, rules, sym, ap, subst, to_z-of_z, w64, ◌∙◌}
 use Rattle.vms_core.specs.ChangedStates.{with_change}
 use Rattle.vms_calls.specs.Common.{CpuId, IsFold}
 use Rattle.vms_calls.specs.declared.page_calls.PageAnswer.TheVariants as answer
@@ -25,7 +25,8 @@ returns-in-Change-clause-makes g c =
     subst (λ (call : PageCall). MakesPageCall header pressure normal call owner answer.Done s peaks
     c.change_own.new.pages peaks) (sym c.in-Change.is)
     (subst (λ (who : Option CpuId). MakesPageCall header pressure normal
-    (Change c.in-Change.counter c.in-Change.delta c.in-Change.mode) who answer.Done s peaks c.change_own.new.pages peaks)
+    (Change c.in-Change.counter c.in-Change.delta c.in-Change.mode)
+    who answer.Done s peaks c.change_own.new.pages peaks)
     (sym owns)
     (change-made header pressure normal s c.change_own.new.pages peaks own c.in-Change.counter c.in-Change.delta
     c.in-Change.mode
@@ -60,7 +61,8 @@ returns-in-Test-clause-makes g c =
     let peaks = c.args.peaks.now in
     let told = answer.Tested c.watermark_test.result in
     subst (λ (call : PageCall). MakesPageCall header pressure normal call owner told s peaks s peaks) (sym c.in-Test.is)
-    (look-made header pressure normal s s peaks c.tells.ensures.pressure c.tells.ensures.normal (Test c.in-Test.zone c.in-Test.mark c.in-Test.most) owner
+    (look-made header pressure normal s s peaks c.tells.ensures.pressure c.tells.ensures.normal
+    (Test c.in-Test.zone c.in-Test.mark c.in-Test.most) owner
     told refl (λ k delta how same. cc) (λ base h p. c.watermark_test.ensures.made owner))
 
 pub returns-in-Value-clause-makes : goal.returns-in-Value-clause-makes
@@ -72,8 +74,10 @@ returns-in-Value-clause-makes g c =
     let s = c.args.pages.now in
     let peaks = c.args.peaks.now in
     let told = answer.Value c.place_value.result in
-    subst (λ (call : PageCall). MakesPageCall header pressure normal call owner told s peaks s peaks) (sym c.in-Value.is)
-    (look-made header pressure normal s s peaks c.tells.ensures.pressure c.tells.ensures.normal (Value c.in-Value.counter) owner
+    subst (λ (call : PageCall). MakesPageCall header pressure normal call owner told s peaks s peaks)
+    (sym c.in-Value.is)
+    (look-made header pressure normal s s peaks c.tells.ensures.pressure c.tells.ensures.normal
+    (Value c.in-Value.counter) owner
     told refl (λ k delta how same. cc) (λ base h p. c.place_value.ensures.made owner))
 
 pub returns-in-Snapshot-clause-makes : goal.returns-in-Snapshot-clause-makes
@@ -85,8 +89,10 @@ returns-in-Snapshot-clause-makes g c =
     let s = c.args.pages.now in
     let peaks = c.args.peaks.now in
     let told = answer.Snapshot c.snapshot.result in
-    subst (λ (call : PageCall). MakesPageCall header pressure normal call owner told s peaks s peaks) (sym c.in-Snapshot.is)
-    (look-made header pressure normal s s peaks c.tells.ensures.pressure c.tells.ensures.normal (Snapshot c.in-Snapshot.counter) owner
+    subst (λ (call : PageCall). MakesPageCall header pressure normal call owner told s peaks s peaks)
+    (sym c.in-Snapshot.is)
+    (look-made header pressure normal s s peaks c.tells.ensures.pressure c.tells.ensures.normal
+    (Snapshot c.in-Snapshot.counter) owner
     told refl (λ k delta how same. cc) (λ base h p. c.snapshot.ensures.made owner))
 
 pub returns-in-System-clause-makes : goal.returns-in-System-clause-makes
@@ -98,8 +104,10 @@ returns-in-System-clause-makes g c =
     let s = c.args.pages.now in
     let peaks = c.args.peaks.now in
     let told = answer.System c.system_value.result in
-    subst (λ (call : PageCall). MakesPageCall header pressure normal call owner told s peaks s peaks) (sym c.in-System.is)
-    (look-made header pressure normal s s peaks c.tells.ensures.pressure c.tells.ensures.normal (System c.in-System.item) owner
+    subst (λ (call : PageCall). MakesPageCall header pressure normal call owner told s peaks s peaks)
+    (sym c.in-System.is)
+    (look-made header pressure normal s s peaks c.tells.ensures.pressure c.tells.ensures.normal
+    (System c.in-System.item) owner
     told refl (λ k delta how same. cc) (λ base h p. c.system_value.ensures.made owner))
 
 pub returns-in-SetPressure-clause-makes : goal.returns-in-SetPressure-clause-makes
@@ -116,7 +124,8 @@ returns-in-SetPressure-clause-makes g c =
     let known = c.set_pressure.new.peaks in
     subst (λ (call : PageCall). MakesPageCall header pressure normal call owner told s peaks next known)
     (sym c.in-SetPressure.is)
-    (subst (λ (who : Option CpuId). MakesPageCall header pressure normal (SetPressure c.in-SetPressure.node) who told s peaks
+    (subst (λ (who : Option CpuId). MakesPageCall header pressure normal (SetPressure c.in-SetPressure.node)
+    who told s peaks
     next known) (sym fits.0)
     (control-made header pressure normal s next peaks known (SetPressure c.in-SetPressure.node) told
     (λ k delta how same. cc) (λ base h p controls unladen. c.set_pressure.ensures.makes base h p controls)))
@@ -135,7 +144,8 @@ returns-in-SetNormal-clause-makes g c =
     let known = c.set_normal.new.peaks in
     subst (λ (call : PageCall). MakesPageCall header pressure normal call owner told s peaks next known)
     (sym c.in-SetNormal.is)
-    (subst (λ (who : Option CpuId). MakesPageCall header pressure normal (SetNormal c.in-SetNormal.node) who told s peaks
+    (subst (λ (who : Option CpuId). MakesPageCall header pressure normal (SetNormal c.in-SetNormal.node)
+    who told s peaks
     next known) (sym fits.0)
     (control-made header pressure normal s next peaks known (SetNormal c.in-SetNormal.node) told
     (λ k delta how same. cc) (λ base h p controls unladen. c.set_normal.ensures.makes base h p controls)))
@@ -173,7 +183,8 @@ returns-in-Turn-clause-makes g c =
     let known = c.turn.new.peaks in
     subst (λ (call : PageCall). MakesPageCall header pressure normal call owner told s peaks next known)
     (sym c.in-Turn.is)
-    (subst (λ (who : Option CpuId). MakesPageCall header pressure normal (Turn c.in-Turn.node c.in-Turn.order c.in-Turn.most) who told s peaks
+    (subst (λ (who : Option CpuId). MakesPageCall header pressure normal
+    (Turn c.in-Turn.node c.in-Turn.order c.in-Turn.most) who told s peaks
     next known) (sym fits.0)
     (control-made header pressure normal s next peaks known (Turn c.in-Turn.node c.in-Turn.order c.in-Turn.most) told
     (λ k delta how same. cc) (λ base h p controls unladen. c.turn.ensures.makes base h p controls)))

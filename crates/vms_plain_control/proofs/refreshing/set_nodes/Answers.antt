@@ -1,11 +1,15 @@
 -- A node more gets its threshold, and all nodes at the end.
-use Rattle.std.proofs.Common.{◌≡◌, ℕ, suc, ◌+◌, ◌-◌, ◌<◌, List, [], ◌∷◌, ◌++◌, length, get_or, take, sym, ap, subst}
-use Rattle.std.proofs.Common.{◌∙◌, arith, add-one}
+use Rattle.std.proofs.Common.{◌≡◌, ℕ, suc, ◌+◌, ◌-◌, ◌<◌, ◌≤◌, List, [], ◌∷◌, ◌++◌, length, get_or, take, sym, ap}
+use Rattle.std.proofs.Common.{subst, ◌∙◌, arith, add-one}
 use Rattle.std.proofs.Math.Seq.{take-length}
 use Rattle.std.proofs.lemmas.List.{take_more, length-take}
-use Rattle.vms_calls.specs.Common.{online_from, IsPlace, State, HasShape, largest_on}
-use Rattle.vms_plain_control.specs.Common.{MakesPart, with_place_thresholds, SetsOnce, SetsOnly}
+use Rattle.vms_calls.specs.Common.{IsNode, node_number, online_from, IsPlace, State, HasShape, largest_on}
+use Rattle.vms_plain_control.specs.Common.{GetsThreshold, KeepsMark, KeepsThresholds, MakesPart, with_place_thresholds}
+use Rattle.vms_plain_control.specs.Common.{SetsOnce, SetsOnly}
 use Rattle.vms_plain_control.proofs.NodeThresholds.{SetsNodes, nodes-more}
+use Rattle.vms_plain_control.proofs.PlaceReads.{GetsThreshold-set, KeepsMark-set, KeepsThresholds-set}
+use Rattle.vms_plain_control.proofs.PlaceSteps.{KeepsMark-both, KeepsThresholds-both, nodes-left}
+use Rattle.vms_plain_control.proofs.PlaceSteps.{nodes-more as nodes-given}
 use Rattle.vms_plain_control.proofs.SetTimes.{HasShape-thresholds, SetsOnce-both, SetsOnce-thresholds, SetsOnly-both}
 use Rattle.vms_plain_control.proofs.SetTimes.{SetsOnly-thresholds}
 use Rattle.vms_plain_control.proofs.refreshing.set_nodes.Goals as goal
@@ -43,6 +47,26 @@ loop-number-preserved c =
           (nodes-more header layout ts first (take i shape.nodes) node n now peaks (so_far.makes peaks)
           (ap (λ (x : State). x.cpu) so_far.rest) so_far.shaped place
           (omega (arith, length-take i shape.nodes, below, same, so_far.least)))));
+      zones = λ g zone. subst (KeepsThresholds shape g first) (sym is)
+          (KeepsThresholds-both shape g first now next (so_far.zones g zone)
+          (KeepsThresholds-set shape layout n t place now so_far.shaped g (omega (arith, zone))
+          (λ other. omega (arith, zone, same, so_far.least))));
+      marks = λ g. subst (KeepsMark g first) (sym is)
+          (KeepsMark-both shape g first now next (so_far.marks g)
+          (KeepsMark-set shape layout n t place now so_far.shaped g));
+      nodes = subst (λ (x : State). (f : ℕ) → IsNode shape f → f < n + 1 → GetsThreshold shape f
+          (largest_on shape ts (node_number shape (record { number = f }))) first x) (sym is)
+          (nodes-given shape n t first now next (ap (λ (x : State). x.cpu) so_far.rest)
+          (λ f. largest_on shape ts (node_number shape (record { number = f })))
+          (sym (t_is ∙ ap (λ (m : ℕ). largest_on shape ts (get_or shape.nodes (n - m) 0)) same))
+          (GetsThreshold-set shape layout n t place now so_far.shaped)
+          (KeepsThresholds-set shape layout n t place now so_far.shaped) so_far.left so_far.nodes);
+      left = subst (λ (x : State). (f : ℕ) → IsNode shape f → n + 1 ≤ f → KeepsThresholds shape f first x) (sym is)
+          (nodes-left shape n t first now next (ap (λ (x : State). x.cpu) so_far.rest)
+          (λ f. largest_on shape ts (node_number shape (record { number = f })))
+          (sym (t_is ∙ ap (λ (m : ℕ). largest_on shape ts (get_or shape.nodes (n - m) 0)) same))
+          (GetsThreshold-set shape layout n t place now so_far.shaped)
+          (KeepsThresholds-set shape layout n t place now so_far.shaped) so_far.left);
       rest = subst (SetsOnly first) (sym is)
           (SetsOnly-both first now next so_far.rest
           (SetsOnly-thresholds shape layout n t place (online_from 0 now.cpu) now));
@@ -72,3 +96,10 @@ returns-clause-makes c peaks =
     ap (λ (m : ℕ). take m shape.nodes) whole ∙ take-length shape.nodes in
     subst (λ (xs : List ℕ). MakesPart header (SetsNodes shape c.args.thresholds.now c.args.pages.now.cpu xs)
     c.args.pages.now peaks c.loop-number.pages peaks) all (c.loop-number.invariant.makes peaks)
+
+pub returns-clause-nodes : goal.returns-clause-nodes
+returns-clause-nodes c f node =
+    let shape = c.args.header.now.layout in
+    let same : length c.zones-zones.result.now ≡ length shape.zones = ap length c.zones-zones.ensures.value in
+    c.loop-number.invariant.nodes f node
+    (omega (arith, node.1, c.loop-number-test.false, c.places-number-end.ensures.value, same))

@@ -1,0 +1,15 @@
+pub mod Moments
+pub mod StandingDiffs
+pub mod SlackBounds
+pub mod Snapshots
+pub mod Tests
+pub mod Turns
+pub mod CallAnswers
+pub mod PcpuCallAnswers
+pub mod WholeCalls
+pub mod ReadLanes
+pub mod ReadLines
+pub mod PageLines
+pub mod PcpuLines
+pub mod CarriedInPhases
+pub mod NearWorlds

@@ -1,0 +1,10 @@
+pub mod Slack
+pub mod SnapshotTruth
+pub mod TestTruth
+pub mod BalanceTruth
+pub mod AnswerTruth
+pub mod PcpuTruth
+pub mod PhaseTransit
+pub mod PhaseTruth
+pub mod WorldTruth
+pub mod Common
