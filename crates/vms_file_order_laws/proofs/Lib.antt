@@ -1,0 +1,10 @@
+pub mod LegalSteps
+pub mod OneHistory
+pub mod EventCalls
+pub mod PcpuCalls
+pub mod PageLoads
+pub mod PageLooks
+pub mod PageChanges
+pub mod PageRatings
+pub mod PageCalls
+pub mod OnePhase
