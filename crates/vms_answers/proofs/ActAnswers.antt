@@ -3,8 +3,8 @@ use Rattle.std.proofs.Common.{◌≡◌, ◌≢◌, ℕ, ℤ, true, List, [], �
 use Rattle.vms_world.specs.Common.{IsChange, TellsChange, Header, CounterId, CpuId, Mode, ZoneSize, State, Step}
 use Rattle.vms_world.specs.Common.{HasMade, facts_of, EventAnswer, Total as EventTotal, EventCall, EventFacts}
 use Rattle.vms_world.specs.Common.{EventStep, IsEventCall, read_event_call, PcpuAnswer, PcpuCall, PcpuFacts, PcpuStep}
-use Rattle.vms_world.specs.Common.{IsPcpuCall, Act, Ev, EvSum, Cnt, Lim, Cmp, Rough, Lane, Cpu, Control, event_call}
-use Rattle.vms_world.specs.Common.{page_call, pcpu_call, event_facts, pcpu_facts, owner_of, read_pcpu_call}
+use Rattle.vms_world.specs.Common.{IsPcpuCall, Act, Lane, Cpu, Control, event_call, page_call, pcpu_call, event_facts}
+use Rattle.vms_world.specs.Common.{pcpu_facts, owner_of, read_pcpu_call}
 use Rattle.vms_calls.specs.PageCalls.{IsPageCall, asks_rules, page_answered, read_page_call}
 use Rattle.vms_calls.specs.declared.page_calls.PageAnswer.TheVariants as answer
 use Rattle.vms_calls.specs.declared.page_calls.PageAnswer.{PageAnswer}
@@ -13,10 +13,11 @@ use Rattle.vms_calls.specs.declared.page_calls.PageCall.TheVariants.{Bury, Chang
 use Rattle.vms_calls.proofs.PageCalls.{page-tells}
 use Rattle.vms_core.specs.Pages as pages
 use Rattle.vms_world.proofs.ActCalls.{call-no_page_call}
+use Rattle.vms_world.proofs.Common.{events-no_burial}
 use Rattle.vms_world.proofs.EventActs.{events-no_page_call}
 use Rattle.vms_event_core.specs.declared.call_values.EventAnswer.TheVariants.{Done}
 use Rattle.vms_pcpu_core.proofs.Common.{tells-call}
-use Rattle.vms_text.specs.declared.acts.Act.TheVariants.{Csync, Dead, Sum}
+use Rattle.vms_text.specs.declared.acts.Act.TheVariants.{Dead}
 use Rattle.vms_world.specs.declared.worlds.World.{World}
 use Rattle.vms_answers.specs.declared.answers.Answer.{Answer}
 use Rattle.vms_answers.specs.Common.{LaneSteps, Tell, event_told, first_answer, joined, on_counters, on_events}
@@ -37,26 +38,61 @@ pub on_counters-alone : (steps : LaneSteps) → steps.pages ≡ [] → steps.eve
     → steps ≡ on_counters steps.counters
 on_counters-alone steps no_pages no_events = LaneSteps-same steps (on_counters steps.counters) no_pages no_events refl
 
+-- there is no call where there is none
+some-none : {C : Type 0} → (made : Option C) (call : C) → made ≡ Some call → made ≡ None → ⊥
+some-none (Some other) call some none = cc
+some-none None call some none = cc
+
+-- an act that makes a call on the page counters and buries no CPU is no burial
+pages-no_burial : (lane : Lane) (a : Act) (call : PageCall) → page_call lane a ≡ Some call
+    → ((c : CpuId) → call ≢ Bury c) → (c : CpuId) → a ≢ Dead c
+pages-no_burial (Cpu d) (Dead e) call is no_burial c same = absurd cc
+pages-no_burial Control (Dead e) call is no_burial c same = no_burial e cc
+pages-no_burial _ _ call is no_burial c same = cc
+
+-- one that makes a call on event counters makes none on the percpu ones, unless it buries a CPU
+pub events-no_pcpu_call : (lane : Lane) (a : Act) (call : EventCall) → event_call lane a ≡ Some call
+    → ((c : CpuId) → a ≢ Dead c) → pcpu_call lane a ≡ None
+events-no_pcpu_call (Cpu d) (Dead c) call is no_burial = absurd (no_burial c refl)
+events-no_pcpu_call Control (Dead c) call is no_burial = absurd (no_burial c refl)
+events-no_pcpu_call _ _ call is no_burial = cc
+
+-- and one of a CPU's lane that makes a call on percpu counters makes none on the event counters
+counters-no_events : (c : CpuId) (a : Act) (call : PcpuCall) → pcpu_call (Cpu c) a ≡ Some call
+    → event_call (Cpu c) a ≡ None
+counters-no_events c a call is = by (event_call (Cpu c) a) refl
+  where
+    by : (made : Option EventCall) → event_call (Cpu c) a ≡ made → event_call (Cpu c) a ≡ None
+    by None on = on
+    by (Some other) on =
+        absurd (some-none (pcpu_call (Cpu c) a) call is
+        (events-no_pcpu_call (Cpu c) a other on (events-no_burial c a other on)))
+
+-- the control lane makes one on the percpu counters by burials alone
+control-no_counters : (a : Act) → ((c : CpuId) → a ≢ Dead c) → pcpu_call Control a ≡ None
+control-no_counters (Dead c) no_burial = absurd (no_burial c refl)
+control-no_counters _ no_burial = refl
+
 module _ (header : Header) (w : World) where
-  -- the calls of an act that makes one on the page counters and buries no CPU
+  -- an act that makes a call on the page counters and buries no CPU makes none in the other tables
   pub pages-no_events : (lane : Lane) (a : Act) (call : PageCall) → page_call lane a ≡ Some call
       → ((c : CpuId) → call ≢ Bury c) → event_call lane a ≡ None
-  pages-no_events (Cpu d) (Ev k n) call is no_burial = absurd cc
-  pages-no_events (Cpu d) (EvSum k) call is no_burial = absurd cc
-  pages-no_events Control (EvSum k) call is no_burial = absurd cc
-  pages-no_events Control (Dead c) call is no_burial = absurd (no_burial c cc)
-  pages-no_events _ _ call is no_burial = refl
+  pages-no_events lane a call is no_burial = by (event_call lane a) refl
+    where
+      by : (made : Option EventCall) → event_call lane a ≡ made → event_call lane a ≡ None
+      by None on = on
+      by (Some other) on =
+          absurd (some-none (page_call lane a) call is
+          (events-no_page_call lane a other on (pages-no_burial lane a call is no_burial)))
 
   pub pages-no_counters : (lane : Lane) (a : Act) (call : PageCall) → page_call lane a ≡ Some call
       → ((c : CpuId) → call ≢ Bury c) → pcpu_call lane a ≡ None
-  pages-no_counters (Cpu d) (Cnt j amount) call is no_burial = absurd cc
-  pages-no_counters (Cpu d) (Lim j limit amount) call is no_burial = absurd cc
-  pages-no_counters (Cpu d) (Cmp j rhs) call is no_burial = absurd cc
-  pages-no_counters (Cpu d) (Sum j) call is no_burial = absurd cc
-  pages-no_counters (Cpu d) (Rough j) call is no_burial = absurd cc
-  pages-no_counters (Cpu d) (Csync j) call is no_burial = absurd cc
-  pages-no_counters Control (Dead c) call is no_burial = absurd (no_burial c cc)
-  pages-no_counters _ _ call is no_burial = refl
+  pages-no_counters Control a call is no_burial = control-no_counters a (pages-no_burial Control a call is no_burial)
+  pages-no_counters (Cpu d) a call is no_burial = by (pcpu_call (Cpu d) a) refl
+    where
+      by : (made : Option PcpuCall) → pcpu_call (Cpu d) a ≡ made → pcpu_call (Cpu d) a ≡ None
+      by None on = on
+      by (Some other) on = absurd (some-none (page_call (Cpu d) a) call is (call-no_page_call d other a on))
 
   -- steps off which the answer of an act's call is read, whatever follows them, tell that of the act, unless the act
   -- buries a CPU and so makes calls on the other tables too
@@ -103,13 +139,6 @@ module _ (header : Header) (w : World) where
       (λ more. ap (page_answered (λ (end : Unit {0}). answer.Done))
       (tells header.layout c other amount mode steps change more))
 
-  -- an act that makes a call on event counters makes none on the others, unless it buries a CPU
-  events-no_counters : (lane : Lane) (a : Act) (call : EventCall) → event_call lane a ≡ Some call
-      → ((c : CpuId) → a ≢ Dead c) → pcpu_call lane a ≡ None
-  events-no_counters (Cpu d) (Dead c) call is no_burial = absurd (no_burial c refl)
-  events-no_counters Control (Dead c) call is no_burial = absurd (no_burial c refl)
-  events-no_counters _ _ call is no_burial = cc
-
   pub Tell-events : TellsEventCall → (lane : Lane) (a : Act) (call : EventCall) (steps : List EventStep)
       (answer : EventAnswer) → event_call lane a ≡ Some call → ((c : CpuId) → a ≢ Dead c)
       → IsEventCall (event_facts header w) call steps answer
@@ -128,19 +157,12 @@ module _ (header : Header) (w : World) where
       ∙ ap (λ (read : Option Answer × List EventStep). joined (None, rest.pages) read
       (read_pcpu_act (pcpu_facts header w) (pcpu_call lane a) rest.counters)) in_events
       ∙ ap (λ (makes : Option PcpuCall). joined (None, rest.pages) (event_told answer, rest.events)
-      (read_pcpu_act (pcpu_facts header w) makes rest.counters)) (events-no_counters lane a call is no_burial)
+      (read_pcpu_act (pcpu_facts header w) makes rest.counters)) (events-no_pcpu_call lane a call is no_burial)
       ∙ ap (λ (first : Option Answer). (first, rest)) (by answer)
     where
       by : (x : EventAnswer) → first_answer (event_told x) None ≡ event_told x
       by Done = refl
       by (EventTotal sum) = refl
-
-  -- an act of a CPU's lane that makes a call on percpu counters makes none on the others
-  counters-no_events : (c : CpuId) (a : Act) (call : PcpuCall) → pcpu_call (Cpu c) a ≡ Some call
-      → event_call (Cpu c) a ≡ None
-  counters-no_events c (Ev k n) call is = absurd cc
-  counters-no_events c (EvSum k) call is = absurd cc
-  counters-no_events c _ call is = refl
 
   -- what is read of an act of a CPU's lane that makes a call on percpu counters
   pub read-by_call : (c : CpuId) (call : PcpuCall) (a : Act) → pcpu_call (Cpu c) a ≡ Some call → (steps : LaneSteps)
@@ -167,9 +189,18 @@ module _ (header : Header) (w : World) where
       ∙ ap (λ (read : PcpuAnswer × List PcpuStep). joined (None, rest.pages) (None, rest.events)
       (told pcpu_told read)) (reads rest.counters)
 
+  -- those of the call do, by whichever facts it was made, where it is read as by these
+  pub Tell-alike : (c own : CpuId) (call : PcpuCall) (a : Act) → pcpu_call (Cpu c) a ≡ Some call → (facts : PcpuFacts)
+      (steps : List PcpuStep) (answer : PcpuAnswer)
+      → ((more : List PcpuStep) → read_pcpu_call (pcpu_facts header w) call more ≡ read_pcpu_call facts call more)
+      → IsPcpuCall facts (Some own) call steps answer
+      → Tell header w (Cpu c) a (on_counters steps) (pcpu_told answer)
+  Tell-alike c own call a is facts steps answer alike made =
+      Tell-read c call a is steps answer
+      (λ more. alike (steps ++ more) ∙ tells-call facts (Some own) call steps more answer made)
+
   pub Tell-call : (c : CpuId) (call : PcpuCall) (a : Act) → pcpu_call (Cpu c) a ≡ Some call → (steps : List PcpuStep)
       (answer : PcpuAnswer) → IsPcpuCall (pcpu_facts header w) (Some c) call steps answer
       → Tell header w (Cpu c) a (on_counters steps) (pcpu_told answer)
   Tell-call c call a is steps answer made =
-      Tell-read c call a is steps answer
-      (λ more. tells-call (pcpu_facts header w) (Some c) call steps more answer made)
+      Tell-alike c c call a is (pcpu_facts header w) steps answer (λ more. refl) made

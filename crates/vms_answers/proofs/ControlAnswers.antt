@@ -1,6 +1,5 @@
 -- For other crates too: the steps of a burial tell its answer.
-use Rattle.std.proofs.Common.{◌≡◌, ℕ, true, List, ◌++◌, Some, None, ap, ◌∙◌}
-use Rattle.vms_calls.specs.PageCalls.{read_page_call}
+use Rattle.std.proofs.Common.{◌≡◌, ℕ, List, ◌++◌, None, ap, ◌∙◌}
 use Rattle.vms_calls.specs.declared.page_calls.PageAnswer.{PageAnswer}
 use Rattle.vms_calls.specs.declared.page_calls.PageAnswer.TheVariants.{Done as Made}
 use Rattle.vms_calls.specs.declared.page_calls.PageCall.TheVariants.{Bury}

@@ -10,8 +10,8 @@ use Rattle.vms_world.specs.Common.{read_node_rating, node_number, numbers_below,
 use Rattle.vms_world.specs.Common.{read_areas, read_balance, read_blocks, read_order_test, read_turn, read_zones}
 use Rattle.vms_world.specs.Common.{settled_read, with_blocks, Balance, OrderVerdict, blocks_at, has_room, zones_up_to}
 use Rattle.vms_world.specs.Common.{Yes, No, EventAnswer, Total as EventTotal, EventCall, EventStep, read_event_call}
-use Rattle.vms_world.specs.Common.{PcpuAnswer, PcpuCall, PcpuStep, read_pcpu_call, Act, Kswapd, Lane, Cpu, Control}
-use Rattle.vms_world.specs.Common.{event_call, pcpu_call, event_facts, pcpu_facts, CpuId, owner_of, page_call}
+use Rattle.vms_world.specs.Common.{PcpuAnswer, PcpuCall, PcpuStep, read_pcpu_call, Act, Lane, event_call, pcpu_call}
+use Rattle.vms_world.specs.Common.{event_facts, pcpu_facts, CpuId, owner_of, page_call}
 use Rattle.vms_calls.specs.declared.page_calls.PageCall.{PageCall}
 use Rattle.vms_calls.specs.declared.page_calls.PageCall.TheVariants.{Turn}
 use Rattle.vms_event_core.specs.declared.call_values.EventAnswer.TheVariants.{Done}
@@ -197,8 +197,9 @@ module _ (header : Header) (valid : IsHeader header) (w : World) where
       let events = read_event_act (event_facts header w) (event_call lane act) steps.events in
       let counters = read_pcpu_act (pcpu_facts header w) (pcpu_call lane act) steps.counters in
       first-kept (read_page_act header (owner_of lane) (page_call lane act) steps.pages).0
-      (first_answer events.0 counters.0) (page-kept (owner_of lane) (page_call lane act) steps.pages) (first-kept events.0 counters.0
-      (event-kept (event_call lane act) steps.events) (pcpu-kept (pcpu_call lane act) steps.counters))
+      (first_answer events.0 counters.0) (page-kept (owner_of lane) (page_call lane act) steps.pages)
+      (first-kept events.0 counters.0 (event-kept (event_call lane act) steps.events)
+      (pcpu-kept (pcpu_call lane act) steps.counters))
 
   -- what the steps of an act tell can be kept
   pub told-keepable : (lane : Lane) (act : Act) (steps : LaneSteps) (answer : Option Answer)

@@ -55,8 +55,8 @@ page_told (pages.Snapshot value) = Some (Snapshot value)
 page_told (pages.System value) = Some (System value)
 page_told (pages.Balanced balance) = Some (Balanced balance)
 
--- what the steps of a pass on the page counters answer that begin with those of the call of an act, if it makes one, and
--- the steps after them; the pass owns a CPU or none
+-- what the steps of a pass on the page counters answer that begin with those of the call of an act, if it makes one,
+-- and the steps after them; the pass owns a CPU or none
 abbrev pub read_page_act : Header → Option CpuId → Option PageCall → List Step → Option Answer × List Step
 read_page_act header owner None steps = (None, steps)
 read_page_act header owner (Some call) steps = told page_told (read_page_call header call owner steps)

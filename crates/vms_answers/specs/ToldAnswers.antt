@@ -8,8 +8,8 @@ use Rattle.vms_answers.specs.declared.answers.NumberedAnswer.{NumberedAnswer}
 use Rattle.vms_answers.specs.declared.answers.NumberedAnswer.TheVariants as kept
 use Rattle.vms_answers.specs.PhaseAnswers as phases
 
--- an answer that is kept in 16 bytes: a zone that passed has a number of at most 8 bits, and so has the order of its free
--- block
+-- an answer that is kept in 16 bytes: a zone that passed has a number of at most 8 bits, and so has the order of its
+-- free block
 abbrev pub IsKeepableAnswer : Answer → Type 0
 IsKeepableAnswer (Balanced (Yes zone verdict)) =
     (zone.number < 256) × (verdict.yes ≡ true) × IfSome verdict.area (λ order. order < 256)

@@ -1,5 +1,4 @@
-ghost use Rattle.std.specs.Prelude.{◌≡◌, ◌≢◌, ℕ, Bool, true, ℤ, List, Some, None};
-ghost use Rattle.vms_base.specs.declared.ids.PcpuId.{PcpuId};
+ghost use Rattle.std.specs.Prelude.{◌≡◌, ◌≢◌, ℕ, true, ℤ, List, ◌++◌, Some, None};
 ghost use Rattle.vms_calls.specs.PageCalls.{IsPageCall, asks_rules};
 ghost use Rattle.vms_calls.specs.declared.page_calls.PageAnswer.{PageAnswer};
 ghost use Rattle.vms_calls.specs.declared.page_calls.PageCall.{PageCall};
@@ -7,19 +6,16 @@ ghost use Rattle.vms_calls.specs.declared.page_calls.PageCall.TheVariants.{Bury,
 ghost use Rattle.vms_core.specs.Pages as pages;
 ghost use Rattle.vms_world.specs.Common.{Header, CounterId, CpuId, Mode, State, Step, IsChange, HasMade, facts_of};
 ghost use Rattle.vms_world.specs.Common.{EventAnswer, EventCall, EventStep, IsEventCall, PcpuAnswer, PcpuCall};
-ghost use Rattle.vms_world.specs.Common.{PcpuStep, IsPcpuCall, Act, Lane, Cpu, event_call, page_call, pcpu_call};
-ghost use Rattle.vms_world.specs.Common.{event_facts, pcpu_facts, owner_of, Cnt, Lim, Cmp};
-ghost use Rattle.vms_pcpu_core.specs.declared.answers.Compare.{Compare};
-ghost use Rattle.vms_pcpu_core.specs.Calls.{IsAdd, IsCompare, IsLimitedAdd, IsSum, IsSync, unknown};
-ghost use Rattle.vms_text.specs.declared.acts.Act.TheVariants.{Sum, Csync, Dead};
+ghost use Rattle.vms_world.specs.Common.{PcpuFacts, PcpuStep, IsPcpuCall, read_pcpu_call, Act, Lane, Cpu, event_call};
+ghost use Rattle.vms_world.specs.Common.{page_call, pcpu_call, event_facts, pcpu_facts, owner_of};
+ghost use Rattle.vms_text.specs.declared.acts.Act.TheVariants.{Dead};
 ghost use Rattle.vms_world.specs.declared.worlds.World.{World};
-ghost use Rattle.vms_answers.specs.declared.answers.Answer.TheVariants.{Total, Compared, Limited};
 ghost use Rattle.vms_answers.specs.Answers.{Tell, event_told, on_counters, on_events, on_pages, page_told, pcpu_told};
 
 use vms_calls::ThresholdRules;
 
-/// The steps of the call that a line makes on the page counters tell what it answers, unless it buries a CPU and so makes
-/// calls on the other tables too. Those of a call that asks a rule do so where a pass has made them.
+/// The steps of the call that a line makes on the page counters tell what it answers, unless it buries a CPU and so
+/// makes calls on the other tables too. Those of a call that asks a rule do so where a pass has made them.
 pub fn page_acts_tell_answers<R: ThresholdRules>()
     ensures { (header : Header) (w : World) (base : State) (p : ℕ) (later h : pages.History) (lane : Lane)
         (act : Act) (call : PageCall) (steps : List Step) (answer : PageAnswer) → page_call lane act ≡ Some call →
@@ -29,8 +25,8 @@ pub fn page_acts_tell_answers<R: ThresholdRules>()
         Tell header w lane act (on_pages steps) (page_told answer) }
 {}
 
-/// A line that changes a page counter answers nothing, and the steps of any change tell where they end: whichever counter
-/// they change, by whatever amount and in whatever mode.
+/// A line that changes a page counter answers nothing, and the steps of any change tell where they end: whichever
+/// counter they change, by whatever amount and in whatever mode.
 pub fn changes_answer_nothing()
     ensures { (header : Header) (w : World) (c : CpuId) (act : Act) (k other : CounterId) (delta amount : ℤ)
         (how mode : Mode) (steps : List Step) → page_call (Cpu c) act ≡ Some (Change k delta how) →
@@ -50,27 +46,19 @@ pub fn event_acts_tell_answers()
     vms_event_core::answers_are_read();
 }
 
-/// The steps of a line that makes a call on a percpu counter tell what the call answers. They do so whatever the batch
-/// was by which it went, whichever CPUs it looked at, and whichever CPU's local part it moved.
+/// The steps of the call that a line makes on the percpu counters tell what it answers. They do so whichever facts the
+/// call went by and whichever CPU its pass owned, where an answer is read by these facts as it is by those of the
+/// world: of the calls of a CPU's lane, a comparison alone is read by facts at all. So do any steps off which the
+/// call's answer is read, whatever follows them.
 pub fn pcpu_acts_tell_answers()
-    ensures call { (header : Header) (w : World) (c : CpuId) (call : PcpuCall) (act : Act) →
-        pcpu_call (Cpu c) act ≡ Some call → (steps : List PcpuStep) (answer : PcpuAnswer) →
-        IsPcpuCall (pcpu_facts header w) (Some c) call steps answer →
+    ensures call { (header : Header) (w : World) (c own : CpuId) (call : PcpuCall) (act : Act) →
+        pcpu_call (Cpu c) act ≡ Some call → (facts : PcpuFacts) (steps : List PcpuStep) (answer : PcpuAnswer) →
+        ((more : List PcpuStep) → read_pcpu_call (pcpu_facts header w) call more ≡ read_pcpu_call facts call more) →
+        IsPcpuCall facts (Some own) call steps answer →
         Tell header w (Cpu c) act (on_counters steps) (pcpu_told answer) }
-    ensures add { (header : Header) (w : World) (c : CpuId) (j : PcpuId) (batch : ℕ) (amount : ℤ)
-        (steps : List PcpuStep) → IsAdd batch c j amount steps →
-        Tell header w (Cpu c) (Cnt j amount) (on_counters steps) None }
-    ensures limited_add { (header : Header) (w : World) (c : CpuId) (j : PcpuId) (batch most : ℕ)
-        (cpus : List CpuId) (limit amount : ℤ) (steps : List PcpuStep) (answer : Bool) →
-        IsLimitedAdd batch most cpus c j limit amount steps answer →
-        Tell header w (Cpu c) (Lim j limit amount) (on_counters steps) (Some (Limited answer)) }
-    ensures compare { (header : Header) (w : World) (c : CpuId) (j : PcpuId) (cpus : List CpuId) (rhs : ℤ)
-        (steps : List PcpuStep) (answer : Compare) →
-        IsCompare (unknown (pcpu_facts header w) j.number) cpus j rhs steps answer →
-        Tell header w (Cpu c) (Cmp j rhs) (on_counters steps) (Some (Compared answer)) }
-    ensures sum { (header : Header) (w : World) (c : CpuId) (j : PcpuId) (cpus : List CpuId)
-        (steps : List PcpuStep) (answer : ℤ) → IsSum cpus j steps answer →
-        Tell header w (Cpu c) (Sum j) (on_counters steps) (Some (Total answer)) }
-    ensures sync { (header : Header) (w : World) (c cpu : CpuId) (j : PcpuId) (steps : List PcpuStep) →
-        IsSync cpu j steps → Tell header w (Cpu c) (Csync j) (on_counters steps) None }
+    ensures read { (header : Header) (w : World) (c : CpuId) (call : PcpuCall) (act : Act) →
+        pcpu_call (Cpu c) act ≡ Some call → (steps : List PcpuStep) (answer : PcpuAnswer) →
+        ((more : List PcpuStep) →
+        read_pcpu_call (pcpu_facts header w) call (steps ++ more) ≡ (answer, more)) →
+        Tell header w (Cpu c) act (on_counters steps) (pcpu_told answer) }
 {}

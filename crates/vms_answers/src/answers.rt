@@ -75,8 +75,8 @@ pub fn pcpu_told(answer: PcpuAnswer) -> Option<Answer>
     }
 }
 
-/// The answer of a line, with the number of the line in the trace, counted from 1. It takes 16 bytes, where a number beside
-/// an `Answer` takes 48: a phase keeps many. Where fields have no names, the number of the line is the first.
+/// The answer of a line, with the number of the line in the trace, counted from 1. It takes 16 bytes, where a number
+/// beside an `Answer` takes 48: a phase keeps many. Where fields have no names, the number of the line is the first.
 #[derive(Clone, Copy, Debug, PartialEq, Eq)]
 pub enum NumberedAnswer {
     /// Whether a zone has free pages enough, whether no snapshot of them was made, and how many there are.
@@ -102,8 +102,8 @@ pub enum NumberedAnswer {
     Compared(u32, Compare),
     /// Whether an amount was added to a percpu counter within its limit.
     Limited(u32, bool),
-    /// A node is balanced by this zone, whose test made no snapshot: the order of the free block that was found, if one was
-    /// looked for, and the free pages.
+    /// A node is balanced by this zone, whose test made no snapshot: the order of the free block that was found, if one
+    /// was looked for, and the free pages.
     BalancedFast {
         zone: u8,
         area: Option<u8>,

@@ -16,8 +16,8 @@ pub struct LaneAnswers {
     pub items: Vec<NumberedAnswer>,
 }
 
-/// Takes the next answer of the lane of a line, if it is the line's own. `counts` has how many answers of each lane were
-/// taken, by the same places.
+/// Takes the next answer of the lane of a line, if it is the line's own. `counts` has how many answers of each lane
+/// were taken, by the same places.
 #[inline]
 pub fn take_answer(
     lanes: &[LaneAnswers],

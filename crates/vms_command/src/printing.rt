@@ -1,7 +1,8 @@
-ghost use Rattle.std.specs.Prelude.{◌≡◌, ◌++◌, OnOk};
+ghost use Rattle.std.specs.Prelude.{◌≡◌, ◌++◌, OnErr, OnOk};
 ghost use Rattle.std.specs.Fmt.{decimal};
 ghost use Rattle.vms_command.specs.Printing.{done_line, header_cause, header_line, line_cause, line_prefix};
 ghost use Rattle.vms_command.specs.Printing.{refused_line};
+ghost use Rattle.vms_text.specs.Common.{Begins};
 
 use itoa::Buffer;
 use vms_base::Memory;
@@ -14,7 +15,8 @@ pub(crate) fn write_header_line(
     line: u32,
     cause: HeaderCause,
 ) -> Result<(), Memory>
-    ensures { OnOk result (out.new.items ≡ out.old.items ++ header_line (record { line = line; cause = cause })) }
+    ensures ok { OnOk result (out.new.items ≡ out.old.items ++ header_line (record { line = line; cause = cause })) }
+    ensures err { OnErr result (Begins out.old.items out.new.items) }
 {
     write_prefix(out, line)?;
     out.extend_from_slice(name_of_header_cause(cause))?;
@@ -24,7 +26,8 @@ pub(crate) fn write_header_line(
 
 /// Appends the line for one that doesn't count: `line N: refused: CAUSE`.
 pub fn write_refused_line(out: &mut Vec<u8>, line: u32, cause: LineCause) -> Result<(), Memory>
-    ensures { OnOk result (out.new.items ≡ out.old.items ++ refused_line line cause) }
+    ensures ok { OnOk result (out.new.items ≡ out.old.items ++ refused_line line cause) }
+    ensures err { OnErr result (Begins out.old.items out.new.items) }
 {
     write_prefix(out, line)?;
     out.extend_from_slice(b"refused: ")?;
@@ -35,7 +38,8 @@ pub fn write_refused_line(out: &mut Vec<u8>, line: u32, cause: LineCause) -> Res
 
 /// Appends the line that ends a trace: `done accepted A refused R`.
 pub fn write_done_line(out: &mut Vec<u8>, accepted: u32, refused: u32) -> Result<(), Memory>
-    ensures { OnOk result (out.new.items ≡ out.old.items ++ done_line accepted refused) }
+    ensures ok { OnOk result (out.new.items ≡ out.old.items ++ done_line accepted refused) }
+    ensures err { OnErr result (Begins out.old.items out.new.items) }
 {
     out.extend_from_slice(b"done accepted ")?;
     write_number(out, accepted)?;
@@ -47,7 +51,8 @@ pub fn write_done_line(out: &mut Vec<u8>, accepted: u32, refused: u32) -> Result
 
 /// Appends `line N: `.
 pub fn write_prefix(out: &mut Vec<u8>, line: u32) -> Result<(), Memory>
-    ensures { OnOk result (out.new.items ≡ out.old.items ++ line_prefix line) }
+    ensures ok { OnOk result (out.new.items ≡ out.old.items ++ line_prefix line) }
+    ensures err { OnErr result (Begins out.old.items out.new.items) }
 {
     out.extend_from_slice(b"line ")?;
     write_number(out, line)?;
@@ -56,7 +61,8 @@ pub fn write_prefix(out: &mut Vec<u8>, line: u32) -> Result<(), Memory>
 }
 
 fn write_number(out: &mut Vec<u8>, number: u32) -> Result<(), Memory>
-    ensures { OnOk result (out.new.items ≡ out.old.items ++ decimal number) }
+    ensures ok { OnOk result (out.new.items ≡ out.old.items ++ decimal number) }
+    ensures err { OnErr result (Begins out.old.items out.new.items) }
 {
     let mut buffer = Buffer::new();
     out.extend_from_slice(buffer.format(number).as_bytes())?;

@@ -1,15 +1,18 @@
 -- Each act concerns one table: which steps it makes in the others, and what it spends there.
-use Rattle.std.proofs.Common.{◌≡◌, ℕ, ℤ, true, [], Option, Some, None, refl, sym, ap, subst, ◌∙◌}
+use Rattle.std.proofs.Common.{◌≡◌, ℕ, ℤ, [], Option, Some, None, refl, sym, ap, subst, ◌∙◌}
 use Rattle.vms_world.specs.Common.{Header, CounterId, CpuId, ItemId, PlaceId, WaterMark, EventCall, EventFacts}
-use Rattle.vms_world.specs.Common.{IsEventCall, event_spent, IsActOf, PcpuCall, PcpuFacts, MakesPcpuCall}
-use Rattle.vms_world.specs.Common.{spent_on_counter, spent_on_event, spent_on_pcpu, Act, Fold, Water, Val, Snap, Sys}
-use Rattle.vms_world.specs.Common.{Pressure, Normal, Kswapd, Lane, Cpu, CallSteps, EventSteps, PcpuSteps, event_call}
-use Rattle.vms_world.specs.Common.{pcpu_call}
+use Rattle.vms_world.specs.Common.{IsEventCall, event_spent, PcpuCall, PcpuFacts, MakesPcpuCall, spent_on_counter}
+use Rattle.vms_world.specs.Common.{spent_on_event, spent_on_pcpu, Act, Lane, Cpu, CallSteps, EventSteps, PcpuSteps}
+use Rattle.vms_world.specs.Common.{event_call, pcpu_call, Mode}
+use Rattle.vms_calls.specs.PageCalls.{page_spent}
+use Rattle.vms_calls.specs.declared.page_calls.PageCall.{PageCall}
+use Rattle.vms_calls.specs.declared.page_calls.PageCall.TheVariants.{Change, Fold, Test, Value, Snapshot, System}
+use Rattle.vms_calls.specs.declared.page_calls.PageCall.TheVariants.{SetPressure, SetNormal, Turn}
 use Rattle.vms_pcpu_core.specs.PcpuCalls.{spent_by_call as spent_on_counters}
 use Rattle.vms_text.specs.declared.acts.Act.TheVariants.{Mod, Inc, Dec, Dead}
 use Rattle.vms_world.specs.Acts.{spent_by_call}
 use Rattle.vms_world.proofs.Common.{spent-call, spent_on_event-call}
-use Rattle.vms_lane.specs.Common.{is_fold_or_look}
+use Rattle.vms_lane.specs.Common.{IsCallOfControl, IsCallOfCpu, IsFoldOrLook}
 
 -- an act that makes a call on events makes none on percpu counters
 pub events-no_call : (c : CpuId) (a : Act) (call : EventCall) → event_call (Cpu c) a ≡ Some call
@@ -41,13 +44,9 @@ call-unspent c call (Inc l) is k = absurd cc
 call-unspent c call (Dec l) is k = absurd cc
 call-unspent c call _ is k = refl
 
-pub looks-unspent : (a : Act) → is_fold_or_look a ≡ true → (k : ℕ) → spent_on_counter k a ≡ 0
-looks-unspent (Fold c) on k = refl
-looks-unspent (Water g mark most) on k = refl
-looks-unspent (Val l) on k = refl
-looks-unspent (Snap l) on k = refl
-looks-unspent (Sys i) on k = refl
-looks-unspent _ on k = absurd cc
+pub looks-unspent : (header : Header) (call : PageCall) → IsFoldOrLook header call → (k : ℕ) → page_spent call k ≡ 0
+looks-unspent header (Change l delta how) is k = absurd is
+looks-unspent header _ is k = refl
 
 pub no_events-unspent : (c : CpuId) (a : Act) → event_call (Cpu c) a ≡ None → (e : ℕ) → spent_on_event e a ≡ 0
 no_events-unspent c a off e =
@@ -56,25 +55,27 @@ no_events-unspent c a off e =
 pub no_call-unspent : (c : CpuId) (a : Act) → pcpu_call (Cpu c) a ≡ None → (j : ℕ) → spent_on_pcpu j a ≡ 0
 no_call-unspent c a none j = spent-call c a j ∙ ap (λ (call : Option PcpuCall). spent_on_counters call j) none
 
--- what is left of the acts, once some are told apart
-pub rest-looks : (header : Header) (c : CpuId) (a : Act) → IsActOf header (Cpu c) a → event_call (Cpu c) a ≡ None
-    → pcpu_call (Cpu c) a ≡ None → ((k : CounterId) (pages : ℤ) → a ≡ Mod k pages → ⊥)
-    → ((k : CounterId) → a ≡ Inc k → ⊥) → ((k : CounterId) → a ≡ Dec k → ⊥) → is_fold_or_look a ≡ true
-rest-looks header c (Mod k pages) is no_events no_call no_mod no_inc no_dec = absurd (no_mod k pages refl)
-rest-looks header c (Inc k) is no_events no_call no_mod no_inc no_dec = absurd (no_inc k refl)
-rest-looks header c (Dec k) is no_events no_call no_mod no_inc no_dec = absurd (no_dec k refl)
-rest-looks header c (Pressure n) is no_events no_call no_mod no_inc no_dec = absurd is.0
-rest-looks header c (Normal n) is no_events no_call no_mod no_inc no_dec = absurd is.0
-rest-looks header c (Dead d) is no_events no_call no_mod no_inc no_dec = absurd is.0
-rest-looks header c (Kswapd n order most) is no_events no_call no_mod no_inc no_dec = absurd is.0
-rest-looks header c _ is no_events no_call no_mod no_inc no_dec = cc
+-- what is left of the calls, once some are told apart
+pub own-looks : (header : Header) (call : PageCall) → IsCallOfCpu header call
+    → ((k : CounterId) (delta : ℤ) (how : Mode) → call ≡ Change k delta how → ⊥) → IsFoldOrLook header call
+own-looks header (Change k delta how) is no_change = absurd (no_change k delta how refl)
+own-looks header _ is no_change = is
 
-pub looks-none : (a : Act) → is_fold_or_look a ≡ true → ((c : CpuId) → a ≡ Fold c → ⊥)
-    → ((g : PlaceId) (mark : WaterMark) (most : ℕ) → a ≡ Water g mark most → ⊥) → ((k : CounterId) → a ≡ Val k → ⊥)
-    → ((k : CounterId) → a ≡ Snap k → ⊥) → ((i : ItemId) → a ≡ Sys i → ⊥) → ⊥
-looks-none (Fold c) on no_fold no_water no_val no_snap no_sys = no_fold c refl
-looks-none (Water g mark most) on no_fold no_water no_val no_snap no_sys = no_water g mark most refl
-looks-none (Val k) on no_fold no_water no_val no_snap no_sys = no_val k refl
-looks-none (Snap k) on no_fold no_water no_val no_snap no_sys = no_snap k refl
-looks-none (Sys i) on no_fold no_water no_val no_snap no_sys = no_sys i refl
-looks-none _ on no_fold no_water no_val no_snap no_sys = cc
+pub control-looks : (header : Header) (call : PageCall) → IsCallOfControl header call
+    → ((n : PlaceId) → call ≡ SetPressure n → ⊥) → ((n : PlaceId) → call ≡ SetNormal n → ⊥)
+    → ((n : PlaceId) (order most : ℕ) → call ≡ Turn n order most → ⊥) → IsFoldOrLook header call
+control-looks header (SetPressure n) is no_pressure no_normal no_turn = absurd (no_pressure n refl)
+control-looks header (SetNormal n) is no_pressure no_normal no_turn = absurd (no_normal n refl)
+control-looks header (Turn n order most) is no_pressure no_normal no_turn = absurd (no_turn n order most refl)
+control-looks header _ is no_pressure no_normal no_turn = is
+
+pub looks-none : (header : Header) (call : PageCall) → IsFoldOrLook header call → ((c : CpuId) → call ≡ Fold c → ⊥)
+    → ((g : PlaceId) (mark : WaterMark) (most : ℕ) → call ≡ Test g mark most → ⊥)
+    → ((k : CounterId) → call ≡ Value k → ⊥) → ((k : CounterId) → call ≡ Snapshot k → ⊥)
+    → ((i : ItemId) → call ≡ System i → ⊥) → ⊥
+looks-none header (Fold c) is no_fold no_test no_value no_snapshot no_system = no_fold c refl
+looks-none header (Test g mark most) is no_fold no_test no_value no_snapshot no_system = no_test g mark most refl
+looks-none header (Value k) is no_fold no_test no_value no_snapshot no_system = no_value k refl
+looks-none header (Snapshot k) is no_fold no_test no_value no_snapshot no_system = no_snapshot k refl
+looks-none header (System i) is no_fold no_test no_value no_snapshot no_system = no_system i refl
+looks-none header _ is no_fold no_test no_value no_snapshot no_system = is

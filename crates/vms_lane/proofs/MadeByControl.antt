@@ -64,7 +64,8 @@ module _ (header : Header) (pressure normal : ZoneSize → ℕ → ℕ → Type 
     -- an act on the page counters
     pub pages-by_control : (a : Act) (answer : Option Answer) (pass : Pass Facts Step)
         → MakesOnPages header pressure normal tables.pages.facts.base Control a pass old.page answer
-        → event_call Control a ≡ None → Makes a (record { pages = pass; events = old.event; counters = old.pcpu }) answer
+        → event_call Control a ≡ None → Makes a (record { pages = pass; events = old.event; counters = old.pcpu })
+        answer
     pages-by_control a answer pass act none = record {
       steps = on_pages act.steps;
       page_act = act.is_act;

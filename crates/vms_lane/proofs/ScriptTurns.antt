@@ -122,7 +122,8 @@ module _ (header : Header) (pressure normal : ZoneSize → ℕ → ℕ → Type 
     so_far-lines live =
         subst (MakeLines header pressure normal (world_of tables) lane script (passes_in now) (passes_in first))
         (append-nil told)
-        (so_far.lines (passes_in now) [] (lines-none header pressure normal (world_of tables) lane (passes_in now) live))
+        (so_far.lines (passes_in now) []
+        (lines-none header pressure normal (world_of tables) lane (passes_in now) live))
 
 -- the lines of a lane among others: those that are left from the n-th on
 module _ (lane : Lane) (items : List Item) (n : ℕ) where

@@ -3,7 +3,7 @@ pub mod Spending
 pub mod Ready
 pub mod Controlling
 pub mod LanePasses
-pub mod Acts
+pub mod PageCalls
 pub mod Lines
 pub mod TableActs
 pub mod Scripts

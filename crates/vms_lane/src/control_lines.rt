@@ -8,7 +8,7 @@ ghost use Rattle.vms_lane.specs.Controlling.{HasControlled, MayControl, SetsTwic
 ghost use Rattle.vms_lane.specs.Lines.{MakeAct};
 ghost use Rattle.vms_lane.specs.Ready.{AreReadyToControl};
 
-use crate::control_acts::rate_or_look;
+use crate::control_acts::run_control_act;
 use crate::passes::control_passes_are_live;
 use std::sync::Wait;
 use vms_answers::{Answer, event_acts_tell_answers};
@@ -71,7 +71,7 @@ fn make_act<R: Wait, N: Rule, P: Rule>(
     control_passes_are_live(passes);
     match event_call(Lane::Control, act) {
         Some(call) => make_event_call(rt, tables, header, rules, passes, act, call),
-        None => rate_or_look(&tables.pages, &mut passes.page, header, rules, act),
+        None => run_control_act(&tables.pages, &mut passes.page, header, rules, act),
     }
 }
 

@@ -37,7 +37,8 @@ module _ (header : Header) (pressure normal : ZoneSize → ℕ → ℕ → Type 
   all-joined lanes joined have = by have.left have.parts have.results
     where
       by : (left : List Lane) → lanes ≡ have.over ++ left
-          → HaveRunLanes header pressure normal tables w items (suc (length have.over)) left [] → HaveAllJoined lanes joined
+          → HaveRunLanes header pressure normal tables w items (suc (length have.over)) left []
+          → HaveAllJoined lanes joined
       by (lane ∷ left) parts run = absurd run
       by [] parts run =
           let all : have.over ≡ lanes = sym (parts ∙ append-nil have.over) in

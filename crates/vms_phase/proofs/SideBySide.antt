@@ -12,7 +12,7 @@ use Rattle.vms_tables.specs.declared.tables.Tables.{Tables}
 use Rattle.vms_tables.specs.Common.{TablePasses, AreMadeFrom, AreTables}
 use Rattle.vms_world.specs.declared.worlds.World.{World}
 use Rattle.vms_phase.specs.declared.closings.ClosedHistories.{ClosedHistories}
-use Rattle.vms_phase.specs.Common.{seen_by, HasClosedTables, histories_of}
+use Rattle.vms_phase.specs.Common.{seen_by, HasClosedTables, HaveFactsOf, histories_of}
 use Rattle.vms_phase.proofs.JobLists.{counters-told, events-told, pages-told}
 
 module _ (header : Header) (tables : Tables) (w : World) (are : AreTables header tables) (made : AreMadeFrom w tables)
@@ -43,7 +43,8 @@ module _ (header : Header) (tables : Tables) (w : World) (are : AreTables header
           → pcpu_endings.IsComplete closed.counters.facts closed.counters.events
           → AreComplete header w (seen_by mains)
       closed-complete pages events counters = record {
-        pages = subst (λ (f : Facts). page_histories.IsComplete f mains.pages.seen) (pages-told header tables w are made)
+        pages = subst (λ (f : Facts). page_histories.IsComplete f mains.pages.seen)
+            (pages-told header tables w are made)
             (subst (λ (p : Phase Facts Step). page_histories.IsComplete p.facts p.events) page_history pages);
         events = subst (λ (f : EventFacts). event_histories.IsComplete f mains.events.seen)
             (events-told header tables w are made)
@@ -68,3 +69,10 @@ module _ (header : Header) (tables : Tables) (w : World) (are : AreTables header
             counters = counters ∙ ap (λ (f : PcpuFacts). numbers_after f mains.counters.seen)
                 (counters-told header tables w are made);
           })
+
+      pub closed-facts : HaveFactsOf header w closed
+      closed-facts = record {
+        pages = ap (λ (p : Phase Facts Step). p.facts) page_history ∙ pages-told header tables w are made;
+        events = ap (λ (p : Phase EventFacts EventStep). p.facts) event_history ∙ events-told header tables w are made;
+        counters = ap (λ (p : Phase PcpuFacts PcpuStep). p.facts) pcpu_history ∙ counters-told header tables w are made;
+      }

@@ -8,4 +8,4 @@ pub use Rattle.vms_phase.specs.Jobs.{AreJobs, HasRunJob, HaveBegunJobs, HaveRunJ
 pub use Rattle.vms_phase.specs.JoinedLanes.{AreJoinedLanes, AreTold, HasRunLane, HasVolumesOf, HaveJoinedLanes}
 pub use Rattle.vms_phase.specs.JoinedLanes.{HaveRunLanes, IsJoinedLane, seen_by, told_of}
 pub use Rattle.vms_phase.specs.KeptVolumes.{AreGivenBack, HasOwn, HaveAll, given_back, given_back_by}
-pub use Rattle.vms_phase.specs.SideBySide.{HasClosedTables, histories_of}
+pub use Rattle.vms_phase.specs.SideBySide.{HasClosedTables, HaveFactsOf, histories_of}

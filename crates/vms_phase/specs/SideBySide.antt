@@ -16,3 +16,10 @@ pub record HasClosedTables (header : Header) (w : World) (hs : TableHistories) (
   pub pages : next.pages ≡ settled (page_histories.state_after (page_facts header w) hs.pages)
   pub events : next.events ≡ event_histories.state_after (event_facts header w) hs.events
   pub counters : next.counters ≡ numbers_after (pcpu_facts header w) hs.counters
+
+-- the tables of these histories were told what a phase of this header from this world is told: each history is one
+-- from the world's part of its table, with the same CPUs online, dead and absent in all
+pub record HaveFactsOf (header : Header) (w : World) (closed : ClosedHistories) : Type 0 where
+  pub pages : closed.pages.facts ≡ page_facts header w
+  pub events : closed.events.facts ≡ event_facts header w
+  pub counters : closed.counters.facts ≡ pcpu_facts header w

@@ -15,7 +15,9 @@ use vms_tables::{MainPasses, Tables};
 use vms_words::PhaseHistory;
 use vms_world::World;
 
-/// The histories of a phase in the three tables. They store no event.
+/// The histories of a phase in the three tables. They store no event. None is made but by closing a table: each has a
+/// private field, the `witness` of a `vms_seats::History`, which no other crate can fill. That rests on the field's
+/// being private, and on no clause.
 #[derive(Drop)]
 pub struct ClosedHistories {
     pub pages: PhaseHistory,

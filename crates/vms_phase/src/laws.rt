@@ -30,7 +30,8 @@ pub fn lanes_make_phases<R: ThresholdRules>()
 }
 
 /// Where the lines fit a start of the world, what the lanes made is a phase that leads to the world in which its
-/// histories were closed. That world belongs to the header again, and what the lines make of the start is a start of it.
+/// histories were closed. That world belongs to the header again, and what the lines make of the start is a start of
+/// it.
 pub fn fitting_lanes_make_phases<R: ThresholdRules>()
     ensures left { (header : Header) (w : World) (items : List Item) (hs : TableHistories)
         (next : World) →

@@ -2,7 +2,7 @@ ghost use Rattle.std.specs.Prelude.{◌≡◌, All, IfOk};
 ghost use Rattle.vms_answers.specs.Common.{answers_of, merged, HasPlace, told_by};
 ghost use Rattle.vms_world.specs.Common.{IsHeader, Fits, Start, left_by};
 ghost use Rattle.vms_file_order.specs.Common.{MakeInAnyOrder, IsStartOf};
-ghost use Rattle.vms_phase.specs.SideBySide.{histories_of};
+ghost use Rattle.vms_phase.specs.SideBySide.{HaveFactsOf, histories_of};
 
 use crate::closings::ClosedHistories;
 use crate::laws::fitting_lanes_make_phases;
@@ -31,8 +31,9 @@ pub struct PhaseDone {
 }
 
 /// Runs the lines of a phase from a world, each lane on a thread of its own, the control lane among them, and returns
-/// once all have ended. The histories are one phase of these lines, by the rules of thresholds that are given: the
-/// world that is returned is the one that they leave, and what the lines answered is what they tell.
+/// once all have ended. The histories are one phase of these lines, by the rules of thresholds that are given, and
+/// begin with the tables of the world: the world that is returned is the one that they leave, and what the lines
+/// answered is what they tell.
 pub fn run_phase<G: Gate, R: Threads + Wait + Sync, N: Rule + Sync, P: Rule + Sync>(
     rt: &R,
     alloc: Global,
@@ -46,6 +47,7 @@ pub fn run_phase<G: Gate, R: Threads + Wait + Sync, N: Rule + Sync, P: Rule + Sy
     requires start { (start : Start) × IsStartOf header.now start world × Fits header.now start script.now }
     ensures phase { IfOk result (λ done. MakeInAnyOrder header.now (P.answers rules.now.pressure)
         (N.answers rules.now.normal) world script.now (histories_of done.histories)) }
+    ensures facts { IfOk result (λ done. HaveFactsOf header.now world done.histories) }
     ensures world { IfOk result (λ done. done.world
         ≡ left_by header.now world script.now (histories_of done.histories)) }
     ensures answers { IfOk result (λ done. answers_of header.now world script.now (histories_of done.histories)

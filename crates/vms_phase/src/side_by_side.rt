@@ -4,7 +4,7 @@ ghost use Rattle.vms_world.specs.Common.{IsHeader, Fits, Start, Lane, lanes_of, 
 ghost use Rattle.vms_file_order.specs.Common.{IsStartOf, MakeInAnyOrder};
 ghost use Rattle.vms_phase.specs.JoinedLanes.{AreTold, told_of};
 ghost use Rattle.vms_phase.specs.LanesMade.{AreMadeByLanes};
-ghost use Rattle.vms_phase.specs.SideBySide.{HasClosedTables, histories_of};
+ghost use Rattle.vms_phase.specs.SideBySide.{HasClosedTables, HaveFactsOf, histories_of};
 ghost use Rattle.vms_tables.specs.Common.{AreFrom, HaveSeenNothing, mains_of, AreMadeFrom, AreTables};
 
 use crate::closings::{ClosedHistories, close};
@@ -55,6 +55,7 @@ pub fn make_side_by_side<R: Threads + Wait + Sync, G: Gate, N: Rule + Sync, P: R
         (histories_of made.histories) told) }
     ensures tables { IfOk result (λ made. HasClosedTables header.now world.old (histories_of made.histories)
         world.new) }
+    ensures facts { IfOk result (λ made. HaveFactsOf header.now world.old made.histories) }
     ensures volumes { IfOk result (λ made. world.new.volumes ≡ volumes_after header.now world.old script.now) }
     ensures err { OnErr result (world.new ≡ world.old) }
 {
@@ -88,6 +89,7 @@ fn run_and_close<R: Threads + Wait + Sync, G: Gate, N: Rule + Sync, P: Rule + Sy
         (histories_of made.histories) told) }
     ensures tables { IfOk result (λ made. HasClosedTables header.now world.old (histories_of made.histories)
         world.new) }
+    ensures facts { IfOk result (λ made. HaveFactsOf header.now world.old made.histories) }
     ensures volumes { IfOk result (λ made. world.new.volumes ≡ volumes_after header.now world.old script.now) }
     ensures err { OnErr result (world.new ≡ world.old) }
 {

@@ -15,7 +15,7 @@ use Rattle.vms_replay.specs.declared.bodies.Replay.{Replay}
 use Rattle.vms_replay.specs.declared.waits.Wait.{Wait}
 use Rattle.vms_replay.specs.Common.{EngineMakesPhase, PastPhase, HasPlainTotals, Kept, MayBe, has_some, Ended}
 use Rattle.vms_replay.specs.Common.{EndsPhase, Runs, StandsBefore, AreAnswersOf, Ascend, asked_numbers, asking_numbers}
-use Rattle.vms_replay.specs.Common.{written}
+use Rattle.vms_replay.specs.Common.{phase_facts, phase_of, written}
 use Rattle.vms_replay.proofs.AskedAnswers.{AreAnswersOf-answers}
 use Rattle.vms_replay.proofs.WrittenWaits.{Ascend-asking, Ascend-increasing, written-is}
 
@@ -64,7 +64,7 @@ module _ (header : Header) (n : ℕ) (above : LinesAbove) (kept : Kept) (texts :
       (made made' : Option (List PastPhase)) (Told : List NumberedAnswer → Type 0) (left : World)
       (makes : EngineMakesPhase Makes header w items made made' Told left) where
     abbrev given : PastPhase
-    given = record { world = w; items = items; histories = makes.histories }
+    given = phase_of header w items makes.histories
 
     same_world : w ≡ kept.world
     same_world = Some-same w kept.world (sym is ∙ runs.in_world)
@@ -73,6 +73,7 @@ module _ (header : Header) (n : ℕ) (above : LinesAbove) (kept : Kept) (texts :
     MayBe-made = record {
       from = same_world;
       of = runs.keeps;
+      told = ap (phase_facts header) same_world;
       makes = subst (λ (v : World). Makes header v kept.items makes.histories) same_world
           (subst (λ (xs : List Item). Makes header w xs makes.histories) runs.keeps makes.makes);
     }
@@ -92,7 +93,8 @@ module _ (header : Header) (n : ℕ) (above : LinesAbove) (kept : Kept) (texts :
         → ((start : Start) → IsStartOf header start w → Fits header start items
         → IsStartOf header (start_at_end start (map line_of items)) (left_by header w items makes.histories))
         → ((start : Start) → IsStartOf header start w → Fits header start items → (before : List PastPhase)
-        → HasPlainTotals header before w → HasPlainTotals header (given ∷ before) (left_by header w items makes.histories))
+        → HasPlainTotals header before w → HasPlainTotals header (given ∷ before)
+        (left_by header w items makes.histories))
         → (held' : Option World) (items' : List Item) (waiting' : List Wait) (out out' : List ℕ)
         → held' ≡ Some left → items' ≡ [] → waiting' ≡ [] → out' ≡ out ++ written header waiting told
         → Ended header above kept texts (Some given) held' items' waiting' out out'
@@ -147,7 +149,7 @@ module _ {E : Type 0} (Makes : Header → World → List Item → TableHistories
       (makes : EngineMakesPhase Makes header w replay.items.items made made' Told left)
       (some : replay.items.items ≢ []) where
     abbrev outcome : PastPhase
-    outcome = record { world = w; items = replay.items.items; histories = makes.histories }
+    outcome = phase_of header w replay.items.items makes.histories
 
     gives : (n : ℕ) (above : LinesAbove) (kept : Kept) (texts : List (Text PastPhase))
         → StandsBefore replay header n above kept texts
@@ -171,10 +173,11 @@ module _ {E : Type 0} (Makes : Header → World → List Item → TableHistories
     -- the phase was made, and nothing waits any more
     pub EndsPhase-made : ((hs : TableHistories) → Makes header w replay.items.items hs → (start : Start)
         → IsStartOf header start w → Fits header start replay.items.items
-        → IsStartOf header (start_at_end start (map line_of replay.items.items)) (left_by header w replay.items.items hs))
+        → IsStartOf header (start_at_end start (map line_of replay.items.items))
+        (left_by header w replay.items.items hs))
         → ((hs : TableHistories) → Makes header w replay.items.items hs → (start : Start) → IsStartOf header start w
         → Fits header start replay.items.items → (before : List PastPhase) → HasPlainTotals header before w
-        → HasPlainTotals header (record { world = w; items = replay.items.items; histories = hs } ∷ before)
+        → HasPlainTotals header (phase_of header w replay.items.items hs ∷ before)
         (left_by header w replay.items.items hs))
         → replay'.world ≡ Some left → replay'.items.items ≡ [] → replay'.waits.items ≡ []
         → ((told : List NumberedAnswer) → Told told → out' ≡ out ++ written header replay.waits.items told)

@@ -5,19 +5,22 @@ use Rattle.std.proofs.lemmas.List.Elements.{All-cons, All-nil}
 use Rattle.std.specs.Prelude.{All, is_some, reverse}
 use Rattle.vms_world.specs.Common.{Header, IsHeader, Fits, Between, Phase, Segment, phase_if_any, Start, first_start}
 use Rattle.vms_world.specs.Common.{start_after, start_at_end, line_of, Item, Line, MayCross, IsWorldPhase, SegmentsLead}
-use Rattle.vms_world.specs.Common.{TableHistories, left_by}
+use Rattle.vms_world.specs.Common.{TableHistories, left_by, IsWorldOf}
 use Rattle.vms_command.specs.Common.{IsJudgedAfter, LinesAbove, nothing_above, with_judged}
 use Rattle.vms_file_order.specs.Common.{KeepAllLaws, IsStartOf}
 use Rattle.vms_file_order.proofs.Common.{MayCross-allowed, start_at_end-lines}
 use Rattle.vms_stream.specs.Common.{MayGive, at_most_one}
+use Rattle.vms_truth.specs.Common.{LinesAreTrue, WaysStayNear}
 use Rattle.vms_script.proofs.Common.{Fits-none}
 use Rattle.vms_text.specs.declared.acts.Boundary.{Boundary as BoundaryOf}
 use Rattle.vms_text.specs.declared.acts.Line.TheVariants.{Boundary}
 use Rattle.vms_world.specs.declared.worlds.World.{World}
 use Rattle.vms_replay.specs.Common.{normal_rule, pressure_rule, PastPhase, crossed, world_after, IsLawful, histories_in}
-use Rattle.vms_replay.specs.Common.{phases_on, Kept, MayBe, first_kept, has_some, next_kept}
+use Rattle.vms_replay.specs.Common.{PhaseFacts, phase_facts, phase_of, phases_on, Kept, MayBe, first_kept, has_some}
+use Rattle.vms_replay.specs.Common.{next_kept, AddUpOn, HasPlainTotals}
 use Rattle.vms_replay.proofs.KernelThresholds.{Crosses-crossed, IsStartOf-past, IsStartOf-started}
 use Rattle.vms_replay.proofs.PassedBoundaries.{allowed-boundary, known-boundary}
+use Rattle.vms_replay.proofs.PlainTotals.{HasPlainTotals-crossed}
 
 -- the lines that are kept fit the world that is kept, and are with the lines above them all that count
 pub record IsLed (header : Header) (above : LinesAbove) (kept : Kept) : Type 0 where
@@ -42,6 +45,14 @@ pub record Knows (Makes : Header → World → List Item → TableHistories → 
       → IsStartOf header (start_at_end start (map line_of items)) (left_by header w items hs)
   pub laws : (header : Header) (w : World) (items : List Item) (hs : TableHistories) (next : World)
       → IsWorldPhase header pressure_rule normal_rule w items hs next → KeepAllLaws header w hs
+  pub truth : (header : Header) (start : Start) (w : World) (items : List Item) (hs : TableHistories) (next : World)
+      → Fits header start items → IsWorldPhase header pressure_rule normal_rule w items hs next
+      → LinesAreTrue header w items hs
+  pub near : WaysStayNear pressure_rule normal_rule
+  pub adds : (header : Header) (start : Start) (w : World) (items : List Item) (hs : TableHistories)
+      → IsStartOf header start w → Fits header start items → Makes header w items hs → (before : List PastPhase)
+      → HasPlainTotals header before w
+      → HasPlainTotals header (phase_of header w items hs ∷ before) (left_by header w items hs)
 
 module _ (Makes : Header → World → List Item → TableHistories → Type 0) (header : Header) where
   -- a phase that was made of these lines from this world
@@ -50,6 +61,9 @@ module _ (Makes : Header → World → List Item → TableHistories → Type 0) 
     pub is : IsWorldPhase header pressure_rule normal_rule w items phase.histories
         (left_by header phase.world phase.items phase.histories)
     pub laws : KeepAllLaws header phase.world phase.histories
+    pub truth : LinesAreTrue header phase.world phase.items phase.histories
+    pub adds : (before : List PastPhase) → HasPlainTotals header before w
+        → HasPlainTotals header (phase ∷ before) (left_by header phase.world phase.items phase.histories)
 
   -- these phases lead through segments from one world to another
   abbrev pub LeadOn : List Segment → List PastPhase → World → World → Type 0
@@ -57,7 +71,7 @@ module _ (Makes : Header → World → List Item → TableHistories → Type 0) 
   LeadOn (Phase items ∷ segments) (phase ∷ more) w last =
       IsPhaseFrom w items phase × LeadOn segments more (left_by header phase.world phase.items phase.histories) last
   LeadOn (Between n b ∷ segments) made w last =
-      MayCross header.layout w.pages b × LeadOn segments made (crossed header b w) last
+      IsWorldOf header w × MayCross header.layout w.pages b × LeadOn segments made (crossed header b w) last
   LeadOn _ _ w last = ⊥
 
   -- a way on from another
@@ -67,23 +81,31 @@ module _ (Makes : Header → World → List Item → TableHistories → Type 0) 
   LeadOn-append [] more [] others w mid last same leads =
       subst (λ (v : World). LeadOn more others v last) (sym same) leads
   LeadOn-append [] more (phase ∷ made) others w mid last none leads = absurd none
-  LeadOn-append (Phase items ∷ segments) more (phase ∷ made) others w mid last (is, on) leads =
-      (is, LeadOn-append segments more made others (left_by header phase.world phase.items phase.histories) mid last on leads)
+  LeadOn-append (Phase items ∷ segments) more (phase ∷ made) others w mid last (is, on) leads = (
+    is,
+    LeadOn-append segments more made others (left_by header phase.world phase.items phase.histories) mid
+        last on leads,
+  )
   LeadOn-append (Phase items ∷ segments) more [] others w mid last none leads = absurd none
-  LeadOn-append (Between n b ∷ segments) more made others w mid last (may, on) leads =
-      (may, LeadOn-append segments more made others (crossed header b w) mid last on leads)
+  LeadOn-append (Between n b ∷ segments) more made others w mid last (of, may, on) leads =
+      (of, may, LeadOn-append segments more made others (crossed header b w) mid last on leads)
 
   -- it is a way of the model, and the phases are those on it
   pub record IsWay (segments : List Segment) (made : List PastPhase) (w last : World) : Type 0 where
     pub way : SegmentsLead header pressure_rule normal_rule segments (histories_in made) w last
     pub phases : phases_on header segments (histories_in made) w last way ≡ made
     pub lawful : All (IsLawful Makes header) made
+    pub plain : (before : List PastPhase) → HasPlainTotals header before w
+        → AddUpOn header segments (histories_in made) w last way before
 
   made-same : (w : World) (items : List Item) (phase : PastPhase) → MayBe Makes header w items phase
-      → record { world = w; items = items; histories = phase.histories } ≡ phase
+      → phase_of header w items phase.histories ≡ phase
   made-same w items phase be =
-      ap₂ (λ (v : World) (xs : List Item). record { world = v; items = xs; histories = phase.histories })
+      ap₂ (λ (v : World) (xs : List Item).
+      record { world = v; items = xs; facts = phase_facts header w; histories = phase.histories })
       (sym be.from) (sym be.of)
+      ∙ ap (λ (facts : PhaseFacts).
+      record { world = phase.world; items = phase.items; facts = facts; histories = phase.histories }) (sym be.told)
 
   lawful-from : (w : World) (items : List Item) (phase : PastPhase) → IsPhaseFrom w items phase
       → IsLawful Makes header phase
@@ -91,13 +113,14 @@ module _ (Makes : Header → World → List Item → TableHistories → Type 0) 
     makes = subst (λ (xs : List Item). Makes header phase.world xs phase.histories) (sym is.be.of)
         (subst (λ (v : World). Makes header v items phase.histories) (sym is.be.from) is.be.makes);
     laws = is.laws;
+    truth = is.truth;
   }
 
   module _ (valid : IsHeader header) where
     pub IsWay-led : (segments : List Segment) (made : List PastPhase) (w last : World) → LeadOn segments made w last
         → IsWay segments made w last
     IsWay-led [] [] w last same =
-        record { way = same; phases = refl; lawful = All-nil (IsLawful Makes header) }
+        record { way = same; phases = refl; lawful = All-nil (IsLawful Makes header); plain = λ before has. has }
     IsWay-led [] (phase ∷ made) w last none = absurd none
     IsWay-led (Phase items ∷ segments) [] w last none = absurd none
     IsWay-led (Phase items ∷ segments) (phase ∷ made) w last (is, on) =
@@ -107,14 +130,21 @@ module _ (Makes : Header → World → List Item → TableHistories → Type 0) 
           way = (left, is.is, later.way);
           phases = ap₂ (λ (x : PastPhase) (xs : List PastPhase). x ∷ xs) (made-same w items phase is.be) later.phases;
           lawful = All-cons (IsLawful Makes header) phase made (lawful-from w items phase is) later.lawful;
+          plain = λ before has. (
+            has,
+            later.plain (phase_of header w items phase.histories ∷ before)
+                (subst (λ (x : PastPhase). HasPlainTotals header (x ∷ before) left)
+                (sym (made-same w items phase is.be)) (is.adds before has)),
+          );
         }
-    IsWay-led (Between n b ∷ segments) made w last (may, on) =
+    IsWay-led (Between n b ∷ segments) made w last (of, may, on) =
         let later : IsWay segments made (crossed header b w) last =
         IsWay-led segments made (crossed header b w) last on in
         record {
           way = (crossed header b w, may, Crosses-crossed header valid b w, later.way);
           phases = later.phases;
           lawful = later.lawful;
+          plain = λ before has. (has, later.plain before (HasPlainTotals-crossed header valid before w b of has));
         }
 
 module _ (Makes : Header → World → List Item → TableHistories → Type 0) (knows : Knows Makes) (header : Header) where
@@ -144,6 +174,12 @@ module _ (Makes : Header → World → List Item → TableHistories → Type 0) 
       is = subst (λ (v : World). IsWorldPhase header pressure_rule normal_rule v kept.items phase.histories left)
           be.from phase-is;
       laws = knows.laws header phase.world kept.items phase.histories left phase-is;
+      truth = subst (λ (xs : List Item). LinesAreTrue header phase.world xs phase.histories) (sym be.of)
+          (knows.truth header start phase.world kept.items phase.histories left led.fits phase-is);
+      adds = λ before has.
+          subst (λ (x : PastPhase). HasPlainTotals header (x ∷ before)
+          (left_by header x.world x.items x.histories)) (made-same Makes header kept.world kept.items phase be)
+          (knows.adds header start kept.world kept.items phase.histories led.begins led.fits be.makes before has);
     }
 
     pub IsStartOf-left : IsStartOf header (start_after first_start above.lines) left
@@ -166,12 +202,13 @@ module _ (Makes : Header → World → List Item → TableHistories → Type 0) 
       (judged_is : IsJudgedAfter header above (Ok (Boundary b))) where
     past : (kept : Kept) (given : Option PastPhase)
         → IsStartOf header (start_after first_start above.lines) (world_after header kept.world given)
-        → (MayCross header.layout (world_after header kept.world given).pages b
+        → (IsWorldOf header (world_after header kept.world given)
+        → MayCross header.layout (world_after header kept.world given).pages b
         → LeadOn Makes header (phase_if_any kept.items ++ Between n b ∷ []) (at_most_one given) kept.world
         (crossed header b (world_after header kept.world given)))
         → LeadsPast n above kept b given
     past kept given is leads = record {
-      leads = leads (MayCross-allowed header (start_after first_start above.lines)
+      leads = leads is.world (MayCross-allowed header (start_after first_start above.lines)
           (world_after header kept.world given) is.states b (known-boundary header valid above b judged_is)
           (allowed-boundary header valid above b judged_is));
       is_led = record {
@@ -194,8 +231,8 @@ module _ (Makes : Header → World → List Item → TableHistories → Type 0) 
             past kept None
             (subst (λ (lines : List Line). IsStartOf header (start_after first_start lines) kept.world)
             (sym (led.lines ∙ ap (λ (xs : List Item). reverse (map line_of xs) ++ kept.above) is)) led.begins)
-            (λ crosses. subst (λ (xs : List Item). LeadOn Makes header (phase_if_any xs ++ Between n b ∷ []) []
-            kept.world (crossed header b kept.world)) (sym is) (crosses, refl))
+            (λ of crosses. subst (λ (xs : List Item). LeadOn Makes header (phase_if_any xs ++ Between n b ∷ []) []
+            kept.world (crossed header b kept.world)) (sym is) (of, crosses, refl))
         by (item ∷ items) is same = absurd cc
     LeadsPast-led kept (Some phase) led ended may = by kept.items refl ended
       where
@@ -204,9 +241,10 @@ module _ (Makes : Header → World → List Item → TableHistories → Type 0) 
         by [] is same = absurd cc
         by (item ∷ items) is same =
             past kept (Some phase) (IsStartOf-left above kept led phase may.1)
-            (λ crosses. subst (λ (xs : List Item). LeadOn Makes header (phase_if_any xs ++ Between n b ∷ [])
-            (phase ∷ []) kept.world (crossed header b (left_by header phase.world phase.items phase.histories))) (sym is) (
+            (λ of crosses. subst (λ (xs : List Item). LeadOn Makes header (phase_if_any xs ++ Between n b ∷ [])
+            (phase ∷ []) kept.world (crossed header b
+            (left_by header phase.world phase.items phase.histories))) (sym is) (
               subst (λ (xs : List Item). IsPhaseFrom Makes header kept.world xs phase) is
                   (IsPhaseFrom-led above kept led phase may.1),
-              (crosses, refl),
+              (of, crosses, refl),
             ))

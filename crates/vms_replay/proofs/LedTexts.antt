@@ -1,9 +1,9 @@
 -- Outcomes that lead through the lines of a text are phases of its body.
 use Rattle.std.proofs.Common.{◌≡◌, ℕ, zero, suc, nat_lt, Bool, true, false, List, [], ◌∷◌, ◌++◌, drop, refl, sym, ap}
 use Rattle.std.proofs.Common.{subst, ◌∙◌, Option, Some, None, if◌then◌else◌, append-nil, arith}
-use Rattle.std.specs.Prelude.{Result, Ok, Err}
-use Rattle.vms_world.specs.Common.{Header, IsHeader, Phase, Segment, contents_of, phase_if_any, Item, TableHistories}
-use Rattle.vms_world.specs.Common.{left_by}
+use Rattle.std.specs.Prelude.{All, Result, Ok, Err}
+use Rattle.vms_world.specs.Common.{Header, IsHeader, Phase, Segment, SegmentsLead, contents_of, phase_if_any, Item}
+use Rattle.vms_world.specs.Common.{TableHistories, left_by}
 use Rattle.vms_command.specs.Common.{shown_given, CommandState, after_head, halts_at, printed_head, refuses, Heading}
 use Rattle.vms_command.specs.Common.{most_lines, LinesAbove, nothing_above}
 use Rattle.vms_header.specs.declared.causes.HeaderCause.{HeaderCause}
@@ -16,11 +16,15 @@ use Rattle.vms_stream.specs.Common.{Text, Waiting, unless_stopped, waits_after, 
 use Rattle.vms_stream.specs.Common.{state_after}
 use Rattle.vms_stream.specs.declared.statuses.Status.{Status}
 use Rattle.vms_stream.specs.declared.statuses.Status.TheVariants.{TooLong}
+use Rattle.vms_truth.specs.Common.{NumbersAreNear, worlds_on}
 use Rattle.vms_world.specs.declared.worlds.World.{World}
-use Rattle.vms_replay.specs.Common.{PastPhase, first_world, PhasesLeadFrom, PhasesLeadThrough, PhasesLeadThroughFront}
-use Rattle.vms_replay.specs.Common.{TextsLeadOn, Kept, MayBe, first_kept, has_some, shown_by_replay, replaying}
+use Rattle.vms_replay.specs.Common.{normal_rule, pressure_rule, PastPhase, first_world, histories_in, PhasesLeadFrom}
+use Rattle.vms_replay.specs.Common.{PhasesLeadThrough, PhasesLeadThroughFront, TextsLeadOn, Kept, MayBe, first_kept}
+use Rattle.vms_replay.specs.Common.{has_some, shown_by_replay, replaying}
 use Rattle.vms_replay.proofs.LedBodies.{Finishes, Front, Front-if, Front-stopped, Leaves-lines, at, phased, with_items}
 use Rattle.vms_replay.proofs.LedBodies.{with_items-none}
+use Rattle.vms_replay.proofs.KernelThresholds.{IsStartOf-started, normal-gives}
+use Rattle.vms_replay.proofs.PlainTotals.{HasPlainTotals-first}
 use Rattle.vms_replay.proofs.LedLines.{IsLed, IsLed-first, IsPhaseFrom-led, IsWay-led, Knows, LeadOn, LeadOn-append}
 
 -- what stands after an element
@@ -31,7 +35,16 @@ rest-after zero (first ∷ all) line lines is = cc
 rest-after (suc k) [] line lines is = absurd cc
 rest-after (suc k) (first ∷ all) line lines is = rest-after k all line lines is
 
-module _ (Makes : Header → World → List Item → TableHistories → Type 0) (header : Header) where
+module _ (Makes : Header → World → List Item → TableHistories → Type 0) (knows : Knows Makes) (header : Header) where
+  -- the numbers are near in each world of the way
+  near-led : IsHeader header → (segments : List Segment) (made : List PastPhase) (last : World)
+      → (way : SegmentsLead header pressure_rule normal_rule segments (histories_in made) (first_world header) last)
+      → All (NumbersAreNear header)
+      (worlds_on header pressure_rule normal_rule segments (histories_in made) (first_world header) last way)
+  near-led valid segments made last way =
+      knows.near header segments (histories_in made) (first_world header) last normal-gives
+      (IsStartOf-started header valid).world way
+
   pub PhasesLeadThroughFront-of : IsHeader header → (Closed : Type 0) (segments : List Segment) (made : List PastPhase)
       → Front Makes header (first_world header) Closed segments made → PhasesLeadThroughFront Makes header segments made
   PhasesLeadThroughFront-of valid Closed segments made it =
@@ -40,7 +53,14 @@ module _ (Makes : Header → World → List Item → TableHistories → Type 0) 
         front = it.front;
         rest = it.rest;
         parts = it.parts;
-        lead = record { last = it.last; way = way.way; phases = way.phases; lawful = way.lawful };
+        lead = record {
+          last = it.last;
+          way = way.way;
+          phases = way.phases;
+          lawful = way.lawful;
+          near = near-led valid it.front made it.last way.way;
+          plain = way.plain [] (HasPlainTotals-first header valid);
+        };
       }
 
   pub PhasesLeadThrough-of : IsHeader header → (Closed : Type 0) (segments : List Segment) (made : List PastPhase)
@@ -51,7 +71,14 @@ module _ (Makes : Header → World → List Item → TableHistories → Type 0) 
       let same : it.front ≡ segments =
       sym (it.parts ∙ ap (λ (more : List Segment). it.front ++ more) (it.all closed) ∙ append-nil it.front) in
       subst (λ (all : List Segment). PhasesLeadThrough Makes header all made) same
-      (record { last = it.last; way = way.way; phases = way.phases; lawful = way.lawful })
+      (record {
+        last = it.last;
+        way = way.way;
+        phases = way.phases;
+        lawful = way.lawful;
+        near = near-led valid it.front made it.last way.way;
+        plain = way.plain [] (HasPlainTotals-first header valid);
+      })
 
   -- no phase was made
   pub PhasesLeadThroughFront-none : IsHeader header → (segments : List Segment) (made : List PastPhase) → made ≡ []
@@ -233,8 +260,8 @@ module _ (Makes : Header → World → List Item → TableHistories → Type 0) 
       phases
   led-texts phases leads = led-from all 0 Opening [] phases refl refl leads
 
-module _ (Makes : Header → World → List Item → TableHistories → Type 0) (lines : List (List ℕ)) (made : List PastPhase)
-    (P : Type 0) where
+module _ (Makes : Header → World → List Item → TableHistories → Type 0) (knows : Knows Makes) (lines : List (List ℕ))
+    (made : List PastPhase) (P : Type 0) where
   -- what is led so are the first phases, or all of them
   first-led : (found : Result (Header × ℕ) Fault) → read_header lines ≡ found
       → PhasesLeadFrom (λ header segments phases. Front Makes header (first_world header) P segments phases)
@@ -242,7 +269,7 @@ module _ (Makes : Header → World → List Item → TableHistories → Type 0) 
       → PhasesLeadFrom (PhasesLeadThroughFront Makes) found lines made
   first-led (Err fault) is none = none
   first-led (Ok (header, count)) is front =
-      PhasesLeadThroughFront-of Makes header (read_header-writable lines header count is).is_header P _ made front
+      PhasesLeadThroughFront-of Makes knows header (read_header-writable lines header count is).is_header P _ made front
 
   whole-led : P → (found : Result (Header × ℕ) Fault) → read_header lines ≡ found
       → PhasesLeadFrom (λ header segments phases. Front Makes header (first_world header) P segments phases)
@@ -250,18 +277,19 @@ module _ (Makes : Header → World → List Item → TableHistories → Type 0) 
       → PhasesLeadFrom (PhasesLeadThrough Makes) found lines made
   whole-led finishes (Err fault) is none = none
   whole-led finishes (Ok (header, count)) is front =
-      PhasesLeadThrough-of Makes header (read_header-writable lines header count is).is_header P _ made front finishes
+      PhasesLeadThrough-of Makes knows header (read_header-writable lines header count is).is_header P _ made front
+      finishes
 
 pub TextsLeadOn-holds : (Makes : Header → World → List Item → TableHistories → Type 0) → Knows Makes → TextsLeadOn Makes
 TextsLeadOn-holds Makes knows = record {
-  lines = λ made lines leads. first-led Makes lines made _ (read_header lines) refl
+  lines = λ made lines leads. first-led Makes knows lines made _ (read_header lines) refl
       (led-texts Makes knows lines made AllUsed (λ way. ⊥) (λ never. never) (λ n stage waits phases none. none)
       (λ header n above kept waits phases done segments led way none.
       Front-used Makes knows header (first_world header) n above kept waits phases done segments led way none)
       made leads);
-  to_end = λ made lines leads. first-led Makes lines made _ (read_header lines) refl (closed made lines leads);
+  to_end = λ made lines leads. first-led Makes knows lines made _ (read_header lines) refl (closed made lines leads);
   whole = λ made lines leads none shown.
-      whole-led Makes lines made _ (none, shown) (read_header lines) refl (closed made lines leads);
+      whole-led Makes knows lines made _ (none, shown) (read_header lines) refl (closed made lines leads);
 }
   where
     closed : (made : List PastPhase) (lines : List (List ℕ))

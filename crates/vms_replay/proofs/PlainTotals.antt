@@ -14,8 +14,8 @@ use Rattle.vms_total_laws.specs.Common.{CountersMoveBy, EventsMoveBy, PagesMoveB
 use Rattle.vms_total_laws.proofs.Common.{pcpu-started, event-started, page-started}
 use Rattle.vms_world.specs.declared.worlds.World.{World}
 use Rattle.vms_world.proofs.Common.{total-crossed}
-use Rattle.vms_replay.specs.Common.{normal_rule, normal_zones, PastPhase, crossed, HasPlainTotals, boundary_report}
-use Rattle.vms_replay.specs.Common.{first_kept, world_report}
+use Rattle.vms_replay.specs.Common.{normal_rule, normal_zones, PastPhase, crossed, phase_of, HasPlainTotals}
+use Rattle.vms_replay.specs.Common.{boundary_report, first_kept, world_report}
 use Rattle.vms_replay.proofs.KernelThresholds.{Crosses-crossed}
 
 module _ (header : Header) (valid : IsHeader header) where
@@ -60,7 +60,7 @@ pub HasPlainTotals-phase : (header : Header) (made : List PastPhase) (w : World)
     → PagesMoveBy header items w (left_by header w items hs) → EventsMoveBy header items w (left_by header w items hs)
     → CountersMoveBy header (answers_of header w items hs) items w (left_by header w items hs)
     → HasPlainTotals header made w
-    → HasPlainTotals header (record { world = w; items = items; histories = hs } ∷ made) (left_by header w items hs)
+    → HasPlainTotals header (phase_of header w items hs ∷ made) (left_by header w items hs)
 HasPlainTotals-phase header made w items hs pages events counters has = record {
   pages = λ k k_in. omega (arith, ints, pages k k_in, has.pages k k_in);
   events = λ k k_in. omega (arith, ints, events k k_in, has.events k k_in);

@@ -1,7 +1,8 @@
 -- A phase of a trace that was made, and what stands after it.
 use Rattle.std.specs.Prelude.{List, ◌∷◌, Option, Some, None}
 use Rattle.vms_world.specs.Common.{Header, with_cpu, Offline, Flush, Item, brought_up, flushed, taken_down, started}
-use Rattle.vms_world.specs.Common.{TableHistories, left_by, count_online}
+use Rattle.vms_world.specs.Common.{TableHistories, left_by, count_online, Facts, EventFacts, PcpuFacts, page_facts}
+use Rattle.vms_world.specs.Common.{event_facts, pcpu_facts}
 use Rattle.vms_base.specs.declared.kinds.CpuState.TheVariants.{Online as IsOnline}
 use Rattle.vms_answers.specs.Common.{NumberedAnswer, answers_of}
 use Rattle.vms_text.specs.declared.acts.Boundary.{Boundary}
@@ -13,11 +14,27 @@ use Rattle.vms_replay.specs.KernelRules.{normal_zones}
 abbrev pub first_world : Header → World
 first_world header = started header (normal_zones header header.layout.cpus)
 
--- a phase that was made: the world that it began with, its lines, and its histories
+-- what the three tables of a phase were told: of each its base, and which CPUs are online, dead and absent
+pub record PhaseFacts : Type 0 where
+  pub pages : Facts
+  pub events : EventFacts
+  pub counters : PcpuFacts
+
+-- what they are told of a phase from this world
+abbrev pub phase_facts : Header → World → PhaseFacts
+phase_facts header w =
+    record { pages = page_facts header w; events = event_facts header w; counters = pcpu_facts header w }
+
+-- a phase that was made: the world that it began with, its lines, what its tables were told, and its histories
 pub record PastPhase : Type 0 where
   pub world : World
   pub items : List Item
+  pub facts : PhaseFacts
   pub histories : TableHistories
+
+-- the phase of these lines from this world that has these histories, of tables that were told of this world
+abbrev pub phase_of : Header → World → List Item → TableHistories → PastPhase
+phase_of header w items hs = record { world = w; items = items; facts = phase_facts header w; histories = hs }
 
 -- what its lines answered
 abbrev pub answers_in : Header → PastPhase → List NumberedAnswer

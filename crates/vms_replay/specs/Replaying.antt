@@ -13,7 +13,8 @@ use Rattle.vms_text.specs.declared.acts.Act.TheVariants.{Sum}
 use Rattle.vms_text.specs.declared.acts.Boundary.{Boundary as BoundaryOf}
 use Rattle.vms_text.specs.declared.acts.Line.TheVariants.{Lane, Boundary}
 use Rattle.vms_world.specs.declared.worlds.World.{World}
-use Rattle.vms_replay.specs.MadePhases.{PastPhase, answers_in, crossed, first_world, with_given, world_after}
+use Rattle.vms_replay.specs.MadePhases.{PastPhase, answers_in, crossed, first_world, phase_facts, with_given}
+use Rattle.vms_replay.specs.MadePhases.{world_after}
 use Rattle.vms_replay.specs.PlainReports.{plain_report}
 
 -- what is kept of the lines of a body: the world that the open phase begins with, the lines that count above that and
@@ -42,6 +43,7 @@ pub record MayBe (Makes : Header → World → List Item → TableHistories → 
     (items : List Item) (made : PastPhase) : Type 0 where
   pub from : made.world ≡ w
   pub of : made.items ≡ items
+  pub told : made.facts ≡ phase_facts header w
   pub makes : Makes header w items made.histories
 
 -- whether an act answers something

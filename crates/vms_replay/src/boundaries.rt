@@ -1,7 +1,8 @@
-ghost use Rattle.std.specs.Prelude.{◌≡◌, ◌++◌, OnOk};
+ghost use Rattle.std.specs.Prelude.{◌≡◌, ◌++◌, OnErr, OnOk};
 ghost use Rattle.vms_world.specs.Common.{IsHeader, Report, MayCross, IsWorldOf};
 ghost use Rattle.vms_replay.specs.MadePhases.{crossed as crossed_world};
 ghost use Rattle.vms_replay.specs.ReplayStates.{world_report};
+ghost use Rattle.vms_text.specs.Writing.{Begins};
 
 use crate::rules::bring_cpu_up;
 use vms_base::{Header, Memory};
@@ -48,7 +49,8 @@ pub(crate) fn write_boundary_report(
 ) -> Result<(), Memory>
     requires header { IsHeader header.now }
     requires world { IsWorldOf header.now world.now }
-    ensures { OnOk result (out.new.items ≡ out.old.items ++ world_report header.now number boundary world.now) }
+    ensures ok { OnOk result (out.new.items ≡ out.old.items ++ world_report header.now number boundary world.now) }
+    ensures err { OnErr result (Begins out.old.items out.new.items) }
 {
     match boundary {
         Boundary::Report(kind) => write_numbered_report(out, header, number, kind, world),
@@ -66,8 +68,9 @@ fn write_numbered_report(
 ) -> Result<(), Memory>
     requires header { IsHeader header.now }
     requires world { IsWorldOf header.now world.now }
-    ensures { OnOk result (out.new.items
+    ensures ok { OnOk result (out.new.items
         ≡ out.old.items ++ world_report header.now number (Report kind) world.now) }
+    ensures err { OnErr result (Begins out.old.items out.new.items) }
 {
     write_prefix(out, number)?;
     write_line(out, header, &Line::Boundary(Boundary::Report(kind)))?;

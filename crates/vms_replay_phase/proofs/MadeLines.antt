@@ -10,9 +10,9 @@ use Rattle.vms_calls.specs.declared.page_calls.PageCall.{PageCall}
 use Rattle.vms_calls.specs.declared.page_calls.PageCall.TheVariants.{Change, SetPressure, SetNormal, Bury, Turn}
 use Rattle.vms_world.specs.Common.{Header, CpuId, ZoneSize, IsHeader, class_names, declared_names, node_items, IsItem}
 use Rattle.vms_world.specs.Common.{Shape, State, most_sets, most_volume, EventCall, Count, event_spent, IsEvent}
-use Rattle.vms_world.specs.Common.{IsActOf, IsLaneOf, IsKnownValue, line_of, Act, Ev, Cnt, Lim, Cmp, Rough, Fold, Water}
-use Rattle.vms_world.specs.Common.{Val, Snap, Sys, Pressure, Normal, Kswapd, Item, Lane, Control, Cpu, event_call}
-use Rattle.vms_world.specs.Common.{pcpu_call, is_among, owner_of, page_call, spent_on_counter, spent_on_event, volume}
+use Rattle.vms_world.specs.Common.{IsActOf, IsLaneOf, IsKnownValue, line_of, Act, Fold, Water, Val, Snap, Sys, Pressure}
+use Rattle.vms_world.specs.Common.{Normal, Kswapd, Item, Lane, Control, Cpu, event_call, pcpu_call, is_among, owner_of}
+use Rattle.vms_world.specs.Common.{page_call, spent_on_counter, spent_on_event, volume}
 use Rattle.vms_event_core.specs.declared.call_values.EventCall.TheVariants.{Sum as SumEvents, FoldDead as FoldEvents}
 use Rattle.vms_answers.specs.declared.answers.Answer.{Answer}
 use Rattle.vms_file_order.specs.Common.{MayFollow}
@@ -21,7 +21,7 @@ use Rattle.vms_plain_events.specs.Common.{FitsCall}
 use Rattle.vms_plain_lines.specs.Common.{GoesOnIf, HaveRoomForEvents, HaveRoomForPages, PlainStates, SparesPeaks}
 use Rattle.vms_plain_control.specs.Common.{SetAtMost, SetsEachAtMost}
 use Rattle.vms_plain_control.specs.PageCalls.{AnswersPageCall, FitsPageCall}
-use Rattle.vms_text.specs.declared.acts.Act.TheVariants.{Csync, Mod, Inc, Dec, Dead, Sum}
+use Rattle.vms_text.specs.declared.acts.Act.TheVariants.{Mod, Inc, Dec, Dead}
 use Rattle.vms_world.specs.Acts.{spent_by_call}
 use Rattle.vms_world.proofs.Common.{call-known, control-counts_none, spent_on_event-call, sum-known}
 use Rattle.vms_world.proofs.PageActs.{spent_on_counter-call}
@@ -64,38 +64,15 @@ module _ (shape : Shape) (s : State) where
 -- every act of a header makes a call
 pub makes-some : (header : Header) (lane : Lane) (a : Act) → IsActOf header lane a → page_call lane a ≡ None
     → event_call lane a ≡ None → pcpu_call lane a ≡ None → ⊥
-makes-some header (Cpu c) (Pressure n) is no_pages no_events no_counters = is.0
-makes-some header (Cpu c) (Normal n) is no_pages no_events no_counters = is.0
 makes-some header (Cpu c) (Dead d) is no_pages no_events no_counters = is.0
-makes-some header (Cpu c) (Kswapd n order most) is no_pages no_events no_counters = is.0
-makes-some header (Cpu c) _ is no_pages no_events no_counters = cc
-makes-some header Control (Mod k pages) is no_pages no_events no_counters = is.0
-makes-some header Control (Inc k) is no_pages no_events no_counters = is.0
-makes-some header Control (Dec k) is no_pages no_events no_counters = is.0
-makes-some header Control (Ev k n) is no_pages no_events no_counters = is.0
-makes-some header Control (Cnt j amount) is no_pages no_events no_counters = is.0
-makes-some header Control (Lim j limit amount) is no_pages no_events no_counters = is.0
-makes-some header Control (Cmp j rhs) is no_pages no_events no_counters = is.0
-makes-some header Control (Sum j) is no_pages no_events no_counters = is.0
-makes-some header Control (Rough j) is no_pages no_events no_counters = is.0
-makes-some header Control (Csync j) is no_pages no_events no_counters = is.0
-makes-some header Control _ is no_pages no_events no_counters = cc
+makes-some header Control (Dead d) is no_pages no_events no_counters = cc
+makes-some header _ _ is no_pages no_events no_counters = first_of (cc, assumption)
 
 -- one of the control lane makes one on other counters than the percpu ones
 pub control-some : (header : Header) (a : Act) → IsActOf header Control a → page_call Control a ≡ None
     → event_call Control a ≡ None → ⊥
 control-some header (Dead c) is no_pages no_events = cc
-control-some header (Mod k pages) is no_pages no_events = is.0
-control-some header (Inc k) is no_pages no_events = is.0
-control-some header (Dec k) is no_pages no_events = is.0
-control-some header (Ev k n) is no_pages no_events = is.0
-control-some header (Cnt j amount) is no_pages no_events = is.0
-control-some header (Lim j limit amount) is no_pages no_events = is.0
-control-some header (Cmp j rhs) is no_pages no_events = is.0
-control-some header (Sum j) is no_pages no_events = is.0
-control-some header (Rough j) is no_pages no_events = is.0
-control-some header (Csync j) is no_pages no_events = is.0
-control-some header _ is no_pages no_events = cc
+control-some header _ is no_pages no_events = first_of (cc, assumption)
 
 -- an act that makes no call on the page counters sets no thresholds, and buries no CPU
 pub no_pages-spares : (header : Header) (lane : Lane) (a : Act) → IsActOf header lane a → page_call lane a ≡ None

@@ -220,7 +220,8 @@ module _ (pressure normal : ZoneSize → ℕ → ℕ → Type 0) (header : Heade
     HasCome-more answer next takes =
         subst (λ (items : List Item). HasReplayed header pressure normal w (lanes_of header.layout script) items
         (told ++ with_answer (get_or script n d).number answer []) next) (sym (take_more script n d within))
-        (HasReplayed-line pressure normal header w (lanes_of header.layout script) (take n script) told now come (get_or script n d) among
+        (HasReplayed-line pressure normal header w (lanes_of header.layout script) (take n script) told now come
+        (get_or script n d) among
         (known-next header start (take n script) (get_or script n d) (drop (n + 1) script) parts)
         (follows pressure normal header w (lanes_of header.layout script)
         (spend (lanes_of header.layout script)) (leave (lanes_of header.layout script)) start is (take n script)

@@ -31,5 +31,5 @@ pub(crate) fn open_phases_spend_their_lines<N: Rule, P: Rule>(rules: &Rules<N, P
         IsOpenPhase header (P.answers rules.now.pressure) (N.answers rules.now.normal) w lanes items hs now →
         SpendTheirLines header items hs }
 {
-    let _ = rules;
+    rules.tells();
 }

@@ -1,9 +1,10 @@
-ghost use Rattle.std.specs.Prelude.{◌≡◌, ◌∷◌, [], ◌++◌, ◌<◌, codes, decimal, flat_map, length, map, OnOk};
+ghost use Rattle.std.specs.Prelude.{◌≡◌, ◌∷◌, [], ◌++◌, ◌<◌, codes, decimal, flat_map, length, map, OnErr, OnOk};
 ghost use Rattle.std.specs.Fmt.{signed_decimal};
 ghost use Rattle.vms_world.specs.Common.{present_from, count_at, local_at, Counters, sentence, spaced, IsWorldOf};
 ghost use Rattle.vms_plain_pcpu.specs.Common.{total_in};
 ghost use Rattle.vms_report.specs.Counters.{percpu_counter_words};
 ghost use Rattle.vms_report.specs.Reports.{report_of};
+ghost use Rattle.vms_text.specs.Writing.{Begins};
 
 use crate::all_cpus::{counter_total, local};
 use crate::lines::{is_present, push_next_number};
@@ -16,7 +17,8 @@ use vms_world::World;
 /// the report.
 pub fn write_counters(out: &mut Vec<u8>, header: &Header, world: &World) -> Result<(), Memory>
     requires { IsWorldOf header.now world.now }
-    ensures { OnOk result (out.new.items ≡ out.old.items ++ report_of header.now world.now Counters) }
+    ensures ok { OnOk result (out.new.items ≡ out.old.items ++ report_of header.now world.now Counters) }
+    ensures err { OnErr result (Begins out.old.items out.new.items) }
 {
     let (counters, cpus) = (header.counters.len().min(16), header.layout.cpus() as usize);
     // A header declares at most 16. A line has at most 88 bytes, and 7 for each local part.
@@ -36,9 +38,10 @@ fn write_counter(
 ) -> Result<(), Memory>
     requires world { IsWorldOf header.now world.now }
     requires counter { counter < length header.now.counters }
-    ensures { OnOk result
+    ensures ok { OnOk result
         (out.new.items ≡ out.old.items
         ++ sentence (percpu_counter_words world.now (counter, decl.now))) }
+    ensures err { OnErr result (Begins out.old.items out.new.items) }
 {
     push_shared(out, decl, world.counters.count.get(counter))?;
     push_locals(out, header, world, counter)?;
@@ -47,8 +50,9 @@ fn write_counter(
 
 /// Appends `NAME batch B count C locals`.
 fn push_shared(out: &mut Vec<u8>, decl: &Decl, count: i64) -> Result<(), Memory>
-    ensures { OnOk result (out.new.items ≡ out.old.items ++ decl.now.name ++ spaced (codes "batch"
+    ensures ok { OnOk result (out.new.items ≡ out.old.items ++ decl.now.name ++ spaced (codes "batch"
         ∷ decimal decl.now.batch ∷ codes "count" ∷ signed_decimal count ∷ codes "locals" ∷ [])) }
+    ensures err { OnErr result (Begins out.old.items out.new.items) }
 {
     out.extend_from_slice(decl.name.as_slice())?;
     out.extend_from_slice(b" batch")?;
@@ -68,9 +72,10 @@ fn push_locals(
 ) -> Result<(), Memory>
     requires world { IsWorldOf header.now world.now }
     requires counter { counter < length header.now.counters }
-    ensures { OnOk result (out.new.items ≡ out.old.items
+    ensures ok { OnOk result (out.new.items ≡ out.old.items
         ++ spaced (map (λ cpu. signed_decimal (local_at world.now.counters cpu.number counter))
         (present_from 0 world.now.pages.cpu))) }
+    ensures err { OnErr result (Begins out.old.items out.new.items) }
 {
     for (number, state) in world.pages.cpu.as_slice().iter().enumerate() {
         let cpu = CpuId {
@@ -95,8 +100,9 @@ fn total(header: &Header, world: &World, counter: usize) -> i64
 
 /// Appends ` sum S`, and the byte that ends the line.
 fn push_sum(out: &mut Vec<u8>, sum: i64) -> Result<(), Memory>
-    ensures { OnOk result (out.new.items
+    ensures ok { OnOk result (out.new.items
         ≡ out.old.items ++ spaced (codes "sum" ∷ signed_decimal sum ∷ []) ++ 10 ∷ []) }
+    ensures err { OnErr result (Begins out.old.items out.new.items) }
 {
     out.extend_from_slice(b" sum")?;
     push_next_number(out, sum)?;

@@ -1,7 +1,8 @@
-ghost use Rattle.std.specs.Prelude.{◌≡◌, ◌∷◌, ◌++◌, codes, decimal, map, OnOk};
+ghost use Rattle.std.specs.Prelude.{◌≡◌, ◌∷◌, ◌++◌, codes, decimal, map, OnErr, OnOk};
 ghost use Rattle.std.specs.Fmt.{signed_decimal};
 ghost use Rattle.vms_world.specs.Common.{is_present as tells_present, at_least_zero, text_of};
 ghost use Rattle.vms_report.specs.Items.{indented};
+ghost use Rattle.vms_text.specs.Writing.{Begins};
 
 use vms_base::{CpuState, Memory, push_number};
 use vms_text::{Word, write_words};
@@ -9,7 +10,8 @@ use vms_text::{Word, write_words};
 /// Appends the line of these words under a heading.
 #[inline]
 pub(crate) fn write_indented(out: &mut Vec<u8>, words: &[Word<'_>]) -> Result<(), Memory>
-    ensures { OnOk result (out.new.items ≡ out.old.items ++ indented (map text_of words.now)) }
+    ensures ok { OnOk result (out.new.items ≡ out.old.items ++ indented (map text_of words.now)) }
+    ensures err { OnErr result (Begins out.old.items out.new.items) }
 {
     out.extend_from_slice(b"  ")?;
     write_words(out, words)
@@ -18,7 +20,8 @@ pub(crate) fn write_indented(out: &mut Vec<u8>, words: &[Word<'_>]) -> Result<()
 /// Appends a blank and a number.
 #[inline]
 pub(crate) fn push_next_number(out: &mut Vec<u8>, number: i64) -> Result<(), Memory>
-    ensures { OnOk result (out.new.items ≡ out.old.items ++ 32 ∷ signed_decimal number) }
+    ensures ok { OnOk result (out.new.items ≡ out.old.items ++ 32 ∷ signed_decimal number) }
+    ensures err { OnErr result (Begins out.old.items out.new.items) }
 {
     out.push(b' ')?;
     push_number(out, number)

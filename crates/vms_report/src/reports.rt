@@ -1,6 +1,7 @@
-ghost use Rattle.std.specs.Prelude.{◌≡◌, ◌++◌, OnOk};
+ghost use Rattle.std.specs.Prelude.{◌≡◌, ◌++◌, OnErr, OnOk};
 ghost use Rattle.vms_report.specs.Reports.{report_of};
 ghost use Rattle.vms_world.specs.Common.{IsWorldOf};
+ghost use Rattle.vms_text.specs.Writing.{Begins};
 
 use crate::{write_counters, write_totals, write_vmstat, write_zoneinfo};
 use vms_base::{Header, Memory};
@@ -15,7 +16,8 @@ pub fn write_report(
     kind: ReportKind,
 ) -> Result<(), Memory>
     requires { IsWorldOf header.now world.now }
-    ensures { OnOk result (out.new.items ≡ out.old.items ++ report_of header.now world.now kind) }
+    ensures ok { OnOk result (out.new.items ≡ out.old.items ++ report_of header.now world.now kind) }
+    ensures err { OnErr result (Begins out.old.items out.new.items) }
 {
     match kind {
         ReportKind::Vmstat => write_vmstat(out, header, world),

@@ -1,4 +1,4 @@
-ghost use Rattle.std.specs.Prelude.{◌≡◌, ◌∷◌, [], ◌++◌, ◌≤◌, flat_map, length, map, OnOk};
+ghost use Rattle.std.specs.Prelude.{◌≡◌, ◌∷◌, [], ◌++◌, ◌≤◌, flat_map, length, map, OnErr, OnOk};
 ghost use Rattle.std.specs.Fmt.{signed_decimal};
 ghost use Rattle.std.specs.List.{enumerate_from, range_with_len};
 ghost use Rattle.vms_world.specs.Common.{IsPlace, place_count, Totals, sentence, IsWorldOf};
@@ -6,6 +6,7 @@ ghost use Rattle.vms_report.specs.Items.{items_at};
 ghost use Rattle.vms_report.specs.Reports.{report_of};
 ghost use Rattle.vms_report.specs.Totals.{event_total as event_total_of, event_totals, page_total as page_total_of};
 ghost use Rattle.vms_report.specs.Totals.{pcpu_total, pcpu_totals, place_totals};
+ghost use Rattle.vms_text.specs.Writing.{Begins};
 
 use crate::all_cpus::{counter_total, event_total, page_total};
 use crate::items::names_of;
@@ -18,7 +19,8 @@ use vms_world::World;
 /// failure `out` may end in a part of the report.
 pub fn write_totals(out: &mut Vec<u8>, header: &Header, world: &World) -> Result<(), Memory>
     requires { IsWorldOf header.now world.now }
-    ensures { OnOk result (out.new.items ≡ out.old.items ++ report_of header.now world.now Totals) }
+    ensures ok { OnOk result (out.new.items ≡ out.old.items ++ report_of header.now world.now Totals) }
+    ensures err { OnErr result (Begins out.old.items out.new.items) }
 {
     let (items, counters) = (
         header.layout.counters() as usize,
@@ -33,9 +35,10 @@ pub fn write_totals(out: &mut Vec<u8>, header: &Header, world: &World) -> Result
 
 fn write_places(out: &mut Vec<u8>, header: &Header, world: &World) -> Result<(), Memory>
     requires { IsWorldOf header.now world.now }
-    ensures { OnOk result (out.new.items ≡ out.old.items ++ flat_map sentence (flat_map
+    ensures ok { OnOk result (out.new.items ≡ out.old.items ++ flat_map sentence (flat_map
         (place_totals header.now (page_total_of header.now world.now))
         (range_with_len 0 (place_count header.now.layout)))) }
+    ensures err { OnErr result (Begins out.old.items out.new.items) }
 {
     for number in 0..header.layout.places() {
         write_place(out, header, world, PlaceId { number })?;
@@ -52,8 +55,9 @@ fn write_place(
 ) -> Result<(), Memory>
     requires world { IsWorldOf header.now world.now }
     requires place { IsPlace header.now.layout place.number }
-    ensures { OnOk result (out.new.items ≡ out.old.items
+    ensures ok { OnOk result (out.new.items ≡ out.old.items
         ++ flat_map sentence (place_totals header.now (page_total_of header.now world.now) place.number)) }
+    ensures err { OnErr result (Begins out.old.items out.new.items) }
 {
     let names = names_of(header, is_node(&header.layout, place));
     write_items(out, header, world, place, names.as_slice())
@@ -70,8 +74,9 @@ fn write_items<'a>(
     requires place { IsPlace header.now.layout place.number }
     requires names { enumerate_from 0 (map (λ name. name.now) names.now) ≡ items_at header.now place.number }
     requires most { length names.now ≤ header.now.layout.positions }
-    ensures { OnOk result (out.new.items ≡ out.old.items
+    ensures ok { OnOk result (out.new.items ≡ out.old.items
         ++ flat_map sentence (place_totals header.now (page_total_of header.now world.now) place.number)) }
+    ensures err { OnErr result (Begins out.old.items out.new.items) }
 {
     let (node, kind) = words_of_place(header, place);
     for (position, name) in names.iter().enumerate() {
@@ -84,8 +89,9 @@ fn write_items<'a>(
 
 fn write_events(out: &mut Vec<u8>, header: &Header, world: &World) -> Result<(), Memory>
     requires { IsWorldOf header.now world.now }
-    ensures { OnOk result (out.new.items ≡ out.old.items
+    ensures ok { OnOk result (out.new.items ≡ out.old.items
         ++ flat_map sentence (event_totals (event_total_of header.now world.now))) }
+    ensures err { OnErr result (Begins out.old.items out.new.items) }
 {
     for (number, name) in event_names().iter().enumerate() {
         let event = EventId {
@@ -99,8 +105,9 @@ fn write_events(out: &mut Vec<u8>, header: &Header, world: &World) -> Result<(),
 
 fn write_percpu(out: &mut Vec<u8>, header: &Header, world: &World) -> Result<(), Memory>
     requires { IsWorldOf header.now world.now }
-    ensures { OnOk result (out.new.items ≡ out.old.items
+    ensures ok { OnOk result (out.new.items ≡ out.old.items
         ++ flat_map sentence (pcpu_totals header.now (pcpu_total header.now world.now))) }
+    ensures err { OnErr result (Begins out.old.items out.new.items) }
 {
     for (counter, decl) in header.counters.as_slice().iter().enumerate() {
         let total = counter_total(&world.counters, &header.layout, counter);
@@ -116,8 +123,9 @@ fn write_named<'a>(
     name: &'a [u8],
     total: i64,
 ) -> Result<(), Memory>
-    ensures { OnOk result (out.new.items
+    ensures ok { OnOk result (out.new.items
         ≡ out.old.items ++ sentence (word.now ∷ name.now ∷ signed_decimal total ∷ [])) }
+    ensures err { OnErr result (Begins out.old.items out.new.items) }
 {
     write_words(
         out,

@@ -1,8 +1,9 @@
-ghost use Rattle.std.specs.Prelude.{◌≡◌, ◌++◌, ◌+◌, ◌≤◌, flat_map, length, map, OnOk};
+ghost use Rattle.std.specs.Prelude.{◌≡◌, ◌++◌, ◌+◌, ◌≤◌, flat_map, length, map, OnErr, OnOk};
 ghost use Rattle.std.specs.List.{enumerate_from};
 ghost use Rattle.vms_world.specs.Common.{online_from, sum_over, IsEvent, Vmstat, sentence, IsWorldOf};
 ghost use Rattle.vms_report.specs.Reports.{report_of};
 ghost use Rattle.vms_report.specs.Vmstat.{event_lines, system_lines, told_events};
+ghost use Rattle.vms_text.specs.Writing.{Begins};
 
 use crate::items::names_of;
 use crate::lines::clamped;
@@ -18,7 +19,8 @@ use vms_world::World;
 /// report.
 pub fn write_vmstat(out: &mut Vec<u8>, header: &Header, world: &World) -> Result<(), Memory>
     requires { IsWorldOf header.now world.now }
-    ensures { OnOk result (out.new.items ≡ out.old.items ++ report_of header.now world.now Vmstat) }
+    ensures ok { OnOk result (out.new.items ≡ out.old.items ++ report_of header.now world.now Vmstat) }
+    ensures err { OnErr result (Begins out.old.items out.new.items) }
 {
     let (zone_items, node_items) = (names_of(header, false), names_of(header, true));
     // A line has at most 43 bytes.
@@ -37,8 +39,9 @@ fn write_systems(
 ) -> Result<(), Memory>
     requires known { first + length names.now ≤ length world.now.pages.system }
     requires few { length world.now.pages.system ≤ 32 }
-    ensures { OnOk result (out.new.items ≡ out.old.items ++ flat_map sentence
+    ensures ok { OnOk result (out.new.items ≡ out.old.items ++ flat_map sentence
         (system_lines world.now first (enumerate_from 0 (map (λ name. name.now) names.now)))) }
+    ensures err { OnErr result (Begins out.old.items out.new.items) }
 {
     for (position, name) in names.iter().enumerate() {
         let item = ItemId {
@@ -52,7 +55,8 @@ fn write_systems(
 
 fn write_events(out: &mut Vec<u8>, header: &Header, world: &World) -> Result<(), Memory>
     requires { IsWorldOf header.now world.now }
-    ensures { OnOk result (out.new.items ≡ out.old.items ++ flat_map sentence (event_lines world.now)) }
+    ensures ok { OnOk result (out.new.items ≡ out.old.items ++ flat_map sentence (event_lines world.now)) }
+    ensures err { OnErr result (Begins out.old.items out.new.items) }
 {
     for (number, name) in event_names().iter().enumerate() {
         let event = EventId {

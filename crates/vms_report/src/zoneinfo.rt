@@ -1,4 +1,5 @@
-ghost use Rattle.std.specs.Prelude.{◌≡◌, ◌∷◌, [], ◌++◌, ◌≤◌, ◌-◌, codes, decimal, flat_map, length, map, All, OnOk};
+ghost use Rattle.std.specs.Prelude.{◌≡◌, ◌∷◌, [], ◌++◌, ◌≤◌, ◌-◌, codes, decimal, flat_map, length, map, All, OnErr};
+ghost use Rattle.std.specs.Prelude.{OnOk};
 ghost use Rattle.std.specs.Fmt.{signed_decimal};
 ghost use Rattle.std.specs.List.{enumerate_from, range_with_len};
 ghost use Rattle.vms_world.specs.Common.{IsCpu, IsNode, IsPlace, IsZone, counter_at, IsValidSize, diff_at, Zoneinfo};
@@ -7,6 +8,7 @@ ghost use Rattle.vms_report.specs.Items.{indented, items_at};
 ghost use Rattle.vms_report.specs.Reports.{report_of};
 ghost use Rattle.vms_report.specs.Zoneinfo.{cpu_lines, cpu_words, dead_words, item_lines, mark_lines, node_text};
 ghost use Rattle.vms_report.specs.Zoneinfo.{protection_words, size_lines, zone_heading, zone_text};
+ghost use Rattle.vms_text.specs.Writing.{Begins};
 
 use crate::items::names_of;
 use crate::lines::{clamped, is_present, push_next_number, write_indented};
@@ -23,7 +25,8 @@ use vms_world::World;
 /// After a failure `out` may end in a part of the report.
 pub fn write_zoneinfo(out: &mut Vec<u8>, header: &Header, world: &World) -> Result<(), Memory>
     requires { IsWorldOf header.now world.now }
-    ensures { OnOk result (out.new.items ≡ out.old.items ++ report_of header.now world.now Zoneinfo) }
+    ensures ok { OnOk result (out.new.items ≡ out.old.items ++ report_of header.now world.now Zoneinfo) }
+    ensures err { OnErr result (Begins out.old.items out.new.items) }
 {
     out.reserve(room(&header.layout))?;
     write_zones(out, header, world)?;
@@ -40,8 +43,9 @@ fn room(layout: &Layout) -> usize {
 
 fn write_zones(out: &mut Vec<u8>, header: &Header, world: &World) -> Result<(), Memory>
     requires { IsWorldOf header.now world.now }
-    ensures { OnOk result (out.new.items ≡ out.old.items
+    ensures ok { OnOk result (out.new.items ≡ out.old.items
         ++ flat_map (zone_text header.now world.now) (enumerate_from 0 header.now.layout.zones)) }
+    ensures err { OnErr result (Begins out.old.items out.new.items) }
 {
     for (place, zone) in header.layout.zones().iter().enumerate() {
         let place = PlaceId {
@@ -54,8 +58,9 @@ fn write_zones(out: &mut Vec<u8>, header: &Header, world: &World) -> Result<(), 
 
 fn write_nodes(out: &mut Vec<u8>, header: &Header, world: &World) -> Result<(), Memory>
     requires { IsWorldOf header.now world.now }
-    ensures { OnOk result (out.new.items ≡ out.old.items
+    ensures ok { OnOk result (out.new.items ≡ out.old.items
         ++ flat_map (node_text header.now world.now) (enumerate_from 0 header.now.layout.nodes)) }
+    ensures err { OnErr result (Begins out.old.items out.new.items) }
 {
     let zones = header.layout.zones().len();
     for (index, node) in header.layout.nodes().iter().enumerate() {
@@ -77,7 +82,8 @@ fn write_zone(
 ) -> Result<(), Memory>
     requires world { IsWorldOf header.now world.now }
     requires zone { IsZone header.now.layout place.number }
-    ensures { OnOk result (out.new.items ≡ out.old.items ++ zone_text header.now world.now (place.number, zone)) }
+    ensures ok { OnOk result (out.new.items ≡ out.old.items ++ zone_text header.now world.now (place.number, zone)) }
+    ensures err { OnErr result (Begins out.old.items out.new.items) }
 {
     write_heading(out, zone)?;
     write_sizes(out, header, world, place)?;
@@ -94,8 +100,9 @@ fn write_node(
 ) -> Result<(), Memory>
     requires world { IsWorldOf header.now world.now }
     requires node { IsNode header.now.layout place.number }
-    ensures { OnOk result (out.new.items ≡ out.old.items
+    ensures ok { OnOk result (out.new.items ≡ out.old.items
         ++ node_text header.now world.now (place.number - length header.now.layout.zones, node)) }
+    ensures err { OnErr result (Begins out.old.items out.new.items) }
 {
     push_node(out, node)?;
     out.extend_from_slice(b" all zones\n")?;
@@ -104,7 +111,8 @@ fn write_node(
 
 /// Appends the first line of a zone.
 fn write_heading(out: &mut Vec<u8>, zone: ZoneName) -> Result<(), Memory>
-    ensures { OnOk result (out.new.items ≡ out.old.items ++ sentence (zone_heading zone)) }
+    ensures ok { OnOk result (out.new.items ≡ out.old.items ++ sentence (zone_heading zone)) }
+    ensures err { OnErr result (Begins out.old.items out.new.items) }
 {
     push_node(out, zone.node)?;
     out.extend_from_slice(b" zone ")?;
@@ -115,7 +123,8 @@ fn write_heading(out: &mut Vec<u8>, zone: ZoneName) -> Result<(), Memory>
 
 /// Appends `Node N,`.
 fn push_node(out: &mut Vec<u8>, node: u32) -> Result<(), Memory>
-    ensures { OnOk result (out.new.items ≡ out.old.items ++ codes "Node " ++ decimal node ++ codes ",") }
+    ensures ok { OnOk result (out.new.items ≡ out.old.items ++ codes "Node " ++ decimal node ++ codes ",") }
+    ensures err { OnErr result (Begins out.old.items out.new.items) }
 {
     out.extend_from_slice(b"Node ")?;
     push_number(out, i64::from(node))?;
@@ -132,8 +141,9 @@ fn write_sizes(
 ) -> Result<(), Memory>
     requires world { IsWorldOf header.now world.now }
     requires zone { IsZone header.now.layout zone.number }
-    ensures { OnOk result (out.new.items ≡ out.old.items
+    ensures ok { OnOk result (out.new.items ≡ out.old.items
         ++ flat_map indented (size_lines header.now world.now zone.number)) }
+    ensures err { OnErr result (Begins out.old.items out.new.items) }
 {
     let free = world.pages.value_at(header.layout.counter(zone, 0));
     write_indented(
@@ -148,7 +158,8 @@ fn write_sizes(
 
 /// Appends the lines of the watermarks and of the managed pages.
 fn write_marks(out: &mut Vec<u8>, size: ZoneSize) -> Result<(), Memory>
-    ensures { OnOk result (out.new.items ≡ out.old.items ++ flat_map indented (mark_lines size)) }
+    ensures ok { OnOk result (out.new.items ≡ out.old.items ++ flat_map indented (mark_lines size)) }
+    ensures err { OnErr result (Begins out.old.items out.new.items) }
 {
     write_indented(out, &[Word::Text(b"min"), Word::Unsigned(size.min)])?;
     write_indented(out, &[Word::Text(b"low"), Word::Unsigned(size.low)])?;
@@ -161,7 +172,8 @@ fn write_marks(out: &mut Vec<u8>, size: ZoneSize) -> Result<(), Memory>
 fn write_protection(out: &mut Vec<u8>, header: &Header, zone: PlaceId) -> Result<(), Memory>
     requires sizes { All IsValidSize header.now.sizes }
     requires zone { IsZone header.now.layout zone.number }
-    ensures { OnOk result (out.new.items ≡ out.old.items ++ indented (protection_words header.now zone.number)) }
+    ensures ok { OnOk result (out.new.items ≡ out.old.items ++ indented (protection_words header.now zone.number)) }
+    ensures err { OnErr result (Begins out.old.items out.new.items) }
 {
     write_indented(
         out,
@@ -184,8 +196,9 @@ fn write_place(
 ) -> Result<(), Memory>
     requires world { IsWorldOf header.now world.now }
     requires place { IsPlace header.now.layout place.number }
-    ensures { OnOk result (out.new.items ≡ out.old.items ++ flat_map indented
+    ensures ok { OnOk result (out.new.items ≡ out.old.items ++ flat_map indented
         (item_lines header.now world.now place.number ++ cpu_lines header.now world.now place.number)) }
+    ensures err { OnErr result (Begins out.old.items out.new.items) }
 {
     let names = names_of(header, is_node(&header.layout, place));
     write_items(out, header, world, place, names.as_slice())?;
@@ -203,8 +216,9 @@ fn write_items(
     requires place { IsPlace header.now.layout place.number }
     requires names { enumerate_from 0 (map (λ name. name.now) names.now) ≡ items_at header.now place.number }
     requires most { length names.now ≤ header.now.layout.positions }
-    ensures { OnOk result (out.new.items ≡ out.old.items
+    ensures ok { OnOk result (out.new.items ≡ out.old.items
         ++ flat_map indented (item_lines header.now world.now place.number)) }
+    ensures err { OnErr result (Begins out.old.items out.new.items) }
 {
     for (position, name) in names.iter().enumerate() {
         let counter = header.layout.counter(place, position as u32);
@@ -226,8 +240,9 @@ fn write_cpus(
     requires place { IsPlace header.now.layout place.number }
     requires items { items ≡ length (items_at header.now place.number) }
     requires most { items ≤ header.now.layout.positions }
-    ensures { OnOk result (out.new.items ≡ out.old.items
+    ensures ok { OnOk result (out.new.items ≡ out.old.items
         ++ flat_map indented (cpu_lines header.now world.now place.number)) }
+    ensures err { OnErr result (Begins out.old.items out.new.items) }
 {
     for (number, state) in world.pages.cpu.as_slice().iter().enumerate() {
         let cpu = CpuId {
@@ -254,8 +269,9 @@ fn write_cpu(
     requires items { items ≡ length (items_at header.now place.number) }
     requires most { items ≤ header.now.layout.positions }
     requires cpu { IsCpu header.now.layout cpu.number }
-    ensures { OnOk result (out.new.items ≡ out.old.items
+    ensures ok { OnOk result (out.new.items ≡ out.old.items
         ++ indented (cpu_words header.now world.now place.number cpu.number)) }
+    ensures err { OnErr result (Begins out.old.items out.new.items) }
 {
     let threshold = world.pages.threshold_at(&header.layout, cpu, place).t;
     push_cpu(out, cpu, world.pages.cpu_at(cpu), threshold)?;
@@ -266,8 +282,9 @@ fn write_cpu(
 
 /// Appends a CPU, whether it is dead, and its threshold.
 fn push_cpu(out: &mut Vec<u8>, cpu: CpuId, state: CpuState, threshold: u32) -> Result<(), Memory>
-    ensures { OnOk result (out.new.items ≡ out.old.items ++ codes "  cpu " ++ decimal cpu.number
+    ensures ok { OnOk result (out.new.items ≡ out.old.items ++ codes "  cpu " ++ decimal cpu.number
         ++ spaced (dead_words state) ++ codes " threshold " ++ decimal threshold ++ codes " differentials") }
+    ensures err { OnErr result (Begins out.old.items out.new.items) }
 {
     out.extend_from_slice(b"  cpu ")?;
     push_number(out, i64::from(cpu.number))?;
@@ -301,9 +318,10 @@ fn push_differentials(
     requires place { IsPlace header.now.layout place.number }
     requires most { items ≤ header.now.layout.positions }
     requires cpu { IsCpu header.now.layout cpu.number }
-    ensures { OnOk result (out.new.items ≡ out.old.items
+    ensures ok { OnOk result (out.new.items ≡ out.old.items
         ++ spaced (map (λ p. signed_decimal
         (diff_at world.now.pages cpu.number (counter_at header.now.layout place.number p))) (range_with_len 0 items))) }
+    ensures err { OnErr result (Begins out.old.items out.new.items) }
 {
     for position in 0..items {
         let counter = header.layout.counter(place, position);

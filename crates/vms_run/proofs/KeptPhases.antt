@@ -1,14 +1,26 @@
 -- A phase that was run and is kept is one that the engine makes.
 use Rattle.std.proofs.Common.{◌≡◌, true, false, List, [], ◌∷◌, ◌++◌, Some, ap, subst, sym, refl, ◌∙◌}
 use Rattle.std.specs.Prelude.{Result, Ok, Err, IfOk, MatchResult, OnErr, IsOk}
-use Rattle.vms_world.specs.Common.{Memory, Header, Item}
+use Rattle.vms_world.specs.Common.{EventFacts, Facts, Header, Item, Memory, PcpuFacts, event_facts, page_facts}
 use Rattle.vms_answers.specs.Common.{NumberedAnswer, merged, told_by}
 use Rattle.vms_world.specs.declared.worlds.World.{World}
-use Rattle.vms_replay.specs.Common.{EngineMakesPhase, PastPhase}
+use Rattle.vms_replay.specs.Common.{EngineMakesPhase, PastPhase, PhaseFacts, phase_facts, phase_of}
 use Rattle.vms_answers.specs.declared.lane_answers.LaneAnswers.{LaneAnswers}
 use Rattle.vms_phase.specs.declared.phases.PhaseDone.{PhaseDone}
-use Rattle.vms_phase.specs.Common.{histories_of}
-use Rattle.vms_run.specs.Common.{IsOneRun, IsRun, makes_on_threads}
+use Rattle.vms_phase.specs.declared.closings.ClosedHistories.{ClosedHistories}
+use Rattle.vms_phase.specs.Common.{HaveFactsOf, histories_of}
+use Rattle.vms_run.specs.Common.{IsOneRun, IsRun, facts_told, makes_on_threads}
+
+-- tables that were told what a phase of this header from this world is told
+facts_told-same : (header : Header) (w : World) (closed : ClosedHistories) → HaveFactsOf header w closed
+    → facts_told closed ≡ phase_facts header w
+facts_told-same header w closed have =
+    ap (λ (facts : Facts). let told : PhaseFacts =
+    record { pages = facts; events = closed.events.facts; counters = closed.counters.facts } in told) have.pages
+    ∙ ap (λ (facts : EventFacts). let told : PhaseFacts =
+    record { pages = page_facts header w; events = facts; counters = closed.counters.facts } in told) have.events
+    ∙ ap (λ (facts : PcpuFacts). let told : PhaseFacts =
+    record { pages = page_facts header w; events = event_facts header w; counters = facts } in told) have.counters
 
 -- a phase whose answers were handed on, merged
 pub IsOneRun-handed : (header : Header) (w : World) (items : List Item) (done : PhaseDone) (before : World)
@@ -16,10 +28,16 @@ pub IsOneRun-handed : (header : Header) (w : World) (items : List Item) (done : 
     → IsRun header w items done → before ≡ w → lines ≡ items → slice ≡ items → lanes ≡ done.lanes.items
     → Told (merged slice (told_by lanes))
     → IsOneRun header w items Told done.world
-    (record { world = before; items = lines; histories = histories_of done.histories })
+    (record {
+      world = before;
+      items = lines;
+      facts = facts_told done.histories;
+      histories = histories_of done.histories;
+    })
 IsOneRun-handed header w items done before lines slice lanes Told run from of all told handed = record {
   from = from;
   of = of;
+  told = facts_told-same header w done.histories run.facts;
   makes = run.makes;
   world = run.world;
   answers = subst Told (ap (λ (is : List Item). merged is (told_by lanes)) all
@@ -37,11 +55,13 @@ module _ (header : Header) (w : World) (items : List Item) (kept kept' : List Pa
   EngineMakesPhase-one : (left : World) (phase : PastPhase) → IsOneRun header w items Told left phase
       → kept' ≡ kept ++ phase ∷ [] → EngineMakesPhase makes_on_threads header w items (Some kept) (Some kept') Told left
   EngineMakesPhase-one left phase run appended =
-      let whole : phase ≡ record { world = w; items = items; histories = phase.histories } =
+      let whole : phase ≡ phase_of header w items phase.histories =
       ap (λ (v : World). let made : PastPhase =
-      record { world = v; items = phase.items; histories = phase.histories } in made) run.from
+      record { world = v; items = phase.items; facts = phase.facts; histories = phase.histories } in made) run.from
       ∙ ap (λ (is : List Item). let made : PastPhase =
-      record { world = w; items = is; histories = phase.histories } in made) run.of in
+      record { world = w; items = is; facts = phase.facts; histories = phase.histories } in made) run.of
+      ∙ ap (λ (facts : PhaseFacts). let made : PastPhase =
+      record { world = w; items = items; facts = facts; histories = phase.histories } in made) run.told in
       record {
         histories = phase.histories;
         makes = run.makes;

@@ -6,8 +6,8 @@ use Rattle.vms_world.specs.Common.{Memory, Header, IsHeader, Fits, Start, Item, 
 use Rattle.vms_answers.specs.Common.{NumberedAnswer, answers_of, merged, HasPlace, told_by}
 use Rattle.vms_file_order.specs.Common.{IsStartOf}
 use Rattle.vms_phase.specs.declared.phases.PhaseDone.{PhaseDone}
-use Rattle.vms_phase.specs.Common.{histories_of}
-use Rattle.vms_replay.specs.Common.{PastPhase}
+use Rattle.vms_phase.specs.Common.{HaveFactsOf, histories_of}
+use Rattle.vms_replay.specs.Common.{PastPhase, phase_facts}
 use Rattle.vms_world.specs.declared.worlds.World.{World}
 use Rattle.vms_run.specs.Threads.{makes_on_threads}
 
@@ -35,10 +35,11 @@ pub record ReturnsPhase {F : Type 0} (g : RunnerPredicates F) (f : F) (header : 
 abbrev pub MayRun : Header → World → List Item → Type 0
 MayRun header w items = (start : Start) × IsStartOf header start w × Fits header start items
 
--- a phase of these lines was run from a world: its histories make the lines, and they tell the world that it left and
--- what the lines answered. Each line's lane has its place among the answers
+-- a phase of these lines was run from a world, of which its tables were told: its histories make the lines, and they
+-- tell the world that it left and what the lines answered. Each line's lane has its place among the answers
 pub record IsRun (header : Header) (w : World) (items : List Item) (done : PhaseDone) : Type 0 where
   pub makes : makes_on_threads header w items (histories_of done.histories)
+  pub facts : HaveFactsOf header w done.histories
   pub world : done.world ≡ left_by header w items (histories_of done.histories)
   pub answers : answers_of header w items (histories_of done.histories) ≡ merged items (told_by done.lanes.items)
   pub places : All (λ item. HasPlace done.lanes.items item.lane) items
@@ -56,11 +57,13 @@ pub record Running (F : Type 0) : Type 0 where
   pub runner : F
   pub made : List PastPhase
 
--- a phase of these lines was run from a world and leaves another, and what its lines answered was told
+-- a phase of these lines was run from a world, of which its tables were told, and leaves another; what its lines
+-- answered was told
 pub record IsOneRun (header : Header) (w : World) (items : List Item) (Told : List NumberedAnswer → Type 0)
     (left : World) (phase : PastPhase) : Type 0 where
   pub from : phase.world ≡ w
   pub of : phase.items ≡ items
+  pub told : phase.facts ≡ phase_facts header w
   pub makes : makes_on_threads header w items phase.histories
   pub world : left ≡ left_by header w items phase.histories
   pub answers : Told (answers_of header w items phase.histories)

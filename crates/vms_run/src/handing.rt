@@ -8,8 +8,8 @@ use vms_base::{Header, Memory, Row};
 use vms_replay_phase::AnswerTaker;
 use vms_text::Item;
 
-/// Hands the answers of lanes on to what takes them, in the order of these lines: each line takes the next answer of its
-/// lane, if that is its own.
+/// Hands the answers of lanes on to what takes them, in the order of these lines: each line takes the next answer of
+/// its lane, if that is its own.
 pub fn hand_on<A: AnswerTaker>(
     alloc: Global,
     header: &Header,

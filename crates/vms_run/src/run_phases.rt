@@ -21,10 +21,12 @@ impl Model for RunPhase {
     ghost Value = { PastPhase };
 
     ghost use Rattle.vms_phase.specs.Common.{histories_of};
+    ghost use Rattle.vms_run.specs.RunPhases.{facts_told};
 
     ghost view = { λ phase. record {
       world = phase.world;
       items = phase.script;
+      facts = facts_told phase.histories;
       histories = histories_of phase.histories;
     } };
 }
@@ -45,6 +47,18 @@ impl Model for Histories {
 }
 
 ghost use Rattle.std.specs.Prelude.{◌≡◌, ◌++◌, ◌∷◌, [], length, IfOk, IsOk, OnErr};
+ghost use Rattle.vms_phase.specs.Common.{histories_of};
+ghost use Rattle.vms_run.specs.RunPhases.{facts_told};
+
+impl RunPhase {
+    /// The histories of the phase in the three tables, each with what its table was told.
+    pub fn histories(&self) -> &ClosedHistories
+        ensures events { histories_of result.now ≡ self.now.histories }
+        ensures facts { facts_told result.now ≡ self.now.facts }
+    {
+        &self.histories
+    }
+}
 
 impl Histories {
     /// No phase. It takes no memory.
@@ -61,6 +75,13 @@ impl Histories {
         ensures { result ≡ length self.now }
     {
         self.phases.len()
+    }
+
+    /// The phases, the oldest first.
+    pub fn as_slice(&self) -> &[RunPhase]
+        ensures { result.now ≡ self.now }
+    {
+        self.phases.as_slice()
     }
 
     /// Appends a phase that was run, unless it was lost for want of memory, and returns the world that it left.

@@ -3,7 +3,7 @@ ghost use Rattle.vms_answers.specs.Common.{answers_of, merged, HasPlace, told_by
 ghost use Rattle.vms_world.specs.Common.{IsHeader, normal_threshold_of, pressure_threshold_of, IsThresholdRule, Fits};
 ghost use Rattle.vms_world.specs.Common.{Start, left_by};
 ghost use Rattle.vms_file_order.specs.Common.{IsStartOf};
-ghost use Rattle.vms_phase.specs.Common.{histories_of};
+ghost use Rattle.vms_phase.specs.Common.{HaveFactsOf, histories_of};
 ghost use Rattle.vms_replay.specs.Common.{GoesBy};
 ghost use Rattle.vms_run.specs.Runners.{IsRun, MayRun};
 ghost use Rattle.vms_run.specs.Threads.{makes_on_threads};
@@ -60,7 +60,9 @@ fn run_by<R: Threads + Wait + Sync, G: Gate, N: Rule + Sync, P: Rule + Sync>(
     requires exact_normal { GoesBy normal_threshold_of (N.answers normal) }
     requires exact_pressure { GoesBy pressure_threshold_of (P.answers pressure) }
     ensures makes { IfOk result (λ done. makes_on_threads header.now world script.now (histories_of done.histories)) }
-    ensures world { IfOk result (λ done. done.world ≡ left_by header.now world script.now (histories_of done.histories)) }
+    ensures facts { IfOk result (λ done. HaveFactsOf header.now world done.histories) }
+    ensures world { IfOk result (λ done.
+        done.world ≡ left_by header.now world script.now (histories_of done.histories)) }
     ensures answers { IfOk result (λ done. answers_of header.now world script.now (histories_of done.histories)
         ≡ merged script.now (told_by done.lanes.items)) }
     ensures places { IfOk result (λ done. All (λ item. HasPlace done.lanes.items item.lane) script.now) }

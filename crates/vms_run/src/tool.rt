@@ -51,7 +51,8 @@ pub fn tool_run<R: Threads + Wait + Sync, G: Gate, S: Source, K: Sink>(
     status
 }
 
-/// Runs a trace whose phases this runner runs, and hands back the phases that were kept before with those that were made.
+/// Runs a trace whose phases this runner runs, and hands back the phases that were kept before with those that were
+/// made.
 fn run_trace<F: PhaseRunner, S: Source, K: Sink>(
     alloc: Global,
     runner: F,

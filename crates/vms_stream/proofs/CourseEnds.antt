@@ -117,4 +117,5 @@ module _ {S : Type 0} (behavior : Behavior S) (shows : S → Type 0) where
       }
 
       pub ends_how : MayEnd ending
-      ends_how = subst MayEnd (sym closed.ends) (behavior.may_end (state_after behavior behavior.start (lines_of taken)))
+      ends_how = subst MayEnd (sym closed.ends)
+          (behavior.may_end (state_after behavior behavior.start (lines_of taken)))

@@ -70,7 +70,11 @@ module _ {S O : Type 0} (phased : PhasedBehavior S O) (shows : S → Option O �
       says_unread stop at_end (inl fault) =
           subst (λ (s : Status). SaysPhased phased shows outcomes s taken written at_end) (sym fault) (record {
             says = (before_end (with_outcomes phased outcomes) taken written course is.is_course isnt).0;
-            made = (leads_now_taken, subst (HasAllOutcomes phased (On phased.start outcomes)) (sym same_taken) whole_now);
+            made = (
+              leads_now_taken,
+              subst (HasAllOutcomes phased (On phased.start outcomes))
+                  (sym same_taken) whole_now,
+            );
           })
       says_unread stop at_end (inr memory) =
           let behavior = with_outcomes phased outcomes in

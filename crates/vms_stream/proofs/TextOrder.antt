@@ -58,7 +58,8 @@ module _ {O : Type 0} where
   stopped-in_order _ (first ∷ waits) text later order = refl
 
   -- a line at which no phase ends
-  pub inside-in_order : (waits : List (Text O)) (text : Text O) (left : List O) (later order : Option O → List O → List ℕ)
+  pub inside-in_order : (waits : List (Text O)) (text : Text O) (left : List O)
+      (later order : Option O → List O → List ℕ)
       → later None left ≡ after_waits (waits_with waits text) left (order None left)
       → printed_now waits text ++ later None left
       ≡ after_waits waits left (text_then text left (Gives None left) None order)

@@ -147,7 +147,8 @@ module _ {S O : Type 0} (texts : LineTexts S O) where
             (sym (printed_to-words (with_outcomes phased outcomes) (On phased.start outcomes) lines)),
       )
 
-  module _ (shows : Waiting S O → Option O → Type 0) (outcomes : List O) (taken written : List ℕ) (at_end : Type 0) where
+  module _ (shows : Waiting S O → Option O → Type 0) (outcomes : List O) (taken written : List ℕ)
+      (at_end : Type 0) where
     -- more comes after what is to be written
     further : (unwritten text all : List ℕ) → written ++ unwritten ≡ text → Begins text all
         → (rest : List ℕ) × (written ++ rest ≡ all)

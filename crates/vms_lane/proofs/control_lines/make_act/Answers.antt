@@ -16,8 +16,8 @@ make_event_call-requires g c = record {
   may = c.requires.may;
 }
 
-pub rate_or_look-requires : goal.rate_or_look-requires
-rate_or_look-requires g c =
+pub run_control_act-requires : goal.run_control_act-requires
+run_control_act-requires g c =
     let facts = c.args.tables.now.pages.facts in
     let room : 2 + largest_sets facts.layout (state_after facts c.args.passes.now.page.seen) ≤ most_sets =
     c.requires.may.sets in
@@ -37,13 +37,13 @@ returns-in-None g c =
     let header = c.args.header.now in
     let pressure = g.P.Rule.answers c.args.rules.now.pressure in
     let normal = g.N.Rule.answers c.args.rules.now.normal in
-    let answer = c.rate_or_look.result in
-    let pass = c.rate_or_look.new.pass in
+    let answer = c.run_control_act.result in
+    let pass = c.run_control_act.new.pass in
     record {
       makes = pages-by_control header pressure normal c.args.tables.now c.requires.tables c.args.passes.now
-          c.control_passes_are_live.ensures c.args.act answer pass c.rate_or_look.ensures.made
+          c.control_passes_are_live.ensures c.args.act answer pass c.run_control_act.ensures.made
           (sym c.in-None.ensures);
       nothing = pages-nothing header pressure normal c.args.tables.now c.requires.tables c.args.passes.now c.args.act
-          answer pass c.rate_or_look.ensures.made;
-      sets = c.rate_or_look.ensures.sets;
+          answer pass c.run_control_act.ensures.made;
+      sets = c.run_control_act.ensures.sets;
     }

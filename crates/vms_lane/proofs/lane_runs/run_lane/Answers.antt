@@ -30,7 +30,8 @@ run_line-answer-requires g c =
     let rest = lane_items own (drop (n + 1) items) in
     let so_far : MadeSoFar header pressure normal tables lane script (lane_item here ∷ rest) now first told count room =
     subst (λ (left : List LaneItem). MadeSoFar header pressure normal tables lane script left now first told count room)
-    (lane_items-own own items n here c.item-item.is c.loop-item-test.true (subst (λ b. b ≡ true) c.is_of.ensures c.if-is_of.true))
+    (lane_items-own own items n here c.item-item.is c.loop-item-test.true
+    (subst (λ b. b ≡ true) c.is_of.ensures c.if-is_of.true))
     c.loop-item.invariant in
     record {
       header = c.requires.header;
@@ -68,8 +69,10 @@ loop-item-preserved g c =
     elim c.if-is_of.branch [
       | then-is_of w ↦
           let so_far : MadeSoFar header pressure normal tables lane script (lane_item here ∷ rest) now first told count
-          room = subst (λ (left : List LaneItem). MadeSoFar header pressure normal tables lane script left now first told
-          count room) (lane_items-own own items n here c.item-item.is c.loop-item-test.true (subst (λ b. b ≡ true) c.is_of.ensures w.if-is_of.true))
+          room = subst (λ (left : List LaneItem).
+          MadeSoFar header pressure normal tables lane script left now first told
+          count room) (lane_items-own own items n here c.item-item.is c.loop-item-test.true
+          (subst (λ b. b ≡ true) c.is_of.ensures w.if-is_of.true))
           c.loop-item.invariant in
           subst (λ passes. MadeSoFar header pressure normal tables lane script rest passes first
           (map answer_of_kept c.if-is_of.answers.items) (vec_len c.if-is_of.answers) (vec_capacity c.if-is_of.answers))
@@ -87,8 +90,10 @@ loop-item-preserved g c =
           (sym w.passes-is)
           (subst (λ answers. MadeSoFar header pressure normal tables lane script rest now first
           (map answer_of_kept answers.items) (vec_len answers) (vec_capacity answers)) (sym w.answers-is)
-          (subst (λ (left : List LaneItem). MadeSoFar header pressure normal tables lane script left now first told count
-          room) (lane_items-other own items n here c.item-item.is c.loop-item-test.true (subst (λ b. b ≡ false) c.is_of.ensures w.if-is_of.false))
+          (subst (λ (left : List LaneItem).
+          MadeSoFar header pressure normal tables lane script left now first told count
+          room) (lane_items-other own items n here c.item-item.is c.loop-item-test.true
+          (subst (λ b. b ≡ false) c.is_of.ensures w.if-is_of.false))
           c.loop-item.invariant))
     ]
 
@@ -113,7 +118,8 @@ returns g c =
     subst (λ (left : List LaneItem). MadeSoFar header pressure normal tables lane script left now first told count room)
     (lane_items-end own items n past) c.loop-item.invariant in
     record {
-      makes = so_far-lines header pressure normal tables lane script now first told count room so_far c.are_live.ensures;
+      makes = so_far-lines header pressure normal tables lane script now first told count room so_far
+          c.are_live.ensures;
       spends = so_far-spent header pressure normal tables lane script now first told count room so_far;
       ready = so_far.ready;
       err = tt;

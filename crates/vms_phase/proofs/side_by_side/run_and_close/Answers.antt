@@ -7,7 +7,8 @@ use Rattle.vms_phase.specs.declared.lane_joins.JoinedLane.{JoinedLane}
 use Rattle.vms_phase.specs.Common.{AreGivenBack, HasOwn, HaveAll, AreMadeByLanes}
 use Rattle.vms_phase.proofs.JoinedPhases.{all-joined}
 use Rattle.vms_phase.proofs.KeptVolumes.{own-all, volumes-given_back}
-use Rattle.vms_phase.proofs.SideBySide.{closed-complete, closed-seen, closed-tables, shaped-there, words-there}
+use Rattle.vms_phase.proofs.SideBySide.{closed-complete, closed-facts, closed-seen, closed-tables, shaped-there}
+use Rattle.vms_phase.proofs.SideBySide.{words-there}
 use Rattle.vms_phase.proofs.side_by_side.run_and_close.Goals as goal
 
 pub close-histories-requires-clause-ended : goal.close-histories-requires-clause-ended
@@ -69,6 +70,14 @@ returns-clause-tables g c =
     (mains_of c.run_lanes.new.mains) c.close-histories.result ends.page_history ends.event_history ends.pcpu_history
     c.close-histories.new.world ends.pages ends.events ends.counters in
     record { pages = closed.pages; events = closed.events; counters = closed.counters }
+
+pub returns-clause-facts : goal.returns-clause-facts
+returns-clause-facts g c =
+    let ends = c.close-histories.ensures in
+    let facts = closed-facts c.args.header.now c.args.tables c.args.world.now c.requires.tables c.requires.from
+    (mains_of c.run_lanes.new.mains) c.close-histories.result ends.page_history ends.event_history
+    ends.pcpu_history in
+    record { pages = facts.pages; events = facts.events; counters = facts.counters }
 
 pub keep_volumes-requires-clause-all : goal.keep_volumes-requires-clause-all
 keep_volumes-requires-clause-all g c =

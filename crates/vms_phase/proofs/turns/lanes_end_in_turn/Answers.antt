@@ -26,10 +26,12 @@ returns-clause-still g c lanes n i new old pass first last below has number ende
 pub returns-clause-all : goal.returns-clause-all
 returns-clause-all g c lanes main has =
     has.own_events
-    ∙ ap (λ ls. after 0 (ends_from g.T.LineTable.passes 1 ls) (opening_of g.T.LineTable.passes lanes)) (take-length lanes)
+    ∙ ap (λ ls. after 0 (ends_from g.T.LineTable.passes 1 ls) (opening_of g.T.LineTable.passes lanes))
+    (take-length lanes)
 
 pub returns-clause-over : goal.returns-clause-over
 returns-clause-over g c lanes main can may once has =
     c.whole_lanes.ensures.ended main.facts lanes main.seen can may once
     (has.own_events
-    ∙ ap (λ ls. after 0 (ends_from g.T.LineTable.passes 1 ls) (opening_of g.T.LineTable.passes lanes)) (take-length lanes))
+    ∙ ap (λ ls. after 0 (ends_from g.T.LineTable.passes 1 ls) (opening_of g.T.LineTable.passes lanes))
+    (take-length lanes))

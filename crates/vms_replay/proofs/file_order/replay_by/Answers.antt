@@ -7,7 +7,8 @@ use Rattle.vms_replay.proofs.file_order.replay_by.Goals as goal
 
 pub returns : goal.returns
 returns g c =
-    let normal : c.make-rules.result.normal ≡ c.args.normal = ap (λ (pair : RulePair _ _). pair.normal) c.make-rules.ensures in
+    let normal : c.make-rules.result.normal ≡ c.args.normal = ap (λ (pair : RulePair _ _). pair.normal)
+    c.make-rules.ensures in
     let pressure : c.make-rules.result.pressure ≡ c.args.pressure =
     ap (λ (pair : RulePair _ _). pair.pressure) c.make-rules.ensures in
     IsReplayed-kernel (g.P.Rule.answers c.make-rules.result.pressure) (g.N.Rule.answers c.make-rules.result.normal)

@@ -26,7 +26,7 @@ loop-number-preserved c =
     ∙ sym (get_or-map (λ (name : Bor (List ℕ)). name.now) c.event_names-name-items.result.now n _ [] here)
     ∙ ap (λ (all : List (List ℕ)). get_or all n []) listed in
     append_twice _ _ _ _ _ _
-    (c.in_ok-write_named.ensures
+    (c.in_ok-write_named.ensures.ok
     ∙ ap₂ (λ (word : List ℕ) (z : ℤ). c.loop-number.out.items
     ++ sentence (codes "event" ∷ word ∷ signed_decimal z ∷ [])) name (kept ∙ c.event_total-total.ensures))
     c.loop-number.invariant

@@ -5,7 +5,7 @@ use Rattle.std.specs.Fmt.{signed_decimal}
 use Rattle.std.specs.List.{enumerate_from}
 use Rattle.std.proofs.lemmas.List.{get_or-map, length-map, take_all}
 use Rattle.vms_world.specs.Common.{counter_at, place_words, sentence, text_of}
-use Rattle.vms_text.proofs.Common.{append_twice}
+use Rattle.vms_text.proofs.Common.{append_twice, Begins-after, OnErr-true}
 use Rattle.vms_report.specs.Common.{page_total}
 use Rattle.vms_report.proofs.Entries.{lines-more}
 use Rattle.vms_report.proofs.totals.write_items.Goals as goal
@@ -38,8 +38,8 @@ loop-position-preserved c =
     c.loop-position.invariant
     (sym (lines-more sentence (λ x. place_words header g ++ x.1 ∷ signed_decimal (total x.0) ∷ []) names n [] within))
 
-pub returns : goal.returns
-returns c =
+pub returns-clause-ok : goal.returns-clause-ok
+returns-clause-ok c =
     let header = c.args.header.now in
     let g = c.args.place.number in
     let total : ℕ → ℤ = λ p. page_total header c.args.world.now (counter_at header.layout g p) in
@@ -51,3 +51,8 @@ returns c =
     (map (λ x. place_words header g ++ x.1 ∷ signed_decimal (total x.0) ∷ []) (enumerate_from 0 xs))) all
     ∙ ap (λ xs. c.args.out.now.items ++ flat_map sentence
     (map (λ x. place_words header g ++ x.1 ∷ signed_decimal (total x.0) ∷ []) xs)) c.requires.names
+
+pub returns-in_err-write_words-clause-err : goal.returns-in_err-write_words-clause-err
+returns-in_err-write_words-clause-err c =
+    OnErr-true c.from_residual.result _
+    (Begins-after _ _ _ _ c.loop-position.invariant c.in_err-write_words.ensures.err)

@@ -20,7 +20,7 @@ loop-counter-preserved c =
     let name : c.as_slice.result.now ≡ (get_or header.counters n d).name = c.as_slice.ensures
     ∙ ap (λ (decl : Decl). decl.name) (c.decl-item.is ∙ ap (λ (xs : List Decl). get_or xs n d) listed) in
     append_twice _ _ _ _ _ _
-    (c.in_ok-write_named.ensures
+    (c.in_ok-write_named.ensures.ok
     ∙ ap₂ (λ (word : List ℕ) (z : ℤ). c.loop-counter.out.items
     ++ sentence (codes "counter" ∷ word ∷ signed_decimal z ∷ [])) name (kept ∙ c.counter_total-total.ensures))
     c.loop-counter.invariant

@@ -2,7 +2,7 @@
 use Rattle.std.proofs.Common.{◌≡◌, ◌<◌, ◌++◌, ◌∙◌, List, ℕ, ap, sym, arith, length, get_or}
 use Rattle.vms_world.specs.Common.{CpuState, is_present}
 use Rattle.vms_base.specs.declared.kinds.CpuState.TheVariants.{Online}
-use Rattle.vms_text.proofs.Common.{append_twice}
+use Rattle.vms_text.proofs.Common.{Begins-after, OnErr-true, append_twice}
 use Rattle.vms_report.specs.Common.{indented, cpu_words}
 use Rattle.vms_report.proofs.PresentCpus.{absent-more, present-more}
 use Rattle.vms_report.proofs.zoneinfo.write_cpus.Goals as goal
@@ -22,7 +22,7 @@ loop-number-preserved c =
     elim c.if-is_present.branch [
       | then-is_present+in_ok-write_cpu r ↦
           ap (λ v. v.items) r.out-is
-          ∙ append_twice _ _ _ _ _ _ r.in_ok-write_cpu.ensures c.loop-number.invariant
+          ∙ append_twice _ _ _ _ _ _ r.in_ok-write_cpu.ensures.ok c.loop-number.invariant
           (sym (present-more indented (λ cpu. cpu_words header w g cpu.number) states n Online within
           (state ∙ r.if-is_present.true)))
       | else-is_present r ↦
@@ -31,3 +31,7 @@ loop-number-preserved c =
           (sym (absent-more indented (λ cpu. cpu_words header w g cpu.number) states n Online within
           (state ∙ r.if-is_present.false)))
     ]
+
+pub returns-in_err-write_cpu-clause-err : goal.returns-in_err-write_cpu-clause-err
+returns-in_err-write_cpu-clause-err c =
+    OnErr-true c.from_residual.result _ (Begins-after _ _ _ _ c.loop-number.invariant c.in_err-write_cpu.ensures.err)

@@ -5,7 +5,7 @@ use Rattle.std.specs.Prelude.{decimal}
 use Rattle.std.specs.List.{enumerate_from}
 use Rattle.std.proofs.lemmas.List.{get_or-map, length-map, take_all}
 use Rattle.vms_world.specs.Common.{at_least_zero, value_at}
-use Rattle.vms_text.proofs.Common.{append_twice}
+use Rattle.vms_text.proofs.Common.{append_twice, Begins-after, OnErr-true}
 use Rattle.vms_report.specs.Common.{indented, told_value}
 use Rattle.vms_report.proofs.Entries.{lines-more}
 use Rattle.vms_report.proofs.zoneinfo.write_items.Goals as goal
@@ -31,13 +31,13 @@ loop-position-preserved c =
     ∙ ap (λ (z : ℤ). decimal (at_least_zero z)) (kept ∙ c.value_at.ensures ∙ ap (value_at w.pages)
     c.counter-counter.ensures.value) in
     append_twice _ _ _ _ _ _
-    (c.in_ok-write_indented.ensures
+    (c.in_ok-write_indented.ensures.ok
     ∙ ap₂ (λ (word told : List ℕ). c.loop-position.out.items ++ indented (word ∷ told ∷ [])) name value)
     c.loop-position.invariant
     (sym (lines-more indented (λ x. x.1 ∷ decimal (told_value header w g x.0) ∷ []) names n [] within))
 
-pub returns : goal.returns
-returns c =
+pub returns-clause-ok : goal.returns-clause-ok
+returns-clause-ok c =
     let header = c.args.header.now in
     let w = c.args.world.now in
     let g = c.args.place.number in
@@ -49,3 +49,8 @@ returns c =
     (map (λ x. x.1 ∷ decimal (told_value header w g x.0) ∷ []) (enumerate_from 0 xs))) all
     ∙ ap (λ xs. c.args.out.now.items ++ flat_map indented
     (map (λ x. x.1 ∷ decimal (told_value header w g x.0) ∷ []) xs)) c.requires.names
+
+pub returns-in_err-write_indented-clause-err : goal.returns-in_err-write_indented-clause-err
+returns-in_err-write_indented-clause-err c =
+    OnErr-true c.from_residual.result _
+    (Begins-after _ _ _ _ c.loop-position.invariant c.in_err-write_indented.ensures.err)

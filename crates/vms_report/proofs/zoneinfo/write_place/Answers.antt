@@ -4,6 +4,7 @@ use Rattle.std.specs.List.{enumerate_from}
 use Rattle.std.proofs.lemmas.List.{length-map}
 use Rattle.std.proofs.lemmas.List.FromFn.{length-enumerate_from}
 use Rattle.vms_world.specs.Common.{class_names}
+use Rattle.vms_text.proofs.Common.{Begins-after, OnErr-from}
 use Rattle.vms_report.proofs.zoneinfo.write_place.Goals as goal
 
 pub write_cpus-requires-clause-items : goal.write_cpus-requires-clause-items
@@ -19,3 +20,9 @@ write_cpus-requires-clause-items c =
       length-map c.names_of-names.result.items (λ (name : Bor (List ℕ)). name.now),
       c.len.ensures.value,
     )
+
+pub returns-clause-err : goal.returns-clause-err
+returns-clause-err c =
+    OnErr-from c.write_cpus.result _ _
+    (λ begins. Begins-after _ _ _ _ c.in_ok-write_items.ensures.ok begins)
+    c.write_cpus.ensures.err

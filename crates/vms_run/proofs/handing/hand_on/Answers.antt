@@ -21,6 +21,7 @@ loop-item-preserved g c =
       before ++ (taken_answer item.number (left item.lane)).0,
       c.in_ok-hand_line.ensures.takes c.args.taker.now before c.loop-item.invariant.1,
       c.in_ok-hand_line.ensures.one_each,
-      merged-next items n item c.item-item.is (merged items (told_by lanes)) before left (left_of lanes c.hand_line.new.counts)
+      merged-next items n item c.item-item.is (merged items (told_by lanes)) before left
+          (left_of lanes c.hand_line.new.counts)
           c.loop-item-test.true c.loop-item.invariant.3 c.in_ok-hand_line.ensures.left,
     )

@@ -29,7 +29,7 @@ returns c =
     c.write_done_line.new.out.items
     (λ above kept here accepts refuses. (
       c.status_at_end.ensures ∙ ap status_at_end refuses,
-      c.in_ok-write_done_line.ensures
+      c.in_ok-write_done_line.ensures.ok
           ∙ ap (λ (front : List ℕ). front ++ done_line c.args.accepted c.args.refused)
           c.in_ok-extend_from_slice.ensures.items
           ∙ append_assoc c.args.out.now.items (codes "# ") (done_line c.args.accepted c.args.refused)

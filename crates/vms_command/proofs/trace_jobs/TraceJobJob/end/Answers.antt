@@ -23,7 +23,7 @@ pub returns-in_ok-write_header_line-in-Header : goal.returns-in_ok-write_header_
 returns-in_ok-write_header_line-in-Header g c =
     header-ends g.B.Body.command g.B.Body.Stands g.B.Body.Shows c.args.self.now c.in-Header.reader
     (g.B.Body.made c.args.engine.now) c.args.out.now.items c.write_header_line.new.out.items c.in-Header.is
-    (c.in_ok-write_header_line-in-Header.ensures ∙ ap (λ (cause : HeaderCause). c.args.out.now.items
+    (c.in_ok-write_header_line-in-Header.ensures.ok ∙ ap (λ (cause : HeaderCause). c.args.out.now.items
     ++ header_line (record { line = c.args.self.now.line; cause = cause })) c.missing.ensures)
 
 pub returns-in-Body : goal.returns-in-Body

@@ -17,7 +17,7 @@ returns-then-is_empty g c =
     λ header made. BodyTakes-going_on g.E.Engine.Makes c.args.self.now c.args.self.now made header c.args.number
     (Err c.args.cause) c.write_refused_line.result c.args.out.now.items c.write_refused_line.new.out.items
     (λ above kept texts stands. refl)
-    (then_ok c.write_refused_line.result c.write_refused_line.ensures
+    (then_ok c.write_refused_line.result c.write_refused_line.ensures.ok
     (λ printed above kept texts stands judged_is. goes-refused_now g.E.Engine.Makes c.args.self.now c.args.self.now
     made header c.args.number above kept texts stands c.args.cause refl none c.args.out.now.items
     c.write_refused_line.new.out.items printed))

@@ -22,4 +22,4 @@ pub returns : goal.returns
 returns g c =
     ClosesBody-ended g.E.Engine.Makes c.args.self.now c.end_phase.new.self _ _ c.args.header.now c.args.accepted
     c.args.refused c.args.out.now.items c.end_phase.new.out.items c.write_done_line.new.out.items
-    c.in_ok-end_phase.ensures c.status_at_end.result c.status_at_end.ensures c.in_ok-write_done_line.ensures
+    c.in_ok-end_phase.ensures c.status_at_end.result c.status_at_end.ensures c.in_ok-write_done_line.ensures.ok
