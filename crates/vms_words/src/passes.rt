@@ -1,7 +1,7 @@
 ghost use Rattle.std.specs.Prelude.{◌≡◌, ℕ, ◌+◌, ◌%◌, ◌^◌, ◌<◌, List, []};
 ghost use Rattle.vms_calls.specs.Common.{Facts, Step, pages};
 ghost use Rattle.vms_seats.specs.Common.{Pass, IsFrom, IsLive, MayStep, MadeOne};
-ghost use Rattle.vms_words.specs.PagePasses.{KeepsNumbers};
+ghost use Rattle.vms_words.specs.PagePasses.{IsOwningPass, KeepsNumbers};
 ghost use Rattle.vms_words.specs.Shown.{shown};
 ghost use Rattle.vms_words.specs.Told.{told};
 
@@ -77,9 +77,9 @@ impl Model for MainPass {
     ghost invariant = { λ p. IsMainPass p.main p.kept };
 }
 
-/// A pass that works on the page counters: one that owns a CPU, or the control pass. Each of its steps on a word changes
-/// no volume and no setting. A call names the step that it plans; the step that it makes is this one with the number
-/// that was found.
+/// A pass that works on the page counters: one that owns a CPU, or the control pass. Each of its steps on a word
+/// changes no volume and no setting. A call names the step that it plans; the step that it makes is this one with the
+/// number that was found.
 pub trait Caller {
     // The pass that it is.
     ghost pass: { Self → Pass Facts Step };
@@ -137,6 +137,15 @@ impl CpuPass {
         self.cpu
     }
 
+    /// What holds of a pass at any time: it lives, and its volumes hold what its CPU has spent.
+    #[inline]
+    pub fn holds_spending(&self) -> CpuId
+        ensures { IsOwningPass self.now.pass result self.now.volume }
+    {
+        owning_passes_hold(&self.worker, self.cpu, &self.volume);
+        self.cpu
+    }
+
     /// What the CPU has changed a counter by since the run began, in absolute sum.
     #[inline]
     pub fn volume(&self, counter: CounterId) -> u64
@@ -146,6 +155,13 @@ impl CpuPass {
         self.volume.get(counter.number as usize)
     }
 }
+
+/// What a pass keeps beside its events holds what its CPU has spent.
+#[inline]
+fn owning_passes_hold(worker: &Worker<SharedPages>, cpu: CpuId, volume: &Volume)
+    requires { IsOwningPass worker.now cpu volume.now }
+    ensures { IsOwningPass worker.now cpu volume.now }
+{}
 
 impl MainPass {
     ghost use Rattle.vms_seats.specs.Common.{IsMain};

@@ -1,0 +1,4 @@
+mod Owning
+mod Spending
+mod Kept
+mod Between

@@ -1,0 +1,5 @@
+pub mod Owning
+pub mod Handles
+pub mod Opened
+pub mod Calls
+pub mod Refusals

@@ -1,0 +1,174 @@
+ghost use Rattle.std.specs.Prelude.{◌≡◌, true, false, Some, pos, negsuc, IfOk, MatchResult};
+ghost use Rattle.vms_base.specs.declared.kinds.Mode.TheVariants.{Dec, Inc, Mod};
+ghost use Rattle.vms_world.specs.Common.{IsCounter, IsCpu, IsItem, IsPlaceValue, IsSnapshot, IsSystemValue, IsFold};
+ghost use Rattle.vms_world.specs.Common.{IsWatermarkTest, free_pages, limit_of};
+ghost use Rattle.vms_count.specs.Common.{GoesWith, owns_cpu};
+ghost use Rattle.vms_counters.specs.Calls.{Changes, IsZoneTest, Makes, Refuses, RefusesChange, RefusesZoneTest};
+ghost use Rattle.vms_counters.specs.Calls.{layout_of};
+ghost use Rattle.vms_look.specs.Common.{SaysTruly, SumsTruly, TellsTruly};
+
+use crate::errors::CallError;
+use crate::looks;
+use crate::shared::SharedCounters;
+use std::alloc::Global;
+use std::marker::Model;
+use std::sync::Arc;
+use vms_base::{CounterId, CpuId, Header, ItemId, Mode, PlaceId, WaterMark};
+use vms_calls::Verdict;
+use vms_words::CpuPass;
+
+/// What a thread changes and reads the counters by: it owns a CPU, and may be handed from thread to thread. Contracts
+/// see in it the header, its pass, and what its CPU has changed each counter by since the counters were opened, in
+/// absolute sum. Each call makes single atomic steps, whatever other handles do meanwhile, and none waits or takes
+/// memory. A refused call makes no step.
+#[derive(Drop)]
+pub struct Handle {
+    pub(crate) shared: Arc<SharedCounters, Global>,
+    pub(crate) pass: CpuPass,
+}
+
+impl Model for Handle {
+    ghost use Rattle.vms_counters.specs.Handles.{AnyHandle};
+
+    ghost Value = { AnyHandle };
+
+    ghost use Rattle.std.specs.Arc.{arc_value};
+    ghost use Rattle.vms_counters.specs.Handles.{IsBetweenCalls};
+
+    ghost view = { λ h. record {
+      header = (arc_value h.shared).header;
+      pass = h.pass.pass;
+      volume = h.pass.volume;
+    } };
+
+    ghost invariant = { λ h. IsBetweenCalls (arc_value h.shared).table h.pass.pass };
+}
+
+impl Handle {
+    /// The header of the counters.
+    pub fn header(&self) -> &Header
+        ensures { result.now ≡ self.now.header }
+    {
+        &self.shared.header
+    }
+
+    /// The CPU that the handle owns.
+    pub fn cpu(&self) -> CpuId
+        ensures { self.now.pass.cpu ≡ Some result }
+    {
+        self.pass.cpu()
+    }
+
+    /// Changes a counter by a number of pages of 4096 bytes on the handle's CPU (`mod_zone_page_state` and
+    /// `mod_node_page_state` of mm/vmstat.c).
+    pub fn add(&mut self, counter: CounterId, pages: i64) -> Result<(), CallError>
+        ensures { MatchResult result (λ _. Changes self.new self.old counter pages Mod)
+            (RefusesChange self.new self.old counter pages) }
+    {
+        self.change(counter, pages, Mode::Mod)
+    }
+
+    /// Adds a page to a counter. Past the threshold half a threshold more moves to the global value
+    /// (`inc_zone_page_state` and `inc_node_page_state` of mm/vmstat.c).
+    pub fn inc(&mut self, counter: CounterId) -> Result<(), CallError>
+        ensures { MatchResult result (λ _. Changes self.new self.old counter (pos 1) Inc)
+            (RefusesChange self.new self.old counter (pos 1)) }
+    {
+        self.change(counter, 1, Mode::Inc)
+    }
+
+    /// Takes a page from a counter, likewise (`dec_zone_page_state` and `dec_node_page_state` of mm/vmstat.c).
+    pub fn dec(&mut self, counter: CounterId) -> Result<(), CallError>
+        ensures { MatchResult result (λ _. Changes self.new self.old counter (negsuc 0) Dec)
+            (RefusesChange self.new self.old counter (negsuc 0)) }
+    {
+        self.change(counter, -1, Mode::Dec)
+    }
+
+    fn change(&mut self, counter: CounterId, delta: i64, mode: Mode) -> Result<(), CallError>
+        requires { GoesWith mode delta }
+        ensures { MatchResult result (λ _. Changes self.new self.old counter delta mode)
+            (RefusesChange self.new self.old counter delta) }
+    {
+        let table = &self.shared.table;
+        if counter.number >= table.layout().counters() {
+            return Err(CallError::NoCounter(counter.number));
+        }
+        match vms_count::add(table, &mut self.pass, counter, delta, mode) {
+            Ok(()) => Ok(()),
+            Err(overflow) => Err(CallError::TooMuch(overflow)),
+        }
+    }
+
+    /// Folds a CPU, the handle's own or another: its differentials move to the global values (`cpu_vm_stats_fold` and
+    /// `refresh_cpu_vm_stats` of mm/vmstat.c).
+    pub fn fold(&mut self, cpu: CpuId) -> Result<(), CallError>
+        ensures { MatchResult result
+            (λ _. Makes (IsCpu (layout_of self.old) cpu.number)
+            (IsFold (layout_of self.old) (owns_cpu self.old.pass.cpu cpu) cpu) self.new self.old)
+            (Refuses (IsCpu (layout_of self.old) cpu.number) (CallError.NoCpu cpu.number) self.new self.old) }
+    {
+        looks::fold(&self.shared, &mut self.pass, cpu)
+    }
+
+    /// The global value of a counter, in pages, and 0 where it is negative (`zone_page_state` of
+    /// include/linux/vmstat.h and `node_page_state_pages` of mm/vmstat.c).
+    pub fn value(&mut self, counter: CounterId) -> Result<u64, CallError>
+        ensures { MatchResult result
+            (λ value. Makes (IsCounter (layout_of self.old) counter.number)
+            (λ steps. IsPlaceValue counter steps value) self.new self.old)
+            (Refuses (IsCounter (layout_of self.old) counter.number) (CallError.NoCounter counter.number)
+            self.new self.old) }
+    {
+        looks::value(&self.shared, &mut self.pass, counter)
+    }
+
+    /// The system-wide value of an item, in pages, and 0 where it is negative (`global_zone_page_state` and
+    /// `global_node_page_state_pages` of include/linux/vmstat.h).
+    pub fn system_value(&mut self, item: ItemId) -> Result<u64, CallError>
+        ensures { MatchResult result
+            (λ value. Makes (IsItem (layout_of self.old) item.number)
+            (λ steps. IsSystemValue item steps value) self.new self.old)
+            (Refuses (IsItem (layout_of self.old) item.number) (CallError.NoItem item.number)
+            self.new self.old) }
+    {
+        looks::system_value(&self.shared, &mut self.pass, item)
+    }
+
+    /// The global value of a counter with what the CPUs have not folded yet that are found online, in pages, and 0
+    /// where that is negative (`zone_page_state_snapshot` of include/linux/vmstat.h). What is true of it, whatever
+    /// others do meanwhile, is said as of `snapshot` of `vms_look`.
+    pub fn snapshot(&mut self, counter: CounterId) -> Result<u64, CallError>
+        ensures made { MatchResult result
+            (λ value. Makes (IsCounter (layout_of self.old) counter.number)
+            (λ steps. IsSnapshot (layout_of self.old) counter steps value) self.new self.old)
+            (Refuses (IsCounter (layout_of self.old) counter.number) (CallError.NoCounter counter.number)
+            self.new self.old) }
+        ensures truly { IfOk result (SumsTruly self.new.pass self.old.pass counter) }
+    {
+        looks::snapshot(&self.shared, &mut self.pass, counter)
+    }
+
+    /// Tests whether a zone has more free pages than a watermark asks for, for a request that may use the zones of its
+    /// node up to the zone index `most` (`zone_watermark_ok_safe` of mm/page_alloc.c at order 0). What is true of an
+    /// answer, whatever others do meanwhile, is said as of `watermark_ok` of `vms_look`.
+    pub fn watermark_ok(
+        &mut self,
+        zone: PlaceId,
+        mark: WaterMark,
+        most: u32,
+    ) -> Result<Verdict, CallError>
+        ensures made { MatchResult result
+            (λ verdict. Makes (IsZoneTest (layout_of self.old) zone most)
+            (λ steps. IsWatermarkTest self.old.header zone mark most steps verdict) self.new self.old)
+            (RefusesZoneTest self.new self.old zone most) }
+        ensures near { IfOk result (λ verdict. verdict.fast ≡ true →
+            TellsTruly self.new.pass self.old.pass zone verdict.free) }
+        ensures truly { IfOk result (λ verdict. verdict.yes ≡ true → verdict.fast ≡ true →
+            SaysTruly self.new.pass self.old.pass zone (limit_of self.old.header zone.number mark most)) }
+        ensures summed { IfOk result (λ verdict. verdict.fast ≡ false →
+            SumsTruly self.new.pass self.old.pass (free_pages (layout_of self.old) zone) verdict.free) }
+    {
+        looks::watermark_ok(&self.shared, &mut self.pass, zone, mark, most)
+    }
+}

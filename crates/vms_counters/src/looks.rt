@@ -1,0 +1,151 @@
+ghost use Rattle.std.specs.Prelude.{◌≡◌, true, false, IfOk, MatchResult};
+ghost use Rattle.vms_world.specs.Common.{IsCounter, IsCpu, IsFold, IsItem, IsPlaceValue, IsSnapshot, IsSystemValue};
+ghost use Rattle.vms_world.specs.Common.{IsWatermarkTest, free_pages, limit_of};
+ghost use Rattle.vms_count.specs.Common.{owns_cpu};
+ghost use Rattle.vms_counters.specs.Calls.{IsZoneTest, Makes, Refuses, RefusesZoneTest};
+ghost use Rattle.vms_counters.specs.Handles.{IsBetweenCalls, handle_of};
+ghost use Rattle.vms_look.specs.Common.{SaysTruly, SumsTruly, TellsTruly};
+
+use crate::errors::CallError;
+use crate::shared::SharedCounters;
+use vms_base::{CounterId, CpuId, ItemId, PlaceId, WaterMark};
+use vms_calls::{Verdict, folds_leave_their_caller, looks_leave_their_caller};
+use vms_words::Caller;
+
+// The calls that every handle has, by the pass that it is.
+
+/// Folds a CPU.
+pub(crate) fn fold<P: Caller>(
+    shared: &SharedCounters,
+    pass: &mut P,
+    cpu: CpuId,
+) -> Result<(), CallError>
+    requires { IsBetweenCalls shared.now.table (P.pass pass.old) }
+    ensures between { IsBetweenCalls shared.now.table (P.pass pass.new) }
+    ensures made { MatchResult result
+        (λ _. Makes (IsCpu shared.now.table.facts.layout cpu.number)
+        (IsFold shared.now.table.facts.layout (owns_cpu (P.pass pass.old).cpu cpu) cpu)
+        (handle_of shared.now.header (P.pass pass.new) (P.volume pass.new))
+        (handle_of shared.now.header (P.pass pass.old) (P.volume pass.old)))
+        (Refuses (IsCpu shared.now.table.facts.layout cpu.number) (CallError.NoCpu cpu.number)
+        (handle_of shared.now.header (P.pass pass.new) (P.volume pass.new))
+        (handle_of shared.now.header (P.pass pass.old) (P.volume pass.old))) }
+{
+    let table = &shared.table;
+    if cpu.number >= table.layout().cpus() {
+        return Err(CallError::NoCpu(cpu.number));
+    }
+    vms_count::fold(table, pass, cpu);
+    Ok(())
+}
+
+/// The global value of a counter.
+pub(crate) fn value<P: Caller>(
+    shared: &SharedCounters,
+    pass: &mut P,
+    counter: CounterId,
+) -> Result<u64, CallError>
+    requires { IsBetweenCalls shared.now.table (P.pass pass.old) }
+    ensures between { IsBetweenCalls shared.now.table (P.pass pass.new) }
+    ensures made { MatchResult result
+        (λ value. Makes (IsCounter shared.now.table.facts.layout counter.number)
+        (λ steps. IsPlaceValue counter steps value)
+        (handle_of shared.now.header (P.pass pass.new) (P.volume pass.new))
+        (handle_of shared.now.header (P.pass pass.old) (P.volume pass.old)))
+        (Refuses (IsCounter shared.now.table.facts.layout counter.number) (CallError.NoCounter counter.number)
+        (handle_of shared.now.header (P.pass pass.new) (P.volume pass.new))
+        (handle_of shared.now.header (P.pass pass.old) (P.volume pass.old))) }
+{
+    looks_leave_their_caller();
+    let table = &shared.table;
+    if counter.number >= table.layout().counters() {
+        return Err(CallError::NoCounter(counter.number));
+    }
+    Ok(vms_look::place_value(table, pass, counter))
+}
+
+/// The system-wide value of an item.
+pub(crate) fn system_value<P: Caller>(
+    shared: &SharedCounters,
+    pass: &mut P,
+    item: ItemId,
+) -> Result<u64, CallError>
+    requires { IsBetweenCalls shared.now.table (P.pass pass.old) }
+    ensures between { IsBetweenCalls shared.now.table (P.pass pass.new) }
+    ensures made { MatchResult result
+        (λ value. Makes (IsItem shared.now.table.facts.layout item.number)
+        (λ steps. IsSystemValue item steps value)
+        (handle_of shared.now.header (P.pass pass.new) (P.volume pass.new))
+        (handle_of shared.now.header (P.pass pass.old) (P.volume pass.old)))
+        (Refuses (IsItem shared.now.table.facts.layout item.number) (CallError.NoItem item.number)
+        (handle_of shared.now.header (P.pass pass.new) (P.volume pass.new))
+        (handle_of shared.now.header (P.pass pass.old) (P.volume pass.old))) }
+{
+    looks_leave_their_caller();
+    let table = &shared.table;
+    if item.number >= table.layout().items() {
+        return Err(CallError::NoItem(item.number));
+    }
+    Ok(vms_look::system_value(table, pass, item))
+}
+
+/// A snapshot of a counter.
+pub(crate) fn snapshot<P: Caller>(
+    shared: &SharedCounters,
+    pass: &mut P,
+    counter: CounterId,
+) -> Result<u64, CallError>
+    requires { IsBetweenCalls shared.now.table (P.pass pass.old) }
+    ensures between { IsBetweenCalls shared.now.table (P.pass pass.new) }
+    ensures made { MatchResult result
+        (λ value. Makes (IsCounter shared.now.table.facts.layout counter.number)
+        (λ steps. IsSnapshot shared.now.table.facts.layout counter steps value)
+        (handle_of shared.now.header (P.pass pass.new) (P.volume pass.new))
+        (handle_of shared.now.header (P.pass pass.old) (P.volume pass.old)))
+        (Refuses (IsCounter shared.now.table.facts.layout counter.number) (CallError.NoCounter counter.number)
+        (handle_of shared.now.header (P.pass pass.new) (P.volume pass.new))
+        (handle_of shared.now.header (P.pass pass.old) (P.volume pass.old))) }
+    ensures truly { IfOk result (SumsTruly (P.pass pass.new) (P.pass pass.old) counter) }
+{
+    looks_leave_their_caller();
+    let table = &shared.table;
+    if counter.number >= table.layout().counters() {
+        return Err(CallError::NoCounter(counter.number));
+    }
+    Ok(vms_look::snapshot(table, pass, counter))
+}
+
+/// Tests whether a zone has more free pages than a watermark asks for.
+pub(crate) fn watermark_ok<P: Caller>(
+    shared: &SharedCounters,
+    pass: &mut P,
+    zone: PlaceId,
+    mark: WaterMark,
+    most: u32,
+) -> Result<Verdict, CallError>
+    requires { IsBetweenCalls shared.now.table (P.pass pass.old) }
+    ensures between { IsBetweenCalls shared.now.table (P.pass pass.new) }
+    ensures made { MatchResult result
+        (λ verdict. Makes (IsZoneTest shared.now.table.facts.layout zone most)
+        (λ steps. IsWatermarkTest shared.now.header zone mark most steps verdict)
+        (handle_of shared.now.header (P.pass pass.new) (P.volume pass.new))
+        (handle_of shared.now.header (P.pass pass.old) (P.volume pass.old)))
+        (RefusesZoneTest (handle_of shared.now.header (P.pass pass.new) (P.volume pass.new))
+        (handle_of shared.now.header (P.pass pass.old) (P.volume pass.old)) zone most) }
+    ensures near { IfOk result (λ verdict. verdict.fast ≡ true →
+        TellsTruly (P.pass pass.new) (P.pass pass.old) zone verdict.free) }
+    ensures truly { IfOk result (λ verdict. verdict.yes ≡ true → verdict.fast ≡ true →
+        SaysTruly (P.pass pass.new) (P.pass pass.old) zone (limit_of shared.now.header zone.number mark most)) }
+    ensures summed { IfOk result (λ verdict. verdict.fast ≡ false →
+        SumsTruly (P.pass pass.new) (P.pass pass.old) (free_pages shared.now.table.facts.layout zone) verdict.free) }
+{
+    looks_leave_their_caller();
+    let SharedCounters { header, table } = shared;
+    if zone.number as usize >= table.layout().zones().len() {
+        return Err(CallError::NoZone(zone.number));
+    }
+    if most > 3 {
+        return Err(CallError::NoZoneIndex(most));
+    }
+    Ok(vms_look::watermark_ok(table, pass, header, zone, mark, most))
+}
