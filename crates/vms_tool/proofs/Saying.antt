@@ -1,19 +1,21 @@
 -- What is said under words.
 use Rattle.std.proofs.Common.{◌≡◌, ◌≢◌, ◌∙◌, ℕ, List, [], ◌++◌, take, drop, take-append-drop, append-nil, Option, Some}
-use Rattle.std.proofs.Common.{None, refl, sym, subst}
+use Rattle.std.proofs.Common.{None, refl, sym, ap, subst}
 use Rattle.std.proofs.lemmas.Option.{same_Some}
 use Rattle.std.specs.Io.KnownBytes.{Appends, Consumes, IsAtEnd}
 use Rattle.std.proofs.KnownBytes.{Consumes-nil}
 use Rattle.vms_check.specs.Common.{check, shown_by_check}
 use Rattle.vms_gen.specs.declared.numbers.Numbers.{Numbers}
-use Rattle.vms_replay.specs.Common.{SaysReplay, PastPhase, AnswersReplayed}
+use Rattle.vms_groups.specs.Common.{AnswersGroups, SaysGroups}
+use Rattle.vms_replay.specs.Common.{SaysReplay, AnswersReplayed, SaysReplayed}
 use Rattle.vms_run.specs.Common.{AnswersMade, makes_on_threads}
 use Rattle.vms_stream.specs.Common.{TakesAndWrites, FaultsOfSink, FaultsOfSource, Says}
 use Rattle.vms_stream.specs.declared.statuses.Status.{Status}
 use Rattle.vms_stream.specs.declared.statuses.Status.TheVariants.{Words, ReadFault, WriteFault}
-use Rattle.vms_tool.specs.Common.{AnswersUnder, SaysOf, ShownAs, ShowsUsage, usage_line, command_of}
+use Rattle.vms_tool.specs.Common.{AnswersUnder, SaysOf, ShownAs, ShowsUsage, command_of, no_phases, usage_line}
+use Rattle.vms_tool.specs.declared.histories.Histories.{Histories}
 use Rattle.vms_tool.specs.declared.naming.Command.{Command}
-use Rattle.vms_tool.specs.declared.naming.Command.TheVariants.{Check, Replay, Run, Gen}
+use Rattle.vms_tool.specs.declared.naming.Command.TheVariants.{Check, Replay, Run, Gen, Groups}
 
 -- the write of the usage line failed
 pub ShowsUsage-unwritten : (held held' : Option (List ℕ)) (n : ℕ) → Appends held held' (take n usage_line)
@@ -39,14 +41,16 @@ unfailed_reads left faults src _ none = refl
 
 module _ {S K : Type 0} (left : S → Option (List ℕ)) (read_faults : S → ℕ) (held : K → Option (List ℕ))
     (write_faults : K → ℕ) (src src' : S) (out out' : K) (words : List (List ℕ)) (status : Status)
-    (old new : List PastPhase) where
+    (old new : Histories) where
   -- what a command answers is what its words say
-  under_named : (named : Option Command) (made : List PastPhase) → command_of words ≡ named → new ≡ old ++ made
+  under_named : (named : Option Command) (made : Histories) → command_of words ≡ named
+      → new.phases ≡ old.phases ++ made.phases → new.groups ≡ old.groups ++ made.groups
       → TakesAndWrites left read_faults held write_faults src src' out out' status (SaysOf named made)
       → AnswersUnder words old new left read_faults held write_faults src src' out out' status
-  under_named named made is grows answers = record {
+  under_named named made is phases groups answers = record {
     made = made;
-    grows = grows;
+    phases = phases;
+    groups = groups;
     answers = subst (λ (n : Option Command).
         TakesAndWrites left read_faults held write_faults src src' out out' status (SaysOf n made)) (sym is) answers;
   }
@@ -67,45 +71,72 @@ module _ {S K : Type 0} (left : S → Option (List ℕ)) (read_faults : S → �
     writes = answers.writes;
   }
 
+  -- no phase was made
+  none_more : {X : Type 0} (before after : List X) → after ≡ before → after ≡ before ++ []
+  none_more before after same = same ∙ sym (append-nil before)
+
   -- the commands that make no phase on threads
   pub under_check : command_of words ≡ Some Check → new ≡ old
       → TakesAndWrites left read_faults held write_faults src src' out out' status (Says check shown_by_check)
       → AnswersUnder words old new left read_faults held write_faults src src' out out' status
-  under_check is same answers = under_named (Some Check) [] is (same ∙ sym (append-nil old))
-      (answers_saying (Says check shown_by_check) (SaysOf (Some Check) []) (λ taken written at_end says. (refl, says))
-      answers)
+  under_check is same answers = under_named (Some Check) no_phases is
+      (none_more old.phases new.phases (ap (λ (h : Histories). h.phases) same))
+      (none_more old.groups new.groups (ap (λ (h : Histories). h.groups) same))
+      (answers_saying (Says check shown_by_check) (SaysOf (Some Check) no_phases)
+      (λ taken written at_end says. (refl, says)) answers)
 
   pub under_replay : command_of words ≡ Some Replay → new ≡ old
       → TakesAndWrites left read_faults held write_faults src src' out out' status SaysReplay
       → AnswersUnder words old new left read_faults held write_faults src src' out out' status
-  under_replay is same answers = under_named (Some Replay) [] is (same ∙ sym (append-nil old))
-      (answers_saying SaysReplay (SaysOf (Some Replay) []) (λ taken written at_end says. (refl, says)) answers)
+  under_replay is same answers = under_named (Some Replay) no_phases is
+      (none_more old.phases new.phases (ap (λ (h : Histories). h.phases) same))
+      (none_more old.groups new.groups (ap (λ (h : Histories). h.groups) same))
+      (answers_saying SaysReplay (SaysOf (Some Replay) no_phases) (λ taken written at_end says. (refl, says)) answers)
 
   -- a run of what the source gives
-  pub under_run : command_of words ≡ Some Run
-      → AnswersReplayed makes_on_threads (Some old) (Some new) left read_faults held write_faults src src' out out'
-      status
+  pub under_run : command_of words ≡ Some Run → new.groups ≡ old.groups
+      → AnswersReplayed makes_on_threads (Some old.phases) (Some new.phases) left read_faults held write_faults src src'
+      out out' status
       → AnswersUnder words old new left read_faults held write_faults src src' out out' status
-  under_run is ran = under_named (Some Run) ran.made is (same_Some new (old ++ ran.made) ran.grows) ran.answers
+  under_run is same ran =
+      let made : Histories = record { phases = ran.made; groups = [] } in
+      under_named (Some Run) made is (same_Some new.phases (old.phases ++ ran.made) ran.grows)
+      (none_more old.groups new.groups same)
+      (answers_saying (SaysReplayed makes_on_threads ran.made) (SaysOf (Some Run) made)
+      (λ taken written at_end says. (refl, says)) ran.answers)
+
+  -- a run of a trace of groups
+  pub under_groups : command_of words ≡ Some Groups → new.phases ≡ old.phases
+      → AnswersGroups old.groups new.groups left read_faults held write_faults src src' out out' status
+      → AnswersUnder words old new left read_faults held write_faults src src' out out' status
+  under_groups is same ran =
+      let made : Histories = record { phases = []; groups = ran.made } in
+      under_named (Some Groups) made is (none_more old.phases new.phases same) ran.grows
+      (answers_saying (SaysGroups ran.made) (SaysOf (Some Groups) made) (λ taken written at_end says. (refl, says))
+      ran.answers)
 
   -- a run of what numbers make
   pub under_gen : (numbers : Numbers) → command_of words ≡ Some (Gen numbers) → src' ≡ src
-      → AnswersMade numbers old new held write_faults out out' status
+      → new.groups ≡ old.groups → AnswersMade numbers old.phases new.phases held write_faults out out' status
       → AnswersUnder words old new left read_faults held write_faults src src' out out' status
-  under_gen numbers is unread ran =
-      under_named (Some (Gen numbers)) ran.made is (same_Some new (old ++ ran.made) ran.grows) record {
+  under_gen numbers is unread same ran =
+      under_named (Some (Gen numbers)) (record { phases = ran.made; groups = [] }) is
+      (same_Some new.phases (old.phases ++ ran.made) ran.grows) (none_more old.groups new.groups same) record {
         taken = [];
         written = ran.written;
         consumes = subst (λ (s : S). Consumes (left src) (left s) []) (sym unread) (Consumes-nil (left src));
         appends = ran.appends;
-        answer = record {
-          untaken = refl;
-          read = ran.taken;
-          left = ran.left;
-          parts = ran.text;
-          says = ran.answer;
-          reads = ran.reads;
-        };
+        answer = (
+          refl,
+          record {
+            untaken = refl;
+            read = ran.taken;
+            left = ran.left;
+            parts = ran.text;
+            says = ran.answer;
+            reads = ran.reads;
+          },
+        );
         reads = subst (λ (s : S). FaultsOfSource left read_faults status src s) (sym unread)
             (unfailed_reads left read_faults src status ran.reads);
         writes = ran.writes;
@@ -115,13 +146,15 @@ module _ {S K : Type 0} (left : S → Option (List ℕ)) (read_faults : S → �
   pub under_none : command_of words ≡ None → new ≡ old → src' ≡ src → ShowsUsage (held out) (held out') status
       → FaultsOfSink held write_faults status out out'
       → AnswersUnder words old new left read_faults held write_faults src src' out out' status
-  under_none is same unread shows writes = under_named None [] is (same ∙ sym (append-nil old)) record {
-    taken = [];
-    written = shows.written;
-    consumes = subst (λ (s : S). Consumes (left src) (left s) []) (sym unread) (Consumes-nil (left src));
-    appends = shows.appends;
-    answer = (refl, refl, shows.outcome);
-    reads = subst (λ (s : S). FaultsOfSource left read_faults status src s) (sym unread)
-        (shown_reads left read_faults src status shows.written shows.outcome);
-    writes = writes;
-  }
+  under_none is same unread shows writes = under_named None no_phases is
+      (none_more old.phases new.phases (ap (λ (h : Histories). h.phases) same))
+      (none_more old.groups new.groups (ap (λ (h : Histories). h.groups) same)) record {
+        taken = [];
+        written = shows.written;
+        consumes = subst (λ (s : S). Consumes (left src) (left s) []) (sym unread) (Consumes-nil (left src));
+        appends = shows.appends;
+        answer = (refl, refl, shows.outcome);
+        reads = subst (λ (s : S). FaultsOfSource left read_faults status src s) (sym unread)
+            (shown_reads left read_faults src status shows.written shows.outcome);
+        writes = writes;
+      }

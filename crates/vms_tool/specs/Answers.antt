@@ -4,18 +4,20 @@ use Rattle.std.specs.Io.KnownBytes.{Appends}
 use Rattle.vms_check.specs.Common.{check, shown_by_check}
 use Rattle.vms_gen.specs.Common.{made_text}
 use Rattle.vms_gen.specs.declared.numbers.Numbers.{Numbers}
+use Rattle.vms_groups.specs.Common.{SaysGroups}
 use Rattle.vms_replay.specs.Common.{SaysReplay, PastPhase, SaysReplayed}
 use Rattle.vms_run.specs.Common.{makes_on_threads}
 use Rattle.vms_stream.specs.Common.{TakesAndWrites, Says}
 use Rattle.vms_stream.specs.declared.statuses.Status.{Status}
 use Rattle.vms_stream.specs.declared.statuses.Status.TheVariants.{Words, ReadFault, WriteFault}
 use Rattle.vms_tool.specs.Naming.{command_of}
+use Rattle.vms_tool.specs.declared.histories.Histories.{Histories}
 use Rattle.vms_tool.specs.declared.naming.Command.{Command}
-use Rattle.vms_tool.specs.declared.naming.Command.TheVariants.{Check, Replay, Run, Gen}
+use Rattle.vms_tool.specs.declared.naming.Command.TheVariants.{Check, Replay, Run, Gen, Groups}
 
 -- what is written for words that name no command
 abbrev pub usage_line : List ℕ
-usage_line = codes "usage: check | replay | run | gen SEED CPUS LINES" ++ 10 ∷ []
+usage_line = codes "usage: check | replay | run | gen SEED CPUS LINES | groups" ++ 10 ∷ []
 
 -- the usage line was written, or a part of it
 abbrev pub ShownAs : Status → List ℕ → Type 0
@@ -39,23 +41,33 @@ pub record SaysMade (numbers : Numbers) (made : List PastPhase) (status : Status
   pub says : SaysReplayed makes_on_threads made status read written (left ≡ [])
   pub reads : status ≢ ReadFault
 
--- what each status says of a command that made these phases on threads; with words that name none nothing is read, and
--- the usage line is written
-abbrev pub SaysOf : Option Command → List PastPhase → Status → List ℕ → List ℕ → Type 0 → Type 0
+-- no phase was made on threads
+abbrev pub no_phases : Histories
+no_phases = record { phases = []; groups = [] }
+
+-- what each status says of a command that made these phases on threads: `run` and `gen` make none of groups, `groups`
+-- none of the other tables, and every other command none. With words that name none nothing is read, and the usage line
+-- is written
+abbrev pub SaysOf : Option Command → Histories → Status → List ℕ → List ℕ → Type 0 → Type 0
 SaysOf (Some Check) made status taken written at_end =
-    (made ≡ []) × Says check shown_by_check status taken written at_end
-SaysOf (Some Replay) made status taken written at_end = (made ≡ []) × SaysReplay status taken written at_end
-SaysOf (Some Run) made status taken written at_end = SaysReplayed makes_on_threads made status taken written at_end
-SaysOf (Some (Gen numbers)) made status taken written at_end = SaysMade numbers made status taken written
-SaysOf None made status taken written at_end = (made ≡ []) × (taken ≡ []) × ShownAs status written
+    (made ≡ no_phases) × Says check shown_by_check status taken written at_end
+SaysOf (Some Replay) made status taken written at_end = (made ≡ no_phases) × SaysReplay status taken written at_end
+SaysOf (Some Run) made status taken written at_end =
+    (made.groups ≡ []) × SaysReplayed makes_on_threads made.phases status taken written at_end
+SaysOf (Some (Gen numbers)) made status taken written at_end =
+    (made.groups ≡ []) × SaysMade numbers made.phases status taken written
+SaysOf (Some Groups) made status taken written at_end =
+    (made.phases ≡ []) × SaysGroups made.groups status taken written at_end
+SaysOf None made status taken written at_end = (made ≡ no_phases) × (taken ≡ []) × ShownAs status written
 
 -- what the program did under these words: the phases that it made on threads are appended to the histories that stood,
 -- and its status says of them what was taken of the source, what was written to the sink, and which calls failed
-pub record AnswersUnder {S K : Type 0} (words : List (List ℕ)) (old new : List PastPhase)
+pub record AnswersUnder {S K : Type 0} (words : List (List ℕ)) (old new : Histories)
     (left : S → Option (List ℕ)) (read_faults : S → ℕ) (held : K → Option (List ℕ)) (write_faults : K → ℕ)
     (src src' : S) (out out' : K) (status : Status) : Type 0 where
-  pub made : List PastPhase
-  pub grows : new ≡ old ++ made
+  pub made : Histories
+  pub phases : new.phases ≡ old.phases ++ made.phases
+  pub groups : new.groups ≡ old.groups ++ made.groups
   pub answers : TakesAndWrites left read_faults held write_faults src src' out out' status
       (SaysOf (command_of words) made)
 

@@ -9,9 +9,9 @@ use Rattle.std.specs.declared.io.ErrorKind.TheVariants.{OutOfMemory}
 use Rattle.std.specs.declared.process.ExitCode.{ExitCode}
 use Rattle.std.specs.declared.string.String.{String}
 use Rattle.std.specs.declared.vec.IntoIter.{IntoIter}
-use Rattle.vms_replay.specs.Common.{PastPhase}
 use Rattle.vms_stream.specs.declared.statuses.Status.{Status}
 use Rattle.vms_stream.specs.declared.statuses.Status.TheVariants.{Memory}
+use Rattle.vms_tool.specs.declared.histories.Histories.{Histories}
 use Rattle.vms_tool.specs.Answers.{AnswersUnder, ReadsNothing}
 use Rattle.vms_tool.specs.Exits.{code_of}
 use Rattle.vms_tool.specs.Naming.{command_of}
@@ -31,14 +31,14 @@ MayLackWords (Ok args) = Unit {0}
 MayLackWords (Err error) = error_kind error ≡ OutOfMemory
 
 -- what is done under words: what their command answers, and where it reads nothing the source stays as it was
-pub record DoesUnder {S K : Type 0} (old new : List PastPhase) (left : S → Option (List ℕ)) (read_faults : S → ℕ)
+pub record DoesUnder {S K : Type 0} (old new : Histories) (left : S → Option (List ℕ)) (read_faults : S → ℕ)
     (held : K → Option (List ℕ)) (write_faults : K → ℕ) (src src' : S) (out out' : K) (status : Status)
     (words : List (List ℕ)) : Type 0 where
   pub answers : AnswersUnder words old new left read_faults held write_faults src src' out out' status
   pub unread : ReadsNothing (command_of words) → src' ≡ src
 
 -- there was no memory for the words, and nothing was done
-pub record DoesNothing {S K : Type 0} (old new : List PastPhase) (src src' : S) (out out' : K) (status : Status)
+pub record DoesNothing {S K : Type 0} (old new : Histories) (src src' : S) (out out' : K) (status : Status)
     : Type 0 where
   pub memory : status ≡ Memory
   pub unread : src' ≡ src
@@ -46,7 +46,7 @@ pub record DoesNothing {S K : Type 0} (old new : List PastPhase) (src src' : S) 
   pub unmade : new ≡ old
 
 -- what the program does with its arguments, and the code with which it ends: the one of the status
-pub record RunsProgram {S K : Type 0} (args : Arguments) (old new : List PastPhase) (left : S → Option (List ℕ))
+pub record RunsProgram {S K : Type 0} (args : Arguments) (old new : Histories) (left : S → Option (List ℕ))
     (read_faults : S → ℕ) (held : K → Option (List ℕ)) (write_faults : K → ℕ) (src src' : S) (out out' : K)
     (code : ExitCode) : Type 0 where
   pub status : Status

@@ -14,6 +14,8 @@ pub enum Command {
     Run,
     /// Runs the trace that these numbers make.
     Gen(Numbers),
+    /// Runs a trace of a tree of groups, each lane of a phase on a thread of its own.
+    Groups,
 }
 
 /// The command that the words name.
@@ -38,6 +40,8 @@ fn named(word: &str) -> Option<Command>
         Some(Command::Replay)
     } else if word == "run" {
         Some(Command::Run)
+    } else if word == "groups" {
+        Some(Command::Groups)
     } else {
         None
     }

@@ -212,7 +212,7 @@ static ROWS: [Row<'static>; 14] = [
             ..SOUND
         },
         status: Status::WriteFault,
-        output: &["usage: check | replay | run | gen SEED CPUS LINES\n"],
+        output: &["usage: check | replay | run | gen SEED CPUS LINES | groups\n"],
         least: 0,
         most: 0,
     },
@@ -225,9 +225,9 @@ static ROWS: [Row<'static>; 14] = [
             ..SOUND
         },
         status: Status::Words,
-        output: &["usage: check | replay | run | gen SEED CPUS LINES\n"],
-        least: 50,
-        most: 50,
+        output: &["usage: check | replay | run | gen SEED CPUS LINES | groups\n"],
+        least: 59,
+        most: 59,
     },
 ];
 

@@ -106,7 +106,7 @@ fn appends<R: Threads + Wait + Sync>(
     row: &Row<'_>,
     histories: &mut Histories,
 ) -> Result<bool, Memory> {
-    let before = histories.len();
+    let before = histories.phases.len();
     let text = row.text.concat(alloc)?;
     let (status, _src, _out) = run_at(
         rt,
@@ -117,7 +117,7 @@ fn appends<R: Threads + Wait + Sync>(
         &OpenGate,
         histories,
     )?;
-    Ok(status == row.status && histories.len().checked_sub(before) == Some(row.appends))
+    Ok(status == row.status && histories.phases.len().checked_sub(before) == Some(row.appends))
 }
 
 #[test]

@@ -21,6 +21,8 @@ mod faults;
 #[cfg(test)]
 mod generated;
 #[cfg(test)]
+mod groups;
+#[cfg(test)]
 mod headers;
 #[cfg(test)]
 mod hotplug;

@@ -160,6 +160,35 @@ fn lanes_meet_at_their_second_lines(rt: HostRuntime) -> Result<(), Fail> {
     Ok(())
 }
 
+/// Two lanes of a trace of groups, of two lines each.
+const GROUPS: &str = "vmgroups 1
+cpus 2
+group root
+go
+c0 add root 1
+c1 add root 2
+c0 flush root
+c1 flush root
+";
+
+#[test]
+fn lanes_of_groups_meet_at_their_second_lines(rt: HostRuntime) -> Result<(), Fail> {
+    let gate = Meeting::of(Stop { lane: 0, line: 7 }, Stop { lane: 1, line: 8 });
+    let mut histories = Histories::make(rt.alloc());
+    let (status, _src, _out) = run_at(
+        &rt,
+        rt.alloc(),
+        &["groups"],
+        GROUPS.as_bytes(),
+        SOUND,
+        &gate,
+        &mut histories,
+    )?;
+    assert!(rt; status == Status::Done);
+    assert!(rt; gate.took_place());
+    Ok(())
+}
+
 /// Counts the lines of lanes.
 #[derive(Drop)]
 struct Tally {

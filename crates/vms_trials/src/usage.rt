@@ -10,7 +10,7 @@ use vms_io::Source;
 use vms_tool::Status;
 
 /// Words that name no command.
-static WORDS: [&[&str]; 18] = [
+static WORDS: [&[&str]; 20] = [
     &[],
     &[""],
     &["check", "x"],
@@ -29,6 +29,8 @@ static WORDS: [&[&str]; 18] = [
     &["gen", "18446744073709551616", "1", "1"],
     &["gen", "01", "1", "1"],
     &["run", "1", "1", "1"],
+    &["groups", "x"],
+    &["group"],
 ];
 
 /// Whether the usage line is written, and nothing is read.
@@ -41,7 +43,8 @@ fn shows_usage<R: Threads + Wait + Sync>(
     let mut left = [0; 256];
     Ok(
         status == Status::Words
-            && out.bytes() == b"usage: check | replay | run | gen SEED CPUS LINES\n".as_slice()
+            && out.bytes()
+                == b"usage: check | replay | run | gen SEED CPUS LINES | groups\n".as_slice()
             && src.read(&mut left) == Ok(HEADER.len()),
     )
 }

@@ -1,6 +1,6 @@
 -- Each command: what it answers is what its words say.
 use Rattle.std.proofs.Common.{Some, ap, map, string_bytes, refl, sym, ◌∙◌}
-use Rattle.vms_tool.proofs.Saying.{under_check, under_gen, under_none, under_replay, under_run}
+use Rattle.vms_tool.proofs.Saying.{under_check, under_gen, under_groups, under_none, under_replay, under_run}
 use Rattle.vms_tool.specs.declared.naming.Command.{Command}
 use Rattle.vms_tool.proofs.commands.tool.Goals as goal
 
@@ -24,17 +24,25 @@ pub returns-in-Some-Run-clause-answers : goal.returns-in-Some-Run-clause-answers
 returns-in-Some-Run-clause-answers g c =
     under_run g.S.Source.remaining g.S.Source.faults g.K.Sink.written g.K.Sink.faults c.args.src.now
     c.tool_run.new.src c.args.out.now c.tool_run.new.out (map (λ word. string_bytes word) c.args.words.now)
-    c.tool_run.result c.args.histories.now c.tool_run.new.histories
+    c.tool_run.result c.args.histories.now (record c.args.histories.now { phases = c.tool_run.new.histories })
     (sym c.named_by.ensures.named ∙ c.in-Some-Run.is
-    ∙ ap (λ (named : Command). Some named) c.in-Some-Run.field-0-is) c.tool_run.ensures
+    ∙ ap (λ (named : Command). Some named) c.in-Some-Run.field-0-is) refl c.tool_run.ensures
 
 pub returns-in-Some-Gen-clause-answers : goal.returns-in-Some-Gen-clause-answers
 returns-in-Some-Gen-clause-answers g c =
     under_gen g.S.Source.remaining g.S.Source.faults g.K.Sink.written g.K.Sink.faults c.args.src.now
     c.args.src.now c.args.out.now c.tool_gen.new.out (map (λ word. string_bytes word) c.args.words.now)
-    c.tool_gen.result c.args.histories.now c.tool_gen.new.histories
+    c.tool_gen.result c.args.histories.now (record c.args.histories.now { phases = c.tool_gen.new.histories })
     c.in-Some-Gen.numbers (sym c.named_by.ensures.named ∙ c.in-Some-Gen.is
-    ∙ ap (λ (named : Command). Some named) c.in-Some-Gen.field-0-is) refl c.tool_gen.ensures
+    ∙ ap (λ (named : Command). Some named) c.in-Some-Gen.field-0-is) refl refl c.tool_gen.ensures
+
+pub returns-in-Some-Groups-clause-answers : goal.returns-in-Some-Groups-clause-answers
+returns-in-Some-Groups-clause-answers g c =
+    under_groups g.S.Source.remaining g.S.Source.faults g.K.Sink.written g.K.Sink.faults c.args.src.now
+    c.tool_groups.new.src c.args.out.now c.tool_groups.new.out (map (λ word. string_bytes word) c.args.words.now)
+    c.tool_groups.result c.args.histories.now (record c.args.histories.now { groups = c.tool_groups.new.made })
+    (sym c.named_by.ensures.named ∙ c.in-Some-Groups.is
+    ∙ ap (λ (named : Command). Some named) c.in-Some-Groups.field-0-is) refl c.tool_groups.ensures
 
 pub returns-in-None-clause-answers : goal.returns-in-None-clause-answers
 returns-in-None-clause-answers g c =

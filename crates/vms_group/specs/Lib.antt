@@ -1,0 +1,4 @@
+pub mod SharedWords
+pub mod CpuPasses
+pub mod Flushing
+pub mod Common

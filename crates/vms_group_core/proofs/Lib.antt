@@ -1,0 +1,16 @@
+pub mod Flags
+pub mod SubtreeSums
+pub mod Effects
+pub mod Weights
+pub mod Totals
+pub mod Spending
+pub mod Carrying
+pub mod Bounds
+pub mod AllLaws
+pub mod Endings
+pub mod Zeros
+pub mod CallReading
+pub mod CallCarrying
+pub mod CallSpending
+pub mod FittingSteps
+pub mod Common

@@ -1,0 +1,14 @@
+pub mod Trees
+pub mod Words
+pub mod Steps
+pub mod Own
+pub mod Totals
+pub mod Bases
+pub mod Conditions
+pub mod Histories
+pub mod Quiet
+pub mod Laws
+pub mod Endings
+pub mod Calls
+pub mod CallLaws
+pub mod Common

@@ -1,0 +1,10 @@
+pub mod Causes
+pub mod Headers
+pub mod Stages
+pub mod HeadLines
+pub mod Steps
+pub mod Lines
+pub mod Judging
+pub mod JudgeStates
+pub mod Laws
+pub mod Common

@@ -1,0 +1,12 @@
+pub mod LaneLines
+pub mod LineRuns
+pub mod OrderedValues
+pub mod ListedReads
+pub mod GrownVolumes
+pub mod MainPasses
+pub mod BegunLanes
+pub mod EndedLanes
+pub mod LineSums
+pub mod NextWorlds
+pub mod PhaseValues
+pub mod Common

@@ -1,0 +1,32 @@
+ghost use Rattle.std.specs.Prelude.{All, IfOk};
+ghost use Rattle.vms_group_phase.specs.LaneRuns.{HasRunJob, HaveRunJobs, MayRunJob};
+
+use crate::jobs::{LaneDone, LaneJob, run_job};
+use std::alloc::Global;
+use std::thread;
+use std::thread::Threads;
+use vms_base::Memory;
+use vms_group::GroupTable;
+use vms_lane::Gate;
+
+/// Lets a thread for each job make its lines. Returns once all have, with the results in the order of the jobs.
+pub(crate) fn run_jobs<R: Threads + Sync, G: Gate>(
+    rt: &R,
+    alloc: Global,
+    gate: &G,
+    table: &GroupTable,
+    jobs: Vec<LaneJob>,
+) -> Result<Vec<Result<LaneDone, Memory>>, Memory>
+    requires { All (MayRunJob table.now) jobs.items }
+    ensures { IfOk result (λ results. HaveRunJobs table.now jobs.items results.items) }
+{
+    let results = thread::map_vec(
+        rt,
+        jobs,
+        &|job: LaneJob| -> Result<LaneDone, Memory>
+            requires { MayRunJob table.now job }
+            ensures { IfOk result (HasRunJob table.entry.now job) }
+        { run_job(alloc, gate, table, job) },
+    )?;
+    Ok(results)
+}

@@ -1,0 +1,2 @@
+mod WideSums
+mod MoreGroups

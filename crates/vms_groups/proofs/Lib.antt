@@ -1,0 +1,12 @@
+mod TextWaits
+mod WaitingLines
+mod LaneVolumes
+mod PhaseLines
+mod EndedPhases
+mod LedBodies
+mod LedTexts
+mod GroupAnswers
+mod BodyLines
+mod JobLines
+mod FirstPhases
+mod ReportedTotals

@@ -1,0 +1,41 @@
+-- What each status of `groups` says.
+use Rattle.std.specs.Prelude.{◌≡◌, ℕ, List, ◌++◌, Option}
+use Rattle.vms_stream.specs.Common.{Grows, SaysPhased, TakesAndWrites, WritesTextsOf, lines_taken, waiting}
+use Rattle.vms_stream.specs.declared.statuses.Status.{Status}
+use Rattle.vms_stream.specs.declared.statuses.Status.TheVariants.{Done, Refused, ReadFault}
+use Rattle.vms_text.specs.Common.{lines_of}
+use Rattle.vms_groups.specs.GroupTexts.{groups_texts, shown_by_groups}
+use Rattle.vms_groups.specs.MadePhases.{AreAllPhases, AreFirstPhases, AreFirstTaken}
+use Rattle.vms_groups.specs.PastPhases.{PastGroupPhase}
+
+-- which phases were made: with status 0 and 3 all of the input, with status 4 the first ones of the whole lines that
+-- were taken, and with every other status the first ones of the lines that were taken
+abbrev pub AreMadeWith : Status → List ℕ → Type 0 → List PastGroupPhase → Type 0
+AreMadeWith Done taken at_end made = AreAllPhases (lines_of taken) made
+AreMadeWith Refused taken at_end made = AreAllPhases (lines_of taken) made
+AreMadeWith ReadFault taken at_end made = AreFirstPhases (lines_taken taken) made
+AreMadeWith _ taken at_end made = AreFirstTaken taken at_end made
+
+-- what a status says: what was taken and written, which is the output of `groups` with these phases, which phases these
+-- are, and that the texts of the lines were written in the order of the lines
+pub record SaysGroups (made : List PastGroupPhase) (status : Status) (taken written : List ℕ) (at_end : Type 0)
+    : Type 0 where
+  pub says : SaysPhased (waiting groups_texts) shown_by_groups made status taken written at_end
+  pub phases : AreMadeWith status taken at_end made
+  pub texts : WritesTextsOf groups_texts made status taken written at_end
+
+-- the command took bytes from its source, wrote bytes to its sink, and made phases, by which what its engine keeps grew
+pub record AnswersWith {S K : Type 0} (kept kept' : Option (List PastGroupPhase)) (left : S → Option (List ℕ))
+    (read_faults : S → ℕ) (held : K → Option (List ℕ)) (write_faults : K → ℕ) (src src' : S) (out out' : K)
+    (status : Status) : Type 0 where
+  pub made : List PastGroupPhase
+  pub grows : Grows kept kept' made
+  pub answers : TakesAndWrites left read_faults held write_faults src src' out out' status (SaysGroups made)
+
+-- the same where the phases are appended to those that were made before
+pub record AnswersGroups {S K : Type 0} (old new : List PastGroupPhase) (left : S → Option (List ℕ))
+    (read_faults : S → ℕ) (held : K → Option (List ℕ)) (write_faults : K → ℕ) (src src' : S) (out out' : K)
+    (status : Status) : Type 0 where
+  pub made : List PastGroupPhase
+  pub grows : new ≡ old ++ made
+  pub answers : TakesAndWrites left read_faults held write_faults src src' out out' status (SaysGroups made)

@@ -1,0 +1,12 @@
+pub mod PastPhases
+pub mod GroupLimits
+pub mod GroupTexts
+pub mod GroupTallies
+pub mod GroupWaits
+pub mod GroupEngines
+pub mod GroupRunners
+pub mod GroupStates
+pub mod MadePhases
+pub mod GroupAnswers
+pub mod Laws
+pub mod Common
