@@ -1,0 +1,2 @@
+mod ReplySteps
+mod PairedLists

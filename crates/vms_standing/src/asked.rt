@@ -1,0 +1,64 @@
+use crate::{Answers, Reply};
+use crossbeam_channel::Receiver;
+use std::alloc::Global;
+use std::marker::Model;
+use std::sync::{Arc, Wait};
+
+/// A job with the place for its answer: what a thread is handed.
+#[derive(Drop)]
+pub struct Asked<J, D: Answers<J>> {
+    job: J,
+    reply: Arc<Reply<J, D>, Global>,
+}
+
+impl<J, D: Answers<J>> Model for Asked<J, D> {
+    ghost use Rattle.std.specs.Prelude.{◌≡◌};
+    ghost use Rattle.std.specs.Arc.{arc_value};
+
+    ghost Value = { J };
+
+    ghost view = { λ asked. asked.job };
+
+    ghost invariant = { λ asked. (arc_value asked.reply ≡ asked.job) × D.asks asked.job };
+}
+
+ghost use Rattle.std.specs.Prelude.{◌≡◌};
+ghost use Rattle.std.specs.Arc.{arc_value};
+ghost use Rattle.vms_standing.specs.Works.{Makes};
+
+impl<J: Drop, D: Answers<J> + Drop> Asked<J, D> {
+    /// A job that may be made, with the place for its answer.
+    pub fn of(job: J, reply: Arc<Reply<J, D>, Global>) -> Asked<J, D>
+        requires same { arc_value reply ≡ job }
+        requires may { D.asks job }
+        ensures { result ≡ job }
+    {
+        Asked { job, reply }
+    }
+
+    /// Makes the job, and puts what it gives into its place.
+    pub fn answer<F: Fn(J) -> D>(self, work: &F)
+        requires { Makes D.asks D.answers F.Fn work.now }
+    {
+        let Asked { job, reply } = self;
+        let done = work(job);
+        reply.put(done);
+    }
+}
+
+/// What a thread does: it answers jobs until no more can come.
+pub(crate) fn serve<R: Wait, J: Drop, D: Answers<J> + Drop, F: Fn(J) -> D>(
+    rt: &R,
+    work: &F,
+    jobs: &Receiver<Asked<J, D>>,
+)
+    requires { Makes D.asks D.answers F.Fn work.now }
+{
+    for _ in rt.forever() {
+        let Ok(asked) = jobs.recv(rt) else {
+            return;
+        };
+        asked.answer(work);
+    }
+    unreachable!()
+}
