@@ -1,71 +1,218 @@
 #!/usr/bin/env python3
-"""Looks for what a document names: claims.py DOCUMENT, at the top of the repository.
+"""Looks for what documents name: claims.py DOCUMENT.., at the top of the repository.
 
-A piece of code `CRATE::NAME::FUNCTION`, or without NAME, is a function of that crate; NAME is its type or its trait. In
-parentheses after it stand clauses of that function, each a piece of code: `CRATE::FUNCTION` (`CLAUSE`, `CLAUSE`). In the
-same way `CRATE/specs/FILE.antt` (`WORD`, ..) names definitions and fields. Where crates have headings, each crate of
-crates.txt but those of trials has one.
+Of names there are two forms, each in code spans:
+
+  `CRATE::FUNCTION` or `CRATE::NAME::FUNCTION`, (`CLAUSE`, ..)   a function, of the type or trait NAME, with clauses
+  `CRATE/specs/FILE.antt` (`WORD`, ..)                           a file, with what it defines
+  `WORD`, .. of `HOME`                                           what a file or a crate defines
+
+In the README of a crate, `crates/CRATE/README.md`, the crate's own names stand without `CRATE::` and `CRATE/`, and
+every other span that is one word is looked up too: it is something that the crate defines, a crate or a library, or a
+word that docs/FORMATS.md has in a span or a block. A block ```rust there is an excerpt of the file that the paragraph
+above it names: its lines stand there one after another, where a line `...` stands for any that are left out.
 """
+import functools
 import pathlib
 import re
 import sys
 
-NAMED = re.compile(r"`((?:vms_\w+|vozhkell)(?:::\w+)+|(?:vms_\w+|vozhkell)/[\w/]+\.antt)`(?:\s\(((?:`\w+`(?:,\s)?)+)\))?")
+SPAN = re.compile(r"`([^`]+)`")
+CLAUSES = r"(?:\s+\(((?:`[^`\s]+`(?:,\s+|\s+and\s+)?)+)\))?"
+FUNCTION_NAMED = re.compile(r"`((?:\w+::)+\w+|\w+)`" + CLAUSES)
+FILE_NAMED = re.compile(r"`((?:(?:vms_\w+|vozhkell)/)?(?:src|specs|proofs|must-fail)/[\w/.-]+)`" + CLAUSES)
+OF_HOME = re.compile(r"((?:`[^`\s]+`(?:,\s+|,?\s+and\s+|\s+))+)of\s+`([^`\s]+)`")
+CRATE = re.compile(r"vms_\w+|vozhkell")
 HEAD = re.compile(r"^(?:pub )?(?:impl\b.*?\bfor\s+|impl(?:<.*?>)?\s+|trait\s+|ghost trait\s+)(\w+)")
-FUNCTION = re.compile(r"\bfn (\w+)")
+FUNCTION = re.compile(r"\s*(?:pub(?:\(crate\))? )?(?:const )?fn (\w+)")
 CLAUSE = re.compile(r"\bensures (\w+) \{")
+MADE_IN_CODE = re.compile(r"\b(?:fn|struct|enum|trait|const|static|type|mod|ensures|requires) (\w+)|"
+                          r"^\s+(?:pub(?:\(crate\))? |ghost )*(\w+):|^\s+([A-Z]\w*)\b")
+MADE_IN_SPECS = re.compile(r"^\s*(?:(?:pub|abbrev|record|data|unfoldable|ruleset) )*([^\s:(){}]+)(?:\s.*)?\s:(?:\s|$)")
 
 
+def text_of(path):
+    return path.read_text(encoding="utf-8") if path.is_file() else ""
+
+
+def sources(crate, ending):
+    folder = pathlib.Path("crates", crate)
+    return [path for part in ("src", "specs", "proofs") for path in sorted((folder / part).rglob(f"*.{ending}"))]
+
+
+@functools.cache
+def libraries():
+    """The crates of crates.txt, and the libraries that they use."""
+    lines = [line for line in text_of(pathlib.Path("crates.txt")).splitlines() if not line.startswith("#")]
+    return set(re.findall(r"\w+", " ".join(lines)))
+
+
+@functools.cache
 def functions_of(crate):
     """For each function of a crate, by its owner (or "") and its name, the names of its clauses."""
     found = {}
-    for file in sorted(pathlib.Path("crates", crate, "src").rglob("*.rt")):
+    for file in sources(crate, "rt"):
         owner, current = "", None
-        for line in file.read_text(encoding="utf-8").splitlines():
+        for line in text_of(file).splitlines():
             head = HEAD.match(line)
             if head:
                 owner, current = head.group(1), None
             elif line.startswith("}"):
                 owner, current = "", None
-            function = FUNCTION.search(line.split("//")[0])
-            if function and re.match(r"\s*(pub(\(crate\))? )?(const )?fn ", line):
+            function = FUNCTION.match(line.split("//")[0])
+            if function:
                 current = found.setdefault((owner, function.group(1)), set())
-            for clause in CLAUSE.findall(line):
-                if current is not None:
-                    current.add(clause)
+            if current is not None:
+                current.update(CLAUSE.findall(line))
     return found
 
 
-def main(name):
-    with open(name, encoding="utf-8") as file:
-        document = file.read()
-    functions, wrong, tried = {}, [], 0
-    heads = " ".join(line for line in document.splitlines() if line.startswith("## "))
-    for line in re.findall(r"^[^#\n].*", pathlib.Path("crates.txt").read_text(encoding="utf-8"), re.M):
-        crate = line.split(":")[0]
-        if "`vms_" in heads and not crate.endswith("_trials") and f"`{crate}`" not in heads:
-            wrong.append(f"{crate}: no heading")
-    for named, words in NAMED.findall(document):
-        tried += 1
-        clauses = re.findall(r"`(\w+)`", words)
-        if named.endswith(".antt"):
-            file = pathlib.Path("crates", named)
-            text = file.read_text(encoding="utf-8") if file.is_file() else ""
-            if not text:
-                wrong.append(f"{named}: no such file")
-            wrong += [f"{named}: defines no {word}" for word in clauses
-                      if not re.search(r"^(abbrev |record |data )?pub (record |data )?%s\b|^  pub %s :" % (word, word), text, re.M)]
-            continue
-        crate, *path = named.split("::")
-        found = functions.setdefault(crate, functions_of(crate))
-        labels = found.get((path[-2] if len(path) > 1 else "", path[-1]))
-        if labels is None:
-            wrong.append(f"{named}: no such function")
-            continue
-        wrong += [f"{named}: no clause {word}" for word in clauses if word not in labels]
-    print("\n".join(wrong + [f"{tried} names, {len(wrong)} wrong"]))
+def made_in(path):
+    """The names of what a file defines."""
+    pattern = MADE_IN_CODE if path.suffix == ".rt" else MADE_IN_SPECS
+    found = [pattern.search(line) for line in text_of(path).splitlines()]
+    names = {name for one in found if one for name in one.groups() if name}
+    if path.suffix == ".rt":
+        names.update(name for pair in re.findall(r"(?<=[ (<&])(\w+): |\b(\w+) ?=> ", text_of(path)) for name in pair)
+    return names
+
+
+@functools.cache
+def made_by(crate):
+    """The names of what a crate defines: its types, their variants and fields, functions, clauses and definitions."""
+    return set().union(*(made_in(path) for ending in ("rt", "antt") for path in sources(crate, ending)))
+
+
+@functools.cache
+def format_words():
+    """The words of traces, commands and outputs, as docs/FORMATS.md has them."""
+    text = text_of(pathlib.Path("docs/FORMATS.md"))
+    code = re.findall(r"^```[^\n]*\n(.*?)^```$", text, re.M | re.S) + SPAN.findall(text)
+    return set(re.findall(r"[\w-]+", " ".join(code)))
+
+
+def words_in(spans):
+    return SPAN.findall(spans or "")
+
+
+class Reader:
+    """The names of one document, and what is wrong with them."""
+
+    def __init__(self, name):
+        self.name = pathlib.Path(name)
+        self.text = text_of(self.name)
+        own = re.fullmatch(r"crates/(\w+)/README\.md", self.name.as_posix())
+        self.own = own.group(1) if own else None
+        self.tried, self.wrong = 0, []
+        self.prose = re.sub(r"^```.*?^```$", "", self.text, flags=re.M | re.S)
+
+    def say(self, what):
+        self.wrong.append(f"{self.name}: {what}")
+
+    def path(self, named):
+        """The file that a span names, where it has the form of a file of a crate or of the repository."""
+        if re.match(r"(vms_\w+|vozhkell)/", named):
+            return pathlib.Path("crates", named)
+        if self.own and re.match(r"(src|specs|proofs|must-fail)/", named):
+            return pathlib.Path("crates", self.own, named)
+        if re.match(r"(\.ci|bench|crates|docs|examples|tools)/", named):
+            return pathlib.Path(named)
+        return None
+
+    def functions(self):
+        for named, clauses in FUNCTION_NAMED.findall(OF_HOME.sub("", self.prose)):
+            parts = named.split("::")
+            crate = parts.pop(0) if CRATE.fullmatch(parts[0]) and len(parts) > 1 else self.own
+            if crate is None or named == parts[-1] and not clauses:
+                continue
+            self.tried += 1
+            labels = functions_of(crate).get((parts[-2] if len(parts) > 1 else "", parts[-1]))
+            if labels is None:
+                if clauses or not parts[-1][0].isupper() or not set(parts) <= made_by(crate):
+                    self.say(f"{named}: no such function")
+                continue
+            for clause in words_in(clauses):
+                if clause not in labels:
+                    self.say(f"{named}: no clause {clause}")
+
+    def files(self):
+        for named, words in FILE_NAMED.findall(self.prose):
+            path = self.path(named)
+            if path is None:
+                continue
+            self.tried += 1
+            if not path.exists():
+                self.say(f"{named}: no such file")
+                continue
+            for word in words_in(words):
+                if word not in made_in(path):
+                    self.say(f"{named}: defines no {word}")
+
+    def of_homes(self):
+        for words, home in OF_HOME.findall(self.prose):
+            path = self.path(home)
+            if path is not None and path.is_file() and path.suffix in (".rt", ".antt"):
+                made = made_in(path)
+            elif path is not None and path.exists():
+                made = set(re.findall(r"\w+", text_of(path)))
+            elif CRATE.fullmatch(home):
+                made = made_by(home) if home in libraries() else set()
+            elif re.fullmatch(r"\w+\.antt", home):
+                made = set().union(*map(made_in, pathlib.Path("crates").glob(f"*/specs/**/{home}")))
+            elif path is not None:
+                self.say(f"{home}: no such file")
+                continue
+            else:
+                continue
+            for word in words_in(words):
+                self.tried += 1
+                if not set(re.split(r"::|\.", word)) <= made and word not in libraries():
+                    self.say(f"{home}: defines no {word}")
+
+    def single_words(self):
+        """What a crate's README names by a word alone."""
+        text = OF_HOME.sub("", self.prose)
+        text = FILE_NAMED.sub("", text)
+        text = re.sub(r"`(?:vms_\w+|vozhkell)(?:::\w+)+`" + CLAUSES, "", text)
+        for span in SPAN.findall(text):
+            if re.fullmatch(r"[A-Za-z_]\w*", span):
+                self.tried += 1
+                if span not in made_by(self.own) | libraries() | format_words():
+                    self.say(f"{span}: the crate defines no such name")
+
+    def excerpts(self):
+        for above, block in re.findall(r"([^\n]*)\n\n```rust\n(.*?)^```$", self.text, re.M | re.S):
+            self.tried += 1
+            file = (SPAN.findall(above) or [""])[-1]
+            lines = [line.strip() for line in text_of(pathlib.Path(file)).splitlines()]
+            pieces = re.split(r"^ *\.\.\.\n", block, flags=re.M)
+            at = 0
+            for piece in [[line.strip() for line in piece.splitlines()] for piece in pieces if piece]:
+                found = next((n for n in range(at, len(lines)) if lines[n:n + len(piece)] == piece), None)
+                if found is None:
+                    self.say(f"an example isn't an excerpt of {file or 'a file that stands above it'}: {piece[0]}")
+                    break
+                at = found + len(piece)
+
+    def read(self):
+        if not self.text:
+            self.say("no such document")
+        self.functions()
+        self.files()
+        self.of_homes()
+        if self.own:
+            self.single_words()
+            self.excerpts()
+        return self
+
+
+def main(names):
+    read = [Reader(name).read() for name in names]
+    wrong = [line for one in read for line in one.wrong]
+    tried = sum(one.tried for one in read)
+    print("\n".join([*wrong, f"{tried} names, {len(wrong)} wrong"]))
     return 1 if wrong or not tried else 0
 
 
 if __name__ == "__main__":
-    sys.exit(main(sys.argv[1]))
+    sys.exit(main(sys.argv[1:]))

@@ -1,13 +1,15 @@
 #!/usr/bin/env python3
-"""Gives the examples of documents to the program, and compares its answers: examples.py FORMATS OTHER.. -- PROGRAM WORD..
+"""Gives the examples of documents to the program, and compares its answers:
+
+    examples.py FORMATS OTHER.. -- PROGRAM WORD..
 
 Of each document: a block ``` WORD STATUS ``` is what the program writes, with that status, when it is called with that
-word and reads the last block ``` trace ```; a block ``` sh ``` is a command for bash, which ends with status 0 where the
-block after it isn't ``` output STATUS ```, what the command writes to standard output. A line `...` stands for any lines.
+word and reads the last block ``` trace ```. A line `...` stands for any lines.
 
-Of the first document also: a row of the table of headers has the lines of an input and `line N: CAUSE` or `accepted`; a
-row of the table of body lines has a line, to be read after the block ``` header ``` and the lines above it, and `CAUSE`,
-`counts` or `ignored`.
+Of the first document also: an item of a list of headers has the lines of an input, and then "gives" with
+`line N: CAUSE`, or "is accepted"; a row of a table of body lines has a line, to be read after the block ``` header ```
+and the lines above it, and `CAUSE`, `counts` or `ignored`. Traces have such a list and a table, and so have traces of
+groups (``` header of groups ```).
 """
 import re
 import subprocess
@@ -64,31 +66,24 @@ def check_blocks(program, name, document):
         words = info.split()
         if words == ["trace"]:
             trace = text
-        elif len(words) == 2 and words[0] in ("check", "replay", "run"):
+        elif len(words) == 2 and words[0] in ("check", "replay", "run", "groups"):
             status, found = run(program, words[0], trace)
             yield name + ": " + info, (status, shortened(found, text)), (int(words[1]), text)
 
 
-def check_commands(name, document):
-    found = blocks(document) + [("", "")]
-    for (info, command), (after, wanted) in zip(found, found[1:]):
-        if info != "sh":
-            continue
-        done = subprocess.run(["bash", "-c", command], capture_output=True, timeout=600)
-        text = done.stdout.decode(errors="replace")
-        words = after.split()
-        if words[:1] == ["output"]:
-            yield f"{name}: {command}", (done.returncode, shortened(text, wanted)), (int(words[1]), wanted)
-        else:
-            yield f"{name}: {command}", done.returncode, 0
+def headers(document, kind):
+    """The items of a list of headers: the lines as they are named, and the answer."""
+    listed = re.split(r"\n##+ ", document.partition(f'before "gives" is a line of {kind}')[2])[0]
+    for item in re.findall(r"^- (.*(?:\n  .*)*)", listed, re.M):
+        named, gives, answer = re.match(r"(.*?)( gives | is )(`[^`]*`|accepted)", " ".join(item.split())).groups()
+        yield named, answer.strip("`")
 
 
-def check_headers(program, name, document):
-    for row in rows(document, "lines"):
-        lines, wanted = lines_of(row[0]), row[1].strip().strip("`")
-        status, text = run(program, "check", "".join(line + "\n" for line in lines))
+def check_headers(program, name, document, word, kind):
+    for named, wanted in headers(document, kind):
+        status, text = run(program, word, "".join(line + "\n" for line in lines_of(named)))
         found = text.rstrip("\n") if status == 2 else "accepted" if status == 0 else f"status {status}"
-        yield name + ": " + row[0].strip(), found, wanted
+        yield name + ": " + named, found, wanted
 
 
 def check_lines(program, name, document):
@@ -113,6 +108,25 @@ def check_lines(program, name, document):
     yield name + ": the lines in all", (status, len(found)), (3, len(wanted))
 
 
+def check_group_lines(program, name, document):
+    """The same of lines of groups; `groups` tells which are refused, and how many count."""
+    header = next(text for info, text in blocks(document) if info == "header of groups")
+    above = header.count("\n")
+    lines, wanted, counted = [], [], 0
+    for row in rows(document, "line of groups"):
+        (line,), answer = lines_of(row[0]), row[1].strip().strip("`")
+        lines.append(line)
+        counted += answer == "counts"
+        if answer not in ("counts", "ignored"):
+            wanted.append(f"line {above + len(lines)}: refused: {answer}")
+    status, text = run(program, "groups", header + "".join(line + "\n" for line in lines))
+    *printed, last = text.splitlines()
+    found = [line for line in printed if ": refused: " in line]
+    for line in sorted({*wanted, *found}):
+        yield name + ": " + line, line in found, line in wanted
+    yield name + ": the lines in all", (status, last), (3, f"done accepted {counted} refused {len(wanted)}")
+
+
 def main(words):
     split = words.index("--")
     names, program = words[:split], words[split + 1 :]
@@ -122,9 +136,12 @@ def main(words):
     for name in names:
         with open(name, encoding="utf-8") as file:
             document = file.read()
-        checks = [check_blocks(program, name, document), check_commands(name, document)]
+        checks = [check_blocks(program, name, document)]
         if name == names[0]:
-            checks += [check_headers(program, name, document), check_lines(program, name, document)]
+            checks += [check_headers(program, name, document, "check", "the input"),
+                       check_lines(program, name, document),
+                       check_headers(program, name, document, "groups", "a trace of groups"),
+                       check_group_lines(program, name, document)]
         for check in checks:
             for what, found, wanted in check:
                 tried += 1

@@ -4,8 +4,9 @@
     bench/agree.py TRACE OUTPUT OUTPUT..
 
 These are the refused lines, which lines answer and which print a report, the totals of reports, and the last line. A
-percpu counter's total counts without the limited additions that the output answers yes. The status is 1 if an output
-differs from the first, and 2 for other words.
+percpu counter's total counts without the limited additions that the output answers yes. A group's total is compared as
+it is printed, and as its value and what is pending in sum. The status is 1 if an output differs from the first, and 2
+for other words.
 """
 import sys
 from itertools import zip_longest
@@ -26,6 +27,9 @@ def fixed(trace, path):
                     added[name] = added.get(name, 0) + int(amount)
             elif report == "totals" and words[0] == "counter":
                 yield f"counter {words[1]} {int(words[2]) - added.get(words[1], 0)} without limited additions\n"
+            elif report == "groups" and len(words) == 7:
+                name, _, value, _, pending, _, total = words
+                yield f"{name} total {total}, by value and pending {int(value) + int(pending)}\n"
             elif report == "totals" or words[0] == "done":
                 yield text
 

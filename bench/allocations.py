@@ -3,12 +3,13 @@
 
     bench/allocations.py [TRACE..]
 
-The program is crates/vozhkell/out/vozhkell, or the one that VOZHKELL names, called with the word `replay`. The traces
-are the stored run of the program and two phases of 2,000 lines, where none is given. A small library that is loaded
-before libc (cc builds it) makes the Nth call of malloc or realloc find no memory, for each N that a run reaches. Such a
-run ends with status 6, and what it wrote begins what the program writes where nothing is refused; or the same size is
-asked for again and found, and it ends as where nothing is refused. A line is printed for each trace, and the status is 1 if a run ends
-otherwise.
+The program is crates/vozhkell/out/vozhkell, or the one that VOZHKELL names, called with the words `replay`, `check`,
+`run`, `gen` and `groups`. The traces are the stored run of the program and two phases of 2,000 lines, where none is
+given, and under `run` and `groups` rows of bench/rows in which each phase has one lane, so that one output is right. A
+small library that is loaded before libc (cc builds it) makes the Nth call of malloc or realloc find no memory, for each
+N that a run reaches. Such a run ends with status 6, and what it wrote begins what the program writes where nothing is
+refused; or the same size is asked for again and found, and it ends as where nothing is refused. A line is printed for
+each trace, and the status is 1 if a run ends otherwise.
 """
 import os
 import subprocess
@@ -38,7 +39,7 @@ __attribute__((destructor)) static void end(void) { dprintf(2, "%ld\\n", calls);
 
 static int finds_none(void)
 {
-    if (++calls != refused)
+    if (__atomic_add_fetch(&calls, 1, __ATOMIC_SEQ_CST) != refused)
         return 0;
     errno = ENOMEM;
     return 1;
@@ -57,10 +58,10 @@ def library(folder):
     return built
 
 
-def run(program, preload, text, refused):
+def run(words, preload, text, refused):
     """The status, the output, and how many allocations were asked for."""
     environment = {**os.environ, "LD_PRELOAD": preload, "REFUSED": str(refused)}
-    done = subprocess.run([program, "replay"], input=text, capture_output=True, env=environment, timeout=60)
+    done = subprocess.run(words, input=text, capture_output=True, env=environment, timeout=60)
     return done.returncode, done.stdout, int(done.stderr.split()[-1])
 
 
@@ -72,17 +73,31 @@ def long_phases():
     return "".join(line + "\n" for line in lines).encode()
 
 
-def stored_run():
-    with open(os.path.join(TOP, "crates", "vozhkell", "stdin"), "rb") as file:
+def contents(*path):
+    with open(os.path.join(*path), "rb") as file:
         return file.read()
 
 
-def wrong_runs(program, preload, name, text):
+def calls_of(program, traces):
+    """The name, the words and the input of each call, and what it should write where that is written."""
+    traces = traces or {"stored run": contents(TOP, "crates", "vozhkell", "stdin"), "long phases": long_phases()}
+    for command in ("replay", "check"):
+        for name, text in traces.items():
+            yield f"{command} of {name}", [program, command], text, None
+    in_turn = [contents(TOP, "bench", "rows", f"whole_run_in_turn.{ending}") for ending in ("vmtrace", "out")]
+    yield "run of whole_run_in_turn", [program, "run"], *in_turn
+    for name in ("groups_flush_of_a_part", "groups_refused_lines_wait", "groups_unknown_parent"):
+        row = [contents(TOP, "bench", "rows", f"{name}.{ending}") for ending in ("vmgroups", "out")]
+        yield f"groups of {name}", [program, "groups"], *row
+    yield "gen 1 4 50", [program, "gen", "1", "4", "50"], b"", None
+
+
+def wrong_runs(name, words, text, wanted, preload):
     """How many runs end otherwise than they should."""
-    status, out, calls = run(program, preload, text, 0)
-    ended = wrong = 0
+    status, out, calls = run(words, preload, text, 0)
+    ended, wrong = 0, int(wanted not in (None, out))
     for refused in range(1, calls + 1):
-        found, written, _ = run(program, preload, text, refused)
+        found, written, _ = run(words, preload, text, refused)
         if found == MEMORY and out.startswith(written):
             ended += 1
         elif (found, written) != (status, out):
@@ -97,15 +112,10 @@ def main():
         print(__doc__.strip())
         return 0
     program = os.environ.get("VOZHKELL", os.path.join(TOP, "crates", "vozhkell", "out", "vozhkell"))
-    traces = {"stored run": stored_run(), "long phases": long_phases()}
-    if sys.argv[1:]:
-        traces = {}
-        for name in sys.argv[1:]:
-            with open(name, "rb") as file:
-                traces[name] = file.read()
+    traces = {name: contents(name) for name in sys.argv[1:]}
     with tempfile.TemporaryDirectory() as folder:
         preload = library(folder)
-        wrong = [wrong_runs(program, preload, name, text) for name, text in traces.items()]
+        wrong = [wrong_runs(*call, preload) for call in calls_of(program, traces)]
     return 1 if sum(wrong) else 0
 
 

@@ -33,6 +33,32 @@ impl From<io::Error> for Failure {
     }
 }
 
+/// What a line of a body counts as.
+#[derive(Clone, Copy, PartialEq)]
+pub enum Kind {
+    Blank,
+    Lane,
+    Report,
+    /// A boundary line that is no report.
+    Boundary,
+}
+
+/// A line of a body, of any grammar.
+pub trait BodyLine: Copy {
+    fn kind(self) -> Kind;
+}
+
+impl BodyLine for Line {
+    fn kind(self) -> Kind {
+        match self {
+            Line::Blank => Kind::Blank,
+            Line::Lane(..) => Kind::Lane,
+            Line::Report(_) => Kind::Report,
+            _ => Kind::Boundary,
+        }
+    }
+}
+
 /// What the lines of a body came to, in numbers.
 #[derive(Default)]
 pub struct Tally {
@@ -44,10 +70,10 @@ pub struct Tally {
 }
 
 impl Tally {
-    fn add(&mut self, line: Line) -> Result<(), Failure> {
-        let in_phase = matches!(line, Line::Lane(..));
+    fn add(&mut self, kind: Kind) -> Result<(), Failure> {
+        let in_phase = kind == Kind::Lane;
         self.phases += u64::from(in_phase && !self.in_phase);
-        self.reports += u64::from(matches!(line, Line::Report(_)));
+        self.reports += u64::from(kind == Kind::Report);
         if self.phases > MOST_PHASES || self.reports > MOST_REPORTS {
             return Err(Failure::TooLong);
         }
@@ -73,6 +99,17 @@ pub enum State {
     Absent,
 }
 
+/// Adds the size of a change to what a CPU has changed something by.
+pub fn spend(volume: &mut u64, size: u64) -> Result<(), Cause> {
+    match volume.checked_add(size) {
+        Some(sum) if sum <= MOST_VOLUME => {
+            *volume = sum;
+            Ok(())
+        }
+        _ => Err(Cause::Overflow),
+    }
+}
+
 /// Which lines count, by the lines above.
 struct Judge {
     states: Vec<State>,
@@ -91,16 +128,6 @@ impl Judge {
         }
     }
 
-    fn spend(volume: &mut u64, size: u64) -> Result<(), Cause> {
-        match volume.checked_add(size) {
-            Some(sum) if sum <= MOST_VOLUME => {
-                *volume = sum;
-                Ok(())
-            }
-            _ => Err(Cause::Overflow),
-        }
-    }
-
     fn judge(&mut self, line: Line) -> Result<(), Cause> {
         match line {
             Line::Lane(Lane::Cpu(cpu), act) => {
@@ -110,14 +137,12 @@ impl Judge {
                 let width = self.counters.len() / self.states.len();
                 match act {
                     Act::Mod(counter, pages) => {
-                        Judge::spend(&mut self.counters[cpu * width + counter], pages.unsigned_abs())
+                        spend(&mut self.counters[cpu * width + counter], pages.unsigned_abs())
                     }
-                    Act::Inc(counter) | Act::Dec(counter) => {
-                        Judge::spend(&mut self.counters[cpu * width + counter], 1)
-                    }
-                    Act::Ev(event, n) => Judge::spend(&mut self.events[cpu * EVENTS.len() + event], n),
+                    Act::Inc(counter) | Act::Dec(counter) => spend(&mut self.counters[cpu * width + counter], 1),
+                    Act::Ev(event, n) => spend(&mut self.events[cpu * EVENTS.len() + event], n),
                     Act::Cnt(counter, n) | Act::Lim(counter, _, n) => {
-                        Judge::spend(&mut self.pcpu[cpu * 16 + counter], n.unsigned_abs())
+                        spend(&mut self.pcpu[cpu * 16 + counter], n.unsigned_abs())
                     }
                     _ => Ok(()),
                 }
@@ -187,18 +212,24 @@ impl Input {
     /// Reads the header up to its `go` line.
     pub fn header(&mut self) -> Result<Header, Failure> {
         let (mut header, mut part) = (Header::empty(), 0);
+        self.head(|line| match line {
+            Some(line) => head_line(&mut header, &mut part, line),
+            None if part == 0 => Err(Cause::BadMagic),
+            None => Err(Cause::MissingGo),
+        })?;
+        Ok(header)
+    }
+
+    /// Hands lines to a reader, up to the one of which it says that it is a header's last. Of the end of the input it
+    /// says why that comes too early.
+    pub fn head(&mut self, mut read: impl FnMut(Option<&[u8]>) -> Result<bool, Cause>) -> Result<(), Failure> {
         loop {
-            let found = match self.next()? {
-                None => {
-                    let cause = if part == 0 { Cause::BadMagic } else { Cause::MissingGo };
-                    return Err(Failure::Header(self.number + 1, cause));
-                }
-                Some(line) => head_line(&mut header, &mut part, line),
-            };
-            match found {
-                Ok(true) => return Ok(header),
-                Ok(false) => {}
-                Err(cause) => return Err(Failure::Header(self.number, cause)),
+            let line = self.next()?;
+            let is_end = line.is_none();
+            let found = read(line);
+            let number = self.number + u64::from(is_end);
+            if found.map_err(|cause| Failure::Header(number, cause))? {
+                return Ok(());
             }
         }
     }
@@ -209,15 +240,25 @@ impl Input {
         &mut self,
         header: &Header,
         out: &mut Output,
-        mut take: impl FnMut(&mut Output, u64, Result<Line, Cause>) -> io::Result<()>,
+        take: impl FnMut(&mut Output, u64, Result<Line, Cause>) -> io::Result<()>,
     ) -> Result<Tally, Failure> {
         let mut judge = Judge::new(header);
+        self.lines(out, |text| header.line(text).and_then(|line| judge.judge(line).map(|()| line)), take)
+    }
+
+    /// The same of a body of any grammar.
+    pub fn lines<L: BodyLine>(
+        &mut self,
+        out: &mut Output,
+        mut judge: impl FnMut(&[u8]) -> Result<L, Cause>,
+        mut take: impl FnMut(&mut Output, u64, Result<L, Cause>) -> io::Result<()>,
+    ) -> Result<Tally, Failure> {
         let mut tally = Tally::default();
         while let Some(text) = self.next()? {
-            let judged = header.line(text).and_then(|line| judge.judge(line).map(|()| line));
-            match judged {
-                Ok(Line::Blank) => continue,
-                Ok(line) => tally.add(line)?,
+            let judged = judge(text);
+            match judged.map(L::kind) {
+                Ok(Kind::Blank) => continue,
+                Ok(kind) => tally.add(kind)?,
                 Err(_) => tally.refused += 1,
             }
             take(out, self.number, judged)?;
@@ -268,6 +309,20 @@ impl Text {
             self.text(b"-");
         }
         self.number(n.unsigned_abs());
+    }
+
+    /// Begins what the line of that number prints.
+    pub fn label(&mut self, number: u64, what: &[u8]) {
+        self.text(b"line ");
+        self.number(number);
+        self.text(b": ");
+        self.text(what);
+    }
+
+    pub fn refuse(&mut self, number: u64, cause: Cause) {
+        self.label(number, b"refused: ");
+        self.text(cause.name().as_bytes());
+        self.text(b"\n");
     }
 }
 
@@ -325,7 +380,7 @@ fn answer(
     out: &mut Output,
 ) -> io::Result<u8> {
     if std::env::args_os().skip(1).ne([word]) {
-        writeln!(out.held, "usage: check | replay | run | gen SEED CPUS LINES")?;
+        writeln!(out.held, "usage: check | replay | run | gen SEED CPUS LINES | groups")?;
         return Ok(1);
     }
     Ok(match command(&mut Input::make(), out) {

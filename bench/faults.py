@@ -3,13 +3,15 @@
 
     bench/faults.py [CASE..]
 
-The program is bench/replay.rs, or the one that VOZHKELL names, called with the word `replay`. The traces are two of
-bench/rows and the beginning of one by bench/phases.py. CASES are the names of functions below, and all where none is
+The programs are bench/replay.rs, bench/run.rs, bench/check.rs and bench/groups.rs, or for these and for `gen` the one
+that VOZHKELL names, called with the word of the command. The traces are some of bench/rows, with what is written there
+of their outputs, and the beginnings of one by bench/phases.py and of one by bench/groups.py, of which the plain
+programs say what is to be written. Under `run` no phase has lines of two lanes, so that one output is right, and under
+`groups` what two lanes answer is the same in every order. CASES are the names of functions below, and all where none is
 given. A line is printed for each case, and the status is 1 if one fails.
 
 The program needs no build of its own for this: short and failing reads come from sockets, failing writes from full
-devices, closed pipes and limits of file sizes, want of memory from limits of the address space. What should be written
-is a beginning of what the program writes where nothing fails. That output itself is the subject of bench/rows.sh.
+devices, closed pipes and limits of file sizes, want of memory from limits of the address space.
 """
 import fcntl
 import os
@@ -21,8 +23,16 @@ import sys
 import tempfile
 import threading
 
+from large_rows import EVENTS, NODE, ZONE
+
 TOP = os.path.dirname(os.path.dirname(os.path.abspath(__file__)))
-WORDS, HEADER, READ, WRITE, MEMORY = 1, 2, 4, 5, 6
+DONE, WORDS, HEADER, REFUSED, READ, WRITE, MEMORY = range(7)
+PANIC = 101
+# What `gen 1 1 1` prints: its one line adds 19 pages to an item.
+SMALLEST_MADE = b"line 8: report totals\n" + b"".join(b"%s %d\n" % (counter.encode(), {
+    "0 Normal nr_free_pages": 1_000_000, "0 Normal nr_zone_unevictable": 19}.get(counter, 0)) for counter in [
+        *(f"0 Normal {item}" for item in ZONE), *(f"0 node {item}" for item in NODE),
+        *(f"event {event}" for event in EVENTS), "counter files"]) + b"done accepted 2 refused 0\n"
 BOUNDARIES = {b"sync", b"flush", b"offline", b"online", b"report"}
 
 
@@ -42,13 +52,29 @@ def built(name, folder):
     return program
 
 
+def made_by(script, *words):
+    """The trace that a script of bench writes."""
+    return subprocess.run([sys.executable, "-B", os.path.join(TOP, "bench", script), *words], capture_output=True,
+                          check=True).stdout
+
+
 def run(words, text, prepare=None):
     """The status and the output of a program that reads this text from a pipe."""
     done = subprocess.run(words, input=text, capture_output=True, preexec_fn=prepare, timeout=60)
     return done.returncode, done.stdout
 
 
-def from_socket(program, packets, fails=False):
+class Call:
+    """A command and its input, with the status and the bytes that answer where nothing fails."""
+
+    def __init__(self, words, text, status, out):
+        self.words, self.text, self.answer = words, text, (status, out)
+
+    def __str__(self):
+        return " ".join(self.words[1:])
+
+
+def from_socket(words, packets, fails=False):
     """Status and output where the input comes by a socket, each packet in a read of its own. A last read may fail."""
     kind = socket.SOCK_STREAM if fails else socket.SOCK_SEQPACKET
     ours, theirs = socket.socketpair(socket.AF_UNIX, kind)
@@ -57,7 +83,7 @@ def from_socket(program, packets, fails=False):
         theirs.send(b"x")
     with tempfile.TemporaryFile() as file:
         with theirs:
-            process = subprocess.Popen([program, "replay"], stdin=theirs, stdout=file)
+            process = subprocess.Popen(words, stdin=theirs, stdout=file)
         with ours:
             try:
                 for packet in packets:
@@ -69,14 +95,14 @@ def from_socket(program, packets, fails=False):
         return process.returncode, file.read()
 
 
-def into_file(program, text, size):
+def into_file(words, text, size):
     """Status and output where the output is a file that takes no more than so many bytes."""
     def prepare():
         signal.signal(signal.SIGXFSZ, signal.SIG_IGN)
         resource.setrlimit(resource.RLIMIT_FSIZE, (size, size))
 
     with tempfile.TemporaryFile() as file:
-        done = subprocess.run([program, "replay"], input=text, stdout=file, preexec_fn=prepare, timeout=60)
+        done = subprocess.run(words, input=text, stdout=file, preexec_fn=prepare, timeout=60)
         file.seek(0)
         return done.returncode, file.read()
 
@@ -111,59 +137,84 @@ def taken(text, out, lines):
 
 
 class Trials:
-    def __init__(self, program, check):
-        self.program, self.check = program, check
-        self.two_lanes = self.row("two_lanes")
-        self.burial = self.row("burial_moves_once")
-        phases = [sys.executable, "-B", os.path.join(TOP, "bench", "phases.py"), "1", "20000"]
-        self.long = subprocess.run(phases, capture_output=True, check=True).stdout
+    def __init__(self, programs, plain):
+        """Programs by command, and the plain ones, which say what is to be written of the long trace."""
+        self.programs = programs
+        self.long = made_by("phases.py", "1", "20000")
+        self.two_lanes = self.row("replay", "two_lanes")
+        self.burial = self.row("replay", "burial_moves_once")
+        self.in_turn = self.row("run", "whole_run_in_turn")
+        # Each line of this trace counts, and has the one spelling.
+        text = self.two_lanes.text
+        self.spelled = self.call("check", text, DONE, text + b"# done accepted 31 refused 0\n")
+        longs = [("replay", self.long), ("check", self.long)]
+        self.readers = [self.two_lanes, self.burial, self.in_turn, self.spelled]
+        self.of_groups = [self.row("groups", "groups_" + name) for name in ("flush_of_a_part", "refused_lines_wait")]
+        # One CPU, in phases of a hundred lines.
+        longs.append(("groups", made_by("groups.py", "1", "20000", "1", "64", "100")))
+        self.readers += self.of_groups
+        self.longs = [self.call(command, text, *run([plain[command], command], text)) for command, text in longs]
+        self.made = [self.call("gen 1 1 1", b"", DONE, SMALLEST_MADE)] if "gen" in programs else []
 
-    def row(self, name):
-        with open(os.path.join(TOP, "bench", "rows", name + ".vmtrace"), "rb") as file:
-            return file.read()
+    def call(self, words, text, status, out):
+        words = words.split()
+        return Call([self.programs[words[0]], *words], text, status, out)
 
-    def texts(self):
-        return [self.two_lanes, self.burial, self.long]
+    def row(self, command, name):
+        """A trace of bench/rows with what is written there of its answer."""
+        rows = os.path.join(TOP, "bench", "rows")
+        with open(os.path.join(rows, "statuses")) as statuses:
+            status = int(dict(line.split() for line in statuses)[name])
+        with open(os.path.join(rows, name + (".vmgroups" if command == "groups" else ".vmtrace")), "rb") as trace, \
+                open(os.path.join(rows, name + ".out"), "rb") as out:
+            return self.call(command, trace.read(), status, out.read())
 
-    def whole(self, text):
-        return run([self.program, "replay"], text)
+    def all_words(self):
+        """The words of each command that reads a trace of page counters."""
+        return [[self.programs[command], command] for command in ("check", "replay", "run")]
 
     # Reading.
 
     def short_reads(self):
-        for text in self.texts():
+        for call in self.readers + self.longs:
             for size in (1, 64, 4096):
-                if size == 1 and text is self.long:
+                if size == 1 and call in self.longs:
                     continue
-                packets = [text[at:at + size] for at in range(0, len(text), size)]
-                expect(f"pieces of {size}", from_socket(self.program, packets), self.whole(text))
+                packets = [call.text[at:at + size] for at in range(0, len(call.text), size)]
+                expect(f"{call} of pieces of {size}", from_socket(call.words, packets), call.answer)
 
     def slow_pipe(self):
         """The pieces come through a pipe, which may join them."""
-        for text in self.texts()[:2]:
-            process = subprocess.Popen([self.program, "replay"], stdin=subprocess.PIPE, stdout=subprocess.PIPE)
-            for at in range(0, len(text), 64):
-                process.stdin.write(text[at:at + 64])
+        for call in self.readers:
+            process = subprocess.Popen(call.words, stdin=subprocess.PIPE, stdout=subprocess.PIPE)
+            for at in range(0, len(call.text), 64):
+                process.stdin.write(call.text[at:at + 64])
                 process.stdin.flush()
             out = process.communicate(timeout=60)[0]
-            expect("a pipe", (process.returncode, out), self.whole(text))
+            expect(f"{call} of a pipe", (process.returncode, out), call.answer)
 
     def failing_reads(self):
-        """The read after each byte fails. Until the header was read, nothing is written."""
-        for text in self.texts():
-            status, out = self.whole(text)
+        """The read after some bytes, of one trace after each, fails. Until the header was read, nothing is written."""
+        for call in [*self.readers, self.longs[0], self.longs[2]]:
+            text, (_, out) = call.text, call.answer
             header = text[:text.index(b"\ngo\n") + 4].count(b"\n")
-            step = 1 if text is not self.long else 9973
+            step = 9973 if call in self.longs else 1 if call is self.burial or call in self.of_groups else 7
             for size in range(0, len(text) + 1, step):
                 lines = text[:size].count(b"\n")
-                said = taken(text, out, lines) if lines >= header else b""
-                found = from_socket(self.program, [text[:size]] if size else [], fails=True)
-                expect(f"a failed read after {size} bytes", found, (READ, said))
+                if lines < header:
+                    said = b""
+                elif call is self.spelled:
+                    said = text[:text.rindex(b"\n", 0, size) + 1]
+                else:
+                    said = taken(text, out, lines)
+                found = from_socket(call.words, [text[:size]] if size else [], fails=True)
+                expect(f"{call} and a failed read after {size} bytes", found, (READ, said))
 
     def failed_read_in_a_phase(self):
         """What is written then, by hand: the answers of the phases that have ended, and a refused line of the open one
         that stands before its first answer."""
-        text = b"".join(self.two_lanes.splitlines(keepends=True)[:27])
+        words = self.two_lanes.words
+        text = b"".join(self.two_lanes.text.splitlines(keepends=True)[:27])
         said = b"line 21: yes free 9968 fast\nline 22: snapshot 9960\nline 23: sum 45\nline 24: compare 1 sum\n"
         for more, also in [(b"", b""), (b"c0 mod 0 Normal nr_mlock 1\n", b""), (b"c0 val 0 Normal nr_mlock\n", b""),
                            (b"c9 fold 0\n", b"line 28: refused: UnknownLane\n"),
@@ -172,114 +223,168 @@ class Trials:
                             b"line 28: refused: UnknownLane\nline 30: refused: UnknownLane\n"),
                            (b"c0 sys nr_dirty\nonline 0\nflush\nc0 sys nr_dirty\n",
                             b"line 28: system 0\nline 29: refused: NotDead\n")]:
-            found = from_socket(self.program, [text + more], fails=True)
+            found = from_socket(words, [text + more], fails=True)
             expect(f"a failed read after {more!r}", found, (READ, said + also))
+        head = b"vmtrace 1\ncpus 2\nzone 0 Normal 262144 100 125 150\ngo\n"
+        first = b"c1 inc 0 Normal nr_mlock\nc1 snap 0 Normal nr_mlock\nsync\n"
+        for more, also in [(b"", b""), (b"c0 val 0 Normal nr_mlock\n", b""),
+                           (b"c9 fold 0\nc0 val 0 Normal nr_mlock\nc9 fold 0\n", b"line 8: refused: UnknownLane\n"),
+                           (b"c0 fold 1\nc0 val 0 Normal nr_mlock\nflush\nc0 fold 0", b"line 9: value 1\n")]:
+            for words in self.all_words()[1:]:
+                found = from_socket(words, [head + first + more], fails=True)
+                expect(f"{words[1]} and a failed read after {more!r}", found, (READ, b"line 6: snapshot 1\n" + also))
+        head = b"vmgroups 1\ncpus 2\ngroup a\ngo\nc1 add a 5\nc1 flush a\nsync\nc1 value a\nsync\n"
+        for more, also in [(b"", b""), (b"c0 value a\n", b""), (b"c9 value a\nc0 add a 1\nc0 value b\nreport groups",
+                                                                b"line 10: refused: UnknownLane\n"
+                                                                b"line 12: refused: UnknownGroup\n"),
+                           (b"c9 value a\nc0 value a\nc9 value a\n", b"line 10: refused: UnknownLane\n"),
+                           (b"c0 value a\nreport groups\nc0 add a", b"line 10: value 5\nline 11: report groups\n"
+                                                                     b"a value 5 pending 0 total 5\n")]:
+            found = from_socket(self.of_groups[0].words, [head + more], fails=True)
+            expect(f"groups and a failed read after {more!r}", found, (READ, b"line 8: value 5\n" + also))
 
     def early_output(self):
         """Of 2,000 phases some output comes before the second half of them is sent."""
         phase = b"c0 val 0 Normal nr_free_pages\n" * 8 + b"sync\n"
         text = b"vmtrace 1\ncpus 1\nzone 0 Normal 262144 100 125 150\ngo\n" + phase * 2000
-        process = subprocess.Popen([self.program, "replay"], stdin=subprocess.PIPE, stdout=subprocess.PIPE, bufsize=0)
-        came, parts = threading.Event(), []
+        told = b"".join(b"line %d: value 0\n" % line for line in range(5, 18005) if (line - 4) % 9)
+        wanted = {"check": text + b"# done accepted 18000 refused 0\n"}
+        of_groups = b"vmgroups 1\ncpus 1\ngroup a\ngo\n" + (b"c0 value a\n" * 8 + b"sync\n") * 2000
+        for words, text in [*((words, text) for words in self.all_words()), (self.of_groups[0].words, of_groups)]:
+            process = subprocess.Popen(words, stdin=subprocess.PIPE, stdout=subprocess.PIPE, bufsize=0)
+            came, parts = threading.Event(), []
 
-        def read():
-            while part := process.stdout.read(1 << 16):
-                parts.append(part)
-                came.set()
+            def read(out=process.stdout, parts=parts, came=came):
+                while part := out.read(1 << 16):
+                    parts.append(part)
+                    came.set()
 
-        reader = threading.Thread(target=read)
-        reader.start()
-        process.stdin.write(text[:len(text) // 2])
-        is_early = came.wait(timeout=20)
-        process.stdin.write(text[len(text) // 2:])
-        process.stdin.close()
-        reader.join(timeout=60)
-        expect("the output came early", is_early, True)
-        expect("early output", (process.wait(timeout=60), b"".join(parts)), self.whole(text))
+            reader = threading.Thread(target=read)
+            reader.start()
+            process.stdin.write(text[:len(text) // 2])
+            is_early = came.wait(timeout=20)
+            process.stdin.write(text[len(text) // 2:])
+            process.stdin.close()
+            reader.join(timeout=60)
+            expect(f"the output of {words[1]} came early", is_early, True)
+            expect(f"the output of {words[1]}", (process.wait(timeout=60), b"".join(parts)),
+                   (DONE, wanted.get(words[1], told + b"done accepted 18000 refused 0\n")))
 
     def folder_as_input(self):
-        folder = os.open(TOP, os.O_RDONLY)
-        done = subprocess.run([self.program, "replay"], stdin=folder, stdout=subprocess.PIPE, timeout=60)
-        os.close(folder)
-        expect("a folder", (done.returncode, done.stdout), (READ, b""))
+        answers = [(words, (READ, b"")) for words in [*self.all_words(), self.of_groups[0].words]]
+        for words, answer in answers + [(call.words, call.answer) for call in self.made]:
+            folder = os.open(TOP, os.O_RDONLY)
+            done = subprocess.run(words, stdin=folder, stdout=subprocess.PIPE, timeout=60)
+            os.close(folder)
+            expect(f"{words[1]} of a folder", (done.returncode, done.stdout), answer)
 
     def refused_header_comes_first(self):
         """What is wrong with a line that was read is answered before a read that fails."""
-        found = from_socket(self.program, [b"vmtrace 1\ncpus 65\n"], fails=True)
-        expect("a refused header", found, (HEADER, b"line 2: BadCpus\n"))
-        found = from_socket(self.program, [b"vmtrace 1\ncpus 65"], fails=True)
-        expect("a line without its end", found, (READ, b""))
+        for words in self.all_words():
+            found = from_socket(words, [b"vmtrace 1\ncpus 65\n"], fails=True)
+            expect(f"a refused header under {words[1]}", found, (HEADER, b"line 2: BadCpus\n"))
+            found = from_socket(words, [b"vmtrace 1\ncpus 65"], fails=True)
+            expect(f"a line without its end under {words[1]}", found, (READ, b""))
+        words = self.of_groups[0].words
+        found = from_socket(words, [b"vmgroups 1\ncpus 1\ngroup a b\n"], fails=True)
+        expect("a refused header of groups", found, (HEADER, b"line 3: UnknownGroup\n"))
+        found = from_socket(words, [b"vmgroups 1\ncpus 1\ngroup a b"], fails=True)
+        expect("a line of groups without its end", found, (READ, b""))
 
     def cut_inputs(self):
-        """The input ends after each byte: a whole `go` tells a refused header from a trace."""
-        text = self.two_lanes
+        """The input ends after each byte: a whole `go` tells a refused header from a trace. Of a trace the whole lines
+        are answered as in the whole text, and the line that was cut says at most what it says itself."""
+        text, (_, whole) = self.two_lanes.text, self.two_lanes.answer
         go = text.index(b"\ngo\n") + 3
         for size in range(len(text) + 1):
-            status, out = self.whole(text[:size])
+            status, out = run(self.two_lanes.words, text[:size])
+            lines, cut = text[:size].count(b"\n"), len(text[:size].rpartition(b"\n")[2]) > 0
             if size < go:
-                expect(f"cut after {size} bytes", status, HEADER)
-                expect(f"lines, cut after {size} bytes", out.count(b"\n"), 1)
-            else:
-                expect(f"cut after {size} bytes", status, run([self.check, "check"], text[:size])[0])
-                expect(f"statuses, cut after {size} bytes", status in (0, 3), True)
+                # The line that is refused is the one that was cut, or where it says something the next one.
+                named = out.startswith((b"line %d: " % (lines + 1), b"line %d: " % (lines + 2)))
+                expect(f"cut after {size} bytes", (status, out.count(b"\n"), named), (HEADER, 1, True))
+                continue
+            lines = max(lines, 7)
+            said = b"".join(part for number, part in answers(text, whole) if number <= lines)
+            expect(f"what began the output, cut after {size} bytes", out[:len(said)], said)
+            cut_line, _, end = out[len(said):].rpartition(b"done ")
+            refused = b": refused: " in cut_line
+            counts = lines - 7 + (1 if cut and size > go and not refused else 0)
+            expect(f"cut after {size} bytes", (status, end),
+                   (REFUSED if refused else DONE, b"accepted %d refused %d\n" % (counts, refused)))
+            expect(f"the cut line after {size} bytes", cut_line[:cut_line.find(b":")],
+                   b"line %d" % (lines + 1) if cut_line else b"")
 
     # Writing.
 
+    def unwritable(self):
+        """Calls of each command that write something."""
+        return self.readers + self.made + [
+            self.call("replay", b"vmtrace 3\n", HEADER, b"line 1: BadMagic\n"),
+            self.call("groups", b"vmgroups 3\n", HEADER, b"line 1: BadMagic\n"),
+            self.call("replay none", b"", WORDS, b"usage: check | replay | run | gen SEED CPUS LINES | groups\n"),
+        ]
+
     def full_device(self):
-        for words, text in [("replay", self.two_lanes), ("replay", b"vmtrace 3\n"), ("none", b"")]:
+        for call in self.unwritable():
             with open("/dev/full", "wb") as full:
-                done = subprocess.run([self.program, words], input=text, stdout=full, timeout=60)
-            expect(f"{words} into a full device", done.returncode, WRITE)
+                done = subprocess.run(call.words, input=call.text, stdout=full, timeout=60)
+            expect(f"{call} into a full device", done.returncode, WRITE)
 
     def closed_pipe(self):
-        for words, text in [("replay", self.two_lanes), ("replay", b"vmtrace 3\n"), ("none", b"")]:
+        for call in self.unwritable():
             ours, theirs = os.pipe()
             os.close(ours)
             with os.fdopen(theirs, "wb", 0) as pipe:
-                done = subprocess.run([self.program, words], input=text, stdout=pipe, timeout=60)
-            expect(f"{words} into a closed pipe", done.returncode, WRITE)
+                done = subprocess.run(call.words, input=call.text, stdout=pipe, timeout=60)
+            expect(f"{call} into a closed pipe", done.returncode, WRITE)
 
     def reader_that_leaves(self):
-        """The pipe is closed after some bytes of a long output."""
-        status, out = self.whole(self.long)
-        for size in (1, 5000, 60000):
-            with tempfile.TemporaryFile() as trace:
-                trace.write(self.long)
-                trace.seek(0)
-                process = subprocess.Popen([self.program, "replay"], stdin=trace, stdout=subprocess.PIPE, bufsize=0)
-                said = b""
-                while len(said) < size:
-                    said += process.stdout.read(size - len(said))
-                process.stdout.close()
-                expect(f"a reader that leaves after {size} bytes", process.wait(timeout=60), WRITE)
-                expect(f"the {size} bytes", said, out[:size])
+        """The pipe is closed after some bytes of an output that is longer than what a pipe holds."""
+        for call in (call for call in self.longs if len(call.answer[1]) > 1 << 18):
+            out = call.answer[1]
+            for size in (1, 5000, 60000):
+                with tempfile.TemporaryFile() as trace:
+                    trace.write(call.text)
+                    trace.seek(0)
+                    process = subprocess.Popen(call.words, stdin=trace, stdout=subprocess.PIPE, bufsize=0)
+                    said = b""
+                    while len(said) < size:
+                        said += process.stdout.read(size - len(said))
+                    process.stdout.close()
+                    expect(f"{call} and a reader that leaves after {size} bytes", process.wait(timeout=60), WRITE)
+                    expect(f"the {size} bytes of {call}", said, out[:size])
 
     def pipe_that_refuses(self):
         """A pipe that nobody reads takes 4096 bytes, and refuses the next ones at once."""
-        status, out = self.whole(self.long)
-        ours, theirs = os.pipe2(os.O_NONBLOCK)
-        with os.fdopen(ours, "rb", 0) as source:
-            with os.fdopen(theirs, "wb", 0) as pipe:
-                fcntl.fcntl(pipe, fcntl.F_SETPIPE_SZ, 4096)
-                done = subprocess.run([self.program, "replay"], input=self.long, stdout=pipe, timeout=60)
-            expect("a pipe that refuses", (done.returncode, source.read(1 << 20)), (WRITE, out[:4096]))
+        for call in self.longs:
+            ours, theirs = os.pipe2(os.O_NONBLOCK)
+            with os.fdopen(ours, "rb", 0) as source:
+                with os.fdopen(theirs, "wb", 0) as pipe:
+                    fcntl.fcntl(pipe, fcntl.F_SETPIPE_SZ, 4096)
+                    done = subprocess.run(call.words, input=call.text, stdout=pipe, timeout=60)
+                expect(f"{call} and a pipe that refuses", (done.returncode, source.read(1 << 20)),
+                       (WRITE, call.answer[1][:4096]))
 
     def limited_files(self):
-        """A file takes each number of bytes and then no more."""
-        for text in (self.two_lanes, self.burial, b"vmtrace 3\n"):
-            status, out = self.whole(text)
-            for size in range(len(out)):
-                expect(f"a file of {size} bytes", into_file(self.program, text, size), (WRITE, out[:size]))
-            expect("a file with room", into_file(self.program, text, len(out)), (status, out))
-        status, out = self.whole(self.long)
-        for size in range(0, len(out), 9973):
-            expect(f"a file of {size} bytes", into_file(self.program, self.long, size), (WRITE, out[:size]))
+        """A file takes some number of bytes, any of a short output, and then no more."""
+        for call in self.unwritable():
+            out = call.answer[1]
+            for size in range(0, len(out), 1 if len(out) < 300 else 7):
+                found = into_file(call.words, call.text, size)
+                expect(f"{call} into a file of {size} bytes", found, (WRITE, out[:size]))
+            expect(f"{call} into a file with room", into_file(call.words, call.text, len(out)), call.answer)
+        for call in self.longs:
+            out = call.answer[1]
+            for size in range(0, len(out), 9973):
+                found = into_file(call.words, call.text, size)
+                expect(f"{call} into a file of {size} bytes", found, (WRITE, out[:size]))
 
     # Memory.
 
     def want_of_memory(self):
         """Less and less address space, from where the whole output comes down to where the program doesn't start. The
-        plain program is ended by Rust's runtime where it finds no memory."""
+        plain programs are ended by Rust's runtime where they find no memory, or panic where they get no thread."""
         def limited(words, text, size):
             def prepare():
                 resource.setrlimit(resource.RLIMIT_AS, (size, size))
@@ -291,22 +396,22 @@ class Trials:
                 return None, b""
 
         statuses = set()
-        for text in (self.two_lanes, self.long):
-            whole = self.whole(text)
+        for call in [*self.readers, *self.longs, *self.made]:
             size = 1 << 20
-            while size < 1 << 40 and limited([self.program, "replay"], text, size) != whole:
+            while size < 1 << 40 and limited(call.words, call.text, size) != call.answer:
                 size *= 2
-            for size in range(size, 0, -(16 << 10)):
-                if limited([self.program, "none"], b"", size)[0] != WORDS:
+            for size in range(size, 0, -max(16 << 10, size >> 6)):
+                if limited([call.words[0], "none"], b"", size)[0] != WORDS:
                     break
-                status, out = limited([self.program, "replay"], text, size)
+                status, out = limited(call.words, call.text, size)
                 statuses.add(status)
-                if status == whole[0]:
-                    expect(f"with {size} bytes of memory", out, whole[1])
-                elif status == MEMORY or status == -signal.SIGABRT and "VOZHKELL" not in os.environ:
-                    expect(f"with {size} bytes of memory, what began the output", out, whole[1][:len(out)])
+                if status == call.answer[0]:
+                    expect(f"{call} with {size} bytes of memory", out, call.answer[1])
+                elif status == MEMORY or status in (-signal.SIGABRT, PANIC) and "VOZHKELL" not in os.environ:
+                    began = call.answer[1][:len(out)]
+                    expect(f"{call} with {size} bytes of memory, what began the output", out, began)
                 else:
-                    raise Wrong(f"with {size} bytes of memory the status is {status}")
+                    raise Wrong(f"{call} with {size} bytes of memory: the status is {status}")
         print("    statuses for want of memory:", *sorted(statuses))
 
 
@@ -316,9 +421,12 @@ CASES = ["short_reads", "slow_pipe", "early_output", "failing_reads", "failed_re
 
 
 def main():
+    # A plain program that finds no memory while it writes the stack of a panic may hang.
+    os.environ["RUST_BACKTRACE"] = "0"
     with tempfile.TemporaryDirectory() as folder:
-        program = os.environ.get("VOZHKELL") or built("replay", folder)
-        trials = Trials(program, os.environ.get("VOZHKELL") or built("check", folder))
+        plain = {command: built(command, folder) for command in ("check", "replay", "run", "groups")}
+        proved = os.environ.get("VOZHKELL")
+        trials = Trials(dict.fromkeys((*plain, "gen"), proved) if proved else plain, plain)
         failed = 0
         for case in sys.argv[1:] or CASES:
             try:

@@ -2,9 +2,10 @@
 
     large_rows.py FOLDER
 
-They are for the limits of a trace, for many changes of one counter, and for the largest report of each version. As in
-bench/rows there are NAME.vmtrace and NAME.out for each, and a table `statuses`. The outputs are put together from what
-each line prints by the rules of the format, not by a program that replays it.
+They are for the limits of a trace, for many changes of one counter, and for the largest report of each version; and of
+traces of groups for the limits and for many changes of one tree. As in bench/rows there are NAME.vmtrace or
+NAME.vmgroups, and NAME.out for each, and a table `statuses`. The outputs are put together from what each line prints by
+the rules of the format, not by a program that replays it.
 """
 import os
 import sys
@@ -112,6 +113,68 @@ def largest_report(version, cpus):
     return header + body, out + [f"done accepted {len(body)} refused 0"], 0
 
 
+# Of a tree of four groups.
+GROUP_HEAD = ["vmgroups 1", "cpus 8", "group root", "group a root", "group b a", "group c root", "go"]
+
+
+def many_changes_of_groups():
+    """Eight lanes with 10,000 changes each, which flush all groups meanwhile. What they left is flushed at the end."""
+    body = []
+    for n in range(10_000):
+        body += [f"c{cpu} add {'abc'[(n + cpu) % 3]} {cpu - 3}" for cpu in range(8)]
+        if n % 50 == 25:
+            body += [f"c{cpu} flush {('root', 'a', 'b', 'c')[(n // 50 + cpu) % 4]}" for cpu in range(8)]
+    body += ["sync", "c0 flush root", "report groups"]
+    # CPU c changes each group 3,333 times, and once more the one of its first line.
+    sums = {name: sum(3_333 * (cpu - 3) for cpu in range(8)) for name in "abc"}
+    for cpu in range(8):
+        sums["abc"[cpu % 3]] += cpu - 3
+    of_a = sums["a"] + sums["b"]
+    values = {"root": of_a + sums["c"], "a": of_a, "b": sums["b"], "c": sums["c"]}
+    lines = GROUP_HEAD + body
+    out = [f"line {len(lines)}: report groups", *(f"{name} value {n} pending 0 total {n}" for name, n in values.items())]
+    return lines, out + [f"done accepted {len(body)} refused 0"], 0
+
+
+def reports_of_groups(count):
+    lines, out = GROUP_HEAD + ["c0 add b 5"] + ["report groups"] * count, []
+    for n in range(min(count, 1_000)):
+        out += [f"line {n + 9}: report groups", "root value 0 pending 5 total 5", "a value 0 pending 5 total 5",
+                "b value 0 pending 5 total 5", "c value 0 pending 0 total 0"]
+    return (lines, out + [f"done accepted {count + 1} refused 0"], 0) if count <= 1_000 else (lines, out, 7)
+
+
+def phases_of_groups(count):
+    lines, out = list(GROUP_HEAD), []
+    for n in range(count):
+        lines += ["c8 add b 1", "c0 value b", "sync"]
+        out.append(f"line {3 * n + 8}: refused: UnknownLane")
+        if n < 10_000:
+            out.append(f"line {3 * n + 9}: value 0")
+    return (lines, out + [f"done accepted {2 * count} refused {count}"], 3) if count <= 10_000 else (lines, out, 7)
+
+
+def lines_of_groups(count):
+    lines = GROUP_HEAD + ["c8 add b 1", "c0 value b", "c8 add b 1"]
+    lines += [""] * (count - len(lines))
+    out = ["line 8: refused: UnknownLane"]
+    if count > MOST_LINES:
+        return lines, out, 7
+    return lines, out + ["line 9: value 0", "line 10: refused: UnknownLane", "done accepted 1 refused 2"], 3
+
+
+def bytes_of_groups(count):
+    lines = GROUP_HEAD + ["c8 add b 1", "c0 value b"]
+    left = count - sum(len(line) + 1 for line in lines)
+    lines += ["#" * 199] * (left // 200 - 1)
+    rest = left - 200 * (left // 200 - 1)
+    lines += ["#" * (rest // 2 - 1), "#" * (rest - rest // 2 - 1)]
+    out = ["line 8: refused: UnknownLane"]
+    if count > MOST_BYTES:
+        return lines, out, 7
+    return lines, out + ["line 9: value 0", "done accepted 1 refused 1"], 3
+
+
 ROWS = {
     "many_changes": many_changes(),
     "as_many_reports": reports(1_000),
@@ -126,16 +189,29 @@ ROWS = {
     "as_many_bytes": bytes_in_all(MOST_BYTES),
     "too_many_bytes": bytes_in_all(MOST_BYTES + 1),
 }
+GROUP_ROWS = {
+    "groups_many_changes": many_changes_of_groups(),
+    "groups_as_many_reports": reports_of_groups(1_000),
+    "groups_too_many_reports": reports_of_groups(1_001),
+    "groups_as_many_phases": phases_of_groups(10_000),
+    "groups_too_many_phases": phases_of_groups(10_001),
+    "groups_as_many_lines": lines_of_groups(MOST_LINES),
+    "groups_too_many_lines": lines_of_groups(MOST_LINES + 1),
+    "groups_too_many_header_lines": (GROUP_HEAD[:-1] + [""] * MOST_LINES, [], 7),
+    "groups_as_many_bytes": bytes_of_groups(MOST_BYTES),
+    "groups_too_many_bytes": bytes_of_groups(MOST_BYTES + 1),
+}
 
 
 def main():
     folder = sys.argv[1]
     with open(os.path.join(folder, "statuses"), "w") as statuses:
-        for name, (lines, out, status) in ROWS.items():
-            for suffix, texts in (("vmtrace", lines), ("out", out)):
-                with open(os.path.join(folder, f"{name}.{suffix}"), "w") as file:
-                    file.write("".join(text + "\n" for text in texts))
-            statuses.write(f"{name} {status}\n")
+        for suffix, rows in (("vmtrace", ROWS), ("vmgroups", GROUP_ROWS)):
+            for name, (lines, out, status) in rows.items():
+                for ending, texts in ((suffix, lines), ("out", out)):
+                    with open(os.path.join(folder, f"{name}.{ending}"), "w") as file:
+                        file.write("".join(text + "\n" for text in texts))
+                statuses.write(f"{name} {status}\n")
 
 
 if __name__ == "__main__":

@@ -3,7 +3,7 @@
 use crate::commands::Text;
 use crate::counters::{Counters, Rule, Verdict};
 use crate::report;
-use crate::trace::{Act, Cause, KINDS, Lane, Line, REPORTS};
+use crate::trace::{Act, KINDS, Lane, Line, REPORTS};
 use std::cmp::Ordering;
 
 /// What a line of a lane answers, in 16 bytes.
@@ -98,7 +98,7 @@ pub fn end_phase<C: Counters>(counters: &mut C, out: &mut Text, number: u64, lin
         Line::Online(cpu) => counters.bring_up(cpu),
         Line::Flush => counters.flush(),
         Line::Report(kind) => {
-            label(out, number, b"report ");
+            out.label(number, b"report ");
             out.text(REPORTS[kind].as_bytes());
             out.text(b"\n");
             report::write(out, counters, kind);
@@ -106,12 +106,6 @@ pub fn end_phase<C: Counters>(counters: &mut C, out: &mut Text, number: u64, lin
         _ => {}
     }
     counters.end_phase();
-}
-
-pub fn refuse(out: &mut Text, number: u64, cause: Cause) {
-    label(out, number, b"refused: ");
-    out.text(cause.name().as_bytes());
-    out.text(b"\n");
 }
 
 impl Answer {
@@ -124,40 +118,33 @@ impl Answer {
             Answer::Count(n) => signed(out, number, b"count ", n),
             Answer::Sum(n) => signed(out, number, b"sum ", n),
             Answer::Compare { order, is_rough } => {
-                label(out, number, b"compare ");
+                out.label(number, b"compare ");
                 out.signed(order as i64);
                 out.text(if is_rough { b" rough\n" } else { b" sum\n" });
             }
-            Answer::Limited(yes) => label(out, number, if yes { b"limited yes\n" } else { b"limited no\n" }),
+            Answer::Limited(yes) => out.label(number, if yes { b"limited yes\n" } else { b"limited no\n" }),
             Answer::Watermark { yes, fast, free } => {
-                label(out, number, if yes { b"yes" } else { b"no" });
+                out.label(number, if yes { b"yes" } else { b"no" });
                 write_free(out, free, fast);
             }
             Answer::Balanced { kind, fast, free } => {
-                label(out, number, b"balanced ");
+                out.label(number, b"balanced ");
                 out.text(KINDS[usize::from(kind)].as_bytes());
                 write_free(out, free, fast);
             }
-            Answer::Unbalanced => label(out, number, b"unbalanced\n"),
+            Answer::Unbalanced => out.label(number, b"unbalanced\n"),
         }
     }
 }
 
-fn label(out: &mut Text, number: u64, what: &[u8]) {
-    out.text(b"line ");
-    out.number(number);
-    out.text(b": ");
-    out.text(what);
-}
-
 fn unsigned(out: &mut Text, number: u64, what: &[u8], n: u64) {
-    label(out, number, what);
+    out.label(number, what);
     out.number(n);
     out.text(b"\n");
 }
 
 fn signed(out: &mut Text, number: u64, what: &[u8], n: i64) {
-    label(out, number, what);
+    out.label(number, what);
     out.signed(n);
     out.text(b"\n");
 }

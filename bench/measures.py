@@ -25,33 +25,19 @@ import pathlib
 import re
 import sys
 
+TOP = pathlib.Path(__file__).resolve().parent.parent
+sys.path.insert(0, str(TOP / ".ci"))
+from definitions import IMPORT, below, below_the_clause, read, uncommented  # noqa: E402
+
 WINDOW = 12
 LEAST_DIFFERENT = 4
 KEYWORDS = set("let in elim record abbrev pub unfolding as mod data where if then else search grind omega cc rw simp λ "
                "→ unfoldable ruleset hlevel first_of assumption cond".split())
 TOKEN = re.compile(r'"(?:[^"\\]|\\.)*"|[^\W\d][^\s(){}\[\];,.⟨⟩]*|◌[^\s(){}\[\];,.⟨⟩]*|\d+|\S')
-IMPORT = re.compile(r"\s*(?:pub |ghost )*use\b")
-HEAD = re.compile(r"(?:abbrev pub |abbrev |pub data |data |pub record |record |pub )?([^\s:]+) :|"
-                  r"(?:pub data|data|pub record|record) (\S+)")
-DECLARED = re.compile(r"Rattle\.(\w+)\.specs\.declared\.(.+?)(?:\.TheVariants)?$")
-
-
-def below(folder, *endings):
-    """The files of the crates below this folder of theirs, but for what checks write."""
-    return [path for path in sorted(pathlib.Path("crates").rglob("*"))
-            if path.suffix in endings and path.parts[2] != "out" and (not folder or path.parts[2] == folder)]
-
-
-def read(path):
-    return path.read_text(encoding="utf-8")
 
 
 def is_trial(path):
     return path.parts[1].endswith("_trials")
-
-
-def uncommented(line):
-    return re.sub(r"(^|\s)--.*$", "", line).rstrip()
 
 
 def shape_of(line):
@@ -91,89 +77,12 @@ def repeated_pieces():
     return sorted(pieces, key=lambda piece: (-piece[0], piece[1:]))
 
 
-class Module:
-    """The names that a file imports, and the lines of each definition that it makes."""
-
-    def __init__(self, text):
-        self.names, self.modules, self.made = {}, {}, {}
-        current, inner = None, False
-        for line in map(uncommented, text.splitlines()):
-            if IMPORT.match(line):
-                self.take(line)
-                continue
-            if line and not line[0].isspace():
-                inner = line.startswith("module ")
-                current = None if inner else current
-            elif inner:
-                line = line[2:]
-            if not line.strip() or line.startswith(("module ", "pub mod ", "mod ")):
-                continue
-            head = not line[0].isspace() and HEAD.match(line)
-            if head:
-                current = head.group(1) or head.group(2)
-            elif not line[0].isspace() and line.split()[0].strip("()") in self.made:
-                current = line.split()[0].strip("()")
-            if current:
-                self.made.setdefault(current, []).append(line)
-
-    def take(self, line):
-        path, items, alias = re.match(r"\s*(?:pub |ghost )*use\s+([^\s{;]+?)(?:\.\{(.*?)\})?(?:\s+as\s+(\S+?))?;?\s*$",
-                                      line).groups()
-        for item in (items or "").split(","):
-            if item.strip():
-                name, _, other = item.strip().partition(" as ")
-                self.names[other.strip() or name] = (path, name.strip())
-        if items is None:
-            self.modules[alias or path.split(".")[-1]] = path
-
-    def named(self, own, lines):
-        """What these lines name, as modules and names."""
-        for word in re.split(r"[\s(){}\[\];,]+", re.sub(r'"[^"]*"', "", " ".join(lines))):
-            first, _, rest = word.partition(".")
-            if rest and first in self.modules:
-                yield self.modules[first], rest.split(".")[0]
-            elif first in self.names:
-                yield self.names[first]
-            elif first in self.made:
-                yield own, first
-
-
-def below_the_clause():
-    """The definitions to which the clauses of `tool` lead, by module and name, with their lines, and the types."""
-    modules = {}
-    for folder in ("specs", "proofs"):
-        for path in below(folder, ".antt"):
-            modules[".".join(("Rattle", path.parts[1], *path.parts[2:-1], path.stem))] = Module(read(path))
-    code = next(read(path) for path in below("src", ".rt")
-                if path.parts[1] == "vms_tool" and "\npub fn tool<" in read(path))
-    contract = code[code.index("\npub fn tool<"):].partition("\n{")[0]
-    clauses = re.findall(r"(?:requires|ensures) \w+ (\{.*?\})(?=\s+(?:requires|ensures)|\s*$)", contract, re.S)
-    imports = "\n".join(" ".join(line.split()) for line in re.findall(r"^ghost use [^;]*;", code, re.M))
-    start = Module(imports)
-    found, types, waiting = {}, set(), list(start.named("", clauses))
-    while waiting:
-        path, name = waiting.pop()
-        declared = DECLARED.match(path)
-        if declared:
-            types.add(declared.groups())
-            continue
-        if path not in modules and path.rpartition(".")[0] in modules:
-            path, _, name = path.rpartition(".")  # a constructor of a `data`
-        module = modules.get(path)
-        if module and name in module.made and (path, name) not in found:
-            found[path, name] = module.made[name]
-            waiting += module.named(path, module.made[name])
-        elif module and name in module.names and name not in module.made:
-            waiting.append(module.names[name])
-    return found, types
-
-
 def main():
     asked = argparse.ArgumentParser(description=__doc__, formatter_class=argparse.RawDescriptionHelpFormatter)
     asked.add_argument("--pairs", action="store_true", help="list the repeated pieces")
     asked.add_argument("--below", action="store_true", help="list the definitions and types below the clause")
     asked = asked.parse_args()
-    os.chdir(pathlib.Path(__file__).resolve().parent.parent)
+    os.chdir(TOP)
     files = below(None, ".rt", ".antt", ".edit")
     code = [path for path in below("src", ".rt") if not is_trial(path)]
     lines = [line for path in files for line in read(path).splitlines()]
@@ -190,13 +99,14 @@ def main():
     print(len(pieces), "repeated pieces of", WINDOW, "lines or more in proofs")
     print(f"{imports} lines that import, {imports / len(lines):.1%} of all")
     print(len(lines), "lines of the crates")
-    print(len(found), "definitions below the clause of tool, with", sum(map(len, found.values())), "lines in",
+    size = sum(len(module.made[name]) for (_, name), (module, _) in found.items())
+    print(len(found), "definitions below the clause of tool, with", size, "lines in",
           len({path for path, _ in found}), "files of", len(crates), "crates;", len(types), "types of code")
     print(count(r"\blet _ =", code), "let _ = in code")
     for piece in pieces if asked.pairs else []:
         print(*piece)
     for path, name in sorted(found) if asked.below else []:
-        print(path, name, len(found[path, name]))
+        print(path, name, len(found[path, name][0].made[name]))
     for path in sorted(types) if asked.below else []:
         print(*path)
 

@@ -3,10 +3,12 @@
 
     bench/memory.py
 
-The program is bench/replay.rs, or the one that VOZHKELL names, called with the word `replay`. The trace has almost
-1,000,000 lines in 2,000 phases. Every other phase ends with a report, and a third of the lines of each answers. What is
-printed is VmHWM of /proc, once the program has read all lines. The status is 1 if it is more than 3,000,000 bytes or
-the program doesn't end with the status 0.
+The programs are bench/check.rs, bench/replay.rs, bench/run.rs and bench/groups.rs, or the one that VOZHKELL names,
+called with the word of the command. The trace has almost 1,000,000 lines in 2,000 phases, under `run` and `groups` the
+first 100,000 in 200. Every other phase ends with a report, and a third of the lines of each answers. What is printed is
+VmHWM of /proc, once the program has read all lines. With VOZHKELL also `gen` is called, with 100,000 lines on 8 CPUs;
+there it is the last VmHWM that is seen before the program ends. The status is 1 if it is more than is allowed or the
+program doesn't end with status 0.
 """
 import array
 import fcntl
@@ -18,7 +20,7 @@ import termios
 import time
 
 TOP = os.path.dirname(os.path.dirname(os.path.abspath(__file__)))
-MOST = 3_000_000
+MOST = {"check": 3_000_000, "replay": 3_000_000, "run": 4_000_000, "groups": 4_000_000, "gen": 10_000_000}
 HEAD = b"""vmtrace 1
 cpus 8
 zone 0 Normal 262144 100 125 150
@@ -38,10 +40,28 @@ c7 lim files 1000000 3
 """
 
 
-def trace():
-    lines = LINES.splitlines(keepends=True)
+GROUP_HEAD = b"vmgroups 1\ncpus 8\ngroup root\n" + b"".join(b"group g%d root\n" % n for n in range(63)) + b"go\n"
+GROUP_LINES = b"""c0 add g0 19
+c1 add g62 -33
+c2 value root
+c3 add g1 40
+c4 flush g1
+c5 value g1
+c6 add root 2
+c7 value g62
+c0 flush root
+"""
+
+
+def trace(command):
+    """For the threads of `run` and `groups` a tenth of the phases."""
+    phases = 200 if command in ("run", "groups") else 2000
+    head, lines, report = HEAD, LINES, b"report totals\n"
+    if command == "groups":
+        head, lines, report = GROUP_HEAD, GROUP_LINES, b"report groups\n"
+    lines = lines.splitlines(keepends=True)
     phase = b"".join(lines[n % len(lines)] for n in range(494))
-    return HEAD + (phase + b"sync\n" + phase + b"report totals\n") * 1000
+    return head + (phase + b"sync\n" + phase + report) * (phases // 2)
 
 
 def unread(pipe):
@@ -51,30 +71,57 @@ def unread(pipe):
     return count[0]
 
 
-def most_memory(program):
+def high_water(process):
+    """The most memory that a process has held so far, in bytes; 0 where it has ended."""
+    try:
+        with open(f"/proc/{process.pid}/status") as status:
+            marks = [line.split()[1] for line in status if line.startswith("VmHWM")]
+    except OSError:
+        marks = []
+    return max([0, *map(int, marks)]) * 1024
+
+
+def most_memory(program, command, text):
     """The high-water mark in bytes of a program that waits for more after the whole trace, and its status."""
-    process = subprocess.Popen([program, "replay"], stdin=subprocess.PIPE, stdout=subprocess.DEVNULL)
+    process = subprocess.Popen([program, command], stdin=subprocess.PIPE, stdout=subprocess.DEVNULL)
     with process.stdin as pipe:
-        pipe.write(trace())
+        pipe.write(text)
         pipe.flush()
         while unread(pipe) and process.poll() is None:
             time.sleep(0.01)
         time.sleep(0.1)
-        with open(f"/proc/{process.pid}/status") as status:
-            marks = [line.split()[1] for line in status if line.startswith("VmHWM")]
-    return max([0, *map(int, marks)]) * 1024, process.wait(timeout=60)
+        most = high_water(process)
+    return most, process.wait(timeout=60)
+
+
+def most_of_made(program):
+    """The same of a program that reads nothing and ends by itself: its mark is read again and again."""
+    words = [program, "gen", "1", "8", "100000"]
+    process = subprocess.Popen(words, stdin=subprocess.DEVNULL, stdout=subprocess.DEVNULL)
+    most = 0
+    while process.poll() is None:
+        most = max(most, high_water(process))
+    return most, process.returncode
 
 
 def main():
+    failed = 0
     with tempfile.TemporaryDirectory() as folder:
-        program = os.environ.get("VOZHKELL")
-        if not program:
-            program = os.path.join(folder, "plain")
-            source = os.path.join(TOP, "bench", "replay.rs")
-            subprocess.run(["rustc", "-O", "--edition", "2021", "-o", program, source], check=True)
-        most, status = most_memory(program)
-    print(f"at most {most:,} bytes, where {MOST:,} are allowed; status {status}")
-    sys.exit(1 if most == 0 or most > MOST or status != 0 else 0)
+        for command, allowed in MOST.items():
+            program = os.environ.get("VOZHKELL")
+            if command == "gen" and not program:
+                continue
+            if not program:
+                program = os.path.join(folder, command)
+                source = os.path.join(TOP, "bench", command + ".rs")
+                subprocess.run(["rustc", "-O", "--edition", "2021", "-o", program, source], check=True)
+            if command == "gen":
+                most, status = most_of_made(program)
+            else:
+                most, status = most_memory(program, command, trace(command))
+            print(f"{command}: at most {most:,} bytes, where {allowed:,} are allowed; status {status}")
+            failed += most == 0 or most > allowed or status != 0
+    sys.exit(1 if failed else 0)
 
 
 if __name__ == "__main__":

@@ -1,13 +1,17 @@
 #!/usr/bin/env python3
 """Runs a trace whose lanes race many times, and says where the totals that it prints aren't the plain sums.
 
-    bench/races.py [TIMES [SEED]]
+    bench/races.py [TIMES [SEED [COMMAND]]]
 
 The program is the one that VOZHKELL names, called with the word `run`, 1,000 times where TIMES isn't given. The trace has
 200 phases of eight CPUs and the control lane: changes of a few page counters, folds of every CPU, pressure and normal
 thresholds, events, percpu counters with their locks, and a CPU that goes down, is folded and buried beside the other
 lanes, and comes back. Every tenth phase ends with `report totals`. The same SEED, 1 where none is given, gives the same
 trace.
+
+With `groups` for COMMAND it is called with that word. The trace has 10 phases of 4,000 lines, in which eight CPUs change,
+flush and read one tree of six groups. Each phase ends with `report groups`. At last one CPU alone flushes all groups, so
+that nothing is pending in the last report.
 
 The sums are taken from the trace alone, except that a limited addition counts where the output says yes. A run that takes
 longer than a minute counts as one that hangs. The status is 1 if a run is wrong, and 2 if there is nothing to run.
@@ -101,6 +105,30 @@ def trace(seed):
     return lines
 
 
+GROUP_PHASES = 10
+GROUP_LINES = 4000
+PARENTS = {"root": None, "a": "root", "b": "a", "c": "a", "d": "root", "e": "d"}
+GROUP_HEAD = ["vmgroups 1", f"cpus {CPUS}", *(f"group {name} {parent or ''}" for name, parent in PARENTS.items()), "go"]
+
+
+def group_line(rng):
+    """A line of a lane on the tree. More lines flush than in a usual trace, so that flushes meet."""
+    lane, name, kind = f"c{rng.randrange(CPUS)}", rng.choice(list(PARENTS)), rng.randrange(10)
+    if kind < 6:
+        return f"{lane} add {name} {rng.randrange(129) - 64}"
+    return f"{lane} {'flush' if kind < 9 else 'value'} {name}"
+
+
+def group_trace(seed):
+    """The lines of a trace of groups."""
+    rng = random.Random(seed)
+    lines = list(GROUP_HEAD)
+    for _ in range(GROUP_PHASES):
+        lines += [group_line(rng) for _ in range(GROUP_LINES)]
+        lines.append("report groups")
+    return lines + ["c0 flush root", "report groups"]
+
+
 def printed(output):
     """What is printed of each line that prints: by its number, the rest of its line and the lines below it."""
     found = {}
@@ -139,10 +167,37 @@ def wrong_totals(lines, output):
                       for found, due in zip(answers.get(number, []), wanted) if found != due]
             if len(answers.get(number, [])) != len(wanted):
                 wrong.append(f"line {number}: {len(answers.get(number, []))} lines where {len(wanted)} are due")
-    accepted = len(lines) - len(HEAD)
-    if not output.endswith(f"\ndone accepted {accepted} refused 0\n"):
-        wrong.append(f"the last line is {output.splitlines()[-1:]}")
     return wrong
+
+
+def wrong_groups(lines, output):
+    """Where the totals of groups aren't the plain sums of the lines above, or value and pending don't add up to them."""
+    answers = printed(output)
+    sums = dict.fromkeys(PARENTS, 0)
+    wrong = []
+    for number, line in enumerate(lines, 1):
+        words = line.split()
+        if words[1:2] == ["add"]:
+            name = words[2]
+            while name:
+                sums[name] += int(words[3])
+                name = PARENTS[name]
+        elif line == "report groups":
+            reported = answers.get(number, [])[1:]
+            if [text.split()[0] for text in reported] != list(sums):
+                wrong.append(f"line {number}: {len(reported)} lines, and not one for each group")
+            for text in reported:
+                name, _, value, _, pending, _, total = text.split()
+                is_last = number == len(lines)
+                if int(total) != sums[name] or int(value) + int(pending) != sums[name] or is_last and pending != "0":
+                    wrong.append(f"line {number}: {text} where {sums[name]} is due")
+    return wrong
+
+
+def wrong_end(lines, output):
+    """Whether the last line doesn't tell that all lines after `go` were accepted."""
+    last = f"done accepted {len(lines) - lines.index('go') - 1} refused 0"
+    return [] if output.endswith(f"\n{last}\n") else [f"the last line is {output.splitlines()[-1:]}"]
 
 
 def main(words):
@@ -151,19 +206,23 @@ def main(words):
         print("bench/races.py: VOZHKELL names no program", file=sys.stderr)
         return 2
     times = int(words[0]) if words else 1000
-    lines = trace(int(words[1]) if len(words) > 1 else 1)
+    seed = int(words[1]) if len(words) > 1 else 1
+    command = words[2] if len(words) > 2 else "run"
+    make, judge = {"run": (trace, wrong_totals), "groups": (group_trace, wrong_groups)}[command]
+    lines = make(seed)
     text = "".join(line + "\n" for line in lines).encode()
     outputs = set()
     bad = 0
     for turn in range(1, times + 1):
         try:
-            done = subprocess.run([program, "run"], input=text, capture_output=True, timeout=SECONDS)
+            done = subprocess.run([program, command], input=text, capture_output=True, timeout=SECONDS)
         except subprocess.TimeoutExpired:
             wrong = [f"it doesn't end within {SECONDS} seconds"]
         else:
             output = done.stdout.decode(errors="replace")
             outputs.add(output)
-            wrong = wrong_totals(lines, output) + [f"the status is {done.returncode}"] * (done.returncode != 0)
+            wrong = judge(lines, output) + wrong_end(lines, output)
+            wrong += [f"the status is {done.returncode}"] * (done.returncode != 0)
         if wrong:
             bad += 1
             print(f"run {turn}: " + "; ".join(wrong[:3]), flush=True)

@@ -58,7 +58,7 @@ impl Replay<'_> {
             }
             Err(cause) => {
                 let out = if self.waiting.is_empty() { out } else { &mut self.waiting };
-                lines::refuse(out, number, cause);
+                out.refuse(number, cause);
             }
         }
     }

@@ -1,19 +1,20 @@
 #!/usr/bin/env bash
-# Measures the proved program beside the same job in plain Rust, bench/replay.rs, bench/check.rs or bench/run.rs, on a
-# trace of 1,000,000 lines: for `replay` changes of counters (bench/changes.py), for `check` lines of every form
-# (bench/mixed.py), for `run` lines of every kind on 8 CPUs (bench/phases.py), in phases of 200, then of 10,000, and
-# then of 1,000,000 lines.
+# Measures the proved program beside the same job in plain Rust, bench/replay.rs, bench/check.rs, bench/run.rs or
+# bench/groups.rs, on a trace of 1,000,000 lines: for `replay` changes of counters (bench/changes.py), for `check` lines
+# of every form (bench/mixed.py), for `run` lines of every kind on 8 CPUs (bench/phases.py), for `groups` changes and
+# flushes of 64 groups on 8 CPUs (bench/groups.py), the last two in phases of 200, then of 10,000, and then of 1,000,000
+# lines.
 #
-#     bench/run.sh replay|check|run [N]
+#     bench/run.sh replay|check|run|groups [N]
 #
 # Both read the trace from a file and write to /dev/null, N times each (21 where no N is given), one after the other in
 # turn. Printed are the median wall time of each, from start to end of its process, the ratio of the medians, and the
 # most memory that each held (VmHWM of /proc, read through one more run that isn't timed). The status is 1 if the two
 # write different outputs or end with different statuses, and 2 if there is nothing to measure.
 #
-# For `run` the plain program comes in two forms: `plain` starts a thread for each lane and phase, `standing` has a
-# thread for each lane, which waits for its lines of each phase. What is printed may differ from run to run. Compared
-# are the statuses, and what bench/agree.py compares.
+# For `run` and `groups` the plain program comes in two forms: `plain` starts a thread for each lane and phase,
+# `standing` has a thread for each lane, which waits for its lines of each phase. What is printed may differ from run to
+# run. Compared are the statuses, and what bench/agree.py compares.
 #
 # Needed are Linux, bash, python3, rustc, and the proved program, which `./vozhkell replay < examples/first.vmtrace`
 # builds. Another program may be named in VOZHKELL. Times vary with what else the machine does: with the plain program
@@ -26,8 +27,8 @@ command=${1:-}
 rounds=${2:-21}
 proved=${VOZHKELL:-$top/crates/vozhkell/out/vozhkell}
 
-if ! [[ $command =~ ^(replay|check|run)$ && $rounds =~ ^[1-9][0-9]*$ ]]; then
-    echo "usage: bench/run.sh replay|check|run [N]" >&2
+if ! [[ $command =~ ^(replay|check|run|groups)$ && $rounds =~ ^[1-9][0-9]*$ ]]; then
+    echo "usage: bench/run.sh replay|check|run|groups [N]" >&2
     exit 2
 fi
 if ! [ -x "$proved" ]; then
@@ -39,7 +40,7 @@ work=$(mktemp -d) || exit 2
 trap 'rm -rf "$work"' EXIT
 flags=(-O --edition 2021)
 # The proved program is built for this processor.
-[ "$command" = run ] && flags+=(-C target-cpu=x86-64-v2)
+[[ $command =~ ^(run|groups)$ ]] && flags+=(-C target-cpu=x86-64-v2)
 rustc "${flags[@]}" -o "$work/plain" "$top/bench/$command.rs" || exit 2
 
 # compared: both programs write the same of the trace and end with the same status.
@@ -59,11 +60,11 @@ compared() {
 # runs_compared LINES: the same of runs, but for what differs from run to run.
 runs_compared() {
     local proved_status plain_status standing_status
-    "$proved" run <"$work/trace" >"$work/proved.out"
+    "$proved" "$command" <"$work/trace" >"$work/proved.out"
     proved_status=$?
-    "$work/plain" run <"$work/trace" >"$work/plain.out"
+    "$work/plain" "$command" <"$work/trace" >"$work/plain.out"
     plain_status=$?
-    STANDING_THREADS=1 "$work/plain" run <"$work/trace" >"$work/standing.out"
+    STANDING_THREADS=1 "$work/plain" "$command" <"$work/trace" >"$work/standing.out"
     standing_status=$?
     if ! python3 -B "$top/bench/agree.py" "$work"/{trace,proved.out,plain.out,standing.out} ||
         [ $proved_status != $plain_status ] || [ $proved_status != $standing_status ]; then
@@ -83,7 +84,7 @@ import time
 
 rounds, trace, command = int(sys.argv[1]), sys.argv[2], sys.argv[3]
 programs = {"proved": (sys.argv[4], {}), "plain": (sys.argv[5], {})}
-if command == "run":
+if command in ("run", "groups"):
     programs["standing"] = (sys.argv[5], {"STANDING_THREADS": "1"})
 
 
@@ -121,7 +122,7 @@ for name in programs:
           f"least {1000 * least[name]:.1f} ms, peak memory {memory[name] / 1024:.1f} MiB")
 for name in list(programs)[1:]:
     ratios = f"{medians['proved'] / medians[name]:.2f} by medians, {least['proved'] / least[name]:.2f} by least times"
-    if command == "run":
+    if command in ("run", "groups"):
         ratios += f", {memory['proved'] / memory[name]:.2f} by peak memory"
     print(f"proved / {name}: {ratios}")
 PYTHON
@@ -135,9 +136,12 @@ case $command in
         compared || exit 1
         measured
         ;;
-    run)
+    run | groups)
         for lines in 200 10000 1000000; do
-            python3 -B "$top/bench/phases.py" 1 1000000 8 $lines >"$work/trace" || exit 2
+            case $command in
+                run) python3 -B "$top/bench/phases.py" 1 1000000 8 $lines >"$work/trace" || exit 2 ;;
+                groups) python3 -B "$top/bench/groups.py" 1 1000000 8 64 $lines >"$work/trace" || exit 2 ;;
+            esac
             runs_compared $lines || exit 1
             measured || exit 2
         done

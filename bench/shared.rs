@@ -1,6 +1,7 @@
 //! The counters of a run in words that threads share, for the plain program: what the lines of several lanes do to them
 //! side by side. Every access to a word is sequentially consistent.
 
+use crate::apart::Apart;
 use crate::commands::State;
 use crate::counters::{Counters, Limits, Rule, changed, cover_mark, node_threshold, threshold, zones_of};
 use crate::names::EVENTS;
@@ -23,18 +24,6 @@ const THRESHOLD_BITS: u32 = 32;
 
 /// The most that each CPU may hide in each zone.
 type Peaks = [[u8; MOST_ZONES]];
-
-/// What has its lines of the cache to itself.
-#[repr(align(128))]
-struct Apart<T>(T);
-
-impl<T> Deref for Apart<T> {
-    type Target = T;
-
-    fn deref(&self) -> &T {
-        &self.0
-    }
-}
 
 /// The words of a CPU.
 struct Cpu {

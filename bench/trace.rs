@@ -11,7 +11,7 @@ pub const KINDS: [&str; 4] = ["DMA", "DMA32", "Normal", "Movable"];
 pub const MARKS: [&str; 3] = ["min", "low", "high"];
 pub const REPORTS: [&str; 4] = ["vmstat", "zoneinfo", "totals", "counters"];
 
-const MOST_LINE: usize = 200;
+pub const MOST_LINE: usize = 200;
 const MOST_PAGES: u64 = 1 << 40;
 const MOST_BASE: u64 = 1 << 48;
 const MOST_LIMIT: u64 = 1 << 60;
@@ -46,9 +46,13 @@ pub enum Cause {
     NotFolded,
     LastCpu,
     NotPages,
+    BadName,
+    UnknownGroup,
+    DoubledGroup,
+    TooManyGroups,
 }
 
-const CAUSES: [&str; 26] = [
+const CAUSES: [&str; 30] = [
     "BadMagic",
     "BadNumber",
     "BadCpus",
@@ -75,6 +79,10 @@ const CAUSES: [&str; 26] = [
     "NotFolded",
     "LastCpu",
     "NotPages",
+    "BadName",
+    "UnknownGroup",
+    "DoubledGroup",
+    "TooManyGroups",
 ];
 
 impl Cause {
@@ -129,14 +137,18 @@ pub struct Names {
 }
 
 impl Names {
-    fn push(&mut self, word: String) {
+    pub fn push(&mut self, word: String) {
         self.keys.push(Key::of(word.as_bytes()));
         self.words.push(word);
     }
 
-    fn find(&self, word: &[u8]) -> Option<usize> {
+    pub fn find(&self, word: &[u8]) -> Option<usize> {
         let wanted = Key::of(word);
         self.keys.iter().zip(&self.words).position(|(&key, name)| key == wanted && name.as_bytes() == word)
+    }
+
+    pub fn all(&self) -> &[String] {
+        &self.words
     }
 }
 
@@ -226,15 +238,15 @@ fn is_blank(byte: u8) -> bool {
 }
 
 /// A line cut into its first eight words.
-struct Cut<'a> {
+pub struct Cut<'a> {
     words: [&'a [u8]; 8],
     count: usize,
     /// Whether each byte of the line is a blank or one of a word.
-    clean: bool,
+    pub clean: bool,
 }
 
 impl<'a> Cut<'a> {
-    fn of(line: &'a [u8]) -> Cut<'a> {
+    pub fn of(line: &'a [u8]) -> Cut<'a> {
         let mut cut = Cut { words: [b""; 8], count: 0, clean: true };
         let mut begin = 0;
         for (at, &byte) in line.iter().enumerate() {
@@ -255,11 +267,11 @@ impl<'a> Cut<'a> {
         }
     }
 
-    fn words(&self) -> &[&'a [u8]] {
+    pub fn words(&self) -> &[&'a [u8]] {
         &self.words[..self.count]
     }
 
-    fn is_ignored(&self) -> bool {
+    pub fn is_ignored(&self) -> bool {
         match self.words() {
             [first, ..] => first[0] == b'#',
             [] => self.clean,
@@ -267,14 +279,14 @@ impl<'a> Cut<'a> {
     }
 }
 
-fn unsigned(word: &[u8]) -> Option<u64> {
+pub fn unsigned(word: &[u8]) -> Option<u64> {
     if !is_numeral(word) {
         return None;
     }
     word.iter().try_fold(0u64, |n, digit| n.checked_mul(10)?.checked_add(u64::from(digit - b'0')))
 }
 
-fn is_numeral(word: &[u8]) -> bool {
+pub fn is_numeral(word: &[u8]) -> bool {
     match word {
         [b'0'] => true,
         [b'1'..=b'9', rest @ ..] => rest.iter().all(u8::is_ascii_digit),
@@ -292,11 +304,11 @@ fn signed(word: &[u8]) -> Option<i64> {
     }
 }
 
-fn number(word: &[u8], least: u64, most: u64) -> Result<u64, Cause> {
+pub fn number(word: &[u8], least: u64, most: u64) -> Result<u64, Cause> {
     unsigned(word).filter(|n| (least..=most).contains(n)).ok_or(Cause::BadNumber)
 }
 
-fn amount(word: &[u8]) -> Result<i64, Cause> {
+pub fn amount(word: &[u8]) -> Result<i64, Cause> {
     signed(word).ok_or(Cause::BadNumber)
 }
 
@@ -318,14 +330,12 @@ fn kind(word: &[u8]) -> Option<usize> {
     }
 }
 
-fn name(word: &[u8]) -> Result<String, Cause> {
+/// The name that a word is, if it has the form of one.
+pub fn name(word: &[u8]) -> Option<String> {
     let is_name = word.len() <= 16
         && word.first().is_some_and(u8::is_ascii_lowercase)
         && word.iter().all(|byte| matches!(byte, b'a'..=b'z' | b'0'..=b'9' | b'_'));
-    if !is_name {
-        return Err(Cause::UnknownName);
-    }
-    Ok(str::from_utf8(word).unwrap().to_owned())
+    is_name.then(|| str::from_utf8(word).unwrap().to_owned())
 }
 
 impl Header {
@@ -353,7 +363,7 @@ impl Header {
     }
 
     pub fn names(&self, node: bool) -> &[String] {
-        &self.class(node).words
+        self.class(node).all()
     }
 
     /// How many zones and nodes there are.
@@ -412,7 +422,7 @@ impl Header {
             b"node" => true,
             _ => return Err(Cause::UnknownName),
         };
-        let name = name(word)?;
+        let name = name(word).ok_or(Cause::UnknownName)?;
         let bytes = match unit {
             None => false,
             Some(b"bytes") => true,
@@ -520,7 +530,7 @@ impl Header {
         if self.zones.is_empty() {
             return Err(Cause::NoZone);
         }
-        let name = name(word)?;
+        let name = name(word).ok_or(Cause::UnknownName)?;
         let batch = match batch {
             None => (2 * self.cpus as u64).max(32),
             Some(batch) => number(batch, 0, u64::MAX)?,

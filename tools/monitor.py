@@ -4,7 +4,7 @@
 What /proc/zoneinfo and /proc/vmstat show lacks what each CPU has counted and keeps to itself, up to a threshold. Of
 each counter this prints its value, by how many pages it can be off, and between which numbers the truth is. Of each
 watermark it says whether the zone's free pages are surely above it, surely below it, or whether that can't be told.
-Each figure names the laws that it rests on (docs/MODEL.md, section 12). What is assumed stands below them.
+Each figure names the laws that it rests on (crates/vms_core/README.md). What is assumed stands below them.
 
 A watermark is compared with the free pages alone. A test of the kernel also adds a reserve, looks for large blocks,
 leaves out pages that the request can't use, and mostly takes the value as it is shown. Nothing is said of the next

@@ -176,12 +176,9 @@ class MonitorTest(ToolTest):
         self.assertIn(size, assumed(kind="HighMem"))
 
     def test_laws_are_those_of_the_documents(self):
-        model = (TOP / "docs" / "MODEL.md").read_text(encoding="utf-8")
-        fields = re.findall(r"^\| ((?:`\w+`(?:, )?)+) \|", model[model.index("| field of `KeepsLaws` |"):], re.M)
-        self.assertLessEqual(set(monitor.LAWS), {word for row in fields for word in re.findall(r"\w+", row)})
-        proved = (TOP / "docs" / "PROVED.md").read_text(encoding="utf-8")
-        for law in monitor.LAWS:
-            self.assertIn(f"`{law}`", proved)
+        promises = (TOP / "crates" / "vms_core" / "README.md").read_text(encoding="utf-8")
+        fields = re.findall(r"By .*?`specs/Laws\.antt`\s\((.*?)\)", promises, re.S)
+        self.assertLessEqual(set(monitor.LAWS), set(re.findall(r"\w+", " ".join(fields))))
 
     def test_text(self):
         words = ["--zoneinfo", self.file("zoneinfo", SMALL), "--vmstat", self.file("vmstat", VMSTAT)]

@@ -1,0 +1,140 @@
+"""claims.py and from_crates.py: what they refuse, in a small repository."""
+import contextlib
+import io
+import os
+import sys
+import tempfile
+import unittest
+from pathlib import Path
+
+sys.path.insert(0, str(Path(__file__).resolve().parent.parent))
+import claims  # once its directory is known
+import from_crates
+
+BEGIN, END = from_crates.BEGIN, from_crates.END
+PROMISES = """# vms_low
+
+What stands below.
+
+## Promises
+
+- A number is small, and one that is stored stays so.
+  By `small` (`value`), `Row::get`; `specs/Numbers.antt` (`IsSmall`), `least` of `specs/Numbers.antt`.
+
+## For callers
+
+From `crates/vms_low/src/numbers.rt`:
+
+```rust
+pub fn small() -> u8
+...
+    7
+```
+"""
+FILES = {
+    "crates.txt": "# low: numbers\nvms_low: itoa\n",
+    "docs/FORMATS.md": "A line `mod PLACE` changes.\n",
+    "docs/MAP.md": f"# Crates\n\n{BEGIN}\n{END}\n",
+    "docs/PROVED.md": f"# Proved\n\n`vms_low::small` (`value`)\n\n{BEGIN}\n{END}\n",
+    "crates/vms_low/README.md": PROMISES,
+    "crates/vms_low/src/numbers.rt": """\
+pub fn small() -> u8
+    ensures value { IsSmall result }
+{
+    7
+}
+
+impl Row {
+    pub fn get(&self) -> u8
+        ensures { result ≡ self.now }
+    {
+        self.number
+    }
+}
+""",
+    "crates/vms_low/specs/Numbers.antt": """\
+-- numbers
+abbrev pub IsSmall : ℕ → Type 0
+IsSmall n = n ≤ 7
+
+pub record Least (n : ℕ) : Type 0 where
+  pub least : n ≡ 0
+""",
+}
+README = "crates/vms_low/README.md"
+
+
+class Refusals(unittest.TestCase):
+    def setUp(self):
+        room = tempfile.TemporaryDirectory()
+        self.addCleanup(room.cleanup)
+        self.addCleanup(os.chdir, os.getcwd())
+        os.chdir(room.name)
+        for name, text in FILES.items():
+            Path(name).parent.mkdir(parents=True, exist_ok=True)
+            Path(name).write_text(text, encoding="utf-8")
+
+    def said(self, call, *words):
+        for known in (claims.libraries, claims.functions_of, claims.made_by, claims.format_words):
+            known.cache_clear()
+        with contextlib.redirect_stdout(io.StringIO()) as out:
+            status = call(list(words))
+        return status, out.getvalue()
+
+    def refuses(self, old, new, said, document=README):
+        text = FILES[document]
+        self.assertEqual(text.count(old), 1)
+        Path(document).write_text(text.replace(old, new), encoding="utf-8")
+        status, out = self.said(claims.main, document)
+        self.assertEqual((status, said in out), (1, True), out)
+
+    def test_names_that_are_there(self):
+        status, out = self.said(claims.main, README, "docs/PROVED.md")
+        self.assertEqual(status, 0, out)
+
+    def test_functions_and_clauses(self):
+        self.refuses("`small` (`value`)", "`tiny` (`value`)", "tiny: no such function")
+        self.refuses("`small` (`value`)", "`small` (`bound`)", "small: no clause bound")
+        self.refuses("`Row::get`", "`Row::set`", "Row::set: no such function")
+        self.refuses("`vms_low::small`", "`vms_low::tiny`", "vms_low::tiny: no such function", "docs/PROVED.md")
+
+    def test_definitions_and_files(self):
+        self.refuses("(`IsSmall`)", "(`IsTiny`)", "specs/Numbers.antt: defines no IsTiny")
+        self.refuses("`specs/Numbers.antt` (`IsSmall`)", "`specs/Words.antt` (`IsSmall`)", "Words.antt: no such file")
+
+    def test_names_of_a_home(self):
+        named = "`least` of `specs/Numbers.antt`"
+        self.refuses(named, "`most` of `specs/Numbers.antt`", "specs/Numbers.antt: defines no most")
+        self.refuses(named, "`least` of `specs/Words.antt`", "specs/Words.antt: no such file")
+        self.refuses(named, "`most` of `Numbers.antt`", "Numbers.antt: defines no most")
+        self.refuses("`vms_low::small` (`value`)", "`most` of `vms_low`", "vms_low: defines no most", "docs/PROVED.md")
+
+    def test_single_words(self):
+        self.refuses("What stands below.", "What `medium` is.", "medium: the crate defines no such name")
+        known = PROMISES.replace("What stands below.", "What `mod`, `itoa` and `IsSmall` are.")
+        Path(README).write_text(known, encoding="utf-8")
+        self.assertEqual(self.said(claims.main, README)[0], 0)
+
+    def test_excerpts(self):
+        self.refuses("    7\n```", "    8\n```", "an example isn't an excerpt of crates/vms_low/src/numbers.rt: 8")
+
+    def test_made_parts(self):
+        self.assertEqual(self.said(from_crates.main, "--check")[0], 1)
+        self.assertEqual(self.said(from_crates.main)[0], 0)
+        self.assertEqual(self.said(from_crates.main, "--check")[0], 0)
+        link = "[`vms_low`](../crates/vms_low/README.md)"
+        self.assertIn(f"{link}: What stands below.", Path("docs/MAP.md").read_text(encoding="utf-8"))
+        self.assertIn(f"{link}: `Row::get`, `small`.", Path("docs/PROVED.md").read_text(encoding="utf-8"))
+        Path(README).write_text(PROMISES.replace("What stands below.", "What stands at the bottom."), encoding="utf-8")
+        status, out = self.said(from_crates.main, "--check")
+        self.assertEqual((status, "docs/MAP.md is stale" in out), (1, True), out)
+
+    def test_readmes_that_lack_something(self):
+        Path(README).write_text(PROMISES.replace("## Promises", "## Tested"), encoding="utf-8")
+        self.assertIn("it promises nothing", self.said(from_crates.main, "--check")[1])
+        Path(README).unlink()
+        self.assertIn("wanted are a line `# vms_low` and a paragraph", self.said(from_crates.main, "--check")[1])
+
+
+if __name__ == "__main__":
+    unittest.main()
